@@ -1,0 +1,5 @@
+pub mod Files
+pub mod Limits
+pub mod Refusals
+pub mod TagBits
+pub mod Tags
