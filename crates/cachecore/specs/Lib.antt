@@ -1,0 +1,5 @@
+pub mod Changes
+pub mod Codes
+pub mod State
+pub mod Step
+pub mod Tests

@@ -1,0 +1,7 @@
+pub mod Always
+pub mod Plain
+pub mod Progress
+pub mod Reading
+pub mod Runs
+pub mod Syncing
+pub mod World
