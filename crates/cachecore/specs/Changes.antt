@@ -1,5 +1,5 @@
 -- What the events change: the state after, as a function of the state before.
-use Rattle.std.specs.Prelude.{ℕ, ◌+◌, ◌-◌, ◌*◌, ◌%◌, ◌/◌, Bool, true, false, not, ◌&&◌, ◌||◌, ◌==◌, nat_lt, nat_le, if◌then◌else◌, List, [], ◌∷◌, ◌++◌, length, take, drop, map, filter, Option, Some, None, option_map, unwrap_or, slice_set, max}
+use Rattle.std.specs.Prelude.{ℕ, ◌+◌, ◌-◌, ◌*◌, ◌%◌, ◌/◌, Bool, true, false, not, ◌&&◌, ◌||◌, ◌==◌, nat_lt, nat_le, if◌then◌else◌, List, [], ◌++◌, length, take, drop, map, filter, Option, Some, None, option_map, unwrap_or, slice_set, max}
 use Rattle.std.specs.List.{zip}
 use Rattle.std.specs.declared.cmp.Ordering.{Ordering}
 use Rattle.std.specs.Ordering.{nat_cmp}
@@ -7,7 +7,7 @@ use Rattle.std.specs.FinMap as map
 use Rattle.pc_types.specs.Files.{pwrite, cut}
 use Rattle.pc_types.specs.Tags.{no_tags}
 use Rattle.cachecore.specs.declared.event.Kind.TheVariants.{Fill, Flush}
-use Rattle.cachecore.specs.State.{State, File, Page, Spot, Request, Sync, file_at, page_count, page_at, spot_at, has_block, is_fill, is_flush, touched, free_blocks, without_block, place_cmp}
+use Rattle.cachecore.specs.State.{State, File, Page, Spot, Request, Sync, file_at, page_count, spot_at, has_block, is_flush, touched, free_blocks, without_block, place_cmp}
 
 -- ---- maps
 

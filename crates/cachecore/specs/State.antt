@@ -3,7 +3,7 @@
 -- A file is its size, its cached pages by number, and what is known of its failed writes. A page of a file is absent,
 -- filling, or cached. Tags are those of the page cache of Linux: DIRTY is a page that changed since a write of it was last
 -- started, WRITEBACK one with a write in flight, TOWRITE one that a sync is to start (tag_pages_for_writeback).
-use Rattle.std.specs.Prelude.{ℕ, ◌+◌, ◌-◌, ◌*◌, ◌/◌, ◌%◌, Bool, true, false, not, ◌&&◌, ◌==◌, nat_lt, nat_le, List, [], ◌++◌, map, length, filter, Option, Some, None, is_some, unwrap_or, slice_index_or, slice_index, sum_by, count_by}
+use Rattle.std.specs.Prelude.{ℕ, ◌+◌, ◌-◌, ◌/◌, ◌%◌, Bool, true, false, not, ◌&&◌, ◌==◌, nat_le, List, [], ◌++◌, map, filter, Option, Some, None, is_some, unwrap_or, slice_index_or, slice_index, sum_by, count_by}
 use Rattle.std.specs.List.{range_with_len, list_any}
 use Rattle.std.specs.declared.cmp.Ordering.{Ordering}
 use Rattle.std.specs.Ordering.{nat_cmp, ordering_then}

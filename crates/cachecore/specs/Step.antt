@@ -4,7 +4,6 @@
 -- event happens: one case for each reply that it may have, and every other reply is impossible. Want of memory is a reply
 -- of the events that may grow a table; it leaves the state.
 use Rattle.std.specs.Prelude.{◌≡◌, ◌≢◌, ℕ, ◌+◌, ◌<◌, Bool, true, false, List, [], ◌∷◌, ◌++◌, length, Option, Some, None, is_some, option_map}
-use Rattle.std.specs.Ordering.{nat_cmp}
 use Rattle.std.specs.FinMap as map
 use Rattle.pc_types.specs.Tags.{no_tags}
 use Rattle.pc_types.specs.declared.refusal.Refusal.TheVariants.{Memory}

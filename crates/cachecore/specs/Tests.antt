@@ -1,7 +1,7 @@
 -- For each event the answer of its first test that holds, in the order of the tests. Such an answer leaves the state as it
 -- was. Reads and writes are those of POSIX, within this cache's limits: a read at or past the end of the file answers no
 -- bytes, a write past the end leaves a gap of zeros.
-use Rattle.std.specs.Prelude.{ℕ, ◌+◌, ◌-◌, ◌*◌, ◌/◌, ◌%◌, Bool, true, false, not, ◌&&◌, ◌||◌, ◌==◌, nat_lt, nat_le, if◌then◌else◌, [], length, Option, Some, None, is_some, option_map, min, count_by, find}
+use Rattle.std.specs.Prelude.{ℕ, ◌+◌, ◌-◌, ◌*◌, Bool, true, false, not, ◌&&◌, ◌||◌, ◌==◌, nat_lt, nat_le, if◌then◌else◌, [], length, Option, Some, None, is_some, option_map, min, count_by, find}
 use Rattle.std.specs.List.{list_any}
 use Rattle.std.specs.FinMap as map
 use Rattle.pc_types.specs.declared.limits.TheConstants.{MAX_FILES, MAX_FILE_SIZE, MAX_HANDLES, MAX_IN_FLIGHT, MAX_SYNCS, MAX_TOUCHED, SERIAL_END}
@@ -14,7 +14,7 @@ use Rattle.cachecore.specs.declared.event.Event.{Event}
 use Rattle.cachecore.specs.declared.event.Event.TheVariants as event
 use Rattle.cachecore.specs.declared.event.Reply.{Reply}
 use Rattle.cachecore.specs.declared.event.Reply.TheVariants as reply
-use Rattle.cachecore.specs.State.{State, File, Page, Request, Sync, file_at, is_open, file_of, page_count, is_cached, is_filling, is_fill, is_flush, is_dirty, is_idle, touched, touched_count, free_frames, free_blocks, without_block, dirty_total, spot_at, has_block, is_written}
+use Rattle.cachecore.specs.State.{State, File, Page, Request, Sync, file_at, is_open, file_of, page_count, is_cached, is_filling, is_fill, is_flush, is_dirty, is_idle, touched, touched_count, free_frames, free_blocks, without_block, dirty_total, spot_at, is_written}
 use Rattle.cachecore.specs.Changes.{boundary}
 
 abbrev pub refuse : Refusal → Option Reply
