@@ -1,0 +1,11 @@
+pub mod MapLaws
+pub mod WorkedStates
+pub mod WorkedReads
+pub mod WorkedWrites
+pub mod WorkedFlushes
+pub mod WorkedHandles
+pub mod WorkedTruncations
+pub mod WorkedSyncs
+pub mod StateLaws
+pub mod FreeBlocks
+pub mod ChangeLaws
