@@ -1,0 +1,4 @@
+pub mod Blocks
+pub mod Buffer
+pub mod Device
+pub mod Script

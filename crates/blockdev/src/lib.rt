@@ -1,0 +1,24 @@
+//! A block device as a page cache sees it: what it tells of itself, and what one call of it does.
+//!
+//! A read or a write does what `Reads` or `Writes` of `specs/Device.antt` says, at every device: each call is counted, a
+//! fault is counted exactly where it is answered, a write takes effect whole or not at all, and a failed read changes
+//! nothing. A device may tell its contents and the faults to come; `MemDevice` and `ScriptDevice` tell both.
+//!
+//! `device` has the trait, `fault` what goes wrong, `blocks` the bytes in memory, `memory` a device that never fails,
+//! `script` one that fails when it is told to, and `buffer` the bytes of one page on their way.
+#![tactic(auto)]
+
+mod blocks;
+pub mod buffer;
+pub mod device;
+pub mod fault;
+pub mod memory;
+pub mod script;
+#[cfg(test)]
+mod tests;
+
+pub use buffer::Buffer;
+pub use device::BlockDevice;
+pub use fault::{Fault, FaultEffect};
+pub use memory::MemDevice;
+pub use script::ScriptDevice;

@@ -1,0 +1,128 @@
+//! A device in memory that fails when it is told to.
+
+ghost use Rattle.std.specs.Prelude.{◌≡◌, ◌<◌, ◌∷◌, [], IfOk, IfSome, OnErr, IsOkUnless};
+ghost use Rattle.blockdev.specs.Device.{fresh, max_calls};
+ghost use Rattle.blockdev.specs.Script.{Begins};
+ghost use Rattle.blockdev.specs.Blocks.{block_at};
+
+use crate::blocks::Blocks;
+use crate::device::BlockDevice;
+use crate::fault::{Fault, FaultEffect};
+use pc_types::{BlockNo, ErrCode, Refusal};
+use std::alloc::Global;
+use std::marker::Model;
+
+/// A device in memory whose next call fails where `fail_next` said so. It takes as much memory as a `MemDevice`.
+#[derive(Drop)]
+pub struct ScriptDevice {
+    blocks: Blocks,
+    planned: Option<Fault>,
+    calls: u64,
+    /// No more than `calls`.
+    faults: u64,
+}
+
+impl Model for ScriptDevice {
+    ghost use Rattle.std.specs.Prelude.{[], ◌∷◌, ◌≤◌, Some, length};
+    ghost use Rattle.blockdev.specs.Device.{Told};
+    ghost use Rattle.blockdev.specs.Script.{plan_of};
+
+    ghost Value = { Told };
+
+    ghost view = { λ d. record { size = d.blocks.size; count = length d.blocks.blocks; contents = Some d.blocks.blocks; plan = Some (plan_of d.planned); calls = d.calls; faults = d.faults } };
+
+    ghost invariant = { λ d. d.faults ≤ d.calls };
+}
+
+impl ScriptDevice {
+    /// A device of zeros with no fault planned. Refused by `Memory` where there is no room for its bytes, or they can't
+    /// be addressed.
+    pub fn new(alloc: Global, block_size: u64, blocks: u64) -> Result<ScriptDevice, Refusal>
+        ensures fresh { IfOk result (λ d. d ≡ fresh block_size blocks) }
+        ensures refused { IsOkUnless result Refusal.Memory }
+    {
+        Ok(ScriptDevice {
+            blocks: Blocks::zeros(alloc, block_size, blocks)?,
+            planned: None,
+            calls: 0,
+            faults: 0,
+        })
+    }
+
+    /// Makes the next call fail with the code. Where a fault was planned for it, this one takes its place.
+    pub fn fail_next(&mut self, code: ErrCode, effect: FaultEffect)
+        ensures { self.new ≡ record self.old { plan = Some (Some (record { code = code; effect = effect }) ∷ []) } }
+    {
+        self.planned = Some(Fault { code, effect });
+    }
+
+    /// The bytes of a block, which is no call.
+    pub fn bytes(&self, block: BlockNo) -> &[u8]
+        requires { block.0 < self.now.count }
+        ensures { IfSome self.now.contents (λ blocks. result.now ≡ block_at blocks block.0) }
+    {
+        self.blocks.get(block.0)
+    }
+
+    /// Counts a call, and the fault that was planned for it, which is answered. Fails where the call can't be counted.
+    fn begin_call(&mut self) -> Result<Option<Fault>, ErrCode>
+        ensures begun { IfOk result (λ fault. Begins self.old fault self.new) }
+        ensures exhausted { OnErr result ((self.old.calls ≡ max_calls) × (self.new ≡ self.old)) }
+        ensures code { IsOkUnless result 5 }
+    {
+        if self.calls == u64::MAX {
+            return Err(ErrCode::IO);
+        }
+        self.calls += 1;
+        let fault = self.planned.take();
+        if fault.is_some() {
+            self.faults += 1;
+        }
+        Ok(fault)
+    }
+}
+
+impl BlockDevice for ScriptDevice {
+    ghost told = { λ d. d };
+
+    fn block_size(&self) -> u64 {
+        self.blocks.size()
+    }
+
+    fn blocks(&self) -> u64 {
+        self.blocks.count()
+    }
+
+    fn faults(&self) -> u64 {
+        self.faults
+    }
+
+    fn calls(&self) -> u64 {
+        self.calls
+    }
+
+    fn read(&mut self, block: BlockNo, out: &mut [u8]) -> Result<(), ErrCode> {
+        match self.begin_call()? {
+            None => {
+                out.copy_from_slice(self.blocks.get(block.0));
+                Ok(())
+            }
+            Some(fault) => Err(fault.code),
+        }
+    }
+
+    fn write(&mut self, block: BlockNo, bytes: &[u8]) -> Result<(), ErrCode> {
+        match self.begin_call()? {
+            None => {
+                self.blocks.set(block.0, bytes);
+                Ok(())
+            }
+            Some(fault) => {
+                if fault.effect == FaultEffect::New {
+                    self.blocks.set(block.0, bytes);
+                }
+                Err(fault.code)
+            }
+        }
+    }
+}

@@ -1,0 +1,100 @@
+//! Each device through the trait's bound, planned faults in their four forms, and a page on its way.
+
+ghost use Rattle.std.specs.Prelude.{◌≡◌, ◌<◌};
+
+use crate::{BlockDevice, Buffer, FaultEffect, MemDevice, ScriptDevice};
+use pc_types::{BlockNo, ErrCode, Geometry, Refusal};
+use std::process::Abort;
+use std::test::Fail;
+
+/// A new device of two blocks of four bytes reads as zeros, and a write changes one block and no other.
+fn reads_back<D: BlockDevice>(rt: &impl Abort, device: &mut D)
+    requires size { (D.told device.old).size ≡ 4 }
+    requires count { 1 < (D.told device.old).count }
+{
+    let mut out = [9; 4];
+    assert!(rt; device.read(BlockNo(1), &mut out).is_ok());
+    assert_eq!(rt; out, [0; 4]);
+    assert!(rt; device.write(BlockNo(1), b"abcd").is_ok());
+    assert!(rt; device.read(BlockNo(0), &mut out).is_ok());
+    assert_eq!(rt; out, [0; 4]);
+    assert!(rt; device.read(BlockNo(1), &mut out).is_ok());
+    assert_eq!(rt; out, *b"abcd");
+    assert_eq!(rt; (device.block_size(), device.blocks()), (4, 2));
+    assert_eq!(rt; (device.calls(), device.faults()), (4, 0));
+}
+
+#[test]
+fn devices_in_memory_read_back(rt: HostRuntime) -> Result<(), Fail> {
+    let mut memory = MemDevice::new(rt.alloc(), 4, 2)?;
+    reads_back(&rt, &mut memory);
+    let mut script = ScriptDevice::new(rt.alloc(), 4, 2)?;
+    reads_back(&rt, &mut script);
+    Ok(())
+}
+
+// More bytes than can be addressed are want of memory, and no overflow.
+#[test]
+fn a_device_without_room_is_refused(rt: HostRuntime) {
+    assert!(rt;
+        matches!(
+            MemDevice::new(rt.alloc(), u64::MAX, 2),
+            Err(Refusal::Memory)
+        )
+    );
+    assert!(rt;
+        matches!(
+            ScriptDevice::new(rt.alloc(), 4_096, u64::MAX),
+            Err(Refusal::Memory)
+        )
+    );
+}
+
+#[test]
+fn a_planned_write_fault_leaves_old_or_new_bytes(rt: HostRuntime) -> Result<(), Fail> {
+    let full = ErrCode::new(28)?;
+    for (effect, left) in [(FaultEffect::Old, b"old."), (FaultEffect::New, b"new.")] {
+        let mut device = ScriptDevice::new(rt.alloc(), 4, 2)?;
+        assert!(rt; device.write(BlockNo(1), b"old.").is_ok());
+        device.fail_next(full, effect);
+        assert_eq!(rt; device.write(BlockNo(1), b"new."), Err(full));
+        assert_eq!(rt; device.bytes(BlockNo(1)), left.as_slice());
+        assert_eq!(rt; device.bytes(BlockNo(0)), [0; 4].as_slice());
+        assert_eq!(rt; (device.calls(), device.faults()), (2, 1));
+        // one call fails, and no more
+        assert!(rt; device.write(BlockNo(1), b"next").is_ok());
+        assert_eq!(rt; device.bytes(BlockNo(1)), b"next".as_slice());
+    }
+    Ok(())
+}
+
+#[test]
+fn a_planned_read_fault_changes_nothing(rt: HostRuntime) -> Result<(), Fail> {
+    for effect in [FaultEffect::Old, FaultEffect::New] {
+        let mut device = ScriptDevice::new(rt.alloc(), 4, 2)?;
+        assert!(rt; device.write(BlockNo(1), b"kept").is_ok());
+        device.fail_next(ErrCode::IO, effect);
+        let mut out = [9; 4];
+        assert_eq!(rt; device.read(BlockNo(1), &mut out), Err(ErrCode::IO));
+        assert_eq!(rt; out, [9; 4]);
+        assert_eq!(rt; device.bytes(BlockNo(1)), b"kept".as_slice());
+        assert_eq!(rt; (device.calls(), device.faults()), (2, 1));
+        assert!(rt; device.read(BlockNo(1), &mut out).is_ok());
+        assert_eq!(rt; out, *b"kept");
+    }
+    Ok(())
+}
+
+#[test]
+fn a_buffer_carries_a_page(rt: HostRuntime) -> Result<(), Fail> {
+    let geometry = Geometry::new(16, 48, 16, 64)?;
+    let mut buffer = Buffer::new(rt.alloc(), &geometry)?;
+    assert_eq!(rt; buffer.as_slice(), [0; 16].as_slice());
+    let mut device = MemDevice::new(rt.alloc(), 16, 64)?;
+    buffer.as_mut_slice().copy_from_slice(b"sixteen bytes...");
+    assert!(rt; device.write(BlockNo(63), buffer.as_slice()).is_ok());
+    buffer.as_mut_slice().fill(0);
+    assert!(rt; device.read(BlockNo(63), buffer.as_mut_slice()).is_ok());
+    assert_eq!(rt; buffer.as_slice(), b"sixteen bytes...".as_slice());
+    Ok(())
+}
