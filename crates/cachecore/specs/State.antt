@@ -1,8 +1,9 @@
 -- The state of a cache, and what is read off it.
 --
 -- A file is its size, its cached pages by number, and what is known of its failed writes. A page of a file is absent,
--- filling, or cached. Tags are those of the page cache of Linux: DIRTY is a page that changed since a write of it was last
--- started, WRITEBACK one with a write in flight, TOWRITE one that a sync is to start (tag_pages_for_writeback).
+-- filling, or cached. Tags are those of the page cache of Linux. DIRTY: the device may lack the page's bytes even after the
+-- write in flight, if there is one, ends well. WRITEBACK: a write of the page is in flight. TOWRITE: a sync tagged the page
+-- (tag_pages_for_writeback), and whoever starts a write of it clears the tag; it outlives a sync that is dropped.
 use Rattle.std.specs.Prelude.{ℕ, ◌+◌, ◌-◌, ◌/◌, ◌%◌, Bool, true, false, not, ◌&&◌, ◌==◌, nat_le, List, [], ◌++◌, map, filter, Option, Some, None, is_some, unwrap_or, slice_index_or, slice_index, sum_by, count_by}
 use Rattle.std.specs.List.{range_with_len, list_any}
 use Rattle.std.specs.declared.cmp.Ordering.{Ordering}
@@ -121,7 +122,7 @@ tagged tag (Some page) = tag page.tags
 abbrev pub is_dirty : State → ℕ → ℕ → Bool
 is_dirty s f p = tagged (λ t. t.dirty) (page_at s f p)
 
--- a cached page is idle where it has no tag
+-- a cached page is idle where it has no tag. (A page is never cached and filling at once.)
 abbrev pub is_idle : Page → Bool
 is_idle page = not page.tags.dirty && not page.tags.writeback && not page.tags.towrite
 

@@ -126,12 +126,13 @@ fill_begin_tests s h p =
     else if is_written (spot_at s f p) && is_full s then refuse TooManyInFlight
     else None
 
--- whether a request of this kind is in flight and the end is of this cache
+-- whether there is such a request and it is of this kind
 abbrev pub is_of : Option Request → Kind → Bool
 is_of None k = false
 is_of (Some r) Fill = is_fill r.kind
 is_of (Some r) Flush = is_flush r.kind
 
+-- whether the kinds are the same
 abbrev pub same_kind : Kind → Kind → Bool
 same_kind Fill k = is_fill k
 same_kind Flush k = is_flush k

@@ -3,7 +3,7 @@ use Rattle.std.specs.Prelude.{ℕ, ◌-◌, Bool, ◌&&◌, nat_le}
 use Rattle.std.specs.Int.{is_power_of_two}
 use Rattle.pc_types.specs.declared.limits.TheConstants.{CLEAN_FRAMES, MAX_BLOCKS, MAX_ERR_CODE, MAX_FRAMES, MAX_PAGE_SIZE, MIN_DIRTY_LIMIT, MIN_FRAMES, MIN_PAGE_SIZE}
 
--- bytes of a page, frames of the cache, the most dirty pages, blocks of the device
+-- bytes of a page, frames of the cache, the most dirty pages that a write may lead to, blocks of the device
 pub record Sizes : Type 0 where
   pub page : ℕ
   pub frames : ℕ

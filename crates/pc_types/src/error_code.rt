@@ -9,7 +9,7 @@ use std::fmt;
 use std::marker::Model;
 
 /// An error code of a device, as an `errno` of Linux: 1 to 4,095.
-#[derive(PartialEq, Eq, Debug)]
+#[derive(Clone, Copy, PartialEq, Eq, Debug)]
 pub struct ErrCode {
     code: u16,
 }
@@ -26,14 +26,6 @@ impl Model for ErrCode {
 
     ghost inverse = { λ n. record { code = n } };
 }
-
-impl Clone for ErrCode {
-    fn clone(&self) -> Result<ErrCode, std::alloc::AllocError> {
-        Ok(*self)
-    }
-}
-
-impl Copy for ErrCode {}
 
 impl ErrCode {
     /// The error of a device that tells no other: an input or output error.
@@ -63,6 +55,11 @@ impl ErrCode {
 }
 
 impl fmt::Display for ErrCode {
+    ghost use Rattle.std.specs.Prelude.{Some};
+    ghost use Rattle.std.specs.Fmt.{decimal};
+
+    ghost output = { λ e. Some (decimal e) };
+
     fn fmt<W: fmt::Write>(&self, f: &mut fmt::Formatter<W>) -> fmt::Result {
         write!(f, "{}", self.code)
     }

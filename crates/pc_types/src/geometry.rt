@@ -10,7 +10,7 @@ use crate::refusal::Refusal;
 use std::marker::Model;
 
 /// Page size, frames, dirty limit and blocks, within their limits. A block has the size of a page.
-#[derive(PartialEq, Eq, Debug)]
+#[derive(Clone, Copy, PartialEq, Eq, Debug)]
 pub struct Geometry {
     page: u64,
     frames: u64,
@@ -30,14 +30,6 @@ impl Model for Geometry {
 
     ghost inverse = { λ g. record { page = g.page; frames = g.frames; dirty_limit = g.dirty_limit; blocks = g.blocks } };
 }
-
-impl Clone for Geometry {
-    fn clone(&self) -> Result<Geometry, std::alloc::AllocError> {
-        Ok(*self)
-    }
-}
-
-impl Copy for Geometry {}
 
 fn is_page_size(page: u64) -> bool
     ensures { result ≡ is_page_size page }

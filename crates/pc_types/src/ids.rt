@@ -1,4 +1,4 @@
-//! Numbers with names. Any number may be asked for, and a cache answers a refusal for one that it did not give out.
+//! Numbers with names. Any file, handle, serial or sync may be asked for: a number that the cache did not give out is refused.
 
 /// A file of a cache, counted from 0.
 #[derive(Clone, Copy, PartialEq, Eq, PartialOrd, Ord, Debug)]

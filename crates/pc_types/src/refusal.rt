@@ -36,7 +36,7 @@ pub enum Refusal {
     Busy,
     #[error("no memory is left: free some and try again")]
     Memory,
-    #[error("the device failed with code {0}: what was written is still cached, so try again")]
+    #[error("the device failed with code {0}: what was written to the cache is kept, so try again")]
     Io(ErrCode),
     #[error("this cache gave out no such number, or it has ended")]
     Stranger,
@@ -52,7 +52,7 @@ pub enum Refusal {
     NoEntry,
     #[error("an error code is 1 to 4,095")]
     BadCode,
-    #[error("256 attempts met no answer: other work keeps the cache full")]
+    #[error("256 attempts met no answer: try again")]
     Turns,
 }
 

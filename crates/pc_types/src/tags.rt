@@ -7,11 +7,11 @@ use bitflags::{Flag, Flags, bitflag_items};
 /// What a page may be tagged with.
 #[derive(Clone, Copy, PartialEq, Eq, Debug)]
 pub enum Tag {
-    /// The page was changed since a write of it to the device was last started.
+    /// The device may lack the page's bytes even after the write in flight, if there is one, ends well.
     Dirty,
     /// A write of the page to the device is in flight.
     Writeback,
-    /// A sync is to start a write of the page.
+    /// A sync tagged the page, and a write of it is to be started. The tag outlives a sync that is dropped.
     Towrite,
 }
 

@@ -100,21 +100,23 @@ AwaitsByBound =
 abbrev pub failures_at : World → List (Entry × World) → ℕ → ℕ → ℕ
 failures_at w run k f = (file_at (world_at w run k).core f).failures
 
--- a sync answers Failed exactly where a write of its file failed since it began
+-- a sync answers Clean only where its file's count of failed writes is as it was when the sync began, and Failed only where it
+-- is not
 pub record SyncsTell : Type 0 where
   pub clean : (w : World) (run : List (Entry × World)) → IsFirst w → Run w run → (i j : ℕ) (h : HandleId) (n : SyncId) → IsSync w run i j h n reply.Clean → failures_at w run j (named (plain_at run i) h.0) ≡ failures_at w run i (named (plain_at run i) h.0)
   pub failed : (w : World) (run : List (Entry × World)) → IsFirst w → Run w run → (i j : ℕ) (h : HandleId) (n : SyncId) (c : ℕ) → IsSync w run i j h n (reply.Failed c) → failures_at w run j (named (plain_at run i) h.0) ≢ failures_at w run i (named (plain_at run i) h.0)
 
--- how many pages of f were DIRTY as each sync of f began, in all
+-- how many pages of f were DIRTY where the step begins a sync of f, else 0
 abbrev pub tagged_by : World → Entry → ℕ → ℕ
 tagged_by w (Act (event.SyncBegin h) (reply.Sync n)) f = if file_of w.core h.0 == f then dirty_in (file_at w.core f) else 0
 tagged_by w _ f = 0
 
+-- how many pages syncs of f tagged in the run
 abbrev pub tagged_total : World → List (Entry × World) → ℕ → ℕ
 tagged_total w [] f = 0
 tagged_total w (step ∷ steps) f = tagged_by w step.0 f + tagged_total step.1 steps f
 
--- whether the step starts a write of a page of f for a sync
+-- 1 where the step starts a write of a page of f for a sync, else 0
 abbrev pub started_by : World → Entry → ℕ → ℕ
 started_by w (Act (event.SyncStep n) (reply.Job t)) f = if unwrap_or (option_map (λ sync. file_of w.core sync.handle == f) (finmap.get w.core.syncs n.0)) false then 1 else 0
 started_by w _ f = 0

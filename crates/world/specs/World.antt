@@ -37,7 +37,8 @@ on_device w f p = held w (spot_at w.core f p)
 
 -- ---- what may happen next
 
--- an event of the cache with its reply, a device call with its fault if it had one and whether it took effect, or an end with its reply
+-- an event of the cache with its reply; a device call with its fault if it had one, and for a flush that failed whether its
+-- block has the new bytes; or the end of a request with its reply
 pub data Entry : Type 0 where
   Act : (e : Event) → (r : Reply) → Entry
   Call : (t : ℕ) → (fault : Option ℕ) → (effect : Bool) → Entry
@@ -64,10 +65,12 @@ EndOf w t (Some r) (Some outcome) reply new =
     × (new ≡ record w { core = new.core; outcomes = map.remove w.outcomes t })
 EndOf w t _ _ reply new = ⊥
 
--- an event that is no end, or an end that is refused
+-- the cache makes an event, and the device is left alone
 abbrev pub Acts : World → Event → Reply → World → Type 0
 Acts w e r new = Step w.core e r new.core × (new ≡ record w { core = new.core })
 
+-- what may happen. An end comes as Finish, with the outcome of the call that was made; as an event of its own it can only be
+-- refused
 abbrev pub Moves : World → Entry → World → Type 0
 Moves w (Act (event.FillEnd e) r) new = (r ≡ reply.Refused Stranger) × Acts w (event.FillEnd e) r new
 Moves w (Act (event.FlushEnd e) r) new = (r ≡ reply.Refused Stranger) × Acts w (event.FlushEnd e) r new
