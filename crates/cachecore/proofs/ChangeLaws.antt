@@ -114,19 +114,21 @@ placed_places s f first n room = record {
       ∙ place_cond (eqb g f) _ _ (spot_at s g p);
 }
 
--- the file and its pages after the write
+-- the pages after a write
+pub get-written_pages : (P o : ℕ) (b : List ℕ) (pages : FinMap nat_cmp Page) (p : ℕ) → finmap.get (written_pages P o b pages) p ≡ cond (touches P o (length b) p) (Some (written_page P o b p (finmap.get pages p))) (finmap.get pages p)
+get-written_pages P o b pages p = get-overwrite nat_cmp_total (map (λ q. (q, written_page P o b q (finmap.get pages q))) (touched P o (length b))) pages p
+    ∙ ap (λ x. option_or x (finmap.get pages p)) (find_written (λ q. written_page P o b q (finmap.get pages q)) (first_page P o) (touched_count P o (length b)) _ p refl)
+    ∙ or_cond _ (written_page P o b p (finmap.get pages p)) (finmap.get pages p)
+    ∙ ap (λ t. cond t (Some (written_page P o b p (finmap.get pages p))) (finmap.get pages p)) (touched_range P o (length b) p)
+
+-- the file after the write
 abbrev written_file : State → ℕ → ℕ → List ℕ → File
 written_file s f o b = record (file_at s f) { size = max (file_at s f).size (o + length b); pages = written_pages s.sizes.page o b (file_at s f).pages }
-
-abbrev page_after : State → ℕ → ℕ → List ℕ → ℕ → Page
-page_after s f o b p = written_page s.sizes.page o b p (page_at s f p)
 
 -- a write is what it says, where there are blocks enough
 pub written_writes : (s : State) (f o : ℕ) (b : List ℕ) → f < length s.files → length (without_block s f (touched s.sizes.page o (length b))) ≤ length (free_blocks s) → WritesBytes s f o b (written s f o b)
 written_writes s f o b here room = record {
-  pages = λ p. ap (λ (x : File). finmap.get x.pages p) (file_at-here s f (written_file s f o b) here) ∙ get-overwrite nat_cmp_total (map (λ p. (p, page_after s f o b p)) (touched s.sizes.page o (length b))) (file_at s f).pages p
-      ∙ ap (λ x. option_or x (page_at s f p)) (find_written (page_after s f o b) (first_page s.sizes.page o) (touched_count s.sizes.page o (length b)) _ p refl) ∙ or_cond _ (page_after s f o b p) (page_at s f p)
-      ∙ ap (λ t. cond t (Some (page_after s f o b p)) (page_at s f p)) (touched_range s.sizes.page o (length b) p);
+  pages = λ p. ap (λ (x : File). finmap.get x.pages p) (file_at-here s f (written_file s f o b) here) ∙ get-written_pages s.sizes.page o b (file_at s f).pages p;
   spots = λ g p. (placed_places s f (first_page s.sizes.page o) (touched_count s.sizes.page o (length b)) room).each g p
       ∙ ap (λ t. cond (eqb g f && (t && not (has_block s f p))) (Some (new_spot (taken_by s f (first_page s.sizes.page o) p))) (spot_at s g p)) (touched_range s.sizes.page o (length b) p);
   file = ap (λ (x : File). slice_set s.files f (record (file_at s f) { size = max (file_at s f).size (o + length b); pages = x.pages })) (sym (file_at-here s f (written_file s f o b) here));
@@ -134,9 +136,6 @@ written_writes s f o b here room = record {
 }
 
 -- a truncation
-
-abbrev cut_file : State → ℕ → ℕ → File
-cut_file s f z = record (file_at s f) { size = z; pages = finmap.retain_keys (cut_boundary s f z (boundary s f z)) (λ p. nat_lt p (page_count s.sizes.page z)) }
 
 at_boundary : (s : State) (f z p : ℕ) (o : Option ℕ) → ((q : ℕ) → o ≡ Some q → q ≡ z / s.sizes.page) → finmap.get (cut_boundary s f z o) p ≡ cond (eqb (z / s.sizes.page) p && is_some o) (option_map (cut_page s.sizes.page z (has_block s f p)) (page_at s f p)) (page_at s f p)
 at_boundary s f z p None h = elim (eqb (z / s.sizes.page) p) as (λ b. page_at s f p ≡ cond (b && false) (option_map (cut_page s.sizes.page z (has_block s f p)) (page_at s f p)) (page_at s f p)) [ true ↦ refl | false ↦ refl ]
@@ -164,11 +163,21 @@ outside_cond : {A : Type 0} (here : Bool) (p n : ℕ) (o : Option A) → cond (n
 outside_cond true p n o = below_cond p n o
 outside_cond false p n o = refl
 
+-- the pages after a cut
+abbrev pub cut_pages : State → ℕ → ℕ → FinMap nat_cmp Page
+cut_pages s f z = finmap.retain_keys (cut_boundary s f z (boundary s f z)) (λ p. nat_lt p (page_count s.sizes.page z))
+
+pub get-cut_pages : (s : State) (f z p : ℕ) → finmap.get (cut_pages s f z) p ≡ cond (nat_le (page_count s.sizes.page z) p) None (cond (eqb (z / s.sizes.page) p && is_some (boundary s f z)) (option_map (cut_page s.sizes.page z (has_block s f p)) (page_at s f p)) (page_at s f p))
+get-cut_pages s f z p = get-retain_nat (cut_boundary s f z (boundary s f z)) (λ q. nat_lt q (page_count s.sizes.page z)) p
+    ∙ below_cond p (page_count s.sizes.page z) (finmap.get (cut_boundary s f z (boundary s f z)) p)
+    ∙ ap (cond (nat_le (page_count s.sizes.page z) p) None) (at_boundary s f z p (boundary s f z) (boundary_is s f z))
+
+abbrev cut_file : State → ℕ → ℕ → File
+cut_file s f z = record (file_at s f) { size = z; pages = cut_pages s f z }
+
 pub shrunk_truncates : (s : State) (f z : ℕ) → f < length s.files → Truncates s f z (shrunk s f z)
 shrunk_truncates s f z here = record {
-  pages = λ p. ap (λ (x : File). finmap.get x.pages p) (file_at-here s f (cut_file s f z) here) ∙ get-retain_nat (cut_boundary s f z (boundary s f z)) (λ p. nat_lt p (page_count s.sizes.page z)) p
-      ∙ below_cond p (page_count s.sizes.page z) (finmap.get (cut_boundary s f z (boundary s f z)) p)
-      ∙ ap (cond (nat_le (page_count s.sizes.page z) p) None) (at_boundary s f z p (boundary s f z) (boundary_is s f z));
+  pages = λ p. ap (λ (x : File). finmap.get x.pages p) (file_at-here s f (cut_file s f z) here) ∙ get-cut_pages s f z p;
   spots = λ g p. get-retain_place s.spots (λ k. not (eqb k.0 f) || nat_lt k.1 (page_count s.sizes.page z)) g p ∙ outside_cond (eqb g f) p (page_count s.sizes.page z) (spot_at s g p);
   file = ap (λ (x : File). slice_set s.files f (record (file_at s f) { size = z; pages = x.pages })) (sym (file_at-here s f (cut_file s f z) here));
   rest = refl;

@@ -9,3 +9,4 @@ pub mod WorkedSyncs
 pub mod StateLaws
 pub mod FreeBlocks
 pub mod ChangeLaws
+pub mod Choices

@@ -1,0 +1,96 @@
+-- A device call.
+use Rattle.std.proofs.Common.{◌≡◌, ℕ, ◌<◌, Bool, true, false, [], length, refl, sym, subst, ◌∙◌}
+use Rattle.std.specs.Prelude.{Option, Some, None, slice_set}
+use Rattle.std.specs.FinMap as finmap
+use Rattle.std.proofs.Math.ListN.{length-set}
+use Rattle.pc_types.specs.Files.{page_of}
+use Rattle.cachecore.specs.State.{State, Request, file_at, page_at, spot_at}
+use Rattle.world.specs.Plain.{Plain, plain_file}
+use Rattle.world.specs.World.{World, block_bytes, CallOf, CallNotes}
+use Rattle.world.proofs.View.{Good, Evolves, no_gone, put1}
+use Rattle.world.proofs.Coupled.{view, Coupled, After}
+use Rattle.world.proofs.Lookups.{get-insert1}
+use Rattle.cachecore.proofs.StateLaws.{get_or-set}
+use Rattle.world.proofs.CallFill.{call_fill_kept, call_fill_evolves}
+use Rattle.world.proofs.CallFault.{call_fault_kept, call_fault_evolves}
+use Rattle.world.proofs.CallFlush.{call_flush_kept, call_flush_evolves}
+use Rattle.cachecore.specs.declared.event.Kind.{Kind}
+use Rattle.cachecore.specs.declared.event.Kind.TheVariants.{Fill, Flush}
+use Rattle.cachecore.specs.declared.event.Outcome.{Outcome}
+use Rattle.cachecore.specs.declared.event.Outcome.TheVariants as outcome
+
+module _ (w : World) (plain : Plain) (c : Coupled w plain) (t : ℕ) (r : Request) (is : finmap.get w.core.requests t ≡ Some r) where
+  abbrev s : State
+  s = w.core
+
+  -- the world with this outcome noted
+  abbrev noted : Outcome → World
+  noted o = record w { outcomes = finmap.insert w.outcomes t o }
+
+  noted_view : (o : Outcome) → view (noted o) plain ≡ record (view w plain) { outcome = put1 (finmap.get w.outcomes) t (Some o) }
+  noted_view o = λ i. record {
+    page_size = s.sizes.page;
+    blocks = length w.device;
+    next = s.next;
+    page = λ g q. page_at s g q;
+    spot = λ g q. spot_at s g q;
+    request = λ u. finmap.get s.requests u;
+    outcome = λ u. get-insert1 w.outcomes t o u i;
+    block = λ b. block_bytes w b;
+    size = λ g. (file_at s g).size;
+    failures = λ g. (file_at s g).failures;
+    content = λ g q. page_of s.sizes.page (plain_file plain g) q;
+  }
+
+  read_well : r.kind ≡ Fill → After w plain no_gone (noted (outcome.Ok (block_bytes w r.block))) plain
+  read_well kind = record { good = subst Good (sym (noted_view (outcome.Ok (block_bytes w r.block)))) (call_fill_kept (view w plain) c.good t r is kind); evolves = subst (Evolves no_gone (view w plain)) (sym (noted_view (outcome.Ok (block_bytes w r.block)))) (call_fill_evolves (view w plain) c.good t r is kind); blocks = c.blocks; handles = c.handles; count = c.count; valid = c.valid; sizes = c.sizes }
+
+  fails : (code : ℕ) → After w plain no_gone (noted (outcome.Fault code)) plain
+  fails code = record { good = subst Good (sym (noted_view (outcome.Fault code))) (call_fault_kept (view w plain) c.good t r is code); evolves = subst (Evolves no_gone (view w plain)) (sym (noted_view (outcome.Fault code))) (call_fault_evolves (view w plain) c.good t r is code); blocks = c.blocks; handles = c.handles; count = c.count; valid = c.valid; sizes = c.sizes }
+
+  abbrev wrote : Outcome → World
+  wrote o = record w { outcomes = finmap.insert w.outcomes t o; device = slice_set w.device r.block r.bytes }
+
+  same_length : length (slice_set w.device r.block r.bytes) ≡ length w.device
+  same_length = length-set w.device r.block r.bytes
+
+  in_device : r.block < length w.device
+  in_device = (c.good.requests t r is).block
+
+  block_after : (b : ℕ) → block_bytes (record w { device = slice_set w.device r.block r.bytes }) b ≡ put1 (block_bytes w) r.block r.bytes b
+  unfolding put1
+  block_after b = get_or-set w.device r.block b r.bytes [] in_device
+
+  wrote_view : (o : Outcome) → view (wrote o) plain ≡ record (view w plain) { outcome = put1 (finmap.get w.outcomes) t (Some o); block = put1 (block_bytes w) r.block r.bytes }
+  wrote_view o = λ i. record {
+    page_size = s.sizes.page;
+    blocks = same_length i;
+    next = s.next;
+    page = λ g q. page_at s g q;
+    spot = λ g q. spot_at s g q;
+    request = λ u. finmap.get s.requests u;
+    outcome = λ u. get-insert1 w.outcomes t o u i;
+    block = λ b. block_after b i;
+    size = λ g. (file_at s g).size;
+    failures = λ g. (file_at s g).failures;
+    content = λ g q. page_of s.sizes.page (plain_file plain g) q;
+  }
+
+  writes : r.kind ≡ Flush → (o : Outcome) → After w plain no_gone (wrote o) plain
+  writes kind o = record { good = subst Good (sym (wrote_view o)) (call_flush_kept (view w plain) c.good t r is kind o); evolves = subst (Evolves no_gone (view w plain)) (sym (wrote_view o)) (call_flush_evolves (view w plain) c.good t r is kind o); blocks = same_length ∙ c.blocks; handles = c.handles; count = c.count; valid = c.valid; sizes = c.sizes }
+
+  by_kind : (k : Kind) (fault : Option ℕ) (effect : Bool) (new : World) → r.kind ≡ k → CallNotes w t r k fault effect new → After w plain no_gone new plain
+  by_kind Fill None effect new kind e = subst (λ x. After w plain no_gone x plain) (sym e) (read_well kind)
+  by_kind Fill (Some code) effect new kind e = subst (λ x. After w plain no_gone x plain) (sym e) (fails code)
+  by_kind Flush None effect new kind e = subst (λ x. After w plain no_gone x plain) (sym e) (writes kind (outcome.Ok r.bytes))
+  by_kind Flush (Some code) true new kind e = subst (λ x. After w plain no_gone x plain) (sym e) (writes kind (outcome.Fault code))
+  by_kind Flush (Some code) false new kind e = subst (λ x. After w plain no_gone x plain) (sym e) (fails code)
+
+-- a device call
+pub call_kept : (w : World) (plain : Plain) → Coupled w plain → (t : ℕ) (fault : Option ℕ) (effect : Bool) (new : World) → CallOf w t (finmap.get w.core.requests t) (finmap.get w.outcomes t) fault effect new → After w plain no_gone new plain
+call_kept w plain c t fault effect new h = go (finmap.get w.core.requests t) refl (finmap.get w.outcomes t) h
+  where
+    go : (q : Option Request) → finmap.get w.core.requests t ≡ q → (o : Option Outcome) → CallOf w t q o fault effect new → After w plain no_gone new plain
+    go (Some r) is None h = by_kind w plain c t r is r.kind fault effect new refl h
+    go (Some r) is (Some o) h = absurd h
+    go None is o h = absurd h

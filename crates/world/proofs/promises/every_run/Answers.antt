@@ -1,0 +1,33 @@
+use Rattle.world.proofs.AlwaysHold.{holds_always}
+use Rattle.world.proofs.GoOn.{requests_go_on}
+use Rattle.world.proofs.ReadsRight.{reads_are_right}
+use Rattle.world.proofs.SyncRuns.{awaits_by_bound, dirty_pages_stay, syncs_are_synced, syncs_rise, syncs_tell}
+use Rattle.world.proofs.FewWrites.{sync_writes_are_few}
+use Rattle.world.proofs.promises.every_run.Goals as goal
+
+pub returns-clause-always : goal.returns-clause-always
+returns-clause-always c = holds_always
+
+pub returns-clause-reads : goal.returns-clause-reads
+returns-clause-reads c = reads_are_right
+
+pub returns-clause-synced : goal.returns-clause-synced
+returns-clause-synced c = syncs_are_synced
+
+pub returns-clause-told : goal.returns-clause-told
+returns-clause-told c = syncs_tell
+
+pub returns-clause-few : goal.returns-clause-few
+returns-clause-few c = sync_writes_are_few
+
+pub returns-clause-rising : goal.returns-clause-rising
+returns-clause-rising c = syncs_rise
+
+pub returns-clause-awaited : goal.returns-clause-awaited
+returns-clause-awaited c = awaits_by_bound
+
+pub returns-clause-go_on : goal.returns-clause-go_on
+returns-clause-go_on c = requests_go_on
+
+pub returns-clause-stay : goal.returns-clause-stay
+returns-clause-stay c = dirty_pages_stay
