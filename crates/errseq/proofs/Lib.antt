@@ -1,0 +1,5 @@
+pub mod Bits
+pub mod Words
+pub mod Prefixes
+pub mod Samples
+pub mod Runs

@@ -1,0 +1,4 @@
+pub mod Word
+pub mod Recorded
+pub mod Samples
+pub mod Events

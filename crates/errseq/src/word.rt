@@ -1,0 +1,122 @@
+//! The word and its calls. The width of the counter stands here and in `specs/Word.antt`, and nowhere else.
+
+ghost use Rattle.std.specs.Prelude.{◌≡◌, ◌≢◌, ◌+◌, ◌*◌, ◌%◌, ◌<◌, if◌then◌else◌};
+ghost use Rattle.errseq.specs.Word.{IsCode, checked, code_of, counter_of, is_seen, sample_of, turns, with_seen, word_end, word_set};
+
+use pc_types::ErrCode;
+use std::marker::Model;
+
+/// Bit 12: some handle was told of the last recording.
+const SEEN: u32 = 1 << 12;
+
+/// Bits 0 to 11: the code of the last recording, 0 before the first.
+const CODE: u32 = SEEN - 1;
+
+/// Bits 13 to 31: the counter. Adding to its lowest bit wraps it after 2^19 - 1, since nothing stands above it.
+const STEP: u32 = 1 << 13;
+
+/// The error word of a file. It begins as 0. A handle keeps a word too: its sample, which a look compares with.
+#[derive(Clone, Copy, PartialEq, Eq, Debug)]
+pub struct ErrWord(pub u32);
+
+impl Model for ErrWord {
+    ghost use Rattle.std.specs.Prelude.{ℕ};
+
+    ghost Value = { ℕ };
+
+    ghost view = { λ w. w.0 };
+
+    ghost inverse = { λ n. record { 0 = n } };
+}
+
+impl ErrWord {
+    /// Whether some handle was told of the last recording.
+    pub fn is_seen(self) -> bool
+        ensures { result ≡ is_seen self }
+    {
+        self.0 & SEEN != 0
+    }
+
+    /// The last code, or 0 where there was none.
+    pub fn code(self) -> u16
+        ensures { result ≡ code_of self }
+    {
+        (self.0 & CODE) as u16
+    }
+
+    /// Records a code. Only a word that was seen gets another counter: where nobody was told of the last recording,
+    /// each handle that is told of this one is told once, and needs no second count.
+    pub fn set(&mut self, code: ErrCode)
+        ensures word { self.new ≡ word_set self.old code }
+        ensures code { IsCode code }
+    {
+        self.0 = self.next_counter() | u32::from(code.code());
+    }
+
+    // The counter's bits after a recording.
+    fn next_counter(self) -> u32
+        ensures { result ≡ (if is_seen self then (counter_of self + 1) % turns else counter_of self) * 8192 }
+    {
+        let counter = self.0 & !(STEP - 1);
+        if self.is_seen() {
+            counter.wrapping_add(STEP)
+        } else {
+            counter
+        }
+    }
+
+    /// What a new handle compares with: 0 where nobody was told of the last recording, so that the handle is.
+    pub fn sample(self) -> ErrWord
+        ensures { result ≡ sample_of self }
+    {
+        if self.is_seen() { self } else { ErrWord(0) }
+    }
+
+    /// The word with SEEN.
+    pub fn with_seen(self) -> ErrWord
+        ensures { result ≡ with_seen self }
+    {
+        ErrWord(self.0 | SEEN)
+    }
+
+    /// The last code, where the word is not the sample. Nothing is changed, so the next look is told again.
+    pub fn check(self, since: ErrWord) -> Option<u16>
+        ensures { result ≡ checked self since }
+    {
+        if self == since {
+            None
+        } else {
+            Some(self.code())
+        }
+    }
+
+    /// Looks: the last code, where the word is not the sample. Then the word is seen, and the sample is the word.
+    pub fn check_and_advance(&mut self, since: &mut ErrWord) -> Option<u16>
+        ensures code { result ≡ checked self.old since.old }
+        ensures same { self.old ≡ since.old → (self.new ≡ self.old) × (since.new ≡ since.old) }
+        ensures advanced { self.old ≢ since.old → (self.new ≡ with_seen self.old) × (since.new ≡ self.new) }
+    {
+        let code = self.check(*since);
+        if code.is_some() {
+            *self = self.with_seen();
+            *since = *self;
+        }
+        code
+    }
+
+    /// The word as one of an atomic table.
+    pub fn to_u64(self) -> u64
+        ensures word { result ≡ self }
+        ensures within { result < word_end }
+    {
+        u64::from(self.0)
+    }
+
+    /// The word of an atomic table as an error word.
+    pub fn from_u64(bits: u64) -> ErrWord
+        requires { bits < word_end }
+        ensures { result ≡ bits }
+    {
+        ErrWord(bits as u32)
+    }
+}
