@@ -1,0 +1,64 @@
+-- Lemmas on an entry of several slots.
+use Rattle.std.proofs.Common.{◌≡◌, ℕ, ◌+◌, ◌/◌, ◌%◌, ◌^◌, ◌<◌, ◌*◌, Some, None, sym, ap, ◌∙◌, inl, inr, arith}
+use Rattle.std.proofs.lemmas.Bool.{cases_eq}
+use Rattle.slab.specs.Slab.{Slab, get}
+use Rattle.std.proofs.lemmas.Option.{same_Some}
+use Rattle.radix.proofs.SeeLemmas.{see-is}
+use Rattle.radix.specs.declared.node.Node.{Node}
+use Rattle.radix.specs.declared.slot.Slot.TheVariants.{Sibling, Empty}
+use Rattle.radix.specs.declared.entry.Entry.TheVariants as entry
+use Rattle.radix.specs.Entries.{StandsAt, slot, content, IsFree, entry_at, mark_at}
+use Rattle.radix.specs.Tree.{SameSlots, IsTree, WritesSlot, WritesRun}
+
+whole : (at d p : ℕ) → d ≡ 0 → at / 64 ^ d ≡ p → at ≡ p
+whole at d p none is = omega (arith, rw none at is)
+
+-- the next slot is still free
+pub free_next : (old s : Slab Node) (level place from j value : ℕ) → place ≡ from → IsFree old level (from + j) → WritesRun old s level place j value → IsFree s level (place + j)
+free_next old s level place from j value same free run = record {
+  each = λ d below at sum under.
+      run.others below at (λ is low high. let e = whole at d (place + j) (omega (arith, sum, is)) under in omega (arith, e, high))
+      ∙ free.each d below at sum (under ∙ ap (λ z. z + j) same);
+}
+
+pub run_more : (old s new : Slab Node) (level place j value first : ℕ) → 0 < j → first ≡ place % 64 → WritesRun old s level place j value → WritesSlot s new level (place + j) (Some (entry.Sibling first)) → WritesRun old new level place (j + 1) value
+run_more old s new level place j value first some is run puts = record {
+  first = puts.others level place (λ l e. omega (arith, e, some)) ∙ run.first;
+  rest = λ i low high. elim (cases_eq i j) [
+    | inl same ↦ ap (λ z. entry_at new level (place + z)) same ∙ puts.entry ∙ ap (λ o. Some (entry.Sibling o)) is
+    | inr differs ↦ puts.others level (place + i) (λ l e. differs (omega (arith, e))) ∙ run.rest i low (omega (arith, high, differs))
+  ];
+  others = λ other at apart.
+      puts.others other at (λ l e. apart l (omega (arith, e)) (omega (arith, e)))
+      ∙ run.others other at (λ l low high. apart l low (omega (arith, high)));
+  marks = λ mark other at low.
+      elim (cases_eq other level) [
+        | inl l ↦ elim (cases_eq at (place + j)) [
+          | inl p ↦ ap (λ z. mark_at mark new z at) l ∙ ap (λ z. mark_at mark new level z) p ∙ puts.bits_stay mark low ∙ ap (λ z. mark_at mark s level z) (sym p) ∙ ap (λ z. mark_at mark s z at) (sym l)
+          | inr q ↦ puts.other_marks mark other at low (λ a b. q b)
+        ]
+        | inr m ↦ puts.other_marks mark other at low (λ a b. m a)
+      ]
+      ∙ run.marks mark other at low;
+}
+
+pub free_after : (old v new : Slab Node) (level place : ℕ) → old ≡ v → SameSlots old new → IsFree v level place → IsFree new level place
+free_after old v new level place same entries free = record {
+  each = λ d below at sum under. entries.entries below at ∙ ap (λ s. entry_at s below at) same ∙ free.each d below at sum under;
+}
+
+pub beside_is : (s : Slab Node) (head : ℕ) (tree : IsTree s head) (level place key offset : ℕ) (n : Node) → StandsAt s key level (place / 64) → get s key ≡ Some n → offset < 64 → content (slot n offset) ≡ entry_at s level (place / 64 * 64 + offset)
+beside_is s head tree level place key offset n stands there within =
+    let same : stands.node ≡ n = same_Some stands.node n (sym stands.there ∙ there) in
+    let l : n.level ≡ level = sym (ap (λ (z : Node). z.level) same) ∙ stands.level_is in
+    let p : n.prefix ≡ place / 64 = sym (ap (λ (z : Node). z.prefix) same) ∙ stands.prefix_is in
+    let at : (place / 64 * 64 + offset) % 64 ≡ offset = omega (arith, within) in
+    sym (see-is (λ z i. content (slot z i)) None s head tree level (place / 64 * 64 + offset) key n there l (omega (arith, p, within)) ∙ ap (λ o. content (slot n o)) at)
+
+-- the slot of a place in the node that has it
+pub slot_in_is : (s : Slab Node) (head : ℕ) (tree : IsTree s head) (level place key : ℕ) (n : Node) → StandsAt s key level (place / 64) → get s key ≡ Some n → content (slot n (place % 64)) ≡ entry_at s level place
+slot_in_is s head tree level place key n stands there =
+    let same : stands.node ≡ n = same_Some stands.node n (sym stands.there ∙ there) in
+    let l : n.level ≡ level = sym (ap (λ (z : Node). z.level) same) ∙ stands.level_is in
+    let p : n.prefix ≡ place / 64 = sym (ap (λ (z : Node). z.prefix) same) ∙ stands.prefix_is in
+    sym (see-is (λ z i. content (slot z i)) None s head tree level place key n there l p)

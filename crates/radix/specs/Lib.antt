@@ -1,0 +1,5 @@
+pub mod Bitmap
+pub mod Words
+pub mod WordLaw
+pub mod Entries
+pub mod Tree

@@ -1,0 +1,60 @@
+//! What the crate above speaks of: entries, where they stand, and where a walk ended.
+ghost use Rattle.std.specs.Prelude.{◌≡◌, ℕ};
+
+use std::marker::Model;
+
+/// What stands at a slot.
+#[derive(Clone, Copy, PartialEq, Eq, Debug)]
+pub enum Entry {
+    /// The first slot of an entry, with its value, at most 2^63 - 1.
+    Leaf(u64),
+    /// A further slot of an entry, with the offset of its first slot in the node.
+    Sibling(u64),
+}
+
+/// Slot `place` of a level, 0 to 10. It has the indexes from `place * 64 ^ level` on, 64 ^ level of them.
+#[derive(Clone, Copy, PartialEq, Eq, Debug)]
+pub struct Position {
+    pub level: u32,
+    pub place: u64,
+}
+
+/// Where a walk ended. It is good for the calls that say so, until a slot is emptied.
+#[derive(Clone, Copy)]
+pub struct Cursor {
+    key: usize,
+}
+
+impl Model for Cursor {
+    ghost use Rattle.std.specs.Prelude.{ℕ};
+
+    ghost Value = { ℕ };
+
+    ghost view = { λ c. c.key };
+
+    ghost inverse = { λ k. record { key = k } };
+}
+
+impl Cursor {
+    #[inline]
+    pub(crate) fn at(key: usize) -> Cursor
+        ensures { result ≡ key }
+    {
+        Cursor { key }
+    }
+
+    #[inline]
+    pub(crate) fn key(self) -> usize
+        ensures { result ≡ self }
+    {
+        self.key
+    }
+}
+
+/// The entry at an index, and where it was found.
+#[derive(Clone, Copy)]
+pub struct Found {
+    pub cursor: Cursor,
+    pub level: u32,
+    pub entry: Entry,
+}

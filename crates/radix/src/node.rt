@@ -1,0 +1,72 @@
+//! A node of 64 slots: 568 bytes, and 576 with the slab's tag.
+ghost use Rattle.std.specs.Prelude.{◌≡◌, ℕ, ◌<◌, ◌^◌};
+ghost use Rattle.radix.specs.Words.{FitsLink};
+
+use crate::slot::{Link, Slot, Word};
+
+/// The mark that every entry has, on its first slot, after the three of the caller's.
+pub const ENTRY: usize = 3;
+
+/// 64 slots at a level of the tree. Fields that a walk reads together stand together; the order is the layout.
+#[derive(Drop)]
+pub struct Node {
+    /// How many levels are below this one: its shift is six times that.
+    pub level: u32,
+    /// How many slots are not empty, siblings and children included.
+    pub count: u32,
+    /// The node's index among those of its level. Its last six bits are the offset in the parent. That a node carries its
+    /// own place makes every fact of the tree one of a node and its child.
+    pub prefix: u64,
+    /// The node above, or none at the head.
+    pub parent: Link,
+    /// For each mark one bit a slot, and last for the mark that every entry has.
+    pub marks: [u64; 4],
+    pub slots: [Word; 64],
+}
+
+impl Node {
+    ghost use Rattle.radix.specs.Entries.{slot};
+    ghost use Rattle.radix.specs.Tree.{blank, node_over};
+
+    /// What the slot at an offset has.
+    #[inline]
+    pub(crate) fn read(&self, offset: usize) -> Slot
+        requires { offset < 64 }
+        ensures { result ≡ slot self.now offset }
+    {
+        self.slots[offset].slot()
+    }
+
+    /// A node with no entry.
+    pub(crate) fn blank_at(level: u32, prefix: u64, parent: Option<usize>) -> Node
+        requires { FitsLink parent }
+        ensures { result ≡ blank level prefix parent }
+    {
+        Node {
+            level,
+            count: 0,
+            prefix,
+            parent: Link::of(parent),
+            marks: [0; 4],
+            slots: [Word::empty(); 64],
+        }
+    }
+
+    /// A node whose one child is the head.
+    pub(crate) fn over(top: &Node, head: usize) -> Node
+        requires level { top.now.level < 10 }
+        requires small { head < 2 ^ 62 }
+        ensures { result ≡ node_over top.now head }
+    {
+        let mut node = Node::blank_at(top.level + 1, 0, None);
+        node.marks = [
+            top.marks[0].min(1),
+            top.marks[1].min(1),
+            top.marks[2].min(1),
+            top.marks[3].min(1),
+        ];
+        node.slots[0] = Word::child(head);
+        node.count = 1;
+        node
+    }
+}

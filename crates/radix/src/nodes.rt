@@ -1,0 +1,311 @@
+//! The tree as its caller sees it: entries at slots of levels.
+ghost use Rattle.std.specs.Prelude.{◌≡◌, ◌≢◌, ℕ, ◌+◌, ◌*◌, ◌/◌, ◌%◌, ◌^◌, ◌<◌, ◌≤◌, ◌==◌, ◌↔◌, Some, None, IsOk, OnOk, IfErr, IfSome, MatchOption, MatchBool};
+ghost use Rattle.pc_types.specs.declared.refusal.Refusal.{Refusal};
+ghost use Rattle.radix.specs.declared.entry.Entry.{Entry};
+ghost use Rattle.radix.specs.Entries.{entry_at, mark_at, node_count, StandsAt, IsBare, IsLeaf, IsRun, IsClear, IsFree, HasNoMark, HasPathRoom, SameEntries, PutsEntry, PutsBit, PutsRun, ClearsRun, IsFound, HasNoEntry, IsNext, HasNoNext, IsNextEntry, HasNoNextEntry, HasMarked, HasNoMarked, HasMarkedUnder, HasNoMarkedUnder};
+
+use crate::entry::{Cursor, Entry, Found, Position};
+use crate::node::{ENTRY, Node};
+use crate::{growth, marks, next, removal, tree};
+use pc_types::Refusal;
+use slab::Slab;
+use std::alloc::Global;
+use std::marker::Model;
+
+/// Entries with three marks, each at a slot of a level: slot `place` of `level` has the indexes from
+/// `place * 64 ^ level` on. No two entries share an index if each is put where `IsClear` and `IsFree` hold.
+///
+/// A walk costs most of a call. So `seek` and `find` walk once and give a cursor, at which the other calls work.
+#[derive(Drop)]
+pub struct Nodes {
+    slab: Slab<Node>,
+    head: Option<usize>,
+}
+
+impl Model for Nodes {
+    ghost use Rattle.slab.specs.Slab.{Slab as Slots};
+    ghost use Rattle.radix.specs.declared.node.Node.{Node as OneNode};
+
+    ghost Value = { Slots OneNode };
+
+    ghost use Rattle.radix.specs.Tree.{IsWhole};
+
+    ghost view = { λ a. a.slab };
+
+    ghost invariant = { λ a. IsWhole a.slab a.head };
+}
+
+impl Nodes {
+    pub fn new(alloc: Global) -> Nodes
+        ensures bare { IsBare result }
+        ensures count { node_count result ≡ 0 }
+    {
+        Nodes {
+            slab: Slab::new(alloc),
+            head: None,
+        }
+    }
+
+    /// Makes room for the nodes that a put at a slot may need: at most 21, and as many as there are levels between the
+    /// slot's and the head's where the head covers the index.
+    pub fn reserve_path(&mut self, index: u64, level: u32) -> Result<(), Refusal>
+        requires level { level ≤ 10 }
+        ensures room { OnOk result (HasPathRoom self.new level index) }
+        ensures succeeds { HasPathRoom self.old level index → IsOk result }
+        ensures err { IfErr result (λ refusal. refusal ≡ Refusal.Memory) }
+        ensures entries { SameEntries self.old self.new }
+        ensures count { node_count self.new ≡ node_count self.old }
+    {
+        let need = tree::path_need(&self.slab, self.head, level, index);
+        self.slab.reserve(need)?;
+        // A child's key has 62 bits.
+        if self.slab.capacity() >= 4_611_686_018_427_387_904 {
+            return Err(Refusal::Memory);
+        }
+        Ok(())
+    }
+
+    /// The number of nodes, 576 bytes each.
+    pub fn count(&self) -> usize
+        ensures value { result ≡ node_count self.now }
+        ensures bare { IsBare self.now ↔ result ≡ 0 }
+    {
+        self.slab.len()
+    }
+
+    /// The entry at a slot.
+    pub fn get(&self, index: u64, level: u32) -> Option<Entry>
+        ensures { result ≡ entry_at self.now level (index / 64 ^ level) }
+    {
+        match self.head {
+            Some(head) => match tree::seek(&self.slab, head, level, index) {
+                Some(key) => tree::entry_in(&self.slab, head, key, level, index),
+                None => None,
+            },
+            None => None,
+        }
+    }
+
+    /// The entry at an index, at whichever level it stands.
+    pub fn find(&self, index: u64) -> Option<Found>
+        ensures found { MatchOption result (HasNoEntry self.now index) (λ r. IsFound self.now index r.level r.entry) }
+        ensures stands { IfSome result (λ r. StandsAt self.now r.cursor r.level (index / 64 ^ r.level / 64)) }
+    {
+        match self.head {
+            Some(head) => tree::find(&self.slab, head, index),
+            None => None,
+        }
+    }
+
+    /// Walks to the slot of an index at a level. Where none of its node is there, no entry is.
+    pub fn seek(&self, index: u64, level: u32) -> Option<Cursor>
+        ensures { MatchOption result (entry_at self.now level (index / 64 ^ level) ≡ None) (λ cursor. StandsAt self.now cursor level (index / 64 ^ level / 64)) }
+    {
+        match self.head {
+            Some(head) => match tree::seek(&self.slab, head, level, index) {
+                Some(key) => Some(Cursor::at(key)),
+                None => None,
+            },
+            None => None,
+        }
+    }
+
+    /// The entry at a slot.
+    pub fn entry_in(&self, cursor: Cursor, index: u64, level: u32) -> Option<Entry>
+        requires { StandsAt self.now cursor level (index / 64 ^ level / 64) }
+        ensures { result ≡ entry_at self.now level (index / 64 ^ level) }
+    {
+        let Some(head) = self.head else {
+            unreachable!()
+        };
+        tree::entry_in(&self.slab, head, cursor.key(), level, index)
+    }
+
+    /// The entry at the slot with this offset in the same node.
+    pub fn beside(&self, cursor: Cursor, index: u64, level: u32, offset: usize) -> Option<Entry>
+        requires stands { StandsAt self.now cursor level (index / 64 ^ level / 64) }
+        requires within { offset < 64 }
+        ensures { result ≡ entry_at self.now level (index / 64 ^ level / 64 * 64 + offset) }
+    {
+        let Some(head) = self.head else {
+            unreachable!()
+        };
+        tree::beside(&self.slab, head, cursor.key(), level, index, offset)
+    }
+
+    /// Puts an entry without marks at a slot whose node is there. It needs no memory.
+    pub fn fill(&mut self, cursor: Cursor, index: u64, level: u32, value: u64)
+        requires stands { StandsAt self.old cursor level (index / 64 ^ level / 64) }
+        requires level { level ≤ 10 }
+        requires value { value < 2 ^ 63 }
+        requires free { IsFree self.old level (index / 64 ^ level) }
+        ensures puts { PutsEntry self.old self.new level (index / 64 ^ level) (Some (Entry.Leaf value)) }
+        ensures stands { StandsAt self.new cursor level (index / 64 ^ level / 64) }
+    {
+        let Some(head) = self.head else {
+            unreachable!()
+        };
+        growth::fill(&mut self.slab, head, cursor.key(), level, index, value);
+    }
+
+    /// Puts an entry without marks at a slot, in the room that `reserve_path` made.
+    pub fn put(&mut self, index: u64, level: u32, value: u64)
+        requires level { level ≤ 10 }
+        requires value { value < 2 ^ 63 }
+        requires clear { IsClear self.old level index }
+        requires free { IsFree self.old level (index / 64 ^ level) }
+        requires room { HasPathRoom self.old level index }
+        ensures { PutsEntry self.old self.new level (index / 64 ^ level) (Some (Entry.Leaf value)) }
+    {
+        let head = growth::head_for(&mut self.slab, self.head, level, index);
+        growth::put(&mut self.slab, head, level, index, value);
+        self.head = Some(head);
+    }
+
+    /// Puts an entry of several slots of a node, in the room that `reserve_path` made.
+    pub fn put_run(&mut self, index: u64, level: u32, span: u64, value: u64)
+        requires level { level ≤ 10 }
+        requires some { 0 < span }
+        requires value { value < 2 ^ 63 }
+        requires within { index / 64 ^ level % 64 + span ≤ 64 }
+        requires clear { IsClear self.old level index }
+        requires free { (j : ℕ) → j < span → IsFree self.old level (index / 64 ^ level + j) }
+        requires room { HasPathRoom self.old level index }
+        ensures { PutsRun self.old self.new level (index / 64 ^ level) span value }
+    {
+        let head = growth::head_for(&mut self.slab, self.head, level, index);
+        growth::put_run(&mut self.slab, head, level, index, span, value);
+        self.head = Some(head);
+    }
+
+    /// Writes another value into an entry, whose marks stay.
+    pub fn replace(&mut self, cursor: Cursor, index: u64, level: u32, value: u64)
+        requires stands { StandsAt self.old cursor level (index / 64 ^ level / 64) }
+        requires value { value < 2 ^ 63 }
+        requires leaf { IsLeaf (entry_at self.old level (index / 64 ^ level)) }
+        ensures puts { PutsEntry self.old self.new level (index / 64 ^ level) (Some (Entry.Leaf value)) }
+        ensures stands { StandsAt self.new cursor level (index / 64 ^ level / 64) }
+    {
+        let Some(head) = self.head else {
+            unreachable!()
+        };
+        removal::replace(&mut self.slab, head, cursor.key(), level, index, value);
+    }
+
+    /// Takes an entry of one slot away, which has no marks. The node goes with its last entry, and so on upwards.
+    pub fn clear(&mut self, cursor: Cursor, index: u64, level: u32)
+        requires stands { StandsAt self.old cursor level (index / 64 ^ level / 64) }
+        requires level { level ≤ 10 }
+        requires leaf { IsLeaf (entry_at self.old level (index / 64 ^ level)) }
+        requires unmarked { HasNoMark self.old level (index / 64 ^ level) }
+        ensures { PutsEntry self.old self.new level (index / 64 ^ level) None }
+    {
+        let Some(head) = self.head else {
+            unreachable!()
+        };
+        self.head = removal::clear(&mut self.slab, head, cursor.key(), level, index);
+    }
+
+    /// Takes an entry of several slots away, which has no marks.
+    pub fn clear_run(&mut self, cursor: Cursor, index: u64, level: u32, span: u64)
+        requires stands { StandsAt self.old cursor level (index / 64 ^ level / 64) }
+        requires level { level ≤ 10 }
+        requires some { 0 < span }
+        requires within { index / 64 ^ level % 64 + span ≤ 64 }
+        requires run { IsRun self.old level (index / 64 ^ level) span }
+        requires unmarked { HasNoMark self.old level (index / 64 ^ level) }
+        ensures { ClearsRun self.old self.new level (index / 64 ^ level) span }
+    {
+        let Some(head) = self.head else {
+            unreachable!()
+        };
+        self.head = removal::clear_run(&mut self.slab, head, cursor.key(), level, index, span);
+    }
+
+    /// Sets a mark of an entry, at its first slot.
+    pub fn set_bit(&mut self, cursor: Cursor, index: u64, level: u32, mark: usize)
+        requires stands { StandsAt self.old cursor level (index / 64 ^ level / 64) }
+        requires mark { mark < 3 }
+        requires leaf { IsLeaf (entry_at self.old level (index / 64 ^ level)) }
+        ensures puts { PutsBit self.old self.new mark level (index / 64 ^ level) 1 }
+        ensures stands { StandsAt self.new cursor level (index / 64 ^ level / 64) }
+    {
+        let Some(head) = self.head else {
+            unreachable!()
+        };
+        let key = cursor.key();
+        marks::change_bit(&mut self.slab, head, key, level, index, mark, true);
+    }
+
+    /// Clears a mark of an entry, at its first slot.
+    pub fn clear_bit(&mut self, cursor: Cursor, index: u64, level: u32, mark: usize)
+        requires stands { StandsAt self.old cursor level (index / 64 ^ level / 64) }
+        requires mark { mark < 3 }
+        requires leaf { IsLeaf (entry_at self.old level (index / 64 ^ level)) }
+        ensures puts { PutsBit self.old self.new mark level (index / 64 ^ level) 0 }
+        ensures stands { StandsAt self.new cursor level (index / 64 ^ level / 64) }
+    {
+        let Some(head) = self.head else {
+            unreachable!()
+        };
+        let key = cursor.key();
+        marks::change_bit(&mut self.slab, head, key, level, index, mark, false);
+    }
+
+    /// Whether an entry has a mark, at its first slot.
+    pub fn get_bit(&self, cursor: Cursor, index: u64, level: u32, mark: usize) -> bool
+        requires stands { StandsAt self.now cursor level (index / 64 ^ level / 64) }
+        requires mark { mark < 3 }
+        requires leaf { IsLeaf (entry_at self.now level (index / 64 ^ level)) }
+        ensures { result ≡ (mark_at mark self.now level (index / 64 ^ level) == 1) }
+    {
+        let Some(head) = self.head else {
+            unreachable!()
+        };
+        marks::get_bit(&self.slab, head, cursor.key(), level, index, mark)
+    }
+
+    /// Whether any entry has the mark.
+    pub fn marked(&self, mark: usize) -> bool
+        requires { mark < 3 }
+        ensures { MatchBool result (HasMarked self.now mark) (HasNoMarked self.now mark) }
+    {
+        match self.head {
+            Some(head) => self.slab[head].marks[mark] != 0,
+            None => false,
+        }
+    }
+
+    /// Whether any entry at a slot or below it has the mark.
+    pub fn marked_under(&self, index: u64, level: u32, mark: usize) -> bool
+        requires level { level ≤ 10 }
+        requires mark { mark < 3 }
+        ensures { MatchBool result (HasMarkedUnder self.now mark level (index / 64 ^ level)) (HasNoMarkedUnder self.now mark level (index / 64 ^ level)) }
+    {
+        match self.head {
+            Some(head) => marks::marked_under(&self.slab, head, level, index, mark),
+            None => false,
+        }
+    }
+
+    /// The lowest entry with the mark whose first index is the given one or later.
+    pub fn next_set(&self, index: u64, mark: usize) -> Option<Position>
+        requires { mark < 3 }
+        ensures { MatchOption result (HasNoNext self.now mark index) (λ r. IsNext self.now mark index r.level r.place) }
+    {
+        match self.head {
+            Some(head) => next::next_set(&self.slab, head, index, mark),
+            None => None,
+        }
+    }
+
+    /// The lowest entry whose first index is the given one or later.
+    pub fn next_entry(&self, index: u64) -> Option<Position>
+        ensures { MatchOption result (HasNoNextEntry self.now index) (λ r. IsNextEntry self.now index r.level r.place) }
+    {
+        match self.head {
+            Some(head) => next::next_set(&self.slab, head, index, ENTRY),
+            None => None,
+        }
+    }
+}

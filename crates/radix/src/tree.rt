@@ -1,0 +1,159 @@
+//! Nodes that make a tree in a slab.
+ghost use Rattle.std.specs.Prelude.{◌≡◌, ℕ, ◌+◌, ◌*◌, ◌/◌, ◌%◌, ◌^◌, ◌<◌, ◌≤◌, Some, None, IfSome, MatchOption, MatchBool, ◌≢◌, ◌⊎◌};
+ghost use Rattle.slab.specs.Slab.{get, HasRoomFor, Updates, slab_len, ContainsKey};
+ghost use Rattle.radix.specs.Entries.{StandsAt, IsFound, HasNoEntry, IsPathNeed, content, entry_at};
+ghost use Rattle.radix.specs.Tree.{slot_at, IsTree, IsSoundOrVoid, IsHeight};
+
+use crate::entry::{Cursor, Entry, Found};
+use crate::node::Node;
+use crate::slot::Slot;
+use slab::Slab;
+
+// The index of the slot at a level that has `index`.
+pub(crate) fn place_at(index: u64, level: u32) -> u64
+    requires { level ≤ 10 }
+    ensures { result ≡ index / 64 ^ level }
+{
+    index >> (6 * level)
+}
+
+// The offset in its node of the slot at a level that has `index`.
+pub(crate) fn offset_at(index: u64, level: u32) -> usize
+    requires { level ≤ 10 }
+    ensures { result ≡ index / 64 ^ level % 64 }
+{
+    (place_at(index, level) % 64) as usize
+}
+
+// Whether a head has the slot of `index` at a level under it.
+pub(crate) fn covers(top: &Node, level: u32, index: u64) -> bool
+    requires { top.now.level ≤ 10 }
+    ensures { MatchBool result ((level ≤ top.now.level) × (index / 64 ^ top.now.level / 64 ≡ 0)) ((top.now.level < level) ⊎ (index / 64 ^ top.now.level / 64 ≢ 0)) }
+{
+    level <= top.level && place_at(index, top.level) / 64 == 0
+}
+
+// The lowest level, from `level` on, at which one head has `index`.
+pub(crate) fn height_for(index: u64, level: u32) -> u32
+    requires { level ≤ 10 }
+    ensures high { result ≤ 10 }
+    ensures height { IsHeight index level result }
+{
+    let mut height = level;
+    'up: while place_at(index, height) / 64 != 0 {
+        height += 1;
+    }
+    height
+}
+
+// How many nodes a path to the slot of `index` at a level may need.
+pub(crate) fn path_need(nodes: &Slab<Node>, head: Option<usize>, level: u32, index: u64) -> usize
+    requires level { level ≤ 10 }
+    requires sound { IsSoundOrVoid nodes.now head }
+    ensures need { IsPathNeed nodes.now level index result }
+    ensures least { (need : ℕ) → IsPathNeed nodes.now level index need → result ≤ need }
+{
+    let lowest = height_for(index, level);
+    match head {
+        Some(head) => {
+            let top = nodes[head].level;
+            let height = lowest.max(top);
+            (height - top + (height - level)) as usize
+        }
+        None => (1 + (lowest - level)) as usize,
+    }
+}
+
+// The node that has the slot of `index` at a level, if it is there.
+pub(crate) fn seek(nodes: &Slab<Node>, head: usize, level: u32, index: u64) -> Option<usize>
+    requires { IsTree nodes.now head }
+    ensures { MatchOption result (slot_at nodes.now level (index / 64 ^ level) ≡ Slot.Empty) (λ key. StandsAt nodes.now key level (index / 64 ^ level / 64)) }
+{
+    let top = &nodes[head];
+    if top.level < level || place_at(index, top.level) / 64 != 0 {
+        return None;
+    }
+    let mut key = head;
+    let mut height = top.level;
+    'down: while height != level {
+        match nodes[key].read(offset_at(index, height)) {
+            Slot::Child(child) => key = child,
+            _ => return None,
+        }
+        height -= 1;
+    }
+    Some(key)
+}
+
+// The entry in a slot, if one stands there.
+#[inline]
+fn entry_of(slot: Slot) -> Option<Entry>
+    ensures { result ≡ content slot }
+{
+    match slot {
+        Slot::Leaf(value) => Some(Entry::Leaf(value)),
+        Slot::Sibling(first) => Some(Entry::Sibling(first)),
+        Slot::Empty | Slot::Child(_) => None,
+    }
+}
+
+// The entry at an index, and where it stands.
+pub(crate) fn find(nodes: &Slab<Node>, head: usize, index: u64) -> Option<Found>
+    requires { IsTree nodes.now head }
+    ensures found { MatchOption result (HasNoEntry nodes.now index) (λ r. IsFound nodes.now index r.level r.entry) }
+    ensures stands { IfSome result (λ r. StandsAt nodes.now r.cursor r.level (index / 64 ^ r.level / 64)) }
+{
+    let top = &nodes[head];
+    if !covers(top, 0, index) {
+        return None;
+    }
+    let mut key = head;
+    let mut level = top.level;
+    'down: loop {
+        let slot = nodes[key].read(offset_at(index, level));
+        let Slot::Child(child) = slot else {
+            let Some(entry) = entry_of(slot) else {
+                return None;
+            };
+            return Some(Found {
+                cursor: Cursor::at(key),
+                level,
+                entry,
+            });
+        };
+        key = child;
+        level -= 1;
+    }
+}
+
+// The entry at the slot of `index` in a node that has it.
+pub(crate) fn entry_in(
+    nodes: &Slab<Node>,
+    head: usize,
+    key: usize,
+    level: u32,
+    index: u64,
+) -> Option<Entry>
+    requires tree { IsTree nodes.now head }
+    requires stands { StandsAt nodes.now key level (index / 64 ^ level / 64) }
+    ensures { result ≡ entry_at nodes.now level (index / 64 ^ level) }
+{
+    entry_of(nodes[key].read(offset_at(index, level)))
+}
+
+// The entry at another slot of a node that has the slot of `index`.
+pub(crate) fn beside(
+    nodes: &Slab<Node>,
+    head: usize,
+    key: usize,
+    level: u32,
+    index: u64,
+    offset: usize,
+) -> Option<Entry>
+    requires tree { IsTree nodes.now head }
+    requires stands { StandsAt nodes.now key level (index / 64 ^ level / 64) }
+    requires within { offset < 64 }
+    ensures { result ≡ entry_at nodes.now level (index / 64 ^ level / 64 * 64 + offset) }
+{
+    entry_of(nodes[key].read(offset))
+}
