@@ -1,0 +1,5 @@
+pub mod States
+pub mod Polls
+pub mod Recordings
+pub mod Cuts
+pub mod Openings

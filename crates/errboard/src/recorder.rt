@@ -1,0 +1,143 @@
+//! What alone records on a board.
+
+ghost use Rattle.std.specs.Prelude.{◌≡◌, ◌≢◌, ◌⊎◌, ◌<◌, ◌≤◌, ◌↔◌, ◌∷◌, [], ℕ, true, false, length, replicate, slice_set, IfOk, IsOk, IsOkUnless};
+ghost use mathlib.Core.List.{IsPrefix};
+ghost use Rattle.std.specs.Arc.{arc_value};
+ghost use Rattle.errseq.specs.declared.recording.Recording.{Recording};
+ghost use Rattle.errseq.specs.Word.{sample_of};
+ghost use Rattle.errseq.specs.Recorded.{word_of};
+ghost use Rattle.errseq.specs.Samples.{StandsFor, Owes, done_at};
+ghost use Rattle.errboard.specs.Views.{files, recorded_of, start_of, opening_view};
+ghost use Rattle.errboard.specs.Steps.{with_recording};
+
+use crate::board::Owned;
+use crate::steps::{give_pass, level, record_at, take_back};
+use crate::tokens::{Pass, Receipt};
+use crate::views::{GivesReceipt, Place};
+use errseq::ErrWord;
+use pc_types::limits::MAX_FILES;
+use pc_types::{ErrCode, FileId, Refusal};
+use std::alloc::Global;
+use std::marker::Model;
+use std::sync::Arc;
+
+/// What alone records on a board. It is kept under one lock, and remembers each word as it last wrote it, so that a
+/// recording needs two tries at most: pollers change nothing of a word but its SEEN.
+#[derive(Drop)]
+pub struct Recorder {
+    words: Arc<Owned, Global>,
+    seat: Place,
+    written: [ErrWord; 64],
+}
+
+impl Model for Recorder {
+    ghost use Rattle.std.specs.Prelude.{◌≡◌, [], length};
+    ghost use Rattle.std.specs.Arc.{arc_value};
+    ghost use Rattle.errboard.specs.declared.views.View.TheVariants.{Recorder};
+    ghost use Rattle.errboard.specs.Views.{files};
+    ghost use Rattle.errboard.specs.Shown.{RecorderSeen, opening_of, all_of, Remembers};
+
+    ghost Value = { RecorderSeen };
+
+    ghost view = { λ r. record { board = r.seat.table_id; opening = opening_of r.seat.me.0; all = all_of r.seat.me.0; words = r.written } };
+
+    ghost invariant = { λ r. ((arc_value r.words).shared.table_id ≡ r.seat.table_id) × (r.seat.table_id.words ≡ files) × (r.seat.me ≡ (Recorder (opening_of r.seat.me.0) (all_of r.seat.me.0), [])) × (length (all_of r.seat.me.0) ≡ files) × Remembers (opening_of r.seat.me.0) r.written (all_of r.seat.me.0) };
+}
+
+impl Recorder {
+    // The recorder of a new board.
+    pub(crate) fn of(words: Arc<Owned, Global>, seat: Place) -> Recorder
+        requires table { ((arc_value words).shared.table_id ≡ seat.table_id) × (seat.table_id.words ≡ files) }
+        requires seat { seat.me ≡ (opening_view (replicate files 0), []) }
+        ensures board { result.board ≡ seat.table_id }
+        ensures opening { result.opening ≡ replicate files 0 }
+        ensures nothing { result.all ≡ replicate files [] }
+    {
+        Recorder {
+            words,
+            seat,
+            written: no_words(),
+        }
+    }
+
+    /// A pass that knows all that was recorded of the file. The last recording is not done where nobody polled it.
+    pub fn pass(&mut self, file: FileId) -> Result<Pass, Refusal>
+        ensures same { self.new ≡ self.old }
+        ensures made { IsOk result ↔ (file.0 < files) }
+        ensures refused { IsOkUnless result Refusal.NoSuchFile }
+        ensures pass { IfOk result (λ p. (p.board ≡ self.old.board) × (p.file ≡ file.0) × (p.start ≡ start_of self.old.opening file.0) × (p.known ≡ recorded_of self.old.all file.0)) }
+        ensures sampled { IfOk result (λ p. (loaded : ℕ) × StandsFor p.start loaded p.known × (p.since ≡ sample_of loaded) × (p.done ≡ done_at p.known loaded)) }
+    {
+        if file.0 >= MAX_FILES {
+            return Err(Refusal::NoSuchFile);
+        }
+        let file = file.0 as usize;
+        let Recorder { words, seat, .. } = self;
+        let (found, place) = give_pass(&words.shared, seat, file);
+        Ok(Pass {
+            file,
+            since: found.sample(),
+            seat: place,
+        })
+    }
+
+    /// Records a code. It takes no memory.
+    pub fn record(&mut self, file: FileId, code: ErrCode) -> Receipt
+        requires { file.0 < files }
+        ensures board { (self.new.board ≡ self.old.board) × (self.new.opening ≡ self.old.opening) }
+        ensures recorded { (x : Recording) × (x.code ≡ code) × (x.raises ≡ true → 0 < length (recorded_of self.old.all file.0)) × (self.new.all ≡ with_recording self.old.all file.0 x) }
+
+        // The word is that of all recordings without SEEN, and the other words stay as they were written.
+        ensures unseen { self.new.words ≡ slice_set self.old.words file.0 (word_of (start_of self.old.opening file.0) (recorded_of self.new.all file.0) false) }
+        ensures receipt { (result.board ≡ self.old.board) × (result.file ≡ file.0) × (result.recorded ≡ recorded_of self.new.all file.0) }
+    {
+        let file = file.0 as usize;
+        let Recorder {
+            words,
+            seat,
+            written,
+        } = self;
+        let table = &words.shared;
+        written[file] = record_at(table, seat, file, written[file], code);
+        let seat = table.split_seat::<GivesReceipt>(seat);
+        Receipt { file, seat }
+    }
+
+    /// Lets a pass know all that was recorded of its file. It polls nothing: what is done and the sample stay.
+    pub fn level(&mut self, pass: &mut Pass)
+        requires { pass.old.board ≡ self.old.board }
+        ensures same { self.new ≡ self.old }
+        ensures pass { (pass.new.board ≡ pass.old.board) × (pass.new.file ≡ pass.old.file) × (pass.new.start ≡ pass.old.start) × (pass.new.done ≡ pass.old.done) × (pass.new.since ≡ pass.old.since) }
+        ensures known { pass.new.known ≡ recorded_of self.old.all pass.old.file }
+        ensures begins { IsPrefix pass.old.known (recorded_of self.old.all pass.old.file) }
+
+        // Where its sample is 0 and anything was recorded, there is a recording that it is not told of yet.
+        ensures owes { Owes (recorded_of self.old.all pass.old.file) pass.old.done pass.old.since }
+    {
+        let Recorder { words, seat, .. } = self;
+        let Pass {
+            file, seat: other, ..
+        } = pass;
+        level(&words.shared, seat, other, *file);
+    }
+
+    /// Takes a pass back. What it knew begins what was recorded.
+    pub fn retire(&mut self, pass: Pass)
+        requires { pass.board ≡ self.old.board }
+        ensures same { self.new ≡ self.old }
+        ensures begins { IsPrefix pass.known (recorded_of self.old.all pass.file) }
+        ensures owes { Owes (recorded_of self.old.all pass.file) pass.done pass.since }
+    {
+        let Recorder { words, seat, .. } = self;
+        let Pass {
+            file, seat: other, ..
+        } = pass;
+        take_back(&words.shared, seat, other, file);
+    }
+}
+
+fn no_words() -> [ErrWord; 64]
+    ensures { result ≡ replicate files 0 }
+{
+    [ErrWord(0); 64]
+}
