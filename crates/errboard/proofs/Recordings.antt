@@ -34,12 +34,15 @@ finds o slots id file began all c inside s r _ at _ =
       keeps,
       tt,
       unmoved o s r file id c (Sampled began all file w) (mine.0, mine.1, mine.2, inside, found),
-      (refl, (
+      (
         refl,
-        subst (λ (z : List ℕ × List Log). FitsFound (start_of z.0 file) (recorded_of z.1 file) w w) (λ i. (sym mine.1 i, sym mine.2 i)) found,
-        stands_bound (start_of o file) (recorded_of r.logs file) w here.codes here.stands,
-        subst (λ l. AreCodes (recorded_of l file)) (sym mine.2) here.codes,
-      )),
+        (
+          refl,
+          subst (λ (z : List ℕ × List Log). FitsFound (start_of z.0 file) (recorded_of z.1 file) w w) (λ i. (sym mine.1 i, sym mine.2 i)) found,
+          stands_bound (start_of o file) (recorded_of r.logs file) w here.codes here.stands,
+          subst (λ l. AreCodes (recorded_of l file)) (sym mine.2) here.codes,
+        ),
+      ),
     )
 
 -- ---- a recording
@@ -141,8 +144,11 @@ records o slots id file began all c old new code inside is_old is_new valid s r 
       tt,
       subst (λ b. IsKept o (stepped s file (either b new w) id c view keeps)) (sym (eq-eqb w old hit))
           (recorded_state o s r id file new c (recording old new) inside mine.0 (ap is_seen (sym hit)) (subst IsCode (sym t.1) valid) t.0),
-      (refl, subst (λ b. Tells began all file old new w b view) (sym (eq-eqb w old hit)) (subst (λ (z : List ℕ × List Log). Made file old new view z.0 z.1) (sym both)
-          (refl, t.0, λ e. absurd (true≢false (sym e ∙ ap is_seen old_is ∙ seen_of_word start log false here.codes))))),
+      (
+        refl,
+        subst (λ b. Tells began all file old new w b view) (sym (eq-eqb w old hit)) (subst (λ (z : List ℕ × List Log). Made file old new view z.0 z.1) (sym both)
+            (refl, t.0, λ e. absurd (true≢false (sym e ∙ ap is_seen old_is ∙ seen_of_word start log false here.codes)))),
+      ),
     ))
     (λ miss.
     let view = Sampled began all file w in
@@ -216,10 +222,13 @@ second_recorded file before began all at st found code word after is set_is vali
 
 -- ---- what the recorder remembers
 remembers_more : (o written : List ℕ) (all : List Log) (file word : ℕ) (x : Recording) → length all ≡ files → file < files → word ≡ word_of (start_of o file) (recorded_of all file ++ x ∷ []) false → Remembers o written all → Remembers o (set written file word) (with_recording all file x)
-remembers_more o written all file word x b inside is old = let a = old.0 in (length-set written file word ∙ old.0, λ g h. dite (ℕ_discrete g file)
-    (λ e. subst (λ k. get_or (set written file word) k 0 ≡ word_of (start_of o k) (recorded_of (with_recording all file x) k) false) (sym e)
-    (get_or-set_same written file word 0 (omega arith) ∙ is ∙ ap (λ l. word_of (start_of o file) l false) (sym (get_or-set_same all file (recorded_of all file ++ x ∷ []) [] (omega arith)))))
-    (λ n. get_or-set_other written file g word 0 n ∙ old.1 g h ∙ ap (λ l. word_of (start_of o g) l false) (sym (get_or-set_other all file g (recorded_of all file ++ x ∷ []) [] n))))
+remembers_more o written all file word x b inside is old = let a = old.0 in (
+  length-set written file word ∙ old.0,
+  λ g h. dite (ℕ_discrete g file)
+      (λ e. subst (λ k. get_or (set written file word) k 0 ≡ word_of (start_of o k) (recorded_of (with_recording all file x) k) false) (sym e)
+      (get_or-set_same written file word 0 (omega arith) ∙ is ∙ ap (λ l. word_of (start_of o file) l false) (sym (get_or-set_same all file (recorded_of all file ++ x ∷ []) [] (omega arith)))))
+      (λ n. get_or-set_other written file g word 0 n ∙ old.1 g h ∙ ap (λ l. word_of (start_of o g) l false) (sym (get_or-set_other all file g (recorded_of all file ++ x ∷ []) [] n))),
+)
 
 -- the recorder after a split that follows a recording
 recorder_after : (before after : Me ℕ View) (o : List ℕ) (all : List Log) (file word : ℕ) → before ≡ (Sampled o all file word, []) → after ≡ (recorder_left before.0, before.1) → after ≡ (Recorder o all, [])

@@ -10,7 +10,7 @@ ghost use Rattle.errboard.specs.Views.{files, opening_view, told_of};
 use crate::recorder::Recorder;
 use crate::steps::{compare, inform};
 use crate::tokens::{Pass, Receipt};
-use crate::views::{Place, Told, View};
+use crate::views::{FILES, Place, Told, View};
 use atomic_table::Table;
 use errseq::ErrWord;
 use pc_types::{ErrCode, Refusal};
@@ -19,7 +19,7 @@ use std::marker::Model;
 use std::sync::Arc;
 
 /// The table of a board. A board and its recorder share it.
-pub(crate) type Owned = Table<u8, View, [u64; 64], Told, Global>;
+pub(crate) type Owned = Table<u8, View, [u64; FILES], Told, Global>;
 
 /// One error word a file. Contracts see which board it is.
 #[derive(Drop)]
@@ -48,6 +48,7 @@ impl Board {
         ensures board { IfOk result (λ r. r.1.board ≡ r.0) }
         ensures opening { IfOk result (λ r. r.1.opening ≡ replicate files 0) }
         ensures nothing { IfOk result (λ r. r.1.all ≡ replicate files []) }
+        ensures words { IfOk result (λ r. r.1.words ≡ replicate files 0) }
         ensures refused { IsOkUnless result Refusal.Memory }
     {
         let (table, seat) = opened(alloc)?;
@@ -113,10 +114,10 @@ fn answer(found: ErrWord, since: ErrWord) -> Option<ErrCode>
     ErrCode::new(code).ok()
 }
 
-fn no_words() -> [u64; 64]
+fn no_words() -> [u64; FILES]
     ensures { result ≡ replicate files 0 }
 {
-    [0; 64]
+    [0; FILES]
 }
 
 // The table of a new board, and the recorder's seat.
@@ -124,5 +125,5 @@ fn opened(alloc: Global) -> Result<(Owned, Place), AllocError>
     ensures { IfOk result (λ r. (r.0.shared.table_id.words ≡ files) × (r.1.table_id ≡ r.0.shared.table_id) × (r.1.me ≡ (opening_view (replicate files 0), []))) }
 {
     let opening = no_words();
-    Table::<u8, View, [u64; 64], Told, Global>::of_words(alloc, &opening, &opening)
+    Table::<u8, View, [u64; FILES], Told, Global>::of_words(alloc, &opening, &opening)
 }

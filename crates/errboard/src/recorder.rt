@@ -13,7 +13,7 @@ ghost use Rattle.errboard.specs.Steps.{with_recording};
 use crate::board::Owned;
 use crate::steps::{give_pass, level, record_at, take_back};
 use crate::tokens::{Pass, Receipt};
-use crate::views::{GivesReceipt, Place};
+use crate::views::{FILES, GivesReceipt, Place};
 use errseq::ErrWord;
 use pc_types::limits::MAX_FILES;
 use pc_types::{ErrCode, FileId, Refusal};
@@ -27,7 +27,7 @@ use std::sync::Arc;
 pub struct Recorder {
     words: Arc<Owned, Global>,
     seat: Place,
-    written: [ErrWord; 64],
+    written: [ErrWord; FILES],
 }
 
 impl Model for Recorder {
@@ -52,6 +52,7 @@ impl Recorder {
         ensures board { result.board ≡ seat.table_id }
         ensures opening { result.opening ≡ replicate files 0 }
         ensures nothing { result.all ≡ replicate files [] }
+        ensures words { result.words ≡ replicate files 0 }
     {
         Recorder {
             words,
@@ -116,7 +117,9 @@ impl Recorder {
     {
         let Recorder { words, seat, .. } = self;
         let Pass {
-            file, seat: other, ..
+            file,
+            seat: other,
+            ..
         } = pass;
         level(&words.shared, seat, other, *file);
     }
@@ -130,14 +133,16 @@ impl Recorder {
     {
         let Recorder { words, seat, .. } = self;
         let Pass {
-            file, seat: other, ..
+            file,
+            seat: other,
+            ..
         } = pass;
         take_back(&words.shared, seat, other, file);
     }
 }
 
-fn no_words() -> [ErrWord; 64]
+fn no_words() -> [ErrWord; FILES]
     ensures { result ≡ replicate files 0 }
 {
-    [ErrWord(0); 64]
+    [ErrWord(0); FILES]
 }

@@ -84,8 +84,9 @@ fn every_pass_learns_of_the_last_recording(rt: HostRuntime) -> Result<(), Fail> 
     let first = recorder.pass(FileId(7))?;
     let second = recorder.pass(FileId(7))?;
     let recorded = record_beside(&rt, &board, recorder, first, second);
-    let (mut recorder, mut receipt, (mut first, met), (mut second, also)) =
-        recorded.ok_or("a receipt")?;
+    let (mut recorder, mut receipt, (mut first, met), (mut second, also)) = recorded.ok_or(
+        "a receipt",
+    )?;
 
     // Whoever looks at the end has met the last code, or meets it now, and then nothing.
     board.tell(&mut first, &mut receipt);

@@ -8,6 +8,9 @@ use atomic_table::{Join, Play, Seat, Shared, Split, TableRule};
 use errseq::Recording;
 use std::collections::LinkedList;
 
+/// How many files a board has: `MAX_FILES` as the length of an array.
+pub(crate) const FILES: usize = 64;
+
 /// What a seat knows. No value of it is made.
 pub enum View {
     /// It knows nothing: its view was handed on.
@@ -36,7 +39,7 @@ pub enum View {
 /// The rule of a board. Its key is the words that the board began with.
 pub struct Told;
 
-impl TableRule<u8, View, [u64; 64]> for Told {
+impl TableRule<u8, View, [u64; FILES]> for Told {
     ghost use Rattle.errboard.specs.Rules.{IsKept};
     ghost use Rattle.errboard.specs.Views.{opening_view};
 
@@ -155,7 +158,7 @@ impl Join<View> for TakesBack {
 }
 
 /// The words as threads share them.
-pub type Words = Shared<u8, View, [u64; 64], Told>;
+pub type Words = Shared<u8, View, [u64; FILES], Told>;
 
 /// A seat of a board's table.
 pub type Place = Seat<u8, View>;

@@ -3,3 +3,4 @@ pub mod Words
 pub mod Prefixes
 pub mod Samples
 pub mod Runs
+pub mod Rows

@@ -30,7 +30,7 @@ looked (Record c ∷ es) = false
 looked (Look h ∷ es) = has_record es
 looked (Open h ∷ es) = looked es
 
--- What a look of the handle answers. It is the last code where a recording came after the handle's last look or open, or where the handle hasn't looked since its open and nobody had looked between the last recording before that and the open. Else it is nothing
+-- What a look of the handle answers. It is the last code where a recording came after the handle's last look or open, or where the handle hasn't looked since its open and nobody had looked between the last recording before that and the open. Else it is nothing. A handle that was never opened is as one opened at the beginning
 abbrev pub answer : ℕ → List Event → Option ℕ
 answer h [] = None
 answer h (Record c ∷ es) = Some c

@@ -1,3 +1,5 @@
+ghost use Rattle.std.specs.Prelude.{◌≡◌, Some, None};
+
 use crate::word::ErrWord;
 use pc_types::ErrCode;
 use std::test::*;
@@ -26,6 +28,36 @@ fn a_code_is_told_once(rt: HostRuntime) -> Result<(), Fail> {
     Ok(())
 }
 
+// A handle is opened, a write fails, and the handle looks twice: it is told the code, and then nothing.
+fn told_once(code: ErrCode) -> (Option<u16>, Option<u16>)
+    ensures { result ≡ (Some code, None) }
+{
+    let mut word = ErrWord(0);
+    let mut since = word.sample();
+    word.set(code);
+    let first = word.check_and_advance(&mut since);
+    (first, word.check_and_advance(&mut since))
+}
+
+#[test]
+fn a_sample_that_never_stood_loses_an_error(rt: HostRuntime) -> Result<(), Fail> {
+    let (five, full) = (code(5)?, code(28)?);
+    let mut word = ErrWord(0);
+
+    // Handle A loads the word. Before it sets SEEN another code is recorded, so that its exchange fails.
+    word.set(five);
+    let meant = word.with_seen();
+    word.set(full);
+
+    // The first code comes again, and handle B looks at it.
+    word.set(five);
+    assert!(rt; word.check_and_advance(&mut ErrWord(0)) == Some(5));
+
+    // With the word that A meant to write as its sample it is told nothing of the two codes, and with 0 of the last.
+    assert!(rt; word.check(meant).is_none() && word.check(ErrWord(0)) == Some(5));
+    Ok(())
+}
+
 #[test]
 fn the_counter_wraps(rt: HostRuntime) -> Result<(), Fail> {
     let mut word = ErrWord(0xffff_f005);
@@ -41,6 +73,7 @@ fn each_call_by_itself(rt: HostRuntime) -> Result<(), Fail> {
     assert!(rt; word.with_seen() == ErrWord(0x301c) && word.with_seen().is_seen());
     assert!(rt; word.with_seen().sample() == ErrWord(0x301c));
     assert!(rt; word.to_u64() == 0x201c && ErrWord::from_u64(0x201c) == word);
+    assert!(rt; told_once(code(28)?) == (Some(28), None));
     crate::answers_as_recorded();
     Ok(())
 }

@@ -45,7 +45,7 @@ impl ErrWord {
     }
 
     /// Records a code. Only a word that was seen gets another counter: where nobody was told of the last recording,
-    /// each handle that is told of this one is told once, and needs no second count.
+    /// each handle that is told of this one is told once, and needs no second count. The code is one, as its type says.
     pub fn set(&mut self, code: ErrCode)
         ensures word { self.new ≡ word_set self.old code }
         ensures code { IsCode code }
