@@ -2,10 +2,11 @@
 use Rattle.std.proofs.Common.{◌≡◌, ℕ, ◌+◌, ◌<◌, ◌≤◌, Bool, true, false, cond, not, eqb, length, refl, ap, sym, subst, arith, inl, inr}
 use Rattle.std.specs.Prelude.{◌&&◌, ◌||◌, ◌⊎◌, Option, Some, None, is_some, nat_lt, nat_le, count_by}
 use Rattle.std.proofs.lemmas.Bool.Decides.{nat_tests}
+use Rattle.pc_types.specs.declared.limits.TheConstants.{MAX_TOUCHED, MAX_FILE_SIZE}
 use Rattle.cachecore.specs.declared.event.Reply.{Reply}
 use Rattle.cachecore.specs.declared.event.Reply.TheVariants as reply
-use Rattle.cachecore.specs.State.{State, file_at, file_of, is_open, page_count, is_written, spot_at, touched, without_block, free_blocks, is_dirty, is_cached, dirty_total, free_frames, is_filling}
-use Rattle.cachecore.specs.Tests.{stopped, first_of, room_tests, fill_begin_tests, is_full}
+use Rattle.cachecore.specs.State.{State, file_at, file_of, is_open, page_count, is_written, spot_at, touched, without_block, free_blocks, is_dirty, is_cached, dirty_total, free_frames, is_filling, touched_count}
+use Rattle.cachecore.specs.Tests.{stopped, first_of, room_tests, fill_begin_tests, is_full, write_tests, write_stop}
 use Rattle.cachecore.specs.Step.{Answers}
 
 -- ---- a test whose answer is known
@@ -97,6 +98,26 @@ may_fill s h p t =
   where
     below : (a b : ℕ) → nat_le b a ≡ false → a < b
     below a b h = grind (arith, nat_tests)
+
+-- a write of at least one byte may be made
+pub record MayWrite (s : State) (h o n : ℕ) : Type 0 where
+  pub opened : is_open s h ≡ true
+  pub some : 0 < n
+  pub free : write_stop s (file_of s h) o n ≡ None
+  pub room : length (without_block s (file_of s h) (touched s.sizes.page o n)) ≤ length (free_blocks s)
+
+pub may_write : (s : State) (h o n : ℕ) → write_tests s h o n ≡ None → MayWrite s h o n
+may_write s h o n t =
+    let f = file_of s h in
+    let opened = if_none (not (is_open s h)) _ _ t in
+    let some = if_none (eqb n 0) _ _ opened.1 in
+    let short = if_none (nat_lt MAX_TOUCHED (touched_count s.sizes.page o n)) _ _ some.1 in
+    let small = if_none (nat_lt MAX_FILE_SIZE (o + n)) _ _ short.1 in
+    let free = none_first s f (write_stop s f o n) (room_tests s f o n) small.1 in
+    record { opened = not_false (is_open s h) opened.0; some = positive n some.0; free = free.0; room = enough_blocks s f o n free.1 }
+  where
+    positive : (n : ℕ) → eqb n 0 ≡ false → 0 < n
+    positive n e = grind (arith, nat_tests)
 
 -- ---- tests in a row, the first of which that holds gives the reply
 

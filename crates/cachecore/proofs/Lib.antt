@@ -10,3 +10,9 @@ pub mod StateLaws
 pub mod FreeBlocks
 pub mod ChangeLaws
 pub mod Choices
+pub mod Found
+pub mod StepCases
+pub mod Determined
+pub mod Replies
+pub mod Lowest
+pub mod FlushList

@@ -6,21 +6,22 @@ use Rattle.std.proofs.lemmas.Bool.Decides.{nat_tests}
 use Rattle.cachecore.specs.declared.event.Kind.{Kind}
 use Rattle.cachecore.specs.declared.event.Kind.TheVariants.{Fill, Flush}
 use Rattle.cachecore.specs.State.{State, Page, Request, page_at, spot_at, is_filling, is_written, is_fill, fills}
-use Rattle.world.specs.Plain.{Plain, plain_file, no_files}
+use Rattle.world.specs.Plain.{Plain, plain_file}
 use Rattle.world.specs.World.{World}
 use Rattle.world.proofs.View.{spot_of, live_spot, dirty, writeback, towrite, settled}
 use Rattle.world.proofs.Coupled.{view, Coupled}
 use Rattle.cachecore.proofs.Choices.{none_of}
 use Rattle.pc_types.proofs.FileLaws.{byte-page}
-use Rattle.world.specs.Runs.{last}
 use Rattle.world.specs.Always.{Always, PageAlways, RequestAlways, HoldsAlways}
 use Rattle.world.proofs.PageLaws.{length-page}
-use Rattle.world.proofs.Moves.{first_coupled, run_coupled, run_take}
-use Rattle.world.proofs.Counted.{Counted, run_counted, first_counted}
-use Rattle.world.proofs.Found.{found}
+use Rattle.world.proofs.Moves.{run_take}
+use Rattle.world.proofs.Counted.{Counted, run_counted}
+use Rattle.cachecore.proofs.Found.{found}
 use Rattle.std.specs.List.{list_any}
 use Rattle.std.specs.Prelude.{find, map}
 use Rattle.std.proofs.lemmas.List.{get_or_past}
+use Rattle.world.proofs.Moves.{coupled_at}
+use Rattle.world.specs.Runs.{world_at, plain_at}
 
 -- an element that passes is found
 any_found : {X : Type 0} (test : X → Bool) (es : List (ℕ × X)) → list_any test (map (λ (e : ℕ × X). e.1) es) ≡ true → (e : ℕ × X) × (find (λ e. test e.1) es ≡ Some e)
@@ -103,6 +104,4 @@ module _ (w : World) (plain : Plain) (c : Coupled w plain) (n : Counted w.core) 
   }
 
 pub holds_always : HoldsAlways
-holds_always w run first r k =
-    let t = run_take run w k r in
-    always (last w (take k run)) _ (run_coupled (take k run) w no_files (first_coupled w first) t) (run_counted (take k run) w no_files (first_coupled w first) (first_counted w first) t)
+holds_always w run first r k = always (world_at w run k) (plain_at run k) (coupled_at w run first r k) (run_counted (take k run) w first (run_take run w k r))

@@ -10,7 +10,7 @@ use Rattle.std.specs.FinMap.Entries.{below_all, is_sorted, by_order, where_key, 
 use Rattle.std.proofs.lemmas.Bool.Decides.{nat_tests}
 use Rattle.cachecore.specs.State.{State, Request}
 use Rattle.cachecore.specs.Changes.{each_value, is_live, is_flush_of, flushes_of}
-use Rattle.world.proofs.Found.{above, both_true}
+use Rattle.cachecore.proofs.Found.{above, both_true}
 use Rattle.cachecore.proofs.MapLaws.{entries-each_value}
 
 module _ {X : Type 0} where

@@ -1,5 +1,5 @@
 -- A step of the world is a step of its cache, or leaves the cache as it is.
-use Rattle.std.proofs.Common.{◌≡◌, ℕ, Bool, ap}
+use Rattle.std.proofs.Common.{◌≡◌, ℕ, Bool, ap, sym, subst}
 use Rattle.std.specs.Prelude.{Option, Some, None}
 use Rattle.std.specs.FinMap as finmap
 use Rattle.cachecore.specs.declared.event.Kind.{Kind}
@@ -9,9 +9,10 @@ use Rattle.cachecore.specs.declared.event.End.{End}
 use Rattle.cachecore.specs.declared.event.Event.{Event}
 use Rattle.cachecore.specs.declared.event.Event.TheVariants as event
 use Rattle.cachecore.specs.declared.event.Reply.{Reply}
-use Rattle.cachecore.specs.State.{Request}
+use Rattle.cachecore.specs.State.{State, Request}
 use Rattle.cachecore.specs.Step.{Step}
-use Rattle.world.specs.World.{World, Act, Call, Finish, Moves, CallOf, CallNotes, EndOf, end_event}
+use Rattle.world.specs.World.{World, Act, Call, Finish, Moves, CallOf, CallNotes, EndOf, end_event, Entry}
+use Rattle.cachecore.proofs.StepCases.{Cases, SyncCases, by_all_cases}
 
 module _ (w new : World) where
   pub act_step : (e : Event) (r : Reply) → Moves w (Act e r) new → Step w.core e r new.core
@@ -54,3 +55,13 @@ module _ (w new : World) where
 
   pub finish_step : (t : ℕ) (r : Reply) → Moves w (Finish t r) new → (k : Kind) × (e : End) × Step w.core (end_event k e) r new.core
   finish_step t r m = end_of t (finmap.get w.core.requests t) (finmap.get w.outcomes t) r m
+
+-- what holds in each case of a step of the cache holds after a step of the world
+pub core_cases : (w new : World) (Q : State → Type 0) → Cases w.core Q → SyncCases w.core Q → (e : Entry) → Moves w e new → Q new.core
+core_cases w new Q c d (Act e r) m = by_all_cases w.core Q c d e r new.core (act_step w new e r m)
+core_cases w new Q c d (Call t fault effect) m = subst Q (sym (call_core w new t fault effect m)) c.same
+core_cases w new Q c d (Finish t r) m = let x = finish_step w new t r m in end_cases x.0 x.1 x.2
+  where
+    end_cases : (k : Kind) (e : End) → Step w.core (end_event k e) r new.core → Q new.core
+    end_cases Fill e h = by_all_cases w.core Q c d (event.FillEnd e) r new.core h
+    end_cases Flush e h = by_all_cases w.core Q c d (event.FlushEnd e) r new.core h

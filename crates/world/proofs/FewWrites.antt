@@ -1,6 +1,6 @@
 -- Syncs start few writes.
 use Rattle.std.proofs.Common.{◌≡◌, ℕ, ◌+◌, ◌/◌, ◌<◌, ◌≤◌, Bool, true, false, cond, not, eqb, eqb-true, List, [], ◌∷◌, length, get_or, refl, ap, sym, ◌∙◌, arith, inl, inr, subst}
-use Rattle.std.specs.Prelude.{◌&&◌, Option, Some, None, is_some, option_map, unwrap_or, nat_le, nat_lt, slice_set}
+use Rattle.std.specs.Prelude.{◌&&◌, Option, Some, None, is_some, option_map, unwrap_or, nat_le, slice_set}
 use Rattle.std.specs.Ordering.{nat_cmp}
 use Rattle.std.specs.FinMap as finmap
 use Rattle.std.proofs.Math.ListN.{length-set}
@@ -11,11 +11,11 @@ use Rattle.world.specs.Plain.{Plain, no_files}
 use Rattle.world.specs.World.{World, Entry, Act, Call, Finish, Moves, end_event}
 use Rattle.world.proofs.View.{put2, put1_tells, put2_tells, spot_of, live_spot, dirty, towrite}
 use Rattle.world.proofs.Coupled.{view, Coupled, coupled}
-use Rattle.cachecore.proofs.Choices.{answered, if_none, quiet_none, quiet_some, quiet_if, not_false, first_passed, and_true}
-use Rattle.cachecore.specs.Tests.{create_tests, open_tests, close_tests, size_tests, read_tests, write_tests, append_tests, truncate_tests, fill_begin_tests, end_tests, flush_begin_tests, flush_pick, evict_tests, sync_begin_tests, sync_tests, sync_drop_tests, sync_pick, start_tests, past, is_full}
-use Rattle.cachecore.specs.Step.{Step, Answers, CreateReply, OpenReply, CloseReply, ReadReply, WriteReply, TruncateReply, FillBeginReply, FillEndReply, FlushBeginReply, FlushEndReply, EvictReply, AgeReply, SyncBeginReply, SyncStepReply, SyncAwaits, SyncPicked, WaitsFor, SyncDropReply}
+use Rattle.cachecore.proofs.Choices.{answered, if_none, quiet_none, quiet_some, quiet_if, not_false, and_true}
+use Rattle.cachecore.specs.Tests.{sync_begin_tests, sync_tests, sync_pick, start_tests, past, is_full}
+use Rattle.cachecore.specs.Step.{Step, SyncBeginReply, SyncStepReply, SyncAwaits, SyncPicked, WaitsFor}
 use Rattle.cachecore.proofs.ChangeLaws.{BeginsSync, sync_begun_begins, get-written_pages, get-cut_pages}
-use Rattle.cachecore.specs.Changes.{flushes_of, started, put_file, put_page, ended, after_write, to_write, written_page, cut_page, blank, boundary, shrunk, sync_begun}
+use Rattle.cachecore.specs.Changes.{flushes_of, started, put_file, put_page, ended, after_write, to_write, written_page, cut_page, blank, boundary, shrunk, sync_begun, failed_once, set_written}
 use Rattle.world.specs.Runs.{Run, last, plain_entry}
 use Rattle.world.proofs.Ends.{within}
 use Rattle.world.proofs.Moves.{move_kept, first_coupled}
@@ -23,15 +23,13 @@ use Rattle.world.proofs.Lookups.{get_or-default, cached_within, get-insert1, get
 use Rattle.cachecore.proofs.StateLaws.{get_or-set, page_at-put}
 use Rattle.world.specs.Syncing.{started_by, started_total, tagged_by, tagged_total, SyncWritesAreFew}
 use Rattle.world.proofs.Count.{count_of, count_le, count_lt}
-use Rattle.world.proofs.Found.{found}
+use Rattle.cachecore.proofs.Found.{found}
 use Rattle.world.proofs.CoreSteps.{act_step, call_core, finish_step}
-use Rattle.pc_types.specs.declared.refusal.Refusal.TheVariants.{Memory, BadHandle}
+use Rattle.pc_types.specs.declared.refusal.Refusal.TheVariants.{BadHandle}
 use Rattle.pc_types.specs.declared.ids.HandleId.{HandleId}
 use Rattle.pc_types.specs.declared.ids.SyncId.{SyncId}
 use Rattle.cachecore.specs.declared.event.Kind.{Kind}
 use Rattle.cachecore.specs.declared.event.Kind.TheVariants.{Fill, Flush}
-use Rattle.cachecore.specs.declared.event.Outcome.{Outcome}
-use Rattle.cachecore.specs.declared.event.Outcome.TheVariants as outcome
 use Rattle.cachecore.specs.declared.event.Event.{Event}
 use Rattle.cachecore.specs.declared.event.Event.TheVariants as event
 use Rattle.cachecore.specs.declared.event.Reply.{Reply}
@@ -39,6 +37,9 @@ use Rattle.cachecore.specs.declared.event.Reply.TheVariants as reply
 use Rattle.std.specs.Prelude.{if◌then◌else◌, ◌==◌}
 use Rattle.std.proofs.lemmas.List.Sums.{sum_by-cons}
 use Rattle.cachecore.specs.declared.event.End.{End}
+use Rattle.cachecore.proofs.StepCases.{Cases, by_cases, not_of_sync}
+use Rattle.cachecore.specs.Changes.{written, filling, drop_page}
+use Rattle.cachecore.proofs.ChangeLaws.{cut_pages}
 
 -- how many pages of f are TOWRITE
 abbrev waiting : State → ℕ → ℕ
@@ -92,116 +93,47 @@ if_towrite : (b : Bool) (x y : Option Page) (R : Type 0) → (towrite x ≡ true
 if_towrite true x y R h k t = h t
 if_towrite false x y R h k t = k t
 
-abbrev not_of_sync : Event → Bool
-not_of_sync (event.SyncBegin h) = false
-not_of_sync (event.SyncStep n) = false
-not_of_sync _ = true
-
 module _ (s : State) (valid : (h : ℕ) → is_open s h ≡ true → file_of s h < length s.files) (mapped : (t : ℕ) (r : Request) → finmap.get s.requests t ≡ Some r → r.dropped ≡ false → r.file < length s.files) where
-  same : (new : State) → new.files ≡ s.files → new.requests ≡ s.requests → new.next ≡ s.next → NoneTagged s new
-  same new e q n = same_files s new e
+  -- one file changes, and of its pages this one
+  put : (new : State) (f p : ℕ) (page : Page) (file : File) → f < length s.files → new.files ≡ slice_set s.files f file → file.pages ≡ finmap.insert (file_at s f).pages p page → (page.tags.towrite ≡ true → towrite (page_at s f p) ≡ true) → NoneTagged s new
+  put new f p page file here e k h = file_pages s new f file here e (λ q t. put_one (file_at s f).pages p page h q (ap (λ m. towrite (finmap.get m q)) (sym k) ∙ t))
 
-  as_before : (new : State) → new ≡ s → NoneTagged s new
-  as_before new e = same_files s new (ap (λ x. x.files) e)
-
-  create : (r : Reply) (new : State) → CreateReply s r new → NoneTagged s new
-  create (reply.File f) new e = record { was = λ g q t. sym (ap (λ x. towrite (page_at x g q)) e.1 ∙ ap (λ (x : File). towrite (finmap.get x.pages q)) (get_or-default s.files no_file g)) ∙ t }
-  create (reply.Refused Memory) new e = as_before new e
-  create _ new e = absurd e
-
-  opens : (f : ℕ) (r : Reply) (new : State) → OpenReply s f r new → NoneTagged s new
-  opens f (reply.Handle h) new e = same new (ap (λ x. x.files) e.1) (ap (λ x. x.requests) e.1) (ap (λ x. x.next) e.1)
-  opens f (reply.Refused Memory) new e = as_before new e
-  opens f _ new e = absurd e
-
-  closes : (h : ℕ) (r : Reply) (new : State) → CloseReply s h r new → NoneTagged s new
-  closes h reply.Closed new e = same new (ap (λ x. x.files) e) (ap (λ x. x.requests) e) (ap (λ x. x.next) e)
-  closes h _ new e = absurd e
-
-  reads : (f o m : ℕ) (r : Reply) (new : State) → ReadReply s f o m r new → NoneTagged s new
-  reads f o m (reply.Bytes bytes) new e = as_before new e.1
-  reads f o m _ new e = absurd e
-
-  writes : (f o : ℕ) (b : List ℕ) (r : Reply) (new : State) → f < length s.files → WriteReply s f o b r new → NoneTagged s new
-  writes f o b (reply.Wrote m end) new here e = file_pages s new f _ here (ap (λ x. x.files) e.2) (λ q t. if_towrite (touches s.sizes.page o (length b) q) _ _ _ (λ k. written_towrite s.sizes.page o b q (page_at s f q) k) (λ k. k) (sym (ap towrite (get-written_pages s.sizes.page o b (file_at s f).pages q)) ∙ t))
-  writes f o b (reply.Refused Memory) new here e = as_before new e
-  writes f o b _ new here e = absurd e
-
-  truncates : (f z : ℕ) (r : Reply) (new : State) → f < length s.files → TruncateReply s f z r new → NoneTagged s new
-  truncates f z reply.Done new here e = go (nat_lt z (file_at s f).size) e
-    where
-      go : (b : Bool) → new ≡ cond b (shrunk s f z) (put_file s f (record (file_at s f) { size = z })) → NoneTagged s new
-      go true t = file_pages s new f _ here (ap (λ x. x.files) t) (λ q h. if_towrite (nat_le (page_count s.sizes.page z) q) _ _ _ (λ k. absurd cc) (λ k. if_towrite (eqb (z / s.sizes.page) q && is_some (boundary s f z)) _ _ _ (λ j. cut_towrite s.sizes.page z (has_block s f q) (page_at s f q) j) (λ j. j) k) (sym (ap towrite (get-cut_pages s f z q)) ∙ h))
-      go false t = file_pages s new f _ here (ap (λ x. x.files) t) (λ q h. h)
-  truncates f z _ new here e = absurd e
-
-  fill_begins : (f p : ℕ) (r : Reply) (new : State) → f < length s.files → FillBeginReply s f p r new → NoneTagged s new
-  fill_begins f p reply.Filled new here e = file_pages s new f _ here (ap (λ x. x.files) e.1) (put_one (file_at s f).pages p (blank s.sizes.page) (λ k. absurd cc))
-  fill_begins f p (reply.Job t) new here e = same_files s new (ap (λ x. x.files) e.2)
-  fill_begins f p (reply.Refused Memory) new here e = as_before new e
-  fill_begins f p _ new here e = absurd e
-
-  gone : (t : ℕ) (new : State) → new ≡ ended s t → NoneTagged s new
-  gone t new e = same_files s new (ap (λ x. x.files) e)
-
-  fill_ends : (t : ℕ) (q : Option Request) (o : Outcome) (r : Reply) (new : State) → finmap.get s.requests t ≡ q → FillEndReply s t q o r new → NoneTagged s new
-  fill_ends t (Some r) o reply.Dropped new is e = gone t new e.1
-  fill_ends t (Some r) (outcome.Fault code) (reply.Failed d) new is e = gone t new e.2
-  fill_ends t (Some r) (outcome.Ok bytes) reply.Filled new is e = file_pages s new r.file _ (mapped t r is e.0) (ap (λ x. x.files) e.1) (put_one (file_at s r.file).pages r.page (record { bytes = bytes; tags = no_tags }) (λ k. absurd cc))
-  fill_ends t q o _ new is e = absurd e
-
-  flush_ends : (t : ℕ) (q : Option Request) (o : Outcome) (r : Reply) (new : State) → finmap.get s.requests t ≡ q → FlushEndReply s t q o r new → NoneTagged s new
-  flush_ends t (Some r) o reply.Dropped new is e = gone t new e.1
-  flush_ends t (Some r) (outcome.Fault code) (reply.Failed d) new is e =
-      let here = mapped t r is e.0 in
-      let first_file = record (file_at s r.file) { pages = finmap.insert (file_at s r.file).pages r.page (after_write true e.2) } in
-      let unfailed = put_page (ended s t) r.file r.page (after_write true e.2) in
+  failed : (t : ℕ) (r : Request) (page : Page) (code : ℕ) → finmap.get s.requests t ≡ Some r → r.dropped ≡ false → page_at s r.file r.page ≡ Some page → NoneTagged s (failed_once (put_page (ended s t) r.file r.page (after_write true page)) r.file code)
+  failed t r page code is live at =
+      let here = mapped t r is live in
+      let first_file = record (file_at s r.file) { pages = finmap.insert (file_at s r.file).pages r.page (after_write true page) } in
+      let unfailed = put_page (ended s t) r.file r.page (after_write true page) in
       let still : r.file < length unfailed.files = (let a = length-set s.files r.file first_file in omega arith) in
-      let one = file_pages s unfailed r.file first_file here refl (put_one (file_at s r.file).pages r.page (after_write true e.2) (λ k. ap towrite e.3 ∙ k)) in
-      let two = file_pages unfailed new r.file _ still (ap (λ x. x.files) e.4) (λ q h. h) in
+      let one = put unfailed r.file r.page (after_write true page) first_file here refl refl (λ k. ap towrite at ∙ k) in
+      let two = file_pages unfailed (failed_once unfailed r.file code) r.file _ still refl (λ q h. h) in
       record { was = λ g q t. one.was g q (two.was g q t) }
-  flush_ends t (Some r) (outcome.Ok bytes) reply.Written new is e = file_pages s new r.file _ (mapped t r is e.0) (ap (λ x. x.files) e.3) (put_one (file_at s r.file).pages r.page (after_write false e.1) (λ k. ap towrite e.2 ∙ k))
-  flush_ends t q o _ new is e = absurd e
 
-  flushes : (f : ℕ) (o : Option ℕ) (r : Reply) (new : State) → FlushBeginReply s f o r new → NoneTagged s new
-  flushes f (Some p) (reply.Job t) new e = file_pages s new f _ (cached_within s f p (ap is_some e.2)) (ap (λ x. x.files) e.3) (put_one (file_at s f).pages p (record e.1 { tags = record { dirty = false; writeback = true; towrite = false } }) (λ k. absurd cc))
-  flushes f None (reply.Job t) new e = absurd e
-  flushes f o _ new e = absurd e
-
-  evicts : (r : Reply) (new : State) → EvictReply s r new → NoneTagged s new
-  evicts (reply.Evicted f p) new e = file_pages s new f.0 _ (cached_within s f.0 p.0 (ap is_some e.1)) (ap (λ x. x.files) e.3) (drop_one (file_at s f.0).pages p.0)
-  evicts _ new e = absurd e
-
-  ages : (r : Reply) (new : State) → AgeReply s r new → NoneTagged s new
-  ages (reply.Aged m) new e = as_before new e
-  ages _ new e = absurd e
-
-  drops : (k : ℕ) (r : Reply) (new : State) → SyncDropReply s k r new → NoneTagged s new
-  drops k reply.Dropped new e = same new (ap (λ x. x.files) e) (ap (λ x. x.requests) e) (ap (λ x. x.next) e)
-  drops k _ new e = absurd e
-
-  by_answer : (o : Option Reply) (r : Reply) (new : State) (H : Type 0) → Answers o r s new H → (H → o ≡ None → NoneTagged s new) → NoneTagged s new
-  by_answer o r new H a on = elim (answered o r s new H a) [ inl b ↦ as_before new b.1 | inr b ↦ on b.1 b.0 ]
+  cut : (f z q : ℕ) → towrite (finmap.get (cut_pages s f z) q) ≡ true → towrite (page_at s f q) ≡ true
+  cut f z q h =
+      if_towrite (nat_le (page_count s.sizes.page z) q) _ _ _ (λ k. absurd cc)
+      (λ k. if_towrite (eqb (z / s.sizes.page) q && is_some (boundary s f z)) _ _ _ (λ j. cut_towrite s.sizes.page z (has_block s f q) (page_at s f q) j) (λ j. j) k)
+      (sym (ap towrite (get-cut_pages s f z q)) ∙ h)
 
   -- every event but the two of a sync
-  event_tags : (e : Event) (r : Reply) (new : State) → not_of_sync e ≡ true → Step s e r new → NoneTagged s new
-  event_tags event.Create r new _ h = by_answer (create_tests s) r new (CreateReply s r new) h (λ x _. create r new x)
-  event_tags (event.Open f) r new _ h = by_answer (open_tests s f.0) r new (OpenReply s f.0 r new) h (λ x _. opens f.0 r new x)
-  event_tags (event.Close k) r new _ h = by_answer (close_tests s k.0) r new (CloseReply s k.0 r new) h (λ x t. closes k.0 r new x)
-  event_tags (event.Size k) r new _ h = by_answer (size_tests s k.0) r new ⊥ h (λ x _. absurd x)
-  event_tags (event.Read k o m) r new _ h = by_answer (read_tests s k.0 o m) r new (ReadReply s (file_of s k.0) o m r new) h (λ x _. reads (file_of s k.0) o m r new x)
-  event_tags (event.Write k o b) r new _ h = by_answer (write_tests s k.0 o (length b)) r new (WriteReply s (file_of s k.0) o b r new) h (λ x t. writes (file_of s k.0) o b r new (valid k.0 (first_passed (is_open s k.0) _ _ t)) x)
-  event_tags (event.Append k b) r new _ h = by_answer (append_tests s k.0 (length b)) r new (WriteReply s (file_of s k.0) (file_at s (file_of s k.0)).size b r new) h (λ x t. writes (file_of s k.0) (file_at s (file_of s k.0)).size b r new (valid k.0 (first_passed (is_open s k.0) _ _ t)) x)
-  event_tags (event.Truncate k z) r new _ h = by_answer (truncate_tests s k.0 z) r new (TruncateReply s (file_of s k.0) z r new) h (λ x t. truncates (file_of s k.0) z r new (valid k.0 (first_passed (is_open s k.0) _ _ t)) x)
-  event_tags (event.FillBegin k p) r new _ h = by_answer (fill_begin_tests s k.0 p.0) r new (FillBeginReply s (file_of s k.0) p.0 r new) h (λ x t. fill_begins (file_of s k.0) p.0 r new (valid k.0 (first_passed (is_open s k.0) _ _ t)) x)
-  event_tags (event.FillEnd e) r new _ h = by_answer (end_tests s Fill e) r new (FillEndReply s e.serial.0 (finmap.get s.requests e.serial.0) e.outcome r new) h (λ x _. fill_ends e.serial.0 (finmap.get s.requests e.serial.0) e.outcome r new refl x)
-  event_tags (event.FlushBegin f) r new _ h = by_answer (flush_begin_tests s f.0) r new (FlushBeginReply s f.0 (flush_pick (file_at s f.0)) r new) h (λ x _. flushes f.0 (flush_pick (file_at s f.0)) r new x)
-  event_tags (event.FlushEnd e) r new _ h = by_answer (end_tests s Flush e) r new (FlushEndReply s e.serial.0 (finmap.get s.requests e.serial.0) e.outcome r new) h (λ x _. flush_ends e.serial.0 (finmap.get s.requests e.serial.0) e.outcome r new refl x)
-  event_tags event.Evict r new _ h = by_answer (evict_tests s) r new (EvictReply s r new) h (λ x _. evicts r new x)
-  event_tags event.Age r new _ h = ages r new h
-  event_tags (event.SyncDrop k) r new _ h = by_answer (sync_drop_tests s k.0) r new (SyncDropReply s k.0 r new) h (λ x _. drops k.0 r new x)
-  event_tags (event.SyncBegin k) r new e h = absurd cc
-  event_tags (event.SyncStep k) r new e h = absurd cc
+  cases : Cases s (NoneTagged s)
+  cases = record {
+    same = same_files s s refl;
+    create = record { was = λ g q t. sym (ap (λ (x : File). towrite (finmap.get x.pages q)) (get_or-default s.files no_file g)) ∙ t };
+    opens = λ h f _ _. same_files s (record s { handles = finmap.insert s.handles h f }) refl;
+    closes = λ h _. same_files s (record s { handles = finmap.remove s.handles h }) refl;
+    writes = λ h o b opened room. file_pages s (written s (file_of s h) o b) (file_of s h) _ (valid h opened) refl (λ q t. if_towrite (touches s.sizes.page o (length b) q) _ _ _ (λ k. written_towrite s.sizes.page o b q (page_at s (file_of s h) q) k) (λ k. k) (sym (ap towrite (get-written_pages s.sizes.page o b (file_at s (file_of s h)).pages q)) ∙ t));
+    shrinks = λ h z opened less. file_pages s (shrunk s (file_of s h) z) (file_of s h) _ (valid h opened) refl (cut (file_of s h) z);
+    grows = λ h z opened more. file_pages s (put_file s (file_of s h) (record (file_at s (file_of s h)) { size = z })) (file_of s h) _ (valid h opened) refl (λ q t. t);
+    makes_zeros = λ h p opened. put (put_page s (file_of s h) p (blank s.sizes.page)) (file_of s h) p (blank s.sizes.page) _ (valid h opened) refl refl (λ k. absurd cc);
+    fills = λ h p opened room. same_files s (filling s (file_of s h) p) refl;
+    ends = λ t. same_files s (ended s t) refl;
+    filled = λ t r bytes is live. put (put_page (ended s t) r.file r.page (record { bytes = bytes; tags = no_tags })) r.file r.page (record { bytes = bytes; tags = no_tags }) _ (mapped t r is live) refl refl (λ k. absurd cc);
+    flushes = λ f p page is d b room. put (started s f p page) f p (record page { tags = record { dirty = false; writeback = true; towrite = false } }) _ (cached_within s f p (ap is_some is)) refl refl (λ k. absurd cc);
+    flush_failed = λ t r page code is live at. failed t r page code is live at;
+    flushed = λ t r page is live at. put (set_written (put_page (ended s t) r.file r.page (after_write false page)) r.file r.page) r.file r.page (after_write false page) _ (mapped t r is live) refl refl (λ k. ap towrite at ∙ k);
+    evicts = λ f p page is idle. file_pages s (drop_page s f p) f _ (cached_within s f p (ap is_some is)) refl (drop_one (file_at s f).pages p);
+    sync_ends = λ n. same_files s (record s { syncs = finmap.remove s.syncs n }) refl;
+  }
 
   -- ---- a sync begins
 
@@ -273,7 +205,7 @@ module _ (w : World) (plain : Plain) (k : Coupled w plain) (f : ℕ) where
   quiet_few e new none tags = let a = no_more_waiting w.core new tags f in omega arith
 
   by_event : (e : Event) (r : Reply) (new : State) → not_of_sync e ≡ true → Step w.core e r new → NoneTagged w.core new
-  by_event = event_tags w.core k.valid live_file
+  by_event e r new other h = by_cases w.core (NoneTagged w.core) (cases w.core k.valid live_file) e r new other h
 
   -- the step of a sync
 

@@ -20,7 +20,7 @@ use Rattle.world.proofs.Lookups.{cached_within, page_at-put_page, size-put, fail
 use Rattle.cachecore.proofs.StateLaws.{get_or-set}
 use Rattle.world.proofs.FlushBegin.{flush_begin_kept, flush_begin_evolves}
 use Rattle.world.proofs.Retag.{retag_kept, retag_evolves}
-use Rattle.world.proofs.Found.{found}
+use Rattle.cachecore.proofs.Found.{found}
 use Rattle.pc_types.specs.declared.refusal.Refusal.TheVariants.{TooManyInFlight, BadHandle}
 use Rattle.pc_types.specs.declared.ids.HandleId.{HandleId}
 use Rattle.pc_types.specs.declared.ids.FileId.{FileId}

@@ -21,7 +21,6 @@ pub mod FileEvents
 pub mod QuietEvents
 pub mod Fills
 pub mod Ends
-pub mod Found
 pub mod Calls
 pub mod Flushes
 pub mod CutLaws
@@ -32,10 +31,14 @@ pub mod Moves
 pub mod ReadsRight
 pub mod Fresh
 pub mod Track
+pub mod RunSteps
+pub mod BelowBound
+pub mod SyncProgress
 pub mod SyncRuns
 pub mod Counted
 pub mod AlwaysHold
 pub mod Count
 pub mod FewWrites
 pub mod Awaited
+pub mod Flies
 pub mod GoOn

@@ -13,7 +13,7 @@ use Rattle.world.proofs.Coupled.{view, Coupled, After, coupled, with_core, uncha
 use Rattle.cachecore.proofs.Choices.{answered}
 use Rattle.cachecore.specs.Tests.{end_tests}
 use Rattle.cachecore.specs.Step.{Step, FillEndReply, FlushEndReply}
-use Rattle.world.specs.Runs.{IsFirst, Run, last, plain_entry, plain_from}
+use Rattle.world.specs.Runs.{IsFirst, Run, last, world_at, plain_at, plain_entry, plain_from}
 use Rattle.world.specs.Syncing.{cuts_off}
 use Rattle.world.proofs.PageLaws.{length-page}
 use Rattle.pc_types.proofs.FileLaws.{length-cut, byte-page, byte-cut}
@@ -162,3 +162,12 @@ pub run_take : (run : List (Entry × World)) (w : World) (k : ℕ) → Run w run
 run_take run w zero r = tt
 run_take [] w (suc k) r = tt
 run_take (step ∷ steps) w (suc k) r = (r.0, run_take steps step.1 k r.1)
+
+-- cache and plain files at each moment of a run
+pub coupled_at : (w : World) (run : List (Entry × World)) → IsFirst w → Run w run → (k : ℕ) → Coupled (world_at w run k) (plain_at run k)
+coupled_at w run first r k = run_coupled (take k run) w no_files (first_coupled w first) (run_take run w k r)
+
+-- what each step keeps holds at the end of a run
+pub run_keeps : (Q : State → Type 0) → ((w new : World) (plain : Plain) → Coupled w plain → Q w.core → (e : Entry) → Moves w e new → Q new.core) → (run : List (Entry × World)) (w : World) (plain : Plain) → Coupled w plain → Q w.core → Run w run → Q (last w run).core
+run_keeps Q step [] w plain k c r = c
+run_keeps Q step (x ∷ xs) w plain k c r = run_keeps Q step xs x.1 (plain_entry plain x.0) (coupled w plain _ x.1 (plain_entry plain x.0) (move_kept w plain k x.1 x.0 r.0)) (step w x.1 plain k c x.0 r.0) r.1

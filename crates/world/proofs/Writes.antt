@@ -3,7 +3,6 @@ use Rattle.std.proofs.Common.{◌≡◌, ℕ, ◌+◌, ◌<◌, ◌≤◌, Bool,
 use Rattle.std.specs.Prelude.{◌&&◌, ◌||◌, ◌⊎◌, Option, Some, None, is_some, option_map, unwrap_or, nat_lt}
 use Rattle.std.specs.FinMap as finmap
 use Rattle.std.proofs.Math.ListN.{length-set}
-use Rattle.std.proofs.lemmas.Bool.Decides.{nat_tests}
 use Rattle.pc_types.specs.Files.{cut, page_of, pwrite}
 use Rattle.cachecore.specs.State.{State, File, Page, Spot, Request, file_at, file_of, is_open, page_at, spot_at, no_file, page_count, is_filling, is_cached, is_written, has_block, is_fill, fills, touches, touched, touched_count, is_dirty, dirty_total, free_frames, free_blocks, first_page, without_block}
 use Rattle.cachecore.proofs.ChangeLaws.{WritesBytes, written_writes, new_spot, taken_by, needs_block, takes_free, takes_apart}
@@ -11,7 +10,7 @@ use Rattle.world.specs.Plain.{Plain, plain_file, plain_after, named, change}
 use Rattle.world.specs.World.{World, block_bytes}
 use Rattle.world.proofs.View.{Good, PageIs, Evolves, no_gone, dirty, writeback, towrite, settled, held_by, held}
 use Rattle.world.proofs.Coupled.{view, Coupled, After, with_core, unchanged}
-use Rattle.cachecore.proofs.Choices.{answered, quiet_none, quiet_if, not_false, none_of, some_of, at_true, at_false, quiet_when, if_none, or_false, quiet_first, none_first, enough_blocks}
+use Rattle.cachecore.proofs.Choices.{answered, quiet_none, quiet_if, none_of, some_of, at_true, at_false, quiet_when, or_false, quiet_first}
 use Rattle.pc_types.specs.declared.limits.TheConstants.{MAX_FILE_SIZE, MAX_TOUCHED}
 use Rattle.cachecore.specs.Tests.{write_tests, room_tests, write_stop, must_fill, covers}
 use Rattle.cachecore.specs.Step.{Step, WriteReply}
@@ -33,6 +32,7 @@ use Rattle.cachecore.specs.declared.event.Reply.TheVariants as reply
 use Rattle.std.specs.Prelude.{count_by}
 use Rattle.std.proofs.lemmas.List.{set-get_or}
 use Rattle.cachecore.proofs.StateLaws.{filling_shows}
+use Rattle.cachecore.proofs.Choices.{may_write}
 
 max_left : (a b : ℕ) → a ≤ max a b
 max_left a b = omega arith
@@ -312,20 +312,12 @@ module _ (w : World) (plain : Plain) (c : Coupled w plain) where
   write_happens : (h o : ℕ) (b : List ℕ) (r : Reply) (new : State) → write_tests w.core h o (length b) ≡ None → WriteReply w.core (file_of w.core h) o b r new → After w plain no_gone (with_core w new) (then_plain h o b r)
   write_happens h o b (reply.Wrote n end) new t e =
       let f = file_of w.core h in
-      let k = if_none (not (is_open w.core h)) _ _ t in
-      let full = if_none (eqb (length b) 0) _ _ k.1 in
-      let short = if_none (nat_lt MAX_TOUCHED (touched_count w.core.sizes.page o (length b))) _ _ full.1 in
-      let small = if_none (nat_lt MAX_FILE_SIZE (o + length b)) _ _ short.1 in
-      let free = none_first w.core f _ _ small.1 in
+      let may = may_write w.core h o (length b) t in
       let same : named plain h ≡ f = ap (λ m. unwrap_or (finmap.get m h) 0) c.handles in
-      let here = c.valid h (not_false (is_open w.core h) k.0) in
-      let room = enough_blocks w.core f o (length b) free.1 in
+      let here = c.valid h may.opened in
       subst (λ k. After w plain no_gone (with_core w new) (change plain k (pwrite (plain_file plain k) o b))) (sym same)
       (subst (λ x. After w plain no_gone (with_core w x) (change plain f (pwrite (plain_file plain f) o b))) (sym e.2)
-      (wrote w plain c f o b here (some_bytes (length b) full.0) (written w.core f o b) (written_writes w.core f o b here room) room free.0))
-    where
-      some_bytes : (n : ℕ) → eqb n 0 ≡ false → 0 < n
-      some_bytes n e = grind (arith, nat_tests)
+      (wrote w plain c f o b here may.some (written w.core f o b) (written_writes w.core f o b here may.room) may.room may.free))
   write_happens h o b (reply.Refused Memory) new t e = unchanged no_gone w plain new plain c e refl
   write_happens h o b _ new t e = absurd e
 

@@ -1,7 +1,7 @@
 //! What holds over every run.
 
 ghost use Rattle.world.specs.Always.{HoldsAlways};
-ghost use Rattle.world.specs.Progress.{RequestsGoOn};
+ghost use Rattle.world.specs.Progress.{NoEventIsStuck, RequestsGoOn, StepsAreDetermined};
 ghost use Rattle.world.specs.Reading.{ReadsAreRight};
 ghost use Rattle.world.specs.Syncing.{AwaitsByBound, DirtyPagesStay, SyncWritesAreFew, SyncsAreSynced, SyncsRise, SyncsTell};
 
@@ -16,4 +16,6 @@ pub fn every_run()
     ensures rising { SyncsRise }
     ensures awaited { AwaitsByBound }
     ensures go_on { RequestsGoOn }
+    ensures determined { StepsAreDetermined }
+    ensures never_stuck { NoEventIsStuck }
 {}

@@ -1,5 +1,5 @@
 use Rattle.world.proofs.AlwaysHold.{holds_always}
-use Rattle.world.proofs.GoOn.{requests_go_on}
+use Rattle.world.proofs.GoOn.{no_event_is_stuck, requests_go_on, steps_are_determined}
 use Rattle.world.proofs.ReadsRight.{reads_are_right}
 use Rattle.world.proofs.SyncRuns.{awaits_by_bound, dirty_pages_stay, syncs_are_synced, syncs_rise, syncs_tell}
 use Rattle.world.proofs.FewWrites.{sync_writes_are_few}
@@ -31,3 +31,9 @@ returns-clause-go_on c = requests_go_on
 
 pub returns-clause-stay : goal.returns-clause-stay
 returns-clause-stay c = dirty_pages_stay
+
+pub returns-clause-determined : goal.returns-clause-determined
+returns-clause-determined c = steps_are_determined
+
+pub returns-clause-never_stuck : goal.returns-clause-never_stuck
+returns-clause-never_stuck c = no_event_is_stuck
