@@ -7,7 +7,7 @@ use Rattle.radix.proofs.SeeLemmas.{see-is}
 use Rattle.radix.specs.declared.node.Node.{Node}
 use Rattle.radix.specs.declared.slot.Slot.TheVariants.{Sibling, Empty}
 use Rattle.radix.specs.declared.entry.Entry.TheVariants as entry
-use Rattle.radix.specs.Entries.{StandsAt, slot, content, IsFree, entry_at, mark_at}
+use Rattle.radix.specs.Entries.{IsRun, PutsRun, StandsAt, slot, content, IsFree, entry_at, mark_at}
 use Rattle.radix.specs.Tree.{SameSlots, IsTree, WritesSlot, WritesRun}
 
 whole : (at d p : ℕ) → d ≡ 0 → at / 64 ^ d ≡ p → at ≡ p
@@ -62,3 +62,9 @@ slot_in_is s head tree level place key n stands there =
     let l : n.level ≡ level = sym (ap (λ (z : Node). z.level) same) ∙ stands.level_is in
     let p : n.prefix ≡ place / 64 = sym (ap (λ (z : Node). z.prefix) same) ∙ stands.prefix_is in
     sym (see-is (λ z i. content (slot z i)) None s head tree level place key n there l p)
+
+pub run_kept : (old new : Slab Node) (level place span : ℕ) → ((other at : ℕ) → entry_at new other at ≡ entry_at old other at) → IsRun old level place span → IsRun new level place span
+run_kept old new level place span same run = record { first = rw (same level place) (run.first); rest = λ j low high. same level (place + j) ∙ run.rest j low high }
+
+pub run_put : (old new : Slab Node) (level place span value : ℕ) → PutsRun old new level place span value → IsRun new level place span
+run_put old new level place span value puts = record { first = rw (puts.first) tt; rest = puts.rest }

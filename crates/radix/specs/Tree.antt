@@ -158,18 +158,6 @@ pub record IsRemarked (mark : ℕ) (old new : Node) : Type 0 where
 abbrev pub Remarks : ℕ → Slab Node → Slab Node → Type 0
 Remarks mark old new = EachNode (IsRemarked mark) old new
 
--- the node under a key is there, and has a bit of the mark
-pub record HasBits (s : Slab Node) (key mark : ℕ) : Type 0 where
-  pub node : Node
-  pub there : get s key ≡ Some node
-  pub some : 0 < bits node mark
-
--- the node under a key is there, and has no bit of the mark
-pub record HasNoBits (s : Slab Node) (key mark : ℕ) : Type 0 where
-  pub node : Node
-  pub there : get s key ≡ Some node
-  pub none : bits node mark ≡ 0
-
 -- the node with other bits of a mark
 abbrev pub with_bits : Node → ℕ → ℕ → Node
 with_bits n mark b = record n { marks = slice_set n.marks mark b }
@@ -310,12 +298,6 @@ pub record IsHeight (index level height : ℕ) : Type 0 where
   pub low : level ≤ height
   pub covers : index / 64 ^ height / 64 ≡ 0
   pub lowest : (other : ℕ) → level ≤ other → index / 64 ^ other / 64 ≡ 0 → height ≤ other
-
--- the node under a key has no entry
-pub record HasNone (s : Slab Node) (key : ℕ) : Type 0 where
-  pub node : Node
-  pub there : get s key ≡ Some node
-  pub none : node.count ≡ 0
 
 -- the entry at a place has no mark
 pub record IsUnmarked (s : Slab Node) (level place : ℕ) : Type 0 where

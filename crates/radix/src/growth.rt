@@ -27,9 +27,9 @@ pub(crate) fn add_child(nodes: &mut Slab<Node>, head: usize, key: usize, index: 
     let level = nodes[key].level;
     let place = place_at(index, level);
     let child = nodes.insert_reserved(Node::blank_at(level - 1, place, Some(key)));
-    let node = &mut nodes[key];
-    node.slots[(place % 64) as usize] = Word::child(child);
-    node.count += 1;
+    let above = &mut nodes[key];
+    above.slots[(place % 64) as usize] = Word::child(child);
+    above.count += 1;
     child
 }
 

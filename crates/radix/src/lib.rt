@@ -1,4 +1,11 @@
-//! Nodes of 64 slots in a tree, kept in one slab.
+//! The tree under the XArray: entries with three marks at slots of levels, in nodes of 64 slots that one slab keeps.
+//!
+//! Slots are a map by level and place; a mark's bit above is set exactly where an entry below has the mark; `next_set`
+//! and `next_entry` give the lowest; no node is empty; after `reserve_path` the next put there meets no want of memory.
+//!
+//! `nodes` is the tree as its caller sees it, and `entry` what it speaks of. `tree` walks, `growth` makes nodes and
+//! entries, `removal` takes them away, `marks` and `next` keep the bits and search by them. `node`, `slot` and `bitmap`
+//! are the layout. The words of the contracts are in `specs/Entries.antt`; `specs/Tree.antt` is for the proofs alone.
 #![tactic(auto)]
 
 mod bitmap;
@@ -10,6 +17,8 @@ mod node;
 mod nodes;
 mod removal;
 mod slot;
+#[cfg(test)]
+mod tests;
 mod tree;
 
 pub use entry::{Cursor, Entry, Found, Position};

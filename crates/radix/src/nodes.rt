@@ -288,7 +288,8 @@ impl Nodes {
         }
     }
 
-    /// The lowest entry with the mark whose first index is the given one or later.
+    /// The lowest entry with the mark whose first slot has the index or a later one. An entry that begins before that slot
+    /// is not found: look with `find` first.
     pub fn next_set(&self, index: u64, mark: usize) -> Option<Position>
         requires { mark < 3 }
         ensures { MatchOption result (HasNoNext self.now mark index) (λ r. IsNext self.now mark index r.level r.place) }
@@ -299,7 +300,7 @@ impl Nodes {
         }
     }
 
-    /// The lowest entry whose first index is the given one or later.
+    /// The lowest entry whose first slot has the index or a later one, as `next_set` finds it.
     pub fn next_entry(&self, index: u64) -> Option<Position>
         ensures { MatchOption result (HasNoNextEntry self.now index) (λ r. IsNextEntry self.now index r.level r.place) }
     {

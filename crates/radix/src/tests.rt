@@ -1,0 +1,202 @@
+//! Each public call with ample memory, at indexes where a level begins or ends.
+ghost use Rattle.std.specs.Prelude.{ℕ, ◌+◌, ◌/◌, ◌%◌, ◌^◌, ◌<◌, ◌≤◌};
+ghost use Rattle.radix.specs.Entries.{StandsAt, IsRun};
+
+use crate::{Cursor, Entry, Nodes, Position};
+use std::test::Fail;
+
+const EDGES: [u64; 7] = [
+    0,
+    63,
+    64,
+    4_095,
+    4_096,
+    68_719_476_736,
+    18_446_744_073_709_551_615,
+];
+
+// Puts an entry of one index where none is. Whether it did.
+fn put(nodes: &mut Nodes, index: u64, value: u64) -> bool
+    requires { value < 2 ^ 63 }
+{
+    if let Some(_) = nodes.find(index) {
+        return false;
+    }
+    let Ok(()) = nodes.reserve_path(index, 0) else {
+        return false;
+    };
+    nodes.put(index, 0, value);
+    true
+}
+
+// Sets or clears a mark of the entry at an index. Whether one is there.
+fn mark(nodes: &mut Nodes, index: u64, is_set: bool) -> bool {
+    let Some(found) = nodes.find(index) else {
+        return false;
+    };
+    let Entry::Leaf(_) = found.entry else {
+        return false;
+    };
+    if is_set {
+        nodes.set_bit(found.cursor, index, found.level, 1);
+    } else {
+        nodes.clear_bit(found.cursor, index, found.level, 1);
+    }
+    true
+}
+
+// Takes the entry of one index away. Whether one was there.
+fn take(nodes: &mut Nodes, index: u64) -> bool {
+    let Some(cursor) = nodes.seek(index, 0) else {
+        return false;
+    };
+    let Some(Entry::Leaf(_)) = nodes.entry_in(cursor, index, 0) else {
+        return false;
+    };
+    nodes.clear_bit(cursor, index, 0, 0);
+    nodes.clear_bit(cursor, index, 0, 1);
+    nodes.clear_bit(cursor, index, 0, 2);
+    nodes.clear(cursor, index, 0);
+    true
+}
+
+// Takes an entry of several slots of level 1 away.
+fn take_run(nodes: &mut Nodes, cursor: Cursor, index: u64, span: u64)
+    requires stands { StandsAt nodes.old cursor 1 (index / 64 ^ 1 / 64) }
+    requires some { 0 < span }
+    requires within { index / 64 ^ 1 % 64 + span ≤ 64 }
+    requires run { IsRun nodes.old 1 (index / 64 ^ 1) span }
+{
+    nodes.clear_bit(cursor, index, 1, 0);
+    nodes.clear_bit(cursor, index, 1, 1);
+    nodes.clear_bit(cursor, index, 1, 2);
+    nodes.clear_run(cursor, index, 1, span);
+}
+
+// Writes another value into the entry of one index. Whether one is there.
+fn store(nodes: &mut Nodes, index: u64, value: u64) -> bool
+    requires { value < 2 ^ 63 }
+{
+    let Some(cursor) = nodes.seek(index, 0) else {
+        return false;
+    };
+    match nodes.entry_in(cursor, index, 0) {
+        Some(Entry::Leaf(_)) => nodes.replace(cursor, index, 0, value),
+        Some(Entry::Sibling(_)) => return false,
+        None => nodes.fill(cursor, index, 0, value),
+    }
+    true
+}
+
+// The tree grows to its whole height and goes again, in both orders. A node is made for each level of a path that is
+// not there yet, and for each level that the head has to rise.
+#[test]
+fn grows_and_shrinks(rt: HostRuntime) -> Result<(), Fail> {
+    for (is_rising, counts) in [
+        (true, [1, 1, 3, 4, 7, 17, 31]),
+        (false, [11, 21, 27, 29, 30, 31, 31]),
+    ] {
+        let mut nodes = Nodes::new(rt.alloc());
+        assert_eq!(rt; nodes.count(), 0);
+        for i in 0..7usize {
+            let index = if is_rising { EDGES[i] } else { EDGES[6 - i] };
+            assert!(rt; put(&mut nodes, index, index / 2));
+            assert!(rt; !put(&mut nodes, index, 5));
+            assert_eq!(rt; nodes.get(index, 0), Some(Entry::Leaf(index / 2)));
+            assert_eq!(rt; nodes.count(), counts[i], "at {index}");
+        }
+        // A search finds the entries in rising order, whatever the order in which they came.
+        let mut from = 0;
+        for index in EDGES {
+            let place = index;
+            assert_eq!(rt; nodes.next_entry(from), Some(Position { level: 0, place }));
+            from = index.wrapping_add(1);
+        }
+        for i in 0..7usize {
+            let index = if is_rising { EDGES[i] } else { EDGES[6 - i] };
+            assert!(rt; take(&mut nodes, index));
+            assert!(rt; !take(&mut nodes, index));
+        }
+        assert_eq!(rt; nodes.count(), 0);
+        assert_eq!(rt; nodes.next_entry(0), None);
+    }
+    Ok(())
+}
+
+// A mark above is there as long as one below is.
+#[test]
+fn marks_at_every_level(rt: HostRuntime) -> Result<(), Fail> {
+    let mut nodes = Nodes::new(rt.alloc());
+    for index in EDGES {
+        assert!(rt; put(&mut nodes, index, 1));
+    }
+    assert!(rt; store(&mut nodes, 63, 2));
+    assert_eq!(rt; nodes.get(63, 0), Some(Entry::Leaf(2)));
+    assert!(rt; store(&mut nodes, 62, 3));
+    assert_eq!(rt; nodes.get(62, 0), Some(Entry::Leaf(3)));
+    assert!(rt; !nodes.marked(1));
+    for index in [63, 4_096, u64::MAX] {
+        assert!(rt; mark(&mut nodes, index, true));
+    }
+    assert!(rt; nodes.marked(1));
+    assert!(rt; !nodes.marked(0));
+    for (from, place) in [
+        (0, 63),
+        (63, 63),
+        (64, 4_096),
+        (4_097, u64::MAX),
+        (u64::MAX, u64::MAX),
+    ] {
+        assert_eq!(rt; nodes.next_set(from, 1), Some(Position { level: 0, place }));
+    }
+    assert!(rt; mark(&mut nodes, 4_096, false));
+    assert!(rt; nodes.marked_under(63, 1, 1));
+    assert!(rt; !nodes.marked_under(64, 1, 1));
+    assert!(rt; nodes.marked_under(4_095, 2, 1));
+    assert!(rt; !nodes.marked_under(4_096, 2, 1));
+    assert_eq!(rt;
+        nodes.next_set(64, 1),
+        Some(Position {
+            level: 0,
+            place: u64::MAX
+        })
+    );
+    assert!(rt; mark(&mut nodes, u64::MAX, false));
+    assert_eq!(rt; nodes.next_set(64, 1), None);
+    assert!(rt; mark(&mut nodes, 63, false));
+    assert!(rt; !nodes.marked(1));
+    Ok(())
+}
+
+// An entry of 4 slots of level 1 has the indexes 256 to 511.
+#[test]
+fn several_slots(rt: HostRuntime) -> Result<(), Fail> {
+    let mut nodes = Nodes::new(rt.alloc());
+    let Ok(()) = nodes.reserve_path(256, 1) else {
+        assert!(rt; false);
+        return Ok(());
+    };
+    nodes.put_run(256, 1, 4, 9);
+    assert_eq!(rt; nodes.count(), 1);
+    assert_eq!(rt; nodes.get(256, 1), Some(Entry::Leaf(9)));
+    assert_eq!(rt; nodes.get(511, 1), Some(Entry::Sibling(4)));
+    assert_eq!(rt; nodes.get(512, 1), None);
+    assert_eq!(rt; nodes.next_entry(1), Some(Position { level: 1, place: 4 }));
+    // The slot of the search's first index counts, a further slot of an entry does not.
+    assert_eq!(rt;
+        nodes.next_entry(257),
+        Some(Position { level: 1, place: 4 })
+    );
+    assert_eq!(rt; nodes.next_entry(320), None);
+    let Some(cursor) = nodes.seek(256, 1) else {
+        assert!(rt; false);
+        return Ok(());
+    };
+    assert_eq!(rt; nodes.beside(cursor, 256, 1, 7), Some(Entry::Sibling(4)));
+    nodes.set_bit(cursor, 256, 1, 0);
+    assert!(rt; nodes.get_bit(cursor, 256, 1, 0));
+    take_run(&mut nodes, cursor, 256, 4);
+    assert_eq!(rt; nodes.get(511, 1), None);
+    assert_eq!(rt; nodes.count(), 0);
+    Ok(())
+}
