@@ -1,21 +1,18 @@
 -- Splits and joins keep the rule, and what a pass knows after them.
-use Rattle.std.proofs.Common.{◌≡◌, ◌≢◌, ℕ, ◌-◌, ◌<◌, ◌≤◌, ◌⊎◌, Bool, true, false, eq-eqb, List, [], ◌∷◌, ◌++◌, length, drop, get_or, inl, inr, refl, sym, ap, ◌∙◌, subst, arith, ⊎_elim, le_refl, true≢false, length-append, length-drop}
+use Rattle.std.proofs.Common.{◌≡◌, ℕ, ◌<◌, ◌≤◌, Bool, true, false, eq-eqb, List, [], ◌∷◌, length, drop, get_or, inl, inr, refl, sym, ap, ◌∙◌, subst, arith, ⊎_elim, le_refl, true≢false, length-append, length-drop}
 use Rattle.std.specs.Prelude.{if◌then◌else◌, ◌==◌}
-use mathlib.Core.Option.{none, some}
+use mathlib.Core.Option.{none}
 use mathlib.Core.List.{IsPrefix}
-use lib.ListN.{get_elem?}
 use Rattle.std.proofs.lemmas.Bool.{eqb-true}
 use Rattle.std.proofs.lemmas.List.{append-nil}
-use Rattle.atomic_table.specs.Table.{State, Me, Step, step, keeps, Allows, Splits, Joins}
-use Rattle.errseq.specs.declared.recording.Recording.{Recording}
-use Rattle.errseq.specs.Word.{is_seen, sample_of}
+use Rattle.atomic_table.specs.Table.{Me, step, keeps, Allows, Splits, Joins}
 use Rattle.errseq.specs.Recorded.{word_of}
-use Rattle.errseq.specs.Samples.{StandsFor, AreCodes, Owes, FitsPass, FitsFound, done_at}
+use Rattle.errseq.specs.Samples.{Owes, FitsFound}
 use Rattle.errseq.proofs.Prefixes.{prefix_self}
 use Rattle.errseq.proofs.Samples.{Log, new_pass}
 use Rattle.errboard.specs.declared.views.View.{View}
-use Rattle.errboard.specs.declared.views.View.TheVariants.{Spent, Recorder, Sampled, Compares, Pass, Trying, Receipt}
-use Rattle.errboard.specs.Views.{files, recorded_of, start_of, recorder_left, pass_right, receipt_right, longer, told_of, informed, with_pass}
+use Rattle.errboard.specs.declared.views.View.TheVariants.{Spent, Recorder, Sampled, Compares, Pass, Receipt}
+use Rattle.errboard.specs.Views.{recorded_of, start_of, recorder_left, pass_right, receipt_right, longer, told_of, informed, with_pass}
 use Rattle.errboard.specs.Rules.{Fits, IsKept, Rested, Confirmed}
 use Rattle.errboard.specs.Shown.{known_of}
 use Rattle.errboard.specs.Steps.{IsGiven}

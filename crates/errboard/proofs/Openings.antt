@@ -6,7 +6,6 @@ use lib.ListN.{get_elem?}
 use Rattle.atomic_table.specs.Table.{Me, opening}
 use Rattle.std.proofs.lemmas.List.{get_or-replicate, length-replicate}
 use Rattle.errseq.specs.Recorded.{word_of}
-use Rattle.errseq.specs.Samples.{AreCodes}
 use Rattle.errseq.proofs.Samples.{Log}
 use Rattle.errboard.specs.declared.views.View.{View}
 use Rattle.errboard.specs.declared.views.View.TheVariants.{Recorder}

@@ -1,6 +1,6 @@
 -- The steps of a poll keep the rule, and what they tell.
-use Rattle.std.proofs.Common.{◌≡◌, ◌≢◌, ℕ, ◌+◌, ◌*◌, ◌%◌, ◌<◌, ◌≤◌, ◌⊎◌, Bool, true, false, eqb, eq-eqb, ne_eqb, List, [], ◌∷◌, length, take, drop, set, get_or, Option, Some, None, inl, inr, refl, sym, ap, ◌∙◌, subst, arith, ⊎_elim, le_refl, lt_of_not-le, true≢false, length-set, get_or-set_other, get_or-set_same}
-use Rattle.std.specs.Prelude.{if◌then◌else◌, ◌==◌, IsSome, IfSome, IfNone}
+use Rattle.std.proofs.Common.{◌≡◌, ◌≢◌, ℕ, ◌+◌, ◌*◌, ◌%◌, ◌<◌, ◌≤◌, ◌⊎◌, Bool, true, false, eqb, eq-eqb, ne_eqb, List, [], length, take, drop, set, get_or, Option, Some, None, inl, inr, refl, sym, ap, ◌∙◌, subst, arith, ⊎_elim, le_refl, lt_of_not-le, true≢false, length-set, get_or-set_other, get_or-set_same}
+use Rattle.std.specs.Prelude.{if◌then◌else◌, ◌==◌, IfSome}
 use mathlib.Core.Option.{none, some}
 use mathlib.Core.List.{IsPrefix}
 use mathlib.Core.Logic.{dite}
@@ -9,7 +9,6 @@ use lib.ListN.{get_elem?}
 use prog.Atomic.{either}
 use Rattle.std.proofs.Math.Seq.{take-length}
 use Rattle.atomic_table.specs.Table.{State, Me, Step, step, keeps, stepped, Allows}
-use Rattle.errseq.specs.declared.recording.Recording.{Recording}
 use Rattle.errseq.specs.Word.{turns, word_end, IsCode, IsWithinTurn, code_of, is_seen, checked}
 use Rattle.errseq.specs.Recorded.{raised, last_code, word_of}
 use Rattle.errseq.specs.Samples.{StandsFor, AreCodes, FitsPass}
@@ -19,7 +18,7 @@ use Rattle.errseq.proofs.Samples.{Log, seen_apart, seen_of_word, code_of_word, c
 use Rattle.errboard.specs.declared.views.View.{View}
 use Rattle.errboard.specs.declared.views.View.TheVariants.{Spent, Recorder, Sampled, Compares, Pass, Trying, Receipt}
 use Rattle.errboard.specs.Views.{files, recorded_of, start_of}
-use Rattle.errboard.specs.Rules.{FitsFile, Fits, IsKept, LookedFrom, Looked, MarkedFrom, Marked}
+use Rattle.errboard.specs.Rules.{FitsFile, Fits, IsKept, LookedFrom, Looked, Marked}
 use Rattle.errboard.specs.Shown.{known_of, start_in}
 use Rattle.errboard.specs.Steps.{IsMarked, IsPolled}
 use Rattle.errboard.proofs.States.{each_set, unmoved}

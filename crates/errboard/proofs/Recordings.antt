@@ -1,24 +1,22 @@
 -- The steps of the recorder keep the rule, and what they tell.
-use Rattle.std.proofs.Common.{◌≡◌, ◌≢◌, ℕ, ◌+◌, ◌<◌, ◌⊎◌, Bool, true, false, eqb, eq-eqb, ne_eqb, List, [], ◌∷◌, ◌++◌, length, replicate, set, get_or, inl, inr, refl, sym, ap, ◌∙◌, subst, arith, ⊎_elim, true≢false, length-set, length-append, get_or-set_other, get_or-set_same}
-use Rattle.std.specs.Prelude.{◌==◌, MatchBool}
-use mathlib.Core.Option.{none, some}
+use Rattle.std.proofs.Common.{◌≡◌, ◌≢◌, ℕ, ◌+◌, ◌<◌, Bool, true, false, eqb, eq-eqb, ne_eqb, List, [], ◌∷◌, ◌++◌, length, set, get_or, inl, inr, refl, sym, ap, ◌∙◌, subst, arith, ⊎_elim, true≢false, length-set, length-append, get_or-set_other, get_or-set_same}
+use Rattle.std.specs.Prelude.{MatchBool}
+use mathlib.Core.Option.{none}
 use mathlib.Core.List.{IsPrefix}
 use mathlib.Core.Logic.{dite}
 use native.Mathlib.Decide.{ℕ_discrete}
-use lib.ListN.{get_elem?}
 use prog.Atomic.{either}
 use Rattle.atomic_table.specs.Table.{State, Me, Step, step, keeps, stepped, Allows}
-use Rattle.std.proofs.lemmas.List.{get_or-replicate, length-replicate}
 use Rattle.errseq.specs.declared.recording.Recording.{Recording}
 use Rattle.errseq.specs.Word.{word_end, IsCode, code_of, is_seen, word_set}
 use Rattle.errseq.specs.Recorded.{word_of}
-use Rattle.errseq.specs.Samples.{StandsFor, AreCodes, FitsPass, FitsFound, recording}
+use Rattle.errseq.specs.Samples.{AreCodes, FitsPass, FitsFound, recording}
 use Rattle.errseq.proofs.Prefixes.{prefix_more}
 use Rattle.errseq.proofs.Samples.{Log, seen_apart, seen_of_word, stands_bound, found_now, set_stands, code_of-set, codes_push, pass_recorded}
 use Rattle.errboard.specs.declared.views.View.{View}
 use Rattle.errboard.specs.declared.views.View.TheVariants.{Spent, Recorder, Sampled, Compares, Pass, Trying, Receipt}
 use Rattle.errboard.specs.Views.{files, recorded_of, start_of, recorder_left}
-use Rattle.errboard.specs.Rules.{FitsFile, Fits, IsKept, FoundFrom, Found, IsRecording, RecordedFrom, Recorded}
+use Rattle.errboard.specs.Rules.{FitsFile, Fits, IsKept, Found, IsRecording, Recorded}
 use Rattle.errboard.specs.Shown.{Remembers, all_of, opening_of}
 use Rattle.errboard.specs.Steps.{IsRecorded, with_recording}
 use Rattle.errboard.proofs.States.{each_set, unmoved}

@@ -4,7 +4,7 @@ use Rattle.atomic_table.specs.Seated.{TableId}
 use Rattle.errseq.specs.declared.recording.Recording.{Recording}
 use Rattle.errseq.specs.Recorded.{word_of}
 use Rattle.errboard.specs.declared.views.View.{View}
-use Rattle.errboard.specs.declared.views.View.TheVariants.{Spent, Recorder, Sampled, Compares, Pass, Trying, Receipt}
+use Rattle.errboard.specs.declared.views.View.TheVariants.{Recorder, Sampled, Pass, Trying, Receipt}
 use Rattle.errboard.specs.Views.{files, recorded_of, start_of}
 
 -- the board of a recorder, the words that it began with, all recordings by file, and each word as the recorder last wrote it

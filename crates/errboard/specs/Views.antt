@@ -5,7 +5,7 @@ use Rattle.errseq.specs.declared.recording.Recording.{Recording}
 use Rattle.errseq.specs.Word.{code_of, counter_of, sample_of}
 use Rattle.errseq.specs.Samples.{done_at}
 use Rattle.errboard.specs.declared.views.View.{View}
-use Rattle.errboard.specs.declared.views.View.TheVariants.{Spent, Recorder, Sampled, Compares, Pass, Trying, Receipt}
+use Rattle.errboard.specs.declared.views.View.TheVariants.{Spent, Recorder, Sampled, Compares, Pass, Receipt}
 
 -- how many files a board has
 abbrev pub files : ℕ

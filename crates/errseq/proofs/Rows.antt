@@ -1,5 +1,5 @@
 -- What the record of events answers, at some lists of them: each handle is told once, and one that is opened only where nobody was told before.
-use Rattle.std.proofs.Common.{◌≡◌, List, [], ◌∷◌, Option, Some, None, refl}
+use Rattle.std.proofs.Common.{◌≡◌, List, [], ◌∷◌, Some, None, refl}
 use Rattle.errseq.specs.Events.{Event, Record, Look, Open, answer}
 
 abbrev failed : List Event

@@ -1,5 +1,5 @@
 -- The error word, after Linux's errseq_t: bits 0 to 11 are the code, bit 12 is SEEN, and bits 13 to 31 are a counter of 19 bits. All that depends on the counter's width stands in this file.
-use Rattle.std.specs.Prelude.{ℕ, ◌+◌, ◌*◌, ◌/◌, ◌%◌, ◌<◌, ◌≤◌, ◌==◌, Bool, true, false, if◌then◌else◌, Option, Some, None}
+use Rattle.std.specs.Prelude.{ℕ, ◌+◌, ◌*◌, ◌/◌, ◌%◌, ◌<◌, ◌≤◌, ◌==◌, Bool, false, if◌then◌else◌, Option, Some, None}
 use Rattle.pc_types.specs.declared.limits.TheConstants.{MAX_ERR_CODE}
 
 -- how many values the counter has: 2^19

@@ -44,8 +44,8 @@ impl ErrWord {
         (self.0 & CODE) as u16
     }
 
-    /// Records a code. Only a word that was seen gets another counter: where nobody was told of the last recording,
-    /// each handle that is told of this one is told once, and needs no second count. The code is one, as its type says.
+    /// Records a code. The counter rises only where SEEN was set: where nobody was told of the last recording, no sample
+    /// holds its word, and the two need no counts of their own. That the code is one is said of its type.
     pub fn set(&mut self, code: ErrCode)
         ensures word { self.new ≡ word_set self.old code }
         ensures code { IsCode code }

@@ -1,4 +1,4 @@
-use Rattle.std.proofs.Common.{rules, ◌≡◌, subst}
+use Rattle.std.proofs.Common.{rules, subst}
 use Rattle.std.specs.Prelude.{ℕ}
 use Rattle.atomic_table.specs.Table.{Me}
 use Rattle.errboard.specs.declared.views.View.{View}

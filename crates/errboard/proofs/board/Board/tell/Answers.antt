@@ -1,4 +1,4 @@
-use Rattle.std.proofs.Common.{◌≡◌, ap, subst}
+use Rattle.std.proofs.Common.{ap, subst}
 use mathlib.Core.List.{IsPrefix}
 use Rattle.errboard.specs.Shown.{PassSeen, known_of}
 use Rattle.errboard.proofs.Cuts.{informed_grows}

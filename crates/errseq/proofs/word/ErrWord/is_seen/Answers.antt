@@ -1,4 +1,4 @@
-use Rattle.std.proofs.Common.{◌≡◌, ap, ◌∙◌}
+use Rattle.std.proofs.Common.{ap, ◌∙◌}
 use Rattle.errseq.specs.Word.{is_seen}
 use Rattle.errseq.proofs.Bits.{is_seen_and}
 use Rattle.errseq.proofs.word.ErrWord.is_seen.Goals as goal

@@ -1,4 +1,4 @@
-use Rattle.std.proofs.Common.{◌≡◌, ◌<◌, ℕ, ap, ◌∙◌, arith}
+use Rattle.std.proofs.Common.{ℕ, ap, ◌∙◌, arith}
 use Rattle.errseq.specs.Word.{word_set}
 use Rattle.errseq.proofs.Bits.{word_or}
 use Rattle.errseq.proofs.word.ErrWord.set.Goals as goal

@@ -1,4 +1,4 @@
-use Rattle.std.proofs.Common.{◌≡◌, ap, ◌∙◌}
+use Rattle.std.proofs.Common.{ap, ◌∙◌}
 use Rattle.errseq.specs.Word.{with_seen}
 use Rattle.errseq.proofs.Bits.{with_seen_or}
 use Rattle.errseq.proofs.word.ErrWord.with_seen.Goals as goal
