@@ -42,3 +42,5 @@ pub mod FewWrites
 pub mod Awaited
 pub mod Flies
 pub mod GoOn
+pub mod FilesHeld
+pub mod WorkedRuns
