@@ -16,3 +16,12 @@ pub mod Determined
 pub mod Replies
 pub mod Lowest
 pub mod FlushList
+pub mod PairLemmas
+pub mod Overlay
+pub mod ReadLemmas
+pub mod Spans
+pub mod SlotLemmas
+pub mod SpotLemmas
+pub mod WriteLemmas
+pub mod CoreLemmas
+pub mod StepLemmas

@@ -1,0 +1,316 @@
+-- What the tables of a cache keep, and the machine's state after each change of them.
+use Rattle.std.proofs.Common.{◌≡◌, ℕ, ◌+◌, ◌-◌, ◌*◌, ◌/◌, ◌<◌, ◌≤◌, zero, suc, max, Bool, true, false, cond, not, ◌&&◌, eqb, eqb-true, List, [], ◌∷◌, ◌++◌, length, get_or, set, refl, ap, sym, subst, ◌∙◌, arith, length-append, get_or-set_same, get_or-set_other, map}
+use Rattle.std.specs.Prelude.{Option, Some, None, is_some, nat_lt, nat_le, if◌then◌else◌, slice_index_or, slice_set, sum_by, count_by, filter}
+use Rattle.std.specs.List.{range_with_len, list_any}
+use Rattle.std.specs.Ordering.{nat_cmp}
+use Rattle.std.specs.Cmp.{nat_cmp_total}
+use Rattle.std.specs.FinMap as finmap
+use Rattle.std.specs.FinMap.{FinMap, get-empty, len-empty, len-entries, len-insert}
+use Rattle.std.proofs.Math.ListN.{length-set}
+use Rattle.std.proofs.lemmas.Bool.{false≢true}
+use Rattle.std.proofs.lemmas.Bool.Decides.{nat_tests}
+use Rattle.std.proofs.lemmas.List.Sums.{sum_by-set, sum_by_push, sum_by-le-sum_by, count_by-le-length, length-filter}
+use Rattle.pc_types.specs.Limits.{Sizes}
+use Rattle.pc_types.specs.declared.limits.TheConstants.{MAX_FILES, MAX_FILE_SIZE, MAX_FRAMES}
+use Rattle.pc_types.specs.declared.refusal.Refusal.TheVariants.{DirtyLimit, NoFrame, NoSpace}
+use Rattle.cachecore.specs.declared.event.Reply.{Reply}
+use Rattle.cachecore.specs.State.{State, Page, File, Spot, Request, no_file, file_at, page_at, is_cached, is_dirty, is_filling, fills, is_fill, tagged, dirty_in, dirty_total, cached_total, filling_total, free_frames, free_blocks, without_block, touched, touched_count, place_cmp}
+use Rattle.cachecore.specs.Changes.{blank, written, written_pages, placed, put_page}
+use Rattle.cachecore.specs.Tests.{room_tests, refuse}
+use Rattle.cachecore.specs.Pairs.{AreSized}
+use Rattle.cachecore.specs.Tables.{CoreFacts, state_of, spots_of, needing, owns}
+use Rattle.cachecore.proofs.MapLaws.{same_nat_map, get-insert_nat, get-remove_nat}
+use Rattle.cachecore.proofs.SpotLemmas.{IsPlain, no_entries, placed_are, length-needing, without_are, free_count, once_taken}
+use Rattle.cachecore.proofs.WriteLemmas.{WriteParts, parts-file, parts-pages, parts-size, parts_sized, len-written_pages, sized_cover}
+
+pub is_less : (m n : ℕ) → m < n → nat_lt m n ≡ true
+is_less m n h = grind (arith, nat_tests)
+
+pub is_not_less : (m n : ℕ) → n ≤ m → nat_lt m n ≡ false
+is_not_less m n h = grind (arith, nat_tests)
+
+-- which of the tests gave the refusal
+
+pub first_chosen : (x : Bool) (a r : Option Reply) → x ≡ true → cond x a r ≡ a
+first_chosen true a r e = refl
+first_chosen false a r e = absurd (false≢true e)
+
+pub second_chosen : (x y : Bool) (a b r : Option Reply) → x ≡ false → y ≡ true → cond x a (cond y b r) ≡ b
+second_chosen true y a b r e f = absurd (false≢true (sym e))
+second_chosen false y a b r e f = first_chosen y b r f
+
+pub third_chosen : (x y z : Bool) (a b c r : Option Reply) → x ≡ false → y ≡ false → z ≡ true → cond x a (cond y b (cond z c r)) ≡ c
+third_chosen true y z a b c r e f g = absurd (false≢true (sym e))
+third_chosen false y z a b c r e f g = second_chosen y z b c r f g
+
+pub none_chosen : (x y z : Bool) (a b c r : Option Reply) → x ≡ false → y ≡ false → z ≡ false → cond x a (cond y b (cond z c r)) ≡ r
+none_chosen true y z a b c r e f g = absurd (false≢true (sym e))
+none_chosen false true z a b c r e f g = absurd (false≢true (sym f))
+none_chosen false false true a b c r e f g = absurd (false≢true (sym g))
+none_chosen false false false a b c r e f g = refl
+
+-- ---- at the start, and a new file
+
+pub sized_none : (P : ℕ) → AreSized P no_file.pages
+sized_none P = record { each = λ q e. absurd (false≢true (sym (ap is_some (get-empty nat_cmp q)) ∙ e)) }
+
+some_none : (f : ℕ) (o : Option ℕ) → o ≡ None → o ≡ Some f → ⊥
+some_none f o a b = cc
+
+pub CoreFacts-start : (sizes : Sizes) → sizes.frames ≤ MAX_FRAMES → CoreFacts sizes [] finmap.empty [] sizes.frames
+CoreFacts-start sizes h = record {
+  few_files = omega arith;
+  known = λ k f e. absurd (some_none f (finmap.get (finmap.empty {X = ℕ} {R = nat_cmp}) k) (get-empty nat_cmp k) e);
+  bounded = λ f. omega arith;
+  sized = λ f. sized_none sizes.page;
+  framed = h;
+  counted = omega arith;
+  once = tt;
+  fitting = omega arith;
+}
+
+get_or-push : {A : Type 0} (xs : List A) (d : A) (i : ℕ) → get_or (xs ++ d ∷ []) i d ≡ get_or xs i d
+get_or-push [] d zero = refl
+get_or-push [] d (suc i) = refl
+get_or-push (x ∷ xs) d zero = refl
+get_or-push (x ∷ xs) d (suc i) = get_or-push xs d i
+
+module _ (sizes : Sizes) (files : List File) (handles : FinMap nat_cmp ℕ) (owners : List (ℕ × ℕ)) (free : ℕ) (c : CoreFacts sizes files handles owners free) where
+  CoreFacts-create : length files < MAX_FILES → CoreFacts sizes (files ++ no_file ∷ []) handles owners free
+  CoreFacts-create few =
+      let more : length (files ++ no_file ∷ []) ≡ length files + 1 = length-append files (no_file ∷ []) in
+      record {
+        few_files = omega arith;
+        known = λ h f e. let old : f < length files = c.known h f e in omega arith;
+        bounded = λ f. subst (λ (x : File). x.size ≤ MAX_FILE_SIZE) (sym (get_or-push files no_file f)) (c.bounded f);
+        sized = λ f. subst (λ (x : File). AreSized sizes.page x.pages) (sym (get_or-push files no_file f)) (c.sized f);
+        framed = c.framed;
+        counted = omega (arith, sum_by_push (λ (file : File). finmap.len file.pages) files no_file, len-empty nat_cmp Page, c.counted);
+        once = c.once;
+        fitting = c.fitting;
+      }
+
+  pub CoreFacts-push : (ok : Bool) (now : List File) (file : File) → now ≡ cond ok (files ++ file ∷ []) files → file ≡ no_file → length files < MAX_FILES → CoreFacts sizes now handles owners free
+  CoreFacts-push true now file e f few = subst (λ fs. CoreFacts sizes fs handles owners free) (sym (e ∙ ap (λ x. files ++ x ∷ []) f)) (CoreFacts-create few)
+  CoreFacts-push false now file e f few = subst (λ fs. CoreFacts sizes fs handles owners free) (sym e) c
+
+  -- ---- handles
+
+  CoreFacts-handles : (now : FinMap nat_cmp ℕ) → ((h f : ℕ) → finmap.get now h ≡ Some f → f < length files) → CoreFacts sizes files now owners free
+  CoreFacts-handles now known = record {
+    few_files = c.few_files;
+    known = known;
+    bounded = c.bounded;
+    sized = c.sized;
+    framed = c.framed;
+    counted = c.counted;
+    once = c.once;
+    fitting = c.fitting;
+  }
+
+  pub CoreFacts-open : (h f : ℕ) → f < length files → CoreFacts sizes files (finmap.insert handles h f) owners free
+  CoreFacts-open h f here = CoreFacts-handles (finmap.insert handles h f) (λ k g e. one k g (sym (get-insert_nat handles h f k) ∙ e))
+    where
+      one : (k g : ℕ) → cond (eqb k h) (Some f) (finmap.get handles k) ≡ Some g → g < length files
+      one k g e = elim (eqb k h) as (λ b. cond b (Some f) (finmap.get handles k) ≡ Some g → g < length files) [
+        | true ↦ λ s. let same : f ≡ g = cc in omega arith
+        | false ↦ λ s. c.known k g s
+      ] e
+
+  pub CoreFacts-close : (h : ℕ) → CoreFacts sizes files (finmap.remove handles h) owners free
+  CoreFacts-close h = CoreFacts-handles (finmap.remove handles h) (λ k g e. one k g (sym (get-remove_nat handles h k) ∙ e))
+    where
+      one : (k g : ℕ) → cond (eqb k h) None (finmap.get handles k) ≡ Some g → g < length files
+      one k g e = elim (eqb k h) as (λ b. cond b None (finmap.get handles k) ≡ Some g → g < length files) [
+        | true ↦ λ s. absurd cc
+        | false ↦ λ s. c.known k g s
+      ] e
+
+  -- ---- one file
+
+  -- another entry at f, with so many pages more
+  CoreFacts-file : (f : ℕ) (e : File) (taken : List (ℕ × ℕ)) (made : ℕ) → f < length files → AreSized sizes.page e.pages → e.size ≤ MAX_FILE_SIZE → finmap.len e.pages ≡ finmap.len (get_or files f no_file).pages + made → made ≤ free
+      → CoreFacts sizes files handles taken free → CoreFacts sizes (slice_set files f e) handles taken (free - made)
+  CoreFacts-file f e taken made here s small more room d =
+      let same : length (slice_set files f e) ≡ length files = length-set files f e in
+      record {
+        few_files = omega (arith, same, c.few_files);
+        known = λ h g k. let old : g < length files = c.known h g k in omega (arith, same, old);
+        bounded = λ g. elim (eqb g f) as (λ t. eqb g f ≡ t → (get_or (slice_set files f e) g no_file).size ≤ MAX_FILE_SIZE) [
+          | true ↦ λ t. subst (λ (x : File). x.size ≤ MAX_FILE_SIZE) (sym (at g t)) small
+          | false ↦ λ t. subst (λ (x : File). x.size ≤ MAX_FILE_SIZE) (sym (other g t)) (c.bounded g)
+        ] refl;
+        sized = λ g. elim (eqb g f) as (λ t. eqb g f ≡ t → AreSized sizes.page (get_or (slice_set files f e) g no_file).pages) [
+          | true ↦ λ t. subst (λ (x : File). AreSized sizes.page x.pages) (sym (at g t)) s
+          | false ↦ λ t. subst (λ (x : File). AreSized sizes.page x.pages) (sym (other g t)) (c.sized g)
+        ] refl;
+        framed = c.framed;
+        counted = omega (arith, sum_by-set (λ (file : File). finmap.len file.pages) files f e no_file here, c.counted, more, room);
+        once = d.once;
+        fitting = d.fitting;
+      }
+    where
+      at : (g : ℕ) → eqb g f ≡ true → get_or (slice_set files f e) g no_file ≡ e
+      at g t = ap (λ k. get_or (slice_set files f e) k no_file) (eqb-true g f t) ∙ get_or-set_same files f e no_file here
+
+      other : (g : ℕ) → eqb g f ≡ false → get_or (slice_set files f e) g no_file ≡ get_or files g no_file
+      other g t = grind (arith, nat_tests, get_or-set_other {A = File})
+
+  CoreFacts-taken : (f first n : ℕ) → length (needing owners f first n) ≤ sizes.blocks - length owners → CoreFacts sizes files handles (owners ++ needing owners f first n) free
+  CoreFacts-taken f first n room = record {
+    few_files = c.few_files;
+    known = c.known;
+    bounded = c.bounded;
+    sized = c.sized;
+    framed = c.framed;
+    counted = c.counted;
+    once = once_taken owners f first n c.once;
+    fitting = omega (arith, length-append owners (needing owners f first n), c.fitting, room);
+  }
+
+  -- ---- counts
+
+  pub few_dirty : sum_by dirty_in files ≤ MAX_FRAMES
+  few_dirty =
+      let all = sum_by-le-sum_by dirty_in (λ (file : File). finmap.len file.pages) files (λ file. omega (arith, count_by-le-length (λ (e : ℕ × Page). e.1.tags.dirty) (finmap.entries file.pages), len-entries file.pages)) in
+      omega (arith, all, c.counted, c.framed)
+
+  module _ (name : ℕ) where
+    abbrev state : State
+    state = state_of sizes name files handles owners
+
+    plain : IsPlain state owners
+    plain = record { spots = refl; requests = refl; once = c.once }
+
+    none_in_flight : filling_total state ≡ 0
+    none_in_flight = ap (λ (es : List (ℕ × Request)). count_by (λ (r : Request). is_fill r.kind && not r.dropped) (map (λ (e : ℕ × Request). e.1) es)) (no_entries nat_cmp)
+
+    pub free_frames_are : free_frames state ≡ free
+    free_frames_are = omega (arith, none_in_flight, c.counted)
+
+    pub free_blocks_are_left : length (free_blocks state) ≡ sizes.blocks - length owners
+    free_blocks_are_left = free_count state owners plain
+
+    pub without_block_are : (f : ℕ) (pages : List ℕ) → without_block state f pages ≡ filter (λ p. not (owns owners f p)) pages
+    without_block_are f pages = without_are state owners plain f pages
+
+    -- ---- whether there is room, as the code tests it
+
+    module _ (f o n P : ℕ) (entry : File) (over : Bool) (absent need left : ℕ) (page : P ≡ sizes.page) (entry_is : entry ≡ get_or files f no_file)
+        (over_is : over ≡ (nat_lt 0 (count_by (λ p. not (tagged (λ t. t.dirty) (finmap.get entry.pages p))) (range_with_len (o / P) (touched_count P o n))) && nat_lt sizes.dirty_limit (dirty_total state + count_by (λ p. not (tagged (λ t. t.dirty) (finmap.get entry.pages p))) (range_with_len (o / P) (touched_count P o n)))))
+        (absent_is : absent ≡ count_by (λ p. not (is_some (finmap.get entry.pages p))) (range_with_len (o / P) (touched_count P o n)))
+        (left_is : left ≡ sizes.blocks - length owners)
+        (need_is : need ≡ count_by (λ p. not (owns owners f p)) (range_with_len (o / P) (touched_count P o n))) where
+      over_now : over ≡ (nat_lt 0 (count_by (λ p. not (is_dirty state f p)) (touched sizes.page o n)) && nat_lt sizes.dirty_limit (dirty_total state + count_by (λ p. not (is_dirty state f p)) (touched sizes.page o n)))
+      over_now = over_is ∙ (λ i. nat_lt 0 (count_by (λ p. not (tagged (λ t. t.dirty) (finmap.get (entry_is i).pages p))) (range_with_len (o / page i) (touched_count (page i) o n))) && nat_lt sizes.dirty_limit (dirty_total state + count_by (λ p. not (tagged (λ t. t.dirty) (finmap.get (entry_is i).pages p))) (range_with_len (o / page i) (touched_count (page i) o n))))
+
+      absent_now : absent ≡ count_by (λ p. not (is_cached state f p)) (touched sizes.page o n)
+      absent_now = absent_is ∙ (λ i. count_by (λ p. not (is_some (finmap.get (entry_is i).pages p))) (range_with_len (o / page i) (touched_count (page i) o n)))
+
+      need_now : need ≡ length (without_block state f (touched sizes.page o n))
+      need_now = need_is ∙ (λ i. count_by (λ p. not (owns owners f p)) (range_with_len (o / page i) (touched_count (page i) o n))) ∙ sym (length-filter (λ p. not (owns owners f p)) (touched sizes.page o n)) ∙ ap length (sym (without_block_are f (touched sizes.page o n)))
+
+      pub room_is : room_tests state f o n ≡ cond over (refuse DirtyLimit) (cond (nat_lt free absent) (refuse NoFrame) (cond (nat_lt left need) (refuse NoSpace) None))
+      room_is = λ i. cond (sym over_now i) (refuse DirtyLimit) (cond (nat_lt (free_frames_are i) (sym absent_now i)) (refuse NoFrame) (cond (nat_lt ((free_blocks_are_left ∙ sym left_is) i) (sym need_now i)) (refuse NoSpace) None))
+
+    -- ---- a page of zeros
+
+    module _ (f p P : ℕ) (e0 e1 : File) (here : f < length files) (entry : e0 ≡ get_or files f no_file) (page : P ≡ sizes.page) (absent : is_some (finmap.get e0.pages p) ≡ false) (room : 0 < free)
+        (pages : (q : ℕ) → finmap.get e1.pages q ≡ (if nat_le p q && nat_le q p && not (is_some (finmap.get e0.pages q)) then Some (blank P) else finmap.get e0.pages q)) (rest : e1 ≡ record e0 { pages = e1.pages }) where
+      no_page : (o : Option Page) → is_some o ≡ false → o ≡ None
+      no_page None h = refl
+      no_page (Some x) h = absurd (false≢true (sym h))
+
+      made_page : e1.pages ≡ finmap.insert e0.pages p (blank P)
+      made_page = same_nat_map e1.pages (finmap.insert e0.pages p (blank P)) (λ q. pages q ∙ at q ∙ sym (get-insert_nat e0.pages p (blank P) q))
+        where
+          here_too : (q : ℕ) → eqb q p ≡ true → is_some (finmap.get e0.pages q) ≡ false
+          here_too q t = ap (λ k. is_some (finmap.get e0.pages k)) (eqb-true q p t) ∙ absent
+
+          at : (q : ℕ) → (if nat_le p q && nat_le q p && not (is_some (finmap.get e0.pages q)) then Some (blank P) else finmap.get e0.pages q) ≡ cond (eqb q p) (Some (blank P)) (finmap.get e0.pages q)
+          at q = elim (eqb q p) as (λ t. eqb q p ≡ t → (if nat_le p q && nat_le q p && not (is_some (finmap.get e0.pages q)) then Some (blank P) else finmap.get e0.pages q) ≡ cond t (Some (blank P)) (finmap.get e0.pages q)) [
+            | true ↦ λ t. let both : (nat_le p q && nat_le q p) ≡ true = grind (arith, nat_tests) in (λ i. if both i && not (here_too q t i) then Some (blank P) else finmap.get e0.pages q)
+            | false ↦ λ t. let apart : (nat_le p q && nat_le q p) ≡ false = grind (arith, nat_tests) in ap (λ b. if b && not (is_some (finmap.get e0.pages q)) then Some (blank P) else finmap.get e0.pages q) apart
+          ] refl
+
+      one_more : finmap.len e1.pages ≡ finmap.len (get_or files f no_file).pages + 1
+      one_more =
+          ap finmap.len made_page ∙ len-insert nat_cmp_total e0.pages p (blank P) ∙ ap (λ b. cond b (finmap.len e0.pages) (finmap.len e0.pages + 1)) absent ∙ ap (λ (x : File). finmap.len x.pages + 1) entry
+
+      pub blank_state : state_of sizes name (slice_set files f e1) handles owners ≡ put_page state f p (blank sizes.page)
+      blank_state =
+          let is : e1 ≡ record (file_at state f) { pages = finmap.insert (file_at state f).pages p (blank sizes.page) } =
+          rest ∙ ap (λ m. let x : File = record e0 { pages = m } in x) made_page ∙ (λ i. let x : File = record (entry i) { pages = finmap.insert (entry i).pages p (blank (page i)) } in x) in
+          ap (λ e. state_of sizes name (slice_set files f e) handles owners) is
+
+      pub blank_facts : CoreFacts sizes (slice_set files f e1) handles owners (free - 1)
+      blank_facts =
+          let old : AreSized P e0.pages = subst (λ (x : File). AreSized P x.pages) (sym entry) (subst (λ n. AreSized n (get_or files f no_file).pages) (sym page) (c.sized f)) in
+          let sized : AreSized P e1.pages = sized_cover P p p e0.pages e1.pages pages old in
+          let small : e0.size ≤ MAX_FILE_SIZE = subst (λ (x : File). x.size ≤ MAX_FILE_SIZE) (sym entry) (c.bounded f) in
+          CoreFacts-file f e1 owners 1 here (subst (λ n. AreSized n e1.pages) page sized) (omega (arith, small, ap (λ (x : File). x.size) rest)) one_more (omega arith) c
+
+    -- ---- a write
+
+    module _ (f o P : ℕ) (b : List ℕ) (e0 e1 e2 e3 : File) (here : f < length files) (entry : e0 ≡ get_or files f no_file) (page : P ≡ sizes.page) (parts : WriteParts P o b e0 e1 e2 e3) (positive : 0 < P) (some : 0 < length b) (bound : o + length b ≤ MAX_FILE_SIZE) (room : room_tests state f o (length b) ≡ None) where
+      -- what is said of the page size that the code read, of the one that the cache has
+      w : WriteParts sizes.page o b e0 e1 e2 e3
+      w = subst (λ n. WriteParts n o b e0 e1 e2 e3) page parts
+
+      full : 0 < sizes.page
+      full = omega (arith, page, positive)
+
+      abbrev taken : ℕ → List (ℕ × ℕ)
+      taken n = needing owners f (o / n) (touched_count n o (length b))
+
+      abbrev made : ℕ → ℕ
+      made n = count_by (λ p. not (is_some (finmap.get e0.pages p))) (range_with_len (o / n) (touched_count n o (length b)))
+
+      three_none : (x y z : Bool) (a b c : Reply) → cond x (Some a) (cond y (Some b) (cond z (Some c) None)) ≡ None → (y ≡ false) × (z ≡ false)
+      three_none true y z a b c e = absurd cc
+      three_none false true z a b c e = absurd cc
+      three_none false false true a b c e = absurd cc
+      three_none false false false a b c e = (refl, refl)
+
+      not_less : (m n : ℕ) → nat_lt m n ≡ false → n ≤ m
+      not_less m n e = grind (arith, nat_tests)
+
+      passed : (nat_lt (free_frames state) (count_by (λ p. not (is_cached state f p)) (touched sizes.page o (length b))) ≡ false) × (nat_lt (length (free_blocks state)) (length (without_block state f (touched sizes.page o (length b)))) ≡ false)
+      passed = three_none _ _ _ _ _ _ room
+
+      enough : made sizes.page ≤ free
+      enough =
+          let left : count_by (λ p. not (is_cached state f p)) (touched sizes.page o (length b)) ≤ free_frames state = not_less _ _ passed.0 in
+          let same : made sizes.page ≡ count_by (λ p. not (is_cached state f p)) (touched sizes.page o (length b)) = ap (λ (x : File). count_by (λ p. not (is_some (finmap.get x.pages p))) (touched sizes.page o (length b))) entry in
+          omega (arith, left, same, free_frames_are)
+
+      pub frames_left : made P ≤ free
+      frames_left = subst (λ n. made n ≤ free) (sym page) enough
+
+      blocks_left : length (taken sizes.page) ≤ sizes.blocks - length owners
+      blocks_left =
+          let left : length (without_block state f (touched sizes.page o (length b))) ≤ length (free_blocks state) = not_less _ _ passed.1 in
+          omega (arith, left, free_blocks_are_left, ap length (without_block_are f (touched sizes.page o (length b))), length-needing owners f (o / sizes.page) (touched_count sizes.page o (length b)))
+
+      state_now : state_of sizes name (slice_set files f e3) handles (owners ++ taken sizes.page) ≡ written state f o b
+      state_now =
+          let is : e3 ≡ record (file_at state f) { size = max (file_at state f).size (o + length b); pages = written_pages sizes.page o b (file_at state f).pages } =
+          parts-file sizes.page o b e0 e1 e2 e3 w full some ∙ ap (λ (x : File). let y : File = record x { size = max x.size (o + length b); pages = written_pages sizes.page o b x.pages } in y) entry in
+          let spots : spots_of (owners ++ taken sizes.page) ≡ placed state f (touched sizes.page o (length b)) = placed_are state owners f (o / sizes.page) (touched_count sizes.page o (length b)) plain blocks_left in
+          λ i. record { sizes = sizes; name = name; files = slice_set files f (is i); handles = handles; spots = spots i; next = 0; requests = finmap.empty; syncs = finmap.empty }
+
+      facts_now : (now : List (ℕ × ℕ)) → CoreFacts sizes files handles now free → CoreFacts sizes (slice_set files f e3) handles now (free - made sizes.page)
+      facts_now now d =
+          let old : AreSized sizes.page e0.pages = subst (λ (x : File). AreSized sizes.page x.pages) (sym entry) (c.sized f) in
+          let small : e0.size ≤ MAX_FILE_SIZE = subst (λ (x : File). x.size ≤ MAX_FILE_SIZE) (sym entry) (c.bounded f) in
+          let more : finmap.len e3.pages ≡ finmap.len (get_or files f no_file).pages + made sizes.page = ap finmap.len (parts-pages sizes.page o b e0 e1 e2 e3 w full some) ∙ len-written_pages sizes.page o b e0.pages ∙ ap (λ (x : File). finmap.len x.pages + made sizes.page) entry in
+          CoreFacts-file f e3 now (made sizes.page) here (parts_sized sizes.page o b e0 e1 e2 e3 w old) (omega (arith, small, bound, parts-size sizes.page o b e0 e1 e2 e3 w)) more enough d
+
+      -- the owners, after those that were taken were appended or not
+      pub write_state : (ok : Bool) (now : List (ℕ × ℕ)) → now ≡ cond ok (owners ++ taken P) owners → ok ≡ true → state_of sizes name (slice_set files f e3) handles now ≡ written state f o b
+      write_state true now e t = ap (state_of sizes name (slice_set files f e3) handles) (e ∙ ap (λ n. owners ++ taken n) page) ∙ state_now
+      write_state false now e t = absurd (false≢true t)
+
+      pub write_facts : (ok : Bool) (now : List (ℕ × ℕ)) → now ≡ cond ok (owners ++ taken P) owners → CoreFacts sizes (slice_set files f e3) handles now (free - made P)
+      write_facts true now e = subst (λ n. CoreFacts sizes (slice_set files f e3) handles now (free - made n)) (sym page) (facts_now now (subst (λ os. CoreFacts sizes files handles os free) (sym (e ∙ ap (λ n. owners ++ taken n) page)) (CoreFacts-taken f (o / sizes.page) (touched_count sizes.page o (length b)) blocks_left)))
+      write_facts false now e = subst (λ n. CoreFacts sizes (slice_set files f e3) handles now (free - made n)) (sym page) (facts_now now (subst (λ os. CoreFacts sizes files handles os free) (sym e) c))

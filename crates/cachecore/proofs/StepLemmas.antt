@@ -1,0 +1,288 @@
+-- What the calls answer is a step of the machine.
+use Rattle.std.proofs.Common.{◌≡◌, ℕ, ◌+◌, ◌-◌, ◌*◌, ◌/◌, ◌%◌, ◌<◌, ◌≤◌, zero, suc, max, min, Bool, true, false, cond, not, eqb, eqb-true, eq-eqb, ltb, leb, List, [], ◌∷◌, ◌++◌, length, get_or, take, drop, refl, ap, sym, subst, ◌∙◌, arith, length-append, map}
+use Rattle.std.specs.Prelude.{Option, Some, None, is_some, unwrap_or, find, nat_lt, nat_le, slice_index, ◌&&◌, ◌||◌, Result, Ok, Err, IsErrAnd, is_err, OnOk, OnErr}
+use Rattle.std.specs.List.{range_with_len, list_any}
+use Rattle.std.specs.Ordering.{nat_cmp}
+use Rattle.std.specs.FinMap as finmap
+use Rattle.std.specs.FinMap.{FinMap}
+use Rattle.std.proofs.lemmas.Bool.{false≢true}
+use Rattle.std.proofs.lemmas.Bool.Decides.{nat_tests}
+use Rattle.std.proofs.lemmas.Grind.{same_number_lists}
+use Rattle.std.proofs.lemmas.List.{get_or-take, length-take, get_or_append_left}
+use Rattle.std.proofs.lemmas.List.FromFn.{length-map-range_with_len, get_or-map-range_with_len}
+use Rattle.pc_types.specs.declared.ids.HandleId.{HandleId}
+use Rattle.pc_types.specs.declared.ids.PageIndex.{PageIndex}
+use Rattle.pc_types.specs.declared.limits.TheConstants.{MAX_TOUCHED, MAX_FILE_SIZE}
+use Rattle.pc_types.specs.declared.refusal.Refusal.{Refusal}
+use Rattle.pc_types.specs.declared.refusal.Refusal.TheVariants.{TooLong, TooLarge, NoFrame, Memory}
+use Rattle.cachecore.specs.declared.event.Event.TheVariants as event
+use Rattle.cachecore.specs.declared.event.Reply.{Reply}
+use Rattle.cachecore.specs.declared.event.Reply.TheVariants as reply
+use Rattle.cachecore.specs.State.{State, File, Page, Request, Sync, file_at, file_of, is_open, is_cached, is_filling, fills, touched, touched_count, byte_at, bytes_at, page_byte, is_written, spot_at, page_count, free_frames}
+use Rattle.cachecore.specs.Changes.{written, put_page, blank}
+use Rattle.cachecore.specs.Tests.{read_count, read_stop, write_stop, must_fill, covers, stopped, first_of, refuse, room_tests, write_tests, is_full}
+use Rattle.cachecore.specs.Step.{Step, Answers, ReadReply, WriteReply, FillBeginReply}
+use Rattle.cachecore.specs.Pairs.{AreCached, AreRead}
+use Rattle.cachecore.specs.Tables.{spots_of}
+use Rattle.cachecore.proofs.SpotLemmas.{no_entries, unwritten}
+
+-- what `?` makes of an error
+pub err_is : {A E : Type 0} (r : Result A E) (e : E) → IsErrAnd r (λ x. x ≡ e) → r ≡ Err e
+err_is (Ok x) e h = absurd h
+err_is (Err x) e h = ap Err h
+
+pub when_err : {A E : Type 0} (r : Result A E) (P : Type 0) → true ≡ is_err r → OnErr r P → P
+when_err (Ok x) P e h = absurd (false≢true (sym e))
+when_err (Err x) P e h = h
+
+pub when_ok : {A E : Type 0} (r : Result A E) (P : Type 0) → false ≡ is_err r → OnOk r P → P
+when_ok (Ok x) P e h = h
+when_ok (Err x) P e h = absurd (false≢true e)
+
+-- ---- no request and no sync
+
+-- without requests no page is filling
+pub none_filling : (s : State) (f p : ℕ) → s.requests ≡ finmap.empty → is_filling s f p ≡ false
+none_filling s f p e = ap (λ (es : List (ℕ × Request)). list_any (fills f p) (map (λ (e : ℕ × Request). e.1) es)) (ap finmap.entries e ∙ no_entries nat_cmp)
+
+none_busy : (s : State) (h : ℕ) → s.syncs ≡ finmap.empty → list_any (λ (sync : Sync). eqb sync.handle h) (finmap.values s.syncs) ≡ false
+none_busy s h e = ap (λ (es : List (ℕ × Sync)). list_any (λ (sync : Sync). eqb sync.handle h) (map (λ (e : ℕ × Sync). e.1) es)) (ap finmap.entries e ∙ no_entries nat_cmp)
+
+two_false : (a b : Bool) (x y : Option Reply) (r : Reply) (old new : State) (happens : Type 0) → a ≡ false → b ≡ false → happens → Answers (cond a x (cond b y None)) r old new happens
+two_false true b x y r old new happens ea eb h = absurd (false≢true (sym ea))
+two_false false true x y r old new happens ea eb h = absurd (false≢true (sym eb))
+two_false false false x y r old new happens ea eb h = h
+
+pub close_step : (s : State) (h : HandleId) → is_some (finmap.get s.handles h.0) ≡ true → s.syncs ≡ finmap.empty → Step s (event.Close h) reply.Closed (record s { handles = finmap.remove s.handles h.0 })
+close_step s h there none = two_false _ _ _ _ _ s _ _ (ap not there) (none_busy s h.0 none) refl
+
+-- ---- reads
+
+read_chain : (a b t : Bool) (x y z w : Option Reply) (r : Reply) (old new : State) (happens : Type 0) → a ≡ false → b ≡ false → t ≡ false → Answers w r old new happens → Answers (cond a x (cond b y (cond t z w))) r old new happens
+read_chain true b t x y z w r old new happens ea eb et h = absurd (false≢true (sym ea))
+read_chain false true t x y z w r old new happens ea eb et h = absurd (false≢true (sym eb))
+read_chain false false true x y z w r old new happens ea eb et h = absurd (false≢true (sym et))
+read_chain false false false x y z w r old new happens ea eb et h = h
+
+third : (a b t : Bool) (x y w : Option Reply) (z : Reply) (s : State) (happens : Type 0) → a ≡ false → b ≡ false → t ≡ true → Answers (cond a x (cond b y (cond t (Some z) w))) z s s happens
+third true b t x y w z s happens ea eb et = absurd (false≢true (sym ea))
+third false true t x y w z s happens ea eb et = absurd (false≢true (sym eb))
+third false false true x y w z s happens ea eb et = (refl, refl)
+third false false false x y w z s happens ea eb et = absurd (false≢true et)
+
+within : (m k : ℕ) → k ≤ m → nat_lt m k ≡ false
+within m k p = grind (arith, nat_tests)
+
+past : (m k : ℕ) → m < k → nat_lt m k ≡ true
+past m k p = grind (arith, nat_tests)
+
+above_zero : (k : ℕ) → 0 < k → eqb k 0 ≡ false
+above_zero k p = grind (arith, nat_tests)
+
+-- what the code knows of a read that has bytes to read
+pub record ReadFacts (s : State) (h : HandleId) (o n f P count : ℕ) (entry : File) : Type 0 where
+  pub found : Some f ≡ finmap.get s.handles h.0
+  pub page : P ≡ s.sizes.page
+  pub entry_is : entry ≡ file_at s f
+  pub count_is : count ≡ min (entry.size - o) n
+  pub some : 0 < count
+
+module _ (s : State) (h : HandleId) (o n f P count : ℕ) (entry : File) (c : ReadFacts s h o n f P count entry) where
+  file_is : f ≡ file_of s h.0
+  file_is = ap (λ o. unwrap_or o 0) c.found
+
+  entry_of : entry ≡ file_at s (file_of s h.0)
+  entry_of = c.entry_is ∙ ap (file_at s) file_is
+
+  count_of : count ≡ read_count s (file_of s h.0) o n
+  count_of = c.count_is ∙ (let e : min (entry.size - o) n ≡ min n (entry.size - o) = omega arith in e) ∙ ap (λ (e : File). min n (e.size - o)) entry_of
+
+  closed : not (is_open s h.0) ≡ false
+  closed = ap (λ o. not (is_some o)) (sym c.found)
+
+  not_zero : eqb (read_count s (file_of s h.0) o n) 0 ≡ false
+  not_zero = ap (λ k. eqb k 0) (sym count_of) ∙ above_zero count c.some
+
+  long_is : touched_count P o count ≡ touched_count s.sizes.page o (read_count s (file_of s h.0) o n)
+  long_is = λ i. touched_count (c.page i) o (count_of i)
+
+  pub read_too_long : MAX_TOUCHED < touched_count P o count → Step s (event.Read h o n) (reply.Refused TooLong) s
+  read_too_long long = third _ _ _ _ _ _ _ s _ closed not_zero (ap (nat_lt MAX_TOUCHED) (sym long_is) ∙ past MAX_TOUCHED (touched_count P o count) long)
+
+  module _ (short : touched_count P o count ≤ MAX_TOUCHED) where
+    not_long : nat_lt MAX_TOUCHED (touched_count s.sizes.page o (read_count s (file_of s h.0) o n)) ≡ false
+    not_long = ap (nat_lt MAX_TOUCHED) (sym long_is) ∙ within MAX_TOUCHED (touched_count P o count) short
+
+    stop_is : find (λ p. not (is_some (finmap.get entry.pages p))) (range_with_len (o / P) ((o + count - 1) / P + 1 - o / P)) ≡ read_stop s (file_of s h.0) o (read_count s (file_of s h.0) o n)
+    stop_is = λ i. find (λ p. not (is_some (finmap.get (entry_of i).pages p))) (range_with_len (o / c.page i) ((o + count_of i - 1) / c.page i + 1 - o / c.page i))
+
+    pub miss_step : (p : ℕ) → is_filling s (file_of s h.0) p ≡ false → Some p ≡ find (λ q. not (is_some (finmap.get entry.pages q))) (range_with_len (o / P) ((o + count - 1) / P + 1 - o / P)) → Step s (event.Read h o n) (reply.Miss (record { 0 = p })) s
+    miss_step p idle e =
+        read_chain _ _ _ _ _ _ _ _ s s _ closed not_zero not_long
+        (subst (λ (q : Option ℕ). Answers (stopped s (file_of s h.0) q) (reply.Miss (record { 0 = p })) s s (ReadReply s (file_of s h.0) o n (reply.Miss (record { 0 = p })) s)) (e ∙ stop_is)
+        (ap (λ b. cond b (reply.Wait (record { 0 = p })) (reply.Miss (record { 0 = p }))) (sym idle), refl))
+
+    pub bytes_step : (out rest : List ℕ) → None ≡ find (λ q. not (is_some (finmap.get entry.pages q))) (range_with_len (o / P) ((o + count - 1) / P + 1 - o / P)) → length out ≡ count → AreRead P o entry.pages count out → Step s (event.Read h o n) (reply.Bytes (take count (out ++ rest))) s
+    bytes_step out rest e size r =
+        read_chain _ _ _ _ _ _ _ _ s s _ closed not_zero not_long
+        (subst (λ (q : Option ℕ). Answers (stopped s (file_of s h.0) q) (reply.Bytes (take count (out ++ rest))) s s (ReadReply s (file_of s h.0) o n (reply.Bytes (take count (out ++ rest))) s)) (e ∙ stop_is)
+        (same ∙ ap (bytes_at s (file_of s h.0) o) count_of, refl))
+      where
+        bytes_len : length (take count (out ++ rest)) ≡ count
+        bytes_len = omega (arith, length-take count (out ++ rest), length-append out rest)
+
+        byte : (i : ℕ) → i < count → get_or (take count (out ++ rest)) i 0 ≡ get_or (bytes_at s (file_of s h.0) o count) i 0
+        byte i k =
+            get_or-take count (out ++ rest) i 0 k ∙ get_or_append_left out rest 0 i (omega arith) ∙ r.each i k (omega arith)
+            ∙ (λ j. page_byte (finmap.get (entry_of j).pages ((o + i) / c.page j)) ((o + i) % c.page j))
+            ∙ sym (get_or-map-range_with_len (byte_at s (file_of s h.0)) o count i (o + i) 0 k refl)
+
+        same : take count (out ++ rest) ≡ bytes_at s (file_of s h.0) o count
+        same = same_number_lists _ _ (bytes_len ∙ sym (length-map-range_with_len (byte_at s (file_of s h.0)) o count)) (λ i k. byte i (omega (arith, bytes_len)))
+
+some_none : (x : ℕ) → Some x ≡ None → ⊥
+some_none x h = cc
+
+further : (a q : ℕ) → a ≤ q → eqb a q ≡ false → a + 1 ≤ q
+further a q l s = grind (arith, nat_tests)
+
+-- where none is absent, each is cached
+none_absent : (p : ℕ → Bool) (a n : ℕ) → find p (range_with_len a n) ≡ None → (q : ℕ) → a ≤ q → q < a + n → p q ≡ false
+none_absent p a zero e q l h = absurd (omega arith)
+none_absent p a (suc n) e q l h = elim (p a) as (λ b. p a ≡ b → p q ≡ false) [
+  | true ↦ λ t. absurd (some_none a (sym (ap (λ b. cond b (Some a) (find p (range_with_len (a + 1) n))) t) ∙ e))
+  | false ↦ λ t. elim (eqb a q) as (λ b. eqb a q ≡ b → p q ≡ false) [
+    | true ↦ λ s. ap p (sym (eqb-true a q s)) ∙ t
+    | false ↦ λ s. let more = further a q l s in none_absent p (a + 1) n (sym (ap (λ b. cond b (Some a) (find p (range_with_len (a + 1) n))) t) ∙ e) q more (omega arith)
+  ] refl
+] refl
+
+pub all_cached : (first end : ℕ) (pages : FinMap nat_cmp Page) → first ≤ end → None ≡ find (λ q. not (is_some (finmap.get pages q))) (range_with_len first (end - first)) → AreCached first end pages
+all_cached first end pages h e = record { each = λ q l k. cached q (none_absent (λ q. not (is_some (finmap.get pages q))) first (end - first) (sym e) q l (omega arith)) }
+  where
+    cached : (q : ℕ) → not (is_some (finmap.get pages q)) ≡ false → is_some (finmap.get pages q) ≡ true
+    cached q n = go (is_some (finmap.get pages q)) n
+      where
+        go : (b : Bool) → not b ≡ false → b ≡ true
+        go true n = refl
+        go false n = absurd (false≢true (sym n))
+
+-- ---- writes
+
+find_none : (t : ℕ → Bool) (ps : List ℕ) → ((p : ℕ) → t p ≡ false) → find t ps ≡ None
+find_none t [] h = refl
+find_none t (p ∷ ps) h = ap (λ b. cond b (Some p) (find t ps)) (h p) ∙ find_none t ps h
+
+neither : (a b c d : Bool) → a ≡ false → c ≡ false → (a || ((b && c) && d)) ≡ false
+neither true b c d x y = absurd (false≢true (sym x))
+neither false true c d x y = ap (λ t. t && d) y
+neither false false c d x y = refl
+
+-- without requests and written blocks, no page stops a write
+no_stop : (s : State) (owners : List (ℕ × ℕ)) (f o n : ℕ) → s.requests ≡ finmap.empty → s.spots ≡ spots_of owners → write_stop s f o n ≡ None
+no_stop s owners f o n none spots = find_none (λ p. is_filling s f p || (must_fill s f p && not (covers s.sizes.page o n p))) (touched s.sizes.page o n)
+    (λ p. neither (is_filling s f p) (not (is_cached s f p)) (is_written (spot_at s f p)) (not (covers s.sizes.page o n p)) (none_filling s f p none) (ap (λ m. is_written (finmap.get m (f, p))) spots ∙ unwritten owners f p))
+
+fourth : (a b t u : Bool) (x y z w : Option Reply) (v : Reply) (s : State) (happens : Type 0) → a ≡ false → b ≡ false → t ≡ false → u ≡ true → Answers (cond a x (cond b y (cond t z (cond u (Some v) w)))) v s s happens
+fourth true b t u x y z w v s happens ea eb et eu = absurd (false≢true (sym ea))
+fourth false true t u x y z w v s happens ea eb et eu = absurd (false≢true (sym eb))
+fourth false false true u x y z w v s happens ea eb et eu = absurd (false≢true (sym et))
+fourth false false false true x y z w v s happens ea eb et eu = (refl, refl)
+fourth false false false false x y z w v s happens ea eb et eu = absurd (false≢true eu)
+
+write_chain : (a b t u : Bool) (x y z v w : Option Reply) (r : Reply) (old new : State) (happens : Type 0) → a ≡ false → b ≡ false → t ≡ false → u ≡ false → Answers w r old new happens → Answers (cond a x (cond b y (cond t z (cond u v w)))) r old new happens
+write_chain true b t u x y z v w r old new happens ea eb et eu h = absurd (false≢true (sym ea))
+write_chain false true t u x y z v w r old new happens ea eb et eu h = absurd (false≢true (sym eb))
+write_chain false false true u x y z v w r old new happens ea eb et eu h = absurd (false≢true (sym et))
+write_chain false false false true x y z v w r old new happens ea eb et eu h = absurd (false≢true (sym eu))
+write_chain false false false false x y z v w r old new happens ea eb et eu h = h
+
+module _ (s : State) (h : HandleId) (o f : ℕ) (b : List ℕ) (found : Some f ≡ finmap.get s.handles h.0) (some : 0 < length b) where
+  write_open : not (is_open s h.0) ≡ false
+  write_open = ap (λ o. not (is_some o)) (sym found)
+
+  write_file : f ≡ file_of s h.0
+  write_file = ap (λ o. unwrap_or o 0) found
+
+  pub write_too_long : MAX_TOUCHED < touched_count s.sizes.page o (length b) → Step s (event.Write h o b) (reply.Refused TooLong) s
+  write_too_long long = third _ _ _ _ _ _ _ s _ write_open (above_zero (length b) some) (past MAX_TOUCHED (touched_count s.sizes.page o (length b)) long)
+
+  module _ (short : touched_count s.sizes.page o (length b) ≤ MAX_TOUCHED) where
+    pub write_too_large : MAX_FILE_SIZE < o + length b → Step s (event.Write h o b) (reply.Refused TooLarge) s
+    write_too_large large = fourth _ _ _ _ _ _ _ _ _ s _ write_open (above_zero (length b) some) (within MAX_TOUCHED (touched_count s.sizes.page o (length b)) short) (past MAX_FILE_SIZE (o + length b) large)
+
+    module _ (small : o + length b ≤ MAX_FILE_SIZE) (owners : List (ℕ × ℕ)) (none : s.requests ≡ finmap.empty) (spots : s.spots ≡ spots_of owners) where
+      -- what is left to test is whether there is room
+      after_tests : (r : Reply) (new : State) → Answers (room_tests s f o (length b)) r s new (WriteReply s f o b r new) → Step s (event.Write h o b) r new
+      after_tests r new k =
+          write_chain _ _ _ _ _ _ _ _ _ r s new _ write_open (above_zero (length b) some) (within MAX_TOUCHED (touched_count s.sizes.page o (length b)) short) (within MAX_FILE_SIZE (o + length b) small)
+          (subst (λ g. Answers (first_of (stopped s g (write_stop s g o (length b))) (room_tests s g o (length b))) r s new (WriteReply s g o b r new)) write_file
+          (subst (λ q. Answers (first_of (stopped s f q) (room_tests s f o (length b))) r s new (WriteReply s f o b r new)) (sym (no_stop s owners f o (length b) none spots)) k))
+
+      pub write_no_room : (r : Refusal) → refuse r ≡ room_tests s f o (length b) → Step s (event.Write h o b) (reply.Refused r) s
+      write_no_room r e = after_tests (reply.Refused r) s (subst (λ t. Answers t (reply.Refused r) s s (WriteReply s f o b (reply.Refused r) s)) e (refl, refl))
+
+      pub write_no_memory : (new : State) → None ≡ room_tests s f o (length b) → new ≡ s → Step s (event.Write h o b) (reply.Refused Memory) new
+      write_no_memory new e same = after_tests (reply.Refused Memory) new (subst (λ t. Answers t (reply.Refused Memory) s new (WriteReply s f o b (reply.Refused Memory) new)) e same)
+
+      pub write_step : (n end : ℕ) (new : State) → None ≡ room_tests s f o (length b) → n ≡ length b → end ≡ o + length b → new ≡ written s f o b → Step s (event.Write h o b) (reply.Wrote n end) new
+      write_step n end new e count last is = after_tests (reply.Wrote n end) new (subst (λ t. Answers t (reply.Wrote n end) s new (WriteReply s f o b (reply.Wrote n end) new)) e (count, last, is))
+
+-- ---- fills
+
+fill_chain : (a b t u v w : Bool) (x y z p q k : Option Reply) (r : Reply) (old new : State) (happens : Type 0) → a ≡ false → b ≡ false → t ≡ false → u ≡ false → v ≡ false → w ≡ false → happens → Answers (cond a x (cond b y (cond t z (cond u p (cond v q (cond w k None)))))) r old new happens
+fill_chain true b t u v w x y z p q k r old new happens ea eb et eu ev ew h = absurd (false≢true (sym ea))
+fill_chain false true t u v w x y z p q k r old new happens ea eb et eu ev ew h = absurd (false≢true (sym eb))
+fill_chain false false true u v w x y z p q k r old new happens ea eb et eu ev ew h = absurd (false≢true (sym et))
+fill_chain false false false true v w x y z p q k r old new happens ea eb et eu ev ew h = absurd (false≢true (sym eu))
+fill_chain false false false false true w x y z p q k r old new happens ea eb et eu ev ew h = absurd (false≢true (sym ev))
+fill_chain false false false false false true x y z p q k r old new happens ea eb et eu ev ew h = absurd (false≢true (sym ew))
+fill_chain false false false false false false x y z p q k r old new happens ea eb et eu ev ew h = h
+
+fifth : (a b t u v : Bool) (x y z p k : Option Reply) (q : Reply) (s : State) (happens : Type 0) → a ≡ false → b ≡ false → t ≡ false → u ≡ false → v ≡ true → Answers (cond a x (cond b y (cond t z (cond u p (cond v (Some q) k))))) q s s happens
+fifth true b t u v x y z p k q s happens ea eb et eu ev = absurd (false≢true (sym ea))
+fifth false b t u v x y z p k q s happens ea eb et eu ev = fourth b t u v y z p k q s happens eb et eu ev
+
+not_past : (m k : ℕ) → k < m → nat_le m k ≡ false
+not_past m k h = grind (arith, nat_tests)
+
+is_past : (m k : ℕ) → m ≤ k → nat_le m k ≡ true
+is_past m k h = grind (arith, nat_tests)
+
+module _ (s : State) (h : HandleId) (p : PageIndex) (f : ℕ) (found : Some f ≡ finmap.get s.handles h.0) (owners : List (ℕ × ℕ)) (none : s.requests ≡ finmap.empty) (spots : s.spots ≡ spots_of owners) where
+  fill_open : not (is_open s h.0) ≡ false
+  fill_open = ap (λ o. not (is_some o)) (sym found)
+
+  fill_file : f ≡ file_of s h.0
+  fill_file = ap (λ o. unwrap_or o 0) found
+
+  not_written : is_written (spot_at s (file_of s h.0) p.0) ≡ false
+  not_written = ap (λ m. is_written (finmap.get m (file_of s h.0, p.0))) spots ∙ unwritten owners (file_of s h.0) p.0
+
+  module _ (inside : p.0 < page_count s.sizes.page (file_at s f).size) where
+    fill_inside : nat_le (page_count s.sizes.page (file_at s (file_of s h.0)).size) p.0 ≡ false
+    fill_inside = ap (λ g. nat_le (page_count s.sizes.page (file_at s g).size) p.0) (sym fill_file) ∙ not_past _ _ inside
+
+    pub fill_present : is_cached s f p.0 ≡ true → Step s (event.FillBegin h p) reply.Present s
+    fill_present cached = fourth _ _ _ _ _ _ _ _ _ s _ fill_open fill_inside (none_filling s (file_of s h.0) p.0 none) (ap (λ g. is_cached s g p.0) (sym fill_file) ∙ cached)
+
+    module _ (absent : is_cached s f p.0 ≡ false) where
+      fill_absent : is_cached s (file_of s h.0) p.0 ≡ false
+      fill_absent = ap (λ g. is_cached s g p.0) (sym fill_file) ∙ absent
+
+      pub fill_no_frame : free_frames s ≡ 0 → Step s (event.FillBegin h p) (reply.Refused NoFrame) s
+      fill_no_frame full = fifth _ _ _ _ _ _ _ _ _ _ _ s _ fill_open fill_inside (none_filling s (file_of s h.0) p.0 none) fill_absent (ap (λ n. eqb n 0) full)
+
+      module _ (room : 0 < free_frames s) (new : State) where
+        fill_happens : (r : Reply) → FillBeginReply s (file_of s h.0) p.0 r new → Step s (event.FillBegin h p) r new
+        fill_happens r k = fill_chain _ _ _ _ _ _ _ _ _ _ _ _ r s new _ fill_open fill_inside (none_filling s (file_of s h.0) p.0 none) fill_absent (above_zero (free_frames s) room) (ap (λ b. b && is_full s) not_written) k
+
+        pub fill_no_memory : new ≡ s → Step s (event.FillBegin h p) (reply.Refused Memory) new
+        fill_no_memory same = fill_happens (reply.Refused Memory) same
+
+        pub fill_done : new ≡ put_page s f p.0 (blank s.sizes.page) → Step s (event.FillBegin h p) reply.Filled new
+        fill_done is = fill_happens reply.Filled (not_written, is ∙ ap (λ g. put_page s g p.0 (blank s.sizes.page)) fill_file)
+
+-- an append is a write at the end
+pub append_step : (s new : State) (h : HandleId) (end : ℕ) (b : List ℕ) (r : Reply) → end ≡ (file_at s (file_of s h.0)).size → Step s (event.Write h end b) r new → Step s (event.Append h b) r new
+append_step s new h end b r e k = subst (λ o. Answers (write_tests s h.0 o (length b)) r s new (WriteReply s (file_of s h.0) o b r new)) e k

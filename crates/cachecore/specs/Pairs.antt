@@ -1,0 +1,36 @@
+-- Entries in a list, each key once.
+use Rattle.std.specs.Prelude.{◌≡◌, ◌+◌, ◌/◌, ◌%◌, ◌<◌, ◌≤◌, slice_index, true, length, take, drop, ◌++◌, ℕ, List, [], ◌∷◌, Option, None, Some, if◌then◌else◌, nat_le, nat_lt, ◌&&◌, not, is_some}
+use Rattle.std.specs.Ordering.{nat_cmp}
+use Rattle.std.specs.FinMap.{FinMap, find, get}
+use Rattle.cachecore.specs.State.{Page, the_page, page_byte}
+use Rattle.cachecore.specs.Changes.{blank, written_page}
+
+-- no key stands twice
+abbrev pub IsDistinct : {X : Type 0} → List (ℕ × X) → Type 0
+IsDistinct [] = Unit {0}
+IsDistinct (e ∷ es) = (find nat_cmp e.0 es ≡ None) × IsDistinct es
+
+-- one page of zeros for each number from `first` up to `end` that is not among the pages
+pub record AreBlank (page_size first end : ℕ) (pages fresh : List (ℕ × Page)) : Type 0 where
+  pub distinct : IsDistinct fresh
+  pub each : (q : ℕ) → find nat_cmp q fresh ≡ (if nat_le first q && nat_lt q end && not (is_some (find nat_cmp q pages)) then Some (blank page_size) else None)
+
+-- each page from `first` up to `end` is cached
+pub record AreCached (first end : ℕ) (pages : FinMap nat_cmp Page) : Type 0 where
+  pub each : (q : ℕ) → first ≤ q → q < end → is_some (get pages q) ≡ true
+
+-- each cached page has P bytes
+pub record AreSized (P : ℕ) (pages : FinMap nat_cmp Page) : Type 0 where
+  pub each : (q : ℕ) → is_some (get pages q) ≡ true → length (the_page pages q).bytes ≡ P
+
+-- b is written at o into the pages from `first` up to `end`
+pub record IsLaid (P o : ℕ) (b : List ℕ) (first end : ℕ) (old new : FinMap nat_cmp Page) : Type 0 where
+  pub each : (q : ℕ) → get new q ≡ (if nat_le first q && nat_lt q end then Some (written_page P o b q (get old q)) else get old q)
+
+-- the first n places of `out` have the bytes from o on of the cached pages
+pub record AreRead (P o : ℕ) (pages : FinMap nat_cmp Page) (n : ℕ) (out : List ℕ) : Type 0 where
+  pub each : (i : ℕ) → i < n → i < length out → slice_index out i ≡ page_byte (get pages ((o + i) / P)) ((o + i) % P)
+
+-- the page with these bytes put in place from k on, and DIRTY
+abbrev pub with_part : Page → ℕ → List ℕ → Page
+with_part page k b = record { bytes = take k page.bytes ++ b ++ drop (k + length b) page.bytes; tags = record page.tags { dirty = true } }

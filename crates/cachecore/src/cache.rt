@@ -1,0 +1,355 @@
+//! The cache's state and its calls.
+
+ghost use Rattle.std.specs.Prelude.{◌≡◌, ◌≢◌, ◌+◌, ◌-◌, ◌*◌, ◌/◌, ◌^◌, ◌<◌, ◌≤◌, ℕ, [], Option, IfOk, IfSome, IsOkUnless, OnOk, OnErr, length, drop, true, false, is_some, sum_by, None, nat_lt, ◌&&◌};
+ghost use Rattle.std.specs.FinMap as map;
+ghost use Rattle.cachecore.specs.State.{dirty_in, dirty_total, free_frames, is_cached, page_count, touched_count};
+ghost use Rattle.cachecore.specs.Tests.{room_tests};
+ghost use Rattle.cachecore.specs.Changes.{blank, put_page, written};
+ghost use Rattle.cachecore.specs.Step.{Step};
+ghost use Rattle.cachecore.specs.Replies.{created, opened, closed, sized, wrote, was_read, bytes_read, fill_begun, GivesBack, test_of, TagsAre};
+
+use crate::answers::{FillBegun, PageTags, ReadAnswer, Refused, WriteAnswer};
+use crate::blocks::{Owner, count_without_block, without_block};
+use crate::event::Event;
+use crate::file::CachedFile;
+use crate::handles::Handles;
+use blockdev::Buffer;
+use pc_types::limits::{MAX_FILE_SIZE, MAX_FILES, MAX_HANDLES, MAX_PAGE_SIZE, MAX_TOUCHED};
+use pc_types::{FileId, Geometry, HandleId, PageIndex, Refusal};
+use std::alloc::{AllocError, Global};
+use std::marker::Model;
+
+/// The state of a cache.
+#[derive(Drop)]
+pub struct CacheCore {
+    geometry: Geometry,
+    name: u64,
+    files: Vec<CachedFile>,
+    handles: Handles,
+    // the page of each block in use, by the block's number
+    owners: Vec<Owner>,
+    // the frames less the cached pages of all files
+    free_frames: u64,
+    alloc: Global,
+}
+
+impl Model for CacheCore {
+    ghost use Rattle.cachecore.specs.State.{State};
+    ghost use Rattle.cachecore.specs.Codes.{state_code};
+    ghost use Rattle.cachecore.specs.Tables.{state_of, CoreFacts};
+
+    ghost Value = { State };
+
+    ghost coded = { state_code };
+
+    ghost view = { λ a. state_of a.geometry a.name a.files.items a.handles a.owners.items };
+
+    ghost invariant = { λ a. CoreFacts a.geometry a.files.items a.handles a.owners.items a.free_frames };
+}
+
+impl CacheCore {
+    /// A cache without files, refused by `Memory` alone. The name tells its requests and handles from another's, so
+    /// each cache gets another one.
+    pub fn new(alloc: Global, geometry: &Geometry, name: u64) -> Result<CacheCore, Refusal>
+        ensures empty { IfOk result (λ s. s ≡ record { sizes = geometry.now; name = name; files = []; handles = map.empty; spots = map.empty; next = 0; requests = map.empty; syncs = map.empty }) }
+        ensures refused { IsOkUnless result Refusal.Memory }
+    {
+        Ok(CacheCore {
+            geometry: *geometry,
+            name,
+            files: Vec::with_capacity(alloc, MAX_FILES as usize)?,
+            handles: Handles::new(alloc),
+            owners: Vec::new(alloc),
+            free_frames: geometry.frames(),
+            alloc,
+        })
+    }
+
+    /// The sizes that the cache was made with. They stay.
+    pub fn geometry(&self) -> Geometry
+        ensures { result ≡ self.now.sizes }
+    {
+        self.geometry
+    }
+
+    /// A new file, without bytes. It stays as long as the cache.
+    pub fn create(&mut self) -> Result<FileId, Refusal>
+        ensures { Step self.old Event.Create (created result) self.new }
+    {
+        let number = self.files.len() as u64;
+        if number >= MAX_FILES {
+            return Err(Refusal::TooManyFiles);
+        }
+        match self.files.push(CachedFile::new(self.alloc)) {
+            Ok(()) => Ok(FileId(number)),
+            Err(_) => Err(Refusal::Memory),
+        }
+    }
+
+    /// Opens a file, by the lowest free handle.
+    pub fn open(&mut self, file: FileId) -> Result<HandleId, Refusal>
+        ensures { Step self.old (Event.Open file) (opened result) self.new }
+    {
+        if file.0 >= self.files.len() as u64 {
+            return Err(Refusal::NoSuchFile);
+        }
+        if self.handles.count() >= MAX_HANDLES {
+            return Err(Refusal::TooManyHandles);
+        }
+        let handle = self.handles.open(file.0)?;
+        Ok(HandleId(handle))
+    }
+
+    /// Closes a handle. Its number may be given out again.
+    pub fn close(&mut self, handle: HandleId) -> Result<(), Refusal>
+        ensures step { Step self.old (Event.Close handle) (closed result) self.new }
+        ensures no_memory { result ≢ Err Refusal.Memory }
+    {
+        if self.handles.file(handle.0).is_none() {
+            return Err(Refusal::BadHandle);
+        }
+        self.handles.close(handle.0);
+        Ok(())
+    }
+
+    /// Bytes of the handle's file.
+    pub fn size(&self, handle: HandleId) -> Result<u64, Refusal>
+        ensures step { Step self.now (Event.Size handle) (sized result) self.now }
+        ensures no_memory { result ≢ Err Refusal.Memory }
+    {
+        let Some(file) = self.handles.file(handle.0) else {
+            return Err(Refusal::BadHandle);
+        };
+        Ok(self.files[file as usize].size())
+    }
+
+    /// What is known of a page. Any page may be asked for, also past the end of the file. This is no event.
+    pub fn tags(&self, file: FileId, page: PageIndex) -> Result<PageTags, Refusal>
+        ensures { TagsAre self.now file.0 page.0 result }
+    {
+        if file.0 >= self.files.len() as u64 {
+            return Err(Refusal::NoSuchFile);
+        }
+        match self.files[file.0 as usize].page(page.0) {
+            Some(page) => Ok(PageTags::Cached(page.tags())),
+            None => Ok(PageTags::Absent),
+        }
+    }
+
+    /// Reads the bytes from `offset` on into the front of `out`: as many as it takes, and none past the end of the
+    /// file. Where no bytes are read, `out` is as before.
+    pub fn read(
+        &mut self,
+        handle: HandleId,
+        offset: u64,
+        out: &mut [u8],
+    ) -> Result<ReadAnswer, Refusal>
+        ensures step { Step self.old (Event.Read handle offset (length out.old)) (was_read result out.new) self.new }
+        ensures rest { drop (bytes_read result) out.new ≡ drop (bytes_read result) out.old }
+        ensures no_memory { result ≢ Err Refusal.Memory }
+    {
+        let Some(file) = self.handles.file(handle.0) else {
+            return Err(Refusal::BadHandle);
+        };
+        let entry = &self.files[file as usize];
+        let left = entry.size().saturating_sub(offset);
+        let count = left.min(out.len() as u64);
+        if count == 0 {
+            return Ok(ReadAnswer::Bytes(0));
+        }
+        let page_size = self.geometry.page();
+        if touched_count(page_size, offset, count) > MAX_TOUCHED {
+            return Err(Refusal::TooLong);
+        }
+        let first = offset / page_size;
+        let end = (offset + count - 1) / page_size + 1;
+        if let Some(page) = entry.first_absent(first, end) {
+            return Ok(ReadAnswer::Miss(PageIndex(page)));
+        }
+        entry.read(page_size, offset, &mut out[..count as usize]);
+        Ok(ReadAnswer::Bytes(count))
+    }
+
+    /// Writes the bytes into the file from `offset` on. A gap before them reads as zeros.
+    pub fn write(
+        &mut self,
+        handle: HandleId,
+        offset: u64,
+        bytes: &[u8],
+    ) -> Result<WriteAnswer, Refusal>
+        ensures { Step self.old (Event.Write handle offset bytes.now) (wrote result) self.new }
+    {
+        let Some(file) = self.handles.file(handle.0) else {
+            return Err(Refusal::BadHandle);
+        };
+        let count = bytes.len() as u64;
+        if count == 0 {
+            return Ok(WriteAnswer::Wrote {
+                count: 0,
+                end: offset,
+            });
+        }
+        if touched_count(self.geometry.page(), offset, count) > MAX_TOUCHED {
+            return Err(Refusal::TooLong);
+        }
+        let end = offset.saturating_add(count);
+        if end > MAX_FILE_SIZE {
+            return Err(Refusal::TooLarge);
+        }
+        self.check_room(file, offset, count)?;
+        self.write_pages(file, offset, bytes)?;
+        Ok(WriteAnswer::Wrote { count, end })
+    }
+
+    /// Writes the bytes at the end of the file, with nothing between.
+    pub fn append(&mut self, handle: HandleId, bytes: &[u8]) -> Result<WriteAnswer, Refusal>
+        ensures { Step self.old (Event.Append handle bytes.now) (wrote result) self.new }
+    {
+        let Some(file) = self.handles.file(handle.0) else {
+            return Err(Refusal::BadHandle);
+        };
+        let end = self.files[file as usize].size();
+        self.write(handle, end, bytes)
+    }
+
+    /// Begins to fill an absent page. A page whose bytes are not on the device is filled with zeros at once. The buffer is
+    /// for the device's bytes, and has as many as a page.
+    pub fn fill_begin(
+        &mut self,
+        handle: HandleId,
+        page: PageIndex,
+        buffer: Buffer,
+    ) -> Result<FillBegun, Refused>
+        requires { length buffer ≡ self.old.sizes.page }
+        ensures step { Step self.old (Event.FillBegin handle page) (fill_begun result) self.new }
+        ensures back { GivesBack buffer result }
+    {
+        let Some(file) = self.handles.file(handle.0) else {
+            let refusal = Refusal::BadHandle;
+            return Err(Refused { refusal, buffer });
+        };
+        let entry = &self.files[file as usize];
+        if page.0 >= page_count(self.geometry.page(), entry.size()) {
+            return Ok(FillBegun::Gone(buffer));
+        }
+        if entry.is_cached(page.0) {
+            return Ok(FillBegun::Present(buffer));
+        }
+        if self.free_frames == 0 {
+            let refusal = Refusal::NoFrame;
+            return Err(Refused { refusal, buffer });
+        }
+        if self.make_blank(file, page.0).is_err() {
+            let refusal = Refusal::Memory;
+            return Err(Refused { refusal, buffer });
+        }
+        Ok(FillBegun::Filled(buffer))
+    }
+
+    /// Makes an absent page of a file as a page of zeros.
+    fn make_blank(&mut self, file: u64, page: u64) -> Result<(), AllocError>
+        requires here { file < length self.old.files }
+        requires below { page < 2 ^ 63 }
+        requires absent { is_cached self.old file page ≡ false }
+        requires room { 0 < free_frames self.old }
+        ensures ok { OnOk result (self.new ≡ put_page self.old file page (blank self.old.sizes.page)) }
+        ensures err { OnErr result (self.new ≡ self.old) }
+    {
+        let page_size = self.geometry.page();
+        let entry = &mut self.files[file as usize];
+        entry.cover(self.alloc, page_size, page, page)?;
+        self.free_frames -= 1;
+        Ok(())
+    }
+
+    /// Whether the pages that a write touches may become dirty, and there are frames and blocks for those that need one.
+    fn check_room(&self, file: u64, offset: u64, count: u64) -> Result<(), Refusal>
+        requires here { file < length self.now.files }
+        requires some { 0 < count }
+        requires bound { offset + count ≤ MAX_FILE_SIZE }
+        requires few { touched_count self.now.sizes.page offset count ≤ MAX_TOUCHED }
+        ensures { test_of result ≡ room_tests self.now file offset count }
+    {
+        let page_size = self.geometry.page();
+        let first = offset / page_size;
+        let end = (offset + count - 1) / page_size + 1;
+        let entry = &self.files[file as usize];
+        if self.passes_dirty_limit(entry.clean_pages(first, end) as u64) {
+            return Err(Refusal::DirtyLimit);
+        }
+        if self.free_frames < entry.absent_pages(first, end) as u64 {
+            return Err(Refusal::NoFrame);
+        }
+        let free_blocks = self.geometry.blocks() - self.owners.len() as u64;
+        if free_blocks < count_without_block(&self.owners, file, first, end) as u64 {
+            return Err(Refusal::NoSpace);
+        }
+        Ok(())
+    }
+
+    /// Whether too many pages would be dirty with so many more. A write that makes no page dirty goes through although
+    /// the limit is passed, as a truncation or a failed write may pass it.
+    fn passes_dirty_limit(&self, dirtied: u64) -> bool
+        requires { dirtied ≤ MAX_TOUCHED }
+        ensures { result ≡ (nat_lt 0 dirtied && nat_lt self.now.sizes.dirty_limit (dirty_total self.now + dirtied)) }
+    {
+        dirtied > 0 && dirty_pages(&self.files) as u64 + dirtied > self.geometry.dirty_limit()
+    }
+
+    /// Writes the bytes into a file, which may be made longer. The tests have passed. All that may fail is done before
+    /// the first change: a write is done whole or not at all.
+    fn write_pages(&mut self, file: u64, offset: u64, bytes: &[u8]) -> Result<(), AllocError>
+        requires here { file < length self.old.files }
+        requires some { 0 < length bytes.now }
+        requires bound { offset + length bytes.now ≤ MAX_FILE_SIZE }
+        requires few { touched_count self.old.sizes.page offset (length bytes.now) ≤ MAX_TOUCHED }
+        requires room { room_tests self.old file offset (length bytes.now) ≡ None }
+        ensures ok { OnOk result (self.new ≡ written self.old file offset bytes.now) }
+        ensures err { OnErr result (self.new ≡ self.old) }
+    {
+        let page_size = self.geometry.page();
+        let end = offset + bytes.len() as u64;
+        let first_page = offset / page_size;
+        let last_page = (end - 1) / page_size;
+        let mut taken = without_block(self.alloc, &self.owners, file, first_page, last_page + 1)?;
+        self.owners.reserve(taken.len())?;
+        let entry = &mut self.files[file as usize];
+        let made = entry.absent_pages(first_page, last_page + 1);
+        entry.cover(self.alloc, page_size, first_page, last_page)?;
+        entry.write(page_size, offset, bytes);
+        let size = entry.size().max(end);
+        entry.set_size(size);
+        self.free_frames -= made as u64;
+        self.owners.append(&mut taken)
+    }
+}
+
+/// How many pages `count` bytes at `offset` touch. No sum passes 2^64, whatever the offset: it counts from the start of
+/// the first page.
+fn touched_count(page_size: u64, offset: u64, count: u64) -> u64
+    requires positive { 0 < page_size }
+    requires small { page_size ≤ MAX_PAGE_SIZE }
+    requires some { 0 < count }
+    requires fits { count < 2 ^ 63 }
+    ensures { result ≡ touched_count page_size offset count }
+{
+    (offset % page_size + count - 1) / page_size + 1
+}
+
+/// How many pages a file of this size has.
+fn page_count(page_size: u64, size: u64) -> u64
+    requires positive { 0 < page_size }
+    requires small { page_size ≤ MAX_PAGE_SIZE }
+    requires bound { size ≤ MAX_FILE_SIZE }
+    ensures { result ≡ page_count page_size size }
+{
+    (size + (page_size - 1)) / page_size
+}
+
+/// How many pages of all files are dirty.
+fn dirty_pages(files: &[CachedFile]) -> usize
+    requires { sum_by dirty_in files.now < 2 ^ 63 }
+    ensures { result ≡ sum_by dirty_in files.now }
+{
+    files.iter().map(|file| file.dirty_pages()).sum()
+}

@@ -1,0 +1,141 @@
+//! Worked sequences of calls with their answers, in a cache of 16-byte pages, 48 frames, a dirty limit of 16 and 64 blocks.
+
+use crate::{CacheCore, FillBegun, PageTags, ReadAnswer, Refused, WriteAnswer};
+use blockdev::Buffer;
+use pc_types::{FileId, Geometry, HandleId, PageIndex, Refusal, Tag, Tags};
+use std::alloc::Global;
+use std::test::Fail;
+
+const FILE: FileId = FileId(0);
+
+const HANDLE: HandleId = HandleId(0);
+
+/// A cache with one file, which is open.
+fn opened(alloc: Global) -> Result<CacheCore, Refusal> {
+    let mut core = CacheCore::new(alloc, &Geometry::new(16, 48, 16, 64)?, 7)?;
+    core.create()?;
+    core.open(FILE)?;
+    Ok(core)
+}
+
+/// Begins to fill a page with a new buffer.
+fn fill(
+    alloc: Global,
+    core: &mut CacheCore,
+    page: PageIndex,
+) -> Result<Result<FillBegun, Refused>, Refusal> {
+    let buffer = Buffer::new(alloc, &core.geometry())?;
+    Ok(core.fill_begin(HANDLE, page, buffer))
+}
+
+fn wrote(count: u64, end: u64) -> Result<WriteAnswer, Refusal> {
+    Ok(WriteAnswer::Wrote { count, end })
+}
+
+#[test]
+fn an_empty_file_reads_no_bytes_and_an_append_makes_it_longer(rt: HostRuntime) -> Result<(), Fail> {
+    let mut core = opened(rt.alloc())?;
+    let mut out = [9; 10];
+    assert_eq!(rt; core.read(HANDLE, 0, &mut out), Ok(ReadAnswer::Bytes(0)));
+    assert_eq!(rt; out, [9; 10]);
+    assert_eq!(rt; core.size(HANDLE), Ok(0));
+    assert_eq!(rt; core.append(HANDLE, b"\xaa"), wrote(1, 1));
+    assert_eq!(rt; core.size(HANDLE), Ok(1));
+    assert_eq!(rt; core.append(HANDLE, b"\xbb"), wrote(1, 2));
+    assert_eq!(rt; core.read(HANDLE, 0, &mut out), Ok(ReadAnswer::Bytes(2)));
+    assert_eq!(rt; out, [0xaa, 0xbb, 9, 9, 9, 9, 9, 9, 9, 9]);
+    Ok(())
+}
+
+#[test]
+fn a_gap_reads_as_zeros_once_its_page_is_filled(rt: HostRuntime) -> Result<(), Fail> {
+    let mut core = opened(rt.alloc())?;
+    let mut out = [9; 21];
+    assert_eq!(rt; core.write(HANDLE, 20, b"\xff"), wrote(1, 21));
+    assert_eq!(rt;
+        core.read(HANDLE, 0, &mut out),
+        Ok(ReadAnswer::Miss(PageIndex(0)))
+    );
+    assert_eq!(rt; out, [9; 21]);
+    let filled = fill(rt.alloc(), &mut core, PageIndex(0))?;
+    assert!(rt; matches!(filled, Ok(FillBegun::Filled(_))));
+    let present = fill(rt.alloc(), &mut core, PageIndex(0))?;
+    assert!(rt; matches!(present, Ok(FillBegun::Present(_))));
+    let gone = fill(rt.alloc(), &mut core, PageIndex(2))?;
+    assert!(rt; matches!(gone, Ok(FillBegun::Gone(_))));
+    assert_eq!(rt; core.read(HANDLE, 0, &mut out), Ok(ReadAnswer::Bytes(21)));
+    assert_eq!(rt; out, *b"\0\0\0\0\0\0\0\0\0\0\0\0\0\0\0\0\0\0\0\0\xff");
+    assert_eq!(rt; core.size(HANDLE), Ok(21));
+    assert_eq!(rt;
+        core.tags(FILE, PageIndex(0)),
+        Ok(PageTags::Cached(Tags::none()))
+    );
+    assert_eq!(rt; core.tags(FILE, PageIndex(2)), Ok(PageTags::Absent));
+    Ok(())
+}
+
+// 256 bytes from the start of a page touch 16 pages, and from the next byte on 17.
+#[test]
+fn a_write_touches_sixteen_pages_at_most(rt: HostRuntime) -> Result<(), Fail> {
+    let mut core = opened(rt.alloc())?;
+    assert_eq!(rt; core.write(HANDLE, 0, &[0xab; 256]), wrote(256, 256));
+    assert_eq!(rt; core.write(HANDLE, 1, &[0xab; 256]), Err(Refusal::TooLong));
+    assert_eq!(rt;
+        core.write(HANDLE, u64::MAX, &[0xab; 256]),
+        Err(Refusal::TooLong)
+    );
+    assert_eq!(rt;
+        core.write(HANDLE, u64::MAX, &[0xab; 1]),
+        Err(Refusal::TooLarge)
+    );
+    Ok(())
+}
+
+#[test]
+fn a_seventeenth_dirty_page_is_refused(rt: HostRuntime) -> Result<(), Fail> {
+    let mut core = opened(rt.alloc())?;
+    assert_eq!(rt; core.write(HANDLE, 0, &[0xab; 256]), wrote(256, 256));
+    assert_eq!(rt; core.write(HANDLE, 256, b"\xff"), Err(Refusal::DirtyLimit));
+    assert_eq!(rt; core.size(HANDLE), Ok(256));
+    // pages that are dirty already may be written again
+    assert_eq!(rt; core.write(HANDLE, 100, b"\xff"), wrote(1, 101));
+    Ok(())
+}
+
+#[test]
+fn a_file_ends_at_2_to_the_40_at_most(rt: HostRuntime) -> Result<(), Fail> {
+    let mut core = opened(rt.alloc())?;
+    assert_eq!(rt;
+        core.write(HANDLE, 1_099_511_627_775, b"\xff"),
+        wrote(1, 1_099_511_627_776)
+    );
+    assert_eq!(rt;
+        core.write(HANDLE, 1_099_511_627_776, b"\xff"),
+        Err(Refusal::TooLarge)
+    );
+    assert_eq!(rt; core.size(HANDLE), Ok(1_099_511_627_776));
+    let dirty = Tags::none().with(Tag::Dirty);
+    assert_eq!(rt;
+        core.tags(FILE, PageIndex(68_719_476_735)),
+        Ok(PageTags::Cached(dirty))
+    );
+    Ok(())
+}
+
+#[test]
+fn a_closed_number_is_given_out_again(rt: HostRuntime) -> Result<(), Fail> {
+    let mut core = opened(rt.alloc())?;
+    assert_eq!(rt; core.open(FILE), Ok(HandleId(1)));
+    assert_eq!(rt; core.close(HANDLE), Ok(()));
+    assert_eq!(rt; core.size(HANDLE), Err(Refusal::BadHandle));
+    assert_eq!(rt; core.close(HANDLE), Err(Refusal::BadHandle));
+    assert_eq!(rt; core.open(FILE), Ok(HANDLE));
+    assert_eq!(rt; core.open(FileId(1)), Err(Refusal::NoSuchFile));
+    assert_eq!(rt; core.create(), Ok(FileId(1)));
+    assert_eq!(rt; core.open(FileId(1)), Ok(HandleId(2)));
+    assert_eq!(rt;
+        core.tags(FileId(2), PageIndex(0)),
+        Err(Refusal::NoSuchFile)
+    );
+    Ok(())
+}
