@@ -1,11 +1,11 @@
 -- Lemmas on the mark that every entry has: it stays exact where an entry's slots and then its bit are written.
-use Rattle.std.proofs.Common.{◌≡◌, ◌≢◌, ℕ, ◌+◌, ◌-◌, ◌/◌, ◌%◌, ◌^◌, ◌<◌, ◌≤◌, ◌⊎◌, Option, Some, None, refl, sym, ap, ◌∙◌, inl, inr, arith}
+use Rattle.std.proofs.Common.{◌≡◌, ℕ, ◌+◌, ◌-◌, ◌/◌, ◌%◌, ◌^◌, ◌<◌, ◌≤◌, ◌⊎◌, Option, Some, None, refl, sym, ap, ◌∙◌, inl, inr, arith}
 use Rattle.std.proofs.lemmas.Bool.{cases_eq, cases_lt}
 use Rattle.slab.specs.Slab.{Slab}
 use Rattle.radix.specs.declared.node.Node.{Node}
 use Rattle.radix.specs.declared.entry.Entry.{Entry}
 use Rattle.radix.specs.declared.entry.Entry.TheVariants as entry
-use Rattle.radix.specs.Entries.{entry_at, mark_at, IsElsewhere, IsLeaf, IsEntry, IsFree, IsRun, IsNext, HasNoNext, IsNextEntry, HasNoNextEntry, HasNoMark, PutsEntry, PutsRun, ClearsRun}
+use Rattle.radix.specs.Entries.{entry_at, mark_at, IsElsewhere, IsLeaf, IsEntry, IsRun, IsNext, HasNoNext, IsNextEntry, HasNoNextEntry, HasNoMark, PutsEntry, PutsRun, ClearsRun}
 use Rattle.radix.specs.Tree.{TellsEntries, leaf_bit, IsUnmarked, WritesSlot, WritesBit, WritesRun, ErasesRun, SameSlots}
 
 -- a slot is this one or another

@@ -12,7 +12,7 @@ use Rattle.radix.specs.Tree.{IsPlain, IsTree, HasCome, level_of}
 use Rattle.radix.proofs.Places.{place-up, place-levels}
 use Rattle.radix.proofs.TreeLemmas.{Found, node_at-found, node_at-none, same_node, level_below, no_node, under_head}
 use Rattle.radix.proofs.SeeLemmas.{see-is}
-use Rattle.radix.proofs.WalkLemmas.{on_path, step, lower}
+use Rattle.radix.proofs.WalkLemmas.{on_path, step}
 
 module _ (s : Slab Node) (head : ℕ) (tree : IsTree s head) (index : ℕ) where
   module _ (key : ℕ) (n : Node) (here : get s key ≡ Some n) (path : n.prefix ≡ index / 64 ^ n.level / 64) where

@@ -1,5 +1,5 @@
 -- Lemmas on a node that is given back.
-use Rattle.std.proofs.Common.{◌≡◌, ◌≢◌, ℕ, zero, suc, ◌+◌, ◌-◌, ◌/◌, ◌%◌, ◌^◌, ◌<◌, ◌≤◌, ◌⊎◌, min, true, cond, get_or, Option, Some, None, refl, sym, ap, ◌∙◌, inl, inr, arith, length-set, lit<}
+use Rattle.std.proofs.Common.{◌≡◌, ◌≢◌, ℕ, zero, suc, ◌+◌, ◌-◌, ◌/◌, ◌%◌, ◌<◌, ◌≤◌, ◌⊎◌, min, true, cond, get_or, Option, Some, None, refl, sym, ap, ◌∙◌, inl, inr, arith, length-set, lit<}
 use Rattle.std.specs.Int.{bit_at}
 use Rattle.std.proofs.lemmas.Nat.Bits.{bit_at-zero, same_from_bits_below}
 use Rattle.std.proofs.lemmas.Bool.{cases_eq, cases_lt}
@@ -18,7 +18,7 @@ use Rattle.radix.proofs.SeeLemmas.{see-same, see-is}
 use Rattle.radix.proofs.GrowthLemmas.{slot-same, slot-other, count_by-set, IsLink-at}
 use Rattle.radix.proofs.DescentLemmas.{used_counts, filled_but, SameSlots-trans}
 use Rattle.radix.proofs.WriteLemmas.{put_tree, put_exact, put_filled, put_entries}
-use Rattle.radix.proofs.PutLemmas.{WritesSlot-at, WritesSlot-then}
+use Rattle.radix.proofs.PutLemmas.{WritesSlot-at}
 
 -- ---- a node with no entry
 

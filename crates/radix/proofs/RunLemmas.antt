@@ -5,7 +5,6 @@ use Rattle.slab.specs.Slab.{Slab, get}
 use Rattle.std.proofs.lemmas.Option.{same_Some}
 use Rattle.radix.proofs.SeeLemmas.{see-is}
 use Rattle.radix.specs.declared.node.Node.{Node}
-use Rattle.radix.specs.declared.slot.Slot.TheVariants.{Sibling, Empty}
 use Rattle.radix.specs.declared.entry.Entry.TheVariants as entry
 use Rattle.radix.specs.Entries.{IsRun, PutsRun, StandsAt, slot, content, IsFree, entry_at, mark_at}
 use Rattle.radix.specs.Tree.{SameSlots, IsTree, WritesSlot, WritesRun}

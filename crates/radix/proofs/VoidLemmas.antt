@@ -5,7 +5,6 @@ use Rattle.slab.specs.Slab.{Slab, get, slab_len}
 use Rattle.std.proofs.lemmas.List.Sums.{sum_by-cons}
 use Rattle.radix.proofs.PutLemmas.{entry_under}
 use Rattle.radix.specs.declared.node.Node.{Node}
-use Rattle.radix.specs.declared.slot.Slot.TheVariants.{Empty}
 use Rattle.radix.specs.Entries.{slot, content, see, entry_at, mark_at, IsVoid, HasNoNext, HasNoEntry, HasNoNextEntry, IsBare, StandsAt, IsLeaf, IsEntry}
 use Rattle.radix.specs.Tree.{IsSound, IsSoundOrVoid, IsWhole, TellsEntries}
 use Rattle.radix.proofs.TreeLemmas.{node_at-none}

@@ -2,10 +2,10 @@
 --
 -- Each node carries its own place: its level, and its prefix, which is its index among the nodes of that level.
 -- So each fact below speaks of one node, or of one node and its child, and no fact is a recursion.
-use Rattle.std.specs.Prelude.{◌≡◌, ◌≢◌, ℕ, ◌+◌, ◌*◌, ◌/◌, ◌%◌, ◌^◌, ◌<◌, ◌≤◌, ◌==◌, ◌&&◌, min, Bool, true, false, List, [], ◌∷◌, length, Option, Some, None, slice_index_or, slice_set, count_by, cond, ◌⊎◌}
+use Rattle.std.specs.Prelude.{◌≡◌, ◌≢◌, ℕ, ◌+◌, ◌*◌, ◌/◌, ◌%◌, ◌^◌, ◌<◌, ◌≤◌, min, Bool, true, false, [], ◌∷◌, length, Option, Some, None, slice_set, count_by, ◌⊎◌}
 use Rattle.std.proofs.Math.ListN.{replicate}
 use Rattle.std.specs.Int.{bit_at}
-use Rattle.slab.specs.Slab.{Slab, get, HasRoomFor}
+use Rattle.slab.specs.Slab.{Slab, get}
 use Rattle.radix.specs.declared.node.Node.{Node}
 use Rattle.radix.specs.declared.slot.Slot.{Slot}
 use Rattle.radix.specs.declared.slot.Slot.TheVariants.{Empty, Leaf, Child, Sibling}

@@ -1,9 +1,7 @@
 -- A word is got back from what it stands for.
-use Rattle.std.specs.Prelude.{◌≡◌, ℕ, Bool, true, false, cond, ◌==◌, ◌%◌, ◌/◌, ◌-◌, Option, Some, None}
-use Rattle.std.proofs.Common.{arith, refl}
+use Rattle.std.specs.Prelude.{◌≡◌, ℕ}
+use Rattle.std.proofs.Common.{arith}
 use Rattle.radix.specs.Words.{slot_of_word, word_of_slot, link_of_word, word_of_link}
-use Rattle.radix.specs.declared.slot.Slot.{Slot}
-use Rattle.radix.specs.declared.slot.Slot.TheVariants.{Empty, Leaf, Child, Sibling}
 
 pub word_again : (w : ℕ) → word_of_slot (slot_of_word w) ≡ w
 word_again w = grind (arith)

@@ -1,5 +1,4 @@
-use Rattle.std.proofs.Common.{◌/◌, ◌^◌, ◌+◌, ◌≡◌, ℕ, ◌<◌, None, refl, arith, ◌∙◌}
-use Rattle.radix.specs.Entries.{entry_at}
+use Rattle.std.proofs.Common.{◌/◌, ◌^◌, ◌+◌, refl, arith, ◌∙◌}
 use Rattle.radix.proofs.RunLemmas.{free_after}
 use Rattle.radix.proofs.EntryBitLemmas.{tells_same, run_tells}
 use Rattle.radix.proofs.growth.put_run.Goals as goal

@@ -1,4 +1,4 @@
-use Rattle.std.proofs.Common.{◌/◌, ◌^◌, ◌<◌, ◌≢◌, inl, inr, arith}
+use Rattle.std.proofs.Common.{◌/◌, ◌^◌, inl, inr, arith}
 use Rattle.std.proofs.lemmas.Bool.{MatchBool-at_false}
 use Rattle.radix.specs.Entries.{HasNoMarkedUnder}
 use Rattle.radix.proofs.UnderLemmas.{past_under, over_none, over_tells}

@@ -1,4 +1,4 @@
-use Rattle.std.proofs.Common.{◌≡◌, ◌+◌, ◌%◌, ◌/◌, Some, sym, ap, ◌∙◌, inl, inr, arith}
+use Rattle.std.proofs.Common.{◌≡◌, ◌+◌, ◌%◌, Some, ◌∙◌, inl, inr, arith}
 use Rattle.std.proofs.lemmas.Bool.{cases_eq}
 use Rattle.radix.proofs.EntryBitLemmas.{erases_none, erases_more, still, still_entry}
 use Rattle.radix.proofs.RemovalLemmas.{sibling_unmarked, unmarked_at, stands_beside}

@@ -1,7 +1,6 @@
-use Rattle.std.proofs.Common.{◌≡◌, ◌<◌, Some, None, sym, ap, ◌∙◌, arith}
+use Rattle.std.proofs.Common.{◌≡◌, Some, None, sym, ap, ◌∙◌, arith}
 use Rattle.std.proofs.lemmas.Bool.{MatchBool-at_false}
 use Rattle.radix.specs.Entries.{content, slot}
-use Rattle.radix.specs.declared.slot.Slot.TheVariants.{Child}
 use Rattle.radix.proofs.FindLemmas.{past_none, find_step, find_none, find_some, find_stands, counted_low, counted_inner, counted_step}
 use Rattle.radix.proofs.tree.find.Goals as goal
 

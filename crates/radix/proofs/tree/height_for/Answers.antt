@@ -1,4 +1,4 @@
-use Rattle.std.proofs.Common.{◌≡◌, ◌≢◌, ℕ, ◌/◌, ◌^◌, ◌<◌, sym, ap, ◌∙◌, inl, inr, arith, w64, w32, lit<}
+use Rattle.std.proofs.Common.{◌≢◌, ◌/◌, ◌^◌, ◌<◌, sym, ap, ◌∙◌, inl, inr, arith, w64, w32}
 use Rattle.std.proofs.Math.Facts.{Fits-lt-pow, Fits-of_lt}
 use Rattle.std.proofs.lemmas.Bool.{cases_eq}
 use Rattle.radix.proofs.HeadLemmas.{not_highest}

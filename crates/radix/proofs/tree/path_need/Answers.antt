@@ -1,4 +1,4 @@
-use Rattle.std.proofs.Common.{◌≤◌, None, arith}
+use Rattle.std.proofs.Common.{None, arith}
 use Rattle.radix.specs.Tree.{IsSound}
 use Rattle.radix.proofs.RoomLemmas.{head_need}
 use Rattle.radix.proofs.tree.path_need.Goals as goal

@@ -1,4 +1,4 @@
-use Rattle.std.proofs.Common.{◌≡◌, false, true, arith, ap, ◌∙◌}
+use Rattle.std.proofs.Common.{◌≡◌, false, true, arith}
 use Rattle.radix.proofs.VoidLemmas.{whole_at}
 use Rattle.radix.proofs.RoomLemmas.{roomy_need, room_enough, keys_at}
 use Rattle.radix.proofs.nodes.Nodes.reserve_path.Goals as goal
