@@ -217,10 +217,6 @@ module _ (sizes : Sizes) (files : List File) (handles : FinMap nat_cmp ℕ) (own
 
     module _ (f p P : ℕ) (e0 e1 : File) (here : f < length files) (entry : e0 ≡ get_or files f no_file) (page : P ≡ sizes.page) (absent : is_some (finmap.get e0.pages p) ≡ false) (room : 0 < free)
         (pages : (q : ℕ) → finmap.get e1.pages q ≡ (if nat_le p q && nat_le q p && not (is_some (finmap.get e0.pages q)) then Some (blank P) else finmap.get e0.pages q)) (rest : e1 ≡ record e0 { pages = e1.pages }) where
-      no_page : (o : Option Page) → is_some o ≡ false → o ≡ None
-      no_page None h = refl
-      no_page (Some x) h = absurd (false≢true (sym h))
-
       made_page : e1.pages ≡ finmap.insert e0.pages p (blank P)
       made_page = same_nat_map e1.pages (finmap.insert e0.pages p (blank P)) (λ q. pages q ∙ at q ∙ sym (get-insert_nat e0.pages p (blank P) q))
         where

@@ -140,9 +140,6 @@ module _ {X : Type 0} where
 
   -- ---- changes
 
-  pub from_entries-push : (es : List (ℕ × X)) (q : ℕ) (v : X) → lookup q es ≡ None → from_entries {R = nat_cmp} (es ++ (q, v) ∷ []) ≡ finmap.insert (from_entries es) q v
-  from_entries-push es q v n = from_entries_push nat_cmp_total nat_cmp-IsAntisymmetric es q v (find-lookup q es ∙ n)
-
   pub from_entries-set : (es : List (ℕ × X)) (q i : ℕ) (v : X) → position (λ e. eqb e.0 q) es ≡ Some i → from_entries {R = nat_cmp} (set es i (q, v)) ≡ finmap.insert (from_entries es) q v
   from_entries-set es q i v e =
       let is = position-Some (λ (x : ℕ × X). eqb x.0 q) es i (q, v) e in
@@ -257,14 +254,6 @@ on_ok (Ok x) P h = h refl
 on_ok (Err e) P h = tt
 
 -- ---- a write, page by page
-
-pub IsLaid-start : (P o : ℕ) (b : List ℕ) (first : ℕ) (pages : FinMap nat_cmp Page) → IsLaid P o b first first pages pages
-IsLaid-start P o b first pages = record { each = λ q. grind (arith, nat_tests) }
-
--- what a page is, where it is cached
-the_page-Some : (o : Option Page) (d : Page) → is_some o ≡ true → o ≡ Some (unwrap_or o d)
-the_page-Some None d h = absurd (false≢true h)
-the_page-Some (Some x) d h = refl
 
 not_yet : (first p : ℕ) (w x : Option Page) → (if nat_le first p && nat_lt p p then w else x) ≡ x
 not_yet first p w x = grind (arith, nat_tests)

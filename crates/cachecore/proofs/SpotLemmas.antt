@@ -205,9 +205,6 @@ needing-skip owners taken f first p b h is some e =
 
 -- ---- each page once
 
-fst : ℕ × ℕ → ℕ
-fst o = o.0
-
 -- what passed the test, and is among the owners
 owns-filter : (t : ℕ × ℕ → Bool) (f p : ℕ) (xs : List (ℕ × ℕ)) → t (f, p) ≡ false → owns (filter t xs) f p ≡ false
 owns-filter t f p [] h = refl

@@ -204,13 +204,7 @@ module _ (s : State) (h : HandleId) (o f : ℕ) (b : List ℕ) (found : Some f �
   write_file : f ≡ file_of s h.0
   write_file = ap (λ o. unwrap_or o 0) found
 
-  pub write_too_long : MAX_TOUCHED < touched_count s.sizes.page o (length b) → Step s (event.Write h o b) (reply.Refused TooLong) s
-  write_too_long long = third _ _ _ _ _ _ _ s _ write_open (above_zero (length b) some) (past MAX_TOUCHED (touched_count s.sizes.page o (length b)) long)
-
   module _ (short : touched_count s.sizes.page o (length b) ≤ MAX_TOUCHED) where
-    pub write_too_large : MAX_FILE_SIZE < o + length b → Step s (event.Write h o b) (reply.Refused TooLarge) s
-    write_too_large large = fourth _ _ _ _ _ _ _ _ _ s _ write_open (above_zero (length b) some) (within MAX_TOUCHED (touched_count s.sizes.page o (length b)) short) (past MAX_FILE_SIZE (o + length b) large)
-
     module _ (small : o + length b ≤ MAX_FILE_SIZE) (owners : List (ℕ × ℕ)) (none : s.requests ≡ finmap.empty) (spots : s.spots ≡ spots_of owners) where
       -- what is left to test is whether there is room
       after_tests : (r : Reply) (new : State) → Answers (room_tests s f o (length b)) r s new (WriteReply s f o b r new) → Step s (event.Write h o b) r new
@@ -245,9 +239,6 @@ fifth false b t u v x y z p k q s happens ea eb et eu ev = fourth b t u v y z p 
 
 not_past : (m k : ℕ) → k < m → nat_le m k ≡ false
 not_past m k h = grind (arith, nat_tests)
-
-is_past : (m k : ℕ) → m ≤ k → nat_le m k ≡ true
-is_past m k h = grind (arith, nat_tests)
 
 module _ (s : State) (h : HandleId) (p : PageIndex) (f : ℕ) (found : Some f ≡ finmap.get s.handles h.0) (owners : List (ℕ × ℕ)) (none : s.requests ≡ finmap.empty) (spots : s.spots ≡ spots_of owners) where
   fill_open : not (is_open s h.0) ≡ false

@@ -73,13 +73,6 @@ impl CachedFile {
         self.page(p).is_some()
     }
 
-    /// Makes room for `n` more pages.
-    pub fn reserve(&mut self, n: usize) -> Result<(), AllocError>
-        ensures { self.new ≡ self.old }
-    {
-        self.pages.reserve(n)
-    }
-
     /// Makes the absent pages from `first` to `last` as pages of zeros.
     pub fn cover(
         &mut self,
@@ -199,12 +192,6 @@ impl CachedFile {
         ensures { result ≡ dirty_in self.now }
     {
         count_dirty(&self.pages)
-    }
-
-    pub fn page_count(&self) -> usize
-        ensures { result ≡ map.len self.now.pages }
-    {
-        self.pages.len()
     }
 }
 
