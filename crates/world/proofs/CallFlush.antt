@@ -1,24 +1,17 @@
 -- A write of a block takes effect, and goes well or fails.
 use Rattle.std.proofs.Common.{◌≡◌, ℕ, ◌<◌, ◌≢◌, Bool, true, false, cond, [], length, refl, ap, sym, ◌∙◌, arith, inl, inr}
-use Rattle.std.specs.Prelude.{◌⊎◌, Option, Some, None, is_some}
+use Rattle.std.specs.Prelude.{◌⊎◌, Option, Some, None}
 use Rattle.pc_types.specs.Files.{cut}
 use Rattle.cachecore.specs.State.{Spot, Request}
 use Rattle.world.proofs.View.{View, Good, PageIs, RequestIs, HasFlush, Evolves, WasFlushed, no_gone, put1, put1_tells, put1_here, put1_else, block_user, writeback, held_by, held}
 use Rattle.cachecore.specs.declared.event.Kind.TheVariants.{Flush}
 use Rattle.cachecore.specs.declared.event.Outcome.{Outcome}
+use Rattle.world.proofs.View.{still_flying}
+use Rattle.world.proofs.CallNoted.{noted_outcomes, same_request}
 
 module _ (v : View) (ok : Good v) (t : ℕ) (r : Request) (is : v.request t ≡ Some r) (kind : r.kind ≡ Flush) (o : Outcome) where
   abbrev pub after : View
   after = record v { outcome = put1 v.outcome t (Some o); block = put1 v.block r.block r.bytes }
-
-  outcomes : (u : ℕ) → is_some (after.outcome u) ≡ true → is_some (after.request u) ≡ true
-  outcomes u e = elim (put1_tells v.outcome t (Some o) u) [
-    | inl h ↦ ap is_some ((λ i. v.request (h.0 i)) ∙ is)
-    | inr h ↦ ok.outcomes u (sym (ap is_some h.1) ∙ e)
-  ]
-
-  same_request : (u : ℕ) (s : Request) → u ≡ t → v.request u ≡ Some s → s ≡ r
-  same_request u s e k = let a : v.request u ≡ Some r = (λ i. v.request (e i)) ∙ is in cc
 
   same_block : (b : ℕ) → b ≢ r.block → after.block b ≡ v.block b
   same_block b n = put1_else v.block r.block r.bytes b n
@@ -51,7 +44,7 @@ module _ (v : View) (ok : Good v) (t : ℕ) (r : Request) (is : v.request t ≡ 
       mapped = h.mapped;
       absent = h.absent;
       noted = λ bytes k. elim (put1_tells v.outcome t (Some o) u) [
-        | inl w ↦ absurd (let same = same_request u s w.0 e in let b = ap (λ (x : Request). x.kind) same in cc)
+        | inl w ↦ absurd (let same = same_request v t r is u s w.0 e in let b = ap (λ (x : Request). x.kind) same in cc)
         | inr w ↦ h.noted bytes (sym w.1 ∙ k)
       ];
     };
@@ -60,7 +53,7 @@ module _ (v : View) (ok : Good v) (t : ℕ) (r : Request) (is : v.request t ≡ 
       writeback = h.writeback;
       clean = h.clean;
       noted = λ bytes k. elim (put1_tells v.outcome t (Some o) u) [
-        | inl w ↦ let same = same_request u s w.0 e in (λ i. after.block ((same i).block)) ∙ put1_here v.block r.block r.bytes ∙ sym (ap (λ (x : Request). x.bytes) same)
+        | inl w ↦ let same = same_request v t r is u s w.0 e in (λ i. after.block ((same i).block)) ∙ put1_here v.block r.block r.bytes ∙ sym (ap (λ (x : Request). x.bytes) same)
         | inr w ↦ same_block s.block (λ b. w.0 (ok.requests_apart u t s r e is b)) ∙ h.noted bytes (sym w.1 ∙ k)
       ];
     };
@@ -74,7 +67,7 @@ module _ (v : View) (ok : Good v) (t : ℕ) (r : Request) (is : v.request t ≡ 
   ]
 
   flushes : (g q : ℕ) → writeback (after.page g q) ≡ true → HasFlush after g q
-  flushes g q e = let j = ok.flushes g q e in record { serial = j.serial; request = j.request; is = j.is; kind = j.kind; live = j.live; file = j.file; page = j.page }
+  flushes g q e = let j = ok.flushes g q e in still_flying v after g q j refl
 
   pub call_flush_kept : Good after
   call_flush_kept = record {
@@ -87,7 +80,7 @@ module _ (v : View) (ok : Good v) (t : ℕ) (r : Request) (is : v.request t ≡ 
     requests = requests;
     requests_apart = ok.requests_apart;
     flushes = flushes;
-    outcomes = outcomes;
+    outcomes = noted_outcomes v ok t r is o;
     block_sizes = block_sizes;
   }
 

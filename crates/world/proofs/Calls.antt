@@ -11,13 +11,13 @@ use Rattle.world.proofs.View.{Good, Evolves, no_gone, put1}
 use Rattle.world.proofs.Coupled.{view, Coupled, After}
 use Rattle.world.proofs.Lookups.{get-insert1}
 use Rattle.cachecore.proofs.StateLaws.{get_or-set}
-use Rattle.world.proofs.CallFill.{call_fill_kept, call_fill_evolves}
-use Rattle.world.proofs.CallFault.{call_fault_kept, call_fault_evolves}
+use Rattle.world.proofs.CallNoted.{call_noted_kept, call_noted_evolves}
 use Rattle.world.proofs.CallFlush.{call_flush_kept, call_flush_evolves}
 use Rattle.cachecore.specs.declared.event.Kind.{Kind}
 use Rattle.cachecore.specs.declared.event.Kind.TheVariants.{Fill, Flush}
 use Rattle.cachecore.specs.declared.event.Outcome.{Outcome}
 use Rattle.cachecore.specs.declared.event.Outcome.TheVariants as outcome
+use Rattle.std.proofs.Common.{List}
 
 module _ (w : World) (plain : Plain) (c : Coupled w plain) (t : ℕ) (r : Request) (is : finmap.get w.core.requests t ≡ Some r) where
   abbrev s : State
@@ -42,11 +42,14 @@ module _ (w : World) (plain : Plain) (c : Coupled w plain) (t : ℕ) (r : Reques
     content = λ g q. page_of s.sizes.page (plain_file plain g) q;
   }
 
+  notes : (o : Outcome) → ((bytes : List ℕ) → o ≡ outcome.Ok bytes → (r.kind ≡ Fill) × (bytes ≡ block_bytes w r.block)) → After w plain no_gone (noted o) plain
+  notes o well = record { good = subst Good (sym (noted_view o)) (call_noted_kept (view w plain) c.good t r is o well); evolves = subst (Evolves no_gone (view w plain)) (sym (noted_view o)) (call_noted_evolves (view w plain) c.good t r is o well); blocks = c.blocks; handles = c.handles; count = c.count; valid = c.valid; sizes = c.sizes }
+
   read_well : r.kind ≡ Fill → After w plain no_gone (noted (outcome.Ok (block_bytes w r.block))) plain
-  read_well kind = record { good = subst Good (sym (noted_view (outcome.Ok (block_bytes w r.block)))) (call_fill_kept (view w plain) c.good t r is kind); evolves = subst (Evolves no_gone (view w plain)) (sym (noted_view (outcome.Ok (block_bytes w r.block)))) (call_fill_evolves (view w plain) c.good t r is kind); blocks = c.blocks; handles = c.handles; count = c.count; valid = c.valid; sizes = c.sizes }
+  read_well kind = notes (outcome.Ok (block_bytes w r.block)) (λ bytes e. (kind, cc))
 
   fails : (code : ℕ) → After w plain no_gone (noted (outcome.Fault code)) plain
-  fails code = record { good = subst Good (sym (noted_view (outcome.Fault code))) (call_fault_kept (view w plain) c.good t r is code); evolves = subst (Evolves no_gone (view w plain)) (sym (noted_view (outcome.Fault code))) (call_fault_evolves (view w plain) c.good t r is code); blocks = c.blocks; handles = c.handles; count = c.count; valid = c.valid; sizes = c.sizes }
+  fails code = notes (outcome.Fault code) (λ bytes e. absurd cc)
 
   abbrev wrote : Outcome → World
   wrote o = record w { outcomes = finmap.insert w.outcomes t o; device = slice_set w.device r.block r.bytes }

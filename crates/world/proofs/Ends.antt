@@ -1,12 +1,12 @@
 -- A request ends.
 use Rattle.std.proofs.Common.{◌≡◌, ℕ, ◌+◌, ◌-◌, ◌*◌, ◌/◌, ◌<◌, ◌≤◌, Bool, true, false, cond, eqb, eqb-true, eq-eqb, ltb, List, length, refl, ap, sym, subst, ◌∙◌, arith, inl, inr}
-use Rattle.std.specs.Prelude.{◌&&◌, ◌||◌, Option, Some, None, is_some, unwrap_or, slice_set}
+use Rattle.std.specs.Prelude.{◌&&◌, ◌||◌, Option, Some, None, is_some, unwrap_or}
 use Rattle.std.specs.FinMap as finmap
 use Rattle.std.proofs.Math.ListN.{length-set}
 use Rattle.std.proofs.lemmas.Bool.Decides.{nat_tests}
 use Rattle.pc_types.specs.Files.{page_of}
 use Rattle.pc_types.specs.Tags.{no_tags}
-use Rattle.cachecore.specs.State.{State, File, Page, Request, file_at, file_of, page_at, spot_at, no_file, page_count, is_fill, is_flush}
+use Rattle.cachecore.specs.State.{State, File, Page, Request, file_at, page_at, spot_at, no_file, page_count, is_fill, is_flush}
 use Rattle.world.specs.Plain.{Plain, plain_file}
 use Rattle.world.specs.World.{World, block_bytes, EndOf, end_event}
 use Rattle.world.proofs.View.{Good, Evolves, no_gone, put1, put2}
@@ -30,6 +30,7 @@ use Rattle.cachecore.specs.declared.event.Reply.{Reply}
 use Rattle.cachecore.specs.declared.event.Reply.TheVariants as reply
 use Rattle.std.proofs.lemmas.List.{get_or_past}
 use Rattle.std.proofs.Math.Nat.{le-div_iff_mul-le}
+use Rattle.world.proofs.QuietEvents.{file_changed}
 
 -- the numbers of a file change, and its pages stay
 page_at-same : (s : State) (f : ℕ) (file : File) → f < length s.files → file.pages ≡ (file_at s f).pages → (g q : ℕ) → page_at (put_file s f file) g q ≡ page_at s g q
@@ -80,21 +81,6 @@ module _ (w : World) (plain : Plain) (c : Coupled w plain) (t : ℕ) (r : Reques
     evolves = subst (Evolves no_gone (view w plain)) (sym ended_view) (end_quietly_evolves (view w plain) c.good t r is q);
   }
 
-  -- one file changes as a request ends
-  changed_file : (new : State) (f : ℕ) (file : File) → new.files ≡ slice_set s.files f file → new.sizes ≡ s.sizes → new.handles ≡ s.handles → Good (view (done new) plain) → Evolves no_gone (view w plain) (view (done new) plain) → ((g : ℕ) → (file_at new g).size ≡ (file_at s g).size) → After w plain no_gone (done new) plain
-  changed_file new f file e z h good evolves same = record {
-    good = good;
-    blocks = c.blocks ∙ sym (ap (λ x. x.blocks) z);
-    handles = c.handles ∙ sym h;
-    count = c.count ∙ sym (ap length e ∙ length-set s.files f file);
-    valid = λ k o.
-        let len : length new.files ≡ length s.files = ap length e ∙ length-set s.files f file in
-        let same_file : file_of new k ≡ file_of s k = ap (λ m. unwrap_or (finmap.get m k) 0) h in
-        let old = c.valid k (sym (ap (λ m. is_some (finmap.get m k)) h) ∙ o) in omega arith;
-    sizes = λ g. c.sizes g ∙ sym (same g);
-    evolves = evolves;
-  }
-
   -- ---- a fill
 
   pub within : (p : ℕ) (f : ℕ) → p < page_count s.sizes.page (file_at s f).size → f < length s.files
@@ -133,7 +119,7 @@ module _ (w : World) (plain : Plain) (c : Coupled w plain) (t : ℕ) (r : Reques
         let f = (c.good.requests t r is).fill live kind in
         let here : r.file < length s.files = within r.page r.file (c.good.spot_in r.file r.page (ap is_some f.mapped)) in
         let file = record (file_at s r.file) { pages = finmap.insert (file_at s r.file).pages r.page page } in
-        changed_file (put_page (ended s t) r.file r.page page) r.file file refl refl refl
+        file_changed w plain c (done (put_page (ended s t) r.file r.page page)) r.file file refl refl refl refl
         (subst Good (sym (filled_view here)) (fill_end_kept (view w plain) c.good t r is live kind bytes noted))
         (subst (Evolves no_gone (view w plain)) (sym (filled_view here)) (fill_end_evolves (view w plain) c.good t r is live kind bytes noted))
         (size-put (ended s t) r.file file here refl)
@@ -219,7 +205,7 @@ module _ (w : World) (plain : Plain) (c : Coupled w plain) (t : ℕ) (r : Reques
     }
 
     written : (bytes : List ℕ) → finmap.get w.outcomes t ≡ Some (outcome.Ok bytes) → After w plain no_gone (done (set_written clean r.file r.page)) plain
-    written bytes noted = changed_file (set_written clean r.file r.page) r.file clean_file refl refl refl
+    written bytes noted = file_changed w plain c (done (set_written clean r.file r.page)) r.file clean_file refl refl refl refl
         (subst Good (sym written_view) (flush_written_kept (view w plain) c.good t r is live kind old_page (after_write false old_page) cached bytes noted refl (or_false old_page.tags.dirty) refl refl))
         (subst (Evolves no_gone (view w plain)) (sym written_view) (flush_written_evolves (view w plain) c.good t r is live kind old_page (after_write false old_page) cached bytes noted refl (or_false old_page.tags.dirty) refl refl))
         (size-put (ended s t) r.file clean_file here refl)

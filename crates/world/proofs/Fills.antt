@@ -26,6 +26,8 @@ use Rattle.cachecore.specs.declared.event.Reply.{Reply}
 use Rattle.cachecore.specs.declared.event.Reply.TheVariants as reply
 use Rattle.cachecore.proofs.StateLaws.{filling_shows}
 use Rattle.cachecore.proofs.Choices.{may_fill}
+use Rattle.pc_types.specs.Files.{cut}
+use Rattle.world.proofs.View.{held_by}
 
 unwritten : (o : Option Spot) → settled o ≡ true → is_written o ≡ false → o ≡ None
 unwritten None a b = refl
@@ -60,12 +62,18 @@ module _ (w : World) (plain : Plain) (c : Coupled w plain) (f p : ℕ) (here : f
     content = λ g q. page_of s.sizes.page (plain_file plain g) q;
   }
 
+  alone : (t : ℕ) (r : Request) → finmap.get s.requests t ≡ Some r → r.dropped ≡ false → r.kind ≡ Fill → r.file ≡ f → r.page ≡ p → ⊥
+  alone t r e d k a b =
+      let it : fills f p r ≡ true = (λ i. is_fill (k i) && not (d i) && (eqb (a i) f && eqb (b i) p)) ∙ (λ i. true && true && (eq-eqb f f refl i && eq-eqb p p refl i)) in
+      let shows = filling_shows s f p t r e it in false≢true (sym not_filling ∙ shows)
+
   at_once : is_written (spot_at s f p) ≡ false → After w plain no_gone (with_core w (put_page s f p (blank s.sizes.page))) plain
   at_once e =
-      let settled_here = (c.good.pages f p).clean_block (ap dirty absent) (ap writeback absent) in
-      file_changed w plain c (put_page s f p (blank s.sizes.page)) f _ refl refl refl
-      (subst Good (sym at_once_view) (fill_at_once_kept (view w plain) c.good f p absent (unwritten (spot_at s f p) settled_here e) within))
-      (subst (Evolves no_gone (view w plain)) (sym at_once_view) (fill_at_once_evolves (view w plain) c.good f p absent (unwritten (spot_at s f p) settled_here e) within))
+      let none = unwritten (spot_at s f p) ((c.good.pages f p).clean_block (ap dirty absent) (ap writeback absent)) e in
+      let right : cut [] s.sizes.page ≡ page_of s.sizes.page (plain_file plain f) p = sym (ap (held_by (block_bytes w) s.sizes.page) none) ∙ (c.good.pages f p).clean (ap dirty absent) (ap writeback absent) in
+      file_changed w plain c (with_core w (put_page s f p (blank s.sizes.page))) f _ refl refl refl refl
+      (subst Good (sym at_once_view) (fill_at_once_kept (view w plain) c.good f p absent (cut [] s.sizes.page) right within alone))
+      (subst (Evolves no_gone (view w plain)) (sym at_once_view) (fill_at_once_evolves (view w plain) c.good f p absent (cut [] s.sizes.page) right within alone))
       (size-put s f (record (file_at s f) { pages = finmap.insert (file_at s f).pages p (blank s.sizes.page) }) here refl)
 
   abbrev request : Request
@@ -88,11 +96,6 @@ module _ (w : World) (plain : Plain) (c : Coupled w plain) (f p : ℕ) (here : f
     failures = λ g. (file_at s g).failures;
     content = λ g q. page_of s.sizes.page (plain_file plain g) q;
   }
-
-  alone : (t : ℕ) (r : Request) → finmap.get s.requests t ≡ Some r → r.dropped ≡ false → r.kind ≡ Fill → r.file ≡ f → r.page ≡ p → ⊥
-  alone t r e d k a b =
-      let it : fills f p r ≡ true = (λ i. is_fill (k i) && not (d i) && (eqb (a i) f && eqb (b i) p)) ∙ (λ i. true && true && (eq-eqb f f refl i && eq-eqb p p refl i)) in
-      let shows = filling_shows s f p t r e it in false≢true (sym not_filling ∙ shows)
 
   begins : is_written (spot_at s f p) ≡ true → After w plain no_gone (with_core w begun) plain
   begins e = record {

@@ -77,7 +77,7 @@ module _ (w : World) (plain : Plain) (c : Coupled w plain) (f p : ℕ) (page : P
   started_good = subst Good (sym started_view) (flush_begin_kept (view w plain) c.good f p (block_of s f p) page cached is_dirty idle mapped size_of_page)
 
   pub starts : After w plain no_gone (with_core w (started s f p page)) plain
-  starts = file_changed w plain c (started s f p page) f file_after refl refl refl started_good (subst (Evolves no_gone (view w plain)) (sym started_view) (flush_begin_evolves (view w plain) c.good f p (block_of s f p) page cached is_dirty idle mapped size_of_page)) (size-put s f file_after here refl)
+  starts = file_changed w plain c (with_core w (started s f p page)) f file_after refl refl refl refl started_good (subst (Evolves no_gone (view w plain)) (sym started_view) (flush_begin_evolves (view w plain) c.good f p (block_of s f p) page cached is_dirty idle mapped size_of_page)) (size-put s f file_after here refl)
 
 -- a new table of syncs changes nothing that is looked up
 other_syncs : (w : World) (plain : Plain) (new : State) (syncs : finmap.FinMap nat_cmp Sync) → After w plain no_gone (with_core w new) plain → After w plain no_gone (with_core w (record new { syncs = syncs })) plain
@@ -230,7 +230,7 @@ module _ (w : World) (plain : Plain) (c : Coupled w plain) (h f n : ℕ) (new : 
   }
 
   begun : After w plain no_gone (with_core w new) plain
-  begun = file_changed w plain c new f tagged_file begins.file same_sizes (ap (λ x. x.handles) begins.rest) (subst Good (sym begun_view) retagged) (subst (Evolves no_gone (view w plain)) (sym begun_view) retag_evolves_here) size_now
+  begun = file_changed w plain c (with_core w new) f tagged_file refl begins.file same_sizes (ap (λ x. x.handles) begins.rest) (subst Good (sym begun_view) retagged) (subst (Evolves no_gone (view w plain)) (sym begun_view) retag_evolves_here) size_now
 
 pub sync_begin_kept : (w : World) (plain : Plain) (c : Coupled w plain) (h : HandleId) (r : Reply) (new : State) → Step w.core (event.SyncBegin h) r new → After w plain no_gone (with_core w new) plain
 sync_begin_kept w plain c h r new e = elim (answered (sync_begin_tests w.core h.0) r w.core new (SyncBeginReply w.core h.0 r new) e) [

@@ -2,14 +2,15 @@ pub mod PageLaws
 pub mod View
 pub mod Evict
 pub mod FillAtOnce
+pub mod BeginRequest
 pub mod FillBegin
 pub mod FlushBegin
+pub mod EndRequest
 pub mod EndQuietly
 pub mod FillEnd
 pub mod FlushFailed
 pub mod FlushWritten
-pub mod CallFill
-pub mod CallFault
+pub mod CallNoted
 pub mod CallFlush
 pub mod Retag
 pub mod Grow
@@ -42,5 +43,3 @@ pub mod FewWrites
 pub mod Awaited
 pub mod Flies
 pub mod GoOn
-pub mod FilesHeld
-pub mod WorkedRuns

@@ -21,16 +21,16 @@ use Rattle.cachecore.specs.declared.event.Reply.TheVariants as reply
 use Rattle.pc_types.specs.declared.ids.HandleId.{HandleId}
 use Rattle.pc_types.specs.declared.ids.SyncId.{SyncId}
 
--- one page of a file changes, and nothing else of files
-pub file_changed : (w : World) (plain : Plain) (c : Coupled w plain) (new : State) (f : ℕ) (file : File) → new.files ≡ (put_file w.core f file).files → new.sizes ≡ w.core.sizes → new.handles ≡ w.core.handles → Good (view (with_core w new) plain) → Evolves no_gone (view w plain) (view (with_core w new) plain) → ((g : ℕ) → (file_at new g).size ≡ (file_at w.core g).size) → After w plain no_gone (with_core w new) plain
-file_changed w plain c new f file e s h good evolves same = record {
+-- one file changes, and nothing else of files, handles and the device's size
+pub file_changed : (w : World) (plain : Plain) (c : Coupled w plain) (new : World) (f : ℕ) (file : File) → length new.device ≡ length w.device → new.core.files ≡ (put_file w.core f file).files → new.core.sizes ≡ w.core.sizes → new.core.handles ≡ w.core.handles → Good (view new plain) → Evolves no_gone (view w plain) (view new plain) → ((g : ℕ) → (file_at new.core g).size ≡ (file_at w.core g).size) → After w plain no_gone new plain
+file_changed w plain c new f file d e s h good evolves same = record {
   good = good;
-  blocks = c.blocks ∙ sym (ap (λ x. x.blocks) s);
+  blocks = d ∙ c.blocks ∙ sym (ap (λ x. x.blocks) s);
   handles = c.handles ∙ sym h;
   count = c.count ∙ sym (ap length e ∙ length-set w.core.files f file);
   valid = λ k o.
-      let len : length new.files ≡ length w.core.files = ap length e ∙ length-set w.core.files f file in
-      let same_file : file_of new k ≡ file_of w.core k = ap (λ m. unwrap_or (finmap.get m k) 0) h in
+      let len : length new.core.files ≡ length w.core.files = ap length e ∙ length-set w.core.files f file in
+      let same_file : file_of new.core k ≡ file_of w.core k = ap (λ m. unwrap_or (finmap.get m k) 0) h in
       let old = c.valid k (sym (ap (λ m. is_some (finmap.get m k)) h) ∙ o) in omega arith;
   sizes = λ g. c.sizes g ∙ sym (same g);
   evolves = evolves;
@@ -116,7 +116,7 @@ module _ (w : World) (plain : Plain) (c : Coupled w plain) where
         untagged false false false e = refl
 
     evicted : After w plain no_gone (with_core w (drop_page s f p)) plain
-    evicted = file_changed w plain c (drop_page s f p) f _ refl refl refl (subst Good (sym evicted_view) (evict_kept (view w plain) c.good f p not_dirty not_writeback)) (subst (Evolves no_gone (view w plain)) (sym evicted_view) (evict_evolves (view w plain) c.good f p not_dirty not_writeback not_towrite)) (size-put s f (record (file_at s f) { pages = finmap.remove (file_at s f).pages p }) here refl)
+    evicted = file_changed w plain c (with_core w (drop_page s f p)) f _ refl refl refl refl (subst Good (sym evicted_view) (evict_kept (view w plain) c.good f p not_dirty not_writeback)) (subst (Evolves no_gone (view w plain)) (sym evicted_view) (evict_evolves (view w plain) c.good f p not_dirty not_writeback not_towrite)) (size-put s f (record (file_at s f) { pages = finmap.remove (file_at s f).pages p }) here refl)
 
   evict_happens : (r : Reply) (new : State) → EvictReply s r new → After w plain no_gone (with_core w new) plain
   evict_happens (reply.Evicted f p) new e = subst (λ x. After w plain no_gone (with_core w x) plain) (sym e.3) (evicted f.0 p.0 e.0 e.1 e.2)

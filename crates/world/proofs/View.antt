@@ -213,3 +213,34 @@ quietly_evolves gone v w same new old tags count size = record {
 
 pub stays : (gone : ℕ → ℕ → Bool) (v : View) → Evolves gone v v
 stays gone v = quietly_evolves gone v v (λ f p g. refl) (λ t r e k d. e) (λ t r e k d g. e) (λ f p g e. e) (λ f. refl) refl
+
+-- a write in flight whose request stays
+pub still_flying : (v w : View) (f p : ℕ) (j : HasFlush v f p) → w.request j.serial ≡ v.request j.serial → HasFlush w f p
+still_flying v w f p j e = record { serial = j.serial; request = j.request; is = e ∙ j.is; kind = j.kind; live = j.live; file = j.file; page = j.page }
+
+-- a change of pages, of requests and of what is noted of them
+abbrev pub changed : View → (ℕ → ℕ → Option Page) → (ℕ → Option Request) → (ℕ → Option Outcome) → ℕ → (ℕ → ℕ) → View
+changed v page request outcome next failures = record v { page = page; request = request; outcome = outcome; next = next; failures = failures }
+
+-- what has to be shown of it
+pub good_after : (v : View) → Good v → (page : ℕ → ℕ → Option Page) (request : ℕ → Option Request) (outcome : ℕ → Option Outcome) (next : ℕ) (failures : ℕ → ℕ)
+    → ((f p : ℕ) → PageIs (v.content f p) (held v f p) (v.spot f p) (page f p))
+    → ((f p : ℕ) → is_some (page f p) ≡ true → p < page_count v.page_size (v.size f))
+    → ((t : ℕ) (r : Request) → request t ≡ Some r → RequestIs (changed v page request outcome next failures) t r)
+    → ((t u : ℕ) (r s : Request) → request t ≡ Some r → request u ≡ Some s → r.block ≡ s.block → t ≡ u)
+    → ((f p : ℕ) → writeback (page f p) ≡ true → HasFlush (changed v page request outcome next failures) f p)
+    → ((t : ℕ) → is_some (outcome t) ≡ true → is_some (request t) ≡ true)
+    → Good (changed v page request outcome next failures)
+good_after v ok page request outcome next failures pages page_in requests requests_apart flushes outcomes = record {
+  positive = ok.positive;
+  pages = pages;
+  page_in = page_in;
+  spot_in = ok.spot_in;
+  spot_block = ok.spot_block;
+  spots_apart = ok.spots_apart;
+  requests = requests;
+  requests_apart = requests_apart;
+  flushes = flushes;
+  outcomes = outcomes;
+  block_sizes = ok.block_sizes;
+}

@@ -1,0 +1,57 @@
+-- A device call that changes no block is noted: a block was read, or the call failed.
+use Rattle.std.proofs.Common.{◌≡◌, ℕ, true, List, refl, ap, sym, ◌∙◌, inl, inr}
+use Rattle.std.specs.Prelude.{Some, is_some}
+use Rattle.cachecore.specs.declared.event.Kind.TheVariants.{Fill}
+use Rattle.cachecore.specs.declared.event.Outcome.{Outcome}
+use Rattle.cachecore.specs.declared.event.Outcome.TheVariants as outcome
+use Rattle.cachecore.specs.State.{Request}
+use Rattle.world.proofs.View.{View, Good, RequestIs, Evolves, no_gone, quietly_evolves, put1, put1_tells, dirty, writeback, held_by, good_after, still_flying}
+
+-- an outcome is of a request in flight
+pub noted_outcomes : (v : View) → Good v → (t : ℕ) (r : Request) → v.request t ≡ Some r → (o : Outcome) (u : ℕ) → is_some (put1 v.outcome t (Some o) u) ≡ true → is_some (v.request u) ≡ true
+noted_outcomes v ok t r is o u e = elim (put1_tells v.outcome t (Some o) u) [
+  | inl h ↦ ap is_some ((λ i. v.request (h.0 i)) ∙ is)
+  | inr h ↦ ok.outcomes u (sym (ap is_some h.1) ∙ e)
+]
+
+pub same_request : (v : View) (t : ℕ) (r : Request) → v.request t ≡ Some r → (u : ℕ) (s : Request) → u ≡ t → v.request u ≡ Some s → s ≡ r
+same_request v t r is u s e k = let a : v.request u ≡ Some r = (λ i. v.request (e i)) ∙ is in cc
+
+-- where it went well it was a fill, and gave the block's bytes
+module _ (v : View) (ok : Good v) (t : ℕ) (r : Request) (is : v.request t ≡ Some r) (o : Outcome) (went_well : (bytes : List ℕ) → o ≡ outcome.Ok bytes → (r.kind ≡ Fill) × (bytes ≡ v.block r.block)) where
+  abbrev pub after : View
+  after = record v { outcome = put1 v.outcome t (Some o) }
+
+  well : (bytes : List ℕ) → Some o ≡ Some (outcome.Ok bytes) → (r.kind ≡ Fill) × (bytes ≡ v.block r.block)
+  well bytes e = went_well bytes (let a : o ≡ outcome.Ok bytes = cc in a)
+
+  requests : (u : ℕ) (s : Request) → after.request u ≡ Some s → RequestIs after u s
+  requests u s e = let old = ok.requests u s e in record {
+    serial = old.serial;
+    block = old.block;
+    bytes = old.bytes;
+    fill = λ d j. let h = old.fill d j in record {
+      mapped = h.mapped;
+      absent = h.absent;
+      noted = λ bytes k. elim (put1_tells v.outcome t (Some o) u) [
+        | inl w ↦ (well bytes (sym w.1 ∙ k)).1 ∙ (λ i. v.block ((sym (same_request v t r is u s w.0 e) i).block)) ∙ sym (ap (held_by v.block v.page_size) h.mapped) ∙ (ok.pages s.file s.page).clean (ap dirty h.absent) (ap writeback h.absent)
+        | inr w ↦ h.noted bytes (sym w.1 ∙ k)
+      ];
+    };
+    flush = λ d j. let h = old.flush d j in record {
+      mapped = h.mapped;
+      writeback = h.writeback;
+      clean = h.clean;
+      noted = λ bytes k. elim (put1_tells v.outcome t (Some o) u) [
+        | inl w ↦ absurd (let fills = (well bytes (sym w.1 ∙ k)).0 in let b = ap (λ (x : Request). x.kind) (same_request v t r is u s w.0 e) in cc)
+        | inr w ↦ h.noted bytes (sym w.1 ∙ k)
+      ];
+    };
+    dead = old.dead;
+  }
+
+  pub call_noted_kept : Good after
+  call_noted_kept = good_after v ok v.page v.request (put1 v.outcome t (Some o)) v.next v.failures ok.pages ok.page_in requests ok.requests_apart (λ g q e. still_flying v after g q (ok.flushes g q e) refl) (noted_outcomes v ok t r is o)
+
+  pub call_noted_evolves : Evolves no_gone v after
+  call_noted_evolves = quietly_evolves no_gone v after (λ g q _. refl) (λ u r e k d. e) (λ u r e k d _. e) (λ g q _ e. e) (λ g. refl) refl

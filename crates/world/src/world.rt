@@ -1,0 +1,140 @@
+//! A cache and its device, driven one step at a time.
+
+ghost use Rattle.std.specs.Prelude.{◌≡◌, IfErr, IfOk, IsOkUnless, OnErr, length, true, false, if◌then◌else◌};
+ghost use Rattle.pc_types.specs.declared.refusal.Refusal.TheVariants.{BadConfig, Memory};
+ghost use Rattle.cachecore.specs.Replies.{TagsAre};
+ghost use Rattle.world.specs.Stepping.{IsMade, LeadsTo, Plays, Steps, entries_of, first_world, fits, world_of};
+
+use crate::replies;
+use crate::step::Step;
+use blockdev::{BlockDevice, Buffer};
+use cachecore::{CacheCore, PageTags, ReadAnswer, Reply};
+use pc_types::{Bytes, FileId, Geometry, HandleId, PageIndex, Refusal};
+use std::alloc::{AllocError, Global};
+use std::marker::Model;
+
+/// A cache and the device that it writes to.
+#[derive(Drop)]
+pub struct World<D: BlockDevice> {
+    core: CacheCore,
+    device: D,
+    alloc: Global,
+}
+
+impl<D: BlockDevice> Model for World<D> {
+    ghost use Rattle.std.specs.Coded.{codes};
+    ghost use Rattle.cachecore.specs.Codes.{state_code};
+    ghost use Rattle.world.specs.Stepping.{Held};
+
+    ghost Value = { Held };
+
+    ghost coded = { Prim.hlevel (codes, state_code) };
+
+    ghost view = { λ w. record { core = w.core; device = D.told w.device } };
+}
+
+impl<D: BlockDevice> World<D> {
+    /// A cache without files over a device. Refused by `BadConfig` where the device has another block size or number of
+    /// blocks than the geometry; the device comes back.
+    pub fn new(alloc: Global, geometry: &Geometry, name: u64, device: D) -> Result<World<D>, (Refusal, D)>
+        ensures fresh { IfOk result (λ w. w ≡ first_world geometry.now name (D.told device)) }
+        ensures fits { IfOk result (λ _. fits geometry.now (D.told device) ≡ true) }
+        ensures refused { IfErr result (λ e. e.0 ≡ (if fits geometry.now (D.told device) then Memory else BadConfig)) }
+        ensures back { IfErr result (λ e. e.1 ≡ device) }
+    {
+        if device.block_size() != geometry.page() || device.blocks() != geometry.blocks() {
+            return Err((Refusal::BadConfig, device));
+        }
+        match CacheCore::new(alloc, geometry, name) {
+            Ok(core) => Ok(World {
+                core,
+                device,
+                alloc,
+            }),
+            Err(refusal) => Err((refusal, device)),
+        }
+    }
+
+    /// Makes one event. Where memory for the bytes of a read or for a buffer is refused, no event is made.
+    pub fn step(&mut self, step: &Step) -> Reply
+        ensures { Steps self.old step.now result self.new }
+    {
+        match step {
+            Step::Create => replies::of_create(self.core.create()),
+            Step::Open(file) => replies::of_open(self.core.open(*file)),
+            Step::Close(handle) => replies::of_close(self.core.close(*handle)),
+            Step::Size(handle) => replies::of_size(self.core.size(*handle)),
+            Step::Read(handle, offset, count) => self.read(*handle, *offset, *count),
+            Step::Write(handle, offset, bytes) => self.write(*handle, *offset, bytes),
+            Step::Append(handle, bytes) => self.append(*handle, bytes),
+            Step::FillBegin(handle, page) => self.fill_begin(*handle, *page),
+        }
+    }
+
+    /// Makes the steps, one after the other, and gives their replies. Refused by `Memory`, with no step made, where there
+    /// is no room for the replies.
+    pub fn play(&mut self, steps: &[Step]) -> Result<Vec<Reply>, Refusal>
+        ensures played { IfOk result (λ replies. Plays self.old steps.now replies.items self.new) }
+        ensures is_run { IfOk result (λ replies. LeadsTo (world_of self.old) (entries_of steps.now replies.items) (world_of self.new)) }
+        ensures refused { IsOkUnless result Refusal.Memory }
+        ensures err { OnErr result (self.new ≡ self.old) }
+    {
+        let mut replies = Vec::with_capacity(self.alloc, steps.len())?;
+        for step in steps {
+            replies.push_reserved(self.step(step));
+        }
+        Ok(replies)
+    }
+
+    /// What is known of a page, which is no event.
+    pub fn tags(&self, file: FileId, page: PageIndex) -> Result<PageTags, Refusal>
+        ensures { TagsAre self.now.core file.0 page.0 result }
+    {
+        self.core.tags(file, page)
+    }
+
+    fn read(&mut self, handle: HandleId, offset: u64, count: u64) -> Reply
+        ensures { Steps self.old (Step.Read handle offset count) result self.new }
+    {
+        let Ok(mut out) = zeros(self.alloc, count) else {
+            return Reply::Refused(Refusal::Memory);
+        };
+        match self.core.read(handle, offset, out.as_mut_slice()) {
+            Ok(ReadAnswer::Bytes(count)) => {
+                out.truncate(count as usize);
+                Reply::Bytes(Bytes::from_vec(out))
+            }
+            Ok(ReadAnswer::Wait(page)) => Reply::Wait(page),
+            Ok(ReadAnswer::Miss(page)) => Reply::Miss(page),
+            Err(refusal) => Reply::Refused(refusal),
+        }
+    }
+
+    fn write(&mut self, handle: HandleId, offset: u64, bytes: &Bytes) -> Reply
+        ensures { IsMade self.old (Step.Write handle offset bytes.now) result self.new }
+    {
+        replies::of_write(self.core.write(handle, offset, bytes.as_slice()))
+    }
+
+    fn append(&mut self, handle: HandleId, bytes: &Bytes) -> Reply
+        ensures { IsMade self.old (Step.Append handle bytes.now) result self.new }
+    {
+        replies::of_write(self.core.append(handle, bytes.as_slice()))
+    }
+
+    fn fill_begin(&mut self, handle: HandleId, page: PageIndex) -> Reply
+        ensures { Steps self.old (Step.FillBegin handle page) result self.new }
+    {
+        let Ok(buffer) = Buffer::new(self.alloc, self.core.geometry()) else {
+            return Reply::Refused(Refusal::Memory);
+        };
+        replies::of_fill_begin(self.core.fill_begin(handle, page, buffer))
+    }
+}
+
+/// A place for so many bytes.
+fn zeros(alloc: Global, count: u64) -> Result<Vec<u8>, AllocError>
+    ensures { IfOk result (λ out. length out.items ≡ count) }
+{
+    vec![in alloc; 0; count as usize]
+}
