@@ -79,6 +79,7 @@ module _ (w : World) (plain : Plain) (c : Coupled w plain) (n : Counted w.core) 
   request_always t r is = let g = c.good.requests t r is in record {
     serial = g.serial;
     block = let a = g.block in let b = c.blocks in omega arith;
+    bytes = g.bytes;
     mapped = λ d. spot_of (spot_at s r.file r.page) r.block (live_spot (view w plain) c.good t r is d);
     held = g.dead;
     fill = λ d k. let h = g.fill d k in (ap is_written h.mapped, ap is_some h.absent);
@@ -99,6 +100,7 @@ module _ (w : World) (plain : Plain) (c : Coupled w plain) (n : Counted w.core) 
     outcomes = c.good.outcomes;
     handles = c.valid;
     failures = n.failures;
+    serials = n.serials;
     blocks = c.blocks;
     block_sizes = λ b l. c.good.block_sizes b (let a = c.blocks in omega arith);
   }

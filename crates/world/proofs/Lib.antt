@@ -43,3 +43,6 @@ pub mod FewWrites
 pub mod Awaited
 pub mod Flies
 pub mod GoOn
+pub mod FilesHeld
+pub mod WorkedRuns
+pub mod PlayLemmas

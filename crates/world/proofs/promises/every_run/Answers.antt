@@ -3,6 +3,7 @@ use Rattle.world.proofs.GoOn.{no_event_is_stuck, requests_go_on, steps_are_deter
 use Rattle.world.proofs.ReadsRight.{reads_are_right}
 use Rattle.world.proofs.SyncRuns.{awaits_by_bound, dirty_pages_stay, syncs_are_synced, syncs_rise, syncs_tell}
 use Rattle.world.proofs.FewWrites.{sync_writes_are_few}
+use Rattle.world.proofs.FilesHeld.{files_are_held}
 use Rattle.world.proofs.promises.every_run.Goals as goal
 
 pub returns-clause-always : goal.returns-clause-always
@@ -37,3 +38,6 @@ returns-clause-determined c = steps_are_determined
 
 pub returns-clause-never_stuck : goal.returns-clause-never_stuck
 returns-clause-never_stuck c = no_event_is_stuck
+
+pub returns-clause-held : goal.returns-clause-held
+returns-clause-held c = files_are_held
