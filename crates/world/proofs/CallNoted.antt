@@ -1,7 +1,7 @@
--- A device call that changes no block is noted: a block was read, or the call failed.
+-- The outcome of a device call is noted.
 use Rattle.std.proofs.Common.{◌≡◌, ℕ, true, List, refl, ap, sym, ◌∙◌, inl, inr}
 use Rattle.std.specs.Prelude.{Some, is_some}
-use Rattle.cachecore.specs.declared.event.Kind.TheVariants.{Fill}
+use Rattle.cachecore.specs.declared.event.Kind.TheVariants.{Fill, Flush}
 use Rattle.cachecore.specs.declared.event.Outcome.{Outcome}
 use Rattle.cachecore.specs.declared.event.Outcome.TheVariants as outcome
 use Rattle.cachecore.specs.State.{Request}
@@ -17,12 +17,16 @@ noted_outcomes v ok t r is o u e = elim (put1_tells v.outcome t (Some o) u) [
 pub same_request : (v : View) (t : ℕ) (r : Request) → v.request t ≡ Some r → (u : ℕ) (s : Request) → u ≡ t → v.request u ≡ Some s → s ≡ r
 same_request v t r is u s e k = let a : v.request u ≡ Some r = (λ i. v.request (e i)) ∙ is in cc
 
--- where it went well it was a fill, and gave the block's bytes
-module _ (v : View) (ok : Good v) (t : ℕ) (r : Request) (is : v.request t ≡ Some r) (o : Outcome) (went_well : (bytes : List ℕ) → o ≡ outcome.Ok bytes → (r.kind ≡ Fill) × (bytes ≡ v.block r.block)) where
+-- a fill that went well gave its block's bytes, and a flush that went well left its own there
+pub record WentWell (v : View) (r : Request) (bytes : List ℕ) : Type 0 where
+  pub fill : r.kind ≡ Fill → bytes ≡ v.block r.block
+  pub flush : r.kind ≡ Flush → v.block r.block ≡ r.bytes
+
+module _ (v : View) (ok : Good v) (t : ℕ) (r : Request) (is : v.request t ≡ Some r) (o : Outcome) (went_well : (bytes : List ℕ) → o ≡ outcome.Ok bytes → WentWell v r bytes) where
   abbrev pub after : View
   after = record v { outcome = put1 v.outcome t (Some o) }
 
-  well : (bytes : List ℕ) → Some o ≡ Some (outcome.Ok bytes) → (r.kind ≡ Fill) × (bytes ≡ v.block r.block)
+  well : (bytes : List ℕ) → Some o ≡ Some (outcome.Ok bytes) → WentWell v r bytes
   well bytes e = went_well bytes (let a : o ≡ outcome.Ok bytes = cc in a)
 
   requests : (u : ℕ) (s : Request) → after.request u ≡ Some s → RequestIs after u s
@@ -34,7 +38,7 @@ module _ (v : View) (ok : Good v) (t : ℕ) (r : Request) (is : v.request t ≡ 
       mapped = h.mapped;
       absent = h.absent;
       noted = λ bytes k. elim (put1_tells v.outcome t (Some o) u) [
-        | inl w ↦ (well bytes (sym w.1 ∙ k)).1 ∙ (λ i. v.block ((sym (same_request v t r is u s w.0 e) i).block)) ∙ sym (ap (held_by v.block v.page_size) h.mapped) ∙ (ok.pages s.file s.page).clean (ap dirty h.absent) (ap writeback h.absent)
+        | inl w ↦ (well bytes (sym w.1 ∙ k)).fill (ap (λ (x : Request). x.kind) (sym (same_request v t r is u s w.0 e)) ∙ j) ∙ (λ i. v.block ((sym (same_request v t r is u s w.0 e) i).block)) ∙ sym (ap (held_by v.block v.page_size) h.mapped) ∙ (ok.pages s.file s.page).clean (ap dirty h.absent) (ap writeback h.absent)
         | inr w ↦ h.noted bytes (sym w.1 ∙ k)
       ];
     };
@@ -43,7 +47,7 @@ module _ (v : View) (ok : Good v) (t : ℕ) (r : Request) (is : v.request t ≡ 
       writeback = h.writeback;
       clean = h.clean;
       noted = λ bytes k. elim (put1_tells v.outcome t (Some o) u) [
-        | inl w ↦ absurd (let fills = (well bytes (sym w.1 ∙ k)).0 in let b = ap (λ (x : Request). x.kind) (same_request v t r is u s w.0 e) in cc)
+        | inl w ↦ (λ i. v.block ((same_request v t r is u s w.0 e i).block)) ∙ (well bytes (sym w.1 ∙ k)).flush (ap (λ (x : Request). x.kind) (sym (same_request v t r is u s w.0 e)) ∙ j) ∙ ap (λ (x : Request). x.bytes) (sym (same_request v t r is u s w.0 e))
         | inr w ↦ h.noted bytes (sym w.1 ∙ k)
       ];
     };

@@ -1,5 +1,5 @@
 -- A device call.
-use Rattle.std.proofs.Common.{◌≡◌, ℕ, ◌<◌, Bool, true, false, [], length, refl, sym, subst, ◌∙◌}
+use Rattle.std.proofs.Common.{◌≡◌, ℕ, ◌<◌, Bool, true, false, [], length, refl, sym, subst, ◌∙◌, inl, inr}
 use Rattle.std.specs.Prelude.{Option, Some, None, slice_set}
 use Rattle.std.specs.FinMap as finmap
 use Rattle.std.proofs.Math.ListN.{length-set}
@@ -11,13 +11,19 @@ use Rattle.world.proofs.View.{Good, Evolves, no_gone, put1}
 use Rattle.world.proofs.Coupled.{view, Coupled, After}
 use Rattle.world.proofs.Lookups.{get-insert1}
 use Rattle.cachecore.proofs.StateLaws.{get_or-set}
-use Rattle.world.proofs.CallNoted.{call_noted_kept, call_noted_evolves}
-use Rattle.world.proofs.CallFlush.{call_flush_kept, call_flush_evolves}
+use Rattle.world.proofs.CallNoted.{WentWell, call_noted_kept, call_noted_evolves}
+use Rattle.world.proofs.BlockWritten.{block_written_kept, block_written_evolves}
 use Rattle.cachecore.specs.declared.event.Kind.{Kind}
 use Rattle.cachecore.specs.declared.event.Kind.TheVariants.{Fill, Flush}
 use Rattle.cachecore.specs.declared.event.Outcome.{Outcome}
 use Rattle.cachecore.specs.declared.event.Outcome.TheVariants as outcome
 use Rattle.std.proofs.Common.{List}
+use Rattle.world.proofs.View.{View, put1_here}
+use Rattle.std.specs.Prelude.{Option}
+
+-- what is noted does not matter to pages that a sync looks after
+noting_evolves : (v w : View) (outcome : ℕ → Option Outcome) → Evolves no_gone v w → Evolves no_gone v (record w { outcome = outcome })
+noting_evolves v w outcome e = record { on_device = λ f p g. elim (e.on_device f p g) [ inl h ↦ inl h | inr h ↦ inr (record { serial = h.serial; request = h.request; is = h.is; kind = h.kind; live = h.live; file = h.file; page = h.page; bytes = h.bytes }) ]; from = e.from; flush = e.flush; to_write = λ f p g t. elim (e.to_write f p g t) [ inl h ↦ inl h | inr h ↦ inr (record { serial = h.serial; request = h.request; fresh_serial = h.fresh_serial; is = h.is; kind = h.kind; live = h.live; file = h.file; page = h.page; bytes = h.bytes }) ]; failures = e.failures; same_size = e.same_size }
 
 module _ (w : World) (plain : Plain) (c : Coupled w plain) (t : ℕ) (r : Request) (is : finmap.get w.core.requests t ≡ Some r) where
   abbrev s : State
@@ -42,11 +48,11 @@ module _ (w : World) (plain : Plain) (c : Coupled w plain) (t : ℕ) (r : Reques
     content = λ g q. page_of s.sizes.page (plain_file plain g) q;
   }
 
-  notes : (o : Outcome) → ((bytes : List ℕ) → o ≡ outcome.Ok bytes → (r.kind ≡ Fill) × (bytes ≡ block_bytes w r.block)) → After w plain no_gone (noted o) plain
+  notes : (o : Outcome) → ((bytes : List ℕ) → o ≡ outcome.Ok bytes → WentWell (view w plain) r bytes) → After w plain no_gone (noted o) plain
   notes o well = record { good = subst Good (sym (noted_view o)) (call_noted_kept (view w plain) c.good t r is o well); evolves = subst (Evolves no_gone (view w plain)) (sym (noted_view o)) (call_noted_evolves (view w plain) c.good t r is o well); blocks = c.blocks; handles = c.handles; count = c.count; valid = c.valid; sizes = c.sizes }
 
   read_well : r.kind ≡ Fill → After w plain no_gone (noted (outcome.Ok (block_bytes w r.block))) plain
-  read_well kind = notes (outcome.Ok (block_bytes w r.block)) (λ bytes e. (kind, cc))
+  read_well kind = notes (outcome.Ok (block_bytes w r.block)) (λ bytes e. record { fill = λ _. cc; flush = λ k. absurd (let a = kind in cc) })
 
   fails : (code : ℕ) → After w plain no_gone (noted (outcome.Fault code)) plain
   fails code = notes (outcome.Fault code) (λ bytes e. absurd cc)
@@ -79,8 +85,14 @@ module _ (w : World) (plain : Plain) (c : Coupled w plain) (t : ℕ) (r : Reques
     content = λ g q. page_of s.sizes.page (plain_file plain g) q;
   }
 
+  -- the block has the request's bytes, and then the outcome is noted
   writes : r.kind ≡ Flush → (o : Outcome) → After w plain no_gone (wrote o) plain
-  writes kind o = record { good = subst Good (sym (wrote_view o)) (call_flush_kept (view w plain) c.good t r is kind o); evolves = subst (Evolves no_gone (view w plain)) (sym (wrote_view o)) (call_flush_evolves (view w plain) c.good t r is kind o); blocks = same_length ∙ c.blocks; handles = c.handles; count = c.count; valid = c.valid; sizes = c.sizes }
+  writes kind o =
+      let v = view w plain in
+      let first = block_written_kept v c.good t r is kind in
+      let both : Good (record v { outcome = put1 v.outcome t (Some o); block = put1 v.block r.block r.bytes }) = call_noted_kept (record v { block = put1 v.block r.block r.bytes }) first t r is o (λ bytes e. record { fill = λ k. absurd (let a = kind in cc); flush = λ _. put1_here v.block r.block r.bytes }) in
+      let evolves : Evolves no_gone v (record v { outcome = put1 v.outcome t (Some o); block = put1 v.block r.block r.bytes }) = noting_evolves v (record v { block = put1 v.block r.block r.bytes }) (put1 v.outcome t (Some o)) (block_written_evolves v c.good t r is kind) in
+      record { good = subst Good (sym (wrote_view o)) both; evolves = subst (Evolves no_gone v) (sym (wrote_view o)) evolves; blocks = same_length ∙ c.blocks; handles = c.handles; count = c.count; valid = c.valid; sizes = c.sizes }
 
   by_kind : (k : Kind) (fault : Option ℕ) (effect : Bool) (new : World) → r.kind ≡ k → CallNotes w t r k fault effect new → After w plain no_gone new plain
   by_kind Fill None effect new kind e = subst (λ x. After w plain no_gone x plain) (sym e) (read_well kind)

@@ -11,7 +11,7 @@ pub mod FillEnd
 pub mod FlushFailed
 pub mod FlushWritten
 pub mod CallNoted
-pub mod CallFlush
+pub mod BlockWritten
 pub mod Retag
 pub mod Grow
 pub mod Place

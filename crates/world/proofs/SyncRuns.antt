@@ -1,5 +1,5 @@
 -- Syncs over every run: what Clean and Failed mean, in which order pages are started, and what is awaited.
-use Rattle.std.proofs.Common.{◌≡◌, ℕ, zero, suc, ◌+◌, ◌-◌, ◌<◌, ◌≤◌, Bool, true, false, cond, not, List, [], ◌∷◌, length, refl, ap, sym, subst, ◌∙◌, arith, inl, inr}
+use Rattle.std.proofs.Common.{◌≡◌, ℕ, zero, suc, ◌+◌, ◌-◌, ◌<◌, ◌≤◌, true, false, cond, not, List, [], ◌∷◌, length, refl, ap, sym, subst, ◌∙◌, arith, inl, inr}
 use Rattle.std.specs.Prelude.{◌&&◌, ◌⊎◌, Option, Some, None, is_some, option_map, unwrap_or}
 use Rattle.std.specs.FinMap as finmap
 use Rattle.std.proofs.lemmas.Bool.Decides.{nat_tests}
@@ -33,6 +33,11 @@ use Rattle.cachecore.proofs.Choices.{first_passed}
 use Rattle.world.proofs.RunSteps.{StepAt}
 use Rattle.world.proofs.BelowBound.{AreBelow}
 use Rattle.world.proofs.SyncProgress.{begun, Done, InProgress, at, clean_step, done_on, done_synced, ended_pages, evolves_at, failed_step, file_is, in_progress_on, moves_at, off_more, off_now, size_at}
+use Rattle.cachecore.proofs.Choices.{and_true}
+
+-- a page past the last one started is a higher one
+after_entry : (x p : ℕ) → past (Some x) p ≡ true → x < p
+after_entry x p h = grind (arith, nat_tests)
 
 begins_at : (s new : State) (h : HandleId) (n : SyncId) → ((k : ℕ) → is_open s k ≡ true → file_of s k < length s.files) → Step s (event.SyncBegin h) (reply.Sync n) new → BeginsSync s h.0 (file_of s h.0) n.0 new × (is_open s h.0 ≡ true)
 begins_at s new h n valid e = elim (answered (sync_begin_tests s h.0) (reply.Sync n) s new (SyncBeginReply s h.0 (reply.Sync n) new) e) [
@@ -105,13 +110,6 @@ module _ (w : World) (run : List (Entry × World)) (first : IsFirst w) (r : Run 
       let same : tr.now ≡ z = (let k : Some tr.now ≡ Some z = sym tr.is ∙ is in cc) in
       subst (λ x. (is_some x.awaited ≡ true) ⊎ ((p : ℕ) → past x.last p ≡ true → e < p)) same (by_how m q.sync tr.now tr.how (old q.sync q.is))
     where
-      after_entry : (x p : ℕ) → past (Some x) p ≡ true → x < p
-      after_entry x p h = grind (arith, nat_tests)
-
-      is_past : (a b : Bool) → (a && b) ≡ true → b ≡ true
-      is_past true b h = h
-      is_past false b h = absurd cc
-
       by_how : (m : ℕ) (y z : Sync) → IsUnmoved y z ⊎ (IsAwaiting (world_at w run (suc m)).core y z ⊎ (IsStarting (world_at w run m).core (world_at w run (suc m)).core y z ⊎ IsBound (world_at w run m).core (world_at w run (suc m)).core y z)) → (is_some y.awaited ≡ true) ⊎ ((p : ℕ) → past y.last p ≡ true → e < p) → (is_some z.awaited ≡ true) ⊎ ((p : ℕ) → past z.last p ≡ true → e < p)
       by_how m y z how o = elim how [
         | inl x ↦ elim o [ inl some ↦ absurd (let k = ap is_some x.was in cc) | inr more ↦ inr (λ p h. more p (ap (λ l. past l p) (sym x.last) ∙ h)) ]
@@ -122,7 +120,7 @@ module _ (w : World) (run : List (Entry × World)) (first : IsFirst w) (r : Run 
               | inl some ↦ absurd (let k = ap is_some x.was in cc)
               | inr more ↦ inr (λ p h.
                   let g = found (file_at (world_at w run m).core (file_of (world_at w run m).core y.handle)).pages (λ e. e.1.tags.towrite && past y.last e.0) x.entry x.pick in
-                  let first_past = more x.entry.0 (is_past x.entry.1.tags.towrite (past y.last x.entry.0) g.0) in
+                  let first_past = more x.entry.0 ((and_true x.entry.1.tags.towrite (past y.last x.entry.0) g.0).1) in
                   let then_past = after_entry x.entry.0 p (ap (λ l. past l p) (sym x.last) ∙ h) in omega arith)
             ]
             | inr x ↦ inl (ap is_some x.is)
@@ -230,16 +228,9 @@ syncs_rise w run first r i j k h n t u cj ck later p q ep eq =
     let same_p : sj.entry.0 ≡ p = same_some _ _ (sym sj.page ∙ (λ m. requested_page (world_at w run (one_more j m)) t.0) ∙ ep) in
     let same_q : sk.entry.0 ≡ q = same_some _ _ (sym sk.page ∙ (λ m. requested_page (world_at w run (one_more k m)) u.0) ∙ eq) in
     let g = found (file_at (world_at w run k).core (file_of (world_at w run k).core qk.sync.handle)).pages (λ e. e.1.tags.towrite && past qk.sync.last e.0) sk.entry sk.pick in
-    let rises : sj.entry.0 < sk.entry.0 = elim (now qk.sync qk.is) [ inl some ↦ absurd (none_is_some _ sk.none some) | inr more ↦ more sk.entry.0 (is_past sk.entry.1.tags.towrite (past qk.sync.last sk.entry.0) g.0) ] in
+    let rises : sj.entry.0 < sk.entry.0 = elim (now qk.sync qk.is) [ inl some ↦ absurd (none_is_some _ sk.none some) | inr more ↦ more sk.entry.0 ((and_true sk.entry.1.tags.towrite (past qk.sync.last sk.entry.0) g.0).1) ] in
     subst (λ x. x < q) same_p (subst (λ x. sj.entry.0 < x) same_q rises)
   where
-    after_entry : (x p : ℕ) → past (Some x) p ≡ true → x < p
-    after_entry x p h = grind (arith, nat_tests)
-
-    is_past : (a b : Bool) → (a && b) ≡ true → b ≡ true
-    is_past true b h = h
-    is_past false b h = absurd cc
-
     one_sync : (o : Option Sync) (a b : Sync) → o ≡ Some a → o ≡ Some b → b ≡ a
     one_sync o a b d e = let k : Some b ≡ Some a = sym e ∙ d in cc
 

@@ -1,5 +1,5 @@
 -- A world and its plain files, as look-ups alone, and what holds of them always.
-use Rattle.std.proofs.Common.{◌≡◌, ℕ, ◌+◌, ◌<◌, ◌≤◌, ◌≢◌, Bool, true, false, cond, eqb, eqb-true, eq-eqb, List, [], length, refl, ap, sym, ◌∙◌, arith, inl, inr}
+use Rattle.std.proofs.Common.{◌≡◌, ℕ, ◌+◌, ◌<◌, ◌≤◌, ◌≢◌, Bool, true, false, cond, eqb, eqb-true, eq-eqb, List, [], length, refl, ap, sym, ◌∙◌, arith, inl, inr, subst}
 use Rattle.std.specs.Prelude.{◌&&◌, ◌⊎◌, Option, Some, None, is_some, option_map}
 use Rattle.std.proofs.lemmas.Bool.{false≢true}
 use Rattle.pc_types.specs.Files.{cut}
@@ -244,3 +244,17 @@ good_after v ok page request outcome next failures pages page_in requests reques
   outcomes = outcomes;
   block_sizes = ok.block_sizes;
 }
+
+-- one page changes
+pub one_page : (v : View) → Good v → (f p : ℕ) (x : Option Page) → PageIs (v.content f p) (held v f p) (v.spot f p) x → (g q : ℕ) → PageIs (v.content g q) (held v g q) (v.spot g q) (put2 v.page f p x g q)
+one_page v ok f p x is g q = elim (put2_tells v.page f p x g q) [
+  | inl h ↦ subst (PageIs (v.content g q) (held v g q) (v.spot g q)) (sym h.2) (subst (λ k. PageIs (v.content k q) (held v k q) (v.spot k q) x) (sym h.0) (subst (λ k. PageIs (v.content f k) (held v f k) (v.spot f k) x) (sym h.1) is))
+  | inr h ↦ subst (PageIs (v.content g q) (held v g q) (v.spot g q)) (sym h.1) (ok.pages g q)
+]
+
+-- one cached page changes, or an absent page that may be cached
+pub one_page_in : (v : View) → Good v → (f p : ℕ) (x : Option Page) → (is_some x ≡ true → p < page_count v.page_size (v.size f)) → (g q : ℕ) → is_some (put2 v.page f p x g q) ≡ true → q < page_count v.page_size (v.size g)
+one_page_in v ok f p x within g q e = elim (put2_tells v.page f p x g q) [
+  | inl h ↦ subst (λ k. q < page_count v.page_size (v.size k)) (sym h.0) (subst (λ k. k < page_count v.page_size (v.size f)) (sym h.1) (within (sym (ap is_some h.2) ∙ e)))
+  | inr h ↦ ok.page_in g q (sym (ap is_some h.1) ∙ e)
+]

@@ -1,17 +1,16 @@
--- A write of a block takes effect, and goes well or fails.
+-- A write of a block takes effect.
 use Rattle.std.proofs.Common.{◌≡◌, ℕ, ◌<◌, ◌≢◌, Bool, true, false, cond, [], length, refl, ap, sym, ◌∙◌, arith, inl, inr}
 use Rattle.std.specs.Prelude.{◌⊎◌, Option, Some, None}
 use Rattle.pc_types.specs.Files.{cut}
 use Rattle.cachecore.specs.State.{Spot, Request}
-use Rattle.world.proofs.View.{View, Good, PageIs, RequestIs, HasFlush, Evolves, WasFlushed, no_gone, put1, put1_tells, put1_here, put1_else, block_user, writeback, held_by, held}
+use Rattle.world.proofs.View.{View, Good, PageIs, RequestIs, Evolves, WasFlushed, no_gone, put1, put1_tells, put1_here, put1_else, block_user, writeback, held_by, held}
 use Rattle.cachecore.specs.declared.event.Kind.TheVariants.{Flush}
-use Rattle.cachecore.specs.declared.event.Outcome.{Outcome}
 use Rattle.world.proofs.View.{still_flying}
-use Rattle.world.proofs.CallNoted.{noted_outcomes, same_request}
+use Rattle.world.proofs.CallNoted.{same_request}
 
-module _ (v : View) (ok : Good v) (t : ℕ) (r : Request) (is : v.request t ≡ Some r) (kind : r.kind ≡ Flush) (o : Outcome) where
+module _ (v : View) (ok : Good v) (t : ℕ) (r : Request) (is : v.request t ≡ Some r) (kind : r.kind ≡ Flush) where
   abbrev pub after : View
-  after = record v { outcome = put1 v.outcome t (Some o); block = put1 v.block r.block r.bytes }
+  after = record v { block = put1 v.block r.block r.bytes }
 
   same_block : (b : ℕ) → b ≢ r.block → after.block b ≡ v.block b
   same_block b n = put1_else v.block r.block r.bytes b n
@@ -40,21 +39,14 @@ module _ (v : View) (ok : Good v) (t : ℕ) (r : Request) (is : v.request t ≡ 
     serial = old.serial;
     block = old.block;
     bytes = old.bytes;
-    fill = λ d j. let h = old.fill d j in record {
-      mapped = h.mapped;
-      absent = h.absent;
-      noted = λ bytes k. elim (put1_tells v.outcome t (Some o) u) [
-        | inl w ↦ absurd (let same = same_request v t r is u s w.0 e in let b = ap (λ (x : Request). x.kind) same in cc)
-        | inr w ↦ h.noted bytes (sym w.1 ∙ k)
-      ];
-    };
+    fill = old.fill;
     flush = λ d j. let h = old.flush d j in record {
       mapped = h.mapped;
       writeback = h.writeback;
       clean = h.clean;
-      noted = λ bytes k. elim (put1_tells v.outcome t (Some o) u) [
-        | inl w ↦ let same = same_request v t r is u s w.0 e in (λ i. after.block ((same i).block)) ∙ put1_here v.block r.block r.bytes ∙ sym (ap (λ (x : Request). x.bytes) same)
-        | inr w ↦ same_block s.block (λ b. w.0 (ok.requests_apart u t s r e is b)) ∙ h.noted bytes (sym w.1 ∙ k)
+      noted = λ bytes k. elim (put1_tells v.block r.block r.bytes s.block) [
+        | inl w ↦ w.1 ∙ ap (λ (x : Request). x.bytes) (sym (same_request v t r is u s (ok.requests_apart u t s r e is w.0) e))
+        | inr w ↦ w.1 ∙ h.noted bytes k
       ];
     };
     dead = old.dead;
@@ -66,11 +58,8 @@ module _ (v : View) (ok : Good v) (t : ℕ) (r : Request) (is : v.request t ≡ 
     | inr w ↦ ap length w.1 ∙ ok.block_sizes b h
   ]
 
-  flushes : (g q : ℕ) → writeback (after.page g q) ≡ true → HasFlush after g q
-  flushes g q e = let j = ok.flushes g q e in still_flying v after g q j refl
-
-  pub call_flush_kept : Good after
-  call_flush_kept = record {
+  pub block_written_kept : Good after
+  block_written_kept = record {
     positive = ok.positive;
     pages = pages;
     page_in = ok.page_in;
@@ -79,13 +68,13 @@ module _ (v : View) (ok : Good v) (t : ℕ) (r : Request) (is : v.request t ≡ 
     spots_apart = ok.spots_apart;
     requests = requests;
     requests_apart = ok.requests_apart;
-    flushes = flushes;
-    outcomes = noted_outcomes v ok t r is o;
+    flushes = λ g q e. still_flying v after g q (ok.flushes g q e) refl;
+    outcomes = ok.outcomes;
     block_sizes = block_sizes;
   }
 
-  pub call_flush_evolves : Evolves no_gone v after
-  call_flush_evolves = record {
+  pub block_written_evolves : Evolves no_gone v after
+  block_written_evolves = record {
     on_device = λ g q _. go g q (v.spot g q) refl;
     from = λ u s e k d. inl e;
     flush = λ u s e k d _. inl e;
