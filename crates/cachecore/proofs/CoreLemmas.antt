@@ -1,7 +1,7 @@
 -- What the tables of a cache keep, and the machine's state after each change of them.
-use Rattle.std.proofs.Common.{◌≡◌, ℕ, ◌+◌, ◌-◌, ◌*◌, ◌/◌, ◌<◌, ◌≤◌, zero, suc, max, Bool, true, false, cond, not, ◌&&◌, eqb, eqb-true, List, [], ◌∷◌, ◌++◌, length, get_or, set, refl, ap, sym, subst, ◌∙◌, arith, length-append, get_or-set_same, get_or-set_other, map}
-use Rattle.std.specs.Prelude.{Option, Some, None, is_some, nat_lt, nat_le, if◌then◌else◌, slice_index_or, slice_set, sum_by, count_by, filter}
-use Rattle.std.specs.List.{range_with_len, list_any}
+use Rattle.std.proofs.Common.{◌≡◌, ℕ, ◌+◌, ◌-◌, ◌/◌, ◌<◌, ◌≤◌, zero, suc, max, Bool, true, false, cond, not, ◌&&◌, eqb, eqb-true, List, [], ◌∷◌, ◌++◌, length, get_or, refl, ap, sym, subst, ◌∙◌, arith, length-append, get_or-set_same, get_or-set_other, map}
+use Rattle.std.specs.Prelude.{Option, Some, None, is_some, nat_lt, nat_le, if◌then◌else◌, slice_set, sum_by, count_by, filter}
+use Rattle.std.specs.List.{range_with_len}
 use Rattle.std.specs.Ordering.{nat_cmp}
 use Rattle.std.specs.Cmp.{nat_cmp_total}
 use Rattle.std.specs.FinMap as finmap
@@ -14,7 +14,7 @@ use Rattle.pc_types.specs.Limits.{Sizes}
 use Rattle.pc_types.specs.declared.limits.TheConstants.{MAX_FILES, MAX_FILE_SIZE, MAX_FRAMES}
 use Rattle.pc_types.specs.declared.refusal.Refusal.TheVariants.{DirtyLimit, NoFrame, NoSpace}
 use Rattle.cachecore.specs.declared.event.Reply.{Reply}
-use Rattle.cachecore.specs.State.{State, Page, File, Spot, Request, no_file, file_at, page_at, is_cached, is_dirty, is_filling, fills, is_fill, tagged, dirty_in, dirty_total, cached_total, filling_total, free_frames, free_blocks, without_block, touched, touched_count, place_cmp}
+use Rattle.cachecore.specs.State.{State, Page, File, Request, no_file, file_at, is_cached, is_dirty, is_fill, tagged, dirty_in, dirty_total, filling_total, free_frames, free_blocks, without_block, touched, touched_count}
 use Rattle.cachecore.specs.Changes.{blank, written, written_pages, placed, put_page}
 use Rattle.cachecore.specs.Tests.{room_tests, refuse}
 use Rattle.cachecore.specs.Pairs.{AreSized}

@@ -1,16 +1,16 @@
 -- Entries in a list and the finite map that they make.
-use Rattle.std.proofs.Common.{◌≡◌, ℕ, ◌+◌, ◌<◌, zero, suc, Bool, true, false, cond, eqb, T, List, [], ◌∷◌, ◌++◌, length, get_or, set, refl, ap, sym, subst, ◌∙◌, arith, map}
-use Rattle.std.specs.Prelude.{Option, Some, None, option_map, count_by, sum_by, position, ◌==◌, is_some, unwrap_or, Result, Ok, Err, OnOk, is_ok, slice_range, min, ◌-◌, ◌*◌, if◌then◌else◌, nat_le, nat_lt, ◌&&◌}
+use Rattle.std.proofs.Common.{◌≡◌, ℕ, ◌+◌, ◌<◌, zero, suc, Bool, true, false, cond, eqb, List, [], ◌∷◌, ◌++◌, length, get_or, set, refl, ap, sym, subst, ◌∙◌, arith}
+use Rattle.std.specs.Prelude.{Option, Some, None, sum_by, position, is_some, unwrap_or, Result, Ok, Err, OnOk, is_ok, slice_range, min, ◌-◌, ◌*◌, if◌then◌else◌, nat_le, nat_lt, ◌&&◌}
 use Rattle.std.specs.Ordering.{nat_cmp, eq_by_cmp}
 use Rattle.std.specs.Cmp.{nat_cmp_total, unsigned_tied, unsigned_ties}
 use Rattle.std.specs.List.{prefix_len}
 use Rattle.std.specs.FinMap as finmap
-use Rattle.std.specs.FinMap.{FinMap, find, put, from_entries, get-from_entries, entries-insert, nat_cmp-IsAntisymmetric, same_map, get-insert, get-entries, len-entries, len-empty, len-insert, from_entries_push}
+use Rattle.std.specs.FinMap.{FinMap, find, put, from_entries, get-from_entries, entries-insert, nat_cmp-IsAntisymmetric, same_map, get-insert, get-entries, len-entries, len-empty, len-insert}
 use Rattle.std.specs.FinMap.Entries.{by_order}
 use Rattle.std.specs.declared.cmp.Ordering.TheVariants.{Less, Equal, Greater}
 use Rattle.std.proofs.lemmas.List.Quantifiers.{position-Some}
 use Rattle.std.proofs.lemmas.List.Sums.{prefix_len_passes, sum_by-cons}
-use Rattle.std.proofs.Common.{not, ltb, eqb-true, eq-eqb, ◌≤◌}
+use Rattle.std.proofs.Common.{not, eqb-true, eq-eqb, ◌≤◌}
 use Rattle.cachecore.specs.State.{Page, the_page}
 use Rattle.pc_types.specs.Tags.{no_tags}
 use Rattle.std.proofs.lemmas.Bool.{false≢true}

@@ -1,6 +1,6 @@
 -- The list of owners and the blocks that it makes.
-use Rattle.std.proofs.Common.{◌≡◌, ℕ, ◌+◌, ◌-◌, ◌<◌, ◌≤◌, zero, suc, Bool, true, false, cond, not, eqb, eqb-true, eq-eqb, ltb, leb, List, [], ◌∷◌, ◌++◌, length, map, refl, ap, sym, subst, ◌∙◌, arith, length-append, zero-add}
-use Rattle.std.specs.Prelude.{Option, Some, None, is_some, ◌&&◌, ◌||◌, filter, ◌==◌}
+use Rattle.std.proofs.Common.{◌≡◌, ℕ, ◌+◌, ◌-◌, ◌<◌, ◌≤◌, zero, suc, Bool, true, false, cond, not, eqb, eqb-true, eq-eqb, ltb, leb, List, [], ◌∷◌, ◌++◌, length, map, refl, ap, sym, ◌∙◌, arith, zero-add}
+use Rattle.std.specs.Prelude.{Option, Some, None, is_some, ◌&&◌, ◌||◌, filter}
 use Rattle.std.specs.Option.{option_or}
 use Rattle.std.specs.List.{range_with_len, list_any, zip}
 use Rattle.std.specs.Ordering.{nat_cmp, eq_by_cmp}
@@ -11,11 +11,10 @@ use Rattle.std.specs.FinMap.{FinMap, find, put, from_entries, get-from_entries, 
 use Rattle.std.specs.FinMap.Entries.{by_order}
 use Rattle.std.proofs.lemmas.Bool.{false≢true}
 use Rattle.std.proofs.lemmas.Bool.Decides.{nat_tests}
-use Rattle.std.proofs.lemmas.List.Elements.{filter_agree, filter-append}
+use Rattle.std.proofs.lemmas.List.Elements.{filter_agree}
 use Rattle.std.proofs.lemmas.List.FromFn.{filter_of_map_range_with_len_more, length-range_with_len}
-use Rattle.pc_types.specs.Limits.{Sizes}
 use Rattle.cachecore.specs.State.{State, Spot, Request, place_cmp, is_written, is_free, used_blocks, free_blocks, without_block, has_block}
-use Rattle.cachecore.specs.Changes.{overwrite, placed}
+use Rattle.cachecore.specs.Changes.{placed}
 use Rattle.cachecore.specs.Tables.{spots_from, spots_of, owns, needing, EachOnce}
 use Rattle.cachecore.proofs.MapLaws.{places_total, same_place, same_place_map, get-overwrite}
 

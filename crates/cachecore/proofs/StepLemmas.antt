@@ -1,6 +1,6 @@
 -- What the calls answer is a step of the machine.
-use Rattle.std.proofs.Common.{◌≡◌, ℕ, ◌+◌, ◌-◌, ◌*◌, ◌/◌, ◌%◌, ◌<◌, ◌≤◌, zero, suc, max, min, Bool, true, false, cond, not, eqb, eqb-true, eq-eqb, ltb, leb, List, [], ◌∷◌, ◌++◌, length, get_or, take, drop, refl, ap, sym, subst, ◌∙◌, arith, length-append, map}
-use Rattle.std.specs.Prelude.{Option, Some, None, is_some, unwrap_or, find, nat_lt, nat_le, slice_index, ◌&&◌, ◌||◌, Result, Ok, Err, IsErrAnd, is_err, OnOk, OnErr}
+use Rattle.std.proofs.Common.{◌≡◌, ℕ, ◌+◌, ◌-◌, ◌/◌, ◌%◌, ◌<◌, ◌≤◌, zero, suc, min, Bool, true, false, cond, not, eqb, eqb-true, List, [], ◌∷◌, ◌++◌, length, get_or, take, refl, ap, sym, subst, ◌∙◌, arith, length-append, map}
+use Rattle.std.specs.Prelude.{Option, Some, None, is_some, unwrap_or, find, nat_lt, nat_le, ◌&&◌, ◌||◌, Result, Ok, Err, IsErrAnd, is_err, OnOk, OnErr}
 use Rattle.std.specs.List.{range_with_len, list_any}
 use Rattle.std.specs.Ordering.{nat_cmp}
 use Rattle.std.specs.FinMap as finmap
@@ -14,7 +14,7 @@ use Rattle.pc_types.specs.declared.ids.HandleId.{HandleId}
 use Rattle.pc_types.specs.declared.ids.PageIndex.{PageIndex}
 use Rattle.pc_types.specs.declared.limits.TheConstants.{MAX_TOUCHED, MAX_FILE_SIZE}
 use Rattle.pc_types.specs.declared.refusal.Refusal.{Refusal}
-use Rattle.pc_types.specs.declared.refusal.Refusal.TheVariants.{TooLong, TooLarge, NoFrame, Memory}
+use Rattle.pc_types.specs.declared.refusal.Refusal.TheVariants.{TooLong, NoFrame, Memory}
 use Rattle.cachecore.specs.declared.event.Event.TheVariants as event
 use Rattle.cachecore.specs.declared.event.Reply.{Reply}
 use Rattle.cachecore.specs.declared.event.Reply.TheVariants as reply

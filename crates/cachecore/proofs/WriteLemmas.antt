@@ -1,9 +1,9 @@
 -- A write over a range of pages, from the parts that the code does.
-use Rattle.std.proofs.Common.{◌≡◌, ℕ, ◌+◌, ◌-◌, ◌*◌, ◌/◌, ◌<◌, ◌≤◌, zero, suc, max, min, Bool, true, false, cond, not, ◌&&◌, eqb, eqb-true, eq-eqb, leb, ltb, List, [], ◌∷◌, ◌++◌, length, get_or, set, take, drop, map, refl, ap, sym, subst, ◌∙◌, arith, length-append, get_or-set_same, get_or-set_other}
-use Rattle.std.specs.Prelude.{Option, Some, None, is_some, unwrap_or, if◌then◌else◌, nat_le, nat_lt, slice_index_or, slice_set, sum_by, count_by}
+use Rattle.std.proofs.Common.{◌≡◌, ℕ, ◌+◌, ◌-◌, ◌*◌, ◌/◌, ◌<◌, ◌≤◌, zero, suc, max, Bool, true, false, cond, not, ◌&&◌, eqb, eqb-true, leb, ltb, List, [], ◌∷◌, length, drop, map, refl, ap, sym, subst, ◌∙◌, arith}
+use Rattle.std.specs.Prelude.{Option, Some, None, is_some, unwrap_or, if◌then◌else◌, nat_le, nat_lt, count_by}
 use Rattle.std.specs.Option.{option_or}
 use Rattle.std.specs.List.{range_with_len}
-use Rattle.std.specs.Ordering.{nat_cmp, eq_by_cmp}
+use Rattle.std.specs.Ordering.{nat_cmp}
 use Rattle.std.specs.Cmp.{nat_cmp_total, unsigned_tied}
 use Rattle.std.specs.FinMap as finmap
 use Rattle.std.specs.FinMap.{FinMap, find, len-insert, get-from_entries, get-entries}
@@ -14,7 +14,7 @@ use Rattle.std.proofs.lemmas.List.Sums.{sum_by-cons}
 use Rattle.pc_types.specs.Files.{cut, pwrite}
 use Rattle.pc_types.specs.Tags.{no_tags}
 use Rattle.pc_types.proofs.FileLaws.{length-cut, length-pwrite}
-use Rattle.cachecore.specs.State.{Page, File, touches, touched, touched_count, first_page, last_page}
+use Rattle.cachecore.specs.State.{Page, File, touches, touched, touched_count}
 use Rattle.cachecore.specs.Changes.{blank, overlay, overwrite, written_page, written_pages}
 use Rattle.cachecore.specs.Pairs.{AreSized, IsLaid}
 use Rattle.cachecore.proofs.MapLaws.{same_nat_map, get-overwrite}

@@ -1,5 +1,5 @@
 -- Words of the contracts inside this crate: entries in a list, each key once, and pages read and written one after the other.
-use Rattle.std.specs.Prelude.{◌≡◌, ◌+◌, ◌/◌, ◌%◌, ◌<◌, ◌≤◌, slice_index, true, length, take, drop, ◌++◌, ℕ, List, [], ◌∷◌, Option, None, Some, if◌then◌else◌, nat_le, nat_lt, ◌&&◌, not, is_some}
+use Rattle.std.specs.Prelude.{◌≡◌, ◌+◌, ◌/◌, ◌%◌, ◌<◌, ◌≤◌, slice_index, true, length, take, drop, ◌++◌, ℕ, List, [], ◌∷◌, None, Some, if◌then◌else◌, nat_le, nat_lt, ◌&&◌, not, is_some}
 use Rattle.std.specs.Ordering.{nat_cmp}
 use Rattle.std.specs.FinMap.{FinMap, find, get}
 use Rattle.cachecore.specs.State.{Page, the_page, page_byte}

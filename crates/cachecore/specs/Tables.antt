@@ -1,5 +1,5 @@
 -- Inside this crate: the tables that the program keeps, as the maps of the state, and what always holds of them.
-use Rattle.std.specs.Prelude.{◌≡◌, ◌+◌, ◌<◌, ◌≤◌, ℕ, ◌&&◌, ◌==◌, Bool, true, false, not, map, filter, List, [], ◌∷◌, length, Option, Some, None, slice_index_or, sum_by}
+use Rattle.std.specs.Prelude.{◌≡◌, ◌+◌, ◌<◌, ◌≤◌, ℕ, ◌&&◌, ◌==◌, Bool, false, not, map, filter, List, [], ◌∷◌, length, Option, Some, None, slice_index_or, sum_by}
 use Rattle.std.specs.Ordering.{nat_cmp}
 use Rattle.std.specs.FinMap.{FinMap, empty, from_entries, get, len}
 use Rattle.std.specs.List.{range_with_len, list_any}

@@ -1,4 +1,4 @@
-use Rattle.std.proofs.Common.{arith, sym, ap, ◌∙◌, ◌≡◌}
+use Rattle.std.proofs.Common.{arith, ap, ◌∙◌}
 use Rattle.cachecore.proofs.SpotLemmas.{needing-add, needing-skip}
 use Rattle.cachecore.proofs.blocks.without_block.Goals as goal
 use Rattle.cachecore.proofs.blocks.without_block.Goals.{then-not-owns+in_ok-push, else-not-owns}

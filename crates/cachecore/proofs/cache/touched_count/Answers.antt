@@ -1,4 +1,4 @@
-use Rattle.std.proofs.Common.{arith, sym, ◌∙◌}
+use Rattle.std.proofs.Common.{sym}
 use Rattle.cachecore.proofs.Spans.{touched_count_is}
 use Rattle.cachecore.proofs.cache.touched_count.Goals as goal
 

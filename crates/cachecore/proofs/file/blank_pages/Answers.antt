@@ -1,7 +1,6 @@
-use Rattle.std.proofs.Common.{subst, sym, ap, ◌∙◌, arith, ◌≡◌, ◌+◌, ℕ, List, ◌++◌, ◌∷◌, []}
+use Rattle.std.proofs.Common.{subst, sym, ap, ◌∙◌, arith, ◌≡◌, ◌+◌, ◌++◌, ◌∷◌, []}
 use Rattle.std.specs.Prelude.{is_some}
 use Rattle.cachecore.specs.Pairs.{AreBlank}
-use Rattle.cachecore.specs.State.{Page}
 use Rattle.cachecore.specs.Changes.{blank}
 use Rattle.cachecore.proofs.PairLemmas.{AreBlank-start, AreBlank-skip, AreBlank-push, found_some, found_none}
 use Rattle.cachecore.proofs.file.blank_pages.Goals as goal

@@ -1,8 +1,8 @@
-use Rattle.std.proofs.Common.{arith, sym, ap, subst, ◌∙◌, ◌≡◌, ◌<◌, length, false}
-use Rattle.std.specs.Prelude.{is_some, slice_set}
+use Rattle.std.proofs.Common.{arith, ap, ◌∙◌, ◌≡◌, ◌<◌, length, false}
+use Rattle.std.specs.Prelude.{is_some}
 use Rattle.std.specs.FinMap as map
 use Rattle.std.proofs.lemmas.List.{get_or_read}
-use Rattle.cachecore.specs.State.{State, File, no_file, file_at, free_frames}
+use Rattle.cachecore.specs.State.{File, no_file, file_at, free_frames}
 use Rattle.cachecore.specs.Changes.{put_page, blank}
 use Rattle.cachecore.proofs.CoreLemmas.{free_frames_are, blank_state, blank_facts}
 use Rattle.cachecore.proofs.cache.CacheCore.make_blank.Goals as goal

@@ -1,9 +1,9 @@
-use Rattle.std.proofs.Common.{arith, sym, ap, subst, ◌∙◌, ◌≡◌, ◌+◌, ◌-◌, ◌*◌, ◌/◌, ◌<◌, ◌≤◌, ℕ, length, min, take, drop}
+use Rattle.std.proofs.Common.{arith, sym, ap, subst, ◌∙◌, ◌≡◌, ◌+◌, ◌-◌, ◌/◌, ◌<◌, ◌≤◌, ℕ, length, take, drop}
 use Rattle.std.specs.Prelude.{slice_index_or}
 use Rattle.std.specs.FinMap as map
 use Rattle.std.proofs.lemmas.List.{get_or_read, length-take}
 use Rattle.pc_types.specs.declared.limits.TheConstants.{MAX_FILE_SIZE, MAX_TOUCHED}
-use Rattle.cachecore.specs.State.{State, File, no_file, file_at, file_of, touched_count}
+use Rattle.cachecore.specs.State.{File, no_file, file_at, file_of, touched_count}
 use Rattle.cachecore.specs.Pairs.{AreSized, AreCached, AreRead}
 use Rattle.cachecore.proofs.Spans.{in_order}
 use Rattle.cachecore.proofs.StepLemmas.{ReadFacts, read_too_long, miss_step, bytes_step, all_cached, none_filling}

@@ -1,4 +1,4 @@
-use Rattle.std.proofs.Common.{arith, sym, ap, subst, refl, ◌∙◌, ◌≡◌, ◌<◌, ◌≤◌, ◌+◌, length}
+use Rattle.std.proofs.Common.{arith, sym, ap, subst, refl, ◌∙◌, ◌<◌, ◌≤◌, ◌+◌, length}
 use Rattle.std.specs.FinMap as map
 use Rattle.pc_types.specs.declared.limits.TheConstants.{MAX_FILE_SIZE, MAX_TOUCHED}
 use Rattle.pc_types.specs.declared.refusal.Refusal.TheVariants.{Memory}

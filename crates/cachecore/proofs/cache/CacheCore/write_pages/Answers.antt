@@ -1,8 +1,7 @@
-use Rattle.std.proofs.Common.{arith, sym, ap, subst, cond, max, ◌∙◌, ◌≡◌, ◌+◌, ◌-◌, ◌/◌, ◌<◌, ◌≤◌, ◌++◌, ℕ, length}
+use Rattle.std.proofs.Common.{arith, sym, ap, subst, cond, max, ◌∙◌, ◌≡◌, ◌+◌, ◌-◌, ◌/◌, ◌<◌, ◌++◌, ℕ, length}
 use Rattle.std.specs.Prelude.{is_ok, slice_index_or, slice_set, None}
 use Rattle.std.proofs.lemmas.List.{get_or_read}
-use Rattle.pc_types.specs.declared.limits.TheConstants.{MAX_FILE_SIZE}
-use Rattle.cachecore.specs.State.{State, File, no_file, touched_count}
+use Rattle.cachecore.specs.State.{File, no_file, touched_count}
 use Rattle.cachecore.specs.Changes.{written}
 use Rattle.cachecore.specs.Tests.{room_tests}
 use Rattle.cachecore.specs.Pairs.{AreSized}

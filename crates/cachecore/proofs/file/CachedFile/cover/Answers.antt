@@ -1,7 +1,6 @@
-use Rattle.std.proofs.Common.{sym, ap, ◌∙◌, arith, ◌≡◌, ◌+◌, ℕ, List, ◌++◌, subst}
-use Rattle.std.specs.Prelude.{Ok, Err, OnOk, is_ok, is_some, Some, not, ◌&&◌, nat_le, if◌then◌else◌}
+use Rattle.std.proofs.Common.{ap, ◌∙◌}
+use Rattle.std.specs.Prelude.{is_ok, is_some, Some, not, ◌&&◌, nat_le, if◌then◌else◌}
 use Rattle.std.specs.FinMap as map
-use Rattle.cachecore.specs.Pairs.{AreBlank, IsDistinct}
 use Rattle.cachecore.specs.Changes.{blank}
 use Rattle.cachecore.specs.State.{File}
 use Rattle.cachecore.proofs.PairLemmas.{cover_pages, cover_distinct, on_ok}

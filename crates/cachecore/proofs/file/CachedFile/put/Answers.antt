@@ -1,5 +1,5 @@
-use Rattle.std.proofs.Common.{sym, ap, ◌∙◌, arith, ◌≡◌, ◌<◌, ℕ, List, length, true, false, eqb}
-use Rattle.std.specs.Prelude.{position, Some, None, is_some}
+use Rattle.std.proofs.Common.{sym, ap, ◌∙◌, arith, ◌≡◌, length, eqb}
+use Rattle.std.specs.Prelude.{position, Some, is_some}
 use Rattle.std.specs.Ordering.{nat_cmp}
 use Rattle.std.specs.FinMap as map
 use Rattle.std.proofs.lemmas.List.Quantifiers.{position-Some}

@@ -1,7 +1,6 @@
 use Rattle.std.proofs.Common.{ap, ◌∙◌, ◌<◌, length, arith}
 use Rattle.std.specs.Prelude.{is_some}
 use Rattle.std.specs.FinMap as map
-use Rattle.cachecore.specs.Tables.{open_slots}
 use Rattle.cachecore.proofs.SlotLemmas.{slot_there, slot_closed}
 use Rattle.cachecore.proofs.handles.Handles.close.Goals as goal
 
