@@ -1,19 +1,17 @@
 -- Steps that are made one after the other, and the run that they are.
-use Rattle.std.proofs.Common.{◌≡◌, ℕ, ◌++◌, List, [], ◌∷◌, Bool, true, false, cond, map, refl, ap, sym, subst, ◌∙◌, inl, inr}
-use Rattle.std.specs.Prelude.{Option, Some, None, ◌⊎◌}
+use Rattle.std.proofs.Common.{◌≡◌, ◌++◌, List, [], ◌∷◌, Bool, true, false, cond, refl, ap, sym, subst, ◌∙◌, inl, inr}
+use Rattle.std.specs.Prelude.{Option, Some, None}
 use Rattle.pc_types.specs.declared.refusal.Refusal.TheVariants.{Memory}
-use Rattle.cachecore.specs.declared.event.Event.{Event}
 use Rattle.cachecore.specs.declared.event.Event.TheVariants as event
 use Rattle.cachecore.specs.declared.event.Reply.{Reply}
 use Rattle.cachecore.specs.declared.event.Reply.TheVariants as reply
 use Rattle.cachecore.specs.State.{State}
-use Rattle.cachecore.specs.Step.{Step as MachineStep, Answers}
+use Rattle.cachecore.specs.Step.{Answers}
 use Rattle.cachecore.specs.Tests.{tests}
 use Rattle.world.specs.declared.step.Step.{Step}
 use Rattle.world.specs.declared.step.Step.TheVariants as step
-use Rattle.world.specs.World.{World, Entry, Act, Moves}
-use Rattle.world.specs.Runs.{Run, last}
-use Rattle.world.specs.Stepping.{Held, world_of, event_of, is_made, entries_of, IsMade, Steps, Plays, LeadsTo}
+use Rattle.world.specs.World.{Act, Moves}
+use Rattle.world.specs.Stepping.{Held, world_of, event_of, is_made, entries_of, Steps, Plays, LeadsTo}
 
 -- one more step after those that were made
 pub plays-snoc : (ss : List Step) (rs : List Reply) (a b c : Held) (s : Step) (r : Reply) → Plays a ss rs b → Steps b s r c → Plays a (ss ++ s ∷ []) (rs ++ r ∷ []) c

@@ -1,5 +1,5 @@
 -- Steps that a caller asks for: what each of them does to the world, and what a list of them does.
-use Rattle.std.specs.Prelude.{Bool, true, false, map, if◌then◌else◌, ◌==◌, ◌&&◌, ◌≡◌, ℕ, ◌⊎◌, List, [], ◌∷◌, length, unwrap_or}
+use Rattle.std.specs.Prelude.{Bool, true, false, map, if◌then◌else◌, ◌==◌, ◌&&◌, ◌≡◌, ℕ, ◌⊎◌, List, [], ◌∷◌, unwrap_or}
 use Rattle.std.specs.FinMap as finmap
 use Rattle.blockdev.specs.Device.{Told}
 use Rattle.pc_types.specs.declared.refusal.Refusal.TheVariants.{Memory}

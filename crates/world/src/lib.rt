@@ -10,6 +10,8 @@
 mod promises;
 mod replies;
 pub mod step;
+#[cfg(test)]
+mod tests;
 pub mod world;
 
 pub use promises::every_run;

@@ -36,7 +36,12 @@ impl<D: BlockDevice> Model for World<D> {
 impl<D: BlockDevice> World<D> {
     /// A cache without files over a device. Refused by `BadConfig` where the device has another block size or number of
     /// blocks than the geometry; the device comes back.
-    pub fn new(alloc: Global, geometry: &Geometry, name: u64, device: D) -> Result<World<D>, (Refusal, D)>
+    pub fn new(
+        alloc: Global,
+        geometry: &Geometry,
+        name: u64,
+        device: D,
+    ) -> Result<World<D>, (Refusal, D)>
         ensures fresh { IfOk result (λ w. w ≡ first_world geometry.now name (D.told device)) }
         ensures fits { IfOk result (λ _. fits geometry.now (D.told device) ≡ true) }
         ensures refused { IfErr result (λ e. e.0 ≡ (if fits geometry.now (D.told device) then Memory else BadConfig)) }
@@ -125,7 +130,7 @@ impl<D: BlockDevice> World<D> {
     fn fill_begin(&mut self, handle: HandleId, page: PageIndex) -> Reply
         ensures { Steps self.old (Step.FillBegin handle page) result self.new }
     {
-        let Ok(buffer) = Buffer::new(self.alloc, self.core.geometry()) else {
+        let Ok(buffer) = Buffer::new(self.alloc, &self.core.geometry()) else {
             return Reply::Refused(Refusal::Memory);
         };
         replies::of_fill_begin(self.core.fill_begin(handle, page, buffer))
