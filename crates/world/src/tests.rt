@@ -20,27 +20,20 @@ fn plays_a_gap(rt: HostRuntime) -> Result<(), Refusal> {
         return Err(Refusal::BadConfig);
     };
     let handle = HandleId(0);
-    let steps = vec![in alloc;
-        Step::Create,
-        Step::Open(FileId(0)),
-        Step::Write(handle, 20, bytes(alloc, &[255])?),
-        Step::Read(handle, 0, 21),
-        Step::FillBegin(handle, PageIndex(0)),
-        Step::Read(handle, 20, 8),
-        Step::Append(handle, bytes(alloc, &[1, 2])?),
-        Step::Size(handle),
-        Step::Close(handle),
-    ]?;
+    let mut steps = Vec::with_capacity(alloc, 6)?;
+    steps.push_reserved(Step::Create);
+    steps.push_reserved(Step::Open(FileId(0)));
+    steps.push_reserved(Step::Write(handle, 20, bytes(alloc, &[255])?));
+    steps.push_reserved(Step::Read(handle, 0, 21));
+    steps.push_reserved(Step::FillBegin(handle, PageIndex(0)));
+    steps.push_reserved(Step::Read(handle, 19, 8));
     let replies = world.play(&steps)?;
-    assert!(rt; matches!(replies[0], Reply::File(FileId(0))));
-    assert!(rt; matches!(replies[1], Reply::Handle(HandleId(0))));
-    assert!(rt; matches!(replies[2], Reply::Wrote(1, 21)));
-    assert!(rt; matches!(replies[3], Reply::Miss(PageIndex(0))));
-    assert!(rt; matches!(replies[4], Reply::Filled));
-    assert!(rt; matches!(&replies[5], Reply::Bytes(read) if read.as_slice() == [255]));
-    assert!(rt; matches!(replies[6], Reply::Wrote(2, 23)));
-    assert!(rt; matches!(replies[7], Reply::Size(23)));
-    assert!(rt; matches!(replies[8], Reply::Closed));
+    assert!(rt; matches!(replies.get(2), Some(Reply::Wrote(1, 21))));
+    assert!(rt; matches!(replies.get(3), Some(Reply::Miss(PageIndex(0)))));
+    assert!(rt; matches!(replies.get(4), Some(Reply::Filled)));
+    assert!(rt;
+        matches!(replies.get(5), Some(Reply::Bytes(read)) if read.as_slice() == [0, 255].as_slice())
+    );
     let tags = world.tags(FileId(0), PageIndex(1))?;
     assert!(rt; matches!(tags, PageTags::Cached(tags) if tags.has(Tag::Dirty)));
     Ok(())
