@@ -29,6 +29,9 @@ filled_but s key n but there some filled = record {
   ];
 }
 
+pub SameSlots-refl : (s : Slab Node) → SameSlots s s
+SameSlots-refl s = record { entries = λ level place. refl; marks = λ mark level place low. refl }
+
 pub SameSlots-trans : (a b c : Slab Node) → SameSlots a b → SameSlots b c → SameSlots a c
 SameSlots-trans a b c p q = record {
   entries = λ level place. q.entries level place ∙ p.entries level place;

@@ -1,12 +1,15 @@
 -- Lemmas on an entry of several slots.
-use Rattle.std.proofs.Common.{◌≡◌, ℕ, ◌+◌, ◌/◌, ◌%◌, ◌^◌, ◌<◌, ◌*◌, Some, None, sym, ap, ◌∙◌, inl, inr, arith}
+use Rattle.std.proofs.Common.{◌≡◌, ℕ, ◌+◌, ◌/◌, ◌%◌, ◌^◌, ◌<◌, ◌*◌, Option, Some, None, refl, sym, ap, ◌∙◌, inl, inr, arith}
 use Rattle.std.proofs.lemmas.Bool.{cases_eq}
 use Rattle.slab.specs.Slab.{Slab, get}
-use Rattle.std.proofs.lemmas.Option.{same_Some}
+use Rattle.std.proofs.lemmas.Option.{same_Some, none-some}
 use Rattle.radix.proofs.SeeLemmas.{see-is}
 use Rattle.radix.specs.declared.node.Node.{Node}
+use Rattle.std.specs.Int.{bit_at}
+use Rattle.radix.specs.declared.slot.Slot.{Slot}
+use Rattle.radix.specs.declared.slot.Slot.TheVariants.{Empty, Leaf, Child, Sibling}
 use Rattle.radix.specs.declared.entry.Entry.TheVariants as entry
-use Rattle.radix.specs.Entries.{IsRun, PutsRun, StandsAt, slot, content, IsFree, entry_at, mark_at}
+use Rattle.radix.specs.Entries.{HasNoMark, node_at, bits, bit_of, IsRun, PutsRun, StandsAt, slot, content, IsFree, entry_at, mark_at}
 use Rattle.radix.specs.Tree.{SameSlots, IsTree, WritesSlot, WritesRun}
 
 whole : (at d p : ℕ) → d ≡ 0 → at / 64 ^ d ≡ p → at ≡ p
@@ -67,3 +70,24 @@ run_kept old new level place span same run = record { first = rw (same level pla
 
 pub run_put : (old new : Slab Node) (level place span value : ℕ) → PutsRun old new level place span value → IsRun new level place span
 run_put old new level place span value puts = record { first = rw (puts.first) tt; rest = puts.rest }
+
+-- where no entry stands no mark does
+pub unmarked_none : (s : Slab Node) (mark level place : ℕ) → entry_at s level place ≡ None → mark_at mark s level place ≡ 0
+unmarked_none s mark level place none = by_node_at (node_at s.slots level (place / 64)) refl
+  where
+    by_slot : (x : Slot) (bit : ℕ) → content x ≡ None → bit_of x bit ≡ 0
+    by_slot Empty bit e = refl
+    by_slot (Leaf value) bit e = absurd (none-some _ (sym e))
+    by_slot (Child key) bit e = refl
+    by_slot (Sibling first) bit e = absurd (none-some _ (sym e))
+
+    by_node_at : (o : Option Node) → node_at s.slots level (place / 64) ≡ o → mark_at mark s level place ≡ 0
+    by_node_at None e = rw e refl
+    by_node_at (Some n) e = rw e (by_slot (slot n (place % 64)) (bit_at (bits n mark) (place % 64)) (rw e at none))
+
+pub free_first : (s : Slab Node) (level place : ℕ) → IsFree s level (place + 0) → IsFree s level place
+free_first s level place free = let e : place + 0 ≡ place = omega arith in rw e at free
+
+-- what is put has no mark
+pub put_unmarked : (old new : Slab Node) (level place : ℕ) → IsFree old level place → ((mark other at : ℕ) → mark < 3 → mark_at mark new other at ≡ mark_at mark old other at) → HasNoMark new level place
+put_unmarked old new level place free marks = record { each = λ mark low. marks mark level place low ∙ unmarked_none old mark level place (free.each 0 level place (omega arith) (omega arith)) }

@@ -194,6 +194,7 @@ pub(crate) fn add_head(nodes: &mut Slab<Node>, head: usize) -> usize
     ensures len { slab_len nodes.new ≡ slab_len nodes.old + 1 }
     ensures capacity { nodes.new.capacity ≡ nodes.old.capacity }
 {
+    // The check finds the type of the slots only where the body names it. This costs nothing.
     let _word = Word::empty();
     let over = Node::over(&nodes[head], head);
     let above = nodes.insert_reserved(over);
@@ -234,6 +235,7 @@ fn plant(nodes: &mut Slab<Node>, level: u32, index: u64) -> usize
     ensures capacity { nodes.new.capacity ≡ nodes.old.capacity }
 {
     let height = height_for(index, level);
+    // As in `add_head`.
     let _word = Word::empty();
     nodes.insert_reserved(Node::blank_at(height, 0, None))
 }

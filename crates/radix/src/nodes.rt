@@ -140,6 +140,7 @@ impl Nodes {
         requires value { value < 2 ^ 63 }
         requires free { IsFree self.old level (index / 64 ^ level) }
         ensures puts { PutsEntry self.old self.new level (index / 64 ^ level) (Some (Entry.Leaf value)) }
+        ensures unmarked { HasNoMark self.new level (index / 64 ^ level) }
         ensures stands { StandsAt self.new cursor level (index / 64 ^ level / 64) }
     {
         let Some(head) = self.head else {
@@ -155,14 +156,15 @@ impl Nodes {
         requires clear { IsClear self.old level index }
         requires free { IsFree self.old level (index / 64 ^ level) }
         requires room { HasPathRoom self.old level index }
-        ensures { PutsEntry self.old self.new level (index / 64 ^ level) (Some (Entry.Leaf value)) }
+        ensures puts { PutsEntry self.old self.new level (index / 64 ^ level) (Some (Entry.Leaf value)) }
+        ensures unmarked { HasNoMark self.new level (index / 64 ^ level) }
     {
         let head = growth::head_for(&mut self.slab, self.head, level, index);
         growth::put(&mut self.slab, head, level, index, value);
         self.head = Some(head);
     }
 
-    /// Puts an entry of several slots of a node, in the room that `reserve_path` made.
+    /// Puts an entry of several slots of a node without marks, in the room that `reserve_path` made.
     pub fn put_run(&mut self, index: u64, level: u32, span: u64, value: u64)
         requires level { level ≤ 10 }
         requires some { 0 < span }
@@ -171,7 +173,8 @@ impl Nodes {
         requires clear { IsClear self.old level index }
         requires free { (j : ℕ) → j < span → IsFree self.old level (index / 64 ^ level + j) }
         requires room { HasPathRoom self.old level index }
-        ensures { PutsRun self.old self.new level (index / 64 ^ level) span value }
+        ensures puts { PutsRun self.old self.new level (index / 64 ^ level) span value }
+        ensures unmarked { HasNoMark self.new level (index / 64 ^ level) }
     {
         let head = growth::head_for(&mut self.slab, self.head, level, index);
         growth::put_run(&mut self.slab, head, level, index, span, value);
