@@ -1,0 +1,196 @@
+-- What the words of a command must be, by its name.
+use Rattle.std.proofs.Common.{◌≡◌, ◌≢◌, ℕ, ◌≤◌, List, [], ◌∷◌, Bool, true, false, cond, length, drop, refl, sym, ap, subst, ◌∙◌, arith}
+use Rattle.std.specs.Prelude.{codes, if◌then◌else◌}
+use Rattle.std.specs.Str.{bytes_eq}
+use Rattle.std.proofs.lemmas.Fmt.{decimal_injective}
+use Rattle.pcache.specs.declared.command.Command.{Command}
+use Rattle.pcache.specs.declared.command.Command.TheVariants as command
+use Rattle.pcache.specs.declared.command.TheConstants.{MAX_READ}
+use Rattle.pcache.specs.declared.keyword.Keyword.{Keyword}
+use Rattle.pcache.specs.declared.keyword.Keyword.TheVariants.{Config, Create, Open, Close, Size, Read, Write, Append, Fill, Tags}
+use Rattle.pcache.specs.Keywords.{name_of}
+use Rattle.pcache.specs.Commands.{Part, Name, Number, Hex, Is, Begins, parts_of, Asks}
+
+-- ---- names
+
+-- the keyword of a name
+keyword_of_name : List ℕ → Keyword
+keyword_of_name text =
+    if bytes_eq text (codes "config") then Config
+    else if bytes_eq text (codes "create") then Create
+    else if bytes_eq text (codes "open") then Open
+    else if bytes_eq text (codes "close") then Close
+    else if bytes_eq text (codes "size") then Size
+    else if bytes_eq text (codes "read") then Read
+    else if bytes_eq text (codes "write") then Write
+    else if bytes_eq text (codes "append") then Append
+    else if bytes_eq text (codes "fill") then Fill
+    else Tags
+
+keyword_of_name-name_of : (k : Keyword) → keyword_of_name (name_of k) ≡ k
+unfolding keyword_of_name
+keyword_of_name-name_of Config = refl
+keyword_of_name-name_of Create = refl
+keyword_of_name-name_of Open = refl
+keyword_of_name-name_of Close = refl
+keyword_of_name-name_of Size = refl
+keyword_of_name-name_of Read = refl
+keyword_of_name-name_of Write = refl
+keyword_of_name-name_of Append = refl
+keyword_of_name-name_of Fill = refl
+keyword_of_name-name_of Tags = refl
+
+-- two keywords have two names
+pub name_of_injective : (j k : Keyword) → name_of j ≡ name_of k → j ≡ k
+name_of_injective j k e = sym (keyword_of_name-name_of j) ∙ ap keyword_of_name e ∙ keyword_of_name-name_of k
+
+-- ---- words, part by part
+
+head_eq : {A : Type 0} (x y : A) (xs ys : List A) → x ∷ xs ≡ y ∷ ys → x ≡ y
+head_eq x y xs ys e = cc
+
+tail_eq : {A : Type 0} (x y : A) (xs ys : List A) → x ∷ xs ≡ y ∷ ys → xs ≡ ys
+tail_eq x y xs ys e = cc
+
+-- words that begin with a name are those of the command that has it
+pub named : (k j : Keyword) (words : List (List ℕ)) (parts : List Part) (rest : List (List ℕ)) → Begins (name_of k ∷ words) (Name j ∷ parts) rest
+    → (j ≡ k) × Begins words parts rest
+named k j words parts rest (word, more, e, is, begins) = (
+  name_of_injective j k (sym is ∙ sym (head_eq _ _ _ _ e)),
+  subst (λ w. Begins w parts rest) (sym (tail_eq _ _ _ _ e)) begins,
+)
+
+-- `Begins`, as a record whose arguments are found from it
+pub record Starts (words : List (List ℕ)) (parts : List Part) (rest : List (List ℕ)) : Type 0 where
+  pub begins : Begins words parts rest
+
+-- after a number the words go on with the next part
+pub after_number : {words taken rest : List (List ℕ)} {m : ℕ} {q : Part} {parts : List Part} → Begins words (Number m ∷ []) taken → Starts words (q ∷ parts) rest
+    → Starts taken parts rest
+after_number {rest = rest} {parts = parts} (w, more, e, is, end) starts =
+    let (v, more', e', is', begins) = starts.begins in
+    record { begins = subst (λ ws. Begins ws parts rest) (sym (tail_eq _ _ _ _ (sym e ∙ e')) ∙ end) begins }
+
+-- one word is one number
+pub same_number : {words rest end : List (List ℕ)} {m n : ℕ} {parts : List Part} → Begins words (Number m ∷ []) rest → Starts words (Number n ∷ parts) end → m ≡ n
+same_number {m = m} {n = n} (w, more, e, is, b) starts =
+    let (v, more', e', is', b') = starts.begins in
+    decimal_injective m n is.1 is'.1 (sym is.0 ∙ head_eq _ _ _ _ (sym e ∙ e') ∙ is'.0)
+
+-- words that begin with no number are no command's that goes on with one
+pub no_number : {words rest : List (List ℕ)} {n : ℕ} {parts : List Part} → ((m : ℕ) (r : List (List ℕ)) → ¬ (Begins words (Number m ∷ []) r))
+    → Starts words (Number n ∷ parts) rest → ⊥
+no_number {n = n} none starts = let (w, more, e, is, b) = starts.begins in none n more (w, more, e, is, refl)
+
+pub no_bytes : {words rest : List (List ℕ)} {b : List ℕ} {parts : List Part} → ((a : List ℕ) (r : List (List ℕ)) → ¬ (Begins words (Hex a ∷ []) r))
+    → Starts words (Hex b ∷ parts) rest → ⊥
+no_bytes {b = b} none starts = let (w, more, e, is, h) = starts.begins in none b more (w, more, e, is, refl)
+
+keyword_of : Command → Keyword
+keyword_of (command.Config a b c d) = Config
+keyword_of command.Create = Create
+keyword_of (command.Open f) = Open
+keyword_of (command.Close h) = Close
+keyword_of (command.Size h) = Size
+keyword_of (command.Read h o n) = Read
+keyword_of (command.Write h o b) = Write
+keyword_of (command.Append h b) = Append
+keyword_of (command.Fill h p) = Fill
+keyword_of (command.Tags f p) = Tags
+
+named_parts : (k : Keyword) (words rest : List (List ℕ)) (c : Command) → Begins (name_of k ∷ words) (parts_of c) rest
+    → (keyword_of c ≡ k) × Begins words (drop 1 (parts_of c)) rest
+unfolding keyword_of
+named_parts k words rest (command.Config a b c d) begins = named k Config words (Number a ∷ Number b ∷ Number c ∷ Number d ∷ []) rest begins
+named_parts k words rest command.Create begins = named k Create words ([]) rest begins
+named_parts k words rest (command.Open f) begins = named k Open words (Number f.0 ∷ []) rest begins
+named_parts k words rest (command.Close h) begins = named k Close words (Number h.0 ∷ []) rest begins
+named_parts k words rest (command.Size h) begins = named k Size words (Number h.0 ∷ []) rest begins
+named_parts k words rest (command.Read h o n) begins = named k Read words (Number h.0 ∷ Number o ∷ Number n ∷ []) rest begins
+named_parts k words rest (command.Write h o b) begins = named k Write words (Number h.0 ∷ Number o ∷ Hex b ∷ []) rest begins
+named_parts k words rest (command.Append h b) begins = named k Append words (Number h.0 ∷ Hex b ∷ []) rest begins
+named_parts k words rest (command.Fill h p) begins = named k Fill words (Number h.0 ∷ Number p.0 ∷ []) rest begins
+named_parts k words rest (command.Tags f p) begins = named k Tags words (Number f.0 ∷ Number p.0 ∷ []) rest begins
+
+-- ---- what follows a name
+
+-- the words after a keyword, where they ask for its command
+abbrev pub Follows : Keyword → List (List ℕ) → Type 0
+Follows Config words = (a : ℕ) × (b : ℕ) × (c : ℕ) × (d : ℕ) × Starts words (Number a ∷ Number b ∷ Number c ∷ Number d ∷ []) []
+Follows Create words = words ≡ []
+Follows Open words = (a : ℕ) × Starts words (Number a ∷ []) []
+Follows Close words = (a : ℕ) × Starts words (Number a ∷ []) []
+Follows Size words = (a : ℕ) × Starts words (Number a ∷ []) []
+Follows Read words = (a : ℕ) × (b : ℕ) × (n : ℕ) × Starts words (Number a ∷ Number b ∷ Number n ∷ []) [] × (n ≤ MAX_READ)
+Follows Write words = (a : ℕ) × (b : ℕ) × (bytes : List ℕ) × Starts words (Number a ∷ Number b ∷ Hex bytes ∷ []) []
+Follows Append words = (a : ℕ) × (bytes : List ℕ) × Starts words (Number a ∷ Hex bytes ∷ []) []
+Follows Fill words = (a : ℕ) × (b : ℕ) × Starts words (Number a ∷ Number b ∷ []) []
+Follows Tags words = (a : ℕ) × (b : ℕ) × Starts words (Number a ∷ Number b ∷ []) []
+
+pub asks : (k : Keyword) (words : List (List ℕ)) (c : Command) → Asks (name_of k ∷ words) c → Follows k words
+unfolding keyword_of
+asks k words (command.Config a b c d) asked = let s = named_parts k words [] (command.Config a b c d) asked.0 in subst (λ j. Follows j words) s.0 (a, b, c, d, record { begins = s.1 })
+asks k words command.Create asked = let s = named_parts k words [] command.Create asked.0 in subst (λ j. Follows j words) s.0 s.1
+asks k words (command.Open f) asked = let s = named_parts k words [] (command.Open f) asked.0 in subst (λ j. Follows j words) s.0 (f.0, record { begins = s.1 })
+asks k words (command.Close h) asked = let s = named_parts k words [] (command.Close h) asked.0 in subst (λ j. Follows j words) s.0 (h.0, record { begins = s.1 })
+asks k words (command.Size h) asked = let s = named_parts k words [] (command.Size h) asked.0 in subst (λ j. Follows j words) s.0 (h.0, record { begins = s.1 })
+asks k words (command.Read h o n) asked = let s = named_parts k words [] (command.Read h o n) asked.0 in subst (λ j. Follows j words) s.0 (h.0, o, n, record { begins = s.1 }, asked.1)
+asks k words (command.Write h o b) asked = let s = named_parts k words [] (command.Write h o b) asked.0 in subst (λ j. Follows j words) s.0 (h.0, o, b, record { begins = s.1 })
+asks k words (command.Append h b) asked = let s = named_parts k words [] (command.Append h b) asked.0 in subst (λ j. Follows j words) s.0 (h.0, b, record { begins = s.1 })
+asks k words (command.Fill h p) asked = let s = named_parts k words [] (command.Fill h p) asked.0 in subst (λ j. Follows j words) s.0 (h.0, p.0, record { begins = s.1 })
+asks k words (command.Tags f p) asked = let s = named_parts k words [] (command.Tags f p) asked.0 in subst (λ j. Follows j words) s.0 (f.0, p.0, record { begins = s.1 })
+
+-- ---- nothing follows
+
+-- parts of one number take words of one number
+same_rest : (parts others : List Part) (words rest end : List (List ℕ)) → length parts ≡ length others → Begins words parts rest → Begins words others end → rest ≡ end
+same_rest [] [] words rest end e b c = sym b ∙ c
+same_rest [] (q ∷ qs) words rest end e b c = absurd (omega arith)
+same_rest (p ∷ ps) [] words rest end e b c = absurd (omega arith)
+same_rest (p ∷ ps) (q ∷ qs) words rest end e (w, more, at, is, b) (v, more', at', is', c) =
+    same_rest ps qs more rest end (omega arith) b (subst (λ ws. Begins ws qs end) (sym (tail_eq _ _ _ _ (sym at ∙ at'))) c)
+
+count_of : Keyword → ℕ
+count_of Config = 5
+count_of Create = 1
+count_of Open = 2
+count_of Close = 2
+count_of Size = 2
+count_of Read = 4
+count_of Write = 4
+count_of Append = 3
+count_of Fill = 3
+count_of Tags = 3
+
+length-parts_of : (c : Command) → length (parts_of c) ≡ count_of (keyword_of c)
+unfolding keyword_of count_of
+length-parts_of (command.Config a b c d) = refl
+length-parts_of command.Create = refl
+length-parts_of (command.Open f) = refl
+length-parts_of (command.Close h) = refl
+length-parts_of (command.Size h) = refl
+length-parts_of (command.Read h o n) = refl
+length-parts_of (command.Write h o b) = refl
+length-parts_of (command.Append h b) = refl
+length-parts_of (command.Fill h p) = refl
+length-parts_of (command.Tags f p) = refl
+
+-- where words are left after one command of a name, the words are no other command
+pub ends : (k : Keyword) (words rest : List (List ℕ)) (c other : Command) → Begins (name_of k ∷ words) (parts_of c) rest → Asks (name_of k ∷ words) other → rest ≡ []
+ends k words rest c other b a =
+    let mine = (named_parts k words rest c b).0 in
+    let others = (named_parts k words [] other a.0).0 in
+    same_rest (parts_of c) (parts_of other) _ rest [] (length-parts_of c ∙ ap count_of (mine ∙ sym others) ∙ sym (length-parts_of other)) b a.0
+
+-- a first word that is no name begins no command
+pub unnamed : (word : List ℕ) (words : List (List ℕ)) (c : Command) → ((k : Keyword) → name_of k ≢ word) → ¬ (Asks (word ∷ words) c)
+unnamed word words (command.Config a b c d) none h = none Config (sym h.0.3 ∙ sym (head_eq _ _ _ _ h.0.2))
+unnamed word words command.Create none h = none Create (sym h.0.3 ∙ sym (head_eq _ _ _ _ h.0.2))
+unnamed word words (command.Open f) none h = none Open (sym h.0.3 ∙ sym (head_eq _ _ _ _ h.0.2))
+unnamed word words (command.Close a) none h = none Close (sym h.0.3 ∙ sym (head_eq _ _ _ _ h.0.2))
+unnamed word words (command.Size a) none h = none Size (sym h.0.3 ∙ sym (head_eq _ _ _ _ h.0.2))
+unnamed word words (command.Read a o n) none h = none Read (sym h.0.3 ∙ sym (head_eq _ _ _ _ h.0.2))
+unnamed word words (command.Write a o b) none h = none Write (sym h.0.3 ∙ sym (head_eq _ _ _ _ h.0.2))
+unnamed word words (command.Append a b) none h = none Append (sym h.0.3 ∙ sym (head_eq _ _ _ _ h.0.2))
+unnamed word words (command.Fill a p) none h = none Fill (sym h.0.3 ∙ sym (head_eq _ _ _ _ h.0.2))
+unnamed word words (command.Tags f p) none h = none Tags (sym h.0.3 ∙ sym (head_eq _ _ _ _ h.0.2))

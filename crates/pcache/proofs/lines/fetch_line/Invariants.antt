@@ -1,0 +1,12 @@
+use Rattle.std.proofs.Common.{◌≡◌, ◌≤◌, List, [], IfSome, vec_len}
+use Rattle.std.specs.Io.KnownBytes.{Keeps}
+use Rattle.pcache.specs.declared.lines.TheConstants.{MAX_LINE}
+use Rattle.pcache.specs.Lines.{HasBegun}
+use Rattle.pcache.proofs.lines.fetch_line.Given as goal
+
+abbrev pub invariant-looks : goal.invariant-looks
+invariant-looks g l = record {
+  within : vec_len l.line ≤ MAX_LINE;
+  begun : IfSome (g.R.Read.remaining l.initial.reader) (λ bytes. HasBegun bytes l.line.items (g.R.Read.remaining l.reader));
+  out : Keeps (g.W.Write.contents l.initial.out) (g.W.Write.contents l.out);
+}

@@ -1,0 +1,51 @@
+-- The lines of a script that are commands.
+use Rattle.std.specs.Prelude.{◌≡◌, ℕ, ◌≤◌, List, [], ◌∷◌, Some, codes}
+use Rattle.pcache.specs.declared.command.Command.{Command}
+use Rattle.pcache.specs.declared.command.Command.TheVariants as command
+use Rattle.pcache.specs.declared.keyword.Keyword.{Keyword}
+use Rattle.pcache.specs.declared.keyword.Keyword.TheVariants.{Config, Create, Open, Close, Size, Read, Write, Append, Fill, Tags}
+use Rattle.pcache.specs.declared.command.TheConstants.{MAX_READ}
+use Rattle.pcache.specs.Keywords.{name_of}
+use Rattle.pcache.specs.Words.{IsNumber, bytes_of, words_of}
+
+-- what a word of a command is: its name, a number, or bytes
+pub data Part : Type 0 where
+  Name : (keyword : Keyword) → Part
+  Number : (n : ℕ) → Part
+  Hex : (bytes : List ℕ) → Part
+
+abbrev pub Is : List ℕ → Part → Type 0
+Is word (Name keyword) = word ≡ name_of keyword
+Is word (Number n) = IsNumber word n
+Is word (Hex bytes) = bytes_of word ≡ Some bytes
+
+-- the first words are these parts, one by one, and the rest follows them
+abbrev pub Begins : List (List ℕ) → List Part → List (List ℕ) → Type 0
+Begins words [] rest = words ≡ rest
+Begins words (part ∷ parts) rest = (word : List ℕ) × (more : List (List ℕ)) × (words ≡ word ∷ more) × Is word part × Begins more parts rest
+
+-- the words of each command
+abbrev pub parts_of : Command → List Part
+parts_of (command.Config page frames dirty_limit blocks) = Name Config ∷ Number page ∷ Number frames ∷ Number dirty_limit ∷ Number blocks ∷ []
+parts_of command.Create = Name Create ∷ []
+parts_of (command.Open file) = Name Open ∷ Number file.0 ∷ []
+parts_of (command.Close handle) = Name Close ∷ Number handle.0 ∷ []
+parts_of (command.Size handle) = Name Size ∷ Number handle.0 ∷ []
+parts_of (command.Read handle offset count) = Name Read ∷ Number handle.0 ∷ Number offset ∷ Number count ∷ []
+parts_of (command.Write handle offset bytes) = Name Write ∷ Number handle.0 ∷ Number offset ∷ Hex bytes ∷ []
+parts_of (command.Append handle bytes) = Name Append ∷ Number handle.0 ∷ Hex bytes ∷ []
+parts_of (command.Fill handle page) = Name Fill ∷ Number handle.0 ∷ Number page.0 ∷ []
+parts_of (command.Tags file page) = Name Tags ∷ Number file.0 ∷ Number page.0 ∷ []
+
+-- a command reads no more bytes than this
+abbrev pub IsWithinLimit : Command → Type 0
+IsWithinLimit (command.Read handle offset count) = count ≤ MAX_READ
+IsWithinLimit _ = Unit {0}
+
+-- the words ask for the command, and nothing follows
+abbrev pub Asks : List (List ℕ) → Command → Type 0
+Asks words c = Begins words (parts_of c) [] × IsWithinLimit c
+
+-- the line asks for the command
+abbrev pub Means : List ℕ → Command → Type 0
+Means line c = Asks (words_of line) c

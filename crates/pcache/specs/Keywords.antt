@@ -1,0 +1,16 @@
+-- The names of the commands.
+use Rattle.std.specs.Prelude.{ℕ, List, codes}
+use Rattle.pcache.specs.declared.keyword.Keyword.{Keyword}
+use Rattle.pcache.specs.declared.keyword.Keyword.TheVariants.{Config, Create, Open, Close, Size, Read, Write, Append, Fill, Tags}
+
+abbrev pub name_of : Keyword → List ℕ
+name_of Config = codes "config"
+name_of Create = codes "create"
+name_of Open = codes "open"
+name_of Close = codes "close"
+name_of Size = codes "size"
+name_of Read = codes "read"
+name_of Write = codes "write"
+name_of Append = codes "append"
+name_of Fill = codes "fill"
+name_of Tags = codes "tags"

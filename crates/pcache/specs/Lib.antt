@@ -1,0 +1,6 @@
+pub mod Answers
+pub mod Commands
+pub mod Keywords
+pub mod Lines
+pub mod Stops
+pub mod Words

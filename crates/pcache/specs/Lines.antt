@@ -1,0 +1,27 @@
+-- The lines of a script, as bytes that a reader has left.
+use Rattle.std.specs.Prelude.{◌≡◌, ◌≢◌, ℕ, ◌<◌, Bool, ◌==◌, List, [], ◌++◌, length, All, Option, Some}
+use Rattle.std.specs.List.{before_first, after_first}
+use Rattle.pcache.specs.declared.lines.Fetched.{Fetched}
+use Rattle.pcache.specs.declared.lines.Fetched.TheVariants.{Line, TooLong, End}
+use Rattle.pcache.specs.declared.lines.Look.{Look}
+use Rattle.pcache.specs.declared.lines.Look.TheVariants.{Part, Ended}
+use Rattle.pcache.specs.declared.lines.TheConstants.{MAX_LINE}
+
+-- the end of a line, byte 0a in hexadecimal
+abbrev pub is_newline : ℕ → Bool
+is_newline b = b == 10
+
+-- what came of asking for a line where the reader had `bytes` left: the line, and what the reader has left now
+abbrev pub Fetches : List ℕ → Fetched → List ℕ → Option (List ℕ) → Type 0
+Fetches bytes Line line left = (bytes ≢ []) × (line ≡ before_first is_newline bytes) × (left ≡ Some (after_first is_newline bytes))
+Fetches bytes TooLong line left = MAX_LINE < length (before_first is_newline bytes)
+Fetches bytes End line left = bytes ≡ []
+
+-- the line that is first in `bytes` has begun with `line`, and the reader has the rest left
+abbrev pub HasBegun : List ℕ → List ℕ → Option (List ℕ) → Type 0
+HasBegun bytes line left = (rest : List ℕ) × (left ≡ Some rest) × (bytes ≡ line ++ rest) × All (λ b. b ≢ 10) line
+
+-- what came of one look at the reader's buffer
+abbrev pub Goes : List ℕ → Look → List ℕ → Option (List ℕ) → Type 0
+Goes bytes Part line left = HasBegun bytes line left
+Goes bytes (Ended fetched) line left = Fetches bytes fetched line left

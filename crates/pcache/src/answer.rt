@@ -1,0 +1,109 @@
+//! What a line of a script answers, as it is printed.
+
+ghost use Rattle.std.specs.Prelude.{◌≡◌, ◌∷◌, [], ◌++◌, OnOk, IfSome, codes};
+ghost use Rattle.std.specs.Io.KnownBytes.{Appends};
+ghost use Rattle.pc_types.specs.TagBits.{tag_set};
+ghost use Rattle.pcache.specs.Answers.{answer_of, letters_of, refusal_text, tags_text, hex_text, Prints};
+
+use crate::stop::Stop;
+use cachecore::{PageTags, Reply};
+use pc_types::{Refusal, Tag, Tags};
+use std::alloc::Global;
+use std::fmt::Display;
+use std::io::Write;
+
+/// Prints one line.
+pub fn print_line<W: Write, D: Display + Drop>(out: &mut W, answer: D) -> Result<(), Stop>
+    ensures { OnOk result (IfSome (D.output answer) (λ text. Prints (W.contents out.old) (W.contents out.new) text)) }
+{
+    match out.writeln(answer) {
+        Ok(()) => Ok(()),
+        Err(_) => Err(Stop::Output),
+    }
+}
+
+/// Prints what an event of the cache replied.
+pub fn print_reply<W: Write>(alloc: Global, out: &mut W, reply: &Reply) -> Result<(), Stop>
+    ensures { OnOk result (Prints (W.contents out.old) (W.contents out.new) (answer_of reply.now)) }
+{
+    match reply {
+        Reply::Refused(refusal) => print_refusal(out, *refusal),
+        Reply::File(file) => print_line(out, format_args!("file {}", file.0)),
+        Reply::Handle(handle) => print_line(out, format_args!("handle {}", handle.0)),
+        Reply::Closed => print_line(out, "closed"),
+        Reply::Size(size) => print_line(out, format_args!("size {size}")),
+        Reply::Bytes(bytes) => print_bytes(alloc, out, bytes.as_slice()),
+        Reply::Wait(page) => print_line(out, format_args!("wait {}", page.0)),
+        Reply::Miss(page) => print_line(out, format_args!("miss {}", page.0)),
+        Reply::Wrote(count, _) => print_line(out, format_args!("wrote {count}")),
+        Reply::Done => print_line(out, "ok"),
+        Reply::Gone => print_line(out, "gone"),
+        Reply::Present => print_line(out, "present"),
+        Reply::Filled => print_line(out, "filled"),
+        Reply::Job(serial) => print_line(out, format_args!("job {}", serial.0)),
+        Reply::Dropped => print_line(out, "dropped"),
+        Reply::Failed(code) => print_line(out, format_args!("failed {}", code.code())),
+        Reply::Nothing => print_line(out, "nothing"),
+        Reply::Written => print_line(out, "written"),
+        Reply::Evicted(file, page) => print_line(
+            out,
+            format_args!("evicted {} {}", file.0, page.0),
+        ),
+        Reply::NoneIdle => print_line(out, "none"),
+        Reply::Aged(count) => print_line(out, format_args!("aged {count}")),
+        Reply::Sync(sync) => print_line(out, format_args!("sync {}", sync.0)),
+        Reply::Clean => print_line(out, "clean"),
+    }
+}
+
+/// Prints a refusal by its number.
+pub fn print_refusal<W: Write>(out: &mut W, refusal: Refusal) -> Result<(), Stop>
+    ensures { OnOk result (Prints (W.contents out.old) (W.contents out.new) (refusal_text refusal)) }
+{
+    match refusal {
+        Refusal::Io(code) => print_line(out, format_args!("refused 14 {}", code.code())),
+        _ => print_line(out, format_args!("refused {}", refusal.number())),
+    }
+}
+
+/// Prints bytes in lower case, or `-` where there are none.
+fn print_bytes<W: Write>(alloc: Global, out: &mut W, bytes: &[u8]) -> Result<(), Stop>
+    ensures { OnOk result (Prints (W.contents out.old) (W.contents out.new) (codes "bytes " ++ hex_text bytes.now)) }
+{
+    if bytes.is_empty() {
+        return print_line(out, "bytes -");
+    }
+    let digits = hex::encode(alloc, bytes)?;
+    print_line(out, format_args!("bytes {}", digits.as_str()))
+}
+
+/// Prints what is known of a page.
+pub fn print_tags<W: Write>(out: &mut W, tags: PageTags) -> Result<(), Stop>
+    ensures { OnOk result (Prints (W.contents out.old) (W.contents out.new) (tags_text tags)) }
+{
+    match tags {
+        PageTags::Absent => print_line(out, "absent"),
+        PageTags::Filling => print_line(out, "filling"),
+        PageTags::Cached(tags) => print_line(out, letters(tags)),
+    }
+}
+
+/// The letters of the tags that are set: dirty, under writeback, to be written by a sync.
+fn letters(tags: Tags) -> &'static str
+    ensures { result.now ≡ letters_of (tag_set tags) }
+{
+    match (
+        tags.has(Tag::Dirty),
+        tags.has(Tag::Writeback),
+        tags.has(Tag::Towrite),
+    ) {
+        (false, false, false) => "-",
+        (true, false, false) => "D",
+        (false, true, false) => "W",
+        (true, true, false) => "DW",
+        (false, false, true) => "T",
+        (true, false, true) => "DT",
+        (false, true, true) => "WT",
+        (true, true, true) => "DWT",
+    }
+}

@@ -1,0 +1,158 @@
+//! What a line of a script asks for.
+
+ghost use Rattle.std.specs.Prelude.{◌≡◌, ◌∷◌, [], IfOk};
+ghost use Rattle.pcache.specs.Keywords.{name_of};
+
+use crate::keyword::Keyword;
+use crate::words::{Fault, Words};
+use pc_types::{Bytes, FileId, HandleId, PageIndex};
+use std::alloc::Global;
+
+/// The most bytes that one command reads.
+pub const MAX_READ: u64 = 131_072;
+
+/// A line of a script that is neither empty nor a comment.
+#[derive(Drop, Debug)]
+pub enum Command {
+    /// Page size, frames, dirty limit and blocks.
+    Config(u64, u64, u64, u64),
+    Create,
+    Open(FileId),
+    Close(HandleId),
+    Size(HandleId),
+    /// An offset and how many bytes to read.
+    Read(HandleId, u64, u64),
+    /// An offset and the bytes to write there.
+    Write(HandleId, u64, Bytes),
+    Append(HandleId, Bytes),
+    Fill(HandleId, PageIndex),
+    Tags(FileId, PageIndex),
+}
+
+impl Command {
+    ghost use Rattle.pcache.specs.Commands.{Begins, Asks, Means, parts_of, IsWithinLimit};
+    ghost use Rattle.pcache.specs.declared.command.Command.{Command as TheCommand};
+
+    /// The command that a line asks for.
+    pub fn parse(alloc: Global, line: &[u8]) -> Result<Command, Fault>
+        ensures ok { IfOk result (Means line.now) }
+        ensures malformed { result ≡ Err Fault.Malformed → (c : TheCommand) → ¬ (Means line.now c) }
+    {
+        let mut words = Words::new(line);
+        let Some(name) = words.word() else {
+            return Err(Fault::Malformed);
+        };
+        let Some(keyword) = Keyword::of(name) else {
+            return Err(Fault::Malformed);
+        };
+        let command = Command::with_arguments(alloc, keyword, &mut words)?;
+        words.end()?;
+        Ok(command)
+    }
+
+    /// The command of this name, with the arguments that the next words are.
+    fn with_arguments(alloc: Global, keyword: Keyword, words: &mut Words) -> Result<Command, Fault>
+        ensures ok { IfOk result (λ c. Begins (name_of keyword ∷ words.old) (parts_of c) words.new × IsWithinLimit c) }
+        ensures malformed { result ≡ Err Fault.Malformed → (c : TheCommand) → ¬ (Asks (name_of keyword ∷ words.old) c) }
+    {
+        match keyword {
+            Keyword::Config => Command::config(words),
+            Keyword::Create => Ok(Command::Create),
+            Keyword::Open => Command::open(words),
+            Keyword::Close => Command::close(words),
+            Keyword::Size => Command::size(words),
+            Keyword::Read => Command::read(words),
+            Keyword::Write => Command::write(alloc, words),
+            Keyword::Append => Command::append(alloc, words),
+            Keyword::Fill => Command::fill(words),
+            Keyword::Tags => Command::tags(words),
+        }
+    }
+
+    /// `config P FRAMES DIRTY BLOCKS`
+    fn config(words: &mut Words) -> Result<Command, Fault>
+        ensures ok { IfOk result (λ c. Begins (name_of Keyword.Config ∷ words.old) (parts_of c) words.new × IsWithinLimit c) }
+        ensures malformed { result ≡ Err Fault.Malformed → (c : TheCommand) → ¬ (Asks (name_of Keyword.Config ∷ words.old) c) }
+    {
+        let page = words.number()?;
+        let frames = words.number()?;
+        let dirty_limit = words.number()?;
+        let blocks = words.number()?;
+        Ok(Command::Config(page, frames, dirty_limit, blocks))
+    }
+
+    /// `open F`
+    fn open(words: &mut Words) -> Result<Command, Fault>
+        ensures ok { IfOk result (λ c. Begins (name_of Keyword.Open ∷ words.old) (parts_of c) words.new × IsWithinLimit c) }
+        ensures malformed { result ≡ Err Fault.Malformed → (c : TheCommand) → ¬ (Asks (name_of Keyword.Open ∷ words.old) c) }
+    {
+        Ok(Command::Open(FileId(words.number()?)))
+    }
+
+    /// `close H`
+    fn close(words: &mut Words) -> Result<Command, Fault>
+        ensures ok { IfOk result (λ c. Begins (name_of Keyword.Close ∷ words.old) (parts_of c) words.new × IsWithinLimit c) }
+        ensures malformed { result ≡ Err Fault.Malformed → (c : TheCommand) → ¬ (Asks (name_of Keyword.Close ∷ words.old) c) }
+    {
+        Ok(Command::Close(HandleId(words.number()?)))
+    }
+
+    /// `size H`
+    fn size(words: &mut Words) -> Result<Command, Fault>
+        ensures ok { IfOk result (λ c. Begins (name_of Keyword.Size ∷ words.old) (parts_of c) words.new × IsWithinLimit c) }
+        ensures malformed { result ≡ Err Fault.Malformed → (c : TheCommand) → ¬ (Asks (name_of Keyword.Size ∷ words.old) c) }
+    {
+        Ok(Command::Size(HandleId(words.number()?)))
+    }
+
+    /// `read H O N`
+    fn read(words: &mut Words) -> Result<Command, Fault>
+        ensures ok { IfOk result (λ c. Begins (name_of Keyword.Read ∷ words.old) (parts_of c) words.new × IsWithinLimit c) }
+        ensures malformed { result ≡ Err Fault.Malformed → (c : TheCommand) → ¬ (Asks (name_of Keyword.Read ∷ words.old) c) }
+    {
+        let handle = HandleId(words.number()?);
+        let offset = words.number()?;
+        let count = words.number()?;
+        if count > MAX_READ {
+            return Err(Fault::Malformed);
+        }
+        Ok(Command::Read(handle, offset, count))
+    }
+
+    /// `write H O HEX`
+    fn write(alloc: Global, words: &mut Words) -> Result<Command, Fault>
+        ensures ok { IfOk result (λ c. Begins (name_of Keyword.Write ∷ words.old) (parts_of c) words.new × IsWithinLimit c) }
+        ensures malformed { result ≡ Err Fault.Malformed → (c : TheCommand) → ¬ (Asks (name_of Keyword.Write ∷ words.old) c) }
+    {
+        let handle = HandleId(words.number()?);
+        let offset = words.number()?;
+        Ok(Command::Write(handle, offset, words.bytes(alloc)?))
+    }
+
+    /// `append H HEX`
+    fn append(alloc: Global, words: &mut Words) -> Result<Command, Fault>
+        ensures ok { IfOk result (λ c. Begins (name_of Keyword.Append ∷ words.old) (parts_of c) words.new × IsWithinLimit c) }
+        ensures malformed { result ≡ Err Fault.Malformed → (c : TheCommand) → ¬ (Asks (name_of Keyword.Append ∷ words.old) c) }
+    {
+        let handle = HandleId(words.number()?);
+        Ok(Command::Append(handle, words.bytes(alloc)?))
+    }
+
+    /// `fill H P`
+    fn fill(words: &mut Words) -> Result<Command, Fault>
+        ensures ok { IfOk result (λ c. Begins (name_of Keyword.Fill ∷ words.old) (parts_of c) words.new × IsWithinLimit c) }
+        ensures malformed { result ≡ Err Fault.Malformed → (c : TheCommand) → ¬ (Asks (name_of Keyword.Fill ∷ words.old) c) }
+    {
+        let handle = HandleId(words.number()?);
+        Ok(Command::Fill(handle, PageIndex(words.number()?)))
+    }
+
+    /// `tags F P`
+    fn tags(words: &mut Words) -> Result<Command, Fault>
+        ensures ok { IfOk result (λ c. Begins (name_of Keyword.Tags ∷ words.old) (parts_of c) words.new × IsWithinLimit c) }
+        ensures malformed { result ≡ Err Fault.Malformed → (c : TheCommand) → ¬ (Asks (name_of Keyword.Tags ∷ words.old) c) }
+    {
+        let file = FileId(words.number()?);
+        Ok(Command::Tags(file, PageIndex(words.number()?)))
+    }
+}

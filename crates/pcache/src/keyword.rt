@@ -1,0 +1,41 @@
+//! The names of the commands.
+
+ghost use Rattle.std.specs.Prelude.{◌≡◌, ◌≢◌, MatchOption};
+ghost use Rattle.pcache.specs.Keywords.{name_of};
+ghost use Rattle.pcache.specs.declared.keyword.Keyword.{Keyword as TheKeyword};
+
+/// The first word of a command.
+#[derive(Clone, Copy, PartialEq, Eq, Debug)]
+pub enum Keyword {
+    Config,
+    Create,
+    Open,
+    Close,
+    Size,
+    Read,
+    Write,
+    Append,
+    Fill,
+    Tags,
+}
+
+impl Keyword {
+    /// The keyword that is written so, where there is one.
+    pub fn of(word: &[u8]) -> Option<Keyword>
+        ensures { MatchOption result ((keyword : TheKeyword) → name_of keyword ≢ word.now) (λ keyword. name_of keyword ≡ word.now) }
+    {
+        Some(match word {
+            b"config" => Keyword::Config,
+            b"create" => Keyword::Create,
+            b"open" => Keyword::Open,
+            b"close" => Keyword::Close,
+            b"size" => Keyword::Size,
+            b"read" => Keyword::Read,
+            b"write" => Keyword::Write,
+            b"append" => Keyword::Append,
+            b"fill" => Keyword::Fill,
+            b"tags" => Keyword::Tags,
+            _ => return None,
+        })
+    }
+}
