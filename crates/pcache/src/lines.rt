@@ -64,8 +64,9 @@ impl<R: BufRead> Lines<R> {
         ensures out { Keeps (W.contents out.old) (W.contents out.new) }
     {
         self.line.clear();
+        let fetched = fetch_line(&mut self.reader, &mut self.line, &mut self.drained, out)?;
         self.number += 1;
-        fetch_line(&mut self.reader, &mut self.line, &mut self.drained, out)
+        Ok(fetched)
     }
 }
 

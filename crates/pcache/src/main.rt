@@ -11,6 +11,8 @@ mod keyword;
 mod lines;
 mod run;
 mod stop;
+#[cfg(test)]
+mod tests;
 mod words;
 
 use run::run_script;
