@@ -1,0 +1,42 @@
+use Rattle.std.proofs.Common.{◌∙◌, sym, ap, ◌-◌, ◌∷◌, length, arith}
+use Rattle.frames.specs.Lists.{Lists, has}
+use Rattle.frames.proofs.ListLemmas.{has-without_same}
+use Rattle.frames.proofs.ListedLemmas.{last_has}
+use Rattle.frames.proofs.TiedLemmas.{tied_deactivated}
+use Rattle.frames.proofs.AgeLemmas.{aged_more}
+use Rattle.frames.proofs.frames.Frames.age.Goals as goal
+
+pub remove_active-requires : goal.remove_active-requires
+remove_active-requires c =
+    let active = c.loop-self.self-inside.lists.active in
+    last_has c.last_active-frame.result (length active - 1) active (omega (arith, c.loop-self-test.true, c.active_len.ensures)) (sym c.last_active-frame.ensures.last)
+
+pub push_inactive-requires-clause-not_active : goal.push_inactive-requires-clause-not_active
+push_inactive-requires-clause-not_active c =
+    ap (λ (l : Lists). has c.last_active-frame.result l.active) c.remove_active.ensures.lists ∙ has-without_same c.last_active-frame.result c.loop-self.self-inside.lists.active
+
+pub loop-self-preserved : goal.loop-self-preserved
+loop-self-preserved c =
+    let i = c.loop-self.self-inside in
+    let f = c.last_active-frame.result in
+    let there = last_has f (length i.lists.active - 1) i.lists.active (omega (arith, c.loop-self-test.true, c.active_len.ensures)) (sym c.last_active-frame.ensures.last) in
+    let lists = c.push_inactive.ensures ∙ ap (λ (l : Lists). let m : Lists = record l { inactive = f ∷ l.inactive } in m) c.remove_active.ensures.lists in
+    let inv = c.loop-self.invariant in
+    let aged = aged_more c.args.self.now.active c.args.self.now.inactive c.args.self.now.referenced c.loop-self.moved i.lists.active i.lists.inactive i.referenced.items f c.push_inactive.new.self.active c.push_inactive.new.self.inactive
+    (record { counted = inv.moved; border = inv.border; front = inv.active; back = inv.inactive; flags = inv.referenced })
+    (omega (arith, c.loop-self-test.true, c.active_len.ensures, c.inactive_len.ensures.count))
+    c.last_active-frame.ensures.last
+    (ap (λ (l : Lists). l.active) lists ∙ c.last_active-frame.ensures.front)
+    (ap (λ (l : Lists). l.inactive) lists)
+    in
+    record {
+      tied = tied_deactivated i.lists i.free i.referenced.items i.owners.items i.bytes inv.tied f _ c.push_inactive.new.self there lists;
+      moved = aged.counted;
+      border = aged.border;
+      active = aged.front;
+      inactive = aged.back;
+      referenced = aged.flags;
+      owners = inv.owners;
+      size = inv.size;
+      bytes = inv.bytes;
+    }

@@ -1,0 +1,9 @@
+pub mod Bits
+pub mod Free
+pub mod Lists
+pub mod Rings
+pub mod Rows
+pub mod RowsLent
+pub mod Table
+pub mod TableLent
+pub mod Tied

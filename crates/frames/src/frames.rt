@@ -1,0 +1,170 @@
+//! The table of frames.
+
+ghost use Rattle.std.specs.Prelude.{◌≡◌, ℕ, ◌+◌, true, length, option_map, IfOk, OnErr, IsOkUnless};
+ghost use Rattle.frames.specs.Table.{new_table, IsSound, IsLowestFree, is_taken, owner_of, free_frames, taken, given, accessed, aged, kept, scan_order};
+ghost use Rattle.frames.specs.Lists.{IsFirstPassing};
+ghost use Rattle.frames.specs.Rows.{row_at};
+
+use crate::free_map::FreeMap;
+use crate::lists::PageLists;
+use crate::rows::Rows;
+use pc_types::{FileId, FrameId, Geometry, PageIndex, Refusal};
+use std::alloc::Global;
+use std::marker::Model;
+
+/// The bytes of cached pages, and the two lists by which the first to go is found.
+///
+/// All memory is taken when it is made, in seven pieces; the bytes of all frames are one of them.
+#[derive(Drop)]
+pub struct Frames {
+    lists: PageLists,
+    free: FreeMap,
+    referenced: Vec<bool>,
+    owners: Vec<Option<(FileId, PageIndex)>>,
+    bytes: Rows,
+}
+
+impl Model for Frames {
+    ghost use Rattle.frames.specs.Table.{Table};
+    ghost use Rattle.frames.specs.Tied.{IsTied};
+
+    ghost Value = { Table };
+
+    ghost view = { λ t. record { size = t.bytes.size; active = t.lists.active; inactive = t.lists.inactive; referenced = t.referenced.items; owners = t.owners.items; bytes = t.bytes.rows } };
+
+    ghost invariant = { λ t. IsTied t.lists t.free t.referenced.items t.owners.items t.bytes };
+}
+
+impl Frames {
+    ghost use Rattle.std.specs.Borrow.{sem};
+    ghost use Rattle.frames.specs.TableLent.{LendsFrame};
+
+    /// Frames for this geometry, all free.
+    pub fn new(alloc: Global, geometry: &Geometry) -> Result<Frames, Refusal>
+        ensures new { IfOk result (λ t. t ≡ new_table geometry.now.page geometry.now.frames) }
+        ensures refused { IsOkUnless result Refusal.Memory }
+    {
+        let count = geometry.frames() as usize;
+        let lists = PageLists::empty(alloc, count)?;
+        let free = FreeMap::all(alloc, count)?;
+        let referenced = vec![in alloc; false; count]?;
+        let owners = vec![in alloc; None; count]?;
+        let bytes = Rows::zeros(alloc, geometry.page() as usize, count)?;
+        Ok(Frames {
+            lists,
+            free,
+            referenced,
+            owners,
+            bytes,
+        })
+    }
+
+    /// How many frames are free.
+    pub fn free_count(&self) -> u64
+        ensures count { result ≡ free_frames self.now }
+        ensures sound { IsSound self.now }
+    {
+        self.free.len() as u64
+    }
+
+    /// Takes the lowest free frame for a page: zeros, at the inactive head, unreferenced.
+    pub fn take(&mut self, file: FileId, page: PageIndex) -> Result<FrameId, Refusal>
+        ensures lowest { IfOk result (λ frame. IsLowestFree self.old frame.0) }
+        ensures taken { IfOk result (λ frame. self.new ≡ taken self.old frame.0 (file, page)) }
+        ensures none { OnErr result (free_frames self.old ≡ 0) }
+        ensures unchanged { OnErr result (self.new ≡ self.old) }
+        ensures refused { IsOkUnless result Refusal.NoFrame }
+    {
+        let Some(frame) = self.free.lowest() else {
+            return Err(Refusal::NoFrame);
+        };
+        self.free.put(frame, false);
+        self.lists.push_inactive(frame as u32);
+        self.referenced[frame] = false;
+        self.owners[frame] = Some((file, page));
+        self.bytes.clear(frame as u32);
+        Ok(FrameId(frame as u32))
+    }
+
+    /// Gives a frame back.
+    pub fn give(&mut self, frame: FrameId)
+        requires { is_taken self.old frame.0 ≡ true }
+        ensures { self.new ≡ given self.old frame.0 }
+    {
+        self.lists.remove(frame.0);
+        self.free.put(frame.0 as usize, true);
+        self.referenced[frame.0 as usize] = false;
+        self.owners[frame.0 as usize] = None;
+    }
+
+    /// The file and the page that a frame was taken for.
+    pub fn owner(&self, frame: FrameId) -> Option<(FileId, PageIndex)>
+        requires { is_taken self.now frame.0 ≡ true }
+        ensures { result ≡ owner_of self.now frame.0 }
+    {
+        self.owners[frame.0 as usize]
+    }
+
+    /// The bytes of a frame.
+    pub fn bytes(&self, frame: FrameId) -> &[u8]
+        requires { is_taken self.now frame.0 ≡ true }
+        ensures bytes { result.now ≡ row_at self.now.bytes frame.0 }
+        ensures size { length result.now ≡ self.now.size }
+    {
+        self.bytes.get(frame.0)
+    }
+
+    /// The bytes of a frame, to be changed.
+    pub fn bytes_mut(&mut self, frame: FrameId) -> &mut [u8]
+        requires { is_taken self.old frame.0 ≡ true }
+        ensures* writes_back { sem 𝓛 (LendsFrame self.entry frame.0 result) }
+        ensures bytes { result.now ≡ row_at self.old.bytes frame.0 }
+        ensures size { length result.now ≡ self.old.size }
+    {
+        self.bytes.get_mut(frame.0)
+    }
+
+    /// Notes that a frame's page was read or written.
+    pub fn accessed(&mut self, frame: FrameId)
+        requires { is_taken self.old frame.0 ≡ true }
+        ensures { self.new ≡ accessed self.old frame.0 }
+    {
+        let at = frame.0 as usize;
+        if self.lists.is_active(frame.0) || !self.referenced[at] {
+            self.referenced[at] = true;
+        } else {
+            self.lists.remove_inactive(frame.0);
+            self.lists.push_active(frame.0);
+            self.referenced[at] = false;
+        }
+    }
+
+    /// Moves frames from the active tail to the inactive head while the active list is longer, and answers how many.
+    pub fn age(&mut self) -> u64
+        ensures moved { result + kept self.old ≡ length self.old.active }
+        ensures aged { self.new ≡ aged self.old }
+    {
+        let mut moved = 0;
+        while self.lists.inactive_len() < self.lists.active_len() {
+            let frame = self.lists.last_active();
+            self.lists.remove_active(frame);
+            self.lists.push_inactive(frame);
+            self.referenced[frame as usize] = false;
+            moved += 1;
+        }
+        moved
+    }
+
+    /// The first frame that passes the test, from the inactive tail to its head, then from the active tail to its head.
+    pub fn scan<F: Fn(FrameId) -> bool>(&self, test: F) -> Option<FrameId>
+        requires { (f : ℕ) → is_taken self.now f ≡ true → F.pre test (record { 0 = f }) }
+        ensures { IsFirstPassing (λ f answer. F.post test (record { 0 = f }) answer) (scan_order self.now) (option_map (λ frame. frame.0) result) }
+    {
+        let found = self.lists.find_inactive(&test);
+        if found.is_some() {
+            found
+        } else {
+            self.lists.find_active(&test)
+        }
+    }
+}
