@@ -316,6 +316,21 @@ find_with_at s m from to mark low r same h = rw (sym same) (find_with s from to 
 no_change : (s : Slab Node) (index mark : ℕ) (is : Bool) → value_at s index ≡ None → Marks (ranges_of s) (ranges_of s) index mark is
 no_change s index mark is none = record { over = λ first r h. absurd ((none_to s index none).each first r h); fresh = λ h. refl }
 
+held_at : (s : Slab Node) (index : ℕ) → IsSome (value_at s index) → IsHeld (ranges_of s) index
+held_at s index some = by_value (value_at s index) refl some
+  where
+    by_value : (o : Option ℕ) → value_at s index ≡ o → IsSome o → IsHeld (ranges_of s) index
+    by_value None e h = absurd (cc)
+    by_value (Some v) e h = record { first = index; range = _; holds = holds_from s index _ (ap (λ o. range_of o (eqb (marked_at 0 s index) 1) (eqb (marked_at 1 s index) 1) (eqb (marked_at 2 s index) 1)) e) }
+
+pub set_held : (old new : Slab Node) (m : Ranges) (index mark : ℕ) (r : Bool) → ranges_of old ≡ m → r ≡ true → MatchBool r (IsSome (value_at old index) × flat.Marks old new mark index 1) ((value_at old index ≡ None) × (new ≡ old)) → IsHeld m index
+set_held old new m index mark true same yes_is h = rw (sym same) (held_at old index h.0)
+set_held old new m index mark false same yes_is h = absurd (cc)
+
+pub set_free : (old new : Slab Node) (m : Ranges) (index mark : ℕ) (r : Bool) → ranges_of old ≡ m → r ≡ false → MatchBool r (IsSome (value_at old index) × flat.Marks old new mark index 1) ((value_at old index ≡ None) × (new ≡ old)) → HoldsNone m index
+set_free old new m index mark true same no_is h = absurd (cc)
+set_free old new m index mark false same no_is h = rw (sym same) (none_to old index h.0)
+
 pub set_tells : (old new : Slab Node) (m : Ranges) (index mark : ℕ) (r : Bool) → mark < 3 → ranges_of old ≡ m → MatchBool r (IsSome (value_at old index) × flat.Marks old new mark index 1) ((value_at old index ≡ None) × (new ≡ old)) → Marks m (ranges_of new) index mark true
 set_tells old new m index mark true low same h = rw (sym same) (map_marks old new index mark 1 low h.1)
 set_tells old new m index mark false low same h = rw (sym same, h.1) (no_change old index mark true h.0)
@@ -342,13 +357,6 @@ mark_tells s m index mark true low same none is = rw (sym same) (by_value (value
 mark_tells s m index mark false low same none is = rw (sym same) (record { each = λ first r h. mark_is s index mark r low (holds_at s index first r h).1 ∙ sym is })
 
 -- ---- an entry that is put where none is
-
-held_at : (s : Slab Node) (index : ℕ) → IsSome (value_at s index) → IsHeld (ranges_of s) index
-held_at s index some = by_value (value_at s index) refl some
-  where
-    by_value : (o : Option ℕ) → value_at s index ≡ o → IsSome o → IsHeld (ranges_of s) index
-    by_value None e h = absurd (cc)
-    by_value (Some v) e h = record { first = index; range = _; holds = holds_from s index _ (ap (λ o. range_of o (eqb (marked_at 0 s index) 1) (eqb (marked_at 1 s index) 1) (eqb (marked_at 2 s index) 1)) e) }
 
 pub insert_tells : (old new : Slab Node) (m : Ranges) (index value : ℕ) (r : Bool) → ranges_of old ≡ m → MatchBool r ((value_at old index ≡ None) × flat.Stores old new index value) (IsSome (value_at old index) × (new ≡ old)) → MatchBool r (HoldsNone m index × Stores m (ranges_of new) index value) (IsHeld m index × (ranges_of new ≡ m))
 insert_tells old new m index value true same h = rw (sym same) (none_to old index h.0, map_stores old new index value h.1)

@@ -1,5 +1,5 @@
 //! The array as its caller sees it: a finite map of ranges.
-ghost use Rattle.std.specs.Prelude.{◌≡◌, ℕ, ◌<◌, ◌≤◌, ◌^◌, ◌↔◌, Some, None, IfOk, OnOk, OnErr, IfErr, IsSome, MatchBool, MatchOption, true, false};
+ghost use Rattle.std.specs.Prelude.{◌≡◌, ℕ, ◌<◌, ◌≤◌, ◌^◌, ◌↔◌, Some, None, Err, IfOk, OnOk, OnErr, IfErr, IsSome, MatchBool, MatchOption, true, false};
 ghost use Rattle.pc_types.specs.declared.refusal.Refusal.{Refusal};
 ghost use Rattle.std.specs.FinMap as map;
 ghost use Rattle.xarray.specs.MarkedArray.{HoldsNone, HasValue, Stores, Erases, Marks, NoneMeets, IsLowest, is_any, has_mark, IsMarked, IsUnmarked, IsHeld};
@@ -8,6 +8,9 @@ use crate::flat::Flat;
 use pc_types::Refusal;
 use std::alloc::Global;
 use std::marker::Model;
+
+/// The greatest value of an entry: an entry's word has one bit that tells it from a node's.
+pub const MAX_VALUE: u64 = 9_223_372_036_854_775_807;
 
 /// A marked array, indexed by `u64`.
 #[derive(Drop)]
@@ -59,23 +62,32 @@ impl XArray {
         self.flat.erase(index)
     }
 
-    /// Stores a value, and answers the one before.
+    /// Stores a value, at most 2^63 - 1, and answers the one before.
     pub fn store(&mut self, index: u64, value: u64) -> Result<Option<u64>, Refusal>
-        requires { value < 2 ^ 63 }
+        ensures bad { 2 ^ 63 ≤ value → result ≡ Err Refusal.BadEntry }
         ensures before { IfOk result (λ before. MatchOption before (HoldsNone self.old index) (λ value. HasValue self.old index value)) }
         ensures stores { OnOk result (Stores self.old self.new index value) }
         ensures refused { OnErr result (self.new ≡ self.old) }
-        ensures memory { IfErr result (λ refusal. refusal ≡ Refusal.Memory) }
+        ensures memory { value < 2 ^ 63 → IfErr result (λ refusal. refusal ≡ Refusal.Memory) }
     {
+        if value > MAX_VALUE {
+            return Err(Refusal::BadEntry);
+        }
         self.flat.store(index, value)
     }
 
-    /// Sets a mark of the entry at an index. Whether one is there.
-    pub fn set_mark(&mut self, index: u64, mark: usize) -> bool
+    /// Sets a mark of the entry at an index.
+    pub fn set_mark(&mut self, index: u64, mark: usize) -> Result<(), Refusal>
         requires { mark < 3 }
-        ensures { Marks self.old self.new index mark true }
+        ensures sets { Marks self.old self.new index mark true }
+        ensures held { OnOk result (IsHeld self.old index) }
+        ensures free { OnErr result (HoldsNone self.old index) }
+        ensures refused { IfErr result (λ refusal. refusal ≡ Refusal.NoEntry) }
     {
-        self.flat.set_mark(index, mark)
+        if !self.flat.set_mark(index, mark) {
+            return Err(Refusal::NoEntry);
+        }
+        Ok(())
     }
 
     /// The lowest entry whose range meets the indexes from `from` to `to`: its first index and its value.
