@@ -97,12 +97,15 @@ impl Frames {
         self.owners[frame.0 as usize] = None;
     }
 
-    /// The file and the page that a frame was taken for.
+    /// The file and the page that a frame was taken for, or nothing where it is free or there is no such frame.
     pub fn owner(&self, frame: FrameId) -> Option<(FileId, PageIndex)>
-        requires { is_taken self.now frame.0 ≡ true }
         ensures { result ≡ owner_of self.now frame.0 }
     {
-        self.owners[frame.0 as usize]
+        if (frame.0 as usize) < self.owners.len() {
+            self.owners[frame.0 as usize]
+        } else {
+            None
+        }
     }
 
     /// The bytes of a frame.

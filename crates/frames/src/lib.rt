@@ -15,5 +15,7 @@ mod link;
 mod lists;
 mod ring;
 mod rows;
+#[cfg(test)]
+mod tests;
 
 pub use frames::Frames;
