@@ -5,6 +5,7 @@ use Rattle.std.specs.Str.{bytes_eq}
 use Rattle.std.proofs.lemmas.Fmt.{decimal_injective}
 use Rattle.pcache.specs.declared.command.Command.{Command}
 use Rattle.pcache.specs.declared.command.Command.TheVariants as command
+use Rattle.world.specs.declared.step.Step.TheVariants as step
 use Rattle.pcache.specs.declared.command.TheConstants.{MAX_READ}
 use Rattle.pcache.specs.declared.keyword.Keyword.{Keyword}
 use Rattle.pcache.specs.declared.keyword.Keyword.TheVariants.{Config, Create, Open, Close, Size, Read, Write, Append, Fill, Tags}
@@ -88,28 +89,28 @@ no_bytes {b = b} none starts = let (w, more, e, is, h) = starts.begins in none b
 
 keyword_of : Command → Keyword
 keyword_of (command.Config a b c d) = Config
-keyword_of command.Create = Create
-keyword_of (command.Open f) = Open
-keyword_of (command.Close h) = Close
-keyword_of (command.Size h) = Size
-keyword_of (command.Read h o n) = Read
-keyword_of (command.Write h o b) = Write
-keyword_of (command.Append h b) = Append
-keyword_of (command.Fill h p) = Fill
+keyword_of (command.Step step.Create) = Create
+keyword_of (command.Step (step.Open f)) = Open
+keyword_of (command.Step (step.Close h)) = Close
+keyword_of (command.Step (step.Size h)) = Size
+keyword_of (command.Step (step.Read h o n)) = Read
+keyword_of (command.Step (step.Write h o b)) = Write
+keyword_of (command.Step (step.Append h b)) = Append
+keyword_of (command.Step (step.FillBegin h p)) = Fill
 keyword_of (command.Tags f p) = Tags
 
 named_parts : (k : Keyword) (words rest : List (List ℕ)) (c : Command) → Begins (name_of k ∷ words) (parts_of c) rest
     → (keyword_of c ≡ k) × Begins words (drop 1 (parts_of c)) rest
 unfolding keyword_of
 named_parts k words rest (command.Config a b c d) begins = named k Config words (Number a ∷ Number b ∷ Number c ∷ Number d ∷ []) rest begins
-named_parts k words rest command.Create begins = named k Create words ([]) rest begins
-named_parts k words rest (command.Open f) begins = named k Open words (Number f.0 ∷ []) rest begins
-named_parts k words rest (command.Close h) begins = named k Close words (Number h.0 ∷ []) rest begins
-named_parts k words rest (command.Size h) begins = named k Size words (Number h.0 ∷ []) rest begins
-named_parts k words rest (command.Read h o n) begins = named k Read words (Number h.0 ∷ Number o ∷ Number n ∷ []) rest begins
-named_parts k words rest (command.Write h o b) begins = named k Write words (Number h.0 ∷ Number o ∷ Hex b ∷ []) rest begins
-named_parts k words rest (command.Append h b) begins = named k Append words (Number h.0 ∷ Hex b ∷ []) rest begins
-named_parts k words rest (command.Fill h p) begins = named k Fill words (Number h.0 ∷ Number p.0 ∷ []) rest begins
+named_parts k words rest (command.Step step.Create) begins = named k Create words ([]) rest begins
+named_parts k words rest (command.Step (step.Open f)) begins = named k Open words (Number f.0 ∷ []) rest begins
+named_parts k words rest (command.Step (step.Close h)) begins = named k Close words (Number h.0 ∷ []) rest begins
+named_parts k words rest (command.Step (step.Size h)) begins = named k Size words (Number h.0 ∷ []) rest begins
+named_parts k words rest (command.Step (step.Read h o n)) begins = named k Read words (Number h.0 ∷ Number o ∷ Number n ∷ []) rest begins
+named_parts k words rest (command.Step (step.Write h o b)) begins = named k Write words (Number h.0 ∷ Number o ∷ Hex b ∷ []) rest begins
+named_parts k words rest (command.Step (step.Append h b)) begins = named k Append words (Number h.0 ∷ Hex b ∷ []) rest begins
+named_parts k words rest (command.Step (step.FillBegin h p)) begins = named k Fill words (Number h.0 ∷ Number p.0 ∷ []) rest begins
 named_parts k words rest (command.Tags f p) begins = named k Tags words (Number f.0 ∷ Number p.0 ∷ []) rest begins
 
 -- ---- what follows a name
@@ -130,14 +131,14 @@ Follows Tags words = (a : ℕ) × (b : ℕ) × Starts words (Number a ∷ Number
 pub asks : (k : Keyword) (words : List (List ℕ)) (c : Command) → Asks (name_of k ∷ words) c → Follows k words
 unfolding keyword_of
 asks k words (command.Config a b c d) asked = let s = named_parts k words [] (command.Config a b c d) asked.0 in subst (λ j. Follows j words) s.0 (a, b, c, d, record { begins = s.1 })
-asks k words command.Create asked = let s = named_parts k words [] command.Create asked.0 in subst (λ j. Follows j words) s.0 s.1
-asks k words (command.Open f) asked = let s = named_parts k words [] (command.Open f) asked.0 in subst (λ j. Follows j words) s.0 (f.0, record { begins = s.1 })
-asks k words (command.Close h) asked = let s = named_parts k words [] (command.Close h) asked.0 in subst (λ j. Follows j words) s.0 (h.0, record { begins = s.1 })
-asks k words (command.Size h) asked = let s = named_parts k words [] (command.Size h) asked.0 in subst (λ j. Follows j words) s.0 (h.0, record { begins = s.1 })
-asks k words (command.Read h o n) asked = let s = named_parts k words [] (command.Read h o n) asked.0 in subst (λ j. Follows j words) s.0 (h.0, o, n, record { begins = s.1 }, asked.1)
-asks k words (command.Write h o b) asked = let s = named_parts k words [] (command.Write h o b) asked.0 in subst (λ j. Follows j words) s.0 (h.0, o, b, record { begins = s.1 })
-asks k words (command.Append h b) asked = let s = named_parts k words [] (command.Append h b) asked.0 in subst (λ j. Follows j words) s.0 (h.0, b, record { begins = s.1 })
-asks k words (command.Fill h p) asked = let s = named_parts k words [] (command.Fill h p) asked.0 in subst (λ j. Follows j words) s.0 (h.0, p.0, record { begins = s.1 })
+asks k words (command.Step step.Create) asked = let s = named_parts k words [] (command.Step step.Create) asked.0 in subst (λ j. Follows j words) s.0 s.1
+asks k words (command.Step (step.Open f)) asked = let s = named_parts k words [] (command.Step (step.Open f)) asked.0 in subst (λ j. Follows j words) s.0 (f.0, record { begins = s.1 })
+asks k words (command.Step (step.Close h)) asked = let s = named_parts k words [] (command.Step (step.Close h)) asked.0 in subst (λ j. Follows j words) s.0 (h.0, record { begins = s.1 })
+asks k words (command.Step (step.Size h)) asked = let s = named_parts k words [] (command.Step (step.Size h)) asked.0 in subst (λ j. Follows j words) s.0 (h.0, record { begins = s.1 })
+asks k words (command.Step (step.Read h o n)) asked = let s = named_parts k words [] (command.Step (step.Read h o n)) asked.0 in subst (λ j. Follows j words) s.0 (h.0, o, n, record { begins = s.1 }, asked.1)
+asks k words (command.Step (step.Write h o b)) asked = let s = named_parts k words [] (command.Step (step.Write h o b)) asked.0 in subst (λ j. Follows j words) s.0 (h.0, o, b, record { begins = s.1 })
+asks k words (command.Step (step.Append h b)) asked = let s = named_parts k words [] (command.Step (step.Append h b)) asked.0 in subst (λ j. Follows j words) s.0 (h.0, b, record { begins = s.1 })
+asks k words (command.Step (step.FillBegin h p)) asked = let s = named_parts k words [] (command.Step (step.FillBegin h p)) asked.0 in subst (λ j. Follows j words) s.0 (h.0, p.0, record { begins = s.1 })
 asks k words (command.Tags f p) asked = let s = named_parts k words [] (command.Tags f p) asked.0 in subst (λ j. Follows j words) s.0 (f.0, p.0, record { begins = s.1 })
 
 -- ---- nothing follows
@@ -165,14 +166,14 @@ count_of Tags = 3
 length-parts_of : (c : Command) → length (parts_of c) ≡ count_of (keyword_of c)
 unfolding keyword_of count_of
 length-parts_of (command.Config a b c d) = refl
-length-parts_of command.Create = refl
-length-parts_of (command.Open f) = refl
-length-parts_of (command.Close h) = refl
-length-parts_of (command.Size h) = refl
-length-parts_of (command.Read h o n) = refl
-length-parts_of (command.Write h o b) = refl
-length-parts_of (command.Append h b) = refl
-length-parts_of (command.Fill h p) = refl
+length-parts_of (command.Step step.Create) = refl
+length-parts_of (command.Step (step.Open f)) = refl
+length-parts_of (command.Step (step.Close h)) = refl
+length-parts_of (command.Step (step.Size h)) = refl
+length-parts_of (command.Step (step.Read h o n)) = refl
+length-parts_of (command.Step (step.Write h o b)) = refl
+length-parts_of (command.Step (step.Append h b)) = refl
+length-parts_of (command.Step (step.FillBegin h p)) = refl
 length-parts_of (command.Tags f p) = refl
 
 -- where words are left after one command of a name, the words are no other command
@@ -185,12 +186,12 @@ ends k words rest c other b a =
 -- a first word that is no name begins no command
 pub unnamed : (word : List ℕ) (words : List (List ℕ)) (c : Command) → ((k : Keyword) → name_of k ≢ word) → ¬ (Asks (word ∷ words) c)
 unnamed word words (command.Config a b c d) none h = none Config (sym h.0.3 ∙ sym (head_eq _ _ _ _ h.0.2))
-unnamed word words command.Create none h = none Create (sym h.0.3 ∙ sym (head_eq _ _ _ _ h.0.2))
-unnamed word words (command.Open f) none h = none Open (sym h.0.3 ∙ sym (head_eq _ _ _ _ h.0.2))
-unnamed word words (command.Close a) none h = none Close (sym h.0.3 ∙ sym (head_eq _ _ _ _ h.0.2))
-unnamed word words (command.Size a) none h = none Size (sym h.0.3 ∙ sym (head_eq _ _ _ _ h.0.2))
-unnamed word words (command.Read a o n) none h = none Read (sym h.0.3 ∙ sym (head_eq _ _ _ _ h.0.2))
-unnamed word words (command.Write a o b) none h = none Write (sym h.0.3 ∙ sym (head_eq _ _ _ _ h.0.2))
-unnamed word words (command.Append a b) none h = none Append (sym h.0.3 ∙ sym (head_eq _ _ _ _ h.0.2))
-unnamed word words (command.Fill a p) none h = none Fill (sym h.0.3 ∙ sym (head_eq _ _ _ _ h.0.2))
+unnamed word words (command.Step step.Create) none h = none Create (sym h.0.3 ∙ sym (head_eq _ _ _ _ h.0.2))
+unnamed word words (command.Step (step.Open f)) none h = none Open (sym h.0.3 ∙ sym (head_eq _ _ _ _ h.0.2))
+unnamed word words (command.Step (step.Close a)) none h = none Close (sym h.0.3 ∙ sym (head_eq _ _ _ _ h.0.2))
+unnamed word words (command.Step (step.Size a)) none h = none Size (sym h.0.3 ∙ sym (head_eq _ _ _ _ h.0.2))
+unnamed word words (command.Step (step.Read a o n)) none h = none Read (sym h.0.3 ∙ sym (head_eq _ _ _ _ h.0.2))
+unnamed word words (command.Step (step.Write a o b)) none h = none Write (sym h.0.3 ∙ sym (head_eq _ _ _ _ h.0.2))
+unnamed word words (command.Step (step.Append a b)) none h = none Append (sym h.0.3 ∙ sym (head_eq _ _ _ _ h.0.2))
+unnamed word words (command.Step (step.FillBegin a p)) none h = none Fill (sym h.0.3 ∙ sym (head_eq _ _ _ _ h.0.2))
 unnamed word words (command.Tags f p) none h = none Tags (sym h.0.3 ∙ sym (head_eq _ _ _ _ h.0.2))

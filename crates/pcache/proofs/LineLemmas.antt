@@ -22,11 +22,11 @@ pub map_some : (a : Option (List ℕ)) (P Q : List ℕ → Type 0) → IfSome a 
 map_some None P Q h f = tt
 map_some (Some bytes) P Q h f = f bytes h
 
-pub Keeps_trans : (a b c : Option (List ℕ)) → Keeps a b → Keeps b c → Keeps a c
-Keeps_trans None b c h k = tt
-Keeps_trans (Some x) None c h k = absurd h
-Keeps_trans (Some x) (Some y) None h k = absurd k
-Keeps_trans (Some x) (Some y) (Some z) h k = k ∙ h
+pub keeps_on : (a b c : Option (List ℕ)) → Keeps a b → Keeps b c → Keeps a c
+keeps_on None b c h k = tt
+keeps_on (Some x) None c h k = absurd h
+keeps_on (Some x) (Some y) None h k = absurd k
+keeps_on (Some x) (Some y) (Some z) h k = k ∙ h
 
 -- ---- where a line ends
 

@@ -2,6 +2,7 @@
 use Rattle.std.specs.Prelude.{◌≡◌, ℕ, ◌≤◌, List, [], ◌∷◌, Some, codes}
 use Rattle.pcache.specs.declared.command.Command.{Command}
 use Rattle.pcache.specs.declared.command.Command.TheVariants as command
+use Rattle.world.specs.declared.step.Step.TheVariants as step
 use Rattle.pcache.specs.declared.keyword.Keyword.{Keyword}
 use Rattle.pcache.specs.declared.keyword.Keyword.TheVariants.{Config, Create, Open, Close, Size, Read, Write, Append, Fill, Tags}
 use Rattle.pcache.specs.declared.command.TheConstants.{MAX_READ}
@@ -27,19 +28,19 @@ Begins words (part ∷ parts) rest = (word : List ℕ) × (more : List (List ℕ
 -- the words of each command
 abbrev pub parts_of : Command → List Part
 parts_of (command.Config page frames dirty_limit blocks) = Name Config ∷ Number page ∷ Number frames ∷ Number dirty_limit ∷ Number blocks ∷ []
-parts_of command.Create = Name Create ∷ []
-parts_of (command.Open file) = Name Open ∷ Number file.0 ∷ []
-parts_of (command.Close handle) = Name Close ∷ Number handle.0 ∷ []
-parts_of (command.Size handle) = Name Size ∷ Number handle.0 ∷ []
-parts_of (command.Read handle offset count) = Name Read ∷ Number handle.0 ∷ Number offset ∷ Number count ∷ []
-parts_of (command.Write handle offset bytes) = Name Write ∷ Number handle.0 ∷ Number offset ∷ Hex bytes ∷ []
-parts_of (command.Append handle bytes) = Name Append ∷ Number handle.0 ∷ Hex bytes ∷ []
-parts_of (command.Fill handle page) = Name Fill ∷ Number handle.0 ∷ Number page.0 ∷ []
+parts_of (command.Step step.Create) = Name Create ∷ []
+parts_of (command.Step (step.Open file)) = Name Open ∷ Number file.0 ∷ []
+parts_of (command.Step (step.Close handle)) = Name Close ∷ Number handle.0 ∷ []
+parts_of (command.Step (step.Size handle)) = Name Size ∷ Number handle.0 ∷ []
+parts_of (command.Step (step.Read handle offset count)) = Name Read ∷ Number handle.0 ∷ Number offset ∷ Number count ∷ []
+parts_of (command.Step (step.Write handle offset bytes)) = Name Write ∷ Number handle.0 ∷ Number offset ∷ Hex bytes ∷ []
+parts_of (command.Step (step.Append handle bytes)) = Name Append ∷ Number handle.0 ∷ Hex bytes ∷ []
+parts_of (command.Step (step.FillBegin handle page)) = Name Fill ∷ Number handle.0 ∷ Number page.0 ∷ []
 parts_of (command.Tags file page) = Name Tags ∷ Number file.0 ∷ Number page.0 ∷ []
 
 -- a command reads no more bytes than this
 abbrev pub IsWithinLimit : Command → Type 0
-IsWithinLimit (command.Read handle offset count) = count ≤ MAX_READ
+IsWithinLimit (command.Step (step.Read handle offset count)) = count ≤ MAX_READ
 IsWithinLimit _ = Unit {0}
 
 -- the words ask for the command, and nothing follows

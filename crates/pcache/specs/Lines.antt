@@ -1,5 +1,5 @@
 -- The lines of a script, as bytes that a reader has left.
-use Rattle.std.specs.Prelude.{◌≡◌, ◌≢◌, ℕ, ◌<◌, Bool, ◌==◌, List, [], ◌++◌, length, All, Option, Some}
+use Rattle.std.specs.Prelude.{◌≡◌, ◌≢◌, ℕ, ◌<◌, Bool, ◌==◌, ◌||◌, slice_index, List, [], ◌++◌, length, All, Option, Some}
 use Rattle.std.specs.List.{before_first, after_first}
 use Rattle.pcache.specs.declared.lines.Fetched.{Fetched}
 use Rattle.pcache.specs.declared.lines.Fetched.TheVariants.{Line, TooLong, End}
@@ -25,3 +25,7 @@ HasBegun bytes line left = (rest : List ℕ) × (left ≡ Some rest) × (bytes �
 abbrev pub Goes : List ℕ → Look → List ℕ → Option (List ℕ) → Type 0
 Goes bytes Part line left = HasBegun bytes line left
 Goes bytes (Ended fetched) line left = Fetches bytes fetched line left
+
+-- an empty line, or a comment: it begins with `#`, byte 23 in hexadecimal
+abbrev pub is_blank : List ℕ → Bool
+is_blank line = (length line == 0) || (slice_index line 0 == 35)

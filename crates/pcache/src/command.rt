@@ -5,27 +5,21 @@ ghost use Rattle.pcache.specs.Keywords.{name_of};
 
 use crate::keyword::Keyword;
 use crate::words::{Fault, Words};
-use pc_types::{Bytes, FileId, HandleId, PageIndex};
+use pc_types::{FileId, HandleId, PageIndex};
 use std::alloc::Global;
+use world::Step;
 
 /// The most bytes that one command reads.
 pub const MAX_READ: u64 = 131_072;
 
-/// A line of a script that is neither empty nor a comment.
+/// What a line of a script asks for that is neither empty nor a comment.
 #[derive(Drop, Debug)]
 pub enum Command {
-    /// Page size, frames, dirty limit and blocks.
+    /// Page size, frames, dirty limit and blocks of the cache.
     Config(u64, u64, u64, u64),
-    Create,
-    Open(FileId),
-    Close(HandleId),
-    Size(HandleId),
-    /// An offset and how many bytes to read.
-    Read(HandleId, u64, u64),
-    /// An offset and the bytes to write there.
-    Write(HandleId, u64, Bytes),
-    Append(HandleId, Bytes),
-    Fill(HandleId, PageIndex),
+    /// One step of the world.
+    Step(Step),
+    /// What is known of a page.
     Tags(FileId, PageIndex),
 }
 
@@ -57,7 +51,7 @@ impl Command {
     {
         match keyword {
             Keyword::Config => Command::config(words),
-            Keyword::Create => Ok(Command::Create),
+            Keyword::Create => Ok(Command::Step(Step::Create)),
             Keyword::Open => Command::open(words),
             Keyword::Close => Command::close(words),
             Keyword::Size => Command::size(words),
@@ -86,7 +80,7 @@ impl Command {
         ensures ok { IfOk result (λ c. Begins (name_of Keyword.Open ∷ words.old) (parts_of c) words.new × IsWithinLimit c) }
         ensures malformed { result ≡ Err Fault.Malformed → (c : TheCommand) → ¬ (Asks (name_of Keyword.Open ∷ words.old) c) }
     {
-        Ok(Command::Open(FileId(words.number()?)))
+        Ok(Command::Step(Step::Open(FileId(words.number()?))))
     }
 
     /// `close H`
@@ -94,7 +88,7 @@ impl Command {
         ensures ok { IfOk result (λ c. Begins (name_of Keyword.Close ∷ words.old) (parts_of c) words.new × IsWithinLimit c) }
         ensures malformed { result ≡ Err Fault.Malformed → (c : TheCommand) → ¬ (Asks (name_of Keyword.Close ∷ words.old) c) }
     {
-        Ok(Command::Close(HandleId(words.number()?)))
+        Ok(Command::Step(Step::Close(HandleId(words.number()?))))
     }
 
     /// `size H`
@@ -102,7 +96,7 @@ impl Command {
         ensures ok { IfOk result (λ c. Begins (name_of Keyword.Size ∷ words.old) (parts_of c) words.new × IsWithinLimit c) }
         ensures malformed { result ≡ Err Fault.Malformed → (c : TheCommand) → ¬ (Asks (name_of Keyword.Size ∷ words.old) c) }
     {
-        Ok(Command::Size(HandleId(words.number()?)))
+        Ok(Command::Step(Step::Size(HandleId(words.number()?))))
     }
 
     /// `read H O N`
@@ -116,7 +110,7 @@ impl Command {
         if count > MAX_READ {
             return Err(Fault::Malformed);
         }
-        Ok(Command::Read(handle, offset, count))
+        Ok(Command::Step(Step::Read(handle, offset, count)))
     }
 
     /// `write H O HEX`
@@ -126,7 +120,7 @@ impl Command {
     {
         let handle = HandleId(words.number()?);
         let offset = words.number()?;
-        Ok(Command::Write(handle, offset, words.bytes(alloc)?))
+        Ok(Command::Step(Step::Write(handle, offset, words.bytes(alloc)?)))
     }
 
     /// `append H HEX`
@@ -135,7 +129,7 @@ impl Command {
         ensures malformed { result ≡ Err Fault.Malformed → (c : TheCommand) → ¬ (Asks (name_of Keyword.Append ∷ words.old) c) }
     {
         let handle = HandleId(words.number()?);
-        Ok(Command::Append(handle, words.bytes(alloc)?))
+        Ok(Command::Step(Step::Append(handle, words.bytes(alloc)?)))
     }
 
     /// `fill H P`
@@ -144,7 +138,7 @@ impl Command {
         ensures malformed { result ≡ Err Fault.Malformed → (c : TheCommand) → ¬ (Asks (name_of Keyword.Fill ∷ words.old) c) }
     {
         let handle = HandleId(words.number()?);
-        Ok(Command::Fill(handle, PageIndex(words.number()?)))
+        Ok(Command::Step(Step::FillBegin(handle, PageIndex(words.number()?))))
     }
 
     /// `tags F P`

@@ -1,6 +1,6 @@
 //! A script, line by line.
 
-ghost use Rattle.std.specs.Prelude.{◌≡◌, ◌+◌, ◌^◌, ◌<◌, ◌≤◌, ℕ, List, [], Some, None, MatchBool, IfOk, IfSome, OnOk, length, position, vec_len, nat_lt, if◌then◌else◌};
+ghost use Rattle.std.specs.Prelude.{◌≡◌, ◌+◌, ◌<◌, ◌≤◌, ℕ, List, [], Some, None, MatchBool, IfOk, IfSome, OnOk, length, position, vec_len, nat_lt, if◌then◌else◌};
 ghost use Rattle.std.specs.Io.KnownBytes.{Keeps};
 ghost use Rattle.pcache.specs.Lines.{is_newline, Fetches, Goes, HasBegun};
 
@@ -58,11 +58,14 @@ impl<R: BufRead> Lines<R> {
     /// Fetches the next line. Before it may wait for more input it flushes `out`, so that whoever reads the answers has
     /// those of all lines so far.
     pub fn fetch<W: Write>(&mut self, out: &mut W) -> Result<Fetched, Stop>
-        requires { self.old.number + 1 < 2 ^ 64 }
         ensures fetched { IfSome (R.remaining self.old.reader) (λ bytes. IfOk result (λ fetched. Fetches bytes fetched self.new.line.items (R.remaining self.new.reader))) }
         ensures number { OnOk result (self.new.number ≡ self.old.number + 1) }
         ensures out { Keeps (W.contents out.old) (W.contents out.new) }
     {
+        // Lines past the last that can be counted are input that failed.
+        if self.number == u64::MAX {
+            return Err(Stop::Input);
+        }
         self.line.clear();
         let fetched = fetch_line(&mut self.reader, &mut self.line, &mut self.drained, out)?;
         self.number += 1;

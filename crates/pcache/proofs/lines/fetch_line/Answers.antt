@@ -1,6 +1,6 @@
 use Rattle.std.proofs.Common.{subst}
 use Rattle.pcache.specs.Lines.{Goes}
-use Rattle.pcache.proofs.LineLemmas.{map_some, Keeps_trans}
+use Rattle.pcache.proofs.LineLemmas.{map_some, keeps_on}
 use Rattle.pcache.proofs.lines.fetch_line.Goals as goal
 
 pub returns-in-Ended-clause-fetched : goal.returns-in-Ended-clause-fetched
@@ -12,5 +12,5 @@ looks-preserved g c = record {
   within = c.in_ok-look.ensures.within;
   begun = map_some _ _ _ c.looks.invariant.begun (λ bytes begun.
       subst (λ look. Goes bytes look c.take_part.new.line.items (g.R.Read.remaining c.take_part.new.reader)) c.in-Part.is (c.in_ok-look.ensures.goes bytes begun));
-  out = Keeps_trans _ _ _ c.looks.invariant.out c.flush_if.ensures;
+  out = keeps_on _ _ _ c.looks.invariant.out c.flush_if.ensures;
 }
