@@ -1,6 +1,6 @@
 //! The table of frames.
 
-ghost use Rattle.std.specs.Prelude.{◌≡◌, ℕ, ◌+◌, true, length, option_map, IfOk, OnErr, IsOkUnless};
+ghost use Rattle.std.specs.Prelude.{◌≡◌, ℕ, ◌+◌, ◌<◌, true, length, option_map, All, IfOk, OnErr, IsOkUnless};
 ghost use Rattle.frames.specs.Table.{new_table, IsSound, IsLowestFree, is_taken, owner_of, free_frames, taken, given, accessed, aged, kept, scan_order};
 ghost use Rattle.frames.specs.Lists.{IsFirstPassing};
 ghost use Rattle.frames.specs.Rows.{row_at};
@@ -117,12 +117,15 @@ impl Frames {
         self.bytes.get(frame.0)
     }
 
-    /// The bytes of a frame, to be changed.
+    /// The bytes of a frame, to be changed. A slice keeps its length, so it is this frame's bytes that change and no
+    /// others: `with_row-whole` of `proofs/RowLemmas.antt` says so.
     pub fn bytes_mut(&mut self, frame: FrameId) -> &mut [u8]
         requires { is_taken self.old frame.0 ≡ true }
         ensures* writes_back { sem 𝓛 (LendsFrame self.entry frame.0 result) }
         ensures bytes { result.now ≡ row_at self.old.bytes frame.0 }
         ensures size { length result.now ≡ self.old.size }
+        ensures sized { All (λ bytes. length bytes ≡ self.old.size) self.old.bytes }
+        ensures within { frame.0 < length self.old.bytes }
     {
         self.bytes.get_mut(frame.0)
     }

@@ -3,7 +3,7 @@
 //! Each list has a head of its own, past the last frame, so that no step asks whether a list is empty.
 
 ghost use Rattle.std.specs.Prelude.{◌≡◌, ℕ, ◌-◌, ◌<◌, ◌≤◌, ◌||◌, [], ◌∷◌, true, false, length, reverse, take, slice_index, option_map, IfOk, IsOkUnless};
-ghost use Rattle.frames.specs.Lists.{has, without, IsWithoutDoubles, IsFirstPassing};
+ghost use Rattle.frames.specs.Lists.{has, without, IsFirstPassing};
 
 use crate::link::{Link, Place};
 use crate::ring::{find_back, insert_after, unlink};
@@ -69,9 +69,7 @@ impl PageLists {
 
     /// How many frames are inactive.
     pub(crate) fn inactive_len(&self) -> usize
-        ensures count { result ≡ length self.now.inactive }
-        ensures once { IsWithoutDoubles self.now.active × IsWithoutDoubles self.now.inactive }
-        ensures apart { (f : ℕ) → has f self.now.active ≡ true → has f self.now.inactive ≡ false }
+        ensures { result ≡ length self.now.inactive }
     {
         self.inactive_len
     }

@@ -1,6 +1,6 @@
 //! The page lists row by row, a full table, and random calls beside a plain program of two vectors.
 
-ghost use Rattle.std.specs.Prelude.{◌≡◌, true};
+ghost use Rattle.std.specs.Prelude.{◌≡◌, true, length, slice_set};
 ghost use Rattle.frames.specs.Table.{is_taken};
 
 use crate::Frames;
@@ -23,6 +23,15 @@ fn give(rt: &impl Abort, frames: &mut Frames, frame: u32) {
 fn access(rt: &impl Abort, frames: &mut Frames, frame: u32) {
     expect_taken(rt, frames, FrameId(frame));
     frames.accessed(FrameId(frame));
+}
+
+/// Writes over a frame's bytes, and no others: so a caller sees what `bytes_mut` lends.
+fn put(frames: &mut Frames, frame: FrameId, bytes: &[u8])
+    requires taken { is_taken frames.old frame.0 ≡ true }
+    requires size { length bytes.now ≡ frames.old.size }
+    ensures { frames.new ≡ record frames.old { bytes = slice_set frames.old.bytes frame.0 bytes.now } }
+{
+    frames.bytes_mut(frame).copy_from_slice(bytes);
 }
 
 fn assert_first(rt: &impl Abort, frames: &Frames, frame: u32) {
@@ -92,16 +101,18 @@ fn a_new_page_is_zeros(rt: HostRuntime) -> Result<(), Fail> {
     for page in 0..2 {
         let frame = frames.take(FileId(0), PageIndex(page))?;
         expect_taken(&rt, &frames, frame);
-        frames.bytes_mut(frame).fill(page as u8 + 1);
+        frames.bytes_mut(frame).fill(9);
     }
     expect_taken(&rt, &frames, FrameId(0));
+    assert_eq!(rt; frames.bytes(FrameId(0)).len(), 16);
+    put(&mut frames, FrameId(0), &[1; 16]);
     assert_eq!(rt; frames.bytes(FrameId(0)), [1; 16].as_slice());
     give(&rt, &mut frames, 0);
-    assert_eq!(rt; frames.take(FileId(0), PageIndex(2)), Ok(FrameId(0)));
+    assert_takes(&rt, &mut frames, 2, 0);
     expect_taken(&rt, &frames, FrameId(0));
     assert_eq!(rt; frames.bytes(FrameId(0)), [0; 16].as_slice());
     expect_taken(&rt, &frames, FrameId(1));
-    assert_eq!(rt; frames.bytes(FrameId(1)), [2; 16].as_slice());
+    assert_eq!(rt; frames.bytes(FrameId(1)), [9; 16].as_slice());
     Ok(())
 }
 

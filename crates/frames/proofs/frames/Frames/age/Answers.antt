@@ -24,7 +24,7 @@ loop-self-preserved c =
     let inv = c.loop-self.invariant in
     let aged = aged_more c.args.self.now.active c.args.self.now.inactive c.args.self.now.referenced c.loop-self.moved i.lists.active i.lists.inactive i.referenced.items f c.push_inactive.new.self.active c.push_inactive.new.self.inactive
     (record { counted = inv.moved; border = inv.border; front = inv.active; back = inv.inactive; flags = inv.referenced })
-    (omega (arith, c.loop-self-test.true, c.active_len.ensures, c.inactive_len.ensures.count))
+    (omega (arith, c.loop-self-test.true, c.active_len.ensures, c.inactive_len.ensures))
     c.last_active-frame.ensures.last
     (ap (λ (l : Lists). l.active) lists ∙ c.last_active-frame.ensures.front)
     (ap (λ (l : Lists). l.inactive) lists)
