@@ -22,26 +22,32 @@ use std::process::ExitCode;
 use stop::Stop;
 
 fn main(rt: HostRuntime) -> ExitCode {
-    let status = if is_run(&rt) {
-        run_streams(&rt)
-    } else {
-        let _ = writeln!(rt.stderr(), "pcache: usage: pcache run");
-        2
-    };
-    ExitCode::from(status)
+    ExitCode::from(run_program(&rt))
 }
 
-/// Whether the program's one argument is `run`.
-fn is_run(rt: &HostRuntime) -> bool {
+/// Does what the arguments ask for, and gives the status.
+fn run_program(rt: &HostRuntime) -> u8 {
     match env::args(rt) {
-        Ok(arguments) => arguments
-            .skip(1)
-            .map(|word| word.as_str() == "run")
-            .eq([true]),
-        Err(_) => false,
+        Ok(arguments) => {
+            if arguments
+                .skip(1)
+                .map(|word| word.as_str() == "run")
+                .eq([true])
+            {
+                return run_streams(rt);
+            }
+        }
+        Err(error) => {
+            if Stop::of_input(&error) == Stop::Memory {
+                return say_memory(rt);
+            }
+        }
     }
+    let _ = writeln!(rt.stderr(), "pcache: usage: pcache run");
+    2
 }
 
+/// Runs the script on standard input.
 fn run_streams(rt: &HostRuntime) -> u8 {
     let alloc = rt.alloc();
     match (
@@ -49,9 +55,11 @@ fn run_streams(rt: &HostRuntime) -> u8 {
         BufWriter::new(alloc, rt.stdout()),
     ) {
         (Ok(reader), Ok(out)) => run_script(alloc, reader, out, rt.stderr()),
-        _ => {
-            let _ = writeln!(rt.stderr(), "pcache: {}", Stop::Memory);
-            Stop::Memory.status()
-        }
+        _ => say_memory(rt),
     }
+}
+
+fn say_memory(rt: &HostRuntime) -> u8 {
+    let _ = writeln!(rt.stderr(), "pcache: {}", Stop::Memory);
+    Stop::Memory.status()
 }
