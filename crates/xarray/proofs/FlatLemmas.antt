@@ -10,7 +10,7 @@ use Rattle.radix.specs.declared.entry.Entry.{Entry}
 use Rattle.radix.specs.declared.entry.Entry.TheVariants.{Leaf, Sibling}
 use Rattle.radix.specs.declared.entry.Position.{Position}
 use Rattle.radix.specs.Entries.{HasNoNext, IsNext, HasNoNextEntry, IsNextEntry, IsLeaf, IsBare, PutsBit, PutsEntry, entry_at, mark_at, content, bit_of, slot, bits, node_at}
-use Rattle.xarray.specs.Flat.{HasNoMarkedIn, HasNoneIn, IsFlat, IsBareArray, value_of, value_at, marked_at}
+use Rattle.xarray.specs.Flat.{HasNoMarkedIn, HasNoneIn, IsBounded, IsFlat, IsBareArray, value_of, value_at, marked_at}
 
 pub none_marked : (s v : Slab Node) (mark from to : ℕ) (r : Option Position) → s ≡ v → r ≡ None → MatchOption r (HasNoNext s mark from) (λ p. IsNext s mark from p.level p.place) → HasNoMarkedIn v from to mark
 none_marked s v mark from to r same none next =
@@ -40,6 +40,10 @@ module _ (old one two three new : Slab Node) (at : ℕ) (flat : IsFlat old) (p :
       | inl e ↦ let f : entry_at new 0 place ≡ None = ap (entry_at new 0) e ∙ puts.entry in none-some _ (sym f ∙ is)
       | inr differs ↦ flat.lower place first (sym (puts.others 0 place (λ e at_place. differs at_place) ∙ same 0 place) ∙ is)
     ];
+    within = λ place value is. elim (cases_eq place at) [
+      | inl e ↦ let f : entry_at new 0 place ≡ None = ap (entry_at new 0) e ∙ puts.entry in absurd (none-some _ (sym f ∙ is))
+      | inr differs ↦ flat.within place value (sym (puts.others 0 place (λ e at_place. differs at_place) ∙ same 0 place) ∙ is)
+    ];
   }
 
 -- no value anywhere is no entry anywhere
@@ -61,6 +65,20 @@ module _ (s : Slab Node) (flat : IsFlat s) where
       | inr more ↦ flat.upper level place (omega (arith, more))
     ];
   }
+
+-- a value stands at the index of its slot
+value_slot : (x : Option Entry) (value : ℕ) → value_of x ≡ Some value → x ≡ Some (Leaf value)
+value_slot None value is = absurd (none-some value is)
+value_slot (Some (Leaf v)) value is = ap (λ (z : ℕ). Some (Leaf z)) (same_Some v value is)
+value_slot (Some (Sibling first)) value is = absurd (none-some value is)
+
+pub bounded : (s : Slab Node) → IsFlat s → IsBounded s
+bounded s flat = record {
+  each = λ index value is.
+      let w = flat.within (index / 64 ^ 0) value (value_slot (entry_at s 0 (index / 64 ^ 0)) value is) in
+      let low : index / 64 ^ 0 < 2 ^ 64 = w.0 in
+      (omega (arith, low), w.1);
+}
 
 pub bare_to : (s : Slab Node) → IsBare s → IsBareArray s
 bare_to s bare = record { each = λ index. ap value_of (bare.each 0 (index / 64 ^ 0)) }

@@ -1,11 +1,10 @@
 -- The finite map has what the array has.
-use Rattle.std.proofs.Common.{◌≡◌, ◌≢◌, ℕ, suc, zero, ◌+◌, ◌*◌, ◌/◌, ◌^◌, ◌<◌, ◌≤◌, ◌⊎◌, Bool, true, false, eqb, cond, List, [], ◌∷◌, ◌++◌, get_or, Option, Some, None, MatchOption, MatchBool, IsSome, refl, sym, ap, ◌∙◌, inl, inr, arith}
+use Rattle.std.proofs.Common.{◌≡◌, ◌≢◌, ℕ, suc, zero, ◌+◌, ◌*◌, ◌/◌, ◌%◌, ◌^◌, ◌<◌, ◌≤◌, ◌⊎◌, Bool, true, false, eqb, leb, ltb, cond, List, [], ◌∷◌, ◌++◌, get_or, Option, Some, None, MatchOption, MatchBool, IsSome, option_map, refl, sym, ap, ◌∙◌, inl, inr, arith, leb-true, ltb-true, le-leb, lt-ltb}
 use Rattle.std.specs.Ordering.{nat_cmp, eq_by_cmp}
 use Rattle.std.specs.Cmp.{nat_cmp_total}
 use Rattle.std.specs.FinMap as map
-use Rattle.std.proofs.lemmas.Bool.{cases_eq, cases_Bool, cond-true, cond-false, false_from_ne_true}
-use Rattle.std.proofs.lemmas.Bool.Decides.{nat_tests, eqb_tells}
-use Rattle.std.proofs.lemmas.Bool.{eqb-true}
+use Rattle.std.proofs.lemmas.Bool.{cases_eq, cases_Bool, cond-true, cond-false, and_parts, and_from, false_from_ne_true, eqb-true}
+use Rattle.std.proofs.lemmas.Bool.Decides.{eqb_tells}
 use Rattle.std.proofs.lemmas.Option.{none-some, same_Some}
 use Rattle.slab.specs.Slab.{Slab}
 use Rattle.radix.specs.declared.node.Node.{Node}
@@ -13,14 +12,13 @@ use Rattle.radix.specs.Entries.{node_at}
 use Rattle.radix.proofs.TreeLemmas.{node_at-found}
 use Rattle.xarray.specs.Flat as flat
 use Rattle.xarray.specs.Flat.{value_at, marked_at, SameArray}
-use Rattle.xarray.specs.MarkedArray.{Range, Ranges, Holds, HoldsNone, HasValue, Stores, Erases, unmarked, with_value, with_mark, has_mark, Marks, IsLowest, NoneMeets, is_any, IsMarked, IsUnmarked, IsHeld}
+use Rattle.xarray.specs.declared.entry.Mark.{Mark}
+use Rattle.xarray.specs.declared.entry.Mark.TheVariants.{M0, M1, M2}
+use Rattle.xarray.specs.declared.entry.Found.{Found}
+use Rattle.xarray.specs.MarkedArray.{IsArray, Range, Ranges, entry_at, erased, found_of, has_mark, in_range, is_any, is_marked, lowest, mark_number, meets, remarked, stored, unmarked, with_mark, with_value}
 use Rattle.xarray.specs.View.{range_of, range_at, numbers, indexes, add, pick, ranges_of}
-
-tie_eq : (q i : ℕ) → eq_by_cmp nat_cmp q i ≡ true → q ≡ i
-tie_eq q i e = grind (arith, nat_tests)
-
-eq_tie : (q i : ℕ) → q ≡ i → eq_by_cmp nat_cmp q i ≡ true
-eq_tie q i e = grind (arith, nat_tests)
+use Rattle.xarray.proofs.EntryLemmas.{entries-rise, eq_tie, first_is, first_none, tie_eq}
+use Rattle.xarray.proofs.Singles.{AllSingle, IsLowest, HasNone, lowest-is, lowest-none, entry_at-none, entry_at-some, erased-remove, remarked-none, remarked-some, stored-none, stored-some}
 
 abbrev Among : ℕ → List ℕ → Type 0
 Among q [] = ⊥
@@ -126,251 +124,199 @@ order_zero : (v : Option ℕ) (a b c : Bool) (r : Range) → range_of v a b c �
 order_zero None a b c r e = absurd (none-some r e)
 order_zero (Some v) a b c r e = sym (ap (λ (z : Range). z.order) (same_Some _ r e))
 
-module _ (s : Slab Node) (index : ℕ) where
-  pub holds_at : (first : ℕ) (r : Range) → Holds (ranges_of s) index first r → (first ≡ index) × (range_at s index ≡ Some r)
-  holds_at first r h =
-      let e : range_at s first ≡ Some r = sym (get-ranges_of s first) ∙ h.there in
-      let z = order_zero _ _ _ _ r e in
-      let high : index < first + 2 ^ 0 = rw z at h.high in
-      let same : first ≡ index = omega (arith, h.low, high) in
-      (same, ap (range_at s) (sym same) ∙ e)
+some_value : (v : Option ℕ) (a b c : Bool) (r : Range) → range_of v a b c ≡ Some r → v ≡ Some r.value
+some_value None a b c r e = absurd (none-some r e)
+some_value (Some v) a b c r e = ap (λ (z : Range). Some z.value) (same_Some _ r e)
 
-  pub holds_from : (r : Range) → range_at s index ≡ Some r → Holds (ranges_of s) index index r
-  holds_from r e =
-      let z = order_zero _ _ _ _ r e in
-      record { there = get-ranges_of s index ∙ e; low = omega arith; high = rw z (omega arith) }
+-- what an index with this value has
+abbrev range_with : Slab Node → ℕ → ℕ → Range
+range_with s index value = record { order = 0; value = value; first_mark = eqb (marked_at 0 s index) 1; second_mark = eqb (marked_at 1 s index) 1; third_mark = eqb (marked_at 2 s index) 1 }
 
-  pub none_to : value_at s index ≡ None → HoldsNone (ranges_of s) index
-  none_to none = record { each = λ first r h. none-some r (sym (range_none (value_at s index) _ _ _ none) ∙ (holds_at first r h).1) }
+module _ (s : Slab Node) where
+  pub single : AllSingle (ranges_of s)
+  single = record { order = λ first r is. order_zero _ _ _ _ r (sym (get-ranges_of s first) ∙ is) }
 
-  pub none_of : HoldsNone (ranges_of s) index → value_at s index ≡ None
-  none_of none = by_cases (value_at s index) refl
+  pub range-with : (index value : ℕ) → value_at s index ≡ Some value → range_at s index ≡ Some (range_with s index value)
+  range-with index value is = ap (λ o. range_of o (eqb (marked_at 0 s index) 1) (eqb (marked_at 1 s index) 1) (eqb (marked_at 2 s index) 1)) is
+
+  pub range-without : (index : ℕ) → value_at s index ≡ None → range_at s index ≡ None
+  range-without index is = range_none (value_at s index) _ _ _ is
+
+  pub entry-some : (index value : ℕ) → value_at s index ≡ Some value → entry_at (ranges_of s) index ≡ Some (index, range_with s index value)
+  entry-some index value is = entry_at-some (ranges_of s) single index _ (get-ranges_of s index ∙ range-with index value is)
+
+  pub entry-none : (index : ℕ) → value_at s index ≡ None → entry_at (ranges_of s) index ≡ None
+  entry-none index is = entry_at-none (ranges_of s) single index (get-ranges_of s index ∙ range-without index is)
+
+  -- the value at an index is that of its entry
+  pub value-entry : (index : ℕ) → value_at s index ≡ option_map (λ e. e.1.value) (entry_at (ranges_of s) index)
+  value-entry index = by_value (value_at s index) refl
     where
-      by_cases : (o : Option ℕ) → value_at s index ≡ o → o ≡ None
-      by_cases None e = refl
-      by_cases (Some v) e = absurd (none.each index _ (holds_from _ (ap (λ o. range_of o (eqb (marked_at 0 s index) 1) (eqb (marked_at 1 s index) 1) (eqb (marked_at 2 s index) 1)) e)))
+      by_value : (o : Option ℕ) → value_at s index ≡ o → o ≡ option_map (λ e. e.1.value) (entry_at (ranges_of s) index)
+      by_value None is = sym (ap (option_map (λ e. e.1.value)) (entry-none index is))
+      by_value (Some v) is = sym (ap (option_map (λ e. e.1.value)) (entry-some index v is))
 
-  pub load_tells : (o : Option ℕ) → o ≡ value_at s index → MatchOption o (HoldsNone (ranges_of s) index) (λ v. HasValue (ranges_of s) index v)
-  load_tells None e = none_to (sym e)
-  load_tells (Some v) e = record {
-    first = index;
-    range = record { order = 0; value = v; first_mark = eqb (marked_at 0 s index) 1; second_mark = eqb (marked_at 1 s index) 1; third_mark = eqb (marked_at 2 s index) 1 };
-    holds = holds_from _ (ap (λ o. range_of o (eqb (marked_at 0 s index) 1) (eqb (marked_at 1 s index) 1) (eqb (marked_at 2 s index) 1)) (sym e));
-    is = refl;
-  }
+  pub held-value : (index : ℕ) → IsSome (entry_at (ranges_of s) index) → IsSome (value_at s index)
+  held-value index some = by_value (value_at s index) refl
+    where
+      by_value : (o : Option ℕ) → value_at s index ≡ o → IsSome o
+      by_value None is = let e = entry-none index is in rw e at some
+      by_value (Some v) is = refl
 
-range_some : (v : Option ℕ) (a b c : Bool) (r : Range) (value : ℕ) → range_of v a b c ≡ Some r → range_of (Some value) a b c ≡ Some (with_value value r)
-range_some None a b c r value e = absurd (none-some r e)
-range_some (Some v) a b c r value e = ap (λ (z : Range). Some (with_value value z)) (same_Some _ r e)
+  pub free-value : (index : ℕ) → entry_at (ranges_of s) index ≡ None → value_at s index ≡ None
+  free-value index none = by_value (value_at s index) refl
+    where
+      by_value : (o : Option ℕ) → value_at s index ≡ o → o ≡ None
+      by_value None is = refl
+      by_value (Some v) is = absurd (none-some _ (sym none ∙ entry-some index v is))
+
+-- ---- store and erase
 
 module _ (old new : Slab Node) (index value : ℕ) (p : flat.Stores old new index value) where
   others : (q : ℕ) → q ≢ index → range_at new q ≡ range_at old q
   others q differs = range-same old new q (p.others q differs) (λ mark low. p.marks mark q low)
 
-  marked_now : range_at new index ≡ range_of (Some value) (eqb (marked_at 0 old index) 1) (eqb (marked_at 1 old index) 1) (eqb (marked_at 2 old index) 1)
+  marked_now : range_at new index ≡ Some (range_with old index value)
   marked_now = rw (p.changed, p.marks 0 index (omega arith), p.marks 1 index (omega arith), p.marks 2 index (omega arith)) refl
 
   fresh_now : value_at old index ≡ None → range_at new index ≡ Some (unmarked 0 value)
   fresh_now none = rw (p.changed, p.fresh 0 (omega arith) none, p.fresh 1 (omega arith) none, p.fresh 2 (omega arith) none) refl
 
-  pub map_stores : Stores (ranges_of old) (ranges_of new) index value
-  map_stores = record {
-    over = λ first r h.
-        let at = holds_at old index first r h in
-        rw (at.0) (map-insert old new index (with_value value r) (marked_now ∙ range_some (value_at old index) _ _ _ r value at.1) others);
-    fresh = λ none. map-insert old new index (unmarked 0 value) (fresh_now (none_of old index none)) others;
-  }
+  pub map-stored : ranges_of new ≡ stored (ranges_of old) index value
+  map-stored = by_value (value_at old index) refl
+    where
+      by_value : (o : Option ℕ) → value_at old index ≡ o → ranges_of new ≡ stored (ranges_of old) index value
+      by_value None is =
+          map-insert old new index (unmarked 0 value) (fresh_now is) others
+          ∙ sym (stored-none (ranges_of old) (single old) index value (get-ranges_of old index ∙ range-without old index is))
+      by_value (Some v) is =
+          map-insert old new index (range_with old index value) marked_now others
+          ∙ sym (stored-some (ranges_of old) (single old) index value (range_with old index v) (get-ranges_of old index ∙ range-with old index v is))
+
+  pub map-inserted : value_at old index ≡ None → ranges_of new ≡ map.insert (ranges_of old) index (unmarked 0 value)
+  map-inserted none = map-insert old new index (unmarked 0 value) (fresh_now none) others
 
 module _ (old new : Slab Node) (index : ℕ) (p : flat.Erases old new index) where
   erased_others : (q : ℕ) → q ≢ index → range_at new q ≡ range_at old q
   erased_others q differs = range-same old new q (p.others q differs) (λ mark low. p.marks mark q low differs)
 
-  gone : range_at new index ≡ None
-  gone = range_none (value_at new index) _ _ _ p.changed
-
-  pub map_erases : Erases (ranges_of old) (ranges_of new) index
-  map_erases = record {
-    over = λ first r h. rw ((holds_at old index first r h).0) (map-remove old new index gone erased_others);
-    fresh = λ none.
-        map.same_map nat_cmp_total map.nat_cmp-IsAntisymmetric (ranges_of new) (ranges_of old)
-        (λ q. get-ranges_of new q
-        ∙ elim (cases_eq q index) [
-          | inl same ↦ ap (range_at new) same ∙ gone ∙ sym (range_none (value_at old index) _ _ _ (none_of old index none)) ∙ ap (range_at old) (sym same)
-          | inr differs ↦ erased_others q differs
-        ] ∙ sym (get-ranges_of old q));
-  }
+  pub map-erased : ranges_of new ≡ erased (ranges_of old) index
+  map-erased =
+      map-remove old new index (range-without new index p.changed) erased_others
+      ∙ sym (erased-remove (ranges_of old) (single old) index)
 
 -- ---- marks
 
-some_value : (v : Option ℕ) (a b c : Bool) (r : Range) → range_of v a b c ≡ Some r → v ≡ Some r.value
-some_value None a b c r e = absurd (none-some r e)
-some_value (Some v) a b c r e = ap (λ (z : Range). Some z.value) (same_Some _ r e)
+pub mark_low : (mark : Mark) → mark_number mark < 3
+mark_low M0 = omega arith
+mark_low M1 = omega arith
+mark_low M2 = omega arith
 
-pub mark_is : (s : Slab Node) (index mark : ℕ) (r : Range) → mark < 3 → range_at s index ≡ Some r → has_mark mark r ≡ eqb (marked_at mark s index) 1
-mark_is s index mark r low e = by_value (value_at s index) mark low e
-  where
-    by_value : (v : Option ℕ) (mark : ℕ) → mark < 3 → range_of v (eqb (marked_at 0 s index) 1) (eqb (marked_at 1 s index) 1) (eqb (marked_at 2 s index) 1) ≡ Some r → has_mark mark r ≡ eqb (marked_at mark s index) 1
-    by_value None mark low e = absurd (none-some r e)
-    by_value (Some v) zero low e = sym (ap (λ (z : Range). z.first_mark) (same_Some _ r e))
-    by_value (Some v) (suc zero) low e = sym (ap (λ (z : Range). z.second_mark) (same_Some _ r e))
-    by_value (Some v) (suc (suc zero)) low e = sym (ap (λ (z : Range). z.third_mark) (same_Some _ r e))
-    by_value (Some v) (suc (suc (suc m))) low e = absurd (omega arith)
+pub mark-with : (s : Slab Node) (index value : ℕ) (mark : Mark) → has_mark mark (range_with s index value) ≡ eqb (marked_at (mark_number mark) s index) 1
+mark-with s index value M0 = refl
+mark-with s index value M1 = refl
+mark-with s index value M2 = refl
 
-remarked : (v : Option ℕ) (a b c : Bool) (r : Range) (mark : ℕ) (is : Bool) → mark < 3 → range_of v a b c ≡ Some r → range_of v (cond (eqb mark 0) is a) (cond (eqb mark 1) is b) (cond (eqb mark 2) is c) ≡ Some (with_mark mark is r)
-remarked None a b c r mark is low e = absurd (none-some r e)
-remarked (Some v) a b c r zero is low e = ap (λ (z : Range). Some (with_mark 0 is z)) (same_Some _ r e)
-remarked (Some v) a b c r (suc zero) is low e = ap (λ (z : Range). Some (with_mark 1 is z)) (same_Some _ r e)
-remarked (Some v) a b c r (suc (suc zero)) is low e = ap (λ (z : Range). Some (with_mark 2 is z)) (same_Some _ r e)
-remarked (Some v) a b c r (suc (suc (suc m))) is low e = absurd (omega arith)
+pub mark-is : (s : Slab Node) (index : ℕ) (mark : Mark) (r : Range) → range_at s index ≡ Some r → has_mark mark r ≡ eqb (marked_at (mark_number mark) s index) 1
+mark-is s index mark r is =
+    let e = range-with s index r.value (some_value (value_at s index) _ _ _ r is) in
+    ap (has_mark mark) (same_Some r (range_with s index r.value) (sym is ∙ e)) ∙ mark-with s index r.value mark
 
-module _ (old new : Slab Node) (index mark bit : ℕ) (low : mark < 3) (p : flat.Marks old new mark index bit) where
+module _ (old new : Slab Node) (index : ℕ) (mark : Mark) (bit : ℕ) (p : flat.Marks old new (mark_number mark) index bit) where
   marked_others : (q : ℕ) → q ≢ index → range_at new q ≡ range_at old q
-  marked_others q differs = range-same old new q (p.values q) (λ other small. elim (cases_eq other mark) [
+  marked_others q differs = range-same old new q (p.values q) (λ other small. elim (cases_eq other (mark_number mark)) [
     | inl same ↦ rw same (p.others q differs)
     | inr apart ↦ p.other_marks other q small apart
   ])
 
-  one : (other : ℕ) → other < 3 → eqb (marked_at other new index) 1 ≡ cond (eqb mark other) (eqb bit 1) (eqb (marked_at other old index) 1)
-  one other small = elim (eqb_tells mark other) [
+  one : (other : ℕ) → other < 3 → eqb (marked_at other new index) 1 ≡ cond (eqb (mark_number mark) other) (eqb bit 1) (eqb (marked_at other old index) 1)
+  one other small = elim (eqb_tells (mark_number mark) other) [
     | inl e ↦ rw (e.0) (rw (sym e.1) (ap (λ b. eqb b 1) p.changed))
     | inr e ↦ rw (e.0) (ap (λ b. eqb b 1) (p.other_marks other index small (λ same. e.1 (sym same))))
   ]
 
-  pub map_marks : Marks (ranges_of old) (ranges_of new) index mark (eqb bit 1)
-  map_marks = record {
-    over = λ first r h.
-        let at = holds_at old index first r h in
-        rw (at.0) (map-insert old new index (with_mark mark (eqb bit 1) r)
-        (rw (p.values index, one 0 (omega arith), one 1 (omega arith), one 2 (omega arith)) (remarked (value_at old index) _ _ _ r mark (eqb bit 1) low at.1)) marked_others);
-    fresh = λ none.
-        map.same_map nat_cmp_total map.nat_cmp-IsAntisymmetric (ranges_of new) (ranges_of old)
-        (λ q. get-ranges_of new q
-        ∙ elim (cases_eq q index) [
-          | inl same ↦ ap (range_at new) same ∙ range_none (value_at new index) _ _ _ (p.values index ∙ none_of old index none) ∙ sym (range_none (value_at old index) _ _ _ (none_of old index none)) ∙ ap (range_at old) (sym same)
-          | inr differs ↦ marked_others q differs
-        ] ∙ sym (get-ranges_of old q));
-  }
+remarks : (mark : Mark) (is : Bool) (value : ℕ) (a b c : Bool) → range_of (Some value) (cond (eqb (mark_number mark) 0) is a) (cond (eqb (mark_number mark) 1) is b) (cond (eqb (mark_number mark) 2) is c) ≡ Some (with_mark mark is (record { order = 0; value = value; first_mark = a; second_mark = b; third_mark = c }))
+remarks M0 is value a b c = refl
+remarks M1 is value a b c = refl
+remarks M2 is value a b c = refl
+
+pub map-remarked : (old new : Slab Node) (index : ℕ) (mark : Mark) (bit : ℕ) → flat.Marks old new (mark_number mark) index bit → IsSome (value_at old index) → ranges_of new ≡ remarked (ranges_of old) index mark (eqb bit 1)
+map-remarked old new index mark bit p some = by_value (value_at old index) refl
+  where
+    by_value : (o : Option ℕ) → value_at old index ≡ o → ranges_of new ≡ remarked (ranges_of old) index mark (eqb bit 1)
+    by_value None is = absurd (cc)
+    by_value (Some v) is =
+        let now : range_at new index ≡ Some (with_mark mark (eqb bit 1) (range_with old index v)) =
+        rw (p.values index, is, one old new index mark bit p 0 (omega arith), one old new index mark bit p 1 (omega arith), one old new index mark bit p 2 (omega arith)) (remarks mark (eqb bit 1) v _ _ _) in
+        map-insert old new index (with_mark mark (eqb bit 1) (range_with old index v)) now (marked_others old new index mark bit p)
+        ∙ sym (remarked-some (ranges_of old) (single old) index mark (eqb bit 1) (range_with old index v) (get-ranges_of old index ∙ range-with old index v is))
+
+pub map-unmarked : (s : Slab Node) (index : ℕ) (mark : Mark) (is : Bool) → value_at s index ≡ None → ranges_of s ≡ remarked (ranges_of s) index mark is
+map-unmarked s index mark is none = sym (remarked-none (ranges_of s) (single s) index mark is (get-ranges_of s index ∙ range-without s index none))
+
+pub mark-entry : (s : Slab Node) (index : ℕ) (mark : Mark) (r : Bool) → (value_at s index ≡ None → r ≡ false) → r ≡ eqb (marked_at (mark_number mark) s index) 1 → r ≡ is_marked mark (entry_at (ranges_of s) index)
+mark-entry s index mark r none is = by_value (value_at s index) refl
+  where
+    by_value : (o : Option ℕ) → value_at s index ≡ o → r ≡ is_marked mark (entry_at (ranges_of s) index)
+    by_value None e = none e ∙ sym (ap (is_marked mark) (entry-none s index e))
+    by_value (Some v) e = is ∙ sym (mark-with s index v mark) ∙ sym (ap (is_marked mark) (entry-some s index v e))
 
 -- ---- searches
 
 module _ (s : Slab Node) (from to : ℕ) where
-  -- an entry of order 0 that meets the indexes is one of them
-  meets : (other : ℕ) (q : Range) → map.get (ranges_of s) other ≡ Some q → from < other + 2 ^ q.order → (from ≤ other) × (range_at s other ≡ Some q)
-  meets other q at reach =
-      let e : range_at s other ≡ Some q = sym (get-ranges_of s other) ∙ at in
-      let z = order_zero _ _ _ _ q e in
-      let high : from < other + 2 ^ 0 = rw z at reach in
-      (omega (arith, high), e)
+  pub lowest-at : (kind : Range → Bool) (index value : ℕ) → value_at s index ≡ Some value → from ≤ index → index ≤ to → kind (range_with s index value) ≡ true → ((q : ℕ) (r : Range) → range_at s q ≡ Some r → kind r ≡ true → from ≤ q → q ≤ to → index ≤ q) → lowest kind (ranges_of s) from to ≡ Some (index, range_with s index value)
+  lowest-at kind index value is low high passes first =
+      lowest-is (ranges_of s) (single s) kind from to index (range_with s index value)
+      (record { there = get-ranges_of s index ∙ range-with s index value is; is = passes; low = low; high = high; first = λ q r has. first q r (sym (get-ranges_of s q) ∙ has) })
 
-  pub lowest_any : (index value : ℕ) → flat.IsFirst s from to index value → IsLowest (ranges_of s) is_any from to index 0 value
-  lowest_any index value p = record {
-    range = record { order = 0; value = value; first_mark = eqb (marked_at 0 s index) 1; second_mark = eqb (marked_at 1 s index) 1; third_mark = eqb (marked_at 2 s index) 1 };
-    there = get-ranges_of s index ∙ ap (λ o. range_of o (eqb (marked_at 0 s index) 1) (eqb (marked_at 1 s index) 1) (eqb (marked_at 2 s index) 1)) p.value_is;
-    is = refl;
-    order_is = refl;
-    value_is = refl;
-    reaches = let l = p.low in omega (arith, l);
-    begins = p.high;
-    lowest = λ other q at kind reach begins. let m = meets other q at reach in p.first other q.value m.0 begins (some_value _ _ _ _ q m.1);
-  }
+  pub lowest-nowhere : (kind : Range → Bool) → ((q : ℕ) (r : Range) → range_at s q ≡ Some r → kind r ≡ true → from ≤ q → q ≤ to → ⊥) → lowest kind (ranges_of s) from to ≡ None
+  lowest-nowhere kind never = lowest-none (ranges_of s) (single s) kind from to (record { each = λ q r has. never q r (sym (get-ranges_of s q) ∙ has) })
 
-  pub none_any : flat.HasNoneIn s from to → NoneMeets (ranges_of s) is_any from to
-  none_any p = record { each = λ other q at kind reach begins. let m = meets other q at reach in none-some q.value (sym (p.each other m.0 begins) ∙ some_value _ _ _ _ q m.1) }
+  pub any-none : flat.HasNoneIn s from to → lowest is_any (ranges_of s) from to ≡ None
+  any-none none = lowest-nowhere is_any (λ q r is t low high. none-some r.value (sym (none.each q low high) ∙ some_value _ _ _ _ r is))
 
-  module _ (mark : ℕ) (low : mark < 3) where
-    pub lowest_marked : (index value : ℕ) → flat.IsFirstMarked s from to mark index value → IsLowest (ranges_of s) (has_mark mark) from to index 0 value
-    lowest_marked index value p =
-        let r : Range = record { order = 0; value = value; first_mark = eqb (marked_at 0 s index) 1; second_mark = eqb (marked_at 1 s index) 1; third_mark = eqb (marked_at 2 s index) 1 } in
-        let e : range_at s index ≡ Some r = ap (λ o. range_of o (eqb (marked_at 0 s index) 1) (eqb (marked_at 1 s index) 1) (eqb (marked_at 2 s index) 1)) p.value_is in
-        record {
-          range = r;
-          there = get-ranges_of s index ∙ e;
-          is = mark_is s index mark r low e ∙ ap (λ b. eqb b 1) p.marked;
-          order_is = refl;
-          value_is = refl;
-          reaches = let l = p.low in omega (arith, l);
-          begins = p.high;
-          lowest = λ other q at kind reach begins.
-              let m = meets other q at reach in
-              p.first other m.0 begins (eqb-true (marked_at mark s other) 1 (sym (mark_is s other mark q low m.1) ∙ kind));
-        }
+  pub any-some : (index value : ℕ) → flat.IsFirst s from to index value → lowest is_any (ranges_of s) from to ≡ Some (index, range_with s index value)
+  any-some index value p = lowest-at is_any index value p.value_is p.low p.high refl (λ q r is t low high. p.first q r.value low high (some_value _ _ _ _ r is))
 
-    pub none_marked_in : flat.HasNoMarkedIn s from to mark → NoneMeets (ranges_of s) (has_mark mark) from to
-    none_marked_in p = record { each = λ other q at kind reach begins. let m = meets other q at reach in p.each other m.0 begins (eqb-true (marked_at mark s other) 1 (sym (mark_is s other mark q low m.1) ∙ kind)) }
+  pub marked-none : (mark : Mark) → flat.HasNoMarkedIn s from to (mark_number mark) → lowest (has_mark mark) (ranges_of s) from to ≡ None
+  marked-none mark none = lowest-nowhere (has_mark mark) (λ q r is t low high. none.each q low high (eqb-true _ 1 (sym (mark-is s q mark r is) ∙ t)))
 
-find_any : (s : Slab Node) (from to : ℕ) (r : Option (ℕ × ℕ)) → MatchOption r (flat.HasNoneIn s from to) (λ p. flat.IsFirst s from to p.0 p.1) → MatchOption r (NoneMeets (ranges_of s) is_any from to) (λ p. IsLowest (ranges_of s) is_any from to p.0 0 p.1)
-find_any s from to None h = none_any s from to h
-find_any s from to (Some p) h = lowest_any s from to p.0 p.1 h
+  pub marked-some : (mark : Mark) (index value : ℕ) → flat.IsFirstMarked s from to (mark_number mark) index value → lowest (has_mark mark) (ranges_of s) from to ≡ Some (index, range_with s index value)
+  marked-some mark index value p =
+      lowest-at (has_mark mark) index value p.value_is p.low p.high (mark-with s index value mark ∙ ap (λ b. eqb b 1) p.marked)
+      (λ q r is t low high. p.first q low high (eqb-true _ 1 (sym (mark-is s q mark r is) ∙ t)))
 
-find_with : (s : Slab Node) (from to mark : ℕ) → mark < 3 → (r : Option (ℕ × ℕ)) → MatchOption r (flat.HasNoMarkedIn s from to mark) (λ p. flat.IsFirstMarked s from to mark p.0 p.1) → MatchOption r (NoneMeets (ranges_of s) (has_mark mark) from to) (λ p. IsLowest (ranges_of s) (has_mark mark) from to p.0 0 p.1)
-find_with s from to mark low None h = none_marked_in s from to mark low h
-find_with s from to mark low (Some p) h = lowest_marked s from to mark low p.0 p.1 h
-
-pub find_any_at : (s : Slab Node) (m : Ranges) (from to : ℕ) (r : Option (ℕ × ℕ)) → ranges_of s ≡ m → MatchOption r (flat.HasNoneIn s from to) (λ p. flat.IsFirst s from to p.0 p.1) → MatchOption r (NoneMeets m is_any from to) (λ p. IsLowest m is_any from to p.0 0 p.1)
-find_any_at s m from to r same h = rw (sym same) (find_any s from to r h)
-
-pub find_with_at : (s : Slab Node) (m : Ranges) (from to mark : ℕ) → mark < 3 → (r : Option (ℕ × ℕ)) → ranges_of s ≡ m → MatchOption r (flat.HasNoMarkedIn s from to mark) (λ p. flat.IsFirstMarked s from to mark p.0 p.1) → MatchOption r (NoneMeets m (has_mark mark) from to) (λ p. IsLowest m (has_mark mark) from to p.0 0 p.1)
-find_with_at s m from to mark low r same h = rw (sym same) (find_with s from to mark low r h)
-
--- where there is no entry a mark changes nothing
-no_change : (s : Slab Node) (index mark : ℕ) (is : Bool) → value_at s index ≡ None → Marks (ranges_of s) (ranges_of s) index mark is
-no_change s index mark is none = record { over = λ first r h. absurd ((none_to s index none).each first r h); fresh = λ h. refl }
-
-held_at : (s : Slab Node) (index : ℕ) → IsSome (value_at s index) → IsHeld (ranges_of s) index
-held_at s index some = by_value (value_at s index) refl some
-  where
-    by_value : (o : Option ℕ) → value_at s index ≡ o → IsSome o → IsHeld (ranges_of s) index
-    by_value None e h = absurd (cc)
-    by_value (Some v) e h = record { first = index; range = _; holds = holds_from s index _ (ap (λ o. range_of o (eqb (marked_at 0 s index) 1) (eqb (marked_at 1 s index) 1) (eqb (marked_at 2 s index) 1)) e) }
-
-pub set_held : (old new : Slab Node) (m : Ranges) (index mark : ℕ) (r : Bool) → ranges_of old ≡ m → r ≡ true → MatchBool r (IsSome (value_at old index) × flat.Marks old new mark index 1) ((value_at old index ≡ None) × (new ≡ old)) → IsHeld m index
-set_held old new m index mark true same yes_is h = rw (sym same) (held_at old index h.0)
-set_held old new m index mark false same yes_is h = absurd (cc)
-
-pub set_free : (old new : Slab Node) (m : Ranges) (index mark : ℕ) (r : Bool) → ranges_of old ≡ m → r ≡ false → MatchBool r (IsSome (value_at old index) × flat.Marks old new mark index 1) ((value_at old index ≡ None) × (new ≡ old)) → HoldsNone m index
-set_free old new m index mark true same no_is h = absurd (cc)
-set_free old new m index mark false same no_is h = rw (sym same) (none_to old index h.0)
-
-pub set_tells : (old new : Slab Node) (m : Ranges) (index mark : ℕ) (r : Bool) → mark < 3 → ranges_of old ≡ m → MatchBool r (IsSome (value_at old index) × flat.Marks old new mark index 1) ((value_at old index ≡ None) × (new ≡ old)) → Marks m (ranges_of new) index mark true
-set_tells old new m index mark true low same h = rw (sym same) (map_marks old new index mark 1 low h.1)
-set_tells old new m index mark false low same h = rw (sym same, h.1) (no_change old index mark true h.0)
-
-pub clear_tells : (old new : Slab Node) (m : Ranges) (index mark : ℕ) → mark < 3 → ranges_of old ≡ m → (IsSome (value_at old index) → flat.Marks old new mark index 0) → (value_at old index ≡ None → new ≡ old) → Marks m (ranges_of new) index mark false
-clear_tells old new m index mark low same set none = by_value (value_at old index) refl
-  where
-    by_value : (o : Option ℕ) → value_at old index ≡ o → Marks m (ranges_of new) index mark false
-    by_value None e = rw (sym same, none e) (no_change old index mark false e)
-    by_value (Some v) e = rw (sym same) (map_marks old new index mark 0 low (set (rw e refl)))
-
--- ---- the mark of an entry
-
--- where there is no value there is no mark
-pub mark_tells : (s : Slab Node) (m : Ranges) (index mark : ℕ) (r : Bool) → mark < 3 → ranges_of s ≡ m → (value_at s index ≡ None → r ≡ false) → r ≡ eqb (marked_at mark s index) 1 → MatchBool r (IsMarked m index mark) (IsUnmarked m index mark)
-mark_tells s m index mark true low same none is = rw (sym same) (by_value (value_at s index) refl)
-  where
-    by_value : (o : Option ℕ) → value_at s index ≡ o → IsMarked (ranges_of s) index mark
-    by_value None e = absurd (let f : true ≡ false = none e in cc)
-    by_value (Some v) e =
-        let r : Range = record { order = 0; value = v; first_mark = eqb (marked_at 0 s index) 1; second_mark = eqb (marked_at 1 s index) 1; third_mark = eqb (marked_at 2 s index) 1 } in
-        let f : range_at s index ≡ Some r = ap (λ o. range_of o (eqb (marked_at 0 s index) 1) (eqb (marked_at 1 s index) 1) (eqb (marked_at 2 s index) 1)) e in
-        record { first = index; range = r; holds = holds_from s index r f; is = mark_is s index mark r low f ∙ sym is }
-mark_tells s m index mark false low same none is = rw (sym same) (record { each = λ first r h. mark_is s index mark r low (holds_at s index first r h).1 ∙ sym is })
-
--- ---- an entry that is put where none is
-
-pub insert_tells : (old new : Slab Node) (m : Ranges) (index value : ℕ) (r : Bool) → ranges_of old ≡ m → MatchBool r ((value_at old index ≡ None) × flat.Stores old new index value) (IsSome (value_at old index) × (new ≡ old)) → MatchBool r (HoldsNone m index × Stores m (ranges_of new) index value) (IsHeld m index × (ranges_of new ≡ m))
-insert_tells old new m index value true same h = rw (sym same) (none_to old index h.0, map_stores old new index value h.1)
-insert_tells old new m index value false same h = rw (sym same) (held_at old index h.0, ap ranges_of h.1)
-
-pub insert_err : (old new : Slab Node) (m : Ranges) (index : ℕ) → ranges_of old ≡ m → (value_at old index ≡ None) × SameArray old new → HoldsNone m index × (ranges_of new ≡ m)
-insert_err old new m index same h = rw (sym same) (none_to old index h.0, map-same old new h.1)
-
--- ---- the empty array
+-- ---- the empty array, and the shape of any
 
 pub bare_map : (s : Slab Node) → ((index : ℕ) → value_at s index ≡ None) → ranges_of s ≡ map.empty
 bare_map s bare =
     map.same_map nat_cmp_total map.nat_cmp-IsAntisymmetric (ranges_of s) map.empty
-    (λ q. get-ranges_of s q ∙ range_none (value_at s q) _ _ _ (bare q) ∙ sym (map.get-empty nat_cmp q))
+    (λ q. get-ranges_of s q ∙ range-without s q (bare q) ∙ sym (map.get-empty nat_cmp q))
 
 pub map_bare : (s : Slab Node) → ranges_of s ≡ map.empty → (index : ℕ) → value_at s index ≡ None
-map_bare s empty index = none_of s index (record { each = λ first r h. none-some r (sym (map.get-empty nat_cmp first) ∙ ap (λ m. map.get m first) (sym empty) ∙ h.there) })
+map_bare s empty index = by_value (value_at s index) refl
+  where
+    by_value : (o : Option ℕ) → value_at s index ≡ o → o ≡ None
+    by_value None is = refl
+    by_value (Some v) is = absurd (none-some _ (sym (map.get-empty nat_cmp index) ∙ ap (λ m. map.get m index) (sym empty) ∙ get-ranges_of s index ∙ range-with s index v is))
+
+mod_one : (n k : ℕ) → k ≡ 0 → n % 2 ^ k ≡ 0
+mod_one n k zero_order = rw zero_order (omega arith)
+
+one_more : (n k : ℕ) → k ≡ 0 → n < 2 ^ 64 → n + 2 ^ k ≤ 2 ^ 64
+one_more n k zero_order low = rw zero_order (omega (arith, low))
+
+one_after : (n k other : ℕ) → k ≡ 0 → n < other → n + 2 ^ k ≤ other
+one_after n k other zero_order before = rw zero_order (omega (arith, before))
+
+pub map-shape : (s : Slab Node) → flat.IsBounded s → IsArray (ranges_of s)
+map-shape s bounded = record {
+  order = λ first r is. let e = (single s).order first r is in omega (arith, e);
+  aligned = λ first r is. mod_one first r.order ((single s).order first r is);
+  within = λ first r is. one_more first r.order ((single s).order first r is) (bounds first r is).0;
+  value = λ first r is. (bounds first r is).1;
+  disjoint = λ first other r q is has before. one_after first r.order other ((single s).order first r is) before;
+}
+  where
+    bounds : (first : ℕ) (r : Range) → map.get (ranges_of s) first ≡ Some r → (first < 2 ^ 64) × (r.value < 2 ^ 63)
+    bounds first r is = bounded.each first r.value (some_value (value_at s first) _ _ _ r (sym (get-ranges_of s first) ∙ is))

@@ -23,6 +23,7 @@ marked_at mark s index = mark_at mark s 0 (index / 64 ^ 0)
 pub record IsFlat (s : Slab Node) : Type 0 where
   pub upper : (level place : ℕ) → 0 < level → entry_at s level place ≡ None
   pub lower : (place first : ℕ) → entry_at s 0 place ≡ Some (Sibling first) → ⊥
+  pub within : (place value : ℕ) → entry_at s 0 place ≡ Some (Leaf value) → (place < 2 ^ 64) × (value < 2 ^ 63)
 
 -- every index has what it had
 pub record SameArray (old new : Slab Node) : Type 0 where
@@ -84,3 +85,7 @@ pub record IsNoneMarked (s : Slab Node) (mark : ℕ) : Type 0 where
 -- no index has a value
 pub record IsBareArray (s : Slab Node) : Type 0 where
   pub each : (index : ℕ) → value_at s index ≡ None
+
+-- each index and each value is a word's
+pub record IsBounded (s : Slab Node) : Type 0 where
+  pub each : (index value : ℕ) → value_at s index ≡ Some value → (index < 2 ^ 64) × (value < 2 ^ 63)

@@ -1,10 +1,17 @@
--- A marked array: a finite map from ranges of indexes to a value and three marks. A range of order k is 2 ^ k indexes; it
--- is kept by its first. (Linux, Documentation/core-api/xarray.rst: entries, marks, and multi-index entries.)
-use Rattle.std.specs.Prelude.{◌≡◌, ◌≢◌, ℕ, zero, suc, ◌+◌, ◌^◌, ◌<◌, ◌≤◌, Bool, true, false, Option, Some, None}
+-- A marked array: a finite map from ranges of indexes to a value and three marks. A range of order k is 2 ^ k indexes, and
+-- it is kept by its first. (Linux, Documentation/core-api/xarray.rst: entries, marks, and multi-index entries.)
+use Rattle.std.specs.Prelude.{◌≡◌, ℕ, zero, suc, ◌+◌, ◌%◌, ◌^◌, ◌<◌, ◌≤◌, ◌&&◌, Bool, true, false, cond, ltb, leb, Option, Some, None, find, count_by, map as map_list}
 use Rattle.std.specs.Ordering.{nat_cmp}
-use Rattle.std.specs.Coded.{Coded, coded_ℕ, coded_bool, coded×, code_by}
+use Rattle.std.specs.Coded.{Coded, coded_ℕ, coded_bool, coded_option, coded×, code_by}
 use mathlib.Core.Path.{refl}
 use Rattle.std.specs.FinMap as map
+use Rattle.pc_types.specs.declared.refusal.Refusal.{Refusal}
+use Rattle.pc_types.specs.declared.refusal.Refusal.TheVariants as refusal
+use Rattle.xarray.specs.declared.entry.Mark.{Mark}
+use Rattle.xarray.specs.declared.entry.Mark.TheVariants.{M0, M1, M2}
+use Rattle.xarray.specs.declared.entry.Found.{Found}
+
+-- ---- the array
 
 -- what an entry is besides its first index
 pub record Range : Type 0 where
@@ -24,6 +31,26 @@ range_code =
 abbrev pub Ranges : Type 0
 Ranges = map.FinMap nat_cmp Range
 
+-- the entries, and the range, by its first index and its order, for which `reserve` made room
+pub record Array : Type 0 where
+  pub ranges : Ranges
+  pub ready : Option (ℕ × ℕ)
+
+abbrev pub array_code : Coded Array
+array_code =
+    code_by (Ranges × Option (ℕ × ℕ)) (coded× (map.code coded_ℕ range_code) (coded_option (coded× coded_ℕ coded_ℕ)))
+    (λ a. (a.ranges, a.ready)) (λ p. record { ranges = p.0; ready = p.1 }) (λ _. refl)
+
+-- the ranges are aligned and disjoint, and lie among the 2 ^ 64 indexes
+pub record IsArray (m : Ranges) : Type 0 where
+  pub order : (first : ℕ) (r : Range) → map.get m first ≡ Some r → r.order ≤ 63
+  pub aligned : (first : ℕ) (r : Range) → map.get m first ≡ Some r → first % 2 ^ r.order ≡ 0
+  pub within : (first : ℕ) (r : Range) → map.get m first ≡ Some r → first + 2 ^ r.order ≤ 2 ^ 64
+  pub value : (first : ℕ) (r : Range) → map.get m first ≡ Some r → r.value < 2 ^ 63
+  pub disjoint : (first other : ℕ) (r q : Range) → map.get m first ≡ Some r → map.get m other ≡ Some q → first < other → first + 2 ^ r.order ≤ other
+
+-- ---- one entry
+
 -- an entry without marks
 abbrev pub unmarked : ℕ → ℕ → Range
 unmarked order value = record { order = order; value = value; first_mark = false; second_mark = false; third_mark = false }
@@ -31,80 +58,93 @@ unmarked order value = record { order = order; value = value; first_mark = false
 abbrev pub with_value : ℕ → Range → Range
 with_value value r = record r { value = value }
 
--- whether an entry has mark 0, 1 or 2
-abbrev pub has_mark : ℕ → Range → Bool
-has_mark zero r = r.first_mark
-has_mark (suc zero) r = r.second_mark
-has_mark (suc (suc mark)) r = r.third_mark
+abbrev pub has_mark : Mark → Range → Bool
+has_mark M0 r = r.first_mark
+has_mark M1 r = r.second_mark
+has_mark M2 r = r.third_mark
 
-abbrev pub with_mark : ℕ → Bool → Range → Range
-with_mark zero is r = record r { first_mark = is }
-with_mark (suc zero) is r = record r { second_mark = is }
-with_mark (suc (suc mark)) is r = record r { third_mark = is }
+abbrev pub with_mark : Mark → Bool → Range → Range
+with_mark M0 is r = record r { first_mark = is }
+with_mark M1 is r = record r { second_mark = is }
+with_mark M2 is r = record r { third_mark = is }
 
--- the entry whose range holds an index
-pub record Holds (m : Ranges) (index first : ℕ) (r : Range) : Type 0 where
-  pub there : map.get m first ≡ Some r
-  pub low : first ≤ index
-  pub high : index < first + 2 ^ r.order
-
--- no range holds an index
-pub record HoldsNone (m : Ranges) (index : ℕ) : Type 0 where
-  pub each : (first : ℕ) (r : Range) → Holds m index first r → ⊥
-
--- the entry at an index has this value
-pub record HasValue (m : Ranges) (index value : ℕ) : Type 0 where
-  pub first : ℕ
-  pub range : Range
-  pub holds : Holds m index first range
-  pub is : range.value ≡ value
-
--- the entry at an index gets a value and keeps its range and marks; else an index gets an entry without marks
-pub record Stores (old new : Ranges) (index value : ℕ) : Type 0 where
-  pub over : (first : ℕ) (r : Range) → Holds old index first r → new ≡ map.insert old first (with_value value r)
-  pub fresh : HoldsNone old index → new ≡ map.insert old index (unmarked 0 value)
-
--- the entry at an index goes
-pub record Erases (old new : Ranges) (index : ℕ) : Type 0 where
-  pub over : (first : ℕ) (r : Range) → Holds old index first r → new ≡ map.remove old first
-  pub fresh : HoldsNone old index → new ≡ old
-
--- the entry at an index has this mark now or not, for its whole range
-pub record Marks (old new : Ranges) (index mark : ℕ) (is : Bool) : Type 0 where
-  pub over : (first : ℕ) (r : Range) → Holds old index first r → new ≡ map.insert old first (with_mark mark is r)
-  pub fresh : HoldsNone old index → new ≡ old
-
--- the lowest entry of this kind whose range meets the indexes from `from` to `to`
-pub record IsLowest (m : Ranges) (kind : Range → Bool) (from to first order value : ℕ) : Type 0 where
-  pub range : Range
-  pub there : map.get m first ≡ Some range
-  pub is : kind range ≡ true
-  pub order_is : range.order ≡ order
-  pub value_is : range.value ≡ value
-  pub reaches : from < first + 2 ^ order
-  pub begins : first ≤ to
-  pub lowest : (other : ℕ) (q : Range) → map.get m other ≡ Some q → kind q ≡ true → from < other + 2 ^ q.order → other ≤ to → first ≤ other
-
--- no entry of this kind has a range that meets these indexes
-pub record NoneMeets (m : Ranges) (kind : Range → Bool) (from to : ℕ) : Type 0 where
-  pub each : (other : ℕ) (q : Range) → map.get m other ≡ Some q → kind q ≡ true → from < other + 2 ^ q.order → other ≤ to → ⊥
+abbrev pub mark_number : Mark → ℕ
+mark_number M0 = 0
+mark_number M1 = 1
+mark_number M2 = 2
 
 abbrev pub is_any : Range → Bool
 is_any r = true
 
--- the entry at an index has the mark
-pub record IsMarked (m : Ranges) (index mark : ℕ) : Type 0 where
-  pub first : ℕ
-  pub range : Range
-  pub holds : Holds m index first range
-  pub is : has_mark mark range ≡ true
+-- whether an entry's range holds an index
+abbrev pub in_range : ℕ → ℕ × Range → Bool
+in_range index e = leb e.0 index && ltb index (e.0 + 2 ^ e.1.order)
 
--- no entry at an index has the mark
-pub record IsUnmarked (m : Ranges) (index mark : ℕ) : Type 0 where
-  pub each : (first : ℕ) (r : Range) → Holds m index first r → has_mark mark r ≡ false
+-- whether an entry's range meets the indexes from `from` to `to`, both of them included
+abbrev pub meets : ℕ → ℕ → ℕ × Range → Bool
+meets from to e = leb from to && (leb e.0 to && ltb from (e.0 + 2 ^ e.1.order))
 
--- some range holds an index
-pub record IsHeld (m : Ranges) (index : ℕ) : Type 0 where
-  pub first : ℕ
-  pub range : Range
-  pub holds : Holds m index first range
+-- whether an entry has the mark, and its range meets these indexes
+abbrev pub is_tagged : ℕ → ℕ → Mark → ℕ × Range → Bool
+is_tagged from to mark e = has_mark mark e.1 && meets from to e
+
+-- an entry as a search answers it
+abbrev pub found_of : ℕ × Range → Found
+found_of e = record { first = e.0; order = e.1.order; value = e.1.value }
+
+-- ---- what the calls read
+
+-- the entry whose range holds an index
+unfoldable pub entry_at : Ranges → ℕ → Option (ℕ × Range)
+entry_at m index = find (in_range index) (map.entries m)
+
+-- the lowest entry of this kind whose range meets the indexes from `from` to `to`
+unfoldable pub lowest : (Range → Bool) → Ranges → ℕ → ℕ → Option (ℕ × Range)
+lowest kind m from to = find (λ e. kind e.1 && meets from to e) (map.entries m)
+
+-- how many entries with the mark have a range that meets these indexes
+unfoldable pub count_of : Ranges → ℕ → ℕ → Mark → ℕ
+count_of m from to mark = count_by (is_tagged from to mark) (map.entries m)
+
+-- whether the entry has the mark, and false where there is none
+abbrev pub is_marked : Mark → Option (ℕ × Range) → Bool
+is_marked mark None = false
+is_marked mark (Some e) = has_mark mark e.1
+
+-- ---- what the calls change
+
+abbrev pub store_at : Ranges → ℕ → ℕ → Option (ℕ × Range) → Ranges
+store_at m index value None = map.insert m index (unmarked 0 value)
+store_at m index value (Some e) = map.insert m e.0 (with_value value e.1)
+
+-- the entry at an index gets a value and keeps its range and marks; else the index gets an entry of its own without marks
+unfoldable pub stored : Ranges → ℕ → ℕ → Ranges
+stored m index value = store_at m index value (entry_at m index)
+
+abbrev pub erase_at : Ranges → Option (ℕ × Range) → Ranges
+erase_at m None = m
+erase_at m (Some e) = map.remove m e.0
+
+-- the entry at an index goes, with its range and marks
+unfoldable pub erased : Ranges → ℕ → Ranges
+erased m index = erase_at m (entry_at m index)
+
+abbrev pub mark_at : Ranges → Mark → Bool → Option (ℕ × Range) → Ranges
+mark_at m mark is None = m
+mark_at m mark is (Some e) = map.insert m e.0 (with_mark mark is e.1)
+
+-- the entry at an index has this mark now or not, for its whole range
+unfoldable pub remarked : Ranges → ℕ → Mark → Bool → Ranges
+remarked m index mark is = mark_at m mark is (entry_at m index)
+
+abbrev pub retag_one : ℕ → ℕ → Mark → Mark → ℕ × Range → ℕ × Range
+retag_one from to mark other e = (e.0, cond (is_tagged from to mark e) (with_mark other true e.1) e.1)
+
+-- every entry with the mark whose range meets these indexes has the other mark too
+unfoldable pub retagged : Ranges → ℕ → ℕ → Mark → Mark → Ranges
+retagged m from to mark other = map.from_entries (map_list (retag_one from to mark other) (map.entries m))
+
+-- the array after a refusal is as before, but that want of memory may take what `reserve` made
+abbrev pub after_refusal : Refusal → Array → Array
+after_refusal refusal.Memory a = record a { ready = None }
+after_refusal _ a = a

@@ -1,10 +1,11 @@
 -- The marked array that an array of order 0 stands for.
-use Rattle.std.specs.Prelude.{◌≡◌, ℕ, suc, zero, ◌+◌, ◌*◌, ◌==◌, Bool, List, [], ◌∷◌, ◌++◌, Option, Some, None}
+use Rattle.std.specs.Prelude.{◌≡◌, ℕ, suc, zero, ◌+◌, ◌*◌, ◌==◌, Bool, List, [], ◌∷◌, ◌++◌, Option, Some, None, option_map}
 use Rattle.std.specs.FinMap as map
 use Rattle.slab.specs.Slab.{Slab}
 use Rattle.radix.specs.declared.node.Node.{Node}
 use Rattle.xarray.specs.Flat.{value_at, marked_at}
-use Rattle.xarray.specs.MarkedArray.{Range, Ranges}
+use Rattle.radix.specs.Entries.{HasPathRoom}
+use Rattle.xarray.specs.MarkedArray.{Array, Range, Ranges}
 
 abbrev pub range_of : Option ℕ → Bool → Bool → Bool → Option Range
 range_of None a b c = None
@@ -37,3 +38,11 @@ pick f (index ∷ rest) = add index (f index) (pick f rest)
 -- the array as a finite map
 abbrev pub ranges_of : Slab Node → Ranges
 ranges_of s = map.from_entries (pick (range_at s) (indexes s.slots))
+
+-- the array, and the index that has room
+abbrev pub array_of : Slab Node → Option ℕ → Array
+array_of s ready = record { ranges = ranges_of s; ready = option_map (λ index. (index, 0)) ready }
+
+-- an index that is said to have room has it
+pub record IsReady (s : Slab Node) (ready : Option ℕ) : Type 0 where
+  pub room : (index : ℕ) → ready ≡ Some index → HasPathRoom s 0 index

@@ -1,9 +1,10 @@
 //! The array as its caller sees it: a finite map of ranges.
-ghost use Rattle.std.specs.Prelude.{◌≡◌, ℕ, ◌<◌, ◌≤◌, ◌^◌, ◌↔◌, Some, None, Err, IfOk, OnOk, OnErr, IfErr, IsSome, MatchBool, MatchOption, true, false};
+ghost use Rattle.std.specs.Prelude.{◌≡◌, ◌<◌, ◌≤◌, ◌^◌, ◌↔◌, Some, None, Err, IfOk, OnOk, OnErr, IfErr, IsOk, IsSome, option_map, true, false};
 ghost use Rattle.pc_types.specs.declared.refusal.Refusal.{Refusal};
 ghost use Rattle.std.specs.FinMap as map;
-ghost use Rattle.xarray.specs.MarkedArray.{HoldsNone, HasValue, Stores, Erases, Marks, NoneMeets, IsLowest, is_any, has_mark, IsMarked, IsUnmarked, IsHeld};
+ghost use Rattle.xarray.specs.MarkedArray.{IsArray, after_refusal, entry_at, erased, found_of, has_mark, is_any, is_marked, lowest, remarked, stored, unmarked};
 
+use crate::entry::{Found, Mark};
 use crate::flat::Flat;
 use pc_types::Refusal;
 use std::alloc::Global;
@@ -16,118 +17,159 @@ pub const MAX_VALUE: u64 = 9_223_372_036_854_775_807;
 #[derive(Drop)]
 pub struct XArray {
     flat: Flat,
+    // The index for which `reserve` made room, until the next change.
+    ready: Option<u64>,
 }
 
 impl Model for XArray {
-    ghost use Rattle.std.specs.FinMap as map;
-    ghost use Rattle.std.specs.Coded.{coded_ℕ};
-    ghost use Rattle.xarray.specs.MarkedArray.{Ranges, range_code};
-    ghost use Rattle.xarray.specs.View.{ranges_of};
+    ghost use Rattle.xarray.specs.MarkedArray.{Array, array_code};
+    ghost use Rattle.xarray.specs.View.{array_of, IsReady};
 
-    ghost Value = { Ranges };
+    ghost Value = { Array };
 
-    ghost coded = { map.code coded_ℕ range_code };
+    ghost coded = { array_code };
 
-    ghost view = { λ a. ranges_of a.flat };
+    ghost view = { λ a. array_of a.flat a.ready };
+
+    ghost invariant = { λ a. IsReady a.flat a.ready };
 }
 
 impl XArray {
     pub fn new(alloc: Global) -> XArray
-        ensures { result ≡ map.empty }
+        ensures { result ≡ record { ranges = map.empty; ready = None } }
     {
         XArray {
             flat: Flat::new(alloc),
+            ready: None,
         }
     }
 
-    /// The number of nodes.
+    /// The number of nodes in use, 576 bytes each.
     pub fn nodes(&self) -> usize
-        ensures { self.now ≡ map.empty ↔ result ≡ 0 }
+        ensures empty { self.now.ranges ≡ map.empty ↔ result ≡ 0 }
+        ensures shape { IsArray self.now.ranges }
     {
         self.flat.nodes()
     }
 
     /// The value at an index.
     pub fn load(&self, index: u64) -> Option<u64>
-        ensures { MatchOption result (HoldsNone self.now index) (λ value. HasValue self.now index value) }
+        ensures { result ≡ option_map (λ e. e.1.value) (entry_at self.now.ranges index) }
     {
         self.flat.load(index)
     }
 
-    /// Takes the entry at an index away, and answers its value.
-    pub fn erase(&mut self, index: u64) -> Option<u64>
-        ensures value { MatchOption result (HoldsNone self.old index) (λ value. HasValue self.old index value) }
-        ensures erases { Erases self.old self.new index }
-    {
-        self.flat.erase(index)
-    }
-
-    /// Stores a value, at most 2^63 - 1, and answers the one before.
+    /// Stores a value, at most `MAX_VALUE`, and answers the one before.
     pub fn store(&mut self, index: u64, value: u64) -> Result<Option<u64>, Refusal>
+        ensures before { IfOk result (λ before. before ≡ option_map (λ e. e.1.value) (entry_at self.old.ranges index)) }
+        ensures stores { OnOk result (self.new ≡ record { ranges = stored self.old.ranges index value; ready = None }) }
+
+        // Why it is refused: the value, else want of memory, which an entry at the index or room for it rules out.
         ensures bad { 2 ^ 63 ≤ value → result ≡ Err Refusal.BadEntry }
-        ensures before { IfOk result (λ before. MatchOption before (HoldsNone self.old index) (λ value. HasValue self.old index value)) }
-        ensures stores { OnOk result (Stores self.old self.new index value) }
-        ensures refused { OnErr result (self.new ≡ self.old) }
         ensures memory { value < 2 ^ 63 → IfErr result (λ refusal. refusal ≡ Refusal.Memory) }
+        ensures over { value < 2 ^ 63 → IsSome (entry_at self.old.ranges index) → IsOk result }
+        ensures room { value < 2 ^ 63 → self.old.ready ≡ Some (index, 0) → IsOk result }
+        ensures refused { IfErr result (λ refusal. self.new ≡ after_refusal refusal self.old) }
+        ensures kept { OnErr result (self.new.ranges ≡ self.old.ranges) }
     {
         if value > MAX_VALUE {
             return Err(Refusal::BadEntry);
         }
+        self.ready = None;
         self.flat.store(index, value)
     }
 
-    /// Sets a mark of the entry at an index.
-    pub fn set_mark(&mut self, index: u64, mark: usize) -> Result<(), Refusal>
-        requires { mark < 3 }
-        ensures sets { Marks self.old self.new index mark true }
-        ensures held { OnOk result (IsHeld self.old index) }
-        ensures free { OnErr result (HoldsNone self.old index) }
-        ensures refused { IfErr result (λ refusal. refusal ≡ Refusal.NoEntry) }
+    /// Puts an entry of one index without marks where none is.
+    pub fn insert(&mut self, index: u64, value: u64) -> Result<(), Refusal>
+        ensures inserts { OnOk result (self.new ≡ record { ranges = map.insert self.old.ranges index (unmarked 0 value); ready = None }) }
+
+        // Why it is refused: the value, else an entry at the index, else want of memory, which room for it rules out.
+        ensures bad { 2 ^ 63 ≤ value → result ≡ Err Refusal.BadEntry }
+        ensures busy { value < 2 ^ 63 → IsSome (entry_at self.old.ranges index) → result ≡ Err Refusal.Busy }
+        ensures memory { value < 2 ^ 63 → entry_at self.old.ranges index ≡ None → IfErr result (λ refusal. refusal ≡ Refusal.Memory) }
+        ensures room { value < 2 ^ 63 → entry_at self.old.ranges index ≡ None → self.old.ready ≡ Some (index, 0) → IsOk result }
+        ensures refused { IfErr result (λ refusal. self.new ≡ after_refusal refusal self.old) }
+        ensures kept { OnErr result (self.new.ranges ≡ self.old.ranges) }
     {
-        if !self.flat.set_mark(index, mark) {
+        if value > MAX_VALUE {
+            return Err(Refusal::BadEntry);
+        }
+        match self.flat.insert(index, value) {
+            Ok(true) => {
+                self.ready = None;
+                Ok(())
+            }
+            Ok(false) => Err(Refusal::Busy),
+            Err(refusal) => {
+                self.ready = None;
+                Err(refusal)
+            }
+        }
+    }
+
+    /// Takes the entry at an index away, and answers its value.
+    pub fn erase(&mut self, index: u64) -> Option<u64>
+        ensures before { result ≡ option_map (λ e. e.1.value) (entry_at self.old.ranges index) }
+        ensures erases { self.new ≡ record { ranges = erased self.old.ranges index; ready = None } }
+    {
+        self.ready = None;
+        self.flat.erase(index)
+    }
+
+    /// Sets a mark of the entry at an index.
+    pub fn set_mark(&mut self, index: u64, mark: Mark) -> Result<(), Refusal>
+        ensures held { IsSome (entry_at self.old.ranges index) → IsOk result }
+        ensures free { entry_at self.old.ranges index ≡ None → result ≡ Err Refusal.NoEntry }
+        ensures sets { OnOk result (self.new ≡ record { ranges = remarked self.old.ranges index mark true; ready = None }) }
+        ensures refused { OnErr result (self.new ≡ self.old) }
+    {
+        if !self.flat.set_mark(index, mark.number()) {
             return Err(Refusal::NoEntry);
         }
+        self.ready = None;
         Ok(())
     }
 
-    /// The lowest entry whose range meets the indexes from `from` to `to`: its first index and its value.
-    pub fn find(&self, from: u64, to: u64) -> Option<(u64, u64)>
-        ensures { MatchOption result (NoneMeets self.now is_any from to) (λ r. IsLowest self.now is_any from to r.0 0 r.1) }
-    {
-        self.flat.find(from, to)
-    }
-
-    /// The lowest entry with the mark whose range meets the indexes from `from` to `to`.
-    pub fn find_marked(&self, from: u64, to: u64, mark: usize) -> Option<(u64, u64)>
-        requires { mark < 3 }
-        ensures { MatchOption result (NoneMeets self.now (has_mark mark) from to) (λ r. IsLowest self.now (has_mark mark) from to r.0 0 r.1) }
-    {
-        self.flat.find_marked(from, to, mark)
-    }
-
     /// Clears a mark of the entry at an index.
-    pub fn clear_mark(&mut self, index: u64, mark: usize)
-        requires { mark < 3 }
-        ensures { Marks self.old self.new index mark false }
+    pub fn clear_mark(&mut self, index: u64, mark: Mark)
+        ensures { self.new ≡ record { ranges = remarked self.old.ranges index mark false; ready = None } }
     {
-        self.flat.clear_mark(index, mark);
+        self.ready = None;
+        self.flat.clear_mark(index, mark.number());
     }
 
     /// Whether the entry at an index has a mark.
-    pub fn get_mark(&self, index: u64, mark: usize) -> bool
-        requires { mark < 3 }
-        ensures { MatchBool result (IsMarked self.now index mark) (IsUnmarked self.now index mark) }
+    pub fn get_mark(&self, index: u64, mark: Mark) -> bool
+        ensures { result ≡ is_marked mark (entry_at self.now.ranges index) }
     {
-        self.flat.get_mark(index, mark)
+        self.flat.get_mark(index, mark.number())
     }
 
-    /// Puts an entry of one index without marks where none is. Whether it did.
-    pub fn insert(&mut self, index: u64, value: u64) -> Result<bool, Refusal>
-        requires { value < 2 ^ 63 }
-        ensures done { IfOk result (λ is_new. MatchBool is_new (HoldsNone self.old index × Stores self.old self.new index value) (IsHeld self.old index × (self.new ≡ self.old))) }
-        ensures refused { OnErr result (HoldsNone self.old index × (self.new ≡ self.old)) }
-        ensures memory { IfErr result (λ refusal. refusal ≡ Refusal.Memory) }
+    /// The lowest entry whose range meets the indexes from `from` to `to`.
+    pub fn find(&self, from: u64, to: u64) -> Option<Found>
+        ensures { result ≡ option_map found_of (lowest is_any self.now.ranges from to) }
     {
-        self.flat.insert(index, value)
+        let Some((first, value)) = self.flat.find(from, to) else {
+            return None;
+        };
+        Some(Found {
+            first,
+            order: 0,
+            value,
+        })
+    }
+
+    /// The lowest entry with the mark whose range meets the indexes from `from` to `to`.
+    pub fn find_marked(&self, from: u64, to: u64, mark: Mark) -> Option<Found>
+        ensures { result ≡ option_map found_of (lowest (has_mark mark) self.now.ranges from to) }
+    {
+        let Some((first, value)) = self.flat.find_marked(from, to, mark.number()) else {
+            return None;
+        };
+        Some(Found {
+            first,
+            order: 0,
+            value,
+        })
     }
 }

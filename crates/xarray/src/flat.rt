@@ -2,7 +2,7 @@
 ghost use Rattle.std.specs.Prelude.{◌≡◌, ◌≢◌, ℕ, ◌/◌, ◌^◌, ◌<◌, ◌≤◌, ◌==◌, ◌↔◌, Some, None, IfOk, OnOk, OnErr, IfErr, IsOk, IsSome, MatchOption, MatchBool, IsTrue, false};
 ghost use Rattle.pc_types.specs.declared.refusal.Refusal.{Refusal};
 ghost use Rattle.radix.specs.Entries.{HasPathRoom, IsBare, node_count};
-ghost use Rattle.xarray.specs.Flat.{value_at, marked_at, SameArray, Stores, Erases, Marks, HasNoMarkedIn, IsFirstMarked, HasNoneIn, IsFirst, IsSomeMarked, IsNoneMarked, IsBareArray};
+ghost use Rattle.xarray.specs.Flat.{value_at, marked_at, SameArray, Stores, Erases, Marks, HasNoMarkedIn, IsFirstMarked, HasNoneIn, IsFirst, IsSomeMarked, IsNoneMarked, IsBareArray, IsBounded};
 
 use pc_types::Refusal;
 use radix::{Cursor, Entry, Nodes};
@@ -67,6 +67,7 @@ impl Flat {
         ensures same { OnErr result (SameArray self.old self.new) }
         ensures err { IfErr result (λ refusal. refusal ≡ Refusal.Memory) }
         ensures room { HasPathRoom self.old 0 index → IsOk result }
+        ensures over { IsSome (value_at self.old index) → IsOk result }
     {
         if let Some(cursor) = self.nodes.seek(index, 0) {
             if let Some(Entry::Leaf(before)) = self.nodes.entry_in(cursor, index, 0) {
@@ -206,7 +207,8 @@ impl Flat {
 
     /// The number of nodes.
     pub fn nodes(&self) -> usize
-        ensures { IsBareArray self.now ↔ result ≡ 0 }
+        ensures bare { IsBareArray self.now ↔ result ≡ 0 }
+        ensures bounds { IsBounded self.now }
     {
         self.nodes.count()
     }

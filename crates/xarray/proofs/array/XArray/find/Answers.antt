@@ -1,5 +1,8 @@
-use Rattle.xarray.proofs.ViewLemmas.{find_any_at}
+use Rattle.xarray.proofs.CallLemmas.{nothing-found, one-found}
 use Rattle.xarray.proofs.array.XArray.find.Goals as goal
 
+pub returns-in_default : goal.returns-in_default
+returns-in_default c = nothing-found c.self.inside.flat c.self.inside.ready c.args.self.now c.self.view_is c.args.from c.args.to c.find.result c.in_default.is c.find.ensures
+
 pub returns : goal.returns
-returns c = find_any_at c.self.inside.flat c.args.self.now c.args.from c.args.to c.find.result c.self.view_is c.find.ensures
+returns c = one-found c.self.inside.flat c.self.inside.ready c.args.self.now c.self.view_is c.args.from c.args.to c.in-Some.first c.in-Some.value c.in-Some.ensures

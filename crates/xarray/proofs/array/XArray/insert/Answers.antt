@@ -1,9 +1,23 @@
-use Rattle.std.proofs.lemmas.Result.{on_err_weaker, IfOk-weaker}
-use Rattle.xarray.proofs.ViewLemmas.{insert_tells, insert_err}
+use Rattle.xarray.proofs.CallLemmas.{busy-held, inserted-free, inserted-is, kept, refused, refused-free}
 use Rattle.xarray.proofs.array.XArray.insert.Goals as goal
 
-pub returns-clause-done : goal.returns-clause-done
-returns-clause-done c = IfOk-weaker c.insert.result _ _ (λ is_new h. insert_tells c.self.inside.flat c.insert.new.self c.args.self.now c.args.index c.args.value is_new c.self.view_is h) c.insert.ensures.free
+pub returns-in-Ok-true-clause-inserts : goal.returns-in-Ok-true-clause-inserts
+returns-in-Ok-true-clause-inserts c = inserted-is c.self.inside.flat c.self.inside.ready c.args.self.now c.self.view_is c.insert.new.self c.args.index c.args.value c.in-Ok-true.field-0 c.in-Ok-true.field-0-test c.in-Ok-true.ensures.free
 
-pub returns-clause-refused : goal.returns-clause-refused
-returns-clause-refused c = on_err_weaker c.insert.result (λ h. insert_err c.self.inside.flat c.insert.new.self c.args.self.now c.args.index c.self.view_is h) c.insert.ensures.same
+pub returns-in-Ok-true-clause-busy : goal.returns-in-Ok-true-clause-busy
+returns-in-Ok-true-clause-busy c = λ small some. absurd (inserted-free c.self.inside.flat c.self.inside.ready c.args.self.now c.self.view_is c.insert.new.self c.args.index c.args.value c.in-Ok-true.field-0 c.in-Ok-true.field-0-test c.in-Ok-true.ensures.free some)
+
+pub returns-in-Ok-false-clause-memory : goal.returns-in-Ok-false-clause-memory
+returns-in-Ok-false-clause-memory c = λ small none. absurd (busy-held c.self.inside.flat c.self.inside.ready c.args.self.now c.self.view_is c.insert.new.self c.args.index c.args.value c.in-Ok-false.field-0 c.in-Ok-false.field-0-test c.in-Ok-false.ensures.free none)
+
+pub returns-in-Ok-false-clause-room : goal.returns-in-Ok-false-clause-room
+returns-in-Ok-false-clause-room c = λ small none room. absurd (busy-held c.self.inside.flat c.self.inside.ready c.args.self.now c.self.view_is c.insert.new.self c.args.index c.args.value c.in-Ok-false.field-0 c.in-Ok-false.field-0-test c.in-Ok-false.ensures.free none)
+
+pub returns-in-Err-clause-busy : goal.returns-in-Err-clause-busy
+returns-in-Err-clause-busy c = λ small some. absurd (refused-free c.self.inside.flat c.self.inside.ready c.args.self.now c.self.view_is c.args.index c.in-Err.ensures.same.0 some)
+
+pub returns-in-Err-clause-refused : goal.returns-in-Err-clause-refused
+returns-in-Err-clause-refused c = refused c.self.inside.flat c.self.inside.ready c.args.self.now c.self.view_is c.insert.new.self c.in-Err.ensures.same.1 c.in-Err.refusal c.in-Err.ensures.err
+
+pub returns-in-Err-clause-kept : goal.returns-in-Err-clause-kept
+returns-in-Err-clause-kept c = kept c.self.inside.flat c.self.inside.ready c.args.self.now c.self.view_is c.insert.new.self c.in-Err.ensures.same.1

@@ -1,5 +1,6 @@
-use Rattle.xarray.proofs.ViewLemmas.{load_tells}
+use Rattle.std.proofs.Common.{◌∙◌}
+use Rattle.xarray.proofs.CallLemmas.{value-is}
 use Rattle.xarray.proofs.array.XArray.load.Goals as goal
 
 pub returns : goal.returns
-returns c = rw (c.self.view_is) at (load_tells c.self.inside.flat c.args.index c.load.result c.load.ensures)
+returns c = c.load.ensures ∙ value-is c.self.inside.flat c.self.inside.ready c.args.self.now c.self.view_is c.args.index

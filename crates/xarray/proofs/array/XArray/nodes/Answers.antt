@@ -1,9 +1,11 @@
-use Rattle.std.proofs.Common.{◌∙◌, sym}
-use Rattle.xarray.proofs.ViewLemmas.{bare_map, map_bare}
+use Rattle.xarray.proofs.CallLemmas.{bare-empty, empty-bare, shape-is}
 use Rattle.xarray.proofs.array.XArray.nodes.Goals as goal
 
-pub returns : goal.returns
-returns c = (
-  λ empty. c.nodes.ensures.0 (record { each = map_bare c.self.inside.flat (c.self.view_is ∙ empty) }),
-  λ none. sym (c.self.view_is) ∙ bare_map c.self.inside.flat (c.nodes.ensures.1 none).each,
+pub returns-clause-empty : goal.returns-clause-empty
+returns-clause-empty c = (
+  λ empty. c.nodes.ensures.bare.0 (empty-bare c.self.inside.flat c.self.inside.ready c.args.self.now c.self.view_is empty),
+  λ none. bare-empty c.self.inside.flat c.self.inside.ready c.args.self.now c.self.view_is (c.nodes.ensures.bare.1 none),
 )
+
+pub returns-clause-shape : goal.returns-clause-shape
+returns-clause-shape c = shape-is c.self.inside.flat c.self.inside.ready c.args.self.now c.self.view_is c.nodes.ensures.bounds

@@ -1,0 +1,32 @@
+//! What the calls of an array speak of.
+ghost use Rattle.std.specs.Prelude.{◌≡◌};
+ghost use Rattle.xarray.specs.MarkedArray.{mark_number};
+
+/// A mark of an entry.
+#[derive(Clone, Copy, PartialEq, Eq, Debug)]
+pub enum Mark {
+    M0,
+    M1,
+    M2,
+}
+
+impl Mark {
+    #[inline]
+    pub(crate) fn number(self) -> usize
+        ensures { result ≡ mark_number self }
+    {
+        match self {
+            Mark::M0 => 0,
+            Mark::M1 => 1,
+            Mark::M2 => 2,
+        }
+    }
+}
+
+/// An entry as a search finds it: its range is the `2 ^ order` indexes from `first` on.
+#[derive(Clone, Copy, PartialEq, Eq, Debug)]
+pub struct Found {
+    pub first: u64,
+    pub order: u32,
+    pub value: u64,
+}
