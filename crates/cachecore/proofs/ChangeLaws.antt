@@ -10,7 +10,8 @@ use Rattle.std.specs.FinMap as finmap
 use Rattle.std.specs.FinMap.{FinMap, find}
 use Rattle.std.proofs.lemmas.Bool.Decides.{nat_tests}
 use Rattle.std.proofs.lemmas.List.FromFn.{length-map-range_with_len, get_or-map-range_with_len, get_or-range_with_len}
-use Rattle.cachecore.specs.State.{State, File, Page, Spot, file_at, page_at, spot_at, place_cmp, page_count, has_block, touches, touched, first_page, touched_count, without_block, free_blocks, is_free, byte_at, bytes_at}
+use Rattle.cachecore.specs.State.{State, File, Page, file_at, page_at, spot_at, page_count, has_block, touches, touched, first_page, touched_count, without_block, free_blocks, is_free, byte_at, bytes_at}
+use Rattle.pc_types.specs.Spots.{Spot, place_cmp}
 use Rattle.cachecore.specs.Changes.{put_file, with_requests, each_value, written_page, written_pages, placed, written, boundary, cut_page, cut_boundary, cut_request, shrunk, truncated, to_write, sync_begun}
 use Rattle.cachecore.proofs.MapLaws.{places_total, get-insert_place, same_place, same_place_map, same_nat_map, get-overwrite, get-each_value, get-change_at, get-retain_nat, get-retain_place}
 use Rattle.cachecore.proofs.StateLaws.{file_at-here}

@@ -14,7 +14,8 @@ use Rattle.pc_types.specs.Limits.{Sizes}
 use Rattle.pc_types.specs.declared.limits.TheConstants.{MAX_FILES, MAX_FILE_SIZE, MAX_FRAMES}
 use Rattle.pc_types.specs.declared.refusal.Refusal.TheVariants.{DirtyLimit, NoFrame, NoSpace}
 use Rattle.cachecore.specs.declared.event.Reply.{Reply}
-use Rattle.cachecore.specs.State.{State, Page, File, Request, no_file, file_at, is_cached, is_dirty, is_fill, tagged, dirty_in, dirty_total, filling_total, free_frames, free_blocks, without_block, touched, touched_count}
+use Rattle.cachecore.specs.State.{State, Page, File, Request, no_file, file_at, is_cached, is_dirty, tagged, dirty_in, dirty_total, filling_total, free_frames, free_blocks, without_block, touched, touched_count}
+use Rattle.pc_types.specs.Kinds.{is_fill}
 use Rattle.cachecore.specs.Changes.{blank, written, written_pages, placed, put_page}
 use Rattle.cachecore.specs.Tests.{room_tests, refuse}
 use Rattle.cachecore.specs.Pairs.{AreSized}

@@ -1,11 +1,12 @@
 -- The serials of the flushes of a file: each is of a flush in flight.
 use Rattle.std.proofs.Common.{◌≡◌, ℕ, Bool, true, false, cond, not, eqb, eqb-true, List, [], ◌∷◌, refl, ap, sym, ◌∙◌, map}
-use Rattle.std.specs.Prelude.{◌&&◌, ◌||◌, Option, Some, None, option_map, unwrap_or, filter, find}
+use Rattle.std.specs.Prelude.{◌&&◌, ◌||◌, Some, option_map, unwrap_or, filter, find}
 use Rattle.std.specs.List.{list_any}
 use Rattle.std.specs.FinMap as finmap
-use Rattle.cachecore.specs.State.{State, Request, is_flush}
+use Rattle.cachecore.specs.State.{State, Request}
+use Rattle.pc_types.specs.Kinds.{is_flush}
 use Rattle.cachecore.specs.Changes.{flushes_of, is_flush_of, is_live}
-use Rattle.cachecore.proofs.Choices.{and_true, not_true}
+use Rattle.cachecore.proofs.Choices.{and_true}
 use Rattle.cachecore.proofs.Found.{found}
 
 -- a key among those of the entries that pass: such an entry is found

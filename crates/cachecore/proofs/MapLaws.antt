@@ -11,7 +11,7 @@ use Rattle.std.specs.FinMap as finmap
 use Rattle.std.specs.FinMap.{FinMap, IsAntisymmetric, nat_cmp-IsAntisymmetric, find, put, get-insert, get-remove, get-entries, get-from_entries, get-retain_keys, same_map, entries-insert, entries_sorted, len-entries, len-empty, from_entries}
 use Rattle.std.specs.FinMap.Entries.{below_all, is_sorted, by_order}
 use Rattle.std.proofs.lemmas.Cmp.{then_total, on_total}
-use Rattle.cachecore.specs.State.{place_cmp}
+use Rattle.pc_types.specs.Spots.{place_cmp}
 use Rattle.cachecore.specs.Changes.{overwrite, each_value, put_some, change_at}
 
 -- ---- the order of places

@@ -1,18 +1,12 @@
 -- Each event has a reply that is not want of memory: the first test that holds, or what happens where none does.
-use Rattle.std.proofs.Common.{◌≡◌, ◌≢◌, ℕ, suc, ◌+◌, ◌<◌, ◌≤◌, Bool, true, false, cond, not, eqb, eqb-true, eq-eqb, List, [], ◌∷◌, length, get_or, refl, ap, sym, ◌∙◌, arith, inl, inr, map}
-use Rattle.std.specs.Prelude.{◌&&◌, ◌||◌, ◌⊎◌, ◌==◌, Option, Some, None, is_some, option_map, nat_lt, nat_le, find, filter, count_by}
+use Rattle.std.proofs.Common.{◌≡◌, ◌≢◌, ℕ, suc, ◌+◌, Bool, true, false, cond, not, eqb, eqb-true, eq-eqb, List, [], ◌∷◌, length, get_or, refl, ap, ◌∙◌}
+use Rattle.std.specs.Prelude.{◌&&◌, ◌||◌, ◌==◌, Option, Some, None, is_some, option_map, nat_lt, nat_le, find, count_by}
 use Rattle.std.specs.List.{list_any}
-use Rattle.std.specs.Ordering.{nat_cmp}
 use Rattle.std.specs.FinMap as finmap
-use Rattle.std.specs.FinMap.{FinMap, get-entries}
-use Rattle.std.specs.Cmp.{unsigned_tied}
-use Rattle.std.proofs.lemmas.Bool.Decides.{nat_tests}
-use Rattle.pc_types.specs.Tags.{no_tags}
 use Rattle.pc_types.specs.declared.limits.TheConstants.{MAX_FILES, MAX_FILE_SIZE, MAX_HANDLES, MAX_SYNCS, MAX_TOUCHED}
-use Rattle.pc_types.specs.declared.refusal.Refusal.{Refusal}
 use Rattle.pc_types.specs.declared.refusal.Refusal.TheVariants.{Memory, Stranger, BadHandle}
-use Rattle.cachecore.specs.declared.event.Kind.{Kind}
-use Rattle.cachecore.specs.declared.event.Kind.TheVariants.{Fill, Flush}
+use Rattle.pc_types.specs.declared.kind.Kind.{Kind}
+use Rattle.pc_types.specs.declared.kind.Kind.TheVariants.{Fill, Flush}
 use Rattle.cachecore.specs.declared.event.Outcome.{Outcome}
 use Rattle.cachecore.specs.declared.event.Outcome.TheVariants as outcome
 use Rattle.cachecore.specs.declared.event.End.{End}
@@ -20,9 +14,11 @@ use Rattle.cachecore.specs.declared.event.Event.{Event}
 use Rattle.cachecore.specs.declared.event.Event.TheVariants as event
 use Rattle.cachecore.specs.declared.event.Reply.{Reply}
 use Rattle.cachecore.specs.declared.event.Reply.TheVariants as reply
-use Rattle.cachecore.specs.State.{State, File, Page, Request, Sync, is_flush, no_file, file_at, file_of, is_open, page_at, page_count, spot_at, is_written, is_filling, is_cached, is_dirty, is_idle, bytes_at, touched, touched_count, dirty_total, free_frames, free_blocks, without_block}
-use Rattle.cachecore.specs.Changes.{put_page, drop_page, blank, ended, filling, started, after_write, set_written, failed_once, written, truncated, sync_begun, flushes_of, is_flush_of, boundary}
-use Rattle.cachecore.specs.Tests.{tests, read_count, read_stop, write_stop, boundary_stop, stopped, first_of, room_tests, flush_pick, sync_pick, past, end_tests, same_kind, is_of, has_idle, start_tests, sync_tests, is_full, write_tests, refuse}
+use Rattle.cachecore.specs.State.{State, File, Page, Request, Sync, no_file, file_at, file_of, is_open, page_at, page_count, spot_at, is_written, is_filling, is_cached, is_dirty, is_idle, bytes_at, touched, touched_count, dirty_total, free_frames, free_blocks, without_block}
+use Rattle.pc_types.specs.Kinds.{is_flush}
+use Rattle.cachecore.specs.Changes.{flushes_of, boundary}
+use Rattle.cachecore.specs.Tests.{tests, read_count, read_stop, write_stop, boundary_stop, stopped, room_tests, flush_pick, sync_pick, end_tests, is_of, has_idle, start_tests, sync_tests, is_full, write_tests, refuse}
+use Rattle.pc_types.specs.Kinds.{same_kind}
 use Rattle.cachecore.specs.Step.{Step, Answers, Happens, OpenReply, SyncBeginReply, FillBeginReply, FillEndReply, FlushBeginReply, FlushEndReply, EvictReply, SyncStepReply, SyncAwaits, SyncPicked, WaitsFor}
 use Rattle.cachecore.proofs.Choices.{if_none, quiet_none, quiet_some, quiet_if, quiet_stopped, quiet_first, and_true, not_false, some_of}
 use Rattle.cachecore.proofs.Found.{found}

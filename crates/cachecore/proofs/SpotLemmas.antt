@@ -13,7 +13,8 @@ use Rattle.std.proofs.lemmas.Bool.{false≢true}
 use Rattle.std.proofs.lemmas.Bool.Decides.{nat_tests}
 use Rattle.std.proofs.lemmas.List.Elements.{filter_agree}
 use Rattle.std.proofs.lemmas.List.FromFn.{filter_of_map_range_with_len_more, length-range_with_len}
-use Rattle.cachecore.specs.State.{State, Spot, Request, place_cmp, is_written, is_free, used_blocks, free_blocks, without_block, has_block}
+use Rattle.cachecore.specs.State.{State, Request, is_written, is_free, used_blocks, free_blocks, without_block, has_block}
+use Rattle.pc_types.specs.Spots.{Spot, place_cmp}
 use Rattle.cachecore.specs.Changes.{placed}
 use Rattle.cachecore.specs.Tables.{spots_from, spots_of, owns, needing, EachOnce}
 use Rattle.cachecore.proofs.MapLaws.{places_total, same_place, same_place_map, get-overwrite}

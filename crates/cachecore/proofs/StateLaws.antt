@@ -7,7 +7,8 @@ use Rattle.std.proofs.lemmas.List.Folds.{list_any-append}
 use Rattle.std.specs.Ordering.{nat_cmp}
 use Rattle.std.specs.FinMap as finmap
 use Rattle.std.specs.FinMap.{get-entries}
-use Rattle.cachecore.specs.State.{State, File, Spot, Request, file_at, page_at, spot_at, no_file, place_cmp, is_filling, fills, is_free}
+use Rattle.cachecore.specs.State.{State, File, Request, file_at, page_at, spot_at, no_file, is_filling, fills, is_free}
+use Rattle.pc_types.specs.Spots.{Spot, place_cmp}
 use Rattle.cachecore.specs.Changes.{put_file}
 use Rattle.cachecore.proofs.MapLaws.{any_value, same_nat_map}
 

@@ -2,7 +2,7 @@
 use Rattle.std.proofs.Common.{◌≡◌, ℕ, [], ◌∷◌, refl}
 use Rattle.std.specs.Prelude.{Some, None, replicate, true, false, Bool}
 use Rattle.pc_types.specs.declared.refusal.Refusal.TheVariants.{NoSuchFile, Stranger}
-use Rattle.cachecore.specs.declared.event.Kind.TheVariants.{Flush}
+use Rattle.pc_types.specs.declared.kind.Kind.TheVariants.{Flush}
 use Rattle.cachecore.specs.declared.event.Outcome.TheVariants as outcome
 use Rattle.cachecore.specs.declared.event.Event.TheVariants as event
 use Rattle.cachecore.specs.declared.event.Reply.TheVariants as reply

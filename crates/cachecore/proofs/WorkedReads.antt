@@ -1,7 +1,7 @@
 -- Worked examples of reads and fills.
 use Rattle.std.proofs.Common.{◌≡◌, ℕ, List, [], ◌∷◌, ◌++◌, refl, ◌∙◌}
 use Rattle.std.specs.Prelude.{Some, None, replicate, true, false}
-use Rattle.cachecore.specs.declared.event.Kind.TheVariants.{Fill}
+use Rattle.pc_types.specs.declared.kind.Kind.TheVariants.{Fill}
 use Rattle.cachecore.specs.declared.event.Outcome.TheVariants as outcome
 use Rattle.cachecore.specs.declared.event.Event.TheVariants as event
 use Rattle.cachecore.specs.declared.event.Reply.TheVariants as reply

@@ -14,7 +14,8 @@ use Rattle.pc_types.specs.declared.ids.FileId.{FileId}
 use Rattle.pc_types.specs.declared.ids.SyncId.{SyncId}
 use Rattle.pc_types.specs.declared.ids.Serial.{Serial}
 use Rattle.pc_types.specs.Tags.{TagSet}
-use Rattle.cachecore.specs.State.{State, Page, Spot, Request, Sync, place_cmp}
+use Rattle.cachecore.specs.State.{State, Page, Request, Sync}
+use Rattle.pc_types.specs.Spots.{Spot, place_cmp}
 use Rattle.cachecore.specs.Tests.{tests}
 use Rattle.cachecore.specs.Step.{Step, Happens, Answers}
 

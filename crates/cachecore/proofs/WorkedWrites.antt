@@ -2,10 +2,11 @@
 use Rattle.std.proofs.Common.{◌≡◌, ℕ, [], ◌∷◌, ◌++◌, refl}
 use Rattle.std.specs.Prelude.{Some, None, replicate, true, false}
 use Rattle.pc_types.specs.declared.refusal.Refusal.TheVariants.{DirtyLimit, NoSpace, TooLarge, TooLong}
-use Rattle.cachecore.specs.declared.event.Kind.TheVariants.{Flush}
+use Rattle.pc_types.specs.declared.kind.Kind.TheVariants.{Flush}
 use Rattle.cachecore.specs.declared.event.Event.TheVariants as event
 use Rattle.cachecore.specs.declared.event.Reply.TheVariants as reply
-use Rattle.cachecore.specs.State.{State, Page, Spot}
+use Rattle.cachecore.specs.State.{State, Page}
+use Rattle.pc_types.specs.Spots.{Spot}
 use Rattle.cachecore.specs.Tests.{tests, refuse}
 use Rattle.cachecore.specs.Step.{Step}
 use Rattle.cachecore.proofs.WorkedStates.{Parts, opened, state_of, handle, D, handle_0, page_get, page_entries, page_len, spot_get, spot_entries, request_entries, happens, only}

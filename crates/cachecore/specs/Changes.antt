@@ -6,8 +6,10 @@ use Rattle.std.specs.Ordering.{nat_cmp}
 use Rattle.std.specs.FinMap as map
 use Rattle.pc_types.specs.Files.{pwrite, cut}
 use Rattle.pc_types.specs.Tags.{no_tags}
-use Rattle.cachecore.specs.declared.event.Kind.TheVariants.{Fill, Flush}
-use Rattle.cachecore.specs.State.{State, File, Page, Spot, Request, Sync, file_at, page_count, spot_at, has_block, is_flush, touched, free_blocks, without_block, place_cmp}
+use Rattle.pc_types.specs.declared.kind.Kind.TheVariants.{Fill, Flush}
+use Rattle.cachecore.specs.State.{State, File, Page, Request, Sync, file_at, page_count, spot_at, has_block, touched, free_blocks, without_block}
+use Rattle.pc_types.specs.Kinds.{is_flush}
+use Rattle.pc_types.specs.Spots.{Spot, place_cmp}
 
 -- ---- maps
 

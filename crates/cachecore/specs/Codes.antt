@@ -5,9 +5,11 @@ use Rattle.std.specs.Ordering.{nat_cmp}
 use Rattle.std.specs.FinMap as map
 use Rattle.pc_types.specs.Limits.{Sizes}
 use Rattle.pc_types.specs.Tags.{TagSet}
-use Rattle.cachecore.specs.declared.event.Kind.{Kind}
-use Rattle.cachecore.specs.declared.event.Kind.TheVariants.{Fill, Flush}
-use Rattle.cachecore.specs.State.{State, Page, File, Spot, Request, Sync, place_cmp, is_fill}
+use Rattle.pc_types.specs.declared.kind.Kind.{Kind}
+use Rattle.pc_types.specs.declared.kind.Kind.TheVariants.{Fill, Flush}
+use Rattle.cachecore.specs.State.{State, Page, File, Request, Sync}
+use Rattle.pc_types.specs.Kinds.{is_fill}
+use Rattle.pc_types.specs.Spots.{Spot, place_cmp, spot_code}
 
 abbrev pub tags_code : Coded TagSet
 tags_code = code_by (Bool × (Bool × Bool)) (coded× coded_bool (coded× coded_bool coded_bool)) (λ t. (t.dirty, (t.writeback, t.towrite))) (λ p. record { dirty = p.0; writeback = p.1.0; towrite = p.1.1 }) (λ _. refl)
@@ -24,9 +26,6 @@ file_code =
 
 abbrev pub sizes_code : Coded Sizes
 sizes_code = code_by ((ℕ × ℕ) × (ℕ × ℕ)) (coded× (coded× coded_ℕ coded_ℕ) (coded× coded_ℕ coded_ℕ)) (λ g. ((g.page, g.frames), (g.dirty_limit, g.blocks))) (λ p. record { page = p.0.0; frames = p.0.1; dirty_limit = p.1.0; blocks = p.1.1 }) (λ _. refl)
-
-abbrev pub spot_code : Coded Spot
-spot_code = code_by (ℕ × Bool) (coded× coded_ℕ coded_bool) (λ s. (s.block, s.written)) (λ p. record { block = p.0; written = p.1 }) (λ _. refl)
 
 -- a request's kind is stored as whether it fills
 abbrev pub kind_of : Bool → Kind

@@ -4,25 +4,20 @@
 -- filling, or cached. Tags are those of the page cache of Linux. DIRTY: the device may lack the page's bytes even after the
 -- write in flight, if there is one, ends well. WRITEBACK: a write of the page is in flight. TOWRITE: a sync tagged the page
 -- (tag_pages_for_writeback), and whoever starts a write of it clears the tag; it outlives a sync that is dropped.
-use Rattle.std.specs.Prelude.{ℕ, ◌+◌, ◌-◌, ◌/◌, ◌%◌, Bool, true, false, not, ◌&&◌, ◌==◌, nat_le, List, [], ◌++◌, map, filter, Option, Some, None, is_some, unwrap_or, slice_index_or, slice_index, sum_by, count_by}
+use Rattle.std.specs.Prelude.{ℕ, ◌+◌, ◌-◌, ◌/◌, ◌%◌, Bool, false, not, ◌&&◌, ◌==◌, nat_le, List, [], ◌++◌, map, filter, Option, Some, None, is_some, unwrap_or, slice_index_or, slice_index, sum_by, count_by}
 use Rattle.std.specs.List.{range_with_len, list_any}
-use Rattle.std.specs.declared.cmp.Ordering.{Ordering}
-use Rattle.std.specs.Ordering.{nat_cmp, ordering_then}
+use Rattle.std.specs.Ordering.{nat_cmp}
 use Rattle.std.specs.FinMap as map
 use Rattle.pc_types.specs.Limits.{Sizes}
 use Rattle.pc_types.specs.Tags.{TagSet, no_tags}
-use Rattle.cachecore.specs.declared.event.Kind.{Kind}
-use Rattle.cachecore.specs.declared.event.Kind.TheVariants.{Fill, Flush}
+use Rattle.pc_types.specs.declared.kind.Kind.{Kind}
+use Rattle.pc_types.specs.Kinds.{is_fill}
+use Rattle.pc_types.specs.Spots.{Spot, place_cmp}
 
 -- a cached page
 pub record Page : Type 0 where
   pub bytes : List ℕ
   pub tags : TagSet
-
--- a page's block, and whether a write of the page there has ended well
-pub record Spot : Type 0 where
-  pub block : ℕ
-  pub written : Bool
 
 -- a file: its size in bytes, how many writes of it failed, the code of the last, and its cached pages by number
 pub record File : Type 0 where
@@ -47,10 +42,6 @@ pub record Sync : Type 0 where
   pub last : Option ℕ
   pub failures : ℕ
   pub awaited : Option (List ℕ)
-
--- by file, and then by page
-abbrev pub place_cmp : ℕ × ℕ → ℕ × ℕ → Ordering
-place_cmp a b = ordering_then (nat_cmp a.0 b.0) (nat_cmp a.1 b.1)
 
 pub record State : Type 0 where
   pub sizes : Sizes
@@ -97,14 +88,6 @@ is_cached s f p = is_some (page_at s f p)
 -- a cached page, and an empty one where it is not cached
 abbrev pub the_page : map.FinMap nat_cmp Page → ℕ → Page
 the_page pages p = unwrap_or (map.get pages p) (record { bytes = []; tags = no_tags })
-
-abbrev pub is_fill : Kind → Bool
-is_fill Fill = true
-is_fill Flush = false
-
-abbrev pub is_flush : Kind → Bool
-is_flush Fill = false
-is_flush Flush = true
 
 -- a fill of page p of file f that is not dropped
 abbrev pub fills : ℕ → ℕ → Request → Bool

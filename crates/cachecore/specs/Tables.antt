@@ -5,7 +5,8 @@ use Rattle.std.specs.FinMap.{FinMap, empty, from_entries, get, len}
 use Rattle.std.specs.List.{range_with_len, list_any}
 use Rattle.pc_types.specs.Limits.{Sizes}
 use Rattle.pc_types.specs.declared.limits.TheConstants.{MAX_FILES, MAX_FILE_SIZE, MAX_FRAMES}
-use Rattle.cachecore.specs.State.{State, Spot, place_cmp, File, no_file}
+use Rattle.cachecore.specs.State.{State, File, no_file}
+use Rattle.pc_types.specs.Spots.{Spot, place_cmp}
 use Rattle.cachecore.specs.Pairs.{AreSized}
 
 -- the numbers in use with what stands there, the first number being k

@@ -7,14 +7,15 @@ use Rattle.std.specs.FinMap as map
 use Rattle.pc_types.specs.declared.limits.TheConstants.{MAX_FILES, MAX_FILE_SIZE, MAX_HANDLES, MAX_IN_FLIGHT, MAX_SYNCS, MAX_TOUCHED, SERIAL_END}
 use Rattle.pc_types.specs.declared.refusal.Refusal.{Refusal}
 use Rattle.pc_types.specs.declared.refusal.Refusal.TheVariants.{TooManyFiles, TooManyHandles, BadHandle, NoSuchFile, TooLong, TooLarge, NoFrame, NoSpace, DirtyLimit, TooManyInFlight, Busy, Stranger}
-use Rattle.cachecore.specs.declared.event.Kind.{Kind}
-use Rattle.cachecore.specs.declared.event.Kind.TheVariants.{Fill, Flush}
+use Rattle.pc_types.specs.declared.kind.Kind.{Kind}
+use Rattle.pc_types.specs.declared.kind.Kind.TheVariants.{Fill, Flush}
 use Rattle.cachecore.specs.declared.event.End.{End}
 use Rattle.cachecore.specs.declared.event.Event.{Event}
 use Rattle.cachecore.specs.declared.event.Event.TheVariants as event
 use Rattle.cachecore.specs.declared.event.Reply.{Reply}
 use Rattle.cachecore.specs.declared.event.Reply.TheVariants as reply
-use Rattle.cachecore.specs.State.{State, File, Page, Request, Sync, file_at, is_open, file_of, page_count, is_cached, is_filling, is_fill, is_flush, is_dirty, is_idle, touched, touched_count, free_frames, free_blocks, without_block, dirty_total, spot_at, is_written}
+use Rattle.cachecore.specs.State.{State, File, Page, Request, Sync, file_at, is_open, file_of, page_count, is_cached, is_filling, is_dirty, is_idle, touched, touched_count, free_frames, free_blocks, without_block, dirty_total, spot_at, is_written}
+use Rattle.pc_types.specs.Kinds.{same_kind}
 use Rattle.cachecore.specs.Changes.{boundary}
 
 abbrev pub refuse : Refusal → Option Reply
@@ -129,13 +130,7 @@ fill_begin_tests s h p =
 -- whether there is such a request and it is of this kind
 abbrev pub is_of : Option Request → Kind → Bool
 is_of None k = false
-is_of (Some r) Fill = is_fill r.kind
-is_of (Some r) Flush = is_flush r.kind
-
--- whether the kinds are the same
-abbrev pub same_kind : Kind → Kind → Bool
-same_kind Fill k = is_fill k
-same_kind Flush k = is_flush k
+is_of (Some r) k = same_kind k r.kind
 
 abbrev pub end_tests : State → Kind → End → Option Reply
 end_tests s k e =

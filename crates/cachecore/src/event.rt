@@ -1,13 +1,6 @@
 //! The events of a cache and its replies.
 
-use pc_types::{Bytes, ErrCode, FileId, HandleId, PageIndex, Refusal, Serial, SyncId};
-
-/// What a request does with its page: reads it from the device, or writes it there.
-#[derive(Clone, Copy, PartialEq, Eq, Debug)]
-pub enum Kind {
-    Fill,
-    Flush,
-}
+use pc_types::{Bytes, ErrCode, FileId, HandleId, Kind, PageIndex, Refusal, Serial, SyncId};
 
 /// How a request's device call went. A fill that went well has the bytes read, and a flush the bytes written.
 #[derive(Drop, Debug)]

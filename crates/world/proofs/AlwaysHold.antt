@@ -3,9 +3,10 @@ use Rattle.std.proofs.Common.{◌≡◌, ℕ, ◌+◌, ◌*◌, Bool, true, fals
 use Rattle.std.specs.Prelude.{◌&&◌, ◌||◌, Option, Some, None, is_some}
 use Rattle.std.specs.FinMap as finmap
 use Rattle.std.proofs.lemmas.Bool.Decides.{nat_tests}
-use Rattle.cachecore.specs.declared.event.Kind.{Kind}
-use Rattle.cachecore.specs.declared.event.Kind.TheVariants.{Fill, Flush}
-use Rattle.cachecore.specs.State.{State, Page, Request, page_at, spot_at, is_filling, is_written, is_fill, fills}
+use Rattle.pc_types.specs.declared.kind.Kind.{Kind}
+use Rattle.pc_types.specs.declared.kind.Kind.TheVariants.{Fill, Flush}
+use Rattle.cachecore.specs.State.{State, Page, Request, page_at, spot_at, is_filling, is_written, fills}
+use Rattle.pc_types.specs.Kinds.{is_fill}
 use Rattle.world.specs.Plain.{Plain, plain_file}
 use Rattle.world.specs.World.{World}
 use Rattle.world.proofs.View.{spot_of, live_spot, dirty, writeback, towrite, settled}

@@ -92,7 +92,7 @@ entries-remove m t = same_entries nat_cmp nat_cmp_total nat_cmp-IsAntisymmetric 
     turned false o = refl
 
 flush_live : (f : ℕ) (r : Request) → is_flush_of f r ≡ true → not r.dropped ≡ true
-flush_live f r e = go (Rattle.cachecore.specs.State.is_flush r.kind) (not r.dropped) (eqb r.file f) e
+flush_live f r e = go (Rattle.pc_types.specs.Kinds.is_flush r.kind) (not r.dropped) (eqb r.file f) e
   where
     go : (a b d : Bool) → (a && b && d) ≡ true → b ≡ true
     go true true d e = refl

@@ -3,7 +3,8 @@ use Rattle.std.proofs.Common.{◌≡◌, ℕ, ◌<◌, ◌≤◌, Bool, true, fa
 use Rattle.std.specs.Prelude.{◌&&◌, ◌||◌, ◌⊎◌, Option, Some, None, option_map, nat_le, nat_lt}
 use Rattle.std.specs.Ordering.{nat_cmp}
 use Rattle.std.specs.FinMap as finmap
-use Rattle.cachecore.specs.State.{State, Request, Sync, page_count, is_flush}
+use Rattle.cachecore.specs.State.{State, Request, Sync, page_count}
+use Rattle.pc_types.specs.Kinds.{is_flush}
 use Rattle.cachecore.specs.Changes.{is_live, flushes_of, is_flush_of, cut_request}
 use Rattle.cachecore.proofs.MapLaws.{get-each_value}
 use Rattle.world.proofs.Track.{KeepsRequests, LosesRequests}

@@ -2,9 +2,10 @@
 use Rattle.std.proofs.Common.{◌≡◌, ℕ, ◌<◌, ◌≢◌, Bool, true, false, cond, [], length, refl, ap, sym, ◌∙◌, arith, inl, inr}
 use Rattle.std.specs.Prelude.{◌⊎◌, Option, Some, None}
 use Rattle.pc_types.specs.Files.{cut}
-use Rattle.cachecore.specs.State.{Spot, Request}
+use Rattle.cachecore.specs.State.{Request}
+use Rattle.pc_types.specs.Spots.{Spot}
 use Rattle.world.proofs.View.{View, Good, PageIs, RequestIs, Evolves, WasFlushed, no_gone, put1, put1_tells, put1_here, put1_else, block_user, writeback, held_by, held}
-use Rattle.cachecore.specs.declared.event.Kind.TheVariants.{Flush}
+use Rattle.pc_types.specs.declared.kind.Kind.TheVariants.{Flush}
 use Rattle.world.proofs.View.{still_flying}
 use Rattle.world.proofs.CallNoted.{same_request}
 

@@ -13,8 +13,8 @@ use Rattle.world.proofs.Lookups.{get-insert1}
 use Rattle.cachecore.proofs.StateLaws.{get_or-set}
 use Rattle.world.proofs.CallNoted.{WentWell, call_noted_kept, call_noted_evolves}
 use Rattle.world.proofs.BlockWritten.{block_written_kept, block_written_evolves}
-use Rattle.cachecore.specs.declared.event.Kind.{Kind}
-use Rattle.cachecore.specs.declared.event.Kind.TheVariants.{Fill, Flush}
+use Rattle.pc_types.specs.declared.kind.Kind.{Kind}
+use Rattle.pc_types.specs.declared.kind.Kind.TheVariants.{Fill, Flush}
 use Rattle.cachecore.specs.declared.event.Outcome.{Outcome}
 use Rattle.cachecore.specs.declared.event.Outcome.TheVariants as outcome
 use Rattle.std.proofs.Common.{List}

@@ -2,8 +2,8 @@
 use Rattle.std.proofs.Common.{◌≡◌, ℕ, Bool, ap, sym, subst}
 use Rattle.std.specs.Prelude.{Option, Some, None}
 use Rattle.std.specs.FinMap as finmap
-use Rattle.cachecore.specs.declared.event.Kind.{Kind}
-use Rattle.cachecore.specs.declared.event.Kind.TheVariants.{Fill, Flush}
+use Rattle.pc_types.specs.declared.kind.Kind.{Kind}
+use Rattle.pc_types.specs.declared.kind.Kind.TheVariants.{Fill, Flush}
 use Rattle.cachecore.specs.declared.event.Outcome.{Outcome}
 use Rattle.cachecore.specs.declared.event.End.{End}
 use Rattle.cachecore.specs.declared.event.Event.{Event}

@@ -3,7 +3,8 @@ use Rattle.std.proofs.Common.{◌≡◌, ℕ, ◌<◌, Bool, true, length, refl,
 use Rattle.std.specs.Prelude.{Option, Some, None, is_some, option_map, unwrap_or}
 use Rattle.std.specs.FinMap as finmap
 use Rattle.pc_types.specs.Files.{page_of}
-use Rattle.cachecore.specs.State.{State, Spot, file_at, file_of, is_open, page_at, spot_at}
+use Rattle.cachecore.specs.State.{State, file_at, file_of, is_open, page_at, spot_at}
+use Rattle.pc_types.specs.Spots.{Spot}
 use Rattle.cachecore.specs.Changes.{block_of}
 use Rattle.world.specs.Plain.{Plain, plain_file}
 use Rattle.world.specs.World.{World, block_bytes}

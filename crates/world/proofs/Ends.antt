@@ -6,7 +6,8 @@ use Rattle.std.proofs.Math.ListN.{length-set}
 use Rattle.std.proofs.lemmas.Bool.Decides.{nat_tests}
 use Rattle.pc_types.specs.Files.{page_of}
 use Rattle.pc_types.specs.Tags.{no_tags}
-use Rattle.cachecore.specs.State.{State, File, Page, Request, file_at, page_at, spot_at, no_file, page_count, is_fill, is_flush}
+use Rattle.cachecore.specs.State.{State, File, Page, Request, file_at, page_at, spot_at, no_file, page_count}
+use Rattle.pc_types.specs.Kinds.{is_fill, is_flush}
 use Rattle.world.specs.Plain.{Plain, plain_file}
 use Rattle.world.specs.World.{World, block_bytes, EndOf, end_event}
 use Rattle.world.proofs.View.{Good, Evolves, no_gone, put1, put2}
@@ -22,8 +23,8 @@ use Rattle.world.proofs.FillEnd.{fill_end_kept, fill_end_evolves}
 use Rattle.world.proofs.FlushFailed.{flush_failed_kept, flush_failed_evolves}
 use Rattle.world.proofs.FlushWritten.{flush_written_kept, flush_written_evolves}
 use Rattle.pc_types.specs.declared.refusal.Refusal.TheVariants.{Stranger}
-use Rattle.cachecore.specs.declared.event.Kind.{Kind}
-use Rattle.cachecore.specs.declared.event.Kind.TheVariants.{Fill, Flush}
+use Rattle.pc_types.specs.declared.kind.Kind.{Kind}
+use Rattle.pc_types.specs.declared.kind.Kind.TheVariants.{Fill, Flush}
 use Rattle.cachecore.specs.declared.event.Outcome.{Outcome}
 use Rattle.cachecore.specs.declared.event.Outcome.TheVariants as outcome
 use Rattle.cachecore.specs.declared.event.Reply.{Reply}

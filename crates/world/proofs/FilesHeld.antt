@@ -1,7 +1,8 @@
 -- The cache and the device hold the plain files at every moment.
 use Rattle.std.proofs.Common.{◌≡◌, take, refl, ◌∙◌}
 use Rattle.std.specs.Prelude.{Option, Some, None}
-use Rattle.cachecore.specs.State.{Spot, spot_at}
+use Rattle.cachecore.specs.State.{spot_at}
+use Rattle.pc_types.specs.Spots.{Spot}
 use Rattle.world.specs.Plain.{Plain, no_files}
 use Rattle.world.specs.World.{World, held, block_bytes}
 use Rattle.world.specs.Runs.{last}

@@ -4,7 +4,9 @@ use Rattle.std.specs.Prelude.{◌&&◌, Option, Some, None, option_map, unwrap_o
 use Rattle.std.specs.FinMap as finmap
 use Rattle.std.proofs.lemmas.Bool.{false≢true}
 use Rattle.pc_types.specs.Files.{page_of}
-use Rattle.cachecore.specs.State.{State, Spot, Request, file_at, file_of, page_at, spot_at, page_count, is_filling, is_cached, is_written, is_fill, fills}
+use Rattle.cachecore.specs.State.{State, Request, file_at, file_of, page_at, spot_at, page_count, is_filling, is_cached, is_written, fills}
+use Rattle.pc_types.specs.Kinds.{is_fill}
+use Rattle.pc_types.specs.Spots.{Spot}
 use Rattle.world.specs.Plain.{Plain, plain_file}
 use Rattle.world.specs.World.{World, block_bytes}
 use Rattle.world.proofs.View.{Good, Evolves, no_gone, put1, put2, dirty, writeback, settled}
@@ -20,7 +22,7 @@ use Rattle.world.proofs.FillBegin.{fill_begin_kept, fill_begin_evolves}
 use Rattle.pc_types.specs.declared.refusal.Refusal.TheVariants.{Memory}
 use Rattle.pc_types.specs.declared.ids.HandleId.{HandleId}
 use Rattle.pc_types.specs.declared.ids.PageIndex.{PageIndex}
-use Rattle.cachecore.specs.declared.event.Kind.TheVariants.{Fill}
+use Rattle.pc_types.specs.declared.kind.Kind.TheVariants.{Fill}
 use Rattle.cachecore.specs.declared.event.Event.TheVariants as event
 use Rattle.cachecore.specs.declared.event.Reply.{Reply}
 use Rattle.cachecore.specs.declared.event.Reply.TheVariants as reply

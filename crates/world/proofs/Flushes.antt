@@ -25,7 +25,7 @@ use Rattle.pc_types.specs.declared.refusal.Refusal.TheVariants.{TooManyInFlight,
 use Rattle.pc_types.specs.declared.ids.HandleId.{HandleId}
 use Rattle.pc_types.specs.declared.ids.FileId.{FileId}
 use Rattle.pc_types.specs.declared.ids.SyncId.{SyncId}
-use Rattle.cachecore.specs.declared.event.Kind.TheVariants.{Flush}
+use Rattle.pc_types.specs.declared.kind.Kind.TheVariants.{Flush}
 use Rattle.cachecore.specs.declared.event.Event.TheVariants as event
 use Rattle.cachecore.specs.declared.event.Reply.{Reply}
 use Rattle.cachecore.specs.declared.event.Reply.TheVariants as reply

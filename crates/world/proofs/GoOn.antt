@@ -8,8 +8,8 @@ use Rattle.world.proofs.View.{writeback}
 use Rattle.world.specs.Runs.{IsFirst, Run, world_at}
 use Rattle.world.specs.Progress.{RequestsGoOn}
 use Rattle.world.proofs.Moves.{run_take}
-use Rattle.cachecore.specs.declared.event.Kind.{Kind}
-use Rattle.cachecore.specs.declared.event.Kind.TheVariants.{Fill, Flush}
+use Rattle.pc_types.specs.declared.kind.Kind.{Kind}
+use Rattle.pc_types.specs.declared.kind.Kind.TheVariants.{Fill, Flush}
 use Rattle.cachecore.specs.declared.event.Outcome.{Outcome}
 use Rattle.cachecore.specs.declared.event.Reply.{Reply}
 use Rattle.cachecore.proofs.Replies.{Rests, some_reply}

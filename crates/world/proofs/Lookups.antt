@@ -6,7 +6,8 @@ use Rattle.std.specs.FinMap as finmap
 use Rattle.std.specs.FinMap.{FinMap, get-empty}
 use Rattle.std.proofs.lemmas.Bool.Decides.{nat_tests}
 use Rattle.std.proofs.lemmas.List.{get_or_past}
-use Rattle.cachecore.specs.State.{State, File, Page, file_at, page_at, no_file, place_cmp}
+use Rattle.cachecore.specs.State.{State, File, Page, file_at, page_at, no_file}
+use Rattle.pc_types.specs.Spots.{place_cmp}
 use Rattle.cachecore.specs.Changes.{put_file, put_page, drop_page}
 use Rattle.cachecore.proofs.MapLaws.{get-insert_nat, get-remove_nat, get-insert_place}
 use Rattle.cachecore.proofs.StateLaws.{file_at-put, page_at-put}

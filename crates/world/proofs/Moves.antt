@@ -26,7 +26,7 @@ use Rattle.world.proofs.Calls.{call_kept}
 use Rattle.world.proofs.Truncations.{truncate_kept}
 use Rattle.world.proofs.Writes.{write_kept, append_kept}
 use Rattle.pc_types.specs.declared.refusal.Refusal.TheVariants.{Stranger}
-use Rattle.cachecore.specs.declared.event.Kind.TheVariants.{Fill, Flush}
+use Rattle.pc_types.specs.declared.kind.Kind.TheVariants.{Fill, Flush}
 use Rattle.cachecore.specs.declared.event.Outcome.{Outcome}
 use Rattle.cachecore.specs.declared.event.Outcome.TheVariants as outcome
 use Rattle.cachecore.specs.declared.event.End.{End}

@@ -2,9 +2,10 @@
 use Rattle.std.proofs.Common.{◌≡◌, ℕ, ◌<◌, ◌≢◌, Bool, true, false, cond, List, []}
 use Rattle.std.specs.Prelude.{◌⊎◌, Option, Some, None, is_some}
 use Rattle.pc_types.specs.Files.{cut}
-use Rattle.cachecore.specs.State.{Page, Spot, Request}
+use Rattle.cachecore.specs.State.{Page, Request}
+use Rattle.pc_types.specs.Spots.{Spot}
 use Rattle.world.proofs.View.{View, writeback, towrite}
-use Rattle.cachecore.specs.declared.event.Kind.TheVariants.{Fill}
+use Rattle.pc_types.specs.declared.kind.Kind.TheVariants.{Fill}
 
 module _ (v : View) (page : ℕ → ℕ → Option Page) (spot : ℕ → ℕ → Option Spot) (content : ℕ → ℕ → List ℕ) where
   -- nothing changes

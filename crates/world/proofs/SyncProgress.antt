@@ -4,7 +4,8 @@ use Rattle.std.specs.Prelude.{◌&&◌, ◌⊎◌, Option, Some, None, is_some, 
 use Rattle.std.specs.FinMap as finmap
 use Rattle.std.proofs.lemmas.Bool.Decides.{nat_tests}
 use Rattle.pc_types.specs.Files.{page_of}
-use Rattle.cachecore.specs.State.{State, Page, Request, Sync, file_at, file_of, is_open, page_at, spot_at, is_flush}
+use Rattle.cachecore.specs.State.{State, Page, Request, Sync, file_at, file_of, is_open, page_at, spot_at}
+use Rattle.pc_types.specs.Kinds.{is_flush}
 use Rattle.world.specs.Plain.{Plain, plain_file, no_files}
 use Rattle.world.specs.World.{World, block_bytes, Entry, Act, Call, Finish, Moves, on_device}
 use Rattle.world.proofs.View.{View, Good, Evolves, put1_here, dirty, writeback, towrite, held_by, held}

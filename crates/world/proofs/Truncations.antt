@@ -5,7 +5,8 @@ use Rattle.std.specs.FinMap as finmap
 use Rattle.std.proofs.Math.ListN.{length-set}
 use Rattle.std.proofs.lemmas.Bool.Decides.{nat_tests}
 use Rattle.pc_types.specs.Files.{cut, page_of}
-use Rattle.cachecore.specs.State.{State, File, Page, Spot, file_at, file_of, is_open, page_at, spot_at, no_file, page_count, is_filling, is_written, has_block, fills}
+use Rattle.cachecore.specs.State.{State, File, Page, file_at, file_of, is_open, page_at, spot_at, no_file, page_count, is_filling, is_written, has_block, fills}
+use Rattle.pc_types.specs.Spots.{Spot}
 use Rattle.cachecore.proofs.ChangeLaws.{Truncates, shrunk_truncates}
 use Rattle.cachecore.specs.Changes.{shrunk, boundary, cut_page, cut_request, put_file}
 use Rattle.world.specs.Plain.{Plain, plain_file, plain_after, named, change}

@@ -3,8 +3,9 @@ use Rattle.std.proofs.Common.{◌≡◌, ℕ, ◌+◌, ◌<◌, ◌≤◌, ◌�
 use Rattle.std.specs.Prelude.{◌&&◌, ◌⊎◌, Option, Some, None, is_some, option_map}
 use Rattle.std.proofs.lemmas.Bool.{false≢true}
 use Rattle.pc_types.specs.Files.{cut}
-use Rattle.cachecore.specs.State.{Page, Spot, Request, page_count}
-use Rattle.cachecore.specs.declared.event.Kind.TheVariants.{Fill, Flush}
+use Rattle.cachecore.specs.State.{Page, Request, page_count}
+use Rattle.pc_types.specs.Spots.{Spot}
+use Rattle.pc_types.specs.declared.kind.Kind.TheVariants.{Fill, Flush}
 use Rattle.cachecore.specs.declared.event.Outcome.{Outcome}
 use Rattle.cachecore.specs.declared.event.Outcome.TheVariants as outcome
 

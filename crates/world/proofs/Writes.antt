@@ -4,7 +4,9 @@ use Rattle.std.specs.Prelude.{◌&&◌, ◌||◌, ◌⊎◌, Option, Some, None,
 use Rattle.std.specs.FinMap as finmap
 use Rattle.std.proofs.Math.ListN.{length-set}
 use Rattle.pc_types.specs.Files.{cut, page_of, pwrite}
-use Rattle.cachecore.specs.State.{State, File, Page, Spot, Request, file_at, file_of, is_open, page_at, spot_at, no_file, page_count, is_filling, is_cached, is_written, has_block, is_fill, fills, touches, touched, touched_count, is_dirty, dirty_total, free_frames, free_blocks, first_page, without_block}
+use Rattle.cachecore.specs.State.{State, File, Page, Request, file_at, file_of, is_open, page_at, spot_at, no_file, page_count, is_filling, is_cached, is_written, has_block, fills, touches, touched, touched_count, is_dirty, dirty_total, free_frames, free_blocks, first_page, without_block}
+use Rattle.pc_types.specs.Kinds.{is_fill}
+use Rattle.pc_types.specs.Spots.{Spot}
 use Rattle.cachecore.proofs.ChangeLaws.{WritesBytes, written_writes, new_spot, taken_by, needs_block, takes_free, takes_apart}
 use Rattle.world.specs.Plain.{Plain, plain_file, plain_after, named, change}
 use Rattle.world.specs.World.{World, block_bytes}
@@ -25,7 +27,7 @@ use Rattle.world.proofs.Truncations.{file_set}
 use Rattle.pc_types.proofs.FileLaws.{length-pwrite, length-cut}
 use Rattle.pc_types.specs.declared.refusal.Refusal.TheVariants.{Memory}
 use Rattle.pc_types.specs.declared.ids.HandleId.{HandleId}
-use Rattle.cachecore.specs.declared.event.Kind.TheVariants.{Fill}
+use Rattle.pc_types.specs.declared.kind.Kind.TheVariants.{Fill}
 use Rattle.cachecore.specs.declared.event.Event.TheVariants as event
 use Rattle.cachecore.specs.declared.event.Reply.{Reply}
 use Rattle.cachecore.specs.declared.event.Reply.TheVariants as reply
