@@ -25,3 +25,8 @@ pub mod SpotLemmas
 pub mod WriteLemmas
 pub mod CoreLemmas
 pub mod StepLemmas
+pub mod BareMaps
+pub mod BareTests
+pub mod BareChanges
+pub mod BareCases
+pub mod BareLaws

@@ -1,3 +1,4 @@
+pub mod Bare
 pub mod Changes
 pub mod Codes
 pub mod Pairs
