@@ -1,4 +1,5 @@
 pub mod Blocks
 pub mod Buffer
 pub mod Device
+pub mod Jobs
 pub mod Script

@@ -2,16 +2,18 @@
 //!
 //! A read or a write does what `Reads` or `Writes` of `specs/Device.antt` says, at every device: each call is counted, a
 //! fault is counted exactly where it is answered, a write takes effect whole or not at all, and a failed read changes
-//! nothing. A device may tell its contents and the faults to come; `MemDevice` and `ScriptDevice` tell both.
+//! nothing. A device may tell its contents and the faults to come; `MemDevice` and `ScriptDevice` tell both. `perform`
+//! makes one such call for a request, as `Performs` of `specs/Jobs.antt` says.
 //!
 //! `device` has the trait, `fault` what goes wrong, `blocks` the bytes in memory, `memory` a device that never fails,
-//! `script` one that fails when it is told to, and `buffer` the bytes of one page on their way.
+//! `script` one that fails when it is told to, `buffer` the bytes of one page on their way, and `job` a request's call.
 #![tactic(auto)]
 
 mod blocks;
 pub mod buffer;
 pub mod device;
 pub mod fault;
+pub mod job;
 pub mod memory;
 pub mod script;
 #[cfg(test)]
@@ -20,5 +22,6 @@ mod tests;
 pub use buffer::Buffer;
 pub use device::BlockDevice;
 pub use fault::{Fault, FaultEffect};
+pub use job::{Finished, FinishedParts, Job, perform};
 pub use memory::MemDevice;
 pub use script::ScriptDevice;

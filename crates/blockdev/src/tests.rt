@@ -1,9 +1,13 @@
-//! Each device through the trait's bound, planned faults in their four forms, and a page on its way.
+//! Each device through the trait's bound, planned faults in their four forms, a page on its way, and jobs of both kinds
+//! with both outcomes.
 
-ghost use Rattle.std.specs.Prelude.{◌≡◌, ◌<◌};
+ghost use Rattle.std.specs.Prelude.{◌≡◌, ◌<◌, length, IfOk};
 
-use crate::{BlockDevice, Buffer, FaultEffect, MemDevice, ScriptDevice};
-use pc_types::{BlockNo, ErrCode, Geometry, Refusal};
+use crate::{
+    BlockDevice, Buffer, FaultEffect, FinishedParts, Job, MemDevice, ScriptDevice, perform,
+};
+use pc_types::{BlockNo, ErrCode, Geometry, Kind, Refusal, Serial};
+use std::alloc::Global;
 use std::process::Abort;
 use std::test::Fail;
 
@@ -96,5 +100,89 @@ fn a_buffer_carries_a_page(rt: HostRuntime) -> Result<(), Fail> {
     buffer.as_mut_slice().fill(0);
     assert!(rt; device.read(BlockNo(63), buffer.as_mut_slice()).is_ok());
     assert_eq!(rt; buffer.as_slice(), b"sixteen bytes...".as_slice());
+    Ok(())
+}
+
+/// A page of the byte.
+fn page(alloc: Global, byte: u8) -> Result<Buffer, Fail>
+    ensures { IfOk result (λ b. length b ≡ 16) }
+{
+    let geometry = Geometry::new(16, 48, 16, 64)?;
+    let mut buffer = Buffer::new(alloc, &geometry)?;
+    buffer.as_mut_slice().fill(byte);
+    Ok(buffer)
+}
+
+/// Makes the call of request 7 of cache 3 for block 1, and sees that what comes back names it.
+fn made<D: BlockDevice>(
+    rt: &impl Abort,
+    device: &mut D,
+    kind: Kind,
+    buffer: Buffer,
+) -> FinishedParts
+    requires size { (D.told device.old).size ≡ 16 }
+    requires count { 1 < (D.told device.old).count }
+    requires page { length buffer ≡ 16 }
+    ensures size { (D.told device.new).size ≡ 16 }
+    ensures count { 1 < (D.told device.new).count }
+{
+    let job = Job::new(3, Serial(7), kind, BlockNo(1), buffer);
+    assert!(rt; job.cache() == 3 && job.serial() == Serial(7) && job.kind() == kind);
+    assert!(rt; job.block() == BlockNo(1) && job.bytes().len() == 16);
+    let finished = perform(device, job);
+    assert!(rt; finished.cache() == 3 && finished.serial() == Serial(7) && finished.kind() == kind);
+    let outcome = finished.outcome();
+    let parts = finished.into_parts();
+    assert!(rt; parts.cache == 3 && parts.serial == Serial(7) && parts.kind == kind);
+    assert!(rt; parts.block == BlockNo(1) && parts.outcome == outcome);
+    parts
+}
+
+/// A flush puts its page into the block of a new device, and a fill brings it back.
+fn carries_a_page<D: BlockDevice>(
+    rt: &impl Abort,
+    alloc: Global,
+    device: &mut D,
+) -> Result<(), Fail>
+    requires size { (D.told device.old).size ≡ 16 }
+    requires count { 1 < (D.told device.old).count }
+{
+    let flushed = made(rt, device, Kind::Flush, page(alloc, 7)?);
+    assert!(rt; flushed.outcome.is_ok());
+    assert_eq!(rt; flushed.buffer.as_slice(), [7; 16].as_slice());
+    let filled = made(rt, device, Kind::Fill, page(alloc, 9)?);
+    assert!(rt; filled.outcome.is_ok());
+    assert_eq!(rt; filled.buffer.as_slice(), [7; 16].as_slice());
+    assert_eq!(rt; (device.calls(), device.faults()), (2, 0));
+    Ok(())
+}
+
+#[test]
+fn jobs_carry_a_page(rt: HostRuntime) -> Result<(), Fail> {
+    let mut memory = MemDevice::new(rt.alloc(), 16, 2)?;
+    carries_a_page(&rt, rt.alloc(), &mut memory)?;
+    let mut script = ScriptDevice::new(rt.alloc(), 16, 2)?;
+    carries_a_page(&rt, rt.alloc(), &mut script)?;
+    Ok(())
+}
+
+#[test]
+fn a_job_that_fails_tells_the_code(rt: HostRuntime) -> Result<(), Fail> {
+    let alloc = rt.alloc();
+    let full = ErrCode::new(28)?;
+    for (effect, left) in [(FaultEffect::Old, 0), (FaultEffect::New, 7)] {
+        let mut device = ScriptDevice::new(alloc, 16, 2)?;
+        device.fail_next(full, effect);
+        let flushed = made(&rt, &mut device, Kind::Flush, page(alloc, 7)?);
+        assert_eq!(rt; flushed.outcome, Err(full));
+        assert_eq!(rt; flushed.buffer.as_slice(), [7; 16].as_slice());
+        assert_eq!(rt; device.bytes(BlockNo(0)), [0; 16].as_slice());
+        assert_eq!(rt; device.bytes(BlockNo(1)), [left; 16].as_slice());
+        device.fail_next(ErrCode::IO, effect);
+        let filled = made(&rt, &mut device, Kind::Fill, page(alloc, 9)?);
+        assert_eq!(rt; filled.outcome, Err(ErrCode::IO));
+        assert_eq!(rt; filled.buffer.as_slice(), [9; 16].as_slice());
+        assert_eq!(rt; (device.calls(), device.faults()), (2, 2));
+    }
     Ok(())
 }
