@@ -1,0 +1,5 @@
+pub mod BitLemmas
+pub mod MarkLemmas
+pub mod NumberLemmas
+pub mod SearchLemmas
+pub mod TidyLemmas
