@@ -1,0 +1,202 @@
+//! One page through all its tags, and searches over pages far apart. Expected values are counted by hand.
+
+ghost use Rattle.std.specs.Prelude.{◌<◌};
+
+use crate::{FoundPage, MAX_PAGES, MappedPage, Mapping, Totals};
+use pc_types::{FrameId, PageIndex, Refusal, Tag, Tags};
+use std::alloc::Global;
+use std::process::Abort;
+use std::test::Fail;
+
+fn assert_totals(rt: &impl Abort, mapping: &Mapping, dirty: u64, writeback: u64, towrite: u64) {
+    let totals = Totals {
+        dirty,
+        writeback,
+        towrite,
+    };
+    assert_eq!(rt; mapping.totals(), totals);
+}
+
+#[test]
+fn a_page_with_each_tag(rt: HostRuntime) -> Result<(), Fail> {
+    let page = PageIndex(3);
+    let mut mapping = Mapping::new(rt.alloc());
+    assert_eq!(rt; mapping.size(), 0);
+    mapping.set_size(100);
+    assert_eq!(rt; mapping.size(), 100);
+    assert_eq!(rt; mapping.page(page), None);
+    mapping.insert_page(page, FrameId(9))?;
+    assert_eq!(rt; mapping.insert_page(page, FrameId(8)), Err(Refusal::Busy));
+    assert_eq!(rt; mapping.page_count(), 1);
+    assert_totals(&rt, &mapping, 0, 0, 0);
+    // a tag counts once, however often it is set
+    mapping.tag(page, Tag::Dirty)?;
+    assert_totals(&rt, &mapping, 1, 0, 0);
+    mapping.tag(page, Tag::Dirty)?;
+    assert_totals(&rt, &mapping, 1, 0, 0);
+    mapping.tag(page, Tag::Writeback)?;
+    assert_totals(&rt, &mapping, 1, 1, 0);
+    mapping.tag(page, Tag::Towrite)?;
+    assert_totals(&rt, &mapping, 1, 1, 1);
+    // and is taken off once
+    mapping.untag(page, Tag::Writeback);
+    assert_totals(&rt, &mapping, 1, 0, 1);
+    mapping.untag(page, Tag::Writeback);
+    assert_totals(&rt, &mapping, 1, 0, 1);
+    assert!(rt; mapping.has_tag(page, Tag::Towrite));
+    assert!(rt; !mapping.has_tag(page, Tag::Writeback));
+    let dirty = MappedPage {
+        frame: FrameId(9),
+        tags: Tags::none().with(Tag::Dirty).with(Tag::Towrite),
+    };
+    assert_eq!(rt; mapping.page(page), Some(dirty));
+    // a write of the page begins: one call clears DIRTY and TOWRITE and sets WRITEBACK
+    mapping.set_tags(page, Tags::none().with(Tag::Writeback))?;
+    assert_totals(&rt, &mapping, 0, 1, 0);
+    // a page goes with its tags
+    assert_eq!(rt; mapping.remove_page(page), Some(FrameId(9)));
+    assert_totals(&rt, &mapping, 0, 0, 0);
+    assert_eq!(rt; mapping.page_count(), 0);
+    assert_eq!(rt; mapping.size(), 100);
+    Ok(())
+}
+
+/// A page is cached, written to, and started: one call clears DIRTY and TOWRITE and sets WRITEBACK.
+fn start(alloc: Global) -> Result<Mapping, Refusal> {
+    let mut pages = Mapping::new(alloc);
+    pages.insert_page(PageIndex(3), FrameId(7))?;
+    pages.tag(PageIndex(3), Tag::Dirty)?;
+    pages.set_tags(PageIndex(3), Tags::none().with(Tag::Writeback))?;
+    Ok(pages)
+}
+
+#[test]
+fn a_page_is_started(rt: HostRuntime) -> Result<(), Fail> {
+    let pages = start(rt.alloc())?;
+    assert_totals(&rt, &pages, 0, 1, 0);
+    Ok(())
+}
+
+#[test]
+fn no_page_no_tag(rt: HostRuntime) -> Result<(), Fail> {
+    let mut mapping = Mapping::new(rt.alloc());
+    mapping.insert_page(PageIndex(0), FrameId(0))?;
+    let absent = PageIndex(1);
+    assert_eq!(rt; mapping.tag(absent, Tag::Dirty), Err(Refusal::NoEntry));
+    assert_eq!(rt;
+        mapping.set_tags(absent, Tags::none()),
+        Err(Refusal::NoEntry)
+    );
+    mapping.untag(absent, Tag::Dirty);
+    assert!(rt; !mapping.has_tag(absent, Tag::Dirty));
+    assert_eq!(rt; mapping.remove_page(absent), None);
+    assert_eq!(rt; mapping.page_count(), 1);
+    assert_totals(&rt, &mapping, 0, 0, 0);
+    Ok(())
+}
+
+/// Page numbers at the edges of the nodes, the first and the last of a file among them.
+const PAGES: [u64; 7] = [0, 1, 63, 64, 4_095, 4_096, MAX_PAGES - 1];
+
+/// The page at a place of `PAGES`.
+fn page_at(rt: &impl Abort, at: usize) -> u64
+    ensures { result < MAX_PAGES }
+{
+    assert!(rt; at < 7);
+    let page = PAGES[at];
+    assert!(rt; page < MAX_PAGES);
+    page
+}
+
+/// Stops the test unless the page at this place of `PAGES` was found, or none where the place is past them.
+fn assert_found(rt: &impl Abort, found: Option<FoundPage>, at: usize) {
+    if at < 7 {
+        let page = FoundPage {
+            page: PageIndex(page_at(rt, at)),
+            frame: FrameId(at as u32),
+        };
+        assert_eq!(rt; found, Some(page));
+    } else {
+        assert_eq!(rt; found, None);
+    }
+}
+
+#[test]
+fn pages_are_found_and_retagged(rt: HostRuntime) -> Result<(), Fail> {
+    let mut mapping = Mapping::new(rt.alloc());
+    assert_found(&rt, mapping.find_page(PageIndex(0)), 7);
+    for at in 0..7usize {
+        mapping.insert_page(PageIndex(page_at(&rt, at)), FrameId(at as u32))?;
+    }
+    assert_eq!(rt; mapping.page_count(), 7);
+    for at in 0..7usize {
+        let page = page_at(&rt, at);
+        assert_found(&rt, mapping.find_page(PageIndex(page)), at);
+        assert_found(&rt, mapping.find_page(PageIndex(page + 1)), at + 1);
+    }
+    // 0, 63, 4,095 and the last page are DIRTY, 63 is TOWRITE too
+    for at in [0usize, 2, 4, 6] {
+        mapping.tag(PageIndex(page_at(&rt, at)), Tag::Dirty)?;
+    }
+    mapping.tag(PageIndex(63), Tag::Towrite)?;
+    assert_totals(&rt, &mapping, 4, 0, 1);
+    let last = PageIndex(u64::MAX);
+    assert_found(&rt, mapping.find_tagged(PageIndex(0), last, Tag::Dirty), 0);
+    assert_found(&rt, mapping.find_tagged(PageIndex(1), last, Tag::Dirty), 2);
+    assert_found(
+        &rt,
+        mapping.find_tagged(PageIndex(63), PageIndex(63), Tag::Dirty),
+        2,
+    );
+    assert_found(
+        &rt,
+        mapping.find_tagged(PageIndex(64), PageIndex(4_094), Tag::Dirty),
+        7,
+    );
+    assert_found(
+        &rt,
+        mapping.find_tagged(PageIndex(4_096), last, Tag::Dirty),
+        6,
+    );
+    assert_found(
+        &rt,
+        mapping.find_tagged(PageIndex(2), PageIndex(1), Tag::Dirty),
+        7,
+    );
+    assert_found(
+        &rt,
+        mapping.find_tagged(PageIndex(0), last, Tag::Writeback),
+        7,
+    );
+    // 63 and 4,095 are DIRTY from 1 to 4,096; only 4,095 is new as TOWRITE
+    assert_eq!(rt;
+        mapping.retag(PageIndex(1), PageIndex(4_096), Tag::Dirty, Tag::Towrite),
+        2
+    );
+    assert_totals(&rt, &mapping, 4, 0, 2);
+    assert!(rt; mapping.has_tag(PageIndex(4_095), Tag::Towrite));
+    assert!(rt; !mapping.has_tag(PageIndex(0), Tag::Towrite));
+    assert_eq!(rt;
+        mapping.retag(PageIndex(0), last, Tag::Dirty, Tag::Towrite),
+        4
+    );
+    assert_totals(&rt, &mapping, 4, 0, 4);
+    assert_eq!(rt;
+        mapping.retag(PageIndex(2), PageIndex(1), Tag::Dirty, Tag::Writeback),
+        0
+    );
+    assert_eq!(rt;
+        mapping.retag(PageIndex(0), last, Tag::Writeback, Tag::Dirty),
+        0
+    );
+    assert_totals(&rt, &mapping, 4, 0, 4);
+    for at in 0..7usize {
+        assert_eq!(rt;
+            mapping.remove_page(PageIndex(page_at(&rt, at))),
+            Some(FrameId(at as u32))
+        );
+    }
+    assert_totals(&rt, &mapping, 0, 0, 0);
+    assert_eq!(rt; mapping.page_count(), 0);
+    Ok(())
+}
