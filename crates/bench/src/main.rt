@@ -1,0 +1,48 @@
+//! Times the calls of the marked array and of the error word: `bench time` prints a row a call, as `12.34 ns  load, random`.
+//!
+//! `row` has the rows, `loops` what the clock runs over, `calls` an array's calls in the two forms that are timed, `order` the
+//! random order, `clock` the best time of several rounds, and `report` what is printed.
+#![tactic(auto)]
+
+mod calls;
+mod clock;
+mod fault;
+mod loops;
+mod order;
+mod report;
+mod row;
+#[cfg(test)]
+mod tests;
+mod words;
+
+use fault::Fault;
+use report::print_rows;
+use std::env;
+use std::io::Write;
+use std::process::ExitCode;
+
+fn main(rt: HostRuntime) -> ExitCode {
+    ExitCode::from(run_program(&rt))
+}
+
+/// Does what the arguments ask for, and gives the status.
+fn run_program(rt: &HostRuntime) -> u8 {
+    let is_time = match env::args(rt) {
+        Ok(arguments) => arguments
+            .skip(1)
+            .map(|word| word.as_str() == "time")
+            .eq([true]),
+        Err(_) => false,
+    };
+    if !is_time {
+        let _ = writeln!(rt.stderr(), "bench: usage: bench time");
+        return 2;
+    }
+    match print_rows(rt) {
+        Ok(()) => 0,
+        Err(fault) => {
+            let _ = writeln!(rt.stderr(), "bench: {fault}");
+            fault.status()
+        }
+    }
+}
