@@ -1,0 +1,5 @@
+pub mod Flights
+pub mod Requests
+pub mod Rising
+pub mod Slots
+pub mod Syncs

@@ -1,0 +1,226 @@
+//! The requests in flight.
+
+ghost use Rattle.std.specs.Prelude.{◌≡◌, ℕ, ◌≤◌, ◌==◌, None, ◌&&◌, false, map as map_list, find, position, option_map, nat_lt};
+ghost use Rattle.std.specs.FinMap as map;
+ghost use Rattle.writeback.specs.Flights.{begun, cut_flight, each_value, ended, first_flush, is_flush_below, is_full};
+ghost use Rattle.writeback.specs.Requests.{cut_entry, entry_of, flight_of};
+ghost use Rattle.writeback.specs.declared.requests.Entry.{Entry};
+
+use arrayvec::ArrayVec;
+use pc_types::limits::{MAX_IN_FLIGHT, SERIAL_END};
+use pc_types::{BlockNo, FileId, Kind, PageIndex, Serial};
+use std::marker::Model;
+
+const PLACES: usize = MAX_IN_FLIGHT as usize;
+
+/// A request in flight.
+#[derive(Clone, Copy, PartialEq, Eq, Debug)]
+pub struct Request {
+    pub kind: Kind,
+    pub file: FileId,
+    pub page: PageIndex,
+    /// The device may write it until the request ends, so it stays held until then.
+    pub block: BlockNo,
+    /// The page was cut off, and the request changes no page any more.
+    pub dropped: bool,
+}
+
+impl Request {
+    ghost use Rattle.writeback.specs.Flights.{is_flush_of};
+    ghost use Rattle.writeback.specs.Requests.{flight_of};
+
+    fn is_flush_of(&self, file: FileId) -> bool
+        ensures { result ≡ is_flush_of file.0 (flight_of self.now) }
+    {
+        self.kind == Kind::Flush && !self.dropped && self.file == file
+    }
+}
+
+/// A request with its serial.
+#[derive(Clone, Copy, PartialEq, Eq, Debug)]
+struct Entry {
+    serial: Serial,
+    request: Request,
+}
+
+impl Entry {
+    ghost use Rattle.writeback.specs.Flights.{is_flush_below};
+    ghost use Rattle.writeback.specs.Requests.{cut_entry, entry_of};
+
+    fn is_flush_below(&self, file: FileId, bound: Serial) -> bool
+        ensures { result ≡ is_flush_below file.0 bound.0 (entry_of self.now) }
+    {
+        self.request.is_flush_of(file) && self.serial < bound
+    }
+
+    /// The entry after the pages of `file` from `page` on are cut off.
+    fn cut(self, file: FileId, page: PageIndex) -> Entry
+        ensures { result ≡ cut_entry file.0 page.0 self }
+    {
+        if self.request.file != file || self.request.page < page {
+            return self;
+        }
+        let request = Request {
+            dropped: true,
+            ..self.request
+        };
+        Entry { request, ..self }
+    }
+}
+
+// What stands in the unused places of the table.
+impl Default for Entry {
+    fn default() -> Entry {
+        Entry {
+            serial: Serial(0),
+            request: Request {
+                kind: Kind::Fill,
+                file: FileId(0),
+                page: PageIndex(0),
+                block: BlockNo(0),
+                dropped: true,
+            },
+        }
+    }
+}
+
+/// The requests in flight by their serials, and the next serial.
+#[derive(Drop)]
+pub struct Requests {
+    next: u64,
+    // in rising order of serial
+    in_flight: ArrayVec<Entry, PLACES>,
+}
+
+impl Model for Requests {
+    ghost use Rattle.std.specs.Prelude.{map as map_list};
+    ghost use Rattle.std.specs.FinMap as map;
+    ghost use Rattle.writeback.specs.Flights.{Flights, flights_code};
+    ghost use Rattle.writeback.specs.Requests.{entry_of};
+    ghost use Rattle.writeback.specs.Rising.{IsRising};
+
+    ghost Value = { Flights };
+
+    ghost coded = { flights_code };
+
+    ghost view = { λ a. record { next = a.next; requests = map.from_entries (map_list entry_of a.in_flight.items) } };
+
+    ghost invariant = { λ a. IsRising 0 (map_list entry_of a.in_flight.items) a.next };
+}
+
+impl Requests {
+    /// No request has begun.
+    pub fn new() -> Requests
+        ensures { result ≡ record { next = 0; requests = map.empty } }
+    {
+        Requests {
+            next: 0,
+            in_flight: ArrayVec::new(),
+        }
+    }
+
+    /// The serial of the request that begins next.
+    pub fn next_serial(&self) -> Serial
+        ensures value { result.0 ≡ self.now.next }
+        ensures above { (t : ℕ) → self.now.next ≤ t → map.get self.now.requests t ≡ None }
+    {
+        Serial(self.next)
+    }
+
+    /// How many requests are in flight.
+    pub fn len(&self) -> u64
+        ensures { result ≡ map.len self.now.requests }
+    {
+        self.in_flight.len() as u64
+    }
+
+    /// Whether no request may begin.
+    pub fn is_full(&self) -> bool
+        ensures { result ≡ is_full self.now }
+    {
+        MAX_IN_FLIGHT <= self.len() || SERIAL_END <= self.next
+    }
+
+    /// The request with this serial, where it is in flight.
+    pub fn get(&self, serial: Serial) -> Option<Request>
+        ensures { option_map flight_of result ≡ map.get self.now.requests serial.0 }
+    {
+        request_in(&self.in_flight, serial)
+    }
+
+    /// Begins a request, which takes the next serial.
+    pub fn begin(&mut self, kind: Kind, file: FileId, page: PageIndex, block: BlockNo) -> Serial
+        requires { is_full self.old ≡ false }
+        ensures serial { result.0 ≡ self.old.next }
+        ensures begun { self.new ≡ begun self.old (record { kind = kind; file = file.0; page = page.0; block = block.0; dropped = false }) }
+    {
+        let serial = self.next_serial();
+        let request = Request {
+            kind,
+            file,
+            page,
+            block,
+            dropped: false,
+        };
+        self.in_flight.push(Entry { serial, request });
+        self.next += 1;
+        serial
+    }
+
+    /// Ends the request with this serial, where it is in flight: also one that is dropped.
+    pub fn end(&mut self, serial: Serial) -> Option<Request>
+        ensures request { option_map flight_of result ≡ map.get self.old.requests serial.0 }
+        ensures ended { self.new ≡ ended self.old serial.0 }
+    {
+        let at = position_of(&self.in_flight, serial)?;
+        let entry = self.in_flight.remove(at);
+        Some(entry.request)
+    }
+
+    /// Drops the requests of the pages of `file` from `page` on. They stay in flight, and keep their blocks.
+    pub fn drop_from(&mut self, file: FileId, page: PageIndex)
+        ensures { self.new ≡ record self.old { requests = each_value (cut_flight file.0 page.0) self.old.requests } }
+    {
+        drop_in(self.in_flight.as_mut_slice(), file, page);
+    }
+
+    /// The oldest flush of `file` that is not dropped and began before `bound`, with its page.
+    pub fn first_flush(&self, file: FileId, bound: Serial) -> Option<(Serial, PageIndex)>
+        ensures { option_map {U = ℕ × ℕ} (λ e. (e.0.0, e.1.0)) result ≡ first_flush file.0 bound.0 self.now.requests }
+    {
+        let entry = flush_in(&self.in_flight, file, bound)?;
+        Some((entry.serial, entry.request.page))
+    }
+}
+
+fn position_of(in_flight: &[Entry], serial: Serial) -> Option<usize>
+    ensures { result ≡ position (λ (e : Entry). e.serial.0 == serial.0) in_flight.now }
+{
+    in_flight.iter().position(|entry| entry.serial == serial)
+}
+
+fn request_in(in_flight: &[Entry], serial: Serial) -> Option<Request>
+    ensures { result ≡ option_map (λ (e : Entry). e.request) (find (λ (e : Entry). e.serial.0 == serial.0) in_flight.now) }
+{
+    let entry = in_flight.iter().find(|entry| entry.serial == serial)?;
+    Some(entry.request)
+}
+
+fn flush_in(in_flight: &[Entry], file: FileId, bound: Serial) -> Option<Entry>
+    ensures { result ≡ find (λ (e : Entry). is_flush_below file.0 bound.0 (entry_of e)) in_flight.now }
+{
+    for entry in in_flight {
+        if entry.is_flush_below(file, bound) {
+            return Some(*entry);
+        }
+    }
+    None
+}
+
+fn drop_in(in_flight: &mut [Entry], file: FileId, page: PageIndex)
+    ensures { in_flight.new ≡ map_list (cut_entry file.0 page.0) in_flight.old }
+{
+    for entry in in_flight.iter_mut() {
+        *entry = entry.cut(file, page);
+    }
+}

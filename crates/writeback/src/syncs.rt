@@ -1,0 +1,184 @@
+//! The syncs in progress.
+
+ghost use Rattle.std.specs.Prelude.{◌≡◌, ℕ, ◌==◌, ◌<◌, ◌+◌, ◌-◌, ◌^◌, ◌↔◌, true, not, IfOk, IsOk, IsOkUnless, OnErr, Some, None, is_some, if◌then◌else◌, slice_index_or, option_map, position};
+ghost use Rattle.std.specs.List.{list_any};
+ghost use Rattle.std.specs.FinMap as map;
+ghost use Rattle.writeback.specs.Syncs.{IsLowest, change_at, fresh, with_bound, with_last};
+ghost use Rattle.writeback.specs.Slots.{is_of, state_of};
+ghost use Rattle.writeback.specs.declared.syncs.Progress.{Progress};
+
+use pc_types::limits::MAX_SYNCS;
+use pc_types::{HandleId, PageIndex, Refusal, Serial, SyncId};
+use std::marker::Model;
+
+const PLACES: usize = MAX_SYNCS as usize;
+
+/// How far a sync in progress is.
+#[derive(Clone, Copy, PartialEq, Eq, Debug)]
+pub struct Progress {
+    /// The handle that it was begun on.
+    pub handle: HandleId,
+    /// The write cursor: the lowest page that it may still start. It never goes back, so a sync starts a page once.
+    pub cursor: PageIndex,
+    /// The failure count of its file as it began.
+    pub failures: u64,
+    /// Set once it has nothing to start any more: it awaits the file's flushes with a serial below this.
+    pub bound: Option<Serial>,
+}
+
+/// The syncs in progress by their numbers.
+#[derive(Drop)]
+pub struct Syncs {
+    slots: [Option<Progress>; PLACES],
+}
+
+impl Model for Syncs {
+    ghost use Rattle.std.specs.Prelude.{◌≡◌, length};
+    ghost use Rattle.std.specs.Coded.{coded_ℕ};
+    ghost use Rattle.std.specs.Ordering.{nat_cmp};
+    ghost use Rattle.std.specs.FinMap as map;
+    ghost use Rattle.pc_types.specs.declared.limits.TheConstants.{MAX_SYNCS};
+    ghost use Rattle.writeback.specs.Syncs.{SyncState, sync_code};
+    ghost use Rattle.writeback.specs.Slots.{in_progress};
+
+    ghost Value = { map.FinMap nat_cmp SyncState };
+
+    ghost coded = { map.code coded_ℕ sync_code };
+
+    ghost view = { λ a. in_progress a.slots };
+
+    ghost invariant = { λ a. length a.slots ≡ MAX_SYNCS };
+}
+
+impl Syncs {
+    /// No sync is in progress.
+    pub fn new() -> Syncs
+        ensures { result ≡ map.empty }
+    {
+        Syncs {
+            slots: [None; PLACES],
+        }
+    }
+
+    /// The sync with this number.
+    pub fn get(&self, sync: SyncId) -> Option<Progress>
+        ensures { option_map state_of result ≡ map.get self.now sync.0 }
+    {
+        progress_in(&self.slots, sync)
+    }
+
+    /// Whether a sync that was begun on this handle is in progress.
+    pub fn uses_handle(&self, handle: HandleId) -> bool
+        ensures { result ≡ list_any (λ s. s.handle == handle.0) (map.values self.now) }
+    {
+        uses_in(&self.slots, handle)
+    }
+
+    /// Begins a sync, which takes the lowest free number. `failures` is the failure count of its file.
+    pub fn begin(&mut self, handle: HandleId, failures: u64) -> Result<SyncId, Refusal>
+        ensures lowest { IfOk result (λ n. IsLowest (λ k. is_some (map.get self.old k)) n.0) }
+        ensures begun { IfOk result (λ n. self.new ≡ map.insert self.old n.0 (fresh handle.0 failures)) }
+        ensures room { IsOk result ↔ (map.len self.old < MAX_SYNCS) }
+        ensures refused { IsOkUnless result Refusal.TooManyInFlight }
+        ensures same { OnErr result (self.new ≡ self.old) }
+    {
+        let at = match free_place(&self.slots) {
+            Some(at) => at,
+            None => return Err(Refusal::TooManyInFlight),
+        };
+        let progress = Progress {
+            handle,
+            cursor: PageIndex(0),
+            failures,
+            bound: None,
+        };
+        self.slots[at] = Some(progress);
+        Ok(SyncId(at as u64))
+    }
+
+    /// Takes a sync that is over or dropped out of the table.
+    pub fn remove(&mut self, sync: SyncId) -> Option<Progress>
+        ensures progress { option_map state_of result ≡ map.get self.old sync.0 }
+        ensures removed { self.new ≡ map.remove self.old sync.0 }
+    {
+        take_in(&mut self.slots, sync)
+    }
+
+    /// Notes that a sync started `page`: the write cursor moves past it.
+    pub fn started(&mut self, sync: SyncId, page: PageIndex)
+        requires { page.0 < 2 ^ 64 - 1 }
+        ensures { self.new ≡ change_at sync.0 (with_last page.0) self.old }
+    {
+        start_in(&mut self.slots, sync, page);
+    }
+
+    /// Sets the bound of a sync that has nothing to start any more.
+    pub fn set_bound(&mut self, sync: SyncId, bound: Serial)
+        ensures { self.new ≡ change_at sync.0 (with_bound bound.0) self.old }
+    {
+        bound_in(&mut self.slots, sync, bound);
+    }
+}
+
+fn progress_in(slots: &[Option<Progress>], sync: SyncId) -> Option<Progress>
+    ensures { result ≡ slice_index_or slots.now sync.0 None }
+{
+    let at = sync.0 as usize;
+    if at < slots.len() { slots[at] } else { None }
+}
+
+fn is_of(slot: Option<Progress>, handle: HandleId) -> bool
+    ensures { result ≡ is_of handle.0 slot }
+{
+    match slot {
+        Some(progress) => progress.handle == handle,
+        None => false,
+    }
+}
+
+fn uses_in(slots: &[Option<Progress>], handle: HandleId) -> bool
+    ensures { result ≡ list_any (is_of handle.0) slots.now }
+{
+    slots.iter().any(|slot| is_of(*slot, handle))
+}
+
+/// The lowest number of no sync.
+fn free_place(slots: &[Option<Progress>]) -> Option<usize>
+    ensures { result ≡ position (λ s. not (is_some s)) slots.now }
+{
+    slots.iter().position(|slot| slot.is_none())
+}
+
+fn take_in(slots: &mut [Option<Progress>], sync: SyncId) -> Option<Progress>
+    ensures value { result ≡ slice_index_or slots.old sync.0 None }
+    ensures taken { (k : ℕ) → slice_index_or slots.new k None ≡ (if k == sync.0 then None else slice_index_or slots.old k None) }
+{
+    let progress = progress_in(slots, sync);
+    if progress.is_some() {
+        slots[sync.0 as usize] = None;
+    }
+    progress
+}
+
+fn start_in(slots: &mut [Option<Progress>], sync: SyncId, page: PageIndex)
+    requires { page.0 < 2 ^ 64 - 1 }
+    ensures { (k : ℕ) → slice_index_or slots.new k None ≡ (if k == sync.0 then option_map {T = Progress} (λ s. record s { cursor = record { 0 = page.0 + 1 } }) (slice_index_or slots.old k None) else slice_index_or slots.old k None) }
+{
+    if let Some(progress) = progress_in(slots, sync) {
+        slots[sync.0 as usize] = Some(Progress {
+            cursor: PageIndex(page.0 + 1),
+            ..progress
+        });
+    }
+}
+
+fn bound_in(slots: &mut [Option<Progress>], sync: SyncId, bound: Serial)
+    ensures { (k : ℕ) → slice_index_or slots.new k None ≡ (if k == sync.0 then option_map {T = Progress} (λ s. record s { bound = Some bound }) (slice_index_or slots.old k None) else slice_index_or slots.old k None) }
+{
+    if let Some(progress) = progress_in(slots, sync) {
+        slots[sync.0 as usize] = Some(Progress {
+            bound: Some(bound),
+            ..progress
+        });
+    }
+}

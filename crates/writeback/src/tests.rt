@@ -1,0 +1,210 @@
+//! Full tables, ends in any order, and each call once.
+
+ghost use Rattle.std.specs.Prelude.{◌≡◌, ◌<◌, ◌-◌, ◌^◌, false};
+ghost use Rattle.writeback.specs.Flights.{is_full};
+
+use crate::{Progress, Request, Requests, Syncs};
+use pc_types::{BlockNo, FileId, HandleId, Kind, PageIndex, Refusal, Serial, SyncId};
+use std::process::Abort;
+
+/// Stops the test where no request may begin.
+fn expect_room(rt: &impl Abort, requests: &Requests)
+    ensures { is_full requests.now ≡ false }
+{
+    assert!(rt; !requests.is_full());
+}
+
+fn begin(rt: &impl Abort, requests: &mut Requests, kind: Kind, file: u64, page: u64) -> Serial {
+    expect_room(rt, requests);
+    requests.begin(kind, FileId(file), PageIndex(page), BlockNo(7))
+}
+
+fn request(kind: Kind, file: u64, page: u64, dropped: bool) -> Request {
+    Request {
+        kind,
+        file: FileId(file),
+        page: PageIndex(page),
+        block: BlockNo(7),
+        dropped,
+    }
+}
+
+// A caller, as README.md has it: begins a flush where one may begin.
+fn flush(requests: &mut Requests, file: FileId, page: PageIndex, block: BlockNo) -> Option<Serial> {
+    if requests.is_full() {
+        return None;
+    }
+    Some(requests.begin(Kind::Flush, file, page, block))
+}
+
+#[test]
+fn serials_count_from_0(rt: HostRuntime) {
+    let mut requests = Requests::new();
+    assert_eq!(rt; requests.next_serial(), Serial(0));
+    assert_eq!(rt; requests.len(), 0);
+    assert_eq!(rt; begin(&rt, &mut requests, Kind::Fill, 0, 3), Serial(0));
+    assert_eq!(rt; begin(&rt, &mut requests, Kind::Flush, 1, 4), Serial(1));
+    assert_eq!(rt; requests.len(), 2);
+    assert_eq!(rt;
+        requests.get(Serial(0)),
+        Some(request(Kind::Fill, 0, 3, false))
+    );
+    assert_eq!(rt;
+        requests.get(Serial(1)),
+        Some(request(Kind::Flush, 1, 4, false))
+    );
+    assert_eq!(rt; requests.get(Serial(2)), None);
+
+    // An end takes the request out once, and its serial is not given again.
+    assert_eq!(rt;
+        requests.end(Serial(0)),
+        Some(request(Kind::Fill, 0, 3, false))
+    );
+    assert_eq!(rt; requests.end(Serial(0)), None);
+    assert_eq!(rt; requests.get(Serial(0)), None);
+    assert_eq!(rt; requests.len(), 1);
+    assert_eq!(rt; begin(&rt, &mut requests, Kind::Fill, 0, 3), Serial(2));
+}
+
+#[test]
+fn a_full_table_ends_in_any_order(rt: HostRuntime) {
+    let mut requests = Requests::new();
+    for page in 0..64u64 {
+        assert_eq!(rt;
+            begin(&rt, &mut requests, Kind::Flush, 0, page),
+            Serial(page)
+        );
+    }
+    assert!(rt; requests.is_full());
+    assert_eq!(rt;
+        flush(&mut requests, FileId(0), PageIndex(64), BlockNo(7)),
+        None
+    );
+    assert_eq!(rt; requests.len(), 64);
+
+    // The odd ones end first, then the even ones from the last.
+    for k in 0..32u64 {
+        assert_eq!(rt;
+            requests.end(Serial(2 * k + 1)),
+            Some(request(Kind::Flush, 0, 2 * k + 1, false))
+        );
+    }
+    assert!(rt; !requests.is_full());
+    for k in 0..32u64 {
+        let serial = 62 - 2 * k;
+        assert_eq!(rt;
+            requests.first_flush(FileId(0), Serial(64)),
+            Some((Serial(0), PageIndex(0)))
+        );
+        assert_eq!(rt;
+            requests.end(Serial(serial)),
+            Some(request(Kind::Flush, 0, serial, false))
+        );
+    }
+    assert_eq!(rt; requests.len(), 0);
+    assert_eq!(rt;
+        flush(&mut requests, FileId(0), PageIndex(64), BlockNo(7)),
+        Some(Serial(64))
+    );
+}
+
+#[test]
+fn a_cut_drops_requests_and_keeps_them(rt: HostRuntime) {
+    let mut requests = Requests::new();
+    begin(&rt, &mut requests, Kind::Flush, 0, 1);
+    begin(&rt, &mut requests, Kind::Flush, 0, 2);
+    begin(&rt, &mut requests, Kind::Fill, 0, 3);
+    begin(&rt, &mut requests, Kind::Flush, 1, 2);
+
+    // Page 1 of file 0 and all pages of file 1 stay.
+    requests.drop_from(FileId(0), PageIndex(2));
+    assert_eq!(rt; requests.len(), 4);
+    assert_eq!(rt;
+        requests.get(Serial(0)),
+        Some(request(Kind::Flush, 0, 1, false))
+    );
+    assert_eq!(rt;
+        requests.get(Serial(1)),
+        Some(request(Kind::Flush, 0, 2, true))
+    );
+    assert_eq!(rt;
+        requests.get(Serial(2)),
+        Some(request(Kind::Fill, 0, 3, true))
+    );
+    assert_eq!(rt;
+        requests.get(Serial(3)),
+        Some(request(Kind::Flush, 1, 2, false))
+    );
+    assert_eq!(rt;
+        requests.end(Serial(1)),
+        Some(request(Kind::Flush, 0, 2, true))
+    );
+}
+
+#[test]
+fn the_oldest_flush_is_awaited_first(rt: HostRuntime) {
+    let mut requests = Requests::new();
+    begin(&rt, &mut requests, Kind::Fill, 0, 5);
+    begin(&rt, &mut requests, Kind::Flush, 1, 6);
+    begin(&rt, &mut requests, Kind::Flush, 0, 9);
+    begin(&rt, &mut requests, Kind::Flush, 0, 8);
+
+    // Fills and other files do not count, nor do requests at or past the bound.
+    assert_eq!(rt;
+        requests.first_flush(FileId(0), Serial(4)),
+        Some((Serial(2), PageIndex(9)))
+    );
+    assert_eq!(rt; requests.first_flush(FileId(0), Serial(2)), None);
+    assert_eq!(rt; requests.first_flush(FileId(2), Serial(4)), None);
+
+    // A dropped flush does not count.
+    requests.drop_from(FileId(0), PageIndex(9));
+    assert_eq!(rt;
+        requests.first_flush(FileId(0), Serial(4)),
+        Some((Serial(3), PageIndex(8)))
+    );
+}
+
+#[test]
+fn syncs_take_the_lowest_number(rt: HostRuntime) {
+    let mut syncs = Syncs::new();
+    for k in 0..64u64 {
+        assert_eq!(rt; syncs.begin(HandleId(k + 100), k), Ok(SyncId(k)));
+    }
+    assert_eq!(rt; syncs.begin(HandleId(1), 0), Err(Refusal::TooManyInFlight));
+    assert!(rt; syncs.uses_handle(HandleId(163)));
+    assert!(rt; !syncs.uses_handle(HandleId(1)));
+    assert_eq!(rt; syncs.get(SyncId(64)), None);
+
+    assert!(rt; syncs.remove(SyncId(5)).is_some());
+    assert!(rt; syncs.remove(SyncId(5)).is_none());
+    assert!(rt; !syncs.uses_handle(HandleId(105)));
+    assert!(rt; syncs.remove(SyncId(3)).is_some());
+    assert_eq!(rt; syncs.begin(HandleId(1), 0), Ok(SyncId(3)));
+    assert_eq!(rt; syncs.begin(HandleId(1), 0), Ok(SyncId(5)));
+}
+
+#[test]
+fn a_sync_moves_its_cursor(rt: HostRuntime) {
+    let mut syncs = Syncs::new();
+    assert_eq!(rt; syncs.begin(HandleId(2), 9), Ok(SyncId(0)));
+    let mut expected = Progress {
+        handle: HandleId(2),
+        cursor: PageIndex(0),
+        failures: 9,
+        bound: None,
+    };
+    assert_eq!(rt; syncs.get(SyncId(0)), Some(expected));
+    syncs.started(SyncId(0), PageIndex(4));
+    expected.cursor = PageIndex(5);
+    assert_eq!(rt; syncs.get(SyncId(0)), Some(expected));
+    syncs.set_bound(SyncId(0), Serial(11));
+    expected.bound = Some(Serial(11));
+    assert_eq!(rt; syncs.get(SyncId(0)), Some(expected));
+
+    // Where there is no such sync nothing is done.
+    syncs.started(SyncId(70), PageIndex(4));
+    syncs.set_bound(SyncId(1), Serial(11));
+    assert_eq!(rt; syncs.get(SyncId(0)), Some(expected));
+    assert_eq!(rt; syncs.remove(SyncId(0)), Some(expected));
+}
