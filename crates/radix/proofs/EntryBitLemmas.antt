@@ -143,7 +143,7 @@ leaf_from None e = absurd (omega (arith, e))
 leaf_from (Some (entry.Leaf value)) e = tt
 leaf_from (Some (entry.Sibling first)) e = absurd (omega (arith, e))
 
-bit_from : (x : Option Entry) → IsLeaf x → leaf_bit x ≡ 1
+pub bit_from : (x : Option Entry) → IsLeaf x → leaf_bit x ≡ 1
 bit_from None e = absurd e
 bit_from (Some (entry.Leaf value)) e = refl
 bit_from (Some (entry.Sibling first)) e = absurd e

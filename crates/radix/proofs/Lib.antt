@@ -1,3 +1,4 @@
+pub mod BesideLemmas
 pub mod BitmapLemmas
 pub mod Places
 pub mod TreeLemmas

@@ -176,6 +176,27 @@ pub record IsNextEntry (s : Slab Node) (from level place : ℕ) : Type 0 where
 pub record HasNoNextEntry (s : Slab Node) (from : ℕ) : Type 0 where
   pub each : (level index : ℕ) → from ≤ index → IsLeaf (entry_at s level (index / 64 ^ level)) → ⊥
 
+-- this entry of one index has the mark, and no entry with it at `from` or a later index comes before. It is in the node of
+-- the lowest level that `from` is in
+pub record IsNextLeaf (s : Slab Node) (mark from place value : ℕ) : Type 0 where
+  pub beside : place / 64 ≡ from / 64
+  pub next : IsNext s mark from 0 place
+  pub entry : entry_at s 0 place ≡ Some (entry.Leaf value)
+
+-- no entry of one index with the mark is at `from` or after it in its node of the lowest level
+pub record HasNoneBeside (s : Slab Node) (mark from : ℕ) : Type 0 where
+  pub each : (at : ℕ) → from ≤ at → at / 64 ≡ from / 64 → mark_at mark s 0 at ≢ 1
+
+-- this entry of one index comes first at `from` or a later index, in the same node
+pub record IsNextEntryLeaf (s : Slab Node) (from place value : ℕ) : Type 0 where
+  pub beside : place / 64 ≡ from / 64
+  pub next : IsNextEntry s from 0 place
+  pub entry : entry_at s 0 place ≡ Some (entry.Leaf value)
+
+-- no entry of one index begins at `from` or after it in its node of the lowest level
+pub record HasNoEntryBeside (s : Slab Node) (from : ℕ) : Type 0 where
+  pub each : (at : ℕ) → from ≤ at → at / 64 ≡ from / 64 → IsLeaf (entry_at s 0 at) → ⊥
+
 -- an entry with the mark
 pub record HasMarked (s : Slab Node) (mark : ℕ) : Type 0 where
   pub level : ℕ

@@ -1,10 +1,10 @@
 //! The next entry with a mark.
 ghost use Rattle.std.specs.Prelude.{◌≡◌, ◌≢◌, ℕ, ◌+◌, ◌*◌, ◌/◌, ◌%◌, ◌^◌, ◌<◌, ◌≤◌, Some, None, MatchOption};
 ghost use Rattle.slab.specs.Slab.{get};
-ghost use Rattle.radix.specs.Entries.{IsNext, HasNoNext};
+ghost use Rattle.radix.specs.Entries.{IsNext, HasNoNext, IsNextLeaf, HasNoneBeside, StandsAt};
 ghost use Rattle.radix.specs.Tree.{IsSound, IsAhead, better_of};
 
-use crate::bitmap::{has_bit, lowest, lowest_above};
+use crate::bitmap::{has_bit, lowest, lowest_above, lowest_from};
 use crate::entry::Position;
 use crate::node::Node;
 use crate::slot::Slot;
@@ -83,5 +83,28 @@ pub(crate) fn next_set(nodes: &Slab<Node>, head: usize, index: u64, mark: usize)
     match best {
         Some((later, offset)) => Some(lowest_under(nodes, head, later, offset, mark, index)),
         None => None,
+    }
+}
+
+// The lowest entry with the mark at an index or later in its node of the lowest level, and its value.
+pub(crate) fn next_in(
+    nodes: &Slab<Node>,
+    head: usize,
+    key: usize,
+    index: u64,
+    mark: usize,
+) -> Option<(u64, u64)>
+    requires mark { mark < 4 }
+    requires sound { IsSound nodes.now head None }
+    requires stands { StandsAt nodes.now key 0 (index / 64 ^ 0 / 64) }
+    ensures { MatchOption result (HasNoneBeside nodes.now mark index) (λ r. IsNextLeaf nodes.now mark index r.0 r.1) }
+{
+    let node = &nodes[key];
+    let Some(offset) = lowest_from(node.marks[mark], (index % 64) as u32) else {
+        return None;
+    };
+    match node.read(offset as usize) {
+        Slot::Leaf(value) => Some((index / 64 * 64 + offset as u64, value)),
+        _ => unreachable!(),
     }
 }

@@ -1,11 +1,12 @@
 -- What the calls of an array of order 0 do to the marked array that it stands for.
-use Rattle.std.proofs.Common.{◌≡◌, ℕ, ◌<◌, Bool, true, false, eqb, Option, Some, None, MatchOption, MatchBool, IsSome, is_some, option_map, refl, sym, ap, ◌∙◌, subst}
+use Rattle.std.proofs.Common.{◌≡◌, ℕ, Bool, true, false, eqb, Option, Some, None, MatchOption, MatchBool, IsSome, is_some, option_map, refl, sym, ap, ◌∙◌, subst}
 use Rattle.std.proofs.Common.{Result, Ok, Err, OnErr, IfErr}
 use Rattle.pc_types.specs.declared.refusal.Refusal.{Refusal}
 use Rattle.pc_types.specs.declared.refusal.Refusal.TheVariants.{Memory}
+use Rattle.std.specs.List.{list_any}
 use Rattle.std.specs.FinMap as map
 use Rattle.std.proofs.lemmas.Bool.{true≢false}
-use Rattle.std.proofs.lemmas.Option.{MatchOption-at_none, none-some, same_Some}
+use Rattle.std.proofs.lemmas.Option.{MatchOption-at_none, none-some}
 use Rattle.slab.specs.Slab.{Slab}
 use Rattle.radix.specs.declared.node.Node.{Node}
 use Rattle.xarray.specs.Flat as flat
@@ -14,7 +15,7 @@ use Rattle.xarray.specs.declared.entry.Mark.{Mark}
 use Rattle.xarray.specs.declared.entry.Found.{Found}
 use Rattle.xarray.specs.MarkedArray.{Array, IsArray, Ranges, after_refusal, entry_at, erased, found_of, has_mark, is_any, is_marked, lowest, mark_number, remarked, stored, unmarked}
 use Rattle.xarray.specs.View.{array_of, ranges_of}
-use Rattle.xarray.proofs.ViewLemmas.{bare_map, any-none, any-some, marked-none, marked-some, free-value, held-value, map-erased, map-inserted, map-remarked, map-same, map-shape, map-stored, map-unmarked, map_bare, mark-entry, value-entry}
+use Rattle.xarray.proofs.ViewLemmas.{bare_map, any-none, any-some, marked-none, marked-some, free-value, held-value, map-erased, map-inserted, map-remarked, map-same, map-shape, map-stored, map-unmarked, map_bare, mark-entry, nowhere-marked, some-marked, value-entry}
 
 -- an array with no room made
 abbrev pub idle : Ranges → Array
@@ -49,6 +50,9 @@ module _ (s : Slab Node) (ready : Option ℕ) (a : Array) (same : array_of s rea
   pub refused-all : {T : Type 0} (r : Result T Refusal) (new : Slab Node) → OnErr r (SameArray s new) → IfErr r (λ why. why ≡ Memory) → IfErr r (λ why. array_of new None ≡ after_refusal why a)
   refused-all (Ok x) new p is = is
   refused-all (Err why) new p is = refused new p why is
+
+  pub reserved-is : (new : Slab Node) → SameArray s new → (index order : ℕ) → order ≡ 0 → array_of new (Some index) ≡ record { ranges = a.ranges; ready = Some (index, order) }
+  reserved-is new p index order is_zero = λ i. record { ranges = kept new p i; ready = Some (index, sym is_zero i) }
 
   pub held : (index : ℕ) → IsSome (entry_at a.ranges index) → IsSome (value_at s index)
   held index some = held-value s index (subst (λ m. IsSome (entry_at m index)) (sym ranges-is) some)
@@ -109,6 +113,14 @@ module _ (s : Slab Node) (ready : Option ℕ) (a : Array) (same : array_of s rea
   mark-read index number mark r names none is =
       mark-entry s index mark r none (is ∙ ap (λ n. eqb (marked_at n s index) 1) names)
       ∙ ap (λ m. is_marked mark (entry_at m index)) ranges-is
+
+  pub any-marked : (number : ℕ) (mark : Mark) (r : Bool) → number ≡ mark_number mark → MatchBool r (flat.IsSomeMarked s number) (flat.IsNoneMarked s number) → r ≡ list_any (has_mark mark) (map.values a.ranges)
+  any-marked number mark true names p =
+      sym (some-marked s mark p.index p.held (ap (λ n. marked_at n s p.index) (sym names) ∙ p.is))
+      ∙ ap (λ m. list_any (has_mark mark) (map.values m)) ranges-is
+  any-marked number mark false names p =
+      sym (nowhere-marked s mark (λ index is. p.each index (ap (λ n. marked_at n s index) names ∙ is)))
+      ∙ ap (λ m. list_any (has_mark mark) (map.values m)) ranges-is
 
   -- ---- searches
 

@@ -1,5 +1,5 @@
 -- Searches of the entries of a finite map by number: they rise, so what a search finds first is the lowest.
-use Rattle.std.proofs.Common.{◌≡◌, ◌≢◌, ℕ, ◌<◌, ◌≤◌, ◌||◌, Bool, true, false, cond, T, List, [], ◌∷◌, Option, Some, None, MatchOption, find, map as map_list, refl, sym, ap, ◌∙◌, inl, inr, arith}
+use Rattle.std.proofs.Common.{◌≡◌, ◌≢◌, ℕ, ◌<◌, ◌≤◌, Bool, true, false, T, List, [], ◌∷◌, Option, Some, None, find, map as map_list, refl, sym, ap, ◌∙◌, inl, inr, arith}
 use Rattle.std.specs.List.{list_any}
 use Rattle.std.specs.Ordering.{nat_cmp, eq_by_cmp, is_lt}
 use Rattle.std.specs.FinMap as map
@@ -56,7 +56,7 @@ module _ {X : Type 0} where
   pub look_there : (q : ℕ) (e : ℕ × X) (es : List (ℕ × X)) → q ≢ e.0 → look q (e ∷ es) ≡ look q es
   look_there q e es differs = cond-false _ _ _ (ne_tie q e.0 differs)
 
-  above_key : (k : ℕ) (es : List (ℕ × X)) → Above k es → (q : ℕ) (y : X) → look q es ≡ Some y → k < q
+  pub above_key : (k : ℕ) (es : List (ℕ × X)) → Above k es → (q : ℕ) (y : X) → look q es ≡ Some y → k < q
   above_key k [] a q y is = absurd (none-some y is)
   above_key k (e ∷ es) a q y is = elim (cases_eq q e.0) [
     | inl same ↦ omega (arith, a.0, same)

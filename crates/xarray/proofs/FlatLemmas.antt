@@ -1,15 +1,14 @@
 -- Lemmas on arrays of order 0.
-use Rattle.std.proofs.Common.{◌≡◌, ◌≢◌, ℕ, ◌/◌, ◌%◌, ◌^◌, ◌<◌, ◌≤◌, Option, Some, None, MatchOption, sym, ap, refl, ◌∙◌, inl, inr, arith}
-use Rattle.std.specs.Int.{bit_at}
+use Rattle.std.proofs.Common.{◌≡◌, ℕ, ◌/◌, ◌^◌, ◌<◌, Option, Some, None, MatchOption, IsSome, sym, ap, refl, ◌∙◌, inl, inr, arith}
 use Rattle.std.proofs.lemmas.Bool.{cases_eq}
 use Rattle.std.proofs.lemmas.Option.{MatchOption-at_none, none-some, same_Some}
 use Rattle.slab.specs.Slab.{Slab}
 use Rattle.radix.specs.declared.node.Node.{Node}
-use Rattle.radix.specs.declared.slot.Slot.{Slot}
 use Rattle.radix.specs.declared.entry.Entry.{Entry}
 use Rattle.radix.specs.declared.entry.Entry.TheVariants.{Leaf, Sibling}
 use Rattle.radix.specs.declared.entry.Position.{Position}
-use Rattle.radix.specs.Entries.{HasNoNext, IsNext, HasNoNextEntry, IsNextEntry, IsLeaf, IsBare, PutsBit, PutsEntry, entry_at, mark_at, content, bit_of, slot, bits, node_at}
+use Rattle.radix.specs.Entries.{HasNoNext, IsNext, HasNoNextEntry, IsNextEntry, IsLeaf, IsBare, PutsBit, PutsEntry, entry_at, mark_at}
+use Rattle.radix.proofs.RunLemmas.{unmarked_none}
 use Rattle.xarray.specs.Flat.{HasNoMarkedIn, HasNoneIn, IsBounded, IsFlat, IsBareArray, value_of, value_at, marked_at}
 
 pub none_marked : (s v : Slab Node) (mark from to : ℕ) (r : Option Position) → s ≡ v → r ≡ None → MatchOption r (HasNoNext s mark from) (λ p. IsNext s mark from p.level p.place) → HasNoMarkedIn v from to mark
@@ -82,3 +81,22 @@ bounded s flat = record {
 
 pub bare_to : (s : Slab Node) → IsBare s → IsBareArray s
 bare_to s bare = record { each = λ index. ap value_of (bare.each 0 (index / 64 ^ 0)) }
+
+-- the same entries are as flat
+pub flat_kept : (old new : Slab Node) → IsFlat old → ((level place : ℕ) → entry_at new level place ≡ entry_at old level place) → IsFlat new
+flat_kept old new flat same = record {
+  upper = λ level place up. same level place ∙ flat.upper level place up;
+  lower = λ place first is. flat.lower place first (sym (same 0 place) ∙ is);
+  within = λ place value is. flat.within place value (sym (same 0 place) ∙ is);
+}
+
+-- ---- a mark stands on a value
+
+module _ (s : Slab Node) (flat : IsFlat s) (mark : ℕ) where
+  leaf_here : (place : ℕ) (x : Option Entry) → entry_at s 0 place ≡ x → mark_at mark s 0 place ≡ 1 → IsSome (value_of x)
+  leaf_here place None is marked = absurd (let e = unmarked_none s mark 0 place is in omega (arith, e, marked))
+  leaf_here place (Some (Leaf value)) is marked = refl
+  leaf_here place (Some (Sibling first)) is marked = absurd (flat.lower place first is)
+
+  pub held_marked : (index : ℕ) → marked_at mark s index ≡ 1 → IsSome (value_at s index)
+  held_marked index marked = leaf_here (index / 64 ^ 0) (entry_at s 0 (index / 64 ^ 0)) refl marked

@@ -1,5 +1,9 @@
 pub mod CallLemmas
+pub mod CountLemmas
 pub mod EntryLemmas
 pub mod FlatLemmas
+pub mod NearLemmas
+pub mod RetagLemmas
+pub mod RetagLoop
 pub mod Singles
 pub mod ViewLemmas

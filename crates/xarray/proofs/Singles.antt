@@ -1,14 +1,14 @@
 -- Arrays whose entries have one index each: what the words of a marked array say there, in terms of the map alone.
-use Rattle.std.proofs.Common.{◌≡◌, ◌≢◌, ℕ, zero, suc, ◌+◌, ◌^◌, ◌<◌, ◌≤◌, ◌&&◌, ◌⊎◌, Bool, true, false, cond, ltb, leb, Option, Some, None, option_map, refl, sym, ap, subst, ◌∙◌, inl, inr, arith, leb-true, ltb-true, le-leb, lt-ltb}
+use Rattle.std.proofs.Common.{◌≡◌, ◌≢◌, ℕ, ◌+◌, ◌^◌, ◌<◌, ◌≤◌, ◌&&◌, ◌⊎◌, Bool, true, cond, ltb, leb, Option, Some, None, option_map, refl, sym, ap, subst, ◌∙◌, inl, inr, arith, leb-true, ltb-true, le-leb, lt-ltb}
 use Rattle.std.specs.Ordering.{nat_cmp, eq_by_cmp}
 use Rattle.std.specs.Cmp.{nat_cmp_total}
 use Rattle.std.specs.FinMap as map
-use Rattle.std.proofs.lemmas.Bool.{cases_eq, cases_Bool, cond-true, cond-false, and_parts, and_from, false_from_ne_true, true≢false}
+use Rattle.std.proofs.lemmas.Bool.{cases_eq, cond-true, cond-false, and_parts, and_from, false_from_ne_true, true≢false}
 use Rattle.std.proofs.lemmas.Option.{none-some, same_Some}
 use Rattle.xarray.specs.declared.entry.Mark.{Mark}
 use Rattle.xarray.specs.declared.entry.Mark.TheVariants.{M0, M1, M2}
-use Rattle.xarray.specs.MarkedArray.{Range, Ranges, entry_at, lowest, stored, erased, remarked, store_at, erase_at, mark_at, in_range, meets, unmarked, with_value, with_mark, has_mark}
-use Rattle.xarray.proofs.EntryLemmas.{IsFirst, entries-rise, eq_tie, first_is, first_none, first_some, ne_tie, none_passes}
+use Rattle.xarray.specs.MarkedArray.{Range, Ranges, entry_at, lowest, stored, erased, remarked, store_at, erase_at, mark_at, in_range, meets, unmarked, with_value, with_mark}
+use Rattle.xarray.proofs.EntryLemmas.{entries-rise, eq_tie, first_is, first_none, first_some, ne_tie, none_passes}
 
 -- every entry has order 0
 pub record AllSingle (m : Ranges) : Type 0 where
@@ -54,7 +54,7 @@ abbrev pub stored_range : ℕ → Option Range → Range
 stored_range value None = unmarked 0 value
 stored_range value (Some r) = with_value value r
 
-same_order : (mark : Mark) (is_set : Bool) (r : Range) → (with_mark mark is_set r).order ≡ r.order
+pub same_order : (mark : Mark) (is_set : Bool) (r : Range) → (with_mark mark is_set r).order ≡ r.order
 same_order M0 is_set r = refl
 same_order M1 is_set r = refl
 same_order M2 is_set r = refl
@@ -185,13 +185,13 @@ module _ (m : Ranges) (single : AllSingle m) where
   -- ---- the lowest entry of a kind
 
   module _ (kind : Range → Bool) (from to : ℕ) where
-    met : (q : ℕ) (r : Range) → map.get m q ≡ Some r → meets from to (q, r) ≡ true → (from ≤ q) × (q ≤ to)
+    pub met : (q : ℕ) (r : Range) → map.get m q ≡ Some r → meets from to (q, r) ≡ true → (from ≤ q) × (q ≤ to)
     met q r is t =
         let a = and_parts (leb from to) (leb q to && ltb from (q + 2 ^ r.order)) t in
         let b = and_parts (leb q to) (ltb from (q + 2 ^ r.order)) a.1 in
         (order_one q from r (single.order q r is) (ltb-true _ _ b.1), leb-true _ _ b.0)
 
-    meeting : (q : ℕ) (r : Range) → map.get m q ≡ Some r → from ≤ q → q ≤ to → meets from to (q, r) ≡ true
+    pub meeting : (q : ℕ) (r : Range) → map.get m q ≡ Some r → from ≤ q → q ≤ to → meets from to (q, r) ≡ true
     meeting q r is low high = and_from _ _ (le-leb from to (omega (arith, low, high))) (and_from _ _ (le-leb q to high) (lt-ltb _ _ (one_order q from r (single.order q r is) low)))
 
     pub lowest-is : (index : ℕ) (r : Range) → IsLowest m kind from to index r → lowest kind m from to ≡ Some (index, r)

@@ -1,9 +1,10 @@
 -- The finite map has what the array has.
-use Rattle.std.proofs.Common.{◌≡◌, ◌≢◌, ℕ, suc, zero, ◌+◌, ◌*◌, ◌/◌, ◌%◌, ◌^◌, ◌<◌, ◌≤◌, ◌⊎◌, Bool, true, false, eqb, leb, ltb, cond, List, [], ◌∷◌, ◌++◌, get_or, Option, Some, None, MatchOption, MatchBool, IsSome, option_map, refl, sym, ap, ◌∙◌, inl, inr, arith, leb-true, ltb-true, le-leb, lt-ltb}
+use Rattle.std.proofs.Common.{◌≡◌, ◌≢◌, ℕ, suc, zero, ◌+◌, ◌*◌, ◌/◌, ◌%◌, ◌^◌, ◌<◌, ◌≤◌, ◌⊎◌, Bool, true, false, eqb, cond, List, [], ◌∷◌, ◌++◌, get_or, Option, Some, None, IsSome, option_map, refl, sym, ap, ◌∙◌, inl, inr, arith, ne_eqb}
 use Rattle.std.specs.Ordering.{nat_cmp, eq_by_cmp}
 use Rattle.std.specs.Cmp.{nat_cmp_total}
+use Rattle.std.specs.List.{list_any}
 use Rattle.std.specs.FinMap as map
-use Rattle.std.proofs.lemmas.Bool.{cases_eq, cases_Bool, cond-true, cond-false, and_parts, and_from, false_from_ne_true, eqb-true}
+use Rattle.std.proofs.lemmas.Bool.{cases_eq, cases_Bool, cond-true, cond-false, false_from_ne_true, eqb-true}
 use Rattle.std.proofs.lemmas.Bool.Decides.{eqb_tells}
 use Rattle.std.proofs.lemmas.Option.{none-some, same_Some}
 use Rattle.slab.specs.Slab.{Slab}
@@ -14,11 +15,10 @@ use Rattle.xarray.specs.Flat as flat
 use Rattle.xarray.specs.Flat.{value_at, marked_at, SameArray}
 use Rattle.xarray.specs.declared.entry.Mark.{Mark}
 use Rattle.xarray.specs.declared.entry.Mark.TheVariants.{M0, M1, M2}
-use Rattle.xarray.specs.declared.entry.Found.{Found}
-use Rattle.xarray.specs.MarkedArray.{IsArray, Range, Ranges, entry_at, erased, found_of, has_mark, in_range, is_any, is_marked, lowest, mark_number, meets, remarked, stored, unmarked, with_mark, with_value}
+use Rattle.xarray.specs.MarkedArray.{IsArray, Range, entry_at, erased, has_mark, is_any, is_marked, lowest, mark_number, remarked, stored, unmarked, with_mark}
 use Rattle.xarray.specs.View.{range_of, range_at, numbers, indexes, add, pick, ranges_of}
-use Rattle.xarray.proofs.EntryLemmas.{entries-rise, eq_tie, first_is, first_none, tie_eq}
-use Rattle.xarray.proofs.Singles.{AllSingle, IsLowest, HasNone, lowest-is, lowest-none, entry_at-none, entry_at-some, erased-remove, remarked-none, remarked-some, stored-none, stored-some}
+use Rattle.xarray.proofs.EntryLemmas.{any_false, any_true, entries-rise, eq_tie, tie_eq}
+use Rattle.xarray.proofs.Singles.{AllSingle, lowest-is, lowest-none, entry_at-none, entry_at-some, erased-remove, remarked-none, remarked-some, stored-none, stored-some}
 
 abbrev Among : ℕ → List ℕ → Type 0
 Among q [] = ⊥
@@ -129,7 +129,7 @@ some_value None a b c r e = absurd (none-some r e)
 some_value (Some v) a b c r e = ap (λ (z : Range). Some z.value) (same_Some _ r e)
 
 -- what an index with this value has
-abbrev range_with : Slab Node → ℕ → ℕ → Range
+abbrev pub range_with : Slab Node → ℕ → ℕ → Range
 range_with s index value = record { order = 0; value = value; first_mark = eqb (marked_at 0 s index) 1; second_mark = eqb (marked_at 1 s index) 1; third_mark = eqb (marked_at 2 s index) 1 }
 
 module _ (s : Slab Node) where
@@ -260,6 +260,23 @@ mark-entry s index mark r none is = by_value (value_at s index) refl
     by_value : (o : Option ℕ) → value_at s index ≡ o → r ≡ is_marked mark (entry_at (ranges_of s) index)
     by_value None e = none e ∙ sym (ap (is_marked mark) (entry-none s index e))
     by_value (Some v) e = is ∙ sym (mark-with s index v mark) ∙ sym (ap (is_marked mark) (entry-some s index v e))
+
+-- ---- whether any entry has a mark
+
+pub some-marked : (s : Slab Node) (mark : Mark) (index : ℕ) → IsSome (value_at s index) → marked_at (mark_number mark) s index ≡ 1 → list_any (has_mark mark) (map.values (ranges_of s)) ≡ true
+some-marked s mark index some is = by_value (value_at s index) refl
+  where
+    by_value : (o : Option ℕ) → value_at s index ≡ o → list_any (has_mark mark) (map.values (ranges_of s)) ≡ true
+    by_value None e = absurd (cc)
+    by_value (Some v) e =
+        any_true (has_mark mark) (map.entries (ranges_of s)) index (range_with s index v)
+        (sym (map.get-entries (ranges_of s) index) ∙ get-ranges_of s index ∙ range-with s index v e)
+        (mark-with s index v mark ∙ ap (λ b. eqb b 1) is)
+
+pub nowhere-marked : (s : Slab Node) (mark : Mark) → ((index : ℕ) → marked_at (mark_number mark) s index ≢ 1) → list_any (has_mark mark) (map.values (ranges_of s)) ≡ false
+nowhere-marked s mark never =
+    any_false (has_mark mark) (map.entries (ranges_of s)) (entries-rise (ranges_of s))
+    (λ q r has. mark-is s q mark r (sym (get-ranges_of s q) ∙ map.get-entries (ranges_of s) q ∙ has) ∙ ne_eqb _ _ (never q))
 
 -- ---- searches
 

@@ -1,5 +1,5 @@
 -- An array of order 0: each entry stands in one slot of the lowest level of radix nodes.
-use Rattle.std.specs.Prelude.{◌≡◌, ◌≢◌, ℕ, ◌/◌, ◌^◌, ◌<◌, ◌≤◌, ◌==◌, Bool, Option, Some, None}
+use Rattle.std.specs.Prelude.{◌≡◌, ◌≢◌, ℕ, ◌/◌, ◌^◌, ◌<◌, ◌≤◌, Option, Some, None, IsSome}
 use Rattle.slab.specs.Slab.{Slab}
 use Rattle.radix.specs.declared.node.Node.{Node}
 use Rattle.radix.specs.declared.entry.Entry.{Entry}
@@ -76,7 +76,17 @@ pub record IsFirst (s : Slab Node) (from to index value : ℕ) : Type 0 where
 -- some index has the mark
 pub record IsSomeMarked (s : Slab Node) (mark : ℕ) : Type 0 where
   pub index : ℕ
+  pub held : IsSome (value_at s index)
   pub is : marked_at mark s index ≡ 1
+
+-- the lowest index from `from` to `to` with the mark has this other mark now, and all else stays
+pub record TagsNext (old new : Slab Node) (from to mark other index : ℕ) : Type 0 where
+  pub low : from ≤ index
+  pub high : index ≤ to
+  pub held : IsSome (value_at old index)
+  pub marked : marked_at mark old index ≡ 1
+  pub first : (at : ℕ) → from ≤ at → at ≤ to → marked_at mark old at ≡ 1 → index ≤ at
+  pub marks : Marks old new other index 1
 
 -- no index has the mark
 pub record IsNoneMarked (s : Slab Node) (mark : ℕ) : Type 0 where

@@ -1,8 +1,9 @@
 //! The array as its caller sees it: a finite map of ranges.
-ghost use Rattle.std.specs.Prelude.{◌≡◌, ◌<◌, ◌≤◌, ◌^◌, ◌↔◌, Some, None, Err, IfOk, OnOk, OnErr, IfErr, IsOk, IsSome, option_map, true, false};
+ghost use Rattle.std.specs.Prelude.{◌≡◌, ◌<◌, ◌≤◌, ◌^◌, ◌↔◌, ◌-◌, min, Some, None, Err, IfOk, OnOk, OnErr, IfErr, IsOk, IsSome, option_map, true, false};
+ghost use Rattle.std.specs.List.{list_any};
 ghost use Rattle.pc_types.specs.declared.refusal.Refusal.{Refusal};
 ghost use Rattle.std.specs.FinMap as map;
-ghost use Rattle.xarray.specs.MarkedArray.{IsArray, after_refusal, entry_at, erased, found_of, has_mark, is_any, is_marked, lowest, remarked, stored, unmarked};
+ghost use Rattle.xarray.specs.MarkedArray.{IsArray, after_refusal, count_of, entry_at, erased, found_of, has_mark, is_any, is_marked, lowest, remarked, retagged, stored, unmarked};
 
 use crate::entry::{Found, Mark};
 use crate::flat::Flat;
@@ -57,6 +58,24 @@ impl XArray {
         ensures { result ≡ option_map (λ e. e.1.value) (entry_at self.now.ranges index) }
     {
         self.flat.load(index)
+    }
+
+    /// Makes room for a store or an insert at an index, which then meets no want of memory if it is the next change. Only
+    /// order 0 is served.
+    pub fn reserve(&mut self, index: u64, order: u32) -> Result<(), Refusal>
+        ensures reserves { OnOk result (self.new ≡ record self.old { ready = Some (index, order) }) }
+        ensures bad { 0 < order → result ≡ Err Refusal.BadOrder }
+        ensures memory { order ≡ 0 → IfErr result (λ refusal. refusal ≡ Refusal.Memory) }
+        ensures refused { IfErr result (λ refusal. self.new ≡ after_refusal refusal self.old) }
+        ensures kept { OnErr result (self.new.ranges ≡ self.old.ranges) }
+    {
+        if order > 0 {
+            return Err(Refusal::BadOrder);
+        }
+        self.ready = None;
+        self.flat.reserve(index)?;
+        self.ready = Some(index);
+        Ok(())
     }
 
     /// Stores a value, at most `MAX_VALUE`, and answers the one before.
@@ -145,6 +164,13 @@ impl XArray {
         self.flat.get_mark(index, mark.number())
     }
 
+    /// Whether any entry has the mark.
+    pub fn marked(&self, mark: Mark) -> bool
+        ensures { result ≡ list_any (has_mark mark) (map.values self.now.ranges) }
+    {
+        self.flat.marked(mark.number())
+    }
+
     /// The lowest entry whose range meets the indexes from `from` to `to`.
     pub fn find(&self, from: u64, to: u64) -> Option<Found>
         ensures { result ≡ option_map found_of (lowest is_any self.now.ranges from to) }
@@ -171,5 +197,27 @@ impl XArray {
             order: 0,
             value,
         })
+    }
+
+    /// Sets the mark `other` of every entry with the mark whose range meets the indexes from `from` to `to`, and answers how
+    /// many they are. It goes from one marked entry to the next.
+    pub fn retag(&mut self, from: u64, to: u64, mark: Mark, other: Mark) -> u64
+        // Only all 2^64 indexes together are more than a `u64` can count.
+        ensures count { result ≡ min (count_of self.old.ranges from to mark) (2 ^ 64 - 1) }
+        ensures retags { self.new ≡ record { ranges = retagged self.old.ranges from to mark other; ready = None } }
+    {
+        self.ready = None;
+        let mut count: u64 = 0;
+        let mut next = from;
+        'entries: loop {
+            let Some(index) = self.flat.tag_next(next, to, mark.number(), other.number()) else {
+                return count;
+            };
+            count = count.saturating_add(1);
+            if index == to {
+                return count;
+            }
+            next = index + 1;
+        }
     }
 }

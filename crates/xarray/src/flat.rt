@@ -2,7 +2,7 @@
 ghost use Rattle.std.specs.Prelude.{◌≡◌, ◌≢◌, ℕ, ◌/◌, ◌^◌, ◌<◌, ◌≤◌, ◌==◌, ◌↔◌, Some, None, IfOk, OnOk, OnErr, IfErr, IsOk, IsSome, MatchOption, MatchBool, IsTrue, false};
 ghost use Rattle.pc_types.specs.declared.refusal.Refusal.{Refusal};
 ghost use Rattle.radix.specs.Entries.{HasPathRoom, IsBare, node_count};
-ghost use Rattle.xarray.specs.Flat.{value_at, marked_at, SameArray, Stores, Erases, Marks, HasNoMarkedIn, IsFirstMarked, HasNoneIn, IsFirst, IsSomeMarked, IsNoneMarked, IsBareArray, IsBounded};
+ghost use Rattle.xarray.specs.Flat.{value_at, marked_at, SameArray, Stores, Erases, Marks, HasNoMarkedIn, IsFirstMarked, HasNoneIn, IsFirst, IsSomeMarked, IsNoneMarked, IsBareArray, IsBounded, TagsNext};
 
 use pc_types::Refusal;
 use radix::{Cursor, Entry, Nodes};
@@ -164,8 +164,24 @@ impl Flat {
         Some(before)
     }
 
-    /// The lowest index from `from` to `to` with a value, and the value.
+    /// The lowest index from `from` to `to` with a value, and the value. Most often it is in the node of `from`, and then
+    /// one walk does.
     pub fn find(&self, from: u64, to: u64) -> Option<(u64, u64)>
+        ensures { MatchOption result (HasNoneIn self.now from to) (λ r. IsFirst self.now from to r.0 r.1) }
+    {
+        if let Some(cursor) = self.nodes.seek(from, 0) {
+            if let Some((index, value)) = self.nodes.next_entry_in(cursor, from) {
+                if index > to {
+                    return None;
+                }
+                return Some((index, value));
+            }
+        }
+        self.find_far(from, to)
+    }
+
+    // The same by a search of the tree.
+    fn find_far(&self, from: u64, to: u64) -> Option<(u64, u64)>
         ensures { MatchOption result (HasNoneIn self.now from to) (λ r. IsFirst self.now from to r.0 r.1) }
     {
         let Some(next) = self.nodes.next_entry(from) else {
@@ -185,6 +201,22 @@ impl Flat {
         requires { mark < 3 }
         ensures { MatchOption result (HasNoMarkedIn self.now from to mark) (λ r. IsFirstMarked self.now from to mark r.0 r.1) }
     {
+        if let Some(cursor) = self.nodes.seek(from, 0) {
+            if let Some((index, value)) = self.nodes.next_set_in(cursor, from, mark) {
+                if index > to {
+                    return None;
+                }
+                return Some((index, value));
+            }
+        }
+        self.find_marked_far(from, to, mark)
+    }
+
+    // The same by a search of the tree.
+    fn find_marked_far(&self, from: u64, to: u64, mark: usize) -> Option<(u64, u64)>
+        requires { mark < 3 }
+        ensures { MatchOption result (HasNoMarkedIn self.now from to mark) (λ r. IsFirstMarked self.now from to mark r.0 r.1) }
+    {
         let Some(next) = self.nodes.next_set(from, mark) else {
             return None;
         };
@@ -195,6 +227,43 @@ impl Flat {
             Some(Entry::Leaf(value)) => Some((next.place, value)),
             _ => unreachable!(),
         }
+    }
+
+    /// Sets the mark `other` of the lowest index from `from` to `to` with the mark, and answers the index.
+    pub fn tag_next(&mut self, from: u64, to: u64, mark: usize, other: usize) -> Option<u64>
+        requires mark { mark < 3 }
+        requires other { other < 3 }
+        ensures { MatchOption result (HasNoMarkedIn self.old from to mark × (self.new ≡ self.old)) (λ index. TagsNext self.old self.new from to mark other index) }
+    {
+        if let Some(cursor) = self.nodes.seek(from, 0) {
+            if let Some((index, _)) = self.nodes.next_set_in(cursor, from, mark) {
+                if index > to {
+                    return None;
+                }
+                self.nodes.set_bit(cursor, index, 0, other);
+                return Some(index);
+            }
+        }
+        self.tag_next_far(from, to, mark, other)
+    }
+
+    // The same by a search of the tree.
+    fn tag_next_far(&mut self, from: u64, to: u64, mark: usize, other: usize) -> Option<u64>
+        requires mark { mark < 3 }
+        requires other { other < 3 }
+        ensures { MatchOption result (HasNoMarkedIn self.old from to mark × (self.new ≡ self.old)) (λ index. TagsNext self.old self.new from to mark other index) }
+    {
+        let Some(next) = self.nodes.next_set(from, mark) else {
+            return None;
+        };
+        if next.place > to {
+            return None;
+        }
+        let Some(cursor) = self.nodes.seek(next.place, 0) else {
+            unreachable!()
+        };
+        self.nodes.set_bit(cursor, next.place, 0, other);
+        Some(next.place)
     }
 
     /// Whether any entry has the mark.

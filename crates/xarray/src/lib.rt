@@ -10,6 +10,8 @@
 mod array;
 mod entry;
 mod flat;
+#[cfg(test)]
+mod tests;
 
 pub use array::{MAX_VALUE, XArray};
 pub use entry::{Found, Mark};

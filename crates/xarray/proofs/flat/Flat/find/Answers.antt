@@ -1,5 +1,8 @@
-use Rattle.xarray.proofs.FlatLemmas.{none_in}
+use Rattle.xarray.proofs.NearLemmas.{first_near, none_near}
 use Rattle.xarray.proofs.flat.Flat.find.Goals as goal
 
-pub returns-in_default : goal.returns-in_default
-returns-in_default c = none_in c.self.inside.nodes c.args.self.now c.args.from c.args.to c.next_entry.result c.self.view_is c.in_default.is c.next_entry.ensures
+pub returns-then-index-to : goal.returns-then-index-to
+returns-then-index-to c = rw (c.self.view_is) at (none_near c.self.inside.nodes c.args.from c.args.to c.in-Some-next_entry_in.index c.in-Some-next_entry_in.value c.in-Some-next_entry_in.ensures c.if-index-to.true)
+
+pub returns-in-Some-next_entry_in : goal.returns-in-Some-next_entry_in
+returns-in-Some-next_entry_in c = rw (c.self.view_is) at (first_near c.self.inside.nodes c.args.from c.args.to c.in-Some-next_entry_in.index c.in-Some-next_entry_in.value c.in-Some-next_entry_in.ensures c.if-index-to.false)

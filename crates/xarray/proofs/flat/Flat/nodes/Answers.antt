@@ -1,4 +1,4 @@
-use Rattle.std.proofs.Common.{sym, ◌∙◌}
+use Rattle.std.proofs.Common.{sym}
 use Rattle.xarray.proofs.FlatLemmas.{bare_from, bare_to, bounded}
 use Rattle.xarray.proofs.flat.Flat.nodes.Goals as goal
 

@@ -1,0 +1,13 @@
+use Rattle.std.proofs.Common.{◌≡◌, ◌+◌, ◌-◌, ◌<◌, ◌^◌, None}
+use Rattle.xarray.proofs.RetagLoop.{Goes}
+use Rattle.xarray.proofs.array.XArray.retag.Given as goal
+
+abbrev pub invariant-entries : goal.invariant-entries
+invariant-entries l = record {
+  idle : l.self-inside.ready ≡ None;
+  goes : Goes l.self-inside.flat l.next l.fn.self.ranges l.from l.to l.mark l.other l.count;
+  small : l.count < 2 ^ 64;
+}
+
+abbrev pub decreases-entries : goal.decreases-entries
+decreases-entries l = l.to + 1 - l.next

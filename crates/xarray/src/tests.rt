@@ -1,0 +1,199 @@
+//! The array's calls row by row, its ends, and each call once more beside what a table of a few entries says.
+
+ghost use Rattle.std.specs.Prelude.{◌≡◌, OnOk, true};
+ghost use Rattle.std.specs.FinMap as map;
+ghost use Rattle.xarray.specs.MarkedArray.{remarked, unmarked};
+
+use crate::{Found, MAX_VALUE, Mark, XArray};
+use pc_types::Refusal;
+use std::process::Abort;
+use std::test::Fail;
+
+const ALL: u64 = u64::MAX;
+
+fn assert_fresh(rt: &impl Abort, array: &mut XArray, index: u64, value: u64) {
+    assert_eq!(rt; array.store(index, value), Ok(None));
+}
+
+fn assert_marks(rt: &impl Abort, array: &mut XArray, index: u64, mark: Mark) {
+    assert_eq!(rt; array.set_mark(index, mark), Ok(()));
+}
+
+fn one(first: u64, value: u64) -> Option<Found> {
+    Some(Found {
+        first,
+        order: 0,
+        value,
+    })
+}
+
+// Entries at 3, 70 and 4096, as the tests begin.
+fn three(rt: &impl Abort, array: &mut XArray) {
+    assert_fresh(rt, array, 3, 1);
+    assert_fresh(rt, array, 70, 2);
+    assert_fresh(rt, array, 4096, 3);
+}
+
+// Marks are found from the lowest on, and go with their entry; the rest of the row is refusals.
+#[test]
+fn marks_are_found_in_order(rt: HostRuntime) -> Result<(), Fail> {
+    let mut array = XArray::new(rt.alloc());
+    three(&rt, &mut array);
+    assert_marks(&rt, &mut array, 70, Mark::M0);
+    assert_marks(&rt, &mut array, 4096, Mark::M0);
+    assert_eq!(rt; array.find_marked(0, ALL, Mark::M0), one(70, 2));
+    array.clear_mark(70, Mark::M0);
+    assert_eq!(rt; array.find_marked(0, ALL, Mark::M0), one(4096, 3));
+    assert_eq!(rt; array.erase(4096), Some(3));
+    assert!(rt; !array.marked(Mark::M0));
+    assert_eq!(rt; array.find(4, ALL), one(70, 2));
+    assert_eq!(rt; array.retag(0, 70, Mark::M0, Mark::M1), 0);
+    assert_eq!(rt; array.store(70, 5), Ok(Some(2)));
+    assert_eq!(rt; array.set_mark(9, Mark::M0), Err(Refusal::NoEntry));
+    assert_eq!(rt; array.insert(3, 8), Err(Refusal::Busy));
+    assert_eq!(rt; array.reserve(9, 0), Ok(()));
+    assert_eq!(rt; array.insert(9, 8), Ok(()));
+    Ok(())
+}
+
+// The greatest index has an entry as any other, and an array without entries has no node.
+#[test]
+fn greatest_index_comes_and_goes(rt: HostRuntime) -> Result<(), Fail> {
+    let mut array = XArray::new(rt.alloc());
+    assert_eq!(rt; array.store(ALL, 1), Ok(None));
+    assert_eq!(rt; array.load(ALL), Some(1));
+    assert_eq!(rt; array.erase(ALL), Some(1));
+    assert_eq!(rt; array.nodes(), 0);
+    Ok(())
+}
+
+// A value has 63 bits. The test of the value comes before that of the entry.
+#[test]
+fn greatest_value_is_kept(rt: HostRuntime) -> Result<(), Fail> {
+    let mut array = XArray::new(rt.alloc());
+    assert_eq!(rt;
+        array.store(5, 9_223_372_036_854_775_808),
+        Err(Refusal::BadEntry)
+    );
+    assert_eq!(rt; array.insert(5, ALL), Err(Refusal::BadEntry));
+    assert_eq!(rt; array.load(5), None);
+    assert_eq!(rt; array.insert(5, MAX_VALUE), Ok(()));
+    assert_eq!(rt; array.load(5), Some(MAX_VALUE));
+    assert_eq!(rt; array.insert(5, ALL), Err(Refusal::BadEntry));
+    Ok(())
+}
+
+// A retag counts the entries with the mark, also those that have the other mark already, and leaves those past its end.
+#[test]
+fn retag_counts_its_entries(rt: HostRuntime) -> Result<(), Fail> {
+    let mut array = XArray::new(rt.alloc());
+    three(&rt, &mut array);
+    assert_marks(&rt, &mut array, 3, Mark::M1);
+    assert_marks(&rt, &mut array, 70, Mark::M1);
+    assert_marks(&rt, &mut array, 70, Mark::M2);
+    assert_marks(&rt, &mut array, 4096, Mark::M1);
+    assert_eq!(rt; array.retag(3, 4095, Mark::M1, Mark::M2), 2);
+    assert!(rt; array.get_mark(3, Mark::M2));
+    assert!(rt; array.get_mark(3, Mark::M1));
+    assert!(rt; !array.get_mark(4096, Mark::M2));
+    assert_eq!(rt; array.retag(4, 3, Mark::M1, Mark::M2), 0);
+    assert_eq!(rt; array.retag(0, ALL, Mark::M1, Mark::M1), 3);
+    Ok(())
+}
+
+// A search ends at its end, which it includes, and from above its end it finds nothing.
+#[test]
+fn search_ends_at_its_end(rt: HostRuntime) -> Result<(), Fail> {
+    let mut array = XArray::new(rt.alloc());
+    three(&rt, &mut array);
+    assert_marks(&rt, &mut array, 70, Mark::M2);
+    assert_eq!(rt; array.find(4, 69), None);
+    assert_eq!(rt; array.find(4, 70), one(70, 2));
+    assert_eq!(rt; array.find(70, 3), None);
+    assert_eq!(rt; array.find_marked(0, 69, Mark::M2), None);
+    assert_eq!(rt; array.find_marked(70, 70, Mark::M2), one(70, 2));
+    Ok(())
+}
+
+// A store over an entry keeps its marks; a store where one was taken away has none.
+#[test]
+fn store_keeps_marks(rt: HostRuntime) -> Result<(), Fail> {
+    let mut array = XArray::new(rt.alloc());
+    three(&rt, &mut array);
+    assert_marks(&rt, &mut array, 3, Mark::M0);
+    assert_eq!(rt; array.store(3, 9), Ok(Some(1)));
+    assert!(rt; array.get_mark(3, Mark::M0));
+    assert_eq!(rt; array.erase(3), Some(9));
+    assert_eq!(rt; array.store(3, 4), Ok(None));
+    assert!(rt; !array.get_mark(3, Mark::M0));
+    Ok(())
+}
+
+// Orders above 0 are refused, also where the index is a multiple of the range's length.
+#[test]
+fn only_order_0_is_served(rt: HostRuntime) -> Result<(), Fail> {
+    let mut array = XArray::new(rt.alloc());
+    assert_eq!(rt; array.reserve(0, 1), Err(Refusal::BadOrder));
+    assert_eq!(rt; array.reserve(0, 64), Err(Refusal::BadOrder));
+    assert_eq!(rt; array.reserve(ALL, 0), Ok(()));
+    assert_eq!(rt; array.nodes(), 0);
+    Ok(())
+}
+
+// Whatever is stored is there and is taken away, at indexes that share nodes and at indexes that do not.
+#[test]
+fn dense_and_sparse_indexes(rt: HostRuntime) -> Result<(), Fail> {
+    let mut array = XArray::new(rt.alloc());
+    for step in [1u64, 64, 4097, 281_474_976_710_657] {
+        for k in 0..200u64 {
+            let index = k.wrapping_mul(step);
+            assert_eq!(rt; array.store(index, k), Ok(None));
+            assert_eq!(rt; array.load(index), Some(k));
+        }
+        for k in 0..200u64 {
+            let index = k.wrapping_mul(step);
+            assert_eq!(rt; array.find(0, ALL), one(index, k));
+            assert_eq!(rt; array.erase(index), Some(k));
+        }
+        assert_eq!(rt; array.nodes(), 0);
+    }
+    Ok(())
+}
+
+// Puts an entry, and marks it as changed.
+fn put_changed(array: &mut XArray, index: u64, value: u64) -> Result<(), Refusal>
+    ensures { OnOk result (array.new.ranges ≡ remarked (map.insert array.old.ranges index (unmarked 0 value)) index Mark.M0 true) }
+{
+    array.insert(index, value)?;
+    array.set_mark(index, Mark::M0)
+}
+
+// Takes the first changed entry off the pass, and answers its value.
+fn take_one(array: &mut XArray) -> Option<u64> {
+    let found = array.find_marked(0, u64::MAX, Mark::M1)?;
+    array.clear_mark(found.first, Mark::M0);
+    array.clear_mark(found.first, Mark::M1);
+    Some(found.value)
+}
+
+// Goes over what had changed as the pass began, and answers the sum of the values.
+fn sweep(array: &mut XArray) -> u64 {
+    let mut sum = 0u64;
+    for _ in 0..array.retag(0, u64::MAX, Mark::M0, Mark::M1) {
+        sum = sum.wrapping_add(take_one(array).unwrap_or(0));
+    }
+    sum
+}
+
+// A pass sees each changed entry once, and leaves none changed.
+#[test]
+fn sweep_takes_each_once(rt: HostRuntime) -> Result<(), Fail> {
+    let mut array = XArray::new(rt.alloc());
+    assert_eq!(rt; put_changed(&mut array, 5, 40), Ok(()));
+    assert_eq!(rt; put_changed(&mut array, 9000, 2), Ok(()));
+    assert_fresh(&rt, &mut array, 6, 100);
+    assert_eq!(rt; sweep(&mut array), 42);
+    assert_eq!(rt; sweep(&mut array), 0);
+    assert_eq!(rt; array.load(9000), Some(2));
+    Ok(())
+}
