@@ -1,5 +1,5 @@
 -- What the words of a command must be, by its name.
-use Rattle.std.proofs.Common.{◌≡◌, ◌≢◌, ℕ, ◌≤◌, List, [], ◌∷◌, Bool, true, false, cond, length, drop, refl, sym, ap, subst, ◌∙◌, arith}
+use Rattle.std.proofs.Common.{◌≡◌, ◌≢◌, ℕ, ◌≤◌, List, [], ◌∷◌, drop, refl, sym, ap, subst, ◌∙◌}
 use Rattle.std.specs.Prelude.{codes, if◌then◌else◌}
 use Rattle.std.specs.Str.{bytes_eq}
 use Rattle.std.proofs.lemmas.Fmt.{decimal_injective}
@@ -10,7 +10,7 @@ use Rattle.pcache.specs.declared.command.TheConstants.{MAX_READ}
 use Rattle.pcache.specs.declared.keyword.Keyword.{Keyword}
 use Rattle.pcache.specs.declared.keyword.Keyword.TheVariants.{Config, Create, Open, Close, Size, Read, Write, Append, Fill, Tags}
 use Rattle.pcache.specs.Keywords.{name_of}
-use Rattle.pcache.specs.Commands.{Part, Name, Number, Hex, Is, Begins, parts_of, Asks}
+use Rattle.pcache.specs.Commands.{Part, Name, Number, Hex, Begins, parts_of, Asks}
 
 -- ---- names
 
@@ -140,48 +140,6 @@ asks k words (command.Step (step.Write h o b)) asked = let s = named_parts k wor
 asks k words (command.Step (step.Append h b)) asked = let s = named_parts k words [] (command.Step (step.Append h b)) asked.0 in subst (λ j. Follows j words) s.0 (h.0, b, record { begins = s.1 })
 asks k words (command.Step (step.FillBegin h p)) asked = let s = named_parts k words [] (command.Step (step.FillBegin h p)) asked.0 in subst (λ j. Follows j words) s.0 (h.0, p.0, record { begins = s.1 })
 asks k words (command.Tags f p) asked = let s = named_parts k words [] (command.Tags f p) asked.0 in subst (λ j. Follows j words) s.0 (f.0, p.0, record { begins = s.1 })
-
--- ---- nothing follows
-
--- parts of one number take words of one number
-same_rest : (parts others : List Part) (words rest end : List (List ℕ)) → length parts ≡ length others → Begins words parts rest → Begins words others end → rest ≡ end
-same_rest [] [] words rest end e b c = sym b ∙ c
-same_rest [] (q ∷ qs) words rest end e b c = absurd (omega arith)
-same_rest (p ∷ ps) [] words rest end e b c = absurd (omega arith)
-same_rest (p ∷ ps) (q ∷ qs) words rest end e (w, more, at, is, b) (v, more', at', is', c) =
-    same_rest ps qs more rest end (omega arith) b (subst (λ ws. Begins ws qs end) (sym (tail_eq _ _ _ _ (sym at ∙ at'))) c)
-
-count_of : Keyword → ℕ
-count_of Config = 5
-count_of Create = 1
-count_of Open = 2
-count_of Close = 2
-count_of Size = 2
-count_of Read = 4
-count_of Write = 4
-count_of Append = 3
-count_of Fill = 3
-count_of Tags = 3
-
-length-parts_of : (c : Command) → length (parts_of c) ≡ count_of (keyword_of c)
-unfolding keyword_of count_of
-length-parts_of (command.Config a b c d) = refl
-length-parts_of (command.Step step.Create) = refl
-length-parts_of (command.Step (step.Open f)) = refl
-length-parts_of (command.Step (step.Close h)) = refl
-length-parts_of (command.Step (step.Size h)) = refl
-length-parts_of (command.Step (step.Read h o n)) = refl
-length-parts_of (command.Step (step.Write h o b)) = refl
-length-parts_of (command.Step (step.Append h b)) = refl
-length-parts_of (command.Step (step.FillBegin h p)) = refl
-length-parts_of (command.Tags f p) = refl
-
--- where words are left after one command of a name, the words are no other command
-pub ends : (k : Keyword) (words rest : List (List ℕ)) (c other : Command) → Begins (name_of k ∷ words) (parts_of c) rest → Asks (name_of k ∷ words) other → rest ≡ []
-ends k words rest c other b a =
-    let mine = (named_parts k words rest c b).0 in
-    let others = (named_parts k words [] other a.0).0 in
-    same_rest (parts_of c) (parts_of other) _ rest [] (length-parts_of c ∙ ap count_of (mine ∙ sym others) ∙ sym (length-parts_of other)) b a.0
 
 -- a first word that is no name begins no command
 pub unnamed : (word : List ℕ) (words : List (List ℕ)) (c : Command) → ((k : Keyword) → name_of k ≢ word) → ¬ (Asks (word ∷ words) c)

@@ -1,5 +1,5 @@
 -- The first line of a reader's bytes, taken part by part.
-use Rattle.std.proofs.Common.{◌≡◌, ◌≢◌, ℕ, zero, suc, ◌+◌, ◌-◌, ◌<◌, ◌≤◌, Bool, true, false, not, eqb, List, [], ◌∷◌, ◌++◌, Option, Some, None, IfSome, MatchBool, All, cond, length, get_or, take, drop, refl, sym, ap, subst, ◌∙◌, arith, zero-add}
+use Rattle.std.proofs.Common.{◌≡◌, ◌≢◌, ℕ, ◌+◌, ◌-◌, ◌<◌, ◌≤◌, Bool, true, false, not, List, [], ◌∷◌, ◌++◌, Option, Some, None, IfSome, MatchBool, All, cond, length, get_or, take, drop, refl, sym, ap, subst, ◌∙◌, arith, zero-add}
 use Rattle.std.specs.Prelude.{nat_lt, if◌then◌else◌}
 use Rattle.std.specs.List.{position, position_or_len, before_first, after_first}
 use Rattle.std.specs.Io.KnownBytes.{Keeps, Consumes}
@@ -10,7 +10,7 @@ use Rattle.std.proofs.lemmas.List.Elements.{All-head, All-tail, All-append}
 use Rattle.std.proofs.lemmas.List.Sums.{fails_before_first, prefix_len_stops, prefix_len-le-length}
 use Rattle.std.proofs.lemmas.List.Folds.{prefix_len-append, length-prefix_len}
 use Rattle.pcache.specs.declared.lines.Fetched.{Fetched}
-use Rattle.pcache.specs.declared.lines.Fetched.TheVariants.{Line, TooLong, End}
+use Rattle.pcache.specs.declared.lines.Fetched.TheVariants.{Line, End}
 use Rattle.pcache.specs.declared.lines.TheConstants.{MAX_LINE}
 use Rattle.pcache.specs.Lines.{is_newline, Fetches, HasBegun}
 use Rattle.pcache.proofs.WordLemmas.{cond_Some, cond_None}
@@ -83,12 +83,6 @@ rest_is xs rest e = cc
 
 no_rest : (rest : List ℕ) → None ≡ Some rest → ⊥
 no_rest rest e = cc
-
--- a look that took nothing
-pub kept : (bytes start : List ℕ) (a b : Option (List ℕ)) → HasBegun bytes start a → Keeps a b → HasBegun bytes start b
-kept bytes start None b begun keeps = absurd (no_rest begun.0 begun.1)
-kept bytes start (Some xs) None begun keeps = absurd keeps
-kept bytes start (Some xs) (Some ys) begun keeps = (begun.0, ap Some keeps ∙ begun.1, begun.2, begun.3)
 
 -- the rest of the line was there, and its end
 pub line_ended : (bytes start s : List ℕ) (n : ℕ) (a c : Option (List ℕ)) → HasBegun bytes start a → position_or_len is_newline s ≡ n → n < length s

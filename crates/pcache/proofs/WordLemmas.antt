@@ -1,17 +1,14 @@
 -- Numbers and words of a line.
-use Rattle.std.proofs.Common.{◌≡◌, ◌≢◌, ℕ, zero, suc, ◌+◌, ◌-◌, ◌<◌, ◌≤◌, ◌^◌, Bool, true, false, not, List, [], ◌∷◌, Option, Some, None, Result, Ok, Err, cond, length, get_or, take, drop, refl, sym, ap, subst, ◌∙◌, arith, rules, MatchResult, IfSome, IfNone}
-use Rattle.std.specs.Prelude.{nat_lt, decimal}
-use Rattle.std.specs.List.{position, position_or_len, slice_split, onto_first}
-use Rattle.std.specs.Option.{SomeIff}
-use Rattle.std.specs.Result.{OkIff}
+use Rattle.std.proofs.Common.{◌≡◌, ◌≢◌, ℕ, zero, suc, ◌+◌, ◌<◌, ◌≤◌, ◌^◌, Bool, true, false, not, List, [], ◌∷◌, Option, Some, None, cond, length, get_or, refl, sym, ap, subst, ◌∙◌, arith, IfSome, IfNone}
+use Rattle.std.specs.Prelude.{decimal}
+use Rattle.std.specs.List.{position, position_or_len, before_first, after_first, slice_split, onto_first}
 use Rattle.std.specs.Str.{IsUtf8}
-use Rattle.std.specs.Str.Parse.{IsNumeral, AllDigits, digits_value, without_leading_plus, ParsesUnsigned}
+use Rattle.std.specs.Str.Parse.{IsNumeral, AllDigits, digits_value, without_leading_plus}
 use Rattle.std.proofs.lemmas.Bool.{ltb-true, ltb-false}
-use Rattle.std.proofs.lemmas.List.{take_all, length-drop}
 use Rattle.std.proofs.lemmas.List.Splits.{slice_split_first, slice_split-cons_no, length-slice_split}
-use Rattle.std.proofs.lemmas.Fmt.{parse-decimal, decimal-digits_value, first_decimal, decimal_digit, digits_decimal, decimal_nonempty, decimal_is_IsNumeral, IsAscii-decimal}
+use Rattle.std.proofs.lemmas.Fmt.{decimal-digits_value, first_decimal, decimal_digit, digits_decimal, decimal_nonempty, decimal_is_IsNumeral, IsAscii-decimal}
 use Rattle.std.proofs.lemmas.Str.{IsUtf8-from_ascii}
-use Rattle.std.proofs.lemmas.Str.Parse.{IsNumeralModel, numerals_by_value, tells_digits, parse_plain, not_in_digits, without_leading_plus_none}
+use Rattle.std.proofs.lemmas.Str.Parse.{IsNumeralModel, numerals_by_value, tells_digits, not_in_digits, without_leading_plus_none}
 use Rattle.std.proofs.lemmas.Bool.Decides.{nat_tests}
 use Rattle.pcache.specs.Words.{is_space, words_of, IsNumber, has_sign_or_leading_zero, IsParse}
 
@@ -26,23 +23,28 @@ pub cond_None : (b : Bool) (k : ℕ) → cond b (Some k) None ≡ None → b ≡
 cond_None true k h = absurd cc
 cond_None false k h = refl
 
--- a line with a space has the bytes before it as its first word
-pub words_of-space : (line : List ℕ) (at : ℕ) → position is_space line ≡ Some at → words_of line ≡ take at line ∷ words_of (take (length line - (at + 1)) (drop (at + 1) line))
-words_of-space line at h =
-    let found = cond_Some _ _ _ h in
-    let short = ltb-true _ _ found.0 in
-    let first = slice_split_first is_space line 0 short in
-    let whole : take (length line - (at + 1)) (drop (at + 1) line) ≡ drop (at + 1) line = take_all _ _ (omega (arith, length-drop (at + 1) line)) in
-    first
-    ∙ ap (λ k. take k line ∷ words_of (drop (k + 1) line)) found.1
-    ∙ ap (λ rest. take at line ∷ words_of rest) (sym whole)
+found_at : (b : Bool) (k : ℕ) → cond b (Some k) None ≢ None → b ≡ true
+found_at true k h = refl
+found_at false k h = absurd (h refl)
+
+-- the place of an element that is there
+pub found_short : (p : ℕ → Bool) (xs : List ℕ) → position p xs ≢ None → position_or_len p xs < length xs
+found_short p xs some = ltb-true _ _ (found_at _ _ some)
+
+-- a line with a space has what stands before it as its first word, and the words of what stands after it
+pub words_of-split : (line word rest : List ℕ) → position is_space line ≢ None → word ≡ before_first is_space line → rest ≡ after_first is_space line → words_of line ≡ word ∷ words_of rest
+words_of-split line word rest some before after =
+    slice_split_first is_space line 0 (found_short is_space line some)
+    ∙ ap (λ w. w ∷ words_of (after_first is_space line)) (sym before)
+    ∙ ap (λ r. word ∷ words_of r) (sym after)
 
 whole_case : (p : ℕ → Bool) (x : ℕ) (xs : List ℕ) (b : Bool) → p x ≡ b → (length xs ≤ position_or_len p xs → slice_split p xs ≡ xs ∷ [])
     → length (x ∷ xs) ≤ cond (not b) (1 + position_or_len p xs) 0 → slice_split p (x ∷ xs) ≡ (x ∷ xs) ∷ []
 whole_case p x xs true e rest h = absurd (omega arith)
 whole_case p x xs false e rest h = slice_split-cons_no p x xs e ∙ ap (onto_first x) (rest (omega arith))
 
-whole : (p : ℕ → Bool) (xs : List ℕ) → length xs ≤ position_or_len p xs → slice_split p xs ≡ xs ∷ []
+-- where no element passes, the list is its one part
+pub whole : (p : ℕ → Bool) (xs : List ℕ) → length xs ≤ position_or_len p xs → slice_split p xs ≡ xs ∷ []
 whole p [] h = refl
 whole p (x ∷ xs) h = whole_case p x xs (p x) refl (whole p xs) h
 

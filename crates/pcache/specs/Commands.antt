@@ -1,5 +1,5 @@
 -- The lines of a script that are commands.
-use Rattle.std.specs.Prelude.{◌≡◌, ℕ, ◌≤◌, List, [], ◌∷◌, Some, codes}
+use Rattle.std.specs.Prelude.{◌≡◌, ℕ, ◌≤◌, List, [], ◌∷◌, Some}
 use Rattle.pcache.specs.declared.command.Command.{Command}
 use Rattle.pcache.specs.declared.command.Command.TheVariants as command
 use Rattle.world.specs.declared.step.Step.TheVariants as step

@@ -1,6 +1,6 @@
 -- The lines of a script, as bytes that a reader has left.
-use Rattle.std.specs.Prelude.{◌≡◌, ◌≢◌, ℕ, ◌<◌, Bool, ◌==◌, ◌||◌, slice_index, List, [], ◌++◌, length, All, Option, Some}
-use Rattle.std.specs.List.{before_first, after_first}
+use Rattle.std.specs.Prelude.{◌≡◌, ◌≢◌, ℕ, ◌<◌, Bool, ◌==◌, ◌||◌, slice_index, List, [], ◌∷◌, ◌++◌, length, All, Option, Some}
+use Rattle.std.specs.List.{before_first, after_first, slice_split}
 use Rattle.pcache.specs.declared.lines.Fetched.{Fetched}
 use Rattle.pcache.specs.declared.lines.Fetched.TheVariants.{Line, TooLong, End}
 use Rattle.pcache.specs.declared.lines.Look.{Look}
@@ -10,6 +10,16 @@ use Rattle.pcache.specs.declared.lines.TheConstants.{MAX_LINE}
 -- the end of a line, byte 0a in hexadecimal
 abbrev pub is_newline : ℕ → Bool
 is_newline b = b == 10
+
+-- the parts of a script between the ends of its lines, without a last part that is empty
+abbrev pub without_empty_end : List (List ℕ) → List (List ℕ)
+without_empty_end [] = []
+without_empty_end ([] ∷ []) = []
+without_empty_end (line ∷ lines) = line ∷ without_empty_end lines
+
+-- the lines of a script. Each ends in a newline, which the last may lack
+abbrev pub lines_of : List ℕ → List (List ℕ)
+lines_of script = without_empty_end (slice_split is_newline script)
 
 -- what came of asking for a line where the reader had `bytes` left: the line, and what the reader has left now
 abbrev pub Fetches : List ℕ → Fetched → List ℕ → Option (List ℕ) → Type 0

@@ -1,27 +1,33 @@
--- What a line of a script does: a call of the world, and its answer on a line of its own.
-use Rattle.std.specs.Prelude.{ℕ, List, Option, Result, Ok, Err, codes}
+-- What a script does: each command is a call of the world, with its answer on a line of its own.
+use Rattle.std.specs.Prelude.{◌≡◌, ℕ, ◌+◌, ◌<◌, ◌≤◌, ◌⊎◌, true, false, if◌then◌else◌, List, [], ◌∷◌, ◌++◌, length, Option, Some, None, unwrap_or, Result, Ok, Err, codes}
+use Rattle.std.specs.Result.{result_unwrap_or}
+use Rattle.std.specs.Io.KnownBytes.{Keeps, Appends}
 use Rattle.cachecore.specs.declared.event.Reply.{Reply}
 use Rattle.cachecore.specs.declared.answers.PageTags.{PageTags}
 use Rattle.cachecore.specs.Replies.{TagsAre}
 use Rattle.pc_types.specs.declared.refusal.Refusal.{Refusal}
-use Rattle.pc_types.specs.Limits.{Sizes}
+use Rattle.pc_types.specs.declared.refusal.Refusal.TheVariants.{BadConfig}
+use Rattle.pc_types.specs.Limits.{Sizes, is_geometry}
 use Rattle.blockdev.specs.Device.{fresh}
 use Rattle.world.specs.declared.step.Step.{Step}
 use Rattle.world.specs.Stepping.{Held, Steps, first_world}
-use Rattle.pcache.specs.Answers.{answer_of, refusal_text, tags_text, Prints}
+use Rattle.pcache.specs.declared.command.Command.{Command}
+use Rattle.pcache.specs.declared.command.Command.TheVariants as command
+use Rattle.pcache.specs.declared.lines.TheConstants.{MAX_LINE}
+use Rattle.pcache.specs.declared.stop.Stop.{Stop}
+use Rattle.pcache.specs.declared.stop.Stop.TheVariants.{Malformed, Input, Output, Memory}
+use Rattle.pcache.specs.Answers.{answer_of, refusal_text, tags_text, ended}
+use Rattle.pcache.specs.Commands.{Means}
+use Rattle.pcache.specs.Lines.{is_blank}
+use Rattle.pcache.specs.Stops.{status_of}
 
--- the world makes the step, and its reply is printed
-abbrev pub MakesStep : Held → Step → Held → Option (List ℕ) → Option (List ℕ) → Type 0
-MakesStep old s new before after = (reply : Reply) × Steps old s reply new × Prints before after (answer_of reply)
+-- ---- sizes
 
--- what is known of a page, or the refusal
-abbrev pub known_text : Result PageTags Refusal → List ℕ
-known_text (Ok tags) = tags_text tags
-known_text (Err refusal) = refusal_text refusal
-
--- what is known of a page is printed
-abbrev pub TellsTags : Held → ℕ → ℕ → Option (List ℕ) → Option (List ℕ) → Type 0
-TellsTags w file page before after = (known : Result PageTags Refusal) × TagsAre w.core file page known × Prints before after (known_text known)
+-- the sizes that a `config` line names, or the refusal
+abbrev pub sizes_of : ℕ → ℕ → ℕ → ℕ → Result Sizes Refusal
+sizes_of page frames dirty_limit blocks =
+    let sizes : Sizes = record { page = page; frames = frames; dirty_limit = dirty_limit; blocks = blocks } in
+    if is_geometry sizes then Ok sizes else Err BadConfig
 
 -- the sizes of a script that names none, or none within their limits
 abbrev pub default_sizes : Sizes
@@ -35,3 +41,99 @@ world_of_sizes sizes = first_world sizes 0 (fresh sizes.page sizes.blocks)
 abbrev pub config_text : Result Sizes Refusal → List ℕ
 config_text (Ok sizes) = codes "configured"
 config_text (Err refusal) = refusal_text refusal
+
+-- ---- one line
+
+-- what is known of a page, or the refusal
+abbrev pub known_text : Result PageTags Refusal → List ℕ
+known_text (Ok tags) = tags_text tags
+known_text (Err refusal) = refusal_text refusal
+
+-- the world makes the step, and its reply is printed
+abbrev pub MakesStep : Held → Step → List ℕ → Held → Type 0
+MakesStep old s printed new = (reply : Reply) × Steps old s reply new × (printed ≡ ended (answer_of reply))
+
+-- what is known of a page is printed
+abbrev pub TellsTags : Held → ℕ → ℕ → List ℕ → Type 0
+TellsTags w file page printed = (known : Result PageTags Refusal) × TagsAre w.core file page known × (printed ≡ ended (known_text known))
+
+-- the world that a command finds. The first command finds that of the default sizes
+abbrev pub world_found : Option Held → Held
+world_found w = unwrap_or w (world_of_sizes default_sizes)
+
+-- what a command prints, and the world after it. `config` is a command only where it is the first
+abbrev pub Answers : Option Held → Command → List ℕ → Held → Type 0
+Answers None (command.Config page frames dirty_limit blocks) printed new =
+    (printed ≡ ended (config_text (sizes_of page frames dirty_limit blocks)))
+    × (new ≡ world_of_sizes (result_unwrap_or (sizes_of page frames dirty_limit blocks) default_sizes))
+Answers (Some w) (command.Config page frames dirty_limit blocks) printed new = ⊥
+Answers old (command.Step s) printed new = MakesStep (world_found old) s printed new
+Answers old (command.Tags file page) printed new = TellsTags (world_found old) file.0 page.0 printed × (new ≡ world_found old)
+
+-- an empty line or a comment prints nothing and changes nothing
+abbrev pub IsPassedOver : Option Held → List ℕ → List ℕ → Option Held → Type 0
+IsPassedOver old line printed new = (is_blank line ≡ true) × (printed ≡ []) × (new ≡ old)
+
+-- any other line is answered as the command that it asks for
+abbrev pub IsObeyed : Option Held → List ℕ → List ℕ → Option Held → Type 0
+IsObeyed old line printed new = (is_blank line ≡ false) × (c : Command) × (w : Held) × Means line c × Answers old c printed w × (new ≡ Some w)
+
+abbrev pub LineAnswers : Option Held → List ℕ → List ℕ → Option Held → Type 0
+LineAnswers old line printed new = IsPassedOver old line printed new ⊎ IsObeyed old line printed new
+
+-- a `config` line after another command
+abbrev pub IsMisplaced : Option Held → Command → Type 0
+IsMisplaced (Some w) (command.Config page frames dirty_limit blocks) = Unit {0}
+IsMisplaced old c = ⊥
+
+-- a line that is neither blank nor asks for a command that may stand there
+abbrev pub IsNoCommand : Option Held → List ℕ → Type 0
+IsNoCommand old line = (is_blank line ≡ false) × ((c : Command) → Means line c → IsMisplaced old c)
+
+-- ---- all lines
+
+-- what lines print, one after the other, and the world after them. Before the first command there is no world
+abbrev pub Answered : Option Held → List (List ℕ) → List ℕ → Option Held → Type 0
+Answered old [] printed new = (printed ≡ []) × (new ≡ old)
+Answered old (line ∷ lines) printed new =
+    (first : List ℕ) × (rest : List ℕ) × (mid : Option Held) × (printed ≡ first ++ rest) × (length line ≤ MAX_LINE) × LineAnswers old line first mid × Answered mid lines rest new
+
+-- the first n lines were answered, and nothing else was printed. The other lines are `rest`
+abbrev pub AnsweredFirst : List (List ℕ) → ℕ → List (List ℕ) → Option Held → Option (List ℕ) → Option (List ℕ) → Type 0
+AnsweredFirst lines n rest w before after =
+    (done : List (List ℕ)) × (printed : List ℕ) × (lines ≡ done ++ rest) × (length done ≡ n) × Answered None done printed w × Appends before after printed
+
+-- how a run ends: all lines were answered; or the first were, and the next, line n, is malformed; or the first were, and input or
+-- memory failed. Where the output failed nothing is known of it
+abbrev pub Ends : List (List ℕ) → Result (Unit {0}) Stop → Option (List ℕ) → Option (List ℕ) → Type 0
+Ends lines (Ok _) before after = (n : ℕ) × (w : Option Held) × AnsweredFirst lines n [] w before after
+Ends lines (Err (Malformed n)) before after =
+    (k : ℕ) × (w : Option Held) × (line : List ℕ) × (rest : List (List ℕ))
+    × (n ≡ k + 1) × AnsweredFirst lines k (line ∷ rest) w before after × ((MAX_LINE < length line) ⊎ IsNoCommand w line)
+Ends lines (Err Input) before after = (n : ℕ) × (w : Option Held) × (rest : List (List ℕ)) × AnsweredFirst lines n rest w before after
+Ends lines (Err Memory) before after = (n : ℕ) × (w : Option Held) × (rest : List (List ℕ)) × AnsweredFirst lines n rest w before after
+Ends lines (Err Output) before after = Unit {0}
+
+-- the status tells how the run ended
+abbrev pub status_of_end : Result (Unit {0}) Stop → ℕ
+status_of_end (Ok _) = 0
+status_of_end (Err stop) = status_of stop
+
+abbrev pub EndsWith : List (List ℕ) → ℕ → Option (List ℕ) → Option (List ℕ) → Type 0
+EndsWith lines status before after = (end : Result (Unit {0}) Stop) × Ends lines end before after × (status ≡ status_of_end end)
+
+-- ---- what one line comes to in code
+
+-- a command's answer was printed, or it was none and nothing was printed
+abbrev pub CommandGives : Option Held → ℕ → Command → Result Held Stop → Option (List ℕ) → Option (List ℕ) → Type 0
+CommandGives old number c (Ok w) before after = (printed : List ℕ) × Answers old c printed w × Appends before after printed
+CommandGives old number c (Err (Malformed n)) before after = (n ≡ number) × IsMisplaced old c × Keeps before after
+CommandGives old number c (Err Output) before after = Unit {0}
+CommandGives old number c (Err _) before after = Keeps before after
+
+-- the same of a line
+abbrev pub LineGives : Option Held → ℕ → List ℕ → Result (Option Held) Stop → Option (List ℕ) → Option (List ℕ) → Type 0
+LineGives old number line (Ok w) before after = (printed : List ℕ) × LineAnswers old line printed w × Appends before after printed
+LineGives old number line (Err (Malformed n)) before after = (n ≡ number) × IsNoCommand old line × Keeps before after
+LineGives old number line (Err Output) before after = Unit {0}
+LineGives old number line (Err _) before after = Keeps before after

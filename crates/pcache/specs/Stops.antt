@@ -1,5 +1,7 @@
--- The exit status of a run that ended early.
-use Rattle.std.specs.Prelude.{ℕ}
+-- What is said of a run that ended early, and its exit status.
+use Rattle.std.specs.Prelude.{◌≡◌, ℕ, ◌⊎◌, List, [], ◌∷◌, ◌++◌, codes, decimal}
+use Rattle.std.specs.declared.io.ErrorKind.{ErrorKind}
+use Rattle.std.specs.declared.io.ErrorKind.TheVariants.{OutOfMemory}
 use Rattle.pcache.specs.declared.stop.Stop.{Stop}
 use Rattle.pcache.specs.declared.stop.Stop.TheVariants.{Malformed, Input, Output, Memory}
 
@@ -9,3 +11,28 @@ status_of (Malformed line) = 2
 status_of Input = 3
 status_of Output = 3
 status_of Memory = 4
+
+-- input, output or memory failed
+abbrev pub IsFault : Stop → Type 0
+IsFault (Malformed line) = ⊥
+IsFault _ = Unit {0}
+
+-- the statuses that there are
+abbrev pub IsStatus : ℕ → Type 0
+IsStatus status = (status ≡ 0) ⊎ ((status ≡ 2) ⊎ ((status ≡ 3) ⊎ (status ≡ 4)))
+
+-- why a run ended
+abbrev pub reason_of : Stop → List ℕ
+reason_of (Malformed line) = codes "line " ++ decimal line ++ codes ": malformed"
+reason_of Input = codes "input failed"
+reason_of Output = codes "output failed"
+reason_of Memory = codes "out of memory"
+
+-- what is said of it on standard error, on a line of its own (byte 0a)
+abbrev pub message_of : Stop → List ℕ
+message_of stop = codes "pcache: " ++ reason_of stop ++ (10 ∷ [])
+
+-- why a read that failed ends a run
+abbrev pub stop_of_kind : ErrorKind → Stop
+stop_of_kind OutOfMemory = Memory
+stop_of_kind _ = Input

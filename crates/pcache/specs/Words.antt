@@ -1,5 +1,5 @@
 -- The words of a script's line, and what a word stands for.
-use Rattle.std.specs.Prelude.{◌≡◌, ℕ, ◌^◌, ◌<◌, Bool, ◌==◌, ◌&&◌, ◌||◌, nat_lt, slice_index, if◌then◌else◌, List, [], ◌∷◌, length, Option, Some, None, codes, decimal}
+use Rattle.std.specs.Prelude.{◌≡◌, ℕ, ◌^◌, ◌<◌, Bool, ◌==◌, ◌&&◌, ◌||◌, nat_lt, slice_index, if◌then◌else◌, List, [], length, Option, Some, None, codes, decimal}
 use Rattle.std.specs.Result.{result_ok}
 use denote.Ref.{Bor}
 use Rattle.std.specs.List.{slice_split}

@@ -1,9 +1,9 @@
 //! What a line of a script answers, as it is printed.
 
-ghost use Rattle.std.specs.Prelude.{◌≡◌, ◌∷◌, [], ◌++◌, OnOk, IfSome, codes};
-ghost use Rattle.std.specs.Io.KnownBytes.{Appends};
+ghost use Rattle.std.specs.Prelude.{◌≡◌, ◌∷◌, [], ◌++◌, OnOk, IfErr, IfSome, IsOkUnless, codes};
+ghost use Rattle.std.specs.Io.KnownBytes.{Appends, Keeps};
 ghost use Rattle.pc_types.specs.TagBits.{tag_set};
-ghost use Rattle.pcache.specs.Answers.{answer_of, letters_of, refusal_text, tags_text, hex_text, Prints};
+ghost use Rattle.pcache.specs.Answers.{answer_of, letters_of, refusal_text, tags_text, hex_text, IsPrintFault, Prints};
 
 use crate::stop::Stop;
 use cachecore::{PageTags, Reply};
@@ -12,9 +12,18 @@ use std::alloc::Global;
 use std::fmt::Display;
 use std::io::Write;
 
+/// Hands on what was printed.
+pub fn flush<W: Write>(out: &mut W) -> Result<(), Stop>
+    ensures kept { Keeps (W.contents out.old) (W.contents out.new) }
+    ensures fault { IsOkUnless result Stop.Output }
+{
+    out.flush().map_err(|_| Stop::Output)
+}
+
 /// Prints one line.
 pub fn print_line<W: Write, D: Display + Drop>(out: &mut W, answer: D) -> Result<(), Stop>
-    ensures { OnOk result (IfSome (D.output answer) (λ text. Prints (W.contents out.old) (W.contents out.new) text)) }
+    ensures fault { IsOkUnless result Stop.Output }
+    ensures printed { OnOk result (IfSome (D.output answer) (λ text. Prints (W.contents out.old) (W.contents out.new) text)) }
 {
     match out.writeln(answer) {
         Ok(()) => Ok(()),
@@ -24,7 +33,8 @@ pub fn print_line<W: Write, D: Display + Drop>(out: &mut W, answer: D) -> Result
 
 /// Prints what an event of the cache replied.
 pub fn print_reply<W: Write>(alloc: Global, out: &mut W, reply: &Reply) -> Result<(), Stop>
-    ensures { OnOk result (Prints (W.contents out.old) (W.contents out.new) (answer_of reply.now)) }
+    ensures printed { OnOk result (Prints (W.contents out.old) (W.contents out.new) (answer_of reply.now)) }
+    ensures fault { IfErr result (IsPrintFault (W.contents out.old) (W.contents out.new)) }
 {
     match reply {
         Reply::Refused(refusal) => print_refusal(out, *refusal),
@@ -58,7 +68,8 @@ pub fn print_reply<W: Write>(alloc: Global, out: &mut W, reply: &Reply) -> Resul
 
 /// Prints a refusal by its number.
 pub fn print_refusal<W: Write>(out: &mut W, refusal: Refusal) -> Result<(), Stop>
-    ensures { OnOk result (Prints (W.contents out.old) (W.contents out.new) (refusal_text refusal)) }
+    ensures printed { OnOk result (Prints (W.contents out.old) (W.contents out.new) (refusal_text refusal)) }
+    ensures fault { IsOkUnless result Stop.Output }
 {
     match refusal {
         Refusal::Io(code) => print_line(out, format_args!("refused 14 {}", code.code())),
@@ -68,7 +79,8 @@ pub fn print_refusal<W: Write>(out: &mut W, refusal: Refusal) -> Result<(), Stop
 
 /// Prints bytes in lower case, or `-` where there are none.
 fn print_bytes<W: Write>(alloc: Global, out: &mut W, bytes: &[u8]) -> Result<(), Stop>
-    ensures { OnOk result (Prints (W.contents out.old) (W.contents out.new) (codes "bytes " ++ hex_text bytes.now)) }
+    ensures printed { OnOk result (Prints (W.contents out.old) (W.contents out.new) (codes "bytes " ++ hex_text bytes.now)) }
+    ensures fault { IfErr result (IsPrintFault (W.contents out.old) (W.contents out.new)) }
 {
     if bytes.is_empty() {
         return print_line(out, "bytes -");
@@ -79,7 +91,8 @@ fn print_bytes<W: Write>(alloc: Global, out: &mut W, bytes: &[u8]) -> Result<(),
 
 /// Prints what is known of a page.
 pub fn print_tags<W: Write>(out: &mut W, tags: PageTags) -> Result<(), Stop>
-    ensures { OnOk result (Prints (W.contents out.old) (W.contents out.new) (tags_text tags)) }
+    ensures printed { OnOk result (Prints (W.contents out.old) (W.contents out.new) (tags_text tags)) }
+    ensures fault { IsOkUnless result Stop.Output }
 {
     match tags {
         PageTags::Absent => print_line(out, "absent"),

@@ -1,9 +1,11 @@
 //! A script, line by line.
 
-ghost use Rattle.std.specs.Prelude.{◌≡◌, ◌+◌, ◌<◌, ◌≤◌, ℕ, List, [], Some, None, MatchBool, IfOk, IfSome, OnOk, length, position, vec_len, nat_lt, if◌then◌else◌};
+ghost use Rattle.std.specs.Prelude.{◌≡◌, ◌+◌, ◌<◌, ◌≤◌, ℕ, List, [], Some, None, MatchBool, IfErr, IfOk, IfSome, IsOkUnless, OnOk, true, length, position, vec_len, nat_lt, if◌then◌else◌};
 ghost use Rattle.std.specs.Io.KnownBytes.{Keeps};
 ghost use Rattle.pcache.specs.Lines.{is_newline, Fetches, Goes, HasBegun};
+ghost use Rattle.pcache.specs.Stops.{IsFault};
 
+use crate::answer::flush;
 use crate::find::find_byte;
 use crate::stop::Stop;
 use std::alloc::Global;
@@ -59,7 +61,9 @@ impl<R: BufRead> Lines<R> {
     /// those of all lines so far.
     pub fn fetch<W: Write>(&mut self, out: &mut W) -> Result<Fetched, Stop>
         ensures fetched { IfSome (R.remaining self.old.reader) (λ bytes. IfOk result (λ fetched. Fetches bytes fetched self.new.line.items (R.remaining self.new.reader))) }
+        ensures within { OnOk result (vec_len self.new.line ≤ MAX_LINE) }
         ensures number { OnOk result (self.new.number ≡ self.old.number + 1) }
+        ensures fault { IfErr result IsFault }
         ensures out { Keeps (W.contents out.old) (W.contents out.new) }
     {
         // Lines past the last that can be counted are input that failed.
@@ -82,6 +86,8 @@ fn fetch_line<R: BufRead, W: Write>(
 ) -> Result<Fetched, Stop>
     requires { line.old.items ≡ [] }
     ensures fetched { IfSome (R.remaining reader.old) (λ bytes. IfOk result (λ fetched. Fetches bytes fetched line.new.items (R.remaining reader.new))) }
+    ensures within { vec_len line.new ≤ MAX_LINE }
+    ensures fault { IfErr result IsFault }
     ensures out { Keeps (W.contents out.old) (W.contents out.new) }
 {
     'looks: for _ in 0..u64::MAX {
@@ -97,18 +103,17 @@ fn fetch_line<R: BufRead, W: Write>(
 }
 
 fn flush_if<W: Write>(is_due: bool, out: &mut W) -> Result<(), Stop>
-    ensures { Keeps (W.contents out.old) (W.contents out.new) }
+    ensures kept { Keeps (W.contents out.old) (W.contents out.new) }
+    ensures fault { IsOkUnless result Stop.Output }
 {
-    if is_due && out.flush().is_err() {
-        return Err(Stop::Output);
-    }
-    Ok(())
+    if is_due { flush(out) } else { Ok(()) }
 }
 
 /// Moves to the line what the reader's buffer has of it, and says whether that was all that the buffer had.
 fn take_part<R: BufRead>(reader: &mut R, line: &mut Vec<u8>) -> Result<(Look, bool), Stop>
     requires { vec_len line.old ≤ MAX_LINE }
     ensures within { vec_len line.new ≤ MAX_LINE }
+    ensures fault { IfErr result IsFault }
     ensures goes { (bytes : List ℕ) → HasBegun bytes line.old.items (R.remaining reader.old) → IfOk result (λ r. Goes bytes r.0 line.new.items (R.remaining reader.new)) }
 {
     let available = match reader.fill_buf() {
@@ -129,7 +134,7 @@ fn take_part<R: BufRead>(reader: &mut R, line: &mut Vec<u8>) -> Result<(Look, bo
         return Ok((Look::Ended(Fetched::TooLong), false));
     }
     line.extend_from_slice(&available[..len])?;
-    let taken = if is_ended { len + 1 } else { len };
+    let taken = len_with_newline(len, is_ended);
     let is_all = taken == available.len();
     reader.consume(taken);
     let look = if is_ended {
@@ -156,4 +161,12 @@ fn len_before_newline(bytes: &[u8]) -> (usize, bool)
         Some(at) => (at, true),
         None => (bytes.len(), false),
     }
+}
+
+/// How many bytes the line has with its end, where that is there.
+fn len_with_newline(len: usize, is_ended: bool) -> usize
+    requires { is_ended ≡ true → len < usize.MAX }
+    ensures { result ≡ (if is_ended then len + 1 else len) }
+{
+    if is_ended { len + 1 } else { len }
 }

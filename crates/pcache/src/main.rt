@@ -4,6 +4,9 @@
 //! asks for, `answer` prints what came of it, and `stop` says why a run ends before its script does.
 #![tactic(auto)]
 
+ghost use Rattle.std.specs.Prelude.{◌≡◌};
+ghost use Rattle.pcache.specs.Stops.{IsStatus};
+
 mod answer;
 mod command;
 mod find;
@@ -15,7 +18,7 @@ mod stop;
 mod tests;
 mod words;
 
-use run::run_script;
+use run::{run_script, say};
 use std::env;
 use std::io::{BufReader, BufWriter, Write};
 use std::process::ExitCode;
@@ -26,7 +29,9 @@ fn main(rt: HostRuntime) -> ExitCode {
 }
 
 /// Does what the arguments ask for, and gives the status.
-fn run_program(rt: &HostRuntime) -> u8 {
+fn run_program(rt: &HostRuntime) -> u8
+    ensures { IsStatus result }
+{
     match env::args(rt) {
         Ok(arguments) => {
             if arguments
@@ -48,18 +53,22 @@ fn run_program(rt: &HostRuntime) -> u8 {
 }
 
 /// Runs the script on standard input.
-fn run_streams(rt: &HostRuntime) -> u8 {
+fn run_streams(rt: &HostRuntime) -> u8
+    ensures { IsStatus result }
+{
     let alloc = rt.alloc();
     match (
         BufReader::new(alloc, rt.stdin()),
         BufWriter::new(alloc, rt.stdout()),
     ) {
-        (Ok(reader), Ok(out)) => run_script(alloc, reader, out, rt.stderr()),
+        (Ok(reader), Ok(mut out)) => run_script(alloc, reader, &mut out, &mut rt.stderr()),
         _ => say_memory(rt),
     }
 }
 
-fn say_memory(rt: &HostRuntime) -> u8 {
-    let _ = writeln!(rt.stderr(), "pcache: {}", Stop::Memory);
+fn say_memory(rt: &HostRuntime) -> u8
+    ensures { result ≡ 4 }
+{
+    let _ = say(&mut rt.stderr(), Stop::Memory);
     Stop::Memory.status()
 }

@@ -1,15 +1,14 @@
 //! A run of a script.
 
-ghost use Rattle.std.specs.Prelude.{◌≡◌, ◌⊎◌, IfErr, IfOk, IfSome, IsOkUnless, IsSome, OnOk};
-ghost use Rattle.std.specs.Io.KnownBytes.{Keeps};
+ghost use Rattle.std.specs.Prelude.{◌≡◌, ℕ, List, IfErr, IfOk, IfSome, IsOkUnless, OnOk};
+ghost use Rattle.std.specs.Io.KnownBytes.{Appends};
 ghost use Rattle.std.specs.Result.{result_unwrap_or};
-ghost use Rattle.pcache.specs.Answers.{Prints};
-ghost use Rattle.pcache.specs.Commands.{Means};
-ghost use Rattle.pcache.specs.Lines.{is_blank};
-ghost use Rattle.pcache.specs.Runs.{MakesStep, TellsTags, config_text, default_sizes, world_of_sizes};
-ghost use Rattle.pcache.specs.declared.command.Command.{Command as TheCommand};
+ghost use Rattle.pcache.specs.Answers.{IsPrintFault, Prints};
+ghost use Rattle.pcache.specs.Lines.{is_blank, lines_of};
+ghost use Rattle.pcache.specs.Runs.{CommandGives, Ends, EndsWith, LineGives, MakesStep, TellsTags, config_text, default_sizes, world_found, world_of_sizes};
+ghost use Rattle.pcache.specs.Stops.{IsStatus, message_of};
 
-use crate::answer::{print_line, print_refusal, print_reply, print_tags};
+use crate::answer::{flush, print_line, print_refusal, print_reply, print_tags};
 use crate::command::Command;
 use crate::lines::{Fetched, Lines};
 use crate::stop::Stop;
@@ -22,13 +21,16 @@ use world::{Step, World};
 
 /// Runs a script and prints what each of its lines answers. Gives the status that the program ends with, and says on
 /// `err` why where it is not 0.
-pub fn run_script<R: BufRead + Drop, W: Write + Drop, E: Write + Drop>(
+pub fn run_script<R: BufRead + Drop, W: Write, E: Write>(
     alloc: Global,
     reader: R,
-    mut out: W,
-    mut err: E,
-) -> u8 {
-    match run_lines(alloc, reader, &mut out) {
+    out: &mut W,
+    err: &mut E,
+) -> u8
+    ensures answers { IfSome (R.remaining reader) (λ script. EndsWith (lines_of script) result (W.contents out.old) (W.contents out.new)) }
+    ensures status { IsStatus result }
+{
+    match run_lines(alloc, reader, out) {
         Ok(()) => 0,
         Err(stop) => {
             // The answers before the stop are printed all the same.
@@ -37,60 +39,56 @@ pub fn run_script<R: BufRead + Drop, W: Write + Drop, E: Write + Drop>(
             } else {
                 stop
             };
-            let _ = writeln!(err, "pcache: {stop}");
+            let _ = say(err, stop);
             stop.status()
         }
     }
 }
 
-fn run_lines<R: BufRead + Drop, W: Write>(
-    alloc: Global,
-    reader: R,
-    out: &mut W,
-) -> Result<(), Stop> {
+/// Says why a run ended.
+pub fn say<E: Write>(err: &mut E, stop: Stop) -> std::io::Result<()>
+    ensures { OnOk result (Appends (E.contents err.old) (E.contents err.new) (message_of stop)) }
+{
+    writeln!(err, "pcache: {stop}")
+}
+
+/// Runs the lines of a script, one after the other.
+fn run_lines<R: BufRead + Drop, W: Write>(alloc: Global, reader: R, out: &mut W) -> Result<(), Stop>
+    ensures { IfSome (R.remaining reader) (λ script. Ends (lines_of script) result (W.contents out.old) (W.contents out.new)) }
+{
     let mut lines = Lines::new(alloc, reader);
-    let mut next = next_command(alloc, &mut lines, out)?;
-    let mut world = match next {
-        Some(Command::Config(page, frames, dirty_limit, blocks)) => {
-            let sizes = Geometry::new(page, frames, dirty_limit, blocks);
-            let world = configure(alloc, sizes, out)?;
-            next = next_command(alloc, &mut lines, out)?;
-            world
+    // There is a world from the first command on.
+    let mut world = None;
+    'lines: for _ in 0..u64::MAX {
+        match lines.fetch(out)? {
+            Fetched::Line => {
+                world = run_line(alloc, world, lines.number, lines.line.as_slice(), out)?;
+            }
+            Fetched::TooLong => return Err(Stop::Malformed(lines.number)),
+            Fetched::End => return flush(out),
         }
-        _ => new_world(alloc, &default_geometry())?,
-    };
-    for _ in 0..u64::MAX {
-        match next {
-            Some(Command::Step(step)) => make_step(alloc, &mut world, &step, out)?,
-            Some(Command::Tags(file, page)) => tell_tags(&world, file, page, out)?,
-            // Only the first command may be `config`.
-            Some(Command::Config(_, _, _, _)) => return Err(Stop::Malformed(lines.number)),
-            None => return out.flush().map_err(|_| Stop::Output),
-        }
-        next = next_command(alloc, &mut lines, out)?;
     }
     Err(Stop::Input)
 }
 
-/// The command of the next line that is neither empty nor a comment, or none where the script has ended.
-#[tactic(auto, using(crate::proofs::LineLemmas::keeps_on))]
-fn next_command<R: BufRead, W: Write>(
+/// Runs one line, the one of this number, and gives the world after it.
+fn run_line<W: Write>(
     alloc: Global,
-    lines: &mut Lines<R>,
+    world: Option<World<ScriptDevice>>,
+    number: u64,
+    line: &[u8],
     out: &mut W,
-) -> Result<Option<Command>, Stop>
-    ensures command { IfOk result (λ next. IfSome next (Means lines.new.line.items)) }
-    ensures out { Keeps (W.contents out.old) (W.contents out.new) }
+) -> Result<Option<World<ScriptDevice>>, Stop>
+    ensures { LineGives world number line.now result (W.contents out.old) (W.contents out.new) }
 {
-    'lines: for _ in 0..u64::MAX {
-        match lines.fetch(out)? {
-            Fetched::Line if is_blank(lines.line.as_slice()) => {}
-            Fetched::Line => return parse_line(alloc, lines.number, lines.line.as_slice()),
-            Fetched::TooLong => return Err(Stop::Malformed(lines.number)),
-            Fetched::End => return Ok(None),
-        }
+    if is_blank(line) {
+        return Ok(world);
     }
-    Err(Stop::Input)
+    match Command::parse(alloc, line) {
+        Ok(command) => Ok(Some(run_command(alloc, world, number, command, out)?)),
+        Err(Fault::Malformed) => Err(Stop::Malformed(number)),
+        Err(Fault::Memory) => Err(Stop::Memory),
+    }
 }
 
 /// Whether the line is empty or a comment.
@@ -100,14 +98,45 @@ fn is_blank(line: &[u8]) -> bool
     line.is_empty() || line[0] == b'#'
 }
 
-fn parse_line(alloc: Global, number: u64, line: &[u8]) -> Result<Option<Command>, Stop>
-    ensures command { IfOk result (λ next. IsSome next × IfSome next (Means line.now)) }
-    ensures malformed { IfErr result (λ stop. (stop ≡ Stop.Memory) ⊎ ((stop ≡ Stop.Malformed number) × ((c : TheCommand) → ¬ (Means line.now c)))) }
+/// Does what a line asks for, and gives the world after it.
+fn run_command<W: Write>(
+    alloc: Global,
+    world: Option<World<ScriptDevice>>,
+    number: u64,
+    command: Command,
+    out: &mut W,
+) -> Result<World<ScriptDevice>, Stop>
+    ensures { CommandGives world number command result (W.contents out.old) (W.contents out.new) }
 {
-    match Command::parse(alloc, line) {
-        Ok(command) => Ok(Some(command)),
-        Err(Fault::Malformed) => Err(Stop::Malformed(number)),
-        Err(Fault::Memory) => Err(Stop::Memory),
+    match command {
+        Command::Config(page, frames, dirty_limit, blocks) => {
+            // Only the first command may be `config`.
+            if world.is_some() {
+                return Err(Stop::Malformed(number));
+            }
+            configure(alloc, Geometry::new(page, frames, dirty_limit, blocks), out)
+        }
+        Command::Step(step) => {
+            let mut world = found(alloc, world)?;
+            make_step(alloc, &mut world, &step, out)?;
+            Ok(world)
+        }
+        Command::Tags(file, page) => {
+            let world = found(alloc, world)?;
+            tell_tags(&world, file, page, out)?;
+            Ok(world)
+        }
+    }
+}
+
+/// The world that a command finds: where it is the first, one of the default sizes.
+fn found(alloc: Global, world: Option<World<ScriptDevice>>) -> Result<World<ScriptDevice>, Stop>
+    ensures found { IfOk result (λ w. w ≡ world_found world) }
+    ensures refused { IsOkUnless result Stop.Memory }
+{
+    match world {
+        Some(world) => Ok(world),
+        None => new_world(alloc, &default_geometry()),
     }
 }
 
@@ -119,6 +148,7 @@ fn configure<W: Write>(
 ) -> Result<World<ScriptDevice>, Stop>
     ensures made { IfOk result (λ world. world ≡ world_of_sizes (result_unwrap_or sizes default_sizes)) }
     ensures printed { OnOk result (Prints (W.contents out.old) (W.contents out.new) (config_text sizes)) }
+    ensures fault { IfErr result (IsPrintFault (W.contents out.old) (W.contents out.new)) }
 {
     match sizes {
         Ok(geometry) => {
@@ -162,7 +192,8 @@ fn make_step<W: Write>(
     step: &Step,
     out: &mut W,
 ) -> Result<(), Stop>
-    ensures { OnOk result (MakesStep world.old step.now world.new (W.contents out.old) (W.contents out.new)) }
+    ensures made { OnOk result ((printed : List ℕ) × MakesStep world.old step.now printed world.new × Appends (W.contents out.old) (W.contents out.new) printed) }
+    ensures fault { IfErr result (IsPrintFault (W.contents out.old) (W.contents out.new)) }
 {
     let reply = world.step(step);
     print_reply(alloc, out, &reply)?;
@@ -176,7 +207,8 @@ fn tell_tags<W: Write>(
     page: PageIndex,
     out: &mut W,
 ) -> Result<(), Stop>
-    ensures { OnOk result (TellsTags world.now file.0 page.0 (W.contents out.old) (W.contents out.new)) }
+    ensures told { OnOk result ((printed : List ℕ) × TellsTags world.now file.0 page.0 printed × Appends (W.contents out.old) (W.contents out.new) printed) }
+    ensures fault { IsOkUnless result Stop.Output }
 {
     match world.tags(file, page) {
         Ok(tags) => print_tags(out, tags)?,

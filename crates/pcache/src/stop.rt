@@ -1,22 +1,21 @@
 //! Why a run ends before its script does.
 
 ghost use Rattle.std.specs.Prelude.{◌≡◌};
-ghost use Rattle.pcache.specs.Stops.{status_of};
+ghost use Rattle.std.specs.IoError.{error_kind};
+ghost use Rattle.pcache.specs.Stops.{status_of, stop_of_kind};
 
 use std::alloc::AllocError;
+use std::fmt;
+use std::fmt::Display;
 use std::io::{Error, ErrorKind};
 
 /// Why a run ended early.
-#[derive(Clone, Copy, PartialEq, Eq, Debug, thiserror::Error)]
+#[derive(Clone, Copy, PartialEq, Eq, Debug)]
 pub enum Stop {
     /// The line of this number, counted from 1, is no line of a script.
-    #[error("line {0}: malformed")]
     Malformed(u64),
-    #[error("input failed")]
     Input,
-    #[error("output failed")]
     Output,
-    #[error("out of memory")]
     Memory,
 }
 
@@ -33,10 +32,28 @@ impl Stop {
     }
 
     /// What a failed read comes to. A reader that has no room for its bytes is want of memory.
-    pub fn of_input(error: &Error) -> Stop {
+    pub fn of_input(error: &Error) -> Stop
+        ensures { result ≡ stop_of_kind (error_kind error.now) }
+    {
         match error.kind() {
             ErrorKind::OutOfMemory => Stop::Memory,
             _ => Stop::Input,
+        }
+    }
+}
+
+impl Display for Stop {
+    ghost use Rattle.std.specs.Prelude.{Some};
+    ghost use Rattle.pcache.specs.Stops.{reason_of};
+
+    ghost output = { λ stop. Some (reason_of stop) };
+
+    fn fmt<W: fmt::Write>(&self, f: &mut fmt::Formatter<W>) -> fmt::Result {
+        match self {
+            Stop::Malformed(line) => write!(f, "line {line}: malformed"),
+            Stop::Input => f.write_str("input failed"),
+            Stop::Output => f.write_str("output failed"),
+            Stop::Memory => f.write_str("out of memory"),
         }
     }
 }

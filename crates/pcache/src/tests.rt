@@ -2,6 +2,7 @@
 
 use crate::run::run_script;
 use std::alloc::Global;
+use std::io::{BufReader, ErrorKind, Read, Result as IoResult, Write};
 use std::process::Abort;
 use std::test::Fail;
 
@@ -132,4 +133,87 @@ fn malformed_lines_end_a_script(rt: HostRuntime) -> Result<(), Fail> {
         status: 2,
     };
     check(&rt, alloc, b"\n# \xff\xfe\0\ncreate\n\nopen\n", &counted)
+}
+
+/// A writer that counts its bytes, and remembers how many there were at each flush.
+#[derive(Drop)]
+struct Flushes {
+    count: usize,
+    flushed: Vec<usize>,
+}
+
+impl Write for Flushes {
+    fn write(&mut self, buf: &[u8]) -> IoResult<usize> {
+        self.count = self.count.saturating_add(buf.len());
+        Ok(buf.len())
+    }
+
+    fn flush(&mut self) -> IoResult<()> {
+        self.flushed.push(self.count)?;
+        Ok(())
+    }
+}
+
+/// Whoever reads the answers has that of each line before the next line is asked for.
+#[test]
+fn answers_are_flushed_before_input_is_awaited(rt: HostRuntime) -> Result<(), Fail> {
+    let alloc = rt.alloc();
+    let reader = b"create\n"
+        .as_slice()
+        .chain(b"open 0\n".as_slice())
+        .chain(b"size 0\n".as_slice());
+    let mut out = Flushes {
+        count: 0,
+        flushed: Vec::new(alloc),
+    };
+    let mut message = Vec::new(alloc);
+    let status = run_script(alloc, reader, &mut out, &mut message);
+    assert_eq!(rt; status, 0);
+    // `file 0`, `handle 0` and `size 0` are 7, 9 and 7 bytes with their ends; at the end of the script all is flushed again.
+    assert_eq!(rt; out.flushed.as_slice(), [0, 7, 16, 23, 23].as_slice());
+    Ok(())
+}
+
+/// Neither gives nor takes a byte.
+#[derive(Drop)]
+struct Broken;
+
+impl Read for Broken {
+    fn read(&mut self, _buf: &mut [u8]) -> IoResult<usize> {
+        Err(ErrorKind::ConnectionReset.into())
+    }
+}
+
+impl Write for Broken {
+    fn write(&mut self, _buf: &[u8]) -> IoResult<usize> {
+        Err(ErrorKind::BrokenPipe.into())
+    }
+
+    fn flush(&mut self) -> IoResult<()> {
+        Ok(())
+    }
+}
+
+/// Where the input or the output fails, that is said, and the status is 3.
+#[test]
+fn failing_streams_end_a_script(rt: HostRuntime) -> Result<(), Fail> {
+    let alloc = rt.alloc();
+    let mut output = Vec::new(alloc);
+    let mut message = Vec::new(alloc);
+    let reader = b"create\n".as_slice().chain(BufReader::new(alloc, Broken)?);
+    let status = run_script(alloc, reader, &mut output, &mut message);
+    assert_eq!(rt; std::str::from_utf8(output.as_slice())?, "file 0\n");
+    assert_eq!(rt;
+        std::str::from_utf8(message.as_slice())?,
+        "pcache: input failed\n"
+    );
+    assert_eq!(rt; status, 3);
+    message.clear();
+    let status = run_script(alloc, b"create\n".as_slice(), &mut Broken, &mut message);
+    assert_eq!(rt;
+        std::str::from_utf8(message.as_slice())?,
+        "pcache: output failed\n"
+    );
+    assert_eq!(rt; status, 3);
+    Ok(())
 }

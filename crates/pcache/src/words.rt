@@ -6,7 +6,7 @@ ghost use Rattle.std.specs.Str.Parse.{digits_value, without_leading_plus};
 ghost use Rattle.pcache.specs.Words.{words_of, IsNumber, bytes_of, has_sign_or_leading_zero, IsParse};
 ghost use Rattle.pcache.specs.Commands.{Begins, Number, Hex};
 
-use crate::find::find_byte;
+use crate::find::split_at_byte;
 use hex::FromHexError;
 use pc_types::Bytes;
 use std::alloc::Global;
@@ -93,10 +93,10 @@ impl<'a> Words<'a> {
         ensures { MatchOption result (self.old ≡ []) (λ word. self.old ≡ word.now ∷ self.new) }
     {
         let rest = self.rest?;
-        match find_byte(rest, b' ') {
-            Some(at) => {
-                self.rest = Some(&rest[at + 1..]);
-                Some(&rest[..at])
+        match split_at_byte(rest, b' ') {
+            Some((word, rest)) => {
+                self.rest = Some(rest);
+                Some(word)
             }
             None => {
                 self.rest = None;

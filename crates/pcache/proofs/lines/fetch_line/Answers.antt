@@ -12,5 +12,5 @@ looks-preserved g c = record {
   within = c.in_ok-look.ensures.within;
   begun = map_some _ _ _ c.looks.invariant.begun (λ bytes begun.
       subst (λ look. Goes bytes look c.take_part.new.line.items (g.R.Read.remaining c.take_part.new.reader)) c.in-Part.is (c.in_ok-look.ensures.goes bytes begun));
-  out = keeps_on _ _ _ c.looks.invariant.out c.flush_if.ensures;
+  out = keeps_on _ _ _ c.looks.invariant.out c.flush_if.ensures.kept;
 }

@@ -1,4 +1,4 @@
-use Rattle.std.proofs.Common.{◌≡◌, ◌≤◌, List, [], IfSome, vec_len}
+use Rattle.std.proofs.Common.{◌≤◌, IfSome, vec_len}
 use Rattle.std.specs.Io.KnownBytes.{Keeps}
 use Rattle.pcache.specs.declared.lines.TheConstants.{MAX_LINE}
 use Rattle.pcache.specs.Lines.{HasBegun}

@@ -1,12 +1,11 @@
-use Rattle.std.proofs.Common.{◌≡◌, ◌+◌, sym, ◌∙◌, ap, subst, arith, MatchBool, Some, None, ◌<◌, length, true, false}
-use Rattle.std.specs.Prelude.{position}
+use Rattle.std.proofs.Common.{◌≡◌, ◌+◌, sym, ◌∙◌, ap, subst, arith, MatchBool, Some, None, ◌<◌, length}
+use Rattle.std.specs.Prelude.{if◌then◌else◌, position}
 use Rattle.std.specs.Io.BufRead.{FillKeeps, DropsConsumable}
 use Rattle.std.proofs.BufReadLemmas.{Consumes_shown}
 use Rattle.std.proofs.lemmas.Bool.{eqb-true}
 use Rattle.pcache.specs.Lines.{is_newline, Fetches, HasBegun}
 use Rattle.pcache.specs.declared.lines.Fetched.TheVariants.{Line}
 use Rattle.pcache.proofs.LineLemmas.{position_found, line_ended, line_goes_on, line_too_long, input_ended}
-use Rattle.pcache.proofs.lines.take_part.Goals.{then-is_ended, else-is_ended}
 use Rattle.pcache.proofs.lines.take_part.Goals as goal
 
 pub returns-then-is_empty-clause-goes : goal.returns-then-is_empty-clause-goes
@@ -21,25 +20,25 @@ returns-then-len-clause-goes g c = λ bytes begun.
     let len = c.args.line.now.ok.0 in
     line_too_long bytes c.args.line.now.items c.in-Ok.available.now _ _ begun c.in-Ok.ensures.front at (omega (arith, len))
 
-pub returns-then-is_ended-2-clause-goes : goal.returns-then-is_ended-2-clause-goes
-returns-then-is_ended-2-clause-goes g c = λ bytes begun.
+pub returns-then-is_ended-clause-goes : goal.returns-then-is_ended-clause-goes
+returns-then-is_ended-clause-goes g c = λ bytes begun.
     let s = c.in-Ok.available.now in
     let cut = c.len_before_newline-len in
     let at = position_found s _ _ cut.ensures.found in
-    let found = subst (λ b. MatchBool b ((position is_newline s ≡ Some cut.result.0) × (cut.result.0 < length s)) ((position is_newline s ≡ None) × (cut.result.0 ≡ length s))) c.if-is_ended-2.true cut.ensures.found in
-    let taken : c.if-is_ended.taken ≡ cut.result.0 + 1 = elim c.if-is_ended.branch [ then-is_ended w ↦ w.taken-is | else-is_ended w ↦ absurd cc ] in
+    let found = subst (λ b. MatchBool b ((position is_newline s ≡ Some cut.result.0) × (cut.result.0 < length s)) ((position is_newline s ≡ None) × (cut.result.0 ≡ length s))) c.if-is_ended.true cut.ensures.found in
+    let taken = c.len_with_newline-taken.ensures ∙ ap (λ b. if b then cut.result.0 + 1 else cut.result.0) c.if-is_ended.true in
     let rested = c.fill_buf.follows.lender-at-none in
     let filled = subst (FillKeeps _ (g.R.Read.remaining rested) (g.R.BufRead.consumable_len rested)) c.in-Ok.is c.fill_buf.follows.holds-at-none in
     let moved = Consumes_shown _ _ _ _ s (cut.result.0 + 1) (omega (arith, found.1)) c.in-Ok.ensures.front c.in-Ok.ensures.end filled.0 filled.1 (subst (DropsConsumable (g.R.Read.remaining rested) (g.R.Read.remaining c.consume.new.self) (g.R.BufRead.consumable_len rested)) taken c.consume.ensures.bytes) in
     subst (λ line. Fetches bytes Line line (g.R.Read.remaining c.consume.new.self)) (sym c.in_ok-extend_from_slice.ensures.items)
     (line_ended bytes c.args.line.now.items s cut.result.0 _ _ begun at found.1 moved.0)
 
-pub returns-else-is_ended-2-clause-goes : goal.returns-else-is_ended-2-clause-goes
-returns-else-is_ended-2-clause-goes g c = λ bytes begun.
+pub returns-else-is_ended-clause-goes : goal.returns-else-is_ended-clause-goes
+returns-else-is_ended-clause-goes g c = λ bytes begun.
     let s = c.in-Ok.available.now in
     let cut = c.len_before_newline-len in
     let at = position_found s _ _ cut.ensures.found in
-    let taken : c.if-is_ended.taken ≡ cut.result.0 = elim c.if-is_ended.branch [ then-is_ended w ↦ absurd cc | else-is_ended w ↦ w.taken-is ] in
+    let taken = c.len_with_newline-taken.ensures ∙ ap (λ b. if b then cut.result.0 + 1 else cut.result.0) c.if-is_ended.false in
     let rested = c.fill_buf.follows.lender-at-none in
     let filled = subst (FillKeeps _ (g.R.Read.remaining rested) (g.R.BufRead.consumable_len rested)) c.in-Ok.is c.fill_buf.follows.holds-at-none in
     let moved = Consumes_shown _ _ _ _ s cut.result.0 cut.ensures.within c.in-Ok.ensures.front c.in-Ok.ensures.end filled.0 filled.1 (subst (DropsConsumable (g.R.Read.remaining rested) (g.R.Read.remaining c.consume.new.self) (g.R.BufRead.consumable_len rested)) taken c.consume.ensures.bytes) in

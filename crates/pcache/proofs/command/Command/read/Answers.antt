@@ -1,4 +1,4 @@
-use Rattle.std.proofs.Common.{sym, ◌∙◌, ap, rules, arith}
+use Rattle.std.proofs.Common.{arith}
 use Rattle.pcache.specs.declared.keyword.Keyword.TheVariants.{Read}
 use Rattle.pcache.proofs.CommandLemmas.{asks, after_number, same_number, no_number}
 use Rattle.pcache.proofs.command.Command.read.Goals as goal

@@ -1,10 +1,12 @@
 use Rattle.std.proofs.Common.{sym, ◌∙◌, ap}
 use Rattle.pcache.specs.Words.{words_left}
-use Rattle.pcache.proofs.WordLemmas.{words_of-space, words_of-none}
+use Rattle.pcache.proofs.WordLemmas.{words_of-split, words_of-none}
 use Rattle.pcache.proofs.words.Words.word.Goals as goal
 
 pub returns-in-Some : goal.returns-in-Some
-returns-in-Some c = sym c.self.view_is ∙ ap words_left c.in_ok-rest.was ∙ words_of-space c.in_ok-rest.rest.now c.in-Some.at (sym c.in-Some.ensures)
+returns-in-Some c =
+    let parts = c.in-Some.ensures in
+    sym c.self.view_is ∙ ap words_left c.in_ok-rest.was ∙ words_of-split c.in_ok-rest.rest.now c.in-Some.word.now c.in-Some.rest.now parts.0 parts.1 parts.2
 
 pub returns-in-None : goal.returns-in-None
-returns-in-None c = sym c.self.view_is ∙ ap words_left c.in_ok-rest.was ∙ words_of-none c.in_ok-rest.rest.now (sym c.in-None.ensures)
+returns-in-None c = sym c.self.view_is ∙ ap words_left c.in_ok-rest.was ∙ words_of-none c.in_ok-rest.rest.now c.in-None.ensures
