@@ -1,0 +1,4 @@
+pub mod OperationLemmas
+pub mod SumLemmas
+pub mod WalkLemmas
+pub mod WordLemmas

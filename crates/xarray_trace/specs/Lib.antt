@@ -1,0 +1,11 @@
+pub mod Answers
+pub mod Calls
+pub mod Entries
+pub mod Keywords
+pub mod Lines
+pub mod Operations
+pub mod Runs
+pub mod Stops
+pub mod Walks
+pub mod Watches
+pub mod Words

@@ -1,0 +1,136 @@
+//! What an operation answers, as it is printed.
+
+ghost use Rattle.std.specs.Prelude.{◌≡◌, OnOk, IfSome};
+ghost use Rattle.xarray_trace.specs.Answers.{answer_text, marks_text, entry_text, Prints};
+
+use crate::entries::Entry;
+use crate::stop::Stop;
+use errseq::ErrWord;
+use pc_types::Refusal;
+use std::fmt::Display;
+use std::io::Write;
+use xarray::Found;
+
+#[derive(Clone, Copy, PartialEq, Eq, Debug)]
+pub enum Answer {
+    Ok,
+    None,
+    /// The value before.
+    Old(u64),
+    Value(u64),
+    Refused(Refusal),
+    Is(bool),
+    Entry(Found),
+    Count(u64),
+    /// How many entries, and their hash.
+    Hash(u64, u64),
+    Entries(u64),
+    Word(ErrWord),
+    Since(ErrWord),
+    Code(u16),
+    /// A code, and then the sample and the word after it.
+    Advanced(u16, ErrWord, ErrWord),
+}
+
+impl Answer {
+    ghost use Rattle.std.specs.Prelude.{◌≡◌};
+    ghost use Rattle.xarray_trace.specs.Calls.{before_answer, found_answer, value_answer};
+
+    pub fn before(value: Option<u64>) -> Answer
+        ensures { result ≡ before_answer value }
+    {
+        match value {
+            Some(value) => Answer::Old(value),
+            None => Answer::None,
+        }
+    }
+
+    pub fn value(value: Option<u64>) -> Answer
+        ensures { result ≡ value_answer value }
+    {
+        match value {
+            Some(value) => Answer::Value(value),
+            None => Answer::None,
+        }
+    }
+
+    pub fn found(found: Option<Found>) -> Answer
+        ensures { result ≡ found_answer found }
+    {
+        match found {
+            Some(found) => Answer::Entry(found),
+            None => Answer::None,
+        }
+    }
+}
+
+/// Prints one line.
+pub fn print_line<W: Write, D: Display + Drop>(out: &mut W, text: D) -> Result<(), Stop>
+    ensures { OnOk result (IfSome (D.output text) (λ text. Prints (W.contents out.old) (W.contents out.new) text)) }
+{
+    match out.writeln(text) {
+        Ok(()) => Ok(()),
+        Err(_) => Err(Stop::Output),
+    }
+}
+
+/// Prints what an operation answered.
+pub fn print_answer<W: Write>(out: &mut W, answer: Answer) -> Result<(), Stop>
+    ensures { OnOk result (Prints (W.contents out.old) (W.contents out.new) (answer_text answer)) }
+{
+    match answer {
+        Answer::Ok => print_line(out, "ok"),
+        Answer::None => print_line(out, "none"),
+        Answer::Old(value) => print_line(out, format_args!("old {value}")),
+        Answer::Value(value) => print_line(out, format_args!("value {value}")),
+        Answer::Refused(refusal) => print_line(out, format_args!("refused {}", refusal.number())),
+        Answer::Is(is) => print_line(out, if is { "true" } else { "false" }),
+        Answer::Entry(found) => print_line(
+            out,
+            format_args!("entry {} {} {}", found.first, found.order, found.value),
+        ),
+        Answer::Count(count) => print_line(out, format_args!("count {count}")),
+        Answer::Hash(count, hash) => print_line(out, format_args!("hash {count} {hash:016x}")),
+        Answer::Entries(count) => print_line(out, format_args!("entries {count}")),
+        Answer::Word(word) => print_line(out, format_args!("word {:08x}", word.0)),
+        Answer::Since(since) => print_line(out, format_args!("since {:08x}", since.0)),
+        Answer::Code(code) => print_line(out, format_args!("code {code}")),
+        Answer::Advanced(code, since, word) => print_line(
+            out,
+            format_args!("code {code} since {:08x} word {:08x}", since.0, word.0),
+        ),
+    }
+}
+
+/// Prints an entry: its first index, its order, its value and its marks.
+pub fn print_entry<W: Write>(out: &mut W, entry: Entry) -> Result<(), Stop>
+    ensures { OnOk result (Prints (W.contents out.old) (W.contents out.new) (entry_text entry)) }
+{
+    let found = entry.found;
+    print_line(
+        out,
+        format_args!(
+            "{} {} {} {}",
+            found.first,
+            found.order,
+            found.value,
+            marks_text(entry.marks)
+        ),
+    )
+}
+
+/// The digits of the marks that are set.
+fn marks_text(marks: u8) -> &'static str
+    ensures { result.now ≡ marks_text marks }
+{
+    match marks {
+        1 => "0",
+        2 => "1",
+        3 => "01",
+        4 => "2",
+        5 => "02",
+        6 => "12",
+        7 => "012",
+        _ => "-",
+    }
+}

@@ -1,0 +1,10 @@
+//! Where a byte stands.
+
+ghost use Rattle.std.specs.Prelude.{◌≡◌, ◌==◌, position};
+
+/// The index of the first such byte.
+pub fn find_byte(bytes: &[u8], byte: u8) -> Option<usize>
+    ensures { result ≡ position (λ b. b == byte) bytes.now }
+{
+    bytes.iter().position(|b| *b == byte)
+}

@@ -1,0 +1,44 @@
+//! Runs a trace of operations on a marked array and an error word, and prints what each answers, so that the same trace can be
+//! run through Linux's own XArray and compared.
+//!
+//! `run` runs a trace line by line. `words` and `keyword` take a line apart, `operation` says what it asks for, `array_call` and
+//! `word_call` make the call, `entries` goes over an array, `answer` prints what came of it, and `stop` says why a run ends
+//! before its trace does.
+#![tactic(auto)]
+
+mod answer;
+mod array_call;
+mod entries;
+mod find;
+mod keyword;
+mod operation;
+mod run;
+mod stop;
+#[cfg(test)]
+mod tests;
+mod word_call;
+mod words;
+
+use run::run_trace;
+use std::io::{BufReader, BufWriter, Write};
+use std::process::ExitCode;
+use stop::Stop;
+
+fn main(rt: HostRuntime) -> ExitCode {
+    ExitCode::from(run_streams(&rt))
+}
+
+/// Runs the trace on standard input, and gives the status.
+fn run_streams(rt: &HostRuntime) -> u8 {
+    let alloc = rt.alloc();
+    match (
+        BufReader::new(alloc, rt.stdin()),
+        BufWriter::new(alloc, rt.stdout()),
+    ) {
+        (Ok(reader), Ok(out)) => run_trace(alloc, reader, out, rt.stderr()),
+        _ => {
+            let _ = writeln!(rt.stderr(), "xarray_trace: {}", Stop::Memory);
+            Stop::Memory.status()
+        }
+    }
+}

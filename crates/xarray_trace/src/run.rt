@@ -1,0 +1,145 @@
+//! A run of a trace.
+
+ghost use Rattle.std.specs.Prelude.{◌≡◌, IfOk, IfSome, OnOk};
+ghost use Rattle.std.specs.FinMap as map;
+ghost use Rattle.std.specs.Io.KnownBytes.{Appends};
+ghost use Rattle.xarray_trace.specs.Answers.{lines_text};
+ghost use Rattle.xarray_trace.specs.Lines.{Fetches, is_blank};
+ghost use Rattle.xarray_trace.specs.Runs.{RunsCall, RunsLine};
+
+use crate::answer::{print_answer, print_entry, print_line};
+use crate::array_call::{ArrayCall, make};
+use crate::entries::{entry_from, index_after};
+use crate::operation::Operation;
+use crate::stop::Stop;
+use crate::word_call::{Watched, watch};
+use std::alloc::Global;
+use std::io::{BufRead, Write};
+use xarray::XArray;
+
+/// What the lines of a trace work on.
+#[derive(Drop)]
+pub struct Session {
+    pub array: XArray,
+    pub watched: Watched,
+}
+
+/// Runs a trace and prints what each of its lines answers. Gives the status that the program ends with, and says on `err`
+/// why where it is not 0.
+pub fn run_trace<R: BufRead + Drop, W: Write + Drop, E: Write + Drop>(
+    alloc: Global,
+    reader: R,
+    mut out: W,
+    mut err: E,
+) -> u8 {
+    let ended = run_lines(alloc, reader, &mut out);
+    // The answers before a stop are printed all the same.
+    let ended = if out.flush().is_err() {
+        Err(Stop::Output)
+    } else {
+        ended
+    };
+    match ended {
+        Ok(()) => 0,
+        Err(stop) => {
+            let _ = writeln!(err, "xarray_trace: {stop}");
+            stop.status()
+        }
+    }
+}
+
+fn run_lines<R: BufRead + Drop, W: Write>(
+    alloc: Global,
+    mut reader: R,
+    out: &mut W,
+) -> Result<(), Stop> {
+    let mut session = Session {
+        array: XArray::new(alloc),
+        watched: Watched::new(),
+    };
+    let mut line = Vec::new(alloc);
+    'lines: for _ in 0..u64::MAX {
+        if !fetch_line(&mut reader, &mut line)? {
+            return Ok(());
+        }
+        if !is_blank(line.as_slice()) {
+            run_line(alloc, &mut session, line.as_slice(), out)?;
+        }
+    }
+    Err(Stop::Input)
+}
+
+/// Fetches the next line, without its ending, and says whether there was one.
+fn fetch_line<R: BufRead>(reader: &mut R, line: &mut Vec<u8>) -> Result<bool, Stop>
+    ensures { IfSome (R.remaining reader.old) (λ bytes. IfOk result (λ is_there. Fetches bytes is_there line.new.items (R.remaining reader.new))) }
+{
+    line.clear();
+    let count = match reader.read_until(b'\n', line) {
+        Ok(count) => count,
+        Err(error) => return Err(Stop::of_input(&error)),
+    };
+    if line.last() == Some(&b'\n') {
+        line.pop();
+    }
+    Ok(count > 0)
+}
+
+/// Whether the line is empty or a comment.
+fn is_blank(line: &[u8]) -> bool
+    ensures { result ≡ is_blank line.now }
+{
+    line.is_empty() || line[0] == b'#'
+}
+
+/// Runs one line that is neither empty nor a comment.
+fn run_line<W: Write>(
+    alloc: Global,
+    session: &mut Session,
+    line: &[u8],
+    out: &mut W,
+) -> Result<(), Stop>
+    ensures { OnOk result (RunsLine line.now session.old session.new (W.contents out.old) (W.contents out.new)) }
+{
+    match Operation::parse(alloc, line)? {
+        None => print_line(out, "unknown"),
+        Some(Operation::Array(call)) => run_array_call(alloc, &mut session.array, call, out),
+        Some(Operation::Word(call)) => {
+            let answer = watch(&mut session.watched, call);
+            print_answer(out, answer)
+        }
+    }
+}
+
+/// Makes a call on the array and prints what it answers.
+#[tactic(auto, using(crate::proofs::SumLemmas::appends_both))]
+fn run_array_call<W: Write>(
+    alloc: Global,
+    array: &mut XArray,
+    call: ArrayCall,
+    out: &mut W,
+) -> Result<(), Stop>
+    ensures { OnOk result (RunsCall array.old call array.new (W.contents out.old) (W.contents out.new)) }
+{
+    let answer = make(alloc, array, call)?;
+    print_answer(out, answer)?;
+    if call == ArrayCall::Dump {
+        print_entries(array, out)?;
+    }
+    Ok(())
+}
+
+/// Prints each entry on a line.
+#[tactic(auto, using(crate::proofs::SumLemmas::printed_none, crate::proofs::SumLemmas::printed_more, crate::proofs::SumLemmas::printed_end, crate::proofs::SumLemmas::shorter))]
+fn print_entries<W: Write>(array: &XArray, out: &mut W) -> Result<(), Stop>
+    ensures { OnOk result (Appends (W.contents out.old) (W.contents out.new) (lines_text (map.entries array.now.ranges))) }
+{
+    let mut from = Some(0);
+    'entries: while let Some(start) = from {
+        let Some(entry) = entry_from(array, start) else {
+            return Ok(());
+        };
+        print_entry(out, entry)?;
+        from = index_after(entry.found);
+    }
+    Ok(())
+}
