@@ -4,7 +4,7 @@ use pc_types::Refusal;
 use std::alloc::Global;
 use xarray::{Found, Mark, XArray};
 
-/// The calls of an array that are timed, all with the first mark.
+/// The calls of an array that are timed, all with the first mark. A retag gives the second one to the whole array.
 pub trait Calls {
     fn new(alloc: Global) -> Self;
 
@@ -23,6 +23,8 @@ pub trait Calls {
     fn find(&self, from: u64) -> Option<Found>;
 
     fn find_marked(&self, from: u64) -> Option<Found>;
+
+    fn retag(&mut self) -> u64;
 }
 
 /// Calls that the compiler may inline into the loop.
@@ -77,6 +79,11 @@ impl Calls for Direct {
     fn find_marked(&self, from: u64) -> Option<Found> {
         self.array.find_marked(from, u64::MAX, Mark::M0)
     }
+
+    #[inline(always)]
+    fn retag(&mut self) -> u64 {
+        self.array.retag(0, u64::MAX, Mark::M0, Mark::M1)
+    }
 }
 
 /// Calls that stay calls.
@@ -130,5 +137,10 @@ impl Calls for Behind {
     #[inline(never)]
     fn find_marked(&self, from: u64) -> Option<Found> {
         self.array.find_marked(from, u64::MAX, Mark::M0)
+    }
+
+    #[inline(never)]
+    fn retag(&mut self) -> u64 {
+        self.array.retag(0, u64::MAX, Mark::M0, Mark::M1)
     }
 }

@@ -17,6 +17,7 @@ pub enum Row {
     SetMarkFirst,
     SetMarkAgain,
     FindMarked,
+    Retag,
     ClearMark,
     GetMark,
     EraseRandom,
@@ -36,7 +37,7 @@ enum Content {
 }
 
 impl Row {
-    pub const ALL: [Row; 12] = [
+    pub const ALL: [Row; 13] = [
         Row::StoreNew,
         Row::StoreOver,
         Row::LoadSequential,
@@ -45,6 +46,7 @@ impl Row {
         Row::SetMarkFirst,
         Row::SetMarkAgain,
         Row::FindMarked,
+        Row::Retag,
         Row::ClearMark,
         Row::GetMark,
         Row::EraseRandom,
@@ -61,6 +63,7 @@ impl Row {
             Row::SetMarkFirst => "set_mark, dense, first time",
             Row::SetMarkAgain => "set_mark, dense, already set",
             Row::FindMarked => "find_marked, 1% marked, each call from the root, per found",
+            Row::Retag => "retag of the 1%",
             Row::ClearMark => "clear_mark, dense",
             Row::GetMark => "get_mark, random",
             Row::EraseRandom => "erase, random",
@@ -73,7 +76,7 @@ impl Row {
         ensures { 0 < result }
     {
         match self {
-            Row::FindMarked => ENTRIES / loops::SPARSE,
+            Row::FindMarked | Row::Retag => ENTRIES / loops::SPARSE,
             _ => ENTRIES,
         }
     }
@@ -82,7 +85,7 @@ impl Row {
         match self {
             Row::StoreNew => Content::Nothing,
             Row::SetMarkAgain | Row::ClearMark | Row::GetMark => Content::Marked,
-            Row::FindMarked => Content::Sparse,
+            Row::FindMarked | Row::Retag => Content::Sparse,
             _ => Content::Dense,
         }
     }
@@ -116,6 +119,7 @@ impl Row {
             Row::FindNext => loops::find_all(array),
             Row::SetMarkFirst | Row::SetMarkAgain => loops::mark_all(array),
             Row::FindMarked => loops::find_all_marked(array),
+            Row::Retag => array.retag(),
             Row::ClearMark => loops::clear_all(array),
             Row::GetMark => loops::get_marks_in_order(array, order),
             Row::EraseRandom => loops::erase_in_order(array, order),

@@ -31,6 +31,7 @@ fn rows_do_their_work(rt: HostRuntime) -> Result<(), Fail> {
             | Row::EraseRandom
             | Row::EraseSequential => values,
             Row::FindMarked => 4_999_510_000,
+            Row::Retag => 10_000,
             Row::ClearMark => 0,
         };
         let label = row.label();
