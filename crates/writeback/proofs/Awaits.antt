@@ -17,19 +17,19 @@ use Rattle.writeback.proofs.MapLaws.{lookup, get_is, get-remove_nat, both_true, 
 
 -- ---- each entry of a list
 
-abbrev Each : {A : Type 0} → (A → Type 0) → List A → Type 0
+abbrev pub Each : {A : Type 0} → (A → Type 0) → List A → Type 0
 Each P [] = Unit {0}
 Each P (x ∷ xs) = P x × Each P xs
 
-each_on : {A : Type 0} {P Q : A → Type 0} → ((x : A) → P x → Q x) → (xs : List A) → Each P xs → Each Q xs
+pub each_on : {A : Type 0} {P Q : A → Type 0} → ((x : A) → P x → Q x) → (xs : List A) → Each P xs → Each Q xs
 each_on f [] h = tt
 each_on f (x ∷ xs) h = (f x h.0, each_on f xs h.1)
 
-is_true : (b : Bool) → T b → b ≡ true
+pub is_true : (b : Bool) → T b → b ≡ true
 is_true true h = refl
 is_true false h = absurd h
 
-more : (a b : ℕ) → is_lt (nat_cmp a b) ≡ true → a < b
+pub more : (a b : ℕ) → is_lt (nat_cmp a b) ≡ true → a < b
 more a b e = grind (arith, nat_tests)
 
 apart : (a b : ℕ) → a < b → eqb b a ≡ false

@@ -1,7 +1,9 @@
 pub mod Awaits
 pub mod Finds
 pub mod MapLaws
+pub mod PickLemmas
 pub mod Places
 pub mod RisingLemmas
 pub mod SlotLemmas
+pub mod StepLaws
 pub mod TableLemmas

@@ -1,15 +1,16 @@
 -- The table of requests in flight as a finite map, and what each change of the table does to the map.
 use Rattle.std.proofs.Common.{◌≡◌, ℕ, ◌+◌, ◌<◌, Bool, true, false, cond, eqb, eqb-true, List, [], ◌∷◌, ◌++◌, length, get_or, refl, ap, sym, subst, ◌∙◌, arith, map, nat_le, ◌≤◌}
-use Rattle.std.specs.Prelude.{◌&&◌, Option, Some, None, option_map, find, position, remove}
+use Rattle.std.specs.Prelude.{◌&&◌, ◌||◌, Option, Some, None, option_map, find, position, remove}
+use Rattle.std.specs.List.{list_any}
 use Rattle.std.specs.Ordering.{nat_cmp}
 use Rattle.std.specs.FinMap as finmap
 use Rattle.std.specs.FinMap.{from_entries}
 use Rattle.std.proofs.lemmas.Bool.Decides.{nat_tests}
 use Rattle.std.proofs.lemmas.List.{length-map, map-append}
 use Rattle.std.proofs.lemmas.List.Quantifiers.{position-Some}
-use Rattle.pc_types.specs.declared.limits.TheConstants.{MAX_IN_FLIGHT, SERIAL_END}
+use Rattle.pc_types.specs.declared.limits.TheConstants.{MAX_IN_FLIGHT}
 use Rattle.writeback.specs.declared.requests.Entry.{Entry}
-use Rattle.writeback.specs.Flights.{Flight, Flights, each_value, begun, ended, cut_flight, is_flush_below, first_flush, is_full}
+use Rattle.writeback.specs.Flights.{Flight, Flights, each_value, begun, ended, cut_flight, is_flush_below, fills, first_flush, is_full}
 use Rattle.writeback.specs.Requests.{entry_of, flight_of, cut_entry}
 use Rattle.writeback.specs.Rising.{IsRising}
 use Rattle.writeback.proofs.MapLaws.{lookup, get-lookup, same_nat_map, get-remove_nat}
@@ -31,9 +32,6 @@ len_table next items r = sym (len-rising 0 next (map entry_of items) r ∙ lengt
 
 pub room : (next : ℕ) (items : List Entry) → IsTable next items → is_full (table next items) ≡ false → length items < MAX_IN_FLIGHT
 room next items r e = let l = len_table next items r in grind (arith, nat_tests)
-
-pub serial_left : (next : ℕ) (items : List Entry) → is_full (table next items) ≡ false → next < SERIAL_END
-serial_left next items e = grind (arith, nat_tests)
 
 find_entry : (items : List Entry) (s : ℕ) → option_map flight_of (option_map (λ (e : Entry). e.request) (find (λ (e : Entry). eqb e.serial.0 s) items)) ≡ lookup s (map entry_of items)
 find_entry [] s = refl
@@ -134,3 +132,12 @@ first_table next f bound items r = in_list items ∙ ap (λ es. option_map {U = 
 
 pub none_above : (next : ℕ) (items : List Entry) (t : ℕ) → next ≤ t → IsTable next items → finmap.get (table next items).requests t ≡ None
 none_above next items t h r = get-lookup (map entry_of items) t ∙ lookup_high t 0 next (map entry_of items) h r
+
+-- ---- whether a page is filling
+
+pub fills_table : (next f p : ℕ) (items : List Entry) → IsTable next items → list_any (λ (e : Entry). fills f p (flight_of e.request)) items ≡ list_any (fills f p) (finmap.values (table next items).requests)
+fills_table next f p items r = in_list items ∙ ap (λ (es : List (ℕ × Flight)). list_any (fills f p) (map (λ (e : ℕ × Flight). e.1) es)) (sym (entries-rising 0 next (map entry_of items) r))
+  where
+    in_list : (es : List Entry) → list_any (λ (e : Entry). fills f p (flight_of e.request)) es ≡ list_any (fills f p) (map (λ (e : ℕ × Flight). e.1) (map entry_of es))
+    in_list [] = refl
+    in_list (e ∷ es) = ap (λ b. fills f p (flight_of e.request) || b) (in_list es)

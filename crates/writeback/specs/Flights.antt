@@ -41,6 +41,10 @@ each_value f m = map.from_entries (map_list (λ e. (e.0, f e.1)) (map.entries m)
 abbrev pub cut_flight : ℕ → ℕ → Flight → Flight
 cut_flight f p r = if r.file == f && nat_le p r.page then record r { dropped = true } else r
 
+-- a fill of page p of file f that is not dropped: the page is filling while one is in flight
+abbrev pub fills : ℕ → ℕ → Flight → Bool
+fills f p r = is_fill r.kind && not r.dropped && (r.file == f && r.page == p)
+
 -- a flush of f that is not dropped
 abbrev pub is_flush_of : ℕ → Flight → Bool
 is_flush_of f r = is_flush r.kind && not r.dropped && r.file == f

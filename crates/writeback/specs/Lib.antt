@@ -1,4 +1,5 @@
 pub mod Flights
+pub mod Picks
 pub mod Requests
 pub mod Rising
 pub mod Slots

@@ -1,16 +1,21 @@
-//! The requests in flight and the syncs in progress of a cache, in two tables of a fixed size that take no memory.
+//! What a page cache has under way: the requests in flight, the syncs in progress, and which page is written next.
 //!
-//! `Requests` is a finite map from serials to requests, and `Syncs` one from numbers to syncs (`specs/Flights.antt`,
-//! `specs/Syncs.antt`). Each call says what becomes of its map. In code a sync has a write cursor and a bound on serials;
-//! `proofs/Awaits.antt` has the laws by which that bound stands for the requests that the sync awaits.
+//! `Requests` is a finite map from serials to requests, and `Syncs` one from numbers to syncs, in two tables of a fixed size that
+//! take no memory (`specs/Flights.antt`, `specs/Syncs.antt`). Each call is one equation on its map. The picks read and tag a
+//! `Mapping` (`specs/Picks.antt`). In code a sync has a write cursor and a bound on serials; `proofs/Awaits.antt` and
+//! `proofs/StepLaws.antt` have the laws by which they stand for the pages that it started and the requests that it awaits.
 //!
-//! `requests` has the table of requests, `syncs` that of the syncs.
+//! `requests` has the table of requests, `syncs` that of the syncs, `picks` what is written next.
 #![tactic(auto)]
 
+mod picks;
 mod requests;
+#[cfg(test)]
+mod sync_tests;
 mod syncs;
 #[cfg(test)]
 mod tests;
 
+pub use picks::{SyncStep, begin_write, end_write, flush_pick, sync_begin, sync_pick, sync_step};
 pub use requests::{Request, Requests};
 pub use syncs::{Progress, Syncs};

@@ -2,7 +2,8 @@
 
 ghost use Rattle.std.specs.Prelude.{◌≡◌, ℕ, ◌≤◌, ◌==◌, None, ◌&&◌, false, map as map_list, find, position, option_map, nat_lt};
 ghost use Rattle.std.specs.FinMap as map;
-ghost use Rattle.writeback.specs.Flights.{begun, cut_flight, each_value, ended, first_flush, is_flush_below, is_full};
+ghost use Rattle.std.specs.List.{list_any};
+ghost use Rattle.writeback.specs.Flights.{begun, cut_flight, each_value, ended, fills, first_flush, is_flush_below, is_full};
 ghost use Rattle.writeback.specs.Requests.{cut_entry, entry_of, flight_of};
 ghost use Rattle.writeback.specs.declared.requests.Entry.{Entry};
 
@@ -26,8 +27,14 @@ pub struct Request {
 }
 
 impl Request {
-    ghost use Rattle.writeback.specs.Flights.{is_flush_of};
+    ghost use Rattle.writeback.specs.Flights.{fills, is_flush_of};
     ghost use Rattle.writeback.specs.Requests.{flight_of};
+
+    fn fills(&self, file: FileId, page: PageIndex) -> bool
+        ensures { result ≡ fills file.0 page.0 (flight_of self.now) }
+    {
+        self.kind == Kind::Fill && !self.dropped && (self.file == file && self.page == page)
+    }
 
     fn is_flush_of(&self, file: FileId) -> bool
         ensures { result ≡ is_flush_of file.0 (flight_of self.now) }
@@ -148,6 +155,13 @@ impl Requests {
         request_in(&self.in_flight, serial)
     }
 
+    /// Whether a fill of the page is in flight and not dropped.
+    pub fn is_filling(&self, file: FileId, page: PageIndex) -> bool
+        ensures { result ≡ list_any (fills file.0 page.0) (map.values self.now.requests) }
+    {
+        fills_in(&self.in_flight, file, page)
+    }
+
     /// Begins a request, which takes the next serial.
     pub fn begin(&mut self, kind: Kind, file: FileId, page: PageIndex, block: BlockNo) -> Serial
         requires { is_full self.old ≡ false }
@@ -204,6 +218,14 @@ fn request_in(in_flight: &[Entry], serial: Serial) -> Option<Request>
 {
     let entry = in_flight.iter().find(|entry| entry.serial == serial)?;
     Some(entry.request)
+}
+
+fn fills_in(in_flight: &[Entry], file: FileId, page: PageIndex) -> bool
+    ensures { result ≡ list_any (λ (e : Entry). fills file.0 page.0 (flight_of e.request)) in_flight.now }
+{
+    in_flight
+        .iter()
+        .any(|entry| entry.request.fills(file, page))
 }
 
 fn flush_in(in_flight: &[Entry], file: FileId, bound: Serial) -> Option<Entry>

@@ -54,6 +54,9 @@ fn serials_count_from_0(rt: HostRuntime) {
         Some(request(Kind::Flush, 1, 4, false))
     );
     assert_eq!(rt; requests.get(Serial(2)), None);
+    assert!(rt; requests.is_filling(FileId(0), PageIndex(3)));
+    assert!(rt; !requests.is_filling(FileId(1), PageIndex(4)));
+    assert!(rt; !requests.is_filling(FileId(0), PageIndex(4)));
 
     // An end takes the request out once, and its serial is not given again.
     assert_eq!(rt;
@@ -118,6 +121,7 @@ fn a_cut_drops_requests_and_keeps_them(rt: HostRuntime) {
 
     // Page 1 of file 0 and all pages of file 1 stay.
     requests.drop_from(FileId(0), PageIndex(2));
+    assert!(rt; !requests.is_filling(FileId(0), PageIndex(3)));
     assert_eq!(rt; requests.len(), 4);
     assert_eq!(rt;
         requests.get(Serial(0)),

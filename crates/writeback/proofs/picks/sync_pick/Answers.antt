@@ -1,0 +1,6 @@
+use Rattle.std.proofs.Common.{◌∙◌}
+use Rattle.writeback.proofs.PickLemmas.{sync_picks}
+use Rattle.writeback.proofs.picks.sync_pick.Goals as goal
+
+pub returns-clause-pick : goal.returns-clause-pick
+returns-clause-pick c = c.find_tagged.ensures.lowest ∙ sync_picks c.args.mapping.now.pages c.args.cursor.0 c.know_numbers.ensures

@@ -1,0 +1,129 @@
+//! Which page is written next, and the tags of a page that is.
+
+ghost use Rattle.std.specs.Prelude.{◌≡◌, ◌<◌, IfSome, option_map};
+ghost use Rattle.mapping.specs.Pages.{change_at, found, with_tags};
+ghost use Rattle.writeback.specs.Flights.{each_value};
+ghost use Rattle.writeback.specs.Picks.{IsNumbered, StartsBelow, after_write, awaits, flush_pick, picked, sync_pick, sync_step, to_write, under_write};
+ghost use Rattle.writeback.specs.Slots.{last_before, state_of};
+
+use crate::requests::Requests;
+use crate::syncs::Progress;
+use mapping::{FoundPage, MAX_PAGES, Mapping};
+use pc_types::{FileId, PageIndex, Serial, Tag, Tags};
+
+/// What a sync does next.
+#[derive(Clone, Copy, PartialEq, Eq, Debug)]
+pub enum SyncStep {
+    /// It starts this page.
+    Start(FoundPage),
+    /// A write of this page, which it has left to start, is in flight, and it waits for that. What is then in the page
+    /// is written anew: the write in flight may have older bytes.
+    Held(PageIndex),
+    /// It has nothing to start any more. From now on it has this bound, and it waits for the flush of this page.
+    Await(PageIndex, Serial),
+    /// It has nothing to start and nothing to wait for.
+    Over,
+}
+
+/// The lowest page that is DIRTY and has no write in flight.
+pub fn flush_pick(mapping: &Mapping) -> Option<FoundPage>
+    ensures pick { result ≡ option_map found (flush_pick mapping.now.pages) }
+    ensures numbered { IfSome result (λ found. found.page.0 < MAX_PAGES) }
+{
+    know_numbers(mapping);
+    let mut from = PageIndex(0);
+    while let Some(found) = mapping.find_tagged(from, PageIndex(MAX_PAGES), Tag::Dirty) {
+        if !mapping.has_tag(found.page, Tag::Writeback) {
+            return Some(found);
+        }
+        from = PageIndex(found.page.0 + 1);
+    }
+    None
+}
+
+/// Tags each DIRTY page with TOWRITE, before the sync that begins starts any write. Pages that are made DIRTY later do not
+/// prolong the sync. The cost is that of the DIRTY pages.
+pub fn sync_begin(mapping: &mut Mapping)
+    ensures { mapping.new ≡ record mapping.old { pages = each_value to_write mapping.old.pages } }
+{
+    know_numbers(mapping);
+    mapping.retag(PageIndex(0), PageIndex(MAX_PAGES), Tag::Dirty, Tag::Towrite);
+}
+
+/// The lowest page that a sync with this write cursor has left to start.
+pub fn sync_pick(mapping: &Mapping, cursor: PageIndex) -> Option<FoundPage>
+    ensures pick { result ≡ option_map found (sync_pick mapping.now.pages (last_before cursor.0)) }
+    ensures numbered { IfSome result (λ found. found.page.0 < MAX_PAGES) }
+{
+    know_numbers(mapping);
+    mapping.find_tagged(cursor, PageIndex(MAX_PAGES), Tag::Towrite)
+}
+
+/// What a sync of `file` does next. It changes nothing: the caller makes the step.
+pub fn sync_step(
+    mapping: &Mapping,
+    requests: &Requests,
+    file: FileId,
+    progress: &Progress,
+) -> SyncStep
+    ensures step { result ≡ sync_step file.0 mapping.now.pages requests.now (state_of progress.now) }
+    ensures numbered { StartsBelow MAX_PAGES result }
+{
+    match progress.bound {
+        Some(bound) => awaits(requests, file, bound),
+        None => picked(mapping, requests, file, progress.cursor),
+    }
+}
+
+/// A write of the page begins: it loses DIRTY and TOWRITE and gets WRITEBACK. Where no page is cached nothing is done.
+pub fn begin_write(mapping: &mut Mapping, page: PageIndex)
+    ensures { mapping.new ≡ record mapping.old { pages = change_at page.0 (with_tags under_write) mapping.old.pages } }
+{
+    let _ = mapping.set_tags(page, Tags::none().with(Tag::Writeback));
+}
+
+/// A write of the page ended: it loses WRITEBACK, and is DIRTY again where the write failed.
+pub fn end_write(mapping: &mut Mapping, page: PageIndex, failed: bool)
+    ensures { mapping.new ≡ record mapping.old { pages = change_at page.0 (after_write failed) mapping.old.pages } }
+{
+    mapping.untag(page, Tag::Writeback);
+    if failed {
+        let _ = mapping.tag(page, Tag::Dirty);
+    }
+}
+
+/// A sync that has nothing to start, with this bound.
+fn awaits(requests: &Requests, file: FileId, bound: Serial) -> SyncStep
+    ensures step { result ≡ awaits file.0 bound.0 requests.now }
+    ensures numbered { StartsBelow MAX_PAGES result }
+{
+    match requests.first_flush(file, bound) {
+        Some((_, page)) => SyncStep::Await(page, bound),
+        None => SyncStep::Over,
+    }
+}
+
+/// A sync that may have pages left to start.
+fn picked(mapping: &Mapping, requests: &Requests, file: FileId, cursor: PageIndex) -> SyncStep
+    ensures step { result ≡ picked file.0 requests.now (sync_pick mapping.now.pages (last_before cursor.0)) }
+    ensures numbered { StartsBelow MAX_PAGES result }
+{
+    match sync_pick(mapping, cursor) {
+        Some(found) => {
+            if mapping.has_tag(found.page, Tag::Writeback) {
+                SyncStep::Held(found.page)
+            } else {
+                SyncStep::Start(found)
+            }
+        }
+        None => awaits(requests, file, requests.next_serial()),
+    }
+}
+
+/// Tells the proof that every page has a number below `MAX_PAGES`: a search from there on finds nothing, since what a
+/// search finds is below. It ends at the root.
+fn know_numbers(mapping: &Mapping)
+    ensures { IsNumbered mapping.now.pages }
+{
+    mapping.find_page(PageIndex(MAX_PAGES));
+}
