@@ -17,6 +17,7 @@ use Rattle.world.specs.Always.{Always, PageAlways, RequestAlways, HoldsAlways}
 use Rattle.world.proofs.PageLaws.{length-page}
 use Rattle.world.proofs.Moves.{run_take}
 use Rattle.world.proofs.Counted.{Counted, run_counted}
+use Rattle.world.proofs.Roomy.{Roomy, run_roomy}
 use Rattle.cachecore.proofs.Found.{found}
 use Rattle.std.specs.List.{list_any}
 use Rattle.std.specs.Prelude.{find, map}
@@ -50,7 +51,7 @@ filling_found s f p e =
     let g = both_of (eqb a.0.1.file f) (eqb a.0.1.page p) c.1 in
     (a.0.0, a.0.1, b.1, fill_kind a.0.1.kind d.0, undropped a.0.1.dropped d.1, eqb-true a.0.1.file f g.0, eqb-true a.0.1.page p g.1)
 
-module _ (w : World) (plain : Plain) (c : Coupled w plain) (n : Counted w.core) where
+module _ (w : World) (plain : Plain) (c : Coupled w plain) (n : Counted w.core) (room : Roomy w.core) where
   abbrev s : State
   s = w.core
 
@@ -100,6 +101,13 @@ module _ (w : World) (plain : Plain) (c : Coupled w plain) (n : Counted w.core) 
     one_request = c.good.requests_apart;
     outcomes = c.good.outcomes;
     handles = c.valid;
+    sync_handles = room.sync_handles;
+    file_count = room.tables.files;
+    handle_count = room.tables.handles;
+    request_count = room.tables.requests;
+    sync_count = room.tables.syncs;
+    file_sizes = room.tables.sizes;
+    frames = room.frames;
     failures = n.failures;
     serials = n.serials;
     blocks = c.blocks;
@@ -107,4 +115,4 @@ module _ (w : World) (plain : Plain) (c : Coupled w plain) (n : Counted w.core) 
   }
 
 pub holds_always : HoldsAlways
-holds_always w run first r k = always (world_at w run k) (plain_at run k) (coupled_at w run first r k) (run_counted (take k run) w first (run_take run w k r))
+holds_always w run first r k = always (world_at w run k) (plain_at run k) (coupled_at w run first r k) (run_counted (take k run) w first (run_take run w k r)) (run_roomy (take k run) w first (run_take run w k r))

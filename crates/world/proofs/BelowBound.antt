@@ -1,13 +1,13 @@
 -- The serials that a sync awaits, after a step: the flushes of its file in flight below a bound.
 use Rattle.std.proofs.Common.{◌≡◌, ℕ, ◌<◌, ◌≤◌, Bool, true, false, cond, not, eqb, eqb-true, eq-eqb, List, [], ◌∷◌, refl, ap, sym, subst, ◌∙◌, arith, inl, inr}
-use Rattle.std.specs.Prelude.{◌&&◌, ◌||◌, ◌⊎◌, Option, Some, None, option_map, nat_le, nat_lt}
+use Rattle.std.specs.Prelude.{◌&&◌, ◌||◌, Some, None, option_map, nat_le, nat_lt}
 use Rattle.std.specs.Ordering.{nat_cmp}
 use Rattle.std.specs.FinMap as finmap
 use Rattle.cachecore.specs.State.{State, Request, Sync, page_count}
 use Rattle.pc_types.specs.Kinds.{is_flush}
 use Rattle.cachecore.specs.Changes.{is_live, flushes_of, is_flush_of, cut_request}
 use Rattle.cachecore.proofs.MapLaws.{get-each_value}
-use Rattle.world.proofs.Track.{KeepsRequests, LosesRequests}
+use Rattle.world.proofs.Track.{AwaitsAfter, LosesRequests}
 use Rattle.world.proofs.Awaited.{keys_of, filter-swap, flushes-remove, flushes-changed, flushes-insert, flushes-all}
 use Rattle.std.specs.List.{list_any}
 use Rattle.std.specs.Prelude.{filter, map}
@@ -52,22 +52,33 @@ cut_flush P f' z f r = elim (eqb r.file f' && nat_le (page_count P z) r.page) as
     twice false b d = refl
 
 -- the serials below a bound among the flushes in flight
-abbrev pub AreBelow : State → ℕ → List ℕ → Type 0
-AreBelow s f ts = (b : ℕ) × (b ≤ s.next) × (ts ≡ filter (λ t. nat_lt t b) (flushes_of s f))
+abbrev pub AreBelow : State → ℕ → ℕ → List ℕ → Type 0
+AreBelow s f b ts = (b ≤ s.next) × (ts ≡ filter (λ t. nat_lt t b) (flushes_of s f))
 
--- the list after a step
-pub below_next : (s new : State) (f : ℕ) (below : (q : ℕ) (v : Request) → finmap.get s.requests q ≡ Some v → q < s.next) (y z : Sync) (ts : List ℕ)
-    → ((us : List ℕ) → y.awaited ≡ Some us → AreBelow s f us)
-    → ((z.awaited ≡ y.awaited) × KeepsRequests s new) ⊎ (((z.awaited ≡ option_map (filter (is_live new.requests)) y.awaited) × LosesRequests s new) ⊎ ((z.awaited ≡ Some (flushes_of s f)) × (new.requests ≡ s.requests) × (new.next ≡ s.next)))
-    → z.awaited ≡ Some ts → AreBelow new f ts
-below_next s new f below y z ts old how e = elim how [
-  | inl a ↦ (let o = old ts (sym a.0 ∙ e) in elim a.1 [
-    | inl k ↦ (o.0, (let m = o.1 in let d = k.1 in omega arith), o.2 ∙ ap (λ m. filter (λ t. nat_lt t o.0) (keys_of (is_flush_of f) (finmap.entries m))) (sym k.0))
-    | inr k ↦ (o.0, (let m = o.1 in let d = k.2 in omega arith), o.2 ∙ sym (flushes-insert s f o.0 s.next k.0 o.1 below) ∙ ap (λ m. filter (λ t. nat_lt t o.0) (keys_of (is_flush_of f) (finmap.entries m))) (sym k.1))
+-- serials are given in turn
+pub next_rises : (s new : State) (y z : Sync) → AwaitsAfter s new y z → s.next ≤ new.next
+next_rises s new y z how = elim how [
+  | inl a ↦ elim a.1 [ inl k ↦ (let d = k.1 in omega arith) | inr k ↦ (let d = k.2 in omega arith) ]
+  | inr x ↦ elim x [
+    | inl a ↦ elim a.1 [ inl k ↦ (let d = k.2 in omega arith) | inr k ↦ (let d = k.4 in omega arith) ]
+    | inr a ↦ (let d = a.3 in omega arith)
+  ]
+]
+
+-- all flushes in flight are below the next serial
+pub below_now : (s new : State) (f : ℕ) → ((q : ℕ) (v : Request) → finmap.get s.requests q ≡ Some v → q < s.next) → new.requests ≡ s.requests → s.next ≤ new.next → AreBelow new f s.next (flushes_of s f)
+below_now s new f below same rises = (rises, sym (flushes-all s f s.next below) ∙ ap (λ m. filter (λ t. nat_lt t s.next) (keys_of (is_flush_of f) (finmap.entries m))) (sym same))
+
+-- the list after a step, where it was settled before
+pub below_next : (s new : State) (f b : ℕ) (below : (q : ℕ) (v : Request) → finmap.get s.requests q ≡ Some v → q < s.next) (y z : Sync) (us ts : List ℕ) → y.awaited ≡ Some us → AreBelow s f b us → AwaitsAfter s new y z → z.awaited ≡ Some ts → AreBelow new f b ts
+below_next s new f b below y z us ts was old how e = elim how [
+  | inl a ↦ (let same : ts ≡ us = (let k : Some ts ≡ Some us = sym e ∙ a.0 ∙ was in cc) in elim a.1 [
+    | inl k ↦ ((let m = old.0 in let d = k.1 in omega arith), same ∙ old.1 ∙ ap (λ m. filter (λ t. nat_lt t b) (keys_of (is_flush_of f) (finmap.entries m))) (sym k.0))
+    | inr k ↦ ((let m = old.0 in let d = k.2 in omega arith), same ∙ old.1 ∙ sym (flushes-insert s f b s.next k.0 old.0 below) ∙ ap (λ m. filter (λ t. nat_lt t b) (keys_of (is_flush_of f) (finmap.entries m))) (sym k.1))
   ])
   | inr x ↦ elim x [
-    | inl a ↦ fewer_awaited y.awaited refl a.0 a.1
-    | inr a ↦ (s.next, (let d = a.2 in omega arith), (let same : ts ≡ flushes_of s f = (let k : Some ts ≡ Some (flushes_of s f) = sym e ∙ a.0 in cc) in same) ∙ sym (flushes-all s f s.next below) ∙ ap (λ m. filter (λ t. nat_lt t s.next) (keys_of (is_flush_of f) (finmap.entries m))) (sym a.1))
+    | inl a ↦ fewer_awaited a.0 a.1
+    | inr a ↦ absurd (let k : Some us ≡ None = sym was ∙ a.0 in cc)
   ]
 ]
   where
@@ -80,9 +91,7 @@ below_next s new f below y z ts old how e = elim how [
     same_next : LosesRequests s new → new.next ≡ s.next
     same_next l = elim l [ inl k ↦ k.2 | inr k ↦ k.4 ]
 
-    fewer_awaited : (o : Option (List ℕ)) → y.awaited ≡ o → z.awaited ≡ option_map (filter (is_live new.requests)) y.awaited → LosesRequests s new → AreBelow new f ts
-    fewer_awaited None w a l = absurd (let k : z.awaited ≡ None = a ∙ ap (option_map (filter (is_live new.requests))) w in cc)
-    fewer_awaited (Some us) w a l =
-        let o = old us w in
-        let same : ts ≡ filter (is_live new.requests) us = (let k : Some ts ≡ Some (filter (is_live new.requests) us) = sym e ∙ a ∙ ap (option_map (filter (is_live new.requests))) w in cc) in
-        (o.0, (let m = o.1 in let d = same_next l in omega arith), same ∙ ap (filter (is_live new.requests)) o.2 ∙ filter-swap (is_live new.requests) (λ t. nat_lt t o.0) (flushes_of s f) ∙ ap (filter (λ t. nat_lt t o.0)) (sym (left l)))
+    fewer_awaited : z.awaited ≡ option_map (filter (is_live new.requests)) y.awaited → LosesRequests s new → AreBelow new f b ts
+    fewer_awaited a l =
+        let same : ts ≡ filter (is_live new.requests) us = (let k : Some ts ≡ Some (filter (is_live new.requests) us) = sym e ∙ a ∙ ap (option_map (filter (is_live new.requests))) was in cc) in
+        ((let m = old.0 in let d = same_next l in omega arith), same ∙ ap (filter (is_live new.requests)) old.1 ∙ filter-swap (is_live new.requests) (λ t. nat_lt t b) (flushes_of s f) ∙ ap (filter (λ t. nat_lt t b)) (sym (left l)))

@@ -46,3 +46,10 @@ pub mod GoOn
 pub mod FilesHeld
 pub mod WorkedRuns
 pub mod PlayLemmas
+pub mod StepRooms
+pub mod TableRooms
+pub mod FrameCounts
+pub mod FrameRooms
+pub mod SyncHandles
+pub mod Roomy
+pub mod OneBound

@@ -19,7 +19,7 @@ use Rattle.world.specs.Runs.{IsFirst, Run, world_at, plain_at}
 use Rattle.world.specs.Syncing.{cuts_off, CutOff, IsOnDevice}
 use Rattle.world.proofs.Lookups.{get-insert1}
 use Rattle.world.proofs.Fresh.{IsFresh, IsUnder, fresh_next, under_next, waiting_next}
-use Rattle.world.proofs.Track.{Tracked, move_tracked, KeepsRequests, LosesRequests}
+use Rattle.world.proofs.Track.{Tracked, move_tracked}
 use Rattle.world.proofs.Moves.{coupled_at, move_kept}
 use Rattle.cachecore.proofs.Found.{found_lowest, found_none}
 use Rattle.pc_types.specs.declared.refusal.Refusal.TheVariants.{TooManyInFlight}
@@ -28,9 +28,8 @@ use Rattle.pc_types.specs.declared.ids.SyncId.{SyncId}
 use Rattle.cachecore.specs.declared.event.Event.TheVariants as event
 use Rattle.cachecore.specs.declared.event.Reply.TheVariants as reply
 use Rattle.std.specs.List.{list_any}
-use Rattle.std.specs.Prelude.{filter}
 use Rattle.world.proofs.RunSteps.{StepAt, step_at}
-use Rattle.world.proofs.BelowBound.{AreBelow, below_next, in_flushes}
+use Rattle.world.proofs.BelowBound.{in_flushes}
 
 same_held : (w : World) (f p : ℕ) (plain : Plain) → held (view w plain) f p ≡ on_device w f p
 same_held w f p plain = elim (spot_at w.core f p) as (λ o. held_by (block_bytes w) w.core.sizes.page o ≡ Rattle.world.specs.World.held w o) [ None ↦ refl | Some x ↦ refl ]
@@ -132,7 +131,6 @@ module _ (w : World) (run : List (Entry × World)) (first : IsFirst w) (r : Run 
         pub file : finmap.get (W k).core.handles h.0 ≡ Some f
         pub since : sync.failures ≡ (file_at (W i).core f).failures
         pub least : sync.failures ≤ (file_at (W k).core f).failures
-        pub bound : (ts : List ℕ) → sync.awaited ≡ Some ts → AreBelow (W k).core f ts
         pub pages : (file_at (W k).core f).failures ≡ sync.failures → (p : ℕ) → p < count → Open k sync p
 
       none_some : {A : Type 0} (o : Option A) (x : A) → o ≡ None → o ≡ Some x → ⊥
@@ -229,7 +227,6 @@ module _ (w : World) (run : List (Entry × World)) (first : IsFirst w) (r : Run 
             file = (λ j. finmap.get (W (suc k)).core.handles (sym q.handle j)) ∙ tr.file ∙ (λ j. finmap.get (W k).core.handles (q.handle j)) ∙ q.file;
             since = tr.failures ∙ q.since;
             least = let a = q.least in let b = tr.failures in let c = (evolves_at k s).failures f in omega arith;
-            bound = λ ts e. below_next (W k).core (W (suc k)).core f (λ t v j. ((coupled_at w run first r k).good.requests t v j).serial) q.sync tr.now ts q.bound (subst (λ g. ((tr.now.awaited ≡ q.sync.awaited) × KeepsRequests (W k).core (W (suc k)).core) ⊎ (((tr.now.awaited ≡ option_map (filter (is_live (W (suc k)).core.requests)) q.sync.awaited) × LosesRequests (W k).core (W (suc k)).core) ⊎ ((tr.now.awaited ≡ Some (flushes_of (W k).core g)) × ((W (suc k)).core.requests ≡ (W k).core.requests) × ((W (suc k)).core.next ≡ (W k).core.next)))) (file_is k q) tr.lists) e;
             pages = λ same p small. page_on k q s from short tr same p small;
           }
 
@@ -398,6 +395,5 @@ module _ (w : World) (run : List (Entry × World)) (first : IsFirst w) (r : Run 
           file = ap (λ x. finmap.get x.handles h.0) begins.rest ∙ (let x = some_of (finmap.get (W i).core.handles h.0) opened in x.1 ∙ ap Some (ap (λ o. unwrap_or o 0) (sym x.1) ∙ named_file));
           since = ap (λ g. (file_at (W i).core g).failures) named_file;
           least = let a = (evolves_at i s).failures f in let b : sync_now.failures ≡ (file_at (W i).core f).failures = ap (λ g. (file_at (W i).core g).failures) named_file in omega arith;
-          bound = λ ts e. absurd cc;
           pages = λ same p small. first_page same p;
         }

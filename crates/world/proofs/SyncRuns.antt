@@ -1,4 +1,4 @@
--- Syncs over every run: what Clean and Failed mean, in which order pages are started, and what is awaited.
+-- Syncs over every run: what Clean and Failed mean, and in which order pages are started.
 use Rattle.std.proofs.Common.{◌≡◌, ℕ, zero, suc, ◌+◌, ◌-◌, ◌<◌, ◌≤◌, true, false, cond, not, List, [], ◌∷◌, length, refl, ap, sym, subst, ◌∙◌, arith, inl, inr}
 use Rattle.std.specs.Prelude.{◌&&◌, ◌⊎◌, Option, Some, None, is_some, option_map, unwrap_or}
 use Rattle.std.specs.FinMap as finmap
@@ -14,7 +14,7 @@ use Rattle.cachecore.specs.Step.{Step, SyncBeginReply, SyncStepReply, SyncAwaits
 use Rattle.cachecore.proofs.ChangeLaws.{BeginsSync}
 use Rattle.cachecore.specs.Changes.{to_write}
 use Rattle.world.specs.Runs.{IsFirst, Run, world_at, plain_at}
-use Rattle.world.specs.Syncing.{cuts_off, CutOff, IsSync, SyncsAreSynced, SyncsTell, SyncsRise, AwaitsByBound, DirtyPagesStay, WasStarted, requested_page}
+use Rattle.world.specs.Syncing.{cuts_off, CutOff, IsSync, SyncsAreSynced, SyncsTell, SyncsRise, DirtyPagesStay, WasStarted, requested_page}
 use Rattle.world.proofs.Lookups.{get-insert1}
 use Rattle.world.proofs.Track.{IsUnmoved, IsAwaiting, IsStarting, IsBound, move_tracked}
 use Rattle.world.proofs.Moves.{coupled_at}
@@ -31,7 +31,6 @@ use Rattle.std.proofs.lemmas.Option.{slice_get_within}
 use Rattle.cachecore.proofs.ChangeLaws.{sync_begun_begins}
 use Rattle.cachecore.proofs.Choices.{first_passed}
 use Rattle.world.proofs.RunSteps.{StepAt}
-use Rattle.world.proofs.BelowBound.{AreBelow}
 use Rattle.world.proofs.SyncProgress.{begun, Done, InProgress, at, clean_step, done_on, done_synced, ended_pages, evolves_at, failed_step, file_is, in_progress_on, moves_at, off_more, off_now, size_at}
 use Rattle.cachecore.proofs.Choices.{and_true}
 
@@ -39,7 +38,7 @@ use Rattle.cachecore.proofs.Choices.{and_true}
 after_entry : (x p : ℕ) → past (Some x) p ≡ true → x < p
 after_entry x p h = grind (arith, nat_tests)
 
-begins_at : (s new : State) (h : HandleId) (n : SyncId) → ((k : ℕ) → is_open s k ≡ true → file_of s k < length s.files) → Step s (event.SyncBegin h) (reply.Sync n) new → BeginsSync s h.0 (file_of s h.0) n.0 new × (is_open s h.0 ≡ true)
+pub begins_at : (s new : State) (h : HandleId) (n : SyncId) → ((k : ℕ) → is_open s k ≡ true → file_of s k < length s.files) → Step s (event.SyncBegin h) (reply.Sync n) new → BeginsSync s h.0 (file_of s h.0) n.0 new × (is_open s h.0 ≡ true)
 begins_at s new h n valid e = elim (answered (sync_begin_tests s h.0) (reply.Sync n) s new (SyncBeginReply s h.0 (reply.Sync n) new) e) [
   | inl a ↦ absurd (quiet_if (λ x. x ≡ reply.Sync n → ⊥) (not (is_open s h.0)) _ _ (λ k. cc) (quiet_if (λ x. x ≡ reply.Sync n → ⊥) _ _ None (λ k. cc) (quiet_none (λ x. x ≡ reply.Sync n → ⊥))) (reply.Sync n) a.0 refl)
   | inr b ↦ (let opened = first_passed (is_open s h.0) (reply.Refused BadHandle) _ b.0 in (subst (BeginsSync s h.0 (file_of s h.0) n.0) (sym b.1.1) (sync_begun_begins s h.0 (file_of s h.0) n.0 (valid h.0 opened)), opened))
@@ -251,15 +250,6 @@ syncs_rise w run first r i j k h n t u cj ck later p q ep eq =
 
     gap_eq : (j k : ℕ) → j < k → k - suc j + suc j ≡ k
     gap_eq j k l = omega arith
-
-pub awaits_by_bound : AwaitsByBound
-awaits_by_bound w run first r i j h n x c y ts is e =
-    let q = last_moment w run first r i j h n x c in
-    let fl = named (plain_at run i) h.0 in
-    let cnt = page_count w.core.sizes.page (length (plain_file (plain_at run i) fl)) in
-    let same : q.sync ≡ y = (let k : Some q.sync ≡ Some y = sym q.is ∙ is in cc) in
-    let here : file_of (world_at w run j).core y.handle ≡ fl = ap (λ (z : Sync). file_of (world_at w run j).core z.handle) (sym same) ∙ file_is w run first r i fl cnt h n j q in
-    subst (λ g. AreBelow (world_at w run j).core g ts) (sym here) (q.bound ts (ap (λ (z : Sync). z.awaited) same ∙ e))
 
 -- ---- a page that was DIRTY as the sync began
 

@@ -54,6 +54,12 @@ KeepsRequests old new = ((new.requests ≡ old.requests) × (new.next ≡ old.ne
 abbrev pub LosesRequests : State → State → Type 0
 LosesRequests old new = ((t : ℕ) × (new.requests ≡ finmap.remove old.requests t) × (new.next ≡ old.next)) ⊎ ((P f z : ℕ) × (new.requests ≡ each_value (cut_request P f z) old.requests) × (new.next ≡ old.next))
 
+-- the awaited serials stay, lose those that ended or were dropped, or are settled
+abbrev pub AwaitsAfter : State → State → Sync → Sync → Type 0
+AwaitsAfter old new y z =
+    ((z.awaited ≡ y.awaited) × KeepsRequests old new)
+    ⊎ (((z.awaited ≡ option_map (filter (is_live new.requests)) y.awaited) × LosesRequests old new) ⊎ ((y.awaited ≡ None) × (z.awaited ≡ Some (flushes_of old (file_of old y.handle))) × (new.requests ≡ old.requests) × (new.next ≡ old.next)))
+
 pub record Tracked (old new : State) (n : ℕ) (y : Sync) : Type 0 where
   pub now : Sync
   pub is : finmap.get new.syncs n ≡ Some now
@@ -61,7 +67,7 @@ pub record Tracked (old new : State) (n : ℕ) (y : Sync) : Type 0 where
   pub failures : now.failures ≡ y.failures
   pub file : finmap.get new.handles y.handle ≡ finmap.get old.handles y.handle
   pub how : IsUnmoved y now ⊎ (IsAwaiting new y now ⊎ (IsStarting old new y now ⊎ IsBound old new y now))
-  pub lists : ((now.awaited ≡ y.awaited) × KeepsRequests old new) ⊎ (((now.awaited ≡ option_map (filter (is_live new.requests)) y.awaited) × LosesRequests old new) ⊎ ((now.awaited ≡ Some (flushes_of old (file_of old y.handle))) × (new.requests ≡ old.requests) × (new.next ≡ old.next)))
+  pub lists : AwaitsAfter old new y now
 
 still_there : (test : ℕ → Bool) (t : ℕ) (ts : List ℕ) → list_any (λ u. eqb u t) ts ≡ true → test t ≡ true → list_any (λ u. eqb u t) (filter test ts) ≡ true
 still_there test t [] e k = e
@@ -131,7 +137,7 @@ module _ (s : State) (n : ℕ) (y : Sync) (is : finmap.get s.syncs n ≡ Some y)
     file = ap (λ x. finmap.get x.handles y.handle) e;
     lists = elim how [
       | inl w ↦ inl (sym w ∙ ap (λ (x : Sync). x.awaited) same_z, inl (ap (λ x. x.requests) e, ap (λ x. x.next) e))
-      | inr w ↦ inr (inr (all w.2, ap (λ x. x.requests) e, ap (λ x. x.next) e))
+      | inr w ↦ inr (inr (ap (λ (x : Sync). x.awaited) (sym same_z) ∙ w.0, all w.2, ap (λ x. x.requests) e, ap (λ x. x.next) e))
     ];
     how = elim how [
       | inl w ↦ inr (inl (record { serials = ts; left = ts; was = ap (λ (x : Sync). x.awaited) (sym same_z) ∙ w; is = refl; kept = λ m a _. a }))

@@ -43,6 +43,10 @@ abbrev pub Synced : World → List (Entry × World) → ℕ → ℕ → ℕ → 
 Synced w run i j f =
     (p : ℕ) → p < page_count w.core.sizes.page (length (plain_file (plain_at run i) f)) → CutOff w.core.sizes.page run i j f p ⊎ IsOnDevice w run i j f p
 
+-- the sync that began at step i with number n is in progress at each moment from then up to j
+abbrev pub Lasts : World → List (Entry × World) → ℕ → ℕ → SyncId → Type 0
+Lasts w run i j n = (k : ℕ) → i < k → k ≤ j → is_some (finmap.get (world_at w run k).core.syncs n.0) ≡ true
+
 -- a sync that a handle began at step i, with number n, is in progress until step j answers r
 pub record IsSync (w : World) (run : List (Entry × World)) (i j : ℕ) (h : HandleId) (n : SyncId) (r : Reply) : Type 0 where
   pub begun : World
@@ -50,7 +54,7 @@ pub record IsSync (w : World) (run : List (Entry × World)) (i j : ℕ) (h : Han
   pub begins : slice_get run i ≡ Some (Act (event.SyncBegin h) (reply.Sync n), begun)
   pub ends : slice_get run j ≡ Some (Act (event.SyncStep n) r, ended)
   pub before : i < j
-  pub lasts : (k : ℕ) → i < k → k ≤ j → is_some (finmap.get (world_at w run k).core.syncs n.0) ≡ true
+  pub lasts : Lasts w run i j n
 
 -- ---- the promises
 
@@ -90,11 +94,19 @@ SyncsRise =
     (w : World) (run : List (Entry × World)) → IsFirst w → Run w run → (i j k : ℕ) (h : HandleId) (n : SyncId) (t u : Serial) → IsSync w run i j h n (reply.Job t) → IsSync w run i k h n (reply.Job u) → j < k
     → (p q : ℕ) → requested_page (world_at w run (j + 1)) t.0 ≡ Some p → requested_page (world_at w run (k + 1)) u.0 ≡ Some q → p < q
 
--- the serials that a sync awaits are those of its file's flushes in flight, not dropped, below a bound: in rising order
+-- what a sync awaits at a moment, by a bound: until it is settled, the next serial is at most the bound; from then on the bound
+-- is at most the next serial, and the sync awaits its file's flushes in flight, not dropped, with a serial below the bound, in
+-- rising order
+abbrev pub AwaitsBelow : World → Sync → ℕ → Option (List ℕ) → Type 0
+AwaitsBelow w sync bound None = w.core.next ≤ bound
+AwaitsBelow w sync bound (Some serials) = (bound ≤ w.core.next) × (serials ≡ filter (λ t. nat_lt t bound) (flushes_of w.core (file_of w.core sync.handle)))
+
+-- each sync has one bound, at every moment from its beginning at step i until it is over: the next serial as the serials that
+-- it awaits are settled
 abbrev pub AwaitsByBound : Type 0
 AwaitsByBound =
-    (w : World) (run : List (Entry × World)) → IsFirst w → Run w run → (i j : ℕ) (h : HandleId) (n : SyncId) (r : Reply) → IsSync w run i j h n r → (sync : Sync) (serials : List ℕ) → finmap.get (world_at w run j).core.syncs n.0 ≡ Some sync → sync.awaited ≡ Some serials
-    → (bound : ℕ) × (bound ≤ (world_at w run j).core.next) × (serials ≡ filter (λ t. nat_lt t bound) (flushes_of (world_at w run j).core (file_of (world_at w run j).core sync.handle)))
+    (w : World) (run : List (Entry × World)) → IsFirst w → Run w run → (i : ℕ) (h : HandleId) (n : SyncId) (begun : World) → slice_get run i ≡ Some (Act (event.SyncBegin h) (reply.Sync n), begun)
+    → (bound : ℕ) × ((j : ℕ) (sync : Sync) → i < j → j ≤ length run → Lasts w run i j n → finmap.get (world_at w run j).core.syncs n.0 ≡ Some sync → AwaitsBelow (world_at w run j) sync bound sync.awaited)
 
 -- how many writes of f have failed after k steps
 abbrev pub failures_at : World → List (Entry × World) → ℕ → ℕ → ℕ

@@ -1,7 +1,8 @@
 use Rattle.world.proofs.AlwaysHold.{holds_always}
 use Rattle.world.proofs.GoOn.{no_event_is_stuck, requests_go_on, steps_are_determined}
 use Rattle.world.proofs.ReadsRight.{reads_are_right}
-use Rattle.world.proofs.SyncRuns.{awaits_by_bound, dirty_pages_stay, syncs_are_synced, syncs_rise, syncs_tell}
+use Rattle.world.proofs.OneBound.{awaits_by_bound}
+use Rattle.world.proofs.SyncRuns.{dirty_pages_stay, syncs_are_synced, syncs_rise, syncs_tell}
 use Rattle.world.proofs.FewWrites.{sync_writes_are_few}
 use Rattle.world.proofs.FilesHeld.{files_are_held}
 use Rattle.world.proofs.promises.every_run.Goals as goal
