@@ -1,7 +1,7 @@
 -- Entries of a finite map by number that are changed one by one, and counted.
-use Rattle.std.proofs.Common.{◌≡◌, ◌≢◌, ℕ, ◌+◌, ◌<◌, Bool, true, false, cond, List, [], ◌∷◌, Some, option_map, map as map_list, count_by, refl, sym, ap, ◌∙◌, inl, inr, arith, nat_cmp, Equal, Greater}
+use Rattle.std.proofs.Common.{◌≡◌, ◌≢◌, ℕ, ◌+◌, ◌<◌, Bool, true, false, cond, List, [], ◌∷◌, Some, option_map, map as map_list, count_by, refl, sym, ap, ◌∙◌, inl, inr, arith, nat_cmp, Equal, Greater, ◌-◌, zero-le, ◌≤◌}
 use Rattle.std.specs.FinMap.Entries.{by_order, put}
-use Rattle.std.proofs.lemmas.Bool.{cases_eq}
+use Rattle.std.proofs.lemmas.Bool.{cases_Bool, cases_eq}
 use Rattle.std.proofs.lemmas.Bool.Decides.{nat_tests}
 use Rattle.std.proofs.lemmas.List.Sums.{sum_by-cons}
 use Rattle.std.proofs.lemmas.Option.{none-some, same_Some}
@@ -65,4 +65,22 @@ module _ {X : Type 0} where
         let rest = count-put p q es r.1 k x v there counted gone (λ j y apart has. others j y apart (look_later e es r.0 j y has)) in
         let puts = ap (λ o. count_by q (by_order o ((k, v) ∷ e ∷ es) ((e.0, v) ∷ es) (e ∷ put nat_cmp k v es))) (cmp_above k e.0 later) in
         omega (arith, old, now, rest, puts)
+  ]
+
+  -- entries that are counted only at these keys are no more than the keys
+  pub count-within : (p : ℕ × X → Bool) (es : List (ℕ × X)) → Rises es → (from to : ℕ) → ((k : ℕ) (y : X) → look k es ≡ Some y → p (k, y) ≡ true → (from ≤ k) × (k ≤ to)) → count_by p es ≤ to + 1 - from
+  count-within p [] r from to within = zero-le
+  count-within p (e ∷ es) r from to within = elim (cases_Bool (p e)) [
+    | inl counted ↦
+        let here = within e.0 e.1 (look_here e.0 e es refl) counted in
+        let one = one_of p e es true counted in
+        let rest = count-within p es r.1 (e.0 + 1) to (λ k y has t.
+        let later = above_key e.0 es r.0 k y has in
+        let w = within k y (look_later e es r.0 k y has) t in
+        (omega (arith, later), w.1)) in
+        omega (arith, one, rest, here.0, here.1)
+    | inr passed ↦
+        let one = one_of p e es false passed in
+        let rest = count-within p es r.1 from to (λ k y has t. within k y (look_later e es r.0 k y has) t) in
+        omega (arith, one, rest)
   ]

@@ -1,5 +1,5 @@
 -- To retag is to change the lowest entry, and then to retag from the index after it. For arrays whose entries have one index.
-use Rattle.std.proofs.Common.{◌≡◌, ◌≢◌, ℕ, ◌+◌, ◌≤◌, ◌⊎◌, Bool, true, false, cond, Option, Some, None, option_map, count_by, refl, sym, ap, ◌∙◌, inl, inr, arith, nat_cmp}
+use Rattle.std.proofs.Common.{◌≡◌, ◌≢◌, ℕ, ◌+◌, ◌≤◌, ◌⊎◌, Bool, true, false, cond, Option, Some, None, option_map, count_by, refl, sym, ap, ◌∙◌, inl, inr, arith, nat_cmp, ◌-◌}
 use Rattle.std.specs.Ordering.{eq_by_cmp}
 use Rattle.std.specs.Cmp.{nat_cmp_total}
 use Rattle.std.specs.FinMap as map
@@ -7,7 +7,7 @@ use Rattle.std.proofs.lemmas.Bool.{cases_eq, cond-true, cond-false, and_parts, a
 use Rattle.std.proofs.lemmas.Option.{none-some, same_Some}
 use Rattle.xarray.specs.declared.entry.Mark.{Mark}
 use Rattle.xarray.specs.MarkedArray.{Range, Ranges, count_of, has_mark, is_tagged, meets, retagged, with_mark}
-use Rattle.xarray.proofs.CountLemmas.{count-none, count-put, look-map}
+use Rattle.xarray.proofs.CountLemmas.{count-none, count-within, count-put, look-map}
 use Rattle.xarray.proofs.EntryLemmas.{entries-rise, eq_tie, ne_tie}
 use Rattle.xarray.proofs.Singles.{AllSingle, HasNone, IsLowest, meeting, met, same_order, single-insert}
 
@@ -52,6 +52,11 @@ module _ (m : Ranges) (single : AllSingle m) (from to : ℕ) (mark : Mark) where
   pub count-end : HasNone m (has_mark mark) from to → count_of m from to mark ≡ 0
   unfolding count_of
   count-end none = count-none _ (map.entries m) (entries-rise m) (λ q r has. untagged none q r (map.get-entries m q ∙ has))
+
+  -- a retag is about no more entries than there are indexes
+  pub count-bound : count_of m from to mark ≤ to + 1 - from
+  unfolding count_of
+  count-bound = count-within _ (map.entries m) (entries-rise m) from to (λ q r has t. let w = tagged_within q r (map.get-entries m q ∙ has) t in (w.1, w.2))
 
   pub retag-end : (other : Mark) → HasNone m (has_mark mark) from to → retagged m from to mark other ≡ m
   retag-end other none =

@@ -169,7 +169,14 @@ impl Flat {
     pub fn find(&self, from: u64, to: u64) -> Option<(u64, u64)>
         ensures { MatchOption result (HasNoneIn self.now from to) (λ r. IsFirst self.now from to r.0 r.1) }
     {
+        if from > to {
+            return None;
+        }
         if let Some(cursor) = self.nodes.seek(from, 0) {
+            // A caller that goes from entry to entry mostly asks for the very index, and then need not wait for the bits.
+            if let Some(Entry::Leaf(value)) = self.nodes.entry_in(cursor, from, 0) {
+                return Some((from, value));
+            }
             if let Some((index, value)) = self.nodes.next_entry_in(cursor, from) {
                 if index > to {
                     return None;
