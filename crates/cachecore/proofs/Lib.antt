@@ -20,7 +20,7 @@ pub mod PairLemmas
 pub mod Overlay
 pub mod ReadLemmas
 pub mod Spans
-pub mod SlotLemmas
+pub mod HandleLemmas
 pub mod SpotLemmas
 pub mod WriteLemmas
 pub mod CoreLemmas

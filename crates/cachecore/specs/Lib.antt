@@ -2,6 +2,7 @@ pub mod Bare
 pub mod Changes
 pub mod Codes
 pub mod Pairs
+pub mod Handles
 pub mod Replies
 pub mod State
 pub mod Step

@@ -9,16 +9,6 @@ use Rattle.cachecore.specs.State.{State, File, no_file}
 use Rattle.pc_types.specs.Spots.{Spot, place_cmp}
 use Rattle.cachecore.specs.Pairs.{AreSized}
 
--- the numbers in use with what stands there, the first number being k
-abbrev pub slots_from : ℕ → List (Option ℕ) → List (ℕ × ℕ)
-slots_from k [] = []
-slots_from k (None ∷ slots) = slots_from (k + 1) slots
-slots_from k (Some f ∷ slots) = (k, f) ∷ slots_from (k + 1) slots
-
--- the open handles of a table with a slot for each number
-abbrev pub open_slots : List (Option ℕ) → FinMap nat_cmp ℕ
-open_slots slots = from_entries (slots_from 0 slots)
-
 -- each owner with its block, the first block being k. No block is written yet
 abbrev pub spots_from : ℕ → List (ℕ × ℕ) → List ((ℕ × ℕ) × Spot)
 spots_from k [] = []
