@@ -1,0 +1,7 @@
+pub mod BlockLemmas
+pub mod CountLemmas
+pub mod CutLemmas
+pub mod MapLemmas
+pub mod PlaceLemmas
+pub mod SpotLemmas
+pub mod TableLemmas

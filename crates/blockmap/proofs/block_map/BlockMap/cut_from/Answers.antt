@@ -1,0 +1,28 @@
+use Rattle.std.proofs.Common.{sym, subst, ◌<◌}
+use Rattle.std.specs.FinMap as map
+use Rattle.blockmap.specs.Blocks.{Blocks}
+use Rattle.blockmap.proofs.BlockLemmas.{fewer}
+use Rattle.blockmap.proofs.CutLemmas.{IsCutting, cutting_begins, cutting_ends, cutting_goes_on}
+use Rattle.blockmap.proofs.block_map.BlockMap.cut_from.Goals as goal
+
+pub cut_page-requires-clause-page : goal.cut_page-requires-clause-page
+cut_page-requires-clause-page c = record { file = c.requires.file; page = c.in-Some.ensures.found.within }
+
+pub cut_page-requires-clause-there : goal.cut_page-requires-clause-there
+cut_page-requires-clause-there c = c.in-Some.ensures.found.there
+
+pub loop-cut-init : goal.loop-cut-init
+loop-cut-init c = cutting_begins c.args.self.now c.args.file.0 c.args.page.0
+
+pub loop-cut-preserved : goal.loop-cut-preserved
+loop-cut-preserved c =
+    subst (λ (b : Blocks). IsCutting c.args.self.now b c.args.file.0 c.args.page.0) (sym c.cut_page.ensures)
+    (cutting_goes_on c.args.self.now c.loop-cut.self c.args.file.0 c.args.page.0 c.in-Some.cut c.loop-cut.invariant c.in-Some.ensures.found)
+
+pub loop-cut-smaller : goal.loop-cut-smaller
+loop-cut-smaller c =
+    subst (λ (b : Blocks). map.len b.spots < map.len c.loop-cut.self.spots) (sym c.cut_page.ensures)
+    (fewer c.loop-cut.self.spots (c.args.file.0, c.in-Some.cut) c.in-Some.ensures.found.there)
+
+pub returns : goal.returns
+returns c = cutting_ends c.args.self.now c.loop-cut.self c.args.file.0 c.args.page.0 c.loop-cut.invariant c.in_default.ensures.none

@@ -1,0 +1,6 @@
+-- What is told of a page's block.
+use Rattle.pc_types.specs.Spots.{Spot}
+use Rattle.blockmap.specs.declared.spots.Placed.{Placed}
+
+abbrev pub told : Spot → Placed
+told spot = record { block = record { 0 = spot.block }; is_written = spot.written }
