@@ -20,7 +20,7 @@ pub mod PairLemmas
 pub mod Overlay
 pub mod ReadLemmas
 pub mod Spans
-pub mod SlotLemmas
+pub mod HandleLemmas
 pub mod SpotLemmas
 pub mod WriteLemmas
 pub mod CoreLemmas
@@ -30,8 +30,3 @@ pub mod BareTests
 pub mod BareChanges
 pub mod BareCases
 pub mod BareLaws
-pub mod StoreLaws
-pub mod Counts
-pub mod StoreFacts
-pub mod RangeLemmas
-pub mod WriteSteps

@@ -2,9 +2,9 @@ pub mod Bare
 pub mod Changes
 pub mod Codes
 pub mod Pairs
+pub mod Handles
 pub mod Replies
 pub mod State
 pub mod Step
-pub mod Store
 pub mod Tables
 pub mod Tests

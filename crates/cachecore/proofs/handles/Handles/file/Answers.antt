@@ -1,7 +1,11 @@
-use Rattle.std.proofs.Common.{sym, ap, ◌∙◌}
-use Rattle.std.specs.Prelude.{slice_index_or, None}
-use Rattle.cachecore.proofs.SlotLemmas.{get-open_slots}
+use Rattle.std.proofs.Common.{ap, ◌∙◌, ℕ}
+use Rattle.std.specs.FinMap as map
+use Rattle.std.specs.Ordering.{nat_cmp}
+use Rattle.cachecore.proofs.HandleLemmas.{loaded}
 use Rattle.cachecore.proofs.handles.Handles.file.Goals as goal
 
 pub returns : goal.returns
-returns c = rw (← c.self.view_is) (c.file_in.ensures ∙ ap (λ l. slice_index_or l c.args.handle None) c.deref.ensures.value ∙ sym (get-open_slots c.self.inside.slots.items c.args.handle))
+returns c =
+    c.load.ensures
+    ∙ loaded c.self.inside.ids.used c.self.inside.files.ranges c.self.inside.count c.self.invariant c.args.handle
+    ∙ ap (λ (m : map.FinMap nat_cmp ℕ). map.get m c.args.handle) c.self.view_is
