@@ -1,6 +1,6 @@
 -- What the tables of a cache keep, and the machine's state after each change of them.
 use Rattle.std.proofs.Common.{◌≡◌, ℕ, ◌+◌, ◌-◌, ◌/◌, ◌<◌, ◌≤◌, zero, suc, max, Bool, true, false, cond, not, ◌&&◌, eqb, eqb-true, List, [], ◌∷◌, ◌++◌, length, get_or, refl, ap, sym, subst, ◌∙◌, arith, length-append, get_or-set_same, get_or-set_other, map}
-use Rattle.std.specs.Prelude.{Option, Some, None, is_some, nat_lt, nat_le, if◌then◌else◌, slice_set, sum_by, count_by, filter}
+use Rattle.std.specs.Prelude.{Option, Some, None, is_some, nat_lt, slice_set, sum_by, count_by, filter}
 use Rattle.std.specs.List.{range_with_len}
 use Rattle.std.specs.Ordering.{nat_cmp}
 use Rattle.std.specs.Cmp.{nat_cmp_total}
@@ -20,9 +20,9 @@ use Rattle.cachecore.specs.Changes.{blank, written, written_pages, placed, put_p
 use Rattle.cachecore.specs.Tests.{room_tests, refuse}
 use Rattle.cachecore.specs.Pairs.{AreSized}
 use Rattle.cachecore.specs.Tables.{CoreFacts, state_of, spots_of, needing, owns}
-use Rattle.cachecore.proofs.MapLaws.{same_nat_map, get-insert_nat, get-remove_nat}
+use Rattle.cachecore.proofs.MapLaws.{get-insert_nat, get-remove_nat}
 use Rattle.cachecore.proofs.SpotLemmas.{IsPlain, no_entries, placed_are, length-needing, without_are, free_count, once_taken}
-use Rattle.cachecore.proofs.WriteLemmas.{WriteParts, parts-file, parts-pages, parts-size, parts_sized, len-written_pages, sized_cover}
+use Rattle.cachecore.proofs.WriteLemmas.{WriteParts, parts-file, parts-pages, parts-size, parts_sized, len-written_pages, sized_insert}
 
 pub is_less : (m n : ℕ) → m < n → nat_lt m n ≡ true
 is_less m n h = grind (arith, nat_tests)
@@ -77,7 +77,7 @@ get_or-push (x ∷ xs) d zero = refl
 get_or-push (x ∷ xs) d (suc i) = get_or-push xs d i
 
 module _ (sizes : Sizes) (files : List File) (handles : FinMap nat_cmp ℕ) (owners : List (ℕ × ℕ)) (free : ℕ) (c : CoreFacts sizes files handles owners free) where
-  CoreFacts-create : length files < MAX_FILES → CoreFacts sizes (files ++ no_file ∷ []) handles owners free
+  pub CoreFacts-create : length files < MAX_FILES → CoreFacts sizes (files ++ no_file ∷ []) handles owners free
   CoreFacts-create few =
       let more : length (files ++ no_file ∷ []) ≡ length files + 1 = length-append files (no_file ∷ []) in
       record {
@@ -216,38 +216,42 @@ module _ (sizes : Sizes) (files : List File) (handles : FinMap nat_cmp ℕ) (own
 
     -- ---- a page of zeros
 
-    module _ (f p P : ℕ) (e0 e1 : File) (here : f < length files) (entry : e0 ≡ get_or files f no_file) (page : P ≡ sizes.page) (absent : is_some (finmap.get e0.pages p) ≡ false) (room : 0 < free)
-        (pages : (q : ℕ) → finmap.get e1.pages q ≡ (if nat_le p q && nat_le q p && not (is_some (finmap.get e0.pages q)) then Some (blank P) else finmap.get e0.pages q)) (rest : e1 ≡ record e0 { pages = e1.pages }) where
-      made_page : e1.pages ≡ finmap.insert e0.pages p (blank P)
-      made_page = same_nat_map e1.pages (finmap.insert e0.pages p (blank P)) (λ q. pages q ∙ at q ∙ sym (get-insert_nat e0.pages p (blank P) q))
-        where
-          here_too : (q : ℕ) → eqb q p ≡ true → is_some (finmap.get e0.pages q) ≡ false
-          here_too q t = ap (λ k. is_some (finmap.get e0.pages k)) (eqb-true q p t) ∙ absent
+    module _ (f p P : ℕ) (here : f < length files) (page : P ≡ sizes.page) (absent : is_some (finmap.get (get_or files f no_file).pages p) ≡ false) (room : 0 < free) where
+      abbrev e0 : File
+      e0 = get_or files f no_file
 
-          at : (q : ℕ) → (if nat_le p q && nat_le q p && not (is_some (finmap.get e0.pages q)) then Some (blank P) else finmap.get e0.pages q) ≡ cond (eqb q p) (Some (blank P)) (finmap.get e0.pages q)
-          at q = elim (eqb q p) as (λ t. eqb q p ≡ t → (if nat_le p q && nat_le q p && not (is_some (finmap.get e0.pages q)) then Some (blank P) else finmap.get e0.pages q) ≡ cond t (Some (blank P)) (finmap.get e0.pages q)) [
-            | true ↦ λ t. let both : (nat_le p q && nat_le q p) ≡ true = grind (arith, nat_tests) in (λ i. if both i && not (here_too q t i) then Some (blank P) else finmap.get e0.pages q)
-            | false ↦ λ t. let apart : (nat_le p q && nat_le q p) ≡ false = grind (arith, nat_tests) in ap (λ b. if b && not (is_some (finmap.get e0.pages q)) then Some (blank P) else finmap.get e0.pages q) apart
-          ] refl
+      abbrev e1 : File
+      e1 = record e0 { pages = finmap.insert e0.pages p (blank P) }
 
-      one_more : finmap.len e1.pages ≡ finmap.len (get_or files f no_file).pages + 1
-      one_more =
-          ap finmap.len made_page ∙ len-insert nat_cmp_total e0.pages p (blank P) ∙ ap (λ b. cond b (finmap.len e0.pages) (finmap.len e0.pages + 1)) absent ∙ ap (λ (x : File). finmap.len x.pages + 1) entry
+      one_more : finmap.len e1.pages ≡ finmap.len e0.pages + 1
+      one_more = len-insert nat_cmp_total e0.pages p (blank P) ∙ ap (λ b. cond b (finmap.len e0.pages) (finmap.len e0.pages + 1)) absent
 
       pub blank_state : state_of sizes name (slice_set files f e1) handles owners ≡ put_page state f p (blank sizes.page)
-      blank_state =
-          let is : e1 ≡ record (file_at state f) { pages = finmap.insert (file_at state f).pages p (blank sizes.page) } =
-          rest ∙ ap (λ m. let x : File = record e0 { pages = m } in x) made_page ∙ (λ i. let x : File = record (entry i) { pages = finmap.insert (entry i).pages p (blank (page i)) } in x) in
-          ap (λ e. state_of sizes name (slice_set files f e) handles owners) is
+      blank_state = ap (λ n. state_of sizes name (slice_set files f (record e0 { pages = finmap.insert e0.pages p (blank n) })) handles owners) page
 
       pub blank_facts : CoreFacts sizes (slice_set files f e1) handles owners (free - 1)
       blank_facts =
-          let old : AreSized P e0.pages = subst (λ (x : File). AreSized P x.pages) (sym entry) (subst (λ n. AreSized n (get_or files f no_file).pages) (sym page) (c.sized f)) in
-          let sized : AreSized P e1.pages = sized_cover P p p e0.pages e1.pages pages old in
-          let small : e0.size ≤ MAX_FILE_SIZE = subst (λ (x : File). x.size ≤ MAX_FILE_SIZE) (sym entry) (c.bounded f) in
-          CoreFacts-file f e1 owners 1 here (subst (λ n. AreSized n e1.pages) page sized) (omega (arith, small, ap (λ (x : File). x.size) rest)) one_more (omega arith) c
+          let sized : AreSized sizes.page e1.pages = subst (λ n. AreSized sizes.page (finmap.insert e0.pages p (blank n))) (sym page) (sized_insert sizes.page p e0.pages (c.sized f)) in
+          CoreFacts-file f e1 owners 1 here sized (c.bounded f) one_more (omega arith) c
 
     -- ---- a write
+
+    three_none : (x y z : Bool) (a b c : Reply) → cond x (Some a) (cond y (Some b) (cond z (Some c) None)) ≡ None → (y ≡ false) × (z ≡ false)
+    three_none true y z a b c e = absurd cc
+    three_none false true z a b c e = absurd cc
+    three_none false false true a b c e = absurd cc
+    three_none false false false a b c e = (refl, refl)
+
+    not_less : (m n : ℕ) → nat_lt m n ≡ false → n ≤ m
+    not_less m n e = grind (arith, nat_tests)
+
+    pub frames_enough : (f o n P : ℕ) → P ≡ sizes.page → room_tests state f o n ≡ None → count_by (λ p. not (is_some (finmap.get (get_or files f no_file).pages p))) (range_with_len (o / P) (touched_count P o n)) ≤ free
+    frames_enough f o n P page room =
+        let left : count_by (λ p. not (is_cached state f p)) (touched sizes.page o n) ≤ free_frames state =
+        not_less (free_frames state) (count_by (λ p. not (is_cached state f p)) (touched sizes.page o n)) (three_none _ _ _ _ _ _ room).0 in
+        let same : count_by (λ p. not (is_some (finmap.get (get_or files f no_file).pages p))) (range_with_len (o / P) (touched_count P o n)) ≡ count_by (λ p. not (is_cached state f p)) (touched sizes.page o n) =
+        ap (λ k. count_by (λ p. not (is_some (finmap.get (get_or files f no_file).pages p))) (range_with_len (o / k) (touched_count k o n))) page in
+        omega (arith, left, same, free_frames_are)
 
     module _ (f o P : ℕ) (b : List ℕ) (e0 e1 e2 e3 : File) (here : f < length files) (entry : e0 ≡ get_or files f no_file) (page : P ≡ sizes.page) (parts : WriteParts P o b e0 e1 e2 e3) (positive : 0 < P) (some : 0 < length b) (bound : o + length b ≤ MAX_FILE_SIZE) (room : room_tests state f o (length b) ≡ None) where
       -- what is said of the page size that the code read, of the one that the cache has
@@ -263,15 +267,6 @@ module _ (sizes : Sizes) (files : List File) (handles : FinMap nat_cmp ℕ) (own
       abbrev made : ℕ → ℕ
       made n = count_by (λ p. not (is_some (finmap.get e0.pages p))) (range_with_len (o / n) (touched_count n o (length b)))
 
-      three_none : (x y z : Bool) (a b c : Reply) → cond x (Some a) (cond y (Some b) (cond z (Some c) None)) ≡ None → (y ≡ false) × (z ≡ false)
-      three_none true y z a b c e = absurd cc
-      three_none false true z a b c e = absurd cc
-      three_none false false true a b c e = absurd cc
-      three_none false false false a b c e = (refl, refl)
-
-      not_less : (m n : ℕ) → nat_lt m n ≡ false → n ≤ m
-      not_less m n e = grind (arith, nat_tests)
-
       passed : (nat_lt (free_frames state) (count_by (λ p. not (is_cached state f p)) (touched sizes.page o (length b))) ≡ false) × (nat_lt (length (free_blocks state)) (length (without_block state f (touched sizes.page o (length b)))) ≡ false)
       passed = three_none _ _ _ _ _ _ room
 
@@ -280,9 +275,6 @@ module _ (sizes : Sizes) (files : List File) (handles : FinMap nat_cmp ℕ) (own
           let left : count_by (λ p. not (is_cached state f p)) (touched sizes.page o (length b)) ≤ free_frames state = not_less _ _ passed.0 in
           let same : made sizes.page ≡ count_by (λ p. not (is_cached state f p)) (touched sizes.page o (length b)) = ap (λ (x : File). count_by (λ p. not (is_some (finmap.get x.pages p))) (touched sizes.page o (length b))) entry in
           omega (arith, left, same, free_frames_are)
-
-      pub frames_left : made P ≤ free
-      frames_left = subst (λ n. made n ≤ free) (sym page) enough
 
       blocks_left : length (taken sizes.page) ≤ sizes.blocks - length owners
       blocks_left =

@@ -1,7 +1,9 @@
 -- How many pages a range of bytes touches.
-use Rattle.std.proofs.Common.{◌≡◌, ℕ, ◌+◌, ◌-◌, ◌*◌, ◌/◌, ◌%◌, ◌<◌, ◌≤◌, ap, sym, ◌∙◌, arith}
-use Rattle.std.proofs.Math.Nat.{add-mul, le-div_iff_mul-le, div-le_self, div-mul-le_self}
+use Rattle.std.proofs.Common.{◌≡◌, ℕ, suc, ◌+◌, ◌-◌, ◌*◌, ◌/◌, ◌%◌, ◌<◌, ◌≤◌, ap, sym, ◌∙◌, arith}
+use Rattle.std.proofs.Math.Nat.{add-mul, le-div_iff_mul-le, div-le_self, div-mul-le_self, mul-le-mul_left}
 use Rattle.std.proofs.lemmas.Nat.{div-mul-add, mod_below}
+use Rattle.pc_types.specs.declared.limits.TheConstants.{MAX_FILE_SIZE, MIN_PAGE_SIZE}
+use Rattle.mapping.specs.declared.mapping.TheConstants.{MAX_PAGES}
 use Rattle.cachecore.specs.State.{page_count, touched_count}
 
 -- whole pages before x count on their own
@@ -23,3 +25,20 @@ in_order P o n positive some = (le-div_iff_mul-le positive).1 (let start = div-m
 
 pub page_count_below : (P size : ℕ) → page_count P size ≤ size + (P - 1)
 page_count_below P size = div-le_self (size + (P - 1)) P
+
+-- ---- the numbers of pages stay below what a file has at most
+
+pub last_below : (P x : ℕ) → MIN_PAGE_SIZE ≤ P → x < MAX_FILE_SIZE → x / P + 1 ≤ MAX_PAGES
+last_below P x least small =
+    let start : x / P * P ≤ x = div-mul-le_self x P in
+    let more : x / P * MIN_PAGE_SIZE ≤ x / P * P = mul-le-mul_left (x / P) least in
+    omega (arith, start, more)
+
+pub page_below : (P size p : ℕ) → MIN_PAGE_SIZE ≤ P → size ≤ MAX_FILE_SIZE → p < page_count P size → p < MAX_PAGES
+page_below P size p least small below =
+    let positive : 0 < P = omega (arith, least) in
+    let first : suc p ≤ (size + (P - 1)) / P = omega (arith, below) in
+    let whole : suc p * P ≤ size + (P - 1) = (le-div_iff_mul-le positive).0 first in
+    let product : suc p * P ≡ p * P + P = omega arith in
+    let more : p * MIN_PAGE_SIZE ≤ p * P = mul-le-mul_left p least in
+    omega (arith, whole, product, more)

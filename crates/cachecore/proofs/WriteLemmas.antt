@@ -17,7 +17,7 @@ use Rattle.pc_types.proofs.FileLaws.{length-cut, length-pwrite}
 use Rattle.cachecore.specs.State.{Page, File, touches, touched, touched_count}
 use Rattle.cachecore.specs.Changes.{blank, overlay, overwrite, written_page, written_pages}
 use Rattle.cachecore.specs.Pairs.{AreSized, IsLaid}
-use Rattle.cachecore.proofs.MapLaws.{same_nat_map, get-overwrite}
+use Rattle.cachecore.proofs.MapLaws.{same_nat_map, get-overwrite, get-insert_nat}
 use Rattle.cachecore.proofs.Spans.{in_order}
 
 -- ---- sizes
@@ -44,6 +44,10 @@ sized_written P o b p (Some page) h e = length-overlay P o p b page.bytes (h ref
 -- pages of zeros have P bytes
 pub sized_cover : (P first last : ℕ) (old new : FinMap nat_cmp Page) → ((q : ℕ) → finmap.get new q ≡ (if nat_le first q && nat_le q last && not (is_some (finmap.get old q)) then Some (blank P) else finmap.get old q)) → AreSized P old → AreSized P new
 sized_cover P first last old new h s = record { each = λ q. subst (Sized P) (sym (h q)) (sized_cond P (nat_le first q && nat_le q last && not (is_some (finmap.get old q))) (Some (blank P)) (finmap.get old q) (λ _. length-cut [] P) (s.each q)) }
+
+-- a page of zeros more
+pub sized_insert : (P p : ℕ) (m : FinMap nat_cmp Page) → AreSized P m → AreSized P (finmap.insert m p (blank P))
+sized_insert P p m s = record { each = λ q. subst (Sized P) (sym (get-insert_nat m p (blank P) q)) (sized_cond P (eqb q p) (Some (blank P)) (finmap.get m q) (λ _. length-cut [] P) (s.each q)) }
 
 sized_laid : (P o : ℕ) (b : List ℕ) (first end : ℕ) (old new : FinMap nat_cmp Page) → IsLaid P o b first end old new → AreSized P old → AreSized P new
 sized_laid P o b first end old new h s = record { each = λ q. subst (Sized P) (sym (h.each q)) (sized_cond P (nat_le first q && nat_lt q end) (Some (written_page P o b q (finmap.get old q))) (finmap.get old q) (sized_written P o b q (finmap.get old q) (s.each q)) (s.each q)) }

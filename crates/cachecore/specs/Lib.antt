@@ -6,5 +6,6 @@ pub mod Handles
 pub mod Replies
 pub mod State
 pub mod Step
+pub mod Store
 pub mod Tables
 pub mod Tests

@@ -1,19 +1,14 @@
 -- Words of the contracts inside this crate: entries in a list, each key once, and pages read and written one after the other.
-use Rattle.std.specs.Prelude.{◌≡◌, ◌+◌, ◌/◌, ◌%◌, ◌<◌, ◌≤◌, slice_index, true, length, take, drop, ◌++◌, ℕ, List, [], ◌∷◌, None, Some, if◌then◌else◌, nat_le, nat_lt, ◌&&◌, not, is_some}
+use Rattle.std.specs.Prelude.{◌≡◌, ◌+◌, ◌/◌, ◌%◌, ◌<◌, ◌≤◌, slice_index, true, length, take, drop, ◌++◌, ℕ, List, [], ◌∷◌, None, Some, if◌then◌else◌, nat_le, nat_lt, ◌&&◌, is_some}
 use Rattle.std.specs.Ordering.{nat_cmp}
 use Rattle.std.specs.FinMap.{FinMap, find, get}
 use Rattle.cachecore.specs.State.{Page, the_page, page_byte}
-use Rattle.cachecore.specs.Changes.{blank, written_page}
+use Rattle.cachecore.specs.Changes.{written_page}
 
 -- no key stands twice
 abbrev pub IsDistinct : {X : Type 0} → List (ℕ × X) → Type 0
 IsDistinct [] = Unit {0}
 IsDistinct (e ∷ es) = (find nat_cmp e.0 es ≡ None) × IsDistinct es
-
--- one page of zeros for each number from `first` up to `end` that is not among the pages
-pub record AreBlank (page_size first end : ℕ) (pages fresh : List (ℕ × Page)) : Type 0 where
-  pub distinct : IsDistinct fresh
-  pub each : (q : ℕ) → find nat_cmp q fresh ≡ (if nat_le first q && nat_lt q end && not (is_some (find nat_cmp q pages)) then Some (blank page_size) else None)
 
 -- each page from `first` up to `end` is cached
 pub record AreCached (first end : ℕ) (pages : FinMap nat_cmp Page) : Type 0 where

@@ -8,6 +8,7 @@ use Rattle.pc_types.specs.declared.limits.TheConstants.{MAX_FILES, MAX_FILE_SIZE
 use Rattle.cachecore.specs.State.{State, File, no_file}
 use Rattle.pc_types.specs.Spots.{Spot, place_cmp}
 use Rattle.cachecore.specs.Pairs.{AreSized}
+use Rattle.cachecore.specs.Store.{Store}
 
 -- each owner with its block, the first block being k. No block is written yet
 abbrev pub spots_from : ℕ → List (ℕ × ℕ) → List ((ℕ × ℕ) × Spot)
@@ -46,3 +47,8 @@ pub record CoreFacts (sizes : Sizes) (files : List File) (handles : FinMap nat_c
   pub counted : sum_by (λ (file : File). len file.pages) files + free ≡ sizes.frames
   pub once : EachOnce owners
   pub fitting : length owners ≤ sizes.blocks
+
+-- what a cache keeps of its store of pages
+pub record IsCore (sizes : Sizes) (store : Store) (handles : FinMap nat_cmp ℕ) (owners : List (ℕ × ℕ)) : Type 0 where
+  pub facts : CoreFacts sizes store.files handles owners store.free
+  pub page : store.page ≡ sizes.page

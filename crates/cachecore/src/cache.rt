@@ -1,8 +1,9 @@
 //! The cache's state and its calls.
 
-ghost use Rattle.std.specs.Prelude.{◌≡◌, ◌≢◌, ◌+◌, ◌-◌, ◌*◌, ◌/◌, ◌^◌, ◌<◌, ◌≤◌, ℕ, [], Option, IfOk, IfSome, IsOkUnless, OnOk, OnErr, length, drop, true, false, is_some, sum_by, None, nat_lt, ◌&&◌};
+ghost use Rattle.std.specs.Prelude.{◌≡◌, ◌≢◌, ◌+◌, ◌-◌, ◌*◌, ◌/◌, ◌^◌, ◌<◌, ◌≤◌, ℕ, [], Option, IfOk, IfSome, IsOkUnless, OnOk, OnErr, length, drop, true, false, is_some, None, nat_lt, ◌&&◌};
 ghost use Rattle.std.specs.FinMap as map;
-ghost use Rattle.cachecore.specs.State.{dirty_in, dirty_total, free_frames, is_cached, page_count, touched_count};
+ghost use Rattle.mapping.specs.declared.mapping.TheConstants.{MAX_PAGES};
+ghost use Rattle.cachecore.specs.State.{dirty_total, free_frames, is_cached, page_count, touched_count};
 ghost use Rattle.cachecore.specs.Tests.{room_tests};
 ghost use Rattle.cachecore.specs.Changes.{blank, put_page, written};
 ghost use Rattle.cachecore.specs.Step.{Step};
@@ -11,8 +12,8 @@ ghost use Rattle.cachecore.specs.Replies.{created, opened, closed, sized, wrote,
 use crate::answers::{FillBegun, PageTags, ReadAnswer, Refused, WriteAnswer};
 use crate::blocks::{Owner, count_without_block, without_block};
 use crate::event::Event;
-use crate::file::CachedFile;
 use crate::handles::Handles;
+use crate::pages::Pages;
 use blockdev::Buffer;
 use pc_types::limits::{MAX_FILE_SIZE, MAX_FILES, MAX_HANDLES, MAX_PAGE_SIZE, MAX_TOUCHED};
 use pc_types::{FileId, Geometry, HandleId, PageIndex, Refusal};
@@ -24,27 +25,25 @@ use std::marker::Model;
 pub struct CacheCore {
     geometry: Geometry,
     name: u64,
-    files: Vec<CachedFile>,
+    pages: Pages,
     handles: Handles,
     // the page of each block in use, by the block's number
     owners: Vec<Owner>,
-    // the frames less the cached pages of all files
-    free_frames: u64,
     alloc: Global,
 }
 
 impl Model for CacheCore {
     ghost use Rattle.cachecore.specs.State.{State};
     ghost use Rattle.cachecore.specs.Codes.{state_code};
-    ghost use Rattle.cachecore.specs.Tables.{state_of, CoreFacts};
+    ghost use Rattle.cachecore.specs.Tables.{state_of, IsCore};
 
     ghost Value = { State };
 
     ghost coded = { state_code };
 
-    ghost view = { λ a. state_of a.geometry a.name a.files.items a.handles a.owners.items };
+    ghost view = { λ a. state_of a.geometry a.name a.pages.files a.handles a.owners.items };
 
-    ghost invariant = { λ a. CoreFacts a.geometry a.files.items a.handles a.owners.items a.free_frames };
+    ghost invariant = { λ a. IsCore a.geometry a.pages a.handles a.owners.items };
 }
 
 impl CacheCore {
@@ -57,10 +56,9 @@ impl CacheCore {
         Ok(CacheCore {
             geometry: *geometry,
             name,
-            files: Vec::with_capacity(alloc, MAX_FILES as usize)?,
+            pages: Pages::new(alloc, geometry, MAX_FILES as usize)?,
             handles: Handles::new(alloc),
             owners: Vec::new(alloc),
-            free_frames: geometry.frames(),
             alloc,
         })
     }
@@ -76,11 +74,11 @@ impl CacheCore {
     pub fn create(&mut self) -> Result<FileId, Refusal>
         ensures { Step self.old Event.Create (created result) self.new }
     {
-        let number = self.files.len() as u64;
+        let number = self.pages.file_count();
         if number >= MAX_FILES {
             return Err(Refusal::TooManyFiles);
         }
-        match self.files.push(CachedFile::new(self.alloc)) {
+        match self.pages.add_file(self.alloc) {
             Ok(()) => Ok(FileId(number)),
             Err(_) => Err(Refusal::Memory),
         }
@@ -90,7 +88,7 @@ impl CacheCore {
     pub fn open(&mut self, file: FileId) -> Result<HandleId, Refusal>
         ensures { Step self.old (Event.Open file) (opened result) self.new }
     {
-        if file.0 >= self.files.len() as u64 {
+        if file.0 >= self.pages.file_count() {
             return Err(Refusal::NoSuchFile);
         }
         if self.handles.count() >= MAX_HANDLES {
@@ -120,18 +118,18 @@ impl CacheCore {
         let Some(file) = self.handles.file(handle.0) else {
             return Err(Refusal::BadHandle);
         };
-        Ok(self.files[file as usize].size())
+        Ok(self.pages.size(file))
     }
 
     /// What is known of a page. Any page may be asked for, also past the end of the file. This is no event.
     pub fn tags(&self, file: FileId, page: PageIndex) -> Result<PageTags, Refusal>
         ensures { TagsAre self.now file.0 page.0 result }
     {
-        if file.0 >= self.files.len() as u64 {
+        if file.0 >= self.pages.file_count() {
             return Err(Refusal::NoSuchFile);
         }
-        match self.files[file.0 as usize].page(page.0) {
-            Some(page) => Ok(PageTags::Cached(page.tags())),
+        match self.pages.tags(file.0, page.0) {
+            Some(tags) => Ok(PageTags::Cached(tags)),
             None => Ok(PageTags::Absent),
         }
     }
@@ -151,8 +149,7 @@ impl CacheCore {
         let Some(file) = self.handles.file(handle.0) else {
             return Err(Refusal::BadHandle);
         };
-        let entry = &self.files[file as usize];
-        let left = entry.size().saturating_sub(offset);
+        let left = self.pages.size(file).saturating_sub(offset);
         let count = left.min(out.len() as u64);
         if count == 0 {
             return Ok(ReadAnswer::Bytes(0));
@@ -163,10 +160,11 @@ impl CacheCore {
         }
         let first = offset / page_size;
         let end = (offset + count - 1) / page_size + 1;
-        if let Some(page) = entry.first_absent(first, end) {
+        if let Some(page) = self.pages.first_absent(file, first, end) {
             return Ok(ReadAnswer::Miss(PageIndex(page)));
         }
-        entry.read(page_size, offset, &mut out[..count as usize]);
+        self.pages
+            .read(file, page_size, offset, &mut out[..count as usize]);
         Ok(ReadAnswer::Bytes(count))
     }
 
@@ -208,7 +206,7 @@ impl CacheCore {
         let Some(file) = self.handles.file(handle.0) else {
             return Err(Refusal::BadHandle);
         };
-        let end = self.files[file as usize].size();
+        let end = self.pages.size(file);
         self.write(handle, end, bytes)
     }
 
@@ -228,14 +226,13 @@ impl CacheCore {
             let refusal = Refusal::BadHandle;
             return Err(Refused { refusal, buffer });
         };
-        let entry = &self.files[file as usize];
-        if page.0 >= page_count(self.geometry.page(), entry.size()) {
+        if page.0 >= page_count(self.geometry.page(), self.pages.size(file)) {
             return Ok(FillBegun::Gone(buffer));
         }
-        if entry.is_cached(page.0) {
+        if self.pages.is_cached(file, page.0) {
             return Ok(FillBegun::Present(buffer));
         }
-        if self.free_frames == 0 {
+        if self.pages.free_frames() == 0 {
             let refusal = Refusal::NoFrame;
             return Err(Refused { refusal, buffer });
         }
@@ -249,17 +246,13 @@ impl CacheCore {
     /// Makes an absent page of a file as a page of zeros.
     fn make_blank(&mut self, file: u64, page: u64) -> Result<(), AllocError>
         requires here { file < length self.old.files }
-        requires below { page < 2 ^ 63 }
+        requires below { page < MAX_PAGES }
         requires absent { is_cached self.old file page ≡ false }
         requires room { 0 < free_frames self.old }
         ensures ok { OnOk result (self.new ≡ put_page self.old file page (blank self.old.sizes.page)) }
         ensures err { OnErr result (self.new ≡ self.old) }
     {
-        let page_size = self.geometry.page();
-        let entry = &mut self.files[file as usize];
-        entry.cover(self.alloc, page_size, page, page)?;
-        self.free_frames -= 1;
-        Ok(())
+        self.pages.make(file, page)
     }
 
     /// Whether the pages that a write touches may become dirty, and there are frames and blocks for those that need one.
@@ -273,11 +266,10 @@ impl CacheCore {
         let page_size = self.geometry.page();
         let first = offset / page_size;
         let end = (offset + count - 1) / page_size + 1;
-        let entry = &self.files[file as usize];
-        if self.passes_dirty_limit(entry.clean_pages(first, end) as u64) {
+        if self.passes_dirty_limit(self.pages.clean_pages(file, first, end) as u64) {
             return Err(Refusal::DirtyLimit);
         }
-        if self.free_frames < entry.absent_pages(first, end) as u64 {
+        if self.pages.free_frames() < self.pages.absent_pages(file, first, end) as u64 {
             return Err(Refusal::NoFrame);
         }
         let free_blocks = self.geometry.blocks() - self.owners.len() as u64;
@@ -293,7 +285,7 @@ impl CacheCore {
         requires { dirtied ≤ MAX_TOUCHED }
         ensures { result ≡ (nat_lt 0 dirtied && nat_lt self.now.sizes.dirty_limit (dirty_total self.now + dirtied)) }
     {
-        dirtied > 0 && dirty_pages(&self.files) as u64 + dirtied > self.geometry.dirty_limit()
+        dirtied > 0 && self.pages.dirty_total() + dirtied > self.geometry.dirty_limit()
     }
 
     /// Writes the bytes into a file, which may be made longer. The tests have passed. All that may fail is done before
@@ -310,16 +302,15 @@ impl CacheCore {
         let page_size = self.geometry.page();
         let end = offset + bytes.len() as u64;
         let first_page = offset / page_size;
-        let last_page = (end - 1) / page_size;
-        let mut taken = without_block(self.alloc, &self.owners, file, first_page, last_page + 1)?;
+        let end_page = (end - 1) / page_size + 1;
+        let mut taken = without_block(self.alloc, &self.owners, file, first_page, end_page)?;
         self.owners.reserve(taken.len())?;
-        let entry = &mut self.files[file as usize];
-        let made = entry.absent_pages(first_page, last_page + 1);
-        entry.cover(self.alloc, page_size, first_page, last_page)?;
-        entry.write(page_size, offset, bytes);
-        let size = entry.size().max(end);
-        entry.set_size(size);
-        self.free_frames -= made as u64;
+        let cached = self.pages.which_cached(file, first_page, end_page);
+        self.pages.cover(file, first_page, end_page)?;
+        self.pages.access_cached(file, first_page, &cached);
+        self.pages.write(file, page_size, offset, bytes);
+        let size = self.pages.size(file).max(end);
+        self.pages.set_size(file, size);
         self.owners.append(&mut taken)
     }
 }
@@ -344,12 +335,4 @@ fn page_count(page_size: u64, size: u64) -> u64
     ensures { result ≡ page_count page_size size }
 {
     (size + (page_size - 1)) / page_size
-}
-
-/// How many pages of all files are dirty.
-fn dirty_pages(files: &[CachedFile]) -> usize
-    requires { sum_by dirty_in files.now < 2 ^ 63 }
-    ensures { result ≡ sum_by dirty_in files.now }
-{
-    files.iter().map(|file| file.dirty_pages()).sum()
 }

@@ -1,12 +1,10 @@
-use Rattle.std.proofs.Common.{arith, sym, ap, subst, ◌∙◌, ◌≡◌, ◌<◌, ◌≤◌, length}
-use Rattle.std.specs.Prelude.{is_some}
+use Rattle.std.proofs.Common.{arith, sym, ap, subst, ◌∙◌, ◌≡◌, ◌<◌, length}
+use Rattle.std.specs.Prelude.{is_some, slice_index_or}
 use Rattle.std.specs.FinMap as map
-use Rattle.std.proofs.lemmas.List.{get_or_read}
-use Rattle.pc_types.specs.declared.limits.TheConstants.{MAX_FILE_SIZE}
 use Rattle.cachecore.specs.State.{File, no_file, file_at, free_frames, page_count}
 use Rattle.cachecore.proofs.CoreLemmas.{free_frames_are}
 use Rattle.cachecore.proofs.StepLemmas.{when_err, when_ok, fill_present, fill_no_frame, fill_no_memory, fill_done}
-use Rattle.cachecore.proofs.Spans.{page_count_below}
+use Rattle.cachecore.proofs.Spans.{page_below}
 use Rattle.cachecore.proofs.cache.CacheCore.fill_begin.Goals as goal
 
 pub returns-then-is_cached-clause-step : goal.returns-then-is_cached-clause-step
@@ -14,8 +12,8 @@ returns-then-is_cached-clause-step c =
     let s = c.args.self.now in
     let back = sym c.self.view_is in
     let found = c.in-Some.ensures ∙ ap (λ s. map.get s.handles c.args.handle.0) c.self.view_is in
-    let here : c.in-Some.file < length c.self.inside.files.items = c.self.invariant.known c.args.handle.0 c.in-Some.file (sym c.in-Some.ensures) in
-    let entry = get_or_read c.self.inside.files.items c.in-Some.file c.index-entry.result.now here c.index-entry.ensures no_file ∙ ap (λ s. file_at s c.in-Some.file) c.self.view_is in
+    let here : c.in-Some.file < length c.self.inside.pages.files = c.self.invariant.facts.known c.args.handle.0 c.in-Some.file (sym c.in-Some.ensures) in
+    let entry : slice_index_or c.self.inside.pages.files c.in-Some.file no_file ≡ file_at s c.in-Some.file = ap (λ s. file_at s c.in-Some.file) c.self.view_is in
     let page = c.page.ensures.value ∙ ap (λ s. s.sizes.page) c.self.view_is in
     let size = c.size.ensures ∙ ap (λ (f : File). f.size) entry in
     let below : c.args.page.0 < c.page_count.result = omega arith in
@@ -24,13 +22,13 @@ returns-then-is_cached-clause-step c =
     let spots = ap (λ s. s.spots) back in
     fill_present s c.args.handle c.args.page c.in-Some.file found c.self.inside.owners.items none spots inside (sym (c.is_cached.ensures ∙ ap (λ (f : File). is_some (map.get f.pages c.args.page.0)) entry) ∙ c.if-is_cached.true)
 
-pub returns-then-self-eq0-clause-step : goal.returns-then-self-eq0-clause-step
-returns-then-self-eq0-clause-step c =
+pub returns-then-free_frames-eq0-clause-step : goal.returns-then-free_frames-eq0-clause-step
+returns-then-free_frames-eq0-clause-step c =
     let s = c.args.self.now in
     let back = sym c.self.view_is in
     let found = c.in-Some.ensures ∙ ap (λ s. map.get s.handles c.args.handle.0) c.self.view_is in
-    let here : c.in-Some.file < length c.self.inside.files.items = c.self.invariant.known c.args.handle.0 c.in-Some.file (sym c.in-Some.ensures) in
-    let entry = get_or_read c.self.inside.files.items c.in-Some.file c.index-entry.result.now here c.index-entry.ensures no_file ∙ ap (λ s. file_at s c.in-Some.file) c.self.view_is in
+    let here : c.in-Some.file < length c.self.inside.pages.files = c.self.invariant.facts.known c.args.handle.0 c.in-Some.file (sym c.in-Some.ensures) in
+    let entry : slice_index_or c.self.inside.pages.files c.in-Some.file no_file ≡ file_at s c.in-Some.file = ap (λ s. file_at s c.in-Some.file) c.self.view_is in
     let page = c.page.ensures.value ∙ ap (λ s. s.sizes.page) c.self.view_is in
     let size = c.size.ensures ∙ ap (λ (f : File). f.size) entry in
     let below : c.args.page.0 < c.page_count.result = omega arith in
@@ -38,28 +36,27 @@ returns-then-self-eq0-clause-step c =
     let none = ap (λ s. s.requests) back in
     let spots = ap (λ s. s.spots) back in
     let absent = sym (c.is_cached.ensures ∙ ap (λ (f : File). is_some (map.get f.pages c.args.page.0)) entry) ∙ c.if-is_cached.false in
-    let free : free_frames s ≡ c.self.inside.free_frames = ap free_frames back ∙ free_frames_are c.self.inside.geometry c.self.inside.files.items c.self.inside.handles c.self.inside.owners.items c.self.inside.free_frames c.self.invariant c.self.inside.name in
-    fill_no_frame s c.args.handle c.args.page c.in-Some.file found c.self.inside.owners.items none spots inside absent (omega (arith, free))
+    let free : free_frames s ≡ c.self.inside.pages.free = ap free_frames back ∙ free_frames_are c.self.inside.geometry c.self.inside.pages.files c.self.inside.handles c.self.inside.owners.items c.self.inside.pages.free c.self.invariant.facts c.self.inside.name in
+    fill_no_frame s c.args.handle c.args.page c.in-Some.file found c.self.inside.owners.items none spots inside absent (omega (arith, free, c.free_frames.ensures))
 
 pub make_blank-requires-clause-below : goal.make_blank-requires-clause-below
 make_blank-requires-clause-below c =
-    let here : c.in-Some.file < length c.self.inside.files.items = c.self.invariant.known c.args.handle.0 c.in-Some.file (sym c.in-Some.ensures) in
-    let entry = get_or_read c.self.inside.files.items c.in-Some.file c.index-entry.result.now here c.index-entry.ensures no_file in
-    let small : c.index-entry.result.now.size ≤ MAX_FILE_SIZE = subst (λ (f : File). f.size ≤ MAX_FILE_SIZE) (sym entry) (c.self.invariant.bounded c.in-Some.file) in
-    omega (arith, small, c.size.ensures, c.page.ensures.most, c.page_count.ensures, page_count_below c.page.result c.size.result)
+    let here : c.in-Some.file < length c.self.inside.pages.files = c.self.invariant.facts.known c.args.handle.0 c.in-Some.file (sym c.in-Some.ensures) in
+    let small = c.self.invariant.facts.bounded c.in-Some.file in
+    page_below c.page.result c.size.result c.args.page.0 c.page.ensures.least (omega (arith, small, c.size.ensures)) (omega (arith, c.page_count.ensures))
 
 pub make_blank-requires-clause-room : goal.make_blank-requires-clause-room
 make_blank-requires-clause-room c =
-    let free : free_frames c.args.self.now ≡ c.self.inside.free_frames = ap free_frames (sym c.self.view_is) ∙ free_frames_are c.self.inside.geometry c.self.inside.files.items c.self.inside.handles c.self.inside.owners.items c.self.inside.free_frames c.self.invariant c.self.inside.name in
-    omega (arith, free)
+    let free : free_frames c.args.self.now ≡ c.self.inside.pages.free = ap free_frames (sym c.self.view_is) ∙ free_frames_are c.self.inside.geometry c.self.inside.pages.files c.self.inside.handles c.self.inside.owners.items c.self.inside.pages.free c.self.invariant.facts c.self.inside.name in
+    omega (arith, free, c.free_frames.ensures)
 
 pub returns-then-is_err-clause-step : goal.returns-then-is_err-clause-step
 returns-then-is_err-clause-step c =
     let s = c.args.self.now in
     let back = sym c.self.view_is in
     let found = c.in-Some.ensures ∙ ap (λ s. map.get s.handles c.args.handle.0) c.self.view_is in
-    let here : c.in-Some.file < length c.self.inside.files.items = c.self.invariant.known c.args.handle.0 c.in-Some.file (sym c.in-Some.ensures) in
-    let entry = get_or_read c.self.inside.files.items c.in-Some.file c.index-entry.result.now here c.index-entry.ensures no_file ∙ ap (λ s. file_at s c.in-Some.file) c.self.view_is in
+    let here : c.in-Some.file < length c.self.inside.pages.files = c.self.invariant.facts.known c.args.handle.0 c.in-Some.file (sym c.in-Some.ensures) in
+    let entry : slice_index_or c.self.inside.pages.files c.in-Some.file no_file ≡ file_at s c.in-Some.file = ap (λ s. file_at s c.in-Some.file) c.self.view_is in
     let page = c.page.ensures.value ∙ ap (λ s. s.sizes.page) c.self.view_is in
     let size = c.size.ensures ∙ ap (λ (f : File). f.size) entry in
     let below : c.args.page.0 < c.page_count.result = omega arith in
@@ -67,16 +64,16 @@ returns-then-is_err-clause-step c =
     let none = ap (λ s. s.requests) back in
     let spots = ap (λ s. s.spots) back in
     let absent = sym (c.is_cached.ensures ∙ ap (λ (f : File). is_some (map.get f.pages c.args.page.0)) entry) ∙ c.if-is_cached.false in
-    let free : free_frames s ≡ c.self.inside.free_frames = ap free_frames back ∙ free_frames_are c.self.inside.geometry c.self.inside.files.items c.self.inside.handles c.self.inside.owners.items c.self.inside.free_frames c.self.invariant c.self.inside.name in
-    fill_no_memory s c.args.handle c.args.page c.in-Some.file found c.self.inside.owners.items none spots inside absent (omega (arith, free)) c.make_blank.new.self (when_err c.make_blank.result _ c.if-is_err.ensures.value c.make_blank.ensures.err)
+    let free : free_frames s ≡ c.self.inside.pages.free = ap free_frames back ∙ free_frames_are c.self.inside.geometry c.self.inside.pages.files c.self.inside.handles c.self.inside.owners.items c.self.inside.pages.free c.self.invariant.facts c.self.inside.name in
+    fill_no_memory s c.args.handle c.args.page c.in-Some.file found c.self.inside.owners.items none spots inside absent (omega (arith, free, c.free_frames.ensures)) c.make_blank.new.self (when_err c.make_blank.result _ c.if-is_err.ensures.value c.make_blank.ensures.err)
 
 pub returns-clause-step : goal.returns-clause-step
 returns-clause-step c =
     let s = c.args.self.now in
     let back = sym c.self.view_is in
     let found = c.in-Some.ensures ∙ ap (λ s. map.get s.handles c.args.handle.0) c.self.view_is in
-    let here : c.in-Some.file < length c.self.inside.files.items = c.self.invariant.known c.args.handle.0 c.in-Some.file (sym c.in-Some.ensures) in
-    let entry = get_or_read c.self.inside.files.items c.in-Some.file c.index-entry.result.now here c.index-entry.ensures no_file ∙ ap (λ s. file_at s c.in-Some.file) c.self.view_is in
+    let here : c.in-Some.file < length c.self.inside.pages.files = c.self.invariant.facts.known c.args.handle.0 c.in-Some.file (sym c.in-Some.ensures) in
+    let entry : slice_index_or c.self.inside.pages.files c.in-Some.file no_file ≡ file_at s c.in-Some.file = ap (λ s. file_at s c.in-Some.file) c.self.view_is in
     let page = c.page.ensures.value ∙ ap (λ s. s.sizes.page) c.self.view_is in
     let size = c.size.ensures ∙ ap (λ (f : File). f.size) entry in
     let below : c.args.page.0 < c.page_count.result = omega arith in
@@ -84,5 +81,5 @@ returns-clause-step c =
     let none = ap (λ s. s.requests) back in
     let spots = ap (λ s. s.spots) back in
     let absent = sym (c.is_cached.ensures ∙ ap (λ (f : File). is_some (map.get f.pages c.args.page.0)) entry) ∙ c.if-is_cached.false in
-    let free : free_frames s ≡ c.self.inside.free_frames = ap free_frames back ∙ free_frames_are c.self.inside.geometry c.self.inside.files.items c.self.inside.handles c.self.inside.owners.items c.self.inside.free_frames c.self.invariant c.self.inside.name in
-    fill_done s c.args.handle c.args.page c.in-Some.file found c.self.inside.owners.items none spots inside absent (omega (arith, free)) c.make_blank.new.self (when_ok c.make_blank.result _ c.if-is_err.ensures.value c.make_blank.ensures.ok)
+    let free : free_frames s ≡ c.self.inside.pages.free = ap free_frames back ∙ free_frames_are c.self.inside.geometry c.self.inside.pages.files c.self.inside.handles c.self.inside.owners.items c.self.inside.pages.free c.self.invariant.facts c.self.inside.name in
+    fill_done s c.args.handle c.args.page c.in-Some.file found c.self.inside.owners.items none spots inside absent (omega (arith, free, c.free_frames.ensures)) c.make_blank.new.self (when_ok c.make_blank.result _ c.if-is_err.ensures.value c.make_blank.ensures.ok)

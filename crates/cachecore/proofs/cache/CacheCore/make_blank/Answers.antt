@@ -1,34 +1,42 @@
-use Rattle.std.proofs.Common.{arith, ap, ◌∙◌, ◌≡◌, ◌<◌, length, false}
-use Rattle.std.specs.Prelude.{is_some}
+use Rattle.std.proofs.Common.{arith, ap, sym, ◌∙◌, ◌-◌, ◌<◌, length}
 use Rattle.std.specs.FinMap as map
-use Rattle.std.proofs.lemmas.List.{get_or_read}
-use Rattle.cachecore.specs.State.{File, no_file, file_at, free_frames}
+use Rattle.cachecore.specs.State.{is_cached, free_frames}
 use Rattle.cachecore.specs.Changes.{put_page, blank}
+use Rattle.cachecore.specs.Store.{Store, stored_at, with_pages}
+use Rattle.cachecore.specs.Tables.{IsCore, state_of}
 use Rattle.cachecore.proofs.CoreLemmas.{free_frames_are, blank_state, blank_facts}
+use Rattle.cachecore.proofs.RangeLemmas.{either_result, ok_map, none_of}
 use Rattle.cachecore.proofs.cache.CacheCore.make_blank.Goals as goal
 
-pub overflow_sub-self : goal.overflow_sub-self
-overflow_sub-self c =
-    let free = free_frames_are c.self.inside.geometry c.self.inside.files.items c.self.inside.handles c.self.inside.owners.items c.self.inside.free_frames c.self.invariant c.self.inside.name in
+pub make-requires-clause-absent : goal.make-requires-clause-absent
+make-requires-clause-absent c = none_of _ (sym (ap (λ s. is_cached s c.args.file c.args.page) c.self.view_is ∙ c.requires.absent))
+
+pub make-requires-clause-room : goal.make-requires-clause-room
+make-requires-clause-room c =
+    let free = free_frames_are c.self.inside.geometry c.self.inside.pages.files c.self.inside.handles c.self.inside.owners.items c.self.inside.pages.free c.self.invariant.facts c.self.inside.name in
     omega (arith, free, ap free_frames c.self.view_is, c.requires.room)
 
-pub invariant_of-self-2 : goal.invariant_of-self-2
-invariant_of-self-2 c =
-    let count = ap (λ s. length s.files) c.self.view_is in
-    let here : c.args.file < length c.self.inside.files.items = omega arith in
-    let entry = get_or_read c.self.inside.files.items c.args.file c.index_mut-entry.result.now here c.index_mut-entry.ensures.value no_file in
-    let absent : is_some (map.get c.index_mut-entry.result.now.pages c.args.page) ≡ false = ap (λ (f : File). is_some (map.get f.pages c.args.page)) entry ∙ ap (λ s. is_some (map.get (file_at s c.args.file).pages c.args.page)) c.self.view_is ∙ c.requires.absent in
-    let free = free_frames_are c.self.inside.geometry c.self.inside.files.items c.self.inside.handles c.self.inside.owners.items c.self.inside.free_frames c.self.invariant c.self.inside.name in
-    blank_facts c.self.inside.geometry c.self.inside.files.items c.self.inside.handles c.self.inside.owners.items c.self.inside.free_frames c.self.invariant c.self.inside.name
-    c.args.file c.args.page c.page-page_size.result c.index_mut-entry.result.now c.cover.new.self here entry c.page-page_size.ensures.value absent (omega (arith, free, ap free_frames c.self.view_is, c.requires.room)) c.in_ok-cover.ensures.pages c.in_ok-cover.ensures.rest
+pub invariant_of-self : goal.invariant_of-self
+invariant_of-self c =
+    let old = c.self.inside.pages in
+    let f = c.args.file in
+    let here : f < length old.files = omega (arith, c.requires.here, ap (λ s. length s.files) c.self.view_is) in
+    let absent = ap (λ s. is_cached s f c.args.page) c.self.view_is ∙ c.requires.absent in
+    let free = free_frames_are c.self.inside.geometry old.files c.self.inside.handles c.self.inside.owners.items old.free c.self.invariant.facts c.self.inside.name in
+    either_result c.make.result old (with_pages old f (map.insert (stored_at old f).pages c.args.page (blank old.page)) (old.free - 1)) c.make.new.self (λ (s : Store). IsCore c.self.inside.geometry s c.self.inside.handles c.self.inside.owners.items) c.make.ensures.ok c.make.ensures.err
+    (record {
+      facts = blank_facts c.self.inside.geometry old.files c.self.inside.handles c.self.inside.owners.items old.free c.self.invariant.facts c.self.inside.name f c.args.page old.page here c.self.invariant.page absent (omega (arith, free, ap free_frames c.self.view_is, c.requires.room));
+      page = c.self.invariant.page;
+    })
+    c.self.invariant
 
 pub returns-clause-ok : goal.returns-clause-ok
 returns-clause-ok c =
-    let count = ap (λ s. length s.files) c.self.view_is in
-    let here : c.args.file < length c.self.inside.files.items = omega arith in
-    let entry = get_or_read c.self.inside.files.items c.args.file c.index_mut-entry.result.now here c.index_mut-entry.ensures.value no_file in
-    let absent : is_some (map.get c.index_mut-entry.result.now.pages c.args.page) ≡ false = ap (λ (f : File). is_some (map.get f.pages c.args.page)) entry ∙ ap (λ s. is_some (map.get (file_at s c.args.file).pages c.args.page)) c.self.view_is ∙ c.requires.absent in
-    let free = free_frames_are c.self.inside.geometry c.self.inside.files.items c.self.inside.handles c.self.inside.owners.items c.self.inside.free_frames c.self.invariant c.self.inside.name in
-    blank_state c.self.inside.geometry c.self.inside.files.items c.self.inside.handles c.self.inside.owners.items c.self.inside.free_frames c.self.invariant c.self.inside.name
-    c.args.file c.args.page c.page-page_size.result c.index_mut-entry.result.now c.cover.new.self here entry c.page-page_size.ensures.value absent (omega (arith, free, ap free_frames c.self.view_is, c.requires.room)) c.in_ok-cover.ensures.pages c.in_ok-cover.ensures.rest
-    ∙ ap (λ s. put_page s c.args.file c.args.page (blank s.sizes.page)) c.self.view_is
+    let old = c.self.inside.pages in
+    let f = c.args.file in
+    let here : f < length old.files = omega (arith, c.requires.here, ap (λ s. length s.files) c.self.view_is) in
+    let absent = ap (λ s. is_cached s f c.args.page) c.self.view_is ∙ c.requires.absent in
+    let free = free_frames_are c.self.inside.geometry old.files c.self.inside.handles c.self.inside.owners.items old.free c.self.invariant.facts c.self.inside.name in
+    ok_map c.make.result _ _ c.make.ensures.ok (λ e. ap (λ (s : Store). state_of c.self.inside.geometry c.self.inside.name s.files c.self.inside.handles c.self.inside.owners.items) e
+    ∙ blank_state c.self.inside.geometry old.files c.self.inside.handles c.self.inside.owners.items old.free c.self.invariant.facts c.self.inside.name f c.args.page old.page here c.self.invariant.page absent (omega (arith, free, ap free_frames c.self.view_is, c.requires.room))
+    ∙ ap (λ s. put_page s f c.args.page (blank s.sizes.page)) c.self.view_is)

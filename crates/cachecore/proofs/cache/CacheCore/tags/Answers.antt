@@ -1,14 +1,20 @@
-use Rattle.std.proofs.Common.{arith, ap, sym, ◌∙◌, ◌≡◌, ◌<◌, length}
-use Rattle.std.specs.Prelude.{is_some}
-use Rattle.std.specs.FinMap as map
-use Rattle.std.proofs.lemmas.List.{get_or_read}
-use Rattle.cachecore.specs.State.{File, no_file, file_at}
+use Rattle.std.proofs.Common.{arith, ap, sym, ◌∙◌, length}
+use Rattle.std.specs.Prelude.{is_some, option_map}
+use Rattle.cachecore.specs.State.{State, Page, page_at, is_cached}
+use Rattle.cachecore.specs.Store.{stored_page}
 use Rattle.cachecore.proofs.StepLemmas.{none_filling}
+use Rattle.cachecore.proofs.StoreLaws.{some_mapped}
 use Rattle.cachecore.proofs.cache.CacheCore.tags.Goals as goal
+
+pub returns-in-Some : goal.returns-in-Some
+returns-in-Some c =
+    let count = ap (λ (s : State). length s.files) c.self.view_is in
+    (omega (arith, count, c.file_count.ensures), sym (c.in-Some.ensures ∙ ap (λ (s : State). option_map (λ (page : Page). page.tags) (page_at s c.args.file.0 c.args.page.0)) c.self.view_is))
 
 pub returns-in-None : goal.returns-in-None
 returns-in-None c =
-    let count = ap (λ s. length s.files) c.self.view_is in
-    let here : c.args.file.0 < length c.self.inside.files.items = omega (arith, c.self.inside.files.ok.0) in
-    let entry : c.index.result.now ≡ file_at c.args.self.now c.args.file.0 = get_or_read c.self.inside.files.items c.args.file.0 c.index.result.now here c.index.ensures no_file ∙ ap (λ s. file_at s c.args.file.0) c.self.view_is in
-    (omega (arith, here, count), none_filling c.args.self.now c.args.file.0 c.args.page.0 (sym (ap (λ s. s.requests) c.self.view_is)), ap is_some (sym (c.in-None.ensures ∙ ap (λ (f : File). map.get f.pages c.args.page.0) entry)))
+    let count = ap (λ (s : State). length s.files) c.self.view_is in (
+      omega (arith, count, c.file_count.ensures),
+      none_filling c.args.self.now c.args.file.0 c.args.page.0 (sym (ap (λ (s : State). s.requests) c.self.view_is)),
+      ap (λ (s : State). is_cached s c.args.file.0 c.args.page.0) (sym c.self.view_is) ∙ sym (some_mapped (λ (page : Page). page.tags) (stored_page c.self.inside.pages c.args.file.0 c.args.page.0)) ∙ ap is_some (sym c.in-None.ensures),
+    )

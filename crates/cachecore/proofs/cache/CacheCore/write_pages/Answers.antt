@@ -1,81 +1,185 @@
-use Rattle.std.proofs.Common.{arith, sym, ap, subst, cond, max, ◌∙◌, ◌≡◌, ◌+◌, ◌-◌, ◌/◌, ◌<◌, ◌++◌, ℕ, length}
-use Rattle.std.specs.Prelude.{is_ok, slice_index_or, slice_set, None}
-use Rattle.std.proofs.lemmas.List.{get_or_read}
-use Rattle.cachecore.specs.State.{File, no_file, touched_count}
+use Rattle.std.proofs.Common.{arith, sym, ap, subst, refl, cond, max, ◌∙◌, ◌≡◌, ◌+◌, ◌-◌, ◌/◌, ◌<◌, ◌++◌, ℕ, List, length}
+use Rattle.std.specs.Prelude.{is_ok, slice_set, None}
+use Rattle.cachecore.specs.State.{File, touched_count}
 use Rattle.cachecore.specs.Changes.{written}
 use Rattle.cachecore.specs.Tests.{room_tests}
 use Rattle.cachecore.specs.Pairs.{AreSized}
-use Rattle.cachecore.specs.Tables.{CoreFacts, needing}
+use Rattle.cachecore.specs.Store.{stored_at, AreMade}
+use Rattle.cachecore.specs.Tables.{CoreFacts, state_of, needing}
 use Rattle.cachecore.proofs.PairLemmas.{on_ok}
-use Rattle.cachecore.proofs.WriteLemmas.{WriteParts, sized_cover}
-use Rattle.cachecore.proofs.CoreLemmas.{frames_left, write_state, write_facts}
+use Rattle.cachecore.proofs.Spans.{last_below}
+use Rattle.cachecore.proofs.WriteSteps.{WriteSteps, parts, final_files, final_free, final_page, made_cached, made_sized, made_here, made_size, laid_here}
+use Rattle.cachecore.proofs.CoreLemmas.{frames_enough, write_state, write_facts}
 use Rattle.cachecore.proofs.cache.CacheCore.write_pages.Goals as goal
+
+pub cover-requires-clause-below : goal.cover-requires-clause-below
+cover-requires-clause-below c = last_below c.page-page_size.result (c.args.offset + length c.args.bytes.now - 1) c.page-page_size.ensures.least (omega (arith, c.requires.bound, c.requires.some))
+
+pub cover-requires-clause-room : goal.cover-requires-clause-room
+cover-requires-clause-room c =
+    frames_enough c.self.inside.geometry c.self.inside.pages.files c.self.inside.handles c.self.inside.owners.items c.self.inside.pages.free c.self.invariant.facts c.self.inside.name
+    c.args.file c.args.offset (length c.args.bytes.now) c.page-page_size.result c.page-page_size.ensures.value
+    (subst (λ s. room_tests s c.args.file c.args.offset (length c.args.bytes.now) ≡ None) (sym c.self.view_is) c.requires.room)
+
+pub access_cached-requires-clause-here : goal.access_cached-requires-clause-here
+access_cached-requires-clause-here c =
+    let f = c.args.file in
+    let o = c.args.offset in
+    let b = c.args.bytes.now in
+    let P = c.page-page_size.result in
+    let last = (o + length b - 1) / P in
+    let store = c.self.inside.pages in
+    let here : f < length store.files = omega (arith, c.requires.here, ap (λ s. length s.files) c.self.view_is) in
+    let size : P ≡ store.page = c.page-page_size.ensures.value ∙ sym c.self.invariant.page in
+    made_here f (o / P) (last + 1) store c.cover.new.self here c.in_ok-cover.ensures.made
+
+pub write-requires-clause-here : goal.write-requires-clause-here
+write-requires-clause-here c =
+    let f = c.args.file in
+    let o = c.args.offset in
+    let b = c.args.bytes.now in
+    let P = c.page-page_size.result in
+    let last = (o + length b - 1) / P in
+    let store = c.self.inside.pages in
+    let here : f < length store.files = omega (arith, c.requires.here, ap (λ s. length s.files) c.self.view_is) in
+    let size : P ≡ store.page = c.page-page_size.ensures.value ∙ sym c.self.invariant.page in
+    let made : AreMade f (o / P) (last + 1) store c.access_cached.new.self = subst (AreMade f (o / P) (last + 1) store) (sym c.access_cached.ensures) c.in_ok-cover.ensures.made in
+    made_here f (o / P) (last + 1) store c.access_cached.new.self here made
+
+pub write-requires-clause-page : goal.write-requires-clause-page
+write-requires-clause-page c =
+    let f = c.args.file in
+    let o = c.args.offset in
+    let b = c.args.bytes.now in
+    let P = c.page-page_size.result in
+    let last = (o + length b - 1) / P in
+    let store = c.self.inside.pages in
+    let here : f < length store.files = omega (arith, c.requires.here, ap (λ s. length s.files) c.self.view_is) in
+    let size : P ≡ store.page = c.page-page_size.ensures.value ∙ sym c.self.invariant.page in
+    let made : AreMade f (o / P) (last + 1) store c.access_cached.new.self = subst (AreMade f (o / P) (last + 1) store) (sym c.access_cached.ensures) c.in_ok-cover.ensures.made in
+    size ∙ sym (made_size f (o / P) (last + 1) store c.access_cached.new.self made)
+
+pub write-requires-clause-cached : goal.write-requires-clause-cached
+write-requires-clause-cached c =
+    let f = c.args.file in
+    let o = c.args.offset in
+    let b = c.args.bytes.now in
+    let P = c.page-page_size.result in
+    let last = (o + length b - 1) / P in
+    let store = c.self.inside.pages in
+    let here : f < length store.files = omega (arith, c.requires.here, ap (λ s. length s.files) c.self.view_is) in
+    let size : P ≡ store.page = c.page-page_size.ensures.value ∙ sym c.self.invariant.page in
+    let made : AreMade f (o / P) (last + 1) store c.access_cached.new.self = subst (AreMade f (o / P) (last + 1) store) (sym c.access_cached.ensures) c.in_ok-cover.ensures.made in
+    made_cached f (o / P) last store c.access_cached.new.self made
 
 pub write-requires-clause-sized : goal.write-requires-clause-sized
 write-requires-clause-sized c =
-    let count = ap (λ s. length s.files) c.self.view_is in
-    let here : c.args.file < length c.self.inside.files.items = omega arith in
-    let entry = get_or_read c.self.inside.files.items c.args.file c.index_mut-entry.result.now here c.index_mut-entry.ensures.value no_file in
+    let f = c.args.file in
+    let o = c.args.offset in
+    let b = c.args.bytes.now in
     let P = c.page-page_size.result in
-    sized_cover P (c.args.offset / P) ((c.args.offset + length c.args.bytes.now - 1) / P) c.index_mut-entry.result.now.pages c.cover.new.self.pages c.in_ok-cover.ensures.pages
-    (subst (λ (f : File). AreSized P f.pages) (sym entry) (subst (λ (n : ℕ). AreSized n (slice_index_or c.self.inside.files.items c.args.file no_file).pages) (sym c.page-page_size.ensures.value) (c.self.invariant.sized c.args.file)))
+    let last = (o + length b - 1) / P in
+    let store = c.self.inside.pages in
+    let here : f < length store.files = omega (arith, c.requires.here, ap (λ s. length s.files) c.self.view_is) in
+    let size : P ≡ store.page = c.page-page_size.ensures.value ∙ sym c.self.invariant.page in
+    let made : AreMade f (o / P) (last + 1) store c.access_cached.new.self = subst (AreMade f (o / P) (last + 1) store) (sym c.access_cached.ensures) c.in_ok-cover.ensures.made in
+    made_sized f (o / P) last store c.access_cached.new.self P size made (subst (λ (n : ℕ). AreSized n (stored_at store f).pages) (sym c.page-page_size.ensures.value) (c.self.invariant.facts.sized f))
 
-pub overflow_sub-self : goal.overflow_sub-self
-overflow_sub-self c =
-    let count = ap (λ s. length s.files) c.self.view_is in
-    let here : c.args.file < length c.self.inside.files.items = omega arith in
-    let entry = get_or_read c.self.inside.files.items c.args.file c.index_mut-entry.result.now here c.index_mut-entry.ensures.value no_file in
+pub size-requires : goal.size-requires
+size-requires c =
+    let f = c.args.file in
+    let o = c.args.offset in
+    let b = c.args.bytes.now in
     let P = c.page-page_size.result in
-    let parts : WriteParts P c.args.offset c.args.bytes.now c.index_mut-entry.result.now c.cover.new.self c.write.new.self c.set_size.new.self = record {
-      made = c.in_ok-cover.ensures.pages;
-      made_rest = c.in_ok-cover.ensures.rest;
-      laid = c.write.ensures.pages;
-      laid_rest = c.write.ensures.rest;
-      grown = c.set_size.ensures ∙ ap (λ n. let f : File = record c.write.new.self { size = n } in f) (c.max-size.ensures ∙ ap (λ n. max n (c.args.offset + length c.args.bytes.now)) c.size.ensures);
-    } in
-    let left = frames_left c.self.inside.geometry c.self.inside.files.items c.self.inside.handles c.self.inside.owners.items c.self.inside.free_frames c.self.invariant c.self.inside.name
-    c.args.file c.args.offset P c.args.bytes.now c.index_mut-entry.result.now c.cover.new.self c.write.new.self c.set_size.new.self here entry c.page-page_size.ensures.value parts (omega (arith, c.page-page_size.ensures.least)) c.requires.some c.requires.bound
-    (subst (λ s. room_tests s c.args.file c.args.offset (length c.args.bytes.now) ≡ None) (sym c.self.view_is) c.requires.room) in
-    omega (arith, left, c.absent_pages-made.ensures)
+    let last = (o + length b - 1) / P in
+    let store = c.self.inside.pages in
+    let here : f < length store.files = omega (arith, c.requires.here, ap (λ s. length s.files) c.self.view_is) in
+    let size : P ≡ store.page = c.page-page_size.ensures.value ∙ sym c.self.invariant.page in
+    let made : AreMade f (o / P) (last + 1) store c.access_cached.new.self = subst (AreMade f (o / P) (last + 1) store) (sym c.access_cached.ensures) c.in_ok-cover.ensures.made in
+    laid_here f c.access_cached.new.self c.write.new.self (made_here f (o / P) (last + 1) store c.access_cached.new.self here made) c.write.ensures.rest
+
+pub set_size-requires : goal.set_size-requires
+set_size-requires c =
+    let f = c.args.file in
+    let o = c.args.offset in
+    let b = c.args.bytes.now in
+    let P = c.page-page_size.result in
+    let last = (o + length b - 1) / P in
+    let store = c.self.inside.pages in
+    let here : f < length store.files = omega (arith, c.requires.here, ap (λ s. length s.files) c.self.view_is) in
+    let size : P ≡ store.page = c.page-page_size.ensures.value ∙ sym c.self.invariant.page in
+    let made : AreMade f (o / P) (last + 1) store c.access_cached.new.self = subst (AreMade f (o / P) (last + 1) store) (sym c.access_cached.ensures) c.in_ok-cover.ensures.made in
+    laid_here f c.access_cached.new.self c.write.new.self (made_here f (o / P) (last + 1) store c.access_cached.new.self here made) c.write.ensures.rest
 
 pub invariant_of-self-2 : goal.invariant_of-self-2
 invariant_of-self-2 c =
-    let count = ap (λ s. length s.files) c.self.view_is in
-    let here : c.args.file < length c.self.inside.files.items = omega arith in
-    let entry = get_or_read c.self.inside.files.items c.args.file c.index_mut-entry.result.now here c.index_mut-entry.ensures.value no_file in
+    let f = c.args.file in
+    let o = c.args.offset in
+    let b = c.args.bytes.now in
     let P = c.page-page_size.result in
-    let owners = c.self.inside.owners.items in
-    let parts : WriteParts P c.args.offset c.args.bytes.now c.index_mut-entry.result.now c.cover.new.self c.write.new.self c.set_size.new.self = record {
-      made = c.in_ok-cover.ensures.pages;
-      made_rest = c.in_ok-cover.ensures.rest;
-      laid = c.write.ensures.pages;
-      laid_rest = c.write.ensures.rest;
-      grown = c.set_size.ensures ∙ ap (λ n. let f : File = record c.write.new.self { size = n } in f) (c.max-size.ensures ∙ ap (λ n. max n (c.args.offset + length c.args.bytes.now)) c.size.ensures);
+    let last = (o + length b - 1) / P in
+    let store = c.self.inside.pages in
+    let here : f < length store.files = omega (arith, c.requires.here, ap (λ s. length s.files) c.self.view_is) in
+    let size : P ≡ store.page = c.page-page_size.ensures.value ∙ sym c.self.invariant.page in
+    let made : AreMade f (o / P) (last + 1) store c.access_cached.new.self = subst (AreMade f (o / P) (last + 1) store) (sym c.access_cached.ensures) c.in_ok-cover.ensures.made in
+    let steps : WriteSteps P o b f c.max-size.result store c.access_cached.new.self c.write.new.self c.set_size.new.self = record {
+      here = here;
+      page = size;
+      cover = made;
+      pages = c.write.ensures.pages;
+      rest = c.write.ensures.rest;
+      size = c.max-size.ensures ∙ ap (λ n. max n (o + length b)) c.size.ensures;
+      grown = c.set_size.ensures;
     } in
+    let owners = c.self.inside.owners.items in
+    let e0 = stored_at store f in
+    let e1 = stored_at c.access_cached.new.self f in
+    let e2 = stored_at c.write.new.self f in
+    let e3 = stored_at c.set_size.new.self f in
+    let room = subst (λ s. room_tests s f o (length b) ≡ None) (sym c.self.view_is) c.requires.room in
     let now = c.append.ensures.items ∙ ap (λ xs. cond (is_ok c.append.result) (xs ++ c.in_ok-taken.taken.items) xs) c.reserve.ensures.items
-    ∙ ap (λ t. cond (is_ok c.append.result) (owners ++ t) owners) (c.in_ok-taken.ensures ∙ ap (λ os. needing os c.args.file (c.args.offset / P) (touched_count P c.args.offset (length c.args.bytes.now))) c.deref.ensures.value) in
-    subst (λ n. CoreFacts c.self.inside.geometry (slice_set c.self.inside.files.items c.args.file c.set_size.new.self) c.self.inside.handles c.append.new.self.items (c.self.inside.free_frames - n)) (sym c.absent_pages-made.ensures)
-    (write_facts c.self.inside.geometry c.self.inside.files.items c.self.inside.handles owners c.self.inside.free_frames c.self.invariant c.self.inside.name
-    c.args.file c.args.offset P c.args.bytes.now c.index_mut-entry.result.now c.cover.new.self c.write.new.self c.set_size.new.self here entry c.page-page_size.ensures.value parts (omega (arith, c.page-page_size.ensures.least)) c.requires.some c.requires.bound
-    (subst (λ s. room_tests s c.args.file c.args.offset (length c.args.bytes.now) ≡ None) (sym c.self.view_is) c.requires.room) (is_ok c.append.result) c.append.new.self.items now)
+    ∙ ap (λ t. cond (is_ok c.append.result) (owners ++ t) owners) (c.in_ok-taken.ensures ∙ ap (λ os. needing os f (o / P) (touched_count P o (length b))) c.deref.ensures.value) in
+    let files = final_files P o b f c.max-size.result store c.access_cached.new.self c.write.new.self c.set_size.new.self steps in
+    let free = final_free P o b f c.max-size.result store c.access_cached.new.self c.write.new.self c.set_size.new.self steps in
+    let of_write = parts P o b f c.max-size.result store c.access_cached.new.self c.write.new.self c.set_size.new.self steps in
+    let facts = write_facts c.self.inside.geometry store.files c.self.inside.handles owners store.free c.self.invariant.facts c.self.inside.name f o P b e0 e1 e2 e3 here refl c.page-page_size.ensures.value of_write (omega (arith, c.page-page_size.ensures.least)) c.requires.some c.requires.bound room (is_ok c.append.result) c.append.new.self.items now in
+    record {
+      facts = subst (λ (fs : List File). CoreFacts c.self.inside.geometry fs c.self.inside.handles c.append.new.self.items c.set_size.new.self.free) (sym files)
+          (subst (λ (n : ℕ). CoreFacts c.self.inside.geometry (slice_set store.files f e3) c.self.inside.handles c.append.new.self.items n) (sym free) facts);
+      page = final_page P o b f c.max-size.result store c.access_cached.new.self c.write.new.self c.set_size.new.self steps ∙ c.self.invariant.page;
+    }
 
 pub returns-clause-ok : goal.returns-clause-ok
 returns-clause-ok c =
-    let count = ap (λ s. length s.files) c.self.view_is in
-    let here : c.args.file < length c.self.inside.files.items = omega arith in
-    let entry = get_or_read c.self.inside.files.items c.args.file c.index_mut-entry.result.now here c.index_mut-entry.ensures.value no_file in
+    let f = c.args.file in
+    let o = c.args.offset in
+    let b = c.args.bytes.now in
     let P = c.page-page_size.result in
-    let owners = c.self.inside.owners.items in
-    let parts : WriteParts P c.args.offset c.args.bytes.now c.index_mut-entry.result.now c.cover.new.self c.write.new.self c.set_size.new.self = record {
-      made = c.in_ok-cover.ensures.pages;
-      made_rest = c.in_ok-cover.ensures.rest;
-      laid = c.write.ensures.pages;
-      laid_rest = c.write.ensures.rest;
-      grown = c.set_size.ensures ∙ ap (λ n. let f : File = record c.write.new.self { size = n } in f) (c.max-size.ensures ∙ ap (λ n. max n (c.args.offset + length c.args.bytes.now)) c.size.ensures);
+    let last = (o + length b - 1) / P in
+    let store = c.self.inside.pages in
+    let here : f < length store.files = omega (arith, c.requires.here, ap (λ s. length s.files) c.self.view_is) in
+    let size : P ≡ store.page = c.page-page_size.ensures.value ∙ sym c.self.invariant.page in
+    let made : AreMade f (o / P) (last + 1) store c.access_cached.new.self = subst (AreMade f (o / P) (last + 1) store) (sym c.access_cached.ensures) c.in_ok-cover.ensures.made in
+    let steps : WriteSteps P o b f c.max-size.result store c.access_cached.new.self c.write.new.self c.set_size.new.self = record {
+      here = here;
+      page = size;
+      cover = made;
+      pages = c.write.ensures.pages;
+      rest = c.write.ensures.rest;
+      size = c.max-size.ensures ∙ ap (λ n. max n (o + length b)) c.size.ensures;
+      grown = c.set_size.ensures;
     } in
+    let owners = c.self.inside.owners.items in
+    let e0 = stored_at store f in
+    let e1 = stored_at c.access_cached.new.self f in
+    let e2 = stored_at c.write.new.self f in
+    let e3 = stored_at c.set_size.new.self f in
+    let room = subst (λ s. room_tests s f o (length b) ≡ None) (sym c.self.view_is) c.requires.room in
     let now = c.append.ensures.items ∙ ap (λ xs. cond (is_ok c.append.result) (xs ++ c.in_ok-taken.taken.items) xs) c.reserve.ensures.items
-    ∙ ap (λ t. cond (is_ok c.append.result) (owners ++ t) owners) (c.in_ok-taken.ensures ∙ ap (λ os. needing os c.args.file (c.args.offset / P) (touched_count P c.args.offset (length c.args.bytes.now))) c.deref.ensures.value) in
-    on_ok c.append.result _ (λ ok. write_state c.self.inside.geometry c.self.inside.files.items c.self.inside.handles owners c.self.inside.free_frames c.self.invariant c.self.inside.name
-    c.args.file c.args.offset P c.args.bytes.now c.index_mut-entry.result.now c.cover.new.self c.write.new.self c.set_size.new.self here entry c.page-page_size.ensures.value parts (omega (arith, c.page-page_size.ensures.least)) c.requires.some c.requires.bound
-    (subst (λ s. room_tests s c.args.file c.args.offset (length c.args.bytes.now) ≡ None) (sym c.self.view_is) c.requires.room) (is_ok c.append.result) c.append.new.self.items now ok
-    ∙ ap (λ s. written s c.args.file c.args.offset c.args.bytes.now) c.self.view_is)
+    ∙ ap (λ t. cond (is_ok c.append.result) (owners ++ t) owners) (c.in_ok-taken.ensures ∙ ap (λ os. needing os f (o / P) (touched_count P o (length b))) c.deref.ensures.value) in
+    let files = final_files P o b f c.max-size.result store c.access_cached.new.self c.write.new.self c.set_size.new.self steps in
+    let free = final_free P o b f c.max-size.result store c.access_cached.new.self c.write.new.self c.set_size.new.self steps in
+    let of_write = parts P o b f c.max-size.result store c.access_cached.new.self c.write.new.self c.set_size.new.self steps in
+    on_ok c.append.result _ (λ ok. ap (λ (fs : List File). state_of c.self.inside.geometry c.self.inside.name fs c.self.inside.handles c.append.new.self.items) files
+    ∙ write_state c.self.inside.geometry store.files c.self.inside.handles owners store.free c.self.invariant.facts c.self.inside.name f o P b e0 e1 e2 e3 here refl c.page-page_size.ensures.value of_write (omega (arith, c.page-page_size.ensures.least)) c.requires.some c.requires.bound room (is_ok c.append.result) c.append.new.self.items now ok
+    ∙ ap (λ s. written s f o b) c.self.view_is)

@@ -1,0 +1,70 @@
+use Rattle.std.proofs.Common.{arith, ap, sym, ◌∙◌, ◌≡◌, ◌+◌, ◌-◌, ◌++◌, ℕ, List}
+use Rattle.std.specs.Prelude.{Some, is_some, slice_range, take, drop}
+use Rattle.std.specs.FinMap as map
+use Rattle.std.proofs.lemmas.Bool.{false≢true}
+use Rattle.std.proofs.lemmas.List.{get_or_read}
+use Rattle.frames.specs.Table.{Table}
+use Rattle.mapping.specs.Pages.{seen}
+use Rattle.cachecore.specs.declared.kept.KeptFile.{KeptFile}
+use Rattle.cachecore.specs.State.{Page, the_page}
+use Rattle.cachecore.specs.Store.{Store, store_of, none_kept, kept_at, stored_at, stored_page, page_of}
+use Rattle.cachecore.proofs.StoreLaws.{cached_at}
+use Rattle.cachecore.proofs.StoreFacts.{here_kept, the_page_is, accessed_seen, page_taken}
+use Rattle.cachecore.proofs.pages.Pages.read_part.Goals as goal
+use borrow.Rule.Slice.PartMut.{put_mid}
+use Rattle.std.proofs.lemmas.List.{drop-drop, append_assoc}
+
+pub unreachable-requires : goal.unreachable-requires
+unreachable-requires c =
+    let t = c.self.inside.frames in
+    let files = c.self.inside.files.items in
+    let f = c.args.file in
+    let here = here_kept t files f c.args.self.now c.self.view_is c.requires.here in
+    let entry : c.index.result.now ≡ kept_at files f = get_or_read files f c.index.result.now here c.index.ensures none_kept in
+    false≢true (ap is_some c.in_default.ensures ∙ ap (λ (k : KeptFile). is_some (map.get k.mapping.pages c.args.page)) entry ∙ cached_at t files f c.args.page ∙ ap (λ s. is_some (stored_page s f c.args.page)) c.self.view_is ∙ c.requires.cached)
+
+pub bytes-bytes-requires : goal.bytes-bytes-requires
+bytes-bytes-requires c =
+    let t = c.self.inside.frames in
+    let files = c.self.inside.files.items in
+    let f = c.args.file in
+    let here = here_kept t files f c.args.self.now c.self.view_is c.requires.here in
+    let entry : c.index.result.now ≡ kept_at files f = get_or_read files f c.index.result.now here c.index.ensures none_kept in
+    let p = c.args.page in
+    let x = seen c.in-Some.mapped in
+    let there : map.get (kept_at files f).mapping.pages p ≡ Some x = sym (c.in-Some.ensures ∙ ap (λ (k : KeptFile). map.get k.mapping.pages p) entry) in
+    page_taken t files c.self.inside.dirty c.self.invariant f p x there
+
+pub accessed-requires : goal.accessed-requires
+accessed-requires c =
+    let t = c.self.inside.frames in
+    let files = c.self.inside.files.items in
+    let f = c.args.file in
+    let here = here_kept t files f c.args.self.now c.self.view_is c.requires.here in
+    let entry : c.index.result.now ≡ kept_at files f = get_or_read files f c.index.result.now here c.index.ensures none_kept in
+    let p = c.args.page in
+    let x = seen c.in-Some.mapped in
+    let there : map.get (kept_at files f).mapping.pages p ≡ Some x = sym (c.in-Some.ensures ∙ ap (λ (k : KeptFile). map.get k.mapping.pages p) entry) in
+    page_taken t files c.self.inside.dirty c.self.invariant f p x there
+
+pub returns-clause-after : goal.returns-clause-after
+returns-clause-after c =
+    let t = c.self.inside.frames in
+    let files = c.self.inside.files.items in
+    let f = c.args.file in
+    let here = here_kept t files f c.args.self.now c.self.view_is c.requires.here in
+    let entry : c.index.result.now ≡ kept_at files f = get_or_read files f c.index.result.now here c.index.ensures none_kept in
+    let p = c.args.page in
+    let x = seen c.in-Some.mapped in
+    let there : map.get (kept_at files f).mapping.pages p ≡ Some x = sym (c.in-Some.ensures ∙ ap (λ (k : KeptFile). map.get k.mapping.pages p) entry) in
+    let page : the_page (stored_at c.args.self.now f).pages p ≡ page_of t x = sym (ap (λ (s : Store). the_page (stored_at s f).pages p) c.self.view_is) ∙ the_page_is t files c.self.inside.dirty f p x c.self.invariant here there in
+    let part : c.copy_from_slice.new.self ≡ slice_range (the_page (stored_at c.args.self.now f).pages p).bytes c.args.at (c.args.at + (c.args.to - c.args.from)) =
+    c.copy_from_slice.ensures.after ∙ ap (λ (bs : List ℕ). slice_range bs c.args.at (c.args.at + (c.args.to - c.args.from))) (c.bytes-bytes.ensures.bytes ∙ ap (λ (pg : Page). pg.bytes) (sym page)) in
+    let end : c.args.from + (c.args.to - c.args.from) ≡ c.args.to = omega (arith, c.requires.order) in
+    ap (λ (ys : List ℕ). put_mid c.args.from (c.args.to - c.args.from) c.args.out.now ys) part
+    ∙ ap (λ (xs : List ℕ). take c.args.from c.args.out.now ++ (slice_range (the_page (stored_at c.args.self.now f).pages p).bytes c.args.at (c.args.at + (c.args.to - c.args.from)) ++ xs)) (drop-drop (c.args.to - c.args.from) c.args.from c.args.out.now ∙ ap (λ n. drop n c.args.out.now) end)
+    ∙ sym (append_assoc (take c.args.from c.args.out.now) (slice_range (the_page (stored_at c.args.self.now f).pages p).bytes c.args.at (c.args.at + (c.args.to - c.args.from))) (drop c.args.to c.args.out.now))
+
+pub returns-clause-same : goal.returns-clause-same
+returns-clause-same c =
+    ap (λ (u : Table). store_of u c.self.inside.files.items) c.accessed.ensures ∙ accessed_seen c.self.inside.frames c.self.inside.files.items c.self.inside.dirty c.in-Some.mapped.frame.0 c.self.invariant ∙ c.self.view_is

@@ -1,0 +1,75 @@
+//! A file as the pages' store keeps it.
+
+ghost use Rattle.std.specs.Prelude.{◌≡◌, ◌-◌, ◌≤◌, ◌^◌, find, not, is_some, count_by};
+ghost use Rattle.std.specs.List.{range_with_len};
+ghost use Rattle.std.specs.FinMap as map;
+ghost use Rattle.pc_types.specs.declared.tags.Tag.TheVariants.{Dirty};
+ghost use Rattle.mapping.specs.Pages.{has_at};
+ghost use Rattle.cachecore.specs.Store.{none_kept};
+
+use mapping::Mapping;
+use pc_types::limits::MAX_TOUCHED;
+use pc_types::{PageIndex, Tag};
+use std::alloc::Global;
+
+/// A file's pages, how many writes of it failed, and the code of the last.
+#[derive(Drop)]
+pub struct KeptFile {
+    pub mapping: Mapping,
+    pub failures: u64,
+    pub last_code: u64,
+}
+
+impl KeptFile {
+    /// A file without bytes.
+    pub fn new(alloc: Global) -> KeptFile
+        ensures { result ≡ none_kept }
+    {
+        KeptFile {
+            mapping: Mapping::new(alloc),
+            failures: 0,
+            last_code: 0,
+        }
+    }
+
+    pub fn is_cached(&self, page: u64) -> bool
+        ensures { result ≡ is_some (map.get self.now.mapping.pages page) }
+    {
+        self.mapping.page(PageIndex(page)).is_some()
+    }
+
+    pub fn is_dirty(&self, page: u64) -> bool
+        ensures { result ≡ has_at self.now.mapping.pages page Dirty }
+    {
+        self.mapping.has_tag(PageIndex(page), Tag::Dirty)
+    }
+
+    /// The first page from `first` up to `end` that is not cached.
+    pub fn first_absent(&self, first: u64, end: u64) -> Option<u64>
+        requires order { first ≤ end }
+        requires bound { end ≤ 2 ^ 63 }
+        ensures { result ≡ find (λ p. not (is_some (map.get self.now.mapping.pages p))) (range_with_len first (end - first)) }
+    {
+        (first..end).find(|p| !self.is_cached(*p))
+    }
+
+    /// How many pages from `first` up to `end` are not cached.
+    pub fn absent_pages(&self, first: u64, end: u64) -> usize
+        requires order { first ≤ end }
+        requires few { end - first ≤ MAX_TOUCHED }
+        requires bound { end ≤ 2 ^ 63 }
+        ensures { result ≡ count_by (λ p. not (is_some (map.get self.now.mapping.pages p))) (range_with_len first (end - first)) }
+    {
+        (first..end).filter(|p| !self.is_cached(*p)).count()
+    }
+
+    /// How many pages from `first` up to `end` are not DIRTY.
+    pub fn clean_pages(&self, first: u64, end: u64) -> usize
+        requires order { first ≤ end }
+        requires few { end - first ≤ MAX_TOUCHED }
+        requires bound { end ≤ 2 ^ 63 }
+        ensures { result ≡ count_by (λ p. not (has_at self.now.mapping.pages p Dirty)) (range_with_len first (end - first)) }
+    {
+        (first..end).filter(|p| !self.is_dirty(*p)).count()
+    }
+}

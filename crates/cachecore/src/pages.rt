@@ -1,0 +1,234 @@
+//! The pages of all files: each in a frame of its own, by its file's mapping.
+
+ghost use Rattle.std.specs.Prelude.{◌≡◌, ℕ, ◌+◌, ◌-◌, ◌<◌, ◌≤◌, ◌^◌, ◌++◌, IfOk, OnOk, OnErr, length, true, false, not, is_some, option_map, find, count_by, slice_set, slice_range, take, drop, sum_by, [], ◌∷◌, IsOkUnless, None};
+ghost use Rattle.std.specs.List.{range_with_len};
+ghost use Rattle.std.specs.FinMap as map;
+ghost use Rattle.mapping.specs.declared.mapping.TheConstants.{MAX_PAGES};
+ghost use Rattle.pc_types.specs.TagBits.{tag_set};
+ghost use Rattle.cachecore.specs.State.{no_file, dirty_in, the_page, tagged};
+ghost use Rattle.cachecore.specs.Changes.{blank};
+ghost use Rattle.cachecore.specs.Pairs.{with_part};
+ghost use Rattle.cachecore.specs.Store.{Store, stored_at, stored_page, with_pages};
+
+use crate::kept::KeptFile;
+use frames::Frames;
+use pc_types::limits::{MAX_FRAMES, MAX_TOUCHED};
+use pc_types::{FileId, Geometry, PageIndex, Refusal, Tag, Tags};
+use std::alloc::{AllocError, Global};
+use std::marker::Model;
+
+/// The pages of all files.
+#[derive(Drop)]
+pub struct Pages {
+    frames: Frames,
+    files: Vec<KeptFile>,
+    // how many pages of all files are DIRTY
+    dirty: u64,
+}
+
+impl Model for Pages {
+    ghost use Rattle.cachecore.specs.Store.{Store, store_code, store_of, IsStore};
+
+    ghost Value = { Store };
+
+    ghost coded = { store_code };
+
+    ghost view = { λ a. store_of a.frames a.files.items };
+
+    ghost invariant = { λ a. IsStore a.frames a.files.items a.dirty };
+}
+
+impl Pages {
+    /// No files, with room for so many, and all frames free.
+    pub fn new(alloc: Global, geometry: &Geometry, files: usize) -> Result<Pages, Refusal>
+        ensures empty { IfOk result (λ s. s ≡ record { page = geometry.now.page; files = []; free = geometry.now.frames }) }
+        ensures refused { IsOkUnless result Refusal.Memory }
+        ensures few { geometry.now.frames ≤ MAX_FRAMES }
+    {
+        prove!(geometry.frames() <= MAX_FRAMES);
+        Ok(Pages {
+            frames: Frames::new(alloc, geometry)?,
+            files: Vec::with_capacity(alloc, files)?,
+            dirty: 0,
+        })
+    }
+
+    /// A new file, without bytes.
+    pub fn add_file(&mut self, alloc: Global) -> Result<(), AllocError>
+        ensures ok { OnOk result (self.new ≡ record self.old { files = self.old.files ++ no_file ∷ [] }) }
+        ensures err { OnErr result (self.new ≡ self.old) }
+    {
+        match self.files.push(KeptFile::new(alloc)) {
+            Ok(()) => Ok(()),
+            Err(_) => Err(AllocError),
+        }
+    }
+
+    pub fn file_count(&self) -> u64
+        ensures { result ≡ length self.now.files }
+    {
+        self.files.len() as u64
+    }
+
+    pub fn free_frames(&self) -> u64
+        ensures { result ≡ self.now.free }
+    {
+        self.frames.free_count()
+    }
+
+    /// How many pages of all files are DIRTY.
+    pub fn dirty_total(&self) -> u64
+        ensures { result ≡ sum_by dirty_in self.now.files }
+    {
+        self.dirty
+    }
+
+    pub fn size(&self, file: u64) -> u64
+        requires { file < length self.now.files }
+        ensures { result ≡ (stored_at self.now file).size }
+    {
+        self.files[file as usize].mapping.size()
+    }
+
+    pub fn set_size(&mut self, file: u64, size: u64)
+        requires { file < length self.old.files }
+        ensures { self.new ≡ record self.old { files = slice_set self.old.files file (record (stored_at self.old file) { size = size }) } }
+    {
+        self.files[file as usize].mapping.set_size(size);
+    }
+
+    /// The tags of a page that is cached.
+    pub fn tags(&self, file: u64, page: u64) -> Option<Tags>
+        requires { file < length self.now.files }
+        ensures { option_map tag_set result ≡ option_map (λ p. p.tags) (stored_page self.now file page) }
+    {
+        let mapped = self.files[file as usize].mapping.page(PageIndex(page))?;
+        Some(mapped.tags)
+    }
+
+    pub fn is_cached(&self, file: u64, page: u64) -> bool
+        requires { file < length self.now.files }
+        ensures { result ≡ is_some (stored_page self.now file page) }
+    {
+        self.files[file as usize].is_cached(page)
+    }
+
+    /// The first page from `first` up to `end` that is not cached.
+    pub fn first_absent(&self, file: u64, first: u64, end: u64) -> Option<u64>
+        requires here { file < length self.now.files }
+        requires order { first ≤ end }
+        requires bound { end ≤ 2 ^ 63 }
+        ensures { result ≡ find (λ p. not (is_some (stored_page self.now file p))) (range_with_len first (end - first)) }
+    {
+        self.files[file as usize].first_absent(first, end)
+    }
+
+    /// How many pages from `first` up to `end` are not cached.
+    pub fn absent_pages(&self, file: u64, first: u64, end: u64) -> usize
+        requires here { file < length self.now.files }
+        requires order { first ≤ end }
+        requires few { end - first ≤ MAX_TOUCHED }
+        requires bound { end ≤ 2 ^ 63 }
+        ensures { result ≡ count_by (λ p. not (is_some (stored_page self.now file p))) (range_with_len first (end - first)) }
+    {
+        self.files[file as usize].absent_pages(first, end)
+    }
+
+    /// How many pages from `first` up to `end` are not DIRTY.
+    pub fn clean_pages(&self, file: u64, first: u64, end: u64) -> usize
+        requires here { file < length self.now.files }
+        requires order { first ≤ end }
+        requires few { end - first ≤ MAX_TOUCHED }
+        requires bound { end ≤ 2 ^ 63 }
+        ensures { result ≡ count_by (λ p. not (tagged (λ t. t.dirty) (stored_page self.now file p))) (range_with_len first (end - first)) }
+    {
+        self.files[file as usize].clean_pages(first, end)
+    }
+
+    /// Makes an absent page from zeros.
+    pub fn make(&mut self, file: u64, page: u64) -> Result<(), AllocError>
+        requires here { file < length self.old.files }
+        requires below { page < MAX_PAGES }
+        requires absent { stored_page self.old file page ≡ None }
+        requires room { 0 < self.old.free }
+        ensures ok { OnOk result (self.new ≡ with_pages self.old file (map.insert (stored_at self.old file).pages page (blank self.old.page)) (self.old.free - 1)) }
+        ensures err { OnErr result (self.new ≡ self.old) }
+    {
+        let Ok(frame) = self.frames.take(FileId(file), PageIndex(page)) else {
+            unreachable!()
+        };
+        let mapping = &mut self.files[file as usize].mapping;
+        if mapping.insert_page(PageIndex(page), frame).is_err() {
+            self.frames.give(frame);
+            return Err(AllocError);
+        }
+        Ok(())
+    }
+
+    /// Takes a page that is cached and not DIRTY away.
+    pub fn remove(&mut self, file: u64, page: u64)
+        requires here { file < length self.old.files }
+        requires cached { is_some (stored_page self.old file page) ≡ true }
+        requires clean { (the_page (stored_at self.old file).pages page).tags.dirty ≡ false }
+        ensures { self.new ≡ with_pages self.old file (map.remove (stored_at self.old file).pages page) (self.old.free + 1) }
+    {
+        let mapping = &mut self.files[file as usize].mapping;
+        let Some(frame) = mapping.remove_page(PageIndex(page)) else {
+            unreachable!()
+        };
+        self.frames.give(frame);
+    }
+
+    /// Puts bytes into a cached page from `at` on, and tags it DIRTY.
+    pub fn put(&mut self, file: u64, page: u64, at: usize, bytes: &[u8])
+        requires here { file < length self.old.files }
+        requires cached { is_some (stored_page self.old file page) ≡ true }
+        requires room { at + length bytes.now ≤ self.old.page }
+        ensures { self.new ≡ with_pages self.old file (map.insert (stored_at self.old file).pages page (with_part (the_page (stored_at self.old file).pages page) at bytes.now)) self.old.free }
+    {
+        let mapping = &mut self.files[file as usize].mapping;
+        let Some(mapped) = mapping.page(PageIndex(page)) else {
+            unreachable!()
+        };
+        let _ = mapping.tag(PageIndex(page), Tag::Dirty);
+        self.dirty += u64::from(!mapped.tags.has(Tag::Dirty));
+        self.frames.bytes_mut(mapped.frame)[at..at + bytes.len()].copy_from_slice(bytes);
+    }
+
+    /// Copies a part of a cached page's bytes to a part of `out`, and notes that the page was read.
+    pub fn read_part(
+        &mut self,
+        file: u64,
+        page: u64,
+        at: usize,
+        out: &mut [u8],
+        from: usize,
+        to: usize,
+    )
+        requires here { file < length self.old.files }
+        requires cached { is_some (stored_page self.old file page) ≡ true }
+        requires order { from ≤ to }
+        requires inside { to ≤ length out.old }
+        requires there { at + (to - from) ≤ self.old.page }
+        ensures after { out.new ≡ take from out.old ++ slice_range (the_page (stored_at self.old file).pages page).bytes at (at + (to - from)) ++ drop to out.old }
+        ensures len { length out.new ≡ length out.old }
+        ensures same { self.new ≡ self.old }
+    {
+        let Some(mapped) = self.files[file as usize].mapping.page(PageIndex(page)) else {
+            unreachable!()
+        };
+        let bytes = self.frames.bytes(mapped.frame);
+        out[from..to].copy_from_slice(&bytes[at..at + (to - from)]);
+        self.frames.accessed(mapped.frame);
+    }
+
+    /// Notes that a page was written, where it is cached. Only the order of eviction changes.
+    pub fn access(&mut self, file: u64, page: u64)
+        requires { file < length self.old.files }
+        ensures { self.new ≡ self.old }
+    {
+        if let Some(mapped) = self.files[file as usize].mapping.page(PageIndex(page)) {
+            self.frames.accessed(mapped.frame);
+        }
+    }
+}
