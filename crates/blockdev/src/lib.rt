@@ -1,3 +1,4 @@
+#![tactic(auto)]
 //! A block device as a page cache sees it: what it tells of itself, and what one call of it does.
 //!
 //! A read or a write does what `Reads` or `Writes` of `specs/Device.antt` says, at every device: each call is counted, a
@@ -7,7 +8,6 @@
 //!
 //! `device` has the trait, `fault` what goes wrong, `blocks` the bytes in memory, `memory` a device that never fails,
 //! `script` one that fails when it is told to, `buffer` the bytes of one page on their way, and `job` a request's call.
-#![tactic(auto)]
 
 mod blocks;
 pub mod buffer;

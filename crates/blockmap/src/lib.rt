@@ -1,3 +1,4 @@
+#![tactic(auto)]
 //! Which page has which block of a device, and which blocks requests in flight hold.
 //!
 //! A block that a page has, or that is held, is never given out. A page that is cut off gives its block back at once, but a
@@ -6,7 +7,6 @@
 //!
 //! `block_map` is the map as its caller sees it. `spots` keeps the pages' blocks in a marked array, `held` the held ones in
 //! a table of 64 that `table` looks up; the numbers of the blocks in use are an `IdAlloc`'s.
-#![tactic(auto)]
 
 mod block_map;
 mod held;

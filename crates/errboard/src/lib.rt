@@ -1,3 +1,4 @@
+#![tactic(auto)]
 //! One error word for each of 64 files, which one recorder writes and any thread polls, without a lock and without waiting.
 //!
 //! Whatever threads run beside it, a poll answers nothing exactly where the word that it loaded is the pass's sample,
@@ -7,7 +8,6 @@
 //! `board` has the board and its calls, `recorder` what alone records, `tokens` the pass of a handle and the receipt of
 //! a recording. `views` says what each seat of the table knows, with the rule over all of them (`specs/Rules.antt`),
 //! and `steps` makes the atomic steps.
-#![tactic(auto)]
 
 pub mod board;
 pub mod recorder;

@@ -1,3 +1,4 @@
+#![tactic(auto)]
 //! The bytes of cached pages in frames, and the two page lists by which the first to go is found.
 //!
 //! Each call is an operation on two lists of frames without doubles, on the set of referenced frames, and on an owner and
@@ -6,7 +7,6 @@
 //!
 //! `frames` has the table, `lists` the two lists over `ring`'s links, `free_map` the lowest free frame over `bits`, and
 //! `rows` the bytes.
-#![tactic(auto)]
 
 mod bits;
 mod frames;

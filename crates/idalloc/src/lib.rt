@@ -1,3 +1,4 @@
+#![tactic(auto)]
 //! Numbers that are given out and taken back: the lowest unused of a range, or the next in turn (the IDA and the IDR of
 //! Linux).
 //!
@@ -8,7 +9,6 @@
 //!
 //! `id_alloc` is the allocator as its caller sees it. `search` finds numbers, `changes` uses them and gives them back,
 //! `bitmaps` keeps the bitmaps in an array, and `bits` has single bits.
-#![tactic(auto)]
 
 mod bitmaps;
 mod bits;

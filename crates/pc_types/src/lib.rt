@@ -1,3 +1,4 @@
+#![tactic(auto)]
 //! What every crate of the page cache speaks of: named numbers, tags, a cache's sizes, and refusals.
 //!
 //! A `Geometry` keeps its limits, a set of tags is a set, and each refusal has its number. The definitions of plain
@@ -5,7 +6,6 @@
 //!
 //! `limits` has every limit once, `ids` the named numbers, `geometry` the sizes, `kind` what a request does, `tags` the tag
 //! sets, `refusal` and `error_code` what a call answers where it does nothing, `bytes` the bytes that events carry.
-#![tactic(auto)]
 
 pub mod bytes;
 pub mod error_code;

@@ -1,3 +1,4 @@
+#![tactic(auto)]
 //! The tree under the XArray: entries with three marks at slots of levels, in nodes of 64 slots that one slab keeps.
 //!
 //! Slots are a map by level and place; a mark's bit above is set exactly where an entry below has the mark; `next_set`
@@ -6,7 +7,6 @@
 //! `nodes` is the tree as its caller sees it, and `entry` what it speaks of. `tree` walks, `growth` makes nodes and
 //! entries, `removal` takes them away, `marks` and `next` keep the bits and search by them. `node`, `slot` and `bitmap`
 //! are the layout. The words of the contracts are in `specs/Entries.antt`; `specs/Tree.antt` is for the proofs alone.
-#![tactic(auto)]
 
 mod bitmap;
 mod entry;

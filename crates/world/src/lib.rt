@@ -1,3 +1,4 @@
+#![tactic(auto)]
 //! A cache, its device and the requests between them, and what holds over every run.
 //!
 //! The crate promises `every_run`: whatever events, device calls and ends follow one another, reads are right, a clean sync
@@ -5,7 +6,6 @@
 //! a cache and its device in code: each `step` is a step of such a run.
 //!
 //! `promises` has `every_run`, `world` the cache with its device, `step` what may be asked of it, `replies` its answers.
-#![tactic(auto)]
 
 mod promises;
 mod replies;

@@ -1,3 +1,4 @@
+#![tactic(auto)]
 //! What a page cache has under way: the requests in flight, the syncs in progress, and which page is written next.
 //!
 //! `Requests` is a finite map from serials to requests, and `Syncs` one from numbers to syncs, in two tables of a fixed size that
@@ -6,7 +7,6 @@
 //! `proofs/StepLaws.antt` have the laws by which they stand for the pages that it started and the requests that it awaits.
 //!
 //! `requests` has the table of requests, `syncs` that of the syncs, `picks` what is written next.
-#![tactic(auto)]
 
 mod picks;
 mod requests;

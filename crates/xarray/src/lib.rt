@@ -1,3 +1,4 @@
+#![tactic(auto)]
 //! A marked array: values by index, each with three marks, over radix nodes (the XArray of Linux's core-api).
 //!
 //! Each call is its case on a finite map of ranges (`specs/MarkedArray.antt`). Entries of one index are served;
@@ -5,7 +6,6 @@
 //!
 //! `array` has the array as its caller sees it, and `entry` what it speaks of. `flat` is the same over the nodes, index by
 //! index. `proofs/Singles.antt` is for callers whose entries have one index each.
-#![tactic(auto)]
 
 mod array;
 mod entry;
