@@ -131,10 +131,13 @@ module _ (w : World) (run : List (Entry × World)) (first : IsFirst w) (r : Run 
     lasts_on k a l = elim (up_to k m l) [ inl e ↦ old.0 k a e | inr e ↦ subst (λ x. is_some (finmap.get (W x).core.syncs n.0) ≡ true) (sym e) (ap is_some t.is) ]
 
     quiet_on : t.now.awaited ≡ None → Unsettled (suc m)
-    quiet_on none = (lasts_on, λ k a l. elim (up_to k m l) [
-      | inl e ↦ (λ z b here. let q = old.1 k a e z b here in (q.0, (let x = q.1 in let u = rises in omega arith)))
-      | inr e ↦ subst (Quiet (suc m)) (sym e) (λ z b here. (ap (λ (x : Sync). x.awaited) (one_sync (suc m) z t.now here t.is) ∙ none, omega arith))
-    ])
+    quiet_on none = (
+      lasts_on,
+      λ k a l. elim (up_to k m l) [
+        | inl e ↦ (λ z b here. let q = old.1 k a e z b here in (q.0, (let x = q.1 in let u = rises in omega arith)))
+        | inr e ↦ subst (Quiet (suc m)) (sym e) (λ z b here. (ap (λ (x : Sync). x.awaited) (one_sync (suc m) z t.now here t.is) ∙ none, omega arith))
+      ],
+    )
 
     settles : IsBound (W m).core (W (suc m)).core y t.now → Settled (suc m)
     settles x = ((W m).core.next, (λ k a l. elim (up_to k m l) [ inl e ↦ quiet_below m k (old.1 k a e) | inr e ↦ subst (Below (W m).core.next) (sym e) here ]), λ z l at_z. ap (λ (v : Sync). is_some v.awaited) (one_sync (suc m) z t.now at_z t.is) ∙ ap is_some x.is)
