@@ -153,7 +153,7 @@ line_ends : (lines : List (List ℕ)) (k : ℕ) (w : Option Held) (a b c : Optio
     → AnsweredFirst lines k (line ∷ rest) w a b → n ≡ k + 1 → LineGives w n line (Err stop) b c → Ends lines (Err stop) a c
 line_ends lines k w a b c n line rest (Malformed m) s counted gives =
     (k, w, line, rest, gives.0 ∙ counted, first_kept _ k _ w a b c s gives.2, inr gives.1)
-line_ends lines k w a b c n line rest Input s counted gives = absurd gives
+line_ends lines k w a b c n line rest Input s counted gives = (k, w, line ∷ rest, first_kept _ k _ w a b c s gives)
 line_ends lines k w a b c n line rest Output s counted gives = tt
 line_ends lines k w a b c n line rest Memory s counted gives = (k, w, line ∷ rest, first_kept _ k _ w a b c s gives)
 

@@ -128,14 +128,12 @@ EndsWith lines status before after = (end : Result (Unit {0}) Stop) × Ends line
 abbrev pub CommandGives : Option Held → ℕ → Command → Result Held Stop → Option (List ℕ) → Option (List ℕ) → Type 0
 CommandGives old number c (Ok w) before after = (printed : List ℕ) × Answers old c printed w × Appends before after printed
 CommandGives old number c (Err (Malformed n)) before after = (n ≡ number) × IsMisplaced old c × Keeps before after
-CommandGives old number c (Err Input) before after = ⊥
 CommandGives old number c (Err Output) before after = Unit {0}
-CommandGives old number c (Err Memory) before after = Keeps before after
+CommandGives old number c (Err _) before after = Keeps before after
 
 -- the same of a line
 abbrev pub LineGives : Option Held → ℕ → List ℕ → Result (Option Held) Stop → Option (List ℕ) → Option (List ℕ) → Type 0
 LineGives old number line (Ok w) before after = (printed : List ℕ) × LineAnswers old line printed w × Appends before after printed
 LineGives old number line (Err (Malformed n)) before after = (n ≡ number) × IsNoCommand old line × Keeps before after
-LineGives old number line (Err Input) before after = ⊥
 LineGives old number line (Err Output) before after = Unit {0}
-LineGives old number line (Err Memory) before after = Keeps before after
+LineGives old number line (Err _) before after = Keeps before after
