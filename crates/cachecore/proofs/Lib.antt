@@ -35,3 +35,9 @@ pub mod Counts
 pub mod StoreFacts
 pub mod RangeLemmas
 pub mod WriteSteps
+pub mod SoundChanges
+pub mod SoundLookups
+pub mod SoundPages
+pub mod SoundCuts
+pub mod SoundWrites
+pub mod SoundFacts

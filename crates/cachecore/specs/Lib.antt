@@ -4,6 +4,7 @@ pub mod Codes
 pub mod Pairs
 pub mod Handles
 pub mod Replies
+pub mod Sound
 pub mod State
 pub mod Step
 pub mod Store
