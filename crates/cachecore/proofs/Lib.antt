@@ -41,3 +41,4 @@ pub mod SoundPages
 pub mod SoundCuts
 pub mod SoundWrites
 pub mod SoundFacts
+pub mod SoundSteps

@@ -117,11 +117,11 @@ module _ (s : State) (c : Counted s) (valid : (h : ℕ) → is_open s h ≡ true
     create = fewer s (record s { files = s.files ++ no_file ∷ [] }) c (λ g. ap (λ (x : File). x.failures) (get_or-default s.files no_file g)) (omega arith) refl;
     opens = λ h f _ _. same (record s { handles = finmap.insert s.handles h f }) refl refl refl;
     closes = λ h _. same (record s { handles = finmap.remove s.handles h }) refl refl refl;
-    writes = λ h o b opened room. one_file (written s (file_of s h) o b) (file_of s h) _ (valid h opened) refl refl (omega arith) refl;
+    writes = λ h o b may. one_file (written s (file_of s h) o b) (file_of s h) _ (valid h may.opened) refl refl (omega arith) refl;
     shrinks = λ h z opened less. one_file (shrunk s (file_of s h) z) (file_of s h) _ (valid h opened) refl refl (let a = len-each_value (cut_request s.sizes.page (file_of s h) z) s.requests in omega arith) refl;
     grows = λ h z opened more. one_file (put_file s (file_of s h) (record (file_at s (file_of s h)) { size = z })) (file_of s h) _ (valid h opened) refl refl (omega arith) refl;
-    makes_zeros = λ h p opened. one_file (put_page s (file_of s h) p (blank s.sizes.page)) (file_of s h) _ (valid h opened) refl refl (omega arith) refl;
-    fills = λ h p opened room. one_more s (filling s (file_of s h) p) s.next _ c (λ g. refl) refl refl (has_room s room);
+    makes_zeros = λ h p may. one_file (put_page s (file_of s h) p (blank s.sizes.page)) (file_of s h) _ (valid h may.opened) refl refl (omega arith) refl;
+    fills = λ h p may written room. one_more s (filling s (file_of s h) p) s.next _ c (λ g. refl) refl refl (has_room s room);
     ends = λ t. fewer s (ended s t) c (λ g. refl) (len_less s t) refl;
     filled = λ t r bytes is live. one_file (put_page (ended s t) r.file r.page (record { bytes = bytes; tags = no_tags })) r.file _ (mapped t r is live) refl refl (len_less s t) refl;
     flushes = λ f p page is d b room. start (started s f p page) f p page is room refl refl refl;
@@ -135,7 +135,7 @@ module _ (s : State) (c : Counted s) (valid : (h : ℕ) → is_open s h ≡ true
   sync_cases = record {
     begins = λ h n opened new. one_file (sync_begun s h (file_of s h) n) (file_of s h) _ (valid h opened) refl refl (omega arith) refl;
     awaits = λ n sync ts is how. same (record s { syncs = finmap.insert s.syncs n (record sync { awaited = Some ts }) }) refl refl refl;
-    starts = λ n sync e is none pick room.
+    starts = λ n sync e is none pick idle room.
         let a = found (file_at s (file_of s sync.handle)).pages (λ e. e.1.tags.towrite && past sync.last e.0) e pick in
         start (record (started s (file_of s sync.handle) e.0 e.1) { syncs = finmap.insert s.syncs n (record sync { last = Some e.0 }) }) (file_of s sync.handle) e.0 e.1 a.1 room refl refl refl;
   }

@@ -121,11 +121,11 @@ module _ (s : State) (valid : (h : ℕ) → is_open s h ≡ true → file_of s h
     create = record { was = λ g q t. sym (ap (λ (x : File). towrite (finmap.get x.pages q)) (get_or-default s.files no_file g)) ∙ t };
     opens = λ h f _ _. same_files s (record s { handles = finmap.insert s.handles h f }) refl;
     closes = λ h _. same_files s (record s { handles = finmap.remove s.handles h }) refl;
-    writes = λ h o b opened room. file_pages s (written s (file_of s h) o b) (file_of s h) _ (valid h opened) refl (λ q t. if_towrite (touches s.sizes.page o (length b) q) _ _ _ (λ k. written_towrite s.sizes.page o b q (page_at s (file_of s h) q) k) (λ k. k) (sym (ap towrite (get-written_pages s.sizes.page o b (file_at s (file_of s h)).pages q)) ∙ t));
+    writes = λ h o b may. file_pages s (written s (file_of s h) o b) (file_of s h) _ (valid h may.opened) refl (λ q t. if_towrite (touches s.sizes.page o (length b) q) _ _ _ (λ k. written_towrite s.sizes.page o b q (page_at s (file_of s h) q) k) (λ k. k) (sym (ap towrite (get-written_pages s.sizes.page o b (file_at s (file_of s h)).pages q)) ∙ t));
     shrinks = λ h z opened less. file_pages s (shrunk s (file_of s h) z) (file_of s h) _ (valid h opened) refl (cut (file_of s h) z);
     grows = λ h z opened more. file_pages s (put_file s (file_of s h) (record (file_at s (file_of s h)) { size = z })) (file_of s h) _ (valid h opened) refl (λ q t. t);
-    makes_zeros = λ h p opened. put (put_page s (file_of s h) p (blank s.sizes.page)) (file_of s h) p (blank s.sizes.page) _ (valid h opened) refl refl (λ k. absurd cc);
-    fills = λ h p opened room. same_files s (filling s (file_of s h) p) refl;
+    makes_zeros = λ h p may. put (put_page s (file_of s h) p (blank s.sizes.page)) (file_of s h) p (blank s.sizes.page) _ (valid h may.opened) refl refl (λ k. absurd cc);
+    fills = λ h p may written room. same_files s (filling s (file_of s h) p) refl;
     ends = λ t. same_files s (ended s t) refl;
     filled = λ t r bytes is live. put (put_page (ended s t) r.file r.page (record { bytes = bytes; tags = no_tags })) r.file r.page (record { bytes = bytes; tags = no_tags }) _ (mapped t r is live) refl refl (λ k. absurd cc);
     flushes = λ f p page is d b room. put (started s f p page) f p (record page { tags = record { dirty = false; writeback = true; towrite = false } }) _ (cached_within s f p (ap is_some is)) refl refl (λ k. absurd cc);

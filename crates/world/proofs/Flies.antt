@@ -92,11 +92,11 @@ module _ (s : State) (new_serial : finmap.get s.requests s.next ≡ None) (c : F
     create = same (record s { files = s.files ++ no_file ∷ [] }) refl refl;
     opens = λ h f _ _. same (record s { handles = finmap.insert s.handles h f }) refl refl;
     closes = λ h _. same (record s { handles = finmap.remove s.handles h }) refl refl;
-    writes = λ h o b _ _. same (written s (file_of s h) o b) refl refl;
+    writes = λ h o b _. same (written s (file_of s h) o b) refl refl;
     shrinks = λ h z _ _. fewer (shrunk s (file_of s h) z) refl;
     grows = λ h z _ _. same (put_file s (file_of s h) (record (file_at s (file_of s h)) { size = z })) refl refl;
     makes_zeros = λ h p _. same (put_page s (file_of s h) p (blank s.sizes.page)) refl refl;
-    fills = λ h p _ _. kept (filling s (file_of s h) p) refl (λ t live. still_live _ t live);
+    fills = λ h p _ _ _. kept (filling s (file_of s h) p) refl (λ t live. still_live _ t live);
     ends = λ t. fewer (ended s t) refl;
     filled = λ t r bytes _ _. fewer (put_page (ended s t) r.file r.page (record { bytes = bytes; tags = no_tags })) refl;
     flushes = λ f p page _ _ _ _. kept (started s f p page) refl (λ t live. still_live _ t live);
@@ -113,7 +113,7 @@ module _ (s : State) (new_serial : finmap.get s.requests s.next ≡ None) (c : F
         let all : ts ≡ us = cc in
         let there : list_any (λ u. eqb u t) ts ≡ true = ap (list_any (λ u. eqb u t)) all ∙ m in
         elim how [ inl old ↦ c.live n sync ts is old t there | inr new ↦ flush_is_live s (file_of s sync.handle) t (ap (list_any (λ u. eqb u t)) (sym new.2) ∙ there) ]);
-    starts = λ n sync e is none _ _. put (record (started s (file_of s sync.handle) e.0 e.1) { syncs = finmap.insert s.syncs n (record sync { last = Some e.0 }) }) n _ refl (λ t live. still_live _ t live) (λ ts w. absurd (let k = sym none ∙ w in cc));
+    starts = λ n sync e is none _ _ _. put (record (started s (file_of s sync.handle) e.0 e.1) { syncs = finmap.insert s.syncs n (record sync { last = Some e.0 }) }) n _ refl (λ t live. still_live _ t live) (λ ts w. absurd (let k = sym none ∙ w in cc));
   }
 
 -- at every moment of a run

@@ -193,11 +193,11 @@ module _ (s : State) (n : ℕ) (y : Sync) (is : finmap.get s.syncs n ≡ Some y)
     create = still (record s { files = s.files ++ no_file ∷ [] }) refl refl (inl (refl, refl));
     opens = λ h f free here _. same (record s { handles = finmap.insert s.handles h f }) is (get-insert1 s.handles h f y.handle ∙ put1_else (finmap.get s.handles) h (Some f) y.handle (λ k. let a : is_open s h ≡ true = (λ i. is_open s (sym k i)) ∙ open_now in cc)) (inl (refl, refl));
     closes = λ h free _. same (record s { handles = finmap.remove s.handles h }) is (get-remove1 s.handles h y.handle ∙ put1_else (finmap.get s.handles) h None y.handle (other_file h free)) (inl (refl, refl));
-    writes = λ h o b opened room. still (written s (file_of s h) o b) refl refl (inl (refl, refl));
+    writes = λ h o b may. still (written s (file_of s h) o b) refl refl (inl (refl, refl));
     shrinks = λ h z opened less. loses (shrunk s (file_of s h) z) refl refl (inr (s.sizes.page, file_of s h, z, refl, refl));
     grows = λ h z opened more. still (put_file s (file_of s h) (record (file_at s (file_of s h)) { size = z })) refl refl (inl (refl, refl));
-    makes_zeros = λ h p opened. still (put_page s (file_of s h) p (blank s.sizes.page)) refl refl (inl (refl, refl));
-    fills = λ h p opened room. still (filling s (file_of s h) p) refl refl (inr (_, refl, refl));
+    makes_zeros = λ h p may. still (put_page s (file_of s h) p (blank s.sizes.page)) refl refl (inl (refl, refl));
+    fills = λ h p may written room. still (filling s (file_of s h) p) refl refl (inr (_, refl, refl));
     ends = λ t. loses (ended s t) refl refl (inl (t, refl, refl));
     filled = λ t r bytes at live. loses (put_page (ended s t) r.file r.page (record { bytes = bytes; tags = no_tags })) refl refl (inl (t, refl, refl));
     flushes = λ f p page at d b room. still (started s f p page) refl refl (inr (_, refl, refl));
@@ -217,7 +217,7 @@ module _ (s : State) (n : ℕ) (y : Sync) (is : finmap.get s.syncs n ≡ Some y)
       | inl j ↦ awaits_here k z ts (record s { syncs = finmap.insert s.syncs k (record z { awaited = Some ts }) }) refl j (same_sync k z j there) how
       | inr j ↦ other_put k (record z { awaited = Some ts }) (record s { syncs = finmap.insert s.syncs k (record z { awaited = Some ts }) }) j refl refl (inl (refl, refl))
     ];
-    starts = λ k z e there none pick room _. elim (number k) [
+    starts = λ k z e there none pick idle room _. elim (number k) [
       | inl j ↦ starts_here k z e (record (started s (file_of s z.handle) e.0 e.1) { syncs = finmap.insert s.syncs k (record z { last = Some e.0 }) }) refl j (same_sync k z j there) none pick
       | inr j ↦ other_put k (record z { last = Some e.0 }) (record (started s (file_of s z.handle) e.0 e.1) { syncs = finmap.insert s.syncs k (record z { last = Some e.0 }) }) j refl refl (inr (_, refl, refl))
     ];
