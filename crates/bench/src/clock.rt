@@ -2,6 +2,7 @@
 
 use crate::calls::Calls;
 use crate::fault::Fault;
+use crate::ids::{IdRow, Identifies};
 use crate::row::Row;
 use crate::words::{Looks, WordRow, fresh_ring};
 use std::alloc::Global;
@@ -35,6 +36,27 @@ pub fn time_row<A: Calls + Drop>(
         row.prepare(&mut array)?;
         let start = Instant::now(clock)?;
         timed.sum = row.run(&mut array, order)?;
+        timed.best = timed.best.min(nanos(start.elapsed(clock)?));
+    }
+    Ok(timed)
+}
+
+/// Times a row's calls, each round on an allocator of its own.
+pub fn time_id_row<I: Identifies + Drop>(
+    clock: &impl Clock,
+    alloc: Global,
+    row: IdRow,
+    order: &[u64],
+) -> Result<Timed, Fault> {
+    let mut timed = Timed {
+        best: u64::MAX,
+        sum: 0,
+    };
+    for _ in 0..ROUNDS {
+        let mut ids = I::new(alloc);
+        row.prepare(&mut ids, order)?;
+        let start = Instant::now(clock)?;
+        timed.sum = row.run(&mut ids, order)?;
         timed.best = timed.best.min(nanos(start.elapsed(clock)?));
     }
     Ok(timed)

@@ -1,4 +1,4 @@
-//! Times the calls of the marked array and of the error word: `bench time` prints a row a call, as `12.34 ns  load, random`.
+//! Times the calls of the marked array, of the identifiers and of the error word: `bench time` prints a row a call, as `12.34 ns  load, random`.
 //!
 //! `row` has the rows, `loops` what the clock runs over, `calls` an array's calls in the two forms that are timed, `order` the
 //! random order, `clock` the best time of several rounds, and `report` what is printed.
@@ -7,6 +7,7 @@
 mod calls;
 mod clock;
 mod fault;
+mod ids;
 mod loops;
 mod order;
 mod report;

@@ -3,8 +3,9 @@
 ghost use Rattle.std.specs.Prelude.{◌≡◌, ◌*◌, ◌/◌, ◌^◌, ◌<◌};
 
 use crate::calls::{self, Calls};
-use crate::clock::{Timed, time_row, time_word_row};
+use crate::clock::{Timed, time_id_row, time_row, time_word_row};
 use crate::fault::Fault;
+use crate::ids::{self, IdRow, Identifies};
 use crate::order::random_order;
 use crate::row::Row;
 use crate::words::{self, LOOKS, Looks, WordRow};
@@ -15,15 +16,17 @@ const BEHIND: &str = ", not inlined";
 pub fn print_rows(rt: &HostRuntime) -> Result<(), Fault> {
     let order = random_order(rt.alloc())?;
     let order = order.as_slice();
-    let mut sum = print_half::<calls::Direct, words::Direct>(rt, order, "")?;
-    sum = sum.wrapping_add(print_half::<calls::Behind, words::Behind>(rt, order, BEHIND)?);
+    let mut sum = print_half::<calls::Direct, ids::Direct, words::Direct>(rt, order, "")?;
+    sum = sum.wrapping_add(print_half::<calls::Behind, ids::Behind, words::Behind>(
+        rt, order, BEHIND,
+    )?);
     // The sum of all answers: what was timed has to be computed.
     eprintln!(rt; "bench: sum of the answers {sum}")?;
     Ok(())
 }
 
 /// Prints each row in one of the two forms, and gives the sum of their answers.
-fn print_half<A: Calls + Drop, L: Looks>(
+fn print_half<A: Calls + Drop, I: Identifies + Drop, L: Looks>(
     rt: &HostRuntime,
     order: &[u64],
     ending: &str,
@@ -31,6 +34,11 @@ fn print_half<A: Calls + Drop, L: Looks>(
     let mut sum = 0u64;
     for row in Row::ALL {
         let timed = time_row::<A>(rt, rt.alloc(), row, order)?;
+        print_row(rt, timed, row.count(), row.label(), ending)?;
+        sum = sum.wrapping_add(timed.sum);
+    }
+    for row in IdRow::ALL {
+        let timed = time_id_row::<I>(rt, rt.alloc(), row, order)?;
         print_row(rt, timed, row.count(), row.label(), ending)?;
         sum = sum.wrapping_add(timed.sum);
     }

@@ -1,6 +1,7 @@
 //! What the rows compute: a row that skips its work would be fast.
 
 use crate::calls::{Behind, Calls, Direct};
+use crate::ids::{self, HOLES, IdRow, Identifies};
 use crate::order::{ENTRIES, random_order};
 use crate::report::hundredths_each;
 use crate::row::Row;
@@ -42,6 +43,43 @@ fn rows_do_their_work(rt: HostRuntime) -> Result<(), Fail> {
         );
         assert_eq!(rt;
             sum_of::<Behind>(rt.alloc(), row, order.as_slice())?,
+            expected,
+            "{label}"
+        );
+    }
+    Ok(())
+}
+
+/// The sum of a row's answers.
+fn id_sum_of<I: Identifies + Drop>(alloc: Global, row: IdRow, order: &[u64]) -> Result<u64, Fail> {
+    let mut ids = I::new(alloc);
+    row.prepare(&mut ids, order)?;
+    Ok(row.run(&mut ids, order)?)
+}
+
+/// Each identifier below `ENTRIES` is given once, and each hole again.
+#[test]
+fn id_rows_do_their_work(rt: HostRuntime) -> Result<(), Fail> {
+    let order = random_order(rt.alloc())?;
+    let order = order.as_slice();
+    let each = ENTRIES * (ENTRIES - 1) / 2;
+    for row in IdRow::ALL {
+        let expected = match row {
+            IdRow::Alloc | IdRow::AllocCyclic => each,
+            IdRow::Free => ENTRIES,
+            IdRow::AllocHoles => order
+                .iter()
+                .take(HOLES as usize)
+                .fold(0u64, |sum, id| sum.wrapping_add(*id)),
+        };
+        let label = row.label();
+        assert_eq!(rt;
+            id_sum_of::<ids::Direct>(rt.alloc(), row, order)?,
+            expected,
+            "{label}"
+        );
+        assert_eq!(rt;
+            id_sum_of::<ids::Behind>(rt.alloc(), row, order)?,
             expected,
             "{label}"
         );

@@ -4,7 +4,7 @@ use Rattle.std.specs.Prelude.{codes, if◌then◌else◌}
 use Rattle.std.specs.Str.{bytes_eq}
 use Rattle.std.proofs.lemmas.Fmt.{decimal_injective}
 use Rattle.xarray_trace.specs.declared.keyword.Keyword.{Keyword}
-use Rattle.xarray_trace.specs.declared.keyword.Keyword.TheVariants.{Store, Insert, Erase, Load, SetMark, ClearMark, GetMark, Marked, Find, FindMarked, Retag, Empty, Hash, Dump, New, ErrNew, ErrSet, ErrSample, ErrCheck, ErrAdvance}
+use Rattle.xarray_trace.specs.declared.keyword.Keyword.TheVariants.{Store, Insert, Erase, Load, SetMark, ClearMark, GetMark, Marked, Find, FindMarked, Retag, Empty, Hash, Dump, New, Ids, Alloc, AllocCyclic, Free, IsUsed, ErrNew, ErrSet, ErrSample, ErrCheck, ErrAdvance}
 use Rattle.xarray_trace.specs.declared.operation.Operation.{Operation}
 use Rattle.xarray_trace.specs.Keywords.{name_of}
 use Rattle.xarray_trace.specs.Lines.{Means}
@@ -31,6 +31,11 @@ keyword_of_name text =
     else if bytes_eq text (codes "hash") then Hash
     else if bytes_eq text (codes "dump") then Dump
     else if bytes_eq text (codes "new") then New
+    else if bytes_eq text (codes "ids") then Ids
+    else if bytes_eq text (codes "alloc") then Alloc
+    else if bytes_eq text (codes "alloc_cyclic") then AllocCyclic
+    else if bytes_eq text (codes "free") then Free
+    else if bytes_eq text (codes "is_used") then IsUsed
     else if bytes_eq text (codes "err_new") then ErrNew
     else if bytes_eq text (codes "err_set") then ErrSet
     else if bytes_eq text (codes "err_sample") then ErrSample
@@ -54,6 +59,11 @@ keyword_of_name-name_of Empty = refl
 keyword_of_name-name_of Hash = refl
 keyword_of_name-name_of Dump = refl
 keyword_of_name-name_of New = refl
+keyword_of_name-name_of Ids = refl
+keyword_of_name-name_of Alloc = refl
+keyword_of_name-name_of AllocCyclic = refl
+keyword_of_name-name_of Free = refl
+keyword_of_name-name_of IsUsed = refl
 keyword_of_name-name_of ErrNew = refl
 keyword_of_name-name_of ErrSet = refl
 keyword_of_name-name_of ErrSample = refl

@@ -1,7 +1,7 @@
 -- The names of the operations.
 use Rattle.std.specs.Prelude.{ℕ, List, codes}
 use Rattle.xarray_trace.specs.declared.keyword.Keyword.{Keyword}
-use Rattle.xarray_trace.specs.declared.keyword.Keyword.TheVariants.{Store, Insert, Erase, Load, SetMark, ClearMark, GetMark, Marked, Find, FindMarked, Retag, Empty, Hash, Dump, New, ErrNew, ErrSet, ErrSample, ErrCheck, ErrAdvance}
+use Rattle.xarray_trace.specs.declared.keyword.Keyword.TheVariants.{Store, Insert, Erase, Load, SetMark, ClearMark, GetMark, Marked, Find, FindMarked, Retag, Empty, Hash, Dump, New, Ids, Alloc, AllocCyclic, Free, IsUsed, ErrNew, ErrSet, ErrSample, ErrCheck, ErrAdvance}
 
 abbrev pub name_of : Keyword → List ℕ
 name_of Store = codes "store"
@@ -19,6 +19,11 @@ name_of Empty = codes "empty"
 name_of Hash = codes "hash"
 name_of Dump = codes "dump"
 name_of New = codes "new"
+name_of Ids = codes "ids"
+name_of Alloc = codes "alloc"
+name_of AllocCyclic = codes "alloc_cyclic"
+name_of Free = codes "free"
+name_of IsUsed = codes "is_used"
 name_of ErrNew = codes "err_new"
 name_of ErrSet = codes "err_set"
 name_of ErrSample = codes "err_sample"

@@ -1,6 +1,7 @@
 pub mod Answers
 pub mod Calls
 pub mod Entries
+pub mod Identifiers
 pub mod Keywords
 pub mod Lines
 pub mod Operations

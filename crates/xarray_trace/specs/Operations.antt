@@ -3,12 +3,13 @@ use Rattle.std.specs.Prelude.{ℕ, List, [], ◌∷◌, Option, Some, None, nat_
 use Rattle.xarray.specs.declared.entry.Mark.{Mark}
 use Rattle.xarray.specs.declared.entry.Mark.TheVariants.{M0, M1, M2}
 use Rattle.xarray_trace.specs.declared.array_call.ArrayCall.TheVariants as array
+use Rattle.xarray_trace.specs.declared.id_call.IdCall.TheVariants as id
 use Rattle.xarray_trace.specs.declared.word_call.WordCall.TheVariants as word
 use Rattle.xarray_trace.specs.declared.word_call.TheConstants.{CURSORS}
 use Rattle.xarray_trace.specs.declared.operation.Operation.{Operation}
-use Rattle.xarray_trace.specs.declared.operation.Operation.TheVariants.{Array, Word}
+use Rattle.xarray_trace.specs.declared.operation.Operation.TheVariants.{Array, Id, Word}
 use Rattle.xarray_trace.specs.declared.keyword.Keyword.{Keyword}
-use Rattle.xarray_trace.specs.declared.keyword.Keyword.TheVariants.{Store, Insert, Erase, Load, SetMark, ClearMark, GetMark, Marked, Find, FindMarked, Retag, Empty, Hash, Dump, New, ErrNew, ErrSet, ErrSample, ErrCheck, ErrAdvance}
+use Rattle.xarray_trace.specs.declared.keyword.Keyword.TheVariants.{Store, Insert, Erase, Load, SetMark, ClearMark, GetMark, Marked, Find, FindMarked, Retag, Empty, Hash, Dump, New, Ids, Alloc, AllocCyclic, Free, IsUsed, ErrNew, ErrSet, ErrSample, ErrCheck, ErrAdvance}
 
 -- the mark of a number, 0 to 2
 abbrev pub mark_of : ℕ → Option Mark
@@ -23,6 +24,7 @@ with_none Empty = Some (Array array.Empty)
 with_none Hash = Some (Array array.Hash)
 with_none Dump = Some (Array array.Dump)
 with_none New = Some (Array array.New)
+with_none Ids = Some (Id id.New)
 with_none ErrNew = Some (Word word.New)
 with_none _ = None
 
@@ -30,6 +32,8 @@ abbrev pub with_one : Keyword → ℕ → Option Operation
 with_one Erase a = Some (Array (array.Erase a))
 with_one Load a = Some (Array (array.Load a))
 with_one Marked a = option_map (λ mark. Array (array.Marked mark)) (mark_of a)
+with_one Free a = Some (Id (id.Free a))
+with_one IsUsed a = Some (Id (id.IsUsed a))
 with_one ErrSet a = Some (Word (word.Set a))
 with_one ErrSample a = option_map (λ cursor. Word (word.Sample cursor)) (cursor_of a)
 with_one ErrCheck a = option_map (λ cursor. Word (word.Check cursor)) (cursor_of a)
@@ -43,6 +47,8 @@ with_two SetMark a b = option_map (λ mark. Array (array.SetMark a mark)) (mark_
 with_two ClearMark a b = option_map (λ mark. Array (array.ClearMark a mark)) (mark_of b)
 with_two GetMark a b = option_map (λ mark. Array (array.GetMark a mark)) (mark_of b)
 with_two Find a b = Some (Array (array.Find a b))
+with_two Alloc a b = Some (Id (id.Alloc a b))
+with_two AllocCyclic a b = Some (Id (id.AllocCyclic a b))
 with_two _ a b = None
 
 abbrev pub with_three : Keyword → ℕ → ℕ → ℕ → Option Operation

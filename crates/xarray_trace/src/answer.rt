@@ -25,6 +25,9 @@ pub enum Answer {
     /// How many entries, and their hash.
     Hash(u64, u64),
     Entries(u64),
+    Id(u64),
+    /// An identifier, and whether the search for it began again.
+    CyclicId(u64, bool),
     Word(ErrWord),
     Since(ErrWord),
     Code(u16),
@@ -92,6 +95,11 @@ pub fn print_answer<W: Write>(out: &mut W, answer: Answer) -> Result<(), Stop>
         Answer::Count(count) => print_line(out, format_args!("count {count}")),
         Answer::Hash(count, hash) => print_line(out, format_args!("hash {count} {hash:016x}")),
         Answer::Entries(count) => print_line(out, format_args!("entries {count}")),
+        Answer::Id(id) => print_line(out, format_args!("id {id}")),
+        Answer::CyclicId(id, wrapped) => print_line(
+            out,
+            format_args!("id {id} {}", if wrapped { "wrapped" } else { "plain" }),
+        ),
         Answer::Word(word) => print_line(out, format_args!("word {:08x}", word.0)),
         Answer::Since(since) => print_line(out, format_args!("since {:08x}", since.0)),
         Answer::Code(code) => print_line(out, format_args!("code {code}")),

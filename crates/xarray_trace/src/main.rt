@@ -1,15 +1,16 @@
 #![tactic(auto)]
-//! Runs a trace of operations on a marked array and an error word, and prints what each answers, so that the same trace can be
-//! run through Linux's own XArray and compared.
+//! Runs a trace of operations on a marked array, identifiers and an error word, and prints what each answers, so that the same
+//! trace can be run through Linux's own XArray and compared.
 //!
-//! `run` runs a trace line by line. `words` and `keyword` take a line apart, `operation` says what it asks for, `array_call` and
-//! `word_call` make the call, `entries` goes over an array, `answer` prints what came of it, and `stop` says why a run ends
+//! `run` runs a trace line by line. `words` and `keyword` take a line apart, `operation` says what it asks for, `array_call`,
+//! `id_call` and `word_call` make the call, `entries` goes over an array, `answer` prints what came of it, and `stop` says why a run ends
 //! before its trace does.
 
 mod answer;
 mod array_call;
 mod entries;
 mod find;
+mod id_call;
 mod keyword;
 mod operation;
 mod run;

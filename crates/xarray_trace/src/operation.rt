@@ -4,6 +4,7 @@ ghost use Rattle.std.specs.Prelude.{◌≡◌, ◌∷◌, [], IfOk, MatchOption}
 ghost use Rattle.xarray_trace.specs.Operations.{mark_of, with_four, with_none, with_numbers, with_one, with_three, with_two};
 
 use crate::array_call::ArrayCall;
+use crate::id_call::IdCall;
 use crate::keyword::Keyword;
 use crate::word_call::{Cursor, WordCall};
 use crate::words::{Words, numbers};
@@ -14,6 +15,7 @@ use xarray::Mark;
 #[derive(Clone, Copy, PartialEq, Eq, Debug)]
 pub enum Operation {
     Array(ArrayCall),
+    Id(IdCall),
     Word(WordCall),
 }
 
@@ -61,6 +63,7 @@ fn with_none(keyword: Keyword) -> Option<Operation>
         Keyword::Hash => Some(Operation::Array(ArrayCall::Hash)),
         Keyword::Dump => Some(Operation::Array(ArrayCall::Dump)),
         Keyword::New => Some(Operation::Array(ArrayCall::New)),
+        Keyword::Ids => Some(Operation::Id(IdCall::New)),
         Keyword::ErrNew => Some(Operation::Word(WordCall::New)),
         _ => None,
     }
@@ -73,6 +76,8 @@ fn with_one(keyword: Keyword, a: u64) -> Option<Operation>
         Keyword::Erase => Some(Operation::Array(ArrayCall::Erase(a))),
         Keyword::Load => Some(Operation::Array(ArrayCall::Load(a))),
         Keyword::Marked => Some(Operation::Array(ArrayCall::Marked(mark_of(a)?))),
+        Keyword::Free => Some(Operation::Id(IdCall::Free(a))),
+        Keyword::IsUsed => Some(Operation::Id(IdCall::IsUsed(a))),
         Keyword::ErrSet => Some(Operation::Word(WordCall::Set(a))),
         Keyword::ErrSample => Some(Operation::Word(WordCall::Sample(Cursor::new(a)?))),
         Keyword::ErrCheck => Some(Operation::Word(WordCall::Check(Cursor::new(a)?))),
@@ -91,6 +96,8 @@ fn with_two(keyword: Keyword, a: u64, b: u64) -> Option<Operation>
         Keyword::ClearMark => Some(Operation::Array(ArrayCall::ClearMark(a, mark_of(b)?))),
         Keyword::GetMark => Some(Operation::Array(ArrayCall::GetMark(a, mark_of(b)?))),
         Keyword::Find => Some(Operation::Array(ArrayCall::Find(a, b))),
+        Keyword::Alloc => Some(Operation::Id(IdCall::Alloc(a, b))),
+        Keyword::AllocCyclic => Some(Operation::Id(IdCall::AllocCyclic(a, b))),
         _ => None,
     }
 }

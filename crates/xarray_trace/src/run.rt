@@ -10,9 +10,11 @@ ghost use Rattle.xarray_trace.specs.Runs.{RunsCall, RunsLine};
 use crate::answer::{print_answer, print_entry, print_line};
 use crate::array_call::{ArrayCall, make};
 use crate::entries::{entry_from, index_after};
+use crate::id_call::give;
 use crate::operation::Operation;
 use crate::stop::Stop;
 use crate::word_call::{Watched, watch};
+use idalloc::IdAlloc;
 use std::alloc::Global;
 use std::io::{BufRead, Write};
 use xarray::XArray;
@@ -21,6 +23,7 @@ use xarray::XArray;
 #[derive(Drop)]
 pub struct Session {
     pub array: XArray,
+    pub ids: IdAlloc,
     pub watched: Watched,
 }
 
@@ -55,6 +58,7 @@ fn run_lines<R: BufRead + Drop, W: Write>(
 ) -> Result<(), Stop> {
     let mut session = Session {
         array: XArray::new(alloc),
+        ids: IdAlloc::new(alloc),
         watched: Watched::new(),
     };
     let mut line = Vec::new(alloc);
@@ -103,6 +107,10 @@ fn run_line<W: Write>(
     match Operation::parse(alloc, line)? {
         None => print_line(out, "unknown"),
         Some(Operation::Array(call)) => run_array_call(alloc, &mut session.array, call, out),
+        Some(Operation::Id(call)) => {
+            let answer = give(alloc, &mut session.ids, call)?;
+            print_answer(out, answer)
+        }
         Some(Operation::Word(call)) => {
             let answer = watch(&mut session.watched, call);
             print_answer(out, answer)

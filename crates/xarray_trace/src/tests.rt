@@ -46,6 +46,14 @@ fn operations_are_answered(rt: HostRuntime) -> Result<(), Fail> {
             "none\nok\nnone\nentries 0\nhash 0 cbf29ce484222325\n",
         ),
         (
+            "alloc 1 3\nalloc 1 3\nis_used 2\nis_used 3\nalloc 0 18446744073709551615\nalloc 1 3\nalloc 1 3\nfree 2\nfree 2\nalloc 1 3\nalloc 4 3\nids\nis_used 1\nalloc 1 3\n",
+            "id 1\nid 2\ntrue\nfalse\nid 0\nid 3\nrefused 19\nok\nrefused 20\nid 2\nrefused 19\nok\nfalse\nid 1\n",
+        ),
+        (
+            "alloc_cyclic 1 3\nalloc_cyclic 1 3\nalloc 1 2\nfree 1\nalloc_cyclic 1 3\nalloc_cyclic 1 3\nalloc_cyclic 1 3\nalloc_cyclic 9 2\nids\nalloc_cyclic 0 3\n",
+            "id 1 plain\nid 2 plain\nrefused 19\nok\nid 3 plain\nid 1 wrapped\nrefused 19\nrefused 19\nok\nid 0 plain\n",
+        ),
+        (
             "err_set 5\nerr_check 0\nerr_advance 0\nerr_check 0\nerr_set 28\nerr_sample 7\nerr_advance 0\nerr_advance 7\nerr_new\nerr_check 0\n",
             "word 00000005\ncode 5\ncode 5 since 00001005 word 00001005\nnone\nword 0000201c\nsince 00000000\ncode 28 since 0000301c word 0000301c\ncode 28 since 0000301c word 0000301c\nok\nnone\n",
         ),
@@ -88,8 +96,11 @@ fn other_lines_are_unknown(rt: HostRuntime) -> Result<(), Fail> {
         "empty 0",
         "insert_order 0 0 1",
         "split 0 0",
-        "ids",
-        "alloc 0 1",
+        "ids 0",
+        "alloc 0",
+        "alloc_cyclic 0 1 2",
+        "free",
+        "is_used 0 0",
         "\u{e9}",
     ];
     let alloc = rt.alloc();
