@@ -30,8 +30,8 @@ pub mod BareTests
 pub mod BareChanges
 pub mod BareCases
 pub mod BareLaws
+pub mod StoreEntries
 pub mod StoreLaws
-pub mod Counts
 pub mod StoreFacts
 pub mod RangeLemmas
 pub mod WriteSteps

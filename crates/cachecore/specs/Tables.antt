@@ -1,5 +1,5 @@
 -- Inside this crate: the tables that the program keeps, as the maps of the state, and what always holds of them.
-use Rattle.std.specs.Prelude.{◌≡◌, ◌+◌, ◌<◌, ◌≤◌, ℕ, ◌&&◌, ◌==◌, Bool, false, not, map, filter, List, [], ◌∷◌, length, Option, Some, None, slice_index_or, sum_by}
+use Rattle.std.specs.Prelude.{◌≡◌, ◌+◌, ◌<◌, ◌≤◌, ℕ, ◌&&◌, ◌==◌, Bool, false, not, map, filter, List, [], ◌∷◌, length, Some, slice_index_or, sum_by}
 use Rattle.std.specs.Ordering.{nat_cmp}
 use Rattle.std.specs.FinMap.{FinMap, empty, from_entries, get, len}
 use Rattle.std.specs.List.{range_with_len, list_any}
@@ -8,7 +8,7 @@ use Rattle.pc_types.specs.declared.limits.TheConstants.{MAX_FILES, MAX_FILE_SIZE
 use Rattle.cachecore.specs.State.{State, File, no_file}
 use Rattle.pc_types.specs.Spots.{Spot, place_cmp}
 use Rattle.cachecore.specs.Pairs.{AreSized}
-use Rattle.cachecore.specs.Store.{Store}
+use Rattle.cachecore.specs.Store.{Store, is_awaited}
 
 -- each owner with its block, the first block being k. No block is written yet
 abbrev pub spots_from : ℕ → List (ℕ × ℕ) → List ((ℕ × ℕ) × Spot)
@@ -52,3 +52,5 @@ pub record CoreFacts (sizes : Sizes) (files : List File) (handles : FinMap nat_c
 pub record IsCore (sizes : Sizes) (store : Store) (handles : FinMap nat_cmp ℕ) (owners : List (ℕ × ℕ)) : Type 0 where
   pub facts : CoreFacts sizes store.files handles owners store.free
   pub page : store.page ≡ sizes.page
+  -- no request has begun
+  pub quiet : (f p : ℕ) → is_awaited store f p ≡ false

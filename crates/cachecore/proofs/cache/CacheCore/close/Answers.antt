@@ -13,7 +13,7 @@ use Rattle.cachecore.proofs.cache.CacheCore.close.Goals as goal
 pub invariant_of-self : goal.invariant_of-self
 invariant_of-self c =
     subst (λ m. IsCore c.self.inside.geometry c.self.inside.pages m c.self.inside.owners.items) (sym c.close.ensures)
-    (record { page = c.self.invariant.page; facts = CoreFacts-close c.self.inside.geometry c.self.inside.pages.files c.self.inside.handles c.self.inside.owners.items c.self.inside.pages.free c.self.invariant.facts c.args.handle.0 })
+    (record { page = c.self.invariant.page; quiet = c.self.invariant.quiet; facts = CoreFacts-close c.self.inside.geometry c.self.inside.pages.files c.self.inside.handles c.self.inside.owners.items c.self.inside.pages.free c.self.invariant.facts c.args.handle.0 })
 
 pub returns-clause-step : goal.returns-clause-step
 returns-clause-step c =

@@ -11,6 +11,9 @@ use Rattle.cachecore.proofs.cache.CacheCore.make_blank.Goals as goal
 pub make-requires-clause-absent : goal.make-requires-clause-absent
 make-requires-clause-absent c = none_of _ (sym (ap (λ s. is_cached s c.args.file c.args.page) c.self.view_is ∙ c.requires.absent))
 
+pub make-requires-clause-idle : goal.make-requires-clause-idle
+make-requires-clause-idle c = c.self.invariant.quiet c.args.file c.args.page
+
 pub make-requires-clause-room : goal.make-requires-clause-room
 make-requires-clause-room c =
     let free = free_frames_are c.self.inside.geometry c.self.inside.pages.files c.self.inside.handles c.self.inside.owners.items c.self.inside.pages.free c.self.invariant.facts c.self.inside.name in
@@ -27,6 +30,7 @@ invariant_of-self c =
     (record {
       facts = blank_facts c.self.inside.geometry old.files c.self.inside.handles c.self.inside.owners.items old.free c.self.invariant.facts c.self.inside.name f c.args.page old.page here c.self.invariant.page absent (omega (arith, free, ap free_frames c.self.view_is, c.requires.room));
       page = c.self.invariant.page;
+      quiet = c.self.invariant.quiet;
     })
     c.self.invariant
 

@@ -8,12 +8,15 @@ use Rattle.cachecore.specs.Store.{stored_at, AreMade}
 use Rattle.cachecore.specs.Tables.{CoreFacts, state_of, needing}
 use Rattle.cachecore.proofs.PairLemmas.{on_ok}
 use Rattle.cachecore.proofs.Spans.{last_below}
-use Rattle.cachecore.proofs.WriteSteps.{WriteSteps, parts, final_files, final_free, final_page, made_cached, made_sized, made_here, made_size, laid_here}
+use Rattle.cachecore.proofs.WriteSteps.{WriteSteps, parts, final_files, final_free, final_page, final_idle, made_cached, made_sized, made_here, made_size, laid_here}
 use Rattle.cachecore.proofs.CoreLemmas.{frames_enough, write_state, write_facts}
 use Rattle.cachecore.proofs.cache.CacheCore.write_pages.Goals as goal
 
 pub cover-requires-clause-below : goal.cover-requires-clause-below
 cover-requires-clause-below c = last_below c.page-page_size.result (c.args.offset + length c.args.bytes.now - 1) c.page-page_size.ensures.least (omega (arith, c.requires.bound, c.requires.some))
+
+pub cover-requires-clause-idle : goal.cover-requires-clause-idle
+cover-requires-clause-idle c = record { each = λ q _ _. c.self.invariant.quiet c.args.file q }
 
 pub cover-requires-clause-room : goal.cover-requires-clause-room
 cover-requires-clause-room c =
@@ -147,6 +150,7 @@ invariant_of-self-2 c =
       facts = subst (λ (fs : List File). CoreFacts c.self.inside.geometry fs c.self.inside.handles c.append.new.self.items c.set_size.new.self.free) (sym files)
           (subst (λ (n : ℕ). CoreFacts c.self.inside.geometry (slice_set store.files f e3) c.self.inside.handles c.append.new.self.items n) (sym free) facts);
       page = final_page P o b f c.max-size.result store c.access_cached.new.self c.write.new.self c.set_size.new.self steps ∙ c.self.invariant.page;
+      quiet = λ g q. final_idle P o b f c.max-size.result store c.access_cached.new.self c.write.new.self c.set_size.new.self steps g q ∙ c.self.invariant.quiet g q;
     }
 
 pub returns-clause-ok : goal.returns-clause-ok
