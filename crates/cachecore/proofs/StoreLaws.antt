@@ -192,6 +192,11 @@ module _ (t u : Table) (up vp : List Bool) (files : List KeptFile) (f p : ℕ) (
       (λ g q. ap (awaits vp) (entry-set files f p o here g q) ∙ wait_is g q (eqb g f && eqb q p) refl ∙ sym (contains-put_in s.filling f p (awaits vp o) g q))
       refl
 
+-- an entry that stays
+pub kept_same : (files : List KeptFile) (f p : ℕ) (x : Mapped) → entry_at files f p ≡ Some x → slice_set files f (with_kept (kept_at files f) p (Some x)) ≡ files
+kept_same files f p x there =
+    ap (λ (m : FinMap nat_cmp Mapped). slice_set files f (record (kept_at files f) { mapping = record (kept_at files f).mapping { pages = m } })) (put_at-same (kept_at files f).mapping.pages p (Some x) there) ∙ set-get_or files f none_kept
+
 -- ---- one file changes, and no entry
 
 same_entries : (files : List KeptFile) (f g : ℕ) (k : KeptFile) (b : Bool) → eqb g f ≡ b → k.mapping.pages ≡ (kept_at files f).mapping.pages → (cond b k (kept_at files g)).mapping.pages ≡ (kept_at files g).mapping.pages
@@ -251,6 +256,13 @@ some_entry up (Some x) h = refl
 pub waiting_entry : (up : List Bool) (o : Option Mapped) → awaits up o ≡ true → is_some o ≡ true
 waiting_entry up None h = absurd (false≢true h)
 waiting_entry up (Some x) h = refl
+
+pub waiting_flag : (up : List Bool) (o : Option Mapped) → awaits up o ≡ true → (x : Mapped) → o ≡ Some x → is_uptodate up x ≡ false
+waiting_flag up o h x e = other (is_uptodate up x) (ap (awaits up) (sym e) ∙ h)
+  where
+    other : (b : Bool) → not b ≡ true → b ≡ false
+    other true n = absurd (false≢true n)
+    other false n = refl
 
 -- no page is cached and filling at once
 pub cached_no_wait : (up : List Bool) (o : Option Mapped) → has_page up o ≡ true → awaits up o ≡ false
