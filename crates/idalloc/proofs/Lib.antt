@@ -1,4 +1,5 @@
 pub mod BitLemmas
+pub mod FloorLemmas
 pub mod MarkLemmas
 pub mod NumberLemmas
 pub mod SearchLemmas

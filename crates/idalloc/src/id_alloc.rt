@@ -6,7 +6,8 @@ ghost use Rattle.idalloc.specs.Ids.{AllUsed, IsCyclic, IsLowestUnused, IsNoIdOrM
 
 use crate::bitmaps::Bitmaps;
 use crate::changes::{give_back, take};
-use crate::search::{is_set, lowest_unused, next_unused};
+use crate::floor::{lowered, lowest_above, raised};
+use crate::search::{is_set, next_unused};
 use pc_types::Refusal;
 use std::alloc::Global;
 use std::marker::Model;
@@ -16,11 +17,14 @@ use std::marker::Model;
 pub struct IdAlloc {
     bitmaps: Bitmaps,
     next: u64,
+    // Every number below it is used.
+    floor: u64,
 }
 
 impl Model for IdAlloc {
     ghost use Rattle.std.specs.Prelude.{None};
     ghost use Rattle.idalloc.specs.Bitmaps.{IsTidy, numbers};
+    ghost use Rattle.idalloc.specs.Floor.{IsFloor};
     ghost use Rattle.idalloc.specs.Ids.{Ids, ids_code};
 
     ghost Value = { Ids };
@@ -29,7 +33,7 @@ impl Model for IdAlloc {
 
     ghost view = { λ a. record { used = numbers a.bitmaps; next = a.next } };
 
-    ghost invariant = { λ a. IsTidy a.bitmaps None };
+    ghost invariant = { λ a. IsTidy a.bitmaps None × IsFloor (numbers a.bitmaps) a.floor };
 }
 
 impl IdAlloc {
@@ -41,6 +45,7 @@ impl IdAlloc {
         IdAlloc {
             bitmaps: Bitmaps::new(alloc),
             next: 0,
+            floor: 0,
         }
     }
 
@@ -52,10 +57,11 @@ impl IdAlloc {
         ensures refused { OnErr result (self.new ≡ self.old) }
         ensures only { IfErr result IsNoIdOrMemory }
     {
-        let Some(unused) = lowest_unused(&self.bitmaps, min, max) else {
+        let Some(unused) = lowest_above(&self.bitmaps, self.floor, min, max) else {
             return Err(Refusal::NoId);
         };
         take(&mut self.bitmaps, unused)?;
+        self.floor = raised(self.floor, min, unused.number);
         Ok(unused.number)
     }
 
@@ -83,7 +89,9 @@ impl IdAlloc {
         ensures refused { OnErr result (self.new ≡ self.old) }
         ensures only { IsOkUnless result Refusal.NoEntry }
     {
-        give_back(&mut self.bitmaps, number)
+        give_back(&mut self.bitmaps, number)?;
+        self.floor = lowered(self.floor, number);
+        Ok(())
     }
 
     /// Whether a number is used.

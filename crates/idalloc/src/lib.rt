@@ -7,12 +7,14 @@
 //! where the bitmap has room. Behind a full bitmap there always stands another, so the lowest marked one after it is the
 //! first with an unused number. Giving a number back takes no memory, and where no number is used no node is kept.
 //!
-//! `id_alloc` is the allocator as its caller sees it. `search` finds numbers, `changes` uses them and gives them back,
-//! `bitmaps` keeps the bitmaps in an array, and `bits` has single bits.
+//! `id_alloc` is the allocator as its caller sees it. `search` finds numbers, `floor` keeps where the used numbers at the
+//! bottom end, `changes` uses numbers and gives them back, `bitmaps` keeps the bitmaps in an array, and `bits` has single
+//! bits.
 
 mod bitmaps;
 mod bits;
 mod changes;
+mod floor;
 mod id_alloc;
 mod search;
 #[cfg(test)]

@@ -9,4 +9,4 @@ pub returns : goal.returns
 returns c =
     let used_is = ap (λ (i : Ids). i.used) c.self.view_is in
     let m = c.self.inside.bitmaps in
-    (λ none. c.nodes.ensures.empty.0 (none_used m c.self.invariant c.nodes.ensures.fits (no_numbers m (used_is ∙ none))), λ zero. sym used_is ∙ ap numbers (c.nodes.ensures.empty.1 zero) ∙ numbers-empty)
+    (λ none. c.nodes.ensures.empty.0 (none_used m c.self.invariant.0 c.nodes.ensures.fits (no_numbers m (used_is ∙ none))), λ zero. sym used_is ∙ ap numbers (c.nodes.ensures.empty.1 zero) ∙ numbers-empty)
