@@ -21,7 +21,9 @@ pub mod Overlay
 pub mod ReadLemmas
 pub mod Spans
 pub mod HandleLemmas
-pub mod SpotLemmas
+pub mod Values
+pub mod Holdings
+pub mod PlaceLemmas
 pub mod WriteLemmas
 pub mod CoreLemmas
 pub mod StepLemmas

@@ -23,8 +23,7 @@ use Rattle.cachecore.specs.Changes.{written, put_page, blank}
 use Rattle.cachecore.specs.Tests.{read_count, read_stop, write_stop, must_fill, covers, stopped, first_of, refuse, room_tests, write_tests, is_full}
 use Rattle.cachecore.specs.Step.{Step, Answers, ReadReply, WriteReply, FillBeginReply}
 use Rattle.cachecore.specs.Pairs.{AreCached, AreRead}
-use Rattle.cachecore.specs.Tables.{spots_of}
-use Rattle.cachecore.proofs.SpotLemmas.{no_entries, unwritten}
+use Rattle.cachecore.proofs.MapLaws.{no_entries}
 
 -- what `?` makes of an error
 pub err_is : {A E : Type 0} (r : Result A E) (e : E) → IsErrAnd r (λ x. x ≡ e) → r ≡ Err e
@@ -179,9 +178,9 @@ neither false true c d x y = ap (λ t. t && d) y
 neither false false c d x y = refl
 
 -- without requests and written blocks, no page stops a write
-no_stop : (s : State) (owners : List (ℕ × ℕ)) (f o n : ℕ) → s.requests ≡ finmap.empty → s.spots ≡ spots_of owners → write_stop s f o n ≡ None
-no_stop s owners f o n none spots = find_none (λ p. is_filling s f p || (must_fill s f p && not (covers s.sizes.page o n p))) (touched s.sizes.page o n)
-    (λ p. neither (is_filling s f p) (not (is_cached s f p)) (is_written (spot_at s f p)) (not (covers s.sizes.page o n p)) (none_filling s f p none) (ap (λ m. is_written (finmap.get m (f, p))) spots ∙ unwritten owners f p))
+no_stop : (s : State) (f o n : ℕ) → s.requests ≡ finmap.empty → ((g p : ℕ) → is_written (spot_at s g p) ≡ false) → write_stop s f o n ≡ None
+no_stop s f o n none fresh = find_none (λ p. is_filling s f p || (must_fill s f p && not (covers s.sizes.page o n p))) (touched s.sizes.page o n)
+    (λ p. neither (is_filling s f p) (not (is_cached s f p)) (is_written (spot_at s f p)) (not (covers s.sizes.page o n p)) (none_filling s f p none) (fresh f p))
 
 fourth : (a b t u : Bool) (x y z w : Option Reply) (v : Reply) (s : State) (happens : Type 0) → a ≡ false → b ≡ false → t ≡ false → u ≡ true → Answers (cond a x (cond b y (cond t z (cond u (Some v) w)))) v s s happens
 fourth true b t u x y z w v s happens ea eb et eu = absurd (false≢true (sym ea))
@@ -205,13 +204,13 @@ module _ (s : State) (h : HandleId) (o f : ℕ) (b : List ℕ) (found : Some f �
   write_file = ap (λ o. unwrap_or o 0) found
 
   module _ (short : touched_count s.sizes.page o (length b) ≤ MAX_TOUCHED) where
-    module _ (small : o + length b ≤ MAX_FILE_SIZE) (owners : List (ℕ × ℕ)) (none : s.requests ≡ finmap.empty) (spots : s.spots ≡ spots_of owners) where
+    module _ (small : o + length b ≤ MAX_FILE_SIZE) (none : s.requests ≡ finmap.empty) (fresh : (g p : ℕ) → is_written (spot_at s g p) ≡ false) where
       -- what is left to test is whether there is room
       after_tests : (r : Reply) (new : State) → Answers (room_tests s f o (length b)) r s new (WriteReply s f o b r new) → Step s (event.Write h o b) r new
       after_tests r new k =
           write_chain _ _ _ _ _ _ _ _ _ r s new _ write_open (above_zero (length b) some) (within MAX_TOUCHED (touched_count s.sizes.page o (length b)) short) (within MAX_FILE_SIZE (o + length b) small)
           (subst (λ g. Answers (first_of (stopped s g (write_stop s g o (length b))) (room_tests s g o (length b))) r s new (WriteReply s g o b r new)) write_file
-          (subst (λ q. Answers (first_of (stopped s f q) (room_tests s f o (length b))) r s new (WriteReply s f o b r new)) (sym (no_stop s owners f o (length b) none spots)) k))
+          (subst (λ q. Answers (first_of (stopped s f q) (room_tests s f o (length b))) r s new (WriteReply s f o b r new)) (sym (no_stop s f o (length b) none fresh)) k))
 
       pub write_no_room : (r : Refusal) → refuse r ≡ room_tests s f o (length b) → Step s (event.Write h o b) (reply.Refused r) s
       write_no_room r e = after_tests (reply.Refused r) s (subst (λ t. Answers t (reply.Refused r) s s (WriteReply s f o b (reply.Refused r) s)) e (refl, refl))
@@ -240,7 +239,7 @@ fifth false b t u v x y z p k q s happens ea eb et eu ev = fourth b t u v y z p 
 not_past : (m k : ℕ) → k < m → nat_le m k ≡ false
 not_past m k h = grind (arith, nat_tests)
 
-module _ (s : State) (h : HandleId) (p : PageIndex) (f : ℕ) (found : Some f ≡ finmap.get s.handles h.0) (owners : List (ℕ × ℕ)) (none : s.requests ≡ finmap.empty) (spots : s.spots ≡ spots_of owners) where
+module _ (s : State) (h : HandleId) (p : PageIndex) (f : ℕ) (found : Some f ≡ finmap.get s.handles h.0) (none : s.requests ≡ finmap.empty) (fresh : (g q : ℕ) → is_written (spot_at s g q) ≡ false) where
   fill_open : not (is_open s h.0) ≡ false
   fill_open = ap (λ o. not (is_some o)) (sym found)
 
@@ -248,7 +247,7 @@ module _ (s : State) (h : HandleId) (p : PageIndex) (f : ℕ) (found : Some f �
   fill_file = ap (λ o. unwrap_or o 0) found
 
   not_written : is_written (spot_at s (file_of s h.0) p.0) ≡ false
-  not_written = ap (λ m. is_written (finmap.get m (file_of s h.0, p.0))) spots ∙ unwritten owners (file_of s h.0) p.0
+  not_written = fresh (file_of s h.0) p.0
 
   module _ (inside : p.0 < page_count s.sizes.page (file_at s f).size) where
     fill_inside : nat_le (page_count s.sizes.page (file_at s (file_of s h.0)).size) p.0 ≡ false

@@ -29,7 +29,7 @@ use Rattle.cachecore.specs.State.{File, Page, no_file, dirty_in, the_page}
 use Rattle.cachecore.specs.Changes.{blank}
 use Rattle.cachecore.specs.Store.{none_kept, is_uptodate, awaits, page_of, each_seen, file_of, kept_at, entry_at, Store, store_of, stored_at, stored_page, with_pages, with_entry, put_at, IsStore}
 use Rattle.cachecore.proofs.StateLaws.{get_or-set}
-use Rattle.cachecore.proofs.SpotLemmas.{no_entries}
+use Rattle.cachecore.proofs.MapLaws.{no_entries}
 use Rattle.cachecore.proofs.StoreEntries.{len-each_seen}
 use Rattle.cachecore.proofs.StoreLaws.{apart, stored-kept, seen_at, Alike, with_kept, entry-set, seen-entry, seen-same, seen-file, entry-kept, entry-push, seen-push, page_seen, none_seen, waits_at, entry_page}
 

@@ -1,8 +1,10 @@
 pub mod Bare
 pub mod Changes
 pub mod Codes
-pub mod Pairs
 pub mod Handles
+pub mod Holding
+pub mod Pairs
+pub mod Placing
 pub mod Replies
 pub mod Sound
 pub mod State

@@ -10,11 +10,12 @@ ghost use Rattle.cachecore.specs.Step.{Step};
 ghost use Rattle.cachecore.specs.Replies.{created, opened, closed, sized, wrote, was_read, bytes_read, fill_begun, GivesBack, test_of, TagsAre};
 
 use crate::answers::{FillBegun, PageTags, ReadAnswer, Refused, WriteAnswer};
-use crate::blocks::{Owner, count_without_block, without_block};
 use crate::event::Event;
 use crate::handles::Handles;
 use crate::pages::Pages;
+use crate::placing::{count_without_block, place};
 use blockdev::Buffer;
+use blockmap::BlockMap;
 use pc_types::limits::{MAX_FILE_SIZE, MAX_FILES, MAX_HANDLES, MAX_PAGE_SIZE, MAX_TOUCHED};
 use pc_types::{FileId, Geometry, HandleId, PageIndex, Refusal};
 use std::alloc::{AllocError, Global};
@@ -27,8 +28,7 @@ pub struct CacheCore {
     name: u64,
     pages: Pages,
     handles: Handles,
-    // the page of each block in use, by the block's number
-    owners: Vec<Owner>,
+    blocks: BlockMap,
     alloc: Global,
 }
 
@@ -41,9 +41,9 @@ impl Model for CacheCore {
 
     ghost coded = { state_code };
 
-    ghost view = { λ a. state_of a.geometry a.name a.pages.files a.handles a.owners.items };
+    ghost view = { λ a. state_of a.geometry a.name a.pages.files a.handles a.blocks };
 
-    ghost invariant = { λ a. IsCore a.geometry a.pages a.handles a.owners.items };
+    ghost invariant = { λ a. IsCore a.geometry a.pages a.handles a.blocks };
 }
 
 impl CacheCore {
@@ -58,7 +58,7 @@ impl CacheCore {
             name,
             pages: Pages::new(alloc, geometry, MAX_FILES as usize)?,
             handles: Handles::new(alloc),
-            owners: Vec::new(alloc),
+            blocks: BlockMap::new(alloc, geometry.blocks()),
             alloc,
         })
     }
@@ -272,8 +272,7 @@ impl CacheCore {
         if self.pages.free_frames() < self.pages.absent_pages(file, first, end) as u64 {
             return Err(Refusal::NoFrame);
         }
-        let free_blocks = self.geometry.blocks() - self.owners.len() as u64;
-        if free_blocks < count_without_block(&self.owners, file, first, end) as u64 {
+        if self.blocks.free_count() < count_without_block(&self.blocks, file, first, end) {
             return Err(Refusal::NoSpace);
         }
         Ok(())
@@ -288,8 +287,8 @@ impl CacheCore {
         dirtied > 0 && self.pages.dirty_total() + dirtied > self.geometry.dirty_limit()
     }
 
-    /// Writes the bytes into a file, which may be made longer. The tests have passed. All that may fail is done before
-    /// the first change: a write is done whole or not at all.
+    /// Writes the bytes into a file, which may be made longer. The tests have passed. The blocks and frames are taken
+    /// first, which is all that may fail: a write is done whole or not at all.
     fn write_pages(&mut self, file: u64, offset: u64, bytes: &[u8]) -> Result<(), AllocError>
         requires here { file < length self.old.files }
         requires some { 0 < length bytes.now }
@@ -303,15 +302,20 @@ impl CacheCore {
         let end = offset + bytes.len() as u64;
         let first_page = offset / page_size;
         let end_page = (end - 1) / page_size + 1;
-        let mut taken = without_block(self.alloc, &self.owners, file, first_page, end_page)?;
-        self.owners.reserve(taken.len())?;
         let cached = self.pages.which_cached(file, first_page, end_page);
-        self.pages.cover(file, first_page, end_page)?;
+        place(
+            &mut self.pages,
+            &mut self.blocks,
+            file,
+            first_page,
+            first_page,
+            end_page,
+        )?;
         self.pages.access_cached(file, first_page, &cached);
         self.pages.write(file, page_size, offset, bytes);
         let size = self.pages.size(file).max(end);
         self.pages.set_size(file, size);
-        self.owners.append(&mut taken)
+        Ok(())
     }
 }
 

@@ -1,9 +1,11 @@
 //! Worked sequences of calls with their answers, in a cache of 16-byte pages, 48 frames, a dirty limit of 16 and 64 blocks.
+//! The calls stand in functions of their own, since the check is slow where a cache is dropped.
 
 use crate::{CacheCore, FillBegun, PageTags, ReadAnswer, Refused, WriteAnswer};
 use blockdev::Buffer;
 use pc_types::{FileId, Geometry, HandleId, PageIndex, Refusal, Tag, Tags};
 use std::alloc::Global;
+use std::process::Abort;
 use std::test::Fail;
 
 const FILE: FileId = FileId(0);
@@ -32,9 +34,7 @@ fn wrote(count: u64, end: u64) -> Result<WriteAnswer, Refusal> {
     Ok(WriteAnswer::Wrote { count, end })
 }
 
-#[test]
-fn an_empty_file_reads_no_bytes_and_an_append_makes_it_longer(rt: HostRuntime) -> Result<(), Fail> {
-    let mut core = opened(rt.alloc())?;
+fn appends(rt: &impl Abort, core: &mut CacheCore) {
     let mut out = [9; 10];
     assert_eq!(rt; core.read(HANDLE, 0, &mut out), Ok(ReadAnswer::Bytes(0)));
     assert_eq!(rt; out, [9; 10]);
@@ -44,12 +44,16 @@ fn an_empty_file_reads_no_bytes_and_an_append_makes_it_longer(rt: HostRuntime) -
     assert_eq!(rt; core.append(HANDLE, b"\xbb"), wrote(1, 2));
     assert_eq!(rt; core.read(HANDLE, 0, &mut out), Ok(ReadAnswer::Bytes(2)));
     assert_eq!(rt; out, [0xaa, 0xbb, 9, 9, 9, 9, 9, 9, 9, 9]);
-    Ok(())
 }
 
 #[test]
-fn a_gap_reads_as_zeros_once_its_page_is_filled(rt: HostRuntime) -> Result<(), Fail> {
+fn an_empty_file_reads_no_bytes_and_an_append_makes_it_longer(rt: HostRuntime) -> Result<(), Fail> {
     let mut core = opened(rt.alloc())?;
+    appends(&rt, &mut core);
+    Ok(())
+}
+
+fn leaves_a_gap(rt: &impl Abort, alloc: Global, core: &mut CacheCore) -> Result<(), Refusal> {
     let mut out = [9; 21];
     assert_eq!(rt; core.write(HANDLE, 20, b"\xff"), wrote(1, 21));
     assert_eq!(rt;
@@ -57,11 +61,11 @@ fn a_gap_reads_as_zeros_once_its_page_is_filled(rt: HostRuntime) -> Result<(), F
         Ok(ReadAnswer::Miss(PageIndex(0)))
     );
     assert_eq!(rt; out, [9; 21]);
-    let filled = fill(rt.alloc(), &mut core, PageIndex(0))?;
+    let filled = fill(alloc, core, PageIndex(0))?;
     assert!(rt; matches!(filled, Ok(FillBegun::Filled(_))));
-    let present = fill(rt.alloc(), &mut core, PageIndex(0))?;
+    let present = fill(alloc, core, PageIndex(0))?;
     assert!(rt; matches!(present, Ok(FillBegun::Present(_))));
-    let gone = fill(rt.alloc(), &mut core, PageIndex(2))?;
+    let gone = fill(alloc, core, PageIndex(2))?;
     assert!(rt; matches!(gone, Ok(FillBegun::Gone(_))));
     assert_eq!(rt; core.read(HANDLE, 0, &mut out), Ok(ReadAnswer::Bytes(21)));
     assert_eq!(rt; out, *b"\0\0\0\0\0\0\0\0\0\0\0\0\0\0\0\0\0\0\0\0\xff");
@@ -74,10 +78,14 @@ fn a_gap_reads_as_zeros_once_its_page_is_filled(rt: HostRuntime) -> Result<(), F
     Ok(())
 }
 
-// 256 bytes from the start of a page touch 16 pages, and from the next byte on 17.
 #[test]
-fn a_write_touches_sixteen_pages_at_most(rt: HostRuntime) -> Result<(), Fail> {
+fn a_gap_reads_as_zeros_once_its_page_is_filled(rt: HostRuntime) -> Result<(), Fail> {
     let mut core = opened(rt.alloc())?;
+    leaves_a_gap(&rt, rt.alloc(), &mut core)?;
+    Ok(())
+}
+
+fn writes_many_pages(rt: &impl Abort, core: &mut CacheCore) {
     assert_eq!(rt; core.write(HANDLE, 0, &[0xab; 256]), wrote(256, 256));
     assert_eq!(rt; core.write(HANDLE, 1, &[0xab; 256]), Err(Refusal::TooLong));
     assert_eq!(rt;
@@ -88,23 +96,32 @@ fn a_write_touches_sixteen_pages_at_most(rt: HostRuntime) -> Result<(), Fail> {
         core.write(HANDLE, u64::MAX, &[0xab; 1]),
         Err(Refusal::TooLarge)
     );
+}
+
+// 256 bytes from the start of a page touch 16 pages, and from the next byte on 17.
+#[test]
+fn a_write_touches_sixteen_pages_at_most(rt: HostRuntime) -> Result<(), Fail> {
+    let mut core = opened(rt.alloc())?;
+    writes_many_pages(&rt, &mut core);
     Ok(())
 }
 
-#[test]
-fn a_seventeenth_dirty_page_is_refused(rt: HostRuntime) -> Result<(), Fail> {
-    let mut core = opened(rt.alloc())?;
+fn dirties_pages(rt: &impl Abort, core: &mut CacheCore) {
     assert_eq!(rt; core.write(HANDLE, 0, &[0xab; 256]), wrote(256, 256));
     assert_eq!(rt; core.write(HANDLE, 256, b"\xff"), Err(Refusal::DirtyLimit));
     assert_eq!(rt; core.size(HANDLE), Ok(256));
     // pages that are dirty already may be written again
     assert_eq!(rt; core.write(HANDLE, 100, b"\xff"), wrote(1, 101));
-    Ok(())
 }
 
 #[test]
-fn a_file_ends_at_2_to_the_40_at_most(rt: HostRuntime) -> Result<(), Fail> {
+fn a_seventeenth_dirty_page_is_refused(rt: HostRuntime) -> Result<(), Fail> {
     let mut core = opened(rt.alloc())?;
+    dirties_pages(&rt, &mut core);
+    Ok(())
+}
+
+fn writes_the_last_byte(rt: &impl Abort, core: &mut CacheCore) {
     assert_eq!(rt;
         core.write(HANDLE, 1_099_511_627_775, b"\xff"),
         wrote(1, 1_099_511_627_776)
@@ -119,12 +136,16 @@ fn a_file_ends_at_2_to_the_40_at_most(rt: HostRuntime) -> Result<(), Fail> {
         core.tags(FILE, PageIndex(68_719_476_735)),
         Ok(PageTags::Cached(dirty))
     );
-    Ok(())
 }
 
 #[test]
-fn a_closed_number_is_given_out_again(rt: HostRuntime) -> Result<(), Fail> {
+fn a_file_ends_at_2_to_the_40_at_most(rt: HostRuntime) -> Result<(), Fail> {
     let mut core = opened(rt.alloc())?;
+    writes_the_last_byte(&rt, &mut core);
+    Ok(())
+}
+
+fn closes_and_opens(rt: &impl Abort, core: &mut CacheCore) {
     assert_eq!(rt; core.open(FILE), Ok(HandleId(1)));
     assert_eq!(rt; core.close(HANDLE), Ok(()));
     assert_eq!(rt; core.size(HANDLE), Err(Refusal::BadHandle));
@@ -137,5 +158,11 @@ fn a_closed_number_is_given_out_again(rt: HostRuntime) -> Result<(), Fail> {
         core.tags(FileId(2), PageIndex(0)),
         Err(Refusal::NoSuchFile)
     );
+}
+
+#[test]
+fn a_closed_number_is_given_out_again(rt: HostRuntime) -> Result<(), Fail> {
+    let mut core = opened(rt.alloc())?;
+    closes_and_opens(&rt, &mut core);
     Ok(())
 }

@@ -12,11 +12,11 @@ use Rattle.cachecore.proofs.cache.CacheCore.close.Goals as goal
 
 pub invariant_of-self : goal.invariant_of-self
 invariant_of-self c =
-    subst (λ m. IsCore c.self.inside.geometry c.self.inside.pages m c.self.inside.owners.items) (sym c.close.ensures)
-    (record { page = c.self.invariant.page; quiet = c.self.invariant.quiet; facts = CoreFacts-close c.self.inside.geometry c.self.inside.pages.files c.self.inside.handles c.self.inside.owners.items c.self.inside.pages.free c.self.invariant.facts c.args.handle.0 })
+    subst (λ m. IsCore c.self.inside.geometry c.self.inside.pages m c.self.inside.blocks) (sym c.close.ensures)
+    (record { page = c.self.invariant.page; quiet = c.self.invariant.quiet; facts = CoreFacts-close c.self.inside.geometry c.self.inside.pages.files c.self.inside.handles c.self.inside.blocks c.self.inside.pages.free c.self.invariant.facts c.args.handle.0 })
 
 pub returns-clause-step : goal.returns-clause-step
 returns-clause-step c =
-    let old : State = state_of c.self.inside.geometry c.self.inside.name c.self.inside.pages.files c.self.inside.handles c.self.inside.owners.items in
-    subst (λ m. Step c.args.self.now (event.Close c.args.handle) reply.Closed (state_of c.self.inside.geometry c.self.inside.name c.self.inside.pages.files m c.self.inside.owners.items)) (sym c.close.ensures)
+    let old : State = state_of c.self.inside.geometry c.self.inside.name c.self.inside.pages.files c.self.inside.handles c.self.inside.blocks in
+    subst (λ m. Step c.args.self.now (event.Close c.args.handle) reply.Closed (state_of c.self.inside.geometry c.self.inside.name c.self.inside.pages.files m c.self.inside.blocks)) (sym c.close.ensures)
     (subst (λ s. Step s (event.Close c.args.handle) reply.Closed (record old { handles = map.remove c.self.inside.handles c.args.handle.0 })) c.self.view_is (close_step old c.args.handle (ap is_some (sym c.file.ensures) ∙ c.if-is_none.ensures) refl))

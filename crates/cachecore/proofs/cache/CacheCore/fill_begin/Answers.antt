@@ -1,7 +1,7 @@
-use Rattle.std.proofs.Common.{arith, sym, ap, subst, ◌∙◌, ◌≡◌, ◌<◌, length}
+use Rattle.std.proofs.Common.{arith, sym, ap, subst, ◌∙◌, ◌≡◌, ◌<◌, length, false, ℕ}
 use Rattle.std.specs.Prelude.{is_some, slice_index_or}
 use Rattle.std.specs.FinMap as map
-use Rattle.cachecore.specs.State.{File, no_file, file_at, free_frames, page_count}
+use Rattle.cachecore.specs.State.{File, no_file, file_at, free_frames, is_written, page_count, spot_at}
 use Rattle.cachecore.proofs.CoreLemmas.{free_frames_are}
 use Rattle.cachecore.proofs.StepLemmas.{when_err, when_ok, fill_present, fill_no_frame, fill_no_memory, fill_done}
 use Rattle.cachecore.proofs.Spans.{page_below}
@@ -19,8 +19,8 @@ returns-then-is_cached-clause-step c =
     let below : c.args.page.0 < c.page_count.result = omega arith in
     let inside : c.args.page.0 < page_count s.sizes.page (file_at s c.in-Some.file).size = subst (λ n. c.args.page.0 < n) (c.page_count.ensures ∙ (λ i. page_count (page i) (size i))) below in
     let none = ap (λ s. s.requests) back in
-    let spots = ap (λ s. s.spots) back in
-    fill_present s c.args.handle c.args.page c.in-Some.file found c.self.inside.owners.items none spots inside (sym (c.is_cached.ensures ∙ ap (λ (f : File). is_some (map.get f.pages c.args.page.0)) entry) ∙ c.if-is_cached.true)
+    let fresh : (g q : ℕ) → is_written (spot_at s g q) ≡ false = λ g q. ap (λ s. is_written (spot_at s g q)) back ∙ c.self.invariant.facts.unwritten g q in
+    fill_present s c.args.handle c.args.page c.in-Some.file found none fresh inside (sym (c.is_cached.ensures ∙ ap (λ (f : File). is_some (map.get f.pages c.args.page.0)) entry) ∙ c.if-is_cached.true)
 
 pub returns-then-free_frames-eq0-clause-step : goal.returns-then-free_frames-eq0-clause-step
 returns-then-free_frames-eq0-clause-step c =
@@ -34,10 +34,10 @@ returns-then-free_frames-eq0-clause-step c =
     let below : c.args.page.0 < c.page_count.result = omega arith in
     let inside : c.args.page.0 < page_count s.sizes.page (file_at s c.in-Some.file).size = subst (λ n. c.args.page.0 < n) (c.page_count.ensures ∙ (λ i. page_count (page i) (size i))) below in
     let none = ap (λ s. s.requests) back in
-    let spots = ap (λ s. s.spots) back in
+    let fresh : (g q : ℕ) → is_written (spot_at s g q) ≡ false = λ g q. ap (λ s. is_written (spot_at s g q)) back ∙ c.self.invariant.facts.unwritten g q in
     let absent = sym (c.is_cached.ensures ∙ ap (λ (f : File). is_some (map.get f.pages c.args.page.0)) entry) ∙ c.if-is_cached.false in
-    let free : free_frames s ≡ c.self.inside.pages.free = ap free_frames back ∙ free_frames_are c.self.inside.geometry c.self.inside.pages.files c.self.inside.handles c.self.inside.owners.items c.self.inside.pages.free c.self.invariant.facts c.self.inside.name in
-    fill_no_frame s c.args.handle c.args.page c.in-Some.file found c.self.inside.owners.items none spots inside absent (omega (arith, free, c.free_frames.ensures))
+    let free : free_frames s ≡ c.self.inside.pages.free = ap free_frames back ∙ free_frames_are c.self.inside.geometry c.self.inside.pages.files c.self.inside.handles c.self.inside.blocks c.self.inside.pages.free c.self.invariant.facts c.self.inside.name in
+    fill_no_frame s c.args.handle c.args.page c.in-Some.file found none fresh inside absent (omega (arith, free, c.free_frames.ensures))
 
 pub make_blank-requires-clause-below : goal.make_blank-requires-clause-below
 make_blank-requires-clause-below c =
@@ -47,7 +47,7 @@ make_blank-requires-clause-below c =
 
 pub make_blank-requires-clause-room : goal.make_blank-requires-clause-room
 make_blank-requires-clause-room c =
-    let free : free_frames c.args.self.now ≡ c.self.inside.pages.free = ap free_frames (sym c.self.view_is) ∙ free_frames_are c.self.inside.geometry c.self.inside.pages.files c.self.inside.handles c.self.inside.owners.items c.self.inside.pages.free c.self.invariant.facts c.self.inside.name in
+    let free : free_frames c.args.self.now ≡ c.self.inside.pages.free = ap free_frames (sym c.self.view_is) ∙ free_frames_are c.self.inside.geometry c.self.inside.pages.files c.self.inside.handles c.self.inside.blocks c.self.inside.pages.free c.self.invariant.facts c.self.inside.name in
     omega (arith, free, c.free_frames.ensures)
 
 pub returns-then-is_err-clause-step : goal.returns-then-is_err-clause-step
@@ -62,10 +62,10 @@ returns-then-is_err-clause-step c =
     let below : c.args.page.0 < c.page_count.result = omega arith in
     let inside : c.args.page.0 < page_count s.sizes.page (file_at s c.in-Some.file).size = subst (λ n. c.args.page.0 < n) (c.page_count.ensures ∙ (λ i. page_count (page i) (size i))) below in
     let none = ap (λ s. s.requests) back in
-    let spots = ap (λ s. s.spots) back in
+    let fresh : (g q : ℕ) → is_written (spot_at s g q) ≡ false = λ g q. ap (λ s. is_written (spot_at s g q)) back ∙ c.self.invariant.facts.unwritten g q in
     let absent = sym (c.is_cached.ensures ∙ ap (λ (f : File). is_some (map.get f.pages c.args.page.0)) entry) ∙ c.if-is_cached.false in
-    let free : free_frames s ≡ c.self.inside.pages.free = ap free_frames back ∙ free_frames_are c.self.inside.geometry c.self.inside.pages.files c.self.inside.handles c.self.inside.owners.items c.self.inside.pages.free c.self.invariant.facts c.self.inside.name in
-    fill_no_memory s c.args.handle c.args.page c.in-Some.file found c.self.inside.owners.items none spots inside absent (omega (arith, free, c.free_frames.ensures)) c.make_blank.new.self (when_err c.make_blank.result _ c.if-is_err.ensures.value c.make_blank.ensures.err)
+    let free : free_frames s ≡ c.self.inside.pages.free = ap free_frames back ∙ free_frames_are c.self.inside.geometry c.self.inside.pages.files c.self.inside.handles c.self.inside.blocks c.self.inside.pages.free c.self.invariant.facts c.self.inside.name in
+    fill_no_memory s c.args.handle c.args.page c.in-Some.file found none fresh inside absent (omega (arith, free, c.free_frames.ensures)) c.make_blank.new.self (when_err c.make_blank.result _ c.if-is_err.ensures.value c.make_blank.ensures.err)
 
 pub returns-clause-step : goal.returns-clause-step
 returns-clause-step c =
@@ -79,7 +79,7 @@ returns-clause-step c =
     let below : c.args.page.0 < c.page_count.result = omega arith in
     let inside : c.args.page.0 < page_count s.sizes.page (file_at s c.in-Some.file).size = subst (λ n. c.args.page.0 < n) (c.page_count.ensures ∙ (λ i. page_count (page i) (size i))) below in
     let none = ap (λ s. s.requests) back in
-    let spots = ap (λ s. s.spots) back in
+    let fresh : (g q : ℕ) → is_written (spot_at s g q) ≡ false = λ g q. ap (λ s. is_written (spot_at s g q)) back ∙ c.self.invariant.facts.unwritten g q in
     let absent = sym (c.is_cached.ensures ∙ ap (λ (f : File). is_some (map.get f.pages c.args.page.0)) entry) ∙ c.if-is_cached.false in
-    let free : free_frames s ≡ c.self.inside.pages.free = ap free_frames back ∙ free_frames_are c.self.inside.geometry c.self.inside.pages.files c.self.inside.handles c.self.inside.owners.items c.self.inside.pages.free c.self.invariant.facts c.self.inside.name in
-    fill_done s c.args.handle c.args.page c.in-Some.file found c.self.inside.owners.items none spots inside absent (omega (arith, free, c.free_frames.ensures)) c.make_blank.new.self (when_ok c.make_blank.result _ c.if-is_err.ensures.value c.make_blank.ensures.ok)
+    let free : free_frames s ≡ c.self.inside.pages.free = ap free_frames back ∙ free_frames_are c.self.inside.geometry c.self.inside.pages.files c.self.inside.handles c.self.inside.blocks c.self.inside.pages.free c.self.invariant.facts c.self.inside.name in
+    fill_done s c.args.handle c.args.page c.in-Some.file found none fresh inside absent (omega (arith, free, c.free_frames.ensures)) c.make_blank.new.self (when_ok c.make_blank.result _ c.if-is_err.ensures.value c.make_blank.ensures.ok)

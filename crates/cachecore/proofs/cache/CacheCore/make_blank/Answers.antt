@@ -16,7 +16,7 @@ make-requires-clause-idle c = c.self.invariant.quiet c.args.file c.args.page
 
 pub make-requires-clause-room : goal.make-requires-clause-room
 make-requires-clause-room c =
-    let free = free_frames_are c.self.inside.geometry c.self.inside.pages.files c.self.inside.handles c.self.inside.owners.items c.self.inside.pages.free c.self.invariant.facts c.self.inside.name in
+    let free = free_frames_are c.self.inside.geometry c.self.inside.pages.files c.self.inside.handles c.self.inside.blocks c.self.inside.pages.free c.self.invariant.facts c.self.inside.name in
     omega (arith, free, ap free_frames c.self.view_is, c.requires.room)
 
 pub invariant_of-self : goal.invariant_of-self
@@ -25,10 +25,10 @@ invariant_of-self c =
     let f = c.args.file in
     let here : f < length old.files = omega (arith, c.requires.here, ap (λ s. length s.files) c.self.view_is) in
     let absent = ap (λ s. is_cached s f c.args.page) c.self.view_is ∙ c.requires.absent in
-    let free = free_frames_are c.self.inside.geometry old.files c.self.inside.handles c.self.inside.owners.items old.free c.self.invariant.facts c.self.inside.name in
-    either_result c.make.result old (with_pages old f (map.insert (stored_at old f).pages c.args.page (blank old.page)) (old.free - 1)) c.make.new.self (λ (s : Store). IsCore c.self.inside.geometry s c.self.inside.handles c.self.inside.owners.items) c.make.ensures.ok c.make.ensures.err
+    let free = free_frames_are c.self.inside.geometry old.files c.self.inside.handles c.self.inside.blocks old.free c.self.invariant.facts c.self.inside.name in
+    either_result c.make.result old (with_pages old f (map.insert (stored_at old f).pages c.args.page (blank old.page)) (old.free - 1)) c.make.new.self (λ (s : Store). IsCore c.self.inside.geometry s c.self.inside.handles c.self.inside.blocks) c.make.ensures.ok c.make.ensures.err
     (record {
-      facts = blank_facts c.self.inside.geometry old.files c.self.inside.handles c.self.inside.owners.items old.free c.self.invariant.facts c.self.inside.name f c.args.page old.page here c.self.invariant.page absent (omega (arith, free, ap free_frames c.self.view_is, c.requires.room));
+      facts = blank_facts c.self.inside.geometry old.files c.self.inside.handles c.self.inside.blocks old.free c.self.invariant.facts c.self.inside.name f c.args.page old.page here c.self.invariant.page absent (omega (arith, free, ap free_frames c.self.view_is, c.requires.room));
       page = c.self.invariant.page;
       quiet = c.self.invariant.quiet;
     })
@@ -40,7 +40,7 @@ returns-clause-ok c =
     let f = c.args.file in
     let here : f < length old.files = omega (arith, c.requires.here, ap (λ s. length s.files) c.self.view_is) in
     let absent = ap (λ s. is_cached s f c.args.page) c.self.view_is ∙ c.requires.absent in
-    let free = free_frames_are c.self.inside.geometry old.files c.self.inside.handles c.self.inside.owners.items old.free c.self.invariant.facts c.self.inside.name in
-    ok_map c.make.result _ _ c.make.ensures.ok (λ e. ap (λ (s : Store). state_of c.self.inside.geometry c.self.inside.name s.files c.self.inside.handles c.self.inside.owners.items) e
-    ∙ blank_state c.self.inside.geometry old.files c.self.inside.handles c.self.inside.owners.items old.free c.self.invariant.facts c.self.inside.name f c.args.page old.page here c.self.invariant.page absent (omega (arith, free, ap free_frames c.self.view_is, c.requires.room))
+    let free = free_frames_are c.self.inside.geometry old.files c.self.inside.handles c.self.inside.blocks old.free c.self.invariant.facts c.self.inside.name in
+    ok_map c.make.result _ _ c.make.ensures.ok (λ e. ap (λ (s : Store). state_of c.self.inside.geometry c.self.inside.name s.files c.self.inside.handles c.self.inside.blocks) e
+    ∙ blank_state c.self.inside.geometry old.files c.self.inside.handles c.self.inside.blocks old.free c.self.invariant.facts c.self.inside.name f c.args.page old.page here c.self.invariant.page absent (omega (arith, free, ap free_frames c.self.view_is, c.requires.room))
     ∙ ap (λ s. put_page s f c.args.page (blank s.sizes.page)) c.self.view_is)

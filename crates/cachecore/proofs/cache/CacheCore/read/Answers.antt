@@ -77,7 +77,7 @@ returns-clause-step c =
     let size : length c.read.new.out ≡ count = omega (arith, length-take count c.args.out.now, c.min-count.ensures) in
     let done = bytes_step c.args.self.now c.args.handle c.args.offset (length c.args.out.now) c.in-Some.file c.page-page_size.result count (slice_index_or c.self.inside.pages.files c.in-Some.file no_file) facts short c.read.new.out (drop count c.args.out.now) c.in_default-first_absent.ensures size
     (subst (λ (n : ℕ). AreRead c.page-page_size.result c.args.offset (slice_index_or c.self.inside.pages.files c.in-Some.file no_file).pages n c.read.new.out) size c.read.ensures.read) in
-    subst (λ (s : State). Step c.args.self.now (event.Read c.args.handle c.args.offset (length c.args.out.now)) (reply.Bytes (take count (c.read.new.out ++ drop count c.args.out.now))) s) (sym (ap (λ (p : Store). state_of c.self.inside.geometry c.self.inside.name p.files c.self.inside.handles c.self.inside.owners.items) c.read.ensures.same ∙ c.self.view_is)) done
+    subst (λ (s : State). Step c.args.self.now (event.Read c.args.handle c.args.offset (length c.args.out.now)) (reply.Bytes (take count (c.read.new.out ++ drop count c.args.out.now))) s) (sym (ap (λ (p : Store). state_of c.self.inside.geometry c.self.inside.name p.files c.self.inside.handles c.self.inside.blocks) c.read.ensures.same ∙ c.self.view_is)) done
 
 pub size-requires : goal.size-requires
 size-requires c = c.self.invariant.facts.known c.args.handle.0 c.in-Some.file (sym c.in-Some.ensures)
@@ -92,4 +92,4 @@ pub read-requires-clause-page : goal.read-requires-clause-page
 read-requires-clause-page c = c.page-page_size.ensures.value ∙ sym c.self.invariant.page
 
 pub invariant_of-self : goal.invariant_of-self
-invariant_of-self c = subst (λ (s : Store). IsCore c.self.inside.geometry s c.self.inside.handles c.self.inside.owners.items) (sym c.read.ensures.same) c.self.invariant
+invariant_of-self c = subst (λ (s : Store). IsCore c.self.inside.geometry s c.self.inside.handles c.self.inside.blocks) (sym c.read.ensures.same) c.self.invariant

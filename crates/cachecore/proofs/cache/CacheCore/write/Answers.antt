@@ -1,9 +1,9 @@
-use Rattle.std.proofs.Common.{arith, sym, ap, subst, refl, ◌∙◌, ◌<◌, ◌≤◌, ◌+◌, length}
+use Rattle.std.proofs.Common.{arith, sym, ap, subst, refl, ◌∙◌, ◌≡◌, ◌<◌, ◌≤◌, ◌+◌, length, false, ℕ}
 use Rattle.std.specs.FinMap as map
 use Rattle.pc_types.specs.declared.limits.TheConstants.{MAX_FILE_SIZE, MAX_TOUCHED}
 use Rattle.pc_types.specs.declared.refusal.Refusal.TheVariants.{Memory}
 use Rattle.cachecore.specs.declared.event.Event.TheVariants as event
-use Rattle.cachecore.specs.State.{touched_count}
+use Rattle.cachecore.specs.State.{is_written, spot_at, touched_count}
 use Rattle.cachecore.specs.Step.{Step}
 use Rattle.cachecore.specs.Replies.{wrote}
 use Rattle.cachecore.proofs.StepLemmas.{err_is, write_no_room, write_no_memory, write_step}
@@ -19,9 +19,9 @@ returns-in_err-check_room c =
     let short : touched_count s.sizes.page c.args.offset (length c.args.bytes.now) ≤ MAX_TOUCHED = subst (λ n. touched_count n c.args.offset (length c.args.bytes.now) ≤ MAX_TOUCHED) page few in
     let small : c.args.offset + length c.args.bytes.now ≤ MAX_FILE_SIZE = omega (arith, c.saturating_add-end.ensures) in
     let none = sym (ap (λ s. s.requests) c.self.view_is) in
-    let spots = sym (ap (λ s. s.spots) c.self.view_is) in
+    let fresh : (g q : ℕ) → is_written (spot_at s g q) ≡ false = λ g q. sym (ap (λ s. is_written (spot_at s g q)) c.self.view_is) ∙ c.self.invariant.facts.unwritten g q in
     subst (λ r. Step s (event.Write c.args.handle c.args.offset c.args.bytes.now) (wrote r) s) (sym (err_is c.from_residual.result _ c.from_residual.ensures.1))
-    (write_no_room s c.args.handle c.args.offset c.in-Some.file c.args.bytes.now found some short small c.self.inside.owners.items none spots _ c.in_err-check_room.ensures)
+    (write_no_room s c.args.handle c.args.offset c.in-Some.file c.args.bytes.now found some short small none fresh _ c.in_err-check_room.ensures)
 
 pub returns-in_err-write_pages : goal.returns-in_err-write_pages
 returns-in_err-write_pages c =
@@ -33,9 +33,9 @@ returns-in_err-write_pages c =
     let short : touched_count s.sizes.page c.args.offset (length c.args.bytes.now) ≤ MAX_TOUCHED = subst (λ n. touched_count n c.args.offset (length c.args.bytes.now) ≤ MAX_TOUCHED) page few in
     let small : c.args.offset + length c.args.bytes.now ≤ MAX_FILE_SIZE = omega (arith, c.saturating_add-end.ensures) in
     let none = sym (ap (λ s. s.requests) c.self.view_is) in
-    let spots = sym (ap (λ s. s.spots) c.self.view_is) in
+    let fresh : (g q : ℕ) → is_written (spot_at s g q) ≡ false = λ g q. sym (ap (λ s. is_written (spot_at s g q)) c.self.view_is) ∙ c.self.invariant.facts.unwritten g q in
     subst (λ r. Step s (event.Write c.args.handle c.args.offset c.args.bytes.now) (wrote r) c.write_pages.new.self) (sym (err_is c.from_residual-in_err-write_pages.result Memory c.from_residual-in_err-write_pages.ensures.1))
-    (write_no_memory s c.args.handle c.args.offset c.in-Some.file c.args.bytes.now found some short small c.self.inside.owners.items none spots c.write_pages.new.self c.in_ok-check_room.ensures c.in_err-write_pages.ensures.err)
+    (write_no_memory s c.args.handle c.args.offset c.in-Some.file c.args.bytes.now found some short small none fresh c.write_pages.new.self c.in_ok-check_room.ensures c.in_err-write_pages.ensures.err)
 
 pub returns : goal.returns
 returns c =
@@ -47,5 +47,5 @@ returns c =
     let short : touched_count s.sizes.page c.args.offset (length c.args.bytes.now) ≤ MAX_TOUCHED = subst (λ n. touched_count n c.args.offset (length c.args.bytes.now) ≤ MAX_TOUCHED) page few in
     let small : c.args.offset + length c.args.bytes.now ≤ MAX_FILE_SIZE = omega (arith, c.saturating_add-end.ensures) in
     let none = sym (ap (λ s. s.requests) c.self.view_is) in
-    let spots = sym (ap (λ s. s.spots) c.self.view_is) in
-    write_step s c.args.handle c.args.offset c.in-Some.file c.args.bytes.now found some short small c.self.inside.owners.items none spots _ _ c.write_pages.new.self c.in_ok-check_room.ensures refl (omega (arith, c.saturating_add-end.ensures)) c.in_ok-write_pages.ensures.ok
+    let fresh : (g q : ℕ) → is_written (spot_at s g q) ≡ false = λ g q. sym (ap (λ s. is_written (spot_at s g q)) c.self.view_is) ∙ c.self.invariant.facts.unwritten g q in
+    write_step s c.args.handle c.args.offset c.in-Some.file c.args.bytes.now found some short small none fresh _ _ c.write_pages.new.self c.in_ok-check_room.ensures refl (omega (arith, c.saturating_add-end.ensures)) c.in_ok-write_pages.ensures.ok

@@ -1,79 +1,32 @@
-use Rattle.std.proofs.Common.{arith, sym, ap, subst, refl, cond, max, ◌∙◌, ◌≡◌, ◌+◌, ◌-◌, ◌/◌, ◌<◌, ◌++◌, ℕ, List, length}
-use Rattle.std.specs.Prelude.{is_ok, slice_set, None}
+use Rattle.std.proofs.Common.{arith, sym, ap, subst, refl, max, ◌∙◌, ◌≡◌, ◌+◌, ◌-◌, ◌/◌, ◌<◌, ℕ, List, length}
+use Rattle.std.specs.Prelude.{slice_set, None}
+use Rattle.std.specs.List.{range_with_len}
 use Rattle.cachecore.specs.State.{File, touched_count}
 use Rattle.cachecore.specs.Changes.{written}
 use Rattle.cachecore.specs.Tests.{room_tests}
 use Rattle.cachecore.specs.Pairs.{AreSized}
 use Rattle.cachecore.specs.Store.{stored_at, AreMade}
-use Rattle.cachecore.specs.Tables.{CoreFacts, state_of, needing}
-use Rattle.cachecore.proofs.PairLemmas.{on_ok}
-use Rattle.cachecore.proofs.Spans.{last_below}
-use Rattle.cachecore.proofs.WriteSteps.{WriteSteps, parts, final_files, final_free, final_page, final_idle, made_cached, made_sized, made_here, made_size, laid_here}
-use Rattle.cachecore.proofs.CoreLemmas.{frames_enough, write_state, write_facts}
+use Rattle.cachecore.specs.Tables.{CoreFacts, state_of}
+use Rattle.cachecore.specs.Placing.{with_placed}
+use Rattle.blockmap.specs.Blocks.{Blocks}
+use Rattle.cachecore.proofs.WriteSteps.{WriteSteps, parts, final_files, final_free, final_page, final_idle, made_sized}
+use Rattle.cachecore.proofs.CoreLemmas.{blocks_enough, frames_enough, write_state, write_facts}
 use Rattle.cachecore.proofs.cache.CacheCore.write_pages.Goals as goal
 
-pub cover-requires-clause-below : goal.cover-requires-clause-below
-cover-requires-clause-below c = last_below c.page-page_size.result (c.args.offset + length c.args.bytes.now - 1) c.page-page_size.ensures.least (omega (arith, c.requires.bound, c.requires.some))
+pub place-requires-clause-idle : goal.place-requires-clause-idle
+place-requires-clause-idle c = record { each = λ q _ _. c.self.invariant.quiet c.args.file q }
 
-pub cover-requires-clause-idle : goal.cover-requires-clause-idle
-cover-requires-clause-idle c = record { each = λ q _ _. c.self.invariant.quiet c.args.file q }
-
-pub cover-requires-clause-room : goal.cover-requires-clause-room
-cover-requires-clause-room c =
-    frames_enough c.self.inside.geometry c.self.inside.pages.files c.self.inside.handles c.self.inside.owners.items c.self.inside.pages.free c.self.invariant.facts c.self.inside.name
+pub place-requires-clause-frames : goal.place-requires-clause-frames
+place-requires-clause-frames c =
+    frames_enough c.self.inside.geometry c.self.inside.pages.files c.self.inside.handles c.self.inside.blocks c.self.inside.pages.free c.self.invariant.facts c.self.inside.name
     c.args.file c.args.offset (length c.args.bytes.now) c.page-page_size.result c.page-page_size.ensures.value
     (subst (λ s. room_tests s c.args.file c.args.offset (length c.args.bytes.now) ≡ None) (sym c.self.view_is) c.requires.room)
 
-pub access_cached-requires-clause-here : goal.access_cached-requires-clause-here
-access_cached-requires-clause-here c =
-    let f = c.args.file in
-    let o = c.args.offset in
-    let b = c.args.bytes.now in
-    let P = c.page-page_size.result in
-    let last = (o + length b - 1) / P in
-    let store = c.self.inside.pages in
-    let here : f < length store.files = omega (arith, c.requires.here, ap (λ s. length s.files) c.self.view_is) in
-    let size : P ≡ store.page = c.page-page_size.ensures.value ∙ sym c.self.invariant.page in
-    made_here f (o / P) (last + 1) store c.cover.new.self here c.in_ok-cover.ensures.made
-
-pub write-requires-clause-here : goal.write-requires-clause-here
-write-requires-clause-here c =
-    let f = c.args.file in
-    let o = c.args.offset in
-    let b = c.args.bytes.now in
-    let P = c.page-page_size.result in
-    let last = (o + length b - 1) / P in
-    let store = c.self.inside.pages in
-    let here : f < length store.files = omega (arith, c.requires.here, ap (λ s. length s.files) c.self.view_is) in
-    let size : P ≡ store.page = c.page-page_size.ensures.value ∙ sym c.self.invariant.page in
-    let made : AreMade f (o / P) (last + 1) store c.access_cached.new.self = subst (AreMade f (o / P) (last + 1) store) (sym c.access_cached.ensures) c.in_ok-cover.ensures.made in
-    made_here f (o / P) (last + 1) store c.access_cached.new.self here made
-
-pub write-requires-clause-page : goal.write-requires-clause-page
-write-requires-clause-page c =
-    let f = c.args.file in
-    let o = c.args.offset in
-    let b = c.args.bytes.now in
-    let P = c.page-page_size.result in
-    let last = (o + length b - 1) / P in
-    let store = c.self.inside.pages in
-    let here : f < length store.files = omega (arith, c.requires.here, ap (λ s. length s.files) c.self.view_is) in
-    let size : P ≡ store.page = c.page-page_size.ensures.value ∙ sym c.self.invariant.page in
-    let made : AreMade f (o / P) (last + 1) store c.access_cached.new.self = subst (AreMade f (o / P) (last + 1) store) (sym c.access_cached.ensures) c.in_ok-cover.ensures.made in
-    size ∙ sym (made_size f (o / P) (last + 1) store c.access_cached.new.self made)
-
-pub write-requires-clause-cached : goal.write-requires-clause-cached
-write-requires-clause-cached c =
-    let f = c.args.file in
-    let o = c.args.offset in
-    let b = c.args.bytes.now in
-    let P = c.page-page_size.result in
-    let last = (o + length b - 1) / P in
-    let store = c.self.inside.pages in
-    let here : f < length store.files = omega (arith, c.requires.here, ap (λ s. length s.files) c.self.view_is) in
-    let size : P ≡ store.page = c.page-page_size.ensures.value ∙ sym c.self.invariant.page in
-    let made : AreMade f (o / P) (last + 1) store c.access_cached.new.self = subst (AreMade f (o / P) (last + 1) store) (sym c.access_cached.ensures) c.in_ok-cover.ensures.made in
-    made_cached f (o / P) last store c.access_cached.new.self made
+pub place-requires-clause-room : goal.place-requires-clause-room
+place-requires-clause-room c =
+    blocks_enough c.self.inside.geometry c.self.inside.pages.files c.self.inside.handles c.self.inside.blocks c.self.inside.pages.free c.self.invariant.facts c.self.inside.name
+    c.args.file c.args.offset (length c.args.bytes.now) c.page-page_size.result c.page-page_size.ensures.value
+    (subst (λ s. room_tests s c.args.file c.args.offset (length c.args.bytes.now) ≡ None) (sym c.self.view_is) c.requires.room)
 
 pub write-requires-clause-sized : goal.write-requires-clause-sized
 write-requires-clause-sized c =
@@ -85,34 +38,8 @@ write-requires-clause-sized c =
     let store = c.self.inside.pages in
     let here : f < length store.files = omega (arith, c.requires.here, ap (λ s. length s.files) c.self.view_is) in
     let size : P ≡ store.page = c.page-page_size.ensures.value ∙ sym c.self.invariant.page in
-    let made : AreMade f (o / P) (last + 1) store c.access_cached.new.self = subst (AreMade f (o / P) (last + 1) store) (sym c.access_cached.ensures) c.in_ok-cover.ensures.made in
+    let made : AreMade f (o / P) (last + 1) store c.access_cached.new.self = subst (AreMade f (o / P) (last + 1) store) (sym c.access_cached.ensures) c.in_ok-place.ensures.made in
     made_sized f (o / P) last store c.access_cached.new.self P size made (subst (λ (n : ℕ). AreSized n (stored_at store f).pages) (sym c.page-page_size.ensures.value) (c.self.invariant.facts.sized f))
-
-pub size-requires : goal.size-requires
-size-requires c =
-    let f = c.args.file in
-    let o = c.args.offset in
-    let b = c.args.bytes.now in
-    let P = c.page-page_size.result in
-    let last = (o + length b - 1) / P in
-    let store = c.self.inside.pages in
-    let here : f < length store.files = omega (arith, c.requires.here, ap (λ s. length s.files) c.self.view_is) in
-    let size : P ≡ store.page = c.page-page_size.ensures.value ∙ sym c.self.invariant.page in
-    let made : AreMade f (o / P) (last + 1) store c.access_cached.new.self = subst (AreMade f (o / P) (last + 1) store) (sym c.access_cached.ensures) c.in_ok-cover.ensures.made in
-    laid_here f c.access_cached.new.self c.write.new.self (made_here f (o / P) (last + 1) store c.access_cached.new.self here made) c.write.ensures.rest
-
-pub set_size-requires : goal.set_size-requires
-set_size-requires c =
-    let f = c.args.file in
-    let o = c.args.offset in
-    let b = c.args.bytes.now in
-    let P = c.page-page_size.result in
-    let last = (o + length b - 1) / P in
-    let store = c.self.inside.pages in
-    let here : f < length store.files = omega (arith, c.requires.here, ap (λ s. length s.files) c.self.view_is) in
-    let size : P ≡ store.page = c.page-page_size.ensures.value ∙ sym c.self.invariant.page in
-    let made : AreMade f (o / P) (last + 1) store c.access_cached.new.self = subst (AreMade f (o / P) (last + 1) store) (sym c.access_cached.ensures) c.in_ok-cover.ensures.made in
-    laid_here f c.access_cached.new.self c.write.new.self (made_here f (o / P) (last + 1) store c.access_cached.new.self here made) c.write.ensures.rest
 
 pub invariant_of-self-2 : goal.invariant_of-self-2
 invariant_of-self-2 c =
@@ -124,7 +51,7 @@ invariant_of-self-2 c =
     let store = c.self.inside.pages in
     let here : f < length store.files = omega (arith, c.requires.here, ap (λ s. length s.files) c.self.view_is) in
     let size : P ≡ store.page = c.page-page_size.ensures.value ∙ sym c.self.invariant.page in
-    let made : AreMade f (o / P) (last + 1) store c.access_cached.new.self = subst (AreMade f (o / P) (last + 1) store) (sym c.access_cached.ensures) c.in_ok-cover.ensures.made in
+    let made : AreMade f (o / P) (last + 1) store c.access_cached.new.self = subst (AreMade f (o / P) (last + 1) store) (sym c.access_cached.ensures) c.in_ok-place.ensures.made in
     let steps : WriteSteps P o b f c.max-size.result store c.access_cached.new.self c.write.new.self c.set_size.new.self = record {
       here = here;
       page = size;
@@ -134,21 +61,20 @@ invariant_of-self-2 c =
       size = c.max-size.ensures ∙ ap (λ n. max n (o + length b)) c.size.ensures;
       grown = c.set_size.ensures;
     } in
-    let owners = c.self.inside.owners.items in
+    let blocks = c.self.inside.blocks in
     let e0 = stored_at store f in
     let e1 = stored_at c.access_cached.new.self f in
     let e2 = stored_at c.write.new.self f in
     let e3 = stored_at c.set_size.new.self f in
     let room = subst (λ s. room_tests s f o (length b) ≡ None) (sym c.self.view_is) c.requires.room in
-    let now = c.append.ensures.items ∙ ap (λ xs. cond (is_ok c.append.result) (xs ++ c.in_ok-taken.taken.items) xs) c.reserve.ensures.items
-    ∙ ap (λ t. cond (is_ok c.append.result) (owners ++ t) owners) (c.in_ok-taken.ensures ∙ ap (λ os. needing os f (o / P) (touched_count P o (length b))) c.deref.ensures.value) in
     let files = final_files P o b f c.max-size.result store c.access_cached.new.self c.write.new.self c.set_size.new.self steps in
     let free = final_free P o b f c.max-size.result store c.access_cached.new.self c.write.new.self c.set_size.new.self steps in
     let of_write = parts P o b f c.max-size.result store c.access_cached.new.self c.write.new.self c.set_size.new.self steps in
-    let facts = write_facts c.self.inside.geometry store.files c.self.inside.handles owners store.free c.self.invariant.facts c.self.inside.name f o P b e0 e1 e2 e3 here refl c.page-page_size.ensures.value of_write (omega (arith, c.page-page_size.ensures.least)) c.requires.some c.requires.bound room (is_ok c.append.result) c.append.new.self.items now in
+    let facts = write_facts c.self.inside.geometry store.files c.self.inside.handles blocks store.free c.self.invariant.facts c.self.inside.name f o P b e0 e1 e2 e3 here refl c.page-page_size.ensures.value of_write (omega (arith, c.page-page_size.ensures.least)) c.requires.some c.requires.bound room in
     record {
-      facts = subst (λ (fs : List File). CoreFacts c.self.inside.geometry fs c.self.inside.handles c.append.new.self.items c.set_size.new.self.free) (sym files)
-          (subst (λ (n : ℕ). CoreFacts c.self.inside.geometry (slice_set store.files f e3) c.self.inside.handles c.append.new.self.items n) (sym free) facts);
+      facts = subst (λ (bs : Blocks). CoreFacts c.self.inside.geometry c.set_size.new.self.files c.self.inside.handles bs c.set_size.new.self.free) (sym c.in_ok-place.ensures.placed)
+          (subst (λ (fs : List File). CoreFacts c.self.inside.geometry fs c.self.inside.handles (with_placed blocks f (range_with_len (o / P) (touched_count P o (length b)))) c.set_size.new.self.free) (sym files)
+          (subst (λ (n : ℕ). CoreFacts c.self.inside.geometry (slice_set store.files f e3) c.self.inside.handles (with_placed blocks f (range_with_len (o / P) (touched_count P o (length b)))) n) (sym free) facts));
       page = final_page P o b f c.max-size.result store c.access_cached.new.self c.write.new.self c.set_size.new.self steps ∙ c.self.invariant.page;
       quiet = λ g q. final_idle P o b f c.max-size.result store c.access_cached.new.self c.write.new.self c.set_size.new.self steps g q ∙ c.self.invariant.quiet g q;
     }
@@ -163,7 +89,7 @@ returns-clause-ok c =
     let store = c.self.inside.pages in
     let here : f < length store.files = omega (arith, c.requires.here, ap (λ s. length s.files) c.self.view_is) in
     let size : P ≡ store.page = c.page-page_size.ensures.value ∙ sym c.self.invariant.page in
-    let made : AreMade f (o / P) (last + 1) store c.access_cached.new.self = subst (AreMade f (o / P) (last + 1) store) (sym c.access_cached.ensures) c.in_ok-cover.ensures.made in
+    let made : AreMade f (o / P) (last + 1) store c.access_cached.new.self = subst (AreMade f (o / P) (last + 1) store) (sym c.access_cached.ensures) c.in_ok-place.ensures.made in
     let steps : WriteSteps P o b f c.max-size.result store c.access_cached.new.self c.write.new.self c.set_size.new.self = record {
       here = here;
       page = size;
@@ -173,17 +99,15 @@ returns-clause-ok c =
       size = c.max-size.ensures ∙ ap (λ n. max n (o + length b)) c.size.ensures;
       grown = c.set_size.ensures;
     } in
-    let owners = c.self.inside.owners.items in
+    let blocks = c.self.inside.blocks in
     let e0 = stored_at store f in
     let e1 = stored_at c.access_cached.new.self f in
     let e2 = stored_at c.write.new.self f in
     let e3 = stored_at c.set_size.new.self f in
     let room = subst (λ s. room_tests s f o (length b) ≡ None) (sym c.self.view_is) c.requires.room in
-    let now = c.append.ensures.items ∙ ap (λ xs. cond (is_ok c.append.result) (xs ++ c.in_ok-taken.taken.items) xs) c.reserve.ensures.items
-    ∙ ap (λ t. cond (is_ok c.append.result) (owners ++ t) owners) (c.in_ok-taken.ensures ∙ ap (λ os. needing os f (o / P) (touched_count P o (length b))) c.deref.ensures.value) in
     let files = final_files P o b f c.max-size.result store c.access_cached.new.self c.write.new.self c.set_size.new.self steps in
     let free = final_free P o b f c.max-size.result store c.access_cached.new.self c.write.new.self c.set_size.new.self steps in
     let of_write = parts P o b f c.max-size.result store c.access_cached.new.self c.write.new.self c.set_size.new.self steps in
-    on_ok c.append.result _ (λ ok. ap (λ (fs : List File). state_of c.self.inside.geometry c.self.inside.name fs c.self.inside.handles c.append.new.self.items) files
-    ∙ write_state c.self.inside.geometry store.files c.self.inside.handles owners store.free c.self.invariant.facts c.self.inside.name f o P b e0 e1 e2 e3 here refl c.page-page_size.ensures.value of_write (omega (arith, c.page-page_size.ensures.least)) c.requires.some c.requires.bound room (is_ok c.append.result) c.append.new.self.items now ok
-    ∙ ap (λ s. written s f o b) c.self.view_is)
+    (λ i. state_of c.self.inside.geometry c.self.inside.name (files i) c.self.inside.handles (c.in_ok-place.ensures.placed i))
+    ∙ write_state c.self.inside.geometry store.files c.self.inside.handles blocks store.free c.self.invariant.facts c.self.inside.name f o P b e0 e1 e2 e3 here refl c.page-page_size.ensures.value of_write (omega (arith, c.page-page_size.ensures.least)) c.requires.some c.requires.bound room
+    ∙ ap (λ s. written s f o b) c.self.view_is
