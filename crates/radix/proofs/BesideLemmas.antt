@@ -1,5 +1,5 @@
 -- Lemmas on the search for the next entry with a mark within one node of the lowest level.
-use Rattle.std.proofs.Common.{◌≡◌, ◌≢◌, ℕ, ◌+◌, ◌*◌, ◌/◌, ◌%◌, ◌^◌, ◌<◌, ◌≤◌, Option, Some, None, refl, sym, ap, ◌∙◌, inl, inr, arith}
+use Rattle.std.proofs.Common.{◌≡◌, ℕ, ◌+◌, ◌*◌, ◌/◌, ◌%◌, ◌^◌, ◌<◌, Some, None, refl, sym, ap, ◌∙◌, inl, inr, arith}
 use Rattle.std.specs.Int.{bit_at}
 use Rattle.std.proofs.lemmas.Bool.{cases_eq}
 use Rattle.std.proofs.lemmas.Option.{same_Some}
@@ -8,7 +8,7 @@ use Rattle.radix.specs.declared.node.Node.{Node}
 use Rattle.radix.specs.declared.slot.Slot.{Slot}
 use Rattle.radix.specs.declared.slot.Slot.TheVariants.{Empty, Leaf, Child, Sibling}
 use Rattle.radix.specs.Bitmap.{IsLowestFrom, NoneFrom}
-use Rattle.radix.specs.Entries.{StandsAt, IsNextLeaf, HasNoneBeside, IsNextEntryLeaf, HasNoEntryBeside, IsLeaf, slot, bits, content, entry_at, mark_at}
+use Rattle.radix.specs.Entries.{StandsAt, IsNextLeaf, HasNoneBeside, IsNextEntryLeaf, HasNoEntryBeside, slot, bits, content, entry_at, mark_at}
 use Rattle.radix.specs.Tree.{IsSound, TellsEntries}
 use Rattle.radix.proofs.EntryBitLemmas.{bit_from, next_entry}
 use Rattle.radix.proofs.NextLemmas.{in_node, marked_here}

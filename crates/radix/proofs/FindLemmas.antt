@@ -1,5 +1,5 @@
 -- Lemmas on the entry at an index: no two levels have one.
-use Rattle.std.proofs.Common.{◌≡◌, ◌≢◌, ℕ, ◌+◌, ◌-◌, ◌/◌, ◌%◌, ◌^◌, ◌<◌, ◌≤◌, ◌⊎◌, Option, Some, None, refl, sym, ap, ◌∙◌, inl, inr, arith}
+use Rattle.std.proofs.Common.{◌≡◌, ◌≢◌, ℕ, ◌+◌, ◌-◌, ◌*◌, ◌/◌, ◌%◌, ◌^◌, ◌<◌, ◌≤◌, ◌⊎◌, Option, Some, None, refl, sym, ap, ◌∙◌, inl, inr, arith}
 use Rattle.std.proofs.lemmas.Bool.{cases_eq, cases_lt}
 use Rattle.std.proofs.lemmas.Option.{none-some}
 use Rattle.slab.specs.Slab.{Slab, get}
@@ -9,10 +9,14 @@ use Rattle.radix.specs.declared.slot.Slot.TheVariants.{Empty, Leaf, Child, Sibli
 use Rattle.radix.specs.declared.entry.Entry.{Entry}
 use Rattle.radix.specs.Entries.{slot, node_at, by_node, content, entry_at, IsFound, HasNoEntry, StandsAt}
 use Rattle.radix.specs.Tree.{IsPlain, IsTree, HasCome, level_of}
-use Rattle.radix.proofs.Places.{place-up, place-levels}
+use Rattle.radix.proofs.Places.{place-up, place-levels, pow64}
 use Rattle.radix.proofs.TreeLemmas.{Found, node_at-found, node_at-none, same_node, level_below, no_node, under_head}
 use Rattle.radix.proofs.SeeLemmas.{see-is}
 use Rattle.radix.proofs.WalkLemmas.{on_path, step}
+
+-- a shift of six bits a level
+pub by_shift : (index level shift o : ℕ) → shift ≡ 6 * level → o ≡ index / 2 ^ shift % 64 → o ≡ index / 64 ^ level % 64
+by_shift index level shift o counted is = is ∙ ap (λ z. index / 2 ^ z % 64) counted ∙ ap (λ n. index / n % 64) (pow64 level)
 
 module _ (s : Slab Node) (head : ℕ) (tree : IsTree s head) (index : ℕ) where
   module _ (key : ℕ) (n : Node) (here : get s key ≡ Some n) (path : n.prefix ≡ index / 64 ^ n.level / 64) where

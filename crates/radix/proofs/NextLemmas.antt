@@ -8,7 +8,7 @@ use Rattle.radix.specs.declared.node.Node.{Node}
 use Rattle.radix.specs.declared.slot.Slot.{Slot}
 use Rattle.radix.specs.declared.slot.Slot.TheVariants.{Empty, Leaf, Child, Sibling}
 use Rattle.radix.specs.Bitmap.{IsLowestFrom, NoneFrom}
-use Rattle.radix.specs.Entries.{slot, bits, node_at, by_node, bit_of, mark_at, IsNext, HasNoNext}
+use Rattle.radix.specs.Entries.{slot, bits, node_at, by_node, bit_of, mark_at, IsNext, HasNoNext, StandsAt}
 use Rattle.radix.specs.Tree.{IsPlain, IsLeafSlot, IsSound, IsAhead, IsLater, IsNotAfter, LaterIfSome, IsCovered, HasLeft, better_of, level_of}
 use Rattle.radix.proofs.Places.{place-up, place-down, place-levels, place-mono}
 use Rattle.radix.proofs.TreeLemmas.{node_at-found, same_node, parent_of, level_below, unique, no_node, under_head}
@@ -135,6 +135,9 @@ module _ (s : Slab Node) (head : ℕ) (sound : IsSound s head None) (mark : ℕ)
       where
         le_from : {x y : ℕ} → x < y → x ≤ y
         le_from h = omega arith
+
+    pub under_stands : StandsAt s key n.level ((n.prefix * 64 + o) / 64)
+    under_stands = record { node = n; there = there; level_is = refl; prefix_is = omega (arith, ahead.within) }
 
     module _ (c : ℕ) (b : Node) (names : slot n o ≡ Child c) (below : get s c ≡ Some b) where
       pub child_bits : 0 < bits b mark
@@ -271,6 +274,9 @@ module _ (s : Slab Node) (head : ℕ) (sound : IsSound s head None) (mark : ℕ)
           after = omega (arith, is_place);
           lowest = λ other index le is. omega (arith, is_place, place-mono from index n.level le);
         }
+
+    pub path_stands : (place : ℕ) → place ≡ from / 64 ^ n.level → StandsAt s key n.level (place / 64)
+    path_stands place is_place = record { node = n; there = there; level_is = refl; prefix_is = omega (arith, path, is_place) }
 
     pub path_child : (b : Option (ℕ × ℕ)) → b ≡ better_of best key found → (c : ℕ) → slot n o ≡ Child c → HasLeft s mark from c b
     path_child b is_best c names =

@@ -210,3 +210,7 @@ is_under s head tree child c parent there is =
 
 pub contains_key : (s : Slab Node) (key : ℕ) (n : Node) → get s key ≡ Some n → ContainsKey s key
 contains_key s key n there = rw there refl
+
+-- no child is below the lowest level
+pub lowest_plain : (s : Slab Node) (head : ℕ) → IsTree s head → (key : ℕ) (n : Node) → get s key ≡ Some n → n.level ≡ 0 → (o c : ℕ) → slot n o ≡ Child c → ⊥
+lowest_plain s head tree key n here low o c names = let h = tree.children key n o c here names in omega (arith, h.link.level, low)

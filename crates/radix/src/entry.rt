@@ -12,13 +12,6 @@ pub enum Entry {
     Sibling(u64),
 }
 
-/// Slot `place` of a level, 0 to 10. It has the indexes from `place * 64 ^ level` on, 64 ^ level of them.
-#[derive(Clone, Copy, PartialEq, Eq, Debug)]
-pub struct Position {
-    pub level: u32,
-    pub place: u64,
-}
-
 /// Where a walk ended. It is good for the calls that say so, until a slot is emptied.
 #[derive(Clone, Copy)]
 pub struct Cursor {
@@ -49,6 +42,15 @@ impl Cursor {
     {
         self.key
     }
+}
+
+/// Slot `place` of a level, 0 to 10, and where its node is. It has the indexes from `place * 64 ^ level` on, 64 ^ level of
+/// them.
+#[derive(Clone, Copy)]
+pub struct Position {
+    pub cursor: Cursor,
+    pub level: u32,
+    pub place: u64,
 }
 
 /// The entry at an index, and where it was found.

@@ -1,11 +1,11 @@
 //! The next entry with a mark.
-ghost use Rattle.std.specs.Prelude.{◌≡◌, ◌≢◌, ℕ, ◌+◌, ◌*◌, ◌/◌, ◌%◌, ◌^◌, ◌<◌, ◌≤◌, Some, None, MatchOption};
+ghost use Rattle.std.specs.Prelude.{◌≡◌, ◌≢◌, ℕ, ◌+◌, ◌*◌, ◌/◌, ◌%◌, ◌^◌, ◌<◌, ◌≤◌, Some, None, IfSome, MatchOption};
 ghost use Rattle.slab.specs.Slab.{get};
 ghost use Rattle.radix.specs.Entries.{IsNext, HasNoNext, IsNextLeaf, HasNoneBeside, StandsAt};
 ghost use Rattle.radix.specs.Tree.{IsSound, IsAhead, better_of};
 
 use crate::bitmap::{has_bit, lowest, lowest_above, lowest_from};
-use crate::entry::Position;
+use crate::entry::{Cursor, Position};
 use crate::node::Node;
 use crate::slot::Slot;
 use crate::tree::{offset_at, place_at};
@@ -33,14 +33,16 @@ fn lowest_under(
     requires mark { mark < 4 }
     requires sound { IsSound nodes.now head None }
     requires ahead { IsAhead nodes.now mark index first from_offset }
-    ensures { IsNext nodes.now mark index result.level result.place }
+    ensures next { IsNext nodes.now mark index result.level result.place }
+    ensures stands { StandsAt nodes.now result.cursor result.level (result.place / 64) }
 {
     let mut key = first;
     let mut offset = from_offset;
     'down: loop {
         let node = &nodes[key];
-        let Slot::Child(child) = node.read(offset as usize) else {
+        let Some(child) = node.child(offset as usize) else {
             return Position {
+                cursor: Cursor::at(key),
                 level: node.level,
                 place: node.prefix * 64 + offset as u64,
             };
@@ -54,7 +56,8 @@ fn lowest_under(
 pub(crate) fn next_set(nodes: &Slab<Node>, head: usize, index: u64, mark: usize) -> Option<Position>
     requires mark { mark < 4 }
     requires sound { IsSound nodes.now head None }
-    ensures { MatchOption result (HasNoNext nodes.now mark index) (λ r. IsNext nodes.now mark index r.level r.place) }
+    ensures next { MatchOption result (HasNoNext nodes.now mark index) (λ r. IsNext nodes.now mark index r.level r.place) }
+    ensures stands { IfSome result (λ r. StandsAt nodes.now r.cursor r.level (r.place / 64)) }
 {
     let top = &nodes[head];
     if place_at(index, top.level) / 64 != 0 {
@@ -70,15 +73,14 @@ pub(crate) fn next_set(nodes: &Slab<Node>, head: usize, index: u64, mark: usize)
         if !has_bit(bits, offset) {
             break 'down;
         }
-        match node.read(offset as usize) {
-            Slot::Child(child) => key = child,
-            _ => {
-                return Some(Position {
-                    level: node.level,
-                    place: place_at(index, node.level),
-                });
-            }
-        }
+        let Some(child) = node.child(offset as usize) else {
+            return Some(Position {
+                cursor: Cursor::at(key),
+                level: node.level,
+                place: place_at(index, node.level),
+            });
+        };
+        key = child;
     }
     match best {
         Some((later, offset)) => Some(lowest_under(nodes, head, later, offset, mark, index)),

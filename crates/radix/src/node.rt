@@ -1,5 +1,5 @@
 //! A node of 64 slots: 568 bytes, and 576 with the slab's tag.
-ghost use Rattle.std.specs.Prelude.{◌≡◌, ℕ, ◌<◌, ◌^◌};
+ghost use Rattle.std.specs.Prelude.{◌≡◌, ◌≢◌, ℕ, ◌<◌, ◌^◌, MatchOption};
 ghost use Rattle.radix.specs.Words.{FitsLink};
 
 use crate::slot::{Link, Slot, Word};
@@ -35,6 +35,23 @@ impl Node {
         ensures { result ≡ slot self.now offset }
     {
         self.slots[offset].slot()
+    }
+
+    /// The node below a slot. A node of the lowest level has none, and there the slot is not read: it lies in another cache
+    /// line than the marks.
+    #[inline]
+    pub(crate) fn child(&self, offset: usize) -> Option<usize>
+        requires within { offset < 64 }
+        requires lowest { (key : ℕ) → self.now.level ≡ 0 → slot self.now offset ≢ Slot.Child key }
+        ensures { MatchOption result ((key : ℕ) → slot self.now offset ≢ Slot.Child key) (λ key. slot self.now offset ≡ Slot.Child key) }
+    {
+        if self.level == 0 {
+            return None;
+        }
+        match self.read(offset) {
+            Slot::Child(key) => Some(key),
+            _ => None,
+        }
     }
 
     /// A node with no entry.

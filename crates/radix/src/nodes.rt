@@ -2,7 +2,7 @@
 ghost use Rattle.std.specs.Prelude.{◌≡◌, ◌≢◌, ℕ, ◌+◌, ◌*◌, ◌/◌, ◌%◌, ◌^◌, ◌<◌, ◌≤◌, ◌==◌, ◌↔◌, Some, None, IsOk, OnOk, IfErr, IfSome, MatchOption, MatchBool};
 ghost use Rattle.pc_types.specs.declared.refusal.Refusal.{Refusal};
 ghost use Rattle.radix.specs.declared.entry.Entry.{Entry};
-ghost use Rattle.radix.specs.Entries.{entry_at, mark_at, node_count, StandsAt, IsBare, IsLeaf, IsRun, IsClear, IsFree, HasNoMark, HasPathRoom, SameEntries, PutsEntry, PutsBit, PutsRun, ClearsRun, IsFound, HasNoEntry, IsNext, HasNoNext, IsNextEntry, HasNoNextEntry, IsNextLeaf, HasNoneBeside, IsNextEntryLeaf, HasNoEntryBeside, HasMarked, HasNoMarked, HasMarkedUnder, HasNoMarkedUnder};
+ghost use Rattle.radix.specs.Entries.{entry_at, mark_at, node_count, StandsAt, IsBare, IsLeaf, IsRun, IsClear, IsFree, HasNoMark, HasPathRoom, SameEntries, PutsEntry, PutsBit, PutsRun, ClearsRun, IsFound, HasNoEntry, IsNext, HasNoNext, IsNextEntry, HasNoNextEntry, IsNextEntryLeaf, HasNoEntryBeside, HasMarked, HasNoMarked, HasMarkedUnder, HasNoMarkedUnder};
 
 use crate::entry::{Cursor, Entry, Found, Position};
 use crate::node::{ENTRY, Node};
@@ -295,7 +295,8 @@ impl Nodes {
     /// is not found: look with `find` first.
     pub fn next_set(&self, index: u64, mark: usize) -> Option<Position>
         requires { mark < 3 }
-        ensures { MatchOption result (HasNoNext self.now mark index) (λ r. IsNext self.now mark index r.level r.place) }
+        ensures next { MatchOption result (HasNoNext self.now mark index) (λ r. IsNext self.now mark index r.level r.place) }
+        ensures stands { IfSome result (λ r. StandsAt self.now r.cursor r.level (r.place / 64)) }
     {
         match self.head {
             Some(head) => next::next_set(&self.slab, head, index, mark),
@@ -305,7 +306,8 @@ impl Nodes {
 
     /// The lowest entry whose first slot has the index or a later one, as `next_set` finds it.
     pub fn next_entry(&self, index: u64) -> Option<Position>
-        ensures { MatchOption result (HasNoNextEntry self.now index) (λ r. IsNextEntry self.now index r.level r.place) }
+        ensures next { MatchOption result (HasNoNextEntry self.now index) (λ r. IsNextEntry self.now index r.level r.place) }
+        ensures stands { IfSome result (λ r. StandsAt self.now r.cursor r.level (r.place / 64)) }
     {
         match self.head {
             Some(head) => next::next_set(&self.slab, head, index, ENTRY),
@@ -313,20 +315,8 @@ impl Nodes {
         }
     }
 
-    /// The lowest entry of one index with the mark, at an index or later in the node of a cursor, and its value. Where the
-    /// node has it, this costs no further walk.
-    pub fn next_set_in(&self, cursor: Cursor, index: u64, mark: usize) -> Option<(u64, u64)>
-        requires stands { StandsAt self.now cursor 0 (index / 64 ^ 0 / 64) }
-        requires mark { mark < 3 }
-        ensures { MatchOption result (HasNoneBeside self.now mark index) (λ r. IsNextLeaf self.now mark index r.0 r.1) }
-    {
-        let Some(head) = self.head else {
-            unreachable!()
-        };
-        next::next_in(&self.slab, head, cursor.key(), index, mark)
-    }
-
-    /// The lowest entry of one index, as `next_set_in` finds it.
+    /// The lowest entry of one index at an index or later in the node of a cursor, and its value. Where the node has it, this
+    /// costs no further walk.
     pub fn next_entry_in(&self, cursor: Cursor, index: u64) -> Option<(u64, u64)>
         requires { StandsAt self.now cursor 0 (index / 64 ^ 0 / 64) }
         ensures { MatchOption result (HasNoEntryBeside self.now index) (λ r. IsNextEntryLeaf self.now index r.0 r.1) }

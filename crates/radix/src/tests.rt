@@ -2,7 +2,7 @@
 ghost use Rattle.std.specs.Prelude.{ℕ, ◌+◌, ◌/◌, ◌%◌, ◌^◌, ◌<◌, ◌≤◌};
 ghost use Rattle.radix.specs.Entries.{StandsAt, IsRun};
 
-use crate::{Cursor, Entry, Nodes, Position};
+use crate::{Cursor, Entry, Nodes};
 use std::test::Fail;
 
 const EDGES: [u64; 7] = [
@@ -14,6 +14,20 @@ const EDGES: [u64; 7] = [
     68_719_476_736,
     18_446_744_073_709_551_615,
 ];
+
+// The slot of the next entry.
+fn next_entry(nodes: &Nodes, from: u64) -> Option<(u32, u64)> {
+    nodes
+        .next_entry(from)
+        .map(|found| (found.level, found.place))
+}
+
+// The slot of the next entry with mark 1.
+fn next_set(nodes: &Nodes, from: u64) -> Option<(u32, u64)> {
+    nodes
+        .next_set(from, 1)
+        .map(|found| (found.level, found.place))
+}
 
 // Puts an entry of one index where none is. Whether it did.
 fn put(nodes: &mut Nodes, index: u64, value: u64) -> bool
@@ -109,7 +123,7 @@ fn grows_and_shrinks(rt: HostRuntime) -> Result<(), Fail> {
         let mut from = 0;
         for index in EDGES {
             let place = index;
-            assert_eq!(rt; nodes.next_entry(from), Some(Position { level: 0, place }));
+            assert_eq!(rt; next_entry(&nodes, from), Some((0, place)));
             from = index.wrapping_add(1);
         }
         for i in 0..7usize {
@@ -118,7 +132,7 @@ fn grows_and_shrinks(rt: HostRuntime) -> Result<(), Fail> {
             assert!(rt; !take(&mut nodes, index));
         }
         assert_eq!(rt; nodes.count(), 0);
-        assert_eq!(rt; nodes.next_entry(0), None);
+        assert_eq!(rt; next_entry(&nodes, 0), None);
     }
     Ok(())
 }
@@ -147,24 +161,34 @@ fn marks_at_every_level(rt: HostRuntime) -> Result<(), Fail> {
         (4_097, u64::MAX),
         (u64::MAX, u64::MAX),
     ] {
-        assert_eq!(rt; nodes.next_set(from, 1), Some(Position { level: 0, place }));
+        assert_eq!(rt; next_set(&nodes, from), Some((0, place)));
     }
     assert!(rt; mark(&mut nodes, 4_096, false));
     assert!(rt; nodes.marked_under(63, 1, 1));
     assert!(rt; !nodes.marked_under(64, 1, 1));
     assert!(rt; nodes.marked_under(4_095, 2, 1));
     assert!(rt; !nodes.marked_under(4_096, 2, 1));
-    assert_eq!(rt;
-        nodes.next_set(64, 1),
-        Some(Position {
-            level: 0,
-            place: u64::MAX
-        })
-    );
+    assert_eq!(rt; next_set(&nodes, 64), Some((0, u64::MAX)));
     assert!(rt; mark(&mut nodes, u64::MAX, false));
-    assert_eq!(rt; nodes.next_set(64, 1), None);
+    assert_eq!(rt; next_set(&nodes, 64), None);
     assert!(rt; mark(&mut nodes, 63, false));
     assert!(rt; !nodes.marked(1));
+    Ok(())
+}
+
+// A search finds an entry by its first slot: the slot of the search's first index counts, a further one of the entry does
+// not.
+#[test]
+fn next_of_several_slots(rt: HostRuntime) -> Result<(), Fail> {
+    let mut nodes = Nodes::new(rt.alloc());
+    let Ok(()) = nodes.reserve_path(256, 1) else {
+        assert!(rt; false);
+        return Ok(());
+    };
+    nodes.put_run(256, 1, 4, 9);
+    assert_eq!(rt; next_entry(&nodes, 1), Some((1, 4)));
+    assert_eq!(rt; next_entry(&nodes, 257), Some((1, 4)));
+    assert_eq!(rt; next_entry(&nodes, 320), None);
     Ok(())
 }
 
@@ -181,13 +205,6 @@ fn several_slots(rt: HostRuntime) -> Result<(), Fail> {
     assert_eq!(rt; nodes.get(256, 1), Some(Entry::Leaf(9)));
     assert_eq!(rt; nodes.get(511, 1), Some(Entry::Sibling(4)));
     assert_eq!(rt; nodes.get(512, 1), None);
-    assert_eq!(rt; nodes.next_entry(1), Some(Position { level: 1, place: 4 }));
-    // The slot of the search's first index counts, a further slot of an entry does not.
-    assert_eq!(rt;
-        nodes.next_entry(257),
-        Some(Position { level: 1, place: 4 })
-    );
-    assert_eq!(rt; nodes.next_entry(320), None);
     let Some(cursor) = nodes.seek(256, 1) else {
         assert!(rt; false);
         return Ok(());

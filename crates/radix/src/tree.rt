@@ -25,6 +25,14 @@ pub(crate) fn offset_at(index: u64, level: u32) -> usize
     (place_at(index, level) % 64) as usize
 }
 
+// The offset of the slot that has `index` in a node whose slots have 2 ^ shift indexes each.
+fn offset_by(index: u64, shift: u32) -> usize
+    requires { shift < 64 }
+    ensures { result ≡ index / 2 ^ shift % 64 }
+{
+    ((index >> shift) % 64) as usize
+}
+
 // Whether a head has the slot of `index` at a level under it.
 pub(crate) fn covers(top: &Node, level: u32, index: u64) -> bool
     requires { top.now.level ≤ 10 }
@@ -108,21 +116,24 @@ pub(crate) fn find(nodes: &Slab<Node>, head: usize, index: u64) -> Option<Found>
         return None;
     }
     let mut key = head;
-    let mut level = top.level;
+    let mut node = top;
+    // It is counted down, so that no step waits for a node's level.
+    let mut shift = 6 * top.level;
     'down: loop {
-        let slot = nodes[key].read(offset_at(index, level));
+        let slot = node.read(offset_by(index, shift));
         let Slot::Child(child) = slot else {
             let Some(entry) = entry_of(slot) else {
                 return None;
             };
             return Some(Found {
                 cursor: Cursor::at(key),
-                level,
+                level: node.level,
                 entry,
             });
         };
         key = child;
-        level -= 1;
+        node = &nodes[key];
+        shift -= 6;
     }
 }
 

@@ -172,6 +172,7 @@ impl XArray {
     }
 
     /// The lowest entry whose range meets the indexes from `from` to `to`.
+    #[inline(always)]
     pub fn find(&self, from: u64, to: u64) -> Option<Found>
         ensures { result ≡ option_map found_of (lowest is_any self.now.ranges from to) }
     {
@@ -186,6 +187,7 @@ impl XArray {
     }
 
     /// The lowest entry with the mark whose range meets the indexes from `from` to `to`.
+    #[inline(always)]
     pub fn find_marked(&self, from: u64, to: u64, mark: Mark) -> Option<Found>
         ensures { result ≡ option_map found_of (lowest (has_mark mark) self.now.ranges from to) }
     {

@@ -41,10 +41,10 @@ impl Flat {
     pub fn load(&self, index: u64) -> Option<u64>
         ensures { result ≡ value_at self.now index }
     {
-        match self.nodes.seek(index, 0) {
-            Some(cursor) => match self.nodes.entry_in(cursor, index, 0) {
-                Some(Entry::Leaf(value)) => Some(value),
-                _ => None,
+        match self.nodes.find(index) {
+            Some(found) => match found.entry {
+                Entry::Leaf(value) => Some(value),
+                Entry::Sibling(_) => None,
             },
             None => None,
         }
@@ -165,7 +165,8 @@ impl Flat {
     }
 
     /// The lowest index from `from` to `to` with a value, and the value. Most often it is in the node of `from`, and then
-    /// one walk does.
+    /// one walk does, in the caller's own code.
+    #[inline(always)]
     pub fn find(&self, from: u64, to: u64) -> Option<(u64, u64)>
         ensures { MatchOption result (HasNoneIn self.now from to) (λ r. IsFirst self.now from to r.0 r.1) }
     {
@@ -188,6 +189,7 @@ impl Flat {
     }
 
     // The same by a search of the tree.
+    #[inline(never)]
     fn find_far(&self, from: u64, to: u64) -> Option<(u64, u64)>
         ensures { MatchOption result (HasNoneIn self.now from to) (λ r. IsFirst self.now from to r.0 r.1) }
     {
@@ -197,7 +199,7 @@ impl Flat {
         if next.place > to {
             return None;
         }
-        match self.nodes.get(next.place, 0) {
+        match self.nodes.entry_in(next.cursor, next.place, 0) {
             Some(Entry::Leaf(value)) => Some((next.place, value)),
             _ => unreachable!(),
         }
@@ -208,29 +210,13 @@ impl Flat {
         requires { mark < 3 }
         ensures { MatchOption result (HasNoMarkedIn self.now from to mark) (λ r. IsFirstMarked self.now from to mark r.0 r.1) }
     {
-        if let Some(cursor) = self.nodes.seek(from, 0) {
-            if let Some((index, value)) = self.nodes.next_set_in(cursor, from, mark) {
-                if index > to {
-                    return None;
-                }
-                return Some((index, value));
-            }
-        }
-        self.find_marked_far(from, to, mark)
-    }
-
-    // The same by a search of the tree.
-    fn find_marked_far(&self, from: u64, to: u64, mark: usize) -> Option<(u64, u64)>
-        requires { mark < 3 }
-        ensures { MatchOption result (HasNoMarkedIn self.now from to mark) (λ r. IsFirstMarked self.now from to mark r.0 r.1) }
-    {
         let Some(next) = self.nodes.next_set(from, mark) else {
             return None;
         };
         if next.place > to {
             return None;
         }
-        match self.nodes.get(next.place, 0) {
+        match self.nodes.entry_in(next.cursor, next.place, 0) {
             Some(Entry::Leaf(value)) => Some((next.place, value)),
             _ => unreachable!(),
         }
@@ -242,34 +228,13 @@ impl Flat {
         requires other { other < 3 }
         ensures { MatchOption result (HasNoMarkedIn self.old from to mark × (self.new ≡ self.old)) (λ index. TagsNext self.old self.new from to mark other index) }
     {
-        if let Some(cursor) = self.nodes.seek(from, 0) {
-            if let Some((index, _)) = self.nodes.next_set_in(cursor, from, mark) {
-                if index > to {
-                    return None;
-                }
-                self.nodes.set_bit(cursor, index, 0, other);
-                return Some(index);
-            }
-        }
-        self.tag_next_far(from, to, mark, other)
-    }
-
-    // The same by a search of the tree.
-    fn tag_next_far(&mut self, from: u64, to: u64, mark: usize, other: usize) -> Option<u64>
-        requires mark { mark < 3 }
-        requires other { other < 3 }
-        ensures { MatchOption result (HasNoMarkedIn self.old from to mark × (self.new ≡ self.old)) (λ index. TagsNext self.old self.new from to mark other index) }
-    {
         let Some(next) = self.nodes.next_set(from, mark) else {
             return None;
         };
         if next.place > to {
             return None;
         }
-        let Some(cursor) = self.nodes.seek(next.place, 0) else {
-            unreachable!()
-        };
-        self.nodes.set_bit(cursor, next.place, 0, other);
+        self.nodes.set_bit(next.cursor, next.place, 0, other);
         Some(next.place)
     }
 

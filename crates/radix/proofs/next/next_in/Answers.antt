@@ -1,6 +1,5 @@
-use Rattle.std.proofs.Common.{◌<◌, ◌^◌, ◌%◌, ◌∙◌, sym}
+use Rattle.std.proofs.Common.{◌∙◌, sym}
 use Rattle.std.proofs.lemmas.Option.{MatchOption-at_none}
-use Rattle.radix.specs.Bitmap.{IsLowestFrom}
 use Rattle.radix.proofs.BesideLemmas.{next_beside, none_beside, only_leaf}
 use Rattle.radix.proofs.next.next_in.Goals as goal
 

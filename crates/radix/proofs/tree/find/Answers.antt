@@ -1,7 +1,9 @@
 use Rattle.std.proofs.Common.{◌≡◌, Some, None, sym, ap, ◌∙◌, arith}
 use Rattle.std.proofs.lemmas.Bool.{MatchBool-at_false}
 use Rattle.radix.specs.Entries.{content, slot}
-use Rattle.radix.proofs.FindLemmas.{past_none, find_step, find_none, find_some, find_stands, counted_low, counted_inner, counted_step}
+use Rattle.radix.specs.Tree.{level_of}
+use Rattle.radix.proofs.TreeLemmas.{contains_key}
+use Rattle.radix.proofs.FindLemmas.{by_shift, past_none, find_step, find_none, find_some, find_stands, counted_low, counted_inner, counted_step}
 use Rattle.radix.proofs.tree.find.Goals as goal
 
 pub covers-requires : goal.covers-requires
@@ -10,37 +12,52 @@ covers-requires c = (c.requires.nodes c.args.head c.index-top.result.now c.index
 pub returns-then-not-covers-clause-found : goal.returns-then-not-covers-clause-found
 returns-then-not-covers-clause-found c = past_none c.args.nodes.now c.args.head c.requires c.args.index c.index-top.result.now c.index-top.ensures (MatchBool-at_false _ _ c.if-not-covers.true c.covers.ensures)
 
-pub offset_at-requires : goal.offset_at-requires
-offset_at-requires c = counted_low c.args.nodes.now c.args.head c.requires c.args.index c.down.key c.index.result.now c.index.ensures c.down.invariant.come c.down.level c.down.invariant.counted
+pub offset_by-requires : goal.offset_by-requires
+offset_by-requires c =
+    let low = counted_low c.args.nodes.now c.args.head c.requires c.args.index c.down.key c.down.node.now c.down.invariant.there c.down.invariant.come c.down.node.now.level (ap level_of c.down.invariant.there) in
+    omega (arith, low, c.down.invariant.counted)
 
 pub returns-in_default-entry_of : goal.returns-in_default-entry_of
 returns-in_default-entry_of c =
-    let none : content (slot c.index.result.now c.offset_at.result) ≡ None = ap content (sym c.read-slot.ensures) ∙ sym c.entry_of.ensures ∙ c.in_default-entry_of.is in
+    let none : content (slot c.down.node.now c.offset_by.result) ≡ None = ap content (sym c.read-slot.ensures) ∙ sym c.entry_of.ensures ∙ c.in_default-entry_of.is in
     record {
-      found = find_none c.args.nodes.now c.args.head c.requires c.args.index c.down.key c.index.result.now c.index.ensures c.down.invariant.come c.down.level c.down.invariant.counted c.offset_at.result c.offset_at.ensures none (λ k e. c.in_default.not-Child k (c.read-slot.ensures ∙ e));
+      found = find_none c.args.nodes.now c.args.head c.requires c.args.index c.down.key c.down.node.now c.down.invariant.there c.down.invariant.come c.down.node.now.level (ap level_of c.down.invariant.there) c.offset_by.result (by_shift c.args.index c.down.node.now.level c.down.shift c.offset_by.result c.down.invariant.counted c.offset_by.ensures) none (λ k e. c.in_default.not-Child k (c.read-slot.ensures ∙ e));
       stands = tt;
     }
 
 pub returns-in_default : goal.returns-in_default
 returns-in_default c =
-    let some : content (slot c.index.result.now c.offset_at.result) ≡ Some c.in-Some.entry = ap content (sym c.read-slot.ensures) ∙ sym c.entry_of.ensures ∙ c.in-Some.is in
+    let some : content (slot c.down.node.now c.offset_by.result) ≡ Some c.in-Some.entry = ap content (sym c.read-slot.ensures) ∙ sym c.entry_of.ensures ∙ c.in-Some.is in
     record {
-      found = find_some c.args.nodes.now c.args.head c.requires c.args.index c.down.key c.index.result.now c.index.ensures c.down.invariant.come c.down.level c.down.invariant.counted c.offset_at.result c.offset_at.ensures c.in-Some.entry some;
-      stands = rw (c.at.ensures) (find_stands c.args.nodes.now c.args.head c.requires c.args.index c.down.key c.index.result.now c.index.ensures c.down.invariant.come c.down.level c.down.invariant.counted);
+      found = find_some c.args.nodes.now c.args.head c.requires c.args.index c.down.key c.down.node.now c.down.invariant.there c.down.invariant.come c.down.node.now.level (ap level_of c.down.invariant.there) c.offset_by.result (by_shift c.args.index c.down.node.now.level c.down.shift c.offset_by.result c.down.invariant.counted c.offset_by.ensures) c.in-Some.entry some;
+      stands = rw (c.at.ensures) (find_stands c.args.nodes.now c.args.head c.requires c.args.index c.down.key c.down.node.now c.down.invariant.there c.down.invariant.come c.down.node.now.level (ap level_of c.down.invariant.there));
     }
 
-pub overflow_sub-level : goal.overflow_sub-level
-overflow_sub-level c =
-    let inner = counted_inner c.args.nodes.now c.args.head c.requires c.args.index c.down.key c.index.result.now c.index.ensures c.down.invariant.come c.down.level c.down.invariant.counted c.offset_at.result c.offset_at.ensures c.in-Child.child (sym c.read-slot.ensures ∙ c.in-Child.is) in
-    omega (arith, inner)
+pub overflow_sub-shift : goal.overflow_sub-shift
+overflow_sub-shift c =
+    let inner = counted_inner c.args.nodes.now c.args.head c.requires c.args.index c.down.key c.down.node.now c.down.invariant.there c.down.invariant.come c.down.node.now.level (ap level_of c.down.invariant.there) c.offset_by.result (by_shift c.args.index c.down.node.now.level c.down.shift c.offset_by.result c.down.invariant.counted c.offset_by.ensures) c.in-Child.child (sym c.read-slot.ensures ∙ c.in-Child.is) in
+    omega (arith, inner, c.down.invariant.counted)
 
 pub down-smaller : goal.down-smaller
 down-smaller c =
-    let inner = counted_inner c.args.nodes.now c.args.head c.requires c.args.index c.down.key c.index.result.now c.index.ensures c.down.invariant.come c.down.level c.down.invariant.counted c.offset_at.result c.offset_at.ensures c.in-Child.child (sym c.read-slot.ensures ∙ c.in-Child.is) in
-    omega (arith, inner)
+    let inner = counted_inner c.args.nodes.now c.args.head c.requires c.args.index c.down.key c.down.node.now c.down.invariant.there c.down.invariant.come c.down.node.now.level (ap level_of c.down.invariant.there) c.offset_by.result (by_shift c.args.index c.down.node.now.level c.down.shift c.offset_by.result c.down.invariant.counted c.offset_by.ensures) c.in-Child.child (sym c.read-slot.ensures ∙ c.in-Child.is) in
+    omega (arith, inner, c.down.invariant.counted)
 
 pub down-preserved : goal.down-preserved
-down-preserved c = record {
-  come = find_step c.args.nodes.now c.args.head c.requires c.args.index c.down.key c.index.result.now c.index.ensures c.down.invariant.come c.down.level c.down.invariant.counted c.offset_at.result c.offset_at.ensures c.in-Child.child (sym c.read-slot.ensures ∙ c.in-Child.is);
-  counted = counted_step c.args.nodes.now c.args.head c.requires c.args.index c.down.key c.index.result.now c.index.ensures c.down.invariant.come c.down.level c.down.invariant.counted c.offset_at.result c.offset_at.ensures c.in-Child.child (sym c.read-slot.ensures ∙ c.in-Child.is);
-}
+down-preserved c =
+    let level = counted_step c.args.nodes.now c.args.head c.requires c.args.index c.down.key c.down.node.now c.down.invariant.there c.down.invariant.come c.down.node.now.level (ap level_of c.down.invariant.there) c.offset_by.result (by_shift c.args.index c.down.node.now.level c.down.shift c.offset_by.result c.down.invariant.counted c.offset_by.ensures) c.in-Child.child (sym c.read-slot.ensures ∙ c.in-Child.is) in
+    let same = ap level_of c.index-node.ensures in
+    let inner = counted_inner c.args.nodes.now c.args.head c.requires c.args.index c.down.key c.down.node.now c.down.invariant.there c.down.invariant.come c.down.node.now.level (ap level_of c.down.invariant.there) c.offset_by.result (by_shift c.args.index c.down.node.now.level c.down.shift c.offset_by.result c.down.invariant.counted c.offset_by.ensures) c.in-Child.child (sym c.read-slot.ensures ∙ c.in-Child.is) in
+    record {
+      come = find_step c.args.nodes.now c.args.head c.requires c.args.index c.down.key c.down.node.now c.down.invariant.there c.down.invariant.come c.down.node.now.level (ap level_of c.down.invariant.there) c.offset_by.result (by_shift c.args.index c.down.node.now.level c.down.shift c.offset_by.result c.down.invariant.counted c.offset_by.ensures) c.in-Child.child (sym c.read-slot.ensures ∙ c.in-Child.is);
+      there = c.index-node.ensures;
+      counted = omega (arith, level, same, inner, c.down.invariant.counted);
+    }
+
+pub overflow_mul-shift : goal.overflow_mul-shift
+overflow_mul-shift c = let low = (c.requires.nodes c.args.head c.index-top.result.now c.index-top.ensures).level in omega (arith, low)
+
+pub index-node-requires : goal.index-node-requires
+index-node-requires c =
+    let h = c.requires.children c.down.key c.down.node.now c.offset_by.result c.in-Child.child c.down.invariant.there (sym c.read-slot.ensures ∙ c.in-Child.is) in
+    contains_key c.args.nodes.now c.in-Child.child h.below h.there

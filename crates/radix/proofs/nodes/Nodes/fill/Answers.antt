@@ -1,4 +1,4 @@
-use Rattle.std.proofs.Common.{◌/◌, ◌^◌, refl}
+use Rattle.std.proofs.Common.{◌/◌, ◌^◌}
 use Rattle.radix.proofs.RunLemmas.{free_after, put_unmarked}
 use Rattle.radix.proofs.DescentLemmas.{SameSlots-refl}
 use Rattle.radix.proofs.nodes.Nodes.fill.Goals as goal

@@ -1,8 +1,5 @@
-use Rattle.xarray.proofs.NearLemmas.{first_marked_near, none_marked_near}
+use Rattle.xarray.proofs.FlatLemmas.{none_marked}
 use Rattle.xarray.proofs.flat.Flat.find_marked.Goals as goal
 
-pub returns-then-index-to : goal.returns-then-index-to
-returns-then-index-to c = rw (c.self.view_is) at (none_marked_near c.self.inside.nodes c.args.from c.args.to c.in-Some-next_set_in.index c.in-Some-next_set_in.value c.args.mark c.in-Some-next_set_in.ensures c.if-index-to.true)
-
-pub returns-in-Some-next_set_in : goal.returns-in-Some-next_set_in
-returns-in-Some-next_set_in c = rw (c.self.view_is) at (first_marked_near c.self.inside.nodes c.args.from c.args.to c.in-Some-next_set_in.index c.in-Some-next_set_in.value c.args.mark c.in-Some-next_set_in.ensures c.if-index-to.false)
+pub returns-in_default : goal.returns-in_default
+returns-in_default c = none_marked c.self.inside.nodes c.args.self.now c.args.mark c.args.from c.args.to c.next_set.result c.self.view_is c.in_default.is c.next_set.ensures.next
