@@ -7,6 +7,7 @@ use Rattle.std.specs.FinMap.{get-empty}
 use Rattle.std.proofs.lemmas.Bool.{cases_eq, le-leb}
 use Rattle.std.proofs.lemmas.Bool.Decides.{nat_tests}
 use Rattle.std.proofs.lemmas.Option.{none-some, same_Some}
+use Rattle.pc_types.specs.declared.ids.FrameId.{FrameId}
 use Rattle.pc_types.specs.declared.tags.Tag.{Tag}
 use Rattle.pc_types.specs.declared.tags.Tag.TheVariants.{Dirty, Writeback, Towrite}
 use Rattle.pc_types.specs.Tags.{has}
@@ -17,7 +18,7 @@ use Rattle.xarray.specs.MarkedArray.{Range, Ranges, has_mark, with_mark, meets, 
 use Rattle.xarray.proofs.Singles.{AllSingle, entry_at-get, erased-remove, remarked-some, remarked-none}
 use Rattle.mapping.specs.declared.mapping.TheConstants.{MAX_PAGES}
 use Rattle.mapping.specs.declared.page.FoundPage.{FoundPage}
-use Rattle.mapping.specs.Pages.{Mapped, Pages, with_tag, put_some, change_at, within, is_tagged, found, untagged}
+use Rattle.mapping.specs.Pages.{IsNumbered, Mapped, Pages, frame_of, with_tag, put_some, change_at, within, is_tagged, found, untagged}
 use Rattle.mapping.specs.Pages as pages
 use Rattle.mapping.specs.View.{tag_mark, page_of, pages_of, IsPage}
 use Rattle.mapping.proofs.MapLemmas.{same_nat_map, get-insert_here, get-insert_there, get-remove_here, get-remove_there, remove_absent, find_same, find_key, get-each, find_each, len-le}
@@ -84,6 +85,10 @@ some_page f (Some x) y e = (x, (refl, same_Some (f x) y e))
 -- the entry of a page
 pub entry_of : (m : Ranges) (q : ℕ) (page : Mapped) → finmap.get (pages_of m) q ≡ Some page → (r : Range) × ((finmap.get m q ≡ Some r) × (page_of r ≡ page))
 entry_of m q page at = some_page page_of (finmap.get m q) page (sym (get-pages_of m q) ∙ at)
+
+-- a frame by its number
+abbrev pub frame_id : ℕ → FrameId
+frame_id n = record { 0 = n }
 
 abbrev pub page_from : Found → FoundPage
 page_from f = record { page = record { 0 = f.first }; frame = record { 0 = f.value } }
@@ -171,6 +176,21 @@ module _ (m : Ranges) (each : (q : ℕ) (r : Range) → finmap.get m q ≡ Some 
       go None e h = e
       go (Some page) e h = absurd (none-some page.frame (h ∙ ap (option_map (λ (page : Mapped). page.frame)) e))
 
+  -- the frame of a page is the value that is loaded
+  pub loads_some : (i value : ℕ) → Some value ≡ option_map (λ (e : ℕ × Range). e.1.value) (entry_at m i) → Some (frame_id value) ≡ option_map frame_of (finmap.get (pages_of m) i)
+  loads_some i value is = ap (option_map frame_id) (is ∙ entry_value i) ∙ go (finmap.get (pages_of m) i)
+    where
+      go : (o : Option Mapped) → option_map frame_id (option_map (λ (page : Mapped). page.frame) o) ≡ option_map frame_of o
+      go None = refl
+      go (Some page) = refl
+
+  pub frame_loads : (i : ℕ) (frame : FrameId) → Some frame ≡ option_map frame_of (finmap.get (pages_of m) i) → Some frame.0 ≡ option_map (λ (e : ℕ × Range). e.1.value) (entry_at m i)
+  frame_loads i frame is = ap (option_map (λ (f : FrameId). f.0)) is ∙ go (finmap.get (pages_of m) i) ∙ sym (entry_value i)
+    where
+      go : (o : Option Mapped) → option_map (λ (f : FrameId). f.0) (option_map frame_of o) ≡ option_map (λ (page : Mapped). page.frame) o
+      go None = refl
+      go (Some page) = refl
+
   pub loads_page : (i value : ℕ) (a b c : Bool) → Some value ≡ option_map (λ (e : ℕ × Range). e.1.value) (entry_at m i) → a ≡ is_marked M0 (entry_at m i) → b ≡ is_marked M1 (entry_at m i) → c ≡ is_marked M2 (entry_at m i) → Some (record { frame = value; tags = record { dirty = a; writeback = b; towrite = c } }) ≡ finmap.get (pages_of m) i
   loads_page i value a b c is p q t = go (finmap.get m i) refl
     where
@@ -209,11 +229,11 @@ module _ (m : Ranges) (each : (q : ℕ) (r : Range) → finmap.get m q ≡ Some 
   pub mark_tells : (i : ℕ) (tag : Tag) (mark : Mark) (is : Bool) → mark ≡ tag_mark tag → is ≡ is_marked mark (entry_at m i) → is ≡ pages.has_at (pages_of m) i tag
   mark_tells i tag mark is same told = told ∙ ap (λ mark. is_marked mark (entry_at m i)) same ∙ is_marked-pages_of i tag
 
-  numbered_pages : (q : ℕ) (page : Mapped) → finmap.get (pages_of m) q ≡ Some page → q < MAX_PAGES
-  numbered_pages q page at = let entry = entry_of m q page at in (each q entry.0 entry.1.0).numbered
+  pub numbered_pages : IsNumbered (pages_of m)
+  numbered_pages = record { each = λ q page at. let entry = entry_of m q page at in (each q entry.0 entry.1.0).numbered }
 
   pub few_pages : finmap.len (pages_of m) ≤ MAX_PAGES
-  few_pages = len-le MAX_PAGES (pages_of m) numbered_pages
+  few_pages = len-le MAX_PAGES (pages_of m) numbered_pages.each
 
   -- ---- searches
 

@@ -15,11 +15,11 @@ use Rattle.std.proofs.lemmas.List.Sums.{sum_by-cons, count_by-le-length}
 
 -- ---- tests
 
-both_true : (a b : Bool) → T (a && b) → T a × T b
+pub both_true : (a b : Bool) → T (a && b) → T a × T b
 both_true true b h = (tt, h)
 both_true false b h = absurd h
 
-both_join : (a b : Bool) → T a → T b → T (a && b)
+pub both_join : (a b : Bool) → T a → T b → T (a && b)
 both_join true b p q = q
 both_join false b p q = p
 
@@ -321,9 +321,9 @@ module _ {X : Type 0} where
       let after : bit (q (k, x)) ≡ 1 = ap bit passes in
       omega (arith, rest, before, after, count_remove p m k x some, count_remove q m k x some)
 
--- ---- each value of a map changed
+-- ---- a map made of its entries
 
-module _ {X Y : Type 0} (f : ℕ × X → Y) where
+module _ {Y : Type 0} where
   put_first : (k : ℕ) (v : Y) (es : List (ℕ × Y)) → T (below_all nat_cmp k es) → put nat_cmp k v es ≡ (k, v) ∷ es
   put_first k v [] h = refl
   put_first k v (y ∷ es) h = go (nat_cmp k y.0) (both_true _ _ h).0
@@ -333,12 +333,16 @@ module _ {X Y : Type 0} (f : ℕ × X → Y) where
       go Equal h = absurd h
       go Greater h = absurd h
 
-  entries-from_entries : (es : List (ℕ × Y)) → T (is_sorted nat_cmp es) → finmap.entries (from_entries {R = nat_cmp} es) ≡ es
+  -- entries in order are those of the map that they make
+  pub entries-from_entries : (es : List (ℕ × Y)) → T (is_sorted nat_cmp es) → finmap.entries (from_entries {R = nat_cmp} es) ≡ es
   entries-from_entries [] h = none_at_zero (finmap.entries (finmap.empty {X = Y} {R = nat_cmp})) (sym (len-entries (finmap.empty {X = Y} {R = nat_cmp})) ∙ len-empty nat_cmp Y)
   entries-from_entries (e ∷ es) h =
       let parts = both_true _ _ h in
       entries-insert nat_cmp_total (from_entries es) e.0 e.1 ∙ ap (put nat_cmp e.0 e.1) (entries-from_entries es parts.1) ∙ put_first e.0 e.1 es parts.0
 
+-- ---- each value of a map changed
+
+module _ {X Y : Type 0} (f : ℕ × X → Y) where
   abbrev pub each : List (ℕ × X) → List (ℕ × Y)
   each es = map (λ (e : ℕ × X). (e.0, f e)) es
 

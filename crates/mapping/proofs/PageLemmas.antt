@@ -3,10 +3,11 @@ use Rattle.std.proofs.Common.{◌≡◌, ℕ, ◌+◌, Bool, true, false, refl, 
 use Rattle.std.specs.Prelude.{Option, Some, None, option_map, unwrap_or}
 use Rattle.std.specs.FinMap as finmap
 use Rattle.std.proofs.lemmas.Bool.{cases_eq}
+use Rattle.std.proofs.lemmas.Option.{none-some}
 use Rattle.pc_types.specs.declared.tags.Tag.{Tag}
 use Rattle.pc_types.specs.declared.tags.Tag.TheVariants.{Dirty, Writeback, Towrite}
 use Rattle.pc_types.specs.Tags.{TagSet, has, put}
-use Rattle.mapping.specs.Pages.{Mapped, Pages, FilePages, with_tag, with_tags, put_some, change_at, count, has_at}
+use Rattle.mapping.specs.Pages.{Mapped, Pages, FilePages, frame_of, with_tag, with_tags, put_some, change_at, count, has_at}
 use Rattle.mapping.proofs.MapLemmas.{same_nat_map, get-insert_here, get-insert_there, insert_same, len_insert_old, count_insert, taken, bit}
 
 module _ (index : ℕ) (change : Mapped → Mapped) (pages : Pages) where
@@ -100,3 +101,8 @@ put_all index tags old one two three a b c x y z p q r =
     r ∙ ap (λ (f : FilePages). record f { pages = change_at index (with_tag Towrite c) f.pages }) (q ∙ ap (λ (f : FilePages). record f { pages = change_at index (with_tag Writeback b) f.pages }) p)
     ∙ (λ j. record old { pages = change_at index (with_tag Towrite (z j)) (change_at index (with_tag Writeback (y j)) (change_at index (with_tag Dirty (x j)) old.pages)) })
     ∙ ap (λ pages. record old { pages = pages }) (change_all index tags old.pages)
+
+-- where there is no frame there is no page
+pub none_framed : (o : Option Mapped) → None ≡ option_map frame_of o → o ≡ None
+none_framed None h = refl
+none_framed (Some page) h = absurd (none-some (frame_of page) h)

@@ -8,7 +8,7 @@ use Rattle.std.proofs.lemmas.Option.{none-some, same_Some}
 use Rattle.pc_types.specs.declared.tags.Tag.{Tag}
 use Rattle.pc_types.specs.Tags.{has}
 use Rattle.mapping.specs.declared.page.FoundPage.{FoundPage}
-use Rattle.mapping.specs.Pages.{Mapped, Pages, FilePages, with_tag, change_at, is_tagged, lowest, count, tag_if, tag_each}
+use Rattle.mapping.specs.Pages.{IsNumbered, Mapped, Pages, FilePages, with_tag, change_at, is_tagged, lowest, count, tag_if, tag_each}
 use Rattle.mapping.specs.Pages.{found as found_page}
 use Rattle.mapping.proofs.MapLemmas.{same_nat_map, get-each, count_same, count_none, count_one_more, found, found_lowest, found_none}
 use Rattle.mapping.proofs.PageLemmas.{change_here, change_there}
@@ -159,3 +159,11 @@ module _ (tag other : Tag) (from to : ℕ) (now : FilePages) (next : ℕ) (low :
   ends told =
       let miss = ap (λ pages. find (is_tagged tag next to) (finmap.entries pages)) (sym pages_are) ∙ found_nothing (find (is_tagged tag next to) (finmap.entries file.pages)) told in
       (is ∙ ap (λ pages. record now { pages = pages }) (end_pages tag other from to now.pages next low miss), end_count tag other from to now.pages next low miss)
+
+  -- the pages have the numbers that they had
+  pub were_numbered : IsNumbered file.pages → IsNumbered now.pages
+  were_numbered numbered = record {
+    each = λ p page at.
+        let test : ℕ × Mapped → Bool = before_next tag from to next in
+        numbered.each p (tag_if test other (p, page)) (ap (λ m. finmap.get m p) pages_are ∙ get-tag_each test other now.pages p ∙ ap (option_map (λ page. tag_if test other (p, page))) at);
+  }

@@ -1,6 +1,6 @@
 -- A file's cached pages: a finite map from page numbers to frames and tags. A page's frame holds its bytes. The tags are
 -- those of Linux's page cache (PAGECACHE_TAG_DIRTY, _WRITEBACK, _TOWRITE).
-use Rattle.std.specs.Prelude.{ℕ, Bool, true, false, unwrap_or, ◌&&◌, nat_le, if◌then◌else◌, map, find, count_by, Option, Some, None, option_map, refl}
+use Rattle.std.specs.Prelude.{◌≡◌, ℕ, ◌<◌, Bool, true, false, unwrap_or, ◌&&◌, nat_le, if◌then◌else◌, map, find, count_by, Option, Some, None, option_map, refl}
 use Rattle.std.specs.Ordering.{nat_cmp}
 use Rattle.std.specs.Coded.{Coded, coded_ℕ, coded_bool, coded×, code_by}
 use Rattle.std.specs.FinMap as map
@@ -9,6 +9,7 @@ use Rattle.pc_types.specs.declared.tags.Tag.TheVariants.{Dirty, Writeback, Towri
 use Rattle.pc_types.specs.Tags.{TagSet, no_tags, has, put}
 use Rattle.pc_types.specs.TagBits.{tag_set}
 use Rattle.pc_types.specs.declared.ids.FrameId.{FrameId}
+use Rattle.mapping.specs.declared.mapping.TheConstants.{MAX_PAGES}
 use Rattle.mapping.specs.declared.page.MappedPage.{MappedPage}
 use Rattle.mapping.specs.declared.page.FoundPage.{FoundPage}
 use Rattle.mapping.specs.declared.totals.Totals.{Totals}
@@ -26,6 +27,10 @@ Pages = map.FinMap nat_cmp Mapped
 pub record FilePages : Type 0 where
   pub size : ℕ
   pub pages : Pages
+
+-- the number of each page is below the most pages of a file
+pub record IsNumbered (pages : Pages) : Type 0 where
+  pub each : (p : ℕ) (page : Mapped) → map.get pages p ≡ Some page → p < MAX_PAGES
 
 abbrev pub tags_code : Coded TagSet
 tags_code = code_by (Bool × (Bool × Bool)) (coded× coded_bool (coded× coded_bool coded_bool)) (λ t. (t.dirty, (t.writeback, t.towrite))) (λ p. record { dirty = p.0; writeback = p.1.0; towrite = p.1.1 }) (λ _. refl)

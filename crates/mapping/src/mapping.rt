@@ -3,7 +3,7 @@
 ghost use Rattle.std.specs.Prelude.{◌≡◌, ◌+◌, ◌≤◌, ◌<◌, ◌^◌, ◌↔◌, true, false, nat_le, Some, None, Err, IfErr, IfSome, OnOk, OnErr, IsOk, IsOkUnless, IsSome, option_map};
 ghost use Rattle.std.specs.FinMap as map;
 ghost use Rattle.pc_types.specs.TagBits.{tag_set};
-ghost use Rattle.mapping.specs.Pages.{seen, frame_of, has_at, untagged, with_tag, with_tags, change_at, is_tagged, lowest, count, totals_of, tag_each};
+ghost use Rattle.mapping.specs.Pages.{IsNumbered, seen, frame_of, has_at, untagged, with_tag, with_tags, change_at, is_tagged, lowest, count, totals_of, tag_each};
 
 use crate::entry::{found_page, mark_of, tags_from};
 use crate::page::{FoundPage, MappedPage};
@@ -74,7 +74,7 @@ impl Mapping {
     pub fn page(&self, index: PageIndex) -> Option<MappedPage>
         ensures { option_map seen result ≡ map.get self.now.pages index.0 }
     {
-        let frame = FrameId(self.pages.load(index.0)? as u32);
+        let frame = self.frame(index)?;
         let dirty = self.pages.get_mark(index.0, Mark::M0);
         let writeback = self.pages.get_mark(index.0, Mark::M1);
         let towrite = self.pages.get_mark(index.0, Mark::M2);
@@ -82,6 +82,14 @@ impl Mapping {
             frame,
             tags: tags_from(dirty, writeback, towrite),
         })
+    }
+
+    /// The frame of the page at an index, where one is cached: one walk of the array, of the four that `page` takes.
+    pub fn frame(&self, index: PageIndex) -> Option<FrameId>
+        ensures { result ≡ option_map frame_of (map.get self.now.pages index.0) }
+    {
+        let frame = self.pages.load(index.0)? as u32;
+        Some(FrameId(frame))
     }
 
     /// Caches a page without tags.
@@ -179,6 +187,7 @@ impl Mapping {
     pub fn find_tagged(&self, from: PageIndex, to: PageIndex, tag: Tag) -> Option<FoundPage>
         ensures lowest { result ≡ lowest (is_tagged tag from.0 to.0) self.now.pages }
         ensures numbered { IfSome result (λ found. found.page.0 < MAX_PAGES) }
+        ensures below { IsNumbered self.now.pages }
     {
         let found = self.pages.find_marked(from.0, to.0, mark_of(tag))?;
         Some(found_page(found))
@@ -190,6 +199,7 @@ impl Mapping {
     pub fn retag(&mut self, from: PageIndex, to: PageIndex, tag: Tag, other: Tag) -> u64
         ensures count { result ≡ count (is_tagged tag from.0 to.0) self.old.pages }
         ensures retagged { self.new ≡ record self.old { pages = tag_each (is_tagged tag from.0 to.0) other self.old.pages } }
+        ensures below { IsNumbered self.old.pages }
     {
         let mut next = from;
         let mut tagged = 0;
@@ -205,6 +215,7 @@ impl Mapping {
     pub fn page_count(&self) -> u64
         ensures pages { result ≡ map.len self.now.pages }
         ensures most { result ≤ MAX_PAGES }
+        ensures below { IsNumbered self.now.pages }
     {
         self.page_count
     }

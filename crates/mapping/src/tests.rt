@@ -50,6 +50,8 @@ fn a_page_with_each_tag(rt: HostRuntime) -> Result<(), Fail> {
         tags: Tags::none().with(Tag::Dirty).with(Tag::Towrite),
     };
     assert_eq!(rt; mapping.page(page), Some(dirty));
+    assert_eq!(rt; mapping.frame(page), Some(FrameId(9)));
+    assert_eq!(rt; mapping.frame(PageIndex(4)), None);
     // a write of the page begins: one call clears DIRTY and TOWRITE and sets WRITEBACK
     mapping.set_tags(page, Tags::none().with(Tag::Writeback))?;
     assert_totals(&rt, &mapping, 0, 1, 0);

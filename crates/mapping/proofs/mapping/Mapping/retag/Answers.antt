@@ -1,5 +1,5 @@
 use Rattle.std.proofs.Common.{◌+◌, ◌≤◌, ap, sym, ◌∙◌, arith}
-use Rattle.mapping.proofs.RetagLemmas.{start_pages, start_count, step, ends}
+use Rattle.mapping.proofs.RetagLemmas.{start_pages, start_count, step, ends, were_numbered}
 use Rattle.mapping.proofs.mapping.Mapping.retag.Goals as goal
 
 pub loop-found-init : goal.loop-found-init
@@ -40,3 +40,8 @@ pub returns-clause-retagged : goal.returns-clause-retagged
 returns-clause-retagged c =
     let low : c.args.from.0 ≤ c.loop-found.next.0 = omega (arith, c.loop-found.invariant.low) in
     (ends c.args.tag c.args.other c.args.from.0 c.args.to.0 c.args.self.now c.loop-found.next.0 low c.loop-found.self c.loop-found.invariant.pages (sym c.in_default.is ∙ c.find_tagged.ensures.lowest)).0
+
+pub returns-clause-below : goal.returns-clause-below
+returns-clause-below c =
+    let low : c.args.from.0 ≤ c.loop-found.next.0 = omega (arith, c.loop-found.invariant.low) in
+    were_numbered c.args.tag c.args.other c.args.from.0 c.args.to.0 c.args.self.now c.loop-found.next.0 low c.loop-found.self c.loop-found.invariant.pages c.find_tagged.ensures.below
