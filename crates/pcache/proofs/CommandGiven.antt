@@ -39,6 +39,16 @@ pub given_error : {A E : Type 0} (r : Result A E) (e : E) → IsErrAnd r (λ x. 
 given_error (Ok x) e h = absurd h
 given_error (Err x) e h = ap Err h
 
+-- a fault of the output, as `?` gives it on
+pub output_fault : {A : Type 0} (before after : Option (List ℕ)) (r : Result A Stop) (stop : Stop) → r ≡ Err stop → stop ≡ Output → IfErr r (IsPrintFault before after)
+output_fault before after r stop e is = subst (λ r. IfErr r (IsPrintFault before after)) (sym (e ∙ ap Err is)) tt
+
+-- a `config` that is not the first command
+pub misplaced : (w : Option Held) (n p f d b : ℕ) (bytes : Option (List ℕ)) → is_some w ≡ true → CommandGives w n (command.Config p f d b) (Err (Malformed n)) bytes bytes
+misplaced None n p f d b bytes there = absurd (false≢true there)
+misplaced (Some w) n p f d b None there = (refl, tt, tt)
+misplaced (Some w) n p f d b (Some xs) there = (refl, tt, refl)
+
 pub configured : (n p f d b : ℕ) (before after : Option (List ℕ)) (r : Result Held Stop) (sizes : Result Sizes Refusal) → sizes ≡ sizes_of p f d b
     → IfOk r (λ w. w ≡ world_of_sizes (result_unwrap_or sizes default_sizes)) → OnOk r (Prints before after (config_text sizes)) → IfErr r (IsPrintFault before after)
     → CommandGives None n (command.Config p f d b) r before after

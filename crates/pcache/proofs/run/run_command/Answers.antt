@@ -1,6 +1,8 @@
-use Rattle.std.proofs.Common.{sym, subst, ap, ◌∙◌, None}
+use Rattle.std.proofs.Common.{sym, subst, ap, ◌∙◌, None, Err}
+use Rattle.pcache.specs.Answers.{IsPrintFault}
 use Rattle.pcache.specs.Runs.{CommandGives}
-use Rattle.pcache.proofs.CommandGiven.{fault_gives, given_error, no_world, geometry_made, configured}
+use Rattle.pcache.specs.declared.stop.Stop.TheVariants.{Malformed}
+use Rattle.pcache.proofs.CommandGiven.{fault_gives, given_error, no_world, geometry_made, configured, misplaced}
 use Rattle.pcache.proofs.run.run_command.Goals as goal
 
 pub returns-in_err-make_step-in-Step : goal.returns-in_err-make_step-in-Step
@@ -15,3 +17,14 @@ returns-else-is_some g c =
     let gives = configured c.args.number c.in-Config.page c.in-Config.frames c.in-Config.dirty_limit c.in-Config.blocks (g.W.Write.contents c.args.out.now) (g.W.Write.contents c.configure.new.out) c.configure.result c.new.result sizes c.configure.ensures.made c.configure.ensures.printed c.configure.ensures.fault in
     subst (λ w. CommandGives w c.args.number c.args.command c.configure.result (g.W.Write.contents c.args.out.now) (g.W.Write.contents c.configure.new.out)) (sym none)
     (subst (λ k. CommandGives None c.args.number k c.configure.result (g.W.Write.contents c.args.out.now) (g.W.Write.contents c.configure.new.out)) (sym c.in-Config.is) gives)
+
+pub returns-then-is_some : goal.returns-then-is_some
+returns-then-is_some g c =
+    let gives = misplaced c.args.world c.args.number c.in-Config.page c.in-Config.frames c.in-Config.dirty_limit c.in-Config.blocks (g.W.Write.contents c.args.out.now) (sym c.is_some.ensures ∙ c.if-is_some.true) in
+    subst (λ k. CommandGives c.args.world c.args.number k (Err (Malformed c.args.number)) (g.W.Write.contents c.args.out.now) (g.W.Write.contents c.args.out.now)) (sym c.in-Config.is) gives
+
+pub returns-in_err-tell_tags-in-Tags : goal.returns-in_err-tell_tags-in-Tags
+returns-in_err-tell_tags-in-Tags g c =
+    let fault = subst (IsPrintFault (g.W.Write.contents c.args.out.now) (g.W.Write.contents c.tell_tags.new.out)) (sym c.in_err-tell_tags-in-Tags.ensures.fault) tt in
+    let gives = fault_gives c.args.world c.args.number c.args.command (g.W.Write.contents c.args.out.now) (g.W.Write.contents c.tell_tags.new.out) c.in_err-tell_tags-in-Tags.field-0.0 fault in
+    subst (λ r. CommandGives c.args.world c.args.number c.args.command r (g.W.Write.contents c.args.out.now) (g.W.Write.contents c.tell_tags.new.out)) (sym (given_error _ _ c.from_residual-in_err-tell_tags-in-Tags.ensures.1)) gives
