@@ -7,7 +7,7 @@ ghost use Rattle.cachecore.specs.State.{dirty_total, free_frames, is_cached, pag
 ghost use Rattle.cachecore.specs.Tests.{room_tests};
 ghost use Rattle.cachecore.specs.Changes.{blank, put_page, written};
 ghost use Rattle.cachecore.specs.Step.{Step};
-ghost use Rattle.cachecore.specs.Replies.{created, opened, closed, sized, wrote, was_read, bytes_read, fill_begun, GivesBack, test_of, TagsAre};
+ghost use Rattle.cachecore.specs.Replies.{created, opened, closed, sized, wrote, was_read, bytes_read, fill_begun, GivesBack, IsFillJob, test_of, TagsAre};
 
 use crate::answers::{FillBegun, PageTags, ReadAnswer, Refused, WriteAnswer};
 use crate::blocks::{Owner, count_without_block, without_block};
@@ -221,6 +221,7 @@ impl CacheCore {
         requires { length buffer ≡ self.old.sizes.page }
         ensures step { Step self.old (Event.FillBegin handle page) (fill_begun result) self.new }
         ensures back { GivesBack buffer result }
+        ensures job { IsFillJob self.new result }
     {
         let Some(file) = self.handles.file(handle.0) else {
             let refusal = Refusal::BadHandle;
