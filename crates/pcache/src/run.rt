@@ -5,7 +5,8 @@ ghost use Rattle.std.specs.Io.KnownBytes.{Appends};
 ghost use Rattle.std.specs.Result.{result_unwrap_or};
 ghost use Rattle.pcache.specs.Answers.{IsPrintFault, Prints};
 ghost use Rattle.pcache.specs.Lines.{is_blank, lines_of};
-ghost use Rattle.pcache.specs.Runs.{CommandGives, Ends, EndsWith, LineGives, MakesStep, TellsTags, config_text, default_sizes, world_found, world_of_sizes};
+ghost use Rattle.pcache.specs.Runs.{CommandGives, Ends, EndsWith, FailsCall, LineGives, MakesStep, TellsTags, config_text, default_sizes, world_found, world_of_sizes};
+ghost use Rattle.pc_types.specs.Limits.{is_err_code};
 ghost use Rattle.pcache.specs.Stops.{IsStatus, message_of};
 
 use crate::answer::{flush, print_line, print_refusal, print_reply, print_tags};
@@ -13,8 +14,9 @@ use crate::command::Command;
 use crate::lines::{Fetched, Lines};
 use crate::stop::Stop;
 use crate::words::Fault;
-use blockdev::ScriptDevice;
-use pc_types::{FileId, Geometry, PageIndex, Refusal};
+use blockdev::{FaultEffect, ScriptDevice};
+use cachecore::Reply;
+use pc_types::{ErrCode, FileId, Geometry, PageIndex, Refusal, Serial};
 use std::alloc::Global;
 use std::io::{BufRead, Write};
 use world::{Step, World};
@@ -121,6 +123,11 @@ fn run_command<W: Write>(
             make_step(alloc, &mut world, &step, out)?;
             Ok(world)
         }
+        Command::Fail(serial, code, effect) => {
+            let mut world = found(alloc, world)?;
+            fail_call(&mut world, serial, code, effect, out)?;
+            Ok(world)
+        }
         Command::Tags(file, page) => {
             let world = found(alloc, world)?;
             tell_tags(&world, file, page, out)?;
@@ -196,8 +203,31 @@ fn make_step<W: Write>(
     ensures fault { IfErr result (IsPrintFault (W.contents out.old) (W.contents out.new)) }
 {
     let reply = world.step(step);
-    print_reply(alloc, out, &reply)?;
-    Ok(())
+    match (step, &reply) {
+        (Step::Call(_), Reply::Done) => print_line(out, "done"),
+        _ => print_reply(alloc, out, &reply),
+    }
+}
+
+/// Makes the device call of a request fail, and prints what came of it.
+fn fail_call<W: Write>(
+    world: &mut World<ScriptDevice>,
+    serial: Serial,
+    code: u16,
+    effect: FaultEffect,
+    out: &mut W,
+) -> Result<(), Stop>
+    ensures made { OnOk result ((printed : List ℕ) × FailsCall world.old serial.0 (is_err_code code) code effect printed world.new × Appends (W.contents out.old) (W.contents out.new) printed) }
+    ensures fault { IsOkUnless result Stop.Output }
+{
+    let failed = match ErrCode::new(code) {
+        Ok(code) => world.fail(serial, code, effect),
+        Err(refusal) => Err(refusal),
+    };
+    match failed {
+        Ok(()) => print_line(out, "failed"),
+        Err(refusal) => print_refusal(out, refusal),
+    }
 }
 
 /// Prints what is known of a page.
