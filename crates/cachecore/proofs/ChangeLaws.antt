@@ -89,7 +89,7 @@ or_cond : {A : Type 0} (b : Bool) (x : A) (o : Option A) → option_or (cond b (
 or_cond true x o = refl
 or_cond false x o = refl
 
-find_placed : (f g q : ℕ) (es : List (ℕ × ℕ)) → find place_cmp (g, q) (map (λ (e : ℕ × ℕ). ((f, e.0), new_spot e.1)) es) ≡ cond (eqb g f) (option_map (λ b. new_spot b) (find nat_cmp q es)) None
+pub find_placed : (f g q : ℕ) (es : List (ℕ × ℕ)) → find place_cmp (g, q) (map (λ (e : ℕ × ℕ). ((f, e.0), new_spot e.1)) es) ≡ cond (eqb g f) (option_map (λ b. new_spot b) (find nat_cmp q es)) None
 find_placed f g q [] = nothing (eqb g f)
   where
     nothing : (b : Bool) → ◌≡◌ {A = Option Spot} None (cond b None None)

@@ -50,6 +50,9 @@ get-remove_nat m t u = get-remove nat_cmp_total m t u ∙ ap (λ b. cond b None 
 pub get-insert_place : {X : Type 0} (m : FinMap place_cmp X) (f p : ℕ) (x : X) (g q : ℕ) → finmap.get (finmap.insert m (f, p) x) (g, q) ≡ cond (eqb g f && eqb q p) (Some x) (finmap.get m (g, q))
 get-insert_place m f p x g q = get-insert places_total m (f, p) x (g, q) ∙ ap (λ b. cond b (Some x) (finmap.get m (g, q))) (same_place g q f p)
 
+pub get-remove_place : {X : Type 0} (m : FinMap place_cmp X) (f p g q : ℕ) → finmap.get (finmap.remove m (f, p)) (g, q) ≡ cond (eqb g f && eqb q p) None (finmap.get m (g, q))
+get-remove_place m f p g q = get-remove places_total m (f, p) (g, q) ∙ ap (λ b. cond b None (finmap.get m (g, q))) (same_place g q f p)
+
 pub get-retain_nat : {X : Type 0} (m : FinMap nat_cmp X) (keep : ℕ → Bool) (q : ℕ) → finmap.get (finmap.retain_keys m keep) q ≡ cond (keep q) (finmap.get m q) None
 get-retain_nat m keep q = get-retain_keys m keep q (λ x e. ap keep (sym (nat_cmp-IsAntisymmetric q x e)))
 
@@ -97,6 +100,9 @@ none_at_zero : {A : Type 0} (es : List A) → length es ≡ 0 → es ≡ []
 none_at_zero [] e = refl
 none_at_zero (x ∷ es) e = absurd (omega arith)
 
+pub no_entries : {K X : Type 0} (R : K → K → Ordering) → finmap.entries (finmap.empty {X = X} {R = R}) ≡ []
+no_entries {X = X} R = none_at_zero _ (sym (len-entries (finmap.empty {X = X} {R = R})) ∙ len-empty R X)
+
 module _ {X : Type 0} where
   put_first : (k : ℕ) (v : X) (es : List (ℕ × X)) → T (below_all nat_cmp k es) → put nat_cmp k v es ≡ (k, v) ∷ es
   put_first k v [] h = refl
@@ -108,7 +114,7 @@ module _ {X : Type 0} where
       go Greater h = absurd h
 
   entries-from_entries : (es : List (ℕ × X)) → T (is_sorted nat_cmp es) → finmap.entries (from_entries {R = nat_cmp} es) ≡ es
-  entries-from_entries [] h = none_at_zero (finmap.entries (finmap.empty {X = X} {R = nat_cmp})) (sym (len-entries (finmap.empty {X = X} {R = nat_cmp})) ∙ len-empty nat_cmp X)
+  entries-from_entries [] h = no_entries nat_cmp
   entries-from_entries (e ∷ es) h =
       let parts = both_true _ _ h in
       entries-insert nat_cmp_total (from_entries es) e.0 e.1 ∙ ap (put nat_cmp e.0 e.1) (entries-from_entries es parts.1) ∙ put_first e.0 e.1 es parts.0

@@ -15,10 +15,10 @@ use Rattle.pc_types.specs.Tags.{no_tags}
 use Rattle.cachecore.specs.State.{File, Page, no_file, the_page}
 use Rattle.cachecore.specs.Changes.{blank, written_page}
 use Rattle.cachecore.specs.Pairs.{IsLaid, AreRead}
-use Rattle.cachecore.specs.Store.{Store, stored_at, stored_page, with_pages, AreMade}
+use Rattle.cachecore.specs.Store.{Store, stored_at, stored_page, is_awaited, with_pages, AreMade}
 use Rattle.cachecore.proofs.StateLaws.{get_or-set}
 use Rattle.cachecore.proofs.MapLaws.{get-insert_nat}
-use Rattle.cachecore.proofs.Counts.{taken_back}
+use Rattle.cachecore.proofs.StoreEntries.{taken_back}
 
 -- ---- a store with other pages of one file
 
@@ -35,13 +35,13 @@ module _ (s : Store) (f : ℕ) (here : f < length s.files) where
   with-with pages more free now =
       let all : slice_set (slice_set s.files f (record (stored_at s f) { pages = pages })) f (record (stored_at (with_pages s f pages free) f) { pages = more }) ≡ slice_set s.files f (record (stored_at s f) { pages = more }) =
       ap (λ (e : File). slice_set (slice_set s.files f (record (stored_at s f) { pages = pages })) f (record e { pages = more })) (stored-with pages free) ∙ set-set s.files f (record (stored_at s f) { pages = pages }) (record (stored_at s f) { pages = more }) in
-      λ i. record { page = s.page; files = all i; free = now }
+      λ i. record { page = s.page; files = all i; filling = s.filling; free = now }
 
 pub length-with : (s : Store) (f : ℕ) (pages : FinMap nat_cmp Page) (free : ℕ) → length (with_pages s f pages free).files ≡ length s.files
 length-with s f pages free = length-set s.files f (record (stored_at s f) { pages = pages })
 
 pub with-itself : (s : Store) (f : ℕ) → with_pages s f (stored_at s f).pages s.free ≡ s
-with-itself s f = let all = set-get_or s.files f no_file in λ i. record { page = s.page; files = all i; free = s.free }
+with-itself s f = let all = set-get_or s.files f no_file in λ i. record { page = s.page; files = all i; filling = s.filling; free = s.free }
 
 -- ---- counts
 
@@ -136,8 +136,8 @@ module _ (f first end : ℕ) (old : Store) (less : first < end) where
     pub mid_cached : is_some (stored_page mid f first) ≡ true
     mid_cached = ap is_some mid_first
 
-    pub mid_clean : (the_page (stored_at mid f).pages first).tags.dirty ≡ false
-    mid_clean = ap (λ (o : Option Page). (unwrap_or o (record { bytes = []; tags = no_tags })).tags.dirty) mid_first
+    pub mid_idle : (q : ℕ) → is_awaited mid f q ≡ is_awaited old f q
+    mid_idle q = ap (λ (s : Store). is_awaited s f q) is
 
     past_first : (q : ℕ) → first + 1 ≤ q → eqb q first ≡ false
     past_first q h = grind (arith, nat_tests)

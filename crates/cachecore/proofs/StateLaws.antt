@@ -51,7 +51,7 @@ neither true b c e n = absurd (let k = ap not e in cc)
 neither false true c e n = absurd (let k = ap not e in cc)
 neither false false c e n = (refl, refl)
 
-any_block : {A : Type 0} (block : A → ℕ) (b : ℕ) (xs : List A) → list_any (λ used. eqb used b) (map block xs) ≡ list_any (λ x. eqb (block x) b) xs
+pub any_block : {A : Type 0} (block : A → ℕ) (b : ℕ) (xs : List A) → list_any (λ used. eqb used b) (map block xs) ≡ list_any (λ x. eqb (block x) b) xs
 any_block block b [] = refl
 any_block block b (x ∷ xs) = ap (λ k. eqb (block x) b || k) (any_block block b xs)
 

@@ -13,11 +13,11 @@ use Rattle.cachecore.specs.declared.event.Event.{Event}
 use Rattle.cachecore.specs.declared.event.Event.TheVariants as event
 use Rattle.cachecore.specs.declared.event.Reply.{Reply}
 use Rattle.cachecore.specs.declared.event.Reply.TheVariants as reply
-use Rattle.cachecore.specs.State.{State, Page, Request, Sync, no_file, file_at, file_of, is_open, page_at, spot_at, is_written, is_idle, touched, without_block, free_blocks}
+use Rattle.cachecore.specs.State.{State, Page, Request, Sync, no_file, file_at, file_of, is_open, page_at, spot_at, is_written, is_idle}
 use Rattle.cachecore.specs.Changes.{put_file, put_page, drop_page, blank, ended, filling, started, after_write, set_written, failed_once, written, shrunk, sync_begun, flushes_of}
 use Rattle.cachecore.specs.Tests.{create_tests, open_tests, close_tests, size_tests, read_tests, write_tests, append_tests, truncate_tests, fill_begin_tests, end_tests, flush_begin_tests, flush_pick, evict_tests, sync_begin_tests, sync_tests, sync_drop_tests, sync_pick, start_tests, is_full}
 use Rattle.cachecore.specs.Step.{Step, Answers, CreateReply, OpenReply, CloseReply, ReadReply, WriteReply, TruncateReply, FillBeginReply, FillEndReply, FlushBeginReply, FlushEndReply, EvictReply, AgeReply, SyncBeginReply, SyncStepReply, SyncAwaits, SyncPicked, WaitsFor, SyncDropReply}
-use Rattle.cachecore.proofs.Choices.{answered, if_none, first_passed, may_fill, may_write, and_true, and_false, not_true, none_of}
+use Rattle.cachecore.proofs.Choices.{MayFill, MayWrite, answered, if_none, first_passed, may_fill, may_write, and_true, and_false, not_true, none_of}
 use Rattle.cachecore.proofs.Found.{found}
 
 -- after an event that is no step and no begin of a sync
@@ -26,11 +26,11 @@ pub record Cases (s : State) (Q : State → Type 0) : Type 0 where
   pub create : Q (record s { files = s.files ++ no_file ∷ [] })
   pub opens : (h f : ℕ) → is_open s h ≡ false → f < length s.files → Q (record s { handles = finmap.insert s.handles h f })
   pub closes : (h : ℕ) → list_any (λ (sync : Sync). eqb sync.handle h) (finmap.values s.syncs) ≡ false → Q (record s { handles = finmap.remove s.handles h })
-  pub writes : (h o : ℕ) (b : List ℕ) → is_open s h ≡ true → length (without_block s (file_of s h) (touched s.sizes.page o (length b))) ≤ length (free_blocks s) → Q (written s (file_of s h) o b)
+  pub writes : (h o : ℕ) (b : List ℕ) → MayWrite s h o (length b) → Q (written s (file_of s h) o b)
   pub shrinks : (h z : ℕ) → is_open s h ≡ true → z < (file_at s (file_of s h)).size → Q (shrunk s (file_of s h) z)
   pub grows : (h z : ℕ) → is_open s h ≡ true → (file_at s (file_of s h)).size ≤ z → Q (put_file s (file_of s h) (record (file_at s (file_of s h)) { size = z }))
-  pub makes_zeros : (h p : ℕ) → is_open s h ≡ true → Q (put_page s (file_of s h) p (blank s.sizes.page))
-  pub fills : (h p : ℕ) → is_open s h ≡ true → is_full s ≡ false → Q (filling s (file_of s h) p)
+  pub makes_zeros : (h p : ℕ) → MayFill s h p → Q (put_page s (file_of s h) p (blank s.sizes.page))
+  pub fills : (h p : ℕ) → MayFill s h p → is_written (spot_at s (file_of s h) p) ≡ true → is_full s ≡ false → Q (filling s (file_of s h) p)
   pub ends : (t : ℕ) → Q (ended s t)
   pub filled : (t : ℕ) (r : Request) (bytes : List ℕ) → finmap.get s.requests t ≡ Some r → r.dropped ≡ false → Q (put_page (ended s t) r.file r.page (record { bytes = bytes; tags = no_tags }))
   pub flushes : (f p : ℕ) (page : Page) → page_at s f p ≡ Some page → page.tags.dirty ≡ true → page.tags.writeback ≡ false → is_full s ≡ false → Q (started s f p page)
@@ -47,7 +47,7 @@ AwaitsNow s sync ts = (sync.awaited ≡ Some ts) ⊎ ((sync.awaited ≡ None) ×
 pub record SyncCases (s : State) (Q : State → Type 0) : Type 0 where
   pub begins : (h n : ℕ) → is_open s h ≡ true → finmap.get s.syncs n ≡ None → Q (sync_begun s h (file_of s h) n)
   pub awaits : (n : ℕ) (sync : Sync) (ts : List ℕ) → finmap.get s.syncs n ≡ Some sync → AwaitsNow s sync ts → Q (record s { syncs = finmap.insert s.syncs n (record sync { awaited = Some ts }) })
-  pub starts : (n : ℕ) (sync : Sync) (e : ℕ × Page) → finmap.get s.syncs n ≡ Some sync → sync.awaited ≡ None → sync_pick (file_at s (file_of s sync.handle)) sync.last ≡ Some e → is_full s ≡ false → Q (record (started s (file_of s sync.handle) e.0 e.1) { syncs = finmap.insert s.syncs n (record sync { last = Some e.0 }) })
+  pub starts : (n : ℕ) (sync : Sync) (e : ℕ × Page) → finmap.get s.syncs n ≡ Some sync → sync.awaited ≡ None → sync_pick (file_at s (file_of s sync.handle)) sync.last ≡ Some e → e.1.tags.writeback ≡ false → is_full s ≡ false → Q (record (started s (file_of s sync.handle) e.0 e.1) { syncs = finmap.insert s.syncs n (record sync { last = Some e.0 }) })
 
 abbrev pub not_of_sync : Event → Bool
 not_of_sync (event.SyncBegin h) = false
@@ -99,7 +99,7 @@ module _ (s : State) (Q : State → Type 0) (c : Cases s Q) where
   reads f o n _ new e = absurd e
 
   writes : (h o : ℕ) (b : List ℕ) (r : Reply) (new : State) → write_tests s h o (length b) ≡ None → WriteReply s (file_of s h) o b r new → Q new
-  writes h o b (reply.Wrote n end) new t e = let may = may_write s h o (length b) t in to new _ (c.writes h o b may.opened may.room) e.2
+  writes h o b (reply.Wrote n end) new t e = to new _ (c.writes h o b (may_write s h o (length b) t)) e.2
   writes h o b (reply.Refused Memory) new t e = to new s c.same e
   writes h o b _ new t e = absurd e
 
@@ -111,8 +111,8 @@ module _ (s : State) (Q : State → Type 0) (c : Cases s Q) where
   truncates h z _ new opened e = absurd e
 
   fill_begins : (h p : ℕ) (r : Reply) (new : State) → fill_begin_tests s h p ≡ None → FillBeginReply s (file_of s h) p r new → Q new
-  fill_begins h p reply.Filled new t e = to new _ (c.makes_zeros h p (may_fill s h p t).opened) e.1
-  fill_begins h p (reply.Job t') new t e = let may = may_fill s h p t in to new _ (c.fills h p may.opened (and_false (is_written (spot_at s (file_of s h) p)) (is_full s) may.room e.0)) e.2
+  fill_begins h p reply.Filled new t e = to new _ (c.makes_zeros h p (may_fill s h p t)) e.1
+  fill_begins h p (reply.Job t') new t e = let may = may_fill s h p t in to new _ (c.fills h p may e.0 (and_false (is_written (spot_at s (file_of s h) p)) (is_full s) may.room e.0)) e.2
   fill_begins h p (reply.Refused Memory) new t e = to new s c.same e
   fill_begins h p _ new t e = absurd e
 
@@ -180,7 +180,7 @@ module _ (s : State) (Q : State → Type 0) (c : Cases s Q) where
     waits n sync ts _ new is how e = absurd e
 
     starts : (n : ℕ) (sync : Sync) (o : Option (ℕ × Page)) (r : Reply) (new : State) → finmap.get s.syncs n ≡ Some sync → sync.awaited ≡ None → sync_pick (file_at s (file_of s sync.handle)) sync.last ≡ o → start_tests s o ≡ None → SyncPicked s n sync o r new → Q new
-    starts n sync (Some e) (reply.Job t) new is none pick tests h = to new _ (d.starts n sync e is none pick (if_none (is_full s) _ _ (if_none e.1.tags.writeback _ _ tests).1).0) h.1
+    starts n sync (Some e) (reply.Job t) new is none pick tests h = let idle = if_none e.1.tags.writeback _ _ tests in to new _ (d.starts n sync e is none pick idle.0 (if_none (is_full s) _ _ idle.1).0) h.1
     starts n sync None r new is none pick tests h = waits n sync (flushes_of s (file_of s sync.handle)) r new is (inr (none, pick, refl)) h
     starts n sync (Some e) _ new is none pick tests h = absurd h
 

@@ -9,7 +9,7 @@ use Rattle.std.proofs.lemmas.List.{set-set}
 use Rattle.cachecore.specs.State.{File, no_file, touched_count}
 use Rattle.cachecore.specs.Changes.{blank}
 use Rattle.cachecore.specs.Pairs.{AreCached, AreSized, IsLaid}
-use Rattle.cachecore.specs.Store.{Store, stored_at, stored_page, with_pages, AreMade}
+use Rattle.cachecore.specs.Store.{Store, stored_at, stored_page, is_awaited, with_pages, AreMade}
 use Rattle.cachecore.proofs.StateLaws.{get_or-set}
 use Rattle.cachecore.proofs.RangeLemmas.{stored-with, length-with}
 use Rattle.cachecore.proofs.WriteLemmas.{WriteParts, sized_cover}
@@ -98,3 +98,6 @@ module _ (P o : ℕ) (b : List ℕ) (f n : ℕ) (old made laid final : Store) (w
 
   pub final_page : final.page ≡ old.page
   final_page = ap (λ (s : Store). s.page) w.grown ∙ ap (λ (s : Store). s.page) w.rest ∙ made_size f (o / P) ((o + length b - 1) / P + 1) old made w.cover
+
+  pub final_idle : (g q : ℕ) → is_awaited final g q ≡ is_awaited old g q
+  final_idle g q = ap (λ (s : Store). is_awaited s g q) w.grown ∙ ap (λ (s : Store). is_awaited s g q) w.rest ∙ ap (λ (s : Store). is_awaited s g q) w.cover.rest

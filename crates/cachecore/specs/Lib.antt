@@ -1,9 +1,13 @@
 pub mod Bare
 pub mod Changes
 pub mod Codes
-pub mod Pairs
+pub mod Flying
 pub mod Handles
+pub mod Holding
+pub mod Pairs
+pub mod Placing
 pub mod Replies
+pub mod Sound
 pub mod State
 pub mod Step
 pub mod Store

@@ -3,22 +3,24 @@
 ghost use Rattle.std.specs.Prelude.{◌≡◌, ◌≢◌, ◌+◌, ◌-◌, ◌*◌, ◌/◌, ◌^◌, ◌<◌, ◌≤◌, ℕ, [], Option, IfOk, IfSome, IsOkUnless, OnOk, OnErr, length, drop, true, false, is_some, None, nat_lt, ◌&&◌};
 ghost use Rattle.std.specs.FinMap as map;
 ghost use Rattle.mapping.specs.declared.mapping.TheConstants.{MAX_PAGES};
-ghost use Rattle.cachecore.specs.State.{dirty_total, free_frames, is_cached, page_count, touched_count};
-ghost use Rattle.cachecore.specs.Tests.{room_tests};
-ghost use Rattle.cachecore.specs.Changes.{blank, put_page, written};
+ghost use Rattle.cachecore.specs.State.{dirty_total, file_of, is_filling, page_count, touched_count};
+ghost use Rattle.cachecore.specs.Tests.{must_fill, room_tests, write_stop, write_tests};
+ghost use Rattle.cachecore.specs.Changes.{written};
 ghost use Rattle.cachecore.specs.Step.{Step};
 ghost use Rattle.cachecore.specs.Replies.{created, opened, closed, sized, wrote, was_read, bytes_read, fill_begun, GivesBack, test_of, TagsAre};
 
 use crate::answers::{FillBegun, PageTags, ReadAnswer, Refused, WriteAnswer};
-use crate::blocks::{Owner, count_without_block, without_block};
 use crate::event::Event;
 use crate::handles::Handles;
 use crate::pages::Pages;
+use crate::placing::{count_without_block, place};
 use blockdev::Buffer;
+use blockmap::BlockMap;
 use pc_types::limits::{MAX_FILE_SIZE, MAX_FILES, MAX_HANDLES, MAX_PAGE_SIZE, MAX_TOUCHED};
 use pc_types::{FileId, Geometry, HandleId, PageIndex, Refusal};
 use std::alloc::{AllocError, Global};
 use std::marker::Model;
+use writeback::Requests;
 
 /// The state of a cache.
 #[derive(Drop)]
@@ -27,8 +29,8 @@ pub struct CacheCore {
     name: u64,
     pages: Pages,
     handles: Handles,
-    // the page of each block in use, by the block's number
-    owners: Vec<Owner>,
+    blocks: BlockMap,
+    requests: Requests,
     alloc: Global,
 }
 
@@ -41,9 +43,9 @@ impl Model for CacheCore {
 
     ghost coded = { state_code };
 
-    ghost view = { λ a. state_of a.geometry a.name a.pages.files a.handles a.owners.items };
+    ghost view = { λ a. state_of a.geometry a.name a.pages.files a.handles a.blocks a.requests };
 
-    ghost invariant = { λ a. IsCore a.geometry a.pages a.handles a.owners.items };
+    ghost invariant = { λ a. IsCore (state_of a.geometry a.name a.pages.files a.handles a.blocks a.requests) a.pages a.blocks };
 }
 
 impl CacheCore {
@@ -58,7 +60,8 @@ impl CacheCore {
             name,
             pages: Pages::new(alloc, geometry, MAX_FILES as usize)?,
             handles: Handles::new(alloc),
-            owners: Vec::new(alloc),
+            blocks: BlockMap::new(alloc, geometry.blocks()),
+            requests: Requests::new(),
             alloc,
         })
     }
@@ -130,6 +133,7 @@ impl CacheCore {
         }
         match self.pages.tags(file.0, page.0) {
             Some(tags) => Ok(PageTags::Cached(tags)),
+            None if self.is_filling(file.0, page.0) => Ok(PageTags::Filling),
             None => Ok(PageTags::Absent),
         }
     }
@@ -161,6 +165,9 @@ impl CacheCore {
         let first = offset / page_size;
         let end = (offset + count - 1) / page_size + 1;
         if let Some(page) = self.pages.first_absent(file, first, end) {
+            if self.is_filling(file, page) {
+                return Ok(ReadAnswer::Wait(PageIndex(page)));
+            }
             return Ok(ReadAnswer::Miss(PageIndex(page)));
         }
         self.pages
@@ -193,6 +200,12 @@ impl CacheCore {
         let end = offset.saturating_add(count);
         if end > MAX_FILE_SIZE {
             return Err(Refusal::TooLarge);
+        }
+        if let Some(page) = self.write_stop(file, offset, count) {
+            if self.is_filling(file, page) {
+                return Ok(WriteAnswer::Wait(PageIndex(page)));
+            }
+            return Ok(WriteAnswer::Miss(PageIndex(page)));
         }
         self.check_room(file, offset, count)?;
         self.write_pages(file, offset, bytes)?;
@@ -229,6 +242,9 @@ impl CacheCore {
         if page.0 >= page_count(self.geometry.page(), self.pages.size(file)) {
             return Ok(FillBegun::Gone(buffer));
         }
+        if self.is_filling(file, page.0) {
+            return Ok(FillBegun::Wait(page, buffer));
+        }
         if self.pages.is_cached(file, page.0) {
             return Ok(FillBegun::Present(buffer));
         }
@@ -236,23 +252,51 @@ impl CacheCore {
             let refusal = Refusal::NoFrame;
             return Err(Refused { refusal, buffer });
         }
-        if self.make_blank(file, page.0).is_err() {
+        if self.pages.make(file, page.0).is_err() {
             let refusal = Refusal::Memory;
             return Err(Refused { refusal, buffer });
         }
         Ok(FillBegun::Filled(buffer))
     }
 
-    /// Makes an absent page of a file as a page of zeros.
-    fn make_blank(&mut self, file: u64, page: u64) -> Result<(), AllocError>
-        requires here { file < length self.old.files }
-        requires below { page < MAX_PAGES }
-        requires absent { is_cached self.old file page ≡ false }
-        requires room { 0 < free_frames self.old }
-        ensures ok { OnOk result (self.new ≡ put_page self.old file page (blank self.old.sizes.page)) }
-        ensures err { OnErr result (self.new ≡ self.old) }
+    /// Whether a fill of the page is in flight.
+    fn is_filling(&self, file: u64, page: u64) -> bool
+        ensures { result ≡ is_filling self.now file page }
     {
-        self.pages.make(file, page)
+        self.requests.is_filling(FileId(file), PageIndex(page))
+    }
+
+    /// Whether the page's bytes are on the device alone.
+    fn must_fill(&self, file: u64, page: u64) -> bool
+        requires here { file < length self.now.files }
+        requires below { page < MAX_PAGES }
+        ensures { result ≡ must_fill self.now file page }
+    {
+        match self.blocks.map(FileId(file), PageIndex(page)) {
+            Some(placed) => placed.is_written && !self.pages.is_cached(file, page),
+            None => false,
+        }
+    }
+
+    /// The first page that stops a write which touches it: it is filling, or its bytes are on the device alone and are not
+    /// all written over.
+    fn write_stop(&self, file: u64, offset: u64, count: u64) -> Option<u64>
+        requires here { file < length self.now.files }
+        requires some { 0 < count }
+        requires bound { offset + count ≤ MAX_FILE_SIZE }
+        ensures { result ≡ write_stop self.now file offset count }
+    {
+        let page_size = self.geometry.page();
+        let first = offset / page_size;
+        let end = (offset + count - 1) / page_size + 1;
+        for page in first..end {
+            let start = page * page_size;
+            let is_covered = offset <= start && start + page_size <= offset + count;
+            if self.is_filling(file, page) || !is_covered && self.must_fill(file, page) {
+                return Some(page);
+            }
+        }
+        None
     }
 
     /// Whether the pages that a write touches may become dirty, and there are frames and blocks for those that need one.
@@ -272,8 +316,7 @@ impl CacheCore {
         if self.pages.free_frames() < self.pages.absent_pages(file, first, end) as u64 {
             return Err(Refusal::NoFrame);
         }
-        let free_blocks = self.geometry.blocks() - self.owners.len() as u64;
-        if free_blocks < count_without_block(&self.owners, file, first, end) as u64 {
+        if self.blocks.free_count() < count_without_block(&self.blocks, file, first, end) {
             return Err(Refusal::NoSpace);
         }
         Ok(())
@@ -288,14 +331,14 @@ impl CacheCore {
         dirtied > 0 && self.pages.dirty_total() + dirtied > self.geometry.dirty_limit()
     }
 
-    /// Writes the bytes into a file, which may be made longer. The tests have passed. All that may fail is done before
-    /// the first change: a write is done whole or not at all.
+    /// Writes the bytes into a file, which may be made longer. The tests have passed. The blocks and frames are taken
+    /// first, which is all that may fail: a write is done whole or not at all.
     fn write_pages(&mut self, file: u64, offset: u64, bytes: &[u8]) -> Result<(), AllocError>
         requires here { file < length self.old.files }
         requires some { 0 < length bytes.now }
         requires bound { offset + length bytes.now ≤ MAX_FILE_SIZE }
         requires few { touched_count self.old.sizes.page offset (length bytes.now) ≤ MAX_TOUCHED }
-        requires room { room_tests self.old file offset (length bytes.now) ≡ None }
+        requires passed { (h : ℕ) × (file_of self.old h ≡ file) × (write_tests self.old h offset (length bytes.now) ≡ None) }
         ensures ok { OnOk result (self.new ≡ written self.old file offset bytes.now) }
         ensures err { OnErr result (self.new ≡ self.old) }
     {
@@ -303,15 +346,20 @@ impl CacheCore {
         let end = offset + bytes.len() as u64;
         let first_page = offset / page_size;
         let end_page = (end - 1) / page_size + 1;
-        let mut taken = without_block(self.alloc, &self.owners, file, first_page, end_page)?;
-        self.owners.reserve(taken.len())?;
         let cached = self.pages.which_cached(file, first_page, end_page);
-        self.pages.cover(file, first_page, end_page)?;
+        place(
+            &mut self.pages,
+            &mut self.blocks,
+            file,
+            first_page,
+            first_page,
+            end_page,
+        )?;
         self.pages.access_cached(file, first_page, &cached);
         self.pages.write(file, page_size, offset, bytes);
         let size = self.pages.size(file).max(end);
         self.pages.set_size(file, size);
-        self.owners.append(&mut taken)
+        Ok(())
     }
 }
 

@@ -1,15 +1,15 @@
 //! A file as the pages' store keeps it.
 
-ghost use Rattle.std.specs.Prelude.{◌≡◌, ◌-◌, ◌≤◌, ◌^◌, find, not, is_some, count_by};
+ghost use Rattle.std.specs.Prelude.{◌≡◌, ◌-◌, ◌≤◌, ◌^◌, false, find, not, slice_index_or, count_by};
 ghost use Rattle.std.specs.List.{range_with_len};
 ghost use Rattle.std.specs.FinMap as map;
 ghost use Rattle.pc_types.specs.declared.tags.Tag.TheVariants.{Dirty};
 ghost use Rattle.mapping.specs.Pages.{has_at};
-ghost use Rattle.cachecore.specs.Store.{none_kept};
+ghost use Rattle.cachecore.specs.Store.{none_kept, has_page};
 
 use mapping::Mapping;
 use pc_types::limits::MAX_TOUCHED;
-use pc_types::{PageIndex, Tag};
+use pc_types::{FrameId, PageIndex, Tag};
 use std::alloc::Global;
 
 /// A file's pages, how many writes of it failed, and the code of the last.
@@ -32,10 +32,14 @@ impl KeptFile {
         }
     }
 
-    pub fn is_cached(&self, page: u64) -> bool
-        ensures { result ≡ is_some (map.get self.now.mapping.pages page) }
+    /// Whether the page has an entry, and its frame has the page's bytes.
+    pub fn is_cached(&self, uptodate: &[bool], page: u64) -> bool
+        ensures { result ≡ has_page uptodate.now (map.get self.now.mapping.pages page) }
     {
-        self.mapping.page(PageIndex(page)).is_some()
+        match self.mapping.page(PageIndex(page)) {
+            Some(mapped) => is_uptodate(uptodate, mapped.frame),
+            None => false,
+        }
     }
 
     pub fn is_dirty(&self, page: u64) -> bool
@@ -45,22 +49,22 @@ impl KeptFile {
     }
 
     /// The first page from `first` up to `end` that is not cached.
-    pub fn first_absent(&self, first: u64, end: u64) -> Option<u64>
+    pub fn first_absent(&self, uptodate: &[bool], first: u64, end: u64) -> Option<u64>
         requires order { first ≤ end }
         requires bound { end ≤ 2 ^ 63 }
-        ensures { result ≡ find (λ p. not (is_some (map.get self.now.mapping.pages p))) (range_with_len first (end - first)) }
+        ensures { result ≡ find (λ p. not (has_page uptodate.now (map.get self.now.mapping.pages p))) (range_with_len first (end - first)) }
     {
-        (first..end).find(|p| !self.is_cached(*p))
+        (first..end).find(|p| !self.is_cached(uptodate, *p))
     }
 
     /// How many pages from `first` up to `end` are not cached.
-    pub fn absent_pages(&self, first: u64, end: u64) -> usize
+    pub fn absent_pages(&self, uptodate: &[bool], first: u64, end: u64) -> usize
         requires order { first ≤ end }
         requires few { end - first ≤ MAX_TOUCHED }
         requires bound { end ≤ 2 ^ 63 }
-        ensures { result ≡ count_by (λ p. not (is_some (map.get self.now.mapping.pages p))) (range_with_len first (end - first)) }
+        ensures { result ≡ count_by (λ p. not (has_page uptodate.now (map.get self.now.mapping.pages p))) (range_with_len first (end - first)) }
     {
-        (first..end).filter(|p| !self.is_cached(*p)).count()
+        (first..end).filter(|p| !self.is_cached(uptodate, *p)).count()
     }
 
     /// How many pages from `first` up to `end` are not DIRTY.
@@ -72,4 +76,12 @@ impl KeptFile {
     {
         (first..end).filter(|p| !self.is_dirty(*p)).count()
     }
+}
+
+/// Whether a frame has its page's bytes, by the flags of all frames.
+pub fn is_uptodate(uptodate: &[bool], frame: FrameId) -> bool
+    ensures { result ≡ slice_index_or uptodate.now frame.0 false }
+{
+    let at = frame.0 as usize;
+    at < uptodate.len() && uptodate[at]
 }

@@ -1,16 +1,17 @@
 //! The pages of all files: each in a frame of its own, by its file's mapping.
 
-ghost use Rattle.std.specs.Prelude.{◌≡◌, ℕ, ◌+◌, ◌-◌, ◌<◌, ◌≤◌, ◌^◌, ◌++◌, IfOk, OnOk, OnErr, length, true, false, not, is_some, option_map, find, count_by, slice_set, slice_range, take, drop, sum_by, [], ◌∷◌, IsOkUnless, None};
+ghost use Rattle.std.specs.Prelude.{◌≡◌, ℕ, ◌+◌, ◌-◌, ◌<◌, ◌≤◌, ◌^◌, ◌++◌, IfOk, OnOk, OnErr, length, true, false, not, is_some, option_map, find, count_by, slice_set, slice_range, take, drop, sum_by, [], ◌∷◌, IsOkUnless, Some, None, cond, ◌||◌};
 ghost use Rattle.std.specs.List.{range_with_len};
 ghost use Rattle.std.specs.FinMap as map;
+ghost use Rattle.std.specs.FinSet as set;
 ghost use Rattle.mapping.specs.declared.mapping.TheConstants.{MAX_PAGES};
 ghost use Rattle.pc_types.specs.TagBits.{tag_set};
 ghost use Rattle.cachecore.specs.State.{no_file, dirty_in, the_page, tagged};
 ghost use Rattle.cachecore.specs.Changes.{blank};
 ghost use Rattle.cachecore.specs.Pairs.{with_part};
-ghost use Rattle.cachecore.specs.Store.{Store, stored_at, stored_page, with_pages};
+ghost use Rattle.cachecore.specs.Store.{Store, stored_at, stored_page, is_awaited, with_pages, with_entry};
 
-use crate::kept::KeptFile;
+use crate::kept::{KeptFile, is_uptodate};
 use frames::Frames;
 use pc_types::limits::{MAX_FRAMES, MAX_TOUCHED};
 use pc_types::{FileId, Geometry, PageIndex, Refusal, Tag, Tags};
@@ -21,6 +22,8 @@ use std::marker::Model;
 #[derive(Drop)]
 pub struct Pages {
     frames: Frames,
+    // whether each frame has its page's bytes (PG_uptodate). A page whose frame does not have them is filling
+    uptodate: Vec<bool>,
     files: Vec<KeptFile>,
     // how many pages of all files are DIRTY
     dirty: u64,
@@ -33,21 +36,22 @@ impl Model for Pages {
 
     ghost coded = { store_code };
 
-    ghost view = { λ a. store_of a.frames a.files.items };
+    ghost view = { λ a. store_of a.frames a.uptodate.items a.files.items };
 
-    ghost invariant = { λ a. IsStore a.frames a.files.items a.dirty };
+    ghost invariant = { λ a. IsStore a.frames a.uptodate.items a.files.items a.dirty };
 }
 
 impl Pages {
     /// No files, with room for so many, and all frames free.
     pub fn new(alloc: Global, geometry: &Geometry, files: usize) -> Result<Pages, Refusal>
-        ensures empty { IfOk result (λ s. s ≡ record { page = geometry.now.page; files = []; free = geometry.now.frames }) }
+        ensures empty { IfOk result (λ s. s ≡ record { page = geometry.now.page; files = []; filling = set.empty; free = geometry.now.frames }) }
         ensures refused { IsOkUnless result Refusal.Memory }
         ensures few { geometry.now.frames ≤ MAX_FRAMES }
     {
         prove!(geometry.frames() <= MAX_FRAMES);
         Ok(Pages {
             frames: Frames::new(alloc, geometry)?,
+            uptodate: vec![in alloc; false; geometry.frames() as usize]?,
             files: Vec::with_capacity(alloc, files)?,
             dirty: 0,
         })
@@ -103,6 +107,9 @@ impl Pages {
         ensures { option_map tag_set result ≡ option_map (λ p. p.tags) (stored_page self.now file page) }
     {
         let mapped = self.files[file as usize].mapping.page(PageIndex(page))?;
+        if !is_uptodate(&self.uptodate, mapped.frame) {
+            return None;
+        }
         Some(mapped.tags)
     }
 
@@ -110,7 +117,7 @@ impl Pages {
         requires { file < length self.now.files }
         ensures { result ≡ is_some (stored_page self.now file page) }
     {
-        self.files[file as usize].is_cached(page)
+        self.files[file as usize].is_cached(&self.uptodate, page)
     }
 
     /// The first page from `first` up to `end` that is not cached.
@@ -120,7 +127,7 @@ impl Pages {
         requires bound { end ≤ 2 ^ 63 }
         ensures { result ≡ find (λ p. not (is_some (stored_page self.now file p))) (range_with_len first (end - first)) }
     {
-        self.files[file as usize].first_absent(first, end)
+        self.files[file as usize].first_absent(&self.uptodate, first, end)
     }
 
     /// How many pages from `first` up to `end` are not cached.
@@ -131,7 +138,7 @@ impl Pages {
         requires bound { end ≤ 2 ^ 63 }
         ensures { result ≡ count_by (λ p. not (is_some (stored_page self.now file p))) (range_with_len first (end - first)) }
     {
-        self.files[file as usize].absent_pages(first, end)
+        self.files[file as usize].absent_pages(&self.uptodate, first, end)
     }
 
     /// How many pages from `first` up to `end` are not DIRTY.
@@ -150,8 +157,31 @@ impl Pages {
         requires here { file < length self.old.files }
         requires below { page < MAX_PAGES }
         requires absent { stored_page self.old file page ≡ None }
+        requires idle { is_awaited self.old file page ≡ false }
         requires room { 0 < self.old.free }
         ensures ok { OnOk result (self.new ≡ with_pages self.old file (map.insert (stored_at self.old file).pages page (blank self.old.page)) (self.old.free - 1)) }
+        ensures err { OnErr result (self.new ≡ self.old) }
+    {
+        self.enter(file, page, true)
+    }
+
+    /// Takes a cached page away.
+    pub fn remove(&mut self, file: u64, page: u64)
+        requires here { file < length self.old.files }
+        requires cached { is_some (stored_page self.old file page) ≡ true }
+        ensures { self.new ≡ with_pages self.old file (map.remove (stored_at self.old file).pages page) (self.old.free + 1) }
+    {
+        self.leave(file, page);
+    }
+
+    /// Gives an absent page an entry and a frame of zeros, which are the page's bytes or are yet to be filled.
+    pub fn enter(&mut self, file: u64, page: u64, uptodate: bool) -> Result<(), AllocError>
+        requires here { file < length self.old.files }
+        requires below { page < MAX_PAGES }
+        requires absent { stored_page self.old file page ≡ None }
+        requires idle { is_awaited self.old file page ≡ false }
+        requires room { 0 < self.old.free }
+        ensures ok { OnOk result (self.new ≡ with_entry self.old file page (cond uptodate (Some (blank self.old.page)) None) (not uptodate) (self.old.free - 1)) }
         ensures err { OnErr result (self.new ≡ self.old) }
     {
         let Ok(frame) = self.frames.take(FileId(file), PageIndex(page)) else {
@@ -162,21 +192,24 @@ impl Pages {
             self.frames.give(frame);
             return Err(AllocError);
         }
+        self.uptodate[frame.0 as usize] = uptodate;
         Ok(())
     }
 
-    /// Takes a page that is cached and not DIRTY away.
-    pub fn remove(&mut self, file: u64, page: u64)
+    /// Takes the entry of a page that is cached or filling away, and frees its frame.
+    pub fn leave(&mut self, file: u64, page: u64)
         requires here { file < length self.old.files }
-        requires cached { is_some (stored_page self.old file page) ≡ true }
-        requires clean { (the_page (stored_at self.old file).pages page).tags.dirty ≡ false }
-        ensures { self.new ≡ with_pages self.old file (map.remove (stored_at self.old file).pages page) (self.old.free + 1) }
+        requires there { (is_some (stored_page self.old file page) || is_awaited self.old file page) ≡ true }
+        ensures page { is_some (stored_page self.old file page) ≡ true → self.new ≡ with_pages self.old file (map.remove (stored_at self.old file).pages page) (self.old.free + 1) }
+        ensures fill { is_awaited self.old file page ≡ true → self.new ≡ record self.old { filling = set.remove self.old.filling (file, page); free = self.old.free + 1 } }
     {
         let mapping = &mut self.files[file as usize].mapping;
-        let Some(frame) = mapping.remove_page(PageIndex(page)) else {
+        let Some(mapped) = mapping.page(PageIndex(page)) else {
             unreachable!()
         };
-        self.frames.give(frame);
+        let _ = mapping.remove_page(PageIndex(page));
+        self.dirty -= u64::from(mapped.tags.has(Tag::Dirty));
+        self.frames.give(mapped.frame);
     }
 
     /// Puts bytes into a cached page from `at` on, and tags it DIRTY.

@@ -4,7 +4,7 @@ ghost use Rattle.std.specs.Prelude.{◌≡◌, ◌+◌, ◌-◌, ◌/◌, ◌<�
 ghost use Rattle.std.specs.List.{range_with_len};
 ghost use Rattle.mapping.specs.declared.mapping.TheConstants.{MAX_PAGES};
 ghost use Rattle.cachecore.specs.Pairs.{AreCached, AreSized, IsLaid, AreRead};
-ghost use Rattle.cachecore.specs.Store.{stored_at, stored_page, with_pages, AreMade};
+ghost use Rattle.cachecore.specs.Store.{stored_at, stored_page, with_pages, NoneAwaited, AreMade};
 
 use crate::pages::Pages;
 use pc_types::limits::{MAX_FILE_SIZE, MAX_PAGE_SIZE, MAX_TOUCHED};
@@ -17,6 +17,7 @@ impl Pages {
         requires here { file < length self.old.files }
         requires order { first ≤ end }
         requires below { end ≤ MAX_PAGES }
+        requires idle { NoneAwaited file first end self.old }
         requires room { count_by (λ p. not (is_some (stored_page self.old file p))) (range_with_len first (end - first)) ≤ self.old.free }
         ensures made { OnOk result (AreMade file first end self.old self.new) }
         ensures err { OnErr result (self.new ≡ self.old) }

@@ -7,8 +7,10 @@ use Rattle.std.proofs.lemmas.List.Sums.{count_by-le-length}
 use Rattle.pc_types.specs.declared.limits.TheConstants.{MAX_TOUCHED}
 use Rattle.cachecore.specs.State.{File, no_file, tagged, touched_count, dirty_total}
 use Rattle.cachecore.specs.Tests.{room_tests}
-use Rattle.cachecore.specs.Tables.{owns}
+use Rattle.cachecore.specs.Placing.{is_bare}
+use Rattle.blockmap.specs.Blocks.{free_blocks}
 use Rattle.cachecore.proofs.CoreLemmas.{room_is, is_less, is_not_less, first_chosen, second_chosen, third_chosen, none_chosen}
+use Rattle.cachecore.proofs.Spans.{last_below}
 use Rattle.cachecore.proofs.cache.CacheCore.check_room.Goals as goal
 
 pub passes_dirty_limit-requires : goal.passes_dirty_limit-requires
@@ -16,6 +18,12 @@ passes_dirty_limit-requires c =
     let P = c.page-page_size.result in
     let few : touched_count P c.args.offset c.args.count ≤ MAX_TOUCHED = subst (λ n. touched_count n c.args.offset c.args.count ≤ MAX_TOUCHED) (sym (c.page-page_size.ensures.value ∙ ap (λ s. s.sizes.page) c.self.view_is)) c.requires.few in
     omega (arith, few, c.clean_pages.ensures, length-range_with_len (c.args.offset / P) (touched_count P c.args.offset c.args.count), count_by-le-length (λ p. not (tagged (λ t. t.dirty) (map.get (slice_index_or c.self.inside.pages.files c.args.file no_file).pages p))) (range_with_len (c.args.offset / P) (touched_count P c.args.offset c.args.count)))
+
+pub count_without_block-requires-clause-file : goal.count_without_block-requires-clause-file
+count_without_block-requires-clause-file c = omega (arith, c.requires.here, ap (λ s. length s.files) c.self.view_is, c.self.invariant.few_files)
+
+pub count_without_block-requires-clause-below : goal.count_without_block-requires-clause-below
+count_without_block-requires-clause-below c = last_below c.page-page_size.result (c.args.offset + c.args.count - 1) c.page-page_size.ensures.least (omega (arith, c.requires.bound, c.requires.some))
 
 pub returns-then-passes_dirty_limit : goal.returns-then-passes_dirty_limit
 returns-then-passes_dirty_limit c =
@@ -26,8 +34,7 @@ returns-then-passes_dirty_limit c =
     let pages = range_with_len (c.args.offset / P) (touched_count P c.args.offset c.args.count) in
     let back = sym c.self.view_is in
     sym (ap (λ s. room_tests s c.args.file c.args.offset c.args.count) back
-    ∙ room_is c.self.inside.geometry c.self.inside.pages.files c.self.inside.handles c.self.inside.owners.items c.self.inside.pages.free c.self.invariant.facts c.self.inside.name
-    c.args.file c.args.offset c.args.count P entry c.passes_dirty_limit.result (count_by (λ p. not (is_some (map.get (slice_index_or c.self.inside.pages.files c.args.file no_file).pages p))) pages) (count_by (λ p. not (owns c.self.inside.owners.items c.args.file p)) pages) (c.self.inside.geometry.blocks - length c.self.inside.owners.items) c.page-page_size.ensures.value refl
+    ∙ room_is _ c.self.inside.pages c.self.inside.blocks c.self.invariant refl c.args.file c.args.offset c.args.count P entry c.passes_dirty_limit.result (count_by (λ p. not (is_some (map.get (slice_index_or c.self.inside.pages.files c.args.file no_file).pages p))) pages) (count_by (is_bare c.self.inside.blocks c.args.file) pages) (length (free_blocks c.self.inside.blocks)) c.page-page_size.ensures.value refl
     (c.passes_dirty_limit.ensures ∙ (λ i. nat_lt 0 (c.clean_pages.ensures i) && nat_lt (back i).sizes.dirty_limit (dirty_total (back i) + c.clean_pages.ensures i)))
     refl refl refl
     ∙ first_chosen _ _ _ c.if-passes_dirty_limit.true)
@@ -41,14 +48,13 @@ returns-then-free_frames-absent_pages c =
     let pages = range_with_len (c.args.offset / P) (touched_count P c.args.offset c.args.count) in
     let back = sym c.self.view_is in
     sym (ap (λ s. room_tests s c.args.file c.args.offset c.args.count) back
-    ∙ room_is c.self.inside.geometry c.self.inside.pages.files c.self.inside.handles c.self.inside.owners.items c.self.inside.pages.free c.self.invariant.facts c.self.inside.name
-    c.args.file c.args.offset c.args.count P entry c.passes_dirty_limit.result c.absent_pages.result (count_by (λ p. not (owns c.self.inside.owners.items c.args.file p)) pages) (c.self.inside.geometry.blocks - length c.self.inside.owners.items) c.page-page_size.ensures.value refl
+    ∙ room_is _ c.self.inside.pages c.self.inside.blocks c.self.invariant refl c.args.file c.args.offset c.args.count P entry c.passes_dirty_limit.result c.absent_pages.result (count_by (is_bare c.self.inside.blocks c.args.file) pages) (length (free_blocks c.self.inside.blocks)) c.page-page_size.ensures.value refl
     (c.passes_dirty_limit.ensures ∙ (λ i. nat_lt 0 (c.clean_pages.ensures i) && nat_lt (back i).sizes.dirty_limit (dirty_total (back i) + c.clean_pages.ensures i)))
     c.absent_pages.ensures refl refl
     ∙ second_chosen _ _ _ _ _ c.if-passes_dirty_limit.false (is_less c.self.inside.pages.free c.absent_pages.result (omega (arith, c.free_frames.ensures, c.if-free_frames-absent_pages.true))))
 
-pub returns-then-free_blocks-count_without_block : goal.returns-then-free_blocks-count_without_block
-returns-then-free_blocks-count_without_block c =
+pub returns-then-free_count-count_without_block : goal.returns-then-free_count-count_without_block
+returns-then-free_count-count_without_block c =
     let count = ap (λ s. length s.files) c.self.view_is in
     let here : c.args.file < length c.self.inside.pages.files = omega arith in
     let entry : File = slice_index_or c.self.inside.pages.files c.args.file no_file in
@@ -56,11 +62,10 @@ returns-then-free_blocks-count_without_block c =
     let pages = range_with_len (c.args.offset / P) (touched_count P c.args.offset c.args.count) in
     let back = sym c.self.view_is in
     sym (ap (λ s. room_tests s c.args.file c.args.offset c.args.count) back
-    ∙ room_is c.self.inside.geometry c.self.inside.pages.files c.self.inside.handles c.self.inside.owners.items c.self.inside.pages.free c.self.invariant.facts c.self.inside.name
-    c.args.file c.args.offset c.args.count P entry c.passes_dirty_limit.result c.absent_pages.result c.count_without_block.result (c.blocks-2.result - c.len.result) c.page-page_size.ensures.value refl
+    ∙ room_is _ c.self.inside.pages c.self.inside.blocks c.self.invariant refl c.args.file c.args.offset c.args.count P entry c.passes_dirty_limit.result c.absent_pages.result c.count_without_block.result c.free_count.result c.page-page_size.ensures.value refl
     (c.passes_dirty_limit.ensures ∙ (λ i. nat_lt 0 (c.clean_pages.ensures i) && nat_lt (back i).sizes.dirty_limit (dirty_total (back i) + c.clean_pages.ensures i)))
-    c.absent_pages.ensures (omega (arith, c.blocks-2.ensures.value, c.len.ensures, c.self.inside.owners.ok.0)) (c.count_without_block.ensures ∙ ap (λ os. count_by (λ p. not (owns os c.args.file p)) pages) c.deref.ensures.value)
-    ∙ third_chosen _ _ _ _ _ _ _ c.if-passes_dirty_limit.false (is_not_less c.self.inside.pages.free c.absent_pages.result (omega (arith, c.free_frames.ensures, c.if-free_frames-absent_pages.false))) (is_less _ _ c.if-free_blocks-count_without_block.true))
+    c.absent_pages.ensures c.free_count.ensures.count c.count_without_block.ensures
+    ∙ third_chosen _ _ _ _ _ _ _ c.if-passes_dirty_limit.false (is_not_less c.self.inside.pages.free c.absent_pages.result (omega (arith, c.free_frames.ensures, c.if-free_frames-absent_pages.false))) (is_less _ _ c.if-free_count-count_without_block.true))
 
 pub returns : goal.returns
 returns c =
@@ -71,8 +76,7 @@ returns c =
     let pages = range_with_len (c.args.offset / P) (touched_count P c.args.offset c.args.count) in
     let back = sym c.self.view_is in
     sym (ap (λ s. room_tests s c.args.file c.args.offset c.args.count) back
-    ∙ room_is c.self.inside.geometry c.self.inside.pages.files c.self.inside.handles c.self.inside.owners.items c.self.inside.pages.free c.self.invariant.facts c.self.inside.name
-    c.args.file c.args.offset c.args.count P entry c.passes_dirty_limit.result c.absent_pages.result c.count_without_block.result (c.blocks-2.result - c.len.result) c.page-page_size.ensures.value refl
+    ∙ room_is _ c.self.inside.pages c.self.inside.blocks c.self.invariant refl c.args.file c.args.offset c.args.count P entry c.passes_dirty_limit.result c.absent_pages.result c.count_without_block.result c.free_count.result c.page-page_size.ensures.value refl
     (c.passes_dirty_limit.ensures ∙ (λ i. nat_lt 0 (c.clean_pages.ensures i) && nat_lt (back i).sizes.dirty_limit (dirty_total (back i) + c.clean_pages.ensures i)))
-    c.absent_pages.ensures (omega (arith, c.blocks-2.ensures.value, c.len.ensures, c.self.inside.owners.ok.0)) (c.count_without_block.ensures ∙ ap (λ os. count_by (λ p. not (owns os c.args.file p)) pages) c.deref.ensures.value)
-    ∙ none_chosen _ _ _ _ _ _ _ c.if-passes_dirty_limit.false (is_not_less c.self.inside.pages.free c.absent_pages.result (omega (arith, c.free_frames.ensures, c.if-free_frames-absent_pages.false))) (is_not_less _ _ c.if-free_blocks-count_without_block.false))
+    c.absent_pages.ensures c.free_count.ensures.count c.count_without_block.ensures
+    ∙ none_chosen _ _ _ _ _ _ _ c.if-passes_dirty_limit.false (is_not_less c.self.inside.pages.free c.absent_pages.result (omega (arith, c.free_frames.ensures, c.if-free_frames-absent_pages.false))) (is_not_less _ _ c.if-free_count-count_without_block.false))

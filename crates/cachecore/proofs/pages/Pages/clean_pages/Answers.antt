@@ -14,9 +14,10 @@ use Rattle.cachecore.proofs.pages.Pages.clean_pages.Goals as goal
 pub returns : goal.returns
 returns c =
     let t = c.self.inside.frames in
+    let up = c.self.inside.uptodate.items in
     let files = c.self.inside.files.items in
     let f = c.args.file in
-    let here = here_kept t files f c.args.self.now c.self.view_is c.requires.here in
+    let here = here_kept t up files f c.args.self.now c.self.view_is c.requires.here in
     let entry : c.index.result.now ≡ kept_at files f = get_or_read files f c.index.result.now here c.index.ensures none_kept in
     let range = range_with_len c.args.first (c.args.end - c.args.first) in
-    c.clean_pages.ensures ∙ ap (λ (k : KeptFile). count_by (λ p. not (has_at k.mapping.pages p Dirty)) range) entry ∙ (λ i. count_by (λ p. not (dirty_at t files f p i)) range) ∙ ap (λ s. count_by (λ p. not (tagged (λ t. t.dirty) (stored_page s f p))) range) c.self.view_is
+    c.clean_pages.ensures ∙ ap (λ (k : KeptFile). count_by (λ p. not (has_at k.mapping.pages p Dirty)) range) entry ∙ (λ i. count_by (λ p. not (dirty_at t up files f p (c.self.invariant.bare f p) i)) range) ∙ ap (λ s. count_by (λ p. not (tagged (λ t. t.dirty) (stored_page s f p))) range) c.self.view_is

@@ -4,11 +4,12 @@ use Rattle.std.specs.FinMap as map
 use Rattle.std.proofs.lemmas.Bool.{false≢true}
 use Rattle.std.proofs.lemmas.List.{get_or_read}
 use Rattle.frames.specs.Table.{Table}
+use Rattle.frames.specs.Rows.{row_at}
 use Rattle.mapping.specs.Pages.{seen}
 use Rattle.cachecore.specs.declared.kept.KeptFile.{KeptFile}
 use Rattle.cachecore.specs.State.{Page, the_page}
-use Rattle.cachecore.specs.Store.{Store, store_of, none_kept, kept_at, stored_at, stored_page, page_of}
-use Rattle.cachecore.proofs.StoreLaws.{cached_at}
+use Rattle.cachecore.specs.Store.{Store, store_of, none_kept, kept_at, entry_at, stored_at, stored_page}
+use Rattle.cachecore.proofs.StoreLaws.{cached_at, cached_entry, some_entry}
 use Rattle.cachecore.proofs.StoreFacts.{here_kept, the_page_is, accessed_seen, page_taken}
 use Rattle.cachecore.proofs.pages.Pages.read_part.Goals as goal
 use borrow.Rule.Slice.PartMut.{put_mid}
@@ -17,47 +18,52 @@ use Rattle.std.proofs.lemmas.List.{drop-drop, append_assoc}
 pub unreachable-requires : goal.unreachable-requires
 unreachable-requires c =
     let t = c.self.inside.frames in
+    let up = c.self.inside.uptodate.items in
     let files = c.self.inside.files.items in
     let f = c.args.file in
-    let here = here_kept t files f c.args.self.now c.self.view_is c.requires.here in
+    let here = here_kept t up files f c.args.self.now c.self.view_is c.requires.here in
     let entry : c.index.result.now ≡ kept_at files f = get_or_read files f c.index.result.now here c.index.ensures none_kept in
-    false≢true (ap is_some c.in_default.ensures ∙ ap (λ (k : KeptFile). is_some (map.get k.mapping.pages c.args.page)) entry ∙ cached_at t files f c.args.page ∙ ap (λ s. is_some (stored_page s f c.args.page)) c.self.view_is ∙ c.requires.cached)
+    false≢true (ap is_some c.in_default.ensures ∙ ap (λ (k : KeptFile). is_some (map.get k.mapping.pages c.args.page)) entry ∙ some_entry up (entry_at files f c.args.page) (cached_at t up files f c.args.page ∙ ap (λ s. is_some (stored_page s f c.args.page)) c.self.view_is ∙ c.requires.cached))
 
 pub bytes-bytes-requires : goal.bytes-bytes-requires
 bytes-bytes-requires c =
     let t = c.self.inside.frames in
+    let up = c.self.inside.uptodate.items in
     let files = c.self.inside.files.items in
     let f = c.args.file in
-    let here = here_kept t files f c.args.self.now c.self.view_is c.requires.here in
+    let here = here_kept t up files f c.args.self.now c.self.view_is c.requires.here in
     let entry : c.index.result.now ≡ kept_at files f = get_or_read files f c.index.result.now here c.index.ensures none_kept in
     let p = c.args.page in
     let x = seen c.in-Some.mapped in
     let there : map.get (kept_at files f).mapping.pages p ≡ Some x = sym (c.in-Some.ensures ∙ ap (λ (k : KeptFile). map.get k.mapping.pages p) entry) in
-    page_taken t files c.self.inside.dirty c.self.invariant f p x there
+    page_taken t up files c.self.inside.dirty c.self.invariant f p x there
 
 pub accessed-requires : goal.accessed-requires
 accessed-requires c =
     let t = c.self.inside.frames in
+    let up = c.self.inside.uptodate.items in
     let files = c.self.inside.files.items in
     let f = c.args.file in
-    let here = here_kept t files f c.args.self.now c.self.view_is c.requires.here in
+    let here = here_kept t up files f c.args.self.now c.self.view_is c.requires.here in
     let entry : c.index.result.now ≡ kept_at files f = get_or_read files f c.index.result.now here c.index.ensures none_kept in
     let p = c.args.page in
     let x = seen c.in-Some.mapped in
     let there : map.get (kept_at files f).mapping.pages p ≡ Some x = sym (c.in-Some.ensures ∙ ap (λ (k : KeptFile). map.get k.mapping.pages p) entry) in
-    page_taken t files c.self.inside.dirty c.self.invariant f p x there
+    page_taken t up files c.self.inside.dirty c.self.invariant f p x there
 
 pub returns-clause-after : goal.returns-clause-after
 returns-clause-after c =
     let t = c.self.inside.frames in
+    let up = c.self.inside.uptodate.items in
     let files = c.self.inside.files.items in
     let f = c.args.file in
-    let here = here_kept t files f c.args.self.now c.self.view_is c.requires.here in
+    let here = here_kept t up files f c.args.self.now c.self.view_is c.requires.here in
     let entry : c.index.result.now ≡ kept_at files f = get_or_read files f c.index.result.now here c.index.ensures none_kept in
     let p = c.args.page in
     let x = seen c.in-Some.mapped in
     let there : map.get (kept_at files f).mapping.pages p ≡ Some x = sym (c.in-Some.ensures ∙ ap (λ (k : KeptFile). map.get k.mapping.pages p) entry) in
-    let page : the_page (stored_at c.args.self.now f).pages p ≡ page_of t x = sym (ap (λ (s : Store). the_page (stored_at s f).pages p) c.self.view_is) ∙ the_page_is t files c.self.inside.dirty f p x c.self.invariant here there in
+    let ready = cached_entry up (entry_at files f p) (cached_at t up files f p ∙ ap (λ s. is_some (stored_page s f p)) c.self.view_is ∙ c.requires.cached) x there in
+    let page : the_page (stored_at c.args.self.now f).pages p ≡ record { bytes = row_at t.bytes x.frame; tags = x.tags } = sym (ap (λ (s : Store). the_page (stored_at s f).pages p) c.self.view_is) ∙ the_page_is t up files c.self.inside.dirty f p x c.self.invariant here there ready in
     let part : c.copy_from_slice.new.self ≡ slice_range (the_page (stored_at c.args.self.now f).pages p).bytes c.args.at (c.args.at + (c.args.to - c.args.from)) =
     c.copy_from_slice.ensures.after ∙ ap (λ (bs : List ℕ). slice_range bs c.args.at (c.args.at + (c.args.to - c.args.from))) (c.bytes-bytes.ensures.bytes ∙ ap (λ (pg : Page). pg.bytes) (sym page)) in
     let end : c.args.from + (c.args.to - c.args.from) ≡ c.args.to = omega (arith, c.requires.order) in
@@ -67,4 +73,4 @@ returns-clause-after c =
 
 pub returns-clause-same : goal.returns-clause-same
 returns-clause-same c =
-    ap (λ (u : Table). store_of u c.self.inside.files.items) c.accessed.ensures ∙ accessed_seen c.self.inside.frames c.self.inside.files.items c.self.inside.dirty c.in-Some.mapped.frame.0 c.self.invariant ∙ c.self.view_is
+    ap (λ (u : Table). store_of u c.self.inside.uptodate.items c.self.inside.files.items) c.accessed.ensures ∙ accessed_seen c.self.inside.frames c.self.inside.uptodate.items c.self.inside.files.items c.self.inside.dirty c.in-Some.mapped.frame.0 c.self.invariant ∙ c.self.view_is

@@ -1,19 +1,37 @@
-use Rattle.std.proofs.Common.{ap, ◌∙◌, ◌≡◌}
+use Rattle.std.proofs.Common.{ap, sym, ◌∙◌, ◌≡◌}
 use Rattle.std.specs.Prelude.{slice_set}
+use Rattle.std.specs.FinMap as map
+use Rattle.std.specs.Ordering.{nat_cmp}
 use Rattle.std.proofs.lemmas.List.{get_or_read}
 use Rattle.mapping.specs.Pages.{FilePages}
-use Rattle.cachecore.specs.Store.{Store, store_of, none_kept, kept_at, stored_at}
-use Rattle.cachecore.proofs.StoreLaws.{seen-size}
-use Rattle.cachecore.proofs.StoreFacts.{here_kept}
+use Rattle.cachecore.specs.declared.kept.KeptFile.{KeptFile}
+use Rattle.cachecore.specs.State.{File}
+use Rattle.cachecore.specs.Store.{Store, store_of, none_kept, kept_at, file_of, stored_at}
+use Rattle.cachecore.proofs.StoreLaws.{seen-file, stored-kept}
+use Rattle.cachecore.proofs.StoreFacts.{here_kept, store_file}
 use Rattle.cachecore.proofs.pages.Pages.set_size.Goals as goal
+
+pub invariant_of-self : goal.invariant_of-self
+invariant_of-self c =
+    let t = c.self.inside.frames in
+    let up = c.self.inside.uptodate.items in
+    let files = c.self.inside.files.items in
+    let f = c.args.file in
+    let here = here_kept t up files f c.args.self.now c.self.view_is c.requires in
+    let entry : c.index_mut.result.now ≡ kept_at files f = get_or_read files f c.index_mut.result.now here c.index_mut.ensures.value none_kept in
+    store_file t up files c.self.inside.dirty f (record c.index_mut.result.now { mapping = c.set_size.new.self }) (ap (λ (m : FilePages). m.pages) c.set_size.ensures ∙ ap (λ (k : KeptFile). k.mapping.pages) entry) here c.self.invariant
 
 pub returns : goal.returns
 returns c =
     let t = c.self.inside.frames in
+    let up = c.self.inside.uptodate.items in
     let files = c.self.inside.files.items in
     let f = c.args.file in
-    let here = here_kept t files f c.args.self.now c.self.view_is c.requires in
+    let here = here_kept t up files f c.args.self.now c.self.view_is c.requires in
     let entry : c.index_mut.result.now ≡ kept_at files f = get_or_read files f c.index_mut.result.now here c.index_mut.ensures.value none_kept in
-    ap (λ (m : FilePages). store_of t (slice_set files f (record c.index_mut.result.now { mapping = m }))) c.set_size.ensures
-    ∙ seen-size t files f c.args.size c.index_mut.result.now entry
+    let kept : KeptFile = record (kept_at files f) { mapping = record (kept_at files f).mapping { size = c.args.size } } in
+    let same : record c.index_mut.result.now { mapping = c.set_size.new.self } ≡ kept = ap (λ (m : FilePages). let k : KeptFile = record c.index_mut.result.now { mapping = m } in k) c.set_size.ensures ∙ ap (λ (k : KeptFile). let l : KeptFile = record k { mapping = record k.mapping { size = c.args.size } } in l) entry in
+    let file : file_of t up kept ≡ record (stored_at (store_of t up files) f) { size = c.args.size } = ap (λ (e : File). let y : File = record e { size = c.args.size } in y) (sym (stored-kept t up files f)) in
+    ap (λ (k : KeptFile). store_of t up (slice_set files f k)) same
+    ∙ seen-file t up files f kept (record (stored_at (store_of t up files) f) { size = c.args.size }) here (λ _. kept.mapping.pages) file
     ∙ ap (λ (s : Store). let u : Store = record s { files = slice_set s.files f (record (stored_at s f) { size = c.args.size }) } in u) c.self.view_is

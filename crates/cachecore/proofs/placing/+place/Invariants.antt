@@ -1,0 +1,5 @@
+use Rattle.std.proofs.Common.{◌-◌}
+use Rattle.cachecore.proofs.placing.+place.Given as goal
+
+abbrev pub decreases-place : goal.decreases-place
+decreases-place l = l.end - l.next

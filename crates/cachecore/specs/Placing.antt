@@ -1,0 +1,18 @@
+-- Inside this crate: the blocks that the pages of a write take.
+use Rattle.std.specs.Prelude.{ℕ, Bool, false, not, List, map, filter, is_some}
+use Rattle.std.specs.List.{zip}
+use Rattle.std.specs.FinMap.{get}
+use Rattle.blockmap.specs.Blocks.{Blocks, Spots, free_blocks}
+use Rattle.cachecore.specs.Changes.{overwrite}
+
+-- whether page p of file f has no block
+abbrev pub is_bare : Blocks → ℕ → ℕ → Bool
+is_bare b f p = not (is_some (get b.spots (f, p)))
+
+-- the k-th of these pages that has no block takes the k-th free block, which is not yet written
+abbrev pub placed_on : Blocks → ℕ → List ℕ → Spots
+placed_on b f pages = overwrite (map (λ e. ((f, e.0), record { block = e.1; written = false })) (zip (filter (is_bare b f) pages) (free_blocks b))) b.spots
+
+-- the blocks after that
+abbrev pub with_placed : Blocks → ℕ → List ℕ → Blocks
+with_placed b f pages = record b { spots = placed_on b f pages }
