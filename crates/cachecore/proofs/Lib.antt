@@ -21,7 +21,6 @@ pub mod Overlay
 pub mod ReadLemmas
 pub mod Spans
 pub mod HandleLemmas
-pub mod Runs
 pub mod Values
 pub mod Holdings
 pub mod PlaceLemmas
@@ -47,3 +46,12 @@ pub mod SoundSteps
 pub mod SoundFacts
 pub mod FlightLaws
 pub mod FillPlaces
+pub mod HoldLaws
+pub mod RequestLaws
+pub mod FileKeeps
+pub mod EndKeeps
+pub mod EndSteps
+pub mod PartStates
+pub mod EndCalls
+pub mod FlushKeeps
+pub mod FlushCalls

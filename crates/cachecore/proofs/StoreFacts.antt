@@ -29,7 +29,6 @@ use Rattle.cachecore.specs.State.{File, Page, no_file, dirty_in, the_page}
 use Rattle.cachecore.specs.Changes.{blank}
 use Rattle.cachecore.specs.Store.{none_kept, is_uptodate, awaits, page_of, each_seen, file_of, kept_at, entry_at, Store, store_of, stored_at, stored_page, with_pages, with_entry, put_at, IsStore}
 use Rattle.cachecore.proofs.StateLaws.{get_or-set}
-use Rattle.cachecore.proofs.MapLaws.{no_entries}
 use Rattle.cachecore.proofs.StoreEntries.{len-each_seen}
 use Rattle.cachecore.proofs.StoreLaws.{apart, stored-kept, seen_at, Alike, with_kept, entry-set, seen-entry, seen-same, seen-file, entry-kept, entry-push, seen-push, page_seen, none_seen, waits_at, entry_page}
 
@@ -82,7 +81,6 @@ owner-set t fr g o h = get_or-set t.owners fr g o None h
 
 row-set : (t : Table) (fr g : ℕ) (row : List ℕ) → fr < length t.bytes → row_at (slice_set t.bytes fr row) g ≡ cond (eqb g fr) row (row_at t.bytes g)
 row-set t fr g row h = get_or-set t.bytes fr g row [] h
-
 
 -- the flag of another frame
 flag-set : (up : List Bool) (fr g : ℕ) (b : Bool) → fr < length up → slice_index_or (slice_set up fr b) g false ≡ cond (eqb g fr) b (slice_index_or up g false)

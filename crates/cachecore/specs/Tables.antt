@@ -1,13 +1,13 @@
 -- Inside this crate: the tables that the program keeps, as the maps of the state, and what always holds of them.
 use Rattle.std.specs.Prelude.{◌≡◌, ◌+◌, ◌<◌, ◌≤◌, ℕ, false, List, length, Some}
 use Rattle.std.specs.Ordering.{nat_cmp}
-use Rattle.std.specs.FinMap.{FinMap, empty, get}
+use Rattle.std.specs.FinMap.{FinMap, empty, get, len}
 use Rattle.pc_types.specs.Limits.{Sizes}
-use Rattle.pc_types.specs.declared.limits.TheConstants.{MAX_FILES, MAX_FILE_SIZE, MAX_FRAMES}
+use Rattle.pc_types.specs.declared.limits.TheConstants.{MAX_FILES, MAX_FILE_SIZE, MAX_FRAMES, SERIAL_END}
 use Rattle.blockmap.specs.Blocks.{Blocks}
 use Rattle.blockmap.specs.Keys.{IsPage}
 use Rattle.writeback.specs.Flights.{Flights}
-use Rattle.cachecore.specs.State.{State, File, Request, cached_total, file_at, filling_total, is_filling, is_written, spot_at}
+use Rattle.cachecore.specs.State.{State, File, Request, cached_total, file_at, filling_total, is_filling}
 use Rattle.cachecore.specs.Flying.{requests_of}
 use Rattle.cachecore.specs.Holding.{Holds}
 use Rattle.cachecore.specs.Pairs.{AreSized}
@@ -34,6 +34,8 @@ pub record IsCore (s : State) (store : Store) (blocks : Blocks) : Type 0 where
   pub device : blocks.count ≡ s.sizes.blocks
   pub holds : Holds blocks.held s.requests
   pub within : (t : ℕ) (r : Request) → get s.requests t ≡ Some r → IsPage r.file r.page
-  -- no write of a page has ended yet
-  pub unwritten : (f p : ℕ) → is_written (spot_at s f p) ≡ false
+  pub filed : (t : ℕ) (r : Request) → get s.requests t ≡ Some r → r.file < length s.files
+  -- each failed write of a file was a request that ended, so their count fits
+  pub failed : (f : ℕ) → (file_at s f).failures + len s.requests ≤ s.next
+  pub serials : s.next ≤ SERIAL_END
   pub sound : Sound s

@@ -25,12 +25,12 @@ use writeback::Requests;
 /// The state of a cache.
 #[derive(Drop)]
 pub struct CacheCore {
-    geometry: Geometry,
-    name: u64,
-    pages: Pages,
-    handles: Handles,
-    blocks: BlockMap,
-    requests: Requests,
+    pub(crate) geometry: Geometry,
+    pub(crate) name: u64,
+    pub(crate) pages: Pages,
+    pub(crate) handles: Handles,
+    pub(crate) blocks: BlockMap,
+    pub(crate) requests: Requests,
     alloc: Global,
 }
 

@@ -5,7 +5,7 @@ ghost use Rattle.std.specs.List.{range_with_len};
 ghost use Rattle.mapping.specs.declared.mapping.TheConstants.{MAX_PAGES};
 ghost use Rattle.blockmap.specs.Blocks.{free_blocks};
 ghost use Rattle.cachecore.specs.Placing.{is_bare, with_placed};
-ghost use Rattle.cachecore.specs.Store.{stored_page, NoneAwaited, AreMade};
+ghost use Rattle.cachecore.specs.Store.{stored_page, AreMade};
 
 use crate::pages::Pages;
 use blockmap::BlockMap;
@@ -45,7 +45,6 @@ pub fn place(
     requires begun { first ≤ next }
     requires order { next ≤ end }
     requires below { end ≤ MAX_PAGES }
-    requires idle { NoneAwaited file first end pages.old }
     requires frames { count_by (λ p. not (is_some (stored_page pages.old file p))) (range_with_len first (end - first)) ≤ pages.old.free }
     requires room { count_by (is_bare blocks.old file) (range_with_len next (end - next)) ≤ length (free_blocks blocks.old) }
     ensures placed { OnOk result (blocks.new ≡ with_placed blocks.old file (range_with_len next (end - next))) }

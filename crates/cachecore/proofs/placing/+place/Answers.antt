@@ -21,7 +21,7 @@ place-requires t c =
     let less = ne_less c.args.next c.args.end c.requires.order c.if-next-end.false in
     let has = c.if-is_some.ensures ∙ ap is_some c.map.ensures ∙ some_mapped told (map.get b.spots (c.args.file, c.args.next)) in
     let room = subst (λ n. n ≤ length (free_blocks b)) (count_past b c.args.file c.args.next c.args.end less (ap not (sym has))) c.requires.room in
-    (omega (arith, less), (c.requires.file, (c.requires.here, (omega (arith, c.requires.begun), (omega (arith, less), (c.requires.below, (c.requires.idle, (c.requires.frames, room))))))))
+    (omega (arith, less), (c.requires.file, (c.requires.here, (omega (arith, c.requires.begun), (omega (arith, less), (c.requires.below, (c.requires.frames, room)))))))
 
 pub returns-then-is_some-clause-placed : goal.returns-then-is_some-clause-placed
 returns-then-is_some-clause-placed t c =
@@ -36,7 +36,7 @@ place-rest-requires t c =
     let less = ne_less c.args.next c.args.end c.requires.order c.if-next-end.false in
     let none = none_of (map.get b.spots (c.args.file, c.args.next)) (c.if-is_some.ensures ∙ ap is_some c.map.ensures ∙ some_mapped told (map.get b.spots (c.args.file, c.args.next))) in
     let given : IsGiven b c.args.file c.args.next c.assign.new.self = is_given b c.assign.new.self c.args.file c.args.next c.assign.result none c.if-is_err.ensures.value c.assign.ensures.lowest c.assign.ensures.given in
-    (omega (arith, less), (c.requires.file, (c.requires.here, (omega (arith, c.requires.begun), (omega (arith, less), (c.requires.below, (c.requires.idle, (c.requires.frames, room_given b c.assign.new.self c.args.file c.args.next c.args.end less given c.requires.room))))))))
+    (omega (arith, less), (c.requires.file, (c.requires.here, (omega (arith, c.requires.begun), (omega (arith, less), (c.requires.below, (c.requires.frames, room_given b c.assign.new.self c.args.file c.args.next c.args.end less given c.requires.room)))))))
 
 pub unassign-requires-clause-unwritten : goal.unassign-requires-clause-unwritten
 unassign-requires-clause-unwritten t c =
