@@ -47,3 +47,12 @@ pub mod SoundSteps
 pub mod SoundFacts
 pub mod FlightLaws
 pub mod FillPlaces
+pub mod HoldCuts
+pub mod FillCuts
+pub mod CutPages
+pub mod CutSteps
+pub mod CutTests
+pub mod TailCuts
+pub mod FirstFrom
+pub mod Removals
+pub mod Evictions

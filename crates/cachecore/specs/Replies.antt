@@ -5,6 +5,7 @@ use Rattle.pc_types.specs.declared.refusal.Refusal.{Refusal}
 use Rattle.pc_types.specs.declared.refusal.Refusal.TheVariants.{NoSuchFile}
 use Rattle.pc_types.specs.declared.ids.FileId.{FileId}
 use Rattle.pc_types.specs.declared.ids.HandleId.{HandleId}
+use Rattle.pc_types.specs.declared.ids.PageIndex.{PageIndex}
 use Rattle.cachecore.specs.declared.answers.FillBegun.{FillBegun}
 use Rattle.cachecore.specs.declared.answers.FillBegun.TheVariants as fill
 use Rattle.cachecore.specs.declared.answers.PageTags.{PageTags}
@@ -12,6 +13,8 @@ use Rattle.cachecore.specs.declared.answers.PageTags.TheVariants as tags
 use Rattle.cachecore.specs.declared.answers.ReadAnswer.{ReadAnswer}
 use Rattle.cachecore.specs.declared.answers.ReadAnswer.TheVariants as read
 use Rattle.cachecore.specs.declared.answers.Refused.{Refused}
+use Rattle.cachecore.specs.declared.answers.TruncateAnswer.{TruncateAnswer}
+use Rattle.cachecore.specs.declared.answers.TruncateAnswer.TheVariants as cut
 use Rattle.cachecore.specs.declared.answers.WriteAnswer.{WriteAnswer}
 use Rattle.cachecore.specs.declared.answers.WriteAnswer.TheVariants as write
 use Rattle.cachecore.specs.declared.event.Reply.{Reply}
@@ -55,6 +58,12 @@ wrote (Ok (write.Wait p)) = reply.Wait p
 wrote (Ok (write.Miss p)) = reply.Miss p
 wrote (Err r) = reply.Refused r
 
+abbrev pub was_truncated : Result TruncateAnswer Refusal → Reply
+was_truncated (Ok cut.Done) = reply.Done
+was_truncated (Ok (cut.Wait p)) = reply.Wait p
+was_truncated (Ok (cut.Miss p)) = reply.Miss p
+was_truncated (Err r) = reply.Refused r
+
 abbrev pub fill_begun : Result FillBegun Refused → Reply
 fill_begun (Ok (fill.Gone _)) = reply.Gone
 fill_begun (Ok (fill.Wait p _)) = reply.Wait p
@@ -69,6 +78,10 @@ GivesBack bytes (Ok (fill.Wait p buffer)) = buffer ≡ bytes
 GivesBack bytes (Ok (fill.Present buffer)) = buffer ≡ bytes
 GivesBack bytes (Ok (fill.Filled buffer)) = buffer ≡ bytes
 GivesBack bytes (Err e) = e.buffer ≡ bytes
+
+abbrev pub evicted : Option (FileId × PageIndex) → Reply
+evicted (Some e) = reply.Evicted e.0 e.1
+evicted None = reply.NoneIdle
 
 -- the refusal of a test, where one holds
 abbrev pub test_of : Result Unit Refusal → Option Reply

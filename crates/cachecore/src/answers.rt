@@ -42,6 +42,17 @@ pub enum FillBegun {
     Filled(Buffer),
 }
 
+/// What a truncation answers.
+#[derive(Clone, Copy, PartialEq, Eq, Debug)]
+pub enum TruncateAnswer {
+    /// The file has the new size.
+    Done,
+    /// The page that is cut into is filling: try again after a request has ended.
+    Wait(PageIndex),
+    /// The page that is cut into has to be filled first.
+    Miss(PageIndex),
+}
+
 /// A refusal, with the buffer that was handed in.
 #[derive(Drop, Debug)]
 pub struct Refused {

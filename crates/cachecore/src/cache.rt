@@ -25,13 +25,13 @@ use writeback::Requests;
 /// The state of a cache.
 #[derive(Drop)]
 pub struct CacheCore {
-    geometry: Geometry,
-    name: u64,
-    pages: Pages,
-    handles: Handles,
-    blocks: BlockMap,
-    requests: Requests,
-    alloc: Global,
+    pub(crate) geometry: Geometry,
+    pub(crate) name: u64,
+    pub(crate) pages: Pages,
+    pub(crate) handles: Handles,
+    pub(crate) blocks: BlockMap,
+    pub(crate) requests: Requests,
+    pub(crate) alloc: Global,
 }
 
 impl Model for CacheCore {
@@ -260,14 +260,14 @@ impl CacheCore {
     }
 
     /// Whether a fill of the page is in flight.
-    fn is_filling(&self, file: u64, page: u64) -> bool
+    pub(crate) fn is_filling(&self, file: u64, page: u64) -> bool
         ensures { result ≡ is_filling self.now file page }
     {
         self.requests.is_filling(FileId(file), PageIndex(page))
     }
 
     /// Whether the page's bytes are on the device alone.
-    fn must_fill(&self, file: u64, page: u64) -> bool
+    pub(crate) fn must_fill(&self, file: u64, page: u64) -> bool
         requires here { file < length self.now.files }
         requires below { page < MAX_PAGES }
         ensures { result ≡ must_fill self.now file page }
@@ -376,7 +376,7 @@ fn touched_count(page_size: u64, offset: u64, count: u64) -> u64
 }
 
 /// How many pages a file of this size has.
-fn page_count(page_size: u64, size: u64) -> u64
+pub(crate) fn page_count(page_size: u64, size: u64) -> u64
     requires positive { 0 < page_size }
     requires small { page_size ≤ MAX_PAGE_SIZE }
     requires bound { size ≤ MAX_FILE_SIZE }

@@ -21,12 +21,12 @@ use std::marker::Model;
 /// The pages of all files.
 #[derive(Drop)]
 pub struct Pages {
-    frames: Frames,
+    pub(crate) frames: Frames,
     // whether each frame has its page's bytes (PG_uptodate). A page whose frame does not have them is filling
-    uptodate: Vec<bool>,
-    files: Vec<KeptFile>,
+    pub(crate) uptodate: Vec<bool>,
+    pub(crate) files: Vec<KeptFile>,
     // how many pages of all files are DIRTY
-    dirty: u64,
+    pub(crate) dirty: u64,
 }
 
 impl Model for Pages {
