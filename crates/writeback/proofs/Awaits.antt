@@ -12,8 +12,9 @@ use Rattle.std.specs.FinMap.{FinMap, put, entries-insert, entries_sorted, nat_cm
 use Rattle.std.specs.FinMap.Entries.{below_all, is_sorted, by_order}
 use Rattle.std.proofs.lemmas.Bool.Decides.{nat_tests}
 use Rattle.pc_types.specs.Kinds.{is_flush}
+use Rattle.mapping.proofs.MapLemmas.{get-remove_nat, both_true}
 use Rattle.writeback.specs.Flights.{Flight, each_value, cut_flight, is_flush_of, is_flush_below, first_flush, awaited, is_live}
-use Rattle.writeback.proofs.MapLaws.{lookup, get_is, get-remove_nat, both_true, get-each_value, entries-remove, entries-each_value}
+use Rattle.writeback.proofs.MapLaws.{lookup, get_is, get-each_value, entries-remove, entries-each_value}
 
 -- ---- each entry of a list
 

@@ -9,14 +9,14 @@ use Rattle.std.proofs.lemmas.Bool.Decides.{nat_tests}
 use Rattle.pc_types.specs.declared.tags.Tag.TheVariants.{Dirty, Writeback, Towrite}
 use Rattle.mapping.specs.declared.mapping.TheConstants.{MAX_PAGES}
 use Rattle.mapping.specs.declared.page.FoundPage.{FoundPage}
-use Rattle.mapping.specs.Pages.{FilePages, Mapped, Pages, change_at, found, has_at, is_tagged, lowest, tag_each, tag_if, with_tag}
-use Rattle.mapping.proofs.MapLemmas.{find_same}
+use Rattle.mapping.specs.Pages.{FilePages, IsNumbered, Mapped, Pages, change_at, found, has_at, is_tagged, lowest, tag_each, tag_if, with_tag}
+use Rattle.mapping.proofs.MapLemmas.{find_same, both_true}
 use Rattle.mapping.proofs.PageLemmas.{change_twice, tag_of}
 use Rattle.writeback.specs.declared.picks.SyncStep.TheVariants.{Held, Start}
 use Rattle.writeback.specs.Flights.{Flights, each_value}
-use Rattle.writeback.specs.Picks.{IsNumbered, after_write, flush_pick, is_flushable, is_left, past, picked, sync_pick, to_write}
+use Rattle.writeback.specs.Picks.{after_write, flush_pick, is_flushable, is_left, past, picked, sync_pick, to_write}
 use Rattle.writeback.specs.Slots.{last_before}
-use Rattle.writeback.proofs.MapLaws.{lookup, get_is, both_true}
+use Rattle.writeback.proofs.MapLaws.{lookup, get_is}
 use Rattle.writeback.proofs.Awaits.{Each, each_on, each_entry, more, is_true}
 
 -- ---- searches by a test
@@ -35,13 +35,6 @@ module _ {A : Type 0} where
     | true ↦ λ j. subst P (ap (λ o. unwrap_or o y) j) a.0
     | false ↦ λ j. find_each P g ys e a.1 j
   ] k
-
-  none_each : (g : A → Bool) (es : List A) → find g es ≡ None → Each (λ e. g e ≡ false) es
-  none_each g [] k = tt
-  none_each g (y ∷ ys) k = elim (g y) as (λ b. g y ≡ b → cond b (Some y) (find g ys) ≡ None → Each (λ e. g e ≡ false) (y ∷ ys)) [
-    | true ↦ λ t j. absurd cc
-    | false ↦ λ t j. (t, none_each g ys j)
-  ] refl k
 
   -- h passes only what g does, and the first that g passes
   stronger : (g h : A → Bool) (es : List A) (e : A) → Each (λ x. g x ≡ false → h x ≡ false) es → find g es ≡ Some e → h e ≡ true → find h es ≡ Some e
@@ -83,24 +76,6 @@ module _ {X : Type 0} where
 
   get_each : (P : ℕ × X → Type 0) (m : FinMap nat_cmp X) (q : ℕ) (x : X) → Each P (finmap.entries m) → finmap.get m q ≡ Some x → P (q, x)
   get_each P m q x a k = lookup_each P (finmap.entries m) q x a (sym (get_is m q) ∙ k)
-
--- ---- the numbers of pages
-
-pub numbered_from : (pages : Pages) (r : Option FoundPage) → r ≡ lowest (λ e. nat_le MAX_PAGES e.0) pages → IfSome r (λ f. f.page.0 < MAX_PAGES) → IsNumbered pages
-numbered_from pages r is bound = record { each = λ p page there. go (find (λ (e : ℕ × Mapped). nat_le MAX_PAGES e.0) (finmap.entries pages)) refl p page there }
-  where
-    over : (p : ℕ) → nat_le MAX_PAGES p ≡ false → p < MAX_PAGES
-    over p e = grind (arith, nat_tests)
-
-    clash : (p : ℕ) → nat_le MAX_PAGES p ≡ true → p < MAX_PAGES → ⊥
-    clash p e h = let l : MAX_PAGES ≤ p = grind (arith, nat_tests) in omega arith
-
-    some_bound : (e : ℕ × Mapped) → find (λ (e : ℕ × Mapped). nat_le MAX_PAGES e.0) (finmap.entries pages) ≡ Some e → e.0 < MAX_PAGES
-    some_bound e k = subst (λ (o : Option FoundPage). IfSome o (λ f. f.page.0 < MAX_PAGES)) (is ∙ ap (option_map found) k) bound
-
-    go : (o : Option (ℕ × Mapped)) → find (λ (e : ℕ × Mapped). nat_le MAX_PAGES e.0) (finmap.entries pages) ≡ o → (p : ℕ) (page : Mapped) → finmap.get pages p ≡ Some page → p < MAX_PAGES
-    go None k p page there = over p (get_each (λ (e : ℕ × Mapped). nat_le MAX_PAGES e.0 ≡ false) pages p page (none_each (λ (e : ℕ × Mapped). nat_le MAX_PAGES e.0) (finmap.entries pages) k) there)
-    go (Some e) k p page there = absurd (clash e.0 (find_passes (λ (e : ℕ × Mapped). nat_le MAX_PAGES e.0) (finmap.entries pages) e k) (some_bound e k))
 
 -- ---- a flush
 

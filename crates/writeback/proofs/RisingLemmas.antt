@@ -9,8 +9,9 @@ use Rattle.std.specs.FinMap.{nat_cmp-IsAntisymmetric, from_entries, from_entries
 use Rattle.std.specs.FinMap.Entries.{below_all, is_sorted}
 use Rattle.std.proofs.lemmas.Bool.Decides.{nat_tests}
 use Rattle.std.proofs.lemmas.List.{length-map, map-append, take-map, drop-map}
+use Rattle.mapping.proofs.MapLemmas.{both_join, entries-from_entries}
 use Rattle.writeback.specs.Rising.{IsRising}
-use Rattle.writeback.proofs.MapLaws.{lookup, find-lookup, both_join, entries-from_entries}
+use Rattle.writeback.proofs.MapLaws.{lookup, find-lookup}
 
 below : (k q : ℕ) → k < q → T (is_lt (nat_cmp k q))
 below k q h = let e : is_lt (nat_cmp k q) ≡ true = grind (arith, nat_tests) in T_from (is_lt (nat_cmp k q)) e

@@ -7,11 +7,12 @@ use Rattle.std.proofs.lemmas.Bool.{false≢true}
 use Rattle.std.proofs.lemmas.Bool.Decides.{nat_tests}
 use Rattle.std.proofs.lemmas.List.Quantifiers.{position-Some}
 use Rattle.std.proofs.lemmas.List.Sums.{sum_by-cons, prefix_len_passes}
+use Rattle.mapping.proofs.MapLemmas.{same_nat_map, get-insert_nat, get-remove_nat}
 use Rattle.writeback.specs.declared.syncs.Progress.{Progress}
 use Rattle.writeback.specs.Rising.{IsRising}
 use Rattle.writeback.specs.Syncs.{SyncState, IsLowest, change_at, with_last}
 use Rattle.writeback.specs.Slots.{slots_from, in_use, in_progress, state_of, is_of, last_before}
-use Rattle.writeback.proofs.MapLaws.{lookup, get-lookup, same_nat_map, get-insert_nat, get-remove_nat, get-change_at}
+use Rattle.writeback.proofs.MapLaws.{lookup, get-lookup, get-change_at}
 use Rattle.writeback.proofs.RisingLemmas.{rising_low, len-rising, entries-rising, lookup_low}
 
 module _ {X : Type 0} where

@@ -9,11 +9,12 @@ use Rattle.std.proofs.lemmas.Bool.Decides.{nat_tests}
 use Rattle.std.proofs.lemmas.List.{length-map, map-append}
 use Rattle.std.proofs.lemmas.List.Quantifiers.{position-Some}
 use Rattle.pc_types.specs.declared.limits.TheConstants.{MAX_IN_FLIGHT}
+use Rattle.mapping.proofs.MapLemmas.{same_nat_map, get-remove_nat}
 use Rattle.writeback.specs.declared.requests.Entry.{Entry}
 use Rattle.writeback.specs.Flights.{Flight, Flights, each_value, begun, ended, cut_flight, is_flush_below, fills, first_flush, is_full}
 use Rattle.writeback.specs.Requests.{entry_of, flight_of, cut_entry}
 use Rattle.writeback.specs.Rising.{IsRising}
-use Rattle.writeback.proofs.MapLaws.{lookup, get-lookup, same_nat_map, get-remove_nat}
+use Rattle.writeback.proofs.MapLaws.{lookup, get-lookup}
 use Rattle.writeback.proofs.RisingLemmas.{len-rising, entries-rising, rising_push, push_inserts, rising_remove, lookup-remove, lookup_high, rising_map, position-map, map-remove, get_or-map}
 use Rattle.writeback.proofs.Places.{lookup-position, lookup-position_none}
 

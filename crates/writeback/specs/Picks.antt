@@ -74,7 +74,3 @@ sync_step f pages t s = bounded f pages t s.last s.bound
 abbrev pub StartsBelow : ℕ → SyncStep → Type 0
 StartsBelow n (Start pick) = pick.page.0 < n
 StartsBelow n _ = Unit {0}
-
--- ---- what every mapping keeps: the number of each page is below the most pages of a file
-pub record IsNumbered (pages : Pages) : Type 0 where
-  pub each : (p : ℕ) (page : Mapped) → map.get pages p ≡ Some page → p < MAX_PAGES

@@ -3,7 +3,7 @@
 ghost use Rattle.std.specs.Prelude.{◌≡◌, ◌<◌, IfSome, option_map};
 ghost use Rattle.mapping.specs.Pages.{change_at, found, with_tags};
 ghost use Rattle.writeback.specs.Flights.{each_value};
-ghost use Rattle.writeback.specs.Picks.{IsNumbered, StartsBelow, after_write, awaits, flush_pick, picked, sync_pick, sync_step, to_write, under_write};
+ghost use Rattle.writeback.specs.Picks.{StartsBelow, after_write, awaits, flush_pick, picked, sync_pick, sync_step, to_write, under_write};
 ghost use Rattle.writeback.specs.Slots.{last_before, state_of};
 
 use crate::requests::Requests;
@@ -30,7 +30,6 @@ pub fn flush_pick(mapping: &Mapping) -> Option<FoundPage>
     ensures pick { result ≡ option_map found (flush_pick mapping.now.pages) }
     ensures numbered { IfSome result (λ found. found.page.0 < MAX_PAGES) }
 {
-    know_numbers(mapping);
     let mut from = PageIndex(0);
     while let Some(found) = mapping.find_tagged(from, PageIndex(MAX_PAGES), Tag::Dirty) {
         if !mapping.has_tag(found.page, Tag::Writeback) {
@@ -46,7 +45,6 @@ pub fn flush_pick(mapping: &Mapping) -> Option<FoundPage>
 pub fn sync_begin(mapping: &mut Mapping)
     ensures { mapping.new ≡ record mapping.old { pages = each_value to_write mapping.old.pages } }
 {
-    know_numbers(mapping);
     mapping.retag(PageIndex(0), PageIndex(MAX_PAGES), Tag::Dirty, Tag::Towrite);
 }
 
@@ -55,7 +53,6 @@ pub fn sync_pick(mapping: &Mapping, cursor: PageIndex) -> Option<FoundPage>
     ensures pick { result ≡ option_map found (sync_pick mapping.now.pages (last_before cursor.0)) }
     ensures numbered { IfSome result (λ found. found.page.0 < MAX_PAGES) }
 {
-    know_numbers(mapping);
     mapping.find_tagged(cursor, PageIndex(MAX_PAGES), Tag::Towrite)
 }
 
@@ -118,12 +115,4 @@ fn picked(mapping: &Mapping, requests: &Requests, file: FileId, cursor: PageInde
         }
         None => awaits(requests, file, requests.next_serial()),
     }
-}
-
-/// Tells the proof that every page has a number below `MAX_PAGES`: a search from there on finds nothing, since what a
-/// search finds is below. It ends at the root.
-fn know_numbers(mapping: &Mapping)
-    ensures { IsNumbered mapping.now.pages }
-{
-    mapping.find_page(PageIndex(MAX_PAGES));
 }

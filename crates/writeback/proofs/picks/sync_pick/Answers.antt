@@ -3,4 +3,4 @@ use Rattle.writeback.proofs.PickLemmas.{sync_picks}
 use Rattle.writeback.proofs.picks.sync_pick.Goals as goal
 
 pub returns-clause-pick : goal.returns-clause-pick
-returns-clause-pick c = c.find_tagged.ensures.lowest ∙ sync_picks c.args.mapping.now.pages c.args.cursor.0 c.know_numbers.ensures
+returns-clause-pick c = c.find_tagged.ensures.lowest ∙ sync_picks c.args.mapping.now.pages c.args.cursor.0 c.find_tagged.ensures.below
