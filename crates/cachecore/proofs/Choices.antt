@@ -104,6 +104,7 @@ pub record MayWrite (s : State) (h o n : ℕ) : Type 0 where
   pub opened : is_open s h ≡ true
   pub some : 0 < n
   pub free : write_stop s (file_of s h) o n ≡ None
+  pub fits : room_tests s (file_of s h) o n ≡ None
   pub room : length (without_block s (file_of s h) (touched s.sizes.page o n)) ≤ length (free_blocks s)
 
 pub may_write : (s : State) (h o n : ℕ) → write_tests s h o n ≡ None → MayWrite s h o n
@@ -114,7 +115,7 @@ may_write s h o n t =
     let short = if_none (nat_lt MAX_TOUCHED (touched_count s.sizes.page o n)) _ _ some.1 in
     let small = if_none (nat_lt MAX_FILE_SIZE (o + n)) _ _ short.1 in
     let free = none_first s f (write_stop s f o n) (room_tests s f o n) small.1 in
-    record { opened = not_false (is_open s h) opened.0; some = positive n some.0; free = free.0; room = enough_blocks s f o n free.1 }
+    record { opened = not_false (is_open s h) opened.0; some = positive n some.0; free = free.0; fits = free.1; room = enough_blocks s f o n free.1 }
   where
     positive : (n : ℕ) → eqb n 0 ≡ false → 0 < n
     positive n e = grind (arith, nat_tests)

@@ -16,7 +16,6 @@ use Rattle.pc_types.specs.declared.refusal.Refusal.{Refusal}
 use Rattle.pc_types.specs.declared.refusal.Refusal.TheVariants.{NoEntry}
 use Rattle.blockmap.specs.Blocks.{Blocks, Spots, IsLowestFree, is_free, free_blocks, is_mapped}
 use Rattle.blockmap.proofs.MapLemmas.{mapped-added, put_here, tie_same}
-use Rattle.cachecore.specs.State.{is_written}
 use Rattle.cachecore.specs.Changes.{overwrite}
 use Rattle.cachecore.specs.Placing.{is_bare, placed_on, with_placed}
 use Rattle.cachecore.proofs.MapLaws.{places_total, same_place_map, same_place, get-overwrite, get-insert_place, get-remove_place}
@@ -118,19 +117,6 @@ taken_back m f p v none = same_place_map _ _ (λ g q.
     get-remove_place (finmap.insert m (f, p) v) f p g q
     ∙ ap (cond (eqb g f && eqb q p) None) (get-insert_place m f p v g q)
     ∙ restored (eqb g f && eqb q p) v (finmap.get m (g, q)) (λ t. ap (finmap.get m) (tied g q f p t) ∙ none))
-
--- no block that was given is written
-pub placed_unwritten : (b : Blocks) (f : ℕ) (pages : List ℕ) → ((g q : ℕ) → is_written (finmap.get b.spots (g, q)) ≡ false) → (g q : ℕ) → is_written (finmap.get (placed_on b f pages) (g, q)) ≡ false
-placed_unwritten b f pages old g q =
-    let pairs : List (ℕ × ℕ) = zip (filter (is_bare b f) pages) (free_blocks b) in
-    let es : List ((ℕ × ℕ) × Spot) = map (λ (e : ℕ × ℕ). ((f, e.0), record { block = e.1; written = false })) pairs in
-    ap is_written (get-overwrite places_total es b.spots (g, q) ∙ ap (λ x. option_or x (finmap.get b.spots (g, q))) (find_placed f g q pairs))
-    ∙ go (eqb g f) (find nat_cmp q pairs)
-  where
-    go : (t : Bool) (o : Option ℕ) → is_written (option_or (cond t (option_map (λ (k : ℕ). let y : Spot = record { block = k; written = false } in y) o) None) (finmap.get b.spots (g, q))) ≡ false
-    go true None = old g q
-    go true (Some k) = refl
-    go false o = old g q
 
 -- ---- pages in turn
 

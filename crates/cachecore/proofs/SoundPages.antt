@@ -6,10 +6,10 @@ use Rattle.pc_types.specs.Tags.{no_tags}
 use Rattle.pc_types.specs.Kinds.{is_fill}
 use Rattle.pc_types.specs.Spots.{Spot}
 use Rattle.pc_types.specs.declared.kind.Kind.TheVariants.{Fill, Flush}
-use Rattle.cachecore.specs.State.{State, Page, Request, file_of, page_at, spot_at, fills, is_filling, is_idle, is_written}
+use Rattle.cachecore.specs.State.{State, Page, Request, is_cached, page_at, spot_at, fills, is_filling, is_idle, is_written}
 use Rattle.cachecore.specs.Changes.{put_page, drop_page, blank, block_of, ended, filling, started, after_write, set_written, failed_once}
 use Rattle.cachecore.specs.Sound.{Sound, lookups, block_at}
-use Rattle.cachecore.proofs.Choices.{MayFill, and_true, not_true, none_of}
+use Rattle.cachecore.proofs.Choices.{and_true, not_true, none_of}
 use Rattle.cachecore.proofs.StateLaws.{filling_shows}
 use Rattle.cachecore.proofs.SoundChanges.{TagsFit, PageFits, IsOf, dirty, writeback, towrite, tags_fit, page_fits, pages_change, requests_end, request_begins, one_request, unheld_block, same_lookups}
 use Rattle.cachecore.proofs.SoundLookups.{get_inserted, get_left, put_page_tells, drop_page_tells, page_at-same, block_is, block_at-set_written}
@@ -108,16 +108,13 @@ module _ (s : State) (ok : Sound s) where
       let it : fills f p r ≡ true = (λ i. is_fill (k i) && not (of.live i) && (eqb (of.file i) f && eqb (of.page i) p)) ∙ (λ i. true && true && (eq-eqb f f refl i && eq-eqb p p refl i)) in
       let shows = filling_shows s f p t r e it in cc
 
-  module _ (h p : ℕ) (may : MayFill s h p) where
-    abbrev f : ℕ
-    f = file_of s h
-
+  module _ (f p : ℕ) (is_absent : is_cached s f p ≡ false) (idle : is_filling s f p ≡ false) where
     absent : page_at s f p ≡ None
-    absent = none_of (page_at s f p) may.absent
+    absent = none_of (page_at s f p) is_absent
 
     pub makes_zeros_sound : Sound (put_page s f p (blank s.sizes.page))
     makes_zeros_sound = put_page_sound s ok f p (blank s.sizes.page) (untagged_fits (block_at s f p) _) (λ t r e of. record {
-      fill = λ k. absurd (no_fill f p may.idle t r e of k);
+      fill = λ k. absurd (no_fill f p idle t r e of k);
       flush = λ k. absurd (let set = ok.flush t r e of.live k in let here : page_at s r.file r.page ≡ None = (λ i. page_at s (of.file i) (of.page i)) ∙ absent in cc);
     })
 
@@ -125,7 +122,7 @@ module _ (s : State) (ok : Sound s) where
     filling_sound written =
         let has : block_at s f p ≡ Some (block_of s f p) = block_is s f p (has_spot (spot_at s f p) written) in
         request_begins (lookups s) ok (record { kind = Fill; file = f; page = p; block = block_of s f p; bytes = []; dropped = false }) refl has (record { fill = λ _. absent; flush = λ k. absurd cc })
-        (unheld_block (lookups s) ok f p (block_of s f p) has (no_fill f p may.idle) (ap writeback absent)) _ (begun _)
+        (unheld_block (lookups s) ok f p (block_of s f p) has (no_fill f p idle) (ap writeback absent)) _ (begun _)
       where
         has_spot : (x : Option Spot) → is_written x ≡ true → is_some (option_map (λ (y : Spot). y.block) x) ≡ true
         has_spot None e = absurd cc

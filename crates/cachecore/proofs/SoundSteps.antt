@@ -36,7 +36,7 @@ module _ (s : State) (ok : Sound s) where
     | inr e ↦ not_retagged (block_at s g q) (page_at s g q) _ (tags_fit (lookups s) ok g q) e.0
   ])
 
-  cases : Cases s Sound
+  pub cases : Cases s Sound
   cases = record {
     same = ok;
     create = same_lookups (lookups s) _ (page_at-create s) (λ g q. refl) (λ t. refl) refl ok;
@@ -45,8 +45,8 @@ module _ (s : State) (ok : Sound s) where
     writes = λ h o b may. written_sound s ok h o b may;
     shrinks = λ h z _ _. shrunk_sound s ok (file_of s h) z;
     grows = λ h z _ _. same_lookups (lookups s) _ (page_at-same s (file_of s h) _ refl) (λ g q. refl) (λ t. refl) refl ok;
-    makes_zeros = λ h p may. makes_zeros_sound s ok h p may;
-    fills = λ h p may written _. filling_sound s ok h p may written;
+    makes_zeros = λ h p may. makes_zeros_sound s ok (file_of s h) p may.absent may.idle;
+    fills = λ h p may written _. filling_sound s ok (file_of s h) p may.absent may.idle written;
     ends = λ t. ended_sound s ok t;
     filled = λ t r bytes is live. filled_sound s ok t r is live bytes;
     flushes = λ f p page is set clear _. started_sound s ok f p page is set clear;

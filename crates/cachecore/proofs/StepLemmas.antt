@@ -1,6 +1,6 @@
 -- What the calls answer is a step of the machine.
-use Rattle.std.proofs.Common.{◌≡◌, ℕ, ◌+◌, ◌-◌, ◌/◌, ◌%◌, ◌<◌, ◌≤◌, zero, suc, min, Bool, true, false, cond, not, eqb, eqb-true, List, [], ◌∷◌, ◌++◌, length, get_or, take, refl, ap, sym, subst, ◌∙◌, arith, length-append, map}
-use Rattle.std.specs.Prelude.{Option, Some, None, is_some, unwrap_or, find, nat_lt, nat_le, ◌&&◌, ◌||◌, Result, Ok, Err, IsErrAnd, is_err, OnOk, OnErr}
+use Rattle.std.proofs.Common.{◌≡◌, ℕ, ◌+◌, ◌-◌, ◌/◌, ◌%◌, ◌<◌, ◌≤◌, min, Bool, true, false, cond, not, eqb, List, ◌++◌, length, get_or, take, refl, ap, sym, subst, ◌∙◌, arith, length-append, map}
+use Rattle.std.specs.Prelude.{Option, Some, None, is_some, unwrap_or, find, nat_lt, nat_le, Result, Ok, Err, IsErrAnd, is_err, OnOk, OnErr}
 use Rattle.std.specs.List.{range_with_len, list_any}
 use Rattle.std.specs.Ordering.{nat_cmp}
 use Rattle.std.specs.FinMap as finmap
@@ -18,12 +18,14 @@ use Rattle.pc_types.specs.declared.refusal.Refusal.TheVariants.{TooLong, NoFrame
 use Rattle.cachecore.specs.declared.event.Event.TheVariants as event
 use Rattle.cachecore.specs.declared.event.Reply.{Reply}
 use Rattle.cachecore.specs.declared.event.Reply.TheVariants as reply
-use Rattle.cachecore.specs.State.{State, File, Page, Request, Sync, file_at, file_of, is_open, is_cached, is_filling, fills, touched, touched_count, byte_at, bytes_at, page_byte, is_written, spot_at, page_count, free_frames}
-use Rattle.cachecore.specs.Changes.{written, put_page, blank}
-use Rattle.cachecore.specs.Tests.{read_count, read_stop, write_stop, must_fill, covers, stopped, first_of, refuse, room_tests, write_tests, is_full}
-use Rattle.cachecore.specs.Step.{Step, Answers, ReadReply, WriteReply, FillBeginReply}
+use Rattle.cachecore.specs.State.{State, File, Page, Sync, file_at, file_of, is_open, is_cached, is_filling, touched_count, byte_at, bytes_at, page_byte, page_count, free_frames}
+use Rattle.cachecore.specs.Changes.{written}
+use Rattle.cachecore.specs.Tests.{read_count, read_stop, write_stop, stopped, first_of, refuse, room_tests, write_tests}
+use Rattle.cachecore.specs.Step.{Step, Answers, ReadReply, WriteReply}
+use Rattle.cachecore.specs.Replies.{FillsAbsent}
 use Rattle.cachecore.specs.Pairs.{AreCached, AreRead}
 use Rattle.cachecore.proofs.MapLaws.{no_entries}
+use Rattle.cachecore.proofs.Runs.{none_absent}
 
 -- what `?` makes of an error
 pub err_is : {A E : Type 0} (r : Result A E) (e : E) → IsErrAnd r (λ x. x ≡ e) → r ≡ Err e
@@ -38,11 +40,7 @@ pub when_ok : {A E : Type 0} (r : Result A E) (P : Type 0) → false ≡ is_err 
 when_ok (Ok x) P e h = h
 when_ok (Err x) P e h = absurd (false≢true e)
 
--- ---- no request and no sync
-
--- without requests no page is filling
-pub none_filling : (s : State) (f p : ℕ) → s.requests ≡ finmap.empty → is_filling s f p ≡ false
-none_filling s f p e = ap (λ (es : List (ℕ × Request)). list_any (fills f p) (map (λ (e : ℕ × Request). e.1) es)) (ap finmap.entries e ∙ no_entries nat_cmp)
+-- ---- no sync
 
 none_busy : (s : State) (h : ℕ) → s.syncs ≡ finmap.empty → list_any (λ (sync : Sync). eqb sync.handle h) (finmap.values s.syncs) ≡ false
 none_busy s h e = ap (λ (es : List (ℕ × Sync)). list_any (λ (sync : Sync). eqb sync.handle h) (map (λ (e : ℕ × Sync). e.1) es)) (ap finmap.entries e ∙ no_entries nat_cmp)
@@ -115,11 +113,12 @@ module _ (s : State) (h : HandleId) (o n f P count : ℕ) (entry : File) (c : Re
     stop_is : find (λ p. not (is_some (finmap.get entry.pages p))) (range_with_len (o / P) ((o + count - 1) / P + 1 - o / P)) ≡ read_stop s (file_of s h.0) o (read_count s (file_of s h.0) o n)
     stop_is = λ i. find (λ p. not (is_some (finmap.get (entry_of i).pages p))) (range_with_len (o / c.page i) ((o + count_of i - 1) / c.page i + 1 - o / c.page i))
 
-    pub miss_step : (p : ℕ) → is_filling s (file_of s h.0) p ≡ false → Some p ≡ find (λ q. not (is_some (finmap.get entry.pages q))) (range_with_len (o / P) ((o + count - 1) / P + 1 - o / P)) → Step s (event.Read h o n) (reply.Miss (record { 0 = p })) s
-    miss_step p idle e =
-        read_chain _ _ _ _ _ _ _ _ s s _ closed not_zero not_long
-        (subst (λ (q : Option ℕ). Answers (stopped s (file_of s h.0) q) (reply.Miss (record { 0 = p })) s s (ReadReply s (file_of s h.0) o n (reply.Miss (record { 0 = p })) s)) (e ∙ stop_is)
-        (ap (λ b. cond b (reply.Wait (record { 0 = p })) (reply.Miss (record { 0 = p }))) (sym idle), refl))
+    pub stop_step : (p : ℕ) (b : Bool) → b ≡ is_filling s f p → Some p ≡ find (λ q. not (is_some (finmap.get entry.pages q))) (range_with_len (o / P) ((o + count - 1) / P + 1 - o / P)) → Step s (event.Read h o n) (cond b (reply.Wait (record { 0 = p })) (reply.Miss (record { 0 = p }))) s
+    stop_step p b is e =
+        let r : Reply = cond b (reply.Wait (record { 0 = p })) (reply.Miss (record { 0 = p })) in
+        read_chain _ _ _ _ _ _ _ r s s _ closed not_zero not_long
+        (subst (λ (q : Option ℕ). Answers (stopped s (file_of s h.0) q) r s s (ReadReply s (file_of s h.0) o n r s)) (e ∙ stop_is)
+        ((λ i. cond (is i) (reply.Wait (record { 0 = p })) (reply.Miss (record { 0 = p }))) ∙ ap (λ g. cond (is_filling s g p) (reply.Wait (record { 0 = p })) (reply.Miss (record { 0 = p }))) file_is, refl))
 
     pub bytes_step : (out rest : List ℕ) → None ≡ find (λ q. not (is_some (finmap.get entry.pages q))) (range_with_len (o / P) ((o + count - 1) / P + 1 - o / P)) → length out ≡ count → AreRead P o entry.pages count out → Step s (event.Read h o n) (reply.Bytes (take count (out ++ rest))) s
     bytes_step out rest e size r =
@@ -139,23 +138,6 @@ module _ (s : State) (h : HandleId) (o n f P count : ℕ) (entry : File) (c : Re
         same : take count (out ++ rest) ≡ bytes_at s (file_of s h.0) o count
         same = same_number_lists _ _ (bytes_len ∙ sym (length-map-range_with_len (byte_at s (file_of s h.0)) o count)) (λ i k. byte i (omega (arith, bytes_len)))
 
-some_none : (x : ℕ) → Some x ≡ None → ⊥
-some_none x h = cc
-
-further : (a q : ℕ) → a ≤ q → eqb a q ≡ false → a + 1 ≤ q
-further a q l s = grind (arith, nat_tests)
-
--- where none is absent, each is cached
-none_absent : (p : ℕ → Bool) (a n : ℕ) → find p (range_with_len a n) ≡ None → (q : ℕ) → a ≤ q → q < a + n → p q ≡ false
-none_absent p a zero e q l h = absurd (omega arith)
-none_absent p a (suc n) e q l h = elim (p a) as (λ b. p a ≡ b → p q ≡ false) [
-  | true ↦ λ t. absurd (some_none a (sym (ap (λ b. cond b (Some a) (find p (range_with_len (a + 1) n))) t) ∙ e))
-  | false ↦ λ t. elim (eqb a q) as (λ b. eqb a q ≡ b → p q ≡ false) [
-    | true ↦ λ s. ap p (sym (eqb-true a q s)) ∙ t
-    | false ↦ λ s. let more = further a q l s in none_absent p (a + 1) n (sym (ap (λ b. cond b (Some a) (find p (range_with_len (a + 1) n))) t) ∙ e) q more (omega arith)
-  ] refl
-] refl
-
 pub all_cached : (first end : ℕ) (pages : FinMap nat_cmp Page) → first ≤ end → None ≡ find (λ q. not (is_some (finmap.get pages q))) (range_with_len first (end - first)) → AreCached first end pages
 all_cached first end pages h e = record { each = λ q l k. cached q (none_absent (λ q. not (is_some (finmap.get pages q))) first (end - first) (sym e) q l (omega arith)) }
   where
@@ -168,26 +150,19 @@ all_cached first end pages h e = record { each = λ q l k. cached q (none_absent
 
 -- ---- writes
 
-find_none : (t : ℕ → Bool) (ps : List ℕ) → ((p : ℕ) → t p ≡ false) → find t ps ≡ None
-find_none t [] h = refl
-find_none t (p ∷ ps) h = ap (λ b. cond b (Some p) (find t ps)) (h p) ∙ find_none t ps h
-
-neither : (a b c d : Bool) → a ≡ false → c ≡ false → (a || ((b && c) && d)) ≡ false
-neither true b c d x y = absurd (false≢true (sym x))
-neither false true c d x y = ap (λ t. t && d) y
-neither false false c d x y = refl
-
--- without requests and written blocks, no page stops a write
-no_stop : (s : State) (f o n : ℕ) → s.requests ≡ finmap.empty → ((g p : ℕ) → is_written (spot_at s g p) ≡ false) → write_stop s f o n ≡ None
-no_stop s f o n none fresh = find_none (λ p. is_filling s f p || (must_fill s f p && not (covers s.sizes.page o n p))) (touched s.sizes.page o n)
-    (λ p. neither (is_filling s f p) (not (is_cached s f p)) (is_written (spot_at s f p)) (not (covers s.sizes.page o n p)) (none_filling s f p none) (fresh f p))
-
 fourth : (a b t u : Bool) (x y z w : Option Reply) (v : Reply) (s : State) (happens : Type 0) → a ≡ false → b ≡ false → t ≡ false → u ≡ true → Answers (cond a x (cond b y (cond t z (cond u (Some v) w)))) v s s happens
 fourth true b t u x y z w v s happens ea eb et eu = absurd (false≢true (sym ea))
 fourth false true t u x y z w v s happens ea eb et eu = absurd (false≢true (sym eb))
 fourth false false true u x y z w v s happens ea eb et eu = absurd (false≢true (sym et))
 fourth false false false true x y z w v s happens ea eb et eu = (refl, refl)
 fourth false false false false x y z w v s happens ea eb et eu = absurd (false≢true eu)
+
+four_passed : (a b t u : Bool) (x y z v w : Option Reply) → a ≡ false → b ≡ false → t ≡ false → u ≡ false → w ≡ None → cond a x (cond b y (cond t z (cond u v w))) ≡ None
+four_passed true b t u x y z v w ea eb et eu h = absurd (false≢true (sym ea))
+four_passed false true t u x y z v w ea eb et eu h = absurd (false≢true (sym eb))
+four_passed false false true u x y z v w ea eb et eu h = absurd (false≢true (sym et))
+four_passed false false false true x y z v w ea eb et eu h = absurd (false≢true (sym eu))
+four_passed false false false false x y z v w ea eb et eu h = h
 
 write_chain : (a b t u : Bool) (x y z v w : Option Reply) (r : Reply) (old new : State) (happens : Type 0) → a ≡ false → b ≡ false → t ≡ false → u ≡ false → Answers w r old new happens → Answers (cond a x (cond b y (cond t z (cond u v w)))) r old new happens
 write_chain true b t u x y z v w r old new happens ea eb et eu h = absurd (false≢true (sym ea))
@@ -204,33 +179,44 @@ module _ (s : State) (h : HandleId) (o f : ℕ) (b : List ℕ) (found : Some f �
   write_file = ap (λ o. unwrap_or o 0) found
 
   module _ (short : touched_count s.sizes.page o (length b) ≤ MAX_TOUCHED) where
-    module _ (small : o + length b ≤ MAX_FILE_SIZE) (none : s.requests ≡ finmap.empty) (fresh : (g p : ℕ) → is_written (spot_at s g p) ≡ false) where
-      -- what is left to test is whether there is room
-      after_tests : (r : Reply) (new : State) → Answers (room_tests s f o (length b)) r s new (WriteReply s f o b r new) → Step s (event.Write h o b) r new
-      after_tests r new k =
+    module _ (small : o + length b ≤ MAX_FILE_SIZE) where
+      -- what is left to test is whether a page stops it, and whether there is room
+      from_stop : (r : Reply) (new : State) → Answers (first_of (stopped s f (write_stop s f o (length b))) (room_tests s f o (length b))) r s new (WriteReply s f o b r new) → Step s (event.Write h o b) r new
+      from_stop r new k =
           write_chain _ _ _ _ _ _ _ _ _ r s new _ write_open (above_zero (length b) some) (within MAX_TOUCHED (touched_count s.sizes.page o (length b)) short) (within MAX_FILE_SIZE (o + length b) small)
-          (subst (λ g. Answers (first_of (stopped s g (write_stop s g o (length b))) (room_tests s g o (length b))) r s new (WriteReply s g o b r new)) write_file
-          (subst (λ q. Answers (first_of (stopped s f q) (room_tests s f o (length b))) r s new (WriteReply s f o b r new)) (sym (no_stop s f o (length b) none fresh)) k))
+          (subst (λ g. Answers (first_of (stopped s g (write_stop s g o (length b))) (room_tests s g o (length b))) r s new (WriteReply s g o b r new)) write_file k)
 
-      pub write_no_room : (r : Refusal) → refuse r ≡ room_tests s f o (length b) → Step s (event.Write h o b) (reply.Refused r) s
-      write_no_room r e = after_tests (reply.Refused r) s (subst (λ t. Answers t (reply.Refused r) s s (WriteReply s f o b (reply.Refused r) s)) e (refl, refl))
+      pub write_stopped : (p : ℕ) (c : Bool) → c ≡ is_filling s f p → Some p ≡ write_stop s f o (length b) → Step s (event.Write h o b) (cond c (reply.Wait (record { 0 = p })) (reply.Miss (record { 0 = p }))) s
+      write_stopped p c is e =
+          let r : Reply = cond c (reply.Wait (record { 0 = p })) (reply.Miss (record { 0 = p })) in
+          from_stop r s (subst (λ q. Answers (first_of (stopped s f q) (room_tests s f o (length b))) r s s (WriteReply s f o b r s)) e (ap (λ t. cond t (reply.Wait (record { 0 = p })) (reply.Miss (record { 0 = p }))) is, refl))
 
-      pub write_no_memory : (new : State) → None ≡ room_tests s f o (length b) → new ≡ s → Step s (event.Write h o b) (reply.Refused Memory) new
-      write_no_memory new e same = after_tests (reply.Refused Memory) new (subst (λ t. Answers t (reply.Refused Memory) s new (WriteReply s f o b (reply.Refused Memory) new)) e same)
+      module _ (free : None ≡ write_stop s f o (length b)) where
+        after_tests : (r : Reply) (new : State) → Answers (room_tests s f o (length b)) r s new (WriteReply s f o b r new) → Step s (event.Write h o b) r new
+        after_tests r new k = from_stop r new (subst (λ q. Answers (first_of (stopped s f q) (room_tests s f o (length b))) r s new (WriteReply s f o b r new)) free k)
 
-      pub write_step : (n end : ℕ) (new : State) → None ≡ room_tests s f o (length b) → n ≡ length b → end ≡ o + length b → new ≡ written s f o b → Step s (event.Write h o b) (reply.Wrote n end) new
-      write_step n end new e count last is = after_tests (reply.Wrote n end) new (subst (λ t. Answers t (reply.Wrote n end) s new (WriteReply s f o b (reply.Wrote n end) new)) e (count, last, is))
+        pub write_passed : None ≡ room_tests s f o (length b) → write_tests s h.0 o (length b) ≡ None
+        write_passed room = four_passed _ _ _ _ _ _ _ _ _ write_open (above_zero (length b) some) (within MAX_TOUCHED (touched_count s.sizes.page o (length b)) short) (within MAX_FILE_SIZE (o + length b) small)
+            (ap (λ g. first_of (stopped s g (write_stop s g o (length b))) (room_tests s g o (length b))) (sym write_file) ∙ ap (λ q. first_of (stopped s f q) (room_tests s f o (length b))) (sym free) ∙ sym room)
+
+        pub write_no_room : (r : Refusal) → refuse r ≡ room_tests s f o (length b) → Step s (event.Write h o b) (reply.Refused r) s
+        write_no_room r e = after_tests (reply.Refused r) s (subst (λ t. Answers t (reply.Refused r) s s (WriteReply s f o b (reply.Refused r) s)) e (refl, refl))
+
+        pub write_no_memory : (new : State) → None ≡ room_tests s f o (length b) → new ≡ s → Step s (event.Write h o b) (reply.Refused Memory) new
+        write_no_memory new e same = after_tests (reply.Refused Memory) new (subst (λ t. Answers t (reply.Refused Memory) s new (WriteReply s f o b (reply.Refused Memory) new)) e same)
+
+        pub write_step : (n end : ℕ) (new : State) → None ≡ room_tests s f o (length b) → n ≡ length b → end ≡ o + length b → new ≡ written s f o b → Step s (event.Write h o b) (reply.Wrote n end) new
+        write_step n end new e count last is = after_tests (reply.Wrote n end) new (subst (λ t. Answers t (reply.Wrote n end) s new (WriteReply s f o b (reply.Wrote n end) new)) e (count, last, is))
 
 -- ---- fills
 
-fill_chain : (a b t u v w : Bool) (x y z p q k : Option Reply) (r : Reply) (old new : State) (happens : Type 0) → a ≡ false → b ≡ false → t ≡ false → u ≡ false → v ≡ false → w ≡ false → happens → Answers (cond a x (cond b y (cond t z (cond u p (cond v q (cond w k None)))))) r old new happens
-fill_chain true b t u v w x y z p q k r old new happens ea eb et eu ev ew h = absurd (false≢true (sym ea))
-fill_chain false true t u v w x y z p q k r old new happens ea eb et eu ev ew h = absurd (false≢true (sym eb))
-fill_chain false false true u v w x y z p q k r old new happens ea eb et eu ev ew h = absurd (false≢true (sym et))
-fill_chain false false false true v w x y z p q k r old new happens ea eb et eu ev ew h = absurd (false≢true (sym eu))
-fill_chain false false false false true w x y z p q k r old new happens ea eb et eu ev ew h = absurd (false≢true (sym ev))
-fill_chain false false false false false true x y z p q k r old new happens ea eb et eu ev ew h = absurd (false≢true (sym ew))
-fill_chain false false false false false false x y z p q k r old new happens ea eb et eu ev ew h = h
+five_passed : (a b t u v : Bool) (x y z p q rest : Option Reply) (r : Reply) (old new : State) (happens : Type 0) → a ≡ false → b ≡ false → t ≡ false → u ≡ false → v ≡ false → Answers rest r old new happens → Answers (cond a x (cond b y (cond t z (cond u p (cond v q rest))))) r old new happens
+five_passed true b t u v x y z p q rest r old new happens ea eb et eu ev h = absurd (false≢true (sym ea))
+five_passed false true t u v x y z p q rest r old new happens ea eb et eu ev h = absurd (false≢true (sym eb))
+five_passed false false true u v x y z p q rest r old new happens ea eb et eu ev h = absurd (false≢true (sym et))
+five_passed false false false true v x y z p q rest r old new happens ea eb et eu ev h = absurd (false≢true (sym eu))
+five_passed false false false false true x y z p q rest r old new happens ea eb et eu ev h = absurd (false≢true (sym ev))
+five_passed false false false false false x y z p q rest r old new happens ea eb et eu ev h = h
 
 fifth : (a b t u v : Bool) (x y z p k : Option Reply) (q : Reply) (s : State) (happens : Type 0) → a ≡ false → b ≡ false → t ≡ false → u ≡ false → v ≡ true → Answers (cond a x (cond b y (cond t z (cond u p (cond v (Some q) k))))) q s s happens
 fifth true b t u v x y z p k q s happens ea eb et eu ev = absurd (false≢true (sym ea))
@@ -239,39 +225,41 @@ fifth false b t u v x y z p k q s happens ea eb et eu ev = fourth b t u v y z p 
 not_past : (m k : ℕ) → k < m → nat_le m k ≡ false
 not_past m k h = grind (arith, nat_tests)
 
-module _ (s : State) (h : HandleId) (p : PageIndex) (f : ℕ) (found : Some f ≡ finmap.get s.handles h.0) (none : s.requests ≡ finmap.empty) (fresh : (g q : ℕ) → is_written (spot_at s g q) ≡ false) where
+module _ (s : State) (h : HandleId) (p : PageIndex) (f : ℕ) (found : Some f ≡ finmap.get s.handles h.0) where
   fill_open : not (is_open s h.0) ≡ false
   fill_open = ap (λ o. not (is_some o)) (sym found)
 
   fill_file : f ≡ file_of s h.0
   fill_file = ap (λ o. unwrap_or o 0) found
 
-  not_written : is_written (spot_at s (file_of s h.0) p.0) ≡ false
-  not_written = fresh (file_of s h.0) p.0
+  -- as the code tells that the page is in the file
+  pub told_inside : (i : State) → i ≡ s → (P size count : ℕ) → P ≡ i.sizes.page → size ≡ (file_at i f).size → count ≡ page_count P size → p.0 < count → p.0 < page_count s.sizes.page (file_at s f).size
+  told_inside i same P size count page total is below = subst (λ n. p.0 < n) (is ∙ (λ k. page_count ((page ∙ ap (λ (x : State). x.sizes.page) same) k) ((total ∙ ap (λ (x : State). (file_at x f).size) same) k))) below
 
   module _ (inside : p.0 < page_count s.sizes.page (file_at s f).size) where
     fill_inside : nat_le (page_count s.sizes.page (file_at s (file_of s h.0)).size) p.0 ≡ false
     fill_inside = ap (λ g. nat_le (page_count s.sizes.page (file_at s g).size) p.0) (sym fill_file) ∙ not_past _ _ inside
 
-    pub fill_present : is_cached s f p.0 ≡ true → Step s (event.FillBegin h p) reply.Present s
-    fill_present cached = fourth _ _ _ _ _ _ _ _ _ s _ fill_open fill_inside (none_filling s (file_of s h.0) p.0 none) (ap (λ g. is_cached s g p.0) (sym fill_file) ∙ cached)
+    pub fill_waits : is_filling s f p.0 ≡ true → Step s (event.FillBegin h p) (reply.Wait p) s
+    fill_waits busy = third _ _ _ _ _ _ _ s _ fill_open fill_inside (ap (λ g. is_filling s g p.0) (sym fill_file) ∙ busy)
 
-    module _ (absent : is_cached s f p.0 ≡ false) where
-      fill_absent : is_cached s (file_of s h.0) p.0 ≡ false
-      fill_absent = ap (λ g. is_cached s g p.0) (sym fill_file) ∙ absent
+    module _ (idle : is_filling s f p.0 ≡ false) where
+      fill_idle : is_filling s (file_of s h.0) p.0 ≡ false
+      fill_idle = ap (λ g. is_filling s g p.0) (sym fill_file) ∙ idle
 
-      pub fill_no_frame : free_frames s ≡ 0 → Step s (event.FillBegin h p) (reply.Refused NoFrame) s
-      fill_no_frame full = fifth _ _ _ _ _ _ _ _ _ _ _ s _ fill_open fill_inside (none_filling s (file_of s h.0) p.0 none) fill_absent (ap (λ n. eqb n 0) full)
+      pub fill_present : is_cached s f p.0 ≡ true → Step s (event.FillBegin h p) reply.Present s
+      fill_present cached = fourth _ _ _ _ _ _ _ _ _ s _ fill_open fill_inside fill_idle (ap (λ g. is_cached s g p.0) (sym fill_file) ∙ cached)
 
-      module _ (room : 0 < free_frames s) (new : State) where
-        fill_happens : (r : Reply) → FillBeginReply s (file_of s h.0) p.0 r new → Step s (event.FillBegin h p) r new
-        fill_happens r k = fill_chain _ _ _ _ _ _ _ _ _ _ _ _ r s new _ fill_open fill_inside (none_filling s (file_of s h.0) p.0 none) fill_absent (above_zero (free_frames s) room) (ap (λ b. b && is_full s) not_written) k
+      module _ (absent : is_cached s f p.0 ≡ false) where
+        fill_absent : is_cached s (file_of s h.0) p.0 ≡ false
+        fill_absent = ap (λ g. is_cached s g p.0) (sym fill_file) ∙ absent
 
-        pub fill_no_memory : new ≡ s → Step s (event.FillBegin h p) (reply.Refused Memory) new
-        fill_no_memory same = fill_happens (reply.Refused Memory) same
+        pub fill_no_frame : free_frames s ≡ 0 → Step s (event.FillBegin h p) (reply.Refused NoFrame) s
+        fill_no_frame full = fifth _ _ _ _ _ _ _ _ _ _ _ s _ fill_open fill_inside fill_idle fill_absent (ap (λ n. eqb n 0) full)
 
-        pub fill_done : new ≡ put_page s f p.0 (blank s.sizes.page) → Step s (event.FillBegin h p) reply.Filled new
-        fill_done is = fill_happens reply.Filled (not_written, is ∙ ap (λ g. put_page s g p.0 (blank s.sizes.page)) fill_file)
+        pub fill_rest : 0 < free_frames s → (r : Reply) (new : State) → FillsAbsent s f p.0 r new → Step s (event.FillBegin h p) r new
+        fill_rest room r new rest = five_passed _ _ _ _ _ _ _ _ _ _ _ r s new _ fill_open fill_inside fill_idle fill_absent (above_zero (free_frames s) room)
+            (subst (λ g. FillsAbsent s g p.0 r new) fill_file rest)
 
 -- an append is a write at the end
 pub append_step : (s new : State) (h : HandleId) (end : ℕ) (b : List ℕ) (r : Reply) → end ≡ (file_at s (file_of s h.0)).size → Step s (event.Write h end b) r new → Step s (event.Append h b) r new

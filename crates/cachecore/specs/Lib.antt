@@ -1,6 +1,8 @@
 pub mod Bare
 pub mod Changes
 pub mod Codes
+pub mod Cuts
+pub mod Flying
 pub mod Handles
 pub mod Holding
 pub mod Pairs

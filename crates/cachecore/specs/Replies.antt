@@ -1,23 +1,40 @@
 -- What the calls answer, as replies of the machine.
-use Rattle.std.specs.Prelude.{◌≡◌, ◌<◌, ◌≤◌, ℕ, true, false, List, length, take, Option, Some, None, option_map, Result, Ok, Err}
+use Rattle.std.specs.FinMap as map
+use Rattle.std.specs.Prelude.{◌≡◌, ◌<◌, ◌≤◌, ℕ, true, false, List, length, take, Option, Some, None, option_map, ◌&&◌, if◌then◌else◌, Result, Ok, Err}
 use Rattle.pc_types.specs.TagBits.{tag_set}
 use Rattle.pc_types.specs.declared.refusal.Refusal.{Refusal}
-use Rattle.pc_types.specs.declared.refusal.Refusal.TheVariants.{NoSuchFile}
+use Rattle.pc_types.specs.declared.refusal.Refusal.TheVariants.{NoSuchFile, TooManyInFlight}
 use Rattle.pc_types.specs.declared.ids.FileId.{FileId}
 use Rattle.pc_types.specs.declared.ids.HandleId.{HandleId}
+use Rattle.pc_types.specs.declared.ids.PageIndex.{PageIndex}
+use Rattle.blockdev.specs.Device as device
+use Rattle.blockdev.specs.Jobs.{Task, FinishedTask}
+use Rattle.cachecore.specs.declared.answers.Ended.{Ended}
+use Rattle.cachecore.specs.declared.answers.Ended.TheVariants as ended
 use Rattle.cachecore.specs.declared.answers.FillBegun.{FillBegun}
 use Rattle.cachecore.specs.declared.answers.FillBegun.TheVariants as fill
+use Rattle.cachecore.specs.declared.answers.FlushBegun.{FlushBegun}
+use Rattle.cachecore.specs.declared.answers.FlushBegun.TheVariants as flush
 use Rattle.cachecore.specs.declared.answers.PageTags.{PageTags}
 use Rattle.cachecore.specs.declared.answers.PageTags.TheVariants as tags
 use Rattle.cachecore.specs.declared.answers.ReadAnswer.{ReadAnswer}
 use Rattle.cachecore.specs.declared.answers.ReadAnswer.TheVariants as read
 use Rattle.cachecore.specs.declared.answers.Refused.{Refused}
+use Rattle.cachecore.specs.declared.answers.RefusedEnd.{RefusedEnd}
+use Rattle.cachecore.specs.declared.answers.TruncateAnswer.{TruncateAnswer}
+use Rattle.cachecore.specs.declared.answers.TruncateAnswer.TheVariants as cut
 use Rattle.cachecore.specs.declared.answers.WriteAnswer.{WriteAnswer}
 use Rattle.cachecore.specs.declared.answers.WriteAnswer.TheVariants as write
+use Rattle.cachecore.specs.declared.event.End.{End}
+use Rattle.cachecore.specs.declared.event.Event.TheVariants as event
+use Rattle.cachecore.specs.declared.event.Outcome.{Outcome}
+use Rattle.cachecore.specs.declared.event.Outcome.TheVariants as outcome
 use Rattle.cachecore.specs.declared.event.Reply.{Reply}
 use Rattle.cachecore.specs.declared.event.Reply.TheVariants as reply
-use Rattle.cachecore.specs.State.{State, page_at, is_cached, is_filling}
-use Rattle.cachecore.specs.Tests.{refuse}
+use Rattle.cachecore.specs.State.{State, Request, page_at, is_cached, is_filling, is_written, spot_at}
+use Rattle.cachecore.specs.Tests.{is_full, refuse}
+use Rattle.cachecore.specs.Step.{Step, Answers, FillBeginReply}
+use Rattle.cachecore.specs.Bare.{bare}
 
 abbrev pub created : Result FileId Refusal → Reply
 created (Ok f) = reply.File f
@@ -55,12 +72,23 @@ wrote (Ok (write.Wait p)) = reply.Wait p
 wrote (Ok (write.Miss p)) = reply.Miss p
 wrote (Err r) = reply.Refused r
 
+abbrev pub was_truncated : Result TruncateAnswer Refusal → Reply
+was_truncated (Ok cut.Done) = reply.Done
+was_truncated (Ok (cut.Wait p)) = reply.Wait p
+was_truncated (Ok (cut.Miss p)) = reply.Miss p
+was_truncated (Err r) = reply.Refused r
+
 abbrev pub fill_begun : Result FillBegun Refused → Reply
 fill_begun (Ok (fill.Gone _)) = reply.Gone
 fill_begun (Ok (fill.Wait p _)) = reply.Wait p
 fill_begun (Ok (fill.Present _)) = reply.Present
 fill_begun (Ok (fill.Filled _)) = reply.Filled
+fill_begun (Ok (fill.Job job)) = reply.Job (record { 0 = job.serial })
 fill_begun (Err e) = reply.Refused e.refusal
+
+-- what is left of the step of a fill that begins, after the tests that come before those of the page's block
+abbrev pub FillsAbsent : State → ℕ → ℕ → Reply → State → Type 0
+FillsAbsent old f p r new = Answers (if is_written (spot_at old f p) && is_full old then refuse TooManyInFlight else None) r old new (FillBeginReply old f p r new)
 
 -- the buffer comes back with these bytes
 abbrev pub GivesBack : List ℕ → Result FillBegun Refused → Type 0
@@ -68,7 +96,70 @@ GivesBack bytes (Ok (fill.Gone buffer)) = buffer ≡ bytes
 GivesBack bytes (Ok (fill.Wait p buffer)) = buffer ≡ bytes
 GivesBack bytes (Ok (fill.Present buffer)) = buffer ≡ bytes
 GivesBack bytes (Ok (fill.Filled buffer)) = buffer ≡ bytes
+GivesBack bytes (Ok (fill.Job job)) = job.bytes ≡ bytes
 GivesBack bytes (Err e) = e.buffer ≡ bytes
+
+-- the job is that of a request in flight, with these bytes in its buffer
+abbrev pub IsJobOf : State → Task → (Request → List ℕ) → Type 0
+IsJobOf s job bytes =
+    (r : Request) × (map.get s.requests job.serial ≡ Some r) × (job ≡ record { cache = s.name; serial = job.serial; kind = r.kind; block = r.block; bytes = bytes r })
+
+-- a job that begins a fill is its request's
+abbrev pub IsFillJob : State → Result FillBegun Refused → Type 0
+IsFillJob new (Ok (fill.Job job)) = IsJobOf new job (λ r. job.bytes)
+IsFillJob new _ = Unit {0}
+
+abbrev pub flush_begun : Result FlushBegun Refused → Reply
+flush_begun (Ok (flush.Nothing _)) = reply.Nothing
+flush_begun (Ok (flush.Job job)) = reply.Job (record { 0 = job.serial })
+flush_begun (Err e) = reply.Refused e.refusal
+
+-- the buffer comes back with these bytes, but where it goes with a job
+abbrev pub FlushGivesBack : List ℕ → Result FlushBegun Refused → Type 0
+FlushGivesBack bytes (Ok (flush.Nothing buffer)) = buffer ≡ bytes
+FlushGivesBack bytes (Ok (flush.Job job)) = Unit {0}
+FlushGivesBack bytes (Err e) = e.buffer ≡ bytes
+
+-- a job that begins a flush is its request's, and has the bytes that this writes
+abbrev pub IsFlushJob : State → Result FlushBegun Refused → Type 0
+IsFlushJob full (Ok (flush.Job job)) = IsJobOf full job (λ r. r.bytes)
+IsFlushJob full _ = Unit {0}
+
+-- the step of a flush that begins, and its job
+abbrev pub FlushStep : State → ℕ → Result FlushBegun Refused → State → Type 0
+FlushStep old f result new = (full : State) × Step old (event.FlushBegin (record { 0 = f })) (flush_begun result) full × (new ≡ bare full) × IsFlushJob full result
+
+-- how the device call of a finished job went
+abbrev pub outcome_of : device.Outcome → List ℕ → Outcome
+outcome_of (Ok _) bytes = outcome.Ok bytes
+outcome_of (Err code) bytes = outcome.Fault code
+
+-- a finished job, handed in to end its request
+abbrev pub end_of : FinishedTask → End
+end_of f = record { cache = f.cache; kind = f.kind; serial = record { 0 = f.serial }; outcome = outcome_of f.outcome f.bytes }
+
+abbrev pub fill_ended : Result Ended RefusedEnd → Reply
+fill_ended (Ok (ended.Dropped _)) = reply.Dropped
+fill_ended (Ok (ended.Failed code _)) = reply.Failed code
+fill_ended (Ok (ended.Done _)) = reply.Filled
+fill_ended (Err e) = reply.Refused e.refusal
+
+abbrev pub flush_ended : Result Ended RefusedEnd → Reply
+flush_ended (Ok (ended.Dropped _)) = reply.Dropped
+flush_ended (Ok (ended.Failed code _)) = reply.Failed code
+flush_ended (Ok (ended.Done _)) = reply.Written
+flush_ended (Err e) = reply.Refused e.refusal
+
+-- the buffer comes back, and where the end is refused all that was handed in
+abbrev pub EndGivesBack : FinishedTask → Result Ended RefusedEnd → Type 0
+EndGivesBack f (Ok (ended.Dropped buffer)) = buffer ≡ f.bytes
+EndGivesBack f (Ok (ended.Failed code buffer)) = buffer ≡ f.bytes
+EndGivesBack f (Ok (ended.Done buffer)) = buffer ≡ f.bytes
+EndGivesBack f (Err e) = e.finished ≡ f
+
+abbrev pub evicted : Option (FileId × PageIndex) → Reply
+evicted (Some e) = reply.Evicted e.0 e.1
+evicted None = reply.NoneIdle
 
 -- the refusal of a test, where one holds
 abbrev pub test_of : Result Unit Refusal → Option Reply

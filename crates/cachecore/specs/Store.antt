@@ -97,6 +97,10 @@ abbrev pub put_in : ℕ × ℕ → Bool → set.FinSet place_cmp → set.FinSet 
 put_in place false s = set.remove s place
 put_in place true s = set.insert s place
 
+-- a page whose write begins
+abbrev pub under_write : Page → Page
+under_write page = record page { tags = record { dirty = false; writeback = true; towrite = false } }
+
 -- the store after page p of file f became this one, or is filling, or neither, with so many free frames
 abbrev pub with_entry : Store → ℕ → ℕ → Option Page → Bool → ℕ → Store
 with_entry s f p page waits free = record (with_pages s f (put_at p page (stored_at s f).pages) free) { filling = put_in (f, p) waits s.filling }

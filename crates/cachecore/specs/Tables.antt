@@ -1,36 +1,41 @@
 -- Inside this crate: the tables that the program keeps, as the maps of the state, and what always holds of them.
-use Rattle.std.specs.Prelude.{◌≡◌, ◌+◌, ◌<◌, ◌≤◌, ℕ, false, List, length, Some, slice_index_or, sum_by}
+use Rattle.std.specs.Prelude.{◌≡◌, ◌+◌, ◌<◌, ◌≤◌, ℕ, List, length, Some}
 use Rattle.std.specs.Ordering.{nat_cmp}
 use Rattle.std.specs.FinMap.{FinMap, empty, get, len}
 use Rattle.pc_types.specs.Limits.{Sizes}
-use Rattle.pc_types.specs.declared.limits.TheConstants.{MAX_FILES, MAX_FILE_SIZE, MAX_FRAMES}
+use Rattle.pc_types.specs.declared.limits.TheConstants.{MAX_FILES, MAX_FILE_SIZE, MAX_FRAMES, SERIAL_END}
 use Rattle.blockmap.specs.Blocks.{Blocks}
-use Rattle.cachecore.specs.State.{State, File, no_file, is_written}
+use Rattle.blockmap.specs.Keys.{IsPage}
+use Rattle.writeback.specs.Flights.{Flights}
+use Rattle.cachecore.specs.State.{State, File, Request, cached_total, file_at, filling_total, is_filling}
+use Rattle.cachecore.specs.Flying.{requests_of}
 use Rattle.cachecore.specs.Holding.{Holds}
 use Rattle.cachecore.specs.Pairs.{AreSized}
+use Rattle.cachecore.specs.Sound.{Sound}
 use Rattle.cachecore.specs.Store.{Store, is_awaited}
 
--- the state that the tables make. No request and no sync has begun
-abbrev pub state_of : Sizes → ℕ → List File → FinMap nat_cmp ℕ → Blocks → State
-state_of sizes name files handles blocks =
-    record { sizes = sizes; name = name; files = files; handles = handles; spots = blocks.spots; next = 0; requests = empty; syncs = empty }
+-- the state that the tables make. No sync has begun
+abbrev pub state_of : Sizes → ℕ → List File → FinMap nat_cmp ℕ → Blocks → Flights → State
+state_of sizes name files handles blocks flights =
+    record { sizes = sizes; name = name; files = files; handles = handles; spots = blocks.spots; next = flights.next; requests = requests_of flights.requests; syncs = empty }
 
--- what every cache keeps
-pub record CoreFacts (sizes : Sizes) (files : List File) (handles : FinMap nat_cmp ℕ) (blocks : Blocks) (free : ℕ) : Type 0 where
-  pub few_files : length files ≤ MAX_FILES
-  pub known : (h f : ℕ) → get handles h ≡ Some f → f < length files
-  pub bounded : (f : ℕ) → (slice_index_or files f no_file).size ≤ MAX_FILE_SIZE
-  pub sized : (f : ℕ) → AreSized sizes.page (slice_index_or files f no_file).pages
-  pub framed : sizes.frames ≤ MAX_FRAMES
-  pub counted : sum_by (λ (file : File). len file.pages) files + free ≡ sizes.frames
-  pub device : blocks.count ≡ sizes.blocks
-  pub holds : Holds blocks.held empty
-  -- no write of a page has ended yet
-  pub unwritten : (f p : ℕ) → is_written (get blocks.spots (f, p)) ≡ false
-
--- what a cache keeps of its store of pages
-pub record IsCore (sizes : Sizes) (store : Store) (handles : FinMap nat_cmp ℕ) (blocks : Blocks) : Type 0 where
-  pub facts : CoreFacts sizes store.files handles blocks store.free
-  pub page : store.page ≡ sizes.page
-  -- no request has begun
-  pub quiet : (f p : ℕ) → is_awaited store f p ≡ false
+-- what a cache in this state keeps of its store of pages and its blocks
+pub record IsCore (s : State) (store : Store) (blocks : Blocks) : Type 0 where
+  pub few_files : length s.files ≤ MAX_FILES
+  pub known : (h f : ℕ) → get s.handles h ≡ Some f → f < length s.files
+  pub bounded : (f : ℕ) → (file_at s f).size ≤ MAX_FILE_SIZE
+  pub sized : (f : ℕ) → AreSized s.sizes.page (file_at s f).pages
+  pub page : store.page ≡ s.sizes.page
+  -- each frame is a cached page's, a filling one's, or free
+  pub framed : s.sizes.frames ≤ MAX_FRAMES
+  pub counted : cached_total s + filling_total s + store.free ≡ s.sizes.frames
+  pub filling : (f p : ℕ) → is_awaited store f p ≡ is_filling s f p
+  -- the blocks are those of the device, and the requests in flight hold theirs
+  pub device : blocks.count ≡ s.sizes.blocks
+  pub holds : Holds blocks.held s.requests
+  pub within : (t : ℕ) (r : Request) → get s.requests t ≡ Some r → IsPage r.file r.page
+  pub filed : (t : ℕ) (r : Request) → get s.requests t ≡ Some r → r.file < length s.files
+  -- each failed write of a file was a request that ended, so their count fits
+  pub failed : (f : ℕ) → (file_at s f).failures + len s.requests ≤ s.next
+  pub serials : s.next ≤ SERIAL_END
+  pub sound : Sound s

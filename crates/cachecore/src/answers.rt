@@ -1,7 +1,7 @@
 //! What the calls of a cache answer.
 
-use blockdev::Buffer;
-use pc_types::{PageIndex, Refusal, Tags};
+use blockdev::{Buffer, Finished, Job};
+use pc_types::{ErrCode, PageIndex, Refusal, Tags};
 
 /// What a read answers.
 #[derive(Clone, Copy, PartialEq, Eq, Debug)]
@@ -40,6 +40,39 @@ pub enum FillBegun {
     Present(Buffer),
     /// The page is cached: its bytes are not on the device, so they are zeros.
     Filled(Buffer),
+    /// The page is filling: its block has to be read, into the buffer.
+    Job(Job),
+}
+
+/// What the begin of a flush answers, with the buffer that was handed in.
+#[derive(Drop, Debug)]
+pub enum FlushBegun {
+    /// No page of the file is to be written.
+    Nothing(Buffer),
+    /// A write of a page has begun: the buffer has its bytes, and they have to be written to its block.
+    Job(Job),
+}
+
+/// How a request ended, with its buffer.
+#[derive(Drop, Debug)]
+pub enum Ended {
+    /// Its page was cut off before, and nothing changed.
+    Dropped(Buffer),
+    /// Its device call failed. A page to fill is absent again, and one to write is dirty again.
+    Failed(ErrCode, Buffer),
+    /// The page is filled, or written.
+    Done(Buffer),
+}
+
+/// What a truncation answers.
+#[derive(Clone, Copy, PartialEq, Eq, Debug)]
+pub enum TruncateAnswer {
+    /// The file has the new size.
+    Done,
+    /// The page that is cut into is filling: try again after a request has ended.
+    Wait(PageIndex),
+    /// The page that is cut into has to be filled first.
+    Miss(PageIndex),
 }
 
 /// A refusal, with the buffer that was handed in.
@@ -47,6 +80,13 @@ pub enum FillBegun {
 pub struct Refused {
     pub refusal: Refusal,
     pub buffer: Buffer,
+}
+
+/// A refusal of an end, with what was handed in.
+#[derive(Drop, Debug)]
+pub struct RefusedEnd {
+    pub refusal: Refusal,
+    pub finished: Finished,
 }
 
 /// What is known of a page.

@@ -1,35 +1,36 @@
 //! The cache's state and its calls.
 
-ghost use Rattle.std.specs.Prelude.{◌≡◌, ◌≢◌, ◌+◌, ◌-◌, ◌*◌, ◌/◌, ◌^◌, ◌<◌, ◌≤◌, ℕ, [], Option, IfOk, IfSome, IsOkUnless, OnOk, OnErr, length, drop, true, false, is_some, None, nat_lt, ◌&&◌};
+ghost use Rattle.std.specs.Prelude.{◌≡◌, ◌≢◌, ◌+◌, ◌-◌, ◌*◌, ◌/◌, ◌^◌, ◌<◌, ◌≤◌, ℕ, [], Option, IfOk, IfSome, IsOkUnless, OnOk, OnErr, length, drop, true, false, is_some, None, nat_lt, not, ◌&&◌, ◌||◌};
 ghost use Rattle.std.specs.FinMap as map;
 ghost use Rattle.mapping.specs.declared.mapping.TheConstants.{MAX_PAGES};
-ghost use Rattle.cachecore.specs.State.{dirty_total, free_frames, is_cached, page_count, touched_count};
-ghost use Rattle.cachecore.specs.Tests.{room_tests};
-ghost use Rattle.cachecore.specs.Changes.{blank, put_page, written};
+ghost use Rattle.cachecore.specs.State.{dirty_total, file_of, is_filling, page_count, touched_count};
+ghost use Rattle.cachecore.specs.Tests.{covers, must_fill, room_tests, write_stop, write_tests};
+ghost use Rattle.cachecore.specs.Changes.{written};
 ghost use Rattle.cachecore.specs.Step.{Step};
-ghost use Rattle.cachecore.specs.Replies.{created, opened, closed, sized, wrote, was_read, bytes_read, fill_begun, GivesBack, test_of, TagsAre};
+ghost use Rattle.cachecore.specs.Replies.{created, opened, closed, sized, wrote, was_read, bytes_read, test_of, TagsAre};
 
-use crate::answers::{FillBegun, PageTags, ReadAnswer, Refused, WriteAnswer};
+use crate::answers::{PageTags, ReadAnswer, WriteAnswer};
 use crate::event::Event;
 use crate::handles::Handles;
 use crate::pages::Pages;
 use crate::placing::{count_without_block, place};
-use blockdev::Buffer;
 use blockmap::BlockMap;
 use pc_types::limits::{MAX_FILE_SIZE, MAX_FILES, MAX_HANDLES, MAX_PAGE_SIZE, MAX_TOUCHED};
 use pc_types::{FileId, Geometry, HandleId, PageIndex, Refusal};
 use std::alloc::{AllocError, Global};
 use std::marker::Model;
+use writeback::Requests;
 
 /// The state of a cache.
 #[derive(Drop)]
 pub struct CacheCore {
-    geometry: Geometry,
-    name: u64,
-    pages: Pages,
-    handles: Handles,
-    blocks: BlockMap,
-    alloc: Global,
+    pub(crate) geometry: Geometry,
+    pub(crate) name: u64,
+    pub(crate) pages: Pages,
+    pub(crate) handles: Handles,
+    pub(crate) blocks: BlockMap,
+    pub(crate) requests: Requests,
+    pub(crate) alloc: Global,
 }
 
 impl Model for CacheCore {
@@ -41,9 +42,9 @@ impl Model for CacheCore {
 
     ghost coded = { state_code };
 
-    ghost view = { λ a. state_of a.geometry a.name a.pages.files a.handles a.blocks };
+    ghost view = { λ a. state_of a.geometry a.name a.pages.files a.handles a.blocks a.requests };
 
-    ghost invariant = { λ a. IsCore a.geometry a.pages a.handles a.blocks };
+    ghost invariant = { λ a. IsCore (state_of a.geometry a.name a.pages.files a.handles a.blocks a.requests) a.pages a.blocks };
 }
 
 impl CacheCore {
@@ -59,6 +60,7 @@ impl CacheCore {
             pages: Pages::new(alloc, geometry, MAX_FILES as usize)?,
             handles: Handles::new(alloc),
             blocks: BlockMap::new(alloc, geometry.blocks()),
+            requests: Requests::new(),
             alloc,
         })
     }
@@ -130,6 +132,7 @@ impl CacheCore {
         }
         match self.pages.tags(file.0, page.0) {
             Some(tags) => Ok(PageTags::Cached(tags)),
+            None if self.is_filling(file.0, page.0) => Ok(PageTags::Filling),
             None => Ok(PageTags::Absent),
         }
     }
@@ -161,6 +164,9 @@ impl CacheCore {
         let first = offset / page_size;
         let end = (offset + count - 1) / page_size + 1;
         if let Some(page) = self.pages.first_absent(file, first, end) {
+            if self.is_filling(file, page) {
+                return Ok(ReadAnswer::Wait(PageIndex(page)));
+            }
             return Ok(ReadAnswer::Miss(PageIndex(page)));
         }
         self.pages
@@ -194,6 +200,12 @@ impl CacheCore {
         if end > MAX_FILE_SIZE {
             return Err(Refusal::TooLarge);
         }
+        if let Some(page) = self.write_stop(file, offset, count) {
+            if self.is_filling(file, page) {
+                return Ok(WriteAnswer::Wait(PageIndex(page)));
+            }
+            return Ok(WriteAnswer::Miss(PageIndex(page)));
+        }
         self.check_room(file, offset, count)?;
         self.write_pages(file, offset, bytes)?;
         Ok(WriteAnswer::Wrote { count, end })
@@ -210,49 +222,50 @@ impl CacheCore {
         self.write(handle, end, bytes)
     }
 
-    /// Begins to fill an absent page. A page whose bytes are not on the device is filled with zeros at once. The buffer is
-    /// for the device's bytes, and has as many as a page.
-    pub fn fill_begin(
-        &mut self,
-        handle: HandleId,
-        page: PageIndex,
-        buffer: Buffer,
-    ) -> Result<FillBegun, Refused>
-        requires { length buffer ≡ self.old.sizes.page }
-        ensures step { Step self.old (Event.FillBegin handle page) (fill_begun result) self.new }
-        ensures back { GivesBack buffer result }
+    /// Whether a fill of the page is in flight.
+    pub(crate) fn is_filling(&self, file: u64, page: u64) -> bool
+        ensures { result ≡ is_filling self.now file page }
     {
-        let Some(file) = self.handles.file(handle.0) else {
-            let refusal = Refusal::BadHandle;
-            return Err(Refused { refusal, buffer });
-        };
-        if page.0 >= page_count(self.geometry.page(), self.pages.size(file)) {
-            return Ok(FillBegun::Gone(buffer));
-        }
-        if self.pages.is_cached(file, page.0) {
-            return Ok(FillBegun::Present(buffer));
-        }
-        if self.pages.free_frames() == 0 {
-            let refusal = Refusal::NoFrame;
-            return Err(Refused { refusal, buffer });
-        }
-        if self.make_blank(file, page.0).is_err() {
-            let refusal = Refusal::Memory;
-            return Err(Refused { refusal, buffer });
-        }
-        Ok(FillBegun::Filled(buffer))
+        self.requests.is_filling(FileId(file), PageIndex(page))
     }
 
-    /// Makes an absent page of a file as a page of zeros.
-    fn make_blank(&mut self, file: u64, page: u64) -> Result<(), AllocError>
-        requires here { file < length self.old.files }
+    /// Whether the page's bytes are on the device alone.
+    pub(crate) fn must_fill(&self, file: u64, page: u64) -> bool
+        requires here { file < length self.now.files }
         requires below { page < MAX_PAGES }
-        requires absent { is_cached self.old file page ≡ false }
-        requires room { 0 < free_frames self.old }
-        ensures ok { OnOk result (self.new ≡ put_page self.old file page (blank self.old.sizes.page)) }
-        ensures err { OnErr result (self.new ≡ self.old) }
+        ensures { result ≡ must_fill self.now file page }
     {
-        self.pages.make(file, page)
+        match self.blocks.map(FileId(file), PageIndex(page)) {
+            Some(placed) => placed.is_written && !self.pages.is_cached(file, page),
+            None => false,
+        }
+    }
+
+    /// The first page that stops a write which touches it: it is filling, or its bytes are on the device alone and are not
+    /// all written over.
+    fn write_stop(&self, file: u64, offset: u64, count: u64) -> Option<u64>
+        requires here { file < length self.now.files }
+        requires some { 0 < count }
+        requires bound { offset + count ≤ MAX_FILE_SIZE }
+        ensures { result ≡ write_stop self.now file offset count }
+    {
+        let page_size = self.geometry.page();
+        let first = offset / page_size;
+        let end = (offset + count - 1) / page_size + 1;
+        (first..end).find(|page| self.stops_write(file, *page, offset, count))
+    }
+
+    /// Whether a page that a write touches stops it.
+    fn stops_write(&self, file: u64, page: u64, offset: u64, count: u64) -> bool
+        requires here { file < length self.now.files }
+        requires below { page < MAX_PAGES }
+        requires bound { offset + count ≤ MAX_FILE_SIZE }
+        ensures { result ≡ (is_filling self.now file page || (must_fill self.now file page && not (covers self.now.sizes.page offset count page))) }
+    {
+        if self.is_filling(file, page) {
+            return true;
+        }
+        self.must_fill(file, page) && !covers(self.geometry.page(), offset, count, page)
     }
 
     /// Whether the pages that a write touches may become dirty, and there are frames and blocks for those that need one.
@@ -294,7 +307,7 @@ impl CacheCore {
         requires some { 0 < length bytes.now }
         requires bound { offset + length bytes.now ≤ MAX_FILE_SIZE }
         requires few { touched_count self.old.sizes.page offset (length bytes.now) ≤ MAX_TOUCHED }
-        requires room { room_tests self.old file offset (length bytes.now) ≡ None }
+        requires passed { (h : ℕ) × (file_of self.old h ≡ file) × (write_tests self.old h offset (length bytes.now) ≡ None) }
         ensures ok { OnOk result (self.new ≡ written self.old file offset bytes.now) }
         ensures err { OnErr result (self.new ≡ self.old) }
     {
@@ -332,11 +345,22 @@ fn touched_count(page_size: u64, offset: u64, count: u64) -> u64
 }
 
 /// How many pages a file of this size has.
-fn page_count(page_size: u64, size: u64) -> u64
+pub(crate) fn page_count(page_size: u64, size: u64) -> u64
     requires positive { 0 < page_size }
     requires small { page_size ≤ MAX_PAGE_SIZE }
     requires bound { size ≤ MAX_FILE_SIZE }
     ensures { result ≡ page_count page_size size }
 {
     (size + (page_size - 1)) / page_size
+}
+
+/// Whether the bytes from `offset` on cover the page, `count` of them.
+fn covers(page_size: u64, offset: u64, count: u64, page: u64) -> bool
+    requires small { page_size ≤ MAX_PAGE_SIZE }
+    requires below { page < MAX_PAGES }
+    requires bound { offset + count ≤ MAX_FILE_SIZE }
+    ensures { result ≡ covers page_size offset count page }
+{
+    let start = page * page_size;
+    offset <= start && start + page_size <= offset + count
 }

@@ -5,11 +5,13 @@ ghost use Rattle.std.specs.List.{range_with_len};
 ghost use Rattle.std.specs.FinMap as map;
 ghost use Rattle.pc_types.specs.declared.tags.Tag.TheVariants.{Dirty};
 ghost use Rattle.mapping.specs.Pages.{has_at};
+ghost use Rattle.pc_types.specs.TagBits.{tag_set};
+ghost use Rattle.cachecore.specs.Cuts.{is_untagged, is_idle_entry};
 ghost use Rattle.cachecore.specs.Store.{none_kept, has_page};
 
 use mapping::Mapping;
 use pc_types::limits::MAX_TOUCHED;
-use pc_types::{FrameId, PageIndex, Tag};
+use pc_types::{FrameId, PageIndex, Tag, Tags};
 use std::alloc::Global;
 
 /// A file's pages, how many writes of it failed, and the code of the last.
@@ -38,6 +40,16 @@ impl KeptFile {
     {
         match self.mapping.page(PageIndex(page)) {
             Some(mapped) => is_uptodate(uptodate, mapped.frame),
+            None => false,
+        }
+    }
+
+    /// Whether the page is cached and has no tag. A page that is filling has none either.
+    pub fn is_idle(&self, uptodate: &[bool], page: u64) -> bool
+        ensures { result ≡ is_idle_entry uptodate.now (map.get self.now.mapping.pages page) }
+    {
+        match self.mapping.page(PageIndex(page)) {
+            Some(mapped) => is_uptodate(uptodate, mapped.frame) && has_no_tag(mapped.tags),
             None => false,
         }
     }
@@ -78,6 +90,12 @@ impl KeptFile {
     {
         (first..end).filter(|p| !self.is_dirty(*p)).count()
     }
+}
+
+fn has_no_tag(tags: Tags) -> bool
+    ensures { result ≡ is_untagged (tag_set tags) }
+{
+    !tags.has(Tag::Dirty) && !tags.has(Tag::Writeback) && !tags.has(Tag::Towrite)
 }
 
 /// Whether a frame has its page's bytes, by the flags of all frames.

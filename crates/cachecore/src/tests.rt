@@ -1,6 +1,7 @@
 //! Worked sequences of calls with their answers, in a cache of 16-byte pages, 48 frames, a dirty limit of 16 and 64 blocks.
-//! The calls stand in functions of their own, since the check is slow where a cache is dropped.
+//! Every row is run by `over_a_cache`, since the check is slow where a cache is dropped.
 
+use crate::page_life_tests::{evicts, flushes, truncates, truncates_under_a_write};
 use crate::{CacheCore, FillBegun, PageTags, ReadAnswer, Refused, WriteAnswer};
 use blockdev::Buffer;
 use pc_types::{FileId, Geometry, HandleId, PageIndex, Refusal, Tag, Tags};
@@ -46,13 +47,6 @@ fn appends(rt: &impl Abort, core: &mut CacheCore) {
     assert_eq!(rt; out, [0xaa, 0xbb, 9, 9, 9, 9, 9, 9, 9, 9]);
 }
 
-#[test]
-fn an_empty_file_reads_no_bytes_and_an_append_makes_it_longer(rt: HostRuntime) -> Result<(), Fail> {
-    let mut core = opened(rt.alloc())?;
-    appends(&rt, &mut core);
-    Ok(())
-}
-
 fn leaves_a_gap(rt: &impl Abort, alloc: Global, core: &mut CacheCore) -> Result<(), Refusal> {
     let mut out = [9; 21];
     assert_eq!(rt; core.write(HANDLE, 20, b"\xff"), wrote(1, 21));
@@ -78,13 +72,6 @@ fn leaves_a_gap(rt: &impl Abort, alloc: Global, core: &mut CacheCore) -> Result<
     Ok(())
 }
 
-#[test]
-fn a_gap_reads_as_zeros_once_its_page_is_filled(rt: HostRuntime) -> Result<(), Fail> {
-    let mut core = opened(rt.alloc())?;
-    leaves_a_gap(&rt, rt.alloc(), &mut core)?;
-    Ok(())
-}
-
 fn writes_many_pages(rt: &impl Abort, core: &mut CacheCore) {
     assert_eq!(rt; core.write(HANDLE, 0, &[0xab; 256]), wrote(256, 256));
     assert_eq!(rt; core.write(HANDLE, 1, &[0xab; 256]), Err(Refusal::TooLong));
@@ -99,26 +86,12 @@ fn writes_many_pages(rt: &impl Abort, core: &mut CacheCore) {
 }
 
 // 256 bytes from the start of a page touch 16 pages, and from the next byte on 17.
-#[test]
-fn a_write_touches_sixteen_pages_at_most(rt: HostRuntime) -> Result<(), Fail> {
-    let mut core = opened(rt.alloc())?;
-    writes_many_pages(&rt, &mut core);
-    Ok(())
-}
-
 fn dirties_pages(rt: &impl Abort, core: &mut CacheCore) {
     assert_eq!(rt; core.write(HANDLE, 0, &[0xab; 256]), wrote(256, 256));
     assert_eq!(rt; core.write(HANDLE, 256, b"\xff"), Err(Refusal::DirtyLimit));
     assert_eq!(rt; core.size(HANDLE), Ok(256));
     // pages that are dirty already may be written again
     assert_eq!(rt; core.write(HANDLE, 100, b"\xff"), wrote(1, 101));
-}
-
-#[test]
-fn a_seventeenth_dirty_page_is_refused(rt: HostRuntime) -> Result<(), Fail> {
-    let mut core = opened(rt.alloc())?;
-    dirties_pages(&rt, &mut core);
-    Ok(())
 }
 
 fn writes_the_last_byte(rt: &impl Abort, core: &mut CacheCore) {
@@ -138,13 +111,6 @@ fn writes_the_last_byte(rt: &impl Abort, core: &mut CacheCore) {
     );
 }
 
-#[test]
-fn a_file_ends_at_2_to_the_40_at_most(rt: HostRuntime) -> Result<(), Fail> {
-    let mut core = opened(rt.alloc())?;
-    writes_the_last_byte(&rt, &mut core);
-    Ok(())
-}
-
 fn closes_and_opens(rt: &impl Abort, core: &mut CacheCore) {
     assert_eq!(rt; core.open(FILE), Ok(HandleId(1)));
     assert_eq!(rt; core.close(HANDLE), Ok(()));
@@ -160,9 +126,103 @@ fn closes_and_opens(rt: &impl Abort, core: &mut CacheCore) {
     );
 }
 
+#[derive(Clone, Copy)]
+enum Row {
+    Appends,
+    LeavesAGap,
+    WritesManyPages,
+    DirtiesPages,
+    WritesTheLastByte,
+    ClosesAndOpens,
+    Flushes,
+    Evicts,
+    Truncates,
+    TruncatesUnderAWrite,
+}
+
+/// Runs a row over a cache with one file, which is open.
+fn run(rt: &impl Abort, alloc: Global, core: &mut CacheCore, row: Row) -> Result<(), Refusal> {
+    match row {
+        Row::Appends => appends(rt, core),
+        Row::LeavesAGap => leaves_a_gap(rt, alloc, core)?,
+        Row::WritesManyPages => writes_many_pages(rt, core),
+        Row::DirtiesPages => dirties_pages(rt, core),
+        Row::WritesTheLastByte => writes_the_last_byte(rt, core),
+        Row::ClosesAndOpens => closes_and_opens(rt, core),
+        Row::Flushes => flushes(rt, alloc, core)?,
+        Row::Evicts => evicts(rt, alloc, core)?,
+        Row::Truncates => truncates(rt, core)?,
+        Row::TruncatesUnderAWrite => truncates_under_a_write(rt, alloc, core)?,
+    }
+    Ok(())
+}
+
+/// Runs a row over a new cache.
+fn over_a_cache(rt: &impl Abort, alloc: Global, row: Row) -> Result<(), Refusal> {
+    let mut core = opened(alloc)?;
+    run(rt, alloc, &mut core, row)
+}
+
+#[test]
+fn an_empty_file_reads_no_bytes_and_an_append_makes_it_longer(rt: HostRuntime) -> Result<(), Fail> {
+    over_a_cache(&rt, rt.alloc(), Row::Appends)?;
+    Ok(())
+}
+
+#[test]
+fn a_gap_reads_as_zeros_once_its_page_is_filled(rt: HostRuntime) -> Result<(), Fail> {
+    over_a_cache(&rt, rt.alloc(), Row::LeavesAGap)?;
+    Ok(())
+}
+
+#[test]
+fn a_write_touches_sixteen_pages_at_most(rt: HostRuntime) -> Result<(), Fail> {
+    over_a_cache(&rt, rt.alloc(), Row::WritesManyPages)?;
+    Ok(())
+}
+
+#[test]
+fn a_seventeenth_dirty_page_is_refused(rt: HostRuntime) -> Result<(), Fail> {
+    over_a_cache(&rt, rt.alloc(), Row::DirtiesPages)?;
+    Ok(())
+}
+
+#[test]
+fn a_file_ends_at_2_to_the_40_at_most(rt: HostRuntime) -> Result<(), Fail> {
+    over_a_cache(&rt, rt.alloc(), Row::WritesTheLastByte)?;
+    Ok(())
+}
+
 #[test]
 fn a_closed_number_is_given_out_again(rt: HostRuntime) -> Result<(), Fail> {
-    let mut core = opened(rt.alloc())?;
-    closes_and_opens(&rt, &mut core);
+    over_a_cache(&rt, rt.alloc(), Row::ClosesAndOpens)?;
+    Ok(())
+}
+
+#[test]
+fn a_flush_gives_a_job_with_the_bytes_of_the_lowest_dirty_page(
+    rt: HostRuntime,
+) -> Result<(), Fail> {
+    over_a_cache(&rt, rt.alloc(), Row::Flushes)?;
+    Ok(())
+}
+
+#[test]
+fn an_idle_page_is_evicted_and_a_dirty_one_stays(rt: HostRuntime) -> Result<(), Fail> {
+    over_a_cache(&rt, rt.alloc(), Row::Evicts)?;
+    Ok(())
+}
+
+#[test]
+fn a_truncation_cuts_pages_off_and_zeroes_the_tail_of_the_last(
+    rt: HostRuntime,
+) -> Result<(), Fail> {
+    over_a_cache(&rt, rt.alloc(), Row::Truncates)?;
+    Ok(())
+}
+
+#[test]
+fn a_page_under_a_write_may_be_cut(rt: HostRuntime) -> Result<(), Fail> {
+    over_a_cache(&rt, rt.alloc(), Row::TruncatesUnderAWrite)?;
     Ok(())
 }

@@ -7,7 +7,7 @@ use Rattle.cachecore.proofs.StepLemmas.{append_step}
 use Rattle.cachecore.proofs.cache.CacheCore.append.Goals as goal
 
 pub size-end-requires : goal.size-end-requires
-size-end-requires c = c.self.invariant.facts.known c.args.handle.0 c.in-Some.file (sym c.in-Some.ensures)
+size-end-requires c = c.self.invariant.known c.args.handle.0 c.in-Some.file (sym c.in-Some.ensures)
 
 pub returns : goal.returns
 returns c =

@@ -1,9 +1,14 @@
-use Rattle.std.proofs.Common.{refl}
-use Rattle.std.specs.FinSet.{contains-empty}
-use Rattle.pc_types.specs.Spots.{place_cmp}
-use Rattle.cachecore.proofs.CoreLemmas.{CoreFacts-start}
+use Rattle.std.proofs.Common.{ap}
+use Rattle.std.specs.Ordering.{nat_cmp}
+use Rattle.std.specs.FinMap as map
+use Rattle.cachecore.specs.State.{State, Request}
+use Rattle.cachecore.proofs.CoreLemmas.{core-first, first_state, requests-none}
 use Rattle.cachecore.proofs.cache.CacheCore.new.Goals as goal
 
 pub invariant_of-result : goal.invariant_of-result
 invariant_of-result c =
-    rw (c.in_ok-new.ensures.empty, c.new-2.ensures, c.new-3.ensures, c.blocks-2.ensures.value) (record { facts = CoreFacts-start c.args.geometry.now c.new.ensures.few; page = refl; quiet = λ f p. contains-empty place_cmp (f, p) })
+    rw (c.in_ok-new.ensures.empty, c.new-2.ensures, c.new-3.ensures, c.new-4.ensures, c.blocks-2.ensures.value) (core-first c.args.geometry.now c.args.name c.new.ensures.few)
+
+pub returns-clause-empty : goal.returns-clause-empty
+returns-clause-empty c =
+    rw (c.in_ok-new.ensures.empty, c.new-2.ensures, c.new-3.ensures, c.new-4.ensures) (ap (λ (m : map.FinMap nat_cmp Request). let s : State = record (first_state c.args.geometry.now c.args.name) { requests = m } in s) requests-none)

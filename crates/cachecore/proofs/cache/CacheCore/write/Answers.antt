@@ -1,13 +1,36 @@
-use Rattle.std.proofs.Common.{arith, sym, ap, subst, refl, ◌∙◌, ◌≡◌, ◌<◌, ◌≤◌, ◌+◌, length, false, ℕ}
+use Rattle.std.proofs.Common.{arith, sym, ap, subst, refl, ◌∙◌, ◌<◌, ◌≤◌, ◌+◌, length, true, false}
+use Rattle.std.specs.Prelude.{unwrap_or}
 use Rattle.std.specs.FinMap as map
 use Rattle.pc_types.specs.declared.limits.TheConstants.{MAX_FILE_SIZE, MAX_TOUCHED}
 use Rattle.pc_types.specs.declared.refusal.Refusal.TheVariants.{Memory}
 use Rattle.cachecore.specs.declared.event.Event.TheVariants as event
-use Rattle.cachecore.specs.State.{is_written, spot_at, touched_count}
+use Rattle.cachecore.specs.State.{touched_count}
 use Rattle.cachecore.specs.Step.{Step}
 use Rattle.cachecore.specs.Replies.{wrote}
-use Rattle.cachecore.proofs.StepLemmas.{err_is, write_no_room, write_no_memory, write_step}
+use Rattle.cachecore.proofs.StepLemmas.{err_is, write_stopped, write_passed, write_no_room, write_no_memory, write_step}
 use Rattle.cachecore.proofs.cache.CacheCore.write.Goals as goal
+
+pub returns-then-is_filling : goal.returns-then-is_filling
+returns-then-is_filling c =
+    let s = c.args.self.now in
+    let found = c.in-Some.ensures ∙ ap (λ s. map.get s.handles c.args.handle.0) c.self.view_is in
+    let some : 0 < length c.args.bytes.now = omega arith in
+    let page = c.page.ensures.value ∙ ap (λ s. s.sizes.page) c.self.view_is in
+    let few : touched_count c.page.result c.args.offset (length c.args.bytes.now) ≤ MAX_TOUCHED = omega (arith, c.touched_count.ensures) in
+    let short : touched_count s.sizes.page c.args.offset (length c.args.bytes.now) ≤ MAX_TOUCHED = subst (λ n. touched_count n c.args.offset (length c.args.bytes.now) ≤ MAX_TOUCHED) page few in
+    let small : c.args.offset + length c.args.bytes.now ≤ MAX_FILE_SIZE = omega (arith, c.saturating_add-end.ensures) in
+    write_stopped s c.args.handle c.args.offset c.in-Some.file c.args.bytes.now found some short small c.in-Some-write_stop.page true (sym c.if-is_filling.true ∙ c.is_filling.ensures) c.in-Some-write_stop.ensures
+
+pub returns-in-Some-write_stop : goal.returns-in-Some-write_stop
+returns-in-Some-write_stop c =
+    let s = c.args.self.now in
+    let found = c.in-Some.ensures ∙ ap (λ s. map.get s.handles c.args.handle.0) c.self.view_is in
+    let some : 0 < length c.args.bytes.now = omega arith in
+    let page = c.page.ensures.value ∙ ap (λ s. s.sizes.page) c.self.view_is in
+    let few : touched_count c.page.result c.args.offset (length c.args.bytes.now) ≤ MAX_TOUCHED = omega (arith, c.touched_count.ensures) in
+    let short : touched_count s.sizes.page c.args.offset (length c.args.bytes.now) ≤ MAX_TOUCHED = subst (λ n. touched_count n c.args.offset (length c.args.bytes.now) ≤ MAX_TOUCHED) page few in
+    let small : c.args.offset + length c.args.bytes.now ≤ MAX_FILE_SIZE = omega (arith, c.saturating_add-end.ensures) in
+    write_stopped s c.args.handle c.args.offset c.in-Some.file c.args.bytes.now found some short small c.in-Some-write_stop.page false (sym c.if-is_filling.false ∙ c.is_filling.ensures) c.in-Some-write_stop.ensures
 
 pub returns-in_err-check_room : goal.returns-in_err-check_room
 returns-in_err-check_room c =
@@ -18,10 +41,19 @@ returns-in_err-check_room c =
     let few : touched_count c.page.result c.args.offset (length c.args.bytes.now) ≤ MAX_TOUCHED = omega (arith, c.touched_count.ensures) in
     let short : touched_count s.sizes.page c.args.offset (length c.args.bytes.now) ≤ MAX_TOUCHED = subst (λ n. touched_count n c.args.offset (length c.args.bytes.now) ≤ MAX_TOUCHED) page few in
     let small : c.args.offset + length c.args.bytes.now ≤ MAX_FILE_SIZE = omega (arith, c.saturating_add-end.ensures) in
-    let none = sym (ap (λ s. s.requests) c.self.view_is) in
-    let fresh : (g q : ℕ) → is_written (spot_at s g q) ≡ false = λ g q. sym (ap (λ s. is_written (spot_at s g q)) c.self.view_is) ∙ c.self.invariant.facts.unwritten g q in
     subst (λ r. Step s (event.Write c.args.handle c.args.offset c.args.bytes.now) (wrote r) s) (sym (err_is c.from_residual.result _ c.from_residual.ensures.1))
-    (write_no_room s c.args.handle c.args.offset c.in-Some.file c.args.bytes.now found some short small none fresh _ c.in_err-check_room.ensures)
+    (write_no_room s c.args.handle c.args.offset c.in-Some.file c.args.bytes.now found some short small c.in_default-write_stop.ensures _ c.in_err-check_room.ensures)
+
+pub write_pages-requires-clause-passed : goal.write_pages-requires-clause-passed
+write_pages-requires-clause-passed c =
+    let s = c.args.self.now in
+    let found = c.in-Some.ensures ∙ ap (λ s. map.get s.handles c.args.handle.0) c.self.view_is in
+    let some : 0 < length c.args.bytes.now = omega arith in
+    let page = c.page.ensures.value ∙ ap (λ s. s.sizes.page) c.self.view_is in
+    let few : touched_count c.page.result c.args.offset (length c.args.bytes.now) ≤ MAX_TOUCHED = omega (arith, c.touched_count.ensures) in
+    let short : touched_count s.sizes.page c.args.offset (length c.args.bytes.now) ≤ MAX_TOUCHED = subst (λ n. touched_count n c.args.offset (length c.args.bytes.now) ≤ MAX_TOUCHED) page few in
+    let small : c.args.offset + length c.args.bytes.now ≤ MAX_FILE_SIZE = omega (arith, c.saturating_add-end.ensures) in
+    (c.args.handle.0, ap (λ o. unwrap_or o 0) (sym found), write_passed s c.args.handle c.args.offset c.in-Some.file c.args.bytes.now found some short small c.in_default-write_stop.ensures c.in_ok-check_room.ensures)
 
 pub returns-in_err-write_pages : goal.returns-in_err-write_pages
 returns-in_err-write_pages c =
@@ -32,10 +64,8 @@ returns-in_err-write_pages c =
     let few : touched_count c.page.result c.args.offset (length c.args.bytes.now) ≤ MAX_TOUCHED = omega (arith, c.touched_count.ensures) in
     let short : touched_count s.sizes.page c.args.offset (length c.args.bytes.now) ≤ MAX_TOUCHED = subst (λ n. touched_count n c.args.offset (length c.args.bytes.now) ≤ MAX_TOUCHED) page few in
     let small : c.args.offset + length c.args.bytes.now ≤ MAX_FILE_SIZE = omega (arith, c.saturating_add-end.ensures) in
-    let none = sym (ap (λ s. s.requests) c.self.view_is) in
-    let fresh : (g q : ℕ) → is_written (spot_at s g q) ≡ false = λ g q. sym (ap (λ s. is_written (spot_at s g q)) c.self.view_is) ∙ c.self.invariant.facts.unwritten g q in
     subst (λ r. Step s (event.Write c.args.handle c.args.offset c.args.bytes.now) (wrote r) c.write_pages.new.self) (sym (err_is c.from_residual-in_err-write_pages.result Memory c.from_residual-in_err-write_pages.ensures.1))
-    (write_no_memory s c.args.handle c.args.offset c.in-Some.file c.args.bytes.now found some short small none fresh c.write_pages.new.self c.in_ok-check_room.ensures c.in_err-write_pages.ensures.err)
+    (write_no_memory s c.args.handle c.args.offset c.in-Some.file c.args.bytes.now found some short small c.in_default-write_stop.ensures c.write_pages.new.self c.in_ok-check_room.ensures c.in_err-write_pages.ensures.err)
 
 pub returns : goal.returns
 returns c =
@@ -46,6 +76,4 @@ returns c =
     let few : touched_count c.page.result c.args.offset (length c.args.bytes.now) ≤ MAX_TOUCHED = omega (arith, c.touched_count.ensures) in
     let short : touched_count s.sizes.page c.args.offset (length c.args.bytes.now) ≤ MAX_TOUCHED = subst (λ n. touched_count n c.args.offset (length c.args.bytes.now) ≤ MAX_TOUCHED) page few in
     let small : c.args.offset + length c.args.bytes.now ≤ MAX_FILE_SIZE = omega (arith, c.saturating_add-end.ensures) in
-    let none = sym (ap (λ s. s.requests) c.self.view_is) in
-    let fresh : (g q : ℕ) → is_written (spot_at s g q) ≡ false = λ g q. sym (ap (λ s. is_written (spot_at s g q)) c.self.view_is) ∙ c.self.invariant.facts.unwritten g q in
-    write_step s c.args.handle c.args.offset c.in-Some.file c.args.bytes.now found some short small none fresh _ _ c.write_pages.new.self c.in_ok-check_room.ensures refl (omega (arith, c.saturating_add-end.ensures)) c.in_ok-write_pages.ensures.ok
+    write_step s c.args.handle c.args.offset c.in-Some.file c.args.bytes.now found some short small c.in_default-write_stop.ensures _ _ c.write_pages.new.self c.in_ok-check_room.ensures refl (omega (arith, c.saturating_add-end.ensures)) c.in_ok-write_pages.ensures.ok

@@ -1,7 +1,6 @@
-use Rattle.std.proofs.Common.{arith, ap, sym, subst, refl, true, false, ◌∙◌, ◌≡◌, ◌+◌, ℕ, List, length}
-use Rattle.std.specs.Prelude.{Some, Option, is_some, slice_set}
+use Rattle.std.proofs.Common.{arith, ap, sym, subst, refl, true, false, ◌∙◌, ◌≡◌, ℕ, List, length}
+use Rattle.std.specs.Prelude.{Some, is_some, slice_set}
 use Rattle.std.specs.FinMap as map
-use Rattle.std.specs.FinSet as set
 use Rattle.std.proofs.lemmas.Bool.{false≢true}
 use Rattle.std.proofs.lemmas.List.{get_or_read}
 use Rattle.frames.specs.Table.{free_frames}
@@ -11,7 +10,7 @@ use Rattle.mapping.specs.Pages.{seen}
 use Rattle.pc_types.specs.Tags.{TagSet, no_tags}
 use Rattle.cachecore.specs.declared.kept.KeptFile.{KeptFile}
 use Rattle.cachecore.specs.State.{Page}
-use Rattle.cachecore.specs.Store.{Store, IsStore, store_of, none_kept, kept_at, entry_at, stored_at, is_awaited, with_pages, with_entry}
+use Rattle.cachecore.specs.Store.{Store, IsStore, store_of, none_kept, kept_at, entry_at, is_awaited, with_entry}
 use Rattle.cachecore.proofs.StoreLaws.{waits_at, waiting_entry, waiting_flag, none_seen, kept_same}
 use Rattle.cachecore.proofs.StoreFacts.{here_kept, page_taken, dirty_one, changed_store, changed_seen}
 use Rattle.cachecore.proofs.pages.Pages.finish_fill.Goals as goal

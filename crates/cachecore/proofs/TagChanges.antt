@@ -1,0 +1,70 @@
+-- A cached page gets other tags, and keeps its bytes.
+use Rattle.std.proofs.Common.{◌≡◌, ℕ, ◌+◌, ◌<◌, ◌≤◌, Bool, true, cond, List, [], length, ap, sym, subst, ◌∙◌}
+use Rattle.std.specs.Prelude.{Some, None, is_some, slice_set, slice_index_or}
+use Rattle.std.specs.FinMap as finmap
+use Rattle.std.proofs.lemmas.Bool.{false≢true}
+use Rattle.std.proofs.lemmas.List.{get_or_read, set-get_or}
+use Rattle.frames.specs.Table.{Table, free_frames, is_taken}
+use Rattle.frames.specs.Rows.{row_at}
+use Rattle.mapping.specs.Pages.{FilePages, Mapped, Pages, change_at}
+use Rattle.cachecore.specs.declared.kept.KeptFile.{KeptFile}
+use Rattle.cachecore.specs.State.{Page, the_page}
+use Rattle.cachecore.specs.Store.{Store, IsStore, store_of, none_kept, is_uptodate, has_page, kept_at, entry_at, stored_at, stored_page, with_pages}
+use Rattle.cachecore.proofs.StoreLaws.{cached_at, cached_entry, some_entry, with_kept}
+use Rattle.cachecore.proofs.StoreFacts.{here_kept, page_store, page_after_is, changed_entry, the_page_is, page_taken, page_size, dirty_least}
+
+-- k is file f, in which page p is cached
+module _ (t : Table) (up : List Bool) (files : List KeptFile) (dirty : ℕ) (s : IsStore t up files dirty) (store : Store) (is : store_of t up files ≡ store) (f p : ℕ) (within : f < length store.files) (cached : is_some (stored_page store f p) ≡ true) (k : KeptFile) (value : k ≡ slice_index_or files f k) where
+  here : f < length files
+  here = here_kept t up files f store is within
+
+  entry : k ≡ kept_at files f
+  entry = get_or_read files f k here value none_kept
+
+  has : has_page up (entry_at files f p) ≡ true
+  has = cached_at t up files f p ∙ ap (λ (s : Store). is_some (stored_page s f p)) is ∙ cached
+
+  pub not_absent : None ≡ finmap.get k.mapping.pages p → ⊥
+  not_absent e = false≢true (ap is_some e ∙ ap (λ (k : KeptFile). is_some (finmap.get k.mapping.pages p)) entry ∙ some_entry up (entry_at files f p) has)
+
+  module _ (x : Mapped) (found : Some x ≡ finmap.get k.mapping.pages p) where
+    there : entry_at files f p ≡ Some x
+    there = sym (found ∙ ap (λ (k : KeptFile). finmap.get k.mapping.pages p) entry)
+
+    ready : is_uptodate up x ≡ true
+    ready = cached_entry up (entry_at files f p) has x there
+
+    pub frame_taken : is_taken t x.frame ≡ true
+    frame_taken = page_taken t up files dirty s f p x there
+
+    pub counts_dirty : cond x.tags.dirty 1 0 ≤ dirty
+    counts_dirty = dirty_least t up files dirty f p x s here there
+
+    pub page_found : the_page (stored_at store f).pages p ≡ record { bytes = row_at t.bytes x.frame; tags = x.tags }
+    page_found = sym (ap (λ (s : Store). the_page (stored_at s f).pages p) is) ∙ the_page_is t up files dirty f p x s here there ready
+
+    -- the mapping after its page was changed
+    module _ (change : Mapped → Mapped) (frame : (change x).frame ≡ x.frame) (m : FilePages) (changed : m ≡ record k.mapping { pages = change_at p change k.mapping.pages }) where
+      kept : record k { mapping = m } ≡ with_kept (kept_at files f) p (Some (change x))
+      kept =
+          ap (λ (m : FilePages). let l : KeptFile = record k { mapping = m } in l) changed
+          ∙ ap (λ (k : KeptFile). let l : KeptFile = record k { mapping = record k.mapping { pages = change_at p change k.mapping.pages } } in l) entry
+          ∙ ap (λ (n : Pages). let l : KeptFile = record (kept_at files f) { mapping = record (kept_at files f).mapping { pages = n } } in l) (changed_entry t up files dirty f p x s here there change)
+
+      same_rows : slice_set t.bytes x.frame (row_at t.bytes x.frame) ≡ t.bytes
+      same_rows = set-get_or t.bytes x.frame []
+
+      pub tagged_store : (now : ℕ) → now + cond x.tags.dirty 1 0 ≡ dirty + cond (change x).tags.dirty 1 0 → IsStore t up (slice_set files f (record k { mapping = m })) now
+      tagged_store now marks =
+          subst (λ (l : KeptFile). IsStore t up (slice_set files f l) now) (sym kept)
+          (subst (λ (rows : List (List ℕ)). IsStore (record t { bytes = rows }) up (slice_set files f (with_kept (kept_at files f) p (Some (change x)))) now) same_rows
+          (page_store t up files dirty f p x s here there ready (row_at t.bytes x.frame) (page_size t up files dirty s f p x there) (change x) frame now marks))
+
+      pub tagged_seen : (after : Page → Page) → record { bytes = row_at t.bytes x.frame; tags = (change x).tags } ≡ after (record { bytes = row_at t.bytes x.frame; tags = x.tags })
+          → store_of t up (slice_set files f (record k { mapping = m })) ≡ with_pages store f (finmap.insert (stored_at store f).pages p (after (the_page (stored_at store f).pages p))) store.free
+      tagged_seen after e =
+          ap (λ (l : KeptFile). store_of t up (slice_set files f l)) kept
+          ∙ ap (λ (rows : List (List ℕ)). store_of (record t { bytes = rows }) up (slice_set files f (with_kept (kept_at files f) p (Some (change x))))) (sym same_rows)
+          ∙ page_after_is t up files dirty f p x s here there ready (row_at t.bytes x.frame) (page_size t up files dirty s f p x there) (change x) frame
+          ∙ ap (λ (page : Page). with_pages (store_of t up files) f (finmap.insert (stored_at (store_of t up files) f).pages p page) (free_frames t)) (e ∙ ap after (sym (the_page_is t up files dirty f p x s here there ready)))
+          ∙ ap (λ (s : Store). with_pages s f (finmap.insert (stored_at s f).pages p (after (the_page (stored_at s f).pages p))) s.free) is

@@ -1,0 +1,38 @@
+use Rattle.std.proofs.Common.{arith, ap, sym, refl, ◌∙◌, ◌≡◌, ◌+◌, ◌≤◌, Bool, true, false, cond, not}
+use Rattle.std.specs.Prelude.{◌&&◌, ◌||◌}
+use Rattle.std.specs.Int.{from_bool}
+use Rattle.mapping.specs.Pages.{seen}
+use Rattle.writeback.specs.Picks as picks
+use Rattle.cachecore.specs.Changes.{after_write}
+use Rattle.cachecore.proofs.StoreFacts.{few_dirty_pages, byte_is}
+use Rattle.cachecore.proofs.TagChanges.{not_absent, tagged_store, tagged_seen}
+use Rattle.cachecore.proofs.pages.Pages.end_write.Goals as goal
+use Rattle.cachecore.proofs.pages.Pages.end_write.Goals.{then-failed, else-failed}
+
+-- one more page is DIRTY where it was not and the write failed
+one_more : (d failed : Bool) → cond (failed && not d) 1 0 + cond d 1 0 ≡ cond (d || failed) 1 0
+one_more true true = omega arith
+one_more true false = omega arith
+one_more false true = omega arith
+one_more false false = omega arith
+
+pub unreachable-requires : goal.unreachable-requires
+unreachable-requires c = not_absent c.self.inside.frames c.self.inside.uptodate.items c.self.inside.files.items c.self.inside.dirty c.self.invariant c.args.self.now c.self.view_is c.args.file c.args.page c.requires.here c.requires.cached c.index_mut.result.now c.index_mut.ensures.value c.in_default.ensures
+
+pub overflow_add-self : goal.overflow_add-self
+overflow_add-self c =
+    let most : (b : Bool) → from_bool b ≤ 1 = λ b. elim b as (λ b. from_bool b ≤ 1) [ true ↦ omega arith | false ↦ omega arith ] in
+    omega (arith, few_dirty_pages c.self.inside.frames c.self.inside.uptodate.items c.self.inside.files.items c.self.inside.dirty c.self.invariant, c.from.ensures, most c.if-failed.from)
+
+pub invariant_of-self : goal.invariant_of-self
+invariant_of-self c =
+    let x = seen c.in-Some.mapped in
+    let flag : c.if-failed.from ≡ (c.args.failed && not x.tags.dirty) = elim c.if-failed.branch [
+      | then-failed w ↦ w.from-is ∙ (λ i. sym w.if-failed.true i && not (w.has.ensures i))
+      | else-failed w ↦ w.from-is ∙ w.if-failed.false ∙ ap (λ b. b && not x.tags.dirty) (sym w.if-failed.false)
+    ] in
+    let one = c.from.ensures ∙ ap from_bool flag ∙ byte_is (c.args.failed && not x.tags.dirty) in
+    tagged_store c.self.inside.frames c.self.inside.uptodate.items c.self.inside.files.items c.self.inside.dirty c.self.invariant c.args.self.now c.self.view_is c.args.file c.args.page c.requires.here c.requires.cached c.index_mut.result.now c.index_mut.ensures.value x c.in-Some.ensures (picks.after_write c.args.failed) refl c.end_write.new.mapping c.end_write.ensures (c.self.inside.dirty + c.from.result) (omega (arith, one, one_more x.tags.dirty c.args.failed))
+
+pub returns : goal.returns
+returns c = tagged_seen c.self.inside.frames c.self.inside.uptodate.items c.self.inside.files.items c.self.inside.dirty c.self.invariant c.args.self.now c.self.view_is c.args.file c.args.page c.requires.here c.requires.cached c.index_mut.result.now c.index_mut.ensures.value (seen c.in-Some.mapped) c.in-Some.ensures (picks.after_write c.args.failed) refl c.end_write.new.mapping c.end_write.ensures (after_write c.args.failed) refl

@@ -1,0 +1,154 @@
+//! Fills: an absent page read in from its block.
+
+ghost use Rattle.std.specs.Prelude.{◌≡◌, ◌<◌, Some, IfErr, IfNone, IfOk, IfSome, false, length, true, if◌then◌else◌};
+ghost use Rattle.mapping.specs.declared.mapping.TheConstants.{MAX_PAGES};
+ghost use Rattle.pc_types.specs.declared.refusal.Refusal.TheVariants.{Memory, TooManyInFlight};
+ghost use Rattle.cachecore.specs.State.{free_frames, is_cached, is_filling, is_written, spot_at};
+ghost use Rattle.cachecore.specs.Tests.{is_full};
+ghost use Rattle.cachecore.specs.Changes.{filling};
+ghost use Rattle.cachecore.specs.Step.{Step};
+ghost use Rattle.cachecore.specs.Replies.{EndGivesBack, FillsAbsent, GivesBack, IsFillJob, end_of, fill_begun, fill_ended};
+
+use crate::answers::{Ended, FillBegun, Refused, RefusedEnd};
+use crate::cache::{CacheCore, page_count};
+use crate::event::Event;
+use blockdev::{Buffer, Finished, FinishedParts, Job};
+use pc_types::{BlockNo, FileId, HandleId, Kind, PageIndex, Refusal, Serial};
+
+impl CacheCore {
+    /// Begins to fill an absent page. Where the page's bytes are on the device, the job reads them into the buffer, and else
+    /// the page is filled with zeros at once. The buffer has as many bytes as a page.
+    pub fn fill_begin(
+        &mut self,
+        handle: HandleId,
+        page: PageIndex,
+        buffer: Buffer,
+    ) -> Result<FillBegun, Refused>
+        requires size { length buffer ≡ self.old.sizes.page }
+        ensures step { Step self.old (Event.FillBegin handle page) (fill_begun result) self.new }
+        ensures job { IsFillJob self.new result }
+        ensures back { GivesBack buffer result }
+    {
+        let Some(file) = self.handles.file(handle.0) else {
+            let refusal = Refusal::BadHandle;
+            return Err(Refused { refusal, buffer });
+        };
+        if page.0 >= page_count(self.geometry.page(), self.pages.size(file)) {
+            return Ok(FillBegun::Gone(buffer));
+        }
+        if self.is_filling(file, page.0) {
+            return Ok(FillBegun::Wait(page, buffer));
+        }
+        if self.pages.is_cached(file, page.0) {
+            return Ok(FillBegun::Present(buffer));
+        }
+        if self.pages.free_frames() == 0 {
+            let refusal = Refusal::NoFrame;
+            return Err(Refused { refusal, buffer });
+        }
+        self.fill_absent(file, page, buffer)
+    }
+
+    /// Fills an absent page: from its block where the page's bytes are there, and else with zeros. The tests that come before
+    /// have passed.
+    fn fill_absent(
+        &mut self,
+        file: u64,
+        page: PageIndex,
+        buffer: Buffer,
+    ) -> Result<FillBegun, Refused>
+        requires here { file < length self.old.files }
+        requires below { page.0 < MAX_PAGES }
+        requires absent { is_cached self.old file page.0 ≡ false }
+        requires idle { is_filling self.old file page.0 ≡ false }
+        requires room { 0 < free_frames self.old }
+        ensures step { FillsAbsent self.old file page.0 (fill_begun result) self.new }
+        ensures job { IsFillJob self.new result }
+        ensures back { GivesBack buffer result }
+    {
+        let Some(block) = self.block_to_read(file, page) else {
+            if self.pages.make(file, page.0).is_err() {
+                let refusal = Refusal::Memory;
+                return Err(Refused { refusal, buffer });
+            }
+            return Ok(FillBegun::Filled(buffer));
+        };
+        match self.begin_read(file, page, block) {
+            Ok(serial) => {
+                let job = Job::new(self.name, serial, Kind::Fill, block, buffer);
+                Ok(FillBegun::Job(job))
+            }
+            Err(refusal) => Err(Refused { refusal, buffer }),
+        }
+    }
+
+    /// Ends a fill by its finished job. The buffer has as many bytes as a page. Refused by `Stranger` where no fill of this
+    /// cache with this serial is in flight; what was handed in comes back.
+    pub fn fill_end(&mut self, finished: Finished) -> Result<Ended, RefusedEnd>
+        requires size { length finished.bytes ≡ self.old.sizes.page }
+        ensures step { Step self.old (Event.FillEnd (end_of finished)) (fill_ended result) self.new }
+        ensures back { EndGivesBack finished result }
+    {
+        let Some(request) = self.request_ended(Kind::Fill, &finished) else {
+            let refusal = Refusal::Stranger;
+            return Err(RefusedEnd { refusal, finished });
+        };
+        let FinishedParts {
+            serial,
+            buffer,
+            outcome,
+            ..
+        } = finished.into_parts();
+        let _ = self.requests.end(serial);
+        self.blocks.release(request.block);
+        if request.dropped {
+            return Ok(Ended::Dropped(buffer));
+        }
+        match outcome {
+            Ok(()) => {
+                self.pages
+                    .finish_fill(request.file.0, request.page.0, buffer.as_slice());
+                Ok(Ended::Done(buffer))
+            }
+            Err(code) => {
+                self.pages.abandon_fill(request.file.0, request.page.0);
+                Ok(Ended::Failed(code, buffer))
+            }
+        }
+    }
+    /// The block of a page that is written there.
+    fn block_to_read(&self, file: u64, page: PageIndex) -> Option<BlockNo>
+        requires here { file < length self.now.files }
+        requires below { page.0 < MAX_PAGES }
+        ensures some { IfSome result (λ block. spot_at self.now file page.0 ≡ Some (record { block = block.0; written = true })) }
+        ensures none { IfNone result (is_written (spot_at self.now file page.0) ≡ false) }
+    {
+        let placed = self.blocks.map(FileId(file), page)?;
+        if placed.is_written {
+            Some(placed.block)
+        } else {
+            None
+        }
+    }
+
+    /// Begins a request that reads an absent page from its block. Refused by `TooManyInFlight` and by `Memory`.
+    fn begin_read(&mut self, file: u64, page: PageIndex, block: BlockNo) -> Result<Serial, Refusal>
+        requires here { file < length self.old.files }
+        requires below { page.0 < MAX_PAGES }
+        requires absent { is_cached self.old file page.0 ≡ false }
+        requires idle { is_filling self.old file page.0 ≡ false }
+        requires room { 0 < free_frames self.old }
+        requires placed { spot_at self.old file page.0 ≡ Some (record { block = block.0; written = true }) }
+        ensures begun { IfOk result (λ t. (is_full self.old ≡ false) × (t.0 ≡ self.old.next) × (self.new ≡ filling self.old file page.0)) }
+        ensures refused { IfErr result (λ r. (self.new ≡ self.old) × (r ≡ (if is_full self.old then TooManyInFlight else Memory))) }
+    {
+        if self.requests.is_full() {
+            return Err(Refusal::TooManyInFlight);
+        }
+        if self.pages.start_fill(file, page.0).is_err() {
+            return Err(Refusal::Memory);
+        }
+        self.blocks.hold(block);
+        Ok(self.requests.begin(Kind::Fill, FileId(file), page, block))
+    }
+}

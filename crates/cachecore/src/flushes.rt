@@ -1,0 +1,82 @@
+//! Flushes: the lowest page of a file that is dirty and has no write in flight, written to its block.
+
+ghost use Rattle.std.specs.Prelude.{◌≡◌, ◌≢◌, IfErr, length};
+ghost use Rattle.pc_types.specs.declared.refusal.Refusal.TheVariants.{Memory};
+ghost use Rattle.cachecore.specs.Step.{Step};
+ghost use Rattle.cachecore.specs.Replies.{EndGivesBack, FlushGivesBack, FlushStep, end_of, flush_ended};
+
+use crate::answers::{Ended, FlushBegun, Refused, RefusedEnd};
+use crate::cache::CacheCore;
+use crate::event::Event;
+use blockdev::{Buffer, Finished, FinishedParts, Job};
+use pc_types::{FileId, Kind, PageIndex, Refusal};
+
+impl CacheCore {
+    /// Begins to write the file's lowest page that is dirty and has no write in flight. The buffer is for a copy of its
+    /// bytes, and has as many as a page.
+    pub fn flush_begin(&mut self, file: FileId, mut buffer: Buffer) -> Result<FlushBegun, Refused>
+        requires size { length buffer ≡ self.old.sizes.page }
+        ensures step { FlushStep self.old file.0 result self.new }
+        ensures back { FlushGivesBack buffer result }
+        ensures no_memory { IfErr result (λ e. e.refusal ≢ Memory) }
+    {
+        if file.0 >= self.pages.file_count() {
+            let refusal = Refusal::NoSuchFile;
+            return Err(Refused { refusal, buffer });
+        }
+        let Some(number) = self.pages.flush_pick(file.0) else {
+            return Ok(FlushBegun::Nothing(buffer));
+        };
+        if self.requests.is_full() {
+            let refusal = Refusal::TooManyInFlight;
+            return Err(Refused { refusal, buffer });
+        }
+        let page = PageIndex(number);
+        let Some(placed) = self.blocks.map(file, page) else {
+            unreachable!()
+        };
+        let block = placed.block;
+        self.pages
+            .begin_write(file.0, number, buffer.as_mut_slice());
+        self.blocks.hold(block);
+        let serial = self.requests.begin(Kind::Flush, file, page, block);
+        let job = Job::new(self.name, serial, Kind::Flush, block, buffer);
+        Ok(FlushBegun::Job(job))
+    }
+
+    /// Ends a flush by its finished job. Refused by `Stranger` where no flush of this cache with this serial is in flight;
+    /// what was handed in comes back.
+    pub fn flush_end(&mut self, finished: Finished) -> Result<Ended, RefusedEnd>
+        ensures step { Step self.old (Event.FlushEnd (end_of finished)) (flush_ended result) self.new }
+        ensures back { EndGivesBack finished result }
+    {
+        let Some(request) = self.request_ended(Kind::Flush, &finished) else {
+            let refusal = Refusal::Stranger;
+            return Err(RefusedEnd { refusal, finished });
+        };
+        let FinishedParts {
+            serial,
+            buffer,
+            outcome,
+            ..
+        } = finished.into_parts();
+        let _ = self.requests.end(serial);
+        self.blocks.release(request.block);
+        if request.dropped {
+            return Ok(Ended::Dropped(buffer));
+        }
+        match outcome {
+            Ok(()) => {
+                self.pages.end_write(request.file.0, request.page.0, false);
+                self.blocks.set_written(request.file, request.page);
+                Ok(Ended::Done(buffer))
+            }
+            Err(code) => {
+                self.pages.end_write(request.file.0, request.page.0, true);
+                self.pages
+                    .note_failure(request.file.0, u64::from(code.code()));
+                Ok(Ended::Failed(code, buffer))
+            }
+        }
+    }
+}

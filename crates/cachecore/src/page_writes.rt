@@ -1,0 +1,66 @@
+//! Pages that are written back, and what is known of a file's failed writes.
+
+ghost use Rattle.std.specs.Prelude.{IfSome, ◌≡◌, ◌+◌, ◌-◌, ◌<◌, ◌^◌, length, true, is_some, slice_set};
+ghost use Rattle.std.specs.FinMap as map;
+ghost use Rattle.mapping.specs.declared.mapping.TheConstants.{MAX_PAGES};
+ghost use Rattle.cachecore.specs.State.{the_page};
+ghost use Rattle.cachecore.specs.Tests.{flush_pick};
+ghost use Rattle.cachecore.specs.Changes.{after_write};
+ghost use Rattle.cachecore.specs.Store.{stored_at, stored_page, with_pages, under_write};
+
+use crate::pages::Pages;
+use pc_types::{PageIndex, Tag};
+
+impl Pages {
+    /// The lowest page of the file that is DIRTY and has no write in flight.
+    pub fn flush_pick(&self, file: u64) -> Option<u64>
+        requires { file < length self.now.files }
+        ensures pick { result ≡ flush_pick (stored_at self.now file) }
+        ensures numbered { IfSome result (λ p. p < MAX_PAGES) }
+    {
+        let found = writeback::flush_pick(&self.files[file as usize].mapping)?;
+        Some(found.page.0)
+    }
+
+    /// A write of a cached page begins, and `out` gets the bytes that it writes.
+    pub fn begin_write(&mut self, file: u64, page: u64, out: &mut [u8])
+        requires here { file < length self.old.files }
+        requires cached { is_some (stored_page self.old file page) ≡ true }
+        requires whole { length out.old ≡ self.old.page }
+        ensures begun { self.new ≡ with_pages self.old file (map.insert (stored_at self.old file).pages page (under_write (the_page (stored_at self.old file).pages page))) self.old.free }
+        ensures copy { out.new ≡ (the_page (stored_at self.old file).pages page).bytes }
+    {
+        let mapping = &mut self.files[file as usize].mapping;
+        let Some(mapped) = mapping.page(PageIndex(page)) else {
+            unreachable!()
+        };
+        writeback::begin_write(mapping, PageIndex(page));
+        self.dirty -= u64::from(mapped.tags.has(Tag::Dirty));
+        out.copy_from_slice(self.frames.bytes(mapped.frame));
+    }
+
+    /// A write of a cached page ended.
+    pub fn end_write(&mut self, file: u64, page: u64, failed: bool)
+        requires here { file < length self.old.files }
+        requires cached { is_some (stored_page self.old file page) ≡ true }
+        ensures { self.new ≡ with_pages self.old file (map.insert (stored_at self.old file).pages page (after_write failed (the_page (stored_at self.old file).pages page))) self.old.free }
+    {
+        let mapping = &mut self.files[file as usize].mapping;
+        let Some(mapped) = mapping.page(PageIndex(page)) else {
+            unreachable!()
+        };
+        writeback::end_write(mapping, PageIndex(page), failed);
+        self.dirty += u64::from(failed && !mapped.tags.has(Tag::Dirty));
+    }
+
+    /// A write of the file failed with this code.
+    pub fn note_failure(&mut self, file: u64, code: u64)
+        requires here { file < length self.old.files }
+        requires few { (stored_at self.old file).failures + 1 < 2 ^ 64 }
+        ensures { self.new ≡ record self.old { files = slice_set self.old.files file (record (stored_at self.old file) { failures = (stored_at self.old file).failures + 1; last_code = code }) } }
+    {
+        let kept = &mut self.files[file as usize];
+        kept.failures += 1;
+        kept.last_code = code;
+    }
+}

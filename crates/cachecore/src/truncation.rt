@@ -1,0 +1,103 @@
+//! Truncation: a file made shorter or longer.
+
+ghost use Rattle.std.specs.Prelude.{◌≡◌, ◌≢◌, ◌<◌, ◌≤◌, Err, IfSome, is_some, length};
+ghost use Rattle.std.specs.FinMap as map;
+ghost use Rattle.blockmap.specs.Keys.{IsPage};
+ghost use Rattle.mapping.specs.declared.mapping.TheConstants.{MAX_PAGES};
+ghost use Rattle.cachecore.specs.State.{file_at};
+ghost use Rattle.cachecore.specs.Changes.{boundary, change_at, cut_page, shrunk, truncated};
+ghost use Rattle.cachecore.specs.Store.{stored_at, with_pages};
+ghost use Rattle.cachecore.specs.Step.{Step};
+ghost use Rattle.cachecore.specs.Replies.{was_truncated};
+
+use crate::answers::TruncateAnswer;
+use crate::cache::{CacheCore, page_count};
+use crate::event::Event;
+use crate::pages::Pages;
+use blockmap::BlockMap;
+use pc_types::limits::MAX_FILE_SIZE;
+use pc_types::{FileId, HandleId, PageIndex, Refusal};
+
+impl CacheCore {
+    /// Gives the handle's file so many bytes. What is past them is gone, and a file that gets longer reads as zeros there.
+    pub fn truncate(&mut self, handle: HandleId, size: u64) -> Result<TruncateAnswer, Refusal>
+        ensures step { Step self.old (Event.Truncate handle size) (was_truncated result) self.new }
+        ensures no_memory { result ≢ Err Refusal.Memory }
+    {
+        let Some(file) = self.handles.file(handle.0) else {
+            return Err(Refusal::BadHandle);
+        };
+        if size > MAX_FILE_SIZE {
+            return Err(Refusal::TooLarge);
+        }
+        if let Some(page) = self.boundary(file, size) {
+            if self.is_filling(file, page) {
+                return Ok(TruncateAnswer::Wait(PageIndex(page)));
+            }
+            if self.must_fill(file, page) {
+                return Ok(TruncateAnswer::Miss(PageIndex(page)));
+            }
+        }
+        self.resize(file, size);
+        Ok(TruncateAnswer::Done)
+    }
+
+    /// The page that a truncation to `size` bytes cuts into, where it cuts into one.
+    #[tactic(auto, using(crate::proofs::Spans::last_below))]
+    fn boundary(&self, file: u64, size: u64) -> Option<u64>
+        requires { file < length self.now.files }
+        ensures page { result ≡ boundary self.now file size }
+        ensures below { IfSome result (λ page. page < MAX_PAGES) }
+    {
+        let page_size = self.geometry.page();
+        if size < self.pages.size(file) && size % page_size != 0 {
+            Some(size / page_size)
+        } else {
+            None
+        }
+    }
+
+    /// Gives the file `size` bytes. The tests have passed.
+    fn resize(&mut self, file: u64, size: u64)
+        requires here { file < length self.old.files }
+        requires small { size ≤ MAX_FILE_SIZE }
+        ensures { self.new ≡ truncated self.old file size }
+    {
+        if size < self.pages.size(file) {
+            self.shrink(file, size);
+        } else {
+            self.pages.set_size(file, size);
+        }
+    }
+
+    /// Cuts the file to `size` bytes, which are fewer than it has. The pages past the new last one are absent, without blocks.
+    fn shrink(&mut self, file: u64, size: u64)
+        requires here { file < length self.old.files }
+        requires fewer { size < (file_at self.old file).size }
+        ensures { self.new ≡ shrunk self.old file size }
+    {
+        let page_size = self.geometry.page();
+        if let Some(page) = self.boundary(file, size) {
+            let from = (size % page_size) as usize;
+            cut_tail(&mut self.pages, &self.blocks, file, page, from);
+        }
+        let end_page = page_count(page_size, size);
+        self.pages.remove_from(file, end_page);
+        self.blocks.cut_from(FileId(file), PageIndex(end_page));
+        self.requests.drop_from(FileId(file), PageIndex(end_page));
+        self.pages.set_size(file, size);
+    }
+}
+
+/// The bytes of a page from `from` on become zeros, where it is cached and has a block. A page without a block has zeros
+/// there.
+fn cut_tail(pages: &mut Pages, blocks: &BlockMap, file: u64, page: u64, from: usize)
+    requires here { file < length pages.old.files }
+    requires place { IsPage file page }
+    requires inside { from < pages.old.page }
+    ensures { pages.new ≡ with_pages pages.old file (change_at page (cut_page pages.old.page from (is_some (map.get blocks.now.spots (file, page)))) (stored_at pages.old file).pages) pages.old.free }
+{
+    if pages.is_cached(file, page) && blocks.map(FileId(file), PageIndex(page)).is_some() {
+        pages.cut_tail(file, page, from);
+    }
+}
