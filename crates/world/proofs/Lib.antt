@@ -1,4 +1,16 @@
 pub mod PageLaws
+pub mod OnceLemmas
+pub mod JobTable
+pub mod Bounds
+pub mod KeptRequests
+pub mod Whole
+pub mod HandedIn
+pub mod WorldSteps
+pub mod DeviceCalls
+pub mod EndsAndCalls
+pub mod FirstWorld
+pub mod CallReplies
+pub mod EventReplies
 pub mod View
 pub mod Evict
 pub mod FillAtOnce

@@ -36,7 +36,7 @@ one_more a b n h k = omega arith
 no_more : (a b n : ℕ) → a ≤ b → b ≤ n → a ≤ n
 no_more a b n h k = omega arith
 
-in_flight : (s : State) → is_full s ≡ false → finmap.len s.requests < MAX_IN_FLIGHT
+pub in_flight : (s : State) → is_full s ≡ false → finmap.len s.requests < MAX_IN_FLIGHT
 in_flight s e = below (finmap.len s.requests) MAX_IN_FLIGHT (or_false (nat_le MAX_IN_FLIGHT (finmap.len s.requests)) (nat_le SERIAL_END s.next) e).0
   where
     below : (a b : ℕ) → nat_le b a ≡ false → a < b

@@ -1,4 +1,6 @@
 pub mod Always
+pub mod Ends
+pub mod Flights
 pub mod Plain
 pub mod Progress
 pub mod Reading

@@ -5,8 +5,10 @@
 //! means that the device has the file, and nothing is ever stuck; specs/World and specs/Runs say what a run is. A `World` is
 //! a cache and its device in code: each `step` is a step of such a run.
 //!
-//! `promises` has `every_run`, `world` the cache with its device, `step` what may be asked of it, `replies` its answers.
+//! `promises` has `every_run`, `world` the cache with its device, `step` what may be asked of it, `replies` its answers, `jobs` the
+//! jobs in flight.
 
+mod jobs;
 mod promises;
 mod replies;
 pub mod step;

@@ -1,10 +1,11 @@
 //! The answers of the cache's calls, as replies.
 
-ghost use Rattle.std.specs.Prelude.{◌≡◌};
-ghost use Rattle.cachecore.specs.Replies.{created, opened, closed, sized, wrote, fill_begun};
+ghost use Rattle.std.specs.Prelude.{◌≡◌, Ok};
+ghost use Rattle.cachecore.specs.Replies.{created, opened, closed, sized, wrote, was_truncated, evicted};
+ghost use Rattle.world.specs.Ends.{ended};
 
-use cachecore::{FillBegun, Refused, Reply, WriteAnswer};
-use pc_types::{FileId, HandleId, Refusal};
+use cachecore::{Ended, Kind, Reply, TruncateAnswer, WriteAnswer};
+use pc_types::{FileId, HandleId, PageIndex, Refusal};
 
 pub fn of_create(answer: Result<FileId, Refusal>) -> Reply
     ensures { result ≡ created answer }
@@ -53,14 +54,35 @@ pub fn of_write(answer: Result<WriteAnswer, Refusal>) -> Reply
     }
 }
 
-pub fn of_fill_begin(answer: Result<FillBegun, Refused>) -> Reply
-    ensures { result ≡ fill_begun answer }
+pub fn of_truncate(answer: Result<TruncateAnswer, Refusal>) -> Reply
+    ensures { result ≡ was_truncated answer }
 {
     match answer {
-        Ok(FillBegun::Gone(_)) => Reply::Gone,
-        Ok(FillBegun::Wait(page, _)) => Reply::Wait(page),
-        Ok(FillBegun::Present(_)) => Reply::Present,
-        Ok(FillBegun::Filled(_)) => Reply::Filled,
-        Err(refused) => Reply::Refused(refused.refusal),
+        Ok(TruncateAnswer::Done) => Reply::Done,
+        Ok(TruncateAnswer::Wait(page)) => Reply::Wait(page),
+        Ok(TruncateAnswer::Miss(page)) => Reply::Miss(page),
+        Err(refusal) => Reply::Refused(refusal),
+    }
+}
+
+pub fn of_evict(answer: Option<(FileId, PageIndex)>) -> Reply
+    ensures { result ≡ evicted answer }
+{
+    match answer {
+        Some((file, page)) => Reply::Evicted(file, page),
+        None => Reply::NoneIdle,
+    }
+}
+
+pub fn of_end(kind: Kind, end: Ended) -> Reply
+    ensures { result ≡ ended kind (Ok end) }
+{
+    match end {
+        Ended::Dropped(_) => Reply::Dropped,
+        Ended::Failed(code, _) => Reply::Failed(code),
+        Ended::Done(_) => match kind {
+            Kind::Fill => Reply::Filled,
+            Kind::Flush => Reply::Written,
+        },
     }
 }

@@ -1,8 +1,8 @@
 //! What a caller may ask of a world.
 
-use pc_types::{Bytes, FileId, HandleId, PageIndex};
+use pc_types::{Bytes, FileId, HandleId, PageIndex, Serial};
 
-/// One event of the cache, with what it carries.
+/// One event of the cache, with what it carries, or the device call or the end of a request in flight.
 #[derive(Drop, Debug)]
 pub enum Step {
     Create,
@@ -14,5 +14,14 @@ pub enum Step {
     /// An offset and the bytes to write there.
     Write(HandleId, u64, Bytes),
     Append(HandleId, Bytes),
+    /// The new size.
+    Truncate(HandleId, u64),
     FillBegin(HandleId, PageIndex),
+    FlushBegin(FileId),
+    Evict,
+    Age,
+    /// Makes the device call of the request. How it goes is the device's matter.
+    Call(Serial),
+    /// Ends the request, whose device call was made.
+    End(Serial),
 }

@@ -1,24 +1,19 @@
-//! A world over a device in memory, as a caller uses it.
+//! A world over a device in memory, as a caller uses it. Every row is run by `over_a_world`, since the check is slow
+//! where a world is dropped.
 
 use super::*;
-use blockdev::MemDevice;
+use blockdev::{FaultEffect, MemDevice, ScriptDevice};
 use cachecore::{PageTags, Reply};
-use pc_types::{Bytes, FileId, Geometry, HandleId, PageIndex, Refusal, Tag};
+use pc_types::{Bytes, ErrCode, FileId, Geometry, HandleId, PageIndex, Refusal, Serial, Tag};
 use std::alloc::{AllocError, Global};
+use std::process::Abort;
 
 fn bytes(alloc: Global, items: &[u8]) -> Result<Bytes, AllocError> {
     Ok(Bytes::from_vec(items.to_vec(alloc)?))
 }
 
 // A byte past the end leaves a gap: its page has to be filled, and then reads as zeros.
-#[test]
-fn plays_a_gap(rt: HostRuntime) -> Result<(), Refusal> {
-    let alloc = rt.alloc();
-    let geometry = Geometry::new(16, 48, 16, 64)?;
-    let device = MemDevice::new(alloc, 16, 64)?;
-    let Ok(mut world) = World::new(alloc, &geometry, 0, device) else {
-        return Err(Refusal::BadConfig);
-    };
+fn play_a_gap(rt: &impl Abort, alloc: Global, world: &mut World<MemDevice>) -> Result<(), Refusal> {
     let handle = HandleId(0);
     let mut steps = Vec::with_capacity(alloc, 6)?;
     steps.push_reserved(Step::Create);
@@ -40,6 +35,17 @@ fn plays_a_gap(rt: HostRuntime) -> Result<(), Refusal> {
 }
 
 #[test]
+fn plays_a_gap(rt: HostRuntime) -> Result<(), Refusal> {
+    let alloc = rt.alloc();
+    let geometry = Geometry::new(16, 48, 16, 64)?;
+    let device = MemDevice::new(alloc, 16, 64)?;
+    let Ok(mut world) = World::new(alloc, &geometry, 0, device) else {
+        return Err(Refusal::BadConfig);
+    };
+    play_a_gap(&rt, alloc, &mut world)
+}
+
+#[test]
 fn refuses_another_device(rt: HostRuntime) -> Result<(), Refusal> {
     let alloc = rt.alloc();
     let geometry = Geometry::new(16, 48, 16, 64)?;
@@ -47,4 +53,427 @@ fn refuses_another_device(rt: HostRuntime) -> Result<(), Refusal> {
     let refused = World::new(alloc, &geometry, 0, device);
     assert!(rt; matches!(refused, Err((Refusal::BadConfig, _))));
     Ok(())
+}
+
+// A world over zeros, with one file that is open.
+fn opened(alloc: Global, blocks: u64) -> Result<World<ScriptDevice>, Refusal> {
+    let geometry = Geometry::new(16, 48, 16, blocks)?;
+    let device = ScriptDevice::new(alloc, 16, blocks)?;
+    let Ok(mut world) = World::new(alloc, &geometry, 0, device) else {
+        return Err(Refusal::BadConfig);
+    };
+    world.step(&Step::Create);
+    world.step(&Step::Open(FileId(0)));
+    Ok(world)
+}
+
+fn write(
+    world: &mut World<ScriptDevice>,
+    alloc: Global,
+    offset: u64,
+    items: &[u8],
+) -> Result<Reply, AllocError> {
+    Ok(world.step(&Step::Write(HandleId(0), offset, bytes(alloc, items)?)))
+}
+
+fn reads(world: &mut World<ScriptDevice>, count: u64, items: &[u8]) -> bool {
+    match world.step(&Step::Read(HandleId(0), 0, count)) {
+        Reply::Bytes(read) => read.as_slice() == items,
+        _ => false,
+    }
+}
+
+fn is_dirty(world: &World<ScriptDevice>) -> bool {
+    matches!(world.tags(FileId(0), PageIndex(0)), Ok(PageTags::Cached(tags)) if tags.has(Tag::Dirty))
+}
+
+fn flush_begins(world: &mut World<ScriptDevice>, serial: Serial) -> bool {
+    matches!(world.step(&Step::FlushBegin(FileId(0))), Reply::Job(job) if job == serial)
+}
+
+fn fill_begins(world: &mut World<ScriptDevice>, serial: Serial) -> bool {
+    let step = Step::FillBegin(HandleId(0), PageIndex(0));
+    matches!(world.step(&step), Reply::Job(job) if job == serial)
+}
+
+fn evicts(world: &mut World<ScriptDevice>, page: u64) -> bool {
+    matches!(world.step(&Step::Evict), Reply::Evicted(FileId(0), PageIndex(found)) if found == page)
+}
+
+// The request ends by a device call that failed with EIO.
+fn ends_failed(world: &mut World<ScriptDevice>, serial: Serial) -> bool {
+    match world.step(&Step::End(serial)) {
+        Reply::Failed(code) => code.code() == 5,
+        _ => false,
+    }
+}
+
+// A page is written back, and its request ends.
+fn written_back(rt: &impl Abort, world: &mut World<ScriptDevice>, serial: Serial) {
+    assert!(rt; flush_begins(world, serial));
+    assert!(rt; matches!(world.step(&Step::Call(serial)), Reply::Done));
+    assert!(rt; matches!(world.step(&Step::End(serial)), Reply::Written));
+}
+
+// Writes stop at the dirty limit, and go on after a page is written back.
+fn flush_then_write(
+    rt: &impl Abort,
+    alloc: Global,
+    world: &mut World<ScriptDevice>,
+) -> Result<(), Refusal> {
+    assert!(rt; matches!(write(world, alloc, 0, &[171; 256])?, Reply::Wrote(256, 256)));
+    assert!(rt;
+        matches!(
+            write(world, alloc, 256, &[255])?,
+            Reply::Refused(Refusal::DirtyLimit)
+        )
+    );
+    assert!(rt; matches!(world.step(&Step::Size(HandleId(0))), Reply::Size(256)));
+    written_back(rt, world, Serial(0));
+    assert!(rt; matches!(write(world, alloc, 256, &[255])?, Reply::Wrote(1, 257)));
+    Ok(())
+}
+
+// A page that is written again while its flush is in flight stays dirty, and isn't evicted.
+fn write_under_a_flush(
+    rt: &impl Abort,
+    alloc: Global,
+    world: &mut World<ScriptDevice>,
+) -> Result<(), Refusal> {
+    assert!(rt; matches!(write(world, alloc, 0, &[170])?, Reply::Wrote(1, 1)));
+    assert!(rt; flush_begins(world, Serial(0)));
+    assert!(rt; matches!(write(world, alloc, 0, &[187])?, Reply::Wrote(1, 1)));
+    assert!(rt; matches!(world.step(&Step::Call(Serial(0))), Reply::Done));
+    assert!(rt; matches!(world.step(&Step::End(Serial(0))), Reply::Written));
+    assert!(rt; is_dirty(world));
+    assert!(rt; reads(world, 1, &[187]));
+    assert!(rt; matches!(world.step(&Step::Evict), Reply::NoneIdle));
+    Ok(())
+}
+
+// A flush whose call fails leaves its page dirty. Each call and each end comes once, and in this order.
+fn fail_a_flush(
+    rt: &impl Abort,
+    alloc: Global,
+    world: &mut World<ScriptDevice>,
+) -> Result<(), Refusal> {
+    let serial = Serial(0);
+    assert_eq!(rt;
+        world.fail(serial, ErrCode::IO, FaultEffect::Old),
+        Err(Refusal::Stranger)
+    );
+    assert!(rt; matches!(write(world, alloc, 0, &[170])?, Reply::Wrote(1, 1)));
+    assert!(rt; flush_begins(world, Serial(0)));
+    assert!(rt;
+        matches!(
+            world.step(&Step::End(serial)),
+            Reply::Refused(Refusal::Stranger)
+        )
+    );
+    assert_eq!(rt; world.fail(serial, ErrCode::IO, FaultEffect::Old), Ok(()));
+    assert!(rt;
+        matches!(
+            world.step(&Step::Call(serial)),
+            Reply::Refused(Refusal::Stranger)
+        )
+    );
+    assert!(rt; ends_failed(world, serial));
+    assert!(rt; is_dirty(world));
+    assert!(rt; reads(world, 1, &[170]));
+    Ok(())
+}
+
+// A page that was evicted is filled before it is cut, and what is past the cut is zeros from then on.
+fn cut_an_evicted_page(
+    rt: &impl Abort,
+    alloc: Global,
+    world: &mut World<ScriptDevice>,
+) -> Result<(), Refusal> {
+    let handle = HandleId(0);
+    assert!(rt; matches!(write(world, alloc, 0, &[17; 16])?, Reply::Wrote(16, 16)));
+    written_back(rt, world, Serial(0));
+    assert!(rt;
+        matches!(
+            world.step(&Step::Evict),
+            Reply::Evicted(FileId(0), PageIndex(0))
+        )
+    );
+    assert!(rt;
+        matches!(
+            world.step(&Step::Truncate(handle, 4)),
+            Reply::Miss(PageIndex(0))
+        )
+    );
+    assert!(rt;
+        matches!(
+            world.step(&Step::FillBegin(handle, PageIndex(0))),
+            Reply::Job(Serial(1))
+        )
+    );
+    assert!(rt; matches!(world.step(&Step::Call(Serial(1))), Reply::Done));
+    assert!(rt; matches!(world.step(&Step::End(Serial(1))), Reply::Filled));
+    assert!(rt; matches!(world.step(&Step::Truncate(handle, 4)), Reply::Done));
+    assert!(rt; is_dirty(world));
+    assert!(rt; matches!(world.step(&Step::Truncate(handle, 16)), Reply::Done));
+    assert!(rt;
+        reads(
+            world,
+            16,
+            &[17, 17, 17, 17, 0, 0, 0, 0, 0, 0, 0, 0, 0, 0, 0, 0]
+        )
+    );
+    Ok(())
+}
+
+// The block of a page that was cut off is not given out before its request ends.
+fn cut_under_a_flush(
+    rt: &impl Abort,
+    alloc: Global,
+    world: &mut World<ScriptDevice>,
+) -> Result<(), Refusal> {
+    assert!(rt; matches!(write(world, alloc, 0, &[170])?, Reply::Wrote(1, 1)));
+    assert!(rt; flush_begins(world, Serial(0)));
+    assert!(rt; matches!(world.step(&Step::Truncate(HandleId(0), 0)), Reply::Done));
+    assert!(rt;
+        matches!(
+            write(world, alloc, 0, &[187])?,
+            Reply::Refused(Refusal::NoSpace)
+        )
+    );
+    assert!(rt; matches!(world.step(&Step::Call(Serial(0))), Reply::Done));
+    assert!(rt; matches!(world.step(&Step::End(Serial(0))), Reply::Dropped));
+    assert!(rt;
+        matches!(
+            world.step(&Step::End(Serial(0))),
+            Reply::Refused(Refusal::Stranger)
+        )
+    );
+    assert!(rt; matches!(write(world, alloc, 0, &[187])?, Reply::Wrote(1, 1)));
+    assert!(rt; reads(world, 9, &[187]));
+    Ok(())
+}
+
+// A fill that was dropped installs nothing.
+fn cut_under_a_fill(
+    rt: &impl Abort,
+    alloc: Global,
+    world: &mut World<ScriptDevice>,
+) -> Result<(), Refusal> {
+    let handle = HandleId(0);
+    assert!(rt; matches!(write(world, alloc, 0, &[17; 16])?, Reply::Wrote(16, 16)));
+    written_back(rt, world, Serial(0));
+    assert!(rt;
+        matches!(
+            world.step(&Step::Evict),
+            Reply::Evicted(FileId(0), PageIndex(0))
+        )
+    );
+    assert!(rt;
+        matches!(
+            world.step(&Step::FillBegin(handle, PageIndex(0))),
+            Reply::Job(Serial(1))
+        )
+    );
+    assert!(rt;
+        matches!(
+            world.step(&Step::Read(handle, 0, 1)),
+            Reply::Wait(PageIndex(0))
+        )
+    );
+    assert!(rt; matches!(world.step(&Step::Truncate(handle, 0)), Reply::Done));
+    assert!(rt; matches!(write(world, alloc, 0, &[34])?, Reply::Wrote(1, 1)));
+    assert!(rt; matches!(world.step(&Step::Call(Serial(1))), Reply::Done));
+    assert!(rt; matches!(world.step(&Step::End(Serial(1))), Reply::Dropped));
+    assert!(rt; reads(world, 16, &[34]));
+    assert!(rt; matches!(world.step(&Step::Age), Reply::Aged(_)));
+    Ok(())
+}
+
+// An append goes to the end of the file, and a handle that is closed is none.
+fn append_and_close(
+    rt: &impl Abort,
+    alloc: Global,
+    world: &mut World<ScriptDevice>,
+) -> Result<(), Refusal> {
+    let handle = HandleId(0);
+    assert!(rt; reads(world, 10, &[]));
+    let append = Step::Append(handle, bytes(alloc, &[170])?);
+    assert!(rt; matches!(world.step(&append), Reply::Wrote(1, 1)));
+    assert!(rt; matches!(world.step(&append), Reply::Wrote(1, 2)));
+    assert!(rt; reads(world, 10, &[170, 170]));
+    assert!(rt; matches!(world.step(&Step::Close(handle)), Reply::Closed));
+    assert!(rt;
+        matches!(
+            world.step(&Step::Size(handle)),
+            Reply::Refused(Refusal::BadHandle)
+        )
+    );
+    assert!(rt;
+        matches!(
+            world.step(&Step::Open(FileId(0))),
+            Reply::Handle(HandleId(0))
+        )
+    );
+    assert!(rt; matches!(world.step(&Step::Size(handle)), Reply::Size(2)));
+    Ok(())
+}
+
+// The page that is read most is evicted last, and not before the others were used as little. A fill that fails leaves its
+// page absent.
+fn evict_by_use(
+    rt: &impl Abort,
+    alloc: Global,
+    world: &mut World<ScriptDevice>,
+) -> Result<(), Refusal> {
+    assert!(rt; matches!(write(world, alloc, 0, &[1; 48])?, Reply::Wrote(48, 48)));
+    written_back(rt, world, Serial(0));
+    written_back(rt, world, Serial(1));
+    written_back(rt, world, Serial(2));
+    assert!(rt; matches!(world.step(&Step::FlushBegin(FileId(0))), Reply::Nothing));
+    assert!(rt; reads(world, 1, &[1]));
+    assert!(rt; reads(world, 1, &[1]));
+    assert!(rt; matches!(world.step(&Step::Age), Reply::Aged(0)));
+    assert!(rt; evicts(world, 1));
+    assert!(rt; evicts(world, 2));
+    assert!(rt; matches!(world.step(&Step::Age), Reply::Aged(1)));
+    assert!(rt; evicts(world, 0));
+    assert!(rt; matches!(world.step(&Step::Evict), Reply::NoneIdle));
+    let serial = Serial(3);
+    assert!(rt; fill_begins(world, serial));
+    assert_eq!(rt; world.fail(serial, ErrCode::IO, FaultEffect::Old), Ok(()));
+    assert!(rt; ends_failed(world, serial));
+    assert!(rt; matches!(world.tags(FileId(0), PageIndex(0)), Ok(PageTags::Absent)));
+    Ok(())
+}
+
+// A late call of a flush whose page was cut off writes to no other page's block.
+fn flush_after_a_cut(
+    rt: &impl Abort,
+    alloc: Global,
+    world: &mut World<ScriptDevice>,
+) -> Result<(), Refusal> {
+    assert!(rt; matches!(write(world, alloc, 0, &[170])?, Reply::Wrote(1, 1)));
+    assert!(rt; flush_begins(world, Serial(0)));
+    assert!(rt; matches!(world.step(&Step::Truncate(HandleId(0), 0)), Reply::Done));
+    assert!(rt; matches!(write(world, alloc, 0, &[187])?, Reply::Wrote(1, 1)));
+    assert!(rt; flush_begins(world, Serial(1)));
+    assert!(rt; matches!(world.step(&Step::Call(Serial(1))), Reply::Done));
+    assert!(rt; matches!(world.step(&Step::Call(Serial(0))), Reply::Done));
+    assert!(rt; matches!(world.step(&Step::End(Serial(0))), Reply::Dropped));
+    assert!(rt; matches!(world.step(&Step::End(Serial(1))), Reply::Written));
+    assert!(rt; evicts(world, 0));
+    assert!(rt; fill_begins(world, Serial(2)));
+    assert!(rt; matches!(world.step(&Step::Call(Serial(2))), Reply::Done));
+    assert!(rt; matches!(world.step(&Step::End(Serial(2))), Reply::Filled));
+    assert!(rt; reads(world, 1, &[187]));
+    Ok(())
+}
+
+// A flush that failed but left its bytes on the block leaves what was written since.
+fn fail_over_a_newer_write(
+    rt: &impl Abort,
+    alloc: Global,
+    world: &mut World<ScriptDevice>,
+) -> Result<(), Refusal> {
+    let serial = Serial(0);
+    assert!(rt; matches!(write(world, alloc, 0, &[170])?, Reply::Wrote(1, 1)));
+    assert!(rt; flush_begins(world, serial));
+    assert!(rt; matches!(write(world, alloc, 0, &[187])?, Reply::Wrote(1, 1)));
+    assert_eq!(rt; world.fail(serial, ErrCode::IO, FaultEffect::New), Ok(()));
+    assert!(rt; ends_failed(world, serial));
+    assert!(rt; is_dirty(world));
+    assert!(rt; reads(world, 1, &[187]));
+    let other = world.fail(Serial(9), ErrCode::IO, FaultEffect::Old);
+    assert_eq!(rt; other, Err(Refusal::Stranger));
+    Ok(())
+}
+
+#[derive(Clone, Copy)]
+enum Row {
+    FlushThenWrite,
+    WriteUnderAFlush,
+    FailAFlush,
+    CutAnEvictedPage,
+    CutUnderAFlush,
+    CutUnderAFill,
+    AppendAndClose,
+    EvictByUse,
+    FlushAfterACut,
+    FailOverANewerWrite,
+}
+
+fn run(
+    rt: &impl Abort,
+    alloc: Global,
+    world: &mut World<ScriptDevice>,
+    row: Row,
+) -> Result<(), Refusal> {
+    match row {
+        Row::FlushThenWrite => flush_then_write(rt, alloc, world),
+        Row::WriteUnderAFlush => write_under_a_flush(rt, alloc, world),
+        Row::FailAFlush => fail_a_flush(rt, alloc, world),
+        Row::CutAnEvictedPage => cut_an_evicted_page(rt, alloc, world),
+        Row::CutUnderAFlush => cut_under_a_flush(rt, alloc, world),
+        Row::CutUnderAFill => cut_under_a_fill(rt, alloc, world),
+        Row::AppendAndClose => append_and_close(rt, alloc, world),
+        Row::EvictByUse => evict_by_use(rt, alloc, world),
+        Row::FlushAfterACut => flush_after_a_cut(rt, alloc, world),
+        Row::FailOverANewerWrite => fail_over_a_newer_write(rt, alloc, world),
+    }
+}
+
+// Runs a row over a new world with so many blocks.
+fn over_a_world(rt: &impl Abort, alloc: Global, blocks: u64, row: Row) -> Result<(), Refusal> {
+    let mut world = opened(alloc, blocks)?;
+    run(rt, alloc, &mut world, row)
+}
+
+#[test]
+fn a_flush_makes_room_to_write(rt: HostRuntime) -> Result<(), Refusal> {
+    over_a_world(&rt, rt.alloc(), 64, Row::FlushThenWrite)
+}
+
+#[test]
+fn a_newer_write_stays_dirty(rt: HostRuntime) -> Result<(), Refusal> {
+    over_a_world(&rt, rt.alloc(), 64, Row::WriteUnderAFlush)
+}
+
+#[test]
+fn a_failed_flush_dirties_again(rt: HostRuntime) -> Result<(), Refusal> {
+    over_a_world(&rt, rt.alloc(), 64, Row::FailAFlush)
+}
+
+#[test]
+fn a_cut_zeroes_the_tail(rt: HostRuntime) -> Result<(), Refusal> {
+    over_a_world(&rt, rt.alloc(), 64, Row::CutAnEvictedPage)
+}
+
+#[test]
+fn a_cut_block_is_held(rt: HostRuntime) -> Result<(), Refusal> {
+    over_a_world(&rt, rt.alloc(), 1, Row::CutUnderAFlush)
+}
+
+#[test]
+fn a_dropped_fill_changes_nothing(rt: HostRuntime) -> Result<(), Refusal> {
+    over_a_world(&rt, rt.alloc(), 64, Row::CutUnderAFill)
+}
+
+#[test]
+fn appends_then_closes(rt: HostRuntime) -> Result<(), Refusal> {
+    over_a_world(&rt, rt.alloc(), 64, Row::AppendAndClose)
+}
+
+#[test]
+fn the_busiest_page_goes_last(rt: HostRuntime) -> Result<(), Refusal> {
+    over_a_world(&rt, rt.alloc(), 64, Row::EvictByUse)
+}
+
+#[test]
+fn a_late_flush_harms_no_page(rt: HostRuntime) -> Result<(), Refusal> {
+    over_a_world(&rt, rt.alloc(), 2, Row::FlushAfterACut)
+}
+
+#[test]
+fn a_failed_flush_keeps_newer_bytes(rt: HostRuntime) -> Result<(), Refusal> {
+    over_a_world(&rt, rt.alloc(), 64, Row::FailOverANewerWrite)
 }

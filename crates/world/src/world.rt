@@ -1,36 +1,47 @@
 //! A cache and its device, driven one step at a time.
 
+mod calls;
+
 ghost use Rattle.std.specs.Prelude.{◌≡◌, IfErr, IfOk, IsOkUnless, OnErr, length, true, false, if◌then◌else◌};
 ghost use Rattle.pc_types.specs.declared.refusal.Refusal.TheVariants.{BadConfig, Memory};
 ghost use Rattle.cachecore.specs.Replies.{TagsAre};
-ghost use Rattle.world.specs.Stepping.{IsMade, LeadsTo, Plays, Steps, entries_of, first_world, fits, world_of};
+ghost use Rattle.world.specs.Stepping.{IsMade, LeadsTo, Plays, Steps, TellsForCalls, first_world, fits, world_of};
 
+use crate::jobs::Jobs;
 use crate::replies;
 use crate::step::Step;
 use blockdev::{BlockDevice, Buffer};
-use cachecore::{CacheCore, PageTags, ReadAnswer, Reply};
+use cachecore::{CacheCore, FillBegun, FlushBegun, PageTags, ReadAnswer, Reply};
 use pc_types::{Bytes, FileId, Geometry, HandleId, PageIndex, Refusal};
 use std::alloc::{AllocError, Global};
 use std::marker::Model;
 
-/// A cache and the device that it writes to.
+/// A cache, the device that it writes to, and the jobs on their way between them.
 #[derive(Drop)]
 pub struct World<D: BlockDevice> {
     core: CacheCore,
+    jobs: Jobs,
     device: D,
     alloc: Global,
 }
 
 impl<D: BlockDevice> Model for World<D> {
-    ghost use Rattle.std.specs.Coded.{codes};
+    ghost use Rattle.std.specs.Coded.{codes, coded_ℕ};
+    ghost use Rattle.std.specs.FinMap as map;
+    ghost use Rattle.std.specs.Ordering.{nat_cmp};
     ghost use Rattle.cachecore.specs.Codes.{state_code};
+    ghost use Rattle.cachecore.specs.declared.event.Outcome.{Outcome};
     ghost use Rattle.world.specs.Stepping.{Held};
 
     ghost Value = { Held };
 
-    ghost coded = { Prim.hlevel (codes, state_code) };
+    ghost coded = { Prim.hlevel (codes, state_code, map.code {X = Outcome} {R = nat_cmp} coded_ℕ (Prim.hlevel codes)) };
 
-    ghost view = { λ w. record { core = w.core; device = D.told w.device } };
+    ghost use Rattle.world.specs.Flights.{held_of, IsWorld};
+
+    ghost view = { λ w. held_of w.core w.jobs (D.told w.device) };
+
+    ghost invariant = { λ w. IsWorld w.core w.jobs (D.told w.device) };
 }
 
 impl<D: BlockDevice> World<D> {
@@ -50,9 +61,13 @@ impl<D: BlockDevice> World<D> {
         if device.block_size() != geometry.page() || device.blocks() != geometry.blocks() {
             return Err((Refusal::BadConfig, device));
         }
+        let Ok(jobs) = Jobs::new(alloc) else {
+            return Err((Refusal::Memory, device));
+        };
         match CacheCore::new(alloc, geometry, name) {
             Ok(core) => Ok(World {
                 core,
+                jobs,
                 device,
                 alloc,
             }),
@@ -60,7 +75,9 @@ impl<D: BlockDevice> World<D> {
         }
     }
 
-    /// Makes one event. Where memory for the bytes of a read or for a buffer is refused, no event is made.
+    /// Makes one event, one device call, or one end. Where memory for the bytes of a read or for a buffer is refused, no
+    /// event is made. A call or an end is refused by `Stranger`, and nothing changes, where the request is not in flight, or
+    /// its call was made already, or, for an end, was not made.
     pub fn step(&mut self, step: &Step) -> Reply
         ensures { Steps self.old step.now result self.new }
     {
@@ -72,7 +89,18 @@ impl<D: BlockDevice> World<D> {
             Step::Read(handle, offset, count) => self.read(*handle, *offset, *count),
             Step::Write(handle, offset, bytes) => self.write(*handle, *offset, bytes),
             Step::Append(handle, bytes) => self.append(*handle, bytes),
+            Step::Truncate(handle, size) => {
+                replies::of_truncate(self.core.truncate(*handle, *size))
+            }
             Step::FillBegin(handle, page) => self.fill_begin(*handle, *page),
+            Step::FlushBegin(file) => self.flush_begin(*file),
+            Step::Evict => replies::of_evict(self.core.evict()),
+            Step::Age => Reply::Aged(self.core.age()),
+            Step::Call(serial) => match self.call(*serial) {
+                Ok(()) => Reply::Done,
+                Err(refusal) => Reply::Refused(refusal),
+            },
+            Step::End(serial) => self.end(*serial),
         }
     }
 
@@ -80,7 +108,7 @@ impl<D: BlockDevice> World<D> {
     /// is no room for the replies.
     pub fn play(&mut self, steps: &[Step]) -> Result<Vec<Reply>, Refusal>
         ensures played { IfOk result (λ replies. Plays self.old steps.now replies.items self.new) }
-        ensures is_run { IfOk result (λ replies. LeadsTo (world_of self.old) (entries_of steps.now replies.items) (world_of self.new)) }
+        ensures is_run { IfOk result (λ replies. TellsForCalls steps.now self.old.device → LeadsTo (world_of self.old) steps.now replies.items (world_of self.new)) }
         ensures refused { IsOkUnless result Refusal.Memory }
         ensures err { OnErr result (self.new ≡ self.old) }
     {
@@ -133,7 +161,27 @@ impl<D: BlockDevice> World<D> {
         let Ok(buffer) = Buffer::new(self.alloc, &self.core.geometry()) else {
             return Reply::Refused(Refusal::Memory);
         };
-        replies::of_fill_begin(self.core.fill_begin(handle, page, buffer))
+        match self.core.fill_begin(handle, page, buffer) {
+            Ok(FillBegun::Job(job)) => Reply::Job(self.jobs.ask(job)),
+            Ok(FillBegun::Gone(_)) => Reply::Gone,
+            Ok(FillBegun::Wait(page, _)) => Reply::Wait(page),
+            Ok(FillBegun::Present(_)) => Reply::Present,
+            Ok(FillBegun::Filled(_)) => Reply::Filled,
+            Err(refused) => Reply::Refused(refused.refusal),
+        }
+    }
+
+    fn flush_begin(&mut self, file: FileId) -> Reply
+        ensures { Steps self.old (Step.FlushBegin file) result self.new }
+    {
+        let Ok(buffer) = Buffer::new(self.alloc, &self.core.geometry()) else {
+            return Reply::Refused(Refusal::Memory);
+        };
+        match self.core.flush_begin(file, buffer) {
+            Ok(FlushBegun::Job(job)) => Reply::Job(self.jobs.ask(job)),
+            Ok(FlushBegun::Nothing(_)) => Reply::Nothing,
+            Err(refused) => Reply::Refused(refused.refusal),
+        }
     }
 }
 

@@ -1,5 +1,11 @@
 use Rattle.std.proofs.Common.{refl}
+use Rattle.cachecore.specs.declared.event.Event.TheVariants as event
+use Rattle.world.proofs.EventReplies.{quiet_acted}
+use Rattle.world.proofs.WorldSteps.{quiet_world}
 use Rattle.world.proofs.world.World.write.Goals as goal
 
+pub invariant_of-self : goal.invariant_of-self
+invariant_of-self g c = quiet_world c.self.inside.core c.self.inside.jobs _ c.self.invariant (event.Write c.args.handle c.args.offset c.args.bytes.now) _ c.write.new.self refl refl (rw c.as_slice.ensures at c.write.ensures)
+
 pub returns : goal.returns
-returns g c = rw (← c.self.view_is, c.of_write.ensures) ((rw c.as_slice.ensures at c.write.ensures, refl), refl)
+returns g c = rw c.of_write.ensures (quiet_acted c.self.inside.core c.self.inside.jobs _ c.self.invariant _ c.self.view_is (event.Write c.args.handle c.args.offset c.args.bytes.now) _ c.write.new.self refl (rw c.as_slice.ensures at c.write.ensures))

@@ -1,0 +1,91 @@
+//! The device calls of requests in flight, and their ends.
+
+ghost use Rattle.std.specs.Prelude.{◌≡◌, length};
+ghost use Rattle.std.specs.FinMap as map;
+ghost use Rattle.cachecore.specs.Step as machine;
+ghost use Rattle.cachecore.specs.Replies.{EndGivesBack, end_of};
+ghost use Rattle.world.specs.Ends.{ended};
+ghost use Rattle.world.specs.Stepping.{CallReply, FailReply, Steps, done};
+ghost use Rattle.world.specs.World.{end_event};
+
+use super::World;
+use crate::jobs::Flight;
+use crate::replies;
+use crate::step::Step;
+use blockdev::{BlockDevice, FaultEffect, Finished, ScriptDevice, perform};
+use cachecore::{CacheCore, Ended, Kind, RefusedEnd, Reply};
+use pc_types::{ErrCode, Refusal, Serial};
+
+impl<D: BlockDevice> World<D> {
+    /// Makes the device call of the request.
+    pub(super) fn call(&mut self, serial: Serial) -> Result<(), Refusal>
+        ensures { CallReply self.old serial.0 (map.get self.old.core.requests serial.0) (map.get self.old.outcomes serial.0) (done result) self.new }
+    {
+        match self.jobs.take(serial) {
+            Some(Flight::Asked(job)) => {
+                let finished = perform(&mut self.device, job);
+                self.jobs.put(Flight::Made(finished));
+                Ok(())
+            }
+            Some(Flight::Made(finished)) => {
+                self.jobs.put(Flight::Made(finished));
+                Err(Refusal::Stranger)
+            }
+            None => Err(Refusal::Stranger),
+        }
+    }
+
+    /// Ends the request.
+    pub(super) fn end(&mut self, serial: Serial) -> Reply
+        ensures { Steps self.old (Step.End serial) result self.new }
+    {
+        match self.jobs.take(serial) {
+            Some(Flight::Made(finished)) => {
+                let kind = finished.kind();
+                match hand_in(&mut self.core, kind, finished) {
+                    Ok(end) => replies::of_end(kind, end),
+                    Err(refused) => {
+                        self.jobs.put(Flight::Made(refused.finished));
+                        Reply::Refused(refused.refusal)
+                    }
+                }
+            }
+            Some(Flight::Asked(job)) => {
+                self.jobs.put(Flight::Asked(job));
+                Reply::Refused(Refusal::Stranger)
+            }
+            None => Reply::Refused(Refusal::Stranger),
+        }
+    }
+}
+
+impl World<ScriptDevice> {
+    /// Makes the device call of the request, which fails with the code. A flush leaves the old or the new bytes on its block,
+    /// by `effect`. Refused by `Stranger` where a call would be, and then no fault is planned.
+    pub fn fail(
+        &mut self,
+        serial: Serial,
+        code: ErrCode,
+        effect: FaultEffect,
+    ) -> Result<(), Refusal>
+        ensures { FailReply self.old serial.0 (map.get self.old.core.requests serial.0) (map.get self.old.outcomes serial.0) code effect result self.new }
+    {
+        if !self.jobs.is_asked(serial) {
+            return Err(Refusal::Stranger);
+        }
+        self.device.fail_next(code, effect);
+        self.call(serial)
+    }
+}
+
+/// Ends a request of this kind by its finished job.
+fn hand_in(core: &mut CacheCore, kind: Kind, finished: Finished) -> Result<Ended, RefusedEnd>
+    requires size { length finished.bytes ≡ core.old.sizes.page }
+    ensures step { machine.Step core.old (end_event kind (end_of finished)) (ended kind result) core.new }
+    ensures back { EndGivesBack finished result }
+{
+    match kind {
+        Kind::Fill => core.fill_end(finished),
+        Kind::Flush => core.flush_end(finished),
+    }
+}
