@@ -6,11 +6,13 @@ use Rattle.std.proofs.lemmas.Fmt.{decimal_injective}
 use Rattle.pcache.specs.declared.command.Command.{Command}
 use Rattle.pcache.specs.declared.command.Command.TheVariants as command
 use Rattle.world.specs.declared.step.Step.TheVariants as step
-use Rattle.pcache.specs.declared.command.TheConstants.{MAX_READ}
+use Rattle.pcache.specs.declared.command.TheConstants.{MAX_CODE, MAX_READ}
 use Rattle.pcache.specs.declared.keyword.Keyword.{Keyword}
-use Rattle.pcache.specs.declared.keyword.Keyword.TheVariants.{Config, Create, Open, Close, Size, Read, Write, Append, Fill, Tags}
+use Rattle.pcache.specs.declared.keyword.Keyword.TheVariants.{Config, Create, Open, Close, Size, Read, Write, Append, Truncate, Fill, Flush, Do, Fail, End, Evict, Age, Tags}
 use Rattle.pcache.specs.Keywords.{name_of}
-use Rattle.pcache.specs.Commands.{Part, Name, Number, Hex, Begins, parts_of, Asks}
+use Rattle.blockdev.specs.declared.fault.FaultEffect.{FaultEffect}
+use Rattle.pcache.specs.Commands.{Part, Name, Number, Hex, Leaves, Begins, parts_of, Asks, Means}
+use Rattle.pcache.specs.Words.{words_of}
 
 -- ---- names
 
@@ -25,7 +27,14 @@ keyword_of_name text =
     else if bytes_eq text (codes "read") then Read
     else if bytes_eq text (codes "write") then Write
     else if bytes_eq text (codes "append") then Append
+    else if bytes_eq text (codes "truncate") then Truncate
     else if bytes_eq text (codes "fill") then Fill
+    else if bytes_eq text (codes "flush") then Flush
+    else if bytes_eq text (codes "do") then Do
+    else if bytes_eq text (codes "fail") then Fail
+    else if bytes_eq text (codes "end") then End
+    else if bytes_eq text (codes "evict") then Evict
+    else if bytes_eq text (codes "age") then Age
     else Tags
 
 keyword_of_name-name_of : (k : Keyword) → keyword_of_name (name_of k) ≡ k
@@ -38,7 +47,14 @@ keyword_of_name-name_of Size = refl
 keyword_of_name-name_of Read = refl
 keyword_of_name-name_of Write = refl
 keyword_of_name-name_of Append = refl
+keyword_of_name-name_of Truncate = refl
 keyword_of_name-name_of Fill = refl
+keyword_of_name-name_of Flush = refl
+keyword_of_name-name_of Do = refl
+keyword_of_name-name_of Fail = refl
+keyword_of_name-name_of End = refl
+keyword_of_name-name_of Evict = refl
+keyword_of_name-name_of Age = refl
 keyword_of_name-name_of Tags = refl
 
 -- two keywords have two names
@@ -87,6 +103,10 @@ pub no_bytes : {words rest : List (List ℕ)} {b : List ℕ} {parts : List Part}
     → Starts words (Hex b ∷ parts) rest → ⊥
 no_bytes {b = b} none starts = let (w, more, e, is, h) = starts.begins in none b more (w, more, e, is, refl)
 
+pub no_effect : {words rest : List (List ℕ)} {e : FaultEffect} {parts : List Part} → ((a : FaultEffect) (r : List (List ℕ)) → ¬ (Begins words (Leaves a ∷ []) r))
+    → Starts words (Leaves e ∷ parts) rest → ⊥
+no_effect {e = e} none starts = let (w, more, k, is, h) = starts.begins in none e more (w, more, k, is, refl)
+
 keyword_of : Command → Keyword
 keyword_of (command.Config a b c d) = Config
 keyword_of (command.Step step.Create) = Create
@@ -96,7 +116,14 @@ keyword_of (command.Step (step.Size h)) = Size
 keyword_of (command.Step (step.Read h o n)) = Read
 keyword_of (command.Step (step.Write h o b)) = Write
 keyword_of (command.Step (step.Append h b)) = Append
+keyword_of (command.Step (step.Truncate h z)) = Truncate
 keyword_of (command.Step (step.FillBegin h p)) = Fill
+keyword_of (command.Step (step.FlushBegin f)) = Flush
+keyword_of (command.Step (step.Call t)) = Do
+keyword_of (command.Fail t n e) = Fail
+keyword_of (command.Step (step.End t)) = End
+keyword_of (command.Step step.Evict) = Evict
+keyword_of (command.Step step.Age) = Age
 keyword_of (command.Tags f p) = Tags
 
 named_parts : (k : Keyword) (words rest : List (List ℕ)) (c : Command) → Begins (name_of k ∷ words) (parts_of c) rest
@@ -110,8 +137,43 @@ named_parts k words rest (command.Step (step.Size h)) begins = named k Size word
 named_parts k words rest (command.Step (step.Read h o n)) begins = named k Read words (Number h.0 ∷ Number o ∷ Number n ∷ []) rest begins
 named_parts k words rest (command.Step (step.Write h o b)) begins = named k Write words (Number h.0 ∷ Number o ∷ Hex b ∷ []) rest begins
 named_parts k words rest (command.Step (step.Append h b)) begins = named k Append words (Number h.0 ∷ Hex b ∷ []) rest begins
+named_parts k words rest (command.Step (step.Truncate h z)) begins = named k Truncate words (Number h.0 ∷ Number z ∷ []) rest begins
+named_parts k words rest (command.Step (step.FlushBegin f)) begins = named k Flush words (Number f.0 ∷ []) rest begins
+named_parts k words rest (command.Step (step.Call t)) begins = named k Do words (Number t.0 ∷ []) rest begins
+named_parts k words rest (command.Fail t n e) begins = named k Fail words (Number t.0 ∷ Number n ∷ Leaves e ∷ []) rest begins
+named_parts k words rest (command.Step (step.End t)) begins = named k End words (Number t.0 ∷ []) rest begins
+named_parts k words rest (command.Step step.Evict) begins = named k Evict words ([]) rest begins
+named_parts k words rest (command.Step step.Age) begins = named k Age words ([]) rest begins
 named_parts k words rest (command.Step (step.FillBegin h p)) begins = named k Fill words (Number h.0 ∷ Number p.0 ∷ []) rest begins
 named_parts k words rest (command.Tags f p) begins = named k Tags words (Number f.0 ∷ Number p.0 ∷ []) rest begins
+
+-- a line of a name asks for commands of that name alone
+is_config : (c : Command) → keyword_of c ≡ Config → (p : ℕ) × (f : ℕ) × (d : ℕ) × (b : ℕ) × (c ≡ command.Config p f d b)
+unfolding keyword_of
+is_config (command.Config p f d b) e = (p, f, d, b, refl)
+is_config (command.Step step.Create) e = cc
+is_config (command.Step (step.Open f)) e = cc
+is_config (command.Step (step.Close h)) e = cc
+is_config (command.Step (step.Size h)) e = cc
+is_config (command.Step (step.Read h o n)) e = cc
+is_config (command.Step (step.Write h o b)) e = cc
+is_config (command.Step (step.Append h b)) e = cc
+is_config (command.Step (step.Truncate h z)) e = cc
+is_config (command.Step (step.FillBegin h p)) e = cc
+is_config (command.Step (step.FlushBegin f)) e = cc
+is_config (command.Step (step.Call t)) e = cc
+is_config (command.Fail t n x) e = cc
+is_config (command.Step (step.End t)) e = cc
+is_config (command.Step step.Evict) e = cc
+is_config (command.Step step.Age) e = cc
+is_config (command.Tags f p) e = cc
+
+pub config_alone : (line : List ℕ) (p f d b : ℕ) (c : Command) → Means line (command.Config p f d b) → Means line c
+    → (q : ℕ) × (g : ℕ) × (e : ℕ) × (a : ℕ) × (c ≡ command.Config q g e a)
+config_alone line p f d b c ((word, more, split, is, begins), within) asked =
+    let words : words_of line ≡ name_of Config ∷ more = split ∙ ap (λ w. w ∷ more) is in
+    let begun : Begins (name_of Config ∷ more) (parts_of c) [] = subst (λ ws. Begins ws (parts_of c) []) words asked.0 in
+    is_config c (named_parts Config more [] c begun).0
 
 -- ---- what follows a name
 
@@ -125,6 +187,13 @@ Follows Size words = (a : ℕ) × Starts words (Number a ∷ []) []
 Follows Read words = (a : ℕ) × (b : ℕ) × (n : ℕ) × Starts words (Number a ∷ Number b ∷ Number n ∷ []) [] × (n ≤ MAX_READ)
 Follows Write words = (a : ℕ) × (b : ℕ) × (bytes : List ℕ) × Starts words (Number a ∷ Number b ∷ Hex bytes ∷ []) []
 Follows Append words = (a : ℕ) × (bytes : List ℕ) × Starts words (Number a ∷ Hex bytes ∷ []) []
+Follows Truncate words = (a : ℕ) × (b : ℕ) × Starts words (Number a ∷ Number b ∷ []) []
+Follows Flush words = (a : ℕ) × Starts words (Number a ∷ []) []
+Follows Do words = (a : ℕ) × Starts words (Number a ∷ []) []
+Follows Fail words = (a : ℕ) × (n : ℕ) × (e : FaultEffect) × Starts words (Number a ∷ Number n ∷ Leaves e ∷ []) [] × (n ≤ MAX_CODE)
+Follows End words = (a : ℕ) × Starts words (Number a ∷ []) []
+Follows Evict words = words ≡ []
+Follows Age words = words ≡ []
 Follows Fill words = (a : ℕ) × (b : ℕ) × Starts words (Number a ∷ Number b ∷ []) []
 Follows Tags words = (a : ℕ) × (b : ℕ) × Starts words (Number a ∷ Number b ∷ []) []
 
@@ -139,6 +208,13 @@ asks k words (command.Step (step.Read h o n)) asked = let s = named_parts k word
 asks k words (command.Step (step.Write h o b)) asked = let s = named_parts k words [] (command.Step (step.Write h o b)) asked.0 in subst (λ j. Follows j words) s.0 (h.0, o, b, record { begins = s.1 })
 asks k words (command.Step (step.Append h b)) asked = let s = named_parts k words [] (command.Step (step.Append h b)) asked.0 in subst (λ j. Follows j words) s.0 (h.0, b, record { begins = s.1 })
 asks k words (command.Step (step.FillBegin h p)) asked = let s = named_parts k words [] (command.Step (step.FillBegin h p)) asked.0 in subst (λ j. Follows j words) s.0 (h.0, p.0, record { begins = s.1 })
+asks k words (command.Step (step.Truncate h z)) asked = let s = named_parts k words [] (command.Step (step.Truncate h z)) asked.0 in subst (λ j. Follows j words) s.0 (h.0, z, record { begins = s.1 })
+asks k words (command.Step (step.FlushBegin f)) asked = let s = named_parts k words [] (command.Step (step.FlushBegin f)) asked.0 in subst (λ j. Follows j words) s.0 (f.0, record { begins = s.1 })
+asks k words (command.Step (step.Call t)) asked = let s = named_parts k words [] (command.Step (step.Call t)) asked.0 in subst (λ j. Follows j words) s.0 (t.0, record { begins = s.1 })
+asks k words (command.Fail t n e) asked = let s = named_parts k words [] (command.Fail t n e) asked.0 in subst (λ j. Follows j words) s.0 (t.0, n, e, record { begins = s.1 }, asked.1)
+asks k words (command.Step (step.End t)) asked = let s = named_parts k words [] (command.Step (step.End t)) asked.0 in subst (λ j. Follows j words) s.0 (t.0, record { begins = s.1 })
+asks k words (command.Step step.Evict) asked = let s = named_parts k words [] (command.Step step.Evict) asked.0 in subst (λ j. Follows j words) s.0 s.1
+asks k words (command.Step step.Age) asked = let s = named_parts k words [] (command.Step step.Age) asked.0 in subst (λ j. Follows j words) s.0 s.1
 asks k words (command.Tags f p) asked = let s = named_parts k words [] (command.Tags f p) asked.0 in subst (λ j. Follows j words) s.0 (f.0, p.0, record { begins = s.1 })
 
 -- a first word that is no name begins no command
@@ -152,4 +228,11 @@ unnamed word words (command.Step (step.Read a o n)) none h = none Read (sym h.0.
 unnamed word words (command.Step (step.Write a o b)) none h = none Write (sym h.0.3 ∙ sym (head_eq _ _ _ _ h.0.2))
 unnamed word words (command.Step (step.Append a b)) none h = none Append (sym h.0.3 ∙ sym (head_eq _ _ _ _ h.0.2))
 unnamed word words (command.Step (step.FillBegin a p)) none h = none Fill (sym h.0.3 ∙ sym (head_eq _ _ _ _ h.0.2))
+unnamed word words (command.Step (step.Truncate a z)) none h = none Truncate (sym h.0.3 ∙ sym (head_eq _ _ _ _ h.0.2))
+unnamed word words (command.Step (step.FlushBegin f)) none h = none Flush (sym h.0.3 ∙ sym (head_eq _ _ _ _ h.0.2))
+unnamed word words (command.Step (step.Call t)) none h = none Do (sym h.0.3 ∙ sym (head_eq _ _ _ _ h.0.2))
+unnamed word words (command.Fail t n e) none h = none Fail (sym h.0.3 ∙ sym (head_eq _ _ _ _ h.0.2))
+unnamed word words (command.Step (step.End t)) none h = none End (sym h.0.3 ∙ sym (head_eq _ _ _ _ h.0.2))
+unnamed word words (command.Step step.Evict) none h = none Evict (sym h.0.3 ∙ sym (head_eq _ _ _ _ h.0.2))
+unnamed word words (command.Step step.Age) none h = none Age (sym h.0.3 ∙ sym (head_eq _ _ _ _ h.0.2))
 unnamed word words (command.Tags f p) none h = none Tags (sym h.0.3 ∙ sym (head_eq _ _ _ _ h.0.2))

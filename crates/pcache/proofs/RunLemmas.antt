@@ -113,9 +113,9 @@ pub record Stands (script : List ℕ) (left : Option (List ℕ)) (n : ℕ) (w : 
   pub has : left ≡ Some bytes
   pub answered : AnsweredFirst (lines_of script) n (lines_of bytes) w before after
 
-pub stands_first : (left start : Option (List ℕ)) (n : ℕ) (out : Option (List ℕ)) → left ≡ start → n ≡ 0 → IfSome start (λ script. Stands script left n None out out)
-stands_first left None n out same none = tt
-stands_first left (Some script) n out same none = record { bytes = script; has = same; answered = ([], [], refl, sym none, (refl, refl), appends_none out) }
+pub stands_first : (left : Option (List ℕ)) (n : ℕ) (w : Option Held) (out : Option (List ℕ)) → n ≡ 0 → w ≡ None → IfSome left (λ script. Stands script left n w out out)
+stands_first None n w out zero none = tt
+stands_first (Some script) n w out zero none = record { bytes = script; has = refl; answered = ([], [], refl, sym zero, (refl, none), appends_none out) }
 
 pub keeps_same : (a : Option (List ℕ)) → Keeps a a
 keeps_same None = tt
@@ -149,13 +149,13 @@ stands_too_long {script = script} {left = left} {k = k} {w = w} {a = a} {b = b} 
     (k, w, line, rest, counted, first_kept _ k _ w a b c now kept, inl long)
 
 -- what a line comes to that was fetched: the run goes on, or ends there
-line_ends : (lines : List (List ℕ)) (k : ℕ) (w : Option Held) (a b c : Option (List ℕ)) (n : ℕ) (line : List ℕ) (rest : List (List ℕ)) (stop : Stop)
-    → AnsweredFirst lines k (line ∷ rest) w a b → n ≡ k + 1 → LineGives w n line (Err stop) b c → Ends lines (Err stop) a c
-line_ends lines k w a b c n line rest (Malformed m) s counted gives =
+line_ends : (lines : List (List ℕ)) (k : ℕ) (w : Option Held) (a b c : Option (List ℕ)) (n : ℕ) (line : List ℕ) (rest : List (List ℕ)) (stop : Stop) (new : Option Held)
+    → AnsweredFirst lines k (line ∷ rest) w a b → n ≡ k + 1 → LineGives w n line (Err stop) new b c → Ends lines (Err stop) a c
+line_ends lines k w a b c n line rest (Malformed m) new s counted gives =
     (k, w, line, rest, gives.0 ∙ counted, first_kept _ k _ w a b c s gives.2, inr gives.1)
-line_ends lines k w a b c n line rest Input s counted gives = (k, w, line ∷ rest, first_kept _ k _ w a b c s gives)
-line_ends lines k w a b c n line rest Output s counted gives = tt
-line_ends lines k w a b c n line rest Memory s counted gives = (k, w, line ∷ rest, first_kept _ k _ w a b c s gives)
+line_ends lines k w a b c n line rest Input new s counted gives = (k, w, line ∷ rest, first_kept _ k _ w a b c s gives)
+line_ends lines k w a b c n line rest Output new s counted gives = tt
+line_ends lines k w a b c n line rest Memory new s counted gives = (k, w, line ∷ rest, first_kept _ k _ w a b c s gives)
 
 -- the lines that are not answered yet begin with the line that was fetched
 fetched_first : {script : List ℕ} {left : Option (List ℕ)} {k : ℕ} {w : Option Held} {a b : Option (List ℕ)} (c : Option (List ℕ)) (line : List ℕ) (after : Option (List ℕ))
@@ -167,15 +167,15 @@ fetched_first {script = script} {left = left} {k = k} {w = w} {a = a} {b = b} c 
     let begins : lines_of s.bytes ≡ line ∷ rest = lines_of-first s.bytes now.0 ∙ ap (λ l. l ∷ rest) (sym now.1) in
     first_kept _ k _ w a b c (subst (λ lines. AnsweredFirst (lines_of script) k lines w a b) begins s.answered) kept
 
-pub stands_stopped : {script : List ℕ} {left : Option (List ℕ)} {k : ℕ} {w : Option Held} {a b : Option (List ℕ)} (c d : Option (List ℕ)) (n : ℕ) (line : List ℕ) (after : Option (List ℕ)) (stop : Stop) (r : Result (Unit {0}) Stop)
-    → r ≡ Err stop → Stands script left k w a b → IfSome left (λ bytes. Fetches bytes Line line after) → Keeps b c → n ≡ k + 1 → LineGives w n line (Err stop) c d
+pub stands_stopped : {script : List ℕ} {left : Option (List ℕ)} {k : ℕ} {w : Option Held} {a b : Option (List ℕ)} (c d : Option (List ℕ)) (n : ℕ) (line : List ℕ) (after : Option (List ℕ)) (stop : Stop) (new : Option Held) (r : Result (Unit {0}) Stop)
+    → r ≡ Err stop → Stands script left k w a b → IfSome left (λ bytes. Fetches bytes Line line after) → Keeps b c → n ≡ k + 1 → LineGives w n line (Err stop) new c d
     → Ends (lines_of script) r a d
-stands_stopped {script = script} {k = k} {w = w} {a = a} c d n line after stop r is s fetched kept counted gives =
+stands_stopped {script = script} {k = k} {w = w} {a = a} c d n line after stop new r is s fetched kept counted gives =
     subst (λ end. Ends (lines_of script) end a d) (sym is)
-    (line_ends (lines_of script) k w a c d n line _ stop (fetched_first c line after s fetched kept) counted gives)
+    (line_ends (lines_of script) k w a c d n line _ stop new (fetched_first c line after s fetched kept) counted gives)
 
 pub stands_next : {script : List ℕ} {left : Option (List ℕ)} {k : ℕ} {w : Option Held} {a b : Option (List ℕ)} (c d : Option (List ℕ)) (n : ℕ) (line : List ℕ) (after : Option (List ℕ)) (new : Option Held)
-    → Stands script left k w a b → IfSome left (λ bytes. Fetches bytes Line line after) → Keeps b c → n ≡ k + 1 → length line ≤ MAX_LINE → LineGives w n line (Ok new) c d
+    → Stands script left k w a b → IfSome left (λ bytes. Fetches bytes Line line after) → Keeps b c → n ≡ k + 1 → length line ≤ MAX_LINE → LineGives w n line (Ok tt) new c d
     → Stands script after n new a d
 stands_next {script = script} {left = left} {k = k} {w = w} {a = a} c d n line after new s fetched kept counted within gives =
     let now : Fetches s.bytes Line line after = known (λ bytes. Fetches bytes Line line after) left s.bytes s.has fetched in

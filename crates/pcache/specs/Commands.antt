@@ -1,24 +1,32 @@
 -- The lines of a script that are commands.
-use Rattle.std.specs.Prelude.{◌≡◌, ℕ, ◌≤◌, List, [], ◌∷◌, Some}
+use Rattle.std.specs.Prelude.{◌≡◌, ℕ, ◌≤◌, List, [], ◌∷◌, Some, codes}
+use Rattle.blockdev.specs.declared.fault.FaultEffect.{FaultEffect}
+use Rattle.blockdev.specs.declared.fault.FaultEffect.TheVariants.{Old, New}
 use Rattle.pcache.specs.declared.command.Command.{Command}
 use Rattle.pcache.specs.declared.command.Command.TheVariants as command
 use Rattle.world.specs.declared.step.Step.TheVariants as step
 use Rattle.pcache.specs.declared.keyword.Keyword.{Keyword}
-use Rattle.pcache.specs.declared.keyword.Keyword.TheVariants.{Config, Create, Open, Close, Size, Read, Write, Append, Fill, Tags}
-use Rattle.pcache.specs.declared.command.TheConstants.{MAX_READ}
+use Rattle.pcache.specs.declared.keyword.Keyword.TheVariants.{Config, Create, Open, Close, Size, Read, Write, Append, Truncate, Fill, Flush, Do, Fail, End, Evict, Age, Tags}
+use Rattle.pcache.specs.declared.command.TheConstants.{MAX_CODE, MAX_READ}
 use Rattle.pcache.specs.Keywords.{name_of}
 use Rattle.pcache.specs.Words.{IsNumber, bytes_of, words_of}
 
--- what a word of a command is: its name, a number, or bytes
+-- what a word of a command is: its name, a number, bytes, or what a write that fails leaves in its block
 pub data Part : Type 0 where
   Name : (keyword : Keyword) → Part
   Number : (n : ℕ) → Part
   Hex : (bytes : List ℕ) → Part
+  Leaves : (effect : FaultEffect) → Part
+
+abbrev pub effect_text : FaultEffect → List ℕ
+effect_text Old = codes "old"
+effect_text New = codes "new"
 
 abbrev pub Is : List ℕ → Part → Type 0
 Is word (Name keyword) = word ≡ name_of keyword
 Is word (Number n) = IsNumber word n
 Is word (Hex bytes) = bytes_of word ≡ Some bytes
+Is word (Leaves effect) = word ≡ effect_text effect
 
 -- the first words are these parts, one by one, and the rest follows them
 abbrev pub Begins : List (List ℕ) → List Part → List (List ℕ) → Type 0
@@ -35,12 +43,20 @@ parts_of (command.Step (step.Size handle)) = Name Size ∷ Number handle.0 ∷ [
 parts_of (command.Step (step.Read handle offset count)) = Name Read ∷ Number handle.0 ∷ Number offset ∷ Number count ∷ []
 parts_of (command.Step (step.Write handle offset bytes)) = Name Write ∷ Number handle.0 ∷ Number offset ∷ Hex bytes ∷ []
 parts_of (command.Step (step.Append handle bytes)) = Name Append ∷ Number handle.0 ∷ Hex bytes ∷ []
+parts_of (command.Step (step.Truncate handle size)) = Name Truncate ∷ Number handle.0 ∷ Number size ∷ []
 parts_of (command.Step (step.FillBegin handle page)) = Name Fill ∷ Number handle.0 ∷ Number page.0 ∷ []
+parts_of (command.Step (step.FlushBegin file)) = Name Flush ∷ Number file.0 ∷ []
+parts_of (command.Step (step.Call serial)) = Name Do ∷ Number serial.0 ∷ []
+parts_of (command.Fail serial code effect) = Name Fail ∷ Number serial.0 ∷ Number code ∷ Leaves effect ∷ []
+parts_of (command.Step (step.End serial)) = Name End ∷ Number serial.0 ∷ []
+parts_of (command.Step step.Evict) = Name Evict ∷ []
+parts_of (command.Step step.Age) = Name Age ∷ []
 parts_of (command.Tags file page) = Name Tags ∷ Number file.0 ∷ Number page.0 ∷ []
 
--- a command reads no more bytes than this
+-- a command reads no more bytes than this, and a code has 16 bits
 abbrev pub IsWithinLimit : Command → Type 0
 IsWithinLimit (command.Step (step.Read handle offset count)) = count ≤ MAX_READ
+IsWithinLimit (command.Fail serial code effect) = code ≤ MAX_CODE
 IsWithinLimit _ = Unit {0}
 
 -- the words ask for the command, and nothing follows

@@ -1,7 +1,7 @@
 -- The names of the commands.
 use Rattle.std.specs.Prelude.{ℕ, List, codes}
 use Rattle.pcache.specs.declared.keyword.Keyword.{Keyword}
-use Rattle.pcache.specs.declared.keyword.Keyword.TheVariants.{Config, Create, Open, Close, Size, Read, Write, Append, Fill, Tags}
+use Rattle.pcache.specs.declared.keyword.Keyword.TheVariants.{Config, Create, Open, Close, Size, Read, Write, Append, Truncate, Fill, Flush, Do, Fail, End, Evict, Age, Tags}
 
 abbrev pub name_of : Keyword → List ℕ
 name_of Config = codes "config"
@@ -12,5 +12,12 @@ name_of Size = codes "size"
 name_of Read = codes "read"
 name_of Write = codes "write"
 name_of Append = codes "append"
+name_of Truncate = codes "truncate"
 name_of Fill = codes "fill"
+name_of Flush = codes "flush"
+name_of Do = codes "do"
+name_of Fail = codes "fail"
+name_of End = codes "end"
+name_of Evict = codes "evict"
+name_of Age = codes "age"
 name_of Tags = codes "tags"

@@ -1,16 +1,19 @@
 -- What a script does: each command is a call of the world, with its answer on a line of its own.
-use Rattle.std.specs.Prelude.{◌≡◌, ℕ, ◌+◌, ◌<◌, ◌≤◌, ◌⊎◌, true, false, if◌then◌else◌, List, [], ◌∷◌, ◌++◌, length, Option, Some, None, unwrap_or, Result, Ok, Err, codes}
+use Rattle.std.specs.Prelude.{◌≡◌, ℕ, ◌+◌, ◌<◌, ◌≤◌, ◌⊎◌, Bool, true, false, if◌then◌else◌, List, [], ◌∷◌, ◌++◌, length, Option, Some, None, unwrap_or, Result, Ok, Err, codes}
 use Rattle.std.specs.Result.{result_unwrap_or}
 use Rattle.std.specs.Io.KnownBytes.{Keeps, Appends}
 use Rattle.cachecore.specs.declared.event.Reply.{Reply}
+use Rattle.cachecore.specs.declared.event.Reply.TheVariants.{Done}
 use Rattle.cachecore.specs.declared.answers.PageTags.{PageTags}
 use Rattle.cachecore.specs.Replies.{TagsAre}
 use Rattle.pc_types.specs.declared.refusal.Refusal.{Refusal}
-use Rattle.pc_types.specs.declared.refusal.Refusal.TheVariants.{BadConfig}
-use Rattle.pc_types.specs.Limits.{Sizes, is_geometry}
+use Rattle.pc_types.specs.declared.refusal.Refusal.TheVariants.{BadCode, BadConfig}
+use Rattle.pc_types.specs.Limits.{Sizes, is_err_code, is_geometry}
 use Rattle.blockdev.specs.Device.{fresh}
+use Rattle.blockdev.specs.declared.fault.FaultEffect.{FaultEffect}
 use Rattle.world.specs.declared.step.Step.{Step}
-use Rattle.world.specs.Stepping.{Held, Steps, first_world}
+use Rattle.world.specs.declared.step.Step.TheVariants as step
+use Rattle.world.specs.Stepping.{Fails, Held, Steps, first_world}
 use Rattle.pcache.specs.declared.command.Command.{Command}
 use Rattle.pcache.specs.declared.command.Command.TheVariants as command
 use Rattle.pcache.specs.declared.lines.TheConstants.{MAX_LINE}
@@ -49,9 +52,24 @@ abbrev pub known_text : Result PageTags Refusal → List ℕ
 known_text (Ok tags) = tags_text tags
 known_text (Err refusal) = refusal_text refusal
 
+-- what a step answers. A device call answers that it was made
+abbrev pub answer_to : Step → Reply → List ℕ
+answer_to (step.Call t) Done = codes "done"
+answer_to s reply = answer_of reply
+
 -- the world makes the step, and its reply is printed
 abbrev pub MakesStep : Held → Step → List ℕ → Held → Type 0
-MakesStep old s printed new = (reply : Reply) × Steps old s reply new × (printed ≡ ended (answer_of reply))
+MakesStep old s printed new = (reply : Reply) × Steps old s reply new × (printed ≡ ended (answer_to s reply))
+
+-- what comes of a device call that is to fail
+abbrev pub failed_text : Result Unit Refusal → List ℕ
+failed_text (Ok _) = codes "failed"
+failed_text (Err refusal) = refusal_text refusal
+
+-- the device call of a request is made and fails with this code, if it is one
+abbrev pub FailsCall : Held → ℕ → Bool → ℕ → FaultEffect → List ℕ → Held → Type 0
+FailsCall old serial true code effect printed new = (result : Result Unit Refusal) × Fails old serial code effect result new × (printed ≡ ended (failed_text result))
+FailsCall old serial false code effect printed new = (printed ≡ ended (refusal_text BadCode)) × (new ≡ old)
 
 -- what is known of a page is printed
 abbrev pub TellsTags : Held → ℕ → ℕ → List ℕ → Type 0
@@ -68,6 +86,7 @@ Answers None (command.Config page frames dirty_limit blocks) printed new =
     × (new ≡ world_of_sizes (result_unwrap_or (sizes_of page frames dirty_limit blocks) default_sizes))
 Answers (Some w) (command.Config page frames dirty_limit blocks) printed new = ⊥
 Answers old (command.Step s) printed new = MakesStep (world_found old) s printed new
+Answers old (command.Fail serial code effect) printed new = FailsCall (world_found old) serial.0 (is_err_code code) code effect printed new
 Answers old (command.Tags file page) printed new = TellsTags (world_found old) file.0 page.0 printed × (new ≡ world_found old)
 
 -- an empty line or a comment prints nothing and changes nothing
@@ -124,16 +143,16 @@ EndsWith lines status before after = (end : Result (Unit {0}) Stop) × Ends line
 
 -- ---- what one line comes to in code
 
--- a command's answer was printed, or it was none and nothing was printed
-abbrev pub CommandGives : Option Held → ℕ → Command → Result Held Stop → Option (List ℕ) → Option (List ℕ) → Type 0
-CommandGives old number c (Ok w) before after = (printed : List ℕ) × Answers old c printed w × Appends before after printed
-CommandGives old number c (Err (Malformed n)) before after = (n ≡ number) × IsMisplaced old c × Keeps before after
-CommandGives old number c (Err Output) before after = Unit {0}
-CommandGives old number c (Err _) before after = Keeps before after
+-- a command's answer was printed, and the world after it is the one that it tells of; or it was none and nothing was printed
+abbrev pub CommandGives : Option Held → ℕ → Command → Result (Unit {0}) Stop → Option Held → Option (List ℕ) → Option (List ℕ) → Type 0
+CommandGives old number c (Ok _) new before after = (printed : List ℕ) × (w : Held) × Answers old c printed w × (new ≡ Some w) × Appends before after printed
+CommandGives old number c (Err (Malformed n)) new before after = (n ≡ number) × IsMisplaced old c × Keeps before after
+CommandGives old number c (Err Output) new before after = Unit {0}
+CommandGives old number c (Err _) new before after = Keeps before after
 
 -- the same of a line
-abbrev pub LineGives : Option Held → ℕ → List ℕ → Result (Option Held) Stop → Option (List ℕ) → Option (List ℕ) → Type 0
-LineGives old number line (Ok w) before after = (printed : List ℕ) × LineAnswers old line printed w × Appends before after printed
-LineGives old number line (Err (Malformed n)) before after = (n ≡ number) × IsNoCommand old line × Keeps before after
-LineGives old number line (Err Output) before after = Unit {0}
-LineGives old number line (Err _) before after = Keeps before after
+abbrev pub LineGives : Option Held → ℕ → List ℕ → Result (Unit {0}) Stop → Option Held → Option (List ℕ) → Option (List ℕ) → Type 0
+LineGives old number line (Ok _) new before after = (printed : List ℕ) × LineAnswers old line printed new × Appends before after printed
+LineGives old number line (Err (Malformed n)) new before after = (n ≡ number) × IsNoCommand old line × Keeps before after
+LineGives old number line (Err Output) new before after = Unit {0}
+LineGives old number line (Err _) new before after = Keeps before after

@@ -5,12 +5,16 @@ ghost use Rattle.pcache.specs.Keywords.{name_of};
 
 use crate::keyword::Keyword;
 use crate::words::{Fault, Words};
-use pc_types::{FileId, HandleId, PageIndex};
+use blockdev::FaultEffect;
+use pc_types::{FileId, HandleId, PageIndex, Serial};
 use std::alloc::Global;
 use world::Step;
 
 /// The most bytes that one command reads.
 pub const MAX_READ: u64 = 131_072;
+
+/// The greatest code of a fault that a line may name. Not each is one that a device call may fail with.
+pub const MAX_CODE: u64 = 65_535;
 
 /// What a line of a script asks for that is neither empty nor a comment.
 #[derive(Drop, Debug)]
@@ -19,6 +23,8 @@ pub enum Command {
     Config(u64, u64, u64, u64),
     /// One step of the world.
     Step(Step),
+    /// The device call of a request, which fails with this code.
+    Fail(Serial, u16, FaultEffect),
     /// What is known of a page.
     Tags(FileId, PageIndex),
 }
@@ -58,7 +64,14 @@ impl Command {
             Keyword::Read => Command::read(words),
             Keyword::Write => Command::write(alloc, words),
             Keyword::Append => Command::append(alloc, words),
+            Keyword::Truncate => Command::truncate(words),
             Keyword::Fill => Command::fill(words),
+            Keyword::Flush => Command::flush(words),
+            Keyword::Do => Command::call(words),
+            Keyword::Fail => Command::fail(words),
+            Keyword::End => Command::end(words),
+            Keyword::Evict => Ok(Command::Step(Step::Evict)),
+            Keyword::Age => Ok(Command::Step(Step::Age)),
             Keyword::Tags => Command::tags(words),
         }
     }
@@ -132,6 +145,15 @@ impl Command {
         Ok(Command::Step(Step::Append(handle, words.bytes(alloc)?)))
     }
 
+    /// `truncate H S`
+    fn truncate(words: &mut Words) -> Result<Command, Fault>
+        ensures ok { IfOk result (λ c. Begins (name_of Keyword.Truncate ∷ words.old) (parts_of c) words.new × IsWithinLimit c) }
+        ensures malformed { result ≡ Err Fault.Malformed → (c : TheCommand) → ¬ (Asks (name_of Keyword.Truncate ∷ words.old) c) }
+    {
+        let handle = HandleId(words.number()?);
+        Ok(Command::Step(Step::Truncate(handle, words.number()?)))
+    }
+
     /// `fill H P`
     fn fill(words: &mut Words) -> Result<Command, Fault>
         ensures ok { IfOk result (λ c. Begins (name_of Keyword.Fill ∷ words.old) (parts_of c) words.new × IsWithinLimit c) }
@@ -139,6 +161,43 @@ impl Command {
     {
         let handle = HandleId(words.number()?);
         Ok(Command::Step(Step::FillBegin(handle, PageIndex(words.number()?))))
+    }
+
+    /// `flush F`
+    fn flush(words: &mut Words) -> Result<Command, Fault>
+        ensures ok { IfOk result (λ c. Begins (name_of Keyword.Flush ∷ words.old) (parts_of c) words.new × IsWithinLimit c) }
+        ensures malformed { result ≡ Err Fault.Malformed → (c : TheCommand) → ¬ (Asks (name_of Keyword.Flush ∷ words.old) c) }
+    {
+        Ok(Command::Step(Step::FlushBegin(FileId(words.number()?))))
+    }
+
+    /// `do T`
+    fn call(words: &mut Words) -> Result<Command, Fault>
+        ensures ok { IfOk result (λ c. Begins (name_of Keyword.Do ∷ words.old) (parts_of c) words.new × IsWithinLimit c) }
+        ensures malformed { result ≡ Err Fault.Malformed → (c : TheCommand) → ¬ (Asks (name_of Keyword.Do ∷ words.old) c) }
+    {
+        Ok(Command::Step(Step::Call(Serial(words.number()?))))
+    }
+
+    /// `fail T CODE old` or `fail T CODE new`
+    fn fail(words: &mut Words) -> Result<Command, Fault>
+        ensures ok { IfOk result (λ c. Begins (name_of Keyword.Fail ∷ words.old) (parts_of c) words.new × IsWithinLimit c) }
+        ensures malformed { result ≡ Err Fault.Malformed → (c : TheCommand) → ¬ (Asks (name_of Keyword.Fail ∷ words.old) c) }
+    {
+        let serial = Serial(words.number()?);
+        let code = words.number()?;
+        if code > MAX_CODE {
+            return Err(Fault::Malformed);
+        }
+        Ok(Command::Fail(serial, code as u16, words.effect()?))
+    }
+
+    /// `end T`
+    fn end(words: &mut Words) -> Result<Command, Fault>
+        ensures ok { IfOk result (λ c. Begins (name_of Keyword.End ∷ words.old) (parts_of c) words.new × IsWithinLimit c) }
+        ensures malformed { result ≡ Err Fault.Malformed → (c : TheCommand) → ¬ (Asks (name_of Keyword.End ∷ words.old) c) }
+    {
+        Ok(Command::Step(Step::End(Serial(words.number()?))))
     }
 
     /// `tags F P`

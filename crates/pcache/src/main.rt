@@ -12,6 +12,8 @@ mod command;
 mod find;
 mod keyword;
 mod lines;
+#[cfg(test)]
+mod row_tests;
 mod run;
 mod stop;
 #[cfg(test)]

@@ -1,11 +1,12 @@
 //! A run of a script.
 
-ghost use Rattle.std.specs.Prelude.{◌≡◌, ℕ, List, IfErr, IfOk, IfSome, IsOkUnless, OnOk};
+ghost use Rattle.std.specs.Prelude.{◌≡◌, ℕ, List, None, Some, IfErr, IfOk, IfSome, IsOkUnless, OnOk};
 ghost use Rattle.std.specs.Io.KnownBytes.{Appends};
 ghost use Rattle.std.specs.Result.{result_unwrap_or};
 ghost use Rattle.pcache.specs.Answers.{IsPrintFault, Prints};
 ghost use Rattle.pcache.specs.Lines.{is_blank, lines_of};
-ghost use Rattle.pcache.specs.Runs.{CommandGives, Ends, EndsWith, LineGives, MakesStep, TellsTags, config_text, default_sizes, world_found, world_of_sizes};
+ghost use Rattle.pcache.specs.Runs.{CommandGives, Ends, EndsWith, FailsCall, LineGives, MakesStep, TellsTags, config_text, default_sizes, world_of_sizes};
+ghost use Rattle.pc_types.specs.Limits.{is_err_code};
 ghost use Rattle.pcache.specs.Stops.{IsStatus, message_of};
 
 use crate::answer::{flush, print_line, print_refusal, print_reply, print_tags};
@@ -13,8 +14,9 @@ use crate::command::Command;
 use crate::lines::{Fetched, Lines};
 use crate::stop::Stop;
 use crate::words::Fault;
-use blockdev::ScriptDevice;
-use pc_types::{FileId, Geometry, PageIndex, Refusal};
+use blockdev::{FaultEffect, ScriptDevice};
+use cachecore::Reply;
+use pc_types::{ErrCode, FileId, Geometry, PageIndex, Refusal, Serial};
 use std::alloc::Global;
 use std::io::{BufRead, Write};
 use world::{Step, World};
@@ -52,18 +54,29 @@ pub fn say<E: Write>(err: &mut E, stop: Stop) -> std::io::Result<()>
     writeln!(err, "pcache: {stop}")
 }
 
-/// Runs the lines of a script, one after the other.
+/// Runs the lines of a script, in a world that they begin with their first command.
 fn run_lines<R: BufRead + Drop, W: Write>(alloc: Global, reader: R, out: &mut W) -> Result<(), Stop>
     ensures { IfSome (R.remaining reader) (λ script. Ends (lines_of script) result (W.contents out.old) (W.contents out.new)) }
 {
     let mut lines = Lines::new(alloc, reader);
-    // There is a world from the first command on.
     let mut world = None;
+    answer_lines(alloc, &mut lines, &mut world, out)
+}
+
+/// Runs the lines, one after the other.
+fn answer_lines<R: BufRead, W: Write>(
+    alloc: Global,
+    lines: &mut Lines<R>,
+    world: &mut Option<World<ScriptDevice>>,
+    out: &mut W,
+) -> Result<(), Stop>
+    requires first_line { lines.old.number ≡ 0 }
+    requires no_world { world.old ≡ None }
+    ensures { IfSome (R.remaining lines.old.reader) (λ script. Ends (lines_of script) result (W.contents out.old) (W.contents out.new)) }
+{
     'lines: for _ in 0..u64::MAX {
         match lines.fetch(out)? {
-            Fetched::Line => {
-                world = run_line(alloc, world, lines.number, lines.line.as_slice(), out)?;
-            }
+            Fetched::Line => run_line(alloc, world, lines.number, lines.line.as_slice(), out)?,
             Fetched::TooLong => return Err(Stop::Malformed(lines.number)),
             Fetched::End => return flush(out),
         }
@@ -71,21 +84,21 @@ fn run_lines<R: BufRead + Drop, W: Write>(alloc: Global, reader: R, out: &mut W)
     Err(Stop::Input)
 }
 
-/// Runs one line, the one of this number, and gives the world after it.
+/// Runs one line, the one of this number.
 fn run_line<W: Write>(
     alloc: Global,
-    world: Option<World<ScriptDevice>>,
+    world: &mut Option<World<ScriptDevice>>,
     number: u64,
     line: &[u8],
     out: &mut W,
-) -> Result<Option<World<ScriptDevice>>, Stop>
-    ensures { LineGives world number line.now result (W.contents out.old) (W.contents out.new) }
+) -> Result<(), Stop>
+    ensures { LineGives world.old number line.now result world.new (W.contents out.old) (W.contents out.new) }
 {
     if is_blank(line) {
-        return Ok(world);
+        return Ok(());
     }
     match Command::parse(alloc, line) {
-        Ok(command) => Ok(Some(run_command(alloc, world, number, command, out)?)),
+        Ok(command) => run_command(alloc, world, number, &command, out),
         Err(Fault::Malformed) => Err(Stop::Malformed(number)),
         Err(Fault::Memory) => Err(Stop::Memory),
     }
@@ -98,70 +111,94 @@ fn is_blank(line: &[u8]) -> bool
     line.is_empty() || line[0] == b'#'
 }
 
-/// Does what a line asks for, and gives the world after it.
+/// Does what a line asks for.
 fn run_command<W: Write>(
     alloc: Global,
-    world: Option<World<ScriptDevice>>,
+    world: &mut Option<World<ScriptDevice>>,
     number: u64,
-    command: Command,
+    command: &Command,
     out: &mut W,
-) -> Result<World<ScriptDevice>, Stop>
-    ensures { CommandGives world number command result (W.contents out.old) (W.contents out.new) }
-{
-    match command {
-        Command::Config(page, frames, dirty_limit, blocks) => {
-            // Only the first command may be `config`.
-            if world.is_some() {
-                return Err(Stop::Malformed(number));
-            }
-            configure(alloc, Geometry::new(page, frames, dirty_limit, blocks), out)
-        }
-        Command::Step(step) => {
-            let mut world = found(alloc, world)?;
-            make_step(alloc, &mut world, &step, out)?;
-            Ok(world)
-        }
-        Command::Tags(file, page) => {
-            let world = found(alloc, world)?;
-            tell_tags(&world, file, page, out)?;
-            Ok(world)
-        }
-    }
-}
-
-/// The world that a command finds: where it is the first, one of the default sizes.
-fn found(alloc: Global, world: Option<World<ScriptDevice>>) -> Result<World<ScriptDevice>, Stop>
-    ensures found { IfOk result (λ w. w ≡ world_found world) }
-    ensures refused { IsOkUnless result Stop.Memory }
+) -> Result<(), Stop>
+    ensures { CommandGives world.old number command.now result world.new (W.contents out.old) (W.contents out.new) }
 {
     match world {
-        Some(world) => Ok(world),
-        None => new_world(alloc, &default_geometry()),
+        Some(world) => obey(alloc, world, number, command, out),
+        None => begin(alloc, world, number, command, out),
     }
 }
 
-/// The world of these sizes, or where they are refused of the default ones.
+/// Does what a command asks for that is not the first.
+fn obey<W: Write>(
+    alloc: Global,
+    world: &mut World<ScriptDevice>,
+    number: u64,
+    command: &Command,
+    out: &mut W,
+) -> Result<(), Stop>
+    ensures { CommandGives (Some world.old) number command.now result (Some world.new) (W.contents out.old) (W.contents out.new) }
+{
+    match command {
+        Command::Config(_, _, _, _) => Err(Stop::Malformed(number)),
+        Command::Step(step) => make_step(alloc, world, step, out),
+        Command::Fail(serial, code, effect) => fail_call(world, *serial, *code, *effect, out),
+        Command::Tags(file, page) => tell_tags(world, *file, *page, out),
+    }
+}
+
+/// Does what the first command asks for, in a new world.
+fn begin<W: Write>(
+    alloc: Global,
+    world: &mut Option<World<ScriptDevice>>,
+    number: u64,
+    command: &Command,
+    out: &mut W,
+) -> Result<(), Stop>
+    ensures { CommandGives None number command.now result world.new (W.contents out.old) (W.contents out.new) }
+{
+    if let Command::Config(page, frames, dirty_limit, blocks) = command {
+        let sizes = Geometry::new(*page, *frames, *dirty_limit, *blocks);
+        return configure(alloc, world, sizes, out);
+    }
+    let mut first = new_world(alloc, &default_geometry())?;
+    let done = obey(alloc, &mut first, number, command, out);
+    *world = Some(first);
+    done
+}
+
+/// Begins a world of these sizes, or where they are refused of the default ones.
 fn configure<W: Write>(
     alloc: Global,
+    world: &mut Option<World<ScriptDevice>>,
     sizes: Result<Geometry, Refusal>,
     out: &mut W,
-) -> Result<World<ScriptDevice>, Stop>
-    ensures made { IfOk result (λ world. world ≡ world_of_sizes (result_unwrap_or sizes default_sizes)) }
+) -> Result<(), Stop>
+    ensures made { OnOk result (world.new ≡ Some (world_of_sizes (result_unwrap_or sizes default_sizes))) }
     ensures printed { OnOk result (Prints (W.contents out.old) (W.contents out.new) (config_text sizes)) }
     ensures fault { IfErr result (IsPrintFault (W.contents out.old) (W.contents out.new)) }
 {
     match sizes {
         Ok(geometry) => {
-            let world = new_world(alloc, &geometry)?;
-            print_line(out, "configured")?;
-            Ok(world)
+            put_world(alloc, world, &geometry)?;
+            print_line(out, "configured")
         }
         Err(refusal) => {
-            let world = new_world(alloc, &default_geometry())?;
-            print_refusal(out, refusal)?;
-            Ok(world)
+            put_world(alloc, world, &default_geometry())?;
+            print_refusal(out, refusal)
         }
     }
+}
+
+/// Puts a new world of these sizes there.
+fn put_world(
+    alloc: Global,
+    world: &mut Option<World<ScriptDevice>>,
+    geometry: &Geometry,
+) -> Result<(), Stop>
+    ensures fresh { OnOk result (world.new ≡ Some (world_of_sizes geometry.now)) }
+    ensures refused { IsOkUnless result Stop.Memory }
+{
+    *world = Some(new_world(alloc, geometry)?);
+    Ok(())
 }
 
 /// The sizes of a script without a `config` line, or with one that is refused.
@@ -196,8 +233,31 @@ fn make_step<W: Write>(
     ensures fault { IfErr result (IsPrintFault (W.contents out.old) (W.contents out.new)) }
 {
     let reply = world.step(step);
-    print_reply(alloc, out, &reply)?;
-    Ok(())
+    match (step, &reply) {
+        (Step::Call(_), Reply::Done) => print_line(out, "done"),
+        _ => print_reply(alloc, out, &reply),
+    }
+}
+
+/// Makes the device call of a request fail, and prints what came of it.
+fn fail_call<W: Write>(
+    world: &mut World<ScriptDevice>,
+    serial: Serial,
+    code: u16,
+    effect: FaultEffect,
+    out: &mut W,
+) -> Result<(), Stop>
+    ensures made { OnOk result ((printed : List ℕ) × FailsCall world.old serial.0 (is_err_code code) code effect printed world.new × Appends (W.contents out.old) (W.contents out.new) printed) }
+    ensures fault { IsOkUnless result Stop.Output }
+{
+    let failed = match ErrCode::new(code) {
+        Ok(code) => world.fail(serial, code, effect),
+        Err(refusal) => Err(refusal),
+    };
+    match failed {
+        Ok(()) => print_line(out, "failed"),
+        Err(refusal) => print_refusal(out, refusal),
+    }
 }
 
 /// Prints what is known of a page.

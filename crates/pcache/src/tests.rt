@@ -8,13 +8,13 @@ use std::test::Fail;
 
 /// What a run of a script gives.
 #[derive(Clone, Copy)]
-struct Outcome<'a> {
-    output: &'a str,
-    message: &'a str,
-    status: u8,
+pub struct Outcome<'a> {
+    pub output: &'a str,
+    pub message: &'a str,
+    pub status: u8,
 }
 
-fn check(
+pub fn check(
     rt: &impl Abort,
     alloc: Global,
     script: &[u8],
@@ -109,7 +109,10 @@ fn malformed_lines_end_a_script(rt: HostRuntime) -> Result<(), Fail> {
         "Create",
         "write 0 0 0g",
         "append 0 --",
-        "evict",
+        "evict 0",
+        "fail 0 5",
+        "fail 0 5 both",
+        "fail 0 65536 old",
         long.as_str(),
     ];
     let expected = Outcome {

@@ -4,9 +4,11 @@ ghost use Rattle.std.specs.Prelude.{◌≡◌, ◌∷◌, [], ℕ, List, IfOk, I
 ghost use Rattle.std.specs.Str.{IsUtf8};
 ghost use Rattle.std.specs.Str.Parse.{digits_value, without_leading_plus};
 ghost use Rattle.pcache.specs.Words.{words_of, IsNumber, bytes_of, has_sign_or_leading_zero, IsParse};
-ghost use Rattle.pcache.specs.Commands.{Begins, Number, Hex};
+ghost use Rattle.pcache.specs.Commands.{Begins, Number, Hex, Leaves};
+ghost use Rattle.blockdev.specs.declared.fault.FaultEffect.{FaultEffect as TheEffect};
 
 use crate::find::split_at_byte;
+use blockdev::FaultEffect;
 use hex::FromHexError;
 use pc_types::Bytes;
 use std::alloc::Global;
@@ -122,6 +124,19 @@ impl<'a> Words<'a> {
     {
         let word = self.word().ok_or(Fault::Malformed)?;
         bytes(alloc, word)
+    }
+
+    /// What the next word says that a write which fails leaves in its block: `old` or `new` bytes.
+    pub fn effect(&mut self) -> Result<FaultEffect, Fault>
+        ensures ok { IfOk result (λ e. Begins self.old (Leaves e ∷ []) self.new) }
+        ensures none { OnErr result ((e : TheEffect) (rest : List (List ℕ)) → ¬ (Begins self.old (Leaves e ∷ []) rest)) }
+        ensures malformed { IsOkUnless result Fault.Malformed }
+    {
+        match self.word() {
+            Some(b"old") => Ok(FaultEffect::Old),
+            Some(b"new") => Ok(FaultEffect::New),
+            _ => Err(Fault::Malformed),
+        }
     }
 
     /// Whether every word was taken.

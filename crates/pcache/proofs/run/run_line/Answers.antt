@@ -1,7 +1,8 @@
-use Rattle.std.proofs.Common.{inr, refl, sym, ◌∙◌}
+use Rattle.std.proofs.Common.{sym, ◌∙◌}
+use Rattle.pcache.proofs.CommandGiven.{line_given}
 use Rattle.pcache.proofs.run.run_line.Goals as goal
 
 pub returns-in-Ok : goal.returns-in-Ok
 returns-in-Ok g c =
-    let gives = c.in_ok-run_command-in-Ok.ensures in
-    (gives.0, inr (sym c.is_blank.ensures ∙ c.if-is_blank.false, c.in-Ok.command, c.in_ok-run_command-in-Ok.field-0, c.in-Ok.ensures.ok, gives.1, refl), gives.2)
+    line_given c.args.world.now c.args.number c.args.line.now c.in-Ok.command c.run_command.result c.run_command.new.world (g.W.Write.contents c.args.out.now) (g.W.Write.contents c.run_command.new.out)
+    (sym c.is_blank.ensures ∙ c.if-is_blank.false) c.in-Ok.ensures.ok c.run_command.ensures

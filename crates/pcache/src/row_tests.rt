@@ -1,0 +1,241 @@
+//! Scripts that make device calls, each line beside its answer.
+
+use crate::tests::{Outcome, check};
+use std::alloc::Global;
+use std::process::Abort;
+use std::test::Fail;
+
+/// The lines after a file was created and opened, with their answers.
+fn check_row(rt: &impl Abort, alloc: Global, row: &[(&str, &str)]) -> Result<(), Fail> {
+    check_whole(rt, alloc, "create\nopen 0\n", "file 0\nhandle 0\n", row)
+}
+
+/// The same after other first lines.
+fn check_whole(
+    rt: &impl Abort,
+    alloc: Global,
+    first: &str,
+    answers: &str,
+    row: &[(&str, &str)],
+) -> Result<(), Fail> {
+    let mut script = String::new(alloc);
+    let mut output = String::new(alloc);
+    script.push_str(first)?;
+    output.push_str(answers)?;
+    for (line, answer) in row {
+        script.push_str(line)?;
+        script.push('\n')?;
+        output.push_str(answer)?;
+        output.push('\n')?;
+    }
+    let expected = Outcome {
+        output: output.as_str(),
+        message: "",
+        status: 0,
+    };
+    check(rt, alloc, script.as_bytes(), &expected)
+}
+
+/// A page that is written back counts no longer as dirty.
+#[test]
+fn a_written_page_makes_room_for_another(rt: HostRuntime) -> Result<(), Fail> {
+    let alloc = rt.alloc();
+    let many = "ab".repeat(alloc, 256)?;
+    let write = format!(in alloc; "write 0 0 {many}")?;
+    check_row(
+        &rt,
+        alloc,
+        &[
+            (write.as_str(), "wrote 256"),
+            ("write 0 256 ff", "refused 10"),
+            ("size 0", "size 256"),
+            ("flush 0", "job 0"),
+            ("do 0", "done"),
+            ("end 0", "written"),
+            ("write 0 256 ff", "wrote 1"),
+        ],
+    )
+}
+
+/// What is written while a write is in flight stays dirty, whether this one goes well or fails.
+#[test]
+fn a_page_written_meanwhile_stays_dirty(rt: HostRuntime) -> Result<(), Fail> {
+    let alloc = rt.alloc();
+    check_row(
+        &rt,
+        alloc,
+        &[
+            ("write 0 0 aa", "wrote 1"),
+            ("flush 0", "job 0"),
+            ("write 0 0 bb", "wrote 1"),
+            ("do 0", "done"),
+            ("end 0", "written"),
+            ("tags 0 0", "D"),
+            ("read 0 0 1", "bytes bb"),
+            ("evict", "none"),
+        ],
+    )?;
+    check_row(
+        &rt,
+        alloc,
+        &[
+            ("write 0 0 aa", "wrote 1"),
+            ("flush 0", "job 0"),
+            ("write 0 0 bb", "wrote 1"),
+            ("fail 0 5 new", "failed"),
+            ("end 0", "failed 5"),
+            ("tags 0 0", "D"),
+            ("read 0 0 1", "bytes bb"),
+            ("fail 9 0 old", "refused 21"),
+            ("fail 9 5 old", "refused 15"),
+        ],
+    )
+}
+
+/// A page whose write failed is dirty again, and its bytes are not lost.
+#[test]
+fn a_failed_write_loses_nothing(rt: HostRuntime) -> Result<(), Fail> {
+    let alloc = rt.alloc();
+    check_row(
+        &rt,
+        alloc,
+        &[
+            ("write 0 0 aa", "wrote 1"),
+            ("flush 0", "job 0"),
+            ("fail 0 5 old", "failed"),
+            ("end 0", "failed 5"),
+            ("tags 0 0", "D"),
+            ("read 0 0 1", "bytes aa"),
+        ],
+    )
+}
+
+/// A page that was evicted is read in again, before a truncation cuts into it.
+#[test]
+fn a_truncation_cuts_a_page_on_the_device(rt: HostRuntime) -> Result<(), Fail> {
+    let alloc = rt.alloc();
+    check_row(
+        &rt,
+        alloc,
+        &[
+            ("write 0 0 11111111111111111111111111111111", "wrote 16"),
+            ("flush 0", "job 0"),
+            ("do 0", "done"),
+            ("end 0", "written"),
+            ("evict", "evicted 0 0"),
+            ("truncate 0 4", "miss 0"),
+            ("fill 0 0", "job 1"),
+            ("do 1", "done"),
+            ("end 1", "filled"),
+            ("truncate 0 4", "ok"),
+            ("tags 0 0", "D"),
+            ("truncate 0 16", "ok"),
+            ("read 0 0 16", "bytes 11111111000000000000000000000000"),
+        ],
+    )
+}
+
+/// A block that a write in flight may still reach is not given out, and a request whose page is cut off changes nothing.
+#[test]
+fn requests_outlive_the_pages_that_are_cut_off(rt: HostRuntime) -> Result<(), Fail> {
+    let alloc = rt.alloc();
+    check_whole(
+        &rt,
+        alloc,
+        "config 16 48 16 1\ncreate\nopen 0\n",
+        "configured\nfile 0\nhandle 0\n",
+        &[
+            ("write 0 0 aa", "wrote 1"),
+            ("flush 0", "job 0"),
+            ("truncate 0 0", "ok"),
+            ("write 0 0 bb", "refused 9"),
+            ("do 0", "done"),
+            ("end 0", "dropped"),
+            ("end 0", "refused 15"),
+            ("write 0 0 bb", "wrote 1"),
+            ("read 0 0 9", "bytes bb"),
+        ],
+    )?;
+    check_row(
+        &rt,
+        alloc,
+        &[
+            ("write 0 0 11111111111111111111111111111111", "wrote 16"),
+            ("flush 0", "job 0"),
+            ("do 0", "done"),
+            ("end 0", "written"),
+            ("evict", "evicted 0 0"),
+            ("fill 0 0", "job 1"),
+            ("read 0 0 1", "wait 0"),
+            ("truncate 0 0", "ok"),
+            ("write 0 0 22", "wrote 1"),
+            ("do 1", "done"),
+            ("end 1", "dropped"),
+            ("read 0 0 16", "bytes 22"),
+        ],
+    )
+}
+
+/// A block that was cut is reused as soon as its request has ended, by a page of its own.
+#[test]
+fn a_cut_block_is_used_again(rt: HostRuntime) -> Result<(), Fail> {
+    let alloc = rt.alloc();
+    check_whole(
+        &rt,
+        alloc,
+        "config 16 48 16 2\ncreate\nopen 0\n",
+        "configured\nfile 0\nhandle 0\n",
+        &[
+            ("write 0 0 aa", "wrote 1"),
+            ("flush 0", "job 0"),
+            ("truncate 0 0", "ok"),
+            ("write 0 0 bb", "wrote 1"),
+            ("flush 0", "job 1"),
+            ("do 1", "done"),
+            ("do 0", "done"),
+            ("end 0", "dropped"),
+            ("end 1", "written"),
+            ("evict", "evicted 0 0"),
+            ("fill 0 0", "job 2"),
+            ("do 2", "done"),
+            ("end 2", "filled"),
+            ("read 0 0 1", "bytes bb"),
+        ],
+    )
+}
+
+/// A page that was read twice outlives those that were not, until the lists age.
+#[test]
+fn pages_in_use_are_evicted_last(rt: HostRuntime) -> Result<(), Fail> {
+    let alloc = rt.alloc();
+    let bytes = "01".repeat(alloc, 48)?;
+    let write = format!(in alloc; "write 0 0 {bytes}")?;
+    check_row(
+        &rt,
+        alloc,
+        &[
+            (write.as_str(), "wrote 48"),
+            ("flush 0", "job 0"),
+            ("do 0", "done"),
+            ("end 0", "written"),
+            ("flush 0", "job 1"),
+            ("do 1", "done"),
+            ("end 1", "written"),
+            ("flush 0", "job 2"),
+            ("do 2", "done"),
+            ("end 2", "written"),
+            ("read 0 0 1", "bytes 01"),
+            ("read 0 0 1", "bytes 01"),
+            ("age", "aged 0"),
+            ("evict", "evicted 0 1"),
+            ("evict", "evicted 0 2"),
+            ("age", "aged 1"),
+            ("evict", "evicted 0 0"),
+            ("evict", "none"),
+            ("fill 0 0", "job 3"),
+            ("fail 3 5 old", "failed"),
+            ("end 3", "failed 5"),
+            ("tags 0 0", "absent"),
+        ],
+    )
+}
