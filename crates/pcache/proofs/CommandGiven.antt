@@ -1,7 +1,7 @@
 -- What a command gives, and the line that asks for it.
-use Rattle.std.proofs.Common.{◌≡◌, ◌≢◌, ℕ, Bool, true, false, inr, List, [], Option, Some, None, Result, Ok, Err, IfErr, IfOk, OnOk, IsOk, IsOkUnless, refl, sym, ap, subst, ◌∙◌}
+use Rattle.std.proofs.Common.{◌≡◌, ◌≢◌, ℕ, Bool, true, false, inr, List, Option, Some, None, Result, Ok, Err, IfErr, IfOk, OnOk, IsOk, IsOkUnless, refl, sym, ap, subst, ◌∙◌}
 use Rattle.std.specs.Prelude.{◌↔◌, IsTrue, if◌then◌else◌}
-use Rattle.std.specs.Io.KnownBytes.{Appends, Keeps}
+use Rattle.std.specs.Io.KnownBytes.{Appends}
 use Rattle.std.proofs.lemmas.Bool.{false≢true}
 use Rattle.std.specs.Result.{result_unwrap_or}
 use Rattle.pc_types.specs.Limits.{Sizes, is_geometry}
