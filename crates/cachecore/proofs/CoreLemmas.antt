@@ -24,7 +24,8 @@ use Rattle.cachecore.specs.Changes.{blank, overwrite, written, written_pages, pl
 use Rattle.cachecore.specs.Tests.{covers, must_fill, room_tests, refuse, write_tests}
 use Rattle.cachecore.specs.Pairs.{AreSized}
 use Rattle.cachecore.specs.Tables.{IsCore, state_of}
-use Rattle.cachecore.specs.Store.{Store, NoneAwaited, is_awaited, stored_at, with_pages}
+use Rattle.cachecore.specs.PageLists.{PageLists, no_lists}
+use Rattle.cachecore.specs.Store.{Store, NoneAwaited, is_awaited, stored_at, with_pages, with_lists}
 use Rattle.cachecore.specs.Flying.{request_of, requests_of}
 use Rattle.writeback.specs.Flights.{Flight, Flights}
 use Rattle.cachecore.specs.Holding.{Holds}
@@ -91,7 +92,7 @@ abbrev pub first_blocks : Sizes → Blocks
 first_blocks sizes = record { count = sizes.blocks; spots = finmap.empty; held = finmap.empty }
 
 abbrev pub first_store : Sizes → Store
-first_store sizes = record { page = sizes.page; files = []; filling = set.empty; free = sizes.frames }
+first_store sizes = record { page = sizes.page; files = []; filling = set.empty; free = sizes.frames; lists = no_lists }
 
 abbrev pub first_state : Sizes → ℕ → State
 first_state sizes name = state_of sizes name [] finmap.empty (first_blocks sizes) (record { next = 0; requests = finmap.empty })
@@ -127,6 +128,27 @@ pub zeros_state : (sizes : Sizes) (name : ℕ) (store : Store) (handles : FinMap
 zeros_state sizes name store handles blocks flights f p free page = ap (λ n. state_of sizes name (slice_set store.files f (record (stored_at store f) { pages = finmap.insert (stored_at store f).pages p (blank n) })) handles blocks flights) page
 
 module _ (s : State) (store : Store) (blocks : Blocks) (c : IsCore s store blocks) where
+  -- ---- the page lists, of which the tables say nothing
+
+  pub core-lists : (lists : PageLists) → IsCore s (with_lists store lists) blocks
+  core-lists lists = record {
+    few_files = c.few_files;
+    known = c.known;
+    bounded = c.bounded;
+    sized = c.sized;
+    page = c.page;
+    framed = c.framed;
+    counted = c.counted;
+    filling = c.filling;
+    device = c.device;
+    holds = c.holds;
+    within = c.within;
+    filed = c.filed;
+    failed = c.failed;
+    serials = c.serials;
+    sound = c.sound;
+  }
+
   -- ---- a new file
 
   pub core-create : (now : Store) → now.page ≡ store.page → now.filling ≡ store.filling → now.free ≡ store.free → length s.files < MAX_FILES → IsCore (record s { files = s.files ++ no_file ∷ [] }) now blocks

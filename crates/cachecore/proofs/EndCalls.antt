@@ -25,6 +25,7 @@ use Rattle.cachecore.specs.Changes.{put_page, ended, after_write, block_of, set_
 use Rattle.cachecore.specs.Step.{Step, FillEndReply, FlushEndReply}
 use Rattle.cachecore.specs.Replies.{end_of, outcome_of}
 use Rattle.cachecore.specs.Sound.{block_at}
+use Rattle.cachecore.specs.PageLists.{left}
 use Rattle.cachecore.specs.Store.{Store, stored_at, stored_page, is_awaited, with_pages}
 use Rattle.cachecore.specs.Tables.{IsCore, state_of}
 use Rattle.cachecore.proofs.EndKeeps.{quiet_core, unfilled_core, filled_core, flushed_core, flush_failed_core, fills_here}
@@ -96,10 +97,10 @@ module _ (sizes : Sizes) (name : ℕ) (handles : FinMap nat_cmp ℕ) (store : St
           awaited_here = fills_here s store blocks c f.serial r e.found live (fill_kind r.kind e.kind)
 
           module _ (x : Store) where
-            pub fill_failed_core : x ≡ record store { filling = set.remove store.filling (r.file, r.page); free = store.free + 1 } → IsCore (now sizes name handles x y z) x y
+            pub fill_failed_core : x ≡ record store { filling = set.remove store.filling (r.file, r.page); free = store.free + 1; lists = left r.file r.page store.lists } → IsCore (now sizes name handles x y z) x y
             fill_failed_core x_is = core_after sizes name handles x y z _ (becomes x _ x_is) (unfilled_core s store blocks c f.serial r e.found live (fill_kind r.kind e.kind))
 
-            pub fill_failed_step : x ≡ record store { filling = set.remove store.filling (r.file, r.page); free = store.free + 1 } → (code : ℕ) → f.outcome ≡ Err code → Step s (event.FillEnd (end_of f)) (reply.Failed code) (now sizes name handles x y z)
+            pub fill_failed_step : x ≡ record store { filling = set.remove store.filling (r.file, r.page); free = store.free + 1; lists = left r.file r.page store.lists } → (code : ℕ) → f.outcome ≡ Err code → Step s (event.FillEnd (end_of f)) (reply.Failed code) (now sizes name handles x y z)
             fill_failed_step x_is code failed = fill_end_step s f r e (reply.Failed code) _
                 (subst (λ o. FillEndReply s f.serial (Some r) (outcome_of o f.bytes) (reply.Failed code) (now sizes name handles x y z)) (sym failed) (live, refl, state_after sizes name handles x y z _ (becomes x _ x_is)))
 

@@ -18,6 +18,7 @@ use Rattle.cachecore.specs.State.{State, File, Page, Request, Sync, no_file, fil
 use Rattle.cachecore.specs.Changes.{each_value, still_awaits, put_page, ended, after_write, set_written, failed_once}
 use Rattle.cachecore.specs.Pairs.{AreSized}
 use Rattle.cachecore.specs.Sound.{Sound, lookups}
+use Rattle.cachecore.specs.PageLists.{left}
 use Rattle.cachecore.specs.Store.{Store, is_awaited}
 use Rattle.cachecore.specs.Tables.{IsCore}
 use Rattle.cachecore.proofs.Choices.{and_true}
@@ -159,7 +160,7 @@ module _ (s : State) (store : Store) (blocks : Blocks) (c : IsCore s store block
               false≢true (sym e ∙ (λ i. eq-eqb g r.file (sym h.2) i && eq-eqb q r.page (sym h.3) i)))))
 
       abbrev without_place : Store
-      without_place = record store { filling = set.remove store.filling (r.file, r.page); free = store.free + 1 }
+      without_place = record store { filling = set.remove store.filling (r.file, r.page); free = store.free + 1; lists = left r.file r.page store.lists }
 
       pub unfilled_core : IsCore (ended s t) without_place held_left
       unfilled_core =

@@ -24,6 +24,7 @@ use Rattle.cachecore.specs.Changes.{block_of, filling}
 use Rattle.cachecore.specs.Tests.{is_full, refuse}
 use Rattle.cachecore.specs.Step.{Answers, FillBeginReply}
 use Rattle.cachecore.specs.Replies.{FillsAbsent, IsJobOf}
+use Rattle.cachecore.specs.PageLists.{entered}
 use Rattle.cachecore.specs.Store.{Store}
 use Rattle.cachecore.specs.Tables.{IsCore, state_of}
 use Rattle.cachecore.proofs.FillKeeps.{block_is, filling_store, fill_begun_core}
@@ -82,7 +83,7 @@ module _ (sizes : Sizes) (name : ℕ) (handles : FinMap nat_cmp ℕ) (store : St
     abbrev flight : Flight
     flight = record { kind = Fill; file = f; page = p; block = spot.block; dropped = false }
 
-    module _ (x : Store) (y : Blocks) (z : Flights) (x_is : x ≡ record store { filling = set.insert store.filling (f, p); free = store.free - 1 }) (y_is : y ≡ record blocks { held = finmap.insert blocks.held spot.block false }) (z_is : z ≡ flights.begun flying flight) where
+    module _ (x : Store) (y : Blocks) (z : Flights) (x_is : x ≡ record store { filling = set.insert store.filling (f, p); free = store.free - 1; lists = entered f p store.lists }) (y_is : y ≡ record blocks { held = finmap.insert blocks.held spot.block false }) (z_is : z ≡ flights.begun flying flight) where
       same_block : spot.block ≡ block_of s f p
       same_block = sym (block_is s store blocks c f p absent idle spot at)
 

@@ -15,6 +15,7 @@ use Rattle.blockmap.specs.Keys.{IsPage}
 use Rattle.blockmap.proofs.MapLemmas.{mapped_at}
 use Rattle.cachecore.specs.State.{State, Request, fills, is_cached, is_filling, is_written, spot_at}
 use Rattle.cachecore.specs.Changes.{block_of, filling}
+use Rattle.cachecore.specs.PageLists.{entered}
 use Rattle.cachecore.specs.Sound.{block_at}
 use Rattle.cachecore.specs.Store.{Store, is_awaited}
 use Rattle.cachecore.specs.Tables.{IsCore}
@@ -46,7 +47,7 @@ module _ (s : State) (store : Store) (blocks : Blocks) (c : IsCore s store block
   new = record { kind = Fill; file = f; page = p; block = block_of s f p; bytes = []; dropped = false }
 
   abbrev pub filling_store : Store
-  filling_store = record store { filling = set.insert store.filling (f, p); free = store.free - 1 }
+  filling_store = record store { filling = set.insert store.filling (f, p); free = store.free - 1; lists = entered f p store.lists }
 
   fills_here : (g q : ℕ) (b : Bool) → (eqb g f && eqb q p) ≡ b → cond b true (is_awaited store g q) ≡ is_filling (filling s f p) g q
   fills_here g q true e =

@@ -36,12 +36,15 @@ module _ (t : Table) (up : List Bool) (files : List KeptFile) (f n : ℕ) where
       each None = refl
       each (Some x) = let page : Page = record { bytes = row_at t.bytes x.frame; tags = x.tags } in either page (is_uptodate up x)
 
-  pub none_from : (m : Pages) → m ≡ (kept_at files f).mapping.pages → None ≡ mapping.lowest (λ e. nat_le n e.0) m → (q : ℕ) → n ≤ q → (is_some (stored_page (store_of t up files) f q) || is_awaited (store_of t up files) f q) ≡ false
-  none_from m same none q low = go (finmap.get m q) refl
+  pub no_entry_from : (m : Pages) → m ≡ (kept_at files f).mapping.pages → None ≡ mapping.lowest (λ e. nat_le n e.0) m → (q : ℕ) → n ≤ q → entry_at files f q ≡ None
+  no_entry_from m same none q low = go (finmap.get m q) refl
     where
-      go : (o : Option Mapped) → finmap.get m q ≡ o → (is_some (stored_page (store_of t up files) f q) || is_awaited (store_of t up files) f q) ≡ false
-      go None e = there None q (ap (λ (k : Pages). finmap.get k q) (sym same) ∙ e)
+      go : (o : Option Mapped) → finmap.get m q ≡ o → entry_at files f q ≡ None
+      go None e = ap (λ (k : Pages). finmap.get k q) (sym same) ∙ e
       go (Some x) e = absurd (let off : nat_le n q ≡ false = found_none m (λ (e : ℕ × Mapped). nat_le n e.0) (none_mapped mapping.found _ none) q x e in let on : nat_le n q ≡ true = grind (arith, nat_tests) in cc)
+
+  pub none_from : (m : Pages) → m ≡ (kept_at files f).mapping.pages → None ≡ mapping.lowest (λ e. nat_le n e.0) m → (q : ℕ) → n ≤ q → (is_some (stored_page (store_of t up files) f q) || is_awaited (store_of t up files) f q) ≡ false
+  none_from m same none q low = there None q (no_entry_from m same none q low)
 
   pub some_from : (m : Pages) (r : FoundPage) → m ≡ (kept_at files f).mapping.pages → Some r ≡ mapping.lowest (λ e. nat_le n e.0) m → (n ≤ r.page.0) × ((is_some (stored_page (store_of t up files) f r.page.0) || is_awaited (store_of t up files) f r.page.0) ≡ true)
   some_from m r same is =

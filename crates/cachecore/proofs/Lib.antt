@@ -26,6 +26,7 @@ pub mod Holdings
 pub mod PlaceLemmas
 pub mod WriteLemmas
 pub mod CoreLemmas
+pub mod CoreViews
 pub mod StepLemmas
 pub mod BareMaps
 pub mod BareTests
@@ -37,6 +38,7 @@ pub mod StoreLaws
 pub mod StoreFacts
 pub mod RangeLemmas
 pub mod WriteSteps
+pub mod WriteMoves
 pub mod SoundChanges
 pub mod SoundLookups
 pub mod SoundPages
@@ -70,3 +72,7 @@ pub mod Evictions
 pub mod TagChanges
 pub mod FlushPicks
 pub mod Idle
+pub mod ListedFrames
+pub mod Owners
+pub mod Victims
+pub mod Accesses

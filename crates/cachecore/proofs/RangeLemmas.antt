@@ -1,6 +1,6 @@
 -- Pages of a store changed one after the other.
-use Rattle.std.proofs.Common.{◌≡◌, ℕ, zero, suc, ◌+◌, ◌-◌, ◌*◌, ◌/◌, ◌%◌, ◌<◌, ◌≤◌, Bool, true, false, cond, not, ◌&&◌, eqb, eqb-true, eq-eqb, List, [], length, refl, ap, sym, subst, ◌∙◌, arith}
-use Rattle.std.specs.Prelude.{Option, Some, None, is_some, unwrap_or, if◌then◌else◌, nat_le, nat_lt, count_by, slice_set, Result, Ok, Err, OnOk, OnErr}
+use Rattle.std.proofs.Common.{◌≡◌, ℕ, zero, suc, ◌+◌, ◌-◌, ◌*◌, ◌/◌, ◌%◌, ◌<◌, ◌≤◌, Bool, true, false, cond, not, ◌&&◌, eqb, eqb-true, eq-eqb, List, [], ◌∷◌, length, refl, ap, sym, subst, ◌∙◌, arith}
+use Rattle.std.specs.Prelude.{Option, Some, None, is_some, unwrap_or, if◌then◌else◌, nat_le, nat_lt, count_by, filter, slice_set, Result, Ok, Err, OnOk, OnErr}
 use Rattle.std.specs.List.{range_with_len}
 use Rattle.std.specs.Ordering.{nat_cmp}
 use Rattle.std.specs.FinMap as finmap
@@ -15,8 +15,10 @@ use Rattle.pc_types.specs.Tags.{no_tags}
 use Rattle.cachecore.specs.State.{File, Page, no_file, the_page}
 use Rattle.cachecore.specs.Changes.{blank, written_page}
 use Rattle.cachecore.specs.Pairs.{IsLaid, AreRead}
-use Rattle.cachecore.specs.Store.{Store, stored_at, stored_page, is_awaited, with_pages, AreMade}
+use Rattle.cachecore.specs.PageLists.{is_listed, entered, left, each_entered}
+use Rattle.cachecore.specs.Store.{Store, stored_at, stored_page, is_awaited, with_pages, with_lists, AreMade}
 use Rattle.cachecore.proofs.StateLaws.{get_or-set}
+use Rattle.cachecore.proofs.ListedFrames.{left_entered}
 use Rattle.cachecore.proofs.MapLaws.{get-insert_nat}
 use Rattle.cachecore.proofs.StoreEntries.{taken_back}
 
@@ -35,13 +37,13 @@ module _ (s : Store) (f : ℕ) (here : f < length s.files) where
   with-with pages more free now =
       let all : slice_set (slice_set s.files f (record (stored_at s f) { pages = pages })) f (record (stored_at (with_pages s f pages free) f) { pages = more }) ≡ slice_set s.files f (record (stored_at s f) { pages = more }) =
       ap (λ (e : File). slice_set (slice_set s.files f (record (stored_at s f) { pages = pages })) f (record e { pages = more })) (stored-with pages free) ∙ set-set s.files f (record (stored_at s f) { pages = pages }) (record (stored_at s f) { pages = more }) in
-      λ i. record { page = s.page; files = all i; filling = s.filling; free = now }
+      λ i. record { page = s.page; files = all i; filling = s.filling; free = now; lists = s.lists }
 
 pub length-with : (s : Store) (f : ℕ) (pages : FinMap nat_cmp Page) (free : ℕ) → length (with_pages s f pages free).files ≡ length s.files
 length-with s f pages free = length-set s.files f (record (stored_at s f) { pages = pages })
 
 pub with-itself : (s : Store) (f : ℕ) → with_pages s f (stored_at s f).pages s.free ≡ s
-with-itself s f = let all = set-get_or s.files f no_file in λ i. record { page = s.page; files = all i; filling = s.filling; free = s.free }
+with-itself s f = let all = set-get_or s.files f no_file in λ i. record { page = s.page; files = all i; filling = s.filling; free = s.free; lists = s.lists }
 
 -- ---- counts
 
@@ -55,6 +57,19 @@ count-first : (p : ℕ → Bool) (first end : ℕ) → first < end → count_by 
 count-first p first end h =
     let one : end - first ≡ suc (end - (first + 1)) = omega arith in
     ap (λ n. count_by p (range_with_len first n)) one ∙ sum_by-cons (λ x. cond (p x) 1 0) first (range_with_len (first + 1) (end - (first + 1)))
+
+filter-alike : (p q : ℕ → Bool) (a n : ℕ) → ((k : ℕ) → a ≤ k → p k ≡ q k) → filter p (range_with_len a n) ≡ filter q (range_with_len a n)
+filter-alike p q a zero h = refl
+filter-alike p q a (suc n) h =
+    let rest = filter-alike p q (a + 1) n (λ k l. h k (omega arith)) in
+    λ i. cond (h a (omega arith) i) (a ∷ rest i) (rest i)
+
+-- the numbers that pass, the first one apart
+absent_after : (p : ℕ → Bool) (first end : ℕ) → first < end → filter p (range_with_len first (end - first)) ≡ cond (p first) (first ∷ filter p (range_with_len (first + 1) (end - (first + 1)))) (filter p (range_with_len (first + 1) (end - (first + 1))))
+absent_after p first end h = let one : end - first ≡ suc (end - (first + 1)) = omega arith in ap (λ n. filter p (range_with_len first n)) one
+
+none_between : (p : ℕ → Bool) (k : ℕ) → filter p (range_with_len k (k - k)) ≡ []
+none_between p k = let none : k - k ≡ 0 = omega arith in ap (λ n. filter p (range_with_len k n)) none
 
 -- ---- absent pages are made
 
@@ -87,7 +102,7 @@ absent s f p = not (is_some (stored_page s f p))
 pub made_none : (s : Store) (f p : ℕ) → AreMade f p p s s
 made_none s f p = record {
   each = λ q. sym (split (nat_le p q) (nat_lt q p) (absent s f q) (Some (blank s.page)) (stored_page s f q) ∙ ap (λ b. if b && absent s f q then Some (blank s.page) else stored_page s f q) (nothing_between p q));
-  rest = sym (with-itself s f);
+  rest = sym (with-itself s f) ∙ ap (λ ps. with_lists (with_pages s f (stored_at s f).pages s.free) (each_entered f ps s.lists)) (sym (none_between (absent s f) p));
   fewer = let none : p - p ≡ 0 = omega arith in let count : count_by (absent s f) (range_with_len p (p - p)) ≡ 0 = ap (λ n. count_by (absent s f) (range_with_len p n)) none in omega (arith, count);
 }
 
@@ -106,7 +121,7 @@ module _ (f first end : ℕ) (old : Store) (less : first < end) where
         | true ↦ λ e. both_ways q (ap (λ n. is_some (stored_page old f n)) (eqb-true q first e) ∙ there)
         | false ↦ λ e. ap (λ b. if b && nat_lt q end && absent old f q then Some (blank old.page) else stored_page old f q) (le_next first q e)
       ] refl;
-      rest = h.rest;
+      rest = h.rest ∙ ap (λ ps. with_lists (with_pages old f (stored_at new f).pages new.free) (each_entered f ps old.lists)) (sym (absent_after (absent old f) first end less ∙ ap (λ b. cond (not b) (first ∷ filter (absent old f) (range_with_len (first + 1) (end - (first + 1)))) (filter (absent old f) (range_with_len (first + 1) (end - (first + 1))))) there));
       fewer = h.fewer ∙ ap (λ n. old.free - n) (sym room_past);
     }
       where
@@ -118,7 +133,7 @@ module _ (f first end : ℕ) (old : Store) (less : first < end) where
             ∙ sym (split (nat_le first q) (nat_lt q end) (absent old f q) x y ∙ ap (λ b. if (nat_le first q && nat_lt q end) && not b then x else y) e ∙ never (nat_le first q && nat_lt q end) x y)
 
   -- one that is absent is made
-  module _ (here : f < length old.files) (gone : stored_page old f first ≡ None) (room : 0 < old.free) (mid : Store) (is : mid ≡ with_pages old f (finmap.insert (stored_at old f).pages first (blank old.page)) (old.free - 1)) where
+  module _ (here : f < length old.files) (gone : stored_page old f first ≡ None) (room : 0 < old.free) (mid : Store) (is : mid ≡ with_lists (with_pages old f (finmap.insert (stored_at old f).pages first (blank old.page)) (old.free - 1)) (entered f first old.lists)) where
     mid_page : (q : ℕ) → stored_page mid f q ≡ cond (eqb q first) (Some (blank old.page)) (stored_page old f q)
     mid_page q =
         ap (λ (s : Store). stored_page s f q) is ∙ ap (λ (m : FinMap nat_cmp Page). finmap.get m q) (pages-with old f here (finmap.insert (stored_at old f).pages first (blank old.page)) (old.free - 1))
@@ -148,6 +163,12 @@ module _ (f first end : ℕ) (old : Store) (less : first < end) where
     same_count : count_by (absent mid f) (range_with_len (first + 1) (end - (first + 1))) ≡ count_by (absent old f) (range_with_len (first + 1) (end - (first + 1)))
     same_count = count-alike (absent mid f) (absent old f) (first + 1) (end - (first + 1)) (λ q h. ap (λ (o : Option Page). not (is_some o)) (mid_other q (past_first q h)))
 
+    same_absent : filter (absent mid f) (range_with_len (first + 1) (end - (first + 1))) ≡ filter (absent old f) (range_with_len (first + 1) (end - (first + 1)))
+    same_absent = filter-alike (absent mid f) (absent old f) (first + 1) (end - (first + 1)) (λ q h. ap (λ (o : Option Page). not (is_some o)) (mid_other q (past_first q h)))
+
+    first_absent : filter (absent old f) (range_with_len first (end - first)) ≡ first ∷ filter (absent old f) (range_with_len (first + 1) (end - (first + 1)))
+    first_absent = absent_after (absent old f) first end less ∙ ap (λ (o : Option Page). cond (not (is_some o)) (first ∷ filter (absent old f) (range_with_len (first + 1) (end - (first + 1)))) (filter (absent old f) (range_with_len (first + 1) (end - (first + 1))))) gone
+
     mid_free : mid.free ≡ old.free - 1
     mid_free = ap (λ (s : Store). s.free) is
 
@@ -160,7 +181,11 @@ module _ (f first end : ℕ) (old : Store) (less : first < end) where
         | true ↦ λ e. at_first q (eqb-true q first e)
         | false ↦ λ e. elsewhere q e
       ] refl;
-      rest = h.rest ∙ ap (λ (s : Store). with_pages s f (stored_at new f).pages new.free) is ∙ with-with old f here (finmap.insert (stored_at old f).pages first (blank old.page)) (stored_at new f).pages (old.free - 1) new.free;
+      rest =
+          h.rest
+          ∙ (λ i. with_lists (with_pages (is i) f (stored_at new f).pages new.free) (each_entered f (same_absent i) (is i).lists))
+          ∙ ap (λ (s : Store). with_lists s (each_entered f (filter (absent old f) (range_with_len (first + 1) (end - (first + 1)))) (entered f first old.lists))) (with-with old f here (finmap.insert (stored_at old f).pages first (blank old.page)) (stored_at new f).pages (old.free - 1) new.free)
+          ∙ ap (λ ps. with_lists (with_pages old f (stored_at new f).pages new.free) (each_entered f ps old.lists)) (sym first_absent);
       fewer = omega (arith, h.fewer, mid_free, same_count, count-first (absent old f) first end less, one_here);
     }
       where
@@ -185,13 +210,13 @@ module _ (f first end : ℕ) (old : Store) (less : first < end) where
             λ i. if next i && nat_lt q end && not (is_some (same i)) then Some (blank (mid_size i)) else same i
 
     -- and taken away again
-    pub unmade : (new : Store) → new ≡ with_pages mid f (finmap.remove (stored_at mid f).pages first) (mid.free + 1) → new ≡ old
-    unmade new e =
+    pub unmade : is_listed f first old.lists ≡ false → (new : Store) → new ≡ with_lists (with_pages mid f (finmap.remove (stored_at mid f).pages first) (mid.free + 1)) (left f first mid.lists) → new ≡ old
+    unmade unlisted new e =
         let pages = finmap.insert (stored_at old f).pages first (blank old.page) in
         let mid_pages : (stored_at mid f).pages ≡ pages = ap (λ (s : Store). (stored_at s f).pages) is ∙ pages-with old f here pages (old.free - 1) in
         let back : finmap.remove (stored_at mid f).pages first ≡ (stored_at old f).pages = ap (λ (m : FinMap nat_cmp Page). finmap.remove m first) mid_pages ∙ taken_back (stored_at old f).pages first (blank old.page) gone in
         let free : mid.free + 1 ≡ old.free = omega (arith, mid_free, room) in
-        e ∙ (λ i. with_pages (is i) f (back i) (free i)) ∙ with-with old f here pages (stored_at old f).pages (old.free - 1) old.free ∙ with-itself old f
+        e ∙ (λ i. with_lists (with_pages (is i) f (back i) (free i)) (left f first (is i).lists)) ∙ (λ i. with_lists (with-with old f here pages (stored_at old f).pages (old.free - 1) old.free i) (left_entered f first old.lists unlisted i)) ∙ with-itself old f
 
 -- ---- a range is written or read
 

@@ -10,9 +10,12 @@ use Rattle.std.proofs.lemmas.Bool.Decides.{nat_tests}
 use Rattle.pc_types.specs.Spots.{place_cmp}
 use Rattle.cachecore.specs.State.{Page}
 use Rattle.cachecore.specs.Cuts.{RemovesFrom, pages_below}
-use Rattle.cachecore.specs.Store.{Store, stored_at, stored_page, is_awaited, with_pages}
+use Rattle.cachecore.specs.PageLists as lists
+use Rattle.cachecore.specs.PageLists.{cut_off}
+use Rattle.cachecore.specs.Store.{Store, stored_at, stored_page, is_awaited, with_pages, with_lists}
 use Rattle.cachecore.proofs.Choices.{none_of}
 use Rattle.cachecore.proofs.HandleLemmas.{len_one_less}
+use Rattle.cachecore.proofs.ListedFrames.{cut_left}
 use Rattle.cachecore.proofs.MapLaws.{get-remove_nat, get-retain_nat, same_nat_map, places_antisymmetric, places_total, same_place}
 use Rattle.cachecore.proofs.RangeLemmas.{length-with, pages-with, with-itself, with-with}
 
@@ -34,13 +37,15 @@ one_fewer s f p there =
 
 -- some of the pages of file f from n on are neither cached nor filling any more
 pub record IsRemoving (f n : ℕ) (old now : Store) : Type 0 where
-  pub rest : now ≡ record (with_pages old f (stored_at now f).pages now.free) { filling = now.filling }
+  pub rest : now ≡ record (with_pages old f (stored_at now f).pages now.free) { filling = now.filling; lists = now.lists }
   pub pages : (q : ℕ) → (stored_page now f q ≡ stored_page old f q) ⊎ ((n ≤ q) × (stored_page now f q ≡ None))
   pub filling : (g q : ℕ) → (is_awaited now g q ≡ is_awaited old g q) ⊎ ((g ≡ f) × (n ≤ q) × (is_awaited now g q ≡ false))
   pub freed : now.free + finmap.len (stored_at now f).pages + set.len now.filling ≡ old.free + finmap.len (stored_at old f).pages + set.len old.filling
+  -- those that left are among those that are cut off
+  pub lists : cut_off f n now.lists ≡ cut_off f n old.lists
 
 pub removing_begins : (f n : ℕ) (old : Store) → IsRemoving f n old old
-removing_begins f n old = record { rest = sym (with-itself old f); pages = λ q. inl refl; filling = λ g q. inl refl; freed = refl }
+removing_begins f n old = record { rest = sym (with-itself old f); pages = λ q. inl refl; filling = λ g q. inl refl; freed = refl; lists = refl }
 
 module _ (f n : ℕ) (old now : Store) (w : IsRemoving f n old now) where
   none_there : (o : Option Page) (b : Bool) → (is_some o || b) ≡ false → (o ≡ None) × (b ≡ false)
@@ -50,11 +55,11 @@ module _ (f n : ℕ) (old now : Store) (w : IsRemoving f n old now) where
   ] refl e
 
   -- none is left
-  pub removing_ends : ((q : ℕ) → n ≤ q → (is_some (stored_page now f q) || is_awaited now f q) ≡ false) → RemovesFrom old now f n
-  removing_ends none =
+  pub removing_ends : ((q : ℕ) → n ≤ q → (is_some (stored_page now f q) || is_awaited now f q) ≡ false) → cut_off f n now.lists ≡ now.lists → RemovesFrom old now f n
+  removing_ends none unlisted =
       let kept : (stored_at now f).pages ≡ pages_below old f n = same_nat_map (stored_at now f).pages (pages_below old f n) (λ q. one q (nat_lt q n) refl ∙ sym (get-retain_nat (stored_at old f).pages (λ p. nat_lt p n) q)) in
       record {
-        pages = w.rest ∙ ap (λ (m : FinMap nat_cmp Page). let s : Store = record (with_pages old f m now.free) { filling = now.filling } in s) kept;
+        pages = w.rest ∙ (λ i. record (with_pages old f (kept i) now.free) { filling = now.filling; lists = (sym unlisted ∙ w.lists) i });
         filling = λ g q. place g q (eqb g f && nat_le n q) refl;
         freed = (let same = ap (λ (m : FinMap nat_cmp Page). finmap.len m) kept in omega (arith, w.freed, same));
       }
@@ -104,7 +109,7 @@ module _ (f n : ℕ) (old now : Store) (w : IsRemoving f n old now) where
     here_now = omega (arith, here, ap (λ (s : Store). length s.files) w.rest, length-with old f (stored_at now f).pages now.free)
 
     -- it was cached
-    module _ (there : is_some (stored_page now f p) ≡ true) (is : next ≡ with_pages now f (finmap.remove (stored_at now f).pages p) (now.free + 1)) where
+    module _ (there : is_some (stored_page now f p) ≡ true) (is : next ≡ with_lists (with_pages now f (finmap.remove (stored_at now f).pages p) (now.free + 1)) (lists.left f p now.lists)) where
       abbrev left : FinMap nat_cmp Page
       left = finmap.remove (stored_at now f).pages p
 
@@ -114,6 +119,9 @@ module _ (f n : ℕ) (old now : Store) (w : IsRemoving f n old now) where
       free_now : next.free ≡ now.free + 1
       free_now = ap (λ (s : Store). s.free) is
 
+      lists_now : next.lists ≡ lists.left f p now.lists
+      lists_now = ap (λ (s : Store). s.lists) is
+
       fills_now : next.filling ≡ now.filling
       fills_now = ap (λ (s : Store). s.filling) is
 
@@ -122,10 +130,15 @@ module _ (f n : ℕ) (old now : Store) (w : IsRemoving f n old now) where
 
       pub removed_page : IsRemoving f n old next
       removed_page = record {
-        rest = is ∙ (λ i. with_pages (w.rest i) f left (now.free + 1)) ∙ with-with (record old { filling = now.filling }) f here (stored_at now f).pages left now.free (now.free + 1) ∙ (λ i. record (with_pages old f (sym pages_now i) (sym free_now i)) { filling = sym fills_now i });
+        rest =
+            is
+            ∙ (λ i. with_lists (with_pages (w.rest i) f left (now.free + 1)) (lists.left f p now.lists))
+            ∙ ap (λ (s : Store). with_lists s (lists.left f p now.lists)) (with-with (record old { filling = now.filling; lists = now.lists }) f here (stored_at now f).pages left now.free (now.free + 1))
+            ∙ (λ i. record (with_pages old f (sym pages_now i) (sym free_now i)) { filling = sym fills_now i; lists = sym lists_now i });
         pages = λ q. each q (eqb q p) refl (ap (λ (m : FinMap nat_cmp Page). finmap.get m q) pages_now ∙ get-remove_nat (stored_at now f).pages p q);
         filling = λ g q. subst (λ (s : set.FinSet place_cmp). (set.contains s (g, q) ≡ is_awaited old g q) ⊎ ((g ≡ f) × (n ≤ q) × (set.contains s (g, q) ≡ false))) (sym fills_now) (w.filling g q);
         freed = (let same = ap (λ (s : set.FinSet place_cmp). set.len s) fills_now in omega (arith, w.freed, fewer, free_now, same));
+        lists = ap (cut_off f n) lists_now ∙ cut_left f n p high now.lists ∙ w.lists;
       }
         where
           each : (q : ℕ) (b : Bool) → eqb q p ≡ b → stored_page next f q ≡ cond b None (stored_page now f q) → (stored_page next f q ≡ stored_page old f q) ⊎ ((n ≤ q) × (stored_page next f q ≡ None))
@@ -136,9 +149,12 @@ module _ (f n : ℕ) (old now : Store) (w : IsRemoving f n old now) where
       fewer_page = let same = ap (λ (s : set.FinSet place_cmp). set.len s) fills_now in omega (arith, fewer, same)
 
     -- it was filling
-    module _ (there : is_awaited now f p ≡ true) (is : next ≡ record now { filling = set.remove now.filling (f, p); free = now.free + 1 }) where
+    module _ (there : is_awaited now f p ≡ true) (is : next ≡ record now { filling = set.remove now.filling (f, p); free = now.free + 1; lists = lists.left f p now.lists }) where
       free_after : next.free ≡ now.free + 1
       free_after = ap (λ (s : Store). s.free) is
+
+      lists_after : next.lists ≡ lists.left f p now.lists
+      lists_after = ap (λ (s : Store). s.lists) is
 
       fills_after : next.filling ≡ set.remove now.filling (f, p)
       fills_after = ap (λ (s : Store). s.filling) is
@@ -151,10 +167,14 @@ module _ (f n : ℕ) (old now : Store) (w : IsRemoving f n old now) where
 
       pub removed_fill : IsRemoving f n old next
       removed_fill = record {
-        rest = is ∙ (λ i. record (w.rest i) { filling = set.remove now.filling (f, p); free = now.free + 1 }) ∙ (λ i. record (with_pages old f (sym pages_after i) (sym free_after i)) { filling = sym fills_after i });
+        rest =
+            is
+            ∙ (λ i. record (w.rest i) { filling = set.remove now.filling (f, p); free = now.free + 1; lists = lists.left f p now.lists })
+            ∙ (λ i. record (with_pages old f (sym pages_after i) (sym free_after i)) { filling = sym fills_after i; lists = sym lists_after i });
         pages = λ q. subst (λ (m : FinMap nat_cmp Page). (finmap.get m q ≡ stored_page old f q) ⊎ ((n ≤ q) × (finmap.get m q ≡ None))) (sym pages_after) (w.pages q);
         filling = λ g q. each g q (eqb g f) (eqb q p) refl refl (ap (λ (s : set.FinSet place_cmp). set.contains s (g, q)) fills_after ∙ contains-remove places_total now.filling (f, p) (g, q) ∙ ap (λ b. not b && is_awaited now g q) (same_place g q f p));
         freed = (let same = ap (λ (m : FinMap nat_cmp Page). finmap.len m) pages_after in omega (arith, w.freed, fewer_fills, free_after, same));
+        lists = ap (cut_off f n) lists_after ∙ cut_left f n p high now.lists ∙ w.lists;
       }
         where
           each : (g q : ℕ) (a b : Bool) → eqb g f ≡ a → eqb q p ≡ b → is_awaited next g q ≡ (not (a && b) && is_awaited now g q) → (is_awaited next g q ≡ is_awaited old g q) ⊎ ((g ≡ f) × (n ≤ q) × (is_awaited next g q ≡ false))
@@ -167,8 +187,8 @@ module _ (f n : ℕ) (old now : Store) (w : IsRemoving f n old now) where
 
 -- the file is there, and the page was cached or filling
 module _ (f n : ℕ) (old now : Store) (w : IsRemoving f n old now) (here : f < length old.files) (p : ℕ) (high : n ≤ p) (there : (is_some (stored_page now f p) || is_awaited now f p) ≡ true) (next : Store)
-    (page : is_some (stored_page now f p) ≡ true → next ≡ with_pages now f (finmap.remove (stored_at now f).pages p) (now.free + 1))
-    (fill : is_awaited now f p ≡ true → next ≡ record now { filling = set.remove now.filling (f, p); free = now.free + 1 }) where
+    (page : is_some (stored_page now f p) ≡ true → next ≡ with_lists (with_pages now f (finmap.remove (stored_at now f).pages p) (now.free + 1)) (lists.left f p now.lists))
+    (fill : is_awaited now f p ≡ true → next ≡ record now { filling = set.remove now.filling (f, p); free = now.free + 1; lists = lists.left f p now.lists }) where
   other : (a b : Bool) → (a || b) ≡ true → a ≡ false → b ≡ true
   other true b e k = absurd cc
   other false b e k = e

@@ -27,13 +27,13 @@ use Rattle.mapping.proofs.MapLemmas.{count_insert, count_remove, count-le-len, r
 use Rattle.cachecore.specs.declared.kept.KeptFile.{KeptFile}
 use Rattle.cachecore.specs.State.{File, Page, no_file, dirty_in, the_page}
 use Rattle.cachecore.specs.Changes.{blank}
-use Rattle.cachecore.specs.Store.{none_kept, is_uptodate, awaits, page_of, each_seen, file_of, kept_at, entry_at, Store, store_of, stored_at, stored_page, with_pages, with_entry, put_at, IsStore}
+use Rattle.cachecore.specs.Store.{none_kept, is_uptodate, awaits, page_of, each_seen, file_of, kept_at, entry_at, lists_of, Store, store_of, stored_at, stored_page, with_pages, with_lists, with_entry, put_at, IsStore}
 use Rattle.cachecore.proofs.StateLaws.{get_or-set}
 use Rattle.cachecore.proofs.MapLaws.{no_entries}
 use Rattle.cachecore.proofs.StoreEntries.{len-each_seen}
 use Rattle.cachecore.proofs.StoreLaws.{apart, stored-kept, seen_at, Alike, with_kept, entry-set, seen-entry, seen-same, seen-file, entry-kept, entry-push, seen-push, page_seen, none_seen, waits_at, entry_page}
 
-abbrev Owner : Type 0
+abbrev pub Owner : Type 0
 Owner = FileId × PageIndex
 
 -- ---- options
@@ -46,7 +46,7 @@ none_not_some {X} x e = false≢true (ap (λ (o : Option X). is_some o) e)
 
 -- ---- owners
 
-same_owner : (g q f p : ℕ) → ◌≡◌ {A = Option Owner} (Some (record { 0 = g }, record { 0 = q })) (Some (record { 0 = f }, record { 0 = p })) → (g ≡ f) × (q ≡ p)
+pub same_owner : (g q f p : ℕ) → ◌≡◌ {A = Option Owner} (Some (record { 0 = g }, record { 0 = q })) (Some (record { 0 = f }, record { 0 = p })) → (g ≡ f) × (q ≡ p)
 same_owner g q f p e =
     let d : Owner = (record { 0 = g }, record { 0 = q }) in
     (ap (λ (o : Option Owner). (unwrap_or o d).0.0) e, ap (λ (o : Option Owner). (unwrap_or o d).1.0) e)
@@ -196,7 +196,7 @@ module _ (t u : Table) (up vp : List Bool) (files : List KeptFile) (dirty f p : 
 
 -- the frames change, and no entry
 pub store_same : (t u : Table) (up : List Bool) (files : List KeptFile) (dirty : ℕ) → IsStore t up files dirty → ((g : ℕ) → owner_of u g ≡ owner_of t g) → length u.owners ≡ length t.owners → length u.bytes ≡ length t.bytes
-    → All (λ (row : List ℕ). length row ≡ u.size) u.bytes → free_frames u ≡ free_frames t → store_of u up files ≡ store_of t up files → IsStore u up files dirty
+    → All (λ (row : List ℕ). length row ≡ u.size) u.bytes → free_frames u ≡ free_frames t → store_of u up files ≡ with_lists (store_of t up files) (lists_of u) → IsStore u up files dirty
 store_same t u up files dirty s same owners bytes sized free seen =
     record {
       owned = λ f p x e. same x.frame ∙ s.owned f p x e;
@@ -217,7 +217,7 @@ free-taken t fr o free h =
     let was : ◌≡◌ {A = ℕ} (cond (is_none (owner_of t fr)) 1 0) 1 = ap (λ (x : Option Owner). cond (is_none x) 1 0) (none_at t fr free) in
     omega (arith, one, was)
 
-free-given : (t : Table) (fr : ℕ) (o : Owner) → owner_of t fr ≡ Some o → free_frames (given t fr) ≡ free_frames t + 1
+pub free-given : (t : Table) (fr : ℕ) (o : Owner) → owner_of t fr ≡ Some o → free_frames (given t fr) ≡ free_frames t + 1
 free-given t fr o own =
     let one = sum_by-set (λ (x : Option Owner). cond (is_none x) 1 0) t.owners fr None None (within_owned t fr o own) in
     let was : ◌≡◌ {A = ℕ} (cond (is_none (owner_of t fr)) 1 0) 0 = ap (λ (x : Option Owner). cond (is_none x) 1 0) own in
@@ -296,10 +296,10 @@ module _ (t : Table) (up : List Bool) (files : List KeptFile) (dirty f p fr : �
         (omega (arith, less, gone))
         (omega (arith, ap dirty_one none_before, ap dirty_one page_now, clean ready))
 
-    pub entered_seen : store_of u vp (slice_set files f (with_kept (kept_at files f) p (Some (untagged fr)))) ≡ with_entry (store_of t up files) f p (cond ready (Some (blank t.size)) None) (not ready) (free_frames t - 1)
+    pub entered_seen : store_of u vp (slice_set files f (with_kept (kept_at files f) p (Some (untagged fr)))) ≡ with_lists (with_entry (store_of t up files) f p (cond ready (Some (blank t.size)) None) (not ready) (free_frames t - 1)) (lists_of u)
     entered_seen =
         let fewer : free_frames u ≡ free_frames t - 1 = omega (arith, less) in
-        seen-entry t u up vp files f p refl here alike (Some (untagged fr)) ∙ (λ i. with_entry (store_of t up files) f p (page_now i) (not (flag_now i)) (fewer i))
+        seen-entry t u up vp files f p refl here alike (Some (untagged fr)) ∙ (λ i. with_lists (with_entry (store_of t up files) f p (page_now i) (not (flag_now i)) (fewer i)) (lists_of u))
 
   -- ---- and the frame is given back, since there is no memory for the entry
 
@@ -319,7 +319,7 @@ module _ (t : Table) (up : List Bool) (files : List KeptFile) (dirty f p fr : �
   free_again : free_frames v ≡ free_frames t
   free_again = free-given u fr _ own ∙ less
 
-  pub unmade_seen : store_of v up files ≡ store_of t up files
+  pub unmade_seen : store_of v up files ≡ with_lists (store_of t up files) (lists_of v)
   unmade_seen = seen-same t v up up files refl free_again row_kept (λ g q y e. refl)
 
   pub unmade_store : IsStore v up files dirty
@@ -353,10 +353,10 @@ module _ (t : Table) (up : List Bool) (files : List KeptFile) (dirty f p : ℕ) 
       store_changed t (given t x.frame) up up files dirty f p s here (record { rows = λ g q y n e. refl; flags = λ g q y n e. refl }) refl others (length-set t.owners x.frame None) refl s.sized refl None now
       (λ y e. absurd (none_not_some y e)) (λ y e waits. absurd (none_not_some y e)) (omega (arith, less_one, one_there)) (omega (arith, marks, tag_counts))
 
-  pub left_seen : store_of (given t x.frame) up (slice_set files f (with_kept (kept_at files f) p None)) ≡ with_entry (store_of t up files) f p None false (free_frames t + 1)
+  pub left_seen : store_of (given t x.frame) up (slice_set files f (with_kept (kept_at files f) p None)) ≡ with_lists (with_entry (store_of t up files) f p None false (free_frames t + 1)) (lists_of (given t x.frame))
   left_seen =
       seen-entry t (given t x.frame) up up files f p refl here (record { rows = λ g q y n e. refl; flags = λ g q y n e. refl }) None
-      ∙ ap (with_entry (store_of t up files) f p None false) less_one
+      ∙ ap (λ n. with_lists (with_entry (store_of t up files) f p None false n) (lists_of (given t x.frame))) less_one
 
   -- ---- the page's bytes and flag change, and its tags
 
@@ -444,7 +444,7 @@ module _ (t : Table) (up : List Bool) (files : List KeptFile) (dirty fr : ℕ) (
   free_same : free_frames (accessed t fr) ≡ free_frames t
   free_same = ap (count_by (λ (o : Option Owner). is_none o)) owners_same
 
-  pub accessed_seen : store_of (accessed t fr) up files ≡ store_of t up files
+  pub accessed_seen : store_of (accessed t fr) up files ≡ with_lists (store_of t up files) (lists_of (accessed t fr))
   accessed_seen = seen-same t (accessed t fr) up up files same_size free_same (λ g q y e. ap (λ (rows : List (List ℕ)). row_at rows y.frame) bytes_same) (λ g q y e. refl)
 
   pub accessed_store : IsStore (accessed t fr) up files dirty

@@ -21,7 +21,7 @@ use Rattle.frames.specs.Rows.{row_at}
 use Rattle.mapping.specs.Pages.{Mapped, has_at}
 use Rattle.cachecore.specs.declared.kept.KeptFile.{KeptFile}
 use Rattle.cachecore.specs.State.{File, Page, no_file, tagged}
-use Rattle.cachecore.specs.Store.{none_kept, is_uptodate, has_page, awaits, page_of, file_of, kept_at, entry_at, filling_from, Store, store_of, stored_at, stored_page, is_awaited, with_pages, with_entry, put_at, put_in}
+use Rattle.cachecore.specs.Store.{none_kept, is_uptodate, has_page, awaits, page_of, file_of, kept_at, entry_at, filling_from, lists_of, Store, store_of, stored_at, stored_page, is_awaited, with_pages, with_lists, with_entry, put_at, put_in}
 use Rattle.cachecore.proofs.StateLaws.{get_or-set}
 use Rattle.cachecore.proofs.MapLaws.{places_total, same_place}
 use Rattle.cachecore.proofs.StoreEntries.{get-each_seen, each_seen-same, each_seen-empty, each_seen-put, get-put_at, put_at-same, contains-put_in, put_in-same, same_places}
@@ -112,11 +112,11 @@ waits_at t up files f p =
 -- ---- a store, from what each of its places has
 
 pub store_is : (u : Table) (vp : List Bool) (files : List KeptFile) (s : Store) → u.size ≡ s.page → length files ≡ length s.files → ((g : ℕ) → file_of u vp (kept_at files g) ≡ stored_at s g)
-    → ((g q : ℕ) → awaits vp (entry_at files g q) ≡ is_awaited s g q) → free_frames u ≡ s.free → store_of u vp files ≡ s
-store_is u vp files s size count file waits free =
+    → ((g q : ℕ) → awaits vp (entry_at files g q) ≡ is_awaited s g q) → free_frames u ≡ s.free → lists_of u ≡ s.lists → store_of u vp files ≡ s
+store_is u vp files s size count file waits free lists =
     let all : map (file_of u vp) files ≡ s.files = ext_get_or no_file (map (file_of u vp) files) s.files (length-map files (file_of u vp) ∙ count) (λ g _. stored-kept u vp files g ∙ file g) in
     let filling = same_places (store_of u vp files).filling s.filling (λ g q. waits_at u vp files g q ∙ waits g q) in
-    λ i. record { page = size i; files = all i; filling = filling i; free = free i }
+    λ i. record { page = size i; files = all i; filling = filling i; free = free i; lists = lists i }
 
 -- u and vp show every entry as t and up do, but that of page p of file f
 pub record Alike (t u : Table) (up vp : List Bool) (files : List KeptFile) (f p : ℕ) : Type 0 where
@@ -133,12 +133,12 @@ same_waits up vp (Some x) h = ap not (h x refl)
 -- ---- the frames change, and no entry
 
 pub seen-same : (t u : Table) (up vp : List Bool) (files : List KeptFile) → u.size ≡ t.size → free_frames u ≡ free_frames t → ((g q : ℕ) (x : Mapped) → entry_at files g q ≡ Some x → row_at u.bytes x.frame ≡ row_at t.bytes x.frame)
-    → ((g q : ℕ) (x : Mapped) → entry_at files g q ≡ Some x → is_uptodate vp x ≡ is_uptodate up x) → store_of u vp files ≡ store_of t up files
+    → ((g q : ℕ) (x : Mapped) → entry_at files g q ≡ Some x → is_uptodate vp x ≡ is_uptodate up x) → store_of u vp files ≡ with_lists (store_of t up files) (lists_of u)
 seen-same t u up vp files size free rows flags =
-    store_is u vp files (store_of t up files) size (sym (length-map files (file_of t up)))
+    store_is u vp files (with_lists (store_of t up files) (lists_of u)) size (sym (length-map files (file_of t up)))
     (λ g. ap (λ (m : FinMap nat_cmp Page). let y : File = record (file_of t up (kept_at files g)) { pages = m } in y) (each_seen-same (page_of t up) (page_of u vp) (kept_at files g).mapping.pages (λ q x e. same_page t u up vp x (rows g q x e) (flags g q x e))) ∙ sym (stored-kept t up files g))
     (λ g q. same_waits up vp (entry_at files g q) (flags g q) ∙ sym (waits_at t up files g q))
-    free
+    free refl
 
 -- ---- one entry changes
 
@@ -182,15 +182,15 @@ module _ (t u : Table) (up vp : List Bool) (files : List KeptFile) (f p : ℕ) (
   wait_is g q true e = refl
   wait_is g q false e = same_waits up vp (entry_at files g q) (λ x s. alike.flags g q x (apart g q f p e) s) ∙ sym (waits_at t up files g q)
 
-  pub seen-entry : store_of u vp (slice_set files f k) ≡ with_entry (store_of t up files) f p page (awaits vp o) (free_frames u)
+  pub seen-entry : store_of u vp (slice_set files f k) ≡ with_lists (with_entry (store_of t up files) f p page (awaits vp o) (free_frames u)) (lists_of u)
   seen-entry =
       let s = store_of t up files in
       let count : f < length s.files = omega (arith, here, length-map files (file_of t up)) in
-      store_is u vp (slice_set files f k) (with_entry s f p page (awaits vp o) (free_frames u)) size
+      store_is u vp (slice_set files f k) (with_lists (with_entry s f p page (awaits vp o) (free_frames u)) (lists_of u)) size
       (length-set files f k ∙ sym (length-map files (file_of t up)) ∙ sym (length-set s.files f new))
       (λ g. ap (file_of u vp) (kept-set files f g k here) ∙ file_is g (eqb g f) refl ∙ sym (get_or-set s.files f g new no_file count))
       (λ g q. ap (awaits vp) (entry-set files f p o here g q) ∙ wait_is g q (eqb g f && eqb q p) refl ∙ sym (contains-put_in s.filling f p (awaits vp o) g q))
-      refl
+      refl refl
 
 -- an entry that stays
 pub kept_same : (files : List KeptFile) (f p : ℕ) (x : Mapped) → entry_at files f p ≡ Some x → slice_set files f (with_kept (kept_at files f) p (Some x)) ≡ files
@@ -213,7 +213,7 @@ seen-file t up files f k e here pages is =
     store_is t up (slice_set files f k) (record s { files = slice_set s.files f e }) refl (length-set files f k ∙ sym (length-map files (file_of t up)) ∙ sym (length-set s.files f e))
     (λ g. ap (file_of t up) (kept-set files f g k here) ∙ either g (eqb g f) ∙ sym (get_or-set s.files f g e no_file (omega (arith, here, length-map files (file_of t up)))))
     (λ g q. ap (awaits up) (entry-kept files f k here pages g q) ∙ sym (waits_at t up files g q))
-    refl
+    refl refl
   where
     either : (g : ℕ) (b : Bool) → file_of t up (cond b k (kept_at files g)) ≡ cond b e (stored_at (store_of t up files) g)
     either g true = is
@@ -234,7 +234,7 @@ pub seen-push : (t : Table) (up : List Bool) (files : List KeptFile) → store_o
 seen-push t up files =
     let all : map (file_of t up) (files ++ none_kept ∷ []) ≡ map (file_of t up) files ++ no_file ∷ [] = map-append (file_of t up) files (none_kept ∷ []) ∙ ap (λ (e : File). map (file_of t up) files ++ e ∷ []) (no_kept_file t up) in
     let filling = same_places (store_of t up (files ++ none_kept ∷ [])).filling (store_of t up files).filling (λ g q. waits_at t up (files ++ none_kept ∷ []) g q ∙ ap (awaits up) (entry-push files g q) ∙ sym (waits_at t up files g q)) in
-    λ i. record { page = t.size; files = all i; filling = filling i; free = free_frames t }
+    λ i. record { page = t.size; files = all i; filling = filling i; free = free_frames t; lists = lists_of t }
 
 -- ---- what is seen of one entry
 

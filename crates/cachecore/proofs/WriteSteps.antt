@@ -9,7 +9,8 @@ use Rattle.std.proofs.lemmas.List.{set-set}
 use Rattle.cachecore.specs.State.{File, no_file, touched_count}
 use Rattle.cachecore.specs.Changes.{blank}
 use Rattle.cachecore.specs.Pairs.{AreCached, AreSized, IsLaid}
-use Rattle.cachecore.specs.Store.{Store, stored_at, stored_page, is_awaited, with_pages, AreMade}
+use Rattle.cachecore.specs.PageLists.{PageLists}
+use Rattle.cachecore.specs.Store.{Store, stored_at, stored_page, is_awaited, with_pages, with_lists, AreMade}
 use Rattle.cachecore.proofs.StateLaws.{get_or-set}
 use Rattle.cachecore.proofs.RangeLemmas.{stored-with, length-with}
 use Rattle.cachecore.proofs.WriteLemmas.{WriteParts, sized_cover}
@@ -32,6 +33,12 @@ made_size f first end old new h = ap (λ (s : Store). s.page) h.rest
 
 pub laid_here : (f : ℕ) (made laid : Store) → f < length made.files → laid ≡ with_pages made f (stored_at laid f).pages made.free → f < length laid.files
 laid_here f made laid here e = omega (arith, here, ap (λ (s : Store). length s.files) e, length-with made f (stored_at laid f).pages made.free)
+
+-- the pages were accessed between
+pub laid_noted : (f : ℕ) (made noted laid : Store) (lists : PageLists) → noted ≡ with_lists made lists → laid ≡ with_pages noted f (stored_at laid f).pages noted.free → laid ≡ with_lists (with_pages made f (stored_at laid f).pages made.free) laid.lists
+laid_noted f made noted laid lists noted_is laid_is =
+    let now : laid ≡ with_lists (with_pages made f (stored_at laid f).pages made.free) lists = laid_is ∙ ap (λ (s : Store). with_pages s f (stored_at laid f).pages s.free) noted_is in
+    now ∙ ap (with_lists (with_pages made f (stored_at laid f).pages made.free)) (sym (ap (λ (s : Store). s.lists) now))
 
 within : (first last q : ℕ) → first ≤ q → q ≤ last → (nat_le first q && nat_le q last) ≡ true
 within first last q h k = grind (arith, nat_tests)
@@ -56,7 +63,8 @@ pub record WriteSteps (P o : ℕ) (b : List ℕ) (f n : ℕ) (old made laid fina
   pub page : P ≡ old.page
   pub cover : AreMade f (o / P) ((o + length b - 1) / P + 1) old made
   pub pages : IsLaid P o b (o / P) ((o + length b - 1) / P + 1) (stored_at made f).pages (stored_at laid f).pages
-  pub rest : laid ≡ with_pages made f (stored_at laid f).pages made.free
+  -- whatever the page lists are
+  pub rest : laid ≡ with_lists (with_pages made f (stored_at laid f).pages made.free) laid.lists
   pub size : n ≡ max (stored_at laid f).size (o + length b)
   pub grown : final ≡ record laid { files = slice_set laid.files f (record (stored_at laid f) { size = n }) }
 

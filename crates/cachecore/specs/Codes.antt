@@ -7,6 +7,7 @@ use Rattle.pc_types.specs.Limits.{Sizes}
 use Rattle.pc_types.specs.Tags.{TagSet}
 use Rattle.pc_types.specs.declared.kind.Kind.{Kind}
 use Rattle.pc_types.specs.declared.kind.Kind.TheVariants.{Fill, Flush}
+use Rattle.cachecore.specs.PageLists.{Listed, PageLists}
 use Rattle.cachecore.specs.State.{State, Page, File, Request, Sync}
 use Rattle.pc_types.specs.Kinds.{is_fill}
 use Rattle.pc_types.specs.Spots.{Spot, place_cmp, spot_code}
@@ -23,6 +24,12 @@ pages_code = map.code coded_ℕ page_code
 abbrev pub file_code : Coded File
 file_code =
     code_by ((ℕ × ℕ) × (ℕ × map.FinMap nat_cmp Page)) (coded× (coded× coded_ℕ coded_ℕ) (coded× coded_ℕ pages_code)) (λ f. ((f.size, f.failures), (f.last_code, f.pages))) (λ p. record { size = p.0.0; failures = p.0.1; last_code = p.1.0; pages = p.1.1 }) (λ _. refl)
+
+abbrev pub listed_code : Coded Listed
+listed_code = code_by (ℕ × (ℕ × Bool)) (coded× coded_ℕ (coded× coded_ℕ coded_bool)) (λ e. (e.file, (e.page, e.referenced))) (λ p. record { file = p.0; page = p.1.0; referenced = p.1.1 }) (λ _. refl)
+
+abbrev pub lists_code : Coded PageLists
+lists_code = code_by (List Listed × List Listed) (coded× (coded_list listed_code) (coded_list listed_code)) (λ l. (l.active, l.inactive)) (λ p. record { active = p.0; inactive = p.1 }) (λ _. refl)
 
 abbrev pub sizes_code : Coded Sizes
 sizes_code = code_by ((ℕ × ℕ) × (ℕ × ℕ)) (coded× (coded× coded_ℕ coded_ℕ) (coded× coded_ℕ coded_ℕ)) (λ g. ((g.page, g.frames), (g.dirty_limit, g.blocks))) (λ p. record { page = p.0.0; frames = p.0.1; dirty_limit = p.1.0; blocks = p.1.1 }) (λ _. refl)

@@ -11,7 +11,9 @@ use Rattle.frames.specs.Table.{Table, owner_of}
 use Rattle.mapping.specs.Pages.{Mapped}
 use Rattle.cachecore.specs.declared.kept.KeptFile.{KeptFile}
 use Rattle.cachecore.specs.State.{Page, is_idle}
-use Rattle.cachecore.specs.Store.{Store, is_uptodate, entry_at, stored_at, stored_page, is_awaited, with_pages}
+use Rattle.cachecore.specs.PageLists.{Listed, left, cut_off}
+use Rattle.cachecore.specs.Moves.{is_idle_page}
+use Rattle.cachecore.specs.Store.{Store, is_uptodate, entry_at, stored_at, stored_page, is_awaited, with_pages, with_lists}
 
 -- whether a page has no tag
 abbrev pub is_untagged : TagSet → Bool
@@ -30,11 +32,15 @@ is_idle_owner up files (Some owner) = is_idle_entry up (entry_at files owner.0.0
 abbrev pub is_idle_frame : Table → List Bool → List KeptFile → ℕ → Bool
 is_idle_frame t up files frame = is_idle_owner up files (owner_of t frame)
 
+-- whether a listed page is idle
+abbrev pub is_idle_at : Store → Listed → Bool
+is_idle_at s e = is_idle_page (stored_page s e.file e.page)
+
 -- an idle page is taken away; none is where no page is idle
 abbrev pub Evicts : Store → Option (FileId × PageIndex) → Store → Type 0
 Evicts old None new = (list_any (λ file. list_any (λ e. is_idle e.1) (map.entries file.pages)) old.files ≡ false) × (new ≡ old)
 Evicts old (Some e) new =
-    (page : Page) × (stored_page old e.0.0 e.1.0 ≡ Some page) × (is_idle page ≡ true) × (new ≡ with_pages old e.0.0 (map.remove (stored_at old e.0.0).pages e.1.0) (old.free + 1))
+    (page : Page) × (stored_page old e.0.0 e.1.0 ≡ Some page) × (is_idle page ≡ true) × (new ≡ with_lists (with_pages old e.0.0 (map.remove (stored_at old e.0.0).pages e.1.0) (old.free + 1)) (left e.0.0 e.1.0 old.lists))
 
 -- the cached pages of file f below n
 abbrev pub pages_below : Store → ℕ → ℕ → map.FinMap nat_cmp Page
@@ -42,6 +48,6 @@ pages_below s f n = map.retain_keys (stored_at s f).pages (λ p. nat_lt p n)
 
 -- the pages of file f from n on are neither cached nor filling any more, and their frames are free
 pub record RemovesFrom (old new : Store) (f n : ℕ) : Type 0 where
-  pub pages : new ≡ record (with_pages old f (pages_below old f n) new.free) { filling = new.filling }
+  pub pages : new ≡ record (with_pages old f (pages_below old f n) new.free) { filling = new.filling; lists = cut_off f n old.lists }
   pub filling : (g q : ℕ) → is_awaited new g q ≡ (is_awaited old g q && not (g == f && nat_le n q))
   pub freed : new.free + map.len (pages_below old f n) + set.len new.filling ≡ old.free + map.len (stored_at old f).pages + set.len old.filling

@@ -1,10 +1,13 @@
 pub mod Bare
 pub mod Changes
 pub mod Codes
+pub mod Core
 pub mod Cuts
 pub mod Flying
 pub mod Handles
 pub mod Holding
+pub mod Moves
+pub mod PageLists
 pub mod Pairs
 pub mod Placing
 pub mod Replies

@@ -1,19 +1,22 @@
 -- Inside this crate: the pages of all files as the frames and the files' mappings keep them. A page that is filling has its
 -- entry and its frame, so that the end of the fill takes no memory; a flag of the frame says whether it has the page's bytes.
-use Rattle.std.specs.Prelude.{◌≡◌, ◌+◌, ◌-◌, ◌<◌, ◌≤◌, ℕ, Bool, true, false, List, [], ◌∷◌, ◌++◌, map, filter, filter_map, length, not, ◌&&◌, nat_le, nat_lt, if◌then◌else◌, Option, Some, None, is_some, option_map, sum_by, count_by, slice_index_or, slice_set, All, refl}
+use Rattle.std.specs.Prelude.{◌≡◌, ◌+◌, ◌-◌, ◌<◌, ◌≤◌, ℕ, Bool, true, false, List, [], ◌∷◌, ◌++◌, map, filter, filter_map, length, not, ◌&&◌, nat_le, nat_lt, if◌then◌else◌, Option, Some, None, is_some, option_map, sum_by, count_by, slice_index_or, slice_set, unwrap_or, All, refl}
 use Rattle.std.specs.List.{range_with_len}
 use Rattle.std.specs.Ordering.{nat_cmp}
 use Rattle.std.specs.FinMap as finmap
 use Rattle.std.specs.FinSet as set
 use Rattle.std.specs.Coded.{Coded, code_by, coded×, coded_ℕ, coded_list}
+use Rattle.pc_types.specs.declared.ids.FileId.{FileId}
+use Rattle.pc_types.specs.declared.ids.PageIndex.{PageIndex}
 use Rattle.pc_types.specs.declared.limits.TheConstants.{MAX_FRAMES}
 use Rattle.pc_types.specs.Spots.{place_cmp}
 use Rattle.pc_types.specs.Tags.{no_tags}
-use Rattle.frames.specs.Table.{Table, owner_of, free_frames}
+use Rattle.frames.specs.Table.{Table, owner_of, is_referenced, free_frames}
 use Rattle.frames.specs.Rows.{row_at}
 use Rattle.mapping.specs.Pages.{Mapped}
 use Rattle.cachecore.specs.declared.kept.KeptFile.{KeptFile}
-use Rattle.cachecore.specs.Codes.{file_code}
+use Rattle.cachecore.specs.Codes.{file_code, lists_code}
+use Rattle.cachecore.specs.PageLists.{Listed, PageLists, each_entered}
 use Rattle.cachecore.specs.State.{File, Page, no_file, dirty_in}
 use Rattle.cachecore.specs.Changes.{blank}
 
@@ -59,20 +62,32 @@ filling_from up f [] = []
 filling_from up f (k ∷ ks) =
     map (λ p. (f, p)) (filter (λ p. awaits up (finmap.get k.mapping.pages p)) (finmap.keys k.mapping.pages)) ++ filling_from up (f + 1) ks
 
--- bytes of a page, the files with their cached pages, the files and numbers of the pages that are filling, and how many frames
--- are free
+-- the page that a frame in a list was taken for. Each frame in a list is taken, so it has an owner
+abbrev pub owner_in : Option (FileId × PageIndex) → FileId × PageIndex
+owner_in owner = unwrap_or owner (record { 0 = 0 }, record { 0 = 0 })
+
+abbrev pub listed_at : Table → ℕ → Listed
+listed_at t frame = record { file = (owner_in (owner_of t frame)).0.0; page = (owner_in (owner_of t frame)).1.0; referenced = is_referenced t frame }
+
+-- the page lists, by the frames' lists
+abbrev pub lists_of : Table → PageLists
+lists_of t = record { active = map (listed_at t) t.active; inactive = map (listed_at t) t.inactive }
+
+-- bytes of a page, the files with their cached pages, the files and numbers of the pages that are filling, how many frames are
+-- free, and the page lists
 pub record Store : Type 0 where
   pub page : ℕ
   pub files : List File
   pub filling : set.FinSet place_cmp
   pub free : ℕ
+  pub lists : PageLists
 
 abbrev pub store_code : Coded Store
 store_code =
-    code_by (ℕ × (List File × (set.FinSet place_cmp × ℕ))) (coded× coded_ℕ (coded× (coded_list file_code) (coded× (set.code (coded× coded_ℕ coded_ℕ)) coded_ℕ))) (λ s. (s.page, (s.files, (s.filling, s.free)))) (λ c. record { page = c.0; files = c.1.0; filling = c.1.1.0; free = c.1.1.1 }) (λ _. refl)
+    code_by (ℕ × (List File × (set.FinSet place_cmp × (ℕ × PageLists)))) (coded× coded_ℕ (coded× (coded_list file_code) (coded× (set.code (coded× coded_ℕ coded_ℕ)) (coded× coded_ℕ lists_code)))) (λ s. (s.page, (s.files, (s.filling, (s.free, s.lists))))) (λ c. record { page = c.0; files = c.1.0; filling = c.1.1.0; free = c.1.1.1.0; lists = c.1.1.1.1 }) (λ _. refl)
 
 abbrev pub store_of : Table → List Bool → List KeptFile → Store
-store_of t up files = record { page = t.size; files = map (file_of t up) files; filling = set.from_list (filling_from up 0 files); free = free_frames t }
+store_of t up files = record { page = t.size; files = map (file_of t up) files; filling = set.from_list (filling_from up 0 files); free = free_frames t; lists = lists_of t }
 
 abbrev pub stored_at : Store → ℕ → File
 stored_at s f = slice_index_or s.files f no_file
@@ -97,6 +112,10 @@ abbrev pub put_in : ℕ × ℕ → Bool → set.FinSet place_cmp → set.FinSet 
 put_in place false s = set.remove s place
 put_in place true s = set.insert s place
 
+-- the store with other page lists
+abbrev pub with_lists : Store → PageLists → Store
+with_lists s lists = record s { lists = lists }
+
 -- a page whose write begins
 abbrev pub under_write : Page → Page
 under_write page = record page { tags = record { dirty = false; writeback = true; towrite = false } }
@@ -109,10 +128,14 @@ with_entry s f p page waits free = record (with_pages s f (put_at p page (stored
 pub record NoneAwaited (f first end : ℕ) (s : Store) : Type 0 where
   pub each : (q : ℕ) → first ≤ q → q < end → is_awaited s f q ≡ false
 
+-- the pages of file f from `first` up to `end` that are not cached, in rising order
+abbrev pub absent_pages : Store → ℕ → ℕ → ℕ → List ℕ
+absent_pages s f first end = filter (λ p. not (is_some (stored_page s f p))) (range_with_len first (end - first))
+
 -- the absent pages of file f from `first` up to `end` were made
 pub record AreMade (f first end : ℕ) (old new : Store) : Type 0 where
   pub each : (q : ℕ) → stored_page new f q ≡ (if nat_le first q && nat_lt q end && not (is_some (stored_page old f q)) then Some (blank old.page) else stored_page old f q)
-  pub rest : new ≡ with_pages old f (stored_at new f).pages new.free
+  pub rest : new ≡ with_lists (with_pages old f (stored_at new f).pages new.free) (each_entered f (absent_pages old f first end) old.lists)
   pub fewer : new.free ≡ old.free - count_by (λ p. not (is_some (stored_page old f p))) (range_with_len first (end - first))
 
 -- each entry has a frame of its own, which was taken for its page, and every taken frame is an entry's. A page that is filling

@@ -7,6 +7,8 @@ ghost use Rattle.cachecore.specs.State.{dirty_total, file_of, is_filling, page_c
 ghost use Rattle.cachecore.specs.Tests.{covers, must_fill, room_tests, write_stop, write_tests};
 ghost use Rattle.cachecore.specs.Changes.{written};
 ghost use Rattle.cachecore.specs.Step.{Step};
+ghost use Rattle.cachecore.specs.PageLists.{no_lists};
+ghost use Rattle.cachecore.specs.Moves.{moved, write_moves};
 ghost use Rattle.cachecore.specs.Replies.{created, opened, closed, sized, wrote, was_read, bytes_read, test_of, TagsAre};
 
 use crate::answers::{PageTags, ReadAnswer, WriteAnswer};
@@ -34,15 +36,14 @@ pub struct CacheCore {
 }
 
 impl Model for CacheCore {
-    ghost use Rattle.cachecore.specs.State.{State};
-    ghost use Rattle.cachecore.specs.Codes.{state_code};
+    ghost use Rattle.cachecore.specs.Core.{Core, core_code};
     ghost use Rattle.cachecore.specs.Tables.{state_of, IsCore};
 
-    ghost Value = { State };
+    ghost Value = { Core };
 
-    ghost coded = { state_code };
+    ghost coded = { core_code };
 
-    ghost view = { λ a. state_of a.geometry a.name a.pages.files a.handles a.blocks a.requests };
+    ghost view = { λ a. record { state = state_of a.geometry a.name a.pages.files a.handles a.blocks a.requests; lists = a.pages.lists } };
 
     ghost invariant = { λ a. IsCore (state_of a.geometry a.name a.pages.files a.handles a.blocks a.requests) a.pages a.blocks };
 }
@@ -51,7 +52,7 @@ impl CacheCore {
     /// A cache without files, refused by `Memory` alone. The name tells its requests and handles from another's, so
     /// each cache gets another one.
     pub fn new(alloc: Global, geometry: &Geometry, name: u64) -> Result<CacheCore, Refusal>
-        ensures empty { IfOk result (λ s. s ≡ record { sizes = geometry.now; name = name; files = []; handles = map.empty; spots = map.empty; next = 0; requests = map.empty; syncs = map.empty }) }
+        ensures empty { IfOk result (λ c. c ≡ record { state = record { sizes = geometry.now; name = name; files = []; handles = map.empty; spots = map.empty; next = 0; requests = map.empty; syncs = map.empty }; lists = no_lists }) }
         ensures refused { IsOkUnless result Refusal.Memory }
     {
         Ok(CacheCore {
@@ -67,14 +68,15 @@ impl CacheCore {
 
     /// The sizes that the cache was made with. They stay.
     pub fn geometry(&self) -> Geometry
-        ensures { result ≡ self.now.sizes }
+        ensures { result ≡ self.now.state.sizes }
     {
         self.geometry
     }
 
     /// A new file, without bytes. It stays as long as the cache.
     pub fn create(&mut self) -> Result<FileId, Refusal>
-        ensures { Step self.old Event.Create (created result) self.new }
+        ensures step { Step self.old.state Event.Create (created result) self.new.state }
+        ensures lists { self.new.lists ≡ self.old.lists }
     {
         let number = self.pages.file_count();
         if number >= MAX_FILES {
@@ -88,7 +90,8 @@ impl CacheCore {
 
     /// Opens a file, by the lowest free handle.
     pub fn open(&mut self, file: FileId) -> Result<HandleId, Refusal>
-        ensures { Step self.old (Event.Open file) (opened result) self.new }
+        ensures step { Step self.old.state (Event.Open file) (opened result) self.new.state }
+        ensures lists { self.new.lists ≡ self.old.lists }
     {
         if file.0 >= self.pages.file_count() {
             return Err(Refusal::NoSuchFile);
@@ -102,7 +105,8 @@ impl CacheCore {
 
     /// Closes a handle. Its number may be given out again.
     pub fn close(&mut self, handle: HandleId) -> Result<(), Refusal>
-        ensures step { Step self.old (Event.Close handle) (closed result) self.new }
+        ensures step { Step self.old.state (Event.Close handle) (closed result) self.new.state }
+        ensures lists { self.new.lists ≡ self.old.lists }
         ensures no_memory { result ≢ Err Refusal.Memory }
     {
         if self.handles.file(handle.0).is_none() {
@@ -114,7 +118,7 @@ impl CacheCore {
 
     /// Bytes of the handle's file.
     pub fn size(&self, handle: HandleId) -> Result<u64, Refusal>
-        ensures step { Step self.now (Event.Size handle) (sized result) self.now }
+        ensures step { Step self.now.state (Event.Size handle) (sized result) self.now.state }
         ensures no_memory { result ≢ Err Refusal.Memory }
     {
         let Some(file) = self.handles.file(handle.0) else {
@@ -125,7 +129,7 @@ impl CacheCore {
 
     /// What is known of a page. Any page may be asked for, also past the end of the file. This is no event.
     pub fn tags(&self, file: FileId, page: PageIndex) -> Result<PageTags, Refusal>
-        ensures { TagsAre self.now file.0 page.0 result }
+        ensures { TagsAre self.now.state file.0 page.0 result }
     {
         if file.0 >= self.pages.file_count() {
             return Err(Refusal::NoSuchFile);
@@ -145,7 +149,8 @@ impl CacheCore {
         offset: u64,
         out: &mut [u8],
     ) -> Result<ReadAnswer, Refusal>
-        ensures step { Step self.old (Event.Read handle offset (length out.old)) (was_read result out.new) self.new }
+        ensures step { Step self.old.state (Event.Read handle offset (length out.old)) (was_read result out.new) self.new.state }
+        ensures lists { self.new.lists ≡ moved self.old.state (Event.Read handle offset (length out.old)) (was_read result out.new) self.old.lists }
         ensures rest { drop (bytes_read result) out.new ≡ drop (bytes_read result) out.old }
         ensures no_memory { result ≢ Err Refusal.Memory }
     {
@@ -181,7 +186,8 @@ impl CacheCore {
         offset: u64,
         bytes: &[u8],
     ) -> Result<WriteAnswer, Refusal>
-        ensures { Step self.old (Event.Write handle offset bytes.now) (wrote result) self.new }
+        ensures step { Step self.old.state (Event.Write handle offset bytes.now) (wrote result) self.new.state }
+        ensures lists { self.new.lists ≡ moved self.old.state (Event.Write handle offset bytes.now) (wrote result) self.old.lists }
     {
         let Some(file) = self.handles.file(handle.0) else {
             return Err(Refusal::BadHandle);
@@ -213,7 +219,8 @@ impl CacheCore {
 
     /// Writes the bytes at the end of the file, with nothing between.
     pub fn append(&mut self, handle: HandleId, bytes: &[u8]) -> Result<WriteAnswer, Refusal>
-        ensures { Step self.old (Event.Append handle bytes.now) (wrote result) self.new }
+        ensures step { Step self.old.state (Event.Append handle bytes.now) (wrote result) self.new.state }
+        ensures lists { self.new.lists ≡ moved self.old.state (Event.Append handle bytes.now) (wrote result) self.old.lists }
     {
         let Some(file) = self.handles.file(handle.0) else {
             return Err(Refusal::BadHandle);
@@ -224,16 +231,16 @@ impl CacheCore {
 
     /// Whether a fill of the page is in flight.
     pub(crate) fn is_filling(&self, file: u64, page: u64) -> bool
-        ensures { result ≡ is_filling self.now file page }
+        ensures { result ≡ is_filling self.now.state file page }
     {
         self.requests.is_filling(FileId(file), PageIndex(page))
     }
 
     /// Whether the page's bytes are on the device alone.
     pub(crate) fn must_fill(&self, file: u64, page: u64) -> bool
-        requires here { file < length self.now.files }
+        requires here { file < length self.now.state.files }
         requires below { page < MAX_PAGES }
-        ensures { result ≡ must_fill self.now file page }
+        ensures { result ≡ must_fill self.now.state file page }
     {
         match self.blocks.map(FileId(file), PageIndex(page)) {
             Some(placed) => placed.is_written && !self.pages.is_cached(file, page),
@@ -244,10 +251,10 @@ impl CacheCore {
     /// The first page that stops a write which touches it: it is filling, or its bytes are on the device alone and are not
     /// all written over.
     fn write_stop(&self, file: u64, offset: u64, count: u64) -> Option<u64>
-        requires here { file < length self.now.files }
+        requires here { file < length self.now.state.files }
         requires some { 0 < count }
         requires bound { offset + count ≤ MAX_FILE_SIZE }
-        ensures { result ≡ write_stop self.now file offset count }
+        ensures { result ≡ write_stop self.now.state file offset count }
     {
         let page_size = self.geometry.page();
         let first = offset / page_size;
@@ -257,10 +264,10 @@ impl CacheCore {
 
     /// Whether a page that a write touches stops it.
     fn stops_write(&self, file: u64, page: u64, offset: u64, count: u64) -> bool
-        requires here { file < length self.now.files }
+        requires here { file < length self.now.state.files }
         requires below { page < MAX_PAGES }
         requires bound { offset + count ≤ MAX_FILE_SIZE }
-        ensures { result ≡ (is_filling self.now file page || (must_fill self.now file page && not (covers self.now.sizes.page offset count page))) }
+        ensures { result ≡ (is_filling self.now.state file page || (must_fill self.now.state file page && not (covers self.now.state.sizes.page offset count page))) }
     {
         if self.is_filling(file, page) {
             return true;
@@ -270,11 +277,11 @@ impl CacheCore {
 
     /// Whether the pages that a write touches may become dirty, and there are frames and blocks for those that need one.
     fn check_room(&self, file: u64, offset: u64, count: u64) -> Result<(), Refusal>
-        requires here { file < length self.now.files }
+        requires here { file < length self.now.state.files }
         requires some { 0 < count }
         requires bound { offset + count ≤ MAX_FILE_SIZE }
-        requires few { touched_count self.now.sizes.page offset count ≤ MAX_TOUCHED }
-        ensures { test_of result ≡ room_tests self.now file offset count }
+        requires few { touched_count self.now.state.sizes.page offset count ≤ MAX_TOUCHED }
+        ensures { test_of result ≡ room_tests self.now.state file offset count }
     {
         let page_size = self.geometry.page();
         let first = offset / page_size;
@@ -295,7 +302,7 @@ impl CacheCore {
     /// the limit is passed, as a truncation or a failed write may pass it.
     fn passes_dirty_limit(&self, dirtied: u64) -> bool
         requires { dirtied ≤ MAX_TOUCHED }
-        ensures { result ≡ (nat_lt 0 dirtied && nat_lt self.now.sizes.dirty_limit (dirty_total self.now + dirtied)) }
+        ensures { result ≡ (nat_lt 0 dirtied && nat_lt self.now.state.sizes.dirty_limit (dirty_total self.now.state + dirtied)) }
     {
         dirtied > 0 && self.pages.dirty_total() + dirtied > self.geometry.dirty_limit()
     }
@@ -303,12 +310,13 @@ impl CacheCore {
     /// Writes the bytes into a file, which may be made longer. The tests have passed. The blocks and frames are taken
     /// first, which is all that may fail: a write is done whole or not at all.
     fn write_pages(&mut self, file: u64, offset: u64, bytes: &[u8]) -> Result<(), AllocError>
-        requires here { file < length self.old.files }
+        requires here { file < length self.old.state.files }
         requires some { 0 < length bytes.now }
         requires bound { offset + length bytes.now ≤ MAX_FILE_SIZE }
-        requires few { touched_count self.old.sizes.page offset (length bytes.now) ≤ MAX_TOUCHED }
-        requires passed { (h : ℕ) × (file_of self.old h ≡ file) × (write_tests self.old h offset (length bytes.now) ≡ None) }
-        ensures ok { OnOk result (self.new ≡ written self.old file offset bytes.now) }
+        requires few { touched_count self.old.state.sizes.page offset (length bytes.now) ≤ MAX_TOUCHED }
+        requires passed { (h : ℕ) × (file_of self.old.state h ≡ file) × (write_tests self.old.state h offset (length bytes.now) ≡ None) }
+        ensures ok { OnOk result (self.new.state ≡ written self.old.state file offset bytes.now) }
+        ensures lists { OnOk result (self.new.lists ≡ write_moves self.old.state file offset (length bytes.now) self.old.lists) }
         ensures err { OnErr result (self.new ≡ self.old) }
     {
         let page_size = self.geometry.page();

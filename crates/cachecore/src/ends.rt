@@ -13,7 +13,7 @@ impl CacheCore {
     /// The request that a finished job ends. None where no request of this cache and of this kind is in flight with the job's
     /// serial.
     pub(crate) fn request_ended(&self, kind: Kind, finished: &Finished) -> Option<Request>
-        ensures { option_map (λ r. request_of (flight_of r)) result ≡ request_ended self.now kind finished.now }
+        ensures { option_map (λ r. request_of (flight_of r)) result ≡ request_ended self.now.state kind finished.now }
     {
         if finished.cache() != self.name || finished.kind() != kind {
             return None;

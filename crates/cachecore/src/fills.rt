@@ -7,6 +7,8 @@ ghost use Rattle.cachecore.specs.State.{free_frames, is_cached, is_filling, is_w
 ghost use Rattle.cachecore.specs.Tests.{is_full};
 ghost use Rattle.cachecore.specs.Changes.{filling};
 ghost use Rattle.cachecore.specs.Step.{Step};
+ghost use Rattle.cachecore.specs.PageLists.{entered};
+ghost use Rattle.cachecore.specs.Moves.{begin_moves, moved};
 ghost use Rattle.cachecore.specs.Replies.{EndGivesBack, FillsAbsent, GivesBack, IsFillJob, end_of, fill_begun, fill_ended};
 
 use crate::answers::{Ended, FillBegun, Refused, RefusedEnd};
@@ -24,9 +26,10 @@ impl CacheCore {
         page: PageIndex,
         buffer: Buffer,
     ) -> Result<FillBegun, Refused>
-        requires size { length buffer ≡ self.old.sizes.page }
-        ensures step { Step self.old (Event.FillBegin handle page) (fill_begun result) self.new }
-        ensures job { IsFillJob self.new result }
+        requires size { length buffer ≡ self.old.state.sizes.page }
+        ensures step { Step self.old.state (Event.FillBegin handle page) (fill_begun result) self.new.state }
+        ensures lists { self.new.lists ≡ moved self.old.state (Event.FillBegin handle page) (fill_begun result) self.old.lists }
+        ensures job { IsFillJob self.new.state result }
         ensures back { GivesBack buffer result }
     {
         let Some(file) = self.handles.file(handle.0) else {
@@ -57,13 +60,14 @@ impl CacheCore {
         page: PageIndex,
         buffer: Buffer,
     ) -> Result<FillBegun, Refused>
-        requires here { file < length self.old.files }
+        requires here { file < length self.old.state.files }
         requires below { page.0 < MAX_PAGES }
-        requires absent { is_cached self.old file page.0 ≡ false }
-        requires idle { is_filling self.old file page.0 ≡ false }
-        requires room { 0 < free_frames self.old }
-        ensures step { FillsAbsent self.old file page.0 (fill_begun result) self.new }
-        ensures job { IsFillJob self.new result }
+        requires absent { is_cached self.old.state file page.0 ≡ false }
+        requires idle { is_filling self.old.state file page.0 ≡ false }
+        requires room { 0 < free_frames self.old.state }
+        ensures step { FillsAbsent self.old.state file page.0 (fill_begun result) self.new.state }
+        ensures lists { self.new.lists ≡ begin_moves file page.0 (fill_begun result) self.old.lists }
+        ensures job { IsFillJob self.new.state result }
         ensures back { GivesBack buffer result }
     {
         let Some(block) = self.block_to_read(file, page) else {
@@ -85,8 +89,9 @@ impl CacheCore {
     /// Ends a fill by its finished job. The buffer has as many bytes as a page. Refused by `Stranger` where no fill of this
     /// cache with this serial is in flight; what was handed in comes back.
     pub fn fill_end(&mut self, finished: Finished) -> Result<Ended, RefusedEnd>
-        requires size { length finished.bytes ≡ self.old.sizes.page }
-        ensures step { Step self.old (Event.FillEnd (end_of finished)) (fill_ended result) self.new }
+        requires size { length finished.bytes ≡ self.old.state.sizes.page }
+        ensures step { Step self.old.state (Event.FillEnd (end_of finished)) (fill_ended result) self.new.state }
+        ensures lists { self.new.lists ≡ moved self.old.state (Event.FillEnd (end_of finished)) (fill_ended result) self.old.lists }
         ensures back { EndGivesBack finished result }
     {
         let Some(request) = self.request_ended(Kind::Fill, &finished) else {
@@ -118,10 +123,10 @@ impl CacheCore {
     }
     /// The block of a page that is written there.
     fn block_to_read(&self, file: u64, page: PageIndex) -> Option<BlockNo>
-        requires here { file < length self.now.files }
+        requires here { file < length self.now.state.files }
         requires below { page.0 < MAX_PAGES }
-        ensures some { IfSome result (λ block. spot_at self.now file page.0 ≡ Some (record { block = block.0; written = true })) }
-        ensures none { IfNone result (is_written (spot_at self.now file page.0) ≡ false) }
+        ensures some { IfSome result (λ block. spot_at self.now.state file page.0 ≡ Some (record { block = block.0; written = true })) }
+        ensures none { IfNone result (is_written (spot_at self.now.state file page.0) ≡ false) }
     {
         let placed = self.blocks.map(FileId(file), page)?;
         if placed.is_written {
@@ -133,14 +138,14 @@ impl CacheCore {
 
     /// Begins a request that reads an absent page from its block. Refused by `TooManyInFlight` and by `Memory`.
     fn begin_read(&mut self, file: u64, page: PageIndex, block: BlockNo) -> Result<Serial, Refusal>
-        requires here { file < length self.old.files }
+        requires here { file < length self.old.state.files }
         requires below { page.0 < MAX_PAGES }
-        requires absent { is_cached self.old file page.0 ≡ false }
-        requires idle { is_filling self.old file page.0 ≡ false }
-        requires room { 0 < free_frames self.old }
-        requires placed { spot_at self.old file page.0 ≡ Some (record { block = block.0; written = true }) }
-        ensures begun { IfOk result (λ t. (is_full self.old ≡ false) × (t.0 ≡ self.old.next) × (self.new ≡ filling self.old file page.0)) }
-        ensures refused { IfErr result (λ r. (self.new ≡ self.old) × (r ≡ (if is_full self.old then TooManyInFlight else Memory))) }
+        requires absent { is_cached self.old.state file page.0 ≡ false }
+        requires idle { is_filling self.old.state file page.0 ≡ false }
+        requires room { 0 < free_frames self.old.state }
+        requires placed { spot_at self.old.state file page.0 ≡ Some (record { block = block.0; written = true }) }
+        ensures begun { IfOk result (λ t. (is_full self.old.state ≡ false) × (t.0 ≡ self.old.state.next) × (self.new.state ≡ filling self.old.state file page.0) × (self.new.lists ≡ entered file page.0 self.old.lists)) }
+        ensures refused { IfErr result (λ r. (self.new ≡ self.old) × (r ≡ (if is_full self.old.state then TooManyInFlight else Memory))) }
     {
         if self.requests.is_full() {
             return Err(Refusal::TooManyInFlight);

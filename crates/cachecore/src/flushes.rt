@@ -15,8 +15,9 @@ impl CacheCore {
     /// Begins to write the file's lowest page that is dirty and has no write in flight. The buffer is for a copy of its
     /// bytes, and has as many as a page.
     pub fn flush_begin(&mut self, file: FileId, mut buffer: Buffer) -> Result<FlushBegun, Refused>
-        requires size { length buffer ≡ self.old.sizes.page }
-        ensures step { FlushStep self.old file.0 result self.new }
+        requires size { length buffer ≡ self.old.state.sizes.page }
+        ensures step { FlushStep self.old.state file.0 result self.new.state }
+        ensures lists { self.new.lists ≡ self.old.lists }
         ensures back { FlushGivesBack buffer result }
         ensures no_memory { IfErr result (λ e. e.refusal ≢ Memory) }
     {
@@ -47,7 +48,8 @@ impl CacheCore {
     /// Ends a flush by its finished job. Refused by `Stranger` where no flush of this cache with this serial is in flight;
     /// what was handed in comes back.
     pub fn flush_end(&mut self, finished: Finished) -> Result<Ended, RefusedEnd>
-        ensures step { Step self.old (Event.FlushEnd (end_of finished)) (flush_ended result) self.new }
+        ensures step { Step self.old.state (Event.FlushEnd (end_of finished)) (flush_ended result) self.new.state }
+        ensures lists { self.new.lists ≡ self.old.lists }
         ensures back { EndGivesBack finished result }
     {
         let Some(request) = self.request_ended(Kind::Flush, &finished) else {

@@ -5,6 +5,7 @@ ghost use Rattle.std.specs.FinMap as map;
 ghost use Rattle.std.specs.FinSet as set;
 ghost use Rattle.mapping.specs.declared.mapping.TheConstants.{MAX_PAGES};
 ghost use Rattle.pc_types.specs.Tags.{no_tags};
+ghost use Rattle.cachecore.specs.PageLists.{entered, left};
 ghost use Rattle.cachecore.specs.Store.{stored_at, stored_page, is_awaited, with_pages};
 
 use crate::pages::Pages;
@@ -19,7 +20,7 @@ impl Pages {
         requires absent { stored_page self.old file page ≡ None }
         requires idle { is_awaited self.old file page ≡ false }
         requires room { 0 < self.old.free }
-        ensures ok { OnOk result (self.new ≡ record self.old { filling = set.insert self.old.filling (file, page); free = self.old.free - 1 }) }
+        ensures ok { OnOk result (self.new ≡ record self.old { filling = set.insert self.old.filling (file, page); free = self.old.free - 1; lists = entered file page self.old.lists }) }
         ensures err { OnErr result (self.new ≡ self.old) }
     {
         self.enter(file, page, false)
@@ -43,7 +44,7 @@ impl Pages {
     pub fn abandon_fill(&mut self, file: u64, page: u64)
         requires here { file < length self.old.files }
         requires filling { is_awaited self.old file page ≡ true }
-        ensures { self.new ≡ record self.old { filling = set.remove self.old.filling (file, page); free = self.old.free + 1 } }
+        ensures { self.new ≡ record self.old { filling = set.remove self.old.filling (file, page); free = self.old.free + 1; lists = left file page self.old.lists } }
     {
         self.leave(file, page);
     }

@@ -1,11 +1,13 @@
 //! Pages that leave the store, at a truncation and at an eviction, the tail of a truncated file, and the order of eviction.
 
-ghost use Rattle.std.specs.Prelude.{◌≡◌, ◌<◌, ◌≤◌, ◌||◌, ℕ, IfNone, IfSome, false, is_some, length, true};
+ghost use Rattle.std.specs.Prelude.{◌≡◌, ◌+◌, ◌<◌, ◌≤◌, ◌||◌, ℕ, IfNone, IfSome, false, find, is_some, length, option_map, true};
 ghost use Rattle.std.specs.FinMap as map;
 ghost use Rattle.cachecore.specs.State.{the_page};
 ghost use Rattle.cachecore.specs.Changes.{cut_page};
-ghost use Rattle.cachecore.specs.Cuts.{Evicts, RemovesFrom, is_idle_frame};
-ghost use Rattle.cachecore.specs.Store.{is_awaited, stored_at, stored_page, with_pages};
+ghost use Rattle.cachecore.specs.Cuts.{Evicts, RemovesFrom, is_idle_at, is_idle_frame};
+ghost use Rattle.cachecore.specs.Moves.{numbers};
+ghost use Rattle.cachecore.specs.PageLists.{aged, cut_off, kept, place, scan_order};
+ghost use Rattle.cachecore.specs.Store.{is_awaited, stored_at, stored_page, with_pages, with_lists};
 
 use crate::kept::KeptFile;
 use crate::pages::Pages;
@@ -17,8 +19,11 @@ impl Pages {
     /// Moves frames from the active list to the inactive one while it is longer, and answers how many. Only the order of
     /// eviction changes.
     pub fn age(&mut self) -> u64
-        ensures { self.new ≡ self.old }
+        ensures moved { result + kept self.old.lists ≡ length self.old.lists.active }
+        ensures aged { self.new ≡ with_lists self.old (aged self.old.lists) }
     {
+        // for what `free_count` ensures: no frame is in a list twice
+        prove!(self.frames.free_count() <= MAX_FRAMES);
         self.frames.age()
     }
 
@@ -53,7 +58,10 @@ impl Pages {
         requires { file < length self.now.files }
         ensures found { IfSome result (λ found. (page ≤ found) × ((is_some (stored_page self.now file found) || is_awaited self.now file found) ≡ true)) }
         ensures none { IfNone result ((q : ℕ) → page ≤ q → (is_some (stored_page self.now file q) || is_awaited self.now file q) ≡ false) }
+        ensures unlisted { IfNone result (cut_off file page self.now.lists ≡ self.now.lists) }
     {
+        // for what `free_count` ensures: each frame in a list is taken
+        prove!(self.frames.free_count() <= MAX_FRAMES);
         let found = self.files[file as usize]
             .mapping
             .find_page(PageIndex(page))?;
@@ -62,7 +70,8 @@ impl Pages {
 
     /// Takes the first page away that is idle, in the order of eviction, and answers which.
     pub fn evict(&mut self) -> Option<(FileId, PageIndex)>
-        ensures { Evicts self.old result self.new }
+        ensures evicted { Evicts self.old result self.new }
+        ensures first { option_map numbers result ≡ option_map place (find (is_idle_at self.old) (scan_order self.old.lists)) }
     {
         // for what `free_count` ensures: each frame that is taken is in one of the two lists
         prove!(self.frames.free_count() <= MAX_FRAMES);

@@ -9,7 +9,8 @@ ghost use Rattle.pc_types.specs.TagBits.{tag_set};
 ghost use Rattle.cachecore.specs.State.{no_file, dirty_in, the_page, tagged};
 ghost use Rattle.cachecore.specs.Changes.{blank};
 ghost use Rattle.cachecore.specs.Pairs.{with_part};
-ghost use Rattle.cachecore.specs.Store.{Store, stored_at, stored_page, is_awaited, with_pages, with_entry};
+ghost use Rattle.cachecore.specs.PageLists.{no_lists, is_listed, entered, left, accessed};
+ghost use Rattle.cachecore.specs.Store.{Store, stored_at, stored_page, is_awaited, with_pages, with_lists, with_entry};
 
 use crate::kept::{KeptFile, is_uptodate};
 use frames::Frames;
@@ -44,7 +45,7 @@ impl Model for Pages {
 impl Pages {
     /// No files, with room for so many, and all frames free.
     pub fn new(alloc: Global, geometry: &Geometry, files: usize) -> Result<Pages, Refusal>
-        ensures empty { IfOk result (λ s. s ≡ record { page = geometry.now.page; files = []; filling = set.empty; free = geometry.now.frames }) }
+        ensures empty { IfOk result (λ s. s ≡ record { page = geometry.now.page; files = []; filling = set.empty; free = geometry.now.frames; lists = no_lists }) }
         ensures refused { IsOkUnless result Refusal.Memory }
         ensures few { geometry.now.frames ≤ MAX_FRAMES }
     {
@@ -159,8 +160,9 @@ impl Pages {
         requires absent { stored_page self.old file page ≡ None }
         requires idle { is_awaited self.old file page ≡ false }
         requires room { 0 < self.old.free }
-        ensures ok { OnOk result (self.new ≡ with_pages self.old file (map.insert (stored_at self.old file).pages page (blank self.old.page)) (self.old.free - 1)) }
+        ensures ok { OnOk result (self.new ≡ with_lists (with_pages self.old file (map.insert (stored_at self.old file).pages page (blank self.old.page)) (self.old.free - 1)) (entered file page self.old.lists)) }
         ensures err { OnErr result (self.new ≡ self.old) }
+        ensures unlisted { is_listed file page self.old.lists ≡ false }
     {
         self.enter(file, page, true)
     }
@@ -169,7 +171,7 @@ impl Pages {
     pub fn remove(&mut self, file: u64, page: u64)
         requires here { file < length self.old.files }
         requires cached { is_some (stored_page self.old file page) ≡ true }
-        ensures { self.new ≡ with_pages self.old file (map.remove (stored_at self.old file).pages page) (self.old.free + 1) }
+        ensures { self.new ≡ with_lists (with_pages self.old file (map.remove (stored_at self.old file).pages page) (self.old.free + 1)) (left file page self.old.lists) }
     {
         self.leave(file, page);
     }
@@ -181,9 +183,12 @@ impl Pages {
         requires absent { stored_page self.old file page ≡ None }
         requires idle { is_awaited self.old file page ≡ false }
         requires room { 0 < self.old.free }
-        ensures ok { OnOk result (self.new ≡ with_entry self.old file page (cond uptodate (Some (blank self.old.page)) None) (not uptodate) (self.old.free - 1)) }
+        ensures ok { OnOk result (self.new ≡ with_lists (with_entry self.old file page (cond uptodate (Some (blank self.old.page)) None) (not uptodate) (self.old.free - 1)) (entered file page self.old.lists)) }
         ensures err { OnErr result (self.new ≡ self.old) }
+        ensures unlisted { is_listed file page self.old.lists ≡ false }
     {
+        // for what `free_count` ensures: a free frame is in no list
+        prove!(self.frames.free_count() <= MAX_FRAMES);
         let Ok(frame) = self.frames.take(FileId(file), PageIndex(page)) else {
             unreachable!()
         };
@@ -200,9 +205,11 @@ impl Pages {
     pub fn leave(&mut self, file: u64, page: u64)
         requires here { file < length self.old.files }
         requires there { (is_some (stored_page self.old file page) || is_awaited self.old file page) ≡ true }
-        ensures page { is_some (stored_page self.old file page) ≡ true → self.new ≡ with_pages self.old file (map.remove (stored_at self.old file).pages page) (self.old.free + 1) }
-        ensures fill { is_awaited self.old file page ≡ true → self.new ≡ record self.old { filling = set.remove self.old.filling (file, page); free = self.old.free + 1 } }
+        ensures page { is_some (stored_page self.old file page) ≡ true → self.new ≡ with_lists (with_pages self.old file (map.remove (stored_at self.old file).pages page) (self.old.free + 1)) (left file page self.old.lists) }
+        ensures fill { is_awaited self.old file page ≡ true → self.new ≡ record self.old { filling = set.remove self.old.filling (file, page); free = self.old.free + 1; lists = left file page self.old.lists } }
     {
+        // for what `free_count` ensures: each frame in a list is taken
+        prove!(self.frames.free_count() <= MAX_FRAMES);
         let mapping = &mut self.files[file as usize].mapping;
         let Some(mapped) = mapping.page(PageIndex(page)) else {
             unreachable!()
@@ -245,21 +252,26 @@ impl Pages {
         requires there { at + (to - from) ≤ self.old.page }
         ensures after { out.new ≡ take from out.old ++ slice_range (the_page (stored_at self.old file).pages page).bytes at (at + (to - from)) ++ drop to out.old }
         ensures len { length out.new ≡ length out.old }
-        ensures same { self.new ≡ self.old }
+        ensures moved { self.new ≡ with_lists self.old (accessed file page self.old.lists) }
     {
         let Some(mapped) = self.files[file as usize].mapping.page(PageIndex(page)) else {
             unreachable!()
         };
+        // for what `free_count` ensures: each frame in a list is taken
+        prove!(self.frames.free_count() <= MAX_FRAMES);
         let bytes = self.frames.bytes(mapped.frame);
         out[from..to].copy_from_slice(&bytes[at..at + (to - from)]);
         self.frames.accessed(mapped.frame);
     }
 
-    /// Notes that a page was written, where it is cached. Only the order of eviction changes.
+    /// Notes that a page was written. Only the order of eviction changes, and not even that where the page is neither cached
+    /// nor filling, since it is in no list then.
     pub fn access(&mut self, file: u64, page: u64)
         requires { file < length self.old.files }
-        ensures { self.new ≡ self.old }
+        ensures { self.new ≡ with_lists self.old (accessed file page self.old.lists) }
     {
+        // for what `free_count` ensures: each frame in a list is taken
+        prove!(self.frames.free_count() <= MAX_FRAMES);
         if let Some(mapped) = self.files[file as usize].mapping.page(PageIndex(page)) {
             self.frames.accessed(mapped.frame);
         }

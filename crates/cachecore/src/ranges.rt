@@ -1,10 +1,12 @@
 //! Ranges of pages: made, written, read, one page after the other.
 
-ghost use Rattle.std.specs.Prelude.{◌≡◌, ◌+◌, ◌-◌, ◌/◌, ◌<◌, ◌≤◌, OnOk, OnErr, length, not, is_some, count_by};
+ghost use Rattle.std.specs.Prelude.{◌≡◌, ◌+◌, ◌-◌, ◌/◌, ◌<◌, ◌≤◌, OnOk, OnErr, length, not, is_some, count_by, filter};
 ghost use Rattle.std.specs.List.{range_with_len};
 ghost use Rattle.mapping.specs.declared.mapping.TheConstants.{MAX_PAGES};
 ghost use Rattle.cachecore.specs.Pairs.{AreCached, AreSized, IsLaid, AreRead};
-ghost use Rattle.cachecore.specs.Store.{stored_at, stored_page, with_pages, NoneAwaited, AreMade};
+ghost use Rattle.cachecore.specs.PageLists.{each_accessed, flagged};
+ghost use Rattle.cachecore.specs.State.{touched};
+ghost use Rattle.cachecore.specs.Store.{stored_at, stored_page, with_pages, with_lists, NoneAwaited, AreMade};
 
 use crate::pages::Pages;
 use pc_types::limits::{MAX_FILE_SIZE, MAX_PAGE_SIZE, MAX_TOUCHED};
@@ -71,7 +73,7 @@ impl Pages {
         requires cached { AreCached (offset / page_size) ((offset + length out.old - 1) / page_size + 1) (stored_at self.old file).pages }
         requires sized { AreSized page_size (stored_at self.old file).pages }
         ensures read { AreRead page_size offset (stored_at self.old file).pages (length out.new) out.new }
-        ensures same { self.new ≡ self.old }
+        ensures moved { self.new ≡ with_lists self.old (each_accessed file (touched page_size offset (length out.old)) self.old.lists) }
     {
         let first = offset / page_size;
         let last = (offset + out.len() as u64 - 1) / page_size;
@@ -88,6 +90,7 @@ impl Pages {
     pub fn which_cached(&self, file: u64, first: u64, end: u64) -> [bool; MAX_TOUCHED as usize]
         requires here { file < length self.now.files }
         requires few { end - first ≤ MAX_TOUCHED }
+        ensures { flagged first result ≡ filter (λ p. is_some (stored_page self.now file p)) (range_with_len first (end - first)) }
     {
         let mut cached = [false; MAX_TOUCHED as usize];
         for page in first..end {
@@ -100,14 +103,12 @@ impl Pages {
     pub fn access_cached(&mut self, file: u64, first: u64, cached: &[bool])
         requires here { file < length self.old.files }
         requires below { first ≤ MAX_PAGES }
-        ensures { self.new ≡ self.old }
+        ensures { self.new ≡ with_lists self.old (each_accessed file (flagged first cached.now) self.old.lists) }
     {
-        let mut page = first;
-        for was_cached in cached {
-            if *was_cached {
-                self.access(file, page);
+        for at in 0..cached.len() {
+            if cached[at] {
+                self.access(file, first + at as u64);
             }
-            page = page.saturating_add(1);
         }
     }
 }

@@ -4,7 +4,9 @@ ghost use Rattle.std.specs.Prelude.{◌≡◌, ◌≢◌, ◌<◌, ◌≤◌, Er
 ghost use Rattle.std.specs.FinMap as map;
 ghost use Rattle.blockmap.specs.Keys.{IsPage};
 ghost use Rattle.mapping.specs.declared.mapping.TheConstants.{MAX_PAGES};
-ghost use Rattle.cachecore.specs.State.{file_at};
+ghost use Rattle.cachecore.specs.State.{file_at, page_count};
+ghost use Rattle.cachecore.specs.Moves.{cut_moves, moved};
+ghost use Rattle.cachecore.specs.PageLists.{cut_off};
 ghost use Rattle.cachecore.specs.Changes.{boundary, change_at, cut_page, shrunk, truncated};
 ghost use Rattle.cachecore.specs.Store.{stored_at, with_pages};
 ghost use Rattle.cachecore.specs.Step.{Step};
@@ -21,7 +23,8 @@ use pc_types::{FileId, HandleId, PageIndex, Refusal};
 impl CacheCore {
     /// Gives the handle's file so many bytes. What is past them is gone, and a file that gets longer reads as zeros there.
     pub fn truncate(&mut self, handle: HandleId, size: u64) -> Result<TruncateAnswer, Refusal>
-        ensures step { Step self.old (Event.Truncate handle size) (was_truncated result) self.new }
+        ensures step { Step self.old.state (Event.Truncate handle size) (was_truncated result) self.new.state }
+        ensures lists { self.new.lists ≡ moved self.old.state (Event.Truncate handle size) (was_truncated result) self.old.lists }
         ensures no_memory { result ≢ Err Refusal.Memory }
     {
         let Some(file) = self.handles.file(handle.0) else {
@@ -45,8 +48,8 @@ impl CacheCore {
     /// The page that a truncation to `size` bytes cuts into, where it cuts into one.
     #[tactic(auto, using(crate::proofs::Spans::last_below))]
     fn boundary(&self, file: u64, size: u64) -> Option<u64>
-        requires { file < length self.now.files }
-        ensures page { result ≡ boundary self.now file size }
+        requires { file < length self.now.state.files }
+        ensures page { result ≡ boundary self.now.state file size }
         ensures below { IfSome result (λ page. page < MAX_PAGES) }
     {
         let page_size = self.geometry.page();
@@ -59,9 +62,10 @@ impl CacheCore {
 
     /// Gives the file `size` bytes. The tests have passed.
     fn resize(&mut self, file: u64, size: u64)
-        requires here { file < length self.old.files }
+        requires here { file < length self.old.state.files }
         requires small { size ≤ MAX_FILE_SIZE }
-        ensures { self.new ≡ truncated self.old file size }
+        ensures state { self.new.state ≡ truncated self.old.state file size }
+        ensures lists { self.new.lists ≡ cut_moves self.old.state file size self.old.lists }
     {
         if size < self.pages.size(file) {
             self.shrink(file, size);
@@ -72,9 +76,10 @@ impl CacheCore {
 
     /// Cuts the file to `size` bytes, which are fewer than it has. The pages past the new last one are absent, without blocks.
     fn shrink(&mut self, file: u64, size: u64)
-        requires here { file < length self.old.files }
-        requires fewer { size < (file_at self.old file).size }
-        ensures { self.new ≡ shrunk self.old file size }
+        requires here { file < length self.old.state.files }
+        requires fewer { size < (file_at self.old.state file).size }
+        ensures state { self.new.state ≡ shrunk self.old.state file size }
+        ensures lists { self.new.lists ≡ cut_off file (page_count self.old.state.sizes.page size) self.old.lists }
     {
         let page_size = self.geometry.page();
         if let Some(page) = self.boundary(file, size) {

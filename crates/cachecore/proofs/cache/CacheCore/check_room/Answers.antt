@@ -11,28 +11,29 @@ use Rattle.cachecore.specs.Placing.{is_bare}
 use Rattle.blockmap.specs.Blocks.{free_blocks}
 use Rattle.cachecore.proofs.CoreLemmas.{room_is, is_less, is_not_less, first_chosen, second_chosen, third_chosen, none_chosen}
 use Rattle.cachecore.proofs.Spans.{last_below}
+use Rattle.cachecore.proofs.CoreViews.{state_is}
 use Rattle.cachecore.proofs.cache.CacheCore.check_room.Goals as goal
 
 pub passes_dirty_limit-requires : goal.passes_dirty_limit-requires
 passes_dirty_limit-requires c =
     let P = c.page-page_size.result in
-    let few : touched_count P c.args.offset c.args.count ≤ MAX_TOUCHED = subst (λ n. touched_count n c.args.offset c.args.count ≤ MAX_TOUCHED) (sym (c.page-page_size.ensures.value ∙ ap (λ s. s.sizes.page) c.self.view_is)) c.requires.few in
+    let few : touched_count P c.args.offset c.args.count ≤ MAX_TOUCHED = subst (λ n. touched_count n c.args.offset c.args.count ≤ MAX_TOUCHED) (sym (c.page-page_size.ensures.value ∙ ap (λ s. s.sizes.page) (state_is c.self.view_is))) c.requires.few in
     omega (arith, few, c.clean_pages.ensures, length-range_with_len (c.args.offset / P) (touched_count P c.args.offset c.args.count), count_by-le-length (λ p. not (tagged (λ t. t.dirty) (map.get (slice_index_or c.self.inside.pages.files c.args.file no_file).pages p))) (range_with_len (c.args.offset / P) (touched_count P c.args.offset c.args.count)))
 
 pub count_without_block-requires-clause-file : goal.count_without_block-requires-clause-file
-count_without_block-requires-clause-file c = omega (arith, c.requires.here, ap (λ s. length s.files) c.self.view_is, c.self.invariant.few_files)
+count_without_block-requires-clause-file c = omega (arith, c.requires.here, ap (λ s. length s.files) (state_is c.self.view_is), c.self.invariant.few_files)
 
 pub count_without_block-requires-clause-below : goal.count_without_block-requires-clause-below
 count_without_block-requires-clause-below c = last_below c.page-page_size.result (c.args.offset + c.args.count - 1) c.page-page_size.ensures.least (omega (arith, c.requires.bound, c.requires.some))
 
 pub returns-then-passes_dirty_limit : goal.returns-then-passes_dirty_limit
 returns-then-passes_dirty_limit c =
-    let count = ap (λ s. length s.files) c.self.view_is in
+    let count = ap (λ s. length s.files) (state_is c.self.view_is) in
     let here : c.args.file < length c.self.inside.pages.files = omega arith in
     let entry : File = slice_index_or c.self.inside.pages.files c.args.file no_file in
     let P = c.page-page_size.result in
     let pages = range_with_len (c.args.offset / P) (touched_count P c.args.offset c.args.count) in
-    let back = sym c.self.view_is in
+    let back = sym (state_is c.self.view_is) in
     sym (ap (λ s. room_tests s c.args.file c.args.offset c.args.count) back
     ∙ room_is _ c.self.inside.pages c.self.inside.blocks c.self.invariant refl c.args.file c.args.offset c.args.count P entry c.passes_dirty_limit.result (count_by (λ p. not (is_some (map.get (slice_index_or c.self.inside.pages.files c.args.file no_file).pages p))) pages) (count_by (is_bare c.self.inside.blocks c.args.file) pages) (length (free_blocks c.self.inside.blocks)) c.page-page_size.ensures.value refl
     (c.passes_dirty_limit.ensures ∙ (λ i. nat_lt 0 (c.clean_pages.ensures i) && nat_lt (back i).sizes.dirty_limit (dirty_total (back i) + c.clean_pages.ensures i)))
@@ -41,12 +42,12 @@ returns-then-passes_dirty_limit c =
 
 pub returns-then-free_frames-absent_pages : goal.returns-then-free_frames-absent_pages
 returns-then-free_frames-absent_pages c =
-    let count = ap (λ s. length s.files) c.self.view_is in
+    let count = ap (λ s. length s.files) (state_is c.self.view_is) in
     let here : c.args.file < length c.self.inside.pages.files = omega arith in
     let entry : File = slice_index_or c.self.inside.pages.files c.args.file no_file in
     let P = c.page-page_size.result in
     let pages = range_with_len (c.args.offset / P) (touched_count P c.args.offset c.args.count) in
-    let back = sym c.self.view_is in
+    let back = sym (state_is c.self.view_is) in
     sym (ap (λ s. room_tests s c.args.file c.args.offset c.args.count) back
     ∙ room_is _ c.self.inside.pages c.self.inside.blocks c.self.invariant refl c.args.file c.args.offset c.args.count P entry c.passes_dirty_limit.result c.absent_pages.result (count_by (is_bare c.self.inside.blocks c.args.file) pages) (length (free_blocks c.self.inside.blocks)) c.page-page_size.ensures.value refl
     (c.passes_dirty_limit.ensures ∙ (λ i. nat_lt 0 (c.clean_pages.ensures i) && nat_lt (back i).sizes.dirty_limit (dirty_total (back i) + c.clean_pages.ensures i)))
@@ -55,12 +56,12 @@ returns-then-free_frames-absent_pages c =
 
 pub returns-then-free_count-count_without_block : goal.returns-then-free_count-count_without_block
 returns-then-free_count-count_without_block c =
-    let count = ap (λ s. length s.files) c.self.view_is in
+    let count = ap (λ s. length s.files) (state_is c.self.view_is) in
     let here : c.args.file < length c.self.inside.pages.files = omega arith in
     let entry : File = slice_index_or c.self.inside.pages.files c.args.file no_file in
     let P = c.page-page_size.result in
     let pages = range_with_len (c.args.offset / P) (touched_count P c.args.offset c.args.count) in
-    let back = sym c.self.view_is in
+    let back = sym (state_is c.self.view_is) in
     sym (ap (λ s. room_tests s c.args.file c.args.offset c.args.count) back
     ∙ room_is _ c.self.inside.pages c.self.inside.blocks c.self.invariant refl c.args.file c.args.offset c.args.count P entry c.passes_dirty_limit.result c.absent_pages.result c.count_without_block.result c.free_count.result c.page-page_size.ensures.value refl
     (c.passes_dirty_limit.ensures ∙ (λ i. nat_lt 0 (c.clean_pages.ensures i) && nat_lt (back i).sizes.dirty_limit (dirty_total (back i) + c.clean_pages.ensures i)))
@@ -69,12 +70,12 @@ returns-then-free_count-count_without_block c =
 
 pub returns : goal.returns
 returns c =
-    let count = ap (λ s. length s.files) c.self.view_is in
+    let count = ap (λ s. length s.files) (state_is c.self.view_is) in
     let here : c.args.file < length c.self.inside.pages.files = omega arith in
     let entry : File = slice_index_or c.self.inside.pages.files c.args.file no_file in
     let P = c.page-page_size.result in
     let pages = range_with_len (c.args.offset / P) (touched_count P c.args.offset c.args.count) in
-    let back = sym c.self.view_is in
+    let back = sym (state_is c.self.view_is) in
     sym (ap (λ s. room_tests s c.args.file c.args.offset c.args.count) back
     ∙ room_is _ c.self.inside.pages c.self.inside.blocks c.self.invariant refl c.args.file c.args.offset c.args.count P entry c.passes_dirty_limit.result c.absent_pages.result c.count_without_block.result c.free_count.result c.page-page_size.ensures.value refl
     (c.passes_dirty_limit.ensures ∙ (λ i. nat_lt 0 (c.clean_pages.ensures i) && nat_lt (back i).sizes.dirty_limit (dirty_total (back i) + c.clean_pages.ensures i)))

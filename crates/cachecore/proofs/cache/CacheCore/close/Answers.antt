@@ -8,6 +8,7 @@ use Rattle.cachecore.specs.Step.{Step}
 use Rattle.cachecore.specs.Tables.{IsCore, state_of}
 use Rattle.cachecore.proofs.CoreLemmas.{core-close}
 use Rattle.cachecore.proofs.StepLemmas.{close_step}
+use Rattle.cachecore.proofs.CoreViews.{state_is}
 use Rattle.cachecore.proofs.cache.CacheCore.close.Goals as goal
 
 pub invariant_of-self : goal.invariant_of-self
@@ -20,5 +21,5 @@ pub returns-clause-step : goal.returns-clause-step
 returns-clause-step c =
     let a = c.self.inside in
     let old : State = state_of a.geometry a.name a.pages.files a.handles a.blocks a.requests in
-    subst (λ m. Step c.args.self.now (event.Close c.args.handle) reply.Closed (state_of a.geometry a.name a.pages.files m a.blocks a.requests)) (sym c.close.ensures)
-    (subst (λ s. Step s (event.Close c.args.handle) reply.Closed (record old { handles = map.remove a.handles c.args.handle.0 })) c.self.view_is (close_step old c.args.handle (ap is_some (sym c.file.ensures) ∙ c.if-is_none.ensures) refl))
+    subst (λ m. Step c.args.self.now.state (event.Close c.args.handle) reply.Closed (state_of a.geometry a.name a.pages.files m a.blocks a.requests)) (sym c.close.ensures)
+    (subst (λ s. Step s (event.Close c.args.handle) reply.Closed (record old { handles = map.remove a.handles c.args.handle.0 })) (state_is c.self.view_is) (close_step old c.args.handle (ap is_some (sym c.file.ensures) ∙ c.if-is_none.ensures) refl))

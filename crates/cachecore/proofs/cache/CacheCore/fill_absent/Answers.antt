@@ -4,11 +4,13 @@ use Rattle.blockdev.specs.Jobs.{Task}
 use Rattle.cachecore.specs.State.{State, free_frames, is_cached, is_filling}
 use Rattle.cachecore.specs.Changes.{blank}
 use Rattle.cachecore.specs.Replies.{IsFillJob}
-use Rattle.cachecore.specs.Store.{Store, stored_at, with_pages}
+use Rattle.cachecore.specs.PageLists.{entered}
+use Rattle.cachecore.specs.Store.{Store, stored_at, with_pages, with_lists}
 use Rattle.cachecore.specs.Tables.{IsCore, state_of}
 use Rattle.cachecore.proofs.CoreLemmas.{core-zeros, free_frames_are, zeros_state}
 use Rattle.cachecore.proofs.FillCalls.{fill_job}
 use Rattle.cachecore.proofs.StepLemmas.{when_ok}
+use Rattle.cachecore.proofs.CoreViews.{state_is}
 use Rattle.cachecore.proofs.cache.CacheCore.fill_absent.Goals as goal
 use Rattle.cachecore.proofs.cache.CacheCore.fill_absent.Goals.{in-Ok, in-Err}
 
@@ -18,14 +20,14 @@ invariant_of-self-in_default c =
     let old = state_of i.geometry i.name i.pages.files i.handles i.blocks i.requests in
     let f = c.args.file in
     let p = c.args.page.0 in
-    let now : Store = with_pages i.pages f (map.insert (stored_at i.pages f).pages p (blank i.pages.page)) (i.pages.free - 1) in
+    let now : Store = with_lists (with_pages i.pages f (map.insert (stored_at i.pages f).pages p (blank i.pages.page)) (i.pages.free - 1)) (entered f p i.pages.lists) in
     let zeros = zeros_state i.geometry i.name i.pages i.handles i.blocks i.requests f p (i.pages.free - 1) c.self.invariant.page in
-    let here : f < length i.pages.files = subst (λ (s : State). f < length s.files) (sym c.self.view_is) c.requires.here in
+    let here : f < length i.pages.files = subst (λ (s : State). f < length s.files) (sym (state_is c.self.view_is)) c.requires.here in
     let free = free_frames_are old i.pages i.blocks c.self.invariant in
-    let frames = ap free_frames c.self.view_is in
+    let frames = ap free_frames (state_is c.self.view_is) in
     let core : IsCore (state_of i.geometry i.name now.files i.handles i.blocks i.requests) now i.blocks =
     subst (λ t. IsCore t now i.blocks) (sym zeros)
-    (core-zeros old i.pages i.blocks c.self.invariant f p now (ap (λ (s : State). is_cached s f p) c.self.view_is ∙ c.requires.absent) (ap (λ (s : State). is_filling s f p) c.self.view_is ∙ c.requires.idle) here (omega (arith, free, frames, c.requires.room)) refl refl (λ g q. refl) refl) in
+    (core-zeros old i.pages i.blocks c.self.invariant f p now (ap (λ (s : State). is_cached s f p) (state_is c.self.view_is) ∙ c.requires.absent) (ap (λ (s : State). is_filling s f p) (state_is c.self.view_is) ∙ c.requires.idle) here (omega (arith, free, frames, c.requires.room)) refl refl (λ g q. refl) refl) in
     subst (λ (x : Store). IsCore (state_of i.geometry i.name x.files i.handles i.blocks i.requests) x i.blocks) (sym (when_ok c.make.result _ c.if-is_err.ensures.value c.make.ensures.ok)) core
 
 pub returns-clause-job : goal.returns-clause-job
@@ -33,8 +35,8 @@ returns-clause-job c = elim c.match-begin_read.branch [
   | in-Ok w ↦
       let begun = w.in-Ok.ensures.begun in
       let job : Task = w.new-job.result in
-      subst (IsFillJob c.begin_read.new.self) (sym w.result-is)
-      (fill_job c.args.self.now c.begin_read.new.self c.args.file c.args.page.0 c.in-Some.block.0 c.in-Some.ensures.some begun.2 job
-      (ap (λ (t : Task). t.serial) w.new-job.ensures ∙ begun.1) (ap (λ (t : Task). t.cache) w.new-job.ensures ∙ ap (λ (s : State). s.name) c.self-2.view_is) (ap (λ (t : Task). t.kind) w.new-job.ensures) (ap (λ (t : Task). t.block) w.new-job.ensures))
-  | in-Err w ↦ subst (IsFillJob c.begin_read.new.self) (sym w.result-is) tt
+      subst (IsFillJob c.begin_read.new.self.state) (sym w.result-is)
+      (fill_job c.args.self.now.state c.begin_read.new.self.state c.args.file c.args.page.0 c.in-Some.block.0 c.in-Some.ensures.some begun.2 job
+      (ap (λ (t : Task). t.serial) w.new-job.ensures ∙ begun.1) (ap (λ (t : Task). t.cache) w.new-job.ensures ∙ ap (λ (s : State). s.name) (state_is c.self-2.view_is)) (ap (λ (t : Task). t.kind) w.new-job.ensures) (ap (λ (t : Task). t.block) w.new-job.ensures))
+  | in-Err w ↦ subst (IsFillJob c.begin_read.new.self.state) (sym w.result-is) tt
 ]

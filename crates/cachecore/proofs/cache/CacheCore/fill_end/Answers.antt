@@ -12,13 +12,14 @@ use Rattle.cachecore.specs.Replies.{end_of}
 use Rattle.cachecore.proofs.EndSteps.{known}
 use Rattle.cachecore.proofs.EndCalls.{awaited_here, fill_dropped_core, fill_dropped_step, fill_failed_core, fill_failed_step, fill_done_core, fill_done_step}
 use Rattle.cachecore.proofs.PartStates.{now}
+use Rattle.cachecore.proofs.CoreViews.{state_is}
 use Rattle.cachecore.proofs.cache.CacheCore.fill_end.Goals as goal
 
 pub invariant_of-self : goal.invariant_of-self
 invariant_of-self c =
     let i = c.self.inside in
     let r : Request = request_of (flight_of c.in-Some.request) in
-    let e = known _ Fill c.args.finished _ r c.self.view_is c.in-Some.ensures in
+    let e = known _ Fill c.args.finished _ r (state_is c.self.view_is) c.in-Some.ensures in
     let ended = c.end.ensures.ended ∙ ap (λ (p : FinishedParts). flights.ended i.requests p.serial.0) c.into_parts-buffer.ensures in
     fill_dropped_core i.geometry i.name i.handles i.pages i.blocks i.requests c.self.invariant c.args.finished r c.release.new.self c.end.new.self c.release.ensures ended e c.if-request.true
 
@@ -26,16 +27,16 @@ pub returns-then-request-clause-step : goal.returns-then-request-clause-step
 returns-then-request-clause-step c =
     let i = c.self.inside in
     let r : Request = request_of (flight_of c.in-Some.request) in
-    let e = known _ Fill c.args.finished _ r c.self.view_is c.in-Some.ensures in
+    let e = known _ Fill c.args.finished _ r (state_is c.self.view_is) c.in-Some.ensures in
     let ended = c.end.ensures.ended ∙ ap (λ (p : FinishedParts). flights.ended i.requests p.serial.0) c.into_parts-buffer.ensures in
-    subst (λ s. Step s (event.FillEnd (end_of c.args.finished)) reply.Dropped (now i.geometry i.name i.handles i.pages c.release.new.self c.end.new.self)) c.self.view_is
+    subst (λ s. Step s (event.FillEnd (end_of c.args.finished)) reply.Dropped (now i.geometry i.name i.handles i.pages c.release.new.self c.end.new.self)) (state_is c.self.view_is)
     (fill_dropped_step i.geometry i.name i.handles i.pages i.blocks i.requests c.self.invariant c.args.finished r c.release.new.self c.end.new.self c.release.ensures ended e c.if-request.true)
 
 pub finish_fill-requires-clause-filling : goal.finish_fill-requires-clause-filling
 finish_fill-requires-clause-filling c =
     let i = c.self.inside in
     let r : Request = request_of (flight_of c.in-Some.request) in
-    let e = known _ Fill c.args.finished _ r c.self.view_is c.in-Some.ensures in
+    let e = known _ Fill c.args.finished _ r (state_is c.self.view_is) c.in-Some.ensures in
     let ended = c.end.ensures.ended ∙ ap (λ (p : FinishedParts). flights.ended i.requests p.serial.0) c.into_parts-buffer.ensures in
     awaited_here i.geometry i.name i.handles i.pages i.blocks i.requests c.self.invariant c.args.finished r c.release.new.self c.end.new.self c.release.ensures ended e c.if-request.false
 
@@ -43,7 +44,7 @@ pub abandon_fill-requires-clause-filling : goal.abandon_fill-requires-clause-fil
 abandon_fill-requires-clause-filling c =
     let i = c.self.inside in
     let r : Request = request_of (flight_of c.in-Some.request) in
-    let e = known _ Fill c.args.finished _ r c.self.view_is c.in-Some.ensures in
+    let e = known _ Fill c.args.finished _ r (state_is c.self.view_is) c.in-Some.ensures in
     let ended = c.end.ensures.ended ∙ ap (λ (p : FinishedParts). flights.ended i.requests p.serial.0) c.into_parts-buffer.ensures in
     awaited_here i.geometry i.name i.handles i.pages i.blocks i.requests c.self.invariant c.args.finished r c.release.new.self c.end.new.self c.release.ensures ended e c.if-request.false
 
@@ -51,26 +52,26 @@ pub invariant_of-self-in-Ok : goal.invariant_of-self-in-Ok
 invariant_of-self-in-Ok c =
     let i = c.self.inside in
     let r : Request = request_of (flight_of c.in-Some.request) in
-    let e = known _ Fill c.args.finished _ r c.self.view_is c.in-Some.ensures in
+    let e = known _ Fill c.args.finished _ r (state_is c.self.view_is) c.in-Some.ensures in
     let ended = c.end.ensures.ended ∙ ap (λ (p : FinishedParts). flights.ended i.requests p.serial.0) c.into_parts-buffer.ensures in
     fill_done_core i.geometry i.name i.handles i.pages i.blocks i.requests c.self.invariant c.args.finished r c.release.new.self c.end.new.self c.release.ensures ended e c.if-request.false c.finish_fill.new.self
-    (c.requires.size ∙ ap (λ s. s.sizes.page) (sym c.self.view_is)) c.as_slice.result.now (c.as_slice.ensures ∙ ap (λ (p : FinishedParts). p.buffer) c.into_parts-buffer.ensures) c.finish_fill.ensures
+    (c.requires.size ∙ ap (λ s. s.sizes.page) (sym (state_is c.self.view_is))) c.as_slice.result.now (c.as_slice.ensures ∙ ap (λ (p : FinishedParts). p.buffer) c.into_parts-buffer.ensures) c.finish_fill.ensures
 
 pub returns-in-Ok-clause-step : goal.returns-in-Ok-clause-step
 returns-in-Ok-clause-step c =
     let i = c.self.inside in
     let r : Request = request_of (flight_of c.in-Some.request) in
-    let e = known _ Fill c.args.finished _ r c.self.view_is c.in-Some.ensures in
+    let e = known _ Fill c.args.finished _ r (state_is c.self.view_is) c.in-Some.ensures in
     let ended = c.end.ensures.ended ∙ ap (λ (p : FinishedParts). flights.ended i.requests p.serial.0) c.into_parts-buffer.ensures in
-    subst (λ s. Step s (event.FillEnd (end_of c.args.finished)) reply.Filled (now i.geometry i.name i.handles c.finish_fill.new.self c.release.new.self c.end.new.self)) c.self.view_is
+    subst (λ s. Step s (event.FillEnd (end_of c.args.finished)) reply.Filled (now i.geometry i.name i.handles c.finish_fill.new.self c.release.new.self c.end.new.self)) (state_is c.self.view_is)
     (fill_done_step i.geometry i.name i.handles i.pages i.blocks i.requests c.self.invariant c.args.finished r c.release.new.self c.end.new.self c.release.ensures ended e c.if-request.false c.finish_fill.new.self
-    (c.requires.size ∙ ap (λ s. s.sizes.page) (sym c.self.view_is)) c.as_slice.result.now (c.as_slice.ensures ∙ ap (λ (p : FinishedParts). p.buffer) c.into_parts-buffer.ensures) c.finish_fill.ensures (sym (ap (λ (p : FinishedParts). p.outcome) c.into_parts-buffer.ensures) ∙ c.in-Ok.is))
+    (c.requires.size ∙ ap (λ s. s.sizes.page) (sym (state_is c.self.view_is))) c.as_slice.result.now (c.as_slice.ensures ∙ ap (λ (p : FinishedParts). p.buffer) c.into_parts-buffer.ensures) c.finish_fill.ensures (sym (ap (λ (p : FinishedParts). p.outcome) c.into_parts-buffer.ensures) ∙ c.in-Ok.is))
 
 pub invariant_of-self-in-Err : goal.invariant_of-self-in-Err
 invariant_of-self-in-Err c =
     let i = c.self.inside in
     let r : Request = request_of (flight_of c.in-Some.request) in
-    let e = known _ Fill c.args.finished _ r c.self.view_is c.in-Some.ensures in
+    let e = known _ Fill c.args.finished _ r (state_is c.self.view_is) c.in-Some.ensures in
     let ended = c.end.ensures.ended ∙ ap (λ (p : FinishedParts). flights.ended i.requests p.serial.0) c.into_parts-buffer.ensures in
     fill_failed_core i.geometry i.name i.handles i.pages i.blocks i.requests c.self.invariant c.args.finished r c.release.new.self c.end.new.self c.release.ensures ended e c.if-request.false c.abandon_fill.new.self c.abandon_fill.ensures
 
@@ -78,8 +79,8 @@ pub returns-in-Err-clause-step : goal.returns-in-Err-clause-step
 returns-in-Err-clause-step c =
     let i = c.self.inside in
     let r : Request = request_of (flight_of c.in-Some.request) in
-    let e = known _ Fill c.args.finished _ r c.self.view_is c.in-Some.ensures in
+    let e = known _ Fill c.args.finished _ r (state_is c.self.view_is) c.in-Some.ensures in
     let ended = c.end.ensures.ended ∙ ap (λ (p : FinishedParts). flights.ended i.requests p.serial.0) c.into_parts-buffer.ensures in
-    subst (λ s. Step s (event.FillEnd (end_of c.args.finished)) (reply.Failed c.in-Err.code) (now i.geometry i.name i.handles c.abandon_fill.new.self c.release.new.self c.end.new.self)) c.self.view_is
+    subst (λ s. Step s (event.FillEnd (end_of c.args.finished)) (reply.Failed c.in-Err.code) (now i.geometry i.name i.handles c.abandon_fill.new.self c.release.new.self c.end.new.self)) (state_is c.self.view_is)
     (fill_failed_step i.geometry i.name i.handles i.pages i.blocks i.requests c.self.invariant c.args.finished r c.release.new.self c.end.new.self c.release.ensures ended e c.if-request.false c.abandon_fill.new.self c.abandon_fill.ensures c.in-Err.code
     (sym (ap (λ (p : FinishedParts). p.outcome) c.into_parts-buffer.ensures) ∙ c.in-Err.is))

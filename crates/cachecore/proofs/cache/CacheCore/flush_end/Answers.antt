@@ -12,13 +12,14 @@ use Rattle.cachecore.specs.Replies.{end_of}
 use Rattle.cachecore.proofs.EndSteps.{known}
 use Rattle.cachecore.proofs.EndCalls.{flush_dropped_core, flush_dropped_step, few_failures, flush_done_core, flush_done_step, flush_failed_invariant, flush_failed_step}
 use Rattle.cachecore.proofs.PartStates.{now}
+use Rattle.cachecore.proofs.CoreViews.{state_is}
 use Rattle.cachecore.proofs.cache.CacheCore.flush_end.Goals as goal
 
 pub invariant_of-self : goal.invariant_of-self
 invariant_of-self c =
     let i = c.self.inside in
     let r : Request = request_of (flight_of c.in-Some.request) in
-    let e = known _ Flush c.args.finished _ r c.self.view_is c.in-Some.ensures in
+    let e = known _ Flush c.args.finished _ r (state_is c.self.view_is) c.in-Some.ensures in
     let ended = c.end.ensures.ended ∙ ap (λ (p : FinishedParts). flights.ended i.requests p.serial.0) c.into_parts-buffer.ensures in
     flush_dropped_core i.geometry i.name i.handles i.pages i.blocks i.requests c.self.invariant c.args.finished r c.release.new.self c.end.new.self c.release.ensures ended e
 
@@ -26,16 +27,16 @@ pub returns-then-request-clause-step : goal.returns-then-request-clause-step
 returns-then-request-clause-step c =
     let i = c.self.inside in
     let r : Request = request_of (flight_of c.in-Some.request) in
-    let e = known _ Flush c.args.finished _ r c.self.view_is c.in-Some.ensures in
+    let e = known _ Flush c.args.finished _ r (state_is c.self.view_is) c.in-Some.ensures in
     let ended = c.end.ensures.ended ∙ ap (λ (p : FinishedParts). flights.ended i.requests p.serial.0) c.into_parts-buffer.ensures in
-    subst (λ s. Step s (event.FlushEnd (end_of c.args.finished)) reply.Dropped (now i.geometry i.name i.handles i.pages c.release.new.self c.end.new.self)) c.self.view_is
+    subst (λ s. Step s (event.FlushEnd (end_of c.args.finished)) reply.Dropped (now i.geometry i.name i.handles i.pages c.release.new.self c.end.new.self)) (state_is c.self.view_is)
     (flush_dropped_step i.geometry i.name i.handles i.pages i.blocks i.requests c.self.invariant c.args.finished r c.release.new.self c.end.new.self c.release.ensures ended e c.if-request.true)
 
 pub invariant_of-self-in-Ok : goal.invariant_of-self-in-Ok
 invariant_of-self-in-Ok c =
     let i = c.self.inside in
     let r : Request = request_of (flight_of c.in-Some.request) in
-    let e = known _ Flush c.args.finished _ r c.self.view_is c.in-Some.ensures in
+    let e = known _ Flush c.args.finished _ r (state_is c.self.view_is) c.in-Some.ensures in
     let ended = c.end.ensures.ended ∙ ap (λ (p : FinishedParts). flights.ended i.requests p.serial.0) c.into_parts-buffer.ensures in
     flush_done_core i.geometry i.name i.handles i.pages i.blocks i.requests c.self.invariant c.args.finished r e c.if-request.false c.end_write.new.self c.set_written.new.self c.end.new.self ended c.end_write.ensures c.release.new.self c.release.ensures c.set_written.ensures
 
@@ -43,16 +44,16 @@ pub returns-in-Ok-clause-step : goal.returns-in-Ok-clause-step
 returns-in-Ok-clause-step c =
     let i = c.self.inside in
     let r : Request = request_of (flight_of c.in-Some.request) in
-    let e = known _ Flush c.args.finished _ r c.self.view_is c.in-Some.ensures in
+    let e = known _ Flush c.args.finished _ r (state_is c.self.view_is) c.in-Some.ensures in
     let ended = c.end.ensures.ended ∙ ap (λ (p : FinishedParts). flights.ended i.requests p.serial.0) c.into_parts-buffer.ensures in
-    subst (λ s. Step s (event.FlushEnd (end_of c.args.finished)) reply.Written (now i.geometry i.name i.handles c.end_write.new.self c.set_written.new.self c.end.new.self)) c.self.view_is
+    subst (λ s. Step s (event.FlushEnd (end_of c.args.finished)) reply.Written (now i.geometry i.name i.handles c.end_write.new.self c.set_written.new.self c.end.new.self)) (state_is c.self.view_is)
     (flush_done_step i.geometry i.name i.handles i.pages i.blocks i.requests c.self.invariant c.args.finished r e c.if-request.false c.end_write.new.self c.set_written.new.self c.end.new.self ended c.end_write.ensures c.release.new.self c.release.ensures c.set_written.ensures (sym (ap (λ (p : FinishedParts). p.outcome) c.into_parts-buffer.ensures) ∙ c.in-Ok.is))
 
 pub note_failure-requires-clause-few : goal.note_failure-requires-clause-few
 note_failure-requires-clause-few c =
     let i = c.self.inside in
     let r : Request = request_of (flight_of c.in-Some.request) in
-    let e = known _ Flush c.args.finished _ r c.self.view_is c.in-Some.ensures in
+    let e = known _ Flush c.args.finished _ r (state_is c.self.view_is) c.in-Some.ensures in
     let ended = c.end.ensures.ended ∙ ap (λ (p : FinishedParts). flights.ended i.requests p.serial.0) c.into_parts-buffer.ensures in
     few_failures i.geometry i.name i.handles i.pages i.blocks i.requests c.self.invariant c.args.finished r e c.if-request.false c.end_write-in-Err.new.self c.end_write-in-Err.ensures
 
@@ -60,7 +61,7 @@ pub invariant_of-self-in-Err : goal.invariant_of-self-in-Err
 invariant_of-self-in-Err c =
     let i = c.self.inside in
     let r : Request = request_of (flight_of c.in-Some.request) in
-    let e = known _ Flush c.args.finished _ r c.self.view_is c.in-Some.ensures in
+    let e = known _ Flush c.args.finished _ r (state_is c.self.view_is) c.in-Some.ensures in
     let ended = c.end.ensures.ended ∙ ap (λ (p : FinishedParts). flights.ended i.requests p.serial.0) c.into_parts-buffer.ensures in
     flush_failed_invariant i.geometry i.name i.handles i.pages i.blocks i.requests c.self.invariant c.args.finished r e c.if-request.false c.note_failure.new.self c.release.new.self c.end.new.self ended c.in-Err.code _ (c.from.ensures ∙ c.code.ensures.value) c.end_write-in-Err.new.self c.end_write-in-Err.ensures c.note_failure.ensures c.release.ensures
 
@@ -68,7 +69,7 @@ pub returns-in-Err-clause-step : goal.returns-in-Err-clause-step
 returns-in-Err-clause-step c =
     let i = c.self.inside in
     let r : Request = request_of (flight_of c.in-Some.request) in
-    let e = known _ Flush c.args.finished _ r c.self.view_is c.in-Some.ensures in
+    let e = known _ Flush c.args.finished _ r (state_is c.self.view_is) c.in-Some.ensures in
     let ended = c.end.ensures.ended ∙ ap (λ (p : FinishedParts). flights.ended i.requests p.serial.0) c.into_parts-buffer.ensures in
-    subst (λ s. Step s (event.FlushEnd (end_of c.args.finished)) (reply.Failed c.in-Err.code) (now i.geometry i.name i.handles c.note_failure.new.self c.release.new.self c.end.new.self)) c.self.view_is
+    subst (λ s. Step s (event.FlushEnd (end_of c.args.finished)) (reply.Failed c.in-Err.code) (now i.geometry i.name i.handles c.note_failure.new.self c.release.new.self c.end.new.self)) (state_is c.self.view_is)
     (flush_failed_step i.geometry i.name i.handles i.pages i.blocks i.requests c.self.invariant c.args.finished r e c.if-request.false c.note_failure.new.self c.release.new.self c.end.new.self ended c.in-Err.code _ (c.from.ensures ∙ c.code.ensures.value) c.end_write-in-Err.new.self c.end_write-in-Err.ensures c.note_failure.ensures c.release.ensures (sym (ap (λ (p : FinishedParts). p.outcome) c.into_parts-buffer.ensures) ∙ c.in-Err.is))

@@ -10,47 +10,49 @@ use Rattle.cachecore.specs.declared.event.Reply.TheVariants as reply
 use Rattle.cachecore.specs.Step.{Step}
 use Rattle.cachecore.specs.Store.{Store}
 use Rattle.cachecore.specs.Tables.{IsCore, state_of}
+use Rattle.cachecore.proofs.CoreLemmas.{core-lists}
 use Rattle.cachecore.proofs.Spans.{in_order}
 use Rattle.cachecore.proofs.StepLemmas.{ReadFacts, read_too_long, stop_step, bytes_step, all_cached}
+use Rattle.cachecore.proofs.CoreViews.{state_is}
 use Rattle.cachecore.proofs.cache.CacheCore.read.Goals as goal
 
 pub returns-then-touched_count-gt-MAX_TOUCHED-clause-step : goal.returns-then-touched_count-gt-MAX_TOUCHED-clause-step
 returns-then-touched_count-gt-MAX_TOUCHED-clause-step c =
     let known : c.in-Some.file < length c.self.inside.pages.files = c.self.invariant.known c.args.handle.0 c.in-Some.file (sym c.in-Some.ensures) in
-    let facts : ReadFacts c.args.self.now c.args.handle c.args.offset (length c.args.out.now) c.in-Some.file c.page-page_size.result c.min-count.result (slice_index_or c.self.inside.pages.files c.in-Some.file no_file) = record {
-      found = c.in-Some.ensures ∙ ap (λ s. map.get s.handles c.args.handle.0) c.self.view_is;
-      page = c.page-page_size.ensures.value ∙ ap (λ s. s.sizes.page) c.self.view_is;
-      entry_is = ap (λ s. file_at s c.in-Some.file) c.self.view_is;
+    let facts : ReadFacts c.args.self.now.state c.args.handle c.args.offset (length c.args.out.now) c.in-Some.file c.page-page_size.result c.min-count.result (slice_index_or c.self.inside.pages.files c.in-Some.file no_file) = record {
+      found = c.in-Some.ensures ∙ ap (λ s. map.get s.handles c.args.handle.0) (state_is c.self.view_is);
+      page = c.page-page_size.ensures.value ∙ ap (λ s. s.sizes.page) (state_is c.self.view_is);
+      entry_is = ap (λ s. file_at s c.in-Some.file) (state_is c.self.view_is);
       count_is = omega (arith, c.min-count.ensures, c.saturating_sub-left.ensures, c.size.ensures);
       some = omega arith;
     } in
-    read_too_long c.args.self.now c.args.handle c.args.offset (length c.args.out.now) c.in-Some.file c.page-page_size.result c.min-count.result (slice_index_or c.self.inside.pages.files c.in-Some.file no_file) facts (omega (arith, c.touched_count.ensures))
+    read_too_long c.args.self.now.state c.args.handle c.args.offset (length c.args.out.now) c.in-Some.file c.page-page_size.result c.min-count.result (slice_index_or c.self.inside.pages.files c.in-Some.file no_file) facts (omega (arith, c.touched_count.ensures))
 
 pub returns-then-is_filling-clause-step : goal.returns-then-is_filling-clause-step
 returns-then-is_filling-clause-step c =
     let known : c.in-Some.file < length c.self.inside.pages.files = c.self.invariant.known c.args.handle.0 c.in-Some.file (sym c.in-Some.ensures) in
-    let facts : ReadFacts c.args.self.now c.args.handle c.args.offset (length c.args.out.now) c.in-Some.file c.page-page_size.result c.min-count.result (slice_index_or c.self.inside.pages.files c.in-Some.file no_file) = record {
-      found = c.in-Some.ensures ∙ ap (λ s. map.get s.handles c.args.handle.0) c.self.view_is;
-      page = c.page-page_size.ensures.value ∙ ap (λ s. s.sizes.page) c.self.view_is;
-      entry_is = ap (λ s. file_at s c.in-Some.file) c.self.view_is;
+    let facts : ReadFacts c.args.self.now.state c.args.handle c.args.offset (length c.args.out.now) c.in-Some.file c.page-page_size.result c.min-count.result (slice_index_or c.self.inside.pages.files c.in-Some.file no_file) = record {
+      found = c.in-Some.ensures ∙ ap (λ s. map.get s.handles c.args.handle.0) (state_is c.self.view_is);
+      page = c.page-page_size.ensures.value ∙ ap (λ s. s.sizes.page) (state_is c.self.view_is);
+      entry_is = ap (λ s. file_at s c.in-Some.file) (state_is c.self.view_is);
       count_is = omega (arith, c.min-count.ensures, c.saturating_sub-left.ensures, c.size.ensures);
       some = omega arith;
     } in
     let short : touched_count c.page-page_size.result c.args.offset c.min-count.result ≤ MAX_TOUCHED = omega (arith, c.touched_count.ensures) in
-    stop_step c.args.self.now c.args.handle c.args.offset (length c.args.out.now) c.in-Some.file c.page-page_size.result c.min-count.result (slice_index_or c.self.inside.pages.files c.in-Some.file no_file) facts short c.in-Some-first_absent.page true (sym c.if-is_filling.true ∙ c.is_filling.ensures) c.in-Some-first_absent.ensures
+    stop_step c.args.self.now.state c.args.handle c.args.offset (length c.args.out.now) c.in-Some.file c.page-page_size.result c.min-count.result (slice_index_or c.self.inside.pages.files c.in-Some.file no_file) facts short c.in-Some-first_absent.page true (sym c.if-is_filling.true ∙ c.is_filling.ensures) c.in-Some-first_absent.ensures
 
 pub returns-in-Some-first_absent-clause-step : goal.returns-in-Some-first_absent-clause-step
 returns-in-Some-first_absent-clause-step c =
     let known : c.in-Some.file < length c.self.inside.pages.files = c.self.invariant.known c.args.handle.0 c.in-Some.file (sym c.in-Some.ensures) in
-    let facts : ReadFacts c.args.self.now c.args.handle c.args.offset (length c.args.out.now) c.in-Some.file c.page-page_size.result c.min-count.result (slice_index_or c.self.inside.pages.files c.in-Some.file no_file) = record {
-      found = c.in-Some.ensures ∙ ap (λ s. map.get s.handles c.args.handle.0) c.self.view_is;
-      page = c.page-page_size.ensures.value ∙ ap (λ s. s.sizes.page) c.self.view_is;
-      entry_is = ap (λ s. file_at s c.in-Some.file) c.self.view_is;
+    let facts : ReadFacts c.args.self.now.state c.args.handle c.args.offset (length c.args.out.now) c.in-Some.file c.page-page_size.result c.min-count.result (slice_index_or c.self.inside.pages.files c.in-Some.file no_file) = record {
+      found = c.in-Some.ensures ∙ ap (λ s. map.get s.handles c.args.handle.0) (state_is c.self.view_is);
+      page = c.page-page_size.ensures.value ∙ ap (λ s. s.sizes.page) (state_is c.self.view_is);
+      entry_is = ap (λ s. file_at s c.in-Some.file) (state_is c.self.view_is);
       count_is = omega (arith, c.min-count.ensures, c.saturating_sub-left.ensures, c.size.ensures);
       some = omega arith;
     } in
     let short : touched_count c.page-page_size.result c.args.offset c.min-count.result ≤ MAX_TOUCHED = omega (arith, c.touched_count.ensures) in
-    stop_step c.args.self.now c.args.handle c.args.offset (length c.args.out.now) c.in-Some.file c.page-page_size.result c.min-count.result (slice_index_or c.self.inside.pages.files c.in-Some.file no_file) facts short c.in-Some-first_absent.page false (sym c.if-is_filling.false ∙ c.is_filling.ensures) c.in-Some-first_absent.ensures
+    stop_step c.args.self.now.state c.args.handle c.args.offset (length c.args.out.now) c.in-Some.file c.page-page_size.result c.min-count.result (slice_index_or c.self.inside.pages.files c.in-Some.file no_file) facts short c.in-Some-first_absent.page false (sym c.if-is_filling.false ∙ c.is_filling.ensures) c.in-Some-first_absent.ensures
 
 pub read-requires-clause-bound : goal.read-requires-clause-bound
 read-requires-clause-bound c =
@@ -78,18 +80,18 @@ pub returns-clause-step : goal.returns-clause-step
 returns-clause-step c =
     let known : c.in-Some.file < length c.self.inside.pages.files = c.self.invariant.known c.args.handle.0 c.in-Some.file (sym c.in-Some.ensures) in
     let count = c.min-count.result in
-    let facts : ReadFacts c.args.self.now c.args.handle c.args.offset (length c.args.out.now) c.in-Some.file c.page-page_size.result count (slice_index_or c.self.inside.pages.files c.in-Some.file no_file) = record {
-      found = c.in-Some.ensures ∙ ap (λ s. map.get s.handles c.args.handle.0) c.self.view_is;
-      page = c.page-page_size.ensures.value ∙ ap (λ s. s.sizes.page) c.self.view_is;
-      entry_is = ap (λ s. file_at s c.in-Some.file) c.self.view_is;
+    let facts : ReadFacts c.args.self.now.state c.args.handle c.args.offset (length c.args.out.now) c.in-Some.file c.page-page_size.result count (slice_index_or c.self.inside.pages.files c.in-Some.file no_file) = record {
+      found = c.in-Some.ensures ∙ ap (λ s. map.get s.handles c.args.handle.0) (state_is c.self.view_is);
+      page = c.page-page_size.ensures.value ∙ ap (λ s. s.sizes.page) (state_is c.self.view_is);
+      entry_is = ap (λ s. file_at s c.in-Some.file) (state_is c.self.view_is);
       count_is = omega (arith, c.min-count.ensures, c.saturating_sub-left.ensures, c.size.ensures);
       some = omega arith;
     } in
     let short : touched_count c.page-page_size.result c.args.offset count ≤ MAX_TOUCHED = omega (arith, c.touched_count.ensures) in
     let size : length c.read.new.out ≡ count = omega (arith, length-take count c.args.out.now, c.min-count.ensures) in
-    let done = bytes_step c.args.self.now c.args.handle c.args.offset (length c.args.out.now) c.in-Some.file c.page-page_size.result count (slice_index_or c.self.inside.pages.files c.in-Some.file no_file) facts short c.read.new.out (drop count c.args.out.now) c.in_default-first_absent.ensures size
+    let done = bytes_step c.args.self.now.state c.args.handle c.args.offset (length c.args.out.now) c.in-Some.file c.page-page_size.result count (slice_index_or c.self.inside.pages.files c.in-Some.file no_file) facts short c.read.new.out (drop count c.args.out.now) c.in_default-first_absent.ensures size
     (subst (λ (n : ℕ). AreRead c.page-page_size.result c.args.offset (slice_index_or c.self.inside.pages.files c.in-Some.file no_file).pages n c.read.new.out) size c.read.ensures.read) in
-    subst (λ (s : State). Step c.args.self.now (event.Read c.args.handle c.args.offset (length c.args.out.now)) (reply.Bytes (take count (c.read.new.out ++ drop count c.args.out.now))) s) (sym (ap (λ (p : Store). state_of c.self.inside.geometry c.self.inside.name p.files c.self.inside.handles c.self.inside.blocks c.self.inside.requests) c.read.ensures.same ∙ c.self.view_is)) done
+    subst (λ (s : State). Step c.args.self.now.state (event.Read c.args.handle c.args.offset (length c.args.out.now)) (reply.Bytes (take count (c.read.new.out ++ drop count c.args.out.now))) s) (sym (ap (λ (p : Store). state_of c.self.inside.geometry c.self.inside.name p.files c.self.inside.handles c.self.inside.blocks c.self.inside.requests) c.read.ensures.moved ∙ (state_is c.self.view_is))) done
 
 pub size-requires : goal.size-requires
 size-requires c = c.self.invariant.known c.args.handle.0 c.in-Some.file (sym c.in-Some.ensures)
@@ -106,4 +108,4 @@ read-requires-clause-page c = c.page-page_size.ensures.value ∙ sym c.self.inva
 pub invariant_of-self : goal.invariant_of-self
 invariant_of-self c =
     let a = c.self.inside in
-    subst (λ (p : Store). IsCore (state_of a.geometry a.name p.files a.handles a.blocks a.requests) p a.blocks) (sym c.read.ensures.same) c.self.invariant
+    subst (λ (p : Store). IsCore (state_of a.geometry a.name p.files a.handles a.blocks a.requests) p a.blocks) (sym c.read.ensures.moved) (core-lists (state_of a.geometry a.name a.pages.files a.handles a.blocks a.requests) a.pages a.blocks c.self.invariant _)

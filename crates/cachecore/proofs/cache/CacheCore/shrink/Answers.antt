@@ -10,12 +10,13 @@ use Rattle.cachecore.specs.Store.{with_pages}
 use Rattle.cachecore.specs.Tables.{IsCore, state_of}
 use Rattle.cachecore.proofs.CutPages.{tail_into, tail_whole}
 use Rattle.cachecore.proofs.CutSteps.{ShrinkSteps, core-shrunk, shrunk_state}
+use Rattle.cachecore.proofs.CoreViews.{state_is}
 use Rattle.cachecore.proofs.cache.CacheCore.shrink.Goals as goal
 use Rattle.cachecore.proofs.cache.CacheCore.shrink.Goals.{in-Some, in_default}
 
 pub cut_tail-requires-clause-place : goal.cut_tail-requires-clause-place
 cut_tail-requires-clause-place c =
-    let count = ap (λ (s : State). length s.files) c.self.view_is in
+    let count = ap (λ (s : State). length s.files) (state_is c.self.view_is) in
     record { file = omega (arith, count, c.requires.here, c.self.invariant.few_files); page = omega (arith, c.in-Some.ensures.below) }
 
 pub invariant_of-self : goal.invariant_of-self
@@ -32,7 +33,7 @@ invariant_of-self c =
         ap (λ x. x.handles) w.self-inside-is,
         ap (λ x. x.blocks) w.self-inside-is,
         ap (λ x. x.requests) w.self-inside-is,
-        ap (λ x. x.pages) w.self-inside-is ∙ tail_into s f z a.pages refl w.in-Some.page (z % c.page-page_size.result) c.page-page_size.result w.cut_tail.new.pages (w.in-Some.ensures.page ∙ ap (λ x. boundary x f z) (sym c.self.view_is)) c.self.invariant.page c.page-page_size.ensures.value refl w.cut_tail.ensures,
+        ap (λ x. x.pages) w.self-inside-is ∙ tail_into s f z a.pages refl w.in-Some.page (z % c.page-page_size.result) c.page-page_size.result w.cut_tail.new.pages (w.in-Some.ensures.page ∙ ap (λ x. boundary x f z) (sym (state_is c.self.view_is))) c.self.invariant.page c.page-page_size.ensures.value refl w.cut_tail.ensures,
       )
       | in_default w ↦ (
         ap (λ x. x.geometry) w.self-inside-is,
@@ -40,22 +41,22 @@ invariant_of-self c =
         ap (λ x. x.handles) w.self-inside-is,
         ap (λ x. x.blocks) w.self-inside-is,
         ap (λ x. x.requests) w.self-inside-is,
-        ap (λ x. x.pages) w.self-inside-is ∙ tail_whole s f z a.pages refl (w.in_default.ensures.page ∙ ap (λ x. boundary x f z) (sym c.self.view_is)),
+        ap (λ x. x.pages) w.self-inside-is ∙ tail_whole s f z a.pages refl (w.in_default.ensures.page ∙ ap (λ x. boundary x f z) (sym (state_is c.self.view_is))),
       )
     ] in
-    let count = ap (λ (s : State). length s.files) c.self.view_is in
+    let count = ap (λ (s : State). length s.files) (state_is c.self.view_is) in
     let pages : c.page_count-end_page.result ≡ page_count a.geometry.page z = c.page_count-end_page.ensures ∙ ap (λ P. page_count P z) c.page-page_size.ensures.value in
     let steps : ShrinkSteps s f z a.pages m.pages c.remove_from.new.self c.set_size.new.self = record { here = omega (arith, count, c.requires.here); files = refl; is_cut = parts.5; is_freed = subst (λ n. RemovesFrom m.pages c.remove_from.new.self f n) pages c.remove_from.ensures; is_sized = c.set_size.ensures } in
     let cuts : CutsFrom a.blocks c.cut_from.new.self f (page_count a.geometry.page z) = subst (λ (b : Blocks). CutsFrom b c.cut_from.new.self f (page_count a.geometry.page z)) parts.3 (subst (λ n. CutsFrom m.blocks c.cut_from.new.self f n) pages c.cut_from.ensures) in
     let drops : c.drop_from.new.self ≡ record a.requests { requests = flights.each_value (flights.cut_flight f (page_count a.geometry.page z)) a.requests.requests } =
     c.drop_from.ensures ∙ (λ i. let t : Flights = parts.4 i in record t { requests = flights.each_value (flights.cut_flight f (pages i)) t.requests }) in
-    let size = ap (λ (s : State). (file_at s f).size) c.self.view_is in
+    let size = ap (λ (s : State). (file_at s f).size) (state_is c.self.view_is) in
     let small : z ≤ MAX_FILE_SIZE = omega (arith, size, c.requires.fewer, c.self.invariant.bounded f) in
     subst (λ x. IsCore x c.set_size.new.self c.cut_from.new.self) (λ i. state_of (sym parts.0 i) (sym parts.1 i) c.set_size.new.self.files (sym parts.2 i) c.cut_from.new.self c.drop_from.new.self)
     (core-shrunk a.geometry a.name f z a.handles a.pages m.pages c.remove_from.new.self c.set_size.new.self a.blocks c.cut_from.new.self a.requests c.drop_from.new.self steps cuts drops c.self.invariant small)
 
-pub returns : goal.returns
-returns c =
+pub returns-clause-state : goal.returns-clause-state
+returns-clause-state c =
     let a = c.self.inside in
     let m = c.match-boundary.self-inside in
     let f = c.args.file in
@@ -68,7 +69,7 @@ returns c =
         ap (λ x. x.handles) w.self-inside-is,
         ap (λ x. x.blocks) w.self-inside-is,
         ap (λ x. x.requests) w.self-inside-is,
-        ap (λ x. x.pages) w.self-inside-is ∙ tail_into s f z a.pages refl w.in-Some.page (z % c.page-page_size.result) c.page-page_size.result w.cut_tail.new.pages (w.in-Some.ensures.page ∙ ap (λ x. boundary x f z) (sym c.self.view_is)) c.self.invariant.page c.page-page_size.ensures.value refl w.cut_tail.ensures,
+        ap (λ x. x.pages) w.self-inside-is ∙ tail_into s f z a.pages refl w.in-Some.page (z % c.page-page_size.result) c.page-page_size.result w.cut_tail.new.pages (w.in-Some.ensures.page ∙ ap (λ x. boundary x f z) (sym (state_is c.self.view_is))) c.self.invariant.page c.page-page_size.ensures.value refl w.cut_tail.ensures,
       )
       | in_default w ↦ (
         ap (λ x. x.geometry) w.self-inside-is,
@@ -76,10 +77,10 @@ returns c =
         ap (λ x. x.handles) w.self-inside-is,
         ap (λ x. x.blocks) w.self-inside-is,
         ap (λ x. x.requests) w.self-inside-is,
-        ap (λ x. x.pages) w.self-inside-is ∙ tail_whole s f z a.pages refl (w.in_default.ensures.page ∙ ap (λ x. boundary x f z) (sym c.self.view_is)),
+        ap (λ x. x.pages) w.self-inside-is ∙ tail_whole s f z a.pages refl (w.in_default.ensures.page ∙ ap (λ x. boundary x f z) (sym (state_is c.self.view_is))),
       )
     ] in
-    let count = ap (λ (s : State). length s.files) c.self.view_is in
+    let count = ap (λ (s : State). length s.files) (state_is c.self.view_is) in
     let pages : c.page_count-end_page.result ≡ page_count a.geometry.page z = c.page_count-end_page.ensures ∙ ap (λ P. page_count P z) c.page-page_size.ensures.value in
     let steps : ShrinkSteps s f z a.pages m.pages c.remove_from.new.self c.set_size.new.self = record { here = omega (arith, count, c.requires.here); files = refl; is_cut = parts.5; is_freed = subst (λ n. RemovesFrom m.pages c.remove_from.new.self f n) pages c.remove_from.ensures; is_sized = c.set_size.ensures } in
     let cuts : CutsFrom a.blocks c.cut_from.new.self f (page_count a.geometry.page z) = subst (λ (b : Blocks). CutsFrom b c.cut_from.new.self f (page_count a.geometry.page z)) parts.3 (subst (λ n. CutsFrom m.blocks c.cut_from.new.self f n) pages c.cut_from.ensures) in
@@ -87,4 +88,4 @@ returns c =
     c.drop_from.ensures ∙ (λ i. let t : Flights = parts.4 i in record t { requests = flights.each_value (flights.cut_flight f (pages i)) t.requests }) in
     (λ i. state_of (parts.0 i) (parts.1 i) c.set_size.new.self.files (parts.2 i) c.cut_from.new.self c.drop_from.new.self)
     ∙ shrunk_state a.geometry a.name f z a.handles a.pages m.pages c.remove_from.new.self c.set_size.new.self a.blocks c.cut_from.new.self a.requests c.drop_from.new.self steps cuts drops
-    ∙ ap (λ x. shrunk x f z) c.self.view_is
+    ∙ ap (λ x. shrunk x f z) (state_is c.self.view_is)

@@ -8,36 +8,37 @@ use Rattle.cachecore.specs.State.{touched_count}
 use Rattle.cachecore.specs.Step.{Step}
 use Rattle.cachecore.specs.Replies.{wrote}
 use Rattle.cachecore.proofs.StepLemmas.{err_is, write_stopped, write_passed, write_no_room, write_no_memory, write_step}
+use Rattle.cachecore.proofs.CoreViews.{state_is}
 use Rattle.cachecore.proofs.cache.CacheCore.write.Goals as goal
 
-pub returns-then-is_filling : goal.returns-then-is_filling
-returns-then-is_filling c =
-    let s = c.args.self.now in
-    let found = c.in-Some.ensures ∙ ap (λ s. map.get s.handles c.args.handle.0) c.self.view_is in
+pub returns-then-is_filling-clause-step : goal.returns-then-is_filling-clause-step
+returns-then-is_filling-clause-step c =
+    let s = c.args.self.now.state in
+    let found = c.in-Some.ensures ∙ ap (λ s. map.get s.handles c.args.handle.0) (state_is c.self.view_is) in
     let some : 0 < length c.args.bytes.now = omega arith in
-    let page = c.page.ensures.value ∙ ap (λ s. s.sizes.page) c.self.view_is in
+    let page = c.page.ensures.value ∙ ap (λ s. s.sizes.page) (state_is c.self.view_is) in
     let few : touched_count c.page.result c.args.offset (length c.args.bytes.now) ≤ MAX_TOUCHED = omega (arith, c.touched_count.ensures) in
     let short : touched_count s.sizes.page c.args.offset (length c.args.bytes.now) ≤ MAX_TOUCHED = subst (λ n. touched_count n c.args.offset (length c.args.bytes.now) ≤ MAX_TOUCHED) page few in
     let small : c.args.offset + length c.args.bytes.now ≤ MAX_FILE_SIZE = omega (arith, c.saturating_add-end.ensures) in
     write_stopped s c.args.handle c.args.offset c.in-Some.file c.args.bytes.now found some short small c.in-Some-write_stop.page true (sym c.if-is_filling.true ∙ c.is_filling.ensures) c.in-Some-write_stop.ensures
 
-pub returns-in-Some-write_stop : goal.returns-in-Some-write_stop
-returns-in-Some-write_stop c =
-    let s = c.args.self.now in
-    let found = c.in-Some.ensures ∙ ap (λ s. map.get s.handles c.args.handle.0) c.self.view_is in
+pub returns-in-Some-write_stop-clause-step : goal.returns-in-Some-write_stop-clause-step
+returns-in-Some-write_stop-clause-step c =
+    let s = c.args.self.now.state in
+    let found = c.in-Some.ensures ∙ ap (λ s. map.get s.handles c.args.handle.0) (state_is c.self.view_is) in
     let some : 0 < length c.args.bytes.now = omega arith in
-    let page = c.page.ensures.value ∙ ap (λ s. s.sizes.page) c.self.view_is in
+    let page = c.page.ensures.value ∙ ap (λ s. s.sizes.page) (state_is c.self.view_is) in
     let few : touched_count c.page.result c.args.offset (length c.args.bytes.now) ≤ MAX_TOUCHED = omega (arith, c.touched_count.ensures) in
     let short : touched_count s.sizes.page c.args.offset (length c.args.bytes.now) ≤ MAX_TOUCHED = subst (λ n. touched_count n c.args.offset (length c.args.bytes.now) ≤ MAX_TOUCHED) page few in
     let small : c.args.offset + length c.args.bytes.now ≤ MAX_FILE_SIZE = omega (arith, c.saturating_add-end.ensures) in
     write_stopped s c.args.handle c.args.offset c.in-Some.file c.args.bytes.now found some short small c.in-Some-write_stop.page false (sym c.if-is_filling.false ∙ c.is_filling.ensures) c.in-Some-write_stop.ensures
 
-pub returns-in_err-check_room : goal.returns-in_err-check_room
-returns-in_err-check_room c =
-    let s = c.args.self.now in
-    let found = c.in-Some.ensures ∙ ap (λ s. map.get s.handles c.args.handle.0) c.self.view_is in
+pub returns-in_err-check_room-clause-step : goal.returns-in_err-check_room-clause-step
+returns-in_err-check_room-clause-step c =
+    let s = c.args.self.now.state in
+    let found = c.in-Some.ensures ∙ ap (λ s. map.get s.handles c.args.handle.0) (state_is c.self.view_is) in
     let some : 0 < length c.args.bytes.now = omega arith in
-    let page = c.page.ensures.value ∙ ap (λ s. s.sizes.page) c.self.view_is in
+    let page = c.page.ensures.value ∙ ap (λ s. s.sizes.page) (state_is c.self.view_is) in
     let few : touched_count c.page.result c.args.offset (length c.args.bytes.now) ≤ MAX_TOUCHED = omega (arith, c.touched_count.ensures) in
     let short : touched_count s.sizes.page c.args.offset (length c.args.bytes.now) ≤ MAX_TOUCHED = subst (λ n. touched_count n c.args.offset (length c.args.bytes.now) ≤ MAX_TOUCHED) page few in
     let small : c.args.offset + length c.args.bytes.now ≤ MAX_FILE_SIZE = omega (arith, c.saturating_add-end.ensures) in
@@ -46,34 +47,34 @@ returns-in_err-check_room c =
 
 pub write_pages-requires-clause-passed : goal.write_pages-requires-clause-passed
 write_pages-requires-clause-passed c =
-    let s = c.args.self.now in
-    let found = c.in-Some.ensures ∙ ap (λ s. map.get s.handles c.args.handle.0) c.self.view_is in
+    let s = c.args.self.now.state in
+    let found = c.in-Some.ensures ∙ ap (λ s. map.get s.handles c.args.handle.0) (state_is c.self.view_is) in
     let some : 0 < length c.args.bytes.now = omega arith in
-    let page = c.page.ensures.value ∙ ap (λ s. s.sizes.page) c.self.view_is in
+    let page = c.page.ensures.value ∙ ap (λ s. s.sizes.page) (state_is c.self.view_is) in
     let few : touched_count c.page.result c.args.offset (length c.args.bytes.now) ≤ MAX_TOUCHED = omega (arith, c.touched_count.ensures) in
     let short : touched_count s.sizes.page c.args.offset (length c.args.bytes.now) ≤ MAX_TOUCHED = subst (λ n. touched_count n c.args.offset (length c.args.bytes.now) ≤ MAX_TOUCHED) page few in
     let small : c.args.offset + length c.args.bytes.now ≤ MAX_FILE_SIZE = omega (arith, c.saturating_add-end.ensures) in
     (c.args.handle.0, ap (λ o. unwrap_or o 0) (sym found), write_passed s c.args.handle c.args.offset c.in-Some.file c.args.bytes.now found some short small c.in_default-write_stop.ensures c.in_ok-check_room.ensures)
 
-pub returns-in_err-write_pages : goal.returns-in_err-write_pages
-returns-in_err-write_pages c =
-    let s = c.args.self.now in
-    let found = c.in-Some.ensures ∙ ap (λ s. map.get s.handles c.args.handle.0) c.self.view_is in
+pub returns-in_err-write_pages-clause-step : goal.returns-in_err-write_pages-clause-step
+returns-in_err-write_pages-clause-step c =
+    let s = c.args.self.now.state in
+    let found = c.in-Some.ensures ∙ ap (λ s. map.get s.handles c.args.handle.0) (state_is c.self.view_is) in
     let some : 0 < length c.args.bytes.now = omega arith in
-    let page = c.page.ensures.value ∙ ap (λ s. s.sizes.page) c.self.view_is in
+    let page = c.page.ensures.value ∙ ap (λ s. s.sizes.page) (state_is c.self.view_is) in
     let few : touched_count c.page.result c.args.offset (length c.args.bytes.now) ≤ MAX_TOUCHED = omega (arith, c.touched_count.ensures) in
     let short : touched_count s.sizes.page c.args.offset (length c.args.bytes.now) ≤ MAX_TOUCHED = subst (λ n. touched_count n c.args.offset (length c.args.bytes.now) ≤ MAX_TOUCHED) page few in
     let small : c.args.offset + length c.args.bytes.now ≤ MAX_FILE_SIZE = omega (arith, c.saturating_add-end.ensures) in
-    subst (λ r. Step s (event.Write c.args.handle c.args.offset c.args.bytes.now) (wrote r) c.write_pages.new.self) (sym (err_is c.from_residual-in_err-write_pages.result Memory c.from_residual-in_err-write_pages.ensures.1))
-    (write_no_memory s c.args.handle c.args.offset c.in-Some.file c.args.bytes.now found some short small c.in_default-write_stop.ensures c.write_pages.new.self c.in_ok-check_room.ensures c.in_err-write_pages.ensures.err)
+    subst (λ r. Step s (event.Write c.args.handle c.args.offset c.args.bytes.now) (wrote r) c.write_pages.new.self.state) (sym (err_is c.from_residual-in_err-write_pages.result Memory c.from_residual-in_err-write_pages.ensures.1))
+    (write_no_memory s c.args.handle c.args.offset c.in-Some.file c.args.bytes.now found some short small c.in_default-write_stop.ensures c.write_pages.new.self.state c.in_ok-check_room.ensures (state_is c.in_err-write_pages.ensures.err))
 
-pub returns : goal.returns
-returns c =
-    let s = c.args.self.now in
-    let found = c.in-Some.ensures ∙ ap (λ s. map.get s.handles c.args.handle.0) c.self.view_is in
+pub returns-clause-step : goal.returns-clause-step
+returns-clause-step c =
+    let s = c.args.self.now.state in
+    let found = c.in-Some.ensures ∙ ap (λ s. map.get s.handles c.args.handle.0) (state_is c.self.view_is) in
     let some : 0 < length c.args.bytes.now = omega arith in
-    let page = c.page.ensures.value ∙ ap (λ s. s.sizes.page) c.self.view_is in
+    let page = c.page.ensures.value ∙ ap (λ s. s.sizes.page) (state_is c.self.view_is) in
     let few : touched_count c.page.result c.args.offset (length c.args.bytes.now) ≤ MAX_TOUCHED = omega (arith, c.touched_count.ensures) in
     let short : touched_count s.sizes.page c.args.offset (length c.args.bytes.now) ≤ MAX_TOUCHED = subst (λ n. touched_count n c.args.offset (length c.args.bytes.now) ≤ MAX_TOUCHED) page few in
     let small : c.args.offset + length c.args.bytes.now ≤ MAX_FILE_SIZE = omega (arith, c.saturating_add-end.ensures) in
-    write_step s c.args.handle c.args.offset c.in-Some.file c.args.bytes.now found some short small c.in_default-write_stop.ensures _ _ c.write_pages.new.self c.in_ok-check_room.ensures refl (omega (arith, c.saturating_add-end.ensures)) c.in_ok-write_pages.ensures.ok
+    write_step s c.args.handle c.args.offset c.in-Some.file c.args.bytes.now found some short small c.in_default-write_stop.ensures _ _ c.write_pages.new.self.state c.in_ok-check_room.ensures refl (omega (arith, c.saturating_add-end.ensures)) c.in_ok-write_pages.ensures.ok

@@ -1,7 +1,8 @@
 use Rattle.std.proofs.Common.{arith, ap, sym, subst, ◌∙◌, ◌≡◌, ◌+◌, ◌≤◌}
 use Rattle.std.specs.Prelude.{is_some}
 use Rattle.std.specs.FinMap as map
-use Rattle.cachecore.specs.Store.{Store, stored_at, stored_page, with_pages}
+use Rattle.cachecore.specs.PageLists.{left}
+use Rattle.cachecore.specs.Store.{Store, stored_at, stored_page, with_pages, with_lists}
 use Rattle.cachecore.proofs.PairLemmas.{on_ok}
 use Rattle.cachecore.proofs.StepLemmas.{when_err, when_ok}
 use Rattle.cachecore.proofs.RangeLemmas.{ne_less, none_of, room_some, on_err_of, room_past, mid_here, mid_room, mid_cached, mid_idle, made_more, unmade}
@@ -61,7 +62,7 @@ returns-then-is_err-clause-err t c =
     let room = room_some old f first end less gone c.requires.room in
     let is = c.in_ok-make.ensures.ok in
     let same : c.cover-rest.new.self ≡ mid = when_err c.cover-rest.result _ c.if-is_err.ensures.value c.cover-rest.ensures.err in
-    on_err_of c.cover-rest.result _ (unmade f first end old less c.requires.here gone room mid is c.remove.new.self (c.remove.ensures ∙ ap (λ (s : Store). with_pages s f (map.remove (stored_at s f).pages first) (s.free + 1)) same))
+    on_err_of c.cover-rest.result _ (unmade f first end old less c.requires.here gone room mid is c.make.ensures.unlisted c.remove.new.self (c.remove.ensures ∙ ap (λ (s : Store). with_lists (with_pages s f (map.remove (stored_at s f).pages first) (s.free + 1)) (left f first s.lists)) same))
 
 pub returns-else-is_err-clause-made : goal.returns-else-is_err-clause-made
 returns-else-is_err-clause-made t c =

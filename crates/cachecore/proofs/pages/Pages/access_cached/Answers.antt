@@ -1,20 +1,21 @@
-use Rattle.std.proofs.Common.{arith, ap, refl, ◌∙◌, length}
-use Rattle.cachecore.specs.Store.{Store}
+use Rattle.std.proofs.Common.{true, false, sym, ap, ◌∙◌, ◌+◌}
+use Rattle.cachecore.specs.PageLists.{accessed}
+use Rattle.cachecore.specs.Store.{Store, with_lists}
+use Rattle.cachecore.proofs.Accesses.{flagged_next}
 use Rattle.cachecore.proofs.pages.Pages.access_cached.Goals as goal
-use Rattle.cachecore.proofs.pages.Pages.access_cached.Goals.{then-was_cached, else-was_cached}
+use Rattle.cachecore.proofs.pages.Pages.access_cached.Goals.{then-cached-at, else-cached-at}
 
-pub loop-was_cached-init : goal.loop-was_cached-init
-loop-was_cached-init c = refl
-
-pub access-requires : goal.access-requires
-access-requires c = omega (arith, c.requires.here, ap (λ (s : Store). length s.files) c.loop-was_cached.invariant)
-
-pub loop-was_cached-preserved : goal.loop-was_cached-preserved
-loop-was_cached-preserved c =
-    elim c.if-was_cached.branch [
-      | then-was_cached w ↦ w.self-is ∙ w.access.ensures ∙ c.loop-was_cached.invariant
-      | else-was_cached w ↦ w.self-is ∙ c.loop-was_cached.invariant
+pub loop-at-preserved : goal.loop-at-preserved
+loop-at-preserved c =
+    let old = c.args.self.now in
+    let f = c.args.file in
+    let at = c.loop-at.at in
+    elim c.if-cached-at.branch [
+      | then-cached-at w ↦
+          w.self-is ∙ w.access.ensures
+          ∙ ap (λ (s : Store). with_lists s (accessed f (c.args.first + at) s.lists)) c.loop-at.invariant
+          ∙ ap (with_lists old) (sym (flagged_next f c.args.first at c.args.cached.now old.lists c.loop-at-test.true true w.if-cached-at.true))
+      | else-cached-at w ↦
+          w.self-is ∙ c.loop-at.invariant
+          ∙ ap (with_lists old) (sym (flagged_next f c.args.first at c.args.cached.now old.lists c.loop-at-test.true false w.if-cached-at.false))
     ]
-
-pub returns : goal.returns
-returns c = c.loop-was_cached.invariant

@@ -8,9 +8,12 @@ use Rattle.std.proofs.lemmas.List.{get_or_read}
 use Rattle.frames.specs.Table.{Table, free_frames}
 use Rattle.mapping.specs.Pages.{FilePages, seen}
 use Rattle.cachecore.specs.declared.kept.KeptFile.{KeptFile}
-use Rattle.cachecore.specs.Store.{Store, IsStore, store_of, none_kept, kept_at, stored_at, stored_page, is_awaited, with_pages}
+use Rattle.cachecore.specs.Store.{Store, IsStore, store_of, none_kept, kept_at, stored_at, stored_page, is_awaited, with_pages, with_lists}
 use Rattle.cachecore.proofs.StoreLaws.{with_kept, an_entry, cached_idle, waiting_absent, entry_page, entry_wait}
 use Rattle.cachecore.proofs.StoreFacts.{here_kept, left_store, left_seen, dirty_least, page_taken, byte_is}
+use Rattle.cachecore.specs.PageLists.{left}
+use Rattle.cachecore.proofs.ListedFrames.{lists-given}
+use Rattle.cachecore.proofs.Owners.{its_frame}
 use Rattle.cachecore.proofs.pages.Pages.leave.Goals as goal
 
 pub unreachable-requires : goal.unreachable-requires
@@ -91,8 +94,8 @@ returns-clause-page c = λ cached.
     let kept : record c.index_mut.result.now { mapping = c.remove_page.new.self } ≡ with_kept (kept_at files f) p None = ap (λ (m : FilePages). let k : KeptFile = record c.index_mut.result.now { mapping = m } in k) c.remove_page.ensures.gone ∙ ap (λ (k : KeptFile). with_kept k p None) entry in
     let was = ap (λ (s : Store). is_some (stored_page s f p)) c.self.view_is ∙ cached in
     (λ i. store_of (c.give.ensures i) up (slice_set files f (kept i))) ∙ left_seen t up files dirty f p x s here there
-    ∙ entry_page (store_of t up files) f p None (free_frames t + 1) (cached_idle t up files f p was)
-    ∙ ap (λ (s : Store). with_pages s f (map.remove (stored_at s f).pages p) (s.free + 1)) c.self.view_is
+    ∙ (λ i. with_lists (entry_page (store_of t up files) f p None (free_frames t + 1) (cached_idle t up files f p was) i) (lists-given t c.free_count.ensures.sound f p x.frame (page_taken t up files dirty s f p x there) (its_frame t up files dirty s f p x there) i))
+    ∙ ap (λ (s : Store). with_lists (with_pages s f (map.remove (stored_at s f).pages p) (s.free + 1)) (left f p s.lists)) c.self.view_is
 
 pub returns-clause-fill : goal.returns-clause-fill
 returns-clause-fill c = λ waits.
@@ -110,5 +113,5 @@ returns-clause-fill c = λ waits.
     let kept : record c.index_mut.result.now { mapping = c.remove_page.new.self } ≡ with_kept (kept_at files f) p None = ap (λ (m : FilePages). let k : KeptFile = record c.index_mut.result.now { mapping = m } in k) c.remove_page.ensures.gone ∙ ap (λ (k : KeptFile). with_kept k p None) entry in
     let was = ap (λ (s : Store). is_awaited s f p) c.self.view_is ∙ waits in
     (λ i. store_of (c.give.ensures i) up (slice_set files f (kept i))) ∙ left_seen t up files dirty f p x s here there
-    ∙ entry_wait (store_of t up files) f p false (free_frames t + 1) (waiting_absent t up files f p was)
-    ∙ ap (λ (s : Store). let u : Store = record s { filling = set.remove s.filling (f, p); free = s.free + 1 } in u) c.self.view_is
+    ∙ (λ i. with_lists (entry_wait (store_of t up files) f p false (free_frames t + 1) (waiting_absent t up files f p was) i) (lists-given t c.free_count.ensures.sound f p x.frame (page_taken t up files dirty s f p x there) (its_frame t up files dirty s f p x there) i))
+    ∙ ap (λ (s : Store). let u : Store = record s { filling = set.remove s.filling (f, p); free = s.free + 1; lists = left f p s.lists } in u) c.self.view_is

@@ -1,6 +1,8 @@
-use Rattle.std.proofs.Common.{◌∙◌, ◌-◌}
+use Rattle.std.proofs.Common.{ap, ◌∙◌, ◌-◌}
 use Rattle.std.specs.Prelude.{Some}
 use Rattle.cachecore.specs.Changes.{blank}
+use Rattle.cachecore.specs.PageLists.{entered}
+use Rattle.cachecore.specs.Store.{Store, with_lists}
 use Rattle.cachecore.proofs.RangeLemmas.{ok_map}
 use Rattle.cachecore.proofs.StoreLaws.{entry_page}
 use Rattle.cachecore.proofs.pages.Pages.make.Goals as goal
@@ -8,4 +10,4 @@ use Rattle.cachecore.proofs.pages.Pages.make.Goals as goal
 pub returns-clause-ok : goal.returns-clause-ok
 returns-clause-ok c =
     let old = c.args.self.now in
-    ok_map c.enter.result _ _ c.enter.ensures.ok (λ e. e ∙ entry_page old c.args.file c.args.page (Some (blank old.page)) (old.free - 1) c.requires.idle)
+    ok_map c.enter.result _ _ c.enter.ensures.ok (λ e. e ∙ ap (λ (s : Store). with_lists s (entered c.args.file c.args.page old.lists)) (entry_page old c.args.file c.args.page (Some (blank old.page)) (old.free - 1) c.requires.idle))

@@ -8,9 +8,12 @@ use Rattle.frames.specs.Rows.{row_at}
 use Rattle.mapping.specs.Pages.{seen}
 use Rattle.cachecore.specs.declared.kept.KeptFile.{KeptFile}
 use Rattle.cachecore.specs.State.{Page, the_page}
-use Rattle.cachecore.specs.Store.{Store, store_of, none_kept, kept_at, entry_at, stored_at, stored_page}
+use Rattle.cachecore.specs.Store.{Store, store_of, none_kept, kept_at, entry_at, stored_at, stored_page, with_lists}
 use Rattle.cachecore.proofs.StoreLaws.{cached_at, cached_entry, some_entry}
 use Rattle.cachecore.proofs.StoreFacts.{here_kept, the_page_is, accessed_seen, page_taken}
+use Rattle.cachecore.specs.PageLists.{accessed}
+use Rattle.cachecore.proofs.ListedFrames.{lists-accessed}
+use Rattle.cachecore.proofs.Owners.{its_frame}
 use Rattle.cachecore.proofs.pages.Pages.read_part.Goals as goal
 use borrow.Rule.Slice.PartMut.{put_mid}
 use Rattle.std.proofs.lemmas.List.{drop-drop, append_assoc}
@@ -71,6 +74,18 @@ returns-clause-after c =
     ∙ ap (λ (xs : List ℕ). take c.args.from c.args.out.now ++ (slice_range (the_page (stored_at c.args.self.now f).pages p).bytes c.args.at (c.args.at + (c.args.to - c.args.from)) ++ xs)) (drop-drop (c.args.to - c.args.from) c.args.from c.args.out.now ∙ ap (λ n. drop n c.args.out.now) end)
     ∙ sym (append_assoc (take c.args.from c.args.out.now) (slice_range (the_page (stored_at c.args.self.now f).pages p).bytes c.args.at (c.args.at + (c.args.to - c.args.from))) (drop c.args.to c.args.out.now))
 
-pub returns-clause-same : goal.returns-clause-same
-returns-clause-same c =
-    ap (λ (u : Table). store_of u c.self.inside.uptodate.items c.self.inside.files.items) c.accessed.ensures ∙ accessed_seen c.self.inside.frames c.self.inside.uptodate.items c.self.inside.files.items c.self.inside.dirty c.in-Some.mapped.frame.0 c.self.invariant ∙ c.self.view_is
+pub returns-clause-moved : goal.returns-clause-moved
+returns-clause-moved c =
+    let t = c.self.inside.frames in
+    let up = c.self.inside.uptodate.items in
+    let files = c.self.inside.files.items in
+    let dirty = c.self.inside.dirty in
+    let f = c.args.file in
+    let p = c.args.page in
+    let here = here_kept t up files f c.args.self.now c.self.view_is c.requires.here in
+    let entry : c.index.result.now ≡ kept_at files f = get_or_read files f c.index.result.now here c.index.ensures none_kept in
+    let x = seen c.in-Some.mapped in
+    let there : map.get (kept_at files f).mapping.pages p ≡ Some x = sym (c.in-Some.ensures ∙ ap (λ (k : KeptFile). map.get k.mapping.pages p) entry) in
+    ap (λ (u : Table). store_of u up files) c.accessed.ensures ∙ accessed_seen t up files dirty x.frame c.self.invariant
+    ∙ ap (with_lists (store_of t up files)) (lists-accessed t c.free_count.ensures.sound f p x.frame (page_taken t up files dirty c.self.invariant f p x there) (its_frame t up files dirty c.self.invariant f p x there))
+    ∙ ap (λ (s : Store). with_lists s (accessed f p s.lists)) c.self.view_is

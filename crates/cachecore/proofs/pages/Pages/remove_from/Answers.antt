@@ -20,4 +20,4 @@ pub loop-found-smaller : goal.loop-found-smaller
 loop-found-smaller c = (removing_goes_on c.args.file c.args.page c.args.self.now c.loop-found.self c.loop-found.invariant c.requires c.in-Some.found c.in-Some.ensures.found.0 c.in-Some.ensures.found.1 c.leave.new.self c.leave.ensures.page c.leave.ensures.fill).1
 
 pub returns : goal.returns
-returns c = removing_ends c.args.file c.args.page c.args.self.now c.loop-found.self c.loop-found.invariant c.in_default.ensures.none
+returns c = removing_ends c.args.file c.args.page c.args.self.now c.loop-found.self c.loop-found.invariant c.in_default.ensures.none c.in_default.ensures.unlisted
