@@ -24,7 +24,7 @@ use Rattle.world.specs.declared.step.Step.{Step as Asking}
 use Rattle.world.specs.declared.step.Step.TheVariants as step
 use Rattle.world.specs.declared.jobs.Flight.{Flight}
 use Rattle.world.specs.declared.jobs.Flight.TheVariants.{Asked, Made}
-use Rattle.world.specs.Flights.{Jobs, is_asked, outcome_in, outcomes_of, held_of, whole, IsWorld}
+use Rattle.world.specs.Flights.{Jobs, is_asked, outcome_in, held_of, IsWorld}
 use Rattle.world.proofs.DeviceCalls.{calls_move, fails_so}
 use Rattle.world.proofs.EndsAndCalls.{call_world, end_answers, end_moves, end_world, is_called, none_of_job, put_over, request_of}
 use Rattle.world.proofs.HandedIn.{is_refused}

@@ -1,6 +1,6 @@
 -- A device call of a request, as a step of the world of the definitions.
-use Rattle.std.proofs.Common.{◌≡◌, ℕ, ◌<◌, Bool, true, false, cond, List, [], ◌∷◌, refl, ap, sym, subst, ◌∙◌, inl, inr}
-use Rattle.std.specs.Prelude.{◌⊎◌, Option, Some, None, IfSome, OnOk, OnErr, Result, Ok, Err, unwrap_or, slice_set, slice_index_or}
+use Rattle.std.proofs.Common.{◌≡◌, ℕ, ◌<◌, Bool, true, false, cond, List, [], refl, ap, sym, subst, ◌∙◌, inl, inr}
+use Rattle.std.specs.Prelude.{Option, Some, None, IfSome, OnOk, OnErr, Result, Ok, Err, unwrap_or, slice_set, slice_index_or}
 use Rattle.std.specs.FinMap as finmap
 use Rattle.pc_types.specs.Kinds.{is_flush}
 use Rattle.pc_types.specs.declared.kind.Kind.{Kind}

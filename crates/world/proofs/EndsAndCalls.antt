@@ -1,6 +1,6 @@
 -- The end and the device call of a request whose job is in the table.
-use Rattle.std.proofs.Common.{◌≡◌, ℕ, ◌+◌, ◌-◌, ◌<◌, Bool, true, false, cond, eqb, eqb-true, List, [], length, refl, ap, sym, subst, ◌∙◌, arith}
-use Rattle.std.specs.Prelude.{Option, Some, None, option_map, is_some, Result, Ok, Err, unwrap_or}
+use Rattle.std.proofs.Common.{◌≡◌, ℕ, ◌+◌, ◌-◌, ◌<◌, Bool, true, false, cond, eqb, eqb-true, [], length, refl, ap, sym, subst, ◌∙◌, arith}
+use Rattle.std.specs.Prelude.{Option, Some, None, option_map, is_some, Ok, Err, unwrap_or}
 use Rattle.std.specs.FinMap as finmap
 use Rattle.std.specs.Ordering.{nat_cmp}
 use Rattle.std.specs.Cmp.{nat_cmp_total}
@@ -11,9 +11,6 @@ use Rattle.pc_types.specs.declared.kind.Kind.{Kind}
 use Rattle.pc_types.specs.declared.kind.Kind.TheVariants.{Fill, Flush}
 use Rattle.blockdev.specs.Device.{Told, Outcome, Calls}
 use Rattle.blockdev.specs.Jobs.{Task, FinishedTask, Performs, Transfers}
-use Rattle.cachecore.specs.declared.event.Event.{Event}
-use Rattle.cachecore.specs.declared.event.Outcome.{Outcome as Noted}
-use Rattle.cachecore.specs.declared.event.Outcome.TheVariants as outcome
 use Rattle.cachecore.specs.declared.event.Reply.{Reply}
 use Rattle.cachecore.specs.State.{State, Request}
 use Rattle.cachecore.specs.Step.{Step}
@@ -21,11 +18,11 @@ use Rattle.cachecore.specs.Bare.{bare}
 use Rattle.cachecore.specs.Replies.{IsJobOf, end_of, outcome_of}
 use Rattle.cachecore.proofs.BareLaws.{bare_step}
 use Rattle.cachecore.proofs.MapLaws.{same_nat_map, get-insert_nat, get-remove_nat}
-use Rattle.world.specs.World.{World, Moves, Finish, EndOf, end_event}
-use Rattle.world.specs.Stepping.{Held, world_of, IsCalled}
+use Rattle.world.specs.World.{Moves, Finish, EndOf, end_event}
+use Rattle.world.specs.Stepping.{world_of, IsCalled}
 use Rattle.world.specs.declared.jobs.Flight.{Flight}
 use Rattle.world.specs.declared.jobs.Flight.TheVariants.{Asked, Made}
-use Rattle.world.specs.Flights.{Jobs, task_of, bytes_for, outcome_in, outcomes_of, whole, held_of, HasJob, IsJob, IsWorld}
+use Rattle.world.specs.Flights.{Jobs, bytes_for, outcome_in, outcomes_of, whole, held_of, HasJob, IsJob, IsWorld}
 use Rattle.world.proofs.HandedIn.{Ended, IsPage, hands_in, is_refused}
 use Rattle.world.proofs.Whole.{Fits, get-whole, whole_fits, whole_is, bare_whole, no_bytes, bare_is, get-outcomes, outcomes_remove, outcomes_put}
 

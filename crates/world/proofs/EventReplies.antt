@@ -1,5 +1,5 @@
 -- An event that keeps the requests, and one that begins one, as a step of the world that is made.
-use Rattle.std.proofs.Common.{◌≡◌, ℕ, true, false, length, refl, ap, sym, subst, ◌∙◌}
+use Rattle.std.proofs.Common.{◌≡◌, ℕ, true, false, length, refl, sym, subst}
 use Rattle.std.specs.FinMap as finmap
 use Rattle.pc_types.specs.declared.ids.FileId.{FileId}
 use Rattle.pc_types.specs.declared.ids.HandleId.{HandleId}

@@ -1,5 +1,5 @@
 -- A cache without files, and no job in flight.
-use Rattle.std.proofs.Common.{◌≡◌, ℕ, ◌<◌, [], length, refl, ap, sym, subst, ◌∙◌, get_or}
+use Rattle.std.proofs.Common.{◌≡◌, ℕ, ◌<◌, [], ap, sym, subst, ◌∙◌, get_or}
 use Rattle.std.specs.Prelude.{Some, None, option_map}
 use Rattle.std.specs.Ordering.{nat_cmp}
 use Rattle.std.specs.FinMap as finmap
@@ -10,7 +10,7 @@ use Rattle.blockdev.specs.Device.{Told}
 use Rattle.cachecore.specs.State.{State, Page, Request, no_file}
 use Rattle.cachecore.proofs.MapLaws.{same_nat_map}
 use Rattle.world.specs.Stepping.{first_world}
-use Rattle.world.specs.Flights.{Jobs, bytes_for, outcome_in, outcomes_of, whole, held_of, HasJob, IsWorld}
+use Rattle.world.specs.Flights.{Jobs, outcome_in, outcomes_of, whole, held_of, HasJob, IsWorld}
 use Rattle.world.specs.declared.jobs.Flight.{Flight}
 use Rattle.world.proofs.Whole.{get-whole, get-outcomes, bare_is}
 

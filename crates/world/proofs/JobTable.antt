@@ -1,5 +1,5 @@
 -- The table of jobs in flight as a finite map.
-use Rattle.std.proofs.Common.{◌≡◌, ℕ, zero, suc, ◌<◌, ◌≤◌, Bool, true, false, cond, not, eqb, eqb-true, List, [], ◌∷◌, ◌++◌, length, get_or, refl, ap, sym, subst, ◌∙◌, arith, map, take, drop}
+use Rattle.std.proofs.Common.{◌≡◌, ℕ, zero, suc, ◌<◌, Bool, true, false, cond, not, eqb, eqb-true, List, [], ◌∷◌, ◌++◌, length, get_or, refl, ap, sym, subst, ◌∙◌, arith, map, take, drop}
 use Rattle.std.specs.Prelude.{◌&&◌, ◌||◌, Option, Some, None, position, remove}
 use Rattle.std.specs.List.{list_any, prefix_len}
 use Rattle.std.specs.Ordering.{nat_cmp}
@@ -11,7 +11,6 @@ use Rattle.std.proofs.lemmas.List.{length-map, map-append, take-map, drop-map}
 use Rattle.std.proofs.lemmas.List.Quantifiers.{position-Some}
 use Rattle.std.proofs.lemmas.List.Sums.{prefix_len_passes}
 use Rattle.world.specs.declared.jobs.Flight.{Flight}
-use Rattle.world.specs.declared.jobs.Flight.TheVariants.{Asked, Made}
 use Rattle.world.specs.Flights.{Jobs, serial_of, entry_of, is_asked, EachOnce}
 use Rattle.cachecore.proofs.MapLaws.{same_nat_map, get-remove_nat}
 use Rattle.world.proofs.OnceLemmas.{seek_first, once_push, push_inserts, len_once, once_remove, seek_at, remove_removes}

@@ -1,6 +1,6 @@
 -- What each event leaves of the requests in flight: it keeps them, or one begins, or one ends.
-use Rattle.std.proofs.Common.{◌≡◌, ℕ, ◌+◌, Bool, true, false, cond, eqb, List, [], length, refl, ap, sym, subst, ◌∙◌, inl, inr}
-use Rattle.std.specs.Prelude.{◌&&◌, ◌⊎◌, Option, Some, None, option_map, nat_lt, nat_le, is_some, not}
+use Rattle.std.proofs.Common.{◌≡◌, ℕ, Bool, true, false, cond, eqb, List, length, refl, ap, sym, subst, ◌∙◌, inl, inr}
+use Rattle.std.specs.Prelude.{◌&&◌, Option, Some, None, option_map, nat_lt, nat_le, is_some, not}
 use Rattle.std.specs.FinMap as finmap
 use Rattle.pc_types.specs.declared.refusal.Refusal.TheVariants.{Memory}
 use Rattle.pc_types.specs.declared.ids.FileId.{FileId}

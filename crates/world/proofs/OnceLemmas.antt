@@ -1,10 +1,10 @@
 -- Entries in a list, each key once, and the finite map that they make.
-use Rattle.std.proofs.Common.{◌≡◌, ℕ, zero, suc, ◌<◌, ◌+◌, Bool, true, false, cond, eqb, eqb-true, eq-eqb, List, [], ◌∷◌, ◌++◌, length, get_or, refl, ap, sym, subst, ◌∙◌, arith}
-use Rattle.std.specs.Prelude.{Option, Some, None, is_some, remove}
+use Rattle.std.proofs.Common.{◌≡◌, ℕ, zero, suc, ◌<◌, ◌+◌, Bool, true, false, cond, eqb, eqb-true, eq-eqb, List, [], ◌∷◌, ◌++◌, length, get_or, refl, ap, sym, ◌∙◌, arith}
+use Rattle.std.specs.Prelude.{Some, None, is_some, remove}
 use Rattle.std.specs.Ordering.{nat_cmp}
 use Rattle.std.specs.Cmp.{nat_cmp_total, unsigned_tied}
 use Rattle.std.specs.FinMap as finmap
-use Rattle.std.specs.FinMap.{FinMap, from_entries, find, nat_cmp-IsAntisymmetric, from_entries_push, get-from_entries, len-insert, len-empty}
+use Rattle.std.specs.FinMap.{from_entries, find, nat_cmp-IsAntisymmetric, from_entries_push, get-from_entries, len-insert, len-empty}
 use Rattle.world.specs.Flights.{EachOnce}
 use Rattle.cachecore.proofs.Choices.{if_none}
 use Rattle.cachecore.proofs.MapLaws.{same_nat_map, get-remove_nat}

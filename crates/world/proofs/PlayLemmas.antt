@@ -1,5 +1,5 @@
 -- Steps that are made one after the other, and the run that they are.
-use Rattle.std.proofs.Common.{◌≡◌, ℕ, ◌++◌, List, [], ◌∷◌, Bool, true, false, cond, refl, ap, sym, subst, ◌∙◌, inl, inr, map}
+use Rattle.std.proofs.Common.{◌≡◌, ℕ, ◌++◌, List, [], ◌∷◌, Bool, true, false, refl, ap, sym, subst, ◌∙◌, inl, inr, map}
 use Rattle.std.specs.Prelude.{◌||◌, Option, Some, None, is_some, IfSome, Ok, Err}
 use Rattle.std.specs.List.{list_any}
 use Rattle.std.specs.FinMap as finmap
@@ -19,7 +19,7 @@ use Rattle.cachecore.specs.Tests.{tests, flush_pick}
 use Rattle.world.specs.declared.step.Step.{Step}
 use Rattle.world.specs.declared.step.Step.TheVariants as step
 use Rattle.world.specs.World.{World, Entry, Moves, EndOf}
-use Rattle.world.specs.Stepping.{Held, world_of, entry_of, is_made, is_call, TellsForCalls, IsCalled, CallReply, EndReply, Leaves, Follow, Steps, Plays, LeadsTo}
+use Rattle.world.specs.Stepping.{Held, world_of, entry_of, is_made, is_call, TellsForCalls, CallReply, EndReply, Leaves, Steps, Plays, LeadsTo}
 use Rattle.world.proofs.HandedIn.{never_refused}
 
 -- one more step after those that were made

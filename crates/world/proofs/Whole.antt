@@ -1,22 +1,16 @@
 -- The core's state with the bytes of its flushes, and how it follows the jobs.
-use Rattle.std.proofs.Common.{◌≡◌, ℕ, ◌<◌, ◌≤◌, Bool, true, false, cond, eqb, eqb-true, List, [], ◌∷◌, length, refl, ap, sym, subst, ◌∙◌, arith, map}
+use Rattle.std.proofs.Common.{◌≡◌, ℕ, Bool, true, false, cond, eqb, eqb-true, List, [], ◌∷◌, refl, ap, sym, subst, ◌∙◌, map}
 use Rattle.std.specs.Prelude.{Option, Some, None, option_map, is_some, unwrap_or}
 use Rattle.std.specs.Ordering.{nat_cmp}
 use Rattle.std.specs.Cmp.{nat_cmp_total, unsigned_tied}
 use Rattle.std.specs.FinMap as finmap
 use Rattle.std.specs.FinMap.{find, get-from_entries, get-entries}
 use Rattle.pc_types.specs.Limits.{Sizes}
-use Rattle.pc_types.specs.declared.kind.Kind.{Kind}
-use Rattle.pc_types.specs.declared.kind.Kind.TheVariants.{Fill, Flush}
-use Rattle.cachecore.specs.declared.event.Event.{Event}
 use Rattle.cachecore.specs.declared.event.Outcome.{Outcome}
 use Rattle.cachecore.specs.declared.event.Outcome.TheVariants as outcome
-use Rattle.cachecore.specs.declared.event.Reply.{Reply}
 use Rattle.cachecore.specs.State.{State, Request}
 use Rattle.cachecore.specs.Changes.{each_value}
-use Rattle.cachecore.specs.Step.{Step}
-use Rattle.cachecore.specs.Bare.{bare, without_bytes, BareStep}
-use Rattle.cachecore.proofs.BareLaws.{bare_step}
+use Rattle.cachecore.specs.Bare.{bare, without_bytes}
 use Rattle.cachecore.proofs.MapLaws.{same_nat_map, get-each_value, get-insert_nat, get-remove_nat, get-retain_nat}
 use Rattle.world.specs.declared.jobs.Flight.{Flight}
 use Rattle.world.specs.Flights.{Jobs, bytes_for, whole, outcome_in, outcomes_of, HasJob, IsJob}

@@ -1,10 +1,10 @@
 -- What the core does is what the world does: its parts stay tied, and the step is one of the definitions.
-use Rattle.std.proofs.Common.{◌≡◌, ℕ, ◌+◌, ◌<◌, ◌≤◌, Bool, true, false, cond, eqb, eqb-true, eq-eqb, List, [], length, refl, ap, sym, subst, ◌∙◌, arith, inl, inr}
-use Rattle.std.specs.Prelude.{◌⊎◌, Option, Some, None, option_map, is_some, Result, Ok, Err, unwrap_or}
+use Rattle.std.proofs.Common.{◌≡◌, ℕ, ◌+◌, ◌<◌, Bool, true, false, cond, eqb, eqb-true, eq-eqb, [], length, refl, ap, sym, subst, ◌∙◌, arith, inl, inr}
+use Rattle.std.specs.Prelude.{◌⊎◌, Option, Some, None, option_map, is_some, unwrap_or}
 use Rattle.std.specs.FinMap as finmap
 use Rattle.std.specs.Ordering.{nat_cmp}
 use Rattle.std.specs.Cmp.{nat_cmp_total}
-use Rattle.std.specs.FinMap.{len-insert, len-remove}
+use Rattle.std.specs.FinMap.{len-insert}
 use Rattle.pc_types.specs.Limits.{Sizes}
 use Rattle.pc_types.specs.declared.ids.FileId.{FileId}
 use Rattle.pc_types.specs.declared.ids.HandleId.{HandleId}
@@ -12,32 +12,30 @@ use Rattle.pc_types.specs.declared.ids.PageIndex.{PageIndex}
 use Rattle.pc_types.specs.declared.kind.Kind.TheVariants.{Fill, Flush}
 use Rattle.pc_types.specs.declared.limits.TheConstants.{MAX_IN_FLIGHT}
 use Rattle.blockdev.specs.Device.{Told}
-use Rattle.blockdev.specs.Jobs.{Task, FinishedTask}
+use Rattle.blockdev.specs.Jobs.{Task}
 use Rattle.cachecore.specs.declared.event.Event.{Event}
 use Rattle.cachecore.specs.declared.event.Event.TheVariants as event
 use Rattle.cachecore.specs.declared.event.Reply.{Reply}
 use Rattle.cachecore.specs.declared.event.Reply.TheVariants as reply
-use Rattle.cachecore.specs.State.{State, Page, Request, file_at, file_of, page_at}
-use Rattle.cachecore.specs.Changes.{block_of, filling, started}
-use Rattle.cachecore.specs.Tests.{is_full, flush_pick}
+use Rattle.cachecore.specs.State.{State, Page, Request, file_of, page_at}
+use Rattle.cachecore.specs.Changes.{block_of}
+use Rattle.cachecore.specs.Tests.{is_full}
 use Rattle.cachecore.specs.Step.{Step}
 use Rattle.cachecore.specs.Bare.{bare, without_bytes}
-use Rattle.cachecore.specs.Replies.{IsJobOf, end_of, outcome_of}
+use Rattle.cachecore.specs.Replies.{IsJobOf}
 use Rattle.cachecore.proofs.BareLaws.{bare_step}
 use Rattle.cachecore.proofs.BareMaps.{each-insert}
-use Rattle.cachecore.proofs.Choices.{none_of}
-use Rattle.cachecore.proofs.MapLaws.{get-each_value, get-insert_nat, get-remove_nat}
+use Rattle.cachecore.proofs.MapLaws.{get-each_value, get-insert_nat}
 use Rattle.cachecore.proofs.StepCases.{by_cases, not_of_sync}
-use Rattle.world.specs.World.{Acts, Moves, Act, Finish, EndOf, end_event}
+use Rattle.world.specs.World.{Acts}
 use Rattle.world.specs.Stepping.{world_of}
 use Rattle.world.specs.declared.jobs.Flight.{Flight}
-use Rattle.world.specs.declared.jobs.Flight.TheVariants.{Asked, Made}
-use Rattle.world.specs.Flights.{Jobs, task_of, bytes_for, outcome_in, outcomes_of, whole, held_of, HasJob, IsJob, InBounds, IsWorld}
+use Rattle.world.specs.declared.jobs.Flight.TheVariants.{Asked}
+use Rattle.world.specs.Flights.{Jobs, bytes_for, outcome_in, whole, held_of, HasJob, IsJob, InBounds, IsWorld}
 use Rattle.world.proofs.Bounds.{Lost, bounds_cases, filling_in, started_in}
 use Rattle.world.proofs.TableRooms.{in_flight}
 use Rattle.world.proofs.KeptRequests.{undropped, Kept, at_kept, len_kept, is_quiet, quiet_kept, is_job, fill_kept, fill_begins, flush_kept, flush_begins}
-use Rattle.world.proofs.HandedIn.{Ended, IsPage, hands_in, is_refused}
-use Rattle.world.proofs.Whole.{Fits, NoBytes, get-whole, whole_fits, whole_is, bare_whole, no_bytes, bare_is, bare_twice, no_bytes_kept, fits_kept, jobs_kept, get-outcomes, outcomes_remove, outcomes_ask}
+use Rattle.world.proofs.Whole.{Fits, whole_fits, whole_is, bare_whole, no_bytes, bare_is, bare_twice, no_bytes_kept, fits_kept, jobs_kept, outcomes_ask}
 
 -- a request that is kept is not lost
 not_lost : (s new : State) → Kept s new → Lost s new → ⊥

@@ -39,9 +39,9 @@ impl<D: BlockDevice> Model for World<D> {
 
     ghost use Rattle.world.specs.Flights.{held_of, IsWorld};
 
-    ghost view = { λ w. held_of w.core w.jobs (D.told w.device) };
+    ghost view = { λ w. held_of w.core.state w.jobs (D.told w.device) };
 
-    ghost invariant = { λ w. IsWorld w.core w.jobs (D.told w.device) };
+    ghost invariant = { λ w. IsWorld w.core.state w.jobs (D.told w.device) };
 }
 
 impl<D: BlockDevice> World<D> {

@@ -80,8 +80,8 @@ impl World<ScriptDevice> {
 
 /// Ends a request of this kind by its finished job.
 fn hand_in(core: &mut CacheCore, kind: Kind, finished: Finished) -> Result<Ended, RefusedEnd>
-    requires size { length finished.bytes ≡ core.old.sizes.page }
-    ensures step { machine.Step core.old (end_event kind (end_of finished)) (ended kind result) core.new }
+    requires size { length finished.bytes ≡ core.old.state.sizes.page }
+    ensures step { machine.Step core.old.state (end_event kind (end_of finished)) (ended kind result) core.new.state }
     ensures back { EndGivesBack finished result }
 {
     match kind {

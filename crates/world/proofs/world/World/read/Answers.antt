@@ -13,7 +13,7 @@ front : (n m : ℕ) (xs rest : List ℕ) → length xs ≡ m → take n (take m 
 front n m xs rest e = ap (take n) (take-append-le m xs rest (omega arith) ∙ take_all m xs (omega arith))
 
 pub invariant_of-self : goal.invariant_of-self
-invariant_of-self g c = quiet_world c.self.inside.core c.self.inside.jobs _ c.self.invariant (event.Read c.args.handle c.args.offset (length c.as_mut_slice.result.now)) _ c.read.new.self refl refl c.read.ensures.step
+invariant_of-self g c = quiet_world c.self.inside.core.state c.self.inside.jobs _ c.self.invariant (event.Read c.args.handle c.args.offset (length c.as_mut_slice.result.now)) _ c.read.new.self.state refl refl c.read.ensures.step
 
 pub returns : goal.returns
 returns g c =
@@ -24,4 +24,4 @@ returns g c =
       | in-Ok-Miss w ↦ rw (w.result-is, w.in-Ok-Miss.is, w.in-Ok-Miss.field-0-is)
       | in-Err w ↦ rw (w.result-is, w.in-Err.is)
     ] in
-    inl (rw (answer, ← count) (quiet_acted c.self.inside.core c.self.inside.jobs _ c.self.invariant c.args.self.now c.self.view_is (event.Read c.args.handle c.args.offset (length c.as_mut_slice.result.now)) _ c.read.new.self refl c.read.ensures.step))
+    inl (rw (answer, ← count) (quiet_acted c.self.inside.core.state c.self.inside.jobs _ c.self.invariant c.args.self.now c.self.view_is (event.Read c.args.handle c.args.offset (length c.as_mut_slice.result.now)) _ c.read.new.self.state refl c.read.ensures.step))
