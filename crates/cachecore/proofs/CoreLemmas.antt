@@ -15,7 +15,7 @@ use Rattle.pc_types.specs.Limits.{Sizes}
 use Rattle.pc_types.specs.declared.limits.TheConstants.{MAX_FILES, MAX_FILE_SIZE, MAX_FRAMES}
 use Rattle.pc_types.specs.declared.refusal.Refusal.TheVariants.{DirtyLimit, NoFrame, NoSpace}
 use Rattle.cachecore.specs.declared.event.Reply.{Reply}
-use Rattle.cachecore.specs.State.{State, Page, File, Request, no_file, file_at, is_cached, is_dirty, is_filling, tagged, dirty_in, dirty_total, file_of, fills, filling_total, free_frames, free_blocks, without_block, touched, touched_count}
+use Rattle.cachecore.specs.State.{State, Page, File, Request, Sync, no_file, file_at, is_cached, is_dirty, is_filling, tagged, dirty_in, dirty_total, file_of, fills, filling_total, free_frames, free_blocks, without_block, touched, touched_count}
 use Rattle.pc_types.specs.Kinds.{is_fill}
 use Rattle.pc_types.specs.Spots.{Spot, place_cmp}
 use Rattle.blockmap.specs.Blocks as device
@@ -23,11 +23,12 @@ use Rattle.blockmap.specs.Blocks.{Blocks}
 use Rattle.cachecore.specs.Changes.{blank, overwrite, written, written_pages, placed, put_file, put_page}
 use Rattle.cachecore.specs.Tests.{covers, must_fill, room_tests, refuse, write_tests}
 use Rattle.cachecore.specs.Pairs.{AreSized}
-use Rattle.cachecore.specs.Tables.{IsCore, state_of}
+use Rattle.cachecore.specs.Tables.{IsCache, IsCore, state_of}
 use Rattle.cachecore.specs.PageLists.{PageLists, no_lists}
 use Rattle.cachecore.specs.Store.{Store, NoneAwaited, is_awaited, stored_at, with_pages, with_lists}
 use Rattle.cachecore.specs.Flying.{request_of, requests_of}
 use Rattle.writeback.specs.Flights.{Flight, Flights}
+use Rattle.writeback.specs.Syncs.{SyncState}
 use Rattle.cachecore.specs.Holding.{Holds}
 use Rattle.cachecore.specs.Sound.{Sound}
 use Rattle.cachecore.specs.Placing.{is_bare, placed_on, with_placed}
@@ -39,6 +40,7 @@ use Rattle.cachecore.proofs.Choices.{MayWrite, may_write, or_false}
 use Rattle.cachecore.proofs.SoundFacts.{sound_first}
 use Rattle.cachecore.proofs.SoundPages.{makes_zeros_sound}
 use Rattle.cachecore.proofs.SoundSteps.{cases}
+use Rattle.cachecore.proofs.SyncLaws.{none_syncs, syncs-none}
 use Rattle.cachecore.proofs.WriteLemmas.{WriteParts, parts-file, parts-pages, parts-size, parts_sized, len-written_pages, sized_insert}
 
 pub is_less : (m n : ℕ) → m < n → nat_lt m n ≡ true
@@ -75,7 +77,7 @@ sized_none P = record { each = λ q e. absurd (false≢true (sym (ap is_some (ge
 some_none : {A : Type 0} (f : A) (o : Option A) → o ≡ None → o ≡ Some f → ⊥
 some_none f o a b = cc
 
-pub requests-none : requests_of finmap.empty ≡ finmap.empty
+requests-none : requests_of finmap.empty ≡ finmap.empty
 requests-none = same_nat_map (requests_of finmap.empty) finmap.empty (λ t. get-requests finmap.empty t ∙ none (finmap.get (finmap.empty {X = Flight} {R = nat_cmp}) t) (get-empty nat_cmp t) ∙ sym (get-empty nat_cmp t))
   where
     none : (o : Option Flight) → o ≡ None → option_map request_of o ≡ None
@@ -95,9 +97,9 @@ abbrev pub first_store : Sizes → Store
 first_store sizes = record { page = sizes.page; files = []; filling = set.empty; free = sizes.frames; lists = no_lists }
 
 abbrev pub first_state : Sizes → ℕ → State
-first_state sizes name = state_of sizes name [] finmap.empty (first_blocks sizes) (record { next = 0; requests = finmap.empty })
+first_state sizes name = state_of sizes name [] finmap.empty (first_blocks sizes) (record { next = 0; requests = finmap.empty }) finmap.empty
 
-pub core-first : (sizes : Sizes) (name : ℕ) → sizes.frames ≤ MAX_FRAMES → IsCore (first_state sizes name) (first_store sizes) (first_blocks sizes)
+core-first : (sizes : Sizes) (name : ℕ) → sizes.frames ≤ MAX_FRAMES → IsCore (first_state sizes name) (first_store sizes) (first_blocks sizes)
 core-first sizes name h = record {
   few_files = omega arith;
   known = λ k f e. absurd (some_none f (finmap.get (finmap.empty {X = ℕ} {R = nat_cmp}) k) (get-empty nat_cmp k) e);
@@ -116,16 +118,23 @@ core-first sizes name h = record {
   sound = sound_first (first_state sizes name) refl refl requests-none;
 }
 
-get_or-push : {A : Type 0} (xs : List A) (d : A) (i : ℕ) → get_or (xs ++ d ∷ []) i d ≡ get_or xs i d
+pub cache-first : (sizes : Sizes) (name : ℕ) → sizes.frames ≤ MAX_FRAMES → IsCache (first_state sizes name) (first_store sizes) (first_blocks sizes) finmap.empty
+cache-first sizes name h = record { core = core-first sizes name h; syncs = none_syncs finmap.empty 0 [] }
+
+-- no requests and no syncs
+pub first_is : (sizes : Sizes) (name : ℕ) → first_state sizes name ≡ record (first_state sizes name) { requests = finmap.empty; syncs = finmap.empty }
+first_is sizes name = λ i. record (first_state sizes name) { requests = requests-none i; syncs = syncs-none finmap.empty finmap.empty i }
+
+pub get_or-push : {A : Type 0} (xs : List A) (d : A) (i : ℕ) → get_or (xs ++ d ∷ []) i d ≡ get_or xs i d
 get_or-push [] d zero = refl
 get_or-push [] d (suc i) = refl
 get_or-push (x ∷ xs) d zero = refl
 get_or-push (x ∷ xs) d (suc i) = get_or-push xs d i
 
 -- the state of a store with a page of zeros more
-pub zeros_state : (sizes : Sizes) (name : ℕ) (store : Store) (handles : FinMap nat_cmp ℕ) (blocks : Blocks) (flights : Flights) (f p free : ℕ) → store.page ≡ sizes.page
-    → state_of sizes name (with_pages store f (finmap.insert (stored_at store f).pages p (blank store.page)) free).files handles blocks flights ≡ put_page (state_of sizes name store.files handles blocks flights) f p (blank sizes.page)
-zeros_state sizes name store handles blocks flights f p free page = ap (λ n. state_of sizes name (slice_set store.files f (record (stored_at store f) { pages = finmap.insert (stored_at store f).pages p (blank n) })) handles blocks flights) page
+pub zeros_state : (sizes : Sizes) (name : ℕ) (store : Store) (handles : FinMap nat_cmp ℕ) (blocks : Blocks) (flights : Flights) (syncs : FinMap nat_cmp SyncState) (f p free : ℕ) → store.page ≡ sizes.page
+    → state_of sizes name (with_pages store f (finmap.insert (stored_at store f).pages p (blank store.page)) free).files handles blocks flights syncs ≡ put_page (state_of sizes name store.files handles blocks flights syncs) f p (blank sizes.page)
+zeros_state sizes name store handles blocks flights syncs f p free page = ap (λ n. state_of sizes name (slice_set store.files f (record (stored_at store f) { pages = finmap.insert (stored_at store f).pages p (blank n) })) handles blocks flights syncs) page
 
 module _ (s : State) (store : Store) (blocks : Blocks) (c : IsCore s store blocks) where
   -- ---- the page lists, of which the tables say nothing
@@ -174,8 +183,8 @@ module _ (s : State) (store : Store) (blocks : Blocks) (c : IsCore s store block
 
   -- ---- handles
 
-  core-handles : (now : FinMap nat_cmp ℕ) → ((h f : ℕ) → finmap.get now h ≡ Some f → f < length s.files) → IsCore (record s { handles = now }) store blocks
-  core-handles now known = record {
+  core-tables : (now : FinMap nat_cmp ℕ) (syncs : FinMap nat_cmp Sync) → ((h f : ℕ) → finmap.get now h ≡ Some f → f < length s.files) → IsCore (record s { handles = now; syncs = syncs }) store blocks
+  core-tables now syncs known = record {
     few_files = c.few_files;
     known = known;
     bounded = c.bounded;
@@ -193,8 +202,12 @@ module _ (s : State) (store : Store) (blocks : Blocks) (c : IsCore s store block
     sound = c.sound;
   }
 
+  -- other syncs
+  pub core-syncs : (syncs : FinMap nat_cmp Sync) → IsCore (record s { syncs = syncs }) store blocks
+  core-syncs syncs = core-tables s.handles syncs c.known
+
   pub core-open : (h f : ℕ) → f < length s.files → IsCore (record s { handles = finmap.insert s.handles h f }) store blocks
-  core-open h f here = core-handles (finmap.insert s.handles h f) (λ k g e. one k g (sym (get-insert_nat s.handles h f k) ∙ e))
+  core-open h f here = core-tables (finmap.insert s.handles h f) s.syncs (λ k g e. one k g (sym (get-insert_nat s.handles h f k) ∙ e))
     where
       one : (k g : ℕ) → cond (eqb k h) (Some f) (finmap.get s.handles k) ≡ Some g → g < length s.files
       one k g e = elim (eqb k h) as (λ b. cond b (Some f) (finmap.get s.handles k) ≡ Some g → g < length s.files) [
@@ -203,7 +216,7 @@ module _ (s : State) (store : Store) (blocks : Blocks) (c : IsCore s store block
       ] e
 
   pub core-close : (h : ℕ) → IsCore (record s { handles = finmap.remove s.handles h }) store blocks
-  core-close h = core-handles (finmap.remove s.handles h) (λ k g e. one k g (sym (get-remove_nat s.handles h k) ∙ e))
+  core-close h = core-tables (finmap.remove s.handles h) s.syncs (λ k g e. one k g (sym (get-remove_nat s.handles h k) ∙ e))
     where
       one : (k g : ℕ) → cond (eqb k h) None (finmap.get s.handles k) ≡ Some g → g < length s.files
       one k g e = elim (eqb k h) as (λ b. cond b None (finmap.get s.handles k) ≡ Some g → g < length s.files) [

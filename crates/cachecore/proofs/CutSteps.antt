@@ -19,6 +19,7 @@ use Rattle.blockmap.specs.Blocks.{Blocks, CutsFrom}
 use Rattle.blockmap.specs.Keys.{IsPage}
 use Rattle.writeback.specs.Flights as flights
 use Rattle.writeback.specs.Flights.{Flights}
+use Rattle.writeback.specs.Syncs.{SyncState}
 use Rattle.cachecore.specs.State.{State, File, Page, Request, Sync, no_file, file_at, page_at, the_page, has_block, is_filling, filling_total, page_count}
 use Rattle.cachecore.specs.Changes.{boundary, change_at, put_some, cut_page, cut_boundary, cut_request, each_value, put_file, shrunk, still_awaits}
 use Rattle.cachecore.specs.Cuts.{RemovesFrom, pages_below}
@@ -27,8 +28,8 @@ use Rattle.cachecore.specs.Holding.{Holds}
 use Rattle.cachecore.specs.Pairs.{AreSized}
 use Rattle.cachecore.specs.Sound.{Sound, lookups}
 use Rattle.cachecore.specs.Store.{Store, stored_at, is_awaited, with_pages}
+use Rattle.cachecore.specs.Syncing.{syncs_of}
 use Rattle.cachecore.specs.Tables.{IsCore, state_of}
-use Rattle.cachecore.proofs.BareMaps.{each-empty}
 use Rattle.cachecore.proofs.ChangeLaws.{cut_pages, get-cut_pages, shrunk_truncates}
 use Rattle.cachecore.proofs.FillCuts.{filling-shrunk, filling_counted}
 use Rattle.cachecore.proofs.FlightLaws.{requests-cut}
@@ -38,6 +39,7 @@ use Rattle.cachecore.proofs.RangeLemmas.{stored-with, length-with}
 use Rattle.cachecore.proofs.SoundCuts.{shrunk_sound}
 use Rattle.cachecore.proofs.SoundChanges.{same_lookups}
 use Rattle.cachecore.proofs.SoundLookups.{page_at-same}
+use Rattle.cachecore.proofs.SyncLaws.{syncs-cut}
 
 -- ---- another entry at f, and other blocks and requests
 
@@ -181,9 +183,9 @@ module _ (s : State) (f z : ℕ) (old tail freed now : Store) (w : ShrinkSteps s
 
 -- ---- the state after it
 
-module _ (sizes : Sizes) (name f z : ℕ) (handles : FinMap nat_cmp ℕ) (old tail freed now : Store) (before after : Blocks) (flight landed : Flights) where
+module _ (sizes : Sizes) (name f z : ℕ) (handles : FinMap nat_cmp ℕ) (old tail freed now : Store) (before after : Blocks) (flight landed : Flights) (syncs : FinMap nat_cmp SyncState) where
   abbrev s : State
-  s = state_of sizes name old.files handles before flight
+  s = state_of sizes name old.files handles before flight syncs
 
   module _ (w : ShrinkSteps s f z old tail freed now) (cuts : CutsFrom before after f (page_count sizes.page z)) (drops : landed ≡ record flight { requests = flights.each_value (flights.cut_flight f (page_count sizes.page z)) flight.requests }) where
     spots_now : after.spots ≡ (shrunk s f z).spots
@@ -192,10 +194,13 @@ module _ (sizes : Sizes) (name f z : ℕ) (handles : FinMap nat_cmp ℕ) (old ta
     requests_now : requests_of landed.requests ≡ each_value (cut_request sizes.page f z) (requests_of flight.requests)
     requests_now = ap (λ (t : Flights). requests_of t.requests) drops ∙ requests-cut sizes.page f z flight.requests
 
+    syncs_now : syncs_of handles landed.requests syncs ≡ each_value (still_awaits (each_value (cut_request sizes.page f z) (requests_of flight.requests))) (syncs_of handles flight.requests syncs)
+    syncs_now = ap (λ (t : Flights). syncs_of handles t.requests syncs) drops ∙ syncs-cut handles sizes.page f z flight.requests syncs
+
     next_now : landed.next ≡ flight.next
     next_now = ap (λ (t : Flights). t.next) drops
 
-    pub shrunk_state : state_of sizes name now.files handles after landed ≡ shrunk s f z
+    pub shrunk_state : state_of sizes name now.files handles after landed syncs ≡ shrunk s f z
     shrunk_state = λ i. record {
       sizes = sizes;
       name = name;
@@ -204,10 +209,10 @@ module _ (sizes : Sizes) (name f z : ℕ) (handles : FinMap nat_cmp ℕ) (old ta
       spots = spots_now i;
       next = next_now i;
       requests = requests_now i;
-      syncs = sym (each-empty (still_awaits (each_value (cut_request sizes.page f z) (requests_of flight.requests)))) i;
+      syncs = syncs_now i;
     }
 
-    pub core-shrunk : IsCore s old before → z ≤ MAX_FILE_SIZE → IsCore (state_of sizes name now.files handles after landed) now after
+    pub core-shrunk : IsCore s old before → z ≤ MAX_FILE_SIZE → IsCore (state_of sizes name now.files handles after landed syncs) now after
     core-shrunk c small =
         let t : State = shrunk s f z in
         let filling : (g q : ℕ) → is_awaited now g q ≡ is_filling t g q = λ g q. shrunk_awaited s f z old tail freed now w g q ∙ ap (λ b. b && not (eqb g f && nat_le (page_count sizes.page z) q)) (c.filling g q) ∙ sym (filling-shrunk s f z g q) in
@@ -230,15 +235,15 @@ module _ (sizes : Sizes) (name f z : ℕ) (handles : FinMap nat_cmp ℕ) (old ta
 grown_sound : (s : State) (f z : ℕ) → Sound s → Sound (put_file s f (record (file_at s f) { size = z }))
 grown_sound s f z ok = same_lookups (lookups s) _ (page_at-same s f (record (file_at s f) { size = z }) refl) (λ g q. refl) (λ t. refl) refl ok
 
-module _ (sizes : Sizes) (name f z : ℕ) (handles : FinMap nat_cmp ℕ) (old now : Store) (blocks : Blocks) (flight : Flights) where
+module _ (sizes : Sizes) (name f z : ℕ) (handles : FinMap nat_cmp ℕ) (old now : Store) (blocks : Blocks) (flight : Flights) (syncs : FinMap nat_cmp SyncState) where
   abbrev before : State
-  before = state_of sizes name old.files handles blocks flight
+  before = state_of sizes name old.files handles blocks flight syncs
 
   module _ (here : f < length old.files) (is : now ≡ record old { files = slice_set old.files f (record (stored_at old f) { size = z }) }) where
-    pub grown_state : state_of sizes name now.files handles blocks flight ≡ put_file before f (record (file_at before f) { size = z })
-    grown_state = ap (λ (t : Store). state_of sizes name t.files handles blocks flight) is
+    pub grown_state : state_of sizes name now.files handles blocks flight syncs ≡ put_file before f (record (file_at before f) { size = z })
+    grown_state = ap (λ (t : Store). state_of sizes name t.files handles blocks flight syncs) is
 
-    pub core-grown : IsCore before old blocks → z ≤ MAX_FILE_SIZE → IsCore (state_of sizes name now.files handles blocks flight) now blocks
+    pub core-grown : IsCore before old blocks → z ≤ MAX_FILE_SIZE → IsCore (state_of sizes name now.files handles blocks flight syncs) now blocks
     core-grown c small =
         let sound : Sound (put_file before f (record (file_at before f) { size = z })) = grown_sound before f z c.sound in
         subst (λ x. IsCore x now blocks) (sym grown_state)

@@ -16,6 +16,7 @@ use Rattle.blockmap.specs.Blocks.{Blocks, with_written}
 use Rattle.mapping.proofs.MapLemmas.{len_remove_old}
 use Rattle.writeback.specs.Flights as flights
 use Rattle.writeback.specs.Flights.{Flights}
+use Rattle.writeback.specs.Syncs.{SyncState}
 use Rattle.cachecore.specs.declared.event.Event.TheVariants as event
 use Rattle.cachecore.specs.declared.event.Outcome.{Outcome}
 use Rattle.cachecore.specs.declared.event.Outcome.TheVariants as outcome
@@ -58,9 +59,9 @@ written_is s f p has = go (spot_at s f p) has
     go None e = absurd cc
     go (Some x) e = refl
 
-module _ (sizes : Sizes) (name : ℕ) (handles : FinMap nat_cmp ℕ) (store : Store) (blocks : Blocks) (flying : Flights) where
+module _ (sizes : Sizes) (name : ℕ) (handles : FinMap nat_cmp ℕ) (store : Store) (blocks : Blocks) (flying : Flights) (syncs : FinMap nat_cmp SyncState) where
   abbrev s : State
-  s = state_of sizes name store.files handles blocks flying
+  s = state_of sizes name store.files handles blocks flying syncs
 
   -- the blocks after the one of the request is released
   abbrev pub released : Request → Blocks
@@ -69,26 +70,26 @@ module _ (sizes : Sizes) (name : ℕ) (handles : FinMap nat_cmp ℕ) (store : St
   module _ (c : IsCore s store blocks) (f : FinishedTask) (r : Request) where
     -- what the parts are after the request ended and its block was released
     module _ (y : Blocks) (z : Flights) (y_is : y ≡ released r) (z_is : z ≡ flights.ended flying f.serial) where
-      abbrev quietly : (now_store : Store) → Becomes sizes name handles now_store y z (record (ended s f.serial) { files = now_store.files })
-      quietly x = record { store = x; blocks = released r; flights = flights.ended flying f.serial; store_is = refl; blocks_is = y_is; flights_is = z_is; state_is = ended_state sizes name handles store blocks flying f.serial x.files (released r) }
+      abbrev quietly : (now_store : Store) → Becomes sizes name handles syncs now_store y z (record (ended s f.serial) { files = now_store.files })
+      quietly x = record { store = x; blocks = released r; flights = flights.ended flying f.serial; store_is = refl; blocks_is = y_is; flights_is = z_is; state_is = ended_state sizes name handles syncs store blocks flying f.serial x.files (released r) }
 
-      abbrev becomes : (x x0 : Store) → x ≡ x0 → Becomes sizes name handles x y z (record (ended s f.serial) { files = x0.files })
-      becomes x x0 x_is = record { store = x0; blocks = released r; flights = flights.ended flying f.serial; store_is = x_is; blocks_is = y_is; flights_is = z_is; state_is = ended_state sizes name handles store blocks flying f.serial x0.files (released r) }
+      abbrev becomes : (x x0 : Store) → x ≡ x0 → Becomes sizes name handles syncs x y z (record (ended s f.serial) { files = x0.files })
+      becomes x x0 x_is = record { store = x0; blocks = released r; flights = flights.ended flying f.serial; store_is = x_is; blocks_is = y_is; flights_is = z_is; state_is = ended_state sizes name handles syncs store blocks flying f.serial x0.files (released r) }
 
       -- the request is dropped, or is of no live fill
-      quiet_invariant : finmap.get s.requests f.serial ≡ Some r → is_live_fill r ≡ false → IsCore (now sizes name handles store y z) store y
-      quiet_invariant found none = core_after sizes name handles store y z _ (quietly store) (quiet_core s store blocks c f.serial r found none)
+      quiet_invariant : finmap.get s.requests f.serial ≡ Some r → is_live_fill r ≡ false → IsCore (now sizes name handles syncs store y z) store y
+      quiet_invariant found none = core_after sizes name handles syncs store y z _ (quietly store) (quiet_core s store blocks c f.serial r found none)
 
       -- ---- fills
 
       module _ (e : Ends s Fill f r) where
-        pub fill_dropped_core : r.dropped ≡ true → IsCore (now sizes name handles store y z) store y
+        pub fill_dropped_core : r.dropped ≡ true → IsCore (now sizes name handles syncs store y z) store y
         fill_dropped_core dropped = quiet_invariant e.found (dropped_fills_none r dropped)
 
-        pub fill_dropped_step : r.dropped ≡ true → Step s (event.FillEnd (end_of f)) reply.Dropped (now sizes name handles store y z)
-        fill_dropped_step dropped = fill_end_step s f r e reply.Dropped _ (by_outcome (outcome_of f.outcome f.bytes) (dropped, state_after sizes name handles store y z _ (quietly store)))
+        pub fill_dropped_step : r.dropped ≡ true → Step s (event.FillEnd (end_of f)) reply.Dropped (now sizes name handles syncs store y z)
+        fill_dropped_step dropped = fill_end_step s f r e reply.Dropped _ (by_outcome (outcome_of f.outcome f.bytes) (dropped, state_after sizes name handles syncs store y z _ (quietly store)))
           where
-            by_outcome : (o : Outcome) → (r.dropped ≡ true) × (now sizes name handles store y z ≡ ended s f.serial) → FillEndReply s f.serial (Some r) o reply.Dropped (now sizes name handles store y z)
+            by_outcome : (o : Outcome) → (r.dropped ≡ true) × (now sizes name handles syncs store y z ≡ ended s f.serial) → FillEndReply s f.serial (Some r) o reply.Dropped (now sizes name handles syncs store y z)
             by_outcome (outcome.Fault code) h = h
             by_outcome (outcome.Ok bytes) h = h
 
@@ -97,34 +98,34 @@ module _ (sizes : Sizes) (name : ℕ) (handles : FinMap nat_cmp ℕ) (store : St
           awaited_here = fills_here s store blocks c f.serial r e.found live (fill_kind r.kind e.kind)
 
           module _ (x : Store) where
-            pub fill_failed_core : x ≡ record store { filling = set.remove store.filling (r.file, r.page); free = store.free + 1; lists = left r.file r.page store.lists } → IsCore (now sizes name handles x y z) x y
-            fill_failed_core x_is = core_after sizes name handles x y z _ (becomes x _ x_is) (unfilled_core s store blocks c f.serial r e.found live (fill_kind r.kind e.kind))
+            pub fill_failed_core : x ≡ record store { filling = set.remove store.filling (r.file, r.page); free = store.free + 1; lists = left r.file r.page store.lists } → IsCore (now sizes name handles syncs x y z) x y
+            fill_failed_core x_is = core_after sizes name handles syncs x y z _ (becomes x _ x_is) (unfilled_core s store blocks c f.serial r e.found live (fill_kind r.kind e.kind))
 
-            pub fill_failed_step : x ≡ record store { filling = set.remove store.filling (r.file, r.page); free = store.free + 1; lists = left r.file r.page store.lists } → (code : ℕ) → f.outcome ≡ Err code → Step s (event.FillEnd (end_of f)) (reply.Failed code) (now sizes name handles x y z)
+            pub fill_failed_step : x ≡ record store { filling = set.remove store.filling (r.file, r.page); free = store.free + 1; lists = left r.file r.page store.lists } → (code : ℕ) → f.outcome ≡ Err code → Step s (event.FillEnd (end_of f)) (reply.Failed code) (now sizes name handles syncs x y z)
             fill_failed_step x_is code failed = fill_end_step s f r e (reply.Failed code) _
-                (subst (λ o. FillEndReply s f.serial (Some r) (outcome_of o f.bytes) (reply.Failed code) (now sizes name handles x y z)) (sym failed) (live, refl, state_after sizes name handles x y z _ (becomes x _ x_is)))
+                (subst (λ o. FillEndReply s f.serial (Some r) (outcome_of o f.bytes) (reply.Failed code) (now sizes name handles syncs x y z)) (sym failed) (live, refl, state_after sizes name handles syncs x y z _ (becomes x _ x_is)))
 
             abbrev filled : List ℕ → Store
             filled bytes = record (with_pages store r.file (finmap.insert (stored_at store r.file).pages r.page (record { bytes = bytes; tags = no_tags })) store.free) { filling = set.remove store.filling (r.file, r.page) }
 
             module _ (size : length f.bytes ≡ sizes.page) (bytes : List ℕ) (bytes_are : bytes ≡ f.bytes) (x_is : x ≡ filled bytes) where
-              pub fill_done_core : IsCore (now sizes name handles x y z) x y
-              fill_done_core = core_after sizes name handles x y z _ (becomes x _ (x_is ∙ ap filled bytes_are)) (filled_core s store blocks c f.serial r e.found live (fill_kind r.kind e.kind) f.bytes size _ refl refl refl)
+              pub fill_done_core : IsCore (now sizes name handles syncs x y z) x y
+              fill_done_core = core_after sizes name handles syncs x y z _ (becomes x _ (x_is ∙ ap filled bytes_are)) (filled_core s store blocks c f.serial r e.found live (fill_kind r.kind e.kind) f.bytes size _ refl refl refl)
 
-              pub fill_done_step : f.outcome ≡ Ok tt → Step s (event.FillEnd (end_of f)) reply.Filled (now sizes name handles x y z)
+              pub fill_done_step : f.outcome ≡ Ok tt → Step s (event.FillEnd (end_of f)) reply.Filled (now sizes name handles syncs x y z)
               fill_done_step went = fill_end_step s f r e reply.Filled _
-                  (subst (λ o. FillEndReply s f.serial (Some r) (outcome_of o f.bytes) reply.Filled (now sizes name handles x y z)) (sym went) (live, state_after sizes name handles x y z _ (becomes x _ (x_is ∙ ap filled bytes_are))))
+                  (subst (λ o. FillEndReply s f.serial (Some r) (outcome_of o f.bytes) reply.Filled (now sizes name handles syncs x y z)) (sym went) (live, state_after sizes name handles syncs x y z _ (becomes x _ (x_is ∙ ap filled bytes_are))))
 
       -- ---- flushes
 
       module _ (e : Ends s Flush f r) where
-        pub flush_dropped_core : IsCore (now sizes name handles store y z) store y
+        pub flush_dropped_core : IsCore (now sizes name handles syncs store y z) store y
         flush_dropped_core = quiet_invariant e.found (flush_fills_none r (flush_kind r.kind e.kind))
 
-        pub flush_dropped_step : r.dropped ≡ true → Step s (event.FlushEnd (end_of f)) reply.Dropped (now sizes name handles store y z)
-        flush_dropped_step dropped = flush_end_step s f r e reply.Dropped _ (by_outcome (outcome_of f.outcome f.bytes) (dropped, state_after sizes name handles store y z _ (quietly store)))
+        pub flush_dropped_step : r.dropped ≡ true → Step s (event.FlushEnd (end_of f)) reply.Dropped (now sizes name handles syncs store y z)
+        flush_dropped_step dropped = flush_end_step s f r e reply.Dropped _ (by_outcome (outcome_of f.outcome f.bytes) (dropped, state_after sizes name handles syncs store y z _ (quietly store)))
           where
-            by_outcome : (o : Outcome) → (r.dropped ≡ true) × (now sizes name handles store y z ≡ ended s f.serial) → FlushEndReply s f.serial (Some r) o reply.Dropped (now sizes name handles store y z)
+            by_outcome : (o : Outcome) → (r.dropped ≡ true) × (now sizes name handles syncs store y z ≡ ended s f.serial) → FlushEndReply s f.serial (Some r) o reply.Dropped (now sizes name handles syncs store y z)
             by_outcome (outcome.Fault code) h = h
             by_outcome (outcome.Ok bytes) h = h
 
@@ -165,7 +166,7 @@ module _ (sizes : Sizes) (name : ℕ) (handles : FinMap nat_cmp ℕ) (store : St
         marked b = record b { spots = with_written (finmap.get b.spots (r.file, r.page)) (r.file, r.page) b.spots }
 
         module _ (x_is : x ≡ retagged false) (left : Blocks) (left_is : left ≡ released r) (y_is : y ≡ marked left) where
-          abbrev written : Becomes sizes name handles x y z (set_written (put_page (ended s f.serial) r.file r.page (after_write false flushed_page.0)) r.file r.page)
+          abbrev written : Becomes sizes name handles syncs x y z (set_written (put_page (ended s f.serial) r.file r.page (after_write false flushed_page.0)) r.file r.page)
           written =
               let spots = written_is s r.file r.page (ap is_some (c.sound.mapped f.serial r e.found live)) in
               let after : Blocks = record (released r) { spots = finmap.insert s.spots (r.file, r.page) (record { block = block_of s r.file r.page; written = true }) } in
@@ -176,21 +177,21 @@ module _ (sizes : Sizes) (name : ℕ) (handles : FinMap nat_cmp ℕ) (store : St
                 store_is = x_is ∙ same_page false;
                 blocks_is = y_is ∙ ap marked left_is ∙ (λ i. record (released r) { spots = spots i });
                 flights_is = z_is;
-                state_is = ended_state sizes name handles store blocks flying f.serial (put_back false).files after;
+                state_is = ended_state sizes name handles syncs store blocks flying f.serial (put_back false).files after;
               }
 
-          pub flush_done_core : IsCore (now sizes name handles x y z) x y
-          flush_done_core = core_after sizes name handles x y z _ written (flushed_core s store blocks c f.serial r e.found live kind flushed_page.0 flushed_page.1 (put_back false) refl refl refl)
+          pub flush_done_core : IsCore (now sizes name handles syncs x y z) x y
+          flush_done_core = core_after sizes name handles syncs x y z _ written (flushed_core s store blocks c f.serial r e.found live kind flushed_page.0 flushed_page.1 (put_back false) refl refl refl)
 
-          pub flush_done_step : f.outcome ≡ Ok tt → Step s (event.FlushEnd (end_of f)) reply.Written (now sizes name handles x y z)
+          pub flush_done_step : f.outcome ≡ Ok tt → Step s (event.FlushEnd (end_of f)) reply.Written (now sizes name handles syncs x y z)
           flush_done_step went = flush_end_step s f r e reply.Written _
-              (subst (λ o. FlushEndReply s f.serial (Some r) (outcome_of o f.bytes) reply.Written (now sizes name handles x y z)) (sym went) (live, flushed_page.0, flushed_page.1, state_after sizes name handles x y z _ written))
+              (subst (λ o. FlushEndReply s f.serial (Some r) (outcome_of o f.bytes) reply.Written (now sizes name handles syncs x y z)) (sym went) (live, flushed_page.0, flushed_page.1, state_after sizes name handles syncs x y z _ written))
 
         abbrev noted : ℕ → Store → Store
         noted code k = record k { files = slice_set k.files r.file (record (stored_at k r.file) { failures = (stored_at k r.file).failures + 1; last_code = code }) }
 
         module _ (code told : ℕ) (told_is : told ≡ code) (w : Store) (w_is : w ≡ retagged true) (x_is : x ≡ noted told w) (y_is : y ≡ released r) where
-          abbrev failed : Becomes sizes name handles x y z (failed_once (put_page (ended s f.serial) r.file r.page (after_write true flushed_page.0)) r.file code)
+          abbrev failed : Becomes sizes name handles syncs x y z (failed_once (put_page (ended s f.serial) r.file r.page (after_write true flushed_page.0)) r.file code)
           failed = record {
             store = noted code (put_back true);
             blocks = released r;
@@ -198,12 +199,12 @@ module _ (sizes : Sizes) (name : ℕ) (handles : FinMap nat_cmp ℕ) (store : St
             store_is = x_is ∙ (λ i. noted (told_is i) ((w_is ∙ same_page true) i));
             blocks_is = y_is;
             flights_is = z_is;
-            state_is = ended_state sizes name handles store blocks flying f.serial (noted code (put_back true)).files (released r);
+            state_is = ended_state sizes name handles syncs store blocks flying f.serial (noted code (put_back true)).files (released r);
           }
 
-          pub flush_failed_invariant : IsCore (now sizes name handles x y z) x y
-          flush_failed_invariant = core_after sizes name handles x y z _ failed (flush_failed_core s store blocks c f.serial r e.found live kind flushed_page.0 flushed_page.1 code (noted code (put_back true)) refl refl refl)
+          pub flush_failed_invariant : IsCore (now sizes name handles syncs x y z) x y
+          flush_failed_invariant = core_after sizes name handles syncs x y z _ failed (flush_failed_core s store blocks c f.serial r e.found live kind flushed_page.0 flushed_page.1 code (noted code (put_back true)) refl refl refl)
 
-          pub flush_failed_step : f.outcome ≡ Err code → Step s (event.FlushEnd (end_of f)) (reply.Failed code) (now sizes name handles x y z)
+          pub flush_failed_step : f.outcome ≡ Err code → Step s (event.FlushEnd (end_of f)) (reply.Failed code) (now sizes name handles syncs x y z)
           flush_failed_step went = flush_end_step s f r e (reply.Failed code) _
-              (subst (λ o. FlushEndReply s f.serial (Some r) (outcome_of o f.bytes) (reply.Failed code) (now sizes name handles x y z)) (sym went) (live, refl, flushed_page.0, flushed_page.1, state_after sizes name handles x y z _ failed))
+              (subst (λ o. FlushEndReply s f.serial (Some r) (outcome_of o f.bytes) (reply.Failed code) (now sizes name handles syncs x y z)) (sym went) (live, refl, flushed_page.0, flushed_page.1, state_after sizes name handles syncs x y z _ failed))

@@ -1,6 +1,6 @@
 -- The end of a request is a step of the machine.
 use denote.Enum.Bare.{sameb}
-use Rattle.std.proofs.Common.{◌≡◌, Bool, true, false, cond, eqb, eq-eqb, refl, ap, sym, subst, ◌∙◌}
+use Rattle.std.proofs.Common.{◌≡◌, Bool, true, false, cond, eqb, eqb-true, eq-eqb, refl, ap, sym, subst, ◌∙◌}
 use Rattle.std.specs.Prelude.{◌&&◌, Some, None}
 use Rattle.std.specs.FinMap as finmap
 use Rattle.pc_types.specs.Kinds.{same_kind}
@@ -65,6 +65,9 @@ module _ (s : State) (k : Kind) (f : FinishedTask) where
   -- of the request that the code found in a state that is this one
   pub known : (t : State) (r : Request) → s ≡ t → Some r ≡ request_ended t k f → Ends r
   known t r view told = ends r (ap (λ x. request_ended x k f) view ∙ sym told)
+
+  pub same_cache : (r : Request) → Ends r → f.cache ≡ s.name
+  same_cache r h = eqb-true f.cache s.name (and_true _ _ (and_true _ _ h.test).0).0
 
   pub no_test : (r : Request) → Ends r → end_tests s k (end_of f) ≡ None
   no_test r h = ap (λ b. cond b None (refuse Stranger)) h.test

@@ -11,6 +11,7 @@ use Rattle.pc_types.specs.declared.ids.FileId.{FileId}
 use Rattle.pc_types.specs.declared.ids.PageIndex.{PageIndex}
 use Rattle.blockmap.specs.Blocks.{Blocks}
 use Rattle.writeback.specs.Flights.{Flights}
+use Rattle.writeback.specs.Syncs.{SyncState}
 use Rattle.cachecore.specs.declared.event.Event.TheVariants as event
 use Rattle.cachecore.specs.declared.event.Reply.TheVariants as reply
 use Rattle.cachecore.specs.State.{State, File, Page, no_file, file_at, is_idle, page_at}
@@ -21,12 +22,14 @@ use Rattle.cachecore.specs.Replies.{evicted}
 use Rattle.cachecore.specs.Sound.{Sound}
 use Rattle.cachecore.specs.Step.{Step, Answers, EvictReply}
 use Rattle.cachecore.specs.Store.{Store, stored_at, stored_page, is_awaited}
+use Rattle.cachecore.specs.Syncing.{failed_of}
 use Rattle.cachecore.specs.Tables.{IsCore, state_of}
 use Rattle.cachecore.specs.Tests.{has_idle}
 use Rattle.cachecore.proofs.CutSteps.{core-changed}
 use Rattle.cachecore.proofs.HandleLemmas.{len_one_less}
 use Rattle.cachecore.proofs.MapLaws.{any_value, get-remove_nat, no_entries}
 use Rattle.cachecore.proofs.SoundPages.{drop_page_sound}
+use Rattle.cachecore.proofs.SyncLaws.{files_failed}
 
 -- ---- whether some page is idle
 
@@ -58,18 +61,23 @@ within [] f p h = absurd (let e = get-empty {X = Page} nat_cmp p in let none = a
 within (x ∷ files) zero p h = omega arith
 within (x ∷ files) (suc f) p h = let more = within files f p h in omega arith
 
-module _ (sizes : Sizes) (name : ℕ) (handles : FinMap nat_cmp ℕ) (old now : Store) (blocks : Blocks) (flight : Flights) where
+-- the failures of no file change
+pub evicted_failed : (old now : Store) (r : Option (FileId × PageIndex)) → Evicts old r now → (g : ℕ) → failed_of now.files g ≡ failed_of old.files g
+evicted_failed old now None h g = ap (λ (x : Store). failed_of x.files g) h.1
+evicted_failed old now (Some e) h g = files_failed now.files old e.0.0 _ 0 (ap (λ (x : Store). x.files) h.3) g
+
+module _ (sizes : Sizes) (name : ℕ) (handles : FinMap nat_cmp ℕ) (old now : Store) (blocks : Blocks) (flight : Flights) (syncs : FinMap nat_cmp SyncState) where
   abbrev s : State
-  s = state_of sizes name old.files handles blocks flight
+  s = state_of sizes name old.files handles blocks flight syncs
 
   abbrev t : State
-  t = state_of sizes name now.files handles blocks flight
+  t = state_of sizes name now.files handles blocks flight syncs
 
   pub evict_step : (r : Option (FileId × PageIndex)) → Evicts old r now → Step s event.Evict (evicted r) t
   evict_step None h = go (has_idle s) h.0
     where
       same : t ≡ s
-      same = ap (λ (x : Store). state_of sizes name x.files handles blocks flight) h.1
+      same = ap (λ (x : Store). state_of sizes name x.files handles blocks flight syncs) h.1
 
       go : (b : Bool) → b ≡ false → Answers (cond b None (Some reply.NoneIdle)) reply.NoneIdle s t (EvictReply s reply.NoneIdle t)
       go true e = absurd cc
@@ -77,7 +85,7 @@ module _ (sizes : Sizes) (name : ℕ) (handles : FinMap nat_cmp ℕ) (old now : 
   evict_step (Some e) h = go (has_idle s) (some_idle s e.0.0 e.1.0 h.0 h.1 h.2)
     where
       now_is : t ≡ drop_page s e.0.0 e.1.0
-      now_is = ap (λ (x : Store). state_of sizes name x.files handles blocks flight) h.3
+      now_is = ap (λ (x : Store). state_of sizes name x.files handles blocks flight syncs) h.3
 
       go : (b : Bool) → b ≡ true → Answers (cond b None (Some reply.NoneIdle)) (reply.Evicted e.0 e.1) s t (EvictReply s (reply.Evicted e.0 e.1) t)
       go true k = (h.0, h.1, h.2, now_is)
@@ -86,7 +94,7 @@ module _ (sizes : Sizes) (name : ℕ) (handles : FinMap nat_cmp ℕ) (old now : 
   -- ---- the tables
 
   pub core-evicted : (r : Option (FileId × PageIndex)) → Evicts old r now → IsCore s old blocks → IsCore t now blocks
-  core-evicted None h c = subst (λ (x : Store). IsCore (state_of sizes name x.files handles blocks flight) x blocks) (sym h.1) c
+  core-evicted None h c = subst (λ (x : Store). IsCore (state_of sizes name x.files handles blocks flight syncs) x blocks) (sym h.1) c
   core-evicted (Some e) h c =
       let f = e.0.0 in
       let p = e.1.0 in
@@ -97,7 +105,7 @@ module _ (sizes : Sizes) (name : ℕ) (handles : FinMap nat_cmp ℕ) (old now : 
       let fewer = len_one_less (stored_at old f).pages p there in
       let free : now.free ≡ old.free + 1 = ap (λ (x : Store). x.free) h.3 in
       let sound : Sound (drop_page s f p) = drop_page_sound s c.sound f p page h.1 h.2 in
-      let all : t ≡ drop_page s f p = ap (λ (x : Store). state_of sizes name x.files handles blocks flight) h.3 in
+      let all : t ≡ drop_page s f p = ap (λ (x : Store). state_of sizes name x.files handles blocks flight syncs) h.3 in
       subst (λ x. IsCore x now blocks) (sym all)
       (core-changed s old blocks c f here file s.spots s.requests s.syncs now blocks (fewer_sized sizes.page p (stored_at old f).pages (c.sized f)) (c.bounded f) (ap (λ (x : Store). x.page) h.3)
       (omega (arith, fewer, free)) (λ g q. ap (λ (x : Store). is_awaited x g q) h.3 ∙ c.filling g q) refl c.holds (λ t r e. (c.within t r e, c.filed t r e)) refl refl sound)

@@ -17,6 +17,7 @@ use Rattle.blockmap.specs.Blocks.{Blocks}
 use Rattle.blockmap.specs.Keys.{IsPage}
 use Rattle.writeback.specs.Flights as flights
 use Rattle.writeback.specs.Flights.{Flight, Flights}
+use Rattle.writeback.specs.Syncs.{SyncState}
 use Rattle.cachecore.specs.declared.event.Reply.{Reply}
 use Rattle.cachecore.specs.declared.event.Reply.TheVariants as reply
 use Rattle.cachecore.specs.State.{State, Request, is_cached, is_filling, is_written, spot_at}
@@ -26,6 +27,7 @@ use Rattle.cachecore.specs.Step.{Answers, FillBeginReply}
 use Rattle.cachecore.specs.Replies.{FillsAbsent, IsJobOf}
 use Rattle.cachecore.specs.PageLists.{entered}
 use Rattle.cachecore.specs.Store.{Store}
+use Rattle.cachecore.specs.Syncing.{AreSyncs}
 use Rattle.cachecore.specs.Tables.{IsCore, state_of}
 use Rattle.cachecore.proofs.FillKeeps.{block_is, filling_store, fill_begun_core}
 use Rattle.cachecore.proofs.FlightLaws.{full-requests}
@@ -71,9 +73,9 @@ fill_job old new f p b at is job next name kind block =
 
 -- ---- the parts
 
-module _ (sizes : Sizes) (name : ℕ) (handles : FinMap nat_cmp ℕ) (store : Store) (blocks : Blocks) (flying : Flights) where
+module _ (sizes : Sizes) (name : ℕ) (handles : FinMap nat_cmp ℕ) (store : Store) (blocks : Blocks) (flying : Flights) (syncs : FinMap nat_cmp SyncState) where
   abbrev s : State
-  s = state_of sizes name store.files handles blocks flying
+  s = state_of sizes name store.files handles blocks flying syncs
 
   -- whether a request may begin, as the table tells it
   pub told_full : (old : State) → s ≡ old → is_full old ≡ flights.is_full flying
@@ -83,14 +85,14 @@ module _ (sizes : Sizes) (name : ℕ) (handles : FinMap nat_cmp ℕ) (store : St
     abbrev flight : Flight
     flight = record { kind = Fill; file = f; page = p; block = spot.block; dropped = false }
 
-    module _ (x : Store) (y : Blocks) (z : Flights) (x_is : x ≡ record store { filling = set.insert store.filling (f, p); free = store.free - 1; lists = entered f p store.lists }) (y_is : y ≡ record blocks { held = finmap.insert blocks.held spot.block false }) (z_is : z ≡ flights.begun flying flight) where
+    module _ (w : AreSyncs handles flying.next store.files syncs) (x : Store) (y : Blocks) (z : Flights) (x_is : x ≡ record store { filling = set.insert store.filling (f, p); free = store.free - 1; lists = entered f p store.lists }) (y_is : y ≡ record blocks { held = finmap.insert blocks.held spot.block false }) (z_is : z ≡ flights.begun flying flight) where
       same_block : spot.block ≡ block_of s f p
       same_block = sym (block_is s store blocks c f p absent idle spot at)
 
       abbrev holding : Blocks
       holding = record blocks { held = finmap.insert blocks.held (block_of s f p) false }
 
-      abbrev becomes : Becomes sizes name handles x y z (filling s f p)
+      abbrev becomes : Becomes sizes name handles syncs x y z (filling s f p)
       becomes = record {
         store = filling_store s store blocks c f p absent idle spot at;
         blocks = holding;
@@ -98,11 +100,11 @@ module _ (sizes : Sizes) (name : ℕ) (handles : FinMap nat_cmp ℕ) (store : St
         store_is = x_is;
         blocks_is = y_is ∙ ap (λ b. let k : Blocks = record blocks { held = finmap.insert blocks.held b false } in k) same_block;
         flights_is = z_is ∙ ap (λ b. flights.begun flying (record flight { block = b })) same_block;
-        state_is = begun_state sizes name handles store blocks flying (record flight { block = block_of s f p }) store.files holding;
+        state_is = begun_state sizes name handles syncs store blocks flying (record flight { block = block_of s f p }) store.files holding w;
       }
 
-      pub reading_state : now sizes name handles x y z ≡ filling s f p
-      reading_state = state_after sizes name handles x y z _ becomes
+      pub reading_state : now sizes name handles syncs x y z ≡ filling s f p
+      reading_state = state_after sizes name handles syncs x y z _ becomes
 
-      pub reading_core : IsPage f p → f < length store.files → spot.written ≡ true → 0 < store.free → flying.next < SERIAL_END → IsCore (now sizes name handles x y z) x y
-      reading_core place here written some room = core_after sizes name handles x y z _ becomes (fill_begun_core s store blocks c f p absent idle spot at place here written some room)
+      pub reading_core : IsPage f p → f < length store.files → spot.written ≡ true → 0 < store.free → flying.next < SERIAL_END → IsCore (now sizes name handles syncs x y z) x y
+      reading_core place here written some room = core_after sizes name handles syncs x y z _ becomes (fill_begun_core s store blocks c f p absent idle spot at place here written some room)

@@ -22,6 +22,7 @@ use Rattle.blockmap.proofs.MapLemmas.{mapped_at}
 use Rattle.mapping.proofs.MapLemmas.{get-insert_here}
 use Rattle.writeback.specs.Flights as flights
 use Rattle.writeback.specs.Flights.{Flight, Flights}
+use Rattle.writeback.specs.Syncs.{SyncState}
 use Rattle.cachecore.specs.declared.answers.FlushBegun.{FlushBegun}
 use Rattle.cachecore.specs.declared.answers.FlushBegun.TheVariants as flush
 use Rattle.cachecore.specs.declared.answers.Refused.{Refused}
@@ -36,7 +37,9 @@ use Rattle.cachecore.specs.Bare.{bare}
 use Rattle.cachecore.specs.Replies as replies
 use Rattle.cachecore.specs.Replies.{FlushStep, IsFlushJob}
 use Rattle.cachecore.specs.Sound.{block_at}
+use Rattle.cachecore.specs.Starting.{IsStarted, MayStart}
 use Rattle.cachecore.specs.Store.{Store, stored_at, stored_page, with_pages, under_write}
+use Rattle.cachecore.specs.Syncing.{AreSyncs}
 use Rattle.cachecore.specs.Tables.{IsCore, state_of}
 use Rattle.cachecore.proofs.BareChanges.{flush_begun, bare-no_bytes, bare-started}
 use Rattle.cachecore.proofs.EndCalls.{page_is}
@@ -77,12 +80,23 @@ module _ (s : State) (f : FileId) where
       pub full_step : is_full s ≡ true → Step s (event.FlushBegin f) (reply.Refused TooManyInFlight) s
       full_step full = later (nat_le (length s.files) f.0) _ reply.Nothing _ _ s there (later (not (is_some (flush_pick (file_at s f.0)))) _ reply.Nothing _ _ s found (first (is_full s) _ _ full))
 
-      pub begun_step : is_full s ≡ false → (page : Page) → page_at s f.0 p ≡ Some page → (t : Serial) → t.0 ≡ s.next → Step s (event.FlushBegin f) (reply.Job t) (started s f.0 p page)
+      begun_step : is_full s ≡ false → (page : Page) → page_at s f.0 p ≡ Some page → (t : Serial) → t.0 ≡ s.next → Step s (event.FlushBegin f) (reply.Job t) (started s f.0 p page)
       begun_step room page at t next =
           later (nat_le (length s.files) f.0) _ reply.Nothing _ _ (started s f.0 p page) there
           (later (not (is_some (flush_pick (file_at s f.0)))) _ reply.Nothing _ _ (started s f.0 p page) found
           (later (is_full s) _ reply.Nothing None _ (started s f.0 p page) room
           (subst (λ o. FlushBeginReply s f.0 o (reply.Job t) (started s f.0 p page)) pick (next, page, at, refl))))
+
+      -- a page whose write was begun
+      pub flush_call : is_full s ≡ false → (job : Task) (new : State) → IsStarted s f.0 p job new → FlushStep s f.0 (Ok (flush.Job job)) new
+      flush_call room job new h = (started s f.0 p h.0, begun_step room h.0 h.1 (record { 0 = job.serial }) h.2, h.3, h.4)
+
+  -- the page that is picked
+  pub flush_startable : (p : ℕ) → Some p ≡ flush_pick (file_at s f.0) → MayStart s f.0 p
+  flush_startable p pick =
+      let it = pick_page s f.0 p (sym pick) in
+      let tags = picked s f.0 p it.0 (sym pick) it.1 in
+      (it.0, it.1, tags.0, tags.1)
 
 -- ---- the calls
 
@@ -103,9 +117,9 @@ spot_has : (o : Option Spot) (b : ℕ) → option_map (λ (x : Spot). x.block) o
 spot_has None b e = absurd cc
 spot_has (Some x) b e = eq-eqb x.block b (let a : x.block ≡ b = cc in a)
 
-module _ (sizes : Sizes) (name : ℕ) (handles : FinMap nat_cmp ℕ) (store : Store) (blocks : Blocks) (flying : Flights) where
+module _ (sizes : Sizes) (name : ℕ) (handles : FinMap nat_cmp ℕ) (store : Store) (blocks : Blocks) (flying : Flights) (syncs : FinMap nat_cmp SyncState) where
   abbrev s : State
-  s = state_of sizes name store.files handles blocks flying
+  s = state_of sizes name store.files handles blocks flying syncs
 
   pub is_bare : bare s ≡ s
   is_bare = bare-no_bytes s (no_bytes flying.requests)
@@ -117,21 +131,18 @@ module _ (sizes : Sizes) (name : ℕ) (handles : FinMap nat_cmp ℕ) (store : St
   pub same_step : (f : ℕ) (result : Result FlushBegun Refused) → IsFlushJob s result → Step s (event.FlushBegin (record { 0 = f })) (replies.flush_begun result) s → FlushStep s f result s
   same_step f result job step = (s, step, sym is_bare, job)
 
-  module _ (c : IsCore s store blocks) (f : FileId) (p : ℕ) (pick : Some p ≡ flush_pick (file_at s f.0)) where
+  module _ (c : IsCore s store blocks) (f : FileId) (p : ℕ) (start : MayStart s f.0 p) where
     abbrev page : Page
-    page = (pick_page s f.0 p (sym pick)).0
+    page = start.0
 
     at : page_at s f.0 p ≡ Some page
-    at = (pick_page s f.0 p (sym pick)).1
+    at = start.1
 
-    pub cached_pick : is_some (stored_page store f.0 p) ≡ true
-    cached_pick = ap is_some at
-
-    tags : (page.tags.dirty ≡ true) × (page.tags.writeback ≡ false)
-    tags = picked s f.0 p page (sym pick) at
+    pub cached_start : is_some (stored_page store f.0 p) ≡ true
+    cached_start = ap is_some at
 
     block_is : block_at s f.0 p ≡ Some (block_of s f.0 p)
-    block_is = page_block s store blocks c f.0 p page at tags.0 tags.1
+    block_is = page_block s store blocks c f.0 p page at start.2 start.3
 
     pub must_be_told : None ≡ option_map told (finmap.get blocks.spots (f.0, p)) → ⊥
     must_be_told none = no_told (finmap.get blocks.spots (f.0, p)) none (ap is_some block_is)
@@ -144,7 +155,7 @@ module _ (sizes : Sizes) (name : ℕ) (handles : FinMap nat_cmp ℕ) (store : St
       mapped_block = mapped_at blocks.spots (f.0, p) placed.block.0 (spot_has (finmap.get blocks.spots (f.0, p)) placed.block.0 (block_is ∙ ap Some same_block))
 
       pub unheld_block : finmap.get blocks.held placed.block.0 ≡ None
-      unheld_block = ap (finmap.get blocks.held) (sym same_block) ∙ unheld_here s store blocks c f.0 p page at tags.0 tags.1
+      unheld_block = ap (finmap.get blocks.held) (sym same_block) ∙ unheld_here s store blocks c f.0 p page at start.2 start.3
 
       module _ (room : flights.is_full flying ≡ false) where
         pub held_room : finmap.len blocks.held < 64
@@ -156,14 +167,14 @@ module _ (sizes : Sizes) (name : ℕ) (handles : FinMap nat_cmp ℕ) (store : St
         abbrev flight : Flight
         flight = record { kind = Flush; file = f.0; page = p; block = placed.block.0; dropped = false }
 
-        module _ (place : IsPage f.0 p) (x : Store) (y : Blocks) (z : Flights) (x_is : x ≡ written_now) (y_is : y ≡ record blocks { held = finmap.insert blocks.held placed.block.0 false }) (z_is : z ≡ flights.begun flying flight) where
+        module _ (place : IsPage f.0 p) (w : AreSyncs handles flying.next store.files syncs) (x : Store) (y : Blocks) (z : Flights) (x_is : x ≡ written_now) (y_is : y ≡ record blocks { held = finmap.insert blocks.held placed.block.0 false }) (z_is : z ≡ flights.begun flying flight) where
           abbrev shown : Store
           shown = with_pages store f.0 (finmap.insert (stored_at store f.0).pages p (under_write page)) store.free
 
           abbrev holding : Blocks
           holding = record blocks { held = finmap.insert blocks.held (block_of s f.0 p) false }
 
-          abbrev becomes : Becomes sizes name handles x y z (flush_begun s f.0 p page)
+          abbrev becomes : Becomes sizes name handles syncs x y z (flush_begun s f.0 p page)
           becomes = record {
             store = shown;
             blocks = holding;
@@ -171,23 +182,22 @@ module _ (sizes : Sizes) (name : ℕ) (handles : FinMap nat_cmp ℕ) (store : St
             store_is = x_is ∙ ap (λ k. with_pages store f.0 (finmap.insert (stored_at store f.0).pages p (under_write k)) store.free) (page_is (stored_at store f.0).pages p page at);
             blocks_is = y_is ∙ ap (λ b. let k : Blocks = record blocks { held = finmap.insert blocks.held b false } in k) (sym same_block);
             flights_is = z_is ∙ ap (λ b. flights.begun flying (record flight { block = b })) (sym same_block);
-            state_is = begun_state sizes name handles store blocks flying (record flight { block = block_of s f.0 p }) shown.files holding;
+            state_is = begun_state sizes name handles syncs store blocks flying (record flight { block = block_of s f.0 p }) shown.files holding w;
           }
 
-          pub begun_core : IsCore (now sizes name handles x y z) x y
-          begun_core = core_after sizes name handles x y z _ becomes (flush_begun_core s store blocks c f.0 p page at tags.0 tags.1 place (serials_left s store blocks c (full_is ∙ room)) is_bare shown refl refl refl)
+          pub begun_core : IsCore (now sizes name handles syncs x y z) x y
+          begun_core = core_after sizes name handles syncs x y z _ becomes (flush_begun_core s store blocks c f.0 p page at start.2 start.3 place (serials_left s store blocks c (full_is ∙ room)) is_bare shown refl refl refl)
 
-          pub begun_call : (t : Serial) → t.0 ≡ flying.next → (job : Task) → job ≡ record { cache = name; serial = t.0; kind = Flush; block = placed.block.0; bytes = (the_page (stored_at store f.0).pages p).bytes } → f.0 < length store.files
-              → FlushStep s f.0 (Ok (flush.Job job)) (now sizes name handles x y z)
-          begun_call t next job job_is here =
-              let full = started s f.0 p page in
+          pub started_call : (t : Serial) → t.0 ≡ flying.next → (job : Task) → job ≡ record { cache = name; serial = t.0; kind = Flush; block = placed.block.0; bytes = (the_page (stored_at store f.0).pages p).bytes } → IsStarted s f.0 p job (now sizes name handles syncs x y z)
+          started_call t next job job_is =
               let new : Request = record { kind = Flush; file = f.0; page = p; block = block_of s f.0 p; bytes = page.bytes; dropped = false } in
               let serial : job.serial ≡ flying.next = ap (λ (k : Task). k.serial) job_is ∙ next in
               let bytes : (the_page (stored_at store f.0).pages p).bytes ≡ page.bytes = ap (λ (k : Page). k.bytes) (page_is (stored_at store f.0).pages p page at) in
               let whole : job ≡ record { cache = name; serial = job.serial; kind = Flush; block = block_of s f.0 p; bytes = page.bytes } =
               job_is ∙ (λ i. let k : Task = record { cache = name; serial = (next ∙ sym serial) i; kind = Flush; block = sym same_block i; bytes = bytes i } in k) in (
-                full,
-                begun_step s f here p pick (full_is ∙ room) page at (record { 0 = job.serial }) serial,
-                state_after sizes name handles x y z _ becomes ∙ sym (bare-started s f.0 p page ∙ ap (λ n. flush_begun n f.0 p page) is_bare),
+                page,
+                at,
+                serial,
+                state_after sizes name handles syncs x y z _ becomes ∙ sym (bare-started s f.0 p page ∙ ap (λ n. flush_begun n f.0 p page) is_bare),
                 (new, get-insert_here s.requests flying.next new job.serial serial, whole),
               )

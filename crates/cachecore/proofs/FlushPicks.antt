@@ -25,7 +25,7 @@ use Rattle.cachecore.proofs.StoreLaws.{stored-kept}
 
 -- ---- among the values that are seen
 
-abbrev passes : {Y : Type 0} → (ℕ × Y → Bool) → ℕ → Option Y → Bool
+abbrev pub passes : {Y : Type 0} → (ℕ × Y → Bool) → ℕ → Option Y → Bool
 passes b q None = false
 passes b q (Some y) = b (q, y)
 

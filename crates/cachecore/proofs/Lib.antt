@@ -48,6 +48,7 @@ pub mod SoundFacts
 pub mod SoundSteps
 pub mod Runs
 pub mod FlightLaws
+pub mod SyncLaws
 pub mod FillPlaces
 pub mod HoldLaws
 pub mod RequestLaws
@@ -71,6 +72,11 @@ pub mod Removals
 pub mod Evictions
 pub mod TagChanges
 pub mod FlushPicks
+pub mod SyncPicks
+pub mod SyncChanges
+pub mod SyncSteps
+pub mod SyncCalls
+pub mod SyncTags
 pub mod Idle
 pub mod ListedFrames
 pub mod Owners

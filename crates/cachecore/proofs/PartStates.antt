@@ -7,17 +7,19 @@ use Rattle.pc_types.specs.Limits.{Sizes}
 use Rattle.blockmap.specs.Blocks.{Blocks}
 use Rattle.writeback.specs.Flights as flights
 use Rattle.writeback.specs.Flights.{Flight, Flights}
+use Rattle.writeback.specs.Syncs.{SyncState}
 use Rattle.cachecore.specs.State.{State, File}
-use Rattle.cachecore.specs.Changes.{still_awaits, ended}
+use Rattle.cachecore.specs.Changes.{ended}
 use Rattle.cachecore.specs.Flying.{request_of, requests_of}
 use Rattle.cachecore.specs.Store.{Store}
+use Rattle.cachecore.specs.Syncing.{AreSyncs}
 use Rattle.cachecore.specs.Tables.{IsCore, state_of}
-use Rattle.cachecore.proofs.BareMaps.{each-empty}
 use Rattle.cachecore.proofs.FlightLaws.{requests-begun, requests-ended}
+use Rattle.cachecore.proofs.SyncLaws.{syncs-begun, syncs-ended}
 
-module _ (sizes : Sizes) (name : ℕ) (handles : FinMap nat_cmp ℕ) where
+module _ (sizes : Sizes) (name : ℕ) (handles : FinMap nat_cmp ℕ) (syncs : FinMap nat_cmp SyncState) where
   abbrev pub now : Store → Blocks → Flights → State
-  now x y z = state_of sizes name x.files handles y z
+  now x y z = state_of sizes name x.files handles y z syncs
 
   -- what the parts are now, and the state that these are
   pub record Becomes (x : Store) (y : Blocks) (z : Flights) (n : State) : Type 0 where
@@ -39,7 +41,7 @@ module _ (sizes : Sizes) (name : ℕ) (handles : FinMap nat_cmp ℕ) where
 
   -- a request ended
   pub ended_state : (store : Store) (blocks : Blocks) (flying : Flights) (t : ℕ) (files : List File) (left : Blocks)
-      → state_of sizes name files handles left (flights.ended flying t) ≡ record (ended (now store blocks flying) t) { files = files; spots = left.spots }
+      → state_of sizes name files handles left (flights.ended flying t) syncs ≡ record (ended (now store blocks flying) t) { files = files; spots = left.spots }
   ended_state store blocks flying t files left i =
       record {
         sizes = sizes;
@@ -49,13 +51,13 @@ module _ (sizes : Sizes) (name : ℕ) (handles : FinMap nat_cmp ℕ) where
         spots = left.spots;
         next = flying.next;
         requests = requests-ended flying.requests t i;
-        syncs = sym (each-empty (still_awaits (finmap.remove (requests_of flying.requests) t))) i;
+        syncs = syncs-ended handles flying.requests t syncs i;
       }
 
   -- a request began
-  pub begun_state : (store : Store) (blocks : Blocks) (flying : Flights) (new : Flight) (files : List File) (left : Blocks)
-      → state_of sizes name files handles left (flights.begun flying new) ≡ record (now store blocks flying) { files = files; spots = left.spots; requests = finmap.insert (requests_of flying.requests) flying.next (request_of new); next = flying.next + 1 }
-  begun_state store blocks flying new files left i =
+  pub begun_state : (store : Store) (blocks : Blocks) (flying : Flights) (new : Flight) (files : List File) (left : Blocks) → AreSyncs handles flying.next store.files syncs
+      → state_of sizes name files handles left (flights.begun flying new) syncs ≡ record (now store blocks flying) { files = files; spots = left.spots; requests = finmap.insert (requests_of flying.requests) flying.next (request_of new); next = flying.next + 1 }
+  begun_state store blocks flying new files left w i =
       record {
         sizes = sizes;
         name = name;
@@ -64,5 +66,5 @@ module _ (sizes : Sizes) (name : ℕ) (handles : FinMap nat_cmp ℕ) where
         spots = left.spots;
         next = flying.next + 1;
         requests = requests-begun flying.requests flying.next new i;
-        syncs = finmap.empty;
+        syncs = syncs-begun handles flying.requests flying.next new syncs store.files w i;
       }

@@ -30,7 +30,7 @@ to_write_retagged block (Some page) fit = go page.tags.dirty refl
     go false e = not_retagged block (Some page) (Some page) fit refl
 
 module _ (s : State) (ok : Sound s) where
-  begun_sound : (h f n : ℕ) → Sound (sync_begun s h f n)
+  pub begun_sound : (h f n : ℕ) → Sound (sync_begun s h f n)
   begun_sound h f n = pages_retagged (lookups s) ok (page_at (sync_begun s h f n)) (λ g q. elim (put_file_tells s f (record (file_at s f) { pages = each_value to_write (file_at s f).pages }) g q) [
     | inl e ↦ subst (IsRetagged (block_at s g q) (page_at s g q)) (sym (e.1 ∙ get-each_value to_write (file_at s f).pages q ∙ ap (λ k. option_map to_write (page_at s k q)) (sym e.0))) (to_write_retagged (block_at s g q) (page_at s g q) (tags_fit (lookups s) ok g q))
     | inr e ↦ not_retagged (block_at s g q) (page_at s g q) _ (tags_fit (lookups s) ok g q) e.0
@@ -57,7 +57,7 @@ module _ (s : State) (ok : Sound s) where
   }
 
   -- the page that a sync starts is cached and DIRTY
-  picked : (sync : Sync) (f : ℕ) (e : ℕ × Page) → sync_pick (file_at s f) sync.last ≡ Some e → (page_at s f e.0 ≡ Some e.1) × (e.1.tags.dirty ≡ true)
+  pub picked : (sync : Sync) (f : ℕ) (e : ℕ × Page) → sync_pick (file_at s f) sync.last ≡ Some e → (page_at s f e.0 ≡ Some e.1) × (e.1.tags.dirty ≡ true)
   picked sync f e pick =
       let a = found (file_at s f).pages (λ (x : ℕ × Page). x.1.tags.towrite && past sync.last x.0) e pick in
       let t = and_true e.1.tags.towrite (past sync.last e.0) a.0 in

@@ -1,5 +1,5 @@
 -- What the calls answer is a step of the machine.
-use Rattle.std.proofs.Common.{◌≡◌, ℕ, ◌+◌, ◌-◌, ◌/◌, ◌%◌, ◌<◌, ◌≤◌, min, Bool, true, false, cond, not, eqb, List, ◌++◌, length, get_or, take, refl, ap, sym, subst, ◌∙◌, arith, length-append, map}
+use Rattle.std.proofs.Common.{◌≡◌, ℕ, ◌+◌, ◌-◌, ◌/◌, ◌%◌, ◌<◌, ◌≤◌, min, Bool, true, false, cond, not, eqb, List, ◌++◌, length, get_or, take, refl, ap, sym, subst, ◌∙◌, arith, length-append}
 use Rattle.std.specs.Prelude.{Option, Some, None, is_some, unwrap_or, find, nat_lt, nat_le, Result, Ok, Err, IsErrAnd, is_err, OnOk, OnErr}
 use Rattle.std.specs.List.{range_with_len, list_any}
 use Rattle.std.specs.Ordering.{nat_cmp}
@@ -10,21 +10,21 @@ use Rattle.std.proofs.lemmas.Bool.Decides.{nat_tests}
 use Rattle.std.proofs.lemmas.Grind.{same_number_lists}
 use Rattle.std.proofs.lemmas.List.{get_or-take, length-take, get_or_append_left}
 use Rattle.std.proofs.lemmas.List.FromFn.{length-map-range_with_len, get_or-map-range_with_len}
+use Rattle.pc_types.specs.declared.ids.FileId.{FileId}
 use Rattle.pc_types.specs.declared.ids.HandleId.{HandleId}
 use Rattle.pc_types.specs.declared.ids.PageIndex.{PageIndex}
-use Rattle.pc_types.specs.declared.limits.TheConstants.{MAX_TOUCHED, MAX_FILE_SIZE}
+use Rattle.pc_types.specs.declared.limits.TheConstants.{MAX_HANDLES, MAX_TOUCHED, MAX_FILE_SIZE}
 use Rattle.pc_types.specs.declared.refusal.Refusal.{Refusal}
-use Rattle.pc_types.specs.declared.refusal.Refusal.TheVariants.{TooLong, NoFrame, Memory}
+use Rattle.pc_types.specs.declared.refusal.Refusal.TheVariants.{Busy, TooLong, NoFrame, Memory}
 use Rattle.cachecore.specs.declared.event.Event.TheVariants as event
 use Rattle.cachecore.specs.declared.event.Reply.{Reply}
 use Rattle.cachecore.specs.declared.event.Reply.TheVariants as reply
 use Rattle.cachecore.specs.State.{State, File, Page, Sync, file_at, file_of, is_open, is_cached, is_filling, touched_count, byte_at, bytes_at, page_byte, page_count, free_frames}
 use Rattle.cachecore.specs.Changes.{written}
 use Rattle.cachecore.specs.Tests.{read_count, read_stop, write_stop, stopped, first_of, refuse, room_tests, write_tests}
-use Rattle.cachecore.specs.Step.{Step, Answers, ReadReply, WriteReply}
+use Rattle.cachecore.specs.Step.{IsLowest, Step, Answers, ReadReply, WriteReply}
 use Rattle.cachecore.specs.Replies.{FillsAbsent}
 use Rattle.cachecore.specs.Pairs.{AreCached, AreRead}
-use Rattle.cachecore.proofs.MapLaws.{no_entries}
 use Rattle.cachecore.proofs.Runs.{none_absent}
 
 -- what `?` makes of an error
@@ -40,18 +40,30 @@ pub when_ok : {A E : Type 0} (r : Result A E) (P : Type 0) → false ≡ is_err 
 when_ok (Ok x) P e h = h
 when_ok (Err x) P e h = absurd (false≢true e)
 
--- ---- no sync
+-- ---- handles
 
-none_busy : (s : State) (h : ℕ) → s.syncs ≡ finmap.empty → list_any (λ (sync : Sync). eqb sync.handle h) (finmap.values s.syncs) ≡ false
-none_busy s h e = ap (λ (es : List (ℕ × Sync)). list_any (λ (sync : Sync). eqb sync.handle h) (map (λ (e : ℕ × Sync). e.1) es)) (ap finmap.entries e ∙ no_entries nat_cmp)
-
-two_false : (a b : Bool) (x y : Option Reply) (r : Reply) (old new : State) (happens : Type 0) → a ≡ false → b ≡ false → happens → Answers (cond a x (cond b y None)) r old new happens
+pub two_false : (a b : Bool) (x y : Option Reply) (r : Reply) (old new : State) (happens : Type 0) → a ≡ false → b ≡ false → happens → Answers (cond a x (cond b y None)) r old new happens
 two_false true b x y r old new happens ea eb h = absurd (false≢true (sym ea))
 two_false false true x y r old new happens ea eb h = absurd (false≢true (sym eb))
 two_false false false x y r old new happens ea eb h = h
 
-pub close_step : (s : State) (h : HandleId) → is_some (finmap.get s.handles h.0) ≡ true → s.syncs ≡ finmap.empty → Step s (event.Close h) reply.Closed (record s { handles = finmap.remove s.handles h.0 })
-close_step s h there none = two_false _ _ _ _ _ s _ _ (ap not there) (none_busy s h.0 none) refl
+pub open_step : (s : State) (f : FileId) (h : HandleId) → f.0 < length s.files → finmap.len s.handles < MAX_HANDLES → IsLowest (is_open s) h.0 → Step s (event.Open f) (reply.Handle h) (record s { handles = finmap.insert s.handles h.0 f.0 })
+open_step s f h here room lowest = two_false _ _ _ _ _ s _ _ (no_more (length s.files) f.0 here) (no_more MAX_HANDLES (finmap.len s.handles) room) (lowest, refl)
+  where
+    no_more : (n k : ℕ) → k < n → nat_le n k ≡ false
+    no_more n k p = grind (arith, nat_tests)
+
+pub second : (a b : Bool) (x : Option Reply) (y : Reply) (s : State) (happens : Type 0) → a ≡ false → b ≡ true → Answers (cond a x (cond b (Some y) None)) y s s happens
+second true b x y s happens ea eb = absurd (false≢true (sym ea))
+second false true x y s happens ea eb = (refl, refl)
+second false false x y s happens ea eb = absurd (false≢true eb)
+
+module _ (s : State) (h : HandleId) (there : is_some (finmap.get s.handles h.0) ≡ true) where
+  pub close_step : list_any (λ (sync : Sync). eqb sync.handle h.0) (finmap.values s.syncs) ≡ false → Step s (event.Close h) reply.Closed (record s { handles = finmap.remove s.handles h.0 })
+  close_step unused = two_false _ _ _ _ _ s _ _ (ap not there) unused refl
+
+  pub busy_step : list_any (λ (sync : Sync). eqb sync.handle h.0) (finmap.values s.syncs) ≡ true → Step s (event.Close h) (reply.Refused Busy) s
+  busy_step used = second _ _ _ _ s _ (ap not there) used
 
 -- ---- reads
 

@@ -12,8 +12,10 @@ pub mod Pairs
 pub mod Placing
 pub mod Replies
 pub mod Sound
+pub mod Starting
 pub mod State
 pub mod Step
 pub mod Store
+pub mod Syncing
 pub mod Tables
 pub mod Tests

@@ -7,6 +7,7 @@ use Rattle.pc_types.specs.declared.refusal.Refusal.TheVariants.{NoSuchFile, TooM
 use Rattle.pc_types.specs.declared.ids.FileId.{FileId}
 use Rattle.pc_types.specs.declared.ids.HandleId.{HandleId}
 use Rattle.pc_types.specs.declared.ids.PageIndex.{PageIndex}
+use Rattle.pc_types.specs.declared.ids.SyncId.{SyncId}
 use Rattle.blockdev.specs.Device as device
 use Rattle.blockdev.specs.Jobs.{Task, FinishedTask}
 use Rattle.cachecore.specs.declared.answers.Ended.{Ended}
@@ -21,6 +22,8 @@ use Rattle.cachecore.specs.declared.answers.ReadAnswer.{ReadAnswer}
 use Rattle.cachecore.specs.declared.answers.ReadAnswer.TheVariants as read
 use Rattle.cachecore.specs.declared.answers.Refused.{Refused}
 use Rattle.cachecore.specs.declared.answers.RefusedEnd.{RefusedEnd}
+use Rattle.cachecore.specs.declared.answers.SyncStepped.{SyncStepped}
+use Rattle.cachecore.specs.declared.answers.SyncStepped.TheVariants as sync
 use Rattle.cachecore.specs.declared.answers.TruncateAnswer.{TruncateAnswer}
 use Rattle.cachecore.specs.declared.answers.TruncateAnswer.TheVariants as cut
 use Rattle.cachecore.specs.declared.answers.WriteAnswer.{WriteAnswer}
@@ -120,6 +123,11 @@ FlushGivesBack bytes (Ok (flush.Nothing buffer)) = buffer ≡ bytes
 FlushGivesBack bytes (Ok (flush.Job job)) = Unit {0}
 FlushGivesBack bytes (Err e) = e.buffer ≡ bytes
 
+-- what holds of every answer but a job
+abbrev pub UnlessJob : Result FlushBegun Refused → Type 0 → Type 0
+UnlessJob (Ok (flush.Job job)) P = Unit {0}
+UnlessJob _ P = P
+
 -- a job that begins a flush is its request's, and has the bytes that this writes
 abbrev pub IsFlushJob : State → Result FlushBegun Refused → Type 0
 IsFlushJob full (Ok (flush.Job job)) = IsJobOf full job (λ r. r.bytes)
@@ -128,6 +136,38 @@ IsFlushJob full _ = Unit {0}
 -- the step of a flush that begins, and its job
 abbrev pub FlushStep : State → ℕ → Result FlushBegun Refused → State → Type 0
 FlushStep old f result new = (full : State) × Step old (event.FlushBegin (record { 0 = f })) (flush_begun result) full × (new ≡ bare full) × IsFlushJob full result
+
+abbrev pub sync_begun : Result SyncId Refusal → Reply
+sync_begun (Ok n) = reply.Sync n
+sync_begun (Err r) = reply.Refused r
+
+abbrev pub sync_stepped : Result SyncStepped Refused → Reply
+sync_stepped (Ok (sync.Job job)) = reply.Job (record { 0 = job.serial })
+sync_stepped (Ok (sync.Wait p _)) = reply.Wait p
+sync_stepped (Ok (sync.Clean _)) = reply.Clean
+sync_stepped (Ok (sync.Failed code _)) = reply.Failed code
+sync_stepped (Err e) = reply.Refused e.refusal
+
+-- the buffer comes back with these bytes, but where it goes with a job
+abbrev pub SyncGivesBack : List ℕ → Result SyncStepped Refused → Type 0
+SyncGivesBack bytes (Ok (sync.Job job)) = Unit {0}
+SyncGivesBack bytes (Ok (sync.Wait p buffer)) = buffer ≡ bytes
+SyncGivesBack bytes (Ok (sync.Clean buffer)) = buffer ≡ bytes
+SyncGivesBack bytes (Ok (sync.Failed code buffer)) = buffer ≡ bytes
+SyncGivesBack bytes (Err e) = e.buffer ≡ bytes
+
+-- a job that a sync begins is its request's, and has the bytes that this writes
+abbrev pub IsSyncJob : State → Result SyncStepped Refused → Type 0
+IsSyncJob full (Ok (sync.Job job)) = IsJobOf full job (λ r. r.bytes)
+IsSyncJob full _ = Unit {0}
+
+-- a step of sync n, and its job
+abbrev pub SyncAdvance : State → ℕ → Result SyncStepped Refused → State → Type 0
+SyncAdvance old n result new = (full : State) × Step old (event.SyncStep (record { 0 = n })) (sync_stepped result) full × (new ≡ bare full) × IsSyncJob full result
+
+abbrev pub sync_dropped : Result Unit Refusal → Reply
+sync_dropped (Ok _) = reply.Dropped
+sync_dropped (Err r) = reply.Refused r
 
 -- how the device call of a finished job went
 abbrev pub outcome_of : device.Outcome → List ℕ → Outcome

@@ -1,23 +1,25 @@
 -- Inside this crate: the tables that the program keeps, as the maps of the state, and what always holds of them.
 use Rattle.std.specs.Prelude.{◌≡◌, ◌+◌, ◌<◌, ◌≤◌, ℕ, List, length, Some}
 use Rattle.std.specs.Ordering.{nat_cmp}
-use Rattle.std.specs.FinMap.{FinMap, empty, get, len}
+use Rattle.std.specs.FinMap.{FinMap, get, len}
 use Rattle.pc_types.specs.Limits.{Sizes}
 use Rattle.pc_types.specs.declared.limits.TheConstants.{MAX_FILES, MAX_FILE_SIZE, MAX_FRAMES, SERIAL_END}
 use Rattle.blockmap.specs.Blocks.{Blocks}
 use Rattle.blockmap.specs.Keys.{IsPage}
 use Rattle.writeback.specs.Flights.{Flights}
+use Rattle.writeback.specs.Syncs.{SyncState}
 use Rattle.cachecore.specs.State.{State, File, Request, cached_total, file_at, filling_total, is_filling}
 use Rattle.cachecore.specs.Flying.{requests_of}
 use Rattle.cachecore.specs.Holding.{Holds}
 use Rattle.cachecore.specs.Pairs.{AreSized}
 use Rattle.cachecore.specs.Sound.{Sound}
 use Rattle.cachecore.specs.Store.{Store, is_awaited}
+use Rattle.cachecore.specs.Syncing.{AreSyncs, syncs_of}
 
--- the state that the tables make. No sync has begun
-abbrev pub state_of : Sizes → ℕ → List File → FinMap nat_cmp ℕ → Blocks → Flights → State
-state_of sizes name files handles blocks flights =
-    record { sizes = sizes; name = name; files = files; handles = handles; spots = blocks.spots; next = flights.next; requests = requests_of flights.requests; syncs = empty }
+-- the state that the tables make
+abbrev pub state_of : Sizes → ℕ → List File → FinMap nat_cmp ℕ → Blocks → Flights → FinMap nat_cmp SyncState → State
+state_of sizes name files handles blocks flights syncs =
+    record { sizes = sizes; name = name; files = files; handles = handles; spots = blocks.spots; next = flights.next; requests = requests_of flights.requests; syncs = syncs_of handles flights.requests syncs }
 
 -- what a cache in this state keeps of its store of pages and its blocks
 pub record IsCore (s : State) (store : Store) (blocks : Blocks) : Type 0 where
@@ -39,3 +41,8 @@ pub record IsCore (s : State) (store : Store) (blocks : Blocks) : Type 0 where
   pub failed : (f : ℕ) → (file_at s f).failures + len s.requests ≤ s.next
   pub serials : s.next ≤ SERIAL_END
   pub sound : Sound s
+
+-- what it keeps of all its tables
+pub record IsCache (s : State) (store : Store) (blocks : Blocks) (kept : FinMap nat_cmp SyncState) : Type 0 where
+  pub core : IsCore s store blocks
+  pub syncs : AreSyncs s.handles s.next s.files kept

@@ -53,6 +53,19 @@ pub enum FlushBegun {
     Job(Job),
 }
 
+/// What a step of a sync answers, with the buffer that was handed in.
+#[derive(Drop, Debug)]
+pub enum SyncStepped {
+    /// A write of a page has begun: the buffer has its bytes, and they have to be written to its block.
+    Job(Job),
+    /// A write of the page is in flight: try again after a request has ended.
+    Wait(PageIndex, Buffer),
+    /// The sync is over, and no write of the file failed since it began.
+    Clean(Buffer),
+    /// The sync is over, and a write of the file failed since it began. The code is that of the last one.
+    Failed(ErrCode, Buffer),
+}
+
 /// How a request ended, with its buffer.
 #[derive(Drop, Debug)]
 pub enum Ended {

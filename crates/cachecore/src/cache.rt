@@ -21,7 +21,7 @@ use pc_types::limits::{MAX_FILE_SIZE, MAX_FILES, MAX_HANDLES, MAX_PAGE_SIZE, MAX
 use pc_types::{FileId, Geometry, HandleId, PageIndex, Refusal};
 use std::alloc::{AllocError, Global};
 use std::marker::Model;
-use writeback::Requests;
+use writeback::{Requests, Syncs};
 
 /// The state of a cache.
 #[derive(Drop)]
@@ -32,20 +32,21 @@ pub struct CacheCore {
     pub(crate) handles: Handles,
     pub(crate) blocks: BlockMap,
     pub(crate) requests: Requests,
+    pub(crate) syncs: Syncs,
     pub(crate) alloc: Global,
 }
 
 impl Model for CacheCore {
     ghost use Rattle.cachecore.specs.Core.{Core, core_code};
-    ghost use Rattle.cachecore.specs.Tables.{state_of, IsCore};
+    ghost use Rattle.cachecore.specs.Tables.{state_of, IsCache};
 
     ghost Value = { Core };
 
     ghost coded = { core_code };
 
-    ghost view = { λ a. record { state = state_of a.geometry a.name a.pages.files a.handles a.blocks a.requests; lists = a.pages.lists } };
+    ghost view = { λ a. record { state = state_of a.geometry a.name a.pages.files a.handles a.blocks a.requests a.syncs; lists = a.pages.lists } };
 
-    ghost invariant = { λ a. IsCore (state_of a.geometry a.name a.pages.files a.handles a.blocks a.requests) a.pages a.blocks };
+    ghost invariant = { λ a. IsCache (state_of a.geometry a.name a.pages.files a.handles a.blocks a.requests a.syncs) a.pages a.blocks a.syncs };
 }
 
 impl CacheCore {
@@ -62,6 +63,7 @@ impl CacheCore {
             handles: Handles::new(alloc),
             blocks: BlockMap::new(alloc, geometry.blocks()),
             requests: Requests::new(),
+            syncs: Syncs::new(),
             alloc,
         })
     }
@@ -103,7 +105,7 @@ impl CacheCore {
         Ok(HandleId(handle))
     }
 
-    /// Closes a handle. Its number may be given out again.
+    /// Closes a handle. Its number may be given out again. A handle with a sync in progress stays open.
     pub fn close(&mut self, handle: HandleId) -> Result<(), Refusal>
         ensures step { Step self.old.state (Event.Close handle) (closed result) self.new.state }
         ensures lists { self.new.lists ≡ self.old.lists }
@@ -111,6 +113,9 @@ impl CacheCore {
     {
         if self.handles.file(handle.0).is_none() {
             return Err(Refusal::BadHandle);
+        }
+        if self.syncs.uses_handle(handle) {
+            return Err(Refusal::Busy);
         }
         self.handles.close(handle.0);
         Ok(())
@@ -151,6 +156,7 @@ impl CacheCore {
     ) -> Result<ReadAnswer, Refusal>
         ensures step { Step self.old.state (Event.Read handle offset (length out.old)) (was_read result out.new) self.new.state }
         ensures lists { self.new.lists ≡ moved self.old.state (Event.Read handle offset (length out.old)) (was_read result out.new) self.old.lists }
+        ensures count { bytes_read result ≤ length out.old }
         ensures rest { drop (bytes_read result) out.new ≡ drop (bytes_read result) out.old }
         ensures no_memory { result ≢ Err Refusal.Memory }
     {

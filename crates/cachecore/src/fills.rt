@@ -86,10 +86,10 @@ impl CacheCore {
         }
     }
 
-    /// Ends a fill by its finished job. The buffer has as many bytes as a page. Refused by `Stranger` where no fill of this
+    /// Ends a fill by its finished job. A buffer of this cache has as many bytes as a page. Refused by `Stranger` where no fill of this
     /// cache with this serial is in flight; what was handed in comes back.
     pub fn fill_end(&mut self, finished: Finished) -> Result<Ended, RefusedEnd>
-        requires size { length finished.bytes ≡ self.old.state.sizes.page }
+        requires size { finished.cache ≡ self.old.state.name → length finished.bytes ≡ self.old.state.sizes.page }
         ensures step { Step self.old.state (Event.FillEnd (end_of finished)) (fill_ended result) self.new.state }
         ensures lists { self.new.lists ≡ moved self.old.state (Event.FillEnd (end_of finished)) (fill_ended result) self.old.lists }
         ensures back { EndGivesBack finished result }

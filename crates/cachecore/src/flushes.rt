@@ -1,9 +1,12 @@
 //! Flushes: the lowest page of a file that is dirty and has no write in flight, written to its block.
 
-ghost use Rattle.std.specs.Prelude.{◌≡◌, ◌≢◌, IfErr, length};
+ghost use Rattle.std.specs.Prelude.{◌≡◌, ◌≢◌, ◌<◌, IfErr, false, length};
+ghost use Rattle.mapping.specs.declared.mapping.TheConstants.{MAX_PAGES};
 ghost use Rattle.pc_types.specs.declared.refusal.Refusal.TheVariants.{Memory};
 ghost use Rattle.cachecore.specs.Step.{Step};
-ghost use Rattle.cachecore.specs.Replies.{EndGivesBack, FlushGivesBack, FlushStep, end_of, flush_ended};
+ghost use Rattle.cachecore.specs.Replies.{EndGivesBack, FlushGivesBack, FlushStep, UnlessJob, end_of, flush_ended};
+ghost use Rattle.cachecore.specs.Starting.{IsStarted, MayStart};
+ghost use Rattle.cachecore.specs.Tests.{is_full};
 
 use crate::answers::{Ended, FlushBegun, Refused, RefusedEnd};
 use crate::cache::CacheCore;
@@ -14,9 +17,10 @@ use pc_types::{FileId, Kind, PageIndex, Refusal};
 impl CacheCore {
     /// Begins to write the file's lowest page that is dirty and has no write in flight. The buffer is for a copy of its
     /// bytes, and has as many as a page.
-    pub fn flush_begin(&mut self, file: FileId, mut buffer: Buffer) -> Result<FlushBegun, Refused>
+    pub fn flush_begin(&mut self, file: FileId, buffer: Buffer) -> Result<FlushBegun, Refused>
         requires size { length buffer ≡ self.old.state.sizes.page }
         ensures step { FlushStep self.old.state file.0 result self.new.state }
+        ensures kept { UnlessJob result (self.new ≡ self.old) }
         ensures lists { self.new.lists ≡ self.old.lists }
         ensures back { FlushGivesBack buffer result }
         ensures no_memory { IfErr result (λ e. e.refusal ≢ Memory) }
@@ -32,17 +36,28 @@ impl CacheCore {
             let refusal = Refusal::TooManyInFlight;
             return Err(Refused { refusal, buffer });
         }
-        let page = PageIndex(number);
+        Ok(FlushBegun::Job(self.begin_flush(file, PageIndex(number), buffer)))
+    }
+
+    /// Begins to write a page that is DIRTY and has no write in flight. The buffer is for a copy of its bytes.
+    pub(crate) fn begin_flush(&mut self, file: FileId, page: PageIndex, mut buffer: Buffer) -> Job
+        requires here { file.0 < length self.old.state.files }
+        requires startable { MayStart self.old.state file.0 page.0 }
+        requires below { page.0 < MAX_PAGES }
+        requires room { is_full self.old.state ≡ false }
+        requires size { length buffer ≡ self.old.state.sizes.page }
+        ensures begun { IsStarted self.old.state file.0 page.0 result self.new.state }
+        ensures lists { self.new.lists ≡ self.old.lists }
+    {
         let Some(placed) = self.blocks.map(file, page) else {
             unreachable!()
         };
         let block = placed.block;
         self.pages
-            .begin_write(file.0, number, buffer.as_mut_slice());
+            .begin_write(file.0, page.0, buffer.as_mut_slice());
         self.blocks.hold(block);
         let serial = self.requests.begin(Kind::Flush, file, page, block);
-        let job = Job::new(self.name, serial, Kind::Flush, block, buffer);
-        Ok(FlushBegun::Job(job))
+        Job::new(self.name, serial, Kind::Flush, block, buffer)
     }
 
     /// Ends a flush by its finished job. Refused by `Stranger` where no flush of this cache with this serial is in flight;

@@ -3,13 +3,17 @@
 ghost use Rattle.std.specs.Prelude.{IfSome, ◌≡◌, ◌+◌, ◌-◌, ◌<◌, ◌^◌, length, true, is_some, slice_set};
 ghost use Rattle.std.specs.FinMap as map;
 ghost use Rattle.mapping.specs.declared.mapping.TheConstants.{MAX_PAGES};
+ghost use Rattle.writeback.specs.Picks.{StartsBelow};
+ghost use Rattle.writeback.specs.Slots.{state_of};
 ghost use Rattle.cachecore.specs.State.{the_page};
 ghost use Rattle.cachecore.specs.Tests.{flush_pick};
-ghost use Rattle.cachecore.specs.Changes.{after_write};
+ghost use Rattle.cachecore.specs.Changes.{after_write, each_value, to_write};
+ghost use Rattle.cachecore.specs.Syncing.{FailedSince, IsCoded, SyncSays, failed_of};
 ghost use Rattle.cachecore.specs.Store.{stored_at, stored_page, with_pages, under_write};
 
 use crate::pages::Pages;
-use pc_types::{PageIndex, Tag};
+use pc_types::{ErrCode, FileId, PageIndex, Tag};
+use writeback::{Progress, Requests, SyncStep};
 
 impl Pages {
     /// The lowest page of the file that is DIRTY and has no write in flight.
@@ -20,6 +24,24 @@ impl Pages {
     {
         let found = writeback::flush_pick(&self.files[file as usize].mapping)?;
         Some(found.page.0)
+    }
+
+    /// Each DIRTY page of the file becomes TOWRITE as well.
+    pub fn sync_begin(&mut self, file: u64)
+        requires { file < length self.old.files }
+        ensures { self.new ≡ with_pages self.old file (each_value to_write (stored_at self.old file).pages) self.old.free }
+    {
+        writeback::sync_begin(&mut self.files[file as usize].mapping);
+    }
+
+    /// What a sync of the file does next.
+    pub fn sync_step(&self, file: u64, requests: &Requests, progress: &Progress) -> SyncStep
+        requires { file < length self.now.files }
+        ensures step { SyncSays file (stored_at self.now file) requests.now (state_of progress.now) result }
+        ensures numbered { StartsBelow MAX_PAGES result }
+    {
+        let mapping = &self.files[file as usize].mapping;
+        writeback::sync_step(mapping, requests, FileId(file), progress)
     }
 
     /// A write of a cached page begins, and `out` gets the bytes that it writes.
@@ -51,6 +73,30 @@ impl Pages {
         };
         writeback::end_write(mapping, PageIndex(page), failed);
         self.dirty += u64::from(failed && !mapped.tags.has(Tag::Dirty));
+    }
+
+    /// How many writes of the file failed.
+    pub fn failures(&self, file: u64) -> u64
+        requires { file < length self.now.files }
+        ensures { result ≡ (stored_at self.now file).failures }
+    {
+        self.files[file as usize].failures
+    }
+
+    /// The code of the last failed write, where the file has other failures than these.
+    pub fn failure_since(&self, file: u64, failures: u64) -> Option<ErrCode>
+        requires here { file < length self.now.files }
+        requires coded { IsCoded (failed_of self.now.files file) failures }
+        ensures { FailedSince (failed_of self.now.files file) failures result }
+    {
+        let kept = &self.files[file as usize];
+        if kept.failures == failures {
+            return None;
+        }
+        match ErrCode::new(kept.last_code as u16) {
+            Ok(code) => Some(code),
+            Err(_) => unreachable!(),
+        }
     }
 
     /// A write of the file failed with this code.

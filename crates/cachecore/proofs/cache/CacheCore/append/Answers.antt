@@ -8,7 +8,7 @@ use Rattle.cachecore.proofs.CoreViews.{state_is}
 use Rattle.cachecore.proofs.cache.CacheCore.append.Goals as goal
 
 pub size-end-requires : goal.size-end-requires
-size-end-requires c = c.self.invariant.known c.args.handle.0 c.in-Some.file (sym c.in-Some.ensures)
+size-end-requires c = c.self.invariant.core.known c.args.handle.0 c.in-Some.file (sym c.in-Some.ensures)
 
 pub returns-clause-step : goal.returns-clause-step
 returns-clause-step c =

@@ -21,7 +21,7 @@ passes_dirty_limit-requires c =
     omega (arith, few, c.clean_pages.ensures, length-range_with_len (c.args.offset / P) (touched_count P c.args.offset c.args.count), count_by-le-length (λ p. not (tagged (λ t. t.dirty) (map.get (slice_index_or c.self.inside.pages.files c.args.file no_file).pages p))) (range_with_len (c.args.offset / P) (touched_count P c.args.offset c.args.count)))
 
 pub count_without_block-requires-clause-file : goal.count_without_block-requires-clause-file
-count_without_block-requires-clause-file c = omega (arith, c.requires.here, ap (λ s. length s.files) (state_is c.self.view_is), c.self.invariant.few_files)
+count_without_block-requires-clause-file c = omega (arith, c.requires.here, ap (λ s. length s.files) (state_is c.self.view_is), c.self.invariant.core.few_files)
 
 pub count_without_block-requires-clause-below : goal.count_without_block-requires-clause-below
 count_without_block-requires-clause-below c = last_below c.page-page_size.result (c.args.offset + c.args.count - 1) c.page-page_size.ensures.least (omega (arith, c.requires.bound, c.requires.some))
@@ -35,7 +35,7 @@ returns-then-passes_dirty_limit c =
     let pages = range_with_len (c.args.offset / P) (touched_count P c.args.offset c.args.count) in
     let back = sym (state_is c.self.view_is) in
     sym (ap (λ s. room_tests s c.args.file c.args.offset c.args.count) back
-    ∙ room_is _ c.self.inside.pages c.self.inside.blocks c.self.invariant refl c.args.file c.args.offset c.args.count P entry c.passes_dirty_limit.result (count_by (λ p. not (is_some (map.get (slice_index_or c.self.inside.pages.files c.args.file no_file).pages p))) pages) (count_by (is_bare c.self.inside.blocks c.args.file) pages) (length (free_blocks c.self.inside.blocks)) c.page-page_size.ensures.value refl
+    ∙ room_is _ c.self.inside.pages c.self.inside.blocks c.self.invariant.core refl c.args.file c.args.offset c.args.count P entry c.passes_dirty_limit.result (count_by (λ p. not (is_some (map.get (slice_index_or c.self.inside.pages.files c.args.file no_file).pages p))) pages) (count_by (is_bare c.self.inside.blocks c.args.file) pages) (length (free_blocks c.self.inside.blocks)) c.page-page_size.ensures.value refl
     (c.passes_dirty_limit.ensures ∙ (λ i. nat_lt 0 (c.clean_pages.ensures i) && nat_lt (back i).sizes.dirty_limit (dirty_total (back i) + c.clean_pages.ensures i)))
     refl refl refl
     ∙ first_chosen _ _ _ c.if-passes_dirty_limit.true)
@@ -49,7 +49,7 @@ returns-then-free_frames-absent_pages c =
     let pages = range_with_len (c.args.offset / P) (touched_count P c.args.offset c.args.count) in
     let back = sym (state_is c.self.view_is) in
     sym (ap (λ s. room_tests s c.args.file c.args.offset c.args.count) back
-    ∙ room_is _ c.self.inside.pages c.self.inside.blocks c.self.invariant refl c.args.file c.args.offset c.args.count P entry c.passes_dirty_limit.result c.absent_pages.result (count_by (is_bare c.self.inside.blocks c.args.file) pages) (length (free_blocks c.self.inside.blocks)) c.page-page_size.ensures.value refl
+    ∙ room_is _ c.self.inside.pages c.self.inside.blocks c.self.invariant.core refl c.args.file c.args.offset c.args.count P entry c.passes_dirty_limit.result c.absent_pages.result (count_by (is_bare c.self.inside.blocks c.args.file) pages) (length (free_blocks c.self.inside.blocks)) c.page-page_size.ensures.value refl
     (c.passes_dirty_limit.ensures ∙ (λ i. nat_lt 0 (c.clean_pages.ensures i) && nat_lt (back i).sizes.dirty_limit (dirty_total (back i) + c.clean_pages.ensures i)))
     c.absent_pages.ensures refl refl
     ∙ second_chosen _ _ _ _ _ c.if-passes_dirty_limit.false (is_less c.self.inside.pages.free c.absent_pages.result (omega (arith, c.free_frames.ensures, c.if-free_frames-absent_pages.true))))
@@ -63,7 +63,7 @@ returns-then-free_count-count_without_block c =
     let pages = range_with_len (c.args.offset / P) (touched_count P c.args.offset c.args.count) in
     let back = sym (state_is c.self.view_is) in
     sym (ap (λ s. room_tests s c.args.file c.args.offset c.args.count) back
-    ∙ room_is _ c.self.inside.pages c.self.inside.blocks c.self.invariant refl c.args.file c.args.offset c.args.count P entry c.passes_dirty_limit.result c.absent_pages.result c.count_without_block.result c.free_count.result c.page-page_size.ensures.value refl
+    ∙ room_is _ c.self.inside.pages c.self.inside.blocks c.self.invariant.core refl c.args.file c.args.offset c.args.count P entry c.passes_dirty_limit.result c.absent_pages.result c.count_without_block.result c.free_count.result c.page-page_size.ensures.value refl
     (c.passes_dirty_limit.ensures ∙ (λ i. nat_lt 0 (c.clean_pages.ensures i) && nat_lt (back i).sizes.dirty_limit (dirty_total (back i) + c.clean_pages.ensures i)))
     c.absent_pages.ensures c.free_count.ensures.count c.count_without_block.ensures
     ∙ third_chosen _ _ _ _ _ _ _ c.if-passes_dirty_limit.false (is_not_less c.self.inside.pages.free c.absent_pages.result (omega (arith, c.free_frames.ensures, c.if-free_frames-absent_pages.false))) (is_less _ _ c.if-free_count-count_without_block.true))
@@ -77,7 +77,7 @@ returns c =
     let pages = range_with_len (c.args.offset / P) (touched_count P c.args.offset c.args.count) in
     let back = sym (state_is c.self.view_is) in
     sym (ap (λ s. room_tests s c.args.file c.args.offset c.args.count) back
-    ∙ room_is _ c.self.inside.pages c.self.inside.blocks c.self.invariant refl c.args.file c.args.offset c.args.count P entry c.passes_dirty_limit.result c.absent_pages.result c.count_without_block.result c.free_count.result c.page-page_size.ensures.value refl
+    ∙ room_is _ c.self.inside.pages c.self.inside.blocks c.self.invariant.core refl c.args.file c.args.offset c.args.count P entry c.passes_dirty_limit.result c.absent_pages.result c.count_without_block.result c.free_count.result c.page-page_size.ensures.value refl
     (c.passes_dirty_limit.ensures ∙ (λ i. nat_lt 0 (c.clean_pages.ensures i) && nat_lt (back i).sizes.dirty_limit (dirty_total (back i) + c.clean_pages.ensures i)))
     c.absent_pages.ensures c.free_count.ensures.count c.count_without_block.ensures
     ∙ none_chosen _ _ _ _ _ _ _ c.if-passes_dirty_limit.false (is_not_less c.self.inside.pages.free c.absent_pages.result (omega (arith, c.free_frames.ensures, c.if-free_frames-absent_pages.false))) (is_not_less _ _ c.if-free_count-count_without_block.false))

@@ -10,6 +10,7 @@ use Rattle.cachecore.specs.Tables.{IsCore, state_of}
 use Rattle.cachecore.proofs.CoreLemmas.{core-zeros, free_frames_are, zeros_state}
 use Rattle.cachecore.proofs.FillCalls.{fill_job}
 use Rattle.cachecore.proofs.StepLemmas.{when_ok}
+use Rattle.cachecore.proofs.SyncLaws.{files_failed, moved_syncs}
 use Rattle.cachecore.proofs.CoreViews.{state_is}
 use Rattle.cachecore.proofs.cache.CacheCore.fill_absent.Goals as goal
 use Rattle.cachecore.proofs.cache.CacheCore.fill_absent.Goals.{in-Ok, in-Err}
@@ -17,18 +18,20 @@ use Rattle.cachecore.proofs.cache.CacheCore.fill_absent.Goals.{in-Ok, in-Err}
 pub invariant_of-self-in_default : goal.invariant_of-self-in_default
 invariant_of-self-in_default c =
     let i = c.self.inside in
-    let old = state_of i.geometry i.name i.pages.files i.handles i.blocks i.requests in
+    let old = state_of i.geometry i.name i.pages.files i.handles i.blocks i.requests i.syncs in
     let f = c.args.file in
     let p = c.args.page.0 in
     let now : Store = with_lists (with_pages i.pages f (map.insert (stored_at i.pages f).pages p (blank i.pages.page)) (i.pages.free - 1)) (entered f p i.pages.lists) in
-    let zeros = zeros_state i.geometry i.name i.pages i.handles i.blocks i.requests f p (i.pages.free - 1) c.self.invariant.page in
+    let zeros = zeros_state i.geometry i.name i.pages i.handles i.blocks i.requests i.syncs f p (i.pages.free - 1) c.self.invariant.core.page in
     let here : f < length i.pages.files = subst (λ (s : State). f < length s.files) (sym (state_is c.self.view_is)) c.requires.here in
-    let free = free_frames_are old i.pages i.blocks c.self.invariant in
+    let free = free_frames_are old i.pages i.blocks c.self.invariant.core in
     let frames = ap free_frames (state_is c.self.view_is) in
-    let core : IsCore (state_of i.geometry i.name now.files i.handles i.blocks i.requests) now i.blocks =
+    let core : IsCore (state_of i.geometry i.name now.files i.handles i.blocks i.requests i.syncs) now i.blocks =
     subst (λ t. IsCore t now i.blocks) (sym zeros)
-    (core-zeros old i.pages i.blocks c.self.invariant f p now (ap (λ (s : State). is_cached s f p) (state_is c.self.view_is) ∙ c.requires.absent) (ap (λ (s : State). is_filling s f p) (state_is c.self.view_is) ∙ c.requires.idle) here (omega (arith, free, frames, c.requires.room)) refl refl (λ g q. refl) refl) in
-    subst (λ (x : Store). IsCore (state_of i.geometry i.name x.files i.handles i.blocks i.requests) x i.blocks) (sym (when_ok c.make.result _ c.if-is_err.ensures.value c.make.ensures.ok)) core
+    (core-zeros old i.pages i.blocks c.self.invariant.core f p now (ap (λ (s : State). is_cached s f p) (state_is c.self.view_is) ∙ c.requires.absent) (ap (λ (s : State). is_filling s f p) (state_is c.self.view_is) ∙ c.requires.idle) here (omega (arith, free, frames, c.requires.room)) refl refl (λ g q. refl) refl) in
+    let made : IsCore (state_of i.geometry i.name c.make.new.self.files i.handles i.blocks i.requests i.syncs) c.make.new.self i.blocks =
+    subst (λ (x : Store). IsCore (state_of i.geometry i.name x.files i.handles i.blocks i.requests i.syncs) x i.blocks) (sym (when_ok c.make.result _ c.if-is_err.ensures.value c.make.ensures.ok)) core in
+    record { core = made; syncs = moved_syncs i.handles i.requests.next i.pages.files i.syncs c.self.invariant.syncs i.requests.next c.make.new.self.files (omega arith) (files_failed c.make.new.self.files i.pages f _ 0 (ap (λ (x : Store). x.files) (when_ok c.make.result _ c.if-is_err.ensures.value c.make.ensures.ok))) }
 
 pub returns-clause-job : goal.returns-clause-job
 returns-clause-job c = elim c.match-begin_read.branch [

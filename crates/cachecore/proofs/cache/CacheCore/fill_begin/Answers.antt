@@ -14,7 +14,7 @@ returns-then-is_filling-clause-step c =
     let i = c.self.inside in
     let f = c.in-Some.file in
     let found = c.in-Some.ensures ∙ ap (λ (s : State). map.get s.handles c.args.handle.0) (state_is c.self.view_is) in
-    let inside = told_inside s c.args.handle c.args.page f found (state_of i.geometry i.name i.pages.files i.handles i.blocks i.requests) (state_is c.self.view_is) c.page.result c.size.result c.page_count.result c.page.ensures.value c.size.ensures c.page_count.ensures (omega arith) in
+    let inside = told_inside s c.args.handle c.args.page f found (state_of i.geometry i.name i.pages.files i.handles i.blocks i.requests i.syncs) (state_is c.self.view_is) c.page.result c.size.result c.page_count.result c.page.ensures.value c.size.ensures c.page_count.ensures (omega arith) in
     fill_waits s c.args.handle c.args.page f found inside (sym c.is_filling.ensures ∙ c.if-is_filling.true)
 
 pub returns-then-is_cached-clause-step : goal.returns-then-is_cached-clause-step
@@ -23,7 +23,7 @@ returns-then-is_cached-clause-step c =
     let i = c.self.inside in
     let f = c.in-Some.file in
     let found = c.in-Some.ensures ∙ ap (λ (s : State). map.get s.handles c.args.handle.0) (state_is c.self.view_is) in
-    let inside = told_inside s c.args.handle c.args.page f found (state_of i.geometry i.name i.pages.files i.handles i.blocks i.requests) (state_is c.self.view_is) c.page.result c.size.result c.page_count.result c.page.ensures.value c.size.ensures c.page_count.ensures (omega arith) in
+    let inside = told_inside s c.args.handle c.args.page f found (state_of i.geometry i.name i.pages.files i.handles i.blocks i.requests i.syncs) (state_is c.self.view_is) c.page.result c.size.result c.page_count.result c.page.ensures.value c.size.ensures c.page_count.ensures (omega arith) in
     let cached = sym (c.is_cached.ensures ∙ ap (λ (s : State). is_cached s f c.args.page.0) (state_is c.self.view_is)) ∙ c.if-is_cached.true in
     fill_present s c.args.handle c.args.page f found inside (sym c.is_filling.ensures ∙ c.if-is_filling.false) cached
 
@@ -33,15 +33,15 @@ returns-then-free_frames-eq0-clause-step c =
     let i = c.self.inside in
     let f = c.in-Some.file in
     let found = c.in-Some.ensures ∙ ap (λ (s : State). map.get s.handles c.args.handle.0) (state_is c.self.view_is) in
-    let inside = told_inside s c.args.handle c.args.page f found (state_of i.geometry i.name i.pages.files i.handles i.blocks i.requests) (state_is c.self.view_is) c.page.result c.size.result c.page_count.result c.page.ensures.value c.size.ensures c.page_count.ensures (omega arith) in
+    let inside = told_inside s c.args.handle c.args.page f found (state_of i.geometry i.name i.pages.files i.handles i.blocks i.requests i.syncs) (state_is c.self.view_is) c.page.result c.size.result c.page_count.result c.page.ensures.value c.size.ensures c.page_count.ensures (omega arith) in
     let absent = sym (c.is_cached.ensures ∙ ap (λ (s : State). is_cached s f c.args.page.0) (state_is c.self.view_is)) ∙ c.if-is_cached.false in
-    let free = free_frames_are (state_of i.geometry i.name i.pages.files i.handles i.blocks i.requests) i.pages i.blocks c.self.invariant in
+    let free = free_frames_are (state_of i.geometry i.name i.pages.files i.handles i.blocks i.requests i.syncs) i.pages i.blocks c.self.invariant.core in
     let frames = ap free_frames (state_is c.self.view_is) in
     fill_no_frame s c.args.handle c.args.page f found inside (sym c.is_filling.ensures ∙ c.if-is_filling.false) absent (omega (arith, free, frames, c.free_frames.ensures))
 
 pub fill_absent-requires-clause-below : goal.fill_absent-requires-clause-below
 fill_absent-requires-clause-below c =
-    let small = c.self.invariant.bounded c.in-Some.file in
+    let small = c.self.invariant.core.bounded c.in-Some.file in
     page_below c.page.result c.size.result c.args.page.0 c.page.ensures.least (omega (arith, small, c.size.ensures)) (omega (arith, c.page_count.ensures))
 
 pub fill_absent-requires-clause-absent : goal.fill_absent-requires-clause-absent
@@ -50,7 +50,7 @@ fill_absent-requires-clause-absent c = sym (c.is_cached.ensures ∙ ap (λ (s : 
 pub fill_absent-requires-clause-room : goal.fill_absent-requires-clause-room
 fill_absent-requires-clause-room c =
     let i = c.self.inside in
-    let free = free_frames_are (state_of i.geometry i.name i.pages.files i.handles i.blocks i.requests) i.pages i.blocks c.self.invariant in
+    let free = free_frames_are (state_of i.geometry i.name i.pages.files i.handles i.blocks i.requests i.syncs) i.pages i.blocks c.self.invariant.core in
     let frames = ap free_frames (state_is c.self.view_is) in
     omega (arith, free, frames, c.free_frames.ensures)
 
@@ -60,8 +60,8 @@ returns-clause-step c =
     let i = c.self.inside in
     let f = c.in-Some.file in
     let found = c.in-Some.ensures ∙ ap (λ (s : State). map.get s.handles c.args.handle.0) (state_is c.self.view_is) in
-    let inside = told_inside s c.args.handle c.args.page f found (state_of i.geometry i.name i.pages.files i.handles i.blocks i.requests) (state_is c.self.view_is) c.page.result c.size.result c.page_count.result c.page.ensures.value c.size.ensures c.page_count.ensures (omega arith) in
+    let inside = told_inside s c.args.handle c.args.page f found (state_of i.geometry i.name i.pages.files i.handles i.blocks i.requests i.syncs) (state_is c.self.view_is) c.page.result c.size.result c.page_count.result c.page.ensures.value c.size.ensures c.page_count.ensures (omega arith) in
     let absent = sym (c.is_cached.ensures ∙ ap (λ (s : State). is_cached s f c.args.page.0) (state_is c.self.view_is)) ∙ c.if-is_cached.false in
-    let free = free_frames_are (state_of i.geometry i.name i.pages.files i.handles i.blocks i.requests) i.pages i.blocks c.self.invariant in
+    let free = free_frames_are (state_of i.geometry i.name i.pages.files i.handles i.blocks i.requests i.syncs) i.pages i.blocks c.self.invariant.core in
     let frames = ap free_frames (state_is c.self.view_is) in
     fill_rest s c.args.handle c.args.page f found inside (sym c.is_filling.ensures ∙ c.if-is_filling.false) absent (omega (arith, free, frames, c.free_frames.ensures)) _ _ c.fill_absent.ensures.step

@@ -1,13 +1,13 @@
-use Rattle.std.proofs.Common.{arith, length, ap, sym, subst, ◌∙◌}
-use Rattle.std.specs.Prelude.{Err, Ok}
+use Rattle.std.proofs.Common.{arith, ◌≡◌, ◌<◌, length, ap, sym, subst, ◌∙◌}
+use Rattle.std.specs.Prelude.{Err, Ok, Some}
 use Rattle.pc_types.specs.declared.refusal.Refusal.TheVariants.{NoSuchFile, TooManyInFlight}
-use Rattle.pc_types.specs.declared.kind.Kind.TheVariants.{Flush}
-use Rattle.blockdev.specs.Jobs.{Task}
 use Rattle.cachecore.specs.declared.answers.FlushBegun.TheVariants as flush
+use Rattle.cachecore.specs.State.{State, file_at}
 use Rattle.cachecore.specs.Replies.{FlushStep}
+use Rattle.cachecore.specs.Starting.{MayStart}
 use Rattle.cachecore.specs.Tables.{state_of}
-use Rattle.cachecore.proofs.FlushCalls.{same_step, full_is, no_file_step, nothing_step, full_step, must_be_told, cached_pick, mapped_block, unheld_block, held_room, begun_core, begun_call, written_whole}
-use Rattle.cachecore.proofs.PartStates.{now}
+use Rattle.cachecore.specs.Tests.{flush_pick, is_full}
+use Rattle.cachecore.proofs.FlushCalls.{same_step, full_is, no_file_step, nothing_step, full_step, flush_call, flush_startable}
 use Rattle.cachecore.proofs.CoreViews.{state_is}
 use Rattle.cachecore.proofs.cache.CacheCore.flush_begin.Goals as goal
 
@@ -18,8 +18,8 @@ returns-then-file-file_count-clause-step c =
     let count = c.file_count.ensures in
     let past = c.if-file-file_count.true in
     subst (λ s. FlushStep s f.0 (Err (record { refusal = NoSuchFile; buffer = c.args.buffer })) s) (state_is c.self.view_is)
-    (same_step i.geometry i.name i.handles i.pages i.blocks i.requests f.0 (Err (record { refusal = NoSuchFile; buffer = c.args.buffer })) tt
-    (no_file_step (state_of i.geometry i.name i.pages.files i.handles i.blocks i.requests) f (omega arith)))
+    (same_step i.geometry i.name i.handles i.pages i.blocks i.requests i.syncs f.0 (Err (record { refusal = NoSuchFile; buffer = c.args.buffer })) tt
+    (no_file_step (state_of i.geometry i.name i.pages.files i.handles i.blocks i.requests i.syncs) f (omega arith)))
 
 pub returns-in_default-clause-step : goal.returns-in_default-clause-step
 returns-in_default-clause-step c =
@@ -28,8 +28,8 @@ returns-in_default-clause-step c =
     let count = c.file_count.ensures in
     let few = c.if-file-file_count.false in
     subst (λ s. FlushStep s f.0 (Ok (flush.Nothing c.args.buffer)) s) (state_is c.self.view_is)
-    (same_step i.geometry i.name i.handles i.pages i.blocks i.requests f.0 (Ok (flush.Nothing c.args.buffer)) tt
-    (nothing_step (state_of i.geometry i.name i.pages.files i.handles i.blocks i.requests) f (omega arith) c.in_default.ensures.pick))
+    (same_step i.geometry i.name i.handles i.pages i.blocks i.requests i.syncs f.0 (Ok (flush.Nothing c.args.buffer)) tt
+    (nothing_step (state_of i.geometry i.name i.pages.files i.handles i.blocks i.requests i.syncs) f (omega arith) c.in_default.ensures.pick))
 
 pub returns-then-is_full-clause-step : goal.returns-then-is_full-clause-step
 returns-then-is_full-clause-step c =
@@ -38,54 +38,27 @@ returns-then-is_full-clause-step c =
     let count = c.file_count.ensures in
     let few = c.if-file-file_count.false in
     subst (λ s. FlushStep s f.0 (Err (record { refusal = TooManyInFlight; buffer = c.args.buffer })) s) (state_is c.self.view_is)
-    (same_step i.geometry i.name i.handles i.pages i.blocks i.requests f.0 (Err (record { refusal = TooManyInFlight; buffer = c.args.buffer })) tt
-    (full_step (state_of i.geometry i.name i.pages.files i.handles i.blocks i.requests) f (omega arith) c.in-Some.number c.in-Some.ensures.pick (full_is i.geometry i.name i.handles i.pages i.blocks i.requests ∙ sym c.is_full.ensures ∙ c.if-is_full.true)))
+    (same_step i.geometry i.name i.handles i.pages i.blocks i.requests i.syncs f.0 (Err (record { refusal = TooManyInFlight; buffer = c.args.buffer })) tt
+    (full_step (state_of i.geometry i.name i.pages.files i.handles i.blocks i.requests i.syncs) f (omega arith) c.in-Some.number c.in-Some.ensures.pick (full_is i.geometry i.name i.handles i.pages i.blocks i.requests i.syncs ∙ sym c.is_full.ensures ∙ c.if-is_full.true)))
 
-pub unreachable-requires : goal.unreachable-requires
-unreachable-requires c =
+pub begin_flush-requires-clause-startable : goal.begin_flush-requires-clause-startable
+begin_flush-requires-clause-startable c =
     let i = c.self.inside in
-    must_be_told i.geometry i.name i.handles i.pages i.blocks i.requests c.self.invariant c.args.file c.in-Some.number c.in-Some.ensures.pick c.in_default-map.ensures
+    let f = c.args.file in
+    subst (λ s. MayStart s f.0 c.in-Some.number) (state_is c.self.view_is) (flush_startable (state_of i.geometry i.name i.pages.files i.handles i.blocks i.requests i.syncs) f c.in-Some.number c.in-Some.ensures.pick)
 
-pub begin_write-requires-clause-cached : goal.begin_write-requires-clause-cached
-begin_write-requires-clause-cached c =
+pub begin_flush-requires-clause-room : goal.begin_flush-requires-clause-room
+begin_flush-requires-clause-room c =
     let i = c.self.inside in
-    cached_pick i.geometry i.name i.handles i.pages i.blocks i.requests c.self.invariant c.args.file c.in-Some.number c.in-Some.ensures.pick
-
-pub hold-requires-clause-mapped : goal.hold-requires-clause-mapped
-hold-requires-clause-mapped c =
-    let i = c.self.inside in
-    mapped_block i.geometry i.name i.handles i.pages i.blocks i.requests c.self.invariant c.args.file c.in-Some.number c.in-Some.ensures.pick c.in-Some-map.placed c.in-Some-map.ensures
-
-pub hold-requires-clause-not_held : goal.hold-requires-clause-not_held
-hold-requires-clause-not_held c =
-    let i = c.self.inside in
-    unheld_block i.geometry i.name i.handles i.pages i.blocks i.requests c.self.invariant c.args.file c.in-Some.number c.in-Some.ensures.pick c.in-Some-map.placed c.in-Some-map.ensures
-
-pub hold-requires-clause-room : goal.hold-requires-clause-room
-hold-requires-clause-room c =
-    let i = c.self.inside in
-    held_room i.geometry i.name i.handles i.pages i.blocks i.requests c.self.invariant c.args.file c.in-Some.number c.in-Some.ensures.pick c.in-Some-map.placed c.in-Some-map.ensures (sym c.is_full.ensures ∙ c.if-is_full.false)
-
-pub invariant_of-self : goal.invariant_of-self
-invariant_of-self c =
-    let i = c.self.inside in
-    let few = c.self.invariant.few_files in
-    let count = c.file_count.ensures in
-    let here = c.if-file-file_count.false in
-    begun_core i.geometry i.name i.handles i.pages i.blocks i.requests c.self.invariant c.args.file c.in-Some.number c.in-Some.ensures.pick c.in-Some-map.placed c.in-Some-map.ensures (sym c.is_full.ensures ∙ c.if-is_full.false)
-    (record { file = omega arith; page = c.in-Some.ensures.numbered }) c.begin_write.new.self c.hold.new.self c.begin-serial.new.self c.begin_write.ensures.begun c.hold.ensures c.begin-serial.ensures.begun
+    ap is_full (sym (state_is c.self.view_is)) ∙ full_is i.geometry i.name i.handles i.pages i.blocks i.requests i.syncs ∙ sym c.is_full.ensures ∙ c.if-is_full.false
 
 pub returns-clause-step : goal.returns-clause-step
 returns-clause-step c =
     let i = c.self.inside in
+    let s = c.args.self.now.state in
     let f = c.args.file in
-    let count = c.file_count.ensures in
-    let few = c.if-file-file_count.false in
-    let cached = cached_pick i.geometry i.name i.handles i.pages i.blocks i.requests c.self.invariant f c.in-Some.number c.in-Some.ensures.pick in
-    let sized = (c.self.invariant.sized f.0).each c.in-Some.number cached ∙ ap (λ s. s.sizes.page) (state_is c.self.view_is) ∙ sym c.requires.size in
-    let copied = written_whole c.args.buffer c.begin_write.new.out (ap length c.begin_write.ensures.copy ∙ sized) ∙ c.begin_write.ensures.copy in
-    let job = c.new-job.ensures ∙ (λ k. let task : Task = record { cache = i.name; serial = c.begin-serial.result.0; kind = Flush; block = c.in-Some-map.placed.block.0; bytes = copied k } in task) in
-    subst (λ s. FlushStep s f.0 (Ok (flush.Job c.new-job.result)) (now i.geometry i.name i.handles c.begin_write.new.self c.hold.new.self c.begin-serial.new.self)) (state_is c.self.view_is)
-    (begun_call i.geometry i.name i.handles i.pages i.blocks i.requests c.self.invariant f c.in-Some.number c.in-Some.ensures.pick c.in-Some-map.placed c.in-Some-map.ensures (sym c.is_full.ensures ∙ c.if-is_full.false)
-    (record { file = (let most = c.self.invariant.few_files in omega arith); page = c.in-Some.ensures.numbered }) c.begin_write.new.self c.hold.new.self c.begin-serial.new.self c.begin_write.ensures.begun c.hold.ensures c.begin-serial.ensures.begun
-    c.begin-serial.result c.begin-serial.ensures.serial c.new-job.result job (omega arith))
+    let p = c.in-Some.number in
+    let here : f.0 < length s.files = subst (λ (s : State). f.0 < length s.files) (state_is c.self.view_is) (omega (arith, c.file_count.ensures, c.if-file-file_count.false)) in
+    let pick : Some p ≡ flush_pick (file_at s f.0) = c.in-Some.ensures.pick ∙ ap (λ s. flush_pick (file_at s f.0)) (state_is c.self.view_is) in
+    let room = ap is_full (sym (state_is c.self.view_is)) ∙ full_is i.geometry i.name i.handles i.pages i.blocks i.requests i.syncs ∙ sym c.is_full.ensures ∙ c.if-is_full.false in
+    flush_call s f here p pick room c.begin_flush.result c.begin_flush.new.self.state c.begin_flush.ensures.begun

@@ -18,7 +18,7 @@ returns-in_err-request c =
     let f = c.args.finished.now in
     let found = get-requests i.requests.requests f.serial ∙ ap (option_map request_of) (ap (map.get i.requests.requests) (sym c.serial.ensures) ∙ sym c.get.ensures ∙ ap (option_map flight_of) c.in_err-request.was) in
     ap (option_map (λ r. request_of (flight_of r))) c.from_residual.ensures
-    ∙ sym (no_request (state_of i.geometry i.name i.pages.files i.handles i.blocks i.requests) c.args.kind f found)
+    ∙ sym (no_request (state_of i.geometry i.name i.pages.files i.handles i.blocks i.requests i.syncs) c.args.kind f found)
     ∙ ap (λ (s : State). request_ended s c.args.kind f) (state_is c.self.view_is)
 
 pub returns-then-ne-2 : goal.returns-then-ne-2
@@ -28,7 +28,7 @@ returns-then-ne-2 c =
     let r : Request = request_of (flight_of c.in_ok-request.request) in
     let found = get-requests i.requests.requests f.serial ∙ ap (option_map request_of) (ap (map.get i.requests.requests) (sym c.serial.ensures) ∙ sym c.get.ensures ∙ ap (option_map flight_of) c.in_ok-request.was) in
     let other = sym (kinds_same c.in_ok-request.request.kind c.args.kind) ∙ not_true _ (sym c.if-ne-2.ensures) in
-    sym (other_kind (state_of i.geometry i.name i.pages.files i.handles i.blocks i.requests) c.args.kind f r found other)
+    sym (other_kind (state_of i.geometry i.name i.pages.files i.handles i.blocks i.requests i.syncs) c.args.kind f r found other)
     ∙ ap (λ (s : State). request_ended s c.args.kind f) (state_is c.self.view_is)
 
 pub returns : goal.returns
@@ -39,5 +39,5 @@ returns c =
     let found = get-requests i.requests.requests f.serial ∙ ap (option_map request_of) (ap (map.get i.requests.requests) (sym c.serial.ensures) ∙ sym c.get.ensures ∙ ap (option_map flight_of) c.in_ok-request.was) in
     let same = sym (kinds_same c.in_ok-request.request.kind c.args.kind) ∙ not_false _ (sym c.if-ne-2.ensures) in
     let kind = ap (same_kind c.args.kind) (sym c.kind.ensures) ∙ sym (kinds_same c.kind.result c.args.kind) ∙ not_false _ (sym c.if-ne.ensures) in
-    sym (is_ended (state_of i.geometry i.name i.pages.files i.handles i.blocks i.requests) c.args.kind f r (sym c.cache.ensures ∙ c.if-cache-self.false) kind found same)
+    sym (is_ended (state_of i.geometry i.name i.pages.files i.handles i.blocks i.requests i.syncs) c.args.kind f r (sym c.cache.ensures ∙ c.if-cache-self.false) kind found same)
     ∙ ap (λ (s : State). request_ended s c.args.kind f) (state_is c.self.view_is)

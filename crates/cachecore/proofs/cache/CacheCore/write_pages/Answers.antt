@@ -8,10 +8,12 @@ use Rattle.cachecore.specs.Moves.{write_moves}
 use Rattle.cachecore.specs.Tests.{write_tests}
 use Rattle.cachecore.specs.Pairs.{AreSized, IsLaid}
 use Rattle.cachecore.specs.Store.{Store, stored_at}
+use Rattle.cachecore.specs.Syncing.{failed_of}
 use Rattle.cachecore.specs.Tables.{IsCore, state_of}
 use Rattle.cachecore.proofs.WriteMoves.{written_lists}
 use Rattle.cachecore.proofs.WriteSteps.{WriteSteps, laid_noted, parts, final_files, final_free, final_page, final_idle, made_sized}
 use Rattle.cachecore.proofs.CoreLemmas.{frames_enough, blocks_enough, none_awaited, write_state, core-written, taken}
+use Rattle.cachecore.proofs.SyncLaws.{kept_failed, moved_syncs}
 use Rattle.cachecore.proofs.CoreViews.{state_is}
 use Rattle.cachecore.proofs.cache.CacheCore.write_pages.Goals as goal
 
@@ -19,19 +21,19 @@ pub place-requires-clause-frames : goal.place-requires-clause-frames
 place-requires-clause-frames c =
     let a = c.self.inside in
     let passed = subst (λ s. (h : ℕ) × (file_of s h ≡ c.args.file) × (write_tests s h c.args.offset (length c.args.bytes.now) ≡ None)) (sym (state_is c.self.view_is)) c.requires.passed in
-    frames_enough (state_of a.geometry a.name a.pages.files a.handles a.blocks a.requests) a.pages a.blocks c.self.invariant refl passed.0 c.args.file c.args.offset (length c.args.bytes.now) c.page-page_size.result passed.1 c.page-page_size.ensures.value passed.2
+    frames_enough (state_of a.geometry a.name a.pages.files a.handles a.blocks a.requests a.syncs) a.pages a.blocks c.self.invariant.core refl passed.0 c.args.file c.args.offset (length c.args.bytes.now) c.page-page_size.result passed.1 c.page-page_size.ensures.value passed.2
 
 pub place-requires-clause-room : goal.place-requires-clause-room
 place-requires-clause-room c =
     let a = c.self.inside in
     let passed = subst (λ s. (h : ℕ) × (file_of s h ≡ c.args.file) × (write_tests s h c.args.offset (length c.args.bytes.now) ≡ None)) (sym (state_is c.self.view_is)) c.requires.passed in
-    blocks_enough (state_of a.geometry a.name a.pages.files a.handles a.blocks a.requests) a.pages a.blocks c.self.invariant refl passed.0 c.args.file c.args.offset (length c.args.bytes.now) c.page-page_size.result passed.1 c.page-page_size.ensures.value passed.2
+    blocks_enough (state_of a.geometry a.name a.pages.files a.handles a.blocks a.requests a.syncs) a.pages a.blocks c.self.invariant.core refl passed.0 c.args.file c.args.offset (length c.args.bytes.now) c.page-page_size.result passed.1 c.page-page_size.ensures.value passed.2
 
 pub place-requires-clause-idle : goal.place-requires-clause-idle
 place-requires-clause-idle c =
     let a = c.self.inside in
     let passed = subst (λ s. (h : ℕ) × (file_of s h ≡ c.args.file) × (write_tests s h c.args.offset (length c.args.bytes.now) ≡ None)) (sym (state_is c.self.view_is)) c.requires.passed in
-    none_awaited (state_of a.geometry a.name a.pages.files a.handles a.blocks a.requests) a.pages a.blocks c.self.invariant refl passed.0 c.args.file c.args.offset (length c.args.bytes.now) c.page-page_size.result passed.1 c.page-page_size.ensures.value passed.2
+    none_awaited (state_of a.geometry a.name a.pages.files a.handles a.blocks a.requests a.syncs) a.pages a.blocks c.self.invariant.core refl passed.0 c.args.file c.args.offset (length c.args.bytes.now) c.page-page_size.result passed.1 c.page-page_size.ensures.value passed.2
 
 pub write-requires-clause-sized : goal.write-requires-clause-sized
 write-requires-clause-sized c =
@@ -40,9 +42,9 @@ write-requires-clause-sized c =
     let P = c.page-page_size.result in
     let last = (o + length c.args.bytes.now - 1) / P in
     let store = c.self.inside.pages in
-    let size : P ≡ store.page = c.page-page_size.ensures.value ∙ sym c.self.invariant.page in
+    let size : P ≡ store.page = c.page-page_size.ensures.value ∙ sym c.self.invariant.core.page in
     subst (λ (s : Store). AreSized P (stored_at s f).pages) (sym c.access_cached.ensures)
-    (made_sized f (o / P) last store c.place.new.pages P size c.in_ok-place.ensures.made (subst (λ (n : ℕ). AreSized n (stored_at store f).pages) (sym c.page-page_size.ensures.value) (c.self.invariant.sized f)))
+    (made_sized f (o / P) last store c.place.new.pages P size c.in_ok-place.ensures.made (subst (λ (n : ℕ). AreSized n (stored_at store f).pages) (sym c.page-page_size.ensures.value) (c.self.invariant.core.sized f)))
 
 pub invariant_of-self-2 : goal.invariant_of-self-2
 invariant_of-self-2 c =
@@ -51,10 +53,10 @@ invariant_of-self-2 c =
     let o = c.args.offset in
     let b = c.args.bytes.now in
     let P = c.page-page_size.result in
-    let old : State = state_of a.geometry a.name a.pages.files a.handles a.blocks a.requests in
+    let old : State = state_of a.geometry a.name a.pages.files a.handles a.blocks a.requests a.syncs in
     let store = a.pages in
     let here : f < length store.files = omega (arith, c.requires.here, ap (λ s. length s.files) (state_is c.self.view_is)) in
-    let size : P ≡ store.page = c.page-page_size.ensures.value ∙ sym c.self.invariant.page in
+    let size : P ≡ store.page = c.page-page_size.ensures.value ∙ sym c.self.invariant.core.page in
     let same : stored_at c.access_cached.new.self f ≡ stored_at c.place.new.pages f = ap (λ (s : Store). stored_at s f) c.access_cached.ensures in
     let steps : WriteSteps P o b f c.max-size.result store c.place.new.pages c.write.new.self c.set_size.new.self = record {
       here = here;
@@ -71,14 +73,16 @@ invariant_of-self-2 c =
     let of_write = parts P o b f c.max-size.result store c.place.new.pages c.write.new.self c.set_size.new.self steps in
     let files = final_files P o b f c.max-size.result store c.place.new.pages c.write.new.self c.set_size.new.self steps in
     let passed = subst (λ s. (h : ℕ) × (file_of s h ≡ f) × (write_tests s h o (length b) ≡ None)) (sym (state_is c.self.view_is)) c.requires.passed in
-    let state : state_of a.geometry a.name c.set_size.new.self.files a.handles c.place.new.blocks a.requests ≡ record (put_file old f e3) { spots = (taken old store a.blocks c.self.invariant refl passed.0 f o P b e1 e2 e3 c.set_size.new.self passed.1 c.page-page_size.ensures.value passed.2 here of_write (omega (arith, c.page-page_size.ensures.least)) c.requires.bound P).spots } =
-    (λ i. state_of a.geometry a.name (files i) a.handles (c.in_ok-place.ensures.placed i) a.requests) in
-    subst (λ (bs : Blocks). IsCore (state_of a.geometry a.name c.set_size.new.self.files a.handles c.place.new.blocks a.requests) c.set_size.new.self bs) (sym c.in_ok-place.ensures.placed)
-    (subst (λ (t : State). IsCore t c.set_size.new.self (taken old store a.blocks c.self.invariant refl passed.0 f o P b e1 e2 e3 c.set_size.new.self passed.1 c.page-page_size.ensures.value passed.2 here of_write (omega (arith, c.page-page_size.ensures.least)) c.requires.bound P)) (sym state)
-    (core-written old store a.blocks c.self.invariant refl passed.0 f o P b e1 e2 e3 c.set_size.new.self passed.1 c.page-page_size.ensures.value passed.2 here of_write (omega (arith, c.page-page_size.ensures.least)) c.requires.bound
+    let state : state_of a.geometry a.name c.set_size.new.self.files a.handles c.place.new.blocks a.requests a.syncs ≡ record (put_file old f e3) { spots = (taken old store a.blocks c.self.invariant.core refl passed.0 f o P b e1 e2 e3 c.set_size.new.self passed.1 c.page-page_size.ensures.value passed.2 here of_write (omega (arith, c.page-page_size.ensures.least)) c.requires.bound P).spots } =
+    (λ i. state_of a.geometry a.name (files i) a.handles (c.in_ok-place.ensures.placed i) a.requests a.syncs) in
+    let core = subst (λ (bs : Blocks). IsCore (state_of a.geometry a.name c.set_size.new.self.files a.handles c.place.new.blocks a.requests a.syncs) c.set_size.new.self bs) (sym c.in_ok-place.ensures.placed)
+    (subst (λ (t : State). IsCore t c.set_size.new.self (taken old store a.blocks c.self.invariant.core refl passed.0 f o P b e1 e2 e3 c.set_size.new.self passed.1 c.page-page_size.ensures.value passed.2 here of_write (omega (arith, c.page-page_size.ensures.least)) c.requires.bound P)) (sym state)
+    (core-written old store a.blocks c.self.invariant.core refl passed.0 f o P b e1 e2 e3 c.set_size.new.self passed.1 c.page-page_size.ensures.value passed.2 here of_write (omega (arith, c.page-page_size.ensures.least)) c.requires.bound
     (final_page P o b f c.max-size.result store c.place.new.pages c.write.new.self c.set_size.new.self steps)
     (final_free P o b f c.max-size.result store c.place.new.pages c.write.new.self c.set_size.new.self steps)
-    (final_idle P o b f c.max-size.result store c.place.new.pages c.write.new.self c.set_size.new.self steps)))
+    (final_idle P o b f c.max-size.result store c.place.new.pages c.write.new.self c.set_size.new.self steps))) in
+    let written_is = state ∙ write_state old store a.blocks c.self.invariant.core refl passed.0 f o P b e1 e2 e3 c.set_size.new.self passed.1 c.page-page_size.ensures.value passed.2 here of_write (omega (arith, c.page-page_size.ensures.least)) c.requires.bound in
+    record { core = core; syncs = moved_syncs a.handles a.requests.next a.pages.files a.syncs c.self.invariant.syncs a.requests.next c.set_size.new.self.files (omega arith) (λ g. ap (λ (s : State). failed_of s.files g) written_is ∙ kept_failed store.files f _ refl refl g) }
 
 pub returns-clause-ok : goal.returns-clause-ok
 returns-clause-ok c =
@@ -87,10 +91,10 @@ returns-clause-ok c =
     let o = c.args.offset in
     let b = c.args.bytes.now in
     let P = c.page-page_size.result in
-    let old : State = state_of a.geometry a.name a.pages.files a.handles a.blocks a.requests in
+    let old : State = state_of a.geometry a.name a.pages.files a.handles a.blocks a.requests a.syncs in
     let store = a.pages in
     let here : f < length store.files = omega (arith, c.requires.here, ap (λ s. length s.files) (state_is c.self.view_is)) in
-    let size : P ≡ store.page = c.page-page_size.ensures.value ∙ sym c.self.invariant.page in
+    let size : P ≡ store.page = c.page-page_size.ensures.value ∙ sym c.self.invariant.core.page in
     let same : stored_at c.access_cached.new.self f ≡ stored_at c.place.new.pages f = ap (λ (s : Store). stored_at s f) c.access_cached.ensures in
     let steps : WriteSteps P o b f c.max-size.result store c.place.new.pages c.write.new.self c.set_size.new.self = record {
       here = here;
@@ -107,9 +111,9 @@ returns-clause-ok c =
     let of_write = parts P o b f c.max-size.result store c.place.new.pages c.write.new.self c.set_size.new.self steps in
     let files = final_files P o b f c.max-size.result store c.place.new.pages c.write.new.self c.set_size.new.self steps in
     let passed = subst (λ s. (h : ℕ) × (file_of s h ≡ f) × (write_tests s h o (length b) ≡ None)) (sym (state_is c.self.view_is)) c.requires.passed in
-    let state : state_of a.geometry a.name c.set_size.new.self.files a.handles c.place.new.blocks a.requests ≡ record (put_file old f e3) { spots = (taken old store a.blocks c.self.invariant refl passed.0 f o P b e1 e2 e3 c.set_size.new.self passed.1 c.page-page_size.ensures.value passed.2 here of_write (omega (arith, c.page-page_size.ensures.least)) c.requires.bound P).spots } =
-    (λ i. state_of a.geometry a.name (files i) a.handles (c.in_ok-place.ensures.placed i) a.requests) in
-    state ∙ write_state old store a.blocks c.self.invariant refl passed.0 f o P b e1 e2 e3 c.set_size.new.self passed.1 c.page-page_size.ensures.value passed.2 here of_write (omega (arith, c.page-page_size.ensures.least)) c.requires.bound ∙ ap (λ s. written s f o b) (state_is c.self.view_is)
+    let state : state_of a.geometry a.name c.set_size.new.self.files a.handles c.place.new.blocks a.requests a.syncs ≡ record (put_file old f e3) { spots = (taken old store a.blocks c.self.invariant.core refl passed.0 f o P b e1 e2 e3 c.set_size.new.self passed.1 c.page-page_size.ensures.value passed.2 here of_write (omega (arith, c.page-page_size.ensures.least)) c.requires.bound P).spots } =
+    (λ i. state_of a.geometry a.name (files i) a.handles (c.in_ok-place.ensures.placed i) a.requests a.syncs) in
+    state ∙ write_state old store a.blocks c.self.invariant.core refl passed.0 f o P b e1 e2 e3 c.set_size.new.self passed.1 c.page-page_size.ensures.value passed.2 here of_write (omega (arith, c.page-page_size.ensures.least)) c.requires.bound ∙ ap (λ s. written s f o b) (state_is c.self.view_is)
 
 pub returns-clause-lists : goal.returns-clause-lists
 returns-clause-lists c =
@@ -118,6 +122,6 @@ returns-clause-lists c =
     let o = c.args.offset in
     let n = length c.args.bytes.now in
     let lists = λ (s : Store). s.lists in
-    written_lists (state_of a.geometry a.name a.pages.files a.handles a.blocks a.requests) f o n a.pages.lists c.page-page_size.result _ c.place.new.pages.lists c.set_size.new.self.lists c.page-page_size.ensures.value c.requires.some
+    written_lists (state_of a.geometry a.name a.pages.files a.handles a.blocks a.requests a.syncs) f o n a.pages.lists c.page-page_size.result _ c.place.new.pages.lists c.set_size.new.self.lists c.page-page_size.ensures.value c.requires.some
     c.which_cached-cached.ensures (ap lists c.in_ok-place.ensures.made.rest) (ap lists c.set_size.ensures ∙ ap lists c.write.ensures.rest ∙ ap lists c.access_cached.ensures)
     ∙ ap (λ (k : Core). write_moves k.state f o n k.lists) c.self.view_is

@@ -1,0 +1,94 @@
+//! A worked sync, in a cache of 16-byte pages, 48 frames, a dirty limit of 16 and 64 blocks. The ends of requests are run by the
+//! tests of the world, which makes device calls.
+
+use crate::{CacheCore, PageTags, Refused, SyncStepped};
+use blockdev::Buffer;
+use pc_types::{FileId, Geometry, HandleId, PageIndex, Refusal, Serial, SyncId, Tag, Tags};
+use std::alloc::Global;
+use std::process::Abort;
+use std::test::Fail;
+
+const FILE: FileId = FileId(0);
+
+const HANDLE: HandleId = HandleId(0);
+
+const SYNC: SyncId = SyncId(0);
+
+/// A cache with one file, which is open and has two dirty pages.
+fn written(alloc: Global) -> Result<CacheCore, Refusal> {
+    let mut core = CacheCore::new(alloc, &Geometry::new(16, 48, 16, 64)?, 7)?;
+    core.create()?;
+    core.open(FILE)?;
+    core.write(HANDLE, 0, &[0xab; 20])?;
+    Ok(core)
+}
+
+/// Makes a step of the sync with a new buffer.
+fn step(alloc: Global, core: &mut CacheCore) -> Result<Result<SyncStepped, Refused>, Refusal> {
+    let buffer = Buffer::new(alloc, &core.geometry())?;
+    Ok(core.sync_step(SYNC, buffer))
+}
+
+fn starts(
+    rt: &impl Abort,
+    alloc: Global,
+    core: &mut CacheCore,
+    serial: u64,
+) -> Result<(), Refusal> {
+    let stepped = step(alloc, core)?;
+    let Ok(SyncStepped::Job(job)) = stepped else {
+        assert!(rt; false);
+        return Ok(());
+    };
+    assert_eq!(rt; job.serial(), Serial(serial));
+    Ok(())
+}
+
+fn syncs(rt: &impl Abort, alloc: Global, core: &mut CacheCore) -> Result<(), Refusal> {
+    assert_eq!(rt; core.sync_begin(HandleId(1)), Err(Refusal::BadHandle));
+    assert_eq!(rt; core.sync_begin(HANDLE), Ok(SYNC));
+    let both = Tags::none().with(Tag::Dirty).with(Tag::Towrite);
+    assert_eq!(rt; core.tags(FILE, PageIndex(1)), Ok(PageTags::Cached(both)));
+    starts(rt, alloc, core, 0)?;
+    starts(rt, alloc, core, 1)?;
+    let waits = step(alloc, core)?;
+    assert!(rt; matches!(waits, Ok(SyncStepped::Wait(PageIndex(0), _))));
+    assert_eq!(rt; core.close(HANDLE), Err(Refusal::Busy));
+    assert_eq!(rt; core.sync_drop(SYNC), Ok(()));
+    assert_eq!(rt; core.sync_drop(SYNC), Err(Refusal::Stranger));
+    assert_eq!(rt; core.close(HANDLE), Ok(()));
+    Ok(())
+}
+
+#[test]
+fn a_sync_writes_the_dirty_pages_and_waits_for_the_first(rt: HostRuntime) -> Result<(), Fail> {
+    let mut core = written(rt.alloc())?;
+    syncs(&rt, rt.alloc(), &mut core)?;
+    Ok(())
+}
+
+fn finishes(rt: &impl Abort, alloc: Global, core: &mut CacheCore) -> Result<(), Refusal> {
+    assert_eq!(rt; core.sync_begin(HANDLE), Ok(SYNC));
+    let clean = step(alloc, core)?;
+    assert!(rt; matches!(clean, Ok(SyncStepped::Clean(_))));
+    let gone = step(alloc, core)?;
+    assert!(rt;
+        matches!(
+            gone,
+            Err(Refused {
+                refusal: Refusal::Stranger,
+                ..
+            })
+        )
+    );
+    Ok(())
+}
+
+#[test]
+fn a_sync_of_no_dirty_page_is_clean_at_once(rt: HostRuntime) -> Result<(), Fail> {
+    let mut core = CacheCore::new(rt.alloc(), &Geometry::new(16, 48, 16, 64)?, 7)?;
+    core.create()?;
+    core.open(FILE)?;
+    finishes(&rt, rt.alloc(), &mut core)?;
+    Ok(())
+}
