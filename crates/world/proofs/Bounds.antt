@@ -13,13 +13,13 @@ use Rattle.pc_types.specs.Tags.{no_tags}
 use Rattle.pc_types.specs.Spots.{Spot}
 use Rattle.pc_types.proofs.FileLaws.{length-cut, length-pwrite}
 use Rattle.cachecore.specs.State.{State, File, Page, Request, Sync, file_at, file_of, is_open, page_at, page_count, spot_at, has_block, no_file, touched, touches, first_page, without_block, free_blocks}
-use Rattle.cachecore.specs.Changes.{put_file, put_page, drop_page, blank, block_of, ended, filling, started, after_write, set_written, failed_once, written, written_page, written_pages, shrunk, cut_page, cut_request, cut_boundary, boundary}
+use Rattle.cachecore.specs.Changes.{put_file, put_page, drop_page, blank, block_of, ended, filling, started, after_write, set_written, failed_once, written, written_page, written_pages, shrunk, cut_page, cut_request, cut_boundary, boundary, each_value, to_write}
 use Rattle.cachecore.proofs.ChangeLaws.{written_writes, get-written_pages, get-cut_pages, new_spot, taken_by, needs_block, takes_free}
 use Rattle.cachecore.proofs.MapLaws.{get-insert_nat, get-remove_nat, get-insert_place, get-retain_place, get-each_value}
 use Rattle.cachecore.proofs.StateLaws.{page_at-put}
-use Rattle.cachecore.proofs.StepCases.{Cases}
+use Rattle.cachecore.proofs.StepCases.{Cases, SyncCases}
 use Rattle.world.specs.Flights.{InBounds}
-use Rattle.world.proofs.Lookups.{get_or-default, cached_within}
+use Rattle.world.proofs.Lookups.{get_or-default, cached_within, page_at-picked}
 
 -- ---- one value changed
 
@@ -68,6 +68,9 @@ length_written P o p b (Some page) h = length_over P page.bytes (o - p * P) (dro
 length_cut_page : (P z : ℕ) (has : Bool) (page : Page) → length page.bytes ≡ P → length (cut_page P z has page).bytes ≡ P
 length_cut_page P z true page e = length-cut (take _ page.bytes) P
 length_cut_page P z false page e = e
+
+length_to_write : (P : ℕ) (page : Page) → length page.bytes ≡ P → length (to_write page).bytes ≡ P
+length_to_write P page e = elim page.tags.dirty as (λ b. length (cond b (record page { tags = record page.tags { towrite = true } }) page).bytes ≡ P) [ true ↦ e | false ↦ e ]
 
 -- past the last file nothing is put
 put_past : (s : State) (f : ℕ) (file : File) → length s.files ≤ f → put_file s f file ≡ s
@@ -206,6 +209,10 @@ module _ (s : State) (b : InBounds s) where
   pub failed_in : (f c : ℕ) → f < length s.files → InBounds (failed_once s f c)
   failed_in f c here = with_file f (record (file_at s f) { failures = (file_at s f).failures + 1; last_code = c }) here (b.pages f)
 
+  pub tagged_in : (f : ℕ) → f < length s.files → InBounds (put_file s f (record (file_at s f) { pages = each_value to_write (file_at s f).pages }))
+  tagged_in f here = with_file f (record (file_at s f) { pages = each_value to_write (file_at s f).pages }) here
+      (λ p page e. in_map (λ (x : Page). length x.bytes ≡ P) to_write (page_at s f p) (λ x is. length_to_write P x (b.pages f p x is)) page (sym (get-each_value to_write (file_at s f).pages p) ∙ e))
+
   pub synced_in : (m : finmap.FinMap nat_cmp Sync) → InBounds (record s { syncs = m })
   synced_in m = record { blocks = b.blocks; requests = b.requests; spots = b.spots; handles = b.handles; pages = b.pages }
 
@@ -234,7 +241,7 @@ module _ (s : State) (b : InBounds s) (t : ℕ) where
       go true h = page_in (ended s t) e2 f p (record { bytes = bytes; tags = no_tags }) (grind (arith, nat_tests)) e
       go false h = subst InBounds (sym (put_past (ended s t) f _ (grind (arith, nat_tests)))) e2
 
--- ---- every other event
+-- ---- every event
 
 -- a request has ended
 abbrev pub Lost : State → State → Type 0
@@ -258,4 +265,11 @@ bounds_cases s b = record {
   flushed = λ t r page _ _ is. inl (flushed_in s b t r page is);
   evicts = λ f p page is _. inl (dropped_in s b f p (cached_within s f p (ap is_some is)));
   sync_ends = λ n. inl (synced_in s b (finmap.remove s.syncs n));
+}
+
+pub bounds_sync_cases : (s : State) → InBounds s → SyncCases s (λ new. InBounds new ⊎ Lost s new)
+bounds_sync_cases s b = record {
+  begins = λ h n opened _. inl (synced_in _ (tagged_in s b (file_of s h) (open_file s b h opened)) _);
+  awaits = λ n sync ts _ _. inl (synced_in s b (finmap.insert s.syncs n (record sync { awaited = Some ts })));
+  starts = λ n sync e _ _ pick _ _. inl (synced_in _ (started_in s b (file_of s sync.handle) e.0 e.1 (page_at-picked s (file_of s sync.handle) sync.last e pick)) _);
 }

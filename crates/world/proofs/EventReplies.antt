@@ -1,7 +1,6 @@
 -- An event that keeps the requests, and one that begins one, as a step of the world that is made.
 use Rattle.std.proofs.Common.{◌≡◌, ℕ, true, false, length, refl, sym, subst}
 use Rattle.std.specs.FinMap as finmap
-use Rattle.pc_types.specs.declared.ids.FileId.{FileId}
 use Rattle.pc_types.specs.declared.ids.HandleId.{HandleId}
 use Rattle.pc_types.specs.declared.ids.PageIndex.{PageIndex}
 use Rattle.pc_types.specs.declared.ids.Serial.{Serial}
@@ -19,7 +18,7 @@ use Rattle.world.specs.World.{Acts}
 use Rattle.world.specs.Stepping.{Held, world_of}
 use Rattle.world.specs.declared.jobs.Flight.TheVariants.{Asked}
 use Rattle.world.specs.Flights.{Jobs, held_of, IsWorld}
-use Rattle.world.proofs.KeptRequests.{is_quiet, is_job}
+use Rattle.world.proofs.KeptRequests.{is_quiet, is_job, may_flush}
 use Rattle.world.proofs.WorldSteps.{quiet_acts, fill_acts, flush_acts, fill_job_acts, flush_job_acts}
 
 -- the event is made, and the device is left alone
@@ -43,12 +42,12 @@ module _ (core : State) (jobs : Jobs) (dev : Told) (w : IsWorld core jobs dev) (
       (subst (λ m. IsActed old (event.FillBegin h p) (reply.Job (record { 0 = job.serial })) (held_of new m dev)) (sym e)
       (acted (event.FillBegin h p) (reply.Job (record { 0 = job.serial })) new (finmap.insert jobs job.serial (Asked job)) (fill_job_acts core jobs dev w h p new job step is size)))
 
-  pub flush_acted : (f : FileId) (r : Reply) (new : State) → is_job r ≡ false → Step core (event.FlushBegin f) r new → IsActed old (event.FlushBegin f) r (held_of new jobs dev)
-  flush_acted f r new j e = acted (event.FlushBegin f) r new jobs (flush_acts core jobs dev w f r new j e)
+  pub flush_acted : (e : Event) (r : Reply) (new : State) → may_flush e ≡ true → is_job r ≡ false → Step core e r new → IsActed old e r (held_of new jobs dev)
+  flush_acted e r new m j h = acted e r new jobs (flush_acts core jobs dev w e r new m j h)
 
-  pub flush_job_acted : (f : FileId) (new full : State) (job : Task) (table : Jobs) → Step core (event.FlushBegin f) (reply.Job (record { 0 = job.serial })) full → new ≡ bare full → IsJobOf full job (λ r. r.bytes) → table ≡ finmap.insert jobs job.serial (Asked job)
-      → (t : Serial) → t.0 ≡ job.serial → IsActed old (event.FlushBegin f) (reply.Job t) (held_of new table dev)
-  flush_job_acted f new full job table step is of e t same =
-      subst (λ (n : ℕ). IsActed old (event.FlushBegin f) (reply.Job (record { 0 = n })) (held_of new table dev)) (sym same)
-      (subst (λ m. IsActed old (event.FlushBegin f) (reply.Job (record { 0 = job.serial })) (held_of new m dev)) (sym e)
-      (acted (event.FlushBegin f) (reply.Job (record { 0 = job.serial })) new (finmap.insert jobs job.serial (Asked job)) (flush_job_acts core jobs dev w f new full job step is of)))
+  pub flush_job_acted : (e : Event) → may_flush e ≡ true → (new full : State) (job : Task) (table : Jobs) → Step core e (reply.Job (record { 0 = job.serial })) full → new ≡ bare full → IsJobOf full job (λ r. r.bytes) → table ≡ finmap.insert jobs job.serial (Asked job)
+      → (t : Serial) → t.0 ≡ job.serial → IsActed old e (reply.Job t) (held_of new table dev)
+  flush_job_acted e m new full job table step is of i t same =
+      subst (λ (n : ℕ). IsActed old e (reply.Job (record { 0 = n })) (held_of new table dev)) (sym same)
+      (subst (λ x. IsActed old e (reply.Job (record { 0 = job.serial })) (held_of new x dev)) (sym i)
+      (acted e (reply.Job (record { 0 = job.serial })) new (finmap.insert jobs job.serial (Asked job)) (flush_job_acts core jobs dev w e m new full job step is of)))

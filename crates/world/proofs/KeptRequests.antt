@@ -1,9 +1,9 @@
 -- What each event leaves of the requests in flight: it keeps them, or one begins, or one ends.
-use Rattle.std.proofs.Common.{◌≡◌, ℕ, Bool, true, false, cond, eqb, List, length, refl, ap, sym, subst, ◌∙◌, inl, inr}
+use Rattle.std.proofs.Common.{◌≡◌, ℕ, Bool, true, false, cond, eqb, List, [], ◌∷◌, length, refl, ap, sym, subst, ◌∙◌, inl, inr}
 use Rattle.std.specs.Prelude.{◌&&◌, Option, Some, None, option_map, nat_lt, nat_le, is_some, not}
 use Rattle.std.specs.FinMap as finmap
+use Rattle.std.specs.Ordering.{nat_cmp}
 use Rattle.pc_types.specs.declared.refusal.Refusal.TheVariants.{Memory}
-use Rattle.pc_types.specs.declared.ids.FileId.{FileId}
 use Rattle.pc_types.specs.declared.ids.HandleId.{HandleId}
 use Rattle.pc_types.specs.declared.ids.PageIndex.{PageIndex}
 use Rattle.pc_types.specs.declared.ids.Serial.{Serial}
@@ -11,13 +11,14 @@ use Rattle.cachecore.specs.declared.event.Event.{Event}
 use Rattle.cachecore.specs.declared.event.Event.TheVariants as event
 use Rattle.cachecore.specs.declared.event.Reply.{Reply}
 use Rattle.cachecore.specs.declared.event.Reply.TheVariants as reply
-use Rattle.cachecore.specs.State.{State, Page, Request, file_at, file_of, page_at, page_count, is_filling, is_cached, free_frames, is_open, is_written, spot_at}
-use Rattle.cachecore.specs.Changes.{each_value, cut_request, filling, started, truncated, shrunk, put_file}
-use Rattle.cachecore.specs.Tests.{create_tests, open_tests, close_tests, size_tests, read_tests, write_tests, append_tests, truncate_tests, fill_begin_tests, flush_begin_tests, flush_pick, evict_tests, is_full}
-use Rattle.cachecore.specs.Step.{Step, Answers, CreateReply, OpenReply, CloseReply, ReadReply, WriteReply, TruncateReply, FillBeginReply, FlushBeginReply, EvictReply, AgeReply}
+use Rattle.cachecore.specs.State.{State, Page, Request, Sync, file_at, file_of, page_at, page_count, is_filling, is_cached, free_frames, is_open, is_written, spot_at}
+use Rattle.cachecore.specs.Changes.{each_value, cut_request, filling, started, truncated, shrunk, put_file, flushes_of}
+use Rattle.cachecore.specs.Tests.{create_tests, open_tests, close_tests, size_tests, read_tests, write_tests, append_tests, truncate_tests, fill_begin_tests, flush_begin_tests, flush_pick, evict_tests, sync_begin_tests, sync_tests, sync_drop_tests, sync_pick, start_tests, is_full}
+use Rattle.cachecore.specs.Step.{Step, Answers, CreateReply, OpenReply, CloseReply, ReadReply, WriteReply, TruncateReply, FillBeginReply, FlushBeginReply, EvictReply, AgeReply, SyncBeginReply, SyncStepReply, SyncAwaits, SyncPicked, WaitsFor, SyncDropReply}
 use Rattle.cachecore.proofs.BareMaps.{each-each}
 use Rattle.cachecore.proofs.MapLaws.{get-each_value, len-each_value}
-use Rattle.cachecore.proofs.Choices.{answered, quiet_none, quiet_if, if_none, may_fill, and_false}
+use Rattle.cachecore.proofs.Choices.{answered, quiet_none, quiet_some, quiet_if, if_none, may_fill, and_false}
+use Rattle.world.proofs.Lookups.{page_at-picked}
 
 -- all of a request but whether it is dropped
 abbrev pub undropped : Request → Request
@@ -57,9 +58,7 @@ is_quiet (event.FillBegin h p) = false
 is_quiet (event.FillEnd e) = false
 is_quiet (event.FlushBegin f) = false
 is_quiet (event.FlushEnd e) = false
-is_quiet (event.SyncBegin h) = false
 is_quiet (event.SyncStep n) = false
-is_quiet (event.SyncDrop n) = false
 is_quiet _ = true
 
 cut_undropped : (r : Request) (b : Bool) → undropped (cond b (record r { dropped = true }) r) ≡ undropped r
@@ -115,6 +114,17 @@ module _ (s new : State) where
   ages (reply.Aged n) e = as_kept s s new (same_kept s) e
   ages _ e = absurd e
 
+  sync_begins : (h : ℕ) (r : Reply) → SyncBeginReply s h r new → Kept s new
+  sync_begins h (reply.Sync n) e = as_kept s _ new (record { next = refl; name = refl; sizes = refl; requests = refl }) e.1
+  sync_begins h _ e = absurd e
+
+  with_syncs : (syncs : finmap.FinMap nat_cmp Sync) → new ≡ record s { syncs = syncs } → Kept s new
+  with_syncs syncs e = as_kept s _ new (record { next = refl; name = refl; sizes = refl; requests = refl }) e
+
+  sync_drops : (n : ℕ) (r : Reply) → SyncDropReply s n r new → Kept s new
+  sync_drops n reply.Dropped e = with_syncs (finmap.remove s.syncs n) e
+  sync_drops n _ e = absurd e
+
   pub quiet_kept : (e : Event) (r : Reply) → is_quiet e ≡ true → Step s e r new → Kept s new
   quiet_kept event.Create r q = by_answer (create_tests s) r (CreateReply s r new) (creates r)
   quiet_kept (event.Open f) r q = by_answer (open_tests s f.0) r (OpenReply s f.0 r new) (opens f.0 r)
@@ -130,9 +140,9 @@ module _ (s new : State) where
   quiet_kept (event.FillEnd e) r q = absurd cc
   quiet_kept (event.FlushBegin f) r q = absurd cc
   quiet_kept (event.FlushEnd e) r q = absurd cc
-  quiet_kept (event.SyncBegin h) r q = absurd cc
+  quiet_kept (event.SyncBegin h) r q = by_answer (sync_begin_tests s h.0) r (SyncBeginReply s h.0 r new) (sync_begins h.0 r)
+  quiet_kept (event.SyncDrop n) r q = by_answer (sync_drop_tests s n.0) r (SyncDropReply s n.0 r new) (sync_drops n.0 r)
   quiet_kept (event.SyncStep n) r q = absurd cc
-  quiet_kept (event.SyncDrop n) r q = absurd cc
 
 -- ---- events that begin one
 
@@ -147,9 +157,6 @@ IsNoJob r = is_job r ≡ false
 fill_answers : (s : State) (h p : ℕ) (r : Reply) → fill_begin_tests s h p ≡ Some r → IsNoJob r
 fill_answers s h p =
     quiet_if IsNoJob (not (is_open s h)) _ _ refl (quiet_if IsNoJob (nat_le (page_count s.sizes.page (file_at s (file_of s h)).size) p) _ _ refl (quiet_if IsNoJob (is_filling s (file_of s h) p) _ _ refl (quiet_if IsNoJob (is_cached s (file_of s h) p) _ _ refl (quiet_if IsNoJob (eqb (free_frames s) 0) _ _ refl (quiet_if IsNoJob (is_written (spot_at s (file_of s h) p) && is_full s) _ _ refl (quiet_none IsNoJob))))))
-
-flush_answers : (s : State) (f : ℕ) (r : Reply) → flush_begin_tests s f ≡ Some r → IsNoJob r
-flush_answers s f = quiet_if IsNoJob (nat_le (length s.files) f) _ _ refl (quiet_if IsNoJob (not (is_some (flush_pick (file_at s f)))) _ _ refl (quiet_if IsNoJob (is_full s) _ _ refl (quiet_none IsNoJob)))
 
 -- a fill begins
 pub record FillBegins (s new : State) (h p t : ℕ) : Type 0 where
@@ -173,14 +180,40 @@ module _ (s new : State) where
     | inr a ↦ record { serial = a.1.1; state = a.1.2; room = and_false (is_written (spot_at s (file_of s h.0) p.0)) (is_full s) (may_fill s h.0 p.0 a.0).room a.1.0 }
   ]
 
--- a flush begins
-pub record FlushBegins (s new : State) (f t : ℕ) : Type 0 where
+-- ---- events that begin a flush
+
+abbrev pub may_flush : Event → Bool
+may_flush (event.FlushBegin f) = true
+may_flush (event.SyncStep n) = true
+may_flush _ = false
+
+flush_answers : (s : State) (f : ℕ) (r : Reply) → flush_begin_tests s f ≡ Some r → IsNoJob r
+flush_answers s f = quiet_if IsNoJob (nat_le (length s.files) f) _ _ refl (quiet_if IsNoJob (not (is_some (flush_pick (file_at s f)))) _ _ refl (quiet_if IsNoJob (is_full s) _ _ refl (quiet_none IsNoJob)))
+
+start_answers : (s : State) (o : Option (ℕ × Page)) (r : Reply) → start_tests s o ≡ Some r → IsNoJob r
+start_answers s None = quiet_none IsNoJob
+start_answers s (Some e) = quiet_if IsNoJob e.1.tags.writeback _ _ refl (quiet_if IsNoJob (is_full s) _ _ refl (quiet_none IsNoJob))
+
+pub sync_answers : (s : State) (o : Option Sync) (r : Reply) → sync_tests s o ≡ Some r → IsNoJob r
+sync_answers s None r e = quiet_some IsNoJob _ r e refl
+sync_answers s (Some sync) r e = elim (is_some sync.awaited) as (λ b. cond b None (start_tests s (sync_pick (file_at s (file_of s sync.handle)) sync.last)) ≡ Some r → IsNoJob r) [
+  | true ↦ λ j. quiet_none IsNoJob r j
+  | false ↦ λ j. start_answers s (sync_pick (file_at s (file_of s sync.handle)) sync.last) r j
+] e
+
+pub waits_job : (s new : State) (n : ℕ) (y : Sync) (ts : List ℕ) (t : Serial) → WaitsFor s n y ts (reply.Job t) new → ⊥
+waits_job s new n y [] t h = h
+waits_job s new n y (u ∷ ts) t h = h
+
+-- a flush begins. Where a sync starts it, the sync notes its page
+pub record FlushBegins (s new : State) (t : ℕ) : Type 0 where
+  pub f : ℕ
   pub p : ℕ
   pub page : Page
-  pub picked : flush_pick (file_at s f) ≡ Some p
+  pub syncs : finmap.FinMap nat_cmp Sync
   pub is : page_at s f p ≡ Some page
   pub serial : t ≡ s.next
-  pub state : new ≡ started s f p page
+  pub state : new ≡ record (started s f p page) { syncs = syncs }
   pub room : is_full s ≡ false
 
 module _ (s new : State) where
@@ -189,15 +222,63 @@ module _ (s new : State) where
   flush_other f None (reply.Job t) j e = absurd cc
   flush_other f o _ j e = absurd e
 
-  pub flush_kept : (f : FileId) (r : Reply) → is_job r ≡ false → Step s (event.FlushBegin f) r new → Kept s new
-  flush_kept f r j = by_answer s new (flush_begin_tests s f.0) r (FlushBeginReply s f.0 (flush_pick (file_at s f.0)) r new) (flush_other f.0 (flush_pick (file_at s f.0)) r j)
+  waits : (n : ℕ) (sync : Sync) (ts : List ℕ) (r : Reply) → WaitsFor s n sync ts r new → Kept s new
+  waits n sync [] reply.Clean e = with_syncs s new _ e.1
+  waits n sync [] (reply.Failed c) e = with_syncs s new _ e.2
+  waits n sync (t ∷ ts) (reply.Wait p) e = with_syncs s new _ e.1
+  waits n sync ts _ e = absurd e
 
-  flush_picks : (f : ℕ) (t : Serial) (o : Option ℕ) → flush_pick (file_at s f) ≡ o → is_full s ≡ false → FlushBeginReply s f o (reply.Job t) new → FlushBegins s new f t.0
-  flush_picks f t None pick room e = absurd e
-  flush_picks f t (Some p) pick room e = record { p = p; page = e.1; picked = pick; is = e.2; serial = e.0; state = e.3; room = room }
+  picks : (n : ℕ) (sync : Sync) (o : Option (ℕ × Page)) (r : Reply) → is_job r ≡ false → SyncPicked s n sync o r new → Kept s new
+  picks n sync (Some e) (reply.Job t) j h = absurd cc
+  picks n sync None r j h = waits n sync (flushes_of s (file_of s sync.handle)) r h
+  picks n sync (Some e) _ j h = absurd h
 
-  pub flush_begins : (f : FileId) (t : Serial) → Step s (event.FlushBegin f) (reply.Job t) new → FlushBegins s new f.0 t.0
-  flush_begins f t step = elim (answered (flush_begin_tests s f.0) (reply.Job t) s new (FlushBeginReply s f.0 (flush_pick (file_at s f.0)) (reply.Job t) new) step) [
+  goes_on : (n : ℕ) (sync : Sync) (o : Option (List ℕ)) (r : Reply) → is_job r ≡ false → SyncAwaits s n sync o r new → Kept s new
+  goes_on n sync None r j h = picks n sync (sync_pick (file_at s (file_of s sync.handle)) sync.last) r j h
+  goes_on n sync (Some ts) r j h = waits n sync ts r h
+
+  sync_other : (n : ℕ) (o : Option Sync) (r : Reply) → is_job r ≡ false → SyncStepReply s n o r new → Kept s new
+  sync_other n None r j h = absurd h
+  sync_other n (Some sync) r j h = goes_on n sync sync.awaited r j h
+
+  pub flush_kept : (e : Event) (r : Reply) → may_flush e ≡ true → is_job r ≡ false → Step s e r new → Kept s new
+  flush_kept (event.FlushBegin f) r m j = by_answer s new (flush_begin_tests s f.0) r (FlushBeginReply s f.0 (flush_pick (file_at s f.0)) r new) (flush_other f.0 (flush_pick (file_at s f.0)) r j)
+  flush_kept (event.SyncStep n) r m j = by_answer s new (sync_tests s (finmap.get s.syncs n.0)) r (SyncStepReply s n.0 (finmap.get s.syncs n.0) r new) (sync_other n.0 (finmap.get s.syncs n.0) r j)
+  flush_kept _ r m j = absurd cc
+
+  flush_picks : (f : ℕ) (t : Serial) (o : Option ℕ) → is_full s ≡ false → FlushBeginReply s f o (reply.Job t) new → FlushBegins s new t.0
+  flush_picks f t None room e = absurd e
+  flush_picks f t (Some p) room e = record { f = f; p = p; page = e.1; syncs = s.syncs; is = e.2; serial = e.0; state = e.3; room = room }
+
+  sync_starts : (n : ℕ) (sync : Sync) (t : Serial) (o : Option (ℕ × Page)) → sync_pick (file_at s (file_of s sync.handle)) sync.last ≡ o → start_tests s o ≡ None → SyncPicked s n sync o (reply.Job t) new → FlushBegins s new t.0
+  sync_starts n sync t (Some e) pick idle h =
+      record {
+        f = file_of s sync.handle;
+        p = e.0;
+        page = e.1;
+        syncs = finmap.insert s.syncs n (record sync { last = Some e.0 });
+        is = page_at-picked s (file_of s sync.handle) sync.last e pick;
+        serial = h.0;
+        state = h.1;
+        room = (if_none (is_full s) _ _ (if_none e.1.tags.writeback _ _ idle).1).0;
+      }
+  sync_starts n sync t None pick idle h = absurd (waits_job s new n sync (flushes_of s (file_of s sync.handle)) t h)
+
+  sync_goes_on : (n : ℕ) (sync : Sync) (t : Serial) (o : Option (List ℕ)) → cond (is_some o) None (start_tests s (sync_pick (file_at s (file_of s sync.handle)) sync.last)) ≡ None → SyncAwaits s n sync o (reply.Job t) new → FlushBegins s new t.0
+  sync_goes_on n sync t None idle h = sync_starts n sync t (sync_pick (file_at s (file_of s sync.handle)) sync.last) refl idle h
+  sync_goes_on n sync t (Some ts) idle h = absurd (waits_job s new n sync ts t h)
+
+  sync_picks : (n : ℕ) (t : Serial) (o : Option Sync) → sync_tests s o ≡ None → SyncStepReply s n o (reply.Job t) new → FlushBegins s new t.0
+  sync_picks n t None idle h = absurd h
+  sync_picks n t (Some sync) idle h = sync_goes_on n sync t sync.awaited idle h
+
+  pub flush_begins : (e : Event) (t : Serial) → may_flush e ≡ true → Step s e (reply.Job t) new → FlushBegins s new t.0
+  flush_begins (event.FlushBegin f) t m step = elim (answered (flush_begin_tests s f.0) (reply.Job t) s new (FlushBeginReply s f.0 (flush_pick (file_at s f.0)) (reply.Job t) new) step) [
     | inl a ↦ absurd (let k = flush_answers s f.0 (reply.Job t) a.0 in cc)
-    | inr a ↦ flush_picks f.0 t (flush_pick (file_at s f.0)) refl (if_none (is_full s) _ _ (if_none (not (is_some (flush_pick (file_at s f.0)))) _ _ (if_none (nat_le (length s.files) f.0) _ _ a.0).1).1).0 a.1
+    | inr a ↦ flush_picks f.0 t (flush_pick (file_at s f.0)) (if_none (is_full s) _ _ (if_none (not (is_some (flush_pick (file_at s f.0)))) _ _ (if_none (nat_le (length s.files) f.0) _ _ a.0).1).1).0 a.1
   ]
+  flush_begins (event.SyncStep n) t m step = elim (answered (sync_tests s (finmap.get s.syncs n.0)) (reply.Job t) s new (SyncStepReply s n.0 (finmap.get s.syncs n.0) (reply.Job t) new) step) [
+    | inl a ↦ absurd (let k = sync_answers s (finmap.get s.syncs n.0) (reply.Job t) a.0 in cc)
+    | inr a ↦ sync_picks n.0 t (finmap.get s.syncs n.0) a.0 a.1
+  ]
+  flush_begins _ t m step = absurd cc

@@ -1,6 +1,6 @@
 -- What is looked up in a state of the cache after a part of it changes.
 use Rattle.std.proofs.Common.{◌≡◌, ℕ, zero, suc, ◌<◌, true, false, cond, eqb, eqb-true, ltb, List, [], ◌∷◌, ◌++◌, length, get_or, refl, ap, sym, ◌∙◌, arith}
-use Rattle.std.specs.Prelude.{◌&&◌, Some, None, is_some}
+use Rattle.std.specs.Prelude.{◌&&◌, Option, Some, None, is_some}
 use Rattle.std.specs.Ordering.{nat_cmp}
 use Rattle.std.specs.FinMap as finmap
 use Rattle.std.specs.FinMap.{FinMap, get-empty}
@@ -9,6 +9,8 @@ use Rattle.std.proofs.lemmas.List.{get_or_past}
 use Rattle.cachecore.specs.State.{State, File, Page, file_at, page_at, no_file}
 use Rattle.pc_types.specs.Spots.{place_cmp}
 use Rattle.cachecore.specs.Changes.{put_file, put_page, drop_page}
+use Rattle.cachecore.specs.Tests.{sync_pick, past}
+use Rattle.cachecore.proofs.Found.{found}
 use Rattle.cachecore.proofs.MapLaws.{get-insert_nat, get-remove_nat, get-insert_place}
 use Rattle.cachecore.proofs.StateLaws.{file_at-put, page_at-put}
 use Rattle.world.proofs.View.{put1, put2}
@@ -79,3 +81,7 @@ cached_within s f p e = elim (ltb f (length s.files)) as (λ b. ltb f (length s.
       let none : page_at s f p ≡ None = ap (λ (x : File). finmap.get x.pages p) past ∙ get-empty nat_cmp p in
       let a = ap is_some none in cc)
 ] refl
+
+-- the page that a sync starts
+pub page_at-picked : (s : State) (f : ℕ) (last : Option ℕ) (e : ℕ × Page) → sync_pick (file_at s f) last ≡ Some e → page_at s f e.0 ≡ Some e.1
+page_at-picked s f last e pick = (found (file_at s f).pages (λ x. x.1.tags.towrite && past last x.0) e pick).1

@@ -13,8 +13,8 @@ use Rattle.cachecore.specs.declared.event.Event.TheVariants as event
 use Rattle.cachecore.specs.declared.event.Outcome.{Outcome as Noted}
 use Rattle.cachecore.specs.declared.event.Reply.{Reply}
 use Rattle.cachecore.specs.declared.event.Reply.TheVariants as reply
-use Rattle.cachecore.specs.State.{State, Request, file_at}
-use Rattle.cachecore.specs.Step.{Answers, FlushBeginReply}
+use Rattle.cachecore.specs.State.{State, Page, Request, Sync, file_at}
+use Rattle.cachecore.specs.Step.{Answers, FlushBeginReply, SyncAwaits, SyncPicked, SyncStepReply, WaitsFor}
 use Rattle.cachecore.specs.Tests.{tests, flush_pick}
 use Rattle.world.specs.declared.step.Step.{Step}
 use Rattle.world.specs.declared.step.Step.TheVariants as step
@@ -43,6 +43,22 @@ no_flush : (s new : State) (f : ℕ) (o : Option ℕ) → FlushBeginReply s f o 
 no_flush s new f None h = h
 no_flush s new f (Some p) h = h
 
+no_start : (s new : State) (n : ℕ) (o : Option Sync) → SyncStepReply s n o (reply.Refused Memory) new → ⊥
+no_start s new n None h = h
+no_start s new n (Some sync) h = goes_on sync.awaited h
+  where
+    waits : (ts : List ℕ) → WaitsFor s n sync ts (reply.Refused Memory) new → ⊥
+    waits [] h = h
+    waits (t ∷ ts) h = h
+
+    picks : (o : Option (ℕ × Page)) → SyncPicked s n sync o (reply.Refused Memory) new → ⊥
+    picks None h = waits _ h
+    picks (Some e) h = h
+
+    goes_on : (o : Option (List ℕ)) → SyncAwaits s n sync o (reply.Refused Memory) new → ⊥
+    goes_on None h = picks _ h
+    goes_on (Some ts) h = waits ts h
+
 uncalled : (old new : Held) (t : ℕ) (q : Option Request) (o : Option Noted) → CallReply old t q o (reply.Refused Stranger) new → new ≡ old
 uncalled old new t (Some r) None h = absurd (let e = h.0 in cc)
 uncalled old new t (Some r) (Some o) h = h.1
@@ -65,11 +81,14 @@ unmade (step.FillBegin h p) (reply.Refused Memory) old new e (inl m) = same_worl
 unmade (step.FillBegin h p) (reply.Refused Memory) old new e (inr m) = ap world_of m.1
 unmade (step.FlushBegin f) (reply.Refused Memory) old new e (inl m) = same_world old new m.0.1 (left_alone (tests old.core (event.FlushBegin f)) (reply.Refused Memory) old.core new.core _ (λ x. absurd (no_flush old.core new.core f.0 (flush_pick (file_at old.core f.0)) x)) m.0.0)
 unmade (step.FlushBegin f) (reply.Refused Memory) old new e (inr m) = ap world_of m.1
+unmade (step.SyncStep n) (reply.Refused Memory) old new e (inl m) = same_world old new m.0.1 (left_alone (tests old.core (event.SyncStep n)) (reply.Refused Memory) old.core new.core _ (λ x. absurd (no_start old.core new.core n.0 (finmap.get old.core.syncs n.0) x)) m.0.0)
+unmade (step.SyncStep n) (reply.Refused Memory) old new e (inr m) = ap world_of m.1
 unmade (step.Call t) (reply.Refused Stranger) old new e m = ap world_of (uncalled old new t.0 (finmap.get old.core.requests t.0) (finmap.get old.outcomes t.0) m)
 unmade (step.End t) (reply.Refused Stranger) old new e m = ap world_of (unended old new t (finmap.get old.outcomes t.0) m)
 unmade (step.Read h o n) r old new e m = absurd (let k : is_made (step.Read h o n) r ≡ false = e in cc)
 unmade (step.FillBegin h p) r old new e m = absurd (let k : is_made (step.FillBegin h p) r ≡ false = e in cc)
 unmade (step.FlushBegin f) r old new e m = absurd (let k : is_made (step.FlushBegin f) r ≡ false = e in cc)
+unmade (step.SyncStep n) r old new e m = absurd (let k : is_made (step.SyncStep n) r ≡ false = e in cc)
 unmade (step.Call t) r old new e m = absurd (let k : is_made (step.Call t) r ≡ false = e in cc)
 unmade (step.End t) r old new e m = absurd (let k : is_made (step.End t) r ≡ false = e in cc)
 unmade s r old new e m = absurd cc
@@ -109,6 +128,10 @@ made (step.FlushBegin f) r old new e t (inl m) = (None, true, m.0)
 made (step.FlushBegin f) r old new e t (inr m) = absurd (let k = ap (is_made (step.FlushBegin f)) m.0 in cc)
 made step.Evict r old new e t m = (None, true, m.0)
 made step.Age r old new e t m = (None, true, m.0)
+made (step.SyncBegin h) r old new e t m = (None, true, m.0)
+made (step.SyncStep n) r old new e t (inl m) = (None, true, m.0)
+made (step.SyncStep n) r old new e t (inr m) = absurd (let k = ap (is_made (step.SyncStep n)) m.0 in cc)
+made (step.SyncDrop n) r old new e t m = (None, true, m.0)
 made (step.Call n) r old new e t m = called old new n r (finmap.get old.core.requests n.0) (finmap.get old.outcomes n.0) e (t refl) m
 made (step.End n) r old new e t m = ended old new n r (finmap.get old.outcomes n.0) e m
 
@@ -151,6 +174,10 @@ still_tells (step.FlushBegin f) r old new (inl m) = left old new m.1
 still_tells (step.FlushBegin f) r old new (inr m) = left old new (ap (λ (v : Held). v.device) m.1)
 still_tells step.Evict r old new m = left old new m.1
 still_tells step.Age r old new m = left old new m.1
+still_tells (step.SyncBegin h) r old new m = left old new m.1
+still_tells (step.SyncStep n) r old new (inl m) = left old new m.1
+still_tells (step.SyncStep n) r old new (inr m) = left old new (ap (λ (v : Held). v.device) m.1)
+still_tells (step.SyncDrop n) r old new m = left old new m.1
 still_tells (step.Call t) r old new m = still_called old new t.0 r (finmap.get old.core.requests t.0) (finmap.get old.outcomes t.0) m
 still_tells (step.End t) r old new m = left old new (still_ended old new (step.End t) r (finmap.get old.outcomes t.0) m)
 

@@ -1,5 +1,5 @@
 -- Syncs over every run: what Clean and Failed mean, and in which order pages are started.
-use Rattle.std.proofs.Common.{◌≡◌, ℕ, zero, suc, ◌+◌, ◌-◌, ◌<◌, ◌≤◌, true, false, cond, not, List, [], ◌∷◌, length, refl, ap, sym, subst, ◌∙◌, arith, inl, inr}
+use Rattle.std.proofs.Common.{◌≡◌, ℕ, zero, suc, ◌+◌, ◌-◌, ◌<◌, ◌≤◌, true, false, cond, not, List, length, refl, ap, sym, subst, ◌∙◌, arith, inl, inr}
 use Rattle.std.specs.Prelude.{◌&&◌, ◌⊎◌, Option, Some, None, is_some, option_map, unwrap_or}
 use Rattle.std.specs.FinMap as finmap
 use Rattle.std.proofs.lemmas.Bool.Decides.{nat_tests}
@@ -9,17 +9,18 @@ use Rattle.world.specs.Plain.{plain_file, named, no_files}
 use Rattle.world.specs.World.{World, Entry, Act, Moves}
 use Rattle.world.proofs.View.{put1_here, dirty, towrite}
 use Rattle.cachecore.proofs.Choices.{answered, quiet_none, quiet_if}
-use Rattle.cachecore.specs.Tests.{sync_begin_tests, sync_tests, sync_pick, past, start_tests, refuse, is_full}
-use Rattle.cachecore.specs.Step.{Step, SyncBeginReply, SyncStepReply, SyncAwaits, SyncPicked, WaitsFor}
+use Rattle.cachecore.specs.Tests.{sync_begin_tests, sync_tests, sync_pick, past}
+use Rattle.cachecore.specs.Step.{Step, SyncBeginReply, SyncStepReply, SyncAwaits, SyncPicked}
 use Rattle.cachecore.proofs.ChangeLaws.{BeginsSync}
 use Rattle.cachecore.specs.Changes.{to_write}
 use Rattle.world.specs.Runs.{IsFirst, Run, world_at, plain_at}
 use Rattle.world.specs.Syncing.{cuts_off, CutOff, IsSync, SyncsAreSynced, SyncsTell, SyncsRise, DirtyPagesStay, WasStarted, requested_page}
 use Rattle.world.proofs.Lookups.{get-insert1}
+use Rattle.world.proofs.KeptRequests.{sync_answers, waits_job}
 use Rattle.world.proofs.Track.{IsUnmoved, IsAwaiting, IsStarting, IsBound, move_tracked}
 use Rattle.world.proofs.Moves.{coupled_at}
 use Rattle.cachecore.proofs.Found.{found}
-use Rattle.pc_types.specs.declared.refusal.Refusal.TheVariants.{TooManyInFlight, BadHandle}
+use Rattle.pc_types.specs.declared.refusal.Refusal.TheVariants.{BadHandle}
 use Rattle.pc_types.specs.declared.ids.HandleId.{HandleId}
 use Rattle.pc_types.specs.declared.ids.Serial.{Serial}
 use Rattle.pc_types.specs.declared.ids.SyncId.{SyncId}
@@ -180,10 +181,6 @@ record StartsAt (s new : State) (y : Sync) (n t : ℕ) : Type 0 where
   pub sync : finmap.get new.syncs n ≡ Some (record y { last = Some entry.0 })
   pub page : option_map (λ (r : Request). r.page) (finmap.get new.requests t) ≡ Some entry.0
 
-waits_job : (s new : State) (n : ℕ) (y : Sync) (ts : List ℕ) (t : Serial) → WaitsFor s n y ts (reply.Job t) new → ⊥
-waits_job s new n y [] t h = h
-waits_job s new n y (u ∷ ts) t h = h
-
 picks_job : (s new : State) (n : ℕ) (y : Sync) (o : Option (ℕ × Page)) (t : Serial) → y.awaited ≡ None → sync_pick (file_at s (file_of s y.handle)) y.last ≡ o → SyncPicked s n y o (reply.Job t) new → StartsAt s new y n t.0
 picks_job s new n y (Some e) t none pick h = record {
   entry = e;
@@ -198,20 +195,9 @@ awaits_job : (s new : State) (n : ℕ) (y : Sync) (o : Option (List ℕ)) (t : S
 awaits_job s new n y None t w h = picks_job s new n y _ t w refl h
 awaits_job s new n y (Some ts) t w h = absurd (waits_job s new n y ts t h)
 
-no_job : (s : State) (t : Serial) (o : Option Sync) → sync_tests s o ≡ Some (reply.Job t) → ⊥
-no_job s t None e = cc
-no_job s t (Some z) e = elim (is_some z.awaited) as (λ b. cond b None (start_tests s (sync_pick (file_at s (file_of s z.handle)) z.last)) ≡ Some (reply.Job t) → ⊥) [ true ↦ λ j. cc | false ↦ λ j. no_start (sync_pick (file_at s (file_of s z.handle)) z.last) j ] e
-  where
-    no_start : (o : Option (ℕ × Page)) → start_tests s o ≡ Some (reply.Job t) → ⊥
-    no_start None e = cc
-    no_start (Some x) e = elim x.1.tags.writeback as (λ b. cond b (Some (reply.Wait (record { 0 = x.0 }))) (cond (is_full s) (refuse TooManyInFlight) None) ≡ Some (reply.Job t) → ⊥) [
-      | true ↦ λ j. cc
-      | false ↦ λ j. elim (is_full s) as (λ b. cond b (refuse TooManyInFlight) None ≡ Some (reply.Job t) → ⊥) [ true ↦ λ m. cc | false ↦ λ m. cc ] j
-    ] e
-
 job_step : (s new : State) (n : SyncId) (y : Sync) (t : Serial) → finmap.get s.syncs n.0 ≡ Some y → Step s (event.SyncStep n) (reply.Job t) new → StartsAt s new y n.0 t.0
 job_step s new n y t is e = elim (answered (sync_tests s (finmap.get s.syncs n.0)) (reply.Job t) s new (SyncStepReply s n.0 (finmap.get s.syncs n.0) (reply.Job t) new) e) [
-  | inl a ↦ absurd (no_job s t (finmap.get s.syncs n.0) a.0)
+  | inl a ↦ absurd (let k = sync_answers s (finmap.get s.syncs n.0) (reply.Job t) a.0 in cc)
   | inr b ↦ awaits_job s new n.0 y y.awaited t refl (subst (λ o. SyncStepReply s n.0 o (reply.Job t) new) is b.1)
 ]
 

@@ -6,7 +6,6 @@ use Rattle.std.specs.Ordering.{nat_cmp}
 use Rattle.std.specs.Cmp.{nat_cmp_total}
 use Rattle.std.specs.FinMap.{len-insert}
 use Rattle.pc_types.specs.Limits.{Sizes}
-use Rattle.pc_types.specs.declared.ids.FileId.{FileId}
 use Rattle.pc_types.specs.declared.ids.HandleId.{HandleId}
 use Rattle.pc_types.specs.declared.ids.PageIndex.{PageIndex}
 use Rattle.pc_types.specs.declared.kind.Kind.TheVariants.{Fill, Flush}
@@ -26,15 +25,15 @@ use Rattle.cachecore.specs.Replies.{IsJobOf}
 use Rattle.cachecore.proofs.BareLaws.{bare_step}
 use Rattle.cachecore.proofs.BareMaps.{each-insert}
 use Rattle.cachecore.proofs.MapLaws.{get-each_value, get-insert_nat}
-use Rattle.cachecore.proofs.StepCases.{by_cases, not_of_sync}
+use Rattle.cachecore.proofs.StepCases.{by_all_cases}
 use Rattle.world.specs.World.{Acts}
 use Rattle.world.specs.Stepping.{world_of}
 use Rattle.world.specs.declared.jobs.Flight.{Flight}
 use Rattle.world.specs.declared.jobs.Flight.TheVariants.{Asked}
 use Rattle.world.specs.Flights.{Jobs, bytes_for, outcome_in, whole, held_of, HasJob, IsJob, InBounds, IsWorld}
-use Rattle.world.proofs.Bounds.{Lost, bounds_cases, filling_in, started_in}
+use Rattle.world.proofs.Bounds.{Lost, bounds_cases, bounds_sync_cases, filling_in, started_in, synced_in}
 use Rattle.world.proofs.TableRooms.{in_flight}
-use Rattle.world.proofs.KeptRequests.{undropped, Kept, at_kept, len_kept, is_quiet, quiet_kept, is_job, fill_kept, fill_begins, flush_kept, flush_begins}
+use Rattle.world.proofs.KeptRequests.{undropped, Kept, at_kept, len_kept, is_quiet, quiet_kept, is_job, fill_kept, fill_begins, may_flush, FlushBegins, flush_kept, flush_begins}
 use Rattle.world.proofs.Whole.{Fits, whole_fits, whole_is, bare_whole, no_bytes, bare_is, bare_twice, no_bytes_kept, fits_kept, jobs_kept, outcomes_ask}
 
 -- a request that is kept is not lost
@@ -62,8 +61,8 @@ module _ (core : State) (jobs : Jobs) (dev : Told) (w : IsWorld core jobs dev) w
   kept_bare : (new : State) → Kept core new → bare new ≡ new
   kept_bare new k = bare_is new (no_bytes_kept core new k (no_bytes core w.bare))
 
-  kept_bounds : (e : Event) (r : Reply) (new : State) → not_of_sync e ≡ true → Step core e r new → Kept core new → InBounds new
-  kept_bounds e r new n h k = elim (by_cases core (λ x. InBounds x ⊎ Lost core x) (bounds_cases core w.bounds) e r new n h) [
+  kept_bounds : (e : Event) (r : Reply) (new : State) → Step core e r new → Kept core new → InBounds new
+  kept_bounds e r new h k = elim (by_all_cases core (λ x. InBounds x ⊎ Lost core x) (bounds_cases core w.bounds) (bounds_sync_cases core w.bounds) e r new h) [
     | inl b ↦ b
     | inr l ↦ absurd (not_lost core new k l)
   ]
@@ -84,27 +83,27 @@ module _ (core : State) (jobs : Jobs) (dev : Told) (w : IsWorld core jobs dev) w
       let is = whole_is new f.0 jobs (sym (kept_bare new k) ∙ f.2) (fits_kept s f.0 (all f.0 f.1) jobs (whole_fits core jobs)) in
       (subst (Step s e r) (sym is) f.1, refl)
 
-  pub quiet_world : (e : Event) (r : Reply) (new : State) → is_quiet e ≡ true → not_of_sync e ≡ true → Step core e r new → IsWorld new jobs dev
-  quiet_world e r new q n h = let k = quiet_kept core new e r q h in kept_world new k (kept_bounds e r new n h k)
+  pub quiet_world : (e : Event) (r : Reply) (new : State) → is_quiet e ≡ true → Step core e r new → IsWorld new jobs dev
+  quiet_world e r new q h = let k = quiet_kept core new e r q h in kept_world new k (kept_bounds e r new h k)
 
   pub quiet_acts : (e : Event) (r : Reply) (new : State) → is_quiet e ≡ true → Step core e r new → Acts (world_of (held_of core jobs dev)) e r (world_of (held_of new jobs dev))
   quiet_acts e r new q h = kept_acts e r new h (quiet_kept core new e r q h) (λ full g. quiet_kept s full e r q g)
 
   pub fill_world : (h : HandleId) (p : PageIndex) (r : Reply) (new : State) → is_job r ≡ false → Step core (event.FillBegin h p) r new → IsWorld new jobs dev
-  fill_world h p r new j e = let k = fill_kept core new h p r j e in kept_world new k (kept_bounds (event.FillBegin h p) r new refl e k)
+  fill_world h p r new j e = let k = fill_kept core new h p r j e in kept_world new k (kept_bounds (event.FillBegin h p) r new e k)
 
   pub fill_acts : (h : HandleId) (p : PageIndex) (r : Reply) (new : State) → is_job r ≡ false → Step core (event.FillBegin h p) r new → Acts (world_of (held_of core jobs dev)) (event.FillBegin h p) r (world_of (held_of new jobs dev))
   fill_acts h p r new j e = kept_acts (event.FillBegin h p) r new e (fill_kept core new h p r j e) (λ full g. fill_kept s full h p r j g)
 
-  -- a flush that does not begin: the core is its own full state
-  pub flush_same : (f : FileId) (r : Reply) (full new : State) → is_job r ≡ false → Step core (event.FlushBegin f) r full → new ≡ bare full → Step core (event.FlushBegin f) r new
-  flush_same f r full new j e is = subst (Step core (event.FlushBegin f) r) (sym (is ∙ kept_bare full (flush_kept core full f r j e))) e
+  -- where no flush begins, the core is its own full state
+  pub flush_same : (e : Event) (r : Reply) (full new : State) → may_flush e ≡ true → is_job r ≡ false → Step core e r full → new ≡ bare full → Step core e r new
+  flush_same e r full new m j h is = subst (Step core e r) (sym (is ∙ kept_bare full (flush_kept core full e r m j h))) h
 
-  pub flush_world : (f : FileId) (r : Reply) (new : State) → is_job r ≡ false → Step core (event.FlushBegin f) r new → IsWorld new jobs dev
-  flush_world f r new j e = let k = flush_kept core new f r j e in kept_world new k (kept_bounds (event.FlushBegin f) r new refl e k)
+  pub flush_world : (e : Event) (r : Reply) (new : State) → may_flush e ≡ true → is_job r ≡ false → Step core e r new → IsWorld new jobs dev
+  flush_world e r new m j h = let k = flush_kept core new e r m j h in kept_world new k (kept_bounds e r new h k)
 
-  pub flush_acts : (f : FileId) (r : Reply) (new : State) → is_job r ≡ false → Step core (event.FlushBegin f) r new → Acts (world_of (held_of core jobs dev)) (event.FlushBegin f) r (world_of (held_of new jobs dev))
-  flush_acts f r new j e = kept_acts (event.FlushBegin f) r new e (flush_kept core new f r j e) (λ full g. flush_kept s full f r j g)
+  pub flush_acts : (e : Event) (r : Reply) (new : State) → may_flush e ≡ true → is_job r ≡ false → Step core e r new → Acts (world_of (held_of core jobs dev)) e r (world_of (held_of new jobs dev))
+  flush_acts e r new m j h = kept_acts e r new h (flush_kept core new e r m j h) (λ full g. flush_kept s full e r m j g)
 
   -- ---- a request begins
 
@@ -220,8 +219,8 @@ module _ (core : State) (jobs : Jobs) (dev : Told) (w : IsWorld core jobs dev) w
   fill_job_apart h p new job step = let b = fill_begins core new h p (record { 0 = job.serial }) step in (ap (finmap.get jobs) b.serial ∙ no_job, job_room b.room)
 
   -- a flush begins, with its job: the core's own full state has its bytes
-  pub flush_job_apart : (f : FileId) (full : State) (job : Task) → Step core (event.FlushBegin f) (reply.Job (record { 0 = job.serial })) full → (finmap.get jobs job.serial ≡ None) × (finmap.len jobs < MAX_IN_FLIGHT)
-  flush_job_apart f full job step = let b = flush_begins core full f (record { 0 = job.serial }) step in (ap (finmap.get jobs) b.serial ∙ no_job, job_room b.room)
+  pub flush_job_apart : (e : Event) (full : State) (job : Task) → may_flush e ≡ true → Step core e (reply.Job (record { 0 = job.serial })) full → (finmap.get jobs job.serial ≡ None) × (finmap.len jobs < MAX_IN_FLIGHT)
+  flush_job_apart e full job m step = let b = flush_begins core full e (record { 0 = job.serial }) m step in (ap (finmap.get jobs) b.serial ∙ no_job, job_room b.room)
 
   bare_bounds : (x : State) → InBounds x → InBounds (bare x)
   bare_bounds x b = record { blocks = b.blocks; requests = λ t r e. go t r (finmap.get x.requests t) refl (sym (get-each_value without_bytes x.requests t) ∙ e); spots = b.spots; handles = b.handles; pages = b.pages }
@@ -230,46 +229,60 @@ module _ (core : State) (jobs : Jobs) (dev : Told) (w : IsWorld core jobs dev) w
       go t r None is e = absurd cc
       go t r (Some q) is e = let a = b.requests t q is in (a.0, subst (λ n. n < x.sizes.blocks) (let i : q.block ≡ r.block = cc in i) a.1)
 
-  module _ (f : FileId) (new full : State) (job : Task) (step : Step core (event.FlushBegin f) (reply.Job (record { 0 = job.serial })) full) (is : new ≡ bare full) (of : IsJobOf full job (λ r. r.bytes)) where
+  new_request : (x y : State) (q : Request) → y.requests ≡ finmap.insert x.requests x.next q → finmap.get (bare y).requests x.next ≡ Some (without_bytes q)
+  new_request x y q e =
+      get-each_value without_bytes y.requests x.next ∙ ap (λ m. option_map without_bytes (finmap.get m x.next)) e
+      ∙ ap (option_map without_bytes) (get-insert_nat x.requests x.next q x.next ∙ ap (λ k. cond k (Some q) (finmap.get x.requests x.next)) (eq-eqb x.next x.next refl))
+
+  module _ (e : Event) (may : may_flush e ≡ true) (new full : State) (job : Task) (step : Step core e (reply.Job (record { 0 = job.serial })) full) (is : new ≡ bare full) (of : IsJobOf full job (λ r. r.bytes)) where
     abbrev answer : Reply
     answer = reply.Job (record { 0 = job.serial })
 
+    abbrev begins : FlushBegins core full job.serial
+    begins = flush_begins core full e (record { 0 = job.serial }) may step
+
+    abbrev request : Request
+    request = record { kind = Flush; file = begins.f; page = begins.p; block = block_of core begins.f begins.p; bytes = begins.page.bytes; dropped = false }
+
+    with_request : full.requests ≡ finmap.insert core.requests core.next request
+    with_request = ap (λ (x : State). x.requests) begins.state
+
+    of_request : of.0 ≡ request
+    of_request =
+        let at : finmap.get full.requests job.serial ≡ Some request = ap (λ m. finmap.get m job.serial) with_request ∙ get-insert_nat core.requests core.next request job.serial ∙ ap (λ k. cond k (Some request) (finmap.get core.requests job.serial)) (eq-eqb job.serial core.next begins.serial) in
+        let both : Some of.0 ≡ Some request = sym of.1 ∙ at in cc
+
     flush_begun : Begun new (without_bytes of.0) (Asked job)
     flush_begun =
-        let b = flush_begins core full f (record { 0 = job.serial }) step in
-        let r : Request = record { kind = Flush; file = f.0; page = b.p; block = block_of core f.0 b.p; bytes = b.page.bytes; dropped = false } in
-        let requests : full.requests ≡ finmap.insert core.requests core.next r = ap (λ (x : State). x.requests) b.state in
-        let at : finmap.get full.requests job.serial ≡ Some r = ap (λ m. finmap.get m job.serial) requests ∙ get-insert_nat core.requests core.next r job.serial ∙ ap (λ k. cond k (Some r) (finmap.get core.requests job.serial)) (eq-eqb job.serial core.next b.serial) in
-        let same : of.0 ≡ r = (let e : Some of.0 ≡ Some r = sym of.1 ∙ at in cc) in
-        let size : length job.bytes ≡ core.sizes.page = ap (λ (x : Task). length x.bytes) of.2 ∙ ap (λ (x : Request). length x.bytes) same ∙ w.bounds.pages f.0 b.p b.page b.is in
+        let size : length job.bytes ≡ core.sizes.page = ap (λ (x : Task). length x.bytes) of.2 ∙ ap (λ (x : Request). length x.bytes) of_request ∙ w.bounds.pages begins.f begins.p begins.page begins.is in
         record {
           bare = ap bare is ∙ bare_twice full ∙ sym is;
-          bounds = subst InBounds (sym (is ∙ ap bare b.state)) (bare_bounds _ (started_in core w.bounds f.0 b.p b.page b.is));
-          name = ap (λ (x : State). x.name) is ∙ ap (λ (x : State). x.name) b.state;
-          sizes = ap (λ (x : State). x.sizes) is ∙ ap (λ (x : State). x.sizes) b.state;
-          requests = ap (λ (x : State). x.requests) (is ∙ ap bare b.state) ∙ each-insert without_bytes core.requests core.next r ∙ (λ i. finmap.insert (w.bare i).requests core.next (without_bytes (sym same i)));
+          bounds = subst InBounds (sym (is ∙ ap bare begins.state)) (bare_bounds _ (synced_in _ (started_in core w.bounds begins.f begins.p begins.page begins.is) begins.syncs));
+          name = ap (λ (x : State). x.name) is ∙ ap (λ (x : State). x.name) begins.state;
+          sizes = ap (λ (x : State). x.sizes) is ∙ ap (λ (x : State). x.sizes) begins.state;
+          requests = ap (λ (x : State). x.requests) (is ∙ ap bare begins.state) ∙ each-insert without_bytes core.requests core.next request ∙ (λ i. finmap.insert (w.bare i).requests core.next (without_bytes (sym of_request i)));
           job = record {
             cache = ap (λ (x : Task). x.cache) of.2 ∙ sym (ap (λ (x : State). x.name) is);
-            serial = b.serial;
+            serial = begins.serial;
             kind = ap (λ (x : Task). x.kind) of.2;
             block = ap (λ (x : Task). x.block) of.2;
-            size = size ∙ sym (ap (λ (x : State). x.sizes.page) (is ∙ ap bare b.state));
+            size = size ∙ sym (ap (λ (x : State). x.sizes.page) (is ∙ ap bare begins.state));
           };
         }
 
     pub flush_job_world : IsWorld new (finmap.insert jobs job.serial (Asked job)) dev
-    flush_job_world = at_next new job.serial (Asked job) (flush_begins core full f (record { 0 = job.serial }) step).serial (begun_world new (without_bytes of.0) (Asked job) flush_begun)
+    flush_job_world = at_next new job.serial (Asked job) begins.serial (begun_world new (without_bytes of.0) (Asked job) flush_begun)
 
-    pub flush_job_acts : Acts (world_of (held_of core jobs dev)) (event.FlushBegin f) (reply.Job (record { 0 = job.serial })) (world_of (held_of new (finmap.insert jobs job.serial (Asked job)) dev))
+    pub flush_job_acts : Acts (world_of (held_of core jobs dev)) e (reply.Job (record { 0 = job.serial })) (world_of (held_of new (finmap.insert jobs job.serial (Asked job)) dev))
     flush_job_acts =
-        let g = bare_step s (event.FlushBegin f) answer new (full, subst (λ x. Step x (event.FlushBegin f) answer full) core_bare step, is) in
-        let b = flush_begins core full f (record { 0 = job.serial }) step in
-        let c = flush_begins s g.0 f (record { 0 = job.serial }) g.1 in
-        let r : Request = record { kind = Flush; file = f.0; page = b.p; block = block_of core f.0 b.p; bytes = b.page.bytes; dropped = false } in
-        let at : finmap.get full.requests job.serial ≡ Some r = ap (λ (x : State). finmap.get x.requests job.serial) b.state ∙ get-insert_nat core.requests core.next r job.serial ∙ ap (λ k. cond k (Some r) (finmap.get core.requests job.serial)) (eq-eqb job.serial core.next b.serial) in
-        let same : of.0 ≡ r = (let e : Some of.0 ≡ Some r = sym of.1 ∙ at in cc) in
-        let p : c.p ≡ b.p = (let e : Some c.p ≡ Some b.p = sym c.picked ∙ b.picked in cc) in
-        let page : c.page ≡ b.page = (let e : Some c.page ≡ Some b.page = sym c.is ∙ ap (page_at core f.0) p ∙ b.is in cc) in
-        let bytes : c.page.bytes ≡ job.bytes = ap (λ (x : Page). x.bytes) page ∙ sym (ap (λ (x : Request). x.bytes) same) ∙ sym (ap (λ (x : Task). x.bytes) of.2) in
-        let acts = begun_acts (event.FlushBegin f) answer new g.0 (record { kind = Flush; file = f.0; page = c.p; block = block_of s f.0 c.p; bytes = c.page.bytes; dropped = false }) (Asked job) flush_begun.bare g.1 (flush_begun.bare ∙ g.2) (ap (λ (x : State). x.requests) c.state) bytes refl in
-        subst (λ u. Acts (world_of (held_of core jobs dev)) (event.FlushBegin f) answer (world_of (held_of new (finmap.insert jobs u (Asked job)) dev))) (sym b.serial) acts
+        let g = full_step e answer full step in
+        let c = flush_begins s g.0 e (record { 0 = job.serial }) may g.1 in
+        let r : Request = record { kind = Flush; file = c.f; page = c.p; block = block_of s c.f c.p; bytes = c.page.bytes; dropped = false } in
+        let requests : g.0.requests ≡ finmap.insert s.requests core.next r = ap (λ (x : State). x.requests) c.state in
+        let both : Some (without_bytes request) ≡ Some (without_bytes r) = sym (new_request core full request with_request) ∙ ap (λ (x : State). finmap.get x.requests core.next) g.2 ∙ new_request s g.0 r requests in
+        let alike : without_bytes request ≡ without_bytes r = cc in
+        let place : page_at core c.f c.p ≡ page_at core begins.f begins.p = sym (ap (λ (x : Request). page_at core x.file x.page) alike) in
+        let page : c.page ≡ begins.page = (let x : Some c.page ≡ Some begins.page = sym c.is ∙ place ∙ begins.is in cc) in
+        let bytes : c.page.bytes ≡ job.bytes = ap (λ (x : Page). x.bytes) page ∙ sym (ap (λ (x : Request). x.bytes) of_request) ∙ sym (ap (λ (x : Task). x.bytes) of.2) in
+        let acts = begun_acts e answer new g.0 r (Asked job) flush_begun.bare g.1 (flush_begun.bare ∙ is ∙ g.2) requests bytes refl in
+        subst (λ u. Acts (world_of (held_of core jobs dev)) e answer (world_of (held_of new (finmap.insert jobs u (Asked job)) dev))) (sym begins.serial) acts

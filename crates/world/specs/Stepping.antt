@@ -61,6 +61,9 @@ entry_of (step.FillBegin h p) r fault effect = Act (event.FillBegin h p) r
 entry_of (step.FlushBegin f) r fault effect = Act (event.FlushBegin f) r
 entry_of step.Evict r fault effect = Act event.Evict r
 entry_of step.Age r fault effect = Act event.Age r
+entry_of (step.SyncBegin h) r fault effect = Act (event.SyncBegin h) r
+entry_of (step.SyncStep n) r fault effect = Act (event.SyncStep n) r
+entry_of (step.SyncDrop n) r fault effect = Act (event.SyncDrop n) r
 entry_of (step.Call t) r fault effect = Call t.0 fault effect
 entry_of (step.End t) r fault effect = Finish t.0 r
 
@@ -109,6 +112,7 @@ abbrev pub Steps : Held → Step → Reply → Held → Type 0
 Steps old (step.Read h o n) r new = IsMade old (step.Read h o n) r new ⊎ IsNotMade old Memory r new
 Steps old (step.FillBegin h p) r new = IsMade old (step.FillBegin h p) r new ⊎ IsNotMade old Memory r new
 Steps old (step.FlushBegin f) r new = IsMade old (step.FlushBegin f) r new ⊎ IsNotMade old Memory r new
+Steps old (step.SyncStep n) r new = IsMade old (step.SyncStep n) r new ⊎ IsNotMade old Memory r new
 Steps old (step.Call t) r new = CallReply old t.0 (finmap.get old.core.requests t.0) (finmap.get old.outcomes t.0) r new
 Steps old (step.End t) r new = EndReply old (step.End t) (finmap.get old.outcomes t.0) r new
 Steps old s r new = IsMade old s r new
@@ -126,6 +130,7 @@ abbrev pub is_made : Step → Reply → Bool
 is_made (step.Read h o n) (reply.Refused Memory) = false
 is_made (step.FillBegin h p) (reply.Refused Memory) = false
 is_made (step.FlushBegin f) (reply.Refused Memory) = false
+is_made (step.SyncStep n) (reply.Refused Memory) = false
 is_made (step.Call t) (reply.Refused Stranger) = false
 is_made (step.End t) (reply.Refused Stranger) = false
 is_made s r = true

@@ -1,11 +1,11 @@
 //! The answers of the cache's calls, as replies.
 
 ghost use Rattle.std.specs.Prelude.{◌≡◌, Ok};
-ghost use Rattle.cachecore.specs.Replies.{created, opened, closed, sized, wrote, was_truncated, evicted};
+ghost use Rattle.cachecore.specs.Replies.{created, opened, closed, sized, wrote, was_truncated, evicted, sync_begun, sync_dropped};
 ghost use Rattle.world.specs.Ends.{ended};
 
 use cachecore::{Ended, Kind, Reply, TruncateAnswer, WriteAnswer};
-use pc_types::{FileId, HandleId, PageIndex, Refusal};
+use pc_types::{FileId, HandleId, PageIndex, Refusal, SyncId};
 
 pub fn of_create(answer: Result<FileId, Refusal>) -> Reply
     ensures { result ≡ created answer }
@@ -71,6 +71,24 @@ pub fn of_evict(answer: Option<(FileId, PageIndex)>) -> Reply
     match answer {
         Some((file, page)) => Reply::Evicted(file, page),
         None => Reply::NoneIdle,
+    }
+}
+
+pub fn of_sync_begin(answer: Result<SyncId, Refusal>) -> Reply
+    ensures { result ≡ sync_begun answer }
+{
+    match answer {
+        Ok(sync) => Reply::Sync(sync),
+        Err(refusal) => Reply::Refused(refusal),
+    }
+}
+
+pub fn of_sync_drop(answer: Result<(), Refusal>) -> Reply
+    ensures { result ≡ sync_dropped answer }
+{
+    match answer {
+        Ok(()) => Reply::Dropped,
+        Err(refusal) => Reply::Refused(refusal),
     }
 }
 

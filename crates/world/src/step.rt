@@ -1,6 +1,6 @@
 //! What a caller may ask of a world.
 
-use pc_types::{Bytes, FileId, HandleId, PageIndex, Serial};
+use pc_types::{Bytes, FileId, HandleId, PageIndex, Serial, SyncId};
 
 /// One event of the cache, with what it carries, or the device call or the end of a request in flight.
 #[derive(Drop, Debug)]
@@ -20,6 +20,9 @@ pub enum Step {
     FlushBegin(FileId),
     Evict,
     Age,
+    SyncBegin(HandleId),
+    SyncStep(SyncId),
+    SyncDrop(SyncId),
     /// Makes the device call of the request. How it goes is the device's matter.
     Call(Serial),
     /// Ends the request, whose device call was made.

@@ -4,7 +4,9 @@
 use super::*;
 use blockdev::{FaultEffect, MemDevice, ScriptDevice};
 use cachecore::{PageTags, Reply};
-use pc_types::{Bytes, ErrCode, FileId, Geometry, HandleId, PageIndex, Refusal, Serial, Tag};
+use pc_types::{
+    Bytes, ErrCode, FileId, Geometry, HandleId, PageIndex, Refusal, Serial, SyncId, Tag, Tags,
+};
 use std::alloc::{AllocError, Global};
 use std::process::Abort;
 
@@ -91,6 +93,29 @@ fn flush_begins(world: &mut World<ScriptDevice>, serial: Serial) -> bool {
     matches!(world.step(&Step::FlushBegin(FileId(0))), Reply::Job(job) if job == serial)
 }
 
+fn sync_begins(world: &mut World<ScriptDevice>) -> bool {
+    matches!(
+        world.step(&Step::SyncBegin(HandleId(0))),
+        Reply::Sync(SyncId(0))
+    )
+}
+
+fn sync_starts(world: &mut World<ScriptDevice>, serial: Serial) -> bool {
+    matches!(world.step(&Step::SyncStep(SyncId(0))), Reply::Job(job) if job == serial)
+}
+
+fn sync_waits(world: &mut World<ScriptDevice>, page: u64) -> bool {
+    matches!(world.step(&Step::SyncStep(SyncId(0))), Reply::Wait(PageIndex(found)) if found == page)
+}
+
+fn sync_is_clean(world: &mut World<ScriptDevice>) -> bool {
+    matches!(world.step(&Step::SyncStep(SyncId(0))), Reply::Clean)
+}
+
+fn has_tags(world: &World<ScriptDevice>, page: u64, tags: Tags) -> bool {
+    world.tags(FileId(0), PageIndex(page)) == Ok(PageTags::Cached(tags))
+}
+
 fn fill_begins(world: &mut World<ScriptDevice>, serial: Serial) -> bool {
     let step = Step::FillBegin(HandleId(0), PageIndex(0));
     matches!(world.step(&step), Reply::Job(job) if job == serial)
@@ -108,11 +133,16 @@ fn ends_failed(world: &mut World<ScriptDevice>, serial: Serial) -> bool {
     }
 }
 
+// The device call of a flush is made, and its request ends.
+fn written(rt: &impl Abort, world: &mut World<ScriptDevice>, serial: Serial) {
+    assert!(rt; matches!(world.step(&Step::Call(serial)), Reply::Done));
+    assert!(rt; matches!(world.step(&Step::End(serial)), Reply::Written));
+}
+
 // A page is written back, and its request ends.
 fn written_back(rt: &impl Abort, world: &mut World<ScriptDevice>, serial: Serial) {
     assert!(rt; flush_begins(world, serial));
-    assert!(rt; matches!(world.step(&Step::Call(serial)), Reply::Done));
-    assert!(rt; matches!(world.step(&Step::End(serial)), Reply::Written));
+    written(rt, world, serial);
 }
 
 // Writes stop at the dirty limit, and go on after a page is written back.
@@ -388,6 +418,87 @@ fn fail_over_a_newer_write(
     Ok(())
 }
 
+// A sync writes the pages that were dirty as it began, and no page that became dirty since.
+fn write_under_a_sync(
+    rt: &impl Abort,
+    alloc: Global,
+    world: &mut World<ScriptDevice>,
+) -> Result<(), Refusal> {
+    assert!(rt; matches!(write(world, alloc, 0, &[170])?, Reply::Wrote(1, 1)));
+    assert!(rt; matches!(write(world, alloc, 32, &[187])?, Reply::Wrote(1, 33)));
+    assert!(rt; sync_begins(world));
+    assert!(rt; matches!(write(world, alloc, 16, &[204])?, Reply::Wrote(1, 17)));
+    assert!(rt; sync_starts(world, Serial(0)));
+    assert!(rt; sync_starts(world, Serial(1)));
+    assert!(rt; sync_waits(world, 0));
+    written(rt, world, Serial(0));
+    assert!(rt; sync_waits(world, 2));
+    written(rt, world, Serial(1));
+    assert!(rt; sync_is_clean(world));
+    assert!(rt; has_tags(world, 1, Tags::none().with(Tag::Dirty)));
+    Ok(())
+}
+
+// A page that was written again under a flush is written by the sync too, after that flush has ended.
+fn sync_under_a_flush(
+    rt: &impl Abort,
+    alloc: Global,
+    world: &mut World<ScriptDevice>,
+) -> Result<(), Refusal> {
+    let to_write = Tags::none().with(Tag::Dirty).with(Tag::Towrite);
+    assert!(rt; matches!(write(world, alloc, 0, &[170])?, Reply::Wrote(1, 1)));
+    assert!(rt; flush_begins(world, Serial(0)));
+    assert!(rt; matches!(write(world, alloc, 0, &[187])?, Reply::Wrote(1, 1)));
+    assert!(rt; sync_begins(world));
+    assert!(rt; has_tags(world, 0, to_write.with(Tag::Writeback)));
+    assert!(rt; sync_waits(world, 0));
+    written(rt, world, Serial(0));
+    assert!(rt; has_tags(world, 0, to_write));
+    assert!(rt; sync_starts(world, Serial(1)));
+    assert!(rt; has_tags(world, 0, Tags::none().with(Tag::Writeback)));
+    assert!(rt; sync_waits(world, 0));
+    written(rt, world, Serial(1));
+    assert!(rt; sync_is_clean(world));
+    Ok(())
+}
+
+// A sync awaits a flush that another has begun.
+fn flush_under_a_sync(
+    rt: &impl Abort,
+    alloc: Global,
+    world: &mut World<ScriptDevice>,
+) -> Result<(), Refusal> {
+    assert!(rt; matches!(write(world, alloc, 0, &[170])?, Reply::Wrote(1, 1)));
+    assert!(rt; sync_begins(world));
+    assert!(rt; flush_begins(world, Serial(0)));
+    assert!(rt; sync_waits(world, 0));
+    written(rt, world, Serial(0));
+    assert!(rt; sync_is_clean(world));
+    Ok(())
+}
+
+// A handle is not closed while a sync of it goes on.
+fn close_under_a_sync(rt: &impl Abort, world: &mut World<ScriptDevice>) {
+    let handle = HandleId(0);
+    assert!(rt; sync_begins(world));
+    assert!(rt;
+        matches!(
+            world.step(&Step::Close(handle)),
+            Reply::Refused(Refusal::Busy)
+        )
+    );
+    assert!(rt; matches!(world.step(&Step::SyncDrop(SyncId(0))), Reply::Dropped));
+    assert!(rt; matches!(world.step(&Step::Close(handle)), Reply::Closed));
+    assert!(rt;
+        matches!(
+            world.step(&Step::Size(handle)),
+            Reply::Refused(Refusal::BadHandle)
+        )
+    );
+    let other = world.step(&Step::Open(FileId(1)));
+    assert!(rt; matches!(other, Reply::Refused(Refusal::NoSuchFile)));
+}
+
 #[derive(Clone, Copy)]
 enum Row {
     FlushThenWrite,
@@ -400,6 +511,10 @@ enum Row {
     EvictByUse,
     FlushAfterACut,
     FailOverANewerWrite,
+    WriteUnderASync,
+    SyncUnderAFlush,
+    FlushUnderASync,
+    CloseUnderASync,
 }
 
 fn run(
@@ -419,6 +534,13 @@ fn run(
         Row::EvictByUse => evict_by_use(rt, alloc, world),
         Row::FlushAfterACut => flush_after_a_cut(rt, alloc, world),
         Row::FailOverANewerWrite => fail_over_a_newer_write(rt, alloc, world),
+        Row::WriteUnderASync => write_under_a_sync(rt, alloc, world),
+        Row::SyncUnderAFlush => sync_under_a_flush(rt, alloc, world),
+        Row::FlushUnderASync => flush_under_a_sync(rt, alloc, world),
+        Row::CloseUnderASync => {
+            close_under_a_sync(rt, world);
+            Ok(())
+        }
     }
 }
 
@@ -476,4 +598,24 @@ fn a_late_flush_harms_no_page(rt: HostRuntime) -> Result<(), Refusal> {
 #[test]
 fn a_failed_flush_keeps_newer_bytes(rt: HostRuntime) -> Result<(), Refusal> {
     over_a_world(&rt, rt.alloc(), 64, Row::FailOverANewerWrite)
+}
+
+#[test]
+fn a_sync_writes_what_was_dirty(rt: HostRuntime) -> Result<(), Refusal> {
+    over_a_world(&rt, rt.alloc(), 64, Row::WriteUnderASync)
+}
+
+#[test]
+fn a_sync_writes_newer_bytes(rt: HostRuntime) -> Result<(), Refusal> {
+    over_a_world(&rt, rt.alloc(), 64, Row::SyncUnderAFlush)
+}
+
+#[test]
+fn a_sync_awaits_another_flush(rt: HostRuntime) -> Result<(), Refusal> {
+    over_a_world(&rt, rt.alloc(), 64, Row::FlushUnderASync)
+}
+
+#[test]
+fn a_sync_keeps_its_handle(rt: HostRuntime) -> Result<(), Refusal> {
+    over_a_world(&rt, rt.alloc(), 64, Row::CloseUnderASync)
 }

@@ -11,8 +11,8 @@ use crate::jobs::Jobs;
 use crate::replies;
 use crate::step::Step;
 use blockdev::{BlockDevice, Buffer};
-use cachecore::{CacheCore, FillBegun, FlushBegun, PageTags, ReadAnswer, Reply};
-use pc_types::{Bytes, FileId, Geometry, HandleId, PageIndex, Refusal};
+use cachecore::{CacheCore, FillBegun, FlushBegun, PageTags, ReadAnswer, Reply, SyncStepped};
+use pc_types::{Bytes, FileId, Geometry, HandleId, PageIndex, Refusal, SyncId};
 use std::alloc::{AllocError, Global};
 use std::marker::Model;
 
@@ -96,6 +96,9 @@ impl<D: BlockDevice> World<D> {
             Step::FlushBegin(file) => self.flush_begin(*file),
             Step::Evict => replies::of_evict(self.core.evict()),
             Step::Age => Reply::Aged(self.core.age()),
+            Step::SyncBegin(handle) => replies::of_sync_begin(self.core.sync_begin(*handle)),
+            Step::SyncStep(sync) => self.sync_step(*sync),
+            Step::SyncDrop(sync) => replies::of_sync_drop(self.core.sync_drop(*sync)),
             Step::Call(serial) => match self.call(*serial) {
                 Ok(()) => Reply::Done,
                 Err(refusal) => Reply::Refused(refusal),
@@ -181,6 +184,24 @@ impl<D: BlockDevice> World<D> {
             Ok(FlushBegun::Job(job)) => Reply::Job(self.jobs.ask(job)),
             Ok(FlushBegun::Nothing(_)) => Reply::Nothing,
             Err(refused) => Reply::Refused(refused.refusal),
+        }
+    }
+
+    fn sync_step(&mut self, sync: SyncId) -> Reply
+        ensures { Steps self.old (Step.SyncStep sync) result self.new }
+    {
+        let Ok(buffer) = Buffer::new(self.alloc, &self.core.geometry()) else {
+            return Reply::Refused(Refusal::Memory);
+        };
+        let stepped = match self.core.sync_step(sync, buffer) {
+            Ok(stepped) => stepped,
+            Err(refused) => return Reply::Refused(refused.refusal),
+        };
+        match stepped {
+            SyncStepped::Job(job) => Reply::Job(self.jobs.ask(job)),
+            SyncStepped::Wait(page, _) => Reply::Wait(page),
+            SyncStepped::Clean(_) => Reply::Clean,
+            SyncStepped::Failed(code, _) => Reply::Failed(code),
         }
     }
 }

@@ -13,7 +13,7 @@ front : (n m : ℕ) (xs rest : List ℕ) → length xs ≡ m → take n (take m 
 front n m xs rest e = ap (take n) (take-append-le m xs rest (omega arith) ∙ take_all m xs (omega arith))
 
 pub invariant_of-self : goal.invariant_of-self
-invariant_of-self g c = quiet_world c.self.inside.core.state c.self.inside.jobs _ c.self.invariant (event.Read c.args.handle c.args.offset (length c.as_mut_slice.result.now)) _ c.read.new.self.state refl refl c.read.ensures.step
+invariant_of-self g c = quiet_world c.self.inside.core.state c.self.inside.jobs _ c.self.invariant (event.Read c.args.handle c.args.offset (length c.as_mut_slice.result.now)) _ c.read.new.self.state refl c.read.ensures.step
 
 pub returns : goal.returns
 returns g c =
