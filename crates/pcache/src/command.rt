@@ -6,7 +6,7 @@ ghost use Rattle.pcache.specs.Keywords.{name_of};
 use crate::keyword::Keyword;
 use crate::words::{Fault, Words};
 use blockdev::FaultEffect;
-use pc_types::{FileId, HandleId, PageIndex, Serial};
+use pc_types::{FileId, HandleId, PageIndex, Serial, SyncId};
 use std::alloc::Global;
 use world::Step;
 
@@ -70,6 +70,9 @@ impl Command {
             Keyword::Do => Command::call(words),
             Keyword::Fail => Command::fail(words),
             Keyword::End => Command::end(words),
+            Keyword::Sync => Command::sync(words),
+            Keyword::Step => Command::step(words),
+            Keyword::Drop => Command::drop_sync(words),
             Keyword::Evict => Ok(Command::Step(Step::Evict)),
             Keyword::Age => Ok(Command::Step(Step::Age)),
             Keyword::Tags => Command::tags(words),
@@ -198,6 +201,30 @@ impl Command {
         ensures malformed { result ≡ Err Fault.Malformed → (c : TheCommand) → ¬ (Asks (name_of Keyword.End ∷ words.old) c) }
     {
         Ok(Command::Step(Step::End(Serial(words.number()?))))
+    }
+
+    /// `sync H`
+    fn sync(words: &mut Words) -> Result<Command, Fault>
+        ensures ok { IfOk result (λ c. Begins (name_of Keyword.Sync ∷ words.old) (parts_of c) words.new × IsWithinLimit c) }
+        ensures malformed { result ≡ Err Fault.Malformed → (c : TheCommand) → ¬ (Asks (name_of Keyword.Sync ∷ words.old) c) }
+    {
+        Ok(Command::Step(Step::SyncBegin(HandleId(words.number()?))))
+    }
+
+    /// `step S`
+    fn step(words: &mut Words) -> Result<Command, Fault>
+        ensures ok { IfOk result (λ c. Begins (name_of Keyword.Step ∷ words.old) (parts_of c) words.new × IsWithinLimit c) }
+        ensures malformed { result ≡ Err Fault.Malformed → (c : TheCommand) → ¬ (Asks (name_of Keyword.Step ∷ words.old) c) }
+    {
+        Ok(Command::Step(Step::SyncStep(SyncId(words.number()?))))
+    }
+
+    /// `drop S`
+    fn drop_sync(words: &mut Words) -> Result<Command, Fault>
+        ensures ok { IfOk result (λ c. Begins (name_of Keyword.Drop ∷ words.old) (parts_of c) words.new × IsWithinLimit c) }
+        ensures malformed { result ≡ Err Fault.Malformed → (c : TheCommand) → ¬ (Asks (name_of Keyword.Drop ∷ words.old) c) }
+    {
+        Ok(Command::Step(Step::SyncDrop(SyncId(words.number()?))))
     }
 
     /// `tags F P`

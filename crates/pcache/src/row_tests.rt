@@ -239,3 +239,132 @@ fn pages_in_use_are_evicted_last(rt: HostRuntime) -> Result<(), Fail> {
         ],
     )
 }
+
+/// A sync writes the pages that were dirty as it began, and waits for these writes. A page that is written meanwhile stays
+/// dirty.
+#[test]
+fn a_sync_writes_what_was_dirty_as_it_began(rt: HostRuntime) -> Result<(), Fail> {
+    let alloc = rt.alloc();
+    check_row(
+        &rt,
+        alloc,
+        &[
+            ("write 0 0 aa", "wrote 1"),
+            ("write 0 32 bb", "wrote 1"),
+            ("sync 0", "sync 0"),
+            ("write 0 16 cc", "wrote 1"),
+            ("step 0", "job 0"),
+            ("step 0", "job 1"),
+            ("step 0", "wait 0"),
+            ("do 0", "done"),
+            ("end 0", "written"),
+            ("step 0", "wait 2"),
+            ("do 1", "done"),
+            ("end 1", "written"),
+            ("step 0", "clean"),
+            ("tags 0 1", "D"),
+        ],
+    )
+}
+
+/// A page that is dirty again while its write is in flight is written once more. Where a flush took the page first, the
+/// sync waits for that.
+#[test]
+fn a_sync_waits_for_writes_that_are_in_flight(rt: HostRuntime) -> Result<(), Fail> {
+    let alloc = rt.alloc();
+    check_row(
+        &rt,
+        alloc,
+        &[
+            ("write 0 0 aa", "wrote 1"),
+            ("flush 0", "job 0"),
+            ("write 0 0 bb", "wrote 1"),
+            ("sync 0", "sync 0"),
+            ("tags 0 0", "DWT"),
+            ("step 0", "wait 0"),
+            ("do 0", "done"),
+            ("end 0", "written"),
+            ("tags 0 0", "DT"),
+            ("step 0", "job 1"),
+            ("tags 0 0", "W"),
+            ("step 0", "wait 0"),
+            ("do 1", "done"),
+            ("end 1", "written"),
+            ("step 0", "clean"),
+        ],
+    )?;
+    check_row(
+        &rt,
+        alloc,
+        &[
+            ("write 0 0 aa", "wrote 1"),
+            ("sync 0", "sync 0"),
+            ("flush 0", "job 0"),
+            ("step 0", "wait 0"),
+            ("do 0", "done"),
+            ("end 0", "written"),
+            ("step 0", "clean"),
+        ],
+    )
+}
+
+/// A handle with a sync in progress is not closed. A sync that was dropped is over.
+#[test]
+fn a_sync_keeps_its_handle_open(rt: HostRuntime) -> Result<(), Fail> {
+    let alloc = rt.alloc();
+    check_row(
+        &rt,
+        alloc,
+        &[
+            ("sync 0", "sync 0"),
+            ("close 0", "refused 12"),
+            ("drop 0", "dropped"),
+            ("close 0", "closed"),
+            ("size 0", "refused 4"),
+            ("open 1", "refused 5"),
+            ("sync 0", "refused 4"),
+            ("drop 0", "refused 15"),
+        ],
+    )
+}
+
+/// A sync tells that a write failed while it was in progress, and is over then.
+#[test]
+fn a_sync_tells_of_a_failed_write(rt: HostRuntime) -> Result<(), Fail> {
+    let alloc = rt.alloc();
+    check_row(
+        &rt,
+        alloc,
+        &[
+            ("write 0 0 aa", "wrote 1"),
+            ("sync 0", "sync 0"),
+            ("step 0", "job 0"),
+            ("fail 0 5 old", "failed"),
+            ("end 0", "failed 5"),
+            ("step 0", "failed 5"),
+            ("tags 0 0", "D"),
+            ("step 0", "refused 15"),
+        ],
+    )
+}
+
+/// A sync waits for no write whose page was cut off.
+#[test]
+fn a_sync_awaits_no_page_that_was_cut_off(rt: HostRuntime) -> Result<(), Fail> {
+    let alloc = rt.alloc();
+    let bytes = "ab".repeat(alloc, 32)?;
+    let write = format!(in alloc; "write 0 0 {bytes}")?;
+    check_row(
+        &rt,
+        alloc,
+        &[
+            (write.as_str(), "wrote 32"),
+            ("sync 0", "sync 0"),
+            ("step 0", "job 0"),
+            ("truncate 0 0", "ok"),
+            ("step 0", "clean"),
+            ("do 0", "done"),
+            ("end 0", "dropped"),
+        ],
+    )
+}
