@@ -4,6 +4,12 @@ use crate::calls::Calls;
 use crate::order::ENTRIES;
 use pc_types::Refusal;
 
+/// How many ranges a row puts.
+pub const RANGES: u64 = ENTRIES / 10;
+
+/// The order of each of them.
+pub const RANGE_ORDER: u32 = 9;
+
 /// Every so many indexes one is marked, where a row asks for 1%.
 pub const SPARSE: u64 = 100;
 
@@ -25,6 +31,14 @@ pub fn store_in_order<A: Calls>(array: &mut A, order: &[u64]) -> Result<u64, Ref
         sum = sum.wrapping_add(before.unwrap_or(1));
     }
     Ok(sum)
+}
+
+#[inline(never)]
+pub fn insert_ranges<A: Calls>(array: &mut A) -> Result<u64, Refusal> {
+    for range in 0..RANGES {
+        array.insert_order(range << RANGE_ORDER, RANGE_ORDER, range + 1)?;
+    }
+    Ok(RANGES)
 }
 
 #[inline(never)]

@@ -22,6 +22,7 @@ pub enum Row {
     GetMark,
     EraseRandom,
     EraseSequential,
+    InsertOrder,
 }
 
 /// What the array of a row holds as the clock starts.
@@ -37,7 +38,7 @@ enum Content {
 }
 
 impl Row {
-    pub const ALL: [Row; 13] = [
+    pub const ALL: [Row; 14] = [
         Row::StoreNew,
         Row::StoreOver,
         Row::LoadSequential,
@@ -51,6 +52,7 @@ impl Row {
         Row::GetMark,
         Row::EraseRandom,
         Row::EraseSequential,
+        Row::InsertOrder,
     ];
 
     pub fn label(self) -> &'static str {
@@ -68,6 +70,7 @@ impl Row {
             Row::GetMark => "get_mark, random",
             Row::EraseRandom => "erase, random",
             Row::EraseSequential => "erase, sequential",
+            Row::InsertOrder => "insert_order of order 9",
         }
     }
 
@@ -77,13 +80,14 @@ impl Row {
     {
         match self {
             Row::FindMarked | Row::Retag => ENTRIES / loops::SPARSE,
+            Row::InsertOrder => loops::RANGES,
             _ => ENTRIES,
         }
     }
 
     fn content(self) -> Content {
         match self {
-            Row::StoreNew => Content::Nothing,
+            Row::StoreNew | Row::InsertOrder => Content::Nothing,
             Row::SetMarkAgain | Row::ClearMark | Row::GetMark => Content::Marked,
             Row::FindMarked | Row::Retag => Content::Sparse,
             _ => Content::Dense,
@@ -124,6 +128,7 @@ impl Row {
             Row::GetMark => loops::get_marks_in_order(array, order),
             Row::EraseRandom => loops::erase_in_order(array, order),
             Row::EraseSequential => loops::erase_all(array),
+            Row::InsertOrder => loops::insert_ranges(array)?,
         })
     }
 }

@@ -34,6 +34,7 @@ fn rows_do_their_work(rt: HostRuntime) -> Result<(), Fail> {
             Row::FindMarked => 4_999_510_000,
             Row::Retag => 10_000,
             Row::ClearMark => 0,
+            Row::InsertOrder => 100_000,
         };
         let label = row.label();
         assert_eq!(rt;

@@ -7,7 +7,7 @@ use Rattle.radix.specs.declared.node.Node.{Node}
 use Rattle.radix.specs.declared.slot.Slot.{Slot}
 use Rattle.radix.specs.declared.slot.Slot.TheVariants.{Empty, Leaf, Child, Sibling}
 use Rattle.radix.specs.declared.entry.Entry.{Entry}
-use Rattle.radix.specs.Entries.{slot, node_at, by_node, content, entry_at, IsFound, HasNoEntry, StandsAt}
+use Rattle.radix.specs.Entries.{slot, node_at, by_node, content, entry_at, IsFound, HasNoEntry, IsWalked, StandsAt}
 use Rattle.radix.specs.Tree.{IsPlain, IsTree, HasCome, level_of}
 use Rattle.radix.proofs.Places.{place-up, place-levels, pow64}
 use Rattle.radix.proofs.TreeLemmas.{Found, node_at-found, node_at-none, same_node, level_below, no_node, under_head}
@@ -134,7 +134,7 @@ module _ (s : Slab Node) (head : ℕ) (tree : IsTree s head) (index : ℕ) where
       pub find_step : (c : ℕ) → slot n o ≡ Child c → HasCome s c 0 index
       find_step c is = step s head tree 0 index key n here come c (λ flat. let h = counted_inner c is in omega (arith, h, level_is, flat)) (ap (slot n) (sym offset) ∙ is)
 
-      pub find_none : content (slot n o) ≡ None → ((c : ℕ) → slot n o ≡ Child c → ⊥) → HasNoEntry s index
+      find_none : content (slot n o) ≡ None → ((c : ℕ) → slot n o ≡ Child c → ⊥) → HasNoEntry s index
       find_none none never = by_slot (slot n o) refl
         where
           by_slot : (y : Slot) → slot n o ≡ y → HasNoEntry s index
@@ -143,5 +143,9 @@ module _ (s : Slab Node) (head : ℕ) (tree : IsTree s head) (index : ℕ) where
           by_slot (Child c) e = absurd (never c e)
           by_slot (Sibling first) e = absurd (none-some _ (sym none ∙ ap content e))
 
-      pub find_some : (x : Entry) → content (slot n o) ≡ Some x → IsFound s index level x
+      find_some : (x : Entry) → content (slot n o) ≡ Some x → IsFound s index level x
       find_some x is = rw (sym level_is) (found_some key n here path x (ap (λ i. content (slot n i)) (sym offset) ∙ is))
+
+      pub find_walked : ((c : ℕ) → slot n o ≡ Child c → ⊥) → (x : Option Entry) → content (slot n o) ≡ x → IsWalked s index level x
+      find_walked never None is = find_none is never
+      find_walked never (Some x) is = find_some x is

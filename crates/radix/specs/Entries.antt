@@ -156,6 +156,11 @@ pub record IsFound (s : Slab Node) (index level : ℕ) (x : Entry) : Type 0 wher
 pub record HasNoEntry (s : Slab Node) (index : ℕ) : Type 0 where
   pub each : (level : ℕ) → entry_at s level (index / 64 ^ level) ≡ None
 
+-- what a walk to an index came to: the entry at this level, or none at any
+abbrev pub IsWalked : Slab Node → ℕ → ℕ → Option Entry → Type 0
+IsWalked s index level None = HasNoEntry s index
+IsWalked s index level (Some x) = IsFound s index level x
+
 -- this entry has the mark, and no entry with it at `from` or a later index comes before
 pub record IsNext (s : Slab Node) (mark from level place : ℕ) : Type 0 where
   pub marked : mark_at mark s level place ≡ 1

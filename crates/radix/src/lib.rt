@@ -21,5 +21,6 @@ mod slot;
 mod tests;
 mod tree;
 
-pub use entry::{Cursor, Entry, Found, Position};
+pub use entry::{Cursor, Entry, Position, Walk};
 pub use nodes::Nodes;
+pub use tree::{first_at, place_at};

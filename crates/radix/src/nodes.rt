@@ -1,10 +1,10 @@
 //! The tree as its caller sees it: entries at slots of levels.
-ghost use Rattle.std.specs.Prelude.{◌≡◌, ◌≢◌, ℕ, ◌+◌, ◌*◌, ◌/◌, ◌%◌, ◌^◌, ◌<◌, ◌≤◌, ◌==◌, ◌↔◌, Some, None, IsOk, OnOk, IfErr, IfSome, MatchOption, MatchBool};
+ghost use Rattle.std.specs.Prelude.{◌≡◌, ◌≢◌, ℕ, ◌+◌, ◌*◌, ◌/◌, ◌%◌, ◌^◌, ◌<◌, ◌≤◌, ◌==◌, ◌↔◌, true, Some, None, IsOk, OnOk, IfErr, IfSome, MatchOption, MatchBool};
 ghost use Rattle.pc_types.specs.declared.refusal.Refusal.{Refusal};
 ghost use Rattle.radix.specs.declared.entry.Entry.{Entry};
-ghost use Rattle.radix.specs.Entries.{entry_at, mark_at, node_count, StandsAt, IsBare, IsLeaf, IsRun, IsClear, IsFree, HasNoMark, HasPathRoom, SameEntries, PutsEntry, PutsBit, PutsRun, ClearsRun, IsFound, HasNoEntry, IsNext, HasNoNext, IsNextEntry, HasNoNextEntry, IsNextEntryLeaf, HasNoEntryBeside, HasMarked, HasNoMarked, HasMarkedUnder, HasNoMarkedUnder};
+ghost use Rattle.radix.specs.Entries.{entry_at, mark_at, node_count, StandsAt, IsBare, IsLeaf, IsRun, IsClear, IsFree, HasNoMark, HasPathRoom, SameEntries, PutsEntry, PutsBit, PutsRun, ClearsRun, IsWalked, HasNoEntry, IsNext, HasNoNext, IsNextEntry, HasNoNextEntry, IsNextEntryLeaf, HasNoEntryBeside, HasMarked, HasNoMarked, HasMarkedUnder, HasNoMarkedUnder};
 
-use crate::entry::{Cursor, Entry, Found, Position};
+use crate::entry::{Cursor, Entry, Position, Walk};
 use crate::node::{ENTRY, Node};
 use crate::{growth, marks, next, removal, tree};
 use pc_types::Refusal;
@@ -15,7 +15,7 @@ use std::marker::Model;
 /// Entries with three marks, each at a slot of a level: slot `place` of `level` has the indexes from
 /// `place * 64 ^ level` on. No two entries share an index if each is put where `IsClear` and `IsFree` hold.
 ///
-/// A walk costs most of a call. So `seek` and `find` walk once and give a cursor, at which the other calls work.
+/// A walk costs most of a call. So `seek` and `walk` walk once and give a cursor, at which the other calls work.
 #[derive(Drop)]
 pub struct Nodes {
     slab: Slab<Node>,
@@ -86,13 +86,15 @@ impl Nodes {
         }
     }
 
-    /// The entry at an index, at whichever level it stands.
-    pub fn find(&self, index: u64) -> Option<Found>
-        ensures found { MatchOption result (HasNoEntry self.now index) (λ r. IsFound self.now index r.level r.entry) }
+    /// Walks to an index, and gives the entry there, at whichever level it stands.
+    #[inline(always)]
+    pub fn walk(&self, index: u64) -> Option<Walk>
+        ensures low { IfSome result (λ r. r.level ≤ 10) }
+        ensures found { MatchOption result (HasNoEntry self.now index) (λ r. IsWalked self.now index r.level r.entry) }
         ensures stands { IfSome result (λ r. StandsAt self.now r.cursor r.level (index / 64 ^ r.level / 64)) }
     {
         match self.head {
-            Some(head) => tree::find(&self.slab, head, index),
+            Some(head) => tree::walk(&self.slab, head, index),
             None => None,
         }
     }
@@ -131,6 +133,19 @@ impl Nodes {
             unreachable!()
         };
         tree::beside(&self.slab, head, cursor.key(), level, index, offset)
+    }
+
+    /// Whether an entry or a node begins at the slot with this offset in the same node, so that it is no further slot of an
+    /// entry. It reads the node's bits alone.
+    pub fn begins(&self, cursor: Cursor, index: u64, level: u32, offset: usize) -> bool
+        requires stands { StandsAt self.now cursor level (index / 64 ^ level / 64) }
+        requires within { offset < 64 }
+        ensures { result ≡ true → (first : ℕ) → entry_at self.now level (index / 64 ^ level / 64 * 64 + offset) ≢ Some (Entry.Sibling first) }
+    {
+        let Some(head) = self.head else {
+            unreachable!()
+        };
+        marks::begins(&self.slab, head, cursor.key(), level, index, offset)
     }
 
     /// Puts an entry without marks at a slot whose node is there. It needs no memory.
@@ -292,7 +307,7 @@ impl Nodes {
     }
 
     /// The lowest entry with the mark whose first slot has the index or a later one. An entry that begins before that slot
-    /// is not found: look with `find` first.
+    /// is not found: look with `walk` first.
     pub fn next_set(&self, index: u64, mark: usize) -> Option<Position>
         requires { mark < 3 }
         ensures next { MatchOption result (HasNoNext self.now mark index) (λ r. IsNext self.now mark index r.level r.place) }

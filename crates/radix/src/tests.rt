@@ -33,7 +33,9 @@ fn next_set(nodes: &Nodes, from: u64) -> Option<(u32, u64)> {
 fn put(nodes: &mut Nodes, index: u64, value: u64) -> bool
     requires { value < 2 ^ 63 }
 {
-    if let Some(_) = nodes.find(index) {
+    if let Some(walk) = nodes.walk(index)
+        && let Some(_) = walk.entry
+    {
         return false;
     }
     let Ok(()) = nodes.reserve_path(index, 0) else {
@@ -45,10 +47,10 @@ fn put(nodes: &mut Nodes, index: u64, value: u64) -> bool
 
 // Sets or clears a mark of the entry at an index. Whether one is there.
 fn mark(nodes: &mut Nodes, index: u64, is_set: bool) -> bool {
-    let Some(found) = nodes.find(index) else {
+    let Some(found) = nodes.walk(index) else {
         return false;
     };
-    let Entry::Leaf(_) = found.entry else {
+    let Some(Entry::Leaf(_)) = found.entry else {
         return false;
     };
     if is_set {

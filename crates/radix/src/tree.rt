@@ -1,20 +1,29 @@
 //! Nodes that make a tree in a slab.
 ghost use Rattle.std.specs.Prelude.{◌≡◌, ℕ, ◌+◌, ◌*◌, ◌/◌, ◌%◌, ◌^◌, ◌<◌, ◌≤◌, Some, None, IfSome, MatchOption, MatchBool, ◌≢◌, ◌⊎◌};
 ghost use Rattle.slab.specs.Slab.{get, HasRoomFor, Updates, slab_len, ContainsKey};
-ghost use Rattle.radix.specs.Entries.{StandsAt, IsFound, HasNoEntry, IsPathNeed, content, entry_at};
+ghost use Rattle.radix.specs.Entries.{StandsAt, HasNoEntry, IsPathNeed, IsWalked, content, entry_at};
 ghost use Rattle.radix.specs.Tree.{slot_at, IsTree, IsSoundOrVoid, IsHeight};
 
-use crate::entry::{Cursor, Entry, Found};
+use crate::entry::{Cursor, Entry, Walk};
 use crate::node::Node;
 use crate::slot::Slot;
 use slab::Slab;
 
-// The index of the slot at a level that has `index`.
-pub(crate) fn place_at(index: u64, level: u32) -> u64
+/// The place of the slot at a level that has an index.
+pub fn place_at(index: u64, level: u32) -> u64
     requires { level ≤ 10 }
     ensures { result ≡ index / 64 ^ level }
 {
     index >> (6 * level)
+}
+
+/// The first index of a slot.
+pub fn first_at(level: u32, place: u64) -> u64
+    requires level { level ≤ 10 }
+    requires fits { place * 64 ^ level < 2 ^ 64 }
+    ensures { result ≡ place * 64 ^ level }
+{
+    place << (6 * level)
 }
 
 // The offset in its node of the slot at a level that has `index`.
@@ -105,10 +114,12 @@ fn entry_of(slot: Slot) -> Option<Entry>
     }
 }
 
-// The entry at an index, and where it stands.
-pub(crate) fn find(nodes: &Slab<Node>, head: usize, index: u64) -> Option<Found>
+// Where a walk to an index ends, and the entry there. It goes into its caller, which most often needs a part of the answer.
+#[inline(always)]
+pub(crate) fn walk(nodes: &Slab<Node>, head: usize, index: u64) -> Option<Walk>
     requires { IsTree nodes.now head }
-    ensures found { MatchOption result (HasNoEntry nodes.now index) (λ r. IsFound nodes.now index r.level r.entry) }
+    ensures low { IfSome result (λ r. r.level ≤ 10) }
+    ensures found { MatchOption result (HasNoEntry nodes.now index) (λ r. IsWalked nodes.now index r.level r.entry) }
     ensures stands { IfSome result (λ r. StandsAt nodes.now r.cursor r.level (index / 64 ^ r.level / 64)) }
 {
     let top = &nodes[head];
@@ -122,13 +133,10 @@ pub(crate) fn find(nodes: &Slab<Node>, head: usize, index: u64) -> Option<Found>
     'down: loop {
         let slot = node.read(offset_by(index, shift));
         let Slot::Child(child) = slot else {
-            let Some(entry) = entry_of(slot) else {
-                return None;
-            };
-            return Some(Found {
+            return Some(Walk {
                 cursor: Cursor::at(key),
                 level: node.level,
-                entry,
+                entry: entry_of(slot),
             });
         };
         key = child;

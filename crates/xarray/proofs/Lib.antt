@@ -1,9 +1,13 @@
+pub mod ArrayLemmas
 pub mod CallLemmas
+pub mod ChangeLemmas
 pub mod CountLemmas
 pub mod EntryLemmas
-pub mod FlatLemmas
-pub mod NearLemmas
+pub mod RangeLemmas
 pub mod RetagLemmas
 pub mod RetagLoop
+pub mod SearchLemmas
 pub mod Singles
+pub mod SpanLemmas
+pub mod StandLemmas
 pub mod ViewLemmas

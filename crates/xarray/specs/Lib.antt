@@ -1,3 +1,3 @@
-pub mod Flat
 pub mod MarkedArray
+pub mod Standing
 pub mod View

@@ -129,14 +129,70 @@ fn store_keeps_marks(rt: HostRuntime) -> Result<(), Fail> {
     Ok(())
 }
 
-// Orders above 0 are refused, also where the index is a multiple of the range's length.
+fn range(first: u64, order: u32, value: u64) -> Option<Found> {
+    Some(Found {
+        first,
+        order,
+        value,
+    })
+}
+
+// Each index of a range has its entry; a search that begins inside it answers it with its first index, and once; marks are
+// the whole range's; and it goes whole.
 #[test]
-fn only_order_0_is_served(rt: HostRuntime) -> Result<(), Fail> {
+fn range_is_one_entry(rt: HostRuntime) -> Result<(), Fail> {
     let mut array = XArray::new(rt.alloc());
-    assert_eq!(rt; array.reserve(0, 1), Err(Refusal::BadOrder));
-    assert_eq!(rt; array.reserve(0, 64), Err(Refusal::BadOrder));
-    assert_eq!(rt; array.reserve(ALL, 0), Ok(()));
+    assert_eq!(rt; array.insert_order(64, 6, 7), Ok(()));
+    for index in [64u64, 100, 127] {
+        assert_eq!(rt; array.load(index), Some(7));
+    }
+    assert_eq!(rt; array.load(63), None);
+    assert_eq!(rt; array.load(128), None);
+    assert_marks(&rt, &mut array, 100, Mark::M0);
+    assert_eq!(rt; array.find_marked(0, 200, Mark::M0), range(64, 6, 7));
+    assert_eq!(rt; array.find_marked(65, 200, Mark::M0), range(64, 6, 7));
+    assert_eq!(rt; array.find_marked(128, 200, Mark::M0), None);
+    assert_eq!(rt; array.retag(0, 64, Mark::M0, Mark::M2), 1);
+    assert!(rt; array.get_mark(127, Mark::M2));
+    assert_eq!(rt; array.erase(127), Some(7));
+    assert!(rt; !array.marked(Mark::M0));
     assert_eq!(rt; array.nodes(), 0);
+    Ok(())
+}
+
+// Every order from 0 to 63 is served at its last place, and no other.
+#[test]
+fn each_order_is_served(rt: HostRuntime) -> Result<(), Fail> {
+    let mut array = XArray::new(rt.alloc());
+    for order in 0..64u32 {
+        let first = u64::MAX - ((1u64 << order) - 1);
+        assert_eq!(rt; array.reserve(first, order), Ok(()));
+        assert_eq!(rt; array.insert_order(first, order, 9), Ok(()));
+        assert_eq!(rt; array.insert_order(ALL, 0, 9), Err(Refusal::Busy));
+        assert_eq!(rt; array.find(ALL, ALL), range(first, order, 9));
+        assert_eq!(rt; array.store(ALL, 8), Ok(Some(9)));
+        assert_eq!(rt; array.erase(first), Some(8));
+        assert_eq!(rt; array.nodes(), 0);
+    }
+    assert_eq!(rt; array.insert_order(0, 64, 9), Err(Refusal::BadOrder));
+    assert_eq!(rt; array.insert_order(1, 1, 9), Err(Refusal::BadOrder));
+    assert_eq!(rt; array.insert_order(1, 64, ALL), Err(Refusal::BadEntry));
+    assert_eq!(rt; array.reserve(0, 64), Err(Refusal::BadOrder));
+    assert_eq!(rt; array.reserve(2, 2), Err(Refusal::BadOrder));
+    Ok(())
+}
+
+// A range that meets an entry anywhere is refused, and leaves all as it was.
+#[test]
+fn ranges_do_not_overlap(rt: HostRuntime) -> Result<(), Fail> {
+    let mut array = XArray::new(rt.alloc());
+    assert_fresh(&rt, &mut array, 4095, 1);
+    assert_eq!(rt; array.insert_order(0, 12, 2), Err(Refusal::Busy));
+    assert_eq!(rt; array.insert_order(0, 13, 2), Err(Refusal::Busy));
+    assert_eq!(rt; array.insert_order(4096, 12, 2), Ok(()));
+    assert_eq!(rt; array.insert(8191, 3), Err(Refusal::Busy));
+    assert_eq!(rt; array.find(0, ALL), one(4095, 1));
+    assert_eq!(rt; array.find(4096, ALL), range(4096, 12, 2));
     Ok(())
 }
 

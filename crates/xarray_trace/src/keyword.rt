@@ -9,6 +9,7 @@ ghost use Rattle.xarray_trace.specs.declared.keyword.Keyword.{Keyword as TheKeyw
 pub enum Keyword {
     Store,
     Insert,
+    InsertOrder,
     Erase,
     Load,
     SetMark,
@@ -42,6 +43,7 @@ impl Keyword {
         Some(match word {
             b"store" => Keyword::Store,
             b"insert" => Keyword::Insert,
+            b"insert_order" => Keyword::InsertOrder,
             b"erase" => Keyword::Erase,
             b"load" => Keyword::Load,
             b"set_mark" => Keyword::SetMark,

@@ -106,6 +106,7 @@ fn with_three(keyword: Keyword, a: u64, b: u64, c: u64) -> Option<Operation>
     ensures { result ≡ with_three keyword a b c }
 {
     match keyword {
+        Keyword::InsertOrder => Some(Operation::Array(ArrayCall::InsertOrder(a, b, c))),
         Keyword::FindMarked => Some(Operation::Array(ArrayCall::FindMarked(a, b, mark_of(c)?))),
         _ => None,
     }

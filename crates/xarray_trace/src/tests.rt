@@ -42,6 +42,10 @@ fn operations_are_answered(rt: HostRuntime) -> Result<(), Fail> {
             "none\nnone\nnone\nok\nok\ncount 1\ncount 2\ncount 0\nentries 3\n1 0 1 012\n2 0 2 -\n18446744073709551615 0 3 02\n",
         ),
         (
+            "insert_order 64 6 7\nload 127\nload 128\nset_mark 100 0\nfind_marked 65 200 0\nretag 0 64 0 2\ninsert_order 0 7 9\ninsert_order 1 1 9\ninsert_order 0 64 9\ninsert_order 0 64 9223372036854775808\ndump\nerase 127\nempty\n",
+            "ok\nvalue 7\nnone\nok\nentry 64 6 7\ncount 1\nrefused 12\nrefused 18\nrefused 18\nrefused 17\nentries 1\n64 6 7 02\nold 7\ntrue\n",
+        ),
+        (
             "store 1 1\nnew\nload 1\ndump\nhash\n",
             "none\nok\nnone\nentries 0\nhash 0 cbf29ce484222325\n",
         ),
@@ -94,7 +98,7 @@ fn other_lines_are_unknown(rt: HostRuntime) -> Result<(), Fail> {
         "err_advance 8",
         "err_sample 8",
         "empty 0",
-        "insert_order 0 0 1",
+        "insert_order 0 0",
         "split 0 0",
         "ids 0",
         "alloc 0",
