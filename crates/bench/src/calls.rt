@@ -10,6 +10,10 @@ pub trait Calls {
 
     fn store(&mut self, index: u64, value: u64) -> Result<Option<u64>, Refusal>;
 
+    fn insert_order(&mut self, index: u64, order: u32, value: u64) -> Result<(), Refusal>;
+
+    fn split(&mut self, index: u64, order: u32) -> Result<(), Refusal>;
+
     fn erase(&mut self, index: u64) -> Option<u64>;
 
     fn load(&self, index: u64) -> Option<u64>;
@@ -43,6 +47,16 @@ impl Calls for Direct {
     #[inline(always)]
     fn store(&mut self, index: u64, value: u64) -> Result<Option<u64>, Refusal> {
         self.array.store(index, value)
+    }
+
+    #[inline(always)]
+    fn insert_order(&mut self, index: u64, order: u32, value: u64) -> Result<(), Refusal> {
+        self.array.insert_order(index, order, value)
+    }
+
+    #[inline(always)]
+    fn split(&mut self, index: u64, order: u32) -> Result<(), Refusal> {
+        self.array.split(index, order)
     }
 
     #[inline(always)]
@@ -102,6 +116,16 @@ impl Calls for Behind {
     #[inline(never)]
     fn store(&mut self, index: u64, value: u64) -> Result<Option<u64>, Refusal> {
         self.array.store(index, value)
+    }
+
+    #[inline(never)]
+    fn insert_order(&mut self, index: u64, order: u32, value: u64) -> Result<(), Refusal> {
+        self.array.insert_order(index, order, value)
+    }
+
+    #[inline(never)]
+    fn split(&mut self, index: u64, order: u32) -> Result<(), Refusal> {
+        self.array.split(index, order)
     }
 
     #[inline(never)]

@@ -2,6 +2,7 @@
 
 use crate::calls::Calls;
 use crate::fault::Fault;
+use crate::files::{Cached, FileRow};
 use crate::ids::{IdRow, Identifies};
 use crate::row::Row;
 use crate::words::{Looks, WordRow, fresh_ring};
@@ -10,6 +11,10 @@ use std::time::{Clock, Duration, Instant};
 
 /// How many rounds a row has.
 const ROUNDS: usize = 9;
+
+/// How many rounds a row of the files has: what it reads is past the caches that a processor has for itself, and there the
+/// machine's other programs are felt.
+const FILE_ROUNDS: usize = 40;
 
 /// What came of the rounds of a row.
 #[derive(Clone, Copy)]
@@ -76,6 +81,26 @@ pub fn time_word_row<L: Looks>(
     for _ in 0..ROUNDS {
         let start = Instant::now(clock)?;
         timed.sum = row.run::<L>(ring.as_mut_slice());
+        timed.best = timed.best.min(nanos(start.elapsed(clock)?));
+    }
+    Ok(timed)
+}
+
+/// Times the calls of a row of the files.
+pub fn time_file_row(
+    clock: &impl Clock,
+    cached: &mut Cached,
+    row: FileRow,
+    order: &[u64],
+) -> Result<Timed, Fault> {
+    let mut timed = Timed {
+        best: u64::MAX,
+        sum: 0,
+    };
+    for _ in 0..FILE_ROUNDS {
+        row.prepare(cached)?;
+        let start = Instant::now(clock)?;
+        timed.sum = row.run(cached, order)?;
         timed.best = timed.best.min(nanos(start.elapsed(clock)?));
     }
     Ok(timed)

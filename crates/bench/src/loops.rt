@@ -4,6 +4,15 @@ use crate::calls::Calls;
 use crate::order::ENTRIES;
 use pc_types::Refusal;
 
+/// How many ranges a row puts.
+pub const RANGES: u64 = ENTRIES / 10;
+
+/// How many of them a row splits: it makes about as many nodes as `ENTRIES` entries side by side have.
+pub const PARTED: u64 = RANGES / 50;
+
+/// The order of each of them.
+pub const RANGE_ORDER: u32 = 9;
+
 /// Every so many indexes one is marked, where a row asks for 1%.
 pub const SPARSE: u64 = 100;
 
@@ -25,6 +34,23 @@ pub fn store_in_order<A: Calls>(array: &mut A, order: &[u64]) -> Result<u64, Ref
         sum = sum.wrapping_add(before.unwrap_or(1));
     }
     Ok(sum)
+}
+
+#[inline(never)]
+pub fn insert_ranges<A: Calls>(array: &mut A, count: u64) -> Result<u64, Refusal> {
+    for range in 0..count {
+        array.insert_order(range << RANGE_ORDER, RANGE_ORDER, range)?;
+    }
+    Ok(count)
+}
+
+/// Splits each range into entries of one index.
+#[inline(never)]
+pub fn split_ranges<A: Calls>(array: &mut A) -> Result<u64, Refusal> {
+    for range in 0..PARTED {
+        array.split(range << RANGE_ORDER, 0)?;
+    }
+    Ok(PARTED)
 }
 
 #[inline(never)]

@@ -1,12 +1,14 @@
-//! Times the calls of the marked array, of the identifiers and of the error word: `bench time` prints a row a call, as `12.34 ns  load, random`.
+#![tactic(auto)]
+//! Times the calls of the marked array, of the identifiers, of the error word and of the files: `bench time` prints a row a call, as
+//! `12.34 ns  load, random`.
 //!
 //! `row` has the rows, `loops` what the clock runs over, `calls` an array's calls in the two forms that are timed, `order` the
 //! random order, `clock` the best time of several rounds, and `report` what is printed.
-#![tactic(auto)]
 
 mod calls;
 mod clock;
 mod fault;
+mod files;
 mod ids;
 mod loops;
 mod order;

@@ -1,10 +1,11 @@
-//! What is printed: a row a line, first of the calls that may be inlined, and then of those that may not.
+//! What is printed: a row a line, first of the calls that may be inlined, then of those that may not, and last of the files.
 
 ghost use Rattle.std.specs.Prelude.{◌≡◌, ◌*◌, ◌/◌, ◌^◌, ◌<◌};
 
 use crate::calls::{self, Calls};
-use crate::clock::{Timed, time_id_row, time_row, time_word_row};
+use crate::clock::{Timed, time_file_row, time_id_row, time_row, time_word_row};
 use crate::fault::Fault;
+use crate::files::{Cached, FileRow};
 use crate::ids::{self, IdRow, Identifies};
 use crate::order::random_order;
 use crate::row::Row;
@@ -20,6 +21,7 @@ pub fn print_rows(rt: &HostRuntime) -> Result<(), Fault> {
     sum = sum.wrapping_add(print_half::<calls::Behind, ids::Behind, words::Behind>(
         rt, order, BEHIND,
     )?);
+    sum = sum.wrapping_add(print_files(rt, order)?);
     // The sum of all answers: what was timed has to be computed.
     eprintln!(rt; "bench: sum of the answers {sum}")?;
     Ok(())
@@ -45,6 +47,22 @@ fn print_half<A: Calls + Drop, I: Identifies + Drop, L: Looks>(
     for row in WordRow::ALL {
         let timed = time_word_row::<L>(rt, rt.alloc(), row)?;
         print_row(rt, timed, LOOKS, row.label(), ending)?;
+        sum = sum.wrapping_add(timed.sum);
+    }
+    Ok(sum)
+}
+
+/// Prints each row of the files, all over one file, and gives the sum of their answers.
+fn print_files(rt: &HostRuntime, order: &[u64]) -> Result<u64, Fault> {
+    print_file_rows(rt, &mut Cached::new(rt.alloc())?, order)
+}
+
+fn print_file_rows(rt: &HostRuntime, cached: &mut Cached, order: &[u64]) -> Result<u64, Fault> {
+    cached.fill()?;
+    let mut sum = 0u64;
+    for row in FileRow::ALL {
+        let timed = time_file_row(rt, cached, row, order)?;
+        print_row(rt, timed, row.count(), row.label(), "")?;
         sum = sum.wrapping_add(timed.sum);
     }
     Ok(sum)

@@ -22,6 +22,8 @@ pub enum Row {
     GetMark,
     EraseRandom,
     EraseSequential,
+    InsertOrder,
+    Split,
 }
 
 /// What the array of a row holds as the clock starts.
@@ -34,10 +36,12 @@ enum Content {
     Marked,
     /// Dense, and one entry of a hundred marked.
     Sparse,
+    /// Ranges side by side.
+    Ranges,
 }
 
 impl Row {
-    pub const ALL: [Row; 13] = [
+    pub const ALL: [Row; 15] = [
         Row::StoreNew,
         Row::StoreOver,
         Row::LoadSequential,
@@ -51,6 +55,8 @@ impl Row {
         Row::GetMark,
         Row::EraseRandom,
         Row::EraseSequential,
+        Row::InsertOrder,
+        Row::Split,
     ];
 
     pub fn label(self) -> &'static str {
@@ -68,6 +74,8 @@ impl Row {
             Row::GetMark => "get_mark, random",
             Row::EraseRandom => "erase, random",
             Row::EraseSequential => "erase, sequential",
+            Row::InsertOrder => "insert_order of order 9",
+            Row::Split => "split of an order 9 entry to order 0",
         }
     }
 
@@ -77,15 +85,18 @@ impl Row {
     {
         match self {
             Row::FindMarked | Row::Retag => ENTRIES / loops::SPARSE,
+            Row::InsertOrder => loops::RANGES,
+            Row::Split => loops::PARTED,
             _ => ENTRIES,
         }
     }
 
     fn content(self) -> Content {
         match self {
-            Row::StoreNew => Content::Nothing,
+            Row::StoreNew | Row::InsertOrder => Content::Nothing,
             Row::SetMarkAgain | Row::ClearMark | Row::GetMark => Content::Marked,
             Row::FindMarked | Row::Retag => Content::Sparse,
+            Row::Split => Content::Ranges,
             _ => Content::Dense,
         }
     }
@@ -93,10 +104,16 @@ impl Row {
     /// Makes an empty array what the row starts from.
     pub fn prepare<A: Calls>(self, array: &mut A) -> Result<(), Refusal> {
         let content = self.content();
-        if content == Content::Nothing {
-            return Ok(());
+        match content {
+            Content::Nothing => return Ok(()),
+            Content::Ranges => {
+                loops::insert_ranges(array, loops::PARTED)?;
+                return Ok(());
+            }
+            _ => {
+                loops::store_all(array)?;
+            }
         }
-        loops::store_all(array)?;
         match content {
             Content::Marked => {
                 loops::mark_all(array);
@@ -124,6 +141,8 @@ impl Row {
             Row::GetMark => loops::get_marks_in_order(array, order),
             Row::EraseRandom => loops::erase_in_order(array, order),
             Row::EraseSequential => loops::erase_all(array),
+            Row::InsertOrder => loops::insert_ranges(array, loops::RANGES)?,
+            Row::Split => loops::split_ranges(array)?,
         })
     }
 }

@@ -1,6 +1,7 @@
 //! What the rows compute: a row that skips its work would be fast.
 
 use crate::calls::{Behind, Calls, Direct};
+use crate::files::{CALLS, Cached, FILL, FileRow, PAGE, SMALL, SYNCED};
 use crate::ids::{self, HOLES, IdRow, Identifies};
 use crate::order::{ENTRIES, random_order};
 use crate::report::hundredths_each;
@@ -34,6 +35,8 @@ fn rows_do_their_work(rt: HostRuntime) -> Result<(), Fail> {
             Row::FindMarked => 4_999_510_000,
             Row::Retag => 10_000,
             Row::ClearMark => 0,
+            Row::InsertOrder => 100_000,
+            Row::Split => 2_000,
         };
         let label = row.label();
         assert_eq!(rt;
@@ -98,6 +101,31 @@ fn check_words(rt: &impl Abort, alloc: Global, row: WordRow, expected: u64) -> R
     let mut ring = fresh_ring(alloc)?;
     assert_eq!(rt; row.run::<words::Direct>(ring.as_mut_slice()), expected);
     assert_eq!(rt; row.run::<words::Behind>(ring.as_mut_slice()), expected);
+    Ok(())
+}
+
+/// Each read answers its count and the first byte, each write its count, and a sync its pages. All rows are over one file.
+#[test]
+fn file_rows_do_their_work(rt: HostRuntime) -> Result<(), Fail> {
+    let order = random_order(rt.alloc())?;
+    check_files(&rt, &mut Cached::new(rt.alloc())?, order.as_slice())
+}
+
+fn check_files(rt: &impl Abort, cached: &mut Cached, order: &[u64]) -> Result<(), Fail> {
+    cached.fill()?;
+    let fill = u64::from(FILL);
+    for row in FileRow::ALL {
+        let expected = match row {
+            FileRow::ReadSmall | FileRow::CopySmall => CALLS * (SMALL + fill),
+            FileRow::ReadPage | FileRow::CopyPage => CALLS * (PAGE + fill),
+            FileRow::WriteSmall | FileRow::CopyInSmall => CALLS * SMALL,
+            FileRow::WritePage | FileRow::CopyInPage => CALLS * PAGE,
+            FileRow::Sync => SYNCED,
+        };
+        let label = row.label();
+        row.prepare(cached)?;
+        assert_eq!(rt; row.run(cached, order)?, expected, "{label}");
+    }
     Ok(())
 }
 

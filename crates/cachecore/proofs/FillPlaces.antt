@@ -58,7 +58,7 @@ find_tail e es low u q is =
     ap (λ b. cond b (Some e.1) (finmap.find nat_cmp u es)) (unsigned_tied u e.0 ∙ not_head) ∙ is
 
 -- one that passes is found by its serial
-passing : (test : Request → Bool) (es : List (ℕ × Request)) → T (is_sorted nat_cmp es) → list_any test (map (λ (e : ℕ × Request). e.1) es) ≡ true → (u : ℕ) × (q : Request) × (finmap.find nat_cmp u es ≡ Some q) × (test q ≡ true)
+pub passing : (test : Request → Bool) (es : List (ℕ × Request)) → T (is_sorted nat_cmp es) → list_any test (map (λ (e : ℕ × Request). e.1) es) ≡ true → (u : ℕ) × (q : Request) × (finmap.find nat_cmp u es ≡ Some q) × (test q ≡ true)
 passing test [] s h = absurd cc
 passing test (e ∷ es) s h =
     let parts = both_true _ _ s in
@@ -67,7 +67,7 @@ passing test (e ∷ es) s h =
       | false ↦ λ _ k. (let x = passing test es parts.1 k in (x.0, x.1, find_tail e es parts.0 x.0 x.1 x.2, x.3))
     ] refl h
 
-fills_parts : (f p : ℕ) (r : Request) → fills f p r ≡ true → (is_live_fill r ≡ true) × (r.file ≡ f) × (r.page ≡ p)
+pub fills_parts : (f p : ℕ) (r : Request) → fills f p r ≡ true → (is_live_fill r ≡ true) × (r.file ≡ f) × (r.page ≡ p)
 fills_parts f p r h = go (is_live_fill r) (eqb r.file f) (eqb r.page p) refl refl refl h
   where
     go : (a b c : Bool) → is_live_fill r ≡ a → eqb r.file f ≡ b → eqb r.page p ≡ c → (a && (b && c)) ≡ true → (is_live_fill r ≡ true) × (r.file ≡ f) × (r.page ≡ p)

@@ -1,67 +1,67 @@
--- The table of open handles: the map that its array makes, and what it keeps through each change.
-use Rattle.std.proofs.Common.{◌≡◌, ◌≢◌, ℕ, ◌+◌, ◌-◌, ◌<◌, ◌≤◌, ◌&&◌, ◌⊎◌, zero, suc, Bool, true, false, cond, not, eqb, eq-eqb, List, [], ◌∷◌, Option, Some, None, option_map, map as map_list, refl, ap, sym, subst, ◌∙◌, arith, inl, inr}
-use Rattle.std.specs.Prelude.{◌||◌, is_some, Result, Ok, Err, IsOk, IsOkUnless}
+-- The table of open handles: the map that its places make, and what it keeps through each change.
+use Rattle.std.proofs.Common.{◌≡◌, ◌≢◌, ℕ, ◌+◌, ◌-◌, ◌<◌, ◌≤◌, ◌&&◌, ◌⊎◌, zero, suc, Bool, true, false, cond, not, eqb, eq-eqb, List, [], ◌∷◌, length, replicate, get_or, Option, Some, None, refl, ap, sym, ◌∙◌, arith, inl, inr}
+use Rattle.std.specs.Prelude.{◌||◌, is_some, Result, Ok, Err, IsOk, IsOkUnless, slice_set}
 use Rattle.std.specs.Ordering.{nat_cmp, eq_by_cmp}
-use Rattle.std.specs.Cmp.{nat_cmp_total}
+use Rattle.std.specs.Cmp.{nat_cmp_total, unsigned_tied}
 use Rattle.std.specs.FinMap as map
 use Rattle.std.specs.FinSet as set
-use Rattle.std.proofs.lemmas.Bool.{cases_eq, ne_eqb, false≢true}
+use Rattle.std.proofs.lemmas.Bool.{cases_eq, cases_lt, ne_eqb, false≢true}
+use Rattle.std.proofs.lemmas.List.{length-set, length-replicate, get_or-replicate, get_or_past}
 use Rattle.pc_types.specs.declared.limits.TheConstants.{MAX_HANDLES}
 use Rattle.pc_types.specs.declared.refusal.Refusal.{Refusal}
 use Rattle.pc_types.specs.declared.refusal.Refusal.TheVariants.{Memory, NoEntry, NoId}
-use Rattle.xarray.specs.MarkedArray.{Range, Ranges, entry_at, erased, unmarked}
-use Rattle.xarray.proofs.EntryLemmas.{eq_tie, tie_eq}
-use Rattle.xarray.proofs.Singles as singles
 use Rattle.idalloc.specs.Ids.{AllUsed, IsLowestUnused, IsNoIdOrMemory}
-use Rattle.cachecore.specs.Handles.{AreHandles, files_of}
+use Rattle.cachecore.specs.Handles.{AreHandles, files_of, open_from}
 use Rattle.cachecore.specs.Step.{IsLowest}
 use Rattle.cachecore.proofs.MapLaws.{same_nat_map, get-insert_nat, get-remove_nat}
+use Rattle.cachecore.proofs.StateLaws.{get_or-set}
 
--- ---- the files of an array
+-- ---- the files of the places
 
-find_file : (q : ℕ) (es : List (ℕ × Range)) → map.find nat_cmp q (map_list (λ e. (e.0, e.1.value)) es) ≡ option_map (λ r. r.value) (map.find nat_cmp q es)
-find_file q [] = refl
-find_file q (e ∷ es) = first (eq_by_cmp nat_cmp q e.0) e.1 (map.find nat_cmp q (map_list (λ e. (e.0, e.1.value)) es)) (map.find nat_cmp q es) (find_file q es)
+found_at : (q h : ℕ) (file : ℕ) (o : Option ℕ) → q ≡ h → cond (eq_by_cmp nat_cmp q h) (Some file) o ≡ Some file
+found_at q h file o e = ap (λ b. cond b (Some file) o) (unsigned_tied q h ∙ eq-eqb q h e)
+
+passed : (q h : ℕ) (file : ℕ) (o : Option ℕ) → q ≢ h → cond (eq_by_cmp nat_cmp q h) (Some file) o ≡ o
+passed q h file o n = ap (λ b. cond b (Some file) o) (unsigned_tied q h ∙ ne_eqb q h n)
+
+find_before : (files : List (Option ℕ)) (h q : ℕ) → q < h → map.find nat_cmp q (open_from h files) ≡ None
+find_before [] h q low = refl
+find_before (None ∷ files) h q low = find_before files (h + 1) q (omega (arith, low))
+find_before (Some file ∷ files) h q low = passed q h file _ (λ e. omega (arith, low, e)) ∙ find_before files (h + 1) q (omega (arith, low))
+
+find_open : (files : List (Option ℕ)) (h i q : ℕ) → q ≡ h + i → map.find nat_cmp q (open_from h files) ≡ get_or files i None
+find_open [] h i q at = refl
+find_open (None ∷ files) h zero q at = find_before files (h + 1) q (omega (arith, at))
+find_open (None ∷ files) h (suc i) q at = find_open files (h + 1) i q (omega (arith, at))
+find_open (Some file ∷ files) h zero q at = found_at q h file _ (omega (arith, at))
+find_open (Some file ∷ files) h (suc i) q at = passed q h file _ (λ e. omega (arith, at, e)) ∙ find_open files (h + 1) i q (omega (arith, at))
+
+pub get-files : (files : List (Option ℕ)) (q : ℕ) → map.get (files_of files) q ≡ get_or files q None
+get-files files q = map.get-from_entries nat_cmp_total (open_from 0 files) q ∙ find_open files 0 q q (omega arith)
+
+pub files-some : (files : List (Option ℕ)) (h file : ℕ) → h < length files → files_of (slice_set files h (Some file)) ≡ map.insert (files_of files) h file
+files-some files h file within = same_nat_map _ _ (λ q.
+    get-files (slice_set files h (Some file)) q
+    ∙ get_or-set files h q (Some file) None within
+    ∙ ap (cond (eqb q h) (Some file)) (sym (get-files files q))
+    ∙ sym (get-insert_nat (files_of files) h file q))
+
+pub files-none : (files : List (Option ℕ)) (h : ℕ) → h < length files → files_of (slice_set files h None) ≡ map.remove (files_of files) h
+files-none files h within = same_nat_map _ _ (λ q.
+    get-files (slice_set files h None) q
+    ∙ get_or-set files h q None None within
+    ∙ ap (cond (eqb q h) None) (sym (get-files files q))
+    ∙ sym (get-remove_nat (files_of files) h q))
+
+no_file_at : (n q : ℕ) → get_or {A = Option ℕ} (replicate n None) q None ≡ None
+no_file_at n q = by_place (cases_lt q n)
   where
-    first : (b : Bool) (r : Range) (x : Option ℕ) (y : Option Range) → x ≡ option_map (λ r. r.value) y → cond b (Some r.value) x ≡ option_map (λ r. r.value) (cond b (Some r) y)
-    first true r x y e = refl
-    first false r x y e = e
+    by_place : (q < n) ⊎ (n ≤ q) → get_or {A = Option ℕ} (replicate n None) q None ≡ None
+    by_place (inl low) = get_or-replicate n q None None low
+    by_place (inr past) = get_or_past (replicate n None) q None (omega (arith, length-replicate {A = Option ℕ} n None, past))
 
-get-files : (m : Ranges) (q : ℕ) → map.get (files_of m) q ≡ option_map (λ r. r.value) (map.get m q)
-get-files m q =
-    map.get-from_entries nat_cmp_total (map_list (λ e. (e.0, e.1.value)) (map.entries m)) q
-    ∙ find_file q (map.entries m)
-    ∙ ap (option_map (λ r. r.value)) (sym (map.get-entries m q))
-
-is_some-value : (o : Option Range) → is_some (option_map (λ r. r.value) o) ≡ is_some o
-is_some-value None = refl
-is_some-value (Some r) = refl
-
-is_some-files : (m : Ranges) (q : ℕ) → is_some (map.get (files_of m) q) ≡ is_some (map.get m q)
-is_some-files m q = ap is_some (get-files m q) ∙ is_some-value (map.get m q)
-
-value_cond : (b : Bool) (x o : Option Range) → option_map (λ r. r.value) (cond b x o) ≡ cond b (option_map (λ r. r.value) x) (option_map (λ r. r.value) o)
-value_cond true x o = refl
-value_cond false x o = refl
-
-pub files-empty : files_of map.empty ≡ map.empty
-files-empty = same_nat_map _ _ (λ q. get-files map.empty q ∙ ap (option_map (λ r. r.value)) (map.get-empty nat_cmp q) ∙ sym (map.get-empty nat_cmp q))
-
-pub files-insert : (m : Ranges) (h : ℕ) (r : Range) → files_of (map.insert m h r) ≡ map.insert (files_of m) h r.value
-files-insert m h r = same_nat_map _ _ (λ q.
-    get-files (map.insert m h r) q
-    ∙ ap (option_map (λ r. r.value)) (get-insert_nat m h r q)
-    ∙ value_cond (eqb q h) (Some r) (map.get m q)
-    ∙ ap (cond (eqb q h) (Some r.value)) (sym (get-files m q))
-    ∙ sym (get-insert_nat (files_of m) h r.value q))
-
-files-remove : (m : Ranges) (h : ℕ) → files_of (map.remove m h) ≡ map.remove (files_of m) h
-files-remove m h = same_nat_map _ _ (λ q.
-    get-files (map.remove m h) q
-    ∙ ap (option_map (λ r. r.value)) (get-remove_nat m h q)
-    ∙ value_cond (eqb q h) None (map.get m q)
-    ∙ ap (cond (eqb q h) None) (sym (get-files m q))
-    ∙ sym (get-remove_nat (files_of m) h q))
+pub files-empty : (n : ℕ) → files_of (replicate n None) ≡ map.empty
+files-empty n = same_nat_map _ _ (λ q. get-files (replicate n None) q ∙ no_file_at n q ∙ sym (map.get-empty nat_cmp q))
 
 -- ---- how many entries a map has
 
@@ -96,27 +96,13 @@ filled (suc n) m each =
 
 -- ---- the numbers in use
 
-or_some : (b : Bool) (r : Range) (o : Option Range) → (b || is_some o) ≡ is_some (cond b (Some r) o)
-or_some true r o = refl
-or_some false r o = refl
+or_some : (b : Bool) (file : ℕ) (o : Option ℕ) → (b || is_some o) ≡ is_some (cond b (Some file) o)
+or_some true file o = refl
+or_some false file o = refl
 
-and_some : (b : Bool) (o : Option Range) → (not b && is_some o) ≡ is_some (cond b None o)
+and_some : (b : Bool) (o : Option ℕ) → (not b && is_some o) ≡ is_some (cond b None o)
 and_some true o = refl
 and_some false o = refl
-
--- a number that is used and given back
-pub given_back : (used : set.FinSet nat_cmp) (n : ℕ) → set.contains used n ≡ false → set.remove (set.insert used n) n ≡ used
-given_back used n free = set.same_set nat_cmp_total map.nat_cmp-IsAntisymmetric _ _ (λ q.
-    set.contains-remove nat_cmp_total (set.insert used n) n q
-    ∙ ap (λ b. not (eq_by_cmp nat_cmp q n) && b) (set.contains-insert nat_cmp_total used n q)
-    ∙ by_number q (eq_by_cmp nat_cmp q n) refl)
-  where
-    by_number : (q : ℕ) (b : Bool) → eq_by_cmp nat_cmp q n ≡ b → (not b && (b || set.contains used q)) ≡ set.contains used q
-    by_number q true tie = sym (ap (set.contains used) (tie_eq q n tie) ∙ free)
-    by_number q false apart = refl
-
-pub now_used : (used : set.FinSet nat_cmp) (n : ℕ) → set.contains (set.insert used n) n ≡ true
-now_used used n = set.contains-insert nat_cmp_total used n n ∙ ap (λ b. b || set.contains used n) (eq_tie n n refl)
 
 -- ---- answers
 
@@ -131,71 +117,70 @@ memory_alone _ only never = absurd only
 
 -- ---- what the table keeps
 
-pub no_handles : AreHandles set.empty map.empty 0
+pub no_handles : AreHandles set.empty (replicate MAX_HANDLES None) 0
 no_handles = record {
-  single = singles.single-empty;
-  numbered = λ h. set.contains-empty nat_cmp h ∙ sym (ap is_some (map.get-empty nat_cmp h));
-  counted = sym (ap map.len files-empty ∙ map.len-empty nat_cmp ℕ);
+  whole = length-replicate {A = Option ℕ} MAX_HANDLES None;
+  numbered = λ h. set.contains-empty nat_cmp h ∙ sym (ap is_some (no_file_at MAX_HANDLES h));
+  counted = sym (ap map.len (files-empty MAX_HANDLES) ∙ map.len-empty nat_cmp ℕ);
 }
 
-module _ (used : set.FinSet nat_cmp) (m : Ranges) (count : ℕ) (are : AreHandles used m count) where
-  in_use : (h : ℕ) → is_some (map.get (files_of m) h) ≡ set.contains used h
-  in_use h = is_some-files m h ∙ sym (are.numbered h)
+module _ (used : set.FinSet nat_cmp) (files : List (Option ℕ)) (count : ℕ) (are : AreHandles used files count) where
+  in_use : (h : ℕ) → is_some (map.get (files_of files) h) ≡ set.contains used h
+  in_use h = ap is_some (get-files files h) ∙ sym (are.numbered h)
 
-  pub used_handle : (h : ℕ) → is_some (map.get (files_of m) h) ≡ true → set.contains used h ≡ false → ⊥
+  pub used_handle : (h : ℕ) → is_some (map.get (files_of files) h) ≡ true → set.contains used h ≡ false → ⊥
   used_handle h there free = false≢true (sym free ∙ sym (in_use h) ∙ there)
 
-  nothing : (o : Option Range) → is_some o ≡ false → o ≡ None
+  pub past_end : (h : ℕ) → MAX_HANDLES ≤ h → map.get (files_of files) h ≡ None
+  past_end h past = get-files files h ∙ get_or_past files h None (omega (arith, are.whole, past))
+
+  pub has_place : (h : ℕ) → is_some (map.get (files_of files) h) ≡ true → h < length files
+  has_place h there = by_place (cases_lt h (length files))
+    where
+      by_place : (h < length files) ⊎ (length files ≤ h) → h < length files
+      by_place (inl low) = low
+      by_place (inr past) = absurd (false≢true (sym (ap is_some (past_end h (omega (arith, are.whole, past)))) ∙ there))
+
+  nothing : (o : Option ℕ) → is_some o ≡ false → o ≡ None
   nothing None h = refl
-  nothing (Some r) h = absurd (false≢true (sym h))
+  nothing (Some file) h = absurd (false≢true (sym h))
 
-  pub no_entry : (h : ℕ) → set.contains used h ≡ false → map.get m h ≡ None
-  no_entry h free = nothing (map.get m h) (sym (are.numbered h) ∙ free)
+  no_file : (h : ℕ) → set.contains used h ≡ false → map.get (files_of files) h ≡ None
+  no_file h free = nothing (map.get (files_of files) h) (in_use h ∙ free)
 
-  pub entry_none : (h : ℕ) → set.contains used h ≡ false → entry_at m h ≡ None
-  entry_none h free = singles.entry_at-none m are.single h (no_entry h free)
-
-  value_at : (h : ℕ) (o : Option Range) → option_map (λ e. e.1.value) (singles.at_index h o) ≡ option_map (λ r. r.value) o
-  value_at h None = refl
-  value_at h (Some r) = refl
-
-  pub loaded : (h : ℕ) → option_map (λ e. e.1.value) (entry_at m h) ≡ map.get (files_of m) h
-  loaded h = ap (option_map (λ e. e.1.value)) (singles.entry_at-get m are.single h) ∙ value_at h (map.get m h) ∙ sym (get-files m h)
-
-  pub lowest_handle : (max h : ℕ) → IsLowestUnused used 0 max h → IsLowest (λ k. is_some (map.get (files_of m) k)) h
+  pub lowest_handle : (max h : ℕ) → IsLowestUnused used 0 max h → IsLowest (λ k. is_some (map.get (files_of files) k)) h
   lowest_handle max h is = (in_use h ∙ is.unused, λ k low. in_use k ∙ is.lowest k (omega arith) low)
 
   -- fewer handles than the limit leave a number
-  pub has_room : map.len (files_of m) < MAX_HANDLES → AllUsed used 0 (MAX_HANDLES - 1) → ⊥
+  pub has_room : map.len (files_of files) < MAX_HANDLES → AllUsed used 0 (MAX_HANDLES - 1) → ⊥
   has_room few all =
-      let most : MAX_HANDLES ≤ map.len (files_of m) = filled MAX_HANDLES (files_of m) (λ k low. in_use k ∙ all.each k (omega arith) (omega (arith, low))) in
+      let most : MAX_HANDLES ≤ map.len (files_of files) = filled MAX_HANDLES (files_of files) (λ k low. in_use k ∙ all.each k (omega arith) (omega (arith, low))) in
       omega (arith, few, most)
 
-  pub files-erased : (h : ℕ) → files_of (erased m h) ≡ map.remove (files_of m) h
-  files-erased h = ap files_of (singles.erased-remove m are.single h) ∙ files-remove m h
-
-  pub handle_opened : (h file : ℕ) → set.contains used h ≡ false → AreHandles (set.insert used h) (map.insert m h (unmarked 0 file)) (count + 1)
-  handle_opened h file free = record {
-    single = singles.single-insert m are.single h (unmarked 0 file) refl;
+  pub handle_opened : (h file : ℕ) → h < length files → set.contains used h ≡ false → AreHandles (set.insert used h) (slice_set files h (Some file)) (count + 1)
+  handle_opened h file within free = record {
+    whole = length-set files h (Some file) ∙ are.whole;
     numbered = λ q.
         set.contains-insert nat_cmp_total used h q
-        ∙ ap (λ b. eq_by_cmp nat_cmp q h || b) (are.numbered q)
-        ∙ or_some (eq_by_cmp nat_cmp q h) (unmarked 0 file) (map.get m q)
-        ∙ sym (ap is_some (map.get-insert nat_cmp_total m h (unmarked 0 file) q));
+        ∙ (λ i. unsigned_tied q h i || are.numbered q i)
+        ∙ or_some (eqb q h) file (get_or files q None)
+        ∙ sym (ap is_some (get_or-set files h q (Some file) None within));
     counted =
         ap (λ n. n + 1) are.counted
-        ∙ sym (ap map.len (files-insert m h (unmarked 0 file)) ∙ len_new (files_of m) h file (get-files m h ∙ ap (option_map (λ r. r.value)) (no_entry h free)));
+        ∙ sym (ap map.len (files-some files h file within) ∙ len_new (files_of files) h file (no_file h free));
   }
 
-  pub handle_closed : (h : ℕ) → is_some (map.get (files_of m) h) ≡ true → AreHandles (set.remove used h) (erased m h) (count - 1)
-  handle_closed h there = subst (λ n. AreHandles (set.remove used h) n (count - 1)) (sym (singles.erased-remove m are.single h)) (record {
-    single = singles.single-remove m are.single h;
-    numbered = λ q.
-        set.contains-remove nat_cmp_total used h q
-        ∙ ap (λ b. not (eq_by_cmp nat_cmp q h) && b) (are.numbered q)
-        ∙ and_some (eq_by_cmp nat_cmp q h) (map.get m q)
-        ∙ sym (ap is_some (map.get-remove nat_cmp_total m h q));
-    counted =
-        let fewer : count - 1 ≡ map.len (map.remove (files_of m) h) = omega (arith, are.counted, len_one_less (files_of m) h there) in
-        fewer ∙ sym (ap map.len (files-remove m h));
-  })
+  pub handle_closed : (h : ℕ) → is_some (map.get (files_of files) h) ≡ true → AreHandles (set.remove used h) (slice_set files h None) (count - 1)
+  handle_closed h there =
+      let within = has_place h there in
+      record {
+        whole = length-set files h None ∙ are.whole;
+        numbered = λ q.
+            set.contains-remove nat_cmp_total used h q
+            ∙ (λ i. not (unsigned_tied q h i) && are.numbered q i)
+            ∙ and_some (eqb q h) (get_or files q None)
+            ∙ sym (ap is_some (get_or-set files h q None None within));
+        counted =
+            let fewer : count - 1 ≡ map.len (map.remove (files_of files) h) = omega (arith, are.counted, len_one_less (files_of files) h there) in
+            fewer ∙ sym (ap map.len (files-none files h within));
+      }

@@ -13,6 +13,7 @@ pub mod Choices
 pub mod Found
 pub mod StepCases
 pub mod Determined
+pub mod DirtyPages
 pub mod Replies
 pub mod Lowest
 pub mod FlushList
@@ -20,10 +21,12 @@ pub mod PairLemmas
 pub mod Overlay
 pub mod ReadLemmas
 pub mod Spans
+pub mod OnePage
 pub mod HandleLemmas
 pub mod Values
 pub mod Holdings
 pub mod PlaceLemmas
+pub mod PowerLaws
 pub mod WriteLemmas
 pub mod CoreLemmas
 pub mod CoreViews
@@ -36,8 +39,10 @@ pub mod BareLaws
 pub mod StoreEntries
 pub mod StoreLaws
 pub mod StoreFacts
+pub mod FrameEntries
 pub mod RangeLemmas
 pub mod WriteSteps
+pub mod Overwrites
 pub mod WriteMoves
 pub mod SoundChanges
 pub mod SoundLookups
@@ -82,3 +87,4 @@ pub mod ListedFrames
 pub mod Owners
 pub mod Victims
 pub mod Accesses
+pub mod TaggedFrames

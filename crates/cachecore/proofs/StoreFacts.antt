@@ -4,7 +4,6 @@ use Rattle.std.specs.Prelude.{Option, Some, None, is_some, is_none, option_map, 
 use Rattle.std.specs.Option.{option_and_then}
 use Rattle.std.specs.Int.{from_bool}
 use borrow.Rule.Slice.PartMut.{put_mid}
-use Rattle.pc_types.specs.declared.ids.FrameId.{FrameId}
 use Rattle.std.specs.Ordering.{nat_cmp}
 use Rattle.std.specs.FinMap as finmap
 use Rattle.std.specs.FinMap.{FinMap, get-empty, len-empty}
@@ -21,7 +20,7 @@ use Rattle.pc_types.specs.declared.ids.PageIndex.{PageIndex}
 use Rattle.pc_types.specs.declared.limits.TheConstants.{MAX_FRAMES}
 use Rattle.frames.specs.Table.{Table, owner_of, is_taken, taken, given, accessed, free_frames, new_table}
 use Rattle.frames.specs.Rows.{row_at}
-use Rattle.mapping.specs.Pages.{Mapped, untagged, change_at, put_some, frame_of}
+use Rattle.mapping.specs.Pages.{Mapped, untagged, change_at, put_some}
 use Rattle.mapping.proofs.MapLemmas as entries
 use Rattle.mapping.proofs.MapLemmas.{count_insert, count_remove, count-le-len, remove_absent, len_insert_new, len_insert_old, len_remove_old}
 use Rattle.cachecore.specs.declared.kept.KeptFile.{KeptFile}
@@ -527,18 +526,14 @@ store_file t up files dirty f k is here s =
       dirty_is = omega (arith, s.dirty_is, seen, sum_by-set dirty_in (map (file_of t up) files) f (file_of t up k) no_file (omega (arith, here, length-map files (file_of t up))), marks);
     }
 
--- ---- what the program found of a page
+-- ---- an entry that is there
 
 abbrev pub the_mapped : Option Mapped → Mapped
 the_mapped o = unwrap_or o (record { frame = 0; tags = no_tags })
 
-pub mapped_some : (o : Option Mapped) (fr : FrameId) → Some fr ≡ option_map frame_of o → o ≡ Some (the_mapped o)
-mapped_some None fr e = absurd (false≢true (ap (λ (x : Option FrameId). is_some x) (sym e)))
-mapped_some (Some x) fr e = refl
-
-pub mapped_frame : (o : Option Mapped) (fr : FrameId) → Some fr ≡ option_map frame_of o → fr.0 ≡ (the_mapped o).frame
-mapped_frame None fr e = absurd (false≢true (ap (λ (x : Option FrameId). is_some x) (sym e)))
-mapped_frame (Some x) fr e = ap (λ (o : Option FrameId). (unwrap_or o fr).0) e
+pub mapped_some : (o : Option Mapped) → is_some o ≡ true → o ≡ Some (the_mapped o)
+mapped_some None e = absurd (false≢true e)
+mapped_some (Some x) e = refl
 
 -- ---- a part of a row is written
 

@@ -1,17 +1,17 @@
 -- A cached page gets other tags, and keeps its bytes.
 use Rattle.std.proofs.Common.{◌≡◌, ℕ, ◌+◌, ◌<◌, ◌≤◌, Bool, true, cond, List, [], length, ap, sym, subst, ◌∙◌}
-use Rattle.std.specs.Prelude.{Some, None, is_some, slice_set, slice_index_or}
+use Rattle.std.specs.Prelude.{Some, None, is_some, option_map, slice_set, slice_index_or}
 use Rattle.std.specs.FinMap as finmap
 use Rattle.std.proofs.lemmas.Bool.{false≢true}
 use Rattle.std.proofs.lemmas.List.{get_or_read, set-get_or}
 use Rattle.frames.specs.Table.{Table, free_frames, is_taken}
 use Rattle.frames.specs.Rows.{row_at}
-use Rattle.mapping.specs.Pages.{FilePages, Mapped, Pages, change_at}
+use Rattle.mapping.specs.Pages.{FilePages, Mapped, Pages, change_at, frame_of}
 use Rattle.cachecore.specs.declared.kept.KeptFile.{KeptFile}
 use Rattle.cachecore.specs.State.{Page, the_page}
 use Rattle.cachecore.specs.Store.{Store, IsStore, store_of, none_kept, is_uptodate, has_page, kept_at, entry_at, stored_at, stored_page, with_pages}
-use Rattle.cachecore.proofs.StoreLaws.{cached_at, cached_entry, some_entry, with_kept}
-use Rattle.cachecore.proofs.StoreFacts.{here_kept, page_store, page_after_is, changed_entry, the_page_is, page_taken, page_size, dirty_least}
+use Rattle.cachecore.proofs.StoreLaws.{cached_at, cached_entry, some_entry, some_mapped, with_kept}
+use Rattle.cachecore.proofs.StoreFacts.{here_kept, page_store, page_after_is, changed_entry, the_page_is, page_taken, page_size, dirty_least, the_mapped, mapped_some}
 
 -- k is file f, in which page p is cached
 module _ (t : Table) (up : List Bool) (files : List KeptFile) (dirty : ℕ) (s : IsStore t up files dirty) (store : Store) (is : store_of t up files ≡ store) (f p : ℕ) (within : f < length store.files) (cached : is_some (stored_page store f p) ≡ true) (k : KeptFile) (value : k ≡ slice_index_or files f k) where
@@ -24,8 +24,15 @@ module _ (t : Table) (up : List Bool) (files : List KeptFile) (dirty : ℕ) (s :
   has : has_page up (entry_at files f p) ≡ true
   has = cached_at t up files f p ∙ ap (λ (s : Store). is_some (stored_page s f p)) is ∙ cached
 
-  pub not_absent : None ≡ finmap.get k.mapping.pages p → ⊥
-  not_absent e = false≢true (ap is_some e ∙ ap (λ (k : KeptFile). is_some (finmap.get k.mapping.pages p)) entry ∙ some_entry up (entry_at files f p) has)
+  is_entered : is_some (finmap.get k.mapping.pages p) ≡ true
+  is_entered = ap (λ (k : KeptFile). is_some (finmap.get k.mapping.pages p)) entry ∙ some_entry up (entry_at files f p) has
+
+  pub not_absent : None ≡ option_map frame_of (finmap.get k.mapping.pages p) → ⊥
+  not_absent e = false≢true (ap is_some e ∙ some_mapped frame_of (finmap.get k.mapping.pages p) ∙ is_entered)
+
+  -- it has an entry, whether or not its frame was looked up
+  pub its_entry : Some (the_mapped (finmap.get k.mapping.pages p)) ≡ finmap.get k.mapping.pages p
+  its_entry = sym (mapped_some (finmap.get k.mapping.pages p) is_entered)
 
   module _ (x : Mapped) (found : Some x ≡ finmap.get k.mapping.pages p) where
     there : entry_at files f p ≡ Some x

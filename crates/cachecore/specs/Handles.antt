@@ -1,17 +1,22 @@
--- Inside this crate: the open handles as a marked array of their files. Nothing outside it speaks of this.
-use Rattle.std.specs.Prelude.{◌≡◌, ℕ, map, is_some}
+-- Inside this crate: the open handles as a vector of their files, with a place for each number. Nothing outside it speaks of this.
+use Rattle.std.specs.Prelude.{◌≡◌, ℕ, ◌+◌, List, [], ◌∷◌, length, Option, Some, None, is_some, slice_index_or}
 use Rattle.std.specs.Ordering.{nat_cmp}
 use Rattle.std.specs.FinMap as map
 use Rattle.std.specs.FinSet as set
-use Rattle.xarray.specs.MarkedArray.{Ranges}
-use Rattle.xarray.proofs.Singles.{AllSingle}
+use Rattle.pc_types.specs.declared.limits.TheConstants.{MAX_HANDLES}
+
+-- the places that have a file, each with it, where the first place is that of the number h
+abbrev pub open_from : ℕ → List (Option ℕ) → List (ℕ × ℕ)
+open_from h [] = []
+open_from h (Some file ∷ files) = (h, file) ∷ open_from (h + 1) files
+open_from h (None ∷ files) = open_from (h + 1) files
 
 -- the file of each handle, by the handle's number
-abbrev pub files_of : Ranges → map.FinMap nat_cmp ℕ
-files_of ranges = map.from_entries (map (λ e. (e.0, e.1.value)) (map.entries ranges))
+abbrev pub files_of : List (Option ℕ) → map.FinMap nat_cmp ℕ
+files_of files = map.from_entries (open_from 0 files)
 
--- each entry is one handle's; its numbers are the ones in use, and they are counted
-pub record AreHandles (used : set.FinSet nat_cmp) (ranges : Ranges) (count : ℕ) : Type 0 where
-  pub single : AllSingle ranges
-  pub numbered : (h : ℕ) → set.contains used h ≡ is_some (map.get ranges h)
-  pub counted : count ≡ map.len (files_of ranges)
+-- each number has a place, which has a file exactly where the number is in use; and those are counted
+pub record AreHandles (used : set.FinSet nat_cmp) (files : List (Option ℕ)) (count : ℕ) : Type 0 where
+  pub whole : length files ≡ MAX_HANDLES
+  pub numbered : (h : ℕ) → set.contains used h ≡ is_some (slice_index_or files h None)
+  pub counted : count ≡ map.len (files_of files)

@@ -3,6 +3,7 @@ pub mod Changes
 pub mod Codes
 pub mod Core
 pub mod Cuts
+pub mod Flushing
 pub mod Flying
 pub mod Handles
 pub mod Holding

@@ -1,6 +1,6 @@
 //! The cache's state and its calls.
 
-ghost use Rattle.std.specs.Prelude.{◌≡◌, ◌≢◌, ◌+◌, ◌-◌, ◌*◌, ◌/◌, ◌^◌, ◌<◌, ◌≤◌, ℕ, [], Option, IfOk, IfSome, IsOkUnless, OnOk, OnErr, length, drop, true, false, is_some, None, nat_lt, not, ◌&&◌, ◌||◌};
+ghost use Rattle.std.specs.Prelude.{◌≡◌, ◌≢◌, ◌+◌, ◌-◌, ◌*◌, ◌/◌, ◌^◌, ◌<◌, ◌≤◌, ℕ, [], Option, IfOk, IfSome, IsOkUnless, OnOk, OnErr, length, drop, true, false, is_some, None, Some, nat_lt, not, ◌&&◌, ◌||◌};
 ghost use Rattle.std.specs.FinMap as map;
 ghost use Rattle.mapping.specs.declared.mapping.TheConstants.{MAX_PAGES};
 ghost use Rattle.cachecore.specs.State.{dirty_total, file_of, is_filling, page_count, touched_count};
@@ -14,6 +14,7 @@ ghost use Rattle.cachecore.specs.Replies.{created, opened, closed, sized, wrote,
 use crate::answers::{PageTags, ReadAnswer, WriteAnswer};
 use crate::event::Event;
 use crate::handles::Handles;
+use crate::layout::Layout;
 use crate::pages::Pages;
 use crate::placing::{count_without_block, place};
 use blockmap::BlockMap;
@@ -26,7 +27,7 @@ use writeback::{Requests, Syncs};
 /// The state of a cache.
 #[derive(Drop)]
 pub struct CacheCore {
-    pub(crate) geometry: Geometry,
+    pub(crate) geometry: Layout,
     pub(crate) name: u64,
     pub(crate) pages: Pages,
     pub(crate) handles: Handles,
@@ -57,10 +58,10 @@ impl CacheCore {
         ensures refused { IsOkUnless result Refusal.Memory }
     {
         Ok(CacheCore {
-            geometry: *geometry,
+            geometry: Layout::new(geometry),
             name,
             pages: Pages::new(alloc, geometry, MAX_FILES as usize)?,
-            handles: Handles::new(alloc),
+            handles: Handles::new(alloc)?,
             blocks: BlockMap::new(alloc, geometry.blocks()),
             requests: Requests::new(),
             syncs: Syncs::new(),
@@ -72,7 +73,7 @@ impl CacheCore {
     pub fn geometry(&self) -> Geometry
         ensures { result ≡ self.now.state.sizes }
     {
-        self.geometry
+        self.geometry.geometry()
     }
 
     /// A new file, without bytes. It stays as long as the cache.
@@ -169,20 +170,17 @@ impl CacheCore {
             return Ok(ReadAnswer::Bytes(0));
         }
         let page_size = self.geometry.page();
-        if touched_count(page_size, offset, count) > MAX_TOUCHED {
+        if is_too_long(page_size, offset, count) {
             return Err(Refusal::TooLong);
         }
-        let first = offset / page_size;
-        let end = (offset + count - 1) / page_size + 1;
-        if let Some(page) = self.pages.first_absent(file, first, end) {
-            if self.is_filling(file, page) {
-                return Ok(ReadAnswer::Wait(PageIndex(page)));
-            }
-            return Ok(ReadAnswer::Miss(PageIndex(page)));
+        let out = &mut out[..count as usize];
+        let Some(page) = self.pages.read(file, page_size, offset, out) else {
+            return Ok(ReadAnswer::Bytes(count));
+        };
+        if self.is_filling(file, page) {
+            return Ok(ReadAnswer::Wait(PageIndex(page)));
         }
-        self.pages
-            .read(file, page_size, offset, &mut out[..count as usize]);
-        Ok(ReadAnswer::Bytes(count))
+        Ok(ReadAnswer::Miss(PageIndex(page)))
     }
 
     /// Writes the bytes into the file from `offset` on. A gap before them reads as zeros.
@@ -205,12 +203,15 @@ impl CacheCore {
                 end: offset,
             });
         }
-        if touched_count(self.geometry.page(), offset, count) > MAX_TOUCHED {
+        if is_too_long(self.geometry.page(), offset, count) {
             return Err(Refusal::TooLong);
         }
         let end = offset.saturating_add(count);
         if end > MAX_FILE_SIZE {
             return Err(Refusal::TooLarge);
+        }
+        if self.overwrite(file, offset, bytes) {
+            return Ok(WriteAnswer::Wrote { count, end });
         }
         if let Some(page) = self.write_stop(file, offset, count) {
             if self.is_filling(file, page) {
@@ -236,6 +237,7 @@ impl CacheCore {
     }
 
     /// Whether a fill of the page is in flight.
+    #[inline(never)]
     pub(crate) fn is_filling(&self, file: u64, page: u64) -> bool
         ensures { result ≡ is_filling self.now.state file page }
     {
@@ -313,6 +315,32 @@ impl CacheCore {
         dirtied > 0 && self.pages.dirty_total() + dirtied > self.geometry.dirty_limit()
     }
 
+    /// Writes the bytes where they are all of one page that is DIRTY. Such a page has its frame and its block, so no test stops
+    /// or refuses the write. Answers whether that was done.
+    fn overwrite(&mut self, file: u64, offset: u64, bytes: &[u8]) -> bool
+        requires open { (h : ℕ) × (map.get self.old.state.handles h ≡ Some file) }
+        requires some { 0 < length bytes.now }
+        requires bound { offset + length bytes.now ≤ MAX_FILE_SIZE }
+        ensures unstopped { result ≡ true → write_stop self.old.state file offset (length bytes.now) ≡ None }
+        ensures room { result ≡ true → room_tests self.old.state file offset (length bytes.now) ≡ None }
+        ensures done { result ≡ true → self.new.state ≡ written self.old.state file offset bytes.now }
+        ensures lists { result ≡ true → self.new.lists ≡ write_moves self.old.state file offset (length bytes.now) self.old.lists }
+        ensures same { result ≡ false → self.new ≡ self.old }
+    {
+        let page_size = self.geometry.page();
+        let page = offset / page_size;
+        let at = offset - page * page_size;
+        if at + bytes.len() as u64 > page_size {
+            return false;
+        }
+        if !self.pages.put_again(file, page, at as usize, bytes) {
+            return false;
+        }
+        let size = self.pages.size(file).max(offset + bytes.len() as u64);
+        self.pages.set_size(file, size);
+        true
+    }
+
     /// Writes the bytes into a file, which may be made longer. The tests have passed. The blocks and frames are taken
     /// first, which is all that may fail: a write is done whole or not at all.
     fn write_pages(&mut self, file: u64, offset: u64, bytes: &[u8]) -> Result<(), AllocError>
@@ -356,6 +384,18 @@ fn touched_count(page_size: u64, offset: u64, count: u64) -> u64
     ensures { result ≡ touched_count page_size offset count }
 {
     (offset % page_size + count - 1) / page_size + 1
+}
+
+/// Whether `count` bytes at `offset` touch more pages than a call may.
+fn is_too_long(page_size: u64, offset: u64, count: u64) -> bool
+    requires positive { 0 < page_size }
+    requires small { page_size ≤ MAX_PAGE_SIZE }
+    requires some { 0 < count }
+    requires fits { count < 2 ^ 63 }
+    ensures { result ≡ nat_lt MAX_TOUCHED (touched_count page_size offset count) }
+{
+    // as many bytes as a page has touch two pages at most
+    count > page_size && touched_count(page_size, offset, count) > MAX_TOUCHED
 }
 
 /// How many pages a file of this size has.

@@ -1,9 +1,10 @@
 //! Flushes: the lowest page of a file that is dirty and has no write in flight, written to its block.
 
-ghost use Rattle.std.specs.Prelude.{◌≡◌, ◌≢◌, ◌<◌, IfErr, false, length};
+ghost use Rattle.std.specs.Prelude.{◌≡◌, ◌≢◌, ◌<◌, IfErr, IfSome, false, length, option_map};
 ghost use Rattle.mapping.specs.declared.mapping.TheConstants.{MAX_PAGES};
 ghost use Rattle.pc_types.specs.declared.refusal.Refusal.TheVariants.{Memory};
 ghost use Rattle.cachecore.specs.Step.{Step};
+ghost use Rattle.cachecore.specs.Flushing.{flush_of};
 ghost use Rattle.cachecore.specs.Replies.{EndGivesBack, FlushGivesBack, FlushStep, UnlessJob, end_of, flush_ended};
 ghost use Rattle.cachecore.specs.Starting.{IsStarted, MayStart};
 ghost use Rattle.cachecore.specs.Tests.{is_full};
@@ -12,7 +13,8 @@ use crate::answers::{Ended, FlushBegun, Refused, RefusedEnd};
 use crate::cache::CacheCore;
 use crate::event::Event;
 use blockdev::{Buffer, Finished, FinishedParts, Job};
-use pc_types::{FileId, Kind, PageIndex, Refusal};
+use pc_types::limits::MAX_FILES;
+use pc_types::{FileId, Kind, PageIndex, Refusal, Serial};
 
 impl CacheCore {
     /// Begins to write the file's lowest page that is dirty and has no write in flight. The buffer is for a copy of its
@@ -94,6 +96,18 @@ impl CacheCore {
                     .note_failure(request.file.0, u64::from(code.code()));
                 Ok(Ended::Failed(code, buffer))
             }
+        }
+    }
+
+    /// The file of the flush in flight with this serial. This is no event.
+    pub fn flush_of(&self, serial: Serial) -> Option<FileId>
+        ensures file { option_map (λ f. f.0) result ≡ flush_of self.now.state serial.0 }
+        ensures within { IfSome result (λ f. f.0 < MAX_FILES) }
+    {
+        let request = self.requests.get(serial)?;
+        match request.kind {
+            Kind::Flush => Some(request.file),
+            Kind::Fill => None,
         }
     }
 }

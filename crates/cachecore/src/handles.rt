@@ -8,17 +8,16 @@ ghost use Rattle.cachecore.specs.Step.{IsLowest};
 use idalloc::IdAlloc;
 use pc_types::Refusal;
 use pc_types::limits::{MAX_FILES, MAX_HANDLES};
-use std::alloc::Global;
+use std::alloc::{AllocError, Global};
 use std::marker::Model;
-use xarray::XArray;
 
 /// The file of each open handle, by the handle's number.
 #[derive(Drop)]
 pub struct Handles {
     // the numbers of the open handles
     ids: IdAlloc,
-    // the file of each of them
-    files: XArray,
+    // the file of each number, where it is open
+    files: Vec<Option<u64>>,
     // how many they are
     count: u64,
 }
@@ -34,27 +33,33 @@ impl Model for Handles {
 
     ghost coded = { map.code coded_ℕ coded_ℕ };
 
-    ghost view = { λ a. files_of a.files.ranges };
+    ghost view = { λ a. files_of a.files.items };
 
-    ghost invariant = { λ a. AreHandles a.ids.used a.files.ranges a.count };
+    ghost invariant = { λ a. AreHandles a.ids.used a.files.items a.count };
 }
 
 impl Handles {
-    pub fn new(alloc: Global) -> Handles
-        ensures { result ≡ map.empty }
+    /// No handle is open. It makes the places of all handles, so `open` takes memory for the number alone.
+    pub fn new(alloc: Global) -> Result<Handles, AllocError>
+        ensures { IfOk result (λ h. h ≡ map.empty) }
     {
-        Handles {
+        Ok(Handles {
             ids: IdAlloc::new(alloc),
-            files: XArray::new(alloc),
+            files: vec![in alloc; None; MAX_HANDLES as usize]?,
             count: 0,
-        }
+        })
     }
 
     /// The file of an open handle.
+    #[inline(always)]
     pub fn file(&self, handle: u64) -> Option<u64>
         ensures { result ≡ map.get self.now handle }
     {
-        self.files.load(handle)
+        if handle < MAX_HANDLES {
+            self.files[handle as usize]
+        } else {
+            None
+        }
     }
 
     /// How many handles are open.
@@ -74,10 +79,7 @@ impl Handles {
         ensures memory { IsOkUnless result Refusal.Memory }
     {
         let handle = self.ids.alloc(0, MAX_HANDLES - 1)?;
-        if let Err(refusal) = self.files.insert(handle, file) {
-            self.ids.free(handle).unwrap();
-            return Err(refusal);
-        }
+        self.files[handle as usize] = Some(file);
         self.count += 1;
         Ok(handle)
     }
@@ -88,7 +90,7 @@ impl Handles {
         ensures { self.new ≡ map.remove self.old handle }
     {
         self.ids.free(handle).unwrap();
-        let _file = self.files.erase(handle);
+        self.files[handle as usize] = None;
         self.count -= 1;
     }
 }

@@ -33,11 +33,11 @@ impl Pages {
         requires whole { length bytes.now ≡ self.old.page }
         ensures { self.new ≡ record (with_pages self.old file (map.insert (stored_at self.old file).pages page (record { bytes = bytes.now; tags = no_tags })) self.old.free) { filling = set.remove self.old.filling (file, page) } }
     {
-        let Some(mapped) = self.files[file as usize].mapping.page(PageIndex(page)) else {
+        let Some(frame) = self.files[file as usize].mapping.frame(PageIndex(page)) else {
             unreachable!()
         };
-        self.frames.bytes_mut(mapped.frame).copy_from_slice(bytes);
-        self.uptodate[mapped.frame.0 as usize] = true;
+        self.frames.bytes_mut(frame).copy_from_slice(bytes);
+        self.uptodate[frame.0 as usize] = true;
     }
 
     /// A page that was filling is absent again.

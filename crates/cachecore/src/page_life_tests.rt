@@ -35,6 +35,8 @@ pub fn flushes(rt: &impl Abort, alloc: Global, core: &mut CacheCore) -> Result<(
         job.bytes(),
         b"\xaa\0\0\0\0\0\0\0\0\0\0\0\0\0\0\0".as_slice()
     );
+    assert_eq!(rt; core.flush_of(Serial(0)), Some(FILE));
+    assert_eq!(rt; core.flush_of(Serial(1)), None);
     let writing = Tags::none().with(Tag::Writeback);
     assert_eq!(rt;
         core.tags(FILE, PageIndex(0)),

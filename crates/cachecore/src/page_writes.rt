@@ -53,12 +53,13 @@ impl Pages {
         ensures copy { out.new ≡ (the_page (stored_at self.old file).pages page).bytes }
     {
         let mapping = &mut self.files[file as usize].mapping;
-        let Some(mapped) = mapping.page(PageIndex(page)) else {
+        let Some(frame) = mapping.frame(PageIndex(page)) else {
             unreachable!()
         };
+        let was_dirty = mapping.has_tag(PageIndex(page), Tag::Dirty);
         writeback::begin_write(mapping, PageIndex(page));
-        self.dirty -= u64::from(mapped.tags.has(Tag::Dirty));
-        out.copy_from_slice(self.frames.bytes(mapped.frame));
+        self.dirty -= u64::from(was_dirty);
+        out.copy_from_slice(self.frames.bytes(frame));
     }
 
     /// A write of a cached page ended.
@@ -68,11 +69,9 @@ impl Pages {
         ensures { self.new ≡ with_pages self.old file (map.insert (stored_at self.old file).pages page (after_write failed (the_page (stored_at self.old file).pages page))) self.old.free }
     {
         let mapping = &mut self.files[file as usize].mapping;
-        let Some(mapped) = mapping.page(PageIndex(page)) else {
-            unreachable!()
-        };
+        let was_dirty = mapping.has_tag(PageIndex(page), Tag::Dirty);
         writeback::end_write(mapping, PageIndex(page), failed);
-        self.dirty += u64::from(failed && !mapped.tags.has(Tag::Dirty));
+        self.dirty += u64::from(failed && !was_dirty);
     }
 
     /// How many writes of the file failed.

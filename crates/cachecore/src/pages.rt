@@ -12,7 +12,8 @@ ghost use Rattle.cachecore.specs.Pairs.{with_part};
 ghost use Rattle.cachecore.specs.PageLists.{no_lists, is_listed, entered, left, accessed};
 ghost use Rattle.cachecore.specs.Store.{Store, stored_at, stored_page, is_awaited, with_pages, with_lists, with_entry};
 
-use crate::kept::{KeptFile, is_uptodate};
+use crate::guesses::Guesses;
+use crate::kept::{KeptFile, find_frame, is_uptodate};
 use frames::Frames;
 use pc_types::limits::{MAX_FRAMES, MAX_TOUCHED};
 use pc_types::{FileId, Geometry, PageIndex, Refusal, Tag, Tags};
@@ -28,6 +29,8 @@ pub struct Pages {
     pub(crate) files: Vec<KeptFile>,
     // how many pages of all files are DIRTY
     pub(crate) dirty: u64,
+    // of the pages that were read
+    pub(crate) guesses: Guesses,
 }
 
 impl Model for Pages {
@@ -55,6 +58,7 @@ impl Pages {
             uptodate: vec![in alloc; false; geometry.frames() as usize]?,
             files: Vec::with_capacity(alloc, files)?,
             dirty: 0,
+            guesses: Guesses::new(alloc, geometry.frames())?,
         })
     }
 
@@ -227,12 +231,59 @@ impl Pages {
         ensures { self.new ≡ with_pages self.old file (map.insert (stored_at self.old file).pages page (with_part (the_page (stored_at self.old file).pages page) at bytes.now)) self.old.free }
     {
         let mapping = &mut self.files[file as usize].mapping;
-        let Some(mapped) = mapping.page(PageIndex(page)) else {
+        let Some(frame) = mapping.frame(PageIndex(page)) else {
             unreachable!()
         };
+        let was_dirty = mapping.has_tag(PageIndex(page), Tag::Dirty);
         let _ = mapping.tag(PageIndex(page), Tag::Dirty);
-        self.dirty += u64::from(!mapped.tags.has(Tag::Dirty));
-        self.frames.bytes_mut(mapped.frame)[at..at + bytes.len()].copy_from_slice(bytes);
+        self.dirty += u64::from(!was_dirty);
+        self.frames.bytes_mut(frame)[at..at + bytes.len()].copy_from_slice(bytes);
+    }
+
+    /// Puts bytes into a page from `at` on where it is DIRTY already, and notes that it was written: one look-up. Answers whether
+    /// the page is DIRTY; where it is not, nothing is done.
+    pub fn put_again(&mut self, file: u64, page: u64, at: usize, bytes: &[u8]) -> bool
+        requires here { file < length self.old.files }
+        requires room { at + length bytes.now ≤ self.old.page }
+        ensures dirty { result ≡ tagged (λ t. t.dirty) (stored_page self.old file page) }
+        ensures done { result ≡ true → self.new ≡ with_lists (with_pages self.old file (map.insert (stored_at self.old file).pages page (with_part (the_page (stored_at self.old file).pages page) at bytes.now)) self.old.free) (accessed file page self.old.lists) }
+        ensures same { result ≡ false → self.new ≡ self.old }
+    {
+        // for what `free_count` ensures: each frame in a list is taken
+        prove!(self.frames.free_count() <= MAX_FRAMES);
+        let mapping = &self.files[file as usize].mapping;
+        let Some(frame) = mapping.tagged_frame(PageIndex(page), Tag::Dirty) else {
+            return false;
+        };
+        self.frames.bytes_mut(frame)[at..at + bytes.len()].copy_from_slice(bytes);
+        self.frames.accessed(frame);
+        true
+    }
+
+    /// Copies bytes of a page from `at` on into `out`, and notes that the page was read: one look-up. Answers whether the page is
+    /// cached; where it is not, nothing is done.
+    pub fn read_within(&mut self, file: u64, page: u64, at: usize, out: &mut [u8]) -> bool
+        requires here { file < length self.old.files }
+        requires there { at + length out.old ≤ self.old.page }
+        ensures cached { result ≡ is_some (stored_page self.old file page) }
+        ensures read { result ≡ true → out.new ≡ slice_range (the_page (stored_at self.old file).pages page).bytes at (at + length out.old) }
+        ensures moved { result ≡ true → self.new ≡ with_lists self.old (accessed file page self.old.lists) }
+        ensures kept { result ≡ false → out.new ≡ out.old }
+        ensures same { result ≡ false → self.new ≡ self.old }
+    {
+        // for what `free_count` ensures: each frame in a list is taken
+        prove!(self.frames.free_count() <= MAX_FRAMES);
+        let kept = &self.files[file as usize];
+        let Some(frame) = find_frame(&self.frames, kept, &mut self.guesses, file, page) else {
+            return false;
+        };
+        if !is_uptodate(&self.uptodate, frame) {
+            return false;
+        }
+        let bytes = self.frames.bytes(frame);
+        out.copy_from_slice(&bytes[at..at + out.len()]);
+        self.frames.accessed(frame);
+        true
     }
 
     /// Copies a part of a cached page's bytes to a part of `out`, and notes that the page was read.
@@ -254,14 +305,14 @@ impl Pages {
         ensures len { length out.new ≡ length out.old }
         ensures moved { self.new ≡ with_lists self.old (accessed file page self.old.lists) }
     {
-        let Some(mapped) = self.files[file as usize].mapping.page(PageIndex(page)) else {
+        let Some(frame) = self.files[file as usize].mapping.frame(PageIndex(page)) else {
             unreachable!()
         };
         // for what `free_count` ensures: each frame in a list is taken
         prove!(self.frames.free_count() <= MAX_FRAMES);
-        let bytes = self.frames.bytes(mapped.frame);
+        let bytes = self.frames.bytes(frame);
         out[from..to].copy_from_slice(&bytes[at..at + (to - from)]);
-        self.frames.accessed(mapped.frame);
+        self.frames.accessed(frame);
     }
 
     /// Notes that a page was written. Only the order of eviction changes, and not even that where the page is neither cached
@@ -272,8 +323,8 @@ impl Pages {
     {
         // for what `free_count` ensures: each frame in a list is taken
         prove!(self.frames.free_count() <= MAX_FRAMES);
-        if let Some(mapped) = self.files[file as usize].mapping.page(PageIndex(page)) {
-            self.frames.accessed(mapped.frame);
+        if let Some(frame) = self.files[file as usize].mapping.frame(PageIndex(page)) {
+            self.frames.accessed(frame);
         }
     }
 }

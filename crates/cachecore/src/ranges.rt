@@ -1,6 +1,6 @@
 //! Ranges of pages: made, written, read, one page after the other.
 
-ghost use Rattle.std.specs.Prelude.{◌≡◌, ◌+◌, ◌-◌, ◌/◌, ◌<◌, ◌≤◌, OnOk, OnErr, length, not, is_some, count_by, filter};
+ghost use Rattle.std.specs.Prelude.{◌≡◌, ◌+◌, ◌-◌, ◌/◌, ◌<◌, ◌≤◌, IfNone, IfSome, OnOk, OnErr, length, find, not, is_some, count_by, filter};
 ghost use Rattle.std.specs.List.{range_with_len};
 ghost use Rattle.mapping.specs.declared.mapping.TheConstants.{MAX_PAGES};
 ghost use Rattle.cachecore.specs.Pairs.{AreCached, AreSized, IsLaid, AreRead};
@@ -62,8 +62,67 @@ impl Pages {
         }
     }
 
+    /// Copies the bytes from `offset` on out of their pages, and notes that each was read. Where not all of them are cached it
+    /// answers the first that is not, and does nothing else.
+    pub fn read(&mut self, file: u64, page_size: u64, offset: u64, out: &mut [u8]) -> Option<u64>
+        requires here { file < length self.old.files }
+        requires page { page_size ≡ self.old.page }
+        requires positive { 0 < page_size }
+        requires small { page_size ≤ MAX_PAGE_SIZE }
+        requires some { 0 < length out.old }
+        requires bound { offset + length out.old ≤ MAX_FILE_SIZE }
+        requires sized { AreSized page_size (stored_at self.old file).pages }
+        ensures absent { result ≡ find (λ p. not (is_some (stored_page self.old file p))) (range_with_len (offset / page_size) ((offset + length out.old - 1) / page_size + 1 - offset / page_size)) }
+        ensures kept { IfSome result (λ _. out.new ≡ out.old) }
+        ensures same { IfSome result (λ _. self.new ≡ self.old) }
+        ensures read { IfNone result (AreRead page_size offset (stored_at self.old file).pages (length out.new) out.new) }
+        ensures moved { IfNone result (self.new ≡ with_lists self.old (each_accessed file (touched page_size offset (length out.old)) self.old.lists)) }
+    {
+        let first = offset / page_size;
+        let at = offset - first * page_size;
+        if at + out.len() as u64 <= page_size {
+            // bytes of one page
+            if self.read_within(file, first, at as usize, out) {
+                return None;
+            }
+            return Some(first);
+        }
+        self.read_several(file, page_size, offset, out)
+    }
+
+    /// The same of any number of pages, by two look-ups a page.
+    #[inline(never)]
+    fn read_several(
+        &mut self,
+        file: u64,
+        page_size: u64,
+        offset: u64,
+        out: &mut [u8],
+    ) -> Option<u64>
+        requires here { file < length self.old.files }
+        requires page { page_size ≡ self.old.page }
+        requires positive { 0 < page_size }
+        requires small { page_size ≤ MAX_PAGE_SIZE }
+        requires some { 0 < length out.old }
+        requires bound { offset + length out.old ≤ MAX_FILE_SIZE }
+        requires sized { AreSized page_size (stored_at self.old file).pages }
+        ensures absent { result ≡ find (λ p. not (is_some (stored_page self.old file p))) (range_with_len (offset / page_size) ((offset + length out.old - 1) / page_size + 1 - offset / page_size)) }
+        ensures kept { IfSome result (λ _. out.new ≡ out.old) }
+        ensures same { IfSome result (λ _. self.new ≡ self.old) }
+        ensures read { IfNone result (AreRead page_size offset (stored_at self.old file).pages (length out.new) out.new) }
+        ensures moved { IfNone result (self.new ≡ with_lists self.old (each_accessed file (touched page_size offset (length out.old)) self.old.lists)) }
+    {
+        let first = offset / page_size;
+        let end = (offset + out.len() as u64 - 1) / page_size + 1;
+        if let Some(page) = self.first_absent(file, first, end) {
+            return Some(page);
+        }
+        self.read_each(file, page_size, offset, out);
+        None
+    }
+
     /// Copies the bytes from `offset` on out of pages that are cached, and notes that each was read.
-    pub fn read(&mut self, file: u64, page_size: u64, offset: u64, out: &mut [u8])
+    fn read_each(&mut self, file: u64, page_size: u64, offset: u64, out: &mut [u8])
         requires here { file < length self.old.files }
         requires page { page_size ≡ self.old.page }
         requires positive { 0 < page_size }

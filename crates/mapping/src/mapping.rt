@@ -85,10 +85,21 @@ impl Mapping {
     }
 
     /// The frame of the page at an index, where one is cached: one walk of the array, of the four that `page` takes.
+    #[inline(always)]
     pub fn frame(&self, index: PageIndex) -> Option<FrameId>
         ensures { result ≡ option_map frame_of (map.get self.now.pages index.0) }
     {
         let frame = self.pages.load(index.0)? as u32;
+        Some(FrameId(frame))
+    }
+
+    /// The frame of the page at an index, where one is cached and has the tag. It takes one walk too.
+    #[inline(always)]
+    pub fn tagged_frame(&self, index: PageIndex, tag: Tag) -> Option<FrameId>
+        ensures tagged { has_at self.now.pages index.0 tag ≡ true → result ≡ option_map frame_of (map.get self.now.pages index.0) }
+        ensures untagged { has_at self.now.pages index.0 tag ≡ false → result ≡ None }
+    {
+        let frame = self.pages.load_marked(index.0, mark_of(tag))? as u32;
         Some(FrameId(frame))
     }
 

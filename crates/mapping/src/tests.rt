@@ -52,6 +52,9 @@ fn a_page_with_each_tag(rt: HostRuntime) -> Result<(), Fail> {
     assert_eq!(rt; mapping.page(page), Some(dirty));
     assert_eq!(rt; mapping.frame(page), Some(FrameId(9)));
     assert_eq!(rt; mapping.frame(PageIndex(4)), None);
+    assert_eq!(rt; mapping.tagged_frame(page, Tag::Towrite), Some(FrameId(9)));
+    assert_eq!(rt; mapping.tagged_frame(page, Tag::Writeback), None);
+    assert_eq!(rt; mapping.tagged_frame(PageIndex(4), Tag::Dirty), None);
     // a write of the page begins: one call clears DIRTY and TOWRITE and sets WRITEBACK
     mapping.set_tags(page, Tags::none().with(Tag::Writeback))?;
     assert_totals(&rt, &mapping, 0, 1, 0);

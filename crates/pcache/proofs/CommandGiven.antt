@@ -5,27 +5,29 @@ use Rattle.std.specs.Io.KnownBytes.{Appends}
 use Rattle.std.proofs.lemmas.Bool.{false≢true}
 use Rattle.std.specs.Result.{result_unwrap_or}
 use Rattle.pc_types.specs.Limits.{Sizes, is_geometry}
+use Rattle.pc_types.specs.declared.ids.HandleId.{HandleId}
 use Rattle.pc_types.specs.declared.refusal.Refusal.{Refusal}
 use Rattle.pc_types.specs.declared.refusal.Refusal.TheVariants.{BadConfig}
-use Rattle.world.specs.Stepping.{Held}
+use Rattle.cachecore.specs.declared.event.Reply.{Reply}
 use Rattle.pcache.specs.declared.command.Command.{Command}
 use Rattle.pcache.specs.declared.command.Command.TheVariants as command
 use Rattle.pcache.specs.declared.stop.Stop.{Stop}
 use Rattle.pcache.specs.declared.stop.Stop.TheVariants.{Malformed, Input, Output, Memory}
-use Rattle.pcache.specs.Answers.{IsPrintFault, Prints, ended}
+use Rattle.pcache.specs.Answers.{IsPrintFault, Prints, answer_of, ended}
 use Rattle.pcache.specs.Commands.{Means}
 use Rattle.pcache.specs.Lines.{is_blank}
-use Rattle.pcache.specs.Runs.{Answers, CommandGives, IsMisplaced, LineGives, TellsTags, config_text, default_sizes, sizes_of, world_of_sizes}
+use Rattle.pcache.specs.Runs.{Answers, CommandGives, IsMisplaced, LineGives, SyncsFile, TellsTags, config_text, default_sizes, sizes_of, session_of_sizes}
+use Rattle.pcache.specs.Sessions.{Fsyncs, SessionSeen}
 use Rattle.pcache.proofs.CommandLemmas.{config_alone}
 
-pub fault_gives : (old new : Option Held) (n : ℕ) (c : Command) (before after : Option (List ℕ)) (stop : Stop) → IsPrintFault before after stop → CommandGives old n c (Err stop) new before after
+pub fault_gives : (old new : Option SessionSeen) (n : ℕ) (c : Command) (before after : Option (List ℕ)) (stop : Stop) → IsPrintFault before after stop → CommandGives old n c (Err stop) new before after
 fault_gives old new n c before after (Malformed m) h = absurd h
 fault_gives old new n c before after Input h = absurd h
 fault_gives old new n c before after Output h = tt
 fault_gives old new n c before after Memory h = h
 
 -- a command whose answer was printed, or is none since the printing failed
-pub answer_given : (old : Option Held) (n : ℕ) (c : Command) (r : Result (Unit {0}) Stop) (w : Held) (before after : Option (List ℕ))
+pub answer_given : (old : Option SessionSeen) (n : ℕ) (c : Command) (r : Result (Unit {0}) Stop) (w : SessionSeen) (before after : Option (List ℕ))
     → OnOk r ((printed : List ℕ) × Answers old c printed w × Appends before after printed) → IfErr r (IsPrintFault before after) → CommandGives old n c r (Some w) before after
 answer_given old n c (Ok done) w before after (printed, answered, appended) fault = (printed, w, answered, refl, appended)
 answer_given old n c (Err stop) w before after told fault = fault_gives old (Some w) n c before after stop fault
@@ -35,8 +37,14 @@ pub output_fault : (before after : Option (List ℕ)) (r : Result (Unit {0}) Sto
 output_fault before after (Ok done) unless = tt
 output_fault before after (Err stop) unless = subst (IsPrintFault before after) (sym unless) tt
 
--- what is known of a page changes no world
-pub told_same : (r : Result (Unit {0}) Stop) (w : Held) (file page : ℕ) (before after : Option (List ℕ))
+-- what comes of a sync is printed
+pub synced_printed : (r : Result (Unit {0}) Stop) (old new : SessionSeen) (handle : HandleId) (reply : Reply) (before after : Option (List ℕ))
+    → Fsyncs old handle reply new → OnOk r (Prints before after (answer_of reply)) → OnOk r ((printed : List ℕ) × SyncsFile old handle printed new × Appends before after printed)
+synced_printed (Ok done) old new handle reply before after synced printed = (ended (answer_of reply), (reply, synced, refl), printed)
+synced_printed (Err stop) old new handle reply before after synced printed = tt
+
+-- what is known of a page changes no session
+pub told_same : (r : Result (Unit {0}) Stop) (w : SessionSeen) (file page : ℕ) (before after : Option (List ℕ))
     → OnOk r ((printed : List ℕ) × TellsTags w file page printed × Appends before after printed)
     → OnOk r ((printed : List ℕ) × (TellsTags w file page printed × (w ≡ w)) × Appends before after printed)
 told_same (Ok done) w file page before after (printed, told, appended) = (printed, (told, refl), appended)
@@ -53,20 +61,20 @@ pub geometry_made : (r : Result Sizes Refusal) (p f d b : ℕ) → (let s : Size
 geometry_made r p f d b h = made_of (is_geometry (record { page = p; frames = f; dirty_limit = d; blocks = b })) r (record { page = p; frames = f; dirty_limit = d; blocks = b }) h.0 h.1.0 h.1.1 h.2
 
 -- a `config` that is not the first command
-pub misplaced : (w : Held) (n p f d b : ℕ) (new : Option Held) (bytes : Option (List ℕ)) → CommandGives (Some w) n (command.Config p f d b) (Err (Malformed n)) new bytes bytes
+pub misplaced : (w : SessionSeen) (n p f d b : ℕ) (new : Option SessionSeen) (bytes : Option (List ℕ)) → CommandGives (Some w) n (command.Config p f d b) (Err (Malformed n)) new bytes bytes
 misplaced w n p f d b new None = (refl, tt, tt)
 misplaced w n p f d b new (Some xs) = (refl, tt, refl)
 
-pub configured : (n p f d b : ℕ) (before after : Option (List ℕ)) (r : Result (Unit {0}) Stop) (new : Option Held) (sizes : Result Sizes Refusal) → sizes ≡ sizes_of p f d b
-    → OnOk r (new ≡ Some (world_of_sizes (result_unwrap_or sizes default_sizes))) → OnOk r (Prints before after (config_text sizes)) → IfErr r (IsPrintFault before after)
+pub configured : (n p f d b : ℕ) (before after : Option (List ℕ)) (r : Result (Unit {0}) Stop) (new : Option SessionSeen) (sizes : Result Sizes Refusal) → sizes ≡ sizes_of p f d b
+    → OnOk r (new ≡ Some (session_of_sizes (result_unwrap_or sizes default_sizes))) → OnOk r (Prints before after (config_text sizes)) → IfErr r (IsPrintFault before after)
     → CommandGives None n (command.Config p f d b) r new before after
 configured n p f d b before after (Ok done) new sizes e made printed fault =
-    (ended (config_text (sizes_of p f d b)), world_of_sizes (result_unwrap_or (sizes_of p f d b) default_sizes), (refl, refl), made ∙ ap (λ s. Some (world_of_sizes (result_unwrap_or s default_sizes))) e, subst (λ s. Prints before after (config_text s)) e printed)
+    (ended (config_text (sizes_of p f d b)), session_of_sizes (result_unwrap_or (sizes_of p f d b) default_sizes), (refl, refl), made ∙ ap (λ s. Some (session_of_sizes (result_unwrap_or s default_sizes))) e, subst (λ s. Prints before after (config_text s)) e printed)
 configured n p f d b before after (Err stop) new sizes e made printed fault = fault_gives None new n (command.Config p f d b) before after stop fault
 
--- any other first command finds the world of the default sizes
-pub first_given : (n : ℕ) (c : Command) (r : Result (Unit {0}) Stop) (new : Option Held) (before after : Option (List ℕ))
-    → ((p f d b : ℕ) → c ≢ command.Config p f d b) → CommandGives (Some (world_of_sizes default_sizes)) n c r new before after → CommandGives None n c r new before after
+-- any other first command finds the session of the default sizes
+pub first_given : (n : ℕ) (c : Command) (r : Result (Unit {0}) Stop) (new : Option SessionSeen) (before after : Option (List ℕ))
+    → ((p f d b : ℕ) → c ≢ command.Config p f d b) → CommandGives (Some (session_of_sizes default_sizes)) n c r new before after → CommandGives None n c r new before after
 first_given n (command.Config p f d b) r new before after other gives = absurd (other p f d b refl)
 first_given n (command.Step s) (Ok done) new before after other gives = gives
 first_given n (command.Step s) (Err (Malformed m)) new before after other gives = absurd gives.1
@@ -78,6 +86,16 @@ first_given n (command.Fail s k e) (Err (Malformed m)) new before after other gi
 first_given n (command.Fail s k e) (Err Input) new before after other gives = gives
 first_given n (command.Fail s k e) (Err Output) new before after other gives = tt
 first_given n (command.Fail s k e) (Err Memory) new before after other gives = gives
+first_given n (command.Fsync h) (Ok done) new before after other gives = gives
+first_given n (command.Fsync h) (Err (Malformed m)) new before after other gives = absurd gives.1
+first_given n (command.Fsync h) (Err Input) new before after other gives = gives
+first_given n (command.Fsync h) (Err Output) new before after other gives = tt
+first_given n (command.Fsync h) (Err Memory) new before after other gives = gives
+first_given n (command.Poll h) (Ok done) new before after other gives = gives
+first_given n (command.Poll h) (Err (Malformed m)) new before after other gives = absurd gives.1
+first_given n (command.Poll h) (Err Input) new before after other gives = gives
+first_given n (command.Poll h) (Err Output) new before after other gives = tt
+first_given n (command.Poll h) (Err Memory) new before after other gives = gives
 first_given n (command.Tags f p) (Ok done) new before after other gives = gives
 first_given n (command.Tags f p) (Err (Malformed m)) new before after other gives = absurd gives.1
 first_given n (command.Tags f p) (Err Input) new before after other gives = gives
@@ -85,20 +103,24 @@ first_given n (command.Tags f p) (Err Output) new before after other gives = tt
 first_given n (command.Tags f p) (Err Memory) new before after other gives = gives
 
 -- where a line asks for a misplaced command, each command that it asks for is misplaced
-misplaced_line : (old : Option Held) (line : List ℕ) (c : Command) → Means line c → IsMisplaced old c → (d : Command) → Means line d → IsMisplaced old d
+misplaced_line : (old : Option SessionSeen) (line : List ℕ) (c : Command) → Means line c → IsMisplaced old c → (d : Command) → Means line d → IsMisplaced old d
 misplaced_line None line (command.Config p f l b) means h d asked = absurd h
 misplaced_line None line (command.Step s) means h d asked = absurd h
 misplaced_line None line (command.Fail s k e) means h d asked = absurd h
+misplaced_line None line (command.Fsync k) means h d asked = absurd h
+misplaced_line None line (command.Poll k) means h d asked = absurd h
 misplaced_line None line (command.Tags f p) means h d asked = absurd h
 misplaced_line (Some w) line (command.Step s) means h d asked = absurd h
 misplaced_line (Some w) line (command.Fail s k e) means h d asked = absurd h
+misplaced_line (Some w) line (command.Fsync k) means h d asked = absurd h
+misplaced_line (Some w) line (command.Poll k) means h d asked = absurd h
 misplaced_line (Some w) line (command.Tags f p) means h d asked = absurd h
 misplaced_line (Some w) line (command.Config p f l b) means h d asked =
     let (q, g, m, n, is) = config_alone line p f l b d means asked in
     subst (IsMisplaced (Some w)) (sym is) tt
 
 -- a line that is a command gives what the command gives
-pub line_given : (old : Option Held) (n : ℕ) (line : List ℕ) (c : Command) (r : Result (Unit {0}) Stop) (new : Option Held) (before after : Option (List ℕ))
+pub line_given : (old : Option SessionSeen) (n : ℕ) (line : List ℕ) (c : Command) (r : Result (Unit {0}) Stop) (new : Option SessionSeen) (before after : Option (List ℕ))
     → is_blank line ≡ false → Means line c → CommandGives old n c r new before after → LineGives old n line r new before after
 line_given old n line c (Ok done) new before after some means (printed, w, answered, is, appended) = (printed, inr (some, c, w, means, answered, is), appended)
 line_given old n line c (Err (Malformed m)) new before after some means (is, mis, kept) = (is, (some, misplaced_line old line c means mis), kept)

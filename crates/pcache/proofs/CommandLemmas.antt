@@ -8,7 +8,7 @@ use Rattle.pcache.specs.declared.command.Command.TheVariants as command
 use Rattle.world.specs.declared.step.Step.TheVariants as step
 use Rattle.pcache.specs.declared.command.TheConstants.{MAX_CODE, MAX_READ}
 use Rattle.pcache.specs.declared.keyword.Keyword.{Keyword}
-use Rattle.pcache.specs.declared.keyword.Keyword.TheVariants.{Config, Create, Open, Close, Size, Read, Write, Append, Truncate, Fill, Flush, Do, Fail, End, Sync, Step, Drop, Evict, Age, Tags}
+use Rattle.pcache.specs.declared.keyword.Keyword.TheVariants.{Config, Create, Open, Close, Size, Read, Write, Append, Truncate, Fill, Flush, Do, Fail, End, Sync, Step, Drop, Fsync, Poll, Evict, Age, Tags}
 use Rattle.pcache.specs.Keywords.{name_of}
 use Rattle.blockdev.specs.declared.fault.FaultEffect.{FaultEffect}
 use Rattle.pcache.specs.Commands.{Part, Name, Number, Hex, Leaves, Begins, parts_of, Asks, Means}
@@ -36,6 +36,8 @@ keyword_of_name text =
     else if bytes_eq text (codes "sync") then Sync
     else if bytes_eq text (codes "step") then Step
     else if bytes_eq text (codes "drop") then Drop
+    else if bytes_eq text (codes "fsync") then Fsync
+    else if bytes_eq text (codes "poll") then Poll
     else if bytes_eq text (codes "evict") then Evict
     else if bytes_eq text (codes "age") then Age
     else Tags
@@ -59,6 +61,8 @@ keyword_of_name-name_of End = refl
 keyword_of_name-name_of Sync = refl
 keyword_of_name-name_of Step = refl
 keyword_of_name-name_of Drop = refl
+keyword_of_name-name_of Fsync = refl
+keyword_of_name-name_of Poll = refl
 keyword_of_name-name_of Evict = refl
 keyword_of_name-name_of Age = refl
 keyword_of_name-name_of Tags = refl
@@ -131,6 +135,8 @@ keyword_of (command.Step (step.End t)) = End
 keyword_of (command.Step (step.SyncBegin h)) = Sync
 keyword_of (command.Step (step.SyncStep s)) = Step
 keyword_of (command.Step (step.SyncDrop s)) = Drop
+keyword_of (command.Fsync h) = Fsync
+keyword_of (command.Poll h) = Poll
 keyword_of (command.Step step.Evict) = Evict
 keyword_of (command.Step step.Age) = Age
 keyword_of (command.Tags f p) = Tags
@@ -154,6 +160,8 @@ named_parts k words rest (command.Step (step.End t)) begins = named k End words 
 named_parts k words rest (command.Step (step.SyncBegin h)) begins = named k Sync words (Number h.0 ∷ []) rest begins
 named_parts k words rest (command.Step (step.SyncStep s)) begins = named k Step words (Number s.0 ∷ []) rest begins
 named_parts k words rest (command.Step (step.SyncDrop s)) begins = named k Drop words (Number s.0 ∷ []) rest begins
+named_parts k words rest (command.Fsync h) begins = named k Fsync words (Number h.0 ∷ []) rest begins
+named_parts k words rest (command.Poll h) begins = named k Poll words (Number h.0 ∷ []) rest begins
 named_parts k words rest (command.Step step.Evict) begins = named k Evict words ([]) rest begins
 named_parts k words rest (command.Step step.Age) begins = named k Age words ([]) rest begins
 named_parts k words rest (command.Step (step.FillBegin h p)) begins = named k Fill words (Number h.0 ∷ Number p.0 ∷ []) rest begins
@@ -179,6 +187,8 @@ is_config (command.Step (step.End t)) e = cc
 is_config (command.Step (step.SyncBegin h)) e = cc
 is_config (command.Step (step.SyncStep s)) e = cc
 is_config (command.Step (step.SyncDrop s)) e = cc
+is_config (command.Fsync h) e = cc
+is_config (command.Poll h) e = cc
 is_config (command.Step step.Evict) e = cc
 is_config (command.Step step.Age) e = cc
 is_config (command.Tags f p) e = cc
@@ -210,6 +220,8 @@ Follows End words = (a : ℕ) × Starts words (Number a ∷ []) []
 Follows Sync words = (a : ℕ) × Starts words (Number a ∷ []) []
 Follows Step words = (a : ℕ) × Starts words (Number a ∷ []) []
 Follows Drop words = (a : ℕ) × Starts words (Number a ∷ []) []
+Follows Fsync words = (a : ℕ) × Starts words (Number a ∷ []) []
+Follows Poll words = (a : ℕ) × Starts words (Number a ∷ []) []
 Follows Evict words = words ≡ []
 Follows Age words = words ≡ []
 Follows Fill words = (a : ℕ) × (b : ℕ) × Starts words (Number a ∷ Number b ∷ []) []
@@ -234,6 +246,8 @@ asks k words (command.Step (step.End t)) asked = let s = named_parts k words [] 
 asks k words (command.Step (step.SyncBegin h)) asked = let s = named_parts k words [] (command.Step (step.SyncBegin h)) asked.0 in subst (λ j. Follows j words) s.0 (h.0, record { begins = s.1 })
 asks k words (command.Step (step.SyncStep n)) asked = let s = named_parts k words [] (command.Step (step.SyncStep n)) asked.0 in subst (λ j. Follows j words) s.0 (n.0, record { begins = s.1 })
 asks k words (command.Step (step.SyncDrop n)) asked = let s = named_parts k words [] (command.Step (step.SyncDrop n)) asked.0 in subst (λ j. Follows j words) s.0 (n.0, record { begins = s.1 })
+asks k words (command.Fsync h) asked = let s = named_parts k words [] (command.Fsync h) asked.0 in subst (λ j. Follows j words) s.0 (h.0, record { begins = s.1 })
+asks k words (command.Poll h) asked = let s = named_parts k words [] (command.Poll h) asked.0 in subst (λ j. Follows j words) s.0 (h.0, record { begins = s.1 })
 asks k words (command.Step step.Evict) asked = let s = named_parts k words [] (command.Step step.Evict) asked.0 in subst (λ j. Follows j words) s.0 s.1
 asks k words (command.Step step.Age) asked = let s = named_parts k words [] (command.Step step.Age) asked.0 in subst (λ j. Follows j words) s.0 s.1
 asks k words (command.Tags f p) asked = let s = named_parts k words [] (command.Tags f p) asked.0 in subst (λ j. Follows j words) s.0 (f.0, p.0, record { begins = s.1 })
@@ -257,6 +271,8 @@ unnamed word words (command.Step (step.End t)) none h = none End (sym h.0.3 ∙ 
 unnamed word words (command.Step (step.SyncBegin a)) none h = none Sync (sym h.0.3 ∙ sym (head_eq _ _ _ _ h.0.2))
 unnamed word words (command.Step (step.SyncStep a)) none h = none Step (sym h.0.3 ∙ sym (head_eq _ _ _ _ h.0.2))
 unnamed word words (command.Step (step.SyncDrop a)) none h = none Drop (sym h.0.3 ∙ sym (head_eq _ _ _ _ h.0.2))
+unnamed word words (command.Fsync a) none h = none Fsync (sym h.0.3 ∙ sym (head_eq _ _ _ _ h.0.2))
+unnamed word words (command.Poll a) none h = none Poll (sym h.0.3 ∙ sym (head_eq _ _ _ _ h.0.2))
 unnamed word words (command.Step step.Evict) none h = none Evict (sym h.0.3 ∙ sym (head_eq _ _ _ _ h.0.2))
 unnamed word words (command.Step step.Age) none h = none Age (sym h.0.3 ∙ sym (head_eq _ _ _ _ h.0.2))
 unnamed word words (command.Tags f p) none h = none Tags (sym h.0.3 ∙ sym (head_eq _ _ _ _ h.0.2))

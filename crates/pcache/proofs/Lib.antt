@@ -3,3 +3,7 @@ pub mod LineLemmas
 pub mod RunLemmas
 pub mod WordLemmas
 pub mod CommandGiven
+pub mod PassTable
+pub mod HandleLaws
+pub mod SessionLemmas
+pub mod SyncLaws

@@ -6,13 +6,13 @@ use Rattle.std.specs.Io.KnownBytes.{Keeps, Appends}
 use Rattle.std.proofs.lemmas.Bool.{ltb-true, ltb-false}
 use Rattle.std.proofs.lemmas.List.{append-nil, append_assoc, drop_all, length-append, take_all}
 use Rattle.std.proofs.lemmas.List.Splits.{slice_split_first, length-slice_split}
-use Rattle.world.specs.Stepping.{Held}
 use Rattle.pcache.specs.declared.lines.Fetched.TheVariants.{Line}
 use Rattle.pcache.specs.declared.lines.TheConstants.{MAX_LINE}
 use Rattle.pcache.specs.declared.stop.Stop.{Stop}
 use Rattle.pcache.specs.declared.stop.Stop.TheVariants.{Malformed, Input, Output, Memory}
 use Rattle.pcache.specs.Lines.{is_newline, lines_of, without_empty_end, Fetches}
 use Rattle.pcache.specs.Runs.{Answered, AnsweredFirst, Ends, EndsWith, LineAnswers, LineGives}
+use Rattle.pcache.specs.Sessions.{SessionSeen}
 use Rattle.pcache.specs.Stops.{IsFault, status_of}
 use Rattle.pcache.proofs.WordLemmas.{whole}
 
@@ -76,7 +76,7 @@ appends_kept (Some x) (Some y) (Some z) s h k = k ∙ h
 
 -- ---- the first lines, and one more
 
-answered_more : (old : Option Held) (done : List (List ℕ)) (line printed more : List ℕ) (mid new : Option Held)
+answered_more : (old : Option SessionSeen) (done : List (List ℕ)) (line printed more : List ℕ) (mid new : Option SessionSeen)
     → Answered old done printed mid → length line ≤ MAX_LINE → LineAnswers mid line more new → Answered old (done ++ (line ∷ [])) (printed ++ more) new
 answered_more old [] line printed more mid new h within answers =
     (more, [], new, ap (λ t. t ++ more) h.0 ∙ sym (append-nil more), within, subst (λ w. LineAnswers w line more new) h.1 answers, (refl, refl))
@@ -90,7 +90,7 @@ answered_more old (here ∷ done) line printed more mid new (first, rest, next, 
   answered_more next done line rest more mid new others within answers,
 )
 
-first_more : (lines : List (List ℕ)) (n : ℕ) (line printed : List ℕ) (rest : List (List ℕ)) (w new : Option Held) (a b c : Option (List ℕ))
+first_more : (lines : List (List ℕ)) (n : ℕ) (line printed : List ℕ) (rest : List (List ℕ)) (w new : Option SessionSeen) (a b c : Option (List ℕ))
     → AnsweredFirst lines n (line ∷ rest) w a b → length line ≤ MAX_LINE → LineAnswers w line printed new → Appends b c printed → AnsweredFirst lines (n + 1) rest new a c
 first_more lines n line printed rest w new a b c (done, texts, split, count, answered, appended) within answers more = (
   done ++ (line ∷ []),
@@ -101,19 +101,19 @@ first_more lines n line printed rest w new a b c (done, texts, split, count, ans
   appends_on a b c texts printed appended more,
 )
 
-first_kept : (lines : List (List ℕ)) (n : ℕ) (rest : List (List ℕ)) (w : Option Held) (a b c : Option (List ℕ))
+first_kept : (lines : List (List ℕ)) (n : ℕ) (rest : List (List ℕ)) (w : Option SessionSeen) (a b c : Option (List ℕ))
     → AnsweredFirst lines n rest w a b → Keeps b c → AnsweredFirst lines n rest w a c
 first_kept lines n rest w a b c (done, texts, split, count, answered, appended) kept = (done, texts, split, count, answered, appends_kept a b c texts appended kept)
 
 -- ---- between two lines
 
 -- the first n lines of the script were answered, and the reader has the others left
-pub record Stands (script : List ℕ) (left : Option (List ℕ)) (n : ℕ) (w : Option Held) (before after : Option (List ℕ)) : Type 0 where
+pub record Stands (script : List ℕ) (left : Option (List ℕ)) (n : ℕ) (w : Option SessionSeen) (before after : Option (List ℕ)) : Type 0 where
   pub bytes : List ℕ
   pub has : left ≡ Some bytes
   pub answered : AnsweredFirst (lines_of script) n (lines_of bytes) w before after
 
-pub stands_first : (left : Option (List ℕ)) (n : ℕ) (w : Option Held) (out : Option (List ℕ)) → n ≡ 0 → w ≡ None → IfSome left (λ script. Stands script left n w out out)
+pub stands_first : (left : Option (List ℕ)) (n : ℕ) (w : Option SessionSeen) (out : Option (List ℕ)) → n ≡ 0 → w ≡ None → IfSome left (λ script. Stands script left n w out out)
 stands_first None n w out zero none = tt
 stands_first (Some script) n w out zero none = record { bytes = script; has = refl; answered = ([], [], refl, sym zero, (refl, none), appends_none out) }
 
@@ -122,14 +122,14 @@ keeps_same None = tt
 keeps_same (Some x) = refl
 
 -- a run that stopped between two lines
-fault_ends : {script : List ℕ} {left : Option (List ℕ)} {n : ℕ} {w : Option Held} {a b : Option (List ℕ)} (c : Option (List ℕ)) (stop : Stop)
+fault_ends : {script : List ℕ} {left : Option (List ℕ)} {n : ℕ} {w : Option SessionSeen} {a b : Option (List ℕ)} (c : Option (List ℕ)) (stop : Stop)
     → Stands script left n w a b → Keeps b c → IsFault stop → Ends (lines_of script) (Err stop) a c
 fault_ends c (Malformed line) s kept fault = absurd fault
 fault_ends {n = n} {w = w} {a = a} {b = b} c Input s kept fault = (n, w, lines_of s.bytes, first_kept _ n _ w a b c s.answered kept)
 fault_ends c Output s kept fault = tt
 fault_ends {n = n} {w = w} {a = a} {b = b} c Memory s kept fault = (n, w, lines_of s.bytes, first_kept _ n _ w a b c s.answered kept)
 
-pub stands_fault : {script : List ℕ} {left : Option (List ℕ)} {n : ℕ} {w : Option Held} {a b : Option (List ℕ)} (c : Option (List ℕ)) (stop : Stop) (r : Result (Unit {0}) Stop)
+pub stands_fault : {script : List ℕ} {left : Option (List ℕ)} {n : ℕ} {w : Option SessionSeen} {a b : Option (List ℕ)} (c : Option (List ℕ)) (stop : Stop) (r : Result (Unit {0}) Stop)
     → r ≡ Err stop → Stands script left n w a b → Keeps b c → IsFault stop → Ends (lines_of script) r a c
 stands_fault {script = script} {a = a} c stop r is s kept fault = subst (λ end. Ends (lines_of script) end a c) (sym is) (fault_ends c stop s kept fault)
 
@@ -137,7 +137,7 @@ known : (P : List ℕ → Type 0) (left : Option (List ℕ)) (bytes : List ℕ) 
 known P left bytes e h = let at : IfSome (Some bytes) P = subst (λ l. IfSome l P) e h in at
 
 -- a first line with more bytes than a line may have
-pub stands_too_long : {script : List ℕ} {left : Option (List ℕ)} {k : ℕ} {w : Option Held} {a b : Option (List ℕ)} (c : Option (List ℕ)) (n : ℕ)
+pub stands_too_long : {script : List ℕ} {left : Option (List ℕ)} {k : ℕ} {w : Option SessionSeen} {a b : Option (List ℕ)} (c : Option (List ℕ)) (n : ℕ)
     → Stands script left k w a b → IfSome left (λ bytes. MAX_LINE < length (before_first is_newline bytes)) → Keeps b c → n ≡ k + 1
     → Ends (lines_of script) (Err (Malformed n)) a c
 stands_too_long {script = script} {left = left} {k = k} {w = w} {a = a} {b = b} c n s fetched kept counted =
@@ -149,7 +149,7 @@ stands_too_long {script = script} {left = left} {k = k} {w = w} {a = a} {b = b} 
     (k, w, line, rest, counted, first_kept _ k _ w a b c now kept, inl long)
 
 -- what a line comes to that was fetched: the run goes on, or ends there
-line_ends : (lines : List (List ℕ)) (k : ℕ) (w : Option Held) (a b c : Option (List ℕ)) (n : ℕ) (line : List ℕ) (rest : List (List ℕ)) (stop : Stop) (new : Option Held)
+line_ends : (lines : List (List ℕ)) (k : ℕ) (w : Option SessionSeen) (a b c : Option (List ℕ)) (n : ℕ) (line : List ℕ) (rest : List (List ℕ)) (stop : Stop) (new : Option SessionSeen)
     → AnsweredFirst lines k (line ∷ rest) w a b → n ≡ k + 1 → LineGives w n line (Err stop) new b c → Ends lines (Err stop) a c
 line_ends lines k w a b c n line rest (Malformed m) new s counted gives =
     (k, w, line, rest, gives.0 ∙ counted, first_kept _ k _ w a b c s gives.2, inr gives.1)
@@ -158,7 +158,7 @@ line_ends lines k w a b c n line rest Output new s counted gives = tt
 line_ends lines k w a b c n line rest Memory new s counted gives = (k, w, line ∷ rest, first_kept _ k _ w a b c s gives)
 
 -- the lines that are not answered yet begin with the line that was fetched
-fetched_first : {script : List ℕ} {left : Option (List ℕ)} {k : ℕ} {w : Option Held} {a b : Option (List ℕ)} (c : Option (List ℕ)) (line : List ℕ) (after : Option (List ℕ))
+fetched_first : {script : List ℕ} {left : Option (List ℕ)} {k : ℕ} {w : Option SessionSeen} {a b : Option (List ℕ)} (c : Option (List ℕ)) (line : List ℕ) (after : Option (List ℕ))
     (s : Stands script left k w a b) → IfSome left (λ bytes. Fetches bytes Line line after) → Keeps b c
     → AnsweredFirst (lines_of script) k (line ∷ lines_of (after_first is_newline s.bytes)) w a c
 fetched_first {script = script} {left = left} {k = k} {w = w} {a = a} {b = b} c line after s fetched kept =
@@ -167,14 +167,14 @@ fetched_first {script = script} {left = left} {k = k} {w = w} {a = a} {b = b} c 
     let begins : lines_of s.bytes ≡ line ∷ rest = lines_of-first s.bytes now.0 ∙ ap (λ l. l ∷ rest) (sym now.1) in
     first_kept _ k _ w a b c (subst (λ lines. AnsweredFirst (lines_of script) k lines w a b) begins s.answered) kept
 
-pub stands_stopped : {script : List ℕ} {left : Option (List ℕ)} {k : ℕ} {w : Option Held} {a b : Option (List ℕ)} (c d : Option (List ℕ)) (n : ℕ) (line : List ℕ) (after : Option (List ℕ)) (stop : Stop) (new : Option Held) (r : Result (Unit {0}) Stop)
+pub stands_stopped : {script : List ℕ} {left : Option (List ℕ)} {k : ℕ} {w : Option SessionSeen} {a b : Option (List ℕ)} (c d : Option (List ℕ)) (n : ℕ) (line : List ℕ) (after : Option (List ℕ)) (stop : Stop) (new : Option SessionSeen) (r : Result (Unit {0}) Stop)
     → r ≡ Err stop → Stands script left k w a b → IfSome left (λ bytes. Fetches bytes Line line after) → Keeps b c → n ≡ k + 1 → LineGives w n line (Err stop) new c d
     → Ends (lines_of script) r a d
 stands_stopped {script = script} {k = k} {w = w} {a = a} c d n line after stop new r is s fetched kept counted gives =
     subst (λ end. Ends (lines_of script) end a d) (sym is)
     (line_ends (lines_of script) k w a c d n line _ stop new (fetched_first c line after s fetched kept) counted gives)
 
-pub stands_next : {script : List ℕ} {left : Option (List ℕ)} {k : ℕ} {w : Option Held} {a b : Option (List ℕ)} (c d : Option (List ℕ)) (n : ℕ) (line : List ℕ) (after : Option (List ℕ)) (new : Option Held)
+pub stands_next : {script : List ℕ} {left : Option (List ℕ)} {k : ℕ} {w : Option SessionSeen} {a b : Option (List ℕ)} (c d : Option (List ℕ)) (n : ℕ) (line : List ℕ) (after : Option (List ℕ)) (new : Option SessionSeen)
     → Stands script left k w a b → IfSome left (λ bytes. Fetches bytes Line line after) → Keeps b c → n ≡ k + 1 → length line ≤ MAX_LINE → LineGives w n line (Ok tt) new c d
     → Stands script after n new a d
 stands_next {script = script} {left = left} {k = k} {w = w} {a = a} c d n line after new s fetched kept counted within gives =
@@ -187,7 +187,7 @@ stands_next {script = script} {left = left} {k = k} {w = w} {a = a} c d n line a
     }
 
 -- the script has ended
-pub stands_ended : {script : List ℕ} {left : Option (List ℕ)} {n : ℕ} {w : Option Held} {a b : Option (List ℕ)} (c d : Option (List ℕ)) (r : Result (Unit {0}) Stop)
+pub stands_ended : {script : List ℕ} {left : Option (List ℕ)} {n : ℕ} {w : Option SessionSeen} {a b : Option (List ℕ)} (c d : Option (List ℕ)) (r : Result (Unit {0}) Stop)
     → Stands script left n w a b → IfSome left (λ bytes. bytes ≡ []) → Keeps b c → Keeps c d → IsOkUnless r Output → Ends (lines_of script) r a d
 stands_ended {script = script} {left = left} {n = n} {w = w} {a = a} {b = b} c d (Ok done) s none kept flushed ok =
     let empty : s.bytes ≡ [] = known (λ bytes. bytes ≡ []) left s.bytes s.has none in

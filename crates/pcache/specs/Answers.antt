@@ -1,5 +1,5 @@
 -- What a line of a script prints.
-use Rattle.std.specs.Prelude.{ℕ, Bool, false, if◌then◌else◌, List, [], ◌∷◌, ◌++◌, Option, codes, decimal}
+use Rattle.std.specs.Prelude.{ℕ, Bool, false, if◌then◌else◌, List, [], ◌∷◌, ◌++◌, Option, Some, None, Result, Ok, Err, codes, decimal}
 use Rattle.std.specs.Io.KnownBytes.{Appends, Keeps}
 use Rattle.hex.specs.Hex.{encode_lower}
 use Rattle.pc_types.specs.declared.refusal.Refusal.{Refusal}
@@ -76,3 +76,9 @@ abbrev pub tags_text : PageTags → List ℕ
 tags_text Absent = codes "absent"
 tags_text Filling = codes "filling"
 tags_text (Cached tags) = letters_of (tag_set tags)
+
+-- what a poll tells, or the refusal
+abbrev pub polled_text : Result (Option ℕ) Refusal → List ℕ
+polled_text (Ok (Some code)) = codes "error " ++ decimal code
+polled_text (Ok None) = codes "none"
+polled_text (Err refusal) = refusal_text refusal

@@ -6,7 +6,7 @@ use Rattle.pcache.specs.declared.command.Command.{Command}
 use Rattle.pcache.specs.declared.command.Command.TheVariants as command
 use Rattle.world.specs.declared.step.Step.TheVariants as step
 use Rattle.pcache.specs.declared.keyword.Keyword.{Keyword}
-use Rattle.pcache.specs.declared.keyword.Keyword.TheVariants.{Config, Create, Open, Close, Size, Read, Write, Append, Truncate, Fill, Flush, Do, Fail, End, Sync, Step, Drop, Evict, Age, Tags}
+use Rattle.pcache.specs.declared.keyword.Keyword.TheVariants.{Config, Create, Open, Close, Size, Read, Write, Append, Truncate, Fill, Flush, Do, Fail, End, Sync, Step, Drop, Fsync, Poll, Evict, Age, Tags}
 use Rattle.pcache.specs.declared.command.TheConstants.{MAX_CODE, MAX_READ}
 use Rattle.pcache.specs.Keywords.{name_of}
 use Rattle.pcache.specs.Words.{IsNumber, bytes_of, words_of}
@@ -52,6 +52,8 @@ parts_of (command.Step (step.End serial)) = Name End ∷ Number serial.0 ∷ []
 parts_of (command.Step (step.SyncBegin handle)) = Name Sync ∷ Number handle.0 ∷ []
 parts_of (command.Step (step.SyncStep sync)) = Name Step ∷ Number sync.0 ∷ []
 parts_of (command.Step (step.SyncDrop sync)) = Name Drop ∷ Number sync.0 ∷ []
+parts_of (command.Fsync handle) = Name Fsync ∷ Number handle.0 ∷ []
+parts_of (command.Poll handle) = Name Poll ∷ Number handle.0 ∷ []
 parts_of (command.Step step.Evict) = Name Evict ∷ []
 parts_of (command.Step step.Age) = Name Age ∷ []
 parts_of (command.Tags file page) = Name Tags ∷ Number file.0 ∷ Number page.0 ∷ []

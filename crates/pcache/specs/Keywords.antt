@@ -1,7 +1,7 @@
 -- The names of the commands.
 use Rattle.std.specs.Prelude.{ℕ, List, codes}
 use Rattle.pcache.specs.declared.keyword.Keyword.{Keyword}
-use Rattle.pcache.specs.declared.keyword.Keyword.TheVariants.{Config, Create, Open, Close, Size, Read, Write, Append, Truncate, Fill, Flush, Do, Fail, End, Sync, Step, Drop, Evict, Age, Tags}
+use Rattle.pcache.specs.declared.keyword.Keyword.TheVariants.{Config, Create, Open, Close, Size, Read, Write, Append, Truncate, Fill, Flush, Do, Fail, End, Sync, Step, Drop, Fsync, Poll, Evict, Age, Tags}
 
 abbrev pub name_of : Keyword → List ℕ
 name_of Config = codes "config"
@@ -21,6 +21,8 @@ name_of End = codes "end"
 name_of Sync = codes "sync"
 name_of Step = codes "step"
 name_of Drop = codes "drop"
+name_of Fsync = codes "fsync"
+name_of Poll = codes "poll"
 name_of Evict = codes "evict"
 name_of Age = codes "age"
 name_of Tags = codes "tags"

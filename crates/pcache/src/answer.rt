@@ -3,11 +3,11 @@
 ghost use Rattle.std.specs.Prelude.{◌≡◌, ◌∷◌, [], ◌++◌, OnOk, IfErr, IfSome, IsOkUnless, codes};
 ghost use Rattle.std.specs.Io.KnownBytes.{Appends, Keeps};
 ghost use Rattle.pc_types.specs.TagBits.{tag_set};
-ghost use Rattle.pcache.specs.Answers.{answer_of, letters_of, refusal_text, tags_text, hex_text, IsPrintFault, Prints};
+ghost use Rattle.pcache.specs.Answers.{answer_of, letters_of, polled_text, refusal_text, tags_text, hex_text, IsPrintFault, Prints};
 
 use crate::stop::Stop;
 use cachecore::{PageTags, Reply};
-use pc_types::{Refusal, Tag, Tags};
+use pc_types::{ErrCode, Refusal, Tag, Tags};
 use std::alloc::Global;
 use std::fmt::Display;
 use std::io::Write;
@@ -87,6 +87,23 @@ fn print_bytes<W: Write>(alloc: Global, out: &mut W, bytes: &[u8]) -> Result<(),
     }
     let digits = hex::encode(alloc, bytes)?;
     print_line(out, format_args!("bytes {}", digits.as_str()))
+}
+
+/// Prints what a poll tells.
+pub fn print_polled<W: Write>(
+    out: &mut W,
+    polled: Result<Option<ErrCode>, Refusal>,
+) -> Result<(), Stop>
+    ensures printed { OnOk result (Prints (W.contents out.old) (W.contents out.new) (polled_text polled)) }
+    ensures fault { IsOkUnless result Stop.Output }
+{
+    match polled {
+        Ok(told) => match told {
+            Some(code) => print_line(out, format_args!("error {}", code.code())),
+            None => print_line(out, "none"),
+        },
+        Err(refusal) => print_refusal(out, refusal),
+    }
 }
 
 /// Prints what is known of a page.

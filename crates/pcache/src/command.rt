@@ -25,6 +25,10 @@ pub enum Command {
     Step(Step),
     /// The device call of a request, which fails with this code.
     Fail(Serial, u16, FaultEffect),
+    /// A sync of the handle's file, from its beginning to its end.
+    Fsync(HandleId),
+    /// What the handle is told of failed writes.
+    Poll(HandleId),
     /// What is known of a page.
     Tags(FileId, PageIndex),
 }
@@ -73,6 +77,8 @@ impl Command {
             Keyword::Sync => Command::sync(words),
             Keyword::Step => Command::step(words),
             Keyword::Drop => Command::drop_sync(words),
+            Keyword::Fsync => Command::fsync(words),
+            Keyword::Poll => Command::poll(words),
             Keyword::Evict => Ok(Command::Step(Step::Evict)),
             Keyword::Age => Ok(Command::Step(Step::Age)),
             Keyword::Tags => Command::tags(words),
@@ -225,6 +231,22 @@ impl Command {
         ensures malformed { result ≡ Err Fault.Malformed → (c : TheCommand) → ¬ (Asks (name_of Keyword.Drop ∷ words.old) c) }
     {
         Ok(Command::Step(Step::SyncDrop(SyncId(words.number()?))))
+    }
+
+    /// `fsync H`
+    fn fsync(words: &mut Words) -> Result<Command, Fault>
+        ensures ok { IfOk result (λ c. Begins (name_of Keyword.Fsync ∷ words.old) (parts_of c) words.new × IsWithinLimit c) }
+        ensures malformed { result ≡ Err Fault.Malformed → (c : TheCommand) → ¬ (Asks (name_of Keyword.Fsync ∷ words.old) c) }
+    {
+        Ok(Command::Fsync(HandleId(words.number()?)))
+    }
+
+    /// `poll H`
+    fn poll(words: &mut Words) -> Result<Command, Fault>
+        ensures ok { IfOk result (λ c. Begins (name_of Keyword.Poll ∷ words.old) (parts_of c) words.new × IsWithinLimit c) }
+        ensures malformed { result ≡ Err Fault.Malformed → (c : TheCommand) → ¬ (Asks (name_of Keyword.Poll ∷ words.old) c) }
+    {
+        Ok(Command::Poll(HandleId(words.number()?)))
     }
 
     /// `tags F P`

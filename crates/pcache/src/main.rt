@@ -1,8 +1,9 @@
+#![tactic(auto)]
 //! The program of the page cache: `pcache run` reads a script of cache calls and prints what each answers.
 //!
 //! `run` runs a script: `lines` reads it line by line, `words` and `keyword` take a line apart, `command` says what it
-//! asks for, `answer` prints what came of it, and `stop` says why a run ends before its script does.
-#![tactic(auto)]
+//! asks for, `session` has the cache with the board of its failed writes (`passes`: one a handle), `answer` prints what came
+//! of a command, and `stop` says why a run ends before its script does.
 
 ghost use Rattle.std.specs.Prelude.{◌≡◌};
 ghost use Rattle.pcache.specs.Stops.{IsStatus};
@@ -12,9 +13,11 @@ mod command;
 mod find;
 mod keyword;
 mod lines;
+mod passes;
 #[cfg(test)]
 mod row_tests;
 mod run;
+mod session;
 mod stop;
 #[cfg(test)]
 mod tests;

@@ -368,3 +368,151 @@ fn a_sync_awaits_no_page_that_was_cut_off(rt: HostRuntime) -> Result<(), Fail> {
         ],
     )
 }
+
+/// A sync tells of a write that failed before it, once, and writes the page.
+#[test]
+fn fsync_tells_of_a_failed_write_once(rt: HostRuntime) -> Result<(), Fail> {
+    let alloc = rt.alloc();
+    check_row(
+        &rt,
+        alloc,
+        &[
+            ("write 0 0 aa", "wrote 1"),
+            ("flush 0", "job 0"),
+            ("fail 0 5 old", "failed"),
+            ("end 0", "failed 5"),
+            ("tags 0 0", "D"),
+            ("read 0 0 1", "bytes aa"),
+            ("fsync 0", "refused 14 5"),
+            ("tags 0 0", "-"),
+            ("fsync 0", "ok"),
+        ],
+    )?;
+    check_row(
+        &rt,
+        alloc,
+        &[
+            ("write 0 0 aa", "wrote 1"),
+            ("flush 0", "job 0"),
+            ("fail 0 5 old", "failed"),
+            ("end 0", "failed 5"),
+            ("poll 0", "error 5"),
+            ("poll 0", "none"),
+            ("fsync 0", "ok"),
+        ],
+    )
+}
+
+/// Each handle is told of a failed write. One that was opened later is told where nobody was yet.
+#[test]
+fn each_handle_is_told_of_a_failed_write(rt: HostRuntime) -> Result<(), Fail> {
+    let alloc = rt.alloc();
+    check_row(
+        &rt,
+        alloc,
+        &[
+            ("open 0", "handle 1"),
+            ("write 0 0 aa", "wrote 1"),
+            ("flush 0", "job 0"),
+            ("fail 0 5 old", "failed"),
+            ("end 0", "failed 5"),
+            ("fsync 0", "refused 14 5"),
+            ("fsync 1", "refused 14 5"),
+            ("fsync 0", "ok"),
+            ("open 0", "handle 2"),
+            ("fsync 2", "ok"),
+        ],
+    )?;
+    check_row(
+        &rt,
+        alloc,
+        &[
+            ("open 0", "handle 1"),
+            ("write 0 0 aa", "wrote 1"),
+            ("flush 0", "job 0"),
+            ("fail 0 5 old", "failed"),
+            ("end 0", "failed 5"),
+            ("open 0", "handle 2"),
+            ("fsync 0", "refused 14 5"),
+            ("fsync 1", "refused 14 5"),
+            ("fsync 0", "ok"),
+            ("fsync 2", "refused 14 5"),
+        ],
+    )
+}
+
+/// A sync from its beginning to its end leaves its pages idle, and its file's alone is polled.
+#[test]
+fn fsync_leaves_pages_idle(rt: HostRuntime) -> Result<(), Fail> {
+    let alloc = rt.alloc();
+    let bytes = "01".repeat(alloc, 48)?;
+    let write = format!(in alloc; "write 0 0 {bytes}")?;
+    check_row(
+        &rt,
+        alloc,
+        &[
+            (write.as_str(), "wrote 48"),
+            ("fsync 0", "ok"),
+            ("read 0 0 1", "bytes 01"),
+            ("read 0 0 1", "bytes 01"),
+            ("age", "aged 0"),
+            ("evict", "evicted 0 1"),
+            ("evict", "evicted 0 2"),
+            ("age", "aged 1"),
+            ("evict", "evicted 0 0"),
+            ("evict", "none"),
+            ("fill 0 0", "job 3"),
+            ("fail 3 5 old", "failed"),
+            ("end 3", "failed 5"),
+            ("tags 0 0", "absent"),
+        ],
+    )?;
+    // A fill that fails is no failed write, and a failed write is of its own file.
+    check_row(
+        &rt,
+        alloc,
+        &[
+            (write.as_str(), "wrote 48"),
+            ("fsync 0", "ok"),
+            ("evict", "evicted 0 0"),
+            ("fill 0 0", "job 3"),
+            ("fail 3 5 old", "failed"),
+            ("end 3", "failed 5"),
+            ("poll 0", "none"),
+            ("create", "file 1"),
+            ("open 1", "handle 1"),
+            ("write 1 0 aa", "wrote 1"),
+            ("flush 1", "job 4"),
+            ("fail 4 28 new", "failed"),
+            ("end 4", "failed 28"),
+            ("poll 0", "none"),
+            ("poll 1", "error 28"),
+        ],
+    )
+}
+
+/// A sync waits for no request that is in flight: it is given up, and so the handle can be closed. A handle that is not open is
+/// neither synced nor polled.
+#[test]
+fn fsync_gives_up_where_it_would_wait(rt: HostRuntime) -> Result<(), Fail> {
+    let alloc = rt.alloc();
+    check_row(
+        &rt,
+        alloc,
+        &[
+            ("write 0 0 aa", "wrote 1"),
+            ("flush 0", "job 0"),
+            ("write 0 16 bb", "wrote 1"),
+            ("fsync 0", "wait 0"),
+            ("tags 0 1", "-"),
+            ("do 0", "done"),
+            ("end 0", "written"),
+            ("fsync 0", "ok"),
+            ("close 0", "closed"),
+            ("fsync 0", "refused 4"),
+            ("poll 0", "refused 4"),
+            ("open 0", "handle 0"),
+            ("poll 0", "none"),
+        ],
+    )
+}

@@ -5,21 +5,22 @@ ghost use Rattle.std.specs.Io.KnownBytes.{Appends};
 ghost use Rattle.std.specs.Result.{result_unwrap_or};
 ghost use Rattle.pcache.specs.Answers.{IsPrintFault, Prints};
 ghost use Rattle.pcache.specs.Lines.{is_blank, lines_of};
-ghost use Rattle.pcache.specs.Runs.{CommandGives, Ends, EndsWith, FailsCall, LineGives, MakesStep, TellsTags, config_text, default_sizes, world_of_sizes};
+ghost use Rattle.pcache.specs.Runs.{CommandGives, Ends, EndsWith, FailsCall, LineGives, MakesStep, PollsHandle, SyncsFile, TellsTags, config_text, default_sizes, session_of_sizes};
 ghost use Rattle.pc_types.specs.Limits.{is_err_code};
 ghost use Rattle.pcache.specs.Stops.{IsStatus, message_of};
 
-use crate::answer::{flush, print_line, print_refusal, print_reply, print_tags};
+use crate::answer::{flush, print_line, print_polled, print_refusal, print_reply, print_tags};
 use crate::command::Command;
 use crate::lines::{Fetched, Lines};
+use crate::session::Session;
 use crate::stop::Stop;
 use crate::words::Fault;
-use blockdev::{FaultEffect, ScriptDevice};
+use blockdev::FaultEffect;
 use cachecore::Reply;
-use pc_types::{ErrCode, FileId, Geometry, PageIndex, Refusal, Serial};
+use pc_types::{ErrCode, FileId, Geometry, HandleId, PageIndex, Refusal, Serial};
 use std::alloc::Global;
 use std::io::{BufRead, Write};
-use world::{Step, World};
+use world::Step;
 
 /// Runs a script and prints what each of its lines answers. Gives the status that the program ends with, and says on
 /// `err` why where it is not 0.
@@ -54,29 +55,29 @@ pub fn say<E: Write>(err: &mut E, stop: Stop) -> std::io::Result<()>
     writeln!(err, "pcache: {stop}")
 }
 
-/// Runs the lines of a script, in a world that they begin with their first command.
+/// Runs the lines of a script, in a session that they begin with their first command.
 fn run_lines<R: BufRead + Drop, W: Write>(alloc: Global, reader: R, out: &mut W) -> Result<(), Stop>
     ensures { IfSome (R.remaining reader) (λ script. Ends (lines_of script) result (W.contents out.old) (W.contents out.new)) }
 {
     let mut lines = Lines::new(alloc, reader);
-    let mut world = None;
-    answer_lines(alloc, &mut lines, &mut world, out)
+    let mut session = None;
+    answer_lines(alloc, &mut lines, &mut session, out)
 }
 
 /// Runs the lines, one after the other.
 fn answer_lines<R: BufRead, W: Write>(
     alloc: Global,
     lines: &mut Lines<R>,
-    world: &mut Option<World<ScriptDevice>>,
+    session: &mut Option<Session>,
     out: &mut W,
 ) -> Result<(), Stop>
     requires first_line { lines.old.number ≡ 0 }
-    requires no_world { world.old ≡ None }
+    requires no_session { session.old ≡ None }
     ensures { IfSome (R.remaining lines.old.reader) (λ script. Ends (lines_of script) result (W.contents out.old) (W.contents out.new)) }
 {
     'lines: for _ in 0..u64::MAX {
         match lines.fetch(out)? {
-            Fetched::Line => run_line(alloc, world, lines.number, lines.line.as_slice(), out)?,
+            Fetched::Line => run_line(alloc, session, lines.number, lines.line.as_slice(), out)?,
             Fetched::TooLong => return Err(Stop::Malformed(lines.number)),
             Fetched::End => return flush(out),
         }
@@ -87,18 +88,18 @@ fn answer_lines<R: BufRead, W: Write>(
 /// Runs one line, the one of this number.
 fn run_line<W: Write>(
     alloc: Global,
-    world: &mut Option<World<ScriptDevice>>,
+    session: &mut Option<Session>,
     number: u64,
     line: &[u8],
     out: &mut W,
 ) -> Result<(), Stop>
-    ensures { LineGives world.old number line.now result world.new (W.contents out.old) (W.contents out.new) }
+    ensures { LineGives session.old number line.now result session.new (W.contents out.old) (W.contents out.new) }
 {
     if is_blank(line) {
         return Ok(());
     }
     match Command::parse(alloc, line) {
-        Ok(command) => run_command(alloc, world, number, &command, out),
+        Ok(command) => run_command(alloc, session, number, &command, out),
         Err(Fault::Malformed) => Err(Stop::Malformed(number)),
         Err(Fault::Memory) => Err(Stop::Memory),
     }
@@ -114,90 +115,92 @@ fn is_blank(line: &[u8]) -> bool
 /// Does what a line asks for.
 fn run_command<W: Write>(
     alloc: Global,
-    world: &mut Option<World<ScriptDevice>>,
+    session: &mut Option<Session>,
     number: u64,
     command: &Command,
     out: &mut W,
 ) -> Result<(), Stop>
-    ensures { CommandGives world.old number command.now result world.new (W.contents out.old) (W.contents out.new) }
+    ensures { CommandGives session.old number command.now result session.new (W.contents out.old) (W.contents out.new) }
 {
-    match world {
-        Some(world) => obey(alloc, world, number, command, out),
-        None => begin(alloc, world, number, command, out),
+    match session {
+        Some(session) => obey(alloc, session, number, command, out),
+        None => begin(alloc, session, number, command, out),
     }
 }
 
 /// Does what a command asks for that is not the first.
 fn obey<W: Write>(
     alloc: Global,
-    world: &mut World<ScriptDevice>,
+    session: &mut Session,
     number: u64,
     command: &Command,
     out: &mut W,
 ) -> Result<(), Stop>
-    ensures { CommandGives (Some world.old) number command.now result (Some world.new) (W.contents out.old) (W.contents out.new) }
+    ensures { CommandGives (Some session.old) number command.now result (Some session.new) (W.contents out.old) (W.contents out.new) }
 {
     match command {
         Command::Config(_, _, _, _) => Err(Stop::Malformed(number)),
-        Command::Step(step) => make_step(alloc, world, step, out),
-        Command::Fail(serial, code, effect) => fail_call(world, *serial, *code, *effect, out),
-        Command::Tags(file, page) => tell_tags(world, *file, *page, out),
+        Command::Step(step) => make_step(alloc, session, step, out),
+        Command::Fail(serial, code, effect) => fail_call(session, *serial, *code, *effect, out),
+        Command::Fsync(handle) => sync_file(alloc, session, *handle, out),
+        Command::Poll(handle) => poll_handle(session, *handle, out),
+        Command::Tags(file, page) => tell_tags(session, *file, *page, out),
     }
 }
 
-/// Does what the first command asks for, in a new world.
+/// Does what the first command asks for, in a new session.
 fn begin<W: Write>(
     alloc: Global,
-    world: &mut Option<World<ScriptDevice>>,
+    session: &mut Option<Session>,
     number: u64,
     command: &Command,
     out: &mut W,
 ) -> Result<(), Stop>
-    ensures { CommandGives None number command.now result world.new (W.contents out.old) (W.contents out.new) }
+    ensures { CommandGives None number command.now result session.new (W.contents out.old) (W.contents out.new) }
 {
     if let Command::Config(page, frames, dirty_limit, blocks) = command {
         let sizes = Geometry::new(*page, *frames, *dirty_limit, *blocks);
-        return configure(alloc, world, sizes, out);
+        return configure(alloc, session, sizes, out);
     }
-    let mut first = new_world(alloc, &default_geometry())?;
+    let mut first = Session::new(alloc, &default_geometry())?;
     let done = obey(alloc, &mut first, number, command, out);
-    *world = Some(first);
+    *session = Some(first);
     done
 }
 
-/// Begins a world of these sizes, or where they are refused of the default ones.
+/// Begins a session of these sizes, or where they are refused of the default ones.
 fn configure<W: Write>(
     alloc: Global,
-    world: &mut Option<World<ScriptDevice>>,
+    session: &mut Option<Session>,
     sizes: Result<Geometry, Refusal>,
     out: &mut W,
 ) -> Result<(), Stop>
-    ensures made { OnOk result (world.new ≡ Some (world_of_sizes (result_unwrap_or sizes default_sizes))) }
+    ensures made { OnOk result (session.new ≡ Some (session_of_sizes (result_unwrap_or sizes default_sizes))) }
     ensures printed { OnOk result (Prints (W.contents out.old) (W.contents out.new) (config_text sizes)) }
     ensures fault { IfErr result (IsPrintFault (W.contents out.old) (W.contents out.new)) }
 {
     match sizes {
         Ok(geometry) => {
-            put_world(alloc, world, &geometry)?;
+            put_session(alloc, session, &geometry)?;
             print_line(out, "configured")
         }
         Err(refusal) => {
-            put_world(alloc, world, &default_geometry())?;
+            put_session(alloc, session, &default_geometry())?;
             print_refusal(out, refusal)
         }
     }
 }
 
-/// Puts a new world of these sizes there.
-fn put_world(
+/// Puts a new session of these sizes there.
+fn put_session(
     alloc: Global,
-    world: &mut Option<World<ScriptDevice>>,
+    session: &mut Option<Session>,
     geometry: &Geometry,
 ) -> Result<(), Stop>
-    ensures fresh { OnOk result (world.new ≡ Some (world_of_sizes geometry.now)) }
+    ensures fresh { OnOk result (session.new ≡ Some (session_of_sizes geometry.now)) }
     ensures refused { IsOkUnless result Stop.Memory }
 {
-    *world = Some(new_world(alloc, geometry)?);
+    *session = Some(Session::new(alloc, geometry)?);
     Ok(())
 }
 
@@ -208,31 +211,17 @@ fn default_geometry() -> Geometry
     Geometry::new(16, 48, 16, 64).unwrap()
 }
 
-/// A world over a device of zeros. Only want of memory refuses it.
-fn new_world(alloc: Global, geometry: &Geometry) -> Result<World<ScriptDevice>, Stop>
-    ensures fresh { IfOk result (λ world. world ≡ world_of_sizes geometry.now) }
-    ensures refused { IsOkUnless result Stop.Memory }
-{
-    let Ok(device) = ScriptDevice::new(alloc, geometry.page(), geometry.blocks()) else {
-        return Err(Stop::Memory);
-    };
-    match World::new(alloc, geometry, 0, device) {
-        Ok(world) => Ok(world),
-        Err(_) => Err(Stop::Memory),
-    }
-}
-
 /// Makes one step of the world, and prints its reply.
 fn make_step<W: Write>(
     alloc: Global,
-    world: &mut World<ScriptDevice>,
+    session: &mut Session,
     step: &Step,
     out: &mut W,
 ) -> Result<(), Stop>
-    ensures made { OnOk result ((printed : List ℕ) × MakesStep world.old step.now printed world.new × Appends (W.contents out.old) (W.contents out.new) printed) }
+    ensures made { OnOk result ((printed : List ℕ) × MakesStep session.old step.now printed session.new × Appends (W.contents out.old) (W.contents out.new) printed) }
     ensures fault { IfErr result (IsPrintFault (W.contents out.old) (W.contents out.new)) }
 {
-    let reply = world.step(step);
+    let reply = session.step(step);
     match (step, &reply) {
         (Step::Call(_), Reply::Done) => print_line(out, "done"),
         _ => print_reply(alloc, out, &reply),
@@ -241,17 +230,17 @@ fn make_step<W: Write>(
 
 /// Makes the device call of a request fail, and prints what came of it.
 fn fail_call<W: Write>(
-    world: &mut World<ScriptDevice>,
+    session: &mut Session,
     serial: Serial,
     code: u16,
     effect: FaultEffect,
     out: &mut W,
 ) -> Result<(), Stop>
-    ensures made { OnOk result ((printed : List ℕ) × FailsCall world.old serial.0 (is_err_code code) code effect printed world.new × Appends (W.contents out.old) (W.contents out.new) printed) }
+    ensures made { OnOk result ((printed : List ℕ) × FailsCall session.old serial.0 (is_err_code code) code effect printed session.new × Appends (W.contents out.old) (W.contents out.new) printed) }
     ensures fault { IsOkUnless result Stop.Output }
 {
     let failed = match ErrCode::new(code) {
-        Ok(code) => world.fail(serial, code, effect),
+        Ok(code) => session.fail(serial, code, effect),
         Err(refusal) => Err(refusal),
     };
     match failed {
@@ -260,17 +249,39 @@ fn fail_call<W: Write>(
     }
 }
 
+/// Syncs the handle's file from the beginning to the end, and prints what comes of it.
+fn sync_file<W: Write>(
+    alloc: Global,
+    session: &mut Session,
+    handle: HandleId,
+    out: &mut W,
+) -> Result<(), Stop>
+    ensures synced { OnOk result ((printed : List ℕ) × SyncsFile session.old handle printed session.new × Appends (W.contents out.old) (W.contents out.new) printed) }
+    ensures fault { IfErr result (IsPrintFault (W.contents out.old) (W.contents out.new)) }
+{
+    let reply = session.fsync(handle);
+    print_reply(alloc, out, &reply)
+}
+
+/// Polls a handle, and prints what it is told.
+fn poll_handle<W: Write>(session: &mut Session, handle: HandleId, out: &mut W) -> Result<(), Stop>
+    ensures polled { OnOk result ((printed : List ℕ) × PollsHandle session.old handle.0 printed session.new × Appends (W.contents out.old) (W.contents out.new) printed) }
+    ensures fault { IsOkUnless result Stop.Output }
+{
+    print_polled(out, session.poll(handle))
+}
+
 /// Prints what is known of a page.
 fn tell_tags<W: Write>(
-    world: &World<ScriptDevice>,
+    session: &Session,
     file: FileId,
     page: PageIndex,
     out: &mut W,
 ) -> Result<(), Stop>
-    ensures told { OnOk result ((printed : List ℕ) × TellsTags world.now file.0 page.0 printed × Appends (W.contents out.old) (W.contents out.new) printed) }
+    ensures told { OnOk result ((printed : List ℕ) × TellsTags session.now file.0 page.0 printed × Appends (W.contents out.old) (W.contents out.new) printed) }
     ensures fault { IsOkUnless result Stop.Output }
 {
-    match world.tags(file, page) {
+    match session.tags(file, page) {
         Ok(tags) => print_tags(out, tags)?,
         Err(refusal) => print_refusal(out, refusal)?,
     }

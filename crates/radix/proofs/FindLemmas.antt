@@ -1,5 +1,5 @@
 -- Lemmas on the entry at an index: no two levels have one.
-use Rattle.std.proofs.Common.{◌≡◌, ◌≢◌, ℕ, ◌+◌, ◌-◌, ◌*◌, ◌/◌, ◌%◌, ◌^◌, ◌<◌, ◌≤◌, ◌⊎◌, Option, Some, None, refl, sym, ap, ◌∙◌, inl, inr, arith}
+use Rattle.std.proofs.Common.{◌≡◌, ◌≢◌, ℕ, ◌+◌, ◌-◌, ◌/◌, ◌%◌, ◌^◌, ◌<◌, ◌≤◌, ◌⊎◌, Option, Some, None, refl, sym, ap, ◌∙◌, inl, inr, arith}
 use Rattle.std.proofs.lemmas.Bool.{cases_eq, cases_lt}
 use Rattle.std.proofs.lemmas.Option.{none-some}
 use Rattle.slab.specs.Slab.{Slab, get}
@@ -7,16 +7,12 @@ use Rattle.radix.specs.declared.node.Node.{Node}
 use Rattle.radix.specs.declared.slot.Slot.{Slot}
 use Rattle.radix.specs.declared.slot.Slot.TheVariants.{Empty, Leaf, Child, Sibling}
 use Rattle.radix.specs.declared.entry.Entry.{Entry}
-use Rattle.radix.specs.Entries.{slot, node_at, by_node, content, entry_at, IsFound, HasNoEntry, StandsAt}
+use Rattle.radix.specs.Entries.{slot, node_at, by_node, content, entry_at, IsFound, HasNoEntry, IsWalked, StandsAt}
 use Rattle.radix.specs.Tree.{IsPlain, IsTree, HasCome, level_of}
-use Rattle.radix.proofs.Places.{place-up, place-levels, pow64}
+use Rattle.radix.proofs.Places.{place-up, place-levels}
 use Rattle.radix.proofs.TreeLemmas.{Found, node_at-found, node_at-none, same_node, level_below, no_node, under_head}
 use Rattle.radix.proofs.SeeLemmas.{see-is}
 use Rattle.radix.proofs.WalkLemmas.{on_path, step}
-
--- a shift of six bits a level
-pub by_shift : (index level shift o : ℕ) → shift ≡ 6 * level → o ≡ index / 2 ^ shift % 64 → o ≡ index / 64 ^ level % 64
-by_shift index level shift o counted is = is ∙ ap (λ z. index / 2 ^ z % 64) counted ∙ ap (λ n. index / n % 64) (pow64 level)
 
 module _ (s : Slab Node) (head : ℕ) (tree : IsTree s head) (index : ℕ) where
   module _ (key : ℕ) (n : Node) (here : get s key ≡ Some n) (path : n.prefix ≡ index / 64 ^ n.level / 64) where
@@ -50,6 +46,9 @@ module _ (s : Slab Node) (head : ℕ) (tree : IsTree s head) (index : ℕ) where
         let f = node_at-found s.slots other (index / 64 ^ other / 64) m e in
         around other f.key m high f.there f.at_level f.at_prefix (slot m (index / 64 ^ other % 64)) refl
 
+    pub above_none : (other : ℕ) → n.level < other → entry_at s other (index / 64 ^ other) ≡ None
+    above_none other high = above_empty other high (node_at s.slots other (index / 64 ^ other / 64)) refl
+
     under_empty : (other : ℕ) → other < n.level → IsPlain (slot n (index / 64 ^ n.level % 64)) → entry_at s other (index / 64 ^ other) ≡ None
     under_empty other small plain =
         let d = n.level - other - 1 in
@@ -63,7 +62,7 @@ module _ (s : Slab Node) (head : ℕ) (tree : IsTree s head) (index : ℕ) where
     pub elsewhere_empty : IsPlain (slot n (index / 64 ^ n.level % 64)) → (other : ℕ) → other ≢ n.level → entry_at s other (index / 64 ^ other) ≡ None
     elsewhere_empty plain other differs = elim (cases_lt other n.level) [
       | inl small ↦ under_empty other small plain
-      | inr large ↦ above_empty other (omega (arith, large, differs)) (node_at s.slots other (index / 64 ^ other / 64)) refl
+      | inr large ↦ above_none other (omega (arith, large, differs))
     ]
 
     pub found_none : slot n (index / 64 ^ n.level % 64) ≡ Empty → HasNoEntry s index
@@ -134,7 +133,7 @@ module _ (s : Slab Node) (head : ℕ) (tree : IsTree s head) (index : ℕ) where
       pub find_step : (c : ℕ) → slot n o ≡ Child c → HasCome s c 0 index
       find_step c is = step s head tree 0 index key n here come c (λ flat. let h = counted_inner c is in omega (arith, h, level_is, flat)) (ap (slot n) (sym offset) ∙ is)
 
-      pub find_none : content (slot n o) ≡ None → ((c : ℕ) → slot n o ≡ Child c → ⊥) → HasNoEntry s index
+      find_none : content (slot n o) ≡ None → ((c : ℕ) → slot n o ≡ Child c → ⊥) → HasNoEntry s index
       find_none none never = by_slot (slot n o) refl
         where
           by_slot : (y : Slot) → slot n o ≡ y → HasNoEntry s index
@@ -143,5 +142,9 @@ module _ (s : Slab Node) (head : ℕ) (tree : IsTree s head) (index : ℕ) where
           by_slot (Child c) e = absurd (never c e)
           by_slot (Sibling first) e = absurd (none-some _ (sym none ∙ ap content e))
 
-      pub find_some : (x : Entry) → content (slot n o) ≡ Some x → IsFound s index level x
+      find_some : (x : Entry) → content (slot n o) ≡ Some x → IsFound s index level x
       find_some x is = rw (sym level_is) (found_some key n here path x (ap (λ i. content (slot n i)) (sym offset) ∙ is))
+
+      pub find_walked : ((c : ℕ) → slot n o ≡ Child c → ⊥) → (x : Option Entry) → content (slot n o) ≡ x → IsWalked s index level x
+      find_walked never None is = find_none is never
+      find_walked never (Some x) is = find_some x is

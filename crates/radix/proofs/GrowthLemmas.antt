@@ -60,7 +60,7 @@ pub record Gains (old new : Node) : Type 0 where
   pub marks : new.marks ≡ old.marks
   pub keeps : (offset child : ℕ) → slot old offset ≡ Child child → slot new offset ≡ Child child
 
-relink : (key : ℕ) (above above' : Node) (offset : ℕ) (below below' : Node) → Gains above above' → Gains below below' → IsLink key above offset below → IsLink key above' offset below'
+pub relink : (key : ℕ) (above above' : Node) (offset : ℕ) (below below' : Node) → Gains above above' → Gains below below' → IsLink key above offset below → IsLink key above' offset below'
 relink key above above' offset below below' up down link = record {
   parent = down.parent ∙ link.parent;
   level = omega (arith, up.level, down.level, link.level);

@@ -22,3 +22,8 @@ pub mod MarkedLemmas
 pub mod RoomLemmas
 pub mod EntryBitLemmas
 pub mod UnderLemmas
+pub mod FirstsLemmas
+pub mod CutLemmas
+pub mod ExpandLemmas
+pub mod TrailLemmas
+pub mod WrittenLemmas

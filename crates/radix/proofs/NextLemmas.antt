@@ -275,9 +275,6 @@ module _ (s : Slab Node) (head : ℕ) (sound : IsSound s head None) (mark : ℕ)
           lowest = λ other index le is. omega (arith, is_place, place-mono from index n.level le);
         }
 
-    pub path_stands : (place : ℕ) → place ≡ from / 64 ^ n.level → StandsAt s key n.level (place / 64)
-    path_stands place is_place = record { node = n; there = there; level_is = refl; prefix_is = omega (arith, path, is_place) }
-
     pub path_child : (b : Option (ℕ × ℕ)) → b ≡ better_of best key found → (c : ℕ) → slot n o ≡ Child c → HasLeft s mark from c b
     path_child b is_best c names =
         let h = sound.tree.children key n o c there names in
@@ -293,13 +290,6 @@ module _ (s : Slab Node) (head : ℕ) (sound : IsSound s head None) (mark : ℕ)
             | inr covered ↦ inr (rw is_best covered)
           ];
         }
-
-    pub path_lower : (c : ℕ) → slot n o ≡ Child c → level_of (get s c) < level_of (get s key)
-    path_lower c names =
-        let h = sound.tree.children key n o c there names in
-        let e : level_of (get s c) ≡ h.below.level = ap level_of h.there in
-        let f : level_of (get s key) ≡ n.level = ap level_of there in
-        omega (arith, h.link.level, e, f)
 
     -- where it has not
     module _ (b : Option (ℕ × ℕ)) (is_best : b ≡ better_of best key found) (unset : bit_at (bits n mark) o ≡ 1 → ⊥) where

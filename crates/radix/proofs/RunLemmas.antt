@@ -1,5 +1,5 @@
 -- Lemmas on an entry of several slots.
-use Rattle.std.proofs.Common.{◌≡◌, ℕ, ◌+◌, ◌/◌, ◌%◌, ◌^◌, ◌<◌, ◌*◌, Option, Some, None, refl, sym, ap, ◌∙◌, inl, inr, arith}
+use Rattle.std.proofs.Common.{◌≡◌, ◌≢◌, ℕ, Bool, true, false, MatchBool, eqb, eqb-true, ◌+◌, ◌/◌, ◌%◌, ◌^◌, ◌<◌, ◌*◌, Option, Some, None, refl, sym, ap, ◌∙◌, inl, inr, arith}
 use Rattle.std.proofs.lemmas.Bool.{cases_eq}
 use Rattle.slab.specs.Slab.{Slab, get}
 use Rattle.std.proofs.lemmas.Option.{same_Some, none-some}
@@ -8,9 +8,10 @@ use Rattle.radix.specs.declared.node.Node.{Node}
 use Rattle.std.specs.Int.{bit_at}
 use Rattle.radix.specs.declared.slot.Slot.{Slot}
 use Rattle.radix.specs.declared.slot.Slot.TheVariants.{Empty, Leaf, Child, Sibling}
+use Rattle.radix.specs.declared.entry.Entry.{Entry}
 use Rattle.radix.specs.declared.entry.Entry.TheVariants as entry
 use Rattle.radix.specs.Entries.{HasNoMark, node_at, bits, bit_of, IsRun, PutsRun, StandsAt, slot, content, IsFree, entry_at, mark_at}
-use Rattle.radix.specs.Tree.{SameSlots, IsTree, WritesSlot, WritesRun}
+use Rattle.radix.specs.Tree.{IsSound, SameSlots, IsTree, WritesSlot, WritesRun}
 
 whole : (at d p : ℕ) → d ≡ 0 → at / 64 ^ d ≡ p → at ≡ p
 whole at d p none is = omega (arith, rw none at is)
@@ -49,6 +50,9 @@ free_after old v new level place same entries free = record {
   each = λ d below at sum under. entries.entries below at ∙ ap (λ s. entry_at s below at) same ∙ free.each d below at sum under;
 }
 
+leaf_not : (v f : ℕ) → ◌≡◌ {A = Option Entry} (Some (entry.Leaf v)) (Some (entry.Sibling f)) → ⊥
+leaf_not v f e = cc
+
 pub beside_is : (s : Slab Node) (head : ℕ) (tree : IsTree s head) (level place key offset : ℕ) (n : Node) → StandsAt s key level (place / 64) → get s key ≡ Some n → offset < 64 → content (slot n offset) ≡ entry_at s level (place / 64 * 64 + offset)
 beside_is s head tree level place key offset n stands there within =
     let same : stands.node ≡ n = same_Some stands.node n (sym stands.there ∙ there) in
@@ -56,6 +60,32 @@ beside_is s head tree level place key offset n stands there within =
     let p : n.prefix ≡ place / 64 = sym (ap (λ (z : Node). z.prefix) same) ∙ stands.prefix_is in
     let at : (place / 64 * 64 + offset) % 64 ≡ offset = omega (arith, within) in
     sym (see-is (λ z i. content (slot z i)) None s head tree level (place / 64 * 64 + offset) key n there l (omega (arith, p, within)) ∙ ap (λ o. content (slot n o)) at)
+
+pub sibling_of : (x : Slot) (first : ℕ) → content x ≡ Some (entry.Sibling first) → x ≡ Sibling first
+sibling_of Empty first e = absurd (none-some _ e)
+sibling_of (Leaf value) first e = absurd (leaf_not value first e)
+sibling_of (Child c) first e = absurd (none-some _ e)
+sibling_of (Sibling other) first e = cc
+
+pub follows_is : (s : Slab Node) (head : ℕ) (tree : IsTree s head) (level place key offset first : ℕ) (n : Node) → StandsAt s key level (place / 64) → get s key ≡ Some n → offset < 64 → (r : Bool) → MatchBool r (slot n offset ≡ Sibling first) (slot n offset ≢ Sibling first) → MatchBool r (entry_at s level (place / 64 * 64 + offset) ≡ Some (entry.Sibling first)) (entry_at s level (place / 64 * 64 + offset) ≢ Some (entry.Sibling first))
+follows_is s head tree level place key offset first n stands there within true h = sym (beside_is s head tree level place key offset n stands there within) ∙ ap content h
+follows_is s head tree level place key offset first n stands there within false h = λ e. h (sibling_of (slot n offset) first (beside_is s head tree level place key offset n stands there within ∙ e))
+
+-- where the bit of an entry or of a node below is set, no further slot of an entry is
+pub not_further : (s : Slab Node) (head : ℕ) (sound : IsSound s head None) (level place key offset : ℕ) (n : Node) → StandsAt s key level (place / 64) → get s key ≡ Some n → offset < 64 → (r : Bool) → r ≡ eqb (bit_at (bits n 3) offset) 1 → r ≡ true → (first : ℕ) → entry_at s level (place / 64 * 64 + offset) ≢ Some (entry.Sibling first)
+not_further s head sound level place key offset n stands there within r is set first has = by_slot (slot n offset) refl
+  where
+    one : bit_at (bits n 3) offset ≡ 1
+    one = eqb-true (bit_at (bits n 3) offset) 1 (sym is ∙ set)
+
+    content_is : content (slot n offset) ≡ Some (entry.Sibling first)
+    content_is = beside_is s head sound.tree level place key offset n stands there within ∙ has
+
+    by_slot : (x : Slot) → slot n offset ≡ x → ⊥
+    by_slot Empty e = none-some _ (sym (ap content e) ∙ content_is)
+    by_slot (Leaf value) e = leaf_not value first (sym (ap content e) ∙ content_is)
+    by_slot (Child c) e = none-some _ (sym (ap content e) ∙ content_is)
+    by_slot (Sibling f) e = let zero_bit = ((sound.exact 3 (omega arith)).each key n there).sibling offset f within e in omega (arith, zero_bit, one)
 
 -- the slot of a place in the node that has it
 pub slot_in_is : (s : Slab Node) (head : ℕ) (tree : IsTree s head) (level place key : ℕ) (n : Node) → StandsAt s key level (place / 64) → get s key ≡ Some n → content (slot n (place % 64)) ≡ entry_at s level place

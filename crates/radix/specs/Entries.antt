@@ -3,7 +3,7 @@
 -- Slot `place` of `level` has the indexes from place * 64 ^ level on, 64 ^ level of them, so an index has slot
 -- index / 64 ^ level of each level. An entry of several slots is a leaf and, beside it in its node, siblings. The
 -- layout is that of Linux's XArray (Documentation/core-api/xarray.rst, "Multi-Index Entries"; lib/xarray.c).
-use Rattle.std.specs.Prelude.{◌≡◌, ◌≢◌, ℕ, ◌+◌, ◌-◌, ◌/◌, ◌%◌, ◌^◌, ◌<◌, ◌≤◌, ◌==◌, ◌&&◌, Bool, List, [], ◌∷◌, Option, Some, None, slice_index_or, cond}
+use Rattle.std.specs.Prelude.{◌≡◌, ◌≢◌, ◌⊎◌, ℕ, ◌+◌, ◌-◌, ◌*◌, ◌/◌, ◌%◌, ◌^◌, ◌<◌, ◌≤◌, ◌==◌, ◌&&◌, Bool, List, [], ◌∷◌, Option, Some, None, slice_index_or, cond}
 use Rattle.std.specs.Int.{bit_at}
 use Rattle.slab.specs.Slab.{Slab, get, slab_len, HasRoomFor}
 use Rattle.radix.specs.declared.node.Node.{Node}
@@ -156,6 +156,11 @@ pub record IsFound (s : Slab Node) (index level : ℕ) (x : Entry) : Type 0 wher
 pub record HasNoEntry (s : Slab Node) (index : ℕ) : Type 0 where
   pub each : (level : ℕ) → entry_at s level (index / 64 ^ level) ≡ None
 
+-- what a walk to an index came to: the entry at this level, or none at any
+abbrev pub IsWalked : Slab Node → ℕ → ℕ → Option Entry → Type 0
+IsWalked s index level None = HasNoEntry s index
+IsWalked s index level (Some x) = IsFound s index level x
+
 -- this entry has the mark, and no entry with it at `from` or a later index comes before
 pub record IsNext (s : Slab Node) (mark from level place : ℕ) : Type 0 where
   pub marked : mark_at mark s level place ≡ 1
@@ -165,6 +170,22 @@ pub record IsNext (s : Slab Node) (mark from level place : ℕ) : Type 0 where
 -- no entry at `from` or a later index has the mark
 pub record HasNoNext (s : Slab Node) (mark from : ℕ) : Type 0 where
   pub each : (level index : ℕ) → from ≤ index → mark_at mark s level (index / 64 ^ level) ≢ 1
+
+-- this entry with the mark has an index at a further slot
+pub record IsHeld (s : Slab Node) (mark index level place : ℕ) : Type 0 where
+  pub named : ℕ
+  pub small : named < 64
+  pub found : IsFound s index level (entry.Sibling named)
+  pub place_is : place ≡ index / 64 ^ level / 64 * 64 + named
+  pub marked : mark_at mark s level place ≡ 1
+
+-- no entry with the mark has an index at a further slot
+pub record HasNoHeld (s : Slab Node) (mark index : ℕ) : Type 0 where
+  pub each : (level named : ℕ) → named < 64 → entry_at s level (index / 64 ^ level) ≡ Some (entry.Sibling named) → mark_at mark s level (index / 64 ^ level / 64 * 64 + named) ≢ 1
+
+-- this entry with the mark has an index at a further slot, or none has and this one is next
+abbrev pub IsNextHeld : Slab Node → ℕ → ℕ → ℕ → ℕ → Type 0
+IsNextHeld s mark index level place = IsHeld s mark index level place ⊎ (IsNext s mark index level place × HasNoHeld s mark index)
 
 -- the first slot of an entry is here, and no other one at `from` or a later index comes before
 pub record IsNextEntry (s : Slab Node) (from level place : ℕ) : Type 0 where

@@ -3,3 +3,4 @@ pub mod Words
 pub mod WordLaw
 pub mod Entries
 pub mod Tree
+pub mod Parts

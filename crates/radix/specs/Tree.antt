@@ -2,7 +2,7 @@
 --
 -- Each node carries its own place: its level, and its prefix, which is its index among the nodes of that level.
 -- So each fact below speaks of one node, or of one node and its child, and no fact is a recursion.
-use Rattle.std.specs.Prelude.{◌≡◌, ◌≢◌, ℕ, ◌+◌, ◌*◌, ◌/◌, ◌%◌, ◌^◌, ◌<◌, ◌≤◌, min, Bool, true, false, [], ◌∷◌, length, Option, Some, None, slice_set, count_by, ◌⊎◌}
+use Rattle.std.specs.Prelude.{◌≡◌, ◌≢◌, ℕ, suc, zero, ◌+◌, ◌*◌, ◌/◌, ◌%◌, ◌^◌, ◌<◌, ◌≤◌, min, Bool, true, false, List, [], ◌∷◌, length, Option, Some, None, slice_set, count_by, ◌⊎◌, MatchOption}
 use Rattle.std.proofs.Math.ListN.{replicate}
 use Rattle.std.specs.Int.{bit_at}
 use Rattle.slab.specs.Slab.{Slab, get}
@@ -11,7 +11,7 @@ use Rattle.radix.specs.declared.slot.Slot.{Slot}
 use Rattle.radix.specs.declared.slot.Slot.TheVariants.{Empty, Leaf, Child, Sibling}
 use Rattle.radix.specs.declared.entry.Entry.{Entry}
 use Rattle.radix.specs.declared.entry.Entry.TheVariants as entry
-use Rattle.radix.specs.Entries.{slot, bits, node_at, entry_at, mark_at, IsElsewhere, IsVoid}
+use Rattle.radix.specs.Entries.{slot, bits, node_at, entry_at, mark_at, HasNoNext, IsElsewhere, IsNext, IsVoid}
 
 -- ---- one node
 
@@ -172,6 +172,20 @@ blank level prefix parent = record { level = level; prefix = prefix; parent = pa
 abbrev pub with_slot : Node → ℕ → Slot → ℕ → Node
 with_slot n offset x count = record n { slots = slice_set n.slots offset x; count = count }
 
+-- the slot of an entry so many after its first
+abbrev pub run_slot : ℕ → ℕ → ℕ → Slot
+run_slot first value zero = Leaf value
+run_slot first value (suc j) = Sibling first
+
+-- slots with so many of an entry's
+abbrev pub run_slots : List Slot → ℕ → ℕ → ℕ → List Slot
+run_slots slots first value zero = slots
+run_slots slots first value (suc j) = slice_set (run_slots slots first value j) (first + j) (run_slot first value j)
+
+-- the node with so many slots of an entry
+abbrev pub with_run : Node → ℕ → ℕ → ℕ → Node
+with_run n first value span = record n { slots = run_slots n.slots first value span; count = n.count + span }
+
 -- the slot may stand over this bit: an entry's first slot alone has one
 abbrev pub IsQuiet : Slot → ℕ → Type 0
 IsQuiet Empty bit = bit ≡ 0
@@ -272,6 +286,16 @@ pub record HasLeft (s : Slab Node) (mark from key : ℕ) (best : Option (ℕ × 
 abbrev pub better_of : Option (ℕ × ℕ) → ℕ → Option ℕ → Option (ℕ × ℕ)
 better_of best key None = best
 better_of best key (Some offset) = Some (key, offset)
+
+-- a search has left the path of `from` at this node: there is the next entry with the mark, or after the path
+pub record IsTrail (s : Slab Node) (mark from key level : ℕ) (is_set : Bool) (best : Option (ℕ × ℕ)) : Type 0 where
+  pub node : Node
+  pub there : get s key ≡ Some node
+  pub level_is : node.level ≡ level
+  pub on_path : node.prefix ≡ from / 64 ^ level / 64
+  pub here : is_set ≡ true → IsNext s mark from level (from / 64 ^ level)
+  pub unset : is_set ≡ false → bit_at (bits node mark) (from / 64 ^ level % 64) ≢ 1
+  pub rest : is_set ≡ false → MatchOption best (HasNoNext s mark from) (λ p. IsAhead s mark from p.0 p.1)
 
 -- a tree under this head, or no node where there is no head
 abbrev pub IsSoundOrVoid : Slab Node → Option ℕ → Type 0

@@ -53,10 +53,10 @@ pub struct Position {
     pub place: u64,
 }
 
-/// The entry at an index, and where it was found.
+/// Where a walk to an index ended: the lowest node that has a slot of it, and the entry there, if one stands there.
 #[derive(Clone, Copy)]
-pub struct Found {
+pub struct Walk {
     pub cursor: Cursor,
     pub level: u32,
-    pub entry: Entry,
+    pub entry: Option<Entry>,
 }

@@ -4,7 +4,7 @@ ghost use Rattle.slab.specs.Slab.{get, ContainsKey, HasRoomFor, slab_len};
 ghost use Rattle.radix.specs.declared.entry.Entry.{Entry};
 ghost use Rattle.radix.specs.Words.{FitsWord};
 ghost use Rattle.radix.specs.Entries.{StandsAt, IsClear, IsFree, IsVoid, HasPathRoom, PutsEntry, PutsRun, content};
-ghost use Rattle.radix.specs.Tree.{IsSound, IsSoundOrVoid, IsEntrySlot, TellsEntries, WritesSlot, WritesRun, SameSlots, HasCome, HasGap, level_of};
+ghost use Rattle.radix.specs.Tree.{IsSound, IsSoundOrVoid, IsEntrySlot, TellsEntries, WritesSlot, WritesRun, SameSlots, HasCome, HasGap, level_of, with_run};
 
 use crate::marks::change_bit;
 use crate::node::{ENTRY, Node};
@@ -125,6 +125,22 @@ pub(crate) fn put(nodes: &mut Slab<Node>, head: usize, level: u32, index: u64, v
     fill(nodes, head, key, level, index, value);
 }
 
+// Writes the slots of an entry into a node. They are counted at once, so that no slot waits for the one before.
+fn write_slots(node: &mut Node, first: usize, span: u64, value: u64)
+    requires some { 0 < span }
+    requires value { value < 2 ^ 63 }
+    requires within { first + span ≤ 64 }
+    requires count { node.old.count ≤ 64 }
+    ensures { node.new ≡ with_run node.old first value span }
+{
+    node.slots[first] = Word::leaf(value);
+    let sibling = Word::sibling(first as u64);
+    'rest: for j in 1..span as usize {
+        node.slots[first + j] = sibling;
+    }
+    node.count += span as u32;
+}
+
 // Writes the slots of an entry of several slots.
 fn write_run(
     nodes: &mut Slab<Node>,
@@ -145,11 +161,7 @@ fn write_run(
     ensures writes { WritesRun nodes.old nodes.new level place span value }
     ensures stands { StandsAt nodes.new key level (place / 64) }
 {
-    write_slot(nodes, head, key, level, place, Slot::Leaf(value));
-    'rest: for j in 1..span {
-        let sibling = Slot::Sibling(place % 64);
-        write_slot(nodes, head, key, level, place + j, sibling);
-    }
+    write_slots(&mut nodes[key], (place % 64) as usize, span, value);
 }
 
 // Puts an entry of several slots of a node.

@@ -5,8 +5,9 @@
 //! and `next_entry` give the lowest; no node is empty; after `reserve_path` the next put there meets no want of memory.
 //!
 //! `nodes` is the tree as its caller sees it, and `entry` what it speaks of. `tree` walks, `growth` makes nodes and
-//! entries, `removal` takes them away, `marks` and `next` keep the bits and search by them. `node`, `slot` and `bitmap`
-//! are the layout. The words of the contracts are in `specs/Entries.antt`; `specs/Tree.antt` is for the proofs alone.
+//! entries, `parts` makes several entries of one, `removal` takes them away, `marks` and `next` keep the bits and search
+//! by them. `node`, `slot` and `bitmap` are the layout. The words of the contracts are in `specs/Entries.antt` and
+//! `specs/Parts.antt`; `specs/Tree.antt` is for the proofs alone.
 
 mod bitmap;
 mod entry;
@@ -15,11 +16,13 @@ mod marks;
 mod next;
 mod node;
 mod nodes;
+mod parts;
 mod removal;
 mod slot;
 #[cfg(test)]
 mod tests;
 mod tree;
 
-pub use entry::{Cursor, Entry, Found, Position};
+pub use entry::{Cursor, Entry, Position, Walk};
 pub use nodes::Nodes;
+pub use tree::{first_at, place_at};

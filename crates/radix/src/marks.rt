@@ -1,11 +1,12 @@
 //! The bits of a mark at each level.
-ghost use Rattle.std.specs.Prelude.{◌≡◌, ◌≢◌, ℕ, ◌+◌, ◌*◌, ◌/◌, ◌%◌, ◌^◌, ◌<◌, ◌≤◌, ◌==◌, Some, None, MatchBool, if◌then◌else◌};
+ghost use Rattle.std.specs.Prelude.{◌≡◌, ◌≢◌, ℕ, ◌+◌, ◌*◌, ◌/◌, ◌%◌, ◌^◌, ◌<◌, ◌≤◌, ◌==◌, true, Some, None, MatchBool, if◌then◌else◌};
 ghost use Rattle.slab.specs.Slab.{get, ContainsKey};
+ghost use Rattle.radix.specs.declared.entry.Entry.{Entry};
 ghost use Rattle.radix.specs.Entries.{StandsAt, IsLeaf, entry_at, mark_at, HasMarkedUnder, HasNoMarkedUnder};
 ghost use Rattle.radix.specs.Tree.{IsTree, IsSound, WritesBit, MarkIsExactBut, Remarks, HasCome};
 
 use crate::bitmap::{has_bit, put_bit};
-use crate::node::Node;
+use crate::node::{ENTRY, Node};
 use crate::slot::Slot;
 use crate::tree::{covers, offset_at, place_at};
 use slab::Slab;
@@ -83,6 +84,23 @@ pub(crate) fn get_bit(
     ensures { result ≡ (mark_at mark nodes.now level (index / 64 ^ level) == 1) }
 {
     has_bit(nodes[key].marks[mark], offset_at(index, level) as u32)
+}
+
+// Whether an entry or a node begins at another slot of a node that has the slot of `index`. It reads the bits alone.
+pub(crate) fn begins(
+    nodes: &Slab<Node>,
+    head: usize,
+    key: usize,
+    level: u32,
+    index: u64,
+    offset: usize,
+) -> bool
+    requires sound { IsSound nodes.now head None }
+    requires stands { StandsAt nodes.now key level (index / 64 ^ level / 64) }
+    requires within { offset < 64 }
+    ensures { result ≡ true → (first : ℕ) → entry_at nodes.now level (index / 64 ^ level / 64 * 64 + offset) ≢ Some (Entry.Sibling first) }
+{
+    has_bit(nodes[key].marks[ENTRY], offset as u32)
 }
 
 // Whether an entry at a slot or below it has a mark.

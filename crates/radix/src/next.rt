@@ -1,8 +1,8 @@
 //! The next entry with a mark.
 ghost use Rattle.std.specs.Prelude.{◌≡◌, ◌≢◌, ℕ, ◌+◌, ◌*◌, ◌/◌, ◌%◌, ◌^◌, ◌<◌, ◌≤◌, Some, None, IfSome, MatchOption};
 ghost use Rattle.slab.specs.Slab.{get};
-ghost use Rattle.radix.specs.Entries.{IsNext, HasNoNext, IsNextLeaf, HasNoneBeside, StandsAt};
-ghost use Rattle.radix.specs.Tree.{IsSound, IsAhead, better_of};
+ghost use Rattle.radix.specs.Entries.{IsNext, HasNoNext, IsNextLeaf, HasNoneBeside, HasNoEntry, HasNoHeld, IsHeld, IsNextHeld, StandsAt};
+ghost use Rattle.radix.specs.Tree.{IsSound, IsAhead, IsTrail, better_of};
 
 use crate::bitmap::{has_bit, lowest, lowest_above, lowest_from};
 use crate::entry::{Cursor, Position};
@@ -52,6 +52,86 @@ fn lowest_under(
     }
 }
 
+// The end of the path of an index, as far as a mark is on it.
+#[derive(Clone, Copy)]
+struct Trail {
+    key: usize,
+    level: u32,
+    // Whether the slot of the index is an entry with the mark. Else the node has no bit there.
+    is_set: bool,
+    // The slot that comes next after the path, of those with the mark.
+    best: Option<(usize, u32)>,
+}
+
+// Goes down the path of an index as long as the mark is on it.
+#[inline(always)]
+fn leave_path(nodes: &Slab<Node>, head: usize, index: u64, mark: usize) -> Option<Trail>
+    requires mark { mark < 4 }
+    requires sound { IsSound nodes.now head None }
+    ensures { MatchOption result (HasNoNext nodes.now mark index × HasNoEntry nodes.now index) (λ r. IsTrail nodes.now mark index r.key r.level r.is_set r.best) }
+{
+    let top = &nodes[head];
+    if place_at(index, top.level) / 64 != 0 {
+        return None;
+    }
+    let mut key = head;
+    // It is counted down, so that no step waits for a node's level.
+    let mut level = top.level;
+    let mut best: Option<(usize, u32)> = None;
+    'down: loop {
+        let node = &nodes[key];
+        let offset = offset_at(index, level) as u32;
+        let bits = node.marks[mark];
+        best = better(best, key, lowest_above(bits, offset));
+        if !has_bit(bits, offset) {
+            return Some(Trail {
+                key,
+                level,
+                is_set: false,
+                best,
+            });
+        }
+        let Some(child) = node.child(offset as usize) else {
+            return Some(Trail {
+                key,
+                level,
+                is_set: true,
+                best,
+            });
+        };
+        key = child;
+        level -= 1;
+    }
+}
+
+// The lowest entry with the mark at the end of a path or after it.
+#[inline(always)]
+fn next_on(
+    nodes: &Slab<Node>,
+    head: usize,
+    index: u64,
+    mark: usize,
+    trail: Trail,
+) -> Option<Position>
+    requires mark { mark < 4 }
+    requires sound { IsSound nodes.now head None }
+    requires trail { IsTrail nodes.now mark index trail.key trail.level trail.is_set trail.best }
+    ensures next { MatchOption result (HasNoNext nodes.now mark index) (λ r. IsNext nodes.now mark index r.level r.place) }
+    ensures stands { IfSome result (λ r. StandsAt nodes.now r.cursor r.level (r.place / 64)) }
+{
+    if trail.is_set {
+        return Some(Position {
+            cursor: Cursor::at(trail.key),
+            level: trail.level,
+            place: place_at(index, trail.level),
+        });
+    }
+    match trail.best {
+        Some((later, offset)) => Some(lowest_under(nodes, head, later, offset, mark, index)),
+        None => None,
+    }
+}
+
 // The lowest entry with the mark at an index or later.
 pub(crate) fn next_set(nodes: &Slab<Node>, head: usize, index: u64, mark: usize) -> Option<Position>
     requires mark { mark < 4 }
@@ -59,33 +139,63 @@ pub(crate) fn next_set(nodes: &Slab<Node>, head: usize, index: u64, mark: usize)
     ensures next { MatchOption result (HasNoNext nodes.now mark index) (λ r. IsNext nodes.now mark index r.level r.place) }
     ensures stands { IfSome result (λ r. StandsAt nodes.now r.cursor r.level (r.place / 64)) }
 {
-    let top = &nodes[head];
-    if place_at(index, top.level) / 64 != 0 {
+    let Some(trail) = leave_path(nodes, head, index, mark) else {
+        return None;
+    };
+    next_on(nodes, head, index, mark, trail)
+}
+
+// The entry with the mark that has an index at a further slot, where the path of the index ends. Nothing here says that a
+// further slot names a first one, so it is looked at.
+fn held_on(
+    nodes: &Slab<Node>,
+    head: usize,
+    index: u64,
+    mark: usize,
+    trail: Trail,
+) -> Option<Position>
+    requires mark { mark < 4 }
+    requires sound { IsSound nodes.now head None }
+    requires trail { IsTrail nodes.now mark index trail.key trail.level trail.is_set trail.best }
+    ensures held { MatchOption result (HasNoHeld nodes.now mark index) (λ r. IsHeld nodes.now mark index r.level r.place) }
+    ensures stands { IfSome result (λ r. StandsAt nodes.now r.cursor r.level (r.place / 64)) }
+{
+    let node = &nodes[trail.key];
+    let Slot::Sibling(first) = node.read(offset_at(index, trail.level)) else {
+        return None;
+    };
+    if first >= 64 || !has_bit(node.marks[mark], first as u32) {
         return None;
     }
-    let mut key = head;
-    let mut best: Option<(usize, u32)> = None;
-    'down: loop {
-        let node = &nodes[key];
-        let offset = offset_at(index, node.level) as u32;
-        let bits = node.marks[mark];
-        best = better(best, key, lowest_above(bits, offset));
-        if !has_bit(bits, offset) {
-            break 'down;
-        }
-        let Some(child) = node.child(offset as usize) else {
-            return Some(Position {
-                cursor: Cursor::at(key),
-                level: node.level,
-                place: place_at(index, node.level),
-            });
-        };
-        key = child;
+    let Slot::Leaf(_) = node.read(first as usize) else {
+        return None;
+    };
+    Some(Position {
+        cursor: Cursor::at(trail.key),
+        level: trail.level,
+        place: node.prefix * 64 + first,
+    })
+}
+
+// The lowest entry with the mark that has an index or a later one.
+pub(crate) fn next_held(
+    nodes: &Slab<Node>,
+    head: usize,
+    index: u64,
+    mark: usize,
+) -> Option<Position>
+    requires mark { mark < 4 }
+    requires sound { IsSound nodes.now head None }
+    ensures next { MatchOption result (HasNoNext nodes.now mark index × HasNoHeld nodes.now mark index) (λ r. IsNextHeld nodes.now mark index r.level r.place) }
+    ensures stands { IfSome result (λ r. StandsAt nodes.now r.cursor r.level (r.place / 64)) }
+{
+    let Some(trail) = leave_path(nodes, head, index, mark) else {
+        return None;
+    };
+    if let Some(held) = held_on(nodes, head, index, mark, trail) {
+        return Some(held);
     }
-    match best {
-        Some((later, offset)) => Some(lowest_under(nodes, head, later, offset, mark, index)),
-        None => None,
-    }
+    next_on(nodes, head, index, mark, trail)
 }
 
 // The lowest entry with the mark at an index or later in its node of the lowest level, and its value.

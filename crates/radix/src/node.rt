@@ -1,5 +1,5 @@
 //! A node of 64 slots: 568 bytes, and 576 with the slab's tag.
-ghost use Rattle.std.specs.Prelude.{◌≡◌, ◌≢◌, ℕ, ◌<◌, ◌^◌, MatchOption};
+ghost use Rattle.std.specs.Prelude.{◌≡◌, ◌≢◌, ℕ, ◌<◌, ◌^◌, MatchBool, MatchOption};
 ghost use Rattle.radix.specs.Words.{FitsLink};
 
 use crate::slot::{Link, Slot, Word};
@@ -35,6 +35,16 @@ impl Node {
         ensures { result ≡ slot self.now offset }
     {
         self.slots[offset].slot()
+    }
+
+    /// Whether the slot at an offset is a further one of the entry that begins at `first`.
+    #[inline]
+    pub(crate) fn follows(&self, offset: usize, first: u64) -> bool
+        requires within { offset < 64 }
+        requires first { first < 64 }
+        ensures { MatchBool result (slot self.now offset ≡ Slot.Sibling first) (slot self.now offset ≢ Slot.Sibling first) }
+    {
+        self.slots[offset].is_sibling_of(first)
     }
 
     /// The node below a slot. A node of the lowest level has none, and there the slot is not read: it lies in another cache

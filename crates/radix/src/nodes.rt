@@ -1,12 +1,13 @@
 //! The tree as its caller sees it: entries at slots of levels.
-ghost use Rattle.std.specs.Prelude.{◌≡◌, ◌≢◌, ℕ, ◌+◌, ◌*◌, ◌/◌, ◌%◌, ◌^◌, ◌<◌, ◌≤◌, ◌==◌, ◌↔◌, Some, None, IsOk, OnOk, IfErr, IfSome, MatchOption, MatchBool};
+ghost use Rattle.std.specs.Prelude.{◌≡◌, ◌≢◌, ℕ, ◌+◌, ◌-◌, ◌*◌, ◌/◌, ◌%◌, ◌^◌, ◌<◌, ◌≤◌, ◌==◌, ◌↔◌, true, Some, None, IsOk, OnOk, IfErr, IfSome, MatchOption, MatchBool};
 ghost use Rattle.pc_types.specs.declared.refusal.Refusal.{Refusal};
 ghost use Rattle.radix.specs.declared.entry.Entry.{Entry};
-ghost use Rattle.radix.specs.Entries.{entry_at, mark_at, node_count, StandsAt, IsBare, IsLeaf, IsRun, IsClear, IsFree, HasNoMark, HasPathRoom, SameEntries, PutsEntry, PutsBit, PutsRun, ClearsRun, IsFound, HasNoEntry, IsNext, HasNoNext, IsNextEntry, HasNoNextEntry, IsNextEntryLeaf, HasNoEntryBeside, HasMarked, HasNoMarked, HasMarkedUnder, HasNoMarkedUnder};
+ghost use Rattle.radix.specs.Parts.{Parts, HasNodeRoom};
+ghost use Rattle.radix.specs.Entries.{entry_at, mark_at, node_count, StandsAt, IsBare, IsLeaf, IsRun, IsClear, IsFree, HasNoMark, HasPathRoom, SameEntries, PutsEntry, PutsBit, PutsRun, ClearsRun, IsWalked, HasNoEntry, IsNext, HasNoNext, IsNextHeld, HasNoHeld, IsNextEntry, HasNoNextEntry, IsNextEntryLeaf, HasNoEntryBeside, HasMarked, HasNoMarked, HasMarkedUnder, HasNoMarkedUnder};
 
-use crate::entry::{Cursor, Entry, Found, Position};
+use crate::entry::{Cursor, Entry, Position, Walk};
 use crate::node::{ENTRY, Node};
-use crate::{growth, marks, next, removal, tree};
+use crate::{growth, marks, next, parts, removal, tree};
 use pc_types::Refusal;
 use slab::Slab;
 use std::alloc::Global;
@@ -15,7 +16,7 @@ use std::marker::Model;
 /// Entries with three marks, each at a slot of a level: slot `place` of `level` has the indexes from
 /// `place * 64 ^ level` on. No two entries share an index if each is put where `IsClear` and `IsFree` hold.
 ///
-/// A walk costs most of a call. So `seek` and `find` walk once and give a cursor, at which the other calls work.
+/// A walk costs most of a call. So `seek` and `walk` walk once and give a cursor, at which the other calls work.
 #[derive(Drop)]
 pub struct Nodes {
     slab: Slab<Node>,
@@ -86,13 +87,15 @@ impl Nodes {
         }
     }
 
-    /// The entry at an index, at whichever level it stands.
-    pub fn find(&self, index: u64) -> Option<Found>
-        ensures found { MatchOption result (HasNoEntry self.now index) (λ r. IsFound self.now index r.level r.entry) }
+    /// Walks to an index, and gives the entry there, at whichever level it stands.
+    #[inline(always)]
+    pub fn walk(&self, index: u64) -> Option<Walk>
+        ensures low { IfSome result (λ r. r.level ≤ 10) }
+        ensures found { MatchOption result (HasNoEntry self.now index) (λ r. IsWalked self.now index r.level r.entry) }
         ensures stands { IfSome result (λ r. StandsAt self.now r.cursor r.level (index / 64 ^ r.level / 64)) }
     {
         match self.head {
-            Some(head) => tree::find(&self.slab, head, index),
+            Some(head) => tree::walk(&self.slab, head, index),
             None => None,
         }
     }
@@ -131,6 +134,33 @@ impl Nodes {
             unreachable!()
         };
         tree::beside(&self.slab, head, cursor.key(), level, index, offset)
+    }
+
+    /// Whether the slot with this offset in the same node is a further one of an entry that begins at a slot.
+    #[inline]
+    pub fn follows(&self, cursor: Cursor, index: u64, level: u32, offset: usize) -> bool
+        requires level { level ≤ 10 }
+        requires stands { StandsAt self.now cursor level (index / 64 ^ level / 64) }
+        requires within { offset < 64 }
+        ensures { MatchBool result (entry_at self.now level (index / 64 ^ level / 64 * 64 + offset) ≡ Some (Entry.Sibling (index / 64 ^ level % 64))) (entry_at self.now level (index / 64 ^ level / 64 * 64 + offset) ≢ Some (Entry.Sibling (index / 64 ^ level % 64))) }
+    {
+        let Some(head) = self.head else {
+            unreachable!()
+        };
+        tree::follows(&self.slab, head, cursor.key(), level, index, offset)
+    }
+
+    /// Whether an entry or a node begins at the slot with this offset in the same node, so that it is no further slot of an
+    /// entry. It reads the node's bits alone.
+    pub fn begins(&self, cursor: Cursor, index: u64, level: u32, offset: usize) -> bool
+        requires stands { StandsAt self.now cursor level (index / 64 ^ level / 64) }
+        requires within { offset < 64 }
+        ensures { result ≡ true → (first : ℕ) → entry_at self.now level (index / 64 ^ level / 64 * 64 + offset) ≢ Some (Entry.Sibling first) }
+    {
+        let Some(head) = self.head else {
+            unreachable!()
+        };
+        marks::begins(&self.slab, head, cursor.key(), level, index, offset)
     }
 
     /// Puts an entry without marks at a slot whose node is there. It needs no memory.
@@ -225,6 +255,62 @@ impl Nodes {
         self.head = removal::clear_run(&mut self.slab, head, cursor.key(), level, index, span);
     }
 
+    /// Makes room for so many nodes, so that `expand` meets no want of memory.
+    pub fn reserve_nodes(&mut self, count: usize) -> Result<(), Refusal>
+        ensures room { OnOk result (HasNodeRoom self.new count) }
+        ensures succeeds { HasNodeRoom self.old count → IsOk result }
+        ensures err { IfErr result (λ refusal. refusal ≡ Refusal.Memory) }
+        ensures entries { SameEntries self.old self.new }
+        ensures stands { (cursor level prefix : ℕ) → StandsAt self.old cursor level prefix → StandsAt self.new cursor level prefix }
+        ensures count { node_count self.new ≡ node_count self.old }
+    {
+        self.slab.reserve(count)?;
+        // As in `reserve_path`.
+        if self.slab.capacity() >= 4_611_686_018_427_387_904 {
+            return Err(Refusal::Memory);
+        }
+        Ok(())
+    }
+
+    /// Cuts an entry of several slots into entries of 2^step slots each, in the same node, with its value and its marks.
+    /// It needs no memory.
+    pub fn cut_run(&mut self, cursor: Cursor, index: u64, level: u32, span: u64, step: u32)
+        requires stands { StandsAt self.old cursor level (index / 64 ^ level / 64) }
+        requires some { 0 < span }
+        requires within { index / 64 ^ level % 64 + span ≤ 64 }
+        requires step { step < 6 }
+        requires run { IsRun self.old level (index / 64 ^ level) span }
+        ensures parts { Parts self.old self.new level (index / 64 ^ level) level (index / 64 ^ level) span step }
+        ensures stands { StandsAt self.new cursor level (index / 64 ^ level / 64) }
+        ensures count { node_count self.new ≡ node_count self.old }
+        ensures room { (more : ℕ) → HasNodeRoom self.old more → HasNodeRoom self.new more }
+    {
+        let Some(head) = self.head else {
+            unreachable!()
+        };
+        parts::cut_run(&mut self.slab, head, cursor.key(), level, index, span, step);
+    }
+
+    /// Makes the entry of one slot a node below it, where each 2^step slots are an entry with its value and its marks, and
+    /// answers where that node is. It takes one node of the room that `reserve_nodes` made.
+    pub fn expand(&mut self, cursor: Cursor, index: u64, level: u32, step: u32) -> Cursor
+        requires stands { StandsAt self.old cursor level (index / 64 ^ level / 64) }
+        requires inner { 0 < level }
+        requires step { step < 6 }
+        requires leaf { IsLeaf (entry_at self.old level (index / 64 ^ level)) }
+        requires room { HasNodeRoom self.old 1 }
+        ensures parts { Parts self.old self.new level (index / 64 ^ level) (level - 1) (index / 64 ^ level * 64) 64 step }
+        ensures stands { StandsAt self.new cursor level (index / 64 ^ level / 64) }
+        ensures below { StandsAt self.new result (level - 1) (index / 64 ^ level) }
+        ensures count { node_count self.new ≡ node_count self.old + 1 }
+        ensures room { (more : ℕ) → HasNodeRoom self.old (more + 1) → HasNodeRoom self.new more }
+    {
+        let Some(head) = self.head else {
+            unreachable!()
+        };
+        Cursor::at(parts::expand(&mut self.slab, head, cursor.key(), level, index, step))
+    }
+
     /// Sets a mark of an entry, at its first slot.
     pub fn set_bit(&mut self, cursor: Cursor, index: u64, level: u32, mark: usize)
         requires stands { StandsAt self.old cursor level (index / 64 ^ level / 64) }
@@ -292,7 +378,7 @@ impl Nodes {
     }
 
     /// The lowest entry with the mark whose first slot has the index or a later one. An entry that begins before that slot
-    /// is not found: look with `find` first.
+    /// is not found: see `next_held`.
     pub fn next_set(&self, index: u64, mark: usize) -> Option<Position>
         requires { mark < 3 }
         ensures next { MatchOption result (HasNoNext self.now mark index) (λ r. IsNext self.now mark index r.level r.place) }
@@ -300,6 +386,18 @@ impl Nodes {
     {
         match self.head {
             Some(head) => next::next_set(&self.slab, head, index, mark),
+            None => None,
+        }
+    }
+
+    /// The lowest entry with the mark that has the index or a later one, also where it begins before the index.
+    pub fn next_held(&self, index: u64, mark: usize) -> Option<Position>
+        requires { mark < 3 }
+        ensures next { MatchOption result (HasNoNext self.now mark index × HasNoHeld self.now mark index) (λ r. IsNextHeld self.now mark index r.level r.place) }
+        ensures stands { IfSome result (λ r. StandsAt self.now r.cursor r.level (r.place / 64)) }
+    {
+        match self.head {
+            Some(head) => next::next_held(&self.slab, head, index, mark),
             None => None,
         }
     }

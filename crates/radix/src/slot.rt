@@ -1,5 +1,5 @@
 //! What a slot has, in one 64-bit word. Nothing outside this file knows how.
-ghost use Rattle.std.specs.Prelude.{◌≡◌, ℕ, ◌<◌, ◌^◌};
+ghost use Rattle.std.specs.Prelude.{◌≡◌, ◌≢◌, ℕ, ◌<◌, ◌^◌, MatchBool};
 ghost use Rattle.radix.specs.Words.{FitsWord, FitsLink};
 
 use std::marker::Model;
@@ -88,6 +88,16 @@ impl Word {
         Word {
             word: offset * 4 + 4,
         }
+    }
+
+    /// Whether this is a further slot of the entry that begins at an offset. It is one comparison, so that no jump goes by
+    /// what another entry's slot has.
+    #[inline]
+    pub fn is_sibling_of(self, offset: u64) -> bool
+        requires { offset < 64 }
+        ensures { MatchBool result (self ≡ Slot.Sibling offset) (self ≢ Slot.Sibling offset) }
+    {
+        self.word == offset * 4 + 4
     }
 
     #[inline]

@@ -29,11 +29,20 @@ fn next_set(nodes: &Nodes, from: u64) -> Option<(u32, u64)> {
         .map(|found| (found.level, found.place))
 }
 
+// The slot of the next entry with mark 0, also where it begins before.
+fn next_held(nodes: &Nodes, from: u64) -> Option<(u32, u64)> {
+    nodes
+        .next_held(from, 0)
+        .map(|found| (found.level, found.place))
+}
+
 // Puts an entry of one index where none is. Whether it did.
 fn put(nodes: &mut Nodes, index: u64, value: u64) -> bool
     requires { value < 2 ^ 63 }
 {
-    if let Some(_) = nodes.find(index) {
+    if let Some(walk) = nodes.walk(index)
+        && let Some(_) = walk.entry
+    {
         return false;
     }
     let Ok(()) = nodes.reserve_path(index, 0) else {
@@ -45,10 +54,10 @@ fn put(nodes: &mut Nodes, index: u64, value: u64) -> bool
 
 // Sets or clears a mark of the entry at an index. Whether one is there.
 fn mark(nodes: &mut Nodes, index: u64, is_set: bool) -> bool {
-    let Some(found) = nodes.find(index) else {
+    let Some(found) = nodes.walk(index) else {
         return false;
     };
-    let Entry::Leaf(_) = found.entry else {
+    let Some(Entry::Leaf(_)) = found.entry else {
         return false;
     };
     if is_set {
@@ -99,6 +108,24 @@ fn store(nodes: &mut Nodes, index: u64, value: u64) -> bool
         Some(Entry::Sibling(_)) => return false,
         None => nodes.fill(cursor, index, 0, value),
     }
+    true
+}
+
+// Makes an entry of one slot a node of entries of 2^step slots each. Whether one is there.
+fn expand(nodes: &mut Nodes, index: u64, level: u32, step: u32) -> bool
+    requires inner { 0 < level }
+    requires step { step < 6 }
+{
+    let Ok(()) = nodes.reserve_nodes(1) else {
+        return false;
+    };
+    let Some(cursor) = nodes.seek(index, level) else {
+        return false;
+    };
+    let Some(Entry::Leaf(_)) = nodes.entry_in(cursor, index, level) else {
+        return false;
+    };
+    nodes.expand(cursor, index, level, step);
     true
 }
 
@@ -210,10 +237,75 @@ fn several_slots(rt: HostRuntime) -> Result<(), Fail> {
         return Ok(());
     };
     assert_eq!(rt; nodes.beside(cursor, 256, 1, 7), Some(Entry::Sibling(4)));
+    assert!(rt; nodes.follows(cursor, 256, 1, 7));
+    assert!(rt; !nodes.follows(cursor, 256, 1, 8));
+    assert_eq!(rt; next_held(&nodes, 400), None);
     nodes.set_bit(cursor, 256, 1, 0);
     assert!(rt; nodes.get_bit(cursor, 256, 1, 0));
+    for from in [0u64, 256, 400, 511] {
+        assert_eq!(rt; next_held(&nodes, from), Some((1, 4)));
+    }
+    assert_eq!(rt; next_held(&nodes, 512), None);
     take_run(&mut nodes, cursor, 256, 4);
     assert_eq!(rt; nodes.get(511, 1), None);
     assert_eq!(rt; nodes.count(), 0);
+    Ok(())
+}
+
+// An entry of 4 slots becomes two of 2 slots, each with its mark.
+#[test]
+fn cut_in_two(rt: HostRuntime) -> Result<(), Fail> {
+    let mut nodes = Nodes::new(rt.alloc());
+    let Ok(()) = nodes.reserve_path(256, 1) else {
+        assert!(rt; false);
+        return Ok(());
+    };
+    nodes.put_run(256, 1, 4, 9);
+    let Some(cursor) = nodes.seek(256, 1) else {
+        assert!(rt; false);
+        return Ok(());
+    };
+    nodes.set_bit(cursor, 256, 1, 1);
+    nodes.cut_run(cursor, 256, 1, 4, 1);
+    for (index, entry) in [
+        (192, None),
+        (256, Some(Entry::Leaf(9))),
+        (320, Some(Entry::Sibling(4))),
+        (384, Some(Entry::Leaf(9))),
+        (448, Some(Entry::Sibling(6))),
+        (512, None),
+    ] {
+        assert_eq!(rt; nodes.get(index, 1), entry, "at {index}");
+    }
+    assert_eq!(rt; nodes.count(), 1);
+    assert_eq!(rt; next_set(&nodes, 0), Some((1, 4)));
+    assert_eq!(rt; next_set(&nodes, 320), Some((1, 6)));
+    assert_eq!(rt; next_set(&nodes, 448), None);
+    Ok(())
+}
+
+// An entry of one slot becomes a node of entries, each with its mark, and so does one of these.
+#[test]
+fn expand_twice(rt: HostRuntime) -> Result<(), Fail> {
+    let mut nodes = Nodes::new(rt.alloc());
+    let Ok(()) = nodes.reserve_path(8_192, 2) else {
+        assert!(rt; false);
+        return Ok(());
+    };
+    nodes.put(8_192, 2, 7);
+    assert!(rt; mark(&mut nodes, 8_192, true));
+    assert!(rt; expand(&mut nodes, 8_192, 2, 0));
+    assert_eq!(rt; nodes.get(8_192, 2), None);
+    assert_eq!(rt; nodes.get(12_224, 1), Some(Entry::Leaf(7)));
+    assert!(rt; mark(&mut nodes, 8_192, false));
+    assert_eq!(rt; next_set(&nodes, 0), Some((1, 129)));
+    assert!(rt; expand(&mut nodes, 12_224, 1, 3));
+    assert_eq!(rt; nodes.get(12_224, 1), None);
+    assert_eq!(rt; nodes.get(12_280, 0), Some(Entry::Leaf(7)));
+    assert_eq!(rt; nodes.get(12_287, 0), Some(Entry::Sibling(56)));
+    assert_eq!(rt; next_set(&nodes, 12_224), Some((0, 12_224)));
+    assert_eq!(rt; next_set(&nodes, 12_225), Some((0, 12_232)));
+    assert_eq!(rt; next_set(&nodes, 12_281), None);
+    assert_eq!(rt; nodes.count(), 3);
     Ok(())
 }

@@ -1,20 +1,30 @@
 //! Nodes that make a tree in a slab.
 ghost use Rattle.std.specs.Prelude.{◌≡◌, ℕ, ◌+◌, ◌*◌, ◌/◌, ◌%◌, ◌^◌, ◌<◌, ◌≤◌, Some, None, IfSome, MatchOption, MatchBool, ◌≢◌, ◌⊎◌};
 ghost use Rattle.slab.specs.Slab.{get, HasRoomFor, Updates, slab_len, ContainsKey};
-ghost use Rattle.radix.specs.Entries.{StandsAt, IsFound, HasNoEntry, IsPathNeed, content, entry_at};
+ghost use Rattle.radix.specs.declared.entry.Entry.{Entry};
+ghost use Rattle.radix.specs.Entries.{StandsAt, HasNoEntry, IsPathNeed, IsWalked, content, entry_at};
 ghost use Rattle.radix.specs.Tree.{slot_at, IsTree, IsSoundOrVoid, IsHeight};
 
-use crate::entry::{Cursor, Entry, Found};
+use crate::entry::{Cursor, Entry, Walk};
 use crate::node::Node;
 use crate::slot::Slot;
 use slab::Slab;
 
-// The index of the slot at a level that has `index`.
-pub(crate) fn place_at(index: u64, level: u32) -> u64
+/// The place of the slot at a level that has an index.
+pub fn place_at(index: u64, level: u32) -> u64
     requires { level ≤ 10 }
     ensures { result ≡ index / 64 ^ level }
 {
     index >> (6 * level)
+}
+
+/// The first index of a slot.
+pub fn first_at(level: u32, place: u64) -> u64
+    requires level { level ≤ 10 }
+    requires fits { place * 64 ^ level < 2 ^ 64 }
+    ensures { result ≡ place * 64 ^ level }
+{
+    place << (6 * level)
 }
 
 // The offset in its node of the slot at a level that has `index`.
@@ -23,14 +33,6 @@ pub(crate) fn offset_at(index: u64, level: u32) -> usize
     ensures { result ≡ index / 64 ^ level % 64 }
 {
     (place_at(index, level) % 64) as usize
-}
-
-// The offset of the slot that has `index` in a node whose slots have 2 ^ shift indexes each.
-fn offset_by(index: u64, shift: u32) -> usize
-    requires { shift < 64 }
-    ensures { result ≡ index / 2 ^ shift % 64 }
-{
-    ((index >> shift) % 64) as usize
 }
 
 // Whether a head has the slot of `index` at a level under it.
@@ -105,10 +107,12 @@ fn entry_of(slot: Slot) -> Option<Entry>
     }
 }
 
-// The entry at an index, and where it stands.
-pub(crate) fn find(nodes: &Slab<Node>, head: usize, index: u64) -> Option<Found>
+// Where a walk to an index ends, and the entry there. It goes into its caller, which most often needs a part of the answer.
+#[inline(always)]
+pub(crate) fn walk(nodes: &Slab<Node>, head: usize, index: u64) -> Option<Walk>
     requires { IsTree nodes.now head }
-    ensures found { MatchOption result (HasNoEntry nodes.now index) (λ r. IsFound nodes.now index r.level r.entry) }
+    ensures low { IfSome result (λ r. r.level ≤ 10) }
+    ensures found { MatchOption result (HasNoEntry nodes.now index) (λ r. IsWalked nodes.now index r.level r.entry) }
     ensures stands { IfSome result (λ r. StandsAt nodes.now r.cursor r.level (index / 64 ^ r.level / 64)) }
 {
     let top = &nodes[head];
@@ -117,23 +121,20 @@ pub(crate) fn find(nodes: &Slab<Node>, head: usize, index: u64) -> Option<Found>
     }
     let mut key = head;
     let mut node = top;
-    // It is counted down, so that no step waits for a node's level.
-    let mut shift = 6 * top.level;
+    // It is counted down, so that no step waits for a node's level, and the last node is read at its slot alone.
+    let mut level = top.level;
     'down: loop {
-        let slot = node.read(offset_by(index, shift));
+        let slot = node.read(offset_at(index, level));
         let Slot::Child(child) = slot else {
-            let Some(entry) = entry_of(slot) else {
-                return None;
-            };
-            return Some(Found {
+            return Some(Walk {
                 cursor: Cursor::at(key),
-                level: node.level,
-                entry,
+                level,
+                entry: entry_of(slot),
             });
         };
         key = child;
         node = &nodes[key];
-        shift -= 6;
+        level -= 1;
     }
 }
 
@@ -167,4 +168,23 @@ pub(crate) fn beside(
     ensures { result ≡ entry_at nodes.now level (index / 64 ^ level / 64 * 64 + offset) }
 {
     entry_of(nodes[key].read(offset))
+}
+
+// Whether a slot of a node that has the slot of `index` is a further one of an entry that begins there.
+#[inline]
+pub(crate) fn follows(
+    nodes: &Slab<Node>,
+    head: usize,
+    key: usize,
+    level: u32,
+    index: u64,
+    offset: usize,
+) -> bool
+    requires level { level ≤ 10 }
+    requires tree { IsTree nodes.now head }
+    requires stands { StandsAt nodes.now key level (index / 64 ^ level / 64) }
+    requires within { offset < 64 }
+    ensures { MatchBool result (entry_at nodes.now level (index / 64 ^ level / 64 * 64 + offset) ≡ Some (Entry.Sibling (index / 64 ^ level % 64))) (entry_at nodes.now level (index / 64 ^ level / 64 * 64 + offset) ≢ Some (Entry.Sibling (index / 64 ^ level % 64))) }
+{
+    nodes[key].follows(offset, offset_at(index, level) as u64)
 }

@@ -16,7 +16,7 @@ on_spot : (w : World) (o : Option Spot) → held w o ≡ held_by (block_bytes w)
 on_spot w None = refl
 on_spot w (Some spot) = refl
 
-holds_files : (w : World) (plain : Plain) → Coupled w plain → HoldsFiles w plain
+pub holds_files : (w : World) (plain : Plain) → Coupled w plain → HoldsFiles w plain
 holds_files w plain c = record {
   count = c.count;
   handles = c.handles;

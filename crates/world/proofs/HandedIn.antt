@@ -57,14 +57,14 @@ same_self Fill = refl
 same_self Flush = refl
 
 -- the end passes its tests
-passes : (s : State) (k : Kind) (e : End) (r : Request) → e.cache ≡ s.name → e.kind ≡ k → finmap.get s.requests e.serial.0 ≡ Some r → r.kind ≡ k → end_tests s k e ≡ None
+pub passes : (s : State) (k : Kind) (e : End) (r : Request) → e.cache ≡ s.name → e.kind ≡ k → finmap.get s.requests e.serial.0 ≡ Some r → r.kind ≡ k → end_tests s k e ≡ None
 passes s k e r cache kind is same =
     let a : eqb e.cache s.name ≡ true = eq-eqb e.cache s.name cache in
     let b : same_kind k e.kind ≡ true = ap (same_kind k) kind ∙ same_self k in
     let c : is_of (finmap.get s.requests e.serial.0) k ≡ true = ap (λ o. is_of o k) is ∙ ap (same_kind k) same ∙ same_self k in
     λ i. cond (a i && b i && c i) None (refuse Stranger)
 
-at_none : (o : Option Reply) (r : Reply) (s new : State) (H : Type 0) → o ≡ None → Answers o r s new H → H
+pub at_none : (o : Option Reply) (r : Reply) (s new : State) (H : Type 0) → o ≡ None → Answers o r s new H → H
 at_none None r s new H e a = a
 at_none (Some x) r s new H e a = absurd cc
 

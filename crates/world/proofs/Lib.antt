@@ -65,3 +65,8 @@ pub mod FrameRooms
 pub mod SyncHandles
 pub mod Roomy
 pub mod OneBound
+pub mod Reached
+pub mod Stays
+pub mod InFlight
+pub mod SyncStays
+pub mod OneSync

@@ -8,3 +8,4 @@ pub mod Runs
 pub mod Stepping
 pub mod Syncing
 pub mod World
+pub mod Reached

@@ -2,6 +2,7 @@
 
 ghost use Rattle.world.specs.Always.{HoldsAlways};
 ghost use Rattle.world.specs.Progress.{NoEventIsStuck, RequestsGoOn, StepsAreDetermined};
+ghost use Rattle.world.specs.Reached.{FilesAreThose};
 ghost use Rattle.world.specs.Reading.{FilesAreHeld, ReadsAreRight};
 ghost use Rattle.world.specs.Syncing.{AwaitsByBound, DirtyPagesStay, SyncWritesAreFew, SyncsAreSynced, SyncsRise, SyncsTell};
 
@@ -9,6 +10,7 @@ ghost use Rattle.world.specs.Syncing.{AwaitsByBound, DirtyPagesStay, SyncWritesA
 pub fn every_run()
     ensures always { HoldsAlways }
     ensures held { FilesAreHeld }
+    ensures those { FilesAreThose }
     ensures reads { ReadsAreRight }
     ensures synced { SyncsAreSynced }
     ensures stay { DirtyPagesStay }

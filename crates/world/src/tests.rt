@@ -200,6 +200,7 @@ fn fail_a_flush(
             Reply::Refused(Refusal::Stranger)
         )
     );
+    assert_eq!(rt; world.flush_of(serial), Some(FileId(0)));
     assert_eq!(rt; world.fail(serial, ErrCode::IO, FaultEffect::Old), Ok(()));
     assert!(rt;
         matches!(
@@ -208,6 +209,7 @@ fn fail_a_flush(
         )
     );
     assert!(rt; ends_failed(world, serial));
+    assert_eq!(rt; world.flush_of(serial), None);
     assert!(rt; is_dirty(world));
     assert!(rt; reads(world, 1, &[170]));
     Ok(())

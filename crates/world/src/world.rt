@@ -1,10 +1,13 @@
 //! A cache and its device, driven one step at a time.
 
 mod calls;
+mod events;
 
-ghost use Rattle.std.specs.Prelude.{◌≡◌, IfErr, IfOk, IsOkUnless, OnErr, length, true, false, if◌then◌else◌};
+ghost use Rattle.std.specs.Prelude.{◌≡◌, ◌<◌, IfErr, IfOk, IfSome, IsOkUnless, OnErr, length, option_map, true, false, if◌then◌else◌};
 ghost use Rattle.pc_types.specs.declared.refusal.Refusal.TheVariants.{BadConfig, Memory};
+ghost use Rattle.cachecore.specs.Flushing.{flush_of};
 ghost use Rattle.cachecore.specs.Replies.{TagsAre};
+ghost use Rattle.world.specs.Runs.{IsFirst};
 ghost use Rattle.world.specs.Stepping.{IsMade, LeadsTo, Plays, Steps, TellsForCalls, first_world, fits, world_of};
 
 use crate::jobs::Jobs;
@@ -12,7 +15,8 @@ use crate::replies;
 use crate::step::Step;
 use blockdev::{BlockDevice, Buffer};
 use cachecore::{CacheCore, FillBegun, FlushBegun, PageTags, ReadAnswer, Reply, SyncStepped};
-use pc_types::{Bytes, FileId, Geometry, HandleId, PageIndex, Refusal, SyncId};
+use pc_types::limits::MAX_FILES;
+use pc_types::{Bytes, FileId, Geometry, HandleId, PageIndex, Refusal, Serial, SyncId};
 use std::alloc::{AllocError, Global};
 use std::marker::Model;
 
@@ -54,6 +58,7 @@ impl<D: BlockDevice> World<D> {
         device: D,
     ) -> Result<World<D>, (Refusal, D)>
         ensures fresh { IfOk result (λ w. w ≡ first_world geometry.now name (D.told device)) }
+        ensures first { IfOk result (λ w. IfSome (D.told device).contents (λ _. IsFirst (world_of w))) }
         ensures fits { IfOk result (λ _. fits geometry.now (D.told device) ≡ true) }
         ensures refused { IfErr result (λ e. e.0 ≡ (if fits geometry.now (D.told device) then Memory else BadConfig)) }
         ensures back { IfErr result (λ e. e.1 ≡ device) }
@@ -82,23 +87,26 @@ impl<D: BlockDevice> World<D> {
         ensures { Steps self.old step.now result self.new }
     {
         match step {
-            Step::Create => replies::of_create(self.core.create()),
-            Step::Open(file) => replies::of_open(self.core.open(*file)),
-            Step::Close(handle) => replies::of_close(self.core.close(*handle)),
-            Step::Size(handle) => replies::of_size(self.core.size(*handle)),
-            Step::Read(handle, offset, count) => self.read(*handle, *offset, *count),
-            Step::Write(handle, offset, bytes) => self.write(*handle, *offset, bytes),
-            Step::Append(handle, bytes) => self.append(*handle, bytes),
-            Step::Truncate(handle, size) => {
-                replies::of_truncate(self.core.truncate(*handle, *size))
-            }
+            Step::Create => replies::of_create(self.create()),
+            Step::Open(file) => replies::of_open(self.open(*file)),
+            Step::Close(handle) => replies::of_close(self.close(*handle)),
+            Step::Size(handle) => replies::of_size(self.size(*handle)),
+            Step::Read(handle, offset, count) => self.read_new(*handle, *offset, *count),
+            Step::Write(handle, offset, bytes) => {
+                replies::of_write(self.write(*handle, *offset, bytes.as_slice()))
+            },
+            Step::Append(handle, bytes) => replies::of_write(self.append(
+                *handle,
+                bytes.as_slice(),
+            )),
+            Step::Truncate(handle, size) => { replies::of_truncate(self.truncate(*handle, *size)) }
             Step::FillBegin(handle, page) => self.fill_begin(*handle, *page),
             Step::FlushBegin(file) => self.flush_begin(*file),
-            Step::Evict => replies::of_evict(self.core.evict()),
-            Step::Age => Reply::Aged(self.core.age()),
-            Step::SyncBegin(handle) => replies::of_sync_begin(self.core.sync_begin(*handle)),
+            Step::Evict => replies::of_evict(self.evict()),
+            Step::Age => Reply::Aged(self.age()),
+            Step::SyncBegin(handle) => replies::of_sync_begin(self.sync_begin(*handle)),
             Step::SyncStep(sync) => self.sync_step(*sync),
-            Step::SyncDrop(sync) => replies::of_sync_drop(self.core.sync_drop(*sync)),
+            Step::SyncDrop(sync) => replies::of_sync_drop(self.sync_drop(*sync)),
             Step::Call(serial) => match self.call(*serial) {
                 Ok(()) => Reply::Done,
                 Err(refusal) => Reply::Refused(refusal),
@@ -129,13 +137,22 @@ impl<D: BlockDevice> World<D> {
         self.core.tags(file, page)
     }
 
-    fn read(&mut self, handle: HandleId, offset: u64, count: u64) -> Reply
+    /// The file of the flush in flight with this serial, which is no event either.
+    pub fn flush_of(&self, serial: Serial) -> Option<FileId>
+        ensures file { option_map (λ f. f.0) result ≡ flush_of self.now.core serial.0 }
+        ensures within { IfSome result (λ f. f.0 < MAX_FILES) }
+    {
+        self.core.flush_of(serial)
+    }
+
+    // A read into a place of its own.
+    fn read_new(&mut self, handle: HandleId, offset: u64, count: u64) -> Reply
         ensures { Steps self.old (Step.Read handle offset count) result self.new }
     {
         let Ok(mut out) = zeros(self.alloc, count) else {
             return Reply::Refused(Refusal::Memory);
         };
-        match self.core.read(handle, offset, out.as_mut_slice()) {
+        match self.read(handle, offset, out.as_mut_slice()) {
             Ok(ReadAnswer::Bytes(count)) => {
                 out.truncate(count as usize);
                 Reply::Bytes(Bytes::from_vec(out))
@@ -146,19 +163,8 @@ impl<D: BlockDevice> World<D> {
         }
     }
 
-    fn write(&mut self, handle: HandleId, offset: u64, bytes: &Bytes) -> Reply
-        ensures { IsMade self.old (Step.Write handle offset bytes.now) result self.new }
-    {
-        replies::of_write(self.core.write(handle, offset, bytes.as_slice()))
-    }
-
-    fn append(&mut self, handle: HandleId, bytes: &Bytes) -> Reply
-        ensures { IsMade self.old (Step.Append handle bytes.now) result self.new }
-    {
-        replies::of_write(self.core.append(handle, bytes.as_slice()))
-    }
-
-    fn fill_begin(&mut self, handle: HandleId, page: PageIndex) -> Reply
+    /// Begins a fill of the page.
+    pub fn fill_begin(&mut self, handle: HandleId, page: PageIndex) -> Reply
         ensures { Steps self.old (Step.FillBegin handle page) result self.new }
     {
         let Ok(buffer) = Buffer::new(self.alloc, &self.core.geometry()) else {
@@ -174,7 +180,8 @@ impl<D: BlockDevice> World<D> {
         }
     }
 
-    fn flush_begin(&mut self, file: FileId) -> Reply
+    /// Begins a write of the file's lowest page that is to be written.
+    pub fn flush_begin(&mut self, file: FileId) -> Reply
         ensures { Steps self.old (Step.FlushBegin file) result self.new }
     {
         let Ok(buffer) = Buffer::new(self.alloc, &self.core.geometry()) else {
@@ -187,7 +194,8 @@ impl<D: BlockDevice> World<D> {
         }
     }
 
-    fn sync_step(&mut self, sync: SyncId) -> Reply
+    /// Makes a step of the sync.
+    pub fn sync_step(&mut self, sync: SyncId) -> Reply
         ensures { Steps self.old (Step.SyncStep sync) result self.new }
     {
         let Ok(buffer) = Buffer::new(self.alloc, &self.core.geometry()) else {

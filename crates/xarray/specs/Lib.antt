@@ -1,3 +1,4 @@
-pub mod Flat
 pub mod MarkedArray
+pub mod Standing
 pub mod View
+pub mod Rows

@@ -1,6 +1,6 @@
 -- A marked array: a finite map from ranges of indexes to a value and three marks. A range of order k is 2 ^ k indexes, and
 -- it is kept by its first. (Linux, Documentation/core-api/xarray.rst: entries, marks, and multi-index entries.)
-use Rattle.std.specs.Prelude.{◌≡◌, ℕ, ◌+◌, ◌%◌, ◌^◌, ◌<◌, ◌≤◌, ◌&&◌, Bool, true, false, cond, ltb, leb, Option, Some, None, find, count_by, map as map_list}
+use Rattle.std.specs.Prelude.{◌≡◌, ℕ, suc, zero, ◌+◌, ◌-◌, ◌*◌, ◌%◌, ◌^◌, ◌<◌, ◌≤◌, ◌&&◌, Bool, true, false, cond, ltb, leb, Option, Some, None, find, count_by, map as map_list}
 use Rattle.std.specs.Ordering.{nat_cmp}
 use Rattle.std.specs.Coded.{Coded, coded_ℕ, coded_bool, coded_option, coded×, code_by}
 use mathlib.Core.Path.{refl}
@@ -143,6 +143,19 @@ retag_one from to mark other e = (e.0, cond (is_tagged from to mark e) (with_mar
 -- every entry with the mark whose range meets these indexes has the other mark too
 unfoldable pub retagged : Ranges → ℕ → ℕ → Mark → Mark → Ranges
 retagged m from to mark other = map.from_entries (map_list (retag_one from to mark other) (map.entries m))
+
+-- so many entries of an order from index `first` on, each with the value and marks of this one
+abbrev pub parts : Ranges → ℕ → ℕ → Range → ℕ → Ranges
+parts m first order r zero = m
+parts m first order r (suc count) = map.insert (parts m first order r count) (first + count * 2 ^ order) (record r { order = order })
+
+abbrev pub split_at : Ranges → ℕ → Option (ℕ × Range) → Ranges
+split_at m order None = m
+split_at m order (Some e) = parts m e.0 order e.1 (2 ^ (e.1.order - order))
+
+-- the entry at an index becomes entries of this order over the same indexes, each with its value and marks
+unfoldable pub split : Ranges → ℕ → ℕ → Ranges
+split m index order = split_at m order (entry_at m index)
 
 -- the array after a refusal is as before, but that want of memory may take what `reserve` made
 abbrev pub after_refusal : Refusal → Array → Array

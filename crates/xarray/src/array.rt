@@ -1,12 +1,12 @@
 //! The array as its caller sees it: a finite map of ranges.
-ghost use Rattle.std.specs.Prelude.{◌≡◌, ◌<◌, ◌≤◌, ◌^◌, ◌↔◌, ◌-◌, min, Some, None, Err, IfOk, OnOk, OnErr, IfErr, IsOk, IsSome, option_map, true, false};
+ghost use Rattle.std.specs.Prelude.{◌≡◌, ◌≢◌, ℕ, ◌+◌, ◌-◌, ◌/◌, ◌%◌, ◌<◌, ◌≤◌, ◌^◌, ◌↔◌, ◌⊎◌, min, Some, None, Err, IfOk, OnOk, OnErr, IfErr, IsOk, IsSome, MatchBool, option_map, true, false};
 ghost use Rattle.std.specs.List.{list_any};
 ghost use Rattle.pc_types.specs.declared.refusal.Refusal.{Refusal};
 ghost use Rattle.std.specs.FinMap as map;
-ghost use Rattle.xarray.specs.MarkedArray.{IsArray, after_refusal, count_of, entry_at, erased, found_of, has_mark, is_any, is_marked, lowest, remarked, retagged, stored, unmarked};
+ghost use Rattle.xarray.specs.MarkedArray.{IsArray, Range, after_refusal, count_of, entry_at, erased, found_of, has_mark, is_any, is_marked, lowest, remarked, retagged, split, stored, unmarked};
 
 use crate::entry::{Found, Mark};
-use crate::flat::Flat;
+use crate::ranged::Ranged;
 use pc_types::Refusal;
 use std::alloc::Global;
 use std::marker::Model;
@@ -17,9 +17,9 @@ pub const MAX_VALUE: u64 = 9_223_372_036_854_775_807;
 /// A marked array, indexed by `u64`.
 #[derive(Drop)]
 pub struct XArray {
-    flat: Flat,
-    // The index for which `reserve` made room, until the next change.
-    ready: Option<u64>,
+    ranged: Ranged,
+    // The range for which `reserve` made room, by its first index and its order, until the next change.
+    ready: Option<(u64, u32)>,
 }
 
 impl Model for XArray {
@@ -30,9 +30,9 @@ impl Model for XArray {
 
     ghost coded = { array_code };
 
-    ghost view = { λ a. array_of a.flat a.ready };
+    ghost view = { λ a. array_of a.ranged a.ready };
 
-    ghost invariant = { λ a. IsReady a.flat a.ready };
+    ghost invariant = { λ a. IsReady a.ranged a.ready };
 }
 
 impl XArray {
@@ -40,7 +40,7 @@ impl XArray {
         ensures { result ≡ record { ranges = map.empty; ready = None } }
     {
         XArray {
-            flat: Flat::new(alloc),
+            ranged: Ranged::new(alloc),
             ready: None,
         }
     }
@@ -50,31 +50,41 @@ impl XArray {
         ensures empty { self.now.ranges ≡ map.empty ↔ result ≡ 0 }
         ensures shape { IsArray self.now.ranges }
     {
-        self.flat.nodes()
+        self.ranged.nodes()
     }
 
     /// The value at an index.
+    #[inline(always)]
     pub fn load(&self, index: u64) -> Option<u64>
         ensures { result ≡ option_map (λ e. e.1.value) (entry_at self.now.ranges index) }
     {
-        self.flat.load(index)
+        self.ranged.load(index)
     }
 
-    /// Makes room for a store or an insert at an index, which then meets no want of memory if it is the next change. Only
-    /// order 0 is served.
+    /// The value at an index, where the entry has the mark.
+    #[inline(always)]
+    pub fn load_marked(&self, index: u64, mark: Mark) -> Option<u64>
+        ensures marked { is_marked mark (entry_at self.now.ranges index) ≡ true → result ≡ option_map (λ e. e.1.value) (entry_at self.now.ranges index) }
+        ensures unmarked { is_marked mark (entry_at self.now.ranges index) ≡ false → result ≡ None }
+    {
+        self.ranged.load_marked(index, mark)
+    }
+
+    /// Makes room for a range, so that a store or an insert there meets no want of memory if it is the next change. The index
+    /// is a multiple of `2 ^ order`.
     pub fn reserve(&mut self, index: u64, order: u32) -> Result<(), Refusal>
         ensures reserves { OnOk result (self.new ≡ record self.old { ready = Some (index, order) }) }
-        ensures bad { 0 < order → result ≡ Err Refusal.BadOrder }
-        ensures memory { order ≡ 0 → IfErr result (λ refusal. refusal ≡ Refusal.Memory) }
+        ensures bad { (63 < order) ⊎ (index % 2 ^ order ≢ 0) → result ≡ Err Refusal.BadOrder }
+        ensures memory { order ≤ 63 → index % 2 ^ order ≡ 0 → IfErr result (λ refusal. refusal ≡ Refusal.Memory) }
         ensures refused { IfErr result (λ refusal. self.new ≡ after_refusal refusal self.old) }
         ensures kept { OnErr result (self.new.ranges ≡ self.old.ranges) }
     {
-        if order > 0 {
+        if !is_aligned(index, order) {
             return Err(Refusal::BadOrder);
         }
         self.ready = None;
-        self.flat.reserve(index)?;
-        self.ready = Some(index);
+        self.ranged.reserve(index, order)?;
+        self.ready = Some((index, order));
         Ok(())
     }
 
@@ -95,7 +105,7 @@ impl XArray {
             return Err(Refusal::BadEntry);
         }
         self.ready = None;
-        self.flat.store(index, value)
+        self.ranged.store(index, value)
     }
 
     /// Puts an entry of one index without marks where none is.
@@ -113,7 +123,40 @@ impl XArray {
         if value > MAX_VALUE {
             return Err(Refusal::BadEntry);
         }
-        match self.flat.insert(index, value) {
+        match self.ranged.insert(index, value) {
+            Ok(true) => {
+                self.ready = None;
+                Ok(())
+            }
+            Ok(false) => Err(Refusal::Busy),
+            Err(refusal) => {
+                self.ready = None;
+                Err(refusal)
+            }
+        }
+    }
+
+    /// Puts an entry of an order without marks where its range meets none. The index is a multiple of `2 ^ order`.
+    pub fn insert_order(&mut self, index: u64, order: u32, value: u64) -> Result<(), Refusal>
+        ensures inserts { OnOk result (self.new ≡ record { ranges = map.insert self.old.ranges index (unmarked order value); ready = None }) }
+
+        // Why it is refused: the value, else the order, else an entry that the range meets, else want of memory, which room
+        // for it rules out.
+        ensures bad { 2 ^ 63 ≤ value → result ≡ Err Refusal.BadEntry }
+        ensures order { value < 2 ^ 63 → (63 < order) ⊎ (index % 2 ^ order ≢ 0) → result ≡ Err Refusal.BadOrder }
+        ensures busy { value < 2 ^ 63 → order ≤ 63 → index % 2 ^ order ≡ 0 → IsSome (lowest is_any self.old.ranges index (index + 2 ^ order - 1)) → result ≡ Err Refusal.Busy }
+        ensures memory { value < 2 ^ 63 → order ≤ 63 → index % 2 ^ order ≡ 0 → lowest is_any self.old.ranges index (index + 2 ^ order - 1) ≡ None → IfErr result (λ refusal. refusal ≡ Refusal.Memory) }
+        ensures room { value < 2 ^ 63 → order ≤ 63 → index % 2 ^ order ≡ 0 → lowest is_any self.old.ranges index (index + 2 ^ order - 1) ≡ None → self.old.ready ≡ Some (index, order) → IsOk result }
+        ensures refused { IfErr result (λ refusal. self.new ≡ after_refusal refusal self.old) }
+        ensures kept { OnErr result (self.new.ranges ≡ self.old.ranges) }
+    {
+        if value > MAX_VALUE {
+            return Err(Refusal::BadEntry);
+        }
+        if !is_aligned(index, order) {
+            return Err(Refusal::BadOrder);
+        }
+        match self.ranged.insert_order(index, order, value) {
             Ok(true) => {
                 self.ready = None;
                 Ok(())
@@ -132,7 +175,30 @@ impl XArray {
         ensures erases { self.new ≡ record { ranges = erased self.old.ranges index; ready = None } }
     {
         self.ready = None;
-        self.flat.erase(index)
+        self.ranged.erase(index)
+    }
+
+    /// Splits the entry at an index into entries of this order over the same indexes, each with its value and marks. An order
+    /// that is the entry's changes no entry.
+    ///
+    /// An order k takes no memory where k / 6 is K / 6, as of an entry whose order K is 5 or less. Else it makes 2^(K - 6 * l)
+    /// nodes for each level l above k / 6, up to K / 6: 8 from order 9 to order 0, and some 2^57 from order 63 to order 0. It
+    /// makes room for all of them at first, so a split that wants more than there is answers `Memory` and changes nothing.
+    pub fn split(&mut self, index: u64, order: u32) -> Result<(), Refusal>
+        ensures splits { OnOk result (self.new ≡ record { ranges = split self.old.ranges index order; ready = None }) }
+
+        // Why it is refused: no entry at the index, else an order above the entry's, else want of memory, which the same
+        // level rules out.
+        ensures free { entry_at self.old.ranges index ≡ None → result ≡ Err Refusal.NoEntry }
+        ensures order { (first : ℕ) (r : Range) → entry_at self.old.ranges index ≡ Some (first, r) → r.order < order → result ≡ Err Refusal.BadOrder }
+        ensures memory { (first : ℕ) (r : Range) → entry_at self.old.ranges index ≡ Some (first, r) → order ≤ r.order → IfErr result (λ refusal. refusal ≡ Refusal.Memory) }
+        ensures no_memory { (first : ℕ) (r : Range) → entry_at self.old.ranges index ≡ Some (first, r) → order ≤ r.order → order / 6 ≡ r.order / 6 → IsOk result }
+        ensures refused { IfErr result (λ refusal. self.new ≡ after_refusal refusal self.old) }
+        ensures kept { OnErr result (self.new.ranges ≡ self.old.ranges) }
+    {
+        let whole = self.ranged.whole(index, order)?;
+        self.ready = None;
+        self.ranged.split(whole, order)
     }
 
     /// Sets a mark of the entry at an index.
@@ -142,7 +208,7 @@ impl XArray {
         ensures sets { OnOk result (self.new ≡ record { ranges = remarked self.old.ranges index mark true; ready = None }) }
         ensures refused { OnErr result (self.new ≡ self.old) }
     {
-        if !self.flat.set_mark(index, mark.number()) {
+        if !self.ranged.set_mark(index, mark) {
             return Err(Refusal::NoEntry);
         }
         self.ready = None;
@@ -154,21 +220,21 @@ impl XArray {
         ensures { self.new ≡ record { ranges = remarked self.old.ranges index mark false; ready = None } }
     {
         self.ready = None;
-        self.flat.clear_mark(index, mark.number());
+        self.ranged.clear_mark(index, mark);
     }
 
     /// Whether the entry at an index has a mark.
     pub fn get_mark(&self, index: u64, mark: Mark) -> bool
         ensures { result ≡ is_marked mark (entry_at self.now.ranges index) }
     {
-        self.flat.get_mark(index, mark.number())
+        self.ranged.get_mark(index, mark)
     }
 
     /// Whether any entry has the mark.
     pub fn marked(&self, mark: Mark) -> bool
         ensures { result ≡ list_any (has_mark mark) (map.values self.now.ranges) }
     {
-        self.flat.marked(mark.number())
+        self.ranged.marked(mark)
     }
 
     /// The lowest entry whose range meets the indexes from `from` to `to`.
@@ -176,14 +242,7 @@ impl XArray {
     pub fn find(&self, from: u64, to: u64) -> Option<Found>
         ensures { result ≡ option_map found_of (lowest is_any self.now.ranges from to) }
     {
-        let Some((first, value)) = self.flat.find(from, to) else {
-            return None;
-        };
-        Some(Found {
-            first,
-            order: 0,
-            value,
-        })
+        self.ranged.find(from, to)
     }
 
     /// The lowest entry with the mark whose range meets the indexes from `from` to `to`.
@@ -191,35 +250,38 @@ impl XArray {
     pub fn find_marked(&self, from: u64, to: u64, mark: Mark) -> Option<Found>
         ensures { result ≡ option_map found_of (lowest (has_mark mark) self.now.ranges from to) }
     {
-        let Some((first, value)) = self.flat.find_marked(from, to, mark.number()) else {
-            return None;
-        };
-        Some(Found {
-            first,
-            order: 0,
-            value,
-        })
+        self.ranged.find_marked(from, to, mark)
     }
 
     /// Sets the mark `other` of every entry with the mark whose range meets the indexes from `from` to `to`, and answers how
     /// many they are. It goes from one marked entry to the next.
     pub fn retag(&mut self, from: u64, to: u64, mark: Mark, other: Mark) -> u64
-        // Only all 2^64 indexes together are more than a `u64` can count.
+        // Only 2^64 entries of one index each are more than a `u64` can count.
         ensures count { result ≡ min (count_of self.old.ranges from to mark) (2 ^ 64 - 1) }
         ensures retags { self.new ≡ record { ranges = retagged self.old.ranges from to mark other; ready = None } }
     {
         self.ready = None;
+        if from > to {
+            return 0;
+        }
         let mut count: u64 = 0;
-        let mut next = from;
+        let mut next = self.ranged.start(from);
         'entries: loop {
-            let Some(index) = self.flat.tag_next(next, to, mark.number(), other.number()) else {
+            let Some(last) = self.ranged.tag_next(next, to, mark, other) else {
                 return count;
             };
             count = count.saturating_add(1);
-            if index == to {
+            if last >= to {
                 return count;
             }
-            next = index + 1;
+            next = last + 1;
         }
     }
+}
+
+// Whether a range of this order may begin at an index.
+fn is_aligned(index: u64, order: u32) -> bool
+    ensures { MatchBool result ((order ≤ 63) × (index % 2 ^ order ≡ 0)) ((63 < order) ⊎ (index % 2 ^ order ≢ 0)) }
+{
+    order <= 63 && index % (1 << order) == 0
 }

@@ -1,15 +1,15 @@
 #![tactic(auto)]
-//! A marked array: values by index, each with three marks, over radix nodes (the XArray of Linux's core-api).
+//! A marked array: values by ranges of indexes, each with three marks, over radix nodes (the XArray of Linux's core-api).
 //!
-//! Each call is its case on a finite map of ranges (`specs/MarkedArray.antt`). Entries of one index are served;
-//! multi-index entries are still to come.
+//! Each call is its case on a finite map of ranges (`specs/MarkedArray.antt`). A range of order k is 2^k indexes, aligned.
 //!
-//! `array` has the array as its caller sees it, and `entry` what it speaks of. `flat` is the same over the nodes, index by
-//! index. `proofs/Singles.antt` is for callers whose entries have one index each.
+//! `array` has the array as its caller sees it, and `entry` what it speaks of. `ranged` is the same over the nodes, where an
+//! entry is a leaf and its siblings, and `ranged/split` makes one into parts. `proofs/Singles.antt` is for callers whose
+//! entries have one index each.
 
 mod array;
 mod entry;
-mod flat;
+mod ranged;
 #[cfg(test)]
 mod tests;
 

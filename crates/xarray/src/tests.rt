@@ -1,6 +1,6 @@
 //! The array's calls row by row, its ends, and each call once more beside what a table of a few entries says.
 
-ghost use Rattle.std.specs.Prelude.{◌≡◌, OnOk, true};
+ghost use Rattle.std.specs.Prelude.{◌≡◌, ◌<◌, ◌≤◌, OnOk, true};
 ghost use Rattle.std.specs.FinMap as map;
 ghost use Rattle.xarray.specs.MarkedArray.{remarked, unmarked};
 
@@ -42,6 +42,9 @@ fn marks_are_found_in_order(rt: HostRuntime) -> Result<(), Fail> {
     assert_marks(&rt, &mut array, 70, Mark::M0);
     assert_marks(&rt, &mut array, 4096, Mark::M0);
     assert_eq!(rt; array.find_marked(0, ALL, Mark::M0), one(70, 2));
+    assert_eq!(rt; array.load_marked(70, Mark::M0), Some(2));
+    assert_eq!(rt; array.load_marked(70, Mark::M1), None);
+    assert_eq!(rt; array.load_marked(71, Mark::M0), None);
     array.clear_mark(70, Mark::M0);
     assert_eq!(rt; array.find_marked(0, ALL, Mark::M0), one(4096, 3));
     assert_eq!(rt; array.erase(4096), Some(3));
@@ -129,14 +132,141 @@ fn store_keeps_marks(rt: HostRuntime) -> Result<(), Fail> {
     Ok(())
 }
 
-// Orders above 0 are refused, also where the index is a multiple of the range's length.
+fn range(first: u64, order: u32, value: u64) -> Option<Found> {
+    Some(Found {
+        first,
+        order,
+        value,
+    })
+}
+
+// Each index of a range has its entry; a search that begins inside it answers it with its first index, and once; marks are
+// the whole range's; and it goes whole.
 #[test]
-fn only_order_0_is_served(rt: HostRuntime) -> Result<(), Fail> {
+fn range_is_one_entry(rt: HostRuntime) -> Result<(), Fail> {
     let mut array = XArray::new(rt.alloc());
-    assert_eq!(rt; array.reserve(0, 1), Err(Refusal::BadOrder));
-    assert_eq!(rt; array.reserve(0, 64), Err(Refusal::BadOrder));
-    assert_eq!(rt; array.reserve(ALL, 0), Ok(()));
+    assert_eq!(rt; array.insert_order(64, 6, 7), Ok(()));
+    for index in [64u64, 100, 127] {
+        assert_eq!(rt; array.load(index), Some(7));
+    }
+    assert_eq!(rt; array.load(63), None);
+    assert_eq!(rt; array.load(128), None);
+    assert_marks(&rt, &mut array, 100, Mark::M0);
+    assert_eq!(rt; array.find_marked(0, 200, Mark::M0), range(64, 6, 7));
+    assert_eq!(rt; array.find_marked(65, 200, Mark::M0), range(64, 6, 7));
+    assert_eq!(rt; array.find_marked(128, 200, Mark::M0), None);
+    assert_eq!(rt; array.retag(0, 64, Mark::M0, Mark::M2), 1);
+    assert!(rt; array.get_mark(127, Mark::M2));
+    assert_eq!(rt; array.erase(127), Some(7));
+    assert!(rt; !array.marked(Mark::M0));
     assert_eq!(rt; array.nodes(), 0);
+    Ok(())
+}
+
+// Every order from 0 to 63 is served at its last place, and no other.
+#[test]
+fn each_order_is_served(rt: HostRuntime) -> Result<(), Fail> {
+    let mut array = XArray::new(rt.alloc());
+    for order in 0..64u32 {
+        let first = u64::MAX - ((1u64 << order) - 1);
+        assert_eq!(rt; array.reserve(first, order), Ok(()));
+        assert_eq!(rt; array.insert_order(first, order, 9), Ok(()));
+        assert_eq!(rt; array.insert_order(ALL, 0, 9), Err(Refusal::Busy));
+        assert_eq!(rt; array.find(ALL, ALL), range(first, order, 9));
+        assert_eq!(rt; array.store(ALL, 8), Ok(Some(9)));
+        assert_eq!(rt; array.erase(first), Some(8));
+        assert_eq!(rt; array.nodes(), 0);
+    }
+    assert_eq!(rt; array.insert_order(0, 64, 9), Err(Refusal::BadOrder));
+    assert_eq!(rt; array.insert_order(1, 1, 9), Err(Refusal::BadOrder));
+    assert_eq!(rt; array.insert_order(1, 64, ALL), Err(Refusal::BadEntry));
+    assert_eq!(rt; array.reserve(0, 64), Err(Refusal::BadOrder));
+    assert_eq!(rt; array.reserve(2, 2), Err(Refusal::BadOrder));
+    Ok(())
+}
+
+// A range that meets an entry anywhere is refused, and leaves all as it was.
+#[test]
+fn ranges_do_not_overlap(rt: HostRuntime) -> Result<(), Fail> {
+    let mut array = XArray::new(rt.alloc());
+    assert_fresh(&rt, &mut array, 4095, 1);
+    assert_eq!(rt; array.insert_order(0, 12, 2), Err(Refusal::Busy));
+    assert_eq!(rt; array.insert_order(0, 13, 2), Err(Refusal::Busy));
+    assert_eq!(rt; array.insert_order(4096, 12, 2), Ok(()));
+    assert_eq!(rt; array.insert(8191, 3), Err(Refusal::Busy));
+    assert_eq!(rt; array.find(0, ALL), one(4095, 1));
+    assert_eq!(rt; array.find(4096, ALL), range(4096, 12, 2));
+    Ok(())
+}
+
+// Each part of an entry has its value and its marks, and goes alone.
+#[test]
+fn parts_are_entries(rt: HostRuntime) -> Result<(), Fail> {
+    let mut array = XArray::new(rt.alloc());
+    assert_eq!(rt; array.insert_order(0, 2, 9), Ok(()));
+    assert_marks(&rt, &mut array, 1, Mark::M1);
+    assert_eq!(rt; array.split(3, 0), Ok(()));
+    assert_eq!(rt; array.erase(2), Some(9));
+    assert_eq!(rt; array.load(3), Some(9));
+    assert_eq!(rt; array.retag(0, 3, Mark::M1, Mark::M0), 3);
+    assert_eq!(rt; array.find(1, ALL), one(1, 9));
+    assert!(rt; !array.get_mark(3, Mark::M2));
+    Ok(())
+}
+
+// Splits a marked entry at 0, looks at the first and the last index of each part, and takes the parts away.
+fn check_split(rt: &impl Abort, array: &mut XArray, from: u32, order: u32, nodes: usize)
+    requires high { from < 32 }
+    requires low { order ≤ from }
+{
+    assert_eq!(rt; array.insert_order(0, from, 7), Ok(()));
+    assert_marks(rt, array, 1, Mark::M2);
+    assert_eq!(rt; array.split(5, order), Ok(()));
+    assert_eq!(rt; array.find(1 << from, ALL), None);
+    assert_eq!(rt; array.nodes(), nodes);
+    for part in 0..1u64 << (from - order) {
+        let first = part << order;
+        let last = first | ((1 << order) - 1);
+        assert_eq!(rt;
+            array.find_marked(first, first, Mark::M2),
+            range(first, order, 7)
+        );
+        assert!(rt; !array.get_mark(last, Mark::M0));
+        assert_eq!(rt; array.find(last, last), range(first, order, 7));
+        assert_eq!(rt; array.erase(last), Some(7));
+    }
+    assert_eq!(rt; array.nodes(), 0);
+}
+
+// A split crosses levels, in a node for each slot, and a node goes with its last entry.
+#[test]
+fn split_crosses_levels(rt: HostRuntime) -> Result<(), Fail> {
+    let mut array = XArray::new(rt.alloc());
+    check_split(&rt, &mut array, 9, 0, 9);
+    check_split(&rt, &mut array, 12, 3, 66);
+    check_split(&rt, &mut array, 7, 6, 1);
+    check_split(&rt, &mut array, 13, 7, 3);
+    check_split(&rt, &mut array, 18, 1, 4_162);
+    Ok(())
+}
+
+// An index without an entry comes before an order that is too great, and the entry's own order is none. More nodes than
+// memory has are refused, and nothing changes.
+#[test]
+fn split_is_refused(rt: HostRuntime) -> Result<(), Fail> {
+    let mut array = XArray::new(rt.alloc());
+    assert_eq!(rt; array.split(0, 64), Err(Refusal::NoEntry));
+    assert_eq!(rt; array.insert_order(8, 3, 7), Ok(()));
+    assert_eq!(rt; array.split(7, 0), Err(Refusal::NoEntry));
+    assert_eq!(rt; array.split(15, 4), Err(Refusal::BadOrder));
+    assert_eq!(rt; array.split(15, 64), Err(Refusal::BadOrder));
+    assert_eq!(rt; array.split(15, 3), Ok(()));
+    assert_eq!(rt; array.find(0, ALL), range(8, 3, 7));
+    assert_eq!(rt; array.insert_order(1 << 63, 63, 8), Ok(()));
+    assert_eq!(rt; array.split(ALL, 0), Err(Refusal::Memory));
+    assert_eq!(rt; array.find(ALL, ALL), range(1 << 63, 63, 8));
+    assert_eq!(rt; array.split(ALL, 60), Ok(()));
+    assert_eq!(rt; array.find(ALL, ALL), range(15 << 60, 60, 8));
     Ok(())
 }
 

@@ -1,4 +1,5 @@
 pub mod OperationLemmas
+pub mod SplitLemmas
 pub mod SumLemmas
 pub mod WalkLemmas
 pub mod WordLemmas

@@ -4,7 +4,7 @@ use Rattle.std.specs.Prelude.{codes, if◌then◌else◌}
 use Rattle.std.specs.Str.{bytes_eq}
 use Rattle.std.proofs.lemmas.Fmt.{decimal_injective}
 use Rattle.xarray_trace.specs.declared.keyword.Keyword.{Keyword}
-use Rattle.xarray_trace.specs.declared.keyword.Keyword.TheVariants.{Store, Insert, Erase, Load, SetMark, ClearMark, GetMark, Marked, Find, FindMarked, Retag, Empty, Hash, Dump, New, Ids, Alloc, AllocCyclic, Free, IsUsed, ErrNew, ErrSet, ErrSample, ErrCheck, ErrAdvance}
+use Rattle.xarray_trace.specs.declared.keyword.Keyword.TheVariants.{Store, Insert, InsertOrder, Erase, Load, Split, SetMark, ClearMark, GetMark, Marked, Find, FindMarked, Retag, Empty, Hash, Dump, New, Ids, Alloc, AllocCyclic, Free, IsUsed, ErrNew, ErrSet, ErrSample, ErrCheck, ErrAdvance}
 use Rattle.xarray_trace.specs.declared.operation.Operation.{Operation}
 use Rattle.xarray_trace.specs.Keywords.{name_of}
 use Rattle.xarray_trace.specs.Lines.{Means}
@@ -18,8 +18,10 @@ keyword_of_name : List ℕ → Keyword
 keyword_of_name text =
     if bytes_eq text (codes "store") then Store
     else if bytes_eq text (codes "insert") then Insert
+    else if bytes_eq text (codes "insert_order") then InsertOrder
     else if bytes_eq text (codes "erase") then Erase
     else if bytes_eq text (codes "load") then Load
+    else if bytes_eq text (codes "split") then Split
     else if bytes_eq text (codes "set_mark") then SetMark
     else if bytes_eq text (codes "clear_mark") then ClearMark
     else if bytes_eq text (codes "get_mark") then GetMark
@@ -46,8 +48,10 @@ keyword_of_name-name_of : (k : Keyword) → keyword_of_name (name_of k) ≡ k
 unfolding keyword_of_name
 keyword_of_name-name_of Store = refl
 keyword_of_name-name_of Insert = refl
+keyword_of_name-name_of InsertOrder = refl
 keyword_of_name-name_of Erase = refl
 keyword_of_name-name_of Load = refl
+keyword_of_name-name_of Split = refl
 keyword_of_name-name_of SetMark = refl
 keyword_of_name-name_of ClearMark = refl
 keyword_of_name-name_of GetMark = refl

@@ -1,16 +1,16 @@
 -- What each call on the array answers, and what it leaves: the case of the array's own call (xarray, specs/MarkedArray).
-use Rattle.std.specs.Prelude.{ℕ, ◌-◌, ◌^◌, min, ◌==◌, true, false, nat_lt, if◌then◌else◌, Option, Some, None, option_map}
+use Rattle.std.specs.Prelude.{ℕ, ◌+◌, ◌-◌, ◌%◌, ◌^◌, min, ◌==◌, ◌&&◌, true, false, nat_lt, if◌then◌else◌, Option, Some, None, option_map}
 use Rattle.std.specs.List.{list_any}
 use Rattle.std.specs.FinMap as map
-use Rattle.pc_types.specs.declared.refusal.Refusal.TheVariants.{BadEntry, Busy, NoEntry}
+use Rattle.pc_types.specs.declared.refusal.Refusal.TheVariants.{BadEntry, BadOrder, Busy, NoEntry}
 use Rattle.xarray.specs.declared.entry.Found.{Found}
 use Rattle.xarray.specs.declared.entry.Mark.{Mark}
-use Rattle.xarray.specs.MarkedArray.{Array, Range, Ranges, entry_at, erased, found_of, has_mark, is_any, is_marked, lowest, remarked, retagged, count_of, stored, unmarked}
+use Rattle.xarray.specs.MarkedArray.{Array, Range, Ranges, entry_at, erased, found_of, has_mark, is_any, is_marked, lowest, remarked, retagged, count_of, split, stored, unmarked}
 use Rattle.xarray_trace.specs.Entries.{entry_count, hash_of}
 use Rattle.xarray_trace.specs.declared.answer.Answer.{Answer}
 use Rattle.xarray_trace.specs.declared.answer.Answer.TheVariants as says
 use Rattle.xarray_trace.specs.declared.array_call.ArrayCall.{ArrayCall}
-use Rattle.xarray_trace.specs.declared.array_call.ArrayCall.TheVariants.{Store, Insert, Erase, Load, SetMark, ClearMark, GetMark, Marked, Find, FindMarked, Retag, Empty, Hash, Dump, New}
+use Rattle.xarray_trace.specs.declared.array_call.ArrayCall.TheVariants.{Store, Insert, InsertOrder, Erase, Load, Split, SetMark, ClearMark, GetMark, Marked, Find, FindMarked, Retag, Empty, Hash, Dump, New}
 
 -- the value of the entry at an index
 abbrev pub value_at : Array → ℕ → Option ℕ
@@ -37,6 +37,18 @@ abbrev pub inserted : Array → ℕ → ℕ → Option (ℕ × Range) → Answer
 inserted a index value None = (says.Ok, holding (map.insert a.ranges index (unmarked 0 value)))
 inserted a index value (Some e) = (says.Refused Busy, a)
 
+-- an insert of a range, where this is the lowest entry that it meets
+abbrev pub range_inserted : Array → ℕ → ℕ → ℕ → Option (ℕ × Range) → Answer × Array
+range_inserted a index order value None = (says.Ok, holding (map.insert a.ranges index (unmarked order value)))
+range_inserted a index order value (Some e) = (says.Refused Busy, a)
+
+-- a split to this order, where this stands at the index
+abbrev pub split_made : Array → ℕ → ℕ → Option (ℕ × Range) → Answer × Array
+split_made a index order None = (says.Refused NoEntry, a)
+split_made a index order (Some e) =
+    if nat_lt e.1.order order then (says.Refused BadOrder, a)
+    else (says.Ok, holding (split a.ranges index order))
+
 -- a mark set, where this stands at the index
 abbrev pub mark_set : Array → ℕ → Mark → Option (ℕ × Range) → Answer × Array
 mark_set a index mark None = (says.Refused NoEntry, a)
@@ -50,8 +62,14 @@ made a (Store index value) =
 made a (Insert index value) =
     if nat_lt value (2 ^ 63) then inserted a index value (entry_at a.ranges index)
     else (says.Refused BadEntry, a)
+made a (InsertOrder index order value) =
+    if nat_lt value (2 ^ 63) then
+    if nat_lt order 64 && (index % 2 ^ order == 0) then range_inserted a index order value (lowest is_any a.ranges index (index + 2 ^ order - 1))
+    else (says.Refused BadOrder, a)
+    else (says.Refused BadEntry, a)
 made a (Erase index) = (before_answer (value_at a index), holding (erased a.ranges index))
 made a (Load index) = (value_answer (value_at a index), a)
+made a (Split index order) = split_made a index order (entry_at a.ranges index)
 made a (SetMark index mark) = mark_set a index mark (entry_at a.ranges index)
 made a (ClearMark index mark) = (says.Ok, holding (remarked a.ranges index mark false))
 made a (GetMark index mark) = (says.Is (is_marked mark (entry_at a.ranges index)), a)

@@ -1,13 +1,15 @@
 -- The names of the operations.
 use Rattle.std.specs.Prelude.{ℕ, List, codes}
 use Rattle.xarray_trace.specs.declared.keyword.Keyword.{Keyword}
-use Rattle.xarray_trace.specs.declared.keyword.Keyword.TheVariants.{Store, Insert, Erase, Load, SetMark, ClearMark, GetMark, Marked, Find, FindMarked, Retag, Empty, Hash, Dump, New, Ids, Alloc, AllocCyclic, Free, IsUsed, ErrNew, ErrSet, ErrSample, ErrCheck, ErrAdvance}
+use Rattle.xarray_trace.specs.declared.keyword.Keyword.TheVariants.{Store, Insert, InsertOrder, Erase, Load, Split, SetMark, ClearMark, GetMark, Marked, Find, FindMarked, Retag, Empty, Hash, Dump, New, Ids, Alloc, AllocCyclic, Free, IsUsed, ErrNew, ErrSet, ErrSample, ErrCheck, ErrAdvance}
 
 abbrev pub name_of : Keyword → List ℕ
 name_of Store = codes "store"
 name_of Insert = codes "insert"
+name_of InsertOrder = codes "insert_order"
 name_of Erase = codes "erase"
 name_of Load = codes "load"
+name_of Split = codes "split"
 name_of SetMark = codes "set_mark"
 name_of ClearMark = codes "clear_mark"
 name_of GetMark = codes "get_mark"

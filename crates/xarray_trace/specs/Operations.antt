@@ -9,7 +9,7 @@ use Rattle.xarray_trace.specs.declared.word_call.TheConstants.{CURSORS}
 use Rattle.xarray_trace.specs.declared.operation.Operation.{Operation}
 use Rattle.xarray_trace.specs.declared.operation.Operation.TheVariants.{Array, Id, Word}
 use Rattle.xarray_trace.specs.declared.keyword.Keyword.{Keyword}
-use Rattle.xarray_trace.specs.declared.keyword.Keyword.TheVariants.{Store, Insert, Erase, Load, SetMark, ClearMark, GetMark, Marked, Find, FindMarked, Retag, Empty, Hash, Dump, New, Ids, Alloc, AllocCyclic, Free, IsUsed, ErrNew, ErrSet, ErrSample, ErrCheck, ErrAdvance}
+use Rattle.xarray_trace.specs.declared.keyword.Keyword.TheVariants.{Store, Insert, InsertOrder, Erase, Load, Split, SetMark, ClearMark, GetMark, Marked, Find, FindMarked, Retag, Empty, Hash, Dump, New, Ids, Alloc, AllocCyclic, Free, IsUsed, ErrNew, ErrSet, ErrSample, ErrCheck, ErrAdvance}
 
 -- the mark of a number, 0 to 2
 abbrev pub mark_of : ℕ → Option Mark
@@ -43,6 +43,7 @@ with_one _ a = None
 abbrev pub with_two : Keyword → ℕ → ℕ → Option Operation
 with_two Store a b = Some (Array (array.Store a b))
 with_two Insert a b = Some (Array (array.Insert a b))
+with_two Split a b = Some (Array (array.Split a b))
 with_two SetMark a b = option_map (λ mark. Array (array.SetMark a mark)) (mark_of b)
 with_two ClearMark a b = option_map (λ mark. Array (array.ClearMark a mark)) (mark_of b)
 with_two GetMark a b = option_map (λ mark. Array (array.GetMark a mark)) (mark_of b)
@@ -52,6 +53,7 @@ with_two AllocCyclic a b = Some (Id (id.AllocCyclic a b))
 with_two _ a b = None
 
 abbrev pub with_three : Keyword → ℕ → ℕ → ℕ → Option Operation
+with_three InsertOrder a b c = Some (Array (array.InsertOrder a b c))
 with_three FindMarked a b c = option_map (λ mark. Array (array.FindMarked a b mark)) (mark_of c)
 with_three _ a b c = None
 

@@ -16,8 +16,12 @@ use xarray::{Mark, XArray};
 pub enum ArrayCall {
     Store(u64, u64),
     Insert(u64, u64),
+    /// A first index, an order and a value.
+    InsertOrder(u64, u64, u64),
     Erase(u64),
     Load(u64),
+    /// An index, and the order of the parts.
+    Split(u64, u64),
     SetMark(u64, Mark),
     ClearMark(u64, Mark),
     GetMark(u64, Mark),
@@ -39,6 +43,8 @@ pub fn make(alloc: Global, array: &mut XArray, call: ArrayCall) -> Result<Answer
     match call {
         ArrayCall::Store(index, value) => store(array, index, value),
         ArrayCall::Insert(index, value) => insert(array, index, value),
+        ArrayCall::InsertOrder(index, order, value) => insert_order(array, index, order, value),
+        ArrayCall::Split(index, order) => split(array, index, order),
         ArrayCall::SetMark(index, mark) => set_mark(array, index, mark),
         ArrayCall::Erase(index) => Ok(Answer::before(array.erase(index))),
         ArrayCall::ClearMark(index, mark) => {
@@ -92,6 +98,33 @@ fn insert(array: &mut XArray, index: u64, value: u64) -> Result<Answer, Stop>
     ensures refused { IsOkUnless result Stop.Memory }
 {
     match array.insert(index, value) {
+        Ok(()) => Ok(Answer::Ok),
+        Err(Refusal::Memory) => Err(Stop::Memory),
+        Err(refusal) => Ok(Answer::Refused(refusal)),
+    }
+}
+
+fn insert_order(array: &mut XArray, index: u64, order: u64, value: u64) -> Result<Answer, Stop>
+    ensures made { IfOk result (λ answer. (answer, array.new) ≡ made array.old (call.InsertOrder index order value)) }
+    ensures refused { IsOkUnless result Stop.Memory }
+{
+    // No order from 64 on is one, so the least of them stands for all.
+    let order = order.min(64) as u32;
+    match array.insert_order(index, order, value) {
+        Ok(()) => Ok(Answer::Ok),
+        Err(Refusal::Memory) => Err(Stop::Memory),
+        Err(refusal) => Ok(Answer::Refused(refusal)),
+    }
+}
+
+fn split(array: &mut XArray, index: u64, order: u64) -> Result<Answer, Stop>
+    ensures made { IfOk result (λ answer. (answer, array.new) ≡ made array.old (call.Split index order)) }
+    ensures refused { IsOkUnless result Stop.Memory }
+{
+    // The check learns here that no entry has an order above 63, so 64 stands for all from there on. This costs nothing.
+    let _nodes = array.nodes();
+    let order = order.min(64) as u32;
+    match array.split(index, order) {
         Ok(()) => Ok(Answer::Ok),
         Err(Refusal::Memory) => Err(Stop::Memory),
         Err(refusal) => Ok(Answer::Refused(refusal)),

@@ -9,8 +9,10 @@ ghost use Rattle.xarray_trace.specs.declared.keyword.Keyword.{Keyword as TheKeyw
 pub enum Keyword {
     Store,
     Insert,
+    InsertOrder,
     Erase,
     Load,
+    Split,
     SetMark,
     ClearMark,
     GetMark,
@@ -42,8 +44,10 @@ impl Keyword {
         Some(match word {
             b"store" => Keyword::Store,
             b"insert" => Keyword::Insert,
+            b"insert_order" => Keyword::InsertOrder,
             b"erase" => Keyword::Erase,
             b"load" => Keyword::Load,
+            b"split" => Keyword::Split,
             b"set_mark" => Keyword::SetMark,
             b"clear_mark" => Keyword::ClearMark,
             b"get_mark" => Keyword::GetMark,

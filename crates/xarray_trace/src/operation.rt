@@ -92,6 +92,7 @@ fn with_two(keyword: Keyword, a: u64, b: u64) -> Option<Operation>
     match keyword {
         Keyword::Store => Some(Operation::Array(ArrayCall::Store(a, b))),
         Keyword::Insert => Some(Operation::Array(ArrayCall::Insert(a, b))),
+        Keyword::Split => Some(Operation::Array(ArrayCall::Split(a, b))),
         Keyword::SetMark => Some(Operation::Array(ArrayCall::SetMark(a, mark_of(b)?))),
         Keyword::ClearMark => Some(Operation::Array(ArrayCall::ClearMark(a, mark_of(b)?))),
         Keyword::GetMark => Some(Operation::Array(ArrayCall::GetMark(a, mark_of(b)?))),
@@ -106,6 +107,7 @@ fn with_three(keyword: Keyword, a: u64, b: u64, c: u64) -> Option<Operation>
     ensures { result ≡ with_three keyword a b c }
 {
     match keyword {
+        Keyword::InsertOrder => Some(Operation::Array(ArrayCall::InsertOrder(a, b, c))),
         Keyword::FindMarked => Some(Operation::Array(ArrayCall::FindMarked(a, b, mark_of(c)?))),
         _ => None,
     }

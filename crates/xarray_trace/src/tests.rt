@@ -42,6 +42,14 @@ fn operations_are_answered(rt: HostRuntime) -> Result<(), Fail> {
             "none\nnone\nnone\nok\nok\ncount 1\ncount 2\ncount 0\nentries 3\n1 0 1 012\n2 0 2 -\n18446744073709551615 0 3 02\n",
         ),
         (
+            "insert_order 64 6 7\nload 127\nload 128\nset_mark 100 0\nfind_marked 65 200 0\nretag 0 64 0 2\ninsert_order 0 7 9\ninsert_order 1 1 9\ninsert_order 0 64 9\ninsert_order 0 64 9223372036854775808\ndump\nerase 127\nempty\n",
+            "ok\nvalue 7\nnone\nok\nentry 64 6 7\ncount 1\nrefused 12\nrefused 18\nrefused 18\nrefused 17\nentries 1\n64 6 7 02\nold 7\ntrue\n",
+        ),
+        (
+            "insert_order 0 9 7\nset_mark 300 1\nsplit 511 10\nsplit 511 64\nsplit 511 18446744073709551615\nsplit 512 0\nsplit 511 8\nsplit 255 8\ndump\nerase 0\nsplit 256 0\nload 256\nfind_marked 0 300 1\nretag 0 511 1 0\n",
+            "ok\nok\nrefused 18\nrefused 18\nrefused 18\nrefused 20\nok\nok\nentries 2\n0 8 7 1\n256 8 7 1\nold 7\nok\nvalue 7\nentry 256 0 7\ncount 256\n",
+        ),
+        (
             "store 1 1\nnew\nload 1\ndump\nhash\n",
             "none\nok\nnone\nentries 0\nhash 0 cbf29ce484222325\n",
         ),
@@ -94,8 +102,8 @@ fn other_lines_are_unknown(rt: HostRuntime) -> Result<(), Fail> {
         "err_advance 8",
         "err_sample 8",
         "empty 0",
-        "insert_order 0 0 1",
-        "split 0 0",
+        "insert_order 0 0",
+        "split 0",
         "ids 0",
         "alloc 0",
         "alloc_cyclic 0 1 2",

@@ -18,7 +18,7 @@ use pc_types::{ErrCode, Refusal, Serial};
 
 impl<D: BlockDevice> World<D> {
     /// Makes the device call of the request.
-    pub(super) fn call(&mut self, serial: Serial) -> Result<(), Refusal>
+    pub fn call(&mut self, serial: Serial) -> Result<(), Refusal>
         ensures { CallReply self.old serial.0 (map.get self.old.core.requests serial.0) (map.get self.old.outcomes serial.0) (done result) self.new }
     {
         match self.jobs.take(serial) {
@@ -36,7 +36,7 @@ impl<D: BlockDevice> World<D> {
     }
 
     /// Ends the request.
-    pub(super) fn end(&mut self, serial: Serial) -> Reply
+    pub fn end(&mut self, serial: Serial) -> Reply
         ensures { Steps self.old (Step.End serial) result self.new }
     {
         match self.jobs.take(serial) {

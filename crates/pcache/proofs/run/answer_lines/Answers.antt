@@ -9,7 +9,7 @@ use Rattle.pcache.proofs.RunLemmas.{stands_first, keeps_same, stands_fault, stan
 use Rattle.pcache.proofs.run.answer_lines.Goals as goal
 
 pub lines-init : goal.lines-init
-lines-init g c = stands_first _ _ _ _ c.requires.first_line c.requires.no_world
+lines-init g c = stands_first _ _ _ _ c.requires.first_line c.requires.no_session
 
 pub returns-in_err-fetch : goal.returns-in_err-fetch
 returns-in_err-fetch g c =

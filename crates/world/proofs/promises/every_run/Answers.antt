@@ -5,6 +5,7 @@ use Rattle.world.proofs.OneBound.{awaits_by_bound}
 use Rattle.world.proofs.SyncRuns.{dirty_pages_stay, syncs_are_synced, syncs_rise, syncs_tell}
 use Rattle.world.proofs.FewWrites.{sync_writes_are_few}
 use Rattle.world.proofs.FilesHeld.{files_are_held}
+use Rattle.world.proofs.Reached.{files_are_those}
 use Rattle.world.proofs.promises.every_run.Goals as goal
 
 pub returns-clause-always : goal.returns-clause-always
@@ -42,3 +43,6 @@ returns-clause-never_stuck c = no_event_is_stuck
 
 pub returns-clause-held : goal.returns-clause-held
 returns-clause-held c = files_are_held
+
+pub returns-clause-those : goal.returns-clause-those
+returns-clause-those c = files_are_those

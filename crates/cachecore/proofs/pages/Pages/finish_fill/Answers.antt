@@ -1,17 +1,18 @@
 use Rattle.std.proofs.Common.{arith, ap, sym, subst, refl, true, false, ◌∙◌, ◌≡◌, ℕ, List, length}
-use Rattle.std.specs.Prelude.{Some, is_some, slice_set}
+use Rattle.std.specs.Prelude.{Some, is_some, option_map, slice_set}
 use Rattle.std.specs.FinMap as map
 use Rattle.std.proofs.lemmas.Bool.{false≢true}
 use Rattle.std.proofs.lemmas.List.{get_or_read}
 use Rattle.frames.specs.Table.{free_frames}
 use Rattle.frames.specs.Rows.{with_row}
 use Rattle.frames.proofs.RowLemmas.{with_row-whole}
-use Rattle.mapping.specs.Pages.{seen}
+use Rattle.mapping.specs.Pages.{frame_of}
 use Rattle.pc_types.specs.Tags.{TagSet, no_tags}
 use Rattle.cachecore.specs.declared.kept.KeptFile.{KeptFile}
 use Rattle.cachecore.specs.State.{Page}
 use Rattle.cachecore.specs.Store.{Store, IsStore, store_of, none_kept, kept_at, entry_at, is_awaited, with_entry}
-use Rattle.cachecore.proofs.StoreLaws.{waits_at, waiting_entry, waiting_flag, none_seen, kept_same}
+use Rattle.cachecore.proofs.StoreLaws.{waits_at, waiting_entry, waiting_flag, none_seen, kept_same, some_mapped}
+use Rattle.cachecore.proofs.FrameEntries.{framed, framed_entry}
 use Rattle.cachecore.proofs.StoreFacts.{here_kept, page_taken, dirty_one, changed_store, changed_seen}
 use Rattle.cachecore.proofs.pages.Pages.finish_fill.Goals as goal
 
@@ -27,7 +28,7 @@ unreachable-requires c =
     let here = here_kept t up files f c.args.self.now c.self.view_is c.requires.here in
     let entry : c.index.result.now ≡ kept_at files f = get_or_read files f c.index.result.now here c.index.ensures none_kept in
     let waits = sym (waits_at t up files f p) ∙ ap (λ (s : Store). is_awaited s f p) c.self.view_is ∙ c.requires.filling in
-    false≢true (ap is_some c.in_default.ensures ∙ ap (λ (k : KeptFile). is_some (map.get k.mapping.pages p)) entry ∙ waiting_entry up (entry_at files f p) waits)
+    false≢true (ap is_some c.in_default.ensures ∙ some_mapped frame_of (map.get c.index.result.now.mapping.pages p) ∙ ap (λ (k : KeptFile). is_some (map.get k.mapping.pages p)) entry ∙ waiting_entry up (entry_at files f p) waits)
 
 pub bytes_mut-requires : goal.bytes_mut-requires
 bytes_mut-requires c =
@@ -40,8 +41,8 @@ bytes_mut-requires c =
     let p = c.args.page in
     let here = here_kept t up files f c.args.self.now c.self.view_is c.requires.here in
     let entry : c.index.result.now ≡ kept_at files f = get_or_read files f c.index.result.now here c.index.ensures none_kept in
-    let x = seen c.in-Some.mapped in
-    let there : map.get (kept_at files f).mapping.pages p ≡ Some x = sym (c.in-Some.ensures ∙ ap (λ (k : KeptFile). map.get k.mapping.pages p) entry) in
+    let x = framed (entry_at files f p) c.in-Some.frame in
+    let there : map.get (kept_at files f).mapping.pages p ≡ Some x = framed_entry (entry_at files f p) c.in-Some.frame (c.in-Some.ensures ∙ ap (λ (k : KeptFile). option_map frame_of (map.get k.mapping.pages p)) entry) in
     page_taken t up files dirty s f p x there
 
 pub invariant_of-self : goal.invariant_of-self
@@ -55,8 +56,8 @@ invariant_of-self c =
     let p = c.args.page in
     let here = here_kept t up files f c.args.self.now c.self.view_is c.requires.here in
     let entry : c.index.result.now ≡ kept_at files f = get_or_read files f c.index.result.now here c.index.ensures none_kept in
-    let x = seen c.in-Some.mapped in
-    let there : map.get (kept_at files f).mapping.pages p ≡ Some x = sym (c.in-Some.ensures ∙ ap (λ (k : KeptFile). map.get k.mapping.pages p) entry) in
+    let x = framed (entry_at files f p) c.in-Some.frame in
+    let there : map.get (kept_at files f).mapping.pages p ≡ Some x = framed_entry (entry_at files f p) c.in-Some.frame (c.in-Some.ensures ∙ ap (λ (k : KeptFile). option_map frame_of (map.get k.mapping.pages p)) entry) in
     let waits = sym (waits_at t up files f p) ∙ ap (λ (s : Store). is_awaited s f p) c.self.view_is ∙ c.requires.filling in
     let flag = waiting_flag up (entry_at files f p) waits x there in
     let bare = s.bare f p x there flag in
@@ -81,8 +82,8 @@ returns c =
     let p = c.args.page in
     let here = here_kept t up files f c.args.self.now c.self.view_is c.requires.here in
     let entry : c.index.result.now ≡ kept_at files f = get_or_read files f c.index.result.now here c.index.ensures none_kept in
-    let x = seen c.in-Some.mapped in
-    let there : map.get (kept_at files f).mapping.pages p ≡ Some x = sym (c.in-Some.ensures ∙ ap (λ (k : KeptFile). map.get k.mapping.pages p) entry) in
+    let x = framed (entry_at files f p) c.in-Some.frame in
+    let there : map.get (kept_at files f).mapping.pages p ≡ Some x = framed_entry (entry_at files f p) c.in-Some.frame (c.in-Some.ensures ∙ ap (λ (k : KeptFile). option_map frame_of (map.get k.mapping.pages p)) entry) in
     let waits = sym (waits_at t up files f p) ∙ ap (λ (s : Store). is_awaited s f p) c.self.view_is ∙ c.requires.filling in
     let flag = waiting_flag up (entry_at files f p) waits x there in
     let bare = s.bare f p x there flag in

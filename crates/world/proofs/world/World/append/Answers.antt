@@ -5,7 +5,7 @@ use Rattle.world.proofs.WorldSteps.{quiet_world}
 use Rattle.world.proofs.world.World.append.Goals as goal
 
 pub invariant_of-self : goal.invariant_of-self
-invariant_of-self g c = quiet_world c.self.inside.core.state c.self.inside.jobs _ c.self.invariant (event.Append c.args.handle c.args.bytes.now) _ c.append.new.self.state refl (rw c.as_slice.ensures at c.append.ensures.step)
+invariant_of-self g c = quiet_world c.self.inside.core.state c.self.inside.jobs _ c.self.invariant (event.Append c.args.handle c.args.bytes.now) _ c.append.new.self.state refl c.append.ensures.step
 
 pub returns : goal.returns
-returns g c = rw c.of_write.ensures (quiet_acted c.self.inside.core.state c.self.inside.jobs _ c.self.invariant _ c.self.view_is (event.Append c.args.handle c.args.bytes.now) _ c.append.new.self.state refl (rw c.as_slice.ensures at c.append.ensures.step))
+returns g c = quiet_acted c.self.inside.core.state c.self.inside.jobs _ c.self.invariant _ c.self.view_is (event.Append c.args.handle c.args.bytes.now) _ c.append.new.self.state refl c.append.ensures.step

@@ -1,5 +1,7 @@
-use Rattle.xarray.proofs.CallLemmas.{cleared-is}
+use Rattle.std.proofs.Common.{false}
+use Rattle.xarray.specs.MarkedArray.{remarked}
+use Rattle.xarray.proofs.ArrayLemmas.{changed-is}
 use Rattle.xarray.proofs.array.XArray.clear_mark.Goals as goal
 
 pub returns : goal.returns
-returns c = cleared-is c.self.inside.flat c.self.inside.ready c.args.self.now c.self.view_is c.clear_mark.new.self c.args.index c.number.result c.args.mark c.number.ensures c.clear_mark.ensures.set c.clear_mark.ensures.none
+returns c = changed-is c.self.inside.ranged c.self.inside.ready c.args.self.now c.self.view_is (λ m. remarked m c.args.index c.args.mark false) c.clear_mark.new.self c.clear_mark.ensures

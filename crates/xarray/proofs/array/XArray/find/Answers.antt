@@ -1,8 +1,7 @@
-use Rattle.xarray.proofs.CallLemmas.{nothing-found, one-found}
+use Rattle.std.proofs.Common.{option_map}
+use Rattle.xarray.specs.MarkedArray.{found_of, is_any, lowest}
+use Rattle.xarray.proofs.ArrayLemmas.{told}
 use Rattle.xarray.proofs.array.XArray.find.Goals as goal
 
-pub returns-in_default : goal.returns-in_default
-returns-in_default c = nothing-found c.self.inside.flat c.self.inside.ready c.args.self.now c.self.view_is c.args.from c.args.to c.find.result c.in_default.is c.find.ensures
-
 pub returns : goal.returns
-returns c = one-found c.self.inside.flat c.self.inside.ready c.args.self.now c.self.view_is c.args.from c.args.to c.in-Some.first c.in-Some.value c.in-Some.ensures
+returns c = told c.self.inside.ranged c.self.inside.ready c.args.self.now c.self.view_is (λ m. option_map found_of (lowest is_any m c.args.from c.args.to)) c.find.result c.find.ensures

@@ -1,23 +1,29 @@
-use Rattle.xarray.proofs.CallLemmas.{busy-held, inserted-free, inserted-is, kept, refused, refused-free}
+use Rattle.std.proofs.Common.{ap, ◌∙◌}
+use Rattle.std.specs.FinMap as map
+use Rattle.xarray.specs.MarkedArray.{Array, entry_at, unmarked}
+use Rattle.xarray.proofs.ArrayLemmas.{busy-held, kept, put-free, put-is, refused, refused-free}
 use Rattle.xarray.proofs.array.XArray.insert.Goals as goal
 
 pub returns-in-Ok-true-clause-inserts : goal.returns-in-Ok-true-clause-inserts
-returns-in-Ok-true-clause-inserts c = inserted-is c.self.inside.flat c.self.inside.ready c.args.self.now c.self.view_is c.insert.new.self c.args.index c.args.value c.in-Ok-true.field-0 c.in-Ok-true.field-0-test c.in-Ok-true.ensures.free
+returns-in-Ok-true-clause-inserts c = put-is c.self.inside.ranged c.self.inside.ready c.args.self.now c.self.view_is (λ m. entry_at m c.args.index) c.insert.new.self (λ m. map.insert m c.args.index (unmarked 0 c.args.value)) c.in-Ok-true.field-0 c.in-Ok-true.field-0-test c.in-Ok-true.ensures.free
 
 pub returns-in-Ok-true-clause-busy : goal.returns-in-Ok-true-clause-busy
-returns-in-Ok-true-clause-busy c = λ small some. absurd (inserted-free c.self.inside.flat c.self.inside.ready c.args.self.now c.self.view_is c.insert.new.self c.args.index c.args.value c.in-Ok-true.field-0 c.in-Ok-true.field-0-test c.in-Ok-true.ensures.free some)
+returns-in-Ok-true-clause-busy c = λ small some. absurd (put-free c.self.inside.ranged c.self.inside.ready c.args.self.now c.self.view_is (λ m. entry_at m c.args.index) c.insert.new.self (λ m. map.insert m c.args.index (unmarked 0 c.args.value)) c.in-Ok-true.field-0 c.in-Ok-true.field-0-test c.in-Ok-true.ensures.free some)
 
 pub returns-in-Ok-false-clause-memory : goal.returns-in-Ok-false-clause-memory
-returns-in-Ok-false-clause-memory c = λ small none. absurd (busy-held c.self.inside.flat c.self.inside.ready c.args.self.now c.self.view_is c.insert.new.self c.args.index c.args.value c.in-Ok-false.field-0 c.in-Ok-false.field-0-test c.in-Ok-false.ensures.free none)
+returns-in-Ok-false-clause-memory c = λ small none. absurd (busy-held c.self.inside.ranged c.self.inside.ready c.args.self.now c.self.view_is (λ m. entry_at m c.args.index) c.insert.new.self (λ m. map.insert m c.args.index (unmarked 0 c.args.value)) c.in-Ok-false.field-0 c.in-Ok-false.field-0-test c.in-Ok-false.ensures.free none)
 
 pub returns-in-Ok-false-clause-room : goal.returns-in-Ok-false-clause-room
-returns-in-Ok-false-clause-room c = λ small none room. absurd (busy-held c.self.inside.flat c.self.inside.ready c.args.self.now c.self.view_is c.insert.new.self c.args.index c.args.value c.in-Ok-false.field-0 c.in-Ok-false.field-0-test c.in-Ok-false.ensures.free none)
+returns-in-Ok-false-clause-room c = λ small none room. absurd (busy-held c.self.inside.ranged c.self.inside.ready c.args.self.now c.self.view_is (λ m. entry_at m c.args.index) c.insert.new.self (λ m. map.insert m c.args.index (unmarked 0 c.args.value)) c.in-Ok-false.field-0 c.in-Ok-false.field-0-test c.in-Ok-false.ensures.free none)
 
 pub returns-in-Err-clause-busy : goal.returns-in-Err-clause-busy
-returns-in-Err-clause-busy c = λ small some. absurd (refused-free c.self.inside.flat c.self.inside.ready c.args.self.now c.self.view_is c.args.index c.in-Err.ensures.same.0 some)
+returns-in-Err-clause-busy c = λ small some. absurd (refused-free c.self.inside.ranged c.self.inside.ready c.args.self.now c.self.view_is (λ m. entry_at m c.args.index) c.in-Err.ensures.same.0 some)
 
 pub returns-in-Err-clause-refused : goal.returns-in-Err-clause-refused
-returns-in-Err-clause-refused c = refused c.self.inside.flat c.self.inside.ready c.args.self.now c.self.view_is c.insert.new.self c.in-Err.ensures.same.1 c.in-Err.refusal c.in-Err.ensures.err
+returns-in-Err-clause-refused c = refused c.self.inside.ranged c.self.inside.ready c.args.self.now c.self.view_is c.insert.new.self c.in-Err.ensures.same.1 c.in-Err.refusal c.in-Err.ensures.err
 
 pub returns-in-Err-clause-kept : goal.returns-in-Err-clause-kept
-returns-in-Err-clause-kept c = kept c.self.inside.flat c.self.inside.ready c.args.self.now c.self.view_is c.insert.new.self c.in-Err.ensures.same.1
+returns-in-Err-clause-kept c = kept c.self.inside.ranged c.self.inside.ready c.args.self.now c.self.view_is c.insert.new.self c.in-Err.ensures.same.1
+
+pub returns-in-Err-clause-room : goal.returns-in-Err-clause-room
+returns-in-Err-clause-room c = λ small none ready. c.in-Err.ensures.room (c.self.invariant.room c.args.index 0 (ap (λ (z : Array). z.ready) c.self.view_is ∙ ready))

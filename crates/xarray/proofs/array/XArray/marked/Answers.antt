@@ -1,5 +1,8 @@
-use Rattle.xarray.proofs.CallLemmas.{any-marked}
+use Rattle.std.specs.List.{list_any}
+use Rattle.std.specs.FinMap as map
+use Rattle.xarray.specs.MarkedArray.{has_mark}
+use Rattle.xarray.proofs.ArrayLemmas.{told}
 use Rattle.xarray.proofs.array.XArray.marked.Goals as goal
 
 pub returns : goal.returns
-returns c = any-marked c.self.inside.flat c.self.inside.ready c.args.self.now c.self.view_is c.number.result c.args.mark c.marked.result c.number.ensures c.marked.ensures
+returns c = told c.self.inside.ranged c.self.inside.ready c.args.self.now c.self.view_is (λ m. list_any (has_mark c.args.mark) (map.values m)) c.marked.result c.marked.ensures

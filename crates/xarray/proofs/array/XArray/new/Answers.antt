@@ -1,5 +1,6 @@
-use Rattle.xarray.proofs.CallLemmas.{new-is}
+use Rattle.std.proofs.Common.{ap}
+use Rattle.xarray.proofs.ArrayLemmas.{idle}
 use Rattle.xarray.proofs.array.XArray.new.Goals as goal
 
 pub returns : goal.returns
-returns c = new-is c.new.result c.new.ensures.bare
+returns c = ap idle c.new.ensures

@@ -1,36 +1,52 @@
-use Rattle.std.proofs.Common.{◌<◌, ◌+◌, refl, arith}
-use Rattle.xarray.proofs.RetagLoop.{array-at, count-none-left, count-past, done-none, done-past, found-none, goes-on}
+use Rattle.std.proofs.Common.{◌≡◌, ◌+◌, None, ap, sym, ◌∙◌, subst, refl, arith}
+use Rattle.xarray.specs.MarkedArray.{Array}
+use Rattle.xarray.specs.View.{ranges_of}
+use Rattle.xarray.proofs.RetagLemmas.{count-end, retag-end}
+use Rattle.xarray.proofs.RetagLoop.{Goes, all_counted, all_done, array_at, ends_later, goes-on, left, outside_next, past_end, right, starts}
 use Rattle.xarray.proofs.array.XArray.retag.Goals as goal
 
 pub returns-in_default-clause-count : goal.returns-in_default-clause-count
-returns-in_default-clause-count c =
-    let h = found-none c.entries.self-inside.flat c.tag_next.new.self c.entries.next c.args.to c.number.result c.number-in-entries.result c.tag_next.result c.in_default.is c.tag_next.ensures in
-    count-none-left c.entries.self-inside.flat c.entries.next c.args.to c.args.self.now.ranges c.args.from c.args.mark c.args.other c.entries.count c.entries.invariant.goes c.number.result c.number.ensures h.0 c.entries.invariant.small
+returns-in_default-clause-count c = all_counted (ranges_of c.entries.self-inside.ranged) c.args.self.now.ranges c.entries.next c.args.from c.args.to c.entries.count c.args.mark c.args.other c.entries.invariant.goes (left (c.in_default.ensures)) c.entries.invariant.small
 
 pub returns-in_default-clause-retags : goal.returns-in_default-clause-retags
-returns-in_default-clause-retags c =
-    let h = found-none c.entries.self-inside.flat c.tag_next.new.self c.entries.next c.args.to c.number.result c.number-in-entries.result c.tag_next.result c.in_default.is c.tag_next.ensures in
-    array-at c.entries.self-inside.flat c.tag_next.new.self c.entries.self-inside.ready _ h.1 c.entries.invariant.idle
-    (done-none c.entries.self-inside.flat c.entries.next c.args.to c.args.self.now.ranges c.args.from c.args.mark c.args.other c.entries.count c.entries.invariant.goes c.number.result c.number.ensures h.0)
+returns-in_default-clause-retags c = array_at c.entries.self-inside.ranged c.tag_next.new.self c.entries.self-inside.ready _ (right (c.in_default.ensures)) c.entries.invariant.idle (all_done (ranges_of c.entries.self-inside.ranged) c.args.self.now.ranges c.entries.next c.args.from c.args.to c.entries.count c.args.mark c.args.other c.entries.invariant.goes (left (c.in_default.ensures)))
 
-pub returns-then-index-to-clause-count : goal.returns-then-index-to-clause-count
-returns-then-index-to-clause-count c =
-    let over : c.args.to < c.in-Some.index + 1 = omega (arith, c.if-index-to.true) in
-    count-past c.tag_next.new.self (c.in-Some.index + 1) c.args.to c.args.self.now.ranges c.args.from c.args.mark c.args.other c.saturating_add-count.result
-    (goes-on c.entries.self-inside.flat c.tag_next.new.self c.entries.next c.args.to c.in-Some.index c.args.mark c.args.other c.number.result c.number-in-entries.result c.number.ensures c.number-in-entries.ensures c.in-Some.ensures c.args.self.now.ranges c.args.from c.entries.count c.saturating_add-count.result c.saturating_add-count.ensures c.entries.invariant.goes)
-    over (omega (arith, c.saturating_add-count.ensures))
+pub returns-then-last-to-clause-count : goal.returns-then-last-to-clause-count
+returns-then-last-to-clause-count c = all_counted (ranges_of c.tag_next.new.self) c.args.self.now.ranges (c.in-Some.last + 1) c.args.from c.args.to c.saturating_add-count.result c.args.mark c.args.other (goes-on (ranges_of c.entries.self-inside.ranged) (ranges_of c.tag_next.new.self) c.args.self.now.ranges c.entries.next c.args.from c.args.to c.entries.count c.saturating_add-count.result c.in-Some.last c.args.mark c.args.other c.in-Some.ensures c.saturating_add-count.ensures c.entries.invariant.goes) (past_end (ranges_of c.tag_next.new.self) (c.in-Some.last + 1) c.args.to c.args.mark (omega (arith, c.if-last-to.true))) (omega (arith, c.saturating_add-count.ensures))
 
-pub returns-then-index-to-clause-retags : goal.returns-then-index-to-clause-retags
-returns-then-index-to-clause-retags c =
-    let over : c.args.to < c.in-Some.index + 1 = omega (arith, c.if-index-to.true) in
-    array-at c.tag_next.new.self c.tag_next.new.self c.entries.self-inside.ready _ refl c.entries.invariant.idle
-    (done-past c.tag_next.new.self (c.in-Some.index + 1) c.args.to c.args.self.now.ranges c.args.from c.args.mark c.args.other c.saturating_add-count.result
-    (goes-on c.entries.self-inside.flat c.tag_next.new.self c.entries.next c.args.to c.in-Some.index c.args.mark c.args.other c.number.result c.number-in-entries.result c.number.ensures c.number-in-entries.ensures c.in-Some.ensures c.args.self.now.ranges c.args.from c.entries.count c.saturating_add-count.result c.saturating_add-count.ensures c.entries.invariant.goes)
-    over)
+pub returns-then-last-to-clause-retags : goal.returns-then-last-to-clause-retags
+returns-then-last-to-clause-retags c = array_at c.tag_next.new.self c.tag_next.new.self c.entries.self-inside.ready _ refl c.entries.invariant.idle (all_done (ranges_of c.tag_next.new.self) c.args.self.now.ranges (c.in-Some.last + 1) c.args.from c.args.to c.saturating_add-count.result c.args.mark c.args.other (goes-on (ranges_of c.entries.self-inside.ranged) (ranges_of c.tag_next.new.self) c.args.self.now.ranges c.entries.next c.args.from c.args.to c.entries.count c.saturating_add-count.result c.in-Some.last c.args.mark c.args.other c.in-Some.ensures c.saturating_add-count.ensures c.entries.invariant.goes) (past_end (ranges_of c.tag_next.new.self) (c.in-Some.last + 1) c.args.to c.args.mark (omega (arith, c.if-last-to.true))))
+
+pub entries-smaller : goal.entries-smaller
+entries-smaller c = let later = ends_later (ranges_of c.entries.self-inside.ranged) (ranges_of c.tag_next.new.self) c.entries.next c.args.to c.args.mark c.args.other c.in-Some.last c.in-Some.ensures in omega (arith, later, c.if-last-to.false)
 
 pub entries-preserved : goal.entries-preserved
 entries-preserved c = record {
   idle = c.entries.invariant.idle;
-  goes = goes-on c.entries.self-inside.flat c.tag_next.new.self c.entries.next c.args.to c.in-Some.index c.args.mark c.args.other c.number.result c.number-in-entries.result c.number.ensures c.number-in-entries.ensures c.in-Some.ensures c.args.self.now.ranges c.args.from c.entries.count c.saturating_add-count.result c.saturating_add-count.ensures c.entries.invariant.goes;
+  goes = (goes-on (ranges_of c.entries.self-inside.ranged) (ranges_of c.tag_next.new.self) c.args.self.now.ranges c.entries.next c.args.from c.args.to c.entries.count c.saturating_add-count.result c.in-Some.last c.args.mark c.args.other c.in-Some.ensures c.saturating_add-count.ensures c.entries.invariant.goes);
+  within = omega (arith, c.if-last-to.false);
+  outside = outside_next (ranges_of c.entries.self-inside.ranged) (ranges_of c.tag_next.new.self) c.entries.next c.args.to c.args.mark c.args.other c.in-Some.last c.in-Some.ensures;
   small = omega (arith, c.saturating_add-count.ensures);
 }
+
+pub returns-then-from-to-clause-count : goal.returns-then-from-to-clause-count
+returns-then-from-to-clause-count c =
+    let e = count-end c.args.self.now.ranges c.args.from c.args.to c.args.mark (past_end c.args.self.now.ranges c.args.from c.args.to c.args.mark c.if-from-to.true) in
+    omega (arith, e)
+
+pub returns-then-from-to-clause-retags : goal.returns-then-from-to-clause-retags
+returns-then-from-to-clause-retags c =
+    array_at c.self.inside.ranged c.self.inside.ranged None _ refl refl
+    (ap (λ (a : Array). a.ranges) c.self.view_is ∙ sym (retag-end c.args.self.now.ranges c.args.from c.args.to c.args.mark c.args.other (past_end c.args.self.now.ranges c.args.from c.args.to c.args.mark c.if-from-to.true)))
+
+pub entries-init : goal.entries-init
+entries-init c =
+    let same : ranges_of c.self.inside.ranged ≡ c.args.self.now.ranges = ap (λ (a : Array). a.ranges) c.self.view_is in
+    let low = c.start-next.ensures.low in
+    record {
+      idle = refl;
+      goes = subst (λ m. Goes (ranges_of c.self.inside.ranged) c.start-next.result m c.args.from c.args.to c.args.mark c.args.other 0) same (starts (ranges_of c.self.inside.ranged) c.args.from c.start-next.result c.args.to c.args.mark c.args.other (omega (arith, c.if-from-to.false)) c.start-next.ensures);
+      within = omega (arith, low, c.if-from-to.false);
+      outside = c.start-next.ensures.outside;
+      small = omega arith;
+    }

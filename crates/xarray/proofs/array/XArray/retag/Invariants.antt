@@ -1,11 +1,15 @@
-use Rattle.std.proofs.Common.{◌≡◌, ◌+◌, ◌-◌, ◌<◌, ◌^◌, None}
+use Rattle.std.proofs.Common.{◌≡◌, ◌+◌, ◌-◌, ◌<◌, ◌≤◌, ◌^◌, None}
+use Rattle.xarray.specs.Standing.{IsOutside}
+use Rattle.xarray.specs.View.{ranges_of}
 use Rattle.xarray.proofs.RetagLoop.{Goes}
 use Rattle.xarray.proofs.array.XArray.retag.Given as goal
 
 abbrev pub invariant-entries : goal.invariant-entries
 invariant-entries l = record {
   idle : l.self-inside.ready ≡ None;
-  goes : Goes l.self-inside.flat l.next l.fn.self.ranges l.from l.to l.mark l.other l.count;
+  goes : Goes (ranges_of l.self-inside.ranged) l.next l.fn.self.ranges l.from l.to l.mark l.other l.count;
+  within : l.next ≤ l.to;
+  outside : IsOutside (ranges_of l.self-inside.ranged) l.next;
   small : l.count < 2 ^ 64;
 }
 

@@ -1,0 +1,291 @@
+//! The rows of the files: reads, writes and syncs of a cached file, each read and write beside a plain copy of as many bytes.
+
+ghost use Rattle.std.specs.Prelude.{◌+◌, ◌<◌, ◌≤◌, IfOk, length};
+ghost use Rattle.filesvc.specs.Service.{IsOpen};
+ghost use Rattle.bench.specs.declared.files.TheConstants.{FILE_SIZE, PAGE};
+
+use blockdev::MemDevice;
+use filesvc::{Handle, Solo};
+use pc_types::{Geometry, Refusal};
+use std::alloc::{AllocError, Global};
+use std::marker::Model;
+
+/// Bytes of the file, and of the plain bytes beside it.
+pub const FILE_SIZE: u64 = 67_108_864;
+
+/// Bytes of a page.
+pub const PAGE: u64 = 4_096;
+
+/// Pages of the file. Each is cached, and each may be dirty.
+const PAGES: u64 = FILE_SIZE / PAGE;
+
+/// Bytes of a small read or write.
+pub const SMALL: u64 = 64;
+
+/// How many reads or writes are timed.
+pub const CALLS: u64 = 100_000;
+
+/// How many pages a timed sync writes.
+pub const SYNCED: u64 = 1_000;
+
+/// What each byte of the file is.
+pub const FILL: u8 = 7;
+
+/// A service and a handle that it opened.
+#[derive(Drop)]
+struct OpenFile {
+    solo: Solo<MemDevice>,
+    handle: Handle,
+}
+
+impl Model for OpenFile {
+    ghost use Rattle.filesvc.specs.Service.{IsOpen};
+
+    ghost Value = { Unit };
+
+    ghost view = { λ f. tt };
+
+    ghost invariant = { λ f. IsOpen f.solo f.handle };
+}
+
+impl OpenFile {
+    /// A new file, with a frame and a block for each of its pages.
+    fn new(alloc: Global) -> Result<OpenFile, Refusal> {
+        let geometry = Geometry::new(PAGE, PAGES + 64, PAGES + 32, 2 * PAGES)?;
+        let device = MemDevice::new(alloc, PAGE, 2 * PAGES)?;
+        let Ok(mut solo) = Solo::new(alloc, &geometry, 1, device) else {
+            return Err(Refusal::Memory);
+        };
+        let handle = open_first(&mut solo)?;
+        Ok(OpenFile { solo, handle })
+    }
+
+    #[inline(always)]
+    fn pread(&mut self, offset: u64, out: &mut [u8]) -> Result<u64, Refusal> {
+        self.solo.pread(&self.handle, offset, out)
+    }
+
+    #[inline(always)]
+    fn pwrite(&mut self, offset: u64, bytes: &[u8]) -> Result<u64, Refusal> {
+        self.solo.pwrite(&self.handle, offset, bytes)
+    }
+
+    fn fsync(&mut self) -> Result<(), Refusal> {
+        self.solo.fsync(&mut self.handle)
+    }
+}
+
+/// A handle of a new file.
+fn open_first(solo: &mut Solo<MemDevice>) -> Result<Handle, Refusal>
+    ensures { IfOk result (IsOpen solo.new) }
+{
+    let file = solo.create()?;
+    solo.open(file, false)
+}
+
+/// An open file, all of whose pages are cached, and as many plain bytes.
+#[derive(Drop)]
+pub struct Cached {
+    file: OpenFile,
+    plain: Vec<u8>,
+}
+
+impl Model for Cached {
+    ghost use Rattle.std.specs.Prelude.{◌≡◌, length};
+    ghost use Rattle.bench.specs.declared.files.TheConstants.{FILE_SIZE};
+
+    ghost Value = { Unit };
+
+    ghost view = { λ c. tt };
+
+    ghost invariant = { λ c. length c.plain.items ≡ FILE_SIZE };
+}
+
+impl Cached {
+    pub fn new(alloc: Global) -> Result<Cached, Refusal> {
+        let plain = vec![in alloc; FILL; FILE_SIZE as usize]?;
+        let file = OpenFile::new(alloc)?;
+        Ok(Cached { file, plain })
+    }
+
+    /// Makes each page cached.
+    pub fn fill(&mut self) -> Result<(), Refusal> {
+        for page in 0..PAGES {
+            self.write(page * PAGE, &[FILL; PAGE as usize])?;
+        }
+        self.sync()
+    }
+
+    /// Answers how many bytes were read, and the first of them.
+    #[inline(always)]
+    fn read(&mut self, offset: u64, out: &mut [u8]) -> Result<u64, Refusal>
+        requires { 0 < length out.old }
+    {
+        let count = self.file.pread(offset, out)?;
+        Ok(count.wrapping_add(u64::from(out[0])))
+    }
+
+    #[inline(always)]
+    fn write(&mut self, offset: u64, bytes: &[u8]) -> Result<u64, Refusal> {
+        self.file.pwrite(offset, bytes)
+    }
+
+    /// Copies out of the plain bytes, and answers as `read` does.
+    #[inline(always)]
+    fn copy_out(&self, offset: u64, out: &mut [u8]) -> u64
+        requires some { 0 < length out.old }
+        requires within { offset + length out.old ≤ FILE_SIZE }
+    {
+        let at = offset as usize;
+        out.copy_from_slice(&self.plain[at..at + out.len()]);
+        (out.len() as u64).wrapping_add(u64::from(out[0]))
+    }
+
+    /// Copies into the plain bytes, and answers as `write` does.
+    #[inline(always)]
+    fn copy_in(&mut self, offset: u64, bytes: &[u8]) -> u64
+        requires { offset + length bytes.now ≤ FILE_SIZE }
+    {
+        let at = offset as usize;
+        self.plain.as_mut_slice()[at..at + bytes.len()].copy_from_slice(bytes);
+        bytes.len() as u64
+    }
+
+    fn sync(&mut self) -> Result<(), Refusal> {
+        self.file.fsync()
+    }
+}
+
+/// Where the call with this index reads or writes: at a multiple of the size.
+fn offset_of(index: u64, size: u64) -> u64
+    requires small { size ≤ PAGE }
+    ensures { result + size ≤ FILE_SIZE }
+{
+    (index.wrapping_mul(size) % FILE_SIZE).min(FILE_SIZE - size)
+}
+
+#[derive(Clone, Copy, PartialEq, Eq, Debug)]
+pub enum FileRow {
+    ReadSmall,
+    CopySmall,
+    ReadPage,
+    CopyPage,
+    WriteSmall,
+    CopyInSmall,
+    WritePage,
+    CopyInPage,
+    Sync,
+}
+
+impl FileRow {
+    pub const ALL: [FileRow; 9] = [
+        FileRow::ReadSmall,
+        FileRow::CopySmall,
+        FileRow::ReadPage,
+        FileRow::CopyPage,
+        FileRow::WriteSmall,
+        FileRow::CopyInSmall,
+        FileRow::WritePage,
+        FileRow::CopyInPage,
+        FileRow::Sync,
+    ];
+
+    pub fn label(self) -> &'static str {
+        match self {
+            FileRow::ReadSmall => "pread of 64 bytes, cached, random",
+            FileRow::CopySmall => "copy of 64 bytes, random",
+            FileRow::ReadPage => "pread of 4,096 bytes, cached, random",
+            FileRow::CopyPage => "copy of 4,096 bytes, random",
+            FileRow::WriteSmall => "pwrite of 64 bytes, cached, random",
+            FileRow::CopyInSmall => "copy in of 64 bytes, random",
+            FileRow::WritePage => "pwrite of 4,096 bytes, cached, random",
+            FileRow::CopyInPage => "copy in of 4,096 bytes, random",
+            FileRow::Sync => "fsync of 1,000 dirty pages, per page",
+        }
+    }
+
+    /// By how many a time is divided: the calls, or the pages that are written.
+    pub fn count(self) -> u64
+        ensures { 0 < result }
+    {
+        match self {
+            FileRow::Sync => SYNCED,
+            _ => CALLS,
+        }
+    }
+
+    /// Makes the file what the row starts from.
+    pub fn prepare(self, cached: &mut Cached) -> Result<(), Refusal> {
+        if self == FileRow::Sync {
+            cached.sync()?;
+            for page in 0..SYNCED {
+                cached.write(page * PAGE, &[FILL; SMALL as usize])?;
+            }
+        }
+        Ok(())
+    }
+
+    /// Runs what is timed, and gives the sum of its answers.
+    pub fn run(self, cached: &mut Cached, order: &[u64]) -> Result<u64, Refusal> {
+        Ok(match self {
+            FileRow::ReadSmall => read_each(cached, order, &mut [0; SMALL as usize])?,
+            FileRow::CopySmall => copy_each_out(cached, order, &mut [0; SMALL as usize]),
+            FileRow::ReadPage => read_each(cached, order, &mut [0; PAGE as usize])?,
+            FileRow::CopyPage => copy_each_out(cached, order, &mut [0; PAGE as usize]),
+            FileRow::WriteSmall => write_each(cached, order, &[FILL; SMALL as usize])?,
+            FileRow::CopyInSmall => copy_each_in(cached, order, &[FILL; SMALL as usize]),
+            FileRow::WritePage => write_each(cached, order, &[FILL; PAGE as usize])?,
+            FileRow::CopyInPage => copy_each_in(cached, order, &[FILL; PAGE as usize]),
+            FileRow::Sync => {
+                cached.sync()?;
+                SYNCED
+            }
+        })
+    }
+}
+
+#[inline(never)]
+fn read_each(cached: &mut Cached, order: &[u64], out: &mut [u8]) -> Result<u64, Refusal>
+    requires some { 0 < length out.old }
+    requires small { length out.old ≤ PAGE }
+{
+    let mut sum = 0u64;
+    for index in order.iter().take(CALLS as usize) {
+        sum = sum.wrapping_add(cached.read(offset_of(*index, out.len() as u64), out)?);
+    }
+    Ok(sum)
+}
+
+#[inline(never)]
+fn copy_each_out(cached: &Cached, order: &[u64], out: &mut [u8]) -> u64
+    requires some { 0 < length out.old }
+    requires small { length out.old ≤ PAGE }
+{
+    let mut sum = 0u64;
+    for index in order.iter().take(CALLS as usize) {
+        sum = sum.wrapping_add(cached.copy_out(offset_of(*index, out.len() as u64), out));
+    }
+    sum
+}
+
+#[inline(never)]
+fn write_each(cached: &mut Cached, order: &[u64], bytes: &[u8]) -> Result<u64, Refusal>
+    requires { length bytes.now ≤ PAGE }
+{
+    let mut sum = 0u64;
+    for index in order.iter().take(CALLS as usize) {
+        sum = sum.wrapping_add(cached.write(offset_of(*index, bytes.len() as u64), bytes)?);
+    }
+    Ok(sum)
+}
+
+#[inline(never)]
+fn copy_each_in(cached: &mut Cached, order: &[u64], bytes: &[u8]) -> u64
+    requires { length bytes.now ≤ PAGE }
+{
+    let mut sum = 0u64;
+    for index in order.iter().take(CALLS as usize) {
+        sum = sum.wrapping_add(cached.copy_in(offset_of(*index, bytes.len() as u64), bytes));
+    }
+    sum
+}

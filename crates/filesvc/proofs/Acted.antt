@@ -1,0 +1,39 @@
+-- What one event of the cache leaves of a service.
+use Rattle.std.proofs.Common.{◌≡◌, ℕ, ◌≤◌, true, false, ap, sym, subst, ◌∙◌}
+use Rattle.std.specs.Prelude.{is_some}
+use Rattle.atomic_table.specs.Seated.{TableId}
+use Rattle.blockdev.specs.Device.{Told, max_calls}
+use Rattle.errboard.specs.Shown.{RecorderSeen}
+use Rattle.cachecore.specs.declared.event.Event.{Event}
+use Rattle.cachecore.specs.declared.event.Reply.{Reply}
+use Rattle.world.specs.Plain.{plain_after}
+use Rattle.world.specs.Reached.{files_of}
+use Rattle.world.specs.Stepping.{Held, world_of}
+use Rattle.world.specs.World.{Act, Moves}
+use Rattle.world.proofs.InFlight.{NoneInFlight, none_stays}
+use Rattle.world.proofs.KeptRequests.{is_job}
+use Rattle.world.proofs.Reached.{files_step, reached_step}
+use Rattle.world.proofs.Stays.{stays}
+use Rattle.filesvc.proofs.FileSizes.{bounded_stays}
+use Rattle.filesvc.specs.Rests.{IsResting, IsService}
+
+resting : (w : Held) → IsResting w → NoneInFlight (world_of w)
+resting w r = record { requests = r.requests; outcomes = r.outcomes }
+
+module _ (name : ℕ) (w new : Held) (table : TableId) (errors : RecorderSeen) (s : IsService name w table errors) (e : Event) (r : Reply) (m : Moves (world_of w) (Act e r) (world_of new)) (d : new.device ≡ w.device) where
+  tells : is_some new.device.contents ≡ true → is_some w.device.contents ≡ true
+  tells t = ap (λ x. is_some x.contents) (sym d) ∙ t
+
+  pub service_acted : is_job r ≡ false → IsService name new table errors
+  service_acted j = record {
+    named = (stays (world_of w) (world_of new) (Act e r) m).1 ∙ s.named;
+    board = s.board;
+    lists = s.lists;
+    rests = (let a = none_stays (world_of w) (world_of new) e r j (resting w s.rests) m in record { requests = a.requests; outcomes = a.outcomes });
+    reached = λ t. reached_step (world_of w) (world_of new) (Act e r) (s.reached (tells t)) m;
+    counted = subst (λ (x : Told). x.calls ≤ max_calls) (sym d) s.counted;
+    bounded = bounded_stays (world_of w) (world_of new) (Act e r) m s.bounded;
+  }
+
+  pub files_acted : is_some w.device.contents ≡ true → files_of (world_of new) ≡ plain_after (files_of (world_of w)) e r
+  files_acted t = files_step (world_of w) (world_of new) (Act e r) (s.reached t) m

@@ -1,0 +1,30 @@
+-- A service that begins: a run leads to its world, and nothing was recorded.
+use Rattle.std.proofs.Common.{◌≡◌, ℕ, zero, suc, true, List, [], length, get_or, ap, sym, ◌∙◌, refl}
+use Rattle.std.specs.Prelude.{Option, Some, None, is_some, IfSome, replicate}
+use Rattle.blockdev.specs.Device.{Told}
+use Rattle.errseq.specs.declared.recording.Recording.{Recording}
+use Rattle.std.proofs.lemmas.List.{length-replicate}
+use Rattle.pc_types.specs.declared.limits.TheConstants.{MAX_FILES}
+use Rattle.errboard.specs.Views.{files, recorded_of}
+use Rattle.world.specs.Reached.{IsReached}
+use Rattle.world.specs.Runs.{IsFirst}
+use Rattle.world.specs.Stepping.{Held, world_of}
+use Rattle.world.proofs.Reached.{reached_first}
+
+pub reached_at : (w : Held) (d : Told) → w.device ≡ d → IfSome d.contents (λ _. IsFirst (world_of w)) → is_some w.device.contents ≡ true → IsReached (world_of w)
+reached_at w d same first tells = reached_first (world_of w) (go d.contents first (sym (ap (λ (x : Told). is_some x.contents) same) ∙ tells))
+  where
+    go : (o : Option (List (List ℕ))) → IfSome o (λ _. IsFirst (world_of w)) → is_some o ≡ true → IsFirst (world_of w)
+    go None f e = absurd cc
+    go (Some x) f e = f
+
+same_at : {A : Type 0} (n f : ℕ) (d : A) → get_or (replicate n d) f d ≡ d
+same_at zero f d = refl
+same_at (suc n) zero d = refl
+same_at (suc n) (suc f) d = same_at n f d
+
+pub nothing_in : (all : List (List Recording)) (f : ℕ) → all ≡ replicate files [] → recorded_of all f ≡ []
+nothing_in all f e = ap (λ x. recorded_of x f) e ∙ same_at files f []
+
+pub lists_in : (all : List (List Recording)) → all ≡ replicate files [] → length all ≡ MAX_FILES
+lists_in all e = ap length e ∙ length-replicate {A = List Recording} files []

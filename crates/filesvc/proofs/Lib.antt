@@ -1,0 +1,15 @@
+pub mod Acted
+pub mod Attempts
+pub mod Beginning
+pub mod CallSteps
+pub mod Callers
+pub mod Coming
+pub mod FailedWrites
+pub mod FileSizes
+pub mod FileSteps
+pub mod Noted
+pub mod Polling
+pub mod Laws
+pub mod SyncLaws
+pub mod WorldLaws
+pub mod RoomLaws

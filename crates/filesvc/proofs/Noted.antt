@@ -1,0 +1,63 @@
+-- A failed write that is recorded: the recordings of its file are one more, as its failures are.
+use Rattle.std.proofs.Common.{◌≡◌, ℕ, zero, suc, ◌+◌, ◌<◌, true, false, cond, eqb, eqb-true, List, [], ◌∷◌, ◌++◌, length, refl, ap, sym, subst, ◌∙◌, arith}
+use Rattle.std.proofs.Math.ListN.{length-set}
+use Rattle.std.specs.Prelude.{Option, Some, slice_set}
+use Rattle.std.proofs.lemmas.List.{length_push}
+use mathlib.Core.List.{IsPrefix}
+use Rattle.errseq.specs.declared.recording.Recording.{Recording}
+use Rattle.errseq.proofs.Prefixes.{prefix_self}
+use Rattle.errboard.specs.Shown.{RecorderSeen}
+use Rattle.errboard.specs.Steps.{with_recording}
+use Rattle.errboard.specs.Views.{recorded_of}
+use Rattle.pc_types.specs.declared.limits.TheConstants.{MAX_FILES}
+use Rattle.cachecore.specs.declared.event.Reply.{Reply}
+use Rattle.cachecore.specs.declared.event.Reply.TheVariants as reply
+use Rattle.cachecore.proofs.StateLaws.{get_or-set}
+use Rattle.filesvc.specs.Rests.{IsNoted}
+use Rattle.filesvc.proofs.FailedWrites.{Rises}
+
+set_prefix : (all : List (List Recording)) (f g : ℕ) (y : List Recording) → IsPrefix (recorded_of all f) y → IsPrefix (recorded_of all g) (recorded_of (slice_set all f y) g)
+set_prefix [] f g y p = prefix_self _
+set_prefix (x ∷ all) zero zero y p = p
+set_prefix (x ∷ all) zero (suc g) y p = prefix_self _
+set_prefix (x ∷ all) (suc f) zero y p = prefix_self _
+set_prefix (x ∷ all) (suc f) (suc g) y p = set_prefix all f g y p
+
+recorded_prefix : (all : List (List Recording)) (f : ℕ) (x : Recording) (g : ℕ) → IsPrefix (recorded_of all g) (recorded_of (with_recording all f x) g)
+recorded_prefix all f x g = set_prefix all f g _ (x ∷ [], refl)
+
+recorded_more : (all : List (List Recording)) (f : ℕ) (x : Recording) → f < length all → (g : ℕ) → length (recorded_of (with_recording all f x) g) ≡ length (recorded_of all g) + cond (eqb g f) 1 0
+recorded_more all f x here g =
+    let more = recorded_of all f ++ x ∷ [] in
+    ap length (get_or-set all f g more [] here) ∙ elim (eqb g f) as (λ b. eqb g f ≡ b → length (cond b more (recorded_of all g)) ≡ length (recorded_of all g) + cond b 1 0) [
+      | true ↦ λ e. length_push (recorded_of all f) x ∙ ap (λ k. length (recorded_of all k) + 1) (sym (eqb-true g f e))
+      | false ↦ λ e. omega arith
+    ] refl
+
+abbrev pub count_in : RecorderSeen → ℕ → ℕ
+count_in e f = length (recorded_of e.all f)
+
+-- what is noted leaves the board and its lists
+pub record Notes (old new : RecorderSeen) : Type 0 where
+  pub board : new.board ≡ old.board
+  pub opening : new.opening ≡ old.opening
+  pub lists : length new.all ≡ length old.all
+  pub begins : (f : ℕ) → IsPrefix (recorded_of old.all f) (recorded_of new.all f)
+
+pub notes : (old new : RecorderSeen) (o : Option ℕ) (r : Reply) → IsNoted old o r new → Notes old new
+notes old new (Some f) (reply.Failed code) n = record {
+  board = n.1;
+  opening = n.2;
+  lists = ap length n.5 ∙ length-set old.all f _;
+  begins = λ g. subst (λ all. IsPrefix (recorded_of old.all g) (recorded_of all g)) (sym n.5) (recorded_prefix old.all f n.3 g);
+}
+notes old new o r n = subst (Notes old) (sym n) (record { board = refl; opening = refl; lists = refl; begins = λ g. prefix_self _ })
+
+pub noted_rises : (old new : RecorderSeen) (o : Option ℕ) (r : Reply) → length old.all ≡ MAX_FILES → IsNoted old o r new → Rises o r (count_in old) (count_in new)
+noted_rises old new (Some f) (reply.Failed code) lists n = λ g. ap (λ all. length (recorded_of all g)) n.5 ∙ recorded_more old.all f n.3 (subst (λ k. f < k) (sym lists) n.0) g
+noted_rises old new o r lists n = λ g. ap (λ e. count_in e g) n
+
+-- two counts that rise alike differ as before
+pub rise_alike : (o : Option ℕ) (r : Reply) (a b c d : ℕ → ℕ) → Rises o r a b → Rises o r c d → (g : ℕ) → b g + c g ≡ a g + d g
+rise_alike (Some f) (reply.Failed code) a b c d x y g = let e = x g in let h = y g in omega arith
+rise_alike o r a b c d x y g = let e = x g in let h = y g in omega arith

@@ -1,0 +1,330 @@
+-- A sync that one call makes from its begin to its end.
+use Rattle.std.proofs.Common.{◌≡◌, ℕ, ◌+◌, ◌-◌, ◌<◌, true, false, cond, List, [], ◌∷◌, length, refl, ap, sym, subst, ◌∙◌, arith, inl, inr}
+use Rattle.std.specs.Prelude.{◌⊎◌, Option, Some, None, is_some, unwrap_or, IfSome, nat_le, not, slice_index_or, Result, Ok, Err, IfErr, IfOk}
+use Rattle.std.specs.FinMap as finmap
+use Rattle.atomic_table.specs.Seated.{TableId}
+use Rattle.errboard.specs.Shown.{RecorderSeen}
+use Rattle.pc_types.specs.Files.{page_of}
+use Rattle.pc_types.specs.declared.ids.HandleId.{HandleId}
+use Rattle.pc_types.specs.declared.ids.Serial.{Serial}
+use Rattle.pc_types.specs.declared.ids.SyncId.{SyncId}
+use Rattle.pc_types.specs.declared.limits.TheConstants.{MAX_SYNCS, SERIAL_END}
+use Rattle.pc_types.specs.declared.refusal.Refusal.{Refusal}
+use Rattle.pc_types.specs.declared.refusal.Refusal.TheVariants.{Io, Memory}
+use Rattle.cachecore.specs.declared.event.Event.{Event}
+use Rattle.cachecore.specs.declared.event.Event.TheVariants as event
+use Rattle.cachecore.specs.declared.event.Outcome.{Outcome}
+use Rattle.cachecore.specs.declared.event.Reply.{Reply}
+use Rattle.cachecore.specs.declared.event.Reply.TheVariants as reply
+use Rattle.cachecore.specs.Replies.{sync_begun, sync_dropped}
+use Rattle.cachecore.specs.State.{State, Page, Request, Sync, no_file, file_at, file_of, is_open, page_count}
+use Rattle.cachecore.specs.Changes.{flushes_of}
+use Rattle.cachecore.specs.Tests.{is_full, start_tests, sync_begin_tests, sync_pick, sync_tests}
+use Rattle.cachecore.specs.Step.{Step, SyncAwaits, SyncBeginReply, SyncPicked, SyncStepReply, WaitsFor}
+use Rattle.cachecore.proofs.Choices.{answered, quiet_if, quiet_none, quiet_some}
+use Rattle.world.specs.declared.step.Step.TheVariants as step
+use Rattle.world.specs.Plain.{named, plain_file}
+use Rattle.world.specs.Reached.{IsReached, files_of}
+use Rattle.world.specs.Stepping.{CallReply, EndReply, Held, IsMade, MovesByCall, Steps, world_of}
+use Rattle.world.specs.World.{World, Entry, Act, Call, Finish, Moves}
+use Rattle.world.proofs.View.{put1_here}
+use Rattle.world.proofs.Lookups.{get-insert1}
+use Rattle.world.proofs.SyncRuns.{begins_at}
+use Rattle.world.proofs.Reached.{reached_coupled}
+use Rattle.world.proofs.Stays.{handles_stay, keeps_handles}
+use Rattle.world.proofs.InFlight.{next_rises, next_stays}
+use Rattle.world.proofs.OneSync.{IsSyncing, is_of_sync, syncing_begins, syncing_clean, syncing_failed, syncing_goes}
+use Rattle.world.proofs.OneSync as one
+use Rattle.world.proofs.SyncStays.{never_waits, over_leaves_files, sync_stays, syncs_stay}
+use Rattle.world.proofs.Track.{move_tracked}
+use Rattle.filesvc.specs.Rests.{AtOnce, IsResting, IsService, is_job}
+use Rattle.filesvc.specs.Seen.{SoloSeen}
+use Rattle.filesvc.specs.Service.{HasFailed, IsSyncRefusal, IsSynced, Refuses, Serves, is_reported}
+use Rattle.filesvc.specs.Syncs.{SyncTurn, is_io, is_sync_end, sync_end_of}
+use Rattle.filesvc.proofs.Laws.{serves_counted}
+use Rattle.filesvc.proofs.WorldLaws.{Made, at_once_serves, at_once_service, goes_service, is_quiet, made_goes, made_rests, service_sound, sync_begins}
+
+-- ---- what the cache answers a sync
+
+-- what each reply to a step of the sync tells
+abbrev Answered : State → Option Sync → Reply → State → Type 0
+Answered s o reply.Clean new = Unit {0}
+Answered s (Some y) (reply.Failed c) new = c ≡ (file_at s (file_of s y.handle)).last_code
+Answered s o (reply.Job t) new = Unit {0}
+Answered s o (reply.Wait p) new = Unit {0}
+Answered s o (reply.Refused why) new = (new ≡ s) × (is_io why ≡ false)
+Answered s o _ new = ⊥
+
+module _ (s new : State) where
+  by_tests : (o : Option Sync) (r : Reply) → sync_tests s o ≡ Some r → new ≡ s → Answered s o r new
+  by_tests None r e same = quiet_some (λ x. Answered s None x new) _ r e (same, refl)
+  by_tests (Some y) r e same = elim (is_some y.awaited) as (λ b. cond b None (start_tests s (sync_pick (file_at s (file_of s y.handle)) y.last)) ≡ Some r → Answered s (Some y) r new) [
+    | true ↦ λ j. quiet_none (λ x. Answered s (Some y) x new) r j
+    | false ↦ λ j. by_start (sync_pick (file_at s (file_of s y.handle)) y.last) j
+  ] e
+    where
+      by_start : (o : Option (ℕ × Page)) → start_tests s o ≡ Some r → Answered s (Some y) r new
+      by_start None j = quiet_none (λ x. Answered s (Some y) x new) r j
+      by_start (Some e) j = quiet_if (λ x. Answered s (Some y) x new) e.1.tags.writeback _ _ tt (quiet_if (λ x. Answered s (Some y) x new) (is_full s) _ _ (same, refl) (quiet_none (λ x. Answered s (Some y) x new))) r j
+
+  by_waits : (n : ℕ) (y : Sync) (ts : List ℕ) (r : Reply) → WaitsFor s n y ts r new → Answered s (Some y) r new
+  by_waits n y [] reply.Clean h = tt
+  by_waits n y [] (reply.Failed c) h = h.1
+  by_waits n y (t ∷ ts) (reply.Wait p) h = tt
+  by_waits n y ts _ h = absurd h
+
+  by_pick : (n : ℕ) (y : Sync) (o : Option (ℕ × Page)) (r : Reply) → SyncPicked s n y o r new → Answered s (Some y) r new
+  by_pick n y (Some e) (reply.Job t) h = tt
+  by_pick n y None r h = by_waits n y (flushes_of s (file_of s y.handle)) r h
+  by_pick n y (Some e) _ h = absurd h
+
+  by_awaited : (n : ℕ) (y : Sync) (o : Option (List ℕ)) (r : Reply) → SyncAwaits s n y o r new → Answered s (Some y) r new
+  by_awaited n y None r h = by_pick n y (sync_pick (file_at s (file_of s y.handle)) y.last) r h
+  by_awaited n y (Some ts) r h = by_waits n y ts r h
+
+  by_sync : (n : ℕ) (o : Option Sync) (r : Reply) → SyncStepReply s n o r new → Answered s o r new
+  by_sync n None r h = absurd h
+  by_sync n (Some y) r h = by_awaited n y y.awaited r h
+
+  step_answered : (n : SyncId) (r : Reply) → Step s (event.SyncStep n) r new → Answered s (finmap.get s.syncs n.0) r new
+  step_answered n r e = elim (answered (sync_tests s (finmap.get s.syncs n.0)) r s new (SyncStepReply s n.0 (finmap.get s.syncs n.0) r new) e) [
+    | inl a ↦ by_tests (finmap.get s.syncs n.0) r a.0 a.1
+    | inr b ↦ by_sync n.0 (finmap.get s.syncs n.0) r b.1
+  ]
+
+  begin_refused : (h : HandleId) (why : Refusal) → Step s (event.SyncBegin h) (reply.Refused why) new → (new ≡ s) × (is_io why ≡ false)
+  begin_refused h why e = elim (answered (sync_begin_tests s h.0) (reply.Refused why) s new (SyncBeginReply s h.0 (reply.Refused why) new) e) [
+    | inl a ↦ (a.1, quiet_if fair (not (is_open s h.0)) _ _ refl (quiet_if fair (nat_le MAX_SYNCS (finmap.len s.syncs)) _ None refl (quiet_none fair)) (reply.Refused why) a.0)
+    | inr b ↦ absurd b.1
+  ]
+    where
+      fair : Reply → Type 0
+      fair (reply.Refused why) = is_io why ≡ false
+      fair _ = Unit {0}
+
+-- ---- a sync in progress
+
+-- the sync of this handle has been in progress since `old`
+pub record InSync (h : HandleId) (n : SyncId) (old now : World) : Type 0 where
+  pub syncing : IsSyncing h n old now
+  pub sync : Sync
+  pub is : finmap.get now.core.syncs n.0 ≡ Some sync
+  pub handle : sync.handle ≡ h.0
+
+goes_on : (h : HandleId) (n : SyncId) (old now new : World) → InSync h n old now → is_open now.core h.0 ≡ true → (e : Entry) → is_of_sync e ≡ true → syncs_stay e ≡ true → Moves now e new → InSync h n old new
+goes_on h n old now new s opened e q k m =
+    let still = sync_stays now new e n k m (ap is_some s.is) in
+    let tracked = move_tracked now new n.0 s.sync s.is (ap (λ x. is_open now.core x) s.handle ∙ opened) still e m in
+    record { syncing = syncing_goes h n old now new s.syncing e q m still; sync = tracked.now; is = tracked.is; handle = tracked.handle ∙ s.handle }
+
+-- ---- a step that wrote a page out
+
+told : {A : Type 0} (o : Option A) (P : Type 0) → is_some o ≡ true → IfSome o (λ _. P) → P
+told None P t p = absurd cc
+told (Some x) P t p = p
+
+called : (w v : Held) (t : ℕ) (q : Option Request) (o : Option Outcome) → CallReply w t q o reply.Done v → (v.core ≡ w.core) × IfSome w.device.contents (λ _. MovesByCall w t v)
+called w v t (Some r) None c = (ap (λ x. x.core) c.1.noted, c.2)
+called w v t (Some r) (Some o) c = absurd (let e = c.0 in cc)
+called w v t None o c = absurd (let e = c.0 in cc)
+
+ended : (w v : Held) (t : Serial) (o : Option Outcome) (r : Reply) → EndReply w (step.End t) o r v → (v ≡ w) ⊎ IsMade w (step.End t) r v
+ended w v t (Some o) r e = inr e
+ended w v t None r e = inl e.1
+
+record Turned (n : SyncId) (w v : Held) : Type 0 where
+  pub serial : Serial
+  pub end : Reply
+  pub asked : Held
+  pub made : Held
+  pub asks : IsMade w (step.SyncStep n) (reply.Job serial) asked
+  pub core : made.core ≡ asked.core
+  pub calls : IfSome asked.device.contents (λ _. MovesByCall asked serial.0 made)
+  pub ends : (v ≡ made) ⊎ IsMade made (step.End serial) end v
+
+turned : (n : SyncId) (w v : Held) → SyncTurn w n None v → Turned n w v
+turned n w v (t, r, (asked, a, (made, c, (after, e, same)))) = elim a [
+  | inl m ↦ (let x = called asked made t.0 _ _ c in record {
+    serial = t;
+    end = r;
+    asked = asked;
+    made = made;
+    asks = m;
+    core = x.0;
+    calls = x.1;
+    ends = subst (λ x. (x ≡ made) ⊎ IsMade made (step.End t) r x) (sym same) (ended made after t _ r e);
+  })
+  | inr x ↦ absurd (let k = x.0 in cc)
+]
+
+pub turn_next : (n : SyncId) (w v : Held) → SyncTurn w n None v → (w.core.next < SERIAL_END) × (v.core.next ≡ w.core.next + 1)
+turn_next n w v turn =
+    let x = turned n w v turn in
+    let rises = next_rises (world_of w) (world_of x.asked) (event.SyncStep n) x.serial refl x.asks.0 in (
+      rises.0,
+      elim x.ends [
+        | inl same ↦ ap (λ y. y.core.next) same
+        | inr e ↦ next_stays (world_of x.made) (world_of v) (Finish x.serial.0 x.end) refl e.0
+      ] ∙ ap (λ s. s.next) x.core ∙ rises.1,
+    )
+
+pub turn_goes : (h : HandleId) (n : SyncId) (old : World) (w v : Held) → is_some w.device.contents ≡ true → is_open w.core h.0 ≡ true → SyncTurn w n None v → InSync h n old (world_of w) → InSync h n old (world_of v)
+turn_goes h n old w v tells opened turn s =
+    let x = turned n w v turn in
+    let a = goes_on h n old (world_of w) (world_of x.asked) s opened (Act (event.SyncStep n) (reply.Job x.serial)) refl refl x.asks.0 in
+    let opened' = open_after (world_of w) (world_of x.asked) (Act (event.SyncStep n) (reply.Job x.serial)) refl opened x.asks.0 in
+    let m = told x.asked.device.contents _ (ap (λ d. is_some d.contents) x.asks.1 ∙ tells) x.calls in
+    let c = goes_on h n old (world_of x.asked) (world_of x.made) a opened' (Call x.serial.0 m.0 m.1) refl refl m.2 in
+    elim x.ends [
+      | inl same ↦ subst (λ y. InSync h n old (world_of y)) (sym same) c
+      | inr e ↦ goes_on h n old (world_of x.made) (world_of v) c (ap (λ s. is_open s h.0) x.core ∙ opened') (Finish x.serial.0 x.end) refl refl e.0
+    ]
+  where
+    open_after : (w new : World) (e : Entry) → keeps_handles e ≡ true → is_open w.core h.0 ≡ true → Moves w e new → is_open new.core h.0 ≡ true
+    open_after w new e k o m = ap (λ y. is_some (finmap.get y h.0)) (handles_stay w new e k m).0 ∙ o
+
+pub in_sync : (h : HandleId) (n : SyncId) (w v : Held) → IsReached (world_of w) → IsMade w (step.SyncBegin h) (reply.Sync n) v → InSync h n (world_of w) (world_of v)
+in_sync h n w v r m =
+    let s = syncing_begins h n (world_of w) (world_of v) r m.0 in
+    record { syncing = s; sync = _; is = begun_is; handle = refl }
+  where
+    begun_is : finmap.get v.core.syncs n.0 ≡ Some (record { handle = h.0; last = None; failures = (file_at w.core (file_of w.core h.0)).failures; awaited = None })
+    begun_is = ap (λ s. finmap.get s.syncs n.0) (begins_at w.core v.core h n (reached_coupled (world_of w) r).valid m.0.0).0.rest ∙ get-insert1 w.core.syncs n.0 _ n.0 ∙ put1_here (finmap.get w.core.syncs) n.0 _
+
+-- ---- how it ends
+
+-- the file that an open handle has
+named_is : (w : Held) (h f : ℕ) → finmap.get w.core.handles h ≡ Some f → named (files_of (world_of w)) h ≡ f
+named_is w h f e = ap (λ o. unwrap_or o 0) e
+
+pub ends_clean : (old now new : SoloSeen) (h : HandleId) (n : SyncId) (f : ℕ) → finmap.get old.world.core.handles h.0 ≡ Some f → new.world.core.sizes ≡ old.world.core.sizes → InSync h n (world_of old.world) (world_of now.world) → IsMade now.world (step.SyncStep n) reply.Clean new.world → IsSynced old f new None
+ends_clean old now new h n f here sizes s m =
+    let x = subst (one.IsSynced (world_of old.world) (world_of new.world)) (named_is old.world h.0 f here) (syncing_clean h n (world_of old.world) (world_of now.world) (world_of new.world) s.syncing m.0) in
+    (λ p small. x.pages p (subst (λ k. p < k) (λ i. page_count (sizes i).page (length (plain_file (x.files i) f))) small) ∙ (λ i. page_of (sym sizes i).page (plain_file (sym x.files i) f) p), x.failures)
+
+pub ends_failed : (old now new : SoloSeen) (h : HandleId) (n : SyncId) (f code : ℕ) → finmap.get old.world.core.handles h.0 ≡ Some f → finmap.get now.world.core.handles h.0 ≡ Some f → InSync h n (world_of old.world) (world_of now.world) → IsMade now.world (step.SyncStep n) (reply.Failed code) new.world → IsSynced old f new (Some code)
+ends_failed old now new h n f code here there s m =
+    (subst (HasFailed old new) (named_is old.world h.0 f here) (syncing_failed h n (world_of old.world) (world_of now.world) (world_of new.world) code s.syncing m.0).0, is_last)
+  where
+    is_last : code ≡ (file_at new.world.core f).last_code
+    is_last =
+        let a = step_answered now.world.core new.world.core n (reply.Failed code) m.0.0 in
+        let b : code ≡ (file_at now.world.core (file_of now.world.core s.sync.handle)).last_code = subst (λ o. Answered now.world.core o (reply.Failed code) new.world.core) s.is a in
+        let file : file_of now.world.core s.sync.handle ≡ f = ap (λ x. file_of now.world.core x) s.handle ∙ ap (λ o. unwrap_or o 0) there in
+        b ∙ ap (λ g. (file_at now.world.core g).last_code) file ∙ ap (λ fs. (slice_index_or fs f no_file).last_code) (sym (over_leaves_files (world_of now.world) (world_of new.world) n (reply.Failed code) refl m.0))
+
+-- ---- why it is refused
+
+as_refusal : (old : SoloSeen) (h : HandleId) (why : Refusal) → Refuses old (event.SyncBegin h) why ⊎ ((n : SyncId) × Refuses old (event.SyncStep n) why) → IsSyncRefusal old h why
+as_refusal old h Memory x = tt
+as_refusal old h _ x = x
+
+pub begin_is_refused : (old new : SoloSeen) (h : HandleId) (why : Refusal) → Serves old old → IsMade old.world (step.SyncBegin h) (reply.Refused why) new.world → IsSyncRefusal old h why
+begin_is_refused old new h why same m =
+    as_refusal old h why (inl (old, same, subst (λ s. Step old.world.core (event.SyncBegin h) (reply.Refused why) s) (begin_refused old.world.core new.world.core h why m.0.0).0 m.0.0))
+
+pub step_is_refused : (old now new : SoloSeen) (h : HandleId) (n : SyncId) (why : Refusal) → Serves old now → Steps now.world (step.SyncStep n) (reply.Refused why) new.world → IsSyncRefusal old h why
+step_is_refused old now new h n why serves m = elim m [
+  | inl m ↦ (let same = (step_answered now.world.core new.world.core n (reply.Refused why) m.0.0).0 in
+      as_refusal old h why (inr (n, (now, serves, subst (λ s. Step now.world.core (event.SyncStep n) (reply.Refused why) s) same m.0.0))))
+  | inr x ↦ subst (IsSyncRefusal old h) (let e : Memory ≡ why = (let k = x.0 in cc) in e) tt
+]
+
+-- it is by no device call that failed
+pub begin_no_io : (w v : Held) (h : HandleId) (why : Refusal) → IsMade w (step.SyncBegin h) (reply.Refused why) v → is_io why ≡ false
+begin_no_io w v h why m = (begin_refused w.core v.core h why m.0.0).1
+
+pub step_no_io : (w v : Held) (n : SyncId) (r : Reply) (o : Result (Option ℕ) Refusal) → Steps w (step.SyncStep n) r v → o ≡ sync_end_of r → IfErr o (λ why. is_io why ≡ false)
+step_no_io w v n r o m e = subst (λ o. IfErr o (λ why. is_io why ≡ false)) (sym e) (by_reply r m)
+  where
+    by_reply : (r : Reply) → Steps w (step.SyncStep n) r v → IfErr (sync_end_of r) (λ why. is_io why ≡ false)
+    by_reply reply.Clean m = tt
+    by_reply (reply.Failed code) m = tt
+    by_reply (reply.Refused why) m = elim m [
+      | inl m ↦ (step_answered w.core v.core n (reply.Refused why) m.0.0).1
+      | inr x ↦ (let e : why ≡ Memory = (let k = x.0 in cc) in ap is_io e)
+    ]
+    by_reply _ m = refl
+
+-- ---- the reply by which it is over
+
+-- where no request is in flight a step that writes nothing is the last
+pub step_ends : (w v : Held) (n : SyncId) (r : Reply) → IsReached (world_of w) → IsResting w → is_job r ≡ false → Steps w (step.SyncStep n) r v → is_sync_end r ≡ true
+step_ends w v n reply.Clean reached rests j m = refl
+step_ends w v n (reply.Failed c) reached rests j m = refl
+step_ends w v n (reply.Refused why) reached rests j m = refl
+step_ends w v n (reply.Job t) reached rests j m = absurd cc
+step_ends w v n (reply.Wait p) reached rests j m = elim m [ inl m ↦ absurd (never_waits (world_of w) (world_of v) n p reached rests.requests m.0) | inr x ↦ absurd (let k = x.0 in cc) ]
+step_ends w v n r reached rests j m = elim m [ inl m ↦ absurd (step_answered w.core v.core n r m.0.0) | inr x ↦ absurd (let k = x.0 in cc) ]
+
+-- ---- what a step leaves of the service
+
+-- a quiet event that begins no request
+pub made_service : (name : ℕ) (s : SoloSeen) (w : Held) (table : TableId) (e : Event) (r : Reply) → Made s.world e r w → is_quiet e ≡ true → is_job r ≡ false → IsService name s.world table s.errors → IsService name w table s.errors × Serves s (record s { world = w })
+made_service name s w table e r m q j i =
+    let g = made_goes s w e r m q (service_sound name s.world table s.errors i) in
+    (goes_service name s (record s { world = w }) table i g (made_rests s.world w e r m j i.rests), g.serves)
+
+-- a sync's step, with the write that it began where it began one
+pub stepped_service : (name : ℕ) (s : SoloSeen) (w : Held) (errors : RecorderSeen) (table : TableId) (n : SyncId) (r : Reply) → AtOnce s.world s.errors (step.SyncStep n) r w errors → IsService name s.world table s.errors → IsService name w table errors × Serves s (record s { world = w; errors = errors })
+stepped_service name s w errors table n r a i = (at_once_service name s w errors table (step.SyncStep n) (event.SyncStep n) r (sync_begins n) a i, at_once_serves name s w errors table (step.SyncStep n) (event.SyncStep n) r (sync_begins n) a i)
+
+pub no_job : (r : Reply) → ((t : Serial) → r ≡ reply.Job t → ⊥) → is_job r ≡ false
+no_job (reply.Job t) n = absurd (n t refl)
+no_job _ n = refl
+
+pub begun_no_job : (r : Result SyncId Refusal) → is_job (sync_begun r) ≡ false
+begun_no_job (Ok n) = refl
+begun_no_job (Err why) = refl
+
+pub dropped_no_job : (r : Result Unit Refusal) → is_job (sync_dropped r) ≡ false
+dropped_no_job (Ok _) = refl
+dropped_no_job (Err why) = refl
+
+-- ---- the call
+
+module _ (old now mid new : SoloSeen) (h : HandleId) (n : SyncId) (f : ℕ) (here : finmap.get old.world.core.handles h.0 ≡ Some f) (serves : Serves old now) (then : Serves now mid) where
+  there : finmap.get now.world.core.handles h.0 ≡ Some f
+  there = ap (λ m. finmap.get m h.0) serves.keeps.handles ∙ here
+
+  by_reply : (r : Reply) → InSync h n (world_of old.world) (world_of now.world) → Steps now.world (step.SyncStep n) r mid.world → IfOk (sync_end_of r) (λ _. new ≡ mid) → IfOk (sync_end_of r) (IsSynced old f new)
+  by_reply reply.Clean s m same = elim m [
+    | inl m ↦ subst (λ x. IsSynced old f x None) (sym same) (ends_clean old now mid h n f here (then.keeps.sizes ∙ serves.keeps.sizes) s m)
+    | inr x ↦ absurd (let k = x.0 in cc)
+  ]
+  by_reply (reply.Failed code) s m same = elim m [
+    | inl m ↦ subst (λ x. IsSynced old f x (Some code)) (sym same) (ends_failed old now mid h n f code here there s m)
+    | inr x ↦ absurd (let k = x.0 in cc)
+  ]
+  by_reply _ s m same = tt
+
+  pub call_synced : (r : Reply) (o : Result (Option ℕ) Refusal) → InSync h n (world_of old.world) (world_of now.world) → Steps now.world (step.SyncStep n) r mid.world → o ≡ sync_end_of r → IfOk o (λ _. new ≡ mid) → IfOk o (IsSynced old f new)
+  call_synced r o s m e same = subst (λ o. IfOk o (IsSynced old f new)) (sym e) (by_reply r s m (subst (λ o. IfOk o (λ _. new ≡ mid)) e same))
+
+module _ (old now mid : SoloSeen) (h : HandleId) (n : SyncId) (serves : Serves old now) where
+  by_refusal : (r : Reply) → is_sync_end r ≡ true → Steps now.world (step.SyncStep n) r mid.world → IfErr (sync_end_of r) (IsSyncRefusal old h)
+  by_refusal reply.Clean j m = tt
+  by_refusal (reply.Failed code) j m = tt
+  by_refusal (reply.Refused why) j m = step_is_refused old now mid h n why serves m
+  by_refusal _ j m = absurd cc
+
+  pub call_refused : (r : Reply) (o : Result (Option ℕ) Refusal) → is_sync_end r ≡ true → Steps now.world (step.SyncStep n) r mid.world → o ≡ sync_end_of r → IfErr o (IsSyncRefusal old h)
+  call_refused r o j m e = subst (λ o. IfErr o (IsSyncRefusal old h)) (sym e) (by_refusal r j m)
+
+pub goes_down : (e a b : ℕ) → a < e → b ≡ a + 1 → e - b < e - a
+goes_down e a b l s = omega arith
+
+-- ---- the whole call
+
+-- how many attempts were made is of no matter
+refuses_counted : (s : SoloSeen) (n : ℕ) (e : Event) (why : Refusal) → Refuses s e why → Refuses (record s { attempts = n }) e why
+refuses_counted s n e why x = (x.0, serves_counted s x.0 n x.0.attempts x.1, x.2)
+
+pub refusal_counted : (s : SoloSeen) (n : ℕ) (h : HandleId) (why : Refusal) → IsSyncRefusal s h why → IsSyncRefusal (record s { attempts = n }) h why
+refusal_counted s n h Memory x = tt
+refusal_counted s n h why x = elim x [ inl a ↦ inl (refuses_counted s n (event.SyncBegin h) why a) | inr a ↦ inr (a.0, refuses_counted s n (event.SyncStep a.0) why a.1) ]
+
+-- a refusal that is no failed device call comes before the poll
+pub not_reported : (why : Refusal) → is_io why ≡ false → is_reported (Err why) ≡ true → ⊥
+not_reported (Io code) n e = absurd cc
+not_reported why n e = absurd cc

@@ -1,0 +1,13 @@
+use Rattle.std.proofs.Common.{subst}
+use Rattle.filesvc.specs.Rests.{IsNoted}
+use Rattle.filesvc.proofs.WorldLaws.{alone_plays, alone_rests}
+use Rattle.filesvc.proofs.requests.carry_out.Goals as goal
+
+pub returns-clause-rests : goal.returns-clause-rests
+returns-clause-rests g c = alone_rests c.args.world.now c.call.new.self c.end-end.new.self c.args.serial _ c.end-end.result c.requires c.call.ensures c.end-end.ensures
+
+pub returns-clause-made : goal.returns-clause-made
+returns-clause-made g c = alone_plays c.args.world.now c.call.new.self c.end-end.new.self c.args.serial _ c.end-end.result c.requires c.call.ensures c.end-end.ensures
+
+pub returns-clause-noted : goal.returns-clause-noted
+returns-clause-noted g c = subst (λ o. IsNoted c.args.recorder.now o c.end-end.result c.note.new.recorder) c.flush_of-written.ensures.file c.note.ensures

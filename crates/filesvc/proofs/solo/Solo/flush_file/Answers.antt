@@ -1,0 +1,11 @@
+use Rattle.filesvc.specs.Seen.{SoloSeen}
+use Rattle.filesvc.proofs.WorldLaws.{at_once_serves, at_once_service, flush_begins}
+use Rattle.filesvc.proofs.solo.Solo.flush_file.Goals as goal
+
+pub invariant_of-self : goal.invariant_of-self
+invariant_of-self g c =
+    let s : SoloSeen = record { world = c.self.inside.world; errors = c.self.inside.recorder; attempts = 0 } in
+    at_once_service _ s _ _ _ _ _ _ (flush_begins c.args.file) c.flush_page.ensures.made c.self.invariant
+
+pub returns-clause-serves : goal.returns-clause-serves
+returns-clause-serves g c = rw (← c.self.view_is) (at_once_serves _ _ _ _ _ _ _ _ (flush_begins c.args.file) c.flush_page.ensures.made c.self.invariant)

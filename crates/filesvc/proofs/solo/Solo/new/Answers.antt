@@ -1,0 +1,20 @@
+use Rattle.std.proofs.Common.{◌≡◌, ◌≤◌, ◌∙◌, ap, sym, subst, arith}
+use Rattle.pc_types.specs.declared.limits.TheConstants.{MAX_FILE_SIZE}
+use Rattle.cachecore.specs.State.{file_at}
+use Rattle.world.specs.Stepping.{Held}
+use Rattle.filesvc.proofs.Beginning.{lists_in, nothing_in, reached_at}
+use Rattle.filesvc.proofs.solo.Solo.new.Goals as goal
+
+pub invariant_of-result : goal.invariant_of-result
+invariant_of-result g c = record {
+  named = ap (λ (w : Held). w.core.name) c.in_ok-world.ensures.fresh;
+  board = sym c.in-Ok.ensures.board;
+  lists = lists_in _ c.in-Ok.ensures.nothing;
+  rests = record { requests = ap (λ (w : Held). w.core.requests) c.in_ok-world.ensures.fresh; outcomes = ap (λ (w : Held). w.outcomes) c.in_ok-world.ensures.fresh };
+  reached = reached_at _ _ (ap (λ (w : Held). w.device) c.in_ok-world.ensures.fresh) c.in_ok-world.ensures.first;
+  counted = (let a : c.in_ok-world.world.device.calls ≡ c.calls.result = ap (λ (w : Held). w.device.calls) c.in_ok-world.ensures.fresh ∙ sym c.calls.ensures in let b = c.if-prove.false in omega arith);
+  bounded = λ f. subst (λ (w : Held). (file_at w.core f).size ≤ MAX_FILE_SIZE) (sym c.in_ok-world.ensures.fresh) (omega arith);
+}
+
+pub returns-clause-nothing : goal.returns-clause-nothing
+returns-clause-nothing g c = λ f. nothing_in _ f c.in-Ok.ensures.nothing

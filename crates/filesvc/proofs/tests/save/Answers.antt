@@ -1,0 +1,28 @@
+use Rattle.std.proofs.Common.{◌≡◌, length, ap, ◌∙◌, subst}
+use Rattle.std.specs.Prelude.{Result, Ok, Err, OnOk}
+use Rattle.pc_types.specs.declared.refusal.Refusal.{Refusal}
+use Rattle.filesvc.specs.Seen.{HandleSeen}
+use Rattle.filesvc.specs.Service.{IsOnDevice, is_reported}
+use Rattle.filesvc.proofs.Callers.{written_is}
+use Rattle.filesvc.proofs.Laws.{serves_trans}
+use Rattle.filesvc.proofs.tests.save.Goals as goal
+
+if_ok : {P : Type 0} (r : Result Unit Refusal) → P → OnOk r P
+if_ok (Ok x) p = p
+if_ok (Err x) p = tt
+
+pub returns-in-Err-Io-clause-saved : goal.returns-in-Err-Io-clause-saved
+returns-in-Err-Io-clause-saved g c = λ names tells. if_ok c.fsync-in-Err-Io.result
+    (written_is c.args.files.now c.pwrite.new.self c.fsync-in-Err-Io.new.self c.args.handle.now 0 c.args.bytes.now c.in_ok-pwrite.field-0 (length c.args.bytes.now) (c.requires.came names) tells c.in_ok-pwrite.ensures.files c.pwrite.ensures.keeps (serves_trans _ _ _ c.fsync.ensures.serves c.fsync-in-Err-Io.ensures.serves))
+
+pub returns-in-Err-Io-clause-synced : goal.returns-in-Err-Io-clause-synced
+returns-in-Err-Io-clause-synced g c = λ names tells.
+    let same : c.fsync.new.handle.file ≡ c.args.handle.now.file = ap (λ (h : HandleSeen). h.file) (c.in-Err-Io.ensures.told (ap (λ (r : Refusal). is_reported (Err r)) c.in-Err-Io.field-0-is)).same in
+    subst (λ f. OnOk c.fsync-in-Err-Io.result (IsOnDevice c.fsync-in-Err-Io.new.self f)) same (c.fsync-in-Err-Io.ensures.synced (c.fsync.ensures.serves.keeps.tells ∙ (c.pwrite.ensures.keeps.tells ∙ tells)))
+
+pub returns-in_default-2-clause-saved : goal.returns-in_default-2-clause-saved
+returns-in_default-2-clause-saved g c = λ names tells. if_ok c.fsync.result
+    (written_is c.args.files.now c.pwrite.new.self c.fsync.new.self c.args.handle.now 0 c.args.bytes.now c.in_ok-pwrite.field-0 (length c.args.bytes.now) (c.requires.came names) tells c.in_ok-pwrite.ensures.files c.pwrite.ensures.keeps c.fsync.ensures.serves)
+
+pub returns-in_default-2-clause-synced : goal.returns-in_default-2-clause-synced
+returns-in_default-2-clause-synced g c = λ names tells. c.fsync.ensures.synced (c.pwrite.ensures.keeps.tells ∙ tells)

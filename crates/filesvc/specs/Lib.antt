@@ -1,0 +1,5 @@
+pub mod Attempts
+pub mod Rests
+pub mod Seen
+pub mod Service
+pub mod Syncs

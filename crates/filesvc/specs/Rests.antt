@@ -1,0 +1,56 @@
+-- Inside this crate: what holds of a service between its calls, and requests that are made, carried out and ended in one.
+use Rattle.std.specs.Prelude.{◌≡◌, ℕ, ◌<◌, ◌≤◌, ◌⊎◌, Bool, true, false, [], ◌∷◌, length, Option, Some, is_some}
+use Rattle.std.specs.FinMap as finmap
+use Rattle.atomic_table.specs.Seated.{TableId}
+use Rattle.blockdev.specs.Device.{max_calls}
+use Rattle.errboard.specs.Shown.{RecorderSeen}
+use Rattle.errboard.specs.Steps.{with_recording}
+use Rattle.errseq.specs.declared.recording.Recording.{Recording}
+use Rattle.pc_types.specs.declared.ids.Serial.{Serial}
+use Rattle.pc_types.specs.declared.limits.TheConstants.{MAX_FILES, MAX_FILE_SIZE}
+use Rattle.cachecore.specs.declared.event.Reply.{Reply}
+use Rattle.cachecore.specs.declared.event.Reply.TheVariants as reply
+use Rattle.cachecore.specs.Flushing.{flush_of}
+use Rattle.cachecore.specs.State.{Request, file_at}
+use Rattle.world.specs.declared.step.Step.{Step}
+use Rattle.world.specs.declared.step.Step.TheVariants as step
+use Rattle.world.specs.Reached.{IsReached}
+use Rattle.world.specs.Stepping.{Held, Plays, Steps, world_of}
+
+-- no request is in flight
+pub record IsResting (w : Held) : Type 0 where
+  pub requests : w.core.requests ≡ finmap.empty
+  pub outcomes : w.outcomes ≡ finmap.empty
+
+pub record IsService (name : ℕ) (w : Held) (table : TableId) (errors : RecorderSeen) : Type 0 where
+  pub named : w.core.name ≡ name
+  pub board : table ≡ errors.board
+  -- which has the recordings of each file
+  pub lists : length errors.all ≡ MAX_FILES
+  pub rests : IsResting w
+  -- where the device tells its contents, what the cache and the device hold came about by a run
+  pub reached : is_some w.device.contents ≡ true → IsReached (world_of w)
+  pub counted : w.device.calls ≤ max_calls
+  pub bounded : (f : ℕ) → (file_at w.core f).size ≤ MAX_FILE_SIZE
+
+abbrev pub is_job : Reply → Bool
+is_job (reply.Job t) = true
+is_job _ = false
+
+-- a request that was a write of this file, and failed, was recorded; and else nothing
+abbrev pub IsNoted : RecorderSeen → Option ℕ → Reply → RecorderSeen → Type 0
+IsNoted old (Some f) (reply.Failed code) new =
+    (f < MAX_FILES) × (new.board ≡ old.board) × (new.opening ≡ old.opening) × (x : Recording) × (x.code ≡ code) × (new.all ≡ with_recording old.all f x)
+IsNoted old _ _ new = new ≡ old
+
+-- the step was made, and where it began a request the device call and the end follow, whose reply this is and whose failure was recorded
+abbrev pub AtOnce : Held → RecorderSeen → Step → Reply → Held → RecorderSeen → Type 0
+AtOnce old errors s r new noted =
+    ((is_job r ≡ false) × Steps old s r new × (noted ≡ errors))
+    ⊎ ((t : Serial) × (mid : Held) × Steps old s (reply.Job t) mid × Plays mid (step.Call t ∷ step.End t ∷ []) (reply.Done ∷ r ∷ []) new × IsNoted errors (flush_of mid.core t.0) r noted)
+
+-- request t alone is in flight, and its device call was not made yet
+pub record IsAlone (w : Held) (t : ℕ) : Type 0 where
+  pub request : Request
+  pub requests : w.core.requests ≡ finmap.insert finmap.empty t request
+  pub outcomes : w.outcomes ≡ finmap.empty

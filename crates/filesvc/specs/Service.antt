@@ -1,0 +1,268 @@
+-- What holds of a service for one thread, in the terms of its callers: plain files, failed writes, and the answers of the cache.
+use Rattle.std.specs.Prelude.{◌≡◌, ◌≢◌, ℕ, ℤ, pos, negsuc, ◌+ℤ◌, ◌+◌, ◌<◌, ◌≤◌, nat_le, ◌⊎◌, Bool, true, false, if◌then◌else◌, List, length, take, drop, Option, Some, None, is_some, Result, Ok, Err}
+use Rattle.std.specs.FinMap as finmap
+use mathlib.Core.List.{IsPrefix}
+use Rattle.blockdev.specs.Device.{max_calls}
+use Rattle.pc_types.specs.Files.{page_of}
+use Rattle.pc_types.specs.declared.limits.TheConstants.{MAX_FILE_SIZE}
+use Rattle.pc_types.specs.declared.ids.HandleId.{HandleId}
+use Rattle.pc_types.specs.declared.ids.PageIndex.{PageIndex}
+use Rattle.pc_types.specs.declared.ids.SyncId.{SyncId}
+use Rattle.pc_types.specs.declared.refusal.Refusal.{Refusal}
+use Rattle.pc_types.specs.declared.refusal.Refusal.TheVariants.{DirtyLimit, Io, Memory, NoFrame, TooLarge, Turns}
+use Rattle.errboard.specs.Views.{recorded_of}
+use Rattle.errseq.specs.declared.recording.Recording.{Recording}
+use Rattle.errseq.specs.Recorded.{last_code, raised}
+use Rattle.errseq.specs.Samples.{StandsFor, done_at}
+use Rattle.errseq.specs.Word.{IsWithinTurn, sample_of}
+use Rattle.cachecore.specs.declared.event.Event.{Event}
+use Rattle.cachecore.specs.declared.event.Event.TheVariants as event
+use Rattle.cachecore.specs.declared.event.Reply.{Reply}
+use Rattle.cachecore.specs.declared.event.Reply.TheVariants as reply
+use Rattle.cachecore.specs.State.{file_at, page_count}
+use Rattle.cachecore.specs.Step.{Step}
+use Rattle.cachecore.specs.Tests.{tests}
+use Rattle.world.specs.Plain.{Plain, plain_after, plain_file}
+use Rattle.world.specs.Reached.{files_of}
+use Rattle.world.specs.Stepping.{world_of}
+use Rattle.world.specs.World.{on_device}
+use Rattle.filesvc.specs.declared.seek.Seek.{Seek}
+use Rattle.filesvc.specs.declared.seek.Seek.TheVariants.{Set, Cur, End}
+use Rattle.filesvc.specs.Seen.{HandleSeen, SoloSeen}
+
+-- ---- what is read off a service
+
+-- the premise of every promise on bytes: the device tells its contents
+abbrev pub Tells : SoloSeen → Type 0
+Tells s = is_some s.world.device.contents ≡ true
+
+-- the plain files: each, up to its size, the cached bytes of its pages or else those on the device
+abbrev pub files : SoloSeen → Plain
+files s = files_of (world_of s.world)
+
+-- the failed writes of a file that were recorded
+abbrev pub errors_of : SoloSeen → ℕ → List Recording
+errors_of s f = recorded_of s.errors.all f
+
+-- how many writes of a file failed
+abbrev pub failures_of : SoloSeen → ℕ → ℕ
+failures_of s f = (file_at s.world.core f).failures
+
+-- ---- handles
+
+-- whether a handle has this cache's name
+abbrev pub Names : SoloSeen → HandleSeen → Type 0
+Names s h = h.cache ≡ s.world.core.name
+
+-- the handle came from this service: it is open, its file is there, and its pass is of its file and of this service's board
+pub record IsOpen (s : SoloSeen) (h : HandleSeen) : Type 0 where
+  pub board : h.pass.board ≡ s.errors.board
+  pub pass : h.pass.file ≡ h.file
+  pub number : finmap.get s.world.core.handles h.number ≡ Some h.file
+  pub file : h.file < length s.world.core.files
+
+-- the condition on a handle: one that has this cache's name came from it
+abbrev pub CameFrom : SoloSeen → HandleSeen → Type 0
+CameFrom s h = Names s h → IsOpen s h
+
+-- ---- what every call keeps
+
+-- its cache, with its open handles, and its board; what was recorded stays, and each write that fails is added at its end, once; and
+-- the device counts on
+pub record Keeps (old new : SoloSeen) : Type 0 where
+  pub name : new.world.core.name ≡ old.world.core.name
+  pub sizes : new.world.core.sizes ≡ old.world.core.sizes
+  pub handles : new.world.core.handles ≡ old.world.core.handles
+  pub count : length new.world.core.files ≡ length old.world.core.files
+  pub board : new.errors.board ≡ old.errors.board
+  pub opening : new.errors.opening ≡ old.errors.opening
+  pub recorded : (f : ℕ) → IsPrefix (errors_of old f) (errors_of new f)
+  -- as many were added as failed meanwhile
+  pub noted : (f : ℕ) → length (errors_of new f) + failures_of old f ≡ length (errors_of old f) + failures_of new f
+  pub tells : is_some new.world.device.contents ≡ is_some old.world.device.contents
+  pub faults : old.world.device.faults ≤ new.world.device.faults
+
+-- and it leaves the plain files as they are; their lengths also where the device does not tell its contents
+pub record Serves (old new : SoloSeen) : Type 0 where
+  pub keeps : Keeps old new
+  pub lengths : (f : ℕ) → (file_at new.world.core f).size ≡ (file_at old.world.core f).size
+  pub files : Tells old → files new ≡ files old
+
+-- ---- refusals
+
+-- a device call failed since: it was counted, or the device can count no more
+abbrev pub Faulted : SoloSeen → SoloSeen → Type 0
+Faulted old new = (old.world.device.faults < new.world.device.faults) ⊎ (new.world.device.calls ≡ max_calls)
+
+-- the cache itself refused the event so, at a moment of the call, on the same plain files
+abbrev pub Refuses : SoloSeen → Event → Refusal → Type 0
+Refuses old e r = (mid : SoloSeen) × Serves old mid × Step mid.world.core e (reply.Refused r) mid.world.core
+
+-- why a call is refused that makes the event e by this handle: a growth or a device call was refused, or it made its last attempt;
+-- or the cache refused the event, or the fill of a page that it missed
+abbrev pub IsRefusal : SoloSeen → HandleId → Event → Refusal → SoloSeen → Type 0
+IsRefusal old h e Memory new = Unit {0}
+IsRefusal old h e (Io code) new = Faulted old new
+IsRefusal old h e Turns new = new.attempts ≡ 256
+IsRefusal old h e r new = Refuses old e r ⊎ ((p : PageIndex) × Refuses old (event.FillBegin h p) r)
+
+-- ---- the first attempt
+
+-- whether an event is over with its tests' answer: there is no page to fill, and no room to make
+abbrev pub is_settled : Option Reply → Bool
+is_settled (Some (reply.Miss p)) = false
+is_settled (Some (reply.Wait p)) = false
+is_settled (Some (reply.Refused NoFrame)) = false
+is_settled (Some (reply.Refused DirtyLimit)) = false
+is_settled _ = true
+
+-- where it is, the call is that event
+abbrev pub IsSettledAtOnce : SoloSeen → HandleSeen → Event → Reply → SoloSeen → Type 0
+IsSettledAtOnce old h e r new =
+    Names old h → is_settled (tests old.world.core e) ≡ true → Step old.world.core e r new.world.core × (new.attempts ≡ 1)
+
+-- ---- answers
+
+-- how many bytes a call answers
+abbrev pub count_of : Result ℕ Refusal → ℕ
+count_of (Ok n) = n
+count_of (Err r) = 0
+
+-- what a read answers, with the bytes that it left at the front of `out`, as a reply of the cache
+abbrev pub read_reply : Result ℕ Refusal → List ℕ → Reply
+read_reply (Ok n) out = reply.Bytes (take n out)
+read_reply (Err r) out = reply.Refused r
+
+-- what a write answers that ends there
+abbrev pub write_reply : Result ℕ Refusal → ℕ → Reply
+write_reply (Ok n) end = reply.Wrote n end
+write_reply (Err r) end = reply.Refused r
+
+abbrev pub truncate_reply : Result Unit Refusal → Reply
+truncate_reply (Ok _) = reply.Done
+truncate_reply (Err r) = reply.Refused r
+
+-- the plain files after a call that makes this event and is answered so
+abbrev pub FilesAfter : SoloSeen → Event → Reply → SoloSeen → Type 0
+FilesAfter old e r new = Tells old → files new ≡ plain_after (files old) e r
+
+-- ---- a sync
+
+-- the device holds each page of the file
+abbrev pub IsOnDevice : SoloSeen → ℕ → Type 0
+IsOnDevice s f =
+    (p : ℕ) → p < page_count s.world.core.sizes.page (length (plain_file (files s) f)) → on_device (world_of s.world) f p ≡ page_of s.world.core.sizes.page (plain_file (files s) f) p
+
+-- there is something that the handle was not told
+abbrev pub Owes : SoloSeen → HandleSeen → Type 0
+Owes s h = h.pass.done < length (errors_of s h.file)
+
+-- the premise of the counter of 19 bits: it did not come round since
+abbrev pub IsCounted : SoloSeen → HandleSeen → Type 0
+IsCounted s h = IsWithinTurn (raised (drop h.pass.done (errors_of s h.file)))
+
+-- a write of the file failed during the call
+abbrev pub HasFailed : SoloSeen → SoloSeen → ℕ → Type 0
+HasFailed old new f = failures_of new f ≢ failures_of old f
+
+-- ---- a cursor
+
+-- where a cursor is to be put
+abbrev pub target : Seek → ℕ → ℕ → ℤ
+target (Set n) cursor size = pos n
+target (Cur d) cursor size = pos cursor +ℤ d
+target (End d) cursor size = pos size +ℤ d
+
+-- it may stand from 0 to the greatest size of a file
+abbrev pub placed : ℤ → Result ℕ Refusal
+placed (pos n) = if nat_le n MAX_FILE_SIZE then Ok n else Err TooLarge
+placed (negsuc n) = Err TooLarge
+
+-- ---- handles that come and go
+
+-- a handle that was opened: it is this cache's, of this file, at its beginning, and the lowest number that was free
+pub record Opens (old : SoloSeen) (f : ℕ) (append : Bool) (h : HandleSeen) (new : SoloSeen) : Type 0 where
+  pub cache : h.cache ≡ old.world.core.name
+  pub file : h.file ≡ f
+  pub here : f < length old.world.core.files
+  pub cursor : h.cursor ≡ 0
+  pub mode : h.append ≡ append
+  pub board : h.pass.board ≡ old.errors.board
+  pub pass : h.pass.file ≡ f
+  pub step : Step old.world.core (event.Open (record { 0 = f })) (reply.Handle (record { 0 = h.number })) new.world.core
+  -- it is told of what was recorded before, but for the last where nobody was told of that
+  pub known : h.pass.known ≡ errors_of old f
+  pub sampled : (loaded : ℕ) × StandsFor h.pass.start loaded h.pass.known × (h.pass.since ≡ sample_of loaded) × (h.pass.done ≡ done_at h.pass.known loaded)
+
+abbrev pub Opened : SoloSeen → ℕ → Bool → Result HandleSeen Refusal → SoloSeen → Type 0
+Opened old f append (Ok h) new = Opens old f append h new
+Opened old f append (Err r) new = Step old.world.core (event.Open (record { 0 = f })) (reply.Refused r) new.world.core
+
+-- the service as it was, but for the number of its attempts
+abbrev pub IsAsBefore : SoloSeen → SoloSeen → Type 0
+IsAsBefore old new = new ≡ record old { attempts = new.attempts }
+
+-- the handle was told of all that is recorded, and nothing else of it changed
+pub record IsTold (s : SoloSeen) (old new : HandleSeen) : Type 0 where
+  pub same : new ≡ record old { pass = new.pass }
+  pub board : new.pass.board ≡ old.pass.board
+  pub file : new.pass.file ≡ old.pass.file
+  pub known : new.pass.known ≡ errors_of s old.file
+  pub done : new.pass.done ≡ length new.pass.known
+
+-- what an open answers, as a reply of the cache
+abbrev pub open_reply : Result HandleSeen Refusal → Reply
+open_reply (Ok h) = reply.Handle (record { 0 = h.number })
+open_reply (Err r) = reply.Refused r
+
+-- why the fill of a page is refused
+abbrev pub IsFillRefusal : SoloSeen → HandleId → PageIndex → Refusal → SoloSeen → Type 0
+IsFillRefusal old h p Memory new = Unit {0}
+IsFillRefusal old h p (Io code) new = Faulted old new
+IsFillRefusal old h p r new = Refuses old (event.FillBegin h p) r
+
+-- why a sync of the handle's file is refused, but for writes that failed
+abbrev pub IsSyncRefusal : SoloSeen → HandleId → Refusal → Type 0
+IsSyncRefusal old h Memory = Unit {0}
+IsSyncRefusal old h r = Refuses old (event.SyncBegin h) r ⊎ ((n : SyncId) × Refuses old (event.SyncStep n) r)
+
+-- where an fsync ends by a success or an error: with an error exactly where a write of the file failed during the call, or the handle is
+-- owed one, with the code of the last
+abbrev pub Reports : SoloSeen → HandleSeen → Result Unit Refusal → SoloSeen → Type 0
+Reports old h (Ok _) new = (failures_of new h.file ≡ failures_of old h.file) × (IsCounted new h → Owes new h → ⊥)
+Reports old h (Err (Io code)) new =
+    (Owes new h × (code ≡ last_code (errors_of new h.file))) ⊎ (HasFailed old new h.file × (code ≡ (file_at new.world.core h.file).last_code))
+Reports old h (Err r) new = Unit {0}
+
+-- whether an fsync got as far as its poll
+abbrev pub is_reported : Result Unit Refusal → Bool
+is_reported (Ok _) = true
+is_reported (Err (Io code)) = true
+is_reported (Err r) = false
+
+-- ---- a write at the cursor, or at the end of the file by an appending handle
+
+abbrev pub write_event : HandleSeen → List ℕ → Event
+write_event h bytes = if h.append then event.Append (record { 0 = h.number }) bytes else event.Write (record { 0 = h.number }) h.cursor bytes
+
+-- where it begins
+abbrev pub write_place : SoloSeen → HandleSeen → ℕ
+write_place s h = if h.append then (file_at s.world.core h.file).size else h.cursor
+
+abbrev pub wrote_reply : SoloSeen → HandleSeen → Result ℕ Refusal → Reply
+wrote_reply s h r = write_reply r (write_place s h + count_of r)
+
+-- after it the cursor stands behind the bytes
+abbrev pub cursor_after : SoloSeen → HandleSeen → Result ℕ Refusal → ℕ
+cursor_after s h (Ok n) = write_place s h + n
+cursor_after s h (Err r) = h.cursor
+
+-- a sync of the file is over: clean, with its pages on the device, or with the code of the last of its writes that failed
+abbrev pub IsSynced : SoloSeen → ℕ → SoloSeen → Option ℕ → Type 0
+IsSynced old f new None = IsOnDevice new f × (failures_of new f ≡ failures_of old f)
+IsSynced old f new (Some code) = HasFailed old new f × (code ≡ (file_at new.world.core f).last_code)
+
+-- what a close answers
+abbrev pub close_reply : Result Unit (Refusal × HandleSeen) → Reply
+close_reply (Ok _) = reply.Closed
+close_reply (Err e) = reply.Refused e.0

@@ -1,0 +1,35 @@
+-- Inside this crate: the steps of a sync that are carried out at once, and what its end answers.
+use Rattle.std.specs.Prelude.{◌≡◌, ℕ, Bool, true, false, [], ◌∷◌, Option, Some, None, Result, Ok, Err}
+use Rattle.pc_types.specs.declared.ids.Serial.{Serial}
+use Rattle.pc_types.specs.declared.ids.SyncId.{SyncId}
+use Rattle.pc_types.specs.declared.refusal.Refusal.{Refusal}
+use Rattle.pc_types.specs.declared.refusal.Refusal.TheVariants.{Busy, Io}
+use Rattle.cachecore.specs.declared.event.Reply.{Reply}
+use Rattle.cachecore.specs.declared.event.Reply.TheVariants as reply
+use Rattle.world.specs.declared.step.Step.TheVariants as step
+use Rattle.world.specs.Stepping.{Held, Plays, Steps}
+use Rattle.filesvc.specs.Rests.{is_job}
+
+-- a page was written out, with whatever end; or the sync's step gave this reply
+abbrev pub SyncTurn : Held → SyncId → Option Reply → Held → Type 0
+SyncTurn old n None new = (t : Serial) × (r : Reply) × Plays old (step.SyncStep n ∷ step.Call t ∷ step.End t ∷ []) (reply.Job t ∷ reply.Done ∷ r ∷ []) new
+SyncTurn old n (Some r) new = (is_job r ≡ false) × Steps old (step.SyncStep n) r new
+
+-- whether it is over by this reply
+abbrev pub is_sync_end : Reply → Bool
+is_sync_end reply.Clean = true
+is_sync_end (reply.Failed code) = true
+is_sync_end (reply.Refused why) = true
+is_sync_end _ = false
+
+-- how a sync ended by its last reply: the code of a failed write, where there is one. A sync that can't go on is refused
+abbrev pub sync_end_of : Reply → Result (Option ℕ) Refusal
+sync_end_of reply.Clean = Ok None
+sync_end_of (reply.Failed code) = Ok (Some code)
+sync_end_of (reply.Refused why) = Err why
+sync_end_of _ = Err Busy
+
+-- whether a refusal is that of a device call that failed
+abbrev pub is_io : Refusal → Bool
+is_io (Io code) = true
+is_io _ = false

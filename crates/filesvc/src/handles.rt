@@ -1,0 +1,168 @@
+//! Files and handles: what comes and goes, where a cursor is put, and what a handle is told.
+
+ghost use Rattle.std.specs.Prelude.{◌≡◌, ◌≢◌, ◌+ℤ◌, pos, ◌<◌, ◌≤◌, length, drop, IfErr, IfOk, IfSome, IfNone, IsErr, IsOk, OnErr, Err};
+ghost use Rattle.pc_types.specs.declared.refusal.Refusal.TheVariants.{BadHandle, NoSuchFile};
+ghost use Rattle.pc_types.specs.declared.limits.TheConstants.{MAX_FILES};
+ghost use Rattle.cachecore.specs.declared.event.Event.TheVariants as event;
+ghost use Rattle.cachecore.specs.Replies.{created};
+ghost use Rattle.cachecore.specs.State.{file_at};
+ghost use Rattle.cachecore.specs.Step.{Step};
+ghost use Rattle.errseq.specs.Recorded.{last_code, raised};
+ghost use Rattle.errseq.specs.Word.{IsWithinTurn};
+ghost use Rattle.filesvc.specs.Service.{CameFrom, FilesAfter, IsAsBefore, close_reply, IsCounted, IsTold, Names, Opened, Owes, errors_of, open_reply, placed, target};
+
+use crate::handle::Handle;
+use crate::seek::Seek;
+use crate::solo::Solo;
+use blockdev::BlockDevice;
+use errboard::Pass;
+use pc_types::limits::MAX_FILE_SIZE;
+use pc_types::{ErrCode, FileId, Refusal};
+
+impl<D: BlockDevice> Solo<D> {
+    /// A new file, without bytes. It stays as long as the service.
+    pub fn create(&mut self) -> Result<FileId, Refusal>
+        ensures step { Step self.old.world.core event.Create (created result) self.new.world.core }
+        ensures files { FilesAfter self.old event.Create (created result) self.new }
+        ensures device { self.new.world.device ≡ self.old.world.device }
+        ensures errors { self.new.errors ≡ self.old.errors }
+        ensures attempts { self.new.attempts ≡ 1 }
+    {
+        self.attempts = 1;
+        self.world.create()
+    }
+
+    /// Opens a file. The handle's cursor is at the beginning; with `append` its writes go to the end of the file. A number that no
+    /// file can have is refused by `NoSuchFile`.
+    pub fn open(&mut self, file: FileId, append: bool) -> Result<Handle, Refusal>
+        ensures none { MAX_FILES ≤ file.0 → (result ≡ Err NoSuchFile) × IsAsBefore self.old self.new }
+        ensures opened { file.0 < MAX_FILES → Opened self.old file.0 append result self.new }
+        ensures files { FilesAfter self.old (event.Open file) (open_reply result) self.new }
+        ensures device { self.new.world.device ≡ self.old.world.device }
+        ensures errors { self.new.errors ≡ self.old.errors }
+        ensures attempts { self.new.attempts ≡ 1 }
+    {
+        self.attempts = 1;
+        let pass = self.recorder.pass(file)?;
+        match self.world.open(file) {
+            Ok(number) => Ok(Handle {
+                cache: self.name,
+                file,
+                number,
+                cursor: 0,
+                append,
+                pass,
+            }),
+            Err(refusal) => {
+                self.recorder.retire(pass);
+                Err(refusal)
+            }
+        }
+    }
+
+    /// Closes a handle. Where it is refused it comes back.
+    pub fn close(&mut self, handle: Handle) -> Result<(), (Refusal, Handle)>
+        requires came { CameFrom self.old handle }
+        ensures foreign { handle.cache ≢ self.old.world.core.name → IfErr result (λ e. e.0 ≡ BadHandle) × IsErr result × IsAsBefore self.old self.new }
+        ensures closed { Names self.old handle → Step self.old.world.core (event.Close (record { 0 = handle.number })) (close_reply result) self.new.world.core }
+        ensures files { Names self.old handle → FilesAfter self.old (event.Close (record { 0 = handle.number })) (close_reply result) self.new }
+        ensures back { IfErr result (λ e. e.1 ≡ handle) }
+        ensures device { self.new.world.device ≡ self.old.world.device }
+        ensures errors { self.new.errors ≡ self.old.errors }
+    {
+        self.attempts = 0;
+        if handle.cache != self.name {
+            return Err((Refusal::BadHandle, handle));
+        }
+        self.attempts = 1;
+        match self.world.close(handle.number) {
+            Ok(()) => {
+                self.recorder.retire(handle.pass);
+                Ok(())
+            }
+            Err(refusal) => Err((refusal, handle)),
+        }
+    }
+
+    /// Puts the cursor, and answers where it is now. Refused by `TooLarge` below 0 and past the greatest size of a file.
+    pub fn seek(&mut self, handle: &mut Handle, place: Seek) -> Result<u64, Refusal>
+        requires came { CameFrom self.old handle.old }
+        ensures foreign { handle.old.cache ≢ self.old.world.core.name → result ≡ Err BadHandle }
+        ensures placed { Names self.old handle.old → result ≡ placed (target place handle.old.cursor (file_at self.old.world.core handle.old.file).size) }
+        ensures cursor { IfOk result (λ at. handle.new ≡ record handle.old { cursor = at }) }
+        ensures kept { OnErr result (handle.new ≡ handle.old) }
+        ensures same { IsAsBefore self.old self.new }
+    {
+        self.attempts = 0;
+        if handle.cache != self.name {
+            return Err(Refusal::BadHandle);
+        }
+        let at = match place {
+            Seek::Set(at) => within(at),
+            Seek::Cur(by) => moved(handle.cursor, by),
+            Seek::End(by) => {
+                self.attempts = 1;
+                moved(self.world.size(handle.number)?, by)
+            }
+        }?;
+        handle.cursor = at;
+        Ok(at)
+    }
+
+    /// The code of the last failed write of the file that the handle was not told of, where there is one. It is told of all then.
+    pub fn poll_error(&mut self, handle: &mut Handle) -> Result<Option<ErrCode>, Refusal>
+        requires came { CameFrom self.old handle.old }
+        ensures foreign { handle.old.cache ≢ self.old.world.core.name → (result ≡ Err BadHandle) × (handle.new ≡ handle.old) }
+        ensures answers { Names self.old handle.old → IsOk result }
+        ensures code { IfOk result (λ code. IfSome code (λ c. Owes self.old handle.old × (c ≡ last_code (errors_of self.old handle.old.file)))) }
+        ensures none { IfOk result (λ code. IfNone code (IsCounted self.old handle.old → Owes self.old handle.old → ⊥)) }
+        ensures told { IfOk result (λ _. IsTold self.new handle.old handle.new) }
+        ensures same { IsAsBefore self.old self.new }
+    {
+        self.attempts = 0;
+        if handle.cache != self.name {
+            return Err(Refusal::BadHandle);
+        }
+        Ok(self.poll(&mut handle.pass))
+    }
+
+    /// Polls a pass, which knows all that was recorded then.
+    pub(crate) fn poll(&mut self, pass: &mut Pass) -> Option<ErrCode>
+        requires of_board { pass.old.board ≡ self.old.errors.board }
+        ensures same { self.new ≡ self.old }
+        ensures pass { (pass.new.board ≡ pass.old.board) × (pass.new.file ≡ pass.old.file) × (pass.new.start ≡ pass.old.start) }
+        ensures known { pass.new.known ≡ errors_of self.old pass.old.file }
+        ensures done { pass.new.done ≡ length (errors_of self.old pass.old.file) }
+        ensures code { IfSome result (λ c. (pass.old.done < length (errors_of self.old pass.old.file)) × (c ≡ last_code (errors_of self.old pass.old.file))) }
+        ensures none { IfNone result (IsWithinTurn (raised (drop pass.old.done (errors_of self.old pass.old.file))) → length (errors_of self.old pass.old.file) ≤ pass.old.done) }
+    {
+        self.recorder.level(pass);
+        let code = self.board.poll(pass);
+        self.recorder.level(pass);
+        code
+    }
+}
+
+/// A place that a cursor may have.
+fn within(at: u64) -> Result<u64, Refusal>
+    ensures { result ≡ placed (pos at) }
+{
+    if at > MAX_FILE_SIZE {
+        return Err(Refusal::TooLarge);
+    }
+    Ok(at)
+}
+
+/// The place that is so far after this one, or before it.
+fn moved(from: u64, by: i64) -> Result<u64, Refusal>
+    ensures { result ≡ placed (pos from +ℤ by) }
+{
+    let far = by.unsigned_abs();
+    if by >= 0 {
+        return within(from.saturating_add(far));
+    }
+    if far > from {
+        return Err(Refusal::TooLarge);
+    }
+    within(from - far)
+}

@@ -1,0 +1,77 @@
+//! What a call does on the way: it fills pages that it missed, and makes room.
+
+ghost use Rattle.std.specs.Prelude.{◌≡◌, ◌⊎◌, IfErr, IsOkUnless};
+ghost use Rattle.pc_types.specs.declared.refusal.Refusal.TheVariants.{Memory};
+ghost use Rattle.filesvc.specs.Service.{IsFillRefusal, Serves};
+
+use crate::requests::{fill_page, flush_page};
+use crate::solo::Solo;
+use blockdev::BlockDevice;
+use cachecore::Reply;
+use pc_types::limits::MAX_FILES;
+use pc_types::{FileId, HandleId, PageIndex, Refusal};
+
+impl<D: BlockDevice> Solo<D> {
+    /// Fills a page, or makes room for it.
+    pub(crate) fn fill(&mut self, handle: HandleId, page: PageIndex) -> Result<(), Refusal>
+        ensures serves { Serves self.old self.new }
+        ensures attempts { self.new.attempts ≡ self.old.attempts }
+        ensures refused { IfErr result (λ r. IsFillRefusal self.old handle page r self.new) }
+    {
+        let refusal = match fill_page(&mut self.world, &mut self.recorder, handle, page) {
+            Reply::Failed(code) => return Err(Refusal::Io(code)),
+            Reply::Refused(refusal) => refusal,
+            _ => return Ok(()),
+        };
+        self.make_room(refusal)
+    }
+
+    /// Makes room where a page was refused a frame or would be one dirty page too many. Where that can't be done, and for any
+    /// other refusal, that is the answer.
+    pub(crate) fn make_room(&mut self, refusal: Refusal) -> Result<(), Refusal>
+        ensures serves { Serves self.old self.new }
+        ensures attempts { self.new.attempts ≡ self.old.attempts }
+        ensures refused { IfErr result (λ r. (r ≡ refusal) ⊎ (r ≡ Memory)) }
+    {
+        match refusal {
+            Refusal::NoFrame => {
+                self.world.age();
+                if self.world.evict().is_some() {
+                    return Ok(());
+                }
+            }
+            Refusal::DirtyLimit => {}
+            other => return Err(other),
+        }
+        if self.flush_one()? {
+            Ok(())
+        } else {
+            Err(refusal)
+        }
+    }
+
+    /// Writes a dirty page back, of the first file that has one. Answers whether that was done.
+    fn flush_one(&mut self) -> Result<bool, Refusal>
+        ensures serves { Serves self.old self.new }
+        ensures attempts { self.new.attempts ≡ self.old.attempts }
+        ensures refused { IsOkUnless result Refusal.Memory }
+    {
+        'files: for file in 0..MAX_FILES {
+            match self.flush_file(FileId(file)) {
+                Reply::Nothing => {}
+                Reply::Refused(Refusal::Memory) => return Err(Refusal::Memory),
+                Reply::Written => return Ok(true),
+                _ => return Ok(false),
+            }
+        }
+        Ok(false)
+    }
+
+    /// Writes the file's lowest dirty page back.
+    fn flush_file(&mut self, file: FileId) -> Reply
+        ensures serves { Serves self.old self.new }
+        ensures attempts { self.new.attempts ≡ self.old.attempts }
+    {
+        flush_page(&mut self.world, &mut self.recorder, file)
+    }
+}

@@ -1,0 +1,300 @@
+//! A service as its callers use it, over a device that fails where it is told to. Every row is run by `over_a_service`, since the
+//! check is slow where a service is dropped.
+
+ghost use Rattle.std.specs.Prelude.{◌≡◌, OnOk};
+ghost use Rattle.pc_types.specs.Files.{pwrite};
+ghost use Rattle.world.specs.Plain.{plain_file};
+ghost use Rattle.filesvc.specs.Service as service;
+ghost use Rattle.filesvc.specs.Service.{CameFrom, IsOnDevice, IsOpen, Names, Tells};
+
+use super::*;
+use blockdev::{BlockDevice, FaultEffect, ScriptDevice};
+use pc_types::{ErrCode, FileId, Geometry, Refusal};
+use std::alloc::Global;
+use std::marker::Model;
+use std::process::Abort;
+use std::test::Fail;
+
+/// A service and a handle that it opened.
+#[derive(Drop)]
+struct Desk {
+    solo: Solo<ScriptDevice>,
+    handle: Handle,
+}
+
+impl Model for Desk {
+    ghost use Rattle.filesvc.specs.Service.{IsOpen};
+
+    ghost Value = { Unit };
+
+    ghost view = { λ d. tt };
+
+    ghost invariant = { λ d. IsOpen d.solo d.handle };
+}
+
+impl Desk {
+    fn read(&mut self, out: &mut [u8]) -> Result<u64, Refusal> {
+        self.solo.read(&mut self.handle, out)
+    }
+
+    fn write(&mut self, bytes: &[u8]) -> Result<u64, Refusal> {
+        self.solo.write(&mut self.handle, bytes)
+    }
+
+    fn pread(&mut self, offset: u64, out: &mut [u8]) -> Result<u64, Refusal> {
+        self.solo.pread(&self.handle, offset, out)
+    }
+
+    fn pwrite(&mut self, offset: u64, bytes: &[u8]) -> Result<u64, Refusal> {
+        self.solo.pwrite(&self.handle, offset, bytes)
+    }
+
+    fn seek(&mut self, place: Seek) -> Result<u64, Refusal> {
+        self.solo.seek(&mut self.handle, place)
+    }
+
+    fn truncate(&mut self, size: u64) -> Result<(), Refusal> {
+        self.solo.truncate(&self.handle, size)
+    }
+
+    fn fsync(&mut self) -> Result<(), Refusal> {
+        self.solo.fsync(&mut self.handle)
+    }
+
+    fn poll_error(&mut self) -> Result<Option<ErrCode>, Refusal> {
+        self.solo.poll_error(&mut self.handle)
+    }
+
+    /// Gives the handle another cache's name.
+    fn rename(&mut self, name: u64) {
+        self.handle.cache = name;
+    }
+
+    fn close(self) -> bool {
+        let Desk { mut solo, handle } = self;
+        solo.close(handle).is_ok()
+    }
+}
+
+// Reads, writes and seeks of one handle, at the ends of a file and of what a cursor may be.
+fn moves_a_cursor(rt: &impl Abort, desk: &mut Desk) {
+    let mut out = [0; 16];
+    let mut part = [0; 8];
+    assert_eq!(rt; desk.write(&[1, 2, 3]), Ok(3));
+    assert_eq!(rt; desk.seek(Seek::Set(1)), Ok(1));
+    assert_eq!(rt; desk.read(&mut part), Ok(2));
+    assert!(rt; part.starts_with(&[2, 3, 0]));
+    assert_eq!(rt; desk.read(&mut part), Ok(0));
+    assert_eq!(rt; desk.seek(Seek::End(2)), Ok(5));
+    assert_eq!(rt; desk.write(&[255]), Ok(1));
+    assert_eq!(rt; desk.pread(0, &mut out), Ok(6));
+    assert!(rt; out.starts_with(&[1, 2, 3, 0, 0, 255, 0]));
+    assert_eq!(rt; desk.seek(Seek::Cur(-7)), Err(Refusal::TooLarge));
+    assert_eq!(rt; desk.seek(Seek::Cur(0)), Ok(6));
+    assert_eq!(rt;
+        desk.seek(Seek::Set(1_099_511_627_777)),
+        Err(Refusal::TooLarge)
+    );
+    assert_eq!(rt; desk.truncate(2), Ok(()));
+    assert_eq!(rt; desk.pread(0, &mut out), Ok(2));
+    assert!(rt; out.starts_with(&[1, 2]));
+}
+
+// A failed write is told once, and the next sync succeeds.
+fn tells_an_error_once(rt: &impl Abort, desk: &mut Desk) {
+    assert_eq!(rt; desk.pwrite(0, &[0xaa]), Ok(1));
+    assert_eq!(rt; desk.fsync(), Err(Refusal::Io(ErrCode::IO)));
+    assert_eq!(rt; desk.poll_error(), Ok(None));
+    assert_eq!(rt; desk.fsync(), Ok(()));
+    assert_eq!(rt; desk.fsync(), Ok(()));
+}
+
+// Where as many pages are dirty as may be, a write makes room by writing one back.
+fn makes_room(rt: &impl Abort, desk: &mut Desk) {
+    assert_eq!(rt; desk.pwrite(0, &[1; 256]), Ok(256));
+    assert_eq!(rt; desk.solo.attempts(), 1);
+    assert_eq!(rt; desk.pwrite(256, &[2]), Ok(1));
+    assert_eq!(rt; desk.solo.attempts(), 2);
+}
+
+// Where that fails, the write is refused, and the next sync tells of it.
+fn refuses_without_room(rt: &impl Abort, desk: &mut Desk) {
+    assert_eq!(rt; desk.pwrite(0, &[1; 256]), Ok(256));
+    assert_eq!(rt; desk.pwrite(256, &[2]), Err(Refusal::DirtyLimit));
+    assert_eq!(rt; desk.fsync(), Err(Refusal::Io(ErrCode::IO)));
+    assert_eq!(rt; desk.fsync(), Ok(()));
+}
+
+// An appending handle writes at the end, and pwrite where it is told to.
+fn appends(rt: &impl Abort, desk: &mut Desk) {
+    let mut out = [0; 8];
+    assert_eq!(rt; desk.write(&[1, 2]), Ok(2));
+    assert_eq!(rt; desk.seek(Seek::Set(0)), Ok(0));
+    assert_eq!(rt; desk.write(&[3]), Ok(1));
+    assert_eq!(rt; desk.handle.cursor(), 3);
+    assert_eq!(rt; desk.pwrite(0, &[9]), Ok(1));
+    assert_eq!(rt; desk.seek(Seek::Set(1)), Ok(1));
+    assert_eq!(rt; desk.write(&[]), Ok(0));
+    assert_eq!(rt; desk.handle.cursor(), 3);
+    assert_eq!(rt; desk.pread(0, &mut out), Ok(3));
+    assert!(rt; out.starts_with(&[9, 2, 3]));
+    assert_eq!(rt; desk.pread(3, &mut out), Ok(0));
+}
+
+// More pages than frames: a read of an evicted page fills it again.
+fn reads_back(rt: &impl Abort, desk: &mut Desk) {
+    for at in 0..64u64 {
+        assert_eq!(rt; desk.pwrite(at * 16, &[at as u8; 16]), Ok(16));
+    }
+    assert_eq!(rt; desk.fsync(), Ok(()));
+    let mut out = [0; 16];
+    for at in 0..64u64 {
+        assert_eq!(rt; desk.pread(at * 16, &mut out), Ok(16));
+        assert!(rt; out == [at as u8; 16]);
+    }
+    assert_eq!(rt; desk.pread(0, &mut [0; 1024]), Err(Refusal::TooLong));
+}
+
+// A handle of another service is refused, and comes back from close.
+fn refuses_a_stranger(rt: &impl Abort, desk: &mut Desk) {
+    let refused = desk.solo.open(FileId(1), false);
+    assert!(rt; matches!(refused, Err(Refusal::NoSuchFile)));
+    let refused = desk.solo.open(FileId(64), false);
+    assert!(rt; matches!(refused, Err(Refusal::NoSuchFile)));
+    desk.rename(8);
+    let mut out = [0; 1];
+    assert_eq!(rt; desk.read(&mut out), Err(Refusal::BadHandle));
+    assert_eq!(rt; desk.write(&[1]), Err(Refusal::BadHandle));
+    assert_eq!(rt; desk.pread(0, &mut out), Err(Refusal::BadHandle));
+    assert_eq!(rt; desk.pwrite(0, &[1]), Err(Refusal::BadHandle));
+    assert_eq!(rt; desk.truncate(0), Err(Refusal::BadHandle));
+    assert_eq!(rt; desk.seek(Seek::Set(0)), Err(Refusal::BadHandle));
+    assert_eq!(rt; desk.fsync(), Err(Refusal::BadHandle));
+    assert_eq!(rt; desk.poll_error(), Err(Refusal::BadHandle));
+    desk.rename(7);
+}
+
+// Saves the bytes at the beginning of a file. After success the device holds the file.
+fn save<D: BlockDevice>(
+    files: &mut Solo<D>,
+    handle: &mut Handle,
+    bytes: &[u8],
+) -> Result<(), Refusal>
+    requires came { CameFrom files.old handle.old }
+    ensures open { IsOpen files.old handle.old → IsOpen files.new handle.new }
+    ensures saved { Names files.old handle.old → Tells files.old → OnOk result (plain_file (service.files files.new) handle.old.file ≡ pwrite (plain_file (service.files files.old) handle.old.file) 0 bytes.now) }
+    ensures synced { Names files.old handle.old → Tells files.old → OnOk result (IsOnDevice files.new handle.old.file) }
+{
+    files.pwrite(handle, 0, bytes)?;
+    match files.fsync(handle) {
+        // The pages whose write failed are dirty again, so a second fsync writes them.
+        Err(Refusal::Io(_)) => files.fsync(handle),
+        done => done,
+    }
+}
+
+// A caller that meets a failed write.
+fn saves(rt: &impl Abort, desk: &mut Desk) -> Result<(), Refusal> {
+    save(&mut desk.solo, &mut desk.handle, &[0xaa; 40])?;
+    let mut out = [0; 64];
+    assert_eq!(rt; desk.pread(0, &mut out), Ok(40));
+    assert!(rt; out.starts_with(&[0xaa; 40]) && !out.starts_with(&[0xaa; 41]));
+    Ok(())
+}
+
+#[derive(Clone, Copy)]
+enum Row {
+    MovesACursor,
+    TellsAnErrorOnce,
+    MakesRoom,
+    RefusesWithoutRoom,
+    Appends,
+    ReadsBack,
+    RefusesAStranger,
+    Saves,
+}
+
+fn run(rt: &impl Abort, desk: &mut Desk, row: Row) -> Result<(), Refusal> {
+    match row {
+        Row::MovesACursor => moves_a_cursor(rt, desk),
+        Row::TellsAnErrorOnce => tells_an_error_once(rt, desk),
+        Row::MakesRoom => makes_room(rt, desk),
+        Row::RefusesWithoutRoom => refuses_without_room(rt, desk),
+        Row::Appends => appends(rt, desk),
+        Row::ReadsBack => reads_back(rt, desk),
+        Row::RefusesAStranger => refuses_a_stranger(rt, desk),
+        Row::Saves => saves(rt, desk)?,
+    }
+    Ok(())
+}
+
+/// A service over a device whose first write fails where `fails`, with pages of 16 bytes and one file that is open.
+fn open_desk(alloc: Global, fails: bool, append: bool) -> Result<Desk, Refusal> {
+    let geometry = Geometry::new(16, 48, 16, 64)?;
+    let mut device = ScriptDevice::new(alloc, 16, 64)?;
+    if fails {
+        device.fail_next(ErrCode::IO, FaultEffect::Old);
+    }
+    let Ok(mut solo) = Solo::new(alloc, &geometry, 7, device) else {
+        return Err(Refusal::Memory);
+    };
+    let file = solo.create()?;
+    let handle = solo.open(file, append)?;
+    Ok(Desk { solo, handle })
+}
+
+fn over_a_service(rt: &impl Abort, alloc: Global, fails: bool, row: Row) -> Result<(), Refusal> {
+    let mut desk = open_desk(alloc, fails, matches!(row, Row::Appends))?;
+    let done = run(rt, &mut desk, row);
+    assert!(rt; desk.close());
+    done
+}
+
+#[test]
+fn a_cursor_moves(rt: HostRuntime) -> Result<(), Refusal> {
+    over_a_service(&rt, rt.alloc(), false, Row::MovesACursor)
+}
+
+#[test]
+fn an_error_is_told_once(rt: HostRuntime) -> Result<(), Refusal> {
+    over_a_service(&rt, rt.alloc(), true, Row::TellsAnErrorOnce)
+}
+
+#[test]
+fn a_write_makes_room(rt: HostRuntime) -> Result<(), Refusal> {
+    over_a_service(&rt, rt.alloc(), false, Row::MakesRoom)
+}
+
+#[test]
+fn a_write_without_room_is_refused(rt: HostRuntime) -> Result<(), Refusal> {
+    over_a_service(&rt, rt.alloc(), true, Row::RefusesWithoutRoom)
+}
+
+#[test]
+fn an_append_goes_to_the_end(rt: HostRuntime) -> Result<(), Refusal> {
+    over_a_service(&rt, rt.alloc(), false, Row::Appends)
+}
+
+#[test]
+fn evicted_pages_read_back(rt: HostRuntime) -> Result<(), Refusal> {
+    over_a_service(&rt, rt.alloc(), false, Row::ReadsBack)
+}
+
+#[test]
+fn a_stranger_is_refused(rt: HostRuntime) -> Result<(), Refusal> {
+    over_a_service(&rt, rt.alloc(), false, Row::RefusesAStranger)
+}
+
+#[test]
+fn a_caller_saves(rt: HostRuntime) -> Result<(), Refusal> {
+    over_a_service(&rt, rt.alloc(), true, Row::Saves)
+}
+
+#[test]
+fn another_device_is_refused(rt: HostRuntime) -> Result<(), Refusal> {
+    let alloc = rt.alloc();
+    let device = ScriptDevice::new(alloc, 16, 63)?;
+    let refused = Solo::new(alloc, &Geometry::new(16, 48, 16, 64)?, 7, device);
+    assert!(rt; matches!(refused, Err((Refusal::BadConfig, _))));
+    Ok(())
+}

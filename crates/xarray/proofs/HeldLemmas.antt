@@ -1,0 +1,73 @@
+-- What a search by a mark finds where an entry may hold its first index.
+use Rattle.std.proofs.Common.{◌≡◌, ℕ, ◌+◌, ◌-◌, ◌*◌, ◌/◌, ◌%◌, ◌^◌, ◌<◌, ◌≤◌, true, eqb, eqb-true, Some, None, refl, sym, ap, ◌∙◌, inl, inr, arith}
+use Rattle.std.specs.FinMap as map
+use Rattle.std.proofs.lemmas.Bool.{cases_lt}
+use Rattle.std.proofs.lemmas.Option.{same_Some}
+use Rattle.slab.specs.Slab.{Slab}
+use Rattle.radix.specs.declared.node.Node.{Node}
+use Rattle.radix.specs.declared.entry.Entry.TheVariants.{Leaf}
+use Rattle.radix.specs.Entries as radix
+use Rattle.radix.specs.Entries.{HasNoHeld, HasNoNext, IsHeld, IsNext, IsNextHeld}
+use Rattle.xarray.specs.declared.entry.Mark.{Mark}
+use Rattle.xarray.specs.MarkedArray.{Range, Ranges, entry_at, has_mark, lowest, mark_number}
+use Rattle.xarray.specs.Standing.{IsLeafOf, IsSpot, Stands, level_of, place_of, span_of}
+use Rattle.xarray.proofs.ChangeLemmas.{mark_low}
+use Rattle.xarray.proofs.RangeLemmas.{at-some}
+use Rattle.xarray.proofs.SearchLemmas.{IsPast, first_is, mark_none, mark_of_leaf, mark_past, mark_spot, marked_leaf, named_at, spot_from, spot_here}
+use Rattle.xarray.proofs.SpanLemmas.{slot_high, within}
+use Rattle.xarray.proofs.StandLemmas.{aligned_at}
+
+module _ (s : Slab Node) (m : Ranges) (stands : Stands s m) (mark : Mark) (from to : ℕ) where
+  -- where no entry with the mark holds the index at a further slot
+  not_held : HasNoHeld s (mark_number mark) from → IsPast m (has_mark mark) from
+  not_held none = λ q y has is high. elim (cases_lt (place_of q y.order) (from / 64 ^ level_of y.order)) [
+    | inl before ↦
+        let even = aligned_at s m stands q y has in
+        let p = place_of q y.order in
+        let at = from / 64 ^ level_of y.order in
+        let below = slot_high q y.order even from high in
+        let fits = within q y.order even in
+        let e : p + (at - p) ≡ at = omega (arith, before) in
+        let named = ap (radix.entry_at s (level_of y.order)) (sym e) ∙ (stands.each q y has).rest (at - p) (omega (arith, before)) (omega (arith, before, below)) in
+        let first : at / 64 * 64 + p % 64 ≡ p = omega (arith, before, below, fits) in
+        let set : eqb (radix.mark_at (mark_number mark) s (level_of y.order) p) 1 ≡ true = sym ((stands.each q y has).marks mark) ∙ is in
+        absurd (none.each (level_of y.order) (p % 64) (omega arith) named (ap (radix.mark_at (mark_number mark) s (level_of y.order)) first ∙ eqb-true _ 1 set))
+    | inr done ↦ done
+  ]
+
+  pub held_none : HasNoNext s (mark_number mark) from × HasNoHeld s (mark_number mark) from → lowest (has_mark mark) m from to ≡ None
+  held_none none = mark_none s m stands mark from to (not_held none.1) none.0
+
+  module _ (level place : ℕ) where
+    pub held_leaf : IsNextHeld s (mark_number mark) from level place → (v : ℕ) × (radix.entry_at s level place ≡ Some (Leaf v))
+    held_leaf (inl held) = marked_leaf s m stands (mark_number mark) level place (mark_low mark) held.marked
+    held_leaf (inr next) = marked_leaf s m stands (mark_number mark) level place (mark_low mark) next.0.marked
+
+    module _ (value : ℕ) (t : IsLeafOf m level place value) where
+      -- the entry that holds the index
+      here : (made : ℕ) → made ≡ t.first → IsHeld s (mark_number mark) from level place → IsSpot m (entry_at m from) made level value
+      here made is held =
+          let n = named_at s m stands from level held.named held.found in
+          let first = first_is s m stands n.first n.range n.there level (from / 64 ^ level / 64 * 64 + held.named) n.range.value n.level_is n.place_is refl in
+          let one : n.first ≡ t.first = first ∙ ap (λ z. z * 64 ^ level) (sym held.place_is) ∙ sym t.first_is in
+          let range : n.range ≡ t.range = same_Some n.range t.range (sym n.there ∙ ap (map.get m) one ∙ t.there) in
+          let span : span_of n.range.order ≡ span_of t.range.order = ap (λ (z : Range). span_of z.order) range in
+          let n_low = n.low in
+          let n_high = n.high in
+          let at = held.place_is in
+          spot_from s m stands t.first t.range t.there level place value t.level_is t.place_is t.value_is from made (is ∙ t.first_is) (omega (arith, n_low, at)) (omega (arith, n_high, at, span))
+
+      pub held_spot : IsNextHeld s (mark_number mark) from level place → from ≤ to → t.first ≤ to → (made : ℕ) → made ≡ t.first → IsSpot m (lowest (has_mark mark) m from to) made level value
+      held_spot (inl held) le low made is =
+          let spot = here made is held in
+          let range : spot.range ≡ t.range = same_Some spot.range t.range (sym spot.there ∙ ap (map.get m) is ∙ t.there) in
+          spot_here s m stands (has_mark mark) from to made level value le spot (ap (has_mark mark) range ∙ mark_of_leaf s m stands mark level place value t ∙ ap (λ z. eqb z 1) held.marked)
+      held_spot (inr next) le low made is = mark_spot s m stands mark from to (not_held next.1) level place value t next.0 le low made is
+
+      pub held_past : IsNextHeld s (mark_number mark) from level place → from ≤ to → to < t.first → lowest (has_mark mark) m from to ≡ None
+      held_past (inl held) le beyond =
+          let spot = here t.first refl held in
+          let at = at-some m from t.first spot.range spot.is in
+          let low = at.low in
+          absurd (omega (arith, low, le, beyond))
+      held_past (inr next) le beyond = mark_past s m stands mark from to (not_held next.1) level place value t next.0 beyond
