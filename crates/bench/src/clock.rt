@@ -91,7 +91,7 @@ pub fn time_file_row(
     clock: &impl Clock,
     cached: &mut Cached,
     row: FileRow,
-    order: &[u64],
+    offsets: &[u64],
 ) -> Result<Timed, Fault> {
     let mut timed = Timed {
         best: u64::MAX,
@@ -100,7 +100,7 @@ pub fn time_file_row(
     for _ in 0..FILE_ROUNDS {
         row.prepare(cached)?;
         let start = Instant::now(clock)?;
-        timed.sum = row.run(cached, order)?;
+        timed.sum = row.run(cached, offsets)?;
         timed.best = timed.best.min(nanos(start.elapsed(clock)?));
     }
     Ok(timed)

@@ -130,23 +130,24 @@ impl Cached {
         self.file.pwrite(offset, bytes)
     }
 
-    /// Copies out of the plain bytes, and answers as `read` does.
+    /// Copies out of the plain bytes, from the last place for so many where `offset` is past it, and answers as `read` does.
     #[inline(always)]
     fn copy_out(&self, offset: u64, out: &mut [u8]) -> u64
         requires some { 0 < length out.old }
-        requires within { offset + length out.old ≤ FILE_SIZE }
+        requires small { length out.old ≤ PAGE }
     {
-        let at = offset as usize;
+        // in the place of a test of the bounds
+        let at = offset.min(FILE_SIZE - out.len() as u64) as usize;
         out.copy_from_slice(&self.plain[at..at + out.len()]);
         (out.len() as u64).wrapping_add(u64::from(out[0]))
     }
 
-    /// Copies into the plain bytes, and answers as `write` does.
+    /// Copies into the plain bytes, to the last place for so many where `offset` is past it, and answers as `write` does.
     #[inline(always)]
     fn copy_in(&mut self, offset: u64, bytes: &[u8]) -> u64
-        requires { offset + length bytes.now ≤ FILE_SIZE }
+        requires { length bytes.now ≤ PAGE }
     {
-        let at = offset as usize;
+        let at = offset.min(FILE_SIZE - bytes.len() as u64) as usize;
         self.plain.as_mut_slice()[at..at + bytes.len()].copy_from_slice(bytes);
         bytes.len() as u64
     }
@@ -154,14 +155,6 @@ impl Cached {
     fn sync(&mut self) -> Result<(), Refusal> {
         self.file.fsync()
     }
-}
-
-/// Where the call with this index reads or writes: at a multiple of the size.
-fn offset_of(index: u64, size: u64) -> u64
-    requires small { size ≤ PAGE }
-    ensures { result + size ≤ FILE_SIZE }
-{
-    (index.wrapping_mul(size) % FILE_SIZE).min(FILE_SIZE - size)
 }
 
 #[derive(Clone, Copy, PartialEq, Eq, Debug)]
@@ -214,6 +207,24 @@ impl FileRow {
         }
     }
 
+    /// Bytes that a call reads or writes. Those of a sync are not looked at.
+    fn size(self) -> u64 {
+        match self {
+            FileRow::ReadSmall | FileRow::CopySmall | FileRow::WriteSmall | FileRow::CopyInSmall =>
+                SMALL,
+            _ => PAGE,
+        }
+    }
+
+    /// Where the calls read or write, in their order: at multiples of the size.
+    pub fn offsets(self, alloc: Global, order: &[u64]) -> Result<Vec<u64>, AllocError> {
+        let mut offsets = Vec::with_capacity(alloc, CALLS as usize)?;
+        for index in order.iter().take(CALLS as usize) {
+            offsets.push(index.wrapping_mul(self.size()) % FILE_SIZE)?;
+        }
+        Ok(offsets)
+    }
+
     /// Makes the file what the row starts from.
     pub fn prepare(self, cached: &mut Cached) -> Result<(), Refusal> {
         if self == FileRow::Sync {
@@ -226,16 +237,16 @@ impl FileRow {
     }
 
     /// Runs what is timed, and gives the sum of its answers.
-    pub fn run(self, cached: &mut Cached, order: &[u64]) -> Result<u64, Refusal> {
+    pub fn run(self, cached: &mut Cached, offsets: &[u64]) -> Result<u64, Refusal> {
         Ok(match self {
-            FileRow::ReadSmall => read_each(cached, order, &mut [0; SMALL as usize])?,
-            FileRow::CopySmall => copy_each_out(cached, order, &mut [0; SMALL as usize]),
-            FileRow::ReadPage => read_each(cached, order, &mut [0; PAGE as usize])?,
-            FileRow::CopyPage => copy_each_out(cached, order, &mut [0; PAGE as usize]),
-            FileRow::WriteSmall => write_each(cached, order, &[FILL; SMALL as usize])?,
-            FileRow::CopyInSmall => copy_each_in(cached, order, &[FILL; SMALL as usize]),
-            FileRow::WritePage => write_each(cached, order, &[FILL; PAGE as usize])?,
-            FileRow::CopyInPage => copy_each_in(cached, order, &[FILL; PAGE as usize]),
+            FileRow::ReadSmall => read_each(cached, offsets, &mut [0; SMALL as usize])?,
+            FileRow::CopySmall => copy_each_out(cached, offsets, &mut [0; SMALL as usize]),
+            FileRow::ReadPage => read_each(cached, offsets, &mut [0; PAGE as usize])?,
+            FileRow::CopyPage => copy_each_out(cached, offsets, &mut [0; PAGE as usize]),
+            FileRow::WriteSmall => write_each(cached, offsets, &[FILL; SMALL as usize])?,
+            FileRow::CopyInSmall => copy_each_in(cached, offsets, &[FILL; SMALL as usize]),
+            FileRow::WritePage => write_each(cached, offsets, &[FILL; PAGE as usize])?,
+            FileRow::CopyInPage => copy_each_in(cached, offsets, &[FILL; PAGE as usize]),
             FileRow::Sync => {
                 cached.sync()?;
                 SYNCED
@@ -245,47 +256,44 @@ impl FileRow {
 }
 
 #[inline(never)]
-fn read_each(cached: &mut Cached, order: &[u64], out: &mut [u8]) -> Result<u64, Refusal>
-    requires some { 0 < length out.old }
-    requires small { length out.old ≤ PAGE }
+fn read_each(cached: &mut Cached, offsets: &[u64], out: &mut [u8]) -> Result<u64, Refusal>
+    requires { 0 < length out.old }
 {
     let mut sum = 0u64;
-    for index in order.iter().take(CALLS as usize) {
-        sum = sum.wrapping_add(cached.read(offset_of(*index, out.len() as u64), out)?);
+    for offset in offsets {
+        sum = sum.wrapping_add(cached.read(*offset, out)?);
     }
     Ok(sum)
 }
 
 #[inline(never)]
-fn copy_each_out(cached: &Cached, order: &[u64], out: &mut [u8]) -> u64
+fn copy_each_out(cached: &Cached, offsets: &[u64], out: &mut [u8]) -> u64
     requires some { 0 < length out.old }
     requires small { length out.old ≤ PAGE }
 {
     let mut sum = 0u64;
-    for index in order.iter().take(CALLS as usize) {
-        sum = sum.wrapping_add(cached.copy_out(offset_of(*index, out.len() as u64), out));
+    for offset in offsets {
+        sum = sum.wrapping_add(cached.copy_out(*offset, out));
     }
     sum
 }
 
 #[inline(never)]
-fn write_each(cached: &mut Cached, order: &[u64], bytes: &[u8]) -> Result<u64, Refusal>
-    requires { length bytes.now ≤ PAGE }
-{
+fn write_each(cached: &mut Cached, offsets: &[u64], bytes: &[u8]) -> Result<u64, Refusal> {
     let mut sum = 0u64;
-    for index in order.iter().take(CALLS as usize) {
-        sum = sum.wrapping_add(cached.write(offset_of(*index, bytes.len() as u64), bytes)?);
+    for offset in offsets {
+        sum = sum.wrapping_add(cached.write(*offset, bytes)?);
     }
     Ok(sum)
 }
 
 #[inline(never)]
-fn copy_each_in(cached: &mut Cached, order: &[u64], bytes: &[u8]) -> u64
+fn copy_each_in(cached: &mut Cached, offsets: &[u64], bytes: &[u8]) -> u64
     requires { length bytes.now ≤ PAGE }
 {
     let mut sum = 0u64;
-    for index in order.iter().take(CALLS as usize) {
-        sum = sum.wrapping_add(cached.copy_in(offset_of(*index, bytes.len() as u64), bytes));
+    for offset in offsets {
+        sum = sum.wrapping_add(cached.copy_in(*offset, bytes));
     }
     sum
 }

@@ -61,7 +61,8 @@ fn print_file_rows(rt: &HostRuntime, cached: &mut Cached, order: &[u64]) -> Resu
     cached.fill()?;
     let mut sum = 0u64;
     for row in FileRow::ALL {
-        let timed = time_file_row(rt, cached, row, order)?;
+        let offsets = row.offsets(rt.alloc(), order)?;
+        let timed = time_file_row(rt, cached, row, offsets.as_slice())?;
         print_row(rt, timed, row.count(), row.label(), "")?;
         sum = sum.wrapping_add(timed.sum);
     }

@@ -108,10 +108,20 @@ fn check_words(rt: &impl Abort, alloc: Global, row: WordRow, expected: u64) -> R
 #[test]
 fn file_rows_do_their_work(rt: HostRuntime) -> Result<(), Fail> {
     let order = random_order(rt.alloc())?;
-    check_files(&rt, &mut Cached::new(rt.alloc())?, order.as_slice())
+    check_files(
+        &rt,
+        rt.alloc(),
+        &mut Cached::new(rt.alloc())?,
+        order.as_slice(),
+    )
 }
 
-fn check_files(rt: &impl Abort, cached: &mut Cached, order: &[u64]) -> Result<(), Fail> {
+fn check_files(
+    rt: &impl Abort,
+    alloc: Global,
+    cached: &mut Cached,
+    order: &[u64],
+) -> Result<(), Fail> {
     cached.fill()?;
     let fill = u64::from(FILL);
     for row in FileRow::ALL {
@@ -123,8 +133,9 @@ fn check_files(rt: &impl Abort, cached: &mut Cached, order: &[u64]) -> Result<()
             FileRow::Sync => SYNCED,
         };
         let label = row.label();
+        let offsets = row.offsets(alloc, order)?;
         row.prepare(cached)?;
-        assert_eq!(rt; row.run(cached, order)?, expected, "{label}");
+        assert_eq!(rt; row.run(cached, offsets.as_slice())?, expected, "{label}");
     }
     Ok(())
 }

@@ -88,3 +88,4 @@ pub mod Owners
 pub mod Victims
 pub mod Accesses
 pub mod TaggedFrames
+pub mod ReadFrames

@@ -1,9 +1,9 @@
 -- How many pages a range of bytes touches.
 use Rattle.std.proofs.Common.{◌≡◌, ℕ, true, false, suc, ◌+◌, ◌-◌, ◌*◌, ◌/◌, ◌%◌, ◌<◌, ◌≤◌, ap, sym, ◌∙◌, arith}
-use Rattle.std.proofs.Math.Nat.{add-mul, le-div_iff_mul-le, div-le_self, div-mul-le_self, mul-le-mul_left}
+use Rattle.std.proofs.Math.Nat.{add-mul, le-div_iff_mul-le, div-mul-le_self, mul-le-mul_left}
 use Rattle.std.specs.Prelude.{nat_lt}
 use Rattle.std.proofs.lemmas.Bool.Decides.{nat_tests}
-use Rattle.std.proofs.lemmas.Nat.{div-mul-add, div_below, mod_below}
+use Rattle.std.proofs.lemmas.Nat.{div-mul-add, mod_below}
 use Rattle.pc_types.specs.declared.limits.TheConstants.{MAX_FILE_SIZE, MIN_PAGE_SIZE}
 use Rattle.mapping.specs.declared.mapping.TheConstants.{MAX_PAGES}
 use Rattle.cachecore.specs.State.{page_count, touched_count}
@@ -25,9 +25,6 @@ touched_count_is P o n positive some =
 pub in_order : (P o n : ℕ) → 0 < P → 0 < n → o / P ≤ (o + n - 1) / P
 in_order P o n positive some = (le-div_iff_mul-le positive).1 (let start = div-mul-le_self o P in omega arith)
 
-pub page_count_below : (P size : ℕ) → page_count P size ≤ size + (P - 1)
-page_count_below P size = div-le_self (size + (P - 1)) P
-
 -- ---- the numbers of pages stay below what a file has at most
 
 pub last_below : (P x : ℕ) → MIN_PAGE_SIZE ≤ P → x < MAX_FILE_SIZE → x / P + 1 ≤ MAX_PAGES
@@ -44,13 +41,6 @@ page_below P size p least small below =
     let product : suc p * P ≡ p * P + P = omega arith in
     let more : p * MIN_PAGE_SIZE ≤ p * P = mul-le-mul_left p least in
     omega (arith, whole, product, more)
-
--- as many bytes as a page has touch two pages at most
-pub few_touched : (P o n : ℕ) → 0 < P → 0 < n → n ≤ P → touched_count P o n ≤ 2
-few_touched P o n positive some few =
-    let low : o % P < P = mod_below o P positive in
-    let below : (o % P + n - 1) / P < 2 = div_below (o % P + n - 1) P 2 positive (omega (arith, low, few)) in
-    omega (arith, touched_count_is P o n positive some, below)
 
 pub not_less : (m k : ℕ) → nat_lt m k ≡ false → k ≤ m
 not_less m k e = grind (arith, nat_tests)

@@ -164,11 +164,11 @@ impl CacheCore {
         let Some(file) = self.handles.file(handle.0) else {
             return Err(Refusal::BadHandle);
         };
-        let left = self.pages.size(file).saturating_sub(offset);
-        let count = left.min(out.len() as u64);
-        if count == 0 {
+        let size = self.pages.size(file);
+        if size <= offset || out.is_empty() {
             return Ok(ReadAnswer::Bytes(0));
         }
+        let count = (size - offset).min(out.len() as u64);
         let page_size = self.geometry.page();
         if is_too_long(page_size, offset, count) {
             return Err(Refusal::TooLong);
@@ -394,8 +394,8 @@ fn is_too_long(page_size: u64, offset: u64, count: u64) -> bool
     requires fits { count < 2 ^ 63 }
     ensures { result ≡ nat_lt MAX_TOUCHED (touched_count page_size offset count) }
 {
-    // as many bytes as a page has touch two pages at most
-    count > page_size && touched_count(page_size, offset, count) > MAX_TOUCHED
+    // bytes within one page, as of most calls, touch one
+    offset % page_size + count > page_size && touched_count(page_size, offset, count) > MAX_TOUCHED
 }
 
 /// How many pages a file of this size has.

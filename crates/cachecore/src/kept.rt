@@ -1,16 +1,14 @@
 //! A file as the pages' store keeps it.
 
-ghost use Rattle.std.specs.Prelude.{◌≡◌, ◌-◌, ◌≤◌, ◌^◌, ℕ, Some, false, find, not, option_map, slice_index_or, count_by};
+ghost use Rattle.std.specs.Prelude.{◌≡◌, ◌-◌, ◌≤◌, ◌^◌, false, find, not, slice_index_or, count_by};
 ghost use Rattle.std.specs.List.{range_with_len};
 ghost use Rattle.std.specs.FinMap as map;
 ghost use Rattle.pc_types.specs.declared.tags.Tag.TheVariants.{Dirty};
-ghost use Rattle.frames.specs.Table.{owner_of};
 ghost use Rattle.mapping.specs.Pages.{frame_of, has_at};
 ghost use Rattle.pc_types.specs.TagBits.{tag_set};
 ghost use Rattle.cachecore.specs.Cuts.{is_untagged, is_idle_entry};
 ghost use Rattle.cachecore.specs.Store.{none_kept, has_page};
 
-use crate::guesses::Guesses;
 use frames::Frames;
 use mapping::Mapping;
 use pc_types::limits::MAX_TOUCHED;
@@ -107,36 +105,4 @@ pub fn is_uptodate(uptodate: &[bool], frame: FrameId) -> bool
 {
     let at = frame.0 as usize;
     at < uptodate.len() && uptodate[at]
-}
-
-/// The frame of a page of the file that has one: the guessed one, where the page is its owner, and else by a walk.
-#[inline(always)]
-pub fn find_frame(
-    frames: &Frames,
-    kept: &KeptFile,
-    guesses: &mut Guesses,
-    file: u64,
-    page: u64,
-) -> Option<FrameId>
-    requires { (g : ℕ) → owner_of frames.now g ≡ Some (record { 0 = file }, record { 0 = page }) → Some (record { 0 = g }) ≡ option_map frame_of (map.get kept.now.mapping.pages page) }
-    ensures { result ≡ option_map frame_of (map.get kept.now.mapping.pages page) }
-{
-    let guess = guesses.of(file, page);
-    if let Some((owner, number)) = frames.owner(guess)
-        && owner.0 == file
-        && number.0 == page
-    {
-        return Some(guess);
-    }
-    walk(kept, guesses, file, page)
-}
-
-/// The same by a walk, which makes the next guess right.
-#[inline(never)]
-fn walk(kept: &KeptFile, guesses: &mut Guesses, file: u64, page: u64) -> Option<FrameId>
-    ensures { result ≡ option_map frame_of (map.get kept.now.mapping.pages page) }
-{
-    let frame = kept.mapping.frame(PageIndex(page))?;
-    guesses.note(file, page, frame);
-    Some(frame)
 }

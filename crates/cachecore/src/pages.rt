@@ -1,9 +1,12 @@
 //! The pages of all files: each in a frame of its own, by its file's mapping.
 
-ghost use Rattle.std.specs.Prelude.{◌≡◌, ℕ, ◌+◌, ◌-◌, ◌<◌, ◌≤◌, ◌^◌, ◌++◌, IfOk, OnOk, OnErr, length, true, false, not, is_some, option_map, find, count_by, slice_set, slice_range, take, drop, sum_by, [], ◌∷◌, IsOkUnless, Some, None, cond, ◌||◌};
+ghost use Rattle.std.specs.Prelude.{◌≡◌, ℕ, ◌+◌, ◌-◌, ◌<◌, ◌≤◌, ◌^◌, ◌++◌, IfOk, OnOk, OnErr, length, true, false, not, is_some, option_map, find, count_by, slice_index_or, slice_set, slice_range, take, drop, sum_by, [], ◌∷◌, IsOkUnless, Some, None, cond, ◌||◌};
 ghost use Rattle.std.specs.List.{range_with_len};
 ghost use Rattle.std.specs.FinMap as map;
 ghost use Rattle.std.specs.FinSet as set;
+ghost use Rattle.frames.specs.Rows.{row_at};
+ghost use Rattle.frames.specs.Table as table;
+ghost use Rattle.frames.specs.Table.{is_taken};
 ghost use Rattle.mapping.specs.declared.mapping.TheConstants.{MAX_PAGES};
 ghost use Rattle.pc_types.specs.TagBits.{tag_set};
 ghost use Rattle.cachecore.specs.State.{no_file, dirty_in, the_page, tagged};
@@ -13,10 +16,10 @@ ghost use Rattle.cachecore.specs.PageLists.{no_lists, is_listed, entered, left, 
 ghost use Rattle.cachecore.specs.Store.{Store, stored_at, stored_page, is_awaited, with_pages, with_lists, with_entry};
 
 use crate::guesses::Guesses;
-use crate::kept::{KeptFile, find_frame, is_uptodate};
+use crate::kept::{KeptFile, is_uptodate};
 use frames::Frames;
 use pc_types::limits::{MAX_FRAMES, MAX_TOUCHED};
-use pc_types::{FileId, Geometry, PageIndex, Refusal, Tag, Tags};
+use pc_types::{FileId, FrameId, Geometry, PageIndex, Refusal, Tag, Tags};
 use std::alloc::{AllocError, Global};
 use std::marker::Model;
 
@@ -273,17 +276,34 @@ impl Pages {
     {
         // for what `free_count` ensures: each frame in a list is taken
         prove!(self.frames.free_count() <= MAX_FRAMES);
-        let kept = &self.files[file as usize];
-        let Some(frame) = find_frame(&self.frames, kept, &mut self.guesses, file, page) else {
+        let guess = self.guesses.of(file, page);
+        if let Some((owner, number)) = self.frames.owner(guess)
+            && owner.0 == file
+            && number.0 == page
+        {
+            return read_frame(&mut self.frames, &self.uptodate, guess, at, out);
+        }
+        self.read_walked(file, page, at, out)
+    }
+
+    /// The same by a walk, which makes the next guess right.
+    #[inline(never)]
+    fn read_walked(&mut self, file: u64, page: u64, at: usize, out: &mut [u8]) -> bool
+        requires here { file < length self.old.files }
+        requires there { at + length out.old ≤ self.old.page }
+        ensures cached { result ≡ is_some (stored_page self.old file page) }
+        ensures read { result ≡ true → out.new ≡ slice_range (the_page (stored_at self.old file).pages page).bytes at (at + length out.old) }
+        ensures moved { result ≡ true → self.new ≡ with_lists self.old (accessed file page self.old.lists) }
+        ensures kept { result ≡ false → out.new ≡ out.old }
+        ensures same { result ≡ false → self.new ≡ self.old }
+    {
+        // for what `free_count` ensures: each frame in a list is taken
+        prove!(self.frames.free_count() <= MAX_FRAMES);
+        let Some(frame) = self.files[file as usize].mapping.frame(PageIndex(page)) else {
             return false;
         };
-        if !is_uptodate(&self.uptodate, frame) {
-            return false;
-        }
-        let bytes = self.frames.bytes(frame);
-        out.copy_from_slice(&bytes[at..at + out.len()]);
-        self.frames.accessed(frame);
-        true
+        self.guesses.note(file, page, frame);
+        read_frame(&mut self.frames, &self.uptodate, frame, at, out)
     }
 
     /// Copies a part of a cached page's bytes to a part of `out`, and notes that the page was read.
@@ -327,4 +347,32 @@ impl Pages {
             self.frames.accessed(frame);
         }
     }
+}
+
+/// Copies bytes of a frame from `at` on into `out`, and notes that its page was read. Answers whether the frame has its page's bytes;
+/// where it does not, nothing is done.
+#[inline(always)]
+fn read_frame(
+    frames: &mut Frames,
+    uptodate: &[bool],
+    frame: FrameId,
+    at: usize,
+    out: &mut [u8],
+) -> bool
+    requires taken { is_taken frames.old frame.0 ≡ true }
+    requires flagged { frame.0 < length uptodate.now }
+    requires there { at + length out.old ≤ frames.old.size }
+    ensures flag { result ≡ slice_index_or uptodate.now frame.0 false }
+    ensures read { result ≡ true → out.new ≡ slice_range (row_at frames.old.bytes frame.0) at (at + length out.old) }
+    ensures moved { result ≡ true → frames.new ≡ table.accessed frames.old frame.0 }
+    ensures kept { result ≡ false → out.new ≡ out.old }
+    ensures same { result ≡ false → frames.new ≡ frames.old }
+{
+    if !uptodate[frame.0 as usize] {
+        return false;
+    }
+    let bytes = frames.bytes(frame);
+    out.copy_from_slice(&bytes[at..at + out.len()]);
+    frames.accessed(frame);
+    true
 }

@@ -79,7 +79,7 @@ impl Pages {
         ensures moved { IfNone result (self.new ≡ with_lists self.old (each_accessed file (touched page_size offset (length out.old)) self.old.lists)) }
     {
         let first = offset / page_size;
-        let at = offset - first * page_size;
+        let at = offset % page_size;
         if at + out.len() as u64 <= page_size {
             // bytes of one page
             if self.read_within(file, first, at as usize, out) {

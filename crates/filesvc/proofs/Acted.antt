@@ -1,5 +1,5 @@
 -- What one event of the cache leaves of a service.
-use Rattle.std.proofs.Common.{◌≡◌, ℕ, ◌≤◌, true, false, ap, sym, subst, ◌∙◌}
+use Rattle.std.proofs.Common.{◌≡◌, ℕ, ◌≤◌, true, false, not, ap, sym, subst, ◌∙◌, arith}
 use Rattle.std.specs.Prelude.{is_some}
 use Rattle.atomic_table.specs.Seated.{TableId}
 use Rattle.blockdev.specs.Device.{Told, max_calls}
@@ -10,11 +10,11 @@ use Rattle.world.specs.Plain.{plain_after}
 use Rattle.world.specs.Reached.{files_of}
 use Rattle.world.specs.Stepping.{Held, world_of}
 use Rattle.world.specs.World.{Act, Moves}
-use Rattle.world.proofs.InFlight.{NoneInFlight, none_stays}
+use Rattle.world.proofs.InFlight.{NoneInFlight, next_stays, none_stays}
 use Rattle.world.proofs.KeptRequests.{is_job}
 use Rattle.world.proofs.Reached.{files_step, reached_step}
 use Rattle.world.proofs.Stays.{stays}
-use Rattle.filesvc.proofs.FileSizes.{bounded_stays}
+use Rattle.filesvc.proofs.FileSizes.{bounded_stays, few_stays}
 use Rattle.filesvc.specs.Rests.{IsResting, IsService}
 
 resting : (w : Held) → IsResting w → NoneInFlight (world_of w)
@@ -33,6 +33,8 @@ module _ (name : ℕ) (w new : Held) (table : TableId) (errors : RecorderSeen) (
     reached = λ t. reached_step (world_of w) (world_of new) (Act e r) (s.reached (tells t)) m;
     counted = subst (λ (x : Told). x.calls ≤ max_calls) (sym d) s.counted;
     bounded = bounded_stays (world_of w) (world_of new) (Act e r) m s.bounded;
+    few = few_stays (world_of w) (world_of new) (Act e r) m s.few;
+    serials = (let a = next_stays (world_of w) (world_of new) (Act e r) (ap not j) m in let b : new.device.calls ≡ w.device.calls = ap (λ (x : Told). x.calls) d in let c = s.serials in omega arith);
   }
 
   pub files_acted : is_some w.device.contents ≡ true → files_of (world_of new) ≡ plain_after (files_of (world_of w)) e r

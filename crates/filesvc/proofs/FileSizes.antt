@@ -1,9 +1,10 @@
--- How long files are: what is no write and no truncation leaves it, and no step goes past the limit. Of any world.
-use Rattle.std.proofs.Common.{◌≡◌, ℕ, ◌+◌, ◌≤◌, Bool, true, false, cond, eqb, List, length, get_or, refl, ap, sym, subst, ◌∙◌, arith, inl, inr}
+-- How long files are, and how many: what is no write and no truncation leaves their lengths, and no step goes past the limits. Of any
+-- world.
+use Rattle.std.proofs.Common.{◌≡◌, ℕ, ◌+◌, ◌<◌, ◌≤◌, Bool, true, false, cond, eqb, List, [], ◌∷◌, length, get_or, refl, ap, sym, subst, ◌∙◌, arith, inl, inr}
 use Rattle.std.specs.Prelude.{Option, Some, max, slice_set}
 use Rattle.std.specs.FinMap as finmap
-use Rattle.std.proofs.lemmas.List.{set_past}
-use Rattle.pc_types.specs.declared.limits.TheConstants.{MAX_FILE_SIZE}
+use Rattle.std.proofs.lemmas.List.{length-append, length-set, set_past}
+use Rattle.pc_types.specs.declared.limits.TheConstants.{MAX_FILES, MAX_FILE_SIZE}
 use Rattle.pc_types.specs.declared.kind.Kind.{Kind}
 use Rattle.pc_types.specs.declared.kind.Kind.TheVariants.{Fill, Flush}
 use Rattle.cachecore.specs.declared.event.End.{End}
@@ -71,6 +72,44 @@ module _ (s : State) (c : AreBounded s) where
 
 pub bounded_stays : (w new : World) (e : Entry) → Moves w e new → AreBounded w.core → AreBounded new.core
 bounded_stays w new e m c = room_cases w new AreBounded (bounded_cases w.core c) e m
+
+-- ---- no more files than the limit
+
+abbrev pub AreFew : State → Type 0
+AreFew s = length s.files ≤ MAX_FILES
+
+one_few : (fs : List File) (f : ℕ) (file : File) → length fs ≤ MAX_FILES → length (slice_set fs f file) ≤ MAX_FILES
+one_few fs f file few = subst (λ n. n ≤ MAX_FILES) (sym (length-set fs f file)) few
+
+one_more : (a b m : ℕ) → a ≡ b + 1 → b < m → a ≤ m
+one_more a b m e h = omega arith
+
+module _ (s : State) (c : AreFew s) where
+  few_cases : Rooms s AreFew
+  few_cases = record {
+    same = c;
+    create = λ room. one_more _ (length s.files) MAX_FILES (length-append s.files (no_file ∷ [])) room;
+    opens = λ h f room. c;
+    closes = λ h free. c;
+    writes = λ h o b opened small room. one_few s.files (file_of s h) _ c;
+    shrinks = λ h z opened small. one_few s.files (file_of s h) _ c;
+    grows = λ h z opened small. one_few s.files (file_of s h) _ c;
+    makes_zeros = λ h p opened room. one_few s.files (file_of s h) _ c;
+    fills = λ h p room free. c;
+    ends = λ t. c;
+    filled = λ t r bytes is live kind. one_few s.files r.file _ c;
+    flushes = λ f p page is room. one_few s.files f _ c;
+    flush_failed = λ t r page code is. let once = one_few s.files r.file (record (file_at s r.file) { pages = finmap.insert (file_at s r.file).pages r.page (after_write true page) }) c in one_few _ r.file _ once;
+    flushed = λ t r page is. one_few s.files r.file _ c;
+    evicts = λ f p page is. one_few s.files f _ c;
+    sync_ends = λ n. c;
+    begins = λ h n opened room. one_few s.files (file_of s h) _ c;
+    awaits = λ n sync ts is. c;
+    starts = λ n sync e is pick room. one_few s.files (file_of s sync.handle) _ c;
+  }
+
+pub few_stays : (w new : World) (e : Entry) → Moves w e new → AreFew w.core → AreFew new.core
+few_stays w new e m c = room_cases w new AreFew (few_cases w.core c) e m
 
 -- ---- what leaves the lengths
 

@@ -1,7 +1,10 @@
--- What a fill is refused by, and an age with an eviction.
+-- What a fill is refused by, an age with an eviction, and how a flush in one ends.
 use Rattle.std.proofs.Common.{◌≡◌, ℕ, ◌<◌, ◌≤◌, Bool, true, false, cond, refl, ap, sym, subst, ◌∙◌, arith, inl, inr}
-use Rattle.std.specs.Prelude.{◌⊎◌, ◌&&◌, ◌==◌, not, nat_le, Option, Some, None, Result, Ok, Err, IfErr}
+use Rattle.std.specs.Prelude.{◌⊎◌, ◌&&◌, ◌||◌, ◌==◌, not, nat_le, length, is_some, Option, Some, None, Result, Ok, Err, IfErr}
 use Rattle.std.specs.FinMap as finmap
+use Rattle.std.specs.FinMap.{len-empty}
+use Rattle.std.specs.Ordering.{nat_cmp}
+use Rattle.std.proofs.lemmas.Bool.{leb-true}
 use Rattle.atomic_table.specs.Seated.{TableId}
 use Rattle.errboard.specs.Shown.{RecorderSeen}
 use Rattle.blockdev.specs.Device.{max_calls}
@@ -9,7 +12,9 @@ use Rattle.pc_types.specs.declared.ids.FileId.{FileId}
 use Rattle.pc_types.specs.declared.ids.HandleId.{HandleId}
 use Rattle.pc_types.specs.declared.ids.PageIndex.{PageIndex}
 use Rattle.pc_types.specs.declared.refusal.Refusal.{Refusal}
-use Rattle.pc_types.specs.declared.refusal.Refusal.TheVariants.{Io, Memory, Turns}
+use Rattle.pc_types.specs.declared.ids.Serial.{Serial}
+use Rattle.pc_types.specs.declared.limits.TheConstants.{MAX_IN_FLIGHT, SERIAL_END}
+use Rattle.pc_types.specs.declared.refusal.Refusal.TheVariants.{Io, Memory, NoFrame, NoSuchFile, TooManyInFlight, Turns}
 use Rattle.pc_types.specs.declared.kind.Kind.{Kind}
 use Rattle.pc_types.specs.declared.kind.Kind.TheVariants.{Fill, Flush}
 use Rattle.cachecore.specs.declared.event.End.{End}
@@ -21,20 +26,26 @@ use Rattle.cachecore.specs.declared.event.Reply.{Reply}
 use Rattle.cachecore.specs.declared.event.Reply.TheVariants as reply
 use Rattle.cachecore.specs.Replies.{evicted, outcome_of}
 use Rattle.cachecore.specs.State.{State, Request, file_at, file_of, free_frames, is_cached, is_filling, is_open, is_written, page_count, spot_at}
-use Rattle.cachecore.specs.Step.{Step, FillBeginReply, FillEndReply, FlushEndReply}
-use Rattle.cachecore.specs.Tests.{end_tests, fill_begin_tests, is_full}
-use Rattle.cachecore.proofs.Choices.{answered, quiet_if, quiet_none}
+use Rattle.cachecore.specs.Step.{Step, FillBeginReply, FillEndReply, FlushBeginReply, FlushEndReply}
+use Rattle.cachecore.specs.Tests.{end_tests, evict_tests, fill_begin_tests, flush_begin_tests, flush_pick, is_full, tests}
+use Rattle.cachecore.proofs.Choices.{answered, quiet_if, quiet_none, quiet_when}
 use Rattle.world.specs.declared.step.Step.TheVariants as step
 use Rattle.world.specs.Stepping.{Held, world_of}
 use Rattle.world.specs.World.{Finish, Moves, EndOf, end_event}
 use Rattle.world.proofs.HandedIn.{at_none, never_refused, passes}
+use Rattle.world.proofs.InFlight.{only_core}
+use Rattle.world.proofs.KeptRequests.{flush_begins, is_job}
+use Rattle.world.proofs.Lookups.{get-insert1}
+use Rattle.world.proofs.View.{put1_here}
+use Rattle.filesvc.specs.Rests as rests
 use Rattle.filesvc.specs.Rests.{AtOnce, IsService}
+use Rattle.filesvc.specs.Rooms.{FlushesOne, IsFlush, MakesRoom}
 use Rattle.filesvc.specs.Seen.{SoloSeen}
 use Rattle.filesvc.specs.Service.{Faulted, IsFillRefusal, IsRefusal, Serves}
-use Rattle.world.proofs.KeptRequests.{is_job}
 use Rattle.filesvc.proofs.Acted.{service_acted}
 use Rattle.filesvc.proofs.Laws.{serves_refl, serves_trans}
-use Rattle.filesvc.proofs.WorldLaws.{Carried, IsSound, Made, Once, Quiet, Unmade, Whole, call_by, call_failed, fill_begins, made_goes, once, outcome_noted}
+use Rattle.filesvc.proofs.WorldLaws as laws
+use Rattle.filesvc.proofs.WorldLaws.{Carried, IsSound, Made, Once, Quiet, Unmade, Whole, call_by, call_failed, fill_begins, made_goes, once, outcome_noted, service_sound}
 
 -- ---- what a fill's begin may answer
 
@@ -176,3 +187,102 @@ module _ (s : SoloSeen) (aged new : Held) (n : ℕ) (r : Option (FileId × PageI
 
   pub evicted_service : (name : ℕ) (table : TableId) → IsService name s.world table s.errors → IsService name new table s.errors
   evicted_service name table i = service_acted name aged new table s.errors (service_acted name s.world aged table s.errors i event.Age (reply.Aged n) a.0 a.1 refl) event.Evict (evicted r) e.0 e.1 (evicted_quiet r)
+
+-- ---- a flush in one
+
+held_same : (old new : Held) (e : Event) (r : Reply) → Made old e r new → new.core ≡ old.core → new ≡ old
+held_same old new e r m c =
+    let o = ap (λ x. x.outcomes) (only_core (world_of old) (world_of new) e r m.0) in
+    λ i. record { core = c i; device = m.1 i; outcomes = o i }
+
+-- where no request is in flight, one that is refused was refused a serial
+no_serial : (s : State) → s.requests ≡ finmap.empty → is_full s ≡ true → SERIAL_END ≤ s.next
+no_serial s none full = leb-true SERIAL_END s.next (subst (λ m. (nat_le MAX_IN_FLIGHT m || nat_le SERIAL_END s.next) ≡ true) (ap finmap.len none ∙ len-empty nat_cmp Request) full)
+
+squeezed : (m n c : ℕ) → m ≤ n → n ≤ c → c ≤ m → c ≡ m
+squeezed m n c a b d = omega arith
+
+-- which it is only by a device that can count no more
+full_faulted : (name : ℕ) (s : SoloSeen) (table : TableId) → IsService name s.world table s.errors → is_full s.world.core ≡ true → Faulted s s
+full_faulted name s table i full = inr (squeezed max_calls s.world.core.next s.world.device.calls (no_serial s.world.core i.rests.requests full) i.serials i.counted)
+
+no_flush : (s new : State) (f : ℕ) (o : Option ℕ) (r : Reply) → rests.is_job r ≡ false → FlushBeginReply s f o r new → ⊥
+no_flush s new f (Some p) (reply.Job t) j e = absurd cc
+no_flush s new f None (reply.Job t) j e = absurd cc
+no_flush s new f o _ j e = absurd e
+
+quiet_flush : (s new : SoloSeen) (f : FileId) (r : Reply) → rests.is_job r ≡ false → Step s.world.core (event.FlushBegin f) r new.world.core → (new.world.core ≡ s.world.core → new ≡ s) → (is_full s.world.core ≡ true → Faulted s s) → IsFlush s f r new
+quiet_flush s new f r j a same full = elim (answered (flush_begin_tests s.world.core f.0) r s.world.core new.world.core _ a) [
+  | inl x ↦ tested (same x.1) r x.0 x.0
+  | inr x ↦ absurd (no_flush s.world.core new.world.core f.0 (flush_pick (file_at s.world.core f.0)) r j x.1)
+]
+  where
+    Flushed : Reply → Type 0
+    Flushed r = tests s.world.core (event.FlushBegin f) ≡ Some r → IsFlush s f r new
+
+    tested : new ≡ s → (r : Reply) → flush_begin_tests s.world.core f.0 ≡ Some r → Flushed r
+    tested e =
+        quiet_when Flushed (nat_le (length s.world.core.files) f.0) (reply.Refused NoSuchFile) _ (λ h _. (leb-true _ _ h, e))
+        (quiet_when Flushed (not (is_some (flush_pick (file_at s.world.core f.0)))) reply.Nothing _ (λ _ is. (is, e))
+        (quiet_when Flushed (is_full s.world.core) (reply.Refused TooManyInFlight) None (λ h _. subst (Faulted s) (sym e) (full h)) (quiet_none Flushed)))
+
+-- the end of a flush that was not dropped
+flush_ended : (s new : State) (t : ℕ) (x : Request) (o : core.Outcome) (r : Reply) → x.dropped ≡ false → FlushEndReply s t (Some x) o r new → (r ≡ reply.Written) ⊎ ((code : ℕ) × (r ≡ reply.Failed code))
+flush_ended s new t x o reply.Dropped live h = absurd (let d = h.0 in cc)
+flush_ended s new t x (outcome.Fault c) (reply.Failed d) live h = inr (d, refl)
+flush_ended s new t x (outcome.Ok bytes) reply.Written live h = inl refl
+flush_ended s new t x o r live h = absurd h
+
+end_of_flush : (w new : Held) (t : ℕ) (x : Request) (r : Reply) → finmap.get w.core.requests t ≡ Some x → x.kind ≡ Flush → x.dropped ≡ false → Moves (world_of w) (Finish t r) (world_of new) → (r ≡ reply.Written) ⊎ ((code : ℕ) × (r ≡ reply.Failed code))
+end_of_flush w new t x r is kind live m = by (finmap.get w.outcomes t) (subst (λ q. EndOf (world_of w) t q (finmap.get w.outcomes t) r (world_of new)) is m)
+  where
+    end : core.Outcome → End
+    end o = record { cache = w.core.name; kind = Flush; serial = record { 0 = t }; outcome = o }
+
+    by : (o : Option core.Outcome) → EndOf (world_of w) t (Some x) o r (world_of new) → (r ≡ reply.Written) ⊎ ((code : ℕ) × (r ≡ reply.Failed code))
+    by None h = absurd h
+    by (Some o) h =
+        let step : Step w.core (event.FlushEnd (end o)) r new.core = subst (λ k. Step w.core (end_event k (record { cache = w.core.name; kind = k; serial = record { 0 = t }; outcome = o })) r new.core) kind h.0 in
+        let ended = at_none (end_tests w.core Flush (end o)) r w.core new.core _ (passes w.core Flush (end o) x refl refl is kind) step in
+        flush_ended w.core new.core t x o r live (subst (λ q. FlushEndReply w.core t q o r new.core) is ended)
+
+-- the request of a flush that has begun
+begun_flush : (old begun : Held) (f : FileId) (t : Serial) → Made old (event.FlushBegin f) (reply.Job t) begun → (x : Request) × (finmap.get begun.core.requests t.0 ≡ Some x) × (x.kind ≡ Flush) × (x.dropped ≡ false)
+begun_flush old begun f t m =
+    let b = flush_begins old.core begun.core (event.FlushBegin f) t refl m.0.0 in
+    let put : (x : Request) → finmap.get (finmap.insert old.core.requests old.core.next x) t.0 ≡ Some x = λ x. subst (λ n. finmap.get (finmap.insert old.core.requests n x) t.0 ≡ Some x) b.serial (get-insert1 old.core.requests t.0 x t.0 ∙ put1_here _ t.0 _) in
+    (_, ap (λ (c : State). finmap.get c.requests t.0) b.state ∙ put _, refl, refl)
+
+carried_flush : (s : SoloSeen) (w : Held) (errors : RecorderSeen) (f : FileId) (r : Reply) → Carried s.world s.errors (event.FlushBegin f) r w errors → AtOnce s.world s.errors (step.FlushBegin f) r w errors → IsSound s.world → IsFlush s f r (record s { world = w; errors = errors })
+carried_flush s w errors f r c a i =
+    let b = begun_flush s.world c.begun f c.serial c.begin in
+    let is : finmap.get c.called.core.requests c.serial.0 ≡ Some b.0 = ap (λ (x : Held). finmap.get x.core.requests c.serial.0) c.call.noted ∙ b.1 in
+    elim (end_of_flush c.called w c.serial.0 b.0 r is b.2 b.3 c.end.0) [
+      | inl e ↦ subst (λ x. IsFlush s f x (record s { world = w; errors = errors })) (sym e) (subst (λ x. AtOnce s.world s.errors (step.FlushBegin f) x w errors) e a)
+      | inr e ↦ subst (λ x. IsFlush s f x (record s { world = w; errors = errors })) (sym e.1) (carried_faulted s w errors _ e.0 (subst (λ x. Carried s.world s.errors (event.FlushBegin f) x w errors) e.1 c) i)
+    ]
+
+once_flush : (name : ℕ) (s : SoloSeen) (w : Held) (errors : RecorderSeen) (table : TableId) (f : FileId) (r : Reply) → Once s.world s.errors (event.FlushBegin f) r w errors → AtOnce s.world s.errors (step.FlushBegin f) r w errors → IsService name s.world table s.errors → IsFlush s f r (record s { world = w; errors = errors })
+once_flush name s w errors table f r (Unmade e same none) a i = subst (λ x. IsFlush s f x (record s { world = w; errors = errors })) (sym e) tt
+once_flush name s w errors table f r (Quiet j m none) a i =
+    quiet_flush s (record s { world = w; errors = errors }) f r j m.0.0
+    (λ c. let e = held_same s.world w (event.FlushBegin f) r m c in λ k. record s { world = e k; errors = none k })
+    (full_faulted name s table i)
+once_flush name s w errors table f r (Whole c) a i = carried_flush s w errors f r c a (service_sound name s.world table s.errors i)
+
+pub at_once_flush : (name : ℕ) (s : SoloSeen) (w : Held) (errors : RecorderSeen) (table : TableId) (f : FileId) (r : Reply) → AtOnce s.world s.errors (step.FlushBegin f) r w errors → IsService name s.world table s.errors → IsFlush s f r (record s { world = w; errors = errors })
+at_once_flush name s w errors table f r a i = once_flush name s w errors table f r (once s.world w s.errors errors (step.FlushBegin f) (event.FlushBegin f) r (laws.flush_begins f) a) a i
+
+-- ---- an eviction that finds no idle page
+
+none_evicted : (s new : State) (r : Option (FileId × PageIndex)) → is_some r ≡ false → Step s event.Evict (evicted r) new → (tests s event.Evict ≡ Some reply.NoneIdle) × (new ≡ s)
+none_evicted s new None e a = elim (answered (evict_tests s) reply.NoneIdle s new _ a) [ inl x ↦ x | inr x ↦ absurd x.1 ]
+none_evicted s new (Some x) e a = absurd cc
+
+-- after an age and an eviction that found none a flush makes room for a frame
+pub flushed_for_frame : (s new : SoloSeen) (aged mid : Held) (n : ℕ) (r : Option (FileId × PageIndex)) → Made s.world event.Age (reply.Aged n) aged → Made aged event.Evict (evicted r) mid → is_some r ≡ false → FlushesOne (record s { world = mid }) true new → MakesRoom s NoFrame new
+flushed_for_frame s new aged mid n r a e none f =
+    let same = held_same s.world aged event.Age (reply.Aged n) a a.0.0 in
+    let x = none_evicted aged.core mid.core r none e.0.0 in
+    let still = held_same aged mid event.Evict (evicted r) e x.1 ∙ same in
+    inr (ap (λ (w : Held). tests w.core event.Evict) (sym same) ∙ x.0, subst (λ w. FlushesOne (record s { world = w }) true new) still f)

@@ -42,7 +42,7 @@ use Rattle.filesvc.specs.Seen.{SoloSeen}
 use Rattle.filesvc.specs.Service.{HasFailed, IsSyncRefusal, IsSynced, Refuses, Serves, is_reported}
 use Rattle.filesvc.specs.Syncs.{SyncTurn, is_io, is_sync_end, sync_end_of}
 use Rattle.filesvc.proofs.Laws.{serves_counted}
-use Rattle.filesvc.proofs.WorldLaws.{Made, at_once_serves, at_once_service, goes_service, is_quiet, made_goes, made_rests, service_sound, sync_begins}
+use Rattle.filesvc.proofs.WorldLaws.{Made, at_once_serves, at_once_service, goes_service, is_quiet, made_goes, made_rests, made_serials, service_sound, sync_begins}
 
 -- ---- what the cache answers a sync
 
@@ -263,7 +263,7 @@ step_ends w v n r reached rests j m = elim m [ inl m ↦ absurd (step_answered w
 pub made_service : (name : ℕ) (s : SoloSeen) (w : Held) (table : TableId) (e : Event) (r : Reply) → Made s.world e r w → is_quiet e ≡ true → is_job r ≡ false → IsService name s.world table s.errors → IsService name w table s.errors × Serves s (record s { world = w })
 made_service name s w table e r m q j i =
     let g = made_goes s w e r m q (service_sound name s.world table s.errors i) in
-    (goes_service name s (record s { world = w }) table i g (made_rests s.world w e r m j i.rests), g.serves)
+    (goes_service name s (record s { world = w }) table i g (made_rests s.world w e r m j i.rests) (made_serials s.world w e r m j i.serials), g.serves)
 
 -- a sync's step, with the write that it began where it began one
 pub stepped_service : (name : ℕ) (s : SoloSeen) (w : Held) (errors : RecorderSeen) (table : TableId) (n : SyncId) (r : Reply) → AtOnce s.world s.errors (step.SyncStep n) r w errors → IsService name s.world table s.errors → IsService name w table errors × Serves s (record s { world = w; errors = errors })

@@ -1,5 +1,5 @@
 -- What a step of the world leaves of a service: an event, a device call, an end, or a request with all three.
-use Rattle.std.proofs.Common.{◌≡◌, ℕ, ◌+◌, ◌<◌, ◌≤◌, Bool, true, false, List, [], ◌∷◌, length, refl, ap, sym, subst, ◌∙◌, arith, inl, inr}
+use Rattle.std.proofs.Common.{◌≡◌, ℕ, ◌+◌, ◌<◌, ◌≤◌, Bool, true, false, not, List, [], ◌∷◌, length, refl, ap, sym, subst, ◌∙◌, arith, inl, inr}
 use Rattle.std.specs.Prelude.{◌⊎◌, Option, Some, None, is_some, option_map, IfSome, Ok, Err}
 use Rattle.std.specs.FinMap as finmap
 use Rattle.atomic_table.specs.Seated.{TableId}
@@ -33,7 +33,7 @@ use Rattle.world.specs.Plain.{Plain, plain_after}
 use Rattle.world.specs.Reached.{IsReached}
 use Rattle.world.specs.Stepping.{CallReply, EndReply, Held, IsCalled, IsNotMade, MovesByCall, Plays, Steps, world_of}
 use Rattle.world.specs.World.{Entry, Act, Call, Finish, Moves}
-use Rattle.world.proofs.InFlight.{NoneInFlight, OneInFlight, begins, may_begin, none_stays, one_ends, one_is, one_noted}
+use Rattle.world.proofs.InFlight.{NoneInFlight, OneInFlight, begins, may_begin, next_rises, next_stays, none_stays, one_ends, one_is, one_noted}
 use Rattle.world.proofs.KeptRequests as kept
 use Rattle.world.proofs.Lookups.{get-insert1}
 use Rattle.world.proofs.Reached.{files_step, reached_step}
@@ -194,9 +194,26 @@ none_of w r = record { requests = r.requests; outcomes = r.outcomes }
 pub made_rests : (old w : Held) (e : Event) (r : Reply) → Made old e r w → is_job r ≡ false → IsResting old → IsResting w
 made_rests old w e r m j rest = let x = none_stays (world_of old) (world_of w) e r (same_job r j) (none_of old rest) m.0 in record { requests = x.requests; outcomes = x.outcomes }
 
+-- no more serials were given than device calls were made
+abbrev pub FewSerials : Held → Type 0
+FewSerials w = w.core.next ≤ w.device.calls
+
+pub made_serials : (old w : Held) (e : Event) (r : Reply) → Made old e r w → is_job r ≡ false → FewSerials old → FewSerials w
+made_serials old w e r m j i = let a = next_stays (world_of old) (world_of w) (Act e r) (ap not (same_job r j)) m.0 in let b : w.device.calls ≡ old.device.calls = ap (λ d. d.calls) m.1 in omega arith
+
 -- what makes a service of a world that it goes on in
-pub goes_service : (name : ℕ) (s t : SoloSeen) (table : TableId) → IsService name s.world table s.errors → Goes s t → IsResting t.world → IsService name t.world table t.errors
-goes_service name s t table i g rest = record { named = g.serves.keeps.name ∙ i.named; board = i.board ∙ sym g.serves.keeps.board; lists = g.lists ∙ i.lists; rests = rest; reached = g.sound.reached; counted = g.sound.counted; bounded = g.sound.bounded }
+pub goes_service : (name : ℕ) (s t : SoloSeen) (table : TableId) → IsService name s.world table s.errors → Goes s t → IsResting t.world → FewSerials t.world → IsService name t.world table t.errors
+goes_service name s t table i g rest n = record {
+  named = g.serves.keeps.name ∙ i.named;
+  board = i.board ∙ sym g.serves.keeps.board;
+  lists = g.lists ∙ i.lists;
+  rests = rest;
+  reached = g.sound.reached;
+  counted = g.sound.counted;
+  bounded = g.sound.bounded;
+  few = subst (λ k. k ≤ MAX_FILES) (sym g.serves.keeps.count) i.few;
+  serials = n;
+}
 
 -- ---- a device call
 
@@ -377,5 +394,29 @@ once_rests old new errors after st e r b (Whole c) rest =
     let x = one_ends (world_of c.called) (world_of new) c.serial.0 r (one_called c.begun c.called c.serial.0 c.call (begun_alone old c.begun e c.serial b.may rest c.begin)) c.end.0 in
     record { requests = x.requests; outcomes = x.outcomes }
 
+serials_on : (a b c d m : ℕ) → a ≤ c → a < m → b ≡ a + 1 → (c < m → d ≡ c + 1) → c ≤ m → (c ≡ m → d ≡ c) → b ≤ d
+serials_on a b c d m h less e f most same = elim (at_most c m most) [ inl x ↦ (let y = f x in omega arith) | inr x ↦ (let y = same x in omega arith) ]
+
+carried_serials : (old new : Held) (errors after : RecorderSeen) (e : Event) (r : Reply) → may_begin e ≡ true → Carried old errors e r new after → old.device.calls ≤ max_calls → FewSerials old → FewSerials new
+carried_serials old new errors after e r may c most i =
+    let n = next_rises (world_of old) (world_of c.begun) e c.serial may c.begin.0 in
+    let k = call_by c.begun.device c.called.device _ _ _ _ _ c.call.performs.call in
+    let same : c.called.core.next ≡ c.begun.core.next = ap (λ x. x.core.next) c.call.noted in
+    let last = next_stays (world_of c.called) (world_of new) (Finish c.serial.0 r) refl c.end.0 in
+    let device : c.begun.device.calls ≡ old.device.calls = ap (λ d. d.calls) c.begin.1 in
+    let over : new.device.calls ≡ c.called.device.calls = ap (λ d. d.calls) c.end.1 in
+    serials_on old.core.next new.core.next old.device.calls new.device.calls max_calls i n.0 (last ∙ same ∙ n.1)
+    (λ less. over ∙ k.calls (subst (λ x. x < max_calls) (sym device) less) ∙ ap (λ x. x + 1) device)
+    most
+    (λ full. over ∙ ap (λ d. d.calls) (k.exhausted (device ∙ full)).1 ∙ device)
+
+once_serials : (old new : Held) (errors after : RecorderSeen) (st : Step) (e : Event) (r : Reply) → Begins st e → Once old errors e r new after → old.device.calls ≤ max_calls → FewSerials old → FewSerials new
+once_serials old new errors after st e r b (Unmade _ same none) most i = subst FewSerials (sym same) i
+once_serials old new errors after st e r b (Quiet j m none) most i = made_serials old new e r m j i
+once_serials old new errors after st e r b (Whole c) most i = carried_serials old new errors after e r b.may c most i
+
 pub at_once_service : (name : ℕ) (s : SoloSeen) (w : Held) (errors : RecorderSeen) (table : TableId) (st : Step) (e : Event) (r : Reply) → Begins st e → AtOnce s.world s.errors st r w errors → IsService name s.world table s.errors → IsService name w table errors
-at_once_service name s w errors table st e r b a i = goes_service name s (with_world s w errors) table i (at_once_goes name s w errors table st e r b a i) (once_rests s.world w s.errors errors st e r b (once s.world w s.errors errors st e r b a) i.rests)
+at_once_service name s w errors table st e r b a i =
+    let o = once s.world w s.errors errors st e r b a in
+    goes_service name s (with_world s w errors) table i (at_once_goes name s w errors table st e r b a i) (once_rests s.world w s.errors errors st e r b o i.rests)
+    (once_serials s.world w s.errors errors st e r b o i.counted i.serials)

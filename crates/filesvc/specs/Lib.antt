@@ -1,5 +1,6 @@
 pub mod Attempts
 pub mod Rests
+pub mod Rooms
 pub mod Seen
 pub mod Service
 pub mod Syncs

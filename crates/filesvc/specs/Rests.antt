@@ -32,6 +32,9 @@ pub record IsService (name : ℕ) (w : Held) (table : TableId) (errors : Recorde
   pub reached : is_some w.device.contents ≡ true → IsReached (world_of w)
   pub counted : w.device.calls ≤ max_calls
   pub bounded : (f : ℕ) → (file_at w.core f).size ≤ MAX_FILE_SIZE
+  pub few : length w.core.files ≤ MAX_FILES
+  -- no more serials were given than device calls were made
+  pub serials : w.core.next ≤ w.device.calls
 
 abbrev pub is_job : Reply → Bool
 is_job (reply.Job t) = true

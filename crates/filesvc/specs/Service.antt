@@ -106,6 +106,17 @@ IsRefusal old h e (Io code) new = Faulted old new
 IsRefusal old h e Turns new = new.attempts ≡ 256
 IsRefusal old h e r new = Refuses old e r ⊎ ((p : PageIndex) × Refuses old (event.FillBegin h p) r)
 
+-- no file has a page that a flush could begin with
+abbrev pub NothingToFlush : SoloSeen → Type 0
+NothingToFlush s = (f : ℕ) → f < length s.world.core.files → tests s.world.core (event.FlushBegin (record { 0 = f })) ≡ Some reply.Nothing
+
+-- where a call is refused a frame, or one more dirty page, no more room can be made: there is no idle page to evict and no page to
+-- write back; or a device call failed, or no more of them can be counted
+abbrev pub IsWithoutRoom : SoloSeen → Refusal → SoloSeen → Type 0
+IsWithoutRoom old NoFrame new = ((tests new.world.core event.Evict ≡ Some reply.NoneIdle) × NothingToFlush new) ⊎ Faulted old new
+IsWithoutRoom old DirtyLimit new = NothingToFlush new ⊎ Faulted old new
+IsWithoutRoom old r new = Unit {0}
+
 -- ---- the first attempt
 
 -- whether an event is over with its tests' answer: there is no page to fill, and no room to make

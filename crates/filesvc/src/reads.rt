@@ -7,7 +7,7 @@ ghost use Rattle.pc_types.specs.declared.refusal.Refusal.TheVariants.{BadHandle}
 ghost use Rattle.cachecore.specs.declared.event.Event.TheVariants as event;
 ghost use Rattle.world.specs.Plain.{named, plain_file};
 ghost use Rattle.filesvc.specs.Attempts.{Attempt, read_over, read_so_far};
-ghost use Rattle.filesvc.specs.Service.{CameFrom, IsAsBefore, IsRefusal, IsSettledAtOnce, Names, Serves, Tells, count_of, files, read_reply};
+ghost use Rattle.filesvc.specs.Service.{CameFrom, IsAsBefore, IsRefusal, IsSettledAtOnce, IsWithoutRoom, Names, Serves, Tells, count_of, files, read_reply};
 
 use crate::handle::Handle;
 use crate::solo::{MAX_ATTEMPTS, Solo};
@@ -28,6 +28,7 @@ impl<D: BlockDevice> Solo<D> {
         ensures within { offset ≤ MAX_FILE_SIZE → offset + count_of result ≤ MAX_FILE_SIZE }
         ensures first { IsSettledAtOnce self.old handle.now (event.Read (record { 0 = handle.now.number }) offset (length out.old)) (read_reply result out.new) self.new }
         ensures refused { Names self.old handle.now → IfErr result (λ r. IsRefusal self.old (record { 0 = handle.now.number }) (event.Read (record { 0 = handle.now.number }) offset (length out.old)) r self.new) }
+        ensures room { IfErr result (λ r. IsWithoutRoom self.old r self.new) }
     {
         self.attempts = 0;
         if handle.cache != self.name {
@@ -55,6 +56,7 @@ impl<D: BlockDevice> Solo<D> {
         ensures count { read_so_far result ≤ length out.old }
         ensures rest { drop (read_so_far result) out.new ≡ drop (read_so_far result) out.old }
         ensures within { offset ≤ MAX_FILE_SIZE → offset + read_so_far result ≤ MAX_FILE_SIZE }
+        ensures room { IfErr result (λ r. IsWithoutRoom self.old r self.new) }
     {
         self.attempts += 1;
         match self.world.read(handle, offset, out)? {
@@ -75,6 +77,7 @@ impl<D: BlockDevice> Solo<D> {
         ensures cursor { handle.new ≡ record handle.old { cursor = handle.old.cursor + count_of result } }
         ensures first { IsSettledAtOnce self.old handle.old (event.Read (record { 0 = handle.old.number }) handle.old.cursor (length out.old)) (read_reply result out.new) self.new }
         ensures refused { Names self.old handle.old → IfErr result (λ r. IsRefusal self.old (record { 0 = handle.old.number }) (event.Read (record { 0 = handle.old.number }) handle.old.cursor (length out.old)) r self.new) }
+        ensures room { IfErr result (λ r. IsWithoutRoom self.old r self.new) }
     {
         let count = self.pread(handle, handle.cursor, out)?;
         handle.cursor += count;

@@ -1,8 +1,9 @@
 //! What a call does on the way: it fills pages that it missed, and makes room.
 
-ghost use Rattle.std.specs.Prelude.{◌≡◌, ◌⊎◌, IfErr, IsOkUnless};
+ghost use Rattle.std.specs.Prelude.{◌≡◌, ◌⊎◌, IfErr, IfOk, IsOkUnless, OnOk};
 ghost use Rattle.pc_types.specs.declared.refusal.Refusal.TheVariants.{Memory};
-ghost use Rattle.filesvc.specs.Service.{IsFillRefusal, Serves};
+ghost use Rattle.filesvc.specs.Rooms.{FlushesOne, IsFlush, MakesRoom};
+ghost use Rattle.filesvc.specs.Service.{IsFillRefusal, IsWithoutRoom, Serves};
 
 use crate::requests::{fill_page, flush_page};
 use crate::solo::Solo;
@@ -17,6 +18,7 @@ impl<D: BlockDevice> Solo<D> {
         ensures serves { Serves self.old self.new }
         ensures attempts { self.new.attempts ≡ self.old.attempts }
         ensures refused { IfErr result (λ r. IsFillRefusal self.old handle page r self.new) }
+        ensures room { IfErr result (λ r. IsWithoutRoom self.old r self.new) }
     {
         let refusal = match fill_page(&mut self.world, &mut self.recorder, handle, page) {
             Reply::Failed(code) => return Err(Refusal::Io(code)),
@@ -31,7 +33,9 @@ impl<D: BlockDevice> Solo<D> {
     pub(crate) fn make_room(&mut self, refusal: Refusal) -> Result<(), Refusal>
         ensures serves { Serves self.old self.new }
         ensures attempts { self.new.attempts ≡ self.old.attempts }
+        ensures made { OnOk result (MakesRoom self.old refusal self.new) }
         ensures refused { IfErr result (λ r. (r ≡ refusal) ⊎ (r ≡ Memory)) }
+        ensures room { IfErr result (λ r. IsWithoutRoom self.old r self.new) }
     {
         match refusal {
             Refusal::NoFrame => {
@@ -55,7 +59,10 @@ impl<D: BlockDevice> Solo<D> {
         ensures serves { Serves self.old self.new }
         ensures attempts { self.new.attempts ≡ self.old.attempts }
         ensures refused { IsOkUnless result Refusal.Memory }
+        ensures flushes { IfOk result (λ done. FlushesOne self.old done self.new) }
     {
+        // Opens `self`: its invariant says that there are `MAX_FILES` files at most, so the loop passes all of them.
+        let _ = &self.world;
         'files: for file in 0..MAX_FILES {
             match self.flush_file(FileId(file)) {
                 Reply::Nothing => {}
@@ -71,6 +78,7 @@ impl<D: BlockDevice> Solo<D> {
     fn flush_file(&mut self, file: FileId) -> Reply
         ensures serves { Serves self.old self.new }
         ensures attempts { self.new.attempts ≡ self.old.attempts }
+        ensures flush { IsFlush self.old file result self.new }
     {
         flush_page(&mut self.world, &mut self.recorder, file)
     }

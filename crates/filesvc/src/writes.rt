@@ -1,13 +1,14 @@
 //! Writes and truncations.
 
-ghost use Rattle.std.specs.Prelude.{◌≡◌, ◌≢◌, ◌+◌, ◌<◌, ◌≤◌, length, IfErr, IfOk, IfSome, Err};
+ghost use Rattle.std.specs.Prelude.{◌≡◌, ◌≢◌, ◌+◌, ◌<◌, ◌≤◌, length, IfErr, IfNone, IfOk, IfSome, Err};
 ghost use Rattle.pc_types.specs.declared.limits.TheConstants.{MAX_FILE_SIZE};
 ghost use Rattle.pc_types.specs.declared.refusal.Refusal.TheVariants.{BadHandle};
 ghost use Rattle.cachecore.specs.declared.event.Event.TheVariants as event;
 ghost use Rattle.cachecore.specs.Replies.{wrote};
 ghost use Rattle.cachecore.specs.State.{file_at, file_of};
 ghost use Rattle.filesvc.specs.Attempts.{Attempt, Follows, WroteAll, append_reply, truncate_over, write_over};
-ghost use Rattle.filesvc.specs.Service.{CameFrom, FilesAfter, IsAsBefore, IsRefusal, IsSettledAtOnce, Keeps, Names, count_of, cursor_after, truncate_reply, write_event, write_reply, wrote_reply};
+ghost use Rattle.filesvc.specs.Rooms.{MakesRoom};
+ghost use Rattle.filesvc.specs.Service.{CameFrom, FilesAfter, IsAsBefore, IsRefusal, IsSettledAtOnce, IsWithoutRoom, Keeps, Names, count_of, cursor_after, truncate_reply, write_event, write_reply, wrote_reply};
 
 use crate::handle::Handle;
 use crate::solo::{MAX_ATTEMPTS, Solo};
@@ -34,6 +35,7 @@ impl<D: BlockDevice> Solo<D> {
         ensures files { FilesAfter self.old (event.Write (record { 0 = handle.now.number }) offset bytes.now) (write_reply result (offset + length bytes.now)) self.new }
         ensures first { IsSettledAtOnce self.old handle.now (event.Write (record { 0 = handle.now.number }) offset bytes.now) (write_reply result (offset + length bytes.now)) self.new }
         ensures refused { Names self.old handle.now → IfErr result (λ r. IsRefusal self.old (record { 0 = handle.now.number }) (event.Write (record { 0 = handle.now.number }) offset bytes.now) r self.new) }
+        ensures room { IfErr result (λ r. IsWithoutRoom self.old r self.new) }
     {
         self.attempts = 0;
         if handle.cache != self.name {
@@ -58,6 +60,7 @@ impl<D: BlockDevice> Solo<D> {
         ensures cursor { handle.new ≡ record handle.old { cursor = cursor_after self.old handle.old result } }
         ensures first { IsSettledAtOnce self.old handle.old (write_event handle.old bytes.now) (wrote_reply self.old handle.old result) self.new }
         ensures refused { Names self.old handle.old → IfErr result (λ r. IsRefusal self.old (record { 0 = handle.old.number }) (write_event handle.old bytes.now) r self.new) }
+        ensures room { IfErr result (λ r. IsWithoutRoom self.old r self.new) }
     {
         if !handle.append {
             let count = self.pwrite(handle, handle.cursor, bytes)?;
@@ -79,6 +82,7 @@ impl<D: BlockDevice> Solo<D> {
         ensures files { FilesAfter self.old (event.Append (record { 0 = handle.now.number }) bytes.now) (append_reply result) self.new }
         ensures first { IsSettledAtOnce self.old handle.now (event.Append (record { 0 = handle.now.number }) bytes.now) (append_reply result) self.new }
         ensures refused { Names self.old handle.now → IfErr result (λ r. IsRefusal self.old (record { 0 = handle.now.number }) (event.Append (record { 0 = handle.now.number }) bytes.now) r self.new) }
+        ensures room { IfErr result (λ r. IsWithoutRoom self.old r self.new) }
     {
         self.attempts = 0;
         if handle.cache != self.name {
@@ -102,6 +106,7 @@ impl<D: BlockDevice> Solo<D> {
         requires { self.old.attempts < 256 }
         ensures attempt { Attempt self.old handle (event.Write handle offset bytes.now) (write_over result) self.new }
         ensures wrote { IfOk result (λ o. IfSome o (WroteAll offset bytes.now)) }
+        ensures room { IfErr result (λ r. IsWithoutRoom self.old r self.new) }
     {
         self.attempts += 1;
         let answer = self.world.write(handle, offset, bytes);
@@ -113,6 +118,7 @@ impl<D: BlockDevice> Solo<D> {
         requires { self.old.attempts < 256 }
         ensures attempt { Attempt self.old handle (event.Append handle bytes.now) (write_over result) self.new }
         ensures wrote { IfOk result (λ o. IfSome o (WroteAll (file_at self.old.world.core (file_of self.old.world.core handle.0)).size bytes.now)) }
+        ensures room { IfErr result (λ r. IsWithoutRoom self.old r self.new) }
     {
         self.attempts += 1;
         let answer = self.world.append(handle, bytes);
@@ -125,7 +131,9 @@ impl<D: BlockDevice> Solo<D> {
         handle: HandleId,
         answer: Result<WriteAnswer, Refusal>,
     ) -> Result<Option<Wrote>, Refusal>
-        ensures { Follows self.old handle (wrote answer) (write_over result) self.new }
+        ensures follows { Follows self.old handle (wrote answer) (write_over result) self.new }
+        ensures again { IfOk result (λ o. IfNone o (IfErr answer (λ r. MakesRoom self.old r self.new))) }
+        ensures room { IfErr result (λ r. IsWithoutRoom self.old r self.new) }
     {
         match answer {
             Ok(WriteAnswer::Wrote { count, end }) => return Ok(Some(Wrote { count, end })),
@@ -145,6 +153,7 @@ impl<D: BlockDevice> Solo<D> {
         ensures files { FilesAfter self.old (event.Truncate (record { 0 = handle.now.number }) size) (truncate_reply result) self.new }
         ensures first { IsSettledAtOnce self.old handle.now (event.Truncate (record { 0 = handle.now.number }) size) (truncate_reply result) self.new }
         ensures refused { Names self.old handle.now → IfErr result (λ r. IsRefusal self.old (record { 0 = handle.now.number }) (event.Truncate (record { 0 = handle.now.number }) size) r self.new) }
+        ensures room { IfErr result (λ r. IsWithoutRoom self.old r self.new) }
     {
         self.attempts = 0;
         if handle.cache != self.name {
@@ -161,7 +170,8 @@ impl<D: BlockDevice> Solo<D> {
     /// One attempt to truncate. Answers whether that is done; where a page is missing it is filled.
     fn try_truncate(&mut self, handle: HandleId, size: u64) -> Result<bool, Refusal>
         requires { self.old.attempts < 256 }
-        ensures { Attempt self.old handle (event.Truncate handle size) (truncate_over result) self.new }
+        ensures attempt { Attempt self.old handle (event.Truncate handle size) (truncate_over result) self.new }
+        ensures room { IfErr result (λ r. IsWithoutRoom self.old r self.new) }
     {
         self.attempts += 1;
         match self.world.truncate(handle, size)? {

@@ -19,6 +19,7 @@ use Rattle.cachecore.proofs.BareMaps.{each-each}
 use Rattle.cachecore.proofs.MapLaws.{get-each_value, len-each_value}
 use Rattle.cachecore.proofs.Choices.{answered, quiet_none, quiet_some, quiet_if, if_none, may_fill, and_false}
 use Rattle.world.proofs.Lookups.{page_at-picked}
+pub use Rattle.world.specs.Begins.{is_job}
 
 -- all of a request but whether it is dropped
 abbrev pub undropped : Request → Request
@@ -145,10 +146,6 @@ module _ (s new : State) where
   quiet_kept (event.SyncStep n) r q = absurd cc
 
 -- ---- events that begin one
-
-abbrev pub is_job : Reply → Bool
-is_job (reply.Job t) = true
-is_job _ = false
 
 -- no test answers with a job
 abbrev IsNoJob : Reply → Type 0

@@ -6,6 +6,7 @@ pub mod KeptRequests
 pub mod Whole
 pub mod HandedIn
 pub mod WorldSteps
+pub mod Spares
 pub mod DeviceCalls
 pub mod EndsAndCalls
 pub mod FirstWorld

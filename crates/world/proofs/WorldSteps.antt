@@ -96,8 +96,10 @@ module _ (core : State) (jobs : Jobs) (dev : Told) (w : IsWorld core jobs dev) w
   fill_acts h p r new j e = kept_acts (event.FillBegin h p) r new e (fill_kept core new h p r j e) (λ full g. fill_kept s full h p r j g)
 
   -- where no flush begins, the core is its own full state
-  pub flush_same : (e : Event) (r : Reply) (full new : State) → may_flush e ≡ true → is_job r ≡ false → Step core e r full → new ≡ bare full → Step core e r new
-  flush_same e r full new m j h is = subst (Step core e r) (sym (is ∙ kept_bare full (flush_kept core full e r m j h))) h
+  pub flush_same : (e : Event) (r answer : Reply) (full new : State) → may_flush e ≡ true → r ≡ answer → is_job r ≡ false → Step core e answer full → new ≡ bare full → Step core e r new
+  flush_same e r answer full new m same j h is =
+      let step : Step core e r full = subst (λ x. Step core e x full) (sym same) h in
+      subst (Step core e r) (sym (is ∙ kept_bare full (flush_kept core full e r m j step))) step
 
   pub flush_world : (e : Event) (r : Reply) (new : State) → may_flush e ≡ true → is_job r ≡ false → Step core e r new → IsWorld new jobs dev
   flush_world e r new m j h = let k = flush_kept core new e r m j h in kept_world new k (kept_bounds e r new h k)
@@ -214,13 +216,6 @@ module _ (core : State) (jobs : Jobs) (dev : Told) (w : IsWorld core jobs dev) w
       let b = fill_begins s f.0 h p (record { 0 = job.serial }) f.1 in
       let acts = begun_acts (event.FillBegin h p) (reply.Job (record { 0 = job.serial })) new f.0 (record { kind = Fill; file = file_of core h.0; page = p.0; block = block_of core (file_of core h.0) p.0; bytes = []; dropped = false }) (Asked job) (fill_begun h p new job step is size).bare f.1 f.2 (ap (λ (x : State). x.requests) b.state) refl refl in
       subst (λ u. Acts (world_of (held_of core jobs dev)) (event.FillBegin h p) (reply.Job (record { 0 = job.serial })) (world_of (held_of new (finmap.insert jobs u (Asked job)) dev))) (sym b.serial) acts
-
-  pub fill_job_apart : (h : HandleId) (p : PageIndex) (new : State) (job : Task) → Step core (event.FillBegin h p) (reply.Job (record { 0 = job.serial })) new → (finmap.get jobs job.serial ≡ None) × (finmap.len jobs < MAX_IN_FLIGHT)
-  fill_job_apart h p new job step = let b = fill_begins core new h p (record { 0 = job.serial }) step in (ap (finmap.get jobs) b.serial ∙ no_job, job_room b.room)
-
-  -- a flush begins, with its job: the core's own full state has its bytes
-  pub flush_job_apart : (e : Event) (full : State) (job : Task) → may_flush e ≡ true → Step core e (reply.Job (record { 0 = job.serial })) full → (finmap.get jobs job.serial ≡ None) × (finmap.len jobs < MAX_IN_FLIGHT)
-  flush_job_apart e full job m step = let b = flush_begins core full e (record { 0 = job.serial }) m step in (ap (finmap.get jobs) b.serial ∙ no_job, job_room b.room)
 
   bare_bounds : (x : State) → InBounds x → InBounds (bare x)
   bare_bounds x b = record { blocks = b.blocks; requests = λ t r e. go t r (finmap.get x.requests t) refl (sym (get-each_value without_bytes x.requests t) ∙ e); spots = b.spots; handles = b.handles; pages = b.pages }

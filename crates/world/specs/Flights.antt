@@ -1,5 +1,5 @@
 -- Inside this crate: the jobs in flight, and the world that they make with the core and the device.
-use Rattle.std.specs.Prelude.{◌≡◌, ℕ, ◌<◌, Bool, true, false, List, [], ◌∷◌, map, length, Option, Some, None, unwrap_or, is_some}
+use Rattle.std.specs.Prelude.{◌≡◌, ℕ, ◌<◌, Bool, true, false, List, [], ◌∷◌, map, length, IfSome, Option, Some, None, unwrap_or, is_some}
 use Rattle.std.specs.Ordering.{nat_cmp}
 use Rattle.std.specs.FinMap as finmap
 use Rattle.blockdev.specs.Device.{Told}
@@ -97,3 +97,7 @@ pub record IsWorld (core : State) (jobs : Jobs) (device : Told) : Type 0 where
   pub count : finmap.len jobs ≡ finmap.len core.requests
   pub block_size : device.size ≡ core.sizes.page
   pub block_count : device.count ≡ core.sizes.blocks
+
+-- a spare buffer has as many bytes as a page
+abbrev pub IsSpare : State → Option (List ℕ) → Type 0
+IsSpare core spare = IfSome spare (λ buffer. length buffer ≡ core.sizes.page)

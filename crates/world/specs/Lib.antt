@@ -1,4 +1,5 @@
 pub mod Always
+pub mod Begins
 pub mod Ends
 pub mod Flights
 pub mod Plain

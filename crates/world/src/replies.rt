@@ -2,10 +2,23 @@
 
 ghost use Rattle.std.specs.Prelude.{◌≡◌, Ok};
 ghost use Rattle.cachecore.specs.Replies.{created, opened, closed, sized, wrote, was_truncated, evicted, sync_begun, sync_dropped};
-ghost use Rattle.world.specs.Ends.{ended};
+ghost use Rattle.world.specs.Begins.{IsFillBegun, IsFlushBegun, IsSyncStepped};
+ghost use Rattle.world.specs.Ends.{buffer_of, ended};
 
-use cachecore::{Ended, Kind, Reply, TruncateAnswer, WriteAnswer};
+use blockdev::{Buffer, Job};
+use cachecore::{
+    Ended, FillBegun, FlushBegun, Kind, Refused, Reply, SyncStepped, TruncateAnswer, WriteAnswer,
+};
 use pc_types::{FileId, HandleId, PageIndex, Refusal, SyncId};
+
+/// What a call that may begin a request comes to.
+#[derive(Drop, Debug)]
+pub enum Begun {
+    /// A request has begun, by this job.
+    Job(Job),
+    /// No request has begun: the reply, and the buffer that was handed in.
+    Answered(Reply, Buffer),
+}
 
 pub fn of_create(answer: Result<FileId, Refusal>) -> Reply
     ensures { result ≡ created answer }
@@ -92,15 +105,61 @@ pub fn of_sync_drop(answer: Result<(), Refusal>) -> Reply
     }
 }
 
-pub fn of_end(kind: Kind, end: Ended) -> Reply
-    ensures { result ≡ ended kind (Ok end) }
+pub fn of_fill_begin(answer: Result<FillBegun, Refused>) -> Begun
+    ensures { IsFillBegun answer result }
+{
+    match answer {
+        Ok(FillBegun::Job(job)) => Begun::Job(job),
+        Ok(FillBegun::Gone(buffer)) => Begun::Answered(Reply::Gone, buffer),
+        Ok(FillBegun::Wait(page, buffer)) => Begun::Answered(Reply::Wait(page), buffer),
+        Ok(FillBegun::Present(buffer)) => Begun::Answered(Reply::Present, buffer),
+        Ok(FillBegun::Filled(buffer)) => Begun::Answered(Reply::Filled, buffer),
+        Err(refused) => refusal_of(refused),
+    }
+}
+
+pub fn of_flush_begin(answer: Result<FlushBegun, Refused>) -> Begun
+    ensures { IsFlushBegun answer result }
+{
+    match answer {
+        Ok(FlushBegun::Job(job)) => Begun::Job(job),
+        Ok(FlushBegun::Nothing(buffer)) => Begun::Answered(Reply::Nothing, buffer),
+        Err(refused) => refusal_of(refused),
+    }
+}
+
+pub fn of_sync_step(answer: Result<SyncStepped, Refused>) -> Begun
+    ensures { IsSyncStepped answer result }
+{
+    let stepped = match answer {
+        Ok(stepped) => stepped,
+        Err(refused) => return refusal_of(refused),
+    };
+    match stepped {
+        SyncStepped::Job(job) => Begun::Job(job),
+        SyncStepped::Wait(page, buffer) => Begun::Answered(Reply::Wait(page), buffer),
+        SyncStepped::Clean(buffer) => Begun::Answered(Reply::Clean, buffer),
+        SyncStepped::Failed(code, buffer) => Begun::Answered(Reply::Failed(code), buffer),
+    }
+}
+
+fn refusal_of(refused: Refused) -> Begun
+    ensures { result ≡ Begun.Answered (Reply.Refused refused.refusal) refused.buffer }
+{
+    Begun::Answered(Reply::Refused(refused.refusal), refused.buffer)
+}
+
+/// The reply of an end, and the buffer of its request.
+pub fn of_end(kind: Kind, end: Ended) -> (Reply, Buffer)
+    ensures reply { result.0 ≡ ended kind (Ok end) }
+    ensures buffer { result.1 ≡ buffer_of end }
 {
     match end {
-        Ended::Dropped(_) => Reply::Dropped,
-        Ended::Failed(code, _) => Reply::Failed(code),
-        Ended::Done(_) => match kind {
-            Kind::Fill => Reply::Filled,
-            Kind::Flush => Reply::Written,
+        Ended::Dropped(buffer) => (Reply::Dropped, buffer),
+        Ended::Failed(code, buffer) => (Reply::Failed(code), buffer),
+        Ended::Done(buffer) => match kind {
+            Kind::Fill => (Reply::Filled, buffer),
+            Kind::Flush => (Reply::Written, buffer),
         },
     }
 }

@@ -3,18 +3,19 @@
 mod calls;
 mod events;
 
-ghost use Rattle.std.specs.Prelude.{◌≡◌, ◌<◌, IfErr, IfOk, IfSome, IsOkUnless, OnErr, length, option_map, true, false, if◌then◌else◌};
+ghost use Rattle.std.specs.Prelude.{◌≡◌, ◌<◌, IfErr, IfOk, IfSome, IsOkUnless, None, OnErr, length, option_map, true, false, if◌then◌else◌};
 ghost use Rattle.pc_types.specs.declared.refusal.Refusal.TheVariants.{BadConfig, Memory};
 ghost use Rattle.cachecore.specs.Flushing.{flush_of};
 ghost use Rattle.cachecore.specs.Replies.{TagsAre};
+ghost use Rattle.world.specs.Flights.{IsSpare};
 ghost use Rattle.world.specs.Runs.{IsFirst};
 ghost use Rattle.world.specs.Stepping.{IsMade, LeadsTo, Plays, Steps, TellsForCalls, first_world, fits, world_of};
 
 use crate::jobs::Jobs;
-use crate::replies;
+use crate::replies::{self, Begun};
 use crate::step::Step;
 use blockdev::{BlockDevice, Buffer};
-use cachecore::{CacheCore, FillBegun, FlushBegun, PageTags, ReadAnswer, Reply, SyncStepped};
+use cachecore::{CacheCore, PageTags, ReadAnswer, Reply};
 use pc_types::limits::MAX_FILES;
 use pc_types::{Bytes, FileId, Geometry, HandleId, PageIndex, Refusal, Serial, SyncId};
 use std::alloc::{AllocError, Global};
@@ -26,6 +27,8 @@ pub struct World<D: BlockDevice> {
     core: CacheCore,
     jobs: Jobs,
     device: D,
+    // a buffer that came back, for the next begin
+    spare: Option<Buffer>,
     alloc: Global,
 }
 
@@ -41,11 +44,11 @@ impl<D: BlockDevice> Model for World<D> {
 
     ghost coded = { Prim.hlevel (codes, state_code, map.code {X = Outcome} {R = nat_cmp} coded_ℕ (Prim.hlevel codes)) };
 
-    ghost use Rattle.world.specs.Flights.{held_of, IsWorld};
+    ghost use Rattle.world.specs.Flights.{held_of, IsSpare, IsWorld};
 
     ghost view = { λ w. held_of w.core.state w.jobs (D.told w.device) };
 
-    ghost invariant = { λ w. IsWorld w.core.state w.jobs (D.told w.device) };
+    ghost invariant = { λ w. IsWorld w.core.state w.jobs (D.told w.device) × IsSpare w.core.state w.spare };
 }
 
 impl<D: BlockDevice> World<D> {
@@ -74,6 +77,7 @@ impl<D: BlockDevice> World<D> {
                 core,
                 jobs,
                 device,
+                spare: None,
                 alloc,
             }),
             Err(refusal) => Err((refusal, device)),
@@ -167,16 +171,15 @@ impl<D: BlockDevice> World<D> {
     pub fn fill_begin(&mut self, handle: HandleId, page: PageIndex) -> Reply
         ensures { Steps self.old (Step.FillBegin handle page) result self.new }
     {
-        let Ok(buffer) = Buffer::new(self.alloc, &self.core.geometry()) else {
+        let Ok(buffer) = buffer_for(&self.core, &mut self.spare, self.alloc) else {
             return Reply::Refused(Refusal::Memory);
         };
-        match self.core.fill_begin(handle, page, buffer) {
-            Ok(FillBegun::Job(job)) => Reply::Job(self.jobs.ask(job)),
-            Ok(FillBegun::Gone(_)) => Reply::Gone,
-            Ok(FillBegun::Wait(page, _)) => Reply::Wait(page),
-            Ok(FillBegun::Present(_)) => Reply::Present,
-            Ok(FillBegun::Filled(_)) => Reply::Filled,
-            Err(refused) => Reply::Refused(refused.refusal),
+        match replies::of_fill_begin(self.core.fill_begin(handle, page, buffer)) {
+            Begun::Job(job) => Reply::Job(self.jobs.ask(job)),
+            Begun::Answered(reply, buffer) => {
+                self.spare = Some(buffer);
+                reply
+            }
         }
     }
 
@@ -184,13 +187,15 @@ impl<D: BlockDevice> World<D> {
     pub fn flush_begin(&mut self, file: FileId) -> Reply
         ensures { Steps self.old (Step.FlushBegin file) result self.new }
     {
-        let Ok(buffer) = Buffer::new(self.alloc, &self.core.geometry()) else {
+        let Ok(buffer) = buffer_for(&self.core, &mut self.spare, self.alloc) else {
             return Reply::Refused(Refusal::Memory);
         };
-        match self.core.flush_begin(file, buffer) {
-            Ok(FlushBegun::Job(job)) => Reply::Job(self.jobs.ask(job)),
-            Ok(FlushBegun::Nothing(_)) => Reply::Nothing,
-            Err(refused) => Reply::Refused(refused.refusal),
+        match replies::of_flush_begin(self.core.flush_begin(file, buffer)) {
+            Begun::Job(job) => Reply::Job(self.jobs.ask(job)),
+            Begun::Answered(reply, buffer) => {
+                self.spare = Some(buffer);
+                reply
+            }
         }
     }
 
@@ -198,18 +203,15 @@ impl<D: BlockDevice> World<D> {
     pub fn sync_step(&mut self, sync: SyncId) -> Reply
         ensures { Steps self.old (Step.SyncStep sync) result self.new }
     {
-        let Ok(buffer) = Buffer::new(self.alloc, &self.core.geometry()) else {
+        let Ok(buffer) = buffer_for(&self.core, &mut self.spare, self.alloc) else {
             return Reply::Refused(Refusal::Memory);
         };
-        let stepped = match self.core.sync_step(sync, buffer) {
-            Ok(stepped) => stepped,
-            Err(refused) => return Reply::Refused(refused.refusal),
-        };
-        match stepped {
-            SyncStepped::Job(job) => Reply::Job(self.jobs.ask(job)),
-            SyncStepped::Wait(page, _) => Reply::Wait(page),
-            SyncStepped::Clean(_) => Reply::Clean,
-            SyncStepped::Failed(code, _) => Reply::Failed(code),
+        match replies::of_sync_step(self.core.sync_step(sync, buffer)) {
+            Begun::Job(job) => Reply::Job(self.jobs.ask(job)),
+            Begun::Answered(reply, buffer) => {
+                self.spare = Some(buffer);
+                reply
+            }
         }
     }
 }
@@ -219,4 +221,21 @@ fn zeros(alloc: Global, count: u64) -> Result<Vec<u8>, AllocError>
     ensures { IfOk result (λ out. length out.items ≡ count) }
 {
     vec![in alloc; 0; count as usize]
+}
+
+/// A buffer for a request, with any bytes: the spare one, where there is one.
+fn buffer_for(
+    core: &CacheCore,
+    spare: &mut Option<Buffer>,
+    alloc: Global,
+) -> Result<Buffer, Refusal>
+    requires { IsSpare core.now.state spare.old }
+    ensures size { IfOk result (λ buffer. length buffer ≡ core.now.state.sizes.page) }
+    ensures refused { IsOkUnless result Memory }
+    ensures taken { spare.new ≡ None }
+{
+    match spare.take() {
+        Some(buffer) => Ok(buffer),
+        None => Buffer::new(alloc, &core.geometry()),
+    }
 }

@@ -43,7 +43,11 @@ impl<D: BlockDevice> World<D> {
             Some(Flight::Made(finished)) => {
                 let kind = finished.kind();
                 match hand_in(&mut self.core, kind, finished) {
-                    Ok(end) => replies::of_end(kind, end),
+                    Ok(end) => {
+                        let (reply, buffer) = replies::of_end(kind, end);
+                        self.spare = Some(buffer);
+                        reply
+                    }
                     Err(refused) => {
                         self.jobs.put(Flight::Made(refused.finished));
                         Reply::Refused(refused.refusal)

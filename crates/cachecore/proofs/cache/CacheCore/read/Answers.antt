@@ -2,6 +2,7 @@ use Rattle.std.proofs.Common.{true, false, arith, sym, ap, subst, ◌∙◌, ◌
 use Rattle.std.specs.Prelude.{find, is_some, not, slice_index_or}
 use Rattle.std.specs.List.{range_with_len}
 use Rattle.std.specs.FinMap as map
+use Rattle.std.proofs.lemmas.Bool.{eqb-false}
 use Rattle.std.proofs.lemmas.List.{length-take}
 use Rattle.pc_types.specs.declared.limits.TheConstants.{MAX_TOUCHED}
 use Rattle.cachecore.specs.State.{State, no_file, file_at, is_filling, touched_count}
@@ -23,8 +24,8 @@ returns-then-is_too_long-clause-step c =
       found = c.in-Some.ensures ∙ ap (λ s. map.get s.handles c.args.handle.0) (state_is c.self.view_is);
       page = c.page-page_size.ensures.value ∙ ap (λ s. s.sizes.page) (state_is c.self.view_is);
       entry_is = ap (λ s. file_at s c.in-Some.file) (state_is c.self.view_is);
-      count_is = omega (arith, c.min-count.ensures, c.saturating_sub-left.ensures, c.size.ensures);
-      some = omega arith;
+      count_is = omega (arith, c.min-count.ensures, c.size-size.ensures);
+      some = (let filled = eqb-false (length c.args.out.now) 0 (sym c.is_empty.ensures ∙ c.if-is_empty.false) in omega (arith, c.min-count.ensures, c.if-size-offset.false, filled));
     } in
     read_too_long c.args.self.now.state c.args.handle c.args.offset (length c.args.out.now) c.in-Some.file c.page-page_size.result c.min-count.result (slice_index_or c.self.inside.pages.files c.in-Some.file no_file) facts (is_less MAX_TOUCHED (touched_count c.page-page_size.result c.args.offset c.min-count.result) (sym c.is_too_long.ensures ∙ c.if-is_too_long.true))
 
@@ -36,8 +37,8 @@ returns-then-is_filling-clause-step c =
       found = c.in-Some.ensures ∙ ap (λ s. map.get s.handles c.args.handle.0) (state_is c.self.view_is);
       page = c.page-page_size.ensures.value ∙ ap (λ s. s.sizes.page) (state_is c.self.view_is);
       entry_is = ap (λ s. file_at s c.in-Some.file) (state_is c.self.view_is);
-      count_is = omega (arith, c.min-count.ensures, c.saturating_sub-left.ensures, c.size.ensures);
-      some = omega arith;
+      count_is = omega (arith, c.min-count.ensures, c.size-size.ensures);
+      some = (let filled = eqb-false (length c.args.out.now) 0 (sym c.is_empty.ensures ∙ c.if-is_empty.false) in omega (arith, c.min-count.ensures, c.if-size-offset.false, filled));
     } in
     let short : touched_count c.page-page_size.result c.args.offset count ≤ MAX_TOUCHED = not_less MAX_TOUCHED (touched_count c.page-page_size.result c.args.offset c.min-count.result) (sym c.is_too_long.ensures ∙ c.if-is_too_long.false) in
     let size : length (take count c.args.out.now) ≡ count = omega (arith, length-take count c.args.out.now, c.min-count.ensures) in
@@ -54,8 +55,8 @@ returns-clause-step c =
       found = c.in-Some.ensures ∙ ap (λ s. map.get s.handles c.args.handle.0) (state_is c.self.view_is);
       page = c.page-page_size.ensures.value ∙ ap (λ s. s.sizes.page) (state_is c.self.view_is);
       entry_is = ap (λ s. file_at s c.in-Some.file) (state_is c.self.view_is);
-      count_is = omega (arith, c.min-count.ensures, c.saturating_sub-left.ensures, c.size.ensures);
-      some = omega arith;
+      count_is = omega (arith, c.min-count.ensures, c.size-size.ensures);
+      some = (let filled = eqb-false (length c.args.out.now) 0 (sym c.is_empty.ensures ∙ c.if-is_empty.false) in omega (arith, c.min-count.ensures, c.if-size-offset.false, filled));
     } in
     let short : touched_count c.page-page_size.result c.args.offset count ≤ MAX_TOUCHED = not_less MAX_TOUCHED (touched_count c.page-page_size.result c.args.offset c.min-count.result) (sym c.is_too_long.ensures ∙ c.if-is_too_long.false) in
     let size : length (take count c.args.out.now) ≡ count = omega (arith, length-take count c.args.out.now, c.min-count.ensures) in
@@ -72,8 +73,8 @@ returns-in_default-read-clause-step c =
       found = c.in-Some.ensures ∙ ap (λ s. map.get s.handles c.args.handle.0) (state_is c.self.view_is);
       page = c.page-page_size.ensures.value ∙ ap (λ s. s.sizes.page) (state_is c.self.view_is);
       entry_is = ap (λ s. file_at s c.in-Some.file) (state_is c.self.view_is);
-      count_is = omega (arith, c.min-count.ensures, c.saturating_sub-left.ensures, c.size.ensures);
-      some = omega arith;
+      count_is = omega (arith, c.min-count.ensures, c.size-size.ensures);
+      some = (let filled = eqb-false (length c.args.out.now) 0 (sym c.is_empty.ensures ∙ c.if-is_empty.false) in omega (arith, c.min-count.ensures, c.if-size-offset.false, filled));
     } in
     let short : touched_count c.page-page_size.result c.args.offset count ≤ MAX_TOUCHED = not_less MAX_TOUCHED (touched_count c.page-page_size.result c.args.offset c.min-count.result) (sym c.is_too_long.ensures ∙ c.if-is_too_long.false) in
     let size : length (take count c.args.out.now) ≡ count = omega (arith, length-take count c.args.out.now, c.min-count.ensures) in
@@ -88,15 +89,15 @@ pub read-requires-clause-bound : goal.read-requires-clause-bound
 read-requires-clause-bound c =
     let known : c.in-Some.file < length c.self.inside.pages.files = c.self.invariant.core.known c.args.handle.0 c.in-Some.file (sym c.in-Some.ensures) in
     let small = c.self.invariant.core.bounded c.in-Some.file in
-    omega (arith, small, length-take c.min-count.result c.args.out.now, c.min-count.ensures, c.saturating_sub-left.ensures, c.size.ensures)
+    omega (arith, small, length-take c.min-count.result c.args.out.now, c.min-count.ensures, c.size-size.ensures)
 
 pub read-requires-clause-sized : goal.read-requires-clause-sized
 read-requires-clause-sized c =
     let known : c.in-Some.file < length c.self.inside.pages.files = c.self.invariant.core.known c.args.handle.0 c.in-Some.file (sym c.in-Some.ensures) in
     subst (λ (n : ℕ). AreSized n (slice_index_or c.self.inside.pages.files c.in-Some.file no_file).pages) (sym c.page-page_size.ensures.value) (c.self.invariant.core.sized c.in-Some.file)
 
-pub size-requires : goal.size-requires
-size-requires c = c.self.invariant.core.known c.args.handle.0 c.in-Some.file (sym c.in-Some.ensures)
+pub size-size-requires : goal.size-size-requires
+size-size-requires c = c.self.invariant.core.known c.args.handle.0 c.in-Some.file (sym c.in-Some.ensures)
 
 pub read-requires-clause-here : goal.read-requires-clause-here
 read-requires-clause-here c = c.self.invariant.core.known c.args.handle.0 c.in-Some.file (sym c.in-Some.ensures)

@@ -1,15 +1,14 @@
-use Rattle.std.proofs.Common.{◌∙◌}
-use Rattle.filesvc.proofs.Laws.{serves_trans}
+use Rattle.std.proofs.Common.{◌≤◌, true, arith, inl, length, subst, sym, ◌∙◌}
+use Rattle.pc_types.specs.declared.limits.TheConstants.{MAX_FILES}
+use Rattle.filesvc.specs.Rooms.{FlushesOne}
+use Rattle.filesvc.specs.Seen.{SoloSeen}
+use Rattle.filesvc.specs.Service.{NothingToFlush}
 use Rattle.filesvc.proofs.solo.Solo.flush_one.Goals as goal
 
-pub returns-in-Refused-Memory-clause-serves : goal.returns-in-Refused-Memory-clause-serves
-returns-in-Refused-Memory-clause-serves g c = serves_trans _ _ _ c.files.invariant.serves c.flush_file.ensures.serves
+pub returns-clause-flushes : goal.returns-clause-flushes
+returns-clause-flushes g c =
+    let few : length c.files.self.world.core.files ≤ MAX_FILES = subst (λ (s : SoloSeen). length s.world.core.files ≤ MAX_FILES) (c.self.view_is ∙ sym c.files.invariant.same) c.self.invariant.few in
+    inl (c.files.invariant.same, subst NothingToFlush c.files.invariant.same (λ f less. c.files.invariant.nothing f (omega arith)))
 
-pub returns-in-Written-clause-serves : goal.returns-in-Written-clause-serves
-returns-in-Written-clause-serves g c = serves_trans _ _ _ c.files.invariant.serves c.flush_file.ensures.serves
-
-pub returns-in_default-clause-serves : goal.returns-in_default-clause-serves
-returns-in_default-clause-serves g c = serves_trans _ _ _ c.files.invariant.serves c.flush_file.ensures.serves
-
-pub files-preserved : goal.files-preserved
-files-preserved g c = record { serves = serves_trans _ _ _ c.files.invariant.serves c.flush_file.ensures.serves; attempts = c.flush_file.ensures.attempts ∙ c.files.invariant.attempts }
+pub returns-in-Written-clause-flushes : goal.returns-in-Written-clause-flushes
+returns-in-Written-clause-flushes g c = subst (λ s. FlushesOne s true c.flush_file.new.self) c.files.invariant.same (record { 0 = c.files.file }, c.files.invariant.nothing, c.in-Written.ensures.flush)

@@ -1,7 +1,11 @@
+use Rattle.std.proofs.Common.{true, sym, ◌∙◌}
+use Rattle.filesvc.specs.Rooms.{FlushesOne}
 use Rattle.filesvc.specs.Seen.{SoloSeen}
-use Rattle.filesvc.proofs.RoomLaws.{evicted_serves, evicted_service}
+use Rattle.filesvc.proofs.Laws.{serves_trans}
+use Rattle.filesvc.proofs.RoomLaws.{evicted_serves, evicted_service, flushed_for_frame}
 use Rattle.filesvc.proofs.WorldLaws.{service_sound}
 use Rattle.filesvc.proofs.solo.Solo.make_room.Goals as goal
+use Rattle.filesvc.proofs.solo.Solo.make_room.Goals.{in-NoFrame+else-is_some, in-DirtyLimit}
 
 pub invariant_of-self : goal.invariant_of-self
 invariant_of-self g c =
@@ -10,3 +14,18 @@ invariant_of-self g c =
 
 pub returns-then-is_some-clause-serves : goal.returns-then-is_some-clause-serves
 returns-then-is_some-clause-serves g c = rw (← c.self.view_is) (evicted_serves _ _ _ c.age.result c.evict.result c.age.ensures c.evict.ensures (service_sound _ _ _ _ c.self.invariant))
+
+pub returns-then-branch-clause-serves : goal.returns-then-branch-clause-serves
+returns-then-branch-clause-serves g c = elim c.match-refusal.branch [
+  | in-NoFrame+else-is_some w ↦ rw (← c.self.view_is) (serves_trans _ _ _ (evicted_serves _ _ _ w.age.result w.evict.result w.age.ensures w.evict.ensures (service_sound _ _ _ _ c.self.invariant)) (rw w.self-is at c.flush_one.ensures.serves))
+  | in-DirtyLimit w ↦ rw w.self-is at c.flush_one.ensures.serves
+]
+
+pub returns-then-branch-clause-made : goal.returns-then-branch-clause-made
+returns-then-branch-clause-made g c =
+    let s : SoloSeen = record { world = c.self.inside.world; errors = c.self.inside.recorder; attempts = c.self.inside.attempts } in
+    let f : FlushesOne c.match-refusal.self true c.flush_one.new.self = rw c.if-branch.true at c.in_ok-flush_one.ensures.flushes in
+    elim c.match-refusal.branch [
+      | in-NoFrame+else-is_some w ↦ rw (w.in-NoFrame.is, ← c.self.view_is) (flushed_for_frame s c.flush_one.new.self _ _ w.age.result w.evict.result w.age.ensures w.evict.ensures (sym w.is_some.ensures ∙ w.if-is_some.false) (rw w.self-is at f))
+      | in-DirtyLimit w ↦ rw w.in-DirtyLimit.is (rw w.self-is at f)
+    ]

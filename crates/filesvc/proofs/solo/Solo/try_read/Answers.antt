@@ -39,6 +39,9 @@ returns-in-Bytes-clause-within g c =
     let len = length-take c.in-Bytes.count c.read.new.out in
     λ small. (let w = read_small _ _ c.args.handle c.args.offset (length c.args.out.now) (take c.in-Bytes.count c.read.new.out) c.self.invariant.bounded m.0.0 small in omega arith)
 
+pub invariant_of-self-in-Miss : goal.invariant_of-self-in-Miss
+invariant_of-self-in-Miss g c = service_kept _ _ _ _ _ (event.Read c.args.handle c.args.offset (length c.args.out.now)) _ refl c.read.ensures.made.0 c.read.ensures.made.1 c.self.invariant
+
 pub returns-in_err-fill-in-Miss-clause-serves : goal.returns-in_err-fill-in-Miss-clause-serves
 returns-in_err-fill-in-Miss-clause-serves g c =
     rw (← c.self.view_is) (serves_trans _ _ _ (read_serves _ c.args.handle c.args.offset (length c.args.out.now) _ _ c.read.ensures.made.0 c.read.ensures.made.1 c.self.invariant.reached) c.fill.ensures.serves)

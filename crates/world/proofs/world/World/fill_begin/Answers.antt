@@ -1,56 +1,30 @@
-use Rattle.std.proofs.Common.{◌≡◌, ℕ, List, length, ap, ◌∙◌, refl, inl}
-use Rattle.std.specs.Prelude.{replicate}
-use Rattle.std.proofs.lemmas.List.{length-replicate}
-use Rattle.pc_types.specs.Limits.{Sizes}
-use Rattle.cachecore.specs.declared.event.Reply.TheVariants as reply
+use Rattle.std.proofs.Common.{ap, inl, length, subst, sym, ◌∙◌}
+use Rattle.std.specs.Prelude.{Some}
+use Rattle.cachecore.specs.Step.{Step}
+use Rattle.cachecore.specs.declared.event.Event.TheVariants as event
 use Rattle.world.proofs.EventReplies.{fill_acted, fill_job_acted}
-use Rattle.world.proofs.WorldSteps.{fill_world, fill_job_apart, fill_job_world}
+use Rattle.world.proofs.Spares.{fill_back, with_spare}
+use Rattle.world.proofs.WorldSteps.{fill_job_world, fill_world}
 use Rattle.world.proofs.world.World.fill_begin.Goals as goal
 
--- the buffer that comes back was made as long as a page
-sized : (bytes buffer : List ℕ) (g sizes : Sizes) → bytes ≡ buffer → buffer ≡ replicate g.page 0 → g ≡ sizes → length bytes ≡ sizes.page
-sized bytes buffer g sizes back zeros same = ap length (back ∙ zeros) ∙ length-replicate g.page 0 ∙ ap (λ (x : Sizes). x.page) same
+pub invariant_of-self-in-Job : goal.invariant_of-self-in-Job
+invariant_of-self-in-Job g c =
+    let size = ap length (rw c.in-Job.ensures at c.fill_begin.ensures.back) ∙ c.in-Ok.ensures.size in
+    rw (c.ask.ensures.table, c.buffer_for.ensures.taken)
+    (fill_job_world c.self.inside.core.state c.self.inside.jobs _ c.self.invariant.0 c.args.handle c.args.page c.fill_begin.new.self.state c.in-Job.job (rw c.in-Job.ensures at c.fill_begin.ensures.step) (rw c.in-Job.ensures at c.fill_begin.ensures.job) size, tt)
 
-pub ask-requires-clause-apart : goal.ask-requires-clause-apart
-ask-requires-clause-apart g c = (fill_job_apart c.self.inside.core.state c.self.inside.jobs _ c.self.invariant c.args.handle c.args.page c.fill_begin.new.self.state c.in-Ok-Job.job (rw c.in-Ok-Job.field-0-is at c.in-Ok-Job.ensures.step)).0
+pub returns-in-Job : goal.returns-in-Job
+returns-in-Job g c =
+    let size = ap length (rw c.in-Job.ensures at c.fill_begin.ensures.back) ∙ c.in-Ok.ensures.size in
+    inl (fill_job_acted c.self.inside.core.state c.self.inside.jobs _ c.self.invariant.0 c.args.self.now c.self.view_is c.args.handle c.args.page c.fill_begin.new.self.state c.in-Job.job c.ask.new.self (rw c.in-Job.ensures at c.fill_begin.ensures.step) (rw c.in-Job.ensures at c.fill_begin.ensures.job) size c.ask.ensures.table c.ask.result c.ask.ensures.serial)
 
-pub invariant_of-self : goal.invariant_of-self
-invariant_of-self g c =
-    rw c.ask.ensures.table
-    (fill_job_world c.self.inside.core.state c.self.inside.jobs _ c.self.invariant c.args.handle c.args.page c.fill_begin.new.self.state c.in-Ok-Job.job (rw c.in-Ok-Job.field-0-is at c.in-Ok-Job.ensures.step) (rw c.in-Ok-Job.field-0-is at c.in-Ok-Job.ensures.job)
-    (sized _ _ c.geometry.result c.self.inside.core.state.sizes (rw c.in-Ok-Job.field-0-is at c.in-Ok-Job.ensures.back) c.in-Ok.ensures.zeros c.geometry.ensures))
+pub invariant_of-self-in-Answered : goal.invariant_of-self-in-Answered
+invariant_of-self-in-Answered g c =
+    let a = c.in-Answered.ensures in
+    with_spare (Some c.in-Answered.buffer) (c.self.invariant.0, fill_back c.fill_begin.result c.in-Answered.reply c.in-Ok.buffer c.in-Answered.buffer _ a c.fill_begin.ensures.back c.in-Ok.ensures.size)
+    (fill_world c.self.inside.core.state c.self.inside.jobs _ c.self.invariant.0 c.args.handle c.args.page c.in-Answered.reply c.fill_begin.new.self.state a.1 (subst (λ r. Step c.self.inside.core.state (event.FillBegin c.args.handle c.args.page) r c.fill_begin.new.self.state) (sym a.0) c.fill_begin.ensures.step))
 
-pub returns-in-Ok-Job : goal.returns-in-Ok-Job
-returns-in-Ok-Job g c =
-    inl (fill_job_acted c.self.inside.core.state c.self.inside.jobs _ c.self.invariant c.args.self.now c.self.view_is c.args.handle c.args.page c.fill_begin.new.self.state c.in-Ok-Job.job c.ask.new.self (rw c.in-Ok-Job.field-0-is at c.in-Ok-Job.ensures.step) (rw c.in-Ok-Job.field-0-is at c.in-Ok-Job.ensures.job)
-    (sized _ _ c.geometry.result c.self.inside.core.state.sizes (rw c.in-Ok-Job.field-0-is at c.in-Ok-Job.ensures.back) c.in-Ok.ensures.zeros c.geometry.ensures) c.ask.ensures.table c.ask.result c.ask.ensures.serial)
-
-pub invariant_of-self-in-Ok-Gone : goal.invariant_of-self-in-Ok-Gone
-invariant_of-self-in-Ok-Gone g c = fill_world c.self.inside.core.state c.self.inside.jobs _ c.self.invariant c.args.handle c.args.page reply.Gone c.fill_begin.new.self.state refl (rw c.in-Ok-Gone.field-0-is at c.in-Ok-Gone.ensures.step)
-
-pub returns-in-Ok-Gone : goal.returns-in-Ok-Gone
-returns-in-Ok-Gone g c = inl (fill_acted c.self.inside.core.state c.self.inside.jobs _ c.self.invariant c.args.self.now c.self.view_is c.args.handle c.args.page reply.Gone c.fill_begin.new.self.state refl (rw c.in-Ok-Gone.field-0-is at c.in-Ok-Gone.ensures.step))
-
-pub invariant_of-self-in-Ok-Wait : goal.invariant_of-self-in-Ok-Wait
-invariant_of-self-in-Ok-Wait g c = fill_world c.self.inside.core.state c.self.inside.jobs _ c.self.invariant c.args.handle c.args.page (reply.Wait c.in-Ok-Wait.page) c.fill_begin.new.self.state refl (rw c.in-Ok-Wait.field-0-is at c.in-Ok-Wait.ensures.step)
-
-pub returns-in-Ok-Wait : goal.returns-in-Ok-Wait
-returns-in-Ok-Wait g c = inl (fill_acted c.self.inside.core.state c.self.inside.jobs _ c.self.invariant c.args.self.now c.self.view_is c.args.handle c.args.page (reply.Wait c.in-Ok-Wait.page) c.fill_begin.new.self.state refl (rw c.in-Ok-Wait.field-0-is at c.in-Ok-Wait.ensures.step))
-
-pub invariant_of-self-in-Ok-Present : goal.invariant_of-self-in-Ok-Present
-invariant_of-self-in-Ok-Present g c = fill_world c.self.inside.core.state c.self.inside.jobs _ c.self.invariant c.args.handle c.args.page reply.Present c.fill_begin.new.self.state refl (rw c.in-Ok-Present.field-0-is at c.in-Ok-Present.ensures.step)
-
-pub returns-in-Ok-Present : goal.returns-in-Ok-Present
-returns-in-Ok-Present g c = inl (fill_acted c.self.inside.core.state c.self.inside.jobs _ c.self.invariant c.args.self.now c.self.view_is c.args.handle c.args.page reply.Present c.fill_begin.new.self.state refl (rw c.in-Ok-Present.field-0-is at c.in-Ok-Present.ensures.step))
-
-pub invariant_of-self-in-Ok-Filled : goal.invariant_of-self-in-Ok-Filled
-invariant_of-self-in-Ok-Filled g c = fill_world c.self.inside.core.state c.self.inside.jobs _ c.self.invariant c.args.handle c.args.page reply.Filled c.fill_begin.new.self.state refl (rw c.in-Ok-Filled.field-0-is at c.in-Ok-Filled.ensures.step)
-
-pub returns-in-Ok-Filled : goal.returns-in-Ok-Filled
-returns-in-Ok-Filled g c = inl (fill_acted c.self.inside.core.state c.self.inside.jobs _ c.self.invariant c.args.self.now c.self.view_is c.args.handle c.args.page reply.Filled c.fill_begin.new.self.state refl (rw c.in-Ok-Filled.field-0-is at c.in-Ok-Filled.ensures.step))
-
-pub invariant_of-self-in-Err : goal.invariant_of-self-in-Err
-invariant_of-self-in-Err g c = fill_world c.self.inside.core.state c.self.inside.jobs _ c.self.invariant c.args.handle c.args.page (reply.Refused c.in-Err.refused.refusal) c.fill_begin.new.self.state refl c.in-Err.ensures.step
-
-pub returns : goal.returns
-returns g c = inl (fill_acted c.self.inside.core.state c.self.inside.jobs _ c.self.invariant c.args.self.now c.self.view_is c.args.handle c.args.page (reply.Refused c.in-Err.refused.refusal) c.fill_begin.new.self.state refl c.in-Err.ensures.step)
+pub returns-in-Answered : goal.returns-in-Answered
+returns-in-Answered g c =
+    let a = c.in-Answered.ensures in
+    inl (fill_acted c.self.inside.core.state c.self.inside.jobs _ c.self.invariant.0 c.args.self.now c.self.view_is c.args.handle c.args.page c.in-Answered.reply c.fill_begin.new.self.state a.1 (subst (λ r. Step c.self.inside.core.state (event.FillBegin c.args.handle c.args.page) r c.fill_begin.new.self.state) (sym a.0) c.fill_begin.ensures.step))

@@ -23,4 +23,4 @@ whole_tags core jobs b f p (Ok tags.Absent) h = (h.0, same_filling core jobs b f
 whole_tags core jobs b f p (Ok (tags.Cached t)) h = h
 
 pub returns : goal.returns
-returns g c = subst (λ (h : Held). TagsAre h.core c.args.file.0 c.args.page.0 c.tags.result) c.self.view_is (whole_tags c.self.inside.core.state c.self.inside.jobs c.self.invariant.bare c.args.file.0 c.args.page.0 c.tags.result c.tags.ensures)
+returns g c = subst (λ (h : Held). TagsAre h.core c.args.file.0 c.args.page.0 c.tags.result) c.self.view_is (whole_tags c.self.inside.core.state c.self.inside.jobs c.self.invariant.0.bare c.args.file.0 c.args.page.0 c.tags.result c.tags.ensures)

@@ -1,0 +1,49 @@
+-- Inside this crate: how room is made: an idle page is evicted, or a page written back.
+use Rattle.std.specs.Prelude.{◌≡◌, ℕ, ◌<◌, ◌≤◌, ◌⊎◌, Bool, true, false, length, Some}
+use Rattle.pc_types.specs.declared.ids.FileId.{FileId}
+use Rattle.pc_types.specs.declared.ids.PageIndex.{PageIndex}
+use Rattle.pc_types.specs.declared.refusal.Refusal.{Refusal}
+use Rattle.pc_types.specs.declared.refusal.Refusal.TheVariants.{DirtyLimit, Memory, NoFrame, NoSuchFile}
+use Rattle.cachecore.specs.declared.event.Event.TheVariants as event
+use Rattle.cachecore.specs.declared.event.Reply.{Reply}
+use Rattle.cachecore.specs.declared.event.Reply.TheVariants as reply
+use Rattle.cachecore.specs.Step.{Step}
+use Rattle.cachecore.specs.Tests.{tests}
+use Rattle.world.specs.declared.step.Step.TheVariants as step
+use Rattle.filesvc.specs.Rests.{AtOnce}
+use Rattle.filesvc.specs.Seen.{SoloSeen}
+use Rattle.filesvc.specs.Service.{Faulted, NothingToFlush}
+
+-- a page of the file was written back
+abbrev pub WritesBack : SoloSeen → FileId → SoloSeen → Type 0
+WritesBack old f new = AtOnce old.world old.errors (step.FlushBegin f) reply.Written new.world new.errors
+
+-- how a flush of a file ended: a page was written; or there was none to write, or no such file, and nothing changed; or memory was
+-- refused; and else a device call failed, or no more of them can be counted
+abbrev pub IsFlush : SoloSeen → FileId → Reply → SoloSeen → Type 0
+IsFlush old f reply.Written new = WritesBack old f new
+IsFlush old f reply.Nothing new = (tests old.world.core (event.FlushBegin f) ≡ Some reply.Nothing) × (new ≡ old)
+IsFlush old f (reply.Refused Memory) new = Unit {0}
+IsFlush old f (reply.Refused NoSuchFile) new = (length old.world.core.files ≤ f.0) × (new ≡ old)
+IsFlush old f _ new = Faulted old new
+
+-- no file below this one has a page to write back
+abbrev pub NothingBelow : SoloSeen → ℕ → Type 0
+NothingBelow s n = (f : ℕ) → f < n → tests s.world.core (event.FlushBegin (record { 0 = f })) ≡ Some reply.Nothing
+
+-- whether a page was written back: of the first file that has one; or there was none in any file, and nothing changed, or a device call
+-- failed, or no more of them can be counted
+abbrev pub FlushesOne : SoloSeen → Bool → SoloSeen → Type 0
+FlushesOne old true new = (f : FileId) × NothingBelow old f.0 × WritesBack old f new
+FlushesOne old false new = ((new ≡ old) × NothingToFlush old) ⊎ Faulted old new
+
+-- an idle page was evicted, of the cache alone
+abbrev pub Evicts : SoloSeen → SoloSeen → Type 0
+Evicts old new = (f : FileId) × (p : PageIndex) × Step old.world.core event.Evict (reply.Evicted f p) new.world.core
+
+-- what was done where this was refused: for a frame a page was evicted or, where none was idle, one written back; for one more dirty page
+-- one was written back
+abbrev pub MakesRoom : SoloSeen → Refusal → SoloSeen → Type 0
+MakesRoom old NoFrame new = Evicts old new ⊎ ((tests old.world.core event.Evict ≡ Some reply.NoneIdle) × FlushesOne old true new)
+MakesRoom old DirtyLimit new = FlushesOne old true new
+MakesRoom old r new = ⊥
