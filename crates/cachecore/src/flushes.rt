@@ -91,6 +91,7 @@ impl CacheCore {
                 Ok(Ended::Done(buffer))
             }
             Err(code) => {
+                // DIRTY again, and counted: a sync that ends compares the counts (rules 9 and 14 of docs/DESIGN.md).
                 self.pages.end_write(request.file.0, request.page.0, true);
                 self.pages
                     .note_failure(request.file.0, u64::from(code.code()));
