@@ -9,7 +9,7 @@ use lib.ListN.{get_elem?}
 use Rattle.std.proofs.Math.Seq.{take-length}
 use Rattle.std.proofs.lemmas.List.{take-append-drop, take-append-le, nil_from_length}
 use Rattle.errseq.specs.declared.recording.Recording.{Recording}
-use Rattle.errseq.specs.Word.{turns, IsWithinTurn, IsCode, code_of, is_seen, word, word_set, sample_of, with_seen}
+use Rattle.errseq.specs.Word.{turns, IsWithinTurn, IsCode, code_of, is_seen, word, word_set, sample_of, with_seen, without_seen}
 use Rattle.errseq.specs.Recorded.{raised, last_code, word_of}
 use Rattle.errseq.specs.Samples.{StandsFor, AreCodes, FitsSample, FitsPass, FitsFound, recording, done_at}
 use Rattle.errseq.proofs.Prefixes.{prefix_self, prefix_length, prefix_more, prefix_at, none_at}
@@ -31,6 +31,11 @@ code_of_word start log s codes = code_of-word (counter start log) (last_code log
 
 pub with_seen_word : (start : ℕ) (log : Log) (n : ℕ) → AreCodes log → n ≡ word_of start log false → with_seen n ≡ word_of start log true
 with_seen_word start log n codes is = rw (ap is_seen is ∙ seen_of_word start log false codes) (let c : ℕ = counter start log in let l : ℕ = last_code log in let e : n ≡ c * 8192 + 0 + l = is in let so : n + 4096 ≡ c * 8192 + 4096 + l = omega arith in so)
+
+-- the word without SEEN is theirs without SEEN
+pub without_seen_word : (start : ℕ) (log : Log) (w : ℕ) → AreCodes log → StandsFor start w log → without_seen w ≡ word_of start log false
+without_seen_word start log w codes (inl u) = ap (λ b. if b then w - 4096 else w) (ap is_seen u ∙ seen_of_word start log false codes) ∙ u
+without_seen_word start log w codes (inr u) = ap (λ b. if b then w - 4096 else w) (ap is_seen u.1 ∙ seen_of_word start log true codes) ∙ (let c : ℕ = counter start log in let l : ℕ = last_code log in let e : w ≡ c * 8192 + 4096 + l = u.1 in let so : w - 4096 ≡ c * 8192 + 0 + l = omega arith in so)
 
 -- a word that is seen is not one that is unseen
 pub seen_apart : (start : ℕ) (xs ys : Log) → AreCodes xs → AreCodes ys → word_of start xs true ≡ word_of start ys false → ⊥
