@@ -168,7 +168,7 @@ IsOnDevice s f =
 abbrev pub Owes : SoloSeen → HandleSeen → Type 0
 Owes s h = h.pass.done < length (errors_of s h.file)
 
--- the premise of the counter of 19 bits: it did not come round since
+-- the premise of the counter: it did not come round since
 abbrev pub IsCounted : SoloSeen → HandleSeen → Type 0
 IsCounted s h = IsWithinTurn (raised (drop h.pass.done (errors_of s h.file)))
 

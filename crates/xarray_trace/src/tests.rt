@@ -1,6 +1,8 @@
 //! Traces with what they print, by the table of the trace language.
 
+use crate::answer::{Answer, print_answer};
 use crate::run::run_trace;
+use errseq::ErrWord;
 use std::alloc::Global;
 use std::process::Abort;
 use std::test::Fail;
@@ -129,4 +131,25 @@ fn hash_of_one_entry(rt: HostRuntime) -> Result<(), Fail> {
         trace,
         "none\nok\nhash 1 834e1413ff78565f\n",
     )
+}
+
+/// A word of at most 32 bits has the 8 digits of Linux's, and a wider one, which Linux doesn't have, has 16.
+#[test]
+fn wide_words_have_16_digits(rt: HostRuntime) -> Result<(), Fail> {
+    let (narrow, wide) = (ErrWord(0xffff_f005), ErrWord(0x1_0000_0005));
+    let answers = [
+        (Answer::Word(narrow), "word fffff005\n"),
+        (Answer::Word(wide), "word 0000000100000005\n"),
+        (Answer::Since(wide), "since 0000000100000005\n"),
+        (
+            Answer::Advanced(5, narrow, wide),
+            "code 5 since fffff005 word 0000000100000005\n",
+        ),
+    ];
+    for (answer, expected) in &answers {
+        let mut output = Vec::new(rt.alloc());
+        assert!(rt; print_answer(&mut output, *answer).is_ok());
+        assert_eq!(rt; std::str::from_utf8(output.as_slice())?, *expected);
+    }
+    Ok(())
 }
