@@ -6,6 +6,7 @@ pub mod Tracks
 pub mod Weaving
 pub mod LineLaws
 pub mod PlainLaws
+pub mod SparseLaws
 pub mod ReplayLaws
 pub mod Agreeing
 pub mod Walking

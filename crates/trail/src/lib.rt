@@ -13,6 +13,7 @@ mod plain;
 mod promises;
 pub mod replay;
 pub mod reserve;
+mod sparse;
 #[cfg(test)]
 mod tests;
 pub mod trail;

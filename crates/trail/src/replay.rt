@@ -54,9 +54,11 @@ impl PlainFiles {
             Event::Read(handle, offset, count) => {
                 Ok(self.replay_read(*handle, *offset, *count, reply, bytes))
             }
-            Event::Write(handle, offset, _) => self.replay_write(*handle, *offset, reply, bytes),
-            Event::Append(handle, _) => self.replay_append(*handle, reply, bytes),
-            Event::Truncate(handle, size) => self.replay_truncate(*handle, *size, reply),
+            Event::Write(handle, offset, _) => {
+                self.replay_write(alloc, *handle, *offset, reply, bytes)
+            }
+            Event::Append(handle, _) => self.replay_append(alloc, *handle, reply, bytes),
+            Event::Truncate(handle, size) => Ok(self.replay_truncate(*handle, *size, reply)),
             _ => Ok(true),
         }
     }
@@ -141,6 +143,7 @@ impl PlainFiles {
 
     fn replay_write(
         &mut self,
+        alloc: Global,
         handle: HandleId,
         offset: u64,
         reply: &Reply,
@@ -157,7 +160,7 @@ impl PlainFiles {
                 if !ends_at(*count, *end, offset, bytes) {
                     return Ok(false);
                 }
-                self.write(file, offset, bytes)?;
+                self.write(alloc, file, offset, bytes)?;
                 Ok(true)
             }
             _ => Ok(true),
@@ -166,6 +169,7 @@ impl PlainFiles {
 
     fn replay_append(
         &mut self,
+        alloc: Global,
         handle: HandleId,
         reply: &Reply,
         bytes: &[u8],
@@ -182,31 +186,25 @@ impl PlainFiles {
                 if !ends_at(*count, *end, size, bytes) {
                     return Ok(false);
                 }
-                self.write(file, size, bytes)?;
+                self.write(alloc, file, size, bytes)?;
                 Ok(true)
             }
             _ => Ok(true),
         }
     }
 
-    fn replay_truncate(
-        &mut self,
-        handle: HandleId,
-        size: u64,
-        reply: &Reply,
-    ) -> Result<bool, Refusal>
-        ensures answered { IfOk result (λ b. Answered (plain_of self.old) (event.Truncate handle size) reply.now b (plain_of self.new)) }
-        ensures refused { IsOkUnless result Refusal.Memory }
+    fn replay_truncate(&mut self, handle: HandleId, size: u64, reply: &Reply) -> bool
+        ensures answered { Answered (plain_of self.old) (event.Truncate handle size) reply.now result (plain_of self.new) }
     {
         match reply {
             Reply::Done => {
                 let Some(file) = self.handles.file(handle.0) else {
-                    return Ok(false);
+                    return false;
                 };
-                self.cut(file, size)?;
-                Ok(true)
+                self.cut(file, size);
+                true
             }
-            _ => Ok(true),
+            _ => true,
         }
     }
 }
