@@ -13,6 +13,8 @@ mod plain;
 mod promises;
 pub mod replay;
 pub mod reserve;
+#[cfg(test)]
+mod room_tests;
 mod sparse;
 #[cfg(test)]
 mod tests;

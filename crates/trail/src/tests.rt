@@ -1,6 +1,6 @@
-//! Trails that are written by hand, and whether they replay; and a trail's room.
+//! Trails that are written by hand, and whether they replay.
 
-use crate::{Entry, FullTrail, NoTrail, Reserve, Trail, replay_plain};
+use crate::{Entry, FullTrail, Reserve, Trail, replay_plain};
 use cachecore::{End, Event, Kind, Outcome, Reply};
 use pc_types::{Bytes, FileId, HandleId, PageIndex, Refusal, Serial};
 use std::alloc::Global;
@@ -9,16 +9,19 @@ use std::test::Fail;
 
 const HANDLE: HandleId = HandleId(0);
 
-const NONE: Reserve = Reserve {
+const LARGEST: u64 = 1 << 40;
+
+pub const NONE: Reserve = Reserve {
     fills: 0,
     others: 0,
 };
 
-fn none(alloc: Global) -> Bytes {
+pub fn none(alloc: Global) -> Bytes {
     Bytes::from_vec(Vec::new(alloc))
 }
 
-fn put<T: Trail>(trail: &mut T, event: Event, reply: Reply, bytes: &[u8]) -> bool {
+/// Adds an entry, where there is room for it beside nothing.
+pub fn put<T: Trail>(trail: &mut T, event: Event, reply: Reply, bytes: &[u8]) -> bool {
     let entry = Entry {
         seat: 0,
         event,
@@ -92,6 +95,7 @@ fn replays(rt: &impl Abort, alloc: Global, change: Change, answer: bool) -> Resu
     Ok(())
 }
 
+// An entry of no successful call may have any answer.
 #[test]
 fn agreeing_trails_replay(rt: HostRuntime) -> Result<(), Fail> {
     let alloc = rt.alloc();
@@ -101,6 +105,7 @@ fn agreeing_trails_replay(rt: HostRuntime) -> Result<(), Fail> {
     Ok(())
 }
 
+// One byte that is changed, or one number, and the trail does not replay.
 #[test]
 fn other_trails_do_not(rt: HostRuntime) -> Result<(), Fail> {
     let alloc = rt.alloc();
@@ -112,40 +117,101 @@ fn other_trails_do_not(rt: HostRuntime) -> Result<(), Fail> {
     Ok(())
 }
 
-fn fills_up(rt: &impl Abort, alloc: Global) -> Result<(), Refusal> {
-    let mut trail = FullTrail::new(alloc, 2, 1)?;
-    assert!(rt;
-        put(
-            &mut trail,
-            Event::Append(HANDLE, none(alloc)),
-            Reply::Wrote(1, 1),
-            &[5]
-        )
+fn wrote(alloc: Global, trail: &mut FullTrail, offset: u64, bytes: &[u8]) {
+    let len = bytes.len() as u64;
+    let reply = Reply::Wrote(len, offset.saturating_add(len));
+    put(
+        trail,
+        Event::Write(HANDLE, offset, none(alloc)),
+        reply,
+        bytes,
     );
-    assert!(rt;
-        !put(
-            &mut trail,
-            Event::Append(HANDLE, none(alloc)),
-            Reply::Wrote(1, 1),
-            &[5]
-        )
-    );
-    assert!(rt; put(&mut trail, Event::Age, Reply::Aged(0), &[]));
-    assert!(rt; !put(&mut trail, Event::Age, Reply::Aged(0), &[]));
-    assert_eq!(rt; trail.len(), 2);
-    trail.begin(3);
-    assert_eq!(rt; trail.len(), 0);
-    assert!(rt; trail.has_room(16, &NONE, 2, 1));
+}
+
+fn read(alloc: Global, trail: &mut FullTrail, offset: u64, count: u64, bytes: &[u8]) {
+    let reply = Reply::Bytes(none(alloc));
+    put(trail, Event::Read(HANDLE, offset, count), reply, bytes);
+}
+
+fn truncated(trail: &mut FullTrail, size: u64) {
+    put(trail, Event::Truncate(HANDLE, size), Reply::Done, &[]);
+}
+
+fn opened(trail: &mut FullTrail) {
+    trail.begin(7);
+    put(trail, Event::Create, Reply::File(FileId(0)), &[]);
+    put(trail, Event::Open(FileId(0)), Reply::Handle(HANDLE), &[]);
+}
+
+// A file of 2^40 bytes takes no more memory than what is written to it.
+#[test]
+fn a_truncation_to_2_40_replays(rt: HostRuntime) -> Result<(), Fail> {
+    let alloc = rt.alloc();
+    let Ok(mut trail) = FullTrail::new(alloc, 16, 64) else {
+        return Ok(());
+    };
+    opened(&mut trail);
+    wrote(alloc, &mut trail, 0, &[0xaa]);
+    truncated(&mut trail, LARGEST);
+    read(alloc, &mut trail, 0, 3, &[0xaa, 0, 0]);
+    read(alloc, &mut trail, LARGEST - 1, 4, &[0]);
+    read(alloc, &mut trail, LARGEST, 4, &[]);
+    wrote(alloc, &mut trail, LARGEST - 1, &[0xbb]);
+    read(alloc, &mut trail, LARGEST - 2, 9, &[0, 0xbb]);
+    put(&mut trail, Event::Size(HANDLE), Reply::Size(LARGEST), &[]);
+    assert_eq!(&rt; trail.count(), 10);
+    let checked = replay_plain(alloc, &trail);
+    assert!(&rt; matches!(&checked, Ok(Some(_))));
     Ok(())
 }
 
+fn cut_and_grown(alloc: Global, old: u8) -> Result<bool, Refusal> {
+    let mut trail = FullTrail::new(alloc, 16, 64)?;
+    opened(&mut trail);
+    wrote(alloc, &mut trail, 4094, &[1, 2, 3, 4]);
+    read(alloc, &mut trail, 4093, 9, &[0, 1, 2, 3, 4]);
+    truncated(&mut trail, 4095);
+    truncated(&mut trail, LARGEST);
+    read(alloc, &mut trail, 4094, 4, &[1, old, 0, 0]);
+    truncated(&mut trail, 0);
+    truncated(&mut trail, LARGEST);
+    read(alloc, &mut trail, 4094, 2, &[0, 0]);
+    Ok(replay_plain(alloc, &trail)?.is_some())
+}
+
+// Bytes that were cut off do not come back as the file grows.
 #[test]
-fn room_is_counted(rt: HostRuntime) -> Result<(), Fail> {
-    assert!(&rt; fills_up(&rt, rt.alloc()).is_ok());
-    let mut trail = NoTrail::new();
-    trail.begin(3);
-    assert!(&rt; put(&mut trail, Event::Age, Reply::Aged(0), &[1, 2, 3]));
-    assert_eq!(&rt; trail.count(), 1);
-    assert!(&rt; !trail.has_room(16, &NONE, u64::MAX, 0));
+fn cut_bytes_stay_gone(rt: HostRuntime) -> Result<(), Fail> {
+    assert!(&rt; matches!(cut_and_grown(rt.alloc(), 0), Ok(true)));
+    assert!(&rt; matches!(cut_and_grown(rt.alloc(), 2), Ok(false)));
+    Ok(())
+}
+
+fn appended(alloc: Global, end: u64) -> Result<bool, Refusal> {
+    let mut trail = FullTrail::new(alloc, 16, 64)?;
+    opened(&mut trail);
+    wrote(alloc, &mut trail, 2, &[7]);
+    put(
+        &mut trail,
+        Event::Append(HANDLE, none(alloc)),
+        Reply::Wrote(2, end),
+        &[8, 9],
+    );
+    read(alloc, &mut trail, 0, 9, &[0, 0, 7, 8, 9]);
+    put(&mut trail, Event::Close(HANDLE), Reply::Closed, &[]);
+    put(
+        &mut trail,
+        Event::Open(FileId(0)),
+        Reply::Handle(HANDLE),
+        &[],
+    );
+    Ok(replay_plain(alloc, &trail)?.is_some())
+}
+
+// An append writes at the end of its file, and a handle that was closed is the lowest that is free.
+#[test]
+fn appends_end_where_they_ended(rt: HostRuntime) -> Result<(), Fail> {
+    assert!(&rt; matches!(appended(rt.alloc(), 5), Ok(true)));
+    assert!(&rt; matches!(appended(rt.alloc(), 6), Ok(false)));
     Ok(())
 }
