@@ -4,6 +4,8 @@ use Rattle.std.specs.Prelude.{is_some}
 use Rattle.atomic_table.specs.Seated.{TableId}
 use Rattle.blockdev.specs.Device.{Told, max_calls}
 use Rattle.errboard.specs.Shown.{RecorderSeen}
+use Rattle.pc_types.specs.Limits.{Sizes}
+use Rattle.pc_types.specs.declared.limits.TheConstants.{MIN_FRAMES}
 use Rattle.cachecore.specs.declared.event.Event.{Event}
 use Rattle.cachecore.specs.declared.event.Reply.{Reply}
 use Rattle.world.specs.Plain.{plain_after}
@@ -33,6 +35,7 @@ module _ (name : ℕ) (w new : Held) (table : TableId) (errors : RecorderSeen) (
     reached = λ t. reached_step (world_of w) (world_of new) (Act e r) (s.reached (tells t)) m;
     counted = subst (λ (x : Told). x.calls ≤ max_calls) (sym d) s.counted;
     bounded = bounded_stays (world_of w) (world_of new) (Act e r) m s.bounded;
+    frames = subst (λ (z : Sizes). MIN_FRAMES ≤ z.frames) (sym (stays (world_of w) (world_of new) (Act e r) m).0) s.frames;
     few = few_stays (world_of w) (world_of new) (Act e r) m s.few;
     serials = (let a = next_stays (world_of w) (world_of new) (Act e r) (ap not j) m in let b : new.device.calls ≡ w.device.calls = ap (λ (x : Told). x.calls) d in let c = s.serials in omega arith);
   }

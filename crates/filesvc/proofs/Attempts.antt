@@ -36,7 +36,7 @@ use Rattle.filesvc.proofs.Acted.{service_acted}
 use Rattle.filesvc.proofs.CallSteps.{call_keeps, comes, is_call, is_own, no_job, own_reply, plain_refused, wrote_all}
 use Rattle.filesvc.proofs.FileSizes.{lengths_stay}
 use Rattle.filesvc.proofs.Laws.{keeps_counted, keeps_trans, serves_counted, serves_refl, serves_trans}
-use Rattle.filesvc.proofs.RoomLaws.{fill_refuses}
+use Rattle.filesvc.proofs.RoomLaws.{fill_refuses, room_before}
 use Rattle.filesvc.proofs.WorldLaws.{made_keeps}
 
 -- ---- refusals
@@ -55,12 +55,15 @@ refused_before old mid h e r new s x = by_refusal r x
     by_refusal Memory x = tt
     by_refusal (Io code) x = elim x [ inl a ↦ inl (faulted _ _ _ s.keeps.faults a) | inr a ↦ inr a ]
     by_refusal Turns x = x
+    by_refusal NoFrame (inl x) = inl (elim x [ inl a ↦ inl (before e NoFrame a) | inr a ↦ inr (a.0, before (event.FillBegin h a.0) NoFrame a.1) ])
+    by_refusal NoFrame (inr x) = inr (room_before old mid new NoFrame s x)
     by_refusal r x = elim x [ inl a ↦ inl (before e r a) | inr a ↦ inr (a.0, before (event.FillBegin h a.0) r a.1) ]
 
 by_cache : (old : SoloSeen) (h : HandleId) (e : Event) (r : Refusal) (new : SoloSeen) → is_own r ≡ true → Refuses old e r → IsRefusal old h e r new
 by_cache old h e Memory new own x = tt
 by_cache old h e (Io code) new own x = absurd cc
 by_cache old h e Turns new own x = absurd cc
+by_cache old h e NoFrame new own x = inl (inl x)
 by_cache old h e r new own x = inl x
 
 -- ---- one attempt

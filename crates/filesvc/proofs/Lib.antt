@@ -13,3 +13,6 @@ pub mod Laws
 pub mod SyncLaws
 pub mod WorldLaws
 pub mod RoomLaws
+pub mod Load
+pub mod Sizes
+pub mod Enough

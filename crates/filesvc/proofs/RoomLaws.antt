@@ -14,7 +14,7 @@ use Rattle.pc_types.specs.declared.ids.PageIndex.{PageIndex}
 use Rattle.pc_types.specs.declared.refusal.Refusal.{Refusal}
 use Rattle.pc_types.specs.declared.ids.Serial.{Serial}
 use Rattle.pc_types.specs.declared.limits.TheConstants.{MAX_IN_FLIGHT, SERIAL_END}
-use Rattle.pc_types.specs.declared.refusal.Refusal.TheVariants.{Io, Memory, NoFrame, NoSuchFile, TooManyInFlight, Turns}
+use Rattle.pc_types.specs.declared.refusal.Refusal.TheVariants.{DirtyLimit, Io, Memory, NoFrame, NoSuchFile, TooManyInFlight, Turns}
 use Rattle.pc_types.specs.declared.kind.Kind.{Kind}
 use Rattle.pc_types.specs.declared.kind.Kind.TheVariants.{Fill, Flush}
 use Rattle.cachecore.specs.declared.event.End.{End}
@@ -41,7 +41,7 @@ use Rattle.filesvc.specs.Rests as rests
 use Rattle.filesvc.specs.Rests.{AtOnce, IsService}
 use Rattle.filesvc.specs.Rooms.{FlushesOne, IsFlush, MakesRoom}
 use Rattle.filesvc.specs.Seen.{SoloSeen}
-use Rattle.filesvc.specs.Service.{Faulted, IsFillRefusal, IsRefusal, Serves}
+use Rattle.filesvc.specs.Service.{Faulted, IsFillRefusal, IsRefusal, IsWithoutRoom, Serves}
 use Rattle.filesvc.proofs.Acted.{service_acted}
 use Rattle.filesvc.proofs.Laws.{serves_refl, serves_trans}
 use Rattle.filesvc.proofs.WorldLaws as laws
@@ -105,6 +105,8 @@ fill_refusal_by : (s new : SoloSeen) (h : HandleId) (p : PageIndex) (r : Refusal
 fill_refusal_by s new h p Memory x = tt
 fill_refusal_by s new h p (Io code) (inl e) = absurd cc
 fill_refusal_by s new h p (Io code) (inr a) = absurd (let f = fill_fair _ _ _ _ _ a in cc)
+fill_refusal_by s new h p NoFrame (inl e) = absurd cc
+fill_refusal_by s new h p NoFrame (inr a) = inl (s, serves_refl s, a)
 fill_refusal_by s new h p r (inl e) = absurd cc
 fill_refusal_by s new h p r (inr a) = (s, serves_refl s, a)
 
@@ -117,12 +119,41 @@ room_refused s new h p r (Ok _) f e = tt
 room_refused s new h p r (Err x) f (inl e) = subst (λ y. IsFillRefusal s h p y new) (sym e) f
 room_refused s new h p r (Err x) f (inr e) = subst (λ y. IsFillRefusal s h p y new) (sym e) tt
 
+-- ---- want of room since before
+
+pub faulted_before : (old mid new : SoloSeen) → Serves old mid → Faulted mid new → Faulted old new
+faulted_before old mid new s (inl x) = inl (let y = s.keeps.faults in omega arith)
+faulted_before old mid new s (inr x) = inr x
+
+pub room_before : (old mid new : SoloSeen) (r : Refusal) → Serves old mid → IsWithoutRoom mid r new → IsWithoutRoom old r new
+room_before old mid new NoFrame s (inl x) = inl x
+room_before old mid new NoFrame s (inr x) = inr (faulted_before old mid new s x)
+room_before old mid new DirtyLimit s (inl x) = inl x
+room_before old mid new DirtyLimit s (inr x) = inr (faulted_before old mid new s x)
+room_before old mid new r s x = tt
+
+-- the frames for a call could not be had
+pub frames_refused : (old new : SoloSeen) (h : HandleId) (p : PageIndex) (r : Refusal) → (r ≡ NoFrame) ⊎ (r ≡ Memory) → IsWithoutRoom old r new → IsFillRefusal old h p r new
+frames_refused old new h p NoFrame k x = inr x
+frames_refused old new h p Memory k x = tt
+frames_refused old new h p r (inl k) x = absurd cc
+frames_refused old new h p r (inr k) x = absurd cc
+
+pub fill_refusal_before : (old mid new : SoloSeen) (h : HandleId) (p : PageIndex) (r : Refusal) → Serves old mid → IsFillRefusal mid h p r new → IsFillRefusal old h p r new
+fill_refusal_before old mid new h p Memory s x = tt
+fill_refusal_before old mid new h p (Io code) s x = faulted_before old mid new s x
+fill_refusal_before old mid new h p NoFrame s (inl x) = inl (x.0, serves_trans old mid x.0 s x.1, x.2)
+fill_refusal_before old mid new h p NoFrame s (inr x) = inr (room_before old mid new NoFrame s x)
+fill_refusal_before old mid new h p r s x = (x.0, serves_trans old mid x.0 s x.1, x.2)
+
 -- a refused fill refuses the event that wanted the page
 pub fill_refuses : (old mid new : SoloSeen) (h : HandleId) (p : PageIndex) (e : Event) (r : Refusal) → Serves old mid → IsFillRefusal mid h p r new → IsRefusal old h e r new
 fill_refuses old mid new h p e Memory s x = tt
 fill_refuses old mid new h p e (Io code) s (inl x) = inl (let y = s.keeps.faults in omega arith)
 fill_refuses old mid new h p e (Io code) s (inr x) = inr x
 fill_refuses old mid new h p e Turns s x = absurd (let f = fill_fair _ _ _ _ _ x.2 in cc)
+fill_refuses old mid new h p e NoFrame s (inl x) = inl (inr (p, (x.0, serves_trans old mid x.0 s x.1, x.2)))
+fill_refuses old mid new h p e NoFrame s (inr x) = inr (room_before old mid new NoFrame s x)
 fill_refuses old mid new h p e r s x = inr (p, (x.0, serves_trans old mid x.0 s x.1, x.2))
 
 -- ---- a fill in one whose device call failed
@@ -247,7 +278,7 @@ end_of_flush w new t x r is kind live m = by (finmap.get w.outcomes t) (subst (�
         flush_ended w.core new.core t x o r live (subst (λ q. FlushEndReply w.core t q o r new.core) is ended)
 
 -- the request of a flush that has begun
-begun_flush : (old begun : Held) (f : FileId) (t : Serial) → Made old (event.FlushBegin f) (reply.Job t) begun → (x : Request) × (finmap.get begun.core.requests t.0 ≡ Some x) × (x.kind ≡ Flush) × (x.dropped ≡ false)
+pub begun_flush : (old begun : Held) (f : FileId) (t : Serial) → Made old (event.FlushBegin f) (reply.Job t) begun → (x : Request) × (finmap.get begun.core.requests t.0 ≡ Some x) × (x.kind ≡ Flush) × (x.dropped ≡ false)
 begun_flush old begun f t m =
     let b = flush_begins old.core begun.core (event.FlushBegin f) t refl m.0.0 in
     let put : (x : Request) → finmap.get (finmap.insert old.core.requests old.core.next x) t.0 ≡ Some x = λ x. subst (λ n. finmap.get (finmap.insert old.core.requests n x) t.0 ≡ Some x) b.serial (get-insert1 old.core.requests t.0 x t.0 ∙ put1_here _ t.0 _) in
@@ -286,3 +317,11 @@ flushed_for_frame s new aged mid n r a e none f =
     let x = none_evicted aged.core mid.core r none e.0.0 in
     let still = held_same aged mid event.Evict (evicted r) e x.1 ∙ same in
     inr (ap (λ (w : Held). tests w.core event.Evict) (sym same) ∙ x.0, subst (λ w. FlushesOne (record s { world = w }) true new) still f)
+
+-- and where the flush failed too, or found nothing
+pub stuck_for_frame : (s new : SoloSeen) (aged mid : Held) (n : ℕ) (r : Option (FileId × PageIndex)) → Made s.world event.Age (reply.Aged n) aged → Made aged event.Evict (evicted r) mid → is_some r ≡ false → FlushesOne (record s { world = mid }) false new → (tests s.world.core event.Evict ≡ Some reply.NoneIdle) × FlushesOne s false new
+stuck_for_frame s new aged mid n r a e none f =
+    let same = held_same s.world aged event.Age (reply.Aged n) a a.0.0 in
+    let x = none_evicted aged.core mid.core r none e.0.0 in
+    let still = held_same aged mid event.Evict (evicted r) e x.1 ∙ same in
+    (ap (λ (w : Held). tests w.core event.Evict) (sym same) ∙ x.0, subst (λ w. FlushesOne (record s { world = w }) false new) still f)

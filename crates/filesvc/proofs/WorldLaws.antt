@@ -12,7 +12,8 @@ use Rattle.pc_types.specs.declared.ids.HandleId.{HandleId}
 use Rattle.pc_types.specs.declared.ids.PageIndex.{PageIndex}
 use Rattle.pc_types.specs.declared.ids.Serial.{Serial}
 use Rattle.pc_types.specs.declared.ids.SyncId.{SyncId}
-use Rattle.pc_types.specs.declared.limits.TheConstants.{MAX_FILES}
+use Rattle.pc_types.specs.Limits.{Sizes}
+use Rattle.pc_types.specs.declared.limits.TheConstants.{MAX_FILES, MIN_FRAMES}
 use Rattle.pc_types.specs.declared.kind.Kind.{Kind}
 use Rattle.pc_types.specs.declared.kind.Kind.TheVariants.{Fill, Flush}
 use Rattle.pc_types.specs.declared.refusal.Refusal.TheVariants.{Memory}
@@ -212,6 +213,7 @@ goes_service name s t table i g rest n = record {
   counted = g.sound.counted;
   bounded = g.sound.bounded;
   few = subst (λ k. k ≤ MAX_FILES) (sym g.serves.keeps.count) i.few;
+  frames = subst (λ (z : Sizes). MIN_FRAMES ≤ z.frames) (sym g.serves.keeps.sizes) i.frames;
   serials = n;
 }
 

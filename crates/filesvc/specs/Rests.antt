@@ -7,7 +7,7 @@ use Rattle.errboard.specs.Shown.{RecorderSeen}
 use Rattle.errboard.specs.Steps.{with_recording}
 use Rattle.errseq.specs.declared.recording.Recording.{Recording}
 use Rattle.pc_types.specs.declared.ids.Serial.{Serial}
-use Rattle.pc_types.specs.declared.limits.TheConstants.{MAX_FILES, MAX_FILE_SIZE}
+use Rattle.pc_types.specs.declared.limits.TheConstants.{MAX_FILES, MAX_FILE_SIZE, MIN_FRAMES}
 use Rattle.cachecore.specs.declared.event.Reply.{Reply}
 use Rattle.cachecore.specs.declared.event.Reply.TheVariants as reply
 use Rattle.cachecore.specs.Flushing.{flush_of}
@@ -33,6 +33,8 @@ pub record IsService (name : ℕ) (w : Held) (table : TableId) (errors : Recorde
   pub counted : w.device.calls ≤ max_calls
   pub bounded : (f : ℕ) → (file_at w.core f).size ≤ MAX_FILE_SIZE
   pub few : length w.core.files ≤ MAX_FILES
+  -- a call finds frames for all pages that it touches
+  pub frames : MIN_FRAMES ≤ w.core.sizes.frames
   -- no more serials were given than device calls were made
   pub serials : w.core.next ≤ w.device.calls
 

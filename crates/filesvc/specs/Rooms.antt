@@ -1,5 +1,5 @@
 -- Inside this crate: how room is made: an idle page is evicted, or a page written back.
-use Rattle.std.specs.Prelude.{◌≡◌, ℕ, ◌<◌, ◌≤◌, ◌⊎◌, Bool, true, false, length, Some}
+use Rattle.std.specs.Prelude.{◌≡◌, ℕ, ◌+◌, ◌<◌, ◌≤◌, ◌⊎◌, Bool, true, false, length, Some}
 use Rattle.pc_types.specs.declared.ids.FileId.{FileId}
 use Rattle.pc_types.specs.declared.ids.PageIndex.{PageIndex}
 use Rattle.pc_types.specs.declared.refusal.Refusal.{Refusal}
@@ -7,12 +7,18 @@ use Rattle.pc_types.specs.declared.refusal.Refusal.TheVariants.{DirtyLimit, Memo
 use Rattle.cachecore.specs.declared.event.Event.TheVariants as event
 use Rattle.cachecore.specs.declared.event.Reply.{Reply}
 use Rattle.cachecore.specs.declared.event.Reply.TheVariants as reply
+use Rattle.cachecore.specs.State.{State, cached_total, dirty_total}
 use Rattle.cachecore.specs.Step.{Step}
 use Rattle.cachecore.specs.Tests.{tests}
+use Rattle.cachecore.specs.Wants.{lacks_frames, passes_limit}
 use Rattle.world.specs.declared.step.Step.TheVariants as step
 use Rattle.filesvc.specs.Rests.{AtOnce}
 use Rattle.filesvc.specs.Seen.{SoloSeen}
 use Rattle.filesvc.specs.Service.{Faulted, NothingToFlush}
+
+-- how many pages are cached, and how many DIRTY: what making room takes away
+abbrev pub load : State → ℕ
+load s = cached_total s + dirty_total s
 
 -- a page of the file was written back
 abbrev pub WritesBack : SoloSeen → FileId → SoloSeen → Type 0
@@ -47,3 +53,13 @@ abbrev pub MakesRoom : SoloSeen → Refusal → SoloSeen → Type 0
 MakesRoom old NoFrame new = Evicts old new ⊎ ((tests old.world.core event.Evict ≡ Some reply.NoneIdle) × FlushesOne old true new)
 MakesRoom old DirtyLimit new = FlushesOne old true new
 MakesRoom old r new = ⊥
+
+-- after a call was refused so there is room for it: as many frames as it lacks pages, or room for its dirty pages
+abbrev pub HasRoom : ℕ → ℕ → ℕ → Refusal → SoloSeen → Type 0
+HasRoom h o n NoFrame new = lacks_frames new.world.core h o n ≡ false
+HasRoom h o n DirtyLimit new = passes_limit new.world.core h o n ≡ false
+HasRoom h o n r new = ⊥
+
+-- no call lacks frames
+abbrev pub Suffices : SoloSeen → Type 0
+Suffices s = (h o n : ℕ) → lacks_frames s.world.core h o n ≡ false

@@ -98,14 +98,6 @@ Faulted old new = (old.world.device.faults < new.world.device.faults) ⊎ (new.w
 abbrev pub Refuses : SoloSeen → Event → Refusal → Type 0
 Refuses old e r = (mid : SoloSeen) × Serves old mid × Step mid.world.core e (reply.Refused r) mid.world.core
 
--- why a call is refused that makes the event e by this handle: a growth or a device call was refused, or it made its last attempt;
--- or the cache refused the event, or the fill of a page that it missed
-abbrev pub IsRefusal : SoloSeen → HandleId → Event → Refusal → SoloSeen → Type 0
-IsRefusal old h e Memory new = Unit {0}
-IsRefusal old h e (Io code) new = Faulted old new
-IsRefusal old h e Turns new = new.attempts ≡ 256
-IsRefusal old h e r new = Refuses old e r ⊎ ((p : PageIndex) × Refuses old (event.FillBegin h p) r)
-
 -- no file has a page that a flush could begin with
 abbrev pub NothingToFlush : SoloSeen → Type 0
 NothingToFlush s = (f : ℕ) → f < length s.world.core.files → tests s.world.core (event.FlushBegin (record { 0 = f })) ≡ Some reply.Nothing
@@ -116,6 +108,15 @@ abbrev pub IsWithoutRoom : SoloSeen → Refusal → SoloSeen → Type 0
 IsWithoutRoom old NoFrame new = ((tests new.world.core event.Evict ≡ Some reply.NoneIdle) × NothingToFlush new) ⊎ Faulted old new
 IsWithoutRoom old DirtyLimit new = NothingToFlush new ⊎ Faulted old new
 IsWithoutRoom old r new = Unit {0}
+
+-- why a call is refused that makes the event e by this handle: a growth or a device call was refused, or it made its last attempt;
+-- or the cache refused the event, or the fill of a page that it missed
+abbrev pub IsRefusal : SoloSeen → HandleId → Event → Refusal → SoloSeen → Type 0
+IsRefusal old h e Memory new = Unit {0}
+IsRefusal old h e (Io code) new = Faulted old new
+IsRefusal old h e Turns new = new.attempts ≡ 256
+IsRefusal old h e NoFrame new = (Refuses old e NoFrame ⊎ ((p : PageIndex) × Refuses old (event.FillBegin h p) NoFrame)) ⊎ IsWithoutRoom old NoFrame new
+IsRefusal old h e r new = Refuses old e r ⊎ ((p : PageIndex) × Refuses old (event.FillBegin h p) r)
 
 -- ---- the first attempt
 
@@ -230,6 +231,7 @@ open_reply (Err r) = reply.Refused r
 abbrev pub IsFillRefusal : SoloSeen → HandleId → PageIndex → Refusal → SoloSeen → Type 0
 IsFillRefusal old h p Memory new = Unit {0}
 IsFillRefusal old h p (Io code) new = Faulted old new
+IsFillRefusal old h p NoFrame new = Refuses old (event.FillBegin h p) NoFrame ⊎ IsWithoutRoom old NoFrame new
 IsFillRefusal old h p r new = Refuses old (event.FillBegin h p) r
 
 -- why a sync of the handle's file is refused, but for writes that failed

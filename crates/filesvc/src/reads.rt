@@ -1,15 +1,18 @@
 //! Reads.
 
-ghost use Rattle.std.specs.Prelude.{◌≡◌, ◌≢◌, ◌+◌, ◌<◌, ◌≤◌, length, take, drop, IfErr, IfOk, IfSome, Err};
+ghost use Rattle.std.specs.Prelude.{◌≡◌, ◌≢◌, ◌+◌, ◌<◌, ◌≤◌, true, length, take, drop, IfErr, IfOk, IfSome, Err};
 ghost use Rattle.pc_types.specs.Files as plain;
 ghost use Rattle.pc_types.specs.declared.limits.TheConstants.{MAX_FILE_SIZE};
 ghost use Rattle.pc_types.specs.declared.refusal.Refusal.TheVariants.{BadHandle};
 ghost use Rattle.cachecore.specs.declared.event.Event.TheVariants as event;
+ghost use Rattle.cachecore.specs.State.{file_of, is_open};
+ghost use Rattle.cachecore.specs.Tests.{read_count};
 ghost use Rattle.world.specs.Plain.{named, plain_file};
 ghost use Rattle.filesvc.specs.Attempts.{Attempt, read_over, read_so_far};
 ghost use Rattle.filesvc.specs.Service.{CameFrom, IsAsBefore, IsRefusal, IsSettledAtOnce, IsWithoutRoom, Names, Serves, Tells, count_of, files, read_reply};
 
 use crate::handle::Handle;
+use crate::room::Span;
 use crate::solo::{MAX_ATTEMPTS, Solo};
 use blockdev::BlockDevice;
 use cachecore::ReadAnswer;
@@ -61,9 +64,25 @@ impl<D: BlockDevice> Solo<D> {
         self.attempts += 1;
         match self.world.read(handle, offset, out)? {
             ReadAnswer::Bytes(count) => return Ok(Some(count)),
-            ReadAnswer::Miss(page) | ReadAnswer::Wait(page) => self.fill(handle, page)?,
+            ReadAnswer::Miss(page) | ReadAnswer::Wait(page) => {
+                let count = self.count_within(handle, offset, out.len() as u64);
+                let span = Span {
+                    handle,
+                    offset,
+                    count,
+                };
+                self.fill(span, page)?
+            }
         }
         Ok(None)
+    }
+
+    /// How many bytes a read of so many reads: none past the end of the file.
+    fn count_within(&self, handle: HandleId, offset: u64, count: u64) -> u64
+        ensures { is_open self.now.world.core handle.0 ≡ true → result ≡ read_count self.now.world.core (file_of self.now.world.core handle.0) offset count }
+    {
+        let size = self.world.size(handle).unwrap_or(0);
+        count.min(size.saturating_sub(offset))
     }
 
     /// Reads at the cursor, as `pread` does there, and moves the cursor by the count.

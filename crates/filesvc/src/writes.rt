@@ -7,10 +7,11 @@ ghost use Rattle.cachecore.specs.declared.event.Event.TheVariants as event;
 ghost use Rattle.cachecore.specs.Replies.{wrote};
 ghost use Rattle.cachecore.specs.State.{file_at, file_of};
 ghost use Rattle.filesvc.specs.Attempts.{Attempt, Follows, WroteAll, append_reply, truncate_over, write_over};
-ghost use Rattle.filesvc.specs.Rooms.{MakesRoom};
+ghost use Rattle.filesvc.specs.Rooms.{HasRoom};
 ghost use Rattle.filesvc.specs.Service.{CameFrom, FilesAfter, IsAsBefore, IsRefusal, IsSettledAtOnce, IsWithoutRoom, Keeps, Names, count_of, cursor_after, truncate_reply, write_event, write_reply, wrote_reply};
 
 use crate::handle::Handle;
+use crate::room::Span;
 use crate::solo::{MAX_ATTEMPTS, Solo};
 use blockdev::BlockDevice;
 use cachecore::{TruncateAnswer, WriteAnswer};
@@ -110,7 +111,15 @@ impl<D: BlockDevice> Solo<D> {
     {
         self.attempts += 1;
         let answer = self.world.write(handle, offset, bytes);
-        self.after_write(handle, answer)
+        let count = bytes.len() as u64;
+        self.after_write(
+            Span {
+                handle,
+                offset,
+                count,
+            },
+            answer,
+        )
     }
 
     /// One attempt to append, as `try_write` is one to write.
@@ -121,25 +130,34 @@ impl<D: BlockDevice> Solo<D> {
         ensures room { IfErr result (λ r. IsWithoutRoom self.old r self.new) }
     {
         self.attempts += 1;
+        let offset = self.world.size(handle).unwrap_or(0);
         let answer = self.world.append(handle, bytes);
-        self.after_write(handle, answer)
+        let count = bytes.len() as u64;
+        self.after_write(
+            Span {
+                handle,
+                offset,
+                count,
+            },
+            answer,
+        )
     }
 
     /// What an attempt to write comes to after its answer: how the write ended, or nothing where it is to be made again.
     fn after_write(
         &mut self,
-        handle: HandleId,
+        span: Span,
         answer: Result<WriteAnswer, Refusal>,
     ) -> Result<Option<Wrote>, Refusal>
-        ensures follows { Follows self.old handle (wrote answer) (write_over result) self.new }
-        ensures again { IfOk result (λ o. IfNone o (IfErr answer (λ r. MakesRoom self.old r self.new))) }
+        ensures follows { Follows self.old span.handle (wrote answer) (write_over result) self.new }
+        ensures again { IfOk result (λ o. IfNone o (IfErr answer (λ r. HasRoom span.handle.0 span.offset span.count r self.new))) }
         ensures room { IfErr result (λ r. IsWithoutRoom self.old r self.new) }
     {
         match answer {
             Ok(WriteAnswer::Wrote { count, end }) => return Ok(Some(Wrote { count, end })),
-            Ok(WriteAnswer::Miss(page)) | Ok(WriteAnswer::Wait(page)) => self.fill(handle, page)?,
-            Err(Refusal::NoFrame) => self.make_room(Refusal::NoFrame)?,
-            Err(Refusal::DirtyLimit) => self.make_room(Refusal::DirtyLimit)?,
+            Ok(WriteAnswer::Miss(page)) | Ok(WriteAnswer::Wait(page)) => self.fill(span, page)?,
+            Err(Refusal::NoFrame) => self.make_frames(span)?,
+            Err(Refusal::DirtyLimit) => self.make_clean(span)?,
             Err(refusal) => return Err(refusal),
         }
         Ok(None)
@@ -176,7 +194,15 @@ impl<D: BlockDevice> Solo<D> {
         self.attempts += 1;
         match self.world.truncate(handle, size)? {
             TruncateAnswer::Done => return Ok(true),
-            TruncateAnswer::Miss(page) | TruncateAnswer::Wait(page) => self.fill(handle, page)?,
+            TruncateAnswer::Miss(page) | TruncateAnswer::Wait(page) => {
+                // the byte behind the new end is of the page that is cut into
+                let span = Span {
+                    handle,
+                    offset: size,
+                    count: 1,
+                };
+                self.fill(span, page)?
+            }
         }
         Ok(false)
     }

@@ -1,8 +1,10 @@
-use Rattle.std.proofs.Common.{true, sym, ◌∙◌}
+use Rattle.std.proofs.Common.{◌≡◌, true, false, sym, ◌∙◌}
+use Rattle.pc_types.specs.declared.refusal.Refusal.TheVariants.{DirtyLimit, NoFrame}
+use Rattle.filesvc.proofs.Enough.{full_refused}
 use Rattle.filesvc.specs.Rooms.{FlushesOne}
 use Rattle.filesvc.specs.Seen.{SoloSeen}
 use Rattle.filesvc.proofs.Laws.{serves_trans}
-use Rattle.filesvc.proofs.RoomLaws.{evicted_serves, evicted_service, flushed_for_frame}
+use Rattle.filesvc.proofs.RoomLaws.{evicted_serves, evicted_service, flushed_for_frame, stuck_for_frame}
 use Rattle.filesvc.proofs.WorldLaws.{service_sound}
 use Rattle.filesvc.proofs.solo.Solo.make_room.Goals as goal
 use Rattle.filesvc.proofs.solo.Solo.make_room.Goals.{in-NoFrame+else-is_some, in-DirtyLimit}
@@ -28,4 +30,13 @@ returns-then-branch-clause-made g c =
     elim c.match-refusal.branch [
       | in-NoFrame+else-is_some w ↦ rw (w.in-NoFrame.is, ← c.self.view_is) (flushed_for_frame s c.flush_one.new.self _ _ w.age.result w.evict.result w.age.ensures w.evict.ensures (sym w.is_some.ensures ∙ w.if-is_some.false) (rw w.self-is at f))
       | in-DirtyLimit w ↦ rw w.in-DirtyLimit.is (rw w.self-is at f)
+    ]
+
+pub returns-else-branch-clause-full : goal.returns-else-branch-clause-full
+returns-else-branch-clause-full g c =
+    let s : SoloSeen = record { world = c.self.inside.world; errors = c.self.inside.recorder; attempts = c.self.inside.attempts } in
+    let f : FlushesOne c.match-refusal.self false c.flush_one.new.self = rw c.if-branch.false at c.in_ok-flush_one.ensures.flushes in
+    elim c.match-refusal.branch [
+      | in-NoFrame+else-is_some w ↦ rw (← c.self.view_is) (λ tells _ _. (let k = stuck_for_frame s c.flush_one.new.self _ _ w.age.result w.evict.result w.age.ensures w.evict.ensures (sym w.is_some.ensures ∙ w.if-is_some.false) (rw w.self-is at f) in full_refused s c.flush_one.new.self _ _ c.self.invariant tells k.0 k.1))
+      | in-DirtyLimit w ↦ λ tells no _. absurd (let e : DirtyLimit ≡ NoFrame = sym w.in-DirtyLimit.is ∙ no in cc)
     ]

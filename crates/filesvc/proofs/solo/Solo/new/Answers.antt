@@ -1,5 +1,6 @@
+use Rattle.filesvc.proofs.Enough.{enough_frames}
 use Rattle.std.proofs.Common.{◌≡◌, ◌≤◌, ◌∙◌, length, ap, sym, subst, arith}
-use Rattle.pc_types.specs.declared.limits.TheConstants.{MAX_FILES, MAX_FILE_SIZE}
+use Rattle.pc_types.specs.declared.limits.TheConstants.{MAX_FILES, MAX_FILE_SIZE, MIN_FRAMES}
 use Rattle.cachecore.specs.State.{file_at}
 use Rattle.world.specs.Stepping.{Held}
 use Rattle.filesvc.proofs.Beginning.{lists_in, nothing_in, reached_at}
@@ -14,6 +15,7 @@ invariant_of-result g c = record {
   reached = reached_at _ _ (ap (λ (w : Held). w.device) c.in_ok-world.ensures.fresh) c.in_ok-world.ensures.first;
   counted = (let a : c.in_ok-world.world.device.calls ≡ c.calls.result = ap (λ (w : Held). w.device.calls) c.in_ok-world.ensures.fresh ∙ sym c.calls.ensures in let b = c.if-prove.false in omega arith);
   bounded = λ f. subst (λ (w : Held). (file_at w.core f).size ≤ MAX_FILE_SIZE) (sym c.in_ok-world.ensures.fresh) (omega arith);
+  frames = subst (λ (w : Held). MIN_FRAMES ≤ w.core.sizes.frames) (sym c.in_ok-world.ensures.fresh) (enough_frames _ c.page.ensures.within);
   few = subst (λ (w : Held). length w.core.files ≤ MAX_FILES) (sym c.in_ok-world.ensures.fresh) (omega arith);
   serials = subst (λ (w : Held). w.core.next ≤ w.device.calls) (sym c.in_ok-world.ensures.fresh) (omega arith);
 }
