@@ -33,7 +33,7 @@ use Rattle.filesvc.specs.Rests.{IsService}
 use Rattle.filesvc.specs.Seen.{HandleSeen, SoloSeen}
 use Rattle.filesvc.specs.Service.{FilesAfter, IsOpen, IsRefusal, IsSettledAtOnce, Keeps, Refuses, Serves, Tells, files, is_settled}
 use Rattle.filesvc.proofs.Acted.{service_acted}
-use Rattle.filesvc.proofs.CallSteps.{call_keeps, comes, is_call, is_own, no_job, own_reply, plain_refused, wrote_all}
+use Rattle.filesvc.proofs.CallSteps.{call_keeps, call_no_sync, comes, is_call, is_own, no_job, own_reply, plain_refused, wrote_all}
 use Rattle.filesvc.proofs.FileSizes.{lengths_stay}
 use Rattle.filesvc.proofs.Laws.{keeps_counted, keeps_trans, serves_counted, serves_refl, serves_trans}
 use Rattle.filesvc.proofs.RoomLaws.{fill_refuses, room_before}
@@ -188,7 +188,7 @@ settled_unless r a b = refl
 
 -- the event keeps what holds of a service between its calls
 pub service_kept : (name : ℕ) (w new : Held) (table : TableId) (errors : RecorderSeen) (e : Event) (got : Reply) → is_call e ≡ true → Moves (world_of w) (Act e got) (world_of new) → new.device ≡ w.device → IsService name w table errors → IsService name new table errors
-service_kept name w new table errors e got call m d s = service_acted name w new table errors s e got m d (no_job got (comes w.core new.core e got call (act_step (world_of w) (world_of new) e got m)).own)
+service_kept name w new table errors e got call m d s = service_acted name w new table errors s e got m d (call_no_sync e call) (no_job got (comes w.core new.core e got call (act_step (world_of w) (world_of new) e got m)).own)
 
 -- ---- a call of attempts
 

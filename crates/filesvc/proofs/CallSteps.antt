@@ -15,6 +15,7 @@ use Rattle.cachecore.specs.Step.{Answers, ReadReply, Step, TruncateReply, WriteR
 use Rattle.cachecore.specs.Tests.{boundary_stop, read_count, read_stop, read_tests, room_tests, tests, truncate_tests, write_stop, write_tests}
 use Rattle.cachecore.proofs.ChangeLaws.{length-bytes_at}
 use Rattle.cachecore.proofs.Choices.{answered, quiet_first, quiet_if, quiet_none, quiet_stopped, quiet_when}
+use Rattle.cachecore.proofs.StepCases.{not_of_sync}
 use Rattle.world.specs.Plain.{Plain, plain_after}
 use Rattle.world.specs.World.{Act}
 use Rattle.world.proofs.KeptRequests.{is_job}
@@ -37,6 +38,13 @@ call_keeps (event.Write h o b) r k = refl
 call_keeps (event.Append h b) r k = refl
 call_keeps (event.Truncate h z) r k = refl
 call_keeps _ r k = absurd cc
+
+pub call_no_sync : (e : Event) → is_call e ≡ true → not_of_sync e ≡ true
+call_no_sync (event.Read h o n) k = refl
+call_no_sync (event.Write h o b) k = refl
+call_no_sync (event.Append h b) k = refl
+call_no_sync (event.Truncate h z) k = refl
+call_no_sync _ k = absurd cc
 
 pub plain_refused : (p : Plain) (e : Event) (r : Refusal) → is_call e ≡ true → plain_after p e (reply.Refused r) ≡ p
 plain_refused p (event.Read h o n) r k = refl

@@ -1,9 +1,9 @@
 -- Between calls each cached page is DIRTY or idle: where none is idle and none is to be written, none is cached, and no call lacks frames.
-use Rattle.std.proofs.Common.{◌≡◌, ℕ, ◌+◌, ◌-◌, ◌<◌, ◌≤◌, Bool, true, false, cond, get_or, List, [], ◌∷◌, map, length, zero, suc, refl, ap, sym, subst, ◌∙◌, arith, inl, inr}
-use Rattle.std.specs.Prelude.{◌&&◌, ◌||◌, not, is_some, option_map, Option, Some, None, nat_le, nat_lt, count_by, sum_by}
+use Rattle.std.proofs.Common.{◌≡◌, ℕ, ◌+◌, ◌-◌, ◌<◌, ◌≤◌, Bool, true, false, cond, get_or, List, [], ◌∷◌, map, length, zero, suc, refl, ap, sym, ◌∙◌, arith, inl, inr}
+use Rattle.std.specs.Prelude.{◌&&◌, ◌||◌, not, is_some, option_map, Option, Some, None, nat_le, nat_lt, sum_by}
 use Rattle.std.specs.List.{list_any}
 use Rattle.std.specs.FinMap as finmap
-use Rattle.std.specs.FinMap.{FinMap, get-empty, get-entries, len-empty}
+use Rattle.std.specs.FinMap.{get-empty, get-entries, len-empty}
 use Rattle.std.specs.Ordering.{nat_cmp}
 use Rattle.std.proofs.lemmas.Bool.Decides.{nat_tests}
 use Rattle.std.proofs.lemmas.List.Sums.{sum_by-cons}
@@ -13,23 +13,22 @@ use Rattle.pc_types.specs.Limits.{Sizes, is_geometry, is_page_size}
 use Rattle.pc_types.specs.declared.limits.TheConstants.{CLEAN_FRAMES, MAX_BLOCKS, MAX_FILE_SIZE, MAX_FRAMES, MAX_TOUCHED, MIN_DIRTY_LIMIT, MIN_FRAMES}
 use Rattle.pc_types.specs.declared.refusal.Refusal.TheVariants.{NoSuchFile, TooManyInFlight}
 use Rattle.cachecore.specs.declared.event.Event.TheVariants as event
-use Rattle.cachecore.specs.declared.event.Reply.{Reply}
 use Rattle.cachecore.specs.declared.event.Reply.TheVariants as reply
-use Rattle.cachecore.specs.State.{State, File, Page, Request, cached_total, file_at, file_of, filling_total, first_page, free_frames, is_cached, is_idle, is_open, no_file, page_at, touched, touched_count}
-use Rattle.cachecore.specs.Tests.{evict_tests, flush_pick, has_idle, is_full, refuse, tests}
-use Rattle.cachecore.specs.Wants.{lacking, lacks_frames, may_touch}
+use Rattle.cachecore.specs.State.{State, File, Page, cached_total, dirty_in, dirty_total, file_at, file_of, first_page, free_frames, is_cached, is_dirty, is_idle, is_open, no_file, page_at, touched_count}
+use Rattle.cachecore.specs.Tests.{flush_pick, has_idle, is_full, refuse, tests}
+use Rattle.cachecore.specs.Wants.{dirtied, lacking, lacks_frames, passes_limit}
 use Rattle.cachecore.proofs.Found.{found_none}
 use Rattle.cachecore.proofs.MapLaws.{any_value, no_entries}
 use Rattle.cachecore.proofs.TouchCounts.{count_below}
 use Rattle.world.specs.Always.{Always, PageAlways}
 use Rattle.world.specs.World.{World}
-use Rattle.world.proofs.Count.{count_of}
+use Rattle.world.proofs.Count.{count_le, count_of}
 use Rattle.world.proofs.FrameCounts.{count_empty, filling_is, is_live_fill, len_le}
 use Rattle.world.proofs.Lookups.{cached_within}
 use Rattle.world.proofs.Reached.{reached_always}
 use Rattle.world.specs.Stepping.{world_of}
-use Rattle.filesvc.specs.Rests.{IsService}
-use Rattle.filesvc.specs.Rooms.{FlushesOne, Suffices}
+use Rattle.filesvc.specs.Rests.{IsServing}
+use Rattle.filesvc.specs.Rooms.{FlushesOne, IsClean, Suffices}
 use Rattle.filesvc.specs.Seen.{SoloSeen}
 use Rattle.filesvc.specs.Service.{Faulted, Tells}
 
@@ -81,7 +80,17 @@ untagged false true t a b c = absurd cc
 untagged false false true a b c = absurd (let x = c refl in cc)
 untagged false false false a b c = refl
 
-module _ (w : World) (always : Always w) (resting : w.core.requests ≡ finmap.empty) (idle : tests w.core event.Evict ≡ Some reply.NoneIdle) (clean : (f : ℕ) → f < length w.core.files → tests w.core (event.FlushBegin (record { 0 = f })) ≡ Some reply.Nothing) where
+-- a sum of nothing
+no_sum : (count : File → ℕ) (files : List File) → ((f : ℕ) → count (get_or files f no_file) ≡ 0) → sum_by count files ≡ 0
+no_sum count [] h = refl
+no_sum count (x ∷ files) h = let a = h 0 in let b = no_sum count files (λ f. h (suc f)) in let c = sum_by-cons count x files in omega arith
+
+undirty : (dirty writeback : Bool) → (dirty && not writeback) ≡ false → writeback ≡ false → dirty ≡ false
+undirty true false a b = absurd cc
+undirty true true a b = absurd cc
+undirty false w a b = refl
+
+module _ (w : World) (always : Always w) (resting : w.core.requests ≡ finmap.empty) (clean : (f : ℕ) → f < length w.core.files → tests w.core (event.FlushBegin (record { 0 = f })) ≡ Some reply.Nothing) where
   no_write : (f p : ℕ) (page : Page) → PageAlways w.core f p page → page.tags.writeback ≡ false
   no_write f p page a = by page.tags.writeback refl
     where
@@ -89,45 +98,71 @@ module _ (w : World) (always : Always w) (resting : w.core.requests ≡ finmap.e
       by false e = e
       by true e = absurd (let x = a.flush e in let none : finmap.get w.core.requests x.0 ≡ None = ap (λ m. finmap.get m x.0) resting ∙ get-empty nat_cmp x.0 in let n : None ≡ Some x.1 = sym none ∙ x.2 in cc)
 
-  none_cached : (f p : ℕ) (page : Page) → page_at w.core f p ≡ Some page → ⊥
-  none_cached f p page is =
-      let a = always.pages f p page is in
+  not_left : (f p : ℕ) (page : Page) → page_at w.core f p ≡ Some page → (page.tags.dirty && not page.tags.writeback) ≡ false
+  not_left f p page is =
       let here = cached_within w.core f p (ap is_some is) in
       let pick = no_pick (nat_le (length w.core.files) f) (is_full w.core) (flush_pick (file_at w.core f)) (clean f here) in
-      let left = found_none (file_at w.core f).pages (λ e. e.1.tags.dirty && not e.1.tags.writeback) (not_picked _ pick) p page is in
-      let free = untagged page.tags.dirty page.tags.writeback page.tags.towrite left (no_write f p page a) a.towrite_dirty in
-      let some = some_idle w.core f p page is free in
-      let none = no_idle (has_idle w.core) idle in
-      absurd (let x : true ≡ false = sym some ∙ none in cc)
+      found_none (file_at w.core f).pages (λ e. e.1.tags.dirty && not e.1.tags.writeback) (not_picked _ pick) p page is
 
-  no_pages : (f : ℕ) → finmap.len (file_at w.core f).pages ≡ 0
-  no_pages f =
-      let a = len_le (file_at w.core f).pages (finmap.empty {X = Page} {R = nat_cmp}) (λ q x e. absurd (none_cached f q x e)) in
-      let b = len-empty nat_cmp Page in omega arith
+  no_dirty : (f p : ℕ) (page : Page) → page_at w.core f p ≡ Some page → page.tags.dirty ≡ false
+  no_dirty f p page is = undirty page.tags.dirty page.tags.writeback (not_left f p page is) (no_write f p page (always.pages f p page is))
 
-  no_total : (files : List File) → ((f : ℕ) → finmap.len (get_or files f no_file).pages ≡ 0) → sum_by (λ (file : File). finmap.len file.pages) files ≡ 0
-  no_total [] h = refl
-  no_total (x ∷ files) h = let a = h 0 in let b = no_total files (λ f. h (suc f)) in let c = sum_by-cons (λ (file : File). finmap.len file.pages) x files in omega arith
+  none_dirty : dirty_total w.core ≡ 0
+  none_dirty = no_sum dirty_in w.core.files (λ f. (
+      let a = count_le (λ (x : Page). x.tags.dirty) (λ (x : Page). x.tags.dirty) (file_at w.core f).pages (finmap.empty {X = Page} {R = nat_cmp}) (λ q x e t. absurd (let k : true ≡ false = sym t ∙ no_dirty f q x e in cc)) in
+      let b = count_empty (λ (x : Page). x.tags.dirty) in omega arith))
 
-  all_free : free_frames w.core ≡ w.core.sizes.frames
-  all_free =
-      let a : cached_total w.core ≡ 0 = no_total w.core.files no_pages in
-      let b = filling_is w.core in
-      let c = ap (count_of is_live_fill) resting in
-      let d = count_empty is_live_fill in omega arith
-
-  pub enough : MIN_FRAMES ≤ w.core.sizes.frames → (h o n : ℕ) → lacks_frames w.core h o n ≡ false
-  enough many h o n =
-      let most = count_below (lacking w.core (file_of w.core h) o n) (first_page w.core.sizes.page o) (touched_count w.core.sizes.page o n) (λ p. not (is_cached w.core (file_of w.core h) p)) refl in
-      let free = all_free in
-      by (is_open w.core h) (nat_lt 0 n) (nat_le (touched_count w.core.sizes.page o n) MAX_TOUCHED) (nat_le (o + n) MAX_FILE_SIZE) (nat_lt (free_frames w.core) (lacking w.core (file_of w.core h) o n)) (λ small. grind (arith, nat_tests))
+  -- no call would make too many pages dirty
+  pub clean_enough : MIN_DIRTY_LIMIT ≤ w.core.sizes.dirty_limit → (h o n : ℕ) → passes_limit w.core h o n ≡ false
+  clean_enough many h o n =
+      let most = count_below (dirtied w.core (file_of w.core h) o n) (first_page w.core.sizes.page o) (touched_count w.core.sizes.page o n) (λ p. not (is_dirty w.core (file_of w.core h) p)) refl in
+      let none = none_dirty in
+      by (is_open w.core h) (nat_lt 0 n) (nat_le (touched_count w.core.sizes.page o n) MAX_TOUCHED) (nat_le (o + n) MAX_FILE_SIZE) (nat_lt 0 (dirtied w.core (file_of w.core h) o n)) (nat_lt w.core.sizes.dirty_limit (dirty_total w.core + dirtied w.core (file_of w.core h) o n)) (λ small. grind (arith, nat_tests))
     where
-      by : (a b c d e : Bool) → (c ≡ true → e ≡ false) → ((a && b && c && d) && e) ≡ false
-      by true true true true e k = k refl
-      by false b c d e k = refl
-      by true false c d e k = refl
-      by true true false d e k = refl
-      by true true true false e k = refl
+      by : (a b c d x e : Bool) → (c ≡ true → e ≡ false) → ((a && b && c && d) && (x && e)) ≡ false
+      by true true true true true e k = k refl
+      by true true true true false e k = refl
+      by false b c d x e k = refl
+      by true false c d x e k = refl
+      by true true false d x e k = refl
+      by true true true false x e k = refl
+
+  module _ (idle : tests w.core event.Evict ≡ Some reply.NoneIdle) where
+    none_cached : (f p : ℕ) (page : Page) → page_at w.core f p ≡ Some page → ⊥
+    none_cached f p page is =
+        let a = always.pages f p page is in
+        let free = untagged page.tags.dirty page.tags.writeback page.tags.towrite (not_left f p page is) (no_write f p page a) a.towrite_dirty in
+        let some = some_idle w.core f p page is free in
+        let none = no_idle (has_idle w.core) idle in
+        absurd (let x : true ≡ false = sym some ∙ none in cc)
+
+    no_pages : (f : ℕ) → finmap.len (file_at w.core f).pages ≡ 0
+    no_pages f =
+        let a = len_le (file_at w.core f).pages (finmap.empty {X = Page} {R = nat_cmp}) (λ q x e. absurd (none_cached f q x e)) in
+        let b = len-empty nat_cmp Page in omega arith
+
+    all_free : free_frames w.core ≡ w.core.sizes.frames
+    all_free =
+        let a : cached_total w.core ≡ 0 = no_sum (λ (file : File). finmap.len file.pages) w.core.files no_pages in
+        let b = filling_is w.core in
+        let c = ap (count_of is_live_fill) resting in
+        let d = count_empty is_live_fill in omega arith
+
+    pub some_free : MIN_FRAMES ≤ w.core.sizes.frames → 0 < free_frames w.core
+    some_free many = let free = all_free in omega arith
+
+    pub enough : MIN_FRAMES ≤ w.core.sizes.frames → (h o n : ℕ) → lacks_frames w.core h o n ≡ false
+    enough many h o n =
+        let most = count_below (lacking w.core (file_of w.core h) o n) (first_page w.core.sizes.page o) (touched_count w.core.sizes.page o n) (λ p. not (is_cached w.core (file_of w.core h) p)) refl in
+        let free = all_free in
+        by (is_open w.core h) (nat_lt 0 n) (nat_le (touched_count w.core.sizes.page o n) MAX_TOUCHED) (nat_le (o + n) MAX_FILE_SIZE) (nat_lt (free_frames w.core) (lacking w.core (file_of w.core h) o n)) (λ small. grind (arith, nat_tests))
+      where
+        by : (a b c d e : Bool) → (c ≡ true → e ≡ false) → ((a && b && c && d) && e) ≡ false
+        by true true true true e k = k refl
+        by false b c d e k = refl
+        by true false c d e k = refl
+        by true true false d e k = refl
+        by true true true false e k = refl
 
 -- the frames of a geometry
 pub enough_frames : (g : Sizes) → IsTrue (is_geometry g) → MIN_FRAMES ≤ g.frames
@@ -138,7 +173,25 @@ enough_frames g e = by (is_page_size g.page) (nat_le MIN_FRAMES g.frames) (nat_l
     by true false c d x y z k e = absurd cc
     by false b c d x y z k e = absurd cc
 
+-- its dirty limit
+pub enough_dirty : (g : Sizes) → IsTrue (is_geometry g) → MIN_DIRTY_LIMIT ≤ g.dirty_limit
+enough_dirty g e = by (is_page_size g.page) (nat_le MIN_FRAMES g.frames) (nat_le g.frames MAX_FRAMES) (nat_le MIN_DIRTY_LIMIT g.dirty_limit) (nat_le g.dirty_limit (g.frames - CLEAN_FRAMES)) (nat_le 1 g.blocks) (nat_le g.blocks MAX_BLOCKS) refl e
+  where
+    by : (a b c d x y z : Bool) → nat_le MIN_DIRTY_LIMIT g.dirty_limit ≡ d → IsTrue (a && b && c && d && x && y && z) → MIN_DIRTY_LIMIT ≤ g.dirty_limit
+    by true true true true x y z k e = grind (arith, nat_tests)
+    by true true true false x y z k e = absurd cc
+    by true true false d x y z k e = absurd cc
+    by true false c d x y z k e = absurd cc
+    by false b c d x y z k e = absurd cc
+
 -- where no room could be made for a frame
-pub full_refused : (s new : SoloSeen) (name : ℕ) (table : TableId) → IsService name s.world table s.errors → Tells s → tests s.world.core event.Evict ≡ Some reply.NoneIdle → FlushesOne s false new → Faulted s new ⊎ Suffices s
-full_refused s new name table i tells idle (inl x) = inr (λ h o n. enough (world_of s.world) (reached_always (world_of s.world) (i.reached tells)) i.rests.requests idle x.1 i.frames h o n)
+pub full_refused : (s new : SoloSeen) (name : ℕ) (table : TableId) → IsServing name s.world table s.errors → Tells s → tests s.world.core event.Evict ≡ Some reply.NoneIdle → FlushesOne s false new → Faulted s new ⊎ Suffices s
+full_refused s new name table i tells idle (inl x) =
+    let always = reached_always (world_of s.world) (i.reached tells) in
+    inr (some_free (world_of s.world) always i.rests.requests x.1 idle i.frames, λ h o n. enough (world_of s.world) always i.rests.requests x.1 idle i.frames h o n)
 full_refused s new name table i tells idle (inr x) = inl x
+
+-- and where none could be made for a dirty page
+pub dirty_refused : (s new : SoloSeen) (name : ℕ) (table : TableId) → IsServing name s.world table s.errors → Tells s → FlushesOne s false new → Faulted s new ⊎ IsClean s
+dirty_refused s new name table i tells (inl x) = inr (λ h o n. clean_enough (world_of s.world) (reached_always (world_of s.world) (i.reached tells)) i.rests.requests x.1 i.dirty h o n)
+dirty_refused s new name table i tells (inr x) = inl x

@@ -16,3 +16,4 @@ pub mod RoomLaws
 pub mod Load
 pub mod Sizes
 pub mod Enough
+pub mod SyncsKept

@@ -1,6 +1,6 @@
 -- Making room ends: an eviction takes a cached page away, and a page that was written back is DIRTY no more.
-use Rattle.std.proofs.Common.{◌≡◌, ◌≢◌, ℕ, ◌+◌, ◌-◌, ◌<◌, ◌≤◌, Bool, true, false, cond, List, [], ◌∷◌, length, refl, ap, sym, subst, ◌∙◌, arith, inl, inr}
-use Rattle.std.specs.Prelude.{◌⊎◌, ◌&&◌, ◌||◌, not, is_some, option_map, Option, Some, None, nat_le, slice_set, sum_by}
+use Rattle.std.proofs.Common.{◌≡◌, ℕ, ◌+◌, ◌-◌, ◌<◌, ◌≤◌, Bool, true, false, cond, List, [], ◌∷◌, length, refl, ap, sym, subst, ◌∙◌, arith, inl, inr}
+use Rattle.std.specs.Prelude.{◌&&◌, ◌||◌, not, is_some, option_map, Option, Some, None, nat_le, slice_set, sum_by}
 use Rattle.std.specs.FinMap as finmap
 use Rattle.std.specs.FinMap.{FinMap, find, get-entries, len-entries, len-remove}
 use Rattle.std.specs.Cmp.{nat_cmp_total}
@@ -17,10 +17,9 @@ use Rattle.cachecore.specs.declared.event.End.{End}
 use Rattle.cachecore.specs.declared.event.Event.TheVariants as event
 use Rattle.cachecore.specs.declared.event.Outcome as core
 use Rattle.cachecore.specs.declared.event.Outcome.TheVariants as outcome
-use Rattle.cachecore.specs.declared.event.Reply.{Reply}
 use Rattle.cachecore.specs.declared.event.Reply.TheVariants as reply
-use Rattle.cachecore.specs.Changes.{after_write, drop_page, ended, put_page, set_written, started}
-use Rattle.cachecore.specs.State.{State, File, Page, Request, cached_total, dirty_in, dirty_total, file_at, is_idle, no_file, page_at}
+use Rattle.cachecore.specs.Changes.{after_write}
+use Rattle.cachecore.specs.State.{State, File, Page, Request, dirty_in, dirty_total, file_at, no_file}
 use Rattle.cachecore.specs.Step.{Step, EvictReply, FlushBeginReply, FlushEndReply}
 use Rattle.cachecore.specs.Tests.{end_tests, evict_tests, has_idle, is_full, refuse, flush_begin_tests, flush_pick}
 use Rattle.cachecore.proofs.Choices.{answered}
@@ -33,10 +32,10 @@ use Rattle.world.proofs.FrameCounts.{cached_set, len_put_there}
 use Rattle.world.proofs.HandedIn.{at_none, passes}
 use Rattle.world.proofs.Lookups.{cached_within, get-insert1, get-remove1}
 use Rattle.world.proofs.View.{put1_tells}
-use Rattle.filesvc.specs.Rooms.{Evicts, FlushesOne, MakesRoom, WritesBack, load}
+use Rattle.filesvc.specs.Rooms.{MakesRoom, WritesBack, load}
 use Rattle.filesvc.specs.Seen.{SoloSeen}
 use Rattle.filesvc.proofs.RoomLaws.{begun_flush}
-use Rattle.filesvc.proofs.WorldLaws.{Carried, Made, Once, Quiet, Unmade, Whole, flush_begins, once}
+use Rattle.filesvc.proofs.WorldLaws.{Carried, Once, Quiet, Unmade, Whole, flush_begins, once}
 
 abbrev is_dirty : Page → Bool
 is_dirty x = x.tags.dirty

@@ -38,7 +38,7 @@ use Rattle.world.proofs.KeptRequests.{flush_begins, is_job}
 use Rattle.world.proofs.Lookups.{get-insert1}
 use Rattle.world.proofs.View.{put1_here}
 use Rattle.filesvc.specs.Rests as rests
-use Rattle.filesvc.specs.Rests.{AtOnce, IsService}
+use Rattle.filesvc.specs.Rests.{AtOnce, IsService, IsServing}
 use Rattle.filesvc.specs.Rooms.{FlushesOne, IsFlush, MakesRoom}
 use Rattle.filesvc.specs.Seen.{SoloSeen}
 use Rattle.filesvc.specs.Service.{Faulted, IsFillRefusal, IsRefusal, IsWithoutRoom, Serves}
@@ -217,7 +217,7 @@ module _ (s : SoloSeen) (aged new : Held) (n : ℕ) (r : Option (FileId × PageI
       serves_trans s (record s { world = aged }) _ g.serves (made_goes (record s { world = aged }) new event.Evict (evicted r) e refl g.sound).serves
 
   pub evicted_service : (name : ℕ) (table : TableId) → IsService name s.world table s.errors → IsService name new table s.errors
-  evicted_service name table i = service_acted name aged new table s.errors (service_acted name s.world aged table s.errors i event.Age (reply.Aged n) a.0 a.1 refl) event.Evict (evicted r) e.0 e.1 (evicted_quiet r)
+  evicted_service name table i = service_acted name aged new table s.errors (service_acted name s.world aged table s.errors i event.Age (reply.Aged n) a.0 a.1 refl refl) event.Evict (evicted r) e.0 e.1 refl (evicted_quiet r)
 
 -- ---- a flush in one
 
@@ -227,14 +227,14 @@ held_same old new e r m c =
     λ i. record { core = c i; device = m.1 i; outcomes = o i }
 
 -- where no request is in flight, one that is refused was refused a serial
-no_serial : (s : State) → s.requests ≡ finmap.empty → is_full s ≡ true → SERIAL_END ≤ s.next
+pub no_serial : (s : State) → s.requests ≡ finmap.empty → is_full s ≡ true → SERIAL_END ≤ s.next
 no_serial s none full = leb-true SERIAL_END s.next (subst (λ m. (nat_le MAX_IN_FLIGHT m || nat_le SERIAL_END s.next) ≡ true) (ap finmap.len none ∙ len-empty nat_cmp Request) full)
 
 squeezed : (m n c : ℕ) → m ≤ n → n ≤ c → c ≤ m → c ≡ m
 squeezed m n c a b d = omega arith
 
 -- which it is only by a device that can count no more
-full_faulted : (name : ℕ) (s : SoloSeen) (table : TableId) → IsService name s.world table s.errors → is_full s.world.core ≡ true → Faulted s s
+full_faulted : (name : ℕ) (s : SoloSeen) (table : TableId) → IsServing name s.world table s.errors → is_full s.world.core ≡ true → Faulted s s
 full_faulted name s table i full = inr (squeezed max_calls s.world.core.next s.world.device.calls (no_serial s.world.core i.rests.requests full) i.serials i.counted)
 
 no_flush : (s new : State) (f : ℕ) (o : Option ℕ) (r : Reply) → rests.is_job r ≡ false → FlushBeginReply s f o r new → ⊥
@@ -293,7 +293,7 @@ carried_flush s w errors f r c a i =
       | inr e ↦ subst (λ x. IsFlush s f x (record s { world = w; errors = errors })) (sym e.1) (carried_faulted s w errors _ e.0 (subst (λ x. Carried s.world s.errors (event.FlushBegin f) x w errors) e.1 c) i)
     ]
 
-once_flush : (name : ℕ) (s : SoloSeen) (w : Held) (errors : RecorderSeen) (table : TableId) (f : FileId) (r : Reply) → Once s.world s.errors (event.FlushBegin f) r w errors → AtOnce s.world s.errors (step.FlushBegin f) r w errors → IsService name s.world table s.errors → IsFlush s f r (record s { world = w; errors = errors })
+once_flush : (name : ℕ) (s : SoloSeen) (w : Held) (errors : RecorderSeen) (table : TableId) (f : FileId) (r : Reply) → Once s.world s.errors (event.FlushBegin f) r w errors → AtOnce s.world s.errors (step.FlushBegin f) r w errors → IsServing name s.world table s.errors → IsFlush s f r (record s { world = w; errors = errors })
 once_flush name s w errors table f r (Unmade e same none) a i = subst (λ x. IsFlush s f x (record s { world = w; errors = errors })) (sym e) tt
 once_flush name s w errors table f r (Quiet j m none) a i =
     quiet_flush s (record s { world = w; errors = errors }) f r j m.0.0
@@ -301,7 +301,7 @@ once_flush name s w errors table f r (Quiet j m none) a i =
     (full_faulted name s table i)
 once_flush name s w errors table f r (Whole c) a i = carried_flush s w errors f r c a (service_sound name s.world table s.errors i)
 
-pub at_once_flush : (name : ℕ) (s : SoloSeen) (w : Held) (errors : RecorderSeen) (table : TableId) (f : FileId) (r : Reply) → AtOnce s.world s.errors (step.FlushBegin f) r w errors → IsService name s.world table s.errors → IsFlush s f r (record s { world = w; errors = errors })
+pub at_once_flush : (name : ℕ) (s : SoloSeen) (w : Held) (errors : RecorderSeen) (table : TableId) (f : FileId) (r : Reply) → AtOnce s.world s.errors (step.FlushBegin f) r w errors → IsServing name s.world table s.errors → IsFlush s f r (record s { world = w; errors = errors })
 at_once_flush name s w errors table f r a i = once_flush name s w errors table f r (once s.world w s.errors errors (step.FlushBegin f) (event.FlushBegin f) r (laws.flush_begins f) a) a i
 
 -- ---- an eviction that finds no idle page

@@ -1,11 +1,10 @@
 -- The size that an open file answers.
-use Rattle.std.proofs.Common.{◌≡◌, ℕ, Bool, true, false, cond, refl}
-use Rattle.std.specs.Prelude.{Result, Ok, Err, unwrap_or, Option, Some}
+use Rattle.std.proofs.Common.{◌≡◌, ℕ, Bool, true, false, cond}
+use Rattle.std.specs.Prelude.{Result, Ok, Err, Some}
 use Rattle.pc_types.specs.declared.refusal.Refusal.{Refusal}
 use Rattle.pc_types.specs.declared.refusal.Refusal.TheVariants.{BadHandle}
 use Rattle.pc_types.specs.declared.ids.HandleId.{HandleId}
 use Rattle.cachecore.specs.declared.event.Event.TheVariants as event
-use Rattle.cachecore.specs.declared.event.Reply.{Reply}
 use Rattle.cachecore.specs.declared.event.Reply.TheVariants as reply
 use Rattle.cachecore.specs.Replies.{sized}
 use Rattle.cachecore.specs.State.{State, file_at, file_of, is_open}

@@ -7,7 +7,7 @@ use Rattle.pc_types.specs.declared.refusal.Refusal.TheVariants.{DirtyLimit, Memo
 use Rattle.cachecore.specs.declared.event.Event.TheVariants as event
 use Rattle.cachecore.specs.declared.event.Reply.{Reply}
 use Rattle.cachecore.specs.declared.event.Reply.TheVariants as reply
-use Rattle.cachecore.specs.State.{State, cached_total, dirty_total}
+use Rattle.cachecore.specs.State.{State, cached_total, dirty_total, free_frames}
 use Rattle.cachecore.specs.Step.{Step}
 use Rattle.cachecore.specs.Tests.{tests}
 use Rattle.cachecore.specs.Wants.{lacks_frames, passes_limit}
@@ -60,6 +60,10 @@ HasRoom h o n NoFrame new = lacks_frames new.world.core h o n ≡ false
 HasRoom h o n DirtyLimit new = passes_limit new.world.core h o n ≡ false
 HasRoom h o n r new = ⊥
 
--- no call lacks frames
+-- a frame is free, and no call lacks frames
 abbrev pub Suffices : SoloSeen → Type 0
-Suffices s = (h o n : ℕ) → lacks_frames s.world.core h o n ≡ false
+Suffices s = (0 < free_frames s.world.core) × ((h o n : ℕ) → lacks_frames s.world.core h o n ≡ false)
+
+-- no call would make too many pages dirty
+abbrev pub IsClean : SoloSeen → Type 0
+IsClean s = (h o n : ℕ) → passes_limit s.world.core h o n ≡ false

@@ -4,12 +4,11 @@ use Rattle.std.specs.FinMap as finmap
 use mathlib.Core.List.{IsPrefix}
 use Rattle.blockdev.specs.Device.{max_calls}
 use Rattle.pc_types.specs.Files.{page_of}
-use Rattle.pc_types.specs.declared.limits.TheConstants.{MAX_FILE_SIZE}
+use Rattle.pc_types.specs.declared.limits.TheConstants.{MAX_FILE_SIZE, SERIAL_END}
 use Rattle.pc_types.specs.declared.ids.HandleId.{HandleId}
 use Rattle.pc_types.specs.declared.ids.PageIndex.{PageIndex}
-use Rattle.pc_types.specs.declared.ids.SyncId.{SyncId}
 use Rattle.pc_types.specs.declared.refusal.Refusal.{Refusal}
-use Rattle.pc_types.specs.declared.refusal.Refusal.TheVariants.{DirtyLimit, Io, Memory, NoFrame, TooLarge, Turns}
+use Rattle.pc_types.specs.declared.refusal.Refusal.TheVariants.{Busy, DirtyLimit, Io, Memory, NoFrame, TooLarge, TooManyInFlight, Turns}
 use Rattle.errboard.specs.Views.{recorded_of}
 use Rattle.errseq.specs.declared.recording.Recording.{Recording}
 use Rattle.errseq.specs.Recorded.{last_code, raised}
@@ -214,6 +213,15 @@ Opened old f append (Err r) new = Step old.world.core (event.Open (record { 0 = 
 abbrev pub IsAsBefore : SoloSeen → SoloSeen → Type 0
 IsAsBefore old new = new ≡ record old { attempts = new.attempts }
 
+-- the service as it was after a call that made no attempt, as one by a handle of another service
+abbrev pub IsUntried : SoloSeen → SoloSeen → Type 0
+IsUntried old new = new ≡ record old { attempts = 0 }
+
+-- a seek looks at the cache for the end of a file alone
+abbrev pub looks_of : Seek → ℕ
+looks_of (End d) = 1
+looks_of place = 0
+
 -- the handle was told of all that is recorded, and nothing else of it changed
 pub record IsTold (s : SoloSeen) (old new : HandleSeen) : Type 0 where
   pub same : new ≡ record old { pass = new.pass }
@@ -234,10 +242,13 @@ IsFillRefusal old h p (Io code) new = Faulted old new
 IsFillRefusal old h p NoFrame new = Refuses old (event.FillBegin h p) NoFrame ⊎ IsWithoutRoom old NoFrame new
 IsFillRefusal old h p r new = Refuses old (event.FillBegin h p) r
 
--- why a sync of the handle's file is refused, but for writes that failed
-abbrev pub IsSyncRefusal : SoloSeen → HandleId → Refusal → Type 0
-IsSyncRefusal old h Memory = Unit {0}
-IsSyncRefusal old h r = Refuses old (event.SyncBegin h) r ⊎ ((n : SyncId) × Refuses old (event.SyncStep n) r)
+-- why an fsync is refused that ends by no success and no error of a write: a growth was refused, or no serial is left for a write. It
+-- waits for nothing, which takes a device that tells its contents
+abbrev pub IsSyncRefusal : SoloSeen → Refusal → SoloSeen → Type 0
+IsSyncRefusal old Memory new = Unit {0}
+IsSyncRefusal old TooManyInFlight new = SERIAL_END ≤ new.world.core.next
+IsSyncRefusal old Busy new = Tells old → ⊥
+IsSyncRefusal old r new = ⊥
 
 -- where an fsync ends by a success or an error: with an error exactly where a write of the file failed during the call, or the handle is
 -- owed one, with the code of the last

@@ -9,7 +9,7 @@ ghost use Rattle.cachecore.specs.State.{file_of, is_open};
 ghost use Rattle.cachecore.specs.Tests.{read_count};
 ghost use Rattle.world.specs.Plain.{named, plain_file};
 ghost use Rattle.filesvc.specs.Attempts.{Attempt, read_over, read_so_far};
-ghost use Rattle.filesvc.specs.Service.{CameFrom, IsAsBefore, IsRefusal, IsSettledAtOnce, IsWithoutRoom, Names, Serves, Tells, count_of, files, read_reply};
+ghost use Rattle.filesvc.specs.Service.{CameFrom, IsUntried, IsRefusal, IsSettledAtOnce, IsWithoutRoom, Names, Serves, Tells, count_of, files, read_reply};
 
 use crate::handle::Handle;
 use crate::room::Span;
@@ -23,7 +23,7 @@ impl<D: BlockDevice> Solo<D> {
     /// end of the file. A read touches 16 pages at most.
     pub fn pread(&mut self, handle: &Handle, offset: u64, out: &mut [u8]) -> Result<u64, Refusal>
         requires came { CameFrom self.old handle.now }
-        ensures foreign { handle.now.cache ≢ self.old.world.core.name → (result ≡ Err BadHandle) × IsAsBefore self.old self.new }
+        ensures foreign { handle.now.cache ≢ self.old.world.core.name → (result ≡ Err BadHandle) × IsUntried self.old self.new }
         ensures serves { Serves self.old self.new }
         ensures bytes { Tells self.old → IfOk result (λ n. take n out.new ≡ plain.pread (plain_file (files self.old) handle.now.file) offset (length out.old)) }
         ensures count { count_of result ≤ length out.old }
@@ -88,7 +88,7 @@ impl<D: BlockDevice> Solo<D> {
     /// Reads at the cursor, as `pread` does there, and moves the cursor by the count.
     pub fn read(&mut self, handle: &mut Handle, out: &mut [u8]) -> Result<u64, Refusal>
         requires came { CameFrom self.old handle.old }
-        ensures foreign { handle.old.cache ≢ self.old.world.core.name → (result ≡ Err BadHandle) × IsAsBefore self.old self.new }
+        ensures foreign { handle.old.cache ≢ self.old.world.core.name → (result ≡ Err BadHandle) × IsUntried self.old self.new }
         ensures serves { Serves self.old self.new }
         ensures bytes { Tells self.old → IfOk result (λ n. take n out.new ≡ plain.pread (plain_file (files self.old) handle.old.file) handle.old.cursor (length out.old)) }
         ensures count { count_of result ≤ length out.old }

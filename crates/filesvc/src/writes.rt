@@ -8,7 +8,7 @@ ghost use Rattle.cachecore.specs.Replies.{wrote};
 ghost use Rattle.cachecore.specs.State.{file_at, file_of};
 ghost use Rattle.filesvc.specs.Attempts.{Attempt, Follows, WroteAll, append_reply, truncate_over, write_over};
 ghost use Rattle.filesvc.specs.Rooms.{HasRoom};
-ghost use Rattle.filesvc.specs.Service.{CameFrom, FilesAfter, IsAsBefore, IsRefusal, IsSettledAtOnce, IsWithoutRoom, Keeps, Names, count_of, cursor_after, truncate_reply, write_event, write_reply, wrote_reply};
+ghost use Rattle.filesvc.specs.Service.{CameFrom, FilesAfter, IsUntried, IsRefusal, IsSettledAtOnce, IsWithoutRoom, Keeps, Names, count_of, cursor_after, truncate_reply, write_event, write_reply, wrote_reply};
 
 use crate::handle::Handle;
 use crate::room::Span;
@@ -29,7 +29,7 @@ impl<D: BlockDevice> Solo<D> {
     /// before them reads as zeros. A write touches 16 pages at most.
     pub fn pwrite(&mut self, handle: &Handle, offset: u64, bytes: &[u8]) -> Result<u64, Refusal>
         requires came { CameFrom self.old handle.now }
-        ensures foreign { handle.now.cache ≢ self.old.world.core.name → (result ≡ Err BadHandle) × IsAsBefore self.old self.new }
+        ensures foreign { handle.now.cache ≢ self.old.world.core.name → (result ≡ Err BadHandle) × IsUntried self.old self.new }
         ensures keeps { Keeps self.old self.new }
         ensures count { IfOk result (λ n. n ≡ length bytes.now) }
         ensures within { offset ≤ MAX_FILE_SIZE → offset + count_of result ≤ MAX_FILE_SIZE }
@@ -54,7 +54,7 @@ impl<D: BlockDevice> Solo<D> {
     /// then.
     pub fn write(&mut self, handle: &mut Handle, bytes: &[u8]) -> Result<u64, Refusal>
         requires came { CameFrom self.old handle.old }
-        ensures foreign { handle.old.cache ≢ self.old.world.core.name → (result ≡ Err BadHandle) × IsAsBefore self.old self.new }
+        ensures foreign { handle.old.cache ≢ self.old.world.core.name → (result ≡ Err BadHandle) × IsUntried self.old self.new }
         ensures keeps { Keeps self.old self.new }
         ensures count { IfOk result (λ n. n ≡ length bytes.now) }
         ensures files { FilesAfter self.old (write_event handle.old bytes.now) (wrote_reply self.old handle.old result) self.new }
@@ -76,7 +76,7 @@ impl<D: BlockDevice> Solo<D> {
     /// Writes the bytes at the end of the file.
     fn append(&mut self, handle: &Handle, bytes: &[u8]) -> Result<Wrote, Refusal>
         requires came { CameFrom self.old handle.now }
-        ensures foreign { handle.now.cache ≢ self.old.world.core.name → (result ≡ Err BadHandle) × IsAsBefore self.old self.new }
+        ensures foreign { handle.now.cache ≢ self.old.world.core.name → (result ≡ Err BadHandle) × IsUntried self.old self.new }
         ensures keeps { Keeps self.old self.new }
         ensures wrote { IfOk result (WroteAll (file_at self.old.world.core handle.now.file).size bytes.now) }
         ensures within { IfOk result (λ w. w.end ≤ MAX_FILE_SIZE) }
@@ -166,7 +166,7 @@ impl<D: BlockDevice> Solo<D> {
     /// Makes the file as long as this. A longer one gains zeros. The cursor stays.
     pub fn truncate(&mut self, handle: &Handle, size: u64) -> Result<(), Refusal>
         requires came { CameFrom self.old handle.now }
-        ensures foreign { handle.now.cache ≢ self.old.world.core.name → (result ≡ Err BadHandle) × IsAsBefore self.old self.new }
+        ensures foreign { handle.now.cache ≢ self.old.world.core.name → (result ≡ Err BadHandle) × IsUntried self.old self.new }
         ensures keeps { Keeps self.old self.new }
         ensures files { FilesAfter self.old (event.Truncate (record { 0 = handle.now.number }) size) (truncate_reply result) self.new }
         ensures first { IsSettledAtOnce self.old handle.now (event.Truncate (record { 0 = handle.now.number }) size) (truncate_reply result) self.new }

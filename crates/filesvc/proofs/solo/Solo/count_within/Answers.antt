@@ -1,4 +1,4 @@
-use Rattle.std.proofs.Common.{◌≡◌, ap, sym, ◌∙◌, ◌-◌}
+use Rattle.std.proofs.Common.{◌≡◌, ap, ◌∙◌, ◌-◌}
 use Rattle.std.specs.Prelude.{min}
 use Rattle.std.specs.Result.{result_unwrap_or}
 use Rattle.cachecore.specs.State.{State, file_at, file_of, is_open}

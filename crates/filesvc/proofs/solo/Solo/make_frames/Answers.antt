@@ -24,5 +24,5 @@ returns-in_err-make_room-clause-never g c =
     let lacks : lacks_frames c.turns.self.world.core c.args.span.handle.0 c.args.span.offset c.args.span.count ≡ true = sym (c.lacks_frames.ensures ∙ ap (λ (s : SoloSeen). lacks_frames s.world.core c.args.span.handle.0 c.args.span.offset c.args.span.count) c.self.view_is) ∙ c.turns-test.true in
     rw (p.1, p.2) (λ tells is. elim (c.in_err-make_room.ensures.full (before.keeps.tells ∙ tells) refl is) [
       | inl x ↦ faulted_before c.args.self.now c.turns.self c.make_room.new.self before x
-      | inr y ↦ absurd (let e : true ≡ false = sym lacks ∙ y c.args.span.handle.0 c.args.span.offset c.args.span.count in cc)
+      | inr y ↦ absurd (let e : true ≡ false = sym lacks ∙ y.1 c.args.span.handle.0 c.args.span.offset c.args.span.count in cc)
     ])

@@ -15,11 +15,11 @@ invariant_of-self g c =
     evicted_service s _ _ c.age.result c.evict.result c.age.ensures c.evict.ensures _ _ c.self.invariant
 
 pub returns-then-is_some-clause-serves : goal.returns-then-is_some-clause-serves
-returns-then-is_some-clause-serves g c = rw (← c.self.view_is) (evicted_serves _ _ _ c.age.result c.evict.result c.age.ensures c.evict.ensures (service_sound _ _ _ _ c.self.invariant))
+returns-then-is_some-clause-serves g c = rw (← c.self.view_is) (evicted_serves _ _ _ c.age.result c.evict.result c.age.ensures c.evict.ensures (service_sound _ _ _ _ c.self.invariant.serving))
 
 pub returns-then-branch-clause-serves : goal.returns-then-branch-clause-serves
 returns-then-branch-clause-serves g c = elim c.match-refusal.branch [
-  | in-NoFrame+else-is_some w ↦ rw (← c.self.view_is) (serves_trans _ _ _ (evicted_serves _ _ _ w.age.result w.evict.result w.age.ensures w.evict.ensures (service_sound _ _ _ _ c.self.invariant)) (rw w.self-is at c.flush_one.ensures.serves))
+  | in-NoFrame+else-is_some w ↦ rw (← c.self.view_is) (serves_trans _ _ _ (evicted_serves _ _ _ w.age.result w.evict.result w.age.ensures w.evict.ensures (service_sound _ _ _ _ c.self.invariant.serving)) (rw w.self-is at c.flush_one.ensures.serves))
   | in-DirtyLimit w ↦ rw w.self-is at c.flush_one.ensures.serves
 ]
 
@@ -37,6 +37,6 @@ returns-else-branch-clause-full g c =
     let s : SoloSeen = record { world = c.self.inside.world; errors = c.self.inside.recorder; attempts = c.self.inside.attempts } in
     let f : FlushesOne c.match-refusal.self false c.flush_one.new.self = rw c.if-branch.false at c.in_ok-flush_one.ensures.flushes in
     elim c.match-refusal.branch [
-      | in-NoFrame+else-is_some w ↦ rw (← c.self.view_is) (λ tells _ _. (let k = stuck_for_frame s c.flush_one.new.self _ _ w.age.result w.evict.result w.age.ensures w.evict.ensures (sym w.is_some.ensures ∙ w.if-is_some.false) (rw w.self-is at f) in full_refused s c.flush_one.new.self _ _ c.self.invariant tells k.0 k.1))
+      | in-NoFrame+else-is_some w ↦ rw (← c.self.view_is) (λ tells _ _. (let k = stuck_for_frame s c.flush_one.new.self _ _ w.age.result w.evict.result w.age.ensures w.evict.ensures (sym w.is_some.ensures ∙ w.if-is_some.false) (rw w.self-is at f) in full_refused s c.flush_one.new.self _ _ c.self.invariant.serving tells k.0 k.1))
       | in-DirtyLimit w ↦ λ tells no _. absurd (let e : DirtyLimit ≡ NoFrame = sym w.in-DirtyLimit.is ∙ no in cc)
     ]
