@@ -17,3 +17,4 @@ pub mod Load
 pub mod Sizes
 pub mod Enough
 pub mod SyncsKept
+pub mod Fronts

@@ -9,7 +9,7 @@ ghost use Rattle.cachecore.specs.State.{file_of, is_open};
 ghost use Rattle.cachecore.specs.Tests.{read_count};
 ghost use Rattle.world.specs.Plain.{named, plain_file};
 ghost use Rattle.filesvc.specs.Attempts.{Attempt, read_over, read_so_far};
-ghost use Rattle.filesvc.specs.Service.{CameFrom, IsUntried, IsRefusal, IsSettledAtOnce, IsWithoutRoom, Names, Serves, Tells, count_of, files, read_reply};
+ghost use Rattle.filesvc.specs.Service.{CameFrom, IsRefusal, IsSettledAtOnce, IsUntried, Names, Serves, Tells, count_of, files, read_reply};
 
 use crate::handle::Handle;
 use crate::room::Span;
@@ -30,8 +30,7 @@ impl<D: BlockDevice> Solo<D> {
         ensures rest { drop (count_of result) out.new ≡ drop (count_of result) out.old }
         ensures within { offset ≤ MAX_FILE_SIZE → offset + count_of result ≤ MAX_FILE_SIZE }
         ensures first { IsSettledAtOnce self.old handle.now (event.Read (record { 0 = handle.now.number }) offset (length out.old)) (read_reply result out.new) self.new }
-        ensures refused { Names self.old handle.now → IfErr result (λ r. IsRefusal self.old (record { 0 = handle.now.number }) (event.Read (record { 0 = handle.now.number }) offset (length out.old)) r self.new) }
-        ensures room { IfErr result (λ r. IsWithoutRoom self.old r self.new) }
+        ensures refused { Names self.old handle.now → IfErr result (λ r. IsRefusal self.old (event.Read (record { 0 = handle.now.number }) offset (length out.old)) r self.new) }
     {
         self.attempts = 0;
         if handle.cache != self.name {
@@ -54,12 +53,11 @@ impl<D: BlockDevice> Solo<D> {
     ) -> Result<Option<u64>, Refusal>
         requires { self.old.attempts < 256 }
         ensures serves { Serves self.old self.new }
-        ensures attempt { Attempt self.old handle (event.Read handle offset (length out.old)) (read_over result out.new) self.new }
+        ensures attempt { Attempt self.old (event.Read handle offset (length out.old)) (read_over result out.new) self.new }
         ensures bytes { Tells self.old → IfOk result (λ n. IfSome n (λ k. take k out.new ≡ plain.pread (plain_file (files self.old) (named (files self.old) handle.0)) offset (length out.old))) }
         ensures count { read_so_far result ≤ length out.old }
         ensures rest { drop (read_so_far result) out.new ≡ drop (read_so_far result) out.old }
         ensures within { offset ≤ MAX_FILE_SIZE → offset + read_so_far result ≤ MAX_FILE_SIZE }
-        ensures room { IfErr result (λ r. IsWithoutRoom self.old r self.new) }
     {
         self.attempts += 1;
         match self.world.read(handle, offset, out)? {
@@ -95,8 +93,7 @@ impl<D: BlockDevice> Solo<D> {
         ensures rest { drop (count_of result) out.new ≡ drop (count_of result) out.old }
         ensures cursor { handle.new ≡ record handle.old { cursor = handle.old.cursor + count_of result } }
         ensures first { IsSettledAtOnce self.old handle.old (event.Read (record { 0 = handle.old.number }) handle.old.cursor (length out.old)) (read_reply result out.new) self.new }
-        ensures refused { Names self.old handle.old → IfErr result (λ r. IsRefusal self.old (record { 0 = handle.old.number }) (event.Read (record { 0 = handle.old.number }) handle.old.cursor (length out.old)) r self.new) }
-        ensures room { IfErr result (λ r. IsWithoutRoom self.old r self.new) }
+        ensures refused { Names self.old handle.old → IfErr result (λ r. IsRefusal self.old (event.Read (record { 0 = handle.old.number }) handle.old.cursor (length out.old)) r self.new) }
     {
         let count = self.pread(handle, handle.cursor, out)?;
         handle.cursor += count;

@@ -3,8 +3,8 @@
 ghost use Rattle.std.specs.Prelude.{◌≡◌, ◌⊎◌, false, IfErr, IfOk, IsOkUnless, OnOk};
 ghost use Rattle.pc_types.specs.declared.refusal.Refusal.TheVariants.{DirtyLimit, Memory, NoFrame};
 ghost use Rattle.cachecore.specs.Wants.{lacks_frames, passes_limit};
-ghost use Rattle.filesvc.specs.Rooms.{FlushesOne, IsFlush, MakesRoom, Suffices};
-ghost use Rattle.filesvc.specs.Service.{Faulted, IsFillRefusal, IsWithoutRoom, Serves, Tells};
+ghost use Rattle.filesvc.specs.Rooms.{FlushesOne, IsClean, IsFillRefusal, IsFlush, IsFull, MakesRoom, Suffices};
+ghost use Rattle.filesvc.specs.Service.{Faulted, IsWithoutRoom, Serves, Tells};
 
 use crate::requests::{fill_page, flush_page};
 use crate::solo::Solo;
@@ -27,8 +27,7 @@ impl<D: BlockDevice> Solo<D> {
     pub(crate) fn fill(&mut self, span: Span, page: PageIndex) -> Result<(), Refusal>
         ensures serves { Serves self.old self.new }
         ensures attempts { self.new.attempts ≡ self.old.attempts }
-        ensures refused { IfErr result (λ r. IsFillRefusal self.old span.handle page r self.new) }
-        ensures room { IfErr result (λ r. IsWithoutRoom self.old r self.new) }
+        ensures refused { IfErr result (λ r. IsFillRefusal self.old span.handle r self.new) }
     {
         self.make_frames(span)?;
         self.fill_once(span.handle, page)
@@ -38,15 +37,18 @@ impl<D: BlockDevice> Solo<D> {
     fn fill_once(&mut self, handle: HandleId, page: PageIndex) -> Result<(), Refusal>
         ensures serves { Serves self.old self.new }
         ensures attempts { self.new.attempts ≡ self.old.attempts }
-        ensures refused { IfErr result (λ r. IsFillRefusal self.old handle page r self.new) }
-        ensures room { IfErr result (λ r. IsWithoutRoom self.old r self.new) }
+        ensures refused { IfErr result (λ r. IsFillRefusal self.old handle r self.new) }
     {
-        let refusal = match fill_page(&mut self.world, &mut self.recorder, handle, page) {
+        let why = match fill_page(&mut self.world, &mut self.recorder, handle, page) {
             Reply::Failed(code) => return Err(Refusal::Io(code)),
             Reply::Refused(refusal) => refusal,
             _ => return Ok(()),
         };
-        self.make_room(refusal)
+        match why {
+            Refusal::NoFrame => {}
+            other => return Err(other),
+        }
+        self.make_room(Refusal::NoFrame)
     }
 
     /// Makes room until as many frames are free as the call lacks pages.
@@ -55,7 +57,6 @@ impl<D: BlockDevice> Solo<D> {
         ensures attempts { self.new.attempts ≡ self.old.attempts }
         ensures made { OnOk result (lacks_frames self.new.world.core span.handle.0 span.offset span.count ≡ false) }
         ensures refused { IfErr result (λ r. (r ≡ NoFrame) ⊎ (r ≡ Memory)) }
-        ensures never { Tells self.old → IfErr result (λ r. r ≡ NoFrame → Faulted self.old self.new) }
         ensures room { IfErr result (λ r. IsWithoutRoom self.old r self.new) }
     {
         'turns: while self
@@ -91,8 +92,9 @@ impl<D: BlockDevice> Solo<D> {
         ensures attempts { self.new.attempts ≡ self.old.attempts }
         ensures made { OnOk result (MakesRoom self.old refusal self.new) }
         ensures refused { IfErr result (λ r. (r ≡ refusal) ⊎ (r ≡ Memory)) }
-        ensures full { Tells self.old → refusal ≡ NoFrame → IfErr result (λ r. r ≡ NoFrame → Faulted self.old self.new ⊎ Suffices self.old) }
-        ensures room { IfErr result (λ r. IsWithoutRoom self.old r self.new) }
+        ensures full { IfErr result (λ r. IsFull self.old r self.new) }
+        ensures frames { Tells self.old → refusal ≡ NoFrame → IfErr result (λ r. r ≡ NoFrame → Faulted self.old self.new ⊎ Suffices self.old) }
+        ensures clean { Tells self.old → refusal ≡ DirtyLimit → IfErr result (λ r. r ≡ DirtyLimit → Faulted self.old self.new ⊎ IsClean self.old) }
     {
         match refusal {
             Refusal::NoFrame => {

@@ -8,7 +8,7 @@ ghost use Rattle.cachecore.specs.Replies.{wrote};
 ghost use Rattle.cachecore.specs.State.{file_at, file_of};
 ghost use Rattle.filesvc.specs.Attempts.{Attempt, Follows, WroteAll, append_reply, truncate_over, write_over};
 ghost use Rattle.filesvc.specs.Rooms.{HasRoom};
-ghost use Rattle.filesvc.specs.Service.{CameFrom, FilesAfter, IsUntried, IsRefusal, IsSettledAtOnce, IsWithoutRoom, Keeps, Names, count_of, cursor_after, truncate_reply, write_event, write_reply, wrote_reply};
+ghost use Rattle.filesvc.specs.Service.{CameFrom, FilesAfter, IsRefusal, IsSettledAtOnce, IsUntried, Keeps, Names, count_of, cursor_after, truncate_reply, write_event, write_reply, wrote_reply};
 
 use crate::handle::Handle;
 use crate::room::Span;
@@ -35,8 +35,7 @@ impl<D: BlockDevice> Solo<D> {
         ensures within { offset ≤ MAX_FILE_SIZE → offset + count_of result ≤ MAX_FILE_SIZE }
         ensures files { FilesAfter self.old (event.Write (record { 0 = handle.now.number }) offset bytes.now) (write_reply result (offset + length bytes.now)) self.new }
         ensures first { IsSettledAtOnce self.old handle.now (event.Write (record { 0 = handle.now.number }) offset bytes.now) (write_reply result (offset + length bytes.now)) self.new }
-        ensures refused { Names self.old handle.now → IfErr result (λ r. IsRefusal self.old (record { 0 = handle.now.number }) (event.Write (record { 0 = handle.now.number }) offset bytes.now) r self.new) }
-        ensures room { IfErr result (λ r. IsWithoutRoom self.old r self.new) }
+        ensures refused { Names self.old handle.now → IfErr result (λ r. IsRefusal self.old (event.Write (record { 0 = handle.now.number }) offset bytes.now) r self.new) }
     {
         self.attempts = 0;
         if handle.cache != self.name {
@@ -60,8 +59,7 @@ impl<D: BlockDevice> Solo<D> {
         ensures files { FilesAfter self.old (write_event handle.old bytes.now) (wrote_reply self.old handle.old result) self.new }
         ensures cursor { handle.new ≡ record handle.old { cursor = cursor_after self.old handle.old result } }
         ensures first { IsSettledAtOnce self.old handle.old (write_event handle.old bytes.now) (wrote_reply self.old handle.old result) self.new }
-        ensures refused { Names self.old handle.old → IfErr result (λ r. IsRefusal self.old (record { 0 = handle.old.number }) (write_event handle.old bytes.now) r self.new) }
-        ensures room { IfErr result (λ r. IsWithoutRoom self.old r self.new) }
+        ensures refused { Names self.old handle.old → IfErr result (λ r. IsRefusal self.old (write_event handle.old bytes.now) r self.new) }
     {
         if !handle.append {
             let count = self.pwrite(handle, handle.cursor, bytes)?;
@@ -82,8 +80,7 @@ impl<D: BlockDevice> Solo<D> {
         ensures within { IfOk result (λ w. w.end ≤ MAX_FILE_SIZE) }
         ensures files { FilesAfter self.old (event.Append (record { 0 = handle.now.number }) bytes.now) (append_reply result) self.new }
         ensures first { IsSettledAtOnce self.old handle.now (event.Append (record { 0 = handle.now.number }) bytes.now) (append_reply result) self.new }
-        ensures refused { Names self.old handle.now → IfErr result (λ r. IsRefusal self.old (record { 0 = handle.now.number }) (event.Append (record { 0 = handle.now.number }) bytes.now) r self.new) }
-        ensures room { IfErr result (λ r. IsWithoutRoom self.old r self.new) }
+        ensures refused { Names self.old handle.now → IfErr result (λ r. IsRefusal self.old (event.Append (record { 0 = handle.now.number }) bytes.now) r self.new) }
     {
         self.attempts = 0;
         if handle.cache != self.name {
@@ -105,9 +102,8 @@ impl<D: BlockDevice> Solo<D> {
         bytes: &[u8],
     ) -> Result<Option<Wrote>, Refusal>
         requires { self.old.attempts < 256 }
-        ensures attempt { Attempt self.old handle (event.Write handle offset bytes.now) (write_over result) self.new }
+        ensures attempt { Attempt self.old (event.Write handle offset bytes.now) (write_over result) self.new }
         ensures wrote { IfOk result (λ o. IfSome o (WroteAll offset bytes.now)) }
-        ensures room { IfErr result (λ r. IsWithoutRoom self.old r self.new) }
     {
         self.attempts += 1;
         let answer = self.world.write(handle, offset, bytes);
@@ -125,9 +121,8 @@ impl<D: BlockDevice> Solo<D> {
     /// One attempt to append, as `try_write` is one to write.
     fn try_append(&mut self, handle: HandleId, bytes: &[u8]) -> Result<Option<Wrote>, Refusal>
         requires { self.old.attempts < 256 }
-        ensures attempt { Attempt self.old handle (event.Append handle bytes.now) (write_over result) self.new }
+        ensures attempt { Attempt self.old (event.Append handle bytes.now) (write_over result) self.new }
         ensures wrote { IfOk result (λ o. IfSome o (WroteAll (file_at self.old.world.core (file_of self.old.world.core handle.0)).size bytes.now)) }
-        ensures room { IfErr result (λ r. IsWithoutRoom self.old r self.new) }
     {
         self.attempts += 1;
         let offset = self.world.size(handle).unwrap_or(0);
@@ -151,7 +146,6 @@ impl<D: BlockDevice> Solo<D> {
     ) -> Result<Option<Wrote>, Refusal>
         ensures follows { Follows self.old span.handle (wrote answer) (write_over result) self.new }
         ensures again { IfOk result (λ o. IfNone o (IfErr answer (λ r. HasRoom span.handle.0 span.offset span.count r self.new))) }
-        ensures room { IfErr result (λ r. IsWithoutRoom self.old r self.new) }
     {
         match answer {
             Ok(WriteAnswer::Wrote { count, end }) => return Ok(Some(Wrote { count, end })),
@@ -170,8 +164,7 @@ impl<D: BlockDevice> Solo<D> {
         ensures keeps { Keeps self.old self.new }
         ensures files { FilesAfter self.old (event.Truncate (record { 0 = handle.now.number }) size) (truncate_reply result) self.new }
         ensures first { IsSettledAtOnce self.old handle.now (event.Truncate (record { 0 = handle.now.number }) size) (truncate_reply result) self.new }
-        ensures refused { Names self.old handle.now → IfErr result (λ r. IsRefusal self.old (record { 0 = handle.now.number }) (event.Truncate (record { 0 = handle.now.number }) size) r self.new) }
-        ensures room { IfErr result (λ r. IsWithoutRoom self.old r self.new) }
+        ensures refused { Names self.old handle.now → IfErr result (λ r. IsRefusal self.old (event.Truncate (record { 0 = handle.now.number }) size) r self.new) }
     {
         self.attempts = 0;
         if handle.cache != self.name {
@@ -188,8 +181,7 @@ impl<D: BlockDevice> Solo<D> {
     /// One attempt to truncate. Answers whether that is done; where a page is missing it is filled.
     fn try_truncate(&mut self, handle: HandleId, size: u64) -> Result<bool, Refusal>
         requires { self.old.attempts < 256 }
-        ensures attempt { Attempt self.old handle (event.Truncate handle size) (truncate_over result) self.new }
-        ensures room { IfErr result (λ r. IsWithoutRoom self.old r self.new) }
+        ensures attempt { Attempt self.old (event.Truncate handle size) (truncate_over result) self.new }
     {
         self.attempts += 1;
         match self.world.truncate(handle, size)? {

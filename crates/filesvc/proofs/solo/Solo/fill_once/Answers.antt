@@ -1,7 +1,7 @@
 use Rattle.std.proofs.Common.{refl}
 use Rattle.filesvc.specs.Seen.{SoloSeen}
 use Rattle.filesvc.proofs.Laws.{serves_trans}
-use Rattle.filesvc.proofs.RoomLaws.{fill_faulted, fill_refused, room_refused}
+use Rattle.filesvc.proofs.RoomLaws.{fill_faulted, fill_stopped}
 use Rattle.filesvc.proofs.WorldLaws.{at_once_serves, at_once_service, fill_begins, service_sound}
 use Rattle.filesvc.proofs.solo.Solo.fill_once.Goals as goal
 
@@ -34,7 +34,15 @@ returns-in_default-clause-serves g c = rw (← c.self.view_is) (at_once_serves _
 pub returns-clause-serves : goal.returns-clause-serves
 returns-clause-serves g c = rw (← c.self.view_is) (serves_trans _ _ _ (at_once_serves _ _ _ _ _ _ _ _ (fill_begins c.args.handle c.args.page) c.fill_page.ensures.made c.self.invariant.serving) c.make_room.ensures.serves)
 
-pub returns-clause-refused : goal.returns-clause-refused
-returns-clause-refused g c =
-    let refused = fill_refused _ _ _ _ c.args.handle c.args.page c.in-Refused.refusal c.in-Refused.ensures.made in
-    rw (← c.self.view_is) (room_refused _ _ _ _ _ c.make_room.result refused c.make_room.ensures.refused)
+pub invariant_of-self-in_default-why : goal.invariant_of-self-in_default-why
+invariant_of-self-in_default-why g c =
+    let s : SoloSeen = record { world = c.self.inside.world; errors = c.self.inside.recorder; attempts = 0 } in
+    at_once_service _ s _ _ _ _ _ _ (fill_begins c.args.handle c.args.page) refl c.fill_page.ensures.made c.self.invariant
+
+pub returns-in_default-why-clause-serves : goal.returns-in_default-why-clause-serves
+returns-in_default-why-clause-serves g c = rw (← c.self.view_is) (at_once_serves _ _ _ _ _ _ _ _ (fill_begins c.args.handle c.args.page) c.fill_page.ensures.made c.self.invariant.serving)
+
+pub returns-in_default-why-clause-refused : goal.returns-in_default-why-clause-refused
+returns-in_default-why-clause-refused g c =
+    let s : SoloSeen = record { world = c.self.inside.world; errors = c.self.inside.recorder; attempts = c.self.inside.attempts } in
+    rw (← c.self.view_is) (fill_stopped _ s _ _ _ c.args.handle c.args.page c.in-Refused.refusal c.self.invariant.serving c.in-Refused.ensures.made c.in_default-why.not-NoFrame)
