@@ -89,3 +89,4 @@ pub mod Victims
 pub mod Accesses
 pub mod TaggedFrames
 pub mod ReadFrames
+pub mod TouchCounts
