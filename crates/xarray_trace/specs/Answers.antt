@@ -1,6 +1,5 @@
 -- What an operation's answer prints.
-use Rattle.std.specs.Prelude.{ℕ, ◌^◌, ◌-◌, false, ◌==◌, if◌then◌else◌, nat_lt, List, [], ◌∷◌, ◌++◌, Option, codes, decimal}
-use Rattle.std.specs.Io.KnownBytes.{Appends}
+use Rattle.std.specs.Prelude.{ℕ, ◌^◌, ◌-◌, false, ◌==◌, if◌then◌else◌, nat_lt, List, [], ◌∷◌, ◌++◌, codes, decimal}
 use Rattle.std.specs.Fmt.{digits, padded_integral, format_spec}
 use Rattle.pc_types.specs.Refusals.{refusal_number}
 use Rattle.xarray_trace.specs.declared.answer.Answer.{Answer}
@@ -8,10 +7,6 @@ use Rattle.xarray_trace.specs.declared.answer.Answer.TheVariants as answer
 use Rattle.xarray.specs.MarkedArray.{Range}
 use Rattle.xarray_trace.specs.Entries.{shown}
 use Rattle.xarray_trace.specs.declared.entries.Entry.{Entry}
-
--- the text and the end of a line (byte 0a) are added to what was written
-abbrev pub Prints : Option (List ℕ) → Option (List ℕ) → List ℕ → Type 0
-Prints old new text = Appends old new (text ++ (10 ∷ []))
 
 -- so many hexadecimal digits in lower case, with zeros before them
 abbrev pub hex_text : ℕ → ℕ → List ℕ

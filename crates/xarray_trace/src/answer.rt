@@ -1,15 +1,16 @@
 //! What an operation answers, as it is printed.
 
-ghost use Rattle.std.specs.Prelude.{◌≡◌, OnOk, IfSome};
-ghost use Rattle.xarray_trace.specs.Answers.{answer_text, marks_text, entry_text, Prints};
+ghost use Rattle.std.specs.Prelude.{◌≡◌, OnOk};
+ghost use Rattle.textline.specs.Lines.{Prints};
+ghost use Rattle.xarray_trace.specs.Answers.{answer_text, marks_text, entry_text};
 
 use crate::entries::Entry;
-use crate::stop::Stop;
 use errseq::ErrWord;
 use pc_types::Refusal;
 use std::fmt;
 use std::fmt::Display;
 use std::io::Write;
+use textline::{Stop, print_line};
 use xarray::Found;
 
 #[derive(Clone, Copy, PartialEq, Eq, Debug)]
@@ -86,16 +87,6 @@ impl Display for Digits {
         } else {
             write!(f, "{:016x}", word.0)
         }
-    }
-}
-
-/// Prints one line.
-pub fn print_line<W: Write, D: Display + Drop>(out: &mut W, text: D) -> Result<(), Stop>
-    ensures { OnOk result (IfSome (D.output text) (λ text. Prints (W.contents out.old) (W.contents out.new) text)) }
-{
-    match out.writeln(text) {
-        Ok(()) => Ok(()),
-        Err(_) => Err(Stop::Output),
     }
 }
 
