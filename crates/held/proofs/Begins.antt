@@ -1,6 +1,6 @@
 -- The events that may begin a request: they have no bytes, and reserve what the request's end takes.
-use Rattle.std.proofs.Common.{◌≡◌, ℕ, ◌+◌, ◌-◌, ◌*◌, ◌≤◌, true, [], refl, ap, sym, subst, ◌∙◌, arith, inl, inr}
-use Rattle.std.specs.Prelude.{◌⊎◌, Result, Ok, Err}
+use Rattle.std.proofs.Common.{◌≡◌, ℕ, true, [], refl, ap, sym, ◌∙◌}
+use Rattle.std.specs.Prelude.{Result, Ok, Err}
 use Rattle.pc_types.specs.declared.refusal.Refusal.{Refusal}
 use Rattle.pc_types.specs.declared.ids.FileId.{FileId}
 use Rattle.pc_types.specs.declared.ids.HandleId.{HandleId}
@@ -26,12 +26,13 @@ use Rattle.trail.specs.declared.entry.Entry.{Entry}
 use Rattle.held.specs.declared.log.Slip.{Slip}
 use Rattle.trail.specs.declared.reserve.Reserve.{Reserve}
 use Rattle.held.specs.Entered.{Entered}
-use Rattle.trail.specs.Entries.{entry_of, entry_with, reply_with}
+use Rattle.trail.specs.Entries.{entry_with, event_with, noted, reply_with}
 use Rattle.trail.specs.History.{Steps}
 use Rattle.held.specs.Kept.{IsHeld}
-use Rattle.trail.specs.Room.{fits_beside, less, reserved_after, fill_reserved, one_reserved, one_used}
+use Rattle.trail.specs.Room.{fits_beside, has_room, less, reserved, reserved_after}
 use Rattle.held.specs.Shown.{LogSeen, SeatSeen}
-use Rattle.held.proofs.Holds.{Went, went_on, as_steps}
+use Rattle.held.proofs.Holds.{Went, went, as_steps, room_for, none_needed}
+use Rattle.held.proofs.Tied.{FillsPage}
 
 -- no such reply has bytes
 bare_fill : (a : Result FillBegun Refused) → reply_with (fill_begun a) [] ≡ fill_begun a
@@ -54,54 +55,9 @@ bare_sync (Ok (sync.Clean b)) = refl
 bare_sync (Ok (sync.Failed code b)) = refl
 bare_sync (Err e) = refl
 
--- what is reserved then
-fill_reserves : (h : HandleId) (p : PageIndex) (a : Result FillBegun Refused) (v : Reserve) → (reserved_after (event.FillBegin h p) (fill_begun a) v ≡ v) ⊎ (reserved_after (event.FillBegin h p) (fill_begun a) v ≡ fill_reserved v)
-fill_reserves h p (Ok (fill.Gone b)) v = inl refl
-fill_reserves h p (Ok (fill.Wait q b)) v = inl refl
-fill_reserves h p (Ok (fill.Present b)) v = inl refl
-fill_reserves h p (Ok (fill.Filled b)) v = inl refl
-fill_reserves h p (Ok (fill.Job job)) v = inr refl
-fill_reserves h p (Err e) v = inl refl
-
-flush_reserves : (f : FileId) (a : Result FlushBegun Refused) (v : Reserve) → (reserved_after (event.FlushBegin f) (flush_begun a) v ≡ v) ⊎ (reserved_after (event.FlushBegin f) (flush_begun a) v ≡ one_reserved v)
-flush_reserves f (Ok (flush.Nothing b)) v = inl refl
-flush_reserves f (Ok (flush.Job job)) v = inr refl
-flush_reserves f (Err e) v = inl refl
-
-sync_reserves : (n : SyncId) (a : Result SyncStepped Refused) (v : Reserve) → (reserved_after (event.SyncStep n) (sync_stepped a) v).others ≤ v.others + 1
-sync_reserves n (Ok (sync.Job job)) v = omega arith
-sync_reserves n (Ok (sync.Wait p b)) v = omega arith
-sync_reserves n (Ok (sync.Clean b)) v = omega arith
-sync_reserves n (Ok (sync.Failed code b)) v = omega arith
-sync_reserves n (Err e) v = omega arith
-
-sync_fills : (n : SyncId) (a : Result SyncStepped Refused) (v : Reserve) → (reserved_after (event.SyncStep n) (sync_stepped a) v).fills ≡ v.fills
-sync_fills n (Ok (sync.Job job)) v = refl
-sync_fills n (Ok (sync.Wait p b)) v = refl
-sync_fills n (Ok (sync.Clean b)) v = refl
-sync_fills n (Ok (sync.Failed code b)) v = refl
-sync_fills n (Err e) v = refl
-
 bare_begun : (a : Result SyncId Refusal) → reply_with (sync_begun a) [] ≡ sync_begun a
 bare_begun (Ok n) = refl
 bare_begun (Err e) = refl
-
-begun_others : (h : HandleId) (a : Result SyncId Refusal) (v : Reserve) → (reserved_after (event.SyncBegin h) (sync_begun a) v).others ≤ v.others + 1
-begun_others h (Ok n) v = omega arith
-begun_others h (Err e) v = omega arith
-
-begun_fills : (h : HandleId) (a : Result SyncId Refusal) (v : Reserve) → (reserved_after (event.SyncBegin h) (sync_begun a) v).fills ≡ v.fills
-begun_fills h (Ok n) v = refl
-begun_fills h (Err e) v = refl
-
-two_more : (f o x : ℕ) → x ≤ f + o + 1 → (x + 0) + 1 ≤ f + o + 2
-two_more f o x le = omega arith
-
-page_more : (page f : ℕ) → (page * (f + 1) + 0) + 0 ≤ page * f + page
-page_more page f = omega arith
-
-page_same : (page f b : ℕ) → (page * f + 0) + 0 ≤ page * f + b
-page_same page f b = let k : ℕ = page * f in let e : (k + 0) + 0 ≤ k + b = omega arith in e
 
 -- ---- a step that may have begun a flush is one up to its bytes
 
@@ -111,49 +67,30 @@ flush_steps old f a new s = (s.0, s.1, ap bare s.2 ∙ bare-bare s.0)
 pub sync_steps : (old : State) (n : SyncId) (a : Result SyncStepped Refused) (new : State) → SyncAdvance old n.0 a new → Steps old (event.SyncStep n) (sync_stepped a) new
 sync_steps old n a new s = (s.0, s.1, ap bare s.2 ∙ bare-bare s.0)
 
+-- an event without bytes whose entry is made as it stands
 module _ (old new : LogSeen) (core next : State) (v w : Reserve) (page : ℕ) (before after : SeatSeen) (slip : Slip) (i : IsHeld old core v page) (room : new.room ≡ less old.room 0) where
+  bare_went : (e : Event) (a r : Reply) → event_with e [] ≡ noted e a → reply_with a [] ≡ a → FillsPage core.sizes.page e → has_room old.room (reserved core) core e ≡ true → Steps core e a next → r ≡ a → w ≡ reserved_after e r v
+      → Entered (entry_with (record { seat = before.number; event = e; reply = r }) []) old new before after slip → Went old new core next w page before after slip e a
+  bare_went e a r is_event is_reply filled has s is reserve entered =
+      went old new core next v w page before after slip e a _ 0 i has (none_needed _) filled
+      (λ j. record { seat = before.number; event = is_event j; reply = (ap (λ x. reply_with x []) is ∙ is_reply) j }) s entered room (reserve ∙ ap (λ x. reserved_after e x v) is)
+
   pub fill_went : (h : HandleId) (p : PageIndex) (a : Result FillBegun Refused) (r : Reply) → fits_beside old.room page v 2 page ≡ true → Step core (event.FillBegin h p) (fill_begun a) next → r ≡ fill_begun a → w ≡ reserved_after (event.FillBegin h p) r v
       → Entered (entry_with (record { seat = before.number; event = event.FillBegin h p; reply = r }) []) old new before after slip → Went old new core next w page before after slip (event.FillBegin h p) (fill_begun a)
   fill_went h p a r fits s is reserve entered =
-      let on : w ≡ reserved_after (event.FillBegin h p) (fill_begun a) v = reserve ∙ ap (λ x. reserved_after (event.FillBegin h p) x v) is in
-      let entry : entry_with (record { seat = before.number; event = event.FillBegin h p; reply = r }) [] ≡ entry_of before.number (event.FillBegin h p) (fill_begun a) = ap (λ x. record { seat = before.number; event = event.FillBegin h p; reply = x }) (ap (λ x. reply_with x []) is ∙ bare_fill a) in
-      elim (fill_reserves h p a v) [
-        | inl same ↦ (let e : w ≡ v = on ∙ same in
-            went_on old new core next v w page before after slip (event.FillBegin h p) (fill_begun a) _ 2 page 0 i fits (two_more v.fills v.others (w.fills + w.others) (subst (λ (x : Reserve). x.fills + x.others ≤ v.fills + v.others + 1) (sym e) (omega arith)))
-            (subst (λ (x : Reserve). (page * x.fills + 0) + 0 ≤ page * v.fills + page) (sym e) (page_same page v.fills page)) entry (as_steps core next (event.FillBegin h p) (fill_begun a) s) entered room on)
-        | inr more ↦ (let e : w ≡ fill_reserved v = on ∙ more in
-            went_on old new core next v w page before after slip (event.FillBegin h p) (fill_begun a) _ 2 page 0 i fits (two_more v.fills v.others (w.fills + w.others) (subst (λ (x : Reserve). x.fills + x.others ≤ v.fills + v.others + 1) (sym e) (omega arith)))
-            (subst (λ (x : Reserve). (page * x.fills + 0) + 0 ≤ page * v.fills + page) (sym e) (page_more page v.fills)) entry (as_steps core next (event.FillBegin h p) (fill_begun a) s) entered room on)
-      ]
+      bare_went (event.FillBegin h p) (fill_begun a) r refl (bare_fill a) tt (room_for old core v page 2 page (event.FillBegin h p) i fits refl (sym i.size)) (as_steps core next (event.FillBegin h p) (fill_begun a) s) is reserve entered
 
   pub flush_went : (f : FileId) (a : Result FlushBegun Refused) (r : Reply) → fits_beside old.room page v 2 0 ≡ true → FlushStep core f.0 a next → r ≡ flush_begun a → w ≡ reserved_after (event.FlushBegin f) r v
       → Entered (entry_with (record { seat = before.number; event = event.FlushBegin f; reply = r }) []) old new before after slip → Went old new core next w page before after slip (event.FlushBegin f) (flush_begun a)
   flush_went f a r fits s is reserve entered =
-      let on : w ≡ reserved_after (event.FlushBegin f) (flush_begun a) v = reserve ∙ ap (λ x. reserved_after (event.FlushBegin f) x v) is in
-      let entry : entry_with (record { seat = before.number; event = event.FlushBegin f; reply = r }) [] ≡ entry_of before.number (event.FlushBegin f) (flush_begun a) = ap (λ x. record { seat = before.number; event = event.FlushBegin f; reply = x }) (ap (λ x. reply_with x []) is ∙ bare_flush a) in
-      elim (flush_reserves f a v) [
-        | inl same ↦ (let e : w ≡ v = on ∙ same in
-            went_on old new core next v w page before after slip (event.FlushBegin f) (flush_begun a) _ 2 0 0 i fits (two_more v.fills v.others (w.fills + w.others) (subst (λ (x : Reserve). x.fills + x.others ≤ v.fills + v.others + 1) (sym e) (omega arith)))
-            (subst (λ (x : Reserve). (page * x.fills + 0) + 0 ≤ page * v.fills + 0) (sym e) (page_same page v.fills 0)) entry (flush_steps core f a next s) entered room on)
-        | inr more ↦ (let e : w ≡ one_reserved v = on ∙ more in
-            went_on old new core next v w page before after slip (event.FlushBegin f) (flush_begun a) _ 2 0 0 i fits (two_more v.fills v.others (w.fills + w.others) (subst (λ (x : Reserve). x.fills + x.others ≤ v.fills + v.others + 1) (sym e) (omega arith)))
-            (subst (λ (x : Reserve). (page * x.fills + 0) + 0 ≤ page * v.fills + 0) (sym e) (page_same page v.fills 0)) entry (flush_steps core f a next s) entered room on)
-      ]
+      bare_went (event.FlushBegin f) (flush_begun a) r refl (bare_flush a) tt (room_for old core v page 2 0 (event.FlushBegin f) i fits refl refl) (flush_steps core f a next s) is reserve entered
 
   pub sync_went : (n : SyncId) (a : Result SyncStepped Refused) (r : Reply) → fits_beside old.room page v 2 0 ≡ true → SyncAdvance core n.0 a next → r ≡ sync_stepped a → w ≡ reserved_after (event.SyncStep n) r v
       → Entered (entry_with (record { seat = before.number; event = event.SyncStep n; reply = r }) []) old new before after slip → Went old new core next w page before after slip (event.SyncStep n) (sync_stepped a)
   sync_went n a r fits s is reserve entered =
-      let on : w ≡ reserved_after (event.SyncStep n) (sync_stepped a) v = reserve ∙ ap (λ x. reserved_after (event.SyncStep n) x v) is in
-      let entry : entry_with (record { seat = before.number; event = event.SyncStep n; reply = r }) [] ≡ entry_of before.number (event.SyncStep n) (sync_stepped a) = ap (λ x. record { seat = before.number; event = event.SyncStep n; reply = x }) (ap (λ x. reply_with x []) is ∙ bare_sync a) in
-      let few : w.fills + w.others ≤ v.fills + v.others + 1 = subst (λ (x : Reserve). x.fills + x.others ≤ v.fills + v.others + 1) (sym on) (omega (arith, sync_reserves n a v, sync_fills n a v)) in
-      went_on old new core next v w page before after slip (event.SyncStep n) (sync_stepped a) _ 2 0 0 i fits (two_more v.fills v.others (w.fills + w.others) few)
-      (subst (λ k. (page * k + 0) + 0 ≤ page * v.fills + 0) (sym (ap (λ (x : Reserve). x.fills) on ∙ sync_fills n a v)) (page_same page v.fills 0)) entry (sync_steps core n a next s) entered room on
+      bare_went (event.SyncStep n) (sync_stepped a) r refl (bare_sync a) tt (room_for old core v page 2 0 (event.SyncStep n) i fits refl refl) (sync_steps core n a next s) is reserve entered
 
   pub sync_begin_went : (h : HandleId) (a : Result SyncId Refusal) (r : Reply) → fits_beside old.room page v 2 0 ≡ true → Step core (event.SyncBegin h) (sync_begun a) next → r ≡ sync_begun a → w ≡ reserved_after (event.SyncBegin h) r v
       → Entered (entry_with (record { seat = before.number; event = event.SyncBegin h; reply = r }) []) old new before after slip → Went old new core next w page before after slip (event.SyncBegin h) (sync_begun a)
   sync_begin_went h a r fits s is reserve entered =
-      let on : w ≡ reserved_after (event.SyncBegin h) (sync_begun a) v = reserve ∙ ap (λ x. reserved_after (event.SyncBegin h) x v) is in
-      let entry : entry_with (record { seat = before.number; event = event.SyncBegin h; reply = r }) [] ≡ entry_of before.number (event.SyncBegin h) (sync_begun a) = ap (λ x. record { seat = before.number; event = event.SyncBegin h; reply = x }) (ap (λ x. reply_with x []) is ∙ bare_begun a) in
-      let few : w.fills + w.others ≤ v.fills + v.others + 1 = subst (λ (x : Reserve). x.fills + x.others ≤ v.fills + v.others + 1) (sym on) (omega (arith, begun_others h a v, begun_fills h a v)) in
-      went_on old new core next v w page before after slip (event.SyncBegin h) (sync_begun a) _ 2 0 0 i fits (two_more v.fills v.others (w.fills + w.others) few)
-      (subst (λ k. (page * k + 0) + 0 ≤ page * v.fills + 0) (sym (ap (λ (x : Reserve). x.fills) on ∙ begun_fills h a v)) (page_same page v.fills 0)) entry (as_steps core next (event.SyncBegin h) (sync_begun a) s) entered room on
+      bare_went (event.SyncBegin h) (sync_begun a) r refl (bare_begun a) tt (room_for old core v page 2 0 (event.SyncBegin h) i fits refl refl) (as_steps core next (event.SyncBegin h) (sync_begun a) s) is reserve entered

@@ -1,6 +1,6 @@
 -- A sync that is given up.
-use Rattle.std.proofs.Common.{◌≡◌, ℕ, ◌+◌, ◌*◌, ◌≤◌, Bool, true, false, [], refl, ap, sym, subst, ◌∙◌, arith, inl, inr, ⊎_elim}
-use Rattle.std.specs.Prelude.{◌⊎◌, Result, Ok, Err, is_some}
+use Rattle.std.proofs.Common.{◌≡◌, ℕ, cond, Bool, true, false, [], refl, ap, sym, subst, ◌∙◌, arith, inl, inr, ⊎_elim}
+use Rattle.std.specs.Prelude.{◌⊎◌, Result, Ok, Err, is_some, Some, None}
 use Rattle.std.specs.FinMap as finmap
 use Rattle.pc_types.specs.declared.ids.SyncId.{SyncId}
 use Rattle.pc_types.specs.declared.refusal.Refusal.{Refusal}
@@ -11,7 +11,7 @@ use Rattle.cachecore.specs.declared.event.Reply.{Reply}
 use Rattle.cachecore.specs.declared.event.Reply.TheVariants as reply
 use Rattle.cachecore.specs.Replies.{sync_dropped}
 use Rattle.cachecore.specs.State.{State}
-use Rattle.cachecore.specs.Step.{Step, SyncDropReply}
+use Rattle.cachecore.specs.Step.{Step, Answers, SyncDropReply}
 use Rattle.trail.specs.declared.entry.Entry.{Entry}
 use Rattle.held.specs.declared.log.Slip.{Slip}
 use Rattle.trail.specs.declared.reserve.Reserve.{Reserve}
@@ -19,10 +19,10 @@ use Rattle.held.specs.Ends.{DropOrFull}
 use Rattle.held.specs.Entered.{Entered}
 use Rattle.trail.specs.Entries.{entry_of, entry_with, reply_with}
 use Rattle.held.specs.Kept.{IsHeld}
-use Rattle.trail.specs.Room.{fits_beside, less, keeps_room, reserved_after, one_used}
+use Rattle.trail.specs.Room.{event_need, fits_beside, has_room, less, reserved, reserved_after}
 use Rattle.held.specs.Shown.{LogSeen, SeatSeen}
 use Rattle.held.proofs.Ends.{passed}
-use Rattle.held.proofs.Holds.{Went, went, as_steps, kept_room}
+use Rattle.held.proofs.Holds.{Went, went, as_steps, end_room, none_needed, room_is}
 
 pub drop_refused : (s : State) (n : SyncId) (why : Refusal) (new : State) → Step s (event.SyncDrop n) (reply.Refused why) new → new ≡ s
 drop_refused s n why new h =
@@ -33,40 +33,49 @@ drop_refused s n why new h =
 pub drop_core_back : (old new : Core) (n : SyncId) (why : Refusal) → Step old.state (event.SyncDrop n) (reply.Refused why) new.state → new.lists ≡ old.lists → new ≡ old
 drop_core_back old new n why h l = let k = drop_refused old.state n why new.state h in (λ i. record { state = k i; lists = l i })
 
-pub drop_no_room : (a : Result Unit Refusal) (room : Bool) (x : Refusal) → DropOrFull a room (Err x) → (e : Refusal) × (a ≡ Err e) × (x ≡ TrailFull)
-drop_no_room (Err e) false x h = (e, refl, cc)
+pub drop_no_room : (a : Result Unit Refusal) (room : Bool) (x : Refusal) → DropOrFull a room (Err x) → (e : Refusal) × (a ≡ Err e) × (x ≡ TrailFull) × (room ≡ false)
+drop_no_room (Err e) false x h = (e, refl, cc, refl)
 drop_no_room (Err e) true x h = absurd cc
 drop_no_room (Ok e) room x h = absurd cc
 
-pub drop_has_room : (a : Result Unit Refusal) (room : Bool) (b : Result Unit Refusal) → DropOrFull a room (Ok b) → (b ≡ a) × ((x : Refusal) → b ≡ Err x → room ≡ true)
+pub drop_has_room : (a : Result Unit Refusal) (room : Bool) (b : Result Unit Refusal) → DropOrFull a room (Ok b) → (b ≡ a) × ((x : Refusal) → a ≡ Err x → room ≡ true)
 drop_has_room (Err e) true b h = (cc, λ x k. refl)
 drop_has_room (Err e) false b h = absurd cc
-drop_has_room (Ok e) room b h = let is : b ≡ Ok e = cc in (is, λ x k. absurd (let y = sym is ∙ k in cc))
+drop_has_room (Ok e) room b h = let is : b ≡ Ok e = cc in (is, λ x k. absurd cc)
 
 bare_drop : (a : Result Unit Refusal) → reply_with (sync_dropped a) [] ≡ sync_dropped a
 bare_drop (Ok u) = refl
 bare_drop (Err e) = refl
 
-drop_reserves : (n : SyncId) (a : Result Unit Refusal) (v : Reserve) → (reserved_after (event.SyncDrop n) (sync_dropped a) v ≡ one_used v) ⊎ ((x : Refusal) × (a ≡ Err x) × (reserved_after (event.SyncDrop n) (sync_dropped a) v ≡ v))
-drop_reserves n (Ok u) v = inl refl
-drop_reserves n (Err x) v = inr (x, refl, refl)
+-- what the drop needs: nothing where the sync is in progress, else an entry, and it is refused then
+abbrev DropNeeds : ℕ → Result Unit Refusal → Type 0
+DropNeeds need a = ((need ≡ 0) × ((x : Refusal) → a ≡ Err x → ⊥)) ⊎ ((need ≡ 1) × ((x : Refusal) × (a ≡ Err x)))
 
-one_events : (f o : ℕ) → (f + o + 0) + 1 ≤ f + o + 1
-one_events f o = omega arith
+drop_needs : (s : State) (n : SyncId) (a : Result Unit Refusal) (new : State) → Step s (event.SyncDrop n) (sync_dropped a) new → DropNeeds (event_need s (event.SyncDrop n)) a
+drop_needs s n a new = go (is_some (finmap.get s.syncs n.0)) a
+  where
+    go : (b : Bool) (a : Result Unit Refusal) → Answers (cond b None (Some (reply.Refused Stranger))) (sync_dropped a) s new (SyncDropReply s n.0 (sync_dropped a) new) → DropNeeds (cond (is_some (cond b None (Some (reply.Refused Stranger)))) 1 0) a
+    go true (Ok u) h = inl (refl, λ x is. absurd cc)
+    go true (Err x) h = absurd h
+    go false (Ok u) h = absurd (let k = h.0 in cc)
+    go false (Err x) h = inr (refl, (x, refl))
 
-one_bytes : (x : ℕ) → (x + 0) + 0 ≤ x + 0
-one_bytes x = omega arith
+module _ (old : LogSeen) (core next : State) (v : Reserve) (page : ℕ) (i : IsHeld old core v page) (n : SyncId) (a : Result Unit Refusal) (s : Step core (event.SyncDrop n) (sync_dropped a) next) where
+  pub drop_room : (room : Bool) → room ≡ fits_beside old.room page v 1 0 → ((x : Refusal) → a ≡ Err x → room ≡ true) → has_room old.room (reserved core) core (event.SyncDrop n) ≡ true
+  drop_room room is kept = end_room old core v page (event.SyncDrop n) i refl (elim (drop_needs core n a next s) [
+    | inl k ↦ inl k.0
+    | inr k ↦ inr (k.0, sym is ∙ kept k.1.0 k.1.1)
+  ])
+
+  pub drop_is_full : (room : Bool) → room ≡ fits_beside old.room page v 1 0 → (x : Refusal) → a ≡ Err x → room ≡ false → has_room old.room (reserved core) core (event.SyncDrop n) ≡ false
+  drop_is_full room is x err none = elim (drop_needs core n a next s) [
+    | inl k ↦ absurd (k.1 x err)
+    | inr k ↦ sym (room_is old core v page 1 0 (event.SyncDrop n) room i is k.0 refl) ∙ none
+  ]
 
 module _ (old new : LogSeen) (core next : State) (v w : Reserve) (page : ℕ) (before after : SeatSeen) (slip : Slip) (i : IsHeld old core v page) (room : new.room ≡ less old.room 0) where
-  kept : fits_beside old.room page w 1 0 ≡ true → keeps_room new.room page w ≡ true
-  kept fits = subst (λ x. keeps_room x page w ≡ true) (sym room) (kept_room old.room page w w 1 0 0 (one_events w.fills w.others) (one_bytes (page * w.fills)) fits)
-
-  pub drop_went : (n : SyncId) (a : Result Unit Refusal) (r : Reply) → fits_beside old.room page (one_used v) 1 0 ≡ true → ((x : Refusal) → a ≡ Err x → fits_beside old.room page v 1 0 ≡ true) → Step core (event.SyncDrop n) (sync_dropped a) next → r ≡ sync_dropped a
+  pub drop_went : (n : SyncId) (a : Result Unit Refusal) (r : Reply) → has_room old.room (reserved core) core (event.SyncDrop n) ≡ true → Step core (event.SyncDrop n) (sync_dropped a) next → r ≡ sync_dropped a
       → w ≡ reserved_after (event.SyncDrop n) r v → Entered (entry_with (record { seat = before.number; event = event.SyncDrop n; reply = r }) []) old new before after slip → Went old new core next w page before after slip (event.SyncDrop n) (sync_dropped a)
-  drop_went n a r after_fits refused_fits s is reserve entered =
-      let on : w ≡ reserved_after (event.SyncDrop n) (sync_dropped a) v = reserve ∙ ap (λ x. reserved_after (event.SyncDrop n) x v) is in
-      let fits : fits_beside old.room page w 1 0 ≡ true = elim (drop_reserves n a v) [
-        | inl used ↦ subst (λ x. fits_beside old.room page x 1 0 ≡ true) (sym (on ∙ used)) after_fits
-        | inr same ↦ subst (λ x. fits_beside old.room page x 1 0 ≡ true) (sym (on ∙ same.2)) (refused_fits same.0 same.1)
-      ] in
-      went old new core next v w page before after slip (event.SyncDrop n) (sync_dropped a) _ i (λ j. record { seat = before.number; event = event.SyncDrop n; reply = (ap (λ x. reply_with x []) is ∙ bare_drop a) j }) (as_steps core next (event.SyncDrop n) (sync_dropped a) s) entered on (kept fits)
+  drop_went n a r has s is reserve entered =
+      went old new core next v w page before after slip (event.SyncDrop n) (sync_dropped a) _ 0 i has (none_needed _) tt
+      (λ j. record { seat = before.number; event = event.SyncDrop n; reply = (ap (λ x. reply_with x []) is ∙ bare_drop a) j }) (as_steps core next (event.SyncDrop n) (sync_dropped a) s) entered room (reserve ∙ ap (λ x. reserved_after (event.SyncDrop n) x v) is)

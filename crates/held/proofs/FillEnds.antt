@@ -1,6 +1,6 @@
 -- The end of a fill: its step and its entry, with the bytes that were read.
-use Rattle.std.proofs.Common.{◌≡◌, ℕ, ◌+◌, ◌*◌, ◌≤◌, Bool, true, false, List, [], length, refl, ap, sym, subst, ◌∙◌, arith, inl, inr, ⊎_elim}
-use Rattle.std.specs.Prelude.{◌&&◌, ◌==◌, ◌⊎◌, Option, Some, None, Result, Ok, Err, if◌then◌else◌}
+use Rattle.std.proofs.Common.{◌≡◌, ℕ, cond, ◌≤◌, Bool, true, false, List, [], length, refl, ap, sym, subst, ◌∙◌, arith, inl, inr, ⊎_elim}
+use Rattle.std.specs.Prelude.{◌&&◌, ◌==◌, ◌⊎◌, is_some, Option, Some, None, Result, Ok, Err, if◌then◌else◌}
 use Rattle.std.specs.FinMap as finmap
 use Rattle.pc_types.specs.declared.kind.Kind.TheVariants.{Fill}
 use Rattle.pc_types.specs.Kinds.{same_kind}
@@ -22,7 +22,7 @@ use Rattle.cachecore.specs.declared.event.Reply.TheVariants as reply
 use Rattle.cachecore.specs.Replies.{EndGivesBack, end_of, fill_ended, outcome_of}
 use Rattle.cachecore.specs.State.{State, Request}
 use Rattle.cachecore.specs.Step.{Step, FillEndReply}
-use Rattle.cachecore.specs.Tests.{is_of}
+use Rattle.cachecore.specs.Tests.{end_tests, is_of}
 use Rattle.trail.specs.declared.entry.Entry.{Entry}
 use Rattle.held.specs.declared.log.Slip.{Slip}
 use Rattle.trail.specs.declared.reserve.Reserve.{Reserve}
@@ -30,13 +30,14 @@ use Rattle.held.specs.Ends.{buffer_in, bytes_read_in, went_well}
 use Rattle.held.specs.Entered.{Entered}
 use Rattle.trail.specs.Entries.{entry_of, entry_with, event_with, reply_with, end_with, outcome_with, noted}
 use Rattle.held.specs.Kept.{IsHeld}
-use Rattle.trail.specs.Room.{Room, fits, fits_bytes, fits_beside, less, keeps_room, reserved_after, fill_used}
+use Rattle.trail.specs.Room.{event_need, has_room, less, reserved, reserved_after}
 use Rattle.held.specs.Shown.{LogSeen, SeatSeen}
-use Rattle.held.proofs.Ends.{passed, twice}
-use Rattle.std.specs.Prelude.{nat_le}
-use Rattle.std.proofs.lemmas.Bool.Decides.{nat_tests}
-use Rattle.cachecore.proofs.Choices.{and_true}
-use Rattle.held.proofs.Holds.{both_true, Went, went, as_steps, kept_room}
+use Rattle.held.proofs.Ends.{EndNeeds, passed, twice}
+use Rattle.cachecore.proofs.Choices.{answered}
+use Rattle.trail.proofs.NoJobs.{ends}
+use Rattle.trail.proofs.RoomLaws.{entry_room}
+use Rattle.world.proofs.HandedIn.{IsPage}
+use Rattle.held.proofs.Holds.{Went, went, as_steps}
 
 no_refusal : (s : State) (t : ℕ) (q : Option Request) (o : Outcome) (why : Refusal) (new : State) → FillEndReply s t q o (reply.Refused why) new → ⊥
 no_refusal s t (Some r) (outcome.Fault c) why new h = h
@@ -77,19 +78,7 @@ bare_end (Ok (ended.Failed code x)) b = refl
 bare_end (Ok (ended.Done x)) b = refl
 bare_end (Err e) b = refl
 
--- ---- what is reserved, and room
-
-end_reserves : (e : Event) (d : End) (a : Result Ended RefusedEnd) (v : Reserve) → e ≡ event.FillEnd d → (reserved_after e (fill_ended a) v ≡ fill_used v) ⊎ ((x : RefusedEnd) × (a ≡ Err x) × (reserved_after e (fill_ended a) v ≡ v))
-end_reserves e d (Ok (ended.Dropped b)) v is = inl (ap (λ x. reserved_after x reply.Dropped v) is)
-end_reserves e d (Ok (ended.Failed code b)) v is = inl (ap (λ x. reserved_after x (reply.Failed code) v) is)
-end_reserves e d (Ok (ended.Done b)) v is = inl (ap (λ x. reserved_after x reply.Filled v) is)
-end_reserves e d (Err x) v is = inr (x, refl, ap (λ y. reserved_after y (reply.Refused x.refusal) v) is)
-
-one_events : (f o : ℕ) → (f + o + 0) + 1 ≤ f + o + 1
-one_events f o = omega arith
-
-few_bytes : (x c b : ℕ) → c ≤ b → (x + 0) + c ≤ x + b
-few_bytes x c b le = omega arith
+-- ---- room
 
 read_size : (f : FinishedTask) (a : Result Ended RefusedEnd) (read : Bool) (page : ℕ) → EndGivesBack f a → length f.bytes ≡ page → length (bytes_read_in a read) ≤ page
 read_size f a false page back size = omega arith
@@ -105,38 +94,46 @@ none_read a read x is = subst (λ y. length (bytes_read_in y read) ≤ 0) (sym i
     go true = omega arith
     go false = omega arith
 
-at_least : (n x : ℕ) → nat_le (x + 1) n ≡ true → nat_le 1 n ≡ true
-at_least n x h = grind (arith, nat_tests)
+refused_is : (a : Result Ended RefusedEnd) → fill_ended a ≡ reply.Refused Stranger → (x : RefusedEnd) × (a ≡ Err x)
+refused_is (Ok (ended.Dropped b)) e = absurd cc
+refused_is (Ok (ended.Failed code b)) e = absurd cc
+refused_is (Ok (ended.Done b)) e = absurd cc
+refused_is (Err x) e = (x, refl)
 
-room_now : (o : Option ℕ) (x b c : ℕ) → c ≤ b → fits_bytes o (x + b) ≡ true → fits_bytes o c ≡ true
-room_now None x b c le h = refl
-room_now (Some n) x b c le h = grind (arith, nat_tests)
+-- what the end needs, and how many bytes its entry has at most
+abbrev Needs : State → End → Result Ended RefusedEnd → Type 0
+Needs s e a = EndNeeds (event_need s (event.FillEnd e)) a × (((x : RefusedEnd) × (a ≡ Err x)) ⊎ (entry_room s (event.FillEnd e) ≡ s.sizes.page))
 
--- room beside what is reserved is room for one entry
-pub one_entry : (room : Room) (page : ℕ) (v : Reserve) (b c : ℕ) → c ≤ b → fits_beside room page v 1 b ≡ true → fits room 1 c ≡ true
-one_entry room page v b c le h =
-    let t = and_true (nat_le (v.fills + v.others + 1) room.events) (fits_bytes room.bytes (page * v.fills + b)) h in
-    both_true (nat_le 1 room.events) (fits_bytes room.bytes c) (at_least room.events (v.fills + v.others) t.0) (room_now room.bytes (page * v.fills) b c le t.1)
+fill_needed : (s : State) (e : End) (a : Result Ended RefusedEnd) (new : State) → Step s (event.FillEnd e) (fill_ended a) new → Needs s e a
+fill_needed s e a new h = elim (answered (end_tests s Fill e) (fill_ended a) s new (FillEndReply s e.serial.0 (finmap.get s.requests e.serial.0) e.outcome (fill_ended a) new) h) [
+  | inl x ↦ (let r = refused_is a (ends s Fill e (fill_ended a) x.0) in (inr (ap (λ o. cond (is_some o) 1 0) x.0, r), inl r))
+  | inr x ↦ (inl (ap (λ o. cond (is_some o) 1 0) x.0, λ y is. no_refusal s e.serial.0 (finmap.get s.requests e.serial.0) e.outcome y.refusal new (subst (λ b. FillEndReply s e.serial.0 (finmap.get s.requests e.serial.0) e.outcome (fill_ended b) new) is x.1)), inr (ap (λ o. cond (is_some o) 0 s.sizes.page) x.0))
+]
 
-pub entry_room : (room : Room) (f : FinishedTask) (a : Result Ended RefusedEnd) (read : Bool) (page : ℕ) (v : Reserve) (bytes : List ℕ) → bytes ≡ bytes_read_in a read → EndGivesBack f a → length f.bytes ≡ page → fits_beside room page v 1 page ≡ true → fits room 1 (length bytes) ≡ true
-entry_room room f a read page v bytes got back size h = one_entry room page v page (length bytes) (subst (λ b. length b ≤ page) (sym got) (read_size f a read page back size)) h
+pub fill_needs : (s : State) (e : End) (a : Result Ended RefusedEnd) (new : State) → Step s (event.FillEnd e) (fill_ended a) new → EndNeeds (event_need s (event.FillEnd e)) a
+fill_needs s e a new h = (fill_needed s e a new h).0
+
+pub fill_small : (s : State) (f : FinishedTask) (a : Result Ended RefusedEnd) (new : State) (read : Bool) (bytes : List ℕ) → Step s (event.FillEnd (end_of f)) (fill_ended a) new → bytes ≡ bytes_read_in a read → EndGivesBack f a → length f.bytes ≡ s.sizes.page → length bytes ≤ entry_room s (event.FillEnd (end_of f))
+fill_small s f a new read bytes h got back size = subst (λ b. length b ≤ entry_room s (event.FillEnd (end_of f))) (sym got) (elim (fill_needed s (end_of f) a new h).1 [
+  | inl x ↦ least (length (bytes_read_in a read)) (entry_room s (event.FillEnd (end_of f))) (none_read a read x.0 x.1)
+  | inr page ↦ subst (λ n. length (bytes_read_in a read) ≤ n) (sym page) (read_size f a read s.sizes.page back size)
+])
+  where
+    least : (n m : ℕ) → n ≤ 0 → n ≤ m
+    least n m h = omega arith
+
+a_page : (o : device.Outcome) (bytes : List ℕ) (page : ℕ) → length bytes ≡ page → IsPage page (outcome_of o bytes)
+a_page (Ok u) bytes page e = e
+a_page (Err c) bytes page e = tt
 
 module _ (old new : LogSeen) (core next : State) (v w : Reserve) (page : ℕ) (before after : SeatSeen) (slip : Slip) (i : IsHeld old core v page) where
-  kept : (b c : ℕ) → c ≤ b → new.room ≡ less old.room c → fits_beside old.room page w 1 b ≡ true → keeps_room new.room page w ≡ true
-  kept b c le room fits = subst (λ x. keeps_room x page w ≡ true) (sym room) (kept_room old.room page w w 1 b c (one_events w.fills w.others) (few_bytes (page * w.fills) c b le) fits)
-
-  pub fill_end_went : (f : FinishedTask) (without : End) (a : Result Ended RefusedEnd) (r : Reply) (read : Bool) (bytes : List ℕ) → bytes ≡ bytes_read_in a read → read ≡ went_well f.outcome → EndGivesBack f a → length f.bytes ≡ page
-      → fits_beside old.room page (fill_used v) 1 page ≡ true → ((x : RefusedEnd) → a ≡ Err x → fits_beside old.room page v 1 0 ≡ true) → without ≡ end_with (end_of f) [] → Step core (event.FillEnd (end_of f)) (fill_ended a) next → r ≡ fill_ended a
+  pub fill_end_went : (f : FinishedTask) (without : End) (a : Result Ended RefusedEnd) (r : Reply) (read : Bool) (bytes : List ℕ) → bytes ≡ bytes_read_in a read → read ≡ went_well f.outcome → EndGivesBack f a → length f.bytes ≡ core.sizes.page
+      → has_room old.room (reserved core) core (event.FillEnd (end_of f)) ≡ true → without ≡ end_with (end_of f) [] → Step core (event.FillEnd (end_of f)) (fill_ended a) next → r ≡ fill_ended a
       → ((d : End) → w ≡ reserved_after (event.FillEnd d) r v) → Entered (entry_with (record { seat = before.number; event = event.FillEnd without; reply = r }) bytes) old new before after slip → new.room ≡ less old.room (length bytes) → Went old new core next w page before after slip (event.FillEnd (end_of f)) (fill_ended a)
-  fill_end_went f without a r read bytes got well back size after_fits refused_fits none s is reserve entered room =
-      let few : new.room ≡ less old.room (length (bytes_read_in a read)) = room ∙ ap (λ b. less old.room (length b)) got in
+  fill_end_went f without a r read bytes got well back size has none s is reserve entered room =
       let e : Event = noted (event.FillEnd (end_of f)) (fill_ended a) in
       let same = fill_event f a read back well in
-      let on : w ≡ reserved_after e (fill_ended a) v = reserve (end_with (end_with (end_of f) []) (bytes_read_in a read)) ∙ (λ j. reserved_after (same j) (is j) v) in
-      let keeps : keeps_room new.room page w ≡ true = elim (end_reserves e (end_with (end_with (end_of f) []) (bytes_read_in a read)) a v (sym same)) [
-        | inl used ↦ kept page (length (bytes_read_in a read)) (read_size f a read page back size) few (subst (λ x. fits_beside old.room page x 1 page ≡ true) (sym (on ∙ used)) after_fits)
-        | inr stays ↦ kept 0 (length (bytes_read_in a read)) (none_read a read stays.0 stays.1) few (subst (λ x. fits_beside old.room page x 1 0 ≡ true) (sym (on ∙ stays.2)) (refused_fits stays.0 stays.1))
-      ] in
-      let ends : event.FillEnd (end_with without bytes) ≡ e = (λ j. event.FillEnd (end_with (none j) (got j))) ∙ same in
+      let is_event : event.FillEnd (end_with without bytes) ≡ e = (λ j. event.FillEnd (end_with (none j) (got j))) ∙ same in
       let replies : reply_with r bytes ≡ fill_ended a = (λ j. reply_with (is j) bytes) ∙ bare_end a bytes in
-      went old new core next v w page before after slip (event.FillEnd (end_of f)) (fill_ended a) _ i (λ j. record { seat = before.number; event = ends j; reply = replies j }) (as_steps core next (event.FillEnd (end_of f)) (fill_ended a) s) entered on keeps
+      went old new core next v w page before after slip (event.FillEnd (end_of f)) (fill_ended a) _ (length bytes) i has (fill_small core f a next read bytes s got back size) (a_page f.outcome f.bytes core.sizes.page size)
+      (λ j. record { seat = before.number; event = is_event j; reply = replies j }) (as_steps core next (event.FillEnd (end_of f)) (fill_ended a) s) entered room (reserve (end_of f) ∙ ap (λ x. reserved_after (event.FillEnd (end_of f)) x v) is)

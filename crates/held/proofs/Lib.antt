@@ -1,6 +1,7 @@
 pub mod Prefixes
 pub mod Keeps
 pub mod Rooms
+pub mod Tied
 pub mod Holds
 pub mod Calls
 pub mod Writes

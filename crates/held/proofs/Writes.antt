@@ -19,7 +19,7 @@ use Rattle.trail.specs.Entries.{entry_of, entry_with, reply_with}
 use Rattle.held.specs.Kept.{IsHeld}
 use Rattle.trail.specs.Room.{fits_beside, less}
 use Rattle.held.specs.Shown.{LogSeen, SeatSeen}
-use Rattle.held.proofs.Holds.{Went, went_plain}
+use Rattle.held.proofs.Holds.{Went, went, as_steps, room_for}
 
 wrote_bare : (a : Result WriteAnswer Refusal) (b : List ℕ) → reply_with (wrote a) b ≡ wrote a
 wrote_bare (Ok (write.Wrote n end)) b = refl
@@ -46,14 +46,14 @@ module _ (old new : LogSeen) (core next : State) (v : Reserve) (page : ℕ) (bef
   pub write_went : (h : HandleId) (o : ℕ) (none b : List ℕ) (a : Result WriteAnswer Refusal) (r : Reply) → fits_beside old.room page v 1 (length b) ≡ true → Step core (event.Write h o b) (wrote a) next → r ≡ wrote a
       → Entered (entry_with (record { seat = before.number; event = event.Write h o none; reply = r }) b) old new before after slip → new.room ≡ less old.room (length b) → Went old new core next v page before after slip (event.Write h o b) (wrote a)
   write_went h o none b a r fits s is entered room =
-      went_plain old new core next v page before after slip (event.Write h o b) (wrote a) _ (length b) (length b) i fits (self_le (length b)) (write_entry before.number h o none b a r is) s entered room refl
+      went old new core next v v page before after slip (event.Write h o b) (wrote a) _ (length b) i (room_for old core v page 1 (length b) (event.Write h o b) i fits refl refl) (self_le (length b)) tt (write_entry before.number h o none b a r is) (as_steps core next (event.Write h o b) (wrote a) s) entered room refl
 
   pub append_went : (h : HandleId) (none b : List ℕ) (a : Result WriteAnswer Refusal) (r : Reply) → fits_beside old.room page v 1 (length b) ≡ true → Step core (event.Append h b) (wrote a) next → r ≡ wrote a
       → Entered (entry_with (record { seat = before.number; event = event.Append h none; reply = r }) b) old new before after slip → new.room ≡ less old.room (length b) → Went old new core next v page before after slip (event.Append h b) (wrote a)
   append_went h none b a r fits s is entered room =
-      went_plain old new core next v page before after slip (event.Append h b) (wrote a) _ (length b) (length b) i fits (self_le (length b)) (append_entry before.number h none b a r is) s entered room refl
+      went old new core next v v page before after slip (event.Append h b) (wrote a) _ (length b) i (room_for old core v page 1 (length b) (event.Append h b) i fits refl refl) (self_le (length b)) tt (append_entry before.number h none b a r is) (as_steps core next (event.Append h b) (wrote a) s) entered room refl
 
   pub read_went : (h : HandleId) (o n : ℕ) (bytes : List ℕ) (r is : Reply) → fits_beside old.room page v 1 n ≡ true → length bytes ≤ n → Step core (event.Read h o n) is next → reply_with r bytes ≡ is
       → Entered (entry_with (record { seat = before.number; event = event.Read h o n; reply = r }) bytes) old new before after slip → new.room ≡ less old.room (length bytes) → Went old new core next v page before after slip (event.Read h o n) is
   read_went h o n bytes r is fits le s e entered room =
-      went_plain old new core next v page before after slip (event.Read h o n) is _ n (length bytes) i fits le (read_entry before.number h o n bytes r is e) s entered room refl
+      went old new core next v v page before after slip (event.Read h o n) is _ (length bytes) i (room_for old core v page 1 n (event.Read h o n) i fits refl refl) le tt (read_entry before.number h o n bytes r is e) (as_steps core next (event.Read h o n) is s) entered room refl

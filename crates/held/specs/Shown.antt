@@ -5,7 +5,6 @@ use Rattle.atomic_table.specs.Table.{Me}
 use Rattle.cachecore.specs.Core.{Core}
 use Rattle.errboard.specs.Shown.{RecorderSeen}
 use Rattle.trail.specs.Room.{Room}
-use Rattle.trail.specs.declared.reserve.Reserve.{Reserve}
 use Rattle.trail.specs.declared.entry.Entry.{Entry}
 use Rattle.held.specs.declared.views.View.{View}
 use Rattle.held.specs.declared.views.View.TheVariants.{Spent, Keeper, Holds, Seat}
@@ -18,11 +17,10 @@ pub record LogSeen : Type 0 where
   pub room : Room
   pub made : ℕ
 
--- the history, the core, what is reserved for the ends of what is in flight, and the failed writes that were recorded
+-- the history, the core, and the failed writes that were recorded
 pub record HeldSeen : Type 0 where
   pub log : LogSeen
   pub core : Core
-  pub reserved : Reserve
   pub errors : RecorderSeen
 
 -- the table of a seat, the name of its state, its number, its list, a beginning of the trail, and how many entries it made

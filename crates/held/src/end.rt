@@ -8,7 +8,7 @@ ghost use Rattle.cachecore.specs.declared.event.Event.TheVariants as event;
 ghost use Rattle.cachecore.specs.Replies.{end_of, fill_ended, flush_ended, sync_dropped};
 ghost use Rattle.held.specs.Ends.{DropOrFull, IsRecorded, OrFull, bytes_read_in, is_failed, went_well};
 ghost use Rattle.trail.specs.Entries.{end_with};
-ghost use Rattle.trail.specs.Room.{fill_used, one_used, reserved_after};
+ghost use Rattle.trail.specs.Room.{reserved_after};
 
 use crate::bytes::no_bytes;
 use blockdev::Finished;
@@ -17,16 +17,6 @@ use errboard::{Receipt, Recorder};
 use pc_types::{FileId, Refusal};
 use std::alloc::Global;
 use trail::Reserve;
-
-/// What is reserved once a flush has ended.
-pub(crate) fn without_one(reserved: &Reserve) -> Reserve
-    ensures { result ≡ one_used reserved.now }
-{
-    Reserve {
-        fills: reserved.fills,
-        others: reserved.others.saturating_sub(1),
-    }
-}
 
 /// The end that a finished job makes, without its bytes.
 pub(crate) fn end_without(finished: &Finished, alloc: Global) -> Ending
@@ -114,16 +104,6 @@ pub(crate) fn is_well(finished: &Finished) -> bool
     match finished.outcome() {
         Ok(()) => true,
         Err(_) => false,
-    }
-}
-
-/// What is reserved once a fill has ended.
-pub(crate) fn without_fill(reserved: &Reserve) -> Reserve
-    ensures { result ≡ fill_used reserved.now }
-{
-    Reserve {
-        fills: reserved.fills.saturating_sub(1),
-        others: reserved.others,
     }
 }
 

@@ -12,8 +12,7 @@ ghost use Rattle.cachecore.specs.declared.event.Event.TheVariants as event;
 ghost use Rattle.cachecore.specs.Replies.{EndGivesBack, end_of, fill_ended, flush_ended, sync_begun, sync_dropped, FlushGivesBack, FlushStep, GivesBack, IsFillJob, SyncAdvance, SyncGivesBack, bytes_read, fill_begun, flush_begun, sync_stepped, was_read, wrote};
 ghost use Rattle.cachecore.specs.Step.{Step};
 ghost use Rattle.held.specs.Calls.{event_of, reply_of};
-ghost use Rattle.held.specs.Entered.{Made, Untouched};
-ghost use Rattle.trail.specs.Room.{has_room};
+ghost use Rattle.held.specs.Entered.{Made, Untouched, has_room_for};
 ghost use Rattle.cachecore.specs.Flushing.{flush_of};
 ghost use Rattle.held.specs.Ends.{IsRecorded};
 ghost use Rattle.pc_types.specs.declared.refusal.Refusal.TheVariants.{BadConfig, Memory, NoSuchFile, TrailFull};
@@ -26,7 +25,7 @@ use crate::bytes::{no_bytes, of_read, of_write};
 use crate::call::{Answer, Call, make};
 use crate::end::{
     bytes_of, drop_or_full, end_without, is_well, of_fill_end, of_flush_end, of_sync_drop, or_full,
-    record, use_fill, use_flush, use_sync, without_fill, without_one,
+    record, use_fill, use_flush, use_sync,
 };
 use crate::log::{Log, Seat, Slip, are_named};
 use blockdev::{Buffer, Finished};
@@ -62,7 +61,7 @@ impl<T: Trail> Model for Held<T> {
 
     ghost coded = { Prim.hlevel (codes, core_code, table_id_coded) };
 
-    ghost view = { λ h. record { log = h.log; core = h.core; reserved = h.reserved; errors = h.recorder } };
+    ghost view = { λ h. record { log = h.log; core = h.core; errors = h.recorder } };
 
     ghost invariant = { λ h. IsHeld h.log h.core.state h.reserved h.page };
 }
@@ -71,7 +70,7 @@ impl<T: Trail> Held<T> {
     /// Makes an event that has no bytes and begins no request.
     pub fn act(&mut self, seat: &mut Seat, call: Call) -> Result<(Answer, Slip), Refusal>
         requires { seat.old.table ≡ self.old.log.table }
-        ensures full { IsErr result ↔ (has_room self.old.log.room self.old.reserved self.old.core.state (event_of call) ≡ false) }
+        ensures full { IsErr result ↔ (has_room_for self.old (event_of call) ≡ false) }
         ensures err { IfErr result (λ e. (e ≡ TrailFull) × Untouched self.old self.new seat.old seat.new) }
         ensures made { IfOk result (λ r. Made (event_of call) (reply_of r.0) self.old self.new seat.old seat.new r.1) }
     {
@@ -100,7 +99,7 @@ impl<T: Trail> Held<T> {
         out: &mut [u8],
     ) -> Result<(Result<ReadAnswer, Refusal>, Slip), Refusal>
         requires { seat.old.table ≡ self.old.log.table }
-        ensures full { IsErr result ↔ (has_room self.old.log.room self.old.reserved self.old.core.state (event.Read handle offset (length out.old)) ≡ false) }
+        ensures full { IsErr result ↔ (has_room_for self.old (event.Read handle offset (length out.old)) ≡ false) }
         ensures err { IfErr result (λ e. (e ≡ TrailFull) × Untouched self.old self.new seat.old seat.new × (out.new ≡ out.old)) }
         ensures made { IfOk result (λ r. Made (event.Read handle offset (length out.old)) (was_read r.0 out.new) self.old self.new seat.old seat.new r.1) }
         ensures count { IfOk result (λ r. bytes_read r.0 ≤ length out.old) }
@@ -134,7 +133,7 @@ impl<T: Trail> Held<T> {
         bytes: &[u8],
     ) -> Result<(Result<WriteAnswer, Refusal>, Slip), Refusal>
         requires { seat.old.table ≡ self.old.log.table }
-        ensures full { IsErr result ↔ (has_room self.old.log.room self.old.reserved self.old.core.state (event.Write handle offset bytes.now) ≡ false) }
+        ensures full { IsErr result ↔ (has_room_for self.old (event.Write handle offset bytes.now) ≡ false) }
         ensures err { IfErr result (λ e. (e ≡ TrailFull) × Untouched self.old self.new seat.old seat.new) }
         ensures made { IfOk result (λ r. Made (event.Write handle offset bytes.now) (wrote r.0) self.old self.new seat.old seat.new r.1) }
     {
@@ -164,7 +163,7 @@ impl<T: Trail> Held<T> {
         bytes: &[u8],
     ) -> Result<(Result<WriteAnswer, Refusal>, Slip), Refusal>
         requires { seat.old.table ≡ self.old.log.table }
-        ensures full { IsErr result ↔ (has_room self.old.log.room self.old.reserved self.old.core.state (event.Append handle bytes.now) ≡ false) }
+        ensures full { IsErr result ↔ (has_room_for self.old (event.Append handle bytes.now) ≡ false) }
         ensures err { IfErr result (λ e. (e ≡ TrailFull) × Untouched self.old self.new seat.old seat.new) }
         ensures made { IfOk result (λ r. Made (event.Append handle bytes.now) (wrote r.0) self.old self.new seat.old seat.new r.1) }
     {
@@ -196,7 +195,7 @@ impl<T: Trail> Held<T> {
     ) -> Result<(Result<FillBegun, Refused>, Slip), Refused>
         requires seat { seat.old.table ≡ self.old.log.table }
         requires size { length buffer ≡ self.old.core.state.sizes.page }
-        ensures full { IsErr result ↔ (has_room self.old.log.room self.old.reserved self.old.core.state (event.FillBegin handle index) ≡ false) }
+        ensures full { IsErr result ↔ (has_room_for self.old (event.FillBegin handle index) ≡ false) }
         ensures err { IfErr result (λ e. (e.refusal ≡ TrailFull) × (e.buffer ≡ buffer) × Untouched self.old self.new seat.old seat.new) }
         ensures made { IfOk result (λ r. Made (event.FillBegin handle index) (fill_begun r.0) self.old self.new seat.old seat.new r.1) }
         ensures job { IfOk result (λ r. IsFillJob self.new.core.state r.0) }
@@ -229,7 +228,7 @@ impl<T: Trail> Held<T> {
     ) -> Result<(Result<FlushBegun, Refused>, Slip), Refused>
         requires seat { seat.old.table ≡ self.old.log.table }
         requires size { length buffer ≡ self.old.core.state.sizes.page }
-        ensures full { IsErr result ↔ (has_room self.old.log.room self.old.reserved self.old.core.state (event.FlushBegin file) ≡ false) }
+        ensures full { IsErr result ↔ (has_room_for self.old (event.FlushBegin file) ≡ false) }
         ensures err { IfErr result (λ e. (e.refusal ≡ TrailFull) × (e.buffer ≡ buffer) × Untouched self.old self.new seat.old seat.new) }
         ensures made { IfOk result (λ r. Made (event.FlushBegin file) (flush_begun r.0) self.old self.new seat.old seat.new r.1) }
         ensures job { IfOk result (λ r. FlushStep self.old.core.state file.0 r.0 self.new.core.state) }
@@ -262,7 +261,7 @@ impl<T: Trail> Held<T> {
     ) -> Result<(Result<SyncStepped, Refused>, Slip), Refused>
         requires seat { seat.old.table ≡ self.old.log.table }
         requires size { length buffer ≡ self.old.core.state.sizes.page }
-        ensures full { IsErr result ↔ (has_room self.old.log.room self.old.reserved self.old.core.state (event.SyncStep sync) ≡ false) }
+        ensures full { IsErr result ↔ (has_room_for self.old (event.SyncStep sync) ≡ false) }
         ensures err { IfErr result (λ e. (e.refusal ≡ TrailFull) × (e.buffer ≡ buffer) × Untouched self.old self.new seat.old seat.new) }
         ensures made { IfOk result (λ r. Made (event.SyncStep sync) (sync_stepped r.0) self.old self.new seat.old seat.new r.1) }
         ensures job { IfOk result (λ r. SyncAdvance self.old.core.state sync.0 r.0 self.new.core.state) }
@@ -293,9 +292,10 @@ impl<T: Trail> Held<T> {
         finished: Finished,
     ) -> Result<(Result<Ended, RefusedEnd>, Option<Receipt>, Slip), RefusedEnd>
         requires { seat.old.table ≡ self.old.log.table }
+        ensures full { IsErr result ↔ (has_room_for self.old (event.FlushEnd (end_of finished)) ≡ false) }
         ensures err { IfErr result (λ e. (e.refusal ≡ TrailFull) × (e.finished ≡ finished) × Untouched self.old self.new seat.old seat.new) }
         ensures made { IfOk result (λ r. Made (event.FlushEnd (end_of finished)) (flush_ended r.0) self.old self.new seat.old seat.new r.2) }
-        ensures recorded { IfOk result (λ r. IsRecorded self.old.errors (flush_of self.old.core.state finished.serial) r.0 r.1 self.new.errors) }
+        ensures receipt { IfOk result (λ r. IsRecorded self.old.errors (flush_of self.old.core.state finished.serial) r.0 r.1 self.new.errors) }
         ensures back { IfOk result (λ r. EndGivesBack finished r.0) }
     {
         let Held {
@@ -306,11 +306,6 @@ impl<T: Trail> Held<T> {
             page,
             alloc,
         } = self;
-        let after = without_one(reserved);
-        if !log.has_room(*page, &after, 1, 0) {
-            let refusal = Refusal::TrailFull;
-            return Err(RefusedEnd { refusal, finished });
-        }
         let is_room = log.has_room(*page, reserved, 1, 0);
         let end = end_without(&finished, *alloc);
         let file = core.flush_of(finished.serial());
@@ -334,6 +329,7 @@ impl<T: Trail> Held<T> {
     ) -> Result<(Result<Ended, RefusedEnd>, Slip), RefusedEnd>
         requires seat { seat.old.table ≡ self.old.log.table }
         requires size { length finished.bytes ≡ self.old.core.state.sizes.page }
+        ensures full { IsErr result ↔ (has_room_for self.old (event.FillEnd (end_of finished)) ≡ false) }
         ensures err { IfErr result (λ e. (e.refusal ≡ TrailFull) × (e.finished ≡ finished) × Untouched self.old self.new seat.old seat.new) }
         ensures made { IfOk result (λ r. Made (event.FillEnd (end_of finished)) (fill_ended r.0) self.old self.new seat.old seat.new r.1) }
         ensures back { IfOk result (λ r. EndGivesBack finished r.0) }
@@ -346,11 +342,6 @@ impl<T: Trail> Held<T> {
             alloc,
             ..
         } = self;
-        let after = without_fill(reserved);
-        if !log.has_room(*page, &after, 1, *page) {
-            let refusal = Refusal::TrailFull;
-            return Err(RefusedEnd { refusal, finished });
-        }
         let is_room = log.has_room(*page, reserved, 1, 0);
         let end = end_without(&finished, *alloc);
         let is_read = is_well(&finished);
@@ -373,7 +364,7 @@ impl<T: Trail> Held<T> {
         handle: HandleId,
     ) -> Result<(Result<SyncId, Refusal>, Slip), Refusal>
         requires { seat.old.table ≡ self.old.log.table }
-        ensures full { IsErr result ↔ (has_room self.old.log.room self.old.reserved self.old.core.state (event.SyncBegin handle) ≡ false) }
+        ensures full { IsErr result ↔ (has_room_for self.old (event.SyncBegin handle) ≡ false) }
         ensures err { IfErr result (λ e. (e ≡ TrailFull) × Untouched self.old self.new seat.old seat.new) }
         ensures made { IfOk result (λ r. Made (event.SyncBegin handle) (sync_begun r.0) self.old self.new seat.old seat.new r.1) }
     {
@@ -401,6 +392,7 @@ impl<T: Trail> Held<T> {
         sync: SyncId,
     ) -> Result<(Result<(), Refusal>, Slip), Refusal>
         requires { seat.old.table ≡ self.old.log.table }
+        ensures full { IsErr result ↔ (has_room_for self.old (event.SyncDrop sync) ≡ false) }
         ensures err { IfErr result (λ e. (e ≡ TrailFull) × Untouched self.old self.new seat.old seat.new) }
         ensures made { IfOk result (λ r. Made (event.SyncDrop sync) (sync_dropped r.0) self.old self.new seat.old seat.new r.1) }
     {
@@ -411,10 +403,6 @@ impl<T: Trail> Held<T> {
             page,
             ..
         } = self;
-        let after = without_one(reserved);
-        if !log.has_room(*page, &after, 1, 0) {
-            return Err(Refusal::TrailFull);
-        }
         let is_room = log.has_room(*page, reserved, 1, 0);
         let answer = core.sync_drop(sync);
         let answer = match drop_or_full(answer, is_room) {
@@ -475,7 +463,6 @@ impl<T: Trail> Held<T> {
 impl<T: Trail + Drop> Held<T> {
     ghost use Rattle.cachecore.specs.PageLists.{no_lists};
     ghost use Rattle.trail.specs.History.{first_state};
-    ghost use Rattle.trail.specs.Room.{nothing_reserved};
 
     /// A cache without files with its error board, seats numbered from 0 and one more seat. Refused by `BadConfig` where there is no seat
     /// or more than 64, and else by want of memory.
@@ -488,7 +475,6 @@ impl<T: Trail + Drop> Held<T> {
     ) -> Result<(Held<T>, Board, Vec<Seat>, Seat), Refusal>
         ensures log { IfOk result (λ r. (r.0.log.name ≡ name) × (r.0.log.history ≡ []) × (r.0.log.room ≡ T.whole trail) × (r.0.log.made ≡ seats + 1)) }
         ensures core { IfOk result (λ r. r.0.core ≡ record { state = first_state geometry.now name; lists = no_lists }) }
-        ensures reserved { IfOk result (λ r. r.0.reserved ≡ nothing_reserved) }
         ensures board { IfOk result (λ r. (r.0.errors.board ≡ r.1) × (r.0.errors.all ≡ replicate files [])) }
         ensures seats { IfOk result (λ r. (vec_len r.2 ≡ seats) × AreFresh r.0.log.table name r.2.items) }
         ensures own { IfOk result (λ r. IsFresh r.0.log.table name r.3 seats) }
