@@ -103,7 +103,7 @@ sees slots id number list count c s r _ at _ =
     let mine = r.each_seat id (Seat number list count) at in
     let w = Seat number r.log count in
     let found : length r.log ≡ get_or s.words 0 0 = ap (λ ws. get_or ws 0 0) (sym r.word_is) in
-    (w, keeps, tt, unmoved s r 0 id c (Seat number list count) w at (λ n e. e) (mine.0, prefix_self r.log, mine.2), (refl, (r.log, mine.1, found, refl)))
+    (w, keeps, tt, unmoved s r 0 id c (Seat number list count) w at (λ n e. e) (mine.0, prefix_self r.log, mine.2), (refl, (r.log, mine.1, found, mine.2, refl)))
 
 pub compares : (slots id : ℕ) (all : Log) (made number : ℕ) (list : Log) (count : ℕ) (c : List (ℕ × ℕ)) → Allows IsKept slots id (Holds all made number list count, c) 0 (λ n. n) (Compared (step slots 0 0 0 none) (Holds all made number list count, c))
 compares slots id all made number list count c s r _ at _ =
@@ -155,7 +155,7 @@ adds slots id all made number list count c e new of is s r _ at _ =
             (λ j v n x. others_added r.log r.made r.writer e j v (λ k. n (k ∙ sym mine.0)) (λ k. n (r.alone j id number v old x at (k ∙ ap some of) refl)) (r.each_seat j v x));
         alone = alone_set s.views id old w at (λ n k. k) r.alone;
       },
-      (refl, (subst (λ l. IsPrefix list l) (sym mine.1) mine.3.1, refl)),
+      (refl, (subst (λ l. IsPrefix list l) (sym mine.1) mine.3.1, mine.3.2 ∙ ap (count_of number) (sym mine.1), refl)),
     )
 
 -- ---- splits and joins
@@ -295,3 +295,17 @@ keeper_again before after made e a b =
 
 pub settled_one : (me : Me ℕ View) (number : ℕ) (all before : Log) → me ≡ (Seat number (list_of me.0) (count_in me.0), []) → all ≡ before → IsPrefix (list_of me.0) all → count_in me.0 ≡ count_of (number_in me.0) all → IsPrefix (list_of me.0) before × (count_in me.0 ≡ count_of number before)
 settled_one me number all before is same p c = (subst (λ l. IsPrefix (list_of me.0) l) same p, c ∙ (λ i. count_of (number_in (is i).0) (same i)))
+
+-- ---- a seat's count is the number of its entries in its list
+
+pub counted_on : (before after : Me ℕ View) (number : ℕ) (all : Log) (e : Entry) → before ≡ (Seat number (list_of before.0) (count_in before.0), []) → after ≡ (Seat (number_in before.0) (all ++ e ∷ []) (count_in before.0 + 1), [])
+    → e.seat ≡ number → count_in before.0 ≡ count_of (number_in before.0) all → count_in after.0 ≡ count_of number (list_of after.0)
+counted_on before after number all e was is of counted =
+    let same : number_in before.0 ≡ number = ap (λ (m : Me ℕ View). number_in m.0) was in
+    let more : count_of number all + 1 ≡ count_of number (all ++ e ∷ []) = subst (λ n. count_of n all + 1 ≡ count_of n (all ++ e ∷ [])) of (sym (count_here all e)) in
+    ap (λ (m : Me ℕ View). count_in m.0) is ∙ ap (λ n. n + 1) (counted ∙ ap (λ n. count_of n all) same) ∙ more ∙ ap (λ (m : Me ℕ View). count_of number (list_of m.0)) (sym is)
+
+pub counted_as : (before after : Me ℕ View) (number : ℕ) (list : Log) → before ≡ (Seat number (list_of before.0) (count_in before.0), []) → after ≡ (Seat (number_in before.0) list (count_in before.0), [])
+    → count_in before.0 ≡ count_of (number_in before.0) list → count_in after.0 ≡ count_of number (list_of after.0)
+counted_as before after number list was is counted =
+    ap (λ (m : Me ℕ View). count_in m.0) is ∙ counted ∙ ap (λ (m : Me ℕ View). count_of (number_in m.0) list) was ∙ ap (λ (m : Me ℕ View). count_of number (list_of m.0)) (sym is)

@@ -36,17 +36,17 @@ pub record IsKept (s : State ℕ View) : Type 0 where
   -- each number stands in one view alone
   pub alone : (i j number : ℕ) (u v : View) → get_elem? s.views i ≡ some u → get_elem? s.views j ≡ some v → number_of u ≡ some number → number_of v ≡ some number → i ≡ j
 
--- the entry is added. The seat's list had begun what was there before
+-- the entry is added. The seat's list had begun what was there before, and its count was the number of its entries
 abbrev pub AddedFrom : Entry → View → View → Type 0
-AddedFrom entry (Holds all made number list count) after = IsPrefix list all × (after ≡ Holds (all ++ entry ∷ []) made number list (count + 1))
+AddedFrom entry (Holds all made number list count) after = IsPrefix list all × (count ≡ count_of number all) × (after ≡ Holds (all ++ entry ∷ []) made number list (count + 1))
 AddedFrom entry v after = Unit {0}
 
 abbrev pub Added : Entry → Step ℕ → Me ℕ View → ℕ → Me ℕ View → Type 0
 Added entry s before found after = (after.1 ≡ before.1) × AddedFrom entry before.0 after.0
 
--- the trail as it is, which begins with what the seat had seen
+-- the trail as it is, which begins with what the seat had seen and has as many of its entries as it counts
 abbrev pub SeenFrom : View → ℕ → View → Type 0
-SeenFrom (Seat number list count) found after = (log : List Entry) × IsPrefix list log × (length log ≡ found) × (after ≡ Seat number log count)
+SeenFrom (Seat number list count) found after = (log : List Entry) × IsPrefix list log × (length log ≡ found) × (count ≡ count_of number log) × (after ≡ Seat number log count)
 SeenFrom v found after = Unit {0}
 
 abbrev pub Seen : Step ℕ → Me ℕ View → ℕ → Me ℕ View → Type 0

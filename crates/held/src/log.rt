@@ -1,6 +1,6 @@
 //! The history of a cache with the seats of its callers, and the slips of their entries.
 
-ghost use Rattle.std.specs.Prelude.{◌≡◌, ◌≢◌, ℕ, ◌+◌, ◌^◌, ◌<◌, ◌≤◌, [], ◌∷◌, ◌++◌, length, IfOk, IfErr, OnErr, OnOk, All, Any, vec_len, ◌⊎◌, true};
+ghost use Rattle.std.specs.Prelude.{◌≡◌, ◌≢◌, ℕ, ◌+◌, ◌^◌, ◌<◌, ◌≤◌, [], ◌∷◌, ◌++◌, length, IfOk, IfErr, OnErr, OnOk, All, Any, vec_len, ◌⊎◌, true, Some};
 ghost use Rattle.std.specs.Arc.{arc_value};
 ghost use Rattle.std.specs.Bool.{OnTrue, OnFalse};
 ghost use Rattle.pc_types.specs.declared.refusal.Refusal.TheVariants.{Stranger};
@@ -10,7 +10,7 @@ ghost use Rattle.held.specs.Entered.{Entered};
 ghost use Rattle.trail.specs.Entries.{entry_with};
 ghost use Rattle.trail.specs.Room.{fits, fits_beside, less};
 ghost use Rattle.held.specs.Shown.{IsKeeper, all_of};
-ghost use Rattle.held.specs.Steps.{IsAt};
+ghost use Rattle.held.specs.Steps.{IsAt, Stays};
 ghost use Rattle.held.specs.Views.{count_of};
 
 use crate::steps::{enter, give_seat, look, settle};
@@ -21,7 +21,7 @@ use pc_types::Refusal;
 use std::alloc::{AllocError, Global};
 use std::marker::Model;
 use std::sync::Arc;
-use trail::{Entry, Reserve, Trail};
+use trail::{Entry, FullTrail, Reserve, Trail};
 
 pub(crate) type Owned = Table<u8, View, (), InOneOrder, Global>;
 
@@ -65,6 +65,7 @@ impl Model for Seat {
     ghost use Rattle.std.specs.Arc.{arc_value};
     ghost use Rattle.held.specs.declared.views.View.TheVariants.{Seat};
     ghost use Rattle.held.specs.Shown.{SeatSeen, list_of, count_in};
+    ghost use Rattle.held.specs.Views.{count_of};
 
     ghost Value = { SeatSeen };
 
@@ -72,7 +73,8 @@ impl Model for Seat {
 
     ghost invariant = { λ s.
         ((arc_value s.count).shared.table_id ≡ s.stand.table_id) × (s.stand.table_id.words ≡ 1)
-        × (s.stand.me ≡ (Seat s.number (list_of s.stand.me.0) (count_in s.stand.me.0), [])) };
+        × (s.stand.me ≡ (Seat s.number (list_of s.stand.me.0) (count_in s.stand.me.0), []))
+        × (count_in s.stand.me.0 ≡ count_of s.number (list_of s.stand.me.0)) };
 }
 
 /// The place of an entry in the history of the cache of a name.
@@ -146,7 +148,8 @@ impl<T: Trail> Log<T> {
 
     /// A new seat, of the next number.
     pub(crate) fn seat(&mut self) -> Result<Seat, AllocError>
-        requires { self.old.made < 65 }
+        requires made { self.old.made < 65 }
+        requires empty { self.old.history ≡ [] }
         ensures err { OnErr result (self.new ≡ self.old) }
         ensures same { (self.new.table ≡ self.old.table) × (self.new.name ≡ self.old.name) × (self.new.history ≡ self.old.history) × (self.new.room ≡ self.old.room) }
         ensures made { OnOk result (self.new.made ≡ self.old.made + 1) }
@@ -185,9 +188,11 @@ impl<T: Trail> Log<T> {
     }
 
     /// The trail, once all seats have come back.
-    pub(crate) fn close(self, seats: Vec<Seat>) -> T
+    pub(crate) fn close(self, seats: Vec<Seat>, own: Seat) -> T
         requires came { All (λ s. s.table ≡ self.table) seats.items }
+        requires own { own.table ≡ self.table }
         ensures trail { T.records result self.history }
+        ensures own { IsPrefix own.list self.history × (own.count ≡ count_of own.number self.history) }
         ensures seats { All (λ s. IsPrefix s.list self.history × (s.count ≡ count_of s.number self.history)) seats.items }
     {
         let Log {
@@ -196,6 +201,7 @@ impl<T: Trail> Log<T> {
             trail,
             ..
         } = self;
+        settle_one(&count.shared, &mut keeper, own);
         settle_all(&count.shared, &mut keeper, seats);
         trail
     }
@@ -207,6 +213,14 @@ impl Seat {
         ensures { result ≡ self.now.name }
     {
         self.name
+    }
+
+    /// Its number. The cache's own seat has the last one.
+    pub fn number(&self) -> u64
+        ensures value { result ≡ self.now.number }
+        ensures counted { self.now.count ≡ count_of self.now.number self.now.list }
+    {
+        self.number
     }
 
     /// Sees the history as it is. It has the slip's entry, where the slip is of the same cache.
@@ -246,6 +260,25 @@ pub(crate) fn are_named(seats: &Vec<Seat>, name: u64) -> bool
     seats.iter().all(|seat| seat.name == name)
 }
 
+/// Whether these are all the seats that were made, with one more beside them.
+pub(crate) fn are_all(seats: u64, made: u64) -> bool
+    ensures yes { OnTrue result (seats + 1 ≡ made) }
+    ensures no { OnFalse result (seats + 1 ≢ made) }
+{
+    seats < made && seats == made - 1
+}
+
+// The trail's side takes a seat in, and compares it with the history.
+fn settle_one(table: &Count, keeper: &mut Stand, seat: Seat)
+    requires at { IsAt table.now.table_id keeper.old × IsKeeper keeper.old.me }
+    requires seat { seat.table ≡ table.now.table_id }
+    ensures keeper { Stays keeper.old keeper.new × (keeper.new.me ≡ keeper.old.me) }
+    ensures settled { IsPrefix seat.list (all_of keeper.old.me.0) × (seat.count ≡ count_of seat.number (all_of keeper.old.me.0)) }
+{
+    let Seat { stand, .. } = seat;
+    settle(table, keeper, stand);
+}
+
 // The trail's side takes all seats in, and compares each with the history.
 fn settle_all(table: &Count, keeper: &mut Stand, mut seats: Vec<Seat>)
     requires at { IsAt table.now.table_id keeper.old × IsKeeper keeper.old.me }
@@ -255,5 +288,20 @@ fn settle_all(table: &Count, keeper: &mut Stand, mut seats: Vec<Seat>)
     while let Some(seat) = seats.pop() {
         let Seat { stand, .. } = seat;
         settle(table, keeper, stand);
+    }
+}
+
+/// The place of the slip's entry in the trail that its cache gave back.
+pub fn confirm(trail: &FullTrail, slip: Slip) -> Result<u64, Refusal>
+    ensures ok { IfOk result (λ place. (place ≡ slip.place) × (trail.now.cache ≡ Some slip.name) × (place < length trail.now.entries)) }
+    ensures err { IfErr result (λ e. (e ≡ Stranger) × ((trail.now.cache ≢ Some slip.name) ⊎ (length trail.now.entries ≤ slip.place))) }
+{
+    let Some(name) = trail.cache() else {
+        return Err(Refusal::Stranger);
+    };
+    if name == slip.name && slip.place < trail.len() {
+        Ok(slip.place)
+    } else {
+        Err(Refusal::Stranger)
     }
 }

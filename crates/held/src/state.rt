@@ -15,7 +15,7 @@ ghost use Rattle.held.specs.Calls.{event_of, reply_of};
 ghost use Rattle.held.specs.Entered.{Made, Untouched, has_room_for};
 ghost use Rattle.cachecore.specs.Flushing.{flush_of};
 ghost use Rattle.held.specs.Ends.{IsRecorded};
-ghost use Rattle.pc_types.specs.declared.refusal.Refusal.TheVariants.{BadConfig, Memory, NoSuchFile, TrailFull};
+ghost use Rattle.pc_types.specs.declared.refusal.Refusal.TheVariants.{BadConfig, Memory, NoSuchFile, Stranger, TrailFull};
 
 use crate::begin::{
     of_fill, of_flush, of_sync, of_sync_begin, reserve_fill, reserve_flush, reserve_step,
@@ -27,7 +27,7 @@ use crate::end::{
     bytes_of, drop_or_full, end_without, is_well, of_fill_end, of_flush_end, of_sync_drop, or_full,
     record, use_fill, use_flush, use_sync,
 };
-use crate::log::{Log, Seat, Slip, are_named};
+use crate::log::{Log, Seat, Slip, are_all, are_named};
 use blockdev::{Buffer, Finished};
 use cachecore::{
     CacheCore, Ended, Event, FillBegun, FlushBegun, ReadAnswer, Refused, RefusedEnd, SyncStepped,
@@ -433,6 +433,18 @@ impl<T: Trail> Held<T> {
         self.recorder.pass(file)
     }
 
+    /// Lets a pass know all that was recorded of its file. It polls nothing.
+    pub fn level(&mut self, pass: &mut Pass)
+        requires { pass.old.board ≡ self.old.errors.board }
+        ensures same { self.new ≡ self.old }
+        ensures pass { (pass.new.board ≡ pass.old.board) × (pass.new.file ≡ pass.old.file) × (pass.new.start ≡ pass.old.start) × (pass.new.done ≡ pass.old.done) × (pass.new.since ≡ pass.old.since) }
+        ensures known { pass.new.known ≡ recorded_of self.old.errors.all pass.old.file }
+        ensures begins { IsPrefix pass.old.known (recorded_of self.old.errors.all pass.old.file) }
+        ensures owes { Owes (recorded_of self.old.errors.all pass.old.file) pass.old.done pass.old.since }
+    {
+        self.recorder.level(pass)
+    }
+
     /// Takes a pass back. What it knew begins what was recorded.
     pub fn retire(&mut self, pass: Pass)
         requires { pass.board ≡ self.old.errors.board }
@@ -443,19 +455,30 @@ impl<T: Trail> Held<T> {
         self.recorder.retire(pass)
     }
 
-    /// The trail and the core, where all seats come back.
-    pub fn close(self, seats: Vec<Seat>) -> Result<(T, CacheCore), (Held<T>, Vec<Seat>)>
+    /// The trail and the core, if all seats come back, its own beside the others. Refused by `Stranger` if one is missing or of a
+    /// cache of another name; all come back then, as they were.
+    pub fn close(
+        self,
+        seats: Vec<Seat>,
+        own: Seat,
+    ) -> Result<(T, CacheCore), (Refusal, Held<T>, Vec<Seat>, Seat)>
         requires came { All (λ s. s.name ≡ self.log.name → s.table ≡ self.log.table) seats.items }
-        ensures refused { IsErr result ↔ ((vec_len seats ≢ self.log.made) ⊎ Any (λ s. s.name ≢ self.log.name) seats.items) }
-        ensures err { IfErr result (λ e. (e.0 ≡ self) × (e.1 ≡ seats)) }
+        requires own { own.name ≡ self.log.name → own.table ≡ self.log.table }
+        ensures refused { IsErr result ↔ ((vec_len seats + 1 ≢ self.log.made) ⊎ Any (λ s. s.name ≢ self.log.name) seats.items ⊎ (own.name ≢ self.log.name)) }
+        ensures err { IfErr result (λ e. (e.0 ≡ Stranger) × (e.1 ≡ self) × (e.2 ≡ seats) × (e.3 ≡ own)) }
         ensures trail { IfOk result (λ r. T.records r.0 self.log.history × (r.1 ≡ self.core) × IsAfter self.log.history r.1.state) }
         ensures seats { OnOk result (All (λ s. IsPrefix s.list self.log.history × (s.count ≡ count_of s.number self.log.history)) seats.items) }
+        ensures own { OnOk result (IsPrefix own.list self.log.history × (own.count ≡ count_of own.number self.log.history)) }
     {
-        if seats.len() as u64 != self.log.made() || !are_named(&seats, self.log.name()) {
-            return Err((self, seats));
+        let name = self.log.name();
+        if own.name() != name
+            || !are_all(seats.len() as u64, self.log.made())
+            || !are_named(&seats, name)
+        {
+            return Err((Refusal::Stranger, self, seats, own));
         }
         let Held { core, log, .. } = self;
-        let trail = log.close(seats);
+        let trail = log.close(seats, own);
         Ok((trail, core))
     }
 }

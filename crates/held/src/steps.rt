@@ -30,6 +30,7 @@ pub(crate) fn enter(
     ensures keeper { Stays keeper.old keeper.new × (keeper.new.me ≡ (Keeper (all_of keeper.old.me.0 ++ entry_with entry.now bytes.now ∷ []) (made_of keeper.old.me.0), [])) }
     ensures seat { Stays seat.old seat.new × (seat.new.me ≡ (Seat (number_in seat.old.me.0) (all_of keeper.old.me.0 ++ entry_with entry.now bytes.now ∷ []) (count_in seat.old.me.0 + 1), [])) }
     ensures begins { IsPrefix (list_of seat.old.me.0) (all_of keeper.old.me.0) }
+    ensures counted { count_in seat.old.me.0 ≡ count_of (number_in seat.old.me.0) (all_of keeper.old.me.0) }
 {
     take_note(table, keeper, seat);
     add::<Brand>(table, keeper, len + 1, entry, bytes);
@@ -55,6 +56,7 @@ fn add<N: Naming>(table: &Count, keeper: &mut Stand, len: u64, entry: &Entry, by
     requires len { len ≡ length (all_of keeper.old.me.0) + 1 }
     ensures keeper { Stays keeper.old keeper.new × (keeper.new.me ≡ (Holds (all_of keeper.old.me.0 ++ entry_with entry.now bytes.now ∷ []) (made_of keeper.old.me.0) (number_in keeper.old.me.0) (list_of keeper.old.me.0) (count_in keeper.old.me.0 + 1), [])) }
     ensures begins { IsPrefix (list_of keeper.old.me.0) (all_of keeper.old.me.0) }
+    ensures counted { count_in keeper.old.me.0 ≡ count_of (number_in keeper.old.me.0) (all_of keeper.old.me.0) }
 {
     table.store::<Adds<N>>(keeper, 0, len);
 }
@@ -87,6 +89,7 @@ pub(crate) fn look(table: &Count, seat: &mut Stand) -> u64
     requires seat { IsSeat seat.old.me }
     ensures seat { Stays seat.old seat.new × (seat.new.me ≡ (Seat (number_in seat.old.me.0) (list_of seat.new.me.0) (count_in seat.old.me.0), [])) }
     ensures seen { IsPrefix (list_of seat.old.me.0) (list_of seat.new.me.0) × (result ≡ length (list_of seat.new.me.0)) }
+    ensures counted { count_in seat.old.me.0 ≡ count_of (number_in seat.old.me.0) (list_of seat.new.me.0) }
 {
     table.load::<Sees>(seat, 0)
 }

@@ -1,8 +1,8 @@
-use Rattle.std.proofs.Common.{rules, ◌≡◌, length, List, subst, sym, ap, ◌∙◌}
+use Rattle.std.proofs.Common.{rules, refl, ◌≡◌, length, List, subst, sym, ap, ◌∙◌}
 use Rattle.trail.specs.Room.{fits}
 use Rattle.held.specs.Shown.{LogSeen}
 use Rattle.trail.specs.declared.entry.Entry.{Entry}
-use Rattle.held.proofs.Keeps.{keeper_again}
+use Rattle.held.proofs.Keeps.{counted_on, keeper_again}
 use Rattle.held.proofs.Rooms.{fits_entry}
 use Rattle.held.proofs.log.Log.enter.Goals as goal
 
@@ -18,3 +18,11 @@ invariant_of-self g c =
       k.0,
       subst (λ (l : List Entry). g.T.Trail.records c.append.new.self l) (sym k.1) (c.append.ensures.records _ i.3),
     )
+
+pub invariant_of-seat : goal.invariant_of-seat
+invariant_of-seat g c = (
+  search rules,
+  search rules,
+  search rules,
+  counted_on _ _ _ _ _ c.seat.invariant.2 c.enter.ensures.seat.1 refl c.enter.ensures.counted,
+)
