@@ -29,3 +29,9 @@ returns-then-branch-clause-made g c =
       | in-NoFrame+else-is_some w ↦ rw (w.in-NoFrame.is, ← c.self.view_is) (flushed_for_frame s c.flush_one.new.self _ _ w.age.result w.evict.result w.age.ensures w.evict.ensures (sym w.is_some.ensures ∙ w.if-is_some.false) (rw w.self-is at f))
       | in-DirtyLimit w ↦ rw w.in-DirtyLimit.is (rw w.self-is at f)
     ]
+
+pub returns-in_err-flush_one-clause-serves : goal.returns-in_err-flush_one-clause-serves
+returns-in_err-flush_one-clause-serves g c = elim c.match-refusal.branch [
+  | in-NoFrame+else-is_some w ↦ rw (← c.self.view_is) (serves_trans _ _ _ (evicted_serves _ _ _ w.age.result w.evict.result w.age.ensures w.evict.ensures (service_sound _ _ _ _ c.self.invariant)) (rw w.self-is at c.flush_one.ensures.serves))
+  | in-DirtyLimit w ↦ rw w.self-is at c.flush_one.ensures.serves
+]
