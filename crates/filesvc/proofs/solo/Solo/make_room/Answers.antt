@@ -49,3 +49,9 @@ returns-else-branch-clause-clean g c =
       | in-NoFrame+else-is_some w ↦ λ tells no _. absurd (let e : NoFrame ≡ DirtyLimit = sym w.in-NoFrame.is ∙ no in cc)
       | in-DirtyLimit w ↦ rw (← c.self.view_is) (λ tells _ _. dirty_refused s c.flush_one.new.self _ _ c.self.invariant.serving tells (rw (w.self-is, ← c.self.view_is) at f))
     ]
+
+pub returns-in_err-flush_one-clause-serves : goal.returns-in_err-flush_one-clause-serves
+returns-in_err-flush_one-clause-serves g c = elim c.match-refusal.branch [
+  | in-NoFrame+else-is_some w ↦ rw (← c.self.view_is) (serves_trans _ _ _ (evicted_serves _ _ _ w.age.result w.evict.result w.age.ensures w.evict.ensures (service_sound _ _ _ _ c.self.invariant.serving)) (rw w.self-is at c.flush_one.ensures.serves))
+  | in-DirtyLimit w ↦ rw w.self-is at c.flush_one.ensures.serves
+]
