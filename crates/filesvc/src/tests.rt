@@ -156,18 +156,18 @@ fn reads_back(rt: &impl Abort, desk: &mut Desk) {
 }
 
 // Clean pages that are used often, as many dirty ones as may be, and then calls that lack two pages.
-fn is_never_stuck(rt: &impl Abort, desk: &mut Desk, frames: u64, dirty: u64) {
+fn is_never_stuck(rt: &impl Abort, desk: &mut Desk, clean: u16, dirty: u16) {
     let mut out = [0; 32];
     for page in 0..3000u64 {
         assert_eq!(rt; desk.pwrite(page * 16, &[(page % 256) as u8; 16]), Ok(16));
     }
     assert_eq!(rt; desk.fsync(), Ok(()));
     for _ in 0..3 {
-        for page in 1000..1000 + (frames - dirty) {
+        for page in 1000..1000 + u64::from(clean) {
             assert_eq!(rt; desk.pread(page * 16, &mut out), Ok(32));
         }
     }
-    for page in 0..dirty {
+    for page in 0..u64::from(dirty) {
         assert_eq!(rt; desk.pwrite(page * 16, &[1]), Ok(1));
     }
     for page in 2000..2004u64 {
@@ -261,7 +261,8 @@ enum Row {
     ReadsBack,
     RefusesAStranger,
     Saves,
-    IsNeverStuck(u64, u64),
+    // so many clean pages in use, and so many dirty ones
+    IsNeverStuck(u16, u16),
     Mixes,
 }
 
@@ -275,7 +276,7 @@ fn run(rt: &impl Abort, desk: &mut Desk, row: Row) -> Result<(), Refusal> {
         Row::ReadsBack => reads_back(rt, desk),
         Row::RefusesAStranger => refuses_a_stranger(rt, desk),
         Row::Saves => saves(rt, desk)?,
-        Row::IsNeverStuck(frames, dirty) => is_never_stuck(rt, desk, frames, dirty),
+        Row::IsNeverStuck(clean, dirty) => is_never_stuck(rt, desk, clean, dirty),
         Row::Mixes => mixes(rt, desk),
     }
     Ok(())
@@ -369,19 +370,13 @@ fn another_device_is_refused(rt: HostRuntime) -> Result<(), Refusal> {
 #[test]
 fn two_absent_pages_of_64(rt: HostRuntime) -> Result<(), Refusal> {
     let geometry = Geometry::new(16, 64, 32, 4096)?;
-    over(&rt, rt.alloc(), &geometry, false, Row::IsNeverStuck(64, 32))
+    over(&rt, rt.alloc(), &geometry, false, Row::IsNeverStuck(32, 32))
 }
 
 #[test]
 fn two_absent_pages_of_128(rt: HostRuntime) -> Result<(), Refusal> {
     let geometry = Geometry::new(16, 128, 96, 4096)?;
-    over(
-        &rt,
-        rt.alloc(),
-        &geometry,
-        false,
-        Row::IsNeverStuck(128, 96),
-    )
+    over(&rt, rt.alloc(), &geometry, false, Row::IsNeverStuck(32, 96))
 }
 
 #[test]
@@ -392,7 +387,7 @@ fn two_absent_pages_of_256(rt: HostRuntime) -> Result<(), Refusal> {
         rt.alloc(),
         &geometry,
         false,
-        Row::IsNeverStuck(256, 128),
+        Row::IsNeverStuck(128, 128),
     )
 }
 
