@@ -74,6 +74,19 @@ impl Desk {
         let Desk { mut solo, handle } = self;
         solo.close(handle).is_ok()
     }
+
+    /// The same service with its file closed, and opened again.
+    fn reopened(self) -> Result<Desk, Refusal> {
+        let Desk { mut solo, handle } = self;
+        let _ = solo.close(handle);
+        let handle = solo.open(FileId(0), false)?;
+        Ok(Desk { solo, handle })
+    }
+}
+
+/// The code of the fault that is planned: another than that of a call which can't be counted.
+fn full() -> Result<ErrCode, Refusal> {
+    ErrCode::new(28)
 }
 
 // Reads, writes and seeks of one handle, at the ends of a file and of what a cursor may be.
@@ -101,12 +114,22 @@ fn moves_a_cursor(rt: &impl Abort, desk: &mut Desk) {
 }
 
 // A failed write is told once, and the next sync succeeds.
-fn tells_an_error_once(rt: &impl Abort, desk: &mut Desk) {
+fn tells_an_error_once(rt: &impl Abort, desk: &mut Desk) -> Result<(), Refusal> {
     assert_eq!(rt; desk.pwrite(0, &[0xaa]), Ok(1));
-    assert_eq!(rt; desk.fsync(), Err(Refusal::Io(ErrCode::IO)));
+    assert_eq!(rt; desk.fsync(), Err(Refusal::Io(full()?)));
     assert_eq!(rt; desk.poll_error(), Ok(None));
     assert_eq!(rt; desk.fsync(), Ok(()));
     assert_eq!(rt; desk.fsync(), Ok(()));
+    Ok(())
+}
+
+// More fsyncs than syncs may be in progress at once, one after the other.
+fn syncs_again_and_again(rt: &impl Abort, desk: &mut Desk) {
+    for at in 0..65u64 {
+        assert_eq!(rt; desk.pwrite(at, &[1]), Ok(1));
+        assert_eq!(rt; desk.fsync(), Ok(()));
+        assert_eq!(rt; desk.solo.attempts(), 1);
+    }
 }
 
 // Where as many pages are dirty as may be, a write makes room by writing one back.
@@ -118,11 +141,24 @@ fn makes_room(rt: &impl Abort, desk: &mut Desk) {
 }
 
 // Where that fails, the write is refused, and the next sync tells of it.
-fn refuses_without_room(rt: &impl Abort, desk: &mut Desk) {
+fn refuses_without_room(rt: &impl Abort, desk: &mut Desk) -> Result<(), Refusal> {
     assert_eq!(rt; desk.pwrite(0, &[1; 256]), Ok(256));
     assert_eq!(rt; desk.pwrite(256, &[2]), Err(Refusal::DirtyLimit));
-    assert_eq!(rt; desk.fsync(), Err(Refusal::Io(ErrCode::IO)));
+    assert_eq!(rt; desk.fsync(), Err(Refusal::Io(full()?)));
     assert_eq!(rt; desk.fsync(), Ok(()));
+    Ok(())
+}
+
+// A write that failed while room was made, and that no handle was told of, is told to the next one that is opened, and to no other.
+fn hands_an_error_down(rt: &impl Abort, mut desk: Desk) -> Result<Desk, Refusal> {
+    assert_eq!(rt; desk.pwrite(0, &[1; 256]), Ok(256));
+    assert_eq!(rt; desk.pwrite(256, &[2]), Err(Refusal::DirtyLimit));
+    let mut desk = desk.reopened()?;
+    assert_eq!(rt; desk.poll_error(), Ok(Some(full()?)));
+    assert_eq!(rt; desk.poll_error(), Ok(None));
+    let mut desk = desk.reopened()?;
+    assert_eq!(rt; desk.poll_error(), Ok(None));
+    Ok(desk)
 }
 
 // An appending handle writes at the end, and pwrite where it is told to.
@@ -156,18 +192,18 @@ fn reads_back(rt: &impl Abort, desk: &mut Desk) {
 }
 
 // Clean pages that are used often, as many dirty ones as may be, and then calls that lack two pages.
-fn is_never_stuck(rt: &impl Abort, desk: &mut Desk, frames: u64, dirty: u64) {
+fn is_never_stuck(rt: &impl Abort, desk: &mut Desk, clean: u16, dirty: u16) {
     let mut out = [0; 32];
     for page in 0..3000u64 {
         assert_eq!(rt; desk.pwrite(page * 16, &[(page % 256) as u8; 16]), Ok(16));
     }
     assert_eq!(rt; desk.fsync(), Ok(()));
     for _ in 0..3 {
-        for page in 1000..1000 + (frames - dirty) {
+        for page in 1000..1000 + u64::from(clean) {
             assert_eq!(rt; desk.pread(page * 16, &mut out), Ok(32));
         }
     }
-    for page in 0..dirty {
+    for page in 0..u64::from(dirty) {
         assert_eq!(rt; desk.pwrite(page * 16, &[1]), Ok(1));
     }
     for page in 2000..2004u64 {
@@ -261,21 +297,24 @@ enum Row {
     ReadsBack,
     RefusesAStranger,
     Saves,
-    IsNeverStuck(u64, u64),
+    SyncsAgainAndAgain,
+    // so many clean pages in use, and so many dirty ones
+    IsNeverStuck(u16, u16),
     Mixes,
 }
 
 fn run(rt: &impl Abort, desk: &mut Desk, row: Row) -> Result<(), Refusal> {
     match row {
         Row::MovesACursor => moves_a_cursor(rt, desk),
-        Row::TellsAnErrorOnce => tells_an_error_once(rt, desk),
+        Row::TellsAnErrorOnce => tells_an_error_once(rt, desk)?,
         Row::MakesRoom => makes_room(rt, desk),
-        Row::RefusesWithoutRoom => refuses_without_room(rt, desk),
+        Row::RefusesWithoutRoom => refuses_without_room(rt, desk)?,
         Row::Appends => appends(rt, desk),
         Row::ReadsBack => reads_back(rt, desk),
         Row::RefusesAStranger => refuses_a_stranger(rt, desk),
         Row::Saves => saves(rt, desk)?,
-        Row::IsNeverStuck(frames, dirty) => is_never_stuck(rt, desk, frames, dirty),
+        Row::SyncsAgainAndAgain => syncs_again_and_again(rt, desk),
+        Row::IsNeverStuck(clean, dirty) => is_never_stuck(rt, desk, clean, dirty),
         Row::Mixes => mixes(rt, desk),
     }
     Ok(())
@@ -290,7 +329,7 @@ fn open_desk(
 ) -> Result<Desk, Refusal> {
     let mut device = ScriptDevice::new(alloc, 16, geometry.blocks())?;
     if fails {
-        device.fail_next(ErrCode::IO, FaultEffect::Old);
+        device.fail_next(full()?, FaultEffect::Old);
     }
     let Ok(mut solo) = Solo::new(alloc, geometry, 7, device) else {
         return Err(Refusal::Memory);
@@ -325,6 +364,20 @@ fn a_cursor_moves(rt: HostRuntime) -> Result<(), Refusal> {
 #[test]
 fn an_error_is_told_once(rt: HostRuntime) -> Result<(), Refusal> {
     over_a_service(&rt, rt.alloc(), true, Row::TellsAnErrorOnce)
+}
+
+#[test]
+fn an_untold_error_is_handed_down(rt: HostRuntime) -> Result<(), Refusal> {
+    let geometry = Geometry::new(16, 48, 16, 64)?;
+    let desk = open_desk(rt.alloc(), &geometry, true, false)?;
+    let desk = hands_an_error_down(&rt, desk)?;
+    assert!(rt; desk.close());
+    Ok(())
+}
+
+#[test]
+fn no_sync_is_left(rt: HostRuntime) -> Result<(), Refusal> {
+    over_a_service(&rt, rt.alloc(), false, Row::SyncsAgainAndAgain)
 }
 
 #[test]
@@ -369,19 +422,13 @@ fn another_device_is_refused(rt: HostRuntime) -> Result<(), Refusal> {
 #[test]
 fn two_absent_pages_of_64(rt: HostRuntime) -> Result<(), Refusal> {
     let geometry = Geometry::new(16, 64, 32, 4096)?;
-    over(&rt, rt.alloc(), &geometry, false, Row::IsNeverStuck(64, 32))
+    over(&rt, rt.alloc(), &geometry, false, Row::IsNeverStuck(32, 32))
 }
 
 #[test]
 fn two_absent_pages_of_128(rt: HostRuntime) -> Result<(), Refusal> {
     let geometry = Geometry::new(16, 128, 96, 4096)?;
-    over(
-        &rt,
-        rt.alloc(),
-        &geometry,
-        false,
-        Row::IsNeverStuck(128, 96),
-    )
+    over(&rt, rt.alloc(), &geometry, false, Row::IsNeverStuck(32, 96))
 }
 
 #[test]
@@ -392,7 +439,7 @@ fn two_absent_pages_of_256(rt: HostRuntime) -> Result<(), Refusal> {
         rt.alloc(),
         &geometry,
         false,
-        Row::IsNeverStuck(256, 128),
+        Row::IsNeverStuck(128, 128),
     )
 }
 
