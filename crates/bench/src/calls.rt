@@ -1,4 +1,6 @@
 //! The calls of an array that are timed. A mark is the first one, and a retag gives the second one to the whole array.
+//!
+//! A load or an erase of nothing answers 0: where it ended the loop, a random load took 150 ns in place of 57.
 
 use crate::form::Call;
 use crate::loops::RANGE_ORDER;
@@ -37,7 +39,7 @@ impl Call for Load {
 
     #[inline(always)]
     fn make(array: &mut XArray, index: u64) -> Option<u64> {
-        array.load(index)
+        Some(array.load(index).unwrap_or(0))
     }
 }
 
@@ -106,7 +108,7 @@ impl Call for Erase {
 
     #[inline(always)]
     fn make(array: &mut XArray, index: u64) -> Option<u64> {
-        array.erase(index)
+        Some(array.erase(index).unwrap_or(0))
     }
 }
 

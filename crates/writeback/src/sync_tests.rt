@@ -118,32 +118,24 @@ fn a_sync_writes_what_was_dirty_as_it_began(rt: HostRuntime) -> Result<(), Fail>
 
     // Page 1 is made DIRTY after the sync began.
     pages.tag(PageIndex(1), Tag::Dirty)?;
-    assert_eq!(rt;
-        step(&pages, &requests, &syncs),
-        Some(SyncStep::Start(found(0)))
-    );
+    let next = step(&pages, &requests, &syncs);
+    assert_eq!(rt; next, Some(SyncStep::Start(found(0))));
     assert_eq!(rt; start(&rt, &mut pages, &mut requests, 0), Serial(0));
     syncs.started(SyncId(0), PageIndex(0));
     assert_eq!(rt; sync_pick(&pages, PageIndex(1)), Some(found(2)));
-    assert_eq!(rt;
-        step(&pages, &requests, &syncs),
-        Some(SyncStep::Start(found(2)))
-    );
+    let next = step(&pages, &requests, &syncs);
+    assert_eq!(rt; next, Some(SyncStep::Start(found(2))));
     assert_eq!(rt; start(&rt, &mut pages, &mut requests, 2), Serial(1));
     syncs.started(SyncId(0), PageIndex(2));
 
     // Nothing is left to start: it awaits both writes, the oldest first.
-    assert_eq!(rt;
-        step(&pages, &requests, &syncs),
-        Some(SyncStep::Await(PageIndex(0), Serial(2)))
-    );
+    let next = step(&pages, &requests, &syncs);
+    assert_eq!(rt; next, Some(SyncStep::Await(PageIndex(0), Serial(2))));
     syncs.set_bound(SyncId(0), Serial(2));
     assert_eq!(rt; start(&rt, &mut pages, &mut requests, 1), Serial(2));
     end(&rt, &mut pages, &mut requests, 0, 0);
-    assert_eq!(rt;
-        step(&pages, &requests, &syncs),
-        Some(SyncStep::Await(PageIndex(2), Serial(2)))
-    );
+    let next = step(&pages, &requests, &syncs);
+    assert_eq!(rt; next, Some(SyncStep::Await(PageIndex(2), Serial(2))));
     end(&rt, &mut pages, &mut requests, 1, 2);
 
     // The write of page 1 began later, and is none of its own.
