@@ -39,7 +39,7 @@ WritesNone s e r = (h : HandleId) × (o : ℕ) × IsWrite s e h o [] × (r ≡ r
 abbrev Quiet : State → Event → Reply → Type 0
 Quiet s e r = (is_quiet r ≡ true) ⊎ WritesNone s e r
 
-stopped_quiet : (H : Reply → Type 0) (s : State) (f : ℕ) (o : Option ℕ) → ((p : ℕ) → H (reply.Wait (record { 0 = p }))) → ((p : ℕ) → H (reply.Miss (record { 0 = p }))) → (r : Reply) → stopped s f o ≡ Some r → H r
+pub stopped_quiet : (H : Reply → Type 0) (s : State) (f : ℕ) (o : Option ℕ) → ((p : ℕ) → H (reply.Wait (record { 0 = p }))) → ((p : ℕ) → H (reply.Miss (record { 0 = p }))) → (r : Reply) → stopped s f o ≡ Some r → H r
 stopped_quiet H s f None w m r e = absurd cc
 stopped_quiet H s f (Some p) w m r e = elim (is_filling s f p) as (λ b. Some (cond b (reply.Wait (record { 0 = p })) (reply.Miss (record { 0 = p }))) ≡ Some r → H r) [
   | true ↦ λ k. quiet_some H _ r k (w p)

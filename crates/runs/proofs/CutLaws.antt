@@ -11,7 +11,8 @@ use Rattle.pc_types.proofs.FileLaws.{byte-pwrite, byte-take, byte-page, length-c
 use Rattle.machine.specs.Changes.{overlay}
 use Rattle.machine.specs.Tests.{covers}
 use Rattle.machine.specs.State.{page_count, touched, touched_count}
-use Rattle.runs.proofs.PageLaws.{touches, length-page, length-overlay}
+use Rattle.machine.proofs.StateLaws.{touches}
+use Rattle.runs.proofs.PageLaws.{length-page, length-overlay}
 
 -- ---- page counts
 

@@ -10,8 +10,8 @@ use Rattle.machine.specs.State.{State, File, Page, file_at, page_at, no_file}
 use Rattle.pc_types.specs.Spots.{place_cmp}
 use Rattle.machine.specs.Changes.{put_file, put_page, put_pages, change_page, put_some}
 use Rattle.machine.proofs.Maps.{get-insert_nat, get-remove_nat}
-use Rattle.runs.proofs.MapLaws.{get-insert_place}
-use Rattle.runs.proofs.StateLaws.{file_at-put, page_at-put}
+use Rattle.machine.proofs.MapLaws.{get-insert_place}
+use Rattle.machine.proofs.StateLaws.{file_at-put, page_at-put}
 use Rattle.runs.proofs.View.{put1, put2}
 
 -- a new element at the end that is the default
@@ -46,6 +46,10 @@ at_file m f p x g q = elim (eqb g f) as (λ b. eqb g f ≡ b → cond b (cond (e
 
 pub page_at-put_page : (s : State) (f p : ℕ) (page : Page) → f < length s.files → (g q : ℕ) → page_at (put_page s f p page) g q ≡ put2 (page_at s) f p (Some page) g q
 page_at-put_page s f p page h g q = page_at-put s f _ h g q ∙ ap (λ x. cond (eqb g f) x (page_at s g q)) (get-insert1 (file_at s f).pages p page q) ∙ at_file (page_at s) f p (Some page) g q
+
+-- a file changes, and of its pages one
+pub page_at-put_one : (s : State) (f p : ℕ) (page : Page) (file : File) → file.pages ≡ finmap.insert (file_at s f).pages p page → f < length s.files → (g q : ℕ) → page_at (put_file s f file) g q ≡ put2 (page_at s) f p (Some page) g q
+page_at-put_one s f p page file e h g q = page_at-put s f file h g q ∙ ap (λ m. cond (eqb g f) (finmap.get m q) (page_at s g q)) e ∙ ap (λ x. cond (eqb g f) x (page_at s g q)) (get-insert1 (file_at s f).pages p page q) ∙ at_file (page_at s) f p (Some page) g q
 
 pub page_at-removed : (s : State) (f p : ℕ) → f < length s.files → (g q : ℕ) → page_at (put_pages s f (finmap.remove (file_at s f).pages p)) g q ≡ put2 (page_at s) f p None g q
 page_at-removed s f p h g q = page_at-put s f _ h g q ∙ ap (λ x. cond (eqb g f) x (page_at s g q)) (get-remove1 (file_at s f).pages p q) ∙ at_file (page_at s) f p None g q

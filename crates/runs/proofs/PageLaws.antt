@@ -8,10 +8,7 @@ use Rattle.std.proofs.lemmas.List.{get_or-drop, length-take}
 use Rattle.pc_types.specs.Files.{pwrite, page_of}
 use Rattle.pc_types.proofs.FileLaws.{byte-pwrite, length-pwrite, byte-take, byte-page, length-cut}
 use Rattle.machine.specs.Changes.{overlay}
-
--- whether n bytes at o touch page p
-abbrev pub touches : ℕ → ℕ → ℕ → ℕ → Bool
-touches P o n p = nat_le (o / P) p && nat_le p ((o + n - 1) / P)
+use Rattle.machine.proofs.StateLaws.{touches}
 
 pub length-page : (P : ℕ) (f : List ℕ) (p : ℕ) → length (page_of P f p) ≡ P
 length-page P f p = length-cut (drop (p * P) f) P

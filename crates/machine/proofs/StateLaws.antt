@@ -1,6 +1,6 @@
 -- What is looked up in a state after a file of it changes, when two states are equal, and what a free block is.
 use Rattle.std.proofs.Common.{◌≡◌, ℕ, ◌<◌, ◌≢◌, Bool, true, false, cond, not, eqb, eq-eqb, List, [], ◌∷◌, length, get_or, refl, ap, sym, ◌∙◌, arith, get_or-set_same, get_or-set_other}
-use Rattle.std.specs.Prelude.{◌||◌, Some, slice_set, map}
+use Rattle.std.specs.Prelude.{◌+◌, ◌-◌, ◌/◌, ◌&&◌, ◌||◌, Some, slice_set, map, nat_le}
 use Rattle.std.specs.List.{list_any}
 use Rattle.std.proofs.lemmas.Bool.Decides.{nat_tests}
 use Rattle.std.proofs.lemmas.List.Folds.{list_any-append}
@@ -10,7 +10,11 @@ use Rattle.std.specs.FinMap.{get-entries}
 use Rattle.machine.specs.State.{State, File, Request, file_at, page_at, spot_at, no_file, is_filling, fills, used_blocks}
 use Rattle.pc_types.specs.Spots.{Spot, place_cmp}
 use Rattle.machine.specs.Changes.{put_file}
-use Rattle.runs.proofs.MapLaws.{any_value, same_nat_map}
+use Rattle.machine.proofs.MapLaws.{any_value, same_nat_map}
+
+-- whether n bytes at o touch page p
+abbrev pub touches : ℕ → ℕ → ℕ → ℕ → Bool
+touches P o n p = nat_le (o / P) p && nat_le p ((o + n - 1) / P)
 
 -- ---- files
 
