@@ -1,3 +1,7 @@
+use Rattle.runs.proofs.AlwaysHold.{holds_always}
+use Rattle.runs.proofs.GoOn.{requests_go_on}
+use Rattle.machine.proofs.Determined.{steps_are_determined}
+use Rattle.machine.proofs.Stuck.{no_event_is_stuck}
 use Rattle.runs.proofs.FilesHeld.{files_are_held}
 use Rattle.runs.proofs.FilesSeen.{files_are_those}
 use Rattle.runs.proofs.ReadsRight.{reads_are_right}
@@ -11,3 +15,15 @@ returns-clause-those c = files_are_those
 
 pub returns-clause-reads : goal.returns-clause-reads
 returns-clause-reads c = reads_are_right
+
+pub returns-clause-always : goal.returns-clause-always
+returns-clause-always c = holds_always
+
+pub returns-clause-go_on : goal.returns-clause-go_on
+returns-clause-go_on c = requests_go_on
+
+pub returns-clause-determined : goal.returns-clause-determined
+returns-clause-determined c = steps_are_determined
+
+pub returns-clause-never_stuck : goal.returns-clause-never_stuck
+returns-clause-never_stuck c = no_event_is_stuck
