@@ -1,3 +1,4 @@
+use Rattle.runs.proofs.SyncRuns.{dirty_pages_stay, syncs_are_synced, syncs_rise, syncs_tell}
 use Rattle.runs.proofs.AlwaysHold.{holds_always}
 use Rattle.runs.proofs.GoOn.{requests_go_on}
 use Rattle.machine.proofs.Determined.{steps_are_determined}
@@ -27,3 +28,15 @@ returns-clause-determined c = steps_are_determined
 
 pub returns-clause-never_stuck : goal.returns-clause-never_stuck
 returns-clause-never_stuck c = no_event_is_stuck
+
+pub returns-clause-synced : goal.returns-clause-synced
+returns-clause-synced c = syncs_are_synced
+
+pub returns-clause-stay : goal.returns-clause-stay
+returns-clause-stay c = dirty_pages_stay
+
+pub returns-clause-told : goal.returns-clause-told
+returns-clause-told c = syncs_tell
+
+pub returns-clause-rising : goal.returns-clause-rising
+returns-clause-rising c = syncs_rise
