@@ -367,3 +367,7 @@ module _ (w : World) (run : Steps) (first : IsFirst w) (r : Run w run) where
         least = let a = (evolves_at i s).failures f in let b : sync_now.failures ≡ (file_at (W i).core f).failures = ap (λ g. (file_at (W i).core g).failures) named_file in omega arith;
         pages = λ same p within. first_page same p within;
       }
+
+      pub begun_unbound : begun.sync.bound ≡ None
+      unfolding begun
+      begun_unbound = refl

@@ -30,7 +30,7 @@ use Rattle.runs.proofs.View.{Flight, put1_here, dirty, towrite}
 use Rattle.runs.proofs.Lookups.{get-insert1}
 use Rattle.runs.proofs.Moments.{coupled_at}
 use Rattle.runs.proofs.RunSteps.{StepAt}
-use Rattle.runs.proofs.SyncProgress.{answers_by, at, begun, clean_step, Done, done_on, done_synced, ended_pages, evolves_at, failed_step, file_is, InProgress, in_progress_on, moves_at, off_more, off_now, size_at, tracked_at}
+use Rattle.runs.proofs.SyncProgress.{answers_by, at, begun, begun_unbound, clean_step, Done, done_on, done_synced, ended_pages, evolves_at, failed_step, file_is, InProgress, in_progress_on, moves_at, off_more, off_now, size_at, tracked_at}
 use Rattle.runs.proofs.Tables.{request_is, in_flight, writes, flight, bytes_of}
 use Rattle.runs.proofs.Track.{IsUnmoved, IsStarting, IsBound}
 
@@ -70,6 +70,10 @@ module _ (w : World) (run : Steps) (first : IsFirst w) (r : Run w run) (a : Begi
 
   pub first_moment : InProgress w run first r a (suc i)
   first_moment = begun w run first r a step_i in_run begins_i.0 named_file begins_i.1
+
+  pub first_unbound : first_moment.sync.bound ≡ None
+  unfolding first_moment
+  first_unbound = begun_unbound w run first r a step_i in_run begins_i.0 named_file begins_i.1
 
   gap_at : (m : ℕ) → i < m → m - suc i + suc i ≡ m
   gap_at m l = omega arith

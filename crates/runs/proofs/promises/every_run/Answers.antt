@@ -1,3 +1,4 @@
+use Rattle.runs.proofs.Bounds.{awaits_by_bound}
 use Rattle.runs.proofs.SyncRuns.{dirty_pages_stay, syncs_are_synced, syncs_rise, syncs_tell}
 use Rattle.runs.proofs.AlwaysHold.{holds_always}
 use Rattle.runs.proofs.GoOn.{requests_go_on}
@@ -40,3 +41,6 @@ returns-clause-told c = syncs_tell
 
 pub returns-clause-rising : goal.returns-clause-rising
 returns-clause-rising c = syncs_rise
+
+pub returns-clause-awaited : goal.returns-clause-awaited
+returns-clause-awaited c = awaits_by_bound
