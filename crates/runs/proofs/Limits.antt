@@ -377,15 +377,15 @@ module _ (s : State) (c : Limits s) (valid : (h : ℕ) → is_open s h ≡ true 
 
 -- ---- a step of the world
 
-module _ (w : World) (plain : Plain) (k : Coupled w plain) (c : Limits w.core) where
+module _ (w : World) (plain : Plain) (k : Coupled w plain) where
   pub live_file_of : (t : ℕ) (x : Request) → finmap.get w.core.requests t ≡ Some x → x.dropped ≡ false → x.file < length w.core.files
   live_file_of t x is d =
       let r = flight_is w.core.requests w.writing t x is in
       let spot = spot_of (Rattle.machine.specs.State.spot_at w.core x.file x.page) x.block (live_spot (view w plain) k.good t (flight (bytes_of w.writing t) x) r d) in
       within w plain k t x is x.page x.file (k.good.spot_in x.file x.page (ap is_some spot.1))
 
-  move_limits : (new : World) (move : Move) → WorldStep w move new → Limits new.core
-  move_limits new move m = core_cases w new Limits c (limit_cases w.core c k.valid live_file_of) move m
+  move_limits : Limits w.core → (new : World) (move : Move) → WorldStep w move new → Limits new.core
+  move_limits c new move m = core_cases w new Limits c (limit_cases w.core c k.valid live_file_of) move m
 
 first_limits : (w : World) → IsFirst w → Limits w.core
 first_limits w first = subst Limits (sym first.core) (record {

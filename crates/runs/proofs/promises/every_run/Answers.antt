@@ -1,3 +1,4 @@
+use Rattle.runs.proofs.FewWrites.{sync_writes_are_few}
 use Rattle.runs.proofs.Bounds.{awaits_by_bound}
 use Rattle.runs.proofs.SyncRuns.{dirty_pages_stay, syncs_are_synced, syncs_rise, syncs_tell}
 use Rattle.runs.proofs.AlwaysHold.{holds_always}
@@ -44,3 +45,6 @@ returns-clause-rising c = syncs_rise
 
 pub returns-clause-awaited : goal.returns-clause-awaited
 returns-clause-awaited c = awaits_by_bound
+
+pub returns-clause-few : goal.returns-clause-few
+returns-clause-few c = sync_writes_are_few
