@@ -1,5 +1,5 @@
 -- Which page a sync starts next: the lowest that is left, where it has no bound yet.
-use Rattle.std.proofs.Common.{◌≡◌, ℕ, ◌<◌, ◌≤◌, Bool, true, false, cond, refl, ap, sym, ◌∙◌, arith}
+use Rattle.std.proofs.Common.{◌≡◌, ℕ, ◌≤◌, Bool, true, false, cond, refl, ap, sym, ◌∙◌, arith}
 use Rattle.std.specs.Prelude.{◌&&◌, Option, Some, None, is_some, option_map, unwrap_or, nat_lt, find}
 use Rattle.std.specs.FinMap as map
 use Rattle.machine.specs.State.{State, Page, Sync, file_at, handle_file, page_at, in_range}

@@ -11,14 +11,14 @@ use Rattle.pc_types.specs.declared.kind.Kind.{Kind}
 use Rattle.pc_types.specs.declared.kind.Kind.TheVariants.{Fill, Flush}
 use Rattle.pc_types.proofs.FileLaws.{byte-page}
 use Rattle.machine.specs.Sound.{Sound}
-use Rattle.machine.specs.State.{State, Page, Request, page_at, spot_at, block_at, has_block, is_filling, is_written, fills}
+use Rattle.machine.specs.State.{State, Page, Request, page_at, spot_at, is_filling, fills}
 use Rattle.machine.proofs.Choices.{none_of, some_of}
 use Rattle.machine.proofs.Found.{found}
 use Rattle.runs.specs.Always.{Always, PageAlways, RequestAlways, HoldsAlways}
 use Rattle.runs.specs.Plain.{Plain, plain_file}
 use Rattle.runs.specs.Runs.{world_at, plain_at}
 use Rattle.runs.specs.World.{World}
-use Rattle.runs.proofs.View.{View, Flight, Good, RequestIs, spot_of, live_spot, dirty, writeback, towrite, settled}
+use Rattle.runs.proofs.View.{Flight, RequestIs, spot_of, live_spot, dirty, writeback, settled}
 use Rattle.runs.proofs.Coupled.{view, Coupled}
 use Rattle.runs.proofs.Tables.{writes, flight, flight_is, request_is, bytes_of, in_flight}
 use Rattle.runs.proofs.Fills.{spot_written}
@@ -104,14 +104,17 @@ module _ (w : World) (plain : Plain) (c : Coupled w plain) (limits : Limits w.co
         flush = λ d.
             let h = c.good.flushes f p (ap writeback is ∙ d) in
             let x = request_is s.requests w.writing h.serial h.request h.is in
-            let same = x.2 in
-            (h.serial, x.0.block, x.1 ∙ (λ i. Some (record {
-              kind = (ap (λ (r : Flight). r.kind) (sym same) ∙ h.kind) i;
-              file = (ap (λ (r : Flight). r.file) (sym same) ∙ h.file) i;
-              page = (ap (λ (r : Flight). r.page) (sym same) ∙ h.page) i;
-              block = x.0.block;
-              dropped = (ap (λ (r : Flight). r.dropped) (sym same) ∙ h.live) i;
-            })));
+            let same = x.2 in (
+              h.serial,
+              x.0.block,
+              x.1 ∙ (λ i. Some (record {
+                kind = (ap (λ (r : Flight). r.kind) (sym same) ∙ h.kind) i;
+                file = (ap (λ (r : Flight). r.file) (sym same) ∙ h.file) i;
+                page = (ap (λ (r : Flight). r.page) (sym same) ∙ h.page) i;
+                block = x.0.block;
+                dropped = (ap (λ (r : Flight). r.dropped) (sym same) ∙ h.live) i;
+              })),
+            );
       }
 
   request_always : (t : ℕ) (x : Request) → finmap.get s.requests t ≡ Some x → RequestAlways w t x

@@ -1,23 +1,23 @@
 -- A sync has one bound for as long as it is in progress, and what it awaits then only shrinks.
-use Rattle.std.proofs.Common.{◌≡◌, ℕ, suc, zero, ◌+◌, ◌-◌, ◌<◌, ◌≤◌, true, false, List, length, take, refl, ap, sym, subst, ◌∙◌, arith, inl, inr}
-use Rattle.std.specs.Prelude.{◌⊎◌, Option, Some, None, is_some, nat_le, unwrap_or, filter}
+use Rattle.std.proofs.Common.{◌≡◌, ℕ, suc, zero, ◌+◌, ◌-◌, ◌<◌, ◌≤◌, true, false, length, take, refl, ap, sym, subst, ◌∙◌, arith, inl, inr}
+use Rattle.std.specs.Prelude.{◌⊎◌, Option, Some, None, is_some, nat_le, filter}
 use Rattle.std.specs.FinMap as finmap
 use Rattle.std.proofs.lemmas.Bool.Decides.{nat_tests}
 use Rattle.machine.specs.Awaiting.{Settled}
 use Rattle.machine.specs.Laws.{is_live}
-use Rattle.machine.specs.State.{State, Request, Sync, awaited}
+use Rattle.machine.specs.State.{State, Sync, awaited}
 use Rattle.machine.proofs.Awaited.{Later, later_self, later_on, later_step, shrinks}
 use Rattle.machine.proofs.Choices.{some_of}
 use Rattle.runs.specs.Runs.{Steps, IsFirst, Run, world_at}
 use Rattle.runs.specs.Syncing.{Begin, Begins, Lasts, BoundIs, AwaitsByBound}
-use Rattle.runs.specs.World.{World, Move, WorldStep}
+use Rattle.runs.specs.World.{World}
 use Rattle.runs.proofs.Histories.{core_step}
 use Rattle.runs.proofs.Limits.{run_limits}
 use Rattle.runs.proofs.Moments.{coupled_at, run_take}
 use Rattle.runs.proofs.SyncProgress.{at, moves_at}
 use Rattle.runs.proofs.SyncRuns.{in_run, first_moment, first_unbound}
 use Rattle.runs.proofs.Tables.{flight_is}
-use Rattle.runs.proofs.Track.{IsBound, IsStarting, IsUnmoved, Tracked, move_tracked}
+use Rattle.runs.proofs.Track.{IsBound, Tracked, move_tracked}
 
 up_to : (k m : ℕ) → k ≤ suc m → (k ≤ m) ⊎ (k ≡ suc m)
 up_to k m l = elim (nat_le k m) as (λ b. nat_le k m ≡ b → (k ≤ m) ⊎ (k ≡ suc m)) [ true ↦ λ e. inl (grind (arith, nat_tests)) | false ↦ λ e. inr (grind (arith, nat_tests)) ] refl
@@ -88,11 +88,13 @@ module _ (w : World) (run : Steps) (first : IsFirst w) (r : Run w run) (a : Begi
           let had = old.2 x.0 (fewer m l) x.1 in
           let low = (given (W m).core old.0 old.0 x.0.bound had (old.1 m late (omega arith) x.0 (fewer m l) x.1)).1 in
           let rises = t.rises in
-          let same = one_sync (suc m) z t.now is t.is in
-          (ap (λ (y : Sync). y.bound) same ∙ elim t.how [
-            | inl u ↦ u.bound ∙ had
-            | inr u ↦ elim u [ inl v ↦ absurd (none_some x.0.bound old.0 v.was had) | inr v ↦ absurd (none_some x.0.bound old.0 v.was had) ]
-          ], omega arith)
+          let same = one_sync (suc m) z t.now is t.is in (
+            ap (λ (y : Sync). y.bound) same ∙ elim t.how [
+              | inl u ↦ u.bound ∙ had
+              | inr u ↦ elim u [ inl v ↦ absurd (none_some x.0.bound old.0 v.was had) | inr v ↦ absurd (none_some x.0.bound old.0 v.was had) ]
+            ],
+            omega arith,
+          )
 
   over_next : (m : ℕ) → Unsettled m → is_some (finmap.get (W (suc m)).core.syncs a.number.0) ≡ false → i < m → HasBound (suc m)
   over_next m old gone late = ((W m).core.next, (λ k b l. elim (up_to k m l) [ inl e ↦ quiet_bounded m k (old.1 k b e) | inr e ↦ subst (Bounded (W m).core.next) (sym e) (λ y l is. absurd (never l)) ]), λ y l is. absurd (never l))
@@ -197,10 +199,14 @@ module _ (w : World) (run : Steps) (first : IsFirst w) (r : Run w run) (a : Begi
     since_next : (k : ℕ) → i < k → (short : k < length run) → LastsTo (suc k) → Since k → Since (suc k)
     since_next k late short lasts s =
         let z = some_of (finmap.get (W (suc k)).core.syncs a.number.0) (lasts (suc k) (omega arith) (omega arith)) in
-        record { now = z.0; here = z.1; later = later_on (W j).core (W k).core (W (suc k)).core bound y s.now z.0 s.later (elim (core_step (W k) (W (suc k)) (at w run first r k short).move (moves_at w run first r k (at w run first r k short))) [
-          | inl same ↦ (let e : z.0 ≡ s.now = same_now k s z.0 same z.1 in subst (λ v. Later (W k).core v bound s.now z.0) (sym same) (subst (Later (W k).core (W k).core bound s.now) (sym e) (later_self (W k).core bound s.now)))
-          | inr x ↦ later_step (W k).core (W (suc k)).core x.0 x.1 x.2 a.number.0 bound s.now z.0 (settled_at k s late (omega arith) (fewer k lasts)) z.1
-        ]) }
+        record {
+          now = z.0;
+          here = z.1;
+          later = later_on (W j).core (W k).core (W (suc k)).core bound y s.now z.0 s.later (elim (core_step (W k) (W (suc k)) (at w run first r k short).move (moves_at w run first r k (at w run first r k short))) [
+            | inl same ↦ (let e : z.0 ≡ s.now = same_now k s z.0 same z.1 in subst (λ v. Later (W k).core v bound s.now z.0) (sym same) (subst (Later (W k).core (W k).core bound s.now) (sym e) (later_self (W k).core bound s.now)))
+            | inr x ↦ later_step (W k).core (W (suc k)).core x.0 x.1 x.2 a.number.0 bound s.now z.0 (settled_at k s late (omega arith) (fewer k lasts)) z.1
+          ]);
+        }
       where
         same_now : (k : ℕ) (s : Since k) (z : Sync) → (W (suc k)).core ≡ (W k).core → Now (suc k) z → z ≡ s.now
         same_now k s z same e = let b : Some z ≡ Some s.now = sym e ∙ ap (λ (v : State). finmap.get v.syncs a.number.0) same ∙ s.here in cc

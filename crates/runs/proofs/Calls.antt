@@ -1,5 +1,5 @@
 -- A device call.
-use Rattle.std.proofs.Common.{◌≡◌, ℕ, ◌<◌, Bool, true, false, cond, not, List, [], length, refl, ap, sym, subst, ◌∙◌, inl, inr}
+use Rattle.std.proofs.Common.{◌≡◌, ℕ, ◌<◌, Bool, true, false, cond, not, [], length, refl, ap, sym, subst, ◌∙◌, inl, inr}
 use Rattle.std.specs.Prelude.{◌&&◌, ◌||◌, Option, Some, None, is_some, slice_set}
 use Rattle.std.specs.FinMap as finmap
 use Rattle.std.proofs.Math.ListN.{length-set}
@@ -32,6 +32,7 @@ module _ (w : World) (plain : Plain) (c : Coupled w plain) (t : ℕ) (x : Reques
 
   is : flight_at w.core.requests w.writing t ≡ Some r
   is = flight_is w.core.requests w.writing t x there
+
   abbrev s : State
   s = w.core
 

@@ -1,6 +1,5 @@
 -- What every step of the cache keeps, every step of the world keeps.
-use Rattle.std.proofs.Common.{◌≡◌, sym, subst, inl, inr}
-use Rattle.std.specs.Prelude.{◌⊎◌}
+use Rattle.std.proofs.Common.{sym, subst, inl, inr}
 use Rattle.machine.specs.State.{State}
 use Rattle.machine.proofs.Cases.{Cases, by_cases}
 use Rattle.runs.specs.World.{World, Move, WorldStep}

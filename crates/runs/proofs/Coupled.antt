@@ -1,15 +1,14 @@
 -- A world and the plain files that belong to it.
 use Rattle.std.proofs.Common.{◌≡◌, ℕ, ◌<◌, Bool, true, length, refl, ap, sym, subst, ◌∙◌, cond}
-use Rattle.std.specs.Prelude.{Option, Some, None, is_some, option_map, unwrap_or, slice_set}
+use Rattle.std.specs.Prelude.{Option, Some, None, is_some, option_map, unwrap_or}
 use Rattle.std.specs.FinMap as finmap
 use Rattle.std.proofs.Math.ListN.{length-set}
 use Rattle.pc_types.specs.Files.{page_of}
-use Rattle.machine.specs.declared.event.Reply.{Reply}
-use Rattle.machine.specs.State.{State, File, file_at, handle_file, is_open, page_at, spot_at, is_written, block_at}
+use Rattle.machine.specs.State.{State, File, file_at, handle_file, is_open, page_at, spot_at, block_at}
 use Rattle.machine.specs.Changes.{put_file}
 use Rattle.pc_types.specs.Spots.{Spot}
 use Rattle.runs.specs.Plain.{Plain, plain_file}
-use Rattle.runs.specs.World.{World, block_bytes, on_device, noted}
+use Rattle.runs.specs.World.{World, block_bytes, on_device}
 use Rattle.runs.proofs.View.{View, Good, Evolves, stays, held, no_gone}
 use Rattle.runs.proofs.Tables.{Tables, flight_at}
 

@@ -68,4 +68,3 @@ module _ (w : World) (plain : Plain) (c : Coupled w plain) where
 
     pub evicted : After w plain no_gone (with_core w (put_pages s f (finmap.remove (file_at s f).pages p))) plain
     evicted = file_changed w plain c (with_core w (put_pages s f (finmap.remove (file_at s f).pages p))) f _ refl refl refl refl (subst Good (sym evicted_view) (evict_kept (view w plain) c.good f p not_dirty not_writeback)) c.tables (subst (Evolves no_gone (view w plain)) (sym evicted_view) (evict_evolves (view w plain) c.good f p not_dirty not_writeback not_towrite)) (size-put s f (record (file_at s f) { pages = finmap.remove (file_at s f).pages p }) here refl)
-

@@ -1,17 +1,16 @@
 -- Syncs start few writes.
-use Rattle.std.proofs.Common.{◌≡◌, ℕ, ◌+◌, ◌/◌, ◌<◌, ◌≤◌, Bool, true, false, cond, not, eqb, eqb-true, List, [], ◌∷◌, length, get_or, refl, ap, sym, ◌∙◌, arith, inl, inr, subst, map}
+use Rattle.std.proofs.Common.{◌≡◌, ℕ, ◌+◌, ◌/◌, ◌<◌, ◌≤◌, Bool, true, false, cond, eqb, eqb-true, List, [], ◌∷◌, length, get_or, refl, ap, sym, ◌∙◌, arith, inl, inr, subst, map}
 use Rattle.std.specs.Prelude.{◌&&◌, ◌||◌, ◌==◌, if◌then◌else◌, Option, Some, None, is_some, option_map, unwrap_or, nat_le, slice_set, count_by}
 use Rattle.std.specs.Ordering.{nat_cmp}
 use Rattle.std.specs.FinMap as finmap
 use Rattle.std.proofs.lemmas.Bool.Decides.{nat_tests}
 use Rattle.std.proofs.lemmas.List.Sums.{sum_by-cons}
-use Rattle.pc_types.specs.Tags.{no_tags}
 use Rattle.machine.specs.declared.event.End.{End}
 use Rattle.machine.specs.declared.event.Event.{Event}
 use Rattle.machine.specs.declared.event.Event.TheVariants as event
 use Rattle.machine.specs.declared.event.Reply.{Reply}
 use Rattle.machine.specs.declared.event.Reply.TheVariants as reply
-use Rattle.machine.specs.State.{State, File, Page, Request, Sync, file_at, handle_file, is_open, page_at, no_file, page_count, has_block, tags_of, in_range}
+use Rattle.machine.specs.State.{State, File, Page, Request, Sync, file_at, handle_file, is_open, page_at, no_file, page_count, has_block, in_range}
 use Rattle.machine.specs.Changes.{under_write, after_write, started, put_file, put_page, put_pages, change_at, to_write, sync_begun, new_sync, written_page, written, cut_page, boundary, shrunk, ended, flushed, flush_failed, drop_sync, is_left}
 use Rattle.machine.specs.Step.{Step}
 use Rattle.machine.proofs.Answered.{is_quiet, IsWrite}
@@ -20,7 +19,7 @@ use Rattle.machine.proofs.ChangeLaws.{get-written_pages, cut_pages, get-cut_page
 use Rattle.machine.proofs.Choices.{and_true}
 use Rattle.machine.proofs.MapLaws.{entries-each_value, get-change_at}
 use Rattle.machine.proofs.Passed.{MayStart}
-use Rattle.machine.proofs.StateLaws.{file_at-here, file_at-put, page_at-put, touches}
+use Rattle.machine.proofs.StateLaws.{file_at-put, page_at-put, touches}
 use Rattle.runs.specs.Plain.{Plain, no_files}
 use Rattle.runs.specs.Runs.{Steps, Run, last, plain_move}
 use Rattle.runs.specs.Syncing.{dirty_between, started_by, tagged_by, total, SyncWritesAreFew}
@@ -28,7 +27,7 @@ use Rattle.runs.specs.World.{World, Move, Act, Call, Finish, WorldStep, Ends}
 use Rattle.runs.proofs.View.{put1_tells, put2, put2_tells, towrite}
 use Rattle.runs.proofs.Coupled.{Coupled, coupled}
 use Rattle.runs.proofs.Count.{count_of, count_le, count_lt}
-use Rattle.runs.proofs.Histories.{calls, ends}
+use Rattle.runs.proofs.Histories.{calls}
 use Rattle.runs.proofs.Limits.{live_file_of}
 use Rattle.runs.proofs.Lookups.{get_or-default, cached_within, change_page-is, get-insert1, get-remove1, page_at-put_page}
 use Rattle.runs.proofs.Moments.{first_coupled}

@@ -1,6 +1,6 @@
 -- The cache and the device hold the plain files at every moment.
-use Rattle.std.proofs.Common.{◌≡◌, take, refl, ◌∙◌}
-use Rattle.runs.specs.Plain.{Plain, no_files}
+use Rattle.std.proofs.Common.{◌∙◌}
+use Rattle.runs.specs.Plain.{Plain}
 use Rattle.runs.specs.World.{World}
 use Rattle.runs.specs.Runs.{world_at, plain_at}
 use Rattle.runs.specs.Reading.{HoldsFiles, FilesAreHeld}

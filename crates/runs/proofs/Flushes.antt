@@ -7,17 +7,17 @@ use Rattle.pc_types.specs.Files.{page_of}
 use Rattle.pc_types.specs.declared.ids.Serial.{Serial}
 use Rattle.pc_types.specs.declared.kind.Kind.TheVariants.{Flush}
 use Rattle.machine.specs.declared.event.Reply.TheVariants as reply
-use Rattle.machine.specs.State.{State, File, Page, Request, Sync, file_at, handle_file, is_open, page_at, page_bytes, block_at, spot_at, no_file, in_range}
-use Rattle.machine.specs.Changes.{put_file, put_page, put_some, requested, under_write, started, to_write}
+use Rattle.machine.specs.State.{State, File, Page, Request, Sync, file_at, page_at, page_bytes, block_at, spot_at, no_file, in_range}
+use Rattle.machine.specs.Changes.{put_page, put_some, requested, under_write, started, to_write}
 use Rattle.machine.proofs.Choices.{none_of}
 use Rattle.machine.proofs.ChangeLaws.{BeginsSync}
 use Rattle.machine.proofs.Maps.{get-insert_nat}
-use Rattle.machine.proofs.StateLaws.{get_or-set, page_at-put}
+use Rattle.machine.proofs.StateLaws.{get_or-set}
 use Rattle.runs.specs.Plain.{Plain, plain_file}
 use Rattle.runs.specs.World.{World, block_bytes, noted}
 use Rattle.runs.specs.World as world
-use Rattle.runs.proofs.View.{Flight, Good, Evolves, no_gone, put1, put1_else, put2, put2_here, dirty, writeback, towrite, fresh, no_outcome}
-use Rattle.runs.proofs.Tables.{Tables, writes, flight, flight_at, bytes_of, in_flight, flight_begun, begun_tables}
+use Rattle.runs.proofs.View.{Good, Evolves, no_gone, put1, put1_else, put2, put2_here, dirty, writeback, towrite, fresh, no_outcome}
+use Rattle.runs.proofs.Tables.{Tables, flight, flight_at, in_flight, flight_begun, begun_tables}
 use Rattle.runs.proofs.Coupled.{view, Coupled, After, with_core, block_is, file_changed}
 use Rattle.runs.proofs.PageLaws.{length-page}
 use Rattle.runs.proofs.Lookups.{cached_within, page_at-put_page, change_page-is, size-put, failures-put, get-insert1}

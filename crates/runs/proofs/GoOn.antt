@@ -10,7 +10,6 @@ use Rattle.machine.proofs.Stuck.{no_event_is_stuck}
 use Rattle.runs.specs.Progress.{RequestsGoOn}
 use Rattle.runs.specs.Runs.{world_at}
 use Rattle.runs.specs.World.{World, Calls, Ends}
-use Rattle.runs.proofs.Coupled.{Coupled}
 use Rattle.runs.proofs.Moments.{coupled_at}
 use Rattle.runs.proofs.Tables.{in_flight}
 

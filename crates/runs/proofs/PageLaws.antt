@@ -1,6 +1,6 @@
 -- What a write does to the pages of a plain file.
 use Rattle.std.proofs.Common.{◌≡◌, ℕ, ◌+◌, ◌-◌, ◌*◌, ◌/◌, ◌<◌, ◌≤◌, false, cond, ltb, leb, List, [], ◌∷◌, length, get_or, take, drop, sym, ◌∙◌, arith, length-drop}
-use Rattle.std.specs.Prelude.{◌&&◌, Bool, nat_le}
+use Rattle.std.specs.Prelude.{◌&&◌}
 use Rattle.std.proofs.Math.Nat.{le-div_iff_mul-le}
 use Rattle.std.proofs.lemmas.Grind.{same_number_lists}
 use Rattle.std.proofs.lemmas.Bool.Decides.{nat_tests}

@@ -16,7 +16,7 @@ use Rattle.machine.proofs.Cases.{answered}
 use Rattle.machine.proofs.StateLaws.{touches}
 use Rattle.machine.specs.Tests.{tests, read_count, read_stop}
 use Rattle.machine.specs.Step.{Step}
-use Rattle.runs.specs.Runs.{Steps, last, plain_from, plain_at}
+use Rattle.runs.specs.Runs.{last, plain_from, plain_at}
 use Rattle.runs.specs.Reading.{ReadsAreRight}
 use Rattle.pc_types.proofs.FileLaws.{byte-page, length-pread, byte-pread}
 use Rattle.runs.proofs.CutLaws.{none_touched}

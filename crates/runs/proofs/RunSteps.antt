@@ -1,5 +1,5 @@
 -- A run, step by step.
-use Rattle.std.proofs.Common.{◌≡◌, ℕ, zero, suc, ◌<◌, List, [], ◌∷◌, length, refl, arith, take}
+use Rattle.std.proofs.Common.{◌≡◌, ℕ, zero, suc, ◌<◌, [], ◌∷◌, length, refl, arith, take}
 use Rattle.std.specs.Prelude.{Some}
 use Rattle.runs.specs.Plain.{Plain}
 use Rattle.runs.specs.World.{World, Move, WorldStep}

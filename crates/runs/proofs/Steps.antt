@@ -17,18 +17,17 @@ use Rattle.machine.specs.declared.event.Reply.TheVariants as reply
 use Rattle.machine.specs.State.{State, Page, Request, Sync, file_at, handle_file, page_at}
 use Rattle.machine.specs.Changes.{shrunk, new_sync, sync_begun}
 use Rattle.machine.specs.Step.{Step, EndReply, AnswersOr}
-use Rattle.machine.specs.Tests.{tests}
 use Rattle.machine.proofs.Answered.{is_quiet, IsWrite}
 use Rattle.machine.proofs.Cases.{Cases, by_cases}
 use Rattle.machine.proofs.ChangeLaws.{written_writes, shrunk_truncates, sync_begun_begins}
 use Rattle.machine.proofs.Choices.{and_true}
-use Rattle.machine.proofs.Passed.{MayEnd, MayWrite}
+use Rattle.machine.proofs.Passed.{MayWrite}
 use Rattle.runs.specs.Plain.{Plain, plain_file, named, plain_after, change}
 use Rattle.runs.specs.World.{World, Move, Act, Call, Finish, WorldStep, IsAct, Ends, noted}
 use Rattle.runs.specs.Runs.{plain_move}
 use Rattle.runs.specs.Syncing.{cuts_off}
 use Rattle.runs.proofs.View.{no_gone, dirty, towrite}
-use Rattle.runs.proofs.Coupled.{view, Coupled, After, with_core, same_after}
+use Rattle.runs.proofs.Coupled.{Coupled, After, with_core, same_after}
 use Rattle.runs.proofs.FileEvents.{creates, opens, closes}
 use Rattle.runs.proofs.Evicts.{other_syncs, evicted}
 use Rattle.runs.proofs.Fills.{at_once, fills_begin}

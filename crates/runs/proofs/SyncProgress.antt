@@ -1,6 +1,6 @@
 -- A sync in progress, at each moment of a run: where each page of its range stands that its file had as it began.
-use Rattle.std.proofs.Common.{◌≡◌, ◌≢◌, ℕ, zero, suc, ◌+◌, ◌<◌, ◌≤◌, Bool, true, false, cond, not, eqb, eq-eqb, List, [], ◌∷◌, length, refl, ap, sym, subst, ◌∙◌, arith, inl, inr}
-use Rattle.std.specs.Prelude.{◌&&◌, ◌||◌, ◌⊎◌, ◌==◌, Option, Some, None, is_some, option_map, unwrap_or, nat_lt, nat_le, slice_get}
+use Rattle.std.proofs.Common.{◌≡◌, ◌≢◌, ℕ, zero, suc, ◌+◌, ◌<◌, ◌≤◌, Bool, true, false, not, eqb, eq-eqb, List, length, refl, ap, sym, subst, ◌∙◌, arith, inl, inr}
+use Rattle.std.specs.Prelude.{◌&&◌, ◌||◌, ◌⊎◌, Option, Some, None, is_some, option_map, unwrap_or, nat_lt}
 use Rattle.std.specs.FinMap as finmap
 use Rattle.std.proofs.lemmas.Bool.Decides.{nat_tests}
 use Rattle.pc_types.specs.Files.{page_of}
@@ -17,7 +17,7 @@ use Rattle.machine.proofs.Choices.{some_of}
 use Rattle.machine.proofs.Found.{found_none}
 use Rattle.machine.proofs.Picks.{past, pick_lowest, pick_none}
 use Rattle.runs.specs.Plain.{Plain, plain_file, no_files}
-use Rattle.runs.specs.World.{World, Move, Act, WorldStep, on_device}
+use Rattle.runs.specs.World.{World, Move, WorldStep}
 use Rattle.runs.specs.Runs.{Steps, IsFirst, Run, world_at, plain_at}
 use Rattle.runs.specs.Syncing.{cuts_off, CutOff, IsOnDevice, Begin, InRange, its_file}
 use Rattle.runs.proofs.View.{View, Good, Evolves, put1_here, dirty, writeback, towrite, held}

@@ -1,6 +1,6 @@
 -- Syncs over every run: what Clean and Failed mean, in which order pages are started, and what becomes of DIRTY pages.
 use Rattle.std.proofs.Common.{◌≡◌, ℕ, zero, suc, ◌+◌, ◌-◌, ◌<◌, ◌≤◌, Bool, true, false, not, List, length, refl, ap, sym, subst, ◌∙◌, arith, inl, inr}
-use Rattle.std.specs.Prelude.{◌&&◌, ◌||◌, ◌⊎◌, Option, Some, None, is_some, option_map, unwrap_or, slice_get}
+use Rattle.std.specs.Prelude.{◌&&◌, ◌||◌, ◌⊎◌, Option, Some, None, is_some, option_map, unwrap_or}
 use Rattle.std.specs.FinMap as finmap
 use Rattle.std.proofs.lemmas.Bool.Decides.{nat_tests}
 use Rattle.std.proofs.lemmas.Option.{slice_get_within}
@@ -14,24 +14,23 @@ use Rattle.machine.specs.declared.event.Event.TheVariants as event
 use Rattle.machine.specs.declared.event.Reply.{Reply}
 use Rattle.machine.specs.declared.event.Reply.TheVariants as reply
 use Rattle.machine.specs.State.{State, Page, Request, Sync, file_at, handle_file, is_open, page_at, in_range, first_awaited}
-use Rattle.machine.specs.Changes.{sync_pick, is_left, to_write, new_sync, sync_stepped}
+use Rattle.machine.specs.Changes.{sync_pick, to_write, new_sync, sync_stepped}
 use Rattle.machine.specs.Step.{Step, SyncReply, SyncStepReply}
 use Rattle.machine.proofs.Cases.{happened}
 use Rattle.machine.proofs.ChangeLaws.{BeginsSync, sync_begun_begins}
-use Rattle.machine.proofs.Choices.{and_true, some_of}
-use Rattle.machine.proofs.Passed.{may_begin, may_start}
+use Rattle.machine.proofs.Choices.{some_of}
+use Rattle.machine.proofs.Passed.{may_begin}
 use Rattle.machine.proofs.Picks.{past, pick_past, pick_unbound}
-use Rattle.machine.specs.Tests.{sync_tests, start_tests}
-use Rattle.runs.specs.Plain.{plain_file, named, no_files}
+use Rattle.runs.specs.Plain.{plain_file, no_files}
 use Rattle.runs.specs.World.{World, Move, Act, WorldStep}
 use Rattle.runs.specs.Runs.{Steps, IsFirst, Run, world_at, plain_at}
-use Rattle.runs.specs.Syncing.{Begin, Begins, IsSync, InRange, its_file, CutOff, WasStarted, requested_page, cuts_off, DirtyPagesStay, SyncsAreSynced, SyncsRise, SyncsTell}
+use Rattle.runs.specs.Syncing.{Begin, Begins, IsSync, its_file, CutOff, WasStarted, requested_page, cuts_off, DirtyPagesStay, SyncsAreSynced, SyncsRise, SyncsTell}
 use Rattle.runs.proofs.View.{Flight, put1_here, dirty, towrite}
 use Rattle.runs.proofs.Lookups.{get-insert1}
 use Rattle.runs.proofs.Moments.{coupled_at}
 use Rattle.runs.proofs.RunSteps.{StepAt}
-use Rattle.runs.proofs.SyncProgress.{answers_by, at, begun, begun_unbound, clean_step, Done, done_on, done_synced, ended_pages, evolves_at, failed_step, file_is, InProgress, in_progress_on, moves_at, off_more, off_now, size_at, tracked_at}
-use Rattle.runs.proofs.Tables.{request_is, in_flight, writes, flight, bytes_of}
+use Rattle.runs.proofs.SyncProgress.{at, begun, begun_unbound, clean_step, Done, done_on, done_synced, ended_pages, evolves_at, failed_step, file_is, InProgress, in_progress_on, moves_at, off_more, off_now, size_at, tracked_at}
+use Rattle.runs.proofs.Tables.{request_is, in_flight, writes}
 use Rattle.runs.proofs.Track.{IsUnmoved, IsStarting, IsBound}
 
 -- a page past the last one started is a higher one

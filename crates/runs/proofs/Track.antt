@@ -1,11 +1,10 @@
 -- How a sync in progress goes on in each step.
-use Rattle.std.proofs.Common.{◌≡◌, ◌≢◌, ℕ, ◌+◌, ◌≤◌, Bool, true, false, cond, eqb, eqb-true, eq-eqb, refl, ap, sym, subst, ◌∙◌, arith, inl, inr}
+use Rattle.std.proofs.Common.{◌≡◌, ◌≢◌, ℕ, ◌≤◌, true, false, eqb, eqb-true, eq-eqb, refl, ap, sym, subst, ◌∙◌, arith, inl, inr}
 use Rattle.std.specs.Prelude.{◌⊎◌, Option, Some, None, is_some, unwrap_or}
 use Rattle.std.specs.FinMap as finmap
 use Rattle.std.specs.List.{list_any}
-use Rattle.pc_types.specs.declared.ids.Serial.{Serial}
-use Rattle.machine.specs.State.{State, Page, Request, Sync, handle_file, is_open, page_at, bound_of}
-use Rattle.machine.specs.Changes.{sync_pick, started, put_page, put_sync, drop_sync, under_write, new_sync}
+use Rattle.machine.specs.State.{State, Page, Sync, handle_file, is_open, page_at, bound_of}
+use Rattle.machine.specs.Changes.{sync_pick, started, put_sync, drop_sync, under_write, new_sync}
 use Rattle.machine.proofs.Cases.{Cases}
 use Rattle.machine.proofs.Maps.{none_passes}
 use Rattle.machine.proofs.Passed.{MayStart}
@@ -83,31 +82,35 @@ module _ (s : State) (m : ℕ) (y : Sync) (is : finmap.get s.syncs m ≡ Some y)
       let f = handle_file s y.handle in
       let here = cached_within s f p (ap is_some may.is) in
       let page_now : page_at (started s f p) f p ≡ Some (under_write page) = ap (λ (x : State). page_at x f p) (change_page-is s f p under_write page may.is) ∙ page_at-put_page s f p (under_write page) here f p ∙ put2_here (page_at s) f p (Some (under_write page)) in
-      record { at = λ _. record {
-        now = record y { started = Some p };
-        is = put_here k (record y { started = Some p }) same;
-        handle = refl;
-        first = refl;
-        last = refl;
-        failures = refl;
-        file = refl;
-        rises = omega arith;
-        how = inr (inl (record { page = p; pick = may.pick; started = refl; was = may.unbound; is = may.unbound; cleared = ap towrite page_now }));
-      } }
+      record {
+        at = λ _. record {
+          now = record y { started = Some p };
+          is = put_here k (record y { started = Some p }) same;
+          handle = refl;
+          first = refl;
+          last = refl;
+          failures = refl;
+          file = refl;
+          rises = omega arith;
+          how = inr (inl (record { page = p; pick = may.pick; started = refl; was = may.unbound; is = may.unbound; cleared = ap towrite page_now }));
+        };
+      }
 
   -- this sync waits, and has its bound from then on
   waits_here : (k : ℕ) → m ≡ k → sync_pick s y ≡ None → Still (put_sync s k (record y { bound = Some (bound_of s y) }))
-  waits_here k same pick = record { at = λ _. record {
-    now = record y { bound = Some (bound_of s y) };
-    is = put_here k (record y { bound = Some (bound_of s y) }) same;
-    handle = refl;
-    first = refl;
-    last = refl;
-    failures = refl;
-    file = refl;
-    rises = omega arith;
-    how = by_bound y.bound refl;
-  } }
+  waits_here k same pick = record {
+    at = λ _. record {
+      now = record y { bound = Some (bound_of s y) };
+      is = put_here k (record y { bound = Some (bound_of s y) }) same;
+      handle = refl;
+      first = refl;
+      last = refl;
+      failures = refl;
+      file = refl;
+      rises = omega arith;
+      how = by_bound y.bound refl;
+    };
+  }
     where
       by_bound : (o : Option ℕ) → y.bound ≡ o → IsUnmoved y (record y { bound = Some (bound_of s y) }) ⊎ (IsStarting s (put_sync s k (record y { bound = Some (bound_of s y) })) y (record y { bound = Some (bound_of s y) }) ⊎ IsBound s (put_sync s k (record y { bound = Some (bound_of s y) })) y (record y { bound = Some (bound_of s y) }))
       by_bound None e = inr (inr (record { pick = pick; was = e; is = ap (λ o. Some (unwrap_or o s.next)) e; requests = refl; next = refl }))
