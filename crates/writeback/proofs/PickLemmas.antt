@@ -1,6 +1,6 @@
 -- The picks: a search by a tag between two numbers finds what the definitions name, and skips what they skip.
 use Rattle.std.proofs.Common.{◌≡◌, ℕ, ◌+◌, ◌<◌, ◌≤◌, Bool, true, false, cond, not, eqb, eqb-true, T, List, [], ◌∷◌, refl, ap, sym, subst, ◌∙◌, arith, map, ◌-◌}
-use Rattle.std.specs.Prelude.{◌&&◌, ◌||◌, Option, Some, None, option_map, unwrap_or, find, nat_le, IfSome}
+use Rattle.std.specs.Prelude.{◌&&◌, ◌||◌, Option, Some, None, option_map, unwrap_or, find, nat_le, nat_lt, IfSome}
 use Rattle.std.specs.Ordering.{nat_cmp}
 use Rattle.std.specs.FinMap as finmap
 use Rattle.std.specs.FinMap.{FinMap, entries_sorted}
@@ -9,15 +9,16 @@ use Rattle.std.proofs.lemmas.Bool.Decides.{nat_tests}
 use Rattle.pc_types.specs.declared.tags.Tag.TheVariants.{Dirty, Writeback, Towrite}
 use Rattle.mapping.specs.declared.mapping.TheConstants.{MAX_PAGES}
 use Rattle.mapping.specs.declared.page.FoundPage.{FoundPage}
-use Rattle.mapping.specs.Pages.{FilePages, IsNumbered, Mapped, Pages, change_at, found, has_at, is_tagged, lowest, tag_each, tag_if, with_tag}
+use Rattle.mapping.specs.Pages.{FilePages, IsNumbered, Mapped, Pages, change_at, found, has_at, is_tagged, lowest, tag_each, tag_if, with_tag, within}
 use Rattle.mapping.proofs.MapLemmas.{find_same, both_true}
 use Rattle.mapping.proofs.PageLemmas.{change_twice, tag_of}
 use Rattle.writeback.specs.declared.picks.SyncStep.TheVariants.{Held, Start}
-use Rattle.writeback.specs.Flights.{Flights, each_value}
-use Rattle.writeback.specs.Picks.{after_write, flush_pick, is_flushable, is_left, past, picked, sync_pick, to_write}
-use Rattle.writeback.specs.Slots.{last_before}
+use Rattle.machine.specs.Changes.{each_value}
+use Rattle.machine.specs.State.{Sync, in_range}
+use Rattle.writeback.specs.Flights.{Flights}
+use Rattle.writeback.specs.Picks.{after_write, flush_pick, is_flushable, is_left, picked, sync_pick, to_write}
 use Rattle.writeback.proofs.MapLaws.{lookup, get_is}
-use Rattle.writeback.proofs.Awaits.{Each, each_on, each_entry, more, is_true}
+use Rattle.writeback.proofs.Each.{Each, each_on, each_entry, more, is_true}
 
 -- ---- searches by a test
 
@@ -202,55 +203,58 @@ module _ (pages : Pages) (from : ℕ) (numbered : IsNumbered pages) (so_far : fi
 
 -- ---- a sync
 
-past_cursor : (c p : ℕ) → past (last_before c) p ≡ nat_le c p
-past_cursor c p = go (eqb c 0) refl
+pub sync_picks : (pages : Pages) (y : Sync) (cursor : ℕ) → ((p : ℕ) → p < MAX_PAGES → within cursor y.last p ≡ (in_range y p && unwrap_or (option_map (λ q. nat_lt q p) y.started) true)) → IsNumbered pages → lowest (is_tagged Towrite cursor y.last) pages ≡ option_map found (sync_pick pages y)
+sync_picks pages y cursor same numbered = ap (option_map found) (find_same (is_tagged Towrite cursor y.last) (is_left y) pages (λ k x here. ap (λ b. b && x.tags.towrite) (same k (numbered.each k x here)) ∙ turned (in_range y k) (unwrap_or (option_map (λ q. nat_lt q k) y.started) true) x.tags.towrite))
   where
-    go : (b : Bool) → eqb c 0 ≡ b → past (cond b None (Some (c - 1))) p ≡ nat_le c p
-    go true t = grind (arith, nat_tests)
-    go false t = grind (arith, nat_tests)
+    turned : (a b t : Bool) → (a && b && t) ≡ (t && a && b)
+    turned true true true = refl
+    turned true true false = refl
+    turned true false true = refl
+    turned true false false = refl
+    turned false b true = refl
+    turned false b false = refl
 
-pub sync_picks : (pages : Pages) (cursor : ℕ) → IsNumbered pages → lowest (is_tagged Towrite cursor MAX_PAGES) pages ≡ option_map found (sync_pick pages (last_before cursor))
-sync_picks pages cursor numbered = ap (option_map found) (find_same (is_tagged Towrite cursor MAX_PAGES) (is_left (last_before cursor)) pages (λ k x here. go (nat_le cursor k) (nat_le k MAX_PAGES) x.tags.towrite (inside k (numbered.each k x here)) ∙ ap (λ b. x.tags.towrite && b) (sym (past_cursor cursor k))))
+pub tags_each : (pages : Pages) (first last : ℕ) → tag_each (is_tagged Dirty first last) Towrite pages ≡ each_value (to_write first last) pages
+tags_each pages first last = ap finmap.from_entries (alike (finmap.entries pages))
   where
-    inside : (p : ℕ) → p < MAX_PAGES → nat_le p MAX_PAGES ≡ true
-    inside p h = grind (arith, nat_tests)
+    set : (t : Bool) → true ≡ (t || true)
+    set true = refl
+    set false = refl
 
-    go : (a b t : Bool) → b ≡ true → (a && b && t) ≡ (t && a)
-    go true true true e = refl
-    go true true false e = refl
-    go true false t e = absurd cc
-    go false b true e = refl
-    go false b false e = refl
+    unset : (t d : Bool) → t ≡ (t || d && false)
+    unset true d = refl
+    unset false true = refl
+    unset false false = refl
 
-pub tags_each : (pages : Pages) → IsNumbered pages → tag_each (is_tagged Dirty 0 MAX_PAGES) Towrite pages ≡ each_value to_write pages
-tags_each pages numbered = ap finmap.from_entries (alike (finmap.entries pages) (each_on (λ e there. here e (inside e.0 (numbered.each e.0 e.1 there))) (finmap.entries pages) (each_entry pages)))
-  where
-    inside : (p : ℕ) → p < MAX_PAGES → (nat_le 0 p && nat_le p MAX_PAGES) ≡ true
-    inside p h = grind (arith, nat_tests)
+    clean : (t a : Bool) → t ≡ (t || false && a)
+    clean true a = refl
+    clean false a = refl
 
-    here : (e : ℕ × Mapped) → (nat_le 0 e.0 && nat_le e.0 MAX_PAGES) ≡ true → tag_if (is_tagged Dirty 0 MAX_PAGES) Towrite e ≡ to_write e.1
-    here e h = ap (λ b. cond (b && e.1.tags.dirty) (with_tag Towrite true e.1) e.1) h
+    here : (page : Mapped) (a d : Bool) → cond (a && d) (with_tag Towrite true page) page ≡ record page { tags = record page.tags { towrite = page.tags.towrite || d && a } }
+    here page true true = λ i. record page { tags = record page.tags { towrite = set page.tags.towrite i } }
+    here page true false = λ i. record page { tags = record page.tags { towrite = clean page.tags.towrite true i } }
+    here page false d = λ i. record page { tags = record page.tags { towrite = unset page.tags.towrite d i } }
 
-    alike : (es : List (ℕ × Mapped)) → Each (λ (e : ℕ × Mapped). tag_if (is_tagged Dirty 0 MAX_PAGES) Towrite e ≡ to_write e.1) es → map {B = ℕ × Mapped} (λ (e : ℕ × Mapped). (e.0, tag_if (is_tagged Dirty 0 MAX_PAGES) Towrite e)) es ≡ map {B = ℕ × Mapped} (λ (e : ℕ × Mapped). (e.0, to_write e.1)) es
-    alike [] a = refl
-    alike (e ∷ es) a = λ i. (e.0, a.0 i) ∷ alike es a.1 i
+    alike : (es : List (ℕ × Mapped)) → map {B = ℕ × Mapped} (λ (e : ℕ × Mapped). (e.0, tag_if (is_tagged Dirty first last) Towrite e)) es ≡ map {B = ℕ × Mapped} (λ (e : ℕ × Mapped). (e.0, to_write first last e.0 e.1)) es
+    alike [] = refl
+    alike (e ∷ es) = λ i. (e.0, here e.1 (within first last e.0) e.1.tags.dirty i) ∷ alike es i
 
 -- the page that is picked, by whether a write of it is in flight
-module _ (pages : Pages) (last : Option ℕ) (f : FoundPage) (is : Some f ≡ option_map found (sync_pick pages last)) where
-  its_write : (e : ℕ × Mapped) (b : Bool) → sync_pick pages last ≡ Some e → f ≡ found e → has_at pages f.page.0 Writeback ≡ b → e.1.tags.writeback ≡ b
+module _ (pages : Pages) (y : Sync) (f : FoundPage) (is : Some f ≡ option_map found (sync_pick pages y)) where
+  its_write : (e : ℕ × Mapped) (b : Bool) → sync_pick pages y ≡ Some e → f ≡ found e → has_at pages f.page.0 Writeback ≡ b → e.1.tags.writeback ≡ b
   its_write e b k same h =
-      sym (tag_of e.0 Writeback pages e.1 (find_each (λ (x : ℕ × Mapped). finmap.get pages x.0 ≡ Some x.1) (is_left last) (finmap.entries pages) e (each_entry pages) k))
+      sym (tag_of e.0 Writeback pages e.1 (find_each (λ (x : ℕ × Mapped). finmap.get pages x.0 ≡ Some x.1) (is_left y) (finmap.entries pages) e (each_entry pages) k))
       ∙ ap (λ (g : FoundPage). has_at pages g.page.0 Writeback) (sym same) ∙ h
 
-  pub pick_held : (file : ℕ) (t : Flights) → has_at pages f.page.0 Writeback ≡ true → Held f.page ≡ picked file t (sync_pick pages last)
+  pub pick_held : (file : ℕ) (t : Flights) → has_at pages f.page.0 Writeback ≡ true → Held f.page ≡ picked file y t (sync_pick pages y)
   pick_held file t h =
-      let s = split (sync_pick pages last) f is in
-      ap (λ (g : FoundPage). Held g.page) s.2 ∙ sym (ap (picked file t) s.1 ∙ ap (λ b. cond b (Held (record { 0 = s.0.0 })) (Start (found s.0))) (its_write s.0 true s.1 s.2 h))
+      let s = split (sync_pick pages y) f is in
+      ap (λ (g : FoundPage). Held g.page) s.2 ∙ sym (ap (picked file y t) s.1 ∙ ap (λ b. cond b (Held (record { 0 = s.0.0 })) (Start (found s.0))) (its_write s.0 true s.1 s.2 h))
 
-  pub pick_starts : (file : ℕ) (t : Flights) → has_at pages f.page.0 Writeback ≡ false → Start f ≡ picked file t (sync_pick pages last)
+  pub pick_starts : (file : ℕ) (t : Flights) → has_at pages f.page.0 Writeback ≡ false → Start f ≡ picked file y t (sync_pick pages y)
   pick_starts file t h =
-      let s = split (sync_pick pages last) f is in
-      ap Start s.2 ∙ sym (ap (picked file t) s.1 ∙ ap (λ b. cond b (Held (record { 0 = s.0.0 })) (Start (found s.0))) (its_write s.0 false s.1 s.2 h))
+      let s = split (sync_pick pages y) f is in
+      ap Start s.2 ∙ sym (ap (picked file y t) s.1 ∙ ap (λ b. cond b (Held (record { 0 = s.0.0 })) (Start (found s.0))) (its_write s.0 false s.1 s.2 h))
 
 -- ---- a write ends
 

@@ -3,7 +3,8 @@ use Rattle.std.specs.List.{refill}
 use Rattle.std.proofs.lemmas.List.{length-map}
 use Rattle.arrayvec.proofs.ArrayVecLemmas.{items-with_items}
 use Rattle.writeback.specs.declared.requests.Entry.{Entry}
-use Rattle.writeback.specs.Flights.{Flights, each_value, cut_flight}
+use Rattle.writeback.specs.Flights.{Flights}
+use Rattle.machine.specs.Changes.{each_value, cut_request}
 use Rattle.writeback.specs.Requests.{cut_entry}
 use Rattle.writeback.proofs.TableLemmas.{cut_rises, cut_drops}
 use Rattle.writeback.proofs.requests.Requests.drop_from.Goals as goal
@@ -20,4 +21,4 @@ invariant_of-self c = cut_rises c.self.inside.next c.args.file.0 c.args.page.0 c
 pub returns : goal.returns
 returns c =
     cut_drops c.self.inside.next c.args.file.0 c.args.page.0 c.self.inside.in_flight.items _ (refilled c.args.file.0 c.args.page.0 c.self.inside.in_flight.items c.as_mut_slice.result.now c.drop_in.new.in_flight c.as_mut_slice.ensures.value c.drop_in.ensures) c.self.invariant
-    ∙ ap (λ (t : Flights). record t { requests = each_value (cut_flight c.args.file.0 c.args.page.0) t.requests }) c.self.view_is
+    ∙ ap (λ (t : Flights). record t { requests = each_value (λ _. cut_request c.args.file.0 c.args.page.0) t.requests }) c.self.view_is

@@ -3,14 +3,14 @@ use Rattle.std.specs.Prelude.{option_map, position, None}
 use Rattle.std.specs.FinMap as map
 use Rattle.writeback.specs.declared.requests.Entry.{Entry}
 use Rattle.writeback.specs.Flights.{Flights, ended}
-use Rattle.writeback.specs.Requests.{flight_of}
+use Rattle.writeback.specs.Requests.{request_of}
 use Rattle.writeback.proofs.TableLemmas.{absent_get, absent_ends, found_get, remove_rises, remove_ends}
 use Rattle.writeback.proofs.requests.Requests.end.Goals as goal
 
 pub returns-in_err-at-clause-request : goal.returns-in_err-at-clause-request
 returns-in_err-at-clause-request c =
     let none : position (λ (e : Entry). eqb e.serial.0 c.args.serial.0) c.self.inside.in_flight.items ≡ None = sym (c.position_of.ensures ∙ ap (position (λ (e : Entry). eqb e.serial.0 c.args.serial.0)) c.deref.ensures.0) ∙ c.in_err-at.was in
-    ap (option_map flight_of) c.from_residual.ensures ∙ sym (absent_get c.self.inside.next c.self.inside.in_flight.items c.args.serial.0 none) ∙ ap (λ (t : Flights). map.get t.requests c.args.serial.0) c.self.view_is
+    ap (option_map request_of) c.from_residual.ensures ∙ sym (absent_get c.self.inside.next c.self.inside.in_flight.items c.args.serial.0 none) ∙ ap (λ (t : Flights). map.get t.requests c.args.serial.0) c.self.view_is
 
 pub returns-in_err-at-clause-ended : goal.returns-in_err-at-clause-ended
 returns-in_err-at-clause-ended c =
