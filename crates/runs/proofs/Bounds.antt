@@ -1,5 +1,6 @@
 -- A sync has one bound for as long as it is in progress, and what it awaits then only shrinks.
-use Rattle.std.proofs.Common.{◌≡◌, ℕ, suc, zero, ◌+◌, ◌-◌, ◌<◌, ◌≤◌, true, false, length, take, refl, ap, sym, subst, ◌∙◌, arith, inl, inr}
+use Rattle.std.proofs.Common.{◌≡◌, ℕ, suc, zero, ◌+◌, ◌-◌, ◌<◌, ◌≤◌, true, false, length, take, refl, ap, sym, subst}
+use Rattle.std.proofs.Common.{◌∙◌, arith, inl, inr}
 use Rattle.std.specs.Prelude.{◌⊎◌, Option, Some, None, is_some, nat_le, filter}
 use Rattle.std.specs.FinMap as finmap
 use Rattle.std.proofs.lemmas.Bool.Decides.{nat_tests}
@@ -20,7 +21,8 @@ use Rattle.runs.proofs.Tables.{flight_is}
 use Rattle.runs.proofs.Track.{IsBound, Tracked, move_tracked}
 
 up_to : (k m : ℕ) → k ≤ suc m → (k ≤ m) ⊎ (k ≡ suc m)
-up_to k m l = elim (nat_le k m) as (λ b. nat_le k m ≡ b → (k ≤ m) ⊎ (k ≡ suc m)) [ true ↦ λ e. inl (grind (arith, nat_tests)) | false ↦ λ e. inr (grind (arith, nat_tests)) ] refl
+up_to k m l = elim (nat_le k m) as (λ b. nat_le k m ≡ b → (k ≤ m) ⊎ (k ≡ suc m))
+    [ true ↦ λ e. inl (grind (arith, nat_tests)) | false ↦ λ e. inr (grind (arith, nat_tests)) ] refl
 
 none_some : (o : Option ℕ) (b : ℕ) → o ≡ None → o ≡ Some b → ⊥
 none_some o b e k = let a : None ≡ Some b = sym e ∙ k in cc
@@ -38,7 +40,8 @@ module _ (w : World) (run : Steps) (first : IsFirst w) (r : Run w run) (a : Begi
   abbrev LastsTo : ℕ → Type 0
   LastsTo k = Lasts w run a k
 
-  tracked : (m : ℕ) → m < length run → (y : Sync) → Now m y → is_some (finmap.get (W (suc m)).core.syncs a.number.0) ≡ true → Tracked (W m).core (W (suc m)).core a.number.0 y
+  tracked : (m : ℕ) → m < length run → (y : Sync) → Now m y → is_some (finmap.get (W (suc m)).core.syncs a.number.0)
+      ≡ true → Tracked (W m).core (W (suc m)).core a.number.0 y
   tracked m short y is still =
       let s = at w run first r m short in
       let opened = ((run_limits (take m run) w first (run_take run w m r)).each_sync a.number.0 y is).opened in
@@ -79,7 +82,16 @@ module _ (w : World) (run : Steps) (first : IsFirst w) (r : Run w run) (a : Begi
   fewer m l k b c = l k b (omega arith)
 
   has_bound_next : (m : ℕ) → i < m → m < length run → HasBound m → HasBound (suc m)
-  has_bound_next m late short old = (old.0, (λ k b l. elim (up_to k m l) [ inl e ↦ old.1 k b e | inr e ↦ subst (Bounded old.0) (sym e) (λ y l is. let n = next y l is in by_some (W (suc m)).core old.0 y.bound n.0 n.1) ]), λ y l is. (next y l is).0)
+  has_bound_next m late short old = (
+    old.0,
+    (λ k b l. elim (up_to k m l) [
+      | inl e ↦ old.1 k b e
+      | inr e ↦
+          subst (Bounded old.0) (sym e) (λ y l is. let n = next y l is in
+          by_some (W (suc m)).core old.0 y.bound n.0 n.1)
+    ]),
+    λ y l is. (next y l is).0,
+  )
     where
       next : (z : Sync) → LastsTo (suc m) → Now (suc m) z → (z.bound ≡ Some old.0) × (old.0 ≤ (W (suc m)).core.next)
       next z l is =
@@ -91,32 +103,57 @@ module _ (w : World) (run : Steps) (first : IsFirst w) (r : Run w run) (a : Begi
           let same = one_sync (suc m) z t.now is t.is in (
             ap (λ (y : Sync). y.bound) same ∙ elim t.how [
               | inl u ↦ u.bound ∙ had
-              | inr u ↦ elim u [ inl v ↦ absurd (none_some x.0.bound old.0 v.was had) | inr v ↦ absurd (none_some x.0.bound old.0 v.was had) ]
+              | inr u ↦ elim u [
+                | inl v ↦ absurd (none_some x.0.bound old.0 v.was had)
+                | inr v ↦ absurd (none_some x.0.bound old.0 v.was had)
+              ]
             ],
             omega arith,
           )
 
-  over_next : (m : ℕ) → Unsettled m → is_some (finmap.get (W (suc m)).core.syncs a.number.0) ≡ false → i < m → HasBound (suc m)
-  over_next m old gone late = ((W m).core.next, (λ k b l. elim (up_to k m l) [ inl e ↦ quiet_bounded m k (old.1 k b e) | inr e ↦ subst (Bounded (W m).core.next) (sym e) (λ y l is. absurd (never l)) ]), λ y l is. absurd (never l))
+  over_next : (m : ℕ) → Unsettled m → is_some (finmap.get (W (suc m)).core.syncs a.number.0) ≡ false → i < m
+      → HasBound (suc m)
+  over_next m old gone late = (
+    (W m).core.next,
+    (λ k b l. elim (up_to k m l) [
+      | inl e ↦ quiet_bounded m k (old.1 k b e)
+      | inr e ↦ subst (Bounded (W m).core.next) (sym e) (λ y l is. absurd (never l))
+    ]),
+    λ y l is. absurd (never l),
+  )
     where
       never : LastsTo (suc m) → ⊥
       never l = let b = l (suc m) (omega arith) (omega arith) in let c = sym b ∙ gone in cc
 
-  module _ (m : ℕ) (late : i < m) (old : Unsettled m) (y : Sync) (is : Now m y) (t : Tracked (W m).core (W (suc m)).core a.number.0 y) where
+  module _ (m : ℕ) (late : i < m) (old : Unsettled m) (y : Sync) (is : Now m y)
+      (t : Tracked (W m).core (W (suc m)).core a.number.0 y) where
     lasts_on : LastsTo (suc m)
-    lasts_on k b l = elim (up_to k m l) [ inl e ↦ old.0 k b e | inr e ↦ subst (λ x. is_some (finmap.get (W x).core.syncs a.number.0) ≡ true) (sym e) (ap is_some t.is) ]
+    lasts_on k b l =
+        elim (up_to k m l) [
+          | inl e ↦ old.0 k b e
+          | inr e ↦ subst (λ x. is_some (finmap.get (W x).core.syncs a.number.0) ≡ true) (sym e) (ap is_some t.is)
+        ]
 
     quiet_on : t.now.bound ≡ None → Unsettled (suc m)
     quiet_on none = (
       lasts_on,
       λ k b l. elim (up_to k m l) [
         | inl e ↦ (λ z c here. let q = old.1 k b e z c here in (q.0, (let x = q.1 in let u = t.rises in omega arith)))
-        | inr e ↦ subst (Quiet (suc m)) (sym e) (λ z c here. (ap (λ (x : Sync). x.bound) (one_sync (suc m) z t.now here t.is) ∙ none, omega arith))
+        | inr e ↦ subst (Quiet (suc m)) (sym e)
+            (λ z c here. (ap (λ (x : Sync). x.bound) (one_sync (suc m) z t.now here t.is) ∙ none, omega arith))
       ],
     )
 
     settles : IsBound (W m).core (W (suc m)).core y t.now → HasBound (suc m)
-    settles x = ((W m).core.next, (λ k b l. elim (up_to k m l) [ inl e ↦ quiet_bounded m k (old.1 k b e) | inr e ↦ subst (Bounded (W m).core.next) (sym e) (λ z l at_z. by_some (W (suc m)).core (W m).core.next z.bound (now z at_z) t.rises) ]), λ z l at_z. now z at_z)
+    settles x = (
+      (W m).core.next,
+      (λ k b l. elim (up_to k m l) [
+        | inl e ↦ quiet_bounded m k (old.1 k b e)
+        | inr e ↦ subst (Bounded (W m).core.next) (sym e)
+            (λ z l at_z. by_some (W (suc m)).core (W m).core.next z.bound (now z at_z) t.rises)
+      ]),
+      λ z l at_z. now z at_z,
+    )
       where
         now : (z : Sync) → Now (suc m) z → z.bound ≡ Some (W m).core.next
         now z at_z = ap (λ (v : Sync). v.bound) (one_sync (suc m) z t.now at_z t.is) ∙ x.is
@@ -128,10 +165,13 @@ module _ (w : World) (run : Steps) (first : IsFirst w) (r : Run w run) (a : Begi
     ]
 
   unsettled_next : (m : ℕ) → i < m → m < length run → Unsettled m → Unsettled (suc m) ⊎ HasBound (suc m)
-  unsettled_next m late short old = elim (is_some (finmap.get (W (suc m)).core.syncs a.number.0)) as (λ b. is_some (finmap.get (W (suc m)).core.syncs a.number.0) ≡ b → Unsettled (suc m) ⊎ HasBound (suc m)) [
-    | true ↦ λ still. (let x = some_of (finmap.get (W m).core.syncs a.number.0) (old.0 m late (omega arith)) in goes_on m late old x.0 x.1 (tracked m short x.0 x.1 still))
-    | false ↦ λ gone. inr (over_next m old gone late)
-  ] refl
+  unsettled_next m late short old =
+      elim (is_some (finmap.get (W (suc m)).core.syncs a.number.0)) as (λ b. is_some
+      (finmap.get (W (suc m)).core.syncs a.number.0) ≡ b → Unsettled (suc m) ⊎ HasBound (suc m)) [
+        | true ↦ λ still. (let x = some_of (finmap.get (W m).core.syncs a.number.0) (old.0 m late (omega arith)) in
+            goes_on m late old x.0 x.1 (tracked m short x.0 x.1 still))
+        | false ↦ λ gone. inr (over_next m old gone late)
+      ] refl
 
   -- ---- to the end of the run
 
@@ -139,32 +179,42 @@ module _ (w : World) (run : Steps) (first : IsFirst w) (r : Run w run) (a : Begi
   Known m = Unsettled m ⊎ HasBound m
 
   known_next : (m : ℕ) → i < m → m < length run → Known m → Known (suc m)
-  known_next m late short old = elim old [ inl b ↦ unsettled_next m late short b | inr b ↦ inr (has_bound_next m late short b) ]
+  known_next m late short old =
+      elim old [ inl b ↦ unsettled_next m late short b | inr b ↦ inr (has_bound_next m late short b) ]
 
   known_on : (d m : ℕ) → i < m → d + m ≤ length run → Known m → Known (d + m)
   known_on zero m late short old = subst Known (zero_more m) old
     where
       zero_more : (m : ℕ) → m ≡ zero + m
       zero_more m = omega arith
-  known_on (suc d) m late short old = subst Known (one_more d m) (known_next (d + m) (omega arith) (omega arith) (known_on d m late (omega arith) old))
+  known_on (suc d) m late short old =
+      subst Known (one_more d m) (known_next (d + m) (omega arith) (omega arith) (known_on d m late (omega arith) old))
     where
       one_more : (d m : ℕ) → suc (d + m) ≡ suc d + m
       one_more d m = omega arith
 
   bound_at : (m : ℕ) → Known m → (b : ℕ) × ((k : ℕ) → i < k → k ≤ m → Bounded b k)
-  bound_at m known = elim known [ inl b ↦ ((W m).core.next, λ k l u. quiet_bounded m k (b.1 k l u)) | inr b ↦ (b.0, b.1) ]
+  bound_at m known =
+      elim known [ inl b ↦ ((W m).core.next, λ k l u. quiet_bounded m k (b.1 k l u)) | inr b ↦ (b.0, b.1) ]
 
   from_begin : (y : Sync) → Now (suc i) y → y.bound ≡ None → Unsettled (suc i)
-  from_begin y is none = ((λ k b l. subst (λ x. is_some (finmap.get (W x).core.syncs a.number.0) ≡ true) (sym (only k b l)) (ap is_some is)), λ k b l. subst (Quiet (suc i)) (sym (only k b l)) (λ z c here. (ap (λ (x : Sync). x.bound) (one_sync (suc i) z y here is) ∙ none, omega arith)))
+  from_begin y is none = (
+    (λ k b l. subst (λ x. is_some (finmap.get (W x).core.syncs a.number.0) ≡ true) (sym (only k b l))
+        (ap is_some is)),
+    λ k b l. subst (Quiet (suc i)) (sym (only k b l))
+        (λ z c here. (ap (λ (x : Sync). x.bound) (one_sync (suc i) z y here is) ∙ none, omega arith)),
+  )
     where
       only : (k : ℕ) → i < k → k ≤ suc i → k ≡ suc i
       only k b l = omega arith
 
-  pub one_bound : Begins run a → (bound : ℕ) × ((j : ℕ) (y : Sync) → i < j → j ≤ length run → LastsTo j → Now j y → BoundIs (W j).core bound y.bound)
+  pub one_bound : Begins run a → (bound : ℕ)
+      × ((j : ℕ) (y : Sync) → i < j → j ≤ length run → LastsTo j → Now j y → BoundIs (W j).core bound y.bound)
   one_bound there =
       let short = in_run w run first r a there in
       let q = first_moment w run first r a there in
-      let known = known_on (length run - suc i) (suc i) (omega arith) (gap_fits i (length run) short) (inl (from_begin q.sync q.is (first_unbound w run first r a there))) in
+      let known = known_on (length run - suc i) (suc i) (omega arith) (gap_fits i (length run) short)
+      (inl (from_begin q.sync q.is (first_unbound w run first r a there))) in
       let all = bound_at (length run - suc i + suc i) known in
       (all.0, λ j y after within lasts is_y. all.1 j after (gap_le i j (length run) short within) y lasts is_y)
     where
@@ -176,7 +226,8 @@ module _ (w : World) (run : Steps) (first : IsFirst w) (r : Run w run) (a : Begi
 
   -- ---- what it awaits from a moment on at which it has its bound
 
-  module _ (there : Begins run a) (j bound : ℕ) (y : Sync) (after : i < j) (is : Now j y) (bounded : y.bound ≡ Some bound) where
+  module _ (there : Begins run a) (j bound : ℕ) (y : Sync) (after : i < j) (is : Now j y)
+      (bounded : y.bound ≡ Some bound) where
     -- of the sync as it stands at moment k
     record Since (k : ℕ) : Type 0 where
       pub now : Sync
@@ -192,7 +243,9 @@ module _ (w : World) (run : Steps) (first : IsFirst w) (r : Run w run) (a : Begi
           is = s.here;
           bounded = own;
           given = low.1;
-          serials = λ t x e. ((coupled_at w run first r k).good.requests t _ (flight_is (W k).core.requests (W k).writing t x e)).serial;
+          serials =
+              λ t x e. ((coupled_at w run first r k).good.requests t _
+              (flight_is (W k).core.requests (W k).writing t x e)).serial;
           opened = ((run_limits (take k run) w first (run_take run w k r)).each_sync a.number.0 s.now s.here).opened;
         }
 
@@ -202,28 +255,40 @@ module _ (w : World) (run : Steps) (first : IsFirst w) (r : Run w run) (a : Begi
         record {
           now = z.0;
           here = z.1;
-          later = later_on (W j).core (W k).core (W (suc k)).core bound y s.now z.0 s.later (elim (core_step (W k) (W (suc k)) (at w run first r k short).move (moves_at w run first r k (at w run first r k short))) [
-            | inl same ↦ (let e : z.0 ≡ s.now = same_now k s z.0 same z.1 in subst (λ v. Later (W k).core v bound s.now z.0) (sym same) (subst (Later (W k).core (W k).core bound s.now) (sym e) (later_self (W k).core bound s.now)))
-            | inr x ↦ later_step (W k).core (W (suc k)).core x.0 x.1 x.2 a.number.0 bound s.now z.0 (settled_at k s late (omega arith) (fewer k lasts)) z.1
-          ]);
+          later = later_on (W j).core (W k).core (W (suc k)).core bound y s.now z.0 s.later
+              (elim (core_step (W k) (W (suc k)) (at w run first r k short).move
+              (moves_at w run first r k (at w run first r k short))) [
+                | inl same ↦ (let e : z.0 ≡ s.now = same_now k s z.0 same z.1 in
+                    subst (λ v. Later (W k).core v bound s.now z.0) (sym same)
+                    (subst (Later (W k).core (W k).core bound s.now) (sym e) (later_self (W k).core bound s.now)))
+                | inr x ↦ later_step (W k).core (W (suc k)).core x.0 x.1 x.2 a.number.0 bound s.now z.0
+                    (settled_at k s late (omega arith) (fewer k lasts)) z.1
+              ]);
         }
       where
         same_now : (k : ℕ) (s : Since k) (z : Sync) → (W (suc k)).core ≡ (W k).core → Now (suc k) z → z ≡ s.now
-        same_now k s z same e = let b : Some z ≡ Some s.now = sym e ∙ ap (λ (v : State). finmap.get v.syncs a.number.0) same ∙ s.here in cc
+        same_now k s z same e = let b : Some z ≡ Some s.now = sym e
+            ∙ ap (λ (v : State). finmap.get v.syncs a.number.0) same ∙ s.here in cc
 
     since_on : (d k : ℕ) → i < k → d + k ≤ length run → LastsTo (d + k) → Since k → Since (d + k)
     since_on zero k late short lasts s = subst Since (zero_more k) s
       where
         zero_more : (m : ℕ) → m ≡ zero + m
         zero_more m = omega arith
-    since_on (suc d) k late short lasts s = subst Since (one_more d k) (since_next (d + k) (omega arith) (omega arith) (subst LastsTo (sym (one_more d k)) lasts) (since_on d k late (omega arith) (λ x b c. lasts x b (omega arith)) s))
+    since_on (suc d) k late short lasts s =
+        subst Since (one_more d k) (since_next (d + k) (omega arith) (omega arith)
+        (subst LastsTo (sym (one_more d k)) lasts)
+        (since_on d k late (omega arith) (λ x b c. lasts x b (omega arith)) s))
       where
         one_more : (d m : ℕ) → suc (d + m) ≡ suc d + m
         one_more d m = omega arith
 
-    pub awaits_less : (k : ℕ) (z : Sync) → j ≤ k → k ≤ length run → LastsTo k → Now k z → awaited (W k).core z ≡ filter (is_live (W k).core) (awaited (W j).core y)
+    pub awaits_less : (k : ℕ) (z : Sync) → j ≤ k → k ≤ length run → LastsTo k → Now k z
+        → awaited (W k).core z ≡ filter (is_live (W k).core) (awaited (W j).core y)
     awaits_less k z late short lasts at_k =
-        let s = subst Since (gap j k late) (since_on (k - j) j after (fits j k (length run) late short) (subst LastsTo (sym (gap j k late)) lasts) (record { now = y; here = is; later = later_self (W j).core bound y })) in
+        let s = subst Since (gap j k late)
+        (since_on (k - j) j after (fits j k (length run) late short) (subst LastsTo (sym (gap j k late)) lasts)
+        (record { now = y; here = is; later = later_self (W j).core bound y })) in
         let same = one_sync k z s.now at_k s.here in
         ap (awaited (W k).core) same ∙ (shrinks (W j).core (W k).core bound y s.now bounded s.later).1
       where
@@ -236,5 +301,7 @@ module _ (w : World) (run : Steps) (first : IsFirst w) (r : Run w run) (a : Begi
 pub awaits_by_bound : AwaitsByBound
 awaits_by_bound = record {
   one = λ w run first r a there. one_bound w run first r a there;
-  shrinks = λ w run first r a j k y z there after late short lasts is settled at_k. (let b = some_of y.bound settled in awaits_less w run first r a there j b.0 y after is b.1 k z late short lasts at_k);
+  shrinks = λ w run first r a j k y z there after late short lasts is settled at_k.
+      (let b = some_of y.bound settled in awaits_less w run first r a there j b.0 y after is b.1 k z late short lasts
+      at_k);
 }

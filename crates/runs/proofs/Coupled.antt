@@ -32,7 +32,10 @@ view w plain = record {
 pub held_is : (w : World) (plain : Plain) (f p : ℕ) → on_device w f p ≡ held (view w plain) f p
 held_is w plain f p = go (spot_at w.core f p)
   where
-    go : (o : Option Spot) → cond (unwrap_or (option_map (λ (x : Spot). x.written) o) Rattle.std.proofs.Common.false) (block_bytes w (unwrap_or (option_map (λ (x : Spot). x.block) o) 0)) (Rattle.pc_types.specs.Files.cut Rattle.std.proofs.Common.[] w.core.sizes.page) ≡ Rattle.runs.proofs.View.held_by (block_bytes w) w.core.sizes.page o
+    go : (o : Option Spot) → cond (unwrap_or (option_map (λ (x : Spot). x.written) o) Rattle.std.proofs.Common.false)
+        (block_bytes w (unwrap_or (option_map (λ (x : Spot). x.block) o) 0))
+        (Rattle.pc_types.specs.Files.cut Rattle.std.proofs.Common.[] w.core.sizes.page)
+        ≡ Rattle.runs.proofs.View.held_by (block_bytes w) w.core.sizes.page o
     go None = refl
     go (Some x) = refl
 
@@ -56,19 +59,43 @@ pub record After (w : World) (plain : Plain) (gone : ℕ → ℕ → Bool) (new 
   pub sizes : (f : ℕ) → length (plain_file next f) ≡ (file_at new.core f).size
   pub evolves : Evolves gone (view w plain) (view new next)
 
-pub coupled : (w : World) (plain : Plain) (gone : ℕ → ℕ → Bool) (new : World) (next : Plain) → After w plain gone new next → Coupled new next
-coupled w plain gone new next a = record { good = a.good; tables = a.tables; blocks = a.blocks; handles = a.handles; count = a.count; valid = a.valid; sizes = a.sizes }
+pub coupled : (w : World) (plain : Plain) (gone : ℕ → ℕ → Bool) (new : World) (next : Plain)
+    → After w plain gone new next → Coupled new next
+coupled w plain gone new next a =
+    record {
+      good = a.good;
+      tables = a.tables;
+      blocks = a.blocks;
+      handles = a.handles;
+      count = a.count;
+      valid = a.valid;
+      sizes = a.sizes;
+    }
 
 -- a world with another state of the cache
 abbrev pub with_core : World → State → World
 with_core w s = record w { core = s }
 
 pub same_after : (gone : ℕ → ℕ → Bool) (w : World) (plain : Plain) → Coupled w plain → After w plain gone w plain
-same_after gone w plain c = record { good = c.good; tables = c.tables; blocks = c.blocks; handles = c.handles; count = c.count; valid = c.valid; sizes = c.sizes; evolves = stays gone (view w plain) }
+same_after gone w plain c =
+    record {
+      good = c.good;
+      tables = c.tables;
+      blocks = c.blocks;
+      handles = c.handles;
+      count = c.count;
+      valid = c.valid;
+      sizes = c.sizes;
+      evolves = stays gone (view w plain);
+    }
 
 -- one file changes, and nothing else of files, handles and the device's size
-pub file_changed : (w : World) (plain : Plain) (c : Coupled w plain) (new : World) (f : ℕ) (file : File) → length new.device ≡ length w.device → new.core.files ≡ (put_file w.core f file).files → new.core.sizes ≡ w.core.sizes → new.core.handles ≡ w.core.handles
-    → Good (view new plain) → Tables new.core.requests new.outcomes new.writing → Evolves no_gone (view w plain) (view new plain) → ((g : ℕ) → (file_at new.core g).size ≡ (file_at w.core g).size) → After w plain no_gone new plain
+pub file_changed : (w : World) (plain : Plain) (c : Coupled w plain) (new : World) (f : ℕ) (file : File)
+    → length new.device ≡ length w.device → new.core.files ≡ (put_file w.core f file).files
+    → new.core.sizes ≡ w.core.sizes → new.core.handles ≡ w.core.handles
+    → Good (view new plain) → Tables new.core.requests new.outcomes new.writing
+    → Evolves no_gone (view w plain) (view new plain)
+    → ((g : ℕ) → (file_at new.core g).size ≡ (file_at w.core g).size) → After w plain no_gone new plain
 file_changed w plain c new f file d e s h good tables evolves same = record {
   good = good;
   tables = tables;
@@ -83,9 +110,11 @@ file_changed w plain c new f file d e s h good tables evolves same = record {
   evolves = evolves;
 }
 
-pub block_is : (s : State) (f p : ℕ) → is_some (spot_at s f p) ≡ true → option_map (λ x. x.block) (spot_at s f p) ≡ Some (unwrap_or (block_at s f p) 0)
+pub block_is : (s : State) (f p : ℕ) → is_some (spot_at s f p) ≡ true
+    → option_map (λ x. x.block) (spot_at s f p) ≡ Some (unwrap_or (block_at s f p) 0)
 block_is s f p e = go (spot_at s f p) e
   where
-    go : (o : Option Spot) → is_some o ≡ true → option_map (λ x. x.block) o ≡ Some (unwrap_or (option_map (λ x. x.block) o) 0)
+    go : (o : Option Spot) → is_some o ≡ true
+        → option_map (λ x. x.block) o ≡ Some (unwrap_or (option_map (λ x. x.block) o) 0)
     go None e = absurd cc
     go (Some x) e = refl

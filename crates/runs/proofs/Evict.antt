@@ -2,11 +2,13 @@
 use Rattle.std.proofs.Common.{◌≡◌, ℕ, true, false, refl, arith}
 use Rattle.std.specs.Prelude.{Option, Some, None}
 use Rattle.machine.specs.State.{Page}
-use Rattle.runs.proofs.View.{View, Flight, Good, PageIs, RequestIs, HasFlush, Evolves, no_gone, quietly_evolves, put2, put2_tells, dirty, writeback, towrite, held}
+use Rattle.runs.proofs.View.{View, Flight, Good, PageIs, RequestIs, HasFlush, Evolves, no_gone, quietly_evolves, put2}
+use Rattle.runs.proofs.View.{put2_tells, dirty, writeback, towrite, held}
 use Rattle.runs.proofs.View.{good_after, still_flying}
 use Rattle.runs.proofs.View.{one_page, one_page_in, dirty}
 
-module _ (v : View) (ok : Good v) (f p : ℕ) (clean : dirty (v.page f p) ≡ false) (idle : writeback (v.page f p) ≡ false) where
+module _ (v : View) (ok : Good v) (f p : ℕ) (clean : dirty (v.page f p) ≡ false)
+    (idle : writeback (v.page f p) ≡ false) where
   abbrev after : View
   after = record v { page = put2 v.page f p None }
 
@@ -25,8 +27,19 @@ module _ (v : View) (ok : Good v) (f p : ℕ) (clean : dirty (v.page f p) ≡ fa
     serial = old.serial;
     block = old.block;
     bytes = old.bytes;
-    fill = λ d k. let h = old.fill d k in record { mapped = h.mapped; absent = let a = h.absent in grind (arith, put2_tells {A = Option Page}); noted = h.noted };
-    flush = λ d k. let h = old.flush d k in record { mapped = h.mapped; writeback = let a = h.writeback in grind (arith, put2_tells {A = Option Page}); clean = let a = h.clean in let b = h.writeback in grind (arith, put2_tells {A = Option Page}); noted = h.noted };
+    fill = λ d k. let h = old.fill d k in
+        record {
+          mapped = h.mapped;
+          absent = let a = h.absent in grind (arith, put2_tells {A = Option Page});
+          noted = h.noted;
+        };
+    flush = λ d k. let h = old.flush d k in
+        record {
+          mapped = h.mapped;
+          writeback = let a = h.writeback in grind (arith, put2_tells {A = Option Page});
+          clean = let a = h.clean in let b = h.writeback in grind (arith, put2_tells {A = Option Page});
+          noted = h.noted;
+        };
     dead = old.dead;
   }
 
@@ -37,7 +50,10 @@ module _ (v : View) (ok : Good v) (f p : ℕ) (clean : dirty (v.page f p) ≡ fa
       still_flying v after g q h refl
 
   pub evict_kept : Good after
-  evict_kept = good_after v ok (put2 v.page f p None) v.request v.outcome v.next v.failures (one_page v ok f p None absent_is) (one_page_in v ok f p None (λ e. absurd cc)) requests ok.requests_apart flushes ok.outcomes
+  evict_kept = good_after v ok (put2 v.page f p None) v.request v.outcome v.next v.failures
+      (one_page v ok f p None absent_is) (one_page_in v ok f p None (λ e. absurd cc)) requests ok.requests_apart flushes
+      ok.outcomes
 
   pub evict_evolves : towrite (v.page f p) ≡ false → Evolves no_gone v after
-  evict_evolves t = quietly_evolves no_gone v after (λ g q _. refl) (λ u r e k d. e) (λ u r e k d _. e) (λ g q _ e. grind (arith, put2_tells {A = Option Page})) (λ g. refl) refl
+  evict_evolves t = quietly_evolves no_gone v after (λ g q _. refl) (λ u r e k d. e) (λ u r e k d _. e)
+      (λ g q _ e. grind (arith, put2_tells {A = Option Page})) (λ g. refl) refl

@@ -18,8 +18,19 @@ module _ (w : World) (plain : Plain) (c : Coupled w plain) where
   abbrev s : State
   s = w.core
 
-  pub other_syncs : (syncs : finmap.FinMap nat_cmp Sync) → After w plain no_gone (with_core w (record s { syncs = syncs })) plain
-  other_syncs syncs = record { good = c.good; tables = c.tables; blocks = c.blocks; handles = c.handles; count = c.count; valid = c.valid; sizes = c.sizes; evolves = stays no_gone (view w plain) }
+  pub other_syncs : (syncs : finmap.FinMap nat_cmp Sync)
+      → After w plain no_gone (with_core w (record s { syncs = syncs })) plain
+  other_syncs syncs =
+      record {
+        good = c.good;
+        tables = c.tables;
+        blocks = c.blocks;
+        handles = c.handles;
+        count = c.count;
+        valid = c.valid;
+        sizes = c.sizes;
+        evolves = stays no_gone (view w plain);
+      }
 
   -- ---- an eviction
 
@@ -27,7 +38,8 @@ module _ (w : World) (plain : Plain) (c : Coupled w plain) where
     here : f < length s.files
     here = cached_within s f p (ap is_some is)
 
-    evicted_view : view (with_core w (put_pages s f (finmap.remove (file_at s f).pages p))) plain ≡ record (view w plain) { page = put2 (page_at s) f p None }
+    evicted_view : view (with_core w (put_pages s f (finmap.remove (file_at s f).pages p))) plain
+        ≡ record (view w plain) { page = put2 (page_at s) f p None }
     evicted_view = λ i. record {
       page_size = s.sizes.page;
       blocks = length w.device;
@@ -38,7 +50,8 @@ module _ (w : World) (plain : Plain) (c : Coupled w plain) where
       outcome = λ t. finmap.get w.outcomes t;
       block = λ b. block_bytes w b;
       size = λ g. size-put s f (record (file_at s f) { pages = finmap.remove (file_at s f).pages p }) here refl g i;
-      failures = λ g. failures-put s f (record (file_at s f) { pages = finmap.remove (file_at s f).pages p }) here refl g i;
+      failures = λ g. failures-put s f (record (file_at s f) { pages = finmap.remove (file_at s f).pages p }) here refl
+          g i;
       content = λ g q. page_of s.sizes.page (plain_file plain g) q;
     }
 
@@ -67,4 +80,8 @@ module _ (w : World) (plain : Plain) (c : Coupled w plain) where
         untagged false false false e = refl
 
     pub evicted : After w plain no_gone (with_core w (put_pages s f (finmap.remove (file_at s f).pages p))) plain
-    evicted = file_changed w plain c (with_core w (put_pages s f (finmap.remove (file_at s f).pages p))) f _ refl refl refl refl (subst Good (sym evicted_view) (evict_kept (view w plain) c.good f p not_dirty not_writeback)) c.tables (subst (Evolves no_gone (view w plain)) (sym evicted_view) (evict_evolves (view w plain) c.good f p not_dirty not_writeback not_towrite)) (size-put s f (record (file_at s f) { pages = finmap.remove (file_at s f).pages p }) here refl)
+    evicted = file_changed w plain c (with_core w (put_pages s f (finmap.remove (file_at s f).pages p))) f _ refl refl
+        refl refl (subst Good (sym evicted_view) (evict_kept (view w plain) c.good f p not_dirty not_writeback))
+        c.tables (subst (Evolves no_gone (view w plain)) (sym evicted_view)
+        (evict_evolves (view w plain) c.good f p not_dirty not_writeback not_towrite))
+        (size-put s f (record (file_at s f) { pages = finmap.remove (file_at s f).pages p }) here refl)

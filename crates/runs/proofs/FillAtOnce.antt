@@ -3,14 +3,17 @@ use Rattle.std.proofs.Common.{◌≡◌, ℕ, ◌<◌, true, refl, arith, List, 
 use Rattle.std.specs.Prelude.{Option, Some, None}
 use Rattle.pc_types.specs.Tags.{no_tags}
 use Rattle.machine.specs.State.{Page, page_count}
-use Rattle.runs.proofs.View.{View, Flight, Good, PageIs, RequestIs, HasFlush, Evolves, no_gone, quietly_evolves, put2, put2_tells, writeback, held}
+use Rattle.runs.proofs.View.{View, Flight, Good, PageIs, RequestIs, HasFlush, Evolves, no_gone, quietly_evolves, put2}
+use Rattle.runs.proofs.View.{put2_tells, writeback, held}
 use Rattle.runs.proofs.View.{good_after, still_flying}
 use Rattle.pc_types.specs.declared.kind.Kind.TheVariants.{Fill}
 use Rattle.runs.proofs.View.{one_page, one_page_in, dirty}
 use Rattle.std.proofs.Common.{◌∙◌}
 
-module _ (v : View) (ok : Good v) (f p : ℕ) (absent : v.page f p ≡ None) (bytes : List ℕ) (right : bytes ≡ v.content f p) (within : p < page_count v.page_size (v.size f))
-    (alone : (t : ℕ) (r : Flight) → v.request t ≡ Some r → r.dropped ≡ false → r.kind ≡ Fill → r.file ≡ f → r.page ≡ p → ⊥) where
+module _ (v : View) (ok : Good v) (f p : ℕ) (absent : v.page f p ≡ None) (bytes : List ℕ)
+    (right : bytes ≡ v.content f p) (within : p < page_count v.page_size (v.size f))
+    (alone : (t : ℕ) (r : Flight) → v.request t ≡ Some r → r.dropped ≡ false → r.kind ≡ Fill → r.file ≡ f → r.page ≡ p
+    → ⊥) where
   abbrev page : Page
   page = record { bytes = bytes; tags = no_tags }
 
@@ -32,8 +35,19 @@ module _ (v : View) (ok : Good v) (f p : ℕ) (absent : v.page f p ≡ None) (by
     serial = old.serial;
     block = old.block;
     bytes = old.bytes;
-    fill = λ d k. let h = old.fill d k in let n = alone t r e d k in record { mapped = h.mapped; absent = let a = h.absent in grind (arith, put2_tells {A = Option Page}); noted = h.noted };
-    flush = λ d k. let h = old.flush d k in record { mapped = h.mapped; writeback = let a = h.writeback in grind (arith, put2_tells {A = Option Page}); clean = let a = h.clean in let b = h.writeback in grind (arith, put2_tells {A = Option Page}); noted = h.noted };
+    fill = λ d k. let h = old.fill d k in let n = alone t r e d k in
+        record {
+          mapped = h.mapped;
+          absent = let a = h.absent in grind (arith, put2_tells {A = Option Page});
+          noted = h.noted;
+        };
+    flush = λ d k. let h = old.flush d k in
+        record {
+          mapped = h.mapped;
+          writeback = let a = h.writeback in grind (arith, put2_tells {A = Option Page});
+          clean = let a = h.clean in let b = h.writeback in grind (arith, put2_tells {A = Option Page});
+          noted = h.noted;
+        };
     dead = old.dead;
   }
 
@@ -44,7 +58,10 @@ module _ (v : View) (ok : Good v) (f p : ℕ) (absent : v.page f p ≡ None) (by
       still_flying v after g q h refl
 
   pub fill_at_once_kept : Good after
-  fill_at_once_kept = good_after v ok (put2 v.page f p (Some page)) v.request v.outcome v.next v.failures (one_page v ok f p (Some page) page_is) (one_page_in v ok f p (Some page) (λ _. within)) requests ok.requests_apart flushes ok.outcomes
+  fill_at_once_kept = good_after v ok (put2 v.page f p (Some page)) v.request v.outcome v.next v.failures
+      (one_page v ok f p (Some page) page_is) (one_page_in v ok f p (Some page) (λ _. within)) requests
+      ok.requests_apart flushes ok.outcomes
 
   pub fill_at_once_evolves : Evolves no_gone v after
-  fill_at_once_evolves = quietly_evolves no_gone v after (λ g q _. refl) (λ u r e k d. e) (λ u r e k d _. e) (λ g q _ e. grind (arith, put2_tells {A = Option Page})) (λ g. refl) refl
+  fill_at_once_evolves = quietly_evolves no_gone v after (λ g q _. refl) (λ u r e k d. e) (λ u r e k d _. e)
+      (λ g q _ e. grind (arith, put2_tells {A = Option Page})) (λ g. refl) refl

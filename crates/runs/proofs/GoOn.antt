@@ -13,20 +13,29 @@ use Rattle.runs.specs.World.{World, Calls, Ends}
 use Rattle.runs.proofs.Moments.{coupled_at}
 use Rattle.runs.proofs.Tables.{in_flight}
 
-call_on : (w : World) (t : ℕ) (q : Option Request) (o : Option Outcome) → is_some q ≡ true → is_some o ≡ false → (new : World) × Calls w t q o None true new
+call_on : (w : World) (t : ℕ) (q : Option Request) (o : Option Outcome) → is_some q ≡ true → is_some o ≡ false
+    → (new : World) × Calls w t q o None true new
 call_on w t None o e k = absurd cc
 call_on w t (Some x) None e k = (_, refl)
 call_on w t (Some x) (Some o) e k = absurd cc
 
-end_on : (w : World) (t : ℕ) (q : Option Request) (o : Option Outcome) → is_some q ≡ true → is_some o ≡ true → (r : Reply) × (new : World) × Ends w t q o r new
+end_on : (w : World) (t : ℕ) (q : Option Request) (o : Option Outcome) → is_some q ≡ true → is_some o ≡ true
+    → (r : Reply) × (new : World) × Ends w t q o r new
 end_on w t None o e k = absurd cc
 end_on w t (Some x) None e k = absurd cc
 end_on w t (Some x) (Some o) e k =
-    let a = no_event_is_stuck w.core (event.End x.kind (record { cache = w.core.name; kind = x.kind; serial = record { 0 = t }; outcome = o })) in
-    (a.0, record w { core = a.1; outcomes = finmap.remove w.outcomes t; writing = finmap.remove w.writing t }, (a.3, refl))
+    let a = no_event_is_stuck w.core
+    (event.End x.kind (record { cache = w.core.name; kind = x.kind; serial = record { 0 = t }; outcome = o })) in (
+      a.0,
+      record w { core = a.1; outcomes = finmap.remove w.outcomes t; writing = finmap.remove w.writing t },
+      (a.3, refl),
+    )
 
 pub requests_go_on : RequestsGoOn
 requests_go_on = record {
-  call = λ w run first r k t e n. call_on (world_at w run k) t (finmap.get (world_at w run k).core.requests t) (finmap.get (world_at w run k).outcomes t) e n;
-  end = λ w run first r k t e. (let v = world_at w run k in end_on v t (finmap.get v.core.requests t) (finmap.get v.outcomes t) (sym (in_flight v.core.requests v.writing t) ∙ (coupled_at w run first r k).good.outcomes t e) e);
+  call = λ w run first r k t e n. call_on (world_at w run k) t (finmap.get (world_at w run k).core.requests t)
+      (finmap.get (world_at w run k).outcomes t) e n;
+  end = λ w run first r k t e. (let v = world_at w run k in
+      end_on v t (finmap.get v.core.requests t) (finmap.get v.outcomes t)
+      (sym (in_flight v.core.requests v.writing t) ∙ (coupled_at w run first r k).good.outcomes t e) e);
 }

@@ -90,9 +90,11 @@ module _ (w : World) (first : IsFirst w) where
 
 -- ---- a whole run
 
-pub run_coupled : (run : Steps) (w : World) (plain : Plain) → Coupled w plain → Run w run → Coupled (last w run) (plain_from plain run)
+pub run_coupled : (run : Steps) (w : World) (plain : Plain) → Coupled w plain → Run w run
+    → Coupled (last w run) (plain_from plain run)
 run_coupled [] w plain c r = c
-run_coupled (step ∷ steps) w plain c r = run_coupled steps step.1 (plain_move plain step.0) (coupled w plain _ step.1 (plain_move plain step.0) (move_kept w plain c step.0 step.1 r.0)) r.1
+run_coupled (step ∷ steps) w plain c r = run_coupled steps step.1 (plain_move plain step.0)
+    (coupled w plain _ step.1 (plain_move plain step.0) (move_kept w plain c step.0 step.1 r.0)) r.1
 
 -- a run's first steps are a run
 pub run_take : (run : Steps) (w : World) (k : ℕ) → Run w run → Run w (take k run)
@@ -100,10 +102,15 @@ run_take run w zero r = tt
 run_take [] w (suc k) r = tt
 run_take (step ∷ steps) w (suc k) r = (r.0, run_take steps step.1 k r.1)
 
-pub coupled_at : (w : World) (run : Steps) → IsFirst w → Run w run → (k : ℕ) → Coupled (world_at w run k) (plain_at run k)
+pub coupled_at : (w : World) (run : Steps) → IsFirst w → Run w run → (k : ℕ)
+    → Coupled (world_at w run k) (plain_at run k)
 coupled_at w run first r k = run_coupled (take k run) w no_files (first_coupled w first) (run_take run w k r)
 
 -- what each step keeps holds at the end of a run
-pub run_keeps : (Q : State → Type 0) → ((w new : World) (plain : Plain) → Coupled w plain → Q w.core → (move : Move) → WorldStep w move new → Q new.core) → (run : Steps) (w : World) (plain : Plain) → Coupled w plain → Q w.core → Run w run → Q (last w run).core
+pub run_keeps : (Q : State → Type 0)
+    → ((w new : World) (plain : Plain) → Coupled w plain → Q w.core → (move : Move) → WorldStep w move new → Q new.core)
+    → (run : Steps) (w : World) (plain : Plain) → Coupled w plain → Q w.core → Run w run → Q (last w run).core
 run_keeps Q step [] w plain k c r = c
-run_keeps Q step (x ∷ xs) w plain k c r = run_keeps Q step xs x.1 (plain_move plain x.0) (coupled w plain _ x.1 (plain_move plain x.0) (move_kept w plain k x.0 x.1 r.0)) (step w x.1 plain k c x.0 r.0) r.1
+run_keeps Q step (x ∷ xs) w plain k c r =
+    run_keeps Q step xs x.1 (plain_move plain x.0)
+    (coupled w plain _ x.1 (plain_move plain x.0) (move_kept w plain k x.0 x.1 r.0)) (step w x.1 plain k c x.0 r.0) r.1

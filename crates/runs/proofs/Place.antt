@@ -37,7 +37,8 @@ module _ (v : View) (page : ℕ → ℕ → Option Page) (spot : ℕ → ℕ →
     pub dirty : new.tags.dirty ≡ true
     pub writeback : new.tags.writeback ≡ writeback (v.page g q)
     pub towrite : new.tags.towrite ≡ towrite (v.page g q)
-    pub no_fill : (t : ℕ) (r : Flight) → v.request t ≡ Some r → r.dropped ≡ false → r.kind ≡ Fill → r.file ≡ g → r.page ≡ q → ⊥
+    pub no_fill : (t : ℕ) (r : Flight) → v.request t ≡ Some r → r.dropped ≡ false → r.kind ≡ Fill → r.file ≡ g
+        → r.page ≡ q → ⊥
     pub block : ((spot g q ≡ v.spot g q) × (is_some (v.spot g q) ≡ true)) ⊎ IsNew g q
 
 -- a request of a page that is gone is dropped

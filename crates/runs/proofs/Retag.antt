@@ -2,7 +2,8 @@
 use Rattle.std.proofs.Common.{◌≡◌, ℕ, ◌<◌, true, false, refl, ap, sym, ◌∙◌}
 use Rattle.std.specs.Prelude.{Option, Some, None, is_some}
 use Rattle.machine.specs.State.{Page, page_count}
-use Rattle.runs.proofs.View.{View, Flight, Good, PageIs, RequestIs, HasFlush, Evolves, no_gone, quietly_evolves, dirty, writeback, towrite, held}
+use Rattle.runs.proofs.View.{View, Flight, Good, PageIs, RequestIs, HasFlush, Evolves, no_gone, quietly_evolves, dirty}
+use Rattle.runs.proofs.View.{writeback, towrite, held}
 use Rattle.runs.proofs.View.{good_after, still_flying}
 
 module _ (v : View) (ok : Good v) (page : ℕ → ℕ → Option Page)
@@ -36,8 +37,15 @@ module _ (v : View) (ok : Good v) (page : ℕ → ℕ → Option Page)
     serial = old.serial;
     block = old.block;
     bytes = old.bytes;
-    fill = λ d j. let h = old.fill d j in record { mapped = h.mapped; absent = none _ (same_some s.file s.page ∙ ap is_some h.absent); noted = h.noted };
-    flush = λ d j. let h = old.flush d j in record { mapped = h.mapped; writeback = same_writeback s.file s.page ∙ h.writeback; clean = λ c. h.clean (sym (same_dirty s.file s.page) ∙ c); noted = h.noted };
+    fill = λ d j. let h = old.fill d j in
+        record { mapped = h.mapped; absent = none _ (same_some s.file s.page ∙ ap is_some h.absent); noted = h.noted };
+    flush = λ d j. let h = old.flush d j in
+        record {
+          mapped = h.mapped;
+          writeback = same_writeback s.file s.page ∙ h.writeback;
+          clean = λ c. h.clean (sym (same_dirty s.file s.page) ∙ c);
+          noted = h.noted;
+        };
     dead = old.dead;
   }
 
@@ -45,7 +53,9 @@ module _ (v : View) (ok : Good v) (page : ℕ → ℕ → Option Page)
   flushes g q e = let j = ok.flushes g q (sym (same_writeback g q) ∙ e) in still_flying v after g q j refl
 
   pub retag_kept : Good after
-  retag_kept = good_after v ok page v.request v.outcome v.next v.failures pages page_in requests ok.requests_apart flushes ok.outcomes
+  retag_kept = good_after v ok page v.request v.outcome v.next v.failures pages page_in requests ok.requests_apart
+      flushes ok.outcomes
 
   pub retag_evolves : ((g q : ℕ) → towrite (v.page g q) ≡ true → towrite (page g q) ≡ true) → Evolves no_gone v after
-  retag_evolves more = quietly_evolves no_gone v after (λ g q _. refl) (λ u r e k d. e) (λ u r e k d _. e) (λ g q _ e. more g q e) (λ g. refl) refl
+  retag_evolves more = quietly_evolves no_gone v after (λ g q _. refl) (λ u r e k d. e) (λ u r e k d _. e)
+      (λ g q _ e. more g q e) (λ g. refl) refl

@@ -18,5 +18,14 @@ pub record StepAt (w : World) (plain : Plain) (run : Steps) (k : ℕ) : Type 0 w
 
 pub step_at : (run : Steps) (w : World) (plain : Plain) (k : ℕ) → Run w run → k < length run → StepAt w plain run k
 step_at [] w plain k r h = absurd (omega arith)
-step_at (step ∷ steps) w plain zero r h = record { move = step.0; new = step.1; there = refl; next = refl; moves = r.0; plain_next = refl }
-step_at (step ∷ steps) w plain (suc k) r h = let s = step_at steps step.1 (plain_move plain step.0) k r.1 (omega arith) in record { move = s.move; new = s.new; there = s.there; next = s.next; moves = s.moves; plain_next = s.plain_next }
+step_at (step ∷ steps) w plain zero r h =
+    record { move = step.0; new = step.1; there = refl; next = refl; moves = r.0; plain_next = refl }
+step_at (step ∷ steps) w plain (suc k) r h = let s = step_at steps step.1 (plain_move plain step.0) k r.1
+    (omega arith) in record {
+      move = s.move;
+      new = s.new;
+      there = s.there;
+      next = s.next;
+      moves = s.moves;
+      plain_next = s.plain_next;
+    }
