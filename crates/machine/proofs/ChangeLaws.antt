@@ -12,12 +12,13 @@ use Rattle.std.proofs.lemmas.Bool.Decides.{nat_tests}
 use Rattle.std.proofs.lemmas.List.FromFn.{length-map-range_with_len, get_or-map-range_with_len}
 use Rattle.machine.specs.State.{State, File, Page, file_at, page_at, spot_at, page_count, has_block, touched, touched_count, without_block, free_blocks, page_bytes, bytes_at}
 use Rattle.pc_types.specs.Spots.{Spot, place_cmp}
-use Rattle.machine.specs.Changes.{each_value, written_page, written_pages, placed, written, boundary, cut_page, cut_boundary, cut_request, shrunk, to_write, sync_begun}
-use Rattle.machine.proofs.MapLaws.{places_total, same_place, get-overwrite, get-change_at, get-retain_nat, get-retain_place}
-use Rattle.machine.proofs.Maps.{get-each_value}
+use Rattle.machine.specs.Changes.{written_page, written_pages, placed, written, boundary, cut_page, cut_boundary, cut_request, shrunk, to_write, sync_begun}
+use Rattle.maps.specs.Maps.{each_value}
+use Rattle.maps.proofs.MapLaws.{places_total, same_place, get-overwrite, get-change_at, get-retain_nat, get-retain_place}
+use Rattle.maps.proofs.Maps.{get-each_value}
 use Rattle.machine.proofs.StateLaws.{file_at-here, touches, is_free}
 use Rattle.machine.specs.State.{Sync}
-use Rattle.machine.proofs.FreeBlocks.{IsKept, kept_below, kept_at, kept_rise, kept_more, kept_within, find_kept}
+use Rattle.maps.proofs.Kept.{IsKept, kept_below, kept_at, kept_rise, kept_more, kept_within, find_kept}
 
 -- ---- reads
 

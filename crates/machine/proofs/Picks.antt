@@ -5,7 +5,7 @@ use Rattle.std.specs.FinMap as map
 use Rattle.machine.specs.State.{State, Page, Sync, file_at, handle_file, page_at, in_range}
 use Rattle.machine.specs.Changes.{sync_pick, is_left}
 use Rattle.machine.proofs.Choices.{and_true, mapped_some}
-use Rattle.machine.proofs.Found.{found, found_lowest, found_none}
+use Rattle.maps.proofs.Found.{found, found_lowest, found_none}
 
 -- whether a page is past the one that was started last
 abbrev pub past : Option ℕ → ℕ → Bool

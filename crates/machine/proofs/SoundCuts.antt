@@ -8,7 +8,7 @@ use Rattle.machine.specs.Changes.{boundary, cut_page, cut_request, shrunk}
 use Rattle.machine.specs.Sound.{Sound}
 use Rattle.machine.specs.State.{block_at}
 use Rattle.machine.proofs.Choices.{and_true}
-use Rattle.machine.proofs.Maps.{get-each_value}
+use Rattle.maps.proofs.Maps.{get-each_value}
 use Rattle.machine.proofs.ChangeLaws.{cut_pages, get-cut_pages}
 use Rattle.machine.proofs.SoundChanges.{lookups, TagsFit, IsRetagged, IsAfterCut, tags_fit, not_retagged, pages_retagged, pages_cut, same_lookups}
 use Rattle.machine.proofs.SoundLookups.{put_file_tells, cut_off, block_at-shrunk}

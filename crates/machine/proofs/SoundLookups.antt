@@ -9,28 +9,14 @@ use Rattle.std.proofs.lemmas.Bool.Decides.{nat_tests}
 use Rattle.std.proofs.lemmas.List.{get_or_past, set_past}
 use Rattle.pc_types.specs.Spots.{Spot}
 use Rattle.machine.specs.State.{State, File, Page, file_at, page_at, spot_at, no_file, page_count}
-use Rattle.machine.specs.Changes.{put_file, put_page, put_pages, change_page, change_at, shrunk}
+use Rattle.machine.specs.Changes.{put_file, put_page, put_pages, change_page, shrunk}
+use Rattle.maps.specs.Maps.{change_at}
 use Rattle.machine.specs.State.{block_at}
-use Rattle.machine.proofs.Maps.{get-insert_nat, get-remove_nat}
-use Rattle.machine.proofs.MapLaws.{get-insert_place, get-retain_place, get-change_at}
+use Rattle.maps.proofs.Maps.{get-insert_nat, get-remove_nat}
+use Rattle.maps.proofs.MapLaws.{get-insert_place, get-retain_place, get-change_at}
 use Rattle.pc_types.specs.Spots.{place_cmp}
+use Rattle.maps.proofs.Maps.{get_inserted}
 use Rattle.machine.proofs.StateLaws.{page_at-put}
-
--- ---- maps
-
-module _ {X : Type 0} (m : FinMap nat_cmp X) (t : ℕ) where
-  pub get_inserted : (x : X) (u : ℕ) → ((u ≡ t) × (finmap.get (finmap.insert m t x) u ≡ Some x)) ⊎ ((u ≢ t) × (finmap.get (finmap.insert m t x) u ≡ finmap.get m u))
-  get_inserted x u = elim (eqb u t) as (λ b. eqb u t ≡ b → finmap.get (finmap.insert m t x) u ≡ cond b (Some x) (finmap.get m u) → ((u ≡ t) × (finmap.get (finmap.insert m t x) u ≡ Some x)) ⊎ ((u ≢ t) × (finmap.get (finmap.insert m t x) u ≡ finmap.get m u))) [
-    | true ↦ λ e k. inl (eqb-true u t e, k)
-    | false ↦ λ e k. inr ((λ same. false≢true (sym e ∙ eq-eqb u t same)), k)
-  ] refl (get-insert_nat m t x u)
-
-  -- what is left after one is removed was there, and is another
-  pub get_left : (u : ℕ) (x : X) → finmap.get (finmap.remove m t) u ≡ Some x → (u ≢ t) × (finmap.get m u ≡ Some x)
-  get_left u x e = elim (eqb u t) as (λ b. eqb u t ≡ b → cond b None (finmap.get m u) ≡ Some x → (u ≢ t) × (finmap.get m u ≡ Some x)) [
-    | true ↦ λ _ k. absurd cc
-    | false ↦ λ n k. ((λ same. false≢true (sym n ∙ eq-eqb u t same)), k)
-  ] refl (sym (get-remove_nat m t u) ∙ e)
 
 -- ---- pages
 

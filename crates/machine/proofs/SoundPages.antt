@@ -8,15 +8,17 @@ use Rattle.pc_types.specs.Kinds.{is_fill}
 use Rattle.pc_types.specs.Spots.{Spot}
 use Rattle.pc_types.specs.declared.kind.Kind.TheVariants.{Fill, Flush}
 use Rattle.machine.specs.State.{State, File, Page, Request, file_at, is_cached, page_at, spot_at, fills, is_filling, is_idle, is_written}
-use Rattle.machine.specs.Changes.{put_page, put_pages, put_file, change_page, change_at, ended, requested, started, under_write, after_write, flushed, flush_failed}
+use Rattle.machine.specs.Changes.{put_page, put_pages, put_file, change_page, ended, requested, started, under_write, after_write, flushed, flush_failed}
+use Rattle.maps.specs.Maps.{change_at}
 use Rattle.machine.specs.Sound.{Sound}
 use Rattle.machine.specs.State.{block_at}
 use Rattle.machine.proofs.Choices.{and_true, not_true, none_of}
 use Rattle.machine.proofs.StateLaws.{filling_shows}
-use Rattle.machine.proofs.MapLaws.{get-change_at}
+use Rattle.maps.proofs.MapLaws.{get-change_at}
 use Rattle.machine.proofs.SoundLookups.{change_here}
 use Rattle.machine.proofs.SoundChanges.{lookups, TagsFit, PageFits, IsOf, dirty, writeback, towrite, tags_fit, page_fits, pages_change, requests_end, request_begins, one_request, unheld_block, same_lookups}
-use Rattle.machine.proofs.SoundLookups.{get_inserted, get_left, put_page_tells, removed_tells, change_page_tells, put_file_tells, page_at-same, block_is, block_written}
+use Rattle.machine.proofs.SoundLookups.{put_page_tells, removed_tells, change_page_tells, put_file_tells, page_at-same, block_is, block_written}
+use Rattle.maps.proofs.Maps.{get_inserted, get_left}
 
 -- a page without a tag
 untagged_fits : (block : Option ℕ) (bytes : List ℕ) → TagsFit block (Some (record { bytes = bytes; tags = no_tags }))

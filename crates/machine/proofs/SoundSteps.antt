@@ -9,13 +9,14 @@ use Rattle.pc_types.specs.Spots.{Spot, place_cmp}
 use Rattle.machine.specs.declared.event.Event.{Event}
 use Rattle.machine.specs.declared.event.Reply.{Reply}
 use Rattle.machine.specs.State.{State, File, Page, Request, Sync, file_at, handle_file, page_at, block_at, tags_of, in_range}
-use Rattle.machine.specs.Changes.{each_value, to_write, new_sync, sync_begun, is_left}
+use Rattle.machine.specs.Changes.{to_write, new_sync, sync_begun, is_left}
+use Rattle.maps.specs.Maps.{each_value}
 use Rattle.machine.specs.History as history
 use Rattle.machine.specs.Step.{Step}
 use Rattle.machine.specs.Sound.{Sound, IsSound, StepsStaySound, HistoriesAreSound}
 use Rattle.machine.proofs.Cases.{Cases, by_cases}
 use Rattle.machine.proofs.Choices.{and_true}
-use Rattle.machine.proofs.Maps.{get-each_value}
+use Rattle.maps.proofs.Maps.{get-each_value}
 use Rattle.machine.proofs.SoundChanges.{lookups, TagsFit, IsRetagged, dirty, towrite, tags_fit, not_retagged, pages_retagged, same_lookups}
 use Rattle.machine.proofs.SoundCuts.{shrunk_sound}
 use Rattle.machine.proofs.SoundLookups.{put_file_tells, page_at-same, page_at-create}

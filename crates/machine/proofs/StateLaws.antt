@@ -10,7 +10,7 @@ use Rattle.std.specs.FinMap.{get-entries}
 use Rattle.machine.specs.State.{State, File, Request, file_at, page_at, spot_at, no_file, is_filling, fills, used_blocks}
 use Rattle.pc_types.specs.Spots.{Spot, place_cmp}
 use Rattle.machine.specs.Changes.{put_file}
-use Rattle.machine.proofs.MapLaws.{any_value, same_nat_map}
+use Rattle.maps.proofs.MapLaws.{any_value, same_nat_map}
 
 -- whether n bytes at o touch page p
 abbrev pub touches : ℕ → ℕ → ℕ → ℕ → Bool

@@ -14,7 +14,7 @@ use Rattle.pc_types.proofs.FileLaws.{byte-page}
 use Rattle.machine.specs.Sound.{Sound}
 use Rattle.machine.specs.State.{State, Page, Request, page_at, spot_at, is_filling, fills}
 use Rattle.machine.proofs.Choices.{none_of, some_of}
-use Rattle.machine.proofs.Found.{found}
+use Rattle.maps.proofs.Found.{found}
 use Rattle.runs.specs.Always.{Always, PageAlways, RequestAlways, HoldsAlways}
 use Rattle.runs.specs.Plain.{Plain, plain_file}
 use Rattle.runs.specs.Runs.{world_at, plain_at}

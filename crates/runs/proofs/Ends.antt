@@ -17,7 +17,8 @@ use Rattle.machine.specs.declared.event.Event.TheVariants as event
 use Rattle.machine.specs.declared.event.Outcome.{Outcome}
 use Rattle.machine.specs.declared.event.Outcome.TheVariants as outcome
 use Rattle.machine.specs.State.{State, File, Page, Request, file_at, page_at, spot_at, no_file, page_count}
-use Rattle.machine.specs.Changes.{put_page, put_file, put_some, ended, after_write, flushed, flush_failed}
+use Rattle.machine.specs.Changes.{put_page, put_file, ended, after_write, flushed, flush_failed}
+use Rattle.maps.specs.Maps.{put_some}
 use Rattle.machine.specs.Tests.{tests, is_of, fits, refuse}
 use Rattle.runs.specs.Plain.{Plain, plain_file}
 use Rattle.runs.specs.World.{World, block_bytes}

@@ -14,7 +14,8 @@ use Rattle.machine.specs.declared.event.Reply.{Reply}
 use Rattle.machine.specs.declared.event.Reply.TheVariants as reply
 use Rattle.machine.specs.State.{State, File, Page, Request, Sync, file_at, handle_file, is_open, page_at, no_file}
 use Rattle.machine.specs.State.{page_count, has_block, in_range}
-use Rattle.machine.specs.Changes.{under_write, after_write, started, put_file, put_page, put_pages, change_at, to_write}
+use Rattle.machine.specs.Changes.{under_write, after_write, started, put_file, put_page, put_pages, to_write}
+use Rattle.maps.specs.Maps.{change_at}
 use Rattle.machine.specs.Changes.{sync_begun, new_sync, written_page, written, cut_page, boundary, shrunk, ended}
 use Rattle.machine.specs.Changes.{flushed, flush_failed, drop_sync, is_left}
 use Rattle.machine.specs.Step.{Step}
@@ -22,7 +23,7 @@ use Rattle.machine.proofs.Answered.{is_quiet, IsWrite}
 use Rattle.machine.proofs.Cases.{Cases, by_cases, IsVerdict}
 use Rattle.machine.proofs.ChangeLaws.{get-written_pages, cut_pages, get-cut_pages}
 use Rattle.machine.proofs.Choices.{and_true}
-use Rattle.machine.proofs.MapLaws.{entries-each_value, get-change_at}
+use Rattle.maps.proofs.MapLaws.{entries-each_value, get-change_at}
 use Rattle.machine.proofs.Passed.{MayStart}
 use Rattle.machine.proofs.StateLaws.{file_at-put, page_at-put, touches}
 use Rattle.runs.specs.Plain.{Plain, no_files}
@@ -31,7 +32,7 @@ use Rattle.runs.specs.Syncing.{dirty_between, started_by, tagged_by, total, Sync
 use Rattle.runs.specs.World.{World, Move, Act, Call, Finish, WorldStep, Ends}
 use Rattle.runs.proofs.View.{put1_tells, put2, put2_tells, towrite}
 use Rattle.runs.proofs.Coupled.{Coupled, coupled}
-use Rattle.runs.proofs.Count.{count_of, count_le, count_lt}
+use Rattle.maps.proofs.Count.{count_of, count_le, count_lt}
 use Rattle.runs.proofs.Histories.{calls}
 use Rattle.runs.proofs.Limits.{live_file_of}
 use Rattle.runs.proofs.Lookups.{get_or-default, cached_within, change_page-is, get-insert1, get-remove1}
@@ -147,17 +148,17 @@ begun_waiting s f m y here g = go (eqb f g) refl
   where
     file_now : file_at (sync_begun s f m y) g
         ≡ cond (eqb g f) (record (file_at s f)
-        { pages = Rattle.machine.specs.Changes.each_value (to_write y) (file_at s f).pages }) (file_at s g)
+        { pages = Rattle.maps.specs.Maps.each_value (to_write y) (file_at s f).pages }) (file_at s g)
     file_now = file_at-put s f g _ here
 
     pages_now : (b : Bool) → eqb g f ≡ b → waiting (sync_begun s f m y) g ≡ count_of (λ (x : Page). x.tags.towrite)
         (cond b (record (file_at s f) {
-          pages = Rattle.machine.specs.Changes.each_value (to_write y)
+          pages = Rattle.maps.specs.Maps.each_value (to_write y)
               (file_at s f).pages;
         }) (file_at s g)).pages
     pages_now b e = ap (λ (x : File). count_of (λ (x : Page). x.tags.towrite) x.pages)
         (file_now ∙ ap (λ t. cond t (record (file_at s f)
-        { pages = Rattle.machine.specs.Changes.each_value (to_write y) (file_at s f).pages }) (file_at s g)) e)
+        { pages = Rattle.maps.specs.Maps.each_value (to_write y) (file_at s f).pages }) (file_at s g)) e)
 
     turn : (a b : ℕ) (t : Bool) → eqb a b ≡ t → eqb b a ≡ t
     turn a b true e = grind (arith, nat_tests)
@@ -375,7 +376,7 @@ sync_writes_are_few w run first r f =
     let none : waiting w.core f ≡ 0 = ap (λ (s : State). waiting s f) first.core ∙ nothing in
     omega arith
   where
-    none_pass : (es : List (ℕ × Page)) → Rattle.runs.proofs.Count.passing (λ (x : Page). false) es ≡ 0
+    none_pass : (es : List (ℕ × Page)) → Rattle.maps.proofs.Count.passing (λ (x : Page). false) es ≡ 0
     none_pass [] = refl
     none_pass (e ∷ es) = let a = sum_by-cons (λ (x : ℕ × Page). cond {A = ℕ} false 1 0) e es in let b = none_pass es in
         omega arith

@@ -13,9 +13,10 @@ use Rattle.machine.specs.State.{is_cached, is_written, fills}
 use Rattle.pc_types.specs.Kinds.{is_fill}
 use Rattle.pc_types.specs.Spots.{Spot}
 use Rattle.machine.specs.declared.event.Reply.TheVariants as reply
-use Rattle.machine.specs.Changes.{put_page, put_some, requested}
+use Rattle.machine.specs.Changes.{put_page, requested}
+use Rattle.maps.specs.Maps.{put_some}
 use Rattle.machine.proofs.Choices.{none_of}
-use Rattle.machine.proofs.Maps.{get-insert_nat}
+use Rattle.maps.proofs.Maps.{get-insert_nat}
 use Rattle.machine.proofs.StateLaws.{filling_shows}
 use Rattle.runs.specs.Plain.{Plain, plain_file}
 use Rattle.runs.specs.World.{World, block_bytes, noted, to_write}

@@ -10,10 +10,11 @@ use Rattle.pc_types.specs.declared.kind.Kind.TheVariants.{Flush}
 use Rattle.machine.specs.declared.event.Reply.TheVariants as reply
 use Rattle.machine.specs.State.{State, File, Page, Request, Sync, file_at, page_at, page_bytes, block_at, spot_at}
 use Rattle.machine.specs.State.{no_file, in_range}
-use Rattle.machine.specs.Changes.{put_page, put_some, requested, under_write, started, to_write}
+use Rattle.machine.specs.Changes.{put_page, requested, under_write, started, to_write}
+use Rattle.maps.specs.Maps.{put_some}
 use Rattle.machine.proofs.Choices.{none_of}
 use Rattle.machine.proofs.ChangeLaws.{BeginsSync}
-use Rattle.machine.proofs.Maps.{get-insert_nat}
+use Rattle.maps.proofs.Maps.{get-insert_nat}
 use Rattle.machine.proofs.StateLaws.{get_or-set}
 use Rattle.runs.specs.Plain.{Plain, plain_file}
 use Rattle.runs.specs.World.{World, block_bytes, noted}

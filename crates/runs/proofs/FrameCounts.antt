@@ -12,99 +12,13 @@ use Rattle.std.specs.FinMap.Entries.{by_order}
 use Rattle.std.proofs.lemmas.List.Sums.{sum_by-cons, sum_by-set, sum_by-append}
 use Rattle.pc_types.specs.Kinds.{is_fill}
 use Rattle.machine.specs.State.{State, File, Page, Request, file_at, no_file, cached_total, filling_total}
-use Rattle.machine.specs.Changes.{each_value, cut_request, change_at, put_some}
-use Rattle.machine.proofs.Maps.{get-each_value}
-use Rattle.runs.proofs.Count.{count_of, count_le, count_lt, passing}
+use Rattle.machine.specs.Changes.{cut_request}
+use Rattle.maps.specs.Maps.{each_value, change_at, put_some}
+use Rattle.maps.proofs.Maps.{get-each_value}
+use Rattle.maps.proofs.Count.{count_of, count_le, count_lt, passing}
+use Rattle.maps.proofs.Lengths.{count_empty}
 use Rattle.runs.proofs.Lookups.{get-remove1}
 use Rattle.runs.proofs.View.{put1_tells}
-
--- ---- how many entries a map has
-
-module _ {X : Type 0} where
-  all_pass : (es : List (ℕ × X)) → passing (λ (x : X). true) es ≡ length es
-  all_pass [] = refl
-  all_pass (e ∷ es) = let a = sum_by-cons (λ (x : ℕ × X). cond {A = ℕ} true 1 0) e es in let b = all_pass es in
-      omega arith
-
-  count_all : (m : FinMap nat_cmp X) → count_of (λ (x : X). true) m ≡ finmap.len m
-  count_all m = all_pass (finmap.entries m) ∙ sym (len-entries m)
-
-  pub len_le : (m n : FinMap nat_cmp X)
-      → ((q : ℕ) (x : X) → finmap.get m q ≡ Some x → (y : X) × (finmap.get n q ≡ Some y)) → finmap.len m ≤ finmap.len n
-  len_le m n h =
-      let a = count_le (λ (x : X). true) (λ (x : X). true) m n (λ q x e t. let y = h q x e in (y.0, y.1, refl)) in
-      let b = count_all m in let c = count_all n in omega arith
-
-  pub len_put : (m : FinMap nat_cmp X) (k : ℕ) (x : X) → finmap.len (finmap.insert m k x) ≤ finmap.len m + 1
-  len_put m k x = go (finmap.contains_key m k) (finmap.len (finmap.insert m k x)) (len-insert nat_cmp_total m k x)
-    where
-      go : (b : Bool) (n : ℕ) → n ≡ cond b (finmap.len m) (finmap.len m + 1) → n ≤ finmap.len m + 1
-      go true n e = omega arith
-      go false n e = omega arith
-
-  pub len_put_there : (m : FinMap nat_cmp X) (k : ℕ) (x y : X) → finmap.get m k ≡ Some y
-      → finmap.len (finmap.insert m k x) ≡ finmap.len m
-  len_put_there m k x y e = len-insert nat_cmp_total m k x
-      ∙ ap (λ o. cond (is_some o) (finmap.len m) (finmap.len m + 1)) e
-
-  -- a value that is there is changed
-  pub len_changed : (k : ℕ) (g : X → X) (m : FinMap nat_cmp X) → finmap.len (change_at k g m) ≡ finmap.len m
-  len_changed k g m = go (finmap.get m k) refl
-    where
-      go : (o : Option X) → finmap.get m k ≡ o → finmap.len (put_some k (option_map g o) m) ≡ finmap.len m
-      go None e = refl
-      go (Some x) e = len_put_there m k (g x) x e
-
-  pub len_gone : (m : FinMap nat_cmp X) (k : ℕ) → finmap.len (finmap.remove m k) ≤ finmap.len m
-  len_gone m k = go (finmap.contains_key m k) (finmap.len (finmap.remove m k)) (len-remove nat_cmp_total m k)
-    where
-      go : (b : Bool) (n : ℕ) → n ≡ cond b (finmap.len m - 1) (finmap.len m) → n ≤ finmap.len m
-      go true n e = omega arith
-      go false n e = omega arith
-
-  -- ---- how many values pass a test
-
-  in_cons : (a : X → Bool) (e : ℕ × X) (es : List (ℕ × X)) → passing a (e ∷ es) ≡ cond (a e.1) 1 0 + passing a es
-  in_cons a e es = sum_by-cons (λ (x : ℕ × X). cond {A = ℕ} (a x.1) 1 0) e es
-
-  passing_put : (a : X → Bool) (k : ℕ) (v : X) (es : List (ℕ × X))
-      → passing a (put nat_cmp k v es) ≤ passing a es + cond (a v) 1 0
-  passing_put a k v [] = let c = in_cons a (k, v) [] in omega arith
-  passing_put a k v (y ∷ es) = by_cmp (passing_put a k v es) (nat_cmp k y.0)
-    where
-      by_cmp : passing a (put nat_cmp k v es) ≤ passing a es + cond (a v) 1 0 → (o : Ordering)
-          → passing a (by_order o ((k, v) ∷ y ∷ es) ((y.0, v) ∷ es) (y ∷ put nat_cmp k v es)) ≤ passing a (y ∷ es)
-          + cond (a v) 1 0
-      by_cmp rest Less = let c = in_cons a (k, v) (y ∷ es) in omega arith
-      by_cmp rest Equal = let c = in_cons a (y.0, v) es in let d = in_cons a y es in omega arith
-      by_cmp rest Greater = let c = in_cons a y (put nat_cmp k v es) in let d = in_cons a y es in omega arith
-
-  pub count_put : (a : X → Bool) (m : FinMap nat_cmp X) (k : ℕ) (v : X)
-      → count_of a (finmap.insert m k v) ≤ count_of a m + cond (a v) 1 0
-  count_put a m k v = let e = ap (passing a) (entries-insert nat_cmp_total m k v) in
-      let l = passing_put a k v (finmap.entries m) in omega arith
-
-  pub count_empty : (a : X → Bool) → count_of a (finmap.empty {X = X} {R = nat_cmp}) ≡ 0
-  count_empty a =
-      let l = count_le a (λ (x : X). true) (finmap.empty {X = X} {R = nat_cmp}) (finmap.empty {X = X} {R = nat_cmp})
-      (λ q x e t. (x, e, refl)) in
-      let k = count_all (finmap.empty {X = X} {R = nat_cmp}) in
-      let z = len-empty nat_cmp X in omega arith
-
-  left : (m : FinMap nat_cmp X) (k q : ℕ) (x : X) → finmap.get (finmap.remove m k) q ≡ Some x
-      → (q ≢ k) × (finmap.get m q ≡ Some x)
-  left m k q x e = elim (put1_tells (finmap.get m) k None q) [
-    | inl h ↦ absurd (let a = sym (get-remove1 m k q ∙ h.1) ∙ e in cc)
-    | inr h ↦ (h.0, sym (get-remove1 m k q ∙ h.1) ∙ e)
-  ]
-
-  pub count_gone : (a : X → Bool) (m : FinMap nat_cmp X) (k : ℕ) → count_of a (finmap.remove m k) ≤ count_of a m
-  count_gone a m k = count_le a a (finmap.remove m k) m (λ q x e t. (x, (left m k q x e).1, t))
-
-  pub count_one_gone : (a : X → Bool) (m : FinMap nat_cmp X) (k : ℕ) (y : X) → finmap.get m k ≡ Some y → a y ≡ true
-      → count_of a (finmap.remove m k) + 1 ≤ count_of a m
-  count_one_gone a m k y is t =
-      count_lt a a (finmap.remove m k) m k y (λ q x e t. let l = left m k q x e in (l.0, (x, l.1, t))) is t
 
 -- ---- pages that are filling
 

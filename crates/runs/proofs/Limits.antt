@@ -19,12 +19,13 @@ use Rattle.machine.specs.State.{State, File, Page, Request, Sync, file_at, handl
 use Rattle.machine.specs.State.{has_block, no_file, cached_total, filling_total}
 use Rattle.machine.specs.Tests.{is_full}
 use Rattle.machine.specs.Changes.{boundary, cut_page, cut_request, to_write, new_sync, under_write, after_write}
-use Rattle.machine.specs.Changes.{started, shrunk, put_sync, ended, each_value}
+use Rattle.machine.specs.Changes.{started, shrunk, put_sync, ended}
+use Rattle.maps.specs.Maps.{each_value}
 use Rattle.machine.proofs.Cases.{Cases}
 use Rattle.machine.proofs.ChangeLaws.{cut_pages, get-cut_pages}
 use Rattle.machine.proofs.Choices.{neither, below}
-use Rattle.machine.proofs.Maps.{none_passes}
-use Rattle.machine.proofs.MapLaws.{len-each_value}
+use Rattle.maps.proofs.Maps.{none_passes}
+use Rattle.maps.proofs.MapLaws.{len-each_value}
 use Rattle.machine.proofs.StateLaws.{get_or-set}
 use Rattle.runs.specs.Plain.{Plain, no_files}
 use Rattle.runs.specs.Runs.{Steps, IsFirst, Run, last}
@@ -33,11 +34,13 @@ use Rattle.runs.proofs.View.{put1_tells, spot_of, live_spot}
 use Rattle.runs.proofs.Coupled.{view, Coupled}
 use Rattle.runs.proofs.Tables.{flight, bytes_of, flight_is}
 use Rattle.runs.proofs.CoreSteps.{core_cases}
-use Rattle.runs.proofs.Count.{count_of}
+use Rattle.maps.proofs.Count.{count_of}
 use Rattle.runs.proofs.Ends.{within}
-use Rattle.runs.proofs.FrameCounts.{cached_set, cached_more, count_empty, count_put, count_gone, count_one_gone}
-use Rattle.runs.proofs.FrameCounts.{count_cut, filling_is, is_live_fill, len_le, len_put, len_put_there, len_changed}
-use Rattle.runs.proofs.FrameCounts.{len_gone}
+use Rattle.runs.proofs.FrameCounts.{cached_set, cached_more}
+use Rattle.maps.proofs.Lengths.{count_empty, count_put, count_gone, count_one_gone}
+use Rattle.runs.proofs.FrameCounts.{count_cut, filling_is, is_live_fill}
+use Rattle.maps.proofs.Lengths.{len_le, len_put, len_put_there, len_changed}
+use Rattle.maps.proofs.Lengths.{len_gone}
 use Rattle.runs.proofs.Lookups.{cached_within, get_or-default, get-insert1, get-remove1, failures-set, failures-put}
 use Rattle.runs.proofs.Moments.{run_keeps, first_coupled}
 use Rattle.runs.proofs.WriteLengths.{len-written_pages}
@@ -311,7 +314,7 @@ module _ (s : State) (c : Limits s) (valid : (h : ℕ) → is_open s h ≡ true 
       record file {
         failures = file.failures + 1;
         last_code = code;
-        pages = Rattle.machine.specs.Changes.change_at x.page (after_write true) file.pages;
+        pages = Rattle.maps.specs.Maps.change_at x.page (after_write true) file.pages;
       } in
       let k : FileChange new x.file after =
       record { here = live_file t x is live; files = refl; size = c.sizes x.file; handles = refl; sizes = refl } in

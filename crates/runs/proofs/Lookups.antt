@@ -9,9 +9,10 @@ use Rattle.std.proofs.lemmas.Bool.Decides.{nat_tests}
 use Rattle.std.proofs.lemmas.List.{get_or_past}
 use Rattle.machine.specs.State.{State, File, Page, file_at, page_at, no_file}
 use Rattle.pc_types.specs.Spots.{place_cmp}
-use Rattle.machine.specs.Changes.{put_file, put_page, put_pages, change_page, put_some}
-use Rattle.machine.proofs.Maps.{get-insert_nat, get-remove_nat}
-use Rattle.machine.proofs.MapLaws.{get-insert_place}
+use Rattle.machine.specs.Changes.{put_file, put_page, put_pages, change_page}
+use Rattle.maps.specs.Maps.{put_some}
+use Rattle.maps.proofs.Maps.{get-insert_nat, get-remove_nat}
+use Rattle.maps.proofs.MapLaws.{get-insert_place}
 use Rattle.machine.proofs.StateLaws.{file_at-put, page_at-put}
 use Rattle.runs.proofs.View.{put1, put2}
 

@@ -16,7 +16,7 @@ use Rattle.machine.specs.Step.{Step, SyncReply, SyncStepReply}
 use Rattle.machine.proofs.Cases.{happened}
 use Rattle.machine.proofs.ChangeLaws.{BeginsSync}
 use Rattle.machine.proofs.Choices.{some_of}
-use Rattle.machine.proofs.Found.{found_none}
+use Rattle.maps.proofs.Found.{found_none}
 use Rattle.machine.proofs.Picks.{past, pick_lowest, pick_none}
 use Rattle.runs.specs.Plain.{Plain, plain_file, no_files}
 use Rattle.runs.specs.World.{World, Move, WorldStep}

@@ -6,9 +6,10 @@ use Rattle.std.specs.FinMap as finmap
 use Rattle.pc_types.specs.Kinds.{is_flush}
 use Rattle.machine.specs.declared.event.Outcome.{Outcome}
 use Rattle.machine.specs.State.{Request}
-use Rattle.machine.specs.Changes.{each_value, cut_request}
+use Rattle.machine.specs.Changes.{cut_request}
+use Rattle.maps.specs.Maps.{each_value}
 use Rattle.machine.specs.Tests.{fits}
-use Rattle.machine.proofs.Maps.{get-each_value}
+use Rattle.maps.proofs.Maps.{get-each_value}
 use Rattle.runs.proofs.View.{Flight, put1, put1_tells}
 use Rattle.runs.proofs.Place.{dropped_where}
 use Rattle.runs.proofs.Lookups.{get-insert1, get-remove1}

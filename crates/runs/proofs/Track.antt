@@ -7,7 +7,7 @@ use Rattle.std.specs.List.{list_any}
 use Rattle.machine.specs.State.{State, Page, Sync, handle_file, is_open, page_at, bound_of}
 use Rattle.machine.specs.Changes.{sync_pick, started, put_sync, drop_sync, under_write, new_sync}
 use Rattle.machine.proofs.Cases.{Cases}
-use Rattle.machine.proofs.Maps.{none_passes}
+use Rattle.maps.proofs.Maps.{none_passes}
 use Rattle.machine.proofs.Passed.{MayStart}
 use Rattle.runs.specs.World.{World, Move, WorldStep}
 use Rattle.runs.proofs.View.{put1, put1_here, put1_else, put2_here, towrite}

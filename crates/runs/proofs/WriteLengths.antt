@@ -11,8 +11,9 @@ use Rattle.std.specs.FinMap.{FinMap, find, len-insert, get-from_entries, get-ent
 use Rattle.std.proofs.lemmas.Bool.Decides.{nat_tests}
 use Rattle.std.proofs.lemmas.List.Sums.{sum_by-cons}
 use Rattle.machine.specs.State.{Page, touched, touched_count}
-use Rattle.machine.specs.Changes.{overwrite, written_page, written_pages}
-use Rattle.machine.proofs.MapLaws.{same_nat_map, get-overwrite}
+use Rattle.machine.specs.Changes.{written_page, written_pages}
+use Rattle.maps.specs.Maps.{overwrite}
+use Rattle.maps.proofs.MapLaws.{same_nat_map, get-overwrite}
 
 -- ---- the pages of a file after a write, by number
 

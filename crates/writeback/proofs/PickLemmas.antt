@@ -13,7 +13,7 @@ use Rattle.mapping.specs.Pages.{FilePages, IsNumbered, Mapped, Pages, change_at,
 use Rattle.mapping.proofs.MapLemmas.{find_same, both_true}
 use Rattle.mapping.proofs.PageLemmas.{change_twice, tag_of}
 use Rattle.writeback.specs.declared.picks.SyncStep.TheVariants.{Held, Start}
-use Rattle.machine.specs.Changes.{each_value}
+use Rattle.maps.specs.Maps.{each_value}
 use Rattle.machine.specs.State.{Sync, in_range}
 use Rattle.writeback.specs.Flights.{Flights}
 use Rattle.writeback.specs.Picks.{after_write, flush_pick, is_flushable, is_left, picked, sync_pick, to_write}

@@ -12,9 +12,9 @@ use Rattle.writeback.specs.declared.syncs.Progress.{Progress}
 use Rattle.writeback.specs.Rising.{IsRising}
 use Rattle.machine.specs.State.{Sync}
 use Rattle.machine.specs.Step.{IsLowest}
-use Rattle.machine.specs.Changes.{change_at}
+use Rattle.maps.specs.Maps.{change_at}
 use Rattle.writeback.specs.Slots.{slots_from, in_use, in_progress, sync_of, is_of}
-use Rattle.machine.proofs.MapLaws.{get-change_at}
+use Rattle.maps.proofs.MapLaws.{get-change_at}
 use Rattle.writeback.proofs.MapLaws.{lookup, get-lookup}
 use Rattle.writeback.proofs.RisingLemmas.{rising_low, len-rising, entries-rising, lookup_low}
 

@@ -13,7 +13,8 @@ use Rattle.mapping.proofs.MapLemmas.{same_nat_map, get-remove_nat}
 use Rattle.writeback.specs.declared.requests.Entry.{Entry}
 use Rattle.machine.specs.State.{Request, Sync, awaits, fills}
 use Rattle.writeback.specs.Flights.{Flights, begun, ended, first_awaited, is_full}
-use Rattle.machine.specs.Changes.{each_value, cut_request}
+use Rattle.machine.specs.Changes.{cut_request}
+use Rattle.maps.specs.Maps.{each_value}
 use Rattle.writeback.specs.Requests.{entry_of, request_of, cut_entry}
 use Rattle.writeback.specs.Rising.{IsRising}
 use Rattle.writeback.proofs.MapLaws.{lookup, get-lookup}

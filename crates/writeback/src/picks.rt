@@ -2,7 +2,7 @@
 
 ghost use Rattle.std.specs.Prelude.{◌≡◌, ◌<◌, IfSome, option_map};
 ghost use Rattle.mapping.specs.Pages.{change_at, found, with_tags};
-ghost use Rattle.machine.specs.Changes.{each_value};
+ghost use Rattle.maps.specs.Maps.{each_value};
 ghost use Rattle.writeback.specs.Picks.{StartsBelow, after_write, flush_pick, picked, sync_pick, sync_step, to_write, under_write, waits};
 ghost use Rattle.writeback.specs.Slots.{sync_of};
 

@@ -3,7 +3,8 @@
 ghost use Rattle.std.specs.Prelude.{◌≡◌, ℕ, ◌≤◌, ◌==◌, None, ◌&&◌, false, map as map_list, find, position, option_map, nat_lt};
 ghost use Rattle.std.specs.FinMap as map;
 ghost use Rattle.std.specs.List.{list_any};
-ghost use Rattle.machine.specs.Changes.{cut_request, each_value};
+ghost use Rattle.machine.specs.Changes.{cut_request};
+ghost use Rattle.maps.specs.Maps.{each_value};
 ghost use Rattle.machine.specs.State.{awaits, fills};
 ghost use Rattle.writeback.specs.Flights.{begun, ended, first_awaited, is_full};
 ghost use Rattle.writeback.specs.Requests.{cut_entry, entry_of, request_of};

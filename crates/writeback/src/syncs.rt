@@ -3,7 +3,7 @@
 ghost use Rattle.std.specs.Prelude.{◌≡◌, ℕ, ◌==◌, ◌<◌, ◌+◌, ◌-◌, ◌^◌, ◌↔◌, true, not, IfOk, IsOk, IsOkUnless, OnErr, Some, None, is_some, if◌then◌else◌, slice_index_or, option_map, position};
 ghost use Rattle.std.specs.List.{list_any};
 ghost use Rattle.std.specs.FinMap as map;
-ghost use Rattle.machine.specs.Changes.{change_at};
+ghost use Rattle.maps.specs.Maps.{change_at};
 ghost use Rattle.machine.specs.State.{Sync};
 ghost use Rattle.machine.specs.Step.{IsLowest};
 ghost use Rattle.writeback.specs.Slots.{is_of, sync_of};

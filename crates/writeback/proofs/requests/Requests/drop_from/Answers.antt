@@ -4,7 +4,8 @@ use Rattle.std.proofs.lemmas.List.{length-map}
 use Rattle.arrayvec.proofs.ArrayVecLemmas.{items-with_items}
 use Rattle.writeback.specs.declared.requests.Entry.{Entry}
 use Rattle.writeback.specs.Flights.{Flights}
-use Rattle.machine.specs.Changes.{each_value, cut_request}
+use Rattle.machine.specs.Changes.{cut_request}
+use Rattle.maps.specs.Maps.{each_value}
 use Rattle.writeback.specs.Requests.{cut_entry}
 use Rattle.writeback.proofs.TableLemmas.{cut_rises, cut_drops}
 use Rattle.writeback.proofs.requests.Requests.drop_from.Goals as goal

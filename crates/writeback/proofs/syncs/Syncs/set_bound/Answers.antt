@@ -4,7 +4,7 @@ use Rattle.std.specs.Ordering.{nat_cmp}
 use Rattle.std.specs.FinMap as map
 use Rattle.writeback.specs.declared.syncs.Progress.{Progress}
 use Rattle.machine.specs.State.{Sync}
-use Rattle.machine.specs.Changes.{change_at}
+use Rattle.maps.specs.Maps.{change_at}
 use Rattle.writeback.proofs.SlotLemmas.{slot_changed}
 use Rattle.writeback.proofs.syncs.Syncs.set_bound.Goals as goal
 

@@ -2,7 +2,7 @@ use Rattle.std.proofs.Common.{ap, refl, ◌∙◌}
 use Rattle.std.specs.Prelude.{Some}
 use Rattle.std.specs.Ordering.{nat_cmp}
 use Rattle.std.specs.FinMap as map
-use Rattle.machine.specs.Changes.{change_at}
+use Rattle.maps.specs.Maps.{change_at}
 use Rattle.machine.specs.State.{Sync}
 use Rattle.writeback.specs.declared.syncs.Progress.{Progress}
 use Rattle.writeback.proofs.SlotLemmas.{slot_changed}

@@ -9,7 +9,7 @@ use Rattle.std.specs.FinMap.{FinMap, find, get-entries, entries_sorted}
 use Rattle.std.specs.FinMap.Entries.{below_all, is_sorted}
 use Rattle.std.proofs.lemmas.List.Sums.{sum_by-cons}
 use Rattle.std.proofs.lemmas.Bool.Decides.{nat_tests}
-use Rattle.machine.proofs.Found.{above, both_true}
+use Rattle.maps.proofs.Found.{above, both_true}
 
 -- one that passes counts for one
 one_at : (b : Bool) → b ≡ true → cond {A = ℕ} b 1 0 ≡ 1

@@ -12,8 +12,8 @@ use Rattle.std.specs.FinMap.{FinMap, IsAntisymmetric, nat_cmp-IsAntisymmetric, f
 use Rattle.std.specs.FinMap.Entries.{below_all, is_sorted, by_order}
 use Rattle.std.proofs.lemmas.Cmp.{then_total, on_total}
 use Rattle.pc_types.specs.Spots.{place_cmp}
-use Rattle.machine.proofs.Maps.{get-insert_nat}
-use Rattle.machine.specs.Changes.{overwrite, each_value, put_some, change_at}
+use Rattle.maps.proofs.Maps.{get-insert_nat}
+use Rattle.maps.specs.Maps.{overwrite, each_value, put_some, change_at}
 
 -- ---- the order of places
 

@@ -1,5 +1,4 @@
--- The numbers of a range that pass a test, in order, and each beside an element of another list: so the pages of a write that
--- have no block take the free blocks.
+-- The numbers of a range that pass a test, in order, and each beside an element of another list.
 use Rattle.std.proofs.Common.{◌≡◌, ℕ, zero, suc, ◌+◌, ◌-◌, ◌<◌, ◌≤◌, Bool, true, false, cond, eqb, eq-eqb, leb, ltb, List, [], ◌∷◌, length, get_or, refl, ap, sym, ◌∙◌, arith, inl, inr}
 use Rattle.std.specs.Prelude.{◌&&◌, ◌⊎◌, Some, None, Option, filter}
 use Rattle.std.specs.List.{range_with_len, zip}

@@ -1,0 +1,6 @@
+pub mod Count
+pub mod Found
+pub mod Kept
+pub mod Lengths
+pub mod MapLaws
+pub mod Maps
