@@ -44,7 +44,8 @@ module _ {X : Type 0} where
   passing-drop b k y (x ∷ fs) e t =
       elim (eqb k x.0) as (λ c. cond c (Some x.1) (find nat_cmp k fs) ≡ Some y
       → passing b (x ∷ fs) ≡ passing b (cond c fs (x ∷ drop_key k fs)) + 1) [
-        | true ↦ λ j. (let same : x.1 ≡ y = cc in let one = one_at (b x.1) (ap b same ∙ t) in let c = passing-cons b x fs in
+        | true ↦ λ j. (let same : x.1 ≡ y = cc in let one = one_at (b x.1) (ap b same ∙ t) in
+            let c = passing-cons b x fs in
             omega arith)
         | false ↦ λ j. (let rest = passing-drop b k y fs j t in let c = passing-cons b x fs in
             let d = passing-cons b x (drop_key k fs) in omega arith)

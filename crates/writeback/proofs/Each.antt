@@ -33,11 +33,15 @@ same : (a : ℕ) → eqb a a ≡ true
 same a = grind (arith, nat_tests)
 
 module _ {X : Type 0} where
-  past : (y : ℕ × X) (ys zs : List (ℕ × X)) → T (below_all nat_cmp y.0 zs) → Each (λ (e : ℕ × X). lookup e.0 ys ≡ Some e.1) zs → Each (λ (e : ℕ × X). lookup e.0 (y ∷ ys) ≡ Some e.1) zs
+  past : (y : ℕ × X) (ys zs : List (ℕ × X)) → T (below_all nat_cmp y.0 zs)
+      → Each (λ (e : ℕ × X). lookup e.0 ys ≡ Some e.1) zs → Each (λ (e : ℕ × X). lookup e.0 (y ∷ ys) ≡ Some e.1) zs
   past y ys [] b h = tt
   past y ys (z ∷ zs) b h =
-      let parts = both_true _ _ b in
-      (ap (λ b. cond b (Some y.1) (lookup z.0 ys)) (apart y.0 z.0 (more y.0 z.0 (is_true _ parts.0))) ∙ h.0, past y ys zs parts.1 h.1)
+      let parts = both_true _ _ b in (
+        ap (λ b. cond b (Some y.1) (lookup z.0 ys)) (apart y.0 z.0 (more y.0 z.0 (is_true _ parts.0)))
+            ∙ h.0,
+        past y ys zs parts.1 h.1,
+      )
 
   each_found : (es : List (ℕ × X)) → T (is_sorted nat_cmp es) → Each (λ (e : ℕ × X). lookup e.0 es ≡ Some e.1) es
   each_found [] s = tt

@@ -32,5 +32,6 @@ first_awaited f y bound requests = find (awaits f y bound) (map.entries requests
 -- how the table is stored: as the tuple of its fields. A model's value needs it, and nothing else speaks of it
 abbrev pub flights_code : Coded Flights
 flights_code =
-    code_by (ℕ × map.FinMap nat_cmp Request) (coded× coded_ℕ (map.code coded_ℕ request_code)) (λ t. (t.next, t.requests))
+    code_by (ℕ × map.FinMap nat_cmp Request) (coded× coded_ℕ (map.code coded_ℕ request_code))
+    (λ t. (t.next, t.requests))
     (λ v. record { next = v.0; requests = v.1 }) (λ _. refl)

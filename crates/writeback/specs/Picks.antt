@@ -1,6 +1,8 @@
--- Which page is written next, and what becomes of its tags. A sync first tags each DIRTY page with TOWRITE, so that callers who
+-- Which page is written next, and what becomes of its tags. A sync first tags each DIRTY page with TOWRITE, so that
+-- callers who
 -- keep dirtying pages cannot prolong it (Linux: tag_pages_for_writeback and write_cache_pages).
-use Rattle.std.specs.Prelude.{◌≡◌, ℕ, ◌<◌, Bool, true, false, not, ◌&&◌, ◌||◌, nat_lt, if◌then◌else◌, Option, Some, None, find, option_map, unwrap_or}
+use Rattle.std.specs.Prelude.{◌≡◌, ℕ, ◌<◌, Bool, true, false, not, ◌&&◌, ◌||◌, nat_lt, if◌then◌else◌, Option, Some}
+use Rattle.std.specs.Prelude.{None, find, option_map, unwrap_or}
 use Rattle.std.specs.FinMap as map
 use Rattle.pc_types.specs.Tags.{TagSet}
 use Rattle.mapping.specs.declared.mapping.TheConstants.{MAX_PAGES}
@@ -39,10 +41,12 @@ to_write first last p page =
 abbrev pub under_write : TagSet
 under_write = record { dirty = false; writeback = true; towrite = false }
 
--- a page whose write ended: WRITEBACK is cleared, and DIRTY is set where the write failed. A DIRTY that was set meanwhile
+-- a page whose write ended: WRITEBACK is cleared, and DIRTY is set where the write failed. A DIRTY that was set
+-- meanwhile
 -- stays
 abbrev pub after_write : Bool → Mapped → Mapped
-after_write failed page = record page { tags = record page.tags { dirty = page.tags.dirty || failed; writeback = false } }
+after_write failed page =
+    record page { tags = record page.tags { dirty = page.tags.dirty || failed; writeback = false } }
 
 -- ---- a step of a sync y of file f
 

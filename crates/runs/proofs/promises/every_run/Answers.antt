@@ -1,13 +1,13 @@
-use Rattle.runs.proofs.FewWrites.{sync_writes_are_few}
-use Rattle.runs.proofs.Bounds.{awaits_by_bound}
-use Rattle.runs.proofs.SyncRuns.{dirty_pages_stay, syncs_are_synced, syncs_rise, syncs_tell}
-use Rattle.runs.proofs.AlwaysHold.{holds_always}
-use Rattle.runs.proofs.GoOn.{requests_go_on}
-use Rattle.machine.proofs.Determined.{steps_are_determined}
-use Rattle.machine.proofs.Stuck.{no_event_is_stuck}
-use Rattle.runs.proofs.FilesHeld.{files_are_held}
-use Rattle.runs.proofs.FilesSeen.{files_are_those}
-use Rattle.runs.proofs.ReadsRight.{reads_are_right}
+use Rattle.runs.proofs.syncs.FewWrites.{sync_writes_are_few}
+use Rattle.runs.proofs.syncs.Bounds.{awaits_by_bound}
+use Rattle.runs.proofs.syncs.SyncRuns.{dirty_pages_stay, syncs_are_synced, syncs_rise, syncs_tell}
+use Rattle.runs.proofs.moments.AlwaysHold.{holds_always}
+use Rattle.runs.proofs.moments.GoOn.{requests_go_on}
+use Rattle.machine.proofs.steps.Determined.{steps_are_determined}
+use Rattle.machine.proofs.steps.Stuck.{no_event_is_stuck}
+use Rattle.runs.proofs.moments.FilesHeld.{files_are_held}
+use Rattle.runs.proofs.moments.FilesSeen.{files_are_those}
+use Rattle.runs.proofs.moments.ReadsRight.{reads_are_right}
 use Rattle.runs.proofs.promises.every_run.Goals as goal
 
 pub returns-clause-held : goal.returns-clause-held

@@ -11,15 +11,21 @@ use Rattle.writeback.proofs.TableLemmas.{cut_rises, cut_drops}
 use Rattle.writeback.proofs.requests.Requests.drop_from.Goals as goal
 
 -- a list refilled by one that was made of it
-refilled : (f p : ℕ) (items cut new : List Entry) → cut ≡ items → new ≡ map (cut_entry f p) cut → refill (length items) items new ≡ map (cut_entry f p) items
+refilled : (f p : ℕ) (items cut new : List Entry) → cut ≡ items → new ≡ map (cut_entry f p) cut
+    → refill (length items) items new ≡ map (cut_entry f p) items
 refilled f p items cut new same is =
     let made : new ≡ map (cut_entry f p) items = is ∙ ap (map (cut_entry f p)) same in
     items-with_items (record { items = items }) new (ap length made ∙ length-map items (cut_entry f p)) ∙ made
 
 pub invariant_of-self : goal.invariant_of-self
-invariant_of-self c = cut_rises c.self.inside.next c.args.file.0 c.args.page.0 c.self.inside.in_flight.items _ (refilled c.args.file.0 c.args.page.0 c.self.inside.in_flight.items c.as_mut_slice.result.now c.drop_in.new.in_flight c.as_mut_slice.ensures.value c.drop_in.ensures) c.self.invariant
+invariant_of-self c = cut_rises c.self.inside.next c.args.file.0 c.args.page.0 c.self.inside.in_flight.items _
+    (refilled c.args.file.0 c.args.page.0 c.self.inside.in_flight.items c.as_mut_slice.result.now
+    c.drop_in.new.in_flight c.as_mut_slice.ensures.value c.drop_in.ensures) c.self.invariant
 
 pub returns : goal.returns
 returns c =
-    cut_drops c.self.inside.next c.args.file.0 c.args.page.0 c.self.inside.in_flight.items _ (refilled c.args.file.0 c.args.page.0 c.self.inside.in_flight.items c.as_mut_slice.result.now c.drop_in.new.in_flight c.as_mut_slice.ensures.value c.drop_in.ensures) c.self.invariant
-    ∙ ap (λ (t : Flights). record t { requests = each_value (λ _. cut_request c.args.file.0 c.args.page.0) t.requests }) c.self.view_is
+    cut_drops c.self.inside.next c.args.file.0 c.args.page.0 c.self.inside.in_flight.items _
+    (refilled c.args.file.0 c.args.page.0 c.self.inside.in_flight.items c.as_mut_slice.result.now
+    c.drop_in.new.in_flight c.as_mut_slice.ensures.value c.drop_in.ensures) c.self.invariant
+    ∙ ap (λ (t : Flights). record t { requests = each_value (λ _. cut_request c.args.file.0 c.args.page.0) t.requests })
+    c.self.view_is

@@ -9,5 +9,8 @@ use Rattle.writeback.proofs.requests.Requests.get.Goals as goal
 
 pub returns : goal.returns
 returns c =
-    ap (option_map request_of) (c.request_in.ensures ∙ ap (λ (l : List Entry). option_map (λ (e : Entry). e.request) (find (λ (e : Entry). eqb e.serial.0 c.args.serial.0) l)) c.deref.ensures.0)
-    ∙ get_table c.self.inside.next c.self.inside.in_flight.items c.args.serial.0 ∙ ap (λ (t : Flights). map.get t.requests c.args.serial.0) c.self.view_is
+    ap (option_map request_of) (c.request_in.ensures
+    ∙ ap (λ (l : List Entry). option_map (λ (e : Entry). e.request)
+    (find (λ (e : Entry). eqb e.serial.0 c.args.serial.0) l)) c.deref.ensures.0)
+    ∙ get_table c.self.inside.next c.self.inside.in_flight.items c.args.serial.0
+    ∙ ap (λ (t : Flights). map.get t.requests c.args.serial.0) c.self.view_is

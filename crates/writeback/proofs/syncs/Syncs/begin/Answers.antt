@@ -13,21 +13,42 @@ use Rattle.writeback.proofs.syncs.Syncs.begin.Goals as goal
 
 pub returns-in-None-clause-room : goal.returns-in-None-clause-room
 returns-in-None-clause-room c =
-    let none : position (λ (s : Option Progress). not (is_some s)) c.self.inside.slots ≡ None = sym c.free_place.ensures ∙ c.in-None.is in
-    (λ e. absurd (false≢true e), λ less. absurd (no_room c.self.inside.slots MAX_SYNCS c.self.invariant none (subst (λ (m : map.FinMap nat_cmp Sync). map.len m < MAX_SYNCS) (sym c.self.view_is) less)))
+    let none : position (λ (s : Option Progress). not (is_some s)) c.self.inside.slots ≡ None = sym c.free_place.ensures
+    ∙ c.in-None.is in (
+      λ e. absurd (false≢true e),
+      λ less.
+          absurd (no_room c.self.inside.slots MAX_SYNCS c.self.invariant none
+          (subst (λ (m : map.FinMap nat_cmp Sync). map.len m < MAX_SYNCS) (sym c.self.view_is) less)),
+    )
 
 pub returns-clause-lowest : goal.returns-clause-lowest
 returns-clause-lowest c =
-    let at : position (λ (s : Option Progress). not (is_some s)) c.self.inside.slots ≡ Some c.in-Some.at = sym c.free_place.ensures ∙ c.in-Some.is in
-    subst (λ (m : map.FinMap nat_cmp Sync). IsLowest (λ k. is_some (map.get m k)) c.in-Some.at) c.self.view_is (slot_lowest c.self.inside.slots c.in-Some.at at)
+    let at : position (λ (s : Option Progress). not (is_some s)) c.self.inside.slots ≡ Some c.in-Some.at =
+    sym c.free_place.ensures ∙ c.in-Some.is in
+    subst (λ (m : map.FinMap nat_cmp Sync). IsLowest (λ k. is_some (map.get m k)) c.in-Some.at) c.self.view_is
+    (slot_lowest c.self.inside.slots c.in-Some.at at)
 
 pub returns-clause-begun : goal.returns-clause-begun
 returns-clause-begun c =
-    let at : position (λ (s : Option Progress). not (is_some s)) c.self.inside.slots ≡ Some c.in-Some.at = sym c.free_place.ensures ∙ c.in-Some.is in
-    slot_put c.self.inside.slots c.in-Some.at _ (slot_inside c.self.inside.slots c.in-Some.at at) ∙ ap (λ (m : map.FinMap nat_cmp Sync). map.insert m c.in-Some.at (let y : Sync = record { handle = c.args.handle.0; first = c.args.first.0; last = c.args.last.0; started = None; failures = c.args.failures; bound = None } in y)) c.self.view_is
+    let at : position (λ (s : Option Progress). not (is_some s)) c.self.inside.slots ≡ Some c.in-Some.at =
+    sym c.free_place.ensures ∙ c.in-Some.is in
+    slot_put c.self.inside.slots c.in-Some.at _ (slot_inside c.self.inside.slots c.in-Some.at at)
+    ∙ ap (λ (m : map.FinMap nat_cmp Sync). map.insert m c.in-Some.at
+    (let y : Sync = record {
+      handle = c.args.handle.0;
+      first = c.args.first.0;
+      last = c.args.last.0;
+      started = None;
+      failures = c.args.failures;
+      bound = None;
+    } in y)) c.self.view_is
 
 pub returns-clause-room : goal.returns-clause-room
 returns-clause-room c =
-    let at : position (λ (s : Option Progress). not (is_some s)) c.self.inside.slots ≡ Some c.in-Some.at = sym c.free_place.ensures ∙ c.in-Some.is in
-    let less = slot_room c.self.inside.slots c.in-Some.at at in
-    (λ e. subst (λ (m : map.FinMap nat_cmp Sync). map.len m < MAX_SYNCS) c.self.view_is (subst (λ n. map.len (in_progress c.self.inside.slots) < n) c.self.invariant less), λ l. refl)
+    let at : position (λ (s : Option Progress). not (is_some s)) c.self.inside.slots ≡ Some c.in-Some.at =
+    sym c.free_place.ensures ∙ c.in-Some.is in
+    let less = slot_room c.self.inside.slots c.in-Some.at at in (
+      λ e. subst (λ (m : map.FinMap nat_cmp Sync). map.len m < MAX_SYNCS) c.self.view_is
+          (subst (λ n. map.len (in_progress c.self.inside.slots) < n) c.self.invariant less),
+      λ l. refl,
+    )

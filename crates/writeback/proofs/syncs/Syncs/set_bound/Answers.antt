@@ -9,4 +9,8 @@ use Rattle.writeback.proofs.SlotLemmas.{slot_changed}
 use Rattle.writeback.proofs.syncs.Syncs.set_bound.Goals as goal
 
 pub returns : goal.returns
-returns c = slot_changed c.self.inside.slots c.bound_in.new.slots c.args.sync.0 (λ (s : Progress). record s { bound = Some c.args.bound }) (λ (y : Sync). record y { bound = Some c.args.bound.0 }) (λ p. refl) c.bound_in.ensures ∙ ap (λ (m : map.FinMap nat_cmp Sync). change_at c.args.sync.0 (λ (y : Sync). record y { bound = Some c.args.bound.0 }) m) c.self.view_is
+returns c = slot_changed c.self.inside.slots c.bound_in.new.slots c.args.sync.0
+    (λ (s : Progress). record s { bound = Some c.args.bound }) (λ (y : Sync). record y { bound = Some c.args.bound.0 })
+    (λ p. refl) c.bound_in.ensures
+    ∙ ap (λ (m : map.FinMap nat_cmp Sync). change_at c.args.sync.0
+    (λ (y : Sync). record y { bound = Some c.args.bound.0 }) m) c.self.view_is

@@ -10,5 +10,8 @@ use Rattle.writeback.proofs.syncs.Syncs.started.Goals as goal
 
 pub returns : goal.returns
 returns c =
-    slot_changed c.self.inside.slots c.start_in.new.slots c.args.sync.0 (λ (y : Progress). record y { started = Some c.args.page }) (λ (y : Sync). record y { started = Some c.args.page.0 }) (λ y. refl) c.start_in.ensures
-    ∙ ap (λ (m : map.FinMap nat_cmp Sync). change_at c.args.sync.0 (λ y. record y { started = Some c.args.page.0 }) m) c.self.view_is
+    slot_changed c.self.inside.slots c.start_in.new.slots c.args.sync.0
+    (λ (y : Progress). record y { started = Some c.args.page })
+    (λ (y : Sync). record y { started = Some c.args.page.0 }) (λ y. refl) c.start_in.ensures
+    ∙ ap (λ (m : map.FinMap nat_cmp Sync). change_at c.args.sync.0 (λ y. record y { started = Some c.args.page.0 }) m)
+    c.self.view_is

@@ -1,0 +1,6 @@
+-- What a sync promises, over every run.
+pub mod Track
+pub mod SyncProgress
+pub mod SyncRuns
+pub mod Bounds
+pub mod FewWrites
