@@ -12,3 +12,4 @@ pub mod FilesHeld
 pub mod FilesSeen
 pub mod ReadsRight
 pub mod Reached
+pub mod Worked
