@@ -1,6 +1,7 @@
 -- Every step of the machine, one case each, with all that its tests and its reply give. A claim about event, reply and
 -- new state
 -- that holds in each case holds of every step. Each walk over the events uses this one.
+use Rattle.pc_types.specs.Kinds.{is_flush}
 use Rattle.std.proofs.Common.{◌≡◌, ℕ, ◌+◌, ◌<◌, ◌≤◌, true, false, cond, not, eqb, List, [], ◌∷◌, ◌++◌, length, refl, ap}
 use Rattle.std.proofs.Common.{sym, subst, ◌∙◌, arith, inl, inr}
 use Rattle.std.specs.Prelude.{◌⊎◌, Option, Some, None, is_some, unwrap_or, nat_lt, nat_le}
@@ -149,7 +150,7 @@ module _ (s : State) (Q : Event → Reply → State → Type 0) (c : Cases s Q) 
     where
       failed : (kind : Kind) → kind ≡ Fill
           → Q (event.End Fill (record { cache = cache; kind = of; serial = t; outcome = outcome.Fault d }))
-          (reply.Failed k) (cond (Rattle.pc_types.specs.Kinds.is_flush kind) (flush_failed (ended s t.0) x d)
+          (reply.Failed k) (cond (is_flush kind) (flush_failed (ended s t.0) x d)
           (ended s t.0))
       failed Fill e = c.fill_fails (record { cache = cache; kind = of; serial = t; outcome = outcome.Fault d }) x k may
           h.0 (ap outcome.Fault (sym h.1))
@@ -158,7 +159,7 @@ module _ (s : State) (Q : Event → Reply → State → Type 0) (c : Cases s Q) 
     where
       failed : (kind : Kind) → kind ≡ Flush
           → Q (event.End Flush (record { cache = cache; kind = of; serial = t; outcome = outcome.Fault d }))
-          (reply.Failed k) (cond (Rattle.pc_types.specs.Kinds.is_flush kind) (flush_failed (ended s t.0) x d)
+          (reply.Failed k) (cond (is_flush kind) (flush_failed (ended s t.0) x d)
           (ended s t.0))
       failed Fill e = absurd cc
       failed Flush e =

@@ -1,4 +1,10 @@
 -- What is known where no test of an event holds.
+use Rattle.pc_types.specs.Tags.{no_tags}
+use Rattle.machine.proofs.steps.Choices.{some_of}
+use Rattle.machine.proofs.steps.Choices.{not_false}
+use Rattle.pc_types.specs.declared.ids.FileId.{FileId}
+use Rattle.pc_types.specs.declared.ids.HandleId.{HandleId}
+use Rattle.pc_types.specs.declared.ids.PageIndex.{PageIndex}
 use Rattle.std.proofs.Common.{◌≡◌, ℕ, ◌+◌, ◌<◌, ◌≤◌, Bool, true, false, cond, not, eqb, eqb-true, length, refl, ap, sym}
 use Rattle.std.proofs.Common.{◌∙◌}
 use Rattle.std.specs.Prelude.{◌&&◌, ◌==◌, Option, Some, None, is_some, option_map, unwrap_or, nat_lt, nat_le, count_by}
@@ -70,7 +76,7 @@ pub record MayTruncate (s : State) (h z : ℕ) : Type 0 where
   pub small : z ≤ MAX_FILE_SIZE
   pub free : truncate_stop s (handle_file s h) (boundary s (handle_file s h) z) ≡ None
 
-pub may_truncate : (s : State) (h : Rattle.pc_types.specs.declared.ids.HandleId.HandleId) (z : ℕ)
+pub may_truncate : (s : State) (h : HandleId) (z : ℕ)
     → tests s (event.Truncate h z) ≡ None → MayTruncate s h.0 z
 may_truncate s h z t =
     let opened = if_none (not (is_open s h.0)) _ _ t in
@@ -89,8 +95,8 @@ pub record MayFill (s : State) (h p : ℕ) : Type 0 where
   pub frame : 0 < free_frames s
   pub room : (is_written s (handle_file s h) p && is_full s) ≡ false
 
-pub may_fill : (s : State) (h : Rattle.pc_types.specs.declared.ids.HandleId.HandleId)
-    (p : Rattle.pc_types.specs.declared.ids.PageIndex.PageIndex) → tests s (event.FillBegin h p) ≡ None
+pub may_fill : (s : State) (h : HandleId)
+    (p : PageIndex) → tests s (event.FillBegin h p) ≡ None
     → MayFill s h.0 p.0
 may_fill s h p t =
     let f = handle_file s h.0 in
@@ -151,15 +157,15 @@ pub record MayFlush (s : State) (f p : ℕ) (page : Page) : Type 0 where
   pub clean : page.tags.writeback ≡ false
   pub room : is_full s ≡ false
 
-pub may_flush : (s : State) (f : Rattle.pc_types.specs.declared.ids.FileId.FileId) → tests s (event.FlushBegin f) ≡ None
+pub may_flush : (s : State) (f : FileId) → tests s (event.FlushBegin f) ≡ None
     → (p : ℕ) × (page : Page) × MayFlush s f.0 p page
 may_flush s f t =
     let exists = if_none (nat_le (length s.files) f.0) _ _ t in
     let some = if_none (not (is_some (flush_pick (file_at s f.0)))) _ _ exists.1 in
     let room = if_none (is_full s) _ None some.1 in
     let test : ℕ × Page → Bool = λ e. e.1.tags.dirty && not e.1.tags.writeback in
-    let p = Rattle.machine.proofs.steps.Choices.some_of (flush_pick (file_at s f.0))
-    (Rattle.machine.proofs.steps.Choices.not_false _ some.0) in
+    let p = some_of (flush_pick (file_at s f.0))
+    (not_false _ some.0) in
     let e = mapped_some (λ (e : ℕ × Page). e.0) (find test (map.entries (file_at s f.0).pages)) p.0 p.1 in
     let a = found (file_at s f.0).pages test e.0 e.1 in
     let b = and_true e.0.1.tags.dirty (not e.0.1.tags.writeback) a.0 in (
@@ -181,8 +187,8 @@ pub record MayBegin (s : State) (h first last : ℕ) : Type 0 where
   pub range : first ≤ last
   pub room : map.len s.syncs < MAX_SYNCS
 
-pub may_begin : (s : State) (h : Rattle.pc_types.specs.declared.ids.HandleId.HandleId)
-    (first last : Rattle.pc_types.specs.declared.ids.PageIndex.PageIndex)
+pub may_begin : (s : State) (h : HandleId)
+    (first last : PageIndex)
     → tests s (event.SyncBegin h first last) ≡ None → MayBegin s h.0 first.0 last.0
 may_begin s h first last t =
     let opened = if_none (not (is_open s h.0)) _ _ t in
@@ -229,7 +235,7 @@ may_start s y p pick t = go y.bound refl pick
             is = here;
             left = ap (λ q. is_left y (q, e.0.1)) (sym e.2) ∙ a.0;
             clean = sym (ap (λ (o : Option Page).
-                (unwrap_or (option_map (λ (page : Page). page.tags) o) Rattle.pc_types.specs.Tags.no_tags).writeback)
+                (unwrap_or (option_map (λ (page : Page). page.tags) o) no_tags).writeback)
                 here) ∙ idle.0;
             room = (if_none (is_full s) _ None idle.1).0;
           },

@@ -1,4 +1,6 @@
 -- Each event has a reply that is not want of memory: the first test that holds, or what happens where none does.
+use Rattle.pc_types.specs.declared.ids.HandleId.{HandleId}
+use Rattle.pc_types.specs.declared.ids.PageIndex.{PageIndex}
 use Rattle.std.proofs.Common.{◌≡◌, ◌≢◌, ℕ, suc, ◌+◌, Bool, true, false, cond, not, eqb, eqb-true, eq-eqb, List, [], ◌∷◌}
 use Rattle.std.proofs.Common.{length, get_or, refl, ap, ◌∙◌}
 use Rattle.std.specs.Prelude.{◌&&◌, ◌||◌, ◌==◌, Option, Some, None, is_some, option_map, nat_lt, nat_le, find, count_by}
@@ -157,8 +159,8 @@ module _ (s : State) where
   abbrev FineReply : (Reply → Type 0) → Type 0
   FineReply May = (r : Reply) × Fine r × May r
 
-  fill_begins : (h : Rattle.pc_types.specs.declared.ids.HandleId.HandleId)
-      (p : Rattle.pc_types.specs.declared.ids.PageIndex.PageIndex) (b : Bool) → is_written s (handle_file s h.0) p.0 ≡ b
+  fill_begins : (h : HandleId)
+      (p : PageIndex) (b : Bool) → is_written s (handle_file s h.0) p.0 ≡ b
       → FineReply (MayReply s (event.FillBegin h p))
   fill_begins h p true e = (reply.Job (record { 0 = s.next }), refl, (e, refl))
   fill_begins h p false e = (reply.Filled, refl, e)

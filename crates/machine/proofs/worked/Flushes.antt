@@ -1,4 +1,6 @@
 -- Worked examples of flushes and of eviction.
+use Rattle.machine.specs.declared.event.End.{End}
+use Rattle.machine.specs.declared.event.Outcome.{Outcome}
 use Rattle.std.proofs.Common.{◌≡◌, ℕ, List, [], ◌∷◌, refl}
 use Rattle.std.specs.Prelude.{Some, None, replicate, true, false, Bool}
 use Rattle.pc_types.specs.declared.refusal.Refusal.TheVariants.{NoSuchFile, Stranger}
@@ -49,13 +51,13 @@ changed_meanwhile = record one_dirty {
 nothing_to_flush : tests (state_of changed_meanwhile) (event.FlushBegin (file 0)) ≡ Some reply.Nothing
 nothing_to_flush = simp (page_entries changed_meanwhile tt) refl
 
-abbrev ends_well : Rattle.machine.specs.declared.event.End.End
+abbrev ends_well : End
 ends_well = record { cache = 0; kind = Flush; serial = serial 0; outcome = outcome.Written }
 
-abbrev ends_badly : Rattle.machine.specs.declared.event.End.End
+abbrev ends_badly : End
 ends_badly = record { cache = 0; kind = Flush; serial = serial 0; outcome = outcome.Fault 5 }
 
-flush_end_passes : (o : Rattle.machine.specs.declared.event.Outcome.Outcome) → fits Flush o ≡ true
+flush_end_passes : (o : Outcome) → fits Flush o ≡ true
     → tests (state_of changed_meanwhile)
     (event.End Flush (record { cache = 0; kind = Flush; serial = serial 0; outcome = o })) ≡ None
 flush_end_passes o e = simp (request_get changed_meanwhile tt, e) refl

@@ -1,4 +1,5 @@
 -- Worked examples of truncations.
+use Rattle.machine.specs.declared.event.End.{End}
 use Rattle.std.proofs.Common.{◌≡◌, ℕ, [], ◌∷◌, refl}
 use Rattle.std.specs.Prelude.{Some, None, replicate, true, false}
 use Rattle.pc_types.specs.declared.refusal.Refusal.TheVariants.{Stranger, TooLarge}
@@ -80,7 +81,7 @@ cut_in_flight =
       next = 1;
     }
 
-abbrev the_end : Rattle.machine.specs.declared.event.End.End
+abbrev the_end : End
 the_end = record { cache = 0; kind = Flush; serial = serial 0; outcome = outcome.Written }
 
 end_passes : tests (state_of cut_in_flight) (event.End Flush the_end) ≡ None

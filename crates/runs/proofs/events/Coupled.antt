@@ -1,4 +1,9 @@
 -- A world and the plain files that belong to it.
+use Rattle.std.proofs.Common.{[]}
+use Rattle.std.proofs.Common.{arith}
+use Rattle.std.proofs.Common.{false}
+use Rattle.pc_types.specs.Files.{cut}
+use Rattle.runs.proofs.views.View.{held_by}
 use Rattle.std.proofs.Common.{◌≡◌, ℕ, ◌<◌, Bool, true, length, refl, ap, sym, subst, ◌∙◌, cond}
 use Rattle.std.specs.Prelude.{Option, Some, None, is_some, option_map, unwrap_or}
 use Rattle.std.specs.FinMap as finmap
@@ -32,10 +37,10 @@ view w plain = record {
 pub held_is : (w : World) (plain : Plain) (f p : ℕ) → on_device w f p ≡ held (view w plain) f p
 held_is w plain f p = go (spot_at w.core f p)
   where
-    go : (o : Option Spot) → cond (unwrap_or (option_map (λ (x : Spot). x.written) o) Rattle.std.proofs.Common.false)
+    go : (o : Option Spot) → cond (unwrap_or (option_map (λ (x : Spot). x.written) o) false)
         (block_bytes w (unwrap_or (option_map (λ (x : Spot). x.block) o) 0))
-        (Rattle.pc_types.specs.Files.cut Rattle.std.proofs.Common.[] w.core.sizes.page)
-        ≡ Rattle.runs.proofs.views.View.held_by (block_bytes w) w.core.sizes.page o
+        (cut [] w.core.sizes.page)
+        ≡ held_by (block_bytes w) w.core.sizes.page o
     go None = refl
     go (Some x) = refl
 
@@ -105,7 +110,7 @@ file_changed w plain c new f file d e s h good tables evolves same = record {
   valid = λ k o.
       let len : length new.core.files ≡ length w.core.files = ap length e ∙ length-set w.core.files f file in
       let same_file : handle_file new.core k ≡ handle_file w.core k = ap (λ m. unwrap_or (finmap.get m k) 0) h in
-      let old = c.valid k (sym (ap (λ m. is_some (finmap.get m k)) h) ∙ o) in omega Rattle.std.proofs.Common.arith;
+      let old = c.valid k (sym (ap (λ m. is_some (finmap.get m k)) h) ∙ o) in omega arith;
   sizes = λ g. c.sizes g ∙ sym (same g);
   evolves = evolves;
 }

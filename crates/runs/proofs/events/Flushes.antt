@@ -1,4 +1,5 @@
 -- A write of a page is started, and a sync begins.
+use Rattle.std.proofs.Common.{[]}
 use Rattle.std.proofs.Common.{◌≡◌, ◌≢◌, ℕ, ◌+◌, ◌*◌, ◌<◌, Bool, true, false, cond, not, eqb, eqb-true, eq-eqb, List}
 use Rattle.std.proofs.Common.{length, get_or, refl, ap, sym, subst, ◌∙◌, inl, inr}
 use Rattle.std.specs.Prelude.{◌&&◌, ◌||◌, ◌⊎◌, Option, Some, None, is_some, option_map, unwrap_or}
@@ -81,7 +82,7 @@ module _ (w : World) (plain : Plain) (c : Coupled w plain) (f p : ℕ) (page : P
     page = λ g q. page_at-put_page s f p (under_write page) here g q i;
     spot = λ g q. spot_at s g q;
     request = λ t. flight_begun s.requests w.writing writing s.next request page.bytes
-        (ap (λ o. unwrap_or o Rattle.std.proofs.Common.[]) own_bytes) others t i;
+        (ap (λ o. unwrap_or o []) own_bytes) others t i;
     outcome = λ t. finmap.get w.outcomes t;
     block = λ b. block_bytes w b;
     size = λ g. size-put s f file_after here refl g i;
@@ -108,7 +109,7 @@ module _ (w : World) (plain : Plain) (c : Coupled w plain) (f p : ℕ) (page : P
 
   -- the bytes that are noted are the page's
   bytes_after : page_bytes begun f p ≡ page.bytes
-  bytes_after = ap (λ (o : Option Page). unwrap_or (option_map (λ x. x.bytes) o) Rattle.std.proofs.Common.[])
+  bytes_after = ap (λ (o : Option Page). unwrap_or (option_map (λ x. x.bytes) o) [])
       (page_at-put_page s f p (under_write page) here f p ∙ put2_here (page_at s) f p (Some (under_write page)))
 
   are_noted : (t : Serial) → t.0 ≡ s.next → noted w.writing (reply.Job t) begun ≡ writing

@@ -1,4 +1,15 @@
 -- Each step of the world keeps cache and plain files coupled.
+use Rattle.std.specs.Prelude.{◌&&◌}
+use Rattle.std.proofs.Common.{eqb}
+use Rattle.std.specs.Prelude.{nat_le}
+use Rattle.std.specs.Ordering.{nat_cmp}
+use Rattle.machine.specs.Changes.{is_left}
+use Rattle.machine.specs.Changes as changes
+use Rattle.machine.specs.State.{page_count}
+use Rattle.machine.specs.Changes.{drop_sync}
+use Rattle.machine.proofs.steps.Cases.{IsVerdict}
+use Rattle.pc_types.specs.declared.ids.SyncId.{SyncId}
+use Rattle.pc_types.specs.declared.refusal.Refusal.TheVariants.{Stranger}
 use Rattle.std.proofs.Common.{◌≡◌, ℕ, ◌+◌, ◌<◌, Bool, true, false, List, [], length, refl, ap, sym, subst, ◌∙◌, inl}
 use Rattle.std.proofs.Common.{inr}
 use Rattle.std.specs.Prelude.{◌⊎◌, Option, Some, None, unwrap_or}
@@ -49,7 +60,7 @@ plain_same v (event.Append h b) (reply.Wrote n end) q = absurd cc
 plain_same v (event.Truncate h z) reply.Done q = absurd cc
 plain_same v _ _ q = refl
 
-pub noted_same : (writing : finmap.FinMap Rattle.std.specs.Ordering.nat_cmp (List ℕ)) (s : State) (r : Reply)
+pub noted_same : (writing : finmap.FinMap nat_cmp (List ℕ)) (s : State) (r : Reply)
     → is_quiet r ≡ true → noted writing r s ≡ writing
 noted_same writing s (reply.Job t) q = absurd cc
 noted_same writing s _ q = refl
@@ -90,7 +101,7 @@ module _ (w : World) (plain : Plain) (c : Coupled w plain) where
 
   quiet : (e : Event) (r : Reply) → is_quiet r ≡ true → Kept e r s
   quiet e r q = record {
-    acts = λ _. subst (λ (x : finmap.FinMap Rattle.std.specs.Ordering.nat_cmp (List ℕ)). After w plain (off (Act e r))
+    acts = λ _. subst (λ (x : finmap.FinMap nat_cmp (List ℕ)). After w plain (off (Act e r))
         (record w { writing = x }) (plain_after plain e r)) (sym (noted_same w.writing s r q))
         (subst (After w plain (off (Act e r)) w) (sym (plain_same plain e r q)) (same_after (off (Act e r)) w plain c));
     ends = λ kind end _ loud _. absurd cc;
@@ -118,18 +129,18 @@ module _ (w : World) (plain : Plain) (c : Coupled w plain) where
   ]
 
   written_at : (h : HandleId) (o : ℕ) (b : List ℕ) → MayWrite s h.0 o (length b)
-      → After w plain no_gone (with_core w (Rattle.machine.specs.Changes.written s (handle_file s h.0) o b))
+      → After w plain no_gone (with_core w (changes.written s (handle_file s h.0) o b))
       (change plain h.0 (λ file. pwrite file o b))
   written_at h o b may =
       let f = handle_file s h.0 in
       let here = c.valid h.0 may.opened in
-      subst (λ k. After w plain no_gone (with_core w (Rattle.machine.specs.Changes.written s f o b))
+      subst (λ k. After w plain no_gone (with_core w (changes.written s f o b))
       (put_plain plain k (pwrite (plain_file plain k) o b))) (sym (same_file h))
-      (wrote w plain c f o b here may.some (Rattle.machine.specs.Changes.written s f o b)
+      (wrote w plain c f o b here may.some (changes.written s f o b)
       (written_writes s f o b here may.blocks) may.blocks may.free)
 
   write : (e : Event) (h : HandleId) (o : ℕ) (b : List ℕ) → IsWrite s e h o b → MayWrite s h.0 o (length b)
-      → Kept e (reply.Wrote (length b) (o + length b)) (Rattle.machine.specs.Changes.written s (handle_file s h.0) o b)
+      → Kept e (reply.Wrote (length b) (o + length b)) (changes.written s (handle_file s h.0) o b)
   write e h o b is may = elim is [
     | inl a ↦ subst (λ x. Kept x (reply.Wrote (length b) (o + length b)) new) (sym a)
         (record { acts = λ _. written_at h o b may; ends = λ kind end same _ _. absurd cc })
@@ -144,27 +155,29 @@ module _ (w : World) (plain : Plain) (c : Coupled w plain) where
   ]
     where
       new : State
-      new = Rattle.machine.specs.Changes.written s (handle_file s h.0) o b
+      new = changes.written s (handle_file s h.0) o b
 
       at : (h : HandleId) → length (plain_file plain (named plain h.0)) ≡ (file_at s (handle_file s h.0)).size
       at h = ap (λ k. length (plain_file plain k)) (same_file h) ∙ c.sizes (handle_file s h.0)
 
+  -- the pages of f that a cut to z bytes leaves off
+  abbrev cut_off : ℕ → ℕ → ℕ → ℕ → Bool
+  cut_off f z g q = eqb f g && nat_le (page_count s.sizes.page z) q
+
   -- a truncation, by the file that is cut
-  cut_at : (h : HandleId) (z : ℕ) (new : State) → let f = handle_file s h.0 in
-      After w plain (λ g q. Rattle.std.specs.Prelude.◌&&◌ (Rattle.std.proofs.Common.eqb f g)
-      (Rattle.std.specs.Prelude.nat_le (Rattle.machine.specs.State.page_count s.sizes.page z) q)) (with_core w new)
-      (put_plain plain f (cut (plain_file plain f) z)) → Kept (event.Truncate h z) reply.Done new
+  cut_at : (h : HandleId) (z : ℕ) (new : State)
+      → After w plain (cut_off (handle_file s h.0) z) (with_core w new)
+      (put_plain plain (handle_file s h.0) (cut (plain_file plain (handle_file s h.0)) z))
+      → Kept (event.Truncate h z) reply.Done new
   cut_at h z new a = record {
-    acts = λ _. subst (λ k. After w plain
-        (λ g q. Rattle.std.specs.Prelude.◌&&◌ (Rattle.std.proofs.Common.eqb k g)
-        (Rattle.std.specs.Prelude.nat_le (Rattle.machine.specs.State.page_count s.sizes.page z) q)) (with_core w new)
-        (put_plain plain k (cut (plain_file plain k) z))) (sym (same_file h)) a;
+    acts = λ _. subst (λ k. After w plain (cut_off k z) (with_core w new) (put_plain plain k (cut (plain_file plain k) z)))
+        (sym (same_file h)) a;
     ends = λ kind end same _ _. absurd cc;
   }
 
   -- an end with this reply of request x comes as Finish alone
   only_ends : (kind : Kind) (end : End) (r : Reply) (new : State)
-      → (r ≡ reply.Refused Rattle.pc_types.specs.declared.refusal.Refusal.TheVariants.Stranger → ⊥)
+      → (r ≡ reply.Refused Stranger → ⊥)
       → (finmap.get w.outcomes end.serial.0 ≡ Some end.outcome → After w plain no_gone (done end.serial.0 new) plain)
       → Kept (event.End kind end) r new
   only_ends kind end r new never a =
@@ -181,7 +194,7 @@ module _ (w : World) (plain : Plain) (c : Coupled w plain) where
   only_acts e r new never a = record { acts = λ _. a; ends = λ kind end same _ _. absurd (never kind end same) }
 
   sync_starts_dirty : (y : Sync) (p : ℕ) (page : Page) → page_at s (handle_file s y.handle) p ≡ Some page
-      → Rattle.machine.specs.Changes.is_left y (p, page) ≡ true → page.tags.dirty ≡ true
+      → is_left y (p, page) ≡ true → page.tags.dirty ≡ true
   sync_starts_dirty y p page is left = sym (ap dirty is)
       ∙ (c.good.pages (handle_file s y.handle) p).towrite
       (ap towrite is ∙ (and_true page.tags.towrite _ (and_true _ _ left).0).0)
@@ -233,9 +246,9 @@ module _ (w : World) (plain : Plain) (c : Coupled w plain) where
         (other_syncs w plain c _);
   }
     where
-      over : (m : Rattle.pc_types.specs.declared.ids.SyncId.SyncId) (y : Sync) (r : Reply)
-          → Rattle.machine.proofs.steps.Cases.IsVerdict s y r
-          → Kept (event.SyncStep m) r (Rattle.machine.specs.Changes.drop_sync s m.0)
+      over : (m : SyncId) (y : Sync) (r : Reply)
+          → IsVerdict s y r
+          → Kept (event.SyncStep m) r (drop_sync s m.0)
       over m y reply.Clean h = only_acts (event.SyncStep m) reply.Clean _ (λ kind end same. absurd cc)
           (other_syncs w plain c _)
       over m y (reply.Failed code) h = only_acts (event.SyncStep m) (reply.Failed code) _ (λ kind end same. absurd cc)

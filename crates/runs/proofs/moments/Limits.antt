@@ -1,6 +1,19 @@
 -- How many files, handles, requests, syncs, frames and failures there are at most, and how long files are; and that the
 -- handle of a
 -- sync in progress is open.
+use Rattle.std.proofs.Common.{List}
+use Rattle.maps.specs.Maps.{change_at}
+use Rattle.std.specs.Prelude.{count_by}
+use Rattle.machine.specs.State.{spot_at}
+use Rattle.machine.specs.State.{touched}
+use Rattle.machine.specs.Changes as changes
+use Rattle.machine.specs.History as history
+use Rattle.machine.specs.Changes.{put_page}
+use Rattle.machine.specs.Changes.{put_file}
+use Rattle.machine.specs.Changes.{put_pages}
+use Rattle.machine.specs.State.{free_frames}
+use Rattle.machine.specs.Changes.{sync_begun}
+use Rattle.machine.specs.Changes.{flush_failed}
 use Rattle.std.proofs.Common.{◌≡◌, ◌≢◌, ℕ, ◌+◌, ◌-◌, ◌/◌, ◌<◌, ◌≤◌, ◌++◌, Bool, true, false, cond, not, eqb, eq-eqb, []}
 use Rattle.std.proofs.Common.{◌∷◌, length, get_or, refl, ap, sym, subst, ◌∙◌, arith, inl, inr}
 use Rattle.std.specs.Prelude.{◌&&◌, ◌||◌, ◌⊎◌, Option, Some, None, is_some, option_map, max, nat_le, slice_set, sum_by}
@@ -307,15 +320,15 @@ module _ (s : State) (c : Limits s) (valid : (h : ℕ) → is_open s h ≡ true 
   }
 
   fails : (t : ℕ) (x : Request) (code : ℕ) → finmap.get s.requests t ≡ Some x → x.dropped ≡ false
-      → Limits (Rattle.machine.specs.Changes.flush_failed (ended s t) x code)
+      → Limits (flush_failed (ended s t) x code)
   fails t x code is live =
-      let new = Rattle.machine.specs.Changes.flush_failed (ended s t) x code in
+      let new = flush_failed (ended s t) x code in
       let file = file_at s x.file in
       let after : File =
       record file {
         failures = file.failures + 1;
         last_code = code;
-        pages = Rattle.maps.specs.Maps.change_at x.page (after_write true) file.pages;
+        pages = change_at x.page (after_write true) file.pages;
       } in
       let k : FileChange new x.file after =
       record { here = live_file t x is live; files = refl; size = c.sizes x.file; handles = refl; sizes = refl } in
@@ -419,12 +432,12 @@ module _ (s : State) (c : Limits s) (valid : (h : ℕ) → is_open s h ≡ true 
           → finmap.len (finmap.insert s.syncs n z) ≤ MAX_SYNCS
       sync_put n y z is = subst (λ k. k ≤ MAX_SYNCS) (sym (len_put_there s.syncs n z y is)) c.syncs
 
-      written : (f o : ℕ) (b : Rattle.std.proofs.Common.List ℕ) → f < length s.files → o + length b ≤ MAX_FILE_SIZE
-          → Rattle.std.specs.Prelude.count_by (λ p. not (is_some (page_at s f p)))
-          (Rattle.machine.specs.State.touched s.sizes.page o (length b)) ≤ Rattle.machine.specs.State.free_frames s
-          → Limits (Rattle.machine.specs.Changes.written s f o b)
+      written : (f o : ℕ) (b : List ℕ) → f < length s.files → o + length b ≤ MAX_FILE_SIZE
+          → count_by (λ p. not (is_some (page_at s f p)))
+          (touched s.sizes.page o (length b)) ≤ free_frames s
+          → Limits (changes.written s f o b)
       written f o b here small room =
-          let new = Rattle.machine.specs.Changes.written s f o b in
+          let new = changes.written s f o b in
           let k : FileChange new f _ =
           record {
             here = here;
@@ -438,27 +451,27 @@ module _ (s : State) (c : Limits s) (valid : (h : ℕ) → is_open s h ≡ true 
           c.syncs kept_syncs
 
       resized : (f z : ℕ) → f < length s.files → z ≤ MAX_FILE_SIZE
-          → Limits (Rattle.machine.specs.Changes.put_file s f (record (file_at s f) { size = z }))
+          → Limits (put_file s f (record (file_at s f) { size = z }))
       resized f z here small =
-          let new = Rattle.machine.specs.Changes.put_file s f (record (file_at s f) { size = z }) in
+          let new = put_file s f (record (file_at s f) { size = z }) in
           let k : FileChange new f _ =
           record { here = here; files = refl; size = small; handles = refl; sizes = refl } in
           one_file new f _ k (requests_stay new f _ k refl refl refl (let old = c.frames in omega arith)) c.syncs
           kept_syncs
 
       put_one : (f p : ℕ) (page : Page) → f < length s.files → cached_total s + 1 + filling_total s ≤ s.sizes.frames
-          → Limits (Rattle.machine.specs.Changes.put_page s f p page)
+          → Limits (put_page s f p page)
       put_one f p page here free =
-          let new = Rattle.machine.specs.Changes.put_page s f p page in
+          let new = put_page s f p page in
           let k : FileChange new f _ =
           record { here = here; files = refl; size = c.sizes f; handles = refl; sizes = refl } in
           one_file new f _ k (requests_stay new f _ k refl refl refl
           (let n = len_put (file_at s f).pages p page in omega arith)) c.syncs kept_syncs
 
       evicted : (f p : ℕ) (page : Page) → page_at s f p ≡ Some page
-          → Limits (Rattle.machine.specs.Changes.put_pages s f (finmap.remove (file_at s f).pages p))
+          → Limits (put_pages s f (finmap.remove (file_at s f).pages p))
       evicted f p page is =
-          let new = Rattle.machine.specs.Changes.put_pages s f (finmap.remove (file_at s f).pages p) in
+          let new = put_pages s f (finmap.remove (file_at s f).pages p) in
           let k : FileChange new f _ =
           record {
             here = cached_within s f p (ap is_some is);
@@ -489,9 +502,9 @@ module _ (s : State) (c : Limits s) (valid : (h : ℕ) → is_open s h ≡ true 
       }
 
       filled : (t : ℕ) (x : Request) (page : Page) → finmap.get s.requests t ≡ Some x → x.dropped ≡ false
-          → x.kind ≡ Fill → Limits (Rattle.machine.specs.Changes.put_page (ended s t) x.file x.page page)
+          → x.kind ≡ Fill → Limits (put_page (ended s t) x.file x.page page)
       filled t x page is live kind =
-          let new = Rattle.machine.specs.Changes.put_page (ended s t) x.file x.page page in
+          let new = put_page (ended s t) x.file x.page page in
           let it : is_live_fill x ≡ true = (λ i. is_fill (kind i) && not (live i)) in
           let k : FileChange new x.file _ =
           record {
@@ -506,9 +519,9 @@ module _ (s : State) (c : Limits s) (valid : (h : ℕ) → is_open s h ≡ true 
           let more = len_put (file_at s x.file).pages x.page page in omega arith)) c.syncs kept_syncs
 
       flushed : (t : ℕ) (x : Request) → finmap.get s.requests t ≡ Some x → x.dropped ≡ false
-          → Limits (Rattle.machine.specs.Changes.flushed (ended s t) x)
+          → Limits (changes.flushed (ended s t) x)
       flushed t x is live =
-          let new = Rattle.machine.specs.Changes.flushed (ended s t) x in
+          let new = changes.flushed (ended s t) x in
           let k : FileChange new x.file _ =
           record {
             here = live_file t x is live;
@@ -523,9 +536,9 @@ module _ (s : State) (c : Limits s) (valid : (h : ℕ) → is_open s h ≡ true 
           kept_syncs
 
       begun : (f m : ℕ) (y : Sync) → f < length s.files → finmap.len s.syncs < MAX_SYNCS → SyncFits s y
-          → Limits (Rattle.machine.specs.Changes.sync_begun s f m y)
+          → Limits (sync_begun s f m y)
       begun f m y here room fits =
-          let new = Rattle.machine.specs.Changes.sync_begun s f m y in
+          let new = sync_begun s f m y in
           let k : FileChange new f _ =
           record { here = here; files = refl; size = c.sizes f; handles = refl; sizes = refl } in
           one_file new f _ k (requests_stay new f _ k refl refl refl
@@ -539,7 +552,7 @@ module _ (w : World) (plain : Plain) (k : Coupled w plain) where
       → x.file < length w.core.files
   live_file_of t x is d =
       let r = flight_is w.core.requests w.writing t x is in
-      let spot = spot_of (Rattle.machine.specs.State.spot_at w.core x.file x.page) x.block
+      let spot = spot_of (spot_at w.core x.file x.page) x.block
       (live_spot (view w plain) k.good t (flight (bytes_of w.writing t) x) r d) in
       within w plain k t x is x.page x.file (k.good.spot_in x.file x.page (ap is_some spot.1))
 
@@ -553,7 +566,7 @@ first_limits w first = subst Limits (sym first.core) (record {
   requests = small _ MAX_IN_FLIGHT (len-empty nat_cmp Request);
   syncs = small _ MAX_SYNCS (len-empty nat_cmp Sync);
   sizes = λ f. omega arith;
-  frames = let b = filling_is (Rattle.machine.specs.History.no_files w.core.sizes w.core.name) in
+  frames = let b = filling_is (history.no_files w.core.sizes w.core.name) in
       let d = count_empty is_live_fill in omega arith;
   failures = λ f. let a = len-empty nat_cmp Request in omega arith;
   serials = omega arith;

@@ -1,4 +1,5 @@
 -- Cache and plain files are coupled at each moment of a run.
+use Rattle.std.specs.Prelude.{option_map}
 use Rattle.std.proofs.Common.{◌≡◌, ℕ, zero, suc, ◌<◌, [], ◌∷◌, length, ap, sym, ◌∙◌, arith, take}
 use Rattle.std.specs.Prelude.{Option, Some, None, is_some}
 use Rattle.std.specs.Ordering.{nat_cmp}
@@ -38,7 +39,7 @@ module _ (w : World) (first : IsFirst w) where
   request_none t = ap (λ (s : State). finmap.get s.requests t) first.core ∙ finmap.get-empty nat_cmp t
 
   flight_none : (t : ℕ) → flight_at s.requests w.writing t ≡ None
-  flight_none t = ap (λ o. Rattle.std.specs.Prelude.option_map (flight (bytes_of w.writing t)) o) (request_none t)
+  flight_none t = ap (λ o. option_map (flight (bytes_of w.writing t)) o) (request_none t)
 
   outcome_none : (t : ℕ) → finmap.get w.outcomes t ≡ None
   outcome_none t = ap (λ m. finmap.get m t) first.outcomes ∙ finmap.get-empty nat_cmp t

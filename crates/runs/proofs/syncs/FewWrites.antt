@@ -1,4 +1,9 @@
 -- Syncs start few writes.
+use Rattle.maps.proofs.Count.{passing}
+use Rattle.maps.specs.Maps.{each_value}
+use Rattle.pc_types.specs.declared.ids.SyncId.{SyncId}
+use Rattle.machine.specs.declared.event.Outcome.{Outcome}
+use Rattle.pc_types.specs.declared.ids.HandleId.{HandleId}
 use Rattle.std.proofs.Common.{◌≡◌, ℕ, ◌+◌, ◌/◌, ◌<◌, ◌≤◌, Bool, true, false, cond, eqb, eqb-true, List, [], ◌∷◌, length}
 use Rattle.std.proofs.Common.{get_or, refl, ap, sym, ◌∙◌, arith, inl, inr, subst, map}
 use Rattle.std.specs.Prelude.{◌&&◌, ◌||◌, ◌==◌, if◌then◌else◌, Option, Some, None, is_some, option_map, unwrap_or}
@@ -149,17 +154,17 @@ begun_waiting s f m y here g = go (eqb f g) refl
   where
     file_now : file_at (sync_begun s f m y) g
         ≡ cond (eqb g f) (record (file_at s f)
-        { pages = Rattle.maps.specs.Maps.each_value (to_write y) (file_at s f).pages }) (file_at s g)
+        { pages = each_value (to_write y) (file_at s f).pages }) (file_at s g)
     file_now = file_at-put s f g _ here
 
     pages_now : (b : Bool) → eqb g f ≡ b → waiting (sync_begun s f m y) g ≡ count_of (λ (x : Page). x.tags.towrite)
         (cond b (record (file_at s f) {
-          pages = Rattle.maps.specs.Maps.each_value (to_write y)
+          pages = each_value (to_write y)
               (file_at s f).pages;
         }) (file_at s g)).pages
     pages_now b e = ap (λ (x : File). count_of (λ (x : Page). x.tags.towrite) x.pages)
         (file_now ∙ ap (λ t. cond t (record (file_at s f)
-        { pages = Rattle.maps.specs.Maps.each_value (to_write y) (file_at s f).pages }) (file_at s g)) e)
+        { pages = each_value (to_write y) (file_at s f).pages }) (file_at s g)) e)
 
     turn : (a b : ℕ) (t : Bool) → eqb a b ≡ t → eqb b a ≡ t
     turn a b true e = grind (arith, nat_tests)
@@ -252,7 +257,7 @@ module _ (s : State) (f : ℕ) (valid : (h : ℕ) → is_open s h ≡ true → h
       (sym (ap towrite (get-cut_pages s g z q)) ∙ h)
 
   -- a write, by which event it came
-  write : (e : Event) (h : Rattle.pc_types.specs.declared.ids.HandleId.HandleId) (o : ℕ) (b : List ℕ)
+  write : (e : Event) (h : HandleId) (o : ℕ) (b : List ℕ)
       → IsWrite s e h o b → (n z : ℕ) (new : State) → NoneTagged s new → Few e (reply.Wrote n z) new
   write e h o b is n z new tags = elim is [
     | inl a ↦ subst (λ x. Few x (reply.Wrote n z) new) (sym a)
@@ -261,7 +266,7 @@ module _ (s : State) (f : ℕ) (valid : (h : ℕ) → is_open s h ≡ true → h
         (quiet (event.Append h b) (reply.Wrote n z) new refl tags)
   ]
 
-  verdict : (m : Rattle.pc_types.specs.declared.ids.SyncId.SyncId) (y : Sync) (r : Reply) → IsVerdict s y r
+  verdict : (m : SyncId) (y : Sync) (r : Reply) → IsVerdict s y r
       → Few (event.SyncStep m) r (drop_sync s m.0)
   verdict m y reply.Clean h = quiet (event.SyncStep m) reply.Clean _ refl (same_files s (drop_sync s m.0) refl)
   verdict m y (reply.Failed c) h = quiet (event.SyncStep m) (reply.Failed c) _ refl
@@ -354,7 +359,7 @@ module _ (w : World) (plain : Plain) (k : Coupled w plain) (f : ℕ) where
       omega arith
   move_few new (Finish t r) m = finished (finmap.get w.core.requests t) (finmap.get w.outcomes t) m
     where
-      finished : (q : Option Request) (o : Option Rattle.machine.specs.declared.event.Outcome.Outcome)
+      finished : (q : Option Request) (o : Option Outcome)
           → Ends w t q o r new → 0 + waiting new.core f ≤ waiting w.core f + 0
       finished (Some x) (Some call) h = let end : End =
           record { cache = w.core.name; kind = x.kind; serial = record { 0 = t }; outcome = call } in
@@ -378,7 +383,7 @@ sync_writes_are_few w run first r f =
     let none : waiting w.core f ≡ 0 = ap (λ (s : State). waiting s f) first.core ∙ nothing in
     omega arith
   where
-    none_pass : (es : List (ℕ × Page)) → Rattle.maps.proofs.Count.passing (λ (x : Page). false) es ≡ 0
+    none_pass : (es : List (ℕ × Page)) → passing (λ (x : Page). false) es ≡ 0
     none_pass [] = refl
     none_pass (e ∷ es) = let a = sum_by-cons (λ (x : ℕ × Page). cond {A = ℕ} false 1 0) e es in let b = none_pass es in
         omega arith

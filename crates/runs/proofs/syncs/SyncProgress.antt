@@ -1,4 +1,6 @@
 -- A sync in progress, at each moment of a run: where each page of its range stands that its file had as it began.
+use Rattle.runs.proofs.views.View.{Flight}
+use Rattle.machine.proofs.steps.Answered.{is_quiet}
 use Rattle.std.proofs.Common.{◌≡◌, ◌≢◌, ℕ, zero, suc, ◌+◌, ◌<◌, ◌≤◌, Bool, true, false, not, eqb, eq-eqb, List, length}
 use Rattle.std.proofs.Common.{refl, ap, sym, subst, ◌∙◌, arith, inl, inr}
 use Rattle.std.specs.Prelude.{◌&&◌, ◌||◌, ◌⊎◌, Option, Some, None, is_some, option_map, unwrap_or, nat_lt}
@@ -291,7 +293,7 @@ module _ (w : World) (run : Steps) (first : IsFirst w) (r : Run w run) where
 
     -- its step's reply, by its next page and what it awaits
     pub answers_by : (k : ℕ) (y : Sync) (x : Reply) (new : State) → finmap.get (W k).core.syncs a.number.0 ≡ Some y
-        → Rattle.machine.proofs.steps.Answered.is_quiet x ≡ false → ((n o : ℕ) → x ≡ reply.Wrote n o → ⊥)
+        → is_quiet x ≡ false → ((n o : ℕ) → x ≡ reply.Wrote n o → ⊥)
         → Step (W k).core (event.SyncStep a.number) x new
         → SyncReply (W k).core y (sync_pick (W k).core y) (first_awaited (W k).core y) x
     answers_by k y x new is loud wrote step =
@@ -348,16 +350,16 @@ module _ (w : World) (run : Steps) (first : IsFirst w) (r : Run w run) where
             let same = x.2 in
             let low = ((good_at i f k).requests u.0 u.1.request u.1.is).serial in
             let bounded : nat_lt u.0 (bound_of (W k).core q.sync) ≡ true = below u.0 u.2 low q.sync.bound refl in
-            let kind : is_flush x.0.kind ≡ true = ap (λ (v : Rattle.runs.proofs.views.View.Flight). is_flush v.kind)
+            let kind : is_flush x.0.kind ≡ true = ap (λ (v : Flight). is_flush v.kind)
             (sym same) ∙ ap is_flush u.1.kind in
-            let live : not x.0.dropped ≡ true = ap (λ (v : Rattle.runs.proofs.views.View.Flight). not v.dropped)
+            let live : not x.0.dropped ≡ true = ap (λ (v : Flight). not v.dropped)
             (sym same)
             ∙ ap not u.1.live in
             let file : eqb x.0.file (handle_file (W k).core q.sync.handle) ≡ true =
             eq-eqb x.0.file (handle_file (W k).core q.sync.handle)
-            (ap (λ (v : Rattle.runs.proofs.views.View.Flight). v.file) (sym same) ∙ u.1.file ∙ sym (file_is k q)) in
+            (ap (λ (v : Flight). v.file) (sym same) ∙ u.1.file ∙ sym (file_is k q)) in
             let range : in_range q.sync x.0.page ≡ true =
-            ap (in_range q.sync) (ap (λ (v : Rattle.runs.proofs.views.View.Flight). v.page) (sym same) ∙ u.1.page)
+            ap (in_range q.sync) (ap (λ (v : Flight). v.page) (sym same) ∙ u.1.page)
             ∙ range_is k q p within in
             let awaited_now : is_awaited (W k).core q.sync (u.0, x.0) ≡ true =
             (λ j. kind j && live j && file j && range j && bounded j) in

@@ -1,4 +1,6 @@
 -- Syncs over every run: what Clean and Failed mean, in which order pages are started, and what becomes of DIRTY pages.
+use Rattle.std.proofs.Common.{[]}
+use Rattle.machine.proofs.steps.Cases.{Happened}
 use Rattle.std.proofs.Common.{◌≡◌, ℕ, zero, suc, ◌+◌, ◌-◌, ◌<◌, ◌≤◌, Bool, true, false, not, List, length, refl, ap}
 use Rattle.std.proofs.Common.{sym, subst, ◌∙◌, arith, inl, inr}
 use Rattle.std.specs.Prelude.{◌&&◌, ◌||◌, ◌⊎◌, Option, Some, None, is_some, option_map, unwrap_or}
@@ -220,7 +222,7 @@ job_step : (s new : State) (m : SyncId) (y : Sync) (t : Serial) → finmap.get s
 job_step s new m y t is step =
     go (sync_pick s y) refl (first_awaited s y) (subst (λ o. SyncStepReply s o (reply.Job t)) is h.may)
   where
-    h : Rattle.machine.proofs.steps.Cases.Happened s (event.SyncStep m) (reply.Job t) new
+    h : Happened s (event.SyncStep m) (reply.Job t) new
     h = happened s (event.SyncStep m) (reply.Job t) new step refl (λ n o e. absurd cc)
 
     new_is : new ≡ sync_stepped s m.0 (Some y) (reply.Job t)
@@ -348,7 +350,7 @@ module _ (w : World) (run : Steps) (first : IsFirst w) (r : Run w run) (i f : �
                         dropped = (ap (λ (g : Flight). g.dropped) (sym same) ∙ x.live) j;
                       }));
                   bytes = sym (λ j. finmap.get (world_at w run (one_more k j)).writing x.serial) ∙ noted.1
-                      ∙ ap Some (ap (λ o. unwrap_or o Rattle.std.proofs.Common.[]) (sym noted.1)
+                      ∙ ap Some (ap (λ o. unwrap_or o []) (sym noted.1)
                       ∙ ap (λ (g : Flight). g.bytes) (sym same) ∙ x.bytes
                       ∙ ap (λ z. page_of z (plain_file (plain_at run k) f) p) (size_at w run first r k (omega arith)));
                 })))
