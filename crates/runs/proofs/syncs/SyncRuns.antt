@@ -1,4 +1,10 @@
 -- Syncs over every run: what Clean and Failed mean, in which order pages are started, and what becomes of DIRTY pages.
+use Rattle.machine.specs.Changes.{is_left}
+use Rattle.runs.specs.Syncing.{InRange}
+use Rattle.maps.proofs.Found.{found}
+use Rattle.std.specs.Prelude.{find, nat_le}
+use Rattle.std.proofs.Common.{cond}
+use Rattle.machine.proofs.steps.Choices.{and_true, mapped_some}
 use Rattle.std.proofs.Common.{[]}
 use Rattle.machine.proofs.steps.Cases.{Happened}
 use Rattle.std.proofs.Common.{◌≡◌, ℕ, zero, suc, ◌+◌, ◌-◌, ◌<◌, ◌≤◌, Bool, true, false, not, List, length, refl, ap}
@@ -27,7 +33,7 @@ use Rattle.machine.proofs.steps.Passed.{may_begin}
 use Rattle.machine.proofs.steps.Picks.{past, pick_past, pick_unbound}
 use Rattle.runs.specs.Plain.{plain_file, no_files}
 use Rattle.runs.specs.World.{World, Move, Act, WorldStep}
-use Rattle.runs.specs.Runs.{Steps, IsFirst, Run, world_at, plain_at}
+use Rattle.runs.specs.Runs.{Steps, IsFirst, Run, EveryRun, world_at, core_at, plain_at}
 use Rattle.runs.specs.Syncing.{Begin, Begins, IsSync, its_file, CutOff, WasStarted, requested_page, cuts_off}
 use Rattle.runs.specs.Syncing.{DirtyPagesStay, SyncsAreSynced, SyncsRise, SyncsTell}
 use Rattle.runs.proofs.views.View.{Flight, put1_here, dirty, towrite}
@@ -244,8 +250,31 @@ job_step s new m y t is step =
     go None pick (Some e) given = absurd given
     go None pick None given = absurd given
 
-pub syncs_rise : SyncsRise
-syncs_rise w run first r a j k p q t u cj ck later ep eq =
+one_sync : (o : Option Sync) (a b : Sync) → o ≡ Some a → o ≡ Some b → b ≡ a
+one_sync o a b d e = let k : Some b ≡ Some a = sym e ∙ d in cc
+
+same_some : (a b : ℕ) → ◌≡◌ {A = Option ℕ} (Some a) (Some b) → a ≡ b
+same_some a b e = cc
+
+none_is_some : (o : Option ℕ) → o ≡ None → is_some o ≡ true → ⊥
+none_is_some o a b = let k = ap is_some a in cc
+
+one_more : (m : ℕ) → suc m ≡ m + 1
+one_more m = omega arith
+
+next_of : (i j : ℕ) → i < j → i < suc j
+next_of i j l = omega arith
+
+gap_le : (j k : ℕ) → j < k → k - suc j + suc j ≤ k
+gap_le j k l = omega arith
+
+gap_eq : (j k : ℕ) → j < k → k - suc j + suc j ≡ k
+gap_eq j k l = omega arith
+
+rising : EveryRun (λ w run. (a : Begin) (j k p q : ℕ) (t u : Serial) → IsSync w run a j (reply.Job t)
+    → IsSync w run a k (reply.Job u) → j < k → requested_page (core_at w run (j + 1)) t.0 ≡ Some p
+    → requested_page (core_at w run (k + 1)) u.0 ≡ Some q → p < q)
+rising w run first r a j k p q t u cj ck later ep eq =
     let qj = last_moment w run first r a j (reply.Job t) cj in
     let qk = last_moment w run first r a k (reply.Job u) ck in
     let sj = job_step (world_at w run j).core (world_at w run (suc j)).core a.number qj.sync t qj.is
@@ -269,27 +298,39 @@ syncs_rise w run first r a j k p q t u cj ck later ep eq =
       | inr more ↦ more sk.started (pick_past (world_at w run k).core qk.sync sk.started sk.pick)
     ] in
     subst (λ x. x < q) same_p (subst (λ x. sj.started < x) same_q rises)
-  where
-    one_sync : (o : Option Sync) (a b : Sync) → o ≡ Some a → o ≡ Some b → b ≡ a
-    one_sync o a b d e = let k : Some b ≡ Some a = sym e ∙ d in cc
 
-    same_some : (a b : ℕ) → ◌≡◌ {A = Option ℕ} (Some a) (Some b) → a ≡ b
-    same_some a b e = cc
+-- the page that is started is of the sync's range
+pick_within : (s : State) (y : Sync) (p : ℕ) → sync_pick s y ≡ Some p → in_range y p ≡ true
+pick_within s y p pick =
+    let e = mapped_some (λ (e : ℕ × Page). e.0)
+    (find (is_left y) (finmap.entries (file_at s (handle_file s y.handle)).pages)) p
+    (sym (ap (λ o. cond (is_some o) None
+    (option_map (λ (e : ℕ × Page). e.0)
+    (find (is_left y) (finmap.entries (file_at s (handle_file s y.handle)).pages)))) (pick_unbound s y p pick))
+    ∙ pick) in
+    let a = found (file_at s (handle_file s y.handle)).pages (is_left y) e.0 e.1 in
+    ap (in_range y) (sym e.2) ∙ (and_true e.0.1.tags.towrite (in_range y e.0.0)
+    (and_true (e.0.1.tags.towrite && in_range y e.0.0) _ a.0).0).1
 
-    none_is_some : (o : Option ℕ) → o ≡ None → is_some o ≡ true → ⊥
-    none_is_some o a b = let k = ap is_some a in cc
+in_bounds : (low high p : ℕ) → (nat_le low p && nat_le p high) ≡ true → (low ≤ p) × (p ≤ high)
+in_bounds low high p e = grind (arith, nat_tests)
 
-    one_more : (m : ℕ) → suc m ≡ m + 1
-    one_more m = omega arith
+starting_within : EveryRun (λ w run. (a : Begin) (j p : ℕ) (t : Serial) → IsSync w run a j (reply.Job t)
+    → requested_page (core_at w run (j + 1)) t.0 ≡ Some p → InRange a p)
+starting_within w run first r a j p t c ep =
+    let q = last_moment w run first r a j (reply.Job t) c in
+    let s = job_step (world_at w run j).core (world_at w run (suc j)).core a.number q.sync t q.is
+    (core_j w run first r a j (reply.Job t) c) in
+    let same : s.started ≡ p =
+    same_some _ _ (sym s.page ∙ (λ m. requested_page (world_at w run (one_more j m)).core t.0) ∙ ep) in
+    let inside =
+    in_bounds q.sync.first q.sync.last s.started (pick_within (world_at w run j).core q.sync s.started s.pick) in
+    let low = q.low in
+    let high = q.high in
+    (let l = inside.0 in omega arith, let h = inside.1 in omega arith)
 
-    next_of : (i j : ℕ) → i < j → i < suc j
-    next_of i j l = omega arith
-
-    gap_le : (j k : ℕ) → j < k → k - suc j + suc j ≤ k
-    gap_le j k l = omega arith
-
-    gap_eq : (j k : ℕ) → j < k → k - suc j + suc j ≡ k
-    gap_eq j k l = omega arith
+pub syncs_rise : SyncsRise
+syncs_rise = record { rise = rising; within = starting_within }
 
 -- ---- a page that was DIRTY as the sync began
 
@@ -311,9 +352,6 @@ module _ (w : World) (run : Steps) (first : IsFirst w) (r : Run w run) (i f : �
         is = s.is;
         bytes = s.bytes;
       }
-
-  one_more : (m : ℕ) → suc m ≡ m + 1
-  one_more m = omega arith
 
   not_in_flight : (o : Option Request) → is_some o ≡ false → o ≡ None
   not_in_flight None e = refl
