@@ -4,7 +4,7 @@ use Rattle.std.proofs.Common.{arith}
 use Rattle.std.proofs.Common.{false}
 use Rattle.pc_types.specs.Files.{cut}
 use Rattle.runs.proofs.views.View.{held_by}
-use Rattle.std.proofs.Common.{◌≡◌, ℕ, ◌<◌, Bool, true, length, refl, ap, sym, subst, ◌∙◌, cond}
+use Rattle.std.proofs.Common.{◌≡◌, ℕ, ◌<◌, Bool, true, length, refl, ap, sym, ◌∙◌, cond}
 use Rattle.std.specs.Prelude.{Option, Some, None, is_some, option_map, unwrap_or}
 use Rattle.std.specs.FinMap as finmap
 use Rattle.std.proofs.Math.ListN.{length-set}

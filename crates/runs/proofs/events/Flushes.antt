@@ -1,6 +1,6 @@
 -- A write of a page is started, and a sync begins.
 use Rattle.std.proofs.Common.{[]}
-use Rattle.std.proofs.Common.{◌≡◌, ◌≢◌, ℕ, ◌+◌, ◌*◌, ◌<◌, Bool, true, false, cond, not, eqb, eqb-true, eq-eqb, List}
+use Rattle.std.proofs.Common.{◌≡◌, ◌≢◌, ℕ, ◌+◌, ◌<◌, Bool, true, false, cond, eqb, eqb-true, eq-eqb, List}
 use Rattle.std.proofs.Common.{length, get_or, refl, ap, sym, subst, ◌∙◌, inl, inr}
 use Rattle.std.specs.Prelude.{◌&&◌, ◌||◌, ◌⊎◌, Option, Some, None, is_some, option_map, unwrap_or}
 use Rattle.std.specs.Ordering.{nat_cmp}

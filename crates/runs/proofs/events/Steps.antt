@@ -10,9 +10,9 @@ use Rattle.machine.specs.Changes.{drop_sync}
 use Rattle.machine.proofs.steps.Cases.{IsVerdict}
 use Rattle.pc_types.specs.declared.ids.SyncId.{SyncId}
 use Rattle.pc_types.specs.declared.refusal.Refusal.TheVariants.{Stranger}
-use Rattle.std.proofs.Common.{◌≡◌, ℕ, ◌+◌, ◌<◌, Bool, true, false, List, [], length, refl, ap, sym, subst, ◌∙◌, inl}
+use Rattle.std.proofs.Common.{◌≡◌, ℕ, ◌+◌, Bool, true, false, List, [], length, refl, ap, sym, subst, ◌∙◌, inl}
 use Rattle.std.proofs.Common.{inr}
-use Rattle.std.specs.Prelude.{◌⊎◌, Option, Some, None, unwrap_or}
+use Rattle.std.specs.Prelude.{Option, Some, None, unwrap_or}
 use Rattle.std.specs.FinMap as finmap
 use Rattle.std.proofs.lemmas.List.{set-get_or}
 use Rattle.pc_types.specs.Files.{pwrite, cut}

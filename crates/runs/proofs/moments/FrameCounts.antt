@@ -1,24 +1,17 @@
 -- How many pages are cached and how many are filling, after a change of one file or of the requests.
-use Rattle.std.proofs.Common.{◌≡◌, ◌≢◌, ℕ, ◌++◌, ◌+◌, ◌-◌, ◌<◌, ◌≤◌, Bool, true, false, cond, eqb, List, [], ◌∷◌}
-use Rattle.std.proofs.Common.{length, refl, ap, sym, ◌∙◌, arith, inl, inr, map, Some, None, Option}
-use Rattle.std.specs.Prelude.{◌&&◌, not, is_some, option_map, count_by, sum_by, slice_set, nat_le}
-use Rattle.std.specs.declared.cmp.Ordering.{Ordering}
-use Rattle.std.specs.declared.cmp.Ordering.TheVariants.{Less, Equal, Greater}
+use Rattle.std.proofs.Common.{◌≡◌, ℕ, ◌++◌, ◌+◌, ◌<◌, ◌≤◌, Bool, true, false, cond, eqb, List, [], ◌∷◌}
+use Rattle.std.proofs.Common.{length, refl, ap, sym, ◌∙◌, arith, map, Some, None, Option}
+use Rattle.std.specs.Prelude.{◌&&◌, not, option_map, count_by, sum_by, slice_set, nat_le}
 use Rattle.std.specs.Ordering.{nat_cmp}
-use Rattle.std.specs.Cmp.{nat_cmp_total}
 use Rattle.std.specs.FinMap as finmap
-use Rattle.std.specs.FinMap.{FinMap, put, entries-insert, len-entries, len-insert, len-remove, len-empty}
-use Rattle.std.specs.FinMap.Entries.{by_order}
+use Rattle.std.specs.FinMap.{FinMap, len-empty}
 use Rattle.std.proofs.lemmas.List.Sums.{sum_by-cons, sum_by-set, sum_by-append}
 use Rattle.pc_types.specs.Kinds.{is_fill}
 use Rattle.machine.specs.State.{State, File, Page, Request, file_at, no_file, cached_total, filling_total}
 use Rattle.machine.specs.Changes.{cut_request}
-use Rattle.maps.specs.Maps.{each_value, change_at, put_some}
+use Rattle.maps.specs.Maps.{each_value}
 use Rattle.maps.proofs.Maps.{get-each_value}
-use Rattle.maps.proofs.Count.{count_of, count_le, count_lt, passing}
-use Rattle.maps.proofs.Lengths.{count_empty}
-use Rattle.runs.proofs.events.Lookups.{get-remove1}
-use Rattle.runs.proofs.views.View.{put1_tells}
+use Rattle.maps.proofs.Count.{count_of, count_le, passing}
 
 -- ---- pages that are filling
 

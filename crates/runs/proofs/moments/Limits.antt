@@ -14,14 +14,14 @@ use Rattle.machine.specs.Changes.{put_pages}
 use Rattle.machine.specs.State.{free_frames}
 use Rattle.machine.specs.Changes.{sync_begun}
 use Rattle.machine.specs.Changes.{flush_failed}
-use Rattle.std.proofs.Common.{◌≡◌, ◌≢◌, ℕ, ◌+◌, ◌-◌, ◌/◌, ◌<◌, ◌≤◌, ◌++◌, Bool, true, false, cond, not, eqb, eq-eqb, []}
+use Rattle.std.proofs.Common.{◌≡◌, ℕ, ◌+◌, ◌-◌, ◌/◌, ◌<◌, ◌≤◌, ◌++◌, Bool, true, false, cond, not, eqb, eq-eqb, []}
 use Rattle.std.proofs.Common.{◌∷◌, length, get_or, refl, ap, sym, subst, ◌∙◌, arith, inl, inr}
-use Rattle.std.specs.Prelude.{◌&&◌, ◌||◌, ◌⊎◌, Option, Some, None, is_some, option_map, max, nat_le, slice_set, sum_by}
+use Rattle.std.specs.Prelude.{◌&&◌, Option, Some, None, is_some, option_map, max, nat_le, slice_set, sum_by}
 use Rattle.std.specs.List.{list_any}
 use Rattle.std.specs.Ordering.{nat_cmp}
 use Rattle.std.specs.Cmp.{nat_cmp_total}
 use Rattle.std.specs.FinMap as finmap
-use Rattle.std.specs.FinMap.{len-empty, len-insert, len-remove}
+use Rattle.std.specs.FinMap.{len-empty, len-remove}
 use Rattle.std.proofs.Math.ListN.{length-set}
 use Rattle.std.proofs.lemmas.List.{length-append}
 use Rattle.pc_types.specs.Kinds.{is_fill}
@@ -33,7 +33,6 @@ use Rattle.machine.specs.State.{has_block, no_file, cached_total, filling_total}
 use Rattle.machine.specs.Tests.{is_full}
 use Rattle.machine.specs.Changes.{boundary, cut_page, cut_request, to_write, new_sync, under_write, after_write}
 use Rattle.machine.specs.Changes.{started, shrunk, put_sync, ended}
-use Rattle.maps.specs.Maps.{each_value}
 use Rattle.machine.proofs.steps.Cases.{Cases}
 use Rattle.machine.proofs.changes.ChangeLaws.{cut_pages, get-cut_pages}
 use Rattle.machine.proofs.steps.Choices.{neither, below}

@@ -1,7 +1,6 @@
 -- A run that is written out, with a sync of a range that ends Clean: so the theorems on syncs speak of something.
-use Rattle.std.proofs.Common.{◌≡◌, ℕ, zero, suc, ◌<◌, List, [], ◌∷◌, length, get_or, refl, ap, sym, ◌∙◌, arith}
+use Rattle.std.proofs.Common.{◌≡◌, ℕ, zero, suc, ◌<◌, List, [], ◌∷◌, length, get_or, refl, ap, ◌∙◌, arith}
 use Rattle.std.specs.Prelude.{Some, None, replicate, is_some}
-use Rattle.std.specs.Ordering.{nat_cmp}
 use Rattle.std.specs.FinMap as finmap
 use Rattle.std.specs.FinMap.{get-empty, len-empty}
 use Rattle.pc_types.specs.declared.ids.FileId.{FileId}
@@ -11,9 +10,9 @@ use Rattle.maps.proofs.Maps.{get-insert_nat}
 use Rattle.maps.proofs.MapLaws.{no_entries}
 use Rattle.machine.specs.declared.event.Event.TheVariants as event
 use Rattle.machine.specs.declared.event.Reply.TheVariants as reply
-use Rattle.machine.specs.State.{State, Page, Request, Sync, no_file}
+use Rattle.machine.specs.State.{State, Sync, no_file}
 use Rattle.machine.specs.Step.{Step}
-use Rattle.machine.specs.Changes.{sync_begun, new_sync, drop_sync}
+use Rattle.machine.specs.Changes.{sync_begun, drop_sync}
 use Rattle.machine.specs.History as history
 use Rattle.runs.specs.World.{World, Act}
 use Rattle.runs.specs.Runs.{Steps, IsFirst, Run, world_at}

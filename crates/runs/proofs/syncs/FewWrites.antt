@@ -22,7 +22,7 @@ use Rattle.machine.specs.State.{page_count, has_block, in_range}
 use Rattle.machine.specs.Changes.{under_write, after_write, started, put_file, put_page, put_pages, to_write}
 use Rattle.maps.specs.Maps.{change_at}
 use Rattle.machine.specs.Changes.{sync_begun, new_sync, written_page, written, cut_page, boundary, shrunk, ended}
-use Rattle.machine.specs.Changes.{flushed, flush_failed, drop_sync, is_left}
+use Rattle.machine.specs.Changes.{flushed, flush_failed, drop_sync}
 use Rattle.machine.specs.Step.{Step}
 use Rattle.machine.proofs.steps.Answered.{is_quiet, IsWrite}
 use Rattle.machine.proofs.steps.Cases.{Cases, by_cases, IsVerdict}

@@ -24,7 +24,7 @@ use Rattle.runs.specs.Plain.{Plain, plain_file, no_files}
 use Rattle.runs.specs.World.{World, Move, WorldStep}
 use Rattle.runs.specs.Runs.{Steps, IsFirst, Run, world_at, plain_at}
 use Rattle.runs.specs.Syncing.{cuts_off, CutOff, IsOnDevice, Begin, InRange, its_file}
-use Rattle.runs.proofs.views.View.{View, Good, Evolves, put1_here, dirty, writeback, towrite, held}
+use Rattle.runs.proofs.views.View.{View, Good, Evolves, put1_here, dirty, writeback, towrite}
 use Rattle.runs.proofs.events.Coupled.{view, held_is}
 use Rattle.runs.proofs.events.Lookups.{get-insert1}
 use Rattle.runs.proofs.views.Fresh.{IsFresh, IsUnder, fresh_next, under_next, waiting_next}
