@@ -12,4 +12,5 @@ pub mod FilesHeld
 pub mod FilesSeen
 pub mod ReadsRight
 pub mod Reached
+pub mod KeptRequests
 pub mod Worked
