@@ -1,170 +1,151 @@
-//! An array's calls, each in the two forms that are timed: as the compiler inlines it, and behind a call that it may not.
+//! The calls of an array that are timed. A mark is the first one, and a retag gives the second one to the whole array.
 
-use pc_types::Refusal;
-use std::alloc::Global;
-use xarray::{Found, Mark, XArray};
+use crate::form::Call;
+use crate::loops::RANGE_ORDER;
+use xarray::{Mark, XArray};
 
-/// The calls of an array that are timed, all with the first mark. A retag gives the second one to the whole array.
-pub trait Calls {
-    fn new(alloc: Global) -> Self;
+/// Stores the value that follows the index.
+pub struct Store;
 
-    fn store(&mut self, index: u64, value: u64) -> Result<Option<u64>, Refusal>;
-
-    fn insert_order(&mut self, index: u64, order: u32, value: u64) -> Result<(), Refusal>;
-
-    fn split(&mut self, index: u64, order: u32) -> Result<(), Refusal>;
-
-    fn erase(&mut self, index: u64) -> Option<u64>;
-
-    fn load(&self, index: u64) -> Option<u64>;
-
-    fn set_mark(&mut self, index: u64) -> bool;
-
-    fn clear_mark(&mut self, index: u64);
-
-    fn get_mark(&self, index: u64) -> bool;
-
-    fn find(&self, from: u64) -> Option<Found>;
-
-    fn find_marked(&self, from: u64) -> Option<Found>;
-
-    fn retag(&mut self) -> u64;
-}
-
-/// Calls that the compiler may inline into the loop.
-#[derive(Drop)]
-pub struct Direct {
-    array: XArray,
-}
-
-impl Calls for Direct {
-    fn new(alloc: Global) -> Direct {
-        Direct {
-            array: XArray::new(alloc),
-        }
-    }
+impl Call for Store {
+    type On = XArray;
 
     #[inline(always)]
-    fn store(&mut self, index: u64, value: u64) -> Result<Option<u64>, Refusal> {
-        self.array.store(index, value)
-    }
-
-    #[inline(always)]
-    fn insert_order(&mut self, index: u64, order: u32, value: u64) -> Result<(), Refusal> {
-        self.array.insert_order(index, order, value)
-    }
-
-    #[inline(always)]
-    fn split(&mut self, index: u64, order: u32) -> Result<(), Refusal> {
-        self.array.split(index, order)
-    }
-
-    #[inline(always)]
-    fn erase(&mut self, index: u64) -> Option<u64> {
-        self.array.erase(index)
-    }
-
-    #[inline(always)]
-    fn load(&self, index: u64) -> Option<u64> {
-        self.array.load(index)
-    }
-
-    #[inline(always)]
-    fn set_mark(&mut self, index: u64) -> bool {
-        self.array.set_mark(index, Mark::M0).is_ok()
-    }
-
-    #[inline(always)]
-    fn clear_mark(&mut self, index: u64) {
-        self.array.clear_mark(index, Mark::M0);
-    }
-
-    #[inline(always)]
-    fn get_mark(&self, index: u64) -> bool {
-        self.array.get_mark(index, Mark::M0)
-    }
-
-    #[inline(always)]
-    fn find(&self, from: u64) -> Option<Found> {
-        self.array.find(from, u64::MAX)
-    }
-
-    #[inline(always)]
-    fn find_marked(&self, from: u64) -> Option<Found> {
-        self.array.find_marked(from, u64::MAX, Mark::M0)
-    }
-
-    #[inline(always)]
-    fn retag(&mut self) -> u64 {
-        self.array.retag(0, u64::MAX, Mark::M0, Mark::M1)
+    fn make(array: &mut XArray, index: u64) -> Option<u64> {
+        let before = array.store(index, index.wrapping_add(1)).ok()?;
+        Some(before.unwrap_or(1))
     }
 }
 
-/// Calls that stay calls.
-#[derive(Drop)]
-pub struct Behind {
-    array: XArray,
+/// Stores another value.
+pub struct StoreOver;
+
+impl Call for StoreOver {
+    type On = XArray;
+
+    #[inline(always)]
+    fn make(array: &mut XArray, index: u64) -> Option<u64> {
+        let before = array.store(index, 7).ok()?;
+        Some(before.unwrap_or(1))
+    }
 }
 
-impl Calls for Behind {
-    fn new(alloc: Global) -> Behind {
-        Behind {
-            array: XArray::new(alloc),
-        }
-    }
+pub struct Load;
 
-    #[inline(never)]
-    fn store(&mut self, index: u64, value: u64) -> Result<Option<u64>, Refusal> {
-        self.array.store(index, value)
-    }
+impl Call for Load {
+    type On = XArray;
 
-    #[inline(never)]
-    fn insert_order(&mut self, index: u64, order: u32, value: u64) -> Result<(), Refusal> {
-        self.array.insert_order(index, order, value)
+    #[inline(always)]
+    fn make(array: &mut XArray, index: u64) -> Option<u64> {
+        array.load(index)
     }
+}
 
-    #[inline(never)]
-    fn split(&mut self, index: u64, order: u32) -> Result<(), Refusal> {
-        self.array.split(index, order)
+/// Finds the next entry from the root.
+pub struct Find;
+
+impl Call for Find {
+    type On = XArray;
+
+    #[inline(always)]
+    fn make(array: &mut XArray, index: u64) -> Option<u64> {
+        Some(array.find(index, u64::MAX)?.value)
     }
+}
 
-    #[inline(never)]
-    fn erase(&mut self, index: u64) -> Option<u64> {
-        self.array.erase(index)
+/// Finds the next entry with the mark from the root.
+pub struct FindMarked;
+
+impl Call for FindMarked {
+    type On = XArray;
+
+    #[inline(always)]
+    fn make(array: &mut XArray, index: u64) -> Option<u64> {
+        Some(array.find_marked(index, u64::MAX, Mark::M0)?.value)
     }
+}
 
-    #[inline(never)]
-    fn load(&self, index: u64) -> Option<u64> {
-        self.array.load(index)
+pub struct SetMark;
+
+impl Call for SetMark {
+    type On = XArray;
+
+    #[inline(always)]
+    fn make(array: &mut XArray, index: u64) -> Option<u64> {
+        Some(u64::from(array.set_mark(index, Mark::M0).is_ok()))
     }
+}
 
-    #[inline(never)]
-    fn set_mark(&mut self, index: u64) -> bool {
-        self.array.set_mark(index, Mark::M0).is_ok()
+pub struct ClearMark;
+
+impl Call for ClearMark {
+    type On = XArray;
+
+    #[inline(always)]
+    fn make(array: &mut XArray, index: u64) -> Option<u64> {
+        array.clear_mark(index, Mark::M0);
+        Some(0)
     }
+}
 
-    #[inline(never)]
-    fn clear_mark(&mut self, index: u64) {
-        self.array.clear_mark(index, Mark::M0);
+pub struct GetMark;
+
+impl Call for GetMark {
+    type On = XArray;
+
+    #[inline(always)]
+    fn make(array: &mut XArray, index: u64) -> Option<u64> {
+        Some(u64::from(array.get_mark(index, Mark::M0)))
     }
+}
 
-    #[inline(never)]
-    fn get_mark(&self, index: u64) -> bool {
-        self.array.get_mark(index, Mark::M0)
+pub struct Erase;
+
+impl Call for Erase {
+    type On = XArray;
+
+    #[inline(always)]
+    fn make(array: &mut XArray, index: u64) -> Option<u64> {
+        array.erase(index)
     }
+}
 
-    #[inline(never)]
-    fn find(&self, from: u64) -> Option<Found> {
-        self.array.find(from, u64::MAX)
+/// Inserts the range of this number.
+pub struct InsertRange;
+
+impl Call for InsertRange {
+    type On = XArray;
+
+    #[inline(always)]
+    fn make(array: &mut XArray, range: u64) -> Option<u64> {
+        array
+            .insert_order(range << RANGE_ORDER, RANGE_ORDER, range)
+            .ok()?;
+        Some(1)
     }
+}
 
-    #[inline(never)]
-    fn find_marked(&self, from: u64) -> Option<Found> {
-        self.array.find_marked(from, u64::MAX, Mark::M0)
+/// Splits the range of this number into entries of one index.
+pub struct SplitRange;
+
+impl Call for SplitRange {
+    type On = XArray;
+
+    #[inline(always)]
+    fn make(array: &mut XArray, range: u64) -> Option<u64> {
+        array.split(range << RANGE_ORDER, 0).ok()?;
+        Some(1)
     }
+}
 
-    #[inline(never)]
-    fn retag(&mut self) -> u64 {
-        self.array.retag(0, u64::MAX, Mark::M0, Mark::M1)
+/// Gives the second mark to each entry that has the first.
+pub struct Retag;
+
+impl Call for Retag {
+    type On = XArray;
+
+    #[inline(always)]
+    fn make(array: &mut XArray, _index: u64) -> Option<u64> {
+        Some(array.retag(0, u64::MAX, Mark::M0, Mark::M1))
     }
 }

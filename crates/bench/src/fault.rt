@@ -4,7 +4,7 @@ use pc_types::Refusal;
 use std::alloc::AllocError;
 use std::io;
 
-#[derive(Clone, Copy, PartialEq, Eq, Debug, thiserror::Error)]
+#[derive(Clone, Copy, Debug, thiserror::Error)]
 pub enum Fault {
     #[error("the clock or the output failed")]
     System,

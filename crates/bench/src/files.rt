@@ -157,7 +157,7 @@ impl Cached {
     }
 }
 
-#[derive(Clone, Copy, PartialEq, Eq, Debug)]
+#[derive(Clone, Copy)]
 pub enum FileRow {
     ReadSmall,
     CopySmall,
@@ -227,7 +227,7 @@ impl FileRow {
 
     /// Makes the file what the row starts from.
     pub fn prepare(self, cached: &mut Cached) -> Result<(), Refusal> {
-        if self == FileRow::Sync {
+        if let FileRow::Sync = self {
             cached.sync()?;
             for page in 0..SYNCED {
                 cached.write(page * PAGE, &[FILL; SMALL as usize])?;

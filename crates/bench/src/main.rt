@@ -2,13 +2,15 @@
 //! Times the calls of the marked array, of the identifiers, of the error word and of the files: `bench time` prints a row a call, as
 //! `12.34 ns  load, random`.
 //!
-//! `row` has the rows, `loops` what the clock runs over, `calls` an array's calls in the two forms that are timed, `order` the
-//! random order, `clock` the best time of several rounds, and `report` what is printed.
+//! `form` has the two forms in which a call is timed, and what a call and a row are. `row` has the rows of the array, `calls` its
+//! calls, `ids`, `words` and `files` the rows and calls of their own, `loops` what the clock runs over, `order` the random order,
+//! `clock` the best time of several rounds, and `report` what is printed.
 
 mod calls;
 mod clock;
 mod fault;
 mod files;
+mod form;
 mod ids;
 mod loops;
 mod order;

@@ -2,25 +2,23 @@
 
 ghost use Rattle.std.specs.Prelude.{◌≡◌, ◌*◌, ◌/◌, ◌^◌, ◌<◌};
 
-use crate::calls::{self, Calls};
-use crate::clock::{Timed, time_file_row, time_id_row, time_row, time_word_row};
+use crate::clock::{Best, time_file_row, time_row};
 use crate::fault::Fault;
 use crate::files::{Cached, FileRow};
-use crate::ids::{self, IdRow, Identifies};
+use crate::form::{Form, Inlined, Outlined, Timed};
+use crate::ids::IdRow;
 use crate::order::random_order;
 use crate::row::Row;
-use crate::words::{self, LOOKS, Looks, WordRow};
+use crate::words::WordRow;
 
 /// What a label ends with where each call goes through a function that is not inlined.
-const BEHIND: &str = ", not inlined";
+const OUTLINED: &str = ", not inlined";
 
 pub fn print_rows(rt: &HostRuntime) -> Result<(), Fault> {
     let order = random_order(rt.alloc())?;
     let order = order.as_slice();
-    let mut sum = print_half::<calls::Direct, ids::Direct, words::Direct>(rt, order, "")?;
-    sum = sum.wrapping_add(print_half::<calls::Behind, ids::Behind, words::Behind>(
-        rt, order, BEHIND,
-    )?);
+    let mut sum = print_form::<Inlined>(rt, order, "")?;
+    sum = sum.wrapping_add(print_form::<Outlined>(rt, order, OUTLINED)?);
     sum = sum.wrapping_add(print_files(rt, order)?);
     // The sum of all answers: what was timed has to be computed.
     eprintln!(rt; "bench: sum of the answers {sum}")?;
@@ -28,25 +26,25 @@ pub fn print_rows(rt: &HostRuntime) -> Result<(), Fault> {
 }
 
 /// Prints each row in one of the two forms, and gives the sum of their answers.
-fn print_half<A: Calls + Drop, I: Identifies + Drop, L: Looks>(
+fn print_form<F: Form>(rt: &HostRuntime, order: &[u64], ending: &str) -> Result<u64, Fault> {
+    let mut sum = print_each::<F, Row>(rt, &Row::ALL, order, ending)?;
+    sum = sum.wrapping_add(print_each::<F, IdRow>(rt, &IdRow::ALL, order, ending)?);
+    sum = sum.wrapping_add(print_each::<F, WordRow>(rt, &WordRow::ALL, order, ending)?);
+    Ok(sum)
+}
+
+/// Prints rows of one kind, and gives the sum of their answers.
+fn print_each<F: Form, R: Timed>(
     rt: &HostRuntime,
+    rows: &[R],
     order: &[u64],
     ending: &str,
 ) -> Result<u64, Fault> {
     let mut sum = 0u64;
-    for row in Row::ALL {
-        let timed = time_row::<A>(rt, rt.alloc(), row, order)?;
+    for row in rows {
+        let row = *row;
+        let timed = time_row::<F, R>(rt, rt.alloc(), row, order)?;
         print_row(rt, timed, row.count(), row.label(), ending)?;
-        sum = sum.wrapping_add(timed.sum);
-    }
-    for row in IdRow::ALL {
-        let timed = time_id_row::<I>(rt, rt.alloc(), row, order)?;
-        print_row(rt, timed, row.count(), row.label(), ending)?;
-        sum = sum.wrapping_add(timed.sum);
-    }
-    for row in WordRow::ALL {
-        let timed = time_word_row::<L>(rt, rt.alloc(), row)?;
-        print_row(rt, timed, LOOKS, row.label(), ending)?;
         sum = sum.wrapping_add(timed.sum);
     }
     Ok(sum)
@@ -72,14 +70,14 @@ fn print_file_rows(rt: &HostRuntime, cached: &mut Cached, order: &[u64]) -> Resu
 /// Prints `12.34 ns  LABEL`.
 fn print_row(
     rt: &HostRuntime,
-    timed: Timed,
+    timed: Best,
     count: u64,
     label: &str,
     ending: &str,
 ) -> Result<(), Fault>
     requires { 0 < count }
 {
-    let hundredths = hundredths_each(timed.best, count);
+    let hundredths = hundredths_each(timed.nanos, count);
     let (whole, part) = (hundredths / 100, hundredths % 100);
     println!(rt; "{whole}.{part:02} ns  {label}{ending}")?;
     Ok(())

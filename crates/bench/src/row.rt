@@ -1,13 +1,16 @@
 //! The rows of the array: what each is called, what its array holds as the clock starts, and what the clock runs over.
 
-ghost use Rattle.std.specs.Prelude.{◌<◌};
-
-use crate::calls::Calls;
-use crate::loops;
+use crate::calls::{
+    ClearMark, Erase, Find, FindMarked, GetMark, InsertRange, Load, Retag, SetMark, SplitRange,
+    Store, StoreOver,
+};
+use crate::form::{Form, Inlined, Timed};
+use crate::loops::{PARTED, RANGES, SPARSE, each, each_from, each_of};
 use crate::order::ENTRIES;
-use pc_types::Refusal;
+use std::alloc::Global;
+use xarray::{Mark, XArray};
 
-#[derive(Clone, Copy, PartialEq, Eq, Debug)]
+#[derive(Clone, Copy)]
 pub enum Row {
     StoreNew,
     StoreOver,
@@ -27,7 +30,7 @@ pub enum Row {
 }
 
 /// What the array of a row holds as the clock starts.
-#[derive(Clone, Copy, PartialEq, Eq, Debug)]
+#[derive(Clone, Copy)]
 enum Content {
     Nothing,
     /// An entry at each index below `ENTRIES`.
@@ -59,7 +62,21 @@ impl Row {
         Row::Split,
     ];
 
-    pub fn label(self) -> &'static str {
+    fn content(self) -> Content {
+        match self {
+            Row::StoreNew | Row::InsertOrder => Content::Nothing,
+            Row::SetMarkAgain | Row::ClearMark | Row::GetMark => Content::Marked,
+            Row::FindMarked | Row::Retag => Content::Sparse,
+            Row::Split => Content::Ranges,
+            _ => Content::Dense,
+        }
+    }
+}
+
+impl Timed for Row {
+    type On = XArray;
+
+    fn label(self) -> &'static str {
         match self {
             Row::StoreNew => "store, sequential, new entries",
             Row::StoreOver => "store over an entry, random",
@@ -79,70 +96,60 @@ impl Row {
         }
     }
 
-    /// By how many a time is divided: the calls, or the entries found.
-    pub fn count(self) -> u64
-        ensures { 0 < result }
-    {
+    fn count(self) -> u64 {
         match self {
-            Row::FindMarked | Row::Retag => ENTRIES / loops::SPARSE,
-            Row::InsertOrder => loops::RANGES,
-            Row::Split => loops::PARTED,
+            Row::FindMarked | Row::Retag => ENTRIES / SPARSE,
+            Row::InsertOrder => RANGES,
+            Row::Split => PARTED,
             _ => ENTRIES,
         }
     }
 
-    fn content(self) -> Content {
-        match self {
-            Row::StoreNew | Row::InsertOrder => Content::Nothing,
-            Row::SetMarkAgain | Row::ClearMark | Row::GetMark => Content::Marked,
-            Row::FindMarked | Row::Retag => Content::Sparse,
-            Row::Split => Content::Ranges,
-            _ => Content::Dense,
-        }
-    }
-
-    /// Makes an empty array what the row starts from.
-    pub fn prepare<A: Calls>(self, array: &mut A) -> Result<(), Refusal> {
-        let content = self.content();
-        match content {
-            Content::Nothing => return Ok(()),
+    fn start(self, alloc: Global, _order: &[u64]) -> Option<XArray> {
+        let mut array = XArray::new(alloc);
+        match self.content() {
+            Content::Nothing => {}
             Content::Ranges => {
-                loops::insert_ranges(array, loops::PARTED)?;
-                return Ok(());
+                each::<Inlined, InsertRange>(&mut array, PARTED)?;
             }
-            _ => {
-                loops::store_all(array)?;
+            Content::Dense => {
+                each::<Inlined, Store>(&mut array, ENTRIES)?;
             }
-        }
-        match content {
             Content::Marked => {
-                loops::mark_all(array);
+                each::<Inlined, Store>(&mut array, ENTRIES)?;
+                each::<Inlined, SetMark>(&mut array, ENTRIES)?;
             }
             Content::Sparse => {
-                loops::mark_some(array);
+                each::<Inlined, Store>(&mut array, ENTRIES)?;
+                mark_some(&mut array);
             }
-            _ => {}
         }
-        Ok(())
+        Some(array)
     }
 
-    /// Runs what is timed, and gives the sum of its answers.
-    pub fn run<A: Calls>(self, array: &mut A, order: &[u64]) -> Result<u64, Refusal> {
-        Ok(match self {
-            Row::StoreNew => loops::store_all(array)?,
-            Row::StoreOver => loops::store_in_order(array, order)?,
-            Row::LoadSequential => loops::load_all(array),
-            Row::LoadRandom => loops::load_in_order(array, order),
-            Row::FindNext => loops::find_all(array),
-            Row::SetMarkFirst | Row::SetMarkAgain => loops::mark_all(array),
-            Row::FindMarked => loops::find_all_marked(array),
-            Row::Retag => array.retag(),
-            Row::ClearMark => loops::clear_all(array),
-            Row::GetMark => loops::get_marks_in_order(array, order),
-            Row::EraseRandom => loops::erase_in_order(array, order),
-            Row::EraseSequential => loops::erase_all(array),
-            Row::InsertOrder => loops::insert_ranges(array, loops::RANGES)?,
-            Row::Split => loops::split_ranges(array)?,
-        })
+    fn run<F: Form>(self, array: &mut XArray, order: &[u64]) -> Option<u64> {
+        match self {
+            Row::StoreNew => each::<F, Store>(array, ENTRIES),
+            Row::StoreOver => each_of::<F, StoreOver>(array, order),
+            Row::LoadSequential => each::<F, Load>(array, ENTRIES),
+            Row::LoadRandom => each_of::<F, Load>(array, order),
+            Row::FindNext => each_from::<F, Find>(array),
+            Row::SetMarkFirst | Row::SetMarkAgain => each::<F, SetMark>(array, ENTRIES),
+            Row::FindMarked => each_from::<F, FindMarked>(array),
+            Row::Retag => F::call::<Retag>(array, 0),
+            Row::ClearMark => each::<F, ClearMark>(array, ENTRIES),
+            Row::GetMark => each_of::<F, GetMark>(array, order),
+            Row::EraseRandom => each_of::<F, Erase>(array, order),
+            Row::EraseSequential => each::<F, Erase>(array, ENTRIES),
+            Row::InsertOrder => each::<F, InsertRange>(array, RANGES),
+            Row::Split => each::<F, SplitRange>(array, PARTED),
+        }
+    }
+}
+
+/// Marks one index of `SPARSE`.
+fn mark_some(array: &mut XArray) {
+    for index in 0..ENTRIES / SPARSE {
+        let _ = array.set_mark(index * SPARSE, Mark::M0);
     }
 }

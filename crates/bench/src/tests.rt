@@ -1,21 +1,34 @@
 //! What the rows compute: a row that skips its work would be fast.
 
-use crate::calls::{Behind, Calls, Direct};
 use crate::files::{CALLS, Cached, FILL, FileRow, PAGE, SMALL, SYNCED};
-use crate::ids::{self, HOLES, IdRow, Identifies};
+use crate::form::{Form, Inlined, Outlined, Timed};
+use crate::ids::{HOLES, IdRow};
 use crate::order::{ENTRIES, random_order};
 use crate::report::hundredths_each;
 use crate::row::Row;
-use crate::words::{self, LOOKS, WordRow, fresh_ring};
+use crate::words::{LOOKS, WordRow};
 use std::alloc::Global;
 use std::process::Abort;
 use std::test::Fail;
 
 /// The sum of a row's answers.
-fn sum_of<A: Calls + Drop>(alloc: Global, row: Row, order: &[u64]) -> Result<u64, Fail> {
-    let mut array = A::new(alloc);
-    row.prepare(&mut array)?;
-    Ok(row.run(&mut array, order)?)
+fn sum_of<F: Form, R: Timed>(alloc: Global, row: R, order: &[u64]) -> Option<u64> {
+    let mut on = row.start(alloc, order)?;
+    row.run::<F>(&mut on, order)
+}
+
+fn check_row<R: Timed>(rt: &impl Abort, alloc: Global, row: R, order: &[u64], expected: u64) {
+    let label = row.label();
+    assert_eq!(rt;
+        sum_of::<Inlined, R>(alloc, row, order),
+        Some(expected),
+        "{label}"
+    );
+    assert_eq!(rt;
+        sum_of::<Outlined, R>(alloc, row, order),
+        Some(expected),
+        "{label}"
+    );
 }
 
 /// Entry i has the value i + 1, and each hundredth is marked where 1% is.
@@ -38,26 +51,9 @@ fn rows_do_their_work(rt: HostRuntime) -> Result<(), Fail> {
             Row::InsertOrder => 100_000,
             Row::Split => 2_000,
         };
-        let label = row.label();
-        assert_eq!(rt;
-            sum_of::<Direct>(rt.alloc(), row, order.as_slice())?,
-            expected,
-            "{label}"
-        );
-        assert_eq!(rt;
-            sum_of::<Behind>(rt.alloc(), row, order.as_slice())?,
-            expected,
-            "{label}"
-        );
+        check_row(&rt, rt.alloc(), row, order.as_slice(), expected);
     }
     Ok(())
-}
-
-/// The sum of a row's answers.
-fn id_sum_of<I: Identifies + Drop>(alloc: Global, row: IdRow, order: &[u64]) -> Result<u64, Fail> {
-    let mut ids = I::new(alloc);
-    row.prepare(&mut ids, order)?;
-    Ok(row.run(&mut ids, order)?)
 }
 
 /// Each identifier below `ENTRIES` is given once, and each hole again.
@@ -75,33 +71,16 @@ fn id_rows_do_their_work(rt: HostRuntime) -> Result<(), Fail> {
                 .take(HOLES as usize)
                 .fold(0u64, |sum, id| sum.wrapping_add(*id)),
         };
-        let label = row.label();
-        assert_eq!(rt;
-            id_sum_of::<ids::Direct>(rt.alloc(), row, order)?,
-            expected,
-            "{label}"
-        );
-        assert_eq!(rt;
-            id_sum_of::<ids::Behind>(rt.alloc(), row, order)?,
-            expected,
-            "{label}"
-        );
+        check_row(&rt, rt.alloc(), row, order, expected);
     }
     Ok(())
 }
 
 /// A look at a word that is its sample answers nothing, and one after a recording the code, 5.
 #[test]
-fn word_rows_do_their_work(rt: HostRuntime) -> Result<(), Fail> {
-    check_words(&rt, rt.alloc(), WordRow::CheckNothing, LOOKS)?;
-    check_words(&rt, rt.alloc(), WordRow::SetAndAdvance, 5 * LOOKS)
-}
-
-fn check_words(rt: &impl Abort, alloc: Global, row: WordRow, expected: u64) -> Result<(), Fail> {
-    let mut ring = fresh_ring(alloc)?;
-    assert_eq!(rt; row.run::<words::Direct>(ring.as_mut_slice()), expected);
-    assert_eq!(rt; row.run::<words::Behind>(ring.as_mut_slice()), expected);
-    Ok(())
+fn word_rows_do_their_work(rt: HostRuntime) {
+    check_row(&rt, rt.alloc(), WordRow::CheckNothing, &[], LOOKS);
+    check_row(&rt, rt.alloc(), WordRow::SetAndAdvance, &[], 5 * LOOKS);
 }
 
 /// Each read answers its count and the first byte, each write its count, and a sync its pages. All rows are over one file.

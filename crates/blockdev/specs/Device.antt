@@ -15,9 +15,15 @@ pub record Told : Type 0 where
   pub contents : Option (List (List ℕ))
   -- the fault of each call to come, if it is to fail; calls past the end succeed. Nothing where the device does not tell
   pub plan : Option (List (Option Fault))
-  -- calls that were made
+  -- the contents at the last flush that ended well, or at the device's beginning; or nothing where the device does not tell them
+  pub durable : Option (List (List ℕ))
+  -- the code with which the next flush is to fail, if it is to; those after it succeed. Nothing where the device does not tell
+  pub flush_plan : Option (Option ℕ)
+  -- reads and writes that were made
   pub calls : ℕ
-  -- calls that failed
+  -- flushes that were made
+  pub flushes : ℕ
+  -- reads, writes and flushes that failed
   pub faults : ℕ
 
 -- the contents that are told are `count` blocks of `size` bytes
@@ -26,9 +32,14 @@ IsSized d = IfSome d.contents (λ blocks. (length blocks ≡ d.count) × All (λ
 
 -- zeros, no call made and none to fail
 abbrev pub fresh : ℕ → ℕ → Told
-fresh size count = record { size = size; count = count; contents = Some (zero_blocks size count); plan = Some []; calls = 0; faults = 0 }
+fresh size count =
+    record { size = size; count = count; contents = Some (zero_blocks size count); plan = Some []; durable = Some (zero_blocks size count); flush_plan = Some None; calls = 0; flushes = 0; faults = 0 }
 
--- the most calls that are counted
+-- nothing told of the contents nor of the faults to come, and no call made
+abbrev pub silent : ℕ → ℕ → Told
+silent size count = record { size = size; count = count; contents = None; plan = None; durable = None; flush_plan = None; calls = 0; flushes = 0; faults = 0 }
+
+-- the most calls that are counted, and the most flushes
 abbrev pub max_calls : ℕ
 max_calls = 18446744073709551615
 
@@ -64,6 +75,10 @@ left_by (Some fault) old written = kept fault.effect old written
 pub record Calls (old : Told) (r : Outcome) (new : Told) : Type 0 where
   pub size : new.size ≡ old.size
   pub count : new.count ≡ old.count
+  -- it makes nothing durable, and is no flush
+  pub durable : new.durable ≡ old.durable
+  pub flush_plan : new.flush_plan ≡ old.flush_plan
+  pub flushes : new.flushes ≡ old.flushes
   -- each call is counted
   pub calls : old.calls < max_calls → new.calls ≡ old.calls + 1
   -- a fault is counted exactly where one is answered
@@ -90,3 +105,25 @@ pub record Writes (old : Told) (block : ℕ) (bytes : List ℕ) (r : Outcome) (n
   pub whole : OnErr r ((new.contents ≡ old.contents) ⊎ (new.contents ≡ with_block old.contents block bytes))
   -- and did as the plan told
   pub effect : old.calls < max_calls → IfSome old.plan (λ plan. new.contents ≡ left_by (next_fault plan) old.contents (with_block old.contents block bytes))
+
+-- how a flush ends that is to fail with this code, or not at all
+abbrev pub flush_answer : Option ℕ → Outcome
+flush_answer None = Ok tt
+flush_answer (Some code) = Err code
+
+-- a flush: where it ends well, what was written before it is durable
+pub record Flushes (old : Told) (r : Outcome) (new : Told) : Type 0 where
+  -- it is no read and no write
+  pub same : new ≡ record old { durable = new.durable; flush_plan = new.flush_plan; flushes = new.flushes; faults = new.faults }
+  pub durable : OnOk r (new.durable ≡ old.contents)
+  pub kept : OnErr r (new.durable ≡ old.durable)
+  -- each flush is counted
+  pub flushes : old.flushes < max_calls → new.flushes ≡ old.flushes + 1
+  -- a fault is counted exactly where one is answered
+  pub well : OnOk r (new.faults ≡ old.faults)
+  pub faults : old.flushes < max_calls → OnErr r (new.faults ≡ old.faults + 1)
+  -- the flush went as the plan told, and the plan moved on
+  pub planned : old.flushes < max_calls → IfSome old.flush_plan (λ fault. r ≡ flush_answer fault)
+  pub plan : old.flushes < max_calls → new.flush_plan ≡ option_map (λ fault. None) old.flush_plan
+  -- a flush that can't be counted fails as an input or output error, and changes nothing
+  pub exhausted : old.flushes ≡ max_calls → (r ≡ Err 5) × (new ≡ old)

@@ -1,5 +1,5 @@
 -- Requests on their way to a device and back, and the one device call that is made for each.
-use Rattle.std.specs.Prelude.{◌≡◌, ℕ, List, length}
+use Rattle.std.specs.Prelude.{◌≡◌, ◌<◌, ℕ, List, length}
 use Rattle.pc_types.specs.declared.kind.Kind.{Kind}
 use Rattle.pc_types.specs.declared.kind.Kind.TheVariants.{Fill, Flush}
 use Rattle.blockdev.specs.Device.{Told, Outcome, Reads, Writes}
@@ -12,6 +12,12 @@ pub record Task : Type 0 where
   pub kind : Kind
   pub block : ℕ
   pub bytes : List ℕ
+
+-- a job of the cache with this name, whose device has so many blocks of so many bytes: what its device call and its end need
+pub record IsJobFor (name blocks page : ℕ) (job : Task) : Type 0 where
+  pub cache : job.cache ≡ name
+  pub block : job.block < blocks
+  pub size : length job.bytes ≡ page
 
 -- one that was made: the same, with the bytes that the buffer was left with, and how the call ended
 pub record FinishedTask : Type 0 where

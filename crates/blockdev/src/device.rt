@@ -1,7 +1,7 @@
 //! What a block device does, call by call.
 
-ghost use Rattle.std.specs.Prelude.{◌≡◌, ◌<◌, length};
-ghost use Rattle.blockdev.specs.Device.{Told, IsSized, Reads, Writes};
+ghost use Rattle.std.specs.Prelude.{◌≡◌, ◌<◌, length, min};
+ghost use Rattle.blockdev.specs.Device.{Told, IsSized, Reads, Writes, Flushes, max_calls};
 
 use pc_types::{BlockNo, ErrCode};
 
@@ -21,13 +21,17 @@ pub trait BlockDevice: Drop {
         ensures count { result ≡ (told self.now).count }
         ensures sized { IsSized (told self.now) };
 
-    /// How many calls have failed. A call past the last that can be counted fails and is not counted.
+    /// How many reads, writes and flushes have failed. One past the last that can be counted fails and is not counted.
     fn faults(&self) -> u64
-        ensures { result ≡ (told self.now).faults };
+        ensures { result ≡ min (told self.now).faults max_calls };
 
     /// How many reads and writes were made, failed ones too.
     fn calls(&self) -> u64
         ensures { result ≡ (told self.now).calls };
+
+    /// How many flushes were made, failed ones too.
+    fn flushes(&self) -> u64
+        ensures { result ≡ (told self.now).flushes };
 
     /// Fills `out` with the block's bytes.
     fn read(&mut self, block: BlockNo, out: &mut [u8]) -> Result<(), ErrCode>
@@ -40,4 +44,8 @@ pub trait BlockDevice: Drop {
         requires exists { block.0 < (told self.old).count }
         requires size { length bytes.now ≡ (told self.old).size }
         ensures { Writes (told self.old) block.0 bytes.now result (told self.new) };
+
+    /// Makes what was written durable. A write that was answered may stand in the device's own cache until then.
+    fn flush(&mut self) -> Result<(), ErrCode>
+        ensures { Flushes (told self.old) result (told self.new) };
 }

@@ -3,16 +3,22 @@
 //!
 //! A read or a write does what `Reads` or `Writes` of `specs/Device.antt` says, at every device: each call is counted, a
 //! fault is counted exactly where it is answered, a write takes effect whole or not at all, and a failed read changes
-//! nothing. A device may tell its contents and the faults to come; `MemDevice` and `ScriptDevice` tell both. `perform`
-//! makes one such call for a request, as `Performs` of `specs/Jobs.antt` says.
+//! nothing. After a flush that ends well (`Flushes`), what was written before is durable. A device may tell its contents, those
+//! that are durable, and the faults to come; `MemDevice` and `ScriptDevice` tell all of these, and `FileDevice` none.
+//! `perform` makes one such call for a request, as `Performs` of `specs/Jobs.antt` says.
 //!
 //! `device` has the trait, `fault` what goes wrong, `blocks` the bytes in memory, `memory` a device that never fails,
-//! `script` one that fails when it is told to, `buffer` the bytes of one page on their way, and `job` a request's call.
+//! `script` one that fails when it is told to, `file` one over a file of the system, `gated` any of them behind a gate,
+//! `buffer` the bytes of one page on their way, and `job` a request's call.
 
 mod blocks;
 pub mod buffer;
 pub mod device;
 pub mod fault;
+pub mod file;
+#[cfg(test)]
+mod file_tests;
+pub mod gated;
 pub mod job;
 pub mod memory;
 pub mod script;
@@ -22,6 +28,8 @@ mod tests;
 pub use buffer::Buffer;
 pub use device::BlockDevice;
 pub use fault::{Fault, FaultEffect};
+pub use file::FileDevice;
+pub use gated::{Gate, GatedDevice};
 pub use job::{Finished, FinishedParts, Job, perform};
 pub use memory::MemDevice;
 pub use script::ScriptDevice;

@@ -8,6 +8,7 @@ use crate::device::BlockDevice;
 use pc_types::{BlockNo, ErrCode, Refusal};
 use std::alloc::Global;
 use std::marker::Model;
+use std::snapshot::Snapshot;
 
 /// A device in memory. Its calls never fail, but for those past the last that can be counted.
 ///
@@ -16,16 +17,19 @@ use std::marker::Model;
 #[derive(Drop)]
 pub struct MemDevice {
     blocks: Blocks,
+    /// As they were at the last flush. It has no bytes.
+    flushed: Snapshot<Blocks>,
     calls: u64,
+    flushes: u64,
 }
 
 impl Model for MemDevice {
-    ghost use Rattle.std.specs.Prelude.{[], Some, length};
+    ghost use Rattle.std.specs.Prelude.{[], Some, None, length};
     ghost use Rattle.blockdev.specs.Device.{Told};
 
     ghost Value = { Told };
 
-    ghost view = { λ d. record { size = d.blocks.size; count = length d.blocks.blocks; contents = Some d.blocks.blocks; plan = Some []; calls = d.calls; faults = 0 } };
+    ghost view = { λ d. record { size = d.blocks.size; count = length d.blocks.blocks; contents = Some d.blocks.blocks; plan = Some []; durable = Some d.flushed.value.blocks; flush_plan = Some None; calls = d.calls; flushes = d.flushes; faults = 0 } };
 }
 
 impl MemDevice {
@@ -34,9 +38,12 @@ impl MemDevice {
         ensures fresh { IfOk result (λ d. d ≡ fresh block_size blocks) }
         ensures refused { IsOkUnless result Refusal.Memory }
     {
+        let blocks = Blocks::zeros(alloc, block_size, blocks)?;
         Ok(MemDevice {
-            blocks: Blocks::zeros(alloc, block_size, blocks)?,
+            flushed: Snapshot::of(&blocks),
+            blocks,
             calls: 0,
+            flushes: 0,
         })
     }
 }
@@ -62,6 +69,10 @@ impl BlockDevice for MemDevice {
         self.calls
     }
 
+    fn flushes(&self) -> u64 {
+        self.flushes
+    }
+
     fn read(&mut self, block: BlockNo, out: &mut [u8]) -> Result<(), ErrCode> {
         if self.calls == u64::MAX {
             return Err(ErrCode::IO);
@@ -77,6 +88,15 @@ impl BlockDevice for MemDevice {
         }
         self.calls += 1;
         self.blocks.set(block.0, bytes);
+        Ok(())
+    }
+
+    fn flush(&mut self) -> Result<(), ErrCode> {
+        if self.flushes == u64::MAX {
+            return Err(ErrCode::IO);
+        }
+        self.flushes += 1;
+        self.flushed = Snapshot::of(&self.blocks);
         Ok(())
     }
 }

@@ -11,27 +11,34 @@ use crate::fault::{Fault, FaultEffect};
 use pc_types::{BlockNo, ErrCode, Refusal};
 use std::alloc::Global;
 use std::marker::Model;
+use std::snapshot::Snapshot;
 
-/// A device in memory whose next call fails where `fail_next` said so. It takes as much memory as a `MemDevice`.
+/// A device in memory whose next call fails where `fail_next` said so, and its next flush where `fail_next_flush` did. It takes as much memory as a `MemDevice`.
 #[derive(Drop)]
 pub struct ScriptDevice {
     blocks: Blocks,
+    /// As they were at the last flush that ended well. It has no bytes.
+    flushed: Snapshot<Blocks>,
     planned: Option<Fault>,
+    planned_flush: Option<ErrCode>,
     calls: u64,
     /// No more than `calls`.
     faults: u64,
+    flushes: u64,
+    /// No more than `flushes`.
+    flush_faults: u64,
 }
 
 impl Model for ScriptDevice {
-    ghost use Rattle.std.specs.Prelude.{[], ◌∷◌, ◌≤◌, Some, length};
+    ghost use Rattle.std.specs.Prelude.{[], ◌∷◌, ◌≤◌, ◌+◌, Some, length};
     ghost use Rattle.blockdev.specs.Device.{Told};
     ghost use Rattle.blockdev.specs.Script.{plan_of};
 
     ghost Value = { Told };
 
-    ghost view = { λ d. record { size = d.blocks.size; count = length d.blocks.blocks; contents = Some d.blocks.blocks; plan = Some (plan_of d.planned); calls = d.calls; faults = d.faults } };
+    ghost view = { λ d. record { size = d.blocks.size; count = length d.blocks.blocks; contents = Some d.blocks.blocks; plan = Some (plan_of d.planned); durable = Some d.flushed.value.blocks; flush_plan = Some d.planned_flush; calls = d.calls; flushes = d.flushes; faults = d.faults + d.flush_faults } };
 
-    ghost invariant = { λ d. d.faults ≤ d.calls };
+    ghost invariant = { λ d. (d.faults ≤ d.calls) × (d.flush_faults ≤ d.flushes) };
 }
 
 impl ScriptDevice {
@@ -41,11 +48,16 @@ impl ScriptDevice {
         ensures fresh { IfOk result (λ d. d ≡ fresh block_size blocks) }
         ensures refused { IsOkUnless result Refusal.Memory }
     {
+        let blocks = Blocks::zeros(alloc, block_size, blocks)?;
         Ok(ScriptDevice {
-            blocks: Blocks::zeros(alloc, block_size, blocks)?,
+            flushed: Snapshot::of(&blocks),
+            blocks,
             planned: None,
+            planned_flush: None,
             calls: 0,
             faults: 0,
+            flushes: 0,
+            flush_faults: 0,
         })
     }
 
@@ -54,6 +66,13 @@ impl ScriptDevice {
         ensures { self.new ≡ record self.old { plan = Some (Some (record { code = code; effect = effect }) ∷ []) } }
     {
         self.planned = Some(Fault { code, effect });
+    }
+
+    /// Makes the next flush fail with the code.
+    pub fn fail_next_flush(&mut self, code: ErrCode)
+        ensures { self.new ≡ record self.old { flush_plan = Some (Some code) } }
+    {
+        self.planned_flush = Some(code);
     }
 
     /// The bytes of a block, which is no call.
@@ -94,11 +113,15 @@ impl BlockDevice for ScriptDevice {
     }
 
     fn faults(&self) -> u64 {
-        self.faults
+        self.faults.saturating_add(self.flush_faults)
     }
 
     fn calls(&self) -> u64 {
         self.calls
+    }
+
+    fn flushes(&self) -> u64 {
+        self.flushes
     }
 
     fn read(&mut self, block: BlockNo, out: &mut [u8]) -> Result<(), ErrCode> {
@@ -122,6 +145,23 @@ impl BlockDevice for ScriptDevice {
                     self.blocks.set(block.0, bytes);
                 }
                 Err(fault.code)
+            }
+        }
+    }
+
+    fn flush(&mut self) -> Result<(), ErrCode> {
+        if self.flushes == u64::MAX {
+            return Err(ErrCode::IO);
+        }
+        self.flushes += 1;
+        match self.planned_flush.take() {
+            None => {
+                self.flushed = Snapshot::of(&self.blocks);
+                Ok(())
+            }
+            Some(code) => {
+                self.flush_faults += 1;
+                Err(code)
             }
         }
     }

@@ -4,10 +4,12 @@
 ghost use Rattle.std.specs.Prelude.{◌≡◌, ◌<◌, length, IfOk};
 
 use crate::{
-    BlockDevice, Buffer, FaultEffect, FinishedParts, Job, MemDevice, ScriptDevice, perform,
+    BlockDevice, Buffer, FaultEffect, FinishedParts, Gate, GatedDevice, Job, MemDevice,
+    ScriptDevice, perform,
 };
 use pc_types::{BlockNo, ErrCode, Geometry, Kind, Refusal, Serial};
 use std::alloc::Global;
+use std::cell::Cell;
 use std::process::Abort;
 use std::test::Fail;
 
@@ -184,5 +186,55 @@ fn a_job_that_fails_tells_the_code(rt: HostRuntime) -> Result<(), Fail> {
         assert_eq!(rt; filled.buffer.as_slice(), [9; 16].as_slice());
         assert_eq!(rt; (device.calls(), device.faults()), (2, 2));
     }
+    Ok(())
+}
+
+#[test]
+fn a_flush_is_counted_apart(rt: HostRuntime) -> Result<(), Fail> {
+    let mut memory = MemDevice::new(rt.alloc(), 4, 2)?;
+    assert!(rt; memory.write(BlockNo(1), b"kept").is_ok() && memory.flush().is_ok());
+    assert_eq!(rt;
+        (memory.calls(), memory.flushes(), memory.faults()),
+        (1, 1, 0)
+    );
+    let full = ErrCode::new(28)?;
+    let mut script = ScriptDevice::new(rt.alloc(), 4, 2)?;
+    script.fail_next_flush(full);
+    assert!(rt; script.write(BlockNo(1), b"kept").is_ok());
+    assert_eq!(rt; script.flush(), Err(full));
+    assert!(rt; script.flush().is_ok());
+    assert_eq!(rt; script.bytes(BlockNo(1)), b"kept".as_slice());
+    assert_eq!(rt;
+        (script.calls(), script.flushes(), script.faults()),
+        (1, 2, 1)
+    );
+    Ok(())
+}
+
+/// A gate that keeps the last number.
+#[derive(Drop)]
+struct Counter {
+    last: Cell<u64>,
+}
+
+impl Gate for Counter {
+    ghost use Rattle.std.specs.Prelude.{⊤};
+
+    ghost passed = { λ g n. ⊤ };
+
+    fn enter(&self, number: u64) {
+        self.last.set(number);
+    }
+}
+
+// The gate is told how many calls came before.
+#[test]
+fn each_call_passes_the_gate(rt: HostRuntime) -> Result<(), Fail> {
+    let gate = Counter { last: Cell::new(9) };
+    let mut device = GatedDevice::new(ScriptDevice::new(rt.alloc(), 4, 2)?, gate);
+    reads_back(&rt, &mut device);
+    assert!(rt; device.gate().last.get() == 3);
+    assert!(rt; device.flush().is_ok());
+    assert!(rt; device.gate().last.get() == 3 && device.flushes() == 1);
     Ok(())
 }

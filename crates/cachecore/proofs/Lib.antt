@@ -26,6 +26,7 @@ pub mod HandleLemmas
 pub mod Values
 pub mod Holdings
 pub mod PlaceLemmas
+pub mod PlacedBlocks
 pub mod PowerLaws
 pub mod WriteLemmas
 pub mod CoreLemmas
@@ -89,3 +90,4 @@ pub mod Victims
 pub mod Accesses
 pub mod TaggedFrames
 pub mod ReadFrames
+pub mod TouchCounts

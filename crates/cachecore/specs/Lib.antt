@@ -20,3 +20,4 @@ pub mod Store
 pub mod Syncing
 pub mod Tables
 pub mod Tests
+pub mod Wants

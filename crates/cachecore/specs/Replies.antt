@@ -112,6 +112,11 @@ abbrev pub IsFillJob : State → Result FillBegun Refused → Type 0
 IsFillJob new (Ok (fill.Job job)) = IsJobOf new job (λ r. job.bytes)
 IsFillJob new _ = Unit {0}
 
+-- what holds of the job, where it begins a fill
+abbrev pub OnFillJob : Result FillBegun Refused → (Task → Type 0) → Type 0
+OnFillJob (Ok (fill.Job job)) P = P job
+OnFillJob _ P = Unit {0}
+
 abbrev pub flush_begun : Result FlushBegun Refused → Reply
 flush_begun (Ok (flush.Nothing _)) = reply.Nothing
 flush_begun (Ok (flush.Job job)) = reply.Job (record { 0 = job.serial })
@@ -132,6 +137,11 @@ UnlessJob _ P = P
 abbrev pub IsFlushJob : State → Result FlushBegun Refused → Type 0
 IsFlushJob full (Ok (flush.Job job)) = IsJobOf full job (λ r. r.bytes)
 IsFlushJob full _ = Unit {0}
+
+-- what holds of the job, where it begins a flush
+abbrev pub OnFlushJob : Result FlushBegun Refused → (Task → Type 0) → Type 0
+OnFlushJob (Ok (flush.Job job)) P = P job
+OnFlushJob _ P = Unit {0}
 
 -- the step of a flush that begins, and its job
 abbrev pub FlushStep : State → ℕ → Result FlushBegun Refused → State → Type 0
@@ -160,6 +170,11 @@ SyncGivesBack bytes (Err e) = e.buffer ≡ bytes
 abbrev pub IsSyncJob : State → Result SyncStepped Refused → Type 0
 IsSyncJob full (Ok (sync.Job job)) = IsJobOf full job (λ r. r.bytes)
 IsSyncJob full _ = Unit {0}
+
+-- what holds of the job, where a sync begins one
+abbrev pub OnSyncJob : Result SyncStepped Refused → (Task → Type 0) → Type 0
+OnSyncJob (Ok (sync.Job job)) P = P job
+OnSyncJob _ P = Unit {0}
 
 -- a step of sync n, and its job
 abbrev pub SyncAdvance : State → ℕ → Result SyncStepped Refused → State → Type 0

@@ -4,6 +4,9 @@
 -- filling, or cached. Tags are those of the page cache of Linux. DIRTY: the device may lack the page's bytes even after the
 -- write in flight, if there is one, ends well. WRITEBACK: a write of the page is in flight. TOWRITE: a sync tagged the page
 -- (tag_pages_for_writeback), and whoever starts a write of it clears the tag; it outlives a sync that is dropped.
+--
+-- Variables: P bytes of a page, s a state, f a file, p a page of it, o an offset in bytes, n a count, h a handle, t a serial,
+-- z a size in bytes.
 use Rattle.std.specs.Prelude.{ℕ, ◌+◌, ◌-◌, ◌/◌, ◌%◌, Bool, false, not, ◌&&◌, ◌==◌, nat_le, List, [], ◌++◌, map, filter, Option, Some, None, is_some, unwrap_or, slice_index_or, slice_index, sum_by, count_by}
 use Rattle.std.specs.List.{range_with_len, list_any}
 use Rattle.std.specs.Ordering.{nat_cmp}

@@ -308,7 +308,7 @@ impl CacheCore {
 
     /// Whether too many pages would be dirty with so many more. A write that makes no page dirty goes through although
     /// the limit is passed, as a truncation or a failed write may pass it.
-    fn passes_dirty_limit(&self, dirtied: u64) -> bool
+    pub(crate) fn passes_dirty_limit(&self, dirtied: u64) -> bool
         requires { dirtied ≤ MAX_TOUCHED }
         ensures { result ≡ (nat_lt 0 dirtied && nat_lt self.now.state.sizes.dirty_limit (dirty_total self.now.state + dirtied)) }
     {
@@ -387,7 +387,7 @@ fn touched_count(page_size: u64, offset: u64, count: u64) -> u64
 }
 
 /// Whether `count` bytes at `offset` touch more pages than a call may.
-fn is_too_long(page_size: u64, offset: u64, count: u64) -> bool
+pub(crate) fn is_too_long(page_size: u64, offset: u64, count: u64) -> bool
     requires positive { 0 < page_size }
     requires small { page_size ≤ MAX_PAGE_SIZE }
     requires some { 0 < count }

@@ -1,6 +1,7 @@
 //! Fills: an absent page read in from its block.
 
 ghost use Rattle.std.specs.Prelude.{◌≡◌, ◌<◌, Some, IfErr, IfNone, IfOk, IfSome, false, length, true, if◌then◌else◌};
+ghost use Rattle.blockdev.specs.Jobs.{IsJobFor};
 ghost use Rattle.mapping.specs.declared.mapping.TheConstants.{MAX_PAGES};
 ghost use Rattle.pc_types.specs.declared.refusal.Refusal.TheVariants.{Memory, TooManyInFlight};
 ghost use Rattle.cachecore.specs.State.{free_frames, is_cached, is_filling, is_written, spot_at};
@@ -9,7 +10,7 @@ ghost use Rattle.cachecore.specs.Changes.{filling};
 ghost use Rattle.cachecore.specs.Step.{Step};
 ghost use Rattle.cachecore.specs.PageLists.{entered};
 ghost use Rattle.cachecore.specs.Moves.{begin_moves, moved};
-ghost use Rattle.cachecore.specs.Replies.{EndGivesBack, FillsAbsent, GivesBack, IsFillJob, end_of, fill_begun, fill_ended};
+ghost use Rattle.cachecore.specs.Replies.{EndGivesBack, FillsAbsent, GivesBack, IsFillJob, OnFillJob, end_of, fill_begun, fill_ended};
 
 use crate::answers::{Ended, FillBegun, Refused, RefusedEnd};
 use crate::cache::{CacheCore, page_count};
@@ -30,6 +31,7 @@ impl CacheCore {
         ensures step { Step self.old.state (Event.FillBegin handle page) (fill_begun result) self.new.state }
         ensures lists { self.new.lists ≡ moved self.old.state (Event.FillBegin handle page) (fill_begun result) self.old.lists }
         ensures job { IsFillJob self.new.state result }
+        ensures fits { OnFillJob result (IsJobFor self.old.state.name self.old.state.sizes.blocks self.old.state.sizes.page) }
         ensures back { GivesBack buffer result }
     {
         let Some(file) = self.handles.file(handle.0) else {
@@ -65,9 +67,11 @@ impl CacheCore {
         requires absent { is_cached self.old.state file page.0 ≡ false }
         requires idle { is_filling self.old.state file page.0 ≡ false }
         requires room { 0 < free_frames self.old.state }
+        requires size { length buffer ≡ self.old.state.sizes.page }
         ensures step { FillsAbsent self.old.state file page.0 (fill_begun result) self.new.state }
         ensures lists { self.new.lists ≡ begin_moves file page.0 (fill_begun result) self.old.lists }
         ensures job { IsFillJob self.new.state result }
+        ensures fits { OnFillJob result (IsJobFor self.old.state.name self.old.state.sizes.blocks self.old.state.sizes.page) }
         ensures back { GivesBack buffer result }
     {
         let Some(block) = self.block_to_read(file, page) else {
@@ -127,7 +131,10 @@ impl CacheCore {
         requires below { page.0 < MAX_PAGES }
         ensures some { IfSome result (λ block. spot_at self.now.state file page.0 ≡ Some (record { block = block.0; written = true })) }
         ensures none { IfNone result (is_written (spot_at self.now.state file page.0) ≡ false) }
+        ensures within { IfSome result (λ block. block.0 < self.now.state.sizes.blocks) }
     {
+        // for what `free_count` ensures: the block of a page is one of the device's
+        prove!(self.blocks.free_count() <= u64::MAX);
         let placed = self.blocks.map(FileId(file), page)?;
         if placed.is_written {
             Some(placed.block)

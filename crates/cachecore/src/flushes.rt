@@ -1,11 +1,12 @@
 //! Flushes: the lowest page of a file that is dirty and has no write in flight, written to its block.
 
 ghost use Rattle.std.specs.Prelude.{◌≡◌, ◌≢◌, ◌<◌, IfErr, IfSome, false, length, option_map};
+ghost use Rattle.blockdev.specs.Jobs.{IsJobFor};
 ghost use Rattle.mapping.specs.declared.mapping.TheConstants.{MAX_PAGES};
 ghost use Rattle.pc_types.specs.declared.refusal.Refusal.TheVariants.{Memory};
 ghost use Rattle.cachecore.specs.Step.{Step};
 ghost use Rattle.cachecore.specs.Flushing.{flush_of};
-ghost use Rattle.cachecore.specs.Replies.{EndGivesBack, FlushGivesBack, FlushStep, UnlessJob, end_of, flush_ended};
+ghost use Rattle.cachecore.specs.Replies.{EndGivesBack, FlushGivesBack, FlushStep, OnFlushJob, UnlessJob, end_of, flush_ended};
 ghost use Rattle.cachecore.specs.Starting.{IsStarted, MayStart};
 ghost use Rattle.cachecore.specs.Tests.{is_full};
 
@@ -22,6 +23,7 @@ impl CacheCore {
     pub fn flush_begin(&mut self, file: FileId, buffer: Buffer) -> Result<FlushBegun, Refused>
         requires size { length buffer ≡ self.old.state.sizes.page }
         ensures step { FlushStep self.old.state file.0 result self.new.state }
+        ensures fits { OnFlushJob result (IsJobFor self.old.state.name self.old.state.sizes.blocks self.old.state.sizes.page) }
         ensures kept { UnlessJob result (self.new ≡ self.old) }
         ensures lists { self.new.lists ≡ self.old.lists }
         ensures back { FlushGivesBack buffer result }
@@ -49,8 +51,11 @@ impl CacheCore {
         requires room { is_full self.old.state ≡ false }
         requires size { length buffer ≡ self.old.state.sizes.page }
         ensures begun { IsStarted self.old.state file.0 page.0 result self.new.state }
+        ensures fits { IsJobFor self.old.state.name self.old.state.sizes.blocks self.old.state.sizes.page result }
         ensures lists { self.new.lists ≡ self.old.lists }
     {
+        // for what `free_count` ensures: the block of a page is one of the device's
+        prove!(self.blocks.free_count() <= u64::MAX);
         let Some(placed) = self.blocks.map(file, page) else {
             unreachable!()
         };
@@ -91,6 +96,7 @@ impl CacheCore {
                 Ok(Ended::Done(buffer))
             }
             Err(code) => {
+                // DIRTY again, and counted: a sync that ends compares the counts (rules 9 and 14 of docs/DESIGN.md).
                 self.pages.end_write(request.file.0, request.page.0, true);
                 self.pages
                     .note_failure(request.file.0, u64::from(code.code()));

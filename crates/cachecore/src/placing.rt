@@ -31,7 +31,7 @@ pub fn count_without_block(blocks: &BlockMap, file: u64, first: u64, end: u64) -
 
 /// Gives each page from `next` up to `end` that has no block the lowest free one, and then makes the absent pages from
 /// `first` on as pages of zeros. Where memory is refused, what was given is taken back, the last first. It calls itself
-/// once a page, and a call of the cache touches few.
+/// once a page: at most 16 times in a call of the cache (no clause says so).
 pub fn place(
     pages: &mut Pages,
     blocks: &mut BlockMap,

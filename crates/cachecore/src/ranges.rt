@@ -14,7 +14,8 @@ use std::alloc::AllocError;
 
 impl Pages {
     /// Makes the absent pages from `first` up to `end` as pages of zeros. Where memory is refused, those made so far are
-    /// taken away again, the last one first. It calls itself once a page, and a call of the cache touches few.
+    /// taken away again, the last one first. It calls itself once a page: at most 16 times in a call of the cache (no clause
+    /// says so).
     pub fn cover(&mut self, file: u64, first: u64, end: u64) -> Result<(), AllocError>
         requires here { file < length self.old.files }
         requires order { first ≤ end }

@@ -1,10 +1,11 @@
 //! Syncs: the pages of a file that are DIRTY as a sync begins are written, and it tells whether a write of the file failed since.
 
 ghost use Rattle.std.specs.Prelude.{◌≡◌, ◌≢◌, ◌<◌, Err, IfErr, length};
+ghost use Rattle.blockdev.specs.Jobs.{IsJobFor};
 ghost use Rattle.mapping.specs.declared.mapping.TheConstants.{MAX_PAGES};
 ghost use Rattle.pc_types.specs.declared.refusal.Refusal.TheVariants.{Memory};
 ghost use Rattle.cachecore.specs.Step.{Step};
-ghost use Rattle.cachecore.specs.Replies.{SyncGivesBack, SyncAdvance, sync_begun, sync_dropped};
+ghost use Rattle.cachecore.specs.Replies.{OnSyncJob, SyncGivesBack, SyncAdvance, sync_begun, sync_dropped};
 ghost use Rattle.cachecore.specs.Starting.{IsNext};
 
 use crate::answers::{Refused, SyncStepped};
@@ -35,6 +36,7 @@ impl CacheCore {
     pub fn sync_step(&mut self, sync: SyncId, buffer: Buffer) -> Result<SyncStepped, Refused>
         requires size { length buffer ≡ self.old.state.sizes.page }
         ensures step { SyncAdvance self.old.state sync.0 result self.new.state }
+        ensures fits { OnSyncJob result (IsJobFor self.old.state.name self.old.state.sizes.blocks self.old.state.sizes.page) }
         ensures lists { self.new.lists ≡ self.old.lists }
         ensures back { SyncGivesBack buffer result }
         ensures no_memory { IfErr result (λ e. e.refusal ≢ Memory) }
@@ -75,6 +77,7 @@ impl CacheCore {
         requires below { page.0 < MAX_PAGES }
         requires size { length buffer ≡ self.old.state.sizes.page }
         ensures step { SyncAdvance self.old.state sync.0 result self.new.state }
+        ensures fits { OnSyncJob result (IsJobFor self.old.state.name self.old.state.sizes.blocks self.old.state.sizes.page) }
         ensures lists { self.new.lists ≡ self.old.lists }
         ensures back { SyncGivesBack buffer result }
         ensures no_memory { IfErr result (λ e. e.refusal ≢ Memory) }

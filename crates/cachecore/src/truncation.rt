@@ -88,6 +88,8 @@ impl CacheCore {
         }
         let end_page = page_count(page_size, size);
         self.pages.remove_from(file, end_page);
+        // A request in flight holds its block until it ends, though its page goes: a late write must not reach a block that is
+        // another page's by then (rules 11 and 12 of docs/DESIGN.md).
         self.blocks.cut_from(FileId(file), PageIndex(end_page));
         self.requests.drop_from(FileId(file), PageIndex(end_page));
         self.pages.set_size(file, size);

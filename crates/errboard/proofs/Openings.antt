@@ -1,63 +1,97 @@
--- A board on which nothing was recorded keeps the rule.
-use Rattle.std.proofs.Common.{◌≡◌, ℕ, zero, suc, ◌<◌, ◌/◌, false, List, [], ◌∷◌, length, replicate, inl, refl, sym, ap, ◌∙◌, subst}
-use Rattle.std.specs.Prelude.{map, slice_index}
+-- A board keeps the rule over the words that it begins with.
+use Rattle.std.proofs.Common.{◌≡◌, ◌≢◌, ℕ, zero, suc, ◌+◌, ◌*◌, ◌/◌, ◌%◌, ◌<◌, Bool, true, false, eq-eqb, ne_eqb, List, [], ◌∷◌, length, map, get_or, replicate, inl, inr, refl, sym, ap, ◌∙◌, subst, arith, ⊎_elim, true≢false}
+use Rattle.std.specs.Prelude.{if◌then◌else◌, slice_index, All}
 use mathlib.Core.Option.{some, some-injective, some-ne-none}
+use mathlib.Core.Logic.{dite}
+use native.Mathlib.Decide.{ℕ_discrete}
 use lib.ListN.{get_elem?}
 use Rattle.atomic_table.specs.Table.{Me, opening}
-use Rattle.std.proofs.lemmas.List.{get_or-replicate, length-replicate}
+use Rattle.std.proofs.lemmas.Bool.{eqb-true}
+use Rattle.std.proofs.lemmas.List.{get_or-map, get_or-replicate, length-map, length-replicate}
+use Rattle.errseq.specs.declared.recording.Recording.{Recording}
+use Rattle.errseq.specs.Word.{turns, IsCode, MayBeCarried, code_of, counter_of, is_seen, word, without_seen}
 use Rattle.errseq.specs.Recorded.{word_of}
-use Rattle.errseq.proofs.Samples.{Log}
+use Rattle.errseq.specs.Samples.{StandsFor, AreCodes}
+use Rattle.errseq.proofs.Samples.{Log, without_seen_word}
 use Rattle.errboard.specs.declared.views.View.{View}
 use Rattle.errboard.specs.declared.views.View.TheVariants.{Recorder}
 use Rattle.errboard.specs.Views.{files, recorded_of, start_of, opening_log, opening_view}
 use Rattle.errboard.specs.Rules.{FitsFile, Fits, IsKept}
 use Rattle.errboard.specs.Shown.{Remembers, all_of, opening_of}
 
-abbrev zeros : List ℕ
-zeros = replicate files 0
+-- a word by its parts
+parts_of : (w : ℕ) → counter_of w < turns → (b : Bool) → is_seen w ≡ b → w ≡ word (counter_of w % turns) b (code_of w)
+parts_of w small true e = let h = eqb-true (w / 4096 % 2) 1 e in let so : w ≡ w / 8192 % turns * 8192 + 4096 + w % 4096 = omega arith in so
+parts_of w small false e = let h : w / 4096 % 2 ≢ 1 = (λ k. true≢false (sym (eq-eqb (w / 4096 % 2) 1 k) ∙ e)) in let so : w ≡ w / 8192 % turns * 8192 + 0 + w % 4096 = omega arith in so
 
-pub no_logs : (n : ℕ) → map opening_log (replicate n 0) ≡ replicate n []
-no_logs zero = refl
-no_logs (suc n) = ap (λ (l : List Log). [] ∷ l) (no_logs n)
+-- a word and what it says was recorded
+file_begins : (w : ℕ) → counter_of w < turns → MayBeCarried w → FitsFile (counter_of w) w (opening_log w)
+file_begins w small may = dite (ℕ_discrete w 0)
+    (λ e. subst (λ b. FitsFile (counter_of w) w (if b then [] else x ∷ [])) (sym (eq-eqb w 0 e)) (nothing e))
+    (λ n. subst (λ b. FitsFile (counter_of w) w (if b then [] else x ∷ [])) (sym (ne_eqb w 0 n)) (one (⊎_elim (λ (e : w ≡ 0). absurd (n e)) (λ (c : code_of w ≢ 0). c) may)))
+  where
+    x : Recording
+    x = record { code = code_of w; raises = false }
 
-none_recorded : (file : ℕ) → file < files → recorded_of (replicate files []) file ≡ []
-none_recorded file h = get_or-replicate files file [] [] h
+    nothing : w ≡ 0 → FitsFile (counter_of w) w []
+    nothing e = subst (λ n. FitsFile (counter_of n) n []) (sym e) record {
+      stands = inl refl;
+      codes = λ k r a. absurd (some-ne-none r (sym a));
+      opening = λ _. refl;
+    }
 
-none_started : (file : ℕ) → file < files → start_of zeros file ≡ 0
-none_started file h = ap (λ w. w / 8192) (get_or-replicate files file 0 0 h)
+    flag : (b : Bool) → is_seen w ≡ b → StandsFor (counter_of w) w (record { code = code_of w; raises = false } ∷ [])
+    flag true e = inr (omega arith, parts_of w small true e ∙ ap (λ m. word (m % turns) true (code_of w)) (let k : ℕ = counter_of w in let h : k ≡ k + 0 = omega arith in h))
+    flag false e = inl (parts_of w small false e ∙ ap (λ m. word (m % turns) false (code_of w)) (let k : ℕ = counter_of w in let h : k ≡ k + 0 = omega arith in h))
 
-opened_file : (file : ℕ) → file < files → FitsFile (start_of zeros file) (slice_index zeros file) (recorded_of (replicate files []) file)
-opened_file file h = subst (λ (z : ℕ × ℕ × Log). FitsFile z.0 z.1 z.2) (λ i. (sym (none_started file h) i, sym (get_or-replicate files file 0 0 h) i, sym (none_recorded file h) i)) record {
-  stands = inl refl;
-  codes = λ k r x. absurd (some-ne-none r (sym x));
-  opening = λ _. refl;
-}
+    codes : code_of w ≢ 0 → AreCodes (record { code = code_of w; raises = false } ∷ [])
+    codes n zero r a = subst (λ (y : Recording). IsCode y.code) (some-injective _ _ a) (omega arith, omega arith)
+    codes n (suc k) r a = absurd (some-ne-none r (sym a))
 
-opened : IsKept zeros (opening zeros [] (Recorder zeros (replicate files [])))
-opened = record {
-  logs = replicate files [];
+    one : code_of w ≢ 0 → FitsFile (counter_of w) w (record { code = code_of w; raises = false } ∷ [])
+    one n = record {
+      stands = flag (is_seen w) refl;
+      codes = codes n;
+      opening = λ e. let h : 1 ≡ 0 = ap length e in absurd (omega arith);
+    }
+
+-- each of the words may be carried over, and its counter is one
+abbrev pub AreOpening : List ℕ → Type 0
+AreOpening words = (length words ≡ files) × ((file : ℕ) → file < files → (counter_of (slice_index words file) < turns) × MayBeCarried (slice_index words file))
+
+pub are_opening : (words : List ℕ) → length words ≡ files → ((i : ℕ) → get_or words i 0 < 18446744073709551616) → All MayBeCarried words → AreOpening words
+are_opening words count fits may = (count, λ file h. let w : ℕ = get_or words file 0 in let small : w < 18446744073709551616 = fits file in (omega arith, may file 0 (omega arith)))
+
+log_at : (words : List ℕ) (file : ℕ) → length words ≡ files → file < files → recorded_of (map opening_log words) file ≡ opening_log (slice_index words file)
+log_at words file count h = get_or-map opening_log words file 0 [] (omega arith)
+
+opened_file : (words : List ℕ) → AreOpening words → (file : ℕ) → file < files → FitsFile (start_of words file) (slice_index words file) (recorded_of (map opening_log words) file)
+opened_file words are file h = subst (λ (l : Log). FitsFile (start_of words file) (slice_index words file) l) (sym (log_at words file are.0 h)) (let a = are.1 file h in file_begins (slice_index words file) a.0 a.1)
+
+pub begins : (words : List ℕ) → AreOpening words → IsKept words (opening words [] (opening_view words))
+begins words are = record {
+  logs = map opening_log words;
   writer = 0;
-  word_count = length-replicate {A = ℕ} files 0;
-  log_count = length-replicate {A = Log} files [];
-  each_file = opened_file;
+  word_count = are.0;
+  log_count = length-map words opening_log ∙ are.0;
+  each_file = opened_file words are;
   each_seat = one;
 }
   where
-    one : (j : ℕ) (v : View) → get_elem? (Recorder zeros (replicate files []) ∷ []) j ≡ some v → Fits zeros (replicate files []) zeros 0 j v
-    one zero v e = subst (Fits zeros (replicate files []) zeros 0 0) (some-injective _ _ e) (refl, refl, refl)
+    one : (j : ℕ) (v : View) → get_elem? (opening_view words ∷ []) j ≡ some v → Fits words (map opening_log words) words 0 j v
+    one zero v e = subst (Fits words (map opening_log words) words 0 0) (some-injective _ _ e) (refl, refl, refl)
     one (suc j) v e = absurd (some-ne-none v (sym e))
 
-pub begins : (words : List ℕ) → words ≡ zeros → IsKept words (opening words [] (opening_view words))
-begins words is = subst (λ (z : List ℕ). IsKept z (opening z [] (opening_view z))) (sym is) (subst (λ (l : List Log). IsKept zeros (opening zeros [] (Recorder zeros l))) (sym (no_logs files)) opened)
-
--- the recorder of a new board: its view, the number of its lists, and what it remembers
-pub recorder_begins : (me : Me ℕ View) (written : List ℕ) → me ≡ (opening_view zeros, []) → written ≡ zeros
+-- the recorder of a board that begins: its view, the number of its lists, and what it remembers
+pub recorder_begins : (me : Me ℕ View) (words written : List ℕ) → AreOpening words → me ≡ (opening_view words, []) → written ≡ map without_seen words
     → (me ≡ (Recorder (opening_of me.0) (all_of me.0), [])) × (length (all_of me.0) ≡ files) × Remembers (opening_of me.0) written (all_of me.0)
-recorder_begins me written is none = subst (λ (z : Me ℕ View × List ℕ). (z.0 ≡ (Recorder (opening_of z.0.0) (all_of z.0.0), [])) × (length (all_of z.0.0) ≡ files) × Remembers (opening_of z.0.0) z.1 (all_of z.0.0)) (λ i. (sym (is ∙ at) i, sym none i))
-    (refl, length-replicate {A = Log} files [], (length-replicate {A = ℕ} files 0, λ file h. get_or-replicate files file 0 0 h ∙ sym (λ i. word_of (none_started file h i) (none_recorded file h i) false)))
+recorder_begins me words written are is unseen = subst (λ (z : Me ℕ View × List ℕ). (z.0 ≡ (Recorder (opening_of z.0.0) (all_of z.0.0), [])) × (length (all_of z.0.0) ≡ files) × Remembers (opening_of z.0.0) z.1 (all_of z.0.0)) (λ i. (sym is i, sym unseen i))
+    (refl, length-map words opening_log ∙ are.0, (length-map words without_seen ∙ are.0, each))
   where
-    at : ◌≡◌ {A = Me ℕ View} (opening_view zeros, []) (Recorder zeros (replicate files []), [])
-    at = ap (λ (l : List Log). (Recorder zeros l, [])) (no_logs files)
+    each : (file : ℕ) → file < files → slice_index (map without_seen words) file ≡ word_of (start_of words file) (recorded_of (map opening_log words) file) false
+    each file h =
+        let f = opened_file words are file h in
+        get_or-map without_seen words file 0 0 (let count = are.0 in omega arith) ∙ without_seen_word (start_of words file) (recorded_of (map opening_log words) file) (slice_index words file) f.codes f.stands
 
-pub none_at_all : (me : Me ℕ View) → me ≡ (opening_view zeros, []) → all_of me.0 ≡ replicate files []
-none_at_all me is = ap (λ (m : Me ℕ View). all_of m.0) is ∙ no_logs files
+pub none_carried : (words : List ℕ) → words ≡ replicate files 0 → All MayBeCarried words
+none_carried words is k d h = inl (ap (λ l. get_or l k d) is ∙ get_or-replicate files k 0 d (let e : length words ≡ files = ap length is ∙ length-replicate {A = ℕ} files 0 in omega arith))

@@ -9,12 +9,12 @@ use lib.ListN.{get_elem?}
 use prog.Atomic.{either}
 use Rattle.std.proofs.Math.Seq.{take-length}
 use Rattle.atomic_table.specs.Table.{State, Me, Step, step, keeps, stepped, Allows}
-use Rattle.errseq.specs.Word.{turns, word_end, IsCode, IsWithinTurn, code_of, is_seen, checked}
+use Rattle.errseq.specs.Word.{turns, IsCode, IsWithinTurn, code_of, is_seen, checked}
 use Rattle.errseq.specs.Recorded.{raised, last_code, word_of}
 use Rattle.errseq.specs.Samples.{StandsFor, AreCodes, FitsPass}
 use Rattle.errseq.proofs.Prefixes.{prefix_self, prefix_trans, prefix_whole, prefix_length}
 use Rattle.errseq.proofs.Words.{code_range}
-use Rattle.errseq.proofs.Samples.{Log, seen_apart, seen_of_word, code_of_word, codes_prefix, stands_bound, just_done, same_fits, differs_later, later_found}
+use Rattle.errseq.proofs.Samples.{Log, seen_apart, seen_of_word, code_of_word, codes_prefix, just_done, same_fits, differs_later, later_found}
 use Rattle.errboard.specs.declared.views.View.{View}
 use Rattle.errboard.specs.declared.views.View.TheVariants.{Spent, Recorder, Sampled, Compares, Pass, Trying, Receipt}
 use Rattle.errboard.specs.Views.{files, recorded_of, start_of}
@@ -227,9 +227,6 @@ looks_as o slots id file me start known done since c is = subst (λ (m : Me ℕ 
 pub marks_as : (o : List ℕ) (slots id file : ℕ) (me : Me ℕ View) (start : ℕ) (known : Log) (c : List (ℕ × ℕ)) (old new : ℕ) → me ≡ (Trying file start known, c) → old ≡ word_of start known false → new ≡ word_of start known true
     → Allows (IsKept o) slots id me file (λ n. either (eqb n old) new n) (Marked (step slots file old new none) me)
 marks_as o slots id file me start known c old new is a b = subst (λ (m : Me ℕ View). Allows (IsKept o) slots id m file (λ n. either (eqb n old) new n) (Marked (step slots file old new none) m)) (sym is) (marks o slots id file start known c old new a b)
-
-pub looked_small : (file start : ℕ) (known : Log) (done since found : ℕ) (after : View) → LookedFrom (Pass file start known done since) found after → found < word_end
-looked_small file start known done since found after h = stands_bound start h.0 found h.3 h.2
 
 -- what the compare-exchange tells
 pub is_marked : (file : ℕ) (before : Me ℕ View) (start : ℕ) (known : Log) (st : Step ℕ) (found since first second : ℕ) (after : Me ℕ View) → before ≡ (Trying file start known, []) → st.first ≡ first → st.second ≡ second → first ≡ word_of start known false → AreCodes known

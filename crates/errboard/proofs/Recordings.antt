@@ -8,11 +8,11 @@ use native.Mathlib.Decide.{ℕ_discrete}
 use prog.Atomic.{either}
 use Rattle.atomic_table.specs.Table.{State, Me, Step, step, keeps, stepped, Allows}
 use Rattle.errseq.specs.declared.recording.Recording.{Recording}
-use Rattle.errseq.specs.Word.{word_end, IsCode, code_of, is_seen, word_set}
+use Rattle.errseq.specs.Word.{IsCode, code_of, is_seen, word_set}
 use Rattle.errseq.specs.Recorded.{word_of}
 use Rattle.errseq.specs.Samples.{AreCodes, FitsPass, FitsFound, recording}
 use Rattle.errseq.proofs.Prefixes.{prefix_more}
-use Rattle.errseq.proofs.Samples.{Log, seen_apart, seen_of_word, stands_bound, found_now, set_stands, code_of-set, codes_push, pass_recorded}
+use Rattle.errseq.proofs.Samples.{Log, seen_apart, seen_of_word, found_now, set_stands, code_of-set, codes_push, pass_recorded}
 use Rattle.errboard.specs.declared.views.View.{View}
 use Rattle.errboard.specs.declared.views.View.TheVariants.{Spent, Recorder, Sampled, Compares, Pass, Trying, Receipt}
 use Rattle.errboard.specs.Views.{files, recorded_of, start_of, recorder_left}
@@ -37,7 +37,6 @@ finds o slots id file began all c inside s r _ at _ =
         (
           refl,
           subst (λ (z : List ℕ × List Log). FitsFound (start_of z.0 file) (recorded_of z.1 file) w w) (λ i. (sym mine.1 i, sym mine.2 i)) found,
-          stands_bound (start_of o file) (recorded_of r.logs file) w here.codes here.stands,
           subst (λ l. AreCodes (recorded_of l file)) (sym mine.2) here.codes,
         ),
       ),
@@ -120,7 +119,7 @@ Made file old new after began all = (after ≡ recorded_view began all file old 
 
 -- what a first try tells, where the test of the word found came out so
 abbrev Tells : List ℕ → List Log → ℕ → ℕ → ℕ → ℕ → Bool → View → Type 0
-Tells began all file old new found hit after = MatchBool hit (Made file old new after began all) ((after ≡ Sampled began all file found) × (found ≡ word_of (start_of began file) (recorded_of all file) true) × (found < word_end))
+Tells began all file old new found hit after = MatchBool hit (Made file old new after began all) ((after ≡ Sampled began all file found) × (found ≡ word_of (start_of began file) (recorded_of all file) true))
 
 -- the first try
 records : (o : List ℕ) (slots id file : ℕ) (began : List ℕ) (all : List Log) (c : List (ℕ × ℕ)) (old new code : ℕ) → file < files → old ≡ word_of (start_of began file) (recorded_of all file) false → new ≡ word_set old code → IsCode code
@@ -155,7 +154,7 @@ records o slots id file began all c old new code inside is_old is_new valid s r 
       keeps,
       tt,
       subst (λ b. IsKept o (stepped s file (either b new w) id c view keeps)) (sym (ne_eqb w old miss)) (unmoved o s r file id c view (mine.0, mine.1, mine.2, inside, inr (u.0, u.1, refl))),
-      (refl, subst (λ b. Tells began all file old new w b view) (sym (ne_eqb w old miss)) (refl, subst (λ (z : List ℕ × List Log). w ≡ word_of (start_of z.0 file) (recorded_of z.1 file) true) (sym both) u.1, stands_bound start log w here.codes here.stands)),
+      (refl, subst (λ b. Tells began all file old new w b view) (sym (ne_eqb w old miss)) (refl, subst (λ (z : List ℕ × List Log). w ≡ word_of (start_of z.0 file) (recorded_of z.1 file) true) (sym both) u.1)),
     ))
 
 -- the second try
@@ -185,9 +184,6 @@ records_again o slots id file began all c old new code is_old is_new valid s r _
 pub finds_as : (o : List ℕ) (slots id file : ℕ) (me : Me ℕ View) (began : List ℕ) (all : List Log) (c : List (ℕ × ℕ)) → me ≡ (Recorder began all, c) → file < files → Allows (IsKept o) slots id me file (λ n. n) (Found (step slots file 0 0 none) me)
 finds_as o slots id file me began all c is inside = subst (λ (m : Me ℕ View). Allows (IsKept o) slots id m file (λ n. n) (Found (step slots file 0 0 none) m)) (sym is) (finds o slots id file began all c inside)
 
-pub found_small : (file : ℕ) (me : Me ℕ View) (began : List ℕ) (all : List Log) (st : Step ℕ) (found : ℕ) (after : Me ℕ View) → me ≡ (Recorder began all, []) → Found st me found after → found < word_end
-found_small file me began all st found after is told = (subst (λ (m : Me ℕ View). Found st m found after) is told).1.2
-
 pub records_as : (o : List ℕ) (slots id file : ℕ) (me : Me ℕ View) (began : List ℕ) (all : List Log) (c : List (ℕ × ℕ)) (old new code : ℕ) → me ≡ (Recorder began all, c) → file < files → old ≡ word_of (start_of began file) (recorded_of all file) false → new ≡ word_set old code → IsCode code
     → Allows (IsKept o) slots id me file (λ n. either (eqb n old) new n) (Recorded (step slots file old new none) me)
 records_as o slots id file me began all c old new code is inside a b v = subst (λ (m : Me ℕ View). Allows (IsKept o) slots id m file (λ n. either (eqb n old) new n) (Recorded (step slots file old new none) m)) (sym is) (records o slots id file began all c old new code inside a b v)
@@ -203,15 +199,15 @@ recorded_by file began all st code after is valid same h = (recording st.first s
 pub first_recorded : (file : ℕ) (before : Me ℕ View) (began : List ℕ) (all : List Log) (st : Step ℕ) (found code word : ℕ) (after : Me ℕ View) → before ≡ (Recorder began all, []) → st.word ≡ file → st.second ≡ word_set st.first code → IsCode code → found ≡ st.first → Recorded st before found after → word ≡ st.second → IsRecorded file began all code word after
 first_recorded file before began all st found code word after is at set_is valid hit told same =
     let h = subst (λ (m : Me ℕ View). Recorded st m found after) is told in
-    let h' = subst (λ b. MatchBool b (IsRecording st.word began all st after.0) ((after.0 ≡ Sampled began all st.word found) × (found ≡ word_of (start_of began st.word) (recorded_of all st.word) true) × (found < word_end))) (eq-eqb found st.first hit) h.1 in
+    let h' = subst (λ b. MatchBool b (IsRecording st.word began all st after.0) ((after.0 ≡ Sampled began all st.word found) × (found ≡ word_of (start_of began st.word) (recorded_of all st.word) true))) (eq-eqb found st.first hit) h.1 in
     subst (λ n. IsRecorded file began all code n after) (sym same) (recorded_by file began all st code after set_is valid h.0 (subst (λ n. IsRecording n began all st after.0) at h'))
 
 pub first_missed : (before : Me ℕ View) (began : List ℕ) (all : List Log) (st : Step ℕ) (found : ℕ) (after : Me ℕ View) → before ≡ (Recorder began all, []) → found ≢ st.first → Recorded st before found after
-    → (after ≡ (Sampled began all st.word found, [])) × (found ≡ word_of (start_of began st.word) (recorded_of all st.word) true) × (found < word_end)
+    → (after ≡ (Sampled began all st.word found, [])) × (found ≡ word_of (start_of began st.word) (recorded_of all st.word) true)
 first_missed before began all st found after is miss told =
     let h = subst (λ (m : Me ℕ View). Recorded st m found after) is told in
-    let h' = subst (λ b. MatchBool b (IsRecording st.word began all st after.0) ((after.0 ≡ Sampled began all st.word found) × (found ≡ word_of (start_of began st.word) (recorded_of all st.word) true) × (found < word_end))) (ne_eqb found st.first miss) h.1 in
-    ((λ i. (h'.0 i, h.0 i)), h'.1, h'.2)
+    let h' = subst (λ b. MatchBool b (IsRecording st.word began all st after.0) ((after.0 ≡ Sampled began all st.word found) × (found ≡ word_of (start_of began st.word) (recorded_of all st.word) true))) (ne_eqb found st.first miss) h.1 in
+    ((λ i. (h'.0 i, h.0 i)), h'.1)
 
 pub second_recorded : (file : ℕ) (before : Me ℕ View) (began : List ℕ) (all : List Log) (at : ℕ) (st : Step ℕ) (found code word : ℕ) (after : Me ℕ View) → before ≡ (Sampled began all file at, []) → st.second ≡ word_set st.first code → IsCode code → Recorded st before found after → word ≡ st.second → IsRecorded file began all code word after
 second_recorded file before began all at st found code word after is set_is valid told same =

@@ -5,7 +5,7 @@ use mathlib.Core.List.{IsPrefix}
 use lib.ListN.{get_elem?}
 use Rattle.atomic_table.specs.Table.{State, Me, Step}
 use Rattle.errseq.specs.declared.recording.Recording.{Recording}
-use Rattle.errseq.specs.Word.{IsWithinTurn, is_seen, word_end}
+use Rattle.errseq.specs.Word.{IsWithinTurn, is_seen}
 use Rattle.errseq.specs.Recorded.{raised, word_of}
 use Rattle.errseq.specs.Samples.{StandsFor, AreCodes, Owes, FitsPass, FitsFound, recording}
 use Rattle.errboard.specs.declared.views.View.{View}
@@ -42,7 +42,7 @@ pub record IsKept (opening : List ℕ) (s : State ℕ View) : Type 0 where
 -- the recorder finds the word of a file
 abbrev pub FoundFrom : ℕ → View → ℕ → View → Type 0
 FoundFrom file (Recorder opening all) found after =
-    (after ≡ Sampled opening all file found) × FitsFound (start_of opening file) (recorded_of all file) found found × (found < word_end) × AreCodes (recorded_of all file)
+    (after ≡ Sampled opening all file found) × FitsFound (start_of opening file) (recorded_of all file) found found × AreCodes (recorded_of all file)
 FoundFrom file v found after = Unit {0}
 
 abbrev pub Found : Step ℕ → Me ℕ View → ℕ → Me ℕ View → Type 0
@@ -58,7 +58,7 @@ IsRecording file opening all s after =
 -- the first try records, or finds that the word had got SEEN; the second records
 abbrev pub RecordedFrom : ℕ → Step ℕ → View → ℕ → View → Type 0
 RecordedFrom file s (Recorder opening all) found after = MatchBool (found == s.first) (IsRecording file opening all s after)
-    ((after ≡ Sampled opening all file found) × (found ≡ word_of (start_of opening file) (recorded_of all file) true) × (found < word_end))
+    ((after ≡ Sampled opening all file found) × (found ≡ word_of (start_of opening file) (recorded_of all file) true))
 RecordedFrom file s (Sampled opening all at seen) found after = IsRecording at opening all s after
 RecordedFrom file s v found after = Unit {0}
 

@@ -1,11 +1,11 @@
 //! The board, as any thread shares it.
 
-ghost use Rattle.std.specs.Prelude.{◌≡◌, ◌≢◌, ◌⊎◌, ◌<◌, ◌≤◌, ◌∷◌, [], ℕ, true, length, drop, replicate, IfOk, IsOkUnless, IfSome, IfNone, IsSome};
+ghost use Rattle.std.specs.Prelude.{◌≡◌, ◌≢◌, ◌⊎◌, ◌<◌, ◌≤◌, ◌∷◌, ◌↔◌, [], ℕ, true, length, drop, map, replicate, All, IfOk, IfErr, IsOk, IsOkUnless, IfSome, IfNone, IsSome};
 ghost use mathlib.Core.List.{IsPrefix};
-ghost use Rattle.errseq.specs.Word.{IsCode, IsWithinTurn, checked, code_of};
+ghost use Rattle.errseq.specs.Word.{IsCode, IsWithinTurn, MayBeCarried, checked, code_of, without_seen};
 ghost use Rattle.errseq.specs.Recorded.{raised, last_code, word_of};
 ghost use Rattle.errseq.specs.Samples.{StandsFor};
-ghost use Rattle.errboard.specs.Views.{files, opening_view, told_of};
+ghost use Rattle.errboard.specs.Views.{files, opening_log, opening_view, told_of};
 
 use crate::recorder::Recorder;
 use crate::steps::{compare, inform};
@@ -51,11 +51,38 @@ impl Board {
         ensures words { IfOk result (λ r. r.1.words ≡ replicate files 0) }
         ensures refused { IsOkUnless result Refusal.Memory }
     {
-        let (table, seat) = opened(alloc)?;
+        Board::over(alloc, &no_words())
+    }
+
+    /// A board over words of 32 bits, one a file, and its one recorder. What each says stands as recorded: its code, of
+    /// which a new handle is told where nobody was.
+    pub fn from_words(alloc: Global, words: &[u32; FILES]) -> Result<(Board, Recorder), Refusal>
+        ensures board { IfOk result (λ r. r.1.board ≡ r.0) }
+        ensures opening { IfOk result (λ r. r.1.opening ≡ words.now) }
+        ensures recorded { IfOk result (λ r. r.1.all ≡ map opening_log words.now) }
+        ensures words { IfOk result (λ r. r.1.words ≡ map without_seen words.now) }
+
+        // It is refused where a word can't be carried over, and else only where memory was.
+        ensures code { (All MayBeCarried words.now → ⊥) → result ≡ Err Refusal.BadCode }
+        ensures refused { All MayBeCarried words.now → IsOkUnless result Refusal.Memory }
+    {
+        Board::over(alloc, &carried(words)?)
+    }
+
+    // A board over the words of a table.
+    fn over(alloc: Global, opening: &[u64; FILES]) -> Result<(Board, Recorder), Refusal>
+        requires { All MayBeCarried opening.now }
+        ensures board { IfOk result (λ r. r.1.board ≡ r.0) }
+        ensures opening { IfOk result (λ r. r.1.opening ≡ opening.now) }
+        ensures recorded { IfOk result (λ r. r.1.all ≡ map opening_log opening.now) }
+        ensures words { IfOk result (λ r. r.1.words ≡ map without_seen opening.now) }
+        ensures refused { IsOkUnless result Refusal.Memory }
+    {
+        let (table, seat) = opened(alloc, opening)?;
         let Ok(words) = Arc::new(alloc, table) else {
             return Err(Refusal::Memory);
         };
-        let recorder = Recorder::of(Arc::try_clone(&words)?, seat);
+        let recorder = Recorder::of(Arc::try_clone(&words)?, seat, opening);
         Ok((Board { words }, recorder))
     }
 
@@ -120,10 +147,22 @@ fn no_words() -> [u64; FILES]
     [0; FILES]
 }
 
-// The table of a new board, and the recorder's seat.
-fn opened(alloc: Global) -> Result<(Owned, Place), AllocError>
-    ensures { IfOk result (λ r. (r.0.shared.table_id.words ≡ files) × (r.1.table_id ≡ r.0.shared.table_id) × (r.1.me ≡ (opening_view (replicate files 0), []))) }
+fn carried(words: &[u32; FILES]) -> Result<[u64; FILES], Refusal>
+    ensures same { IfOk result (λ c. c ≡ words.now) }
+    ensures carried { IsOk result ↔ All MayBeCarried words.now }
+    ensures refused { IsOkUnless result Refusal.BadCode }
 {
-    let opening = no_words();
-    Table::<u8, View, [u64; FILES], Told, Global>::of_words(alloc, &opening, &opening)
+    let mut carried = no_words();
+    for (file, old) in words.iter().enumerate() {
+        carried[file] = ErrWord::carry(*old)?.to_u64();
+    }
+    Ok(carried)
+}
+
+// The table of a board over these words, and the recorder's seat.
+fn opened(alloc: Global, opening: &[u64; FILES]) -> Result<(Owned, Place), AllocError>
+    requires { All MayBeCarried opening.now }
+    ensures { IfOk result (λ r. (r.0.shared.table_id.words ≡ files) × (r.1.table_id ≡ r.0.shared.table_id) × (r.1.me ≡ (opening_view opening.now, []))) }
+{
+    Table::<u8, View, [u64; FILES], Told, Global>::of_words(alloc, opening, opening)
 }

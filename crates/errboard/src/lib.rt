@@ -3,7 +3,7 @@
 //!
 //! Whatever threads run beside it, a poll answers nothing exactly where the word that it loaded is the pass's sample,
 //! and a code only where something was recorded past what the pass was told. It answers one always then, as long as the
-//! counter of 19 bits didn't come round since: no schedule loses an error.
+//! counter of 51 bits didn't come round since: no schedule loses an error.
 //!
 //! `board` has the board and its calls, `recorder` what alone records, `tokens` the pass of a handle and the receipt of
 //! a recording. `views` says what each seat of the table knows, with the rule over all of them (`specs/Rules.antt`),

@@ -1,13 +1,13 @@
 //! What alone records on a board.
 
-ghost use Rattle.std.specs.Prelude.{◌≡◌, ◌≢◌, ◌⊎◌, ◌<◌, ◌≤◌, ◌↔◌, ◌∷◌, [], ℕ, true, false, length, replicate, slice_set, IfOk, IsOk, IsOkUnless};
+ghost use Rattle.std.specs.Prelude.{◌≡◌, ◌≢◌, ◌⊎◌, ◌<◌, ◌≤◌, ◌↔◌, ◌∷◌, [], ℕ, true, false, length, map, slice_set, All, IfOk, IsOk, IsOkUnless};
 ghost use mathlib.Core.List.{IsPrefix};
 ghost use Rattle.std.specs.Arc.{arc_value};
 ghost use Rattle.errseq.specs.declared.recording.Recording.{Recording};
-ghost use Rattle.errseq.specs.Word.{sample_of};
+ghost use Rattle.errseq.specs.Word.{MayBeCarried, sample_of, without_seen};
 ghost use Rattle.errseq.specs.Recorded.{word_of};
 ghost use Rattle.errseq.specs.Samples.{StandsFor, Owes, done_at};
-ghost use Rattle.errboard.specs.Views.{files, recorded_of, start_of, opening_view};
+ghost use Rattle.errboard.specs.Views.{files, recorded_of, start_of, opening_log, opening_view};
 ghost use Rattle.errboard.specs.Steps.{with_recording};
 
 use crate::board::Owned;
@@ -45,19 +45,20 @@ impl Model for Recorder {
 }
 
 impl Recorder {
-    // The recorder of a new board.
-    pub(crate) fn of(words: Arc<Owned, Global>, seat: Place) -> Recorder
+    // The recorder of a board over these words.
+    pub(crate) fn of(words: Arc<Owned, Global>, seat: Place, opening: &[u64; FILES]) -> Recorder
+        requires carried { All MayBeCarried opening.now }
         requires table { ((arc_value words).shared.table_id ≡ seat.table_id) × (seat.table_id.words ≡ files) }
-        requires seat { seat.me ≡ (opening_view (replicate files 0), []) }
+        requires seat { seat.me ≡ (opening_view opening.now, []) }
         ensures board { result.board ≡ seat.table_id }
-        ensures opening { result.opening ≡ replicate files 0 }
-        ensures nothing { result.all ≡ replicate files [] }
-        ensures words { result.words ≡ replicate files 0 }
+        ensures opening { result.opening ≡ opening.now }
+        ensures recorded { result.all ≡ map opening_log opening.now }
+        ensures words { result.words ≡ map without_seen opening.now }
     {
         Recorder {
             words,
             seat,
-            written: no_words(),
+            written: unseen(opening),
         }
     }
 
@@ -141,8 +142,13 @@ impl Recorder {
     }
 }
 
-fn no_words() -> [ErrWord; FILES]
-    ensures { result ≡ replicate files 0 }
+// The words without SEEN.
+fn unseen(opening: &[u64; FILES]) -> [ErrWord; FILES]
+    ensures { result ≡ map without_seen opening.now }
 {
-    [ErrWord(0); FILES]
+    let mut unseen = [ErrWord(0); FILES];
+    for (file, bits) in opening.iter().enumerate() {
+        unseen[file] = ErrWord::from_u64(*bits).without_seen();
+    }
+    unseen
 }

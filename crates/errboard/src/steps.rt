@@ -2,7 +2,6 @@
 
 ghost use Rattle.std.specs.Prelude.{◌≡◌, ◌≢◌, ◌⊎◌, ◌<◌, [], true, false};
 ghost use mathlib.Core.List.{IsPrefix};
-ghost use Rattle.errseq.specs.Word.{word_end};
 ghost use Rattle.errseq.specs.Recorded.{word_of};
 ghost use Rattle.errseq.specs.Samples.{AreCodes, Owes, FitsFound};
 ghost use Rattle.errboard.specs.declared.views.View.TheVariants.{Recorder, Sampled, Pass, Trying, Receipt};
@@ -86,7 +85,6 @@ pub(crate) fn record_at(
 // The second try: the word had got SEEN, which no poll clears, so this one succeeds.
 fn record_again(table: &Words, seat: &mut Place, file: usize, found: u64, code: ErrCode) -> ErrWord
     requires at { IsAt table.now.table_id seat.old file }
-    requires found { found < word_end }
     requires sampled { (seat.old.me ≡ (Sampled (opening_of seat.old.me.0) (all_of seat.old.me.0) file found, [])) × (found ≡ word_of (start_of (opening_of seat.old.me.0) file) (recorded_of (all_of seat.old.me.0) file) true) }
     ensures seat { Stays seat.old seat.new }
     ensures recorded { IsRecorded file (opening_of seat.old.me.0) (all_of seat.old.me.0) code result seat.new.me }

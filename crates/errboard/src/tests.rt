@@ -75,6 +75,40 @@ fn files_are_apart(rt: HostRuntime) -> Result<(), Fail> {
     Ok(())
 }
 
+#[test]
+fn a_board_begins_with_carried_words(rt: HostRuntime) -> Result<(), Fail> {
+    let mut words = [0; 64];
+    words[0] = 0x5;
+    words[1] = 0x1005;
+    words[2] = 0xffff_f005;
+    let (board, mut recorder) = Board::from_words(rt.alloc(), &words)?;
+
+    // A code that nobody was told of is told to a new pass, and one that somebody was told of is not.
+    let mut untold = recorder.pass(FileId(0))?;
+    let mut told = recorder.pass(FileId(1))?;
+    assert!(rt; polled(&board, &mut untold) == Some(5) && board.poll(&mut untold).is_none());
+    assert!(rt; board.poll(&mut told).is_none());
+
+    // What is recorded from now on is told to each, and past the end of the old counter too.
+    let mut last = recorder.pass(FileId(2))?;
+    let mut none = recorder.pass(FileId(3))?;
+    assert!(rt; board.poll(&mut last).is_none() && board.poll(&mut none).is_none());
+    for file in 0..4 {
+        recorder.record(FileId(file), ErrCode::new(28)?);
+    }
+    assert!(rt; polled(&board, &mut untold) == Some(28) && polled(&board, &mut told) == Some(28));
+    assert!(rt; polled(&board, &mut last) == Some(28) && polled(&board, &mut none) == Some(28));
+    Ok(())
+}
+
+#[test]
+fn a_word_without_a_code_is_not_carried(rt: HostRuntime) -> Result<(), Fail> {
+    let mut words = [0; 64];
+    words[63] = 0x1000;
+    assert!(rt; Board::from_words(rt.alloc(), &words).err() == Some(Refusal::BadCode));
+    Ok(())
+}
+
 // How many recordings, and how many passes poll beside them.
 const ROUNDS: u16 = 2_000;
 

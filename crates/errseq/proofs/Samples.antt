@@ -9,7 +9,7 @@ use lib.ListN.{get_elem?}
 use Rattle.std.proofs.Math.Seq.{take-length}
 use Rattle.std.proofs.lemmas.List.{take-append-drop, take-append-le, nil_from_length}
 use Rattle.errseq.specs.declared.recording.Recording.{Recording}
-use Rattle.errseq.specs.Word.{turns, word_end, IsWithinTurn, IsCode, code_of, is_seen, word, word_set, sample_of, with_seen}
+use Rattle.errseq.specs.Word.{turns, IsWithinTurn, IsCode, code_of, is_seen, word, word_set, sample_of, with_seen, without_seen}
 use Rattle.errseq.specs.Recorded.{raised, last_code, word_of}
 use Rattle.errseq.specs.Samples.{StandsFor, AreCodes, FitsSample, FitsPass, FitsFound, recording, done_at}
 use Rattle.errseq.proofs.Prefixes.{prefix_self, prefix_length, prefix_more, prefix_at, none_at}
@@ -32,6 +32,11 @@ code_of_word start log s codes = code_of-word (counter start log) (last_code log
 pub with_seen_word : (start : ℕ) (log : Log) (n : ℕ) → AreCodes log → n ≡ word_of start log false → with_seen n ≡ word_of start log true
 with_seen_word start log n codes is = rw (ap is_seen is ∙ seen_of_word start log false codes) (let c : ℕ = counter start log in let l : ℕ = last_code log in let e : n ≡ c * 8192 + 0 + l = is in let so : n + 4096 ≡ c * 8192 + 4096 + l = omega arith in so)
 
+-- the word without SEEN is theirs without SEEN
+pub without_seen_word : (start : ℕ) (log : Log) (w : ℕ) → AreCodes log → StandsFor start w log → without_seen w ≡ word_of start log false
+without_seen_word start log w codes (inl u) = ap (λ b. if b then w - 4096 else w) (ap is_seen u ∙ seen_of_word start log false codes) ∙ u
+without_seen_word start log w codes (inr u) = ap (λ b. if b then w - 4096 else w) (ap is_seen u.1 ∙ seen_of_word start log true codes) ∙ (let c : ℕ = counter start log in let l : ℕ = last_code log in let e : w ≡ c * 8192 + 4096 + l = u.1 in let so : w - 4096 ≡ c * 8192 + 0 + l = omega arith in so)
+
 -- a word that is seen is not one that is unseen
 pub seen_apart : (start : ℕ) (xs ys : Log) → AreCodes xs → AreCodes ys → word_of start xs true ≡ word_of start ys false → ⊥
 seen_apart start xs ys p q e = true≢false (sym (seen_of_word start xs true p) ∙ ap is_seen e ∙ seen_of_word start ys false q)
@@ -46,19 +51,6 @@ pub zero_empty : (start : ℕ) (log : Log) (w : ℕ) → AreCodes log → Stands
 zero_empty start [] w codes stands z = refl
 zero_empty start (r ∷ rs) w codes (inl e) z = let l = code_range (r ∷ rs) codes (omega arith) in let c : ℕ = last_code (r ∷ rs) in let n : ℕ = counter start (r ∷ rs) in let e' : w ≡ n * 8192 + 0 + c = e in let l' : 0 < c = l.0 in absurd (omega arith)
 zero_empty start (r ∷ rs) w codes (inr e) z = let c : ℕ = last_code (r ∷ rs) in let n : ℕ = counter start (r ∷ rs) in let e' : w ≡ n * 8192 + 4096 + c = e.1 in absurd (omega arith)
-
-word_bound : (c l : ℕ) (s : Bool) → l < 4096 → word (c % turns) s l < word_end
-word_bound c l true h = let d : ℕ = c % 524288 in omega arith
-word_bound c l false h = let d : ℕ = c % 524288 in omega arith
-
-pub word_of_bound : (start : ℕ) (log : Log) (s : Bool) → AreCodes log → word_of start log s < word_end
-word_of_bound start log s codes = word_bound (start + raised log) (last_code log) s (code_small log codes)
-
-pub stands_bound : (start : ℕ) (log : Log) (w : ℕ) → AreCodes log → StandsFor start w log → w < word_end
-stands_bound start log w codes stands = ⊎_elim
-    (λ (u : w ≡ word_of start log false). subst (λ n. n < word_end) (sym u) (word_of_bound start log false codes))
-    (λ (u : (0 < length log) × (w ≡ word_of start log true)). subst (λ n. n < word_end) (sym u.1) (word_of_bound start log true codes))
-    stands
 
 pub found_now : (start : ℕ) (log : Log) (w : ℕ) → StandsFor start w log → FitsFound start log w w
 found_now start log w stands = ⊎_elim (λ (u : w ≡ word_of start log false). inl u) (λ (u : (0 < length log) × (w ≡ word_of start log true)). inr (u.0, u.1, refl)) stands
@@ -134,7 +126,7 @@ module _ (start : ℕ) (log : Log) (w : ℕ) (known : Log) (done since : ℕ) (c
           let d : ℕ = raised (drop done log) in
           let all' : a + d ≡ b = all in
           let one' : 0 < d = one in
-          let few' : d < 524288 = fewer in
+          let few' : d < turns = fewer in
           let is = one_turn (start + a) (start + b) (omega arith) (omega arith) (sym count) in
           let is' : start + a ≡ start + b = is in omega arith
 
@@ -176,7 +168,7 @@ set_stands start log old new c codes valid (inr u) is =
     let next : (counter start log + 1) % turns ≡ counter start (log ++ x ∷ []) = next_mod start (raised log) ∙ ap (λ n. (start + n) % turns) (sym more) in
     (new' ∙ ap (λ n. word n false c) next ∙ ap (λ n. word (counter start (log ++ x ∷ [])) false n) (sym (last_code-push log x ∙ code)), code)
   where
-    next_mod : (s n : ℕ) → ((s + n) % 524288 + 1) % 524288 ≡ (s + (n + 1)) % 524288
+    next_mod : (s n : ℕ) → ((s + n) % turns + 1) % turns ≡ (s + (n + 1)) % turns
     next_mod s n = omega arith
 
 at_push : (log : Log) (r x : Recording) (k : ℕ) → get_elem? (log ++ r ∷ []) k ≡ some x → (get_elem? log k ≡ some x) ⊎ ((k ≡ length log) × (r ≡ x))

@@ -2,12 +2,12 @@
 use Rattle.std.proofs.Common.{◌≡◌, ◌≢◌, ℕ, suc, ◌+◌, ◌*◌, ◌/◌, ◌%◌, ◌<◌, ◌≤◌, Bool, true, false, eq-eqb, ne_eqb, List, [], ◌∷◌, ◌++◌, length, refl, arith}
 use Rattle.std.specs.Prelude.{if◌then◌else◌}
 use Rattle.errseq.specs.declared.recording.Recording.{Recording}
-use Rattle.errseq.specs.Word.{code_of, is_seen, word}
+use Rattle.errseq.specs.Word.{turns, code_of, is_seen, word}
 use Rattle.errseq.specs.Recorded.{raised, last_code}
 use Rattle.errseq.specs.Samples.{AreCodes}
 
 -- two counts less than a turn apart that leave the counter alike are one count
-pub one_turn : (a b : ℕ) → a ≤ b → b < a + 524288 → a % 524288 ≡ b % 524288 → a ≡ b
+pub one_turn : (a b : ℕ) → a ≤ b → b < a + turns → a % turns ≡ b % turns → a ≡ b
 one_turn a b le lt e = omega arith
 
 seen_bit : (w c l : ℕ) → l < 4096 → w ≡ c * 8192 + 4096 + l → w / 4096 % 2 ≡ 1

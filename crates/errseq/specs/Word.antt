@@ -1,14 +1,11 @@
--- The error word, after Linux's errseq_t: bits 0 to 11 are the code, bit 12 is SEEN, and bits 13 to 31 are a counter of 19 bits. All that depends on the counter's width stands in this file.
-use Rattle.std.specs.Prelude.{ℕ, ◌+◌, ◌*◌, ◌/◌, ◌%◌, ◌<◌, ◌≤◌, ◌==◌, Bool, false, if◌then◌else◌, Option, Some, None}
+-- The error word, after Linux's errseq_t: bits 0 to 11 are the code, bit 12 is SEEN, and bits 13 to 63 are a counter of
+-- 51 bits, where Linux's has 19.
+use Rattle.std.specs.Prelude.{◌≡◌, ◌≢◌, ℕ, ◌+◌, ◌-◌, ◌*◌, ◌/◌, ◌%◌, ◌<◌, ◌≤◌, ◌==◌, ◌⊎◌, Bool, false, if◌then◌else◌, Option, Some, None}
 use Rattle.pc_types.specs.declared.limits.TheConstants.{MAX_ERR_CODE}
 
--- how many values the counter has: 2^19
+-- how many values the counter has: 2^51. All that depends on its width is said by this
 abbrev pub turns : ℕ
-turns = 524288
-
--- words are below this: 2^32
-abbrev pub word_end : ℕ
-word_end = 4294967296
+turns = 2251799813685248
 
 -- The premise on the counter, of everything that says that no recording is missed: fewer recordings raised it than it has values, so it didn't come round to where it was
 abbrev pub IsWithinTurn : ℕ → Type 0
@@ -41,6 +38,13 @@ sample_of w = if is_seen w then w else 0
 
 abbrev pub with_seen : ℕ → ℕ
 with_seen w = if is_seen w then w else w + 4096
+
+abbrev pub without_seen : ℕ → ℕ
+without_seen w = if is_seen w then w - 4096 else w
+
+-- a word of 32 bits may be carried over: nothing was recorded in it, or it has a code
+abbrev pub MayBeCarried : ℕ → Type 0
+MayBeCarried w = (w ≡ 0) ⊎ (code_of w ≢ 0)
 
 -- what a look answers: nothing where the word is the sample, else the code
 abbrev pub checked : ℕ → ℕ → Option ℕ

@@ -1,7 +1,7 @@
 ghost use Rattle.std.specs.Prelude.{◌≡◌, Some, None};
 
 use crate::word::ErrWord;
-use pc_types::ErrCode;
+use pc_types::{ErrCode, Refusal};
 use std::test::*;
 
 #[test]
@@ -60,9 +60,25 @@ fn a_sample_that_never_stood_loses_an_error(rt: HostRuntime) -> Result<(), Fail>
 
 #[test]
 fn the_counter_wraps(rt: HostRuntime) -> Result<(), Fail> {
-    let mut word = ErrWord(0xffff_f005);
-    word.set(code(7)?);
-    assert!(rt; word == ErrWord(0x7));
+    let mut word = ErrWord(0xffff_ffff_ffff_f005);
+    word.set(code(5)?);
+    assert!(rt; word == ErrWord(0x5));
+    Ok(())
+}
+
+#[test]
+fn a_word_of_32_bits_is_carried_over(rt: HostRuntime) -> Result<(), Fail> {
+    // Where the counter of 19 bits came round, the one of 51 bits goes on.
+    let mut word = ErrWord::carry(0xffff_f005)?;
+    let mut since = word.sample();
+    word.set(code(5)?);
+    assert!(rt; word == ErrWord(0x1_0000_0005));
+    assert!(rt; word.check_and_advance(&mut since) == Some(5));
+
+    // A word without a code was never one, but for that of a file on which nothing was recorded.
+    assert!(rt; ErrWord::carry(0x1000).err() == Some(Refusal::BadCode));
+    assert!(rt; ErrWord::carry(0x2000).err() == Some(Refusal::BadCode));
+    assert!(rt; ErrWord::carry(0)? == ErrWord(0) && ErrWord::carry(0x1005)? == ErrWord(0x1005));
     Ok(())
 }
 
@@ -72,6 +88,7 @@ fn each_call_by_itself(rt: HostRuntime) -> Result<(), Fail> {
     assert!(rt; !word.is_seen() && word.code() == 28);
     assert!(rt; word.with_seen() == ErrWord(0x301c) && word.with_seen().is_seen());
     assert!(rt; word.with_seen().sample() == ErrWord(0x301c));
+    assert!(rt; word.without_seen() == word && word.with_seen().without_seen() == word);
     assert!(rt; word.to_u64() == 0x201c && ErrWord::from_u64(0x201c) == word);
     assert!(rt; told_once(code(28)?) == (Some(28), None));
     crate::answers_as_recorded();

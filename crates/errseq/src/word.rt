@@ -1,23 +1,23 @@
 //! The word and its calls. The width of the counter stands here and in `specs/Word.antt`, and nowhere else.
 
-ghost use Rattle.std.specs.Prelude.{◌≡◌, ◌≢◌, ◌+◌, ◌*◌, ◌%◌, ◌<◌, if◌then◌else◌};
-ghost use Rattle.errseq.specs.Word.{IsCode, checked, code_of, counter_of, is_seen, sample_of, turns, with_seen, word_end, word_set};
+ghost use Rattle.std.specs.Prelude.{◌≡◌, ◌≢◌, ◌+◌, ◌*◌, ◌%◌, ◌↔◌, if◌then◌else◌, IfOk, IsOk, IsOkUnless};
+ghost use Rattle.errseq.specs.Word.{IsCode, MayBeCarried, checked, code_of, counter_of, is_seen, sample_of, turns, with_seen, without_seen, word_set};
 
-use pc_types::ErrCode;
+use pc_types::{ErrCode, Refusal};
 use std::marker::Model;
 
 /// Bit 12: some handle was told of the last recording.
-const SEEN: u32 = 1 << 12;
+const SEEN: u64 = 1 << 12;
 
 /// Bits 0 to 11: the code of the last recording, 0 before the first.
-const CODE: u32 = SEEN - 1;
+const CODE: u64 = SEEN - 1;
 
-/// Bits 13 to 31: the counter. Adding to its lowest bit wraps it after 2^19 - 1, since nothing stands above it.
-const STEP: u32 = 1 << 13;
+/// Bits 13 to 63: the counter. Adding to its lowest bit wraps it after 2^51 - 1, since nothing stands above it.
+const STEP: u64 = 1 << 13;
 
 /// The error word of a file. It begins as 0. A handle keeps a word too: its sample, which a look compares with.
 #[derive(Clone, Copy, PartialEq, Eq, Debug)]
-pub struct ErrWord(pub u32);
+pub struct ErrWord(pub u64);
 
 impl Model for ErrWord {
     ghost use Rattle.std.specs.Prelude.{ℕ};
@@ -30,6 +30,20 @@ impl Model for ErrWord {
 }
 
 impl ErrWord {
+    /// Carries a word of 32 bits over: the same code, flag and counter, of which it has 19 bits. A sample is carried
+    /// alike, so that a look answers of the two what it would have answered.
+    pub fn carry(old: u32) -> Result<ErrWord, Refusal>
+        ensures same { IfOk result (λ w. w ≡ old) }
+        ensures carried { IsOk result ↔ MayBeCarried old }
+        ensures refused { IsOkUnless result Refusal.BadCode }
+    {
+        let word = ErrWord(u64::from(old));
+        if old != 0 && word.code() == 0 {
+            return Err(Refusal::BadCode);
+        }
+        Ok(word)
+    }
+
     /// Whether some handle was told of the last recording.
     pub fn is_seen(self) -> bool
         ensures { result ≡ is_seen self }
@@ -50,11 +64,11 @@ impl ErrWord {
         ensures word { self.new ≡ word_set self.old code }
         ensures code { IsCode code }
     {
-        self.0 = self.next_counter() | u32::from(code.code());
+        self.0 = self.next_counter() | u64::from(code.code());
     }
 
     // The counter's bits after a recording.
-    fn next_counter(self) -> u32
+    fn next_counter(self) -> u64
         ensures { result ≡ (if is_seen self then (counter_of self + 1) % turns else counter_of self) * 8192 }
     {
         let counter = self.0 & !(STEP - 1);
@@ -77,6 +91,17 @@ impl ErrWord {
         ensures { result ≡ with_seen self }
     {
         ErrWord(self.0 | SEEN)
+    }
+
+    /// The word without SEEN.
+    pub fn without_seen(self) -> ErrWord
+        ensures { result ≡ without_seen self }
+    {
+        if self.is_seen() {
+            ErrWord(self.0 - SEEN)
+        } else {
+            self
+        }
     }
 
     /// The last code, where the word is not the sample. Nothing is changed, so the next look is told again.
@@ -106,17 +131,15 @@ impl ErrWord {
 
     /// The word as one of an atomic table.
     pub fn to_u64(self) -> u64
-        ensures word { result ≡ self }
-        ensures within { result < word_end }
+        ensures { result ≡ self }
     {
-        u64::from(self.0)
+        self.0
     }
 
     /// The word of an atomic table as an error word.
     pub fn from_u64(bits: u64) -> ErrWord
-        requires { bits < word_end }
         ensures { result ≡ bits }
     {
-        ErrWord(bits as u32)
+        ErrWord(bits)
     }
 }

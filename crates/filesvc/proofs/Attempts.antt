@@ -7,7 +7,7 @@ use Rattle.errboard.specs.Shown.{RecorderSeen}
 use Rattle.pc_types.specs.declared.ids.HandleId.{HandleId}
 use Rattle.pc_types.specs.declared.ids.PageIndex.{PageIndex}
 use Rattle.pc_types.specs.declared.refusal.Refusal.{Refusal}
-use Rattle.pc_types.specs.declared.refusal.Refusal.TheVariants.{DirtyLimit, Io, Memory, NoFrame, Turns}
+use Rattle.pc_types.specs.declared.refusal.Refusal.TheVariants.{BadHandle, DirtyLimit, Io, Memory, NoFrame, NoSpace, TooLarge, TooLong, TooManyInFlight, Turns}
 use Rattle.cachecore.specs.declared.answers.ReadAnswer.{ReadAnswer}
 use Rattle.cachecore.specs.declared.answers.ReadAnswer.TheVariants as read
 use Rattle.cachecore.specs.declared.answers.TruncateAnswer.{TruncateAnswer}
@@ -17,7 +17,7 @@ use Rattle.cachecore.specs.declared.event.Event.TheVariants as event
 use Rattle.cachecore.specs.declared.event.Reply.{Reply}
 use Rattle.cachecore.specs.declared.event.Reply.TheVariants as reply
 use Rattle.cachecore.specs.Replies.{was_read, was_truncated}
-use Rattle.cachecore.specs.State.{State, file_at, file_of}
+use Rattle.cachecore.specs.State.{State, file_at, file_of, is_open}
 use Rattle.cachecore.specs.Step.{Answers, Step, WriteReply}
 use Rattle.cachecore.specs.Tests.{tests, write_tests}
 use Rattle.world.specs.Plain.{named, plain_after, plain_file}
@@ -31,37 +31,41 @@ use Rattle.filesvc.specs.declared.writes.Wrote.{Wrote}
 use Rattle.filesvc.specs.Attempts.{Attempt, Follows, IsStopped, WroteAll, write_over}
 use Rattle.filesvc.specs.Rests.{IsService}
 use Rattle.filesvc.specs.Seen.{HandleSeen, SoloSeen}
-use Rattle.filesvc.specs.Service.{FilesAfter, IsOpen, IsRefusal, IsSettledAtOnce, Keeps, Refuses, Serves, Tells, files, is_settled}
+use Rattle.filesvc.specs.Service.{FilesAfter, IsOpen, IsRefusal, IsSettledAtOnce, IsWithoutRoom, Keeps, Refuses, Serves, Tells, files, is_settled}
 use Rattle.filesvc.proofs.Acted.{service_acted}
-use Rattle.filesvc.proofs.CallSteps.{call_keeps, comes, is_call, is_own, no_job, own_reply, plain_refused, wrote_all}
+use Rattle.filesvc.proofs.CallSteps.{call_keeps, call_no_sync, comes, is_call, is_own, no_job, own_reply, plain_refused, wrote_all}
 use Rattle.filesvc.proofs.FileSizes.{lengths_stay}
 use Rattle.filesvc.proofs.Laws.{keeps_counted, keeps_trans, serves_counted, serves_refl, serves_trans}
-use Rattle.filesvc.proofs.RoomLaws.{fill_refuses}
+use Rattle.filesvc.proofs.Fronts.{closed_refuses, handle_of, kept_refuses}
+use Rattle.filesvc.proofs.RoomLaws.{faulted_before, fill_refusal_before, room_before}
+use Rattle.filesvc.specs.Rooms.{IsFillRefusal}
 use Rattle.filesvc.proofs.WorldLaws.{made_keeps}
 
 -- ---- refusals
 
 -- a refusal stands for a call that began before
-pub refused_before : (old mid : SoloSeen) (h : HandleId) (e : Event) (r : Refusal) (new : SoloSeen) → Serves old mid → IsRefusal mid h e r new → IsRefusal old h e r new
-refused_before old mid h e r new s x = by_refusal r x
-  where
-    before : (e : Event) (r : Refusal) → Refuses mid e r → Refuses old e r
-    before e r x = (x.0, serves_trans old mid x.0 s x.1, x.2)
+pub refused_before : (old mid : SoloSeen) (e : Event) (r : Refusal) (new : SoloSeen) → is_call e ≡ true → Serves old mid → IsRefusal mid e r new → IsRefusal old e r new
+refused_before old mid e BadHandle new call s x = kept_refuses BadHandle refl old mid s e call x
+refused_before old mid e TooLong new call s x = kept_refuses TooLong refl old mid s e call x
+refused_before old mid e TooLarge new call s x = kept_refuses TooLarge refl old mid s e call x
+refused_before old mid e NoSpace new call s x = x
+refused_before old mid e NoFrame new call s x = room_before old mid new NoFrame s x
+refused_before old mid e DirtyLimit new call s x = room_before old mid new DirtyLimit s x
+refused_before old mid e (Io code) new call s x = faulted_before old mid new s x
+refused_before old mid e TooManyInFlight new call s x = x
+refused_before old mid e Memory new call s x = tt
+refused_before old mid e Turns new call s x = x
+refused_before old mid e r new call s x = absurd x
 
-    faulted : (a b c : ℕ) → a ≤ b → b < c → a < c
-    faulted a b c k l = omega arith
-
-    by_refusal : (r : Refusal) → IsRefusal mid h e r new → IsRefusal old h e r new
-    by_refusal Memory x = tt
-    by_refusal (Io code) x = elim x [ inl a ↦ inl (faulted _ _ _ s.keeps.faults a) | inr a ↦ inr a ]
-    by_refusal Turns x = x
-    by_refusal r x = elim x [ inl a ↦ inl (before e r a) | inr a ↦ inr (a.0, before (event.FillBegin h a.0) r a.1) ]
-
-by_cache : (old : SoloSeen) (h : HandleId) (e : Event) (r : Refusal) (new : SoloSeen) → is_own r ≡ true → Refuses old e r → IsRefusal old h e r new
-by_cache old h e Memory new own x = tt
-by_cache old h e (Io code) new own x = absurd cc
-by_cache old h e Turns new own x = absurd cc
-by_cache old h e r new own x = inl x
+-- an event that the cache itself refused, but for want of room
+by_event : (old new : SoloSeen) (e : Event) (r : Refusal) → is_own r ≡ true → is_settled (Some (reply.Refused r)) ≡ true → Refuses old e r ⊎ (r ≡ Memory) → new.world.core ≡ old.world.core → IsRefusal old e r new
+by_event old new e BadHandle own t (inl x) same = x
+by_event old new e TooLong own t (inl x) same = x
+by_event old new e TooLarge own t (inl x) same = x
+by_event old new e NoSpace own t (inl x) same = subst (λ c. tests c e ≡ Some (reply.Refused NoSpace)) (sym same) x
+by_event old new e Memory own t x same = tt
+by_event old new e r own t (inl x) same = absurd cc
+by_event old new e r own t (inr k) same = absurd cc
 
 -- ---- one attempt
 
@@ -82,30 +86,30 @@ module _ (old : SoloSeen) (h : HandleId) (e : Event) (got : Reply) (w : Held) (c
   serves_acted : w.core ≡ old.world.core → Serves old (acted old w)
   serves_acted c = record { keeps = keeps_acted; lengths = λ f. ap (λ (s : State). (file_at s f).size) c; files = λ _. ap files_of (same_world c) }
 
-  -- the event was refused by the cache
-  refused_acted : (r : Refusal) (new : SoloSeen) → got ≡ reply.Refused r → IsRefusal old h e r new
-  refused_acted r new is =
+  -- the event was refused by the cache, but for want of room
+  refused_over : (r : Refusal) → is_settled (Some got) ≡ true → got ≡ reply.Refused r → IsRefusal old e r (acted old w)
+  refused_over r t is =
       let c = comes old.world.core w.core e got call step in
       let own : is_own r ≡ true = subst (λ x. own_reply x ≡ true) is c.own in
-      by_cache old h e r new own (old, serves_refl old, subst (λ x. Step old.world.core e (reply.Refused r) x) (c.refused r is) (subst (λ x. Step old.world.core e x w.core) is step))
+      by_event old (acted old w) e r own (subst (λ x. is_settled (Some x) ≡ true) is t) (c.why r is) (c.refused r is)
 
   module _ (reached : Tells old → IsReached (world_of old.world)) where
     -- the attempt is over with the event
-    pub attempt_over : Attempt old h e (Some got) (acted old w)
-    attempt_over = record {
+    pub attempt_over : is_settled (Some got) ≡ true → Attempt old e (Some got) (acted old w)
+    attempt_over t = record {
       keeps = keeps_acted;
       counted = refl;
       again = λ is. absurd cc;
       files = λ r is tells. files_step (world_of old.world) (world_of w) (Act e got) (reached tells) m ∙ ap (plain_after (files_of (world_of old.world)) e) (let x : got ≡ r = cc in x);
       settled = λ _. (got, refl, step);
-      refused = λ r is. refused_acted r (acted old w) (let x : got ≡ reply.Refused r = cc in x);
+      refused = λ r is. refused_over r t (let x : got ≡ reply.Refused r = cc in x);
     }
 
     -- it went on after the event
-    pub attempt_follows : (over : Option Reply) (new : SoloSeen) → Follows (acted old w) h got over new → Attempt old h e over new
-    attempt_follows over new f = by_settled (is_settled (Some got)) refl
+    pub attempt_follows : (over : Option Reply) (new : SoloSeen) → handle_of e ≡ h.0 → Follows (acted old w) h got over new → Attempt old e over new
+    attempt_follows over new by f = by_settled (is_settled (Some got)) refl
       where
-        unsettled : is_settled (Some got) ≡ false → Attempt old h e over new
+        unsettled : is_settled (Some got) ≡ false → Attempt old e over new
         unsettled u =
             let c = comes old.world.core w.core e got call step in
             let s = serves_acted (c.same u) in
@@ -118,14 +122,30 @@ module _ (old : SoloSeen) (h : HandleId) (e : Event) (got : Reply) (w : Held) (c
               settled = λ x. absurd (let y = c.unsettled u in cc);
               refused = λ r is. elim (f.stopped u) [
                 | inl a ↦ absurd (let x : Some (reply.Refused r) ≡ None = sym is ∙ a in cc)
-                | inr a ↦ (let x : a.0 ≡ r = (let y : Some (reply.Refused a.0) ≡ Some (reply.Refused r) = sym a.1 ∙ is in cc) in subst (λ z. IsRefusal old h e z new) x (stopped a.0 a.2))
+                | inr a ↦ (let x : a.0 ≡ r = (let y : Some (reply.Refused a.0) ≡ Some (reply.Refused r) = sym a.1 ∙ is in cc) in subst (λ z. IsRefusal old e z new) x (stopped a.0 a.2))
               ];
             }
           where
-            stopped : (r : Refusal) → IsStopped (acted old w) h got r new → IsRefusal old h e r new
-            stopped r (inl a) = fill_refuses old (acted old w) new h a.0 e r (serves_acted ((comes old.world.core w.core e got call step).same u)) a.1
-            stopped r (inr (inl a)) = refused_acted r new a
-            stopped r (inr (inr a)) = subst (λ z. IsRefusal old h e z new) (sym a) tt
+            before : Serves old (acted old w)
+            before = serves_acted ((comes old.world.core w.core e got call step).same u)
+
+            fill_refuses : (r : Refusal) → IsFillRefusal old h r new → IsRefusal old e r new
+            fill_refuses BadHandle x = closed_refuses old.world.core e call (ap (λ k. is_open old.world.core k) by ∙ x)
+            fill_refuses NoFrame x = x
+            fill_refuses (Io code) x = x
+            fill_refuses TooManyInFlight x = x
+            fill_refuses Memory x = tt
+            fill_refuses r x = absurd x
+
+            wants_room : (r : Refusal) → is_settled (Some (reply.Refused r)) ≡ false → IsWithoutRoom old r new → IsRefusal old e r new
+            wants_room NoFrame k x = x
+            wants_room DirtyLimit k x = x
+            wants_room r k x = absurd cc
+
+            stopped : (r : Refusal) → IsStopped (acted old w) h got r new → IsRefusal old e r new
+            stopped r (inl a) = fill_refuses r (fill_refusal_before old (acted old w) new h r before a)
+            stopped r (inr (inl a)) = wants_room r (ap (λ x. is_settled (Some x)) (sym a.0) ∙ u) (room_before old (acted old w) new r before a.1)
+            stopped r (inr (inr a)) = subst (λ z. IsRefusal old e z new) (sym a) tt
 
             after : (r : Reply) → over ≡ Some r → plain_after (files_of (world_of old.world)) e r ≡ files_of (world_of old.world)
             after r is = elim (f.stopped u) [
@@ -133,8 +153,8 @@ module _ (old : SoloSeen) (h : HandleId) (e : Event) (got : Reply) (w : Held) (c
               | inr a ↦ (let x : reply.Refused a.0 ≡ r = (let y : Some (reply.Refused a.0) ≡ Some r = sym a.1 ∙ is in cc) in ap (plain_after (files_of (world_of old.world)) e) (sym x) ∙ plain_refused (files_of (world_of old.world)) e a.0 call)
             ]
 
-        by_settled : (b : Bool) → is_settled (Some got) ≡ b → Attempt old h e over new
-        by_settled true t = let x = f.settled t in subst (λ o. Attempt old h e o new) (sym x.0) (subst (λ s. Attempt old h e (Some got) s) (sym x.1) attempt_over)
+        by_settled : (b : Bool) → is_settled (Some got) ≡ b → Attempt old e over new
+        by_settled true t = let x = f.settled t in subst (λ o. Attempt old e o new) (sym x.0) (subst (λ s. Attempt old e (Some got) s) (sym x.1) (attempt_over t))
         by_settled false u = unsettled u
 
 -- a read leaves the files, whatever it answers
@@ -185,7 +205,7 @@ settled_unless r a b = refl
 
 -- the event keeps what holds of a service between its calls
 pub service_kept : (name : ℕ) (w new : Held) (table : TableId) (errors : RecorderSeen) (e : Event) (got : Reply) → is_call e ≡ true → Moves (world_of w) (Act e got) (world_of new) → new.device ≡ w.device → IsService name w table errors → IsService name new table errors
-service_kept name w new table errors e got call m d s = service_acted name w new table errors s e got m d (no_job got (comes w.core new.core e got call (act_step (world_of w) (world_of new) e got m)).own)
+service_kept name w new table errors e got call m d s = service_acted name w new table errors s e got m d (call_no_sync e call) (no_job got (comes w.core new.core e got call (act_step (world_of w) (world_of new) e got m)).own)
 
 -- ---- a call of attempts
 
@@ -201,7 +221,7 @@ pub record Ended (old : SoloSeen) (h : HandleSeen) (e : Event) (r : Reply) (new 
   pub keeps : Keeps old new
   pub files : FilesAfter old e r new
   pub first : IsSettledAtOnce old h e r new
-  pub refused : (why : Refusal) → r ≡ reply.Refused why → IsRefusal old (record { 0 = h.number }) e why new
+  pub refused : (why : Refusal) → r ≡ reply.Refused why → IsRefusal old e why new
 
 module _ (old : SoloSeen) (e : Event) where
   pub try_first : Trying old e (record old { attempts = 0 })
@@ -211,15 +231,15 @@ module _ (old : SoloSeen) (e : Event) where
     settled_first : is_settled (tests old.world.core e) ≡ true → is_settled (tests cur.world.core e) ≡ true
     settled_first s = ap (λ c. is_settled (tests c e)) ((t.first s).0) ∙ s
 
-    pub try_again : (h : HandleId) (new : SoloSeen) → cur.attempts < 256 → Attempt cur h e None new → Trying old e new
-    try_again h new less a = record {
+    pub try_again : (new : SoloSeen) → cur.attempts < 256 → Attempt cur e None new → Trying old e new
+    try_again new less a = record {
       serves = serves_trans old cur new t.serves (a.again refl);
       few = (let c = a.counted in omega arith);
       first = λ s. absurd (let x = a.settled (settled_first s) in let y = x.1 in cc);
     }
 
-    pub try_over : (h : HandleSeen) (r : Reply) (new : SoloSeen) → Attempt cur (record { 0 = h.number }) e (Some r) new → Ended old h e r new
-    try_over h r new a = record {
+    pub try_over : (h : HandleSeen) (r : Reply) (new : SoloSeen) → Attempt cur e (Some r) new → is_call e ≡ true → Ended old h e r new
+    try_over h r new a call = record {
       keeps = keeps_trans old cur new t.serves.keeps a.keeps;
       files = λ tells. a.files r refl (t.serves.keeps.tells ∙ tells) ∙ ap (λ f. plain_after f e r) (t.serves.files tells);
       first = λ _ s.
@@ -227,7 +247,7 @@ module _ (old : SoloSeen) (e : Event) where
           let same : x.0 ≡ r = (let y = x.1 in cc) in
           let f = t.first s in
           (subst (λ c. Step c e r new.world.core) f.0 (subst (λ z. Step cur.world.core e z new.world.core) same x.2), a.counted ∙ ap (λ n. n + 1) f.1);
-      refused = λ why is. refused_before old cur (record { 0 = h.number }) e why new t.serves (a.refused why (ap Some is));
+      refused = λ why is. refused_before old cur e why new call t.serves (a.refused why (ap Some is));
     }
 
     pub try_turns : (h : HandleSeen) → is_call e ≡ true → (cur.attempts < 256 → ⊥) → Ended old h e (reply.Refused Turns) cur
@@ -235,7 +255,7 @@ module _ (old : SoloSeen) (e : Event) where
       keeps = t.serves.keeps;
       files = λ tells. t.serves.files tells ∙ sym (plain_refused (files_of (world_of old.world)) e Turns call);
       first = λ _ s. absurd (let f = (t.first s).1 in omega (arith, none));
-      refused = λ why is. (let x : Turns ≡ why = cc in subst (λ y. IsRefusal old (record { 0 = h.number }) e y cur) x (let f = t.few in let all : cur.attempts ≡ 256 = omega (arith, none) in all));
+      refused = λ why is. (let x : Turns ≡ why = cc in subst (λ y. IsRefusal old e y cur) x (let f = t.few in let all : cur.attempts ≡ 256 = omega (arith, none) in all));
     }
 
 -- ---- the file of a handle

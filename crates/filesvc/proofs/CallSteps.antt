@@ -1,10 +1,10 @@
 -- Reads, writes and truncations as steps of the cache: what settles them, and what their refusals leave.
 use Rattle.std.proofs.Common.{◌≡◌, ℕ, ◌+◌, ◌-◌, ◌≤◌, Bool, true, false, cond, not, eqb, eqb-true, List, length, refl, ap, sym, ◌∙◌, arith, inl, inr}
-use Rattle.std.specs.Prelude.{◌&&◌, Option, Some, None, min, nat_lt, count_by}
+use Rattle.std.specs.Prelude.{◌&&◌, ◌⊎◌, Option, Some, None, min, nat_lt, count_by}
 use Rattle.pc_types.specs.declared.limits.TheConstants.{MAX_FILE_SIZE, MAX_TOUCHED}
 use Rattle.pc_types.specs.declared.ids.HandleId.{HandleId}
 use Rattle.pc_types.specs.declared.refusal.Refusal.{Refusal}
-use Rattle.pc_types.specs.declared.refusal.Refusal.TheVariants.{Io, Memory, Turns}
+use Rattle.pc_types.specs.declared.refusal.Refusal.TheVariants.{BadHandle, DirtyLimit, Memory, NoFrame, NoSpace, TooLarge, TooLong}
 use Rattle.cachecore.specs.declared.event.Event.{Event}
 use Rattle.cachecore.specs.declared.event.Event.TheVariants as event
 use Rattle.cachecore.specs.declared.event.Reply.{Reply}
@@ -15,6 +15,7 @@ use Rattle.cachecore.specs.Step.{Answers, ReadReply, Step, TruncateReply, WriteR
 use Rattle.cachecore.specs.Tests.{boundary_stop, read_count, read_stop, read_tests, room_tests, tests, truncate_tests, write_stop, write_tests}
 use Rattle.cachecore.proofs.ChangeLaws.{length-bytes_at}
 use Rattle.cachecore.proofs.Choices.{answered, quiet_first, quiet_if, quiet_none, quiet_stopped, quiet_when}
+use Rattle.cachecore.proofs.StepCases.{not_of_sync}
 use Rattle.world.specs.Plain.{Plain, plain_after}
 use Rattle.world.specs.World.{Act}
 use Rattle.world.proofs.KeptRequests.{is_job}
@@ -38,6 +39,13 @@ call_keeps (event.Append h b) r k = refl
 call_keeps (event.Truncate h z) r k = refl
 call_keeps _ r k = absurd cc
 
+pub call_no_sync : (e : Event) → is_call e ≡ true → not_of_sync e ≡ true
+call_no_sync (event.Read h o n) k = refl
+call_no_sync (event.Write h o b) k = refl
+call_no_sync (event.Append h b) k = refl
+call_no_sync (event.Truncate h z) k = refl
+call_no_sync _ k = absurd cc
+
 pub plain_refused : (p : Plain) (e : Event) (r : Refusal) → is_call e ≡ true → plain_after p e (reply.Refused r) ≡ p
 plain_refused p (event.Read h o n) r k = refl
 plain_refused p (event.Write h o b) r k = refl
@@ -48,9 +56,14 @@ plain_refused p _ r k = absurd cc
 -- ---- refusals by the cache itself
 
 abbrev pub is_own : Refusal → Bool
-is_own (Io code) = false
-is_own Turns = false
-is_own _ = true
+is_own BadHandle = true
+is_own TooLong = true
+is_own TooLarge = true
+is_own NoFrame = true
+is_own NoSpace = true
+is_own DirtyLimit = true
+is_own Memory = true
+is_own _ = false
 
 abbrev pub own_reply : Reply → Bool
 own_reply (reply.Refused r) = is_own r
@@ -97,15 +110,16 @@ own_truncate s h z = own_if (not (is_open s h)) _ _ refl (own_if (nat_lt MAX_FIL
 pub record Comes (s : State) (o : Option Reply) (r : Reply) (new : State) : Type 0 where
   pub own : own_reply r ≡ true
   pub refused : (why : Refusal) → r ≡ reply.Refused why → new ≡ s
+  pub why : (why : Refusal) → r ≡ reply.Refused why → (o ≡ Some (reply.Refused why)) ⊎ (why ≡ Memory)
   pub same : is_settled (Some r) ≡ false → new ≡ s
   pub unsettled : is_settled (Some r) ≡ false → is_settled o ≡ false
 
 module _ (s new : State) where
   tested : (o : Option Reply) (r : Reply) → o ≡ Some r → own_reply r ≡ true → new ≡ s → Comes s o r new
-  tested o r is own e = record { own = own; refused = λ _ _. e; same = λ _. e; unsettled = λ u. ap is_settled is ∙ u }
+  tested o r is own e = record { own = own; refused = λ _ _. e; why = λ why k. inl (is ∙ ap Some k); same = λ _. e; unsettled = λ u. ap is_settled is ∙ u }
 
-  done : (o : Option Reply) (r : Reply) → own_reply r ≡ true → ((why : Refusal) → r ≡ reply.Refused why → new ≡ s) → is_settled (Some r) ≡ true → Comes s o r new
-  done o r own refused t = record { own = own; refused = refused; same = λ u. absurd cc; unsettled = λ u. absurd cc }
+  done : (o : Option Reply) (r : Reply) → own_reply r ≡ true → ((why : Refusal) → r ≡ reply.Refused why → (new ≡ s) × (why ≡ Memory)) → is_settled (Some r) ≡ true → Comes s o r new
+  done o r own refused t = record { own = own; refused = λ why k. (refused why k).0; why = λ why k. inr (refused why k).1; same = λ u. absurd cc; unsettled = λ u. absurd cc }
 
   by_answer : (o : Option Reply) (r : Reply) (H : Type 0) → ((r : Reply) → o ≡ Some r → Own r) → (H → Comes s o r new) → Answers o r s new H → Comes s o r new
   by_answer o r H own on a = elim (answered o r s new H a) [ inl b ↦ tested o r b.0 (own r b.0) b.1 | inr b ↦ on b.1 ]
@@ -116,7 +130,7 @@ module _ (s new : State) where
 
   writes : (x : Option Reply) (f o : ℕ) (b : List ℕ) (r : Reply) → WriteReply s f o b r new → Comes s x r new
   writes x f o b (reply.Wrote n end) e = done x (reply.Wrote n end) refl (λ why is. absurd cc) refl
-  writes x f o b (reply.Refused Memory) e = done x (reply.Refused Memory) refl (λ why is. e) refl
+  writes x f o b (reply.Refused Memory) e = done x (reply.Refused Memory) refl (λ why is. (e, (let k : why ≡ Memory = cc in k))) refl
   writes x f o b _ e = absurd e
 
   truncates : (x : Option Reply) (f z : ℕ) (r : Reply) → TruncateReply s f z r new → Comes s x r new
@@ -131,6 +145,28 @@ module _ (s new : State) where
       by_answer (write_tests s h.0 o (length b)) r (WriteReply s (file_of s h.0) o b r new) (own_write s h.0 o (length b)) (writes (write_tests s h.0 o (length b)) (file_of s h.0) o b r)
   comes (event.Truncate h z) r k = by_answer (truncate_tests s h.0 z) r (TruncateReply s (file_of s h.0) z r new) (own_truncate s h.0 z) (truncates (truncate_tests s h.0 z) (file_of s h.0) z r)
   comes _ r k = absurd cc
+
+-- a read and a truncation are never refused for want of room
+abbrev NeedsNoRoom : Reply → Type 0
+NeedsNoRoom (reply.Refused why) = is_settled (Some (reply.Refused why)) ≡ true
+NeedsNoRoom r = Unit {0}
+
+pub read_settled : (s new : State) (h : HandleId) (o n : ℕ) (why : Refusal) → Step s (event.Read h o n) (reply.Refused why) new → is_settled (Some (reply.Refused why)) ≡ true
+read_settled s new h o n why e =
+    let f = file_of s h.0 in
+    elim (answered (read_tests s h.0 o n) (reply.Refused why) s new (ReadReply s f o n (reply.Refused why) new) e) [
+      | inl a ↦ quiet_if NeedsNoRoom (not (is_open s h.0)) _ _ refl
+          (quiet_if NeedsNoRoom (eqb (read_count s f o n) 0) _ _ tt
+          (quiet_if NeedsNoRoom (nat_lt MAX_TOUCHED (touched_count s.sizes.page o (read_count s f o n))) _ _ refl
+          (quiet_stopped NeedsNoRoom s f (read_stop s f o (read_count s f o n)) (λ p. tt) (λ p. tt)))) (reply.Refused why) a.0
+      | inr b ↦ absurd b.1
+    ]
+
+pub truncate_settled : (s new : State) (h : HandleId) (z : ℕ) (why : Refusal) → Step s (event.Truncate h z) (reply.Refused why) new → is_settled (Some (reply.Refused why)) ≡ true
+truncate_settled s new h z why e = elim (answered (truncate_tests s h.0 z) (reply.Refused why) s new (TruncateReply s (file_of s h.0) z (reply.Refused why) new) e) [
+  | inl a ↦ quiet_if NeedsNoRoom (not (is_open s h.0)) _ _ refl (quiet_if NeedsNoRoom (nat_lt MAX_FILE_SIZE z) _ _ refl (quiet_stopped NeedsNoRoom s (file_of s h.0) (boundary_stop s (file_of s h.0) (boundary s (file_of s h.0) z)) (λ p. tt) (λ p. tt))) (reply.Refused why) a.0
+  | inr b ↦ absurd b.1
+]
 
 pub no_job : (r : Reply) → own_reply r ≡ true → is_job r ≡ false
 no_job (reply.Job t) e = absurd cc

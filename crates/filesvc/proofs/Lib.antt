@@ -13,3 +13,8 @@ pub mod Laws
 pub mod SyncLaws
 pub mod WorldLaws
 pub mod RoomLaws
+pub mod Load
+pub mod Sizes
+pub mod Enough
+pub mod SyncsKept
+pub mod Fronts

@@ -1,5 +1,5 @@
 -- What a fill is refused by, an age with an eviction, and how a flush in one ends.
-use Rattle.std.proofs.Common.{◌≡◌, ℕ, ◌<◌, ◌≤◌, Bool, true, false, cond, refl, ap, sym, subst, ◌∙◌, arith, inl, inr}
+use Rattle.std.proofs.Common.{◌≡◌, ℕ, ◌<◌, ◌≤◌, Bool, true, false, cond, eqb-true, refl, ap, sym, subst, ◌∙◌, arith, inl, inr}
 use Rattle.std.specs.Prelude.{◌⊎◌, ◌&&◌, ◌||◌, ◌==◌, not, nat_le, length, is_some, Option, Some, None, Result, Ok, Err, IfErr}
 use Rattle.std.specs.FinMap as finmap
 use Rattle.std.specs.FinMap.{len-empty}
@@ -14,7 +14,7 @@ use Rattle.pc_types.specs.declared.ids.PageIndex.{PageIndex}
 use Rattle.pc_types.specs.declared.refusal.Refusal.{Refusal}
 use Rattle.pc_types.specs.declared.ids.Serial.{Serial}
 use Rattle.pc_types.specs.declared.limits.TheConstants.{MAX_IN_FLIGHT, SERIAL_END}
-use Rattle.pc_types.specs.declared.refusal.Refusal.TheVariants.{Io, Memory, NoFrame, NoSuchFile, TooManyInFlight, Turns}
+use Rattle.pc_types.specs.declared.refusal.Refusal.TheVariants.{BadHandle, DirtyLimit, Io, Memory, NoFrame, NoSuchFile, TooManyInFlight, Turns}
 use Rattle.pc_types.specs.declared.kind.Kind.{Kind}
 use Rattle.pc_types.specs.declared.kind.Kind.TheVariants.{Fill, Flush}
 use Rattle.cachecore.specs.declared.event.End.{End}
@@ -28,7 +28,7 @@ use Rattle.cachecore.specs.Replies.{evicted, outcome_of}
 use Rattle.cachecore.specs.State.{State, Request, file_at, file_of, free_frames, is_cached, is_filling, is_open, is_written, page_count, spot_at}
 use Rattle.cachecore.specs.Step.{Step, FillBeginReply, FillEndReply, FlushBeginReply, FlushEndReply}
 use Rattle.cachecore.specs.Tests.{end_tests, evict_tests, fill_begin_tests, flush_begin_tests, flush_pick, is_full, tests}
-use Rattle.cachecore.proofs.Choices.{answered, quiet_if, quiet_none, quiet_when}
+use Rattle.cachecore.proofs.Choices.{and_true, answered, not_true, quiet_if, quiet_none, quiet_when}
 use Rattle.world.specs.declared.step.Step.TheVariants as step
 use Rattle.world.specs.Stepping.{Held, world_of}
 use Rattle.world.specs.World.{Finish, Moves, EndOf, end_event}
@@ -38,12 +38,12 @@ use Rattle.world.proofs.KeptRequests.{flush_begins, is_job}
 use Rattle.world.proofs.Lookups.{get-insert1}
 use Rattle.world.proofs.View.{put1_here}
 use Rattle.filesvc.specs.Rests as rests
-use Rattle.filesvc.specs.Rests.{AtOnce, IsService}
-use Rattle.filesvc.specs.Rooms.{FlushesOne, IsFlush, MakesRoom}
+use Rattle.filesvc.specs.Rests.{AtOnce, IsService, IsServing}
+use Rattle.filesvc.specs.Rooms.{FlushesOne, IsClean, IsFillRefusal, IsFlush, IsFull, MakesRoom, Suffices}
 use Rattle.filesvc.specs.Seen.{SoloSeen}
-use Rattle.filesvc.specs.Service.{Faulted, IsFillRefusal, IsRefusal, Serves}
+use Rattle.filesvc.specs.Service.{Faulted, IsWithoutRoom, Serves, Tells}
 use Rattle.filesvc.proofs.Acted.{service_acted}
-use Rattle.filesvc.proofs.Laws.{serves_refl, serves_trans}
+use Rattle.filesvc.proofs.Laws.{serves_trans}
 use Rattle.filesvc.proofs.WorldLaws as laws
 use Rattle.filesvc.proofs.WorldLaws.{Carried, IsSound, Made, Once, Quiet, Unmade, Whole, call_by, call_failed, fill_begins, made_goes, once, outcome_noted, service_sound}
 
@@ -83,9 +83,6 @@ same_reply : (s : State) (f p : ℕ) (r : Refusal) (new : State) → FillBeginRe
 same_reply s f p Memory new e = e
 same_reply s f p _ new e = absurd e
 
-fill_same : (s : State) (h : HandleId) (p : PageIndex) (r : Refusal) (new : State) → Step s (event.FillBegin h p) (reply.Refused r) new → Step s (event.FillBegin h p) (reply.Refused r) s
-fill_same s h p r new a = subst (λ x. Step s (event.FillBegin h p) (reply.Refused r) x) (elim (answered (fill_begin_tests s h.0 p.0) (reply.Refused r) s new _ a) [ inl x ↦ x.1 | inr x ↦ same_reply s (file_of s h.0) p.0 r new x.1 ]) a
-
 -- ---- a fill in one that is refused
 
 end_never : (w new : Held) (t : ℕ) (why : Refusal) → Moves (world_of w) (Finish t (reply.Refused why)) (world_of new) → ⊥
@@ -96,34 +93,112 @@ end_never w new t why m = by (finmap.get w.core.requests t) (finmap.get w.outcom
     by (Some x) None is h = h
     by None o is h = h
 
-refused_by : (old new : Held) (errors after : RecorderSeen) (h : HandleId) (p : PageIndex) (r : Refusal) → Once old errors (event.FillBegin h p) (reply.Refused r) new after → (r ≡ Memory) ⊎ Step old.core (event.FillBegin h p) (reply.Refused r) old.core
-refused_by old new errors after h p r (Unmade e same none) = inl (cc (e))
-refused_by old new errors after h p r (Quiet j m none) = inr (fill_same old.core h p r new.core m.0.0)
-refused_by old new errors after h p r (Whole c) = absurd (end_never c.called new c.serial.0 r c.end.0)
+-- why a fill may not begin
+abbrev FillWhy : State → ℕ → Reply → Type 0
+FillWhy s h (reply.Refused BadHandle) = is_open s h ≡ false
+FillWhy s h (reply.Refused NoFrame) = (free_frames s == 0) ≡ true
+FillWhy s h (reply.Refused TooManyInFlight) = is_full s ≡ true
+FillWhy s h (reply.Refused Memory) = Unit {0}
+FillWhy s h (reply.Refused r) = ⊥
+FillWhy s h r = Unit {0}
 
-fill_refusal_by : (s new : SoloSeen) (h : HandleId) (p : PageIndex) (r : Refusal) → (r ≡ Memory) ⊎ Step s.world.core (event.FillBegin h p) (reply.Refused r) s.world.core → IsFillRefusal s h p r new
-fill_refusal_by s new h p Memory x = tt
-fill_refusal_by s new h p (Io code) (inl e) = absurd cc
-fill_refusal_by s new h p (Io code) (inr a) = absurd (let f = fill_fair _ _ _ _ _ a in cc)
-fill_refusal_by s new h p r (inl e) = absurd cc
-fill_refusal_by s new h p r (inr a) = (s, serves_refl s, a)
+why_tests : (s : State) (h p : ℕ) (r : Reply) → fill_begin_tests s h p ≡ Some r → FillWhy s h r
+why_tests s h p =
+    let f = file_of s h in
+    quiet_when (FillWhy s h) (not (is_open s h)) _ _ (λ t. not_true (is_open s h) t)
+    (quiet_if (FillWhy s h) (nat_le (page_count s.sizes.page (file_at s f).size) p) _ _ tt
+    (quiet_if (FillWhy s h) (is_filling s f p) _ _ tt
+    (quiet_if (FillWhy s h) (is_cached s f p) _ _ tt
+    (quiet_when (FillWhy s h) (free_frames s == 0) _ _ (λ t. t)
+    (quiet_when (FillWhy s h) (is_written (spot_at s f p) && is_full s) _ None (λ t. (and_true _ _ t).1) (quiet_none (FillWhy s h)))))))
 
-pub fill_refused : (s new : SoloSeen) (w : Held) (errors : RecorderSeen) (h : HandleId) (p : PageIndex) (r : Refusal) → AtOnce s.world s.errors (step.FillBegin h p) (reply.Refused r) w errors → IsFillRefusal s h p r new
-fill_refused s new w errors h p r a = fill_refusal_by s new h p r (refused_by s.world w s.errors errors h p r (once s.world w s.errors errors _ _ _ (fill_begins h p) a))
+why_reply : (s : State) (h f p : ℕ) (r : Refusal) (new : State) → FillBeginReply s f p (reply.Refused r) new → FillWhy s h (reply.Refused r)
+why_reply s h f p Memory new e = tt
+why_reply s h f p _ new e = absurd e
 
--- where no room is made for a refused fill
-pub room_refused : (s new : SoloSeen) (h : HandleId) (p : PageIndex) (r : Refusal) (made : Result Unit Refusal) → IsFillRefusal s h p r new → IfErr made (λ x. (x ≡ r) ⊎ (x ≡ Memory)) → IfErr made (λ x. IsFillRefusal s h p x new)
-room_refused s new h p r (Ok _) f e = tt
-room_refused s new h p r (Err x) f (inl e) = subst (λ y. IsFillRefusal s h p y new) (sym e) f
-room_refused s new h p r (Err x) f (inr e) = subst (λ y. IsFillRefusal s h p y new) (sym e) tt
+refused_why : (old new : Held) (errors after : RecorderSeen) (h : HandleId) (p : PageIndex) (r : Refusal) → Once old errors (event.FillBegin h p) (reply.Refused r) new after → FillWhy old.core h.0 (reply.Refused r) × (new.core ≡ old.core)
+refused_why old new errors after h p r (Unmade e same none) = (subst (λ x. FillWhy old.core h.0 x) (sym e) tt, ap (λ (x : Held). x.core) same)
+refused_why old new errors after h p r (Quiet j m none) = elim (answered (fill_begin_tests old.core h.0 p.0) (reply.Refused r) old.core new.core _ m.0.0) [
+  | inl x ↦ (why_tests old.core h.0 p.0 (reply.Refused r) x.0, x.1)
+  | inr x ↦ (why_reply old.core h.0 (file_of old.core h.0) p.0 r new.core x.1, same_reply old.core (file_of old.core h.0) p.0 r new.core x.1)
+]
+refused_why old new errors after h p r (Whole c) = absurd (end_never c.called new c.serial.0 r c.end.0)
 
--- a refused fill refuses the event that wanted the page
-pub fill_refuses : (old mid new : SoloSeen) (h : HandleId) (p : PageIndex) (e : Event) (r : Refusal) → Serves old mid → IsFillRefusal mid h p r new → IsRefusal old h e r new
-fill_refuses old mid new h p e Memory s x = tt
-fill_refuses old mid new h p e (Io code) s (inl x) = inl (let y = s.keeps.faults in omega arith)
-fill_refuses old mid new h p e (Io code) s (inr x) = inr x
-fill_refuses old mid new h p e Turns s x = absurd (let f = fill_fair _ _ _ _ _ x.2 in cc)
-fill_refuses old mid new h p e r s x = inr (p, (x.0, serves_trans old mid x.0 s x.1, x.2))
+-- where no request is in flight, one that is refused was refused a serial
+pub no_serial : (s : State) → s.requests ≡ finmap.empty → is_full s ≡ true → SERIAL_END ≤ s.next
+no_serial s none full = leb-true SERIAL_END s.next (subst (λ m. (nat_le MAX_IN_FLIGHT m || nat_le SERIAL_END s.next) ≡ true) (ap finmap.len none ∙ len-empty nat_cmp Request) full)
+
+-- a fill that is refused, but for want of a frame
+pub fill_stopped : (name : ℕ) (s : SoloSeen) (w : Held) (errors : RecorderSeen) (table : TableId) (h : HandleId) (p : PageIndex) (r : Refusal) → IsServing name s.world table s.errors → AtOnce s.world s.errors (step.FillBegin h p) (reply.Refused r) w errors → (r ≡ NoFrame → ⊥) → IsFillRefusal s h r (record s { world = w; errors = errors })
+fill_stopped name s w errors table h p r i a other =
+    let x = refused_why s.world w s.errors errors h p r (once s.world w s.errors errors _ _ _ (fill_begins h p) a) in
+    by r other x.0 (ap (λ (c : State). c.next) x.1)
+  where
+    by : (r : Refusal) → (r ≡ NoFrame → ⊥) → FillWhy s.world.core h.0 (reply.Refused r) → w.core.next ≡ s.world.core.next → IsFillRefusal s h r (record s { world = w; errors = errors })
+    by BadHandle other y n = y
+    by NoFrame other y n = absurd (other refl)
+    by TooManyInFlight other y n = subst (λ k. SERIAL_END ≤ k) (sym n) (no_serial s.world.core i.rests.requests y)
+    by Memory other y n = tt
+    by r other y n = absurd y
+
+-- ---- want of room since before
+
+pub faulted_before : (old mid new : SoloSeen) → Serves old mid → Faulted mid new → Faulted old new
+faulted_before old mid new s (inl x) = inl (let y = s.keeps.faults in omega arith)
+faulted_before old mid new s (inr x) = inr x
+
+pub room_before : (old mid new : SoloSeen) (r : Refusal) → Serves old mid → IsWithoutRoom mid r new → IsWithoutRoom old r new
+room_before old mid new NoFrame s (inl x) = inl (faulted_before old mid new s x)
+room_before old mid new NoFrame s (inr x) = inr ((λ t. x.0 (s.keeps.tells ∙ t)), x.1)
+room_before old mid new DirtyLimit s (inl x) = inl (faulted_before old mid new s x)
+room_before old mid new DirtyLimit s (inr x) = inr ((λ t. x.0 (s.keeps.tells ∙ t)), x.1)
+room_before old mid new r s x = tt
+
+-- where no more room can be made, and what is wanted would be there if no device call had failed
+module _ (old mid new : SoloSeen) (serves : Serves old mid) where
+  unless_tells : {P : Type 0} (X : Type 0) → X → (Tells mid → Faulted mid new ⊎ P) → (P → ⊥) → Faulted old new ⊎ ((Tells old → ⊥) × X)
+  unless_tells X x never wanted = by (is_some old.world.device.contents) refl
+    where
+      by : (b : Bool) → is_some old.world.device.contents ≡ b → Faulted old new ⊎ ((Tells old → ⊥) × X)
+      by true t = elim (never (serves.keeps.tells ∙ t)) [ inl f ↦ inl (faulted_before old mid new serves f) | inr y ↦ absurd (wanted y) ]
+      by false t = inr ((λ tells. absurd (let e : true ≡ false = sym tells ∙ t in cc)), x)
+
+  pub without_frame : (r : Refusal) → (r ≡ NoFrame) ⊎ (r ≡ Memory) → IsFull mid r new → (Tells mid → r ≡ NoFrame → Faulted mid new ⊎ Suffices mid) → (Suffices mid → ⊥) → IsWithoutRoom old r new
+  without_frame NoFrame k (inr f) never wanted = inl (faulted_before old mid new serves f)
+  without_frame NoFrame k (inl x) never wanted = unless_tells _ x (λ t. never t refl) wanted
+  without_frame Memory k x never wanted = tt
+  without_frame r (inl k) x never wanted = absurd cc
+  without_frame r (inr k) x never wanted = absurd cc
+
+  pub without_clean : (r : Refusal) → (r ≡ DirtyLimit) ⊎ (r ≡ Memory) → IsFull mid r new → (Tells mid → r ≡ DirtyLimit → Faulted mid new ⊎ IsClean mid) → (IsClean mid → ⊥) → IsWithoutRoom old r new
+  without_clean DirtyLimit k (inr f) never wanted = inl (faulted_before old mid new serves f)
+  without_clean DirtyLimit k (inl x) never wanted = unless_tells _ x (λ t. never t refl) wanted
+  without_clean Memory k x never wanted = tt
+  without_clean r (inl k) x never wanted = absurd cc
+  without_clean r (inr k) x never wanted = absurd cc
+
+-- the frames for a call could not be had
+pub frames_refused : (old new : SoloSeen) (h : HandleId) (r : Refusal) → (r ≡ NoFrame) ⊎ (r ≡ Memory) → IsWithoutRoom old r new → IsFillRefusal old h r new
+frames_refused old new h NoFrame k x = x
+frames_refused old new h Memory k x = tt
+frames_refused old new h r (inl k) x = absurd cc
+frames_refused old new h r (inr k) x = absurd cc
+
+-- a fill that was refused a frame, for which no room was made
+pub fill_without_frame : (s mid new : SoloSeen) (h : HandleId) (p : PageIndex) (made : Result Unit Refusal) → Serves s mid → AtOnce s.world s.errors (step.FillBegin h p) (reply.Refused NoFrame) mid.world mid.errors → IfErr made (λ r. (r ≡ NoFrame) ⊎ (r ≡ Memory)) → IfErr made (λ r. IsFull mid r new) → (Tells mid → IfErr made (λ r. r ≡ NoFrame → Faulted mid new ⊎ Suffices mid)) → IfErr made (λ r. IsFillRefusal s h r new)
+fill_without_frame s mid new h p (Ok _) serves a refused full frames = tt
+fill_without_frame s mid new h p (Err r) serves a refused full frames =
+    let x = refused_why s.world mid.world s.errors mid.errors h p NoFrame (once s.world mid.world s.errors mid.errors _ _ _ (fill_begins h p) a) in
+    let none : free_frames mid.world.core ≡ 0 = ap (λ (c : State). free_frames c) x.1 ∙ eqb-true (free_frames s.world.core) 0 x.0 in
+    frames_refused s new h r refused (without_frame s mid new serves r refused full frames (λ y. let k = y.0 in omega arith))
+
+pub fill_refusal_before : (old mid new : SoloSeen) (h : HandleId) (r : Refusal) → Serves old mid → IsFillRefusal mid h r new → IsFillRefusal old h r new
+fill_refusal_before old mid new h BadHandle s x = ap (λ m. is_some (finmap.get m h.0)) (sym s.keeps.handles) ∙ x
+fill_refusal_before old mid new h NoFrame s x = room_before old mid new NoFrame s x
+fill_refusal_before old mid new h (Io code) s x = faulted_before old mid new s x
+fill_refusal_before old mid new h TooManyInFlight s x = x
+fill_refusal_before old mid new h Memory s x = tt
+fill_refusal_before old mid new h r s x = absurd x
 
 -- ---- a fill in one whose device call failed
 
@@ -186,7 +261,7 @@ module _ (s : SoloSeen) (aged new : Held) (n : ℕ) (r : Option (FileId × PageI
       serves_trans s (record s { world = aged }) _ g.serves (made_goes (record s { world = aged }) new event.Evict (evicted r) e refl g.sound).serves
 
   pub evicted_service : (name : ℕ) (table : TableId) → IsService name s.world table s.errors → IsService name new table s.errors
-  evicted_service name table i = service_acted name aged new table s.errors (service_acted name s.world aged table s.errors i event.Age (reply.Aged n) a.0 a.1 refl) event.Evict (evicted r) e.0 e.1 (evicted_quiet r)
+  evicted_service name table i = service_acted name aged new table s.errors (service_acted name s.world aged table s.errors i event.Age (reply.Aged n) a.0 a.1 refl refl) event.Evict (evicted r) e.0 e.1 refl (evicted_quiet r)
 
 -- ---- a flush in one
 
@@ -195,15 +270,11 @@ held_same old new e r m c =
     let o = ap (λ x. x.outcomes) (only_core (world_of old) (world_of new) e r m.0) in
     λ i. record { core = c i; device = m.1 i; outcomes = o i }
 
--- where no request is in flight, one that is refused was refused a serial
-no_serial : (s : State) → s.requests ≡ finmap.empty → is_full s ≡ true → SERIAL_END ≤ s.next
-no_serial s none full = leb-true SERIAL_END s.next (subst (λ m. (nat_le MAX_IN_FLIGHT m || nat_le SERIAL_END s.next) ≡ true) (ap finmap.len none ∙ len-empty nat_cmp Request) full)
-
 squeezed : (m n c : ℕ) → m ≤ n → n ≤ c → c ≤ m → c ≡ m
 squeezed m n c a b d = omega arith
 
 -- which it is only by a device that can count no more
-full_faulted : (name : ℕ) (s : SoloSeen) (table : TableId) → IsService name s.world table s.errors → is_full s.world.core ≡ true → Faulted s s
+full_faulted : (name : ℕ) (s : SoloSeen) (table : TableId) → IsServing name s.world table s.errors → is_full s.world.core ≡ true → Faulted s s
 full_faulted name s table i full = inr (squeezed max_calls s.world.core.next s.world.device.calls (no_serial s.world.core i.rests.requests full) i.serials i.counted)
 
 no_flush : (s new : State) (f : ℕ) (o : Option ℕ) (r : Reply) → rests.is_job r ≡ false → FlushBeginReply s f o r new → ⊥
@@ -247,7 +318,7 @@ end_of_flush w new t x r is kind live m = by (finmap.get w.outcomes t) (subst (�
         flush_ended w.core new.core t x o r live (subst (λ q. FlushEndReply w.core t q o r new.core) is ended)
 
 -- the request of a flush that has begun
-begun_flush : (old begun : Held) (f : FileId) (t : Serial) → Made old (event.FlushBegin f) (reply.Job t) begun → (x : Request) × (finmap.get begun.core.requests t.0 ≡ Some x) × (x.kind ≡ Flush) × (x.dropped ≡ false)
+pub begun_flush : (old begun : Held) (f : FileId) (t : Serial) → Made old (event.FlushBegin f) (reply.Job t) begun → (x : Request) × (finmap.get begun.core.requests t.0 ≡ Some x) × (x.kind ≡ Flush) × (x.dropped ≡ false)
 begun_flush old begun f t m =
     let b = flush_begins old.core begun.core (event.FlushBegin f) t refl m.0.0 in
     let put : (x : Request) → finmap.get (finmap.insert old.core.requests old.core.next x) t.0 ≡ Some x = λ x. subst (λ n. finmap.get (finmap.insert old.core.requests n x) t.0 ≡ Some x) b.serial (get-insert1 old.core.requests t.0 x t.0 ∙ put1_here _ t.0 _) in
@@ -262,7 +333,7 @@ carried_flush s w errors f r c a i =
       | inr e ↦ subst (λ x. IsFlush s f x (record s { world = w; errors = errors })) (sym e.1) (carried_faulted s w errors _ e.0 (subst (λ x. Carried s.world s.errors (event.FlushBegin f) x w errors) e.1 c) i)
     ]
 
-once_flush : (name : ℕ) (s : SoloSeen) (w : Held) (errors : RecorderSeen) (table : TableId) (f : FileId) (r : Reply) → Once s.world s.errors (event.FlushBegin f) r w errors → AtOnce s.world s.errors (step.FlushBegin f) r w errors → IsService name s.world table s.errors → IsFlush s f r (record s { world = w; errors = errors })
+once_flush : (name : ℕ) (s : SoloSeen) (w : Held) (errors : RecorderSeen) (table : TableId) (f : FileId) (r : Reply) → Once s.world s.errors (event.FlushBegin f) r w errors → AtOnce s.world s.errors (step.FlushBegin f) r w errors → IsServing name s.world table s.errors → IsFlush s f r (record s { world = w; errors = errors })
 once_flush name s w errors table f r (Unmade e same none) a i = subst (λ x. IsFlush s f x (record s { world = w; errors = errors })) (sym e) tt
 once_flush name s w errors table f r (Quiet j m none) a i =
     quiet_flush s (record s { world = w; errors = errors }) f r j m.0.0
@@ -270,7 +341,7 @@ once_flush name s w errors table f r (Quiet j m none) a i =
     (full_faulted name s table i)
 once_flush name s w errors table f r (Whole c) a i = carried_flush s w errors f r c a (service_sound name s.world table s.errors i)
 
-pub at_once_flush : (name : ℕ) (s : SoloSeen) (w : Held) (errors : RecorderSeen) (table : TableId) (f : FileId) (r : Reply) → AtOnce s.world s.errors (step.FlushBegin f) r w errors → IsService name s.world table s.errors → IsFlush s f r (record s { world = w; errors = errors })
+pub at_once_flush : (name : ℕ) (s : SoloSeen) (w : Held) (errors : RecorderSeen) (table : TableId) (f : FileId) (r : Reply) → AtOnce s.world s.errors (step.FlushBegin f) r w errors → IsServing name s.world table s.errors → IsFlush s f r (record s { world = w; errors = errors })
 at_once_flush name s w errors table f r a i = once_flush name s w errors table f r (once s.world w s.errors errors (step.FlushBegin f) (event.FlushBegin f) r (laws.flush_begins f) a) a i
 
 -- ---- an eviction that finds no idle page
@@ -286,3 +357,11 @@ flushed_for_frame s new aged mid n r a e none f =
     let x = none_evicted aged.core mid.core r none e.0.0 in
     let still = held_same aged mid event.Evict (evicted r) e x.1 ∙ same in
     inr (ap (λ (w : Held). tests w.core event.Evict) (sym same) ∙ x.0, subst (λ w. FlushesOne (record s { world = w }) true new) still f)
+
+-- and where the flush failed too, or found nothing
+pub stuck_for_frame : (s new : SoloSeen) (aged mid : Held) (n : ℕ) (r : Option (FileId × PageIndex)) → Made s.world event.Age (reply.Aged n) aged → Made aged event.Evict (evicted r) mid → is_some r ≡ false → FlushesOne (record s { world = mid }) false new → (tests s.world.core event.Evict ≡ Some reply.NoneIdle) × FlushesOne s false new
+stuck_for_frame s new aged mid n r a e none f =
+    let same = held_same s.world aged event.Age (reply.Aged n) a a.0.0 in
+    let x = none_evicted aged.core mid.core r none e.0.0 in
+    let still = held_same aged mid event.Evict (evicted r) e x.1 ∙ same in
+    (ap (λ (w : Held). tests w.core event.Evict) (sym same) ∙ x.0, subst (λ w. FlushesOne (record s { world = w }) false new) still f)

@@ -1,6 +1,6 @@
 -- A sync that one call makes from its begin to its end.
-use Rattle.std.proofs.Common.{◌≡◌, ℕ, ◌+◌, ◌-◌, ◌<◌, true, false, cond, List, [], ◌∷◌, length, refl, ap, sym, subst, ◌∙◌, arith, inl, inr}
-use Rattle.std.specs.Prelude.{◌⊎◌, Option, Some, None, is_some, unwrap_or, IfSome, nat_le, not, slice_index_or, Result, Ok, Err, IfErr, IfOk}
+use Rattle.std.proofs.Common.{◌≡◌, ◌≢◌, ℕ, ◌+◌, ◌-◌, ◌<◌, ◌≤◌, Bool, true, false, cond, List, [], ◌∷◌, length, refl, ap, sym, subst, ◌∙◌, arith, inl, inr}
+use Rattle.std.specs.Prelude.{◌⊎◌, Option, Some, None, is_some, unwrap_or, IfSome, slice_index_or, Result, Ok, Err, IfErr, IfOk}
 use Rattle.std.specs.FinMap as finmap
 use Rattle.atomic_table.specs.Seated.{TableId}
 use Rattle.errboard.specs.Shown.{RecorderSeen}
@@ -8,9 +8,9 @@ use Rattle.pc_types.specs.Files.{page_of}
 use Rattle.pc_types.specs.declared.ids.HandleId.{HandleId}
 use Rattle.pc_types.specs.declared.ids.Serial.{Serial}
 use Rattle.pc_types.specs.declared.ids.SyncId.{SyncId}
-use Rattle.pc_types.specs.declared.limits.TheConstants.{MAX_SYNCS, SERIAL_END}
+use Rattle.pc_types.specs.declared.limits.TheConstants.{SERIAL_END}
 use Rattle.pc_types.specs.declared.refusal.Refusal.{Refusal}
-use Rattle.pc_types.specs.declared.refusal.Refusal.TheVariants.{Io, Memory}
+use Rattle.pc_types.specs.declared.refusal.Refusal.TheVariants.{Busy, Io, Memory, TooManyInFlight}
 use Rattle.cachecore.specs.declared.event.Event.{Event}
 use Rattle.cachecore.specs.declared.event.Event.TheVariants as event
 use Rattle.cachecore.specs.declared.event.Outcome.{Outcome}
@@ -19,8 +19,8 @@ use Rattle.cachecore.specs.declared.event.Reply.TheVariants as reply
 use Rattle.cachecore.specs.Replies.{sync_begun, sync_dropped}
 use Rattle.cachecore.specs.State.{State, Page, Request, Sync, no_file, file_at, file_of, is_open, page_count}
 use Rattle.cachecore.specs.Changes.{flushes_of}
-use Rattle.cachecore.specs.Tests.{is_full, start_tests, sync_begin_tests, sync_pick, sync_tests}
-use Rattle.cachecore.specs.Step.{Step, SyncAwaits, SyncBeginReply, SyncPicked, SyncStepReply, WaitsFor}
+use Rattle.cachecore.specs.Tests.{is_full, refuse, start_tests, sync_pick, sync_tests}
+use Rattle.cachecore.specs.Step.{Step, SyncAwaits, SyncPicked, SyncStepReply, WaitsFor}
 use Rattle.cachecore.proofs.Choices.{answered, quiet_if, quiet_none, quiet_some}
 use Rattle.world.specs.declared.step.Step.TheVariants as step
 use Rattle.world.specs.Plain.{named, plain_file}
@@ -32,17 +32,19 @@ use Rattle.world.proofs.Lookups.{get-insert1}
 use Rattle.world.proofs.SyncRuns.{begins_at}
 use Rattle.world.proofs.Reached.{reached_coupled}
 use Rattle.world.proofs.Stays.{handles_stay, keeps_handles}
-use Rattle.world.proofs.InFlight.{next_rises, next_stays}
+use Rattle.world.proofs.InFlight.{begins_none, next_rises, next_stays}
 use Rattle.world.proofs.OneSync.{IsSyncing, is_of_sync, syncing_begins, syncing_clean, syncing_failed, syncing_goes}
 use Rattle.world.proofs.OneSync as one
-use Rattle.world.proofs.SyncStays.{never_waits, over_leaves_files, sync_stays, syncs_stay}
+use Rattle.world.proofs.SyncStays.{is_over, never_waits, over_leaves_files, sync_stays, syncs_stay}
 use Rattle.world.proofs.Track.{move_tracked}
-use Rattle.filesvc.specs.Rests.{AtOnce, IsResting, IsService, is_job}
+use Rattle.filesvc.specs.Rests.{AtOnce, IsResting, IsService, IsServing, is_job}
 use Rattle.filesvc.specs.Seen.{SoloSeen}
-use Rattle.filesvc.specs.Service.{HasFailed, IsSyncRefusal, IsSynced, Refuses, Serves, is_reported}
-use Rattle.filesvc.specs.Syncs.{SyncTurn, is_io, is_sync_end, sync_end_of}
-use Rattle.filesvc.proofs.Laws.{serves_counted}
-use Rattle.filesvc.proofs.WorldLaws.{Made, at_once_serves, at_once_service, goes_service, is_quiet, made_goes, made_rests, made_serials, service_sound, sync_begins}
+use Rattle.filesvc.specs.Service.{HasFailed, IsSyncRefusal, IsSynced, Serves, Tells, is_reported}
+use Rattle.filesvc.specs.Syncs.{Drops, SyncTurn, is_sync_end, service_of, sync_end_of}
+use Rattle.filesvc.proofs.Laws.{serves_refl}
+use Rattle.filesvc.proofs.RoomLaws.{no_serial}
+use Rattle.filesvc.proofs.SyncsKept.{OnlySync, dropped_none, finish_none, only_left, over_none, step_none}
+use Rattle.filesvc.proofs.WorldLaws.{Made, at_once_serves, at_once_serving, goes_service, is_quiet, made_goes, made_rests, made_serials, service_sound, sync_begins}
 
 -- ---- what the cache answers a sync
 
@@ -52,12 +54,12 @@ Answered s o reply.Clean new = Unit {0}
 Answered s (Some y) (reply.Failed c) new = c ≡ (file_at s (file_of s y.handle)).last_code
 Answered s o (reply.Job t) new = Unit {0}
 Answered s o (reply.Wait p) new = Unit {0}
-Answered s o (reply.Refused why) new = (new ≡ s) × (is_io why ≡ false)
+Answered s o (reply.Refused why) new = Unit {0}
 Answered s o _ new = ⊥
 
 module _ (s new : State) where
   by_tests : (o : Option Sync) (r : Reply) → sync_tests s o ≡ Some r → new ≡ s → Answered s o r new
-  by_tests None r e same = quiet_some (λ x. Answered s None x new) _ r e (same, refl)
+  by_tests None r e same = quiet_some (λ x. Answered s None x new) _ r e tt
   by_tests (Some y) r e same = elim (is_some y.awaited) as (λ b. cond b None (start_tests s (sync_pick (file_at s (file_of s y.handle)) y.last)) ≡ Some r → Answered s (Some y) r new) [
     | true ↦ λ j. quiet_none (λ x. Answered s (Some y) x new) r j
     | false ↦ λ j. by_start (sync_pick (file_at s (file_of s y.handle)) y.last) j
@@ -65,7 +67,7 @@ module _ (s new : State) where
     where
       by_start : (o : Option (ℕ × Page)) → start_tests s o ≡ Some r → Answered s (Some y) r new
       by_start None j = quiet_none (λ x. Answered s (Some y) x new) r j
-      by_start (Some e) j = quiet_if (λ x. Answered s (Some y) x new) e.1.tags.writeback _ _ tt (quiet_if (λ x. Answered s (Some y) x new) (is_full s) _ _ (same, refl) (quiet_none (λ x. Answered s (Some y) x new))) r j
+      by_start (Some e) j = quiet_if (λ x. Answered s (Some y) x new) e.1.tags.writeback _ _ tt (quiet_if (λ x. Answered s (Some y) x new) (is_full s) _ _ tt (quiet_none (λ x. Answered s (Some y) x new))) r j
 
   by_waits : (n : ℕ) (y : Sync) (ts : List ℕ) (r : Reply) → WaitsFor s n y ts r new → Answered s (Some y) r new
   by_waits n y [] reply.Clean h = tt
@@ -91,16 +93,6 @@ module _ (s new : State) where
     | inl a ↦ by_tests (finmap.get s.syncs n.0) r a.0 a.1
     | inr b ↦ by_sync n.0 (finmap.get s.syncs n.0) r b.1
   ]
-
-  begin_refused : (h : HandleId) (why : Refusal) → Step s (event.SyncBegin h) (reply.Refused why) new → (new ≡ s) × (is_io why ≡ false)
-  begin_refused h why e = elim (answered (sync_begin_tests s h.0) (reply.Refused why) s new (SyncBeginReply s h.0 (reply.Refused why) new) e) [
-    | inl a ↦ (a.1, quiet_if fair (not (is_open s h.0)) _ _ refl (quiet_if fair (nat_le MAX_SYNCS (finmap.len s.syncs)) _ None refl (quiet_none fair)) (reply.Refused why) a.0)
-    | inr b ↦ absurd b.1
-  ]
-    where
-      fair : Reply → Type 0
-      fair (reply.Refused why) = is_io why ≡ false
-      fair _ = Unit {0}
 
 -- ---- a sync in progress
 
@@ -215,36 +207,48 @@ ends_failed old now new h n f code here there s m =
 
 -- ---- why it is refused
 
-as_refusal : (old : SoloSeen) (h : HandleId) (why : Refusal) → Refuses old (event.SyncBegin h) why ⊎ ((n : SyncId) × Refuses old (event.SyncStep n) why) → IsSyncRefusal old h why
-as_refusal old h Memory x = tt
-as_refusal old h _ x = x
-
-pub begin_is_refused : (old new : SoloSeen) (h : HandleId) (why : Refusal) → Serves old old → IsMade old.world (step.SyncBegin h) (reply.Refused why) new.world → IsSyncRefusal old h why
-begin_is_refused old new h why same m =
-    as_refusal old h why (inl (old, same, subst (λ s. Step old.world.core (event.SyncBegin h) (reply.Refused why) s) (begin_refused old.world.core new.world.core h why m.0.0).0 m.0.0))
-
-pub step_is_refused : (old now new : SoloSeen) (h : HandleId) (n : SyncId) (why : Refusal) → Serves old now → Steps now.world (step.SyncStep n) (reply.Refused why) new.world → IsSyncRefusal old h why
-step_is_refused old now new h n why serves m = elim m [
-  | inl m ↦ (let same = (step_answered now.world.core new.world.core n (reply.Refused why) m.0.0).0 in
-      as_refusal old h why (inr (n, (now, serves, subst (λ s. Step now.world.core (event.SyncStep n) (reply.Refused why) s) same m.0.0))))
-  | inr x ↦ subst (IsSyncRefusal old h) (let e : Memory ≡ why = (let k = x.0 in cc) in e) tt
-]
-
--- it is by no device call that failed
-pub begin_no_io : (w v : Held) (h : HandleId) (why : Refusal) → IsMade w (step.SyncBegin h) (reply.Refused why) v → is_io why ≡ false
-begin_no_io w v h why m = (begin_refused w.core v.core h why m.0.0).1
-
-pub step_no_io : (w v : Held) (n : SyncId) (r : Reply) (o : Result (Option ℕ) Refusal) → Steps w (step.SyncStep n) r v → o ≡ sync_end_of r → IfErr o (λ why. is_io why ≡ false)
-step_no_io w v n r o m e = subst (λ o. IfErr o (λ why. is_io why ≡ false)) (sym e) (by_reply r m)
+refused_start : (s : State) (o : Option (ℕ × Page)) (why : Refusal) → start_tests s o ≡ Some (reply.Refused why) → (why ≡ TooManyInFlight) × (is_full s ≡ true)
+refused_start s None why e = absurd cc
+refused_start s (Some x) why e = by x.1.tags.writeback (is_full s) refl e
   where
-    by_reply : (r : Reply) → Steps w (step.SyncStep n) r v → IfErr (sync_end_of r) (λ why. is_io why ≡ false)
-    by_reply reply.Clean m = tt
-    by_reply (reply.Failed code) m = tt
-    by_reply (reply.Refused why) m = elim m [
-      | inl m ↦ (step_answered w.core v.core n (reply.Refused why) m.0.0).1
-      | inr x ↦ (let e : why ≡ Memory = (let k = x.0 in cc) in ap is_io e)
-    ]
-    by_reply _ m = refl
+    by : (b c : Bool) → is_full s ≡ c → cond b (Some (reply.Wait (record { 0 = x.0 }))) (cond c (refuse TooManyInFlight) None) ≡ Some (reply.Refused why) → (why ≡ TooManyInFlight) × (is_full s ≡ true)
+    by true c k e = absurd cc
+    by false true k e = (sym (let same : TooManyInFlight ≡ why = cc in same), k)
+    by false false k e = absurd cc
+
+refused_tests : (s : State) (o : Option Sync) (why : Refusal) → is_some o ≡ true → sync_tests s o ≡ Some (reply.Refused why) → (why ≡ TooManyInFlight) × (is_full s ≡ true)
+refused_tests s None why there e = absurd cc
+refused_tests s (Some y) why there e = elim (is_some y.awaited) as (λ b. cond b None (start_tests s (sync_pick (file_at s (file_of s y.handle)) y.last)) ≡ Some (reply.Refused why) → (why ≡ TooManyInFlight) × (is_full s ≡ true)) [
+  | true ↦ λ j. absurd cc
+  | false ↦ λ j. refused_start s (sync_pick (file_at s (file_of s y.handle)) y.last) why j
+] e
+
+module _ (s new : State) (why : Refusal) where
+  refused_waits : (n : ℕ) (y : Sync) (ts : List ℕ) → WaitsFor s n y ts (reply.Refused why) new → ⊥
+  refused_waits n y [] h = h
+  refused_waits n y (t ∷ ts) h = h
+
+  refused_picks : (n : ℕ) (y : Sync) (o : Option (ℕ × Page)) → SyncPicked s n y o (reply.Refused why) new → ⊥
+  refused_picks n y None h = refused_waits n y (flushes_of s (file_of s y.handle)) h
+  refused_picks n y (Some e) h = h
+
+  refused_awaits : (n : ℕ) (y : Sync) (o : Option (List ℕ)) → SyncAwaits s n y o (reply.Refused why) new → ⊥
+  refused_awaits n y None h = refused_picks n y (sync_pick (file_at s (file_of s y.handle)) y.last) h
+  refused_awaits n y (Some ts) h = refused_waits n y ts h
+
+  refused_steps : (n : ℕ) (o : Option Sync) → SyncStepReply s n o (reply.Refused why) new → ⊥
+  refused_steps n None h = h
+  refused_steps n (Some y) h = refused_awaits n y y.awaited h
+
+-- the step of a sync that is there, with no request in flight, is refused memory or a serial
+step_why : (w v : Held) (n : SyncId) (why : Refusal) → w.core.requests ≡ finmap.empty → is_some (finmap.get w.core.syncs n.0) ≡ true → Steps w (step.SyncStep n) (reply.Refused why) v → ((why ≡ Memory) ⊎ ((why ≡ TooManyInFlight) × (SERIAL_END ≤ w.core.next))) × (v.core ≡ w.core)
+step_why w v n why none there m = elim m [
+  | inl m ↦ elim (answered (sync_tests w.core (finmap.get w.core.syncs n.0)) (reply.Refused why) w.core v.core (SyncStepReply w.core n.0 (finmap.get w.core.syncs n.0) (reply.Refused why) v.core) m.0.0) [
+    | inl a ↦ (let x = refused_tests w.core (finmap.get w.core.syncs n.0) why there a.0 in (inr (x.0, no_serial w.core none x.1), a.1))
+    | inr b ↦ absurd (refused_steps w.core v.core why n.0 (finmap.get w.core.syncs n.0) b.1)
+  ]
+  | inr x ↦ (inl (let same : why ≡ Memory = (let k = x.0 in cc) in same), ap (λ (y : Held). y.core) x.1)
+]
 
 -- ---- the reply by which it is over
 
@@ -260,14 +264,14 @@ step_ends w v n r reached rests j m = elim m [ inl m ↦ absurd (step_answered w
 -- ---- what a step leaves of the service
 
 -- a quiet event that begins no request
-pub made_service : (name : ℕ) (s : SoloSeen) (w : Held) (table : TableId) (e : Event) (r : Reply) → Made s.world e r w → is_quiet e ≡ true → is_job r ≡ false → IsService name s.world table s.errors → IsService name w table s.errors × Serves s (record s { world = w })
+pub made_service : (name : ℕ) (s : SoloSeen) (w : Held) (table : TableId) (e : Event) (r : Reply) → Made s.world e r w → is_quiet e ≡ true → is_job r ≡ false → IsServing name s.world table s.errors → IsServing name w table s.errors × Serves s (record s { world = w })
 made_service name s w table e r m q j i =
     let g = made_goes s w e r m q (service_sound name s.world table s.errors i) in
     (goes_service name s (record s { world = w }) table i g (made_rests s.world w e r m j i.rests) (made_serials s.world w e r m j i.serials), g.serves)
 
 -- a sync's step, with the write that it began where it began one
-pub stepped_service : (name : ℕ) (s : SoloSeen) (w : Held) (errors : RecorderSeen) (table : TableId) (n : SyncId) (r : Reply) → AtOnce s.world s.errors (step.SyncStep n) r w errors → IsService name s.world table s.errors → IsService name w table errors × Serves s (record s { world = w; errors = errors })
-stepped_service name s w errors table n r a i = (at_once_service name s w errors table (step.SyncStep n) (event.SyncStep n) r (sync_begins n) a i, at_once_serves name s w errors table (step.SyncStep n) (event.SyncStep n) r (sync_begins n) a i)
+pub stepped_service : (name : ℕ) (s : SoloSeen) (w : Held) (errors : RecorderSeen) (table : TableId) (n : SyncId) (r : Reply) → AtOnce s.world s.errors (step.SyncStep n) r w errors → IsServing name s.world table s.errors → IsServing name w table errors × Serves s (record s { world = w; errors = errors })
+stepped_service name s w errors table n r a i = (at_once_serving name s w errors table (step.SyncStep n) (event.SyncStep n) r (sync_begins n) a i, at_once_serves name s w errors table (step.SyncStep n) (event.SyncStep n) r (sync_begins n) a i)
 
 pub no_job : (r : Reply) → ((t : Serial) → r ≡ reply.Job t → ⊥) → is_job r ≡ false
 no_job (reply.Job t) n = absurd (n t refl)
@@ -301,30 +305,104 @@ module _ (old now mid new : SoloSeen) (h : HandleId) (n : SyncId) (f : ℕ) (her
   pub call_synced : (r : Reply) (o : Result (Option ℕ) Refusal) → InSync h n (world_of old.world) (world_of now.world) → Steps now.world (step.SyncStep n) r mid.world → o ≡ sync_end_of r → IfOk o (λ _. new ≡ mid) → IfOk o (IsSynced old f new)
   call_synced r o s m e same = subst (λ o. IfOk o (IsSynced old f new)) (sym e) (by_reply r s m (subst (λ o. IfOk o (λ _. new ≡ mid)) e same))
 
-module _ (old now mid : SoloSeen) (h : HandleId) (n : SyncId) (serves : Serves old now) where
-  by_refusal : (r : Reply) → is_sync_end r ≡ true → Steps now.world (step.SyncStep n) r mid.world → IfErr (sync_end_of r) (IsSyncRefusal old h)
-  by_refusal reply.Clean j m = tt
-  by_refusal (reply.Failed code) j m = tt
-  by_refusal (reply.Refused why) j m = step_is_refused old now mid h n why serves m
-  by_refusal _ j m = absurd cc
+drop_begins_none : (n : SyncId) (r : Result Unit Refusal) → begins_none (Act (event.SyncDrop n) (sync_dropped r)) ≡ true
+drop_begins_none n (Ok _) = refl
+drop_begins_none n (Err why) = refl
 
-  pub call_refused : (r : Reply) (o : Result (Option ℕ) Refusal) → is_sync_end r ≡ true → Steps now.world (step.SyncStep n) r mid.world → o ≡ sync_end_of r → IfErr o (IsSyncRefusal old h)
-  call_refused r o j m e = subst (λ o. IfErr o (IsSyncRefusal old h)) (sym e) (by_refusal r j m)
+module _ (old now mid new : SoloSeen) (n : SyncId) (before : Tells old → Tells now) (rests : IsResting now.world) (reached : Tells now → IsReached (world_of now.world)) (only : OnlySync now.world.core n.0) where
+  by_refusal : (r : Reply) → is_job r ≡ false → Steps now.world (step.SyncStep n) r mid.world → IfErr (sync_end_of r) (λ _. Drops mid.world n new.world) → IfErr (sync_end_of r) (λ why. IsSyncRefusal old why new)
+  by_refusal reply.Clean j m d = tt
+  by_refusal (reply.Failed code) j m d = tt
+  by_refusal (reply.Refused why) j m d =
+      let x = step_why now.world mid.world n why rests.requests only.there m in
+      let stays : new.world.core.next ≡ now.world.core.next = next_stays (world_of mid.world) (world_of new.world) (Act (event.SyncDrop n) (sync_dropped d.0)) (drop_begins_none n d.0) d.1.0 ∙ ap (λ (c : State). c.next) x.1 in
+      elim x.0 [
+        | inl e ↦ subst (λ y. IsSyncRefusal old y new) (sym e) tt
+        | inr y ↦ subst (λ z. IsSyncRefusal old z new) (sym y.0) (subst (λ k. SERIAL_END ≤ k) (sym stays) y.1)
+      ]
+  by_refusal r j m d = λ tells. absurd (let e = step_ends now.world mid.world n r (reached (before tells)) rests j m in cc)
+
+  pub call_refused : (r : Reply) (o : Result (Option ℕ) Refusal) → is_job r ≡ false → Steps now.world (step.SyncStep n) r mid.world → o ≡ sync_end_of r → IfErr o (λ _. Drops mid.world n new.world) → IfErr o (λ why. IsSyncRefusal old why new)
+  call_refused r o j m e d = subst (λ o. IfErr o (λ why. IsSyncRefusal old why new)) (sym e) (by_refusal r j m (subst (λ o. IfErr o (λ _. Drops mid.world n new.world)) e d))
+
+-- ---- no sync is left
+
+pub turn_only : (n : SyncId) (w v : Held) → SyncTurn w n None v → OnlySync w.core n.0 → OnlySync v.core n.0
+turn_only n w v turn s =
+    let x = turned n w v turn in
+    let there = sync_stays (world_of w) (world_of x.asked) (Act (event.SyncStep n) (reply.Job x.serial)) n refl x.asks.0 s.there in
+    let others : (k : ℕ) → k ≢ n.0 → finmap.get x.made.core.syncs k ≡ None = (λ k apart. ap (λ (c : State). finmap.get c.syncs k) x.core ∙ step_none w.core x.asked.core n (reply.Job x.serial) x.asks.0.0 k (s.others k apart)) in
+    let still : is_some (finmap.get x.made.core.syncs n.0) ≡ true = ap (λ (c : State). is_some (finmap.get c.syncs n.0)) x.core ∙ there in
+    elim x.ends [
+      | inl same ↦ subst (λ (y : Held). OnlySync y.core n.0) (sym same) (record { there = still; others = others })
+      | inr e ↦ record {
+        there = sync_stays (world_of x.made) (world_of v) (Finish x.serial.0 x.end) n refl e.0 still;
+        others = λ k apart. finish_none (world_of x.made) (world_of v) x.serial.0 x.end e.0 k (others k apart);
+      }
+    ]
+
+module _ (now mid new : Held) (n : SyncId) (only : OnlySync now.core n.0) where
+  others_left : (r : Reply) → Steps now (step.SyncStep n) r mid → (k : ℕ) → k ≢ n.0 → finmap.get mid.core.syncs k ≡ None
+  others_left r m k apart = elim m [
+    | inl m ↦ step_none now.core mid.core n r m.0.0 k (only.others k apart)
+    | inr x ↦ ap (λ (y : Held). finmap.get y.core.syncs k) x.1 ∙ only.others k apart
+  ]
+
+  over_left : (r : Reply) → is_over r ≡ true → Steps now (step.SyncStep n) r mid → new ≡ mid → new.core.syncs ≡ finmap.empty
+  over_left r o m same = ap (λ (y : Held). y.core.syncs) same ∙ only_left mid.core n.0 (elim m [
+    | inl m ↦ over_none now.core mid.core n r o m.0.0
+    | inr x ↦ absurd (let y : is_over (reply.Refused Memory) ≡ true = ap is_over (sym x.0) ∙ o in cc)
+  ]) (others_left r m)
+
+  dropped_left : (r : Reply) → Steps now (step.SyncStep n) r mid → Drops mid n new → new.core.syncs ≡ finmap.empty
+  dropped_left r m d = let x = dropped_none mid.core new.core n (sync_dropped d.0) d.1.0.0 in only_left new.core n.0 x.0 (λ k apart. x.1 k (others_left r m k apart))
+
+  none_left : (r : Reply) → Steps now (step.SyncStep n) r mid → IfOk (sync_end_of r) (λ _. new ≡ mid) → IfErr (sync_end_of r) (λ _. Drops mid n new) → new.core.syncs ≡ finmap.empty
+  none_left reply.Clean m same d = over_left reply.Clean refl m same
+  none_left (reply.Failed code) m same d = over_left (reply.Failed code) refl m same
+  none_left r m same d = dropped_left r m d
+
+  pub call_ends : (r : Reply) (o : Result (Option ℕ) Refusal) → Steps now (step.SyncStep n) r mid → o ≡ sync_end_of r → IfOk o (λ _. new ≡ mid) → IfErr o (λ _. Drops mid n new) → new.core.syncs ≡ finmap.empty
+  call_ends r o m e same d = none_left r m (subst (λ o. IfOk o (λ _. new ≡ mid)) e same) (subst (λ o. IfErr o (λ _. Drops mid n new)) e d)
+
+-- ---- what a service is, by the name that its cache has
+
+pub renamed : (name : ℕ) (w : Held) (table : TableId) (errors : RecorderSeen) → IsServing name w table errors → IsServing w.core.name w errors.board errors
+renamed name w table errors i = record { named = refl; board = refl; lists = i.lists; rests = i.rests; reached = i.reached; counted = i.counted; bounded = i.bounded; few = i.few; frames = i.frames; dirty = i.dirty; serials = i.serials }
+
+pub renamed_service : (name : ℕ) (w : Held) (table : TableId) (errors : RecorderSeen) → IsService name w table errors → IsService w.core.name w errors.board errors
+renamed_service name w table errors i = record { serving = renamed name w table errors i.serving; syncs = i.syncs }
+
+pub service_on : (name : ℕ) (old w : Held) (table : TableId) (before errors : RecorderSeen) → IsService name old table before → Serves (service_of old before) (service_of w errors) → IsService w.core.name w errors.board errors → IsService name w table errors
+service_on name old w table before errors i s j = record {
+  serving = record { named = s.keeps.name ∙ i.serving.named; board = i.serving.board ∙ sym s.keeps.board; lists = j.serving.lists; rests = j.serving.rests; reached = j.serving.reached; counted = j.serving.counted; bounded = j.serving.bounded; few = j.serving.few; frames = j.serving.frames; dirty = j.serving.dirty; serials = j.serving.serials };
+  syncs = j.syncs;
+}
+
+-- how a call's sync ends leaves the service
+pub ends_serving : (mid new : Held) (errors : RecorderSeen) (n : SyncId) (o : Result (Option ℕ) Refusal) → IfOk o (λ _. new ≡ mid) → IfErr o (λ _. Drops mid n new) → IsServing mid.core.name mid errors.board errors → IsServing new.core.name new errors.board errors × Serves (service_of mid errors) (service_of new errors)
+ends_serving mid new errors n (Ok x) same d i = subst (λ (w : Held). IsServing w.core.name w errors.board errors × Serves (service_of mid errors) (service_of w errors)) (sym same) (i, serves_refl (service_of mid errors))
+ends_serving mid new errors n (Err why) same d i =
+    let x = made_service mid.core.name (service_of mid errors) new errors.board (event.SyncDrop n) (sync_dropped d.0) d.1 refl (dropped_no_job d.0) i in
+    (renamed mid.core.name new errors.board errors x.0, x.1)
 
 pub goes_down : (e a b : ℕ) → a < e → b ≡ a + 1 → e - b < e - a
 goes_down e a b l s = omega arith
 
 -- ---- the whole call
 
+pub same_service : (mid new : Held) (errors : RecorderSeen) (o : Result (Option ℕ) Refusal) → IfOk o (λ _. new ≡ mid) → IfOk o (λ _. service_of new errors ≡ service_of mid errors)
+same_service mid new errors (Ok x) e = ap (λ w. service_of w errors) e
+same_service mid new errors (Err why) e = tt
+
+-- a refusal that is no failed write comes before the poll
+pub not_reported : (old new : SoloSeen) (why : Refusal) → IsSyncRefusal old why new → is_reported (Err why) ≡ true → ⊥
+not_reported old new (Io code) n e = n
+not_reported old new why n e = absurd cc
+
 -- how many attempts were made is of no matter
-refuses_counted : (s : SoloSeen) (n : ℕ) (e : Event) (why : Refusal) → Refuses s e why → Refuses (record s { attempts = n }) e why
-refuses_counted s n e why x = (x.0, serves_counted s x.0 n x.0.attempts x.1, x.2)
-
-pub refusal_counted : (s : SoloSeen) (n : ℕ) (h : HandleId) (why : Refusal) → IsSyncRefusal s h why → IsSyncRefusal (record s { attempts = n }) h why
-refusal_counted s n h Memory x = tt
-refusal_counted s n h why x = elim x [ inl a ↦ inl (refuses_counted s n (event.SyncBegin h) why a) | inr a ↦ inr (a.0, refuses_counted s n (event.SyncStep a.0) why a.1) ]
-
--- a refusal that is no failed device call comes before the poll
-pub not_reported : (why : Refusal) → is_io why ≡ false → is_reported (Err why) ≡ true → ⊥
-not_reported (Io code) n e = absurd cc
-not_reported why n e = absurd cc
+pub refusal_counted : (old new : SoloSeen) (m n : ℕ) (why : Refusal) → IsSyncRefusal old why new → IsSyncRefusal (record old { attempts = m }) why (record new { attempts = n })
+refusal_counted old new m n Memory x = tt
+refusal_counted old new m n TooManyInFlight x = x
+refusal_counted old new m n Busy x = x
+refusal_counted old new m n why x = absurd x

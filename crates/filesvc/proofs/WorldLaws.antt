@@ -12,7 +12,8 @@ use Rattle.pc_types.specs.declared.ids.HandleId.{HandleId}
 use Rattle.pc_types.specs.declared.ids.PageIndex.{PageIndex}
 use Rattle.pc_types.specs.declared.ids.Serial.{Serial}
 use Rattle.pc_types.specs.declared.ids.SyncId.{SyncId}
-use Rattle.pc_types.specs.declared.limits.TheConstants.{MAX_FILES}
+use Rattle.pc_types.specs.Limits.{Sizes}
+use Rattle.pc_types.specs.declared.limits.TheConstants.{MAX_FILES, MIN_DIRTY_LIMIT, MIN_FRAMES}
 use Rattle.pc_types.specs.declared.kind.Kind.{Kind}
 use Rattle.pc_types.specs.declared.kind.Kind.TheVariants.{Fill, Flush}
 use Rattle.pc_types.specs.declared.refusal.Refusal.TheVariants.{Memory}
@@ -27,6 +28,7 @@ use Rattle.cachecore.specs.declared.event.Reply.TheVariants as reply
 use Rattle.cachecore.specs.Replies.{outcome_of}
 use Rattle.cachecore.specs.Flushing.{flush_of}
 use Rattle.cachecore.specs.State.{Request, file_at}
+use Rattle.cachecore.proofs.StepCases.{not_of_sync}
 use Rattle.world.specs.declared.step.Step.{Step}
 use Rattle.world.specs.declared.step.Step.TheVariants as step
 use Rattle.world.specs.Plain.{Plain, plain_after}
@@ -39,13 +41,14 @@ use Rattle.world.proofs.Lookups.{get-insert1}
 use Rattle.world.proofs.Reached.{files_step, reached_step}
 use Rattle.world.proofs.Stays.{handles_stay, keeps_handles, stays}
 use Rattle.world.proofs.View.{put1_here}
-use Rattle.filesvc.specs.Rests.{AtOnce, IsAlone, IsNoted, IsResting, IsService, is_job}
+use Rattle.filesvc.specs.Rests.{AtOnce, IsAlone, IsNoted, IsResting, IsService, IsServing, is_job}
 use Rattle.filesvc.specs.Seen.{SoloSeen}
 use Rattle.filesvc.specs.Service.{Keeps, Serves, Tells, files}
 use Rattle.filesvc.proofs.FailedWrites.{act_failures, failures_in, finish_rises}
 use Rattle.filesvc.proofs.Noted.{Notes, count_in, noted_rises, notes, rise_alike}
 use Rattle.filesvc.proofs.FileSizes.{AreBounded, bounded_stays, leaves_lengths, lengths_stay}
 use Rattle.filesvc.proofs.Laws.{serves_refl, serves_trans}
+use Rattle.filesvc.proofs.SyncsKept.{act_none, finish_none, none_empty}
 
 -- ---- a device call, on the device
 
@@ -111,7 +114,7 @@ pub record IsSound (w : Held) : Type 0 where
   pub counted : w.device.calls ≤ max_calls
   pub bounded : AreBounded w.core
 
-pub service_sound : (name : ℕ) (w : Held) (table : TableId) (errors : RecorderSeen) → IsService name w table errors → IsSound w
+pub service_sound : (name : ℕ) (w : Held) (table : TableId) (errors : RecorderSeen) → IsServing name w table errors → IsSound w
 service_sound name w table errors i = record { reached = i.reached; counted = i.counted; bounded = i.bounded }
 
 -- the service goes on so
@@ -202,7 +205,7 @@ pub made_serials : (old w : Held) (e : Event) (r : Reply) → Made old e r w →
 made_serials old w e r m j i = let a = next_stays (world_of old) (world_of w) (Act e r) (ap not (same_job r j)) m.0 in let b : w.device.calls ≡ old.device.calls = ap (λ d. d.calls) m.1 in omega arith
 
 -- what makes a service of a world that it goes on in
-pub goes_service : (name : ℕ) (s t : SoloSeen) (table : TableId) → IsService name s.world table s.errors → Goes s t → IsResting t.world → FewSerials t.world → IsService name t.world table t.errors
+pub goes_service : (name : ℕ) (s t : SoloSeen) (table : TableId) → IsServing name s.world table s.errors → Goes s t → IsResting t.world → FewSerials t.world → IsServing name t.world table t.errors
 goes_service name s t table i g rest n = record {
   named = g.serves.keeps.name ∙ i.named;
   board = i.board ∙ sym g.serves.keeps.board;
@@ -212,6 +215,8 @@ goes_service name s t table i g rest n = record {
   counted = g.sound.counted;
   bounded = g.sound.bounded;
   few = subst (λ k. k ≤ MAX_FILES) (sym g.serves.keeps.count) i.few;
+  frames = subst (λ (z : Sizes). MIN_FRAMES ≤ z.frames) (sym g.serves.keeps.sizes) i.frames;
+  dirty = subst (λ (z : Sizes). MIN_DIRTY_LIMIT ≤ z.dirty_limit) (sym g.serves.keeps.sizes) i.dirty;
   serials = n;
 }
 
@@ -369,10 +374,10 @@ once_goes s w errors st e r b (Unmade _ same none) l i = subst (λ x. Goes s (wi
 once_goes s w errors st e r b (Quiet j m none) l i = subst (λ x. Goes s (with_world s w x)) (sym none) (made_goes s w e r m b.quiet i)
 once_goes s w errors st e r b (Whole c) l i = carried_goes s w errors st e r b c l i
 
-at_once_goes : (name : ℕ) (s : SoloSeen) (w : Held) (errors : RecorderSeen) (table : TableId) (st : Step) (e : Event) (r : Reply) → Begins st e → AtOnce s.world s.errors st r w errors → IsService name s.world table s.errors → Goes s (with_world s w errors)
+at_once_goes : (name : ℕ) (s : SoloSeen) (w : Held) (errors : RecorderSeen) (table : TableId) (st : Step) (e : Event) (r : Reply) → Begins st e → AtOnce s.world s.errors st r w errors → IsServing name s.world table s.errors → Goes s (with_world s w errors)
 at_once_goes name s w errors table st e r b a i = once_goes s w errors st e r b (once s.world w s.errors errors st e r b a) i.lists (service_sound name s.world table s.errors i)
 
-pub at_once_serves : (name : ℕ) (s : SoloSeen) (w : Held) (errors : RecorderSeen) (table : TableId) (st : Step) (e : Event) (r : Reply) → Begins st e → AtOnce s.world s.errors st r w errors → IsService name s.world table s.errors → Serves s (with_world s w errors)
+pub at_once_serves : (name : ℕ) (s : SoloSeen) (w : Held) (errors : RecorderSeen) (table : TableId) (st : Step) (e : Event) (r : Reply) → Begins st e → AtOnce s.world s.errors st r w errors → IsServing name s.world table s.errors → Serves s (with_world s w errors)
 at_once_serves name s w errors table st e r b a i = (at_once_goes name s w errors table st e r b a i).serves
 
 pub begun_alone : (old new : Held) (e : Event) (t : Serial) → may_begin e ≡ true → IsResting old → Made old e (reply.Job t) new → IsAlone new t.0
@@ -415,8 +420,23 @@ once_serials old new errors after st e r b (Unmade _ same none) most i = subst F
 once_serials old new errors after st e r b (Quiet j m none) most i = made_serials old new e r m j i
 once_serials old new errors after st e r b (Whole c) most i = carried_serials old new errors after e r b.may c most i
 
-pub at_once_service : (name : ℕ) (s : SoloSeen) (w : Held) (errors : RecorderSeen) (table : TableId) (st : Step) (e : Event) (r : Reply) → Begins st e → AtOnce s.world s.errors st r w errors → IsService name s.world table s.errors → IsService name w table errors
-at_once_service name s w errors table st e r b a i =
+pub at_once_serving : (name : ℕ) (s : SoloSeen) (w : Held) (errors : RecorderSeen) (table : TableId) (st : Step) (e : Event) (r : Reply) → Begins st e → AtOnce s.world s.errors st r w errors → IsServing name s.world table s.errors → IsServing name w table errors
+at_once_serving name s w errors table st e r b a i =
     let o = once s.world w s.errors errors st e r b a in
     goes_service name s (with_world s w errors) table i (at_once_goes name s w errors table st e r b a i) (once_rests s.world w s.errors errors st e r b o i.rests)
     (once_serials s.world w s.errors errors st e r b o i.counted i.serials)
+
+-- one that is no sync's begins none
+once_syncs : (old new : Held) (errors after : RecorderSeen) (e : Event) (r : Reply) → not_of_sync e ≡ true → Once old errors e r new after → old.core.syncs ≡ finmap.empty → new.core.syncs ≡ finmap.empty
+once_syncs old new errors after e r q (Unmade _ same none) i = ap (λ (x : Held). x.core.syncs) same ∙ i
+once_syncs old new errors after e r q (Quiet j m none) i = none_empty old.core new.core (act_none (world_of old) (world_of new) e r q m.0) i
+once_syncs old new errors after e r q (Whole c) i =
+    let a = none_empty old.core c.begun.core (act_none (world_of old) (world_of c.begun) e (reply.Job c.serial) q c.begin.0) i in
+    let b : c.called.core.syncs ≡ finmap.empty = ap (λ (x : Held). x.core.syncs) c.call.noted ∙ a in
+    none_empty c.called.core new.core (finish_none (world_of c.called) (world_of new) c.serial.0 r c.end.0) b
+
+pub at_once_service : (name : ℕ) (s : SoloSeen) (w : Held) (errors : RecorderSeen) (table : TableId) (st : Step) (e : Event) (r : Reply) → Begins st e → not_of_sync e ≡ true → AtOnce s.world s.errors st r w errors → IsService name s.world table s.errors → IsService name w table errors
+at_once_service name s w errors table st e r b q a i = record {
+  serving = at_once_serving name s w errors table st e r b a i.serving;
+  syncs = once_syncs s.world w s.errors errors e r q (once s.world w s.errors errors st e r b a) i.syncs;
+}

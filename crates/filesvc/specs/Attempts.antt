@@ -1,7 +1,6 @@
 -- Inside this crate: what one attempt of a call comes to. It is over, with a reply, or it is to be made again.
 use Rattle.std.specs.Prelude.{◌≡◌, ℕ, ◌+◌, ◌≤◌, ◌⊎◌, Bool, true, false, List, length, take, Option, Some, None, Result, Ok, Err}
 use Rattle.pc_types.specs.declared.ids.HandleId.{HandleId}
-use Rattle.pc_types.specs.declared.ids.PageIndex.{PageIndex}
 use Rattle.pc_types.specs.declared.limits.TheConstants.{MAX_FILE_SIZE}
 use Rattle.pc_types.specs.declared.refusal.Refusal.{Refusal}
 use Rattle.pc_types.specs.declared.refusal.Refusal.TheVariants.{Memory}
@@ -12,7 +11,8 @@ use Rattle.cachecore.specs.Step.{Step}
 use Rattle.cachecore.specs.Tests.{tests}
 use Rattle.filesvc.specs.declared.writes.Wrote.{Wrote}
 use Rattle.filesvc.specs.Seen.{SoloSeen}
-use Rattle.filesvc.specs.Service.{FilesAfter, IsFillRefusal, IsRefusal, Keeps, Serves, is_settled}
+use Rattle.filesvc.specs.Rooms.{IsFillRefusal}
+use Rattle.filesvc.specs.Service.{FilesAfter, IsRefusal, IsWithoutRoom, Keeps, Serves, is_settled}
 
 abbrev pub read_over : Result (Option ℕ) Refusal → List ℕ → Option Reply
 read_over (Ok (Some n)) out = Some (reply.Bytes (take n out))
@@ -47,18 +47,18 @@ pub record WroteAll (o : ℕ) (b : List ℕ) (w : Wrote) : Type 0 where
   pub small : o ≤ MAX_FILE_SIZE → w.end ≤ MAX_FILE_SIZE
 
 -- the attempt from its beginning to its end
-pub record Attempt (old : SoloSeen) (h : HandleId) (e : Event) (over : Option Reply) (new : SoloSeen) : Type 0 where
+pub record Attempt (old : SoloSeen) (e : Event) (over : Option Reply) (new : SoloSeen) : Type 0 where
   pub keeps : Keeps old new
   pub counted : new.attempts ≡ old.attempts + 1
   pub again : over ≡ None → Serves old new
   pub files : (r : Reply) → over ≡ Some r → FilesAfter old e r new
   -- the event was over at once
   pub settled : is_settled (tests old.world.core e) ≡ true → (r : Reply) × (over ≡ Some r) × Step old.world.core e r new.world.core
-  pub refused : (r : Refusal) → over ≡ Some (reply.Refused r) → IsRefusal old h e r new
+  pub refused : (r : Refusal) → over ≡ Some (reply.Refused r) → IsRefusal old e r new
 
--- why the way on from an event with this reply is refused: the fill of a page was, or the event itself, or memory
+-- why the way on from an event with this reply is refused: the fill of a page was, or the event was and no room was made for it, or memory
 abbrev pub IsStopped : SoloSeen → HandleId → Reply → Refusal → SoloSeen → Type 0
-IsStopped old h got r new = ((p : PageIndex) × IsFillRefusal old h p r new) ⊎ ((got ≡ reply.Refused r) ⊎ (r ≡ Memory))
+IsStopped old h got r new = IsFillRefusal old h r new ⊎ (((got ≡ reply.Refused r) × IsWithoutRoom old r new) ⊎ (r ≡ Memory))
 
 -- an attempt from its event on, which had this reply
 pub record Follows (old : SoloSeen) (h : HandleId) (got : Reply) (over : Option Reply) (new : SoloSeen) : Type 0 where

@@ -7,7 +7,7 @@ use Rattle.errboard.specs.Shown.{RecorderSeen}
 use Rattle.errboard.specs.Steps.{with_recording}
 use Rattle.errseq.specs.declared.recording.Recording.{Recording}
 use Rattle.pc_types.specs.declared.ids.Serial.{Serial}
-use Rattle.pc_types.specs.declared.limits.TheConstants.{MAX_FILES, MAX_FILE_SIZE}
+use Rattle.pc_types.specs.declared.limits.TheConstants.{MAX_FILES, MAX_FILE_SIZE, MIN_DIRTY_LIMIT, MIN_FRAMES}
 use Rattle.cachecore.specs.declared.event.Reply.{Reply}
 use Rattle.cachecore.specs.declared.event.Reply.TheVariants as reply
 use Rattle.cachecore.specs.Flushing.{flush_of}
@@ -22,7 +22,8 @@ pub record IsResting (w : Held) : Type 0 where
   pub requests : w.core.requests ≡ finmap.empty
   pub outcomes : w.outcomes ≡ finmap.empty
 
-pub record IsService (name : ℕ) (w : Held) (table : TableId) (errors : RecorderSeen) : Type 0 where
+-- what holds of a service between its calls, and while a call of it syncs a file
+pub record IsServing (name : ℕ) (w : Held) (table : TableId) (errors : RecorderSeen) : Type 0 where
   pub named : w.core.name ≡ name
   pub board : table ≡ errors.board
   -- which has the recordings of each file
@@ -33,8 +34,16 @@ pub record IsService (name : ℕ) (w : Held) (table : TableId) (errors : Recorde
   pub counted : w.device.calls ≤ max_calls
   pub bounded : (f : ℕ) → (file_at w.core f).size ≤ MAX_FILE_SIZE
   pub few : length w.core.files ≤ MAX_FILES
+  -- a call finds frames for all pages that it touches
+  pub frames : MIN_FRAMES ≤ w.core.sizes.frames
+  pub dirty : MIN_DIRTY_LIMIT ≤ w.core.sizes.dirty_limit
   -- no more serials were given than device calls were made
   pub serials : w.core.next ≤ w.device.calls
+
+-- between its calls no sync is in progress
+pub record IsService (name : ℕ) (w : Held) (table : TableId) (errors : RecorderSeen) : Type 0 where
+  pub serving : IsServing name w table errors
+  pub syncs : w.core.syncs ≡ finmap.empty
 
 abbrev pub is_job : Reply → Bool
 is_job (reply.Job t) = true

@@ -1,18 +1,26 @@
 -- Inside this crate: how room is made: an idle page is evicted, or a page written back.
-use Rattle.std.specs.Prelude.{◌≡◌, ℕ, ◌<◌, ◌≤◌, ◌⊎◌, Bool, true, false, length, Some}
+use Rattle.std.specs.Prelude.{◌≡◌, ℕ, ◌+◌, ◌<◌, ◌≤◌, ◌⊎◌, Bool, true, false, length, Some}
 use Rattle.pc_types.specs.declared.ids.FileId.{FileId}
+use Rattle.pc_types.specs.declared.ids.HandleId.{HandleId}
 use Rattle.pc_types.specs.declared.ids.PageIndex.{PageIndex}
+use Rattle.pc_types.specs.declared.limits.TheConstants.{SERIAL_END}
 use Rattle.pc_types.specs.declared.refusal.Refusal.{Refusal}
-use Rattle.pc_types.specs.declared.refusal.Refusal.TheVariants.{DirtyLimit, Memory, NoFrame, NoSuchFile}
+use Rattle.pc_types.specs.declared.refusal.Refusal.TheVariants.{BadHandle, DirtyLimit, Io, Memory, NoFrame, NoSuchFile, TooManyInFlight}
 use Rattle.cachecore.specs.declared.event.Event.TheVariants as event
 use Rattle.cachecore.specs.declared.event.Reply.{Reply}
 use Rattle.cachecore.specs.declared.event.Reply.TheVariants as reply
+use Rattle.cachecore.specs.State.{State, cached_total, dirty_total, free_frames, is_open}
 use Rattle.cachecore.specs.Step.{Step}
 use Rattle.cachecore.specs.Tests.{tests}
+use Rattle.cachecore.specs.Wants.{lacks_frames, passes_limit}
 use Rattle.world.specs.declared.step.Step.TheVariants as step
 use Rattle.filesvc.specs.Rests.{AtOnce}
 use Rattle.filesvc.specs.Seen.{SoloSeen}
-use Rattle.filesvc.specs.Service.{Faulted, NothingToFlush}
+use Rattle.filesvc.specs.Service.{Faulted, IsWithoutRoom, NothingToFlush}
+
+-- how many pages are cached, and how many DIRTY: what making room takes away
+abbrev pub load : State → ℕ
+load s = cached_total s + dirty_total s
 
 -- a page of the file was written back
 abbrev pub WritesBack : SoloSeen → FileId → SoloSeen → Type 0
@@ -41,9 +49,39 @@ FlushesOne old false new = ((new ≡ old) × NothingToFlush old) ⊎ Faulted old
 abbrev pub Evicts : SoloSeen → SoloSeen → Type 0
 Evicts old new = (f : FileId) × (p : PageIndex) × Step old.world.core event.Evict (reply.Evicted f p) new.world.core
 
+-- no more room can be made for what was refused so: there is no idle page to evict and no page to write back; or a device call failed,
+-- or no more of them can be counted
+abbrev pub IsFull : SoloSeen → Refusal → SoloSeen → Type 0
+IsFull old NoFrame new = ((tests new.world.core event.Evict ≡ Some reply.NoneIdle) × NothingToFlush new) ⊎ Faulted old new
+IsFull old DirtyLimit new = NothingToFlush new ⊎ Faulted old new
+IsFull old r new = Unit {0}
+
+-- why the fill of a page is refused
+abbrev pub IsFillRefusal : SoloSeen → HandleId → Refusal → SoloSeen → Type 0
+IsFillRefusal old h BadHandle new = is_open old.world.core h.0 ≡ false
+IsFillRefusal old h NoFrame new = IsWithoutRoom old NoFrame new
+IsFillRefusal old h (Io code) new = Faulted old new
+IsFillRefusal old h TooManyInFlight new = SERIAL_END ≤ new.world.core.next
+IsFillRefusal old h Memory new = Unit {0}
+IsFillRefusal old h r new = ⊥
+
 -- what was done where this was refused: for a frame a page was evicted or, where none was idle, one written back; for one more dirty page
 -- one was written back
 abbrev pub MakesRoom : SoloSeen → Refusal → SoloSeen → Type 0
 MakesRoom old NoFrame new = Evicts old new ⊎ ((tests old.world.core event.Evict ≡ Some reply.NoneIdle) × FlushesOne old true new)
 MakesRoom old DirtyLimit new = FlushesOne old true new
 MakesRoom old r new = ⊥
+
+-- after a call was refused so there is room for it: as many frames as it lacks pages, or room for its dirty pages
+abbrev pub HasRoom : ℕ → ℕ → ℕ → Refusal → SoloSeen → Type 0
+HasRoom h o n NoFrame new = lacks_frames new.world.core h o n ≡ false
+HasRoom h o n DirtyLimit new = passes_limit new.world.core h o n ≡ false
+HasRoom h o n r new = ⊥
+
+-- a frame is free, and no call lacks frames
+abbrev pub Suffices : SoloSeen → Type 0
+Suffices s = (0 < free_frames s.world.core) × ((h o n : ℕ) → lacks_frames s.world.core h o n ≡ false)
+
+-- no call would make too many pages dirty
+abbrev pub IsClean : SoloSeen → Type 0
+IsClean s = (h o n : ℕ) → passes_limit s.world.core h o n ≡ false

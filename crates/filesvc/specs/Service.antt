@@ -4,12 +4,9 @@ use Rattle.std.specs.FinMap as finmap
 use mathlib.Core.List.{IsPrefix}
 use Rattle.blockdev.specs.Device.{max_calls}
 use Rattle.pc_types.specs.Files.{page_of}
-use Rattle.pc_types.specs.declared.limits.TheConstants.{MAX_FILE_SIZE}
-use Rattle.pc_types.specs.declared.ids.HandleId.{HandleId}
-use Rattle.pc_types.specs.declared.ids.PageIndex.{PageIndex}
-use Rattle.pc_types.specs.declared.ids.SyncId.{SyncId}
+use Rattle.pc_types.specs.declared.limits.TheConstants.{MAX_FILE_SIZE, SERIAL_END}
 use Rattle.pc_types.specs.declared.refusal.Refusal.{Refusal}
-use Rattle.pc_types.specs.declared.refusal.Refusal.TheVariants.{DirtyLimit, Io, Memory, NoFrame, TooLarge, Turns}
+use Rattle.pc_types.specs.declared.refusal.Refusal.TheVariants.{BadHandle, Busy, DirtyLimit, Io, Memory, NoFrame, NoSpace, TooLarge, TooLong, TooManyInFlight, Turns}
 use Rattle.errboard.specs.Views.{recorded_of}
 use Rattle.errseq.specs.declared.recording.Recording.{Recording}
 use Rattle.errseq.specs.Recorded.{last_code, raised}
@@ -94,28 +91,36 @@ pub record Serves (old new : SoloSeen) : Type 0 where
 abbrev pub Faulted : SoloSeen → SoloSeen → Type 0
 Faulted old new = (old.world.device.faults < new.world.device.faults) ⊎ (new.world.device.calls ≡ max_calls)
 
--- the cache itself refused the event so, at a moment of the call, on the same plain files
-abbrev pub Refuses : SoloSeen → Event → Refusal → Type 0
-Refuses old e r = (mid : SoloSeen) × Serves old mid × Step mid.world.core e (reply.Refused r) mid.world.core
-
--- why a call is refused that makes the event e by this handle: a growth or a device call was refused, or it made its last attempt;
--- or the cache refused the event, or the fill of a page that it missed
-abbrev pub IsRefusal : SoloSeen → HandleId → Event → Refusal → SoloSeen → Type 0
-IsRefusal old h e Memory new = Unit {0}
-IsRefusal old h e (Io code) new = Faulted old new
-IsRefusal old h e Turns new = new.attempts ≡ 256
-IsRefusal old h e r new = Refuses old e r ⊎ ((p : PageIndex) × Refuses old (event.FillBegin h p) r)
-
 -- no file has a page that a flush could begin with
 abbrev pub NothingToFlush : SoloSeen → Type 0
 NothingToFlush s = (f : ℕ) → f < length s.world.core.files → tests s.world.core (event.FlushBegin (record { 0 = f })) ≡ Some reply.Nothing
 
--- where a call is refused a frame, or one more dirty page, no more room can be made: there is no idle page to evict and no page to
--- write back; or a device call failed, or no more of them can be counted
+-- why a call is refused a frame, or one more dirty page: a device call failed, or no more of them can be counted. Of a device that tells
+-- no contents it is claimed that no more room can be made: no idle page is left to evict, and no page to write back
 abbrev pub IsWithoutRoom : SoloSeen → Refusal → SoloSeen → Type 0
-IsWithoutRoom old NoFrame new = ((tests new.world.core event.Evict ≡ Some reply.NoneIdle) × NothingToFlush new) ⊎ Faulted old new
-IsWithoutRoom old DirtyLimit new = NothingToFlush new ⊎ Faulted old new
+IsWithoutRoom old NoFrame new = Faulted old new ⊎ ((Tells old → ⊥) × ((tests new.world.core event.Evict ≡ Some reply.NoneIdle) × NothingToFlush new))
+IsWithoutRoom old DirtyLimit new = Faulted old new ⊎ ((Tells old → ⊥) × NothingToFlush new)
 IsWithoutRoom old r new = Unit {0}
+
+-- the cache's own tests refuse the event so
+abbrev pub Refuses : SoloSeen → Event → Refusal → Type 0
+Refuses s e r = tests s.world.core e ≡ Some (reply.Refused r)
+
+-- why a call is refused that makes the event e, for each refusal that it may have: its tests on the state before; that no block is free,
+-- by the tests on the state after, which has the same blocks; want of room; a failed device call; that no serial is left for a fill; a
+-- growth that was refused; or that this was its last attempt
+abbrev pub IsRefusal : SoloSeen → Event → Refusal → SoloSeen → Type 0
+IsRefusal old e BadHandle new = Refuses old e BadHandle
+IsRefusal old e TooLong new = Refuses old e TooLong
+IsRefusal old e TooLarge new = Refuses old e TooLarge
+IsRefusal old e NoSpace new = Refuses new e NoSpace
+IsRefusal old e NoFrame new = IsWithoutRoom old NoFrame new
+IsRefusal old e DirtyLimit new = IsWithoutRoom old DirtyLimit new
+IsRefusal old e (Io code) new = Faulted old new
+IsRefusal old e TooManyInFlight new = SERIAL_END ≤ new.world.core.next
+IsRefusal old e Memory new = Unit {0}
+IsRefusal old e Turns new = new.attempts ≡ 256
+IsRefusal old e r new = ⊥
 
 -- ---- the first attempt
 
@@ -168,7 +173,7 @@ IsOnDevice s f =
 abbrev pub Owes : SoloSeen → HandleSeen → Type 0
 Owes s h = h.pass.done < length (errors_of s h.file)
 
--- the premise of the counter of 19 bits: it did not come round since
+-- the premise of the counter: it did not come round since
 abbrev pub IsCounted : SoloSeen → HandleSeen → Type 0
 IsCounted s h = IsWithinTurn (raised (drop h.pass.done (errors_of s h.file)))
 
@@ -213,6 +218,15 @@ Opened old f append (Err r) new = Step old.world.core (event.Open (record { 0 = 
 abbrev pub IsAsBefore : SoloSeen → SoloSeen → Type 0
 IsAsBefore old new = new ≡ record old { attempts = new.attempts }
 
+-- the service as it was after a call that made no attempt, as one by a handle of another service
+abbrev pub IsUntried : SoloSeen → SoloSeen → Type 0
+IsUntried old new = new ≡ record old { attempts = 0 }
+
+-- a seek looks at the cache for the end of a file alone
+abbrev pub looks_of : Seek → ℕ
+looks_of (End d) = 1
+looks_of place = 0
+
 -- the handle was told of all that is recorded, and nothing else of it changed
 pub record IsTold (s : SoloSeen) (old new : HandleSeen) : Type 0 where
   pub same : new ≡ record old { pass = new.pass }
@@ -226,16 +240,13 @@ abbrev pub open_reply : Result HandleSeen Refusal → Reply
 open_reply (Ok h) = reply.Handle (record { 0 = h.number })
 open_reply (Err r) = reply.Refused r
 
--- why the fill of a page is refused
-abbrev pub IsFillRefusal : SoloSeen → HandleId → PageIndex → Refusal → SoloSeen → Type 0
-IsFillRefusal old h p Memory new = Unit {0}
-IsFillRefusal old h p (Io code) new = Faulted old new
-IsFillRefusal old h p r new = Refuses old (event.FillBegin h p) r
-
--- why a sync of the handle's file is refused, but for writes that failed
-abbrev pub IsSyncRefusal : SoloSeen → HandleId → Refusal → Type 0
-IsSyncRefusal old h Memory = Unit {0}
-IsSyncRefusal old h r = Refuses old (event.SyncBegin h) r ⊎ ((n : SyncId) × Refuses old (event.SyncStep n) r)
+-- why an fsync is refused that ends by no success and no error of a write: a growth was refused, or no serial is left for a write. It
+-- waits for nothing, which takes a device that tells its contents
+abbrev pub IsSyncRefusal : SoloSeen → Refusal → SoloSeen → Type 0
+IsSyncRefusal old Memory new = Unit {0}
+IsSyncRefusal old TooManyInFlight new = SERIAL_END ≤ new.world.core.next
+IsSyncRefusal old Busy new = Tells old → ⊥
+IsSyncRefusal old r new = ⊥
 
 -- where an fsync ends by a success or an error: with an error exactly where a write of the file failed during the call, or the handle is
 -- owed one, with the code of the last

@@ -9,7 +9,7 @@ ghost use Rattle.cachecore.specs.State.{file_at};
 ghost use Rattle.cachecore.specs.Step.{Step};
 ghost use Rattle.errseq.specs.Recorded.{last_code, raised};
 ghost use Rattle.errseq.specs.Word.{IsWithinTurn};
-ghost use Rattle.filesvc.specs.Service.{CameFrom, FilesAfter, IsAsBefore, close_reply, IsCounted, IsTold, Names, Opened, Owes, errors_of, open_reply, placed, target};
+ghost use Rattle.filesvc.specs.Service.{CameFrom, FilesAfter, IsAsBefore, close_reply, IsCounted, IsTold, IsUntried, Names, Opened, Owes, errors_of, looks_of, open_reply, placed, target};
 
 use crate::handle::Handle;
 use crate::seek::Seek;
@@ -60,12 +60,14 @@ impl<D: BlockDevice> Solo<D> {
         }
     }
 
-    /// Closes a handle. Where it is refused it comes back.
+    /// Closes a handle. One of another service is refused, and comes back.
     pub fn close(&mut self, handle: Handle) -> Result<(), (Refusal, Handle)>
         requires came { CameFrom self.old handle }
-        ensures foreign { handle.cache ≢ self.old.world.core.name → IfErr result (λ e. e.0 ≡ BadHandle) × IsErr result × IsAsBefore self.old self.new }
+        ensures foreign { handle.cache ≢ self.old.world.core.name → IfErr result (λ e. e.0 ≡ BadHandle) × IsErr result × IsUntried self.old self.new }
         ensures closed { Names self.old handle → Step self.old.world.core (event.Close (record { 0 = handle.number })) (close_reply result) self.new.world.core }
         ensures files { Names self.old handle → FilesAfter self.old (event.Close (record { 0 = handle.number })) (close_reply result) self.new }
+        ensures answers { Names self.old handle → IfErr result (λ _. ⊥) }
+        ensures attempts { Names self.old handle → self.new.attempts ≡ 1 }
         ensures back { IfErr result (λ e. e.1 ≡ handle) }
         ensures device { self.new.world.device ≡ self.old.world.device }
         ensures errors { self.new.errors ≡ self.old.errors }
@@ -87,10 +89,11 @@ impl<D: BlockDevice> Solo<D> {
     /// Puts the cursor, and answers where it is now. Refused by `TooLarge` below 0 and past the greatest size of a file.
     pub fn seek(&mut self, handle: &mut Handle, place: Seek) -> Result<u64, Refusal>
         requires came { CameFrom self.old handle.old }
-        ensures foreign { handle.old.cache ≢ self.old.world.core.name → result ≡ Err BadHandle }
+        ensures foreign { handle.old.cache ≢ self.old.world.core.name → (result ≡ Err BadHandle) × IsUntried self.old self.new }
         ensures placed { Names self.old handle.old → result ≡ placed (target place handle.old.cursor (file_at self.old.world.core handle.old.file).size) }
         ensures cursor { IfOk result (λ at. handle.new ≡ record handle.old { cursor = at }) }
         ensures kept { OnErr result (handle.new ≡ handle.old) }
+        ensures attempts { Names self.old handle.old → self.new.attempts ≡ looks_of place }
         ensures same { IsAsBefore self.old self.new }
     {
         self.attempts = 0;
@@ -112,12 +115,12 @@ impl<D: BlockDevice> Solo<D> {
     /// The code of the last failed write of the file that the handle was not told of, where there is one. It is told of all then.
     pub fn poll_error(&mut self, handle: &mut Handle) -> Result<Option<ErrCode>, Refusal>
         requires came { CameFrom self.old handle.old }
-        ensures foreign { handle.old.cache ≢ self.old.world.core.name → (result ≡ Err BadHandle) × (handle.new ≡ handle.old) }
+        ensures foreign { handle.old.cache ≢ self.old.world.core.name → (result ≡ Err BadHandle) × IsUntried self.old self.new × (handle.new ≡ handle.old) }
         ensures answers { Names self.old handle.old → IsOk result }
         ensures code { IfOk result (λ code. IfSome code (λ c. Owes self.old handle.old × (c ≡ last_code (errors_of self.old handle.old.file)))) }
         ensures none { IfOk result (λ code. IfNone code (IsCounted self.old handle.old → Owes self.old handle.old → ⊥)) }
         ensures told { IfOk result (λ _. IsTold self.new handle.old handle.new) }
-        ensures same { IsAsBefore self.old self.new }
+        ensures same { IsUntried self.old self.new }
     {
         self.attempts = 0;
         if handle.cache != self.name {

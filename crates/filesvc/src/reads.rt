@@ -1,15 +1,18 @@
 //! Reads.
 
-ghost use Rattle.std.specs.Prelude.{◌≡◌, ◌≢◌, ◌+◌, ◌<◌, ◌≤◌, length, take, drop, IfErr, IfOk, IfSome, Err};
+ghost use Rattle.std.specs.Prelude.{◌≡◌, ◌≢◌, ◌+◌, ◌<◌, ◌≤◌, true, length, take, drop, IfErr, IfOk, IfSome, Err};
 ghost use Rattle.pc_types.specs.Files as plain;
 ghost use Rattle.pc_types.specs.declared.limits.TheConstants.{MAX_FILE_SIZE};
 ghost use Rattle.pc_types.specs.declared.refusal.Refusal.TheVariants.{BadHandle};
 ghost use Rattle.cachecore.specs.declared.event.Event.TheVariants as event;
+ghost use Rattle.cachecore.specs.State.{file_of, is_open};
+ghost use Rattle.cachecore.specs.Tests.{read_count};
 ghost use Rattle.world.specs.Plain.{named, plain_file};
 ghost use Rattle.filesvc.specs.Attempts.{Attempt, read_over, read_so_far};
-ghost use Rattle.filesvc.specs.Service.{CameFrom, IsAsBefore, IsRefusal, IsSettledAtOnce, IsWithoutRoom, Names, Serves, Tells, count_of, files, read_reply};
+ghost use Rattle.filesvc.specs.Service.{CameFrom, IsRefusal, IsSettledAtOnce, IsUntried, Names, Serves, Tells, count_of, files, read_reply};
 
 use crate::handle::Handle;
+use crate::room::Span;
 use crate::solo::{MAX_ATTEMPTS, Solo};
 use blockdev::BlockDevice;
 use cachecore::ReadAnswer;
@@ -20,15 +23,14 @@ impl<D: BlockDevice> Solo<D> {
     /// end of the file. A read touches 16 pages at most.
     pub fn pread(&mut self, handle: &Handle, offset: u64, out: &mut [u8]) -> Result<u64, Refusal>
         requires came { CameFrom self.old handle.now }
-        ensures foreign { handle.now.cache ≢ self.old.world.core.name → (result ≡ Err BadHandle) × IsAsBefore self.old self.new }
+        ensures foreign { handle.now.cache ≢ self.old.world.core.name → (result ≡ Err BadHandle) × IsUntried self.old self.new }
         ensures serves { Serves self.old self.new }
         ensures bytes { Tells self.old → IfOk result (λ n. take n out.new ≡ plain.pread (plain_file (files self.old) handle.now.file) offset (length out.old)) }
         ensures count { count_of result ≤ length out.old }
         ensures rest { drop (count_of result) out.new ≡ drop (count_of result) out.old }
         ensures within { offset ≤ MAX_FILE_SIZE → offset + count_of result ≤ MAX_FILE_SIZE }
         ensures first { IsSettledAtOnce self.old handle.now (event.Read (record { 0 = handle.now.number }) offset (length out.old)) (read_reply result out.new) self.new }
-        ensures refused { Names self.old handle.now → IfErr result (λ r. IsRefusal self.old (record { 0 = handle.now.number }) (event.Read (record { 0 = handle.now.number }) offset (length out.old)) r self.new) }
-        ensures room { IfErr result (λ r. IsWithoutRoom self.old r self.new) }
+        ensures refused { Names self.old handle.now → IfErr result (λ r. IsRefusal self.old (event.Read (record { 0 = handle.now.number }) offset (length out.old)) r self.new) }
     {
         self.attempts = 0;
         if handle.cache != self.name {
@@ -51,33 +53,47 @@ impl<D: BlockDevice> Solo<D> {
     ) -> Result<Option<u64>, Refusal>
         requires { self.old.attempts < 256 }
         ensures serves { Serves self.old self.new }
-        ensures attempt { Attempt self.old handle (event.Read handle offset (length out.old)) (read_over result out.new) self.new }
+        ensures attempt { Attempt self.old (event.Read handle offset (length out.old)) (read_over result out.new) self.new }
         ensures bytes { Tells self.old → IfOk result (λ n. IfSome n (λ k. take k out.new ≡ plain.pread (plain_file (files self.old) (named (files self.old) handle.0)) offset (length out.old))) }
         ensures count { read_so_far result ≤ length out.old }
         ensures rest { drop (read_so_far result) out.new ≡ drop (read_so_far result) out.old }
         ensures within { offset ≤ MAX_FILE_SIZE → offset + read_so_far result ≤ MAX_FILE_SIZE }
-        ensures room { IfErr result (λ r. IsWithoutRoom self.old r self.new) }
     {
         self.attempts += 1;
         match self.world.read(handle, offset, out)? {
             ReadAnswer::Bytes(count) => return Ok(Some(count)),
-            ReadAnswer::Miss(page) | ReadAnswer::Wait(page) => self.fill(handle, page)?,
+            ReadAnswer::Miss(page) | ReadAnswer::Wait(page) => {
+                let count = self.count_within(handle, offset, out.len() as u64);
+                let span = Span {
+                    handle,
+                    offset,
+                    count,
+                };
+                self.fill(span, page)?
+            }
         }
         Ok(None)
+    }
+
+    /// How many bytes a read of so many reads: none past the end of the file.
+    fn count_within(&self, handle: HandleId, offset: u64, count: u64) -> u64
+        ensures { is_open self.now.world.core handle.0 ≡ true → result ≡ read_count self.now.world.core (file_of self.now.world.core handle.0) offset count }
+    {
+        let size = self.world.size(handle).unwrap_or(0);
+        count.min(size.saturating_sub(offset))
     }
 
     /// Reads at the cursor, as `pread` does there, and moves the cursor by the count.
     pub fn read(&mut self, handle: &mut Handle, out: &mut [u8]) -> Result<u64, Refusal>
         requires came { CameFrom self.old handle.old }
-        ensures foreign { handle.old.cache ≢ self.old.world.core.name → (result ≡ Err BadHandle) × IsAsBefore self.old self.new }
+        ensures foreign { handle.old.cache ≢ self.old.world.core.name → (result ≡ Err BadHandle) × IsUntried self.old self.new }
         ensures serves { Serves self.old self.new }
         ensures bytes { Tells self.old → IfOk result (λ n. take n out.new ≡ plain.pread (plain_file (files self.old) handle.old.file) handle.old.cursor (length out.old)) }
         ensures count { count_of result ≤ length out.old }
         ensures rest { drop (count_of result) out.new ≡ drop (count_of result) out.old }
         ensures cursor { handle.new ≡ record handle.old { cursor = handle.old.cursor + count_of result } }
         ensures first { IsSettledAtOnce self.old handle.old (event.Read (record { 0 = handle.old.number }) handle.old.cursor (length out.old)) (read_reply result out.new) self.new }
-        ensures refused { Names self.old handle.old → IfErr result (λ r. IsRefusal self.old (record { 0 = handle.old.number }) (event.Read (record { 0 = handle.old.number }) handle.old.cursor (length out.old)) r self.new) }
-        ensures room { IfErr result (λ r. IsWithoutRoom self.old r self.new) }
+        ensures refused { Names self.old handle.old → IfErr result (λ r. IsRefusal self.old (event.Read (record { 0 = handle.old.number }) handle.old.cursor (length out.old)) r self.new) }
     {
         let count = self.pread(handle, handle.cursor, out)?;
         handle.cursor += count;

@@ -155,6 +155,55 @@ fn reads_back(rt: &impl Abort, desk: &mut Desk) {
     assert_eq!(rt; desk.pread(0, &mut [0; 1024]), Err(Refusal::TooLong));
 }
 
+// Clean pages that are used often, as many dirty ones as may be, and then calls that lack two pages.
+fn is_never_stuck(rt: &impl Abort, desk: &mut Desk, frames: u64, dirty: u64) {
+    let mut out = [0; 32];
+    for page in 0..3000u64 {
+        assert_eq!(rt; desk.pwrite(page * 16, &[(page % 256) as u8; 16]), Ok(16));
+    }
+    assert_eq!(rt; desk.fsync(), Ok(()));
+    for _ in 0..3 {
+        for page in 1000..1000 + (frames - dirty) {
+            assert_eq!(rt; desk.pread(page * 16, &mut out), Ok(32));
+        }
+    }
+    for page in 0..dirty {
+        assert_eq!(rt; desk.pwrite(page * 16, &[1]), Ok(1));
+    }
+    for page in 2000..2004u64 {
+        assert_eq!(rt; desk.pread(page * 16, &mut out), Ok(32));
+        assert!(rt; desk.solo.attempts() <= 3);
+        assert!(rt;
+            out.starts_with(&[(page % 256) as u8; 16])
+                && out.ends_with(&[((page + 1) % 256) as u8; 16])
+        );
+    }
+    assert_eq!(rt; desk.pwrite(2100 * 16 + 8, &[2; 16]), Ok(16));
+    assert!(rt; desk.solo.attempts() <= 4);
+    assert_eq!(rt; desk.pread(2200 * 16, &mut [0; 256]), Ok(256));
+    assert!(rt; desk.solo.attempts() <= 17);
+}
+
+// A mix of reads of many pages and small writes, none of which is refused.
+fn mixes(rt: &impl Abort, desk: &mut Desk) {
+    for page in 0..600u64 {
+        assert_eq!(rt; desk.pwrite(page * 16, &[(page % 256) as u8; 16]), Ok(16));
+    }
+    let mut out = [0; 240];
+    let mut seed: u32 = 1;
+    for _ in 0..600 {
+        seed = seed.wrapping_mul(1103515245).wrapping_add(12345);
+        let offset = (seed >> 8) as u64 % (600 - 16) * 16 + 7;
+        seed = seed.wrapping_mul(1103515245).wrapping_add(12345);
+        if (seed >> 20) % 4 == 0 {
+            assert_eq!(rt; desk.pwrite(offset, &[3; 64]), Ok(64));
+        } else {
+            assert_eq!(rt; desk.pread(offset, &mut out), Ok(240));
+        }
+        assert!(rt; desk.solo.attempts() <= 18);
+    }
+}
+
 // A handle of another service is refused, and comes back from close.
 fn refuses_a_stranger(rt: &impl Abort, desk: &mut Desk) {
     let refused = desk.solo.open(FileId(1), false);
@@ -212,6 +261,8 @@ enum Row {
     ReadsBack,
     RefusesAStranger,
     Saves,
+    IsNeverStuck(u64, u64),
+    Mixes,
 }
 
 fn run(rt: &impl Abort, desk: &mut Desk, row: Row) -> Result<(), Refusal> {
@@ -224,18 +275,24 @@ fn run(rt: &impl Abort, desk: &mut Desk, row: Row) -> Result<(), Refusal> {
         Row::ReadsBack => reads_back(rt, desk),
         Row::RefusesAStranger => refuses_a_stranger(rt, desk),
         Row::Saves => saves(rt, desk)?,
+        Row::IsNeverStuck(frames, dirty) => is_never_stuck(rt, desk, frames, dirty),
+        Row::Mixes => mixes(rt, desk),
     }
     Ok(())
 }
 
 /// A service over a device whose first write fails where `fails`, with pages of 16 bytes and one file that is open.
-fn open_desk(alloc: Global, fails: bool, append: bool) -> Result<Desk, Refusal> {
-    let geometry = Geometry::new(16, 48, 16, 64)?;
-    let mut device = ScriptDevice::new(alloc, 16, 64)?;
+fn open_desk(
+    alloc: Global,
+    geometry: &Geometry,
+    fails: bool,
+    append: bool,
+) -> Result<Desk, Refusal> {
+    let mut device = ScriptDevice::new(alloc, 16, geometry.blocks())?;
     if fails {
         device.fail_next(ErrCode::IO, FaultEffect::Old);
     }
-    let Ok(mut solo) = Solo::new(alloc, &geometry, 7, device) else {
+    let Ok(mut solo) = Solo::new(alloc, geometry, 7, device) else {
         return Err(Refusal::Memory);
     };
     let file = solo.create()?;
@@ -244,7 +301,17 @@ fn open_desk(alloc: Global, fails: bool, append: bool) -> Result<Desk, Refusal> 
 }
 
 fn over_a_service(rt: &impl Abort, alloc: Global, fails: bool, row: Row) -> Result<(), Refusal> {
-    let mut desk = open_desk(alloc, fails, matches!(row, Row::Appends))?;
+    over(rt, alloc, &Geometry::new(16, 48, 16, 64)?, fails, row)
+}
+
+fn over(
+    rt: &impl Abort,
+    alloc: Global,
+    geometry: &Geometry,
+    fails: bool,
+    row: Row,
+) -> Result<(), Refusal> {
+    let mut desk = open_desk(alloc, geometry, fails, matches!(row, Row::Appends))?;
     let done = run(rt, &mut desk, row);
     assert!(rt; desk.close());
     done
@@ -297,4 +364,58 @@ fn another_device_is_refused(rt: HostRuntime) -> Result<(), Refusal> {
     let refused = Solo::new(alloc, &Geometry::new(16, 48, 16, 64)?, 7, device);
     assert!(rt; matches!(refused, Err((Refusal::BadConfig, _))));
     Ok(())
+}
+
+#[test]
+fn two_absent_pages_of_64(rt: HostRuntime) -> Result<(), Refusal> {
+    let geometry = Geometry::new(16, 64, 32, 4096)?;
+    over(&rt, rt.alloc(), &geometry, false, Row::IsNeverStuck(64, 32))
+}
+
+#[test]
+fn two_absent_pages_of_128(rt: HostRuntime) -> Result<(), Refusal> {
+    let geometry = Geometry::new(16, 128, 96, 4096)?;
+    over(
+        &rt,
+        rt.alloc(),
+        &geometry,
+        false,
+        Row::IsNeverStuck(128, 96),
+    )
+}
+
+#[test]
+fn two_absent_pages_of_256(rt: HostRuntime) -> Result<(), Refusal> {
+    let geometry = Geometry::new(16, 256, 128, 4096)?;
+    over(
+        &rt,
+        rt.alloc(),
+        &geometry,
+        false,
+        Row::IsNeverStuck(256, 128),
+    )
+}
+
+#[test]
+fn a_mix_over_64(rt: HostRuntime) -> Result<(), Refusal> {
+    let geometry = Geometry::new(16, 64, 32, 4096)?;
+    over(&rt, rt.alloc(), &geometry, false, Row::Mixes)
+}
+
+#[test]
+fn a_mix_over_80(rt: HostRuntime) -> Result<(), Refusal> {
+    let geometry = Geometry::new(16, 80, 48, 4096)?;
+    over(&rt, rt.alloc(), &geometry, false, Row::Mixes)
+}
+
+#[test]
+fn a_mix_over_128(rt: HostRuntime) -> Result<(), Refusal> {
+    let geometry = Geometry::new(16, 128, 96, 4096)?;
+    over(&rt, rt.alloc(), &geometry, false, Row::Mixes)
+}
+
+#[test]
+fn a_mix_over_256(rt: HostRuntime) -> Result<(), Refusal> {
+    let geometry = Geometry::new(16, 256, 224, 4096)?;
+    over(&rt, rt.alloc(), &geometry, false, Row::Mixes)
 }

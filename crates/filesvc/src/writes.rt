@@ -7,10 +7,11 @@ ghost use Rattle.cachecore.specs.declared.event.Event.TheVariants as event;
 ghost use Rattle.cachecore.specs.Replies.{wrote};
 ghost use Rattle.cachecore.specs.State.{file_at, file_of};
 ghost use Rattle.filesvc.specs.Attempts.{Attempt, Follows, WroteAll, append_reply, truncate_over, write_over};
-ghost use Rattle.filesvc.specs.Rooms.{MakesRoom};
-ghost use Rattle.filesvc.specs.Service.{CameFrom, FilesAfter, IsAsBefore, IsRefusal, IsSettledAtOnce, IsWithoutRoom, Keeps, Names, count_of, cursor_after, truncate_reply, write_event, write_reply, wrote_reply};
+ghost use Rattle.filesvc.specs.Rooms.{HasRoom};
+ghost use Rattle.filesvc.specs.Service.{CameFrom, FilesAfter, IsRefusal, IsSettledAtOnce, IsUntried, Keeps, Names, count_of, cursor_after, truncate_reply, write_event, write_reply, wrote_reply};
 
 use crate::handle::Handle;
+use crate::room::Span;
 use crate::solo::{MAX_ATTEMPTS, Solo};
 use blockdev::BlockDevice;
 use cachecore::{TruncateAnswer, WriteAnswer};
@@ -28,14 +29,13 @@ impl<D: BlockDevice> Solo<D> {
     /// before them reads as zeros. A write touches 16 pages at most.
     pub fn pwrite(&mut self, handle: &Handle, offset: u64, bytes: &[u8]) -> Result<u64, Refusal>
         requires came { CameFrom self.old handle.now }
-        ensures foreign { handle.now.cache ≢ self.old.world.core.name → (result ≡ Err BadHandle) × IsAsBefore self.old self.new }
+        ensures foreign { handle.now.cache ≢ self.old.world.core.name → (result ≡ Err BadHandle) × IsUntried self.old self.new }
         ensures keeps { Keeps self.old self.new }
         ensures count { IfOk result (λ n. n ≡ length bytes.now) }
         ensures within { offset ≤ MAX_FILE_SIZE → offset + count_of result ≤ MAX_FILE_SIZE }
         ensures files { FilesAfter self.old (event.Write (record { 0 = handle.now.number }) offset bytes.now) (write_reply result (offset + length bytes.now)) self.new }
         ensures first { IsSettledAtOnce self.old handle.now (event.Write (record { 0 = handle.now.number }) offset bytes.now) (write_reply result (offset + length bytes.now)) self.new }
-        ensures refused { Names self.old handle.now → IfErr result (λ r. IsRefusal self.old (record { 0 = handle.now.number }) (event.Write (record { 0 = handle.now.number }) offset bytes.now) r self.new) }
-        ensures room { IfErr result (λ r. IsWithoutRoom self.old r self.new) }
+        ensures refused { Names self.old handle.now → IfErr result (λ r. IsRefusal self.old (event.Write (record { 0 = handle.now.number }) offset bytes.now) r self.new) }
     {
         self.attempts = 0;
         if handle.cache != self.name {
@@ -53,14 +53,13 @@ impl<D: BlockDevice> Solo<D> {
     /// then.
     pub fn write(&mut self, handle: &mut Handle, bytes: &[u8]) -> Result<u64, Refusal>
         requires came { CameFrom self.old handle.old }
-        ensures foreign { handle.old.cache ≢ self.old.world.core.name → (result ≡ Err BadHandle) × IsAsBefore self.old self.new }
+        ensures foreign { handle.old.cache ≢ self.old.world.core.name → (result ≡ Err BadHandle) × IsUntried self.old self.new }
         ensures keeps { Keeps self.old self.new }
         ensures count { IfOk result (λ n. n ≡ length bytes.now) }
         ensures files { FilesAfter self.old (write_event handle.old bytes.now) (wrote_reply self.old handle.old result) self.new }
         ensures cursor { handle.new ≡ record handle.old { cursor = cursor_after self.old handle.old result } }
         ensures first { IsSettledAtOnce self.old handle.old (write_event handle.old bytes.now) (wrote_reply self.old handle.old result) self.new }
-        ensures refused { Names self.old handle.old → IfErr result (λ r. IsRefusal self.old (record { 0 = handle.old.number }) (write_event handle.old bytes.now) r self.new) }
-        ensures room { IfErr result (λ r. IsWithoutRoom self.old r self.new) }
+        ensures refused { Names self.old handle.old → IfErr result (λ r. IsRefusal self.old (write_event handle.old bytes.now) r self.new) }
     {
         if !handle.append {
             let count = self.pwrite(handle, handle.cursor, bytes)?;
@@ -75,14 +74,13 @@ impl<D: BlockDevice> Solo<D> {
     /// Writes the bytes at the end of the file.
     fn append(&mut self, handle: &Handle, bytes: &[u8]) -> Result<Wrote, Refusal>
         requires came { CameFrom self.old handle.now }
-        ensures foreign { handle.now.cache ≢ self.old.world.core.name → (result ≡ Err BadHandle) × IsAsBefore self.old self.new }
+        ensures foreign { handle.now.cache ≢ self.old.world.core.name → (result ≡ Err BadHandle) × IsUntried self.old self.new }
         ensures keeps { Keeps self.old self.new }
         ensures wrote { IfOk result (WroteAll (file_at self.old.world.core handle.now.file).size bytes.now) }
         ensures within { IfOk result (λ w. w.end ≤ MAX_FILE_SIZE) }
         ensures files { FilesAfter self.old (event.Append (record { 0 = handle.now.number }) bytes.now) (append_reply result) self.new }
         ensures first { IsSettledAtOnce self.old handle.now (event.Append (record { 0 = handle.now.number }) bytes.now) (append_reply result) self.new }
-        ensures refused { Names self.old handle.now → IfErr result (λ r. IsRefusal self.old (record { 0 = handle.now.number }) (event.Append (record { 0 = handle.now.number }) bytes.now) r self.new) }
-        ensures room { IfErr result (λ r. IsWithoutRoom self.old r self.new) }
+        ensures refused { Names self.old handle.now → IfErr result (λ r. IsRefusal self.old (event.Append (record { 0 = handle.now.number }) bytes.now) r self.new) }
     {
         self.attempts = 0;
         if handle.cache != self.name {
@@ -104,42 +102,56 @@ impl<D: BlockDevice> Solo<D> {
         bytes: &[u8],
     ) -> Result<Option<Wrote>, Refusal>
         requires { self.old.attempts < 256 }
-        ensures attempt { Attempt self.old handle (event.Write handle offset bytes.now) (write_over result) self.new }
+        ensures attempt { Attempt self.old (event.Write handle offset bytes.now) (write_over result) self.new }
         ensures wrote { IfOk result (λ o. IfSome o (WroteAll offset bytes.now)) }
-        ensures room { IfErr result (λ r. IsWithoutRoom self.old r self.new) }
     {
         self.attempts += 1;
         let answer = self.world.write(handle, offset, bytes);
-        self.after_write(handle, answer)
+        let count = bytes.len() as u64;
+        self.after_write(
+            Span {
+                handle,
+                offset,
+                count,
+            },
+            answer,
+        )
     }
 
     /// One attempt to append, as `try_write` is one to write.
     fn try_append(&mut self, handle: HandleId, bytes: &[u8]) -> Result<Option<Wrote>, Refusal>
         requires { self.old.attempts < 256 }
-        ensures attempt { Attempt self.old handle (event.Append handle bytes.now) (write_over result) self.new }
+        ensures attempt { Attempt self.old (event.Append handle bytes.now) (write_over result) self.new }
         ensures wrote { IfOk result (λ o. IfSome o (WroteAll (file_at self.old.world.core (file_of self.old.world.core handle.0)).size bytes.now)) }
-        ensures room { IfErr result (λ r. IsWithoutRoom self.old r self.new) }
     {
         self.attempts += 1;
+        let offset = self.world.size(handle).unwrap_or(0);
         let answer = self.world.append(handle, bytes);
-        self.after_write(handle, answer)
+        let count = bytes.len() as u64;
+        self.after_write(
+            Span {
+                handle,
+                offset,
+                count,
+            },
+            answer,
+        )
     }
 
     /// What an attempt to write comes to after its answer: how the write ended, or nothing where it is to be made again.
     fn after_write(
         &mut self,
-        handle: HandleId,
+        span: Span,
         answer: Result<WriteAnswer, Refusal>,
     ) -> Result<Option<Wrote>, Refusal>
-        ensures follows { Follows self.old handle (wrote answer) (write_over result) self.new }
-        ensures again { IfOk result (λ o. IfNone o (IfErr answer (λ r. MakesRoom self.old r self.new))) }
-        ensures room { IfErr result (λ r. IsWithoutRoom self.old r self.new) }
+        ensures follows { Follows self.old span.handle (wrote answer) (write_over result) self.new }
+        ensures again { IfOk result (λ o. IfNone o (IfErr answer (λ r. HasRoom span.handle.0 span.offset span.count r self.new))) }
     {
         match answer {
             Ok(WriteAnswer::Wrote { count, end }) => return Ok(Some(Wrote { count, end })),
-            Ok(WriteAnswer::Miss(page)) | Ok(WriteAnswer::Wait(page)) => self.fill(handle, page)?,
-            Err(Refusal::NoFrame) => self.make_room(Refusal::NoFrame)?,
-            Err(Refusal::DirtyLimit) => self.make_room(Refusal::DirtyLimit)?,
+            Ok(WriteAnswer::Miss(page)) | Ok(WriteAnswer::Wait(page)) => self.fill(span, page)?,
+            Err(Refusal::NoFrame) => self.make_frames(span)?,
+            Err(Refusal::DirtyLimit) => self.make_clean(span)?,
             Err(refusal) => return Err(refusal),
         }
         Ok(None)
@@ -148,12 +160,11 @@ impl<D: BlockDevice> Solo<D> {
     /// Makes the file as long as this. A longer one gains zeros. The cursor stays.
     pub fn truncate(&mut self, handle: &Handle, size: u64) -> Result<(), Refusal>
         requires came { CameFrom self.old handle.now }
-        ensures foreign { handle.now.cache ≢ self.old.world.core.name → (result ≡ Err BadHandle) × IsAsBefore self.old self.new }
+        ensures foreign { handle.now.cache ≢ self.old.world.core.name → (result ≡ Err BadHandle) × IsUntried self.old self.new }
         ensures keeps { Keeps self.old self.new }
         ensures files { FilesAfter self.old (event.Truncate (record { 0 = handle.now.number }) size) (truncate_reply result) self.new }
         ensures first { IsSettledAtOnce self.old handle.now (event.Truncate (record { 0 = handle.now.number }) size) (truncate_reply result) self.new }
-        ensures refused { Names self.old handle.now → IfErr result (λ r. IsRefusal self.old (record { 0 = handle.now.number }) (event.Truncate (record { 0 = handle.now.number }) size) r self.new) }
-        ensures room { IfErr result (λ r. IsWithoutRoom self.old r self.new) }
+        ensures refused { Names self.old handle.now → IfErr result (λ r. IsRefusal self.old (event.Truncate (record { 0 = handle.now.number }) size) r self.new) }
     {
         self.attempts = 0;
         if handle.cache != self.name {
@@ -170,13 +181,20 @@ impl<D: BlockDevice> Solo<D> {
     /// One attempt to truncate. Answers whether that is done; where a page is missing it is filled.
     fn try_truncate(&mut self, handle: HandleId, size: u64) -> Result<bool, Refusal>
         requires { self.old.attempts < 256 }
-        ensures attempt { Attempt self.old handle (event.Truncate handle size) (truncate_over result) self.new }
-        ensures room { IfErr result (λ r. IsWithoutRoom self.old r self.new) }
+        ensures attempt { Attempt self.old (event.Truncate handle size) (truncate_over result) self.new }
     {
         self.attempts += 1;
         match self.world.truncate(handle, size)? {
             TruncateAnswer::Done => return Ok(true),
-            TruncateAnswer::Miss(page) | TruncateAnswer::Wait(page) => self.fill(handle, page)?,
+            TruncateAnswer::Miss(page) | TruncateAnswer::Wait(page) => {
+                // the byte behind the new end is of the page that is cut into
+                let span = Span {
+                    handle,
+                    offset: size,
+                    count: 1,
+                };
+                self.fill(span, page)?
+            }
         }
         Ok(false)
     }

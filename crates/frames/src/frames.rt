@@ -130,7 +130,11 @@ impl Frames {
         self.bytes.get_mut(frame.0)
     }
 
-    /// Notes that a frame's page was read or written.
+    /// Notes that a frame's page was read or written, as mark_page_accessed of Linux does:
+    ///
+    /// - inactive, unreferenced -> inactive, referenced
+    /// - inactive, referenced -> active, unreferenced
+    /// - active, unreferenced -> active, referenced
     pub fn accessed(&mut self, frame: FrameId)
         requires { is_taken self.old frame.0 ≡ true }
         ensures { self.new ≡ accessed self.old frame.0 }

@@ -17,19 +17,16 @@ fn assert_totals(rt: &impl Abort, mapping: &Mapping, dirty: u64, writeback: u64,
     assert_eq!(rt; mapping.totals(), totals);
 }
 
+/// A tag counts once, however often it is set, and is taken off once.
 #[test]
-fn a_page_with_each_tag(rt: HostRuntime) -> Result<(), Fail> {
+fn a_tag_counts_once(rt: HostRuntime) -> Result<(), Fail> {
     let page = PageIndex(3);
     let mut mapping = Mapping::new(rt.alloc());
-    assert_eq!(rt; mapping.size(), 0);
-    mapping.set_size(100);
-    assert_eq!(rt; mapping.size(), 100);
     assert_eq!(rt; mapping.page(page), None);
     mapping.insert_page(page, FrameId(9))?;
     assert_eq!(rt; mapping.insert_page(page, FrameId(8)), Err(Refusal::Busy));
     assert_eq!(rt; mapping.page_count(), 1);
     assert_totals(&rt, &mapping, 0, 0, 0);
-    // a tag counts once, however often it is set
     mapping.tag(page, Tag::Dirty)?;
     assert_totals(&rt, &mapping, 1, 0, 0);
     mapping.tag(page, Tag::Dirty)?;
@@ -38,13 +35,25 @@ fn a_page_with_each_tag(rt: HostRuntime) -> Result<(), Fail> {
     assert_totals(&rt, &mapping, 1, 1, 0);
     mapping.tag(page, Tag::Towrite)?;
     assert_totals(&rt, &mapping, 1, 1, 1);
-    // and is taken off once
     mapping.untag(page, Tag::Writeback);
     assert_totals(&rt, &mapping, 1, 0, 1);
     mapping.untag(page, Tag::Writeback);
     assert_totals(&rt, &mapping, 1, 0, 1);
     assert!(rt; mapping.has_tag(page, Tag::Towrite));
     assert!(rt; !mapping.has_tag(page, Tag::Writeback));
+    Ok(())
+}
+
+/// A page's frame is found with and without its tags, and the page goes with them.
+#[test]
+fn a_page_goes_with_its_tags(rt: HostRuntime) -> Result<(), Fail> {
+    let page = PageIndex(3);
+    let mut mapping = Mapping::new(rt.alloc());
+    assert_eq!(rt; mapping.size(), 0);
+    mapping.set_size(100);
+    mapping.insert_page(page, FrameId(9))?;
+    mapping.tag(page, Tag::Dirty)?;
+    mapping.tag(page, Tag::Towrite)?;
     let dirty = MappedPage {
         frame: FrameId(9),
         tags: Tags::none().with(Tag::Dirty).with(Tag::Towrite),
@@ -58,7 +67,6 @@ fn a_page_with_each_tag(rt: HostRuntime) -> Result<(), Fail> {
     // a write of the page begins: one call clears DIRTY and TOWRITE and sets WRITEBACK
     mapping.set_tags(page, Tags::none().with(Tag::Writeback))?;
     assert_totals(&rt, &mapping, 0, 1, 0);
-    // a page goes with its tags
     assert_eq!(rt; mapping.remove_page(page), Some(FrameId(9)));
     assert_totals(&rt, &mapping, 0, 0, 0);
     assert_eq!(rt; mapping.page_count(), 0);
@@ -126,82 +134,87 @@ fn assert_found(rt: &impl Abort, found: Option<FoundPage>, at: usize) {
     }
 }
 
-#[test]
-fn pages_are_found_and_retagged(rt: HostRuntime) -> Result<(), Fail> {
-    let mut mapping = Mapping::new(rt.alloc());
-    assert_found(&rt, mapping.find_page(PageIndex(0)), 7);
+/// A mapping of the seven pages.
+fn far_pages(rt: &impl Abort, alloc: Global) -> Result<Mapping, Refusal> {
+    let mut mapping = Mapping::new(alloc);
     for at in 0..7usize {
-        mapping.insert_page(PageIndex(page_at(&rt, at)), FrameId(at as u32))?;
+        mapping.insert_page(PageIndex(page_at(rt, at)), FrameId(at as u32))?;
     }
+    Ok(mapping)
+}
+
+/// 0, 63, 4,095 and the last page are DIRTY, 63 is TOWRITE too.
+fn far_tagged_pages(rt: &impl Abort, alloc: Global) -> Result<Mapping, Refusal> {
+    let mut mapping = far_pages(rt, alloc)?;
+    for at in [0usize, 2, 4, 6] {
+        mapping.tag(PageIndex(page_at(rt, at)), Tag::Dirty)?;
+    }
+    mapping.tag(PageIndex(63), Tag::Towrite)?;
+    Ok(mapping)
+}
+
+/// A search finds the page at its start, or the next one, until the pages are removed.
+#[test]
+fn pages_are_found(rt: HostRuntime) -> Result<(), Fail> {
+    let empty = Mapping::new(rt.alloc());
+    assert_found(&rt, empty.find_page(PageIndex(0)), 7);
+    let mut mapping = far_pages(&rt, rt.alloc())?;
     assert_eq!(rt; mapping.page_count(), 7);
     for at in 0..7usize {
         let page = page_at(&rt, at);
         assert_found(&rt, mapping.find_page(PageIndex(page)), at);
         assert_found(&rt, mapping.find_page(PageIndex(page + 1)), at + 1);
     }
-    // 0, 63, 4,095 and the last page are DIRTY, 63 is TOWRITE too
-    for at in [0usize, 2, 4, 6] {
-        mapping.tag(PageIndex(page_at(&rt, at)), Tag::Dirty)?;
+    for at in 0..7usize {
+        let removed = mapping.remove_page(PageIndex(page_at(&rt, at)));
+        assert_eq!(rt; removed, Some(FrameId(at as u32)));
     }
-    mapping.tag(PageIndex(63), Tag::Towrite)?;
+    assert_eq!(rt; mapping.page_count(), 0);
+    Ok(())
+}
+
+/// A search for a tag passes over the pages without it, and goes no further than its end.
+#[test]
+fn tagged_pages_are_found(rt: HostRuntime) -> Result<(), Fail> {
+    let mapping = far_tagged_pages(&rt, rt.alloc())?;
     assert_totals(&rt, &mapping, 4, 0, 1);
-    let last = PageIndex(u64::MAX);
-    assert_found(&rt, mapping.find_tagged(PageIndex(0), last, Tag::Dirty), 0);
-    assert_found(&rt, mapping.find_tagged(PageIndex(1), last, Tag::Dirty), 2);
-    assert_found(
-        &rt,
-        mapping.find_tagged(PageIndex(63), PageIndex(63), Tag::Dirty),
-        2,
-    );
-    assert_found(
-        &rt,
-        mapping.find_tagged(PageIndex(64), PageIndex(4_094), Tag::Dirty),
-        7,
-    );
-    assert_found(
-        &rt,
-        mapping.find_tagged(PageIndex(4_096), last, Tag::Dirty),
-        6,
-    );
-    assert_found(
-        &rt,
-        mapping.find_tagged(PageIndex(2), PageIndex(1), Tag::Dirty),
-        7,
-    );
-    assert_found(
-        &rt,
-        mapping.find_tagged(PageIndex(0), last, Tag::Writeback),
-        7,
-    );
-    // 63 and 4,095 are DIRTY from 1 to 4,096; only 4,095 is new as TOWRITE
-    assert_eq!(rt;
-        mapping.retag(PageIndex(1), PageIndex(4_096), Tag::Dirty, Tag::Towrite),
-        2
-    );
+    let rows = [
+        (0, u64::MAX, Tag::Dirty, 0usize),
+        (1, u64::MAX, Tag::Dirty, 2),
+        (63, 63, Tag::Dirty, 2),
+        (64, 4_094, Tag::Dirty, 7),
+        (4_096, u64::MAX, Tag::Dirty, 6),
+        (2, 1, Tag::Dirty, 7),
+        (0, u64::MAX, Tag::Writeback, 7),
+    ];
+    for (from, to, tag, at) in rows {
+        let found = mapping.find_tagged(PageIndex(from), PageIndex(to), tag);
+        assert_found(&rt, found, at);
+    }
+    Ok(())
+}
+
+/// 63 and 4,095 are DIRTY from 1 to 4,096; only 4,095 is new as TOWRITE.
+#[test]
+fn tagged_pages_are_retagged(rt: HostRuntime) -> Result<(), Fail> {
+    let mut mapping = far_tagged_pages(&rt, rt.alloc())?;
+    let (first, last) = (PageIndex(0), PageIndex(u64::MAX));
+    let count = mapping.retag(PageIndex(1), PageIndex(4_096), Tag::Dirty, Tag::Towrite);
+    assert_eq!(rt; count, 2);
     assert_totals(&rt, &mapping, 4, 0, 2);
     assert!(rt; mapping.has_tag(PageIndex(4_095), Tag::Towrite));
-    assert!(rt; !mapping.has_tag(PageIndex(0), Tag::Towrite));
-    assert_eq!(rt;
-        mapping.retag(PageIndex(0), last, Tag::Dirty, Tag::Towrite),
-        4
-    );
+    assert!(rt; !mapping.has_tag(first, Tag::Towrite));
+    let count = mapping.retag(first, last, Tag::Dirty, Tag::Towrite);
+    assert_eq!(rt; count, 4);
     assert_totals(&rt, &mapping, 4, 0, 4);
-    assert_eq!(rt;
-        mapping.retag(PageIndex(2), PageIndex(1), Tag::Dirty, Tag::Writeback),
-        0
-    );
-    assert_eq!(rt;
-        mapping.retag(PageIndex(0), last, Tag::Writeback, Tag::Dirty),
-        0
-    );
+    let count = mapping.retag(PageIndex(2), PageIndex(1), Tag::Dirty, Tag::Writeback);
+    assert_eq!(rt; count, 0);
+    let count = mapping.retag(first, last, Tag::Writeback, Tag::Dirty);
+    assert_eq!(rt; count, 0);
     assert_totals(&rt, &mapping, 4, 0, 4);
     for at in 0..7usize {
-        assert_eq!(rt;
-            mapping.remove_page(PageIndex(page_at(&rt, at))),
-            Some(FrameId(at as u32))
-        );
+        mapping.remove_page(PageIndex(page_at(&rt, at)));
     }
     assert_totals(&rt, &mapping, 0, 0, 0);
-    assert_eq!(rt; mapping.page_count(), 0);
     Ok(())
 }

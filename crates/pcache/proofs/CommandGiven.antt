@@ -11,11 +11,12 @@ use Rattle.pc_types.specs.declared.refusal.Refusal.TheVariants.{BadConfig}
 use Rattle.cachecore.specs.declared.event.Reply.{Reply}
 use Rattle.pcache.specs.declared.command.Command.{Command}
 use Rattle.pcache.specs.declared.command.Command.TheVariants as command
-use Rattle.pcache.specs.declared.stop.Stop.{Stop}
-use Rattle.pcache.specs.declared.stop.Stop.TheVariants.{Malformed, Input, Output, Memory}
-use Rattle.pcache.specs.Answers.{IsPrintFault, Prints, answer_of, ended}
+use Rattle.textline.specs.declared.stop.Stop.{Stop}
+use Rattle.textline.specs.declared.stop.Stop.TheVariants.{Malformed, Input, Output, Memory}
+use Rattle.pcache.specs.Answers.{IsPrintFault, answer_of}
+use Rattle.textline.specs.Lines.{Prints, ended}
 use Rattle.pcache.specs.Commands.{Means}
-use Rattle.pcache.specs.Lines.{is_blank}
+use Rattle.textline.specs.Lines.{is_blank}
 use Rattle.pcache.specs.Runs.{Answers, CommandGives, IsMisplaced, LineGives, SyncsFile, TellsTags, config_text, default_sizes, sizes_of, session_of_sizes}
 use Rattle.pcache.specs.Sessions.{Fsyncs, SessionSeen}
 use Rattle.pcache.proofs.CommandLemmas.{config_alone}

@@ -12,7 +12,7 @@ use Rattle.pcache.specs.declared.keyword.Keyword.TheVariants.{Config, Create, Op
 use Rattle.pcache.specs.Keywords.{name_of}
 use Rattle.blockdev.specs.declared.fault.FaultEffect.{FaultEffect}
 use Rattle.pcache.specs.Commands.{Part, Name, Number, Hex, Leaves, Begins, parts_of, Asks, Means}
-use Rattle.pcache.specs.Words.{words_of}
+use Rattle.textline.specs.Words.{words_of}
 
 -- ---- names
 

@@ -1,7 +1,5 @@
 pub mod CommandLemmas
-pub mod LineLemmas
 pub mod RunLemmas
-pub mod WordLemmas
 pub mod CommandGiven
 pub mod PassTable
 pub mod HandleLaws

@@ -6,15 +6,15 @@ use Rattle.std.specs.Io.KnownBytes.{Keeps, Appends}
 use Rattle.std.proofs.lemmas.Bool.{ltb-true, ltb-false}
 use Rattle.std.proofs.lemmas.List.{append-nil, append_assoc, drop_all, length-append, take_all}
 use Rattle.std.proofs.lemmas.List.Splits.{slice_split_first, length-slice_split}
-use Rattle.pcache.specs.declared.lines.Fetched.TheVariants.{Line}
-use Rattle.pcache.specs.declared.lines.TheConstants.{MAX_LINE}
-use Rattle.pcache.specs.declared.stop.Stop.{Stop}
-use Rattle.pcache.specs.declared.stop.Stop.TheVariants.{Malformed, Input, Output, Memory}
-use Rattle.pcache.specs.Lines.{is_newline, lines_of, without_empty_end, Fetches}
+use Rattle.textline.specs.declared.lines.Fetched.TheVariants.{Line}
+use Rattle.pcache.specs.declared.run.TheConstants.{MAX_LINE}
+use Rattle.textline.specs.declared.stop.Stop.{Stop}
+use Rattle.textline.specs.declared.stop.Stop.TheVariants.{Malformed, Input, Output, Memory}
+use Rattle.textline.specs.Lines.{is_newline, lines_of, without_empty_end, Fetches}
 use Rattle.pcache.specs.Runs.{Answered, AnsweredFirst, Ends, EndsWith, LineAnswers, LineGives}
 use Rattle.pcache.specs.Sessions.{SessionSeen}
-use Rattle.pcache.specs.Stops.{IsFault, status_of}
-use Rattle.pcache.proofs.WordLemmas.{whole}
+use Rattle.textline.specs.Stops.{IsFault, status_of}
+use Rattle.textline.proofs.WordLemmas.{whole}
 
 -- ---- the lines of a script
 
@@ -159,26 +159,26 @@ line_ends lines k w a b c n line rest Memory new s counted gives = (k, w, line �
 
 -- the lines that are not answered yet begin with the line that was fetched
 fetched_first : {script : List ℕ} {left : Option (List ℕ)} {k : ℕ} {w : Option SessionSeen} {a b : Option (List ℕ)} (c : Option (List ℕ)) (line : List ℕ) (after : Option (List ℕ))
-    (s : Stands script left k w a b) → IfSome left (λ bytes. Fetches bytes Line line after) → Keeps b c
+    (s : Stands script left k w a b) → IfSome left (λ bytes. Fetches MAX_LINE bytes Line line after) → Keeps b c
     → AnsweredFirst (lines_of script) k (line ∷ lines_of (after_first is_newline s.bytes)) w a c
 fetched_first {script = script} {left = left} {k = k} {w = w} {a = a} {b = b} c line after s fetched kept =
-    let now : Fetches s.bytes Line line after = known (λ bytes. Fetches bytes Line line after) left s.bytes s.has fetched in
+    let now : Fetches MAX_LINE s.bytes Line line after = known (λ bytes. Fetches MAX_LINE bytes Line line after) left s.bytes s.has fetched in
     let rest = lines_of (after_first is_newline s.bytes) in
     let begins : lines_of s.bytes ≡ line ∷ rest = lines_of-first s.bytes now.0 ∙ ap (λ l. l ∷ rest) (sym now.1) in
     first_kept _ k _ w a b c (subst (λ lines. AnsweredFirst (lines_of script) k lines w a b) begins s.answered) kept
 
 pub stands_stopped : {script : List ℕ} {left : Option (List ℕ)} {k : ℕ} {w : Option SessionSeen} {a b : Option (List ℕ)} (c d : Option (List ℕ)) (n : ℕ) (line : List ℕ) (after : Option (List ℕ)) (stop : Stop) (new : Option SessionSeen) (r : Result (Unit {0}) Stop)
-    → r ≡ Err stop → Stands script left k w a b → IfSome left (λ bytes. Fetches bytes Line line after) → Keeps b c → n ≡ k + 1 → LineGives w n line (Err stop) new c d
+    → r ≡ Err stop → Stands script left k w a b → IfSome left (λ bytes. Fetches MAX_LINE bytes Line line after) → Keeps b c → n ≡ k + 1 → LineGives w n line (Err stop) new c d
     → Ends (lines_of script) r a d
 stands_stopped {script = script} {k = k} {w = w} {a = a} c d n line after stop new r is s fetched kept counted gives =
     subst (λ end. Ends (lines_of script) end a d) (sym is)
     (line_ends (lines_of script) k w a c d n line _ stop new (fetched_first c line after s fetched kept) counted gives)
 
 pub stands_next : {script : List ℕ} {left : Option (List ℕ)} {k : ℕ} {w : Option SessionSeen} {a b : Option (List ℕ)} (c d : Option (List ℕ)) (n : ℕ) (line : List ℕ) (after : Option (List ℕ)) (new : Option SessionSeen)
-    → Stands script left k w a b → IfSome left (λ bytes. Fetches bytes Line line after) → Keeps b c → n ≡ k + 1 → length line ≤ MAX_LINE → LineGives w n line (Ok tt) new c d
+    → Stands script left k w a b → IfSome left (λ bytes. Fetches MAX_LINE bytes Line line after) → Keeps b c → n ≡ k + 1 → length line ≤ MAX_LINE → LineGives w n line (Ok tt) new c d
     → Stands script after n new a d
 stands_next {script = script} {left = left} {k = k} {w = w} {a = a} c d n line after new s fetched kept counted within gives =
-    let now : Fetches s.bytes Line line after = known (λ bytes. Fetches bytes Line line after) left s.bytes s.has fetched in
+    let now : Fetches MAX_LINE s.bytes Line line after = known (λ bytes. Fetches MAX_LINE bytes Line line after) left s.bytes s.has fetched in
     let more = first_more _ k line gives.0 _ w new a c d (fetched_first c line after s fetched kept) within gives.1 gives.2 in
     record {
       bytes = after_first is_newline s.bytes;

@@ -1,6 +1,6 @@
 -- What a line of a script prints.
 use Rattle.std.specs.Prelude.{ℕ, Bool, false, if◌then◌else◌, List, [], ◌∷◌, ◌++◌, Option, Some, None, Result, Ok, Err, codes, decimal}
-use Rattle.std.specs.Io.KnownBytes.{Appends, Keeps}
+use Rattle.std.specs.Io.KnownBytes.{Keeps}
 use Rattle.hex.specs.Hex.{encode_lower}
 use Rattle.pc_types.specs.declared.refusal.Refusal.{Refusal}
 use Rattle.pc_types.specs.declared.refusal.Refusal.TheVariants.{Io}
@@ -11,16 +11,8 @@ use Rattle.cachecore.specs.declared.event.Reply.{Reply}
 use Rattle.cachecore.specs.declared.event.Reply.TheVariants.{Refused, File, Handle, Closed, Size, Bytes, Wait, Miss, Wrote, Done, Gone, Present, Filled, Job, Dropped, Failed, Nothing, Written, Evicted, NoneIdle, Aged, Sync, Clean}
 use Rattle.cachecore.specs.declared.answers.PageTags.{PageTags}
 use Rattle.cachecore.specs.declared.answers.PageTags.TheVariants.{Absent, Filling, Cached}
-use Rattle.pcache.specs.declared.stop.Stop.{Stop}
-use Rattle.pcache.specs.declared.stop.Stop.TheVariants.{Memory, Output}
-
--- a line of its own: the text, and the end of a line (byte 0a)
-abbrev pub ended : List ℕ → List ℕ
-ended text = text ++ (10 ∷ [])
-
--- the text is added to what was written, on a line of its own
-abbrev pub Prints : Option (List ℕ) → Option (List ℕ) → List ℕ → Type 0
-Prints old new text = Appends old new (ended text)
+use Rattle.textline.specs.declared.stop.Stop.{Stop}
+use Rattle.textline.specs.declared.stop.Stop.TheVariants.{Memory, Output}
 
 -- why a line was not printed: the output failed, or memory for it was refused before anything was written
 abbrev pub IsPrintFault : Option (List ℕ) → Option (List ℕ) → Stop → Type 0

@@ -9,7 +9,7 @@ use Rattle.pcache.specs.declared.keyword.Keyword.{Keyword}
 use Rattle.pcache.specs.declared.keyword.Keyword.TheVariants.{Config, Create, Open, Close, Size, Read, Write, Append, Truncate, Fill, Flush, Do, Fail, End, Sync, Step, Drop, Fsync, Poll, Evict, Age, Tags}
 use Rattle.pcache.specs.declared.command.TheConstants.{MAX_CODE, MAX_READ}
 use Rattle.pcache.specs.Keywords.{name_of}
-use Rattle.pcache.specs.Words.{IsNumber, bytes_of, words_of}
+use Rattle.textline.specs.Words.{IsNumber, bytes_of, words_of}
 
 -- what a word of a command is: its name, a number, bytes, or what a write that fails leaves in its block
 pub data Part : Type 0 where

@@ -1,10 +1,7 @@
 pub mod Answers
 pub mod Commands
 pub mod Keywords
-pub mod Lines
 pub mod Passes
 pub mod Runs
 pub mod Sessions
-pub mod Stops
 pub mod Telling
-pub mod Words

@@ -17,14 +17,14 @@ use Rattle.world.specs.declared.step.Step.TheVariants as step
 use Rattle.world.specs.Stepping.{Fails, Held, first_world}
 use Rattle.pcache.specs.declared.command.Command.{Command}
 use Rattle.pcache.specs.declared.command.Command.TheVariants as command
-use Rattle.pcache.specs.declared.lines.TheConstants.{MAX_LINE}
-use Rattle.pcache.specs.declared.stop.Stop.{Stop}
-use Rattle.pcache.specs.declared.stop.Stop.TheVariants.{Malformed, Input, Output, Memory}
-use Rattle.pcache.specs.Answers.{answer_of, polled_text, refusal_text, tags_text, ended}
+use Rattle.pcache.specs.declared.run.TheConstants.{MAX_LINE}
+use Rattle.textline.specs.declared.stop.Stop.{Stop}
+use Rattle.textline.specs.declared.stop.Stop.TheVariants.{Malformed, Input, Output, Memory}
+use Rattle.pcache.specs.Answers.{answer_of, polled_text, refusal_text, tags_text}
 use Rattle.pcache.specs.Commands.{Means}
-use Rattle.pcache.specs.Lines.{is_blank}
 use Rattle.pcache.specs.Sessions.{Fsyncs, Makes, Polls, SessionSeen, first_session}
-use Rattle.pcache.specs.Stops.{status_of}
+use Rattle.textline.specs.Lines.{ended, is_blank}
+use Rattle.textline.specs.Stops.{reason_of, status_of}
 
 -- ---- sizes
 
@@ -157,6 +157,10 @@ status_of_end (Err stop) = status_of stop
 
 abbrev pub EndsWith : List (List ℕ) → ℕ → Option (List ℕ) → Option (List ℕ) → Type 0
 EndsWith lines status before after = (end : Result (Unit {0}) Stop) × Ends lines end before after × (status ≡ status_of_end end)
+
+-- what is said on standard error of a run that ended early, on a line of its own (byte 0a)
+abbrev pub message_of : Stop → List ℕ
+message_of stop = codes "pcache: " ++ reason_of stop ++ (10 ∷ [])
 
 -- ---- what one line comes to in code
 

@@ -1,35 +1,15 @@
 //! What a line of a script answers, as it is printed.
 
-ghost use Rattle.std.specs.Prelude.{◌≡◌, ◌∷◌, [], ◌++◌, OnOk, IfErr, IfSome, IsOkUnless, codes};
-ghost use Rattle.std.specs.Io.KnownBytes.{Appends, Keeps};
+ghost use Rattle.std.specs.Prelude.{◌≡◌, ◌++◌, OnOk, IfErr, IsOkUnless, codes};
 ghost use Rattle.pc_types.specs.TagBits.{tag_set};
-ghost use Rattle.pcache.specs.Answers.{answer_of, letters_of, polled_text, refusal_text, tags_text, hex_text, IsPrintFault, Prints};
+ghost use Rattle.pcache.specs.Answers.{answer_of, letters_of, polled_text, refusal_text, tags_text, hex_text, IsPrintFault};
+ghost use Rattle.textline.specs.Lines.{Prints};
 
-use crate::stop::Stop;
 use cachecore::{PageTags, Reply};
 use pc_types::{ErrCode, Refusal, Tag, Tags};
 use std::alloc::Global;
-use std::fmt::Display;
 use std::io::Write;
-
-/// Hands on what was printed.
-pub fn flush<W: Write>(out: &mut W) -> Result<(), Stop>
-    ensures kept { Keeps (W.contents out.old) (W.contents out.new) }
-    ensures fault { IsOkUnless result Stop.Output }
-{
-    out.flush().map_err(|_| Stop::Output)
-}
-
-/// Prints one line.
-pub fn print_line<W: Write, D: Display + Drop>(out: &mut W, answer: D) -> Result<(), Stop>
-    ensures fault { IsOkUnless result Stop.Output }
-    ensures printed { OnOk result (IfSome (D.output answer) (λ text. Prints (W.contents out.old) (W.contents out.new) text)) }
-{
-    match out.writeln(answer) {
-        Ok(()) => Ok(()),
-        Err(_) => Err(Stop::Output),
-    }
-}
+use textline::{Stop, print_line};
 
 /// Prints what an event of the cache replied.
 pub fn print_reply<W: Write>(alloc: Global, out: &mut W, reply: &Reply) -> Result<(), Stop>

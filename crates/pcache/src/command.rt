@@ -1,13 +1,15 @@
 //! What a line of a script asks for.
 
-ghost use Rattle.std.specs.Prelude.{◌≡◌, ◌∷◌, [], IfOk};
+ghost use Rattle.std.specs.Prelude.{◌≡◌, ◌∷◌, [], ℕ, List, IfOk, IsOkUnless, OnErr};
+ghost use Rattle.blockdev.specs.declared.fault.FaultEffect.{FaultEffect as TheEffect};
+ghost use Rattle.pcache.specs.Commands.{Begins, Leaves};
 ghost use Rattle.pcache.specs.Keywords.{name_of};
 
 use crate::keyword::Keyword;
-use crate::words::{Fault, Words};
 use blockdev::FaultEffect;
 use pc_types::{FileId, HandleId, PageIndex, Serial, SyncId};
 use std::alloc::Global;
+use textline::{Fault, Words};
 use world::Step;
 
 /// The most bytes that one command reads.
@@ -34,7 +36,7 @@ pub enum Command {
 }
 
 impl Command {
-    ghost use Rattle.pcache.specs.Commands.{Begins, Asks, Means, parts_of, IsWithinLimit};
+    ghost use Rattle.pcache.specs.Commands.{Asks, Means, parts_of, IsWithinLimit};
     ghost use Rattle.pcache.specs.declared.command.Command.{Command as TheCommand};
 
     /// The command that a line asks for.
@@ -198,7 +200,7 @@ impl Command {
         if code > MAX_CODE {
             return Err(Fault::Malformed);
         }
-        Ok(Command::Fail(serial, code as u16, words.effect()?))
+        Ok(Command::Fail(serial, code as u16, effect(words)?))
     }
 
     /// `end T`
@@ -256,5 +258,18 @@ impl Command {
     {
         let file = FileId(words.number()?);
         Ok(Command::Tags(file, PageIndex(words.number()?)))
+    }
+}
+
+/// What the next word says that a write which fails leaves in its block: `old` or `new` bytes.
+fn effect(words: &mut Words) -> Result<FaultEffect, Fault>
+    ensures ok { IfOk result (λ e. Begins words.old (Leaves e ∷ []) words.new) }
+    ensures none { OnErr result ((e : TheEffect) (rest : List (List ℕ)) → ¬ (Begins words.old (Leaves e ∷ []) rest)) }
+    ensures malformed { IsOkUnless result Fault.Malformed }
+{
+    match words.word() {
+        Some(b"old") => Ok(FaultEffect::Old),
+        Some(b"new") => Ok(FaultEffect::New),
+        _ => Err(Fault::Malformed),
     }
 }

@@ -1,33 +1,29 @@
 #![tactic(auto)]
 //! The program of the page cache: `pcache run` reads a script of cache calls and prints what each answers.
 //!
-//! `run` runs a script: `lines` reads it line by line, `words` and `keyword` take a line apart, `command` says what it
-//! asks for, `session` has the cache with the board of its failed writes (`passes`: one a handle), `answer` prints what came
-//! of a command, and `stop` says why a run ends before its script does.
+//! `run` runs a script line by line, which the crate `textline` fetches and takes apart. `keyword` has the names of the commands,
+//! `command` says what a line asks for, `session` has the cache with the board of its failed writes (`passes`: one a handle), and
+//! `answer` prints what came of a command.
 
 ghost use Rattle.std.specs.Prelude.{◌≡◌};
-ghost use Rattle.pcache.specs.Stops.{IsStatus};
+ghost use Rattle.textline.specs.Stops.{IsStatus};
 
 mod answer;
 mod command;
-mod find;
 mod keyword;
-mod lines;
 mod passes;
 #[cfg(test)]
 mod row_tests;
 mod run;
 mod session;
-mod stop;
 #[cfg(test)]
 mod tests;
-mod words;
 
 use run::{run_script, say};
 use std::env;
 use std::io::{BufReader, BufWriter, Write};
 use std::process::ExitCode;
-use stop::Stop;
+use textline::Stop;
 
 fn main(rt: HostRuntime) -> ExitCode {
     ExitCode::from(run_program(&rt))

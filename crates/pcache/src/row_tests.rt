@@ -441,7 +441,7 @@ fn each_handle_is_told_of_a_failed_write(rt: HostRuntime) -> Result<(), Fail> {
     )
 }
 
-/// A sync from its beginning to its end leaves its pages idle, and its file's alone is polled.
+/// A sync from its beginning to its end leaves its pages idle.
 #[test]
 fn fsync_leaves_pages_idle(rt: HostRuntime) -> Result<(), Fail> {
     let alloc = rt.alloc();
@@ -466,8 +466,15 @@ fn fsync_leaves_pages_idle(rt: HostRuntime) -> Result<(), Fail> {
             ("end 3", "failed 5"),
             ("tags 0 0", "absent"),
         ],
-    )?;
-    // A fill that fails is no failed write, and a failed write is of its own file.
+    )
+}
+
+/// A fill that fails is no failed write, and a failed write is of its own file.
+#[test]
+fn fsync_tells_of_failed_writes_of_its_file(rt: HostRuntime) -> Result<(), Fail> {
+    let alloc = rt.alloc();
+    let bytes = "01".repeat(alloc, 48)?;
+    let write = format!(in alloc; "write 0 0 {bytes}")?;
     check_row(
         &rt,
         alloc,

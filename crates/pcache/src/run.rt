@@ -3,24 +3,25 @@
 ghost use Rattle.std.specs.Prelude.{◌≡◌, ℕ, List, None, Some, IfErr, IfOk, IfSome, IsOkUnless, OnOk};
 ghost use Rattle.std.specs.Io.KnownBytes.{Appends};
 ghost use Rattle.std.specs.Result.{result_unwrap_or};
-ghost use Rattle.pcache.specs.Answers.{IsPrintFault, Prints};
-ghost use Rattle.pcache.specs.Lines.{is_blank, lines_of};
-ghost use Rattle.pcache.specs.Runs.{CommandGives, Ends, EndsWith, FailsCall, LineGives, MakesStep, PollsHandle, SyncsFile, TellsTags, config_text, default_sizes, session_of_sizes};
+ghost use Rattle.pcache.specs.Answers.{IsPrintFault};
+ghost use Rattle.pcache.specs.Runs.{CommandGives, Ends, EndsWith, FailsCall, LineGives, MakesStep, PollsHandle, SyncsFile, TellsTags, config_text, default_sizes, message_of, session_of_sizes};
 ghost use Rattle.pc_types.specs.Limits.{is_err_code};
-ghost use Rattle.pcache.specs.Stops.{IsStatus, message_of};
+ghost use Rattle.textline.specs.Lines.{Prints, lines_of};
+ghost use Rattle.textline.specs.Stops.{IsStatus};
 
-use crate::answer::{flush, print_line, print_polled, print_refusal, print_reply, print_tags};
+use crate::answer::{print_polled, print_refusal, print_reply, print_tags};
 use crate::command::Command;
-use crate::lines::{Fetched, Lines};
 use crate::session::Session;
-use crate::stop::Stop;
-use crate::words::Fault;
 use blockdev::FaultEffect;
 use cachecore::Reply;
 use pc_types::{ErrCode, FileId, Geometry, HandleId, PageIndex, Refusal, Serial};
 use std::alloc::Global;
 use std::io::{BufRead, Write};
+use textline::{Fault, Fetched, Lines, Stop, flush, is_blank, print_line};
 use world::Step;
+
+/// The most bytes of a line, without its ending.
+pub const MAX_LINE: usize = 300_000;
 
 /// Runs a script and prints what each of its lines answers. Gives the status that the program ends with, and says on
 /// `err` why where it is not 0.
@@ -76,7 +77,7 @@ fn answer_lines<R: BufRead, W: Write>(
     ensures { IfSome (R.remaining lines.old.reader) (λ script. Ends (lines_of script) result (W.contents out.old) (W.contents out.new)) }
 {
     'lines: for _ in 0..u64::MAX {
-        match lines.fetch(out)? {
+        match lines.fetch(MAX_LINE, out)? {
             Fetched::Line => run_line(alloc, session, lines.number, lines.line.as_slice(), out)?,
             Fetched::TooLong => return Err(Stop::Malformed(lines.number)),
             Fetched::End => return flush(out),
@@ -103,13 +104,6 @@ fn run_line<W: Write>(
         Err(Fault::Malformed) => Err(Stop::Malformed(number)),
         Err(Fault::Memory) => Err(Stop::Memory),
     }
-}
-
-/// Whether the line is empty or a comment.
-fn is_blank(line: &[u8]) -> bool
-    ensures { result ≡ is_blank line.now }
-{
-    line.is_empty() || line[0] == b'#'
 }
 
 /// Does what a line asks for.

@@ -4,13 +4,13 @@ ghost use Rattle.std.specs.Prelude.{◌≡◌, IfOk, IsOkUnless};
 ghost use Rattle.pcache.specs.Runs.{world_of_sizes};
 
 use crate::passes::Passes;
-use crate::stop::Stop;
 use blockdev::{FaultEffect, ScriptDevice};
 use cachecore::{PageTags, Reply};
 use errboard::{Board, Recorder};
 use pc_types::{ErrCode, FileId, Geometry, HandleId, PageIndex, Refusal, Serial, SyncId};
 use std::alloc::Global;
 use std::marker::Model;
+use textline::Stop;
 use world::{Step, World};
 
 /// A world, the board on which its failed writes are recorded, and the pass of each open handle.

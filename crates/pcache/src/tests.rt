@@ -29,9 +29,22 @@ pub fn check(
     Ok(())
 }
 
-/// Whole scripts, each line beside its answer.
+/// Scripts of which no line is malformed.
+fn check_answers(rt: &impl Abort, alloc: Global, scripts: &[(&str, &str)]) -> Result<(), Fail> {
+    for (script, output) in scripts {
+        let expected = Outcome {
+            output,
+            message: "",
+            status: 0,
+        };
+        check(rt, alloc, script.as_bytes(), &expected)?;
+    }
+    Ok(())
+}
+
+/// A read, a write, and what is refused of them, each line beside its answer.
 #[test]
-fn scripts_are_answered(rt: HostRuntime) -> Result<(), Fail> {
+fn reads_and_writes_are_answered(rt: HostRuntime) -> Result<(), Fail> {
     let alloc = rt.alloc();
     let ab = "ab".repeat(alloc, 256)?;
     let zeros = "00".repeat(alloc, 20)?;
@@ -62,6 +75,14 @@ fn scripts_are_answered(rt: HostRuntime) -> Result<(), Fail> {
             "create\nopen 0\nwrite 0 1099511627775 ff\nwrite 0 1099511627776 ff\nsize 0\ntags 0 68719476735\n",
             "file 0\nhandle 0\nwrote 1\nrefused 7\nsize 1099511627776\nD\n",
         ),
+    ];
+    check_answers(&rt, alloc, &scripts)
+}
+
+/// What a script's first lines say of the cache's sizes, and lines that say nothing.
+#[test]
+fn first_lines_are_answered(rt: HostRuntime) -> Result<(), Fail> {
+    let scripts = [
         // Digits of either case are read, and lower case is printed.
         (
             "config 32 48 16 64\ncreate\nopen 0\nwrite 0 0 aBCd\nread 0 0 131072\nfill 0 0\nfill 0 1",
@@ -78,15 +99,7 @@ fn scripts_are_answered(rt: HostRuntime) -> Result<(), Fail> {
             "configured\nfile 0\nhandle 0\nclosed\nrefused 4\n",
         ),
     ];
-    for (script, output) in &scripts {
-        let expected = Outcome {
-            output,
-            message: "",
-            status: 0,
-        };
-        check(&rt, alloc, script.as_bytes(), &expected)?;
-    }
-    Ok(())
+    check_answers(&rt, rt.alloc(), &scripts)
 }
 
 /// A line that is none ends the run, and the answers before it stand.
@@ -124,6 +137,13 @@ fn malformed_lines_end_a_script(rt: HostRuntime) -> Result<(), Fail> {
         let script = format!(in alloc; "create\nopen 0\n{line}\nsize 0\n")?;
         check(&rt, alloc, script.as_bytes(), &expected)?;
     }
+    Ok(())
+}
+
+/// A line is told by its number, with the lines that say nothing.
+#[test]
+fn malformed_lines_are_counted(rt: HostRuntime) -> Result<(), Fail> {
+    let alloc = rt.alloc();
     let alone = Outcome {
         output: "",
         message: "pcache: line 1: malformed\n",

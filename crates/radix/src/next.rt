@@ -63,7 +63,8 @@ struct Trail {
     best: Option<(usize, u32)>,
 }
 
-// Goes down the path of an index as long as the mark is on it.
+// Goes down the path of an index as long as the mark is on it. It ends where the tree has no such index (None), at a node whose
+// bit for the path is clear (is_set is false), or at the slot of an entry that has the mark (is_set is true).
 #[inline(always)]
 fn leave_path(nodes: &Slab<Node>, head: usize, index: u64, mark: usize) -> Option<Trail>
     requires mark { mark < 4 }

@@ -7,6 +7,7 @@ ghost use Rattle.std.specs.Prelude.{◌≡◌, ◌<◌, IfErr, IfOk, IfSome, IsO
 ghost use Rattle.pc_types.specs.declared.refusal.Refusal.TheVariants.{BadConfig, Memory};
 ghost use Rattle.cachecore.specs.Flushing.{flush_of};
 ghost use Rattle.cachecore.specs.Replies.{TagsAre};
+ghost use Rattle.cachecore.specs.Wants.{lacks_frames, passes_limit};
 ghost use Rattle.world.specs.Flights.{IsSpare};
 ghost use Rattle.world.specs.Runs.{IsFirst};
 ghost use Rattle.world.specs.Stepping.{IsMade, LeadsTo, Plays, Steps, TellsForCalls, first_world, fits, world_of};
@@ -139,6 +140,20 @@ impl<D: BlockDevice> World<D> {
         ensures { TagsAre self.now.core file.0 page.0 result }
     {
         self.core.tags(file, page)
+    }
+
+    /// Whether fewer frames are free than pages are absent which these bytes touch. This is no event.
+    pub fn lacks_frames(&self, handle: HandleId, offset: u64, count: u64) -> bool
+        ensures { result ≡ lacks_frames self.now.core handle.0 offset count }
+    {
+        self.core.lacks_frames(handle, offset, count)
+    }
+
+    /// Whether too many pages would be dirty with those that these bytes touch. This is no event.
+    pub fn passes_limit(&self, handle: HandleId, offset: u64, count: u64) -> bool
+        ensures { result ≡ passes_limit self.now.core handle.0 offset count }
+    {
+        self.core.passes_limit(handle, offset, count)
     }
 
     /// The file of the flush in flight with this serial, which is no event either.

@@ -41,7 +41,7 @@ pub fn flush_pick(mapping: &Mapping) -> Option<FoundPage>
 }
 
 /// Tags each DIRTY page from `first` to `last` with TOWRITE, before the sync that begins starts any write. Pages that are
-/// made DIRTY later do not prolong the sync.
+/// made DIRTY later do not prolong the sync. The cost is that of the DIRTY pages (not proved).
 pub fn sync_begin(mapping: &mut Mapping, first: PageIndex, last: PageIndex)
     ensures { mapping.new ≡ record mapping.old { pages = each_value (to_write first.0 last.0) mapping.old.pages } }
 {
@@ -72,14 +72,18 @@ pub fn sync_step(
     }
 }
 
-/// A write of the page begins: it loses DIRTY and TOWRITE and gets WRITEBACK. Where no page is cached nothing is done.
+/// A write of the page begins: it loses DIRTY and TOWRITE and gets WRITEBACK. If no page is cached nothing is done.
+///
+/// TOWRITE goes here and nowhere else (rule 7 of docs/DESIGN.md): whoever starts a page's write clears it. So a sync whose page
+/// another flusher started finds the tag no more, and waits for that write by its bound.
 pub fn begin_write(mapping: &mut Mapping, page: PageIndex)
     ensures { mapping.new ≡ record mapping.old { pages = change_at page.0 (with_tags under_write) mapping.old.pages } }
 {
     let _ = mapping.set_tags(page, Tags::none().with(Tag::Writeback));
 }
 
-/// A write of the page ended: it loses WRITEBACK, and is DIRTY again where the write failed.
+/// A write of the page ended: it loses WRITEBACK, and is DIRTY again if the write failed. A page left clean here is the second
+/// fsync that lies (rule 9 of docs/DESIGN.md).
 pub fn end_write(mapping: &mut Mapping, page: PageIndex, failed: bool)
     ensures { mapping.new ≡ record mapping.old { pages = change_at page.0 (after_write failed) mapping.old.pages } }
 {

@@ -2,4 +2,3 @@ pub mod OperationLemmas
 pub mod SplitLemmas
 pub mod SumLemmas
 pub mod WalkLemmas
-pub mod WordLemmas

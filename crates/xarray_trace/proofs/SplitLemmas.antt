@@ -1,11 +1,10 @@
 -- What a split answers and leaves, by its tests.
-use Rattle.std.proofs.Common.{◌≡◌, ℕ, ◌<◌, ◌≤◌, ltb, min, Option, Some, None, Result, Ok, Err, refl, sym, ap, ◌∙◌, inl, inr, arith}
+use Rattle.std.proofs.Common.{◌≡◌, ℕ, ◌<◌, ltb, min, Option, Some, None, Result, Ok, Err, refl, sym, ap, ◌∙◌, inl, inr, arith}
 use Rattle.std.proofs.lemmas.Bool.{cases_lt, cond-false, le-ltb}
 use Rattle.pc_types.specs.declared.refusal.Refusal.TheVariants.{BadOrder}
 use Rattle.xarray.specs.MarkedArray.{Array, IsArray, Range, entry_at, split}
 use Rattle.xarray.proofs.RangeLemmas.{at-some}
 use Rattle.xarray_trace.specs.Calls.{holding, split_made}
-use Rattle.xarray_trace.specs.declared.answer.Answer.{Answer}
 use Rattle.xarray_trace.specs.declared.answer.Answer.TheVariants as says
 
 pub ok_err : {T E : Type 0} (x : T) (e : E) → ◌≡◌ {A = Result T E} (Ok x) (Err e) → ⊥

@@ -5,7 +5,8 @@ use Rattle.std.specs.Io.KnownBytes.{Appends}
 use Rattle.xarray.specs.MarkedArray.{Ranges}
 use Rattle.xarray_trace.specs.declared.entries.Entry.{Entry}
 use Rattle.xarray_trace.specs.declared.entries.TheConstants.{FNV_OFFSET}
-use Rattle.xarray_trace.specs.Answers.{Prints, entry_text, lines_text}
+use Rattle.textline.specs.Lines.{Prints}
+use Rattle.xarray_trace.specs.Answers.{entry_text, lines_text}
 use Rattle.xarray_trace.specs.Entries.{IsCut, after_of, entry_bytes, entry_count, hash_bytes, hash_entries, hash_of, left}
 use Rattle.xarray_trace.specs.Walks.{Comes}
 use Rattle.xarray_trace.proofs.WalkLemmas.{left_zero}

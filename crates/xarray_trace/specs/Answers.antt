@@ -1,6 +1,5 @@
 -- What an operation's answer prints.
-use Rattle.std.specs.Prelude.{ℕ, ◌^◌, ◌-◌, false, ◌==◌, if◌then◌else◌, List, [], ◌∷◌, ◌++◌, Option, codes, decimal}
-use Rattle.std.specs.Io.KnownBytes.{Appends}
+use Rattle.std.specs.Prelude.{ℕ, ◌^◌, ◌-◌, false, ◌==◌, if◌then◌else◌, nat_lt, List, [], ◌∷◌, ◌++◌, codes, decimal}
 use Rattle.std.specs.Fmt.{digits, padded_integral, format_spec}
 use Rattle.pc_types.specs.Refusals.{refusal_number}
 use Rattle.xarray_trace.specs.declared.answer.Answer.{Answer}
@@ -9,13 +8,13 @@ use Rattle.xarray.specs.MarkedArray.{Range}
 use Rattle.xarray_trace.specs.Entries.{shown}
 use Rattle.xarray_trace.specs.declared.entries.Entry.{Entry}
 
--- the text and the end of a line (byte 0a) are added to what was written
-abbrev pub Prints : Option (List ℕ) → Option (List ℕ) → List ℕ → Type 0
-Prints old new text = Appends old new (text ++ (10 ∷ []))
-
 -- so many hexadecimal digits in lower case, with zeros before them
 abbrev pub hex_text : ℕ → ℕ → List ℕ
 hex_text width n = padded_integral (format_spec 32 0 4 width (2 ^ 64 - 1)) false [] (digits 16 false n)
+
+-- an error word: 8 digits, or 16 where it is 2^32 or more
+abbrev pub word_text : ℕ → List ℕ
+word_text w = hex_text (if nat_lt w (2 ^ 32) then 8 else 16) w
 
 abbrev pub answer_text : Answer → List ℕ
 answer_text answer.Ok = codes "ok"
@@ -30,10 +29,10 @@ answer_text (answer.Hash count hash) = codes "hash " ++ decimal count ++ codes "
 answer_text (answer.Entries count) = codes "entries " ++ decimal count
 answer_text (answer.Id id) = codes "id " ++ decimal id
 answer_text (answer.CyclicId id wrapped) = codes "id " ++ decimal id ++ (if wrapped then codes " wrapped" else codes " plain")
-answer_text (answer.Word word) = codes "word " ++ hex_text 8 word
-answer_text (answer.Since since) = codes "since " ++ hex_text 8 since
+answer_text (answer.Word word) = codes "word " ++ word_text word
+answer_text (answer.Since since) = codes "since " ++ word_text since
 answer_text (answer.Code code) = codes "code " ++ decimal code
-answer_text (answer.Advanced code since word) = codes "code " ++ decimal code ++ codes " since " ++ hex_text 8 since ++ codes " word " ++ hex_text 8 word
+answer_text (answer.Advanced code since word) = codes "code " ++ decimal code ++ codes " since " ++ word_text since ++ codes " word " ++ word_text word
 
 -- the digits of the marks that are set, of which bit m is mark m, or `-`
 abbrev pub marks_text : ℕ → List ℕ

@@ -6,7 +6,5 @@ pub mod Keywords
 pub mod Lines
 pub mod Operations
 pub mod Runs
-pub mod Stops
 pub mod Walks
 pub mod Watches
-pub mod Words

@@ -13,7 +13,8 @@ use Rattle.xarray_trace.specs.declared.word_call.WordCall.{WordCall}
 use Rattle.xarray_trace.specs.declared.operation.Operation.{Operation}
 use Rattle.xarray_trace.specs.declared.operation.Operation.TheVariants.{Array, Id, Word}
 use Rattle.xarray_trace.specs.declared.run.Session.{Session}
-use Rattle.xarray_trace.specs.Answers.{Prints, answer_text, lines_text}
+use Rattle.textline.specs.Lines.{Prints}
+use Rattle.xarray_trace.specs.Answers.{answer_text, lines_text}
 use Rattle.xarray_trace.specs.Calls.{made}
 use Rattle.xarray_trace.specs.Identifiers.{Gives}
 use Rattle.xarray_trace.specs.Lines.{Means}

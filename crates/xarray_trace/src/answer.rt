@@ -1,14 +1,16 @@
 //! What an operation answers, as it is printed.
 
-ghost use Rattle.std.specs.Prelude.{◌≡◌, OnOk, IfSome};
-ghost use Rattle.xarray_trace.specs.Answers.{answer_text, marks_text, entry_text, Prints};
+ghost use Rattle.std.specs.Prelude.{◌≡◌, OnOk};
+ghost use Rattle.textline.specs.Lines.{Prints};
+ghost use Rattle.xarray_trace.specs.Answers.{answer_text, marks_text, entry_text};
 
 use crate::entries::Entry;
-use crate::stop::Stop;
 use errseq::ErrWord;
 use pc_types::Refusal;
+use std::fmt;
 use std::fmt::Display;
 use std::io::Write;
+use textline::{Stop, print_line};
 use xarray::Found;
 
 #[derive(Clone, Copy, PartialEq, Eq, Debug)]
@@ -67,13 +69,24 @@ impl Answer {
     }
 }
 
-/// Prints one line.
-pub fn print_line<W: Write, D: Display + Drop>(out: &mut W, text: D) -> Result<(), Stop>
-    ensures { OnOk result (IfSome (D.output text) (λ text. Prints (W.contents out.old) (W.contents out.new) text)) }
-{
-    match out.writeln(text) {
-        Ok(()) => Ok(()),
-        Err(_) => Err(Stop::Output),
+/// An error word as it is printed: with 8 hexadecimal digits, as Linux's word of 32 bits, or with 16 where it is past
+/// these.
+#[derive(Clone, Copy)]
+struct Digits(ErrWord);
+
+impl Display for Digits {
+    ghost use Rattle.std.specs.Prelude.{Some};
+    ghost use Rattle.xarray_trace.specs.Answers.{word_text};
+
+    ghost output = { λ d. Some (word_text d.0) };
+
+    fn fmt<W: fmt::Write>(&self, f: &mut fmt::Formatter<W>) -> fmt::Result {
+        let Digits(word) = self;
+        if u32::try_from(word.0).is_ok() {
+            write!(f, "{:08x}", word.0)
+        } else {
+            write!(f, "{:016x}", word.0)
+        }
     }
 }
 
@@ -100,12 +113,12 @@ pub fn print_answer<W: Write>(out: &mut W, answer: Answer) -> Result<(), Stop>
             out,
             format_args!("id {id} {}", if wrapped { "wrapped" } else { "plain" }),
         ),
-        Answer::Word(word) => print_line(out, format_args!("word {:08x}", word.0)),
-        Answer::Since(since) => print_line(out, format_args!("since {:08x}", since.0)),
+        Answer::Word(word) => print_line(out, format_args!("word {}", Digits(word))),
+        Answer::Since(since) => print_line(out, format_args!("since {}", Digits(since))),
         Answer::Code(code) => print_line(out, format_args!("code {code}")),
         Answer::Advanced(code, since, word) => print_line(
             out,
-            format_args!("code {code} since {:08x} word {:08x}", since.0, word.0),
+            format_args!("code {code} since {} word {}", Digits(since), Digits(word)),
         ),
     }
 }

@@ -7,9 +7,9 @@ ghost use Rattle.xarray_trace.specs.declared.array_call.ArrayCall.TheVariants as
 
 use crate::answer::Answer;
 use crate::entries::count_and_hash;
-use crate::stop::Stop;
 use pc_types::Refusal;
 use std::alloc::Global;
+use textline::Stop;
 use xarray::{Mark, XArray};
 
 #[derive(Clone, Copy, PartialEq, Eq, Debug)]

@@ -5,10 +5,10 @@ ghost use Rattle.xarray_trace.specs.Identifiers.{Gives, freed};
 ghost use Rattle.xarray_trace.specs.declared.id_call.IdCall.TheVariants as call;
 
 use crate::answer::Answer;
-use crate::stop::Stop;
 use idalloc::IdAlloc;
 use pc_types::Refusal;
 use std::alloc::Global;
+use textline::Stop;
 
 #[derive(Clone, Copy, PartialEq, Eq, Debug)]
 pub enum IdCall {

@@ -7,8 +7,8 @@ use crate::array_call::ArrayCall;
 use crate::id_call::IdCall;
 use crate::keyword::Keyword;
 use crate::word_call::{Cursor, WordCall};
-use crate::words::{Words, numbers};
 use std::alloc::{AllocError, Global};
+use textline::{Words, numbers};
 use xarray::Mark;
 
 /// What a line asks for that is neither empty nor a comment.

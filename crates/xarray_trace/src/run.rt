@@ -1,22 +1,21 @@
 //! A run of a trace.
 
-ghost use Rattle.std.specs.Prelude.{◌≡◌, IfOk, IfSome, OnOk};
+ghost use Rattle.std.specs.Prelude.{OnOk};
 ghost use Rattle.std.specs.FinMap as map;
 ghost use Rattle.std.specs.Io.KnownBytes.{Appends};
 ghost use Rattle.xarray_trace.specs.Answers.{lines_text};
-ghost use Rattle.xarray_trace.specs.Lines.{Fetches, is_blank};
 ghost use Rattle.xarray_trace.specs.Runs.{RunsCall, RunsLine};
 
-use crate::answer::{print_answer, print_entry, print_line};
+use crate::answer::{print_answer, print_entry};
 use crate::array_call::{ArrayCall, make};
 use crate::entries::{entry_from, index_after};
 use crate::id_call::give;
 use crate::operation::Operation;
-use crate::stop::Stop;
 use crate::word_call::{Watched, watch};
 use idalloc::IdAlloc;
 use std::alloc::Global;
 use std::io::{BufRead, Write};
+use textline::{Fetched, Lines, Stop, is_blank, print_line};
 use xarray::XArray;
 
 /// What the lines of a trace work on.
@@ -53,46 +52,25 @@ pub fn run_trace<R: BufRead + Drop, W: Write + Drop, E: Write + Drop>(
 
 fn run_lines<R: BufRead + Drop, W: Write>(
     alloc: Global,
-    mut reader: R,
+    reader: R,
     out: &mut W,
 ) -> Result<(), Stop> {
+    let mut lines = Lines::new(alloc, reader);
     let mut session = Session {
         array: XArray::new(alloc),
         ids: IdAlloc::new(alloc),
         watched: Watched::new(),
     };
-    let mut line = Vec::new(alloc);
     'lines: for _ in 0..u64::MAX {
-        if !fetch_line(&mut reader, &mut line)? {
-            return Ok(());
-        }
-        if !is_blank(line.as_slice()) {
-            run_line(alloc, &mut session, line.as_slice(), out)?;
+        match lines.fetch(usize::MAX, out)? {
+            Fetched::Line if is_blank(lines.line.as_slice()) => {}
+            Fetched::Line => run_line(alloc, &mut session, lines.line.as_slice(), out)?,
+            // No memory holds such a line.
+            Fetched::TooLong => return Err(Stop::Memory),
+            Fetched::End => return Ok(()),
         }
     }
     Err(Stop::Input)
-}
-
-/// Fetches the next line, without its ending, and says whether there was one.
-fn fetch_line<R: BufRead>(reader: &mut R, line: &mut Vec<u8>) -> Result<bool, Stop>
-    ensures { IfSome (R.remaining reader.old) (λ bytes. IfOk result (λ is_there. Fetches bytes is_there line.new.items (R.remaining reader.new))) }
-{
-    line.clear();
-    let count = match reader.read_until(b'\n', line) {
-        Ok(count) => count,
-        Err(error) => return Err(Stop::of_input(&error)),
-    };
-    if line.last() == Some(&b'\n') {
-        line.pop();
-    }
-    Ok(count > 0)
-}
-
-/// Whether the line is empty or a comment.
-fn is_blank(line: &[u8]) -> bool
-    ensures { result ≡ is_blank line.now }
-{
-    line.is_empty() || line[0] == b'#'
 }
 
 /// Runs one line that is neither empty nor a comment.

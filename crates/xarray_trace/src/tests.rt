@@ -1,6 +1,8 @@
 //! Traces with what they print, by the table of the trace language.
 
+use crate::answer::{Answer, print_answer};
 use crate::run::run_trace;
+use errseq::ErrWord;
 use std::alloc::Global;
 use std::process::Abort;
 use std::test::Fail;
@@ -15,9 +17,16 @@ fn check(rt: &impl Abort, alloc: Global, trace: &[u8], expected: &str) -> Result
     Ok(())
 }
 
-/// Each line of the language that is served, beside its answer.
+fn check_all(rt: &impl Abort, alloc: Global, traces: &[(&str, &str)]) -> Result<(), Fail> {
+    for (trace, expected) in traces {
+        check(rt, alloc, trace.as_bytes(), expected)?;
+    }
+    Ok(())
+}
+
+/// Entries of one index and their marks, each line beside its answer.
 #[test]
-fn operations_are_answered(rt: HostRuntime) -> Result<(), Fail> {
+fn entries_are_answered(rt: HostRuntime) -> Result<(), Fail> {
     let traces = [
         ("", ""),
         ("empty\nnew\nempty\n", "true\nok\ntrue\n"),
@@ -42,6 +51,18 @@ fn operations_are_answered(rt: HostRuntime) -> Result<(), Fail> {
             "none\nnone\nnone\nok\nok\ncount 1\ncount 2\ncount 0\nentries 3\n1 0 1 012\n2 0 2 -\n18446744073709551615 0 3 02\n",
         ),
         (
+            "store 1 1\nnew\nload 1\ndump\nhash\n",
+            "none\nok\nnone\nentries 0\nhash 0 cbf29ce484222325\n",
+        ),
+    ];
+    check_all(&rt, rt.alloc(), &traces)
+}
+
+/// Entries of higher orders, and their parts.
+#[test]
+fn ranges_are_answered(rt: HostRuntime) -> Result<(), Fail> {
+    let traces = [
+        (
             "insert_order 64 6 7\nload 127\nload 128\nset_mark 100 0\nfind_marked 65 200 0\nretag 0 64 0 2\ninsert_order 0 7 9\ninsert_order 1 1 9\ninsert_order 0 64 9\ninsert_order 0 64 9223372036854775808\ndump\nerase 127\nempty\n",
             "ok\nvalue 7\nnone\nok\nentry 64 6 7\ncount 1\nrefused 12\nrefused 18\nrefused 18\nrefused 17\nentries 1\n64 6 7 02\nold 7\ntrue\n",
         ),
@@ -49,10 +70,14 @@ fn operations_are_answered(rt: HostRuntime) -> Result<(), Fail> {
             "insert_order 0 9 7\nset_mark 300 1\nsplit 511 10\nsplit 511 64\nsplit 511 18446744073709551615\nsplit 512 0\nsplit 511 8\nsplit 255 8\ndump\nerase 0\nsplit 256 0\nload 256\nfind_marked 0 300 1\nretag 0 511 1 0\n",
             "ok\nok\nrefused 18\nrefused 18\nrefused 18\nrefused 20\nok\nok\nentries 2\n0 8 7 1\n256 8 7 1\nold 7\nok\nvalue 7\nentry 256 0 7\ncount 256\n",
         ),
-        (
-            "store 1 1\nnew\nload 1\ndump\nhash\n",
-            "none\nok\nnone\nentries 0\nhash 0 cbf29ce484222325\n",
-        ),
+    ];
+    check_all(&rt, rt.alloc(), &traces)
+}
+
+/// Identifiers, lowest first and in turn.
+#[test]
+fn identifiers_are_answered(rt: HostRuntime) -> Result<(), Fail> {
+    let traces = [
         (
             "alloc 1 3\nalloc 1 3\nis_used 2\nis_used 3\nalloc 0 18446744073709551615\nalloc 1 3\nalloc 1 3\nfree 2\nfree 2\nalloc 1 3\nalloc 4 3\nids\nis_used 1\nalloc 1 3\n",
             "id 1\nid 2\ntrue\nfalse\nid 0\nid 3\nrefused 19\nok\nrefused 20\nid 2\nrefused 19\nok\nfalse\nid 1\n",
@@ -61,6 +86,14 @@ fn operations_are_answered(rt: HostRuntime) -> Result<(), Fail> {
             "alloc_cyclic 1 3\nalloc_cyclic 1 3\nalloc 1 2\nfree 1\nalloc_cyclic 1 3\nalloc_cyclic 1 3\nalloc_cyclic 1 3\nalloc_cyclic 9 2\nids\nalloc_cyclic 0 3\n",
             "id 1 plain\nid 2 plain\nrefused 19\nok\nid 3 plain\nid 1 wrapped\nrefused 19\nrefused 19\nok\nid 0 plain\n",
         ),
+    ];
+    check_all(&rt, rt.alloc(), &traces)
+}
+
+/// The error word and its cursors.
+#[test]
+fn error_words_are_answered(rt: HostRuntime) -> Result<(), Fail> {
+    let traces = [
         (
             "err_set 5\nerr_check 0\nerr_advance 0\nerr_check 0\nerr_set 28\nerr_sample 7\nerr_advance 0\nerr_advance 7\nerr_new\nerr_check 0\n",
             "word 00000005\ncode 5\ncode 5 since 00001005 word 00001005\nnone\nword 0000201c\nsince 00000000\ncode 28 since 0000301c word 0000301c\ncode 28 since 0000301c word 0000301c\nok\nnone\n",
@@ -70,10 +103,7 @@ fn operations_are_answered(rt: HostRuntime) -> Result<(), Fail> {
             "refused 21\nrefused 21\nrefused 21\nword 00000fff\n",
         ),
     ];
-    for (trace, expected) in &traces {
-        check(&rt, rt.alloc(), trace.as_bytes(), expected)?;
-    }
-    Ok(())
+    check_all(&rt, rt.alloc(), &traces)
 }
 
 /// A line that is none prints `unknown`, and the trace goes on. An empty line and a comment print nothing.
@@ -129,4 +159,25 @@ fn hash_of_one_entry(rt: HostRuntime) -> Result<(), Fail> {
         trace,
         "none\nok\nhash 1 834e1413ff78565f\n",
     )
+}
+
+/// A word of at most 32 bits has the 8 digits of Linux's, and a wider one, which Linux doesn't have, has 16.
+#[test]
+fn wide_words_have_16_digits(rt: HostRuntime) -> Result<(), Fail> {
+    let (narrow, wide) = (ErrWord(0xffff_f005), ErrWord(0x1_0000_0005));
+    let answers = [
+        (Answer::Word(narrow), "word fffff005\n"),
+        (Answer::Word(wide), "word 0000000100000005\n"),
+        (Answer::Since(wide), "since 0000000100000005\n"),
+        (
+            Answer::Advanced(5, narrow, wide),
+            "code 5 since fffff005 word 0000000100000005\n",
+        ),
+    ];
+    for (answer, expected) in &answers {
+        let mut output = Vec::new(rt.alloc());
+        assert!(rt; print_answer(&mut output, *answer).is_ok());
+        assert_eq!(rt; std::str::from_utf8(output.as_slice())?, *expected);
+    }
+    Ok(())
 }

@@ -11,10 +11,10 @@ compare_exchange-requires c = (
   search rules,
   search rules,
   records_again_as _ _ _ _ _ _ _ _ _ _ _ c.requires.sampled.0 c.requires.sampled.1
-      (c.to_u64-new.ensures.word ∙ c.set.ensures.word ∙ ap (λ (n : ℕ). word_set n c.args.code) c.from_u64-word.ensures) c.set.ensures.code,
+      (c.to_u64-new.ensures ∙ c.set.ensures.word ∙ ap (λ (n : ℕ). word_set n c.args.code) c.from_u64-word.ensures) c.set.ensures.code,
 )
 
 pub returns-clause-recorded : goal.returns-clause-recorded
 returns-clause-recorded c =
     second_recorded _ _ _ _ _ (step c.args.table.now.table_id.slots c.args.file c.args.found c.to_u64-new.result none) _ _ _ _
-    c.requires.sampled.0 (c.to_u64-new.ensures.word ∙ c.set.ensures.word ∙ ap (λ (n : ℕ). word_set n c.args.code) c.from_u64-word.ensures) c.set.ensures.code c.compare_exchange.ensures.2 (sym c.to_u64-new.ensures.word)
+    c.requires.sampled.0 (c.to_u64-new.ensures ∙ c.set.ensures.word ∙ ap (λ (n : ℕ). word_set n c.args.code) c.from_u64-word.ensures) c.set.ensures.code c.compare_exchange.ensures.2 (sym c.to_u64-new.ensures)

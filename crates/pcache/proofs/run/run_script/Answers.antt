@@ -1,6 +1,6 @@
 use Rattle.std.proofs.Common.{◌≡◌, ◌⊎◌, inl, inr}
-use Rattle.pcache.specs.declared.stop.Stop.TheVariants.{Output}
-use Rattle.pcache.proofs.LineLemmas.{map_some}
+use Rattle.textline.specs.declared.stop.Stop.TheVariants.{Output}
+use Rattle.textline.proofs.LineLemmas.{map_some}
 use Rattle.pcache.proofs.RunLemmas.{ends_with_stop}
 use Rattle.pcache.proofs.run.run_script.Goals.{then-is_err, else-is_err}
 use Rattle.pcache.proofs.run.run_script.Goals as goal

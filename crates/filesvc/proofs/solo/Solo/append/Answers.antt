@@ -13,24 +13,24 @@ returns-in_err-wrote-clause-keeps g c = keeps_trans _ _ _ c.attempts.invariant.s
 pub returns-in_err-wrote-clause-first : goal.returns-in_err-wrote-clause-first
 returns-in_err-wrote-clause-first g c =
     let p = err_from_is_err_and c.from_residual.result c.from_residual.ensures.1 in
-    let a : Attempt c.attempts.self (record { 0 = c.args.handle.now.number }) (event.Append (record { 0 = c.args.handle.now.number }) c.args.bytes.now) (Some (reply.Refused c.in_err-wrote.field-0.0)) c.try_append.new.self = rw (← c.handle.view_is) c.in_err-wrote.ensures.attempt in
-    rw (p.1, p.2) (try_over _ _ _ c.attempts.invariant c.args.handle.now _ _ a).first
+    let a : Attempt c.attempts.self (event.Append (record { 0 = c.args.handle.now.number }) c.args.bytes.now) (Some (reply.Refused c.in_err-wrote.field-0.0)) c.try_append.new.self = rw (← c.handle.view_is) c.in_err-wrote.ensures.attempt in
+    rw (p.1, p.2) (try_over _ _ _ c.attempts.invariant c.args.handle.now _ _ a refl).first
 
 pub returns-in_err-wrote-clause-refused : goal.returns-in_err-wrote-clause-refused
 returns-in_err-wrote-clause-refused g c =
     let p = err_from_is_err_and c.from_residual.result c.from_residual.ensures.1 in
-    let a : Attempt c.attempts.self (record { 0 = c.args.handle.now.number }) (event.Append (record { 0 = c.args.handle.now.number }) c.args.bytes.now) (Some (reply.Refused c.in_err-wrote.field-0.0)) c.try_append.new.self = rw (← c.handle.view_is) c.in_err-wrote.ensures.attempt in
-    rw (p.1, p.2) (λ _. (try_over _ _ _ c.attempts.invariant c.args.handle.now _ _ a).refused _ refl)
+    let a : Attempt c.attempts.self (event.Append (record { 0 = c.args.handle.now.number }) c.args.bytes.now) (Some (reply.Refused c.in_err-wrote.field-0.0)) c.try_append.new.self = rw (← c.handle.view_is) c.in_err-wrote.ensures.attempt in
+    rw (p.1, p.2) (λ _. (try_over _ _ _ c.attempts.invariant c.args.handle.now _ _ a refl).refused _ refl)
 
 pub returns-in-Some-clause-keeps : goal.returns-in-Some-clause-keeps
 returns-in-Some-clause-keeps g c = keeps_trans _ _ _ c.attempts.invariant.serves.keeps c.try_append.ensures.attempt.keeps
 
 pub returns-in-Some-clause-first : goal.returns-in-Some-clause-first
 returns-in-Some-clause-first g c =
-    let a : Attempt c.attempts.self (record { 0 = c.args.handle.now.number }) (event.Append (record { 0 = c.args.handle.now.number }) c.args.bytes.now) (Some (reply.Wrote c.in-Some.wrote.count c.in-Some.wrote.end)) c.try_append.new.self = rw (← c.handle.view_is) (rw c.in-Some.is at c.in_ok-wrote.ensures.attempt) in
-    (try_over _ _ _ c.attempts.invariant c.args.handle.now _ _ a).first
+    let a : Attempt c.attempts.self (event.Append (record { 0 = c.args.handle.now.number }) c.args.bytes.now) (Some (reply.Wrote c.in-Some.wrote.count c.in-Some.wrote.end)) c.try_append.new.self = rw (← c.handle.view_is) (rw c.in-Some.is at c.in_ok-wrote.ensures.attempt) in
+    (try_over _ _ _ c.attempts.invariant c.args.handle.now _ _ a refl).first
 
 pub attempts-preserved : goal.attempts-preserved
 attempts-preserved g c =
-    let a : Attempt c.attempts.self (record { 0 = c.args.handle.now.number }) (event.Append (record { 0 = c.args.handle.now.number }) c.args.bytes.now) None c.try_append.new.self = rw (← c.handle.view_is) (rw c.in_default.is at c.in_ok-wrote.ensures.attempt) in
-    try_again _ _ _ c.attempts.invariant _ _ (rw (← c.self-in-attempts.view_is) c.attempts-test.true) a
+    let a : Attempt c.attempts.self (event.Append (record { 0 = c.args.handle.now.number }) c.args.bytes.now) None c.try_append.new.self = rw (← c.handle.view_is) (rw c.in_default.is at c.in_ok-wrote.ensures.attempt) in
+    try_again _ _ _ c.attempts.invariant _ (rw (← c.self-in-attempts.view_is) c.attempts-test.true) a

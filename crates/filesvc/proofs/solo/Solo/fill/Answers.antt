@@ -1,39 +1,25 @@
+use Rattle.std.specs.Prelude.{Result, Ok, Err, IfErr}
+use Rattle.std.proofs.lemmas.Result.{err_from_is_err_and}
+use Rattle.pc_types.specs.declared.ids.HandleId.{HandleId}
+use Rattle.pc_types.specs.declared.refusal.Refusal.{Refusal}
+use Rattle.filesvc.specs.Rooms.{IsFillRefusal}
 use Rattle.filesvc.specs.Seen.{SoloSeen}
+use Rattle.filesvc.specs.Service.{Serves}
 use Rattle.filesvc.proofs.Laws.{serves_trans}
-use Rattle.filesvc.proofs.RoomLaws.{fill_faulted, fill_refused, room_refused}
-use Rattle.filesvc.proofs.WorldLaws.{at_once_serves, at_once_service, fill_begins, service_sound}
+use Rattle.filesvc.proofs.RoomLaws.{fill_refusal_before, frames_refused}
 use Rattle.filesvc.proofs.solo.Solo.fill.Goals as goal
 
-pub invariant_of-self : goal.invariant_of-self
-invariant_of-self g c =
-    let s : SoloSeen = record { world = c.self.inside.world; errors = c.self.inside.recorder; attempts = 0 } in
-    at_once_service _ s _ _ _ _ _ _ (fill_begins c.args.handle c.args.page) c.fill_page.ensures.made c.self.invariant
+refusals : (old mid new : SoloSeen) (h : HandleId) (e : Result Unit Refusal) → Serves old mid → IfErr e (λ r. IsFillRefusal mid h r new) → IfErr e (λ r. IsFillRefusal old h r new)
+refusals old mid new h (Ok _) s x = tt
+refusals old mid new h (Err r) s x = fill_refusal_before old mid new h r s x
 
-pub invariant_of-self-in_default : goal.invariant_of-self-in_default
-invariant_of-self-in_default g c =
-    let s : SoloSeen = record { world = c.self.inside.world; errors = c.self.inside.recorder; attempts = 0 } in
-    at_once_service _ s _ _ _ _ _ _ (fill_begins c.args.handle c.args.page) c.fill_page.ensures.made c.self.invariant
-
-pub invariant_of-self-2 : goal.invariant_of-self-2
-invariant_of-self-2 g c =
-    let s : SoloSeen = record { world = c.self.inside.world; errors = c.self.inside.recorder; attempts = 0 } in
-    at_once_service _ s _ _ _ _ _ _ (fill_begins c.args.handle c.args.page) c.fill_page.ensures.made c.self.invariant
-
-pub returns-in-Failed-clause-serves : goal.returns-in-Failed-clause-serves
-returns-in-Failed-clause-serves g c = rw (← c.self.view_is) (at_once_serves _ _ _ _ _ _ _ _ (fill_begins c.args.handle c.args.page) c.fill_page.ensures.made c.self.invariant)
-
-pub returns-in-Failed-clause-refused : goal.returns-in-Failed-clause-refused
-returns-in-Failed-clause-refused g c =
-    let s : SoloSeen = record { world = c.self.inside.world; errors = c.self.inside.recorder; attempts = c.self.inside.attempts } in
-    rw (← c.self.view_is) (fill_faulted s _ _ c.args.handle c.args.page c.in-Failed.code c.in-Failed.ensures.made (service_sound _ _ _ _ c.self.invariant))
-
-pub returns-in_default-clause-serves : goal.returns-in_default-clause-serves
-returns-in_default-clause-serves g c = rw (← c.self.view_is) (at_once_serves _ _ _ _ _ _ _ _ (fill_begins c.args.handle c.args.page) c.fill_page.ensures.made c.self.invariant)
+pub returns-in_err-make_frames-clause-refused : goal.returns-in_err-make_frames-clause-refused
+returns-in_err-make_frames-clause-refused g c =
+    let p = err_from_is_err_and c.from_residual.result c.from_residual.ensures.1 in
+    rw (p.1, p.2) (frames_refused c.args.self.now c.make_frames.new.self c.args.span.handle c.in_err-make_frames.field-0.0 c.in_err-make_frames.ensures.refused c.in_err-make_frames.ensures.room)
 
 pub returns-clause-serves : goal.returns-clause-serves
-returns-clause-serves g c = rw (← c.self.view_is) (serves_trans _ _ _ (at_once_serves _ _ _ _ _ _ _ _ (fill_begins c.args.handle c.args.page) c.fill_page.ensures.made c.self.invariant) c.make_room.ensures.serves)
+returns-clause-serves g c = serves_trans _ _ _ c.make_frames.ensures.serves c.fill_once.ensures.serves
 
 pub returns-clause-refused : goal.returns-clause-refused
-returns-clause-refused g c =
-    let refused = fill_refused _ _ _ _ c.args.handle c.args.page c.in-Refused.refusal c.in-Refused.ensures.made in
-    rw (← c.self.view_is) (room_refused _ _ _ _ _ c.make_room.result refused c.make_room.ensures.refused)
+returns-clause-refused g c = refusals c.args.self.now c.make_frames.new.self c.fill_once.new.self c.args.span.handle c.fill_once.result c.make_frames.ensures.serves c.fill_once.ensures.refused

@@ -7,7 +7,7 @@ use Rattle.filesvc.proofs.solo.Solo.flush_one.Goals as goal
 
 pub returns-clause-flushes : goal.returns-clause-flushes
 returns-clause-flushes g c =
-    let few : length c.files.self.world.core.files ≤ MAX_FILES = subst (λ (s : SoloSeen). length s.world.core.files ≤ MAX_FILES) (c.self.view_is ∙ sym c.files.invariant.same) c.self.invariant.few in
+    let few : length c.files.self.world.core.files ≤ MAX_FILES = subst (λ (s : SoloSeen). length s.world.core.files ≤ MAX_FILES) (c.self.view_is ∙ sym c.files.invariant.same) c.self.invariant.serving.few in
     inl (c.files.invariant.same, subst NothingToFlush c.files.invariant.same (λ f less. c.files.invariant.nothing f (omega arith)))
 
 pub returns-in-Written-clause-flushes : goal.returns-in-Written-clause-flushes

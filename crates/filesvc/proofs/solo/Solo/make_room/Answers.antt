@@ -1,8 +1,10 @@
-use Rattle.std.proofs.Common.{true, sym, ◌∙◌}
+use Rattle.std.proofs.Common.{◌≡◌, true, false, sym, ◌∙◌}
+use Rattle.pc_types.specs.declared.refusal.Refusal.TheVariants.{DirtyLimit, NoFrame}
+use Rattle.filesvc.proofs.Enough.{dirty_refused, full_refused}
 use Rattle.filesvc.specs.Rooms.{FlushesOne}
 use Rattle.filesvc.specs.Seen.{SoloSeen}
 use Rattle.filesvc.proofs.Laws.{serves_trans}
-use Rattle.filesvc.proofs.RoomLaws.{evicted_serves, evicted_service, flushed_for_frame}
+use Rattle.filesvc.proofs.RoomLaws.{evicted_serves, evicted_service, flushed_for_frame, stuck_for_frame}
 use Rattle.filesvc.proofs.WorldLaws.{service_sound}
 use Rattle.filesvc.proofs.solo.Solo.make_room.Goals as goal
 use Rattle.filesvc.proofs.solo.Solo.make_room.Goals.{in-NoFrame+else-is_some, in-DirtyLimit}
@@ -13,11 +15,11 @@ invariant_of-self g c =
     evicted_service s _ _ c.age.result c.evict.result c.age.ensures c.evict.ensures _ _ c.self.invariant
 
 pub returns-then-is_some-clause-serves : goal.returns-then-is_some-clause-serves
-returns-then-is_some-clause-serves g c = rw (← c.self.view_is) (evicted_serves _ _ _ c.age.result c.evict.result c.age.ensures c.evict.ensures (service_sound _ _ _ _ c.self.invariant))
+returns-then-is_some-clause-serves g c = rw (← c.self.view_is) (evicted_serves _ _ _ c.age.result c.evict.result c.age.ensures c.evict.ensures (service_sound _ _ _ _ c.self.invariant.serving))
 
 pub returns-then-branch-clause-serves : goal.returns-then-branch-clause-serves
 returns-then-branch-clause-serves g c = elim c.match-refusal.branch [
-  | in-NoFrame+else-is_some w ↦ rw (← c.self.view_is) (serves_trans _ _ _ (evicted_serves _ _ _ w.age.result w.evict.result w.age.ensures w.evict.ensures (service_sound _ _ _ _ c.self.invariant)) (rw w.self-is at c.flush_one.ensures.serves))
+  | in-NoFrame+else-is_some w ↦ rw (← c.self.view_is) (serves_trans _ _ _ (evicted_serves _ _ _ w.age.result w.evict.result w.age.ensures w.evict.ensures (service_sound _ _ _ _ c.self.invariant.serving)) (rw w.self-is at c.flush_one.ensures.serves))
   | in-DirtyLimit w ↦ rw w.self-is at c.flush_one.ensures.serves
 ]
 
@@ -29,3 +31,27 @@ returns-then-branch-clause-made g c =
       | in-NoFrame+else-is_some w ↦ rw (w.in-NoFrame.is, ← c.self.view_is) (flushed_for_frame s c.flush_one.new.self _ _ w.age.result w.evict.result w.age.ensures w.evict.ensures (sym w.is_some.ensures ∙ w.if-is_some.false) (rw w.self-is at f))
       | in-DirtyLimit w ↦ rw w.in-DirtyLimit.is (rw w.self-is at f)
     ]
+
+pub returns-else-branch-clause-frames : goal.returns-else-branch-clause-frames
+returns-else-branch-clause-frames g c =
+    let s : SoloSeen = record { world = c.self.inside.world; errors = c.self.inside.recorder; attempts = c.self.inside.attempts } in
+    let f : FlushesOne c.match-refusal.self false c.flush_one.new.self = rw c.if-branch.false at c.in_ok-flush_one.ensures.flushes in
+    elim c.match-refusal.branch [
+      | in-NoFrame+else-is_some w ↦ rw (← c.self.view_is) (λ tells _ _. (let k = stuck_for_frame s c.flush_one.new.self _ _ w.age.result w.evict.result w.age.ensures w.evict.ensures (sym w.is_some.ensures ∙ w.if-is_some.false) (rw w.self-is at f) in full_refused s c.flush_one.new.self _ _ c.self.invariant.serving tells k.0 k.1))
+      | in-DirtyLimit w ↦ λ tells no _. absurd (let e : DirtyLimit ≡ NoFrame = sym w.in-DirtyLimit.is ∙ no in cc)
+    ]
+
+pub returns-else-branch-clause-clean : goal.returns-else-branch-clause-clean
+returns-else-branch-clause-clean g c =
+    let s : SoloSeen = record { world = c.self.inside.world; errors = c.self.inside.recorder; attempts = c.self.inside.attempts } in
+    let f : FlushesOne c.match-refusal.self false c.flush_one.new.self = rw c.if-branch.false at c.in_ok-flush_one.ensures.flushes in
+    elim c.match-refusal.branch [
+      | in-NoFrame+else-is_some w ↦ λ tells no _. absurd (let e : NoFrame ≡ DirtyLimit = sym w.in-NoFrame.is ∙ no in cc)
+      | in-DirtyLimit w ↦ rw (← c.self.view_is) (λ tells _ _. dirty_refused s c.flush_one.new.self _ _ c.self.invariant.serving tells (rw (w.self-is, ← c.self.view_is) at f))
+    ]
+
+pub returns-in_err-flush_one-clause-serves : goal.returns-in_err-flush_one-clause-serves
+returns-in_err-flush_one-clause-serves g c = elim c.match-refusal.branch [
+  | in-NoFrame+else-is_some w ↦ rw (← c.self.view_is) (serves_trans _ _ _ (evicted_serves _ _ _ w.age.result w.evict.result w.age.ensures w.evict.ensures (service_sound _ _ _ _ c.self.invariant.serving)) (rw w.self-is at c.flush_one.ensures.serves))
+  | in-DirtyLimit w ↦ rw w.self-is at c.flush_one.ensures.serves
+]

@@ -16,20 +16,20 @@ returns-in_err-count-clause-serves g c = serves_trans _ _ _ c.attempts.invariant
 pub returns-in_err-count-clause-first : goal.returns-in_err-count-clause-first
 returns-in_err-count-clause-first g c =
     let p = err_from_is_err_and c.from_residual.result c.from_residual.ensures.1 in
-    let a : Attempt c.attempts.self (record { 0 = c.args.handle.now.number }) (event.Read (record { 0 = c.args.handle.now.number }) c.args.offset (length c.args.out.now)) (Some (reply.Refused c.in_err-count.field-0.0)) c.try_read.new.self = rw (← c.handle.view_is, ← c.attempts.invariant.out) c.in_err-count.ensures.attempt in
-    rw (p.1, p.2) (try_over _ _ _ c.attempts.invariant.tries c.args.handle.now _ _ a).first
+    let a : Attempt c.attempts.self (event.Read (record { 0 = c.args.handle.now.number }) c.args.offset (length c.args.out.now)) (Some (reply.Refused c.in_err-count.field-0.0)) c.try_read.new.self = rw (← c.handle.view_is, ← c.attempts.invariant.out) c.in_err-count.ensures.attempt in
+    rw (p.1, p.2) (try_over _ _ _ c.attempts.invariant.tries c.args.handle.now _ _ a refl).first
 
 pub returns-in_err-count-clause-refused : goal.returns-in_err-count-clause-refused
 returns-in_err-count-clause-refused g c =
     let p = err_from_is_err_and c.from_residual.result c.from_residual.ensures.1 in
-    let a : Attempt c.attempts.self (record { 0 = c.args.handle.now.number }) (event.Read (record { 0 = c.args.handle.now.number }) c.args.offset (length c.args.out.now)) (Some (reply.Refused c.in_err-count.field-0.0)) c.try_read.new.self = rw (← c.handle.view_is, ← c.attempts.invariant.out) c.in_err-count.ensures.attempt in
-    rw (p.1, p.2) (λ _. (try_over _ _ _ c.attempts.invariant.tries c.args.handle.now _ _ a).refused _ refl)
+    let a : Attempt c.attempts.self (event.Read (record { 0 = c.args.handle.now.number }) c.args.offset (length c.args.out.now)) (Some (reply.Refused c.in_err-count.field-0.0)) c.try_read.new.self = rw (← c.handle.view_is, ← c.attempts.invariant.out) c.in_err-count.ensures.attempt in
+    rw (p.1, p.2) (λ _. (try_over _ _ _ c.attempts.invariant.tries c.args.handle.now _ _ a refl).refused _ refl)
 
 pub returns-in-Some-clause-serves : goal.returns-in-Some-clause-serves
 returns-in-Some-clause-serves g c = serves_trans _ _ _ c.attempts.invariant.tries.serves c.try_read.ensures.serves
 
 pub attempts-preserved : goal.attempts-preserved
 attempts-preserved g c =
-    let a : Attempt c.attempts.self (record { 0 = c.args.handle.now.number }) (event.Read (record { 0 = c.args.handle.now.number }) c.args.offset (length c.args.out.now)) None c.try_read.new.self = rw (← c.handle.view_is, ← c.attempts.invariant.out) (rw c.in_default.is at c.in_ok-count.ensures.attempt) in
+    let a : Attempt c.attempts.self (event.Read (record { 0 = c.args.handle.now.number }) c.args.offset (length c.args.out.now)) None c.try_read.new.self = rw (← c.handle.view_is, ← c.attempts.invariant.out) (rw c.in_default.is at c.in_ok-count.ensures.attempt) in
     let rest : c.try_read.new.out ≡ c.attempts.out = rw c.in_default.is at c.in_ok-count.ensures.rest in
-    record { tries = try_again _ _ _ c.attempts.invariant.tries _ _ (rw (← c.self-in-attempts.view_is) c.attempts-test.true) a; out = rest ∙ c.attempts.invariant.out }
+    record { tries = try_again _ _ _ c.attempts.invariant.tries _ (rw (← c.self-in-attempts.view_is) c.attempts-test.true) a; out = rest ∙ c.attempts.invariant.out }

@@ -13,19 +13,19 @@ returns-in_err-try_truncate-clause-keeps g c = keeps_trans _ _ _ c.attempts.inva
 pub returns-in_err-try_truncate-clause-first : goal.returns-in_err-try_truncate-clause-first
 returns-in_err-try_truncate-clause-first g c =
     let p = err_from_is_err_and c.from_residual.result c.from_residual.ensures.1 in
-    let a : Attempt c.attempts.self (record { 0 = c.args.handle.now.number }) (event.Truncate (record { 0 = c.args.handle.now.number }) c.args.size) (Some (reply.Refused c.in_err-try_truncate.field-0.0)) c.try_truncate.new.self = rw (← c.handle.view_is) c.in_err-try_truncate.ensures.attempt in
-    rw (p.1, p.2) (try_over _ _ _ c.attempts.invariant c.args.handle.now _ _ a).first
+    let a : Attempt c.attempts.self (event.Truncate (record { 0 = c.args.handle.now.number }) c.args.size) (Some (reply.Refused c.in_err-try_truncate.field-0.0)) c.try_truncate.new.self = rw (← c.handle.view_is) c.in_err-try_truncate.ensures.attempt in
+    rw (p.1, p.2) (try_over _ _ _ c.attempts.invariant c.args.handle.now _ _ a refl).first
 
 pub returns-in_err-try_truncate-clause-refused : goal.returns-in_err-try_truncate-clause-refused
 returns-in_err-try_truncate-clause-refused g c =
     let p = err_from_is_err_and c.from_residual.result c.from_residual.ensures.1 in
-    let a : Attempt c.attempts.self (record { 0 = c.args.handle.now.number }) (event.Truncate (record { 0 = c.args.handle.now.number }) c.args.size) (Some (reply.Refused c.in_err-try_truncate.field-0.0)) c.try_truncate.new.self = rw (← c.handle.view_is) c.in_err-try_truncate.ensures.attempt in
-    rw (p.1, p.2) (λ _. (try_over _ _ _ c.attempts.invariant c.args.handle.now _ _ a).refused _ refl)
+    let a : Attempt c.attempts.self (event.Truncate (record { 0 = c.args.handle.now.number }) c.args.size) (Some (reply.Refused c.in_err-try_truncate.field-0.0)) c.try_truncate.new.self = rw (← c.handle.view_is) c.in_err-try_truncate.ensures.attempt in
+    rw (p.1, p.2) (λ _. (try_over _ _ _ c.attempts.invariant c.args.handle.now _ _ a refl).refused _ refl)
 
 pub returns-then-branch-clause-keeps : goal.returns-then-branch-clause-keeps
 returns-then-branch-clause-keeps g c = keeps_trans _ _ _ c.attempts.invariant.serves.keeps c.try_truncate.ensures.attempt.keeps
 
 pub attempts-preserved : goal.attempts-preserved
 attempts-preserved g c =
-    let a : Attempt c.attempts.self (record { 0 = c.args.handle.now.number }) (event.Truncate (record { 0 = c.args.handle.now.number }) c.args.size) None c.try_truncate.new.self = rw (← c.handle.view_is) (rw c.if-branch.false at c.in_ok-try_truncate.ensures.attempt) in
-    try_again _ _ _ c.attempts.invariant _ _ (rw (← c.self-in-attempts.view_is) c.attempts-test.true) a
+    let a : Attempt c.attempts.self (event.Truncate (record { 0 = c.args.handle.now.number }) c.args.size) None c.try_truncate.new.self = rw (← c.handle.view_is) (rw c.if-branch.false at c.in_ok-try_truncate.ensures.attempt) in
+    try_again _ _ _ c.attempts.invariant _ (rw (← c.self-in-attempts.view_is) c.attempts-test.true) a

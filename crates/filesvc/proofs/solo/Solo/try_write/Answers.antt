@@ -7,7 +7,7 @@ pub invariant_of-self : goal.invariant_of-self
 invariant_of-self g c = service_kept _ _ _ _ _ (event.Write c.args.handle c.args.offset c.args.bytes.now) _ refl c.write-answer.ensures.0 c.write-answer.ensures.1 c.self.invariant
 
 pub returns-clause-attempt : goal.returns-clause-attempt
-returns-clause-attempt g c = rw (← c.self.view_is) (attempt_follows _ c.args.handle (event.Write c.args.handle c.args.offset c.args.bytes.now) _ _ refl c.write-answer.ensures.0 c.write-answer.ensures.1 c.self.invariant.reached _ _ c.after_write.ensures.follows)
+returns-clause-attempt g c = rw (← c.self.view_is) (attempt_follows _ c.args.handle (event.Write c.args.handle c.args.offset c.args.bytes.now) _ _ refl c.write-answer.ensures.0 c.write-answer.ensures.1 c.self.invariant.serving.reached _ _ refl c.after_write.ensures.follows)
 
 pub returns-clause-wrote : goal.returns-clause-wrote
 returns-clause-wrote g c = follows_all _ _ _ _ _ _ _ _ _ c.after_write.ensures.follows c.write-answer.ensures.0.0

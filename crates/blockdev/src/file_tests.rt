@@ -1,0 +1,156 @@
+//! A device over a file: what it takes, what it refuses, what a system call cut short means, and a flush that failed.
+
+use crate::{BlockDevice, FileDevice};
+use pc_types::{BlockNo, ErrCode, Refusal};
+use std::cell::Cell;
+use std::fs::{Metadata, OpenFile, OpenOptions};
+use std::os::unix::fs::FileExt;
+use std::path::PathBuf;
+use std::test::*;
+use std::{env, fs, io, process};
+
+/// A folder of the test's own.
+fn folder(rt: &HostRuntime, name: &str) -> Result<PathBuf, Fail> {
+    let mut path = env::temp_dir(rt)?;
+    path.push(format!(in rt.alloc(); "blockdev-{}-{name}", process::id(rt.process()))?.as_str())?;
+    fs::create_dir(rt, path.as_path())?;
+    Ok(path)
+}
+
+// A file that is shorter is made as long as the blocks, one that is longer stays, and the bytes come back, also to the next who opens it.
+#[test]
+fn a_regular_file_reads_back(rt: HostRuntime) -> Result<(), Fail> {
+    let folder = folder(&rt, "reads_back")?;
+    let path = folder.join(rt.alloc(), "disk")?;
+    fs::write(&rt, path.as_path(), "short")?;
+    let mut out = [9; 16];
+    let mut device = FileDevice::open(&rt, rt.alloc(), path.as_path(), 16, 4)?;
+    assert!(rt; fs::metadata(&rt, path.as_path())?.len() == 64);
+    assert!(rt; device.write(BlockNo(3), b"sixteen bytes...").is_ok());
+    assert!(rt; device.flush().is_ok());
+    assert!(rt; device.read(BlockNo(3), &mut out).is_ok());
+    assert_eq!(rt; out, *b"sixteen bytes...");
+    assert_eq!(rt; (device.block_size(), device.blocks()), (16, 4));
+    assert_eq!(rt;
+        (device.calls(), device.flushes(), device.faults()),
+        (2, 1, 0)
+    );
+
+    let mut fewer = FileDevice::open(&rt, rt.alloc(), path.as_path(), 16, 2)?;
+    assert!(rt; fs::metadata(&rt, path.as_path())?.len() == 64);
+    assert!(rt; fewer.read(BlockNo(0), &mut out).is_ok());
+    assert_eq!(rt; out, *b"short\0\0\0\0\0\0\0\0\0\0\0");
+    fs::remove_dir_all(&rt, folder.as_path())?;
+    Ok(())
+}
+
+#[test]
+fn what_is_no_device_is_refused(rt: HostRuntime) -> Result<(), Fail> {
+    let folder = folder(&rt, "refused")?;
+    let path = folder.join(rt.alloc(), "disk")?;
+    let none = FileDevice::open(&rt, rt.alloc(), path.as_path(), 16, 4);
+    assert!(rt; matches!(none, Err(Refusal::Io(ErrCode::IO))));
+    let directory = FileDevice::open(&rt, rt.alloc(), folder.as_path(), 16, 4);
+    assert!(rt; matches!(directory, Err(Refusal::Io(ErrCode::IO))));
+    fs::write(&rt, path.as_path(), "short")?;
+    for (block_size, blocks) in [(0, 4), (16, u64::MAX), (1 << 40, 1 << 23)] {
+        let refused = FileDevice::open(&rt, rt.alloc(), path.as_path(), block_size, blocks);
+        assert!(rt; matches!(refused, Err(Refusal::Io(ErrCode::IO))));
+    }
+    // Nothing was done to the file.
+    assert!(rt; fs::metadata(&rt, path.as_path())?.len() == 5);
+    fs::remove_dir_all(&rt, folder.as_path())?;
+    Ok(())
+}
+
+// A file that is cut shorter by another hand: a fault, which is counted, and no bytes.
+#[test]
+fn a_file_cut_shorter_is_a_fault(rt: HostRuntime) -> Result<(), Fail> {
+    let folder = folder(&rt, "cut")?;
+    let path = folder.join(rt.alloc(), "disk")?;
+    fs::write(&rt, path.as_path(), "")?;
+    let mut device = FileDevice::open(&rt, rt.alloc(), path.as_path(), 16, 4)?;
+    let other = OpenOptions::new().write(true).open(&rt, path.as_path())?;
+    other.set_len(24)?;
+    let mut out = [9; 16];
+    assert!(rt; device.read(BlockNo(0), &mut out).is_ok());
+    assert_eq!(rt; out, [0; 16]);
+    out = [9; 16];
+    assert_eq!(rt; device.read(BlockNo(1), &mut out), Err(ErrCode::IO));
+    assert_eq!(rt; out, [9; 16]);
+    assert_eq!(rt; (device.calls(), device.faults()), (2, 1));
+    fs::remove_dir_all(&rt, folder.as_path())?;
+    Ok(())
+}
+
+/// A file of zeros whose calls are cut short after three bytes, and whose second sync fails.
+#[derive(Drop)]
+struct Slow {
+    syncs: Cell<u32>,
+}
+
+impl Slow {
+    fn new() -> Slow {
+        Slow {
+            syncs: Cell::new(0),
+        }
+    }
+}
+
+impl FileExt for Slow {
+    fn read_at(&self, buf: &mut [u8], _offset: u64) -> io::Result<usize> {
+        let n = buf.len().min(3);
+        buf[..n].fill(0);
+        Ok(n)
+    }
+
+    fn write_at(&self, buf: &[u8], _offset: u64) -> io::Result<usize> {
+        Ok(buf.len().min(3))
+    }
+}
+
+impl OpenFile for Slow {
+    fn metadata(&self) -> io::Result<Metadata> {
+        Ok(Metadata::of_file(64))
+    }
+
+    fn set_len(&self, _size: u64) -> io::Result<()> {
+        Ok(())
+    }
+
+    fn sync_all(&self) -> io::Result<()> {
+        self.sync_data()
+    }
+
+    fn sync_data(&self) -> io::Result<()> {
+        let before = self.syncs.get();
+        self.syncs.set(before.wrapping_add(1));
+        if before == 1 {
+            return Err(io::Error::from(io::ErrorKind::StorageFull));
+        }
+        Ok(())
+    }
+}
+
+#[test]
+fn a_call_that_is_cut_short_is_gone_on_with(rt: HostRuntime) -> Result<(), Fail> {
+    let mut device = FileDevice::new(Slow::new(), 16, 4, vec![in rt.alloc(); 9; 16]?);
+    let mut out = [9; 16];
+    assert!(rt; device.read(BlockNo(2), &mut out).is_ok());
+    assert_eq!(rt; out, [0; 16]);
+    assert!(rt; device.write(BlockNo(2), &out).is_ok());
+    Ok(())
+}
+
+// Its third sync would succeed, and says nothing of what was written before the second.
+#[test]
+fn a_flush_that_failed_is_not_forgotten(rt: HostRuntime) -> Result<(), Fail> {
+    let mut device = FileDevice::new(Slow::new(), 16, 4, vec![in rt.alloc(); 9; 16]?);
+    assert!(rt; device.flush().is_ok());
+    for failed in 1..4 {
+        assert_eq!(rt; device.flush(), Err(ErrCode::IO));
+        assert_eq!(rt; (device.calls(), device.faults()), (0, failed));
+    }
+    assert!(rt; device.flushes() == 4);
+    Ok(())
+}

@@ -1,0 +1,64 @@
+//! Which room a call wants. Asking for it is no event.
+
+ghost use Rattle.std.specs.Prelude.{◌≡◌, ◌+◌, ◌-◌, ◌<◌, ◌≤◌, IfNone, IfSome, length, true, false};
+ghost use Rattle.pc_types.specs.declared.limits.TheConstants.{MAX_FILE_SIZE, MAX_TOUCHED};
+ghost use Rattle.cachecore.specs.State.{file_of, first_page, last_page};
+ghost use Rattle.cachecore.specs.Wants.{lacks_frames, may_touch, passes_limit};
+
+use crate::cache::{CacheCore, is_too_long};
+use pc_types::HandleId;
+use pc_types::limits::MAX_FILE_SIZE;
+
+/// The pages of a file from `first` up to `end`.
+struct Touched {
+    file: u64,
+    first: u64,
+    end: u64,
+}
+
+impl CacheCore {
+    /// Whether fewer frames are free than pages are absent which these bytes of the handle's file touch. `false` where no call
+    /// may touch them.
+    pub fn lacks_frames(&self, handle: HandleId, offset: u64, count: u64) -> bool
+        ensures { result ≡ lacks_frames self.now.state handle.0 offset count }
+    {
+        let Some(Touched { file, first, end }) = self.touched(handle, offset, count) else {
+            return false;
+        };
+        self.pages.free_frames() < self.pages.absent_pages(file, first, end) as u64
+    }
+
+    /// Whether too many pages would be dirty with those that these bytes of the handle's file touch. `false` where no call may
+    /// touch them.
+    pub fn passes_limit(&self, handle: HandleId, offset: u64, count: u64) -> bool
+        ensures { result ≡ passes_limit self.now.state handle.0 offset count }
+    {
+        let Some(Touched { file, first, end }) = self.touched(handle, offset, count) else {
+            return false;
+        };
+        self.passes_dirty_limit(self.pages.clean_pages(file, first, end) as u64)
+    }
+
+    /// The pages that these bytes of the handle's file touch, where a call may touch them.
+    fn touched(&self, handle: HandleId, offset: u64, count: u64) -> Option<Touched>
+        ensures none { IfNone result (may_touch self.now.state handle.0 offset count ≡ false) }
+        ensures some { IfSome result (λ _. may_touch self.now.state handle.0 offset count ≡ true) }
+        ensures file { IfSome result (λ t. (t.file ≡ file_of self.now.state handle.0) × (t.file < length self.now.state.files)) }
+        ensures first { IfSome result (λ t. t.first ≡ first_page self.now.state.sizes.page offset) }
+        ensures end { IfSome result (λ t. t.end ≡ last_page self.now.state.sizes.page offset count + 1) }
+        ensures few { IfSome result (λ t. (t.first ≤ t.end) × (t.end - t.first ≤ MAX_TOUCHED)) }
+        ensures bound { IfSome result (λ t. t.end ≤ MAX_FILE_SIZE) }
+    {
+        let file = self.handles.file(handle.0)?;
+        let page_size = self.geometry.page();
+        if count == 0
+            || offset.saturating_add(count) > MAX_FILE_SIZE
+            || is_too_long(page_size, offset, count)
+        {
+            return None;
+        }
+        let first = offset / page_size;
+        let end = (offset + count - 1) / page_size + 1;
+        Some(Touched { file, first, end })
+    }
+}

@@ -1,0 +1,197 @@
+-- Between calls each cached page is DIRTY or idle: where none is idle and none is to be written, none is cached, and no call lacks frames.
+use Rattle.std.proofs.Common.{◌≡◌, ℕ, ◌+◌, ◌-◌, ◌<◌, ◌≤◌, Bool, true, false, cond, get_or, List, [], ◌∷◌, map, length, zero, suc, refl, ap, sym, ◌∙◌, arith, inl, inr}
+use Rattle.std.specs.Prelude.{◌&&◌, ◌||◌, not, is_some, option_map, Option, Some, None, nat_le, nat_lt, sum_by}
+use Rattle.std.specs.List.{list_any}
+use Rattle.std.specs.FinMap as finmap
+use Rattle.std.specs.FinMap.{get-empty, get-entries, len-empty}
+use Rattle.std.specs.Ordering.{nat_cmp}
+use Rattle.std.proofs.lemmas.Bool.Decides.{nat_tests}
+use Rattle.std.proofs.lemmas.List.Sums.{sum_by-cons}
+use Rattle.std.specs.Prelude.{◌⊎◌, IsTrue}
+use Rattle.atomic_table.specs.Seated.{TableId}
+use Rattle.pc_types.specs.Limits.{Sizes, is_geometry, is_page_size}
+use Rattle.pc_types.specs.declared.limits.TheConstants.{CLEAN_FRAMES, MAX_BLOCKS, MAX_FILE_SIZE, MAX_FRAMES, MAX_TOUCHED, MIN_DIRTY_LIMIT, MIN_FRAMES}
+use Rattle.pc_types.specs.declared.refusal.Refusal.TheVariants.{NoSuchFile, TooManyInFlight}
+use Rattle.cachecore.specs.declared.event.Event.TheVariants as event
+use Rattle.cachecore.specs.declared.event.Reply.TheVariants as reply
+use Rattle.cachecore.specs.State.{State, File, Page, cached_total, dirty_in, dirty_total, file_at, file_of, first_page, free_frames, is_cached, is_dirty, is_idle, is_open, no_file, page_at, touched_count}
+use Rattle.cachecore.specs.Tests.{flush_pick, has_idle, is_full, refuse, tests}
+use Rattle.cachecore.specs.Wants.{dirtied, lacking, lacks_frames, passes_limit}
+use Rattle.cachecore.proofs.Found.{found_none}
+use Rattle.cachecore.proofs.MapLaws.{any_value, no_entries}
+use Rattle.cachecore.proofs.TouchCounts.{count_below}
+use Rattle.world.specs.Always.{Always, PageAlways}
+use Rattle.world.specs.World.{World}
+use Rattle.world.proofs.Count.{count_le, count_of}
+use Rattle.world.proofs.FrameCounts.{count_empty, filling_is, is_live_fill, len_le}
+use Rattle.world.proofs.Lookups.{cached_within}
+use Rattle.world.proofs.Reached.{reached_always}
+use Rattle.world.specs.Stepping.{world_of}
+use Rattle.filesvc.specs.Rests.{IsServing}
+use Rattle.filesvc.specs.Rooms.{FlushesOne, IsClean, Suffices}
+use Rattle.filesvc.specs.Seen.{SoloSeen}
+use Rattle.filesvc.specs.Service.{Faulted, Tells}
+
+-- ---- an idle page is found
+
+any_entry : (es : List (ℕ × Page)) → list_any is_idle (map (λ (e : ℕ × Page). e.1) es) ≡ list_any (λ (e : ℕ × Page). is_idle e.1) es
+any_entry [] = refl
+any_entry (e ∷ es) = ap (λ b. is_idle e.1 || b) (any_entry es)
+
+abbrev idle_in : File → Bool
+idle_in file = list_any (λ (e : ℕ × Page). is_idle e.1) (finmap.entries file.pages)
+
+none_idle : idle_in no_file ≡ true → ⊥
+none_idle h = absurd (let e : idle_in no_file ≡ false = ap (list_any (λ (e : ℕ × Page). is_idle e.1)) (no_entries nat_cmp) in cc)
+
+any_file : (files : List File) (f : ℕ) → idle_in (get_or files f no_file) ≡ true → list_any idle_in files ≡ true
+any_file [] f h = absurd (none_idle h)
+any_file (x ∷ files) zero h = ap (λ b. b || list_any idle_in files) h
+any_file (x ∷ files) (suc f) h = or_later (idle_in x) (list_any idle_in files) (any_file files f h)
+  where
+    or_later : (a b : Bool) → b ≡ true → (a || b) ≡ true
+    or_later true b e = refl
+    or_later false b e = e
+
+some_idle : (s : State) (f p : ℕ) (page : Page) → page_at s f p ≡ Some page → is_idle page ≡ true → has_idle s ≡ true
+some_idle s f p page is idle = any_file s.files f (sym (any_entry (finmap.entries (file_at s f).pages)) ∙ any_value nat_cmp is_idle p page (finmap.entries (file_at s f).pages) (sym (get-entries (file_at s f).pages p) ∙ is) idle)
+
+no_idle : (b : Bool) → cond b None (Some reply.NoneIdle) ≡ Some reply.NoneIdle → b ≡ false
+no_idle true e = absurd cc
+no_idle false e = refl
+
+-- ---- a page that is to be written is found
+
+no_pick : (b d : Bool) (o : Option ℕ) → cond b (refuse NoSuchFile) (cond (not (is_some o)) (Some reply.Nothing) (cond d (refuse TooManyInFlight) None)) ≡ Some reply.Nothing → o ≡ None
+no_pick true d o e = absurd cc
+no_pick false true (Some p) e = absurd cc
+no_pick false false (Some p) e = absurd cc
+no_pick false d None e = refl
+
+not_picked : (o : Option (ℕ × Page)) → option_map (λ e. e.0) o ≡ None → o ≡ None
+not_picked None e = refl
+not_picked (Some x) e = absurd cc
+
+-- ---- no page is cached
+
+untagged : (dirty writeback towrite : Bool) → (dirty && not writeback) ≡ false → writeback ≡ false → (towrite ≡ true → dirty ≡ true) → (not dirty && not writeback && not towrite) ≡ true
+untagged true w t a b c = absurd cc
+untagged false true t a b c = absurd cc
+untagged false false true a b c = absurd (let x = c refl in cc)
+untagged false false false a b c = refl
+
+-- a sum of nothing
+no_sum : (count : File → ℕ) (files : List File) → ((f : ℕ) → count (get_or files f no_file) ≡ 0) → sum_by count files ≡ 0
+no_sum count [] h = refl
+no_sum count (x ∷ files) h = let a = h 0 in let b = no_sum count files (λ f. h (suc f)) in let c = sum_by-cons count x files in omega arith
+
+undirty : (dirty writeback : Bool) → (dirty && not writeback) ≡ false → writeback ≡ false → dirty ≡ false
+undirty true false a b = absurd cc
+undirty true true a b = absurd cc
+undirty false w a b = refl
+
+module _ (w : World) (always : Always w) (resting : w.core.requests ≡ finmap.empty) (clean : (f : ℕ) → f < length w.core.files → tests w.core (event.FlushBegin (record { 0 = f })) ≡ Some reply.Nothing) where
+  no_write : (f p : ℕ) (page : Page) → PageAlways w.core f p page → page.tags.writeback ≡ false
+  no_write f p page a = by page.tags.writeback refl
+    where
+      by : (b : Bool) → page.tags.writeback ≡ b → page.tags.writeback ≡ false
+      by false e = e
+      by true e = absurd (let x = a.flush e in let none : finmap.get w.core.requests x.0 ≡ None = ap (λ m. finmap.get m x.0) resting ∙ get-empty nat_cmp x.0 in let n : None ≡ Some x.1 = sym none ∙ x.2 in cc)
+
+  not_left : (f p : ℕ) (page : Page) → page_at w.core f p ≡ Some page → (page.tags.dirty && not page.tags.writeback) ≡ false
+  not_left f p page is =
+      let here = cached_within w.core f p (ap is_some is) in
+      let pick = no_pick (nat_le (length w.core.files) f) (is_full w.core) (flush_pick (file_at w.core f)) (clean f here) in
+      found_none (file_at w.core f).pages (λ e. e.1.tags.dirty && not e.1.tags.writeback) (not_picked _ pick) p page is
+
+  no_dirty : (f p : ℕ) (page : Page) → page_at w.core f p ≡ Some page → page.tags.dirty ≡ false
+  no_dirty f p page is = undirty page.tags.dirty page.tags.writeback (not_left f p page is) (no_write f p page (always.pages f p page is))
+
+  none_dirty : dirty_total w.core ≡ 0
+  none_dirty = no_sum dirty_in w.core.files (λ f. (
+      let a = count_le (λ (x : Page). x.tags.dirty) (λ (x : Page). x.tags.dirty) (file_at w.core f).pages (finmap.empty {X = Page} {R = nat_cmp}) (λ q x e t. absurd (let k : true ≡ false = sym t ∙ no_dirty f q x e in cc)) in
+      let b = count_empty (λ (x : Page). x.tags.dirty) in omega arith))
+
+  -- no call would make too many pages dirty
+  pub clean_enough : MIN_DIRTY_LIMIT ≤ w.core.sizes.dirty_limit → (h o n : ℕ) → passes_limit w.core h o n ≡ false
+  clean_enough many h o n =
+      let most = count_below (dirtied w.core (file_of w.core h) o n) (first_page w.core.sizes.page o) (touched_count w.core.sizes.page o n) (λ p. not (is_dirty w.core (file_of w.core h) p)) refl in
+      let none = none_dirty in
+      by (is_open w.core h) (nat_lt 0 n) (nat_le (touched_count w.core.sizes.page o n) MAX_TOUCHED) (nat_le (o + n) MAX_FILE_SIZE) (nat_lt 0 (dirtied w.core (file_of w.core h) o n)) (nat_lt w.core.sizes.dirty_limit (dirty_total w.core + dirtied w.core (file_of w.core h) o n)) (λ small. grind (arith, nat_tests))
+    where
+      by : (a b c d x e : Bool) → (c ≡ true → e ≡ false) → ((a && b && c && d) && (x && e)) ≡ false
+      by true true true true true e k = k refl
+      by true true true true false e k = refl
+      by false b c d x e k = refl
+      by true false c d x e k = refl
+      by true true false d x e k = refl
+      by true true true false x e k = refl
+
+  module _ (idle : tests w.core event.Evict ≡ Some reply.NoneIdle) where
+    none_cached : (f p : ℕ) (page : Page) → page_at w.core f p ≡ Some page → ⊥
+    none_cached f p page is =
+        let a = always.pages f p page is in
+        let free = untagged page.tags.dirty page.tags.writeback page.tags.towrite (not_left f p page is) (no_write f p page a) a.towrite_dirty in
+        let some = some_idle w.core f p page is free in
+        let none = no_idle (has_idle w.core) idle in
+        absurd (let x : true ≡ false = sym some ∙ none in cc)
+
+    no_pages : (f : ℕ) → finmap.len (file_at w.core f).pages ≡ 0
+    no_pages f =
+        let a = len_le (file_at w.core f).pages (finmap.empty {X = Page} {R = nat_cmp}) (λ q x e. absurd (none_cached f q x e)) in
+        let b = len-empty nat_cmp Page in omega arith
+
+    all_free : free_frames w.core ≡ w.core.sizes.frames
+    all_free =
+        let a : cached_total w.core ≡ 0 = no_sum (λ (file : File). finmap.len file.pages) w.core.files no_pages in
+        let b = filling_is w.core in
+        let c = ap (count_of is_live_fill) resting in
+        let d = count_empty is_live_fill in omega arith
+
+    pub some_free : MIN_FRAMES ≤ w.core.sizes.frames → 0 < free_frames w.core
+    some_free many = let free = all_free in omega arith
+
+    pub enough : MIN_FRAMES ≤ w.core.sizes.frames → (h o n : ℕ) → lacks_frames w.core h o n ≡ false
+    enough many h o n =
+        let most = count_below (lacking w.core (file_of w.core h) o n) (first_page w.core.sizes.page o) (touched_count w.core.sizes.page o n) (λ p. not (is_cached w.core (file_of w.core h) p)) refl in
+        let free = all_free in
+        by (is_open w.core h) (nat_lt 0 n) (nat_le (touched_count w.core.sizes.page o n) MAX_TOUCHED) (nat_le (o + n) MAX_FILE_SIZE) (nat_lt (free_frames w.core) (lacking w.core (file_of w.core h) o n)) (λ small. grind (arith, nat_tests))
+      where
+        by : (a b c d e : Bool) → (c ≡ true → e ≡ false) → ((a && b && c && d) && e) ≡ false
+        by true true true true e k = k refl
+        by false b c d e k = refl
+        by true false c d e k = refl
+        by true true false d e k = refl
+        by true true true false e k = refl
+
+-- the frames of a geometry
+pub enough_frames : (g : Sizes) → IsTrue (is_geometry g) → MIN_FRAMES ≤ g.frames
+enough_frames g e = by (is_page_size g.page) (nat_le MIN_FRAMES g.frames) (nat_le g.frames MAX_FRAMES) (nat_le MIN_DIRTY_LIMIT g.dirty_limit) (nat_le g.dirty_limit (g.frames - CLEAN_FRAMES)) (nat_le 1 g.blocks) (nat_le g.blocks MAX_BLOCKS) refl e
+  where
+    by : (a b c d x y z : Bool) → nat_le MIN_FRAMES g.frames ≡ b → IsTrue (a && b && c && d && x && y && z) → MIN_FRAMES ≤ g.frames
+    by true true c d x y z k e = grind (arith, nat_tests)
+    by true false c d x y z k e = absurd cc
+    by false b c d x y z k e = absurd cc
+
+-- its dirty limit
+pub enough_dirty : (g : Sizes) → IsTrue (is_geometry g) → MIN_DIRTY_LIMIT ≤ g.dirty_limit
+enough_dirty g e = by (is_page_size g.page) (nat_le MIN_FRAMES g.frames) (nat_le g.frames MAX_FRAMES) (nat_le MIN_DIRTY_LIMIT g.dirty_limit) (nat_le g.dirty_limit (g.frames - CLEAN_FRAMES)) (nat_le 1 g.blocks) (nat_le g.blocks MAX_BLOCKS) refl e
+  where
+    by : (a b c d x y z : Bool) → nat_le MIN_DIRTY_LIMIT g.dirty_limit ≡ d → IsTrue (a && b && c && d && x && y && z) → MIN_DIRTY_LIMIT ≤ g.dirty_limit
+    by true true true true x y z k e = grind (arith, nat_tests)
+    by true true true false x y z k e = absurd cc
+    by true true false d x y z k e = absurd cc
+    by true false c d x y z k e = absurd cc
+    by false b c d x y z k e = absurd cc
+
+-- where no room could be made for a frame
+pub full_refused : (s new : SoloSeen) (name : ℕ) (table : TableId) → IsServing name s.world table s.errors → Tells s → tests s.world.core event.Evict ≡ Some reply.NoneIdle → FlushesOne s false new → Faulted s new ⊎ Suffices s
+full_refused s new name table i tells idle (inl x) =
+    let always = reached_always (world_of s.world) (i.reached tells) in
+    inr (some_free (world_of s.world) always i.rests.requests x.1 idle i.frames, λ h o n. enough (world_of s.world) always i.rests.requests x.1 idle i.frames h o n)
+full_refused s new name table i tells idle (inr x) = inl x
+
+-- and where none could be made for a dirty page
+pub dirty_refused : (s new : SoloSeen) (name : ℕ) (table : TableId) → IsServing name s.world table s.errors → Tells s → FlushesOne s false new → Faulted s new ⊎ IsClean s
+dirty_refused s new name table i tells (inl x) = inr (λ h o n. clean_enough (world_of s.world) (reached_always (world_of s.world) (i.reached tells)) i.rests.requests x.1 i.dirty h o n)
+dirty_refused s new name table i tells (inr x) = inl x

@@ -1,0 +1,13 @@
+pub mod Prefixes
+pub mod Keeps
+pub mod Rooms
+pub mod Tied
+pub mod Holds
+pub mod Calls
+pub mod Writes
+pub mod Openings
+pub mod Closes
+pub mod Begins
+pub mod Ends
+pub mod FillEnds
+pub mod Drops

@@ -1,0 +1,114 @@
+//! Lines and words by the rules of the trace language and of the script language.
+
+use crate::{Fault, Fetched, Lines, Stop, Words, flush, is_blank, numbers, print_line};
+use std::alloc::Global;
+use std::io::{BufRead, ErrorKind};
+use std::process::Abort;
+use std::test::Fail;
+
+fn check_line<R: BufRead>(
+    rt: &impl Abort,
+    alloc: Global,
+    lines: &mut Lines<R>,
+    fetched: Fetched,
+    line: &[u8],
+) -> Result<(), Fail> {
+    let mut out = Vec::new(alloc);
+    assert!(rt; lines.fetch(4, &mut out) == Ok(fetched));
+    assert!(rt; lines.line.as_slice() == line);
+    Ok(())
+}
+
+/// A line ends in a newline, which the last may lack; empty lines count.
+#[test]
+fn lines_are_fetched_in_order(rt: HostRuntime) -> Result<(), Fail> {
+    let mut lines = Lines::new(rt.alloc(), b"ab\n\ncdef\ng".as_slice());
+    check_line(&rt, rt.alloc(), &mut lines, Fetched::Line, b"ab")?;
+    check_line(&rt, rt.alloc(), &mut lines, Fetched::Line, b"")?;
+    check_line(&rt, rt.alloc(), &mut lines, Fetched::Line, b"cdef")?;
+    check_line(&rt, rt.alloc(), &mut lines, Fetched::Line, b"g")?;
+    assert_eq!(rt; lines.number, 4);
+    check_line(&rt, rt.alloc(), &mut lines, Fetched::End, b"")
+}
+
+/// A line with a byte more than it may have is none.
+#[test]
+fn a_line_can_be_too_long(rt: HostRuntime) -> Result<(), Fail> {
+    let mut lines = Lines::new(rt.alloc(), b"abcde\n".as_slice());
+    check_line(&rt, rt.alloc(), &mut lines, Fetched::TooLong, b"")
+}
+
+/// Whoever prints has handed on what was printed before more input is awaited.
+#[test]
+fn what_was_printed_is_handed_on(rt: HostRuntime) -> Result<(), Fail> {
+    let mut out = Vec::new(rt.alloc());
+    assert!(rt; print_line(&mut out, 7u64) == Ok(()));
+    assert!(rt; print_line(&mut out, "none") == Ok(()));
+    assert!(rt; flush(&mut out) == Ok(()));
+    assert!(rt; out.as_slice() == b"7\nnone\n".as_slice());
+    Ok(())
+}
+
+/// An empty line and a comment say nothing.
+#[test]
+fn blank_lines(rt: HostRuntime) {
+    assert!(rt; is_blank(b""));
+    assert!(rt; is_blank(b"# size 0"));
+    assert!(rt; !is_blank(b" #"));
+}
+
+/// A number is written as it is printed.
+#[test]
+fn words_are_numbers(rt: HostRuntime) -> Result<(), Fail> {
+    let alloc = rt.alloc();
+    let read = numbers(alloc, &mut Words::new(b"0 18446744073709551615"))?;
+    assert!(rt; read.is_some_and(|read| read.as_slice() == [0, u64::MAX].as_slice()));
+    for line in [
+        b"".as_slice(),
+        b"1  2",
+        b"01",
+        b"+1",
+        b"-1",
+        b"18446744073709551616",
+    ] {
+        assert!(rt; numbers(alloc, &mut Words::new(line))?.is_none());
+    }
+    Ok(())
+}
+
+/// Each word is taken once, and none is left then.
+#[test]
+fn words_are_taken_in_order(rt: HostRuntime) -> Result<(), Fail> {
+    let mut words = Words::new(b"write 16 aBCd -");
+    assert!(rt; words.word() == Some(b"write".as_slice()));
+    assert!(rt; words.number() == Ok(16));
+    assert!(rt;
+        words
+            .bytes(rt.alloc())
+            .is_ok_and(|read| read.as_slice() == [0xab, 0xcd].as_slice())
+    );
+    assert!(rt; words.end() == Err(Fault::Malformed));
+    assert!(rt;
+        words
+            .bytes(rt.alloc())
+            .is_ok_and(|read| read.as_slice().is_empty())
+    );
+    assert!(rt; words.end() == Ok(()));
+    assert!(rt; words.number() == Err(Fault::Malformed));
+    Ok(())
+}
+
+/// The statuses of the table, and what is said.
+#[test]
+fn stops_have_their_status(rt: HostRuntime) -> Result<(), Fail> {
+    let alloc = rt.alloc();
+    assert_eq!(rt; Stop::Malformed(3).status(), 2);
+    assert_eq!(rt; Stop::Input.status(), 3);
+    assert_eq!(rt; Stop::Output.status(), 3);
+    assert_eq!(rt; Stop::Memory.status(), 4);
+    assert!(rt; Stop::of_input(&ErrorKind::OutOfMemory.into()) == Stop::Memory);
+    assert!(rt; Stop::of_input(&ErrorKind::BrokenPipe.into()) == Stop::Input);
+    let said = format!(in alloc; "{}", Stop::Malformed(3))?;
+    assert_eq!(rt; said.as_str(), "line 3: malformed");
+    Ok(())
+}

@@ -1,0 +1,15 @@
+pub mod HistoryLaws
+pub mod NoJobs
+pub mod RunLaws
+pub mod TrailMoves
+pub mod Tracks
+pub mod Weaving
+pub mod LineLaws
+pub mod PlainLaws
+pub mod SparseLaws
+pub mod ReplayLaws
+pub mod Agreeing
+pub mod Walking
+pub mod RoomLaws
+pub mod Steady
+pub mod Converse

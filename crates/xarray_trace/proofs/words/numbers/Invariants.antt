@@ -1,9 +1,0 @@
-use Rattle.std.proofs.Common.{length}
-use Rattle.xarray_trace.proofs.OperationLemmas.{Reads}
-use Rattle.xarray_trace.proofs.words.numbers.Given as goal
-
-abbrev pub invariant-loop-word : goal.invariant-loop-word
-invariant-loop-word l = Reads l.initial.words l.words l.numbers.items
-
-abbrev pub decreases-loop-word : goal.decreases-loop-word
-decreases-loop-word l = length l.words
