@@ -1,5 +1,5 @@
 -- How many entries a map has, and how many of its values pass a test, after a change of one.
-use Rattle.std.proofs.Common.{◌≡◌, ◌≢◌, ℕ, ◌+◌, ◌-◌, ◌≤◌, Bool, true, false, cond, List, [], ◌∷◌, length, refl, ap, sym}
+use Rattle.std.proofs.Common.{◌≡◌, ℕ, ◌+◌, ◌-◌, ◌≤◌, Bool, true, false, cond, List, [], ◌∷◌, length, refl, ap, sym}
 use Rattle.std.proofs.Common.{◌∙◌, arith, Some, None, Option}
 use Rattle.std.specs.Prelude.{is_some, option_map}
 use Rattle.std.specs.declared.cmp.Ordering.{Ordering}

@@ -22,7 +22,7 @@ use Rattle.machine.proofs.sound.Lookups.{change_here}
 use Rattle.machine.proofs.sound.Changes.{lookups, TagsFit, PageFits, IsOf, dirty, writeback, towrite, tags_fit}
 use Rattle.machine.proofs.sound.Changes.{page_fits, pages_change, requests_end, request_begins, one_request}
 use Rattle.machine.proofs.sound.Changes.{unheld_block, same_lookups}
-use Rattle.machine.proofs.sound.Lookups.{put_page_tells, removed_tells, change_page_tells, put_file_tells, page_at-same}
+use Rattle.machine.proofs.sound.Lookups.{put_page_tells, removed_tells, change_page_tells, put_file_tells}
 use Rattle.machine.proofs.sound.Lookups.{block_is, block_written}
 use Rattle.maps.proofs.Maps.{get_inserted, get_left}
 

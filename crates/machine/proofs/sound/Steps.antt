@@ -1,20 +1,19 @@
 -- Each step of the machine keeps a state sound, and so does a legal history.
 use Rattle.std.proofs.Common.{◌≡◌, ℕ, Bool, true, false, List, [], ◌∷◌, refl, ap, sym, subst, ◌∙◌, inl, inr}
-use Rattle.std.specs.Prelude.{◌&&◌, ◌||◌, Option, Some, None, is_some, option_map}
+use Rattle.std.specs.Prelude.{◌&&◌, ◌||◌, Option, Some, None, option_map}
 use Rattle.std.specs.Ordering.{nat_cmp}
-use Rattle.std.specs.FinMap as finmap
 use Rattle.std.specs.FinMap.{get-empty}
 use Rattle.pc_types.specs.Limits.{Sizes}
 use Rattle.pc_types.specs.Spots.{Spot, place_cmp}
 use Rattle.machine.specs.declared.event.Event.{Event}
 use Rattle.machine.specs.declared.event.Reply.{Reply}
-use Rattle.machine.specs.State.{State, File, Page, Request, Sync, file_at, handle_file, page_at, block_at, tags_of}
+use Rattle.machine.specs.State.{State, Page, Request, Sync, file_at, handle_file, page_at, block_at, tags_of}
 use Rattle.machine.specs.State.{in_range}
 use Rattle.machine.specs.Changes.{to_write, new_sync, sync_begun, is_left}
 use Rattle.maps.specs.Maps.{each_value}
 use Rattle.machine.specs.History as history
 use Rattle.machine.specs.Step.{Step}
-use Rattle.machine.specs.Sound.{Sound, IsSound, StepsStaySound, HistoriesAreSound}
+use Rattle.machine.specs.Sound.{Sound, StepsStaySound, HistoriesAreSound}
 use Rattle.machine.proofs.steps.Cases.{Cases, by_cases}
 use Rattle.machine.proofs.steps.Choices.{and_true}
 use Rattle.maps.proofs.Maps.{get-each_value}
