@@ -1,11 +1,10 @@
 -- Which page is written next, and what becomes of its tags. A sync first tags each DIRTY page with TOWRITE, so that
 -- callers who
 -- keep dirtying pages cannot prolong it (Linux: tag_pages_for_writeback and write_cache_pages).
-use Rattle.std.specs.Prelude.{◌≡◌, ℕ, ◌<◌, Bool, true, false, not, ◌&&◌, ◌||◌, nat_lt, if◌then◌else◌, Option, Some}
+use Rattle.std.specs.Prelude.{ℕ, ◌<◌, Bool, true, false, not, ◌&&◌, ◌||◌, nat_lt, if◌then◌else◌, Option, Some}
 use Rattle.std.specs.Prelude.{None, find, option_map, unwrap_or}
 use Rattle.std.specs.FinMap as map
 use Rattle.pc_types.specs.Tags.{TagSet}
-use Rattle.mapping.specs.declared.mapping.TheConstants.{MAX_PAGES}
 use Rattle.mapping.specs.Pages.{Mapped, Pages, found, within}
 use Rattle.writeback.specs.declared.picks.SyncStep.{SyncStep}
 use Rattle.writeback.specs.declared.picks.SyncStep.TheVariants.{Await, Held, Over, Start}
