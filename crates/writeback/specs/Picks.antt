@@ -1,6 +1,5 @@
 -- Which page is written next, and what becomes of its tags. A sync first tags each DIRTY page with TOWRITE, so that
--- callers who
--- keep dirtying pages cannot prolong it (Linux: tag_pages_for_writeback and write_cache_pages).
+-- callers who keep dirtying pages cannot prolong it (Linux: tag_pages_for_writeback and write_cache_pages).
 use Rattle.std.specs.Prelude.{ℕ, ◌<◌, Bool, true, false, not, ◌&&◌, ◌||◌, nat_lt, if◌then◌else◌, Option, Some}
 use Rattle.std.specs.Prelude.{None, find, option_map, unwrap_or}
 use Rattle.std.specs.FinMap as map
@@ -41,8 +40,7 @@ abbrev pub under_write : TagSet
 under_write = record { dirty = false; writeback = true; towrite = false }
 
 -- a page whose write ended: WRITEBACK is cleared, and DIRTY is set where the write failed. A DIRTY that was set
--- meanwhile
--- stays
+-- meanwhile stays
 abbrev pub after_write : Bool → Mapped → Mapped
 after_write failed page =
     record page { tags = record page.tags { dirty = page.tags.dirty || failed; writeback = false } }

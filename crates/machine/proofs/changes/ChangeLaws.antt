@@ -1,6 +1,5 @@
 -- What reads, writes, truncations and the begin of a sync do, page by page: each change of many pages as a record of
--- look-ups.
--- The change has the record.
+-- look-ups. The change has the record.
 use Rattle.std.proofs.Common.{◌≡◌, ℕ, zero, suc, ◌+◌, ◌/◌, ◌%◌, ◌<◌, ◌≤◌, Bool, true, false, cond, not, eqb, eqb-true}
 use Rattle.std.proofs.Common.{leb, ltb, List, [], ◌∷◌, length, get_or, refl, ap, sym, ◌∙◌, arith, max}
 use Rattle.std.specs.Prelude.{◌&&◌, ◌||◌, Option, Some, None, is_some, option_map, slice_set, nat_le, nat_lt, map}

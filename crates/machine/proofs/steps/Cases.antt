@@ -1,6 +1,5 @@
 -- Every step of the machine, one case each, with all that its tests and its reply give. A claim about event, reply and
--- new state
--- that holds in each case holds of every step. Each walk over the events uses this one.
+-- new state that holds in each case holds of every step. Each walk over the events uses this one.
 use Rattle.pc_types.specs.Kinds.{is_flush}
 use Rattle.std.proofs.Common.{◌≡◌, ℕ, ◌+◌, ◌<◌, ◌≤◌, true, false, cond, not, eqb, List, [], ◌∷◌, ◌++◌, length, refl, ap}
 use Rattle.std.proofs.Common.{sym, subst, ◌∙◌, arith, inl, inr}

@@ -1,6 +1,5 @@
 -- Closed states, by which the definitions are checked against worked examples: pages of 16 bytes, 48 frames, a dirty
--- limit of
--- 16, 64 blocks, and one file with handle 0 open on it.
+-- limit of 16, 64 blocks, and one file with handle 0 open on it.
 use Rattle.std.proofs.Common.{◌≡◌, ℕ, T, List, [], ◌∷◌, length, ap, subst, ◌∙◌}
 use Rattle.std.specs.Prelude.{Some, None, true, false}
 use Rattle.std.specs.Ordering.{nat_cmp}

@@ -1,6 +1,5 @@
--- How many files, handles, requests, syncs, frames and failures there are at most, and how long files are; and that the
--- handle of a
--- sync in progress is open.
+-- How many files, handles, requests, syncs, frames and failures there are at most, and how long files are; and that
+-- the handle of a sync in progress is open.
 use Rattle.std.proofs.Common.{List}
 use Rattle.maps.specs.Maps.{change_at}
 use Rattle.std.specs.Prelude.{count_by}
