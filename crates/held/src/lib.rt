@@ -9,4 +9,6 @@ mod end;
 pub mod log;
 pub mod state;
 mod steps;
+#[cfg(test)]
+mod tests;
 pub mod views;

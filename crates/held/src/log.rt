@@ -229,6 +229,7 @@ impl Seat {
         ensures grows { IsPrefix self.old.list self.new.list }
         ensures ok { OnOk result ((slip.now.name ≡ self.old.name) × (slip.now.place < length self.new.list)) }
         ensures err { IfErr result (λ e. (e ≡ Stranger) × ((slip.now.name ≢ self.old.name) ⊎ (length self.new.list ≤ slip.now.place))) }
+        ensures foreign { slip.now.name ≢ self.old.name → self.new ≡ self.old }
     {
         if slip.name != self.name {
             return Err(Refusal::Stranger);

@@ -9,7 +9,8 @@ ghost use Rattle.trail.specs.History.{IsAfter};
 ghost use Rattle.held.specs.Shown.{AreFresh, IsFresh};
 ghost use Rattle.held.specs.Views.{count_of};
 ghost use Rattle.cachecore.specs.declared.event.Event.TheVariants as event;
-ghost use Rattle.cachecore.specs.Replies.{EndGivesBack, end_of, fill_ended, flush_ended, sync_begun, sync_dropped, FlushGivesBack, FlushStep, GivesBack, IsFillJob, SyncAdvance, SyncGivesBack, bytes_read, fill_begun, flush_begun, sync_stepped, was_read, wrote};
+ghost use Rattle.blockdev.specs.Jobs.{IsJobFor};
+ghost use Rattle.cachecore.specs.Replies.{EndGivesBack, end_of, fill_ended, flush_ended, sync_begun, sync_dropped, FlushGivesBack, FlushStep, GivesBack, IsFillJob, OnFillJob, OnFlushJob, OnSyncJob, SyncAdvance, SyncGivesBack, bytes_read, fill_begun, flush_begun, sync_stepped, was_read, wrote};
 ghost use Rattle.cachecore.specs.Step.{Step};
 ghost use Rattle.held.specs.Calls.{event_of, reply_of};
 ghost use Rattle.held.specs.Entered.{Made, Untouched, has_room_for};
@@ -199,6 +200,7 @@ impl<T: Trail> Held<T> {
         ensures err { IfErr result (λ e. (e.refusal ≡ TrailFull) × (e.buffer ≡ buffer) × Untouched self.old self.new seat.old seat.new) }
         ensures made { IfOk result (λ r. Made (event.FillBegin handle index) (fill_begun r.0) self.old self.new seat.old seat.new r.1) }
         ensures job { IfOk result (λ r. IsFillJob self.new.core.state r.0) }
+        ensures fits { IfOk result (λ r. OnFillJob r.0 (IsJobFor self.old.core.state.name self.old.core.state.sizes.blocks self.old.core.state.sizes.page)) }
         ensures back { IfOk result (λ r. GivesBack buffer r.0) }
     {
         let Held {
@@ -232,6 +234,7 @@ impl<T: Trail> Held<T> {
         ensures err { IfErr result (λ e. (e.refusal ≡ TrailFull) × (e.buffer ≡ buffer) × Untouched self.old self.new seat.old seat.new) }
         ensures made { IfOk result (λ r. Made (event.FlushBegin file) (flush_begun r.0) self.old self.new seat.old seat.new r.1) }
         ensures job { IfOk result (λ r. FlushStep self.old.core.state file.0 r.0 self.new.core.state) }
+        ensures fits { IfOk result (λ r. OnFlushJob r.0 (IsJobFor self.old.core.state.name self.old.core.state.sizes.blocks self.old.core.state.sizes.page)) }
         ensures back { IfOk result (λ r. FlushGivesBack buffer r.0) }
     {
         let Held {
@@ -265,6 +268,7 @@ impl<T: Trail> Held<T> {
         ensures err { IfErr result (λ e. (e.refusal ≡ TrailFull) × (e.buffer ≡ buffer) × Untouched self.old self.new seat.old seat.new) }
         ensures made { IfOk result (λ r. Made (event.SyncStep sync) (sync_stepped r.0) self.old self.new seat.old seat.new r.1) }
         ensures job { IfOk result (λ r. SyncAdvance self.old.core.state sync.0 r.0 self.new.core.state) }
+        ensures fits { IfOk result (λ r. OnSyncJob r.0 (IsJobFor self.old.core.state.name self.old.core.state.sizes.blocks self.old.core.state.sizes.page)) }
         ensures back { IfOk result (λ r. SyncGivesBack buffer r.0) }
     {
         let Held {
