@@ -1,10 +1,11 @@
 //! Worked calls on the locked state of a cache of name 7, with 16-byte pages, 48 frames, a dirty limit of 16 and 64 blocks. The rows
 //! with a device run over a trail that keeps nothing, by `over_no_trail`, since the check is slow where a cache is dropped.
 
-ghost use Rattle.std.specs.Prelude.{◌≡◌, IfSome, length};
+ghost use Rattle.std.specs.Prelude.{◌≡◌, IfOk, IfSome, All, length};
+ghost use Rattle.held.specs.Shown.{AreFresh};
 
 use crate::call::{Answer, Call};
-use crate::log::{Seat, Slip};
+use crate::log::{Seat, Slip, confirm};
 use crate::state::Held;
 use blockdev::{BlockDevice, Buffer, FaultEffect, Finished, Job, ScriptDevice, perform};
 use cachecore::{CacheCore, Ended, FillBegun, FlushBegun, ReadAnswer, SyncStepped, WriteAnswer};
@@ -13,7 +14,7 @@ use pc_types::{ErrCode, FileId, Geometry, HandleId, PageIndex, Refusal, SyncId};
 use std::alloc::Global;
 use std::process::Abort;
 use std::test::*;
-use trail::{NoTrail, Trail};
+use trail::{FullTrail, NoTrail, Trail};
 
 const FILE: FileId = FileId(0);
 
@@ -56,6 +57,111 @@ fn reads<T: Trail>(
     assert!(rt; answer == Ok(ReadAnswer::Bytes(1)));
     assert!(rt; out == [0xaa]);
     Ok(slip)
+}
+
+// A read of no bytes needs no room for any. The size needs an entry.
+fn meets_a_full_trail(
+    rt: &impl Abort,
+    held: &mut Held<FullTrail>,
+    seat: &mut Seat,
+) -> Result<(Slip, Slip), Refusal>
+    requires { seat.old.table ≡ held.old.log.table }
+    ensures { (held.new.log.table ≡ held.old.log.table) × (seat.new.table ≡ seat.old.table) }
+{
+    let first = opens(rt, held, seat)?;
+    writes(rt, held, seat)?;
+    assert!(rt; reads(rt, held, seat, HANDLE).err() == Some(Refusal::TrailFull));
+    let (answer, last) = held.read(seat, HANDLE, 0, &mut [])?;
+    assert!(rt; answer == Ok(ReadAnswer::Bytes(0)));
+    let full = held.act(seat, Call::Size(HANDLE));
+    assert!(rt; matches!(full, Err(Refusal::TrailFull)));
+    Ok((first, last))
+}
+
+#[test]
+fn a_full_trail_refuses_and_changes_nothing(rt: HostRuntime) -> Result<(), Fail> {
+    let alloc = rt.alloc();
+    let geometry = Geometry::new(16, 48, 16, 64)?;
+    let trail = FullTrail::new(alloc, 4, 1)?;
+    let (mut held, _board, seats, mut own) = Held::new(alloc, &geometry, 7, trail, 1)?;
+    let (first, last) = meets_a_full_trail(&rt, &mut held, &mut own)?;
+    let Ok((trail, _core)) = held.close(seats, own) else {
+        return Err(Fail::new("all seats came back"));
+    };
+    assert!(rt; trail.len() == 4);
+    assert!(rt; confirm(&trail, first) == Ok(0));
+    assert!(rt; confirm(&trail, last) == Ok(3));
+    Ok(())
+}
+
+/// The seats 0 and 1 of a new cache.
+fn two(held: &Held<FullTrail>, mut seats: Vec<Seat>) -> Option<(Seat, Seat)>
+    requires { AreFresh held.now.log.table held.now.log.name seats.items }
+    ensures { IfSome result (λ r. (r.0.table ≡ held.now.log.table) × (r.1.table ≡ held.now.log.table)) }
+{
+    let second = seats.pop()?;
+    let first = seats.pop()?;
+    Some((first, second))
+}
+
+/// Closes the cache, first without the second seat, then with both.
+fn closes(
+    rt: &impl Abort,
+    alloc: Global,
+    held: Held<FullTrail>,
+    first: Seat,
+    second: Seat,
+    own: Seat,
+) -> Result<FullTrail, Fail>
+    requires seats { (first.table ≡ held.log.table) × (second.table ≡ held.log.table) }
+    requires own { own.table ≡ held.log.table }
+{
+    let mut seats = Vec::with_capacity(alloc, 2)?;
+    seats.push_reserved(first);
+    let Err((refusal, held, mut seats, own)) = held.close(seats, own) else {
+        return Err(Fail::new("a seat is missing"));
+    };
+    assert!(rt; refusal == Refusal::Stranger);
+    seats.push(second)?;
+    match held.close(seats, own) {
+        Ok((trail, _core)) => Ok(trail),
+        Err(_) => Err(Fail::new("all seats came back")),
+    }
+}
+
+// The second seat reads what it was told of, and its entry comes after.
+fn sees(
+    rt: &impl Abort,
+    held: &mut Held<FullTrail>,
+    first: &mut Seat,
+    second: &mut Seat,
+) -> Result<(Slip, Slip), Refusal>
+    requires { (first.old.table ≡ held.old.log.table) × (second.old.table ≡ held.old.log.table) }
+    ensures held { held.new.log.table ≡ held.old.log.table }
+    ensures seats { (first.new.table ≡ first.old.table) × (second.new.table ≡ second.old.table) }
+{
+    opens(rt, held, first)?;
+    let (handle, _) = held.act(second, Call::Open(FILE))?;
+    assert!(rt; matches!(handle, Answer::Handle(HandleId(1))));
+    let wrote = writes(rt, held, first)?;
+    second.see(&wrote)?;
+    let read = reads(rt, held, second, HandleId(1))?;
+    Ok((wrote, read))
+}
+
+#[test]
+fn a_seat_reads_what_it_was_told_of(rt: HostRuntime) -> Result<(), Fail> {
+    let alloc = rt.alloc();
+    let geometry = Geometry::new(16, 48, 16, 64)?;
+    let trail = FullTrail::new(alloc, 8, 8)?;
+    let (mut held, _board, seats, own) = Held::new(alloc, &geometry, 7, trail, 2)?;
+    let (mut first, mut second) = two(&held, seats).ok_or("two seats")?;
+    let (wrote, read) = sees(&rt, &mut held, &mut first, &mut second)?;
+    let trail = closes(&rt, alloc, held, first, second, own)?;
+    let wrote = confirm(&trail, wrote)?;
+    let read = confirm(&trail, read)?;
+    assert!(rt; wrote < read);
+    Ok(())
 }
 
 /// Makes the device call of a job, if it is one for this device.
