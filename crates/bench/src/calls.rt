@@ -67,6 +67,38 @@ impl Call for FindMarked {
     }
 }
 
+/// Walks over all entries with a cursor, and answers the sum of their values.
+pub struct Walk;
+
+impl Call for Walk {
+    type On = XArray;
+
+    #[inline(always)]
+    fn make(array: &mut XArray, _index: u64) -> Option<u64> {
+        let mut sum = 0u64;
+        for found in array.entries(0, u64::MAX) {
+            sum = sum.wrapping_add(found.value);
+        }
+        Some(sum)
+    }
+}
+
+/// Walks over the entries with the mark with a cursor, and answers the sum of their values.
+pub struct WalkMarked;
+
+impl Call for WalkMarked {
+    type On = XArray;
+
+    #[inline(always)]
+    fn make(array: &mut XArray, _index: u64) -> Option<u64> {
+        let mut sum = 0u64;
+        for found in array.entries_marked(0, u64::MAX, Mark::M0) {
+            sum = sum.wrapping_add(found.value);
+        }
+        Some(sum)
+    }
+}
+
 pub struct SetMark;
 
 impl Call for SetMark {

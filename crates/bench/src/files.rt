@@ -6,7 +6,7 @@ ghost use Rattle.bench.specs.declared.files.TheConstants.{FILE_SIZE, PAGE};
 
 use blockdev::MemDevice;
 use filesvc::{Handle, Solo};
-use pc_types::{Geometry, Refusal};
+use pc_types::{Geometry, PageIndex, Refusal};
 use std::alloc::{AllocError, Global};
 use std::marker::Model;
 
@@ -27,6 +27,12 @@ pub const CALLS: u64 = 100_000;
 
 /// How many pages a timed sync writes.
 pub const SYNCED: u64 = 1_000;
+
+/// How many of as many dirty pages a timed sync of a range writes.
+pub const SYNCED_OF_RANGE: u64 = 10;
+
+/// The first page of that range, amid the dirty ones.
+const RANGE_FIRST: u64 = SYNCED / 2;
 
 /// What each byte of the file is.
 pub const FILL: u8 = 7;
@@ -72,6 +78,10 @@ impl OpenFile {
 
     fn fsync(&mut self) -> Result<(), Refusal> {
         self.solo.fsync(&mut self.handle)
+    }
+
+    fn fsync_range(&mut self, first: PageIndex, last: PageIndex) -> Result<(), Refusal> {
+        self.solo.fsync_range(&mut self.handle, first, last)
     }
 }
 
@@ -155,6 +165,11 @@ impl Cached {
     fn sync(&mut self) -> Result<(), Refusal> {
         self.file.fsync()
     }
+
+    fn sync_some(&mut self) -> Result<(), Refusal> {
+        let last = RANGE_FIRST + SYNCED_OF_RANGE - 1;
+        self.file.fsync_range(PageIndex(RANGE_FIRST), PageIndex(last))
+    }
 }
 
 #[derive(Clone, Copy)]
@@ -168,10 +183,11 @@ pub enum FileRow {
     WritePage,
     CopyInPage,
     Sync,
+    SyncRange,
 }
 
 impl FileRow {
-    pub const ALL: [FileRow; 9] = [
+    pub const ALL: [FileRow; 10] = [
         FileRow::ReadSmall,
         FileRow::CopySmall,
         FileRow::ReadPage,
@@ -181,6 +197,7 @@ impl FileRow {
         FileRow::WritePage,
         FileRow::CopyInPage,
         FileRow::Sync,
+        FileRow::SyncRange,
     ];
 
     pub fn label(self) -> &'static str {
@@ -194,6 +211,7 @@ impl FileRow {
             FileRow::WritePage => "pwrite of 4,096 bytes, cached, random",
             FileRow::CopyInPage => "copy in of 4,096 bytes, random",
             FileRow::Sync => "fsync of 1,000 dirty pages, per page",
+            FileRow::SyncRange => "fsync of a range of 10 of 1,000 dirty pages, per page",
         }
     }
 
@@ -203,6 +221,7 @@ impl FileRow {
     {
         match self {
             FileRow::Sync => SYNCED,
+            FileRow::SyncRange => SYNCED_OF_RANGE,
             _ => CALLS,
         }
     }
@@ -227,7 +246,7 @@ impl FileRow {
 
     /// Makes the file what the row starts from.
     pub fn prepare(self, cached: &mut Cached) -> Result<(), Refusal> {
-        if let FileRow::Sync = self {
+        if let FileRow::Sync | FileRow::SyncRange = self {
             cached.sync()?;
             for page in 0..SYNCED {
                 cached.write(page * PAGE, &[FILL; SMALL as usize])?;
@@ -250,6 +269,10 @@ impl FileRow {
             FileRow::Sync => {
                 cached.sync()?;
                 SYNCED
+            }
+            FileRow::SyncRange => {
+                cached.sync_some()?;
+                SYNCED_OF_RANGE
             }
         })
     }

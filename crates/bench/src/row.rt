@@ -2,7 +2,7 @@
 
 use crate::calls::{
     ClearMark, Erase, Find, FindMarked, GetMark, InsertRange, Load, Retag, SetMark, SplitRange,
-    Store, StoreOver,
+    Store, StoreOver, Walk, WalkMarked,
 };
 use crate::form::{Form, Inlined, Timed};
 use crate::loops::{PARTED, RANGES, SPARSE, each, each_from, each_of};
@@ -17,9 +17,11 @@ pub enum Row {
     LoadSequential,
     LoadRandom,
     FindNext,
+    Walk,
     SetMarkFirst,
     SetMarkAgain,
     FindMarked,
+    WalkMarked,
     Retag,
     ClearMark,
     GetMark,
@@ -44,15 +46,17 @@ enum Content {
 }
 
 impl Row {
-    pub const ALL: [Row; 15] = [
+    pub const ALL: [Row; 17] = [
         Row::StoreNew,
         Row::StoreOver,
         Row::LoadSequential,
         Row::LoadRandom,
         Row::FindNext,
+        Row::Walk,
         Row::SetMarkFirst,
         Row::SetMarkAgain,
         Row::FindMarked,
+        Row::WalkMarked,
         Row::Retag,
         Row::ClearMark,
         Row::GetMark,
@@ -66,7 +70,7 @@ impl Row {
         match self {
             Row::StoreNew | Row::InsertOrder => Content::Nothing,
             Row::SetMarkAgain | Row::ClearMark | Row::GetMark => Content::Marked,
-            Row::FindMarked | Row::Retag => Content::Sparse,
+            Row::FindMarked | Row::WalkMarked | Row::Retag => Content::Sparse,
             Row::Split => Content::Ranges,
             _ => Content::Dense,
         }
@@ -83,9 +87,11 @@ impl Timed for Row {
             Row::LoadSequential => "load, sequential",
             Row::LoadRandom => "load, random",
             Row::FindNext => "find next present, each call from the root",
+            Row::Walk => "walk of all present with a cursor",
             Row::SetMarkFirst => "set_mark, dense, first time",
             Row::SetMarkAgain => "set_mark, dense, already set",
             Row::FindMarked => "find_marked, 1% marked, each call from the root, per found",
+            Row::WalkMarked => "find_marked of 1% with a cursor, per found",
             Row::Retag => "retag of the 1%",
             Row::ClearMark => "clear_mark, dense",
             Row::GetMark => "get_mark, random",
@@ -98,7 +104,7 @@ impl Timed for Row {
 
     fn count(self) -> u64 {
         match self {
-            Row::FindMarked | Row::Retag => ENTRIES / SPARSE,
+            Row::FindMarked | Row::WalkMarked | Row::Retag => ENTRIES / SPARSE,
             Row::InsertOrder => RANGES,
             Row::Split => PARTED,
             _ => ENTRIES,
@@ -134,8 +140,10 @@ impl Timed for Row {
             Row::LoadSequential => each::<F, Load>(array, ENTRIES),
             Row::LoadRandom => each_of::<F, Load>(array, order),
             Row::FindNext => each_from::<F, Find>(array),
+            Row::Walk => F::call::<Walk>(array, 0),
             Row::SetMarkFirst | Row::SetMarkAgain => each::<F, SetMark>(array, ENTRIES),
             Row::FindMarked => each_from::<F, FindMarked>(array),
+            Row::WalkMarked => F::call::<WalkMarked>(array, 0),
             Row::Retag => F::call::<Retag>(array, 0),
             Row::ClearMark => each::<F, ClearMark>(array, ENTRIES),
             Row::GetMark => each_of::<F, GetMark>(array, order),

@@ -1,6 +1,6 @@
 //! What the rows compute: a row that skips its work would be fast.
 
-use crate::files::{CALLS, Cached, FILL, FileRow, PAGE, SMALL, SYNCED};
+use crate::files::{CALLS, Cached, FILL, FileRow, PAGE, SMALL, SYNCED, SYNCED_OF_RANGE};
 use crate::form::{Form, Inlined, Outlined, Timed};
 use crate::ids::{HOLES, IdRow};
 use crate::order::{ENTRIES, random_order};
@@ -43,9 +43,10 @@ fn rows_do_their_work(rt: HostRuntime) -> Result<(), Fail> {
             | Row::LoadSequential
             | Row::LoadRandom
             | Row::FindNext
+            | Row::Walk
             | Row::EraseRandom
             | Row::EraseSequential => values,
-            Row::FindMarked => 4_999_510_000,
+            Row::FindMarked | Row::WalkMarked => 4_999_510_000,
             Row::Retag => 10_000,
             Row::ClearMark => 0,
             Row::InsertOrder => 100_000,
@@ -110,6 +111,7 @@ fn check_files(
             FileRow::WriteSmall | FileRow::CopyInSmall => CALLS * SMALL,
             FileRow::WritePage | FileRow::CopyInPage => CALLS * PAGE,
             FileRow::Sync => SYNCED,
+            FileRow::SyncRange => SYNCED_OF_RANGE,
         };
         let label = row.label();
         let offsets = row.offsets(alloc, order)?;

@@ -1,12 +1,12 @@
 //! Why the bench ends before its last row.
 
-use pc_types::Refusal;
+use pc_types::{ErrCode, Refusal};
 use std::alloc::AllocError;
 use std::io;
 
 #[derive(Clone, Copy, PartialEq, Eq, Debug, thiserror::Error)]
 pub enum Fault {
-    #[error("the clock or the output failed")]
+    #[error("the clock, the output or the file failed")]
     System,
     #[error("out of memory")]
     Memory,
@@ -34,9 +34,19 @@ impl From<AllocError> for Fault {
     }
 }
 
-/// The calls that are timed are refused nothing but memory.
+/// The calls that are timed are refused nothing but memory, and what the system refuses.
 impl From<Refusal> for Fault {
-    fn from(_refusal: Refusal) -> Fault {
-        Fault::Memory
+    fn from(refusal: Refusal) -> Fault {
+        match refusal {
+            Refusal::Io(_) => Fault::System,
+            _ => Fault::Memory,
+        }
+    }
+}
+
+/// A call of the device over a file failed.
+impl From<ErrCode> for Fault {
+    fn from(_code: ErrCode) -> Fault {
+        Fault::System
     }
 }

@@ -1,10 +1,15 @@
 #![tactic(auto)]
-//! Times what several threads share: `bench_shared time` prints a row a call, as `12.34 ns  append of a read of 64 bytes`.
+//! Times what several threads share: `bench_shared time [PATH]` prints a row a call, as `12.34 ns  append of a read of 64 bytes`.
+//! The rows of a device stand over a file that is made at PATH, and are left out without one.
 //!
-//! `trails` has the rows of the trail, `clock` the best time of several rounds, and `report` what is printed.
+//! `trails` has the rows of the trail, `holds` those of the locked state, `jobs` those of the ring, `blocks` those of a device over a file, `clock` the best
+//! time of several rounds, and `report` what is printed.
 
+mod blocks;
 mod clock;
 mod fault;
+mod holds;
+mod jobs;
 mod report;
 #[cfg(test)]
 mod tests;
@@ -15,29 +20,40 @@ use report::print_rows;
 use std::env;
 use std::io::Write;
 use std::process::ExitCode;
+use std::sync::Wait;
+use std::thread::Threads;
 
 fn main(rt: HostRuntime) -> ExitCode {
-    ExitCode::from(run_program(&rt))
+    ExitCode::from(run_program(&rt, &rt))
 }
 
 /// Does what the arguments ask for, and gives the status.
-fn run_program(rt: &HostRuntime) -> u8 {
-    let is_time = match env::args(rt) {
-        Ok(arguments) => arguments
-            .skip(1)
-            .map(|word| word.as_str() == "time")
-            .eq([true]),
-        Err(_) => false,
-    };
-    if !is_time {
-        let _ = writeln!(rt.stderr(), "bench_shared: usage: bench_shared time");
+fn run_program<W: Wait + Threads + Sync>(rt: &HostRuntime, threads: &W) -> u8 {
+    let Some(path) = path_asked(rt) else {
+        let _ = writeln!(rt.stderr(), "bench_shared: usage: bench_shared time [PATH]");
         return 2;
-    }
-    match print_rows(rt) {
+    };
+    let done = match &path {
+        Some(path) => print_rows(rt, threads, Some(path.as_str())),
+        None => print_rows(rt, threads, None),
+    };
+    match done {
         Ok(()) => 0,
         Err(fault) => {
             let _ = writeln!(rt.stderr(), "bench_shared: {fault}");
             fault.status()
         }
     }
+}
+
+/// The path, or none, where the rows are asked for.
+fn path_asked(rt: &HostRuntime) -> Option<Option<String>> {
+    let mut words = env::args(rt).ok()?;
+    let _ = words.next();
+    let first = words.next()?;
+    let path = words.next();
+    if first.as_str() == "time" && words.next().is_none() {
+        return Some(path);
+    }
+    None
 }

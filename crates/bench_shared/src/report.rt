@@ -2,12 +2,27 @@
 
 ghost use Rattle.std.specs.Prelude.{◌≡◌, ◌*◌, ◌/◌, ◌^◌, ◌<◌};
 
-use crate::clock::{Timed, time_trail_row};
+use crate::blocks::{BLOCKS, Disk, DiskRow};
+use crate::clock::{ROUNDS, Timed, time_disk_row, time_trail_row};
 use crate::fault::Fault;
+use crate::holds::READS;
+use crate::jobs::TURNS;
 use crate::trails::{Recorded, TrailRow};
+use crate::{holds, jobs};
+use std::sync::Wait;
+use std::thread::Threads;
 
-pub fn print_rows(rt: &HostRuntime) -> Result<(), Fault> {
-    let sum = print_trails(rt)?;
+/// Prints all rows. Those of a device stand over a file that is made at the path, and are left out if there is none.
+pub fn print_rows<W: Wait + Threads + Sync>(
+    rt: &HostRuntime,
+    threads: &W,
+    path: Option<&str>,
+) -> Result<(), Fault> {
+    let mut sum = print_trails(rt)?.wrapping_add(print_holds(rt)?);
+    sum = sum.wrapping_add(print_jobs(rt, threads)?);
+    if let Some(path) = path {
+        sum = sum.wrapping_add(print_blocks(rt, path)?);
+    }
     // The sum of all answers: what was timed has to be computed.
     eprintln!(rt; "bench_shared: sum of the answers {sum}")?;
     Ok(())
@@ -23,6 +38,43 @@ fn print_trails(rt: &HostRuntime) -> Result<u64, Fault> {
         sum = sum.wrapping_add(timed.sum);
     }
     Ok(sum)
+}
+
+fn print_jobs<W: Wait + Threads + Sync>(rt: &HostRuntime, threads: &W) -> Result<u64, Fault> {
+    let (mut alone, mut handed) = (Timed::NONE, Timed::NONE);
+    for _ in 0..ROUNDS {
+        jobs::time_alone(rt, threads, &mut alone)?;
+        jobs::time_between_two(rt, threads, &mut handed)?;
+    }
+    print_row(rt, alone, TURNS, "push and pop of a job, one thread")?;
+    // Each of the two threads hands on so many.
+    print_row(rt, handed, 2 * TURNS, "a job handed to another thread")?;
+    Ok(alone.sum.wrapping_add(handed.sum))
+}
+
+fn print_blocks(rt: &HostRuntime, path: &str) -> Result<u64, Fault> {
+    let mut disk = Disk::new(rt, path)?;
+    let mut sum = 0u64;
+    for row in DiskRow::ALL {
+        let timed = time_disk_row(rt, &mut disk, row)?;
+        print_row(rt, timed, u64::from(BLOCKS), row.label())?;
+        sum = sum.wrapping_add(timed.sum);
+    }
+    Ok(sum)
+}
+
+/// Prints a read by the core alone, and as a hold.
+fn print_holds(rt: &HostRuntime) -> Result<u64, Fault> {
+    let core = holds::time_core(rt, rt.alloc())?;
+    print_row(
+        rt,
+        core,
+        READS,
+        "read of 64 bytes, cached, by the core alone",
+    )?;
+    let held = holds::time_held(rt, rt.alloc())?;
+    print_row(rt, held, READS, "the same read as a hold, without a trail")?;
+    Ok(core.sum.wrapping_add(held.sum))
 }
 
 /// Prints `12.34 ns  LABEL`.

@@ -2,7 +2,7 @@
 
 ghost use Rattle.std.specs.Prelude.{◌<◌};
 
-use cachecore::{Event, Reply};
+use machine::{Event, Reply};
 use pc_types::{Bytes, FileId, HandleId, Refusal};
 use std::alloc::Global;
 use trail::{Entry, FullTrail, Reserve, Trail, replay_plain};

@@ -1,5 +1,7 @@
 -- What the tables of a cache keep, and the machine's state after each change of them.
-use Rattle.std.proofs.Common.{◌≡◌, ℕ, ◌+◌, ◌-◌, ◌/◌, ◌<◌, ◌≤◌, zero, suc, max, Bool, true, false, cond, not, ◌&&◌, eqb, eqb-true, List, [], ◌∷◌, ◌++◌, length, get_or, refl, ap, sym, subst, ◌∙◌, arith, length-append, get_or-set_same, get_or-set_other, map}
+use Rattle.std.proofs.Common.{◌≡◌, ℕ, ◌+◌, ◌-◌, ◌/◌, ◌<◌, ◌≤◌, zero, suc, max, Bool, true, false, cond, not, ◌&&◌, eqb}
+use Rattle.std.proofs.Common.{eqb-true, List, [], ◌∷◌, ◌++◌, length, get_or, refl, ap, sym, subst, ◌∙◌, arith}
+use Rattle.std.proofs.Common.{length-append, get_or-set_same, get_or-set_other, map}
 use Rattle.std.specs.Prelude.{Option, Some, None, is_some, option_map, filter, nat_lt, slice_set, count_by, ◌||◌}
 use Rattle.std.specs.FinSet as set
 use Rattle.std.specs.List.{list_any, range_with_len, zip}
@@ -14,60 +16,46 @@ use Rattle.std.proofs.lemmas.List.Sums.{sum_by-set, sum_by_push, sum_by-le-sum_b
 use Rattle.pc_types.specs.Limits.{Sizes}
 use Rattle.pc_types.specs.declared.limits.TheConstants.{MAX_FILES, MAX_FILE_SIZE, MAX_FRAMES}
 use Rattle.pc_types.specs.declared.refusal.Refusal.TheVariants.{DirtyLimit, NoFrame, NoSpace}
-use Rattle.cachecore.specs.declared.event.Reply.{Reply}
-use Rattle.cachecore.specs.State.{State, Page, File, Request, Sync, no_file, file_at, is_cached, is_dirty, is_filling, tagged, dirty_in, dirty_total, file_of, fills, filling_total, free_frames, free_blocks, without_block, touched, touched_count}
+use Rattle.machine.specs.declared.event.Reply.{Reply}
+use Rattle.machine.specs.State.{State, Page, File, Request, Sync, no_file, file_at, is_cached, is_filling, tags_of}
+use Rattle.machine.specs.State.{tags_at, dirty_in, dirty_total, handle_file, fills, filling_total, free_frames}
+use Rattle.machine.specs.State.{free_blocks, without_block, touched, touched_count}
 use Rattle.pc_types.specs.Kinds.{is_fill}
 use Rattle.pc_types.specs.Spots.{Spot, place_cmp}
 use Rattle.blockmap.specs.Blocks as device
 use Rattle.blockmap.specs.Blocks.{Blocks}
-use Rattle.cachecore.specs.Changes.{blank, overwrite, written, written_pages, placed, put_file, put_page}
-use Rattle.cachecore.specs.Tests.{covers, must_fill, room_tests, refuse, write_tests}
-use Rattle.cachecore.specs.Pairs.{AreSized}
+use Rattle.pagestore.specs.Store.{blank, Store, NoneAwaited, is_awaited, stored_at, with_pages, with_lists}
+use Rattle.maps.specs.Maps.{overwrite}
+use Rattle.machine.specs.Changes.{written, written_pages, placed, put_file, put_page}
+use Rattle.machine.specs.Tests.{covers, must_fill, room_tests, refuse, write_tests}
+use Rattle.pagestore.specs.Ranges.{AreSized}
 use Rattle.cachecore.specs.Tables.{IsCache, IsCore, state_of}
-use Rattle.cachecore.specs.PageLists.{PageLists, no_lists}
-use Rattle.cachecore.specs.Store.{Store, NoneAwaited, is_awaited, stored_at, with_pages, with_lists}
-use Rattle.cachecore.specs.Flying.{request_of, requests_of}
-use Rattle.writeback.specs.Flights.{Flight, Flights}
-use Rattle.writeback.specs.Syncs.{SyncState}
+use Rattle.machine.specs.PageLists.{PageLists, no_lists}
+use Rattle.writeback.specs.Flights.{Flights}
 use Rattle.cachecore.specs.Holding.{Holds}
-use Rattle.cachecore.specs.Sound.{Sound}
+use Rattle.machine.specs.Sound.{Sound}
 use Rattle.cachecore.specs.Placing.{is_bare, placed_on, with_placed}
-use Rattle.cachecore.proofs.MapLaws.{get-insert_nat, get-remove_nat, no_entries, same_nat_map}
+use Rattle.maps.proofs.Maps.{get-insert_nat, get-remove_nat}
+use Rattle.maps.proofs.MapLaws.{no_entries}
 use Rattle.cachecore.proofs.Holdings.{free_blocks-same, Holds-none}
-use Rattle.cachecore.proofs.Runs.{none_absent}
-use Rattle.cachecore.proofs.FlightLaws.{get-requests}
-use Rattle.cachecore.proofs.Choices.{MayWrite, may_write, or_false}
-use Rattle.cachecore.proofs.SoundFacts.{sound_first}
-use Rattle.cachecore.proofs.SoundPages.{makes_zeros_sound}
-use Rattle.cachecore.proofs.SoundSteps.{cases}
-use Rattle.cachecore.proofs.SyncLaws.{none_syncs, syncs-none}
-use Rattle.cachecore.proofs.WriteLemmas.{WriteParts, parts-file, parts-pages, parts-size, parts_sized, len-written_pages, sized_insert}
+use Rattle.pagestore.proofs.Runs.{none_absent}
+use Rattle.machine.proofs.steps.Passed.{MayWrite, may_write}
+use Rattle.machine.proofs.steps.Choices.{neither}
+use Rattle.cachecore.proofs.StepLemmas.{create_step}
+use Rattle.machine.proofs.sound.Pages.{makes_zeros_sound}
+use Rattle.cachecore.proofs.SyncLaws.{none_syncs}
+use Rattle.machine.proofs.sound.Steps.{histories_are_sound, steps_stay_sound}
+use Rattle.machine.proofs.sound.Writes.{written_sound}
+use Rattle.machine.specs.declared.event.Event.TheVariants as event
+use Rattle.machine.specs.declared.event.Reply.TheVariants as reply
+use Rattle.cachecore.proofs.WriteLemmas.{WriteParts, parts-file, parts-pages, parts-size, parts_sized}
+use Rattle.cachecore.proofs.WriteLemmas.{len-written_pages, sized_insert}
 
 pub is_less : (m n : ℕ) → m < n → nat_lt m n ≡ true
 is_less m n h = grind (arith, nat_tests)
 
 pub is_not_less : (m n : ℕ) → n ≤ m → nat_lt m n ≡ false
 is_not_less m n h = grind (arith, nat_tests)
-
--- which of the tests gave the refusal
-
-pub first_chosen : (x : Bool) (a r : Option Reply) → x ≡ true → cond x a r ≡ a
-first_chosen true a r e = refl
-first_chosen false a r e = absurd (false≢true e)
-
-pub second_chosen : (x y : Bool) (a b r : Option Reply) → x ≡ false → y ≡ true → cond x a (cond y b r) ≡ b
-second_chosen true y a b r e f = absurd (false≢true (sym e))
-second_chosen false y a b r e f = first_chosen y b r f
-
-pub third_chosen : (x y z : Bool) (a b c r : Option Reply) → x ≡ false → y ≡ false → z ≡ true → cond x a (cond y b (cond z c r)) ≡ c
-third_chosen true y z a b c r e f g = absurd (false≢true (sym e))
-third_chosen false y z a b c r e f g = second_chosen y z b c r f g
-
-pub none_chosen : (x y z : Bool) (a b c r : Option Reply) → x ≡ false → y ≡ false → z ≡ false → cond x a (cond y b (cond z c r)) ≡ r
-none_chosen true y z a b c r e f g = absurd (false≢true (sym e))
-none_chosen false true z a b c r e f g = absurd (false≢true (sym f))
-none_chosen false false true a b c r e f g = absurd (false≢true (sym g))
-none_chosen false false false a b c r e f g = refl
 
 -- ---- at the start
 
@@ -77,18 +65,15 @@ sized_none P = record { each = λ q e. absurd (false≢true (sym (ap is_some (ge
 some_none : {A : Type 0} (f : A) (o : Option A) → o ≡ None → o ≡ Some f → ⊥
 some_none f o a b = cc
 
-requests-none : requests_of finmap.empty ≡ finmap.empty
-requests-none = same_nat_map (requests_of finmap.empty) finmap.empty (λ t. get-requests finmap.empty t ∙ none (finmap.get (finmap.empty {X = Flight} {R = nat_cmp}) t) (get-empty nat_cmp t) ∙ sym (get-empty nat_cmp t))
-  where
-    none : (o : Option Flight) → o ≡ None → option_map request_of o ≡ None
-    none o e = ap (option_map request_of) e
-
 -- without requests no page is filling
 none_filling : (s : State) (f p : ℕ) → s.requests ≡ finmap.empty → is_filling s f p ≡ false
-none_filling s f p e = ap (λ (es : List (ℕ × Request)). list_any (fills f p) (map (λ (e : ℕ × Request). e.1) es)) (ap finmap.entries e ∙ no_entries nat_cmp)
+none_filling s f p e = ap (λ (es : List (ℕ × Request)). list_any (fills f p) (map (λ (e : ℕ × Request). e.1) es))
+    (ap finmap.entries e ∙ no_entries nat_cmp)
 
 none_in_flight : (s : State) → s.requests ≡ finmap.empty → filling_total s ≡ 0
-none_in_flight s e = ap (λ (es : List (ℕ × Request)). count_by (λ (r : Request). is_fill r.kind && not r.dropped) (map (λ (e : ℕ × Request). e.1) es)) (ap finmap.entries e ∙ no_entries nat_cmp)
+none_in_flight s e =
+    ap (λ (es : List (ℕ × Request)). count_by (λ (r : Request). is_fill r.kind && not r.dropped)
+    (map (λ (e : ℕ × Request). e.1) es)) (ap finmap.entries e ∙ no_entries nat_cmp)
 
 abbrev pub first_blocks : Sizes → Blocks
 first_blocks sizes = record { count = sizes.blocks; spots = finmap.empty; held = finmap.empty }
@@ -97,9 +82,11 @@ abbrev pub first_store : Sizes → Store
 first_store sizes = record { page = sizes.page; files = []; filling = set.empty; free = sizes.frames; lists = no_lists }
 
 abbrev pub first_state : Sizes → ℕ → State
-first_state sizes name = state_of sizes name [] finmap.empty (first_blocks sizes) (record { next = 0; requests = finmap.empty }) finmap.empty
+first_state sizes name = state_of sizes name [] finmap.empty (first_blocks sizes)
+    (record { next = 0; requests = finmap.empty }) finmap.empty
 
-core-first : (sizes : Sizes) (name : ℕ) → sizes.frames ≤ MAX_FRAMES → IsCore (first_state sizes name) (first_store sizes) (first_blocks sizes)
+core-first : (sizes : Sizes) (name : ℕ) → sizes.frames ≤ MAX_FRAMES
+    → IsCore (first_state sizes name) (first_store sizes) (first_blocks sizes)
 core-first sizes name h = record {
   few_files = omega arith;
   known = λ k f e. absurd (some_none f (finmap.get (finmap.empty {X = ℕ} {R = nat_cmp}) k) (get-empty nat_cmp k) e);
@@ -107,23 +94,23 @@ core-first sizes name h = record {
   sized = λ f. sized_none sizes.page;
   page = refl;
   framed = h;
-  counted = let none = none_in_flight (first_state sizes name) requests-none in omega (arith, none);
-  filling = λ f p. set.contains-empty place_cmp (f, p) ∙ sym (none_filling (first_state sizes name) f p requests-none);
+  counted = let none = none_in_flight (first_state sizes name) refl in omega (arith, none);
+  filling = λ f p. set.contains-empty place_cmp (f, p) ∙ sym (none_filling (first_state sizes name) f p refl);
   device = refl;
-  holds = subst (Holds finmap.empty) (sym requests-none) Holds-none;
-  within = λ t r e. absurd (some_none r (finmap.get (requests_of finmap.empty) t) (ap (λ (m : FinMap nat_cmp Request). finmap.get m t) requests-none ∙ get-empty nat_cmp t) e);
-  filed = λ t r e. absurd (some_none r (finmap.get (requests_of finmap.empty) t) (ap (λ (m : FinMap nat_cmp Request). finmap.get m t) requests-none ∙ get-empty nat_cmp t) e);
-  failed = λ f. (let none : finmap.len (requests_of finmap.empty) ≡ 0 = ap finmap.len requests-none ∙ len-empty nat_cmp Request in omega (arith, none));
+  holds = Holds-none;
+  within = λ t r e. absurd (no_request t r e);
+  filed = λ t r e. absurd (no_request t r e);
+  failed = λ f. (let none = len-empty nat_cmp Request in omega (arith, none));
   serials = omega arith;
-  sound = sound_first (first_state sizes name) refl refl requests-none;
+  sound = histories_are_sound sizes name [] (first_state sizes name) refl;
 }
+  where
+    no_request : (t : ℕ) (r : Request) → finmap.get (finmap.empty {X = Request} {R = nat_cmp}) t ≡ Some r → ⊥
+    no_request t r e = some_none r (finmap.get (finmap.empty {X = Request} {R = nat_cmp}) t) (get-empty nat_cmp t) e
 
-pub cache-first : (sizes : Sizes) (name : ℕ) → sizes.frames ≤ MAX_FRAMES → IsCache (first_state sizes name) (first_store sizes) (first_blocks sizes) finmap.empty
-cache-first sizes name h = record { core = core-first sizes name h; syncs = none_syncs finmap.empty 0 [] }
-
--- no requests and no syncs
-pub first_is : (sizes : Sizes) (name : ℕ) → first_state sizes name ≡ record (first_state sizes name) { requests = finmap.empty; syncs = finmap.empty }
-first_is sizes name = λ i. record (first_state sizes name) { requests = requests-none i; syncs = syncs-none finmap.empty finmap.empty i }
+pub cache-first : (sizes : Sizes) (name : ℕ) → sizes.frames ≤ MAX_FRAMES
+    → IsCache (first_state sizes name) (first_store sizes) (first_blocks sizes)
+cache-first sizes name h = record { core = core-first sizes name h; syncs = none_syncs finmap.empty [] }
 
 pub get_or-push : {A : Type 0} (xs : List A) (d : A) (i : ℕ) → get_or (xs ++ d ∷ []) i d ≡ get_or xs i d
 get_or-push [] d zero = refl
@@ -132,9 +119,15 @@ get_or-push (x ∷ xs) d zero = refl
 get_or-push (x ∷ xs) d (suc i) = get_or-push xs d i
 
 -- the state of a store with a page of zeros more
-pub zeros_state : (sizes : Sizes) (name : ℕ) (store : Store) (handles : FinMap nat_cmp ℕ) (blocks : Blocks) (flights : Flights) (syncs : FinMap nat_cmp SyncState) (f p free : ℕ) → store.page ≡ sizes.page
-    → state_of sizes name (with_pages store f (finmap.insert (stored_at store f).pages p (blank store.page)) free).files handles blocks flights syncs ≡ put_page (state_of sizes name store.files handles blocks flights syncs) f p (blank sizes.page)
-zeros_state sizes name store handles blocks flights syncs f p free page = ap (λ n. state_of sizes name (slice_set store.files f (record (stored_at store f) { pages = finmap.insert (stored_at store f).pages p (blank n) })) handles blocks flights syncs) page
+pub zeros_state : (sizes : Sizes) (name : ℕ) (store : Store) (handles : FinMap nat_cmp ℕ) (blocks : Blocks)
+    (flights : Flights) (syncs : FinMap nat_cmp Sync) (f p free : ℕ) → store.page ≡ sizes.page
+    → state_of sizes name (with_pages store f (finmap.insert (stored_at store f).pages p (blank store.page)) free).files
+    handles blocks flights syncs ≡ put_page (state_of sizes name store.files handles blocks flights syncs) f p
+    (blank sizes.page)
+zeros_state sizes name store handles blocks flights syncs f p free page =
+    ap (λ n. state_of sizes name (slice_set store.files f
+    (record (stored_at store f) { pages = finmap.insert (stored_at store f).pages p (blank n) })) handles blocks flights
+    syncs) page
 
 module _ (s : State) (store : Store) (blocks : Blocks) (c : IsCore s store blocks) where
   -- ---- the page lists, of which the tables say nothing
@@ -160,30 +153,43 @@ module _ (s : State) (store : Store) (blocks : Blocks) (c : IsCore s store block
 
   -- ---- a new file
 
-  pub core-create : (now : Store) → now.page ≡ store.page → now.filling ≡ store.filling → now.free ≡ store.free → length s.files < MAX_FILES → IsCore (record s { files = s.files ++ no_file ∷ [] }) now blocks
+  pub core-create : (now : Store) → now.page ≡ store.page → now.filling ≡ store.filling → now.free ≡ store.free
+      → length s.files < MAX_FILES → IsCore (record s { files = s.files ++ no_file ∷ [] }) now blocks
   core-create now page filling free few =
       let more : length (s.files ++ no_file ∷ []) ≡ length s.files + 1 = length-append s.files (no_file ∷ []) in
       record {
         few_files = omega arith;
         known = λ h f e. let old : f < length s.files = c.known h f e in omega arith;
         bounded = λ f. subst (λ (x : File). x.size ≤ MAX_FILE_SIZE) (sym (get_or-push s.files no_file f)) (c.bounded f);
-        sized = λ f. subst (λ (x : File). AreSized s.sizes.page x.pages) (sym (get_or-push s.files no_file f)) (c.sized f);
+        sized = λ f. subst (λ (x : File). AreSized s.sizes.page x.pages) (sym (get_or-push s.files no_file f))
+            (c.sized f);
         page = page ∙ c.page;
         framed = c.framed;
-        counted = omega (arith, sum_by_push (λ (file : File). finmap.len file.pages) s.files no_file, len-empty nat_cmp Page, c.counted, free);
+        counted =
+            omega (
+              arith,
+              sum_by_push (λ (file : File). finmap.len file.pages) s.files no_file,
+              len-empty nat_cmp Page,
+              c.counted,
+              free,
+            );
         filling = λ f p. ap (λ (m : set.FinSet place_cmp). set.contains m (f, p)) filling ∙ c.filling f p;
         device = c.device;
         holds = c.holds;
         within = c.within;
         filed = λ t r e. (let old : r.file < length s.files = c.filed t r e in omega arith);
-        failed = λ f. subst (λ (x : File). x.failures + finmap.len s.requests ≤ s.next) (sym (get_or-push s.files no_file f)) (c.failed f);
+        failed = λ f. subst (λ (x : File). x.failures + finmap.len s.requests ≤ s.next)
+            (sym (get_or-push s.files no_file f)) (c.failed f);
         serials = c.serials;
-        sound = (cases s c.sound).create;
+        sound = steps_stay_sound s _ event.Create (reply.File (record { 0 = length s.files })) (create_step s few)
+            c.sound;
       }
 
   -- ---- handles
 
-  core-tables : (now : FinMap nat_cmp ℕ) (syncs : FinMap nat_cmp Sync) → ((h f : ℕ) → finmap.get now h ≡ Some f → f < length s.files) → IsCore (record s { handles = now; syncs = syncs }) store blocks
+  core-tables : (now : FinMap nat_cmp ℕ) (syncs : FinMap nat_cmp Sync)
+      → ((h f : ℕ) → finmap.get now h ≡ Some f → f < length s.files)
+      → IsCore (record s { handles = now; syncs = syncs }) store blocks
   core-tables now syncs known = record {
     few_files = c.few_files;
     known = known;
@@ -206,8 +212,10 @@ module _ (s : State) (store : Store) (blocks : Blocks) (c : IsCore s store block
   pub core-syncs : (syncs : FinMap nat_cmp Sync) → IsCore (record s { syncs = syncs }) store blocks
   core-syncs syncs = core-tables s.handles syncs c.known
 
-  pub core-open : (h f : ℕ) → f < length s.files → IsCore (record s { handles = finmap.insert s.handles h f }) store blocks
-  core-open h f here = core-tables (finmap.insert s.handles h f) s.syncs (λ k g e. one k g (sym (get-insert_nat s.handles h f k) ∙ e))
+  pub core-open : (h f : ℕ) → f < length s.files
+      → IsCore (record s { handles = finmap.insert s.handles h f }) store blocks
+  core-open h f here = core-tables (finmap.insert s.handles h f) s.syncs
+      (λ k g e. one k g (sym (get-insert_nat s.handles h f k) ∙ e))
     where
       one : (k g : ℕ) → cond (eqb k h) (Some f) (finmap.get s.handles k) ≡ Some g → g < length s.files
       one k g e = elim (eqb k h) as (λ b. cond b (Some f) (finmap.get s.handles k) ≡ Some g → g < length s.files) [
@@ -216,7 +224,8 @@ module _ (s : State) (store : Store) (blocks : Blocks) (c : IsCore s store block
       ] e
 
   pub core-close : (h : ℕ) → IsCore (record s { handles = finmap.remove s.handles h }) store blocks
-  core-close h = core-tables (finmap.remove s.handles h) s.syncs (λ k g e. one k g (sym (get-remove_nat s.handles h k) ∙ e))
+  core-close h =
+      core-tables (finmap.remove s.handles h) s.syncs (λ k g e. one k g (sym (get-remove_nat s.handles h k) ∙ e))
     where
       one : (k g : ℕ) → cond (eqb k h) None (finmap.get s.handles k) ≡ Some g → g < length s.files
       one k g e = elim (eqb k h) as (λ b. cond b None (finmap.get s.handles k) ≡ Some g → g < length s.files) [
@@ -228,7 +237,12 @@ module _ (s : State) (store : Store) (blocks : Blocks) (c : IsCore s store block
 
   pub few_dirty : dirty_total s ≤ MAX_FRAMES
   few_dirty =
-      let all = sum_by-le-sum_by dirty_in (λ (file : File). finmap.len file.pages) s.files (λ file. omega (arith, count_by-le-length (λ (e : ℕ × Page). e.1.tags.dirty) (finmap.entries file.pages), len-entries file.pages)) in
+      let all = sum_by-le-sum_by dirty_in (λ (file : File). finmap.len file.pages) s.files
+      (λ file. omega (
+        arith,
+        count_by-le-length (λ (e : ℕ × Page). e.1.tags.dirty) (finmap.entries file.pages),
+        len-entries file.pages,
+      )) in
       omega (arith, all, c.counted, c.framed)
 
   pub free_frames_are : free_frames s ≡ store.free
@@ -236,55 +250,81 @@ module _ (s : State) (store : Store) (blocks : Blocks) (c : IsCore s store block
 
   -- ---- another entry at f, with so many pages more
 
-  core-file : (f : ℕ) (e : File) (made : ℕ) (now : Store) (bs : Blocks) → f < length s.files → AreSized s.sizes.page e.pages → e.size ≤ MAX_FILE_SIZE → finmap.len e.pages ≡ finmap.len (file_at s f).pages + made → made ≤ store.free
-      → now.page ≡ store.page → now.free ≡ store.free - made → ((g q : ℕ) → is_awaited now g q ≡ is_awaited store g q) → bs.count ≡ blocks.count → bs.held ≡ blocks.held → e.failures ≡ (file_at s f).failures
-      → Sound (record (put_file s f e) { spots = bs.spots }) → IsCore (record (put_file s f e) { spots = bs.spots }) now bs
+  core-file : (f : ℕ) (e : File) (made : ℕ) (now : Store) (bs : Blocks) → f < length s.files
+      → AreSized s.sizes.page e.pages → e.size ≤ MAX_FILE_SIZE → finmap.len e.pages ≡ finmap.len (file_at s f).pages
+      + made → made ≤ store.free
+      → now.page ≡ store.page → now.free ≡ store.free - made → ((g q : ℕ) → is_awaited now g q ≡ is_awaited store g q)
+      → bs.count ≡ blocks.count → bs.held ≡ blocks.held → e.failures ≡ (file_at s f).failures
+      → Sound (record (put_file s f e) { spots = bs.spots })
+      → IsCore (record (put_file s f e) { spots = bs.spots }) now bs
   core-file f e made now bs here sized small more room page free idle count held failures sound =
       let same : length (slice_set s.files f e) ≡ length s.files = length-set s.files f e in
       record {
         few_files = omega (arith, same, c.few_files);
         known = λ h g k. let old : g < length s.files = c.known h g k in omega (arith, same, old);
-        bounded = λ g. elim (eqb g f) as (λ t. eqb g f ≡ t → (get_or (slice_set s.files f e) g no_file).size ≤ MAX_FILE_SIZE) [
-          | true ↦ λ t. subst (λ (x : File). x.size ≤ MAX_FILE_SIZE) (sym (at g t)) small
-          | false ↦ λ t. subst (λ (x : File). x.size ≤ MAX_FILE_SIZE) (sym (other g t)) (c.bounded g)
-        ] refl;
-        sized = λ g. elim (eqb g f) as (λ t. eqb g f ≡ t → AreSized s.sizes.page (get_or (slice_set s.files f e) g no_file).pages) [
-          | true ↦ λ t. subst (λ (x : File). AreSized s.sizes.page x.pages) (sym (at g t)) sized
-          | false ↦ λ t. subst (λ (x : File). AreSized s.sizes.page x.pages) (sym (other g t)) (c.sized g)
-        ] refl;
+        bounded =
+            λ g. elim (eqb g f) as (λ t. eqb g f ≡ t
+            → (get_or (slice_set s.files f e) g no_file).size ≤ MAX_FILE_SIZE) [
+              | true ↦ λ t. subst (λ (x : File). x.size ≤ MAX_FILE_SIZE) (sym (at g t)) small
+              | false ↦ λ t. subst (λ (x : File). x.size ≤ MAX_FILE_SIZE) (sym (other g t)) (c.bounded g)
+            ] refl;
+        sized = λ g. elim (eqb g f) as (λ t. eqb g f ≡ t
+            → AreSized s.sizes.page (get_or (slice_set s.files f e) g no_file).pages) [
+              | true ↦ λ t. subst (λ (x : File). AreSized s.sizes.page x.pages) (sym (at g t)) sized
+              | false ↦ λ t. subst (λ (x : File). AreSized s.sizes.page x.pages) (sym (other g t)) (c.sized g)
+            ] refl;
         page = page ∙ c.page;
         framed = c.framed;
-        counted = omega (arith, sum_by-set (λ (file : File). finmap.len file.pages) s.files f e no_file here, c.counted, more, room, free);
+        counted =
+            omega (
+              arith,
+              sum_by-set (λ (file : File). finmap.len file.pages) s.files f e no_file here,
+              c.counted,
+              more,
+              room,
+              free,
+            );
         filling = λ g q. idle g q ∙ c.filling g q;
         device = count ∙ c.device;
         holds = subst (λ (h : FinMap nat_cmp Bool). Holds h s.requests) (sym held) c.holds;
         within = c.within;
         filed = λ t r k. (let old : r.file < length s.files = c.filed t r k in omega (arith, same, old));
-        failed = λ g. elim (eqb g f) as (λ t. eqb g f ≡ t → (get_or (slice_set s.files f e) g no_file).failures + finmap.len s.requests ≤ s.next) [
-          | true ↦ λ t. subst (λ (x : File). x.failures + finmap.len s.requests ≤ s.next) (sym (at g t)) (subst (λ n. n + finmap.len s.requests ≤ s.next) (sym failures) (c.failed f))
-          | false ↦ λ t. subst (λ (x : File). x.failures + finmap.len s.requests ≤ s.next) (sym (other g t)) (c.failed g)
-        ] refl;
+        failed =
+            λ g. elim (eqb g f) as (λ t. eqb g f ≡ t → (get_or (slice_set s.files f e) g no_file).failures
+            + finmap.len s.requests ≤ s.next) [
+              | true ↦ λ t. subst (λ (x : File). x.failures + finmap.len s.requests ≤ s.next) (sym (at g t))
+                  (subst (λ n. n + finmap.len s.requests ≤ s.next) (sym failures) (c.failed f))
+              | false ↦ λ t. subst (λ (x : File). x.failures + finmap.len s.requests ≤ s.next) (sym (other g t))
+                  (c.failed g)
+            ] refl;
         serials = c.serials;
         sound = sound;
       }
     where
       at : (g : ℕ) → eqb g f ≡ true → get_or (slice_set s.files f e) g no_file ≡ e
-      at g t = ap (λ k. get_or (slice_set s.files f e) k no_file) (eqb-true g f t) ∙ get_or-set_same s.files f e no_file here
+      at g t = ap (λ k. get_or (slice_set s.files f e) k no_file) (eqb-true g f t)
+          ∙ get_or-set_same s.files f e no_file here
 
       other : (g : ℕ) → eqb g f ≡ false → get_or (slice_set s.files f e) g no_file ≡ get_or s.files g no_file
       other g t = grind (arith, nat_tests, get_or-set_other {A = File})
 
   -- ---- a page of zeros
 
-  pub core-zeros : (f p : ℕ) (now : Store) → is_cached s f p ≡ false → is_filling s f p ≡ false → f < length s.files → 0 < store.free → now.page ≡ store.page → now.free ≡ store.free - 1 → ((g q : ℕ) → is_awaited now g q ≡ is_awaited store g q) → s.spots ≡ blocks.spots
+  pub core-zeros : (f p : ℕ) (now : Store) → is_cached s f p ≡ false → is_filling s f p ≡ false → f < length s.files
+      → 0 < store.free → now.page ≡ store.page → now.free ≡ store.free - 1
+      → ((g q : ℕ) → is_awaited now g q ≡ is_awaited store g q) → s.spots ≡ blocks.spots
       → IsCore (put_page s f p (blank s.sizes.page)) now blocks
   core-zeros f p now absent idle here room page free same spots =
       let e0 : File = file_at s f in
       let e1 : File = record e0 { pages = finmap.insert e0.pages p (blank s.sizes.page) } in
-      let one_more : finmap.len e1.pages ≡ finmap.len e0.pages + 1 = len-insert nat_cmp_total e0.pages p (blank s.sizes.page) ∙ ap (λ b. cond b (finmap.len e0.pages) (finmap.len e0.pages + 1)) absent in
+      let one_more : finmap.len e1.pages ≡ finmap.len e0.pages + 1 =
+      len-insert nat_cmp_total e0.pages p (blank s.sizes.page)
+      ∙ ap (λ b. cond b (finmap.len e0.pages) (finmap.len e0.pages + 1)) absent in
       let sound : Sound (put_page s f p (blank s.sizes.page)) = makes_zeros_sound s c.sound f p absent idle in
       subst (λ (m : FinMap place_cmp Spot). IsCore (record (put_file s f e1) { spots = m }) now blocks) (sym spots)
-      (core-file f e1 1 now blocks here (sized_insert s.sizes.page p e0.pages (c.sized f)) (c.bounded f) one_more (omega arith) page free same refl refl refl (subst (λ (m : FinMap place_cmp Spot). Sound (record (put_file s f e1) { spots = m })) spots sound))
+      (core-file f e1 1 now blocks here (sized_insert s.sizes.page p e0.pages (c.sized f)) (c.bounded f) one_more
+      (omega arith) page free same refl refl refl
+      (subst (λ (m : FinMap place_cmp Spot). Sound (record (put_file s f e1) { spots = m })) spots sound))
 
   -- ---- blocks
 
@@ -296,61 +336,72 @@ module _ (s : State) (store : Store) (blocks : Blocks) (c : IsCore s store block
     bare_are f pages = ap (λ (m : FinMap place_cmp Spot). filter (λ p. not (is_some (finmap.get m (f, p)))) pages) spots
 
     placed_are : (f : ℕ) (pages : List ℕ) → placed_on blocks f pages ≡ placed s f pages
-    placed_are f pages = λ i. overwrite (map (λ (e : ℕ × ℕ). ((f, e.0), record { block = e.1; written = false })) (zip (sym (bare_are f pages) i) (sym free_blocks_are i))) (sym spots i)
+    placed_are f pages =
+        λ i. overwrite (map (λ (e : ℕ × ℕ). ((f, e.0), record { block = e.1; written = false }))
+        (zip (sym (bare_are f pages) i) (sym free_blocks_are i))) (sym spots i)
 
     -- ---- whether there is room, as the code tests it
 
-    module _ (f o n P : ℕ) (entry : File) (over : Bool) (absent need left : ℕ) (page : P ≡ s.sizes.page) (entry_is : entry ≡ file_at s f)
-        (over_is : over ≡ (nat_lt 0 (count_by (λ p. not (tagged (λ t. t.dirty) (finmap.get entry.pages p))) (range_with_len (o / P) (touched_count P o n))) && nat_lt s.sizes.dirty_limit (dirty_total s + count_by (λ p. not (tagged (λ t. t.dirty) (finmap.get entry.pages p))) (range_with_len (o / P) (touched_count P o n)))))
-        (absent_is : absent ≡ count_by (λ p. not (is_some (finmap.get entry.pages p))) (range_with_len (o / P) (touched_count P o n)))
+    module _ (f o n P : ℕ) (entry : File) (over : Bool) (absent need left : ℕ) (page : P ≡ s.sizes.page)
+        (entry_is : entry ≡ file_at s f)
+        (over_is : over ≡ (nat_lt 0 (count_by (λ p. not ((tags_of (finmap.get entry.pages p)).dirty))
+        (range_with_len (o / P) (touched_count P o n))) && nat_lt s.sizes.dirty_limit
+        (dirty_total s + count_by (λ p. not ((tags_of (finmap.get entry.pages p)).dirty))
+        (range_with_len (o / P) (touched_count P o n)))))
+        (absent_is : absent ≡ count_by (λ p. not (is_some (finmap.get entry.pages p)))
+        (range_with_len (o / P) (touched_count P o n)))
         (left_is : left ≡ length (device.free_blocks blocks))
         (need_is : need ≡ count_by (is_bare blocks f) (range_with_len (o / P) (touched_count P o n))) where
-      over_now : over ≡ (nat_lt 0 (count_by (λ p. not (is_dirty s f p)) (touched s.sizes.page o n)) && nat_lt s.sizes.dirty_limit (dirty_total s + count_by (λ p. not (is_dirty s f p)) (touched s.sizes.page o n)))
-      over_now = over_is ∙ (λ i. nat_lt 0 (count_by (λ p. not (tagged (λ t. t.dirty) (finmap.get (entry_is i).pages p))) (range_with_len (o / page i) (touched_count (page i) o n))) && nat_lt s.sizes.dirty_limit (dirty_total s + count_by (λ p. not (tagged (λ t. t.dirty) (finmap.get (entry_is i).pages p))) (range_with_len (o / page i) (touched_count (page i) o n))))
+      over_now : over ≡ (nat_lt 0 (count_by (λ p. not (tags_at s f p).dirty) (touched s.sizes.page o n))
+          && nat_lt s.sizes.dirty_limit (dirty_total s + count_by (λ p. not (tags_at s f p).dirty)
+          (touched s.sizes.page o n)))
+      over_now =
+          over_is ∙ (λ i. nat_lt 0 (count_by (λ p. not ((tags_of (finmap.get (entry_is i).pages p)).dirty))
+          (range_with_len (o / page i) (touched_count (page i) o n))) && nat_lt s.sizes.dirty_limit
+          (dirty_total s + count_by (λ p. not ((tags_of (finmap.get (entry_is i).pages p)).dirty))
+          (range_with_len (o / page i) (touched_count (page i) o n))))
 
       absent_now : absent ≡ count_by (λ p. not (is_cached s f p)) (touched s.sizes.page o n)
-      absent_now = absent_is ∙ (λ i. count_by (λ p. not (is_some (finmap.get (entry_is i).pages p))) (range_with_len (o / page i) (touched_count (page i) o n)))
+      absent_now =
+          absent_is ∙ (λ i. count_by (λ p. not (is_some (finmap.get (entry_is i).pages p)))
+          (range_with_len (o / page i) (touched_count (page i) o n)))
 
       need_now : need ≡ length (without_block s f (touched s.sizes.page o n))
-      need_now = need_is ∙ (λ i. count_by (is_bare blocks f) (range_with_len (o / page i) (touched_count (page i) o n))) ∙ sym (length-filter (is_bare blocks f) (touched s.sizes.page o n)) ∙ ap length (sym (bare_are f (touched s.sizes.page o n)))
+      need_now = need_is ∙ (λ i. count_by (is_bare blocks f) (range_with_len (o / page i) (touched_count (page i) o n)))
+          ∙ sym (length-filter (is_bare blocks f) (touched s.sizes.page o n))
+          ∙ ap length (sym (bare_are f (touched s.sizes.page o n)))
 
-      pub room_is : room_tests s f o n ≡ cond over (refuse DirtyLimit) (cond (nat_lt store.free absent) (refuse NoFrame) (cond (nat_lt left need) (refuse NoSpace) None))
-      room_is = λ i. cond (sym over_now i) (refuse DirtyLimit) (cond (nat_lt (free_frames_are i) (sym absent_now i)) (refuse NoFrame) (cond (nat_lt ((ap length free_blocks_are ∙ sym left_is) i) (sym need_now i)) (refuse NoSpace) None))
+      pub room_is : room_tests s f o n ≡ cond over (refuse DirtyLimit)
+          (cond (nat_lt store.free absent) (refuse NoFrame) (cond (nat_lt left need) (refuse NoSpace) None))
+      room_is =
+          λ i. cond (sym over_now i) (refuse DirtyLimit)
+          (cond (nat_lt (free_frames_are i) (sym absent_now i)) (refuse NoFrame)
+          (cond (nat_lt ((ap length free_blocks_are ∙ sym left_is) i) (sym need_now i)) (refuse NoSpace) None))
 
     -- ---- a write
 
-    module _ (h f o n P : ℕ) (file : file_of s h ≡ f) (page : P ≡ s.sizes.page) (passed : write_tests s h o n ≡ None) where
+    module _ (h f o n P : ℕ) (file : handle_file s h ≡ f) (page : P ≡ s.sizes.page)
+        (passed : write_tests s h o n ≡ None) where
       may : MayWrite s h o n
       may = may_write s h o n passed
 
-      room : room_tests s f o n ≡ None
-      room = subst (λ g. room_tests s g o n ≡ None) file may.fits
-
-      not_less : (m k : ℕ) → nat_lt m k ≡ false → k ≤ m
-      not_less m k e = grind (arith, nat_tests)
-
-      three_none : (x y z : Bool) (a b r : Reply) → cond x (Some a) (cond y (Some b) (cond z (Some r) None)) ≡ None → (y ≡ false) × (z ≡ false)
-      three_none true y z a b r e = absurd cc
-      three_none false true z a b r e = absurd cc
-      three_none false false true a b r e = absurd cc
-      three_none false false false a b r e = (refl, refl)
-
-      left : (nat_lt (free_frames s) (count_by (λ p. not (is_cached s f p)) (touched s.sizes.page o n)) ≡ false) × (nat_lt (length (free_blocks s)) (length (without_block s f (touched s.sizes.page o n))) ≡ false)
-      left = three_none _ _ _ _ _ _ room
-
-      pub frames_enough : count_by (λ p. not (is_some (finmap.get (file_at s f).pages p))) (range_with_len (o / P) (touched_count P o n)) ≤ store.free
+      pub frames_enough : count_by (λ p. not (is_some (finmap.get (file_at s f).pages p)))
+          (range_with_len (o / P) (touched_count P o n)) ≤ store.free
       frames_enough =
-          let enough : count_by (λ p. not (is_cached s f p)) (touched s.sizes.page o n) ≤ free_frames s = not_less (free_frames s) (count_by (λ p. not (is_cached s f p)) (touched s.sizes.page o n)) left.0 in
-          let same : count_by (λ p. not (is_some (finmap.get (file_at s f).pages p))) (range_with_len (o / P) (touched_count P o n)) ≡ count_by (λ p. not (is_cached s f p)) (touched s.sizes.page o n) =
-          ap (λ k. count_by (λ p. not (is_some (finmap.get (file_at s f).pages p))) (range_with_len (o / k) (touched_count k o n))) page in
-          omega (arith, enough, same, free_frames_are)
+          let same : count_by (λ p. not (is_some (finmap.get (file_at s f).pages p)))
+          (range_with_len (o / P) (touched_count P o n)) ≡ count_by (λ p. not (is_cached s (handle_file s h) p))
+          (touched s.sizes.page o n) = (λ i. count_by (λ p. not (is_cached s (sym file i) p)) (touched (page i) o n)) in
+          omega (arith, may.frames, same, free_frames_are)
 
-      pub blocks_enough : count_by (is_bare blocks f) (range_with_len (o / P) (touched_count P o n)) ≤ length (device.free_blocks blocks)
+      pub blocks_enough : count_by (is_bare blocks f) (range_with_len (o / P) (touched_count P o n))
+          ≤ length (device.free_blocks blocks)
       blocks_enough =
-          let enough : length (without_block s f (touched s.sizes.page o n)) ≤ length (free_blocks s) = not_less (length (free_blocks s)) (length (without_block s f (touched s.sizes.page o n))) left.1 in
-          let same : count_by (is_bare blocks f) (range_with_len (o / P) (touched_count P o n)) ≡ length (without_block s f (touched s.sizes.page o n)) =
-          ap (λ k. count_by (is_bare blocks f) (range_with_len (o / k) (touched_count k o n))) page ∙ sym (length-filter (is_bare blocks f) (touched s.sizes.page o n)) ∙ ap length (sym (bare_are f (touched s.sizes.page o n))) in
-          omega (arith, enough, same, ap length free_blocks_are)
+          let same : count_by (is_bare blocks f) (range_with_len (o / P) (touched_count P o n))
+          ≡ length (without_block s (handle_file s h) (touched s.sizes.page o n)) =
+          (λ i. count_by (is_bare blocks (sym file i)) (touched (page i) o n))
+          ∙ sym (length-filter (is_bare blocks (handle_file s h)) (touched s.sizes.page o n))
+          ∙ ap length (sym (bare_are (handle_file s h) (touched s.sizes.page o n))) in
+          omega (arith, may.blocks, same, ap length free_blocks_are)
 
       -- no page that is written is filling
       pub none_awaited : NoneAwaited f (o / P) ((o + n - 1) / P + 1) store
@@ -360,10 +411,16 @@ module _ (s : State) (store : Store) (blocks : Blocks) (c : IsCore s store block
           idle q low high =
               let l : o / s.sizes.page ≤ q = subst (λ k. o / k ≤ q) page low in
               let m : q < (o + n - 1) / s.sizes.page + 1 = subst (λ k. q < (o + n - 1) / k + 1) page high in
-              let none = none_absent (λ p. is_filling s (file_of s h) p || (must_fill s (file_of s h) p && not (covers s.sizes.page o n p))) (o / s.sizes.page) (touched_count s.sizes.page o n) may.free q l (omega (arith, l, m)) in
-              ap (λ g. is_filling s g q) (sym file) ∙ (or_false (is_filling s (file_of s h) q) _ none).0
+              let none =
+              none_absent (λ p. is_filling s (handle_file s h) p
+              || (must_fill s (handle_file s h) p && not (covers s.sizes.page o n p))) (o / s.sizes.page)
+              (touched_count s.sizes.page o n) may.free q l (omega (arith, l, m)) in
+              ap (λ g. is_filling s g q) (sym file) ∙ (neither (is_filling s (handle_file s h) q) _ none).0
 
-    module _ (h f o P : ℕ) (b : List ℕ) (e1 e2 e3 : File) (now : Store) (file : file_of s h ≡ f) (page : P ≡ s.sizes.page) (passed : write_tests s h o (length b) ≡ None) (here : f < length s.files) (parts : WriteParts P o b (file_at s f) e1 e2 e3) (positive : 0 < P) (bound : o + length b ≤ MAX_FILE_SIZE) where
+    module _ (h f o P : ℕ) (b : List ℕ) (e1 e2 e3 : File) (now : Store) (file : handle_file s h ≡ f)
+        (page : P ≡ s.sizes.page) (passed : write_tests s h o (length b) ≡ None) (here : f < length s.files)
+        (parts : WriteParts P o b (file_at s f) e1 e2 e3) (positive : 0 < P)
+        (bound : o + length b ≤ MAX_FILE_SIZE) where
       -- what is said of the page size that the code read, of the one that the cache has
       w : WriteParts s.sizes.page o b (file_at s f) e1 e2 e3
       w = subst (λ k. WriteParts k o b (file_at s f) e1 e2 e3) page parts
@@ -377,7 +434,8 @@ module _ (s : State) (store : Store) (blocks : Blocks) (c : IsCore s store block
       abbrev pub taken : ℕ → Blocks
       taken k = with_placed blocks f (range_with_len (o / k) (touched_count k o (length b)))
 
-      entry : e3 ≡ record (file_at s f) { size = max (file_at s f).size (o + length b); pages = written_pages s.sizes.page o b (file_at s f).pages }
+      entry : e3 ≡ record (file_at s f)
+          { size = max (file_at s f).size (o + length b); pages = written_pages s.sizes.page o b (file_at s f).pages }
       entry = parts-file s.sizes.page o b (file_at s f) e1 e2 e3 w full some
 
       write_same : record (put_file s f e3) { spots = (taken s.sizes.page).spots } ≡ written s f o b
@@ -385,12 +443,27 @@ module _ (s : State) (store : Store) (blocks : Blocks) (c : IsCore s store block
 
       -- the state after a write
       pub write_state : record (put_file s f e3) { spots = (taken P).spots } ≡ written s f o b
-      write_state = ap (λ k. let t : State = record (put_file s f e3) { spots = (taken k).spots } in t) page ∙ write_same
+      write_state = ap (λ k. let t : State = record (put_file s f e3) { spots = (taken k).spots } in t) page
+          ∙ write_same
 
-      pub core-written : now.page ≡ store.page → now.free ≡ store.free - count_by (λ p. not (is_some (finmap.get (file_at s f).pages p))) (range_with_len (o / P) (touched_count P o (length b))) → ((g q : ℕ) → is_awaited now g q ≡ is_awaited store g q)
+      pub core-written : now.page ≡ store.page
+          → now.free ≡ store.free - count_by (λ p. not (is_some (finmap.get (file_at s f).pages p)))
+          (range_with_len (o / P) (touched_count P o (length b)))
+          → ((g q : ℕ) → is_awaited now g q ≡ is_awaited store g q)
           → IsCore (record (put_file s f e3) { spots = (taken P).spots }) now (taken P)
       core-written same free idle =
-          let made : ℕ = count_by (λ p. not (is_some (finmap.get (file_at s f).pages p))) (range_with_len (o / P) (touched_count P o (length b))) in
-          let more : finmap.len e3.pages ≡ finmap.len (file_at s f).pages + made = ap finmap.len (parts-pages s.sizes.page o b (file_at s f) e1 e2 e3 w full some) ∙ len-written_pages s.sizes.page o b (file_at s f).pages ∙ ap (λ k. finmap.len (file_at s f).pages + count_by (λ p. not (is_some (finmap.get (file_at s f).pages p))) (range_with_len (o / k) (touched_count k o (length b)))) (sym page) in
-          let sound : Sound (written s f o b) = subst (λ g. Sound (written s g o b)) file ((cases s c.sound).writes h o b (may_write s h o (length b) passed)) in
-          core-file f e3 made now (taken P) here (parts_sized s.sizes.page o b (file_at s f) e1 e2 e3 w (c.sized f)) (omega (arith, c.bounded f, bound, parts-size s.sizes.page o b (file_at s f) e1 e2 e3 w)) more (frames_enough h f o (length b) P file page passed) same free idle refl refl (ap (λ (x : File). x.failures) entry) (subst Sound (sym write_state) sound)
+          let made : ℕ = count_by (λ p. not (is_some (finmap.get (file_at s f).pages p)))
+          (range_with_len (o / P) (touched_count P o (length b))) in
+          let more : finmap.len e3.pages ≡ finmap.len (file_at s f).pages + made =
+          ap finmap.len (parts-pages s.sizes.page o b (file_at s f) e1 e2 e3 w full some)
+          ∙ len-written_pages s.sizes.page o b (file_at s f).pages
+          ∙ ap (λ k. finmap.len (file_at s f).pages
+          + count_by (λ p. not (is_some (finmap.get (file_at s f).pages p)))
+          (range_with_len (o / k) (touched_count k o (length b)))) (sym page) in
+          let sound : Sound (written s f o b) =
+          subst (λ g. Sound (written s g o b)) file
+          (written_sound s c.sound h o b (may_write s h o (length b) passed)) in
+          core-file f e3 made now (taken P) here (parts_sized s.sizes.page o b (file_at s f) e1 e2 e3 w (c.sized f))
+          (omega (arith, c.bounded f, bound, parts-size s.sizes.page o b (file_at s f) e1 e2 e3 w)) more
+          (frames_enough h f o (length b) P file page passed) same free idle refl refl
+          (ap (λ (x : File). x.failures) entry) (subst Sound (sym write_state) sound)

@@ -12,12 +12,13 @@ use Rattle.blockmap.specs.declared.spots.Placed.{Placed}
 use Rattle.blockmap.specs.Told.{told}
 use Rattle.pc_types.specs.declared.limits.TheConstants.{MAX_FILE_SIZE, MIN_PAGE_SIZE}
 use Rattle.mapping.specs.declared.mapping.TheConstants.{MAX_PAGES}
-use Rattle.cachecore.specs.State.{State, Page, has_block, no_file, page_count, the_page}
-use Rattle.cachecore.specs.Changes.{boundary, change_at, cut_boundary, cut_page, put_some}
-use Rattle.cachecore.specs.Store.{Store, stored_at, stored_page, with_pages}
-use Rattle.cachecore.proofs.MapLaws.{get-change_at, same_nat_map}
-use Rattle.cachecore.proofs.RangeLemmas.{with-itself}
-use Rattle.cachecore.proofs.Spans.{page_below}
+use Rattle.machine.specs.State.{State, Page, has_block, no_file, page_count}
+use Rattle.pagestore.specs.Store.{the_page, Store, stored_at, stored_page, with_pages}
+use Rattle.machine.specs.Changes.{boundary, cut_boundary, cut_page}
+use Rattle.maps.specs.Maps.{change_at, put_some}
+use Rattle.maps.proofs.MapLaws.{get-change_at, same_nat_map}
+use Rattle.pagestore.proofs.RangeLemmas.{with-itself}
+use Rattle.pagestore.proofs.Spans.{page_below}
 
 -- a file has no more pages than a mapping
 pub count_below : (P z : ℕ) → MIN_PAGE_SIZE ≤ P → z ≤ MAX_FILE_SIZE → page_count P z ≤ MAX_PAGES
@@ -27,14 +28,19 @@ count_below P z least small = go (page_count P z) refl
     go zero e = omega arith
     go (suc k) e = let last = page_below P z k least small (omega (arith, e)) in omega (arith, last)
 
-change_there : (m : FinMap nat_cmp Page) (p : ℕ) (g : Page → Page) → is_some (finmap.get m p) ≡ true → finmap.insert m p (g (the_page m p)) ≡ change_at p g m
+change_there : (m : FinMap nat_cmp Page) (p : ℕ) (g : Page → Page) → is_some (finmap.get m p) ≡ true
+    → finmap.insert m p (g (the_page m p)) ≡ change_at p g m
 change_there m p g there = go (finmap.get m p) refl there
   where
-    go : (o : Option Page) → finmap.get m p ≡ o → is_some o ≡ true → finmap.insert m p (g (the_page m p)) ≡ change_at p g m
+    go : (o : Option Page) → finmap.get m p ≡ o → is_some o ≡ true
+        → finmap.insert m p (g (the_page m p)) ≡ change_at p g m
     go None e t = absurd cc
-    go (Some x) e t = ap (λ (o : Option Page). finmap.insert m p (g (unwrap_or o (record { bytes = []; tags = no_tags })))) e ∙ sym (ap (λ (o : Option Page). put_some p (option_map g o) m) e)
+    go (Some x) e t =
+        ap (λ (o : Option Page). finmap.insert m p (g (unwrap_or o (record { bytes = []; tags = no_tags })))) e
+        ∙ sym (ap (λ (o : Option Page). put_some p (option_map g o) m) e)
 
-change_absent : (m : FinMap nat_cmp Page) (p : ℕ) (g : Page → Page) → is_some (finmap.get m p) ≡ false → change_at p g m ≡ m
+change_absent : (m : FinMap nat_cmp Page) (p : ℕ) (g : Page → Page) → is_some (finmap.get m p) ≡ false
+    → change_at p g m ≡ m
 change_absent m p g none = go (finmap.get m p) refl none
   where
     go : (o : Option Page) → finmap.get m p ≡ o → is_some o ≡ false → change_at p g m ≡ m
@@ -42,7 +48,8 @@ change_absent m p g none = go (finmap.get m p) refl none
     go (Some x) e t = absurd cc
 
 change_same : (m : FinMap nat_cmp Page) (p P z : ℕ) → change_at p (cut_page P z false) m ≡ m
-change_same m p P z = same_nat_map (change_at p (cut_page P z false) m) m (λ q. get-change_at p (cut_page P z false) m q ∙ either (eqb q p) (finmap.get m q))
+change_same m p P z = same_nat_map (change_at p (cut_page P z false) m) m
+    (λ q. get-change_at p (cut_page P z false) m q ∙ either (eqb q p) (finmap.get m q))
   where
     same : (o : Option Page) → option_map (cut_page P z false) o ≡ o
     same None = refl
@@ -57,10 +64,15 @@ module _ (old : Store) (f p from : ℕ) (has : Bool) where
   cut = with_pages old f (change_at p (cut_page old.page from has) (stored_at old f).pages) old.free
 
   -- it is cached and has a block
-  pub cut_there : is_some (stored_page old f p) ≡ true → has ≡ true → with_pages old f (finmap.insert (stored_at old f).pages p (cut_page old.page from true (the_page (stored_at old f).pages p))) old.free ≡ cut
+  pub cut_there : is_some (stored_page old f p) ≡ true → has ≡ true
+      → with_pages old f (finmap.insert (stored_at old f).pages p
+      (cut_page old.page from true (the_page (stored_at old f).pages p))) old.free ≡ cut
   cut_there cached e =
-      ap (λ (b : Bool). with_pages old f (finmap.insert (stored_at old f).pages p (cut_page old.page from b (the_page (stored_at old f).pages p))) old.free) (sym e)
-      ∙ ap (λ (m : FinMap nat_cmp Page). with_pages old f m old.free) (change_there (stored_at old f).pages p (cut_page old.page from has) cached)
+      ap (λ (b : Bool). with_pages old f
+      (finmap.insert (stored_at old f).pages p (cut_page old.page from b (the_page (stored_at old f).pages p)))
+      old.free) (sym e)
+      ∙ ap (λ (m : FinMap nat_cmp Page). with_pages old f m old.free)
+      (change_there (stored_at old f).pages p (cut_page old.page from has) cached)
 
   stays : change_at p (cut_page old.page from has) (stored_at old f).pages ≡ (stored_at old f).pages → old ≡ cut
   stays e = sym (with-itself old f) ∙ ap (λ (m : FinMap nat_cmp Page). with_pages old f m old.free) (sym e)
@@ -70,21 +82,32 @@ module _ (old : Store) (f p from : ℕ) (has : Bool) where
   cut_absent none = stays (change_absent (stored_at old f).pages p (cut_page old.page from has) none)
 
   pub cut_bare : has ≡ false → old ≡ cut
-  cut_bare e = stays (ap (λ (b : Bool). change_at p (cut_page old.page from b) (stored_at old f).pages) e ∙ change_same (stored_at old f).pages p old.page from)
+  cut_bare e =
+      stays (ap (λ (b : Bool). change_at p (cut_page old.page from b) (stored_at old f).pages) e
+      ∙ change_same (stored_at old f).pages p old.page from)
 
 -- ---- the boundary page of a truncation to z
 
 module _ (s : State) (f z : ℕ) (old : Store) (files : s.files ≡ old.files) where
   -- nothing is cut into
   pub tail_whole : None ≡ boundary s f z → old ≡ with_pages old f (cut_boundary s f z (boundary s f z)) old.free
-  tail_whole none = sym (with-itself old f) ∙ (λ i. with_pages old f (slice_index_or (sym files i) f no_file).pages old.free) ∙ ap (λ (o : Option ℕ). with_pages old f (cut_boundary s f z o) old.free) none
+  tail_whole none = sym (with-itself old f)
+      ∙ (λ i. with_pages old f (slice_index_or (sym files i) f no_file).pages old.free)
+      ∙ ap (λ (o : Option ℕ). with_pages old f (cut_boundary s f z o) old.free) none
 
-  pub tail_into : (q from P : ℕ) (tail : Store) → Some q ≡ boundary s f z → old.page ≡ s.sizes.page → P ≡ s.sizes.page → from ≡ z % P → tail ≡ with_pages old f (change_at q (cut_page old.page from (has_block s f q)) (stored_at old f).pages) old.free
+  pub tail_into : (q from P : ℕ) (tail : Store) → Some q ≡ boundary s f z → old.page ≡ s.sizes.page → P ≡ s.sizes.page
+      → from ≡ z % P → tail ≡ with_pages old f
+      (change_at q (cut_page old.page from (has_block s f q)) (stored_at old f).pages) old.free
       → tail ≡ with_pages old f (cut_boundary s f z (boundary s f z)) old.free
   tail_into q from P tail at page size from_is is =
-      let place : from % old.page ≡ z % s.sizes.page = (λ i. from_is i % (page ∙ sym size) i) ∙ mod-mod z P ∙ ap (λ n. z % n) size in
+      let place : from % old.page ≡ z % s.sizes.page = (λ i. from_is i % (page ∙ sym size) i) ∙ mod-mod z P
+      ∙ ap (λ n. z % n) size in
       is
-      ∙ (λ i. with_pages old f (change_at q (λ (x : Page). if has_block s f q then record { bytes = bytes.cut (take (place i) x.bytes) (page i); tags = record x.tags { dirty = true } } else x) (slice_index_or (sym files i) f no_file).pages) old.free)
+      ∙ (λ i. with_pages old f (change_at q
+      (λ (x : Page). if has_block s f q then record {
+        bytes = bytes.cut (take (place i) x.bytes) (page i);
+        tags = record x.tags { dirty = true };
+      } else x) (slice_index_or (sym files i) f no_file).pages) old.free)
       ∙ ap (λ (o : Option ℕ). with_pages old f (cut_boundary s f z o) old.free) at
 
 -- a page without a told block has none

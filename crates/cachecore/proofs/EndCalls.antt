@@ -1,210 +1,245 @@
--- What a call that ends a request leaves, path by path: the invariant, and the step of the machine.
-use Rattle.std.proofs.Common.{◌≡◌, ℕ, ◌+◌, ◌^◌, ◌<◌, ◌≤◌, Bool, true, false, List, [], length, get_or-set_same, refl, ap, sym, subst, ◌∙◌, arith}
-use Rattle.std.specs.Prelude.{Option, Some, None, Ok, Err, is_some, option_map, unwrap_or, slice_set}
+-- The ends of requests, way by way: the step of the machine, and what the cache keeps.
+use Rattle.std.proofs.Common.{◌≡◌, ℕ, ◌+◌, ◌^◌, ◌<◌, ◌≤◌, Bool, true, false, cond, List, length, get_or-set_same, refl}
+use Rattle.std.proofs.Common.{ap, sym, subst, ◌∙◌, arith}
+use Rattle.std.specs.Prelude.{Option, Some, None, Ok, Err, IsTrue, is_some, option_map, slice_set}
 use Rattle.std.specs.Ordering.{nat_cmp}
 use Rattle.std.specs.FinMap as finmap
 use Rattle.std.specs.FinMap.{FinMap}
 use Rattle.std.specs.FinSet as set
-use Rattle.pc_types.specs.Limits.{Sizes}
-use Rattle.pc_types.specs.Spots.{Spot}
+use Rattle.std.proofs.lemmas.List.{set-set}
+use Rattle.pc_types.specs.Kinds.{is_flush}
+use Rattle.pc_types.specs.Limits.{Sizes, is_err_code}
+use Rattle.pc_types.specs.Spots.{Spot, place_cmp}
 use Rattle.pc_types.specs.Tags.{no_tags}
-use Rattle.pc_types.specs.Kinds.{same_kind}
 use Rattle.pc_types.specs.declared.kind.Kind.{Kind}
 use Rattle.pc_types.specs.declared.kind.Kind.TheVariants.{Fill, Flush}
 use Rattle.blockdev.specs.Jobs.{FinishedTask}
 use Rattle.blockmap.specs.Blocks.{Blocks, with_written}
 use Rattle.mapping.proofs.MapLemmas.{len_remove_old}
 use Rattle.writeback.specs.Flights as flights
-use Rattle.writeback.specs.Flights.{Flights}
-use Rattle.writeback.specs.Syncs.{SyncState}
-use Rattle.cachecore.specs.declared.event.Event.TheVariants as event
-use Rattle.cachecore.specs.declared.event.Outcome.{Outcome}
-use Rattle.cachecore.specs.declared.event.Outcome.TheVariants as outcome
-use Rattle.cachecore.specs.declared.event.Reply.TheVariants as reply
-use Rattle.cachecore.specs.State.{State, File, Page, Request, no_file, page_at, spot_at, the_page, tagged}
-use Rattle.cachecore.specs.Changes.{put_page, ended, after_write, block_of, set_written, failed_once}
-use Rattle.cachecore.specs.Step.{Step, FillEndReply, FlushEndReply}
+use Rattle.maps.specs.Maps.{change_at}
+use Rattle.machine.specs.declared.event.Event.TheVariants as event
+use Rattle.machine.specs.declared.event.Outcome.TheVariants as outcome
+use Rattle.machine.specs.declared.event.Reply.{Reply}
+use Rattle.machine.specs.declared.event.Reply.TheVariants as reply
+use Rattle.machine.specs.PageLists as lists
+use Rattle.machine.specs.State.{State, File, Page, Request, Sync, no_file, page_at, tags_of}
+use Rattle.machine.specs.Changes.{ended, after_write, flush_failed, flushed}
+use Rattle.pagestore.specs.Store.{the_page, Store, is_awaited, stored_at, stored_page, with_pages}
 use Rattle.cachecore.specs.Replies.{end_of, outcome_of}
-use Rattle.cachecore.specs.Sound.{block_at}
-use Rattle.cachecore.specs.PageLists.{left}
-use Rattle.cachecore.specs.Store.{Store, stored_at, stored_page, is_awaited, with_pages}
-use Rattle.cachecore.specs.Tables.{IsCore, state_of}
-use Rattle.cachecore.proofs.EndKeeps.{quiet_core, unfilled_core, filled_core, flushed_core, flush_failed_core, fills_here}
-use Rattle.cachecore.proofs.EndSteps.{Ends, fill_end_step, flush_end_step}
-use Rattle.cachecore.proofs.FillPlaces.{is_live_fill}
-use Rattle.cachecore.proofs.PartStates.{now, Becomes, state_after, core_after, ended_state}
+use Rattle.cachecore.specs.Tables.{IsCache, IsCore}
+use Rattle.cachecore.proofs.EndKeeps.{failed_core, filled_core, fills_here, flushed_core, put_is, quiet_core}
+use Rattle.cachecore.proofs.EndKeeps.{unfilled_core}
+use Rattle.cachecore.proofs.EndSteps.{Ends, dropped_step, end_step}
+use Rattle.cachecore.proofs.Parts.{Goes, Parts, state_by}
 use Rattle.cachecore.proofs.RequestLaws.{dropped_fills_none, flush_fills_none}
-
-pub fill_kind : (k : Kind) → same_kind Fill k ≡ true → k ≡ Fill
-fill_kind Fill e = refl
-fill_kind Flush e = absurd cc
-
-pub flush_kind : (k : Kind) → same_kind Flush k ≡ true → k ≡ Flush
-flush_kind Fill e = absurd cc
-flush_kind Flush e = refl
+use Rattle.cachecore.proofs.SyncLaws.{failed_syncs, moved_syncs, pages_failed}
 
 -- a page that has a tag is cached
-pub tagged_page : (o : Option Page) → tagged (λ t. t.writeback) o ≡ true → (page : Page) × (o ≡ Some page)
-tagged_page None e = absurd cc
-tagged_page (Some page) e = (page, refl)
-
-pub page_is : (pages : FinMap nat_cmp Page) (p : ℕ) (page : Page) → finmap.get pages p ≡ Some page → the_page pages p ≡ page
-page_is pages p page is = ap (λ (o : Option Page). unwrap_or o (record { bytes = []; tags = no_tags })) is
+tagged_cached : (o : Option Page) → (tags_of o).writeback ≡ true → is_some o ≡ true
+tagged_cached None e = absurd cc
+tagged_cached (Some page) e = refl
 
 -- the block of a page that has one is written
-pub written_is : (s : State) (f p : ℕ) → is_some (block_at s f p) ≡ true → with_written (spot_at s f p) (f, p) s.spots ≡ finmap.insert s.spots (f, p) (record { block = block_of s f p; written = true })
-written_is s f p has = go (spot_at s f p) has
-  where
-    go : (o : Option Spot) → is_some (option_map (λ (x : Spot). x.block) o) ≡ true → with_written o (f, p) s.spots ≡ finmap.insert s.spots (f, p) (record { block = unwrap_or (option_map (λ (x : Spot). x.block) o) 0; written = true })
-    go None e = absurd cc
-    go (Some x) e = refl
+written_is : (o : Option Spot) (b : ℕ) (place : ℕ × ℕ) (spots : finmap.FinMap place_cmp Spot)
+    → option_map (λ (x : Spot). x.block) o ≡ Some b
+    → with_written o place spots ≡ finmap.insert spots place (record { block = b; written = true })
+written_is None b place spots e = absurd cc
+written_is (Some x) b place spots e =
+    (let same : x.block ≡ b = cc in ap (λ k. finmap.insert spots place (record { block = k; written = true })) same)
 
-module _ (sizes : Sizes) (name : ℕ) (handles : FinMap nat_cmp ℕ) (store : Store) (blocks : Blocks) (flying : Flights) (syncs : FinMap nat_cmp SyncState) where
+module _ (sizes : Sizes) (name : ℕ) (handles : FinMap nat_cmp ℕ) (p : Parts)
+    (w : IsCache (state_by sizes name handles p) p.store p.blocks) (f : FinishedTask) (x : Request) where
   abbrev s : State
-  s = state_of sizes name store.files handles blocks flying syncs
+  s = state_by sizes name handles p
 
-  -- the blocks after the one of the request is released
-  abbrev pub released : Request → Blocks
-  released r = record blocks { held = finmap.remove blocks.held r.block }
+  -- the request ended, and its block was released
+  abbrev pub left : Parts
+  left = record p {
+    blocks = record p.blocks { held = finmap.remove p.blocks.held x.block };
+    flights = flights.ended p.flights f.serial;
+  }
 
-  module _ (c : IsCore s store blocks) (f : FinishedTask) (r : Request) where
-    -- what the parts are after the request ended and its block was released
-    module _ (y : Blocks) (z : Flights) (y_is : y ≡ released r) (z_is : z ≡ flights.ended flying f.serial) where
-      abbrev quietly : (now_store : Store) → Becomes sizes name handles syncs now_store y z (record (ended s f.serial) { files = now_store.files })
-      quietly x = record { store = x; blocks = released r; flights = flights.ended flying f.serial; store_is = refl; blocks_is = y_is; flights_is = z_is; state_is = ended_state sizes name handles syncs store blocks flying f.serial x.files (released r) }
+  abbrev pub Ended : Kind → Reply → Parts → Type 0
+  Ended kind r new = Goes sizes name handles s (event.End kind (end_of f)) r new
 
-      abbrev becomes : (x x0 : Store) → x ≡ x0 → Becomes sizes name handles syncs x y z (record (ended s f.serial) { files = x0.files })
-      becomes x x0 x_is = record { store = x0; blocks = released r; flights = flights.ended flying f.serial; store_is = x_is; blocks_is = y_is; flights_is = z_is; state_is = ended_state sizes name handles syncs store blocks flying f.serial x0.files (released r) }
+  abbrev file : File
+  file = stored_at p.store x.file
 
-      -- the request is dropped, or is of no live fill
-      quiet_invariant : finmap.get s.requests f.serial ≡ Some r → is_live_fill r ≡ false → IsCore (now sizes name handles syncs store y z) store y
-      quiet_invariant found none = core_after sizes name handles syncs store y z _ (quietly store) (quiet_core s store blocks c f.serial r found none)
+  -- with these pages of its file
+  abbrev pub repaged : FinMap nat_cmp Page → Store
+  repaged pages = with_pages p.store x.file pages p.store.free
 
-      -- ---- fills
+  -- ---- fills
 
-      module _ (e : Ends s Fill f r) where
-        pub fill_dropped_core : r.dropped ≡ true → IsCore (now sizes name handles syncs store y z) store y
-        fill_dropped_core dropped = quiet_invariant e.found (dropped_fills_none r dropped)
+  module _ (e : Ends s Fill f x) where
+    pub fill_dropped : x.dropped ≡ true → Ended Fill reply.Dropped left
+    fill_dropped dropped = record {
+      step = dropped_step s Fill f x e dropped (state_by sizes name handles left) refl;
+      cache = record {
+        core = quiet_core s p.store p.blocks w.core f.serial x e.found (dropped_fills_none x dropped);
+        syncs = w.syncs;
+      };
+    }
 
-        pub fill_dropped_step : r.dropped ≡ true → Step s (event.FillEnd (end_of f)) reply.Dropped (now sizes name handles syncs store y z)
-        fill_dropped_step dropped = fill_end_step s f r e reply.Dropped _ (by_outcome (outcome_of f.outcome f.bytes) (dropped, state_after sizes name handles syncs store y z _ (quietly store)))
-          where
-            by_outcome : (o : Outcome) → (r.dropped ≡ true) × (now sizes name handles syncs store y z ≡ ended s f.serial) → FillEndReply s f.serial (Some r) o reply.Dropped (now sizes name handles syncs store y z)
-            by_outcome (outcome.Fault code) h = h
-            by_outcome (outcome.Ok bytes) h = h
+    module _ (live : x.dropped ≡ false) where
+      pub awaited_here : is_awaited p.store x.file x.page ≡ true
+      awaited_here = fills_here s p.store p.blocks w.core f.serial x e.found live e.kind_is
 
-        module _ (live : r.dropped ≡ false) where
-          pub awaited_here : is_awaited store r.file r.page ≡ true
-          awaited_here = fills_here s store blocks c f.serial r e.found live (fill_kind r.kind e.kind)
+      abbrev pub absent_again : Store
+      absent_again = record p.store {
+        filling = set.remove p.store.filling (x.file, x.page);
+        free = p.store.free + 1;
+        lists = lists.left x.file x.page p.store.lists;
+      }
 
-          module _ (x : Store) where
-            pub fill_failed_core : x ≡ record store { filling = set.remove store.filling (r.file, r.page); free = store.free + 1; lists = left r.file r.page store.lists } → IsCore (now sizes name handles syncs x y z) x y
-            fill_failed_core x_is = core_after sizes name handles syncs x y z _ (becomes x _ x_is) (unfilled_core s store blocks c f.serial r e.found live (fill_kind r.kind e.kind))
+      pub fill_fails : (code : ℕ) → f.outcome ≡ Err code
+          → Ended Fill (reply.Failed code) (record left { store = absent_again })
+      fill_fails code failed = record {
+        step = end_step s Fill f x e (outcome.Fault code) (ap (λ o. outcome_of Fill o f.bytes) failed)
+            (reply.Failed code) _ (live, refl)
+            (sym (ap (λ k. cond (is_flush k) (flush_failed (ended s f.serial) x code) (ended s f.serial)) e.kind_is));
+        cache = record {
+          core = unfilled_core s p.store p.blocks w.core f.serial x e.found live e.kind_is;
+          syncs = w.syncs;
+        };
+      }
 
-            pub fill_failed_step : x ≡ record store { filling = set.remove store.filling (r.file, r.page); free = store.free + 1; lists = left r.file r.page store.lists } → (code : ℕ) → f.outcome ≡ Err code → Step s (event.FillEnd (end_of f)) (reply.Failed code) (now sizes name handles syncs x y z)
-            fill_failed_step x_is code failed = fill_end_step s f r e (reply.Failed code) _
-                (subst (λ o. FillEndReply s f.serial (Some r) (outcome_of o f.bytes) (reply.Failed code) (now sizes name handles syncs x y z)) (sym failed) (live, refl, state_after sizes name handles syncs x y z _ (becomes x _ x_is)))
+      abbrev pub filled : Store
+      filled = record (repaged (finmap.insert file.pages x.page (record { bytes = f.bytes; tags = no_tags })))
+          { filling = set.remove p.store.filling (x.file, x.page) }
 
-            abbrev filled : List ℕ → Store
-            filled bytes = record (with_pages store r.file (finmap.insert (stored_at store r.file).pages r.page (record { bytes = bytes; tags = no_tags })) store.free) { filling = set.remove store.filling (r.file, r.page) }
+      pub fill_done : f.outcome ≡ Ok tt → length f.bytes ≡ sizes.page
+          → Ended Fill reply.Filled (record left { store = filled })
+      fill_done went size = record {
+        step = end_step s Fill f x e (outcome.Read f.bytes) (ap (λ o. outcome_of Fill o f.bytes) went) reply.Filled _
+            live refl;
+        cache = record {
+          core = filled_core s p.store p.blocks w.core f.serial x e.found live e.kind_is f.bytes size filled refl refl
+              refl;
+          syncs = moved_syncs handles p.store.files p.syncs w.syncs filled.files
+              (pages_failed (repaged (finmap.insert file.pages x.page (record { bytes = f.bytes; tags = no_tags })))
+              p.store x.file _ _ refl);
+        };
+      }
 
-            module _ (size : length f.bytes ≡ sizes.page) (bytes : List ℕ) (bytes_are : bytes ≡ f.bytes) (x_is : x ≡ filled bytes) where
-              pub fill_done_core : IsCore (now sizes name handles syncs x y z) x y
-              fill_done_core = core_after sizes name handles syncs x y z _ (becomes x _ (x_is ∙ ap filled bytes_are)) (filled_core s store blocks c f.serial r e.found live (fill_kind r.kind e.kind) f.bytes size _ refl refl refl)
+  -- ---- flushes
 
-              pub fill_done_step : f.outcome ≡ Ok tt → Step s (event.FillEnd (end_of f)) reply.Filled (now sizes name handles syncs x y z)
-              fill_done_step went = fill_end_step s f r e reply.Filled _
-                  (subst (λ o. FillEndReply s f.serial (Some r) (outcome_of o f.bytes) reply.Filled (now sizes name handles syncs x y z)) (sym went) (live, state_after sizes name handles syncs x y z _ (becomes x _ (x_is ∙ ap filled bytes_are))))
+  module _ (e : Ends s Flush f x) where
+    pub flush_dropped : x.dropped ≡ true → Ended Flush reply.Dropped left
+    flush_dropped dropped = record {
+      step = dropped_step s Flush f x e dropped (state_by sizes name handles left) refl;
+      cache = record {
+        core = quiet_core s p.store p.blocks w.core f.serial x e.found (flush_fills_none x e.kind_is);
+        syncs = w.syncs;
+      };
+    }
 
-      -- ---- flushes
+    module _ (live : x.dropped ≡ false) where
+      pub cached_here : is_some (stored_page p.store x.file x.page) ≡ true
+      cached_here = tagged_cached (page_at s x.file x.page) (w.core.sound.flush f.serial x e.found live e.kind_is)
 
-      module _ (e : Ends s Flush f r) where
-        pub flush_dropped_core : IsCore (now sizes name handles syncs store y z) store y
-        flush_dropped_core = quiet_invariant e.found (flush_fills_none r (flush_kind r.kind e.kind))
-
-        pub flush_dropped_step : r.dropped ≡ true → Step s (event.FlushEnd (end_of f)) reply.Dropped (now sizes name handles syncs store y z)
-        flush_dropped_step dropped = flush_end_step s f r e reply.Dropped _ (by_outcome (outcome_of f.outcome f.bytes) (dropped, state_after sizes name handles syncs store y z _ (quietly store)))
-          where
-            by_outcome : (o : Outcome) → (r.dropped ≡ true) × (now sizes name handles syncs store y z ≡ ended s f.serial) → FlushEndReply s f.serial (Some r) o reply.Dropped (now sizes name handles syncs store y z)
-            by_outcome (outcome.Fault code) h = h
-            by_outcome (outcome.Ok bytes) h = h
-
-    -- the page of a flush that is not dropped
-    module _ (e : Ends s Flush f r) (live : r.dropped ≡ false) where
-      kind : r.kind ≡ Flush
-      kind = flush_kind r.kind e.kind
-
-      pub flushed_page : (page : Page) × (page_at s r.file r.page ≡ Some page)
-      flushed_page = tagged_page (page_at s r.file r.page) (c.sound.flush f.serial r e.found live kind)
-
-      pub cached_here : is_some (stored_page store r.file r.page) ≡ true
-      cached_here = ap is_some flushed_page.1
-
-      -- the pages of its file, with its tags after the write
       abbrev pub retagged : Bool → Store
-      retagged failed = with_pages store r.file (finmap.insert (stored_at store r.file).pages r.page (after_write failed (the_page (stored_at store r.file).pages r.page))) store.free
+      retagged failed = repaged (change_at x.page (after_write failed) file.pages)
 
-      abbrev put_back : Bool → Store
-      put_back failed = with_pages store r.file (finmap.insert (stored_at store r.file).pages r.page (after_write failed flushed_page.0)) store.free
+      -- as the pages' call says it
+      pub retagged_is : (failed : Bool)
+          → repaged (finmap.insert file.pages x.page (after_write failed (the_page file.pages x.page)))
+          ≡ retagged failed
+      retagged_is failed = ap repaged (put_is x.page (after_write failed) file.pages cached_here)
 
-      same_page : (failed : Bool) → retagged failed ≡ put_back failed
-      same_page failed = ap (λ page. with_pages store r.file (finmap.insert (stored_at store r.file).pages r.page (after_write failed page)) store.free) (page_is (stored_at store r.file).pages r.page flushed_page.0 flushed_page.1)
-
-      -- one more failure can be counted
-      pub few_failures : (w : Store) → w ≡ retagged true → (stored_at w r.file).failures + 1 < 2 ^ 64
-      few_failures w w_is =
-          let there : stored_at (retagged true) r.file ≡ record (stored_at store r.file) { pages = finmap.insert (stored_at store r.file).pages r.page (after_write true (the_page (stored_at store r.file).pages r.page)) } =
-          get_or-set_same store.files r.file _ no_file (c.filed f.serial r e.found) in
-          let same : (stored_at w r.file).failures ≡ (stored_at store r.file).failures = ap (λ (k : Store). (stored_at k r.file).failures) w_is ∙ ap (λ (k : File). k.failures) there in
-          let count = c.failed r.file in
-          let some = len_remove_old s.requests f.serial r e.found in
-          let top : flying.next ≤ 18446744073709551615 = c.serials in
-          omega arith
-
-      module _ (x : Store) (y : Blocks) (z : Flights) (z_is : z ≡ flights.ended flying f.serial) where
-        abbrev marked : Blocks → Blocks
-        marked b = record b { spots = with_written (finmap.get b.spots (r.file, r.page)) (r.file, r.page) b.spots }
-
-        module _ (x_is : x ≡ retagged false) (left : Blocks) (left_is : left ≡ released r) (y_is : y ≡ marked left) where
-          abbrev written : Becomes sizes name handles syncs x y z (set_written (put_page (ended s f.serial) r.file r.page (after_write false flushed_page.0)) r.file r.page)
-          written =
-              let spots = written_is s r.file r.page (ap is_some (c.sound.mapped f.serial r e.found live)) in
-              let after : Blocks = record (released r) { spots = finmap.insert s.spots (r.file, r.page) (record { block = block_of s r.file r.page; written = true }) } in
-              record {
-                store = put_back false;
-                blocks = after;
-                flights = flights.ended flying f.serial;
-                store_is = x_is ∙ same_page false;
-                blocks_is = y_is ∙ ap marked left_is ∙ (λ i. record (released r) { spots = spots i });
-                flights_is = z_is;
-                state_is = ended_state sizes name handles syncs store blocks flying f.serial (put_back false).files after;
-              }
-
-          pub flush_done_core : IsCore (now sizes name handles syncs x y z) x y
-          flush_done_core = core_after sizes name handles syncs x y z _ written (flushed_core s store blocks c f.serial r e.found live kind flushed_page.0 flushed_page.1 (put_back false) refl refl refl)
-
-          pub flush_done_step : f.outcome ≡ Ok tt → Step s (event.FlushEnd (end_of f)) reply.Written (now sizes name handles syncs x y z)
-          flush_done_step went = flush_end_step s f r e reply.Written _
-              (subst (λ o. FlushEndReply s f.serial (Some r) (outcome_of o f.bytes) reply.Written (now sizes name handles syncs x y z)) (sym went) (live, flushed_page.0, flushed_page.1, state_after sizes name handles syncs x y z _ written))
-
-        abbrev noted : ℕ → Store → Store
-        noted code k = record k { files = slice_set k.files r.file (record (stored_at k r.file) { failures = (stored_at k r.file).failures + 1; last_code = code }) }
-
-        module _ (code told : ℕ) (told_is : told ≡ code) (w : Store) (w_is : w ≡ retagged true) (x_is : x ≡ noted told w) (y_is : y ≡ released r) where
-          abbrev failed : Becomes sizes name handles syncs x y z (failed_once (put_page (ended s f.serial) r.file r.page (after_write true flushed_page.0)) r.file code)
-          failed = record {
-            store = noted code (put_back true);
-            blocks = released r;
-            flights = flights.ended flying f.serial;
-            store_is = x_is ∙ (λ i. noted (told_is i) ((w_is ∙ same_page true) i));
-            blocks_is = y_is;
-            flights_is = z_is;
-            state_is = ended_state sizes name handles syncs store blocks flying f.serial (noted code (put_back true)).files (released r);
+      abbrev pub block_written : Blocks
+      block_written =
+          record left.blocks {
+            spots =
+                finmap.insert p.blocks.spots (x.file, x.page) (record { block = x.block; written = true });
           }
 
-          pub flush_failed_invariant : IsCore (now sizes name handles syncs x y z) x y
-          flush_failed_invariant = core_after sizes name handles syncs x y z _ failed (flush_failed_core s store blocks c f.serial r e.found live kind flushed_page.0 flushed_page.1 code (noted code (put_back true)) refl refl refl)
+      -- as the blocks' call says it
+      pub written_here : (let b : Blocks =
+          record left.blocks {
+            spots = with_written (finmap.get p.blocks.spots (x.file, x.page)) (x.file, x.page)
+                p.blocks.spots;
+          } in b) ≡ block_written
+      written_here =
+          let spots = written_is (finmap.get p.blocks.spots (x.file, x.page)) x.block (x.file, x.page) p.blocks.spots
+          (w.core.sound.mapped f.serial x e.found live) in
+          λ i. let b : Blocks = record left.blocks { spots = spots i } in b
 
-          pub flush_failed_step : f.outcome ≡ Err code → Step s (event.FlushEnd (end_of f)) (reply.Failed code) (now sizes name handles syncs x y z)
-          flush_failed_step went = flush_end_step s f r e (reply.Failed code) _
-              (subst (λ o. FlushEndReply s f.serial (Some r) (outcome_of o f.bytes) (reply.Failed code) (now sizes name handles syncs x y z)) (sym went) (live, refl, flushed_page.0, flushed_page.1, state_after sizes name handles syncs x y z _ failed))
+      pub flush_done : f.outcome ≡ Ok tt
+          → Ended Flush reply.Written (record left { store = retagged false; blocks = block_written })
+      flush_done went = record {
+        step = end_step s Flush f x e outcome.Written (ap (λ o. outcome_of Flush o f.bytes) went) reply.Written _ live
+            refl;
+        cache = record {
+          core = flushed_core s p.store p.blocks w.core f.serial x e.found live e.kind_is (retagged false) refl refl
+              refl;
+          syncs = moved_syncs handles p.store.files p.syncs w.syncs (retagged false).files
+              (pages_failed (retagged false) p.store x.file _ _ refl);
+        };
+      }
+
+      -- one more failure can be counted
+      pub few_failures : (k : Store)
+          → k ≡ repaged (finmap.insert file.pages x.page (after_write true (the_page file.pages x.page)))
+          → (stored_at k x.file).failures + 1 < 2 ^ 64
+      few_failures k is =
+          let there : stored_at (retagged true) x.file
+          ≡ record file { pages = change_at x.page (after_write true) file.pages } =
+          get_or-set_same p.store.files x.file _ no_file (w.core.filed f.serial x e.found) in
+          let same : (stored_at k x.file).failures ≡ file.failures = ap (λ (k : Store). (stored_at k x.file).failures)
+          (is ∙ retagged_is true) ∙ ap (λ (k : File). k.failures) there in
+          let count = w.core.failed x.file in
+          let some = len_remove_old s.requests f.serial x e.found in
+          let top : p.flights.next ≤ 18446744073709551615 = w.core.serials in
+          omega arith
+
+      abbrev pub noted : ℕ → Store → Store
+      noted code k =
+          record k {
+            files =
+                slice_set k.files x.file (record (stored_at k x.file)
+                { failures = (stored_at k x.file).failures + 1; last_code = code });
+          }
+
+      abbrev failed_file : ℕ → File
+      failed_file code =
+          record {
+            size = file.size;
+            failures = file.failures + 1;
+            last_code = code;
+            pages = change_at x.page (after_write true) file.pages;
+          }
+
+      abbrev pub failed_store : ℕ → Store
+      failed_store code = record p.store { files = slice_set p.store.files x.file (failed_file code) }
+
+      -- as the pages' two calls say it
+      pub noted_is : (code : ℕ) → noted code
+          (repaged (finmap.insert file.pages x.page (after_write true (the_page file.pages x.page))))
+          ≡ failed_store code
+      noted_is code =
+          let e : File = record file { pages = change_at x.page (after_write true) file.pages } in
+          let there : stored_at (retagged true) x.file ≡ e =
+          get_or-set_same p.store.files x.file e no_file (w.core.filed f.serial x here) in
+          let files =
+          ap (λ (k : File). slice_set (slice_set p.store.files x.file e) x.file
+          (record k { failures = k.failures + 1; last_code = code })) there
+          ∙ set-set p.store.files x.file e (failed_file code) in
+          ap (noted code) (retagged_is true) ∙ (λ i. let k : Store = record p.store { files = files i } in k)
+        where
+          here : finmap.get s.requests f.serial ≡ Some x
+          here = e.found
+
+      pub flush_fails : (code : ℕ) → f.outcome ≡ Err code → IsTrue (is_err_code code)
+          → Ended Flush (reply.Failed code) (record left { store = failed_store code })
+      flush_fails code failed is_code = record {
+        step = end_step s Flush f x e (outcome.Fault code) (ap (λ o. outcome_of Flush o f.bytes) failed)
+            (reply.Failed code) _ (live, refl)
+            (sym (ap (λ k. cond (is_flush k) (flush_failed (ended s f.serial) x code) (ended s f.serial)) e.kind_is));
+        cache = record {
+          core = failed_core s p.store p.blocks w.core f.serial x e.found live e.kind_is code (failed_store code) refl
+              refl refl;
+          syncs = failed_syncs handles p.store.files p.syncs w.syncs x.file (failed_file code) is_code;
+        };
+      }

@@ -1,84 +1,134 @@
 -- The end of a request is a step of the machine.
-use denote.Enum.Bare.{sameb}
-use Rattle.std.proofs.Common.{◌≡◌, Bool, true, false, cond, eqb, eqb-true, eq-eqb, refl, ap, sym, subst, ◌∙◌}
-use Rattle.std.specs.Prelude.{◌&&◌, Some, None}
+use Rattle.std.proofs.Common.{◌≡◌, ℕ, Bool, true, false, cond, eqb, eqb-true, eq-eqb, List, refl, ap, sym, subst, ◌∙◌}
+use Rattle.std.specs.Prelude.{◌&&◌, Option, Some, None, Ok, Err}
 use Rattle.std.specs.FinMap as finmap
 use Rattle.pc_types.specs.Kinds.{same_kind}
-use Rattle.pc_types.specs.contracts.kind.Kind.{the_type}
 use Rattle.pc_types.specs.declared.refusal.Refusal.TheVariants.{Stranger}
 use Rattle.pc_types.specs.declared.kind.Kind.{Kind}
 use Rattle.pc_types.specs.declared.kind.Kind.TheVariants.{Fill, Flush}
+use Rattle.blockdev.specs.Device as device
 use Rattle.blockdev.specs.Jobs.{FinishedTask}
-use Rattle.cachecore.specs.declared.event.Event.TheVariants as event
-use Rattle.cachecore.specs.declared.event.Reply.{Reply}
-use Rattle.cachecore.specs.State.{State, Request}
-use Rattle.cachecore.specs.Tests.{end_tests, is_of, refuse}
-use Rattle.cachecore.specs.Step.{Step, Answers, FillEndReply, FlushEndReply}
-use Rattle.cachecore.specs.Flying.{request_ended}
+use Rattle.machine.specs.declared.event.Event.TheVariants as event
+use Rattle.machine.specs.declared.event.Outcome.{Outcome}
+use Rattle.machine.specs.declared.event.Outcome.TheVariants as outcome
+use Rattle.machine.specs.declared.event.Reply.{Reply}
+use Rattle.machine.specs.declared.event.Reply.TheVariants as reply
+use Rattle.machine.specs.State as machine
+use Rattle.machine.specs.State.{State, Request}
+use Rattle.machine.specs.Changes as changes
+use Rattle.machine.specs.Changes.{ended}
+use Rattle.machine.specs.Tests.{fits, is_of, refuse, tests}
+use Rattle.machine.specs.Step.{EndReply, Step}
+use Rattle.machine.proofs.steps.Choices.{and_true}
+use Rattle.cachecore.specs.Ending.{of_kind, request_ended}
 use Rattle.cachecore.specs.Replies.{end_of, outcome_of}
-use Rattle.cachecore.proofs.Choices.{and_true}
+use Rattle.cachecore.proofs.StepLemmas.{by_change, by_test}
 
--- how the code compares kinds
-pub kinds_same : (a b : Kind) → sameb the_type a b ≡ same_kind b a
-kinds_same Fill Fill = refl
-kinds_same Fill Flush = refl
-kinds_same Flush Fill = refl
-kinds_same Flush Flush = refl
+kind_is : (a b : Kind) → same_kind a b ≡ true → b ≡ a
+kind_is Fill Fill e = refl
+kind_is Fill Flush e = absurd cc
+kind_is Flush Fill e = absurd cc
+kind_is Flush Flush e = refl
 
-module _ (s : State) (k : Kind) (f : FinishedTask) where
-  -- the cache's name and the kind are those of the job
-  abbrev is_known : Bool
-  is_known = eqb f.cache s.name && same_kind k f.kind
+-- ---- which request a job ends
 
-  -- none, where no request has the serial, or it is of the other kind
-  pub no_request : finmap.get s.requests f.serial ≡ None → request_ended s k f ≡ None
-  no_request e = go (is_known && is_of (finmap.get s.requests f.serial) k)
+-- it is of this cache, and a request of this kind
+pub record Ends (s : State) (kind : Kind) (f : FinishedTask) (x : Request) : Type 0 where
+  pub cache : f.cache ≡ s.name
+  pub job : f.kind ≡ kind
+  pub found : finmap.get s.requests f.serial ≡ Some x
+  pub kind_is : x.kind ≡ kind
+
+module _ (s : State) (kind : Kind) (f : FinishedTask) where
+  abbrev ours : Bool
+  ours = eqb f.cache s.name && same_kind kind f.kind
+
+  ends_by : (b : Bool) → ours ≡ b → (o : Option Request) → finmap.get s.requests f.serial ≡ o → (x : Request)
+      → cond b (of_kind kind o) None ≡ Some x → Ends s kind f x
+  ends_by false e o found x is = absurd cc
+  ends_by true e None found x is = absurd cc
+  ends_by true e (Some y) found x is = go (same_kind kind y.kind) refl is
     where
-      go : (b : Bool) → cond b (finmap.get s.requests f.serial) None ≡ None
-      go true = e
-      go false = refl
+      go : (b : Bool) → same_kind kind y.kind ≡ b → cond b (Some y) None ≡ Some x → Ends s kind f x
+      go false k h = absurd cc
+      go true k h =
+          let parts = and_true (eqb f.cache s.name) (same_kind kind f.kind) e in
+          let same : y ≡ x = cc in
+          record {
+            cache = eqb-true f.cache s.name parts.0;
+            job = kind_is kind f.kind parts.1;
+            found = found ∙ ap Some same;
+            kind_is = ap (λ (r : Request). r.kind) (sym same) ∙ kind_is kind y.kind k;
+          }
 
-  pub other_kind : (r : Request) → finmap.get s.requests f.serial ≡ Some r → same_kind k r.kind ≡ false → request_ended s k f ≡ None
-  other_kind r e fails = ap (λ b. cond (is_known && b) (finmap.get s.requests f.serial) None) (ap (λ o. is_of o k) e ∙ fails) ∙ go is_known
+  -- of the request that the code found, in a state that is this one
+  pub known : (t : State) (x : Request) → s ≡ t → Some x ≡ request_ended t kind f → Ends s kind f x
+  known t x view told =
+      ends_by ours refl (finmap.get s.requests f.serial) refl x (ap (λ t. request_ended t kind f) view ∙ sym told)
+
+  -- ---- where there is none
+
+  -- what is of the machine's test is of the code's
+  ends_none : (b : Bool) (o : Option Request) → cond b (of_kind kind o) None ≡ None → (a : Bool)
+      → (a && is_of kind (end_of f) o) ≡ true → b ≡ (a && same_kind kind f.kind) → ⊥
+  ends_none b None is a t same = go a t
     where
-      go : (b : Bool) → cond (b && false) (finmap.get s.requests f.serial) None ≡ None
-      go true = refl
-      go false = refl
+      go : (a : Bool) → (a && false) ≡ true → ⊥
+      go true e = cc
+      go false e = cc
+  ends_none b (Some x) is a t same =
+      let w = and_true a (same_kind kind f.kind && same_kind kind x.kind && fits kind (end_of f).outcome) t in
+      let v = and_true (same_kind kind f.kind && same_kind kind x.kind) (fits kind (end_of f).outcome) w.1 in
+      let u = and_true (same_kind kind f.kind) (same_kind kind x.kind) v.0 in
+      let on : b ≡ true = same ∙ (λ i. w.0 i && u.0 i) in
+      let clash : Some x ≡ None = sym (λ i. cond (on i) (cond (u.1 i) (Some x) None) None) ∙ is in
+      cc
 
-  pub is_ended : (r : Request) → f.cache ≡ s.name → same_kind k f.kind ≡ true → finmap.get s.requests f.serial ≡ Some r → same_kind k r.kind ≡ true → request_ended s k f ≡ Some r
-  is_ended r name kind e same =
-      (λ i. cond ((eq-eqb f.cache s.name name i && kind i) && (ap (λ o. is_of o k) e ∙ same) i) (finmap.get s.requests f.serial) None) ∙ e
-
-  -- what is known of the request that a job ends
-  pub record Ends (r : Request) : Type 0 where
-    pub test : (is_known && is_of (finmap.get s.requests f.serial) k) ≡ true
-    pub found : finmap.get s.requests f.serial ≡ Some r
-    pub kind : same_kind k r.kind ≡ true
-
-  pub ends : (r : Request) → request_ended s k f ≡ Some r → Ends r
-  ends r e = go (is_known && is_of (finmap.get s.requests f.serial) k) refl e
+  pub stranger_step : None ≡ request_ended s kind f → Step s (event.End kind (end_of f)) (reply.Refused Stranger) s
+  stranger_step none = by_test s (event.End kind (end_of f)) (reply.Refused Stranger) (go passes refl)
     where
-      go : (b : Bool) → (is_known && is_of (finmap.get s.requests f.serial) k) ≡ b → cond b (finmap.get s.requests f.serial) None ≡ Some r → Ends r
-      go false t e = absurd cc
-      go true t e = record { test = t; found = e; kind = sym (ap (λ o. is_of o k) e) ∙ (and_true is_known (is_of (finmap.get s.requests f.serial) k) t).1 }
+      passes : Bool
+      passes = eqb f.cache s.name && is_of kind (end_of f) (finmap.get s.requests f.serial)
 
-  -- of the request that the code found in a state that is this one
-  pub known : (t : State) (r : Request) → s ≡ t → Some r ≡ request_ended t k f → Ends r
-  known t r view told = ends r (ap (λ x. request_ended x k f) view ∙ sym told)
+      go : (b : Bool) → passes ≡ b → cond b None (refuse Stranger) ≡ Some (reply.Refused Stranger)
+      go false e = refl
+      go true e = absurd (ends_none ours (finmap.get s.requests f.serial) (sym none) (eqb f.cache s.name) e refl)
 
-  pub same_cache : (r : Request) → Ends r → f.cache ≡ s.name
-  same_cache r h = eqb-true f.cache s.name (and_true _ _ (and_true _ _ h.test).0).0
+-- ---- where there is one
 
-  pub no_test : (r : Request) → Ends r → end_tests s k (end_of f) ≡ None
-  no_test r h = ap (λ b. cond b None (refuse Stranger)) h.test
+module _ (s : State) (kind : Kind) (f : FinishedTask) (x : Request) (e : Ends s kind f x) where
+  no_test : tests s (event.End kind (end_of f)) ≡ None
+  no_test =
+      (λ i. cond (eq-eqb f.cache s.name e.cache i
+      && is_of kind (record (end_of f) { kind = e.job i; outcome = outcome_of (e.job i) f.outcome f.bytes })
+      (e.found i)) None (refuse Stranger))
+      ∙ ap (λ k. cond (same_kind kind kind && same_kind kind k && fits kind (outcome_of kind f.outcome f.bytes)) None
+      (refuse Stranger)) e.kind_is
+      ∙ passes kind f.outcome
+    where
+      passes : (k : Kind) (o : device.Outcome)
+          → cond (same_kind k k && same_kind k k && fits k (outcome_of k o f.bytes)) None (refuse Stranger) ≡ None
+      passes Fill (Ok u) = refl
+      passes Fill (Err c) = refl
+      passes Flush (Ok u) = refl
+      passes Flush (Err c) = refl
 
-module _ (s : State) (f : FinishedTask) where
-  pub fill_end_step : (r : Request) → Ends s Fill f r → (answer : Reply) (new : State) → FillEndReply s f.serial (Some r) (outcome_of f.outcome f.bytes) answer new → Step s (event.FillEnd (end_of f)) answer new
-  fill_end_step r h answer new step =
-      subst (λ o. Answers o answer s new (FillEndReply s f.serial (finmap.get s.requests f.serial) (outcome_of f.outcome f.bytes) answer new)) (sym (no_test s Fill f r h))
-      (subst (λ o. FillEndReply s f.serial o (outcome_of f.outcome f.bytes) answer new) (sym h.found) step)
+  -- by how the call went
+  pub end_step : (o : Outcome) → outcome_of kind f.outcome f.bytes ≡ o → (r : Reply) (new : State)
+      → EndReply (Some x) o r → new ≡ changes.request_ended s f.serial (Some x) o r
+      → Step s (event.End kind (end_of f)) r new
+  end_step o went r new may is =
+      let same : (end_of f).outcome ≡ o = ap (λ k. outcome_of k f.outcome f.bytes) e.job ∙ went in
+      by_change s (event.End kind (end_of f)) r new no_test
+      (subst (λ q. EndReply q (end_of f).outcome r) (sym e.found) (subst (λ q. EndReply (Some x) q r) (sym same) may))
+      (is ∙ (λ i. changes.request_ended s f.serial (sym e.found i) (sym same i) r))
 
-  pub flush_end_step : (r : Request) → Ends s Flush f r → (answer : Reply) (new : State) → FlushEndReply s f.serial (Some r) (outcome_of f.outcome f.bytes) answer new → Step s (event.FlushEnd (end_of f)) answer new
-  flush_end_step r h answer new step =
-      subst (λ o. Answers o answer s new (FlushEndReply s f.serial (finmap.get s.requests f.serial) (outcome_of f.outcome f.bytes) answer new)) (sym (no_test s Flush f r h))
-      (subst (λ o. FlushEndReply s f.serial o (outcome_of f.outcome f.bytes) answer new) (sym h.found) step)
+  -- one that is dropped
+  pub dropped_step : x.dropped ≡ true → (new : State) → new ≡ ended s f.serial
+      → Step s (event.End kind (end_of f)) reply.Dropped new
+  dropped_step dropped new is = go (outcome_of kind f.outcome f.bytes) refl
+    where
+      go : (o : Outcome) → outcome_of kind f.outcome f.bytes ≡ o → Step s (event.End kind (end_of f)) reply.Dropped new
+      go (outcome.Fault c) went = end_step (outcome.Fault c) went reply.Dropped new dropped is
+      go (outcome.Read b) went = end_step (outcome.Read b) went reply.Dropped new dropped is
+      go outcome.Written went = end_step outcome.Written went reply.Dropped new dropped is

@@ -1,5 +1,6 @@
 -- What a cache keeps as one file changes, and the requests, by what is known of the new file and the new requests.
-use Rattle.std.proofs.Common.{◌≡◌, ℕ, ◌+◌, ◌<◌, ◌≤◌, Bool, true, false, cond, eqb, ltb, length, refl, ap, sym, subst, ◌∙◌, arith}
+use Rattle.std.proofs.Common.{◌≡◌, ℕ, ◌+◌, ◌<◌, ◌≤◌, Bool, true, false, cond, eqb, ltb, length, refl, ap, sym, subst}
+use Rattle.std.proofs.Common.{◌∙◌, arith}
 use Rattle.std.specs.Prelude.{Some, None, slice_set}
 use Rattle.std.specs.Ordering.{nat_cmp}
 use Rattle.std.specs.FinMap as finmap
@@ -11,13 +12,13 @@ use Rattle.std.proofs.lemmas.List.Sums.{sum_by-set}
 use Rattle.pc_types.specs.declared.limits.TheConstants.{MAX_FILE_SIZE, SERIAL_END}
 use Rattle.blockmap.specs.Blocks.{Blocks, Spots}
 use Rattle.blockmap.specs.Keys.{IsPage}
-use Rattle.cachecore.specs.State.{State, File, Page, Request, Sync, no_file, file_at, page_at, is_filling, cached_total}
+use Rattle.machine.specs.State.{State, File, Page, Request, Sync, no_file, file_at, page_at, is_filling, cached_total}
 use Rattle.cachecore.specs.Holding.{Holds}
-use Rattle.cachecore.specs.Pairs.{AreSized}
-use Rattle.cachecore.specs.Sound.{Sound}
-use Rattle.cachecore.specs.Store.{Store, is_awaited}
+use Rattle.pagestore.specs.Ranges.{AreSized}
+use Rattle.machine.specs.Sound.{Sound}
+use Rattle.pagestore.specs.Store.{Store, is_awaited}
 use Rattle.cachecore.specs.Tables.{IsCore}
-use Rattle.cachecore.proofs.StateLaws.{get_or-set}
+use Rattle.machine.proofs.changes.StateLaws.{get_or-set}
 use Rattle.cachecore.proofs.RequestLaws.{filling_is}
 
 -- what is to be known of the requests and of the store after a change
@@ -38,7 +39,8 @@ page_here s f p page is = elim (ltb f (length s.files)) as (λ b. ltb f (length 
   | true ↦ λ e. grind (arith, nat_tests)
   | false ↦ λ e.
       let past : length s.files ≤ f = grind (arith, nat_tests) in
-      let none : page_at s f p ≡ None = ap (λ (x : File). finmap.get x.pages p) (get_or_past s.files f no_file past) ∙ get-empty nat_cmp p in
+      let none : page_at s f p ≡ None = ap (λ (x : File). finmap.get x.pages p) (get_or_past s.files f no_file past)
+      ∙ get-empty nat_cmp p in
       absurd (let a = sym none ∙ is in cc)
 ] refl
 
@@ -52,7 +54,8 @@ module _ (s : State) (store : Store) (blocks : Blocks) (c : IsCore s store block
     abbrev pub same_files : State
     same_files = record s { spots = spots; next = next; requests = requests; syncs = syncs }
 
-    pub requests_core : (now : Store) (held : FinMap nat_cmp Bool) → FitsCore same_files now held → IsCore same_files now (record blocks { spots = spots; held = held })
+    pub requests_core : (now : Store) (held : FinMap nat_cmp Bool) → FitsCore same_files now held
+        → IsCore same_files now (record blocks { spots = spots; held = held })
     requests_core now held n = record {
       few_files = c.few_files;
       known = c.known;
@@ -60,7 +63,8 @@ module _ (s : State) (store : Store) (blocks : Blocks) (c : IsCore s store block
       sized = c.sized;
       page = n.page;
       framed = c.framed;
-      counted = (λ i. cached_total s + sym (filling_is same_files n.sound now.filling n.filling) i + now.free) ∙ n.counted;
+      counted = (λ i. cached_total s + sym (filling_is same_files n.sound now.filling n.filling) i + now.free)
+          ∙ n.counted;
       filling = n.filling;
       device = c.device;
       holds = n.holds;
@@ -72,7 +76,8 @@ module _ (s : State) (store : Store) (blocks : Blocks) (c : IsCore s store block
     }
 
   -- file f becomes e
-  module _ (f : ℕ) (e : File) (here : f < length s.files) (spots : Spots) (next : ℕ) (requests : FinMap nat_cmp Request) (syncs : FinMap nat_cmp Sync) where
+  module _ (f : ℕ) (e : File) (here : f < length s.files) (spots : Spots) (next : ℕ) (requests : FinMap nat_cmp Request)
+      (syncs : FinMap nat_cmp Sync) where
     abbrev pub after : State
     after = record s { files = slice_set s.files f e; spots = spots; next = next; requests = requests; syncs = syncs }
 
@@ -81,21 +86,26 @@ module _ (s : State) (store : Store) (blocks : Blocks) (c : IsCore s store block
 
     -- what the new file has and each had, each has
     pub each_file : (P : File → Type 0) → P e → ((g : ℕ) → P (file_at s g)) → (g : ℕ) → P (file_at after g)
-    each_file P new old g = subst P (sym (get_or-set s.files f g e no_file here)) (elim (eqb g f) as (λ b. P (cond b e (file_at s g))) [ true ↦ new | false ↦ old g ])
+    each_file P new old g = subst P (sym (get_or-set s.files f g e no_file here))
+        (elim (eqb g f) as (λ b. P (cond b e (file_at s g))) [ true ↦ new | false ↦ old g ])
 
     -- the cached pages are as many as before, less those of the old file and more those of the new one
     pub cached_after : cached_total after + finmap.len (file_at s f).pages ≡ cached_total s + finmap.len e.pages
     cached_after = sum_by-set (λ (file : File). finmap.len file.pages) s.files f e no_file here
 
-    pub file_core : (now : Store) (held : FinMap nat_cmp Bool) → e.size ≡ (file_at s f).size → AreSized s.sizes.page e.pages → FitsCore after now held → IsCore after now (record blocks { spots = spots; held = held })
+    pub file_core : (now : Store) (held : FinMap nat_cmp Bool) → e.size ≡ (file_at s f).size
+        → AreSized s.sizes.page e.pages → FitsCore after now held
+        → IsCore after now (record blocks { spots = spots; held = held })
     file_core now held size sized n = record {
       few_files = (let a = c.few_files in let b = count_files in omega arith);
       known = λ h g is. (let a = c.known h g is in let b = count_files in omega arith);
-      bounded = each_file (λ x. x.size ≤ MAX_FILE_SIZE) (subst (λ k. k ≤ MAX_FILE_SIZE) (sym size) (c.bounded f)) c.bounded;
+      bounded = each_file (λ x. x.size ≤ MAX_FILE_SIZE) (subst (λ k. k ≤ MAX_FILE_SIZE) (sym size) (c.bounded f))
+          c.bounded;
       sized = each_file (λ x. AreSized s.sizes.page x.pages) sized c.sized;
       page = n.page;
       framed = c.framed;
-      counted = (λ i. cached_total after + sym (filling_is after n.sound now.filling n.filling) i + now.free) ∙ n.counted;
+      counted = (λ i. cached_total after + sym (filling_is after n.sound now.filling n.filling) i + now.free)
+          ∙ n.counted;
       filling = n.filling;
       device = c.device;
       holds = n.holds;

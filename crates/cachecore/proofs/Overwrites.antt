@@ -1,22 +1,23 @@
 -- Bytes written into one page that is DIRTY: the steps of a write, of which only the last two do anything.
-use Rattle.std.proofs.Common.{◌≡◌, ℕ, ◌+◌, ◌-◌, ◌*◌, ◌/◌, ◌<◌, ◌≤◌, max, true, false, cond, not, List, [], ◌∷◌, length, refl, ap, sym, subst, ◌∙◌, arith}
+use Rattle.std.proofs.Common.{◌≡◌, ℕ, ◌+◌, ◌-◌, ◌*◌, ◌/◌, ◌<◌, ◌≤◌, max, true, false, cond, not, List, [], ◌∷◌, length}
+use Rattle.std.proofs.Common.{refl, ap, sym, subst, ◌∙◌, arith}
 use Rattle.std.specs.Prelude.{filter, is_some, slice_range, slice_set}
 use Rattle.std.specs.List.{range_with_len}
 use Rattle.std.specs.FinMap as finmap
 use Rattle.std.proofs.Math.Nat.{div-mul-le_self}
 use Rattle.std.proofs.lemmas.List.{take_all}
 use Rattle.blockmap.specs.Blocks.{Blocks}
-use Rattle.cachecore.specs.State.{State, is_cached, the_page, touched_count}
-use Rattle.cachecore.specs.Moves.{write_moves}
-use Rattle.cachecore.specs.Pairs.{AreSized, IsLaid, with_part}
-use Rattle.cachecore.specs.PageLists.{PageLists, accessed, each_entered}
+use Rattle.machine.specs.State.{State, is_cached, touched_count}
+use Rattle.pagestore.specs.Store.{the_page, Store, stored_at, stored_page, with_lists, with_pages, AreMade}
+use Rattle.machine.specs.ListChanges.{lists_written}
+use Rattle.pagestore.specs.Ranges.{AreSized, IsLaid, with_part}
+use Rattle.machine.specs.PageLists.{PageLists, accessed, each_entered}
 use Rattle.cachecore.specs.Placing.{is_bare, with_placed}
-use Rattle.cachecore.specs.Store.{Store, stored_at, stored_page, with_lists, with_pages, AreMade}
-use Rattle.cachecore.proofs.OnePage.{one_count, one_last, one_range}
-use Rattle.cachecore.proofs.Overlay.{touched_above}
-use Rattle.cachecore.proofs.PairLemmas.{part_by_code}
+use Rattle.pagestore.proofs.OnePage.{one_count, one_last, one_range}
+use Rattle.pagestore.proofs.Overlay.{touched_above}
+use Rattle.pagestore.proofs.PairLemmas.{part_by_code}
 use Rattle.cachecore.proofs.PlaceLemmas.{placed_none, placed_past}
-use Rattle.cachecore.proofs.RangeLemmas.{laid_none, made_none, made_past, pages-with}
+use Rattle.pagestore.proofs.RangeLemmas.{laid_none, made_none, made_past, pages-with}
 use Rattle.cachecore.proofs.WriteMoves.{written_lists}
 use Rattle.cachecore.proofs.WriteSteps.{WriteSteps}
 
@@ -34,33 +35,45 @@ module _ (P o : ℕ) (b : List ℕ) (positive : 0 < P) (some : 0 < length b) (fi
   end_is = ap (λ n. n + 1) (sym (one_last P o (length b) positive some fits))
 
   -- the page has its block
-  pub placed_same : (blocks : Blocks) (f : ℕ) → is_bare blocks f page ≡ false → with_placed blocks f (range_with_len page (touched_count P o (length b))) ≡ blocks
+  pub placed_same : (blocks : Blocks) (f : ℕ) → is_bare blocks f page ≡ false
+      → with_placed blocks f (range_with_len page (touched_count P o (length b))) ≡ blocks
   placed_same blocks f there =
-      let one : touched_count P o (length b) ≡ page + 1 - page = omega (arith, one_count P o (length b) positive some fits) in
+      let one : touched_count P o (length b) ≡ page + 1 - page =
+      omega (arith, one_count P o (length b) positive some fits) in
       ap (λ n. with_placed blocks f (range_with_len page n)) one
       ∙ sym (placed_past blocks f page (page + 1) (omega arith) there) ∙ placed_none blocks f (page + 1)
 
-  module _ (f : ℕ) (store : Store) (here : f < length store.files) (size : P ≡ store.page) (cached : is_some (stored_page store f page) ≡ true) where
+  module _ (f : ℕ) (store : Store) (here : f < length store.files) (size : P ≡ store.page)
+      (cached : is_some (stored_page store f page) ≡ true) where
     -- no page is made
     made_same : AreMade f page end store store
-    made_same = subst (λ n. AreMade f page n store store) end_is (made_past f page (page + 1) store (omega arith) cached store (made_none store f (page + 1)))
+    made_same = subst (λ n. AreMade f page n store store) end_is
+        (made_past f page (page + 1) store (omega arith) cached store (made_none store f (page + 1)))
 
     abbrev part : Store
-    part = with_pages store f (finmap.insert (stored_at store f).pages page (with_part (the_page (stored_at store f).pages page) (o - page * P) b)) store.free
+    part = with_pages store f (finmap.insert (stored_at store f).pages page
+        (with_part (the_page (stored_at store f).pages page) (o - page * P) b)) store.free
 
-    module _ (n : ℕ) (laid final : Store) (laid_is : laid ≡ with_lists part (accessed f page store.lists)) (grown : final ≡ record laid { files = slice_set laid.files f (record (stored_at laid f) { size = n }) }) (size_is : n ≡ max (stored_at laid f).size (o + length b)) (sized : AreSized P (stored_at store f).pages) where
-      laid_pages : (stored_at laid f).pages ≡ finmap.insert (stored_at store f).pages page (with_part (the_page (stored_at store f).pages page) (o - page * P) b)
+    module _ (n : ℕ) (laid final : Store) (laid_is : laid ≡ with_lists part (accessed f page store.lists))
+        (grown : final ≡ record laid { files = slice_set laid.files f (record (stored_at laid f) { size = n }) })
+        (size_is : n ≡ max (stored_at laid f).size (o + length b)) (sized : AreSized P (stored_at store f).pages) where
+      laid_pages : (stored_at laid f).pages ≡ finmap.insert (stored_at store f).pages page
+          (with_part (the_page (stored_at store f).pages page) (o - page * P) b)
       laid_pages = ap (λ (s : Store). (stored_at s f).pages) laid_is ∙ pages-with store f here _ store.free
 
       lays : IsLaid P o b page end (stored_at store f).pages (stored_at laid f).pages
       lays =
           let start : page * P ≤ o = div-mul-le_self o P in
-          let whole : with_part (the_page (stored_at store f).pages page) (o - page * P) (slice_range b 0 (length b)) ≡ with_part (the_page (stored_at store f).pages page) (o - page * P) b =
+          let whole : with_part (the_page (stored_at store f).pages page) (o - page * P) (slice_range b 0 (length b))
+          ≡ with_part (the_page (stored_at store f).pages page) (o - page * P) b =
           ap (with_part (the_page (stored_at store f).pages page) (o - page * P)) (whole_slice b) in
-          let put = part_by_code P o page (o - page * P) 0 (length b) b page (stored_at store f).pages (stored_at store f).pages refl (omega (arith, start)) (omega (arith, start, fits)) (omega arith)
-          (laid_none P o b page (stored_at store f).pages) cached (sized.each page cached) (touched_above P o page positive (omega arith)) (omega (arith, start, some)) some positive in
+          let put = part_by_code P o page (o - page * P) 0 (length b) b page (stored_at store f).pages
+          (stored_at store f).pages refl (omega (arith, start)) (omega (arith, start, fits)) (omega arith)
+          (laid_none P o b page (stored_at store f).pages) cached (sized.each page cached)
+          (touched_above P o page positive (omega arith)) (omega (arith, start, some)) some positive in
           subst (λ k. IsLaid P o b page k (stored_at store f).pages (stored_at laid f).pages) end_is
-          (subst (IsLaid P o b page (page + 1) (stored_at store f).pages) (sym (laid_pages ∙ ap (finmap.insert (stored_at store f).pages page) (sym whole))) put)
+          (subst (IsLaid P o b page (page + 1) (stored_at store f).pages)
+          (sym (laid_pages ∙ ap (finmap.insert (stored_at store f).pages page) (sym whole))) put)
 
       pub put_steps : WriteSteps P o b f n store store laid final
       put_steps = record {
@@ -68,17 +81,21 @@ module _ (P o : ℕ) (b : List ℕ) (positive : 0 < P) (some : 0 < length b) (fi
         page = size;
         cover = made_same;
         pages = lays;
-        rest = laid_is ∙ (λ i. with_lists (with_pages store f (sym laid_pages i) store.free) (sym (ap (λ (s : Store). s.lists) laid_is) i));
+        rest = laid_is ∙ (λ i. with_lists (with_pages store f (sym laid_pages i) store.free)
+            (sym (ap (λ (s : Store). s.lists) laid_is) i));
         size = size_is;
         grown = grown;
       }
 
 -- and the page was accessed
-pub put_lists : (s : State) (f o n P : ℕ) (old new : PageLists) → P ≡ s.sizes.page → 0 < P → 0 < n → o - o / P * P + n ≤ P → is_cached s f (o / P) ≡ true → new ≡ accessed f (o / P) old → new ≡ write_moves s f o n old
+pub put_lists : (s : State) (f o n P : ℕ) (old new : PageLists) → P ≡ s.sizes.page → 0 < P → 0 < n
+    → o - o / P * P + n ≤ P → is_cached s f (o / P) ≡ true → new ≡ accessed f (o / P) old
+    → new ≡ lists_written s f o n old
 put_lists s f o n P old new size positive some fits cached new_is =
     let p = o / P in
     let range = one_range P o n positive some fits in
     written_lists s f o n old P (p ∷ []) old new size some
     (sym (ap (filter (is_cached s f)) range ∙ ap (λ b. cond b (p ∷ []) []) cached))
-    (sym (ap (λ ps. each_entered f (filter (λ q. not (is_cached s f q)) ps) old) range ∙ ap (λ b. each_entered f (cond (not b) (p ∷ []) []) old) cached))
+    (sym (ap (λ ps. each_entered f (filter (λ q. not (is_cached s f q)) ps) old) range
+    ∙ ap (λ b. each_entered f (cond (not b) (p ∷ []) []) old) cached))
     new_is

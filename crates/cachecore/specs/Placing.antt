@@ -2,8 +2,8 @@
 use Rattle.std.specs.Prelude.{ℕ, Bool, false, not, List, map, filter, is_some}
 use Rattle.std.specs.List.{zip}
 use Rattle.std.specs.FinMap.{get}
+use Rattle.maps.specs.Maps.{overwrite}
 use Rattle.blockmap.specs.Blocks.{Blocks, Spots, free_blocks}
-use Rattle.cachecore.specs.Changes.{overwrite}
 
 -- whether page p of file f has no block
 abbrev pub is_bare : Blocks → ℕ → ℕ → Bool
@@ -11,7 +11,9 @@ is_bare b f p = not (is_some (get b.spots (f, p)))
 
 -- the k-th of these pages that has no block takes the k-th free block, which is not yet written
 abbrev pub placed_on : Blocks → ℕ → List ℕ → Spots
-placed_on b f pages = overwrite (map (λ e. ((f, e.0), record { block = e.1; written = false })) (zip (filter (is_bare b f) pages) (free_blocks b))) b.spots
+placed_on b f pages =
+    let blocks = zip (filter (is_bare b f) pages) (free_blocks b) in
+    overwrite (map (λ e. ((f, e.0), record { block = e.1; written = false })) blocks) b.spots
 
 -- the blocks after that
 abbrev pub with_placed : Blocks → ℕ → List ℕ → Blocks

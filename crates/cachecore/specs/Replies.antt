@@ -1,15 +1,25 @@
--- What the calls answer, as replies of the machine.
+-- What the calls answer, as replies of the machine, and what else their contracts say of an answer.
 use Rattle.std.specs.FinMap as map
-use Rattle.std.specs.Prelude.{◌≡◌, ◌<◌, ◌≤◌, ℕ, true, false, List, length, take, Option, Some, None, option_map, ◌&&◌, if◌then◌else◌, Result, Ok, Err}
+use Rattle.std.specs.Prelude.{◌≡◌, ◌<◌, ◌≤◌, ℕ, true, false, List, length, take, Option, Some, None, option_map}
+use Rattle.std.specs.Prelude.{Result, Ok, Err}
 use Rattle.pc_types.specs.TagBits.{tag_set}
+use Rattle.pc_types.specs.declared.kind.Kind.{Kind}
+use Rattle.pc_types.specs.declared.kind.Kind.TheVariants.{Fill, Flush}
 use Rattle.pc_types.specs.declared.refusal.Refusal.{Refusal}
-use Rattle.pc_types.specs.declared.refusal.Refusal.TheVariants.{NoSuchFile, TooManyInFlight}
+use Rattle.pc_types.specs.declared.refusal.Refusal.TheVariants.{NoSuchFile}
 use Rattle.pc_types.specs.declared.ids.FileId.{FileId}
 use Rattle.pc_types.specs.declared.ids.HandleId.{HandleId}
 use Rattle.pc_types.specs.declared.ids.PageIndex.{PageIndex}
 use Rattle.pc_types.specs.declared.ids.SyncId.{SyncId}
 use Rattle.blockdev.specs.Device as device
 use Rattle.blockdev.specs.Jobs.{Task, FinishedTask}
+use Rattle.machine.specs.declared.event.End.{End}
+use Rattle.machine.specs.declared.event.Outcome.{Outcome}
+use Rattle.machine.specs.declared.event.Outcome.TheVariants as outcome
+use Rattle.machine.specs.declared.event.Reply.{Reply}
+use Rattle.machine.specs.declared.event.Reply.TheVariants as reply
+use Rattle.machine.specs.State.{State, Request, page_at, page_bytes, is_cached, is_filling}
+use Rattle.machine.specs.Tests.{refuse}
 use Rattle.cachecore.specs.declared.answers.Ended.{Ended}
 use Rattle.cachecore.specs.declared.answers.Ended.TheVariants as ended
 use Rattle.cachecore.specs.declared.answers.FillBegun.{FillBegun}
@@ -28,16 +38,6 @@ use Rattle.cachecore.specs.declared.answers.TruncateAnswer.{TruncateAnswer}
 use Rattle.cachecore.specs.declared.answers.TruncateAnswer.TheVariants as cut
 use Rattle.cachecore.specs.declared.answers.WriteAnswer.{WriteAnswer}
 use Rattle.cachecore.specs.declared.answers.WriteAnswer.TheVariants as write
-use Rattle.cachecore.specs.declared.event.End.{End}
-use Rattle.cachecore.specs.declared.event.Event.TheVariants as event
-use Rattle.cachecore.specs.declared.event.Outcome.{Outcome}
-use Rattle.cachecore.specs.declared.event.Outcome.TheVariants as outcome
-use Rattle.cachecore.specs.declared.event.Reply.{Reply}
-use Rattle.cachecore.specs.declared.event.Reply.TheVariants as reply
-use Rattle.cachecore.specs.State.{State, Request, page_at, is_cached, is_filling, is_written, spot_at}
-use Rattle.cachecore.specs.Tests.{is_full, refuse}
-use Rattle.cachecore.specs.Step.{Step, Answers, FillBeginReply}
-use Rattle.cachecore.specs.Bare.{bare}
 
 abbrev pub created : Result FileId Refusal → Reply
 created (Ok f) = reply.File f
@@ -89,10 +89,6 @@ fill_begun (Ok (fill.Filled _)) = reply.Filled
 fill_begun (Ok (fill.Job job)) = reply.Job (record { 0 = job.serial })
 fill_begun (Err e) = reply.Refused e.refusal
 
--- what is left of the step of a fill that begins, after the tests that come before those of the page's block
-abbrev pub FillsAbsent : State → ℕ → ℕ → Reply → State → Type 0
-FillsAbsent old f p r new = Answers (if is_written (spot_at old f p) && is_full old then refuse TooManyInFlight else None) r old new (FillBeginReply old f p r new)
-
 -- the buffer comes back with these bytes
 abbrev pub GivesBack : List ℕ → Result FillBegun Refused → Type 0
 GivesBack bytes (Ok (fill.Gone buffer)) = buffer ≡ bytes
@@ -105,11 +101,12 @@ GivesBack bytes (Err e) = e.buffer ≡ bytes
 -- the job is that of a request in flight, with these bytes in its buffer
 abbrev pub IsJobOf : State → Task → (Request → List ℕ) → Type 0
 IsJobOf s job bytes =
-    (r : Request) × (map.get s.requests job.serial ≡ Some r) × (job ≡ record { cache = s.name; serial = job.serial; kind = r.kind; block = r.block; bytes = bytes r })
+    (x : Request) × (map.get s.requests job.serial ≡ Some x)
+    × (job ≡ record { cache = s.name; serial = job.serial; kind = x.kind; block = x.block; bytes = bytes x })
 
 -- a job that begins a fill is its request's
 abbrev pub IsFillJob : State → Result FillBegun Refused → Type 0
-IsFillJob new (Ok (fill.Job job)) = IsJobOf new job (λ r. job.bytes)
+IsFillJob new (Ok (fill.Job job)) = IsJobOf new job (λ x. job.bytes)
 IsFillJob new _ = Unit {0}
 
 -- what holds of the job, where it begins a fill
@@ -128,24 +125,15 @@ FlushGivesBack bytes (Ok (flush.Nothing buffer)) = buffer ≡ bytes
 FlushGivesBack bytes (Ok (flush.Job job)) = Unit {0}
 FlushGivesBack bytes (Err e) = e.buffer ≡ bytes
 
--- what holds of every answer but a job
-abbrev pub UnlessJob : Result FlushBegun Refused → Type 0 → Type 0
-UnlessJob (Ok (flush.Job job)) P = Unit {0}
-UnlessJob _ P = P
-
--- a job that begins a flush is its request's, and has the bytes that this writes
+-- a job that begins a flush is its request's, and has the bytes of its page
 abbrev pub IsFlushJob : State → Result FlushBegun Refused → Type 0
-IsFlushJob full (Ok (flush.Job job)) = IsJobOf full job (λ r. r.bytes)
-IsFlushJob full _ = Unit {0}
+IsFlushJob new (Ok (flush.Job job)) = IsJobOf new job (λ x. page_bytes new x.file x.page)
+IsFlushJob new _ = Unit {0}
 
 -- what holds of the job, where it begins a flush
 abbrev pub OnFlushJob : Result FlushBegun Refused → (Task → Type 0) → Type 0
 OnFlushJob (Ok (flush.Job job)) P = P job
 OnFlushJob _ P = Unit {0}
-
--- the step of a flush that begins, and its job
-abbrev pub FlushStep : State → ℕ → Result FlushBegun Refused → State → Type 0
-FlushStep old f result new = (full : State) × Step old (event.FlushBegin (record { 0 = f })) (flush_begun result) full × (new ≡ bare full) × IsFlushJob full result
 
 abbrev pub sync_begun : Result SyncId Refusal → Reply
 sync_begun (Ok n) = reply.Sync n
@@ -166,32 +154,35 @@ SyncGivesBack bytes (Ok (sync.Clean buffer)) = buffer ≡ bytes
 SyncGivesBack bytes (Ok (sync.Failed code buffer)) = buffer ≡ bytes
 SyncGivesBack bytes (Err e) = e.buffer ≡ bytes
 
--- a job that a sync begins is its request's, and has the bytes that this writes
+-- a job that a sync begins is its request's, and has the bytes of its page
 abbrev pub IsSyncJob : State → Result SyncStepped Refused → Type 0
-IsSyncJob full (Ok (sync.Job job)) = IsJobOf full job (λ r. r.bytes)
-IsSyncJob full _ = Unit {0}
+IsSyncJob new (Ok (sync.Job job)) = IsJobOf new job (λ x. page_bytes new x.file x.page)
+IsSyncJob new _ = Unit {0}
 
 -- what holds of the job, where a sync begins one
 abbrev pub OnSyncJob : Result SyncStepped Refused → (Task → Type 0) → Type 0
 OnSyncJob (Ok (sync.Job job)) P = P job
 OnSyncJob _ P = Unit {0}
 
--- a step of sync n, and its job
-abbrev pub SyncAdvance : State → ℕ → Result SyncStepped Refused → State → Type 0
-SyncAdvance old n result new = (full : State) × Step old (event.SyncStep (record { 0 = n })) (sync_stepped result) full × (new ≡ bare full) × IsSyncJob full result
-
 abbrev pub sync_dropped : Result Unit Refusal → Reply
 sync_dropped (Ok _) = reply.Dropped
 sync_dropped (Err r) = reply.Refused r
 
--- how the device call of a finished job went
-abbrev pub outcome_of : device.Outcome → List ℕ → Outcome
-outcome_of (Ok _) bytes = outcome.Ok bytes
-outcome_of (Err code) bytes = outcome.Fault code
+-- how the device call of a finished job of this kind went, with these bytes in its buffer
+abbrev pub outcome_of : Kind → device.Outcome → List ℕ → Outcome
+outcome_of kind (Err code) bytes = outcome.Fault code
+outcome_of Fill (Ok _) bytes = outcome.Read bytes
+outcome_of Flush (Ok _) bytes = outcome.Written
 
 -- a finished job, handed in to end its request
 abbrev pub end_of : FinishedTask → End
-end_of f = record { cache = f.cache; kind = f.kind; serial = record { 0 = f.serial }; outcome = outcome_of f.outcome f.bytes }
+end_of f =
+    record {
+      cache = f.cache;
+      kind = f.kind;
+      serial = record { 0 = f.serial };
+      outcome = outcome_of f.kind f.outcome f.bytes;
+    }
 
 abbrev pub fill_ended : Result Ended RefusedEnd → Reply
 fill_ended (Ok (ended.Dropped _)) = reply.Dropped
@@ -226,4 +217,5 @@ abbrev pub TagsAre : State → ℕ → ℕ → Result PageTags Refusal → Type 
 TagsAre s f p (Err r) = (r ≡ NoSuchFile) × (length s.files ≤ f)
 TagsAre s f p (Ok tags.Filling) = (f < length s.files) × (is_filling s f p ≡ true)
 TagsAre s f p (Ok tags.Absent) = (f < length s.files) × (is_filling s f p ≡ false) × (is_cached s f p ≡ false)
-TagsAre s f p (Ok (tags.Cached t)) = (f < length s.files) × (option_map (λ page. page.tags) (page_at s f p) ≡ Some (tag_set t))
+TagsAre s f p (Ok (tags.Cached t)) =
+    (f < length s.files) × (option_map (λ page. page.tags) (page_at s f p) ≡ Some (tag_set t))

@@ -7,19 +7,26 @@ use Rattle.pc_types.specs.declared.limits.TheConstants.{MAX_FILES, MAX_FILE_SIZE
 use Rattle.blockmap.specs.Blocks.{Blocks}
 use Rattle.blockmap.specs.Keys.{IsPage}
 use Rattle.writeback.specs.Flights.{Flights}
-use Rattle.writeback.specs.Syncs.{SyncState}
-use Rattle.cachecore.specs.State.{State, File, Request, cached_total, file_at, filling_total, is_filling}
-use Rattle.cachecore.specs.Flying.{requests_of}
+use Rattle.machine.specs.State.{State, File, Request, Sync, cached_total, file_at, filling_total, is_filling}
+use Rattle.machine.specs.Sound.{Sound}
+use Rattle.pagestore.specs.Ranges.{AreSized}
+use Rattle.pagestore.specs.Store.{Store, is_awaited}
 use Rattle.cachecore.specs.Holding.{Holds}
-use Rattle.cachecore.specs.Pairs.{AreSized}
-use Rattle.cachecore.specs.Sound.{Sound}
-use Rattle.cachecore.specs.Store.{Store, is_awaited}
-use Rattle.cachecore.specs.Syncing.{AreSyncs, syncs_of}
+use Rattle.cachecore.specs.Syncing.{AreSyncs}
 
 -- the state that the tables make
-abbrev pub state_of : Sizes → ℕ → List File → FinMap nat_cmp ℕ → Blocks → Flights → FinMap nat_cmp SyncState → State
+abbrev pub state_of : Sizes → ℕ → List File → FinMap nat_cmp ℕ → Blocks → Flights → FinMap nat_cmp Sync → State
 state_of sizes name files handles blocks flights syncs =
-    record { sizes = sizes; name = name; files = files; handles = handles; spots = blocks.spots; next = flights.next; requests = requests_of flights.requests; syncs = syncs_of handles flights.requests syncs }
+    record {
+      sizes = sizes;
+      name = name;
+      files = files;
+      handles = handles;
+      spots = blocks.spots;
+      next = flights.next;
+      requests = flights.requests;
+      syncs = syncs;
+    }
 
 -- what a cache in this state keeps of its store of pages and its blocks
 pub record IsCore (s : State) (store : Store) (blocks : Blocks) : Type 0 where
@@ -43,6 +50,6 @@ pub record IsCore (s : State) (store : Store) (blocks : Blocks) : Type 0 where
   pub sound : Sound s
 
 -- what it keeps of all its tables
-pub record IsCache (s : State) (store : Store) (blocks : Blocks) (kept : FinMap nat_cmp SyncState) : Type 0 where
+pub record IsCache (s : State) (store : Store) (blocks : Blocks) : Type 0 where
   pub core : IsCore s store blocks
-  pub syncs : AreSyncs s.handles s.next s.files kept
+  pub syncs : AreSyncs s.handles s.files s.syncs

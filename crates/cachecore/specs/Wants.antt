@@ -1,23 +1,29 @@
--- Which room a call wants: frames for the pages that it lacks, and room for those that it makes dirty. No event asks for it.
+-- Which room a call wants: frames for the pages that it lacks, and room for those that it makes dirty. No event asks
+-- for it.
 use Rattle.std.specs.Prelude.{ℕ, ◌+◌, Bool, not, ◌&&◌, nat_lt, nat_le, count_by}
 use Rattle.pc_types.specs.declared.limits.TheConstants.{MAX_FILE_SIZE, MAX_TOUCHED}
-use Rattle.cachecore.specs.State.{State, dirty_total, file_of, free_frames, is_cached, is_dirty, is_open, touched, touched_count}
+use Rattle.machine.specs.State.{State, dirty_total, handle_file, free_frames, is_cached, is_open, tags_at, touched}
+use Rattle.machine.specs.State.{touched_count}
 
--- n bytes at o of an open file, which a call may touch: some, in at most 16 pages, and none past the greatest size of a file
+-- n bytes at o of an open file, which a call may touch: some, in at most 16 pages, and none past the greatest size of a
+-- file
 abbrev pub may_touch : State → ℕ → ℕ → ℕ → Bool
-may_touch s h o n = is_open s h && nat_lt 0 n && nat_le (touched_count s.sizes.page o n) MAX_TOUCHED && nat_le (o + n) MAX_FILE_SIZE
+may_touch s h o n =
+    is_open s h && nat_lt 0 n && nat_le (touched_count s.sizes.page o n) MAX_TOUCHED && nat_le (o + n) MAX_FILE_SIZE
 
 -- how many pages of f that they touch are absent, and how many are not DIRTY
 abbrev pub lacking : State → ℕ → ℕ → ℕ → ℕ
 lacking s f o n = count_by (λ p. not (is_cached s f p)) (touched s.sizes.page o n)
 
 abbrev pub dirtied : State → ℕ → ℕ → ℕ → ℕ
-dirtied s f o n = count_by (λ p. not (is_dirty s f p)) (touched s.sizes.page o n)
+dirtied s f o n = count_by (λ p. not (tags_at s f p).dirty) (touched s.sizes.page o n)
 
 -- whether fewer frames are free than such pages are absent
 abbrev pub lacks_frames : State → ℕ → ℕ → ℕ → Bool
-lacks_frames s h o n = may_touch s h o n && nat_lt (free_frames s) (lacking s (file_of s h) o n)
+lacks_frames s h o n = may_touch s h o n && nat_lt (free_frames s) (lacking s (handle_file s h) o n)
 
 -- whether too many pages would be dirty with them
 abbrev pub passes_limit : State → ℕ → ℕ → ℕ → Bool
-passes_limit s h o n = may_touch s h o n && (nat_lt 0 (dirtied s (file_of s h) o n) && nat_lt s.sizes.dirty_limit (dirty_total s + dirtied s (file_of s h) o n))
+passes_limit s h o n =
+    let more = dirtied s (handle_file s h) o n in
+    may_touch s h o n && (nat_lt 0 more && nat_lt s.sizes.dirty_limit (dirty_total s + more))

@@ -3,21 +3,20 @@
 ghost use Rattle.std.specs.Prelude.{◌≡◌, ◌≢◌, ◌+◌, ◌-◌, ◌*◌, ◌/◌, ◌^◌, ◌<◌, ◌≤◌, ℕ, [], Option, IfOk, IfSome, IsOkUnless, OnOk, OnErr, length, drop, true, false, is_some, None, Some, nat_lt, not, ◌&&◌, ◌||◌};
 ghost use Rattle.std.specs.FinMap as map;
 ghost use Rattle.mapping.specs.declared.mapping.TheConstants.{MAX_PAGES};
-ghost use Rattle.cachecore.specs.State.{dirty_total, file_of, is_filling, page_count, touched_count};
-ghost use Rattle.cachecore.specs.Tests.{covers, must_fill, room_tests, write_stop, write_tests};
-ghost use Rattle.cachecore.specs.Changes.{written};
-ghost use Rattle.cachecore.specs.Step.{Step};
-ghost use Rattle.cachecore.specs.PageLists.{no_lists};
-ghost use Rattle.cachecore.specs.Moves.{moved, write_moves};
+ghost use Rattle.machine.specs.State.{dirty_total, handle_file, is_filling, page_count, touched_count};
+ghost use Rattle.machine.specs.Tests.{covers, must_fill, room_tests, write_stop, write_tests};
+ghost use Rattle.machine.specs.Changes.{written};
+ghost use Rattle.machine.specs.Step.{Step};
+ghost use Rattle.machine.specs.PageLists.{no_lists};
+ghost use Rattle.machine.specs.ListChanges.{lists_after, lists_written};
 ghost use Rattle.cachecore.specs.Replies.{created, opened, closed, sized, wrote, was_read, bytes_read, test_of, TagsAre};
 
 use crate::answers::{PageTags, ReadAnswer, WriteAnswer};
-use crate::event::Event;
 use crate::handles::Handles;
-use crate::layout::Layout;
-use crate::pages::Pages;
 use crate::placing::{count_without_block, place};
 use blockmap::BlockMap;
+use machine::Event;
+use pagestore::{Layout, Pages};
 use pc_types::limits::{MAX_FILE_SIZE, MAX_FILES, MAX_HANDLES, MAX_PAGE_SIZE, MAX_TOUCHED};
 use pc_types::{FileId, Geometry, HandleId, PageIndex, Refusal};
 use std::alloc::{AllocError, Global};
@@ -47,7 +46,7 @@ impl Model for CacheCore {
 
     ghost view = { λ a. record { state = state_of a.geometry a.name a.pages.files a.handles a.blocks a.requests a.syncs; lists = a.pages.lists } };
 
-    ghost invariant = { λ a. IsCache (state_of a.geometry a.name a.pages.files a.handles a.blocks a.requests a.syncs) a.pages a.blocks a.syncs };
+    ghost invariant = { λ a. IsCache (state_of a.geometry a.name a.pages.files a.handles a.blocks a.requests a.syncs) a.pages a.blocks };
 }
 
 impl CacheCore {
@@ -156,7 +155,7 @@ impl CacheCore {
         out: &mut [u8],
     ) -> Result<ReadAnswer, Refusal>
         ensures step { Step self.old.state (Event.Read handle offset (length out.old)) (was_read result out.new) self.new.state }
-        ensures lists { self.new.lists ≡ moved self.old.state (Event.Read handle offset (length out.old)) (was_read result out.new) self.old.lists }
+        ensures lists { self.new.lists ≡ lists_after self.old.state (Event.Read handle offset (length out.old)) (was_read result out.new) self.old.lists }
         ensures count { bytes_read result ≤ length out.old }
         ensures rest { drop (bytes_read result) out.new ≡ drop (bytes_read result) out.old }
         ensures no_memory { result ≢ Err Refusal.Memory }
@@ -191,7 +190,7 @@ impl CacheCore {
         bytes: &[u8],
     ) -> Result<WriteAnswer, Refusal>
         ensures step { Step self.old.state (Event.Write handle offset bytes.now) (wrote result) self.new.state }
-        ensures lists { self.new.lists ≡ moved self.old.state (Event.Write handle offset bytes.now) (wrote result) self.old.lists }
+        ensures lists { self.new.lists ≡ lists_after self.old.state (Event.Write handle offset bytes.now) (wrote result) self.old.lists }
     {
         let Some(file) = self.handles.file(handle.0) else {
             return Err(Refusal::BadHandle);
@@ -227,7 +226,7 @@ impl CacheCore {
     /// Writes the bytes at the end of the file, with nothing between.
     pub fn append(&mut self, handle: HandleId, bytes: &[u8]) -> Result<WriteAnswer, Refusal>
         ensures step { Step self.old.state (Event.Append handle bytes.now) (wrote result) self.new.state }
-        ensures lists { self.new.lists ≡ moved self.old.state (Event.Append handle bytes.now) (wrote result) self.old.lists }
+        ensures lists { self.new.lists ≡ lists_after self.old.state (Event.Append handle bytes.now) (wrote result) self.old.lists }
     {
         let Some(file) = self.handles.file(handle.0) else {
             return Err(Refusal::BadHandle);
@@ -324,7 +323,7 @@ impl CacheCore {
         ensures unstopped { result ≡ true → write_stop self.old.state file offset (length bytes.now) ≡ None }
         ensures room { result ≡ true → room_tests self.old.state file offset (length bytes.now) ≡ None }
         ensures done { result ≡ true → self.new.state ≡ written self.old.state file offset bytes.now }
-        ensures lists { result ≡ true → self.new.lists ≡ write_moves self.old.state file offset (length bytes.now) self.old.lists }
+        ensures lists { result ≡ true → self.new.lists ≡ lists_written self.old.state file offset (length bytes.now) self.old.lists }
         ensures same { result ≡ false → self.new ≡ self.old }
     {
         let page_size = self.geometry.page();
@@ -348,9 +347,9 @@ impl CacheCore {
         requires some { 0 < length bytes.now }
         requires bound { offset + length bytes.now ≤ MAX_FILE_SIZE }
         requires few { touched_count self.old.state.sizes.page offset (length bytes.now) ≤ MAX_TOUCHED }
-        requires passed { (h : ℕ) × (file_of self.old.state h ≡ file) × (write_tests self.old.state h offset (length bytes.now) ≡ None) }
+        requires passed { (h : ℕ) × (handle_file self.old.state h ≡ file) × (write_tests self.old.state h offset (length bytes.now) ≡ None) }
         ensures ok { OnOk result (self.new.state ≡ written self.old.state file offset bytes.now) }
-        ensures lists { OnOk result (self.new.lists ≡ write_moves self.old.state file offset (length bytes.now) self.old.lists) }
+        ensures lists { OnOk result (self.new.lists ≡ lists_written self.old.state file offset (length bytes.now) self.old.lists) }
         ensures err { OnErr result (self.new ≡ self.old) }
     {
         let page_size = self.geometry.page();

@@ -1,8 +1,8 @@
 //! Which request a finished job ends.
 
 ghost use Rattle.std.specs.Prelude.{◌≡◌, option_map};
-ghost use Rattle.writeback.specs.Requests.{flight_of};
-ghost use Rattle.cachecore.specs.Flying.{request_of, request_ended};
+ghost use Rattle.writeback.specs.Requests.{request_of};
+ghost use Rattle.cachecore.specs.Ending.{request_ended};
 
 use crate::cache::CacheCore;
 use blockdev::Finished;
@@ -13,7 +13,7 @@ impl CacheCore {
     /// The request that a finished job ends. None where no request of this cache and of this kind is in flight with the job's
     /// serial.
     pub(crate) fn request_ended(&self, kind: Kind, finished: &Finished) -> Option<Request>
-        ensures { option_map (λ r. request_of (flight_of r)) result ≡ request_ended self.now.state kind finished.now }
+        ensures { option_map request_of result ≡ request_ended self.now.state kind finished.now }
     {
         if finished.cache() != self.name || finished.kind() != kind {
             return None;

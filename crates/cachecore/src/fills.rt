@@ -1,21 +1,22 @@
 //! Fills: an absent page read in from its block.
 
 ghost use Rattle.std.specs.Prelude.{◌≡◌, ◌<◌, Some, IfErr, IfNone, IfOk, IfSome, false, length, true, if◌then◌else◌};
+ghost use Rattle.std.specs.FinMap as map;
 ghost use Rattle.blockdev.specs.Jobs.{IsJobFor};
 ghost use Rattle.mapping.specs.declared.mapping.TheConstants.{MAX_PAGES};
 ghost use Rattle.pc_types.specs.declared.refusal.Refusal.TheVariants.{Memory, TooManyInFlight};
-ghost use Rattle.cachecore.specs.State.{free_frames, is_cached, is_filling, is_written, spot_at};
-ghost use Rattle.cachecore.specs.Tests.{is_full};
-ghost use Rattle.cachecore.specs.Changes.{filling};
-ghost use Rattle.cachecore.specs.Step.{Step};
-ghost use Rattle.cachecore.specs.PageLists.{entered};
-ghost use Rattle.cachecore.specs.Moves.{begin_moves, moved};
-ghost use Rattle.cachecore.specs.Replies.{EndGivesBack, FillsAbsent, GivesBack, IsFillJob, OnFillJob, end_of, fill_begun, fill_ended};
+ghost use Rattle.machine.specs.State.{file_at, free_frames, is_cached, is_filling, is_written, page_count, spot_at};
+ghost use Rattle.machine.specs.Tests.{is_full};
+ghost use Rattle.machine.specs.Changes.{requested};
+ghost use Rattle.machine.specs.Step.{Step};
+ghost use Rattle.machine.specs.PageLists.{entered};
+ghost use Rattle.machine.specs.ListChanges.{lists_filling, lists_after};
+ghost use Rattle.cachecore.specs.Replies.{EndGivesBack, GivesBack, IsFillJob, OnFillJob, end_of, fill_begun, fill_ended};
 
 use crate::answers::{Ended, FillBegun, Refused, RefusedEnd};
 use crate::cache::{CacheCore, page_count};
-use crate::event::Event;
 use blockdev::{Buffer, Finished, FinishedParts, Job};
+use machine::Event;
 use pc_types::{BlockNo, FileId, HandleId, Kind, PageIndex, Refusal, Serial};
 
 impl CacheCore {
@@ -29,7 +30,7 @@ impl CacheCore {
     ) -> Result<FillBegun, Refused>
         requires size { length buffer ≡ self.old.state.sizes.page }
         ensures step { Step self.old.state (Event.FillBegin handle page) (fill_begun result) self.new.state }
-        ensures lists { self.new.lists ≡ moved self.old.state (Event.FillBegin handle page) (fill_begun result) self.old.lists }
+        ensures lists { self.new.lists ≡ lists_after self.old.state (Event.FillBegin handle page) (fill_begun result) self.old.lists }
         ensures job { IsFillJob self.new.state result }
         ensures fits { OnFillJob result (IsJobFor self.old.state.name self.old.state.sizes.blocks self.old.state.sizes.page) }
         ensures back { GivesBack buffer result }
@@ -64,12 +65,13 @@ impl CacheCore {
     ) -> Result<FillBegun, Refused>
         requires here { file < length self.old.state.files }
         requires below { page.0 < MAX_PAGES }
+        requires inside { page.0 < page_count self.old.state.sizes.page (file_at self.old.state file).size }
         requires absent { is_cached self.old.state file page.0 ≡ false }
         requires idle { is_filling self.old.state file page.0 ≡ false }
         requires room { 0 < free_frames self.old.state }
         requires size { length buffer ≡ self.old.state.sizes.page }
-        ensures step { FillsAbsent self.old.state file page.0 (fill_begun result) self.new.state }
-        ensures lists { self.new.lists ≡ begin_moves file page.0 (fill_begun result) self.old.lists }
+        ensures step { (h : HandleId) → map.get self.old.state.handles h.0 ≡ Some file → Step self.old.state (Event.FillBegin h page) (fill_begun result) self.new.state }
+        ensures lists { self.new.lists ≡ lists_filling file page.0 (fill_begun result) self.old.lists }
         ensures job { IsFillJob self.new.state result }
         ensures fits { OnFillJob result (IsJobFor self.old.state.name self.old.state.sizes.blocks self.old.state.sizes.page) }
         ensures back { GivesBack buffer result }
@@ -94,8 +96,8 @@ impl CacheCore {
     /// cache with this serial is in flight; what was handed in comes back.
     pub fn fill_end(&mut self, finished: Finished) -> Result<Ended, RefusedEnd>
         requires size { finished.cache ≡ self.old.state.name → length finished.bytes ≡ self.old.state.sizes.page }
-        ensures step { Step self.old.state (Event.FillEnd (end_of finished)) (fill_ended result) self.new.state }
-        ensures lists { self.new.lists ≡ moved self.old.state (Event.FillEnd (end_of finished)) (fill_ended result) self.old.lists }
+        ensures step { Step self.old.state (Event.End Kind.Fill (end_of finished)) (fill_ended result) self.new.state }
+        ensures lists { self.new.lists ≡ lists_after self.old.state (Event.End Kind.Fill (end_of finished)) (fill_ended result) self.old.lists }
         ensures back { EndGivesBack finished result }
     {
         let Some(request) = self.request_ended(Kind::Fill, &finished) else {
@@ -130,7 +132,7 @@ impl CacheCore {
         requires here { file < length self.now.state.files }
         requires below { page.0 < MAX_PAGES }
         ensures some { IfSome result (λ block. spot_at self.now.state file page.0 ≡ Some (record { block = block.0; written = true })) }
-        ensures none { IfNone result (is_written (spot_at self.now.state file page.0) ≡ false) }
+        ensures none { IfNone result (is_written self.now.state file page.0 ≡ false) }
         ensures within { IfSome result (λ block. block.0 < self.now.state.sizes.blocks) }
     {
         // for what `free_count` ensures: the block of a page is one of the device's
@@ -151,7 +153,7 @@ impl CacheCore {
         requires idle { is_filling self.old.state file page.0 ≡ false }
         requires room { 0 < free_frames self.old.state }
         requires placed { spot_at self.old.state file page.0 ≡ Some (record { block = block.0; written = true }) }
-        ensures begun { IfOk result (λ t. (is_full self.old.state ≡ false) × (t.0 ≡ self.old.state.next) × (self.new.state ≡ filling self.old.state file page.0) × (self.new.lists ≡ entered file page.0 self.old.lists)) }
+        ensures begun { IfOk result (λ t. (is_full self.old.state ≡ false) × (t.0 ≡ self.old.state.next) × (self.new.state ≡ requested self.old.state Kind.Fill file page.0) × (self.new.lists ≡ entered file page.0 self.old.lists)) }
         ensures refused { IfErr result (λ r. (self.new ≡ self.old) × (r ≡ (if is_full self.old.state then TooManyInFlight else Memory))) }
     {
         if self.requests.is_full() {

@@ -4,16 +4,16 @@ ghost use Rattle.std.specs.Prelude.{◌≡◌, ◌≢◌, ◌<◌, IfErr, IfSome
 ghost use Rattle.blockdev.specs.Jobs.{IsJobFor};
 ghost use Rattle.mapping.specs.declared.mapping.TheConstants.{MAX_PAGES};
 ghost use Rattle.pc_types.specs.declared.refusal.Refusal.TheVariants.{Memory};
-ghost use Rattle.cachecore.specs.Step.{Step};
+ghost use Rattle.machine.specs.Step.{Step};
 ghost use Rattle.cachecore.specs.Flushing.{flush_of};
-ghost use Rattle.cachecore.specs.Replies.{EndGivesBack, FlushGivesBack, FlushStep, OnFlushJob, UnlessJob, end_of, flush_ended};
+ghost use Rattle.cachecore.specs.Replies.{EndGivesBack, FlushGivesBack, IsFlushJob, OnFlushJob, end_of, flush_begun, flush_ended};
 ghost use Rattle.cachecore.specs.Starting.{IsStarted, MayStart};
-ghost use Rattle.cachecore.specs.Tests.{is_full};
+ghost use Rattle.machine.specs.Tests.{is_full};
 
 use crate::answers::{Ended, FlushBegun, Refused, RefusedEnd};
 use crate::cache::CacheCore;
-use crate::event::Event;
 use blockdev::{Buffer, Finished, FinishedParts, Job};
+use machine::Event;
 use pc_types::limits::MAX_FILES;
 use pc_types::{FileId, Kind, PageIndex, Refusal, Serial};
 
@@ -22,9 +22,9 @@ impl CacheCore {
     /// bytes, and has as many as a page.
     pub fn flush_begin(&mut self, file: FileId, buffer: Buffer) -> Result<FlushBegun, Refused>
         requires size { length buffer ≡ self.old.state.sizes.page }
-        ensures step { FlushStep self.old.state file.0 result self.new.state }
+        ensures step { Step self.old.state (Event.FlushBegin file) (flush_begun result) self.new.state }
+        ensures job { IsFlushJob self.new.state result }
         ensures fits { OnFlushJob result (IsJobFor self.old.state.name self.old.state.sizes.blocks self.old.state.sizes.page) }
-        ensures kept { UnlessJob result (self.new ≡ self.old) }
         ensures lists { self.new.lists ≡ self.old.lists }
         ensures back { FlushGivesBack buffer result }
         ensures no_memory { IfErr result (λ e. e.refusal ≢ Memory) }
@@ -70,7 +70,7 @@ impl CacheCore {
     /// Ends a flush by its finished job. Refused by `Stranger` where no flush of this cache with this serial is in flight;
     /// what was handed in comes back.
     pub fn flush_end(&mut self, finished: Finished) -> Result<Ended, RefusedEnd>
-        ensures step { Step self.old.state (Event.FlushEnd (end_of finished)) (flush_ended result) self.new.state }
+        ensures step { Step self.old.state (Event.End Kind.Flush (end_of finished)) (flush_ended result) self.new.state }
         ensures lists { self.new.lists ≡ self.old.lists }
         ensures back { EndGivesBack finished result }
     {

@@ -3,7 +3,7 @@
 ghost use Rattle.std.specs.Prelude.{◌≡◌, ◌<◌, IfOk, OnErr, IsOkUnless, is_some, true};
 ghost use Rattle.std.specs.FinMap as map;
 ghost use Rattle.pc_types.specs.declared.refusal.Refusal.{Refusal};
-ghost use Rattle.cachecore.specs.Step.{IsLowest};
+ghost use Rattle.machine.specs.Step.{IsLowest};
 
 use idalloc::IdAlloc;
 use pc_types::Refusal;
@@ -27,13 +27,14 @@ impl Model for Handles {
     ghost use Rattle.std.specs.Coded.{coded_ℕ};
     ghost use Rattle.std.specs.Ordering.{nat_cmp};
     ghost use Rattle.std.specs.FinMap as map;
-    ghost use Rattle.cachecore.specs.Handles.{AreHandles, files_of};
+    ghost use Rattle.maps.specs.Vectors.{by_place};
+    ghost use Rattle.cachecore.specs.Handles.{AreHandles};
 
     ghost Value = { map.FinMap nat_cmp ℕ };
 
     ghost coded = { map.code coded_ℕ coded_ℕ };
 
-    ghost view = { λ a. files_of a.files.items };
+    ghost view = { λ a. by_place a.files.items };
 
     ghost invariant = { λ a. AreHandles a.ids.used a.files.items a.count };
 }

@@ -5,10 +5,10 @@ ghost use Rattle.std.specs.List.{range_with_len};
 ghost use Rattle.mapping.specs.declared.mapping.TheConstants.{MAX_PAGES};
 ghost use Rattle.blockmap.specs.Blocks.{free_blocks};
 ghost use Rattle.cachecore.specs.Placing.{is_bare, with_placed};
-ghost use Rattle.cachecore.specs.Store.{stored_page, NoneAwaited, AreMade};
+ghost use Rattle.pagestore.specs.Store.{stored_page, NoneAwaited, AreMade};
 
-use crate::pages::Pages;
 use blockmap::BlockMap;
+use pagestore::Pages;
 use pc_types::limits::MAX_FILES;
 use pc_types::{FileId, PageIndex};
 use std::alloc::AllocError;

@@ -46,6 +46,8 @@ fn starts(
 
 fn syncs(rt: &impl Abort, alloc: Global, core: &mut CacheCore) -> Result<(), Refusal> {
     assert_eq!(rt; core.sync_begin(HandleId(1)), Err(Refusal::BadHandle));
+    let nothing = core.sync_begin_range(HANDLE, PageIndex(1), PageIndex(0));
+    assert_eq!(rt; nothing, Err(Refusal::BadRange));
     assert_eq!(rt; core.sync_begin(HANDLE), Ok(SYNC));
     let both = Tags::none().with(Tag::Dirty).with(Tag::Towrite);
     assert_eq!(rt; core.tags(FILE, PageIndex(1)), Ok(PageTags::Cached(both)));
@@ -64,6 +66,25 @@ fn syncs(rt: &impl Abort, alloc: Global, core: &mut CacheCore) -> Result<(), Ref
 fn a_sync_writes_the_dirty_pages_and_waits_for_the_first(rt: HostRuntime) -> Result<(), Fail> {
     let mut core = written(rt.alloc())?;
     syncs(&rt, rt.alloc(), &mut core)?;
+    Ok(())
+}
+
+fn syncs_one_page(rt: &impl Abort, alloc: Global, core: &mut CacheCore) -> Result<(), Refusal> {
+    let begun = core.sync_begin_range(HANDLE, PageIndex(1), PageIndex(1));
+    assert_eq!(rt; begun, Ok(SYNC));
+    let dirty = Tags::none().with(Tag::Dirty);
+    assert_eq!(rt; core.tags(FILE, PageIndex(0)), Ok(PageTags::Cached(dirty)));
+    starts(rt, alloc, core, 0)?;
+    let waits = step(alloc, core)?;
+    assert!(rt; matches!(waits, Ok(SyncStepped::Wait(PageIndex(1), _))));
+    assert_eq!(rt; core.tags(FILE, PageIndex(0)), Ok(PageTags::Cached(dirty)));
+    Ok(())
+}
+
+#[test]
+fn a_sync_of_one_page_leaves_the_other(rt: HostRuntime) -> Result<(), Fail> {
+    let mut core = written(rt.alloc())?;
+    syncs_one_page(&rt, rt.alloc(), &mut core)?;
     Ok(())
 }
 

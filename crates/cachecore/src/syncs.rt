@@ -4,30 +4,50 @@ ghost use Rattle.std.specs.Prelude.{◌≡◌, ◌≢◌, ◌<◌, Err, IfErr, l
 ghost use Rattle.blockdev.specs.Jobs.{IsJobFor};
 ghost use Rattle.mapping.specs.declared.mapping.TheConstants.{MAX_PAGES};
 ghost use Rattle.pc_types.specs.declared.refusal.Refusal.TheVariants.{Memory};
-ghost use Rattle.cachecore.specs.Step.{Step};
-ghost use Rattle.cachecore.specs.Replies.{OnSyncJob, SyncGivesBack, SyncAdvance, sync_begun, sync_dropped};
+ghost use Rattle.machine.specs.Step.{Step};
+ghost use Rattle.pc_types.specs.declared.limits.TheConstants.{LAST_PAGE};
+ghost use Rattle.cachecore.specs.Replies.{IsSyncJob, OnSyncJob, SyncGivesBack, sync_begun, sync_dropped, sync_stepped};
 ghost use Rattle.cachecore.specs.Starting.{IsNext};
 
 use crate::answers::{Refused, SyncStepped};
 use crate::cache::CacheCore;
-use crate::event::Event;
 use blockdev::Buffer;
+use machine::Event;
+use pc_types::limits::LAST_PAGE;
 use pc_types::{FileId, HandleId, PageIndex, Refusal, SyncId};
 use writeback::SyncStep;
 
 impl CacheCore {
-    /// Begins a sync of the handle's file, by the lowest free number. Pages that become DIRTY later do not prolong it.
+    /// Begins a sync of the handle's whole file, by the lowest free number. Pages that become DIRTY later do not prolong it.
     pub fn sync_begin(&mut self, handle: HandleId) -> Result<SyncId, Refusal>
-        ensures step { Step self.old.state (Event.SyncBegin handle) (sync_begun result) self.new.state }
+        ensures step { Step self.old.state (Event.SyncBegin handle (record { 0 = 0 }) (record { 0 = LAST_PAGE })) (sync_begun result) self.new.state }
+        ensures lists { self.new.lists ≡ self.old.lists }
+        ensures no_memory { result ≢ Err Refusal.Memory }
+    {
+        self.sync_begin_range(handle, PageIndex(0), PageIndex(LAST_PAGE))
+    }
+
+    /// Begins a sync of the pages from `first` to `last` of the handle's file, by the lowest free number. Pages that become DIRTY
+    /// later do not prolong it.
+    pub fn sync_begin_range(
+        &mut self,
+        handle: HandleId,
+        first: PageIndex,
+        last: PageIndex,
+    ) -> Result<SyncId, Refusal>
+        ensures step { Step self.old.state (Event.SyncBegin handle first last) (sync_begun result) self.new.state }
         ensures lists { self.new.lists ≡ self.old.lists }
         ensures no_memory { result ≢ Err Refusal.Memory }
     {
         let Some(file) = self.handles.file(handle.0) else {
             return Err(Refusal::BadHandle);
         };
+        if last.0 < first.0 {
+            return Err(Refusal::BadRange);
+        }
         let failures = self.pages.failures(file);
-        let sync = self.syncs.begin(handle, failures)?;
-        self.pages.sync_begin(file);
+        let sync = self.syncs.begin(handle, first, last, failures)?;
+        self.pages.sync_begin(file, first, last);
         Ok(sync)
     }
 
@@ -35,7 +55,8 @@ impl CacheCore {
     /// buffer is for a copy of the page's bytes, and has as many as a page.
     pub fn sync_step(&mut self, sync: SyncId, buffer: Buffer) -> Result<SyncStepped, Refused>
         requires size { length buffer ≡ self.old.state.sizes.page }
-        ensures step { SyncAdvance self.old.state sync.0 result self.new.state }
+        ensures step { Step self.old.state (Event.SyncStep sync) (sync_stepped result) self.new.state }
+        ensures job { IsSyncJob self.new.state result }
         ensures fits { OnSyncJob result (IsJobFor self.old.state.name self.old.state.sizes.blocks self.old.state.sizes.page) }
         ensures lists { self.new.lists ≡ self.old.lists }
         ensures back { SyncGivesBack buffer result }
@@ -76,7 +97,8 @@ impl CacheCore {
         requires next { IsNext self.old.state sync.0 file page.0 }
         requires below { page.0 < MAX_PAGES }
         requires size { length buffer ≡ self.old.state.sizes.page }
-        ensures step { SyncAdvance self.old.state sync.0 result self.new.state }
+        ensures step { Step self.old.state (Event.SyncStep sync) (sync_stepped result) self.new.state }
+        ensures job { IsSyncJob self.new.state result }
         ensures fits { OnSyncJob result (IsJobFor self.old.state.name self.old.state.sizes.blocks self.old.state.sizes.page) }
         ensures lists { self.new.lists ≡ self.old.lists }
         ensures back { SyncGivesBack buffer result }

@@ -4,19 +4,20 @@ ghost use Rattle.std.specs.Prelude.{◌≡◌, ◌≢◌, ◌<◌, ◌≤◌, Er
 ghost use Rattle.std.specs.FinMap as map;
 ghost use Rattle.blockmap.specs.Keys.{IsPage};
 ghost use Rattle.mapping.specs.declared.mapping.TheConstants.{MAX_PAGES};
-ghost use Rattle.cachecore.specs.State.{file_at, page_count};
-ghost use Rattle.cachecore.specs.Moves.{cut_moves, moved};
-ghost use Rattle.cachecore.specs.PageLists.{cut_off};
-ghost use Rattle.cachecore.specs.Changes.{boundary, change_at, cut_page, shrunk, truncated};
-ghost use Rattle.cachecore.specs.Store.{stored_at, with_pages};
-ghost use Rattle.cachecore.specs.Step.{Step};
+ghost use Rattle.machine.specs.State.{file_at, page_count};
+ghost use Rattle.machine.specs.ListChanges.{lists_cut, lists_after};
+ghost use Rattle.machine.specs.PageLists.{cut_off};
+ghost use Rattle.machine.specs.Changes.{boundary, cut_page, shrunk, truncated};
+ghost use Rattle.maps.specs.Maps.{change_at};
+ghost use Rattle.pagestore.specs.Store.{stored_at, with_pages};
+ghost use Rattle.machine.specs.Step.{Step};
 ghost use Rattle.cachecore.specs.Replies.{was_truncated};
 
 use crate::answers::TruncateAnswer;
 use crate::cache::{CacheCore, page_count};
-use crate::event::Event;
-use crate::pages::Pages;
 use blockmap::BlockMap;
+use machine::Event;
+use pagestore::Pages;
 use pc_types::limits::MAX_FILE_SIZE;
 use pc_types::{FileId, HandleId, PageIndex, Refusal};
 
@@ -24,7 +25,7 @@ impl CacheCore {
     /// Gives the handle's file so many bytes. What is past them is gone, and a file that gets longer reads as zeros there.
     pub fn truncate(&mut self, handle: HandleId, size: u64) -> Result<TruncateAnswer, Refusal>
         ensures step { Step self.old.state (Event.Truncate handle size) (was_truncated result) self.new.state }
-        ensures lists { self.new.lists ≡ moved self.old.state (Event.Truncate handle size) (was_truncated result) self.old.lists }
+        ensures lists { self.new.lists ≡ lists_after self.old.state (Event.Truncate handle size) (was_truncated result) self.old.lists }
         ensures no_memory { result ≢ Err Refusal.Memory }
     {
         let Some(file) = self.handles.file(handle.0) else {
@@ -46,7 +47,7 @@ impl CacheCore {
     }
 
     /// The page that a truncation to `size` bytes cuts into, where it cuts into one.
-    #[tactic(auto, using(crate::proofs::Spans::last_below))]
+    #[tactic(auto, using(pagestore::proofs::Spans::last_below))]
     fn boundary(&self, file: u64, size: u64) -> Option<u64>
         requires { file < length self.now.state.files }
         ensures page { result ≡ boundary self.now.state file size }
@@ -65,7 +66,7 @@ impl CacheCore {
         requires here { file < length self.old.state.files }
         requires small { size ≤ MAX_FILE_SIZE }
         ensures state { self.new.state ≡ truncated self.old.state file size }
-        ensures lists { self.new.lists ≡ cut_moves self.old.state file size self.old.lists }
+        ensures lists { self.new.lists ≡ lists_cut self.old.state file size self.old.lists }
     {
         if size < self.pages.size(file) {
             self.shrink(file, size);

@@ -1,8 +1,8 @@
 //! Which room a call wants. Asking for it is no event.
 
-ghost use Rattle.std.specs.Prelude.{◌≡◌, ◌+◌, ◌-◌, ◌<◌, ◌≤◌, IfNone, IfSome, length, true, false};
+ghost use Rattle.std.specs.Prelude.{◌≡◌, ◌+◌, ◌-◌, ◌/◌, ◌<◌, ◌≤◌, IfNone, IfSome, length, true, false};
 ghost use Rattle.pc_types.specs.declared.limits.TheConstants.{MAX_FILE_SIZE, MAX_TOUCHED};
-ghost use Rattle.cachecore.specs.State.{file_of, first_page, last_page};
+ghost use Rattle.machine.specs.State.{handle_file};
 ghost use Rattle.cachecore.specs.Wants.{lacks_frames, may_touch, passes_limit};
 
 use crate::cache::{CacheCore, is_too_long};
@@ -43,9 +43,9 @@ impl CacheCore {
     fn touched(&self, handle: HandleId, offset: u64, count: u64) -> Option<Touched>
         ensures none { IfNone result (may_touch self.now.state handle.0 offset count ≡ false) }
         ensures some { IfSome result (λ _. may_touch self.now.state handle.0 offset count ≡ true) }
-        ensures file { IfSome result (λ t. (t.file ≡ file_of self.now.state handle.0) × (t.file < length self.now.state.files)) }
-        ensures first { IfSome result (λ t. t.first ≡ first_page self.now.state.sizes.page offset) }
-        ensures end { IfSome result (λ t. t.end ≡ last_page self.now.state.sizes.page offset count + 1) }
+        ensures file { IfSome result (λ t. (t.file ≡ handle_file self.now.state handle.0) × (t.file < length self.now.state.files)) }
+        ensures first { IfSome result (λ t. t.first ≡ offset / self.now.state.sizes.page) }
+        ensures end { IfSome result (λ t. t.end ≡ (offset + count - 1) / self.now.state.sizes.page + 1) }
         ensures few { IfSome result (λ t. (t.first ≤ t.end) × (t.end - t.first ≤ MAX_TOUCHED)) }
         ensures bound { IfSome result (λ t. t.end ≤ MAX_FILE_SIZE) }
     {

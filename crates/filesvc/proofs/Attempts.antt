@@ -1,10 +1,11 @@
 -- One attempt of a call, and a call of attempts.
-use Rattle.std.proofs.Common.{◌≡◌, ℕ, ◌+◌, ◌<◌, ◌≤◌, Bool, true, false, List, length, refl, ap, sym, subst, ◌∙◌, arith, inl, inr}
-use Rattle.std.specs.Prelude.{◌⊎◌, Option, Some, None, Result, Ok, Err, IfOk, IfSome, unwrap_or}
+use Rattle.std.proofs.Common.{◌≡◌, ℕ, ◌+◌, ◌-◌, ◌/◌, ◌<◌, ◌≤◌, Bool, true, false, List, length, refl, ap, sym, subst, ◌∙◌, arith, inl, inr}
+use Rattle.std.specs.Prelude.{◌⊎◌, Option, Some, None, Result, Ok, Err, IfOk, IfSome, unwrap_or, if◌then◌else◌}
 use Rattle.std.specs.FinMap as finmap
 use Rattle.atomic_table.specs.Seated.{TableId}
 use Rattle.errboard.specs.Shown.{RecorderSeen}
 use Rattle.pc_types.specs.declared.ids.HandleId.{HandleId}
+use Rattle.pc_types.specs.declared.limits.TheConstants.{MAX_TOUCHED}
 use Rattle.pc_types.specs.declared.ids.PageIndex.{PageIndex}
 use Rattle.pc_types.specs.declared.refusal.Refusal.{Refusal}
 use Rattle.pc_types.specs.declared.refusal.Refusal.TheVariants.{BadHandle, DirtyLimit, Io, Memory, NoFrame, NoSpace, TooLarge, TooLong, TooManyInFlight, Turns}
@@ -12,33 +13,38 @@ use Rattle.cachecore.specs.declared.answers.ReadAnswer.{ReadAnswer}
 use Rattle.cachecore.specs.declared.answers.ReadAnswer.TheVariants as read
 use Rattle.cachecore.specs.declared.answers.TruncateAnswer.{TruncateAnswer}
 use Rattle.cachecore.specs.declared.answers.TruncateAnswer.TheVariants as cut
-use Rattle.cachecore.specs.declared.event.Event.{Event}
-use Rattle.cachecore.specs.declared.event.Event.TheVariants as event
-use Rattle.cachecore.specs.declared.event.Reply.{Reply}
-use Rattle.cachecore.specs.declared.event.Reply.TheVariants as reply
+use Rattle.machine.specs.declared.event.Event.{Event}
+use Rattle.machine.specs.declared.event.Event.TheVariants as event
+use Rattle.machine.specs.declared.event.Reply.{Reply}
+use Rattle.machine.specs.declared.event.Reply.TheVariants as reply
 use Rattle.cachecore.specs.Replies.{was_read, was_truncated}
-use Rattle.cachecore.specs.State.{State, file_at, file_of, is_open}
-use Rattle.cachecore.specs.Step.{Answers, Step, WriteReply}
-use Rattle.cachecore.specs.Tests.{tests, write_tests}
-use Rattle.world.specs.Plain.{named, plain_after, plain_file}
-use Rattle.world.specs.Reached.{IsReached, files_of}
-use Rattle.world.specs.Stepping.{Held, world_of}
-use Rattle.world.specs.World.{Act, Moves}
-use Rattle.world.proofs.CoreSteps.{act_step}
-use Rattle.world.proofs.InFlight.{only_core}
-use Rattle.world.proofs.Reached.{files_step}
+use Rattle.machine.specs.State.{State, file_at, handle_file, is_open}
+use Rattle.machine.specs.Step.{Step}
+use Rattle.machine.specs.Sound.{Sound}
+use Rattle.machine.specs.Tests.{read_count, tests}
+use Rattle.filesvc.specs.Rooms.{first_page, last_page}
+use Rattle.runs.specs.Plain.{named, plain_after, plain_file}
+use Rattle.runs.specs.Reached.{IsReached, files_seen}
+use Rattle.world.specs.Stepping.{WorldSeen, world_of}
+use Rattle.runs.specs.World.{Act, WorldStep}
+use Rattle.runs.proofs.moments.Reached.{files_step}
 use Rattle.filesvc.specs.declared.writes.Wrote.{Wrote}
-use Rattle.filesvc.specs.Attempts.{Attempt, Follows, IsStopped, WroteAll, write_over}
+use Rattle.world.specs.declared.step.Step.TheVariants as step
+use Rattle.world.specs.Stepping.{Steps}
+use Rattle.filesvc.specs.Attempts.{Attempt, Follows, Helps, WroteAll, need_of, step_of, write_over}
+use Rattle.filesvc.specs.Made.{FailsFill, IsMadeOf, Tries, Try, write_step}
 use Rattle.filesvc.specs.Rests.{IsService}
 use Rattle.filesvc.specs.Seen.{HandleSeen, SoloSeen}
-use Rattle.filesvc.specs.Service.{FilesAfter, IsOpen, IsRefusal, IsSettledAtOnce, IsWithoutRoom, Keeps, Refuses, Serves, Tells, files, is_settled}
+use Rattle.filesvc.specs.Service.{FilesAfter, IsOpen, IsRefusal, IsSettledAtOnce, IsSoonOver, Keeps, Refuses, Serves, Tells, files, is_settled, touched_by, wrote_reply}
 use Rattle.filesvc.proofs.Acted.{service_acted}
-use Rattle.filesvc.proofs.CallSteps.{call_keeps, call_no_sync, comes, is_call, is_own, no_job, own_reply, plain_refused, wrote_all}
+use Rattle.filesvc.proofs.CallSteps.{call_keeps, call_no_sync, comes, is_call, is_own, no_job, own_reply, plain_refused, appended_all, wrote_all}
 use Rattle.filesvc.proofs.FileSizes.{lengths_stay}
-use Rattle.filesvc.proofs.Laws.{keeps_counted, keeps_trans, serves_counted, serves_refl, serves_trans}
+use Rattle.filesvc.proofs.Laws.{helps_refl, tries_again, keeps_counted, keeps_trans, serves_counted, serves_refl, serves_trans}
 use Rattle.filesvc.proofs.Fronts.{closed_refuses, handle_of, kept_refuses}
-use Rattle.filesvc.proofs.RoomLaws.{faulted_before, fill_refusal_before, room_before}
+use Rattle.filesvc.proofs.RoomLaws.{faulted_before, held_same, room_before}
 use Rattle.filesvc.specs.Rooms.{IsFillRefusal}
+use Rattle.filesvc.proofs.Needs.{need_most}
+use Rattle.filesvc.proofs.Stops.{read_few, write_few}
 use Rattle.filesvc.proofs.WorldLaws.{made_keeps}
 
 -- ---- refusals
@@ -54,7 +60,7 @@ refused_before old mid e DirtyLimit new call s x = room_before old mid new Dirty
 refused_before old mid e (Io code) new call s x = faulted_before old mid new s x
 refused_before old mid e TooManyInFlight new call s x = x
 refused_before old mid e Memory new call s x = tt
-refused_before old mid e Turns new call s x = x
+refused_before old mid e Turns new call s x = (λ t. x.0 (s.keeps.tells ∙ t), x.1)
 refused_before old mid e r new call s x = absurd x
 
 -- an event that the cache itself refused, but for want of room
@@ -69,27 +75,36 @@ by_event old new e r own t (inr k) same = absurd cc
 
 -- ---- one attempt
 
+-- its own step of the world
+own_step : (old new : WorldSeen) (e : Event) (got : Reply) → is_call e ≡ true
+    → WorldStep (world_of old) (Act e got) (world_of new) → new.device ≡ old.device → Steps old (step_of e) got new
+own_step old new (event.Read h o n) got call m d = inl (m, d)
+own_step old new (event.Write h o b) got call m d = (m, d)
+own_step old new (event.Append h b) got call m d = (m, d)
+own_step old new (event.Truncate h z) got call m d = (m, d)
+own_step old new e got call m d = absurd cc
+
 -- the service after the event of an attempt
-abbrev pub acted : SoloSeen → Held → SoloSeen
+abbrev pub acted : SoloSeen → WorldSeen → SoloSeen
 acted old w = record { world = w; errors = old.errors; attempts = old.attempts + 1 }
 
-module _ (old : SoloSeen) (h : HandleId) (e : Event) (got : Reply) (w : Held) (call : is_call e ≡ true) (m : Moves (world_of old.world) (Act e got) (world_of w)) (d : w.device ≡ old.world.device) where
-  step : Step old.world.core e got w.core
-  step = act_step (world_of old.world) (world_of w) e got m
+module _ (old : SoloSeen) (h : HandleId) (e : Event) (got : Reply) (w : WorldSeen) (call : is_call e ≡ true) (m : WorldStep (world_of old.world) (Act e got) (world_of w)) (d : w.device ≡ old.world.device) (ok : Sound old.world.core) where
+  stepped : Step old.world.core e got w.core
+  stepped = m.1.0
 
   same_world : w.core ≡ old.world.core → world_of w ≡ world_of old.world
-  same_world c = only_core (world_of old.world) (world_of w) e got m ∙ ap (λ (x : State). record (world_of old.world) { core = x }) c
+  same_world c = ap world_of (held_same old.world w e got (m, d) (no_job got (comes old.world.core w.core e got call m.1.0).own) c)
 
   keeps_acted : Keeps old (acted old w)
-  keeps_acted = keeps_counted old (record old { world = w }) old.attempts (old.attempts + 1) (made_keeps old w e got (m, d) (call_keeps e got call))
+  keeps_acted = keeps_counted old (record old { world = w }) old.attempts (old.attempts + 1) (made_keeps old w e got (m, d) ok (call_keeps e got call))
 
   serves_acted : w.core ≡ old.world.core → Serves old (acted old w)
-  serves_acted c = record { keeps = keeps_acted; lengths = λ f. ap (λ (s : State). (file_at s f).size) c; files = λ _. ap files_of (same_world c) }
+  serves_acted c = record { keeps = keeps_acted; lengths = λ f. ap (λ (s : State). (file_at s f).size) c; files = λ _. ap files_seen (same_world c) }
 
   -- the event was refused by the cache, but for want of room
   refused_over : (r : Refusal) → is_settled (Some got) ≡ true → got ≡ reply.Refused r → IsRefusal old e r (acted old w)
   refused_over r t is =
-      let c = comes old.world.core w.core e got call step in
+      let c = comes old.world.core w.core e got call stepped in
       let own : is_own r ≡ true = subst (λ x. own_reply x ≡ true) is c.own in
       by_event old (acted old w) e r own (subst (λ x. is_settled (Some x) ≡ true) is t) (c.why r is) (c.refused r is)
 
@@ -100,20 +115,29 @@ module _ (old : SoloSeen) (h : HandleId) (e : Event) (got : Reply) (w : Held) (c
       keeps = keeps_acted;
       counted = refl;
       again = λ is. absurd cc;
-      files = λ r is tells. files_step (world_of old.world) (world_of w) (Act e got) (reached tells) m ∙ ap (plain_after (files_of (world_of old.world)) e) (let x : got ≡ r = cc in x);
-      settled = λ _. (got, refl, step);
+      files = λ r is tells. files_step (world_of old.world) (world_of w) (Act e got) (reached tells) m ∙ ap (plain_after (files_seen (world_of old.world)) e) (let x : got ≡ r = cc in x);
+      settled = λ _. (got, refl, stepped);
+      tried = record {
+        got = got;
+        after = w;
+        step = own_step old.world w e got call m d;
+        settled = λ _. (refl, refl);
+        helped = λ u. absurd (let x : true ≡ false = sym t ∙ u in cc);
+        failed = λ u. absurd (let x : true ≡ false = sym t ∙ u in cc);
+      };
       refused = λ r is. refused_over r t (let x : got ≡ reply.Refused r = cc in x);
+      less = λ _ is. absurd cc;
     }
 
     -- it went on after the event
-    pub attempt_follows : (over : Option Reply) (new : SoloSeen) → handle_of e ≡ h.0 → Follows (acted old w) h got over new → Attempt old e over new
-    attempt_follows over new by f = by_settled (is_settled (Some got)) refl
+    pub attempt_follows : (over : Option Reply) (new : SoloSeen) → handle_of e ≡ h.0 → Follows (acted old w) h got over new → (is_settled (Some got) ≡ false → Tells (acted old w) → over ≡ None → need_of new.world.core e < need_of w.core e) → Attempt old e over new
+    attempt_follows over new by f gains = by_settled (is_settled (Some got)) refl
       where
         unsettled : is_settled (Some got) ≡ false → Attempt old e over new
         unsettled u =
-            let c = comes old.world.core w.core e got call step in
+            let c = comes old.world.core w.core e got call stepped in
             let s = serves_acted (c.same u) in
-            let t = serves_trans old (acted old w) new s f.serves in
+            let t = serves_trans old (acted old w) new s f.helps.serves in
             record {
               keeps = t.keeps;
               counted = f.attempts;
@@ -122,35 +146,40 @@ module _ (old : SoloSeen) (h : HandleId) (e : Event) (got : Reply) (w : Held) (c
               settled = λ x. absurd (let y = c.unsettled u in cc);
               refused = λ r is. elim (f.stopped u) [
                 | inl a ↦ absurd (let x : Some (reply.Refused r) ≡ None = sym is ∙ a in cc)
-                | inr a ↦ (let x : a.0 ≡ r = (let y : Some (reply.Refused a.0) ≡ Some (reply.Refused r) = sym a.1 ∙ is in cc) in subst (λ z. IsRefusal old e z new) x (stopped a.0 a.2))
+                | inr a ↦ (let x : a.0 ≡ r = (let y : Some (reply.Refused a.0) ≡ Some (reply.Refused r) = sym a.1 ∙ is in cc) in subst (λ z. IsRefusal old e z new) x (refused_before old (acted old w) e a.0 new call s (fill_refuses a.0 a.2)))
               ];
+              tried = record {
+                got = got;
+                after = w;
+                step = own_step old.world w e got call m d;
+                settled = λ t. absurd (let x : true ≡ false = sym t ∙ u in cc);
+                helped = λ _. f.helps.moves;
+                failed = λ _. fails;
+              };
+              less = λ tells is. subst (λ x. need_of new.world.core e < need_of x e) (c.same u) (gains u (s.keeps.tells ∙ tells) is);
             }
           where
-            before : Serves old (acted old w)
-            before = serves_acted ((comes old.world.core w.core e got call step).same u)
+            fails : (code : ℕ) → over ≡ Some (reply.Refused (Io code)) → FailsFill w code new.world
+            fails code is = elim (f.stopped u) [
+              | inl a ↦ absurd (let x : Some (reply.Refused (Io code)) ≡ None = sym is ∙ a in cc)
+              | inr a ↦ (let x : Some (reply.Refused a.0) ≡ Some (reply.Refused (Io code)) = sym a.1 ∙ is in
+                  let y : a.0 ≡ Io code = cc in
+                  (subst (λ r. IsFillRefusal (acted old w) h r new) y a.2).1)
+            ]
 
-            fill_refuses : (r : Refusal) → IsFillRefusal old h r new → IsRefusal old e r new
-            fill_refuses BadHandle x = closed_refuses old.world.core e call (ap (λ k. is_open old.world.core k) by ∙ x)
+            fill_refuses : (r : Refusal) → IsFillRefusal (acted old w) h r new → IsRefusal (acted old w) e r new
+            fill_refuses BadHandle x = closed_refuses w.core e call (ap (λ k. is_open w.core k) by ∙ x)
             fill_refuses NoFrame x = x
-            fill_refuses (Io code) x = x
+            fill_refuses DirtyLimit x = x
+            fill_refuses (Io code) x = x.0
             fill_refuses TooManyInFlight x = x
             fill_refuses Memory x = tt
             fill_refuses r x = absurd x
 
-            wants_room : (r : Refusal) → is_settled (Some (reply.Refused r)) ≡ false → IsWithoutRoom old r new → IsRefusal old e r new
-            wants_room NoFrame k x = x
-            wants_room DirtyLimit k x = x
-            wants_room r k x = absurd cc
-
-            stopped : (r : Refusal) → IsStopped (acted old w) h got r new → IsRefusal old e r new
-            stopped r (inl a) = fill_refuses r (fill_refusal_before old (acted old w) new h r before a)
-            stopped r (inr (inl a)) = wants_room r (ap (λ x. is_settled (Some x)) (sym a.0) ∙ u) (room_before old (acted old w) new r before a.1)
-            stopped r (inr (inr a)) = subst (λ z. IsRefusal old e z new) (sym a) tt
-
-            after : (r : Reply) → over ≡ Some r → plain_after (files_of (world_of old.world)) e r ≡ files_of (world_of old.world)
+            after : (r : Reply) → over ≡ Some r → plain_after (files_seen (world_of old.world)) e r ≡ files_seen (world_of old.world)
             after r is = elim (f.stopped u) [
               | inl a ↦ absurd (let x : Some r ≡ None = sym is ∙ a in cc)
-              | inr a ↦ (let x : reply.Refused a.0 ≡ r = (let y : Some (reply.Refused a.0) ≡ Some r = sym a.1 ∙ is in cc) in ap (plain_after (files_of (world_of old.world)) e) (sym x) ∙ plain_refused (files_of (world_of old.world)) e a.0 call)
+              | inr a ↦ (let x : reply.Refused a.0 ≡ r = (let y : Some (reply.Refused a.0) ≡ Some r = sym a.1 ∙ is in cc) in ap (plain_after (files_seen (world_of old.world)) e) (sym x) ∙ plain_refused (files_seen (world_of old.world)) e a.0 call)
             ]
 
         by_settled : (b : Bool) → is_settled (Some got) ≡ b → Attempt old e over new
@@ -158,9 +187,9 @@ module _ (old : SoloSeen) (h : HandleId) (e : Event) (got : Reply) (w : Held) (c
         by_settled false u = unsettled u
 
 -- a read leaves the files, whatever it answers
-pub read_serves : (old : SoloSeen) (h : HandleId) (o n : ℕ) (got : Reply) (w : Held) → Moves (world_of old.world) (Act (event.Read h o n) got) (world_of w) → w.device ≡ old.world.device → (Tells old → IsReached (world_of old.world)) → Serves old (acted old w)
-read_serves old h o n got w m d reached = record {
-  keeps = keeps_acted old h (event.Read h o n) got w refl m d;
+pub read_serves : (old : SoloSeen) (h : HandleId) (o n : ℕ) (got : Reply) (w : WorldSeen) → WorldStep (world_of old.world) (Act (event.Read h o n) got) (world_of w) → w.device ≡ old.world.device → Sound old.world.core → (Tells old → IsReached (world_of old.world)) → Serves old (acted old w)
+read_serves old h o n got w m d ok reached = record {
+  keeps = keeps_acted old h (event.Read h o n) got w refl m d ok;
   lengths = lengths_stay (world_of old.world) (world_of w) (Act (event.Read h o n) got) refl m;
   files = λ tells. files_step (world_of old.world) (world_of w) (Act (event.Read h o n) got) (reached tells) m;
 }
@@ -177,13 +206,13 @@ truncate_unsettled a p (inr e) = ap (λ x. is_settled (Some (was_truncated (Ok x
 
 module _ (old : SoloSeen) (h : HandleId) (got : Reply) (new : SoloSeen) where
   pub follows_over : new ≡ old → is_settled (Some got) ≡ true → Follows old h got (Some got) new
-  follows_over same t = record { serves = subst (Serves old) (sym same) (serves_refl old); attempts = ap (λ s. s.attempts) same; settled = λ _. (refl, same); stopped = λ u. absurd cc }
+  follows_over same t = record { helps = subst (Helps old) (sym same) (helps_refl old); attempts = ap (λ s. s.attempts) same; settled = λ _. (refl, same); stopped = λ u. absurd cc }
 
-  pub follows_again : Serves old new → new.attempts ≡ old.attempts → is_settled (Some got) ≡ false → Follows old h got None new
-  follows_again s a u = record { serves = s; attempts = a; settled = λ t. absurd cc; stopped = λ _. inl refl }
+  pub follows_again : Helps old new → new.attempts ≡ old.attempts → is_settled (Some got) ≡ false → Follows old h got None new
+  follows_again s a u = record { helps = s; attempts = a; settled = λ t. absurd cc; stopped = λ _. inl refl }
 
-  pub follows_refused : (r : Refusal) → Serves old new → new.attempts ≡ old.attempts → is_settled (Some got) ≡ false → IsStopped old h got r new → Follows old h got (Some (reply.Refused r)) new
-  follows_refused r s a u why = record { serves = s; attempts = a; settled = λ t. absurd cc; stopped = λ _. inr (r, refl, why) }
+  pub follows_refused : (r : Refusal) → Helps old new → new.attempts ≡ old.attempts → is_settled (Some got) ≡ false → IsFillRefusal old h r new → Follows old h got (Some (reply.Refused r)) new
+  follows_refused r s a u why = record { helps = s; attempts = a; settled = λ t. absurd cc; stopped = λ _. inr (r, refl, why) }
 
   pub follows_wrote : (n end : ℕ) → Follows old h got (Some (reply.Wrote n end)) new → got ≡ reply.Wrote n end
   follows_wrote n end f = by_settled (is_settled (Some got)) refl
@@ -193,10 +222,15 @@ module _ (old : SoloSeen) (h : HandleId) (got : Reply) (new : SoloSeen) where
       by_settled false u = elim (f.stopped u) [ inl a ↦ absurd cc | inr a ↦ absurd (let x = a.1 in cc) ]
 
 -- what was written, in the end, where an event of so many bytes at o was made
-pub follows_all : (old : SoloSeen) (h : HandleId) (got : Reply) (new : SoloSeen) (s t : State) (o : ℕ) (b : List ℕ) (result : Result (Option Wrote) Refusal) → Follows old h got (write_over result) new → Answers (write_tests s h.0 o (length b)) got s t (WriteReply s (file_of s h.0) o b got t) → IfOk result (λ x. IfSome x (WroteAll o b))
-follows_all old h got new s t o b (Ok (Some w)) f made = wrote_all s t h.0 o b w (subst (λ r. Answers (write_tests s h.0 o (length b)) r s t (WriteReply s (file_of s h.0) o b r t)) (follows_wrote old h got new w.count w.end f) made)
+pub follows_all : (old : SoloSeen) (h : HandleId) (got : Reply) (new : SoloSeen) (s t : State) (o : ℕ) (b : List ℕ) (result : Result (Option Wrote) Refusal) → Follows old h got (write_over result) new → Step s (event.Write h o b) got t → IfOk result (λ x. IfSome x (WroteAll o b))
+follows_all old h got new s t o b (Ok (Some w)) f made = wrote_all s t h o b w (subst (λ r. Step s (event.Write h o b) r t) (follows_wrote old h got new w.count w.end f) made)
 follows_all old h got new s t o b (Ok None) f made = tt
 follows_all old h got new s t o b (Err r) f made = tt
+
+pub follows_appended : (old : SoloSeen) (h : HandleId) (got : Reply) (new : SoloSeen) (s t : State) (b : List ℕ) (result : Result (Option Wrote) Refusal) → Follows old h got (write_over result) new → Step s (event.Append h b) got t → IfOk result (λ x. IfSome x (WroteAll (file_at s (handle_file s h.0)).size b))
+follows_appended old h got new s t b (Ok (Some w)) f made = appended_all s t h b w (subst (λ r. Step s (event.Append h b) r t) (follows_wrote old h got new w.count w.end f) made)
+follows_appended old h got new s t b (Ok None) f made = tt
+follows_appended old h got new s t b (Err r) f made = tt
 
 pub settled_unless : (r : Refusal) → (r ≡ NoFrame → ⊥) → (r ≡ DirtyLimit → ⊥) → is_settled (Some (reply.Refused r)) ≡ true
 settled_unless NoFrame a b = absurd (a refl)
@@ -204,8 +238,8 @@ settled_unless DirtyLimit a b = absurd (b refl)
 settled_unless r a b = refl
 
 -- the event keeps what holds of a service between its calls
-pub service_kept : (name : ℕ) (w new : Held) (table : TableId) (errors : RecorderSeen) (e : Event) (got : Reply) → is_call e ≡ true → Moves (world_of w) (Act e got) (world_of new) → new.device ≡ w.device → IsService name w table errors → IsService name new table errors
-service_kept name w new table errors e got call m d s = service_acted name w new table errors s e got m d (call_no_sync e call) (no_job got (comes w.core new.core e got call (act_step (world_of w) (world_of new) e got m)).own)
+pub service_kept : (name : ℕ) (w new : WorldSeen) (table : TableId) (errors : RecorderSeen) (e : Event) (got : Reply) → is_call e ≡ true → WorldStep (world_of w) (Act e got) (world_of new) → new.device ≡ w.device → IsService name w table errors → IsService name new table errors
+service_kept name w new table errors e got call m d s = service_acted name w new table errors s e got m d (call_no_sync e call) (no_job got (comes w.core new.core e got call m.1.0).own)
 
 -- ---- a call of attempts
 
@@ -215,6 +249,9 @@ pub record Trying (old : SoloSeen) (e : Event) (cur : SoloSeen) : Type 0 where
   pub few : cur.attempts ≤ 256
   -- after the first attempt the event was not settled at once
   pub first : is_settled (tests old.world.core e) ≡ true → (cur.world.core ≡ old.world.core) × (cur.attempts ≡ 0)
+  pub tried : Tries (step_of e) old.world cur.attempts cur.world
+  -- what it needs still is no more than is left
+  pub room : Tells old → cur.attempts + need_of cur.world.core e ≤ touched_by old.world.core e + 1
 
 -- a call that ended with this reply
 pub record Ended (old : SoloSeen) (h : HandleSeen) (e : Event) (r : Reply) (new : SoloSeen) : Type 0 where
@@ -222,10 +259,31 @@ pub record Ended (old : SoloSeen) (h : HandleSeen) (e : Event) (r : Reply) (new 
   pub files : FilesAfter old e r new
   pub first : IsSettledAtOnce old h e r new
   pub refused : (why : Refusal) → r ≡ reply.Refused why → IsRefusal old e why new
+  pub attempts : IsSoonOver old e new
+  pub made : IsMadeOf (step_of e) old r new
+
+-- at first it needs one more than it touches pages at most
+need_within : (s : State) (e : Event) → need_of s e ≤ touched_by s e + 1
+need_within s (event.Read h o n) = need_most false s h.0 o (read_count s (handle_file s h.0) o n)
+need_within s (event.Write h o b) = need_most true s h.0 o (length b)
+need_within s (event.Append h b) = need_most true s h.0 (file_at s (handle_file s h.0)).size (length b)
+need_within s (event.Truncate h z) =
+    let one : z + 1 - 1 ≡ z = omega arith in
+    let last : last_page s.sizes.page z 1 ≡ first_page s.sizes.page z = ap (λ k. k / s.sizes.page) one in
+    let m = need_most false s h.0 z 1 in omega arith
+need_within s e = omega arith
+
+-- and one that is not over at once touches 16 pages at most
+few_touched : (s : State) (e : Event) → is_call e ≡ true → is_settled (tests s e) ≡ false → touched_by s e ≤ MAX_TOUCHED
+few_touched s (event.Read h o n) call u = read_few s h.0 o n u
+few_touched s (event.Write h o b) call u = write_few s h.0 o (length b) u
+few_touched s (event.Append h b) call u = write_few s h.0 (file_at s (handle_file s h.0)).size (length b) u
+few_touched s (event.Truncate h z) call u = omega arith
+few_touched s e call u = absurd cc
 
 module _ (old : SoloSeen) (e : Event) where
   pub try_first : Trying old e (record old { attempts = 0 })
-  try_first = record { serves = serves_counted old old _ 0 (serves_refl old); few = omega arith; first = λ _. (refl, refl) }
+  try_first = record { serves = serves_counted old old _ 0 (serves_refl old); few = omega arith; first = λ _. (refl, refl); tried = refl; room = λ _. (let m = need_within old.world.core e in omega arith) }
 
   module _ (cur : SoloSeen) (t : Trying old e cur) where
     settled_first : is_settled (tests old.world.core e) ≡ true → is_settled (tests cur.world.core e) ≡ true
@@ -236,6 +294,8 @@ module _ (old : SoloSeen) (e : Event) where
       serves = serves_trans old cur new t.serves (a.again refl);
       few = (let c = a.counted in omega arith);
       first = λ s. absurd (let x = a.settled (settled_first s) in let y = x.1 in cc);
+      tried = tries_again (step_of e) old.world cur.world new.world cur.attempts new.attempts a.counted t.tried a.tried;
+      room = λ tells. (let c = a.counted in let r = t.room tells in let l = a.less (t.serves.keeps.tells ∙ tells) refl in omega arith);
     }
 
     pub try_over : (h : HandleSeen) (r : Reply) (new : SoloSeen) → Attempt cur e (Some r) new → is_call e ≡ true → Ended old h e r new
@@ -248,27 +308,71 @@ module _ (old : SoloSeen) (e : Event) where
           let f = t.first s in
           (subst (λ c. Step c e r new.world.core) f.0 (subst (λ z. Step cur.world.core e z new.world.core) same x.2), a.counted ∙ ap (λ n. n + 1) f.1);
       refused = λ why is. refused_before old cur e why new call t.serves (a.refused why (ap Some is));
+      attempts = λ tells. (let c = a.counted in let r = t.room tells in omega arith);
+      made = inr (cur.attempts, cur.world, t.tried, a.tried, a.counted);
     }
 
     pub try_turns : (h : HandleSeen) → is_call e ≡ true → (cur.attempts < 256 → ⊥) → Ended old h e (reply.Refused Turns) cur
     try_turns h call none = record {
       keeps = t.serves.keeps;
-      files = λ tells. t.serves.files tells ∙ sym (plain_refused (files_of (world_of old.world)) e Turns call);
+      files = λ tells. t.serves.files tells ∙ sym (plain_refused (files_seen (world_of old.world)) e Turns call);
       first = λ _ s. absurd (let f = (t.first s).1 in omega (arith, none));
-      refused = λ why is. (let x : Turns ≡ why = cc in subst (λ y. IsRefusal old e y cur) x (let f = t.few in let all : cur.attempts ≡ 256 = omega (arith, none) in all));
+      refused = λ why is. (let x : Turns ≡ why = cc in subst (λ y. IsRefusal old e y cur) x ((λ tells. never tells), all));
+      attempts = λ tells. absurd (never tells);
+      made = inl (refl, t.tried);
     }
+      where
+        all : cur.attempts ≡ 256
+        all = let f = t.few in omega (arith, none)
+
+        -- so many attempts are not needed
+        never : Tells old → ⊥
+        never tells = by (is_settled (tests old.world.core e)) refl
+          where
+            by : (b : Bool) → is_settled (tests old.world.core e) ≡ b → ⊥
+            by true s = let f = (t.first s).1 in let a = all in omega arith
+            by false u = let r = t.room tells in let f = few_touched old.world.core e call u in let a = all in omega arith
+
+-- ---- a write at the cursor, or at the end by an appending handle
+
+module _ (s new : SoloSeen) (h : HandleSeen) (bytes : List ℕ) where
+  pub made_at_cursor : (n : ℕ) → h.append ≡ false → n ≡ length bytes
+      → IsMadeOf (step.Write (record { 0 = h.number }) h.cursor bytes) s (reply.Wrote n (h.cursor + length bytes)) new
+      → IsMadeOf (write_step h bytes) s (wrote_reply s h (Ok n)) new
+  made_at_cursor n off all m =
+      subst (λ b. IsMadeOf (if b then step.Append (record { 0 = h.number }) bytes else step.Write (record { 0 = h.number }) h.cursor bytes) s (reply.Wrote n ((if b then (file_at s.world.core h.file).size else h.cursor) + n)) new) (sym off)
+      (subst (λ k. IsMadeOf (step.Write (record { 0 = h.number }) h.cursor bytes) s (reply.Wrote n (h.cursor + k)) new) (sym all) m)
+
+  pub none_at_cursor : (r : Refusal) → h.append ≡ false
+      → IsMadeOf (step.Write (record { 0 = h.number }) h.cursor bytes) s (reply.Refused r) new
+      → IsMadeOf (write_step h bytes) s (reply.Refused r) new
+  none_at_cursor r off m =
+      subst (λ b. IsMadeOf (if b then step.Append (record { 0 = h.number }) bytes else step.Write (record { 0 = h.number }) h.cursor bytes) s (reply.Refused r) new) (sym off) m
+
+  pub made_at_end : (w : Wrote) → h.append ≡ true → WroteAll (file_at s.world.core h.file).size bytes w
+      → IsMadeOf (step.Append (record { 0 = h.number }) bytes) s (reply.Wrote w.count w.end) new
+      → IsMadeOf (write_step h bytes) s (wrote_reply s h (Ok w.count)) new
+  made_at_end w on all m =
+      subst (λ b. IsMadeOf (if b then step.Append (record { 0 = h.number }) bytes else step.Write (record { 0 = h.number }) h.cursor bytes) s (reply.Wrote w.count ((if b then (file_at s.world.core h.file).size else h.cursor) + w.count)) new) (sym on)
+      (subst (λ k. IsMadeOf (step.Append (record { 0 = h.number }) bytes) s (reply.Wrote w.count k) new) all.ends m)
+
+  pub none_at_end : (r : Refusal) → h.append ≡ true
+      → IsMadeOf (step.Append (record { 0 = h.number }) bytes) s (reply.Refused r) new
+      → IsMadeOf (write_step h bytes) s (reply.Refused r) new
+  none_at_end r on m =
+      subst (λ b. IsMadeOf (if b then step.Append (record { 0 = h.number }) bytes else step.Write (record { 0 = h.number }) h.cursor bytes) s (reply.Refused r) new) (sym on) m
 
 -- ---- the file of a handle
 
-pub handle_file : (s : SoloSeen) (h : HandleSeen) → IsOpen s h → file_of s.world.core h.number ≡ h.file
-handle_file s h o = ap (λ x. unwrap_or x 0) o.number
+pub its_file : (s : SoloSeen) (h : HandleSeen) → IsOpen s h → handle_file s.world.core h.number ≡ h.file
+its_file s h o = ap (λ x. unwrap_or x 0) o.number
 
 -- how long it is, as the call began
-pub length_before : (old cur : SoloSeen) (h : HandleSeen) → Serves old cur → IsOpen old h → (file_at cur.world.core (file_of cur.world.core h.number)).size ≡ (file_at old.world.core h.file).size
+pub length_before : (old cur : SoloSeen) (h : HandleSeen) → Serves old cur → IsOpen old h → (file_at cur.world.core (handle_file cur.world.core h.number)).size ≡ (file_at old.world.core h.file).size
 length_before old cur h s o =
-    let f : file_of cur.world.core h.number ≡ h.file = ap (λ x. unwrap_or (finmap.get x h.number) 0) s.keeps.handles ∙ handle_file old h o in
+    let f : handle_file cur.world.core h.number ≡ h.file = ap (λ x. unwrap_or (finmap.get x h.number) 0) s.keeps.handles ∙ its_file old h o in
     ap (λ g. (file_at cur.world.core g).size) f ∙ s.lengths h.file
 
 -- its bytes, as the call began
 pub bytes_before : (old cur : SoloSeen) (h : HandleSeen) → Serves old cur → IsOpen old h → Tells old → plain_file (files cur) (named (files cur) h.number) ≡ plain_file (files old) h.file
-bytes_before old cur h s o tells = ap (λ x. plain_file x (named x h.number)) (s.files tells) ∙ ap (plain_file (files old)) (handle_file old h o)
+bytes_before old cur h s o tells = ap (λ x. plain_file x (named x h.number)) (s.files tells) ∙ ap (plain_file (files old)) (its_file old h o)

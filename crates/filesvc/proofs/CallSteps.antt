@@ -5,21 +5,23 @@ use Rattle.pc_types.specs.declared.limits.TheConstants.{MAX_FILE_SIZE, MAX_TOUCH
 use Rattle.pc_types.specs.declared.ids.HandleId.{HandleId}
 use Rattle.pc_types.specs.declared.refusal.Refusal.{Refusal}
 use Rattle.pc_types.specs.declared.refusal.Refusal.TheVariants.{BadHandle, DirtyLimit, Memory, NoFrame, NoSpace, TooLarge, TooLong}
-use Rattle.cachecore.specs.declared.event.Event.{Event}
-use Rattle.cachecore.specs.declared.event.Event.TheVariants as event
-use Rattle.cachecore.specs.declared.event.Reply.{Reply}
-use Rattle.cachecore.specs.declared.event.Reply.TheVariants as reply
-use Rattle.cachecore.specs.Changes.{boundary}
-use Rattle.cachecore.specs.State.{State, dirty_total, file_at, file_of, free_blocks, free_frames, is_cached, is_dirty, is_open, touched, touched_count, without_block}
-use Rattle.cachecore.specs.Step.{Answers, ReadReply, Step, TruncateReply, WriteReply}
-use Rattle.cachecore.specs.Tests.{boundary_stop, read_count, read_stop, read_tests, room_tests, tests, truncate_tests, write_stop, write_tests}
-use Rattle.cachecore.proofs.ChangeLaws.{length-bytes_at}
-use Rattle.cachecore.proofs.Choices.{answered, quiet_first, quiet_if, quiet_none, quiet_stopped, quiet_when}
-use Rattle.cachecore.proofs.StepCases.{not_of_sync}
-use Rattle.world.specs.Plain.{Plain, plain_after}
-use Rattle.world.specs.World.{Act}
-use Rattle.world.proofs.KeptRequests.{is_job}
-use Rattle.world.proofs.StepRooms.{write_fits}
+use Rattle.machine.specs.declared.event.Event.{Event}
+use Rattle.machine.specs.declared.event.Event.TheVariants as event
+use Rattle.machine.specs.declared.event.Reply.{Reply}
+use Rattle.machine.specs.declared.event.Reply.TheVariants as reply
+use Rattle.machine.specs.Changes.{boundary, changed}
+use Rattle.machine.specs.State.{State, dirty_total, file_at, handle_file, free_blocks, free_frames, is_cached, tags_at, is_open, touched, touched_count, without_block}
+use Rattle.machine.specs.Step.{MayReply, Step}
+use Rattle.machine.specs.Tests.{first_of, read_count, read_stop, stopped, tests, room_tests, truncate_stop, write_stop, write_tests}
+use Rattle.machine.proofs.changes.ChangeLaws.{length-bytes_at}
+use Rattle.machine.proofs.steps.Cases.{answered}
+use Rattle.machine.proofs.steps.Choices.{quiet_if, quiet_none, quiet_when}
+use Rattle.machine.proofs.steps.Answered.{stopped_quiet}
+use Rattle.filesvc.proofs.SyncsKept.{begins_sync}
+use Rattle.runs.specs.Plain.{Plain, plain_after}
+use Rattle.runs.specs.World.{Act}
+use Rattle.runs.proofs.moments.KeptRequests.{is_job}
+use Rattle.machine.proofs.steps.Passed.{may_write}
 use Rattle.world.proofs.Stays.{keeps_handles}
 use Rattle.filesvc.specs.declared.writes.Wrote.{Wrote}
 use Rattle.filesvc.specs.Attempts.{WroteAll}
@@ -39,7 +41,7 @@ call_keeps (event.Append h b) r k = refl
 call_keeps (event.Truncate h z) r k = refl
 call_keeps _ r k = absurd cc
 
-pub call_no_sync : (e : Event) → is_call e ≡ true → not_of_sync e ≡ true
+pub call_no_sync : (e : Event) → is_call e ≡ true → begins_sync e ≡ false
 call_no_sync (event.Read h o n) k = refl
 call_no_sync (event.Write h o b) k = refl
 call_no_sync (event.Append h b) k = refl
@@ -70,6 +72,11 @@ own_reply (reply.Refused r) = is_own r
 own_reply (reply.Job t) = false
 own_reply _ = true
 
+-- a page that stands in the way, or what comes behind
+pub quiet_first : (H : Reply → Type 0) (s : State) (f : ℕ) (x : Option ℕ) (rest : Option Reply) → ((p : ℕ) → H (reply.Wait (record { 0 = p }))) → ((p : ℕ) → H (reply.Miss (record { 0 = p }))) → ((r : Reply) → rest ≡ Some r → H r) → (r : Reply) → first_of (stopped s f x) rest ≡ Some r → H r
+quiet_first H s f None rest w m h r e = h r e
+quiet_first H s f (Some p) rest w m h r e = stopped_quiet H s f (Some p) w m r e
+
 abbrev Own : Reply → Type 0
 Own r = own_reply r ≡ true
 
@@ -79,18 +86,18 @@ own_if = quiet_if Own
 own_room : (s : State) (f o n : ℕ) (r : Reply) → room_tests s f o n ≡ Some r → Own r
 own_room s f o n =
     let pages = touched s.sizes.page o n in
-    let dirtied = count_by (λ p. not (is_dirty s f p)) pages in
+    let dirtied = count_by (λ p. not (tags_at s f p).dirty) pages in
     own_if (nat_lt 0 dirtied && nat_lt s.sizes.dirty_limit (dirty_total s + dirtied)) _ _ refl
     (own_if (nat_lt (free_frames s) (count_by (λ p. not (is_cached s f p)) pages)) _ _ refl
     (own_if (nat_lt (length (free_blocks s)) (length (without_block s f pages))) _ None refl (quiet_none Own)))
 
-own_read : (s : State) (h o n : ℕ) (r : Reply) → read_tests s h o n ≡ Some r → Own r
+own_read : (s : State) (h : HandleId) (o n : ℕ) (r : Reply) → tests s (event.Read h o n) ≡ Some r → Own r
 own_read s h o n =
-    let f = file_of s h in
-    own_if (not (is_open s h)) _ _ refl
+    let f = handle_file s h.0 in
+    own_if (not (is_open s h.0)) _ _ refl
     (own_if (eqb (read_count s f o n) 0) _ _ refl
     (own_if (nat_lt MAX_TOUCHED (touched_count s.sizes.page o (read_count s f o n))) _ _ refl
-    (quiet_stopped Own s f (read_stop s f o (read_count s f o n)) (λ p. refl) (λ p. refl))))
+    (stopped_quiet Own s f (read_stop s f o (read_count s f o n)) (λ p. refl) (λ p. refl))))
 
 own_write : (s : State) (h o n : ℕ) (r : Reply) → write_tests s h o n ≡ Some r → Own r
 own_write s h o n =
@@ -98,10 +105,10 @@ own_write s h o n =
     (own_if (eqb n 0) _ _ refl
     (own_if (nat_lt MAX_TOUCHED (touched_count s.sizes.page o n)) _ _ refl
     (own_if (nat_lt MAX_FILE_SIZE (o + n)) _ _ refl
-    (quiet_first Own s (file_of s h) (write_stop s (file_of s h) o n) (room_tests s (file_of s h) o n) (λ p. refl) (λ p. refl) (own_room s (file_of s h) o n)))))
+    (quiet_first Own s (handle_file s h) (write_stop s (handle_file s h) o n) (room_tests s (handle_file s h) o n) (λ p. refl) (λ p. refl) (own_room s (handle_file s h) o n)))))
 
-own_truncate : (s : State) (h z : ℕ) (r : Reply) → truncate_tests s h z ≡ Some r → Own r
-own_truncate s h z = own_if (not (is_open s h)) _ _ refl (own_if (nat_lt MAX_FILE_SIZE z) _ _ refl (quiet_stopped Own s (file_of s h) (boundary_stop s (file_of s h) (boundary s (file_of s h) z)) (λ p. refl) (λ p. refl)))
+own_truncate : (s : State) (h : HandleId) (z : ℕ) (r : Reply) → tests s (event.Truncate h z) ≡ Some r → Own r
+own_truncate s h z = own_if (not (is_open s h.0)) _ _ refl (own_if (nat_lt MAX_FILE_SIZE z) _ _ refl (stopped_quiet Own s (handle_file s h.0) (truncate_stop s (handle_file s h.0) (boundary s (handle_file s h.0) z)) (λ p. refl) (λ p. refl)))
 
 -- ---- what each of them comes to
 
@@ -121,29 +128,32 @@ module _ (s new : State) where
   done : (o : Option Reply) (r : Reply) → own_reply r ≡ true → ((why : Refusal) → r ≡ reply.Refused why → (new ≡ s) × (why ≡ Memory)) → is_settled (Some r) ≡ true → Comes s o r new
   done o r own refused t = record { own = own; refused = λ why k. (refused why k).0; why = λ why k. inr (refused why k).1; same = λ u. absurd cc; unsettled = λ u. absurd cc }
 
-  by_answer : (o : Option Reply) (r : Reply) (H : Type 0) → ((r : Reply) → o ≡ Some r → Own r) → (H → Comes s o r new) → Answers o r s new H → Comes s o r new
-  by_answer o r H own on a = elim (answered o r s new H a) [ inl b ↦ tested o r b.0 (own r b.0) b.1 | inr b ↦ on b.1 ]
+  by_answer : (e : Event) (r : Reply) → ((r : Reply) → tests s e ≡ Some r → Own r) → (MayReply s e r → new ≡ changed s e r → Comes s (tests s e) r new) → Step s e r new → Comes s (tests s e) r new
+  by_answer e r own on a = elim (answered (tests s e) s e r new a) [ inl b ↦ tested (tests s e) r b.0 (own r b.0) b.1 | inr b ↦ on b.1 b.2 ]
 
-  reads : (x : Option Reply) (f o n : ℕ) (r : Reply) → ReadReply s f o n r new → Comes s x r new
-  reads x f o n (reply.Bytes bytes) e = done x (reply.Bytes bytes) refl (λ why is. absurd cc) refl
-  reads x f o n _ e = absurd e
+  reads : (x : Option Reply) (h : HandleId) (o n : ℕ) (r : Reply) → MayReply s (event.Read h o n) r → Comes s x r new
+  reads x h o n (reply.Bytes bytes) e = done x (reply.Bytes bytes) refl (λ why is. absurd cc) refl
+  reads x h o n _ e = absurd e
 
-  writes : (x : Option Reply) (f o : ℕ) (b : List ℕ) (r : Reply) → WriteReply s f o b r new → Comes s x r new
-  writes x f o b (reply.Wrote n end) e = done x (reply.Wrote n end) refl (λ why is. absurd cc) refl
-  writes x f o b (reply.Refused Memory) e = done x (reply.Refused Memory) refl (λ why is. (e, (let k : why ≡ Memory = cc in k))) refl
-  writes x f o b _ e = absurd e
+  writes : (x : Option Reply) (h : HandleId) (o : ℕ) (b : List ℕ) (r : Reply) → MayReply s (event.Write h o b) r → new ≡ changed s (event.Write h o b) r → Comes s x r new
+  writes x h o b (reply.Wrote n end) e is = done x (reply.Wrote n end) refl (λ why is. absurd cc) refl
+  writes x h o b (reply.Refused Memory) e is = done x (reply.Refused Memory) refl (λ why k. (is, (let m : why ≡ Memory = cc in m))) refl
+  writes x h o b _ e is = absurd e
 
-  truncates : (x : Option Reply) (f z : ℕ) (r : Reply) → TruncateReply s f z r new → Comes s x r new
-  truncates x f z reply.Done e = done x reply.Done refl (λ why is. absurd cc) refl
-  truncates x f z _ e = absurd e
+  appends : (x : Option Reply) (h : HandleId) (b : List ℕ) (r : Reply) → MayReply s (event.Append h b) r → new ≡ changed s (event.Append h b) r → Comes s x r new
+  appends x h b (reply.Wrote n end) e is = done x (reply.Wrote n end) refl (λ why is. absurd cc) refl
+  appends x h b (reply.Refused Memory) e is = done x (reply.Refused Memory) refl (λ why k. (is, (let m : why ≡ Memory = cc in m))) refl
+  appends x h b _ e is = absurd e
+
+  truncates : (x : Option Reply) (h : HandleId) (z : ℕ) (r : Reply) → MayReply s (event.Truncate h z) r → Comes s x r new
+  truncates x h z reply.Done e = done x reply.Done refl (λ why is. absurd cc) refl
+  truncates x h z _ e = absurd e
 
   pub comes : (e : Event) (r : Reply) → is_call e ≡ true → Step s e r new → Comes s (tests s e) r new
-  comes (event.Read h o n) r k = by_answer (read_tests s h.0 o n) r (ReadReply s (file_of s h.0) o n r new) (own_read s h.0 o n) (reads (read_tests s h.0 o n) (file_of s h.0) o n r)
-  comes (event.Write h o b) r k = by_answer (write_tests s h.0 o (length b)) r (WriteReply s (file_of s h.0) o b r new) (own_write s h.0 o (length b)) (writes (write_tests s h.0 o (length b)) (file_of s h.0) o b r)
-  comes (event.Append h b) r k =
-      let o = (file_at s (file_of s h.0)).size in
-      by_answer (write_tests s h.0 o (length b)) r (WriteReply s (file_of s h.0) o b r new) (own_write s h.0 o (length b)) (writes (write_tests s h.0 o (length b)) (file_of s h.0) o b r)
-  comes (event.Truncate h z) r k = by_answer (truncate_tests s h.0 z) r (TruncateReply s (file_of s h.0) z r new) (own_truncate s h.0 z) (truncates (truncate_tests s h.0 z) (file_of s h.0) z r)
+  comes (event.Read h o n) r k = by_answer (event.Read h o n) r (own_read s h o n) (λ may is. reads _ h o n r may)
+  comes (event.Write h o b) r k = by_answer (event.Write h o b) r (own_write s h.0 o (length b)) (writes _ h o b r)
+  comes (event.Append h b) r k = by_answer (event.Append h b) r (own_write s h.0 (file_at s (handle_file s h.0)).size (length b)) (appends _ h b r)
+  comes (event.Truncate h z) r k = by_answer (event.Truncate h z) r (own_truncate s h z) (λ may is. truncates _ h z r may)
   comes _ r k = absurd cc
 
 -- a read and a truncation are never refused for want of room
@@ -153,18 +163,18 @@ NeedsNoRoom r = Unit {0}
 
 pub read_settled : (s new : State) (h : HandleId) (o n : ℕ) (why : Refusal) → Step s (event.Read h o n) (reply.Refused why) new → is_settled (Some (reply.Refused why)) ≡ true
 read_settled s new h o n why e =
-    let f = file_of s h.0 in
-    elim (answered (read_tests s h.0 o n) (reply.Refused why) s new (ReadReply s f o n (reply.Refused why) new) e) [
+    let f = handle_file s h.0 in
+    elim (answered (tests s (event.Read h o n)) s (event.Read h o n) (reply.Refused why) new e) [
       | inl a ↦ quiet_if NeedsNoRoom (not (is_open s h.0)) _ _ refl
           (quiet_if NeedsNoRoom (eqb (read_count s f o n) 0) _ _ tt
           (quiet_if NeedsNoRoom (nat_lt MAX_TOUCHED (touched_count s.sizes.page o (read_count s f o n))) _ _ refl
-          (quiet_stopped NeedsNoRoom s f (read_stop s f o (read_count s f o n)) (λ p. tt) (λ p. tt)))) (reply.Refused why) a.0
+          (stopped_quiet NeedsNoRoom s f (read_stop s f o (read_count s f o n)) (λ p. tt) (λ p. tt)))) (reply.Refused why) a.0
       | inr b ↦ absurd b.1
     ]
 
 pub truncate_settled : (s new : State) (h : HandleId) (z : ℕ) (why : Refusal) → Step s (event.Truncate h z) (reply.Refused why) new → is_settled (Some (reply.Refused why)) ≡ true
-truncate_settled s new h z why e = elim (answered (truncate_tests s h.0 z) (reply.Refused why) s new (TruncateReply s (file_of s h.0) z (reply.Refused why) new) e) [
-  | inl a ↦ quiet_if NeedsNoRoom (not (is_open s h.0)) _ _ refl (quiet_if NeedsNoRoom (nat_lt MAX_FILE_SIZE z) _ _ refl (quiet_stopped NeedsNoRoom s (file_of s h.0) (boundary_stop s (file_of s h.0) (boundary s (file_of s h.0) z)) (λ p. tt) (λ p. tt))) (reply.Refused why) a.0
+truncate_settled s new h z why e = elim (answered (tests s (event.Truncate h z)) s (event.Truncate h z) (reply.Refused why) new e) [
+  | inl a ↦ quiet_if NeedsNoRoom (not (is_open s h.0)) _ _ refl (quiet_if NeedsNoRoom (nat_lt MAX_FILE_SIZE z) _ _ refl (stopped_quiet NeedsNoRoom s (handle_file s h.0) (truncate_stop s (handle_file s h.0) (boundary s (handle_file s h.0) z)) (λ p. tt) (λ p. tt))) (reply.Refused why) a.0
   | inr b ↦ absurd b.1
 ]
 
@@ -178,13 +188,13 @@ abbrev IsEmpty : Reply → Type 0
 IsEmpty (reply.Bytes bytes) = length bytes ≡ 0
 IsEmpty _ = Unit {0}
 
-empty_read : (s : State) (h o n : ℕ) (r : Reply) → read_tests s h o n ≡ Some r → IsEmpty r
+empty_read : (s : State) (h : HandleId) (o n : ℕ) (r : Reply) → tests s (event.Read h o n) ≡ Some r → IsEmpty r
 empty_read s h o n =
-    let f = file_of s h in
-    quiet_if IsEmpty (not (is_open s h)) _ _ tt
+    let f = handle_file s h.0 in
+    quiet_if IsEmpty (not (is_open s h.0)) _ _ tt
     (quiet_if IsEmpty (eqb (read_count s f o n) 0) _ _ refl
     (quiet_if IsEmpty (nat_lt MAX_TOUCHED (touched_count s.sizes.page o (read_count s f o n))) _ _ tt
-    (quiet_stopped IsEmpty s f (read_stop s f o (read_count s f o n)) (λ p. tt) (λ p. tt))))
+    (stopped_quiet IsEmpty s f (read_stop s f o (read_count s f o n)) (λ p. tt) (λ p. tt))))
 
 read_within : (o n size len m : ℕ) → len ≡ min n (size - o) → size ≤ m → o ≤ m → o + len ≤ m
 read_within o n size len m e k l = omega arith
@@ -194,10 +204,10 @@ no_further o len m e l = omega arith
 
 pub read_small : (s new : State) (h : HandleId) (o n : ℕ) (bytes : List ℕ) → ((f : ℕ) → (file_at s f).size ≤ MAX_FILE_SIZE) → Step s (event.Read h o n) (reply.Bytes bytes) new → o ≤ MAX_FILE_SIZE → o + length bytes ≤ MAX_FILE_SIZE
 read_small s new h o n bytes bounded step small =
-    let f = file_of s h.0 in
-    elim (answered (read_tests s h.0 o n) (reply.Bytes bytes) s new (ReadReply s f o n (reply.Bytes bytes) new) step) [
-      | inl a ↦ no_further o (length bytes) MAX_FILE_SIZE (empty_read s h.0 o n (reply.Bytes bytes) a.0) small
-      | inr a ↦ read_within o n (file_at s f).size (length bytes) MAX_FILE_SIZE (ap length a.1.0 ∙ length-bytes_at s f o (read_count s f o n)) (bounded f) small
+    let f = handle_file s h.0 in
+    elim (answered (tests s (event.Read h o n)) s (event.Read h o n) (reply.Bytes bytes) new step) [
+      | inl a ↦ no_further o (length bytes) MAX_FILE_SIZE (empty_read s h o n (reply.Bytes bytes) a.0) small
+      | inr a ↦ read_within o n (file_at s f).size (length bytes) MAX_FILE_SIZE (ap length a.1 ∙ length-bytes_at s f o (read_count s f o n)) (bounded f) small
     ]
 
 abbrev IsNone : ℕ → ℕ → Reply → Type 0
@@ -210,12 +220,12 @@ none_written s h o n =
     (quiet_when (IsNone o n) (eqb n 0) _ _ (λ t. let z = eqb-true n 0 t in (sym z, (omega arith), z))
     (quiet_if (IsNone o n) (nat_lt MAX_TOUCHED (touched_count s.sizes.page o n)) _ _ tt
     (quiet_if (IsNone o n) (nat_lt MAX_FILE_SIZE (o + n)) _ _ tt
-    (quiet_first (IsNone o n) s (file_of s h) (write_stop s (file_of s h) o n) (room_tests s (file_of s h) o n) (λ p. tt) (λ p. tt) (none_of_room s (file_of s h) o n)))))
+    (quiet_first (IsNone o n) s (handle_file s h) (write_stop s (handle_file s h) o n) (room_tests s (handle_file s h) o n) (λ p. tt) (λ p. tt) (none_of_room s (handle_file s h) o n)))))
   where
     none_of_room : (s : State) (f o n : ℕ) (r : Reply) → room_tests s f o n ≡ Some r → IsNone o n r
     none_of_room s f o n =
         let pages = touched s.sizes.page o n in
-        let dirtied = count_by (λ p. not (is_dirty s f p)) pages in
+        let dirtied = count_by (λ p. not (tags_at s f p).dirty) pages in
         quiet_if (IsNone o n) (nat_lt 0 dirtied && nat_lt s.sizes.dirty_limit (dirty_total s + dirtied)) _ _ tt
         (quiet_if (IsNone o n) (nat_lt (free_frames s) (count_by (λ p. not (is_cached s f p)) pages)) _ _ tt
         (quiet_if (IsNone o n) (nat_lt (length (free_blocks s)) (length (without_block s f pages))) _ None tt (quiet_none (IsNone o n))))
@@ -226,8 +236,19 @@ ends_within o len n end m e f k = omega arith
 stays_within : (o len n end m : ℕ) → end ≡ o + n → n ≡ len → len ≡ 0 → o ≤ m → end ≤ m
 stays_within o len n end m e f z k = omega arith
 
-pub wrote_all : (s new : State) (h o : ℕ) (b : List ℕ) (w : Wrote) → Answers (write_tests s h o (length b)) (reply.Wrote w.count w.end) s new (WriteReply s (file_of s h) o b (reply.Wrote w.count w.end) new) → WroteAll o b w
-wrote_all s new h o b w step = elim (answered (write_tests s h o (length b)) (reply.Wrote w.count w.end) s new (WriteReply s (file_of s h) o b (reply.Wrote w.count w.end) new) step) [
-  | inl a ↦ (let x = none_written s h o (length b) (reply.Wrote w.count w.end) a.0 in record { count = x.0; ends = x.1; small = stays_within o (length b) w.count w.end MAX_FILE_SIZE x.1 x.0 x.2 })
-  | inr a ↦ (let e : w.end ≡ o + w.count = a.1.1 ∙ ap (λ k. o + k) (sym a.1.0) in record { count = a.1.0; ends = e; small = λ _. ends_within o (length b) w.count w.end MAX_FILE_SIZE e a.1.0 (write_fits s h o (length b) a.0).1 })
+-- by what its tests say, or its reply where they passed
+all_written : (s : State) (h o : ℕ) (b : List ℕ) (w : Wrote) → (write_tests s h o (length b) ≡ Some (reply.Wrote w.count w.end)) ⊎ ((write_tests s h o (length b) ≡ None) × ((w.count ≡ length b) × (w.end ≡ o + length b))) → WroteAll o b w
+all_written s h o b w (inl a) = let x = none_written s h o (length b) (reply.Wrote w.count w.end) a in record { count = x.0; ends = x.1; small = stays_within o (length b) w.count w.end MAX_FILE_SIZE x.1 x.0 x.2 }
+all_written s h o b w (inr a) = let e : w.end ≡ o + w.count = a.1.1 ∙ ap (λ k. o + k) (sym a.1.0) in record { count = a.1.0; ends = e; small = λ _. ends_within o (length b) w.count w.end MAX_FILE_SIZE e a.1.0 (may_write s h o (length b) a.0).small }
+
+pub wrote_all : (s new : State) (h : HandleId) (o : ℕ) (b : List ℕ) (w : Wrote) → Step s (event.Write h o b) (reply.Wrote w.count w.end) new → WroteAll o b w
+wrote_all s new h o b w step = elim (answered (tests s (event.Write h o b)) s (event.Write h o b) (reply.Wrote w.count w.end) new step) [
+  | inl a ↦ all_written s h.0 o b w (inl a.0)
+  | inr a ↦ all_written s h.0 o b w (inr (a.0, a.1))
+]
+
+pub appended_all : (s new : State) (h : HandleId) (b : List ℕ) (w : Wrote) → Step s (event.Append h b) (reply.Wrote w.count w.end) new → WroteAll (file_at s (handle_file s h.0)).size b w
+appended_all s new h b w step = elim (answered (tests s (event.Append h b)) s (event.Append h b) (reply.Wrote w.count w.end) new step) [
+  | inl a ↦ all_written s h.0 (file_at s (handle_file s h.0)).size b w (inl a.0)
+  | inr a ↦ all_written s h.0 (file_at s (handle_file s h.0)).size b w (inr (a.0, a.1))
 ]

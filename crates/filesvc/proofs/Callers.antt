@@ -1,5 +1,5 @@
 -- For callers: a handle that came from a service is still its handle after another call.
-use Rattle.std.proofs.Common.{◌≡◌, ℕ, ◌<◌, ◌≤◌, Bool, true, false, List, [], length, ap, sym, subst, ◌∙◌, arith, inl, inr}
+use Rattle.std.proofs.Common.{◌≡◌, ℕ, ◌<◌, ◌≤◌, Bool, true, false, List, [], length, refl, ap, sym, subst, ◌∙◌, arith, inl, inr}
 use Rattle.std.proofs.lemmas.Grind.{get_or-set_at}
 use Rattle.std.proofs.lemmas.List.FromFn.{length-map-range_with_len}
 use Rattle.std.specs.Prelude.{◌⊎◌, Result, Ok, Err, Some, None, unwrap_or, nat_le, if◌then◌else◌}
@@ -9,19 +9,18 @@ use Rattle.pc_types.specs.declared.limits.TheConstants.{MAX_FILES, MAX_HANDLES}
 use Rattle.pc_types.specs.declared.refusal.Refusal.{Refusal}
 use Rattle.pc_types.specs.declared.refusal.Refusal.TheVariants.{NoSuchFile, TooManyHandles}
 use Rattle.pc_types.specs.Files.{pwrite}
-use Rattle.cachecore.specs.declared.event.Event.TheVariants as event
-use Rattle.cachecore.specs.declared.event.Reply.TheVariants as reply
-use Rattle.cachecore.specs.State.{State}
-use Rattle.cachecore.specs.Step.{OpenReply}
-use Rattle.cachecore.specs.Tests.{open_tests, refuse}
-use Rattle.cachecore.proofs.Choices.{answered}
-use Rattle.world.proofs.Lookups.{get-insert1}
-use Rattle.world.proofs.View.{put1_here}
-use Rattle.world.specs.Plain.{Plain, change, named, plain_file}
-use Rattle.world.specs.Reached.{file_of}
+use Rattle.machine.specs.declared.event.Event.TheVariants as event
+use Rattle.machine.specs.declared.event.Reply.TheVariants as reply
+use Rattle.machine.specs.State.{State}
+use Rattle.machine.specs.Tests.{tests, refuse}
+use Rattle.machine.proofs.steps.Cases.{answered}
+use Rattle.runs.proofs.events.Lookups.{get-insert1}
+use Rattle.runs.proofs.views.View.{put1_here}
+use Rattle.runs.specs.Plain.{Plain, change, named, plain_file}
+use Rattle.runs.specs.Reached.{file_seen}
 use Rattle.world.specs.Stepping.{world_of}
 use Rattle.filesvc.specs.Seen.{HandleSeen, SoloSeen}
-use Rattle.filesvc.specs.Service.{CameFrom, FilesAfter, IsAsBefore, IsOpen, IsTold, Keeps, Names, Opened, Opens, Serves, Tells, files}
+use Rattle.filesvc.specs.Service.{CameFrom, FilesAfter, IsAsBefore, IsOpen, IsTold, Keeps, Names, Opened, Opens, Serves, Tells, files, is_reported}
 
 pub open_on : (old new : SoloSeen) (h : HandleSeen) → Keeps old new → IsOpen old h → IsOpen new h
 open_on old new h k o = record { board = o.board ∙ sym k.board; pass = o.pass; number = ap (λ m. finmap.get m h.number) k.handles ∙ o.number; file = (let a = k.count in let b = o.file in omega arith) }
@@ -41,26 +40,35 @@ pub open_told : (s t : SoloSeen) (h new : HandleSeen) → IsTold t h new → IsO
 open_told s t h new told o =
     record { board = told.board ∙ o.board; pass = told.file ∙ (o.pass ∙ sym (ap (λ (x : HandleSeen). x.file) told.same)); number = ap (λ (x : HandleSeen). finmap.get s.world.core.handles x.number) told.same ∙ (o.number ∙ sym (ap (λ (x : HandleSeen). Some x.file) told.same)); file = subst (λ (n : ℕ). n < length s.world.core.files) (sym (ap (λ (x : HandleSeen). x.file) told.same)) o.file }
 
+-- after an fsync it is told, or as it was
+pub open_synced : (s : SoloSeen) (h new : HandleSeen) (r : Result Unit Refusal) → (is_reported r ≡ true → IsTold s h new) → (is_reported r ≡ false → new ≡ h) → IsOpen s h → IsOpen s new
+open_synced s h new r told kept o = by (is_reported r) refl
+  where
+    by : (b : Bool) → is_reported r ≡ b → IsOpen s new
+    by true e = open_told s s h new (told e) o
+    by false e = subst (IsOpen s) (sym (kept e)) o
+
 -- the file that its number names
 pub named_is : (s : SoloSeen) (h : HandleSeen) → IsOpen s h → named (files s) h.number ≡ h.file
 named_is s h o = ap (λ x. unwrap_or x 0) o.number
 
 -- an open handle's file is one of the plain files, and so it is as it was changed
-pub changed_is : (s : SoloSeen) (h : HandleSeen) (bytes : List ℕ) → IsOpen s h → plain_file (change (files s) (named (files s) h.number) bytes) h.file ≡ bytes
-changed_is s h bytes o =
+pub changed_is : (s : SoloSeen) (h : HandleSeen) (g : List ℕ → List ℕ) → IsOpen s h → plain_file (change (files s) h.number g) h.file ≡ g (plain_file (files s) h.file)
+changed_is s h g o =
     let same = named_is s h o in
-    let here : named (files s) h.number < length (files s).files = (let a = o.file in let b = length-map-range_with_len (file_of (world_of s.world)) 0 (length s.world.core.files) in omega (arith, same)) in
-    get_or-set_at (files s).files (named (files s) h.number) h.file bytes [] (sym same) here
+    let here : named (files s) h.number < length (files s).files = (let a = o.file in let b = length-map-range_with_len (file_seen (world_of s.world)) 0 (length s.world.core.files) in omega (arith, same)) in
+    get_or-set_at (files s).files (named (files s) h.number) h.file (g (plain_file (files s) (named (files s) h.number))) [] (sym same) here
+    ∙ ap (λ f. g (plain_file (files s) f)) same
 
 -- a handle is open after the call that opened it
 pub opened_is : (old new : SoloSeen) (f : ℕ) (append : Bool) (h : HandleSeen) → Opens old f append h new → new.errors ≡ old.errors → IsOpen new h
-opened_is old new f append h o e = elim (answered (open_tests old.world.core f) (reply.Handle (record { 0 = h.number })) old.world.core new.world.core (OpenReply old.world.core f (reply.Handle (record { 0 = h.number })) new.world.core) o.step) [
+opened_is old new f append h o e = elim (answered (tests old.world.core (event.Open (record { 0 = f }))) old.world.core (event.Open (record { 0 = f })) (reply.Handle (record { 0 = h.number })) new.world.core o.step) [
   | inl a ↦ absurd (refuses (nat_le (length old.world.core.files) f) (nat_le MAX_HANDLES (finmap.len old.world.core.handles)) a.0)
   | inr a ↦ record {
     board = o.board ∙ sym (ap (λ (r : RecorderSeen). r.board) e);
     pass = o.pass ∙ sym o.file;
-    number = ap (λ (s : State). finmap.get s.handles h.number) a.1.1 ∙ get-insert1 old.world.core.handles h.number f h.number ∙ put1_here _ h.number (Some f) ∙ ap Some (sym o.file);
-    file = subst (λ (s : State). h.file < length s.files) (sym a.1.1) (subst (λ (n : ℕ). n < length old.world.core.files) (sym o.file) o.here);
+    number = ap (λ (s : State). finmap.get s.handles h.number) a.2 ∙ get-insert1 old.world.core.handles h.number f h.number ∙ put1_here _ h.number (Some f) ∙ ap Some (sym o.file);
+    file = subst (λ (s : State). h.file < length s.files) (sym a.2) (subst (λ (n : ℕ). n < length old.world.core.files) (sym o.file) o.here);
   }
 ]
   where
@@ -73,8 +81,7 @@ opened_is old new f append h o e = elim (answered (open_tests old.world.core f) 
 pub written_is : (a b c : SoloSeen) (h : HandleSeen) (o : ℕ) (bytes : List ℕ) (n end : ℕ) → IsOpen a h → Tells a → FilesAfter a (event.Write (record { 0 = h.number }) o bytes) (reply.Wrote n end) b → Keeps a b → Serves b c → plain_file (files c) h.file ≡ pwrite (plain_file (files a) h.file) o bytes
 written_is a b c h o bytes n end here tells wrote kept served =
     ap (λ (p : Plain). plain_file p h.file) (served.files (kept.tells ∙ tells) ∙ wrote tells)
-    ∙ changed_is a h (pwrite (plain_file (files a) (named (files a) h.number)) o bytes) here
-    ∙ ap (λ f. pwrite (plain_file (files a) f) o bytes) (named_is a h here)
+    ∙ changed_is a h (λ file. pwrite file o bytes) here
 
 -- by what its call says
 pub opened_by : (old new : SoloSeen) (f : ℕ) (append : Bool) (r : Result HandleSeen Refusal) (h : HandleSeen) → r ≡ Ok h → (MAX_FILES ≤ f → (r ≡ Err NoSuchFile) × IsAsBefore old new) → (f < MAX_FILES → Opened old f append r new) → new.errors ≡ old.errors → IsOpen new h

@@ -8,15 +8,15 @@ use Rattle.pc_types.specs.declared.ids.FileId.{FileId}
 use Rattle.pc_types.specs.declared.ids.HandleId.{HandleId}
 use Rattle.pc_types.specs.declared.refusal.Refusal.{Refusal}
 use Rattle.pc_types.specs.declared.refusal.Refusal.TheVariants.{BadHandle, Busy}
-use Rattle.cachecore.specs.declared.event.Event.TheVariants as event
-use Rattle.cachecore.specs.declared.event.Reply.TheVariants as reply
+use Rattle.machine.specs.declared.event.Event.TheVariants as event
+use Rattle.machine.specs.declared.event.Reply.TheVariants as reply
 use Rattle.cachecore.specs.Replies.{closed, created, opened}
-use Rattle.cachecore.specs.State.{State, Sync, is_open}
-use Rattle.cachecore.specs.Step.{CloseReply, Step}
-use Rattle.cachecore.specs.Tests.{close_tests, refuse}
-use Rattle.cachecore.proofs.Choices.{answered}
-use Rattle.cachecore.proofs.MapLaws.{no_entries}
-use Rattle.world.proofs.KeptRequests.{is_job}
+use Rattle.machine.specs.State.{State, Sync, is_open}
+use Rattle.machine.specs.Step.{Step}
+use Rattle.machine.specs.Tests.{tests, refuse}
+use Rattle.machine.proofs.steps.Cases.{answered}
+use Rattle.maps.proofs.MapLaws.{no_entries}
+use Rattle.runs.proofs.moments.KeptRequests.{is_job}
 
 pub created_quiet : (r : Result FileId Refusal) → is_job (created r) ≡ false
 created_quiet (Ok f) = refl
@@ -33,7 +33,7 @@ closed_quiet (Err r) = refl
 -- an open handle is closed where no sync is in progress
 pub close_ok : (s new : State) (h : HandleId) (r : Result Unit Refusal) → is_open s h.0 ≡ true → s.syncs ≡ finmap.empty → Step s (event.Close h) (closed r) new → IfErr r (λ _. ⊥)
 close_ok s new h (Ok _) opened none e = tt
-close_ok s new h (Err why) opened none e = absurd (elim (answered (close_tests s h.0) (reply.Refused why) s new (CloseReply s h.0 (reply.Refused why) new) e) [
+close_ok s new h (Err why) opened none e = absurd (elim (answered (tests s (event.Close h)) s (event.Close h) (reply.Refused why) new e) [
   | inl a ↦ by (is_open s h.0) (list_any (λ (sync : Sync). eqb sync.handle h.0) (finmap.values s.syncs)) opened (ap (λ m. list_any (λ (sync : Sync). eqb sync.handle h.0) (finmap.values m)) none ∙ ap (λ es. list_any (λ (sync : Sync). eqb sync.handle h.0) (map (λ e. e.1) es)) (no_entries nat_cmp)) a.0
   | inr b ↦ b.1
 ])

@@ -1,31 +1,33 @@
 -- Between calls each cached page is DIRTY or idle: where none is idle and none is to be written, none is cached, and no call lacks frames.
-use Rattle.std.proofs.Common.{◌≡◌, ℕ, ◌+◌, ◌-◌, ◌<◌, ◌≤◌, Bool, true, false, cond, get_or, List, [], ◌∷◌, map, length, zero, suc, refl, ap, sym, ◌∙◌, arith, inl, inr}
-use Rattle.std.specs.Prelude.{◌&&◌, ◌||◌, not, is_some, option_map, Option, Some, None, nat_le, nat_lt, sum_by}
+use Rattle.std.proofs.Common.{◌≡◌, ℕ, ◌/◌, ◌+◌, ◌-◌, ◌<◌, ◌≤◌, Bool, true, false, cond, get_or, List, [], ◌∷◌, map, length, zero, suc, refl, ap, sym, subst, ◌∙◌, arith, inl, inr}
+use Rattle.std.specs.Int.{is_power_of_two}
+use Rattle.std.specs.Prelude.{◌&&◌, ◌||◌, not, is_some, option_map, Option, Some, None, nat_le, nat_lt, sum_by, ◌⊎◌, IsTrue}
 use Rattle.std.specs.List.{list_any}
 use Rattle.std.specs.FinMap as finmap
 use Rattle.std.specs.FinMap.{get-empty, get-entries, len-empty}
 use Rattle.std.specs.Ordering.{nat_cmp}
 use Rattle.std.proofs.lemmas.Bool.Decides.{nat_tests}
 use Rattle.std.proofs.lemmas.List.Sums.{sum_by-cons}
-use Rattle.std.specs.Prelude.{◌⊎◌, IsTrue}
 use Rattle.atomic_table.specs.Seated.{TableId}
 use Rattle.pc_types.specs.Limits.{Sizes, is_geometry, is_page_size}
-use Rattle.pc_types.specs.declared.limits.TheConstants.{CLEAN_FRAMES, MAX_BLOCKS, MAX_FILE_SIZE, MAX_FRAMES, MAX_TOUCHED, MIN_DIRTY_LIMIT, MIN_FRAMES}
+use Rattle.pc_types.specs.declared.limits.TheConstants.{CLEAN_FRAMES, MAX_BLOCKS, MAX_FILE_SIZE, MAX_FRAMES, MAX_PAGE_SIZE, MAX_TOUCHED, MIN_DIRTY_LIMIT, MIN_FRAMES, MIN_PAGE_SIZE}
 use Rattle.pc_types.specs.declared.refusal.Refusal.TheVariants.{NoSuchFile, TooManyInFlight}
-use Rattle.cachecore.specs.declared.event.Event.TheVariants as event
-use Rattle.cachecore.specs.declared.event.Reply.TheVariants as reply
-use Rattle.cachecore.specs.State.{State, File, Page, cached_total, dirty_in, dirty_total, file_at, file_of, first_page, free_frames, is_cached, is_dirty, is_idle, is_open, no_file, page_at, touched_count}
-use Rattle.cachecore.specs.Tests.{flush_pick, has_idle, is_full, refuse, tests}
+use Rattle.machine.specs.declared.event.Event.TheVariants as event
+use Rattle.machine.specs.declared.event.Reply.TheVariants as reply
+use Rattle.machine.specs.State.{State, File, Page, cached_total, dirty_in, dirty_total, file_at, handle_file, free_frames, is_cached, tags_at, is_idle, is_open, no_file, page_at, touched_count, tags_of}
+use Rattle.machine.specs.Changes.{flush_pick}
+use Rattle.machine.specs.Tests.{has_idle, is_full, refuse, tests}
 use Rattle.cachecore.specs.Wants.{dirtied, lacking, lacks_frames, passes_limit}
-use Rattle.cachecore.proofs.Found.{found_none}
-use Rattle.cachecore.proofs.MapLaws.{any_value, no_entries}
+use Rattle.maps.proofs.Found.{found_none}
+use Rattle.maps.proofs.MapLaws.{any_value, no_entries}
 use Rattle.cachecore.proofs.TouchCounts.{count_below}
-use Rattle.world.specs.Always.{Always, PageAlways}
-use Rattle.world.specs.World.{World}
-use Rattle.world.proofs.Count.{count_le, count_of}
-use Rattle.world.proofs.FrameCounts.{count_empty, filling_is, is_live_fill, len_le}
-use Rattle.world.proofs.Lookups.{cached_within}
-use Rattle.world.proofs.Reached.{reached_always}
+use Rattle.runs.specs.Always.{Always, PageAlways}
+use Rattle.runs.specs.World.{World}
+use Rattle.maps.proofs.Count.{count_le, count_of}
+use Rattle.maps.proofs.Lengths.{count_empty, len_le}
+use Rattle.runs.proofs.moments.FrameCounts.{filling_is, is_live_fill}
+use Rattle.runs.proofs.events.Lookups.{cached_within}
+use Rattle.runs.proofs.moments.Reached.{reached_always}
 use Rattle.world.specs.Stepping.{world_of}
 use Rattle.filesvc.specs.Rests.{IsServing}
 use Rattle.filesvc.specs.Rooms.{FlushesOne, IsClean, Suffices}
@@ -96,7 +98,7 @@ module _ (w : World) (always : Always w) (resting : w.core.requests ≡ finmap.e
     where
       by : (b : Bool) → page.tags.writeback ≡ b → page.tags.writeback ≡ false
       by false e = e
-      by true e = absurd (let x = a.flush e in let none : finmap.get w.core.requests x.0 ≡ None = ap (λ m. finmap.get m x.0) resting ∙ get-empty nat_cmp x.0 in let n : None ≡ Some x.1 = sym none ∙ x.2 in cc)
+      by true e = absurd (let x = a.flush e in let none : finmap.get w.core.requests x.0 ≡ None = ap (λ m. finmap.get m x.0) resting ∙ get-empty nat_cmp x.0 in let n = sym none ∙ x.2 in cc)
 
   not_left : (f p : ℕ) (page : Page) → page_at w.core f p ≡ Some page → (page.tags.dirty && not page.tags.writeback) ≡ false
   not_left f p page is =
@@ -115,9 +117,9 @@ module _ (w : World) (always : Always w) (resting : w.core.requests ≡ finmap.e
   -- no call would make too many pages dirty
   pub clean_enough : MIN_DIRTY_LIMIT ≤ w.core.sizes.dirty_limit → (h o n : ℕ) → passes_limit w.core h o n ≡ false
   clean_enough many h o n =
-      let most = count_below (dirtied w.core (file_of w.core h) o n) (first_page w.core.sizes.page o) (touched_count w.core.sizes.page o n) (λ p. not (is_dirty w.core (file_of w.core h) p)) refl in
+      let most = count_below (dirtied w.core (handle_file w.core h) o n) (o / w.core.sizes.page) (touched_count w.core.sizes.page o n) (λ p. not ((tags_at w.core (handle_file w.core h) p).dirty)) refl in
       let none = none_dirty in
-      by (is_open w.core h) (nat_lt 0 n) (nat_le (touched_count w.core.sizes.page o n) MAX_TOUCHED) (nat_le (o + n) MAX_FILE_SIZE) (nat_lt 0 (dirtied w.core (file_of w.core h) o n)) (nat_lt w.core.sizes.dirty_limit (dirty_total w.core + dirtied w.core (file_of w.core h) o n)) (λ small. grind (arith, nat_tests))
+      by (is_open w.core h) (nat_lt 0 n) (nat_le (touched_count w.core.sizes.page o n) MAX_TOUCHED) (nat_le (o + n) MAX_FILE_SIZE) (nat_lt 0 (dirtied w.core (handle_file w.core h) o n)) (nat_lt w.core.sizes.dirty_limit (dirty_total w.core + dirtied w.core (handle_file w.core h) o n)) (λ small. grind (arith, nat_tests))
     where
       by : (a b c d x e : Bool) → (c ≡ true → e ≡ false) → ((a && b && c && d) && (x && e)) ≡ false
       by true true true true true e k = k refl
@@ -131,7 +133,7 @@ module _ (w : World) (always : Always w) (resting : w.core.requests ≡ finmap.e
     none_cached : (f p : ℕ) (page : Page) → page_at w.core f p ≡ Some page → ⊥
     none_cached f p page is =
         let a = always.pages f p page is in
-        let free = untagged page.tags.dirty page.tags.writeback page.tags.towrite (not_left f p page is) (no_write f p page a) a.towrite_dirty in
+        let free = untagged page.tags.dirty page.tags.writeback page.tags.towrite (not_left f p page is) (no_write f p page a) (subst (λ o. (tags_of o).towrite ≡ true → (tags_of o).dirty ≡ true) is (always.sound.towrite_dirty f p)) in
         let some = some_idle w.core f p page is free in
         let none = no_idle (has_idle w.core) idle in
         absurd (let x : true ≡ false = sym some ∙ none in cc)
@@ -153,9 +155,9 @@ module _ (w : World) (always : Always w) (resting : w.core.requests ≡ finmap.e
 
     pub enough : MIN_FRAMES ≤ w.core.sizes.frames → (h o n : ℕ) → lacks_frames w.core h o n ≡ false
     enough many h o n =
-        let most = count_below (lacking w.core (file_of w.core h) o n) (first_page w.core.sizes.page o) (touched_count w.core.sizes.page o n) (λ p. not (is_cached w.core (file_of w.core h) p)) refl in
+        let most = count_below (lacking w.core (handle_file w.core h) o n) (o / w.core.sizes.page) (touched_count w.core.sizes.page o n) (λ p. not (is_cached w.core (handle_file w.core h) p)) refl in
         let free = all_free in
-        by (is_open w.core h) (nat_lt 0 n) (nat_le (touched_count w.core.sizes.page o n) MAX_TOUCHED) (nat_le (o + n) MAX_FILE_SIZE) (nat_lt (free_frames w.core) (lacking w.core (file_of w.core h) o n)) (λ small. grind (arith, nat_tests))
+        by (is_open w.core h) (nat_lt 0 n) (nat_le (touched_count w.core.sizes.page o n) MAX_TOUCHED) (nat_le (o + n) MAX_FILE_SIZE) (nat_lt (free_frames w.core) (lacking w.core (handle_file w.core h) o n)) (λ small. grind (arith, nat_tests))
       where
         by : (a b c d e : Bool) → (c ≡ true → e ≡ false) → ((a && b && c && d) && e) ≡ false
         by true true true true e k = k refl
@@ -163,6 +165,15 @@ module _ (w : World) (always : Always w) (resting : w.core.requests ≡ finmap.e
         by true false c d e k = refl
         by true true false d e k = refl
         by true true true false e k = refl
+
+-- the page size of a geometry
+pub enough_page : (g : Sizes) → IsTrue (is_geometry g) → MIN_PAGE_SIZE ≤ g.page
+enough_page g e = by (is_power_of_two g.page) (nat_le MIN_PAGE_SIZE g.page) (nat_le g.page MAX_PAGE_SIZE) (nat_le MIN_FRAMES g.frames) (nat_le g.frames MAX_FRAMES) (nat_le MIN_DIRTY_LIMIT g.dirty_limit) (nat_le g.dirty_limit (g.frames - CLEAN_FRAMES)) (nat_le 1 g.blocks) (nat_le g.blocks MAX_BLOCKS) refl e
+  where
+    by : (p q r b c d x y z : Bool) → nat_le MIN_PAGE_SIZE g.page ≡ q → IsTrue ((p && q && r) && b && c && d && x && y && z) → MIN_PAGE_SIZE ≤ g.page
+    by true true r b c d x y z k e = grind (arith, nat_tests)
+    by true false r b c d x y z k e = absurd cc
+    by false q r b c d x y z k e = absurd cc
 
 -- the frames of a geometry
 pub enough_frames : (g : Sizes) → IsTrue (is_geometry g) → MIN_FRAMES ≤ g.frames

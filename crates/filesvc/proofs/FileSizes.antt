@@ -1,29 +1,26 @@
--- How long files are, and how many: what is no write and no truncation leaves their lengths, and no step goes past the limits. Of any
--- world.
-use Rattle.std.proofs.Common.{◌≡◌, ℕ, ◌+◌, ◌<◌, ◌≤◌, Bool, true, false, cond, eqb, List, [], ◌∷◌, length, get_or, refl, ap, sym, subst, ◌∙◌, arith, inl, inr}
-use Rattle.std.specs.Prelude.{Option, Some, max, slice_set}
-use Rattle.std.specs.FinMap as finmap
+-- How long files are, and how many: what is no write and no truncation leaves their lengths, and no step goes past the
+-- limits. Of any world.
+use Rattle.std.proofs.Common.{◌≡◌, ℕ, ◌+◌, ◌<◌, ◌≤◌, Bool, true, false, cond, eqb, List, [], ◌∷◌, length, get_or, refl}
+use Rattle.std.proofs.Common.{ap, sym, subst, ◌∙◌, arith, inl, inr}
+use Rattle.std.specs.Prelude.{◌⊎◌, Option, Some, None, max, slice_set}
+use Rattle.std.specs.FinMap as map
 use Rattle.std.proofs.lemmas.List.{length-append, length-set, set_past}
 use Rattle.pc_types.specs.declared.limits.TheConstants.{MAX_FILES, MAX_FILE_SIZE}
-use Rattle.pc_types.specs.declared.kind.Kind.{Kind}
-use Rattle.pc_types.specs.declared.kind.Kind.TheVariants.{Fill, Flush}
-use Rattle.cachecore.specs.declared.event.End.{End}
-use Rattle.cachecore.specs.declared.event.Event.{Event}
-use Rattle.cachecore.specs.declared.event.Event.TheVariants as event
-use Rattle.cachecore.specs.declared.event.Outcome.{Outcome}
-use Rattle.cachecore.specs.declared.event.Outcome.TheVariants as outcome
-use Rattle.cachecore.specs.declared.event.Reply.{Reply}
-use Rattle.cachecore.specs.declared.event.Reply.TheVariants as reply
-use Rattle.cachecore.specs.State.{State, File, Request, file_at, file_of, no_file}
-use Rattle.cachecore.specs.Changes.{after_write}
-use Rattle.cachecore.specs.Tests.{end_tests}
-use Rattle.cachecore.specs.Step.{FlushEndReply, Step}
-use Rattle.cachecore.proofs.StateLaws.{get_or-set}
-use Rattle.world.specs.World.{World, Entry, Act, Call, Finish, Moves, end_event}
-use Rattle.world.proofs.CoreSteps.{act_step, call_core, finish_step}
-use Rattle.world.proofs.Lookups.{get_or-default}
-use Rattle.world.proofs.StepRooms.{Rooms, room_cases}
-use Rattle.filesvc.proofs.FileSteps.{by_answer, core, one, one_same, step_same, to, within}
+use Rattle.pc_types.specs.declared.ids.HandleId.{HandleId}
+use Rattle.machine.specs.declared.event.Event.{Event}
+use Rattle.machine.specs.declared.event.Event.TheVariants as event
+use Rattle.machine.specs.declared.event.Reply.{Reply}
+use Rattle.machine.specs.declared.event.Outcome.{Outcome}
+use Rattle.machine.specs.State.{State, File, Request, file_at, handle_file, no_file}
+use Rattle.machine.specs.Step.{Step}
+use Rattle.machine.proofs.changes.StateLaws.{get_or-set}
+use Rattle.machine.proofs.steps.Answered.{IsWrite}
+use Rattle.machine.proofs.steps.Cases.{Cases, by_cases}
+use Rattle.runs.specs.World.{World, Move, Act, Call, Finish, Ends, WorldStep}
+use Rattle.runs.proofs.moments.Histories.{calls}
+use Rattle.runs.proofs.events.Lookups.{get_or-default}
+use Rattle.runs.proofs.moments.CoreSteps.{core_cases}
+use Rattle.filesvc.proofs.FileSteps.{one_same, within}
 
 abbrev size_in : List File → ℕ → ℕ
 size_in fs f = (get_or fs f no_file).size
@@ -33,7 +30,8 @@ size_in fs f = (get_or fs f no_file).size
 abbrev pub AreBounded : State → Type 0
 AreBounded s = (f : ℕ) → (file_at s f).size ≤ MAX_FILE_SIZE
 
-one_bounded : (fs : List File) → ((f : ℕ) → size_in fs f ≤ MAX_FILE_SIZE) → (f : ℕ) (file : File) → file.size ≤ MAX_FILE_SIZE → (g : ℕ) → size_in (slice_set fs f file) g ≤ MAX_FILE_SIZE
+one_bounded : (fs : List File) → ((f : ℕ) → size_in fs f ≤ MAX_FILE_SIZE) → (f : ℕ) (file : File)
+    → file.size ≤ MAX_FILE_SIZE → (g : ℕ) → size_in (slice_set fs f file) g ≤ MAX_FILE_SIZE
 one_bounded fs all f file small g = elim (within f (length fs)) [
   | inl here ↦ subst (λ (x : File). x.size ≤ MAX_FILE_SIZE) (sym (get_or-set fs f g file no_file here)) (either (eqb g f))
   | inr past ↦ subst (λ xs. size_in xs g ≤ MAX_FILE_SIZE) (sym (set_past fs f file past)) (all g)
@@ -47,31 +45,38 @@ module _ (s : State) (c : AreBounded s) where
   longest : (a b n : ℕ) → a ≤ n → b ≤ n → max a b ≤ n
   longest a b n h k = omega arith
 
-  bounded_cases : Rooms s AreBounded
+  -- a file whose size is as it was
+  kept : (f : ℕ) (file : File) → file.size ≡ (file_at s f).size → (g : ℕ) → size_in (slice_set s.files f file) g ≤ MAX_FILE_SIZE
+  kept f file same = one_bounded s.files c f file (subst (λ n. n ≤ MAX_FILE_SIZE) (sym same) (c f))
+
+  bounded_cases : Cases s (λ e r t. AreBounded t)
   bounded_cases = record {
-    same = c;
-    create = λ room f. subst (λ n. n ≤ MAX_FILE_SIZE) (sym (ap (λ (x : File). x.size) (get_or-default s.files no_file f))) (c f);
-    opens = λ h f room. c;
-    closes = λ h free. c;
-    writes = λ h o b opened small room. one_bounded s.files c (file_of s h) _ (longest (file_at s (file_of s h)).size (o + length b) MAX_FILE_SIZE (c (file_of s h)) small);
-    shrinks = λ h z opened small. one_bounded s.files c (file_of s h) _ small;
-    grows = λ h z opened small. one_bounded s.files c (file_of s h) _ small;
-    makes_zeros = λ h p opened room. one_bounded s.files c (file_of s h) _ (c (file_of s h));
-    fills = λ h p room free. c;
-    ends = λ t. c;
-    filled = λ t r bytes is live kind. one_bounded s.files c r.file _ (c r.file);
-    flushes = λ f p page is room. one_bounded s.files c f _ (c f);
-    flush_failed = λ t r page code is. let once = one_bounded s.files c r.file (record (file_at s r.file) { pages = finmap.insert (file_at s r.file).pages r.page (after_write true page) }) (c r.file) in one_bounded _ once r.file _ (once r.file);
-    flushed = λ t r page is. one_bounded s.files c r.file _ (c r.file);
-    evicts = λ f p page is. one_bounded s.files c f _ (c f);
-    sync_ends = λ n. c;
-    begins = λ h n opened room. one_bounded s.files c (file_of s h) _ (c (file_of s h));
-    awaits = λ n sync ts is. c;
-    starts = λ n sync e is pick room. one_bounded s.files c (file_of s sync.handle) _ (c (file_of s sync.handle));
+    same = λ e r step quiet. c;
+    writes_none = λ e h o is step. c;
+    creates = λ f room is g. subst (λ n. n ≤ MAX_FILE_SIZE) (sym (ap (λ (x : File). x.size) (get_or-default s.files no_file g))) (c g);
+    opens = λ f h here room low. c;
+    closes = λ h there free. c;
+    writes = λ e h o b is may. one_bounded s.files c (handle_file s h.0) _ (longest (file_at s (handle_file s h.0)).size (o + length b) MAX_FILE_SIZE (c (handle_file s h.0)) may.small);
+    shrinks = λ h z may less. one_bounded s.files c (handle_file s h.0) _ may.small;
+    grows = λ h z may more. one_bounded s.files c (handle_file s h.0) _ may.small;
+    makes_zeros = λ h p may unwritten. kept (handle_file s h.0) _ refl;
+    evicts = λ f p page is idle. kept f.0 _ refl;
+    fills = λ h p t may written room next. c;
+    flushes = λ f p page t may next. kept f.0 _ refl;
+    drops = λ kind end x may dropped. c;
+    fill_fails = λ end x code may live went. c;
+    fill_ends = λ end x b may live went. kept x.file _ refl;
+    flush_fails = λ end x code may live went. kept x.file _ refl;
+    flush_ends = λ end x may live went. kept x.file _ refl;
+    begins = λ h first last m may low. kept (handle_file s h.0) _ refl;
+    starts = λ m y p page t is may next. kept (handle_file s y.handle) _ refl;
+    waits = λ m y e p is pick first page. c;
+    over = λ m y r is pick first verdict. c;
+    sync_drops = λ m y is. c;
   }
 
-pub bounded_stays : (w new : World) (e : Entry) → Moves w e new → AreBounded w.core → AreBounded new.core
-bounded_stays w new e m c = room_cases w new AreBounded (bounded_cases w.core c) e m
+pub bounded_stays : (w new : World) (m : Move) → WorldStep w m new → AreBounded w.core → AreBounded new.core
+bounded_stays w new m step c = core_cases w new AreBounded c (bounded_cases w.core c) m step
 
 -- ---- no more files than the limit
 
@@ -85,64 +90,107 @@ one_more : (a b m : ℕ) → a ≡ b + 1 → b < m → a ≤ m
 one_more a b m e h = omega arith
 
 module _ (s : State) (c : AreFew s) where
-  few_cases : Rooms s AreFew
+  few_cases : Cases s (λ e r t. AreFew t)
   few_cases = record {
-    same = c;
-    create = λ room. one_more _ (length s.files) MAX_FILES (length-append s.files (no_file ∷ [])) room;
-    opens = λ h f room. c;
-    closes = λ h free. c;
-    writes = λ h o b opened small room. one_few s.files (file_of s h) _ c;
-    shrinks = λ h z opened small. one_few s.files (file_of s h) _ c;
-    grows = λ h z opened small. one_few s.files (file_of s h) _ c;
-    makes_zeros = λ h p opened room. one_few s.files (file_of s h) _ c;
-    fills = λ h p room free. c;
-    ends = λ t. c;
-    filled = λ t r bytes is live kind. one_few s.files r.file _ c;
-    flushes = λ f p page is room. one_few s.files f _ c;
-    flush_failed = λ t r page code is. let once = one_few s.files r.file (record (file_at s r.file) { pages = finmap.insert (file_at s r.file).pages r.page (after_write true page) }) c in one_few _ r.file _ once;
-    flushed = λ t r page is. one_few s.files r.file _ c;
-    evicts = λ f p page is. one_few s.files f _ c;
-    sync_ends = λ n. c;
-    begins = λ h n opened room. one_few s.files (file_of s h) _ c;
-    awaits = λ n sync ts is. c;
-    starts = λ n sync e is pick room. one_few s.files (file_of s sync.handle) _ c;
+    same = λ e r step quiet. c;
+    writes_none = λ e h o is step. c;
+    creates = λ f room is. one_more _ (length s.files) MAX_FILES (length-append s.files (no_file ∷ [])) room;
+    opens = λ f h here room low. c;
+    closes = λ h there free. c;
+    writes = λ e h o b is may. one_few s.files (handle_file s h.0) _ c;
+    shrinks = λ h z may less. one_few s.files (handle_file s h.0) _ c;
+    grows = λ h z may more. one_few s.files (handle_file s h.0) _ c;
+    makes_zeros = λ h p may unwritten. one_few s.files (handle_file s h.0) _ c;
+    evicts = λ f p page is idle. one_few s.files f.0 _ c;
+    fills = λ h p t may written room next. c;
+    flushes = λ f p page t may next. one_few s.files f.0 _ c;
+    drops = λ kind end x may dropped. c;
+    fill_fails = λ end x code may live went. c;
+    fill_ends = λ end x b may live went. one_few s.files x.file _ c;
+    flush_fails = λ end x code may live went. one_few s.files x.file _ c;
+    flush_ends = λ end x may live went. one_few s.files x.file _ c;
+    begins = λ h first last m may low. one_few s.files (handle_file s h.0) _ c;
+    starts = λ m y p page t is may next. one_few s.files (handle_file s y.handle) _ c;
+    waits = λ m y e p is pick first page. c;
+    over = λ m y r is pick first verdict. c;
+    sync_drops = λ m y is. c;
   }
 
-pub few_stays : (w new : World) (e : Entry) → Moves w e new → AreFew w.core → AreFew new.core
-few_stays w new e m c = room_cases w new AreFew (few_cases w.core c) e m
+pub few_stays : (w new : World) (m : Move) → WorldStep w m new → AreFew w.core → AreFew new.core
+few_stays w new m step c = core_cases w new AreFew c (few_cases w.core c) m step
 
 -- ---- what leaves the lengths
 
-abbrev pub leaves_lengths : Entry → Bool
+abbrev leaves_size : Event → Bool
+leaves_size (event.Write h o b) = false
+leaves_size (event.Append h b) = false
+leaves_size (event.Truncate h z) = false
+leaves_size _ = true
+
+abbrev pub leaves_lengths : Move → Bool
 leaves_lengths (Act (event.Write h o b) r) = false
 leaves_lengths (Act (event.Append h b) r) = false
 leaves_lengths (Act (event.Truncate h z) r) = false
 leaves_lengths _ = true
 
-module _ (s new : State) where
-  abbrev SameLengths : Type 0
-  SameLengths = (f : ℕ) → (file_at new f).size ≡ (file_at s f).size
+abbrev SameLengths : State → State → Type 0
+SameLengths s t = (f : ℕ) → (file_at t f).size ≡ (file_at s f).size
 
-  flush_ends : (t : ℕ) (q : Option Request) (o : Outcome) (r : Reply) → FlushEndReply s t q o r new → SameLengths
-  flush_ends t (Some x) o reply.Dropped e = core (λ f. f.size) (λ f p. refl) s new _ refl e.1
-  flush_ends t (Some x) (outcome.Fault c) (reply.Failed d) e =
-      let file = record (file_at s x.file) { pages = finmap.insert (file_at s x.file).pages x.page (after_write true e.2) } in
-      to (λ f. f.size) (λ f p. refl) s new _ (λ g. one_same (λ f. f.size) (λ f p. refl) s new (slice_set s.files x.file file) x.file _ refl g ∙ one_same (λ f. f.size) (λ f p. refl) s new s.files x.file file refl g) (ap (λ y. y.files) e.4)
-  flush_ends t (Some x) (outcome.Ok bytes) reply.Written e = one (λ f. f.size) (λ f p. refl) s new _ x.file _ refl refl e.3
-  flush_ends t q o _ e = absurd e
+record Leaves (s : State) (e : Event) (t : State) : Type 0 where
+  pub lengths : leaves_size e ≡ true → SameLengths s t
 
-  step_lengths : (e : Event) (r : Reply) → leaves_lengths (Act e r) ≡ true → Step s e r new → SameLengths
-  step_lengths (event.Write h o b) r k h' = absurd cc
-  step_lengths (event.Append h b) r k h' = absurd cc
-  step_lengths (event.Truncate h z) r k h' = absurd cc
-  step_lengths (event.FlushEnd e) r k h = by_answer (λ f. f.size) (λ f p. refl) s new (end_tests s Flush e) r (FlushEndReply s e.serial.0 (finmap.get s.requests e.serial.0) e.outcome r new) (flush_ends e.serial.0 (finmap.get s.requests e.serial.0) e.outcome r) h
-  step_lengths e r k h = step_same (λ f. f.size) (λ f p. refl) s new e r refl h
+no_write : (s : State) (e : Event) (h : HandleId) (o : ℕ) (b : List ℕ) → IsWrite s e h o b → leaves_size e ≡ true → ⊥
+no_write s e h o b (inl is) k = (let x : false ≡ true = sym (ap leaves_size is) ∙ k in cc)
+no_write s e h o b (inr is) k = (let x : false ≡ true = sym (ap leaves_size is.0) ∙ k in cc)
 
-  end_lengths : (k : Kind) (e : End) (r : Reply) → Step s (end_event k e) r new → SameLengths
-  end_lengths Fill e r h = step_lengths (event.FillEnd e) r refl h
-  end_lengths Flush e r h = step_lengths (event.FlushEnd e) r refl h
+module _ (s : State) where
+  one_left : (e : Event) (f : ℕ) (file : File) → file.size ≡ (file_at s f).size → (t : State) → t.files ≡ slice_set s.files f file → Leaves s e t
+  one_left e f file same t is = record { lengths = λ _ g. ap (λ fs. size_in fs g) is ∙ one_same (λ (x : File). x.size) s.files f file same g }
 
-pub lengths_stay : (w new : World) (e : Entry) → leaves_lengths e ≡ true → Moves w e new → (f : ℕ) → (file_at new.core f).size ≡ (file_at w.core f).size
-lengths_stay w new (Act e r) k m = step_lengths w.core new.core e r k (act_step w new e r m)
-lengths_stay w new (Call t fault effect) k m = λ f. ap (λ s. (file_at s f).size) (call_core w new t fault effect m)
-lengths_stay w new (Finish t r) k m = let x = finish_step w new t r m in end_lengths w.core new.core x.0 x.1 r x.2
+  all_left : (e : Event) (t : State) → t.files ≡ s.files → Leaves s e t
+  all_left e t is = record { lengths = λ _ g. ap (λ fs. size_in fs g) is }
+
+  lengths_cases : Cases s (λ e r t. Leaves s e t)
+  lengths_cases = record {
+    same = λ e r step quiet. all_left e s refl;
+    writes_none = λ e h o is step. all_left e s refl;
+    creates = λ f room is. record { lengths = λ _ g. ap (λ (x : File). x.size) (get_or-default s.files no_file g) };
+    opens = λ f h here room low. all_left _ _ refl;
+    closes = λ h there free. all_left _ _ refl;
+    writes = λ e h o b is may. record { lengths = λ k. absurd (no_write s e h o b is k) };
+    shrinks = λ h z may less. record { lengths = λ k. absurd cc };
+    grows = λ h z may more. record { lengths = λ k. absurd cc };
+    makes_zeros = λ h p may unwritten. one_left _ (handle_file s h.0) _ refl _ refl;
+    evicts = λ f p page is idle. one_left _ f.0 _ refl _ refl;
+    fills = λ h p t may written room next. all_left _ _ refl;
+    flushes = λ f p page t may next. one_left _ f.0 _ refl _ refl;
+    drops = λ kind end x may dropped. all_left _ _ refl;
+    fill_fails = λ end x code may live went. all_left _ _ refl;
+    fill_ends = λ end x b may live went. one_left _ x.file _ refl _ refl;
+    flush_fails = λ end x code may live went. one_left _ x.file _ refl _ refl;
+    flush_ends = λ end x may live went. one_left _ x.file _ refl _ refl;
+    begins = λ h first last m may low. one_left _ (handle_file s h.0) _ refl _ refl;
+    starts = λ m y p page t is may next. one_left _ (handle_file s y.handle) _ refl _ refl;
+    waits = λ m y e p is pick first page. all_left _ _ refl;
+    over = λ m y r is pick first verdict. all_left _ _ refl;
+    sync_drops = λ m y is. all_left _ _ refl;
+  }
+
+step_lengths : (s new : State) (e : Event) (r : Reply) → leaves_size e ≡ true → Step s e r new → SameLengths s new
+step_lengths s new e r k step = (by_cases s (λ e r t. Leaves s e t) (lengths_cases s) e r new step).lengths k
+
+same_leaves : (e : Event) (r : Reply) → leaves_lengths (Act e r) ≡ true → leaves_size e ≡ true
+same_leaves (event.Write h o b) r k = absurd cc
+same_leaves (event.Append h b) r k = absurd cc
+same_leaves (event.Truncate h z) r k = absurd cc
+same_leaves _ r k = refl
+
+end_lengths : (w new : World) (t : ℕ) (q : Option Request) (o : Option Outcome) (r : Reply) → Ends w t q o r new → SameLengths w.core new.core
+end_lengths w new t (Some x) (Some call) r h = step_lengths w.core new.core (event.End x.kind (record { cache = w.core.name; kind = x.kind; serial = record { 0 = t }; outcome = call })) r refl h.0
+end_lengths w new t (Some x) None r h = absurd h
+end_lengths w new t None o r h = absurd h
+
+pub lengths_stay : (w new : World) (m : Move) → leaves_lengths m ≡ true → WorldStep w m new → (f : ℕ) → (file_at new.core f).size ≡ (file_at w.core f).size
+lengths_stay w new (Act e r) k h = step_lengths w.core new.core e r (same_leaves e r k) h.1.0
+lengths_stay w new (Call t fault effect) k h = λ f. ap (λ s. (file_at s f).size) (calls w new t (map.get w.core.requests t) (map.get w.outcomes t) fault effect h)
+lengths_stay w new (Finish t r) k h = end_lengths w new t (map.get w.core.requests t) (map.get w.outcomes t) r h

@@ -5,17 +5,18 @@ use Rattle.std.specs.FinMap as finmap
 use Rattle.pc_types.specs.declared.limits.TheConstants.{MAX_FILE_SIZE, MAX_TOUCHED}
 use Rattle.pc_types.specs.declared.refusal.Refusal.{Refusal}
 use Rattle.pc_types.specs.declared.refusal.Refusal.TheVariants.{BadHandle, TooLarge, TooLong}
-use Rattle.cachecore.specs.declared.event.Event.{Event}
-use Rattle.cachecore.specs.declared.event.Event.TheVariants as event
-use Rattle.cachecore.specs.declared.event.Reply.{Reply}
-use Rattle.cachecore.specs.declared.event.Reply.TheVariants as reply
-use Rattle.cachecore.specs.Changes.{boundary}
-use Rattle.cachecore.specs.State.{State, dirty_total, file_at, file_of, free_blocks, free_frames, is_cached, is_dirty, is_open, touched, touched_count, without_block}
-use Rattle.cachecore.specs.Tests.{boundary_stop, first_of, read_count, read_stop, refuse, room_tests, stopped, tests, write_stop, write_tests}
-use Rattle.cachecore.proofs.Choices.{at_true, quiet_first, quiet_if, quiet_none, quiet_stopped}
+use Rattle.machine.specs.declared.event.Event.{Event}
+use Rattle.machine.specs.declared.event.Event.TheVariants as event
+use Rattle.machine.specs.declared.event.Reply.{Reply}
+use Rattle.machine.specs.declared.event.Reply.TheVariants as reply
+use Rattle.machine.specs.Changes.{boundary}
+use Rattle.machine.specs.State.{State, dirty_total, file_at, handle_file, free_blocks, free_frames, is_cached, tags_at, is_open, touched, touched_count, without_block}
+use Rattle.machine.specs.Tests.{first_of, read_count, read_stop, refuse, room_tests, stopped, tests, truncate_stop, write_stop, write_tests}
+use Rattle.machine.proofs.steps.Choices.{at_true, quiet_if, quiet_none}
+use Rattle.machine.proofs.steps.Answered.{stopped_quiet}
 use Rattle.filesvc.specs.Seen.{SoloSeen}
 use Rattle.filesvc.specs.Service.{Refuses, Serves}
-use Rattle.filesvc.proofs.CallSteps.{is_call}
+use Rattle.filesvc.proofs.CallSteps.{is_call, quiet_first}
 
 abbrev pub handle_of : Event → ℕ
 handle_of (event.Read h o n) = h.0
@@ -44,12 +45,12 @@ Behind (reply.Refused r) = is_front r ≡ false
 Behind r = Unit {0}
 
 stop_behind : (s : State) (f : ℕ) (o : Option ℕ) (r : Reply) → stopped s f o ≡ Some r → Behind r
-stop_behind s f o = quiet_stopped Behind s f o (λ p. tt) (λ p. tt)
+stop_behind s f o = stopped_quiet Behind s f o (λ p. tt) (λ p. tt)
 
 room_behind : (s : State) (f o n : ℕ) (r : Reply) → room_tests s f o n ≡ Some r → Behind r
 room_behind s f o n =
     let pages = touched s.sizes.page o n in
-    let dirtied = count_by (λ p. not (is_dirty s f p)) pages in
+    let dirtied = count_by (λ p. not (tags_at s f p).dirty) pages in
     quiet_if Behind (nat_lt 0 dirtied && nat_lt s.sizes.dirty_limit (dirty_total s + dirtied)) _ _ refl
     (quiet_if Behind (nat_lt (free_frames s) (count_by (λ p. not (is_cached s f p)) pages)) _ _ refl
     (quiet_if Behind (nat_lt (length (free_blocks s)) (length (without_block s f pages))) _ None refl (quiet_none Behind)))
@@ -79,34 +80,34 @@ module _ (r : Refusal) (front : is_front r ≡ true) where
     opened_is : (h : ℕ) → is_open mid.world.core h ≡ is_open old.world.core h
     opened_is h = ap (λ m. is_some (finmap.get m h)) s.keeps.handles
 
-    file_is : (h : ℕ) → file_of mid.world.core h ≡ file_of old.world.core h
+    file_is : (h : ℕ) → handle_file mid.world.core h ≡ handle_file old.world.core h
     file_is h = ap (λ m. unwrap_or (finmap.get m h) 0) s.keeps.handles
 
-    size_is : (h : ℕ) → (file_at mid.world.core (file_of mid.world.core h)).size ≡ (file_at old.world.core (file_of old.world.core h)).size
-    size_is h = ap (λ g. (file_at mid.world.core g).size) (file_is h) ∙ s.lengths (file_of old.world.core h)
+    size_is : (h : ℕ) → (file_at mid.world.core (handle_file mid.world.core h)).size ≡ (file_at old.world.core (handle_file old.world.core h)).size
+    size_is h = ap (λ g. (file_at mid.world.core g).size) (file_is h) ∙ s.lengths (handle_file old.world.core h)
 
     page_is : mid.world.core.sizes.page ≡ old.world.core.sizes.page
     page_is = ap (λ z. z.page) s.keeps.sizes
 
     writes_kept : (h o n : ℕ) → write_tests mid.world.core h o n ≡ Some (reply.Refused r) → write_tests old.world.core h o n ≡ Some (reply.Refused r)
     writes_kept h o n e =
-        let rest = first_of (stopped mid.world.core (file_of mid.world.core h) (write_stop mid.world.core (file_of mid.world.core h) o n)) (room_tests mid.world.core (file_of mid.world.core h) o n) in
-        let other = first_of (stopped old.world.core (file_of old.world.core h) (write_stop old.world.core (file_of old.world.core h) o n)) (room_tests old.world.core (file_of old.world.core h) o n) in
+        let rest = first_of (stopped mid.world.core (handle_file mid.world.core h) (write_stop mid.world.core (handle_file mid.world.core h) o n)) (room_tests mid.world.core (handle_file mid.world.core h) o n) in
+        let other = first_of (stopped old.world.core (handle_file old.world.core h) (write_stop old.world.core (handle_file old.world.core h) o n)) (room_tests old.world.core (handle_file old.world.core h) o n) in
         let here : cond (not (is_open old.world.core h)) (refuse BadHandle) (cond (eqb n 0) (Some (reply.Wrote 0 o)) (cond (nat_lt MAX_TOUCHED (touched_count old.world.core.sizes.page o n)) (refuse TooLong) (cond (nat_lt MAX_FILE_SIZE (o + n)) (refuse TooLarge) rest))) ≡ Some (reply.Refused r) = (λ i. cond (not (sym (opened_is h) i)) (refuse BadHandle) (cond (eqb n 0) (Some (reply.Wrote 0 o)) (cond (nat_lt MAX_TOUCHED (touched_count (sym page_is i) o n)) (refuse TooLong) (cond (nat_lt MAX_FILE_SIZE (o + n)) (refuse TooLarge) rest)))) ∙ e in
-        writing (is_open old.world.core h) old.world.core.sizes.page o n rest other (write_behind mid.world.core (file_of mid.world.core h) o n) here
+        writing (is_open old.world.core h) old.world.core.sizes.page o n rest other (write_behind mid.world.core (handle_file mid.world.core h) o n) here
 
     pub kept_refuses : (e : Event) → is_call e ≡ true → Refuses mid e r → Refuses old e r
     kept_refuses (event.Read h o n) c e =
-        let rest = stopped mid.world.core (file_of mid.world.core h.0) (read_stop mid.world.core (file_of mid.world.core h.0) o (read_count mid.world.core (file_of mid.world.core h.0) o n)) in
-        let other = stopped old.world.core (file_of old.world.core h.0) (read_stop old.world.core (file_of old.world.core h.0) o (read_count old.world.core (file_of old.world.core h.0) o n)) in
-        let count : read_count mid.world.core (file_of mid.world.core h.0) o n ≡ read_count old.world.core (file_of old.world.core h.0) o n = ap (λ z. min n (z - o)) (size_is h.0) in
-        let here : cond (not (is_open old.world.core h.0)) (refuse BadHandle) (cond (eqb (read_count old.world.core (file_of old.world.core h.0) o n) 0) (Some (reply.Bytes [])) (cond (nat_lt MAX_TOUCHED (touched_count old.world.core.sizes.page o (read_count old.world.core (file_of old.world.core h.0) o n))) (refuse TooLong) rest)) ≡ Some (reply.Refused r) = (λ i. cond (not (sym (opened_is h.0) i)) (refuse BadHandle) (cond (eqb (sym count i) 0) (Some (reply.Bytes [])) (cond (nat_lt MAX_TOUCHED (touched_count (sym page_is i) o (sym count i))) (refuse TooLong) rest))) ∙ e in
-        reading (is_open old.world.core h.0) (read_count old.world.core (file_of old.world.core h.0) o n) old.world.core.sizes.page o rest other (stop_behind mid.world.core (file_of mid.world.core h.0) _) here
+        let rest = stopped mid.world.core (handle_file mid.world.core h.0) (read_stop mid.world.core (handle_file mid.world.core h.0) o (read_count mid.world.core (handle_file mid.world.core h.0) o n)) in
+        let other = stopped old.world.core (handle_file old.world.core h.0) (read_stop old.world.core (handle_file old.world.core h.0) o (read_count old.world.core (handle_file old.world.core h.0) o n)) in
+        let count : read_count mid.world.core (handle_file mid.world.core h.0) o n ≡ read_count old.world.core (handle_file old.world.core h.0) o n = ap (λ z. min n (z - o)) (size_is h.0) in
+        let here : cond (not (is_open old.world.core h.0)) (refuse BadHandle) (cond (eqb (read_count old.world.core (handle_file old.world.core h.0) o n) 0) (Some (reply.Bytes [])) (cond (nat_lt MAX_TOUCHED (touched_count old.world.core.sizes.page o (read_count old.world.core (handle_file old.world.core h.0) o n))) (refuse TooLong) rest)) ≡ Some (reply.Refused r) = (λ i. cond (not (sym (opened_is h.0) i)) (refuse BadHandle) (cond (eqb (sym count i) 0) (Some (reply.Bytes [])) (cond (nat_lt MAX_TOUCHED (touched_count (sym page_is i) o (sym count i))) (refuse TooLong) rest))) ∙ e in
+        reading (is_open old.world.core h.0) (read_count old.world.core (handle_file old.world.core h.0) o n) old.world.core.sizes.page o rest other (stop_behind mid.world.core (handle_file mid.world.core h.0) _) here
     kept_refuses (event.Write h o b) c e = writes_kept h.0 o (length b) e
-    kept_refuses (event.Append h b) c e = writes_kept h.0 (file_at old.world.core (file_of old.world.core h.0)).size (length b) (ap (λ o. write_tests mid.world.core h.0 o (length b)) (sym (size_is h.0)) ∙ e)
+    kept_refuses (event.Append h b) c e = writes_kept h.0 (file_at old.world.core (handle_file old.world.core h.0)).size (length b) (ap (λ o. write_tests mid.world.core h.0 o (length b)) (sym (size_is h.0)) ∙ e)
     kept_refuses (event.Truncate h z) c e =
-        let rest = stopped mid.world.core (file_of mid.world.core h.0) (boundary_stop mid.world.core (file_of mid.world.core h.0) (boundary mid.world.core (file_of mid.world.core h.0) z)) in
-        let other = stopped old.world.core (file_of old.world.core h.0) (boundary_stop old.world.core (file_of old.world.core h.0) (boundary old.world.core (file_of old.world.core h.0) z)) in
+        let rest = stopped mid.world.core (handle_file mid.world.core h.0) (truncate_stop mid.world.core (handle_file mid.world.core h.0) (boundary mid.world.core (handle_file mid.world.core h.0) z)) in
+        let other = stopped old.world.core (handle_file old.world.core h.0) (truncate_stop old.world.core (handle_file old.world.core h.0) (boundary old.world.core (handle_file old.world.core h.0) z)) in
         let here : cond (not (is_open old.world.core h.0)) (refuse BadHandle) (cond (nat_lt MAX_FILE_SIZE z) (refuse TooLarge) rest) ≡ Some (reply.Refused r) = (λ i. cond (not (sym (opened_is h.0) i)) (refuse BadHandle) (cond (nat_lt MAX_FILE_SIZE z) (refuse TooLarge) rest)) ∙ e in
-        cutting (is_open old.world.core h.0) z rest other (stop_behind mid.world.core (file_of mid.world.core h.0) _) here
+        cutting (is_open old.world.core h.0) z rest other (stop_behind mid.world.core (handle_file mid.world.core h.0) _) here
     kept_refuses _ c e = absurd cc

@@ -1,6 +1,6 @@
 -- What a step of the world leaves of a service: an event, a device call, an end, or a request with all three.
 use Rattle.std.proofs.Common.{◌≡◌, ℕ, ◌+◌, ◌<◌, ◌≤◌, Bool, true, false, not, List, [], ◌∷◌, length, refl, ap, sym, subst, ◌∙◌, arith, inl, inr}
-use Rattle.std.specs.Prelude.{◌⊎◌, Option, Some, None, is_some, option_map, IfSome, Ok, Err}
+use Rattle.std.specs.Prelude.{◌⊎◌, ◌≢◌, Option, Some, None, is_some, option_map, IfSome, Ok, Err}
 use Rattle.std.specs.FinMap as finmap
 use Rattle.atomic_table.specs.Seated.{TableId}
 use Rattle.errseq.proofs.Prefixes.{prefix_self}
@@ -13,42 +13,44 @@ use Rattle.pc_types.specs.declared.ids.PageIndex.{PageIndex}
 use Rattle.pc_types.specs.declared.ids.Serial.{Serial}
 use Rattle.pc_types.specs.declared.ids.SyncId.{SyncId}
 use Rattle.pc_types.specs.Limits.{Sizes}
-use Rattle.pc_types.specs.declared.limits.TheConstants.{MAX_FILES, MIN_DIRTY_LIMIT, MIN_FRAMES}
+use Rattle.pc_types.specs.declared.limits.TheConstants.{MAX_FILES, MIN_DIRTY_LIMIT, MIN_FRAMES, MIN_PAGE_SIZE}
 use Rattle.pc_types.specs.declared.kind.Kind.{Kind}
 use Rattle.pc_types.specs.declared.kind.Kind.TheVariants.{Fill, Flush}
-use Rattle.pc_types.specs.declared.refusal.Refusal.TheVariants.{Memory}
-use Rattle.cachecore.specs.declared.event.Event.{Event}
-use Rattle.cachecore.specs.declared.event.Event.TheVariants as event
-use Rattle.cachecore.specs.declared.event.Outcome as core
-use Rattle.cachecore.specs.declared.event.Outcome.TheVariants as outcome
+use Rattle.pc_types.specs.declared.refusal.Refusal.TheVariants.{Memory, Stranger}
+use Rattle.machine.specs.declared.event.Event.{Event}
+use Rattle.machine.specs.declared.event.Event.TheVariants as event
+use Rattle.machine.specs.declared.event.Outcome as core
+use Rattle.machine.specs.Sound.{Sound}
+use Rattle.machine.specs.declared.event.Outcome.TheVariants as outcome
 use Rattle.std.specs.Ordering.{nat_cmp}
 use Rattle.std.specs.FinMap.{get-empty}
-use Rattle.cachecore.specs.declared.event.Reply.{Reply}
-use Rattle.cachecore.specs.declared.event.Reply.TheVariants as reply
+use Rattle.machine.specs.declared.event.Reply.{Reply}
+use Rattle.machine.specs.declared.event.Reply.TheVariants as reply
 use Rattle.cachecore.specs.Replies.{outcome_of}
 use Rattle.cachecore.specs.Flushing.{flush_of}
-use Rattle.cachecore.specs.State.{Request, file_at}
-use Rattle.cachecore.proofs.StepCases.{not_of_sync}
+use Rattle.machine.specs.State.{Request, file_at}
+use Rattle.filesvc.proofs.SyncsKept.{begins_sync, act_none, finish_none, none_empty}
 use Rattle.world.specs.declared.step.Step.{Step}
 use Rattle.world.specs.declared.step.Step.TheVariants as step
-use Rattle.world.specs.Plain.{Plain, plain_after}
-use Rattle.world.specs.Reached.{IsReached}
-use Rattle.world.specs.Stepping.{CallReply, EndReply, Held, IsCalled, IsNotMade, MovesByCall, Plays, Steps, world_of}
-use Rattle.world.specs.World.{Entry, Act, Call, Finish, Moves}
-use Rattle.world.proofs.InFlight.{NoneInFlight, OneInFlight, begins, may_begin, next_rises, next_stays, none_stays, one_ends, one_is, one_noted}
-use Rattle.world.proofs.KeptRequests as kept
-use Rattle.world.proofs.Lookups.{get-insert1}
-use Rattle.world.proofs.Reached.{files_step, reached_step}
+use Rattle.runs.specs.Plain.{Plain, plain_after}
+use Rattle.runs.specs.Reached.{IsReached}
+use Rattle.world.specs.Stepping.{CallReply, EndReply, WorldSeen, IsCalled, IsNotMade, MovesByCall, Plays, Steps, world_of}
+use Rattle.runs.specs.World.{Move, Act, Call, Finish, WorldStep}
+use Rattle.world.proofs.InFlight.{NoneInFlight, OneInFlight, begins, next_rises, next_stays, none_stays, one_ends, one_is, one_noted}
+use Rattle.runs.proofs.moments.KeptRequests as kept
+use Rattle.runs.proofs.events.Lookups.{get-insert1}
+use Rattle.runs.proofs.moments.Reached.{files_step, reached_step}
 use Rattle.world.proofs.Stays.{handles_stay, keeps_handles, stays}
-use Rattle.world.proofs.View.{put1_here}
+use Rattle.runs.proofs.views.View.{put1_here}
 use Rattle.filesvc.specs.Rests.{AtOnce, IsAlone, IsNoted, IsResting, IsService, IsServing, is_job}
 use Rattle.filesvc.specs.Seen.{SoloSeen}
-use Rattle.filesvc.specs.Service.{Keeps, Serves, Tells, files}
-use Rattle.filesvc.proofs.FailedWrites.{act_failures, failures_in, finish_rises}
-use Rattle.filesvc.proofs.Noted.{Notes, count_in, noted_rises, notes, rise_alike}
+use Rattle.filesvc.specs.Service.{IsCoded, Keeps, Serves, Tells, files}
+use Rattle.filesvc.proofs.FailedWrites.{act_codes, act_failures, core_sound, failures_in, finish_codes, finish_rises}
+use Rattle.filesvc.proofs.Noted.{Notes, change_alike, count_in, noted_codes, noted_rises, notes, rise_alike}
 use Rattle.filesvc.proofs.FileSizes.{AreBounded, bounded_stays, leaves_lengths, lengths_stay}
-use Rattle.filesvc.proofs.Laws.{serves_refl, serves_trans}
-use Rattle.filesvc.proofs.SyncsKept.{act_none, finish_none, none_empty}
+use Rattle.filesvc.specs.Attempts.{Helps}
+use Rattle.filesvc.specs.Made.{Moves, is_help}
+use Rattle.filesvc.proofs.Laws.{one_move, three, serves_refl, serves_trans}
 
 -- ---- a device call, on the device
 
@@ -88,10 +90,18 @@ module _ (old new : Told) where
     | inr full ↦ (let same = (c.exhausted full).1 in (subst (λ d. d.calls ≤ max_calls) (sym same) most, subst (λ d. old.faults ≤ d.faults) (sym same) (omega arith)))
   ]
 
+  -- it is one more call at most
+  pub one_call : (r : Outcome) → Calls old r new → old.calls ≤ max_calls → new.calls ≤ old.calls + 1
+  one_call r c most = elim (at_most old.calls max_calls most) [
+    | inl less ↦ (let e = c.calls less in omega arith)
+    | inr full ↦ (let e : new.calls ≡ old.calls = ap (λ d. d.calls) (c.exhausted full).1 in omega arith)
+  ]
+
   -- one that failed was counted, or the device can count no more
-  pub call_failed : (r : Outcome) (bytes : List ℕ) (c : ℕ) → Calls old r new → outcome_of r bytes ≡ outcome.Fault c → old.calls ≤ max_calls → (old.faults < new.faults) ⊎ (new.calls ≡ max_calls)
-  call_failed (Ok _) bytes c k e most = absurd cc
-  call_failed (Err code) bytes c k e most = elim (at_most old.calls max_calls most) [
+  pub call_failed : (k : Kind) (r : Outcome) (bytes : List ℕ) (c : ℕ) → Calls old r new → outcome_of k r bytes ≡ outcome.Fault c → old.calls ≤ max_calls → (old.faults < new.faults) ⊎ (new.calls ≡ max_calls)
+  call_failed Fill (Ok _) bytes c k e most = absurd cc
+  call_failed Flush (Ok _) bytes c k e most = absurd cc
+  call_failed _ (Err code) bytes c k e most = elim (at_most old.calls max_calls most) [
     | inl less ↦ inl (let f = k.faults less in omega (arith, f))
     | inr full ↦ inr (ap (λ d. d.calls) (k.exhausted full).1 ∙ full)
   ]
@@ -105,17 +115,18 @@ module _ (old new : Told) where
 
 -- ---- an event
 
-abbrev pub Made : Held → Event → Reply → Held → Type 0
-Made old e r new = Moves (world_of old) (Act e r) (world_of new) × (new.device ≡ old.device)
+abbrev pub Made : WorldSeen → Event → Reply → WorldSeen → Type 0
+Made old e r new = WorldStep (world_of old) (Act e r) (world_of new) × (new.device ≡ old.device)
 
 -- what holds of a service's world also while a request is in flight
-pub record IsSound (w : Held) : Type 0 where
+pub record IsSound (w : WorldSeen) : Type 0 where
   pub reached : is_some w.device.contents ≡ true → IsReached (world_of w)
+  pub core : Sound w.core
   pub counted : w.device.calls ≤ max_calls
   pub bounded : AreBounded w.core
 
-pub service_sound : (name : ℕ) (w : Held) (table : TableId) (errors : RecorderSeen) → IsServing name w table errors → IsSound w
-service_sound name w table errors i = record { reached = i.reached; counted = i.counted; bounded = i.bounded }
+pub service_sound : (name : ℕ) (w : WorldSeen) (table : TableId) (errors : RecorderSeen) → IsServing name w table errors → IsSound w
+service_sound name w table errors i = record { reached = i.reached; core = i.sound; counted = i.counted; bounded = i.bounded }
 
 -- the service goes on so
 pub record Goes (s t : SoloSeen) : Type 0 where
@@ -123,26 +134,26 @@ pub record Goes (s t : SoloSeen) : Type 0 where
   pub sound : IsSound t.world
   pub lists : length t.errors.all ≡ length s.errors.all
 
-same_faults : (s : SoloSeen) (w : Held) → w.device ≡ s.world.device → s.world.device.faults ≤ w.device.faults
+same_faults : (s : SoloSeen) (w : WorldSeen) → w.device ≡ s.world.device → s.world.device.faults ≤ w.device.faults
 same_faults s w d = subst (λ x. s.world.device.faults ≤ x.faults) (sym d) (omega arith)
 
 -- a step that raises the failures by those that are noted
-moved_keeps : (s : SoloSeen) (w : Held) (errors : RecorderSeen) (e : Entry) → Moves (world_of s.world) e (world_of w) → keeps_handles e ≡ true → w.device ≡ s.world.device → Notes s.errors errors → ((f : ℕ) → count_in errors f + failures_in s.world.core f ≡ count_in s.errors f + failures_in w.core f) → Keeps s (record s { world = w; errors = errors })
-moved_keeps s w errors e m k d n same =
+moved_keeps : (s : SoloSeen) (w : WorldSeen) (errors : RecorderSeen) (e : Move) → WorldStep (world_of s.world) e (world_of w) → keeps_handles e ≡ true → w.device ≡ s.world.device → Notes s.errors errors → ((f : ℕ) → count_in errors f + failures_in s.world.core f ≡ count_in s.errors f + failures_in w.core f) → (IsCoded s → IsCoded (record s { world = w; errors = errors })) → Keeps s (record s { world = w; errors = errors })
+moved_keeps s w errors e m k d n same codes =
     let a = stays (world_of s.world) (world_of w) e m in
     let b = handles_stay (world_of s.world) (world_of w) e k m in
-    record { name = a.1; sizes = a.0; handles = b.0; count = b.1; board = n.board; opening = n.opening; recorded = n.begins; noted = same; tells = ap (λ x. is_some x.contents) d; faults = same_faults s w d }
+    record { name = a.1; sizes = a.0; handles = b.0; count = b.1; board = n.board; opening = n.opening; recorded = n.begins; noted = same; coded = codes; tells = ap (λ x. is_some x.contents) d; faults = same_faults s w d }
 
-moved_sound : (old w : Held) (e : Entry) → Moves (world_of old) e (world_of w) → w.device ≡ old.device → IsSound old → IsSound w
-moved_sound old w e m d i = record { reached = λ t. reached_step (world_of old) (world_of w) e (i.reached (ap (λ x. is_some x.contents) (sym d) ∙ t)) m; counted = subst (λ x. x.calls ≤ max_calls) (sym d) i.counted; bounded = bounded_stays (world_of old) (world_of w) e m i.bounded }
+moved_sound : (old w : WorldSeen) (e : Move) → WorldStep (world_of old) e (world_of w) → w.device ≡ old.device → IsSound old → IsSound w
+moved_sound old w e m d i = record { reached = λ t. reached_step (world_of old) (world_of w) e (i.reached (ap (λ x. is_some x.contents) (sym d) ∙ t)) m; core = core_sound (world_of old) (world_of w) e m i.core; counted = subst (λ x. x.calls ≤ max_calls) (sym d) i.counted; bounded = bounded_stays (world_of old) (world_of w) e m i.bounded }
 
-pub made_keeps : (s : SoloSeen) (w : Held) (e : Event) (r : Reply) → Made s.world e r w → keeps_handles (Act e r) ≡ true → Keeps s (record s { world = w })
-made_keeps s w e r m k = moved_keeps s w s.errors (Act e r) m.0 k m.1 (notes s.errors s.errors None r refl) (λ f. ap (λ n. count_in s.errors f + n) (sym (act_failures (world_of s.world) (world_of w) e r m.0 f)))
+pub made_keeps : (s : SoloSeen) (w : WorldSeen) (e : Event) (r : Reply) → Made s.world e r w → Sound s.world.core → keeps_handles (Act e r) ≡ true → Keeps s (record s { world = w })
+made_keeps s w e r m ok k = moved_keeps s w s.errors (Act e r) m.0 k m.1 (notes s.errors s.errors None r refl) (λ f. ap (λ n. count_in s.errors f + n) (sym (act_failures (world_of s.world) (world_of w) e r ok m.0 f))) (λ same f. same f ∙ sym (act_codes (world_of s.world) (world_of w) e r ok m.0 f))
 
-pub made_files : (s : SoloSeen) (w : Held) (e : Event) (r : Reply) → Made s.world e r w → IsSound s.world → Tells s → files (record s { world = w }) ≡ plain_after (files s) e r
+pub made_files : (s : SoloSeen) (w : WorldSeen) (e : Event) (r : Reply) → Made s.world e r w → IsSound s.world → Tells s → files (record s { world = w }) ≡ plain_after (files s) e r
 made_files s w e r m i t = files_step (world_of s.world) (world_of w) (Act e r) (i.reached t) m.0
 
-pub made_sound : (old w : Held) (e : Event) (r : Reply) → Made old e r w → IsSound old → IsSound w
+pub made_sound : (old w : WorldSeen) (e : Event) (r : Reply) → Made old e r w → IsSound old → IsSound w
 made_sound old w e r m i = moved_sound old w (Act e r) m.0 m.1 i
 
 -- an event that leaves handles and files
@@ -176,10 +187,10 @@ quiet_plain p (event.Append h b) r q = absurd cc
 quiet_plain p (event.Truncate h z) r q = absurd cc
 quiet_plain p _ r q = refl
 
-pub made_goes : (s : SoloSeen) (w : Held) (e : Event) (r : Reply) → Made s.world e r w → is_quiet e ≡ true → IsSound s.world → Goes s (record s { world = w })
+pub made_goes : (s : SoloSeen) (w : WorldSeen) (e : Event) (r : Reply) → Made s.world e r w → is_quiet e ≡ true → IsSound s.world → Goes s (record s { world = w })
 made_goes s w e r m q i = record {
   serves = record {
-    keeps = made_keeps s w e r m (quiet_handles e r q);
+    keeps = made_keeps s w e r m i.core (quiet_handles e r q);
     lengths = lengths_stay (world_of s.world) (world_of w) (Act e r) (quiet_lengths e r q) m.0;
     files = λ t. made_files s w e r m i t ∙ quiet_plain _ e r q;
   };
@@ -191,17 +202,17 @@ same_job : (r : Reply) → is_job r ≡ false → kept.is_job r ≡ false
 same_job (reply.Job t) e = absurd cc
 same_job _ e = refl
 
-none_of : (w : Held) → IsResting w → NoneInFlight (world_of w)
+none_of : (w : WorldSeen) → IsResting w → NoneInFlight (world_of w)
 none_of w r = record { requests = r.requests; outcomes = r.outcomes }
 
-pub made_rests : (old w : Held) (e : Event) (r : Reply) → Made old e r w → is_job r ≡ false → IsResting old → IsResting w
+pub made_rests : (old w : WorldSeen) (e : Event) (r : Reply) → Made old e r w → is_job r ≡ false → IsResting old → IsResting w
 made_rests old w e r m j rest = let x = none_stays (world_of old) (world_of w) e r (same_job r j) (none_of old rest) m.0 in record { requests = x.requests; outcomes = x.outcomes }
 
 -- no more serials were given than device calls were made
-abbrev pub FewSerials : Held → Type 0
+abbrev pub FewSerials : WorldSeen → Type 0
 FewSerials w = w.core.next ≤ w.device.calls
 
-pub made_serials : (old w : Held) (e : Event) (r : Reply) → Made old e r w → is_job r ≡ false → FewSerials old → FewSerials w
+pub made_serials : (old w : WorldSeen) (e : Event) (r : Reply) → Made old e r w → is_job r ≡ false → FewSerials old → FewSerials w
 made_serials old w e r m j i = let a = next_stays (world_of old) (world_of w) (Act e r) (ap not (same_job r j)) m.0 in let b : w.device.calls ≡ old.device.calls = ap (λ d. d.calls) m.1 in omega arith
 
 -- what makes a service of a world that it goes on in
@@ -213,8 +224,10 @@ goes_service name s t table i g rest n = record {
   rests = rest;
   reached = g.sound.reached;
   counted = g.sound.counted;
+  sound = g.sound.core;
   bounded = g.sound.bounded;
   few = subst (λ k. k ≤ MAX_FILES) (sym g.serves.keeps.count) i.few;
+  page = subst (λ (z : Sizes). MIN_PAGE_SIZE ≤ z.page) (sym g.serves.keeps.sizes) i.page;
   frames = subst (λ (z : Sizes). MIN_FRAMES ≤ z.frames) (sym g.serves.keeps.sizes) i.frames;
   dirty = subst (λ (z : Sizes). MIN_DIRTY_LIMIT ≤ z.dirty_limit) (sym g.serves.keeps.sizes) i.dirty;
   serials = n;
@@ -226,7 +239,7 @@ if_told : {X : Type 0} {P : Type 0} (o : Option X) → IfSome o (λ _. P) → is
 if_told None h e = absurd cc
 if_told (Some x) h e = h
 
-module _ (s : SoloSeen) (w : Held) (t : ℕ) (c : IsCalled s.world t w) (i : IsSound s.world) where
+module _ (s : SoloSeen) (w : WorldSeen) (t : ℕ) (c : IsCalled s.world t w) (i : IsSound s.world) where
   same_core : w.core ≡ s.world.core
   same_core = ap (λ h. h.core) c.noted
 
@@ -234,13 +247,14 @@ module _ (s : SoloSeen) (w : Held) (t : ℕ) (c : IsCalled s.world t w) (i : IsS
   counts = performed s.world.device w.device c.job c.done c.performs
 
   called_keeps : Keeps s (record s { world = w })
-  called_keeps = record { name = ap (λ x. x.name) same_core; sizes = ap (λ x. x.sizes) same_core; handles = ap (λ x. x.handles) same_core; count = ap (λ x. length x.files) same_core; board = refl; opening = refl; recorded = λ g. prefix_self _; noted = λ g. ap (λ x. count_in s.errors g + failures_in x g) (sym same_core); tells = counts.tells; faults = counts.faults i.counted }
+  called_keeps = record { name = ap (λ x. x.name) same_core; sizes = ap (λ x. x.sizes) same_core; handles = ap (λ x. x.handles) same_core; count = ap (λ x. length x.files) same_core; board = refl; opening = refl; recorded = λ g. prefix_self _; noted = λ g. ap (λ x. count_in s.errors g + failures_in x g) (sym same_core); coded = λ same g. same g ∙ ap (λ x. (file_at x g).last_code) (sym same_core); tells = counts.tells; faults = counts.faults i.counted }
 
   pub called_goes : IfSome s.world.device.contents (λ _. MovesByCall s.world t w) → Goes s (record s { world = w })
   called_goes h = record {
     serves = record { keeps = called_keeps; lengths = λ f. ap (λ x. (file_at x f).size) same_core; files = λ told. let m = if_told s.world.device.contents h told in files_step (world_of s.world) (world_of w) (Call t m.0 m.1) (i.reached told) m.2 };
     sound = record {
       reached = λ told. let before = sym counts.tells ∙ told in let m = if_told s.world.device.contents h before in reached_step (world_of s.world) (world_of w) (Call t m.0 m.1) (i.reached before) m.2;
+      core = subst Sound (sym same_core) i.core;
       counted = counts.calls i.counted;
       bounded = subst AreBounded (sym same_core) i.bounded;
     };
@@ -249,13 +263,13 @@ module _ (s : SoloSeen) (w : Held) (t : ℕ) (c : IsCalled s.world t w) (i : IsS
 
 -- ---- an end
 
-abbrev pub Finished : Held → ℕ → Reply → Held → Type 0
-Finished old t r new = Moves (world_of old) (Finish t r) (world_of new) × (new.device ≡ old.device)
+abbrev pub Finished : WorldSeen → ℕ → Reply → WorldSeen → Type 0
+Finished old t r new = WorldStep (world_of old) (Finish t r) (world_of new) × (new.device ≡ old.device)
 
 -- with its failure noted
-pub finished_goes : (s : SoloSeen) (w : Held) (errors : RecorderSeen) (t : ℕ) (r : Reply) → Finished s.world t r w → IsNoted s.errors (flush_of s.world.core t) r errors → length s.errors.all ≡ MAX_FILES → IsSound s.world → Goes s (record s { world = w; errors = errors })
+pub finished_goes : (s : SoloSeen) (w : WorldSeen) (errors : RecorderSeen) (t : ℕ) (r : Reply) → Finished s.world t r w → IsNoted s.errors (flush_of s.world.core t) r errors → length s.errors.all ≡ MAX_FILES → IsSound s.world → Goes s (record s { world = w; errors = errors })
 finished_goes s w errors t r m n l i = record {
-  serves = record { keeps = moved_keeps s w errors (Finish t r) m.0 refl m.1 (notes s.errors errors (flush_of s.world.core t) r n) (rise_alike (flush_of s.world.core t) r _ _ _ _ (noted_rises s.errors errors (flush_of s.world.core t) r l n) (finish_rises (world_of s.world) (world_of w) t r m.0)); lengths = lengths_stay (world_of s.world) (world_of w) (Finish t r) refl m.0; files = λ told. files_step (world_of s.world) (world_of w) (Finish t r) (i.reached told) m.0 };
+  serves = record { keeps = moved_keeps s w errors (Finish t r) m.0 refl m.1 (notes s.errors errors (flush_of s.world.core t) r n) (rise_alike (flush_of s.world.core t) r _ _ _ _ (noted_rises s.errors errors (flush_of s.world.core t) r l n) (finish_rises (world_of s.world) (world_of w) t r i.core m.0)) (change_alike (flush_of s.world.core t) r _ _ _ _ (noted_codes s.errors errors (flush_of s.world.core t) r l n) (finish_codes (world_of s.world) (world_of w) t r i.core m.0)); lengths = lengths_stay (world_of s.world) (world_of w) (Finish t r) refl m.0; files = λ told. files_step (world_of s.world) (world_of w) (Finish t r) (i.reached told) m.0 };
   sound = moved_sound s.world w (Finish t r) m.0 m.1 i;
   lists = (notes s.errors errors (flush_of s.world.core t) r n).lists;
 }
@@ -265,30 +279,30 @@ goes_trans s t u g h = record { serves = serves_trans s t u g.serves h.serves; s
 
 -- ---- the call and the end of the one request in flight
 
-one_of : (w : Held) (t : ℕ) → IsAlone w t → OneInFlight (world_of w) t
+one_of : (w : WorldSeen) (t : ℕ) → IsAlone w t → OneInFlight (world_of w) t
 one_of w t a = record { request = a.request; requests = a.requests; others = λ u _. ap (λ o. finmap.get o u) a.outcomes ∙ get-empty nat_cmp u }
 
-call_made : (old new : Held) (t : ℕ) (q : Option Request) (o : Option core.Outcome) → CallReply old t q o reply.Done new → IsCalled old t new × IfSome old.device.contents (λ _. MovesByCall old t new)
+call_made : (old new : WorldSeen) (t : ℕ) (q : Option Request) (o : Option core.Outcome) → CallReply old t q o reply.Done new → IsCalled old t new × IfSome old.device.contents (λ _. MovesByCall old t new)
 call_made old new t (Some q) None h = (h.1, h.2)
 call_made old new t (Some q) (Some o) h = absurd (cc (h.0))
 call_made old new t None o h = absurd (cc (h.0))
 
-call_answer : (old new : Held) (t : ℕ) (q : Option Request) (o : Option core.Outcome) (x : Request) (r : Reply) → q ≡ Some x → o ≡ None → CallReply old t q o r new → r ≡ reply.Done
+call_answer : (old new : WorldSeen) (t : ℕ) (q : Option Request) (o : Option core.Outcome) (x : Request) (r : Reply) → q ≡ Some x → o ≡ None → CallReply old t q o r new → r ≡ reply.Done
 call_answer old new t (Some q) None x r a b h = h.0
 call_answer old new t (Some q) (Some o) x r a b h = absurd cc
 call_answer old new t None o x r a b h = absurd cc
 
-pub outcome_noted : (old new : Held) (t : ℕ) (c : IsCalled old t new) → finmap.get new.outcomes t ≡ Some (outcome_of c.done.outcome c.done.bytes)
+pub outcome_noted : (old new : WorldSeen) (t : ℕ) (c : IsCalled old t new) → finmap.get new.outcomes t ≡ Some (outcome_of c.job.kind c.done.outcome c.done.bytes)
 outcome_noted old new t c = ap (λ h. finmap.get h.outcomes t) c.noted ∙ get-insert1 old.outcomes t _ t ∙ put1_here _ t _
 
 -- once its call is made the request can be ended
-end_made : (old mid new : Held) (t : Serial) (r : Reply) → IsCalled old t.0 mid → Steps mid (step.End t) r new → Finished mid t.0 r new
+end_made : (old mid new : WorldSeen) (t : Serial) (r : Reply) → IsCalled old t.0 mid → Steps mid (step.End t) r new → Finished mid t.0 r new × (r ≢ reply.Refused Stranger)
 end_made old mid new t r c h = subst (λ o. EndReply mid (step.End t) o r new) (outcome_noted old mid t.0 c) h
 
-one_called : (old new : Held) (t : ℕ) → IsCalled old t new → IsAlone old t → OneInFlight (world_of new) t
+one_called : (old new : WorldSeen) (t : ℕ) → IsCalled old t new → IsAlone old t → OneInFlight (world_of new) t
 one_called old new t c a = (one_noted (world_of old) (world_of new) t _ (one_of old t a) (ap (λ x. x.core) c.noted) (ap (λ x. x.outcomes) c.noted)).0
 
-module _ (old mid new : Held) (t : Serial) (a r : Reply) (alone : IsAlone old t.0) (h : CallReply old t.0 (finmap.get old.core.requests t.0) (finmap.get old.outcomes t.0) a mid) (e : Steps mid (step.End t) r new) where
+module _ (old mid new : WorldSeen) (t : Serial) (a r : Reply) (alone : IsAlone old t.0) (h : CallReply old t.0 (finmap.get old.core.requests t.0) (finmap.get old.outcomes t.0) a mid) (e : Steps mid (step.End t) r new) where
   answer : a ≡ reply.Done
   answer = call_answer old mid t.0 _ _ _ a (one_is (world_of old) t.0 (one_of old t.0 alone)) (ap (λ o. finmap.get o t.0) alone.outcomes ∙ get-empty nat_cmp t.0) h
 
@@ -301,44 +315,45 @@ module _ (old mid new : Held) (t : Serial) (a r : Reply) (alone : IsAlone old t.
   pub alone_rests : IsResting new
   alone_rests =
       let c = (call_made old mid t.0 _ _ call_done).0 in
-      let x = one_ends (world_of mid) (world_of new) t.0 r (one_called old mid t.0 c alone) (end_made old mid new t r c e).0 in
+      let over = end_made old mid new t r c e in
+      let x = one_ends (world_of mid) (world_of new) t.0 r over.1 (one_called old mid t.0 c alone) over.0.0 in
       record { requests = x.requests; outcomes = x.outcomes }
 
 -- ---- a request in one, or the step that began none
 
 -- the step makes this event, or nothing for want of memory; and the event may begin a request
 pub record Begins (st : Step) (e : Event) : Type 0 where
-  pub may : may_begin e ≡ true
   pub quiet : is_quiet e ≡ true
-  pub steps : (old new : Held) (r : Reply) → Steps old st r new → Made old e r new ⊎ IsNotMade old Memory r new
+  pub steps : (old new : WorldSeen) (r : Reply) → Steps old st r new → Made old e r new ⊎ IsNotMade old Memory r new
 
 pub fill_begins : (h : HandleId) (p : PageIndex) → Begins (step.FillBegin h p) (event.FillBegin h p)
-fill_begins h p = record { may = refl; quiet = refl; steps = λ old new r x. x }
+fill_begins h p = record { quiet = refl; steps = λ old new r x. x }
 
 pub flush_begins : (f : FileId) → Begins (step.FlushBegin f) (event.FlushBegin f)
-flush_begins f = record { may = refl; quiet = refl; steps = λ old new r x. x }
+flush_begins f = record { quiet = refl; steps = λ old new r x. x }
 
 pub sync_begins : (n : SyncId) → Begins (step.SyncStep n) (event.SyncStep n)
-sync_begins n = record { may = refl; quiet = refl; steps = λ old new r x. x }
+sync_begins n = record { quiet = refl; steps = λ old new r x. x }
 
 -- a request that was begun, called and ended, with its failure noted
-pub record Carried (old : Held) (errors : RecorderSeen) (e : Event) (r : Reply) (new : Held) (after : RecorderSeen) : Type 0 where
+pub record Carried (old : WorldSeen) (errors : RecorderSeen) (e : Event) (r : Reply) (new : WorldSeen) (after : RecorderSeen) : Type 0 where
   pub serial : Serial
-  pub begun : Held
-  pub called : Held
+  pub begun : WorldSeen
+  pub called : WorldSeen
   pub begin : Made old e (reply.Job serial) begun
   pub call : IsCalled begun serial.0 called
   pub moves : IfSome begun.device.contents (λ _. MovesByCall begun serial.0 called)
   pub end : Finished called serial.0 r new
+  pub ended : r ≢ reply.Refused Stranger
   pub noted : IsNoted errors (flush_of begun.core serial.0) r after
 
 -- no memory, no request, or a whole one
-pub data Once (old : Held) (errors : RecorderSeen) (e : Event) (r : Reply) (new : Held) (after : RecorderSeen) : Type 0 where
+pub data Once (old : WorldSeen) (errors : RecorderSeen) (e : Event) (r : Reply) (new : WorldSeen) (after : RecorderSeen) : Type 0 where
   Unmade : r ≡ reply.Refused Memory → new ≡ old → after ≡ errors → Once old errors e r new after
   Quiet : is_job r ≡ false → Made old e r new → after ≡ errors → Once old errors e r new after
   Whole : Carried old errors e r new after → Once old errors e r new after
 
-pub once : (old new : Held) (errors after : RecorderSeen) (st : Step) (e : Event) (r : Reply) → Begins st e → AtOnce old errors st r new after → Once old errors e r new after
+pub once : (old new : WorldSeen) (errors after : RecorderSeen) (st : Step) (e : Event) (r : Reply) → Begins st e → AtOnce old errors st r new after → Once old errors e r new after
 once old new errors after st e r b (inl a) = elim (b.steps old new r a.1) [ inl m ↦ Quiet a.0 m a.2 | inr m ↦ Unmade m.0 m.1 a.2 ]
 once old new errors after st e r b (inr (t, mid, asked, (called, answered, (ended, end, same)), noted)) = elim (b.steps old mid (reply.Job t) asked) [
   | inl m ↦ (let c = call_made mid called t.0 _ _ answered in Whole (record {
@@ -348,17 +363,18 @@ once old new errors after st e r b (inr (t, mid, asked, (called, answered, (ende
     begin = m;
     call = c.0;
     moves = c.1;
-    end = subst (Finished called t.0 r) (sym same) (end_made mid called ended t r c.0 end);
+    end = subst (Finished called t.0 r) (sym same) (end_made mid called ended t r c.0 end).0;
+    ended = (end_made mid called ended t r c.0 end).1;
     noted = noted;
   }))
   | inr m ↦ absurd (cc (m.0))
 ]
 
 -- the service with another world and with what was noted
-abbrev pub with_world : SoloSeen → Held → RecorderSeen → SoloSeen
+abbrev pub with_world : SoloSeen → WorldSeen → RecorderSeen → SoloSeen
 with_world s w errors = record s { world = w; errors = errors }
 
-carried_goes : (s : SoloSeen) (w : Held) (errors : RecorderSeen) (st : Step) (e : Event) (r : Reply) → Begins st e → Carried s.world s.errors e r w errors → length s.errors.all ≡ MAX_FILES → IsSound s.world → Goes s (with_world s w errors)
+carried_goes : (s : SoloSeen) (w : WorldSeen) (errors : RecorderSeen) (st : Step) (e : Event) (r : Reply) → Begins st e → Carried s.world s.errors e r w errors → length s.errors.all ≡ MAX_FILES → IsSound s.world → Goes s (with_world s w errors)
 carried_goes s w errors st e r b c l i =
     let g = made_goes s c.begun e (reply.Job c.serial) c.begin b.quiet i in
     let h = called_goes (record s { world = c.begun }) c.called c.serial.0 c.call g.sound c.moves in
@@ -369,42 +385,62 @@ carried_goes s w errors st e r b c l i =
 pub goes_refl : (s : SoloSeen) → IsSound s.world → Goes s s
 goes_refl s i = record { serves = serves_refl s; sound = i; lists = refl }
 
-once_goes : (s : SoloSeen) (w : Held) (errors : RecorderSeen) (st : Step) (e : Event) (r : Reply) → Begins st e → Once s.world s.errors e r w errors → length s.errors.all ≡ MAX_FILES → IsSound s.world → Goes s (with_world s w errors)
+once_goes : (s : SoloSeen) (w : WorldSeen) (errors : RecorderSeen) (st : Step) (e : Event) (r : Reply) → Begins st e → Once s.world s.errors e r w errors → length s.errors.all ≡ MAX_FILES → IsSound s.world → Goes s (with_world s w errors)
 once_goes s w errors st e r b (Unmade _ same none) l i = subst (λ x. Goes s (with_world s w x)) (sym none) (subst (λ x. Goes s (record s { world = x })) (sym same) (goes_refl s i))
 once_goes s w errors st e r b (Quiet j m none) l i = subst (λ x. Goes s (with_world s w x)) (sym none) (made_goes s w e r m b.quiet i)
 once_goes s w errors st e r b (Whole c) l i = carried_goes s w errors st e r b c l i
 
-at_once_goes : (name : ℕ) (s : SoloSeen) (w : Held) (errors : RecorderSeen) (table : TableId) (st : Step) (e : Event) (r : Reply) → Begins st e → AtOnce s.world s.errors st r w errors → IsServing name s.world table s.errors → Goes s (with_world s w errors)
+at_once_goes : (name : ℕ) (s : SoloSeen) (w : WorldSeen) (errors : RecorderSeen) (table : TableId) (st : Step) (e : Event) (r : Reply) → Begins st e → AtOnce s.world s.errors st r w errors → IsServing name s.world table s.errors → Goes s (with_world s w errors)
 at_once_goes name s w errors table st e r b a i = once_goes s w errors st e r b (once s.world w s.errors errors st e r b a) i.lists (service_sound name s.world table s.errors i)
 
-pub at_once_serves : (name : ℕ) (s : SoloSeen) (w : Held) (errors : RecorderSeen) (table : TableId) (st : Step) (e : Event) (r : Reply) → Begins st e → AtOnce s.world s.errors st r w errors → IsServing name s.world table s.errors → Serves s (with_world s w errors)
+pub at_once_serves : (name : ℕ) (s : SoloSeen) (w : WorldSeen) (errors : RecorderSeen) (table : TableId) (st : Step) (e : Event) (r : Reply) → Begins st e → AtOnce s.world s.errors st r w errors → IsServing name s.world table s.errors → Serves s (with_world s w errors)
 at_once_serves name s w errors table st e r b a i = (at_once_goes name s w errors table st e r b a i).serves
 
-pub begun_alone : (old new : Held) (e : Event) (t : Serial) → may_begin e ≡ true → IsResting old → Made old e (reply.Job t) new → IsAlone new t.0
-begun_alone old new e t may rest m =
-    let x = begins (world_of old) (world_of new) e t may m.0 in
+-- the steps that it is
+at_once_moves : (k : Step → Bool) (old new : WorldSeen) (errors after : RecorderSeen) (st : Step) (r : Reply)
+    → k st ≡ true → ((t : Serial) → k (step.Call t) ≡ true) → ((t : Serial) → k (step.End t) ≡ true)
+    → AtOnce old errors st r new after → Moves k old new
+at_once_moves k old new errors after st r is calls ends (inl a) = one_move k old new st r is a.1
+at_once_moves k old new errors after st r is calls ends (inr (t, mid, begun, plays, noted)) = record {
+  steps = st ∷ step.Call t ∷ step.End t ∷ [];
+  replies = reply.Job t ∷ reply.Done ∷ r ∷ [];
+  plays = (mid, begun, plays);
+  each = three k st (step.Call t) (step.End t) is (calls t) (ends t);
+}
+
+pub at_once_helps : (name : ℕ) (s : SoloSeen) (w : WorldSeen) (errors : RecorderSeen) (table : TableId) (st : Step)
+    (e : Event) (r : Reply) → Begins st e → is_help st ≡ true → AtOnce s.world s.errors st r w errors
+    → IsServing name s.world table s.errors → Helps s (with_world s w errors)
+at_once_helps name s w errors table st e r b k a i = record {
+  serves = at_once_serves name s w errors table st e r b a i;
+  moves = at_once_moves is_help s.world w s.errors errors st r k (λ t. refl) (λ t. refl) a;
+}
+
+pub begun_alone : (old new : WorldSeen) (e : Event) (t : Serial) → IsResting old → Made old e (reply.Job t) new → IsAlone new t.0
+begun_alone old new e t rest m =
+    let x = begins (world_of old) (world_of new) e t m.0 in
     record { request = x.request; requests = x.requests ∙ ap (λ y. finmap.insert y t.0 x.request) rest.requests; outcomes = x.outcomes ∙ rest.outcomes }
 
-pub quiet_rests : (old new : Held) (st : Step) (e : Event) (r : Reply) → Begins st e → is_job r ≡ false → Steps old st r new → IsResting old → IsResting new
+pub quiet_rests : (old new : WorldSeen) (st : Step) (e : Event) (r : Reply) → Begins st e → is_job r ≡ false → Steps old st r new → IsResting old → IsResting new
 quiet_rests old new st e r b j h rest = elim (b.steps old new r h) [ inl m ↦ made_rests old new e r m j rest | inr m ↦ subst IsResting (sym m.1) rest ]
 
 pub no_job : (r : Reply) → ((t : Serial) → r ≡ reply.Job t → ⊥) → is_job r ≡ false
 no_job (reply.Job t) h = absurd (h t refl)
 no_job _ h = refl
 
-once_rests : (old new : Held) (errors after : RecorderSeen) (st : Step) (e : Event) (r : Reply) → Begins st e → Once old errors e r new after → IsResting old → IsResting new
+once_rests : (old new : WorldSeen) (errors after : RecorderSeen) (st : Step) (e : Event) (r : Reply) → Begins st e → Once old errors e r new after → IsResting old → IsResting new
 once_rests old new errors after st e r b (Unmade _ same none) rest = subst IsResting (sym same) rest
 once_rests old new errors after st e r b (Quiet j m none) rest = made_rests old new e r m j rest
 once_rests old new errors after st e r b (Whole c) rest =
-    let x = one_ends (world_of c.called) (world_of new) c.serial.0 r (one_called c.begun c.called c.serial.0 c.call (begun_alone old c.begun e c.serial b.may rest c.begin)) c.end.0 in
+    let x = one_ends (world_of c.called) (world_of new) c.serial.0 r c.ended (one_called c.begun c.called c.serial.0 c.call (begun_alone old c.begun e c.serial rest c.begin)) c.end.0 in
     record { requests = x.requests; outcomes = x.outcomes }
 
 serials_on : (a b c d m : ℕ) → a ≤ c → a < m → b ≡ a + 1 → (c < m → d ≡ c + 1) → c ≤ m → (c ≡ m → d ≡ c) → b ≤ d
 serials_on a b c d m h less e f most same = elim (at_most c m most) [ inl x ↦ (let y = f x in omega arith) | inr x ↦ (let y = same x in omega arith) ]
 
-carried_serials : (old new : Held) (errors after : RecorderSeen) (e : Event) (r : Reply) → may_begin e ≡ true → Carried old errors e r new after → old.device.calls ≤ max_calls → FewSerials old → FewSerials new
-carried_serials old new errors after e r may c most i =
-    let n = next_rises (world_of old) (world_of c.begun) e c.serial may c.begin.0 in
+carried_serials : (old new : WorldSeen) (errors after : RecorderSeen) (e : Event) (r : Reply) → Carried old errors e r new after → old.device.calls ≤ max_calls → FewSerials old → FewSerials new
+carried_serials old new errors after e r c most i =
+    let n = next_rises (world_of old) (world_of c.begun) e c.serial c.begin.0 in
     let k = call_by c.begun.device c.called.device _ _ _ _ _ c.call.performs.call in
     let same : c.called.core.next ≡ c.begun.core.next = ap (λ x. x.core.next) c.call.noted in
     let last = next_stays (world_of c.called) (world_of new) (Finish c.serial.0 r) refl c.end.0 in
@@ -415,27 +451,27 @@ carried_serials old new errors after e r may c most i =
     most
     (λ full. over ∙ ap (λ d. d.calls) (k.exhausted (device ∙ full)).1 ∙ device)
 
-once_serials : (old new : Held) (errors after : RecorderSeen) (st : Step) (e : Event) (r : Reply) → Begins st e → Once old errors e r new after → old.device.calls ≤ max_calls → FewSerials old → FewSerials new
+once_serials : (old new : WorldSeen) (errors after : RecorderSeen) (st : Step) (e : Event) (r : Reply) → Begins st e → Once old errors e r new after → old.device.calls ≤ max_calls → FewSerials old → FewSerials new
 once_serials old new errors after st e r b (Unmade _ same none) most i = subst FewSerials (sym same) i
 once_serials old new errors after st e r b (Quiet j m none) most i = made_serials old new e r m j i
-once_serials old new errors after st e r b (Whole c) most i = carried_serials old new errors after e r b.may c most i
+once_serials old new errors after st e r b (Whole c) most i = carried_serials old new errors after e r c most i
 
-pub at_once_serving : (name : ℕ) (s : SoloSeen) (w : Held) (errors : RecorderSeen) (table : TableId) (st : Step) (e : Event) (r : Reply) → Begins st e → AtOnce s.world s.errors st r w errors → IsServing name s.world table s.errors → IsServing name w table errors
+pub at_once_serving : (name : ℕ) (s : SoloSeen) (w : WorldSeen) (errors : RecorderSeen) (table : TableId) (st : Step) (e : Event) (r : Reply) → Begins st e → AtOnce s.world s.errors st r w errors → IsServing name s.world table s.errors → IsServing name w table errors
 at_once_serving name s w errors table st e r b a i =
     let o = once s.world w s.errors errors st e r b a in
     goes_service name s (with_world s w errors) table i (at_once_goes name s w errors table st e r b a i) (once_rests s.world w s.errors errors st e r b o i.rests)
     (once_serials s.world w s.errors errors st e r b o i.counted i.serials)
 
 -- one that is no sync's begins none
-once_syncs : (old new : Held) (errors after : RecorderSeen) (e : Event) (r : Reply) → not_of_sync e ≡ true → Once old errors e r new after → old.core.syncs ≡ finmap.empty → new.core.syncs ≡ finmap.empty
-once_syncs old new errors after e r q (Unmade _ same none) i = ap (λ (x : Held). x.core.syncs) same ∙ i
+once_syncs : (old new : WorldSeen) (errors after : RecorderSeen) (e : Event) (r : Reply) → begins_sync e ≡ false → Once old errors e r new after → old.core.syncs ≡ finmap.empty → new.core.syncs ≡ finmap.empty
+once_syncs old new errors after e r q (Unmade _ same none) i = ap (λ (x : WorldSeen). x.core.syncs) same ∙ i
 once_syncs old new errors after e r q (Quiet j m none) i = none_empty old.core new.core (act_none (world_of old) (world_of new) e r q m.0) i
 once_syncs old new errors after e r q (Whole c) i =
     let a = none_empty old.core c.begun.core (act_none (world_of old) (world_of c.begun) e (reply.Job c.serial) q c.begin.0) i in
-    let b : c.called.core.syncs ≡ finmap.empty = ap (λ (x : Held). x.core.syncs) c.call.noted ∙ a in
+    let b : c.called.core.syncs ≡ finmap.empty = ap (λ (x : WorldSeen). x.core.syncs) c.call.noted ∙ a in
     none_empty c.called.core new.core (finish_none (world_of c.called) (world_of new) c.serial.0 r c.end.0) b
 
-pub at_once_service : (name : ℕ) (s : SoloSeen) (w : Held) (errors : RecorderSeen) (table : TableId) (st : Step) (e : Event) (r : Reply) → Begins st e → not_of_sync e ≡ true → AtOnce s.world s.errors st r w errors → IsService name s.world table s.errors → IsService name w table errors
+pub at_once_service : (name : ℕ) (s : SoloSeen) (w : WorldSeen) (errors : RecorderSeen) (table : TableId) (st : Step) (e : Event) (r : Reply) → Begins st e → begins_sync e ≡ false → AtOnce s.world s.errors st r w errors → IsService name s.world table s.errors → IsService name w table errors
 at_once_service name s w errors table st e r b q a i = record {
   serving = at_once_serving name s w errors table st e r b a i.serving;
   syncs = once_syncs s.world w s.errors errors e r q (once s.world w s.errors errors st e r b a) i.syncs;

@@ -1,18 +1,22 @@
 -- Inside this crate: what one attempt of a call comes to. It is over, with a reply, or it is to be made again.
-use Rattle.std.specs.Prelude.{◌≡◌, ℕ, ◌+◌, ◌≤◌, ◌⊎◌, Bool, true, false, List, length, take, Option, Some, None, Result, Ok, Err}
+use Rattle.std.specs.Prelude.{◌≡◌, ℕ, ◌+◌, ◌<◌, ◌≤◌, ◌⊎◌, Bool, true, false, List, length, take, Option, Some, None, Result, Ok, Err}
 use Rattle.pc_types.specs.declared.ids.HandleId.{HandleId}
 use Rattle.pc_types.specs.declared.limits.TheConstants.{MAX_FILE_SIZE}
 use Rattle.pc_types.specs.declared.refusal.Refusal.{Refusal}
-use Rattle.pc_types.specs.declared.refusal.Refusal.TheVariants.{Memory}
-use Rattle.cachecore.specs.declared.event.Event.{Event}
-use Rattle.cachecore.specs.declared.event.Reply.{Reply}
-use Rattle.cachecore.specs.declared.event.Reply.TheVariants as reply
-use Rattle.cachecore.specs.Step.{Step}
-use Rattle.cachecore.specs.Tests.{tests}
+use Rattle.machine.specs.State.{State, file_at, handle_file}
+use Rattle.machine.specs.declared.event.Event.{Event}
+use Rattle.machine.specs.declared.event.Event.TheVariants as event
+use Rattle.machine.specs.declared.event.Reply.{Reply}
+use Rattle.machine.specs.declared.event.Reply.TheVariants as reply
+use Rattle.machine.specs.Step as machine
+use Rattle.machine.specs.Tests.{read_count, tests}
 use Rattle.filesvc.specs.declared.writes.Wrote.{Wrote}
+use Rattle.world.specs.declared.step.Step.{Step}
+use Rattle.world.specs.declared.step.Step.TheVariants as step
+use Rattle.filesvc.specs.Made.{Moves, Try, is_help}
 use Rattle.filesvc.specs.Seen.{SoloSeen}
-use Rattle.filesvc.specs.Rooms.{IsFillRefusal}
-use Rattle.filesvc.specs.Service.{FilesAfter, IsRefusal, IsWithoutRoom, Keeps, Serves, is_settled}
+use Rattle.filesvc.specs.Rooms.{IsFillRefusal, need}
+use Rattle.filesvc.specs.Service.{FilesAfter, IsRefusal, Keeps, Serves, Tells, is_settled}
 
 abbrev pub read_over : Result (Option ℕ) Refusal → List ℕ → Option Reply
 read_over (Ok (Some n)) out = Some (reply.Bytes (take n out))
@@ -46,6 +50,27 @@ pub record WroteAll (o : ℕ) (b : List ℕ) (w : Wrote) : Type 0 where
   pub ends : w.end ≡ o + w.count
   pub small : o ≤ MAX_FILE_SIZE → w.end ≤ MAX_FILE_SIZE
 
+-- how many attempts a call may still need before the last
+abbrev pub need_of : State → Event → ℕ
+need_of s (event.Read h o n) = need false s h.0 o (read_count s (handle_file s h.0) o n)
+need_of s (event.Write h o b) = need true s h.0 o (length b)
+need_of s (event.Append h b) = need true s h.0 (file_at s (handle_file s h.0)).size (length b)
+need_of s (event.Truncate h z) = need false s h.0 z 1
+need_of s e = 0
+
+-- the step of the world that is this event of a call
+abbrev pub step_of : Event → Step
+step_of (event.Read h o n) = step.Read h o n
+step_of (event.Write h o b) = step.Write h o b
+step_of (event.Append h b) = step.Append h b
+step_of (event.Truncate h z) = step.Truncate h z
+step_of e = step.Age
+
+-- steps that help a call, and leave the plain files as they are
+pub record Helps (old new : SoloSeen) : Type 0 where
+  pub serves : Serves old new
+  pub moves : Moves is_help old.world new.world
+
 -- the attempt from its beginning to its end
 pub record Attempt (old : SoloSeen) (e : Event) (over : Option Reply) (new : SoloSeen) : Type 0 where
   pub keeps : Keeps old new
@@ -53,16 +78,15 @@ pub record Attempt (old : SoloSeen) (e : Event) (over : Option Reply) (new : Sol
   pub again : over ≡ None → Serves old new
   pub files : (r : Reply) → over ≡ Some r → FilesAfter old e r new
   -- the event was over at once
-  pub settled : is_settled (tests old.world.core e) ≡ true → (r : Reply) × (over ≡ Some r) × Step old.world.core e r new.world.core
+  pub settled : is_settled (tests old.world.core e) ≡ true → (r : Reply) × (over ≡ Some r) × machine.Step old.world.core e r new.world.core
   pub refused : (r : Refusal) → over ≡ Some (reply.Refused r) → IsRefusal old e r new
-
--- why the way on from an event with this reply is refused: the fill of a page was, or the event was and no room was made for it, or memory
-abbrev pub IsStopped : SoloSeen → HandleId → Reply → Refusal → SoloSeen → Type 0
-IsStopped old h got r new = IsFillRefusal old h r new ⊎ (((got ≡ reply.Refused r) × IsWithoutRoom old r new) ⊎ (r ≡ Memory))
+  pub tried : Try (step_of e) old.world over new.world
+  -- one that is to be made again needs fewer attempts
+  pub less : Tells old → over ≡ None → need_of new.world.core e < need_of old.world.core e
 
 -- an attempt from its event on, which had this reply
 pub record Follows (old : SoloSeen) (h : HandleId) (got : Reply) (over : Option Reply) (new : SoloSeen) : Type 0 where
-  pub serves : Serves old new
+  pub helps : Helps old new
   pub attempts : new.attempts ≡ old.attempts
   pub settled : is_settled (Some got) ≡ true → (over ≡ Some got) × (new ≡ old)
-  pub stopped : is_settled (Some got) ≡ false → (over ≡ None) ⊎ ((r : Refusal) × (over ≡ Some (reply.Refused r)) × IsStopped old h got r new)
+  pub stopped : is_settled (Some got) ≡ false → (over ≡ None) ⊎ ((r : Refusal) × (over ≡ Some (reply.Refused r)) × IsFillRefusal old h r new)

@@ -1,4 +1,5 @@
 pub mod Attempts
+pub mod Made
 pub mod Rests
 pub mod Rooms
 pub mod Seen

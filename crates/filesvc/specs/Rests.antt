@@ -7,23 +7,24 @@ use Rattle.errboard.specs.Shown.{RecorderSeen}
 use Rattle.errboard.specs.Steps.{with_recording}
 use Rattle.errseq.specs.declared.recording.Recording.{Recording}
 use Rattle.pc_types.specs.declared.ids.Serial.{Serial}
-use Rattle.pc_types.specs.declared.limits.TheConstants.{MAX_FILES, MAX_FILE_SIZE, MIN_DIRTY_LIMIT, MIN_FRAMES}
-use Rattle.cachecore.specs.declared.event.Reply.{Reply}
-use Rattle.cachecore.specs.declared.event.Reply.TheVariants as reply
+use Rattle.pc_types.specs.declared.limits.TheConstants.{MAX_FILES, MAX_FILE_SIZE, MIN_DIRTY_LIMIT, MIN_FRAMES, MIN_PAGE_SIZE}
+use Rattle.machine.specs.declared.event.Reply.{Reply}
+use Rattle.machine.specs.declared.event.Reply.TheVariants as reply
 use Rattle.cachecore.specs.Flushing.{flush_of}
-use Rattle.cachecore.specs.State.{Request, file_at}
+use Rattle.machine.specs.Sound.{Sound}
+use Rattle.machine.specs.State.{Request, file_at}
 use Rattle.world.specs.declared.step.Step.{Step}
 use Rattle.world.specs.declared.step.Step.TheVariants as step
-use Rattle.world.specs.Reached.{IsReached}
-use Rattle.world.specs.Stepping.{Held, Plays, Steps, world_of}
+use Rattle.runs.specs.Reached.{IsReached}
+use Rattle.world.specs.Stepping.{WorldSeen, Plays, Steps, world_of}
 
 -- no request is in flight
-pub record IsResting (w : Held) : Type 0 where
+pub record IsResting (w : WorldSeen) : Type 0 where
   pub requests : w.core.requests ≡ finmap.empty
   pub outcomes : w.outcomes ≡ finmap.empty
 
 -- what holds of a service between its calls, and while a call of it syncs a file
-pub record IsServing (name : ℕ) (w : Held) (table : TableId) (errors : RecorderSeen) : Type 0 where
+pub record IsServing (name : ℕ) (w : WorldSeen) (table : TableId) (errors : RecorderSeen) : Type 0 where
   pub named : w.core.name ≡ name
   pub board : table ≡ errors.board
   -- which has the recordings of each file
@@ -31,9 +32,12 @@ pub record IsServing (name : ℕ) (w : Held) (table : TableId) (errors : Recorde
   pub rests : IsResting w
   -- where the device tells its contents, what the cache and the device hold came about by a run
   pub reached : is_some w.device.contents ≡ true → IsReached (world_of w)
+  pub sound : Sound w.core
   pub counted : w.device.calls ≤ max_calls
   pub bounded : (f : ℕ) → (file_at w.core f).size ≤ MAX_FILE_SIZE
   pub few : length w.core.files ≤ MAX_FILES
+  -- so no file has more pages than a sync may name
+  pub page : MIN_PAGE_SIZE ≤ w.core.sizes.page
   -- a call finds frames for all pages that it touches
   pub frames : MIN_FRAMES ≤ w.core.sizes.frames
   pub dirty : MIN_DIRTY_LIMIT ≤ w.core.sizes.dirty_limit
@@ -41,7 +45,7 @@ pub record IsServing (name : ℕ) (w : Held) (table : TableId) (errors : Recorde
   pub serials : w.core.next ≤ w.device.calls
 
 -- between its calls no sync is in progress
-pub record IsService (name : ℕ) (w : Held) (table : TableId) (errors : RecorderSeen) : Type 0 where
+pub record IsService (name : ℕ) (w : WorldSeen) (table : TableId) (errors : RecorderSeen) : Type 0 where
   pub serving : IsServing name w table errors
   pub syncs : w.core.syncs ≡ finmap.empty
 
@@ -56,13 +60,13 @@ IsNoted old (Some f) (reply.Failed code) new =
 IsNoted old _ _ new = new ≡ old
 
 -- the step was made, and where it began a request the device call and the end follow, whose reply this is and whose failure was recorded
-abbrev pub AtOnce : Held → RecorderSeen → Step → Reply → Held → RecorderSeen → Type 0
+abbrev pub AtOnce : WorldSeen → RecorderSeen → Step → Reply → WorldSeen → RecorderSeen → Type 0
 AtOnce old errors s r new noted =
     ((is_job r ≡ false) × Steps old s r new × (noted ≡ errors))
-    ⊎ ((t : Serial) × (mid : Held) × Steps old s (reply.Job t) mid × Plays mid (step.Call t ∷ step.End t ∷ []) (reply.Done ∷ r ∷ []) new × IsNoted errors (flush_of mid.core t.0) r noted)
+    ⊎ ((t : Serial) × (mid : WorldSeen) × Steps old s (reply.Job t) mid × Plays mid (step.Call t ∷ step.End t ∷ []) (reply.Done ∷ r ∷ []) new × IsNoted errors (flush_of mid.core t.0) r noted)
 
 -- request t alone is in flight, and its device call was not made yet
-pub record IsAlone (w : Held) (t : ℕ) : Type 0 where
+pub record IsAlone (w : WorldSeen) (t : ℕ) : Type 0 where
   pub request : Request
   pub requests : w.core.requests ≡ finmap.insert finmap.empty t request
   pub outcomes : w.outcomes ≡ finmap.empty

@@ -1,22 +1,23 @@
 -- Inside this crate: how room is made: an idle page is evicted, or a page written back.
-use Rattle.std.specs.Prelude.{◌≡◌, ℕ, ◌+◌, ◌<◌, ◌≤◌, ◌⊎◌, Bool, true, false, length, Some}
+use Rattle.std.specs.Prelude.{◌≡◌, ℕ, ◌+◌, ◌-◌, ◌/◌, ◌<◌, ◌≤◌, ◌⊎◌, ◌&&◌, Bool, true, false, if◌then◌else◌, length, Option, Some, None, is_some}
 use Rattle.pc_types.specs.declared.ids.FileId.{FileId}
 use Rattle.pc_types.specs.declared.ids.HandleId.{HandleId}
 use Rattle.pc_types.specs.declared.ids.PageIndex.{PageIndex}
 use Rattle.pc_types.specs.declared.limits.TheConstants.{SERIAL_END}
 use Rattle.pc_types.specs.declared.refusal.Refusal.{Refusal}
 use Rattle.pc_types.specs.declared.refusal.Refusal.TheVariants.{BadHandle, DirtyLimit, Io, Memory, NoFrame, NoSuchFile, TooManyInFlight}
-use Rattle.cachecore.specs.declared.event.Event.TheVariants as event
-use Rattle.cachecore.specs.declared.event.Reply.{Reply}
-use Rattle.cachecore.specs.declared.event.Reply.TheVariants as reply
-use Rattle.cachecore.specs.State.{State, cached_total, dirty_total, free_frames, is_open}
-use Rattle.cachecore.specs.Step.{Step}
-use Rattle.cachecore.specs.Tests.{tests}
-use Rattle.cachecore.specs.Wants.{lacks_frames, passes_limit}
+use Rattle.machine.specs.declared.event.Event.TheVariants as event
+use Rattle.machine.specs.declared.event.Reply.{Reply}
+use Rattle.machine.specs.declared.event.Reply.TheVariants as reply
+use Rattle.machine.specs.State.{State, cached_total, dirty_total, file_at, handle_file, free_frames, is_cached, is_open, page_count, touched_count}
+use Rattle.machine.specs.Step.{Step}
+use Rattle.machine.specs.Tests.{tests}
+use Rattle.cachecore.specs.Wants.{lacking, lacks_frames, may_touch, passes_limit}
 use Rattle.world.specs.declared.step.Step.TheVariants as step
+use Rattle.filesvc.specs.Made.{FailsFill}
 use Rattle.filesvc.specs.Rests.{AtOnce}
 use Rattle.filesvc.specs.Seen.{SoloSeen}
-use Rattle.filesvc.specs.Service.{Faulted, IsWithoutRoom, NothingToFlush}
+use Rattle.filesvc.specs.Service.{Faulted, IsWithoutRoom, NothingToFlush, Tells}
 
 -- how many pages are cached, and how many DIRTY: what making room takes away
 abbrev pub load : State → ℕ
@@ -56,11 +57,12 @@ IsFull old NoFrame new = ((tests new.world.core event.Evict ≡ Some reply.NoneI
 IsFull old DirtyLimit new = NothingToFlush new ⊎ Faulted old new
 IsFull old r new = Unit {0}
 
--- why the fill of a page is refused
+-- why the fill of a page is refused, or the room for a call
 abbrev pub IsFillRefusal : SoloSeen → HandleId → Refusal → SoloSeen → Type 0
 IsFillRefusal old h BadHandle new = is_open old.world.core h.0 ≡ false
 IsFillRefusal old h NoFrame new = IsWithoutRoom old NoFrame new
-IsFillRefusal old h (Io code) new = Faulted old new
+IsFillRefusal old h DirtyLimit new = IsWithoutRoom old DirtyLimit new
+IsFillRefusal old h (Io code) new = Faulted old new × FailsFill old.world code new.world
 IsFillRefusal old h TooManyInFlight new = SERIAL_END ≤ new.world.core.next
 IsFillRefusal old h Memory new = Unit {0}
 IsFillRefusal old h r new = ⊥
@@ -72,11 +74,43 @@ MakesRoom old NoFrame new = Evicts old new ⊎ ((tests old.world.core event.Evic
 MakesRoom old DirtyLimit new = FlushesOne old true new
 MakesRoom old r new = ⊥
 
--- after a call was refused so there is room for it: as many frames as it lacks pages, or room for its dirty pages
-abbrev pub HasRoom : ℕ → ℕ → ℕ → Refusal → SoloSeen → Type 0
-HasRoom h o n NoFrame new = lacks_frames new.world.core h o n ≡ false
-HasRoom h o n DirtyLimit new = passes_limit new.world.core h o n ≡ false
-HasRoom h o n r new = ⊥
+-- ---- what a call wants
+
+-- the first and the last page that n bytes at o touch
+abbrev pub first_page : ℕ → ℕ → ℕ
+first_page P o = o / P
+
+abbrev pub last_page : ℕ → ℕ → ℕ → ℕ
+last_page P o n = (o + n - 1) / P
+
+-- which room a call on n bytes at o wants, that makes their pages dirty or not: frames, or fewer dirty pages
+abbrev pub wants : Bool → State → ℕ → ℕ → ℕ → Option Refusal
+wants dirties s h o n = if lacks_frames s h o n then Some NoFrame else if dirties && passes_limit s h o n then Some DirtyLimit else None
+
+-- how many attempts it may still need before the last: one for each page that it lacks; but if it wants room, one more than it touches
+-- pages, since these may be evicted
+abbrev pub need : Bool → State → ℕ → ℕ → ℕ → ℕ
+need dirties s h o n = if is_some (wants dirties s h o n) then touched_count s.sizes.page o n + 1 else lacking s (handle_file s h) o n
+
+-- it lacks page p, which is a page of the file
+pub record IsMissed (s : SoloSeen) (h o n p : ℕ) : Type 0 where
+  pub may : may_touch s.world.core h o n ≡ true
+  pub first : first_page s.world.core.sizes.page o ≤ p
+  pub last : p ≤ last_page s.world.core.sizes.page o n
+  pub absent : is_cached s.world.core (handle_file s.world.core h) p ≡ false
+  pub within : Tells s → p < page_count s.world.core.sizes.page (file_at s.world.core (handle_file s.world.core h)).size
+
+-- what stands in its way by this reply
+abbrev pub Stops : SoloSeen → ℕ → ℕ → ℕ → Reply → Type 0
+Stops s h o n (reply.Miss p) = IsMissed s h o n p.0
+Stops s h o n (reply.Wait p) = IsMissed s h o n p.0
+Stops s h o n (reply.Refused NoFrame) = is_some (wants true s.world.core h o n) ≡ true
+Stops s h o n (reply.Refused DirtyLimit) = is_some (wants true s.world.core h o n) ≡ true
+Stops s h o n r = Unit {0}
+
+-- no page has become cached
+abbrev pub StaysAbsent : State → State → Type 0
+StaysAbsent old new = (f p : ℕ) → is_cached old f p ≡ false → is_cached new f p ≡ false
 
 -- a frame is free, and no call lacks frames
 abbrev pub Suffices : SoloSeen → Type 0

@@ -1,7 +1,7 @@
 -- What callers see of a service and of a handle.
 use Rattle.std.specs.Prelude.{ℕ, Bool}
 use Rattle.errboard.specs.Shown.{PassSeen, RecorderSeen}
-use Rattle.world.specs.Stepping.{Held}
+use Rattle.world.specs.Stepping.{WorldSeen}
 
 -- the name of its cache, its file, its number, its cursor, whether writes go to the end of the file, and what it was told of failed
 -- writes
@@ -15,6 +15,6 @@ pub record HandleSeen : Type 0 where
 
 -- the cache with its device, the failed writes that were recorded, and how many attempts the last call made
 pub record SoloSeen : Type 0 where
-  pub world : Held
+  pub world : WorldSeen
   pub errors : RecorderSeen
   pub attempts : ℕ

@@ -4,6 +4,7 @@ use Rattle.std.specs.FinMap as finmap
 use mathlib.Core.List.{IsPrefix}
 use Rattle.blockdev.specs.Device.{max_calls}
 use Rattle.pc_types.specs.Files.{page_of}
+use Rattle.pc_types.specs.declared.ids.PageIndex.{PageIndex}
 use Rattle.pc_types.specs.declared.limits.TheConstants.{MAX_FILE_SIZE, SERIAL_END}
 use Rattle.pc_types.specs.declared.refusal.Refusal.{Refusal}
 use Rattle.pc_types.specs.declared.refusal.Refusal.TheVariants.{BadHandle, Busy, DirtyLimit, Io, Memory, NoFrame, NoSpace, TooLarge, TooLong, TooManyInFlight, Turns}
@@ -12,17 +13,17 @@ use Rattle.errseq.specs.declared.recording.Recording.{Recording}
 use Rattle.errseq.specs.Recorded.{last_code, raised}
 use Rattle.errseq.specs.Samples.{StandsFor, done_at}
 use Rattle.errseq.specs.Word.{IsWithinTurn, sample_of}
-use Rattle.cachecore.specs.declared.event.Event.{Event}
-use Rattle.cachecore.specs.declared.event.Event.TheVariants as event
-use Rattle.cachecore.specs.declared.event.Reply.{Reply}
-use Rattle.cachecore.specs.declared.event.Reply.TheVariants as reply
-use Rattle.cachecore.specs.State.{file_at, page_count}
-use Rattle.cachecore.specs.Step.{Step}
-use Rattle.cachecore.specs.Tests.{tests}
-use Rattle.world.specs.Plain.{Plain, plain_after, plain_file}
-use Rattle.world.specs.Reached.{files_of}
+use Rattle.machine.specs.declared.event.Event.{Event}
+use Rattle.machine.specs.declared.event.Event.TheVariants as event
+use Rattle.machine.specs.declared.event.Reply.{Reply}
+use Rattle.machine.specs.declared.event.Reply.TheVariants as reply
+use Rattle.machine.specs.State.{State, file_at, handle_file, page_count, touched_count}
+use Rattle.machine.specs.Step.{Step}
+use Rattle.machine.specs.Tests.{read_count, tests}
+use Rattle.runs.specs.Plain.{Plain, plain_after, plain_file}
+use Rattle.runs.specs.Reached.{files_seen}
 use Rattle.world.specs.Stepping.{world_of}
-use Rattle.world.specs.World.{on_device}
+use Rattle.runs.specs.World.{on_device}
 use Rattle.filesvc.specs.declared.seek.Seek.{Seek}
 use Rattle.filesvc.specs.declared.seek.Seek.TheVariants.{Set, Cur, End}
 use Rattle.filesvc.specs.Seen.{HandleSeen, SoloSeen}
@@ -35,7 +36,7 @@ Tells s = is_some s.world.device.contents ≡ true
 
 -- the plain files: each, up to its size, the cached bytes of its pages or else those on the device
 abbrev pub files : SoloSeen → Plain
-files s = files_of (world_of s.world)
+files s = files_seen (world_of s.world)
 
 -- the failed writes of a file that were recorded
 abbrev pub errors_of : SoloSeen → ℕ → List Recording
@@ -44,6 +45,10 @@ errors_of s f = recorded_of s.errors.all f
 -- how many writes of a file failed
 abbrev pub failures_of : SoloSeen → ℕ → ℕ
 failures_of s f = (file_at s.world.core f).failures
+
+-- the last that was recorded of each file has the code of its last write that failed. So it is of a new service, since neither has one
+abbrev pub IsCoded : SoloSeen → Type 0
+IsCoded s = (f : ℕ) → last_code (errors_of s f) ≡ (file_at s.world.core f).last_code
 
 -- ---- handles
 
@@ -76,6 +81,8 @@ pub record Keeps (old new : SoloSeen) : Type 0 where
   pub recorded : (f : ℕ) → IsPrefix (errors_of old f) (errors_of new f)
   -- as many were added as failed meanwhile
   pub noted : (f : ℕ) → length (errors_of new f) + failures_of old f ≡ length (errors_of old f) + failures_of new f
+  -- each with its code
+  pub coded : IsCoded old → IsCoded new
   pub tells : is_some new.world.device.contents ≡ is_some old.world.device.contents
   pub faults : old.world.device.faults ≤ new.world.device.faults
 
@@ -108,7 +115,7 @@ Refuses s e r = tests s.world.core e ≡ Some (reply.Refused r)
 
 -- why a call is refused that makes the event e, for each refusal that it may have: its tests on the state before; that no block is free,
 -- by the tests on the state after, which has the same blocks; want of room; a failed device call; that no serial is left for a fill; a
--- growth that was refused; or that this was its last attempt
+-- growth that was refused; or, of a device that tells no contents, that this was its last attempt
 abbrev pub IsRefusal : SoloSeen → Event → Refusal → SoloSeen → Type 0
 IsRefusal old e BadHandle new = Refuses old e BadHandle
 IsRefusal old e TooLong new = Refuses old e TooLong
@@ -119,10 +126,22 @@ IsRefusal old e DirtyLimit new = IsWithoutRoom old DirtyLimit new
 IsRefusal old e (Io code) new = Faulted old new
 IsRefusal old e TooManyInFlight new = SERIAL_END ≤ new.world.core.next
 IsRefusal old e Memory new = Unit {0}
-IsRefusal old e Turns new = new.attempts ≡ 256
+IsRefusal old e Turns new = (Tells old → ⊥) × (new.attempts ≡ 256)
 IsRefusal old e r new = ⊥
 
--- ---- the first attempt
+-- ---- attempts
+
+-- how many pages a read, a write or a truncation touches: a truncation the one that it cuts into
+abbrev pub touched_by : State → Event → ℕ
+touched_by s (event.Read h o n) = touched_count s.sizes.page o (read_count s (handle_file s h.0) o n)
+touched_by s (event.Write h o b) = touched_count s.sizes.page o (length b)
+touched_by s (event.Append h b) = touched_count s.sizes.page (file_at s (handle_file s h.0)).size (length b)
+touched_by s (event.Truncate h z) = 1
+touched_by s e = 0
+
+-- a call makes no more attempts than it touches pages, and two: one is for room that it wants, and the last is over
+abbrev pub IsSoonOver : SoloSeen → Event → SoloSeen → Type 0
+IsSoonOver old e new = Tells old → new.attempts ≤ touched_by old.world.core e + 2
 
 -- whether an event is over with its tests' answer: there is no page to fill, and no room to make
 abbrev pub is_settled : Option Reply → Bool
@@ -164,10 +183,18 @@ FilesAfter old e r new = Tells old → files new ≡ plain_after (files old) e r
 
 -- ---- a sync
 
+-- the device holds page p of the file, where the file has such a page
+abbrev pub HoldsPage : SoloSeen → ℕ → ℕ → Type 0
+HoldsPage s f p =
+    p < page_count s.world.core.sizes.page (length (plain_file (files s) f)) → on_device (world_of s.world) f p ≡ page_of s.world.core.sizes.page (plain_file (files s) f) p
+
 -- the device holds each page of the file
 abbrev pub IsOnDevice : SoloSeen → ℕ → Type 0
-IsOnDevice s f =
-    (p : ℕ) → p < page_count s.world.core.sizes.page (length (plain_file (files s) f)) → on_device (world_of s.world) f p ≡ page_of s.world.core.sizes.page (plain_file (files s) f) p
+IsOnDevice s f = (p : ℕ) → HoldsPage s f p
+
+-- the device holds each of these pages of the file
+abbrev pub AreOnDevice : SoloSeen → ℕ → PageIndex → PageIndex → Type 0
+AreOnDevice s f first last = (p : ℕ) → first.0 ≤ p → p ≤ last.0 → HoldsPage s f p
 
 -- there is something that the handle was not told
 abbrev pub Owes : SoloSeen → HandleSeen → Type 0
@@ -279,10 +306,10 @@ abbrev pub cursor_after : SoloSeen → HandleSeen → Result ℕ Refusal → ℕ
 cursor_after s h (Ok n) = write_place s h + n
 cursor_after s h (Err r) = h.cursor
 
--- a sync of the file is over: clean, with its pages on the device, or with the code of the last of its writes that failed
-abbrev pub IsSynced : SoloSeen → ℕ → SoloSeen → Option ℕ → Type 0
-IsSynced old f new None = IsOnDevice new f × (failures_of new f ≡ failures_of old f)
-IsSynced old f new (Some code) = HasFailed old new f × (code ≡ (file_at new.world.core f).last_code)
+-- a sync of these pages of the file is over: clean, with the pages on the device, or with the code of the last of the file's writes that failed
+abbrev pub IsSynced : SoloSeen → ℕ → PageIndex → PageIndex → SoloSeen → Option ℕ → Type 0
+IsSynced old f first last new None = AreOnDevice new f first last × (failures_of new f ≡ failures_of old f)
+IsSynced old f first last new (Some code) = HasFailed old new f × (code ≡ (file_at new.world.core f).last_code)
 
 -- what a close answers
 abbrev pub close_reply : Result Unit (Refusal × HandleSeen) → Reply

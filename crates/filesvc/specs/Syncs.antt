@@ -4,26 +4,26 @@ use Rattle.pc_types.specs.declared.ids.Serial.{Serial}
 use Rattle.pc_types.specs.declared.ids.SyncId.{SyncId}
 use Rattle.pc_types.specs.declared.refusal.Refusal.{Refusal}
 use Rattle.pc_types.specs.declared.refusal.Refusal.TheVariants.{Busy}
-use Rattle.cachecore.specs.declared.event.Reply.{Reply}
-use Rattle.cachecore.specs.declared.event.Reply.TheVariants as reply
+use Rattle.machine.specs.declared.event.Reply.{Reply}
+use Rattle.machine.specs.declared.event.Reply.TheVariants as reply
 use Rattle.cachecore.specs.Replies.{sync_dropped}
 use Rattle.errboard.specs.Shown.{RecorderSeen}
 use Rattle.world.specs.declared.step.Step.TheVariants as step
-use Rattle.world.specs.Stepping.{Held, IsMade, Plays, Steps}
+use Rattle.world.specs.Stepping.{WorldSeen, IsMade, Plays, Steps}
 use Rattle.filesvc.specs.Seen.{SoloSeen}
 use Rattle.filesvc.specs.Rests.{is_job}
 
 -- a page was written out, with whatever end; or the sync's step gave this reply
-abbrev pub SyncTurn : Held → SyncId → Option Reply → Held → Type 0
+abbrev pub SyncTurn : WorldSeen → SyncId → Option Reply → WorldSeen → Type 0
 SyncTurn old n None new = (t : Serial) × (r : Reply) × Plays old (step.SyncStep n ∷ step.Call t ∷ step.End t ∷ []) (reply.Job t ∷ reply.Done ∷ r ∷ []) new
 SyncTurn old n (Some r) new = (is_job r ≡ false) × Steps old (step.SyncStep n) r new
 
 -- the sync was given up, where it was there
-abbrev pub Drops : Held → SyncId → Held → Type 0
+abbrev pub Drops : WorldSeen → SyncId → WorldSeen → Type 0
 Drops old n new = (r : Result Unit Refusal) × IsMade old (step.SyncDrop n) (sync_dropped r) new
 
 -- the service of a world, with what was recorded
-abbrev pub service_of : Held → RecorderSeen → SoloSeen
+abbrev pub service_of : WorldSeen → RecorderSeen → SoloSeen
 service_of w errors = record { world = w; errors = errors; attempts = 0 }
 
 -- whether it is over by this reply
@@ -39,3 +39,8 @@ sync_end_of reply.Clean = Ok None
 sync_end_of (reply.Failed code) = Ok (Some code)
 sync_end_of (reply.Refused why) = Err why
 sync_end_of _ = Err Busy
+
+-- the reply that ends a sync so
+abbrev pub clean_or : Option ℕ → Reply
+clean_or None = reply.Clean
+clean_or (Some code) = reply.Failed code

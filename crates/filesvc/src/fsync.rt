@@ -1,12 +1,16 @@
-//! Fsync.
+//! Fsync, of a file or of a range of its pages.
 
-ghost use Rattle.std.specs.Prelude.{◌≡◌, ◌≢◌, ℕ, Some, IfErr, IfOk, OnOk, Err, is_some, true, false};
+ghost use Rattle.std.specs.Prelude.{◌≡◌, ◌≢◌, ◌<◌, ◌≤◌, ◌+◌, ℕ, Some, IfErr, IfOk, OnOk, Err, is_some, true, false};
 ghost use Rattle.std.specs.FinMap as map;
-ghost use Rattle.pc_types.specs.declared.refusal.Refusal.TheVariants.{BadHandle};
-ghost use Rattle.cachecore.specs.State.{is_open};
+ghost use Rattle.pc_types.specs.declared.limits.TheConstants.{LAST_PAGE};
+ghost use Rattle.pc_types.specs.declared.refusal.Refusal.TheVariants.{BadHandle, BadRange};
+ghost use Rattle.machine.specs.declared.event.Reply.TheVariants as reply;
+ghost use Rattle.machine.specs.State.{dirty_in, file_at, is_open};
+ghost use Rattle.runs.specs.Syncing.{dirty_between};
+ghost use Rattle.filesvc.specs.Made.{Moves, Syncs, is_for_sync};
 ghost use Rattle.filesvc.specs.Rests.{IsService, IsServing};
-ghost use Rattle.filesvc.specs.Service.{CameFrom, IsOnDevice, IsSyncRefusal, IsSynced, IsTold, IsUntried, Names, Reports, Serves, Tells, is_reported};
-ghost use Rattle.filesvc.specs.Syncs.{Drops, SyncTurn, service_of, sync_end_of};
+ghost use Rattle.filesvc.specs.Service.{AreOnDevice, CameFrom, IsAsBefore, IsOnDevice, IsSyncRefusal, IsSynced, IsTold, IsUntried, Names, Reports, Serves, Tells, is_reported};
+ghost use Rattle.filesvc.specs.Syncs.{Drops, SyncTurn, clean_or, service_of, sync_end_of};
 
 use crate::handle::Handle;
 use crate::requests::carry_out;
@@ -14,7 +18,8 @@ use crate::solo::Solo;
 use blockdev::BlockDevice;
 use cachecore::Reply;
 use errboard::Recorder;
-use pc_types::{ErrCode, HandleId, Refusal, SyncId};
+use pc_types::limits::LAST_PAGE;
+use pc_types::{ErrCode, HandleId, PageIndex, Refusal, SyncId};
 use world::World;
 
 impl<D: BlockDevice> Solo<D> {
@@ -25,6 +30,9 @@ impl<D: BlockDevice> Solo<D> {
         ensures foreign { handle.old.cache ≢ self.old.world.core.name → (result ≡ Err BadHandle) × IsUntried self.old self.new × (handle.new ≡ handle.old) }
         ensures serves { Serves self.old self.new }
         ensures attempts { Names self.old handle.old → self.new.attempts ≡ 1 }
+        ensures made { Moves is_for_sync self.old.world self.new.world }
+        ensures clean { OnOk result (Syncs (record { 0 = handle.old.number }) (record { 0 = 0 }) (record { 0 = LAST_PAGE }) self.old.world reply.Clean self.new.world) }
+        ensures cost { Names self.old handle.old → self.new.world.device.calls ≤ self.old.world.device.calls + dirty_in (file_at self.old.world.core handle.old.file) }
         ensures no_sync { self.new.world.core.syncs ≡ map.empty }
         ensures synced { Tells self.old → OnOk result (IsOnDevice self.new handle.old.file) }
         ensures reports { Tells self.old → Reports self.old handle.old result self.new }
@@ -32,12 +40,46 @@ impl<D: BlockDevice> Solo<D> {
         ensures kept { is_reported result ≡ false → handle.new ≡ handle.old }
         ensures refused { Names self.old handle.old → is_reported result ≡ false → IfErr result (λ r. IsSyncRefusal self.old r self.new) }
     {
+        // Opens `self`: its invariant says how small a page is, and so that no file has a page past `LAST_PAGE`.
+        let _ = &self.world;
+        self.fsync_range(handle, PageIndex(0), PageIndex(LAST_PAGE))
+    }
+
+    /// Writes those of the file's pages from `first` to `last` to the device that are dirty. Refused by `BadRange` where `first` is
+    /// past `last`, and by `Io` as `fsync` is: also where the write that failed was of a page outside the range.
+    pub fn fsync_range(
+        &mut self,
+        handle: &mut Handle,
+        first: PageIndex,
+        last: PageIndex,
+    ) -> Result<(), Refusal>
+        requires came { CameFrom self.old handle.old }
+        ensures foreign { handle.old.cache ≢ self.old.world.core.name → (result ≡ Err BadHandle) × IsUntried self.old self.new × (handle.new ≡ handle.old) }
+        ensures turned { Names self.old handle.old → last.0 < first.0 → (result ≡ Err BadRange) × IsAsBefore self.old self.new × (handle.new ≡ handle.old) }
+        ensures serves { Serves self.old self.new }
+        ensures attempts { Names self.old handle.old → self.new.attempts ≡ 1 }
+        ensures made { Moves is_for_sync self.old.world self.new.world }
+        ensures clean { OnOk result (Syncs (record { 0 = handle.old.number }) first last self.old.world reply.Clean self.new.world) }
+        ensures cost { Names self.old handle.old → self.new.world.device.calls ≤ self.old.world.device.calls + dirty_between (file_at self.old.world.core handle.old.file) first.0 last.0 }
+        ensures no_sync { self.new.world.core.syncs ≡ map.empty }
+        ensures synced { Tells self.old → OnOk result (AreOnDevice self.new handle.old.file first last) }
+        ensures reports { Tells self.old → Reports self.old handle.old result self.new }
+        ensures told { is_reported result ≡ true → IsTold self.new handle.old handle.new }
+        ensures kept { is_reported result ≡ false → handle.new ≡ handle.old }
+        ensures refused { Names self.old handle.old → first.0 ≤ last.0 → is_reported result ≡ false → IfErr result (λ r. IsSyncRefusal self.old r self.new) }
+    {
         self.attempts = 0;
         if handle.cache != self.name {
             return Err(Refusal::BadHandle);
         }
         self.attempts = 1;
-        let failed = sync_file(&mut self.world, &mut self.recorder, handle.number)?;
+        let failed = sync_file(
+            &mut self.world,
+            &mut self.recorder,
+            handle.number,
+            first,
+            last,
+        )?;
         match self.poll(&mut handle.pass).or(failed) {
             Some(code) => Err(Refusal::Io(code)),
             None => Ok(()),
@@ -45,20 +87,27 @@ impl<D: BlockDevice> Solo<D> {
     }
 }
 
-/// Syncs the handle's file, and answers the code of the last write of it that failed, where one did meanwhile. No sync is left.
+/// Syncs these pages of the handle's file, and answers the code of the last write of the file that failed, where one did meanwhile. No sync
+/// is left.
 fn sync_file<D: BlockDevice>(
     world: &mut World<D>,
     recorder: &mut Recorder,
     handle: HandleId,
+    first: PageIndex,
+    last: PageIndex,
 ) -> Result<Option<ErrCode>, Refusal>
     requires opened { is_open world.old.core handle.0 ≡ true }
     requires service { IsService world.old.core.name world.old recorder.old.board recorder.old }
     ensures service { IsService world.new.core.name world.new recorder.new.board recorder.new }
     ensures serves { Serves (service_of world.old recorder.old) (service_of world.new recorder.new) }
-    ensures synced { is_some world.old.device.contents ≡ true → (f : ℕ) → map.get world.old.core.handles handle.0 ≡ Some f → IfOk result (IsSynced (service_of world.old recorder.old) f (service_of world.new recorder.new)) }
-    ensures refused { IfErr result (λ r. IsSyncRefusal (service_of world.old recorder.old) r (service_of world.new recorder.new)) }
+    ensures turned { last.0 < first.0 → (result ≡ Err BadRange) × (world.new ≡ world.old) × (recorder.new ≡ recorder.old) }
+    ensures made { Moves is_for_sync world.old world.new }
+    ensures ends { IfOk result (λ failed. Syncs handle first last world.old (clean_or failed) world.new) }
+    ensures cost { (f : ℕ) → map.get world.old.core.handles handle.0 ≡ Some f → world.new.device.calls ≤ world.old.device.calls + dirty_between (file_at world.old.core f) first.0 last.0 }
+    ensures synced { is_some world.old.device.contents ≡ true → (f : ℕ) → map.get world.old.core.handles handle.0 ≡ Some f → IfOk result (IsSynced (service_of world.old recorder.old) f first last (service_of world.new recorder.new)) }
+    ensures refused { first.0 ≤ last.0 → IfErr result (λ r. IsSyncRefusal (service_of world.old recorder.old) r (service_of world.new recorder.new)) }
 {
-    let sync = world.sync_begin(handle)?;
+    let sync = world.sync_begin_range(handle, first, last)?;
     'steps: loop {
         if let Some(reply) = sync_step(world, recorder, sync) {
             return sync_end(world, sync, &reply);

@@ -3,10 +3,10 @@
 ghost use Rattle.std.specs.Prelude.{◌≡◌, ◌≢◌, ◌+ℤ◌, pos, ◌<◌, ◌≤◌, length, drop, IfErr, IfOk, IfSome, IfNone, IsErr, IsOk, OnErr, Err};
 ghost use Rattle.pc_types.specs.declared.refusal.Refusal.TheVariants.{BadHandle, NoSuchFile};
 ghost use Rattle.pc_types.specs.declared.limits.TheConstants.{MAX_FILES};
-ghost use Rattle.cachecore.specs.declared.event.Event.TheVariants as event;
+ghost use Rattle.machine.specs.declared.event.Event.TheVariants as event;
 ghost use Rattle.cachecore.specs.Replies.{created};
-ghost use Rattle.cachecore.specs.State.{file_at};
-ghost use Rattle.cachecore.specs.Step.{Step};
+ghost use Rattle.machine.specs.State.{file_at};
+ghost use Rattle.machine.specs.Step.{Step};
 ghost use Rattle.errseq.specs.Recorded.{last_code, raised};
 ghost use Rattle.errseq.specs.Word.{IsWithinTurn};
 ghost use Rattle.filesvc.specs.Service.{CameFrom, FilesAfter, IsAsBefore, close_reply, IsCounted, IsTold, IsUntried, Names, Opened, Owes, errors_of, looks_of, open_reply, placed, target};

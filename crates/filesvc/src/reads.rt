@@ -4,12 +4,14 @@ ghost use Rattle.std.specs.Prelude.{◌≡◌, ◌≢◌, ◌+◌, ◌<◌, ◌�
 ghost use Rattle.pc_types.specs.Files as plain;
 ghost use Rattle.pc_types.specs.declared.limits.TheConstants.{MAX_FILE_SIZE};
 ghost use Rattle.pc_types.specs.declared.refusal.Refusal.TheVariants.{BadHandle};
-ghost use Rattle.cachecore.specs.declared.event.Event.TheVariants as event;
-ghost use Rattle.cachecore.specs.State.{file_of, is_open};
-ghost use Rattle.cachecore.specs.Tests.{read_count};
-ghost use Rattle.world.specs.Plain.{named, plain_file};
+ghost use Rattle.machine.specs.declared.event.Event.TheVariants as event;
+ghost use Rattle.machine.specs.State.{handle_file, is_open};
+ghost use Rattle.machine.specs.Tests.{read_count};
+ghost use Rattle.runs.specs.Plain.{named, plain_file};
+ghost use Rattle.world.specs.declared.step.Step.TheVariants as step;
 ghost use Rattle.filesvc.specs.Attempts.{Attempt, read_over, read_so_far};
-ghost use Rattle.filesvc.specs.Service.{CameFrom, IsRefusal, IsSettledAtOnce, IsUntried, Names, Serves, Tells, count_of, files, read_reply};
+ghost use Rattle.filesvc.specs.Made.{IsMadeOf};
+ghost use Rattle.filesvc.specs.Service.{CameFrom, IsRefusal, IsSettledAtOnce, IsSoonOver, IsUntried, Names, Serves, Tells, count_of, files, read_reply};
 
 use crate::handle::Handle;
 use crate::room::Span;
@@ -31,6 +33,8 @@ impl<D: BlockDevice> Solo<D> {
         ensures within { offset ≤ MAX_FILE_SIZE → offset + count_of result ≤ MAX_FILE_SIZE }
         ensures first { IsSettledAtOnce self.old handle.now (event.Read (record { 0 = handle.now.number }) offset (length out.old)) (read_reply result out.new) self.new }
         ensures refused { Names self.old handle.now → IfErr result (λ r. IsRefusal self.old (event.Read (record { 0 = handle.now.number }) offset (length out.old)) r self.new) }
+        ensures attempts { IsSoonOver self.old (event.Read (record { 0 = handle.now.number }) offset (length out.old)) self.new }
+        ensures made { Names self.old handle.now → IsMadeOf (step.Read (record { 0 = handle.now.number }) offset (length out.old)) self.old (read_reply result out.new) self.new }
     {
         self.attempts = 0;
         if handle.cache != self.name {
@@ -60,14 +64,16 @@ impl<D: BlockDevice> Solo<D> {
         ensures within { offset ≤ MAX_FILE_SIZE → offset + read_so_far result ≤ MAX_FILE_SIZE }
     {
         self.attempts += 1;
+        let most = out.len() as u64;
         match self.world.read(handle, offset, out)? {
             ReadAnswer::Bytes(count) => return Ok(Some(count)),
             ReadAnswer::Miss(page) | ReadAnswer::Wait(page) => {
-                let count = self.count_within(handle, offset, out.len() as u64);
+                let count = self.count_within(handle, offset, most);
                 let span = Span {
                     handle,
                     offset,
                     count,
+                    dirties: false,
                 };
                 self.fill(span, page)?
             }
@@ -77,7 +83,7 @@ impl<D: BlockDevice> Solo<D> {
 
     /// How many bytes a read of so many reads: none past the end of the file.
     fn count_within(&self, handle: HandleId, offset: u64, count: u64) -> u64
-        ensures { is_open self.now.world.core handle.0 ≡ true → result ≡ read_count self.now.world.core (file_of self.now.world.core handle.0) offset count }
+        ensures { is_open self.now.world.core handle.0 ≡ true → result ≡ read_count self.now.world.core (handle_file self.now.world.core handle.0) offset count }
     {
         let size = self.world.size(handle).unwrap_or(0);
         count.min(size.saturating_sub(offset))
@@ -94,6 +100,8 @@ impl<D: BlockDevice> Solo<D> {
         ensures cursor { handle.new ≡ record handle.old { cursor = handle.old.cursor + count_of result } }
         ensures first { IsSettledAtOnce self.old handle.old (event.Read (record { 0 = handle.old.number }) handle.old.cursor (length out.old)) (read_reply result out.new) self.new }
         ensures refused { Names self.old handle.old → IfErr result (λ r. IsRefusal self.old (event.Read (record { 0 = handle.old.number }) handle.old.cursor (length out.old)) r self.new) }
+        ensures attempts { IsSoonOver self.old (event.Read (record { 0 = handle.old.number }) handle.old.cursor (length out.old)) self.new }
+        ensures made { Names self.old handle.old → IsMadeOf (step.Read (record { 0 = handle.old.number }) handle.old.cursor (length out.old)) self.old (read_reply result out.new) self.new }
     {
         let count = self.pread(handle, handle.cursor, out)?;
         handle.cursor += count;

@@ -3,7 +3,7 @@
 
 ghost use Rattle.std.specs.Prelude.{◌≡◌, ◌<◌, [], ◌∷◌, IfSome, option_map};
 ghost use Rattle.cachecore.specs.Flushing.{flush_of};
-ghost use Rattle.cachecore.specs.declared.event.Reply.TheVariants as reply;
+ghost use Rattle.machine.specs.declared.event.Reply.TheVariants as reply;
 ghost use Rattle.world.specs.declared.step.Step.TheVariants as step;
 ghost use Rattle.world.specs.Stepping.{Plays};
 ghost use Rattle.filesvc.specs.Rests.{AtOnce, IsAlone, IsNoted, IsResting};

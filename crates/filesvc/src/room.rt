@@ -1,10 +1,10 @@
 //! What a call does on the way: it fills pages that it missed, and makes room.
 
-ghost use Rattle.std.specs.Prelude.{◌≡◌, ◌⊎◌, false, IfErr, IfOk, IsOkUnless, OnOk};
+ghost use Rattle.std.specs.Prelude.{◌≡◌, ◌⊎◌, ◌<◌, None, IfErr, IfOk, IsOkUnless, OnOk};
 ghost use Rattle.pc_types.specs.declared.refusal.Refusal.TheVariants.{DirtyLimit, Memory, NoFrame};
-ghost use Rattle.cachecore.specs.Wants.{lacks_frames, passes_limit};
-ghost use Rattle.filesvc.specs.Rooms.{FlushesOne, IsClean, IsFillRefusal, IsFlush, IsFull, MakesRoom, Suffices};
-ghost use Rattle.filesvc.specs.Service.{Faulted, IsWithoutRoom, Serves, Tells};
+ghost use Rattle.filesvc.specs.Attempts.{Helps};
+ghost use Rattle.filesvc.specs.Rooms.{FlushesOne, IsClean, IsFillRefusal, IsFlush, IsFull, IsMissed, MakesRoom, StaysAbsent, Suffices, need, wants};
+ghost use Rattle.filesvc.specs.Service.{Faulted, Tells};
 
 use crate::requests::{fill_page, flush_page};
 use crate::solo::Solo;
@@ -19,76 +19,80 @@ pub(crate) struct Span {
     pub(crate) handle: HandleId,
     pub(crate) offset: u64,
     pub(crate) count: u64,
+    // whether the call makes these pages dirty
+    pub(crate) dirties: bool,
 }
 
 impl<D: BlockDevice> Solo<D> {
     /// Fills a page that a call on this span of bytes lacks. First room is made for all pages that it lacks: made for this one alone
     /// it could cost the call another of its pages.
     pub(crate) fn fill(&mut self, span: Span, page: PageIndex) -> Result<(), Refusal>
-        ensures serves { Serves self.old self.new }
+        requires missed { IsMissed self.old span.handle.0 span.offset span.count page.0 }
+        ensures helps { Helps self.old self.new }
         ensures attempts { self.new.attempts ≡ self.old.attempts }
         ensures refused { IfErr result (λ r. IsFillRefusal self.old span.handle r self.new) }
+        ensures gains { Tells self.old → OnOk result (need span.dirties self.new.world.core span.handle.0 span.offset span.count < need span.dirties self.old.world.core span.handle.0 span.offset span.count) }
     {
-        self.make_frames(span)?;
-        self.fill_once(span.handle, page)
+        self.make_way(span)?;
+        self.fill_once(span, page)
     }
 
-    /// Fills a page, or makes room for it.
-    fn fill_once(&mut self, handle: HandleId, page: PageIndex) -> Result<(), Refusal>
-        ensures serves { Serves self.old self.new }
+    /// Fills a page. A frame is free for it.
+    fn fill_once(&mut self, span: Span, page: PageIndex) -> Result<(), Refusal>
+        requires missed { IsMissed self.old span.handle.0 span.offset span.count page.0 }
+        requires room { wants span.dirties self.old.world.core span.handle.0 span.offset span.count ≡ None }
+        ensures helps { Helps self.old self.new }
         ensures attempts { self.new.attempts ≡ self.old.attempts }
-        ensures refused { IfErr result (λ r. IsFillRefusal self.old handle r self.new) }
+        ensures refused { IfErr result (λ r. IsFillRefusal self.old span.handle r self.new) }
+        ensures gains { Tells self.old → OnOk result (need span.dirties self.new.world.core span.handle.0 span.offset span.count < need span.dirties self.old.world.core span.handle.0 span.offset span.count) }
     {
-        let why = match fill_page(&mut self.world, &mut self.recorder, handle, page) {
-            Reply::Failed(code) => return Err(Refusal::Io(code)),
+        let why = match fill_page(&mut self.world, &mut self.recorder, span.handle, page) {
+            Reply::Failed(code) => Refusal::Io(code),
             Reply::Refused(refusal) => refusal,
             _ => return Ok(()),
         };
-        match why {
-            Refusal::NoFrame => {}
-            other => return Err(other),
-        }
-        self.make_room(Refusal::NoFrame)
+        Err(why)
     }
 
-    /// Makes room until as many frames are free as the call lacks pages.
-    pub(crate) fn make_frames(&mut self, span: Span) -> Result<(), Refusal>
-        ensures serves { Serves self.old self.new }
+    /// Makes room for a call: until as many frames are free as it lacks pages, and no more pages would be dirty than may be.
+    pub(crate) fn make_way(&mut self, span: Span) -> Result<(), Refusal>
+        ensures helps { Helps self.old self.new }
         ensures attempts { self.new.attempts ≡ self.old.attempts }
-        ensures made { OnOk result (lacks_frames self.new.world.core span.handle.0 span.offset span.count ≡ false) }
-        ensures refused { IfErr result (λ r. (r ≡ NoFrame) ⊎ (r ≡ Memory)) }
-        ensures room { IfErr result (λ r. IsWithoutRoom self.old r self.new) }
+        ensures made { OnOk result (wants span.dirties self.new.world.core span.handle.0 span.offset span.count ≡ None) }
+        ensures kept { wants span.dirties self.old.world.core span.handle.0 span.offset span.count ≡ None → OnOk result (self.new ≡ self.old) }
+        ensures absent { OnOk result (StaysAbsent self.old.world.core self.new.world.core) }
+        ensures refused { IfErr result (λ r. IsFillRefusal self.old span.handle r self.new) }
     {
-        'turns: while self
+        'turns: while let Some(want) = self.wants(span) {
+            self.make_room(want)?;
+        }
+        Ok(())
+    }
+
+    /// Which room a call wants: frames, or fewer dirty pages.
+    fn wants(&self, span: Span) -> Option<Refusal>
+        ensures { result ≡ wants span.dirties self.now.world.core span.handle.0 span.offset span.count }
+    {
+        if self
             .world
             .lacks_frames(span.handle, span.offset, span.count)
         {
-            self.make_room(Refusal::NoFrame)?;
+            return Some(Refusal::NoFrame);
         }
-        Ok(())
-    }
-
-    /// Writes pages back until no more are dirty than may be, with those of the call.
-    pub(crate) fn make_clean(&mut self, span: Span) -> Result<(), Refusal>
-        ensures serves { Serves self.old self.new }
-        ensures attempts { self.new.attempts ≡ self.old.attempts }
-        ensures made { OnOk result (passes_limit self.new.world.core span.handle.0 span.offset span.count ≡ false) }
-        ensures refused { IfErr result (λ r. (r ≡ DirtyLimit) ⊎ (r ≡ Memory)) }
-        ensures room { IfErr result (λ r. IsWithoutRoom self.old r self.new) }
-    {
-        'turns: while self
-            .world
-            .passes_limit(span.handle, span.offset, span.count)
+        if span.dirties
+            && self
+                .world
+                .passes_limit(span.handle, span.offset, span.count)
         {
-            self.make_room(Refusal::DirtyLimit)?;
+            return Some(Refusal::DirtyLimit);
         }
-        Ok(())
+        None
     }
 
     /// Makes room where a page was refused a frame or would be one dirty page too many. Where that can't be done, and for any
     /// other refusal, that is the answer.
     pub(crate) fn make_room(&mut self, refusal: Refusal) -> Result<(), Refusal>
-        ensures serves { Serves self.old self.new }
+        ensures helps { Helps self.old self.new }
         ensures attempts { self.new.attempts ≡ self.old.attempts }
         ensures made { OnOk result (MakesRoom self.old refusal self.new) }
         ensures refused { IfErr result (λ r. (r ≡ refusal) ⊎ (r ≡ Memory)) }
@@ -115,7 +119,7 @@ impl<D: BlockDevice> Solo<D> {
 
     /// Writes a dirty page back, of the first file that has one. Answers whether that was done.
     fn flush_one(&mut self) -> Result<bool, Refusal>
-        ensures serves { Serves self.old self.new }
+        ensures helps { Helps self.old self.new }
         ensures attempts { self.new.attempts ≡ self.old.attempts }
         ensures refused { IsOkUnless result Refusal.Memory }
         ensures flushes { IfOk result (λ done. FlushesOne self.old done self.new) }
@@ -135,7 +139,7 @@ impl<D: BlockDevice> Solo<D> {
 
     /// Writes the file's lowest dirty page back.
     fn flush_file(&mut self, file: FileId) -> Reply
-        ensures serves { Serves self.old self.new }
+        ensures helps { Helps self.old self.new }
         ensures attempts { self.new.attempts ≡ self.old.attempts }
         ensures flush { IsFlush self.old file result self.new }
     {

@@ -33,15 +33,16 @@ impl<D: BlockDevice> Model for Solo<D> {
     ghost use Rattle.std.specs.Coded.{codes, coded_ℕ};
     ghost use Rattle.std.specs.FinMap as map;
     ghost use Rattle.std.specs.Ordering.{nat_cmp};
+    ghost use Rattle.std.specs.Prelude.{ℕ, List};
     ghost use Rattle.atomic_table.specs.Seated.{table_id_coded};
-    ghost use Rattle.cachecore.specs.Codes.{state_code};
-    ghost use Rattle.cachecore.specs.declared.event.Outcome.{Outcome};
+    ghost use Rattle.machine.specs.inside.Codes.{state_code};
+    ghost use Rattle.machine.specs.declared.event.Outcome.{Outcome};
     ghost use Rattle.filesvc.specs.Rests.{IsService};
     ghost use Rattle.filesvc.specs.Seen.{SoloSeen};
 
     ghost Value = { SoloSeen };
 
-    ghost coded = { Prim.hlevel (codes, state_code, table_id_coded, map.code {X = Outcome} {R = nat_cmp} coded_ℕ (Prim.hlevel codes)) };
+    ghost coded = { Prim.hlevel (codes, state_code, table_id_coded, map.code {X = Outcome} {R = nat_cmp} coded_ℕ (Prim.hlevel codes), map.code {X = List ℕ} {R = nat_cmp} coded_ℕ (Prim.hlevel codes)) };
 
     ghost view = { λ s. record { world = s.world; errors = s.recorder; attempts = s.attempts } };
 

@@ -1,24 +1,72 @@
 //! A service as its callers use it, over a device that fails where it is told to. Every row is run by `over_a_service`, since the
 //! check is slow where a service is dropped.
 
-ghost use Rattle.std.specs.Prelude.{◌≡◌, OnOk};
+ghost use Rattle.std.specs.Prelude.{◌≡◌, None, OnOk};
 ghost use Rattle.pc_types.specs.Files.{pwrite};
-ghost use Rattle.world.specs.Plain.{plain_file};
+ghost use Rattle.runs.specs.Plain.{plain_file};
 ghost use Rattle.filesvc.specs.Service as service;
 ghost use Rattle.filesvc.specs.Service.{CameFrom, IsOnDevice, IsOpen, Names, Tells};
 
 use super::*;
 use blockdev::{BlockDevice, FaultEffect, ScriptDevice};
-use pc_types::{ErrCode, FileId, Geometry, Refusal};
+use cachecore::PageTags;
+use pc_types::{BlockNo, ErrCode, FileId, Geometry, PageIndex, Refusal, Tag};
 use std::alloc::Global;
 use std::marker::Model;
 use std::process::Abort;
 use std::test::Fail;
 
+/// A device whose first read fails with this code, where there is one.
+#[derive(Drop)]
+struct OddDevice {
+    device: ScriptDevice,
+    first_read: Option<ErrCode>,
+}
+
+impl BlockDevice for OddDevice {
+    // nothing is told of the faults to come, of which the read's is planned late
+    ghost told = { λ d. record d.device { plan = None } };
+
+    fn block_size(&self) -> u64 {
+        self.device.block_size()
+    }
+
+    fn blocks(&self) -> u64 {
+        self.device.blocks()
+    }
+
+    fn faults(&self) -> u64 {
+        self.device.faults()
+    }
+
+    fn calls(&self) -> u64 {
+        self.device.calls()
+    }
+
+    fn flushes(&self) -> u64 {
+        self.device.flushes()
+    }
+
+    fn read(&mut self, block: BlockNo, out: &mut [u8]) -> Result<(), ErrCode> {
+        if let Some(code) = self.first_read.take() {
+            self.device.fail_next(code, FaultEffect::Old);
+        }
+        self.device.read(block, out)
+    }
+
+    fn write(&mut self, block: BlockNo, bytes: &[u8]) -> Result<(), ErrCode> {
+        self.device.write(block, bytes)
+    }
+
+    fn flush(&mut self) -> Result<(), ErrCode> {
+        self.device.flush()
+    }
+}
+
 /// A service and a handle that it opened.
 #[derive(Drop)]
 struct Desk {
-    solo: Solo<ScriptDevice>,
+    solo: Solo<OddDevice>,
     handle: Handle,
 }
 
@@ -59,6 +107,17 @@ impl Desk {
 
     fn fsync(&mut self) -> Result<(), Refusal> {
         self.solo.fsync(&mut self.handle)
+    }
+
+    fn fsync_range(&mut self, first: u64, last: u64) -> Result<(), Refusal> {
+        self.solo
+            .fsync_range(&mut self.handle, PageIndex(first), PageIndex(last))
+    }
+
+    /// Whether a page of the file is dirty.
+    fn is_dirty(&self, page: u64) -> bool {
+        let tags = self.solo.world.tags(FileId(0), PageIndex(page));
+        matches!(tags, Ok(PageTags::Cached(flags)) if flags.has(Tag::Dirty))
     }
 
     fn poll_error(&mut self) -> Result<Option<ErrCode>, Refusal> {
@@ -132,6 +191,31 @@ fn syncs_again_and_again(rt: &impl Abort, desk: &mut Desk) {
     }
 }
 
+// A sync of a range writes the dirty pages of the range alone. One that is turned round is refused, and nothing else happens.
+fn syncs_a_range(rt: &impl Abort, desk: &mut Desk) {
+    assert_eq!(rt; desk.pwrite(0, &[0xaa]), Ok(1));
+    assert_eq!(rt; desk.pwrite(32, &[0xbb]), Ok(1));
+    assert_eq!(rt; desk.fsync_range(5, 4), Err(Refusal::BadRange));
+    assert!(rt; desk.is_dirty(0) && desk.is_dirty(2));
+    assert_eq!(rt; desk.fsync_range(2, 5), Ok(()));
+    assert_eq!(rt; desk.solo.attempts(), 1);
+    assert!(rt; desk.is_dirty(0) && !desk.is_dirty(2));
+    assert_eq!(rt; desk.fsync_range(7, 7), Ok(()));
+    assert!(rt; desk.is_dirty(0));
+    assert_eq!(rt; desk.fsync(), Ok(()));
+    assert!(rt; !desk.is_dirty(0));
+}
+
+// A failed write of a page outside the range is told all the same, once.
+fn tells_of_any_page(rt: &impl Abort, desk: &mut Desk) -> Result<(), Refusal> {
+    assert_eq!(rt; desk.pwrite(0, &[1; 256]), Ok(256));
+    assert_eq!(rt; desk.pwrite(256, &[2]), Err(Refusal::DirtyLimit));
+    assert_eq!(rt; desk.fsync_range(3, 4), Err(Refusal::Io(full()?)));
+    assert_eq!(rt; desk.fsync_range(3, 4), Ok(()));
+    assert!(rt; desk.is_dirty(0) && desk.is_dirty(15));
+    Ok(())
+}
+
 // Where as many pages are dirty as may be, a write makes room by writing one back.
 fn makes_room(rt: &impl Abort, desk: &mut Desk) {
     assert_eq!(rt; desk.pwrite(0, &[1; 256]), Ok(256));
@@ -191,6 +275,24 @@ fn reads_back(rt: &impl Abort, desk: &mut Desk) {
     assert_eq!(rt; desk.pread(0, &mut [0; 1024]), Err(Refusal::TooLong));
 }
 
+// A page that was evicted and whose fill fails is refused with the code of its own device call, which is no failed write; the next
+// read fills it.
+fn fails_to_fill(rt: &impl Abort, desk: &mut Desk) -> Result<(), Refusal> {
+    for at in 0..64u64 {
+        assert_eq!(rt; desk.pwrite(at * 16, &[at as u8; 16]), Ok(16));
+    }
+    assert_eq!(rt; desk.fsync(), Ok(()));
+    let mut out = [0; 16];
+    assert_eq!(rt; desk.pread(0, &mut out), Err(Refusal::Io(full()?)));
+    assert_eq!(rt; desk.solo.attempts(), 1);
+    assert_eq!(rt; desk.poll_error(), Ok(None));
+    assert_eq!(rt; desk.pread(16, &mut out), Ok(16));
+    assert!(rt; out == [1; 16]);
+    assert_eq!(rt; desk.pread(0, &mut out), Ok(16));
+    assert!(rt; out == [0; 16]);
+    Ok(())
+}
+
 // Clean pages that are used often, as many dirty ones as may be, and then calls that lack two pages.
 fn is_never_stuck(rt: &impl Abort, desk: &mut Desk, clean: u16, dirty: u16) {
     let mut out = [0; 32];
@@ -240,6 +342,28 @@ fn mixes(rt: &impl Abort, desk: &mut Desk) {
     }
 }
 
+// 20,000 calls as a user makes them: three reads for each write, of two pages or three, and an fsync now and then. None is refused.
+fn serves_a_user(rt: &impl Abort, desk: &mut Desk) {
+    for page in 0..300u64 {
+        assert_eq!(rt; desk.pwrite(page * 16, &[(page % 256) as u8; 16]), Ok(16));
+    }
+    let mut out = [0; 24];
+    let mut seed: u32 = 1;
+    for _ in 0..20000 {
+        seed = seed.wrapping_mul(1103515245).wrapping_add(12345);
+        let offset = (seed >> 8) as u64 % (300 - 2) * 16 + 7;
+        seed = seed.wrapping_mul(1103515245).wrapping_add(12345);
+        if (seed >> 20) % 256 == 0 {
+            assert_eq!(rt; desk.fsync(), Ok(()));
+        } else if (seed >> 20) % 4 == 0 {
+            assert_eq!(rt; desk.pwrite(offset, &[3; 24]), Ok(24));
+        } else {
+            assert_eq!(rt; desk.pread(offset, &mut out), Ok(24));
+        }
+        assert!(rt; desk.solo.attempts() <= 5);
+    }
+}
+
 // A handle of another service is refused, and comes back from close.
 fn refuses_a_stranger(rt: &impl Abort, desk: &mut Desk) {
     let refused = desk.solo.open(FileId(1), false);
@@ -255,6 +379,7 @@ fn refuses_a_stranger(rt: &impl Abort, desk: &mut Desk) {
     assert_eq!(rt; desk.truncate(0), Err(Refusal::BadHandle));
     assert_eq!(rt; desk.seek(Seek::Set(0)), Err(Refusal::BadHandle));
     assert_eq!(rt; desk.fsync(), Err(Refusal::BadHandle));
+    assert_eq!(rt; desk.fsync_range(5, 4), Err(Refusal::BadHandle));
     assert_eq!(rt; desk.poll_error(), Err(Refusal::BadHandle));
     desk.rename(7);
 }
@@ -295,12 +420,16 @@ enum Row {
     RefusesWithoutRoom,
     Appends,
     ReadsBack,
+    FailsToFill,
     RefusesAStranger,
     Saves,
     SyncsAgainAndAgain,
+    SyncsARange,
+    TellsOfAnyPage,
     // so many clean pages in use, and so many dirty ones
     IsNeverStuck(u16, u16),
     Mixes,
+    ServesAUser,
 }
 
 fn run(rt: &impl Abort, desk: &mut Desk, row: Row) -> Result<(), Refusal> {
@@ -311,25 +440,42 @@ fn run(rt: &impl Abort, desk: &mut Desk, row: Row) -> Result<(), Refusal> {
         Row::RefusesWithoutRoom => refuses_without_room(rt, desk)?,
         Row::Appends => appends(rt, desk),
         Row::ReadsBack => reads_back(rt, desk),
+        Row::FailsToFill => fails_to_fill(rt, desk)?,
         Row::RefusesAStranger => refuses_a_stranger(rt, desk),
         Row::Saves => saves(rt, desk)?,
         Row::SyncsAgainAndAgain => syncs_again_and_again(rt, desk),
+        Row::SyncsARange => syncs_a_range(rt, desk),
+        Row::TellsOfAnyPage => tells_of_any_page(rt, desk)?,
         Row::IsNeverStuck(clean, dirty) => is_never_stuck(rt, desk, clean, dirty),
         Row::Mixes => mixes(rt, desk),
+        Row::ServesAUser => serves_a_user(rt, desk),
     }
     Ok(())
 }
 
-/// A service over a device whose first write fails where `fails`, with pages of 16 bytes and one file that is open.
+/// Which device call fails of those that a row makes.
+#[derive(Clone, Copy)]
+enum Failing {
+    None,
+    FirstCall,
+    FirstRead,
+}
+
+/// A service over a device that fails so, with pages of 16 bytes and one file that is open.
 fn open_desk(
     alloc: Global,
     geometry: &Geometry,
-    fails: bool,
+    failing: Failing,
     append: bool,
 ) -> Result<Desk, Refusal> {
-    let mut device = ScriptDevice::new(alloc, 16, geometry.blocks())?;
-    if fails {
-        device.fail_next(full()?, FaultEffect::Old);
+    let mut device = OddDevice {
+        device: ScriptDevice::new(alloc, 16, geometry.blocks())?,
+        first_read: None,
+    };
+    match failing {
+        Failing::None => {}
+        Failing::FirstCall => device.device.fail_next(full()?, FaultEffect::Old),
+        Failing::FirstRead => device.first_read = Some(full()?),
     }
     let Ok(mut solo) = Solo::new(alloc, geometry, 7, device) else {
         return Err(Refusal::Memory);
@@ -339,18 +485,23 @@ fn open_desk(
     Ok(Desk { solo, handle })
 }
 
-fn over_a_service(rt: &impl Abort, alloc: Global, fails: bool, row: Row) -> Result<(), Refusal> {
-    over(rt, alloc, &Geometry::new(16, 48, 16, 64)?, fails, row)
+fn over_a_service(
+    rt: &impl Abort,
+    alloc: Global,
+    failing: Failing,
+    row: Row,
+) -> Result<(), Refusal> {
+    over(rt, alloc, &Geometry::new(16, 48, 16, 64)?, failing, row)
 }
 
 fn over(
     rt: &impl Abort,
     alloc: Global,
     geometry: &Geometry,
-    fails: bool,
+    failing: Failing,
     row: Row,
 ) -> Result<(), Refusal> {
-    let mut desk = open_desk(alloc, geometry, fails, matches!(row, Row::Appends))?;
+    let mut desk = open_desk(alloc, geometry, failing, matches!(row, Row::Appends))?;
     let done = run(rt, &mut desk, row);
     assert!(rt; desk.close());
     done
@@ -358,18 +509,18 @@ fn over(
 
 #[test]
 fn a_cursor_moves(rt: HostRuntime) -> Result<(), Refusal> {
-    over_a_service(&rt, rt.alloc(), false, Row::MovesACursor)
+    over_a_service(&rt, rt.alloc(), Failing::None, Row::MovesACursor)
 }
 
 #[test]
 fn an_error_is_told_once(rt: HostRuntime) -> Result<(), Refusal> {
-    over_a_service(&rt, rt.alloc(), true, Row::TellsAnErrorOnce)
+    over_a_service(&rt, rt.alloc(), Failing::FirstCall, Row::TellsAnErrorOnce)
 }
 
 #[test]
 fn an_untold_error_is_handed_down(rt: HostRuntime) -> Result<(), Refusal> {
     let geometry = Geometry::new(16, 48, 16, 64)?;
-    let desk = open_desk(rt.alloc(), &geometry, true, false)?;
+    let desk = open_desk(rt.alloc(), &geometry, Failing::FirstCall, false)?;
     let desk = hands_an_error_down(&rt, desk)?;
     assert!(rt; desk.close());
     Ok(())
@@ -377,37 +528,52 @@ fn an_untold_error_is_handed_down(rt: HostRuntime) -> Result<(), Refusal> {
 
 #[test]
 fn no_sync_is_left(rt: HostRuntime) -> Result<(), Refusal> {
-    over_a_service(&rt, rt.alloc(), false, Row::SyncsAgainAndAgain)
+    over_a_service(&rt, rt.alloc(), Failing::None, Row::SyncsAgainAndAgain)
+}
+
+#[test]
+fn a_sync_of_a_range_stays_in_it(rt: HostRuntime) -> Result<(), Refusal> {
+    over_a_service(&rt, rt.alloc(), Failing::None, Row::SyncsARange)
+}
+
+#[test]
+fn a_sync_of_a_range_tells_of_any_page(rt: HostRuntime) -> Result<(), Refusal> {
+    over_a_service(&rt, rt.alloc(), Failing::FirstCall, Row::TellsOfAnyPage)
 }
 
 #[test]
 fn a_write_makes_room(rt: HostRuntime) -> Result<(), Refusal> {
-    over_a_service(&rt, rt.alloc(), false, Row::MakesRoom)
+    over_a_service(&rt, rt.alloc(), Failing::None, Row::MakesRoom)
 }
 
 #[test]
 fn a_write_without_room_is_refused(rt: HostRuntime) -> Result<(), Refusal> {
-    over_a_service(&rt, rt.alloc(), true, Row::RefusesWithoutRoom)
+    over_a_service(&rt, rt.alloc(), Failing::FirstCall, Row::RefusesWithoutRoom)
 }
 
 #[test]
 fn an_append_goes_to_the_end(rt: HostRuntime) -> Result<(), Refusal> {
-    over_a_service(&rt, rt.alloc(), false, Row::Appends)
+    over_a_service(&rt, rt.alloc(), Failing::None, Row::Appends)
 }
 
 #[test]
 fn evicted_pages_read_back(rt: HostRuntime) -> Result<(), Refusal> {
-    over_a_service(&rt, rt.alloc(), false, Row::ReadsBack)
+    over_a_service(&rt, rt.alloc(), Failing::None, Row::ReadsBack)
+}
+
+#[test]
+fn a_failed_fill_has_its_own_code(rt: HostRuntime) -> Result<(), Refusal> {
+    over_a_service(&rt, rt.alloc(), Failing::FirstRead, Row::FailsToFill)
 }
 
 #[test]
 fn a_stranger_is_refused(rt: HostRuntime) -> Result<(), Refusal> {
-    over_a_service(&rt, rt.alloc(), false, Row::RefusesAStranger)
+    over_a_service(&rt, rt.alloc(), Failing::None, Row::RefusesAStranger)
 }
 
 #[test]
 fn a_caller_saves(rt: HostRuntime) -> Result<(), Refusal> {
-    over_a_service(&rt, rt.alloc(), true, Row::Saves)
+    over_a_service(&rt, rt.alloc(), Failing::FirstCall, Row::Saves)
 }
 
 #[test]
@@ -422,13 +588,25 @@ fn another_device_is_refused(rt: HostRuntime) -> Result<(), Refusal> {
 #[test]
 fn two_absent_pages_of_64(rt: HostRuntime) -> Result<(), Refusal> {
     let geometry = Geometry::new(16, 64, 32, 4096)?;
-    over(&rt, rt.alloc(), &geometry, false, Row::IsNeverStuck(32, 32))
+    over(
+        &rt,
+        rt.alloc(),
+        &geometry,
+        Failing::None,
+        Row::IsNeverStuck(32, 32),
+    )
 }
 
 #[test]
 fn two_absent_pages_of_128(rt: HostRuntime) -> Result<(), Refusal> {
     let geometry = Geometry::new(16, 128, 96, 4096)?;
-    over(&rt, rt.alloc(), &geometry, false, Row::IsNeverStuck(32, 96))
+    over(
+        &rt,
+        rt.alloc(),
+        &geometry,
+        Failing::None,
+        Row::IsNeverStuck(32, 96),
+    )
 }
 
 #[test]
@@ -438,7 +616,7 @@ fn two_absent_pages_of_256(rt: HostRuntime) -> Result<(), Refusal> {
         &rt,
         rt.alloc(),
         &geometry,
-        false,
+        Failing::None,
         Row::IsNeverStuck(128, 128),
     )
 }
@@ -446,23 +624,47 @@ fn two_absent_pages_of_256(rt: HostRuntime) -> Result<(), Refusal> {
 #[test]
 fn a_mix_over_64(rt: HostRuntime) -> Result<(), Refusal> {
     let geometry = Geometry::new(16, 64, 32, 4096)?;
-    over(&rt, rt.alloc(), &geometry, false, Row::Mixes)
+    over(&rt, rt.alloc(), &geometry, Failing::None, Row::Mixes)
 }
 
 #[test]
 fn a_mix_over_80(rt: HostRuntime) -> Result<(), Refusal> {
     let geometry = Geometry::new(16, 80, 48, 4096)?;
-    over(&rt, rt.alloc(), &geometry, false, Row::Mixes)
+    over(&rt, rt.alloc(), &geometry, Failing::None, Row::Mixes)
 }
 
 #[test]
 fn a_mix_over_128(rt: HostRuntime) -> Result<(), Refusal> {
     let geometry = Geometry::new(16, 128, 96, 4096)?;
-    over(&rt, rt.alloc(), &geometry, false, Row::Mixes)
+    over(&rt, rt.alloc(), &geometry, Failing::None, Row::Mixes)
 }
 
 #[test]
 fn a_mix_over_256(rt: HostRuntime) -> Result<(), Refusal> {
     let geometry = Geometry::new(16, 256, 224, 4096)?;
-    over(&rt, rt.alloc(), &geometry, false, Row::Mixes)
+    over(&rt, rt.alloc(), &geometry, Failing::None, Row::Mixes)
+}
+
+#[test]
+fn a_user_over_64(rt: HostRuntime) -> Result<(), Refusal> {
+    let geometry = Geometry::new(16, 64, 32, 512)?;
+    over(&rt, rt.alloc(), &geometry, Failing::None, Row::ServesAUser)
+}
+
+#[test]
+fn a_user_over_80(rt: HostRuntime) -> Result<(), Refusal> {
+    let geometry = Geometry::new(16, 80, 48, 512)?;
+    over(&rt, rt.alloc(), &geometry, Failing::None, Row::ServesAUser)
+}
+
+#[test]
+fn a_user_over_128(rt: HostRuntime) -> Result<(), Refusal> {
+    let geometry = Geometry::new(16, 128, 96, 512)?;
+    over(&rt, rt.alloc(), &geometry, Failing::None, Row::ServesAUser)
+}
+
+#[test]
+fn a_user_over_256(rt: HostRuntime) -> Result<(), Refusal> {
+    let geometry = Geometry::new(16, 256, 224, 512)?;
+    over(&rt, rt.alloc(), &geometry, Failing::None, Row::ServesAUser)
 }

@@ -1,14 +1,16 @@
 //! Writes and truncations.
 
-ghost use Rattle.std.specs.Prelude.{◌≡◌, ◌≢◌, ◌+◌, ◌<◌, ◌≤◌, length, IfErr, IfNone, IfOk, IfSome, Err};
+ghost use Rattle.std.specs.Prelude.{◌≡◌, ◌≢◌, ◌+◌, ◌<◌, ◌≤◌, None, true, length, IfErr, IfOk, IfSome, Err};
 ghost use Rattle.pc_types.specs.declared.limits.TheConstants.{MAX_FILE_SIZE};
 ghost use Rattle.pc_types.specs.declared.refusal.Refusal.TheVariants.{BadHandle};
-ghost use Rattle.cachecore.specs.declared.event.Event.TheVariants as event;
+ghost use Rattle.machine.specs.declared.event.Event.TheVariants as event;
 ghost use Rattle.cachecore.specs.Replies.{wrote};
-ghost use Rattle.cachecore.specs.State.{file_at, file_of};
+ghost use Rattle.machine.specs.State.{file_at, handle_file};
+ghost use Rattle.world.specs.declared.step.Step.TheVariants as step;
+ghost use Rattle.filesvc.specs.Made.{IsMadeOf, write_step};
 ghost use Rattle.filesvc.specs.Attempts.{Attempt, Follows, WroteAll, append_reply, truncate_over, write_over};
-ghost use Rattle.filesvc.specs.Rooms.{HasRoom};
-ghost use Rattle.filesvc.specs.Service.{CameFrom, FilesAfter, IsRefusal, IsSettledAtOnce, IsUntried, Keeps, Names, count_of, cursor_after, truncate_reply, write_event, write_reply, wrote_reply};
+ghost use Rattle.filesvc.specs.Rooms.{Stops, need};
+ghost use Rattle.filesvc.specs.Service.{CameFrom, FilesAfter, IsRefusal, IsSettledAtOnce, IsUntried, IsSoonOver, Keeps, Names, Tells, count_of, cursor_after, truncate_reply, write_event, write_reply, wrote_reply};
 
 use crate::handle::Handle;
 use crate::room::Span;
@@ -36,6 +38,8 @@ impl<D: BlockDevice> Solo<D> {
         ensures files { FilesAfter self.old (event.Write (record { 0 = handle.now.number }) offset bytes.now) (write_reply result (offset + length bytes.now)) self.new }
         ensures first { IsSettledAtOnce self.old handle.now (event.Write (record { 0 = handle.now.number }) offset bytes.now) (write_reply result (offset + length bytes.now)) self.new }
         ensures refused { Names self.old handle.now → IfErr result (λ r. IsRefusal self.old (event.Write (record { 0 = handle.now.number }) offset bytes.now) r self.new) }
+        ensures attempts { IsSoonOver self.old (event.Write (record { 0 = handle.now.number }) offset bytes.now) self.new }
+        ensures made { Names self.old handle.now → IsMadeOf (step.Write (record { 0 = handle.now.number }) offset bytes.now) self.old (write_reply result (offset + length bytes.now)) self.new }
     {
         self.attempts = 0;
         if handle.cache != self.name {
@@ -60,6 +64,8 @@ impl<D: BlockDevice> Solo<D> {
         ensures cursor { handle.new ≡ record handle.old { cursor = cursor_after self.old handle.old result } }
         ensures first { IsSettledAtOnce self.old handle.old (write_event handle.old bytes.now) (wrote_reply self.old handle.old result) self.new }
         ensures refused { Names self.old handle.old → IfErr result (λ r. IsRefusal self.old (write_event handle.old bytes.now) r self.new) }
+        ensures attempts { IsSoonOver self.old (write_event handle.old bytes.now) self.new }
+        ensures made { Names self.old handle.old → IsMadeOf (write_step handle.old bytes.now) self.old (wrote_reply self.old handle.old result) self.new }
     {
         if !handle.append {
             let count = self.pwrite(handle, handle.cursor, bytes)?;
@@ -81,6 +87,8 @@ impl<D: BlockDevice> Solo<D> {
         ensures files { FilesAfter self.old (event.Append (record { 0 = handle.now.number }) bytes.now) (append_reply result) self.new }
         ensures first { IsSettledAtOnce self.old handle.now (event.Append (record { 0 = handle.now.number }) bytes.now) (append_reply result) self.new }
         ensures refused { Names self.old handle.now → IfErr result (λ r. IsRefusal self.old (event.Append (record { 0 = handle.now.number }) bytes.now) r self.new) }
+        ensures attempts { IsSoonOver self.old (event.Append (record { 0 = handle.now.number }) bytes.now) self.new }
+        ensures made { Names self.old handle.now → IsMadeOf (step.Append (record { 0 = handle.now.number }) bytes.now) self.old (append_reply result) self.new }
     {
         self.attempts = 0;
         if handle.cache != self.name {
@@ -113,6 +121,7 @@ impl<D: BlockDevice> Solo<D> {
                 handle,
                 offset,
                 count,
+                dirties: true,
             },
             answer,
         )
@@ -122,7 +131,7 @@ impl<D: BlockDevice> Solo<D> {
     fn try_append(&mut self, handle: HandleId, bytes: &[u8]) -> Result<Option<Wrote>, Refusal>
         requires { self.old.attempts < 256 }
         ensures attempt { Attempt self.old (event.Append handle bytes.now) (write_over result) self.new }
-        ensures wrote { IfOk result (λ o. IfSome o (WroteAll (file_at self.old.world.core (file_of self.old.world.core handle.0)).size bytes.now)) }
+        ensures wrote { IfOk result (λ o. IfSome o (WroteAll (file_at self.old.world.core (handle_file self.old.world.core handle.0)).size bytes.now)) }
     {
         self.attempts += 1;
         let offset = self.world.size(handle).unwrap_or(0);
@@ -133,6 +142,7 @@ impl<D: BlockDevice> Solo<D> {
                 handle,
                 offset,
                 count,
+                dirties: true,
             },
             answer,
         )
@@ -144,14 +154,16 @@ impl<D: BlockDevice> Solo<D> {
         span: Span,
         answer: Result<WriteAnswer, Refusal>,
     ) -> Result<Option<Wrote>, Refusal>
+        requires dirties { span.dirties ≡ true }
+        requires stops { Stops self.old span.handle.0 span.offset span.count (wrote answer) }
         ensures follows { Follows self.old span.handle (wrote answer) (write_over result) self.new }
-        ensures again { IfOk result (λ o. IfNone o (IfErr answer (λ r. HasRoom span.handle.0 span.offset span.count r self.new))) }
+        ensures gains { Tells self.old → write_over result ≡ None → need true self.new.world.core span.handle.0 span.offset span.count < need true self.old.world.core span.handle.0 span.offset span.count }
     {
         match answer {
             Ok(WriteAnswer::Wrote { count, end }) => return Ok(Some(Wrote { count, end })),
             Ok(WriteAnswer::Miss(page)) | Ok(WriteAnswer::Wait(page)) => self.fill(span, page)?,
-            Err(Refusal::NoFrame) => self.make_frames(span)?,
-            Err(Refusal::DirtyLimit) => self.make_clean(span)?,
+            Err(Refusal::NoFrame) => self.make_way(span)?,
+            Err(Refusal::DirtyLimit) => self.make_way(span)?,
             Err(refusal) => return Err(refusal),
         }
         Ok(None)
@@ -165,6 +177,8 @@ impl<D: BlockDevice> Solo<D> {
         ensures files { FilesAfter self.old (event.Truncate (record { 0 = handle.now.number }) size) (truncate_reply result) self.new }
         ensures first { IsSettledAtOnce self.old handle.now (event.Truncate (record { 0 = handle.now.number }) size) (truncate_reply result) self.new }
         ensures refused { Names self.old handle.now → IfErr result (λ r. IsRefusal self.old (event.Truncate (record { 0 = handle.now.number }) size) r self.new) }
+        ensures attempts { IsSoonOver self.old (event.Truncate (record { 0 = handle.now.number }) size) self.new }
+        ensures made { Names self.old handle.now → IsMadeOf (step.Truncate (record { 0 = handle.now.number }) size) self.old (truncate_reply result) self.new }
     {
         self.attempts = 0;
         if handle.cache != self.name {
@@ -192,6 +206,7 @@ impl<D: BlockDevice> Solo<D> {
                     handle,
                     offset: size,
                     count: 1,
+                    dirties: false,
                 };
                 self.fill(span, page)?
             }

@@ -13,26 +13,21 @@ use Rattle.cachecore.specs.declared.answers.FlushBegun.TheVariants as flush
 use Rattle.cachecore.specs.declared.answers.Refused.{Refused}
 use Rattle.cachecore.specs.declared.answers.SyncStepped.{SyncStepped}
 use Rattle.cachecore.specs.declared.answers.SyncStepped.TheVariants as sync
-use Rattle.cachecore.specs.declared.event.Event.{Event}
-use Rattle.cachecore.specs.declared.event.Event.TheVariants as event
-use Rattle.cachecore.specs.declared.event.Reply.{Reply}
-use Rattle.cachecore.specs.declared.event.Reply.TheVariants as reply
-use Rattle.cachecore.specs.Bare.{bare}
-use Rattle.cachecore.specs.Replies.{FlushStep, SyncAdvance, fill_begun, flush_begun, sync_begun, sync_stepped}
-use Rattle.cachecore.specs.State.{State}
-use Rattle.cachecore.specs.Step.{Step}
-use Rattle.cachecore.proofs.BareChanges.{bare-bare}
-use Rattle.trail.specs.declared.entry.Entry.{Entry}
+use Rattle.machine.specs.declared.event.Event.{Event}
+use Rattle.machine.specs.declared.event.Event.TheVariants as event
+use Rattle.machine.specs.declared.event.Reply.{Reply}
+use Rattle.cachecore.specs.Replies.{fill_begun, flush_begun, sync_begun, sync_stepped}
+use Rattle.machine.specs.State.{State}
+use Rattle.machine.specs.Step.{Step}
 use Rattle.held.specs.declared.log.Slip.{Slip}
 use Rattle.trail.specs.declared.reserve.Reserve.{Reserve}
 use Rattle.held.specs.Entered.{Entered}
-use Rattle.trail.specs.Entries.{entry_with, event_with, noted, reply_with}
-use Rattle.trail.specs.History.{Steps}
+use Rattle.trail.specs.Entries.{entry_of, entry_with, event_with, noted, reply_with}
 use Rattle.held.specs.Kept.{IsHeld}
 use Rattle.trail.specs.Room.{fits_beside, has_room, less, reserved, reserved_after}
 use Rattle.held.specs.Shown.{LogSeen, SeatSeen}
-use Rattle.held.proofs.Holds.{Went, went, as_steps, room_for, none_needed}
-use Rattle.held.proofs.Tied.{FillsPage}
+use Rattle.held.proofs.Holds.{Went, went, room_for, none_needed}
+use Rattle.held.proofs.Sizes.{none_in}
 
 -- no such reply has bytes
 bare_fill : (a : Result FillBegun Refused) → reply_with (fill_begun a) [] ≡ fill_begun a
@@ -59,38 +54,57 @@ bare_begun : (a : Result SyncId Refusal) → reply_with (sync_begun a) [] ≡ sy
 bare_begun (Ok n) = refl
 bare_begun (Err e) = refl
 
--- ---- a step that may have begun a flush is one up to its bytes
-
-pub flush_steps : (old : State) (f : FileId) (a : Result FlushBegun Refused) (new : State) → FlushStep old f.0 a new → Steps old (event.FlushBegin f) (flush_begun a) new
-flush_steps old f a new s = (s.0, s.1, ap bare s.2 ∙ bare-bare s.0)
-
-pub sync_steps : (old : State) (n : SyncId) (a : Result SyncStepped Refused) (new : State) → SyncAdvance old n.0 a new → Steps old (event.SyncStep n) (sync_stepped a) new
-sync_steps old n a new s = (s.0, s.1, ap bare s.2 ∙ bare-bare s.0)
-
 -- an event without bytes whose entry is made as it stands
-module _ (old new : LogSeen) (core next : State) (v w : Reserve) (page : ℕ) (before after : SeatSeen) (slip : Slip) (i : IsHeld old core v page) (room : new.room ≡ less old.room 0) where
-  bare_went : (e : Event) (a r : Reply) → event_with e [] ≡ noted e a → reply_with a [] ≡ a → FillsPage core.sizes.page e → has_room old.room (reserved core) core e ≡ true → Steps core e a next → r ≡ a → w ≡ reserved_after e r v
-      → Entered (entry_with (record { seat = before.number; event = e; reply = r }) []) old new before after slip → Went old new core next w page before after slip e a
-  bare_went e a r is_event is_reply filled has s is reserve entered =
-      went old new core next v w page before after slip e a _ 0 i has (none_needed _) filled
-      (λ j. record { seat = before.number; event = is_event j; reply = (ap (λ x. reply_with x []) is ∙ is_reply) j }) s entered room (reserve ∙ ap (λ x. reserved_after e x v) is)
+module _ (old new : LogSeen) (core next : State) (v w : Reserve) (page : ℕ) (before after : SeatSeen) (slip : Slip)
+    (i : IsHeld old core v page) (room : new.room ≡ less old.room 0) where
+  bare_went : (e : Event) (a r : Reply) → event_with e [] ≡ noted e a → reply_with a [] ≡ a
+      → has_room old.room (reserved core) core e ≡ true → Step core e a next → r ≡ a → w ≡ reserved_after e r v
+      → Entered (entry_with (record { seat = before.number; event = e; reply = r }) []) old new before after slip
+      → Went old new core next w page before after slip e a
+  bare_went e a r is_event is_reply has s is reserve entered =
+      let same : entry_with (record { seat = before.number; event = e; reply = r }) [] ≡ entry_of before.number e a =
+      (λ j. record {
+        seat = before.number;
+        event = is_event j;
+        reply = (ap (λ x. reply_with x []) is ∙ is_reply) j;
+      }) in
+      went old new core next v w page before after slip e a _ 0 i has (none_needed _)
+      same (none_in (record { seat = before.number; event = e; reply = r }) _ same) s entered room
+      (reserve ∙ ap (λ x. reserved_after e x v) is)
 
-  pub fill_went : (h : HandleId) (p : PageIndex) (a : Result FillBegun Refused) (r : Reply) → fits_beside old.room page v 2 page ≡ true → Step core (event.FillBegin h p) (fill_begun a) next → r ≡ fill_begun a → w ≡ reserved_after (event.FillBegin h p) r v
-      → Entered (entry_with (record { seat = before.number; event = event.FillBegin h p; reply = r }) []) old new before after slip → Went old new core next w page before after slip (event.FillBegin h p) (fill_begun a)
+  pub fill_went : (h : HandleId) (p : PageIndex) (a : Result FillBegun Refused) (r : Reply)
+      → fits_beside old.room page v 2 page ≡ true → Step core (event.FillBegin h p) (fill_begun a) next
+      → r ≡ fill_begun a → w ≡ reserved_after (event.FillBegin h p) r v
+      → Entered (entry_with (record { seat = before.number; event = event.FillBegin h p; reply = r }) []) old new before
+      after slip → Went old new core next w page before after slip (event.FillBegin h p) (fill_begun a)
   fill_went h p a r fits s is reserve entered =
-      bare_went (event.FillBegin h p) (fill_begun a) r refl (bare_fill a) tt (room_for old core v page 2 page (event.FillBegin h p) i fits refl (sym i.size)) (as_steps core next (event.FillBegin h p) (fill_begun a) s) is reserve entered
+      bare_went (event.FillBegin h p) (fill_begun a) r refl (bare_fill a)
+      (room_for old core v page 2 page (event.FillBegin h p) i fits refl (sym i.size)) s is reserve entered
 
-  pub flush_went : (f : FileId) (a : Result FlushBegun Refused) (r : Reply) → fits_beside old.room page v 2 0 ≡ true → FlushStep core f.0 a next → r ≡ flush_begun a → w ≡ reserved_after (event.FlushBegin f) r v
-      → Entered (entry_with (record { seat = before.number; event = event.FlushBegin f; reply = r }) []) old new before after slip → Went old new core next w page before after slip (event.FlushBegin f) (flush_begun a)
+  pub flush_went : (f : FileId) (a : Result FlushBegun Refused) (r : Reply) → fits_beside old.room page v 2 0 ≡ true
+      → Step core (event.FlushBegin f) (flush_begun a) next → r ≡ flush_begun a
+      → w ≡ reserved_after (event.FlushBegin f) r v
+      → Entered (entry_with (record { seat = before.number; event = event.FlushBegin f; reply = r }) []) old new before
+      after slip → Went old new core next w page before after slip (event.FlushBegin f) (flush_begun a)
   flush_went f a r fits s is reserve entered =
-      bare_went (event.FlushBegin f) (flush_begun a) r refl (bare_flush a) tt (room_for old core v page 2 0 (event.FlushBegin f) i fits refl refl) (flush_steps core f a next s) is reserve entered
+      bare_went (event.FlushBegin f) (flush_begun a) r refl (bare_flush a)
+      (room_for old core v page 2 0 (event.FlushBegin f) i fits refl refl) s is reserve entered
 
-  pub sync_went : (n : SyncId) (a : Result SyncStepped Refused) (r : Reply) → fits_beside old.room page v 2 0 ≡ true → SyncAdvance core n.0 a next → r ≡ sync_stepped a → w ≡ reserved_after (event.SyncStep n) r v
-      → Entered (entry_with (record { seat = before.number; event = event.SyncStep n; reply = r }) []) old new before after slip → Went old new core next w page before after slip (event.SyncStep n) (sync_stepped a)
+  pub sync_went : (n : SyncId) (a : Result SyncStepped Refused) (r : Reply) → fits_beside old.room page v 2 0 ≡ true
+      → Step core (event.SyncStep n) (sync_stepped a) next → r ≡ sync_stepped a
+      → w ≡ reserved_after (event.SyncStep n) r v
+      → Entered (entry_with (record { seat = before.number; event = event.SyncStep n; reply = r }) []) old new before
+      after slip → Went old new core next w page before after slip (event.SyncStep n) (sync_stepped a)
   sync_went n a r fits s is reserve entered =
-      bare_went (event.SyncStep n) (sync_stepped a) r refl (bare_sync a) tt (room_for old core v page 2 0 (event.SyncStep n) i fits refl refl) (sync_steps core n a next s) is reserve entered
+      bare_went (event.SyncStep n) (sync_stepped a) r refl (bare_sync a)
+      (room_for old core v page 2 0 (event.SyncStep n) i fits refl refl) s is reserve entered
 
-  pub sync_begin_went : (h : HandleId) (a : Result SyncId Refusal) (r : Reply) → fits_beside old.room page v 2 0 ≡ true → Step core (event.SyncBegin h) (sync_begun a) next → r ≡ sync_begun a → w ≡ reserved_after (event.SyncBegin h) r v
-      → Entered (entry_with (record { seat = before.number; event = event.SyncBegin h; reply = r }) []) old new before after slip → Went old new core next w page before after slip (event.SyncBegin h) (sync_begun a)
-  sync_begin_went h a r fits s is reserve entered =
-      bare_went (event.SyncBegin h) (sync_begun a) r refl (bare_begun a) tt (room_for old core v page 2 0 (event.SyncBegin h) i fits refl refl) (as_steps core next (event.SyncBegin h) (sync_begun a) s) is reserve entered
+  pub sync_begin_went : (h : HandleId) (first last : PageIndex) (a : Result SyncId Refusal) (r : Reply)
+      → fits_beside old.room page v 2 0 ≡ true → Step core (event.SyncBegin h first last) (sync_begun a) next
+      → r ≡ sync_begun a → w ≡ reserved_after (event.SyncBegin h first last) r v
+      → Entered (entry_with (record { seat = before.number; event = event.SyncBegin h first last; reply = r }) []) old
+      new before after slip → Went old new core next w page before after slip (event.SyncBegin h first last)
+      (sync_begun a)
+  sync_begin_went h first last a r fits s is reserve entered =
+      bare_went (event.SyncBegin h first last) (sync_begun a) r refl (bare_begun a)
+      (room_for old core v page 2 0 (event.SyncBegin h first last) i fits refl refl) s is reserve entered

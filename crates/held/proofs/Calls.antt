@@ -1,25 +1,24 @@
 -- Calls without bytes: they are entered as they are, and reserve nothing.
-use Rattle.std.proofs.Common.{◌≡◌, ℕ, true, [], refl, ap, subst, sym, ◌∙◌, arith}
-use Rattle.cachecore.specs.declared.event.Event.{Event}
-use Rattle.cachecore.specs.declared.event.Reply.{Reply}
+use Rattle.std.proofs.Common.{◌≡◌, ℕ, true, [], refl, ◌∙◌}
+use Rattle.machine.specs.declared.event.Event.{Event}
+use Rattle.machine.specs.declared.event.Reply.{Reply}
 use Rattle.held.specs.declared.call.Call.{Call}
 use Rattle.held.specs.declared.call.Call.TheVariants as call
 use Rattle.held.specs.declared.call.Answer.{Answer}
 use Rattle.held.specs.declared.call.Answer.TheVariants as answer
-use Rattle.trail.specs.declared.entry.Entry.{Entry}
 use Rattle.trail.specs.declared.reserve.Reserve.{Reserve}
 use Rattle.held.specs.Calls.{event_of, reply_of}
 use Rattle.trail.specs.Entries.{entry_of, entry_with, noted, event_with, reply_with}
-use Rattle.cachecore.specs.State.{State}
-use Rattle.cachecore.specs.Step.{Step}
+use Rattle.machine.specs.State.{State}
+use Rattle.machine.specs.Step.{Step}
 use Rattle.held.specs.declared.log.Slip.{Slip}
 use Rattle.held.specs.Entered.{Entered, Records}
 use Rattle.held.specs.Kept.{IsHeld}
 use Rattle.trail.specs.Room.{reserved_after, fits_beside, less, event_need, byte_need}
 use Rattle.held.specs.Shown.{LogSeen, SeatSeen}
 use Rattle.errboard.specs.Shown.{RecorderSeen}
-use Rattle.held.proofs.Holds.{Went, went, as_steps, room_for, none_needed}
-use Rattle.held.proofs.Tied.{FillsPage}
+use Rattle.held.proofs.Holds.{Went, went, room_for, none_needed}
+use Rattle.held.proofs.Sizes.{none_in}
 
 same_event : (c : Call) (r : Reply) → event_with (event_of c) [] ≡ noted (event_of c) r
 same_event call.Create r = refl
@@ -43,7 +42,9 @@ same_reply (answer.Evicted f p) = refl
 same_reply answer.NoneIdle = refl
 same_reply (answer.Aged n) = refl
 
-call_entry : (seat : ℕ) (c : Call) (a : Answer) → entry_with (record { seat = seat; event = event_of c; reply = reply_of a }) [] ≡ entry_of seat (event_of c) (reply_of a)
+call_entry : (seat : ℕ) (c : Call) (a : Answer)
+    → entry_with (record { seat = seat; event = event_of c; reply = reply_of a }) [] ≡ entry_of seat (event_of c)
+    (reply_of a)
 call_entry seat c a i = record { seat = seat; event = same_event c (reply_of a) i; reply = same_reply a i }
 
 call_reserves : (c : Call) (r : Reply) (v : Reserve) → v ≡ reserved_after (event_of c) r v
@@ -65,15 +66,6 @@ call_needs s (call.Truncate h z) = (refl, refl)
 call_needs s call.Evict = (refl, refl)
 call_needs s call.Age = (refl, refl)
 
-no_fill : (c : Call) (page : ℕ) → FillsPage page (event_of c)
-no_fill call.Create page = tt
-no_fill (call.Open f) page = tt
-no_fill (call.Close h) page = tt
-no_fill (call.Size h) page = tt
-no_fill (call.Truncate h z) page = tt
-no_fill call.Evict page = tt
-no_fill call.Age page = tt
-
 -- nor is anything recorded
 pub call_records : (s : State) (c : Call) (r : Reply) (errors : RecorderSeen) → Records s (event_of c) r errors errors
 call_records s call.Create r errors = refl
@@ -84,9 +76,17 @@ call_records s (call.Truncate h z) r errors = refl
 call_records s call.Evict r errors = refl
 call_records s call.Age r errors = refl
 
-pub call_went : (old new : LogSeen) (core next : State) (v : Reserve) (page : ℕ) (before after : SeatSeen) (slip : Slip) → IsHeld old core v page → (c : Call) (a : Answer) (e : Event) (r : Reply) → fits_beside old.room page v 1 0 ≡ true → Step core (event_of c) (reply_of a) next → e ≡ event_of c → r ≡ reply_of a
-    → Entered (entry_with (record { seat = before.number; event = e; reply = r }) []) old new before after slip → new.room ≡ less old.room 0 → Went old new core next v page before after slip (event_of c) (reply_of a)
+pub call_went : (old new : LogSeen) (core next : State) (v : Reserve) (page : ℕ) (before after : SeatSeen) (slip : Slip)
+    → IsHeld old core v page → (c : Call) (a : Answer) (e : Event) (r : Reply) → fits_beside old.room page v 1 0 ≡ true
+    → Step core (event_of c) (reply_of a) next → e ≡ event_of c → r ≡ reply_of a
+    → Entered (entry_with (record { seat = before.number; event = e; reply = r }) []) old new before after slip
+    → new.room ≡ less old.room 0 → Went old new core next v page before after slip (event_of c) (reply_of a)
 call_went old new core next v page before after slip i c a e r fits s f k entered room =
     let needs = call_needs core c in
-    went old new core next v v page before after slip (event_of c) (reply_of a) _ 0 i (room_for old core v page 1 0 (event_of c) i fits needs.0 needs.1) (none_needed _) (no_fill c core.sizes.page)
-    ((λ j. entry_with (record { seat = before.number; event = f j; reply = k j }) []) ∙ call_entry before.number c a) (as_steps core next (event_of c) (reply_of a) s) entered room (call_reserves c (reply_of a) v)
+    let is : entry_with (record { seat = before.number; event = e; reply = r }) [] ≡ entry_of before.number (event_of c)
+    (reply_of a) = (λ j. entry_with (record { seat = before.number; event = f j; reply = k j }) [])
+    ∙ call_entry before.number c a in
+    went old new core next v v page before after slip (event_of c) (reply_of a) _ 0 i
+    (room_for old core v page 1 0 (event_of c) i fits needs.0 needs.1) (none_needed _)
+    is (none_in (record { seat = before.number; event = e; reply = r }) _ is) s entered room
+    (call_reserves c (reply_of a) v)

@@ -1,154 +1,213 @@
--- The end of a flush: its step, its entry, and that a failed one has a file.
-use Rattle.std.proofs.Common.{◌≡◌, ℕ, cond, Bool, true, false, [], refl, ap, sym, subst, ◌∙◌, arith, inl, inr, ⊎_elim}
-use Rattle.std.specs.Prelude.{◌&&◌, ◌==◌, ◌⊎◌, Option, Some, None, Result, Ok, Err, is_some, option_map, if◌then◌else◌}
-use Rattle.std.specs.FinMap as finmap
+-- The ends of requests: what is known of their steps, their entries without bytes, and what is recorded.
+use Rattle.std.proofs.Common.{◌≡◌, ℕ, cond, Bool, true, false, [], refl, ap, sym, ◌∙◌, arith, inl, inr}
+use Rattle.std.specs.Prelude.{◌⊎◌, Option, Some, None, Result, Ok, Err, is_some}
 use Rattle.pc_types.specs.declared.kind.Kind.{Kind}
 use Rattle.pc_types.specs.declared.kind.Kind.TheVariants.{Fill, Flush}
-use Rattle.pc_types.specs.Kinds.{same_kind, is_flush}
+use Rattle.pc_types.specs.Kinds.{is_flush}
 use Rattle.pc_types.specs.declared.refusal.Refusal.{Refusal}
 use Rattle.pc_types.specs.declared.refusal.Refusal.TheVariants.{Stranger, TrailFull}
+use Rattle.cachecore.specs.Core.{Core}
+use Rattle.cachecore.specs.Flushing.{flush_of, flushed_file}
+use Rattle.cachecore.specs.Replies.{fill_ended, flush_ended}
 use Rattle.cachecore.specs.declared.answers.Ended.{Ended}
 use Rattle.cachecore.specs.declared.answers.Ended.TheVariants as ended
 use Rattle.cachecore.specs.declared.answers.RefusedEnd.{RefusedEnd}
-use Rattle.cachecore.specs.declared.event.End.{End}
-use Rattle.cachecore.specs.declared.event.Event.TheVariants as event
-use Rattle.cachecore.specs.declared.event.Outcome.{Outcome}
-use Rattle.cachecore.specs.declared.event.Outcome.TheVariants as outcome
-use Rattle.cachecore.specs.declared.event.Reply.{Reply}
-use Rattle.cachecore.specs.declared.event.Reply.TheVariants as reply
-use Rattle.cachecore.specs.Flushing.{flush_of, flushed_file}
-use Rattle.cachecore.specs.Replies.{flush_ended}
-use Rattle.cachecore.specs.State.{State, Request}
-use Rattle.cachecore.specs.Step.{Step, Answers, FlushEndReply}
-use Rattle.cachecore.specs.Tests.{end_tests, is_of, refuse}
-use Rattle.cachecore.specs.declared.event.Event.{Event}
-use Rattle.cachecore.proofs.Choices.{and_true, answered}
+use Rattle.machine.specs.declared.event.End.{End}
+use Rattle.machine.specs.declared.event.Event.{Event}
+use Rattle.machine.specs.declared.event.Event.TheVariants as event
+use Rattle.machine.specs.declared.event.Outcome.{Outcome}
+use Rattle.machine.specs.declared.event.Outcome.TheVariants as outcome
+use Rattle.machine.specs.declared.event.Reply.{Reply}
+use Rattle.machine.specs.declared.event.Reply.TheVariants as reply
+use Rattle.machine.specs.State.{State}
+use Rattle.machine.specs.Step.{Step}
+use Rattle.machine.specs.Tests.{fits}
+use Rattle.machine.proofs.steps.Answered.{is_quiet}
+use Rattle.machine.proofs.steps.Ends.{end_loud, of_end}
 use Rattle.errboard.specs.Shown.{RecorderSeen, ReceiptSeen}
-use Rattle.trail.proofs.NoJobs.{ends}
 use Rattle.trail.specs.declared.entry.Entry.{Entry}
-use Rattle.held.specs.declared.log.Slip.{Slip}
 use Rattle.trail.specs.declared.reserve.Reserve.{Reserve}
-use Rattle.cachecore.specs.Core.{Core}
+use Rattle.trail.specs.Entries.{entry_of, entry_with, noted, reply_with, end_with, outcome_with}
+use Rattle.trail.specs.Room.{byte_need, event_need, fits_beside, has_room, less, need_of_end, reserved, reserved_after}
+use Rattle.held.specs.declared.log.Slip.{Slip}
 use Rattle.held.specs.Ends.{IsRecorded, OrFull, is_failed}
 use Rattle.held.specs.Entered.{Entered, Records}
-use Rattle.trail.specs.Entries.{entry_with, reply_with, end_with, outcome_with}
 use Rattle.held.specs.Kept.{IsHeld}
-use Rattle.trail.specs.Room.{byte_need, event_need, fits_beside, has_room, less, reserved, reserved_after}
 use Rattle.held.specs.Shown.{LogSeen, SeatSeen}
-use Rattle.held.proofs.Holds.{Went, went, as_steps, end_room, none_needed, room_is}
+use Rattle.held.proofs.Holds.{Went, went, end_room, none_needed, room_is}
+use Rattle.held.proofs.Sizes.{none_in}
 
--- the test of an end, and what happens where it passes
-pub passed : (b : Bool) (r : Reply) (s new : State) (H : Type 0) → Answers (if b then None else refuse Stranger) r s new H → ((b ≡ true) × H) ⊎ ((r ≡ reply.Refused Stranger) × (new ≡ s))
-passed true r s new H h = inl (refl, h)
-passed false r s new H h = inr h
+-- ---- the step
 
-flushes : (q : Option Request) (k : Bool) → (k && is_of q Flush) ≡ true → is_some (flushed_file q) ≡ true
-flushes None k e = absurd (let t = (and_true k false e).1 in cc)
-flushes (Some r) k e = go r.kind (and_true k (same_kind Flush r.kind) e).1
-  where
-    go : (x : Kind) → same_kind Flush x ≡ true → is_some (if is_flush x then Some r.file else None) ≡ true
-    go Fill h = absurd cc
-    go Flush h = refl
+-- what the end of a request of this kind answers, as a reply
+abbrev pub ended_as : Kind → Result Ended RefusedEnd → Reply
+ended_as Fill a = fill_ended a
+ended_as Flush a = flush_ended a
 
-pub failed_file : (s : State) (e : End) (a : Result Ended RefusedEnd) (new : State) → Step s (event.FlushEnd e) (flush_ended a) new → is_failed a ≡ true → is_some (flush_of s e.serial.0) ≡ true
-failed_file s e (Ok (ended.Failed code b)) new h f =
-    let k : Bool = e.cache == s.name && same_kind Flush e.kind in
-    let q = finmap.get s.requests e.serial.0 in
-    let H : Type 0 = FlushEndReply s e.serial.0 q e.outcome (reply.Failed code) new in
-    ⊎_elim
-    (λ (t : ((k && is_of q Flush) ≡ true) × H). flushes q k t.0)
-    (λ (t : (reply.Failed code ≡ reply.Refused Stranger) × (new ≡ s)). absurd (let x = t.0 in cc))
-    (passed (k && is_of q Flush) (reply.Failed code) s new H h)
+-- one that went through is no refusal
+went_through : (kind : Kind) (b : Ended) (why : Refusal) → ended_as kind (Ok b) ≡ reply.Refused why → ⊥
+went_through Fill (ended.Dropped b) why e = absurd cc
+went_through Fill (ended.Failed c b) why e = absurd cc
+went_through Fill (ended.Done b) why e = absurd cc
+went_through Flush (ended.Dropped b) why e = absurd cc
+went_through Flush (ended.Failed c b) why e = absurd cc
+went_through Flush (ended.Done b) why e = absurd cc
+
+refused_quiet : (kind : Kind) (x : RefusedEnd) → is_quiet (ended_as kind (Err x)) ≡ true
+refused_quiet Fill x = refl
+refused_quiet Flush x = refl
+
+is_refused : (kind : Kind) (a : Result Ended RefusedEnd) → ended_as kind a ≡ reply.Refused Stranger
+    → (x : RefusedEnd) × (a ≡ Err x)
+is_refused kind (Ok b) e = absurd (went_through kind b Stranger e)
+is_refused kind (Err x) e = (x, refl)
+
+-- a refused end leaves the core
+pub end_refused : (s : State) (kind : Kind) (e : End) (why : Refusal) (new : State)
+    → Step s (event.End kind e) (reply.Refused why) new → new ≡ s
+end_refused s kind e why new h = elim (of_end s kind e (reply.Refused why) new h) [
+  | inl a ↦ a.2
+  | inr a ↦ absurd (let k : true ≡ false = end_loud (Some a.x) e.outcome (reply.Refused why) a.reply in cc)
+]
+
+-- and with it the page lists: the whole core is as before
+pub core_back : (old new : Core) (kind : Kind) (e : End) (why : Refusal)
+    → Step old.state (event.End kind e) (reply.Refused why) new.state → new.lists ≡ old.lists → new ≡ old
+core_back old new kind e why h l =
+    let k = end_refused old.state kind e why new.state h in (λ i. record { state = k i; lists = l i })
+
+-- the outcome of one that went through fits
+pub taken : (s : State) (kind : Kind) (e : End) (a : Result Ended RefusedEnd) (new : State)
+    → Step s (event.End kind e) (ended_as kind a) new → (b : Ended) → a ≡ Ok b → fits kind e.outcome ≡ true
+taken s kind e a new h b is = elim (of_end s kind e (ended_as kind a) new h) [
+  | inl x ↦ absurd (went_through kind b Stranger (ap (ended_as kind) (sym is) ∙ x.1))
+  | inr x ↦ x.may.fitting
+]
+
+-- a flush that failed has a file
+pub failed_file : (s : State) (e : End) (a : Result Ended RefusedEnd) (new : State)
+    → Step s (event.End Flush e) (flush_ended a) new → is_failed a ≡ true → is_some (flush_of s e.serial.0) ≡ true
+failed_file s e (Ok (ended.Failed code b)) new h f = elim (of_end s Flush e (reply.Failed code) new h) [
+  | inl x ↦ absurd (let k = x.1 in cc)
+  | inr x ↦ ap (λ o. is_some (flushed_file o)) x.may.is
+      ∙ ap (λ k. is_some (cond (is_flush k) (Some x.x.file) None)) x.may.kind_is
+]
 failed_file s e (Ok (ended.Dropped b)) new h f = absurd cc
 failed_file s e (Ok (ended.Done b)) new h f = absurd cc
 failed_file s e (Err x) new h f = absurd cc
 
-no_refusal : (s : State) (t : ℕ) (q : Option Request) (o : Outcome) (why : Refusal) (new : State) → FlushEndReply s t q o (reply.Refused why) new → ⊥
-no_refusal s t (Some r) (outcome.Fault c) why new h = h
-no_refusal s t (Some r) (outcome.Ok bytes) why new h = h
-no_refusal s t None o why new h = h
-
--- a refused end leaves the core
-pub flush_refused : (s : State) (e : End) (why : Refusal) (new : State) → Step s (event.FlushEnd e) (reply.Refused why) new → new ≡ s
-flush_refused s e why new h =
-    let k : Bool = e.cache == s.name && same_kind Flush e.kind in
-    let q = finmap.get s.requests e.serial.0 in
-    let H : Type 0 = FlushEndReply s e.serial.0 q e.outcome (reply.Refused why) new in
-    ⊎_elim
-    (λ (t : ((k && is_of q Flush) ≡ true) × H). absurd (no_refusal s e.serial.0 q e.outcome why new t.1))
-    (λ (t : (reply.Refused why ≡ reply.Refused Stranger) × (new ≡ s)). t.1)
-    (passed (k && is_of q Flush) (reply.Refused why) s new H h)
-
--- nor the page lists: the whole core is as before
-pub core_back : (old new : Core) (e : End) (why : Refusal) → Step old.state (event.FlushEnd e) (reply.Refused why) new.state → new.lists ≡ old.lists → new ≡ old
-core_back old new e why h l = let k = flush_refused old.state e why new.state h in (λ i. record { state = k i; lists = l i })
-
 -- ---- a refusal whose entry has no room
 
-pub no_room : (a : Result Ended RefusedEnd) (room : Bool) (x : RefusedEnd) → OrFull a room (Err x) → (e : RefusedEnd) × (a ≡ Err e) × (x ≡ record { refusal = TrailFull; finished = e.finished }) × (room ≡ false)
+pub no_room : (a : Result Ended RefusedEnd) (room : Bool) (x : RefusedEnd) → OrFull a room (Err x)
+    → (e : RefusedEnd) × (a ≡ Err e) × (x ≡ record { refusal = TrailFull; finished = e.finished }) × (room ≡ false)
 no_room (Err e) false x h = (e, refl, cc, refl)
 no_room (Err e) true x h = absurd cc
 no_room (Ok e) room x h = absurd cc
 
-pub has_its_room : (a : Result Ended RefusedEnd) (room : Bool) (b : Result Ended RefusedEnd) → OrFull a room (Ok b) → (b ≡ a) × ((x : RefusedEnd) → a ≡ Err x → room ≡ true)
+pub has_its_room : (a : Result Ended RefusedEnd) (room : Bool) (b : Result Ended RefusedEnd) → OrFull a room (Ok b)
+    → (b ≡ a) × ((x : RefusedEnd) → a ≡ Err x → room ≡ true)
 has_its_room (Err e) true b h = (cc, λ x k. refl)
 has_its_room (Err e) false b h = absurd cc
 has_its_room (Ok e) room b h = let is : b ≡ Ok e = cc in (is, λ x k. absurd cc)
 
-bare_end : (a : Result Ended RefusedEnd) → reply_with (flush_ended a) [] ≡ flush_ended a
-bare_end (Ok (ended.Dropped b)) = refl
-bare_end (Ok (ended.Failed code b)) = refl
-bare_end (Ok (ended.Done b)) = refl
-bare_end (Err e) = refl
-
-pub twice : (o : Outcome) → outcome_with (outcome_with o []) [] ≡ outcome_with o []
-twice (outcome.Ok bytes) = refl
-twice (outcome.Fault c) = refl
-
 -- what an end needs: nothing where its request is in flight, else an entry, and it is refused then
 abbrev pub EndNeeds : ℕ → Result Ended RefusedEnd → Type 0
-EndNeeds need a = ((need ≡ 0) × ((x : RefusedEnd) → a ≡ Err x → ⊥)) ⊎ ((need ≡ 1) × ((x : RefusedEnd) × (a ≡ Err x)))
+EndNeeds need a =
+    ((need ≡ 0) × ((x : RefusedEnd) → a ≡ Err x → ⊥)) ⊎ ((need ≡ 1) × ((x : RefusedEnd) × (a ≡ Err x)))
 
-refused_is : (a : Result Ended RefusedEnd) → flush_ended a ≡ reply.Refused Stranger → (x : RefusedEnd) × (a ≡ Err x)
-refused_is (Ok (ended.Dropped b)) e = absurd cc
-refused_is (Ok (ended.Failed code b)) e = absurd cc
-refused_is (Ok (ended.Done b)) e = absurd cc
-refused_is (Err x) e = (x, refl)
+pub end_needs : (s : State) (kind : Kind) (e : End) (a : Result Ended RefusedEnd) (new : State)
+    → Step s (event.End kind e) (ended_as kind a) new → EndNeeds (event_need s (event.End kind e)) a
+end_needs s kind e a new h = elim (of_end s kind e (ended_as kind a) new h) [
+  | inl x ↦ inr (ap need_of_end x.0, is_refused kind a x.1)
+  | inr x ↦ inl (
+    ap need_of_end x.untested,
+    λ y is.
+        (let k : true ≡ false = sym (refused_quiet kind y) ∙ ap (λ b. is_quiet (ended_as kind b)) (sym is)
+        ∙ end_loud (Some x.x) e.outcome (ended_as kind a) x.reply in cc),
+  )
+]
 
-pub flush_needs : (s : State) (e : End) (a : Result Ended RefusedEnd) (new : State) → Step s (event.FlushEnd e) (flush_ended a) new → EndNeeds (event_need s (event.FlushEnd e)) a
-flush_needs s e a new h = elim (answered (end_tests s Flush e) (flush_ended a) s new (FlushEndReply s e.serial.0 (finmap.get s.requests e.serial.0) e.outcome (flush_ended a) new) h) [
-  | inl x ↦ inr (ap (λ o. cond (is_some o) 1 0) x.0, refused_is a (ends s Flush e (flush_ended a) x.0))
-  | inr x ↦ inl (ap (λ o. cond (is_some o) 1 0) x.0, λ y is. no_refusal s e.serial.0 (finmap.get s.requests e.serial.0) e.outcome y.refusal new (subst (λ b. FlushEndReply s e.serial.0 (finmap.get s.requests e.serial.0) e.outcome (flush_ended b) new) is x.1))
+-- an end that needs nothing isn't refused
+pub none_refused : (need : ℕ) (a : Result Ended RefusedEnd) → EndNeeds need a → need ≡ 0 → (x : RefusedEnd)
+    → a ≡ Err x → ⊥
+none_refused need a h none x is = elim h [
+  | inl n ↦ n.1 x is
+  | inr n ↦ absurd (let k : need ≡ 1 = n.0 in omega arith)
 ]
 
 -- so there is room for it, but where it is refused without room
-module _ (old : LogSeen) (core : State) (v : Reserve) (page : ℕ) (i : IsHeld old core v page) (e : Event) (a : Result Ended RefusedEnd) (bytes : byte_need core e ≡ 0) (needs : EndNeeds (event_need core e) a) where
-  pub end_has_room : (room : Bool) → room ≡ fits_beside old.room page v 1 0 → ((x : RefusedEnd) → a ≡ Err x → room ≡ true) → has_room old.room (reserved core) core e ≡ true
+module _ (old : LogSeen) (core : State) (v : Reserve) (page : ℕ) (i : IsHeld old core v page) (e : Event)
+    (a : Result Ended RefusedEnd) (bytes : byte_need core e ≡ 0) (needs : EndNeeds (event_need core e) a) where
+  pub end_has_room : (room : Bool) → room ≡ fits_beside old.room page v 1 0
+      → ((x : RefusedEnd) → a ≡ Err x → room ≡ true) → has_room old.room (reserved core) core e ≡ true
   end_has_room room is kept = end_room old core v page e i bytes (elim needs [
     | inl n ↦ inl n.0
     | inr n ↦ inr (n.0, sym is ∙ kept n.1.0 n.1.1)
   ])
 
-  pub end_is_full : (room : Bool) → room ≡ fits_beside old.room page v 1 0 → (x : RefusedEnd) → a ≡ Err x → room ≡ false → has_room old.room (reserved core) core e ≡ false
+  pub end_is_full : (room : Bool) → room ≡ fits_beside old.room page v 1 0 → (x : RefusedEnd) → a ≡ Err x
+      → room ≡ false → has_room old.room (reserved core) core e ≡ false
   end_is_full room is x err none = elim needs [
     | inl n ↦ absurd (n.1 x err)
     | inr n ↦ sym (room_is old core v page 1 0 e room i is n.0 bytes) ∙ none
   ]
 
-module _ (old new : LogSeen) (core next : State) (v w : Reserve) (page : ℕ) (before after : SeatSeen) (slip : Slip) (i : IsHeld old core v page) (room : new.room ≡ less old.room 0) where
-  pub flush_end_went : (e without : End) (a : Result Ended RefusedEnd) (r : Reply) → has_room old.room (reserved core) core (event.FlushEnd e) ≡ true → without ≡ end_with e [] → Step core (event.FlushEnd e) (flush_ended a) next → r ≡ flush_ended a
-      → ((d : End) → w ≡ reserved_after (event.FlushEnd d) r v) → Entered (entry_with (record { seat = before.number; event = event.FlushEnd without; reply = r }) []) old new before after slip → Went old new core next w page before after slip (event.FlushEnd e) (flush_ended a)
+-- ---- the entry of a flush's end, which has no bytes
+
+pub twice : (o : Outcome) → outcome_with (outcome_with o []) [] ≡ outcome_with o []
+twice (outcome.Read b) = refl
+twice (outcome.Fault c) = refl
+twice outcome.Written = refl
+
+written_bare : (o : Outcome) → fits Flush o ≡ true → outcome_with (outcome_with o []) [] ≡ o
+written_bare (outcome.Read b) e = absurd cc
+written_bare (outcome.Fault c) e = refl
+written_bare outcome.Written e = refl
+
+bare_reply : (a : Result Ended RefusedEnd) → reply_with (flush_ended a) [] ≡ flush_ended a
+bare_reply (Ok (ended.Dropped b)) = refl
+bare_reply (Ok (ended.Failed code b)) = refl
+bare_reply (Ok (ended.Done b)) = refl
+bare_reply (Err e) = refl
+
+flush_event : (e : End) (a : Result Ended RefusedEnd) → ((b : Ended) → a ≡ Ok b → fits Flush e.outcome ≡ true)
+    → event.End Flush (end_with (end_with e []) []) ≡ noted (event.End Flush e) (flush_ended a)
+flush_event e (Ok (ended.Dropped b)) fit i =
+    event.End Flush (record e { outcome = written_bare e.outcome (fit (ended.Dropped b) refl) i })
+flush_event e (Ok (ended.Failed c b)) fit i =
+    event.End Flush (record e { outcome = written_bare e.outcome (fit (ended.Failed c b) refl) i })
+flush_event e (Ok (ended.Done b)) fit i =
+    event.End Flush (record e { outcome = written_bare e.outcome (fit (ended.Done b) refl) i })
+flush_event e (Err x) fit i = event.End Flush (record e { outcome = twice e.outcome i })
+
+module _ (old new : LogSeen) (core next : State) (v w : Reserve) (page : ℕ) (before after : SeatSeen) (slip : Slip)
+    (i : IsHeld old core v page) (room : new.room ≡ less old.room 0) where
+  pub flush_end_went : (e without : End) (a : Result Ended RefusedEnd) (r : Reply)
+      → has_room old.room (reserved core) core (event.End Flush e) ≡ true → without ≡ end_with e []
+      → Step core (event.End Flush e) (flush_ended a) next → r ≡ flush_ended a
+      → ((d : End) → w ≡ reserved_after (event.End Flush d) r v)
+      → Entered (entry_with (record { seat = before.number; event = event.End Flush without; reply = r }) []) old new
+      before after slip
+      → Went old new core next w page before after slip (event.End Flush e) (flush_ended a)
   flush_end_went e without a r has none s is reserve entered =
-      let ends : end_with without [] ≡ end_with e [] = ap (λ x. end_with x []) none ∙ (λ j. record e { outcome = twice e.outcome j }) in
-      went old new core next v w page before after slip (event.FlushEnd e) (flush_ended a) _ 0 i has (none_needed _) tt
-      (λ j. record { seat = before.number; event = event.FlushEnd (ends j); reply = (ap (λ x. reply_with x []) is ∙ bare_end a) j }) (as_steps core next (event.FlushEnd e) (flush_ended a) s) entered room (reserve e ∙ ap (λ x. reserved_after (event.FlushEnd e) x v) is)
+      let entry : Entry = record { seat = before.number; event = event.End Flush without; reply = r } in
+      let same : entry_with entry [] ≡ entry_of before.number (event.End Flush e) (flush_ended a) = (λ j. record {
+        seat = before.number;
+        event = (ap (λ x. event.End Flush (end_with x [])) none ∙ flush_event e a (taken core Flush e a next s)) j;
+        reply = (ap (λ x. reply_with x []) is ∙ bare_reply a) j;
+      }) in
+      went old new core next v w page before after slip (event.End Flush e) (flush_ended a) _ 0 i has (none_needed _)
+      same (none_in entry _ same) s entered room (reserve e ∙ ap (λ x. reserved_after (event.End Flush e) x v) is)
 
 -- ---- what is recorded
 
-pub records : (s : State) (e : End) (a : Result Ended RefusedEnd) (receipt : Option ReceiptSeen) (old new : RecorderSeen) → IsRecorded old (flush_of s e.serial.0) a receipt new → Records s (event.FlushEnd e) (flush_ended a) old new
+pub records : (s : State) (e : End) (a : Result Ended RefusedEnd) (receipt : Option ReceiptSeen)
+    (old new : RecorderSeen) → IsRecorded old (flush_of s e.serial.0) a receipt new
+    → Records s (event.End Flush e) (flush_ended a) old new
 records s e a receipt old new h = go (flush_of s e.serial.0) a receipt refl h
   where
-    go : (o : Option ℕ) (b : Result Ended RefusedEnd) (k : Option ReceiptSeen) → flush_of s e.serial.0 ≡ o → IsRecorded old o b k new → Records s (event.FlushEnd e) (flush_ended b) old new
+    go : (o : Option ℕ) (b : Result Ended RefusedEnd) (k : Option ReceiptSeen) → flush_of s e.serial.0 ≡ o
+        → IsRecorded old o b k new → Records s (event.End Flush e) (flush_ended b) old new
     go (Some f) (Ok (ended.Failed code b)) (Some x) is h = (f, is, h.0, h.1)
     go None (Ok (ended.Failed code b)) k is h = absurd h
     go (Some f) (Ok (ended.Failed code b)) None is h = absurd h

@@ -1,7 +1,6 @@
-pub mod Prefixes
 pub mod Keeps
 pub mod Rooms
-pub mod Tied
+pub mod Sizes
 pub mod Holds
 pub mod Calls
 pub mod Writes

@@ -2,7 +2,7 @@
 use Rattle.std.proofs.Common.{◌≡◌, ℕ, true, arith}
 use Rattle.std.specs.Prelude.{Option, Some, None, nat_le, ◌&&◌}
 use Rattle.std.proofs.lemmas.Bool.Decides.{nat_tests}
-use Rattle.cachecore.proofs.Choices.{and_true}
+use Rattle.machine.proofs.steps.Choices.{and_true}
 use Rattle.trail.specs.Room.{Room, fits, fits_bytes}
 
 pub fits_entry : (room : Room) (b : ℕ) → fits room 1 b ≡ true → fits room 1 0 ≡ true

@@ -7,7 +7,7 @@ use Rattle.errboard.specs.Shown.{RecorderSeen}
 use Rattle.trail.specs.Room.{Room}
 use Rattle.trail.specs.declared.entry.Entry.{Entry}
 use Rattle.held.specs.declared.views.View.{View}
-use Rattle.held.specs.declared.views.View.TheVariants.{Spent, Keeper, Holds, Seat}
+use Rattle.held.specs.declared.views.View.TheVariants.{Keeper, Holds, Seat}
 
 -- the table of a history, the name of its cache, its entries, the room that is left, and how many seats it made
 pub record LogSeen : Type 0 where
@@ -23,7 +23,8 @@ pub record HeldSeen : Type 0 where
   pub core : Core
   pub errors : RecorderSeen
 
--- the table of a seat, the name of its state, its number, its list, a beginning of the trail, and how many entries it made
+-- the table of a seat, the name of its state, its number, its list (a beginning of the trail), and how many entries it
+-- made
 pub record SeatSeen : Type 0 where
   pub table : TableId
   pub name : ℕ

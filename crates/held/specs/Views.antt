@@ -1,7 +1,7 @@
 -- What the seats of a trail know, and how views are cut and joined.
-use Rattle.std.specs.Prelude.{◌≡◌, ℕ, ◌+◌, ◌==◌, List, [], ◌∷◌, if◌then◌else◌}
-use Rattle.cachecore.specs.declared.event.Event.TheVariants.{Age}
-use Rattle.cachecore.specs.declared.event.Reply.TheVariants.{Done}
+use Rattle.std.specs.Prelude.{ℕ, ◌+◌, ◌==◌, List, [], ◌∷◌, if◌then◌else◌}
+use Rattle.machine.specs.declared.event.Event.TheVariants.{Age}
+use Rattle.machine.specs.declared.event.Reply.TheVariants.{Done}
 use Rattle.trail.specs.declared.entry.Entry.{Entry}
 use Rattle.held.specs.declared.views.View.{View}
 use Rattle.held.specs.declared.views.View.TheVariants.{Spent, Keeper, Holds, Seat}

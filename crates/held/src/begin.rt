@@ -5,7 +5,7 @@ ghost use Rattle.pc_types.specs.declared.ids.FileId.{FileId};
 ghost use Rattle.pc_types.specs.declared.ids.HandleId.{HandleId};
 ghost use Rattle.pc_types.specs.declared.ids.PageIndex.{PageIndex};
 ghost use Rattle.pc_types.specs.declared.ids.SyncId as sync_id;
-ghost use Rattle.cachecore.specs.declared.event.Event.TheVariants as event;
+ghost use Rattle.machine.specs.declared.event.Event.TheVariants as event;
 ghost use Rattle.cachecore.specs.Replies.{fill_begun, flush_begun, sync_begun, sync_stepped};
 ghost use Rattle.trail.specs.Room.{reserved_after};
 
@@ -93,7 +93,7 @@ pub(crate) fn of_sync_begin(answer: &Result<SyncId, Refusal>) -> Reply
 /// A sync that has begun reserves an entry for its last step.
 pub(crate) fn reserve_sync(reserved: &mut Reserve, reply: &Reply)
     requires { reserved.old.others + 1 < 2 ^ 64 }
-    ensures { (h : HandleId) → reserved.new ≡ reserved_after (event.SyncBegin h) reply.now reserved.old }
+    ensures { (h : HandleId) (first last : PageIndex) → reserved.new ≡ reserved_after (event.SyncBegin h first last) reply.now reserved.old }
 {
     if let Reply::Sync(_) = reply {
         reserved.others += 1;

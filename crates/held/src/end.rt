@@ -3,18 +3,18 @@
 ghost use Rattle.std.specs.Prelude.{◌≡◌, ◌<◌, [], true, is_some, IfSome, Result, Err, option_map};
 ghost use Rattle.pc_types.specs.declared.ids.SyncId.{SyncId};
 ghost use Rattle.pc_types.specs.declared.limits.TheConstants.{MAX_FILES};
-ghost use Rattle.cachecore.specs.declared.event.End.{End};
-ghost use Rattle.cachecore.specs.declared.event.Event.TheVariants as event;
+ghost use Rattle.machine.specs.declared.event.End.{End};
+ghost use Rattle.machine.specs.declared.event.Event.TheVariants as event;
 ghost use Rattle.cachecore.specs.Replies.{end_of, fill_ended, flush_ended, sync_dropped};
 ghost use Rattle.held.specs.Ends.{DropOrFull, IsRecorded, OrFull, bytes_read_in, is_failed, went_well};
 ghost use Rattle.trail.specs.Entries.{end_with};
-ghost use Rattle.trail.specs.Room.{reserved_after};
+ghost use Rattle.trail.specs.Room.{end_used, reserved_after};
 
 use crate::bytes::no_bytes;
 use blockdev::Finished;
 use cachecore::{End as Ending, Ended, Outcome, RefusedEnd, Reply};
 use errboard::{Receipt, Recorder};
-use pc_types::{FileId, Refusal};
+use pc_types::{FileId, Kind, Refusal};
 use std::alloc::Global;
 use trail::Reserve;
 
@@ -22,9 +22,10 @@ use trail::Reserve;
 pub(crate) fn end_without(finished: &Finished, alloc: Global) -> Ending
     ensures { result ≡ end_with (end_of finished.now) [] }
 {
-    let outcome = match finished.outcome() {
-        Ok(()) => Outcome::Ok(no_bytes(alloc)),
-        Err(code) => Outcome::Fault(code),
+    let outcome = match (finished.outcome(), finished.kind()) {
+        (Err(code), _) => Outcome::Fault(code),
+        (Ok(()), Kind::Fill) => Outcome::Read(no_bytes(alloc)),
+        (Ok(()), Kind::Flush) => Outcome::Written,
     };
     Ending {
         cache: finished.cache(),
@@ -68,15 +69,25 @@ pub(crate) fn of_flush_end(answer: &Result<Ended, RefusedEnd>) -> Reply
     }
 }
 
-/// A flush that has ended used what it had reserved.
-pub(crate) fn use_flush(reserved: &mut Reserve, reply: &Reply)
-    ensures { (e : End) → reserved.new ≡ reserved_after (event.FlushEnd e) reply.now reserved.old }
+/// A request that has ended used what it had reserved.
+pub(crate) fn use_end(reserved: &mut Reserve, kind: Kind, reply: &Reply)
+    ensures { (e : End) → reserved.new ≡ reserved_after (event.End kind e) reply.now reserved.old }
 {
     match reply {
-        Reply::Written => reserved.others = reserved.others.saturating_sub(1),
-        Reply::Failed(_) => reserved.others = reserved.others.saturating_sub(1),
-        Reply::Dropped => reserved.others = reserved.others.saturating_sub(1),
+        Reply::Filled => use_one(reserved, kind),
+        Reply::Written => use_one(reserved, kind),
+        Reply::Failed(_) => use_one(reserved, kind),
+        Reply::Dropped => use_one(reserved, kind),
         _ => {}
+    }
+}
+
+fn use_one(reserved: &mut Reserve, kind: Kind)
+    ensures { reserved.new ≡ end_used kind reserved.old }
+{
+    match kind {
+        Kind::Fill => reserved.fills = reserved.fills.saturating_sub(1),
+        Kind::Flush => reserved.others = reserved.others.saturating_sub(1),
     }
 }
 
@@ -115,18 +126,6 @@ pub(crate) fn of_fill_end(answer: &Result<Ended, RefusedEnd>) -> Reply
         Ok(Ended::Failed(code, _)) => Reply::Failed(*code),
         Ok(Ended::Done(_)) => Reply::Filled,
         Err(refused) => Reply::Refused(refused.refusal),
-    }
-}
-
-/// A fill that has ended used what it had reserved.
-pub(crate) fn use_fill(reserved: &mut Reserve, reply: &Reply)
-    ensures { (e : End) → reserved.new ≡ reserved_after (event.FillEnd e) reply.now reserved.old }
-{
-    match reply {
-        Reply::Filled => reserved.fills = reserved.fills.saturating_sub(1),
-        Reply::Failed(_) => reserved.fills = reserved.fills.saturating_sub(1),
-        Reply::Dropped => reserved.fills = reserved.fills.saturating_sub(1),
-        _ => {}
     }
 }
 

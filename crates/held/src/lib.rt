@@ -11,4 +11,6 @@ pub mod state;
 mod steps;
 #[cfg(test)]
 mod tests;
+#[cfg(test)]
+mod trail_tests;
 pub mod views;

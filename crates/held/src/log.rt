@@ -9,7 +9,7 @@ ghost use Rattle.held.specs.declared.views.View.TheVariants.{Keeper};
 ghost use Rattle.held.specs.Entered.{Entered};
 ghost use Rattle.trail.specs.Entries.{entry_with};
 ghost use Rattle.trail.specs.Room.{fits, fits_beside, less};
-ghost use Rattle.held.specs.Shown.{IsKeeper, all_of};
+ghost use Rattle.held.specs.Shown.{AreFresh, IsFresh, IsKeeper, all_of};
 ghost use Rattle.held.specs.Steps.{IsAt, Stays};
 ghost use Rattle.held.specs.Views.{count_of};
 
@@ -36,7 +36,7 @@ pub(crate) struct Log<T: Trail> {
 }
 
 impl<T: Trail> Model for Log<T> {
-    ghost use Rattle.std.specs.Prelude.{◌≡◌, []};
+    ghost use Rattle.std.specs.Prelude.{◌≡◌, [], Some};
     ghost use Rattle.std.specs.Arc.{arc_value};
     ghost use Rattle.held.specs.declared.views.View.TheVariants.{Keeper};
     ghost use Rattle.held.specs.Shown.{LogSeen, all_of};
@@ -48,7 +48,8 @@ impl<T: Trail> Model for Log<T> {
     ghost invariant = { λ h.
         ((arc_value h.count).shared.table_id ≡ h.keeper.table_id) × (h.keeper.table_id.words ≡ 1)
         × (h.keeper.me ≡ (Keeper (all_of h.keeper.me.0) h.made, []))
-        × T.records h.trail (all_of h.keeper.me.0) };
+        × T.records h.trail (all_of h.keeper.me.0)
+        × (T.cache h.trail ≡ Some h.name) };
 }
 
 /// A caller's seat: what it has seen of the history.
@@ -127,51 +128,32 @@ impl<T: Trail> Log<T> {
         self.trail.has_room(page, reserved, events, bytes)
     }
 
-    /// The history of the cache of this name, without entries and seats.
-    pub(crate) fn new(alloc: Global, name: u64, mut trail: T) -> Result<Log<T>, (AllocError, T)>
-        ensures name { IfOk result (λ h. h.name ≡ name) }
-        ensures empty { IfOk result (λ h. (h.history ≡ []) × (h.made ≡ 0)) }
-        ensures room { IfOk result (λ h. h.room ≡ T.whole trail) }
+    /// The history of the cache of this name, without entries, its seats, numbered from 0, and one more. All memory is taken before
+    /// the trail is begun, so that one that comes back is as it was.
+    pub(crate) fn new(
+        alloc: Global,
+        name: u64,
+        mut trail: T,
+        seats: u64,
+    ) -> Result<(Log<T>, Vec<Seat>, Seat), T>
+        requires { seats ≤ 64 }
+        ensures log { IfOk result (λ r. (r.0.name ≡ name) × (r.0.history ≡ []) × (r.0.room ≡ T.whole trail) × (r.0.made ≡ seats + 1)) }
+        ensures seats { IfOk result (λ r. (vec_len r.1 ≡ seats) × AreFresh r.0.table name r.1.items) }
+        ensures own { IfOk result (λ r. IsFresh r.0.table name r.2 seats) }
+        ensures back { IfErr result (λ t. t ≡ trail) }
     {
-        let Ok((count, keeper)) = opened(alloc) else {
-            return Err((AllocError, trail));
+        let Ok((count, keeper, all, own)) = opened(alloc, name, seats) else {
+            return Err(trail);
         };
         trail.begin(name);
-        Ok(Log {
+        let log = Log {
             name,
             count,
             keeper,
-            made: 0,
+            made: seats + 1,
             trail,
-        })
-    }
-
-    /// A new seat, of the next number.
-    pub(crate) fn seat(&mut self) -> Result<Seat, AllocError>
-        requires made { self.old.made < 65 }
-        requires empty { self.old.history ≡ [] }
-        ensures err { OnErr result (self.new ≡ self.old) }
-        ensures same { (self.new.table ≡ self.old.table) × (self.new.name ≡ self.old.name) × (self.new.history ≡ self.old.history) × (self.new.room ≡ self.old.room) }
-        ensures made { OnOk result (self.new.made ≡ self.old.made + 1) }
-        ensures seat { IfOk result (λ s. (s.table ≡ self.old.table) × (s.name ≡ self.old.name) × (s.number ≡ self.old.made) × (s.list ≡ self.old.history) × (s.count ≡ 0)) }
-    {
-        let Log {
-            name,
-            count,
-            keeper,
-            made,
-            ..
-        } = self;
-        let again = Arc::try_clone(count)?;
-        let stand = give_seat(&count.shared, keeper);
-        let number = *made;
-        *made += 1;
-        Ok(Seat {
-            name: *name,
-            number,
-            count: again,
-            stand,
-        })
+        };
+        Ok((log, all, own))
     }
 
     pub(crate) fn name(&self) -> u64
@@ -192,6 +174,7 @@ impl<T: Trail> Log<T> {
         requires came { All (λ s. s.table ≡ self.table) seats.items }
         requires own { own.table ≡ self.table }
         ensures trail { T.records result self.history }
+        ensures cache { T.cache result ≡ Some self.name }
         ensures own { IsPrefix own.list self.history × (own.count ≡ count_of own.number self.history) }
         ensures seats { All (λ s. IsPrefix s.list self.history × (s.count ≡ count_of s.number self.history)) seats.items }
     {
@@ -244,14 +227,56 @@ impl Seat {
     }
 }
 
-fn opened(alloc: Global) -> Result<(Arc<Owned, Global>, Stand), AllocError>
-    ensures { IfOk result (λ r. ((arc_value r.0).shared.table_id ≡ r.1.table_id) × (r.1.table_id.words ≡ 1) × (r.1.me ≡ (Keeper [] 0, []))) }
+/// The table of an empty history: its side of the trail, its seats, numbered from 0, and one more.
+fn opened(
+    alloc: Global,
+    name: u64,
+    seats: u64,
+) -> Result<(Arc<Owned, Global>, Stand, Vec<Seat>, Seat), AllocError>
+    requires { seats ≤ 64 }
+    ensures table { IfOk result (λ r. ((arc_value r.0).shared.table_id ≡ r.1.table_id) × (r.1.table_id.words ≡ 1)) }
+    ensures keeper { IfOk result (λ r. r.1.me ≡ (Keeper [] (seats + 1), [])) }
+    ensures seats { IfOk result (λ r. (vec_len r.2 ≡ seats) × AreFresh r.1.table_id name r.2.items) }
+    ensures own { IfOk result (λ r. IsFresh r.1.table_id name r.3 seats) }
 {
-    let (table, keeper) = Table::<u8, View, (), InOneOrder, Global>::of_words(alloc, &[0], &())?;
+    let (table, mut keeper) = Table::<u8, View, (), InOneOrder, Global>::of_words(
+        alloc,
+        &[0],
+        &(),
+    )?;
     let Ok(count) = Arc::new(alloc, table) else {
         return Err(AllocError);
     };
-    Ok((count, keeper))
+    let mut all = Vec::new(alloc);
+    for number in 0..seats {
+        let seat = new_seat(&count, &mut keeper, name, number)?;
+        all.push(seat)?;
+    }
+    let own = new_seat(&count, &mut keeper, name, seats)?;
+    Ok((count, keeper, all, own))
+}
+
+// A seat of the next number.
+fn new_seat(
+    count: &Arc<Owned, Global>,
+    keeper: &mut Stand,
+    name: u64,
+    number: u64,
+) -> Result<Seat, AllocError>
+    requires at { IsAt (arc_value count.now).shared.table_id keeper.old }
+    requires next { keeper.old.me ≡ (Keeper [] number, []) }
+    ensures same { OnOk result (Stays keeper.old keeper.new) }
+    ensures made { OnOk result (keeper.new.me ≡ (Keeper [] (number + 1), [])) }
+    ensures seat { IfOk result (λ s. IsFresh keeper.old.table_id name s number) }
+{
+    let again = Arc::try_clone(count)?;
+    let stand = give_seat(&count.shared, keeper);
+    Ok(Seat {
+        name,
+        number,
+        count: again,
+        stand,
+    })
 }
 
 pub(crate) fn are_named(seats: &Vec<Seat>, name: u64) -> bool

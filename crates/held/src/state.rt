@@ -5,17 +5,20 @@ ghost use mathlib.Core.List.{IsPrefix};
 ghost use Rattle.errboard.specs.Views.{files, recorded_of, start_of};
 ghost use Rattle.errseq.specs.Samples.{StandsFor, Owes, done_at};
 ghost use Rattle.errseq.specs.Word.{sample_of};
-ghost use Rattle.trail.specs.History.{IsAfter};
+ghost use Rattle.trail.specs.History.{After};
 ghost use Rattle.held.specs.Shown.{AreFresh, IsFresh};
 ghost use Rattle.held.specs.Views.{count_of};
-ghost use Rattle.cachecore.specs.declared.event.Event.TheVariants as event;
+ghost use Rattle.machine.specs.declared.event.Event.TheVariants as event;
 ghost use Rattle.blockdev.specs.Jobs.{IsJobFor};
-ghost use Rattle.cachecore.specs.Replies.{EndGivesBack, end_of, fill_ended, flush_ended, sync_begun, sync_dropped, FlushGivesBack, FlushStep, GivesBack, IsFillJob, OnFillJob, OnFlushJob, OnSyncJob, SyncAdvance, SyncGivesBack, bytes_read, fill_begun, flush_begun, sync_stepped, was_read, wrote};
-ghost use Rattle.cachecore.specs.Step.{Step};
-ghost use Rattle.held.specs.Calls.{event_of, reply_of};
+ghost use Rattle.cachecore.specs.Replies.{EndGivesBack, end_of, fill_ended, flush_ended, sync_begun, sync_dropped, FlushGivesBack, GivesBack, IsFillJob, IsFlushJob, IsSyncJob, OnFillJob, OnFlushJob, OnSyncJob, SyncGivesBack, bytes_read, fill_begun, flush_begun, sync_stepped, was_read, wrote};
+ghost use Rattle.machine.specs.Tests.{tests};
+ghost use Rattle.trail.specs.Room.{keeps_room, reserved};
+ghost use Rattle.held.specs.Calls.{ByLists, IsAnswerOf, event_of, reply_of};
 ghost use Rattle.held.specs.Entered.{Made, Untouched, has_room_for};
 ghost use Rattle.cachecore.specs.Flushing.{flush_of};
 ghost use Rattle.held.specs.Ends.{IsRecorded};
+ghost use Rattle.pc_types.specs.declared.kind.Kind.TheVariants.{Fill, Flush};
+ghost use Rattle.pc_types.specs.declared.limits.TheConstants.{LAST_PAGE};
 ghost use Rattle.pc_types.specs.declared.refusal.Refusal.TheVariants.{BadConfig, Memory, NoSuchFile, Stranger, TrailFull};
 
 use crate::begin::{
@@ -26,7 +29,7 @@ use crate::bytes::{no_bytes, of_read, of_write};
 use crate::call::{Answer, Call, make};
 use crate::end::{
     bytes_of, drop_or_full, end_without, is_well, of_fill_end, of_flush_end, of_sync_drop, or_full,
-    record, use_fill, use_flush, use_sync,
+    record, use_end, use_sync,
 };
 use crate::log::{Log, Seat, Slip, are_all, are_named};
 use blockdev::{Buffer, Finished};
@@ -35,8 +38,9 @@ use cachecore::{
     WriteAnswer,
 };
 use errboard::{Board, Pass, Receipt, Recorder};
-use pc_types::{FileId, Geometry, HandleId, PageIndex, Refusal, SyncId};
-use std::alloc::{AllocError, Global};
+use pc_types::limits::LAST_PAGE;
+use pc_types::{FileId, Geometry, HandleId, Kind, PageIndex, Refusal, SyncId};
+use std::alloc::Global;
 use std::marker::Model;
 use trail::{Reserve, Trail};
 
@@ -74,6 +78,8 @@ impl<T: Trail> Held<T> {
         ensures full { IsErr result ↔ (has_room_for self.old (event_of call) ≡ false) }
         ensures err { IfErr result (λ e. (e ≡ TrailFull) × Untouched self.old self.new seat.old seat.new) }
         ensures made { IfOk result (λ r. Made (event_of call) (reply_of r.0) self.old self.new seat.old seat.new r.1) }
+        ensures kind { IfOk result (λ r. IsAnswerOf call r.0) }
+        ensures picked { IfOk result (λ r. ByLists self.old.core call r.0) }
     {
         let Held {
             core,
@@ -233,7 +239,7 @@ impl<T: Trail> Held<T> {
         ensures full { IsErr result ↔ (has_room_for self.old (event.FlushBegin file) ≡ false) }
         ensures err { IfErr result (λ e. (e.refusal ≡ TrailFull) × (e.buffer ≡ buffer) × Untouched self.old self.new seat.old seat.new) }
         ensures made { IfOk result (λ r. Made (event.FlushBegin file) (flush_begun r.0) self.old self.new seat.old seat.new r.1) }
-        ensures job { IfOk result (λ r. FlushStep self.old.core.state file.0 r.0 self.new.core.state) }
+        ensures job { IfOk result (λ r. IsFlushJob self.new.core.state r.0) }
         ensures fits { IfOk result (λ r. OnFlushJob r.0 (IsJobFor self.old.core.state.name self.old.core.state.sizes.blocks self.old.core.state.sizes.page)) }
         ensures back { IfOk result (λ r. FlushGivesBack buffer r.0) }
     {
@@ -267,7 +273,7 @@ impl<T: Trail> Held<T> {
         ensures full { IsErr result ↔ (has_room_for self.old (event.SyncStep sync) ≡ false) }
         ensures err { IfErr result (λ e. (e.refusal ≡ TrailFull) × (e.buffer ≡ buffer) × Untouched self.old self.new seat.old seat.new) }
         ensures made { IfOk result (λ r. Made (event.SyncStep sync) (sync_stepped r.0) self.old self.new seat.old seat.new r.1) }
-        ensures job { IfOk result (λ r. SyncAdvance self.old.core.state sync.0 r.0 self.new.core.state) }
+        ensures job { IfOk result (λ r. IsSyncJob self.new.core.state r.0) }
         ensures fits { IfOk result (λ r. OnSyncJob r.0 (IsJobFor self.old.core.state.name self.old.core.state.sizes.blocks self.old.core.state.sizes.page)) }
         ensures back { IfOk result (λ r. SyncGivesBack buffer r.0) }
     {
@@ -296,9 +302,10 @@ impl<T: Trail> Held<T> {
         finished: Finished,
     ) -> Result<(Result<Ended, RefusedEnd>, Option<Receipt>, Slip), RefusedEnd>
         requires { seat.old.table ≡ self.old.log.table }
-        ensures full { IsErr result ↔ (has_room_for self.old (event.FlushEnd (end_of finished)) ≡ false) }
+        ensures full { IsErr result ↔ (has_room_for self.old (event.End Flush (end_of finished)) ≡ false) }
+        ensures in_flight { tests self.old.core.state (event.End Flush (end_of finished)) ≡ None → IsOk result }
         ensures err { IfErr result (λ e. (e.refusal ≡ TrailFull) × (e.finished ≡ finished) × Untouched self.old self.new seat.old seat.new) }
-        ensures made { IfOk result (λ r. Made (event.FlushEnd (end_of finished)) (flush_ended r.0) self.old self.new seat.old seat.new r.2) }
+        ensures made { IfOk result (λ r. Made (event.End Flush (end_of finished)) (flush_ended r.0) self.old self.new seat.old seat.new r.2) }
         ensures receipt { IfOk result (λ r. IsRecorded self.old.errors (flush_of self.old.core.state finished.serial) r.0 r.1 self.new.errors) }
         ensures back { IfOk result (λ r. EndGivesBack finished r.0) }
     {
@@ -319,8 +326,8 @@ impl<T: Trail> Held<T> {
             Err(refused) => return Err(refused),
         };
         let reply = of_flush_end(&answer);
-        use_flush(reserved, &reply);
-        let slip = log.enter(seat, Event::FlushEnd(end), reply, &[]);
+        use_end(reserved, Kind::Flush, &reply);
+        let slip = log.enter(seat, Event::End(Kind::Flush, end), reply, &[]);
         let receipt = record(recorder, file, &answer);
         Ok((answer, receipt, slip))
     }
@@ -333,9 +340,10 @@ impl<T: Trail> Held<T> {
     ) -> Result<(Result<Ended, RefusedEnd>, Slip), RefusedEnd>
         requires seat { seat.old.table ≡ self.old.log.table }
         requires size { length finished.bytes ≡ self.old.core.state.sizes.page }
-        ensures full { IsErr result ↔ (has_room_for self.old (event.FillEnd (end_of finished)) ≡ false) }
+        ensures full { IsErr result ↔ (has_room_for self.old (event.End Fill (end_of finished)) ≡ false) }
+        ensures in_flight { tests self.old.core.state (event.End Fill (end_of finished)) ≡ None → IsOk result }
         ensures err { IfErr result (λ e. (e.refusal ≡ TrailFull) × (e.finished ≡ finished) × Untouched self.old self.new seat.old seat.new) }
-        ensures made { IfOk result (λ r. Made (event.FillEnd (end_of finished)) (fill_ended r.0) self.old self.new seat.old seat.new r.1) }
+        ensures made { IfOk result (λ r. Made (event.End Fill (end_of finished)) (fill_ended r.0) self.old self.new seat.old seat.new r.1) }
         ensures back { IfOk result (λ r. EndGivesBack finished r.0) }
     {
         let Held {
@@ -355,9 +363,9 @@ impl<T: Trail> Held<T> {
             Err(refused) => return Err(refused),
         };
         let reply = of_fill_end(&answer);
-        use_fill(reserved, &reply);
+        use_end(reserved, Kind::Fill, &reply);
         let bytes = bytes_of(&answer, is_read);
-        let slip = log.enter(seat, Event::FillEnd(end), reply, bytes);
+        let slip = log.enter(seat, Event::End(Kind::Fill, end), reply, bytes);
         Ok((answer, slip))
     }
 
@@ -368,9 +376,25 @@ impl<T: Trail> Held<T> {
         handle: HandleId,
     ) -> Result<(Result<SyncId, Refusal>, Slip), Refusal>
         requires { seat.old.table ≡ self.old.log.table }
-        ensures full { IsErr result ↔ (has_room_for self.old (event.SyncBegin handle) ≡ false) }
+        ensures full { IsErr result ↔ (has_room_for self.old (event.SyncBegin handle (record { 0 = 0 }) (record { 0 = LAST_PAGE })) ≡ false) }
         ensures err { IfErr result (λ e. (e ≡ TrailFull) × Untouched self.old self.new seat.old seat.new) }
-        ensures made { IfOk result (λ r. Made (event.SyncBegin handle) (sync_begun r.0) self.old self.new seat.old seat.new r.1) }
+        ensures made { IfOk result (λ r. Made (event.SyncBegin handle (record { 0 = 0 }) (record { 0 = LAST_PAGE })) (sync_begun r.0) self.old self.new seat.old seat.new r.1) }
+    {
+        self.sync_begin_range(seat, handle, PageIndex(0), PageIndex(LAST_PAGE))
+    }
+
+    /// Begins a sync of the pages of the handle's file from `first` to `last`.
+    pub fn sync_begin_range(
+        &mut self,
+        seat: &mut Seat,
+        handle: HandleId,
+        first: PageIndex,
+        last: PageIndex,
+    ) -> Result<(Result<SyncId, Refusal>, Slip), Refusal>
+        requires { seat.old.table ≡ self.old.log.table }
+        ensures full { IsErr result ↔ (has_room_for self.old (event.SyncBegin handle first last) ≡ false) }
+        ensures err { IfErr result (λ e. (e ≡ TrailFull) × Untouched self.old self.new seat.old seat.new) }
+        ensures made { IfOk result (λ r. Made (event.SyncBegin handle first last) (sync_begun r.0) self.old self.new seat.old seat.new r.1) }
     {
         let Held {
             core,
@@ -382,10 +406,10 @@ impl<T: Trail> Held<T> {
         if !log.has_room(*page, reserved, 2, 0) {
             return Err(Refusal::TrailFull);
         }
-        let answer = core.sync_begin(handle);
+        let answer = core.sync_begin_range(handle, first, last);
         let reply = of_sync_begin(&answer);
         reserve_sync(reserved, &reply);
-        let slip = log.enter(seat, Event::SyncBegin(handle), reply, &[]);
+        let slip = log.enter(seat, Event::SyncBegin(handle, first, last), reply, &[]);
         Ok((answer, slip))
     }
 
@@ -397,6 +421,7 @@ impl<T: Trail> Held<T> {
     ) -> Result<(Result<(), Refusal>, Slip), Refusal>
         requires { seat.old.table ≡ self.old.log.table }
         ensures full { IsErr result ↔ (has_room_for self.old (event.SyncDrop sync) ≡ false) }
+        ensures in_progress { tests self.old.core.state (event.SyncDrop sync) ≡ None → IsOk result }
         ensures err { IfErr result (λ e. (e ≡ TrailFull) × Untouched self.old self.new seat.old seat.new) }
         ensures made { IfOk result (λ r. Made (event.SyncDrop sync) (sync_dropped r.0) self.old self.new seat.old seat.new r.1) }
     {
@@ -421,7 +446,12 @@ impl<T: Trail> Held<T> {
 
     /// The core, to be read.
     pub fn core(&self) -> &CacheCore
-        ensures { result.now ≡ self.now.core }
+        ensures core { result.now ≡ self.now.core }
+        ensures name { self.now.log.name ≡ self.now.core.state.name }
+        ensures legal { After self.now.core.state.sizes self.now.core.state.name self.now.log.history self.now.core.state }
+
+        // The trail has room for the end of all that is in flight.
+        ensures room { keeps_room self.now.log.room self.now.core.state.sizes.page (reserved self.now.core.state) ≡ true }
     {
         &self.core
     }
@@ -470,7 +500,8 @@ impl<T: Trail> Held<T> {
         requires own { own.name ≡ self.log.name → own.table ≡ self.log.table }
         ensures refused { IsErr result ↔ ((vec_len seats + 1 ≢ self.log.made) ⊎ Any (λ s. s.name ≢ self.log.name) seats.items ⊎ (own.name ≢ self.log.name)) }
         ensures err { IfErr result (λ e. (e.0 ≡ Stranger) × (e.1 ≡ self) × (e.2 ≡ seats) × (e.3 ≡ own)) }
-        ensures trail { IfOk result (λ r. T.records r.0 self.log.history × (r.1 ≡ self.core) × IsAfter self.log.history r.1.state) }
+        ensures trail { IfOk result (λ r. T.records r.0 self.log.history × (r.1 ≡ self.core) × After r.1.state.sizes r.1.state.name self.log.history r.1.state) }
+        ensures cache { IfOk result (λ r. T.cache r.0 ≡ Some self.log.name) }
         ensures seats { OnOk result (All (λ s. IsPrefix s.list self.log.history × (s.count ≡ count_of s.number self.log.history)) seats.items) }
         ensures own { OnOk result (IsPrefix own.list self.log.history × (own.count ≡ count_of own.number self.log.history)) }
     {
@@ -487,37 +518,42 @@ impl<T: Trail> Held<T> {
     }
 }
 
-impl<T: Trail + Drop> Held<T> {
-    ghost use Rattle.cachecore.specs.PageLists.{no_lists};
-    ghost use Rattle.trail.specs.History.{first_state};
+impl<T: Trail> Held<T> {
+    ghost use Rattle.machine.specs.PageLists.{no_lists};
+    ghost use Rattle.machine.specs.History.{no_files};
 
     /// A cache without files with its error board, seats numbered from 0 and one more seat. Refused by `BadConfig` where there is no seat
-    /// or more than 64, and else by want of memory.
+    /// or more than 64, and else by want of memory; the trail comes back then.
     pub fn new(
         alloc: Global,
         geometry: &Geometry,
         name: u64,
         trail: T,
         seats: u64,
-    ) -> Result<(Held<T>, Board, Vec<Seat>, Seat), Refusal>
+    ) -> Result<(Held<T>, Board, Vec<Seat>, Seat), (Refusal, T)>
+        ensures few { OnOk result ((0 < seats) × (seats ≤ 64)) }
+        ensures refused { IfErr result (λ e. e.0 ≡ (if nat_lt 0 seats && nat_le seats 64 then Memory else BadConfig)) }
+        ensures back { IfErr result (λ e. e.1 ≡ trail) }
         ensures log { IfOk result (λ r. (r.0.log.name ≡ name) × (r.0.log.history ≡ []) × (r.0.log.room ≡ T.whole trail) × (r.0.log.made ≡ seats + 1)) }
-        ensures core { IfOk result (λ r. r.0.core ≡ record { state = first_state geometry.now name; lists = no_lists }) }
+        ensures core { IfOk result (λ r. r.0.core ≡ record { state = no_files geometry.now name; lists = no_lists }) }
         ensures board { IfOk result (λ r. (r.0.errors.board ≡ r.1) × (r.0.errors.all ≡ replicate files [])) }
+        ensures words { IfOk result (λ r. (r.0.errors.opening ≡ replicate files 0) × (r.0.errors.words ≡ replicate files 0)) }
         ensures seats { IfOk result (λ r. (vec_len r.2 ≡ seats) × AreFresh r.0.log.table name r.2.items) }
         ensures own { IfOk result (λ r. IsFresh r.0.log.table name r.3 seats) }
-        ensures refused { IfErr result (λ e. e ≡ (if nat_lt 0 seats && nat_le seats 64 then Memory else BadConfig)) }
     {
         if seats == 0 || seats > MAX_SEATS {
-            return Err(Refusal::BadConfig);
+            return Err((Refusal::BadConfig, trail));
         }
-        let (board, recorder) = Board::new(alloc)?;
-        let core = CacheCore::new(alloc, geometry, name)?;
-        let Ok(log) = Log::new(alloc, name, trail) else {
-            return Err(Refusal::Memory);
+        let Ok((board, recorder)) = Board::new(alloc) else {
+            return Err((Refusal::Memory, trail));
         };
-        let mut log = log;
-        let all = seats_of(&mut log, alloc, seats)?;
-        let own = log.seat()?;
+        let Ok(core) = CacheCore::new(alloc, geometry, name) else {
+            return Err((Refusal::Memory, trail));
+        };
+        let (log, all, own) = match Log::new(alloc, name, trail, seats) {
+            Ok(opened) => opened,
+            Err(trail) => return Err((Refusal::Memory, trail)),
+        };
         let held = Held {
             core,
             log,
@@ -535,19 +571,3 @@ impl<T: Trail + Drop> Held<T> {
 
 /// How many seats a cache has at most, beside its own.
 const MAX_SEATS: u64 = 64;
-
-// New seats, numbered from 0.
-fn seats_of<T: Trail>(log: &mut Log<T>, alloc: Global, seats: u64) -> Result<Vec<Seat>, AllocError>
-    requires few { seats ≤ 64 }
-    requires fresh { (log.old.made ≡ 0) × (log.old.history ≡ []) }
-    ensures same { (log.new.table ≡ log.old.table) × (log.new.name ≡ log.old.name) × (log.new.history ≡ []) × (log.new.room ≡ log.old.room) }
-    ensures made { OnOk result (log.new.made ≡ seats) }
-    ensures seats { IfOk result (λ r. (vec_len r ≡ seats) × AreFresh log.old.table log.old.name r.items) }
-{
-    let mut all = Vec::new(alloc);
-    for _number in 0..seats {
-        let seat = log.seat()?;
-        all.push(seat)?;
-    }
-    Ok(all)
-}

@@ -11,16 +11,21 @@ use cachecore::{CacheCore, Ended, FillBegun, FlushBegun, ReadAnswer, SyncStepped
 use errboard::{Board, Receipt};
 use pc_types::{ErrCode, FileId, Geometry, HandleId, PageIndex, Refusal, SyncId};
 use std::alloc::Global;
+use std::mem::drop;
 use std::process::Abort;
 use std::test::*;
 use trail::{NoTrail, Trail};
 
-const FILE: FileId = FileId(0);
+pub(crate) const FILE: FileId = FileId(0);
 
-const HANDLE: HandleId = HandleId(0);
+pub(crate) const HANDLE: HandleId = HandleId(0);
 
 /// Makes the first file, and opens it.
-fn opens<T: Trail>(rt: &impl Abort, held: &mut Held<T>, seat: &mut Seat) -> Result<Slip, Refusal>
+pub(crate) fn opens<T: Trail>(
+    rt: &impl Abort,
+    held: &mut Held<T>,
+    seat: &mut Seat,
+) -> Result<Slip, Refusal>
     requires { seat.old.table ≡ held.old.log.table }
     ensures { (held.new.log.table ≡ held.old.log.table) × (seat.new.table ≡ seat.old.table) }
 {
@@ -32,7 +37,11 @@ fn opens<T: Trail>(rt: &impl Abort, held: &mut Held<T>, seat: &mut Seat) -> Resu
 }
 
 /// Writes aa at 0.
-fn writes<T: Trail>(rt: &impl Abort, held: &mut Held<T>, seat: &mut Seat) -> Result<Slip, Refusal>
+pub(crate) fn writes<T: Trail>(
+    rt: &impl Abort,
+    held: &mut Held<T>,
+    seat: &mut Seat,
+) -> Result<Slip, Refusal>
     requires { seat.old.table ≡ held.old.log.table }
     ensures { (held.new.log.table ≡ held.old.log.table) × (seat.new.table ≡ seat.old.table) }
 {
@@ -42,7 +51,7 @@ fn writes<T: Trail>(rt: &impl Abort, held: &mut Held<T>, seat: &mut Seat) -> Res
 }
 
 /// Reads aa at 0, by this handle.
-fn reads<T: Trail>(
+pub(crate) fn reads<T: Trail>(
     rt: &impl Abort,
     held: &mut Held<T>,
     seat: &mut Seat,
@@ -218,8 +227,21 @@ fn cuts(rt: &impl Abort, held: &mut Held<NoTrail>, seat: &mut Seat) -> Result<()
     Ok(())
 }
 
+// A pass is levelled and taken back.
+fn passes(rt: &impl Abort, held: &mut Held<NoTrail>, board: &Board) -> Result<(), Fail>
+    requires { held.old.errors.board ≡ board.now }
+{
+    let mut pass = held.pass(FILE)?;
+    assert!(rt; held.pass(FileId(64)).err() == Some(Refusal::NoSuchFile));
+    held.level(&mut pass);
+    assert!(rt; board.poll(&mut pass).is_none());
+    held.retire(pass);
+    Ok(())
+}
+
 #[derive(Clone, Copy)]
 enum Row {
+    Passes,
     Cuts,
     WritesAndFills,
     FailsAFlush,
@@ -238,6 +260,7 @@ fn run(
 {
     let mut device = ScriptDevice::new(alloc, 16, 64)?;
     match row {
+        Row::Passes => passes(rt, held, board),
         Row::Cuts => cuts(rt, held, seat),
         Row::WritesAndFills => writes_and_fills(rt, alloc, held, seat, &mut device),
         Row::FailsAFlush => fails_a_flush(rt, alloc, held, board, seat, &mut device),
@@ -248,8 +271,17 @@ fn run(
 /// Runs a row over a new cache, by the cache's own seat.
 fn over_no_trail(rt: &impl Abort, alloc: Global, row: Row) -> Result<(), Fail> {
     let geometry = Geometry::new(16, 48, 16, 64)?;
-    let (mut held, board, _seats, mut own) = Held::new(alloc, &geometry, 7, NoTrail::new(), 1)?;
-    run(rt, alloc, &mut held, &board, &mut own, row)
+    match Held::new(alloc, &geometry, 7, NoTrail::new(), 1) {
+        Ok((mut held, board, seats, mut own)) => {
+            let done = run(rt, alloc, &mut held, &board, &mut own, row);
+            drop(held);
+            drop(board);
+            drop(seats);
+            drop(own);
+            done
+        }
+        Err(_) => Err(Fail::new("a cache")),
+    }
 }
 
 #[test]
@@ -265,6 +297,11 @@ fn an_evicted_page_is_read_back(rt: HostRuntime) -> Result<(), Fail> {
 #[test]
 fn a_failed_flush_is_told_once(rt: HostRuntime) -> Result<(), Fail> {
     over_no_trail(&rt, rt.alloc(), Row::FailsAFlush)
+}
+
+#[test]
+fn a_pass_is_levelled(rt: HostRuntime) -> Result<(), Fail> {
+    over_no_trail(&rt, rt.alloc(), Row::Passes)
 }
 
 #[test]

@@ -14,13 +14,15 @@ use Rattle.pc_types.specs.Tags.{has}
 use Rattle.xarray.specs.declared.entry.Found.{Found}
 use Rattle.xarray.specs.declared.entry.Mark.{Mark}
 use Rattle.xarray.specs.declared.entry.Mark.TheVariants.{M0, M1, M2}
-use Rattle.xarray.specs.MarkedArray.{Range, Ranges, has_mark, with_mark, meets, entry_at, lowest, erased, remarked, is_any, is_marked, found_of}
-use Rattle.xarray.proofs.Singles.{AllSingle, entry_at-get, erased-remove, remarked-some, remarked-none}
+use Rattle.xarray.specs.declared.entry.Marked.{Marked}
+use Rattle.xarray.specs.declared.entry.Marks.{Marks}
+use Rattle.xarray.specs.MarkedArray.{Range, Ranges, has_mark, with_mark, with_marks, marks_of, marked_of, meets, entry_at, lowest, erased, given, remarked, is_any, is_marked, found_of}
+use Rattle.xarray.proofs.Singles.{AllSingle, entry_at-get, erased-remove, given-some, given-none, remarked-some, remarked-none}
 use Rattle.mapping.specs.declared.mapping.TheConstants.{MAX_PAGES}
 use Rattle.mapping.specs.declared.page.FoundPage.{FoundPage}
-use Rattle.mapping.specs.Pages.{IsNumbered, Mapped, Pages, frame_of, with_tag, put_some, change_at, within, is_tagged, found, untagged}
+use Rattle.mapping.specs.Pages.{IsNumbered, Mapped, Pages, frame_of, with_tag, with_tags, put_some, change_at, within, is_tagged, found, untagged}
 use Rattle.mapping.specs.Pages as pages
-use Rattle.mapping.specs.View.{tag_mark, page_of, pages_of, IsPage}
+use Rattle.mapping.specs.View.{tag_mark, tags_of, page_from, page_of, pages_of, IsPage}
 use Rattle.mapping.proofs.MapLemmas.{same_nat_map, get-insert_here, get-insert_there, get-remove_here, get-remove_there, remove_absent, find_same, find_key, get-each, find_each, len-le}
 use Rattle.mapping.proofs.MapLemmas as maps
 use Rattle.mapping.proofs.PageLemmas.{change_none, change_some}
@@ -90,8 +92,8 @@ entry_of m q page at = some_page page_of (finmap.get m q) page (sym (get-pages_o
 abbrev pub frame_id : ℕ → FrameId
 frame_id n = record { 0 = n }
 
-abbrev pub page_from : Found → FoundPage
-page_from f = record { page = record { 0 = f.first }; frame = record { 0 = f.value } }
+abbrev pub found_from : Found → FoundPage
+found_from f = record { page = record { 0 = f.first }; frame = record { 0 = f.value } }
 
 -- ---- where each entry is a page
 
@@ -138,6 +140,70 @@ module _ (m : Ranges) (each : (q : ℕ) (r : Range) → finmap.get m q ≡ Some 
           let was = each i old e in
           kept_insert m each i (with_mark (tag_mark tag) is old) (record { single = same_order tag is old ∙ was.single; framed = subst (λ n. n < 2 ^ 32) (sym (same_value tag is old)) was.framed; numbered = was.numbered }) q r (ap (λ z. finmap.get z q) (sym (remarked-some m singles i (tag_mark tag) is old e)) ∙ at)
 
+  pub pages_of-given : (i : ℕ) (marks : Marks) → pages_of (given m i marks) ≡ change_at i (with_tags (tags_of marks)) (pages_of m)
+  pages_of-given i marks = go (finmap.get m i) refl
+    where
+      go : (o : Option Range) → finmap.get m i ≡ o → pages_of (given m i marks) ≡ change_at i (with_tags (tags_of marks)) (pages_of m)
+      go None e = ap pages_of (given-none m singles i marks e) ∙ sym (change_none i (with_tags (tags_of marks)) (pages_of m) (get-pages_of m i ∙ ap (option_map page_of) e))
+      go (Some r) e =
+          ap pages_of (given-some m singles i marks r e) ∙ pages_of-insert m i (with_marks marks r)
+          ∙ sym (change_some i (with_tags (tags_of marks)) (pages_of m) (page_of r) (get-pages_of m i ∙ ap (option_map page_of) e))
+
+  pub kept_given : (i : ℕ) (marks : Marks) (q : ℕ) (r : Range) → finmap.get (given m i marks) q ≡ Some r → IsPage q r
+  kept_given i marks q r at = go (finmap.get m i) refl
+    where
+      go : (o : Option Range) → finmap.get m i ≡ o → IsPage q r
+      go None e = each q r (ap (λ z. finmap.get z q) (sym (given-none m singles i marks e)) ∙ at)
+      go (Some old) e =
+          let was = each i old e in
+          kept_insert m each i (with_marks marks old) (record { single = was.single; framed = was.framed; numbered = was.numbered }) q r (ap (λ z. finmap.get z q) (sym (given-some m singles i marks old e)) ∙ at)
+
+  -- what the array tells of an entry is the page
+  pub marked_page : (i : ℕ) → option_map page_from (option_map marked_of (entry_at m i)) ≡ finmap.get (pages_of m) i
+  marked_page i = ap (λ o. option_map page_from (option_map marked_of o)) (entry_at-get m singles i) ∙ go (finmap.get m i) ∙ sym (get-pages_of m i)
+    where
+      go : (o : Option Range) → option_map page_from (option_map marked_of (at_key i o)) ≡ option_map page_of o
+      go None = refl
+      go (Some r) = refl
+
+  pub marked_there : (i : ℕ) (entry : Marked) → Some entry ≡ option_map marked_of (entry_at m i) → finmap.get (pages_of m) i ≡ Some (page_from entry)
+  marked_there i entry is = sym (ap (option_map page_from) is ∙ marked_page i)
+
+  pub marked_none : (i : ℕ) → None ≡ option_map marked_of (entry_at m i) → finmap.get (pages_of m) i ≡ None
+  marked_none i is = sym (ap (option_map page_from) is ∙ marked_page i)
+
+  pub marked_frame : (i : ℕ) (entry : Marked) → Some entry ≡ option_map marked_of (entry_at m i) → entry.value < 2 ^ 32
+  marked_frame i entry is =
+      let entry_is = entry_of m i (page_from entry) (marked_there i entry is) in
+      subst (λ n. n < 2 ^ 32) (ap (λ (p : Mapped). p.frame) entry_is.1.1) (each i entry_is.0 entry_is.1.0).framed
+
+  -- the marks, or one of them, that an entry had
+  pub marks_there : (i : ℕ) (marks : Marks) → Some marks ≡ option_map (λ (e : ℕ × Range). marks_of e.1) (entry_at m i) → (page : Mapped) × ((finmap.get (pages_of m) i ≡ Some page) × (page.tags ≡ tags_of marks))
+  marks_there i marks is = go (finmap.get m i) refl
+    where
+      go : (o : Option Range) → finmap.get m i ≡ o → (page : Mapped) × ((finmap.get (pages_of m) i ≡ Some page) × (page.tags ≡ tags_of marks))
+      go None e = absurd (none-some marks (sym (is ∙ ap (option_map (λ (e : ℕ × Range). marks_of e.1)) (entry_at-get m singles i ∙ ap (at_key i) e))))
+      go (Some r) e =
+          let same = same_Some marks (marks_of r) (is ∙ ap (option_map (λ (e : ℕ × Range). marks_of e.1)) (entry_at-get m singles i ∙ ap (at_key i) e)) in
+          (page_of r, (get-pages_of m i ∙ ap (option_map page_of) e, ap tags_of (sym same)))
+
+  pub mark_there : (i : ℕ) (tag : Tag) (mark : Mark) (was : Bool) → mark ≡ tag_mark tag → Some was ≡ option_map (λ (e : ℕ × Range). has_mark mark e.1) (entry_at m i) → (page : Mapped) × ((finmap.get (pages_of m) i ≡ Some page) × (has page.tags tag ≡ was))
+  mark_there i tag mark was same is = go (finmap.get m i) refl
+    where
+      go : (o : Option Range) → finmap.get m i ≡ o → (page : Mapped) × ((finmap.get (pages_of m) i ≡ Some page) × (has page.tags tag ≡ was))
+      go None e = absurd (none-some was (sym (is ∙ ap (option_map (λ (e : ℕ × Range). has_mark mark e.1)) (entry_at-get m singles i ∙ ap (at_key i) e))))
+      go (Some r) e =
+          let had = same_Some was (has_mark mark r) (is ∙ ap (option_map (λ (e : ℕ × Range). has_mark mark e.1)) (entry_at-get m singles i ∙ ap (at_key i) e)) in
+          (page_of r, (get-pages_of m i ∙ ap (option_map page_of) e, sym (had ∙ ap (λ n. has_mark n r) same ∙ mark_tag tag r)))
+
+  -- an entry that tells nothing is none
+  pub told_none : {X : Type 0} (f : ℕ × Range → X) (i : ℕ) → None ≡ option_map f (entry_at m i) → finmap.get (pages_of m) i ≡ None
+  told_none f i is = go (finmap.get m i) refl
+    where
+      go : (o : Option Range) → finmap.get m i ≡ o → finmap.get (pages_of m) i ≡ None
+      go None e = get-pages_of m i ∙ ap (option_map page_of) e
+      go (Some r) e = absurd (none-some (f (i, r)) (is ∙ ap (option_map f) (entry_at-get m singles i ∙ ap (at_key i) e)))
+
   pub is_marked-pages_of : (i : ℕ) (tag : Tag) → is_marked (tag_mark tag) (entry_at m i) ≡ pages.has_at (pages_of m) i tag
   is_marked-pages_of i tag =
       ap (is_marked (tag_mark tag)) (entry_at-get m singles i) ∙ go (finmap.get m i) ∙ ap (λ o. unwrap_or (option_map (λ (page : Mapped). has page.tags tag) o) false) (sym (get-pages_of m i))
@@ -145,6 +211,14 @@ module _ (m : Ranges) (each : (q : ℕ) (r : Range) → finmap.get m q ≡ Some 
       go : (o : Option Range) → is_marked (tag_mark tag) (at_key i o) ≡ unwrap_or (option_map (λ (page : Mapped). has page.tags tag) (option_map page_of o)) false
       go None = refl
       go (Some r) = mark_tag tag r
+
+  -- whether the entry had the mark, where there is one
+  pub had_mark : (i : ℕ) (tag : Tag) (mark : Mark) (was : Option Bool) → mark ≡ tag_mark tag → was ≡ option_map (λ (e : ℕ × Range). has_mark mark e.1) (entry_at m i) → unwrap_or was false ≡ pages.has_at (pages_of m) i tag
+  had_mark i tag mark was same is = ap (λ o. unwrap_or o false) is ∙ go (entry_at m i) ∙ ap (λ mark. is_marked mark (entry_at m i)) same ∙ is_marked-pages_of i tag
+    where
+      go : (o : Option (ℕ × Range)) → unwrap_or (option_map (λ (e : ℕ × Range). has_mark mark e.1) o) false ≡ is_marked mark o
+      go None = refl
+      go (Some e) = refl
 
   -- whether an entry stands at an index
   pub stands : (i : ℕ) → is_some (entry_at m i) ≡ is_some (finmap.get (pages_of m) i)
@@ -184,26 +258,6 @@ module _ (m : Ranges) (each : (q : ℕ) (r : Range) → finmap.get m q ≡ Some 
       go None = refl
       go (Some page) = refl
 
-  pub frame_loads : (i : ℕ) (frame : FrameId) → Some frame ≡ option_map frame_of (finmap.get (pages_of m) i) → Some frame.0 ≡ option_map (λ (e : ℕ × Range). e.1.value) (entry_at m i)
-  frame_loads i frame is = ap (option_map (λ (f : FrameId). f.0)) is ∙ go (finmap.get (pages_of m) i) ∙ sym (entry_value i)
-    where
-      go : (o : Option Mapped) → option_map (λ (f : FrameId). f.0) (option_map frame_of o) ≡ option_map (λ (page : Mapped). page.frame) o
-      go None = refl
-      go (Some page) = refl
-
-  pub loads_page : (i value : ℕ) (a b c : Bool) → Some value ≡ option_map (λ (e : ℕ × Range). e.1.value) (entry_at m i) → a ≡ is_marked M0 (entry_at m i) → b ≡ is_marked M1 (entry_at m i) → c ≡ is_marked M2 (entry_at m i) → Some (record { frame = value; tags = record { dirty = a; writeback = b; towrite = c } }) ≡ finmap.get (pages_of m) i
-  loads_page i value a b c is p q t = go (finmap.get m i) refl
-    where
-      go : (o : Option Range) → finmap.get m i ≡ o → Some (record { frame = value; tags = record { dirty = a; writeback = b; towrite = c } }) ≡ finmap.get (pages_of m) i
-      go None e = absurd (none-some value (sym (is ∙ ap (option_map (λ (e : ℕ × Range). e.1.value)) (entry_at-get m singles i ∙ ap (at_key i) e))))
-      go (Some r) e =
-          let entry : entry_at m i ≡ Some (i, r) = entry_at-get m singles i ∙ ap (at_key i) e in
-          let v : value ≡ r.value = same_Some value r.value (is ∙ ap (option_map (λ (e : ℕ × Range). e.1.value)) entry) in
-          let x : a ≡ r.first_mark = p ∙ ap (is_marked M0) entry in
-          let y : b ≡ r.second_mark = q ∙ ap (is_marked M1) entry in
-          let z : c ≡ r.third_mark = t ∙ ap (is_marked M2) entry in
-          (λ j. Some (record { frame = v j; tags = record { dirty = x j; writeback = y j; towrite = z j } })) ∙ sym (get-pages_of m i ∙ ap (option_map page_of) e)
-
   -- where no entry stands no page is
   pub not_there : (i : ℕ) → (IsSome (entry_at m i) → ⊥) → finmap.get (pages_of m) i ≡ None
   not_there i never = go (finmap.get (pages_of m) i) refl
@@ -218,16 +272,6 @@ module _ (m : Ranges) (each : (q : ℕ) (r : Range) → finmap.get m q ≡ Some 
       go : (o : Option (ℕ × Range)) → entry_at m i ≡ o → entry_at m i ≡ None
       go None e = e
       go (Some x) e = absurd (let t : true ≡ false = sym (ap (λ o. is_some o) e) ∙ stands i ∙ ap (λ o. is_some o) none in cc)
-
-  pub page_there : (i : ℕ) → (entry_at m i ≡ None → ⊥) → (page : Mapped) × (finmap.get (pages_of m) i ≡ Some page)
-  page_there i never = go (finmap.get (pages_of m) i) refl
-    where
-      go : (o : Option Mapped) → finmap.get (pages_of m) i ≡ o → (page : Mapped) × (finmap.get (pages_of m) i ≡ Some page)
-      go None e = absurd (never (no_entry i e))
-      go (Some page) e = (page, e)
-
-  pub mark_tells : (i : ℕ) (tag : Tag) (mark : Mark) (is : Bool) → mark ≡ tag_mark tag → is ≡ is_marked mark (entry_at m i) → is ≡ pages.has_at (pages_of m) i tag
-  mark_tells i tag mark is same told = told ∙ ap (λ mark. is_marked mark (entry_at m i)) same ∙ is_marked-pages_of i tag
 
   pub numbered_pages : IsNumbered (pages_of m)
   numbered_pages = record { each = λ q page at. let entry = entry_of m q page at in (each q entry.0 entry.1.0).numbered }
@@ -248,23 +292,23 @@ module _ (m : Ranges) (each : (q : ℕ) (r : Range) → finmap.get m q ≡ Some 
         (subst (λ (f : Found). f.value < 2 ^ 32) e.1.1 page.framed, subst (λ (f : Found). f.first < MAX_PAGES) e.1.1 page.numbered)
 
     module _ (test : ℕ × Mapped → Bool) (alike : (q : ℕ) (r : Range) → finmap.get m q ≡ Some r → (kind r && meets from to (q, r)) ≡ test (q, page_of r)) where
-      pub finds : (r : Option Found) → r ≡ option_map found_of (lowest kind m from to) → option_map page_from r ≡ pages.lowest test (pages_of m)
+      pub finds : (r : Option Found) → r ≡ option_map found_of (lowest kind m from to) → option_map found_from r ≡ pages.lowest test (pages_of m)
       unfolding lowest
       finds r is =
-          ap (option_map page_from) is ∙ ap (λ o. option_map page_from (option_map found_of o)) (find_same (λ (e : ℕ × Range). kind e.1 && meets from to e) (λ (e : ℕ × Range). test (e.0, page_of e.1)) m alike)
+          ap (option_map found_from) is ∙ ap (λ o. option_map found_from (option_map found_of o)) (find_same (λ (e : ℕ × Range). kind e.1 && meets from to e) (λ (e : ℕ × Range). test (e.0, page_of e.1)) m alike)
           ∙ go (find (λ (e : ℕ × Range). test (e.0, page_of e.1)) (finmap.entries m)) ∙ ap (option_map found) (sym (find_each (λ (e : ℕ × Range). page_of e.1) test m))
         where
-          go : (o : Option (ℕ × Range)) → option_map page_from (option_map found_of o) ≡ option_map found (option_map (λ (e : ℕ × Range). (e.0, page_of e.1)) o)
+          go : (o : Option (ℕ × Range)) → option_map found_from (option_map found_of o) ≡ option_map found (option_map (λ (e : ℕ × Range). (e.0, page_of e.1)) o)
           go None = refl
           go (Some e) = refl
 
-  pub finds_tagged : (tag : Tag) (mark : Mark) (from to : ℕ) → mark ≡ tag_mark tag → (r : Option Found) → r ≡ option_map found_of (lowest (has_mark mark) m from to) → option_map page_from r ≡ pages.lowest (is_tagged tag from to) (pages_of m)
+  pub finds_tagged : (tag : Tag) (mark : Mark) (from to : ℕ) → mark ≡ tag_mark tag → (r : Option Found) → r ≡ option_map found_of (lowest (has_mark mark) m from to) → option_map found_from r ≡ pages.lowest (is_tagged tag from to) (pages_of m)
   finds_tagged tag mark from to same =
       finds (has_mark mark) from to (is_tagged tag from to) (λ q r at.
       (λ i. (ap (λ n. has_mark n r) same ∙ mark_tag tag r) i && meets_order from to q r.order (each q r at).single i) ∙ swap_and (has (page_of r).tags tag) (within from to q))
 
   -- a search of all pages from one on: no page stands past the largest number
-  pub finds_any : (from : ℕ) (r : Option Found) → r ≡ option_map found_of (lowest is_any m from (2 ^ 64 - 1)) → option_map page_from r ≡ pages.lowest (λ e. leb from e.0) (pages_of m)
+  pub finds_any : (from : ℕ) (r : Option Found) → r ≡ option_map found_of (lowest is_any m from (2 ^ 64 - 1)) → option_map found_from r ≡ pages.lowest (λ e. leb from e.0) (pages_of m)
   finds_any from =
       finds is_any from (2 ^ 64 - 1) (λ (e : ℕ × Mapped). leb from e.0) (λ q r at.
       let page = each q r at in

@@ -6,16 +6,18 @@ use Rattle.std.specs.FinMap.{get-empty, len-empty}
 use Rattle.std.specs.Ordering.{nat_cmp}
 use Rattle.std.proofs.lemmas.Option.{none-some}
 use Rattle.pc_types.specs.declared.tags.Tag.{Tag}
-use Rattle.xarray.specs.MarkedArray.{Ranges, unmarked, erased, remarked}
+use Rattle.pc_types.specs.Tags.{has}
+use Rattle.xarray.specs.declared.entry.Marks.{Marks}
+use Rattle.xarray.specs.MarkedArray.{Range, Ranges, unmarked, erased, given, remarked}
 use Rattle.mapping.specs.declared.mapping.TheConstants.{MAX_PAGES}
 use Rattle.mapping.specs.declared.totals.Totals.{Totals}
-use Rattle.mapping.specs.Pages.{Mapped, with_tag, has_at, tagged_count, untagged}
-use Rattle.mapping.specs.Totals.{total, with_total, without_page}
-use Rattle.mapping.specs.View.{tag_mark, pages_of, IsCounted}
-use Rattle.mapping.proofs.ArrayLemmas.{pages_of-empty, pages_of-insert, pages_of-erased, pages_of-remarked, kept_insert, kept_erased, kept_remarked}
-use Rattle.mapping.proofs.MapLemmas.{len_insert_new, len_remove_old}
-use Rattle.mapping.proofs.PageLemmas.{change_same, tagged_page, tag_of, len_changed}
-use Rattle.mapping.proofs.TotalLemmas.{no_totals, inserted, forgotten, raised, lowered}
+use Rattle.mapping.specs.Pages.{Mapped, with_tag, with_tags, has_at, tagged_count, untagged}
+use Rattle.mapping.specs.Totals.{total, with_page, with_total, without_page}
+use Rattle.mapping.specs.View.{tag_mark, tags_of, pages_of, IsCounted, IsPage}
+use Rattle.mapping.proofs.ArrayLemmas.{pages_of-empty, pages_of-insert, pages_of-erased, pages_of-given, pages_of-remarked, kept_insert, kept_erased, kept_given, kept_remarked}
+use Rattle.mapping.proofs.MapLemmas.{len_insert_new, len_remove_old, remove_absent}
+use Rattle.mapping.proofs.PageLemmas.{change_none, change_same, tagged_page, len_changed, untag_same}
+use Rattle.mapping.proofs.TotalLemmas.{no_totals, inserted, forgotten, exchanged, raised, lowered}
 
 pub counted_empty : IsCounted finmap.empty 0 (record { dirty = 0; writeback = 0; towrite = 0 })
 counted_empty = record {
@@ -44,24 +46,13 @@ module _ (m : Ranges) (page_count : ℕ) (totals : Totals) (counted : IsCounted 
       }
 
   -- a page gets a tag that it has not
-  pub counted_raised : (tag : Tag) (page : Mapped) → finmap.get (pages_of m) index ≡ Some page → has_at (pages_of m) index tag ≡ false → IsCounted (remarked m index (tag_mark tag) true) page_count (with_total totals tag (total totals tag + 1))
+  pub counted_raised : (tag : Tag) (page : Mapped) → finmap.get (pages_of m) index ≡ Some page → has page.tags tag ≡ false → IsCounted (remarked m index (tag_mark tag) true) page_count (with_total totals tag (total totals tag + 1))
   counted_raised tag page some isnt =
       let same = pages_of-remarked m counted.each index tag true in
       record {
         each = kept_remarked m counted.each index tag true;
         pages = counted.pages ∙ sym (ap finmap.len same ∙ len_changed index (with_tag tag true) (pages_of m));
-        tags = λ other. raised totals (pages_of m) counted.tags index page some tag (sym (tag_of index tag (pages_of m) page some) ∙ isnt) other ∙ ap (tagged_count other) (sym same);
-      }
-
-  -- a page gets a tag that it has
-  pub counted_same : (tag : Tag) → has_at (pages_of m) index tag ≡ true → IsCounted (remarked m index (tag_mark tag) true) page_count totals
-  counted_same tag is =
-      let page = tagged_page index tag (pages_of m) is in
-      let same = pages_of-remarked m counted.each index tag true ∙ change_same index tag true (pages_of m) page.0 page.1.0 page.1.1 in
-      record {
-        each = kept_remarked m counted.each index tag true;
-        pages = counted.pages ∙ sym (ap finmap.len same);
-        tags = λ other. counted.tags other ∙ ap (tagged_count other) (sym same);
+        tags = λ other. raised totals (pages_of m) counted.tags index page some tag isnt other ∙ ap (tagged_count other) (sym same);
       }
 
   -- a tag is taken off a page that has it
@@ -74,3 +65,39 @@ module _ (m : Ranges) (page_count : ℕ) (totals : Totals) (counted : IsCounted 
         pages = counted.pages ∙ sym (ap finmap.len same ∙ len_changed index (with_tag tag false) (pages_of m));
         tags = λ other. lowered totals (pages_of m) counted.tags index page.0 page.1.0 tag page.1.1 other ∙ ap (tagged_count other) (sym same);
       }
+
+  -- a page gets other tags
+  pub counted_given : (marks : Marks) (page : Mapped) → finmap.get (pages_of m) index ≡ Some page → IsCounted (given m index marks) page_count (with_page totals page.tags (tags_of marks))
+  counted_given marks page some =
+      let same = pages_of-given m counted.each index marks in
+      record {
+        each = kept_given m counted.each index marks;
+        pages = counted.pages ∙ sym (ap finmap.len same ∙ len_changed index (with_tags (tags_of marks)) (pages_of m));
+        tags = λ other. exchanged totals (pages_of m) counted.tags index page some (tags_of marks) other ∙ ap (tagged_count other) (sym same);
+      }
+
+  -- an array that stands for the same pages
+  pub counted_still : (new : Ranges) → ((q : ℕ) (r : Range) → finmap.get new q ≡ Some r → IsPage q r) → pages_of new ≡ pages_of m → IsCounted new page_count totals
+  counted_still new each same = record {
+    each = each;
+    pages = counted.pages ∙ sym (ap finmap.len same);
+    tags = λ other. counted.tags other ∙ ap (tagged_count other) (sym same);
+  }
+
+  -- nothing is done where no page is
+  pub counted_unerased : finmap.get (pages_of m) index ≡ None → IsCounted (erased m index) page_count totals
+  counted_unerased none = counted_still (erased m index) (kept_erased m counted.each index) (pages_of-erased m counted.each index ∙ remove_absent (pages_of m) index none)
+
+  pub counted_ungiven : (marks : Marks) → finmap.get (pages_of m) index ≡ None → IsCounted (given m index marks) page_count totals
+  counted_ungiven marks none = counted_still (given m index marks) (kept_given m counted.each index marks) (pages_of-given m counted.each index marks ∙ change_none index (with_tags (tags_of marks)) (pages_of m) none)
+
+  pub counted_unraised : (tag : Tag) → finmap.get (pages_of m) index ≡ None → IsCounted (remarked m index (tag_mark tag) true) page_count totals
+  counted_unraised tag none = counted_still (remarked m index (tag_mark tag) true) (kept_remarked m counted.each index tag true) (pages_of-remarked m counted.each index tag true ∙ change_none index (with_tag tag true) (pages_of m) none)
+
+  -- a tag is taken off where no page has it
+  pub counted_unlowered : (tag : Tag) → has_at (pages_of m) index tag ≡ false → IsCounted (remarked m index (tag_mark tag) false) page_count totals
+  counted_unlowered tag isnt = counted_still (remarked m index (tag_mark tag) false) (kept_remarked m counted.each index tag false) (pages_of-remarked m counted.each index tag false ∙ untag_same index tag (pages_of m) isnt)
+
+  -- a page gets a tag that it has
+  pub counted_same : (tag : Tag) (page : Mapped) → finmap.get (pages_of m) index ≡ Some page → has page.tags tag ≡ true → IsCounted (remarked m index (tag_mark tag) true) page_count totals
+  counted_same tag page some is = counted_still (remarked m index (tag_mark tag) true) (kept_remarked m counted.each index tag true) (pages_of-remarked m counted.each index tag true ∙ change_same index tag true (pages_of m) page some is)

@@ -85,23 +85,6 @@ untag_same index tag pages isnt = go (finmap.get pages index) refl
     go None e = change_none index (with_tag tag false) pages e
     go (Some page) e = change_same index tag false pages page e (sym (tag_of index tag pages page e) ∙ isnt)
 
--- each of the three tags put is all the tags put
-pub change_all : (index : ℕ) (tags : TagSet) (pages : Pages) → change_at index (with_tag Towrite tags.towrite) (change_at index (with_tag Writeback tags.writeback) (change_at index (with_tag Dirty tags.dirty) pages)) ≡ change_at index (with_tags tags) pages
-change_all index tags pages =
-    ap (change_at index (with_tag Towrite tags.towrite)) (change_twice index (with_tag Dirty tags.dirty) (with_tag Writeback tags.writeback) pages)
-    ∙ change_twice index (λ page. with_tag Writeback tags.writeback (with_tag Dirty tags.dirty page)) (with_tag Towrite tags.towrite) pages
-
--- three tags put, one after another
-pub put_all : (index : ℕ) (tags : TagSet) (old one two three : FilePages) (a b c : Bool) → a ≡ tags.dirty → b ≡ tags.writeback → c ≡ tags.towrite
-    → one ≡ record old { pages = change_at index (with_tag Dirty a) old.pages }
-    → two ≡ record one { pages = change_at index (with_tag Writeback b) one.pages }
-    → three ≡ record two { pages = change_at index (with_tag Towrite c) two.pages }
-    → three ≡ record old { pages = change_at index (with_tags tags) old.pages }
-put_all index tags old one two three a b c x y z p q r =
-    r ∙ ap (λ (f : FilePages). record f { pages = change_at index (with_tag Towrite c) f.pages }) (q ∙ ap (λ (f : FilePages). record f { pages = change_at index (with_tag Writeback b) f.pages }) p)
-    ∙ (λ j. record old { pages = change_at index (with_tag Towrite (z j)) (change_at index (with_tag Writeback (y j)) (change_at index (with_tag Dirty (x j)) old.pages)) })
-    ∙ ap (λ pages. record old { pages = pages }) (change_all index tags old.pages)
-
 -- where there is no frame there is no page
 pub none_framed : (o : Option Mapped) → None ≡ option_map frame_of o → o ≡ None
 none_framed None h = refl

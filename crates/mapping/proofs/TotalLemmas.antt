@@ -7,10 +7,10 @@ use Rattle.std.specs.Int.{from_bool}
 use Rattle.std.specs.Ordering.{nat_cmp}
 use Rattle.pc_types.specs.declared.tags.Tag.{Tag}
 use Rattle.pc_types.specs.declared.tags.Tag.TheVariants.{Dirty, Writeback, Towrite}
-use Rattle.pc_types.specs.Tags.{no_tags, has}
+use Rattle.pc_types.specs.Tags.{TagSet, no_tags, has}
 use Rattle.mapping.specs.declared.totals.Totals.{Totals}
-use Rattle.mapping.specs.Pages.{Mapped, Pages, with_tag, change_at, tagged_count, totals_of, untagged}
-use Rattle.mapping.specs.Totals.{total, with_total, one, without_page}
+use Rattle.mapping.specs.Pages.{Mapped, Pages, with_tag, with_tags, change_at, tagged_count, totals_of, untagged}
+use Rattle.mapping.specs.Totals.{total, with_total, one, with_page, without_page}
 use Rattle.mapping.proofs.MapLemmas.{bit, taken, count_insert, count_remove, count_none, count-le-len}
 use Rattle.mapping.proofs.PageLemmas.{count_changed}
 
@@ -18,6 +18,10 @@ use Rattle.mapping.proofs.PageLemmas.{count_changed}
 pub byte_one : (b : Bool) → from_bool b ≡ one b
 byte_one true = refl
 byte_one false = refl
+
+pub one-le : (b : Bool) → one b ≤ 1
+one-le true = omega arith
+one-le false = omega arith
 
 no_tag : (tag : Tag) → bit (has no_tags tag) ≡ 0
 no_tag Dirty = refl
@@ -58,6 +62,15 @@ module _ (totals : Totals) (pages : Pages) (exact : (tag : Tag) → total totals
     forgotten Dirty = omega (arith, exact Dirty, counted Dirty)
     forgotten Writeback = omega (arith, exact Writeback, counted Writeback)
     forgotten Towrite = omega (arith, exact Towrite, counted Towrite)
+
+    retagged : (tags : TagSet) (other : Tag) → tagged_count other (change_at index (with_tags tags) pages) + bit (has page.tags other) ≡ tagged_count other pages + bit (has tags other)
+    retagged tags other = count_changed index (with_tags tags) pages (λ (e : ℕ × Mapped). has e.1.tags other) page some
+
+    -- a page that gets other tags
+    pub exchanged : (tags : TagSet) (other : Tag) → total (with_page totals page.tags tags) other ≡ tagged_count other (change_at index (with_tags tags) pages)
+    exchanged tags Dirty = omega (arith, exact Dirty, counted Dirty, retagged tags Dirty)
+    exchanged tags Writeback = omega (arith, exact Writeback, counted Writeback, retagged tags Writeback)
+    exchanged tags Towrite = omega (arith, exact Towrite, counted Towrite, retagged tags Towrite)
 
     changed : (tag : Tag) (is : Bool) (other : Tag) → tagged_count other (change_at index (with_tag tag is) pages) + bit (has page.tags other) ≡ tagged_count other pages + bit (has (with_tag tag is page).tags other)
     changed tag is other = count_changed index (with_tag tag is) pages (λ (e : ℕ × Mapped). has e.1.tags other) page some

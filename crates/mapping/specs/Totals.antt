@@ -1,5 +1,5 @@
 -- Counters of pages, one a tag.
-use Rattle.std.specs.Prelude.{ℕ, ◌-◌, Bool, cond}
+use Rattle.std.specs.Prelude.{ℕ, ◌+◌, ◌-◌, Bool, cond}
 use Rattle.pc_types.specs.declared.tags.Tag.{Tag}
 use Rattle.pc_types.specs.declared.tags.Tag.TheVariants.{Dirty, Writeback, Towrite}
 use Rattle.pc_types.specs.Tags.{TagSet}
@@ -23,3 +23,11 @@ one b = cond b 1 0
 -- the counters without a page that has these tags
 abbrev pub without_page : Totals → TagSet → Totals
 without_page t tags = record { dirty = t.dirty - one tags.dirty; writeback = t.writeback - one tags.writeback; towrite = t.towrite - one tags.towrite }
+
+-- the counters where a page had these tags and has others now
+abbrev pub with_page : Totals → TagSet → TagSet → Totals
+with_page t before now = record {
+  dirty = t.dirty - one before.dirty + one now.dirty;
+  writeback = t.writeback - one before.writeback + one now.writeback;
+  towrite = t.towrite - one before.towrite + one now.towrite;
+}

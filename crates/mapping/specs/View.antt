@@ -3,7 +3,10 @@ use Rattle.std.specs.Prelude.{◌≡◌, ℕ, ◌<◌, ◌^◌, map, Some}
 use Rattle.std.specs.FinMap as map
 use Rattle.pc_types.specs.declared.tags.Tag.{Tag}
 use Rattle.pc_types.specs.declared.tags.Tag.TheVariants.{Dirty, Writeback, Towrite}
+use Rattle.pc_types.specs.Tags.{TagSet}
 use Rattle.xarray.specs.declared.entry.Mark.{Mark}
+use Rattle.xarray.specs.declared.entry.Marked.{Marked}
+use Rattle.xarray.specs.declared.entry.Marks.{Marks}
 use Rattle.xarray.specs.declared.entry.Mark.TheVariants.{M0, M1, M2}
 use Rattle.xarray.specs.MarkedArray.{Range, Ranges}
 use Rattle.mapping.specs.declared.mapping.TheConstants.{MAX_PAGES}
@@ -16,6 +19,13 @@ abbrev pub tag_mark : Tag → Mark
 tag_mark Dirty = M0
 tag_mark Writeback = M1
 tag_mark Towrite = M2
+
+abbrev pub tags_of : Marks → TagSet
+tags_of marks = record { dirty = marks.m0; writeback = marks.m1; towrite = marks.m2 }
+
+-- a page by the value of its entry and the marks
+abbrev pub page_from : Marked → Mapped
+page_from entry = record { frame = entry.value; tags = tags_of entry.marks }
 
 -- an entry's value is the frame
 abbrev pub page_of : Range → Mapped

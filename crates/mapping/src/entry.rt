@@ -3,11 +3,12 @@
 ghost use Rattle.std.specs.Prelude.{◌≡◌, ◌<◌, ◌^◌};
 ghost use Rattle.pc_types.specs.TagBits.{tag_set};
 ghost use Rattle.pc_types.specs.Tags.{put};
-ghost use Rattle.mapping.specs.View.{tag_mark};
+ghost use Rattle.mapping.specs.Pages.{seen};
+ghost use Rattle.mapping.specs.View.{tag_mark, tags_of, page_from};
 
-use crate::page::FoundPage;
+use crate::page::{FoundPage, MappedPage};
 use pc_types::{FrameId, PageIndex, Tag, Tags};
-use xarray::{Found, Mark};
+use xarray::{Found, Mark, Marked, Marks};
 
 /// The mark that stands for a tag, as Linux numbers them.
 pub fn mark_of(tag: Tag) -> Mark
@@ -20,13 +21,35 @@ pub fn mark_of(tag: Tag) -> Mark
     }
 }
 
-/// The tags that three marks stand for.
-pub fn tags_from(dirty: bool, writeback: bool, towrite: bool) -> Tags
-    ensures { tag_set result ≡ record { dirty = dirty; writeback = writeback; towrite = towrite } }
+/// The tags that an entry's marks stand for.
+pub fn tags_from(marks: Marks) -> Tags
+    ensures { tag_set result ≡ tags_of marks }
 {
-    let tags = with_or_without(Tags::none(), Tag::Dirty, dirty);
-    let tags = with_or_without(tags, Tag::Writeback, writeback);
-    with_or_without(tags, Tag::Towrite, towrite)
+    let tags = with_or_without(Tags::none(), Tag::Dirty, marks.m0);
+    let tags = with_or_without(tags, Tag::Writeback, marks.m1);
+    with_or_without(tags, Tag::Towrite, marks.m2)
+}
+
+/// The marks that stand for tags.
+pub fn marks_from(tags: Tags) -> Marks
+    ensures { tags_of result ≡ tag_set tags }
+{
+    Marks {
+        m0: tags.has(Tag::Dirty),
+        m1: tags.has(Tag::Writeback),
+        m2: tags.has(Tag::Towrite),
+    }
+}
+
+/// The page of an entry.
+pub fn mapped_page(entry: Marked) -> MappedPage
+    requires { entry.value < 2 ^ 32 }
+    ensures { seen result ≡ page_from entry }
+{
+    MappedPage {
+        frame: FrameId(entry.value as u32),
+        tags: tags_from(entry.marks),
+    }
 }
 
 fn with_or_without(tags: Tags, tag: Tag, is: bool) -> Tags

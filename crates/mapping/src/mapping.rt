@@ -5,14 +5,14 @@ ghost use Rattle.std.specs.FinMap as map;
 ghost use Rattle.pc_types.specs.TagBits.{tag_set};
 ghost use Rattle.mapping.specs.Pages.{IsNumbered, seen, frame_of, has_at, untagged, with_tag, with_tags, change_at, is_tagged, lowest, count, totals_of, tag_each};
 
-use crate::entry::{found_page, mark_of, tags_from};
+use crate::entry::{found_page, mapped_page, mark_of, marks_from, tags_from};
 use crate::page::{FoundPage, MappedPage};
 use crate::totals::Totals;
 use pc_types::limits::{MAX_FILE_SIZE, MIN_PAGE_SIZE};
 use pc_types::{FrameId, PageIndex, Refusal, Tag, Tags};
 use std::alloc::Global;
 use std::marker::Model;
-use xarray::{Mark, XArray};
+use xarray::XArray;
 
 /// How many pages a file has at most: those of the largest file, at the least page size.
 pub const MAX_PAGES: u64 = MAX_FILE_SIZE / MIN_PAGE_SIZE;
@@ -74,17 +74,11 @@ impl Mapping {
     pub fn page(&self, index: PageIndex) -> Option<MappedPage>
         ensures { option_map seen result ≡ map.get self.now.pages index.0 }
     {
-        let frame = self.frame(index)?;
-        let dirty = self.pages.get_mark(index.0, Mark::M0);
-        let writeback = self.pages.get_mark(index.0, Mark::M1);
-        let towrite = self.pages.get_mark(index.0, Mark::M2);
-        Some(MappedPage {
-            frame,
-            tags: tags_from(dirty, writeback, towrite),
-        })
+        let entry = self.pages.load_with_marks(index.0)?;
+        Some(mapped_page(entry))
     }
 
-    /// The frame of the page at an index, where one is cached: one walk of the array, of the four that `page` takes.
+    /// The frame of the page at an index, where one is cached. It asks for no tags.
     #[inline(always)]
     pub fn frame(&self, index: PageIndex) -> Option<FrameId>
         ensures { result ≡ option_map frame_of (map.get self.now.pages index.0) }
@@ -121,8 +115,8 @@ impl Mapping {
         ensures frame { result ≡ option_map frame_of (map.get self.old.pages index.0) }
         ensures gone { self.new ≡ record self.old { pages = map.remove self.old.pages index.0 } }
     {
-        let page = self.page(index)?;
-        self.pages.erase(index.0);
+        let entry = self.pages.take(index.0)?;
+        let page = mapped_page(entry);
         self.page_count -= 1;
         self.totals.forget(page.tags);
         Some(page.frame)
@@ -141,8 +135,9 @@ impl Mapping {
         ensures refused { IsOkUnless result Refusal.NoEntry }
         ensures tagged { self.new ≡ record self.old { pages = change_at index.0 (with_tag tag true) self.old.pages } }
     {
-        let was = self.has_tag(index, tag);
-        self.pages.set_mark(index.0, mark_of(tag))?;
+        let Some(was) = self.pages.swap_mark(index.0, mark_of(tag), true) else {
+            return Err(Refusal::NoEntry);
+        };
         if !was {
             self.totals.raise(tag);
         }
@@ -153,8 +148,8 @@ impl Mapping {
     pub fn untag(&mut self, index: PageIndex, tag: Tag)
         ensures { self.new ≡ record self.old { pages = change_at index.0 (with_tag tag false) self.old.pages } }
     {
-        if self.has_tag(index, tag) {
-            self.pages.clear_mark(index.0, mark_of(tag));
+        let was = self.pages.swap_mark(index.0, mark_of(tag), false);
+        if was.unwrap_or(false) {
             self.totals.lower(tag);
         }
     }
@@ -165,12 +160,10 @@ impl Mapping {
         ensures refused { IsOkUnless result Refusal.NoEntry }
         ensures tagged { self.new ≡ record self.old { pages = change_at index.0 (with_tags (tag_set tags)) self.old.pages } }
     {
-        if self.page(index).is_none() {
+        let Some(were) = self.pages.swap_marks(index.0, marks_from(tags)) else {
             return Err(Refusal::NoEntry);
-        }
-        self.put_tag(index, Tag::Dirty, tags.has(Tag::Dirty));
-        self.put_tag(index, Tag::Writeback, tags.has(Tag::Writeback));
-        self.put_tag(index, Tag::Towrite, tags.has(Tag::Towrite));
+        };
+        self.totals.exchange(tags_from(were), tags);
         Ok(())
     }
 

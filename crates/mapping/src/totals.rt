@@ -4,7 +4,7 @@ ghost use Rattle.std.specs.Prelude.{◌≡◌, ◌+◌, ◌-◌, ◌<◌, ◌≤
 ghost use Rattle.pc_types.specs.TagBits.{tag_set};
 ghost use Rattle.pc_types.specs.Tags.{has};
 ghost use Rattle.pc_types.specs.declared.tags.Tag.{Tag as AnyTag};
-ghost use Rattle.mapping.specs.Totals.{total, with_total, one, without_page};
+ghost use Rattle.mapping.specs.Totals.{total, with_total, one, with_page, without_page};
 
 use pc_types::{Tag, Tags};
 
@@ -49,6 +49,20 @@ impl Totals {
             Tag::Writeback => self.writeback -= 1,
             Tag::Towrite => self.towrite -= 1,
         }
+    }
+
+    /// A page that had these tags has others now.
+    pub(crate) fn exchange(&mut self, before: Tags, now: Tags)
+        requires counted { (tag : AnyTag) → one (has (tag_set before) tag) ≤ total self.old tag }
+        requires room { (tag : AnyTag) → total self.old tag + 1 < 2 ^ 64 }
+        ensures { self.new ≡ with_page self.old (tag_set before) (tag_set now) }
+    {
+        self.dirty = self.dirty - u64::from(before.has(Tag::Dirty))
+            + u64::from(now.has(Tag::Dirty));
+        self.writeback = self.writeback - u64::from(before.has(Tag::Writeback))
+            + u64::from(now.has(Tag::Writeback));
+        self.towrite = self.towrite - u64::from(before.has(Tag::Towrite))
+            + u64::from(now.has(Tag::Towrite));
     }
 
     /// A page with these tags is gone.

@@ -1,7 +1,7 @@
 -- The number of each refusal, as scripts and traces print it.
 use Rattle.std.specs.Prelude.{ℕ}
 use Rattle.pc_types.specs.declared.refusal.Refusal.{Refusal}
-use Rattle.pc_types.specs.declared.refusal.Refusal.TheVariants.{BadConfig, TooManyFiles, TooManyHandles, BadHandle, NoSuchFile, TooLong, TooLarge, NoFrame, NoSpace, DirtyLimit, TooManyInFlight, Busy, Memory, Io, Stranger, TrailFull, BadEntry, BadOrder, NoId, NoEntry, BadCode, Turns}
+use Rattle.pc_types.specs.declared.refusal.Refusal.TheVariants.{BadConfig, TooManyFiles, TooManyHandles, BadHandle, NoSuchFile, TooLong, TooLarge, NoFrame, NoSpace, DirtyLimit, TooManyInFlight, Busy, Memory, Io, Stranger, TrailFull, BadEntry, BadOrder, NoId, NoEntry, BadCode, Turns, BadRange}
 
 abbrev pub refusal_number : Refusal → ℕ
 refusal_number BadConfig = 1
@@ -26,3 +26,4 @@ refusal_number NoId = 19
 refusal_number NoEntry = 20
 refusal_number BadCode = 21
 refusal_number Turns = 22
+refusal_number BadRange = 24

@@ -39,6 +39,9 @@ pub const MAX_TOUCHED: u64 = 16;
 /// Bytes of the largest file.
 pub const MAX_FILE_SIZE: u64 = 1_099_511_627_776;
 
+/// The last page that a file can have, which is that of the largest file with the smallest pages.
+pub const LAST_PAGE: u64 = MAX_FILE_SIZE / MIN_PAGE_SIZE - 1;
+
 /// The most seats of a shared cache.
 pub const MAX_SEATS: u64 = 64;
 

@@ -54,10 +54,12 @@ pub enum Refusal {
     BadCode,
     #[error("256 attempts met no answer: try again")]
     Turns,
+    #[error("the first page of the range is above its last")]
+    BadRange,
 }
 
 impl Refusal {
-    /// The refusal's number in scripts and traces, 1 to 22.
+    /// The refusal's number in scripts and traces, 1 to 24.
     pub fn number(&self) -> u64
         ensures { result ≡ refusal_number self.now }
     {
@@ -84,6 +86,7 @@ impl Refusal {
             Refusal::NoEntry => 20,
             Refusal::BadCode => 21,
             Refusal::Turns => 22,
+            Refusal::BadRange => 24,
         }
     }
 }

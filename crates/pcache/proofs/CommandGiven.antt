@@ -6,17 +6,17 @@ use Rattle.std.proofs.lemmas.Bool.{false≢true}
 use Rattle.std.specs.Result.{result_unwrap_or}
 use Rattle.pc_types.specs.Limits.{Sizes, is_geometry}
 use Rattle.pc_types.specs.declared.ids.HandleId.{HandleId}
+use Rattle.pc_types.specs.declared.ids.PageIndex.{PageIndex}
 use Rattle.pc_types.specs.declared.refusal.Refusal.{Refusal}
 use Rattle.pc_types.specs.declared.refusal.Refusal.TheVariants.{BadConfig}
-use Rattle.cachecore.specs.declared.event.Reply.{Reply}
+use Rattle.machine.specs.declared.event.Reply.{Reply}
 use Rattle.pcache.specs.declared.command.Command.{Command}
 use Rattle.pcache.specs.declared.command.Command.TheVariants as command
 use Rattle.textline.specs.declared.stop.Stop.{Stop}
 use Rattle.textline.specs.declared.stop.Stop.TheVariants.{Malformed, Input, Output, Memory}
 use Rattle.pcache.specs.Answers.{IsPrintFault, answer_of}
-use Rattle.textline.specs.Lines.{Prints, ended}
+use Rattle.textline.specs.Lines.{Prints, ended, is_blank}
 use Rattle.pcache.specs.Commands.{Means}
-use Rattle.textline.specs.Lines.{is_blank}
 use Rattle.pcache.specs.Runs.{Answers, CommandGives, IsMisplaced, LineGives, SyncsFile, TellsTags, config_text, default_sizes, sizes_of, session_of_sizes}
 use Rattle.pcache.specs.Sessions.{Fsyncs, SessionSeen}
 use Rattle.pcache.proofs.CommandLemmas.{config_alone}
@@ -39,10 +39,12 @@ output_fault before after (Ok done) unless = tt
 output_fault before after (Err stop) unless = subst (IsPrintFault before after) (sym unless) tt
 
 -- what comes of a sync is printed
-pub synced_printed : (r : Result (Unit {0}) Stop) (old new : SessionSeen) (handle : HandleId) (reply : Reply) (before after : Option (List ℕ))
-    → Fsyncs old handle reply new → OnOk r (Prints before after (answer_of reply)) → OnOk r ((printed : List ℕ) × SyncsFile old handle printed new × Appends before after printed)
-synced_printed (Ok done) old new handle reply before after synced printed = (ended (answer_of reply), (reply, synced, refl), printed)
-synced_printed (Err stop) old new handle reply before after synced printed = tt
+pub synced_printed : (r : Result (Unit {0}) Stop) (old new : SessionSeen) (handle : HandleId)
+    (range : Option (PageIndex × PageIndex)) (reply : Reply) (before after : Option (List ℕ))
+    → Fsyncs old handle range reply new → OnOk r (Prints before after (answer_of reply))
+    → OnOk r ((printed : List ℕ) × SyncsFile old handle range printed new × Appends before after printed)
+synced_printed (Ok done) old new handle range reply before after synced printed = (ended (answer_of reply), (reply, synced, refl), printed)
+synced_printed (Err stop) old new handle range reply before after synced printed = tt
 
 -- what is known of a page changes no session
 pub told_same : (r : Result (Unit {0}) Stop) (w : SessionSeen) (file page : ℕ) (before after : Option (List ℕ))
@@ -87,11 +89,11 @@ first_given n (command.Fail s k e) (Err (Malformed m)) new before after other gi
 first_given n (command.Fail s k e) (Err Input) new before after other gives = gives
 first_given n (command.Fail s k e) (Err Output) new before after other gives = tt
 first_given n (command.Fail s k e) (Err Memory) new before after other gives = gives
-first_given n (command.Fsync h) (Ok done) new before after other gives = gives
-first_given n (command.Fsync h) (Err (Malformed m)) new before after other gives = absurd gives.1
-first_given n (command.Fsync h) (Err Input) new before after other gives = gives
-first_given n (command.Fsync h) (Err Output) new before after other gives = tt
-first_given n (command.Fsync h) (Err Memory) new before after other gives = gives
+first_given n (command.Fsync h k) (Ok done) new before after other gives = gives
+first_given n (command.Fsync h k) (Err (Malformed m)) new before after other gives = absurd gives.1
+first_given n (command.Fsync h k) (Err Input) new before after other gives = gives
+first_given n (command.Fsync h k) (Err Output) new before after other gives = tt
+first_given n (command.Fsync h k) (Err Memory) new before after other gives = gives
 first_given n (command.Poll h) (Ok done) new before after other gives = gives
 first_given n (command.Poll h) (Err (Malformed m)) new before after other gives = absurd gives.1
 first_given n (command.Poll h) (Err Input) new before after other gives = gives
@@ -108,12 +110,12 @@ misplaced_line : (old : Option SessionSeen) (line : List ℕ) (c : Command) → 
 misplaced_line None line (command.Config p f l b) means h d asked = absurd h
 misplaced_line None line (command.Step s) means h d asked = absurd h
 misplaced_line None line (command.Fail s k e) means h d asked = absurd h
-misplaced_line None line (command.Fsync k) means h d asked = absurd h
+misplaced_line None line (command.Fsync k r) means h d asked = absurd h
 misplaced_line None line (command.Poll k) means h d asked = absurd h
 misplaced_line None line (command.Tags f p) means h d asked = absurd h
 misplaced_line (Some w) line (command.Step s) means h d asked = absurd h
 misplaced_line (Some w) line (command.Fail s k e) means h d asked = absurd h
-misplaced_line (Some w) line (command.Fsync k) means h d asked = absurd h
+misplaced_line (Some w) line (command.Fsync k r) means h d asked = absurd h
 misplaced_line (Some w) line (command.Poll k) means h d asked = absurd h
 misplaced_line (Some w) line (command.Tags f p) means h d asked = absurd h
 misplaced_line (Some w) line (command.Config p f l b) means h d asked =

@@ -1,6 +1,9 @@
 -- What the words of a command must be, by its name.
-use Rattle.std.proofs.Common.{◌≡◌, ◌≢◌, ℕ, ◌≤◌, List, [], ◌∷◌, drop, refl, sym, ap, subst, ◌∙◌}
-use Rattle.std.specs.Prelude.{codes, if◌then◌else◌}
+use Rattle.std.proofs.Common.{◌≡◌, ◌≢◌, ℕ, ◌+◌, ◌<◌, ◌≤◌, Bool, true, false, List, [], ◌∷◌, ◌++◌, drop, length, refl, sym, ap, subst, ◌∙◌}
+use Rattle.std.proofs.Common.{arith}
+use Rattle.std.specs.Prelude.{Option, Some, None, Result, Ok, Err, IfOk, OnErr, codes, if◌then◌else◌}
+use Rattle.pc_types.specs.declared.ids.PageIndex.{PageIndex}
+use Rattle.std.specs.Option.{ok_or}
 use Rattle.std.specs.Str.{bytes_eq}
 use Rattle.std.proofs.lemmas.Fmt.{decimal_injective}
 use Rattle.pcache.specs.declared.command.Command.{Command}
@@ -11,7 +14,7 @@ use Rattle.pcache.specs.declared.keyword.Keyword.{Keyword}
 use Rattle.pcache.specs.declared.keyword.Keyword.TheVariants.{Config, Create, Open, Close, Size, Read, Write, Append, Truncate, Fill, Flush, Do, Fail, End, Sync, Step, Drop, Fsync, Poll, Evict, Age, Tags}
 use Rattle.pcache.specs.Keywords.{name_of}
 use Rattle.blockdev.specs.declared.fault.FaultEffect.{FaultEffect}
-use Rattle.pcache.specs.Commands.{Part, Name, Number, Hex, Leaves, Begins, parts_of, Asks, Means}
+use Rattle.pcache.specs.Commands.{Part, Name, Number, Hex, Leaves, Begins, parts_of, range_parts, ranged, Asks, Means}
 use Rattle.textline.specs.Words.{words_of}
 
 -- ---- names
@@ -104,6 +107,12 @@ same_number {m = m} {n = n} (w, more, e, is, b) starts =
     let (v, more', e', is', b') = starts.begins in
     decimal_injective m n is.1 is'.1 (sym is.0 ∙ head_eq _ _ _ _ (sym e ∙ e') ∙ is'.0)
 
+-- what stands where a command may name a range of pages: no word, or two numbers
+pub no_range : (words : List (List ℕ)) → words ≢ []
+    → ((r : PageIndex × PageIndex) → ¬ (Begins words (range_parts (Some r)) [])) → (r : Option (PageIndex × PageIndex)) → ¬ (Begins words (range_parts r) [])
+no_range words some none None begins = some begins
+no_range words some none (Some r) begins = none r begins
+
 -- words that begin with no number are no command's that goes on with one
 pub no_number : {words rest : List (List ℕ)} {n : ℕ} {parts : List Part} → ((m : ℕ) (r : List (List ℕ)) → ¬ (Begins words (Number m ∷ []) r))
     → Starts words (Number n ∷ parts) rest → ⊥
@@ -133,9 +142,10 @@ keyword_of (command.Step (step.Call t)) = Do
 keyword_of (command.Fail t n e) = Fail
 keyword_of (command.Step (step.End t)) = End
 keyword_of (command.Step (step.SyncBegin h)) = Sync
+keyword_of (command.Step (step.SyncBeginRange h a b)) = Sync
 keyword_of (command.Step (step.SyncStep s)) = Step
 keyword_of (command.Step (step.SyncDrop s)) = Drop
-keyword_of (command.Fsync h) = Fsync
+keyword_of (command.Fsync h r) = Fsync
 keyword_of (command.Poll h) = Poll
 keyword_of (command.Step step.Evict) = Evict
 keyword_of (command.Step step.Age) = Age
@@ -158,9 +168,11 @@ named_parts k words rest (command.Step (step.Call t)) begins = named k Do words 
 named_parts k words rest (command.Fail t n e) begins = named k Fail words (Number t.0 ∷ Number n ∷ Leaves e ∷ []) rest begins
 named_parts k words rest (command.Step (step.End t)) begins = named k End words (Number t.0 ∷ []) rest begins
 named_parts k words rest (command.Step (step.SyncBegin h)) begins = named k Sync words (Number h.0 ∷ []) rest begins
+named_parts k words rest (command.Step (step.SyncBeginRange h a b)) begins =
+    named k Sync words (Number h.0 ∷ range_parts (Some (a, b))) rest begins
 named_parts k words rest (command.Step (step.SyncStep s)) begins = named k Step words (Number s.0 ∷ []) rest begins
 named_parts k words rest (command.Step (step.SyncDrop s)) begins = named k Drop words (Number s.0 ∷ []) rest begins
-named_parts k words rest (command.Fsync h) begins = named k Fsync words (Number h.0 ∷ []) rest begins
+named_parts k words rest (command.Fsync h r) begins = named k Fsync words (Number h.0 ∷ range_parts r) rest begins
 named_parts k words rest (command.Poll h) begins = named k Poll words (Number h.0 ∷ []) rest begins
 named_parts k words rest (command.Step step.Evict) begins = named k Evict words ([]) rest begins
 named_parts k words rest (command.Step step.Age) begins = named k Age words ([]) rest begins
@@ -185,9 +197,10 @@ is_config (command.Step (step.Call t)) e = cc
 is_config (command.Fail t n x) e = cc
 is_config (command.Step (step.End t)) e = cc
 is_config (command.Step (step.SyncBegin h)) e = cc
+is_config (command.Step (step.SyncBeginRange h a b)) e = cc
 is_config (command.Step (step.SyncStep s)) e = cc
 is_config (command.Step (step.SyncDrop s)) e = cc
-is_config (command.Fsync h) e = cc
+is_config (command.Fsync h r) e = cc
 is_config (command.Poll h) e = cc
 is_config (command.Step step.Evict) e = cc
 is_config (command.Step step.Age) e = cc
@@ -217,10 +230,10 @@ Follows Flush words = (a : ℕ) × Starts words (Number a ∷ []) []
 Follows Do words = (a : ℕ) × Starts words (Number a ∷ []) []
 Follows Fail words = (a : ℕ) × (n : ℕ) × (e : FaultEffect) × Starts words (Number a ∷ Number n ∷ Leaves e ∷ []) [] × (n ≤ MAX_CODE)
 Follows End words = (a : ℕ) × Starts words (Number a ∷ []) []
-Follows Sync words = (a : ℕ) × Starts words (Number a ∷ []) []
+Follows Sync words = (a : ℕ) × (r : Option (PageIndex × PageIndex)) × Starts words (Number a ∷ range_parts r) []
 Follows Step words = (a : ℕ) × Starts words (Number a ∷ []) []
 Follows Drop words = (a : ℕ) × Starts words (Number a ∷ []) []
-Follows Fsync words = (a : ℕ) × Starts words (Number a ∷ []) []
+Follows Fsync words = (a : ℕ) × (r : Option (PageIndex × PageIndex)) × Starts words (Number a ∷ range_parts r) []
 Follows Poll words = (a : ℕ) × Starts words (Number a ∷ []) []
 Follows Evict words = words ≡ []
 Follows Age words = words ≡ []
@@ -243,10 +256,17 @@ asks k words (command.Step (step.FlushBegin f)) asked = let s = named_parts k wo
 asks k words (command.Step (step.Call t)) asked = let s = named_parts k words [] (command.Step (step.Call t)) asked.0 in subst (λ j. Follows j words) s.0 (t.0, record { begins = s.1 })
 asks k words (command.Fail t n e) asked = let s = named_parts k words [] (command.Fail t n e) asked.0 in subst (λ j. Follows j words) s.0 (t.0, n, e, record { begins = s.1 }, asked.1)
 asks k words (command.Step (step.End t)) asked = let s = named_parts k words [] (command.Step (step.End t)) asked.0 in subst (λ j. Follows j words) s.0 (t.0, record { begins = s.1 })
-asks k words (command.Step (step.SyncBegin h)) asked = let s = named_parts k words [] (command.Step (step.SyncBegin h)) asked.0 in subst (λ j. Follows j words) s.0 (h.0, record { begins = s.1 })
+asks k words (command.Step (step.SyncBegin h)) asked =
+    let s = named_parts k words [] (command.Step (step.SyncBegin h)) asked.0 in
+    subst (λ j. Follows j words) s.0 (h.0, None, record { begins = s.1 })
+asks k words (command.Step (step.SyncBeginRange h a b)) asked =
+    let s = named_parts k words [] (command.Step (step.SyncBeginRange h a b)) asked.0 in
+    subst (λ j. Follows j words) s.0 (h.0, Some (a, b), record { begins = s.1 })
 asks k words (command.Step (step.SyncStep n)) asked = let s = named_parts k words [] (command.Step (step.SyncStep n)) asked.0 in subst (λ j. Follows j words) s.0 (n.0, record { begins = s.1 })
 asks k words (command.Step (step.SyncDrop n)) asked = let s = named_parts k words [] (command.Step (step.SyncDrop n)) asked.0 in subst (λ j. Follows j words) s.0 (n.0, record { begins = s.1 })
-asks k words (command.Fsync h) asked = let s = named_parts k words [] (command.Fsync h) asked.0 in subst (λ j. Follows j words) s.0 (h.0, record { begins = s.1 })
+asks k words (command.Fsync h r) asked =
+    let s = named_parts k words [] (command.Fsync h r) asked.0 in
+    subst (λ j. Follows j words) s.0 (h.0, r, record { begins = s.1 })
 asks k words (command.Poll h) asked = let s = named_parts k words [] (command.Poll h) asked.0 in subst (λ j. Follows j words) s.0 (h.0, record { begins = s.1 })
 asks k words (command.Step step.Evict) asked = let s = named_parts k words [] (command.Step step.Evict) asked.0 in subst (λ j. Follows j words) s.0 s.1
 asks k words (command.Step step.Age) asked = let s = named_parts k words [] (command.Step step.Age) asked.0 in subst (λ j. Follows j words) s.0 s.1
@@ -269,10 +289,163 @@ unnamed word words (command.Step (step.Call t)) none h = none Do (sym h.0.3 ∙ 
 unnamed word words (command.Fail t n e) none h = none Fail (sym h.0.3 ∙ sym (head_eq _ _ _ _ h.0.2))
 unnamed word words (command.Step (step.End t)) none h = none End (sym h.0.3 ∙ sym (head_eq _ _ _ _ h.0.2))
 unnamed word words (command.Step (step.SyncBegin a)) none h = none Sync (sym h.0.3 ∙ sym (head_eq _ _ _ _ h.0.2))
+unnamed word words (command.Step (step.SyncBeginRange a b c)) none h = none Sync (sym h.0.3 ∙ sym (head_eq _ _ _ _ h.0.2))
 unnamed word words (command.Step (step.SyncStep a)) none h = none Step (sym h.0.3 ∙ sym (head_eq _ _ _ _ h.0.2))
 unnamed word words (command.Step (step.SyncDrop a)) none h = none Drop (sym h.0.3 ∙ sym (head_eq _ _ _ _ h.0.2))
-unnamed word words (command.Fsync a) none h = none Fsync (sym h.0.3 ∙ sym (head_eq _ _ _ _ h.0.2))
+unnamed word words (command.Fsync a r) none h = none Fsync (sym h.0.3 ∙ sym (head_eq _ _ _ _ h.0.2))
 unnamed word words (command.Poll a) none h = none Poll (sym h.0.3 ∙ sym (head_eq _ _ _ _ h.0.2))
 unnamed word words (command.Step step.Evict) none h = none Evict (sym h.0.3 ∙ sym (head_eq _ _ _ _ h.0.2))
 unnamed word words (command.Step step.Age) none h = none Age (sym h.0.3 ∙ sym (head_eq _ _ _ _ h.0.2))
 unnamed word words (command.Tags f p) none h = none Tags (sym h.0.3 ∙ sym (head_eq _ _ _ _ h.0.2))
+
+-- what holds anyhow holds of an error
+pub on_err : {A B : Type 0} (r : Result A B) {P : Type 0} → P → OnErr r P
+on_err (Ok x) p = tt
+on_err (Err e) p = p
+
+-- an option's value, or else an error
+pub if_ok_or : {A B : Type 0} (r : Result A B) (o : Option A) (e : B) (P : A → Type 0) → r ≡ ok_or o e
+    → ((x : A) → o ≡ Some x → P x) → IfOk r P
+if_ok_or r (Some x) e P is f = subst (λ q. IfOk q P) (sym is) (f x refl)
+if_ok_or r None e P is f = subst (λ q. IfOk q P) (sym is) tt
+
+pub err_ok_or : {A B : Type 0} (r : Result A B) (o : Option A) (e : B) (P : Type 0) → r ≡ ok_or o e → (o ≡ None → P)
+    → OnErr r P
+err_ok_or r (Some x) e P is f = subst (λ q. OnErr q P) (sym is) tt
+err_ok_or r None e P is f = subst (λ q. OnErr q P) (sym is) (f refl)
+
+-- ---- how many words a command has
+
+begins_length : (words : List (List ℕ)) (parts : List Part) (rest : List (List ℕ)) → Begins words parts rest
+    → length words ≡ length parts + length rest
+begins_length words [] rest b = omega (arith, ap length b)
+begins_length words (part ∷ parts) rest (word, more, e, is, b) =
+    omega (arith, ap length e, begins_length more parts rest b)
+
+-- the words of the command of this name that has most
+abbrev most : Keyword → ℕ
+most Config = 5
+most Create = 1
+most Open = 2
+most Close = 2
+most Size = 2
+most Read = 4
+most Write = 4
+most Append = 3
+most Truncate = 3
+most Fill = 3
+most Flush = 2
+most Do = 2
+most Fail = 4
+most End = 2
+most Sync = 4
+most Step = 2
+most Drop = 2
+most Fsync = 4
+most Poll = 2
+most Evict = 1
+most Age = 1
+most Tags = 3
+
+-- whether the words of a range may follow those of the command
+abbrev takes_range : Command → Bool
+takes_range (command.Step (step.SyncBegin h)) = true
+takes_range (command.Fsync h None) = true
+takes_range _ = false
+
+abbrev HasMost : Command → Type 0
+HasMost c = (length (parts_of c) ≤ most (keyword_of c)) × (takes_range c ≡ false → length (parts_of c) ≡ most (keyword_of c))
+
+has_most : (c : Command) → HasMost c
+unfolding keyword_of
+has_most (command.Config a b c d) = (omega arith, λ e. refl)
+has_most (command.Step step.Create) = (omega arith, λ e. refl)
+has_most (command.Step (step.Open f)) = (omega arith, λ e. refl)
+has_most (command.Step (step.Close h)) = (omega arith, λ e. refl)
+has_most (command.Step (step.Size h)) = (omega arith, λ e. refl)
+has_most (command.Step (step.Read h o n)) = (omega arith, λ e. refl)
+has_most (command.Step (step.Write h o b)) = (omega arith, λ e. refl)
+has_most (command.Step (step.Append h b)) = (omega arith, λ e. refl)
+has_most (command.Step (step.Truncate h z)) = (omega arith, λ e. refl)
+has_most (command.Step (step.FillBegin h p)) = (omega arith, λ e. refl)
+has_most (command.Step (step.FlushBegin f)) = (omega arith, λ e. refl)
+has_most (command.Step (step.Call t)) = (omega arith, λ e. refl)
+has_most (command.Fail t n e) = (omega arith, λ e. refl)
+has_most (command.Step (step.End t)) = (omega arith, λ e. refl)
+has_most (command.Step (step.SyncBegin h)) = (omega arith, λ e. absurd cc)
+has_most (command.Step (step.SyncBeginRange h a b)) = (omega arith, λ e. refl)
+has_most (command.Step (step.SyncStep s)) = (omega arith, λ e. refl)
+has_most (command.Step (step.SyncDrop s)) = (omega arith, λ e. refl)
+has_most (command.Fsync h None) = (omega arith, λ e. absurd cc)
+has_most (command.Fsync h (Some r)) = (omega arith, λ e. refl)
+has_most (command.Poll h) = (omega arith, λ e. refl)
+has_most (command.Step step.Evict) = (omega arith, λ e. refl)
+has_most (command.Step step.Age) = (omega arith, λ e. refl)
+has_most (command.Tags f p) = (omega arith, λ e. refl)
+
+some_words : (words : List (List ℕ)) → words ≢ [] → 0 < length words
+some_words [] some = absurd (some refl)
+some_words (word ∷ words) some = omega arith
+
+-- words that go on after a command that takes no range ask for none
+longest : (k : Keyword) (words rest : List (List ℕ)) (c d : Command) → takes_range c ≡ false
+    → Begins (name_of k ∷ words) (parts_of c) rest → rest ≢ [] → ¬ (Asks (name_of k ∷ words) d)
+longest k words rest c d takes begins some asked =
+    let own = (named_parts k words rest c begins).0 in
+    let other = (named_parts k words [] d asked.0).0 in
+    let all = begins_length (name_of k ∷ words) (parts_of c) rest begins in
+    let same = begins_length (name_of k ∷ words) (parts_of d) [] asked.0 in
+    let exact = (has_most c).1 takes in
+    let bound = (has_most d).0 in
+    absurd (omega (arith, all, same, exact, bound, ap most own, ap most other, some_words rest some))
+
+-- words that go on after a command that takes a range, and not by a range, ask for none
+unranged : (k j : Keyword) (h : ℕ) (words rest : List (List ℕ))
+    → Begins (name_of k ∷ words) (Name j ∷ Number h ∷ []) rest
+    → (Follows j words → (a : ℕ) × (r : Option (PageIndex × PageIndex)) × Starts words (Number a ∷ range_parts r) [])
+    → rest ≢ [] → ((r : PageIndex × PageIndex) → ¬ (Begins rest (range_parts (Some r)) []))
+    → (d : Command) → ¬ (Asks (name_of k ∷ words) d)
+unranged k j h words rest begins goes some none d asked =
+    let own = named k j words (Number h ∷ []) rest begins in
+    let s = goes (subst (λ x. Follows x words) (sym own.0) (asks k words d asked)) in
+    no_range rest some none s.1 (after_number own.1 s.2).begins
+
+some_same : (c d : Command) → Some c ≡ Some d → c ≡ d
+some_same c d e = cc
+
+-- a range after a command
+begins_on : (words mid rest : List (List ℕ)) (parts more : List Part) → Begins words parts mid
+    → Begins mid more rest → Begins words (parts ++ more) rest
+begins_on words mid rest [] more a b = subst (λ w. Begins w more rest) (sym a) b
+begins_on words mid rest (part ∷ parts) more (word, tail, e, is, a) b =
+    (word, tail, e, is, begins_on tail mid rest parts more a b)
+
+pub ranged_asks : (all rest : List (List ℕ)) (c d : Command) (range : PageIndex × PageIndex) → ranged c range ≡ Some d
+    → Begins all (parts_of c) rest → Begins rest (range_parts (Some range)) [] → Asks all d
+ranged_asks all rest (command.Step (step.SyncBegin h)) d range is begins more =
+    subst (Asks all) (some_same _ d is)
+    (begins_on all rest [] (Name Sync ∷ Number h.0 ∷ []) (range_parts (Some range)) begins more, tt)
+ranged_asks all rest (command.Fsync h None) d range is begins more =
+    subst (Asks all) (some_same _ d is)
+    (begins_on all rest [] (Name Fsync ∷ Number h.0 ∷ []) (range_parts (Some range)) begins more, tt)
+ranged_asks all rest c d range is begins more = absurd cc
+
+unranged_takes : (c : Command) (range : PageIndex × PageIndex) → ranged c range ≡ None → takes_range c ≡ false
+unranged_takes (command.Step (step.SyncBegin h)) range is = absurd cc
+unranged_takes (command.Fsync h None) range is = absurd cc
+unranged_takes c range is = refl
+
+-- a range after a command that takes none
+pub ranged_alone : (k : Keyword) (more rest : List (List ℕ)) (c d : Command) (range : PageIndex × PageIndex)
+    → ranged c range ≡ None → Begins (name_of k ∷ more) (parts_of c) rest → rest ≢ [] → ¬ (Asks (name_of k ∷ more) d)
+ranged_alone k more rest c d range is = longest k more rest c d (unranged_takes c range is)
+
+-- words that go on after a command, and not by a range, ask for none
+pub no_more : (k : Keyword) (more rest : List (List ℕ)) (c d : Command) → Begins (name_of k ∷ more) (parts_of c) rest
+    → rest ≢ [] → ((r : PageIndex × PageIndex) → ¬ (Begins rest (range_parts (Some r)) []))
+    → ¬ (Asks (name_of k ∷ more) d)
+no_more k more rest (command.Step (step.SyncBegin h)) d begins some none =
+    unranged k Sync h.0 more rest begins (λ f. f) some none d
+no_more k more rest (command.Fsync h None) d begins some none =
+    unranged k Fsync h.0 more rest begins (λ f. f) some none d
+no_more k more rest c d begins some none = longest k more rest c d refl begins some

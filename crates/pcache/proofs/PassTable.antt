@@ -11,7 +11,8 @@ use Rattle.std.proofs.lemmas.List.{length-map, map-append, take-map, drop-map}
 use Rattle.std.proofs.lemmas.List.Quantifiers.{position-Some}
 use Rattle.std.proofs.lemmas.List.Sums.{prefix_len_passes}
 use Rattle.errboard.specs.Shown.{PassSeen}
-use Rattle.cachecore.proofs.MapLaws.{same_nat_map, get-remove_nat}
+use Rattle.maps.proofs.MapLaws.{same_nat_map}
+use Rattle.maps.proofs.Maps.{get-remove_nat}
 use Rattle.world.specs.Flights.{EachOnce}
 use Rattle.world.proofs.OnceLemmas.{seek_first, once_push, push_inserts, len_once, once_remove, seek_at, remove_removes}
 use Rattle.pcache.specs.declared.passes.Entry.{Entry}

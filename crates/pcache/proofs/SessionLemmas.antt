@@ -1,6 +1,6 @@
 -- A session: how its passes go with its world, step by step.
 use Rattle.std.proofs.Common.{◌≡◌, ◌≢◌, ℕ, ◌+◌, ◌-◌, ◌<◌, ◌≤◌, Bool, true, false, cond, eqb, eqb-true, eq-eqb, List, length, drop, refl, ap, sym, subst, ◌∙◌, arith}
-use Rattle.std.specs.Prelude.{Option, Some, None, IfNone, IfSome, Ok, Err, is_some, option_map, unwrap_or}
+use Rattle.std.specs.Prelude.{Option, Some, None, IfNone, IfSome, Ok, Err, is_some, option_map, option_and_then, unwrap_or}
 use mathlib.Core.List.{IsPrefix}
 use Rattle.std.specs.Ordering.{nat_cmp}
 use Rattle.std.specs.Cmp.{nat_cmp_total}
@@ -21,45 +21,42 @@ use Rattle.errboard.specs.Shown.{PassSeen, RecorderSeen}
 use Rattle.errboard.specs.Views.{recorded_of}
 use Rattle.errboard.specs.declared.board.Board.{Board}
 use Rattle.cachecore.specs.Flushing.{flush_of}
-use Rattle.cachecore.specs.declared.event.Reply.{Reply}
-use Rattle.cachecore.specs.declared.event.Reply.TheVariants as reply
-use Rattle.cachecore.proofs.MapLaws.{same_nat_map, get-insert_nat, get-remove_nat}
+use Rattle.machine.specs.declared.event.Reply.{Reply}
+use Rattle.machine.specs.declared.event.Reply.TheVariants as reply
+use Rattle.maps.proofs.MapLaws.{same_nat_map}
+use Rattle.maps.proofs.Maps.{get-insert_nat, get-remove_nat}
 use Rattle.world.specs.declared.step.Step.{Step}
 use Rattle.world.specs.declared.step.Step.TheVariants as step
-use Rattle.world.specs.Stepping.{Held, Steps}
-use Rattle.world.proofs.Whole.{get-keyed}
+use Rattle.world.specs.Stepping.{WorldSeen, Steps}
+use Rattle.maps.proofs.Filtered.{get-filter_map_values, filter_map_values-empty, filter_map_values-insert}
+use Rattle.maps.proofs.Filtered.{filter_map_values-remove}
 use Rattle.pcache.specs.Runs.{world_of_sizes}
 use Rattle.pcache.specs.Sessions.{BeginsTold, Makes, Notes, Polls, Records, SessionSeen, Tells, log_of}
 use Rattle.pcache.specs.Telling.{IsSession, Passes, told_of}
-use Rattle.pcache.proofs.HandleLaws.{Opens, closes_core, files_few, handles_kept, moves_handles, not_closed, not_opened, opens_core}
+use Rattle.pcache.proofs.HandleLaws.{Opens, closes_core, left_by, moves_handles, not_closed, not_opened, opens_core}
 
 -- ---- what the handles were told of
 
-told_at : (passes : Passes) (h : ℕ) → finmap.get (told_of passes) h ≡ option_map (λ (p : PassSeen). p.done) (finmap.get passes h)
-told_at passes h = get-keyed (λ h (p : PassSeen). p.done) passes h
+abbrev done : PassSeen → Option ℕ
+done p = Some p.done
 
-told_cond : (b : Bool) (p : PassSeen) (o : Option PassSeen) → option_map (λ (q : PassSeen). q.done) (cond b (Some p) o) ≡ cond b (Some p.done) (option_map (λ (q : PassSeen). q.done) o)
-told_cond true p o = refl
-told_cond false p o = refl
+told_some : (o : Option PassSeen) → option_and_then done o ≡ option_map (λ (p : PassSeen). p.done) o
+told_some None = refl
+told_some (Some p) = refl
 
-told_cut : (b : Bool) (o : Option PassSeen) → option_map (λ (q : PassSeen). q.done) (cond b None o) ≡ cond b None (option_map (λ (q : PassSeen). q.done) o)
-told_cut true o = refl
-told_cut false o = refl
+told_at : (passes : Passes) (h : ℕ)
+    → finmap.get (told_of passes) h ≡ option_map (λ (p : PassSeen). p.done) (finmap.get passes h)
+told_at passes h = get-filter_map_values done passes h ∙ told_some (finmap.get passes h)
 
 pub told_empty : told_of finmap.empty ≡ finmap.empty
-told_empty = same_nat_map _ _ (λ h. told_at finmap.empty h ∙ ap (option_map (λ (p : PassSeen). p.done)) (get-empty nat_cmp h) ∙ sym (get-empty nat_cmp h))
+told_empty = filter_map_values-empty done
 
-pub told_put : (passes : Passes) (h : ℕ) (p : PassSeen) → told_of (finmap.insert passes h p) ≡ finmap.insert (told_of passes) h p.done
-told_put passes h p = same_nat_map _ _ (λ q. told_at (finmap.insert passes h p) q
-    ∙ ap (option_map (λ (x : PassSeen). x.done)) (get-insert_nat passes h p q)
-    ∙ told_cond (eqb q h) p (finmap.get passes q)
-    ∙ sym (get-insert_nat (told_of passes) h p.done q ∙ ap (cond (eqb q h) (Some p.done)) (told_at passes q)))
+pub told_put : (passes : Passes) (h : ℕ) (p : PassSeen)
+    → told_of (finmap.insert passes h p) ≡ finmap.insert (told_of passes) h p.done
+told_put passes h p = filter_map_values-insert done passes h p p.done refl
 
 pub told_taken : (passes : Passes) (h : ℕ) → told_of (finmap.remove passes h) ≡ finmap.remove (told_of passes) h
-told_taken passes h = same_nat_map _ _ (λ q. told_at (finmap.remove passes h) q
-    ∙ ap (option_map (λ (x : PassSeen). x.done)) (get-remove_nat passes h q)
-    ∙ told_cut (eqb q h) (finmap.get passes q)
-    ∙ sym (get-remove_nat (told_of passes) h q ∙ ap (cond (eqb q h) None) (told_at passes q)))
+told_taken passes h = filter_map_values-remove done passes h
 
 -- what was taken out and is put back is put there
 again : {X : Type 0} (m : FinMap nat_cmp X) (h : ℕ) (x : X) → finmap.insert (finmap.remove m h) h x ≡ finmap.insert m h x
@@ -71,13 +68,13 @@ again {X} m h x = same_nat_map _ _ (λ q. get-insert_nat (finmap.remove m h) h x
 
 -- ---- a session that begins
 
-pub session_begins : (sizes : Sizes) (w : Held) (board : Board) (r : RecorderSeen) (passes : Passes) → w ≡ world_of_sizes sizes → r.board ≡ board → passes ≡ finmap.empty → IsSession w board r passes
+pub session_begins : (sizes : Sizes) (w : WorldSeen) (board : Board) (r : RecorderSeen) (passes : Passes) → w ≡ world_of_sizes sizes → r.board ≡ board → passes ≡ finmap.empty → IsSession w board r passes
 session_begins sizes w board r passes world same none = record {
   same_board = same;
   of_board = λ h p is. absurd (let e = sym is ∙ ap (λ (m : Passes). finmap.get m h) none ∙ get-empty nat_cmp h in cc);
-  handles = λ h. ap (λ (m : Passes). option_map (λ (p : PassSeen). p.file) (finmap.get m h)) none ∙ ap (option_map (λ (p : PassSeen). p.file)) (get-empty nat_cmp h) ∙ sym (ap (λ (x : Held). finmap.get x.core.handles h) world ∙ get-empty nat_cmp h);
-  count = ap finmap.len none ∙ len-empty nat_cmp PassSeen ∙ sym (ap (λ (x : Held). finmap.len x.core.handles) world ∙ len-empty nat_cmp ℕ);
-  few_files = subst (λ (x : Held). length x.core.files ≤ MAX_FILES) (sym world) (omega arith);
+  handles = λ h. ap (λ (m : Passes). option_map (λ (p : PassSeen). p.file) (finmap.get m h)) none ∙ ap (option_map (λ (p : PassSeen). p.file)) (get-empty nat_cmp h) ∙ sym (ap (λ (x : WorldSeen). finmap.get x.core.handles h) world ∙ get-empty nat_cmp h);
+  count = ap finmap.len none ∙ len-empty nat_cmp PassSeen ∙ sym (ap (λ (x : WorldSeen). finmap.len x.core.handles) world ∙ len-empty nat_cmp ℕ);
+  few_files = subst (λ (x : WorldSeen). length x.core.files ≤ MAX_FILES) (sym world) (omega arith);
 }
 
 -- ---- steps
@@ -87,9 +84,9 @@ other_step (step.Open f) opens closes = absurd (opens f refl)
 other_step (step.Close h) opens closes = absurd (closes h refl)
 other_step _ opens closes = refl
 
-module _ (w : Held) (board : Board) (r : RecorderSeen) (passes : Passes) (s : IsSession w board r passes) where
+module _ (w : WorldSeen) (board : Board) (r : RecorderSeen) (passes : Passes) (s : IsSession w board r passes) where
   -- a step that leaves the handles
-  same_handles : (new : Held) → new.core.handles ≡ w.core.handles → length new.core.files ≤ MAX_FILES → IsSession new board r passes
+  same_handles : (new : WorldSeen) → new.core.handles ≡ w.core.handles → length new.core.files ≤ MAX_FILES → IsSession new board r passes
   same_handles new same few = record {
     same_board = s.same_board;
     of_board = s.of_board;
@@ -98,8 +95,8 @@ module _ (w : Held) (board : Board) (r : RecorderSeen) (passes : Passes) (s : Is
     few_files = few;
   }
 
-  pub steps_on : (new : Held) (e : Step) (a : Reply) → moves_handles e ≡ false → Steps w e a new → IsSession new board r passes
-  steps_on new e a quiet m = same_handles new (handles_kept w new e a quiet m) (files_few w new s.few_files e a m)
+  pub steps_on : (new : WorldSeen) (e : Step) (a : Reply) → moves_handles e ≡ false → Steps w e a new → IsSession new board r passes
+  steps_on new e a quiet m = same_handles new ((left_by w new e a m).handles quiet) ((left_by w new e a m).files s.few_files)
 
   -- a handle that is open has a pass, and no other has
   pass_none : (h : ℕ) (o : Option PassSeen) → option_map (λ (p : PassSeen). p.file) o ≡ None → o ≡ None
@@ -111,22 +108,22 @@ module _ (w : Held) (board : Board) (r : RecorderSeen) (passes : Passes) (s : Is
 
   -- ---- a file is opened
 
-  opened : (new : Held) (f : FileId) (h : HandleId) → Steps w (step.Open f) (reply.Handle h) new → Opens w.core f.0 h.0 new.core
-  opened new f h m = opens_core w.core new.core f h m.0.0
+  opened : (new : WorldSeen) (f : FileId) (h : HandleId) → Steps w (step.Open f) (reply.Handle h) new → Opens w.core f.0 h.0 new.core
+  opened new f h m = opens_core w.core new.core f h m.0.1.0
 
-  pub put_apart : (new : Held) (f : FileId) (h : HandleId) → Steps w (step.Open f) (reply.Handle h) new → finmap.get passes h.0 ≡ None
+  pub put_apart : (new : WorldSeen) (f : FileId) (h : HandleId) → Steps w (step.Open f) (reply.Handle h) new → finmap.get passes h.0 ≡ None
   put_apart new f h m = no_pass h.0 (opened new f h m).apart
 
-  pub put_room : (new : Held) (f : FileId) (h : HandleId) → Steps w (step.Open f) (reply.Handle h) new → finmap.len passes < MAX_HANDLES
+  pub put_room : (new : WorldSeen) (f : FileId) (h : HandleId) → Steps w (step.Open f) (reply.Handle h) new → finmap.len passes < MAX_HANDLES
   put_room new f h m = let room = (opened new f h m).room in omega (arith, s.count)
 
-  pub session_opens : (new : Held) (f : FileId) (h : HandleId) (p : PassSeen) → Steps w (step.Open f) (reply.Handle h) new → p.board ≡ board → p.file ≡ f.0 → IsSession new board r (finmap.insert passes h.0 p)
+  pub session_opens : (new : WorldSeen) (f : FileId) (h : HandleId) (p : PassSeen) → Steps w (step.Open f) (reply.Handle h) new → p.board ≡ board → p.file ≡ f.0 → IsSession new board r (finmap.insert passes h.0 p)
   session_opens new f h p m mine file = let o = opened new f h m in record {
     same_board = s.same_board;
     of_board = λ k q is. of_either k q (eqb k h.0) (sym (get-insert_nat passes h.0 p k) ∙ is);
     handles = λ k. ap (option_map (λ (x : PassSeen). x.file)) (get-insert_nat passes h.0 p k) ∙ file_either k (eqb k h.0) ∙ sym (ap (λ m. finmap.get m k) o.handles ∙ get-insert_nat w.core.handles h.0 f.0 k);
     count = one_more passes h.0 p (no_pass h.0 o.apart) ∙ ap (λ n. n + 1) s.count ∙ sym (ap finmap.len o.handles ∙ one_more w.core.handles h.0 f.0 o.apart);
-    few_files = files_few w new s.few_files (step.Open f) (reply.Handle h) m;
+    few_files = (left_by w new (step.Open f) (reply.Handle h) m).files s.few_files;
   }
     where
       of_either : (k : ℕ) (q : PassSeen) (b : Bool) → cond b (Some p) (finmap.get passes k) ≡ Some q → q.board ≡ board
@@ -140,22 +137,22 @@ module _ (w : Held) (board : Board) (r : RecorderSeen) (passes : Passes) (s : Is
       one_more : {A : Type 0} (m : FinMap nat_cmp A) (k : ℕ) (x : A) → finmap.get m k ≡ None → finmap.len (finmap.insert m k x) ≡ finmap.len m + 1
       one_more m k x none = len-insert nat_cmp_total m k x ∙ ap (λ b. cond b (finmap.len m) (finmap.len m + 1)) (ap is_some none)
 
-  pub session_not_opened : (new : Held) (f : FileId) (a : Reply) → ((h : HandleId) → a ≢ reply.Handle h) → Steps w (step.Open f) a new → IsSession new board r passes
-  session_not_opened new f a other m = same_handles new (not_opened w.core new.core f a other m.0.0) (files_few w new s.few_files (step.Open f) a m)
+  pub session_not_opened : (new : WorldSeen) (f : FileId) (a : Reply) → ((h : HandleId) → a ≢ reply.Handle h) → Steps w (step.Open f) a new → IsSession new board r passes
+  session_not_opened new f a other m = same_handles new (not_opened w.core new.core f a other m.0.1.0) ((left_by w new (step.Open f) a m).files s.few_files)
 
   -- no file has such a number
-  pub none_so_high : (new : Held) (f : FileId) (a : Reply) → MAX_FILES ≤ f.0 → Steps w (step.Open f) a new → (h : HandleId) → a ≢ reply.Handle h
+  pub none_so_high : (new : WorldSeen) (f : FileId) (a : Reply) → MAX_FILES ≤ f.0 → Steps w (step.Open f) a new → (h : HandleId) → a ≢ reply.Handle h
   none_so_high new f a high m h e = let o = opened new f h (subst (λ x. Steps w (step.Open f) x new) e m) in absurd (omega (arith, o.here, s.few_files))
 
   -- ---- a handle is closed
 
-  pub session_closes : (new : Held) (h : HandleId) → Steps w (step.Close h) reply.Closed new → IsSession new board r (finmap.remove passes h.0)
-  session_closes new h m = let c = closes_core w.core new.core h m.0.0 in record {
+  pub session_closes : (new : WorldSeen) (h : HandleId) → Steps w (step.Close h) reply.Closed new → IsSession new board r (finmap.remove passes h.0)
+  session_closes new h m = let c = closes_core w.core new.core h m.0.1.0 in record {
     same_board = s.same_board;
     of_board = λ k q is. of_either k q (eqb k h.0) (sym (get-remove_nat passes h.0 k) ∙ is);
     handles = λ k. ap (option_map (λ (x : PassSeen). x.file)) (get-remove_nat passes h.0 k) ∙ file_either k (eqb k h.0) ∙ sym (ap (λ m. finmap.get m k) c ∙ get-remove_nat w.core.handles h.0 k);
     count = len-remove nat_cmp_total passes h.0 ∙ (λ i. cond (there i) (s.count i - 1) (s.count i)) ∙ sym (ap finmap.len c ∙ len-remove nat_cmp_total w.core.handles h.0);
-    few_files = files_few w new s.few_files (step.Close h) reply.Closed m;
+    few_files = (left_by w new (step.Close h) reply.Closed m).files s.few_files;
   }
     where
       of_either : (k : ℕ) (q : PassSeen) (b : Bool) → cond b None (finmap.get passes k) ≡ Some q → q.board ≡ board
@@ -173,16 +170,16 @@ module _ (w : Held) (board : Board) (r : RecorderSeen) (passes : Passes) (s : Is
       there : finmap.contains_key passes h.0 ≡ finmap.contains_key w.core.handles h.0
       there = sym (is_there (finmap.get passes h.0)) ∙ ap is_some (s.handles h.0)
 
-  pub session_not_closed : (new : Held) (h : HandleId) (a : Reply) → a ≢ reply.Closed → Steps w (step.Close h) a new → IsSession new board r passes
-  session_not_closed new h a other m = same_handles new (not_closed w.core new.core h a other m.0.0) (files_few w new s.few_files (step.Close h) a m)
+  pub session_not_closed : (new : WorldSeen) (h : HandleId) (a : Reply) → a ≢ reply.Closed → Steps w (step.Close h) a new → IsSession new board r passes
+  session_not_closed new h a other m = same_handles new (not_closed w.core new.core h a other m.0.1.0) ((left_by w new (step.Close h) a m).files s.few_files)
 
 -- ---- what the calls leave, as contracts see it
 
-abbrev pub seen : Held → RecorderSeen → Passes → SessionSeen
+abbrev pub seen : WorldSeen → RecorderSeen → Passes → SessionSeen
 seen w r passes = record { world = w; recorded = r.all; told = told_of passes }
 
 -- a recorder that is as it was
-pub same_recorder : (w : Held) (board : Board) (r after : RecorderSeen) (passes : Passes) → after ≡ r → IsSession w board r passes → IsSession w board after passes
+pub same_recorder : (w : WorldSeen) (board : Board) (r after : RecorderSeen) (passes : Passes) → after ≡ r → IsSession w board r passes → IsSession w board after passes
 same_recorder w board r after passes e s = subst (λ x. IsSession w board x passes) (sym e) s
 
 -- a new pass
@@ -198,7 +195,7 @@ pub new_pass : (board : Board) (r : RecorderSeen) (f start : ℕ) (p : PassSeen)
 new_pass board r f start p same made (loaded, stands, since, done) =
     record { of_board = made.0 ∙ same; file = made.1; told = (is_seen loaded, done ∙ ap (λ log. done_at log loaded) made.3) }
 
-module _ (w new : Held) (board : Board) (r after : RecorderSeen) (passes put : Passes) (s : IsSession w board r passes) (f : FileId) (h : HandleId) (a : Reply) (p : PassSeen) where
+module _ (w new : WorldSeen) (board : Board) (r after : RecorderSeen) (passes put : Passes) (s : IsSession w board r passes) (f : FileId) (h : HandleId) (a : Reply) (p : PassSeen) where
   pub open_session : a ≡ reply.Handle h → after ≡ r → put ≡ finmap.insert passes h.0 p → Steps w (step.Open f) a new → NewPass board r f.0 p → IsSession new board after put
   open_session is same e m n =
       same_recorder new board r after put same
@@ -221,7 +218,7 @@ end_notes : (old new : SessionSeen) (t : Serial) (a : Reply) → ((c : ℕ) → 
 end_notes old new t (reply.Failed c) other e = absurd (other c refl)
 end_notes old new t _ other e = e
 
-module _ (w new : Held) (board : Board) (r after : RecorderSeen) (passes : Passes) (s : IsSession w board r passes) (same : after ≡ r) (a : Reply) where
+module _ (w new : WorldSeen) (board : Board) (r after : RecorderSeen) (passes : Passes) (s : IsSession w board r passes) (same : after ≡ r) (a : Reply) where
   kept : ((seen new after passes).recorded ≡ (seen w r passes).recorded) × ((seen new after passes).told ≡ (seen w r passes).told)
   kept = (ap (λ (x : RecorderSeen). x.all) same, refl)
 
@@ -239,7 +236,7 @@ module _ (w new : Held) (board : Board) (r after : RecorderSeen) (passes : Passe
     pub unclosed_makes : Makes (seen w r passes) (step.Close h) a (seen new after passes)
     unclosed_makes = (m, close_notes (seen w r passes) (seen new after passes) h a other kept)
 
-module _ (w new : Held) (board : Board) (r after : RecorderSeen) (passes taken : Passes) (s : IsSession w board r passes) (same : after ≡ r) (h : HandleId) (a : Reply) (is : a ≡ reply.Closed) (e : taken ≡ finmap.remove passes h.0) (m : Steps w (step.Close h) a new) where
+module _ (w new : WorldSeen) (board : Board) (r after : RecorderSeen) (passes taken : Passes) (s : IsSession w board r passes) (same : after ≡ r) (h : HandleId) (a : Reply) (is : a ≡ reply.Closed) (e : taken ≡ finmap.remove passes h.0) (m : Steps w (step.Close h) a new) where
   pub close_session : IsSession new board after taken
   close_session =
       same_recorder new board r after taken same
@@ -250,7 +247,7 @@ module _ (w new : Held) (board : Board) (r after : RecorderSeen) (passes taken :
 
 -- ---- a request ends
 
-module _ (w new : Held) (board : Board) (r after : RecorderSeen) (passes : Passes) (s : IsSession w board r passes) (t : Serial) (a : Reply) (m : Steps w (step.End t) a new) where
+module _ (w new : WorldSeen) (board : Board) (r after : RecorderSeen) (passes : Passes) (s : IsSession w board r passes) (t : Serial) (a : Reply) (m : Steps w (step.End t) a new) where
   pub end_session : after.board ≡ r.board → IsSession new board after passes
   end_session same = let on = steps_on w board r passes s new (step.End t) a refl m in record {
     same_board = same ∙ on.same_board;
@@ -279,7 +276,7 @@ not_there m h none = same_nat_map _ _ (λ q. get-remove_nat m h q ∙ either q (
     either q true e = ap (λ b. cond b None (finmap.get m q)) e ∙ sym (ap (finmap.get m) (eqb-true q h e) ∙ none)
     either q false e = ap (λ b. cond b None (finmap.get m q)) e
 
-module _ (w : Held) (board : Board) (r : RecorderSeen) (passes taken : Passes) (s : IsSession w board r passes) (h : ℕ) (e : taken ≡ finmap.remove passes h) where
+module _ (w : WorldSeen) (board : Board) (r : RecorderSeen) (passes taken : Passes) (s : IsSession w board r passes) (h : ℕ) (e : taken ≡ finmap.remove passes h) where
   -- a handle without a pass is not open
   module _ (none : finmap.get passes h ≡ None) where
     unchanged : taken ≡ passes

@@ -7,8 +7,8 @@ use Rattle.pc_types.specs.declared.refusal.Refusal.TheVariants.{Io}
 use Rattle.pc_types.specs.Refusals.{refusal_number}
 use Rattle.pc_types.specs.Tags.{TagSet}
 use Rattle.pc_types.specs.TagBits.{tag_set}
-use Rattle.cachecore.specs.declared.event.Reply.{Reply}
-use Rattle.cachecore.specs.declared.event.Reply.TheVariants.{Refused, File, Handle, Closed, Size, Bytes, Wait, Miss, Wrote, Done, Gone, Present, Filled, Job, Dropped, Failed, Nothing, Written, Evicted, NoneIdle, Aged, Sync, Clean}
+use Rattle.machine.specs.declared.event.Reply.{Reply}
+use Rattle.machine.specs.declared.event.Reply.TheVariants.{Refused, File, Handle, Closed, Size, Bytes, Wait, Miss, Wrote, Done, Gone, Present, Filled, Job, Dropped, Failed, Nothing, Written, Evicted, NoneIdle, Aged, Sync, Clean}
 use Rattle.cachecore.specs.declared.answers.PageTags.{PageTags}
 use Rattle.cachecore.specs.declared.answers.PageTags.TheVariants.{Absent, Filling, Cached}
 use Rattle.textline.specs.declared.stop.Stop.{Stop}

@@ -1,9 +1,12 @@
 -- The lines of a script that are commands.
-use Rattle.std.specs.Prelude.{◌≡◌, ℕ, ◌≤◌, List, [], ◌∷◌, Some, codes}
+use Rattle.std.specs.Prelude.{◌≡◌, ℕ, ◌≤◌, List, [], ◌∷◌, Option, Some, None, codes}
+use Rattle.pc_types.specs.declared.ids.HandleId.{HandleId}
+use Rattle.pc_types.specs.declared.ids.PageIndex.{PageIndex}
 use Rattle.blockdev.specs.declared.fault.FaultEffect.{FaultEffect}
 use Rattle.blockdev.specs.declared.fault.FaultEffect.TheVariants.{Old, New}
 use Rattle.pcache.specs.declared.command.Command.{Command}
 use Rattle.pcache.specs.declared.command.Command.TheVariants as command
+use Rattle.world.specs.declared.step.Step.{Step as WorldStep}
 use Rattle.world.specs.declared.step.Step.TheVariants as step
 use Rattle.pcache.specs.declared.keyword.Keyword.{Keyword}
 use Rattle.pcache.specs.declared.keyword.Keyword.TheVariants.{Config, Create, Open, Close, Size, Read, Write, Append, Truncate, Fill, Flush, Do, Fail, End, Sync, Step, Drop, Fsync, Poll, Evict, Age, Tags}
@@ -33,6 +36,16 @@ abbrev pub Begins : List (List ℕ) → List Part → List (List ℕ) → Type 0
 Begins words [] rest = words ≡ rest
 Begins words (part ∷ parts) rest = (word : List ℕ) × (more : List (List ℕ)) × (words ≡ word ∷ more) × Is word part × Begins more parts rest
 
+-- the words of a range of pages; the whole file is named by none
+abbrev pub range_parts : Option (PageIndex × PageIndex) → List Part
+range_parts None = []
+range_parts (Some range) = Number range.0.0 ∷ Number range.1.0 ∷ []
+
+-- the step that begins a sync of the handle's whole file, or of a range of its pages
+abbrev pub sync_begin : HandleId → Option (PageIndex × PageIndex) → WorldStep
+sync_begin handle None = step.SyncBegin handle
+sync_begin handle (Some range) = step.SyncBeginRange handle range.0 range.1
+
 -- the words of each command
 abbrev pub parts_of : Command → List Part
 parts_of (command.Config page frames dirty_limit blocks) = Name Config ∷ Number page ∷ Number frames ∷ Number dirty_limit ∷ Number blocks ∷ []
@@ -50,13 +63,20 @@ parts_of (command.Step (step.Call serial)) = Name Do ∷ Number serial.0 ∷ []
 parts_of (command.Fail serial code effect) = Name Fail ∷ Number serial.0 ∷ Number code ∷ Leaves effect ∷ []
 parts_of (command.Step (step.End serial)) = Name End ∷ Number serial.0 ∷ []
 parts_of (command.Step (step.SyncBegin handle)) = Name Sync ∷ Number handle.0 ∷ []
+parts_of (command.Step (step.SyncBeginRange handle first last)) = Name Sync ∷ Number handle.0 ∷ range_parts (Some (first, last))
 parts_of (command.Step (step.SyncStep sync)) = Name Step ∷ Number sync.0 ∷ []
 parts_of (command.Step (step.SyncDrop sync)) = Name Drop ∷ Number sync.0 ∷ []
-parts_of (command.Fsync handle) = Name Fsync ∷ Number handle.0 ∷ []
+parts_of (command.Fsync handle range) = Name Fsync ∷ Number handle.0 ∷ range_parts range
 parts_of (command.Poll handle) = Name Poll ∷ Number handle.0 ∷ []
 parts_of (command.Step step.Evict) = Name Evict ∷ []
 parts_of (command.Step step.Age) = Name Age ∷ []
 parts_of (command.Tags file page) = Name Tags ∷ Number file.0 ∷ Number page.0 ∷ []
+
+-- a sync or an fsync of a range of pages in place of the whole file
+abbrev pub ranged : Command → PageIndex × PageIndex → Option Command
+ranged (command.Step (step.SyncBegin handle)) range = Some (command.Step (step.SyncBeginRange handle range.0 range.1))
+ranged (command.Fsync handle None) range = Some (command.Fsync handle (Some range))
+ranged _ range = None
 
 -- a command reads no more bytes than this, and a code has 16 bits
 abbrev pub IsWithinLimit : Command → Type 0

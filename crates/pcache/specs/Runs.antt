@@ -2,19 +2,20 @@
 use Rattle.std.specs.Prelude.{◌≡◌, ℕ, ◌+◌, ◌<◌, ◌≤◌, ◌⊎◌, Bool, true, false, if◌then◌else◌, List, [], ◌∷◌, ◌++◌, length, Option, Some, None, unwrap_or, Result, Ok, Err, codes}
 use Rattle.std.specs.Result.{result_unwrap_or}
 use Rattle.std.specs.Io.KnownBytes.{Keeps, Appends}
-use Rattle.cachecore.specs.declared.event.Reply.{Reply}
-use Rattle.cachecore.specs.declared.event.Reply.TheVariants.{Done}
-use Rattle.cachecore.specs.declared.answers.PageTags.{PageTags}
+use Rattle.machine.specs.declared.event.Reply.{Reply}
+use Rattle.machine.specs.declared.event.Reply.TheVariants.{Done}
 use Rattle.cachecore.specs.Replies.{TagsAre}
+use Rattle.cachecore.specs.declared.answers.PageTags.{PageTags}
 use Rattle.pc_types.specs.declared.refusal.Refusal.{Refusal}
 use Rattle.pc_types.specs.declared.refusal.Refusal.TheVariants.{BadCode, BadConfig}
 use Rattle.pc_types.specs.Limits.{Sizes, is_err_code, is_geometry}
 use Rattle.pc_types.specs.declared.ids.HandleId.{HandleId}
+use Rattle.pc_types.specs.declared.ids.PageIndex.{PageIndex}
 use Rattle.blockdev.specs.Device.{fresh}
 use Rattle.blockdev.specs.declared.fault.FaultEffect.{FaultEffect}
 use Rattle.world.specs.declared.step.Step.{Step}
 use Rattle.world.specs.declared.step.Step.TheVariants as step
-use Rattle.world.specs.Stepping.{Fails, Held, first_world}
+use Rattle.world.specs.Stepping.{Fails, WorldSeen, first_world}
 use Rattle.pcache.specs.declared.command.Command.{Command}
 use Rattle.pcache.specs.declared.command.Command.TheVariants as command
 use Rattle.pcache.specs.declared.run.TheConstants.{MAX_LINE}
@@ -39,7 +40,7 @@ abbrev pub default_sizes : Sizes
 default_sizes = record { page = 16; frames = 48; dirty_limit = 16; blocks = 64 }
 
 -- a world of these sizes over a device of zeros
-abbrev pub world_of_sizes : Sizes → Held
+abbrev pub world_of_sizes : Sizes → WorldSeen
 world_of_sizes sizes = first_world sizes 0 (fresh sizes.page sizes.blocks)
 
 -- a session in such a world
@@ -78,9 +79,9 @@ FailsCall old serial true code effect printed new =
     (result : Result Unit Refusal) × Fails old.world serial code effect result new.world × (new ≡ record old { world = new.world }) × (printed ≡ ended (failed_text result))
 FailsCall old serial false code effect printed new = (printed ≡ ended (refusal_text BadCode)) × (new ≡ old)
 
--- the handle's file is synced from the beginning to the end, and what comes of it is printed
-abbrev pub SyncsFile : SessionSeen → HandleId → List ℕ → SessionSeen → Type 0
-SyncsFile old handle printed new = (reply : Reply) × Fsyncs old handle reply new × (printed ≡ ended (answer_of reply))
+-- the handle's file, or a range of its pages, is synced from the beginning to the end, and what comes of it is printed
+abbrev pub SyncsFile : SessionSeen → HandleId → Option (PageIndex × PageIndex) → List ℕ → SessionSeen → Type 0
+SyncsFile old handle range printed new = (reply : Reply) × Fsyncs old handle range reply new × (printed ≡ ended (answer_of reply))
 
 -- the handle is polled, and what it is told is printed
 abbrev pub PollsHandle : SessionSeen → ℕ → List ℕ → SessionSeen → Type 0
@@ -102,7 +103,7 @@ Answers None (command.Config page frames dirty_limit blocks) printed new =
 Answers (Some s) (command.Config page frames dirty_limit blocks) printed new = ⊥
 Answers old (command.Step s) printed new = MakesStep (session_found old) s printed new
 Answers old (command.Fail serial code effect) printed new = FailsCall (session_found old) serial.0 (is_err_code code) code effect printed new
-Answers old (command.Fsync handle) printed new = SyncsFile (session_found old) handle printed new
+Answers old (command.Fsync handle range) printed new = SyncsFile (session_found old) handle range printed new
 Answers old (command.Poll handle) printed new = PollsHandle (session_found old) handle.0 printed new
 Answers old (command.Tags file page) printed new = TellsTags (session_found old) file.0 page.0 printed × (new ≡ session_found old)
 

@@ -8,32 +8,34 @@ use Rattle.errseq.specs.Word.{IsWithinTurn}
 use Rattle.errboard.specs.Views.{files, recorded_of}
 use Rattle.errboard.specs.Steps.{with_recording}
 use Rattle.pc_types.specs.declared.ids.HandleId.{HandleId}
+use Rattle.pc_types.specs.declared.ids.PageIndex.{PageIndex}
 use Rattle.pc_types.specs.declared.ids.Serial.{Serial}
 use Rattle.pc_types.specs.declared.ids.SyncId.{SyncId}
 use Rattle.pc_types.specs.declared.refusal.Refusal.{Refusal}
 use Rattle.pc_types.specs.declared.refusal.Refusal.TheVariants.{BadHandle, Io}
-use Rattle.cachecore.specs.declared.event.Reply.{Reply}
-use Rattle.cachecore.specs.declared.event.Reply.TheVariants as reply
+use Rattle.machine.specs.declared.event.Reply.{Reply}
+use Rattle.machine.specs.declared.event.Reply.TheVariants as reply
 use Rattle.cachecore.specs.Flushing.{flush_of}
-use Rattle.cachecore.specs.State.{file_of, is_open}
+use Rattle.machine.specs.State.{handle_file, is_open}
 use Rattle.world.specs.declared.step.Step.{Step}
 use Rattle.world.specs.declared.step.Step.TheVariants as step
-use Rattle.world.specs.Stepping.{Held, Steps}
+use Rattle.world.specs.Stepping.{WorldSeen, Steps}
+use Rattle.pcache.specs.Commands.{sync_begin}
 
 -- a session as its owner has it: the world, the codes of each file's failed writes in the order in which they were recorded, and
 -- for each open handle how many of its file's it was told of
 pub record SessionSeen : Type 0 where
-  pub world : Held
+  pub world : WorldSeen
   pub recorded : List (List Recording)
   pub told : finmap.FinMap nat_cmp ℕ
 
 -- a session whose world begins: nothing is recorded, and no handle is open
-abbrev pub first_session : Held → SessionSeen
+abbrev pub first_session : WorldSeen → SessionSeen
 first_session w = record { world = w; recorded = replicate files []; told = finmap.empty }
 
 -- what is recorded of the handle's file
 abbrev pub log_of : SessionSeen → ℕ → List Recording
-log_of s h = recorded_of s.recorded (file_of s.world.core h)
+log_of s h = recorded_of s.recorded (handle_file s.world.core h)
 
 -- ---- one step
 
@@ -102,5 +104,6 @@ GoesOn begun h (reply.Sync n) answer new =
     × Writes begun n ts written × Makes written (step.SyncStep n) r stopped × Concludes stopped h n r answer new
 GoesOn begun h first answer new = (answer ≡ first) × (new ≡ begun)
 
-abbrev pub Fsyncs : SessionSeen → HandleId → Reply → SessionSeen → Type 0
-Fsyncs old h answer new = (first : Reply) × (begun : SessionSeen) × Makes old (step.SyncBegin h) first begun × GoesOn begun h first answer new
+abbrev pub Fsyncs : SessionSeen → HandleId → Option (PageIndex × PageIndex) → Reply → SessionSeen → Type 0
+Fsyncs old h range answer new =
+    (first : Reply) × (begun : SessionSeen) × Makes old (sync_begin h range) first begun × GoesOn begun h first answer new

@@ -1,8 +1,9 @@
 //! What a line of a script asks for.
 
-ghost use Rattle.std.specs.Prelude.{◌≡◌, ◌∷◌, [], ℕ, List, IfOk, IsOkUnless, OnErr};
+ghost use Rattle.std.specs.Prelude.{◌≡◌, ◌≢◌, ◌∷◌, [], ℕ, List, Some, IfOk, IsOkUnless, OnErr};
 ghost use Rattle.blockdev.specs.declared.fault.FaultEffect.{FaultEffect as TheEffect};
-ghost use Rattle.pcache.specs.Commands.{Begins, Leaves};
+ghost use Rattle.pc_types.specs.declared.ids.PageIndex.{PageIndex as ThePage};
+ghost use Rattle.pcache.specs.Commands.{Begins, Leaves, range_parts, sync_begin};
 ghost use Rattle.pcache.specs.Keywords.{name_of};
 
 use crate::keyword::Keyword;
@@ -27,8 +28,8 @@ pub enum Command {
     Step(Step),
     /// The device call of a request, which fails with this code.
     Fail(Serial, u16, FaultEffect),
-    /// A sync of the handle's file, from its beginning to its end.
-    Fsync(HandleId),
+    /// A sync of the handle's file, from its beginning to its end: of the whole file, or of the pages of a range.
+    Fsync(HandleId, Option<(PageIndex, PageIndex)>),
     /// What the handle is told of failed writes.
     Poll(HandleId),
     /// What is known of a page.
@@ -36,8 +37,9 @@ pub enum Command {
 }
 
 impl Command {
-    ghost use Rattle.pcache.specs.Commands.{Asks, Means, parts_of, IsWithinLimit};
+    ghost use Rattle.pcache.specs.Commands.{Asks, Means, parts_of, IsWithinLimit, ranged};
     ghost use Rattle.pcache.specs.declared.command.Command.{Command as TheCommand};
+    ghost use Rattle.pcache.specs.declared.keyword.Keyword.{Keyword as TheKeyword};
 
     /// The command that a line asks for.
     pub fn parse(alloc: Global, line: &[u8]) -> Result<Command, Fault>
@@ -52,8 +54,34 @@ impl Command {
             return Err(Fault::Malformed);
         };
         let command = Command::with_arguments(alloc, keyword, &mut words)?;
-        words.end()?;
-        Ok(command)
+        if words.end().is_ok() {
+            return Ok(command);
+        }
+        command.with_range(&mut words)
+    }
+
+    /// The command with a range of pages, which the words left name: `sync H A B` or `fsync H A B`. No other command takes
+    /// one.
+    fn with_range(&self, words: &mut Words) -> Result<Command, Fault>
+        ensures ok { IfOk result (λ c. (all : List (List ℕ)) → Begins all (parts_of self.now) words.old → Asks all c) }
+        ensures none { OnErr result ((k : TheKeyword) (more : List (List ℕ)) → Begins (name_of k ∷ more) (parts_of self.now) words.old → words.old ≢ [] → (c : TheCommand) → ¬ (Asks (name_of k ∷ more) c)) }
+        ensures malformed { IsOkUnless result Fault.Malformed }
+    {
+        let range = range(words)?;
+        self.ranged(range).ok_or(Fault::Malformed)
+    }
+
+    /// The command with a range of pages, where it takes one.
+    fn ranged(&self, range: (PageIndex, PageIndex)) -> Option<Command>
+        ensures { result ≡ ranged self.now range }
+    {
+        match self {
+            Command::Step(Step::SyncBegin(handle)) => {
+                Some(Command::Step(Step::SyncBeginRange(*handle, range.0, range.1)))
+            }
+            Command::Fsync(handle, None) => Some(Command::Fsync(*handle, Some(range))),
+            _ => None,
+        }
     }
 
     /// The command of this name, with the arguments that the next words are.
@@ -240,7 +268,7 @@ impl Command {
         ensures ok { IfOk result (λ c. Begins (name_of Keyword.Fsync ∷ words.old) (parts_of c) words.new × IsWithinLimit c) }
         ensures malformed { result ≡ Err Fault.Malformed → (c : TheCommand) → ¬ (Asks (name_of Keyword.Fsync ∷ words.old) c) }
     {
-        Ok(Command::Fsync(HandleId(words.number()?)))
+        Ok(Command::Fsync(HandleId(words.number()?), None))
     }
 
     /// `poll H`
@@ -258,6 +286,28 @@ impl Command {
     {
         let file = FileId(words.number()?);
         Ok(Command::Tags(file, PageIndex(words.number()?)))
+    }
+}
+
+/// The range of pages that the words left are: two numbers, and nothing after them.
+fn range(words: &mut Words) -> Result<(PageIndex, PageIndex), Fault>
+    ensures ok { IfOk result (λ r. Begins words.old (range_parts (Some r)) []) }
+    ensures none { OnErr result ((r : ThePage × ThePage) → ¬ (Begins words.old (range_parts (Some r)) [])) }
+    ensures malformed { IsOkUnless result Fault.Malformed }
+{
+    let first = PageIndex(words.number()?);
+    let last = PageIndex(words.number()?);
+    words.end()?;
+    Ok((first, last))
+}
+
+/// The step that begins a sync: of the whole file, or of the pages of a range.
+pub fn sync_begin(handle: HandleId, range: Option<(PageIndex, PageIndex)>) -> Step
+    ensures { result ≡ sync_begin handle range }
+{
+    match range {
+        None => Step::SyncBegin(handle),
+        Some((first, last)) => Step::SyncBeginRange(handle, first, last),
     }
 }
 

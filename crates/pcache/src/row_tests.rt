@@ -523,3 +523,50 @@ fn fsync_gives_up_where_it_would_wait(rt: HostRuntime) -> Result<(), Fail> {
         ],
     )
 }
+
+/// A sync of a range starts, awaits and leaves clean the pages of the range alone. One that would begin past its end is
+/// refused.
+#[test]
+fn a_sync_of_a_range_leaves_the_other_pages(rt: HostRuntime) -> Result<(), Fail> {
+    let alloc = rt.alloc();
+    check_row(
+        &rt,
+        alloc,
+        &[
+            ("write 0 0 aa", "wrote 1"),
+            ("write 0 32 bb", "wrote 1"),
+            ("sync 0 2 5", "sync 0"),
+            ("tags 0 0", "D"),
+            ("tags 0 2", "DT"),
+            ("step 0", "job 0"),
+            ("step 0", "wait 2"),
+            ("do 0", "done"),
+            ("end 0", "written"),
+            ("step 0", "clean"),
+            ("tags 0 0", "D"),
+            ("sync 0 5 4", "refused 24"),
+        ],
+    )
+}
+
+/// An fsync of a range does not wait for a write of a page outside it; one of the whole file does.
+#[test]
+fn an_fsync_of_a_range_passes_other_writes(rt: HostRuntime) -> Result<(), Fail> {
+    let alloc = rt.alloc();
+    check_row(
+        &rt,
+        alloc,
+        &[
+            ("write 0 0 aa", "wrote 1"),
+            ("flush 0", "job 0"),
+            ("write 0 32 bb", "wrote 1"),
+            ("fsync 0 1 4", "ok"),
+            ("fsync 0", "wait 0"),
+            ("do 0", "done"),
+            ("end 0", "written"),
+            ("fsync 0", "ok"),
+            ("fsync 1 4 1", "refused 4"),
+            ("fsync 0 4 1", "refused 24"),
+        ],
+    )
+}

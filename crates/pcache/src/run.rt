@@ -136,7 +136,7 @@ fn obey<W: Write>(
         Command::Config(_, _, _, _) => Err(Stop::Malformed(number)),
         Command::Step(step) => make_step(alloc, session, step, out),
         Command::Fail(serial, code, effect) => fail_call(session, *serial, *code, *effect, out),
-        Command::Fsync(handle) => sync_file(alloc, session, *handle, out),
+        Command::Fsync(handle, range) => sync_file(alloc, session, *handle, *range, out),
         Command::Poll(handle) => poll_handle(session, *handle, out),
         Command::Tags(file, page) => tell_tags(session, *file, *page, out),
     }
@@ -243,17 +243,18 @@ fn fail_call<W: Write>(
     }
 }
 
-/// Syncs the handle's file from the beginning to the end, and prints what comes of it.
+/// Syncs the handle's file, or a range of its pages, from the beginning to the end, and prints what comes of it.
 fn sync_file<W: Write>(
     alloc: Global,
     session: &mut Session,
     handle: HandleId,
+    range: Option<(PageIndex, PageIndex)>,
     out: &mut W,
 ) -> Result<(), Stop>
-    ensures synced { OnOk result ((printed : List ℕ) × SyncsFile session.old handle printed session.new × Appends (W.contents out.old) (W.contents out.new) printed) }
+    ensures synced { OnOk result ((printed : List ℕ) × SyncsFile session.old handle range printed session.new × Appends (W.contents out.old) (W.contents out.new) printed) }
     ensures fault { IfErr result (IsPrintFault (W.contents out.old) (W.contents out.new)) }
 {
-    let reply = session.fsync(handle);
+    let reply = session.fsync(handle, range);
     print_reply(alloc, out, &reply)
 }
 

@@ -3,6 +3,7 @@
 ghost use Rattle.std.specs.Prelude.{◌≡◌, IfOk, IsOkUnless};
 ghost use Rattle.pcache.specs.Runs.{world_of_sizes};
 
+use crate::command::sync_begin;
 use crate::passes::Passes;
 use blockdev::{FaultEffect, ScriptDevice};
 use cachecore::{PageTags, Reply};
@@ -23,17 +24,17 @@ pub struct Session {
 }
 
 impl Model for Session {
-    ghost use Rattle.std.specs.Prelude.{ℕ};
+    ghost use Rattle.std.specs.Prelude.{ℕ, List};
     ghost use Rattle.std.specs.Coded.{codes, coded_ℕ};
     ghost use Rattle.std.specs.FinMap as map;
     ghost use Rattle.std.specs.Ordering.{nat_cmp};
-    ghost use Rattle.cachecore.specs.Codes.{state_code};
-    ghost use Rattle.cachecore.specs.declared.event.Outcome.{Outcome};
+    ghost use Rattle.machine.specs.inside.Codes.{state_code};
+    ghost use Rattle.machine.specs.declared.event.Outcome.{Outcome};
     ghost use Rattle.pcache.specs.Sessions.{SessionSeen};
 
     ghost Value = { SessionSeen };
 
-    ghost coded = { Prim.hlevel (codes, state_code, map.code {X = Outcome} {R = nat_cmp} coded_ℕ (Prim.hlevel codes), map.code {X = ℕ} {R = nat_cmp} coded_ℕ coded_ℕ) };
+    ghost coded = { Prim.hlevel (codes, state_code, map.code {X = Outcome} {R = nat_cmp} coded_ℕ (Prim.hlevel codes), map.code {X = List ℕ} {R = nat_cmp} coded_ℕ (Prim.hlevel codes), map.code {X = ℕ} {R = nat_cmp} coded_ℕ coded_ℕ) };
 
     ghost use Rattle.pcache.specs.Telling.{IsSession, told_of};
 
@@ -46,7 +47,7 @@ impl Session {
     ghost use Rattle.std.specs.Prelude.{◌≡◌, ◌≢◌, ℕ, List, Option, IfOk, IsOkUnless, true};
     ghost use Rattle.pc_types.specs.declared.ids.Serial.{Serial};
     ghost use Rattle.cachecore.specs.Replies.{TagsAre};
-    ghost use Rattle.cachecore.specs.State.{is_open};
+    ghost use Rattle.machine.specs.State.{is_open};
     ghost use Rattle.world.specs.Stepping.{Fails};
     ghost use Rattle.pcache.specs.Sessions.{Fsyncs, GoesOn, Makes, Polls, SessionSeen, Writes, over};
     ghost use Rattle.pcache.specs.Runs.{session_of_sizes};
@@ -160,12 +161,12 @@ impl Session {
         Ok(code)
     }
 
-    /// Makes a sync of the handle's file from its beginning to its end, and polls the handle. Where the sync would wait for a
+    /// Makes a sync of the handle's file, or of a range of its pages, from its beginning to its end, and polls the handle. Where the sync would wait for a
     /// request, or is refused, it is given up.
-    pub fn fsync(&mut self, handle: HandleId) -> Reply
-        ensures { Fsyncs self.old handle result self.new }
+    pub fn fsync(&mut self, handle: HandleId, range: Option<(PageIndex, PageIndex)>) -> Reply
+        ensures { Fsyncs self.old handle range result self.new }
     {
-        match self.step(&Step::SyncBegin(handle)) {
+        match self.step(&sync_begin(handle, range)) {
             Reply::Sync(sync) => self.finish(handle, sync),
             refused => refused,
         }

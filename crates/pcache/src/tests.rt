@@ -126,6 +126,8 @@ fn malformed_lines_end_a_script(rt: HostRuntime) -> Result<(), Fail> {
         "fail 0 5",
         "fail 0 5 both",
         "fail 0 65536 old",
+        "sync 0 1",
+        "fsync 0 1 2 3",
         long.as_str(),
     ];
     let expected = Outcome {

@@ -1,5 +1,5 @@
 -- Lemmas on the search for the next entry with a mark within one node of the lowest level.
-use Rattle.std.proofs.Common.{◌≡◌, ℕ, ◌+◌, ◌*◌, ◌/◌, ◌%◌, ◌^◌, ◌<◌, Some, None, refl, sym, ap, ◌∙◌, inl, inr, arith}
+use Rattle.std.proofs.Common.{◌≡◌, ℕ, ◌+◌, ◌*◌, ◌/◌, ◌%◌, ◌^◌, ◌<◌, Some, None, refl, sym, ap, ◌∙◌, inl, inr, arith, eqb, eq-eqb}
 use Rattle.std.specs.Int.{bit_at}
 use Rattle.std.proofs.lemmas.Bool.{cases_eq}
 use Rattle.std.proofs.lemmas.Option.{same_Some}
@@ -8,10 +8,11 @@ use Rattle.radix.specs.declared.node.Node.{Node}
 use Rattle.radix.specs.declared.slot.Slot.{Slot}
 use Rattle.radix.specs.declared.slot.Slot.TheVariants.{Empty, Leaf, Child, Sibling}
 use Rattle.radix.specs.Bitmap.{IsLowestFrom, NoneFrom}
-use Rattle.radix.specs.Entries.{StandsAt, IsNextLeaf, HasNoneBeside, IsNextEntryLeaf, HasNoEntryBeside, slot, bits, content, entry_at, mark_at}
+use Rattle.radix.specs.Entries.{StandsAt, IsAlone, IsNextLeaf, HasNoneBeside, IsNextEntryLeaf, HasNoEntryBeside, slot, bits, content, entry_at, mark_at}
 use Rattle.radix.specs.Tree.{IsSound, TellsEntries}
 use Rattle.radix.proofs.EntryBitLemmas.{bit_from, next_entry}
 use Rattle.radix.proofs.NextLemmas.{in_node, marked_here}
+use Rattle.radix.proofs.RunLemmas.{not_further}
 use Rattle.radix.proofs.SeeLemmas.{see-is}
 
 at_zero : (x l : ℕ) → l ≡ 0 → x / 64 ^ l ≡ x
@@ -71,6 +72,15 @@ module _ (s : Slab Node) (head : ℕ) (sound : IsSound s head None) (mark : ℕ)
 
       path : n.prefix ≡ (from / 64 * 64 + o) / 64
       path = let w = is.within in omega (arith, w, on_path)
+
+  -- where an entry or a node begins at the next slot
+  pub alone_beside : (o : ℕ) → o < 64 → (o < 63 → bit_at (bits n 3) (o + 1) ≡ 1) → IsAlone s (from / 64 * 64 + o)
+  alone_beside o within begins = record {
+    each = λ first inner has.
+        let small : o < 63 = omega (arith, inner, within) in
+        let at : from / 64 * 64 + o + 1 ≡ (from / 64 * 64) / 64 * 64 + (o + 1) = omega arith in
+        not_further s head sound 0 (from / 64 * 64) key (o + 1) n (record { node = n; there = there; level_is = is_low; prefix_is = omega (arith, on_path) }) there (omega (arith, small)) (eqb (bit_at (bits n 3) (o + 1)) 1) refl (eq-eqb _ 1 (begins small)) first (ap (entry_at s 0) (sym at) ∙ has);
+  }
 
   pub none_beside : NoneFrom (bits n mark) (from % 64) → HasNoneBeside s mark from
   none_beside none = record {

@@ -1,5 +1,6 @@
 pub mod BesideLemmas
 pub mod BitmapLemmas
+pub mod ClimbLemmas
 pub mod Places
 pub mod TreeLemmas
 pub mod WalkLemmas

@@ -3,6 +3,7 @@ use Rattle.std.proofs.Common.{◌≡◌, ◌≢◌, ℕ, zero, suc, ◌+◌, ◌
 use Rattle.std.specs.Int.{bit_at}
 use Rattle.std.proofs.lemmas.Bool.{cases_eq, cases_lt}
 use Rattle.std.proofs.lemmas.Option.{same_Some}
+use Rattle.std.proofs.Math.Nat.{div-le_of_le-mul, div-lt_iff_lt-mul, mul-le-mul_right, mul_assoc, mul_comm, one-le-pow, pow-suc}
 use Rattle.slab.specs.Slab.{Slab, get}
 use Rattle.radix.specs.declared.node.Node.{Node}
 use Rattle.radix.specs.declared.slot.Slot.{Slot}
@@ -14,6 +15,33 @@ use Rattle.radix.proofs.Places.{place-up, place-down, place-levels, place-mono}
 use Rattle.radix.proofs.TreeLemmas.{node_at-found, same_node, parent_of, level_below, unique, no_node, under_head}
 use Rattle.radix.proofs.MarkLemmas.{some_bit}
 use Rattle.radix.proofs.SeeLemmas.{see-is}
+
+-- ---- indexes and the first ones of slots
+
+-- an index that is not past the first one of a slot is not past the slot
+pub from_first : (from level place : ℕ) → from ≤ place * 64 ^ level → from / 64 ^ level ≤ place
+from_first from level place le = div-le_of_le-mul (64 ^ level) (let e : place * 64 ^ level ≡ 64 ^ level * place = mul_comm place (64 ^ level) in omega (arith, e, le))
+
+-- a slot that comes after that of an index begins after it
+pub first_past : (from level place : ℕ) → from / 64 ^ level < place → from ≤ place * 64 ^ level
+first_past from level place less = let e = (div-lt_iff_lt-mul {k = 64 ^ level} {x = from} {y = place} (one-le-pow level 64 (omega arith))).0 less in omega (arith, e)
+
+-- a later slot begins later
+pub first_mono : (level a b : ℕ) → a ≤ b → a * 64 ^ level ≤ b * 64 ^ level
+first_mono level a b le = mul-le-mul_right (64 ^ level) le
+
+-- a slot has as many indexes as the 64 slots below it
+pub up_width : (level place : ℕ) → place * 64 * 64 ^ level ≡ place * 64 ^ (level + 1)
+up_width level place =
+    let one : level + 1 ≡ suc level = omega arith in
+    rw (one, pow-suc 64 level, mul_comm (64 ^ level) 64) (mul_assoc place 64 (64 ^ level))
+
+-- the slots of a node below begin at its slot or later
+first_under : (from level place prefix offset : ℕ) → prefix ≡ place → {w : ℕ} → w ≡ place * 64 ^ (level + 1) → from ≤ w → from ≤ (prefix * 64 + offset) * 64 ^ level
+first_under from level place prefix offset same is le =
+    let e = up_width level place in
+    let f = first_mono level (place * 64) (prefix * 64 + offset) (omega (arith, same)) in
+    omega (arith, is, le, e, f)
 
 -- an entry with a mark
 pub record HasMark (s : Slab Node) (mark level place : ℕ) : Type 0 where
@@ -129,12 +157,9 @@ module _ (s : Slab Node) (head : ℕ) (sound : IsSound s head None) (mark : ℕ)
         let l = ap (λ (z : Node). z.level) is_node in
         record {
           marked = marked_here n key (n.prefix * 64 + o) there (omega (arith, ahead.within)) (ap (bit_at (bits n mark)) offset ∙ set_here) (λ c e. never c (ap (slot n) (sym offset) ∙ e));
-          after = le_from (rw is_node at ahead.after);
+          after = from_first from n.level (n.prefix * 64 + o) (rw is_node at ahead.after);
           lowest = λ other index le is. rw is_node at (ahead.lowest other index le is);
         }
-      where
-        le_from : {x y : ℕ} → x < y → x ≤ y
-        le_from h = omega arith
 
     pub under_stands : StandsAt s key n.level ((n.prefix * 64 + o) / 64)
     under_stands = record { node = n; there = there; level_is = refl; prefix_is = omega (arith, ahead.within) }
@@ -161,7 +186,7 @@ module _ (s : Slab Node) (head : ℕ) (sound : IsSound s head None) (mark : ℕ)
         there = below;
         within = is.within;
         set = is.set;
-        after = let e = rw is_node at ahead.after in let f = up_is from in omega (arith, e, f, prefix_is);
+        after = first_under from b.level (n.prefix * 64 + o) b.prefix lowest prefix_is (ap (λ l. (n.prefix * 64 + o) * 64 ^ l) level_is) (rw is_node at ahead.after);
         lowest = λ other index le marked.
             let q : n.prefix * 64 + o ≤ index / 64 ^ n.level = rw is_node at (ahead.lowest other index le marked) in
             let f = up_is index in
@@ -313,7 +338,7 @@ module _ (s : Slab Node) (head : ℕ) (sound : IsSound s head None) (mark : ℕ)
             there = q.there;
             within = q.within;
             set = q.set;
-            after = q.after;
+            after = first_past from q.node.level (q.node.prefix * 64 + l) q.after;
             lowest = λ other index le is.
                 let covered : IsNotAfter s k l index = rw some at (all_covered other index le is) in
                 let e = same_Some covered.node q.node (sym covered.there ∙ q.there) in

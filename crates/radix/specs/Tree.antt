@@ -248,8 +248,16 @@ pub record IsAhead (s : Slab Node) (mark from key offset : ℕ) : Type 0 where
   pub there : get s key ≡ Some node
   pub within : offset < 64
   pub set : bit_at (bits node mark) offset ≡ 1
-  pub after : from / 64 ^ node.level < node.prefix * 64 + offset
+  pub after : from ≤ (node.prefix * 64 + offset) * 64 ^ node.level
   pub lowest : (other index : ℕ) → from ≤ index → mark_at mark s other (index / 64 ^ other) ≡ 1 → node.prefix * 64 + offset ≤ index / 64 ^ node.level
+
+-- a search has gone up to this slot of a node: it ends at `from` or later, and each entry with the mark that counts is after it
+pub record HasClimbed (s : Slab Node) (mark from key offset : ℕ) : Type 0 where
+  pub node : Node
+  pub there : get s key ≡ Some node
+  pub within : offset < 64
+  pub reach : from ≤ (node.prefix * 64 + offset + 1) * 64 ^ node.level
+  pub each : (other index : ℕ) → from ≤ index → mark_at mark s other (index / 64 ^ other) ≡ 1 → node.prefix * 64 + offset < index / 64 ^ node.level
 
 -- the slot at this offset of a node has the mark, and comes after `from`
 pub record IsLater (s : Slab Node) (mark from key offset : ℕ) : Type 0 where

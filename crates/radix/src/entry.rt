@@ -53,6 +53,15 @@ pub struct Position {
     pub place: u64,
 }
 
+/// An entry at slot `place` of the lowest level, in a node that was known.
+#[derive(Clone, Copy)]
+pub struct Near {
+    pub place: u64,
+    pub value: u64,
+    /// Whether the node's bits alone tell that the entry has no further slot. Where it is false it may have one or not.
+    pub is_alone: bool,
+}
+
 /// Where a walk to an index ended: the lowest node that has a slot of it, and the entry there, if one stands there.
 #[derive(Clone, Copy)]
 pub struct Walk {

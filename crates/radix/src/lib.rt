@@ -23,6 +23,6 @@ mod slot;
 mod tests;
 mod tree;
 
-pub use entry::{Cursor, Entry, Position, Walk};
+pub use entry::{Cursor, Entry, Near, Position, Walk};
 pub use nodes::Nodes;
 pub use tree::{first_at, place_at};

@@ -1,11 +1,11 @@
 //! The next entry with a mark.
-ghost use Rattle.std.specs.Prelude.{◌≡◌, ◌≢◌, ℕ, ◌+◌, ◌*◌, ◌/◌, ◌%◌, ◌^◌, ◌<◌, ◌≤◌, Some, None, IfSome, MatchOption};
+ghost use Rattle.std.specs.Prelude.{◌≡◌, ◌≢◌, ℕ, ◌+◌, ◌*◌, ◌/◌, ◌%◌, ◌^◌, ◌<◌, ◌≤◌, true, Some, None, IfSome, MatchOption};
 ghost use Rattle.slab.specs.Slab.{get};
-ghost use Rattle.radix.specs.Entries.{IsNext, HasNoNext, IsNextLeaf, HasNoneBeside, HasNoEntry, HasNoHeld, IsHeld, IsNextHeld, StandsAt};
+ghost use Rattle.radix.specs.Entries.{IsNext, HasNoNext, IsNextLeaf, IsAlone, HasNoneBeside, HasNoEntry, HasNoHeld, IsHeld, IsNextHeld, StandsAt};
 ghost use Rattle.radix.specs.Tree.{IsSound, IsAhead, IsTrail, better_of};
 
 use crate::bitmap::{has_bit, lowest, lowest_above, lowest_from};
-use crate::entry::{Cursor, Position};
+use crate::entry::{Cursor, Near, Position};
 use crate::node::Node;
 use crate::slot::Slot;
 use crate::tree::{offset_at, place_at};
@@ -146,6 +146,37 @@ pub(crate) fn next_set(nodes: &Slab<Node>, head: usize, index: u64, mark: usize)
     next_on(nodes, head, index, mark, trail)
 }
 
+// The lowest entry with the mark at an index or later, where the index is the first one after a slot. It looks at the rest of
+// the slot's node, and then goes up. A walk over many entries leaves each node once, so a step costs two nodes at most times.
+pub(crate) fn next_after(
+    nodes: &Slab<Node>,
+    head: usize,
+    slot: Position,
+    index: u64,
+    mark: usize,
+) -> Option<Position>
+    requires mark { mark < 4 }
+    requires sound { IsSound nodes.now head None }
+    requires stands { StandsAt nodes.now slot.cursor slot.level (slot.place / 64) }
+    requires after { index ≡ (slot.place + 1) * 64 ^ slot.level }
+    ensures next { MatchOption result (HasNoNext nodes.now mark index) (λ r. IsNext nodes.now mark index r.level r.place) }
+    ensures stands { IfSome result (λ r. StandsAt nodes.now r.cursor r.level (r.place / 64)) }
+{
+    let mut key = slot.cursor.key();
+    let mut offset = (slot.place % 64) as u32;
+    'up: loop {
+        let node = &nodes[key];
+        if let Some(later) = lowest_above(node.marks[mark], offset) {
+            return Some(lowest_under(nodes, head, key, later, mark, index));
+        }
+        let Some(parent) = node.parent.key() else {
+            return None;
+        };
+        offset = (node.prefix % 64) as u32;
+        key = parent;
+    }
+}
+
 // The entry with the mark that has an index at a further slot, where the path of the index ends. Nothing here says that a
 // further slot names a first one, so it is looked at.
 fn held_on(
@@ -199,25 +230,31 @@ pub(crate) fn next_held(
     next_on(nodes, head, index, mark, trail)
 }
 
-// The lowest entry with the mark at an index or later in its node of the lowest level, and its value.
+// The lowest entry with the mark at an index or later in its node of the lowest level.
+#[inline(always)]
 pub(crate) fn next_in(
     nodes: &Slab<Node>,
     head: usize,
     key: usize,
     index: u64,
     mark: usize,
-) -> Option<(u64, u64)>
+) -> Option<Near>
     requires mark { mark < 4 }
     requires sound { IsSound nodes.now head None }
     requires stands { StandsAt nodes.now key 0 (index / 64 ^ 0 / 64) }
-    ensures { MatchOption result (HasNoneBeside nodes.now mark index) (λ r. IsNextLeaf nodes.now mark index r.0 r.1) }
+    ensures next { MatchOption result (HasNoneBeside nodes.now mark index) (λ r. IsNextLeaf nodes.now mark index r.place r.value) }
+    ensures alone { IfSome result (λ r. r.is_alone ≡ true → IsAlone nodes.now r.place) }
 {
     let node = &nodes[key];
     let Some(offset) = lowest_from(node.marks[mark], (index % 64) as u32) else {
         return None;
     };
     match node.read(offset as usize) {
-        Slot::Leaf(value) => Some((index / 64 * 64 + offset as u64, value)),
+        Slot::Leaf(value) => Some(Near {
+            place: index / 64 * 64 + offset as u64,
+            value,
+            is_alone: node.ends_after(offset),
+        }),
         _ => unreachable!(),
     }
 }

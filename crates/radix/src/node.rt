@@ -1,7 +1,9 @@
 //! A node of 64 slots: 568 bytes, and 576 with the slab's tag.
-ghost use Rattle.std.specs.Prelude.{◌≡◌, ◌≢◌, ℕ, ◌<◌, ◌^◌, MatchBool, MatchOption};
+ghost use Rattle.std.specs.Prelude.{◌≡◌, ◌≢◌, ℕ, ◌+◌, ◌<◌, ◌^◌, true, MatchBool, MatchOption};
+ghost use Rattle.std.specs.Int.{bit_at};
 ghost use Rattle.radix.specs.Words.{FitsLink};
 
+use crate::bitmap::has_bit;
 use crate::slot::{Link, Slot, Word};
 
 /// The mark that every entry has, on its first slot, after the three of the caller's.
@@ -25,7 +27,7 @@ pub struct Node {
 }
 
 impl Node {
-    ghost use Rattle.radix.specs.Entries.{slot};
+    ghost use Rattle.radix.specs.Entries.{bits, slot};
     ghost use Rattle.radix.specs.Tree.{blank, node_over};
 
     /// What the slot at an offset has.
@@ -45,6 +47,16 @@ impl Node {
         ensures { MatchBool result (slot self.now offset ≡ Slot.Sibling first) (slot self.now offset ≢ Slot.Sibling first) }
     {
         self.slots[offset].is_sibling_of(first)
+    }
+
+    /// Whether the bits tell that no further slot of an entry follows a slot: it is the last, or an entry or a node begins at
+    /// the next one.
+    #[inline(always)]
+    pub(crate) fn ends_after(&self, offset: u32) -> bool
+        requires { offset < 64 }
+        ensures { result ≡ true → offset < 63 → bit_at (bits self.now 3) (offset + 1) ≡ 1 }
+    {
+        offset == 63 || has_bit(self.marks[ENTRY], offset + 1)
     }
 
     /// The node below a slot. A node of the lowest level has none, and there the slot is not read: it lies in another cache

@@ -3,9 +3,9 @@ ghost use Rattle.std.specs.Prelude.{◌≡◌, ◌≢◌, ℕ, ◌+◌, ◌-◌,
 ghost use Rattle.pc_types.specs.declared.refusal.Refusal.{Refusal};
 ghost use Rattle.radix.specs.declared.entry.Entry.{Entry};
 ghost use Rattle.radix.specs.Parts.{Parts, HasNodeRoom};
-ghost use Rattle.radix.specs.Entries.{entry_at, mark_at, node_count, StandsAt, IsBare, IsLeaf, IsRun, IsClear, IsFree, HasNoMark, HasPathRoom, SameEntries, PutsEntry, PutsBit, PutsRun, ClearsRun, IsWalked, HasNoEntry, IsNext, HasNoNext, IsNextHeld, HasNoHeld, IsNextEntry, HasNoNextEntry, IsNextEntryLeaf, HasNoEntryBeside, HasMarked, HasNoMarked, HasMarkedUnder, HasNoMarkedUnder};
+ghost use Rattle.radix.specs.Entries.{entry_at, mark_at, node_count, StandsAt, IsBare, IsLeaf, IsRun, IsClear, IsFree, HasNoMark, HasPathRoom, SameEntries, PutsEntry, PutsBit, PutsRun, ClearsRun, IsWalked, HasNoEntry, IsNext, HasNoNext, IsNextHeld, HasNoHeld, IsNextEntry, HasNoNextEntry, IsNextLeaf, HasNoneBeside, IsAlone, IsNextEntryLeaf, HasNoEntryBeside, HasMarked, HasNoMarked, HasMarkedUnder, HasNoMarkedUnder};
 
-use crate::entry::{Cursor, Entry, Position, Walk};
+use crate::entry::{Cursor, Entry, Near, Position, Walk};
 use crate::node::{ENTRY, Node};
 use crate::{growth, marks, next, parts, removal, tree};
 use pc_types::Refusal;
@@ -390,6 +390,21 @@ impl Nodes {
         }
     }
 
+    /// As `next_set`, where the index is the first one after a slot whose node is known. It goes up from that node, which costs
+    /// less than a walk from the head where the next entry is near.
+    pub fn next_set_after(&self, slot: Position, index: u64, mark: usize) -> Option<Position>
+        requires stands { StandsAt self.now slot.cursor slot.level (slot.place / 64) }
+        requires after { index ≡ (slot.place + 1) * 64 ^ slot.level }
+        requires mark { mark < 3 }
+        ensures next { MatchOption result (HasNoNext self.now mark index) (λ r. IsNext self.now mark index r.level r.place) }
+        ensures stands { IfSome result (λ r. StandsAt self.now r.cursor r.level (r.place / 64)) }
+    {
+        let Some(head) = self.head else {
+            unreachable!()
+        };
+        next::next_after(&self.slab, head, slot, index, mark)
+    }
+
     /// The lowest entry with the mark that has the index or a later one, also where it begins before the index.
     pub fn next_held(&self, index: u64, mark: usize) -> Option<Position>
         requires { mark < 3 }
@@ -413,15 +428,43 @@ impl Nodes {
         }
     }
 
-    /// The lowest entry of one index at an index or later in the node of a cursor, and its value. Where the node has it, this
-    /// costs no further walk.
-    pub fn next_entry_in(&self, cursor: Cursor, index: u64) -> Option<(u64, u64)>
+    /// As `next_entry`, where the index is the first one after a slot whose node is known.
+    pub fn next_entry_after(&self, slot: Position, index: u64) -> Option<Position>
+        requires stands { StandsAt self.now slot.cursor slot.level (slot.place / 64) }
+        requires after { index ≡ (slot.place + 1) * 64 ^ slot.level }
+        ensures next { MatchOption result (HasNoNextEntry self.now index) (λ r. IsNextEntry self.now index r.level r.place) }
+        ensures stands { IfSome result (λ r. StandsAt self.now r.cursor r.level (r.place / 64)) }
+    {
+        let Some(head) = self.head else {
+            unreachable!()
+        };
+        next::next_after(&self.slab, head, slot, index, ENTRY)
+    }
+
+    /// The lowest entry at an index or later in the node of a cursor. Where the node has it, this costs no further walk.
+    #[inline(always)]
+    pub fn next_entry_in(&self, cursor: Cursor, index: u64) -> Option<Near>
         requires { StandsAt self.now cursor 0 (index / 64 ^ 0 / 64) }
-        ensures { MatchOption result (HasNoEntryBeside self.now index) (λ r. IsNextEntryLeaf self.now index r.0 r.1) }
+        ensures next { MatchOption result (HasNoEntryBeside self.now index) (λ r. IsNextEntryLeaf self.now index r.place r.value) }
+        ensures alone { IfSome result (λ r. r.is_alone ≡ true → IsAlone self.now r.place) }
     {
         let Some(head) = self.head else {
             unreachable!()
         };
         next::next_in(&self.slab, head, cursor.key(), index, ENTRY)
+    }
+
+    /// The lowest entry with the mark at an index or later in the node of a cursor.
+    #[inline(always)]
+    pub fn next_set_in(&self, cursor: Cursor, index: u64, mark: usize) -> Option<Near>
+        requires stands { StandsAt self.now cursor 0 (index / 64 ^ 0 / 64) }
+        requires mark { mark < 3 }
+        ensures next { MatchOption result (HasNoneBeside self.now mark index) (λ r. IsNextLeaf self.now mark index r.place r.value) }
+        ensures alone { IfSome result (λ r. r.is_alone ≡ true → IsAlone self.now r.place) }
+    {
+        let Some(head) = self.head else {
+            unreachable!()
+        };
+        next::next_in(&self.slab, head, cursor.key(), index, mark)
     }
 }

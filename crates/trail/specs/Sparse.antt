@@ -1,6 +1,7 @@
--- Bytes of a file that stand in chunks of 4096. A chunk has its first bytes; past them, and in a chunk that is not there, stand
--- zeros.
-use Rattle.std.specs.Prelude.{◌≡◌, ℕ, zero, suc, ◌+◌, ◌-◌, ◌<◌, ◌/◌, ◌%◌, ◌&&◌, List, [], ◌∷◌, length, slice_index_or, nat_le, nat_lt, Option, Some, None, if◌then◌else◌, Vec}
+-- Bytes of a file that stand in chunks of 4096. A chunk has its first bytes; past them, and in a chunk that is not
+-- there, stand zeros.
+use Rattle.std.specs.Prelude.{◌≡◌, ℕ, zero, suc, ◌+◌, ◌-◌, ◌<◌, ◌/◌, ◌%◌, ◌&&◌, List, [], ◌∷◌, length, slice_index_or}
+use Rattle.std.specs.Prelude.{nat_le, nat_lt, Option, Some, None, if◌then◌else◌, Vec}
 use Rattle.std.specs.Ordering.{nat_cmp}
 use Rattle.std.specs.declared.alloc.Global.{Global}
 use Rattle.std.specs.BTreeMap.{BTreeMap}
@@ -33,7 +34,9 @@ StandsIn chunk start bytes = (k : ℕ) → k < length bytes → slice_index_or b
 
 -- a byte after these were put in place from the offset on
 abbrev pub byte_put : Chunks → ℕ → List ℕ → ℕ → ℕ
-byte_put chunks offset bytes i = if nat_le offset i && nat_lt i (offset + length bytes) then slice_index_or bytes (i - offset) 0 else byte_at chunks i
+byte_put chunks offset bytes i =
+    if nat_le offset i && nat_lt i (offset + length bytes) then slice_index_or bytes (i - offset) 0
+    else byte_at chunks i
 
 -- a byte after those from the size on were forgotten
 abbrev pub byte_cut : Chunks → ℕ → ℕ → ℕ

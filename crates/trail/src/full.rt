@@ -7,7 +7,7 @@ ghost use Rattle.trail.specs.Room.{fits};
 use crate::entry::Entry;
 use crate::reserve::Reserve;
 use crate::trail::Trail;
-use cachecore::{Event, Reply};
+use machine::{Event, Reply};
 use pc_types::Refusal;
 use std::alloc::Global;
 use std::marker::Model;
@@ -44,7 +44,8 @@ impl Model for FullTrail {
 }
 
 impl FullTrail {
-    /// A trail with room for so many entries, and so many bytes of all of them together. It is refused by `Memory` alone.
+    /// A trail with room for so many entries, and so many bytes of all of them together. It is refused by `Memory`
+    /// alone.
     pub fn new(alloc: Global, events: u64, bytes: u64) -> Result<FullTrail, Refusal>
         ensures empty { IfOk result (λ t. t ≡ record { cache = None; entries = []; whole = record { events = events; bytes = Some bytes }; room = record { events = events; bytes = Some bytes } }) }
         ensures refused { IsOkUnless result Refusal.Memory }

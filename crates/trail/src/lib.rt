@@ -1,10 +1,10 @@
 #![tactic(auto)]
 //! The history of a cache: which seat made which event, and what the cache answered.
 //!
-//! `entry` has one entry, `trail` the trait of what a history is written into, `full` a trail that keeps every entry with its
-//! bytes, `none` one that counts them, `replay` the check of a history against plain files, and `promises` what holds of every
-//! honest history. specs/History.antt says which histories are legal, specs/Room.antt how much room an event needs, and
-//! specs/Honest.antt what is asked of the device.
+//! `entry` has one entry, `trail` the trait of what a history is written into, `full` a trail that keeps every entry
+//! with its bytes, `none` one that counts them, `replay` the check of a history against plain files, and `promises`
+//! what holds of every honest history. specs/History.antt says which histories are legal, specs/Room.antt how much room
+//! an event needs, and specs/Honest.antt what is asked of the device.
 
 pub mod entry;
 pub mod full;

@@ -1,14 +1,14 @@
 //! The check of a history against plain files.
 
 ghost use Rattle.std.specs.Prelude.{◌↔◌, [], true, is_some, IfOk, OnOk, IsTrue, IsOkUnless, Some, None, length, ◌+◌, ◌≡◌};
-ghost use Rattle.cachecore.specs.declared.event.Event.TheVariants as event;
-ghost use Rattle.world.specs.Plain.{plain_after};
+ghost use Rattle.machine.specs.declared.event.Event.TheVariants as event;
+ghost use Rattle.runs.specs.Plain.{plain_after};
 ghost use Rattle.trail.specs.Entries.{event_with, reply_with};
 ghost use Rattle.trail.specs.Replay.{plain_of, Agrees, Replays, Answered};
 
 use crate::full::FullTrail;
 use crate::plain::PlainFiles;
-use cachecore::{Event, Reply};
+use machine::{Event, Reply};
 use pc_types::{FileId, HandleId, Refusal};
 use std::alloc::Global;
 
@@ -16,8 +16,9 @@ use std::alloc::Global;
 #[derive(Clone, Copy, PartialEq, Eq, Debug)]
 pub struct Checked(());
 
-/// Replays a history on plain files. It answers `Some` exactly where every successful create, open, close, size, read, write,
-/// append and truncate answers as plain files do, with its number, count, end and bytes. It is refused by `Memory` alone.
+/// Replays a history on plain files. It answers `Some` exactly if every successful create, open, close, size, read,
+/// write, append and truncate answers as plain files do, with its number, count, end and bytes. It is refused by
+/// `Memory` alone.
 pub fn replay_plain(alloc: Global, trail: &FullTrail) -> Result<Option<Checked>, Refusal>
     ensures checked { IfOk result (λ o. IsTrue (is_some o) ↔ Replays trail.now.entries) }
     ensures refused { IsOkUnless result Refusal.Memory }

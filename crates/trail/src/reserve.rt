@@ -2,8 +2,8 @@
 
 ghost use Rattle.std.specs.Prelude.{◌≡◌, ◌+◌, ◌*◌, nat_le};
 
-/// What is reserved for the ends of what is in flight: an entry and a page of bytes for each fill, and an entry for each flush
-/// and each sync.
+/// What is reserved for the ends of what is in flight: an entry and a page of bytes for each fill, and an entry for
+/// each flush and each sync.
 #[derive(Clone, Copy, PartialEq, Eq, Debug)]
 pub struct Reserve {
     pub fills: u64,

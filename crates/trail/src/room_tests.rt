@@ -2,7 +2,7 @@
 
 use crate::tests::{NONE, none, put};
 use crate::{FullTrail, NoTrail, Reserve, Trail};
-use cachecore::{Event, Reply};
+use machine::{Event, Reply};
 use pc_types::{HandleId, Refusal};
 use std::alloc::Global;
 use std::process::Abort;
@@ -22,8 +22,8 @@ fn fits(trail: &FullTrail, reserved: &Reserve, need: (u64, u64)) -> bool {
     trail.has_room(PAGE, reserved, need.0, need.1)
 }
 
-// A trail with just the room that an event needs has it, and with one entry or one byte less it has not; and so beside what is in
-// flight.
+// A trail with just the room that an event needs has it, and with one entry or one byte less it has not; and so beside
+// what is in flight.
 fn is_full_at(
     rt: &impl Abort,
     alloc: Global,
@@ -50,7 +50,8 @@ fn has_room_beside(rt: &impl Abort, alloc: Global) -> Result<(), Refusal> {
     Ok(())
 }
 
-// A read of 3 bytes; a write or an append of 2; the begin of a fill; that of a flush, a step of a sync or its begin; any other.
+// A read of 3 bytes; a write or an append of 2; the begin of a fill; that of a flush, a step of a sync or its begin;
+// any other.
 #[test]
 fn a_trail_is_full_at_each_event(rt: HostRuntime) -> Result<(), Fail> {
     let alloc = rt.alloc();

@@ -1,4 +1,5 @@
-//! A plain file in memory: its size, and the chunks that were written. A file of 2^40 bytes takes no more than what is in it.
+//! A plain file in memory: its size, and the chunks that were written. A file of 2^40 bytes takes no more than what is
+//! in it.
 
 ghost use Rattle.std.specs.Prelude.{◌≡◌, ◌<◌, ◌≤◌, ◌+◌, ◌%◌, ◌^◌, ◌↔◌, ℕ, [], length, IsTrue, OnOk, IsOkUnless, true, nat_le, None, if◌then◌else◌, ◌++◌, take, drop};
 ghost use Rattle.std.specs.Ordering.{nat_cmp};
@@ -14,7 +15,8 @@ use std::marker::Model;
 /// The bytes of a chunk.
 const CHUNK: u64 = 4096;
 
-// The first bytes of each chunk that was written, by its index. Past them, and in a chunk that is not there, stand zeros.
+// The first bytes of each chunk that was written, by its index. Past them, and in a chunk that is not there, stand
+// zeros.
 type Chunks = BTreeMap<u64, Vec<u8>>;
 
 /// The bytes of a file.

@@ -1,8 +1,8 @@
 //! Trails that are written by hand, and whether they replay.
 
 use crate::{Entry, FullTrail, Reserve, Trail, replay_plain};
-use cachecore::{End, Event, Kind, Outcome, Reply};
-use pc_types::{Bytes, FileId, HandleId, PageIndex, Refusal, Serial};
+use machine::{End, Event, Outcome, Reply};
+use pc_types::{Bytes, FileId, HandleId, Kind, PageIndex, Refusal, Serial};
 use std::alloc::Global;
 use std::process::Abort;
 use std::test::Fail;
@@ -79,9 +79,14 @@ fn written(alloc: Global, trail: &mut FullTrail, change: Change) {
             cache: 9,
             kind: Kind::Fill,
             serial: Serial(3),
-            outcome: Outcome::Ok(none(alloc)),
+            outcome: Outcome::Read(none(alloc)),
         };
-        put(trail, Event::FillEnd(end), Reply::Filled, &[1, 2, 3]);
+        put(
+            trail,
+            Event::End(Kind::Fill, end),
+            Reply::Filled,
+            &[1, 2, 3],
+        );
     }
 }
 

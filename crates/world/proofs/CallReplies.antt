@@ -1,6 +1,6 @@
 -- What a device call and an end answer, by the job that is in the table.
-use Rattle.std.proofs.Common.{◌≡◌, ℕ, Bool, true, false, cond, eqb, eqb-true, eq-eqb, refl, ap, sym, subst, ◌∙◌}
-use Rattle.std.specs.Prelude.{Option, Some, None, option_map, Result, Ok, Err}
+use Rattle.std.proofs.Common.{◌≡◌, ◌≢◌, ℕ, Bool, true, false, cond, eqb, eqb-true, eq-eqb, refl, ap, sym, subst, ◌∙◌}
+use Rattle.std.specs.Prelude.{Option, Some, None, option_and_then, Result, Ok, Err}
 use Rattle.std.specs.FinMap as finmap
 use Rattle.pc_types.specs.declared.refusal.Refusal.{Refusal}
 use Rattle.pc_types.specs.declared.refusal.Refusal.TheVariants.{Stranger}
@@ -9,36 +9,42 @@ use Rattle.pc_types.specs.declared.kind.Kind.TheVariants.{Fill, Flush}
 use Rattle.blockdev.specs.declared.fault.FaultEffect.{FaultEffect}
 use Rattle.blockdev.specs.Device.{Told}
 use Rattle.blockdev.specs.Jobs.{Task, FinishedTask, Performs}
+use Rattle.maps.proofs.Filtered.{get-filter_map_values}
+use Rattle.maps.proofs.MapLaws.{same_nat_map}
+use Rattle.maps.proofs.Maps.{get-remove_nat}
+use Rattle.machine.specs.declared.event.Event.TheVariants as event
+use Rattle.machine.specs.declared.event.Outcome.{Outcome}
+use Rattle.machine.specs.declared.event.Reply.{Reply}
+use Rattle.machine.specs.declared.event.Reply.TheVariants as reply
+use Rattle.machine.specs.State.{State, Request}
+use Rattle.machine.specs.Step.{Step}
+use Rattle.machine.proofs.steps.Answered.{is_quiet}
 use Rattle.cachecore.specs.declared.answers.RefusedEnd.{RefusedEnd}
-use Rattle.cachecore.specs.declared.event.Outcome.{Outcome}
-use Rattle.cachecore.specs.declared.event.Reply.{Reply}
-use Rattle.cachecore.specs.declared.event.Reply.TheVariants as reply
 use Rattle.cachecore.specs.Replies.{end_of, outcome_of}
-use Rattle.cachecore.specs.State.{State, Request}
-use Rattle.cachecore.specs.Step.{Step}
-use Rattle.cachecore.proofs.MapLaws.{get-remove_nat, same_nat_map}
+use Rattle.runs.specs.World.{WorldStep, Finish}
 use Rattle.world.specs.Ends.{ended}
-use Rattle.world.specs.World.{Moves, Finish, end_event}
-use Rattle.world.specs.Stepping.{Held, world_of, CallReply, EndReply, FailReply, IsCalled, done, failing}
+use Rattle.world.specs.Stepping.{WorldSeen, world_of, CallReply, EndReply, FailReply, IsCalled, done, failing}
 use Rattle.world.specs.declared.step.Step.{Step as Asking}
 use Rattle.world.specs.declared.step.Step.TheVariants as step
 use Rattle.world.specs.declared.jobs.Flight.{Flight}
 use Rattle.world.specs.declared.jobs.Flight.TheVariants.{Asked, Made}
-use Rattle.world.specs.Flights.{Jobs, is_asked, outcome_in, held_of, IsWorld}
+use Rattle.world.specs.Flights.{Jobs, is_asked, outcome_in, seen_of, IsWorld}
 use Rattle.world.proofs.DeviceCalls.{calls_move, fails_so}
-use Rattle.world.proofs.EndsAndCalls.{call_world, end_answers, end_moves, end_world, is_called, none_of_job, put_over, request_of}
-use Rattle.world.proofs.HandedIn.{is_refused}
-use Rattle.world.proofs.Whole.{get-outcomes, get-whole, put_back}
+use Rattle.world.proofs.EndsAndCalls.{call_world, end_answers, end_steps, end_world, is_called, none_of_job, put_back}
+use Rattle.world.proofs.EndsAndCalls.{put_over, request_of}
 
 -- a job that was taken out is not there
 pub taken_apart : (jobs new : Jobs) (t u : ℕ) → new ≡ finmap.remove jobs t → u ≡ t → finmap.get new u ≡ None
-taken_apart jobs new t u is e = ap (λ m. finmap.get m u) is ∙ get-remove_nat jobs t u ∙ ap (λ b. cond b None (finmap.get jobs u)) (eq-eqb u t e)
+taken_apart jobs new t u is e = ap (λ m. finmap.get m u) is ∙ get-remove_nat jobs t u
+    ∙ ap (λ b. cond b None (finmap.get jobs u)) (eq-eqb u t e)
 
 -- it is put back as it was, or otherwise
-pub put_again : (jobs mid new : Jobs) (t u : ℕ) (x : Flight) → mid ≡ finmap.remove jobs t → new ≡ finmap.insert mid u x → u ≡ t → Some x ≡ finmap.get jobs t → new ≡ jobs
+pub put_again : (jobs mid new : Jobs) (t u : ℕ) (x : Flight) → mid ≡ finmap.remove jobs t → new ≡ finmap.insert mid u x
+    → u ≡ t → Some x ≡ finmap.get jobs t → new ≡ jobs
 put_again jobs mid new t u x m n e is = n ∙ (λ i. finmap.insert (m i) (e i) x) ∙ put_back jobs t x (sym is)
 
-pub put_otherwise : (jobs mid new : Jobs) (t u : ℕ) (x : Flight) → mid ≡ finmap.remove jobs t → new ≡ finmap.insert mid u x → u ≡ t → new ≡ finmap.insert jobs t x
+pub put_otherwise : (jobs mid new : Jobs) (t u : ℕ) (x : Flight) → mid ≡ finmap.remove jobs t
+    → new ≡ finmap.insert mid u x → u ≡ t → new ≡ finmap.insert jobs t x
 put_otherwise jobs mid new t u x m n e = n ∙ (λ i. finmap.insert (m i) (e i) x) ∙ put_over jobs t x
 
 -- nothing was there, and nothing is taken
@@ -49,113 +55,179 @@ none_taken jobs new t m is = m ∙ same_nat_map _ _ (λ u. get-remove_nat jobs t
     go u true e = is ∙ ap (finmap.get jobs) (sym (eqb-true u t e))
     go u false e = refl
 
-module _ (core : State) (jobs : Jobs) (dev : Told) (w : IsWorld core jobs dev) (t : ℕ) (old : Held) (is_old : held_of core jobs dev ≡ old) where
-  out : (o : Option Outcome) → outcome_in (finmap.get jobs t) ≡ o → finmap.get old.outcomes t ≡ o
-  out o e = sym (ap (λ (h : Held). finmap.get h.outcomes t) is_old) ∙ get-outcomes jobs t ∙ e
+module _ (core : State) (jobs : Jobs) (dev : Told) (w : IsWorld core jobs dev) (t : ℕ) (old : WorldSeen)
+    (is_old : seen_of core jobs dev ≡ old) where
+  out : (o : Option Outcome) → option_and_then outcome_in (finmap.get jobs t) ≡ o → finmap.get old.outcomes t ≡ o
+  out o e = sym (ap (λ (v : WorldSeen). finmap.get v.outcomes t) is_old)
+      ∙ get-filter_map_values outcome_in jobs t ∙ e
 
   -- the call is made
-  pub call_made : (job : Task) → Some (Asked job) ≡ finmap.get jobs t → (done : FinishedTask) (after : Told) → Performs dev job done after → (table : Jobs) → table ≡ finmap.insert jobs t (Made done) → CallReply old t (finmap.get old.core.requests t) (finmap.get old.outcomes t) reply.Done (held_of core table after)
+  pub call_made : (job : Task) → Some (Asked job) ≡ finmap.get jobs t → (done : FinishedTask) (after : Told)
+      → Performs dev job done after → (table : Jobs) → table ≡ finmap.insert jobs t (Made done)
+      → CallReply old t (finmap.get old.core.requests t) (finmap.get old.outcomes t) reply.Done
+      (seen_of core table after)
   call_made job is done after p table e =
-      let c : IsCalled old t (held_of core table after) = subst (λ h. IsCalled h t (held_of core table after)) is_old (subst (λ m. IsCalled (held_of core jobs dev) t (held_of core m after)) (sym e) (is_called core jobs dev w t job (sym is) done after p)) in
-      let none = out None (ap outcome_in (sym is)) in
-      let there : finmap.get old.core.requests t ≡ Some c.asked.0 = ap (finmap.get old.core.requests) (sym c.serial) ∙ c.asked.1 in
-      subst (λ q. CallReply old t q (finmap.get old.outcomes t) reply.Done (held_of core table after)) (sym there)
-      (subst (λ o. CallReply old t (Some c.asked.0) o reply.Done (held_of core table after)) (sym none) (refl, c, calls_move old t (held_of core table after) c none))
+      let c : IsCalled old t (seen_of core table after) = subst (λ h. IsCalled h t (seen_of core table after)) is_old
+      (subst (λ m. IsCalled (seen_of core jobs dev) t (seen_of core m after)) (sym e)
+      (is_called core jobs dev w t job (sym is) done after p)) in
+      let none = out None (ap (option_and_then outcome_in) (sym is)) in
+      let there : finmap.get old.core.requests t ≡ Some c.asked.0 = ap (finmap.get old.core.requests) (sym c.serial)
+      ∙ c.asked.1 in
+      subst (λ q. CallReply old t q (finmap.get old.outcomes t) reply.Done (seen_of core table after)) (sym there)
+      (subst (λ o. CallReply old t (Some c.asked.0) o reply.Done (seen_of core table after)) (sym none)
+      (refl, c, calls_move old t (seen_of core table after) c none))
 
-  pub call_keeps : (job : Task) → Some (Asked job) ≡ finmap.get jobs t → (done : FinishedTask) (after : Told) → Performs dev job done after → (table : Jobs) → table ≡ finmap.insert jobs t (Made done) → IsWorld core table after
-  call_keeps job is done after p table e = subst (λ m. IsWorld core m after) (sym e) (call_world core jobs dev w t job (sym is) done after p)
+  pub call_keeps : (job : Task) → Some (Asked job) ≡ finmap.get jobs t → (done : FinishedTask) (after : Told)
+      → Performs dev job done after → (table : Jobs) → table ≡ finmap.insert jobs t (Made done)
+      → IsWorld core table after
+  call_keeps job is done after p table e =
+      subst (λ m. IsWorld core m after) (sym e) (call_world core jobs dev w t job (sym is) done after p)
 
-  again : (new : Held) (q : Option Request) (o : Outcome) → new ≡ old → CallReply old t q (Some o) (reply.Refused Stranger) new
+  again : (new : WorldSeen) (q : Option Request) (o : Outcome) → new ≡ old
+      → CallReply old t q (Some o) (reply.Refused Stranger) new
   again new (Some r) o e = (refl, e)
   again new None o e = (refl, e)
 
   -- it was made already
-  pub call_again : (f : FinishedTask) → Some (Made f) ≡ finmap.get jobs t → (table : Jobs) → table ≡ jobs → CallReply old t (finmap.get old.core.requests t) (finmap.get old.outcomes t) (reply.Refused Stranger) (held_of core table dev)
+  pub call_again : (f : FinishedTask) → Some (Made f) ≡ finmap.get jobs t → (table : Jobs) → table ≡ jobs
+      → CallReply old t (finmap.get old.core.requests t) (finmap.get old.outcomes t) (reply.Refused Stranger)
+      (seen_of core table dev)
   call_again f is table e =
-      subst (λ o. CallReply old t (finmap.get old.core.requests t) o (reply.Refused Stranger) (held_of core table dev)) (sym (out (Some (outcome_of f.outcome f.bytes)) (ap outcome_in (sym is))))
-      (again (held_of core table dev) (finmap.get old.core.requests t) (outcome_of f.outcome f.bytes) (ap (λ m. held_of core m dev) e ∙ is_old))
+      subst (λ o. CallReply old t (finmap.get old.core.requests t) o (reply.Refused Stranger) (seen_of core table dev))
+      (sym (out (Some (outcome_of f.kind f.outcome f.bytes)) (ap (option_and_then outcome_in) (sym is))))
+      (again (seen_of core table dev) (finmap.get old.core.requests t) (outcome_of f.kind f.outcome f.bytes)
+      (ap (λ m. seen_of core m dev) e ∙ is_old))
 
   -- the request is not in flight
   gone : None ≡ finmap.get jobs t → finmap.get old.core.requests t ≡ None
-  gone is = sym (ap (λ (h : Held). finmap.get h.core.requests t) is_old) ∙ get-whole core jobs t ∙ ap (option_map _) (none_of_job core t (finmap.get core.requests t) (finmap.get jobs t) (w.each_job t) (sym is))
+  gone is = sym (ap (λ (v : WorldSeen). finmap.get v.core.requests t) is_old)
+      ∙ (none_of_job core t (finmap.get core.requests t) (finmap.get jobs t) (w.each_job t) (sym is))
 
-  pub call_none : None ≡ finmap.get jobs t → (table : Jobs) → table ≡ jobs → CallReply old t (finmap.get old.core.requests t) (finmap.get old.outcomes t) (reply.Refused Stranger) (held_of core table dev)
-  call_none is table e = subst (λ q. CallReply old t q (finmap.get old.outcomes t) (reply.Refused Stranger) (held_of core table dev)) (sym (gone is)) (refl, ap (λ m. held_of core m dev) e ∙ is_old)
+  pub call_none : None ≡ finmap.get jobs t → (table : Jobs) → table ≡ jobs
+      → CallReply old t (finmap.get old.core.requests t) (finmap.get old.outcomes t) (reply.Refused Stranger)
+      (seen_of core table dev)
+  call_none is table e =
+      subst (λ q. CallReply old t q (finmap.get old.outcomes t) (reply.Refused Stranger) (seen_of core table dev))
+      (sym (gone is)) (refl, ap (λ m. seen_of core m dev) e ∙ is_old)
 
   -- ---- an end where no call was made
 
-  pub end_refused : (s : Asking) → outcome_in (finmap.get jobs t) ≡ None → (table : Jobs) → table ≡ jobs → EndReply old s (finmap.get old.outcomes t) (reply.Refused Stranger) (held_of core table dev)
-  end_refused s none table e = subst (λ o. EndReply old s o (reply.Refused Stranger) (held_of core table dev)) (sym (out None none)) (refl, ap (λ m. held_of core m dev) e ∙ is_old)
+  pub end_refused : (s : Asking) → option_and_then outcome_in (finmap.get jobs t) ≡ None → (table : Jobs) → table ≡ jobs
+      → EndReply old s (finmap.get old.outcomes t) (reply.Refused Stranger) (seen_of core table dev)
+  end_refused s none table e = subst (λ o. EndReply old s o (reply.Refused Stranger) (seen_of core table dev))
+      (sym (out None none)) (refl, ap (λ m. seen_of core m dev) e ∙ is_old)
 
   -- ---- a call that is to fail
 
-  module _ (code : ℕ) (effect : FaultEffect) (new : Held) where
+  module _ (code : ℕ) (effect : FaultEffect) (new : WorldSeen) where
     unmade : (q : Option Request) (o : Outcome) → new ≡ old → FailReply old t q (Some o) code effect (Err Stranger) new
     unmade (Some r) o e = (refl, e)
     unmade None o e = (refl, e)
 
     -- no call is to be made
-    pub fail_refused : false ≡ is_asked (finmap.get jobs t) → new ≡ old → FailReply old t (finmap.get old.core.requests t) (finmap.get old.outcomes t) code effect (Err Stranger) new
+    pub fail_refused : false ≡ is_asked (finmap.get jobs t) → new ≡ old
+        → FailReply old t (finmap.get old.core.requests t) (finmap.get old.outcomes t) code effect (Err Stranger) new
     fail_refused none e = go (finmap.get jobs t) refl none
       where
-        go : (o : Option Flight) → finmap.get jobs t ≡ o → false ≡ is_asked o → FailReply old t (finmap.get old.core.requests t) (finmap.get old.outcomes t) code effect (Err Stranger) new
+        go : (o : Option Flight) → finmap.get jobs t ≡ o → false ≡ is_asked o
+            → FailReply old t (finmap.get old.core.requests t) (finmap.get old.outcomes t) code effect (Err Stranger)
+            new
         go (Some (Asked job)) is n = absurd cc
         go (Some (Made f)) is n =
-            subst (λ o. FailReply old t (finmap.get old.core.requests t) o code effect (Err Stranger) new) (sym (out (Some (outcome_of f.outcome f.bytes)) (ap outcome_in is)))
-            (unmade (finmap.get old.core.requests t) (outcome_of f.outcome f.bytes) e)
-        go None is n = subst (λ q. FailReply old t q (finmap.get old.outcomes t) code effect (Err Stranger) new) (sym (gone (sym is))) (refl, e)
+            subst (λ o. FailReply old t (finmap.get old.core.requests t) o code effect (Err Stranger) new)
+            (sym (out (Some (outcome_of f.kind f.outcome f.bytes)) (ap (option_and_then outcome_in) is)))
+            (unmade (finmap.get old.core.requests t) (outcome_of f.kind f.outcome f.bytes) e)
+        go None is n = subst (λ q. FailReply old t q (finmap.get old.outcomes t) code effect (Err Stranger) new)
+            (sym (gone (sym is))) (refl, e)
 
-    failed : (r : Request) (result : Result Unit Refusal) → finmap.get old.outcomes t ≡ None → CallReply (failing old code effect) t (Some r) None (done result) new → FailReply old t (Some r) None code effect result new
+    failed : (r : Request) (result : Result Unit Refusal) → finmap.get old.outcomes t ≡ None
+        → CallReply (failing old code effect) t (Some r) None (done result) new
+        → FailReply old t (Some r) None code effect result new
     failed r (Ok _) none h = (refl, h.1, λ counted. fails_so old t code effect new h.1 none counted)
     failed r (Err why) none h = absurd (let e = h.0 in cc)
 
     -- the call is made, over a device that was told to fail
-    pub fail_made : (result : Result Unit Refusal) → true ≡ is_asked (finmap.get jobs t) → CallReply (failing old code effect) t (finmap.get old.core.requests t) (finmap.get old.outcomes t) (done result) new
+    pub fail_made : (result : Result Unit Refusal) → true ≡ is_asked (finmap.get jobs t)
+        → CallReply (failing old code effect) t (finmap.get old.core.requests t) (finmap.get old.outcomes t)
+        (done result) new
         → FailReply old t (finmap.get old.core.requests t) (finmap.get old.outcomes t) code effect result new
     fail_made result some h = go (finmap.get jobs t) refl some
       where
-        at : (q : Option Request) (o : Option Outcome) (r : Request) → q ≡ Some r → o ≡ None → finmap.get old.outcomes t ≡ None → CallReply (failing old code effect) t q o (done result) new → FailReply old t q o code effect result new
-        at q o r a b none x = subst (λ y. FailReply old t y o code effect result new) (sym a) (subst (λ y. FailReply old t (Some r) y code effect result new) (sym b) (failed r result none (subst (λ y. CallReply (failing old code effect) t (Some r) y (done result) new) b (subst (λ y. CallReply (failing old code effect) t y o (done result) new) a x))))
+        at : (q : Option Request) (o : Option Outcome) (r : Request) → q ≡ Some r → o ≡ None
+            → finmap.get old.outcomes t ≡ None → CallReply (failing old code effect) t q o (done result) new
+            → FailReply old t q o code effect result new
+        at q o r a b none x = subst (λ y. FailReply old t y o code effect result new) (sym a)
+            (subst (λ y. FailReply old t (Some r) y code effect result new) (sym b)
+            (failed r result none (subst (λ y. CallReply (failing old code effect) t (Some r) y (done result) new) b
+            (subst (λ y. CallReply (failing old code effect) t y o (done result) new) a x))))
 
-        go : (o : Option Flight) → finmap.get jobs t ≡ o → true ≡ is_asked o → FailReply old t (finmap.get old.core.requests t) (finmap.get old.outcomes t) code effect result new
+        go : (o : Option Flight) → finmap.get jobs t ≡ o → true ≡ is_asked o
+            → FailReply old t (finmap.get old.core.requests t) (finmap.get old.outcomes t) code effect result new
         go (Some (Asked job)) is s =
             let q = request_of core t (finmap.get core.requests t) (finmap.get jobs t) (Asked job) (w.each_job t) is in
-            let none = out None (ap outcome_in is) in
-            at (finmap.get old.core.requests t) (finmap.get old.outcomes t) _ (sym (ap (λ (x : Held). finmap.get x.core.requests t) is_old) ∙ get-whole core jobs t ∙ ap (option_map _) q.1) none none h
+            let none = out None (ap (option_and_then outcome_in) is) in
+            at (finmap.get old.core.requests t) (finmap.get old.outcomes t) _
+            (sym (ap (λ (v : WorldSeen). finmap.get v.core.requests t) is_old) ∙ q.1) none none h
         go (Some (Made f)) is s = absurd cc
         go None is s = absurd cc
 
 -- the same table keeps what always holds
-pub same_table : (core : State) (jobs : Jobs) (dev : Told) → IsWorld core jobs dev → (table : Jobs) → table ≡ jobs → IsWorld core table dev
+pub same_table : (core : State) (jobs : Jobs) (dev : Told) → IsWorld core jobs dev → (table : Jobs) → table ≡ jobs
+    → IsWorld core table dev
 same_table core jobs dev w table e = subst (λ m. IsWorld core m dev) (sym e) w
 
 -- so does another device with as many blocks of the same size
-pub same_blocks : (core : State) (jobs : Jobs) (dev : Told) → IsWorld core jobs dev → (after : Told) → after.size ≡ dev.size → after.count ≡ dev.count → IsWorld core jobs after
-same_blocks core jobs dev w after size count = record { bare = w.bare; bounds = w.bounds; each_job = w.each_job; count = w.count; block_size = size ∙ w.block_size; block_count = count ∙ w.block_count }
+pub same_blocks : (core : State) (jobs : Jobs) (dev : Told) → IsWorld core jobs dev → (after : Told)
+    → after.size ≡ dev.size → after.count ≡ dev.count → IsWorld core jobs after
+same_blocks core jobs dev w after size count =
+    record {
+      page_size = w.page_size;
+      each_job = w.each_job;
+      count = w.count;
+      block_size = size ∙ w.block_size;
+      block_count = count ∙ w.block_count;
+    }
 
 -- ---- an end where the call was made
 
-module _ (core : State) (jobs : Jobs) (dev : Told) (w : IsWorld core jobs dev) (t : ℕ) (f : FinishedTask) (is : Some (Made f) ≡ finmap.get jobs t) (k : Kind) (same : k ≡ f.kind) where
-  of_kind : (new : State) (r : Reply) → Step core (end_event k (end_of f)) r new → Step core (end_event f.kind (end_of f)) r new
-  of_kind new r h = subst (λ q. Step core (end_event q (end_of f)) r new) same h
+module _ (core : State) (jobs : Jobs) (dev : Told) (w : IsWorld core jobs dev) (t : ℕ) (f : FinishedTask)
+    (is : Some (Made f) ≡ finmap.get jobs t) (k : Kind) (same : k ≡ f.kind) where
+  of_kind : (new : State) (r : Reply) → Step core (event.End k (end_of f)) r new
+      → Step core (event.End f.kind (end_of f)) r new
+  of_kind new r h = subst (λ q. Step core (event.End q (end_of f)) r new) same h
 
-  refuses : (q : Kind) (e : RefusedEnd) → is_refused (ended q (Err e)) ≡ true
+  refuses : (q : Kind) (e : RefusedEnd) → is_quiet (ended q (Err e)) ≡ true
   refuses Fill e = refl
   refuses Flush e = refl
 
   -- it is not refused
-  pub end_never : (new : State) (e : RefusedEnd) → Step core (end_event k (end_of f)) (ended k (Err e)) new → ⊥
+  pub end_never : (new : State) (e : RefusedEnd) → Step core (event.End k (end_of f)) (ended k (Err e)) new → ⊥
   end_never new e h =
       let a = end_answers core jobs dev w t f (sym is) new (ended k (Err e)) (of_kind new (ended k (Err e)) h) in
       let b = refuses k e in
       cc
 
-  pub end_keeps : (new : State) (r : Reply) → Step core (end_event k (end_of f)) r new → (table : Jobs) → table ≡ finmap.remove jobs t → IsWorld new table dev
-  end_keeps new r h table e = subst (λ m. IsWorld new m dev) (sym e) (end_world core jobs dev w t f (sym is) new r (of_kind new r h))
+  pub end_keeps : (new : State) (r : Reply) → Step core (event.End k (end_of f)) r new → (table : Jobs)
+      → table ≡ finmap.remove jobs t → IsWorld new table dev
+  end_keeps new r h table e =
+      subst (λ m. IsWorld new m dev) (sym e) (end_world core jobs dev w t f (sym is) new r (of_kind new r h))
 
-  pub end_made : (old : Held) → held_of core jobs dev ≡ old → (new : State) (r : Reply) → Step core (end_event k (end_of f)) r new → (table : Jobs) → table ≡ finmap.remove jobs t
-      → EndReply old (step.End (record { 0 = t })) (finmap.get old.outcomes t) r (held_of new table dev)
+  loud_answer : (r : Reply) → is_quiet r ≡ false → r ≢ reply.Refused Stranger
+  loud_answer r loud e = let a : true ≡ false = sym (ap is_quiet e) ∙ loud in cc
+
+  pub end_made : (old : WorldSeen) → seen_of core jobs dev ≡ old → (new : State) (r : Reply)
+      → Step core (event.End k (end_of f)) r new → (table : Jobs) → table ≡ finmap.remove jobs t
+      → EndReply old (step.End (record { 0 = t })) (finmap.get old.outcomes t) r (seen_of new table dev)
   end_made old is_old new r h table e =
-      let moves : Moves (world_of (held_of core jobs dev)) (Finish t r) (world_of (held_of new table dev)) = subst (λ m. Moves (world_of (held_of core jobs dev)) (Finish t r) (world_of (held_of new m dev))) (sym e) (end_moves core jobs dev w t f (sym is) new r (of_kind new r h)) in
-      subst (λ o. EndReply old (step.End (record { 0 = t })) o r (held_of new table dev)) (sym (out core jobs dev w t old is_old (Some (outcome_of f.outcome f.bytes)) (ap outcome_in (sym is))))
-      (subst (λ x. Moves (world_of x) (Finish t r) (world_of (held_of new table dev))) is_old moves, ap (λ (x : Held). x.device) is_old)
+      let moves : WorldStep (world_of (seen_of core jobs dev)) (Finish t r) (world_of (seen_of new table dev)) =
+      subst (λ m. WorldStep (world_of (seen_of core jobs dev)) (Finish t r) (world_of (seen_of new m dev))) (sym e)
+      (end_steps core jobs dev w t f (sym is) new r (of_kind new r h)) in
+      subst (λ o. EndReply old (step.End (record { 0 = t })) o r (seen_of new table dev))
+      (sym (out core jobs dev w t old is_old (Some (outcome_of f.kind f.outcome f.bytes))
+      (ap (option_and_then outcome_in) (sym is)))) (
+        (
+          subst (λ v. WorldStep (world_of v) (Finish t r) (world_of (seen_of new table dev))) is_old moves,
+          ap (λ (v : WorldSeen). v.device) is_old,
+        ),
+        loud_answer r (end_answers core jobs dev w t f (sym is) new r (of_kind new r h)),
+      )

@@ -1,39 +1,37 @@
--- The requests in flight and the next serial, step by step: what begins none leaves both, and one that begins alone ends alone.
+-- The requests in flight and the next serial, step by step: what begins none leaves both, and one that begins alone
+-- ends alone.
 -- Of any world.
-use Rattle.std.proofs.Common.{◌≡◌, ◌≢◌, ℕ, ◌+◌, ◌<◌, Bool, true, false, not, refl, ap, sym, subst, ◌∙◌, arith, inl, inr}
-use Rattle.std.specs.Prelude.{Option, Some, None, is_some, nat_le}
+use Rattle.std.proofs.Common.{◌≡◌, ◌≢◌, ℕ, ◌+◌, ◌<◌, Bool, true, false, cond, not, refl, ap, sym, ◌∙◌, arith, inl}
+use Rattle.std.proofs.Common.{inr}
+use Rattle.std.specs.Prelude.{◌⊎◌, ◌||◌, Option, Some, None, is_some, nat_le}
 use Rattle.std.specs.Ordering.{nat_cmp}
 use Rattle.std.specs.FinMap as finmap
 use Rattle.std.specs.FinMap.{FinMap, get-empty, len-empty}
 use Rattle.std.proofs.lemmas.Bool.Decides.{nat_tests}
+use Rattle.pc_types.specs.Kinds.{is_flush}
 use Rattle.pc_types.specs.declared.ids.Serial.{Serial}
-use Rattle.pc_types.specs.declared.kind.Kind.{Kind}
-use Rattle.pc_types.specs.declared.kind.Kind.TheVariants.{Fill, Flush}
 use Rattle.pc_types.specs.declared.limits.TheConstants.{MAX_IN_FLIGHT, SERIAL_END}
-use Rattle.cachecore.specs.declared.event.End.{End}
-use Rattle.cachecore.specs.declared.event.Event.{Event}
-use Rattle.cachecore.specs.declared.event.Event.TheVariants as event
-use Rattle.cachecore.specs.declared.event.Outcome.{Outcome}
-use Rattle.cachecore.specs.declared.event.Outcome.TheVariants as outcome
-use Rattle.cachecore.specs.declared.event.Reply.{Reply}
-use Rattle.cachecore.specs.declared.event.Reply.TheVariants as reply
-use Rattle.cachecore.specs.State.{State, Request}
-use Rattle.cachecore.specs.Changes.{each_value, still_awaits}
-use Rattle.cachecore.specs.Tests.{end_tests, is_full}
-use Rattle.cachecore.specs.Step.{Step, FillEndReply, FlushEndReply}
-use Rattle.cachecore.proofs.Choices.{or_false}
-use Rattle.cachecore.proofs.MapLaws.{same_nat_map}
-use Rattle.world.specs.World.{World, Entry, Act, Call, Finish, Moves, CallOf, CallNotes, EndOf, end_event}
-use Rattle.world.proofs.View.{put1_tells, put1_here, put1_else}
-use Rattle.world.proofs.Lookups.{get-insert1, get-remove1}
-use Rattle.world.proofs.HandedIn.{passes, at_none}
-use Rattle.world.proofs.KeptRequests.{Kept, len_kept, quiet_kept, is_job, fill_kept, fill_begins, flush_kept, flush_begins}
-use Rattle.world.proofs.Moves.{refused_fill, refused_flush}
-use Rattle.world.proofs.CoreSteps.{act_step, call_core}
+use Rattle.pc_types.specs.declared.refusal.Refusal.TheVariants.{Stranger}
+use Rattle.maps.proofs.MapLaws.{same_nat_map}
+use Rattle.maps.proofs.Maps.{get_inserted, get_left}
+use Rattle.machine.specs.declared.event.Event.{Event}
+use Rattle.machine.specs.declared.event.Event.TheVariants as event
+use Rattle.machine.specs.declared.event.Outcome.{Outcome}
+use Rattle.machine.specs.declared.event.Outcome.TheVariants as outcome
+use Rattle.machine.specs.declared.event.Reply.{Reply}
+use Rattle.machine.specs.declared.event.Reply.TheVariants as reply
+use Rattle.machine.specs.State.{State, Request}
+use Rattle.machine.specs.Changes.{ended, flush_failed, request_ended}
+use Rattle.machine.specs.Tests.{is_full}
+use Rattle.machine.specs.Step.{Step}
+use Rattle.machine.proofs.steps.Ends.{end_loud, of_end, own_end}
+use Rattle.runs.specs.World.{World, Move, Act, Call, Finish, Calls, Ends, IsAct, WorldStep}
+use Rattle.runs.proofs.moments.Histories.{calls}
+use Rattle.runs.proofs.moments.KeptRequests.{Kept, is_end, is_job, of_requests}
 
 -- ---- steps that begin no request and end none
 
-abbrev pub requests_stay : Entry → Bool
+abbrev pub requests_stay : Move → Bool
 requests_stay (Act e r) = not (is_job r)
 requests_stay (Call t fault effect) = false
 requests_stay (Finish t r) = false
@@ -42,36 +40,32 @@ no_job : (r : Reply) → not (is_job r) ≡ true → is_job r ≡ false
 no_job (reply.Job t) e = absurd cc
 no_job _ e = refl
 
-unmoved : (s new : State) → new ≡ s → Kept s new
-unmoved s new e = subst (Kept s) (sym e) (record { next = refl; name = refl; sizes = refl; requests = refl })
+-- an end that comes as an event ends none
+act_ends_none : (e : Event) (r : Reply) → IsAct e r → is_end e r ≡ false
+act_ends_none (event.End kind end) r h =
+    (let a : is_end (event.End kind end) r ≡ is_end (event.End kind end) (reply.Refused Stranger) =
+    ap (is_end (event.End kind end)) h in a)
+act_ends_none _ r h = refl
 
 -- an event that does not answer with a job keeps the requests, but for those that it drops
-pub event_kept : (w new : World) (e : Event) (r : Reply) → is_job r ≡ false → Moves w (Act e r) new → Kept w.core new.core
-event_kept w new (event.FillBegin h p) r j m = fill_kept w.core new.core h p r j m.0
-event_kept w new (event.FlushBegin f) r j m = flush_kept w.core new.core (event.FlushBegin f) r refl j m.0
-event_kept w new (event.SyncStep n) r j m = flush_kept w.core new.core (event.SyncStep n) r refl j m.0
-event_kept w new (event.FillEnd e) r j m = unmoved w.core new.core (refused_fill w.core new.core e (subst (λ x. Step w.core (event.FillEnd e) x new.core) m.0 m.1.0))
-event_kept w new (event.FlushEnd e) r j m = unmoved w.core new.core (refused_flush w.core new.core e (subst (λ x. Step w.core (event.FlushEnd e) x new.core) m.0 m.1.0))
-event_kept w new e r j m = quiet_kept w.core new.core e r refl (act_step w new e r m)
+pub event_kept : (w new : World) (e : Event) (r : Reply) → is_job r ≡ false → WorldStep w (Act e r) new
+    → Kept w.core new.core
+event_kept w new e r j m = (of_requests w.core new.core e r m.1.0).kept j (act_ends_none e r m.0)
 
--- an event changes the core alone
-pub only_core : (w new : World) (e : Event) (r : Reply) → Moves w (Act e r) new → new ≡ record w { core = new.core }
-only_core w new (event.FillEnd e) r m = m.1.1
-only_core w new (event.FlushEnd e) r m = m.1.1
-only_core w new e r m = m.1
+-- an event changes the core, and what is noted of the writes in flight
+pub only_core : (w new : World) (e : Event) (r : Reply) → WorldStep w (Act e r) new
+    → new ≡ record w { core = new.core; writing = new.writing }
+only_core w new e r m =
+    m.1.1 ∙ (λ i. record w { core = new.core; writing = sym (ap (λ (x : World). x.writing) m.1.1) i })
 
-pub quiet_requests : (w new : World) (e : Entry) → requests_stay e ≡ true → Moves w e new → w.core.requests ≡ finmap.empty → new.core.requests ≡ finmap.empty
-quiet_requests w new (Act e r) q m none = finmap.empty_of_len new.core.requests (len_kept w.core new.core (event_kept w new e r (no_job r q) m) ∙ ap finmap.len none ∙ len-empty nat_cmp Request)
+pub quiet_requests : (w new : World) (move : Move) → requests_stay move ≡ true → WorldStep w move new
+    → w.core.requests ≡ finmap.empty → new.core.requests ≡ finmap.empty
+quiet_requests w new (Act e r) q m none = finmap.empty_of_len new.core.requests
+    ((event_kept w new e r (no_job r q) m).len ∙ ap finmap.len none ∙ len-empty nat_cmp Request)
 quiet_requests w new (Call t fault effect) q m none = absurd cc
 quiet_requests w new (Finish t r) q m none = absurd cc
 
 -- ---- a request begins
-
-abbrev pub may_begin : Event → Bool
-may_begin (event.FillBegin h p) = true
-may_begin (event.FlushBegin f) = true
-may_begin (event.SyncStep n) = true
-may_begin _ = false
 
 pub record Begins (w new : World) (t : ℕ) : Type 0 where
   pub request : Request
@@ -81,82 +75,111 @@ pub record Begins (w new : World) (t : ℕ) : Type 0 where
   pub next : new.core.next ≡ w.core.next + 1
   pub room : w.core.next < SERIAL_END
 
+second_false : (a b : Bool) → (a || b) ≡ false → b ≡ false
+second_false true b e = absurd cc
+second_false false b e = e
+
 has_serial : (s : State) → is_full s ≡ false → s.next < SERIAL_END
-has_serial s e = let a = (or_false (nat_le MAX_IN_FLIGHT (finmap.len s.requests)) (nat_le SERIAL_END s.next) e).1 in grind (arith, nat_tests)
+has_serial s e = let a = second_false (nat_le MAX_IN_FLIGHT (finmap.len s.requests)) (nat_le SERIAL_END s.next) e in
+    grind (arith, nat_tests)
 
-begun : (w new : World) (t : ℕ) (r : Request) → t ≡ w.core.next → new.core.requests ≡ finmap.insert w.core.requests w.core.next r → new.core.next ≡ w.core.next + 1 → is_full w.core ≡ false → new ≡ record w { core = new.core } → Begins w new t
-begun w new t r serial requests next room same = record {
-  request = r;
-  serial = serial;
-  requests = requests ∙ (λ i. finmap.insert w.core.requests (sym serial i) r);
-  outcomes = ap (λ x. x.outcomes) same;
-  next = next;
-  room = has_serial w.core room;
-}
-
-pub begins : (w new : World) (e : Event) (t : Serial) → may_begin e ≡ true → Moves w (Act e (reply.Job t)) new → Begins w new t.0
-begins w new (event.FillBegin h p) t b m = let x = fill_begins w.core new.core h p t m.0 in begun w new t.0 _ x.serial (ap (λ s. s.requests) x.state) (ap (λ s. s.next) x.state) x.room m.1
-begins w new (event.FlushBegin f) t b m = let x = flush_begins w.core new.core (event.FlushBegin f) t refl m.0 in begun w new t.0 _ x.serial (ap (λ s. s.requests) x.state) (ap (λ s. s.next) x.state) x.room m.1
-begins w new (event.SyncStep n) t b m = let x = flush_begins w.core new.core (event.SyncStep n) t refl m.0 in begun w new t.0 _ x.serial (ap (λ s. s.requests) x.state) (ap (λ s. s.next) x.state) x.room m.1
-begins w new _ t b m = absurd cc
+pub begins : (w new : World) (e : Event) (t : Serial) → WorldStep w (Act e (reply.Job t)) new → Begins w new t.0
+begins w new e t m =
+    let b = (of_requests w.core new.core e (reply.Job t) m.1.0).begun t refl in
+    record {
+      request = b.x;
+      serial = b.serial;
+      requests = b.requests ∙ ap (λ u. finmap.insert w.core.requests u b.x) (sym b.serial);
+      outcomes = ap (λ x. x.outcomes) (only_core w new e (reply.Job t) m);
+      next = b.next;
+      room = has_serial w.core b.room;
+    }
 
 -- ---- a request ends
 
-record Removes (s new : State) (t : ℕ) : Type 0 where
-  pub requests : new.requests ≡ finmap.remove s.requests t
-  pub next : new.next ≡ s.next
-  pub syncs : new.syncs ≡ each_value (still_awaits new.requests) s.syncs
+-- the end of a request, as a step of the cache
+pub record EndStep (w new : World) (t : ℕ) (r : Reply) : Type 0 where
+  pub x : Request
+  pub call : Outcome
+  pub step : Step w.core (event.End x.kind (own_end w.core t x call)) r new.core
+  pub outcomes : new.outcomes ≡ finmap.remove w.outcomes t
 
-removes : (s new x : State) (t : ℕ) → x.requests ≡ finmap.remove s.requests t → x.next ≡ s.next → x.syncs ≡ each_value (still_awaits x.requests) s.syncs → new ≡ x → Removes s new t
-removes s new x t r n y e = subst (λ z. Removes s z t) (sym e) (record { requests = r; next = n; syncs = y })
+end_step : (w new : World) (t : ℕ) (r : Reply) (q : Option Request) (o : Option Outcome) → Ends w t q o r new
+    → EndStep w new t r
+end_step w new t r (Some x) (Some call) h =
+    record { x = x; call = call; step = h.0; outcomes = ap (λ (v : World). v.outcomes) h.1 }
+end_step w new t r (Some x) None h = absurd h
+end_step w new t r None o h = absurd h
 
-fill_ends : (s new : State) (t : ℕ) (q : Option Request) (o : Outcome) (r : Reply) → FillEndReply s t q o r new → Removes s new t
-fill_ends s new t (Some x) o reply.Dropped e = removes s new _ t refl refl refl e.1
-fill_ends s new t (Some x) (outcome.Fault c) (reply.Failed d) e = removes s new _ t refl refl refl e.2
-fill_ends s new t (Some x) (outcome.Ok bytes) reply.Filled e = removes s new _ t refl refl refl e.1
-fill_ends s new t q o r e = absurd e
+pub finish_step : (w new : World) (t : ℕ) (r : Reply) → WorldStep w (Finish t r) new → EndStep w new t r
+finish_step w new t r m = end_step w new t r (finmap.get w.core.requests t) (finmap.get w.outcomes t) m
 
-flush_ends : (s new : State) (t : ℕ) (q : Option Request) (o : Outcome) (r : Reply) → FlushEndReply s t q o r new → Removes s new t
-flush_ends s new t (Some x) o reply.Dropped e = removes s new _ t refl refl refl e.1
-flush_ends s new t (Some x) (outcome.Fault c) (reply.Failed d) e = removes s new _ t refl refl refl e.4
-flush_ends s new t (Some x) (outcome.Ok bytes) reply.Written e = removes s new _ t refl refl refl e.3
-flush_ends s new t q o r e = absurd e
+ended_syncs : (s : State) (t : ℕ) (x : Request) (o : Outcome) (r : Reply)
+    → (request_ended s t (Some x) o r).syncs ≡ s.syncs
+ended_syncs s t x o reply.Dropped = refl
+ended_syncs s t x (outcome.Fault c) (reply.Failed d) = go (is_flush x.kind)
+  where
+    go : (b : Bool) → (cond b (flush_failed (ended s t) x c) (ended s t)).syncs ≡ s.syncs
+    go true = refl
+    go false = refl
+ended_syncs s t x (outcome.Read b) reply.Filled = refl
+ended_syncs s t x outcome.Written reply.Written = refl
+ended_syncs s t x o _ = refl
 
+-- what its end leaves, where it is not refused
 pub record Finishes (w new : World) (t : ℕ) : Type 0 where
   pub requests : new.core.requests ≡ finmap.remove w.core.requests t
   pub outcomes : new.outcomes ≡ finmap.remove w.outcomes t
   pub next : new.core.next ≡ w.core.next
-  pub syncs : new.core.syncs ≡ each_value (still_awaits new.core.requests) w.core.syncs
+  pub syncs : new.core.syncs ≡ w.core.syncs
 
-finished : (w new : World) (t : ℕ) (q : Option Request) (o : Option Outcome) (r : Reply) → finmap.get w.core.requests t ≡ q → EndOf w t q o r new → Finishes w new t
-finished w new t (Some x) (Some o) r is h = let k = by_kind x.kind refl h.0 in record { requests = k.requests; outcomes = ap (λ y. y.outcomes) h.1; next = k.next; syncs = k.syncs }
-  where
-    end : Kind → End
-    end k = record { cache = w.core.name; kind = k; serial = record { 0 = t }; outcome = o }
+-- an end is refused and leaves the cache, or it goes through
+pub ends_or_stays : (w new : World) (t : ℕ) (r : Reply) → WorldStep w (Finish t r) new
+    → ((r ≡ reply.Refused Stranger) × (new.core ≡ w.core)) ⊎ Finishes w new t
+ends_or_stays w new t r m =
+    let e = finish_step w new t r m in
+    let end = own_end w.core t e.x e.call in
+    elim (of_end w.core e.x.kind end r new.core e.step) [
+      | inl same ↦ inl (same.1, same.2)
+      | inr a ↦ (let over = (of_requests w.core new.core (event.End e.x.kind end) r e.step).over
+          (ap not (end_loud (Some a.x) e.call r a.reply)) e.x.kind end refl in
+          inr (record {
+            requests = over.requests;
+            outcomes = e.outcomes;
+            next = over.next;
+            syncs = ap (λ (s : State). s.syncs) a.is ∙ ended_syncs w.core t a.x e.call r;
+          }))
+    ]
 
-    by_kind : (k : Kind) → x.kind ≡ k → Step w.core (end_event k (end k)) r new.core → Removes w.core new.core t
-    by_kind Fill e s = fill_ends w.core new.core t (finmap.get w.core.requests t) o r (at_none (end_tests w.core Fill (end Fill)) r w.core new.core (FillEndReply w.core t (finmap.get w.core.requests t) o r new.core) (passes w.core Fill (end Fill) x refl refl is e) s)
-    by_kind Flush e s = flush_ends w.core new.core t (finmap.get w.core.requests t) o r (at_none (end_tests w.core Flush (end Flush)) r w.core new.core (FlushEndReply w.core t (finmap.get w.core.requests t) o r new.core) (passes w.core Flush (end Flush) x refl refl is e) s)
-finished w new t (Some x) None r is h = absurd h
-finished w new t None o r is h = absurd h
-
-pub finishes : (w new : World) (t : ℕ) (r : Reply) → Moves w (Finish t r) new → Finishes w new t
-finishes w new t r m = finished w new t (finmap.get w.core.requests t) (finmap.get w.outcomes t) r refl m
+pub finishes : (w new : World) (t : ℕ) (r : Reply) → r ≢ reply.Refused Stranger → WorldStep w (Finish t r) new
+    → Finishes w new t
+finishes w new t r answered m =
+    elim (ends_or_stays w new t r m) [ inl same ↦ absurd (answered same.0) | inr f ↦ f ]
 
 -- ---- the next serial
 
-abbrev pub begins_none : Entry → Bool
+abbrev pub begins_none : Move → Bool
 begins_none (Act e r) = not (is_job r)
 begins_none (Call t fault effect) = true
 begins_none (Finish t r) = true
 
-pub next_stays : (w new : World) (e : Entry) → begins_none e ≡ true → Moves w e new → new.core.next ≡ w.core.next
-next_stays w new (Act e r) q m = (event_kept w new e r (no_job r q) m).next
-next_stays w new (Call t fault effect) q m = ap (λ s. s.next) (call_core w new t fault effect m)
-next_stays w new (Finish t r) q m = (finishes w new t r m).next
+pub call_core : (w new : World) (t : ℕ) (fault : Option ℕ) (effect : Bool) → WorldStep w (Call t fault effect) new
+    → new.core ≡ w.core
+call_core w new t fault effect m =
+    calls w new t (finmap.get w.core.requests t) (finmap.get w.outcomes t) fault effect m
 
-pub next_rises : (w new : World) (e : Event) (t : Serial) → may_begin e ≡ true → Moves w (Act e (reply.Job t)) new → (w.core.next < SERIAL_END) × (new.core.next ≡ w.core.next + 1)
-next_rises w new e t b m = let x = begins w new e t b m in (x.room, x.next)
+pub next_stays : (w new : World) (move : Move) → begins_none move ≡ true → WorldStep w move new
+    → new.core.next ≡ w.core.next
+next_stays w new (Act e r) q m = (event_kept w new e r (no_job r q) m).next
+next_stays w new (Call t fault effect) q m = ap (λ (s : State). s.next) (call_core w new t fault effect m)
+next_stays w new (Finish t r) q m = elim (ends_or_stays w new t r m) [
+  | inl same ↦ ap (λ (s : State). s.next) same.1
+  | inr f ↦ f.next
+]
+
+pub next_rises : (w new : World) (e : Event) (t : Serial) → WorldStep w (Act e (reply.Job t)) new
+    → (w.core.next < SERIAL_END) × (new.core.next ≡ w.core.next + 1)
+next_rises w new e t m = let b = begins w new e t m in (b.room, b.next)
 
 -- ---- one request from its begin to its end
 
@@ -171,46 +194,78 @@ pub record OneInFlight (w : World) (t : ℕ) : Type 0 where
   pub requests : w.core.requests ≡ finmap.insert finmap.empty t request
   pub others : (u : ℕ) → u ≢ t → finmap.get w.outcomes u ≡ None
 
+here : {X : Type 0} (m : FinMap nat_cmp X) (t : ℕ) (x : X) → finmap.get (finmap.insert m t x) t ≡ Some x
+here m t x = elim (get_inserted m t x t) [ inl a ↦ a.1 | inr a ↦ absurd (a.0 refl) ]
+
+elsewhere : {X : Type 0} (m : FinMap nat_cmp X) (t : ℕ) (x : X) (u : ℕ) → u ≢ t
+    → finmap.get (finmap.insert m t x) u ≡ finmap.get m u
+elsewhere m t x u apart = elim (get_inserted m t x u) [ inl a ↦ absurd (apart a.0) | inr a ↦ a.1 ]
+
 pub one_is : (w : World) (t : ℕ) (o : OneInFlight w t) → finmap.get w.core.requests t ≡ Some o.request
-one_is w t o = ap (λ m. finmap.get m t) o.requests ∙ get-insert1 (finmap.empty {X = Request} {R = nat_cmp}) t o.request t ∙ put1_here _ t (Some o.request)
+one_is w t o = ap (λ m. finmap.get m t) o.requests ∙ here finmap.empty t o.request
 
-pub none_stays : (w new : World) (e : Event) (r : Reply) → is_job r ≡ false → NoneInFlight w → Moves w (Act e r) new → NoneInFlight new
-none_stays w new e r j none m = record { requests = quiet_requests w new (Act e r) (ap not j) m none.requests; outcomes = ap (λ x. x.outcomes) (only_core w new e r m) ∙ none.outcomes }
+pub none_stays : (w new : World) (e : Event) (r : Reply) → is_job r ≡ false → NoneInFlight w → WorldStep w (Act e r) new
+    → NoneInFlight new
+none_stays w new e r j none m = record {
+  requests = quiet_requests w new (Act e r) (ap not j) m none.requests;
+  outcomes = ap (λ (x : World). x.outcomes) (only_core w new e r m) ∙ none.outcomes;
+}
 
-pub one_begins : (w new : World) (e : Event) (t : Serial) → may_begin e ≡ true → NoneInFlight w → Moves w (Act e (reply.Job t)) new → OneInFlight new t.0 × (finmap.get new.outcomes t.0 ≡ None)
-one_begins w new e t b none m =
-    let x = begins w new e t b m in
-    let clear : (u : ℕ) → finmap.get new.outcomes u ≡ None = (λ u. ap (λ o. finmap.get o u) (x.outcomes ∙ none.outcomes) ∙ get-empty nat_cmp u) in
-    (record { request = x.request; requests = x.requests ∙ ap (λ y. finmap.insert y t.0 x.request) none.requests; others = λ u _. clear u }, clear t.0)
+pub one_begins : (w new : World) (e : Event) (t : Serial) → NoneInFlight w → WorldStep w (Act e (reply.Job t)) new
+    → OneInFlight new t.0 × (finmap.get new.outcomes t.0 ≡ None)
+one_begins w new e t none m =
+    let b = begins w new e t m in
+    let clear : (u : ℕ) → finmap.get new.outcomes u ≡ None =
+    (λ u. ap (λ o. finmap.get o u) (b.outcomes ∙ none.outcomes) ∙ get-empty nat_cmp u) in (
+      record {
+        request = b.request;
+        requests = b.requests ∙ ap (λ m. finmap.insert m t.0 b.request) none.requests;
+        others = λ u _. clear u;
+      },
+      clear t.0,
+    )
 
 -- the cache stays, and an outcome of the request is noted
-pub one_noted : (w new : World) (t : ℕ) (o : Outcome) → OneInFlight w t → new.core ≡ w.core → new.outcomes ≡ finmap.insert w.outcomes t o → OneInFlight new t × (finmap.get new.outcomes t ≡ Some o)
-one_noted w new t o one same noted =
-    (record { request = one.request; requests = ap (λ s. s.requests) same ∙ one.requests; others = λ u apart. ap (λ m. finmap.get m u) noted ∙ get-insert1 w.outcomes t o u ∙ put1_else _ t (Some o) u apart ∙ one.others u apart }, ap (λ m. finmap.get m t) noted ∙ get-insert1 w.outcomes t o t ∙ put1_here _ t (Some o))
+pub one_noted : (w new : World) (t : ℕ) (o : Outcome) → OneInFlight w t → new.core ≡ w.core
+    → new.outcomes ≡ finmap.insert w.outcomes t o → OneInFlight new t × (finmap.get new.outcomes t ≡ Some o)
+one_noted w new t o one same noted = (
+  record {
+    request = one.request;
+    requests = ap (λ (s : State). s.requests) same ∙ one.requests;
+    others = λ u apart. ap (λ m. finmap.get m u) noted ∙ elsewhere w.outcomes t o u apart ∙ one.others u apart;
+  },
+  ap (λ m. finmap.get m t) noted ∙ here w.outcomes t o,
+)
 
-call_notes : (w new : World) (t : ℕ) (r : Request) (k : Kind) (fault : Option ℕ) (effect : Bool) → CallNotes w t r k fault effect new → (o : Outcome) × (new.outcomes ≡ finmap.insert w.outcomes t o)
-call_notes w new t r Fill None effect e = (_, ap (λ x. x.outcomes) e)
-call_notes w new t r Fill (Some c) effect e = (_, ap (λ x. x.outcomes) e)
-call_notes w new t r Flush None effect e = (_, ap (λ x. x.outcomes) e)
-call_notes w new t r Flush (Some c) effect e = (_, ap (λ x. x.outcomes) e)
-
-called : (w new : World) (t : ℕ) (q : Option Request) (o : Option Outcome) (fault : Option ℕ) (effect : Bool) → CallOf w t q o fault effect new → (o : Outcome) × (new.outcomes ≡ finmap.insert w.outcomes t o)
-called w new t (Some r) None fault effect h = call_notes w new t r r.kind fault effect h
-called w new t (Some r) (Some o) fault effect h = absurd h
+called : (w new : World) (t : ℕ) (q : Option Request) (o : Option Outcome) (fault : Option ℕ) (effect : Bool)
+    → Calls w t q o fault effect new → (o : Outcome) × (new.outcomes ≡ finmap.insert w.outcomes t o)
+called w new t (Some x) None fault effect h = (_, ap (λ (v : World). v.outcomes) h)
+called w new t (Some x) (Some o) fault effect h = absurd h
 called w new t None o fault effect h = absurd h
 
-pub one_called : (w new : World) (t : ℕ) (fault : Option ℕ) (effect : Bool) → OneInFlight w t → Moves w (Call t fault effect) new → OneInFlight new t × (is_some (finmap.get new.outcomes t) ≡ true)
+pub one_called : (w new : World) (t : ℕ) (fault : Option ℕ) (effect : Bool) → OneInFlight w t
+    → WorldStep w (Call t fault effect) new → OneInFlight new t × (is_some (finmap.get new.outcomes t) ≡ true)
 one_called w new t fault effect one m =
     let x = called w new t (finmap.get w.core.requests t) (finmap.get w.outcomes t) fault effect m in
     let y = one_noted w new t x.0 one (call_core w new t fault effect m) x.1 in
     (y.0, ap is_some y.1)
 
-pub one_ends : (w new : World) (t : ℕ) (r : Reply) → OneInFlight w t → Moves w (Finish t r) new → NoneInFlight new
-one_ends w new t r one m =
-    let x = finishes w new t r m in record {
-      requests = x.requests ∙ ap (λ y. finmap.remove y t) one.requests ∙ removed (finmap.insert finmap.empty t one.request) (λ u apart. get-insert1 (finmap.empty {X = Request} {R = nat_cmp}) t one.request u ∙ put1_else _ t (Some one.request) u apart ∙ get-empty nat_cmp u);
+pub one_ends : (w new : World) (t : ℕ) (r : Reply) → r ≢ reply.Refused Stranger → OneInFlight w t
+    → WorldStep w (Finish t r) new → NoneInFlight new
+one_ends w new t r answered one m =
+    let x = finishes w new t r answered m in record {
+      requests = x.requests ∙ ap (λ m. finmap.remove m t) one.requests
+          ∙ removed (finmap.insert finmap.empty t one.request)
+          (λ u apart. elsewhere finmap.empty t one.request u apart ∙ get-empty nat_cmp u);
       outcomes = x.outcomes ∙ removed w.outcomes one.others;
     }
   where
-    removed : {X : Type 0} (m : FinMap nat_cmp X) → ((u : ℕ) → u ≢ t → finmap.get m u ≡ None) → finmap.remove m t ≡ finmap.empty
-    removed m none = same_nat_map _ _ (λ u. get-remove1 m t u ∙ elim (put1_tells (finmap.get m) t None u) [ inl a ↦ a.1 ∙ sym (get-empty nat_cmp u) | inr a ↦ a.1 ∙ none u a.0 ∙ sym (get-empty nat_cmp u) ])
+    gone : {X : Type 0} (m : FinMap nat_cmp X) → ((u : ℕ) → u ≢ t → finmap.get m u ≡ None) → (u : ℕ) (o : Option X)
+        → finmap.get (finmap.remove m t) u ≡ o → o ≡ None
+    gone m none u None e = refl
+    gone m none u (Some x) e = let a = get_left m t u x e in sym a.1 ∙ none u a.0
+
+    removed : {X : Type 0} (m : FinMap nat_cmp X) → ((u : ℕ) → u ≢ t → finmap.get m u ≡ None)
+        → finmap.remove m t ≡ finmap.empty
+    removed m none = same_nat_map _ _
+        (λ u. gone m none u (finmap.get (finmap.remove m t) u) refl ∙ sym (get-empty nat_cmp u))

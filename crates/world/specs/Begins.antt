@@ -1,4 +1,5 @@
--- Inside this crate: what a call that may begin a request comes to. Where none begins, there is a reply that is no job, and
+-- Inside this crate: what a call that may begin a request comes to. Where none begins, there is a reply that is no job,
+-- and
 -- the buffer that was handed in comes back.
 use Rattle.std.specs.Prelude.{◌≡◌, Bool, true, false, Result, Ok}
 use Rattle.cachecore.specs.declared.answers.FillBegun.{FillBegun}
@@ -8,8 +9,8 @@ use Rattle.cachecore.specs.declared.answers.FlushBegun.TheVariants as flush
 use Rattle.cachecore.specs.declared.answers.Refused.{Refused}
 use Rattle.cachecore.specs.declared.answers.SyncStepped.{SyncStepped}
 use Rattle.cachecore.specs.declared.answers.SyncStepped.TheVariants as sync
-use Rattle.cachecore.specs.declared.event.Reply.{Reply}
-use Rattle.cachecore.specs.declared.event.Reply.TheVariants as reply
+use Rattle.machine.specs.declared.event.Reply.{Reply}
+use Rattle.machine.specs.declared.event.Reply.TheVariants as reply
 use Rattle.cachecore.specs.Replies.{fill_begun, flush_begun, sync_stepped, GivesBack, FlushGivesBack, SyncGivesBack}
 use Rattle.world.specs.declared.replies.Begun.{Begun}
 use Rattle.world.specs.declared.replies.Begun.TheVariants.{Job, Answered}
@@ -20,12 +21,15 @@ is_job _ = false
 
 abbrev pub IsFillBegun : Result FillBegun Refused → Begun → Type 0
 IsFillBegun answer (Job job) = answer ≡ Ok (fill.Job job)
-IsFillBegun answer (Answered reply buffer) = (reply ≡ fill_begun answer) × (is_job reply ≡ false) × GivesBack buffer answer
+IsFillBegun answer (Answered reply buffer) = (reply ≡ fill_begun answer) × (is_job reply ≡ false)
+    × GivesBack buffer answer
 
 abbrev pub IsFlushBegun : Result FlushBegun Refused → Begun → Type 0
 IsFlushBegun answer (Job job) = answer ≡ Ok (flush.Job job)
-IsFlushBegun answer (Answered reply buffer) = (reply ≡ flush_begun answer) × (is_job reply ≡ false) × FlushGivesBack buffer answer
+IsFlushBegun answer (Answered reply buffer) = (reply ≡ flush_begun answer) × (is_job reply ≡ false)
+    × FlushGivesBack buffer answer
 
 abbrev pub IsSyncStepped : Result SyncStepped Refused → Begun → Type 0
 IsSyncStepped answer (Job job) = answer ≡ Ok (sync.Job job)
-IsSyncStepped answer (Answered reply buffer) = (reply ≡ sync_stepped answer) × (is_job reply ≡ false) × SyncGivesBack buffer answer
+IsSyncStepped answer (Answered reply buffer) = (reply ≡ sync_stepped answer) × (is_job reply ≡ false)
+    × SyncGivesBack buffer answer

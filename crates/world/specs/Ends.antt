@@ -5,7 +5,7 @@ use Rattle.pc_types.specs.declared.kind.Kind.TheVariants.{Fill, Flush}
 use Rattle.cachecore.specs.declared.answers.Ended.{Ended}
 use Rattle.cachecore.specs.declared.answers.Ended.TheVariants.{Dropped, Failed, Done}
 use Rattle.cachecore.specs.declared.answers.RefusedEnd.{RefusedEnd}
-use Rattle.cachecore.specs.declared.event.Reply.{Reply}
+use Rattle.machine.specs.declared.event.Reply.{Reply}
 use Rattle.cachecore.specs.Replies.{fill_ended, flush_ended}
 
 -- the reply of an end

@@ -1,20 +1,20 @@
 -- Inside this crate: the jobs in flight, and the world that they make with the core and the device.
-use Rattle.std.specs.Prelude.{◌≡◌, ℕ, ◌<◌, Bool, true, false, List, [], ◌∷◌, map, length, IfSome, Option, Some, None, unwrap_or, is_some}
+use Rattle.std.specs.Prelude.{◌≡◌, ℕ, ◌<◌, ◌≤◌, Bool, true, false, List, [], ◌∷◌, if◌then◌else◌, length, IfSome, Option}
+use Rattle.std.specs.Prelude.{Some}
+use Rattle.std.specs.Prelude.{None}
 use Rattle.std.specs.Ordering.{nat_cmp}
 use Rattle.std.specs.FinMap as finmap
 use Rattle.blockdev.specs.Device.{Told}
-use Rattle.blockdev.specs.Jobs.{Task}
-use Rattle.pc_types.specs.Spots.{Spot}
-use Rattle.pc_types.specs.declared.kind.Kind.{Kind}
-use Rattle.pc_types.specs.declared.kind.Kind.TheVariants.{Flush}
-use Rattle.cachecore.specs.declared.event.Outcome.{Outcome}
-use Rattle.cachecore.specs.declared.event.Outcome.TheVariants as outcome
-use Rattle.cachecore.specs.State.{State, Request, Page, page_at, spot_at}
-use Rattle.cachecore.specs.Bare.{bare}
+use Rattle.blockdev.specs.Jobs.{Task, IsJobFor}
+use Rattle.pc_types.specs.Kinds.{is_flush}
+use Rattle.pc_types.specs.declared.limits.TheConstants.{MIN_PAGE_SIZE}
+use Rattle.maps.specs.Maps.{filter_map_values}
+use Rattle.machine.specs.declared.event.Outcome.{Outcome}
+use Rattle.machine.specs.State.{State, Request}
 use Rattle.cachecore.specs.Replies.{outcome_of}
 use Rattle.world.specs.declared.jobs.Flight.{Flight}
 use Rattle.world.specs.declared.jobs.Flight.TheVariants.{Asked, Made}
-use Rattle.world.specs.Stepping.{Held}
+use Rattle.world.specs.Stepping.{WorldSeen}
 
 -- ---- a job in flight
 
@@ -40,59 +40,47 @@ is_asked (Some (Asked job)) = true
 is_asked _ = false
 
 -- how its device call went, where it was made
-abbrev pub outcome_in : Option Flight → Option Outcome
-outcome_in (Some (Made f)) = Some (outcome_of f.outcome f.bytes)
-outcome_in _ = None
+abbrev pub outcome_in : Flight → Option Outcome
+outcome_in (Asked job) = None
+outcome_in (Made f) = Some (outcome_of f.kind f.outcome f.bytes)
+
+-- what it writes, where it is a flush
+abbrev pub written_by : Flight → Option (List ℕ)
+written_by flight = if is_flush (task_of flight).kind then Some (task_of flight).bytes else None
 
 abbrev pub Jobs : Type 0
 Jobs = finmap.FinMap nat_cmp Flight
 
 -- ---- the world
 
--- the bytes that a request writes: those of its job, where it is a flush
-abbrev pub bytes_for : Kind → Option Flight → List ℕ
-bytes_for Flush (Some flight) = (task_of flight).bytes
-bytes_for _ _ = []
+abbrev pub seen_of : State → Jobs → Told → WorldSeen
+seen_of core jobs device =
+    record {
+      core = core;
+      device = device;
+      outcomes = filter_map_values outcome_in jobs;
+      writing = filter_map_values written_by jobs;
+    }
 
--- the core's state with the bytes of its flushes, which stand in their jobs
-abbrev pub whole : State → Jobs → State
-whole core jobs = record core { requests = finmap.from_entries (map (λ e. (e.0, record e.1 { bytes = bytes_for e.1.kind (finmap.get jobs e.0) })) (finmap.entries core.requests)) }
-
--- the outcomes of the device calls that were made
-abbrev pub outcomes_of : Jobs → finmap.FinMap nat_cmp Outcome
-outcomes_of jobs = finmap.from_entries (map (λ e. (e.0, unwrap_or (outcome_in (Some e.1)) (outcome.Ok []))) (finmap.entries (finmap.retain_keys jobs (λ t. is_some (outcome_in (finmap.get jobs t))))))
-
-abbrev pub held_of : State → Jobs → Told → Held
-held_of core jobs device = record { core = whole core jobs; device = device; outcomes = outcomes_of jobs }
-
--- a request of this serial and its job. The buffer has as many bytes as a page
-pub record IsJob (core : State) (t : ℕ) (r : Request) (flight : Flight) : Type 0 where
-  pub cache : (task_of flight).cache ≡ core.name
+-- a request of this serial, which was given out, and its job
+pub record IsJob (core : State) (t : ℕ) (x : Request) (flight : Flight) : Type 0 where
+  pub given : t < core.next
+  pub fits : IsJobFor core.name core.sizes.blocks core.sizes.page (task_of flight)
   pub serial : (task_of flight).serial ≡ t
-  pub kind : (task_of flight).kind ≡ r.kind
-  pub block : (task_of flight).block ≡ r.block
-  pub size : length (task_of flight).bytes ≡ core.sizes.page
+  pub kind : (task_of flight).kind ≡ x.kind
+  pub block : (task_of flight).block ≡ x.block
 
 -- each request has its job, and no other job is in flight
 abbrev pub HasJob : State → ℕ → Option Request → Option Flight → Type 0
-HasJob core t (Some r) (Some flight) = IsJob core t r flight
+HasJob core t (Some x) (Some flight) = IsJob core t x flight
 HasJob core t None None = Unit {0}
 HasJob core t _ _ = ⊥
 
 -- ---- what always holds
 
--- requests, blocks, handles and pages of the core are within their bounds
-pub record InBounds (core : State) : Type 0 where
-  pub blocks : 0 < core.sizes.blocks
-  pub requests : (t : ℕ) (r : Request) → finmap.get core.requests t ≡ Some r → (t < core.next) × (r.block < core.sizes.blocks)
-  pub spots : (f p : ℕ) (x : Spot) → spot_at core f p ≡ Some x → x.block < core.sizes.blocks
-  pub handles : (h f : ℕ) → finmap.get core.handles h ≡ Some f → f < length core.files
-  pub pages : (f p : ℕ) (page : Page) → page_at core f p ≡ Some page → length page.bytes ≡ core.sizes.page
-
 pub record IsWorld (core : State) (jobs : Jobs) (device : Told) : Type 0 where
-  -- the core has no bytes of flushes
-  pub bare : bare core ≡ core
-  pub bounds : InBounds core
+  -- the geometry's least page
+  pub page_size : MIN_PAGE_SIZE ≤ core.sizes.page
   pub each_job : (t : ℕ) → HasJob core t (finmap.get core.requests t) (finmap.get jobs t)
   pub count : finmap.len jobs ≡ finmap.len core.requests
   pub block_size : device.size ≡ core.sizes.page

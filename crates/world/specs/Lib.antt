@@ -1,12 +1,5 @@
-pub mod Always
 pub mod Begins
 pub mod Ends
 pub mod Flights
-pub mod Plain
-pub mod Progress
-pub mod Reading
-pub mod Runs
+pub mod Flushing
 pub mod Stepping
-pub mod Syncing
-pub mod World
-pub mod Reached

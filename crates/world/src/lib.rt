@@ -1,21 +1,18 @@
 #![tactic(auto)]
-//! A cache, its device and the requests between them, and what holds over every run.
+//! A cache, its device and the requests between them, driven one step at a time.
 //!
-//! The crate promises `every_run`: whatever events, device calls and ends follow one another, reads are right, a clean sync
-//! means that the device has the file, and nothing is ever stuck; specs/World and specs/Runs say what a run is. A `World` is
-//! a cache and its device in code: each `step` is a step of such a run.
+//! Each `step` of a `World` is a step of a run (crate `runs`), and so the theorems on runs hold of it: reads are right, a
+//! clean sync means that the device has the file, and nothing is ever stuck.
 //!
-//! `promises` has `every_run`, `world` the cache with its device, `step` what may be asked of it, `replies` its answers, `jobs` the
-//! jobs in flight.
+//! `world` has the cache with its device, `step` what may be asked of it, `replies` its answers, `jobs` the jobs in
+//! flight.
 
 mod jobs;
-mod promises;
 mod replies;
 pub mod step;
 #[cfg(test)]
 mod tests;
 pub mod world;
 
-pub use promises::every_run;
 pub use step::Step;
 pub use world::World;

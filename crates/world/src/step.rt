@@ -21,6 +21,8 @@ pub enum Step {
     Evict,
     Age,
     SyncBegin(HandleId),
+    /// The first and the last page of the range.
+    SyncBeginRange(HandleId, PageIndex, PageIndex),
     SyncStep(SyncId),
     SyncDrop(SyncId),
     /// Makes the device call of the request. How it goes is the device's matter.

@@ -100,6 +100,11 @@ fn sync_begins(world: &mut World<ScriptDevice>) -> bool {
     )
 }
 
+fn range_begins(world: &mut World<ScriptDevice>, first: u64, last: u64) -> bool {
+    let begin = Step::SyncBeginRange(HandleId(0), PageIndex(first), PageIndex(last));
+    matches!(world.step(&begin), Reply::Sync(SyncId(0)))
+}
+
 fn sync_starts(world: &mut World<ScriptDevice>, serial: Serial) -> bool {
     matches!(world.step(&Step::SyncStep(SyncId(0))), Reply::Job(job) if job == serial)
 }
@@ -479,6 +484,43 @@ fn flush_under_a_sync(
     Ok(())
 }
 
+// A sync of a range tags, starts and awaits pages of the range alone.
+fn sync_of_a_range(
+    rt: &impl Abort,
+    alloc: Global,
+    world: &mut World<ScriptDevice>,
+) -> Result<(), Refusal> {
+    let dirty = Tags::none().with(Tag::Dirty);
+    assert!(rt; matches!(write(world, alloc, 0, &[170])?, Reply::Wrote(1, 1)));
+    assert!(rt; flush_begins(world, Serial(0)));
+    assert!(rt; matches!(write(world, alloc, 0, &[171])?, Reply::Wrote(1, 1)));
+    assert!(rt; matches!(write(world, alloc, 32, &[187])?, Reply::Wrote(1, 33)));
+    assert!(rt; range_begins(world, 2, 5));
+    assert!(rt; has_tags(world, 0, dirty.with(Tag::Writeback)));
+    assert!(rt; has_tags(world, 2, dirty.with(Tag::Towrite)));
+    assert!(rt; sync_starts(world, Serial(1)));
+    assert!(rt; sync_waits(world, 2));
+    written(rt, world, Serial(1));
+    assert!(rt; sync_is_clean(world));
+    assert!(rt; has_tags(world, 0, dirty.with(Tag::Writeback)));
+    let turned = world.sync_begin_range(HandleId(0), PageIndex(5), PageIndex(4));
+    assert_eq!(rt; turned, Err(Refusal::BadRange));
+    Ok(())
+}
+
+// A flush that fails does so once, and is no call.
+fn flush_the_device(rt: &impl Abort, alloc: Global) -> Result<(), Refusal> {
+    let geometry = Geometry::new(16, 48, 16, 64)?;
+    let mut device = ScriptDevice::new(alloc, 16, 64)?;
+    device.fail_next_flush(ErrCode::IO);
+    let Ok(mut world) = World::new(alloc, &geometry, 0, device) else {
+        return Err(Refusal::BadConfig);
+    };
+    assert_eq!(rt; world.flush(), Err(ErrCode::IO));
+    assert_eq!(rt; world.flush(), Ok(()));
+    Ok(())
+}
+
 // A handle is not closed while a sync of it goes on.
 fn close_under_a_sync(rt: &impl Abort, world: &mut World<ScriptDevice>) {
     let handle = HandleId(0);
@@ -516,6 +558,7 @@ enum Row {
     WriteUnderASync,
     SyncUnderAFlush,
     FlushUnderASync,
+    SyncOfARange,
     CloseUnderASync,
 }
 
@@ -539,6 +582,7 @@ fn run(
         Row::WriteUnderASync => write_under_a_sync(rt, alloc, world),
         Row::SyncUnderAFlush => sync_under_a_flush(rt, alloc, world),
         Row::FlushUnderASync => flush_under_a_sync(rt, alloc, world),
+        Row::SyncOfARange => sync_of_a_range(rt, alloc, world),
         Row::CloseUnderASync => {
             close_under_a_sync(rt, world);
             Ok(())
@@ -615,6 +659,16 @@ fn a_sync_writes_newer_bytes(rt: HostRuntime) -> Result<(), Refusal> {
 #[test]
 fn a_sync_awaits_another_flush(rt: HostRuntime) -> Result<(), Refusal> {
     over_a_world(&rt, rt.alloc(), 64, Row::FlushUnderASync)
+}
+
+#[test]
+fn a_sync_of_a_range_stays_in_it(rt: HostRuntime) -> Result<(), Refusal> {
+    over_a_world(&rt, rt.alloc(), 64, Row::SyncOfARange)
+}
+
+#[test]
+fn a_device_is_flushed(rt: HostRuntime) -> Result<(), Refusal> {
+    flush_the_device(&rt, rt.alloc())
 }
 
 #[test]

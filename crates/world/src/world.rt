@@ -9,7 +9,7 @@ ghost use Rattle.cachecore.specs.Flushing.{flush_of};
 ghost use Rattle.cachecore.specs.Replies.{TagsAre};
 ghost use Rattle.cachecore.specs.Wants.{lacks_frames, passes_limit};
 ghost use Rattle.world.specs.Flights.{IsSpare};
-ghost use Rattle.world.specs.Runs.{IsFirst};
+ghost use Rattle.runs.specs.Runs.{IsFirst};
 ghost use Rattle.world.specs.Stepping.{IsMade, LeadsTo, Plays, Steps, TellsForCalls, first_world, fits, world_of};
 
 use crate::jobs::Jobs;
@@ -37,17 +37,18 @@ impl<D: BlockDevice> Model for World<D> {
     ghost use Rattle.std.specs.Coded.{codes, coded_ℕ};
     ghost use Rattle.std.specs.FinMap as map;
     ghost use Rattle.std.specs.Ordering.{nat_cmp};
-    ghost use Rattle.cachecore.specs.Codes.{state_code};
-    ghost use Rattle.cachecore.specs.declared.event.Outcome.{Outcome};
-    ghost use Rattle.world.specs.Stepping.{Held};
+    ghost use Rattle.std.specs.Prelude.{List, ℕ};
+    ghost use Rattle.machine.specs.inside.Codes.{state_code};
+    ghost use Rattle.machine.specs.declared.event.Outcome.{Outcome};
+    ghost use Rattle.world.specs.Stepping.{WorldSeen};
 
-    ghost Value = { Held };
+    ghost Value = { WorldSeen };
 
-    ghost coded = { Prim.hlevel (codes, state_code, map.code {X = Outcome} {R = nat_cmp} coded_ℕ (Prim.hlevel codes)) };
+    ghost coded = { Prim.hlevel (codes, state_code, map.code {X = Outcome} {R = nat_cmp} coded_ℕ (Prim.hlevel codes), map.code {X = List ℕ} {R = nat_cmp} coded_ℕ (Prim.hlevel codes)) };
 
-    ghost use Rattle.world.specs.Flights.{held_of, IsSpare, IsWorld};
+    ghost use Rattle.world.specs.Flights.{seen_of, IsSpare, IsWorld};
 
-    ghost view = { λ w. held_of w.core.state w.jobs (D.told w.device) };
+    ghost view = { λ w. seen_of w.core.state w.jobs (D.told w.device) };
 
     ghost invariant = { λ w. IsWorld w.core.state w.jobs (D.told w.device) × IsSpare w.core.state w.spare };
 }
@@ -110,6 +111,9 @@ impl<D: BlockDevice> World<D> {
             Step::Evict => replies::of_evict(self.evict()),
             Step::Age => Reply::Aged(self.age()),
             Step::SyncBegin(handle) => replies::of_sync_begin(self.sync_begin(*handle)),
+            Step::SyncBeginRange(handle, first, last) => {
+                replies::of_sync_begin(self.sync_begin_range(*handle, *first, *last))
+            }
             Step::SyncStep(sync) => self.sync_step(*sync),
             Step::SyncDrop(sync) => replies::of_sync_drop(self.sync_drop(*sync)),
             Step::Call(serial) => match self.call(*serial) {
@@ -125,6 +129,7 @@ impl<D: BlockDevice> World<D> {
     pub fn play(&mut self, steps: &[Step]) -> Result<Vec<Reply>, Refusal>
         ensures played { IfOk result (λ replies. Plays self.old steps.now replies.items self.new) }
         ensures is_run { IfOk result (λ replies. TellsForCalls steps.now self.old.device → LeadsTo (world_of self.old) steps.now replies.items (world_of self.new)) }
+        ensures durable { self.new.device.durable ≡ self.old.device.durable }
         ensures refused { IsOkUnless result Refusal.Memory }
         ensures err { OnErr result (self.new ≡ self.old) }
     {

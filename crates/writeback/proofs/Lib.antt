@@ -1,9 +1,8 @@
-pub mod Awaits
+pub mod Each
 pub mod Finds
 pub mod MapLaws
 pub mod PickLemmas
 pub mod Places
 pub mod RisingLemmas
 pub mod SlotLemmas
-pub mod StepLaws
 pub mod TableLemmas

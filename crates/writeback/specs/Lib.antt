@@ -3,4 +3,3 @@ pub mod Picks
 pub mod Requests
 pub mod Rising
 pub mod Slots
-pub mod Syncs

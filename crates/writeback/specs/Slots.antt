@@ -1,16 +1,20 @@
--- The program's syncs as those of the specification. In the program a sync has a write cursor, one past its last page.
-use Rattle.std.specs.Prelude.{ℕ, ◌+◌, ◌-◌, ◌==◌, Bool, false, if◌then◌else◌, List, [], ◌∷◌, map as map_list, Option, Some, None, option_map}
+-- The program's syncs as those of the machine.
+use Rattle.std.specs.Prelude.{ℕ, ◌+◌, ◌==◌, Bool, false, List, [], ◌∷◌, map as map_list, Option, Some, None, option_map}
 use Rattle.std.specs.Ordering.{nat_cmp}
 use Rattle.std.specs.FinMap as map
 use Rattle.writeback.specs.declared.syncs.Progress.{Progress}
-use Rattle.writeback.specs.Syncs.{SyncState}
+use Rattle.machine.specs.State.{Sync}
 
--- the page before the cursor: the last that was started
-abbrev pub last_before : ℕ → Option ℕ
-last_before cursor = if cursor == 0 then None else Some (cursor - 1)
-
-abbrev pub state_of : Progress → SyncState
-state_of p = record { handle = p.handle.0; last = last_before p.cursor.0; failures = p.failures; bound = option_map (λ s. s.0) p.bound }
+abbrev pub sync_of : Progress → Sync
+sync_of y =
+    record {
+      handle = y.handle.0;
+      first = y.first.0;
+      last = y.last.0;
+      started = option_map (λ p. p.0) y.started;
+      failures = y.failures;
+      bound = option_map (λ t. t.0) y.bound;
+    }
 
 -- whether a sync of this handle stands in the slot
 abbrev pub is_of : ℕ → Option Progress → Bool
@@ -28,5 +32,5 @@ abbrev pub in_use : {X : Type 0} → List (Option X) → map.FinMap nat_cmp X
 in_use slots = map.from_entries (slots_from 0 slots)
 
 -- the syncs of a table
-abbrev pub in_progress : List (Option Progress) → map.FinMap nat_cmp SyncState
-in_progress slots = in_use (map_list (option_map state_of) slots)
+abbrev pub in_progress : List (Option Progress) → map.FinMap nat_cmp Sync
+in_progress slots = in_use (map_list (option_map sync_of) slots)

@@ -1,10 +1,9 @@
 #![tactic(auto)]
 //! What a page cache has under way: the requests in flight, the syncs in progress, and which page is written next.
 //!
-//! `Requests` is a finite map from serials to requests, and `Syncs` one from numbers to syncs, in two tables of a fixed size that
-//! take no memory (`specs/Flights.antt`, `specs/Syncs.antt`). Each call is one equation on its map. The picks read and tag a
-//! `Mapping` (`specs/Picks.antt`). In code a sync has a write cursor and a bound on serials; `proofs/Awaits.antt` and
-//! `proofs/StepLaws.antt` have the laws by which they stand for the pages that it started and the requests that it awaits.
+//! `Requests` is a finite map from serials to the machine's requests, and `Syncs` one from numbers to its syncs, in two
+//! tables of a fixed size that take no memory (`specs/Flights.antt`, `specs/Slots.antt`). Each call is one equation on its
+//! map. The picks read and tag a `Mapping` (`specs/Picks.antt`).
 //!
 //! `requests` has the table of requests, `syncs` that of the syncs, `picks` what is written next.
 

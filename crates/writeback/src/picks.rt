@@ -2,9 +2,9 @@
 
 ghost use Rattle.std.specs.Prelude.{◌≡◌, ◌<◌, IfSome, option_map};
 ghost use Rattle.mapping.specs.Pages.{change_at, found, with_tags};
-ghost use Rattle.writeback.specs.Flights.{each_value};
-ghost use Rattle.writeback.specs.Picks.{StartsBelow, after_write, awaits, flush_pick, picked, sync_pick, sync_step, to_write, under_write};
-ghost use Rattle.writeback.specs.Slots.{last_before, state_of};
+ghost use Rattle.maps.specs.Maps.{each_value};
+ghost use Rattle.writeback.specs.Picks.{StartsBelow, after_write, flush_pick, picked, sync_pick, sync_step, to_write, under_write, waits};
+ghost use Rattle.writeback.specs.Slots.{sync_of};
 
 use crate::requests::Requests;
 use crate::syncs::Progress;
@@ -40,20 +40,20 @@ pub fn flush_pick(mapping: &Mapping) -> Option<FoundPage>
     None
 }
 
-/// Tags each DIRTY page with TOWRITE, before the sync that begins starts any write. Pages that are made DIRTY later do not
-/// prolong the sync. The cost is that of the DIRTY pages (not proved).
-pub fn sync_begin(mapping: &mut Mapping)
-    ensures { mapping.new ≡ record mapping.old { pages = each_value to_write mapping.old.pages } }
+/// Tags each DIRTY page from `first` to `last` with TOWRITE, before the sync that begins starts any write. Pages that are
+/// made DIRTY later do not prolong the sync. The cost is that of the DIRTY pages (not proved).
+pub fn sync_begin(mapping: &mut Mapping, first: PageIndex, last: PageIndex)
+    ensures { mapping.new ≡ record mapping.old { pages = each_value (to_write first.0 last.0) mapping.old.pages } }
 {
-    mapping.retag(PageIndex(0), PageIndex(MAX_PAGES), Tag::Dirty, Tag::Towrite);
+    mapping.retag(first, last, Tag::Dirty, Tag::Towrite);
 }
 
-/// The lowest page that a sync with this write cursor has left to start.
-pub fn sync_pick(mapping: &Mapping, cursor: PageIndex) -> Option<FoundPage>
-    ensures pick { result ≡ option_map found (sync_pick mapping.now.pages (last_before cursor.0)) }
+/// The lowest page that a sync has left to start.
+pub fn sync_pick(mapping: &Mapping, progress: &Progress) -> Option<FoundPage>
+    ensures pick { result ≡ option_map found (sync_pick mapping.now.pages (sync_of progress.now)) }
     ensures numbered { IfSome result (λ found. found.page.0 < MAX_PAGES) }
 {
-    mapping.find_tagged(cursor, PageIndex(MAX_PAGES), Tag::Towrite)
+    mapping.find_tagged(progress.cursor(), progress.last, Tag::Towrite)
 }
 
 /// What a sync of `file` does next. It changes nothing: the caller makes the step.
@@ -63,12 +63,12 @@ pub fn sync_step(
     file: FileId,
     progress: &Progress,
 ) -> SyncStep
-    ensures step { result ≡ sync_step file.0 mapping.now.pages requests.now (state_of progress.now) }
+    ensures step { result ≡ sync_step file.0 mapping.now.pages requests.now (sync_of progress.now) }
     ensures numbered { StartsBelow MAX_PAGES result }
 {
     match progress.bound {
-        Some(bound) => awaits(requests, file, bound),
-        None => picked(mapping, requests, file, progress.cursor),
+        Some(bound) => waits(requests, file, progress, bound),
+        None => picked(mapping, requests, file, progress),
     }
 }
 
@@ -94,22 +94,22 @@ pub fn end_write(mapping: &mut Mapping, page: PageIndex, failed: bool)
 }
 
 /// A sync that has nothing to start, with this bound.
-fn awaits(requests: &Requests, file: FileId, bound: Serial) -> SyncStep
-    ensures step { result ≡ awaits file.0 bound.0 requests.now }
+fn waits(requests: &Requests, file: FileId, progress: &Progress, bound: Serial) -> SyncStep
+    ensures step { result ≡ waits file.0 (sync_of progress.now) bound.0 requests.now }
     ensures numbered { StartsBelow MAX_PAGES result }
 {
-    match requests.first_flush(file, bound) {
+    match requests.first_awaited(file, progress, bound) {
         Some((_, page)) => SyncStep::Await(page, bound),
         None => SyncStep::Over,
     }
 }
 
 /// A sync that may have pages left to start.
-fn picked(mapping: &Mapping, requests: &Requests, file: FileId, cursor: PageIndex) -> SyncStep
-    ensures step { result ≡ picked file.0 requests.now (sync_pick mapping.now.pages (last_before cursor.0)) }
+fn picked(mapping: &Mapping, requests: &Requests, file: FileId, progress: &Progress) -> SyncStep
+    ensures step { result ≡ picked file.0 (sync_of progress.now) requests.now (sync_pick mapping.now.pages (sync_of progress.now)) }
     ensures numbered { StartsBelow MAX_PAGES result }
 {
-    match sync_pick(mapping, cursor) {
+    match sync_pick(mapping, progress) {
         Some(found) => {
             if mapping.has_tag(found.page, Tag::Writeback) {
                 SyncStep::Held(found.page)
@@ -117,6 +117,6 @@ fn picked(mapping: &Mapping, requests: &Requests, file: FileId, cursor: PageInde
                 SyncStep::Start(found)
             }
         }
-        None => awaits(requests, file, requests.next_serial()),
+        None => waits(requests, file, progress, requests.next_serial()),
     }
 }

@@ -3,10 +3,15 @@
 ghost use Rattle.std.specs.Prelude.{◌≡◌, ℕ, ◌≤◌, ◌==◌, None, ◌&&◌, false, map as map_list, find, position, option_map, nat_lt};
 ghost use Rattle.std.specs.FinMap as map;
 ghost use Rattle.std.specs.List.{list_any};
-ghost use Rattle.writeback.specs.Flights.{begun, cut_flight, each_value, ended, fills, first_flush, is_flush_below, is_full};
-ghost use Rattle.writeback.specs.Requests.{cut_entry, entry_of, flight_of};
+ghost use Rattle.machine.specs.Changes.{cut_request};
+ghost use Rattle.maps.specs.Maps.{each_value};
+ghost use Rattle.machine.specs.State.{awaits, fills};
+ghost use Rattle.writeback.specs.Flights.{begun, ended, first_awaited, is_full};
+ghost use Rattle.writeback.specs.Requests.{cut_entry, entry_of, request_of};
+ghost use Rattle.writeback.specs.Slots.{sync_of};
 ghost use Rattle.writeback.specs.declared.requests.Entry.{Entry};
 
+use crate::syncs::Progress;
 use arrayvec::ArrayVec;
 use pc_types::limits::{MAX_IN_FLIGHT, SERIAL_END};
 use pc_types::{BlockNo, FileId, Kind, PageIndex, Serial};
@@ -27,17 +32,19 @@ pub struct Request {
 }
 
 impl Request {
-    ghost use Rattle.writeback.specs.Flights.{fills, is_flush_of};
-    ghost use Rattle.writeback.specs.Requests.{flight_of};
+    ghost use Rattle.std.specs.Prelude.{◌&&◌, ◌==◌, not};
+    ghost use Rattle.pc_types.specs.Kinds.{is_flush};
+    ghost use Rattle.machine.specs.State.{fills};
+    ghost use Rattle.writeback.specs.Requests.{request_of};
 
     fn fills(&self, file: FileId, page: PageIndex) -> bool
-        ensures { result ≡ fills file.0 page.0 (flight_of self.now) }
+        ensures { result ≡ fills file.0 page.0 (request_of self.now) }
     {
         self.kind == Kind::Fill && !self.dropped && (self.file == file && self.page == page)
     }
 
     fn is_flush_of(&self, file: FileId) -> bool
-        ensures { result ≡ is_flush_of file.0 (flight_of self.now) }
+        ensures { result ≡ (is_flush self.now.kind && not self.now.dropped && self.now.file.0 == file.0) }
     {
         self.kind == Kind::Flush && !self.dropped && self.file == file
     }
@@ -51,13 +58,17 @@ struct Entry {
 }
 
 impl Entry {
-    ghost use Rattle.writeback.specs.Flights.{is_flush_below};
+    ghost use Rattle.machine.specs.State.{awaits};
     ghost use Rattle.writeback.specs.Requests.{cut_entry, entry_of};
+    ghost use Rattle.writeback.specs.Slots.{sync_of};
 
-    fn is_flush_below(&self, file: FileId, bound: Serial) -> bool
-        ensures { result ≡ is_flush_below file.0 bound.0 (entry_of self.now) }
+    /// Whether a sync of `file` with this bound awaits it.
+    fn is_awaited(&self, file: FileId, progress: &Progress, bound: Serial) -> bool
+        ensures { result ≡ awaits file.0 (sync_of progress.now) bound.0 (entry_of self.now) }
     {
-        self.request.is_flush_of(file) && self.serial < bound
+        self.request.is_flush_of(file)
+            && progress.has_page(self.request.page)
+            && self.serial < bound
     }
 
     /// The entry after the pages of `file` from `page` on are cut off.
@@ -150,7 +161,7 @@ impl Requests {
 
     /// The request with this serial, where it is in flight.
     pub fn get(&self, serial: Serial) -> Option<Request>
-        ensures { option_map flight_of result ≡ map.get self.now.requests serial.0 }
+        ensures { option_map request_of result ≡ map.get self.now.requests serial.0 }
     {
         request_in(&self.in_flight, serial)
     }
@@ -183,7 +194,7 @@ impl Requests {
 
     /// Ends the request with this serial, where it is in flight: also one that is dropped.
     pub fn end(&mut self, serial: Serial) -> Option<Request>
-        ensures request { option_map flight_of result ≡ map.get self.old.requests serial.0 }
+        ensures request { option_map request_of result ≡ map.get self.old.requests serial.0 }
         ensures ended { self.new ≡ ended self.old serial.0 }
     {
         let at = position_of(&self.in_flight, serial)?;
@@ -193,16 +204,21 @@ impl Requests {
 
     /// Drops the requests of the pages of `file` from `page` on. They stay in flight, and keep their blocks.
     pub fn drop_from(&mut self, file: FileId, page: PageIndex)
-        ensures { self.new ≡ record self.old { requests = each_value (cut_flight file.0 page.0) self.old.requests } }
+        ensures { self.new ≡ record self.old { requests = each_value (λ _. cut_request file.0 page.0) self.old.requests } }
     {
         drop_in(self.in_flight.as_mut_slice(), file, page);
     }
 
-    /// The oldest flush of `file` that is not dropped and began before `bound`, with its page.
-    pub fn first_flush(&self, file: FileId, bound: Serial) -> Option<(Serial, PageIndex)>
-        ensures { option_map {U = ℕ × ℕ} (λ e. (e.0.0, e.1.0)) result ≡ first_flush file.0 bound.0 self.now.requests }
+    /// The oldest request that a sync of `file` with this bound awaits, with its page.
+    pub fn first_awaited(
+        &self,
+        file: FileId,
+        progress: &Progress,
+        bound: Serial,
+    ) -> Option<(Serial, PageIndex)>
+        ensures { option_map {U = ℕ × ℕ} (λ e. (e.0.0, e.1.0)) result ≡ option_map {U = ℕ × ℕ} (λ e. (e.0, e.1.page)) (first_awaited file.0 (sync_of progress.now) bound.0 self.now.requests) }
     {
-        let entry = flush_in(&self.in_flight, file, bound)?;
+        let entry = awaited_in(&self.in_flight, file, progress, bound)?;
         Some((entry.serial, entry.request.page))
     }
 }
@@ -221,18 +237,23 @@ fn request_in(in_flight: &[Entry], serial: Serial) -> Option<Request>
 }
 
 fn fills_in(in_flight: &[Entry], file: FileId, page: PageIndex) -> bool
-    ensures { result ≡ list_any (λ (e : Entry). fills file.0 page.0 (flight_of e.request)) in_flight.now }
+    ensures { result ≡ list_any (λ (e : Entry). fills file.0 page.0 (request_of e.request)) in_flight.now }
 {
     in_flight
         .iter()
         .any(|entry| entry.request.fills(file, page))
 }
 
-fn flush_in(in_flight: &[Entry], file: FileId, bound: Serial) -> Option<Entry>
-    ensures { result ≡ find (λ (e : Entry). is_flush_below file.0 bound.0 (entry_of e)) in_flight.now }
+fn awaited_in(
+    in_flight: &[Entry],
+    file: FileId,
+    progress: &Progress,
+    bound: Serial,
+) -> Option<Entry>
+    ensures { result ≡ find (λ (e : Entry). awaits file.0 (sync_of progress.now) bound.0 (entry_of e)) in_flight.now }
 {
     for entry in in_flight {
-        if entry.is_flush_below(file, bound) {
+        if entry.is_awaited(file, progress, bound) {
             return Some(*entry);
         }
     }

@@ -7,6 +7,7 @@ use crate::{
     Requests, SyncStep, Syncs, begin_write, end_write, flush_pick, sync_begin, sync_pick, sync_step,
 };
 use mapping::{FoundPage, Mapping};
+use pc_types::limits::LAST_PAGE;
 use pc_types::{
     BlockNo, FileId, FrameId, HandleId, Kind, PageIndex, Refusal, Serial, SyncId, Tag, Tags,
 };
@@ -68,6 +69,17 @@ fn end(rt: &impl Abort, pages: &mut Mapping, requests: &mut Requests, serial: u6
     end_write(pages, PageIndex(page), false);
 }
 
+/// Begins a sync of all pages.
+fn begin_all(syncs: &mut Syncs) -> Result<SyncId, Refusal> {
+    syncs.begin(HandleId(0), PageIndex(0), PageIndex(LAST_PAGE), 0)
+}
+
+/// The page that sync 0 has left to start.
+fn picked(pages: &Mapping, syncs: &Syncs) -> Option<FoundPage> {
+    let progress = syncs.get(SyncId(0))?;
+    sync_pick(pages, &progress)
+}
+
 /// What sync 0 does next.
 fn step(pages: &Mapping, requests: &Requests, syncs: &Syncs) -> Option<SyncStep> {
     let progress = syncs.get(SyncId(0))?;
@@ -111,8 +123,8 @@ fn a_sync_writes_what_was_dirty_as_it_began(rt: HostRuntime) -> Result<(), Fail>
     let mut syncs = Syncs::new();
     pages.tag(PageIndex(0), Tag::Dirty)?;
     pages.tag(PageIndex(2), Tag::Dirty)?;
-    assert_eq!(rt; syncs.begin(HandleId(0), 0), Ok(SyncId(0)));
-    sync_begin(&mut pages);
+    assert_eq!(rt; begin_all(&mut syncs), Ok(SyncId(0)));
+    sync_begin(&mut pages, PageIndex(0), PageIndex(LAST_PAGE));
     assert_tags(&rt, &pages, 0, true, false, true);
     assert_tags(&rt, &pages, 1, false, false, false);
 
@@ -122,7 +134,7 @@ fn a_sync_writes_what_was_dirty_as_it_began(rt: HostRuntime) -> Result<(), Fail>
     assert_eq!(rt; next, Some(SyncStep::Start(found(0))));
     assert_eq!(rt; start(&rt, &mut pages, &mut requests, 0), Serial(0));
     syncs.started(SyncId(0), PageIndex(0));
-    assert_eq!(rt; sync_pick(&pages, PageIndex(1)), Some(found(2)));
+    assert_eq!(rt; picked(&pages, &syncs), Some(found(2)));
     let next = step(&pages, &requests, &syncs);
     assert_eq!(rt; next, Some(SyncStep::Start(found(2))));
     assert_eq!(rt; start(&rt, &mut pages, &mut requests, 2), Serial(1));
@@ -152,8 +164,8 @@ fn a_sync_waits_for_an_old_write_and_writes_anew(rt: HostRuntime) -> Result<(), 
     pages.tag(PageIndex(0), Tag::Dirty)?;
     assert_eq!(rt; start(&rt, &mut pages, &mut requests, 0), Serial(0));
     pages.tag(PageIndex(0), Tag::Dirty)?;
-    assert_eq!(rt; syncs.begin(HandleId(0), 0), Ok(SyncId(0)));
-    sync_begin(&mut pages);
+    assert_eq!(rt; begin_all(&mut syncs), Ok(SyncId(0)));
+    sync_begin(&mut pages, PageIndex(0), PageIndex(LAST_PAGE));
     assert_tags(&rt, &pages, 0, true, true, true);
     assert_eq!(rt;
         step(&pages, &requests, &syncs),
@@ -183,14 +195,53 @@ fn a_sync_awaits_what_others_started(rt: HostRuntime) -> Result<(), Fail> {
     let mut requests = Requests::new();
     let mut syncs = Syncs::new();
     pages.tag(PageIndex(0), Tag::Dirty)?;
-    assert_eq!(rt; syncs.begin(HandleId(0), 0), Ok(SyncId(0)));
-    sync_begin(&mut pages);
+    assert_eq!(rt; begin_all(&mut syncs), Ok(SyncId(0)));
+    sync_begin(&mut pages, PageIndex(0), PageIndex(LAST_PAGE));
     assert_eq!(rt; start(&rt, &mut pages, &mut requests, 0), Serial(0));
     assert_eq!(rt;
         step(&pages, &requests, &syncs),
         Some(SyncStep::Await(PageIndex(0), Serial(1)))
     );
     end(&rt, &mut pages, &mut requests, 0, 0);
+    assert_eq!(rt; step(&pages, &requests, &syncs), Some(SyncStep::Over));
+    Ok(())
+}
+
+#[test]
+fn a_sync_of_a_range_leaves_other_pages(rt: HostRuntime) -> Result<(), Fail> {
+    let mut pages = four_pages(rt.alloc())?;
+    let mut requests = Requests::new();
+    let mut syncs = Syncs::new();
+    for page in 0..4u64 {
+        pages.tag(PageIndex(page), Tag::Dirty)?;
+    }
+    assert_eq!(rt;
+        syncs.begin(HandleId(0), PageIndex(1), PageIndex(2), 0),
+        Ok(SyncId(0))
+    );
+    sync_begin(&mut pages, PageIndex(1), PageIndex(2));
+    assert_tags(&rt, &pages, 0, true, false, false);
+    assert_tags(&rt, &pages, 1, true, false, true);
+    assert_tags(&rt, &pages, 3, true, false, false);
+
+    // Page 0 is written by another, and the sync starts the pages of its range.
+    assert_eq!(rt; start(&rt, &mut pages, &mut requests, 0), Serial(0));
+    for page in 1..3u64 {
+        assert_eq!(rt;
+            step(&pages, &requests, &syncs),
+            Some(SyncStep::Start(found(page)))
+        );
+        assert_eq!(rt; start(&rt, &mut pages, &mut requests, page), Serial(page));
+        syncs.started(SyncId(0), PageIndex(page));
+    }
+
+    // It awaits these alone.
+    assert_eq!(rt;
+        step(&pages, &requests, &syncs),
+        Some(SyncStep::Await(PageIndex(1), Serial(3)))
+    );
+    end(&rt, &mut pages, &mut requests, 1, 1);
+    end(&rt, &mut pages, &mut requests, 2, 2);
     assert_eq!(rt; step(&pages, &requests, &syncs), Some(SyncStep::Over));
     Ok(())
 }

@@ -3,10 +3,13 @@
 ghost use Rattle.std.specs.Prelude.{◌≡◌, ℕ, ◌==◌, ◌<◌, ◌+◌, ◌-◌, ◌^◌, ◌↔◌, true, not, IfOk, IsOk, IsOkUnless, OnErr, Some, None, is_some, if◌then◌else◌, slice_index_or, option_map, position};
 ghost use Rattle.std.specs.List.{list_any};
 ghost use Rattle.std.specs.FinMap as map;
-ghost use Rattle.writeback.specs.Syncs.{IsLowest, change_at, fresh, with_bound, with_last};
-ghost use Rattle.writeback.specs.Slots.{is_of, state_of};
+ghost use Rattle.maps.specs.Maps.{change_at};
+ghost use Rattle.machine.specs.State.{Sync};
+ghost use Rattle.machine.specs.Step.{IsLowest};
+ghost use Rattle.writeback.specs.Slots.{is_of, sync_of};
 ghost use Rattle.writeback.specs.declared.syncs.Progress.{Progress};
 
+use mapping::MAX_PAGES;
 use pc_types::limits::MAX_SYNCS;
 use pc_types::{HandleId, PageIndex, Refusal, Serial, SyncId};
 use std::marker::Model;
@@ -18,12 +21,41 @@ const PLACES: usize = MAX_SYNCS as usize;
 pub struct Progress {
     /// The handle that it was begun on.
     pub handle: HandleId,
-    /// The write cursor: the lowest page that it may still start. It never goes back, so a sync starts a page once.
-    pub cursor: PageIndex,
+    /// The first page of its range, and the last.
+    pub first: PageIndex,
+    pub last: PageIndex,
+    /// The last page that it started. It starts only pages past it, so each page once.
+    pub started: Option<PageIndex>,
     /// The failure count of its file as it began.
     pub failures: u64,
-    /// Set once it has nothing to start any more: it awaits the file's flushes with a serial below this.
+    /// Set once it has nothing to start any more: it awaits the flushes of its file and range with a serial below this.
     pub bound: Option<Serial>,
+}
+
+impl Progress {
+    ghost use Rattle.std.specs.Prelude.{◌&&◌, nat_lt, option_map, unwrap_or};
+    ghost use Rattle.mapping.specs.declared.mapping.TheConstants.{MAX_PAGES};
+    ghost use Rattle.mapping.specs.Pages.{within};
+    ghost use Rattle.machine.specs.State.{in_range};
+    ghost use Rattle.writeback.specs.Slots.{sync_of};
+
+    /// Whether the page is of its range.
+    pub fn has_page(&self, page: PageIndex) -> bool
+        ensures { result ≡ in_range (sync_of self.now) page.0 }
+    {
+        self.first <= page && page <= self.last
+    }
+
+    /// The lowest page that it may still start.
+    pub fn cursor(&self) -> PageIndex
+        ensures { (p : ℕ) → p < MAX_PAGES → within result.0 self.now.last.0 p ≡ (in_range (sync_of self.now) p && unwrap_or (option_map (λ q. nat_lt q p) (sync_of self.now).started) true) }
+    {
+        match self.started {
+            // A number past those of all pages stands for any higher one, so the sum cannot overflow.
+            Some(page) => PageIndex((page.0.min(MAX_PAGES) + 1).max(self.first.0)),
+            None => self.first,
+        }
+    }
 }
 
 /// The syncs in progress by their numbers.
@@ -38,10 +70,11 @@ impl Model for Syncs {
     ghost use Rattle.std.specs.Ordering.{nat_cmp};
     ghost use Rattle.std.specs.FinMap as map;
     ghost use Rattle.pc_types.specs.declared.limits.TheConstants.{MAX_SYNCS};
-    ghost use Rattle.writeback.specs.Syncs.{SyncState, sync_code};
+    ghost use Rattle.machine.specs.State.{Sync};
+    ghost use Rattle.machine.specs.inside.Codes.{sync_code};
     ghost use Rattle.writeback.specs.Slots.{in_progress};
 
-    ghost Value = { map.FinMap nat_cmp SyncState };
+    ghost Value = { map.FinMap nat_cmp Sync };
 
     ghost coded = { map.code coded_ℕ sync_code };
 
@@ -62,7 +95,7 @@ impl Syncs {
 
     /// The sync with this number.
     pub fn get(&self, sync: SyncId) -> Option<Progress>
-        ensures { option_map state_of result ≡ map.get self.now sync.0 }
+        ensures { option_map sync_of result ≡ map.get self.now sync.0 }
     {
         progress_in(&self.slots, sync)
     }
@@ -74,10 +107,17 @@ impl Syncs {
         uses_in(&self.slots, handle)
     }
 
-    /// Begins a sync, which takes the lowest free number. `failures` is the failure count of its file.
-    pub fn begin(&mut self, handle: HandleId, failures: u64) -> Result<SyncId, Refusal>
+    /// Begins a sync of the pages from `first` to `last`, which takes the lowest free number. `failures` is the failure
+    /// count of its file.
+    pub fn begin(
+        &mut self,
+        handle: HandleId,
+        first: PageIndex,
+        last: PageIndex,
+        failures: u64,
+    ) -> Result<SyncId, Refusal>
         ensures lowest { IfOk result (λ n. IsLowest (λ k. is_some (map.get self.old k)) n.0) }
-        ensures begun { IfOk result (λ n. self.new ≡ map.insert self.old n.0 (fresh handle.0 failures)) }
+        ensures begun { IfOk result (λ n. self.new ≡ map.insert self.old n.0 (record { handle = handle.0; first = first.0; last = last.0; started = None; failures = failures; bound = None })) }
         ensures room { IsOk result ↔ (map.len self.old < MAX_SYNCS) }
         ensures refused { IsOkUnless result Refusal.TooManyInFlight }
         ensures same { OnErr result (self.new ≡ self.old) }
@@ -88,7 +128,9 @@ impl Syncs {
         };
         let progress = Progress {
             handle,
-            cursor: PageIndex(0),
+            first,
+            last,
+            started: None,
             failures,
             bound: None,
         };
@@ -98,23 +140,22 @@ impl Syncs {
 
     /// Takes a sync that is over or dropped out of the table.
     pub fn remove(&mut self, sync: SyncId) -> Option<Progress>
-        ensures progress { option_map state_of result ≡ map.get self.old sync.0 }
+        ensures progress { option_map sync_of result ≡ map.get self.old sync.0 }
         ensures removed { self.new ≡ map.remove self.old sync.0 }
     {
         take_in(&mut self.slots, sync)
     }
 
-    /// Notes that a sync started `page`: the write cursor moves past it.
+    /// Notes that a sync started `page`.
     pub fn started(&mut self, sync: SyncId, page: PageIndex)
-        requires { page.0 < 2 ^ 64 - 1 }
-        ensures { self.new ≡ change_at sync.0 (with_last page.0) self.old }
+        ensures { self.new ≡ change_at sync.0 (λ y. record y { started = Some page.0 }) self.old }
     {
         start_in(&mut self.slots, sync, page);
     }
 
     /// Sets the bound of a sync that has nothing to start any more.
     pub fn set_bound(&mut self, sync: SyncId, bound: Serial)
-        ensures { self.new ≡ change_at sync.0 (with_bound bound.0) self.old }
+        ensures { self.new ≡ change_at sync.0 (λ y. record y { bound = Some bound.0 }) self.old }
     {
         bound_in(&mut self.slots, sync, bound);
     }
@@ -161,12 +202,11 @@ fn take_in(slots: &mut [Option<Progress>], sync: SyncId) -> Option<Progress>
 }
 
 fn start_in(slots: &mut [Option<Progress>], sync: SyncId, page: PageIndex)
-    requires { page.0 < 2 ^ 64 - 1 }
-    ensures { (k : ℕ) → slice_index_or slots.new k None ≡ (if k == sync.0 then option_map {T = Progress} (λ s. record s { cursor = record { 0 = page.0 + 1 } }) (slice_index_or slots.old k None) else slice_index_or slots.old k None) }
+    ensures { (k : ℕ) → slice_index_or slots.new k None ≡ (if k == sync.0 then option_map {T = Progress} (λ s. record s { started = Some page }) (slice_index_or slots.old k None) else slice_index_or slots.old k None) }
 {
     if let Some(progress) = progress_in(slots, sync) {
         slots[sync.0 as usize] = Some(Progress {
-            cursor: PageIndex(page.0 + 1),
+            started: Some(page),
             ..progress
         });
     }

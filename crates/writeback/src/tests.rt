@@ -4,6 +4,7 @@ ghost use Rattle.std.specs.Prelude.{◌≡◌, ◌<◌, ◌-◌, ◌^◌, false}
 ghost use Rattle.writeback.specs.Flights.{is_full};
 
 use crate::{Progress, Request, Requests, Syncs};
+use pc_types::limits::LAST_PAGE;
 use pc_types::{BlockNo, FileId, HandleId, Kind, PageIndex, Refusal, Serial, SyncId};
 use std::process::Abort;
 
@@ -17,6 +18,28 @@ fn expect_room(rt: &impl Abort, requests: &Requests)
 fn begin(rt: &impl Abort, requests: &mut Requests, kind: Kind, file: u64, page: u64) -> Serial {
     expect_room(rt, requests);
     requests.begin(kind, FileId(file), PageIndex(page), BlockNo(7))
+}
+
+/// A sync of the pages from `first` to `last`, as it begins on handle 2.
+fn progress(first: u64, last: u64) -> Progress {
+    Progress {
+        handle: HandleId(2),
+        first: PageIndex(first),
+        last: PageIndex(last),
+        started: None,
+        failures: 9,
+        bound: None,
+    }
+}
+
+/// Begins a sync of all pages.
+fn begin_sync(syncs: &mut Syncs, handle: u64, failures: u64) -> Result<SyncId, Refusal> {
+    syncs.begin(
+        HandleId(handle),
+        PageIndex(0),
+        PageIndex(LAST_PAGE),
+        failures,
+    )
 }
 
 fn request(kind: Kind, file: u64, page: u64, dropped: bool) -> Request {
@@ -93,10 +116,11 @@ fn a_full_table_ends_in_any_order(rt: HostRuntime) {
         );
     }
     assert!(rt; !requests.is_full());
+    let all = progress(0, LAST_PAGE);
     for k in 0..32u64 {
         let serial = 62 - 2 * k;
         assert_eq!(rt;
-            requests.first_flush(FileId(0), Serial(64)),
+            requests.first_awaited(FileId(0), &all, Serial(64)),
             Some((Serial(0), PageIndex(0)))
         );
         assert_eq!(rt;
@@ -154,17 +178,32 @@ fn the_oldest_flush_is_awaited_first(rt: HostRuntime) {
     begin(&rt, &mut requests, Kind::Flush, 0, 8);
 
     // Fills and other files do not count, nor do requests at or past the bound.
+    let all = progress(0, LAST_PAGE);
     assert_eq!(rt;
-        requests.first_flush(FileId(0), Serial(4)),
+        requests.first_awaited(FileId(0), &all, Serial(4)),
         Some((Serial(2), PageIndex(9)))
     );
-    assert_eq!(rt; requests.first_flush(FileId(0), Serial(2)), None);
-    assert_eq!(rt; requests.first_flush(FileId(2), Serial(4)), None);
+    assert_eq!(rt; requests.first_awaited(FileId(0), &all, Serial(2)), None);
+    assert_eq!(rt; requests.first_awaited(FileId(2), &all, Serial(4)), None);
+
+    // Nor do pages past the range, or before it.
+    assert_eq!(rt;
+        requests.first_awaited(FileId(0), &progress(7, 8), Serial(4)),
+        Some((Serial(3), PageIndex(8)))
+    );
+    assert_eq!(rt;
+        requests.first_awaited(FileId(0), &progress(0, 7), Serial(4)),
+        None
+    );
+    assert_eq!(rt;
+        requests.first_awaited(FileId(0), &progress(10, 11), Serial(4)),
+        None
+    );
 
     // A dropped flush does not count.
     requests.drop_from(FileId(0), PageIndex(9));
     assert_eq!(rt;
-        requests.first_flush(FileId(0), Serial(4)),
+        requests.first_awaited(FileId(0), &all, Serial(4)),
         Some((Serial(3), PageIndex(8)))
     );
 }
@@ -173,9 +212,9 @@ fn the_oldest_flush_is_awaited_first(rt: HostRuntime) {
 fn syncs_take_the_lowest_number(rt: HostRuntime) {
     let mut syncs = Syncs::new();
     for k in 0..64u64 {
-        assert_eq!(rt; syncs.begin(HandleId(k + 100), k), Ok(SyncId(k)));
+        assert_eq!(rt; begin_sync(&mut syncs, k + 100, k), Ok(SyncId(k)));
     }
-    assert_eq!(rt; syncs.begin(HandleId(1), 0), Err(Refusal::TooManyInFlight));
+    assert_eq!(rt; begin_sync(&mut syncs, 1, 0), Err(Refusal::TooManyInFlight));
     assert!(rt; syncs.uses_handle(HandleId(163)));
     assert!(rt; !syncs.uses_handle(HandleId(1)));
     assert_eq!(rt; syncs.get(SyncId(64)), None);
@@ -184,23 +223,25 @@ fn syncs_take_the_lowest_number(rt: HostRuntime) {
     assert!(rt; syncs.remove(SyncId(5)).is_none());
     assert!(rt; !syncs.uses_handle(HandleId(105)));
     assert!(rt; syncs.remove(SyncId(3)).is_some());
-    assert_eq!(rt; syncs.begin(HandleId(1), 0), Ok(SyncId(3)));
-    assert_eq!(rt; syncs.begin(HandleId(1), 0), Ok(SyncId(5)));
+    assert_eq!(rt; begin_sync(&mut syncs, 1, 0), Ok(SyncId(3)));
+    assert_eq!(rt; begin_sync(&mut syncs, 1, 0), Ok(SyncId(5)));
 }
 
 #[test]
-fn a_sync_moves_its_cursor(rt: HostRuntime) {
+fn a_sync_notes_what_it_started(rt: HostRuntime) {
     let mut syncs = Syncs::new();
-    assert_eq!(rt; syncs.begin(HandleId(2), 9), Ok(SyncId(0)));
-    let mut expected = Progress {
-        handle: HandleId(2),
-        cursor: PageIndex(0),
-        failures: 9,
-        bound: None,
-    };
+    assert_eq!(rt;
+        syncs.begin(HandleId(2), PageIndex(3), PageIndex(6), 9),
+        Ok(SyncId(0))
+    );
+    let mut expected = progress(3, 6);
+    assert_eq!(rt; expected.cursor(), PageIndex(3));
+    assert!(rt; expected.has_page(PageIndex(6)));
+    assert!(rt; !expected.has_page(PageIndex(7)));
     assert_eq!(rt; syncs.get(SyncId(0)), Some(expected));
     syncs.started(SyncId(0), PageIndex(4));
-    expected.cursor = PageIndex(5);
+    expected.started = Some(PageIndex(4));
+    assert_eq!(rt; expected.cursor(), PageIndex(5));
     assert_eq!(rt; syncs.get(SyncId(0)), Some(expected));
     syncs.set_bound(SyncId(0), Serial(11));
     expected.bound = Some(Serial(11));

@@ -14,10 +14,12 @@ use Rattle.radix.specs.Entries as radix
 use Rattle.radix.specs.Entries.{ClearsRun, HasNoMark, IsBare, IsClear, IsFree, IsFound, IsLeaf, IsNext, PutsBit, PutsEntry, PutsRun, SameEntries, StandsAt}
 use Rattle.xarray.specs.declared.entry.Mark.{Mark}
 use Rattle.xarray.specs.declared.entry.Mark.TheVariants.{M0, M1, M2}
-use Rattle.xarray.specs.MarkedArray.{Range, Ranges, entry_at, erased, has_mark, is_any, lowest, mark_number, remarked, stored, unmarked, with_mark, with_value}
+use Rattle.xarray.specs.declared.entry.Marks.{Marks}
+use Rattle.xarray.specs.MarkedArray.{Range, Ranges, entry_at, erased, has_mark, is_any, lowest, mark_number, marks_of, remarked, stored, unmarked, with_mark, with_value}
 use Rattle.xarray.specs.Standing.{IsFirstSlot, IsLeafOf, IsOutside, IsSpot, Stands, TagsNext, level_of, place_of, span_of}
 use Rattle.xarray.specs.View.{IsRanged, is_sibling, ranges_of, reaches}
 use Rattle.xarray.proofs.RangeLemmas.{erased-some, get-put, lowest-none, none-at, none-lowest, remarked-some, remove-put, stored-some}
+use Rattle.xarray.proofs.Singles.{same_order}
 use Rattle.xarray.proofs.SpanLemmas.{level_low, pos64, within}
 use Rattle.xarray.proofs.StandLemmas.{aligned_at, leaf-is, named_here, not_reached, reached, sibling_here}
 use Rattle.xarray.proofs.ChangeLemmas.{mark_low, stands_cleared, stands_marked, stands_put, stands_same, stands_valued}
@@ -83,6 +85,18 @@ as_cleared old new level place span one puts = record {
 
 same_slab : (s : Slab Node) → SameEntries s s
 same_slab s = record { entries = λ level place. refl; marks = λ mark level place low. refl }
+
+-- an entry whose mark changes keeps its first slot
+pub first_remarked : (m new : Ranges) (first level : ℕ) (mark : Mark) (is_set : Bool) (slot : IsFirstSlot m first level) → new ≡ map.insert m first (with_mark mark is_set slot.range) → IsFirstSlot new first level
+first_remarked m new first level mark is_set slot now =
+    let order = same_order mark is_set slot.range in
+    let top = slot.top in
+    record {
+      range = with_mark mark is_set slot.range;
+      there = ap (λ n. map.get n first) now ∙ get-put m first first (with_mark mark is_set slot.range) refl;
+      level_is = ap level_of order ∙ slot.level_is;
+      top = omega (arith, order, top);
+    }
 
 module _ (s : Slab Node) (inv : IsRanged s) where
   abbrev m : Ranges
@@ -166,6 +180,28 @@ module _ (s : Slab Node) (inv : IsRanged s) where
         ap (λ n. eqb (radix.mark_at n s level (first / 64 ^ level)) 1) names
         ∙ ap (λ l. eqb (radix.mark_at (mark_number mark) s l (first / 64 ^ l)) 1) (sym spot.level_is)
         ∙ sym ((inv.stands.each first spot.range spot.there).marks mark)
+
+  -- ---- the marks of an entry, at its first slot
+
+  module _ (first level : ℕ) (slot : IsFirstSlot m first level) (r : Range) (there : map.get m first ≡ Some r) where
+    first_level : level_of r.order ≡ level
+    first_level = ap (λ (z : Range). level_of z.order) (same_Some r slot.range (sym there ∙ slot.there)) ∙ slot.level_is
+
+    first_bit : (mark : Mark) → eqb (radix.mark_at (mark_number mark) s level (first / 64 ^ level)) 1 ≡ has_mark mark r
+    first_bit mark =
+        ap (λ l. eqb (radix.mark_at (mark_number mark) s l (first / 64 ^ l)) 1) (sym first_level) ∙ sym ((inv.stands.each first r there).marks mark)
+
+    pub first_marks : (a b c : Bool) → a ≡ eqb (radix.mark_at 0 s level (first / 64 ^ level)) 1 → b ≡ eqb (radix.mark_at 1 s level (first / 64 ^ level)) 1 → c ≡ eqb (radix.mark_at 2 s level (first / 64 ^ level)) 1 → ◌≡◌ {A = Marks} (record { m0 = a; m1 = b; m2 = c }) (marks_of r)
+    first_marks a b c x y z = λ i. record { m0 = (x ∙ first_bit M0) i; m1 = (y ∙ first_bit M1) i; m2 = (z ∙ first_bit M2) i }
+
+    first_stands : (new : Slab Node) (number bit : ℕ) (mark : Mark) → number ≡ mark_number mark → PutsBit s new number level (first / 64 ^ level) bit → Stands new (map.insert m first (with_mark mark (eqb bit 1) r))
+    first_stands new number bit mark names puts = stands_marked s m inv.stands first r there new level number bit mark first_level names puts
+
+    first_now : (new : Slab Node) (number bit : ℕ) (mark : Mark) → number ≡ mark_number mark → PutsBit s new number level (first / 64 ^ level) bit → ranges_of new ≡ map.insert m first (with_mark mark (eqb bit 1) r)
+    first_now new number bit mark names puts = ranges-is new _ (first_stands new number bit mark names puts)
+
+    pub first_ranged : (new : Slab Node) (number bit : ℕ) (mark : Mark) → number ≡ mark_number mark → PutsBit s new number level (first / 64 ^ level) bit → IsRanged new
+    first_ranged new number bit mark names puts = is_ranged new _ (first_stands new number bit mark names puts)
 
   -- ---- an entry of one index comes where its node is
 
@@ -310,6 +346,15 @@ module _ (s : Slab Node) (inv : IsRanged s) (index first level value : ℕ) (spo
 
     pub erased_ranged : IsRanged new
     erased_ranged = is_ranged new _ gone
+
+-- a mark of the array that a call sees
+pub first_set : (s : Slab Node) (inv : IsRanged s) (seen : Slab Node) → s ≡ seen → (first level : ℕ) → IsFirstSlot (ranges_of seen) first level → (r : Range) → map.get (ranges_of seen) first ≡ Some r → (new : Slab Node) (number bit : ℕ) (mark : Mark) (is_set : Bool) → number ≡ mark_number mark → PutsBit s new number level (first / 64 ^ level) bit → is_set ≡ eqb bit 1 → ranges_of new ≡ map.insert (ranges_of seen) first (with_mark mark is_set r)
+first_set s inv seen same first level slot r there new number bit mark is_set names puts is =
+    let at = rw (sym same) at slot in
+    let has = rw (sym same) at there in
+    first_now s inv first level at r has new number bit mark names puts
+    ∙ ap (λ b. map.insert (ranges_of s) first (with_mark mark b r)) (sym is)
+    ∙ ap (λ z. map.insert (ranges_of z) first (with_mark mark is_set r)) same
 
 -- a sibling's first slot
 module _ (s : Slab Node) (inv : IsRanged s) (index level named : ℕ) (found : IsFound s index level (Sibling named)) where

@@ -16,3 +16,5 @@ pub mod SpanLemmas
 pub mod SplitLemmas
 pub mod StandLemmas
 pub mod ViewLemmas
+pub mod WalkLemmas
+pub mod NearLemmas

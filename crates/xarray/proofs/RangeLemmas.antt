@@ -1,12 +1,14 @@
 -- What the words of a marked array say where its ranges are aligned and disjoint.
-use Rattle.std.proofs.Common.{◌≡◌, ◌≢◌, ℕ, ◌+◌, ◌%◌, ◌^◌, ◌<◌, ◌≤◌, ◌&&◌, ◌⊎◌, Bool, true, ltb, leb, Some, None, sym, ap, ◌∙◌, inl, inr, arith, leb-true, ltb-true, le-leb, lt-ltb}
+use Rattle.std.proofs.Common.{◌≡◌, ◌≢◌, ℕ, ◌+◌, ◌%◌, ◌^◌, ◌<◌, ◌≤◌, ◌&&◌, ◌⊎◌, Bool, true, ltb, leb, Some, None, refl, sym, ap, ◌∙◌, inl, inr, arith, leb-true, ltb-true, le-leb, lt-ltb}
 use Rattle.std.specs.Ordering.{nat_cmp, eq_by_cmp}
 use Rattle.std.specs.Cmp.{nat_cmp_total}
 use Rattle.std.specs.FinMap as map
 use Rattle.std.proofs.lemmas.Bool.{cases_eq, cases_order, cond-true, cond-false, and_parts, and_from, false_from_ne_true, true≢false}
 use Rattle.std.proofs.lemmas.Option.{none-some, same_Some}
 use Rattle.xarray.specs.declared.entry.Mark.{Mark}
-use Rattle.xarray.specs.MarkedArray.{IsArray, Range, Ranges, entry_at, lowest, stored, erased, remarked, store_at, erase_at, mark_at, in_range, meets, unmarked, with_value, with_mark}
+use Rattle.xarray.specs.declared.entry.Mark.TheVariants.{M0, M1, M2}
+use Rattle.xarray.specs.declared.entry.Marks.{Marks}
+use Rattle.xarray.specs.MarkedArray.{IsArray, Range, Ranges, entry_at, lowest, stored, erased, remarked, given, store_at, erase_at, mark_at, give_at, in_range, meets, unmarked, with_value, with_mark, with_marks}
 use Rattle.xarray.proofs.EntryLemmas.{entries-rise, eq_tie, first_is, first_none, first_some, ne_tie, none_passes}
 
 -- ---- a key that is changed
@@ -108,6 +110,14 @@ module _ (m : Ranges) where
   pub remarked-none : (index : ℕ) (mark : Mark) (is_set : Bool) → entry_at m index ≡ None → remarked m index mark is_set ≡ m
   unfolding remarked
   remarked-none index mark is_set is = ap (mark_at m mark is_set) is
+
+  pub given-some : (index first : ℕ) (marks : Marks) (r : Range) → entry_at m index ≡ Some (first, r) → given m index marks ≡ map.insert m first (with_marks marks r)
+  unfolding given
+  given-some index first marks r is = ap (give_at m marks) is
+
+  pub given-none : (index : ℕ) (marks : Marks) → entry_at m index ≡ None → given m index marks ≡ m
+  unfolding given
+  given-none index marks is = ap (give_at m marks) is
 
   -- ---- the lowest entry of a kind
 
@@ -214,6 +224,30 @@ array-kept m array k old new is same small =
     array-put m array k new (omega (arith, array.order k old is, same)) (ap (λ z. k % 2 ^ z) same ∙ array.aligned k old is)
     (let e = array.within k old is in let p = same_power new.order old.order k same in omega (arith, e, p)) small
     (λ q y differs has. (λ before. array.disjoint q k y old has is before, λ after. let e = array.disjoint k q old y is has after in let p = same_power new.order old.order k same in omega (arith, e, p)))
+
+-- the later of two changes of a key stands
+pub put-put : (m : Ranges) (k : ℕ) (v w : Range) → map.insert (map.insert m k v) k w ≡ map.insert m k w
+put-put m k v w =
+    map.same_map nat_cmp_total map.nat_cmp-IsAntisymmetric (map.insert (map.insert m k v) k w) (map.insert m k w)
+    (λ q. elim (cases_eq q k) [
+      | inl same ↦ get-put (map.insert m k v) k q w same ∙ sym (get-put m k q w same)
+      | inr differs ↦ get-put_other (map.insert m k v) k q w differs ∙ get-put_other m k q v differs ∙ sym (get-put_other m k q w differs)
+    ])
+
+-- an entry that gets three marks, one after another
+pub given-by : (m one two three : Ranges) (index first : ℕ) (marks : Marks) (r : Range) → entry_at m index ≡ Some (first, r) → map.get m first ≡ Some r
+    → ((x : Range) → map.get m first ≡ Some x → one ≡ map.insert m first (with_mark M0 marks.m0 x))
+    → ((x : Range) → map.get one first ≡ Some x → two ≡ map.insert one first (with_mark M1 marks.m1 x))
+    → ((x : Range) → map.get two first ≡ Some x → three ≡ map.insert two first (with_mark M2 marks.m2 x))
+    → three ≡ given m index marks
+given-by m one two three index first marks r at there p q t =
+    let a = with_mark M0 marks.m0 r in
+    let b = with_mark M1 marks.m1 a in
+    let c = with_mark M2 marks.m2 b in
+    let one_is = p r there in
+    let two_is : two ≡ map.insert m first b = q a (ap (λ n. map.get n first) one_is ∙ get-put m first first a refl) ∙ ap (λ n. map.insert n first b) one_is ∙ put-put m first a b in
+    t b (ap (λ n. map.get n first) two_is ∙ get-put m first first b refl) ∙ ap (λ n. map.insert n first c) two_is ∙ put-put m first b c
+    ∙ sym (given-some m index first marks r at)
 
 -- a change that is taken back by a removal
 pub remove-put : (m : Ranges) (k : ℕ) (v : Range) → map.remove (map.insert m k v) k ≡ map.remove m k

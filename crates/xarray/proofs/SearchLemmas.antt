@@ -255,9 +255,9 @@ module _ (s : Slab Node) (m : Ranges) (stands : Stands s m) where
       by_entry (Some (Leaf v)) e l = (v, e)
       by_entry (Some (Sibling f)) e l = absurd l
 
-  module _ (from to : ℕ) (free : entry_at m from ≡ None) where
+  module _ (from to : ℕ) (outside : IsOutside m from) where
     past : IsPast m is_any from
-    past = outside_past m is_any from (start_none from free).outside
+    past = outside_past m is_any from outside
 
     pub any_none : HasNoNextEntry s from → lowest is_any m from to ≡ None
     any_none none = none_hit is_any (λ l p. IsLeaf (radix.entry_at s l p)) hits_any from to past none.each

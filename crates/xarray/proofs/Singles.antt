@@ -7,7 +7,8 @@ use Rattle.std.proofs.lemmas.Bool.{cases_eq, cond-true, cond-false, and_parts, a
 use Rattle.std.proofs.lemmas.Option.{none-some, same_Some}
 use Rattle.xarray.specs.declared.entry.Mark.{Mark}
 use Rattle.xarray.specs.declared.entry.Mark.TheVariants.{M0, M1, M2}
-use Rattle.xarray.specs.MarkedArray.{Range, Ranges, entry_at, lowest, stored, erased, remarked, store_at, erase_at, mark_at, in_range, meets, unmarked, with_value, with_mark}
+use Rattle.xarray.specs.declared.entry.Marks.{Marks}
+use Rattle.xarray.specs.MarkedArray.{Range, Ranges, entry_at, lowest, stored, erased, remarked, given, store_at, erase_at, mark_at, give_at, in_range, meets, unmarked, with_value, with_mark, with_marks}
 use Rattle.xarray.proofs.EntryLemmas.{entries-rise, eq_tie, first_is, first_none, first_some, ne_tie, none_passes}
 
 -- every entry has order 0
@@ -137,6 +138,14 @@ module _ (m : Ranges) (single : AllSingle m) where
   remarked-none index mark is_set is = ap (mark_at m mark is_set) (entry_at-none index is)
 
   -- ---- the changes, key by key
+
+  pub given-some : (index : ℕ) (marks : Marks) (r : Range) → map.get m index ≡ Some r → given m index marks ≡ map.insert m index (with_marks marks r)
+  unfolding given
+  given-some index marks r is = ap (give_at m marks) (entry_at-some index r is)
+
+  pub given-none : (index : ℕ) (marks : Marks) → map.get m index ≡ None → given m index marks ≡ m
+  unfolding given
+  given-none index marks is = ap (give_at m marks) (entry_at-none index is)
 
   pub stored-insert : (index value : ℕ) → stored m index value ≡ map.insert m index (stored_range value (map.get m index))
   stored-insert index value = by_get (map.get m index) refl

@@ -1,5 +1,5 @@
 -- A range of order k is 2 ^ (k % 6) slots of 64 ^ (k / 6) indexes each.
-use Rattle.std.proofs.Common.{◌≡◌, ℕ, suc, zero, ◌+◌, ◌*◌, ◌/◌, ◌%◌, ◌^◌, ◌<◌, ◌≤◌, sym, ap, ◌∙◌, arith}
+use Rattle.std.proofs.Common.{◌≡◌, ℕ, suc, zero, ◌+◌, ◌-◌, ◌*◌, ◌/◌, ◌%◌, ◌^◌, ◌<◌, ◌≤◌, sym, ap, ◌∙◌, arith}
 use Rattle.std.proofs.lemmas.Nat.{pow-add, div-add-mod', mod_below, div_below, mul-le, le-div}
 use Rattle.std.proofs.Math.Nat.{mul-div_cancel, one-le-pow}
 use Rattle.radix.proofs.Places.{pow64}
@@ -105,3 +105,16 @@ module _ (first order : ℕ) (aligned : first % 2 ^ order ≡ 0) where
 
   pub index_high : (index : ℕ) → index / 64 ^ level_of order < place_of first order + span_of order → index < first + 2 ^ order
   index_high index high = let e = below_from index (64 ^ level_of order) (place_of first order + span_of order) (pos64 (level_of order)) high in omega (arith, e, end_is)
+
+  -- its last index is in its last slot
+  pub last_slot : (last : ℕ) → last + 1 ≡ first + 2 ^ order → last / 64 ^ level_of order + 1 ≡ place_of first order + span_of order
+  last_slot last ends =
+      let before = place_of first order + span_of order - 1 in
+      let some = span_some order in
+      let w = pos64 (level_of order) in
+      let one : before + 1 ≡ place_of first order + span_of order = omega (arith, some) in
+      let e : (before + 1) * 64 ^ level_of order ≡ before * 64 ^ level_of order + 64 ^ level_of order = omega arith in
+      let f : (before + 1) * 64 ^ level_of order ≡ first + 2 ^ order = ap (λ z. z * 64 ^ level_of order) one ∙ sym end_is in
+      let high = slot_high last (omega (arith, ends)) in
+      let low = least_to last (64 ^ level_of order) before w (omega (arith, e, f, w, ends)) in
+      omega (arith, one, high, low)

@@ -1,6 +1,6 @@
 -- A marked array: a finite map from ranges of indexes to a value and three marks. A range of order k is 2 ^ k indexes, and
 -- it is kept by its first. (Linux, Documentation/core-api/xarray.rst: entries, marks, and multi-index entries.)
-use Rattle.std.specs.Prelude.{◌≡◌, ℕ, suc, zero, ◌+◌, ◌-◌, ◌*◌, ◌%◌, ◌^◌, ◌<◌, ◌≤◌, ◌&&◌, Bool, true, false, cond, ltb, leb, Option, Some, None, find, count_by, map as map_list}
+use Rattle.std.specs.Prelude.{◌≡◌, ℕ, suc, zero, ◌+◌, ◌-◌, ◌*◌, ◌%◌, ◌^◌, ◌<◌, ◌≤◌, ◌&&◌, Bool, true, false, cond, ltb, leb, Option, Some, None, List, filter, find, count_by, map as map_list}
 use Rattle.std.specs.Ordering.{nat_cmp}
 use Rattle.std.specs.Coded.{Coded, coded_ℕ, coded_bool, coded_option, coded×, code_by}
 use mathlib.Core.Path.{refl}
@@ -10,6 +10,8 @@ use Rattle.pc_types.specs.declared.refusal.Refusal.TheVariants as refusal
 use Rattle.xarray.specs.declared.entry.Mark.{Mark}
 use Rattle.xarray.specs.declared.entry.Mark.TheVariants.{M0, M1, M2}
 use Rattle.xarray.specs.declared.entry.Found.{Found}
+use Rattle.xarray.specs.declared.entry.Marked.{Marked}
+use Rattle.xarray.specs.declared.entry.Marks.{Marks}
 
 -- ---- the array
 
@@ -68,6 +70,13 @@ with_mark M0 is r = record r { first_mark = is }
 with_mark M1 is r = record r { second_mark = is }
 with_mark M2 is r = record r { third_mark = is }
 
+-- all three marks
+abbrev pub marks_of : Range → Marks
+marks_of r = record { m0 = r.first_mark; m1 = r.second_mark; m2 = r.third_mark }
+
+abbrev pub with_marks : Marks → Range → Range
+with_marks marks r = record r { first_mark = marks.m0; second_mark = marks.m1; third_mark = marks.m2 }
+
 abbrev pub mark_number : Mark → ℕ
 mark_number M0 = 0
 mark_number M1 = 1
@@ -92,6 +101,10 @@ is_tagged from to mark e = has_mark mark e.1 && meets from to e
 abbrev pub found_of : ℕ × Range → Found
 found_of e = record { first = e.0; order = e.1.order; value = e.1.value }
 
+-- an entry's value with its marks
+abbrev pub marked_of : ℕ × Range → Marked
+marked_of e = record { value = e.1.value; marks = marks_of e.1 }
+
 -- ---- what the calls read
 
 -- the entry whose range holds an index
@@ -101,6 +114,10 @@ entry_at m index = find (in_range index) (map.entries m)
 -- the lowest entry of this kind whose range meets the indexes from `from` to `to`
 unfoldable pub lowest : (Range → Bool) → Ranges → ℕ → ℕ → Option (ℕ × Range)
 lowest kind m from to = find (λ e. kind e.1 && meets from to e) (map.entries m)
+
+-- the entries of this kind whose ranges meet these indexes, in rising order
+unfoldable pub entries_in : (Range → Bool) → Ranges → ℕ → ℕ → List (ℕ × Range)
+entries_in kind m from to = filter (λ e. kind e.1 && meets from to e) (map.entries m)
 
 -- how many entries with the mark have a range that meets these indexes
 unfoldable pub count_of : Ranges → ℕ → ℕ → Mark → ℕ
@@ -136,6 +153,14 @@ mark_at m mark is (Some e) = map.insert m e.0 (with_mark mark is e.1)
 -- the entry at an index has this mark now or not, for its whole range
 unfoldable pub remarked : Ranges → ℕ → Mark → Bool → Ranges
 remarked m index mark is = mark_at m mark is (entry_at m index)
+
+abbrev pub give_at : Ranges → Marks → Option (ℕ × Range) → Ranges
+give_at m marks None = m
+give_at m marks (Some e) = map.insert m e.0 (with_marks marks e.1)
+
+-- the entry at an index has these marks now and no others, for its whole range
+unfoldable pub given : Ranges → ℕ → Marks → Ranges
+given m index marks = give_at m marks (entry_at m index)
 
 abbrev pub retag_one : ℕ → ℕ → Mark → Mark → ℕ × Range → ℕ × Range
 retag_one from to mark other e = (e.0, cond (is_tagged from to mark e) (with_mark other true e.1) e.1)

@@ -1,13 +1,15 @@
 //! The array as its caller sees it: a finite map of ranges.
-ghost use Rattle.std.specs.Prelude.{◌≡◌, ◌≢◌, ℕ, ◌+◌, ◌-◌, ◌/◌, ◌%◌, ◌<◌, ◌≤◌, ◌^◌, ◌↔◌, ◌⊎◌, min, Some, None, Err, IfOk, OnOk, OnErr, IfErr, IsOk, IsSome, MatchBool, option_map, true, false};
+ghost use Rattle.std.specs.Prelude.{◌≡◌, ◌≢◌, ℕ, ◌+◌, ◌-◌, ◌/◌, ◌%◌, ◌<◌, ◌≤◌, ◌^◌, ◌↔◌, ◌⊎◌, min, Some, None, Err, IfOk, OnOk, OnErr, IfErr, IsOk, IsSome, MatchBool, option_map, map as map_list, true, false};
 ghost use Rattle.std.specs.List.{list_any};
 ghost use Rattle.pc_types.specs.declared.refusal.Refusal.{Refusal};
 ghost use Rattle.std.specs.FinMap as map;
-ghost use Rattle.xarray.specs.MarkedArray.{IsArray, Range, after_refusal, count_of, entry_at, erased, found_of, has_mark, is_any, is_marked, lowest, remarked, retagged, split, stored, unmarked};
+ghost use Rattle.xarray.specs.MarkedArray.{IsArray, Range, after_refusal, count_of, entry_at, erased, found_of, given, has_mark, is_any, is_marked, lowest, marked_of, marks_of, entries_in, remarked, retagged, split, stored, unmarked};
 
-use crate::entry::{Found, Mark};
+use crate::entries::Entries;
+use crate::entry::{Found, Mark, Marked, Marks};
 use crate::ranged::Ranged;
 use pc_types::Refusal;
+use radix::Position;
 use std::alloc::Global;
 use std::marker::Model;
 
@@ -68,6 +70,14 @@ impl XArray {
         ensures unmarked { is_marked mark (entry_at self.now.ranges index) ≡ false → result ≡ None }
     {
         self.ranged.load_marked(index, mark)
+    }
+
+    /// The value at an index with all three marks of its entry: one walk, of the four that `load` and `get_mark` take.
+    #[inline(always)]
+    pub fn load_with_marks(&self, index: u64) -> Option<Marked>
+        ensures { result ≡ option_map marked_of (entry_at self.now.ranges index) }
+    {
+        self.ranged.load_with_marks(index)
     }
 
     /// Makes room for a range, so that a store or an insert there meets no want of memory if it is the next change. The index
@@ -174,8 +184,17 @@ impl XArray {
         ensures before { result ≡ option_map (λ e. e.1.value) (entry_at self.old.ranges index) }
         ensures erases { self.new ≡ record { ranges = erased self.old.ranges index; ready = None } }
     {
+        let taken = self.take(index)?;
+        Some(taken.value)
+    }
+
+    /// Takes the entry at an index away as `erase` does, and answers its value with its marks.
+    pub fn take(&mut self, index: u64) -> Option<Marked>
+        ensures before { result ≡ option_map marked_of (entry_at self.old.ranges index) }
+        ensures takes { self.new ≡ record { ranges = erased self.old.ranges index; ready = None } }
+    {
         self.ready = None;
-        self.ranged.erase(index)
+        self.ranged.take(index)
     }
 
     /// Splits the entry at an index into entries of this order over the same indexes, each with its value and marks. An order
@@ -223,6 +242,24 @@ impl XArray {
         self.ranged.clear_mark(index, mark);
     }
 
+    /// Sets or clears a mark of the entry at an index, and answers whether it had the mark: one walk for both.
+    pub fn swap_mark(&mut self, index: u64, mark: Mark, is_set: bool) -> Option<bool>
+        ensures before { result ≡ option_map (λ e. has_mark mark e.1) (entry_at self.old.ranges index) }
+        ensures sets { self.new ≡ record { ranges = remarked self.old.ranges index mark is_set; ready = None } }
+    {
+        self.ready = None;
+        self.ranged.swap_mark(index, mark, is_set)
+    }
+
+    /// Gives the entry at an index these marks and no others, and answers those that it had: one walk for all three.
+    pub fn swap_marks(&mut self, index: u64, marks: Marks) -> Option<Marks>
+        ensures before { result ≡ option_map (λ e. marks_of e.1) (entry_at self.old.ranges index) }
+        ensures gives { self.new ≡ record { ranges = given self.old.ranges index marks; ready = None } }
+    {
+        self.ready = None;
+        self.ranged.swap_marks(index, marks)
+    }
+
     /// Whether the entry at an index has a mark.
     pub fn get_mark(&self, index: u64, mark: Mark) -> bool
         ensures { result ≡ is_marked mark (entry_at self.now.ranges index) }
@@ -253,6 +290,22 @@ impl XArray {
         self.ranged.find_marked(from, to, mark)
     }
 
+    /// The entries whose ranges meet the indexes from `from` to `to`, in rising order.
+    #[inline(always)]
+    pub fn entries(&self, from: u64, to: u64) -> Entries<'_>
+        ensures { result ≡ map_list found_of (entries_in is_any self.now.ranges from to) }
+    {
+        Entries::new(&self.ranged, None, from, to)
+    }
+
+    /// The entries with the mark whose ranges meet the indexes from `from` to `to`, in rising order.
+    #[inline(always)]
+    pub fn entries_marked(&self, from: u64, to: u64, mark: Mark) -> Entries<'_>
+        ensures { result ≡ map_list found_of (entries_in (has_mark mark) self.now.ranges from to) }
+    {
+        Entries::new(&self.ranged, Some(mark), from, to)
+    }
+
     /// Sets the mark `other` of every entry with the mark whose range meets the indexes from `from` to `to`, and answers how
     /// many they are. It goes from one marked entry to the next.
     pub fn retag(&mut self, from: u64, to: u64, mark: Mark, other: Mark) -> u64
@@ -266,15 +319,17 @@ impl XArray {
         }
         let mut count: u64 = 0;
         let mut next = self.ranged.start(from);
+        let mut slot: Option<Position> = None;
         'entries: loop {
-            let Some(last) = self.ranged.tag_next(next, to, mark, other) else {
+            let Some(tagged) = self.ranged.tag_next(slot, next, to, mark, other) else {
                 return count;
             };
             count = count.saturating_add(1);
-            if last >= to {
+            if tagged.last >= to {
                 return count;
             }
-            next = last + 1;
+            next = tagged.last + 1;
+            slot = Some(tagged.slot);
         }
     }
 }

@@ -23,6 +23,21 @@ impl Mark {
     }
 }
 
+/// The marks of an entry: whether it has M0, M1 and M2.
+#[derive(Clone, Copy, PartialEq, Eq, Debug)]
+pub struct Marks {
+    pub m0: bool,
+    pub m1: bool,
+    pub m2: bool,
+}
+
+/// The value of an entry, with its marks.
+#[derive(Clone, Copy, PartialEq, Eq, Debug)]
+pub struct Marked {
+    pub value: u64,
+    pub marks: Marks,
+}
+
 /// An entry as a search finds it: its range is the `2 ^ order` indexes from `first` on.
 #[derive(Clone, Copy, PartialEq, Eq, Debug)]
 pub struct Found {

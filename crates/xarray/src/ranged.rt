@@ -1,23 +1,27 @@
 //! Entries of every order in radix nodes: a range of order k is a leaf at level k / 6, and its siblings.
-ghost use Rattle.std.specs.Prelude.{◌≡◌, ◌≢◌, ℕ, ◌+◌, ◌*◌, ◌-◌, ◌/◌, ◌%◌, ◌^◌, ◌<◌, ◌≤◌, ◌==◌, ◌↔◌, Some, None, IfOk, OnOk, IfSome, OnErr, IfErr, IsOk, IsSome, MatchOption, MatchBool, IsTrue, true, false, ltb, option_map};
+//!
+//! Here is how an entry at an index is found; `walks` has the searches for the next one, `changes` what puts, marks and takes
+//! entries, and `split` makes one into parts.
+ghost use Rattle.std.specs.Prelude.{◌≡◌, ◌+◌, ◌*◌, ◌-◌, ◌/◌, ◌%◌, ◌^◌, ◌<◌, ◌≤◌, ◌==◌, ◌↔◌, Some, None, IfSome, MatchOption, true, false, ltb, option_map};
 ghost use Rattle.std.specs.FinMap as map;
 ghost use Rattle.std.specs.List.{list_any};
-ghost use Rattle.pc_types.specs.declared.refusal.Refusal.{Refusal};
 ghost use Rattle.radix.specs.declared.entry.Entry.{Entry as OneEntry};
-ghost use Rattle.radix.specs.Entries as radix;
-ghost use Rattle.radix.specs.Entries.{HasPathRoom, IsFound, IsLeaf, IsWalked, StandsAt};
-ghost use Rattle.xarray.specs.MarkedArray.{IsArray, Range, entry_at, erased, found_of, has_mark, is_any, is_marked, lowest, remarked, stored, unmarked};
-ghost use Rattle.xarray.specs.Standing.{IsFirstSlot, IsLeafOf, IsOutside, IsSpot, IsStart, TagsNext, level_of};
+ghost use Rattle.radix.specs.Entries.{IsFound, IsLeaf, IsWalked, StandsAt};
+ghost use Rattle.xarray.specs.MarkedArray.{IsArray, Range, entry_at, found_of, has_mark, is_marked, lowest, marked_of, marks_of, unmarked};
+ghost use Rattle.xarray.specs.Standing.{IsFirstSlot, IsSpot};
 ghost use Rattle.xarray.specs.View.{ranges_of};
 
+mod changes;
 mod split;
+mod walks;
 
-use crate::entry::{Found, Mark};
-use pc_types::Refusal;
-use radix::{Cursor, Entry, Nodes, Position, Walk, first_at, place_at};
+use crate::entry::{Found, Mark, Marked, Marks};
+pub use changes::Tagged;
+use radix::{Cursor, Entry, Nodes, Walk, first_at, place_at};
 pub use split::Whole;
 use std::alloc::Global;
 use std::marker::Model;
+pub use walks::Step;
 
 /// Entries with three marks, by ranges of indexes.
 #[derive(Drop)]
@@ -248,125 +252,24 @@ impl Ranged {
         Some(value)
     }
 
-    /// Room for a range that begins at an index.
-    pub fn reserve(&mut self, index: u64, order: u32) -> Result<(), Refusal>
-        requires { order ≤ 63 }
-        ensures room { OnOk result (HasPathRoom self.new (level_of order) index) }
-        ensures err { IfErr result (λ refusal. refusal ≡ Refusal.Memory) }
-        ensures same { ranges_of self.new ≡ ranges_of self.old }
+    // The marks of an entry, at its first slot.
+    #[inline(always)]
+    fn marks_at(&self, cursor: Cursor, level: u32, first: u64) -> Marks
+        requires there { IsFirstSlot (ranges_of self.now) first level }
+        requires stands { StandsAt self.now cursor level (first / 64 ^ level / 64) }
+        ensures { (r : Range) → map.get (ranges_of self.now) first ≡ Some r → result ≡ marks_of r }
     {
-        self.nodes.reserve_path(index, order / 6)
-    }
-
-    // Puts an entry without marks where its range meets none.
-    fn put(&mut self, index: u64, order: u32, value: u64) -> Result<(), Refusal>
-        requires order { order ≤ 63 }
-        requires aligned { index % 2 ^ order ≡ 0 }
-        requires value { value < 2 ^ 63 }
-        requires free { lowest is_any (ranges_of self.old) index (index + 2 ^ order - 1) ≡ None }
-        ensures puts { OnOk result (ranges_of self.new ≡ map.insert (ranges_of self.old) index (unmarked order value)) }
-        ensures same { OnErr result (ranges_of self.new ≡ ranges_of self.old) }
-        ensures err { IfErr result (λ refusal. refusal ≡ Refusal.Memory) }
-        ensures room { HasPathRoom self.old (level_of order) index → IsOk result }
-    {
-        let level = order / 6;
-        self.nodes.reserve_path(index, level)?;
-        self.nodes.put_run(index, level, 1 << (order % 6), value);
-        Ok(())
-    }
-
-    // Puts an entry of one index without marks where a walk came to none, perhaps in the node that has its slot.
-    #[inline]
-    fn put_one(&mut self, cursor: Cursor, level: u32, index: u64, value: u64) -> Result<(), Refusal>
-        requires value { value < 2 ^ 63 }
-        requires free { entry_at (ranges_of self.old) index ≡ None }
-        requires stands { StandsAt self.old cursor level (index / 64 ^ level / 64) }
-        ensures puts { OnOk result (ranges_of self.new ≡ map.insert (ranges_of self.old) index (unmarked 0 value)) }
-        ensures same { OnErr result (ranges_of self.new ≡ ranges_of self.old) }
-        ensures err { IfErr result (λ refusal. refusal ≡ Refusal.Memory) }
-        ensures room { HasPathRoom self.old 0 index → IsOk result }
-    {
-        if level > 0 {
-            return self.put(index, 0, value);
+        Marks {
+            m0: self.nodes.get_bit(cursor, first, level, 0),
+            m1: self.nodes.get_bit(cursor, first, level, 1),
+            m2: self.nodes.get_bit(cursor, first, level, 2),
         }
-        self.nodes.fill(cursor, index, 0, value);
-        Ok(())
     }
 
-    /// Stores a value, and answers the one before.
-    pub fn store(&mut self, index: u64, value: u64) -> Result<Option<u64>, Refusal>
-        requires { value < 2 ^ 63 }
-        ensures before { IfOk result (λ before. before ≡ option_map (λ e. e.1.value) (entry_at (ranges_of self.old) index)) }
-        ensures stores { OnOk result (ranges_of self.new ≡ stored (ranges_of self.old) index value) }
-        ensures same { OnErr result (ranges_of self.new ≡ ranges_of self.old) }
-        ensures err { IfErr result (λ refusal. refusal ≡ Refusal.Memory) }
-        ensures room { HasPathRoom self.old 0 index → IsOk result }
-        ensures over { IsSome (entry_at (ranges_of self.old) index) → IsOk result }
-    {
-        let Some(walk) = self.nodes.walk(index) else {
-            self.put(index, 0, value)?;
-            return Ok(None);
-        };
-        let Walk {
-            cursor,
-            level,
-            entry,
-        } = walk;
-        if let Some(spot) = self.spot_in(cursor, level, entry, index) {
-            self.nodes
-                .replace(spot.cursor, spot.first, spot.level, value);
-            return Ok(Some(spot.value));
-        }
-        self.put_one(cursor, level, index, value)?;
-        Ok(None)
-    }
-
-    /// Puts an entry of one index where none is, and answers whether none was.
-    pub fn insert(&mut self, index: u64, value: u64) -> Result<bool, Refusal>
-        requires { value < 2 ^ 63 }
-        ensures free { IfOk result (λ is_new. MatchBool is_new ((entry_at (ranges_of self.old) index ≡ None) × (ranges_of self.new ≡ map.insert (ranges_of self.old) index (unmarked 0 value))) (IsSome (entry_at (ranges_of self.old) index) × (self.new ≡ self.old))) }
-        ensures same { OnErr result ((entry_at (ranges_of self.old) index ≡ None) × (ranges_of self.new ≡ ranges_of self.old)) }
-        ensures err { IfErr result (λ refusal. refusal ≡ Refusal.Memory) }
-        ensures room { HasPathRoom self.old 0 index → IsOk result }
-    {
-        let Some(walk) = self.nodes.walk(index) else {
-            self.put(index, 0, value)?;
-            return Ok(true);
-        };
-        let Walk {
-            cursor,
-            level,
-            entry,
-        } = walk;
-        if let Some(_) = self.spot_in(cursor, level, entry, index) {
-            return Ok(false);
-        }
-        self.put_one(cursor, level, index, value)?;
-        Ok(true)
-    }
-
-    /// Puts an entry of an order where its range meets none, and answers whether none was there.
-    pub fn insert_order(&mut self, index: u64, order: u32, value: u64) -> Result<bool, Refusal>
-        requires order { order ≤ 63 }
-        requires aligned { index % 2 ^ order ≡ 0 }
-        requires value { value < 2 ^ 63 }
-        ensures free { IfOk result (λ is_new. MatchBool is_new ((lowest is_any (ranges_of self.old) index (index + 2 ^ order - 1) ≡ None) × (ranges_of self.new ≡ map.insert (ranges_of self.old) index (unmarked order value))) (IsSome (lowest is_any (ranges_of self.old) index (index + 2 ^ order - 1)) × (self.new ≡ self.old))) }
-        ensures same { OnErr result ((lowest is_any (ranges_of self.old) index (index + 2 ^ order - 1) ≡ None) × (ranges_of self.new ≡ ranges_of self.old)) }
-        ensures err { IfErr result (λ refusal. refusal ≡ Refusal.Memory) }
-        ensures room { HasPathRoom self.old (level_of order) index → IsOk result }
-    {
-        let last = last_of(index, order);
-        if let Some(_) = self.next(index, last) {
-            return Ok(false);
-        }
-        self.put(index, order, value)?;
-        Ok(true)
-    }
-
-    /// Takes the entry at an index away, and answers its value.
-    pub fn erase(&mut self, index: u64) -> Option<u64>
-        ensures before { result ≡ option_map (λ e. e.1.value) (entry_at (ranges_of self.old) index) }
-        ensures erases { ranges_of self.new ≡ erased (ranges_of self.old) index }
+    /// The value at an index with the entry's marks: the walk ends at the node that has both.
+    #[inline(always)]
+    pub fn load_with_marks(&self, index: u64) -> Option<Marked>
+        ensures { result ≡ option_map marked_of (entry_at (ranges_of self.now) index) }
     {
         let Some(spot) = self.spot(index) else {
             return None;
@@ -377,38 +280,8 @@ impl Ranged {
             first,
             value,
         } = spot;
-        let span = 1 << (self.order_of(cursor, level, first) % 6);
-        self.nodes.clear_bit(cursor, first, level, 0);
-        self.nodes.clear_bit(cursor, first, level, 1);
-        self.nodes.clear_bit(cursor, first, level, 2);
-        if span == 1 {
-            self.nodes.clear(cursor, first, level);
-        } else {
-            self.nodes.clear_run(cursor, first, level, span);
-        }
-        Some(value)
-    }
-
-    /// Sets a mark of the entry at an index, and answers whether there is one.
-    pub fn set_mark(&mut self, index: u64, mark: Mark) -> bool
-        ensures { MatchBool result (IsSome (entry_at (ranges_of self.old) index) × (ranges_of self.new ≡ remarked (ranges_of self.old) index mark true)) ((entry_at (ranges_of self.old) index ≡ None) × (self.new ≡ self.old)) }
-    {
-        let Some(spot) = self.spot(index) else {
-            return false;
-        };
-        self.nodes
-            .set_bit(spot.cursor, spot.first, spot.level, mark.number());
-        true
-    }
-
-    /// Clears a mark of the entry at an index.
-    pub fn clear_mark(&mut self, index: u64, mark: Mark)
-        ensures { ranges_of self.new ≡ remarked (ranges_of self.old) index mark false }
-    {
-        if let Some(spot) = self.spot(index) {
-            self.nodes
-                .clear_bit(spot.cursor, spot.first, spot.level, mark.number());
-        }
+        let marks = self.marks_at(cursor, level, first);
+        Some(Marked { value, marks })
     }
 
     /// Whether the entry at an index has a mark.
@@ -428,136 +301,6 @@ impl Ranged {
         ensures { result ≡ list_any (has_mark mark) (map.values (ranges_of self.now)) }
     {
         self.nodes.marked(mark.number())
-    }
-
-    // The entry whose first slot a search found.
-    #[inline]
-    fn spot_at(&self, next: Position) -> Spot
-        requires leaf { IsLeaf (radix.entry_at self.now next.level next.place) }
-        requires low { next.level ≤ 10 }
-        requires fits { next.place * 64 ^ next.level < 2 ^ 64 }
-        requires stands { StandsAt self.now next.cursor next.level (next.place / 64) }
-        ensures entry { IsLeafOf (ranges_of self.now) next.level next.place result.value }
-        ensures place { (result.first ≡ next.place * 64 ^ next.level) × (result.level ≡ next.level) }
-        ensures stands { StandsAt self.now result.cursor result.level (result.first / 64 ^ result.level / 64) }
-    {
-        let Position {
-            cursor,
-            level,
-            place,
-        } = next;
-        let first = first_at(level, place);
-        let value = leaf_value(self.nodes.entry_in(cursor, first, level));
-        Spot {
-            cursor,
-            level,
-            first,
-            value,
-        }
-    }
-
-    // The lowest entry whose range meets the indexes from `from` to `to`. Most often it is in the node of `from`, and then one
-    // walk does, in the caller's own code.
-    #[inline(always)]
-    fn next(&self, from: u64, to: u64) -> Option<Spot>
-        ensures spot { MatchOption result (lowest is_any (ranges_of self.now) from to ≡ None) (λ t. IsSpot (ranges_of self.now) (lowest is_any (ranges_of self.now) from to) t.first t.level t.value) }
-        ensures stands { IfSome result (λ t. StandsAt self.now t.cursor t.level (t.first / 64 ^ t.level / 64)) }
-    {
-        if from > to {
-            return None;
-        }
-        let Some(walk) = self.nodes.walk(from) else {
-            return self.next_far(from, to);
-        };
-        let Walk {
-            cursor,
-            level,
-            entry,
-        } = walk;
-        if let Some(spot) = self.spot_in(cursor, level, entry, from) {
-            return Some(spot);
-        }
-        if level > 0 {
-            return self.next_far(from, to);
-        }
-        self.next_in(cursor, from, to)
-    }
-
-    // The same where the node of `from` at the lowest level is known, and no entry is at `from`.
-    fn next_in(&self, cursor: Cursor, from: u64, to: u64) -> Option<Spot>
-        requires le { from ≤ to }
-        requires free { entry_at (ranges_of self.now) from ≡ None }
-        requires stands { StandsAt self.now cursor 0 (from / 64 ^ 0 / 64) }
-        ensures spot { MatchOption result (lowest is_any (ranges_of self.now) from to ≡ None) (λ t. IsSpot (ranges_of self.now) (lowest is_any (ranges_of self.now) from to) t.first t.level t.value) }
-        ensures stands { IfSome result (λ t. StandsAt self.now t.cursor t.level (t.first / 64 ^ t.level / 64)) }
-    {
-        let Some((first, value)) = self.nodes.next_entry_in(cursor, from) else {
-            return self.next_far(from, to);
-        };
-        if first > to {
-            return None;
-        }
-        Some(Spot {
-            cursor,
-            level: 0,
-            first,
-            value,
-        })
-    }
-
-    // The same by a search of the tree.
-    #[inline(never)]
-    fn next_far(&self, from: u64, to: u64) -> Option<Spot>
-        requires le { from ≤ to }
-        requires free { entry_at (ranges_of self.now) from ≡ None }
-        ensures spot { MatchOption result (lowest is_any (ranges_of self.now) from to ≡ None) (λ t. IsSpot (ranges_of self.now) (lowest is_any (ranges_of self.now) from to) t.first t.level t.value) }
-        ensures stands { IfSome result (λ t. StandsAt self.now t.cursor t.level (t.first / 64 ^ t.level / 64)) }
-    {
-        let Some(next) = self.nodes.next_entry(from) else {
-            return None;
-        };
-        let spot = self.spot_at(next);
-        if spot.first > to {
-            return None;
-        }
-        Some(spot)
-    }
-
-    /// Where a search that is to see the entry at an index begins: the nodes tell of an entry at its first slot.
-    #[inline(always)]
-    pub fn start(&self, index: u64) -> u64
-        ensures { IsStart (ranges_of self.now) index result }
-    {
-        let Some(walk) = self.nodes.walk(index) else {
-            return index;
-        };
-        let Walk {
-            cursor,
-            level,
-            entry,
-        } = walk;
-        match self.spot_in(cursor, level, entry, index) {
-            Some(spot) => spot.first,
-            None => index,
-        }
-    }
-
-    // The lowest entry with the mark whose range meets the indexes from `from` to `to`.
-    fn next_marked(&self, from: u64, to: u64, mark: Mark) -> Option<Spot>
-        ensures spot { MatchOption result (lowest (has_mark mark) (ranges_of self.now) from to ≡ None) (λ t. IsSpot (ranges_of self.now) (lowest (has_mark mark) (ranges_of self.now) from to) t.first t.level t.value) }
-        ensures stands { IfSome result (λ t. StandsAt self.now t.cursor t.level (t.first / 64 ^ t.level / 64)) }
-    {
-        if from > to {
-            return None;
-        }
-        let Some(next) = self.nodes.next_held(from, mark.number()) else {
-            return None;
-        };
-        let spot = self.spot_at(next);
-        if spot.first > to {
-            return None;
-        }
-        Some(spot)
     }
 
     // An entry as a search answers it.
@@ -581,28 +324,6 @@ impl Ranged {
         }
     }
 
-    /// The lowest entry whose range meets the indexes from `from` to `to`.
-    #[inline(always)]
-    pub fn find(&self, from: u64, to: u64) -> Option<Found>
-        ensures { result ≡ option_map found_of (lowest is_any (ranges_of self.now) from to) }
-    {
-        match self.next(from, to) {
-            Some(spot) => Some(self.found(spot)),
-            None => None,
-        }
-    }
-
-    /// The lowest entry with the mark whose range meets the indexes from `from` to `to`.
-    #[inline(always)]
-    pub fn find_marked(&self, from: u64, to: u64, mark: Mark) -> Option<Found>
-        ensures { result ≡ option_map found_of (lowest (has_mark mark) (ranges_of self.now) from to) }
-    {
-        match self.next_marked(from, to, mark) {
-            Some(spot) => Some(self.found(spot)),
-            None => None,
-        }
-    }
-
     // The order of an entry, where most often its slots need not be read: what begins beside it ends it.
     #[inline]
     fn order_beside(&self, cursor: Cursor, level: u32, first: u64) -> u32
@@ -615,30 +336,6 @@ impl Ranged {
             return 6 * level;
         }
         self.order_of(cursor, level, first)
-    }
-
-    /// Sets the mark `other` of the lowest entry with the mark whose range meets the indexes from `from` to `to`, and answers
-    /// the entry's last index.
-    pub fn tag_next(&mut self, from: u64, to: u64, mark: Mark, other: Mark) -> Option<u64>
-        requires le { from ≤ to }
-        requires outside { IsOutside (ranges_of self.old) from }
-        ensures { MatchOption result ((lowest (has_mark mark) (ranges_of self.old) from to ≡ None) × (self.new ≡ self.old)) (λ last. TagsNext (ranges_of self.old) (ranges_of self.new) from to mark other last) }
-    {
-        let Some(next) = self.nodes.next_set(from, mark.number()) else {
-            return None;
-        };
-        let Position {
-            cursor,
-            level,
-            place,
-        } = next;
-        let first = first_at(level, place);
-        if first > to {
-            return None;
-        }
-        let last = last_of(first, self.order_beside(cursor, level, first));
-        self.nodes.set_bit(cursor, first, level, other.number());
-        Some(last)
     }
 }
 

@@ -4,7 +4,7 @@ ghost use Rattle.std.specs.Prelude.{◌≡◌, ◌<◌, ◌≤◌, OnOk, true};
 ghost use Rattle.std.specs.FinMap as map;
 ghost use Rattle.xarray.specs.MarkedArray.{remarked, unmarked};
 
-use crate::{Found, MAX_VALUE, Mark, XArray};
+use crate::{Found, MAX_VALUE, Mark, Marked, Marks, XArray};
 use pc_types::Refusal;
 use std::process::Abort;
 use std::test::Fail;
@@ -325,5 +325,126 @@ fn sweep_takes_each_once(rt: HostRuntime) -> Result<(), Fail> {
     assert_eq!(rt; sweep(&mut array), 42);
     assert_eq!(rt; sweep(&mut array), 0);
     assert_eq!(rt; array.load(9000), Some(2));
+    Ok(())
+}
+
+// A walk goes over each entry that meets the range once, from the lowest on, across nodes and levels. Then it is over.
+#[test]
+fn entries_come_in_rising_order(rt: HostRuntime) -> Result<(), Fail> {
+    let mut array = XArray::new(rt.alloc());
+    three(&rt, &mut array);
+    assert_fresh(&rt, &mut array, 4097, 4);
+    assert_eq!(rt; array.insert_order(1 << 12 << 6, 12, 5), Ok(()));
+    assert_fresh(&rt, &mut array, ALL, 6);
+    let firsts = [3, 70, 4096, 4097, 1 << 12 << 6, ALL];
+    let mut seen = 0usize;
+    for found in array.entries(0, ALL) {
+        assert_eq!(rt; found.first, firsts[seen % 6]);
+        assert_eq!(rt; array.load(found.first), Some(found.value));
+        seen = seen.wrapping_add(1);
+    }
+    assert_eq!(rt; seen, 6);
+    let mut inner = array.entries(71, (1 << 12 << 6) + 9);
+    assert_eq!(rt; inner.next(), one(4096, 3));
+    assert_eq!(rt; inner.next(), one(4097, 4));
+    assert_eq!(rt;
+        inner.next(),
+        Some(Found {
+            first: 1 << 12 << 6,
+            order: 12,
+            value: 5
+        })
+    );
+    assert_eq!(rt; inner.next(), None);
+    assert_eq!(rt; inner.next(), None);
+    assert_eq!(rt; array.entries(9, 8).next(), None);
+    assert_eq!(rt;
+        array.entries((1 << 12 << 6) + 7, ALL).next(),
+        Some(Found {
+            first: 1 << 12 << 6,
+            order: 12,
+            value: 5
+        })
+    );
+    Ok(())
+}
+
+// A walk over a mark passes over the entries that lack it.
+#[test]
+fn marked_entries_come_in_rising_order(rt: HostRuntime) -> Result<(), Fail> {
+    let mut array = XArray::new(rt.alloc());
+    for index in 0..500 {
+        assert_fresh(&rt, &mut array, index, index + 1);
+    }
+    for part in 0..50 {
+        assert_marks(&rt, &mut array, part * 10 + 3, Mark::M1);
+    }
+    let mut count = 0u64;
+    for found in array.entries_marked(0, ALL, Mark::M1) {
+        assert_eq!(rt;
+            found,
+            Found {
+                first: count % 50 * 10 + 3,
+                order: 0,
+                value: count % 50 * 10 + 4
+            }
+        );
+        count = count.wrapping_add(1);
+    }
+    assert_eq!(rt; count, 50);
+    assert_eq!(rt; array.entries_marked(0, ALL, Mark::M0).next(), None);
+    assert_eq!(rt; array.entries_marked(14, 22, Mark::M1).next(), None);
+    assert_eq!(rt; array.entries_marked(14, 23, Mark::M1).next(), one(23, 24));
+    Ok(())
+}
+
+// All three marks of an entry are read, given and taken by one call.
+#[test]
+fn marks_go_together(rt: HostRuntime) -> Result<(), Fail> {
+    let mut array = XArray::new(rt.alloc());
+    three(&rt, &mut array);
+    let none = Marks {
+        m0: false,
+        m1: false,
+        m2: false,
+    };
+    let outer = Marks {
+        m0: true,
+        m1: false,
+        m2: true,
+    };
+    assert_eq!(rt; array.swap_marks(70, outer), Some(none));
+    assert_eq!(rt;
+        array.load_with_marks(70),
+        Some(Marked {
+            value: 2,
+            marks: outer
+        })
+    );
+    assert_eq!(rt;
+        array.load_with_marks(3),
+        Some(Marked {
+            value: 1,
+            marks: none
+        })
+    );
+    assert_eq!(rt; array.load_with_marks(71), None);
+    assert_eq!(rt; array.swap_mark(70, Mark::M2, false), Some(true));
+    assert_eq!(rt; array.swap_mark(70, Mark::M2, false), Some(false));
+    assert_eq!(rt; array.swap_mark(71, Mark::M2, true), None);
+    assert_eq!(rt; array.swap_marks(71, outer), None);
+    assert_eq!(rt;
+        array.take(70),
+        Some(Marked {
+            value: 2,
+            marks: Marks {
+                m0: true,
+                m1: false,
+                m2: false
+            }
+        })
+    );
+    assert_eq!(rt; array.take(70), None);
+    assert!(rt; !array.marked(Mark::M0));
     Ok(())
 }

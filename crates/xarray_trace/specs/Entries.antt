@@ -16,29 +16,10 @@ marks_of r = (if r.first_mark then 1 else 0) + (if r.second_mark then 2 else 0) 
 abbrev pub shown : ℕ × Range → Entry
 shown e = record { found = found_of e; marks = marks_of e.1 }
 
--- the entries that begin at an index or later; none where there is no index
-abbrev pub left : Ranges → Option ℕ → List (ℕ × Range)
-left m None = []
-left m (Some from) = filter (λ e. leb from e.0) (map.entries m)
-
 -- the marks of an entry, and none where there is none
 abbrev pub bits_of : Option (ℕ × Range) → ℕ
 bits_of None = 0
 bits_of (Some e) = marks_of e.1
-
--- an index, if it is one
-abbrev pub after_at : ℕ → Bool → Option ℕ
-after_at index true = Some index
-after_at index false = None
-
--- the index after an entry's range, where there is one
-abbrev pub after_of : Found → Option ℕ
-after_of f = after_at (f.first + 2 ^ f.order) (nat_lt (f.first + 2 ^ f.order) (2 ^ 64))
-
--- no entry begins below an index and ends past it
-abbrev pub IsCut : Ranges → Option ℕ → Type 0
-IsCut m None = Unit {0}
-IsCut m (Some index) = (first : ℕ) (r : Range) → map.get m first ≡ Some r → first < index → first + 2 ^ r.order ≤ index
 
 -- how many entries an array has; counting them begins again at 2^64
 abbrev pub entry_count : Ranges → ℕ

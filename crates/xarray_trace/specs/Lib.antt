@@ -6,5 +6,4 @@ pub mod Keywords
 pub mod Lines
 pub mod Operations
 pub mod Runs
-pub mod Walks
 pub mod Watches

@@ -8,7 +8,7 @@ ghost use Rattle.xarray_trace.specs.Runs.{RunsCall, RunsLine};
 
 use crate::answer::{print_answer, print_entry};
 use crate::array_call::{ArrayCall, make};
-use crate::entries::{entry_from, index_after};
+use crate::entries::marked_entry;
 use crate::id_call::give;
 use crate::operation::Operation;
 use crate::word_call::{Watched, watch};
@@ -115,17 +115,14 @@ fn run_array_call<W: Write>(
 }
 
 /// Prints each entry on a line.
-#[tactic(auto, using(crate::proofs::SumLemmas::printed_none, crate::proofs::SumLemmas::printed_more, crate::proofs::SumLemmas::printed_end, crate::proofs::SumLemmas::shorter))]
+#[tactic(auto, using(crate::proofs::SumLemmas::printed_none, crate::proofs::SumLemmas::printed_more, crate::proofs::SumLemmas::printed_end))]
 fn print_entries<W: Write>(array: &XArray, out: &mut W) -> Result<(), Stop>
     ensures { OnOk result (Appends (W.contents out.old) (W.contents out.new) (lines_text (map.entries array.now.ranges))) }
 {
-    let mut from = Some(0);
-    'entries: while let Some(start) = from {
-        let Some(entry) = entry_from(array, start) else {
-            return Ok(());
-        };
-        print_entry(out, entry)?;
-        from = index_after(entry.found);
+    // As in `count_and_hash`.
+    let _nodes = array.nodes();
+    for found in array.entries(0, u64::MAX) {
+        print_entry(out, marked_entry(array, found))?;
     }
     Ok(())
 }

@@ -2,11 +2,14 @@
 
 ghost use Rattle.std.specs.Prelude.{◌≡◌, length};
 ghost use Rattle.std.specs.FinMap as map;
-ghost use Rattle.cachecore.specs.Step as machine;
+ghost use Rattle.machine.specs.declared.event.Event.TheVariants as event;
+ghost use Rattle.machine.specs.Step.{Step as MachineStep};
 ghost use Rattle.cachecore.specs.Replies.{EndGivesBack, end_of};
 ghost use Rattle.world.specs.Ends.{ended};
+ghost use Rattle.runs.specs.Durable.{LastingStep, Flushed};
+ghost use Rattle.runs.specs.World.{World as TheWorld};
+ghost use Rattle.world.specs.Flushing.{IsDurably, IsFlushed, fault_of, lasting};
 ghost use Rattle.world.specs.Stepping.{CallReply, FailReply, Steps, done};
-ghost use Rattle.world.specs.World.{end_event};
 
 use super::World;
 use crate::jobs::Flight;
@@ -63,6 +66,17 @@ impl<D: BlockDevice> World<D> {
     }
 }
 
+impl<D: BlockDevice> World<D> {
+    /// Flushes the device. Where that ends well all that it was told to write is durable: until then the device may have it in
+    /// a cache of its own. It is no event, and the device call of no request.
+    pub fn flush(&mut self) -> Result<(), ErrCode>
+        ensures flushed { IsFlushed self.old result self.new }
+        ensures turn { (was : TheWorld) → IsDurably self.old was → (is : TheWorld) × IsDurably self.new is × LastingStep (lasting self.old was) (Flushed (fault_of result)) (lasting self.new is) }
+    {
+        self.device.flush()
+    }
+}
+
 impl World<ScriptDevice> {
     /// Makes the device call of the request, which fails with the code. A flush leaves the old or the new bytes on its block,
     /// by `effect`. Refused by `Stranger` where a call would be, and then no fault is planned.
@@ -85,7 +99,7 @@ impl World<ScriptDevice> {
 /// Ends a request of this kind by its finished job.
 fn hand_in(core: &mut CacheCore, kind: Kind, finished: Finished) -> Result<Ended, RefusedEnd>
     requires size { length finished.bytes ≡ core.old.state.sizes.page }
-    ensures step { machine.Step core.old.state (end_event kind (end_of finished)) (ended kind result) core.new.state }
+    ensures step { MachineStep core.old.state (event.End kind (end_of finished)) (ended kind result) core.new.state }
     ensures back { EndGivesBack finished result }
 {
     match kind {

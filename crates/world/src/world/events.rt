@@ -2,9 +2,9 @@
 
 ghost use Rattle.std.specs.Prelude.{◌≡◌, ◌≢◌, ◌≤◌, length, drop, Err};
 ghost use Rattle.pc_types.specs.declared.refusal.Refusal.TheVariants.{Memory};
-ghost use Rattle.cachecore.specs.declared.event.Reply.TheVariants as reply;
+ghost use Rattle.machine.specs.declared.event.Reply.TheVariants as reply;
 ghost use Rattle.cachecore.specs.Replies.{bytes_read, closed, created, evicted, opened, sized, sync_begun, sync_dropped, was_read, was_truncated, wrote};
-ghost use Rattle.world.specs.Stepping.{IsMade};
+ghost use Rattle.world.specs.Stepping.{HasAllPages, IsMade};
 
 use super::World;
 use crate::step::Step;
@@ -96,11 +96,25 @@ impl<D: BlockDevice> World<D> {
         self.core.age()
     }
 
-    /// Begins a sync of the handle's file.
+    /// Begins a sync of the handle's whole file.
     pub fn sync_begin(&mut self, handle: HandleId) -> Result<SyncId, Refusal>
-        ensures { IsMade self.old (Step.SyncBegin handle) (sync_begun result) self.new }
+        ensures made { IsMade self.old (Step.SyncBegin handle) (sync_begun result) self.new }
+        ensures whole { HasAllPages self.old.core.sizes.page }
     {
         self.core.sync_begin(handle)
+    }
+
+    /// Begins a sync of the pages from `first` to `last` of the handle's file. Refused by `BadRange` where `first` is past
+    /// `last`.
+    pub fn sync_begin_range(
+        &mut self,
+        handle: HandleId,
+        first: PageIndex,
+        last: PageIndex,
+    ) -> Result<SyncId, Refusal>
+        ensures { IsMade self.old (Step.SyncBeginRange handle first last) (sync_begun result) self.new }
+    {
+        self.core.sync_begin_range(handle, first, last)
     }
 
     /// Gives a sync up. The pages that it tagged stay so.

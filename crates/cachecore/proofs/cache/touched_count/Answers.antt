@@ -1,5 +1,5 @@
 use Rattle.std.proofs.Common.{sym}
-use Rattle.cachecore.proofs.Spans.{touched_count_is}
+use Rattle.pagestore.proofs.Spans.{touched_count_is}
 use Rattle.cachecore.proofs.cache.touched_count.Goals as goal
 
 pub returns : goal.returns

@@ -5,70 +5,135 @@ use Rattle.std.specs.FinMap as map
 use Rattle.blockmap.specs.Blocks.{Blocks, free_blocks}
 use Rattle.blockmap.specs.Told.{told}
 use Rattle.cachecore.specs.Placing.{with_placed}
-use Rattle.cachecore.proofs.PairLemmas.{on_ok}
-use Rattle.cachecore.proofs.StepLemmas.{when_err, when_ok}
-use Rattle.cachecore.proofs.StoreLaws.{some_mapped}
-use Rattle.cachecore.proofs.RangeLemmas.{ne_less, none_of, on_err_of, ok_map}
-use Rattle.cachecore.proofs.PlaceLemmas.{IsGiven, is_given, count_past, placed_past, placed_none, room_given, placed_given, given_unwritten, given_unheld, undone}
+use Rattle.pagestore.proofs.PairLemmas.{on_ok, when_err, when_ok}
+use Rattle.pagestore.proofs.StoreLaws.{some_mapped}
+use Rattle.pagestore.proofs.RangeLemmas.{ne_less, none_of, on_err_of, ok_map}
+use Rattle.cachecore.proofs.PlaceLemmas.{IsGiven, is_given, count_past, placed_past, placed_none, room_given}
+use Rattle.cachecore.proofs.PlaceLemmas.{placed_given, given_unwritten, given_unheld, undone}
 use Rattle.cachecore.proofs.placing.+place.Goals as goal
 
 pub returns-then-next-end-clause-placed : goal.returns-then-next-end-clause-placed
-returns-then-next-end-clause-placed t c = on_ok c.cover.result _ (λ _. sym (ap (λ n. with_placed c.args.blocks.now c.args.file (range_with_len c.args.next (n - c.args.next))) (sym c.if-next-end.true) ∙ placed_none c.args.blocks.now c.args.file c.args.next))
+returns-then-next-end-clause-placed t c =
+    on_ok c.cover.result _ (λ _. sym
+    (ap (λ n. with_placed c.args.blocks.now c.args.file (range_with_len c.args.next (n - c.args.next)))
+    (sym c.if-next-end.true) ∙ placed_none c.args.blocks.now c.args.file c.args.next))
 
 pub place-requires : goal.place-requires
 place-requires t c =
     let b = c.args.blocks.now in
     let less = ne_less c.args.next c.args.end c.requires.order c.if-next-end.false in
-    let has = c.if-is_some.ensures ∙ ap is_some c.map.ensures ∙ some_mapped told (map.get b.spots (c.args.file, c.args.next)) in
-    let room = subst (λ n. n ≤ length (free_blocks b)) (count_past b c.args.file c.args.next c.args.end less (ap not (sym has))) c.requires.room in
-    (omega (arith, less), (c.requires.file, (c.requires.here, (omega (arith, c.requires.begun), (omega (arith, less), (c.requires.below, (c.requires.idle, (c.requires.frames, room))))))))
+    let has = c.if-is_some.ensures ∙ ap is_some c.map.ensures
+    ∙ some_mapped told (map.get b.spots (c.args.file, c.args.next)) in
+    let room =
+    subst (λ n. n ≤ length (free_blocks b))
+    (count_past b c.args.file c.args.next c.args.end less (ap not (sym has))) c.requires.room in (
+      omega (arith, less),
+      (
+        c.requires.file,
+        (
+          c.requires.here,
+          (
+            omega (arith, c.requires.begun),
+            (omega (arith, less), (c.requires.below, (c.requires.idle, (c.requires.frames, room)))),
+          ),
+        ),
+      ),
+    )
 
 pub returns-then-is_some-clause-placed : goal.returns-then-is_some-clause-placed
 returns-then-is_some-clause-placed t c =
     let b = c.args.blocks.now in
     let less = ne_less c.args.next c.args.end c.requires.order c.if-next-end.false in
-    let has = c.if-is_some.ensures ∙ ap is_some c.map.ensures ∙ some_mapped told (map.get b.spots (c.args.file, c.args.next)) in
-    ok_map c.place.result _ _ c.place.ensures.placed (λ e. e ∙ placed_past b c.args.file c.args.next c.args.end less (ap not (sym has)))
+    let has = c.if-is_some.ensures ∙ ap is_some c.map.ensures
+    ∙ some_mapped told (map.get b.spots (c.args.file, c.args.next)) in
+    ok_map c.place.result _ _ c.place.ensures.placed
+    (λ e. e ∙ placed_past b c.args.file c.args.next c.args.end less (ap not (sym has)))
 
 pub place-rest-requires : goal.place-rest-requires
 place-rest-requires t c =
     let b = c.args.blocks.now in
     let less = ne_less c.args.next c.args.end c.requires.order c.if-next-end.false in
-    let none = none_of (map.get b.spots (c.args.file, c.args.next)) (c.if-is_some.ensures ∙ ap is_some c.map.ensures ∙ some_mapped told (map.get b.spots (c.args.file, c.args.next))) in
-    let given : IsGiven b c.args.file c.args.next c.assign.new.self = is_given b c.assign.new.self c.args.file c.args.next c.assign.result none c.if-is_err.ensures.value c.assign.ensures.lowest c.assign.ensures.given in
-    (omega (arith, less), (c.requires.file, (c.requires.here, (omega (arith, c.requires.begun), (omega (arith, less), (c.requires.below, (c.requires.idle, (c.requires.frames, room_given b c.assign.new.self c.args.file c.args.next c.args.end less given c.requires.room))))))))
+    let none = none_of (map.get b.spots (c.args.file, c.args.next)) (c.if-is_some.ensures ∙ ap is_some c.map.ensures
+    ∙ some_mapped told (map.get b.spots (c.args.file, c.args.next))) in
+    let given : IsGiven b c.args.file c.args.next c.assign.new.self =
+    is_given b c.assign.new.self c.args.file c.args.next c.assign.result none c.if-is_err.ensures.value
+    c.assign.ensures.lowest c.assign.ensures.given in (
+      omega (arith, less),
+      (
+        c.requires.file,
+        (
+          c.requires.here,
+          (
+            omega (arith, c.requires.begun),
+            (
+              omega (arith, less),
+              (
+                c.requires.below,
+                (
+                  c.requires.idle,
+                  (
+                    c.requires.frames,
+                    room_given b c.assign.new.self c.args.file c.args.next c.args.end less
+                        given c.requires.room,
+                  ),
+                ),
+              ),
+            ),
+          ),
+        ),
+      ),
+    )
 
 pub unassign-requires-clause-unwritten : goal.unassign-requires-clause-unwritten
 unassign-requires-clause-unwritten t c =
     let b = c.args.blocks.now in
     let less = ne_less c.args.next c.args.end c.requires.order c.if-next-end.false in
-    let none = none_of (map.get b.spots (c.args.file, c.args.next)) (c.if-is_some.ensures ∙ ap is_some c.map.ensures ∙ some_mapped told (map.get b.spots (c.args.file, c.args.next))) in
-    let given : IsGiven b c.args.file c.args.next c.assign.new.self = is_given b c.assign.new.self c.args.file c.args.next c.assign.result none c.if-is_err.ensures.value c.assign.ensures.lowest c.assign.ensures.given in
+    let none = none_of (map.get b.spots (c.args.file, c.args.next)) (c.if-is_some.ensures ∙ ap is_some c.map.ensures
+    ∙ some_mapped told (map.get b.spots (c.args.file, c.args.next))) in
+    let given : IsGiven b c.args.file c.args.next c.assign.new.self =
+    is_given b c.assign.new.self c.args.file c.args.next c.assign.result none c.if-is_err.ensures.value
+    c.assign.ensures.lowest c.assign.ensures.given in
     let same = when_err c.place-rest.result _ c.if-is_err-2.ensures.value c.place-rest.ensures.not_placed in
-    subst (λ (n : Blocks). IfSome (map.get n.spots (c.args.file, c.args.next)) (λ spot. spot.written ≡ false)) (sym same) (given_unwritten b c.assign.new.self c.args.file c.args.next c.args.end less given)
+    subst (λ (n : Blocks). IfSome (map.get n.spots (c.args.file, c.args.next)) (λ spot. spot.written ≡ false))
+    (sym same) (given_unwritten b c.assign.new.self c.args.file c.args.next c.args.end less given)
 
 pub unassign-requires-clause-not_held : goal.unassign-requires-clause-not_held
 unassign-requires-clause-not_held t c =
     let b = c.args.blocks.now in
     let less = ne_less c.args.next c.args.end c.requires.order c.if-next-end.false in
-    let none = none_of (map.get b.spots (c.args.file, c.args.next)) (c.if-is_some.ensures ∙ ap is_some c.map.ensures ∙ some_mapped told (map.get b.spots (c.args.file, c.args.next))) in
-    let given : IsGiven b c.args.file c.args.next c.assign.new.self = is_given b c.assign.new.self c.args.file c.args.next c.assign.result none c.if-is_err.ensures.value c.assign.ensures.lowest c.assign.ensures.given in
+    let none = none_of (map.get b.spots (c.args.file, c.args.next)) (c.if-is_some.ensures ∙ ap is_some c.map.ensures
+    ∙ some_mapped told (map.get b.spots (c.args.file, c.args.next))) in
+    let given : IsGiven b c.args.file c.args.next c.assign.new.self =
+    is_given b c.assign.new.self c.args.file c.args.next c.assign.result none c.if-is_err.ensures.value
+    c.assign.ensures.lowest c.assign.ensures.given in
     let same = when_err c.place-rest.result _ c.if-is_err-2.ensures.value c.place-rest.ensures.not_placed in
-    subst (λ (n : Blocks). IfSome (map.get n.spots (c.args.file, c.args.next)) (λ spot. map.get n.held spot.block ≡ None)) (sym same) (given_unheld b c.assign.new.self c.args.file c.args.next c.args.end less given)
+    subst (λ (n : Blocks). IfSome (map.get n.spots (c.args.file, c.args.next))
+    (λ spot. map.get n.held spot.block ≡ None)) (sym same)
+    (given_unheld b c.assign.new.self c.args.file c.args.next c.args.end less given)
 
 pub returns-then-is_err-2-clause-not_placed : goal.returns-then-is_err-2-clause-not_placed
 returns-then-is_err-2-clause-not_placed t c =
     let b = c.args.blocks.now in
     let less = ne_less c.args.next c.args.end c.requires.order c.if-next-end.false in
-    let none = none_of (map.get b.spots (c.args.file, c.args.next)) (c.if-is_some.ensures ∙ ap is_some c.map.ensures ∙ some_mapped told (map.get b.spots (c.args.file, c.args.next))) in
-    let given : IsGiven b c.args.file c.args.next c.assign.new.self = is_given b c.assign.new.self c.args.file c.args.next c.assign.result none c.if-is_err.ensures.value c.assign.ensures.lowest c.assign.ensures.given in
+    let none = none_of (map.get b.spots (c.args.file, c.args.next)) (c.if-is_some.ensures ∙ ap is_some c.map.ensures
+    ∙ some_mapped told (map.get b.spots (c.args.file, c.args.next))) in
+    let given : IsGiven b c.args.file c.args.next c.assign.new.self =
+    is_given b c.assign.new.self c.args.file c.args.next c.assign.result none c.if-is_err.ensures.value
+    c.assign.ensures.lowest c.assign.ensures.given in
     let same = when_err c.place-rest.result _ c.if-is_err-2.ensures.value c.place-rest.ensures.not_placed in
-    on_err_of c.place-rest.result _ (undone b c.place-rest.new.blocks c.args.file c.args.next c.args.end less (subst (IsGiven b c.args.file c.args.next) (sym same) given) c.unassign.result c.unassign.new.self c.unassign.ensures.freed c.unassign.ensures.none.0 c.unassign.ensures.only)
+    on_err_of c.place-rest.result _
+    (undone b c.place-rest.new.blocks c.args.file c.args.next c.args.end less
+    (subst (IsGiven b c.args.file c.args.next) (sym same) given) c.unassign.result c.unassign.new.self
+    c.unassign.ensures.freed c.unassign.ensures.none.0 c.unassign.ensures.only)
 
 pub returns-else-is_err-2-clause-placed : goal.returns-else-is_err-2-clause-placed
 returns-else-is_err-2-clause-placed t c =
     let b = c.args.blocks.now in
     let less = ne_less c.args.next c.args.end c.requires.order c.if-next-end.false in
-    let none = none_of (map.get b.spots (c.args.file, c.args.next)) (c.if-is_some.ensures ∙ ap is_some c.map.ensures ∙ some_mapped told (map.get b.spots (c.args.file, c.args.next))) in
-    let given : IsGiven b c.args.file c.args.next c.assign.new.self = is_given b c.assign.new.self c.args.file c.args.next c.assign.result none c.if-is_err.ensures.value c.assign.ensures.lowest c.assign.ensures.given in
-    on_ok c.place-rest.result _ (λ _. placed_given b c.assign.new.self c.args.file c.args.next c.args.end less given c.place-rest.new.blocks (when_ok c.place-rest.result _ c.if-is_err-2.ensures.value c.place-rest.ensures.placed))
+    let none = none_of (map.get b.spots (c.args.file, c.args.next)) (c.if-is_some.ensures ∙ ap is_some c.map.ensures
+    ∙ some_mapped told (map.get b.spots (c.args.file, c.args.next))) in
+    let given : IsGiven b c.args.file c.args.next c.assign.new.self =
+    is_given b c.assign.new.self c.args.file c.args.next c.assign.result none c.if-is_err.ensures.value
+    c.assign.ensures.lowest c.assign.ensures.given in
+    on_ok c.place-rest.result _ (λ _. placed_given b c.assign.new.self c.args.file c.args.next c.args.end less given
+    c.place-rest.new.blocks (when_ok c.place-rest.result _ c.if-is_err-2.ensures.value c.place-rest.ensures.placed))

@@ -3,13 +3,21 @@ use Rattle.std.specs.Prelude.{Result, Ok, Err, OnOk}
 use Rattle.pc_types.specs.declared.refusal.Refusal.{Refusal}
 use Rattle.filesvc.specs.Seen.{HandleSeen}
 use Rattle.filesvc.specs.Service.{IsOnDevice, is_reported}
-use Rattle.filesvc.proofs.Callers.{written_is}
+use Rattle.filesvc.proofs.Callers.{open_on, open_synced, written_is}
 use Rattle.filesvc.proofs.Laws.{serves_trans}
 use Rattle.filesvc.proofs.tests.save.Goals as goal
 
 if_ok : {P : Type 0} (r : Result Unit Refusal) → P → OnOk r P
 if_ok (Ok x) p = p
 if_ok (Err x) p = tt
+
+pub returns-in-Err-Io-clause-open : goal.returns-in-Err-Io-clause-open
+returns-in-Err-Io-clause-open g c = λ was.
+    let written = open_on c.args.files.now c.pwrite.new.self c.args.handle.now c.pwrite.ensures.keeps was in
+    let failed = open_synced c.fsync.new.self c.args.handle.now c.fsync.new.handle c.fsync.result c.fsync.ensures.told c.fsync.ensures.kept
+    (open_on c.pwrite.new.self c.fsync.new.self c.args.handle.now c.fsync.ensures.serves.keeps written) in
+    open_synced c.fsync-in-Err-Io.new.self c.fsync.new.handle c.fsync-in-Err-Io.new.handle c.fsync-in-Err-Io.result c.fsync-in-Err-Io.ensures.told c.fsync-in-Err-Io.ensures.kept
+    (open_on c.fsync.new.self c.fsync-in-Err-Io.new.self c.fsync.new.handle c.fsync-in-Err-Io.ensures.serves.keeps failed)
 
 pub returns-in-Err-Io-clause-saved : goal.returns-in-Err-Io-clause-saved
 returns-in-Err-Io-clause-saved g c = λ names tells. if_ok c.fsync-in-Err-Io.result

@@ -22,7 +22,7 @@ returns-in-Fail g c =
 pub returns-in-Fsync : goal.returns-in-Fsync
 returns-in-Fsync g c =
     rw c.in-Fsync.is
-    (answer_given (Some c.args.session.now) c.args.number (Fsync c.in-Fsync.handle) c.sync_file.result c.sync_file.new.session (g.W.Write.contents c.args.out.now) (g.W.Write.contents c.sync_file.new.out) c.sync_file.ensures.synced c.sync_file.ensures.fault)
+    (answer_given (Some c.args.session.now) c.args.number (Fsync c.in-Fsync.handle c.in-Fsync.range) c.sync_file.result c.sync_file.new.session (g.W.Write.contents c.args.out.now) (g.W.Write.contents c.sync_file.new.out) c.sync_file.ensures.synced c.sync_file.ensures.fault)
 
 pub returns-in-Poll : goal.returns-in-Poll
 returns-in-Poll g c =

@@ -9,5 +9,7 @@ use Rattle.trail.proofs.sparse.forget_chunks.Goals as goal
 
 pub returns : goal.returns
 returns c = λ q.
-    ap (lookup (is_at (nat_cmp q))) (filter_same_pairs _ (λ e. leb e.0 c.args.last) _ (λ k v b w g t. search rules) _ _ c.retain.ensures.filtered)
-    ∙ lookup-filter-keys (is_at (nat_cmp q)) (λ k. leb k c.args.last) (leb q c.args.last) (λ k t. kept_key c.args.last q k t) c.args.chunks.now.entries
+    ap (lookup (is_at (nat_cmp q)))
+    (filter_same_pairs _ (λ e. leb e.0 c.args.last) _ (λ k v b w g t. search rules) _ _ c.retain.ensures.filtered)
+    ∙ lookup-filter-keys (is_at (nat_cmp q)) (λ k. leb k c.args.last) (leb q c.args.last)
+    (λ k t. kept_key c.args.last q k t) c.args.chunks.now.entries

@@ -7,4 +7,5 @@ use Rattle.writeback.proofs.picks.end_write.Goals as goal
 pub returns-then-failed : goal.returns-then-failed
 returns-then-failed c =
     ended_tags c.args.mapping.now c.untag.new.self c.tag.new.self c.args.page.0 c.untag.ensures c.tag.ensures.tagged
-    ∙ ap (λ b. record c.args.mapping.now { pages = change_at c.args.page.0 (after_write b) c.args.mapping.now.pages }) (sym c.if-failed.true)
+    ∙ ap (λ b. record c.args.mapping.now { pages = change_at c.args.page.0 (after_write b) c.args.mapping.now.pages })
+    (sym c.if-failed.true)

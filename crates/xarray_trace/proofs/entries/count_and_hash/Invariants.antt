@@ -1,10 +1,8 @@
-use Rattle.std.proofs.Common.{length}
-use Rattle.xarray_trace.specs.Entries.{left}
 use Rattle.xarray_trace.proofs.SumLemmas.{Sums}
 use Rattle.xarray_trace.proofs.entries.count_and_hash.Given as goal
 
-abbrev pub invariant-entries : goal.invariant-entries
-invariant-entries l = Sums l.array.ranges l.from l.count l.hash
-
-abbrev pub decreases-entries : goal.decreases-entries
-decreases-entries l = length (left l.array.ranges l.from)
+abbrev pub invariant-loop-found : goal.invariant-loop-found
+invariant-loop-found l =
+    (goal.iterator-loop-found).can_next l.found-iterator ×
+    (goal.iterator-loop-found).is_finite l.found-iterator ×
+    Sums l.array.ranges l.found-iterator l.count l.hash

@@ -1,10 +1,8 @@
-use Rattle.std.proofs.Common.{length}
-use Rattle.xarray_trace.specs.Entries.{left}
 use Rattle.xarray_trace.proofs.SumLemmas.{Printed}
 use Rattle.xarray_trace.proofs.run.print_entries.Given as goal
 
-abbrev pub invariant-entries : goal.invariant-entries
-invariant-entries g l = Printed l.array.ranges l.from (g.W.Write.contents l.initial.out) (g.W.Write.contents l.out)
-
-abbrev pub decreases-entries : goal.decreases-entries
-decreases-entries g l = length (left l.array.ranges l.from)
+abbrev pub invariant-loop-found : goal.invariant-loop-found
+invariant-loop-found g l =
+    (goal.iterator-loop-found g).can_next l.found-iterator ×
+    (goal.iterator-loop-found g).is_finite l.found-iterator ×
+    Printed l.array.ranges l.found-iterator (g.W.Write.contents l.initial.out) (g.W.Write.contents l.out)

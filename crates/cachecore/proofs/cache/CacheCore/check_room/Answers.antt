@@ -5,26 +5,39 @@ use Rattle.std.specs.FinMap as map
 use Rattle.std.proofs.lemmas.List.FromFn.{length-range_with_len}
 use Rattle.std.proofs.lemmas.List.Sums.{count_by-le-length}
 use Rattle.pc_types.specs.declared.limits.TheConstants.{MAX_TOUCHED}
-use Rattle.cachecore.specs.State.{File, no_file, tagged, touched_count, dirty_total}
-use Rattle.cachecore.specs.Tests.{room_tests}
+use Rattle.machine.specs.State.{File, no_file, tags_of, touched_count, dirty_total}
+use Rattle.machine.specs.Tests.{room_tests}
 use Rattle.cachecore.specs.Placing.{is_bare}
 use Rattle.blockmap.specs.Blocks.{free_blocks}
-use Rattle.cachecore.proofs.CoreLemmas.{room_is, is_less, is_not_less, first_chosen, second_chosen, third_chosen, none_chosen}
-use Rattle.cachecore.proofs.Spans.{last_below}
+use Rattle.machine.proofs.steps.Choices.{at_true, at_false}
+use Rattle.cachecore.proofs.CoreLemmas.{room_is, is_less, is_not_less}
+use Rattle.pagestore.proofs.Spans.{last_below}
 use Rattle.cachecore.proofs.CoreViews.{state_is}
 use Rattle.cachecore.proofs.cache.CacheCore.check_room.Goals as goal
 
 pub passes_dirty_limit-requires : goal.passes_dirty_limit-requires
 passes_dirty_limit-requires c =
     let P = c.page-page_size.result in
-    let few : touched_count P c.args.offset c.args.count ≤ MAX_TOUCHED = subst (λ n. touched_count n c.args.offset c.args.count ≤ MAX_TOUCHED) (sym (c.page-page_size.ensures.value ∙ ap (λ s. s.sizes.page) (state_is c.self.view_is))) c.requires.few in
-    omega (arith, few, c.clean_pages.ensures, length-range_with_len (c.args.offset / P) (touched_count P c.args.offset c.args.count), count_by-le-length (λ p. not (tagged (λ t. t.dirty) (map.get (slice_index_or c.self.inside.pages.files c.args.file no_file).pages p))) (range_with_len (c.args.offset / P) (touched_count P c.args.offset c.args.count)))
+    let few : touched_count P c.args.offset c.args.count ≤ MAX_TOUCHED =
+    subst (λ n. touched_count n c.args.offset c.args.count ≤ MAX_TOUCHED)
+    (sym (c.page-page_size.ensures.value ∙ ap (λ s. s.sizes.page) (state_is c.self.view_is))) c.requires.few in
+    omega (
+      arith,
+      few,
+      c.clean_pages.ensures,
+      length-range_with_len (c.args.offset / P) (touched_count P c.args.offset c.args.count),
+      count_by-le-length (λ p. not ((tags_of
+          (map.get (slice_index_or c.self.inside.pages.files c.args.file no_file).pages p)).dirty))
+          (range_with_len (c.args.offset / P) (touched_count P c.args.offset c.args.count)),
+    )
 
 pub count_without_block-requires-clause-file : goal.count_without_block-requires-clause-file
-count_without_block-requires-clause-file c = omega (arith, c.requires.here, ap (λ s. length s.files) (state_is c.self.view_is), c.self.invariant.core.few_files)
+count_without_block-requires-clause-file c =
+    omega (arith, c.requires.here, ap (λ s. length s.files) (state_is c.self.view_is), c.self.invariant.core.few_files)
 
 pub count_without_block-requires-clause-below : goal.count_without_block-requires-clause-below
-count_without_block-requires-clause-below c = last_below c.page-page_size.result (c.args.offset + c.args.count - 1) c.page-page_size.ensures.least (omega (arith, c.requires.bound, c.requires.some))
+count_without_block-requires-clause-below c = last_below c.page-page_size.result (c.args.offset + c.args.count - 1)
+    c.page-page_size.ensures.least (omega (arith, c.requires.bound, c.requires.some))
 
 pub returns-then-passes_dirty_limit : goal.returns-then-passes_dirty_limit
 returns-then-passes_dirty_limit c =
@@ -35,10 +48,15 @@ returns-then-passes_dirty_limit c =
     let pages = range_with_len (c.args.offset / P) (touched_count P c.args.offset c.args.count) in
     let back = sym (state_is c.self.view_is) in
     sym (ap (λ s. room_tests s c.args.file c.args.offset c.args.count) back
-    ∙ room_is _ c.self.inside.pages c.self.inside.blocks c.self.invariant.core refl c.args.file c.args.offset c.args.count P entry c.passes_dirty_limit.result (count_by (λ p. not (is_some (map.get (slice_index_or c.self.inside.pages.files c.args.file no_file).pages p))) pages) (count_by (is_bare c.self.inside.blocks c.args.file) pages) (length (free_blocks c.self.inside.blocks)) c.page-page_size.ensures.value refl
-    (c.passes_dirty_limit.ensures ∙ (λ i. nat_lt 0 (c.clean_pages.ensures i) && nat_lt (back i).sizes.dirty_limit (dirty_total (back i) + c.clean_pages.ensures i)))
+    ∙ room_is _ c.self.inside.pages c.self.inside.blocks c.self.invariant.core refl c.args.file c.args.offset
+    c.args.count P entry c.passes_dirty_limit.result
+    (count_by (λ p. not (is_some (map.get (slice_index_or c.self.inside.pages.files c.args.file no_file).pages p)))
+    pages) (count_by (is_bare c.self.inside.blocks c.args.file) pages) (length (free_blocks c.self.inside.blocks))
+    c.page-page_size.ensures.value refl
+    (c.passes_dirty_limit.ensures ∙ (λ i. nat_lt 0 (c.clean_pages.ensures i) && nat_lt (back i).sizes.dirty_limit
+    (dirty_total (back i) + c.clean_pages.ensures i)))
     refl refl refl
-    ∙ first_chosen _ _ _ c.if-passes_dirty_limit.true)
+    ∙ at_true _ _ _ c.if-passes_dirty_limit.true)
 
 pub returns-then-free_frames-absent_pages : goal.returns-then-free_frames-absent_pages
 returns-then-free_frames-absent_pages c =
@@ -49,10 +67,16 @@ returns-then-free_frames-absent_pages c =
     let pages = range_with_len (c.args.offset / P) (touched_count P c.args.offset c.args.count) in
     let back = sym (state_is c.self.view_is) in
     sym (ap (λ s. room_tests s c.args.file c.args.offset c.args.count) back
-    ∙ room_is _ c.self.inside.pages c.self.inside.blocks c.self.invariant.core refl c.args.file c.args.offset c.args.count P entry c.passes_dirty_limit.result c.absent_pages.result (count_by (is_bare c.self.inside.blocks c.args.file) pages) (length (free_blocks c.self.inside.blocks)) c.page-page_size.ensures.value refl
-    (c.passes_dirty_limit.ensures ∙ (λ i. nat_lt 0 (c.clean_pages.ensures i) && nat_lt (back i).sizes.dirty_limit (dirty_total (back i) + c.clean_pages.ensures i)))
+    ∙ room_is _ c.self.inside.pages c.self.inside.blocks c.self.invariant.core refl c.args.file c.args.offset
+    c.args.count P entry c.passes_dirty_limit.result c.absent_pages.result
+    (count_by (is_bare c.self.inside.blocks c.args.file) pages) (length (free_blocks c.self.inside.blocks))
+    c.page-page_size.ensures.value refl
+    (c.passes_dirty_limit.ensures ∙ (λ i. nat_lt 0 (c.clean_pages.ensures i) && nat_lt (back i).sizes.dirty_limit
+    (dirty_total (back i) + c.clean_pages.ensures i)))
     c.absent_pages.ensures refl refl
-    ∙ second_chosen _ _ _ _ _ c.if-passes_dirty_limit.false (is_less c.self.inside.pages.free c.absent_pages.result (omega (arith, c.free_frames.ensures, c.if-free_frames-absent_pages.true))))
+    ∙ at_false _ _ _ c.if-passes_dirty_limit.false
+    ∙ at_true _ _ _ (is_less c.self.inside.pages.free c.absent_pages.result
+    (omega (arith, c.free_frames.ensures, c.if-free_frames-absent_pages.true))))
 
 pub returns-then-free_count-count_without_block : goal.returns-then-free_count-count_without_block
 returns-then-free_count-count_without_block c =
@@ -63,10 +87,16 @@ returns-then-free_count-count_without_block c =
     let pages = range_with_len (c.args.offset / P) (touched_count P c.args.offset c.args.count) in
     let back = sym (state_is c.self.view_is) in
     sym (ap (λ s. room_tests s c.args.file c.args.offset c.args.count) back
-    ∙ room_is _ c.self.inside.pages c.self.inside.blocks c.self.invariant.core refl c.args.file c.args.offset c.args.count P entry c.passes_dirty_limit.result c.absent_pages.result c.count_without_block.result c.free_count.result c.page-page_size.ensures.value refl
-    (c.passes_dirty_limit.ensures ∙ (λ i. nat_lt 0 (c.clean_pages.ensures i) && nat_lt (back i).sizes.dirty_limit (dirty_total (back i) + c.clean_pages.ensures i)))
+    ∙ room_is _ c.self.inside.pages c.self.inside.blocks c.self.invariant.core refl c.args.file c.args.offset
+    c.args.count P entry c.passes_dirty_limit.result c.absent_pages.result c.count_without_block.result
+    c.free_count.result c.page-page_size.ensures.value refl
+    (c.passes_dirty_limit.ensures ∙ (λ i. nat_lt 0 (c.clean_pages.ensures i) && nat_lt (back i).sizes.dirty_limit
+    (dirty_total (back i) + c.clean_pages.ensures i)))
     c.absent_pages.ensures c.free_count.ensures.count c.count_without_block.ensures
-    ∙ third_chosen _ _ _ _ _ _ _ c.if-passes_dirty_limit.false (is_not_less c.self.inside.pages.free c.absent_pages.result (omega (arith, c.free_frames.ensures, c.if-free_frames-absent_pages.false))) (is_less _ _ c.if-free_count-count_without_block.true))
+    ∙ at_false _ _ _ c.if-passes_dirty_limit.false
+    ∙ at_false _ _ _ (is_not_less c.self.inside.pages.free c.absent_pages.result
+    (omega (arith, c.free_frames.ensures, c.if-free_frames-absent_pages.false)))
+    ∙ at_true _ _ _ (is_less _ _ c.if-free_count-count_without_block.true))
 
 pub returns : goal.returns
 returns c =
@@ -77,7 +107,13 @@ returns c =
     let pages = range_with_len (c.args.offset / P) (touched_count P c.args.offset c.args.count) in
     let back = sym (state_is c.self.view_is) in
     sym (ap (λ s. room_tests s c.args.file c.args.offset c.args.count) back
-    ∙ room_is _ c.self.inside.pages c.self.inside.blocks c.self.invariant.core refl c.args.file c.args.offset c.args.count P entry c.passes_dirty_limit.result c.absent_pages.result c.count_without_block.result c.free_count.result c.page-page_size.ensures.value refl
-    (c.passes_dirty_limit.ensures ∙ (λ i. nat_lt 0 (c.clean_pages.ensures i) && nat_lt (back i).sizes.dirty_limit (dirty_total (back i) + c.clean_pages.ensures i)))
+    ∙ room_is _ c.self.inside.pages c.self.inside.blocks c.self.invariant.core refl c.args.file c.args.offset
+    c.args.count P entry c.passes_dirty_limit.result c.absent_pages.result c.count_without_block.result
+    c.free_count.result c.page-page_size.ensures.value refl
+    (c.passes_dirty_limit.ensures ∙ (λ i. nat_lt 0 (c.clean_pages.ensures i) && nat_lt (back i).sizes.dirty_limit
+    (dirty_total (back i) + c.clean_pages.ensures i)))
     c.absent_pages.ensures c.free_count.ensures.count c.count_without_block.ensures
-    ∙ none_chosen _ _ _ _ _ _ _ c.if-passes_dirty_limit.false (is_not_less c.self.inside.pages.free c.absent_pages.result (omega (arith, c.free_frames.ensures, c.if-free_frames-absent_pages.false))) (is_not_less _ _ c.if-free_count-count_without_block.false))
+    ∙ at_false _ _ _ c.if-passes_dirty_limit.false
+    ∙ at_false _ _ _ (is_not_less c.self.inside.pages.free c.absent_pages.result
+    (omega (arith, c.free_frames.ensures, c.if-free_frames-absent_pages.false)))
+    ∙ at_false _ _ _ (is_not_less _ _ c.if-free_count-count_without_block.false))

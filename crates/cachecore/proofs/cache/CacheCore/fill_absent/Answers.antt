@@ -1,15 +1,14 @@
 use Rattle.std.proofs.Common.{◌<◌, ◌-◌, length, ap, sym, refl, subst, ◌∙◌, arith}
 use Rattle.std.specs.FinMap as map
 use Rattle.blockdev.specs.Jobs.{Task}
-use Rattle.cachecore.specs.State.{State, free_frames, is_cached, is_filling}
-use Rattle.cachecore.specs.Changes.{blank}
+use Rattle.machine.specs.State.{State, free_frames, is_cached, is_filling}
+use Rattle.pagestore.specs.Store.{blank, Store, stored_at, with_pages, with_lists}
 use Rattle.cachecore.specs.Replies.{IsFillJob}
-use Rattle.cachecore.specs.PageLists.{entered}
-use Rattle.cachecore.specs.Store.{Store, stored_at, with_pages, with_lists}
+use Rattle.machine.specs.PageLists.{entered}
 use Rattle.cachecore.specs.Tables.{IsCore, state_of}
 use Rattle.cachecore.proofs.CoreLemmas.{core-zeros, free_frames_are, zeros_state}
 use Rattle.cachecore.proofs.FillCalls.{fill_job}
-use Rattle.cachecore.proofs.StepLemmas.{when_ok}
+use Rattle.pagestore.proofs.PairLemmas.{when_ok}
 use Rattle.cachecore.proofs.SyncLaws.{files_failed, moved_syncs}
 use Rattle.cachecore.proofs.CoreViews.{state_is}
 use Rattle.cachecore.proofs.cache.CacheCore.fill_absent.Goals as goal
@@ -21,17 +20,31 @@ invariant_of-self-in_default c =
     let old = state_of i.geometry i.name i.pages.files i.handles i.blocks i.requests i.syncs in
     let f = c.args.file in
     let p = c.args.page.0 in
-    let now : Store = with_lists (with_pages i.pages f (map.insert (stored_at i.pages f).pages p (blank i.pages.page)) (i.pages.free - 1)) (entered f p i.pages.lists) in
-    let zeros = zeros_state i.geometry i.name i.pages i.handles i.blocks i.requests i.syncs f p (i.pages.free - 1) c.self.invariant.core.page in
-    let here : f < length i.pages.files = subst (λ (s : State). f < length s.files) (sym (state_is c.self.view_is)) c.requires.here in
+    let now : Store =
+    with_lists (with_pages i.pages f (map.insert (stored_at i.pages f).pages p (blank i.pages.page))
+    (i.pages.free - 1)) (entered f p i.pages.lists) in
+    let zeros = zeros_state i.geometry i.name i.pages i.handles i.blocks i.requests i.syncs f p (i.pages.free - 1)
+    c.self.invariant.core.page in
+    let here : f < length i.pages.files = subst (λ (s : State). f < length s.files) (sym (state_is c.self.view_is))
+    c.requires.here in
     let free = free_frames_are old i.pages i.blocks c.self.invariant.core in
     let frames = ap free_frames (state_is c.self.view_is) in
     let core : IsCore (state_of i.geometry i.name now.files i.handles i.blocks i.requests i.syncs) now i.blocks =
     subst (λ t. IsCore t now i.blocks) (sym zeros)
-    (core-zeros old i.pages i.blocks c.self.invariant.core f p now (ap (λ (s : State). is_cached s f p) (state_is c.self.view_is) ∙ c.requires.absent) (ap (λ (s : State). is_filling s f p) (state_is c.self.view_is) ∙ c.requires.idle) here (omega (arith, free, frames, c.requires.room)) refl refl (λ g q. refl) refl) in
-    let made : IsCore (state_of i.geometry i.name c.make.new.self.files i.handles i.blocks i.requests i.syncs) c.make.new.self i.blocks =
-    subst (λ (x : Store). IsCore (state_of i.geometry i.name x.files i.handles i.blocks i.requests i.syncs) x i.blocks) (sym (when_ok c.make.result _ c.if-is_err.ensures.value c.make.ensures.ok)) core in
-    record { core = made; syncs = moved_syncs i.handles i.requests.next i.pages.files i.syncs c.self.invariant.syncs i.requests.next c.make.new.self.files (omega arith) (files_failed c.make.new.self.files i.pages f _ 0 (ap (λ (x : Store). x.files) (when_ok c.make.result _ c.if-is_err.ensures.value c.make.ensures.ok))) }
+    (core-zeros old i.pages i.blocks c.self.invariant.core f p now
+    (ap (λ (s : State). is_cached s f p) (state_is c.self.view_is) ∙ c.requires.absent)
+    (ap (λ (s : State). is_filling s f p) (state_is c.self.view_is) ∙ c.requires.idle) here
+    (omega (arith, free, frames, c.requires.room)) refl refl (λ g q. refl) refl) in
+    let made : IsCore (state_of i.geometry i.name c.make.new.self.files i.handles i.blocks i.requests i.syncs)
+    c.make.new.self i.blocks =
+    subst (λ (x : Store). IsCore (state_of i.geometry i.name x.files i.handles i.blocks i.requests i.syncs) x i.blocks)
+    (sym (when_ok c.make.result _ c.if-is_err.ensures.value c.make.ensures.ok)) core in
+    record {
+      core = made;
+      syncs = moved_syncs i.handles i.pages.files i.syncs c.self.invariant.syncs
+          c.make.new.self.files (files_failed c.make.new.self.files i.pages f _ 0
+          (ap (λ (x : Store). x.files) (when_ok c.make.result _ c.if-is_err.ensures.value c.make.ensures.ok)));
+    }
 
 pub returns-clause-job : goal.returns-clause-job
 returns-clause-job c = elim c.match-begin_read.branch [
@@ -39,7 +52,10 @@ returns-clause-job c = elim c.match-begin_read.branch [
       let begun = w.in-Ok.ensures.begun in
       let job : Task = w.new-job.result in
       subst (IsFillJob c.begin_read.new.self.state) (sym w.result-is)
-      (fill_job c.args.self.now.state c.begin_read.new.self.state c.args.file c.args.page.0 c.in-Some.block.0 c.in-Some.ensures.some begun.2 job
-      (ap (λ (t : Task). t.serial) w.new-job.ensures ∙ begun.1) (ap (λ (t : Task). t.cache) w.new-job.ensures ∙ ap (λ (s : State). s.name) (state_is c.self-2.view_is)) (ap (λ (t : Task). t.kind) w.new-job.ensures) (ap (λ (t : Task). t.block) w.new-job.ensures))
+      (fill_job c.args.self.now.state c.begin_read.new.self.state c.args.file c.args.page.0 c.in-Some.block.0
+      c.in-Some.ensures.some begun.2 job
+      (ap (λ (t : Task). t.serial) w.new-job.ensures ∙ begun.1)
+      (ap (λ (t : Task). t.cache) w.new-job.ensures ∙ ap (λ (s : State). s.name) (state_is c.self-2.view_is))
+      (ap (λ (t : Task). t.kind) w.new-job.ensures) (ap (λ (t : Task). t.block) w.new-job.ensures))
   | in-Err w ↦ subst (IsFillJob c.begin_read.new.self.state) (sym w.result-is) tt
 ]

@@ -1,18 +1,19 @@
-use Rattle.std.proofs.Common.{arith, sym, ap, subst, refl, max, ◌∙◌, ◌≡◌, ◌+◌, ◌-◌, ◌*◌, ◌/◌, ◌<◌, ◌≤◌, ℕ, [], ◌∷◌, true, not, length}
+use Rattle.std.proofs.Common.{arith, sym, ap, subst, refl, max, ◌∙◌, ◌≡◌, ◌+◌, ◌-◌, ◌*◌, ◌/◌, ◌<◌, ◌≤◌, ℕ, [], ◌∷◌}
+use Rattle.std.proofs.Common.{true, not, length}
 use Rattle.std.specs.Prelude.{Some, unwrap_or}
 use Rattle.std.specs.FinMap as map
 use Rattle.pc_types.specs.declared.limits.TheConstants.{MAX_TOUCHED}
 use Rattle.blockmap.specs.Blocks.{Blocks}
-use Rattle.cachecore.specs.State.{State, file_of, is_dirty, touched, touched_count}
+use Rattle.machine.specs.State.{tags_at, State, handle_file, touched, touched_count}
 use Rattle.cachecore.specs.Core.{Core}
-use Rattle.cachecore.specs.Changes.{put_file, written}
-use Rattle.cachecore.specs.Moves.{write_moves}
-use Rattle.cachecore.specs.Tests.{room_tests, write_stop}
-use Rattle.cachecore.specs.Pairs.{AreSized}
-use Rattle.cachecore.specs.Store.{Store, stored_at}
-use Rattle.cachecore.specs.Syncing.{failed_of}
+use Rattle.machine.specs.Changes.{put_file, written}
+use Rattle.machine.specs.ListChanges.{lists_written}
+use Rattle.machine.specs.Tests.{room_tests, write_stop}
+use Rattle.pagestore.specs.Ranges.{AreSized}
+use Rattle.pagestore.specs.Store.{Store, stored_at}
+use Rattle.pagestore.specs.Syncing.{failed_of}
 use Rattle.cachecore.specs.Tables.{IsCore, state_of}
-use Rattle.cachecore.proofs.OnePage.{one_touched, one_touched_count}
+use Rattle.pagestore.proofs.OnePage.{one_touched, one_touched_count}
 use Rattle.cachecore.proofs.DirtyPages.{dirty_cached, dirty_placed, dirty_room, dirty_unstopped}
 use Rattle.cachecore.proofs.Overwrites.{placed_same, put_lists, put_steps}
 use Rattle.cachecore.proofs.WriteSteps.{WriteSteps, parts, final_files, final_free, final_page, final_idle}
@@ -33,9 +34,12 @@ returns-clause-unstopped c _ =
     let old : State = state_of a.geometry a.name a.pages.files a.handles a.blocks a.requests a.syncs in
     let positive : 0 < P = omega (arith, c.page-page_size.ensures.least) in
     let fits : o - p * P + length b ≤ P = omega arith in
-    let dirty : is_dirty old f p ≡ true = sym c.if-not-put_again.ensures.dirty in
-    let alone : touched old.sizes.page o (length b) ≡ p ∷ [] = sym (ap (λ k. touched k o (length b)) c.page-page_size.ensures.value) ∙ one_touched P o (length b) positive c.requires.some fits in
-    ap (λ (s : State). write_stop s f o (length b)) (sym (state_is c.self.view_is)) ∙ dirty_unstopped old c.self.invariant.core.sound f p dirty o (length b) alone
+    let dirty : (tags_at old f p).dirty ≡ true = sym c.if-not-put_again.ensures.dirty in
+    let alone : touched old.sizes.page o (length b) ≡ p ∷ [] =
+    sym (ap (λ k. touched k o (length b)) c.page-page_size.ensures.value)
+    ∙ one_touched P o (length b) positive c.requires.some fits in
+    ap (λ (s : State). write_stop s f o (length b)) (sym (state_is c.self.view_is))
+    ∙ dirty_unstopped old c.self.invariant.core.sound f p dirty o (length b) alone
 
 pub returns-clause-room : goal.returns-clause-room
 returns-clause-room c _ =
@@ -48,9 +52,12 @@ returns-clause-room c _ =
     let old : State = state_of a.geometry a.name a.pages.files a.handles a.blocks a.requests a.syncs in
     let positive : 0 < P = omega (arith, c.page-page_size.ensures.least) in
     let fits : o - p * P + length b ≤ P = omega arith in
-    let dirty : is_dirty old f p ≡ true = sym c.if-not-put_again.ensures.dirty in
-    let alone : touched old.sizes.page o (length b) ≡ p ∷ [] = sym (ap (λ k. touched k o (length b)) c.page-page_size.ensures.value) ∙ one_touched P o (length b) positive c.requires.some fits in
-    ap (λ (s : State). room_tests s f o (length b)) (sym (state_is c.self.view_is)) ∙ dirty_room old c.self.invariant.core.sound f p dirty o (length b) alone
+    let dirty : (tags_at old f p).dirty ≡ true = sym c.if-not-put_again.ensures.dirty in
+    let alone : touched old.sizes.page o (length b) ≡ p ∷ [] =
+    sym (ap (λ k. touched k o (length b)) c.page-page_size.ensures.value)
+    ∙ one_touched P o (length b) positive c.requires.some fits in
+    ap (λ (s : State). room_tests s f o (length b)) (sym (state_is c.self.view_is))
+    ∙ dirty_room old c.self.invariant.core.sound f p dirty o (length b) alone
 
 pub invariant_of-self-2 : goal.invariant_of-self-2
 invariant_of-self-2 c =
@@ -63,36 +70,62 @@ invariant_of-self-2 c =
     let old : State = state_of a.geometry a.name a.pages.files a.handles a.blocks a.requests a.syncs in
     let positive : 0 < P = omega (arith, c.page-page_size.ensures.least) in
     let fits : o - p * P + length b ≤ P = omega arith in
-    let dirty : is_dirty old f p ≡ true = sym c.if-not-put_again.ensures.dirty in
-    let alone : touched old.sizes.page o (length b) ≡ p ∷ [] = sym (ap (λ k. touched k o (length b)) c.page-page_size.ensures.value) ∙ one_touched P o (length b) positive c.requires.some fits in
+    let dirty : (tags_at old f p).dirty ≡ true = sym c.if-not-put_again.ensures.dirty in
+    let alone : touched old.sizes.page o (length b) ≡ p ∷ [] =
+    sym (ap (λ k. touched k o (length b)) c.page-page_size.ensures.value)
+    ∙ one_touched P o (length b) positive c.requires.some fits in
     let store = a.pages in
     let core = c.self.invariant.core in
     let h = c.requires.open.0 in
-    let found : Some f ≡ map.get old.handles h = sym (ap (λ (s : State). map.get s.handles h) (state_is c.self.view_is) ∙ c.requires.open.1) in
-    let file : file_of old h ≡ f = ap (λ o. unwrap_or o 0) (sym found) in
+    let found : Some f ≡ map.get old.handles h =
+    sym (ap (λ (s : State). map.get s.handles h) (state_is c.self.view_is) ∙ c.requires.open.1) in
+    let file : handle_file old h ≡ f = ap (λ o. unwrap_or o 0) (sym found) in
     let here : f < length store.files = core.known h f (sym found) in
-    let few : touched_count old.sizes.page o (length b) ≤ MAX_TOUCHED = omega (arith, one_touched_count P o (length b) positive c.requires.some fits, ap (λ k. touched_count k o (length b)) c.page-page_size.ensures.value) in
-    let passed = write_passed old (record { 0 = h }) o f b found c.requires.some few c.requires.bound (sym (dirty_unstopped old core.sound f p dirty o (length b) alone)) (sym (dirty_room old core.sound f p dirty o (length b) alone)) in
+    let few : touched_count old.sizes.page o (length b) ≤ MAX_TOUCHED =
+    omega (
+      arith,
+      one_touched_count P o (length b) positive c.requires.some fits,
+      ap (λ k. touched_count k o (length b)) c.page-page_size.ensures.value,
+    ) in
+    let passed = write_passed old (record { 0 = h }) o f b found c.requires.some few c.requires.bound
+    (sym (dirty_unstopped old core.sound f p dirty o (length b) alone))
+    (sym (dirty_room old core.sound f p dirty o (length b) alone)) in
     let laid = c.put_again.new.self in
     let final = c.set_size.new.self in
     let n = c.max-size.result in
-    let steps : WriteSteps P o b f n store store laid final = put_steps P o b positive c.requires.some fits f store here (c.page-page_size.ensures.value ∙ sym core.page) (dirty_cached old core.sound f p dirty) n laid final (c.if-not-put_again.ensures.done refl) c.set_size.ensures (c.max-size.ensures ∙ ap (λ n. max n (o + length b)) c.size.ensures) (subst (λ (n : ℕ). AreSized n (stored_at store f).pages) (sym c.page-page_size.ensures.value) (core.sized f)) in
+    let steps : WriteSteps P o b f n store store laid final = put_steps P o b positive c.requires.some fits f store here
+    (c.page-page_size.ensures.value ∙ sym core.page) (dirty_cached old core.sound f p dirty) n laid final
+    (c.if-not-put_again.ensures.done refl) c.set_size.ensures
+    (c.max-size.ensures ∙ ap (λ n. max n (o + length b)) c.size.ensures)
+    (subst (λ (n : ℕ). AreSized n (stored_at store f).pages) (sym c.page-page_size.ensures.value) (core.sized f)) in
     let e1 = stored_at store f in
     let e2 = stored_at laid f in
     let e3 = stored_at final f in
     let of_write = parts P o b f n store store laid final steps in
     let files = final_files P o b f n store store laid final steps in
-    let blocks : Blocks = taken old store a.blocks core refl h f o P b e1 e2 e3 final file c.page-page_size.ensures.value passed here of_write positive c.requires.bound P in
-    let placed : blocks ≡ a.blocks = placed_same P o b positive c.requires.some fits a.blocks f (ap not (dirty_placed old core.sound f p dirty)) in
-    let state : state_of a.geometry a.name final.files a.handles a.blocks a.requests a.syncs ≡ record (put_file old f e3) { spots = blocks.spots } = (λ i. state_of a.geometry a.name (files i) a.handles (sym placed i) a.requests a.syncs) in
-    let written_is = state ∙ write_state old store a.blocks core refl h f o P b e1 e2 e3 final file c.page-page_size.ensures.value passed here of_write positive c.requires.bound in
-    let kept = subst (λ (bs : Blocks). IsCore (state_of a.geometry a.name final.files a.handles a.blocks a.requests a.syncs) final bs) placed
+    let blocks : Blocks = taken old store a.blocks core refl h f o P b e1 e2 e3 final file
+    c.page-page_size.ensures.value passed here of_write positive c.requires.bound P in
+    let placed : blocks ≡ a.blocks = placed_same P o b positive c.requires.some fits a.blocks f
+    (ap not (dirty_placed old core.sound f p dirty)) in
+    let state : state_of a.geometry a.name final.files a.handles a.blocks a.requests a.syncs
+    ≡ record (put_file old f e3) { spots = blocks.spots } =
+    (λ i. state_of a.geometry a.name (files i) a.handles (sym placed i) a.requests a.syncs) in
+    let written_is = state ∙ write_state old store a.blocks core refl h f o P b e1 e2 e3 final file
+    c.page-page_size.ensures.value passed here of_write positive c.requires.bound in
+    let kept =
+    subst (λ (bs : Blocks). IsCore (state_of a.geometry a.name final.files a.handles a.blocks a.requests a.syncs)
+    final bs) placed
     (subst (λ (t : State). IsCore t final blocks) (sym state)
-    (core-written old store a.blocks core refl h f o P b e1 e2 e3 final file c.page-page_size.ensures.value passed here of_write positive c.requires.bound
+    (core-written old store a.blocks core refl h f o P b e1 e2 e3 final file c.page-page_size.ensures.value passed here
+    of_write positive c.requires.bound
     (final_page P o b f n store store laid final steps)
     (final_free P o b f n store store laid final steps)
     (final_idle P o b f n store store laid final steps))) in
-    record { core = kept; syncs = moved_syncs a.handles a.requests.next a.pages.files a.syncs c.self.invariant.syncs a.requests.next final.files (omega arith) (λ g. ap (λ (s : State). failed_of s.files g) written_is ∙ kept_failed store.files f _ refl refl g) }
+    record {
+      core = kept;
+      syncs = moved_syncs a.handles a.pages.files a.syncs c.self.invariant.syncs final.files
+          (λ g. ap (λ (s : State). failed_of s.files g) written_is ∙ kept_failed store.files f _ refl refl g);
+    }
 
 pub returns-clause-done : goal.returns-clause-done
 returns-clause-done c _ =
@@ -105,29 +138,48 @@ returns-clause-done c _ =
     let old : State = state_of a.geometry a.name a.pages.files a.handles a.blocks a.requests a.syncs in
     let positive : 0 < P = omega (arith, c.page-page_size.ensures.least) in
     let fits : o - p * P + length b ≤ P = omega arith in
-    let dirty : is_dirty old f p ≡ true = sym c.if-not-put_again.ensures.dirty in
-    let alone : touched old.sizes.page o (length b) ≡ p ∷ [] = sym (ap (λ k. touched k o (length b)) c.page-page_size.ensures.value) ∙ one_touched P o (length b) positive c.requires.some fits in
+    let dirty : (tags_at old f p).dirty ≡ true = sym c.if-not-put_again.ensures.dirty in
+    let alone : touched old.sizes.page o (length b) ≡ p ∷ [] =
+    sym (ap (λ k. touched k o (length b)) c.page-page_size.ensures.value)
+    ∙ one_touched P o (length b) positive c.requires.some fits in
     let store = a.pages in
     let core = c.self.invariant.core in
     let h = c.requires.open.0 in
-    let found : Some f ≡ map.get old.handles h = sym (ap (λ (s : State). map.get s.handles h) (state_is c.self.view_is) ∙ c.requires.open.1) in
-    let file : file_of old h ≡ f = ap (λ o. unwrap_or o 0) (sym found) in
+    let found : Some f ≡ map.get old.handles h =
+    sym (ap (λ (s : State). map.get s.handles h) (state_is c.self.view_is) ∙ c.requires.open.1) in
+    let file : handle_file old h ≡ f = ap (λ o. unwrap_or o 0) (sym found) in
     let here : f < length store.files = core.known h f (sym found) in
-    let few : touched_count old.sizes.page o (length b) ≤ MAX_TOUCHED = omega (arith, one_touched_count P o (length b) positive c.requires.some fits, ap (λ k. touched_count k o (length b)) c.page-page_size.ensures.value) in
-    let passed = write_passed old (record { 0 = h }) o f b found c.requires.some few c.requires.bound (sym (dirty_unstopped old core.sound f p dirty o (length b) alone)) (sym (dirty_room old core.sound f p dirty o (length b) alone)) in
+    let few : touched_count old.sizes.page o (length b) ≤ MAX_TOUCHED =
+    omega (
+      arith,
+      one_touched_count P o (length b) positive c.requires.some fits,
+      ap (λ k. touched_count k o (length b)) c.page-page_size.ensures.value,
+    ) in
+    let passed = write_passed old (record { 0 = h }) o f b found c.requires.some few c.requires.bound
+    (sym (dirty_unstopped old core.sound f p dirty o (length b) alone))
+    (sym (dirty_room old core.sound f p dirty o (length b) alone)) in
     let laid = c.put_again.new.self in
     let final = c.set_size.new.self in
     let n = c.max-size.result in
-    let steps : WriteSteps P o b f n store store laid final = put_steps P o b positive c.requires.some fits f store here (c.page-page_size.ensures.value ∙ sym core.page) (dirty_cached old core.sound f p dirty) n laid final (c.if-not-put_again.ensures.done refl) c.set_size.ensures (c.max-size.ensures ∙ ap (λ n. max n (o + length b)) c.size.ensures) (subst (λ (n : ℕ). AreSized n (stored_at store f).pages) (sym c.page-page_size.ensures.value) (core.sized f)) in
+    let steps : WriteSteps P o b f n store store laid final = put_steps P o b positive c.requires.some fits f store here
+    (c.page-page_size.ensures.value ∙ sym core.page) (dirty_cached old core.sound f p dirty) n laid final
+    (c.if-not-put_again.ensures.done refl) c.set_size.ensures
+    (c.max-size.ensures ∙ ap (λ n. max n (o + length b)) c.size.ensures)
+    (subst (λ (n : ℕ). AreSized n (stored_at store f).pages) (sym c.page-page_size.ensures.value) (core.sized f)) in
     let e1 = stored_at store f in
     let e2 = stored_at laid f in
     let e3 = stored_at final f in
     let of_write = parts P o b f n store store laid final steps in
     let files = final_files P o b f n store store laid final steps in
-    let blocks : Blocks = taken old store a.blocks core refl h f o P b e1 e2 e3 final file c.page-page_size.ensures.value passed here of_write positive c.requires.bound P in
-    let placed : blocks ≡ a.blocks = placed_same P o b positive c.requires.some fits a.blocks f (ap not (dirty_placed old core.sound f p dirty)) in
-    let state : state_of a.geometry a.name final.files a.handles a.blocks a.requests a.syncs ≡ record (put_file old f e3) { spots = blocks.spots } = (λ i. state_of a.geometry a.name (files i) a.handles (sym placed i) a.requests a.syncs) in
-    let written_is = state ∙ write_state old store a.blocks core refl h f o P b e1 e2 e3 final file c.page-page_size.ensures.value passed here of_write positive c.requires.bound in
+    let blocks : Blocks = taken old store a.blocks core refl h f o P b e1 e2 e3 final file
+    c.page-page_size.ensures.value passed here of_write positive c.requires.bound P in
+    let placed : blocks ≡ a.blocks = placed_same P o b positive c.requires.some fits a.blocks f
+    (ap not (dirty_placed old core.sound f p dirty)) in
+    let state : state_of a.geometry a.name final.files a.handles a.blocks a.requests a.syncs
+    ≡ record (put_file old f e3) { spots = blocks.spots } =
+    (λ i. state_of a.geometry a.name (files i) a.handles (sym placed i) a.requests a.syncs) in
+    let written_is = state ∙ write_state old store a.blocks core refl h f o P b e1 e2 e3 final file
+    c.page-page_size.ensures.value passed here of_write positive c.requires.bound in
     written_is ∙ ap (λ s. written s f o b) (state_is c.self.view_is)
 
 pub returns-clause-lists : goal.returns-clause-lists
@@ -141,8 +193,12 @@ returns-clause-lists c _ =
     let old : State = state_of a.geometry a.name a.pages.files a.handles a.blocks a.requests a.syncs in
     let positive : 0 < P = omega (arith, c.page-page_size.ensures.least) in
     let fits : o - p * P + length b ≤ P = omega arith in
-    let dirty : is_dirty old f p ≡ true = sym c.if-not-put_again.ensures.dirty in
-    let alone : touched old.sizes.page o (length b) ≡ p ∷ [] = sym (ap (λ k. touched k o (length b)) c.page-page_size.ensures.value) ∙ one_touched P o (length b) positive c.requires.some fits in
+    let dirty : (tags_at old f p).dirty ≡ true = sym c.if-not-put_again.ensures.dirty in
+    let alone : touched old.sizes.page o (length b) ≡ p ∷ [] =
+    sym (ap (λ k. touched k o (length b)) c.page-page_size.ensures.value)
+    ∙ one_touched P o (length b) positive c.requires.some fits in
     let lists = λ (s : Store). s.lists in
-    put_lists old f o (length b) P a.pages.lists c.set_size.new.self.lists c.page-page_size.ensures.value positive c.requires.some fits (dirty_cached old c.self.invariant.core.sound f p dirty) (ap lists c.set_size.ensures ∙ ap lists (c.if-not-put_again.ensures.done refl))
-    ∙ ap (λ (k : Core). write_moves k.state f o (length b) k.lists) c.self.view_is
+    put_lists old f o (length b) P a.pages.lists c.set_size.new.self.lists c.page-page_size.ensures.value positive
+    c.requires.some fits (dirty_cached old c.self.invariant.core.sound f p dirty)
+    (ap lists c.set_size.ensures ∙ ap lists (c.if-not-put_again.ensures.done refl))
+    ∙ ap (λ (k : Core). lists_written k.state f o (length b) k.lists) c.self.view_is

@@ -1,60 +1,72 @@
-use Rattle.std.proofs.Common.{◌≡◌, ap, sym, subst, ◌∙◌}
-use Rattle.std.specs.Prelude.{Some}
+use Rattle.std.proofs.Common.{arith, length, ap, false, refl, sym, subst, true, ◌∙◌, ◌≡◌, ◌≤◌, ◌<◌}
+use Rattle.std.specs.Prelude.{None, Some, is_some}
 use Rattle.std.specs.FinMap as map
-use Rattle.cachecore.specs.State.{State, Sync}
-use Rattle.cachecore.specs.Sound.{Sound}
-use Rattle.cachecore.specs.Bare.{bare}
-use Rattle.cachecore.specs.Syncing.{syncs_of}
-use Rattle.cachecore.specs.Tests.{is_full}
-use Rattle.cachecore.proofs.FlushCalls.{full_is, is_bare}
-use Rattle.cachecore.proofs.SyncCalls.{last_cache, last_state, next_full, next_here, next_startable, next_started}
+use Rattle.std.specs.Ordering.{nat_cmp}
+use Rattle.maps.specs.Maps.{change_at}
+use Rattle.machine.specs.declared.event.Event.TheVariants as event
+use Rattle.machine.specs.declared.event.Reply.TheVariants as reply
+use Rattle.machine.specs.State.{State, Sync}
+use Rattle.machine.specs.Step.{Step}
+use Rattle.writeback.specs.Slots.{sync_of}
 use Rattle.cachecore.proofs.CoreViews.{state_is}
+use Rattle.cachecore.proofs.Parts.{Parts, goes_to, state_by}
+use Rattle.pc_types.specs.declared.refusal.Refusal.TheVariants.{TooManyInFlight}
+use Rattle.machine.specs.Sound.{Sound}
+use Rattle.machine.specs.State.{page_bytes}
+use Rattle.machine.specs.Tests.{is_full}
+use Rattle.cachecore.specs.Replies.{IsJobOf}
+use Rattle.cachecore.proofs.FileKeeps.{page_here}
+use Rattle.cachecore.proofs.SyncCalls.{last_cache, next_full, next_startable, next_started, with_started}
 use Rattle.cachecore.proofs.cache.CacheCore.start_page.Goals as goal
 
 pub returns-then-is_full-clause-step : goal.returns-then-is_full-clause-step
 returns-then-is_full-clause-step c =
-    let i = c.self.inside in
     let sound = subst Sound (state_is c.self.view_is) c.self.invariant.core.sound in
-    let full = ap is_full (sym (state_is c.self.view_is)) ∙ full_is i.geometry i.name i.handles i.pages i.blocks i.requests i.syncs ∙ sym c.is_full.ensures ∙ c.if-is_full.true in
-    let same = is_bare i.geometry i.name i.handles i.pages i.blocks i.requests i.syncs in
-    (c.args.self.now.state, next_full c.args.self.now.state sound c.args.sync c.args.file c.args.page c.requires.next full, sym (ap bare (sym (state_is c.self.view_is)) ∙ same ∙ (state_is c.self.view_is)), tt)
+    next_full c.args.self.now.state sound c.args.sync c.args.file c.args.page c.requires.next
+    (ap is_full (sym (state_is c.self.view_is)) ∙ sym c.is_full.ensures ∙ c.if-is_full.true)
 
 pub begin_flush-job-requires-clause-here : goal.begin_flush-job-requires-clause-here
 begin_flush-job-requires-clause-here c =
-    let sound = subst Sound (state_is c.self.view_is) c.self.invariant.core.sound in
-    next_here c.args.self.now.state sound c.args.sync c.args.file c.args.page c.requires.next
+    let n = c.requires.next in
+    page_here c.args.self.now.state c.args.file c.args.page.0 n.page n.cached
 
 pub begin_flush-job-requires-clause-startable : goal.begin_flush-job-requires-clause-startable
 begin_flush-job-requires-clause-startable c =
     let sound = subst Sound (state_is c.self.view_is) c.self.invariant.core.sound in
     next_startable c.args.self.now.state sound c.args.sync c.args.file c.args.page c.requires.next
+    (ap is_full (sym (state_is c.self.view_is)) ∙ sym c.is_full.ensures ∙ c.if-is_full.false)
 
 pub begin_flush-job-requires-clause-room : goal.begin_flush-job-requires-clause-room
 begin_flush-job-requires-clause-room c =
-    let i = c.self.inside in
-    ap is_full (sym (state_is c.self.view_is)) ∙ full_is i.geometry i.name i.handles i.pages i.blocks i.requests i.syncs ∙ sym c.is_full.ensures ∙ c.if-is_full.false
+    ap is_full (sym (state_is c.self.view_is)) ∙ sym c.is_full.ensures ∙ c.if-is_full.false
 
 pub invariant_of-self : goal.invariant_of-self
 invariant_of-self c =
     let i = c.self-2.inside in
-    let n = c.args.sync.0 in
-    let h = c.requires.next in
-    let there : map.get (syncs_of i.handles i.requests.requests i.syncs) n ≡ Some h.0 = ap (λ (t : State). map.get t.syncs n) ((state_is c.self-2.view_is) ∙ c.begin_flush-job.ensures.begun.3) ∙ h.2 in
-    last_cache i.geometry i.name i.handles i.pages i.blocks i.requests i.syncs n c.args.page.0 h.0 there c.started.new.self c.started.ensures c.self-2.invariant.core c.self-2.invariant.syncs
+    let p : Parts = record { store = i.pages; blocks = i.blocks; flights = i.requests; syncs = i.syncs } in
+    let n = c.requires.next in
+    let kept = ap (λ (t : State). t.syncs) (state_is c.self-2.view_is ∙ c.begin_flush-job.ensures.begun.state) in
+    let there = ap (λ (x : map.FinMap nat_cmp Sync). map.get x c.args.sync.0) kept ∙ n.is in
+    last_cache i.geometry i.name i.handles p c.self-2.invariant c.args.sync.0 c.args.page.0 n.sync there
+    c.started.new.self c.started.ensures
 
 pub returns-clause-step : goal.returns-clause-step
 returns-clause-step c =
-    let i = c.self-2.inside in
-    let j = c.self.inside in
-    let s = c.args.self.now.state in
-    let n = c.args.sync in
-    let h = c.requires.next in
-    let begun = c.begin_flush-job.ensures.begun in
     let sound = subst Sound (state_is c.self.view_is) c.self.invariant.core.sound in
-    let room = ap is_full (sym (state_is c.self.view_is)) ∙ full_is j.geometry j.name j.handles j.pages j.blocks j.requests j.syncs ∙ sym c.is_full.ensures ∙ c.if-is_full.false in
-    let out = next_started s sound n c.args.file c.args.page h room c.begin_flush-job.result c.begin_flush-job.new.self.state begun in
-    let there : map.get (syncs_of i.handles i.requests.requests i.syncs) n.0 ≡ Some h.0 = ap (λ (t : State). map.get t.syncs n.0) ((state_is c.self-2.view_is) ∙ begun.3) ∙ h.2 in
-    let last : Sync = record h.0 { last = Some c.args.page.0 } in
-    let put = last_state i.geometry i.name i.handles i.pages i.blocks i.requests i.syncs n.0 c.args.page.0 h.0 there c.started.new.self c.started.ensures in
-    let kept = ap (λ (t : State). t.syncs) ((state_is c.self-2.view_is) ∙ begun.3) in
-    (out.0, out.1, put ∙ (λ k. let t : State = record ((state_is c.self-2.view_is) k) { syncs = map.insert (kept k) n.0 last } in t) ∙ out.2, out.3)
+    let i = c.self-2.inside in
+    let p : Parts = record { store = i.pages; blocks = i.blocks; flights = i.requests; syncs = i.syncs } in
+    let n = c.requires.next in
+    let mid = c.begin_flush-job.new.self.state in
+    let put = c.started.ensures ∙ ap (λ (t : State). change_at c.args.sync.0 (with_started c.args.page.0) t.syncs)
+    (state_is c.self-2.view_is) in
+    let step = next_started c.args.self.now.state sound c.args.sync c.args.file c.args.page c.requires.next
+    (ap is_full (sym (state_is c.self.view_is)) ∙ sym c.is_full.ensures ∙ c.if-is_full.false)
+    c.begin_flush-job.result mid c.begin_flush-job.ensures.begun c.started.new.self put in
+    subst (λ (t : State). Step c.args.self.now.state (event.SyncStep c.args.sync)
+    (reply.Job (record { 0 = c.begin_flush-job.result.serial })) (record t { syncs = c.started.new.self }))
+    (sym (state_is c.self-2.view_is)) step
+
+pub returns-clause-job : goal.returns-clause-job
+returns-clause-job c =
+    subst (λ (t : State). IsJobOf t c.begin_flush-job.result (λ x. page_bytes t x.file x.page))
+    (sym (state_is c.self-2.view_is)) c.begin_flush-job.ensures.begun.job_is

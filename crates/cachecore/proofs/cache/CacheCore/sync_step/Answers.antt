@@ -1,84 +1,138 @@
-use Rattle.std.proofs.Common.{ap, sym, subst, ◌∙◌}
+use Rattle.std.proofs.Common.{arith, length, ap, false, refl, sym, subst, true, ◌∙◌, ◌≡◌, ◌≤◌, ◌<◌}
+use Rattle.std.specs.Prelude.{None, Some, is_some}
+use Rattle.std.specs.FinMap as map
+use Rattle.std.specs.Ordering.{nat_cmp}
+use Rattle.cachecore.specs.Tables.{IsCache}
+use Rattle.machine.specs.declared.event.Event.TheVariants as event
+use Rattle.machine.specs.declared.event.Reply.TheVariants as reply
+use Rattle.machine.specs.State.{State, Sync}
+use Rattle.machine.specs.Step.{Step}
+use Rattle.writeback.specs.Slots.{sync_of}
+use Rattle.cachecore.proofs.CoreViews.{state_is}
+use Rattle.cachecore.proofs.Parts.{Parts, goes_to, state_by}
 use Rattle.pc_types.specs.declared.refusal.Refusal.TheVariants.{Stranger}
-use Rattle.writeback.specs.Slots as slots
-use Rattle.cachecore.specs.declared.event.Event.TheVariants as event
-use Rattle.cachecore.specs.declared.event.Reply.TheVariants as reply
-use Rattle.cachecore.specs.Bare.{bare as bare_state}
-use Rattle.cachecore.specs.State.{State}
 use Rattle.cachecore.specs.Replies.{IsSyncJob, sync_stepped}
 use Rattle.cachecore.specs.Starting.{IsNext}
-use Rattle.cachecore.specs.Step.{Step}
-use Rattle.cachecore.specs.Tables.{state_of}
-use Rattle.cachecore.proofs.SyncCalls.{await_cache, await_call, clean_call, failed_call, held_call, is_bare, must_be_open, next_call, removed_cache, told_code}
-use Rattle.cachecore.proofs.SyncChanges.{no_sync}
+use Rattle.cachecore.proofs.SyncCalls.{awaits, bounded, clean_call, failed_call, held_call, must_be_open, next_call}
+use Rattle.cachecore.proofs.SyncCalls.{told_code, without, without_cache}
 use Rattle.cachecore.proofs.SyncSteps.{stranger_step}
-use Rattle.cachecore.proofs.CoreViews.{state_is}
 use Rattle.cachecore.proofs.cache.CacheCore.sync_step.Goals as goal
 use Rattle.cachecore.proofs.cache.CacheCore.sync_step.Goals.{in-None, in-Some-failure_since}
 
 pub returns-in_default-clause-step : goal.returns-in_default-clause-step
 returns-in_default-clause-step c =
     let i = c.self.inside in
-    let s : State = state_of i.geometry i.name i.pages.files i.handles i.blocks i.requests i.syncs in
-    let step = stranger_step s c.args.sync (no_sync i.handles i.requests.requests i.syncs c.args.sync.0 c.in_default.ensures) in
-    let bare = is_bare i.geometry i.name i.handles i.pages i.blocks i.requests i.syncs in
-    (c.args.self.now.state, subst (λ t. Step t (event.SyncStep c.args.sync) (reply.Refused Stranger) t) (state_is c.self.view_is) step, sym (ap bare_state (sym (state_is c.self.view_is)) ∙ bare ∙ (state_is c.self.view_is)), tt)
+    let p : Parts = record { store = i.pages; blocks = i.blocks; flights = i.requests; syncs = i.syncs } in
+    subst (λ s. Step s (event.SyncStep c.args.sync) (reply.Refused Stranger) s) (state_is c.self.view_is)
+    (stranger_step (state_by i.geometry i.name i.handles p) c.args.sync (sym c.in_default.ensures))
 
 pub unreachable-requires : goal.unreachable-requires
 unreachable-requires c =
     let i = c.self.inside in
-    must_be_open i.geometry i.name i.handles i.pages i.blocks i.requests i.syncs c.self.invariant.core c.self.invariant.syncs c.args.sync (slots.state_of c.in-Some.progress) c.in-Some.ensures c.in_default-file.ensures
+    let p : Parts = record { store = i.pages; blocks = i.blocks; flights = i.requests; syncs = i.syncs } in
+    must_be_open i.geometry i.name i.handles p c.self.invariant c.args.sync (sync_of c.in-Some.progress)
+    c.in-Some.ensures c.in_default-file.ensures
 
 pub start_page-requires-clause-next : goal.start_page-requires-clause-next
 start_page-requires-clause-next c =
     let i = c.self.inside in
-    let next = next_call i.geometry i.name i.handles i.pages i.blocks i.requests i.syncs c.self.invariant.core c.self.invariant.syncs c.args.sync (slots.state_of c.in-Some.progress) c.in-Some.ensures c.in-Some-file.file c.in-Some-file.ensures c.in-Start.found c.in-Start.ensures.step in
-    subst (λ s. IsNext s c.args.sync.0 c.in-Some-file.file c.in-Start.found.page.0) (state_is c.self.view_is) next
-
-pub invariant_of-self : goal.invariant_of-self
-invariant_of-self c =
-    let i = c.self.inside in
-    await_cache i.geometry i.name i.handles i.pages i.blocks i.requests i.syncs c.self.invariant.core c.self.invariant.syncs c.args.sync (slots.state_of c.in-Some.progress) c.in-Some.ensures c.in-Some-file.file c.in-Some-file.ensures c.set_bound.new.self c.in-Await.page c.in-Await.bound c.in-Await.ensures.step c.set_bound.ensures
+    let p : Parts = record { store = i.pages; blocks = i.blocks; flights = i.requests; syncs = i.syncs } in
+    subst (λ s. IsNext s c.args.sync.0 c.in-Some-file.file c.in-Start.found.page.0) (state_is c.self.view_is)
+    (next_call i.geometry i.name i.handles p c.self.invariant c.args.sync (sync_of c.in-Some.progress)
+    c.in-Some.ensures c.in-Some-file.file c.in-Some-file.ensures c.in-Start.found c.in-Start.ensures.step)
 
 pub failure_since-requires-clause-coded : goal.failure_since-requires-clause-coded
 failure_since-requires-clause-coded c =
     let i = c.self.inside in
-    told_code i.geometry i.name i.handles i.pages i.blocks i.requests i.syncs c.self.invariant.core c.self.invariant.syncs c.args.sync (slots.state_of c.in-Some.progress) c.in-Some.ensures c.in-Some-file.file c.in-Some-file.ensures
-
-pub invariant_of-self-in-Over : goal.invariant_of-self-in-Over
-invariant_of-self-in-Over c =
-    let i = c.self.inside in
-    removed_cache i.geometry i.name i.handles i.pages i.blocks i.requests i.syncs c.self.invariant.core c.self.invariant.syncs c.args.sync c.remove.new.self c.remove.ensures.removed
+    let p : Parts = record { store = i.pages; blocks = i.blocks; flights = i.requests; syncs = i.syncs } in
+    told_code i.geometry i.name i.handles p c.self.invariant c.args.sync (sync_of c.in-Some.progress) c.in-Some.ensures
+    c.in-Some-file.file c.in-Some-file.ensures
 
 pub returns-in-Held-clause-step : goal.returns-in-Held-clause-step
 returns-in-Held-clause-step c =
     let i = c.self.inside in
-    let step = held_call i.geometry i.name i.handles i.pages i.blocks i.requests i.syncs c.self.invariant.core c.self.invariant.syncs c.args.sync (slots.state_of c.in-Some.progress) c.in-Some.ensures c.in-Some-file.file c.in-Some-file.ensures c.in-Held.page c.in-Held.ensures.step in
-    let bare = is_bare i.geometry i.name i.handles i.pages i.blocks i.requests i.syncs in
-    (c.args.self.now.state, subst (λ t. Step t (event.SyncStep c.args.sync) (reply.Wait c.in-Held.page) t) (state_is c.self.view_is) step, sym (ap bare_state (sym (state_is c.self.view_is)) ∙ bare ∙ (state_is c.self.view_is)), tt)
+    let p : Parts = record { store = i.pages; blocks = i.blocks; flights = i.requests; syncs = i.syncs } in
+    subst (λ s. Step s (event.SyncStep c.args.sync) (reply.Wait c.in-Held.page) s) (state_is c.self.view_is)
+    (held_call i.geometry i.name i.handles p c.self.invariant c.args.sync (sync_of c.in-Some.progress)
+    c.in-Some.ensures c.in-Some-file.file c.in-Some-file.ensures c.in-Held.page c.in-Held.ensures.step)
+
+pub invariant_of-self : goal.invariant_of-self
+invariant_of-self c =
+    let i = c.self.inside in
+    let p : Parts = record { store = i.pages; blocks = i.blocks; flights = i.requests; syncs = i.syncs } in
+    let now : Parts = record p { syncs = c.set_bound.new.self } in
+    let goes = goes_to i.geometry i.name i.handles (state_by i.geometry i.name i.handles p) (event.SyncStep c.args.sync)
+    (reply.Wait c.in-Await.page) (bounded i.geometry i.name i.handles p c.self.invariant c.args.sync
+    (sync_of c.in-Some.progress) c.in-Some.ensures c.in-Some-file.file c.in-Some-file.ensures c.in-Await.bound.0)
+    now
+    (λ k. let x : Parts = record p { syncs = c.set_bound.ensures k } in x)
+    (awaits i.geometry i.name i.handles p c.self.invariant c.args.sync (sync_of c.in-Some.progress)
+    c.in-Some.ensures c.in-Some-file.file c.in-Some-file.ensures c.in-Await.page c.in-Await.bound
+    c.in-Await.ensures.step) in
+    goes.cache
 
 pub returns-in-Await-clause-step : goal.returns-in-Await-clause-step
 returns-in-Await-clause-step c =
     let i = c.self.inside in
-    let new : State = state_of i.geometry i.name i.pages.files i.handles i.blocks i.requests c.set_bound.new.self in
-    let step = await_call i.geometry i.name i.handles i.pages i.blocks i.requests i.syncs c.self.invariant.core c.self.invariant.syncs c.args.sync (slots.state_of c.in-Some.progress) c.in-Some.ensures c.in-Some-file.file c.in-Some-file.ensures c.set_bound.new.self c.in-Await.page c.in-Await.bound c.in-Await.ensures.step c.set_bound.ensures in
-    (new, subst (λ t. Step t (event.SyncStep c.args.sync) (reply.Wait c.in-Await.page) new) (state_is c.self.view_is) step, sym (is_bare i.geometry i.name i.handles i.pages i.blocks i.requests c.set_bound.new.self), tt)
+    let p : Parts = record { store = i.pages; blocks = i.blocks; flights = i.requests; syncs = i.syncs } in
+    let now : Parts = record p { syncs = c.set_bound.new.self } in
+    let goes = goes_to i.geometry i.name i.handles (state_by i.geometry i.name i.handles p) (event.SyncStep c.args.sync)
+    (reply.Wait c.in-Await.page) (bounded i.geometry i.name i.handles p c.self.invariant c.args.sync
+    (sync_of c.in-Some.progress) c.in-Some.ensures c.in-Some-file.file c.in-Some-file.ensures c.in-Await.bound.0)
+    now
+    (λ k. let x : Parts = record p { syncs = c.set_bound.ensures k } in x)
+    (awaits i.geometry i.name i.handles p c.self.invariant c.args.sync (sync_of c.in-Some.progress)
+    c.in-Some.ensures c.in-Some-file.file c.in-Some-file.ensures c.in-Await.page c.in-Await.bound
+    c.in-Await.ensures.step) in
+    subst (λ t. Step t (event.SyncStep c.args.sync) (reply.Wait c.in-Await.page)
+    (state_by i.geometry i.name i.handles now)) (state_is c.self.view_is) goes.step
+
+pub invariant_of-self-in-Over : goal.invariant_of-self-in-Over
+invariant_of-self-in-Over c =
+    let i = c.self.inside in
+    let p : Parts = record { store = i.pages; blocks = i.blocks; flights = i.requests; syncs = i.syncs } in
+    subst (λ (x : map.FinMap nat_cmp Sync). IsCache (state_by i.geometry i.name i.handles (record p { syncs = x }))
+    i.pages i.blocks) (sym c.remove.ensures.removed)
+    (without_cache i.geometry i.name i.handles p c.self.invariant c.args.sync)
 
 pub returns-after-failure_since-clause-step : goal.returns-after-failure_since-clause-step
 returns-after-failure_since-clause-step c =
     let i = c.self.inside in
-    let x = c.remove.new.self in
-    let n = c.args.sync in
-    let new : State = state_of i.geometry i.name i.pages.files i.handles i.blocks i.requests x in
-    let bare = sym (is_bare i.geometry i.name i.handles i.pages i.blocks i.requests x) in
+    let p : Parts = record { store = i.pages; blocks = i.blocks; flights = i.requests; syncs = i.syncs } in
+    let now : Parts = record p { syncs = c.remove.new.self } in
     elim c.match-failure_since.branch [
       | in-None w ↦
-          let step = clean_call i.geometry i.name i.handles i.pages i.blocks i.requests i.syncs c.self.invariant.core c.self.invariant.syncs c.args.sync (slots.state_of c.in-Some.progress) c.in-Some.ensures c.in-Some-file.file c.in-Some-file.ensures x c.in-Over.ensures.step c.remove.ensures.removed w.in-None.ensures in
-          let told = subst (λ t. Step t (event.SyncStep n) reply.Clean new) (state_is c.self.view_is) step in
-          (new, subst (λ r. Step c.args.self.now.state (event.SyncStep n) (sync_stepped r) new) (sym w.result-is) told, bare, subst (IsSyncJob new) (sym w.result-is) tt)
+          let goes = goes_to i.geometry i.name i.handles (state_by i.geometry i.name i.handles p)
+          (event.SyncStep c.args.sync) reply.Clean
+          (without i.geometry i.name i.handles p c.self.invariant c.args.sync) now
+          (λ k. let x : Parts = record p { syncs = c.remove.ensures.removed k } in x)
+          (clean_call i.geometry i.name i.handles p c.self.invariant c.args.sync (sync_of c.in-Some.progress)
+          c.in-Some.ensures c.in-Some-file.file c.in-Some-file.ensures c.in-Over.ensures.step w.in-None.ensures) in
+          subst (λ t. Step t (event.SyncStep c.args.sync) (sync_stepped c.match-failure_since.result)
+          (state_by i.geometry i.name i.handles now)) (state_is c.self.view_is)
+          (subst (λ r. Step (state_by i.geometry i.name i.handles p) (event.SyncStep c.args.sync) (sync_stepped r)
+          (state_by i.geometry i.name i.handles now)) (sym w.result-is) goes.step)
       | in-Some-failure_since w ↦
-          let code = w.in-Some-failure_since.code in
-          let step = failed_call i.geometry i.name i.handles i.pages i.blocks i.requests i.syncs c.self.invariant.core c.self.invariant.syncs c.args.sync (slots.state_of c.in-Some.progress) c.in-Some.ensures c.in-Some-file.file c.in-Some-file.ensures x c.in-Over.ensures.step c.remove.ensures.removed code w.in-Some-failure_since.ensures in
-          let told = subst (λ t. Step t (event.SyncStep n) (reply.Failed code) new) (state_is c.self.view_is) step in
-          (new, subst (λ r. Step c.args.self.now.state (event.SyncStep n) (sync_stepped r) new) (sym w.result-is) told, bare, subst (IsSyncJob new) (sym w.result-is) tt)
+          let goes = goes_to i.geometry i.name i.handles (state_by i.geometry i.name i.handles p)
+          (event.SyncStep c.args.sync) (reply.Failed w.in-Some-failure_since.code)
+          (without i.geometry i.name i.handles p c.self.invariant c.args.sync) now
+          (λ k. let x : Parts = record p { syncs = c.remove.ensures.removed k } in x)
+          (failed_call i.geometry i.name i.handles p c.self.invariant c.args.sync (sync_of c.in-Some.progress)
+          c.in-Some.ensures c.in-Some-file.file c.in-Some-file.ensures c.in-Over.ensures.step
+          w.in-Some-failure_since.code
+          w.in-Some-failure_since.ensures) in
+          subst (λ t. Step t (event.SyncStep c.args.sync) (sync_stepped c.match-failure_since.result)
+          (state_by i.geometry i.name i.handles now)) (state_is c.self.view_is)
+          (subst (λ r. Step (state_by i.geometry i.name i.handles p) (event.SyncStep c.args.sync) (sync_stepped r)
+          (state_by i.geometry i.name i.handles now)) (sym w.result-is) goes.step)
+    ]
+
+pub returns-after-failure_since-clause-job : goal.returns-after-failure_since-clause-job
+returns-after-failure_since-clause-job c =
+    let i = c.self.inside in
+    let p : Parts = record { store = i.pages; blocks = i.blocks; flights = i.requests; syncs = i.syncs } in
+    let new : State = state_by i.geometry i.name i.handles (record p { syncs = c.remove.new.self }) in
+    elim c.match-failure_since.branch [
+      | in-None w ↦ subst (IsSyncJob new) (sym w.result-is) tt
+      | in-Some-failure_since w ↦ subst (IsSyncJob new) (sym w.result-is) tt
     ]

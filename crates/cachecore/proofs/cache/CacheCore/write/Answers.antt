@@ -3,14 +3,14 @@ use Rattle.std.specs.Prelude.{unwrap_or}
 use Rattle.std.specs.FinMap as map
 use Rattle.pc_types.specs.declared.limits.TheConstants.{MAX_FILE_SIZE, MAX_TOUCHED}
 use Rattle.pc_types.specs.declared.refusal.Refusal.TheVariants.{Memory}
-use Rattle.cachecore.specs.declared.event.Event.TheVariants as event
-use Rattle.cachecore.specs.State.{touched_count}
+use Rattle.machine.specs.declared.event.Event.TheVariants as event
+use Rattle.machine.specs.State.{touched_count}
 use Rattle.cachecore.specs.Core.{Core}
-use Rattle.cachecore.specs.declared.event.Reply.TheVariants as reply
-use Rattle.cachecore.specs.Step.{Step}
+use Rattle.machine.specs.declared.event.Reply.TheVariants as reply
+use Rattle.machine.specs.Step.{Step}
 use Rattle.cachecore.specs.Replies.{wrote}
 use Rattle.cachecore.proofs.StepLemmas.{err_is, write_stopped, write_passed, write_no_room, write_no_memory, write_step}
-use Rattle.cachecore.proofs.Spans.{not_less}
+use Rattle.pagestore.proofs.Spans.{not_less}
 use Rattle.cachecore.proofs.CoreViews.{state_is}
 use Rattle.cachecore.proofs.cache.CacheCore.write.Goals as goal
 
@@ -18,83 +18,134 @@ pub returns-then-is_filling-clause-step : goal.returns-then-is_filling-clause-st
 returns-then-is_filling-clause-step c =
     let same : c.overwrite.new.self ≡ c.args.self.now = c.if-overwrite.ensures.same refl in
     let s = c.overwrite.new.self.state in
-    let found = c.in-Some.ensures ∙ ap (λ s. map.get s.handles c.args.handle.0) (state_is c.self.view_is) ∙ ap (λ (k : Core). map.get k.state.handles c.args.handle.0) (sym same) in
+    let found = c.in-Some.ensures ∙ ap (λ s. map.get s.handles c.args.handle.0) (state_is c.self.view_is)
+    ∙ ap (λ (k : Core). map.get k.state.handles c.args.handle.0) (sym same) in
     let some : 0 < length c.args.bytes.now = omega arith in
-    let page = c.page.ensures.value ∙ ap (λ s. s.sizes.page) (state_is c.self.view_is) ∙ ap (λ (k : Core). k.state.sizes.page) (sym same) in
-    let few : touched_count c.page.result c.args.offset (length c.args.bytes.now) ≤ MAX_TOUCHED = not_less MAX_TOUCHED (touched_count c.page.result c.args.offset (length c.args.bytes.now)) (sym c.is_too_long.ensures ∙ c.if-is_too_long.false) in
-    let short : touched_count s.sizes.page c.args.offset (length c.args.bytes.now) ≤ MAX_TOUCHED = subst (λ n. touched_count n c.args.offset (length c.args.bytes.now) ≤ MAX_TOUCHED) page few in
+    let page = c.page.ensures.value ∙ ap (λ s. s.sizes.page) (state_is c.self.view_is)
+    ∙ ap (λ (k : Core). k.state.sizes.page) (sym same) in
+    let few : touched_count c.page.result c.args.offset (length c.args.bytes.now) ≤ MAX_TOUCHED =
+    not_less MAX_TOUCHED (touched_count c.page.result c.args.offset (length c.args.bytes.now))
+    (sym c.is_too_long.ensures ∙ c.if-is_too_long.false) in
+    let short : touched_count s.sizes.page c.args.offset (length c.args.bytes.now) ≤ MAX_TOUCHED =
+    subst (λ n. touched_count n c.args.offset (length c.args.bytes.now) ≤ MAX_TOUCHED) page few in
     let small : c.args.offset + length c.args.bytes.now ≤ MAX_FILE_SIZE = omega (arith, c.saturating_add-end.ensures) in
-    subst (λ (k : Core). Step k.state (event.Write c.args.handle c.args.offset c.args.bytes.now) (reply.Wait (record { 0 = c.in-Some-write_stop.page })) s) same
-    (write_stopped s c.args.handle c.args.offset c.in-Some.file c.args.bytes.now found some short small c.in-Some-write_stop.page true (sym c.if-is_filling.true ∙ c.is_filling.ensures) c.in-Some-write_stop.ensures)
+    subst (λ (k : Core). Step k.state (event.Write c.args.handle c.args.offset c.args.bytes.now)
+    (reply.Wait (record { 0 = c.in-Some-write_stop.page })) s) same
+    (write_stopped s c.args.handle c.args.offset c.in-Some.file c.args.bytes.now found some short small
+    c.in-Some-write_stop.page true (sym c.if-is_filling.true ∙ c.is_filling.ensures) c.in-Some-write_stop.ensures)
 
 pub returns-in-Some-write_stop-clause-step : goal.returns-in-Some-write_stop-clause-step
 returns-in-Some-write_stop-clause-step c =
     let same : c.overwrite.new.self ≡ c.args.self.now = c.if-overwrite.ensures.same refl in
     let s = c.overwrite.new.self.state in
-    let found = c.in-Some.ensures ∙ ap (λ s. map.get s.handles c.args.handle.0) (state_is c.self.view_is) ∙ ap (λ (k : Core). map.get k.state.handles c.args.handle.0) (sym same) in
+    let found = c.in-Some.ensures ∙ ap (λ s. map.get s.handles c.args.handle.0) (state_is c.self.view_is)
+    ∙ ap (λ (k : Core). map.get k.state.handles c.args.handle.0) (sym same) in
     let some : 0 < length c.args.bytes.now = omega arith in
-    let page = c.page.ensures.value ∙ ap (λ s. s.sizes.page) (state_is c.self.view_is) ∙ ap (λ (k : Core). k.state.sizes.page) (sym same) in
-    let few : touched_count c.page.result c.args.offset (length c.args.bytes.now) ≤ MAX_TOUCHED = not_less MAX_TOUCHED (touched_count c.page.result c.args.offset (length c.args.bytes.now)) (sym c.is_too_long.ensures ∙ c.if-is_too_long.false) in
-    let short : touched_count s.sizes.page c.args.offset (length c.args.bytes.now) ≤ MAX_TOUCHED = subst (λ n. touched_count n c.args.offset (length c.args.bytes.now) ≤ MAX_TOUCHED) page few in
+    let page = c.page.ensures.value ∙ ap (λ s. s.sizes.page) (state_is c.self.view_is)
+    ∙ ap (λ (k : Core). k.state.sizes.page) (sym same) in
+    let few : touched_count c.page.result c.args.offset (length c.args.bytes.now) ≤ MAX_TOUCHED =
+    not_less MAX_TOUCHED (touched_count c.page.result c.args.offset (length c.args.bytes.now))
+    (sym c.is_too_long.ensures ∙ c.if-is_too_long.false) in
+    let short : touched_count s.sizes.page c.args.offset (length c.args.bytes.now) ≤ MAX_TOUCHED =
+    subst (λ n. touched_count n c.args.offset (length c.args.bytes.now) ≤ MAX_TOUCHED) page few in
     let small : c.args.offset + length c.args.bytes.now ≤ MAX_FILE_SIZE = omega (arith, c.saturating_add-end.ensures) in
-    subst (λ (k : Core). Step k.state (event.Write c.args.handle c.args.offset c.args.bytes.now) (reply.Miss (record { 0 = c.in-Some-write_stop.page })) s) same
-    (write_stopped s c.args.handle c.args.offset c.in-Some.file c.args.bytes.now found some short small c.in-Some-write_stop.page false (sym c.if-is_filling.false ∙ c.is_filling.ensures) c.in-Some-write_stop.ensures)
+    subst (λ (k : Core). Step k.state (event.Write c.args.handle c.args.offset c.args.bytes.now)
+    (reply.Miss (record { 0 = c.in-Some-write_stop.page })) s) same
+    (write_stopped s c.args.handle c.args.offset c.in-Some.file c.args.bytes.now found some short small
+    c.in-Some-write_stop.page false (sym c.if-is_filling.false ∙ c.is_filling.ensures) c.in-Some-write_stop.ensures)
 
 pub returns-in_err-check_room-clause-step : goal.returns-in_err-check_room-clause-step
 returns-in_err-check_room-clause-step c =
     let same : c.overwrite.new.self ≡ c.args.self.now = c.if-overwrite.ensures.same refl in
     let s = c.overwrite.new.self.state in
-    let found = c.in-Some.ensures ∙ ap (λ s. map.get s.handles c.args.handle.0) (state_is c.self.view_is) ∙ ap (λ (k : Core). map.get k.state.handles c.args.handle.0) (sym same) in
+    let found = c.in-Some.ensures ∙ ap (λ s. map.get s.handles c.args.handle.0) (state_is c.self.view_is)
+    ∙ ap (λ (k : Core). map.get k.state.handles c.args.handle.0) (sym same) in
     let some : 0 < length c.args.bytes.now = omega arith in
-    let page = c.page.ensures.value ∙ ap (λ s. s.sizes.page) (state_is c.self.view_is) ∙ ap (λ (k : Core). k.state.sizes.page) (sym same) in
-    let few : touched_count c.page.result c.args.offset (length c.args.bytes.now) ≤ MAX_TOUCHED = not_less MAX_TOUCHED (touched_count c.page.result c.args.offset (length c.args.bytes.now)) (sym c.is_too_long.ensures ∙ c.if-is_too_long.false) in
-    let short : touched_count s.sizes.page c.args.offset (length c.args.bytes.now) ≤ MAX_TOUCHED = subst (λ n. touched_count n c.args.offset (length c.args.bytes.now) ≤ MAX_TOUCHED) page few in
+    let page = c.page.ensures.value ∙ ap (λ s. s.sizes.page) (state_is c.self.view_is)
+    ∙ ap (λ (k : Core). k.state.sizes.page) (sym same) in
+    let few : touched_count c.page.result c.args.offset (length c.args.bytes.now) ≤ MAX_TOUCHED =
+    not_less MAX_TOUCHED (touched_count c.page.result c.args.offset (length c.args.bytes.now))
+    (sym c.is_too_long.ensures ∙ c.if-is_too_long.false) in
+    let short : touched_count s.sizes.page c.args.offset (length c.args.bytes.now) ≤ MAX_TOUCHED =
+    subst (λ n. touched_count n c.args.offset (length c.args.bytes.now) ≤ MAX_TOUCHED) page few in
     let small : c.args.offset + length c.args.bytes.now ≤ MAX_FILE_SIZE = omega (arith, c.saturating_add-end.ensures) in
-    subst (λ (k : Core). Step k.state (event.Write c.args.handle c.args.offset c.args.bytes.now) (wrote c.from_residual.result) s) same
-    (subst (λ r. Step s (event.Write c.args.handle c.args.offset c.args.bytes.now) (wrote r) s) (sym (err_is c.from_residual.result _ c.from_residual.ensures.1))
-    (write_no_room s c.args.handle c.args.offset c.in-Some.file c.args.bytes.now found some short small c.in_default-write_stop.ensures _ c.in_err-check_room.ensures))
+    subst (λ (k : Core). Step k.state (event.Write c.args.handle c.args.offset c.args.bytes.now)
+    (wrote c.from_residual.result) s) same
+    (subst (λ r. Step s (event.Write c.args.handle c.args.offset c.args.bytes.now) (wrote r) s)
+    (sym (err_is c.from_residual.result _ c.from_residual.ensures.1))
+    (write_no_room s c.args.handle c.args.offset c.in-Some.file c.args.bytes.now found some short small
+    c.in_default-write_stop.ensures _ c.in_err-check_room.ensures))
 
 pub write_pages-requires-clause-passed : goal.write_pages-requires-clause-passed
 write_pages-requires-clause-passed c =
     let same : c.overwrite.new.self ≡ c.args.self.now = c.if-overwrite.ensures.same refl in
     let s = c.overwrite.new.self.state in
-    let found = c.in-Some.ensures ∙ ap (λ s. map.get s.handles c.args.handle.0) (state_is c.self.view_is) ∙ ap (λ (k : Core). map.get k.state.handles c.args.handle.0) (sym same) in
+    let found = c.in-Some.ensures ∙ ap (λ s. map.get s.handles c.args.handle.0) (state_is c.self.view_is)
+    ∙ ap (λ (k : Core). map.get k.state.handles c.args.handle.0) (sym same) in
     let some : 0 < length c.args.bytes.now = omega arith in
-    let page = c.page.ensures.value ∙ ap (λ s. s.sizes.page) (state_is c.self.view_is) ∙ ap (λ (k : Core). k.state.sizes.page) (sym same) in
-    let few : touched_count c.page.result c.args.offset (length c.args.bytes.now) ≤ MAX_TOUCHED = not_less MAX_TOUCHED (touched_count c.page.result c.args.offset (length c.args.bytes.now)) (sym c.is_too_long.ensures ∙ c.if-is_too_long.false) in
-    let short : touched_count s.sizes.page c.args.offset (length c.args.bytes.now) ≤ MAX_TOUCHED = subst (λ n. touched_count n c.args.offset (length c.args.bytes.now) ≤ MAX_TOUCHED) page few in
-    let small : c.args.offset + length c.args.bytes.now ≤ MAX_FILE_SIZE = omega (arith, c.saturating_add-end.ensures) in
-    (c.args.handle.0, ap (λ o. unwrap_or o 0) (sym found), write_passed s c.args.handle c.args.offset c.in-Some.file c.args.bytes.now found some short small c.in_default-write_stop.ensures c.in_ok-check_room.ensures)
+    let page = c.page.ensures.value ∙ ap (λ s. s.sizes.page) (state_is c.self.view_is)
+    ∙ ap (λ (k : Core). k.state.sizes.page) (sym same) in
+    let few : touched_count c.page.result c.args.offset (length c.args.bytes.now) ≤ MAX_TOUCHED =
+    not_less MAX_TOUCHED (touched_count c.page.result c.args.offset (length c.args.bytes.now))
+    (sym c.is_too_long.ensures ∙ c.if-is_too_long.false) in
+    let short : touched_count s.sizes.page c.args.offset (length c.args.bytes.now) ≤ MAX_TOUCHED =
+    subst (λ n. touched_count n c.args.offset (length c.args.bytes.now) ≤ MAX_TOUCHED) page few in
+    let small : c.args.offset + length c.args.bytes.now ≤ MAX_FILE_SIZE =
+    omega (arith, c.saturating_add-end.ensures) in (
+      c.args.handle.0,
+      ap (λ o. unwrap_or o 0) (sym found),
+      write_passed s c.args.handle c.args.offset c.in-Some.file
+          c.args.bytes.now found some short small c.in_default-write_stop.ensures c.in_ok-check_room.ensures,
+    )
 
 pub returns-in_err-write_pages-clause-step : goal.returns-in_err-write_pages-clause-step
 returns-in_err-write_pages-clause-step c =
     let same : c.overwrite.new.self ≡ c.args.self.now = c.if-overwrite.ensures.same refl in
     let s = c.overwrite.new.self.state in
-    let found = c.in-Some.ensures ∙ ap (λ s. map.get s.handles c.args.handle.0) (state_is c.self.view_is) ∙ ap (λ (k : Core). map.get k.state.handles c.args.handle.0) (sym same) in
+    let found = c.in-Some.ensures ∙ ap (λ s. map.get s.handles c.args.handle.0) (state_is c.self.view_is)
+    ∙ ap (λ (k : Core). map.get k.state.handles c.args.handle.0) (sym same) in
     let some : 0 < length c.args.bytes.now = omega arith in
-    let page = c.page.ensures.value ∙ ap (λ s. s.sizes.page) (state_is c.self.view_is) ∙ ap (λ (k : Core). k.state.sizes.page) (sym same) in
-    let few : touched_count c.page.result c.args.offset (length c.args.bytes.now) ≤ MAX_TOUCHED = not_less MAX_TOUCHED (touched_count c.page.result c.args.offset (length c.args.bytes.now)) (sym c.is_too_long.ensures ∙ c.if-is_too_long.false) in
-    let short : touched_count s.sizes.page c.args.offset (length c.args.bytes.now) ≤ MAX_TOUCHED = subst (λ n. touched_count n c.args.offset (length c.args.bytes.now) ≤ MAX_TOUCHED) page few in
+    let page = c.page.ensures.value ∙ ap (λ s. s.sizes.page) (state_is c.self.view_is)
+    ∙ ap (λ (k : Core). k.state.sizes.page) (sym same) in
+    let few : touched_count c.page.result c.args.offset (length c.args.bytes.now) ≤ MAX_TOUCHED =
+    not_less MAX_TOUCHED (touched_count c.page.result c.args.offset (length c.args.bytes.now))
+    (sym c.is_too_long.ensures ∙ c.if-is_too_long.false) in
+    let short : touched_count s.sizes.page c.args.offset (length c.args.bytes.now) ≤ MAX_TOUCHED =
+    subst (λ n. touched_count n c.args.offset (length c.args.bytes.now) ≤ MAX_TOUCHED) page few in
     let small : c.args.offset + length c.args.bytes.now ≤ MAX_FILE_SIZE = omega (arith, c.saturating_add-end.ensures) in
-    subst (λ (k : Core). Step k.state (event.Write c.args.handle c.args.offset c.args.bytes.now) (wrote c.from_residual-in_err-write_pages.result) c.write_pages.new.self.state) same
-    (subst (λ r. Step s (event.Write c.args.handle c.args.offset c.args.bytes.now) (wrote r) c.write_pages.new.self.state) (sym (err_is c.from_residual-in_err-write_pages.result Memory c.from_residual-in_err-write_pages.ensures.1))
-    (write_no_memory s c.args.handle c.args.offset c.in-Some.file c.args.bytes.now found some short small c.in_default-write_stop.ensures c.write_pages.new.self.state c.in_ok-check_room.ensures (state_is c.in_err-write_pages.ensures.err)))
+    subst (λ (k : Core). Step k.state (event.Write c.args.handle c.args.offset c.args.bytes.now)
+    (wrote c.from_residual-in_err-write_pages.result) c.write_pages.new.self.state) same
+    (subst (λ r. Step s (event.Write c.args.handle c.args.offset c.args.bytes.now) (wrote r)
+    c.write_pages.new.self.state) (sym
+    (err_is c.from_residual-in_err-write_pages.result Memory c.from_residual-in_err-write_pages.ensures.1))
+    (write_no_memory s c.args.handle c.args.offset c.in-Some.file c.args.bytes.now found some short small
+    c.in_default-write_stop.ensures c.write_pages.new.self.state c.in_ok-check_room.ensures
+    (state_is c.in_err-write_pages.ensures.err)))
 
 pub returns-clause-step : goal.returns-clause-step
 returns-clause-step c =
     let same : c.overwrite.new.self ≡ c.args.self.now = c.if-overwrite.ensures.same refl in
     let s = c.overwrite.new.self.state in
-    let found = c.in-Some.ensures ∙ ap (λ s. map.get s.handles c.args.handle.0) (state_is c.self.view_is) ∙ ap (λ (k : Core). map.get k.state.handles c.args.handle.0) (sym same) in
+    let found = c.in-Some.ensures ∙ ap (λ s. map.get s.handles c.args.handle.0) (state_is c.self.view_is)
+    ∙ ap (λ (k : Core). map.get k.state.handles c.args.handle.0) (sym same) in
     let some : 0 < length c.args.bytes.now = omega arith in
-    let page = c.page.ensures.value ∙ ap (λ s. s.sizes.page) (state_is c.self.view_is) ∙ ap (λ (k : Core). k.state.sizes.page) (sym same) in
-    let few : touched_count c.page.result c.args.offset (length c.args.bytes.now) ≤ MAX_TOUCHED = not_less MAX_TOUCHED (touched_count c.page.result c.args.offset (length c.args.bytes.now)) (sym c.is_too_long.ensures ∙ c.if-is_too_long.false) in
-    let short : touched_count s.sizes.page c.args.offset (length c.args.bytes.now) ≤ MAX_TOUCHED = subst (λ n. touched_count n c.args.offset (length c.args.bytes.now) ≤ MAX_TOUCHED) page few in
+    let page = c.page.ensures.value ∙ ap (λ s. s.sizes.page) (state_is c.self.view_is)
+    ∙ ap (λ (k : Core). k.state.sizes.page) (sym same) in
+    let few : touched_count c.page.result c.args.offset (length c.args.bytes.now) ≤ MAX_TOUCHED =
+    not_less MAX_TOUCHED (touched_count c.page.result c.args.offset (length c.args.bytes.now))
+    (sym c.is_too_long.ensures ∙ c.if-is_too_long.false) in
+    let short : touched_count s.sizes.page c.args.offset (length c.args.bytes.now) ≤ MAX_TOUCHED =
+    subst (λ n. touched_count n c.args.offset (length c.args.bytes.now) ≤ MAX_TOUCHED) page few in
     let small : c.args.offset + length c.args.bytes.now ≤ MAX_FILE_SIZE = omega (arith, c.saturating_add-end.ensures) in
-    subst (λ (k : Core). Step k.state (event.Write c.args.handle c.args.offset c.args.bytes.now) (reply.Wrote (length c.args.bytes.now) c.saturating_add-end.result) c.write_pages.new.self.state) same
-    (write_step s c.args.handle c.args.offset c.in-Some.file c.args.bytes.now found some short small c.in_default-write_stop.ensures _ _ c.write_pages.new.self.state c.in_ok-check_room.ensures refl (omega (arith, c.saturating_add-end.ensures)) c.in_ok-write_pages.ensures.ok)
+    subst (λ (k : Core). Step k.state (event.Write c.args.handle c.args.offset c.args.bytes.now)
+    (reply.Wrote (length c.args.bytes.now) c.saturating_add-end.result) c.write_pages.new.self.state) same
+    (write_step s c.args.handle c.args.offset c.in-Some.file c.args.bytes.now found some short small
+    c.in_default-write_stop.ensures _ _ c.write_pages.new.self.state c.in_ok-check_room.ensures refl
+    (omega (arith, c.saturating_add-end.ensures)) c.in_ok-write_pages.ensures.ok)
 
 pub overwrite-requires-clause-open : goal.overwrite-requires-clause-open
-overwrite-requires-clause-open c = (c.args.handle.0, sym (c.in-Some.ensures ∙ ap (λ s. map.get s.handles c.args.handle.0) (state_is c.self.view_is)))
+overwrite-requires-clause-open c =
+    (c.args.handle.0, sym (c.in-Some.ensures ∙ ap (λ s. map.get s.handles c.args.handle.0) (state_is c.self.view_is)))
 
 pub returns-then-overwrite-clause-step : goal.returns-then-overwrite-clause-step
 returns-then-overwrite-clause-step c =
@@ -102,7 +153,13 @@ returns-then-overwrite-clause-step c =
     let found = c.in-Some.ensures ∙ ap (λ s. map.get s.handles c.args.handle.0) (state_is c.self.view_is) in
     let some : 0 < length c.args.bytes.now = omega arith in
     let page = c.page.ensures.value ∙ ap (λ s. s.sizes.page) (state_is c.self.view_is) in
-    let few : touched_count c.page.result c.args.offset (length c.args.bytes.now) ≤ MAX_TOUCHED = not_less MAX_TOUCHED (touched_count c.page.result c.args.offset (length c.args.bytes.now)) (sym c.is_too_long.ensures ∙ c.if-is_too_long.false) in
-    let short : touched_count s.sizes.page c.args.offset (length c.args.bytes.now) ≤ MAX_TOUCHED = subst (λ n. touched_count n c.args.offset (length c.args.bytes.now) ≤ MAX_TOUCHED) page few in
+    let few : touched_count c.page.result c.args.offset (length c.args.bytes.now) ≤ MAX_TOUCHED =
+    not_less MAX_TOUCHED (touched_count c.page.result c.args.offset (length c.args.bytes.now))
+    (sym c.is_too_long.ensures ∙ c.if-is_too_long.false) in
+    let short : touched_count s.sizes.page c.args.offset (length c.args.bytes.now) ≤ MAX_TOUCHED =
+    subst (λ n. touched_count n c.args.offset (length c.args.bytes.now) ≤ MAX_TOUCHED) page few in
     let small : c.args.offset + length c.args.bytes.now ≤ MAX_FILE_SIZE = omega (arith, c.saturating_add-end.ensures) in
-    write_step s c.args.handle c.args.offset c.in-Some.file c.args.bytes.now found some short small (sym (c.if-overwrite.ensures.unstopped refl)) _ _ c.overwrite.new.self.state (sym (c.if-overwrite.ensures.room refl)) refl (omega (arith, c.saturating_add-end.ensures)) (c.if-overwrite.ensures.done refl)
+    write_step s c.args.handle c.args.offset c.in-Some.file c.args.bytes.now found some short small
+    (sym (c.if-overwrite.ensures.unstopped refl)) _ _ c.overwrite.new.self.state
+    (sym (c.if-overwrite.ensures.room refl)) refl (omega (arith, c.saturating_add-end.ensures))
+    (c.if-overwrite.ensures.done refl)

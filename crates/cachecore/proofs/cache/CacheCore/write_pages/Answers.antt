@@ -1,17 +1,18 @@
 use Rattle.std.proofs.Common.{arith, sym, ap, subst, refl, max, ◌∙◌, ◌≡◌, ◌+◌, ◌-◌, ◌/◌, ◌<◌, ℕ, length}
 use Rattle.std.specs.Prelude.{None}
 use Rattle.blockmap.specs.Blocks.{Blocks}
-use Rattle.cachecore.specs.State.{State, File, file_of}
+use Rattle.machine.specs.State.{State, File, handle_file}
 use Rattle.cachecore.specs.Core.{Core}
-use Rattle.cachecore.specs.Changes.{put_file, written}
-use Rattle.cachecore.specs.Moves.{write_moves}
-use Rattle.cachecore.specs.Tests.{write_tests}
-use Rattle.cachecore.specs.Pairs.{AreSized, IsLaid}
-use Rattle.cachecore.specs.Store.{Store, stored_at}
-use Rattle.cachecore.specs.Syncing.{failed_of}
+use Rattle.machine.specs.Changes.{put_file, written}
+use Rattle.machine.specs.ListChanges.{lists_written}
+use Rattle.machine.specs.Tests.{write_tests}
+use Rattle.pagestore.specs.Ranges.{AreSized, IsLaid}
+use Rattle.pagestore.specs.Store.{Store, stored_at}
+use Rattle.pagestore.specs.Syncing.{failed_of}
 use Rattle.cachecore.specs.Tables.{IsCore, state_of}
 use Rattle.cachecore.proofs.WriteMoves.{written_lists}
-use Rattle.cachecore.proofs.WriteSteps.{WriteSteps, laid_noted, parts, final_files, final_free, final_page, final_idle, made_sized}
+use Rattle.cachecore.proofs.WriteSteps.{WriteSteps, laid_noted, parts, final_files, final_free, final_page, final_idle}
+use Rattle.cachecore.proofs.WriteSteps.{made_sized}
 use Rattle.cachecore.proofs.CoreLemmas.{frames_enough, blocks_enough, none_awaited, write_state, core-written, taken}
 use Rattle.cachecore.proofs.SyncLaws.{kept_failed, moved_syncs}
 use Rattle.cachecore.proofs.CoreViews.{state_is}
@@ -20,20 +21,35 @@ use Rattle.cachecore.proofs.cache.CacheCore.write_pages.Goals as goal
 pub place-requires-clause-frames : goal.place-requires-clause-frames
 place-requires-clause-frames c =
     let a = c.self.inside in
-    let passed = subst (λ s. (h : ℕ) × (file_of s h ≡ c.args.file) × (write_tests s h c.args.offset (length c.args.bytes.now) ≡ None)) (sym (state_is c.self.view_is)) c.requires.passed in
-    frames_enough (state_of a.geometry a.name a.pages.files a.handles a.blocks a.requests a.syncs) a.pages a.blocks c.self.invariant.core refl passed.0 c.args.file c.args.offset (length c.args.bytes.now) c.page-page_size.result passed.1 c.page-page_size.ensures.value passed.2
+    let passed =
+    subst (λ s. (h : ℕ) × (handle_file s h ≡ c.args.file)
+    × (write_tests s h c.args.offset (length c.args.bytes.now) ≡ None)) (sym (state_is c.self.view_is))
+    c.requires.passed in
+    frames_enough (state_of a.geometry a.name a.pages.files a.handles a.blocks a.requests a.syncs) a.pages a.blocks
+    c.self.invariant.core refl passed.0 c.args.file c.args.offset (length c.args.bytes.now) c.page-page_size.result
+    passed.1 c.page-page_size.ensures.value passed.2
 
 pub place-requires-clause-room : goal.place-requires-clause-room
 place-requires-clause-room c =
     let a = c.self.inside in
-    let passed = subst (λ s. (h : ℕ) × (file_of s h ≡ c.args.file) × (write_tests s h c.args.offset (length c.args.bytes.now) ≡ None)) (sym (state_is c.self.view_is)) c.requires.passed in
-    blocks_enough (state_of a.geometry a.name a.pages.files a.handles a.blocks a.requests a.syncs) a.pages a.blocks c.self.invariant.core refl passed.0 c.args.file c.args.offset (length c.args.bytes.now) c.page-page_size.result passed.1 c.page-page_size.ensures.value passed.2
+    let passed =
+    subst (λ s. (h : ℕ) × (handle_file s h ≡ c.args.file)
+    × (write_tests s h c.args.offset (length c.args.bytes.now) ≡ None)) (sym (state_is c.self.view_is))
+    c.requires.passed in
+    blocks_enough (state_of a.geometry a.name a.pages.files a.handles a.blocks a.requests a.syncs) a.pages a.blocks
+    c.self.invariant.core refl passed.0 c.args.file c.args.offset (length c.args.bytes.now) c.page-page_size.result
+    passed.1 c.page-page_size.ensures.value passed.2
 
 pub place-requires-clause-idle : goal.place-requires-clause-idle
 place-requires-clause-idle c =
     let a = c.self.inside in
-    let passed = subst (λ s. (h : ℕ) × (file_of s h ≡ c.args.file) × (write_tests s h c.args.offset (length c.args.bytes.now) ≡ None)) (sym (state_is c.self.view_is)) c.requires.passed in
-    none_awaited (state_of a.geometry a.name a.pages.files a.handles a.blocks a.requests a.syncs) a.pages a.blocks c.self.invariant.core refl passed.0 c.args.file c.args.offset (length c.args.bytes.now) c.page-page_size.result passed.1 c.page-page_size.ensures.value passed.2
+    let passed =
+    subst (λ s. (h : ℕ) × (handle_file s h ≡ c.args.file)
+    × (write_tests s h c.args.offset (length c.args.bytes.now) ≡ None)) (sym (state_is c.self.view_is))
+    c.requires.passed in
+    none_awaited (state_of a.geometry a.name a.pages.files a.handles a.blocks a.requests a.syncs) a.pages a.blocks
+    c.self.invariant.core refl passed.0 c.args.file c.args.offset (length c.args.bytes.now) c.page-page_size.result
+    passed.1 c.page-page_size.ensures.value passed.2
 
 pub write-requires-clause-sized : goal.write-requires-clause-sized
 write-requires-clause-sized c =
@@ -44,7 +60,9 @@ write-requires-clause-sized c =
     let store = c.self.inside.pages in
     let size : P ≡ store.page = c.page-page_size.ensures.value ∙ sym c.self.invariant.core.page in
     subst (λ (s : Store). AreSized P (stored_at s f).pages) (sym c.access_cached.ensures)
-    (made_sized f (o / P) last store c.place.new.pages P size c.in_ok-place.ensures.made (subst (λ (n : ℕ). AreSized n (stored_at store f).pages) (sym c.page-page_size.ensures.value) (c.self.invariant.core.sized f)))
+    (made_sized f (o / P) last store c.place.new.pages P size c.in_ok-place.ensures.made
+    (subst (λ (n : ℕ). AreSized n (stored_at store f).pages) (sym c.page-page_size.ensures.value)
+    (c.self.invariant.core.sized f)))
 
 pub invariant_of-self-2 : goal.invariant_of-self-2
 invariant_of-self-2 c =
@@ -55,15 +73,20 @@ invariant_of-self-2 c =
     let P = c.page-page_size.result in
     let old : State = state_of a.geometry a.name a.pages.files a.handles a.blocks a.requests a.syncs in
     let store = a.pages in
-    let here : f < length store.files = omega (arith, c.requires.here, ap (λ s. length s.files) (state_is c.self.view_is)) in
+    let here : f < length store.files =
+    omega (arith, c.requires.here, ap (λ s. length s.files) (state_is c.self.view_is)) in
     let size : P ≡ store.page = c.page-page_size.ensures.value ∙ sym c.self.invariant.core.page in
-    let same : stored_at c.access_cached.new.self f ≡ stored_at c.place.new.pages f = ap (λ (s : Store). stored_at s f) c.access_cached.ensures in
-    let steps : WriteSteps P o b f c.max-size.result store c.place.new.pages c.write.new.self c.set_size.new.self = record {
+    let same : stored_at c.access_cached.new.self f ≡ stored_at c.place.new.pages f =
+    ap (λ (s : Store). stored_at s f) c.access_cached.ensures in
+    let steps : WriteSteps P o b f c.max-size.result store c.place.new.pages c.write.new.self c.set_size.new.self =
+    record {
       here = here;
       page = size;
       cover = c.in_ok-place.ensures.made;
-      pages = subst (λ (e : File). IsLaid P o b (o / P) ((o + length b - 1) / P + 1) e.pages (stored_at c.write.new.self f).pages) same c.write.ensures.pages;
-      rest = laid_noted f c.place.new.pages c.access_cached.new.self c.write.new.self _ c.access_cached.ensures c.write.ensures.rest;
+      pages = subst (λ (e : File). IsLaid P o b (o / P) ((o + length b - 1) / P + 1) e.pages
+          (stored_at c.write.new.self f).pages) same c.write.ensures.pages;
+      rest = laid_noted f c.place.new.pages c.access_cached.new.self c.write.new.self _ c.access_cached.ensures
+          c.write.ensures.rest;
       size = c.max-size.ensures ∙ ap (λ n. max n (o + length b)) c.size.ensures;
       grown = c.set_size.ensures;
     } in
@@ -71,18 +94,41 @@ invariant_of-self-2 c =
     let e2 = stored_at c.write.new.self f in
     let e3 = stored_at c.set_size.new.self f in
     let of_write = parts P o b f c.max-size.result store c.place.new.pages c.write.new.self c.set_size.new.self steps in
-    let files = final_files P o b f c.max-size.result store c.place.new.pages c.write.new.self c.set_size.new.self steps in
-    let passed = subst (λ s. (h : ℕ) × (file_of s h ≡ f) × (write_tests s h o (length b) ≡ None)) (sym (state_is c.self.view_is)) c.requires.passed in
-    let state : state_of a.geometry a.name c.set_size.new.self.files a.handles c.place.new.blocks a.requests a.syncs ≡ record (put_file old f e3) { spots = (taken old store a.blocks c.self.invariant.core refl passed.0 f o P b e1 e2 e3 c.set_size.new.self passed.1 c.page-page_size.ensures.value passed.2 here of_write (omega (arith, c.page-page_size.ensures.least)) c.requires.bound P).spots } =
+    let files = final_files P o b f c.max-size.result store c.place.new.pages c.write.new.self c.set_size.new.self
+    steps in
+    let passed = subst (λ s. (h : ℕ) × (handle_file s h ≡ f) × (write_tests s h o (length b) ≡ None))
+    (sym (state_is c.self.view_is)) c.requires.passed in
+    let state : state_of a.geometry a.name c.set_size.new.self.files a.handles c.place.new.blocks a.requests a.syncs
+    ≡ record (put_file old f e3) {
+      spots =
+          (taken old store a.blocks c.self.invariant.core refl passed.0 f o P b e1 e2 e3 c.set_size.new.self passed.1
+          c.page-page_size.ensures.value passed.2 here of_write (omega (arith, c.page-page_size.ensures.least))
+          c.requires.bound P).spots;
+    } =
     (λ i. state_of a.geometry a.name (files i) a.handles (c.in_ok-place.ensures.placed i) a.requests a.syncs) in
-    let core = subst (λ (bs : Blocks). IsCore (state_of a.geometry a.name c.set_size.new.self.files a.handles c.place.new.blocks a.requests a.syncs) c.set_size.new.self bs) (sym c.in_ok-place.ensures.placed)
-    (subst (λ (t : State). IsCore t c.set_size.new.self (taken old store a.blocks c.self.invariant.core refl passed.0 f o P b e1 e2 e3 c.set_size.new.self passed.1 c.page-page_size.ensures.value passed.2 here of_write (omega (arith, c.page-page_size.ensures.least)) c.requires.bound P)) (sym state)
-    (core-written old store a.blocks c.self.invariant.core refl passed.0 f o P b e1 e2 e3 c.set_size.new.self passed.1 c.page-page_size.ensures.value passed.2 here of_write (omega (arith, c.page-page_size.ensures.least)) c.requires.bound
+    let core =
+    subst (λ (bs : Blocks). IsCore
+    (state_of a.geometry a.name c.set_size.new.self.files a.handles c.place.new.blocks a.requests a.syncs)
+    c.set_size.new.self bs) (sym c.in_ok-place.ensures.placed)
+    (subst (λ (t : State). IsCore t c.set_size.new.self
+    (taken old store a.blocks c.self.invariant.core refl passed.0 f o P b e1 e2 e3 c.set_size.new.self passed.1
+    c.page-page_size.ensures.value passed.2 here of_write (omega (arith, c.page-page_size.ensures.least))
+    c.requires.bound P)) (sym state)
+    (core-written old store a.blocks c.self.invariant.core refl passed.0 f o P b e1 e2 e3 c.set_size.new.self passed.1
+    c.page-page_size.ensures.value passed.2 here of_write (omega (arith, c.page-page_size.ensures.least))
+    c.requires.bound
     (final_page P o b f c.max-size.result store c.place.new.pages c.write.new.self c.set_size.new.self steps)
     (final_free P o b f c.max-size.result store c.place.new.pages c.write.new.self c.set_size.new.self steps)
     (final_idle P o b f c.max-size.result store c.place.new.pages c.write.new.self c.set_size.new.self steps))) in
-    let written_is = state ∙ write_state old store a.blocks c.self.invariant.core refl passed.0 f o P b e1 e2 e3 c.set_size.new.self passed.1 c.page-page_size.ensures.value passed.2 here of_write (omega (arith, c.page-page_size.ensures.least)) c.requires.bound in
-    record { core = core; syncs = moved_syncs a.handles a.requests.next a.pages.files a.syncs c.self.invariant.syncs a.requests.next c.set_size.new.self.files (omega arith) (λ g. ap (λ (s : State). failed_of s.files g) written_is ∙ kept_failed store.files f _ refl refl g) }
+    let written_is = state ∙ write_state old store a.blocks c.self.invariant.core refl passed.0 f o P b e1 e2 e3
+    c.set_size.new.self passed.1 c.page-page_size.ensures.value passed.2 here of_write
+    (omega (arith, c.page-page_size.ensures.least)) c.requires.bound in
+    record {
+      core = core;
+      syncs = moved_syncs a.handles a.pages.files a.syncs c.self.invariant.syncs
+          c.set_size.new.self.files (λ g. ap (λ (s : State). failed_of s.files g) written_is
+          ∙ kept_failed store.files f _ refl refl g);
+    }
 
 pub returns-clause-ok : goal.returns-clause-ok
 returns-clause-ok c =
@@ -93,15 +139,20 @@ returns-clause-ok c =
     let P = c.page-page_size.result in
     let old : State = state_of a.geometry a.name a.pages.files a.handles a.blocks a.requests a.syncs in
     let store = a.pages in
-    let here : f < length store.files = omega (arith, c.requires.here, ap (λ s. length s.files) (state_is c.self.view_is)) in
+    let here : f < length store.files =
+    omega (arith, c.requires.here, ap (λ s. length s.files) (state_is c.self.view_is)) in
     let size : P ≡ store.page = c.page-page_size.ensures.value ∙ sym c.self.invariant.core.page in
-    let same : stored_at c.access_cached.new.self f ≡ stored_at c.place.new.pages f = ap (λ (s : Store). stored_at s f) c.access_cached.ensures in
-    let steps : WriteSteps P o b f c.max-size.result store c.place.new.pages c.write.new.self c.set_size.new.self = record {
+    let same : stored_at c.access_cached.new.self f ≡ stored_at c.place.new.pages f =
+    ap (λ (s : Store). stored_at s f) c.access_cached.ensures in
+    let steps : WriteSteps P o b f c.max-size.result store c.place.new.pages c.write.new.self c.set_size.new.self =
+    record {
       here = here;
       page = size;
       cover = c.in_ok-place.ensures.made;
-      pages = subst (λ (e : File). IsLaid P o b (o / P) ((o + length b - 1) / P + 1) e.pages (stored_at c.write.new.self f).pages) same c.write.ensures.pages;
-      rest = laid_noted f c.place.new.pages c.access_cached.new.self c.write.new.self _ c.access_cached.ensures c.write.ensures.rest;
+      pages = subst (λ (e : File). IsLaid P o b (o / P) ((o + length b - 1) / P + 1) e.pages
+          (stored_at c.write.new.self f).pages) same c.write.ensures.pages;
+      rest = laid_noted f c.place.new.pages c.access_cached.new.self c.write.new.self _ c.access_cached.ensures
+          c.write.ensures.rest;
       size = c.max-size.ensures ∙ ap (λ n. max n (o + length b)) c.size.ensures;
       grown = c.set_size.ensures;
     } in
@@ -109,11 +160,21 @@ returns-clause-ok c =
     let e2 = stored_at c.write.new.self f in
     let e3 = stored_at c.set_size.new.self f in
     let of_write = parts P o b f c.max-size.result store c.place.new.pages c.write.new.self c.set_size.new.self steps in
-    let files = final_files P o b f c.max-size.result store c.place.new.pages c.write.new.self c.set_size.new.self steps in
-    let passed = subst (λ s. (h : ℕ) × (file_of s h ≡ f) × (write_tests s h o (length b) ≡ None)) (sym (state_is c.self.view_is)) c.requires.passed in
-    let state : state_of a.geometry a.name c.set_size.new.self.files a.handles c.place.new.blocks a.requests a.syncs ≡ record (put_file old f e3) { spots = (taken old store a.blocks c.self.invariant.core refl passed.0 f o P b e1 e2 e3 c.set_size.new.self passed.1 c.page-page_size.ensures.value passed.2 here of_write (omega (arith, c.page-page_size.ensures.least)) c.requires.bound P).spots } =
+    let files = final_files P o b f c.max-size.result store c.place.new.pages c.write.new.self c.set_size.new.self
+    steps in
+    let passed = subst (λ s. (h : ℕ) × (handle_file s h ≡ f) × (write_tests s h o (length b) ≡ None))
+    (sym (state_is c.self.view_is)) c.requires.passed in
+    let state : state_of a.geometry a.name c.set_size.new.self.files a.handles c.place.new.blocks a.requests a.syncs
+    ≡ record (put_file old f e3) {
+      spots =
+          (taken old store a.blocks c.self.invariant.core refl passed.0 f o P b e1 e2 e3 c.set_size.new.self passed.1
+          c.page-page_size.ensures.value passed.2 here of_write (omega (arith, c.page-page_size.ensures.least))
+          c.requires.bound P).spots;
+    } =
     (λ i. state_of a.geometry a.name (files i) a.handles (c.in_ok-place.ensures.placed i) a.requests a.syncs) in
-    state ∙ write_state old store a.blocks c.self.invariant.core refl passed.0 f o P b e1 e2 e3 c.set_size.new.self passed.1 c.page-page_size.ensures.value passed.2 here of_write (omega (arith, c.page-page_size.ensures.least)) c.requires.bound ∙ ap (λ s. written s f o b) (state_is c.self.view_is)
+    state ∙ write_state old store a.blocks c.self.invariant.core refl passed.0 f o P b e1 e2 e3 c.set_size.new.self
+    passed.1 c.page-page_size.ensures.value passed.2 here of_write (omega (arith, c.page-page_size.ensures.least))
+    c.requires.bound ∙ ap (λ s. written s f o b) (state_is c.self.view_is)
 
 pub returns-clause-lists : goal.returns-clause-lists
 returns-clause-lists c =
@@ -122,6 +183,9 @@ returns-clause-lists c =
     let o = c.args.offset in
     let n = length c.args.bytes.now in
     let lists = λ (s : Store). s.lists in
-    written_lists (state_of a.geometry a.name a.pages.files a.handles a.blocks a.requests a.syncs) f o n a.pages.lists c.page-page_size.result _ c.place.new.pages.lists c.set_size.new.self.lists c.page-page_size.ensures.value c.requires.some
-    c.which_cached-cached.ensures (ap lists c.in_ok-place.ensures.made.rest) (ap lists c.set_size.ensures ∙ ap lists c.write.ensures.rest ∙ ap lists c.access_cached.ensures)
-    ∙ ap (λ (k : Core). write_moves k.state f o n k.lists) c.self.view_is
+    written_lists (state_of a.geometry a.name a.pages.files a.handles a.blocks a.requests a.syncs) f o n a.pages.lists
+    c.page-page_size.result _ c.place.new.pages.lists c.set_size.new.self.lists c.page-page_size.ensures.value
+    c.requires.some
+    c.which_cached-cached.ensures (ap lists c.in_ok-place.ensures.made.rest)
+    (ap lists c.set_size.ensures ∙ ap lists c.write.ensures.rest ∙ ap lists c.access_cached.ensures)
+    ∙ ap (λ (k : Core). lists_written k.state f o n k.lists) c.self.view_is

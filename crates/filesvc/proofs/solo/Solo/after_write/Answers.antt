@@ -1,10 +1,40 @@
-use Rattle.std.proofs.Common.{rules}
+use Rattle.std.proofs.Common.{◌≡◌, ◌<◌, Some, None, true, refl, rules, sym, subst}
+use Rattle.cachecore.specs.Replies.{wrote}
+use Rattle.machine.specs.declared.event.Reply.{Reply}
+use Rattle.machine.specs.declared.event.Reply.TheVariants as reply
+use Rattle.filesvc.specs.Attempts.{Follows}
+use Rattle.std.specs.Prelude.{is_some}
+use Rattle.filesvc.specs.Rooms.{need, wants}
+use Rattle.filesvc.proofs.Attempts.{follows_over, settled_unless}
+use Rattle.filesvc.proofs.Needs.{less_needed}
 use Rattle.filesvc.proofs.solo.Solo.after_write.Goals as goal
-use Rattle.filesvc.proofs.solo.Solo.after_write.Goals.{in-Ok+in-Ok-Miss+in_ok-fill-in-Ok-Miss, in-Err-NoFrame+in_ok-make_frames-in-Err-NoFrame, in-Err-DirtyLimit+in_ok-make_clean-in-Err-DirtyLimit}
+use Rattle.filesvc.proofs.solo.Solo.after_write.Goals.{in-Ok+in-Ok-Miss+in_ok-fill-in-Ok-Miss, in-Err-NoFrame+in_ok-make_way-in-Err-NoFrame, in-Err-DirtyLimit+in_ok-make_way-in-Err-DirtyLimit}
 
-pub returns-clause-again : goal.returns-clause-again
-returns-clause-again g c = elim c.match-answer.branch [
-  | in-Ok+in-Ok-Miss+in_ok-fill-in-Ok-Miss w ↦ search rules
-  | in-Err-NoFrame+in_ok-make_frames-in-Err-NoFrame w ↦ rw (w.in-Err-NoFrame.is, w.in-Err-NoFrame.field-0-is, w.self-is) w.in_ok-make_frames-in-Err-NoFrame.ensures.made
-  | in-Err-DirtyLimit+in_ok-make_clean-in-Err-DirtyLimit w ↦ rw (w.in-Err-DirtyLimit.is, w.in-Err-DirtyLimit.field-0-is, w.self-is) w.in_ok-make_clean-in-Err-DirtyLimit.ensures.made
+pub returns-in-Ok-Wrote-clause-follows : goal.returns-in-Ok-Wrote-clause-follows
+returns-in-Ok-Wrote-clause-follows g c =
+    let got : Reply = reply.Wrote c.in-Ok-Wrote.count c.in-Ok-Wrote.end in
+    let is : wrote c.args.answer ≡ got = search rules in
+    subst (λ r. Follows c.args.self.now c.args.span.handle r (Some got) c.args.self.now) (sym is)
+    (follows_over c.args.self.now c.args.span.handle got c.args.self.now refl refl)
+
+pub returns-in-Err : goal.returns-in-Err
+returns-in-Err g c = record {
+  follows = rw c.in-Err.is
+      (follows_over c.args.self.now c.args.span.handle (reply.Refused c.in-Err.refusal) c.args.self.now refl
+      (settled_unless c.in-Err.refusal (search rules) (search rules)));
+  gains = λ tells is. absurd cc;
+}
+
+pub returns-clause-gains : goal.returns-clause-gains
+returns-clause-gains g c = elim c.match-answer.branch [
+  | in-Ok+in-Ok-Miss+in_ok-fill-in-Ok-Miss w ↦
+      rw w.self-is (λ tells _. subst (λ d. need d w.fill.new.self.world.core c.args.span.handle.0 c.args.span.offset c.args.span.count < need d c.args.self.now.world.core c.args.span.handle.0 c.args.span.offset c.args.span.count) c.requires.dirties (w.in_ok-fill-in-Ok-Miss.ensures.gains tells))
+  | in-Err-NoFrame+in_ok-make_way-in-Err-NoFrame w ↦
+      (let some : is_some (wants true c.args.self.now.world.core c.args.span.handle.0 c.args.span.offset c.args.span.count) ≡ true = rw (w.in-Err-NoFrame.is, w.in-Err-NoFrame.field-0-is) at c.requires.stops in
+      let none = subst (λ d. wants d (c.match-answer.self).world.core c.args.span.handle.0 c.args.span.offset c.args.span.count ≡ None) c.requires.dirties (rw w.self-is w.in_ok-make_way-in-Err-NoFrame.ensures.made) in
+      λ _ _. less_needed true c.args.self.now c.match-answer.self c.args.span.handle.0 c.args.span.offset c.args.span.count (rw w.self-is w.in_ok-make_way-in-Err-NoFrame.ensures.helps.serves) none some)
+  | in-Err-DirtyLimit+in_ok-make_way-in-Err-DirtyLimit w ↦
+      (let some : is_some (wants true c.args.self.now.world.core c.args.span.handle.0 c.args.span.offset c.args.span.count) ≡ true = rw (w.in-Err-DirtyLimit.is, w.in-Err-DirtyLimit.field-0-is) at c.requires.stops in
+      let none = subst (λ d. wants d (c.match-answer.self).world.core c.args.span.handle.0 c.args.span.offset c.args.span.count ≡ None) c.requires.dirties (rw w.self-is w.in_ok-make_way-in-Err-DirtyLimit.ensures.made) in
+      λ _ _. less_needed true c.args.self.now c.match-answer.self c.args.span.handle.0 c.args.span.offset c.args.span.count (rw w.self-is w.in_ok-make_way-in-Err-DirtyLimit.ensures.helps.serves) none some)
 ]

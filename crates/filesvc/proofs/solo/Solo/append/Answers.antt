@@ -1,11 +1,16 @@
-use Rattle.std.proofs.Common.{Some, None, refl}
+use Rattle.std.proofs.Common.{Some, None, refl, rules, subst}
 use Rattle.std.proofs.lemmas.Result.{err_from_is_err_and}
-use Rattle.cachecore.specs.declared.event.Event.TheVariants as event
-use Rattle.cachecore.specs.declared.event.Reply.TheVariants as reply
-use Rattle.filesvc.specs.Attempts.{Attempt}
-use Rattle.filesvc.proofs.Attempts.{try_again, try_over}
+use Rattle.machine.specs.declared.event.Event.TheVariants as event
+use Rattle.machine.specs.declared.event.Reply.TheVariants as reply
+use Rattle.machine.specs.State.{file_at, handle_file}
+use Rattle.filesvc.specs.Attempts.{Attempt, WroteAll}
+use Rattle.filesvc.specs.Service.{Names}
+use Rattle.filesvc.proofs.Attempts.{length_before, try_again, try_first, try_over}
 use Rattle.filesvc.proofs.Laws.{keeps_trans}
 use Rattle.filesvc.proofs.solo.Solo.append.Goals as goal
+
+pub attempts-init : goal.attempts-init
+attempts-init g c = rw (← c.self.view_is) (try_first _ _)
 
 pub returns-in_err-wrote-clause-keeps : goal.returns-in_err-wrote-clause-keeps
 returns-in_err-wrote-clause-keeps g c = keeps_trans _ _ _ c.attempts.invariant.serves.keeps c.try_append.ensures.attempt.keeps
@@ -21,6 +26,29 @@ returns-in_err-wrote-clause-refused g c =
     let p = err_from_is_err_and c.from_residual.result c.from_residual.ensures.1 in
     let a : Attempt c.attempts.self (event.Append (record { 0 = c.args.handle.now.number }) c.args.bytes.now) (Some (reply.Refused c.in_err-wrote.field-0.0)) c.try_append.new.self = rw (← c.handle.view_is) c.in_err-wrote.ensures.attempt in
     rw (p.1, p.2) (λ _. (try_over _ _ _ c.attempts.invariant c.args.handle.now _ _ a refl).refused _ refl)
+
+pub returns-in_err-wrote-clause-made : goal.returns-in_err-wrote-clause-made
+returns-in_err-wrote-clause-made g c =
+    let p = err_from_is_err_and c.from_residual.result c.from_residual.ensures.1 in
+    let a : Attempt c.attempts.self (event.Append (record { 0 = c.args.handle.now.number }) c.args.bytes.now) (Some (reply.Refused c.in_err-wrote.field-0.0)) c.try_append.new.self = rw (← c.handle.view_is) c.in_err-wrote.ensures.attempt in
+    rw (p.1, p.2) (λ _. (try_over _ _ _ c.attempts.invariant c.args.handle.now _ _ a refl).made)
+
+pub returns-in-Some-clause-wrote : goal.returns-in-Some-clause-wrote
+returns-in-Some-clause-wrote g c =
+    let names : Names c.args.self.now c.args.handle.now = search rules in
+    let w : WroteAll (file_at c.attempts.self.world.core (handle_file c.attempts.self.world.core c.args.handle.now.number)).size c.args.bytes.now c.in-Some.wrote = rw (← c.handle.view_is) (rw c.in-Some.is at c.in_ok-wrote.ensures.wrote) in
+    subst (λ n. WroteAll n c.args.bytes.now c.in-Some.wrote)
+    (length_before c.args.self.now c.attempts.self c.args.handle.now c.attempts.invariant.serves (c.requires.came names)) w
+
+pub returns-in-Some-clause-files : goal.returns-in-Some-clause-files
+returns-in-Some-clause-files g c =
+    let a : Attempt c.attempts.self (event.Append (record { 0 = c.args.handle.now.number }) c.args.bytes.now) (Some (reply.Wrote c.in-Some.wrote.count c.in-Some.wrote.end)) c.try_append.new.self = rw (← c.handle.view_is) (rw c.in-Some.is at c.in_ok-wrote.ensures.attempt) in
+    (try_over _ _ _ c.attempts.invariant c.args.handle.now _ _ a refl).files
+
+pub returns-in-Some-clause-made : goal.returns-in-Some-clause-made
+returns-in-Some-clause-made g c =
+    let a : Attempt c.attempts.self (event.Append (record { 0 = c.args.handle.now.number }) c.args.bytes.now) (Some (reply.Wrote c.in-Some.wrote.count c.in-Some.wrote.end)) c.try_append.new.self = rw (← c.handle.view_is) (rw c.in-Some.is at c.in_ok-wrote.ensures.attempt) in
+    λ _. (try_over _ _ _ c.attempts.invariant c.args.handle.now _ _ a refl).made
 
 pub returns-in-Some-clause-keeps : goal.returns-in-Some-clause-keeps
 returns-in-Some-clause-keeps g c = keeps_trans _ _ _ c.attempts.invariant.serves.keeps c.try_append.ensures.attempt.keeps

@@ -1,8 +1,8 @@
 use Rattle.std.proofs.Common.{◌≡◌, true, refl, ap, ◌∙◌}
 use Rattle.std.specs.Prelude.{Err, is_some}
-use Rattle.cachecore.specs.declared.event.Event.TheVariants as event
+use Rattle.machine.specs.declared.event.Event.TheVariants as event
 use Rattle.filesvc.proofs.Acted.{files_acted, service_acted}
-use Rattle.cachecore.specs.State.{is_open}
+use Rattle.machine.specs.State.{is_open}
 use Rattle.filesvc.specs.Seen.{HandleSeen, SoloSeen}
 use Rattle.filesvc.proofs.Coming.{close_ok, closed_quiet}
 use Rattle.filesvc.proofs.solo.Solo.close.Goals as goal
@@ -20,4 +20,4 @@ pub returns-in-Err-clause-answers : goal.returns-in-Err-clause-answers
 returns-in-Err-clause-answers g c = λ names.
     let came = c.requires.came names in
     let opened : is_open c.self.inside.world.core c.handle.inside.number.0 ≡ true = ap (λ (s : SoloSeen). is_open s.world.core c.handle.inside.number.0) c.self.view_is ∙ ap (λ (h : HandleSeen). is_open c.args.self.now.world.core h.number) c.handle.view_is ∙ ap is_some came.number in
-    close_ok c.self.inside.world.core c.close.new.self.core c.handle.inside.number (Err c.in-Err.refusal) opened c.self.invariant.syncs c.in-Err.ensures.0.0
+    close_ok c.self.inside.world.core c.close.new.self.core c.handle.inside.number (Err c.in-Err.refusal) opened c.self.invariant.syncs c.in-Err.ensures.0.1.0

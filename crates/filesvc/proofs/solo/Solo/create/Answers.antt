@@ -1,5 +1,5 @@
 use Rattle.std.proofs.Common.{refl}
-use Rattle.cachecore.specs.declared.event.Event.TheVariants as event
+use Rattle.machine.specs.declared.event.Event.TheVariants as event
 use Rattle.filesvc.proofs.Acted.{files_acted, service_acted}
 use Rattle.filesvc.proofs.Coming.{created_quiet}
 use Rattle.filesvc.proofs.solo.Solo.create.Goals as goal

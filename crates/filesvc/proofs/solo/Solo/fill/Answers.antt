@@ -1,25 +1,28 @@
-use Rattle.std.specs.Prelude.{Result, Ok, Err, IfErr}
-use Rattle.std.proofs.lemmas.Result.{err_from_is_err_and}
-use Rattle.pc_types.specs.declared.ids.HandleId.{HandleId}
+use Rattle.std.proofs.Common.{arith, ◌∙◌}
+use Rattle.std.specs.Prelude.{Result, Ok, Err, IfErr, OnOk}
 use Rattle.pc_types.specs.declared.refusal.Refusal.{Refusal}
-use Rattle.filesvc.specs.Rooms.{IsFillRefusal}
-use Rattle.filesvc.specs.Seen.{SoloSeen}
-use Rattle.filesvc.specs.Service.{Serves}
-use Rattle.filesvc.proofs.Laws.{serves_trans}
-use Rattle.filesvc.proofs.RoomLaws.{fill_refusal_before, frames_refused}
+use Rattle.filesvc.proofs.Laws.{helps_trans}
+use Rattle.filesvc.proofs.Needs.{no_more_needed}
+use Rattle.filesvc.proofs.RoomLaws.{fill_refusal_before}
 use Rattle.filesvc.proofs.solo.Solo.fill.Goals as goal
 
-refusals : (old mid new : SoloSeen) (h : HandleId) (e : Result Unit Refusal) → Serves old mid → IfErr e (λ r. IsFillRefusal mid h r new) → IfErr e (λ r. IsFillRefusal old h r new)
-refusals old mid new h (Ok _) s x = tt
-refusals old mid new h (Err r) s x = fill_refusal_before old mid new h r s x
+on_ok : (r : Result Unit Refusal) (P Q : Type 0) → OnOk r P → (P → Q) → OnOk r Q
+on_ok (Ok _) P Q p f = f p
+on_ok (Err e) P Q p f = tt
 
-pub returns-in_err-make_frames-clause-refused : goal.returns-in_err-make_frames-clause-refused
-returns-in_err-make_frames-clause-refused g c =
-    let p = err_from_is_err_and c.from_residual.result c.from_residual.ensures.1 in
-    rw (p.1, p.2) (frames_refused c.args.self.now c.make_frames.new.self c.args.span.handle c.in_err-make_frames.field-0.0 c.in_err-make_frames.ensures.refused c.in_err-make_frames.ensures.room)
-
-pub returns-clause-serves : goal.returns-clause-serves
-returns-clause-serves g c = serves_trans _ _ _ c.make_frames.ensures.serves c.fill_once.ensures.serves
+on_err : (r : Result Unit Refusal) (P Q : Refusal → Type 0) → IfErr r P → ((e : Refusal) → P e → Q e) → IfErr r Q
+on_err (Ok _) P Q p f = tt
+on_err (Err e) P Q p f = f e p
 
 pub returns-clause-refused : goal.returns-clause-refused
-returns-clause-refused g c = refusals c.args.self.now c.make_frames.new.self c.fill_once.new.self c.args.span.handle c.fill_once.result c.make_frames.ensures.serves c.fill_once.ensures.refused
+returns-clause-refused g c = on_err c.fill_once.result _ _ c.fill_once.ensures.refused
+    (λ e x. fill_refusal_before c.args.self.now c.make_way.new.self c.fill_once.new.self c.args.span.handle e
+    c.make_way.ensures.helps x)
+
+pub returns-clause-helps : goal.returns-clause-helps
+returns-clause-helps g c = helps_trans _ _ _ c.make_way.ensures.helps c.fill_once.ensures.helps
+
+pub returns-clause-gains : goal.returns-clause-gains
+returns-clause-gains g c =
+    let most = no_more_needed c.args.span.dirties c.args.self.now c.make_way.new.self c.args.span.handle.0 c.args.span.offset c.args.span.count c.make_way.ensures.helps.serves c.in_ok-make_way.ensures.made c.in_ok-make_way.ensures.kept in
+    λ tells. on_ok c.fill_once.result _ _ (c.fill_once.ensures.gains (c.make_way.ensures.helps.serves.keeps.tells ∙ tells)) (λ l. omega arith)

@@ -1,48 +1,43 @@
-use Rattle.std.proofs.Common.{refl}
+use Rattle.std.proofs.Common.{◌≡◌, None, refl, sym, subst}
+use Rattle.filesvc.specs.Rooms.{IsMissed, wants}
 use Rattle.filesvc.specs.Seen.{SoloSeen}
-use Rattle.filesvc.proofs.Laws.{serves_trans}
+use Rattle.filesvc.proofs.Fills.{fill_gains, frame_free}
 use Rattle.filesvc.proofs.RoomLaws.{fill_faulted, fill_stopped}
-use Rattle.filesvc.proofs.WorldLaws.{at_once_serves, at_once_service, fill_begins, service_sound}
+use Rattle.filesvc.proofs.WorldLaws.{at_once_helps, at_once_service, fill_begins, service_sound}
 use Rattle.filesvc.proofs.solo.Solo.fill_once.Goals as goal
+use Rattle.filesvc.proofs.solo.Solo.fill_once.Goals.{in-Failed, in-Refused}
 
 pub invariant_of-self : goal.invariant_of-self
 invariant_of-self g c =
     let s : SoloSeen = record { world = c.self.inside.world; errors = c.self.inside.recorder; attempts = 0 } in
-    at_once_service _ s _ _ _ _ _ _ (fill_begins c.args.handle c.args.page) refl c.fill_page.ensures.made c.self.invariant
-
-pub invariant_of-self-in_default : goal.invariant_of-self-in_default
-invariant_of-self-in_default g c =
-    let s : SoloSeen = record { world = c.self.inside.world; errors = c.self.inside.recorder; attempts = 0 } in
-    at_once_service _ s _ _ _ _ _ _ (fill_begins c.args.handle c.args.page) refl c.fill_page.ensures.made c.self.invariant
+    at_once_service _ s _ _ _ _ _ _ (fill_begins c.args.span.handle c.args.page) refl c.fill_page.ensures.made c.self.invariant
 
 pub invariant_of-self-2 : goal.invariant_of-self-2
 invariant_of-self-2 g c =
     let s : SoloSeen = record { world = c.self.inside.world; errors = c.self.inside.recorder; attempts = 0 } in
-    at_once_service _ s _ _ _ _ _ _ (fill_begins c.args.handle c.args.page) refl c.fill_page.ensures.made c.self.invariant
+    at_once_service _ s _ _ _ _ _ _ (fill_begins c.args.span.handle c.args.page) refl c.fill_page.ensures.made c.self.invariant
 
-pub returns-in-Failed-clause-serves : goal.returns-in-Failed-clause-serves
-returns-in-Failed-clause-serves g c = rw (← c.self.view_is) (at_once_serves _ _ _ _ _ _ _ _ (fill_begins c.args.handle c.args.page) c.fill_page.ensures.made c.self.invariant.serving)
-
-pub returns-in-Failed-clause-refused : goal.returns-in-Failed-clause-refused
-returns-in-Failed-clause-refused g c =
+pub returns-in_default : goal.returns-in_default
+returns-in_default g c =
     let s : SoloSeen = record { world = c.self.inside.world; errors = c.self.inside.recorder; attempts = c.self.inside.attempts } in
-    rw (← c.self.view_is) (fill_faulted s _ _ c.args.handle c.args.page c.in-Failed.code c.in-Failed.ensures.made (service_sound _ _ _ _ c.self.invariant.serving))
+    let m : IsMissed s c.args.span.handle.0 c.args.span.offset c.args.span.count c.args.page.0 = subst (λ x. IsMissed x c.args.span.handle.0 c.args.span.offset c.args.span.count c.args.page.0) (sym c.self.view_is) c.requires.missed in
+    let room : wants c.args.span.dirties s.world.core c.args.span.handle.0 c.args.span.offset c.args.span.count ≡ None = subst (λ (x : SoloSeen). wants c.args.span.dirties x.world.core c.args.span.handle.0 c.args.span.offset c.args.span.count ≡ None) (sym c.self.view_is) c.requires.room in
+    rw (← c.self.view_is) (record {
+      helps = at_once_helps _ _ _ _ _ _ _ _ (fill_begins c.args.span.handle c.args.page) refl c.fill_page.ensures.made c.self.invariant.serving;
+      attempts = refl;
+      refused = tt;
+      gains = fill_gains _ s _ c.self.invariant.serving c.args.span.dirties c.args.span.handle c.args.span.offset c.args.span.count c.args.page m room _ _ _ c.fill_page.ensures.rests.requests c.fill_page.ensures.made c.in_default.not-Refused c.in_default.not-Failed;
+    })
 
-pub returns-in_default-clause-serves : goal.returns-in_default-clause-serves
-returns-in_default-clause-serves g c = rw (← c.self.view_is) (at_once_serves _ _ _ _ _ _ _ _ (fill_begins c.args.handle c.args.page) c.fill_page.ensures.made c.self.invariant.serving)
+pub returns-clause-helps : goal.returns-clause-helps
+returns-clause-helps g c = rw (← c.self.view_is) (at_once_helps _ _ _ _ _ _ _ _ (fill_begins c.args.span.handle c.args.page) refl c.fill_page.ensures.made c.self.invariant.serving)
 
-pub returns-clause-serves : goal.returns-clause-serves
-returns-clause-serves g c = rw (← c.self.view_is) (serves_trans _ _ _ (at_once_serves _ _ _ _ _ _ _ _ (fill_begins c.args.handle c.args.page) c.fill_page.ensures.made c.self.invariant.serving) c.make_room.ensures.serves)
-
-pub invariant_of-self-in_default-why : goal.invariant_of-self-in_default-why
-invariant_of-self-in_default-why g c =
-    let s : SoloSeen = record { world = c.self.inside.world; errors = c.self.inside.recorder; attempts = 0 } in
-    at_once_service _ s _ _ _ _ _ _ (fill_begins c.args.handle c.args.page) refl c.fill_page.ensures.made c.self.invariant
-
-pub returns-in_default-why-clause-serves : goal.returns-in_default-why-clause-serves
-returns-in_default-why-clause-serves g c = rw (← c.self.view_is) (at_once_serves _ _ _ _ _ _ _ _ (fill_begins c.args.handle c.args.page) c.fill_page.ensures.made c.self.invariant.serving)
-
-pub returns-in_default-why-clause-refused : goal.returns-in_default-why-clause-refused
-returns-in_default-why-clause-refused g c =
+pub returns-clause-refused : goal.returns-clause-refused
+returns-clause-refused g c =
     let s : SoloSeen = record { world = c.self.inside.world; errors = c.self.inside.recorder; attempts = c.self.inside.attempts } in
-    rw (← c.self.view_is) (fill_stopped _ s _ _ _ c.args.handle c.args.page c.in-Refused.refusal c.self.invariant.serving c.in-Refused.ensures.made c.in_default-why.not-NoFrame)
+    let m : IsMissed s c.args.span.handle.0 c.args.span.offset c.args.span.count c.args.page.0 = subst (λ x. IsMissed x c.args.span.handle.0 c.args.span.offset c.args.span.count c.args.page.0) (sym c.self.view_is) c.requires.missed in
+    let room : wants c.args.span.dirties s.world.core c.args.span.handle.0 c.args.span.offset c.args.span.count ≡ None = subst (λ (x : SoloSeen). wants c.args.span.dirties x.world.core c.args.span.handle.0 c.args.span.offset c.args.span.count ≡ None) (sym c.self.view_is) c.requires.room in
+    elim c.match-fill_page.branch [
+      | in-Failed w ↦ rw (w.why-is, ← c.self.view_is) (fill_faulted s _ _ c.args.span.handle c.args.page w.in-Failed.code w.in-Failed.ensures.made (service_sound _ _ _ _ c.self.invariant.serving))
+      | in-Refused w ↦ rw (w.why-is, ← c.self.view_is) (fill_stopped _ s _ _ _ c.args.span.handle c.args.page w.in-Refused.refusal c.self.invariant.serving w.in-Refused.ensures.made (frame_free _ s _ c.self.invariant.serving c.args.span.dirties c.args.span.handle c.args.span.offset c.args.span.count c.args.page m room))
+    ]

@@ -1,9 +1,14 @@
 use Rattle.std.proofs.Common.{◌≤◌, true, arith, inl, length, subst, sym, ◌∙◌}
 use Rattle.pc_types.specs.declared.limits.TheConstants.{MAX_FILES}
+use Rattle.filesvc.specs.Attempts.{Helps}
 use Rattle.filesvc.specs.Rooms.{FlushesOne}
 use Rattle.filesvc.specs.Seen.{SoloSeen}
 use Rattle.filesvc.specs.Service.{NothingToFlush}
+use Rattle.filesvc.proofs.Laws.{helps_refl}
 use Rattle.filesvc.proofs.solo.Solo.flush_one.Goals as goal
+
+pub returns-clause-helps : goal.returns-clause-helps
+returns-clause-helps g c = subst (Helps c.args.self.now) (sym c.files.invariant.same) (helps_refl c.args.self.now)
 
 pub returns-clause-flushes : goal.returns-clause-flushes
 returns-clause-flushes g c =

@@ -1,34 +1,32 @@
-use Rattle.std.proofs.Common.{subst, sym, ap, ◌∙◌}
-use Rattle.std.specs.Prelude.{IfErr}
-use Rattle.cachecore.proofs.StepLemmas.{err_is}
+use Rattle.std.proofs.Common.{◌≡◌, ◌≤◌, arith, subst, sym}
+use Rattle.std.specs.Prelude.{Ok, Err, OnOk, Result}
+use Rattle.pc_types.specs.declared.limits.TheConstants.{LAST_PAGE}
+use Rattle.pc_types.specs.declared.refusal.Refusal.{Refusal}
+use Rattle.machine.specs.State.{dirty_in, file_at}
+use Rattle.runs.specs.Syncing.{dirty_between}
 use Rattle.filesvc.specs.Seen.{SoloSeen}
-use Rattle.filesvc.specs.Service.{IsSyncRefusal, Serves, is_reported}
+use Rattle.filesvc.specs.Service.{Serves, Tells}
 use Rattle.filesvc.specs.Syncs.{service_of}
-use Rattle.filesvc.proofs.Laws.{serves_counted}
-use Rattle.filesvc.proofs.SyncLaws.{not_reported, refusal_counted, renamed_service}
+use Rattle.filesvc.proofs.Ranged.{some_dirty}
+use Rattle.filesvc.proofs.SyncLaws.{whole_file}
 use Rattle.filesvc.proofs.solo.Solo.fsync.Goals as goal
 
-pub sync_file-requires-clause-service : goal.sync_file-requires-clause-service
-sync_file-requires-clause-service g c = renamed_service _ _ _ _ c.self.invariant
+on_ok : (r : Result Unit Refusal) (P Q : Type 0) → (P → Q) → OnOk r P → OnOk r Q
+on_ok (Ok x) P Q h p = h p
+on_ok (Err why) P Q h p = tt
 
-pub returns-in_err-failed-clause-serves : goal.returns-in_err-failed-clause-serves
-returns-in_err-failed-clause-serves g c =
-    let new : SoloSeen = record { world = c.sync_file.new.world; errors = c.sync_file.new.recorder; attempts = 1 } in
-    subst (λ s. Serves s new) c.self.view_is (serves_counted (service_of c.self.inside.world c.self.inside.recorder) (service_of c.sync_file.new.world c.sync_file.new.recorder) c.self.inside.attempts 1 c.sync_file.ensures.serves)
+pub returns-clause-cost : goal.returns-clause-cost
+returns-clause-cost g c = λ names.
+    let file = file_at c.args.self.now.world.core c.args.handle.now.file in
+    let range = c.fsync_range.ensures.cost names in
+    let all : dirty_between file 0 LAST_PAGE ≤ dirty_in file = some_dirty 0 LAST_PAGE file in
+    omega arith
 
-pub returns-in_err-failed-clause-told : goal.returns-in_err-failed-clause-told
-returns-in_err-failed-clause-told g c = λ reported.
-    absurd (not_reported (service_of c.self.inside.world c.self.inside.recorder) (service_of c.sync_file.new.world c.sync_file.new.recorder) c.in_err-failed.field-0.0 c.in_err-failed.ensures.refused (ap is_reported (sym (err_is c.from_residual.result c.in_err-failed.field-0.0 c.from_residual.ensures.1)) ∙ reported))
-
-pub returns-in_err-failed-clause-refused : goal.returns-in_err-failed-clause-refused
-returns-in_err-failed-clause-refused g c = λ names unreported.
-    let new : SoloSeen = record { world = c.sync_file.new.world; errors = c.sync_file.new.recorder; attempts = 1 } in
-    let x = refusal_counted (service_of c.self.inside.world c.self.inside.recorder) (service_of c.sync_file.new.world c.sync_file.new.recorder) c.self.inside.attempts 1 c.in_err-failed.field-0.0 c.in_err-failed.ensures.refused in
-    subst (λ r. IfErr r (λ why. IsSyncRefusal c.args.self.now why new)) (sym (err_is c.from_residual.result c.in_err-failed.field-0.0 c.from_residual.ensures.1))
-    (subst (λ a. IsSyncRefusal a c.in_err-failed.field-0.0 new) c.self.view_is x)
-
-pub returns-clause-serves : goal.returns-clause-serves
-returns-clause-serves g c =
-    let mid : SoloSeen = record { world = c.sync_file.new.world; errors = c.sync_file.new.recorder; attempts = 1 } in
-    subst (λ t. Serves c.args.self.now t) (sym c.poll.ensures.same)
-    (subst (λ s. Serves s mid) c.self.view_is (serves_counted (service_of c.self.inside.world c.self.inside.recorder) (service_of c.sync_file.new.world c.sync_file.new.recorder) c.self.inside.attempts 1 c.sync_file.ensures.serves))
+pub returns-clause-synced : goal.returns-clause-synced
+returns-clause-synced g c = λ tells.
+    let old : SoloSeen = record { world = c.self.inside.world; errors = c.self.inside.recorder; attempts = c.self.inside.attempts } in
+    on_ok c.fsync_range.result _ _
+    (whole_file c.self.inside.name old c.fsync_range.new.self c.self.inside.board c.args.handle.now.file c.self.invariant.serving
+    (subst (λ (s : SoloSeen). Serves s c.fsync_range.new.self) (sym c.self.view_is) c.fsync_range.ensures.serves)
+    (subst Tells (sym c.self.view_is) tells))
+    (c.fsync_range.ensures.synced tells)

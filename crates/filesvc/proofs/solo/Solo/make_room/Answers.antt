@@ -1,10 +1,10 @@
-use Rattle.std.proofs.Common.{◌≡◌, true, false, sym, ◌∙◌}
+use Rattle.std.proofs.Common.{◌≡◌, true, false, inl, refl, sym, ◌∙◌}
 use Rattle.pc_types.specs.declared.refusal.Refusal.TheVariants.{DirtyLimit, NoFrame}
 use Rattle.filesvc.proofs.Enough.{dirty_refused, full_refused}
 use Rattle.filesvc.specs.Rooms.{FlushesOne}
 use Rattle.filesvc.specs.Seen.{SoloSeen}
-use Rattle.filesvc.proofs.Laws.{serves_trans}
-use Rattle.filesvc.proofs.RoomLaws.{evicted_serves, evicted_service, flushed_for_frame, stuck_for_frame}
+use Rattle.filesvc.proofs.Laws.{helps_refl, helps_trans}
+use Rattle.filesvc.proofs.RoomLaws.{other_full, evicted_helps, evicted_service, flushed_for_frame, stuck_for_frame}
 use Rattle.filesvc.proofs.WorldLaws.{service_sound}
 use Rattle.filesvc.proofs.solo.Solo.make_room.Goals as goal
 use Rattle.filesvc.proofs.solo.Solo.make_room.Goals.{in-NoFrame+else-is_some, in-DirtyLimit}
@@ -14,13 +14,24 @@ invariant_of-self g c =
     let s : SoloSeen = record { world = c.self.inside.world; errors = c.self.inside.recorder; attempts = 0 } in
     evicted_service s _ _ c.age.result c.evict.result c.age.ensures c.evict.ensures _ _ c.self.invariant
 
-pub returns-then-is_some-clause-serves : goal.returns-then-is_some-clause-serves
-returns-then-is_some-clause-serves g c = rw (← c.self.view_is) (evicted_serves _ _ _ c.age.result c.evict.result c.age.ensures c.evict.ensures (service_sound _ _ _ _ c.self.invariant.serving))
+pub returns-in_default : goal.returns-in_default
+returns-in_default g c = record {
+  helps = helps_refl c.args.self.now;
+  attempts = refl;
+  made = tt;
+  refused = inl refl;
+  full = other_full c.args.self.now c.args.self.now c.args.refusal c.in_default.not-NoFrame c.in_default.not-DirtyLimit;
+  frames = λ _ e. absurd (c.in_default.not-NoFrame e);
+  clean = λ _ e. absurd (c.in_default.not-DirtyLimit e);
+}
 
-pub returns-then-branch-clause-serves : goal.returns-then-branch-clause-serves
-returns-then-branch-clause-serves g c = elim c.match-refusal.branch [
-  | in-NoFrame+else-is_some w ↦ rw (← c.self.view_is) (serves_trans _ _ _ (evicted_serves _ _ _ w.age.result w.evict.result w.age.ensures w.evict.ensures (service_sound _ _ _ _ c.self.invariant.serving)) (rw w.self-is at c.flush_one.ensures.serves))
-  | in-DirtyLimit w ↦ rw w.self-is at c.flush_one.ensures.serves
+pub returns-then-is_some-clause-helps : goal.returns-then-is_some-clause-helps
+returns-then-is_some-clause-helps g c = rw (← c.self.view_is) (evicted_helps _ _ _ c.age.result c.evict.result c.age.ensures c.evict.ensures (service_sound _ _ _ _ c.self.invariant.serving))
+
+pub returns-then-branch-clause-helps : goal.returns-then-branch-clause-helps
+returns-then-branch-clause-helps g c = elim c.match-refusal.branch [
+  | in-NoFrame+else-is_some w ↦ rw (← c.self.view_is) (helps_trans _ _ _ (evicted_helps _ _ _ w.age.result w.evict.result w.age.ensures w.evict.ensures (service_sound _ _ _ _ c.self.invariant.serving)) (rw w.self-is at c.flush_one.ensures.helps))
+  | in-DirtyLimit w ↦ rw w.self-is at c.flush_one.ensures.helps
 ]
 
 pub returns-then-branch-clause-made : goal.returns-then-branch-clause-made
@@ -50,8 +61,8 @@ returns-else-branch-clause-clean g c =
       | in-DirtyLimit w ↦ rw (← c.self.view_is) (λ tells _ _. dirty_refused s c.flush_one.new.self _ _ c.self.invariant.serving tells (rw (w.self-is, ← c.self.view_is) at f))
     ]
 
-pub returns-in_err-flush_one-clause-serves : goal.returns-in_err-flush_one-clause-serves
-returns-in_err-flush_one-clause-serves g c = elim c.match-refusal.branch [
-  | in-NoFrame+else-is_some w ↦ rw (← c.self.view_is) (serves_trans _ _ _ (evicted_serves _ _ _ w.age.result w.evict.result w.age.ensures w.evict.ensures (service_sound _ _ _ _ c.self.invariant.serving)) (rw w.self-is at c.flush_one.ensures.serves))
-  | in-DirtyLimit w ↦ rw w.self-is at c.flush_one.ensures.serves
+pub returns-in_err-flush_one-clause-helps : goal.returns-in_err-flush_one-clause-helps
+returns-in_err-flush_one-clause-helps g c = elim c.match-refusal.branch [
+  | in-NoFrame+else-is_some w ↦ rw (← c.self.view_is) (helps_trans _ _ _ (evicted_helps _ _ _ w.age.result w.evict.result w.age.ensures w.evict.ensures (service_sound _ _ _ _ c.self.invariant.serving)) (rw w.self-is at c.flush_one.ensures.helps))
+  | in-DirtyLimit w ↦ rw w.self-is at c.flush_one.ensures.helps
 ]

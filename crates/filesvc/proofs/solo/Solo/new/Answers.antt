@@ -1,27 +1,29 @@
-use Rattle.filesvc.proofs.Enough.{enough_dirty, enough_frames}
+use Rattle.filesvc.proofs.Enough.{enough_dirty, enough_frames, enough_page}
 use Rattle.std.proofs.Common.{◌≡◌, ◌≤◌, ◌∙◌, length, ap, sym, subst, arith}
-use Rattle.pc_types.specs.declared.limits.TheConstants.{MAX_FILES, MAX_FILE_SIZE, MIN_DIRTY_LIMIT, MIN_FRAMES}
-use Rattle.cachecore.specs.State.{file_at}
-use Rattle.world.specs.Stepping.{Held}
-use Rattle.filesvc.proofs.Beginning.{lists_in, nothing_in, reached_at}
+use Rattle.pc_types.specs.declared.limits.TheConstants.{MAX_FILES, MAX_FILE_SIZE, MIN_DIRTY_LIMIT, MIN_FRAMES, MIN_PAGE_SIZE}
+use Rattle.machine.specs.State.{file_at}
+use Rattle.world.specs.Stepping.{WorldSeen}
+use Rattle.filesvc.proofs.Beginning.{lists_in, nothing_in, reached_at, sound_at}
 use Rattle.filesvc.proofs.solo.Solo.new.Goals as goal
 
 pub invariant_of-result : goal.invariant_of-result
 invariant_of-result g c = record {
   serving = record {
-    named = ap (λ (w : Held). w.core.name) c.in_ok-world.ensures.fresh;
+    named = ap (λ (w : WorldSeen). w.core.name) c.in_ok-world.ensures.fresh;
     board = sym c.in-Ok.ensures.board;
     lists = lists_in _ c.in-Ok.ensures.nothing;
-    rests = record { requests = ap (λ (w : Held). w.core.requests) c.in_ok-world.ensures.fresh; outcomes = ap (λ (w : Held). w.outcomes) c.in_ok-world.ensures.fresh };
-    reached = reached_at _ _ (ap (λ (w : Held). w.device) c.in_ok-world.ensures.fresh) c.in_ok-world.ensures.first;
-    counted = (let a : c.in_ok-world.world.device.calls ≡ c.calls.result = ap (λ (w : Held). w.device.calls) c.in_ok-world.ensures.fresh ∙ sym c.calls.ensures in let b = c.if-prove.false in omega arith);
-    bounded = λ f. subst (λ (w : Held). (file_at w.core f).size ≤ MAX_FILE_SIZE) (sym c.in_ok-world.ensures.fresh) (omega arith);
-    frames = subst (λ (w : Held). MIN_FRAMES ≤ w.core.sizes.frames) (sym c.in_ok-world.ensures.fresh) (enough_frames _ c.page.ensures.within);
-    dirty = subst (λ (w : Held). MIN_DIRTY_LIMIT ≤ w.core.sizes.dirty_limit) (sym c.in_ok-world.ensures.fresh) (enough_dirty _ c.page.ensures.within);
-    few = subst (λ (w : Held). length w.core.files ≤ MAX_FILES) (sym c.in_ok-world.ensures.fresh) (omega arith);
-    serials = subst (λ (w : Held). w.core.next ≤ w.device.calls) (sym c.in_ok-world.ensures.fresh) (omega arith);
+    rests = record { requests = ap (λ (w : WorldSeen). w.core.requests) c.in_ok-world.ensures.fresh; outcomes = ap (λ (w : WorldSeen). w.outcomes) c.in_ok-world.ensures.fresh };
+    reached = reached_at _ _ (ap (λ (w : WorldSeen). w.device) c.in_ok-world.ensures.fresh) c.in_ok-world.ensures.first;
+    sound = sound_at c.args.geometry.now c.args.name _ _ c.in_ok-world.ensures.fresh;
+    counted = (let a : c.in_ok-world.world.device.calls ≡ c.calls.result = ap (λ (w : WorldSeen). w.device.calls) c.in_ok-world.ensures.fresh ∙ sym c.calls.ensures in let b = c.if-prove.false in omega arith);
+    bounded = λ f. subst (λ (w : WorldSeen). (file_at w.core f).size ≤ MAX_FILE_SIZE) (sym c.in_ok-world.ensures.fresh) (omega arith);
+    page = subst (λ (w : WorldSeen). MIN_PAGE_SIZE ≤ w.core.sizes.page) (sym c.in_ok-world.ensures.fresh) (enough_page _ c.page.ensures.within);
+    frames = subst (λ (w : WorldSeen). MIN_FRAMES ≤ w.core.sizes.frames) (sym c.in_ok-world.ensures.fresh) (enough_frames _ c.page.ensures.within);
+    dirty = subst (λ (w : WorldSeen). MIN_DIRTY_LIMIT ≤ w.core.sizes.dirty_limit) (sym c.in_ok-world.ensures.fresh) (enough_dirty _ c.page.ensures.within);
+    few = subst (λ (w : WorldSeen). length w.core.files ≤ MAX_FILES) (sym c.in_ok-world.ensures.fresh) (omega arith);
+    serials = subst (λ (w : WorldSeen). w.core.next ≤ w.device.calls) (sym c.in_ok-world.ensures.fresh) (omega arith);
   };
-  syncs = ap (λ (w : Held). w.core.syncs) c.in_ok-world.ensures.fresh;
+  syncs = ap (λ (w : WorldSeen). w.core.syncs) c.in_ok-world.ensures.fresh;
 }
 
 pub returns-clause-nothing : goal.returns-clause-nothing

@@ -1,7 +1,7 @@
-use Rattle.std.proofs.Common.{◌≡◌, ◌∙◌, Some, None, length, refl}
+use Rattle.std.proofs.Common.{◌≡◌, ◌∙◌, Some, None, length, take, refl}
 use Rattle.std.proofs.lemmas.Result.{err_from_is_err_and}
-use Rattle.cachecore.specs.declared.event.Event.TheVariants as event
-use Rattle.cachecore.specs.declared.event.Reply.TheVariants as reply
+use Rattle.machine.specs.declared.event.Event.TheVariants as event
+use Rattle.machine.specs.declared.event.Reply.TheVariants as reply
 use Rattle.filesvc.specs.Attempts.{Attempt}
 use Rattle.filesvc.proofs.Attempts.{try_again, try_first, try_over}
 use Rattle.filesvc.proofs.Laws.{serves_trans}
@@ -24,6 +24,22 @@ returns-in_err-count-clause-refused g c =
     let p = err_from_is_err_and c.from_residual.result c.from_residual.ensures.1 in
     let a : Attempt c.attempts.self (event.Read (record { 0 = c.args.handle.now.number }) c.args.offset (length c.args.out.now)) (Some (reply.Refused c.in_err-count.field-0.0)) c.try_read.new.self = rw (← c.handle.view_is, ← c.attempts.invariant.out) c.in_err-count.ensures.attempt in
     rw (p.1, p.2) (λ _. (try_over _ _ _ c.attempts.invariant.tries c.args.handle.now _ _ a refl).refused _ refl)
+
+pub returns-in_err-count-clause-made : goal.returns-in_err-count-clause-made
+returns-in_err-count-clause-made g c =
+    let p = err_from_is_err_and c.from_residual.result c.from_residual.ensures.1 in
+    let a : Attempt c.attempts.self (event.Read (record { 0 = c.args.handle.now.number }) c.args.offset (length c.args.out.now)) (Some (reply.Refused c.in_err-count.field-0.0)) c.try_read.new.self = rw (← c.handle.view_is, ← c.attempts.invariant.out) c.in_err-count.ensures.attempt in
+    rw (p.1, p.2) (λ _. (try_over _ _ _ c.attempts.invariant.tries c.args.handle.now _ _ a refl).made)
+
+pub returns-in-Some-clause-first : goal.returns-in-Some-clause-first
+returns-in-Some-clause-first g c =
+    let a : Attempt c.attempts.self (event.Read (record { 0 = c.args.handle.now.number }) c.args.offset (length c.args.out.now)) (Some (reply.Bytes (take c.in-Some.count c.try_read.new.out))) c.try_read.new.self = rw (← c.handle.view_is, ← c.attempts.invariant.out) (rw c.in-Some.is at c.in_ok-count.ensures.attempt) in
+    (try_over _ _ _ c.attempts.invariant.tries c.args.handle.now _ _ a refl).first
+
+pub returns-in-Some-clause-made : goal.returns-in-Some-clause-made
+returns-in-Some-clause-made g c =
+    let a : Attempt c.attempts.self (event.Read (record { 0 = c.args.handle.now.number }) c.args.offset (length c.args.out.now)) (Some (reply.Bytes (take c.in-Some.count c.try_read.new.out))) c.try_read.new.self = rw (← c.handle.view_is, ← c.attempts.invariant.out) (rw c.in-Some.is at c.in_ok-count.ensures.attempt) in
+    λ _. (try_over _ _ _ c.attempts.invariant.tries c.args.handle.now _ _ a refl).made
 
 pub returns-in-Some-clause-serves : goal.returns-in-Some-clause-serves
 returns-in-Some-clause-serves g c = serves_trans _ _ _ c.attempts.invariant.tries.serves c.try_read.ensures.serves

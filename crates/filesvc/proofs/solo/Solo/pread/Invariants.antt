@@ -1,5 +1,5 @@
 use Rattle.std.proofs.Common.{◌≡◌, ◌-◌, length}
-use Rattle.cachecore.specs.declared.event.Event.TheVariants as event
+use Rattle.machine.specs.declared.event.Event.TheVariants as event
 use Rattle.filesvc.proofs.Attempts.{Trying}
 use Rattle.filesvc.proofs.solo.Solo.pread.Given as goal
 

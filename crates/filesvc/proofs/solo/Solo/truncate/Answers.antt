@@ -1,11 +1,14 @@
 use Rattle.std.proofs.Common.{Some, None, refl}
 use Rattle.std.proofs.lemmas.Result.{err_from_is_err_and}
-use Rattle.cachecore.specs.declared.event.Event.TheVariants as event
-use Rattle.cachecore.specs.declared.event.Reply.TheVariants as reply
+use Rattle.machine.specs.declared.event.Event.TheVariants as event
+use Rattle.machine.specs.declared.event.Reply.TheVariants as reply
 use Rattle.filesvc.specs.Attempts.{Attempt}
-use Rattle.filesvc.proofs.Attempts.{try_again, try_over}
+use Rattle.filesvc.proofs.Attempts.{try_again, try_first, try_over}
 use Rattle.filesvc.proofs.Laws.{keeps_trans}
 use Rattle.filesvc.proofs.solo.Solo.truncate.Goals as goal
+
+pub attempts-init : goal.attempts-init
+attempts-init g c = rw (← c.self.view_is) (try_first _ _)
 
 pub returns-in_err-try_truncate-clause-keeps : goal.returns-in_err-try_truncate-clause-keeps
 returns-in_err-try_truncate-clause-keeps g c = keeps_trans _ _ _ c.attempts.invariant.serves.keeps c.try_truncate.ensures.attempt.keeps
@@ -21,6 +24,22 @@ returns-in_err-try_truncate-clause-refused g c =
     let p = err_from_is_err_and c.from_residual.result c.from_residual.ensures.1 in
     let a : Attempt c.attempts.self (event.Truncate (record { 0 = c.args.handle.now.number }) c.args.size) (Some (reply.Refused c.in_err-try_truncate.field-0.0)) c.try_truncate.new.self = rw (← c.handle.view_is) c.in_err-try_truncate.ensures.attempt in
     rw (p.1, p.2) (λ _. (try_over _ _ _ c.attempts.invariant c.args.handle.now _ _ a refl).refused _ refl)
+
+pub returns-in_err-try_truncate-clause-made : goal.returns-in_err-try_truncate-clause-made
+returns-in_err-try_truncate-clause-made g c =
+    let p = err_from_is_err_and c.from_residual.result c.from_residual.ensures.1 in
+    let a : Attempt c.attempts.self (event.Truncate (record { 0 = c.args.handle.now.number }) c.args.size) (Some (reply.Refused c.in_err-try_truncate.field-0.0)) c.try_truncate.new.self = rw (← c.handle.view_is) c.in_err-try_truncate.ensures.attempt in
+    rw (p.1, p.2) (λ _. (try_over _ _ _ c.attempts.invariant c.args.handle.now _ _ a refl).made)
+
+pub returns-then-branch-clause-files : goal.returns-then-branch-clause-files
+returns-then-branch-clause-files g c =
+    let a : Attempt c.attempts.self (event.Truncate (record { 0 = c.args.handle.now.number }) c.args.size) (Some reply.Done) c.try_truncate.new.self = rw (← c.handle.view_is) (rw c.if-branch.true at c.in_ok-try_truncate.ensures.attempt) in
+    (try_over _ _ _ c.attempts.invariant c.args.handle.now _ _ a refl).files
+
+pub returns-then-branch-clause-made : goal.returns-then-branch-clause-made
+returns-then-branch-clause-made g c =
+    let a : Attempt c.attempts.self (event.Truncate (record { 0 = c.args.handle.now.number }) c.args.size) (Some reply.Done) c.try_truncate.new.self = rw (← c.handle.view_is) (rw c.if-branch.true at c.in_ok-try_truncate.ensures.attempt) in
+    λ _. (try_over _ _ _ c.attempts.invariant c.args.handle.now _ _ a refl).made
 
 pub returns-then-branch-clause-keeps : goal.returns-then-branch-clause-keeps
 returns-then-branch-clause-keeps g c = keeps_trans _ _ _ c.attempts.invariant.serves.keeps c.try_truncate.ensures.attempt.keeps

@@ -1,7 +1,9 @@
-use Rattle.std.proofs.Common.{refl, inl}
+use Rattle.std.proofs.Common.{◌+◌, refl}
 use Rattle.std.proofs.lemmas.Result.{err_from_is_err_and}
-use Rattle.cachecore.specs.declared.event.Event.TheVariants as event
+use Rattle.machine.specs.declared.event.Event.TheVariants as event
 use Rattle.filesvc.proofs.Attempts.{attempt_follows, attempt_over, follows_again, follows_refused, service_kept, truncate_unsettled}
+use Rattle.filesvc.specs.Seen.{SoloSeen}
+use Rattle.filesvc.proofs.Gains.{truncate_missed}
 use Rattle.filesvc.proofs.CallSteps.{truncate_settled}
 use Rattle.filesvc.proofs.solo.Solo.try_truncate.Goals as goal
 
@@ -11,7 +13,7 @@ invariant_of-self g c = service_kept _ _ _ _ _ (event.Truncate c.args.handle c.a
 pub returns-in_err-truncate : goal.returns-in_err-truncate
 returns-in_err-truncate g c =
     let p = err_from_is_err_and c.from_residual.result c.from_residual.ensures.1 in
-    record { attempt = rw (p.1, p.2) (rw (← c.self.view_is) (attempt_over _ c.args.handle (event.Truncate c.args.handle c.args.size) _ _ refl c.in_err-truncate.ensures.0 c.in_err-truncate.ensures.1 c.self.invariant.serving.reached (truncate_settled _ _ c.args.handle c.args.size _ c.in_err-truncate.ensures.0.0))) }
+    record { attempt = rw (p.1, p.2) (rw (← c.self.view_is) (attempt_over _ c.args.handle (event.Truncate c.args.handle c.args.size) _ _ refl c.in_err-truncate.ensures.0 c.in_err-truncate.ensures.1 c.self.invariant.serving.sound c.self.invariant.serving.reached (truncate_settled _ _ c.args.handle c.args.size _ c.in_err-truncate.ensures.0.1.0))) }
 
 pub invariant_of-self-in-Done : goal.invariant_of-self-in-Done
 invariant_of-self-in-Done g c = service_kept _ _ _ _ _ (event.Truncate c.args.handle c.args.size) _ refl c.truncate.ensures.0 c.truncate.ensures.1 c.self.invariant
@@ -19,7 +21,7 @@ invariant_of-self-in-Done g c = service_kept _ _ _ _ _ (event.Truncate c.args.ha
 pub returns-in-Done : goal.returns-in-Done
 returns-in-Done g c =
     let m = rw c.in-Done.is at c.in_ok-truncate.ensures in
-    record { attempt = rw (← c.self.view_is) (attempt_over _ c.args.handle (event.Truncate c.args.handle c.args.size) _ _ refl m.0 m.1 c.self.invariant.serving.reached refl) }
+    record { attempt = rw (← c.self.view_is) (attempt_over _ c.args.handle (event.Truncate c.args.handle c.args.size) _ _ refl m.0 m.1 c.self.invariant.serving.sound c.self.invariant.serving.reached refl) }
 
 pub invariant_of-self-in-Miss : goal.invariant_of-self-in-Miss
 invariant_of-self-in-Miss g c = service_kept _ _ _ _ _ (event.Truncate c.args.handle c.args.size) _ refl c.truncate.ensures.0 c.truncate.ensures.1 c.self.invariant
@@ -28,13 +30,20 @@ pub returns-in_err-fill-in-Miss : goal.returns-in_err-fill-in-Miss
 returns-in_err-fill-in-Miss g c =
     let p = err_from_is_err_and c.from_residual-in_err-fill-in-Miss.result c.from_residual-in_err-fill-in-Miss.ensures.1 in
     record {
-      attempt = rw (p.1, p.2) (rw (← c.self.view_is) (attempt_follows _ c.args.handle (event.Truncate c.args.handle c.args.size) _ _ refl c.in_ok-truncate.ensures.0 c.in_ok-truncate.ensures.1 c.self.invariant.serving.reached _ _ refl
-          (follows_refused _ _ _ _ _ c.fill.ensures.serves c.fill.ensures.attempts (truncate_unsettled _ _ c.in-Miss.is) (inl c.in_err-fill-in-Miss.ensures.refused))));
+      attempt = rw (p.1, p.2) (rw (← c.self.view_is) (attempt_follows _ c.args.handle (event.Truncate c.args.handle c.args.size) _ _ refl c.in_ok-truncate.ensures.0 c.in_ok-truncate.ensures.1 c.self.invariant.serving.sound c.self.invariant.serving.reached _ _ refl
+          (follows_refused _ _ _ _ _ c.fill.ensures.helps c.fill.ensures.attempts (truncate_unsettled _ _ c.in-Miss.is) c.in_err-fill-in-Miss.ensures.refused) (λ _ _ is. absurd cc)));
     }
 
 pub returns : goal.returns
 returns g c =
     record {
-      attempt = rw (← c.self.view_is) (attempt_follows _ c.args.handle (event.Truncate c.args.handle c.args.size) _ _ refl c.in_ok-truncate.ensures.0 c.in_ok-truncate.ensures.1 c.self.invariant.serving.reached _ _ refl
-          (follows_again _ _ _ _ c.fill.ensures.serves c.fill.ensures.attempts (truncate_unsettled _ _ c.in-Miss.is)));
+      attempt = rw (← c.self.view_is) (attempt_follows _ c.args.handle (event.Truncate c.args.handle c.args.size) _ _ refl c.in_ok-truncate.ensures.0 c.in_ok-truncate.ensures.1 c.self.invariant.serving.sound c.self.invariant.serving.reached _ _ refl
+          (follows_again _ _ _ _ c.fill.ensures.helps c.fill.ensures.attempts (truncate_unsettled _ _ c.in-Miss.is))
+          (λ _ tells _. c.in_ok-fill-in-Miss.ensures.gains tells));
     }
+
+pub fill-requires : goal.fill-requires
+fill-requires g c =
+    let s : SoloSeen = record { world = c.self.inside.world; errors = c.self.inside.recorder; attempts = 0 } in
+    let t : SoloSeen = record { world = c.truncate.new.self; errors = c.self.inside.recorder; attempts = c.self.inside.attempts + 1 } in
+    record { missed = truncate_missed _ s _ c.self.invariant.serving t c.in_ok-truncate.ensures.1 c.args.handle c.args.size c.in_ok-truncate.field-0 c.in-Miss.page c.in_ok-truncate.ensures.0.1.0 c.in-Miss.is }

@@ -1,4 +1,4 @@
-use Rattle.std.proofs.Common.{◌≡◌, List, subst, sym, ap, ◌∙◌}
+use Rattle.std.proofs.Common.{◌≡◌, List, subst, ap, ◌∙◌}
 use Rattle.std.specs.Prelude.{All}
 use mathlib.Core.List.{IsPrefix}
 use Rattle.trail.specs.declared.entry.Entry.{Entry}
@@ -9,9 +9,11 @@ use Rattle.held.proofs.log.Log.close.Goals as goal
 pub returns-clause-seats : goal.returns-clause-seats
 returns-clause-seats g c =
     let all = ap (λ m. all_of m.0) c.settle_one.ensures.keeper.1 ∙ ap (λ (h : LogSeen). h.history) c.self.view_is in
-    subst (λ (l : List Entry). All (λ (s : SeatSeen). IsPrefix s.list l × (s.count ≡ count_of s.number l)) c.args.seats.items) all c.settle_all.ensures
+    subst (λ (l : List Entry). All (λ (s : SeatSeen). IsPrefix s.list l × (s.count ≡ count_of s.number l))
+    c.args.seats.items) all c.settle_all.ensures
 
 pub returns-clause-own : goal.returns-clause-own
 returns-clause-own g c =
     let all = ap (λ (h : LogSeen). h.history) c.self.view_is in
-    subst (λ (l : List Entry). IsPrefix c.args.own.list l × (c.args.own.count ≡ count_of c.args.own.number l)) all c.settle_one.ensures.settled
+    subst (λ (l : List Entry). IsPrefix c.args.own.list l × (c.args.own.count ≡ count_of c.args.own.number l)) all
+    c.settle_one.ensures.settled

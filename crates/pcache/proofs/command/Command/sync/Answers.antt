@@ -5,4 +5,4 @@ use Rattle.pcache.proofs.command.Command.sync.Goals as goal
 pub returns-in_err-number-clause-malformed : goal.returns-in_err-number-clause-malformed
 returns-in_err-number-clause-malformed c = λ e other a.
     let f = asks Sync _ other a in
-    no_number c.in_err-number.ensures.none f.1
+    no_number c.in_err-number.ensures.none f.2

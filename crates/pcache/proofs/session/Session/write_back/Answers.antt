@@ -1,6 +1,6 @@
 use Rattle.std.proofs.Common.{refl, ◌∙◌}
 use Rattle.world.specs.declared.step.Step.TheVariants.{SyncStep}
-use Rattle.pcache.proofs.HandleLaws.{handles_kept}
+use Rattle.pcache.proofs.HandleLaws.{left_by}
 use Rattle.pcache.proofs.SyncLaws.{fewer_left, go_on_writing, is_write}
 use Rattle.pcache.proofs.session.Session.write_back.Goals as goal
 
@@ -10,7 +10,7 @@ returns-in_default c =
     record {
       written = (i.serials, c.writes.self, i.writes, c.step.ensures);
       over = c.in_default.not-Job;
-      handles = handles_kept c.writes.self.world c.step.new.self.world (SyncStep c.args.sync) c.step.result refl c.step.ensures.0 ∙ i.handles;
+      handles = (left_by c.writes.self.world c.step.new.self.world (SyncStep c.args.sync) c.step.result c.step.ensures.0).handles refl ∙ i.handles;
     }
 
 pub writes-smaller : goal.writes-smaller

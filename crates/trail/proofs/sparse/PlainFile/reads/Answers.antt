@@ -12,9 +12,12 @@ returns-then-bytes-len c =
     let past = c.self.invariant in
     let o = c.args.offset in
     let b = c.args.bytes.now in
-    let long : length b ≡ min c.args.count (n - o) = c.if-bytes-len.true ∙ c.min-len.ensures ∙ ap (min c.args.count) c.saturating_sub.ensures in (
-      λ t. is_read g n past o c.args.count b long (c.holds.ensures.0 t) ∙ ap (λ (f : List ℕ). pread f o c.args.count) c.self.view_is,
-      λ is. c.holds.ensures.1 (read_bytes g n past o c.args.count b (is ∙ ap (λ (f : List ℕ). pread f o c.args.count) (sym c.self.view_is))),
+    let long : length b ≡ min c.args.count (n - o) = c.if-bytes-len.true ∙ c.min-len.ensures
+    ∙ ap (min c.args.count) c.saturating_sub.ensures in (
+      λ t. is_read g n past o c.args.count b long (c.holds.ensures.0 t)
+          ∙ ap (λ (f : List ℕ). pread f o c.args.count) c.self.view_is,
+      λ is. c.holds.ensures.1 (read_bytes g n past o c.args.count b
+          (is ∙ ap (λ (f : List ℕ). pread f o c.args.count) (sym c.self.view_is))),
     )
 
 pub returns-else-bytes-len : goal.returns-else-bytes-len
@@ -27,5 +30,7 @@ returns-else-bytes-len c =
       λ is.
           absurd
           (c.if-bytes-len.false
-          (read_len g n c.self.invariant o c.args.count b (is ∙ ap (λ (f : List ℕ). pread f o c.args.count) (sym c.self.view_is)) ∙ ap (min c.args.count) (sym c.saturating_sub.ensures) ∙ sym c.min-len.ensures)),
+          (read_len g n c.self.invariant o c.args.count b
+          (is ∙ ap (λ (f : List ℕ). pread f o c.args.count) (sym c.self.view_is))
+          ∙ ap (min c.args.count) (sym c.saturating_sub.ensures) ∙ sym c.min-len.ensures)),
     )

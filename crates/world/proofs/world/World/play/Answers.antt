@@ -2,6 +2,7 @@ use Rattle.std.proofs.Common.{arith, ◌+◌, length, take, ◌<◌, ◌≡◌, 
 use Rattle.std.proofs.lemmas.List.{take_all, take_more}
 use Rattle.world.specs.declared.step.Step.{Step}
 use Rattle.world.specs.Stepping.{Plays}
+use Rattle.world.proofs.Durably.{plays_durable}
 use Rattle.world.proofs.PlayLemmas.{plays-snoc, plays_lead}
 use Rattle.world.proofs.world.World.play.Goals as goal
 
@@ -11,12 +12,24 @@ loop-step-preserved g c =
     let steps = c.args.steps.now in
     let s = c.step-item.result in
     let before : i < length steps = omega arith in
-    let front : take i steps ++ s ∷ [] ≡ take (i + 1) steps = ap (λ (x : Step). take i steps ++ x ∷ []) c.step-item.is ∙ sym (take_more steps i s before) in
+    let front : take i steps ++ s ∷ [] ≡ take (i + 1) steps = ap (λ (x : Step). take i steps ++ x ∷ []) c.step-item.is
+    ∙ sym (take_more steps i s before) in
     record {
-      played = rw c.push_reserved.ensures.items (subst (λ (ss : List Step). Plays c.args.self.now ss (c.loop-step.replies.items ++ c.step.result ∷ []) c.step.new.self) front
-          (plays-snoc (take i steps) c.loop-step.replies.items c.args.self.now c.loop-step.self c.step.new.self s c.step.result c.loop-step.invariant.played c.step.ensures));
+      played =
+          rw c.push_reserved.ensures.items
+          (subst (λ (ss : List Step). Plays c.args.self.now ss (c.loop-step.replies.items ++ c.step.result ∷ [])
+          c.step.new.self) front
+          (plays-snoc (take i steps) c.loop-step.replies.items c.args.self.now c.loop-step.self c.step.new.self s
+          c.step.result c.loop-step.invariant.played c.step.ensures));
       room = omega (arith, c.push_reserved.ensures.len, c.push_reserved.ensures.capacity);
     }
 
+pub returns-clause-durable : goal.returns-clause-durable
+returns-clause-durable g c = plays_durable c.args.steps.now c.loop-step.replies.items c.args.self.now c.loop-step.self
+    (subst (λ (ss : List Step). Plays c.args.self.now ss c.loop-step.replies.items c.loop-step.self)
+    (take_all c.loop-step.step-index c.args.steps.now c.loop-step-test.false) c.loop-step.invariant.played)
+
 pub returns-clause-is_run : goal.returns-clause-is_run
-returns-clause-is_run g c = plays_lead c.args.steps.now c.loop-step.replies.items c.args.self.now c.loop-step.self (subst (λ (ss : List Step). Plays c.args.self.now ss c.loop-step.replies.items c.loop-step.self) (take_all c.loop-step.step-index c.args.steps.now c.loop-step-test.false) c.loop-step.invariant.played)
+returns-clause-is_run g c = plays_lead c.args.steps.now c.loop-step.replies.items c.args.self.now c.loop-step.self
+    (subst (λ (ss : List Step). Plays c.args.self.now ss c.loop-step.replies.items c.loop-step.self)
+    (take_all c.loop-step.step-index c.args.steps.now c.loop-step-test.false) c.loop-step.invariant.played)

@@ -1,12 +1,15 @@
 use Rattle.std.proofs.Common.{refl}
-use Rattle.cachecore.specs.declared.event.Event.TheVariants as event
-use Rattle.world.proofs.EventReplies.{quiet_acted}
-use Rattle.world.proofs.WorldSteps.{quiet_world}
+use Rattle.machine.specs.declared.event.Event.TheVariants as event
+use Rattle.world.proofs.EventReplies.{other_acted, other_world}
 use Rattle.world.proofs.Spares.{with_spare}
 use Rattle.world.proofs.world.World.write.Goals as goal
 
 pub invariant_of-self : goal.invariant_of-self
-invariant_of-self g c = with_spare c.self.inside.spare c.self.invariant (quiet_world c.self.inside.core.state c.self.inside.jobs _ c.self.invariant.0 (event.Write c.args.handle c.args.offset c.args.bytes.now) _ c.write.new.self.state refl c.write.ensures.step)
+invariant_of-self g c = with_spare c.self.inside.spare c.self.invariant
+    (other_world c.self.inside.core.state c.self.inside.jobs _ c.self.invariant.0
+    (event.Write c.args.handle c.args.offset c.args.bytes.now) _ c.write.new.self.state refl refl c.write.ensures.step)
 
 pub returns : goal.returns
-returns g c = quiet_acted c.self.inside.core.state c.self.inside.jobs _ c.self.invariant.0 _ c.self.view_is (event.Write c.args.handle c.args.offset c.args.bytes.now) _ c.write.new.self.state refl c.write.ensures.step
+returns g c = other_acted c.self.inside.core.state c.self.inside.jobs _ c.self.invariant.0 _ c.self.view_is
+    (event.Write c.args.handle c.args.offset c.args.bytes.now) _ c.write.new.self.state tt refl refl
+    c.write.ensures.step

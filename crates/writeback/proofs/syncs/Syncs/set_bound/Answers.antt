@@ -3,9 +3,14 @@ use Rattle.std.specs.Prelude.{Some}
 use Rattle.std.specs.Ordering.{nat_cmp}
 use Rattle.std.specs.FinMap as map
 use Rattle.writeback.specs.declared.syncs.Progress.{Progress}
-use Rattle.writeback.specs.Syncs.{SyncState, change_at, with_bound}
+use Rattle.machine.specs.State.{Sync}
+use Rattle.maps.specs.Maps.{change_at}
 use Rattle.writeback.proofs.SlotLemmas.{slot_changed}
 use Rattle.writeback.proofs.syncs.Syncs.set_bound.Goals as goal
 
 pub returns : goal.returns
-returns c = slot_changed c.self.inside.slots c.bound_in.new.slots c.args.sync.0 (λ (s : Progress). record s { bound = Some c.args.bound }) (with_bound c.args.bound.0) (λ p. refl) c.bound_in.ensures ∙ ap (λ (m : map.FinMap nat_cmp SyncState). change_at c.args.sync.0 (with_bound c.args.bound.0) m) c.self.view_is
+returns c = slot_changed c.self.inside.slots c.bound_in.new.slots c.args.sync.0
+    (λ (s : Progress). record s { bound = Some c.args.bound }) (λ (y : Sync). record y { bound = Some c.args.bound.0 })
+    (λ p. refl) c.bound_in.ensures
+    ∙ ap (λ (m : map.FinMap nat_cmp Sync). change_at c.args.sync.0
+    (λ (y : Sync). record y { bound = Some c.args.bound.0 }) m) c.self.view_is

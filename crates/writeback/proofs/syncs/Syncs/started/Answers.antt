@@ -1,9 +1,17 @@
-use Rattle.std.proofs.Common.{ap, ◌∙◌}
+use Rattle.std.proofs.Common.{ap, refl, ◌∙◌}
+use Rattle.std.specs.Prelude.{Some}
 use Rattle.std.specs.Ordering.{nat_cmp}
 use Rattle.std.specs.FinMap as map
-use Rattle.writeback.specs.Syncs.{SyncState, change_at, with_last}
-use Rattle.writeback.proofs.SlotLemmas.{cursor_moves}
+use Rattle.maps.specs.Maps.{change_at}
+use Rattle.machine.specs.State.{Sync}
+use Rattle.writeback.specs.declared.syncs.Progress.{Progress}
+use Rattle.writeback.proofs.SlotLemmas.{slot_changed}
 use Rattle.writeback.proofs.syncs.Syncs.started.Goals as goal
 
 pub returns : goal.returns
-returns c = cursor_moves c.self.inside.slots c.start_in.new.slots c.args.sync.0 c.args.page.0 c.start_in.ensures ∙ ap (λ (m : map.FinMap nat_cmp SyncState). change_at c.args.sync.0 (with_last c.args.page.0) m) c.self.view_is
+returns c =
+    slot_changed c.self.inside.slots c.start_in.new.slots c.args.sync.0
+    (λ (y : Progress). record y { started = Some c.args.page })
+    (λ (y : Sync). record y { started = Some c.args.page.0 }) (λ y. refl) c.start_in.ensures
+    ∙ ap (λ (m : map.FinMap nat_cmp Sync). change_at c.args.sync.0 (λ y. record y { started = Some c.args.page.0 }) m)
+    c.self.view_is

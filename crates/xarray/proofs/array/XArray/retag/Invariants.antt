@@ -1,6 +1,7 @@
-use Rattle.std.proofs.Common.{◌≡◌, ◌+◌, ◌-◌, ◌<◌, ◌≤◌, ◌^◌, None}
+use Rattle.std.proofs.Common.{◌≡◌, ◌+◌, ◌-◌, ◌<◌, ◌≤◌, ◌^◌, IfSome, None}
 use Rattle.xarray.specs.Standing.{IsOutside}
 use Rattle.xarray.specs.View.{ranges_of}
+use Rattle.xarray.specs.Walks.{IsAfter}
 use Rattle.xarray.proofs.RetagLoop.{Goes}
 use Rattle.xarray.proofs.array.XArray.retag.Given as goal
 
@@ -11,6 +12,7 @@ invariant-entries l = record {
   within : l.next ≤ l.to;
   outside : IsOutside (ranges_of l.self-inside.ranged) l.next;
   small : l.count < 2 ^ 64;
+  after : IfSome l.slot (λ p. IsAfter l.self-inside.ranged p l.next);
 }
 
 abbrev pub decreases-entries : goal.decreases-entries

@@ -1,8 +1,0 @@
-use Rattle.std.proofs.Common.{◌≡◌}
-use Rattle.std.specs.Prelude.{take}
-use Rattle.cachecore.specs.PageLists.{each_accessed, flagged}
-use Rattle.cachecore.specs.Store.{with_lists}
-use Rattle.cachecore.proofs.pages.Pages.access_cached.Given as goal
-
-abbrev pub invariant-loop-at : goal.invariant-loop-at
-invariant-loop-at l = l.self ≡ with_lists l.fn.self (each_accessed l.file (flagged l.first (take l.at l.cached)) l.fn.self.lists)

@@ -1,0 +1,15 @@
+use Rattle.std.proofs.Common.{◌≡◌, None}
+use Rattle.filesvc.specs.Rooms.{StaysAbsent, load, wants}
+use Rattle.filesvc.specs.Attempts.{Helps}
+use Rattle.filesvc.proofs.solo.Solo.make_way.Given as goal
+
+abbrev pub invariant-turns : goal.invariant-turns
+invariant-turns g l = record {
+  helps : Helps l.fn.self l.self;
+  attempts : l.self.attempts ≡ l.fn.self.attempts;
+  absent : StaysAbsent l.fn.self.world.core l.self.world.core;
+  kept : wants l.fn.span.dirties l.fn.self.world.core l.fn.span.handle.0 l.fn.span.offset l.fn.span.count ≡ None → l.self ≡ l.fn.self;
+}
+
+abbrev pub decreases-turns : goal.decreases-turns
+decreases-turns g l = load l.self.world.core

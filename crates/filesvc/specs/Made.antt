@@ -1,0 +1,94 @@
+-- How a call is made of steps of the world: of attempts, each of which is a step of the call's own and then steps that
+-- help it.
+use Rattle.std.specs.Prelude.{◌≡◌, ℕ, zero, suc, ◌+◌, ◌⊎◌, Bool, true, false, List, [], ◌∷◌, All, Option, Some, None, if◌then◌else◌}
+use Rattle.pc_types.specs.declared.ids.HandleId.{HandleId}
+use Rattle.pc_types.specs.declared.ids.PageIndex.{PageIndex}
+use Rattle.pc_types.specs.declared.ids.Serial.{Serial}
+use Rattle.pc_types.specs.declared.ids.SyncId.{SyncId}
+use Rattle.pc_types.specs.declared.refusal.Refusal.TheVariants.{Io, Turns}
+use Rattle.machine.specs.declared.event.Reply.{Reply}
+use Rattle.machine.specs.declared.event.Reply.TheVariants as reply
+use Rattle.world.specs.declared.step.Step.{Step}
+use Rattle.world.specs.declared.step.Step.TheVariants as step
+use Rattle.world.specs.Stepping.{WorldSeen, Plays, Steps}
+use Rattle.filesvc.specs.Seen.{HandleSeen, SoloSeen}
+use Rattle.filesvc.specs.Service.{is_settled}
+
+-- the world went on by steps, one after the other, each of which is of this kind
+pub record Moves (is_kind : Step → Bool) (old new : WorldSeen) : Type 0 where
+  pub steps : List Step
+  pub replies : List Reply
+  pub plays : Plays old steps replies new
+  pub each : All (λ s. is_kind s ≡ true) steps
+
+-- what helps a read, a write or a truncation: pages are filled, evicted and written back
+abbrev pub is_help : Step → Bool
+is_help (step.FillBegin h p) = true
+is_help (step.FlushBegin f) = true
+is_help step.Evict = true
+is_help step.Age = true
+is_help (step.Call t) = true
+is_help (step.End t) = true
+is_help _ = false
+
+-- what an fsync is made of
+abbrev pub is_for_sync : Step → Bool
+is_for_sync (step.SyncBeginRange h first last) = true
+is_for_sync (step.SyncStep m) = true
+is_for_sync (step.SyncDrop m) = true
+is_for_sync (step.Call t) = true
+is_for_sync (step.End t) = true
+is_for_sync _ = false
+
+-- what a sync writes by: its own steps, and the device call and the end of each write
+abbrev pub is_sync_write : Step → Bool
+is_sync_write (step.SyncStep m) = true
+is_sync_write (step.Call t) = true
+is_sync_write (step.End t) = true
+is_sync_write _ = false
+
+-- sync n of these pages was begun, and made its writes
+pub record Writes (h : HandleId) (first last : PageIndex) (n : SyncId) (old new : WorldSeen) : Type 0 where
+  pub begun : WorldSeen
+  pub begins : Steps old (step.SyncBeginRange h first last) (reply.Sync n) begun
+  pub writes : Moves is_sync_write begun new
+
+-- a sync of these pages was begun, made its writes, and was over by this reply
+pub record Syncs (h : HandleId) (first last : PageIndex) (old : WorldSeen) (r : Reply) (new : WorldSeen) : Type 0 where
+  pub sync : SyncId
+  pub written : WorldSeen
+  pub writes : Writes h first last sync old written
+  pub ends : Steps written (step.SyncStep sync) r new
+
+-- after steps that help, a page was filled, and the device call failed with this code
+abbrev pub FailsFill : WorldSeen → ℕ → WorldSeen → Type 0
+FailsFill old code new =
+    (mid : WorldSeen) × Moves is_help old mid × (h : HandleId) × (p : PageIndex) × (t : Serial)
+    × Plays mid (step.FillBegin h p ∷ step.Call t ∷ step.End t ∷ []) (reply.Job t ∷ reply.Done ∷ reply.Failed code ∷ [])
+    new
+
+-- one attempt of a call: its own step, whose reply is the answer; but where that asks for a page or for room, steps that
+-- help, and no answer yet, or a refusal. One by a failed device call has the code of the fill that was the last of them
+pub record Try (own : Step) (old : WorldSeen) (over : Option Reply) (new : WorldSeen) : Type 0 where
+  pub got : Reply
+  pub after : WorldSeen
+  pub step : Steps old own got after
+  pub settled : is_settled (Some got) ≡ true → (over ≡ Some got) × (new ≡ after)
+  pub helped : is_settled (Some got) ≡ false → Moves is_help after new
+  pub failed : is_settled (Some got) ≡ false → (code : ℕ) → over ≡ Some (reply.Refused (Io code)) → FailsFill after code new
+
+-- so many attempts, none of which was answered
+abbrev pub Tries : Step → WorldSeen → ℕ → WorldSeen → Type 0
+Tries own old zero new = new ≡ old
+Tries own old (suc n) new = (mid : WorldSeen) × Tries own old n mid × Try own mid None new
+
+-- a call is made of its attempts, the last of which is answered so; or of attempts alone where it ran out of them
+abbrev pub IsMadeOf : Step → SoloSeen → Reply → SoloSeen → Type 0
+IsMadeOf own old r new =
+    ((r ≡ reply.Refused Turns) × Tries own old.world new.attempts new.world)
+    ⊎ ((n : ℕ) × (mid : WorldSeen) × Tries own old.world n mid × Try own mid (Some r) new.world × (new.attempts ≡ n + 1))
+
+-- the step of a write at the cursor, or at the end of the file by an appending handle
+abbrev pub write_step : HandleSeen → List ℕ → Step
+write_step h bytes =
+    if h.append then step.Append (record { 0 = h.number }) bytes else step.Write (record { 0 = h.number }) h.cursor bytes

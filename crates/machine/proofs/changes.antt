@@ -1,0 +1,3 @@
+-- What is looked up in a state after a change.
+pub mod StateLaws
+pub mod ChangeLaws

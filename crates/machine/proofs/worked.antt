@@ -1,0 +1,9 @@
+-- Worked examples.
+pub mod States
+pub mod Handles
+pub mod Reads
+pub mod Writes
+pub mod Truncations
+pub mod Flushes
+pub mod Syncs
+pub mod Ranges

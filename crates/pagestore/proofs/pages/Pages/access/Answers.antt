@@ -1,0 +1,50 @@
+use Rattle.std.proofs.Common.{ap, sym, ◌∙◌, ◌≡◌}
+use Rattle.std.specs.Prelude.{option_map}
+use Rattle.std.specs.FinMap as map
+use Rattle.std.proofs.lemmas.List.{get_or_read}
+use Rattle.mapping.specs.Pages.{frame_of}
+use Rattle.mapping.proofs.PageLemmas.{none_framed}
+use Rattle.frames.specs.Table.{Table}
+use Rattle.machine.specs.PageLists.{is_listed}
+use Rattle.pagestore.specs.declared.kept.KeptFile.{KeptFile}
+use Rattle.pagestore.specs.Store.{Store, none_kept, kept_at, entry_at, store_of, with_lists}
+use Rattle.pagestore.proofs.StoreFacts.{here_kept}
+use Rattle.pagestore.proofs.ListedFrames.{accessed_nowhere, unlisted}
+use Rattle.pagestore.proofs.Owners.{no_frame}
+use Rattle.pagestore.proofs.ReadFrames.{frame_taken, read_seen, walked_entry}
+use Rattle.pagestore.proofs.pages.Pages.access.Goals as goal
+
+pub accessed-requires : goal.accessed-requires
+accessed-requires c =
+    frame_taken c.self.inside.frames c.self.inside.uptodate.items c.self.inside.files.items c.self.inside.dirty
+    c.self.invariant c.args.self.now c.self.view_is c.args.file c.args.page c.requires c.in-Some.frame
+    (walked_entry c.self.inside.frames c.self.inside.uptodate.items c.self.inside.files.items c.self.inside.dirty
+    c.self.invariant c.args.self.now c.self.view_is c.args.file c.args.page c.requires c.index.result.now
+    c.index.ensures c.in-Some.frame c.in-Some.ensures)
+
+pub returns-in-Some : goal.returns-in-Some
+returns-in-Some c =
+    ap (λ (u : Table). store_of u c.self.inside.uptodate.items c.self.inside.files.items) c.accessed.ensures
+    ∙ read_seen c.self.inside.frames c.self.inside.uptodate.items c.self.inside.files.items c.self.inside.dirty
+    c.self.invariant c.args.self.now c.self.view_is c.args.file c.args.page c.requires c.in-Some.frame
+    (walked_entry c.self.inside.frames c.self.inside.uptodate.items c.self.inside.files.items c.self.inside.dirty
+    c.self.invariant c.args.self.now c.self.view_is c.args.file c.args.page c.requires c.index.result.now
+    c.index.ensures c.in-Some.frame c.in-Some.ensures) c.free_count.ensures.sound
+
+pub returns-in_default : goal.returns-in_default
+returns-in_default c =
+    let t = c.self.inside.frames in
+    let up = c.self.inside.uptodate.items in
+    let files = c.self.inside.files.items in
+    let f = c.args.file in
+    let p = c.args.page in
+    let here = here_kept t up files f c.args.self.now c.self.view_is c.requires in
+    let entry : c.index.result.now ≡ kept_at files f = get_or_read files f c.index.result.now here c.index.ensures
+    none_kept in
+    let absent =
+    none_framed (entry_at files f p)
+    (c.in_default.ensures ∙ ap (λ (k : KeptFile). option_map frame_of (map.get k.mapping.pages p)) entry) in
+    let nowhere = ap (λ (s : Store). is_listed f p s.lists) (sym c.self.view_is)
+    ∙ unlisted t c.free_count.ensures.sound f p
+    (no_frame t up files c.self.inside.dirty c.self.invariant f p absent) in
+    sym (ap (with_lists c.args.self.now) (accessed_nowhere f p c.args.self.now.lists nowhere))

@@ -1,0 +1,76 @@
+use Rattle.std.proofs.Common.{arith, ap, sym, refl, ◌∙◌, ◌-◌}
+use Rattle.std.specs.Int.{from_bool}
+use Rattle.std.specs.FinMap as map
+use Rattle.pc_types.specs.declared.tags.Tag.TheVariants.{Dirty}
+use Rattle.mapping.specs.Pages.{with_tags}
+use Rattle.mapping.proofs.PageLemmas.{tag_of}
+use Rattle.writeback.specs.Picks as picks
+use Rattle.machine.specs.State.{Page}
+use Rattle.machine.specs.Changes.{under_write}
+use Rattle.pagestore.proofs.StoreFacts.{byte_is}
+use Rattle.pagestore.proofs.FrameEntries.{framed, framed_entry}
+use Rattle.pagestore.proofs.TagChanges.{not_absent, frame_taken, counts_dirty, page_found, tagged_store, tagged_seen}
+use Rattle.pagestore.proofs.pages.Pages.begin_write.Goals as goal
+
+pub unreachable-requires : goal.unreachable-requires
+unreachable-requires c = not_absent c.self.inside.frames c.self.inside.uptodate.items c.self.inside.files.items
+    c.self.inside.dirty c.self.invariant c.args.self.now c.self.view_is c.args.file c.args.page c.requires.here
+    c.requires.cached c.index_mut.result.now c.index_mut.ensures.value c.in_default.ensures
+
+pub overflow_sub-self : goal.overflow_sub-self
+overflow_sub-self c =
+    let entry = map.get c.index_mut.result.now.mapping.pages c.args.page in
+    let x = framed entry c.in-Some.frame in
+    let found = framed_entry entry c.in-Some.frame c.in-Some.ensures in
+    let one =
+    c.from.ensures ∙ ap from_bool (c.has_tag-was_dirty.ensures
+    ∙ tag_of c.args.page Dirty c.index_mut.result.now.mapping.pages x found) ∙ byte_is x.tags.dirty in
+    omega (
+      arith,
+      one,
+      counts_dirty c.self.inside.frames c.self.inside.uptodate.items c.self.inside.files.items
+          c.self.inside.dirty c.self.invariant c.args.self.now c.self.view_is c.args.file c.args.page c.requires.here
+          c.requires.cached c.index_mut.result.now c.index_mut.ensures.value x (sym found),
+    )
+
+pub bytes-requires : goal.bytes-requires
+bytes-requires c = frame_taken c.self.inside.frames c.self.inside.uptodate.items c.self.inside.files.items
+    c.self.inside.dirty c.self.invariant c.args.self.now c.self.view_is c.args.file c.args.page c.requires.here
+    c.requires.cached c.index_mut.result.now c.index_mut.ensures.value
+    (framed (map.get c.index_mut.result.now.mapping.pages c.args.page) c.in-Some.frame)
+    (sym (framed_entry (map.get c.index_mut.result.now.mapping.pages c.args.page) c.in-Some.frame c.in-Some.ensures))
+
+pub invariant_of-self : goal.invariant_of-self
+invariant_of-self c =
+    let entry = map.get c.index_mut.result.now.mapping.pages c.args.page in
+    let x = framed entry c.in-Some.frame in
+    let found = framed_entry entry c.in-Some.frame c.in-Some.ensures in
+    let one =
+    c.from.ensures ∙ ap from_bool (c.has_tag-was_dirty.ensures
+    ∙ tag_of c.args.page Dirty c.index_mut.result.now.mapping.pages x found) ∙ byte_is x.tags.dirty in
+    let least = counts_dirty c.self.inside.frames c.self.inside.uptodate.items c.self.inside.files.items
+    c.self.inside.dirty c.self.invariant c.args.self.now c.self.view_is c.args.file c.args.page c.requires.here
+    c.requires.cached c.index_mut.result.now c.index_mut.ensures.value x (sym found) in
+    tagged_store c.self.inside.frames c.self.inside.uptodate.items c.self.inside.files.items c.self.inside.dirty
+    c.self.invariant c.args.self.now c.self.view_is c.args.file c.args.page c.requires.here c.requires.cached
+    c.index_mut.result.now c.index_mut.ensures.value x (sym found) (with_tags picks.under_write) refl
+    c.begin_write.new.mapping c.begin_write.ensures (c.self.inside.dirty - c.from.result)
+    (omega (arith, one, least))
+
+pub returns-clause-begun : goal.returns-clause-begun
+returns-clause-begun c = tagged_seen c.self.inside.frames c.self.inside.uptodate.items c.self.inside.files.items
+    c.self.inside.dirty c.self.invariant c.args.self.now c.self.view_is c.args.file c.args.page c.requires.here
+    c.requires.cached c.index_mut.result.now c.index_mut.ensures.value
+    (framed (map.get c.index_mut.result.now.mapping.pages c.args.page) c.in-Some.frame)
+    (sym (framed_entry (map.get c.index_mut.result.now.mapping.pages c.args.page) c.in-Some.frame c.in-Some.ensures))
+    (with_tags picks.under_write) refl c.begin_write.new.mapping c.begin_write.ensures under_write refl
+
+pub returns-clause-copy : goal.returns-clause-copy
+returns-clause-copy c =
+    let page = page_found c.self.inside.frames c.self.inside.uptodate.items c.self.inside.files.items
+    c.self.inside.dirty c.self.invariant c.args.self.now c.self.view_is c.args.file c.args.page c.requires.here
+    c.requires.cached c.index_mut.result.now c.index_mut.ensures.value
+    (framed (map.get c.index_mut.result.now.mapping.pages c.args.page) c.in-Some.frame)
+    (sym (framed_entry (map.get c.index_mut.result.now.mapping.pages c.args.page) c.in-Some.frame
+    c.in-Some.ensures)) in
+    c.copy_from_slice.ensures.after ∙ c.bytes.ensures.bytes ∙ ap (λ (page : Page). page.bytes) (sym page)

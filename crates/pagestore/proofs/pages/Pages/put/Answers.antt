@@ -1,0 +1,76 @@
+use Rattle.std.proofs.Common.{Bool, true, false, not, length, sym, ◌∙◌, ◌-◌, ◌+◌, ◌≤◌, arith}
+use Rattle.std.specs.FinMap as map
+use Rattle.std.specs.Int.{from_bool}
+use Rattle.mapping.proofs.PageLemmas.{tag_of}
+use Rattle.pc_types.specs.declared.tags.Tag.TheVariants.{Dirty}
+use Rattle.pagestore.proofs.FrameEntries.{framed, framed_entry}
+use Rattle.pagestore.proofs.StoreFacts.{few_dirty_pages}
+use Rattle.pagestore.proofs.TagChanges.{dirty_more, frame_taken, not_absent, put_seen, put_store, rows_put}
+use Rattle.pagestore.proofs.pages.Pages.put.Goals as goal
+
+pub unreachable-requires : goal.unreachable-requires
+unreachable-requires c =
+    not_absent c.self.inside.frames c.self.inside.uptodate.items c.self.inside.files.items c.self.inside.dirty
+    c.self.invariant c.args.self.now c.self.view_is c.args.file c.args.page c.requires.here c.requires.cached
+    c.index_mut.result.now c.index_mut.ensures.value c.in_default.ensures
+
+pub overflow_add-self : goal.overflow_add-self
+overflow_add-self c =
+    let most : (b : Bool) → from_bool b ≤ 1 =
+    λ b. elim b as (λ b. from_bool b ≤ 1) [ true ↦ omega arith | false ↦ omega arith ] in
+    omega (
+      arith,
+      few_dirty_pages c.self.inside.frames c.self.inside.uptodate.items c.self.inside.files.items
+          c.self.inside.dirty c.self.invariant,
+      c.from.ensures,
+      most (not c.has_tag-was_dirty.result),
+    )
+
+pub bytes_mut-requires : goal.bytes_mut-requires
+bytes_mut-requires c =
+    let x = framed (map.get c.index_mut.result.now.mapping.pages c.args.page) c.in-Some.frame in
+    let found =
+    sym (framed_entry (map.get c.index_mut.result.now.mapping.pages c.args.page) c.in-Some.frame
+    c.in-Some.ensures) in
+    frame_taken c.self.inside.frames c.self.inside.uptodate.items c.self.inside.files.items c.self.inside.dirty
+    c.self.invariant c.args.self.now c.self.view_is c.args.file c.args.page c.requires.here c.requires.cached
+    c.index_mut.result.now c.index_mut.ensures.value x found
+
+pub invariant_of-self : goal.invariant_of-self
+invariant_of-self c =
+    let x = framed (map.get c.index_mut.result.now.mapping.pages c.args.page) c.in-Some.frame in
+    let found =
+    sym (framed_entry (map.get c.index_mut.result.now.mapping.pages c.args.page) c.in-Some.frame
+    c.in-Some.ensures) in
+    let b = c.args.bytes.now in
+    let put = rows_put c.self.inside.frames c.self.inside.uptodate.items c.self.inside.files.items c.self.inside.dirty
+    c.self.invariant c.args.self.now c.self.view_is c.args.file c.args.page c.requires.here c.requires.cached
+    c.index_mut.result.now c.index_mut.ensures.value x found c.args.at b c.requires.room
+    (c.args.at + length b - c.args.at) c.bytes_mut.result.now c.copy_from_slice.new.self c.bytes_mut.ensures.bytes
+    c.copy_from_slice.ensures.after (omega arith) c.bytes_mut.ensures.sized c.bytes_mut.ensures.within in
+    let more = dirty_more c.self.inside.frames c.self.inside.uptodate.items c.self.inside.files.items
+    c.self.inside.dirty c.self.invariant c.args.self.now c.self.view_is c.args.file c.args.page c.requires.here
+    c.requires.cached c.index_mut.result.now c.index_mut.ensures.value x found c.args.at b c.requires.room
+    c.from.result c.has_tag-was_dirty.result c.from.ensures
+    (c.has_tag-was_dirty.ensures ∙ tag_of c.args.page Dirty c.index_mut.result.now.mapping.pages x (sym found)) in
+    put_store c.self.inside.frames c.self.inside.uptodate.items c.self.inside.files.items c.self.inside.dirty
+    c.self.invariant c.args.self.now c.self.view_is c.args.file c.args.page c.requires.here c.requires.cached
+    c.index_mut.result.now c.index_mut.ensures.value x found c.args.at b c.requires.room _ put c.tag.new.self
+    c.tag.ensures.tagged (c.self.inside.dirty + c.from.result) more
+
+pub returns : goal.returns
+returns c =
+    let x = framed (map.get c.index_mut.result.now.mapping.pages c.args.page) c.in-Some.frame in
+    let found =
+    sym (framed_entry (map.get c.index_mut.result.now.mapping.pages c.args.page) c.in-Some.frame
+    c.in-Some.ensures) in
+    let b = c.args.bytes.now in
+    let put = rows_put c.self.inside.frames c.self.inside.uptodate.items c.self.inside.files.items c.self.inside.dirty
+    c.self.invariant c.args.self.now c.self.view_is c.args.file c.args.page c.requires.here c.requires.cached
+    c.index_mut.result.now c.index_mut.ensures.value x found c.args.at b c.requires.room
+    (c.args.at + length b - c.args.at) c.bytes_mut.result.now c.copy_from_slice.new.self c.bytes_mut.ensures.bytes
+    c.copy_from_slice.ensures.after (omega arith) c.bytes_mut.ensures.sized c.bytes_mut.ensures.within in
+    put_seen c.self.inside.frames c.self.inside.uptodate.items c.self.inside.files.items c.self.inside.dirty
+    c.self.invariant c.args.self.now c.self.view_is c.args.file c.args.page c.requires.here c.requires.cached
+    c.index_mut.result.now c.index_mut.ensures.value x found c.args.at b c.requires.room _ put c.tag.new.self
+    c.tag.ensures.tagged

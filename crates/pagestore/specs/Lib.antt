@@ -1,0 +1,4 @@
+pub mod Store
+pub mod Cuts
+pub mod Ranges
+pub mod Syncing

@@ -1,0 +1,37 @@
+-- Words of the contracts: pages read and written one after the other.
+use Rattle.std.specs.Prelude.{◌≡◌, ◌+◌, ◌/◌, ◌%◌, ◌<◌, ◌≤◌, slice_index, true, length, take, drop, ◌++◌, ℕ, List, []}
+use Rattle.std.specs.Prelude.{Option, Some, option_map, unwrap_or, if◌then◌else◌, nat_le, nat_lt, ◌&&◌, is_some}
+use Rattle.std.specs.Ordering.{nat_cmp}
+use Rattle.std.specs.FinMap.{FinMap, get}
+use Rattle.machine.specs.State.{Page}
+use Rattle.pagestore.specs.Store.{the_page}
+use Rattle.machine.specs.Changes.{written_page}
+
+-- byte k of a page, where it is cached
+abbrev pub page_byte : Option Page → ℕ → ℕ
+page_byte page k = slice_index (unwrap_or (option_map (λ page. page.bytes) page) []) k
+
+-- each page from `first` up to `end` is cached
+pub record AreCached (first end : ℕ) (pages : FinMap nat_cmp Page) : Type 0 where
+  pub each : (q : ℕ) → first ≤ q → q < end → is_some (get pages q) ≡ true
+
+-- each cached page has P bytes
+pub record AreSized (P : ℕ) (pages : FinMap nat_cmp Page) : Type 0 where
+  pub each : (q : ℕ) → is_some (get pages q) ≡ true → length (the_page pages q).bytes ≡ P
+
+-- b is written at o into the pages from `first` up to `end`
+pub record IsLaid (P o : ℕ) (b : List ℕ) (first end : ℕ) (old new : FinMap nat_cmp Page) : Type 0 where
+  pub each : (q : ℕ) → get new q
+      ≡ (if nat_le first q && nat_lt q end then Some (written_page P o b q (get old q)) else get old q)
+
+-- the first n places of `out` have the bytes from o on of the cached pages
+pub record AreRead (P o : ℕ) (pages : FinMap nat_cmp Page) (n : ℕ) (out : List ℕ) : Type 0 where
+  pub each : (i : ℕ) → i < n → i < length out → slice_index out i ≡ page_byte (get pages ((o + i) / P)) ((o + i) % P)
+
+-- the page with these bytes put in place from k on, and DIRTY
+abbrev pub with_part : Page → ℕ → List ℕ → Page
+with_part page k b =
+    record {
+      bytes = take k page.bytes ++ b ++ drop (k + length b) page.bytes;
+      tags = record page.tags { dirty = true };
+    }

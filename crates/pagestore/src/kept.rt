@@ -1,0 +1,108 @@
+//! A file as the pages' store keeps it.
+
+ghost use Rattle.std.specs.Prelude.{◌≡◌, ◌-◌, ◌≤◌, ◌^◌, false, find, not, slice_index_or, count_by};
+ghost use Rattle.std.specs.List.{range_with_len};
+ghost use Rattle.std.specs.FinMap as map;
+ghost use Rattle.pc_types.specs.declared.tags.Tag.TheVariants.{Dirty};
+ghost use Rattle.mapping.specs.Pages.{frame_of, has_at};
+ghost use Rattle.pc_types.specs.TagBits.{tag_set};
+ghost use Rattle.pagestore.specs.Cuts.{is_untagged, is_idle_entry};
+ghost use Rattle.pagestore.specs.Store.{none_kept, has_page};
+
+use frames::Frames;
+use mapping::Mapping;
+use pc_types::limits::MAX_TOUCHED;
+use pc_types::{FrameId, PageIndex, Tag, Tags};
+use std::alloc::Global;
+
+/// A file's pages, how many writes of it failed, and the code of the last.
+#[derive(Drop)]
+pub struct KeptFile {
+    pub mapping: Mapping,
+    pub failures: u64,
+    pub last_code: u64,
+}
+
+impl KeptFile {
+    /// A file without bytes.
+    pub fn new(alloc: Global) -> KeptFile
+        ensures { result ≡ none_kept }
+    {
+        KeptFile {
+            mapping: Mapping::new(alloc),
+            failures: 0,
+            last_code: 0,
+        }
+    }
+
+    /// Whether the page has an entry, and its frame has the page's bytes.
+    pub fn is_cached(&self, uptodate: &[bool], page: u64) -> bool
+        ensures { result ≡ has_page uptodate.now (map.get self.now.mapping.pages page) }
+    {
+        match self.mapping.frame(PageIndex(page)) {
+            Some(frame) => is_uptodate(uptodate, frame),
+            None => false,
+        }
+    }
+
+    /// Whether the page is cached and has no tag. A page that is filling has none either.
+    pub fn is_idle(&self, uptodate: &[bool], page: u64) -> bool
+        ensures { result ≡ is_idle_entry uptodate.now (map.get self.now.mapping.pages page) }
+    {
+        match self.mapping.page(PageIndex(page)) {
+            Some(mapped) => is_uptodate(uptodate, mapped.frame) && has_no_tag(mapped.tags),
+            None => false,
+        }
+    }
+
+    pub fn is_dirty(&self, page: u64) -> bool
+        ensures { result ≡ has_at self.now.mapping.pages page Dirty }
+    {
+        self.mapping.has_tag(PageIndex(page), Tag::Dirty)
+    }
+
+    /// The first page from `first` up to `end` that is not cached.
+    pub fn first_absent(&self, uptodate: &[bool], first: u64, end: u64) -> Option<u64>
+        requires order { first ≤ end }
+        requires bound { end ≤ 2 ^ 63 }
+        ensures { result ≡ find (λ p. not (has_page uptodate.now (map.get self.now.mapping.pages p))) (range_with_len first (end - first)) }
+    {
+        (first..end).find(|p| !self.is_cached(uptodate, *p))
+    }
+
+    /// How many pages from `first` up to `end` are not cached.
+    pub fn absent_pages(&self, uptodate: &[bool], first: u64, end: u64) -> usize
+        requires order { first ≤ end }
+        requires few { end - first ≤ MAX_TOUCHED }
+        requires bound { end ≤ 2 ^ 63 }
+        ensures { result ≡ count_by (λ p. not (has_page uptodate.now (map.get self.now.mapping.pages p))) (range_with_len first (end - first)) }
+    {
+        (first..end)
+            .filter(|p| !self.is_cached(uptodate, *p))
+            .count()
+    }
+
+    /// How many pages from `first` up to `end` are not DIRTY.
+    pub fn clean_pages(&self, first: u64, end: u64) -> usize
+        requires order { first ≤ end }
+        requires few { end - first ≤ MAX_TOUCHED }
+        requires bound { end ≤ 2 ^ 63 }
+        ensures { result ≡ count_by (λ p. not (has_at self.now.mapping.pages p Dirty)) (range_with_len first (end - first)) }
+    {
+        (first..end).filter(|p| !self.is_dirty(*p)).count()
+    }
+}
+
+fn has_no_tag(tags: Tags) -> bool
+    ensures { result ≡ is_untagged (tag_set tags) }
+{
+    !tags.has(Tag::Dirty) && !tags.has(Tag::Writeback) && !tags.has(Tag::Towrite)
+}
+
+/// Whether a frame has its page's bytes, by the flags of all frames.
+pub fn is_uptodate(uptodate: &[bool], frame: FrameId) -> bool
+    ensures { result ≡ slice_index_or uptodate.now frame.0 false }
+{
+    let at = frame.0 as usize;
+    at < uptodate.len() && uptodate[at]
+}

@@ -1,0 +1,51 @@
+//! Pages that are being filled: each has its entry and a frame, which waits for the page's bytes.
+
+ghost use Rattle.std.specs.Prelude.{◌≡◌, ◌+◌, ◌-◌, ◌<◌, OnOk, OnErr, length, true, false, None};
+ghost use Rattle.std.specs.FinMap as map;
+ghost use Rattle.std.specs.FinSet as set;
+ghost use Rattle.mapping.specs.declared.mapping.TheConstants.{MAX_PAGES};
+ghost use Rattle.pc_types.specs.Tags.{no_tags};
+ghost use Rattle.machine.specs.PageLists.{entered, left};
+ghost use Rattle.pagestore.specs.Store.{stored_at, stored_page, is_awaited, with_pages};
+
+use crate::pages::Pages;
+use pc_types::PageIndex;
+use std::alloc::AllocError;
+
+impl Pages {
+    /// Begins to fill an absent page. All memory that the page needs is taken here.
+    pub fn start_fill(&mut self, file: u64, page: u64) -> Result<(), AllocError>
+        requires here { file < length self.old.files }
+        requires below { page < MAX_PAGES }
+        requires absent { stored_page self.old file page ≡ None }
+        requires idle { is_awaited self.old file page ≡ false }
+        requires room { 0 < self.old.free }
+        ensures ok { OnOk result (self.new ≡ record self.old { filling = set.insert self.old.filling (file, page); free = self.old.free - 1; lists = entered file page self.old.lists }) }
+        ensures err { OnErr result (self.new ≡ self.old) }
+    {
+        self.enter(file, page, false)
+    }
+
+    /// A page that was filling is cached with these bytes, and has no tags.
+    pub fn finish_fill(&mut self, file: u64, page: u64, bytes: &[u8])
+        requires here { file < length self.old.files }
+        requires filling { is_awaited self.old file page ≡ true }
+        requires whole { length bytes.now ≡ self.old.page }
+        ensures { self.new ≡ record (with_pages self.old file (map.insert (stored_at self.old file).pages page (record { bytes = bytes.now; tags = no_tags })) self.old.free) { filling = set.remove self.old.filling (file, page) } }
+    {
+        let Some(frame) = self.files[file as usize].mapping.frame(PageIndex(page)) else {
+            unreachable!()
+        };
+        self.frames.bytes_mut(frame).copy_from_slice(bytes);
+        self.uptodate[frame.0 as usize] = true;
+    }
+
+    /// A page that was filling is absent again.
+    pub fn abandon_fill(&mut self, file: u64, page: u64)
+        requires here { file < length self.old.files }
+        requires filling { is_awaited self.old file page ≡ true }
+        ensures { self.new ≡ record self.old { filling = set.remove self.old.filling (file, page); free = self.old.free + 1; lists = left file page self.old.lists } }
+    {
+        self.leave(file, page);
+    }
+}

@@ -1,0 +1,98 @@
+//! Pages that leave the store, at a truncation and at an eviction, the tail of a truncated file, and the order of eviction.
+
+ghost use Rattle.std.specs.Prelude.{◌≡◌, ◌+◌, ◌<◌, ◌≤◌, ◌||◌, ℕ, IfNone, IfSome, false, find, is_some, length, option_map, true};
+ghost use Rattle.std.specs.FinMap as map;
+ghost use Rattle.pagestore.specs.Store.{the_page, is_awaited, stored_at, stored_page, with_pages, with_lists};
+ghost use Rattle.machine.specs.Changes.{cut_page};
+ghost use Rattle.pagestore.specs.Cuts.{Evicts, RemovesFrom, is_idle_at, is_idle_frame};
+ghost use Rattle.machine.specs.ListChanges.{numbers};
+ghost use Rattle.machine.specs.PageLists.{aged, cut_off, active_target, place, scan_order};
+
+use crate::kept::KeptFile;
+use crate::pages::Pages;
+use frames::Frames;
+use pc_types::limits::MAX_FRAMES;
+use pc_types::{FileId, FrameId, PageIndex, Tag};
+
+impl Pages {
+    /// Moves frames from the active list to the inactive one while it is longer, and answers how many. Only the order of
+    /// eviction changes.
+    pub fn age(&mut self) -> u64
+        ensures moved { result + active_target self.old.lists ≡ length self.old.lists.active }
+        ensures aged { self.new ≡ with_lists self.old (aged self.old.lists) }
+    {
+        // for what `free_count` ensures: no frame is in a list twice
+        prove!(self.frames.free_count() <= MAX_FRAMES);
+        self.frames.age()
+    }
+
+    /// The bytes of a cached page from `from` on become zeros, and it is tagged DIRTY.
+    pub fn cut_tail(&mut self, file: u64, page: u64, from: usize)
+        requires here { file < length self.old.files }
+        requires cached { is_some (stored_page self.old file page) ≡ true }
+        requires inside { from < self.old.page }
+        ensures { self.new ≡ with_pages self.old file (map.insert (stored_at self.old file).pages page (cut_page self.old.page from true (the_page (stored_at self.old file).pages page))) self.old.free }
+    {
+        let mapping = &mut self.files[file as usize].mapping;
+        let Some(mapped) = mapping.page(PageIndex(page)) else {
+            unreachable!()
+        };
+        let _ = mapping.tag(PageIndex(page), Tag::Dirty);
+        self.dirty += u64::from(!mapped.tags.has(Tag::Dirty));
+        self.frames.bytes_mut(mapped.frame)[from..].fill(0);
+    }
+
+    /// The pages of the file from this one on are absent.
+    pub fn remove_from(&mut self, file: u64, page: u64)
+        requires { file < length self.old.files }
+        ensures { RemovesFrom self.old self.new file page }
+    {
+        while let Some(found) = self.first_from(file, page) {
+            self.leave(file, found);
+        }
+    }
+
+    /// A page of the file that is cached or filling, at this page or after it.
+    fn first_from(&self, file: u64, page: u64) -> Option<u64>
+        requires { file < length self.now.files }
+        ensures found { IfSome result (λ found. (page ≤ found) × ((is_some (stored_page self.now file found) || is_awaited self.now file found) ≡ true)) }
+        ensures none { IfNone result ((q : ℕ) → page ≤ q → (is_some (stored_page self.now file q) || is_awaited self.now file q) ≡ false) }
+        ensures unlisted { IfNone result (cut_off file page self.now.lists ≡ self.now.lists) }
+    {
+        // for what `free_count` ensures: each frame in a list is taken
+        prove!(self.frames.free_count() <= MAX_FRAMES);
+        let found = self.files[file as usize]
+            .mapping
+            .find_page(PageIndex(page))?;
+        Some(found.page.0)
+    }
+
+    /// Takes the first page away that is idle, in the order of eviction, and answers which.
+    pub fn evict(&mut self) -> Option<(FileId, PageIndex)>
+        ensures evicted { Evicts self.old result self.new }
+        ensures first { option_map numbers result ≡ option_map place (find (is_idle_at self.old) (scan_order self.old.lists)) }
+    {
+        // for what `free_count` ensures: each frame that is taken is in one of the two lists
+        prove!(self.frames.free_count() <= MAX_FRAMES);
+        let is_idle = |frame| is_idle_frame(&self.frames, &self.uptodate, &self.files, frame);
+        let victim = self.frames.scan(is_idle)?;
+        let Some((file, page)) = self.frames.owner(victim) else {
+            unreachable!()
+        };
+        self.leave(file.0, page.0);
+        Some((file, page))
+    }
+}
+
+/// Whether the page that has the frame is cached and has no tag.
+fn is_idle_frame(frames: &Frames, uptodate: &[bool], files: &[KeptFile], frame: FrameId) -> bool
+    ensures { result ≡ is_idle_frame frames.now uptodate.now files.now frame.0 }
+{
+    let Some((file, page)) = frames.owner(frame) else {
+        return false;
+    };
+    match files.get(file.0 as usize) {
+        Some(kept) => kept.is_idle(uptodate, page.0),
+        None => false,
+    }
+}

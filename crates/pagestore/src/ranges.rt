@@ -1,0 +1,174 @@
+//! Ranges of pages: made, written, read, one page after the other.
+
+ghost use Rattle.std.specs.Prelude.{◌≡◌, ◌+◌, ◌-◌, ◌/◌, ◌<◌, ◌≤◌, IfNone, IfSome, OnOk, OnErr, length, find, not, is_some, count_by, filter};
+ghost use Rattle.std.specs.List.{range_with_len};
+ghost use Rattle.mapping.specs.declared.mapping.TheConstants.{MAX_PAGES};
+ghost use Rattle.pagestore.specs.Ranges.{AreCached, AreSized, IsLaid, AreRead};
+ghost use Rattle.machine.specs.PageLists.{each_accessed, flagged};
+ghost use Rattle.machine.specs.State.{touched};
+ghost use Rattle.pagestore.specs.Store.{stored_at, stored_page, with_pages, with_lists, NoneAwaited, AreMade};
+
+use crate::pages::Pages;
+use pc_types::limits::{MAX_FILE_SIZE, MAX_PAGE_SIZE, MAX_TOUCHED};
+use std::alloc::AllocError;
+
+impl Pages {
+    /// Makes the absent pages from `first` up to `end` as pages of zeros. Where memory is refused, those made so far are
+    /// taken away again, the last one first. It calls itself once a page: at most 16 times in a call of the cache (no clause
+    /// says so).
+    pub fn cover(&mut self, file: u64, first: u64, end: u64) -> Result<(), AllocError>
+        requires here { file < length self.old.files }
+        requires order { first ≤ end }
+        requires below { end ≤ MAX_PAGES }
+        requires idle { NoneAwaited file first end self.old }
+        requires room { count_by (λ p. not (is_some (stored_page self.old file p))) (range_with_len first (end - first)) ≤ self.old.free }
+        ensures made { OnOk result (AreMade file first end self.old self.new) }
+        ensures err { OnErr result (self.new ≡ self.old) }
+    {
+        if first == end {
+            return Ok(());
+        }
+        if self.is_cached(file, first) {
+            return self.cover(file, first + 1, end);
+        }
+        self.make(file, first)?;
+        let rest = self.cover(file, first + 1, end);
+        if rest.is_err() {
+            self.remove(file, first);
+        }
+        rest
+    }
+
+    /// Writes the bytes from `offset` on into pages that are cached.
+    pub fn write(&mut self, file: u64, page_size: u64, offset: u64, bytes: &[u8])
+        requires here { file < length self.old.files }
+        requires page { page_size ≡ self.old.page }
+        requires positive { 0 < page_size }
+        requires small { page_size ≤ MAX_PAGE_SIZE }
+        requires some { 0 < length bytes.now }
+        requires bound { offset + length bytes.now ≤ MAX_FILE_SIZE }
+        requires cached { AreCached (offset / page_size) ((offset + length bytes.now - 1) / page_size + 1) (stored_at self.old file).pages }
+        requires sized { AreSized page_size (stored_at self.old file).pages }
+        ensures pages { IsLaid page_size offset bytes.now (offset / page_size) ((offset + length bytes.now - 1) / page_size + 1) (stored_at self.old file).pages (stored_at self.new file).pages }
+        ensures rest { self.new ≡ with_pages self.old file (stored_at self.new file).pages self.old.free }
+    {
+        let first = offset / page_size;
+        let last = (offset + bytes.len() as u64 - 1) / page_size;
+        for p in first..last + 1 {
+            let start = p * page_size;
+            let at = offset.saturating_sub(start) as usize;
+            let from = start.saturating_sub(offset) as usize;
+            let to = bytes.len().min((start + page_size - offset) as usize);
+            self.put(file, p, at, &bytes[from..to]);
+        }
+    }
+
+    /// Copies the bytes from `offset` on out of their pages, and notes that each was read. Where not all of them are cached it
+    /// answers the first that is not, and does nothing else.
+    pub fn read(&mut self, file: u64, page_size: u64, offset: u64, out: &mut [u8]) -> Option<u64>
+        requires here { file < length self.old.files }
+        requires page { page_size ≡ self.old.page }
+        requires positive { 0 < page_size }
+        requires small { page_size ≤ MAX_PAGE_SIZE }
+        requires some { 0 < length out.old }
+        requires bound { offset + length out.old ≤ MAX_FILE_SIZE }
+        requires sized { AreSized page_size (stored_at self.old file).pages }
+        ensures absent { result ≡ find (λ p. not (is_some (stored_page self.old file p))) (range_with_len (offset / page_size) ((offset + length out.old - 1) / page_size + 1 - offset / page_size)) }
+        ensures kept { IfSome result (λ _. out.new ≡ out.old) }
+        ensures same { IfSome result (λ _. self.new ≡ self.old) }
+        ensures read { IfNone result (AreRead page_size offset (stored_at self.old file).pages (length out.new) out.new) }
+        ensures moved { IfNone result (self.new ≡ with_lists self.old (each_accessed file (touched page_size offset (length out.old)) self.old.lists)) }
+    {
+        let first = offset / page_size;
+        let at = offset % page_size;
+        if at + out.len() as u64 <= page_size {
+            // bytes of one page
+            if self.read_within(file, first, at as usize, out) {
+                return None;
+            }
+            return Some(first);
+        }
+        self.read_several(file, page_size, offset, out)
+    }
+
+    /// The same of any number of pages, by two look-ups a page.
+    #[inline(never)]
+    fn read_several(
+        &mut self,
+        file: u64,
+        page_size: u64,
+        offset: u64,
+        out: &mut [u8],
+    ) -> Option<u64>
+        requires here { file < length self.old.files }
+        requires page { page_size ≡ self.old.page }
+        requires positive { 0 < page_size }
+        requires small { page_size ≤ MAX_PAGE_SIZE }
+        requires some { 0 < length out.old }
+        requires bound { offset + length out.old ≤ MAX_FILE_SIZE }
+        requires sized { AreSized page_size (stored_at self.old file).pages }
+        ensures absent { result ≡ find (λ p. not (is_some (stored_page self.old file p))) (range_with_len (offset / page_size) ((offset + length out.old - 1) / page_size + 1 - offset / page_size)) }
+        ensures kept { IfSome result (λ _. out.new ≡ out.old) }
+        ensures same { IfSome result (λ _. self.new ≡ self.old) }
+        ensures read { IfNone result (AreRead page_size offset (stored_at self.old file).pages (length out.new) out.new) }
+        ensures moved { IfNone result (self.new ≡ with_lists self.old (each_accessed file (touched page_size offset (length out.old)) self.old.lists)) }
+    {
+        let first = offset / page_size;
+        let end = (offset + out.len() as u64 - 1) / page_size + 1;
+        if let Some(page) = self.first_absent(file, first, end) {
+            return Some(page);
+        }
+        self.read_each(file, page_size, offset, out);
+        None
+    }
+
+    /// Copies the bytes from `offset` on out of pages that are cached, and notes that each was read.
+    fn read_each(&mut self, file: u64, page_size: u64, offset: u64, out: &mut [u8])
+        requires here { file < length self.old.files }
+        requires page { page_size ≡ self.old.page }
+        requires positive { 0 < page_size }
+        requires small { page_size ≤ MAX_PAGE_SIZE }
+        requires some { 0 < length out.old }
+        requires bound { offset + length out.old ≤ MAX_FILE_SIZE }
+        requires cached { AreCached (offset / page_size) ((offset + length out.old - 1) / page_size + 1) (stored_at self.old file).pages }
+        requires sized { AreSized page_size (stored_at self.old file).pages }
+        ensures read { AreRead page_size offset (stored_at self.old file).pages (length out.new) out.new }
+        ensures moved { self.new ≡ with_lists self.old (each_accessed file (touched page_size offset (length out.old)) self.old.lists) }
+    {
+        let first = offset / page_size;
+        let last = (offset + out.len() as u64 - 1) / page_size;
+        for p in first..last + 1 {
+            let start = p * page_size;
+            let at = offset.saturating_sub(start) as usize;
+            let from = start.saturating_sub(offset) as usize;
+            let to = out.len().min((start + page_size - offset) as usize);
+            self.read_part(file, p, at, out, from, to);
+        }
+    }
+
+    /// Which pages from `first` up to `end` are cached.
+    pub fn which_cached(&self, file: u64, first: u64, end: u64) -> [bool; MAX_TOUCHED as usize]
+        requires here { file < length self.now.files }
+        requires few { end - first ≤ MAX_TOUCHED }
+        ensures { flagged first result ≡ filter (λ p. is_some (stored_page self.now file p)) (range_with_len first (end - first)) }
+    {
+        let mut cached = [false; MAX_TOUCHED as usize];
+        for page in first..end {
+            cached[(page - first) as usize] = self.is_cached(file, page);
+        }
+        cached
+    }
+
+    /// Notes that those of the pages from `first` on that were cached were written.
+    pub fn access_cached(&mut self, file: u64, first: u64, cached: &[bool])
+        requires here { file < length self.old.files }
+        requires below { first ≤ MAX_PAGES }
+        ensures { self.new ≡ with_lists self.old (each_accessed file (flagged first cached.now) self.old.lists) }
+    {
+        for at in 0..cached.len() {
+            if cached[at] {
+                self.access(file, first + at as u64);
+            }
+        }
+    }
+}

@@ -1,0 +1,267 @@
+-- A write of a page is started, and a sync begins.
+use Rattle.std.proofs.Common.{[]}
+use Rattle.std.proofs.Common.{◌≡◌, ◌≢◌, ℕ, ◌+◌, ◌<◌, Bool, true, false, cond, eqb, eqb-true, eq-eqb, List}
+use Rattle.std.proofs.Common.{length, get_or, refl, ap, sym, subst, ◌∙◌, inl, inr}
+use Rattle.std.specs.Prelude.{◌&&◌, ◌||◌, ◌⊎◌, Option, Some, None, is_some, option_map, unwrap_or}
+use Rattle.std.specs.Ordering.{nat_cmp}
+use Rattle.std.specs.FinMap as finmap
+use Rattle.pc_types.specs.Files.{page_of}
+use Rattle.pc_types.specs.declared.ids.Serial.{Serial}
+use Rattle.pc_types.specs.declared.kind.Kind.TheVariants.{Flush}
+use Rattle.machine.specs.declared.event.Reply.TheVariants as reply
+use Rattle.machine.specs.State.{State, File, Page, Request, Sync, file_at, page_at, page_bytes, block_at, spot_at}
+use Rattle.machine.specs.State.{no_file, in_range}
+use Rattle.machine.specs.Changes.{put_page, requested, under_write, started, to_write}
+use Rattle.maps.specs.Maps.{put_some}
+use Rattle.machine.proofs.steps.Choices.{none_of}
+use Rattle.machine.proofs.changes.ChangeLaws.{BeginsSync}
+use Rattle.maps.proofs.Maps.{get-insert_nat}
+use Rattle.machine.proofs.changes.StateLaws.{get_or-set}
+use Rattle.runs.specs.Plain.{Plain, plain_file}
+use Rattle.runs.specs.World.{World, block_bytes, noted}
+use Rattle.runs.specs.World as world
+use Rattle.runs.proofs.views.View.{Good, Evolves, no_gone, put1, put1_else, put2, put2_here, dirty, writeback, towrite}
+use Rattle.runs.proofs.views.View.{fresh}
+use Rattle.runs.proofs.views.View.{no_outcome}
+use Rattle.runs.proofs.events.Tables.{Tables, flight, flight_at, in_flight, flight_begun, begun_tables}
+use Rattle.runs.proofs.events.Coupled.{view, Coupled, After, with_core, block_is, file_changed}
+use Rattle.runs.proofs.bytes.PageLaws.{length-page}
+use Rattle.runs.proofs.events.Lookups.{cached_within, page_at-put_page, change_page-is, size-put, failures-put}
+use Rattle.runs.proofs.events.Lookups.{get-insert1}
+use Rattle.runs.proofs.views.FlushBegin.{flush_begin_kept, flush_begin_evolves}
+use Rattle.runs.proofs.views.Retag.{retag_kept, retag_evolves}
+
+-- ---- a write of a page is started
+
+module _ (w : World) (plain : Plain) (c : Coupled w plain) (f p : ℕ) (page : Page)
+    (cached : page_at w.core f p ≡ Some page) (is_dirty : page.tags.dirty ≡ true)
+    (idle : page.tags.writeback ≡ false) where
+  abbrev s : State
+  s = w.core
+
+  abbrev request : Request
+  request = record { kind = Flush; file = f; page = p; block = unwrap_or (block_at s f p) 0; dropped = false }
+
+  -- the state after it, with the page put
+  abbrev begun : State
+  begun = requested (put_page s f p (under_write page)) Flush f p
+
+  is_begun : started s f p ≡ begun
+  is_begun = ap (λ x. requested x Flush f p) (change_page-is s f p under_write page cached)
+
+  abbrev writing : finmap.FinMap nat_cmp (List ℕ)
+  writing = finmap.insert w.writing s.next page.bytes
+
+  here : f < length s.files
+  here = cached_within s f p (ap is_some cached)
+
+  abbrev file_after : File
+  file_after = record (file_at s f) { pages = finmap.insert (file_at s f).pages p (under_write page) }
+
+  next_free : finmap.get s.requests s.next ≡ None
+  next_free =
+      none_of (finmap.get s.requests s.next)
+      (sym (in_flight s.requests w.writing s.next) ∙ ap is_some (fresh (view w plain) c.good))
+
+  own_bytes : finmap.get writing s.next ≡ Some page.bytes
+  own_bytes = get-insert_nat w.writing s.next page.bytes s.next
+      ∙ ap (λ b. cond b (Some page.bytes) (finmap.get w.writing s.next)) (eq-eqb s.next s.next refl)
+
+  others : (u : ℕ) → u ≢ s.next → finmap.get writing u ≡ finmap.get w.writing u
+  others u n = get-insert1 w.writing s.next page.bytes u ∙ put1_else (finmap.get w.writing) s.next (Some page.bytes) u n
+
+  started_view : view (record w { core = begun; writing = writing }) plain ≡ record (view w plain) {
+    page = put2 (page_at s) f p (Some (under_write page));
+    request = put1 (flight_at s.requests w.writing) s.next (Some (flight page.bytes request));
+    next = s.next + 1;
+  }
+  started_view = λ i. record {
+    page_size = s.sizes.page;
+    blocks = length w.device;
+    next = s.next + 1;
+    page = λ g q. page_at-put_page s f p (under_write page) here g q i;
+    spot = λ g q. spot_at s g q;
+    request = λ t. flight_begun s.requests w.writing writing s.next request page.bytes
+        (ap (λ o. unwrap_or o []) own_bytes) others t i;
+    outcome = λ t. finmap.get w.outcomes t;
+    block = λ b. block_bytes w b;
+    size = λ g. size-put s f file_after here refl g i;
+    failures = λ g. failures-put s f file_after here refl g i;
+    content = λ g q. page_of s.sizes.page (plain_file plain g) q;
+  }
+
+  mapped : option_map (λ x. x.block) (spot_at s f p) ≡ Some (unwrap_or (block_at s f p) 0)
+  mapped = block_is s f p ((c.good.pages f p).dirty_block (ap dirty cached ∙ is_dirty))
+
+  size_of_page : length page.bytes ≡ s.sizes.page
+  size_of_page = ap length ((c.good.pages f p).bytes page cached) ∙ length-page s.sizes.page (plain_file plain f) p
+
+  begins : After w plain no_gone (record w { core = begun; writing = writing }) plain
+  begins = file_changed w plain c (record w { core = begun; writing = writing }) f file_after refl refl refl refl
+      (subst Good (sym started_view)
+      (flush_begin_kept (view w plain) c.good f p (unwrap_or (block_at s f p) 0) page cached is_dirty idle mapped
+      size_of_page))
+      (begun_tables s.requests w.outcomes w.writing c.tables s.next request writing (no_outcome (view w plain) c.good)
+      (ap is_some own_bytes) others)
+      (subst (Evolves no_gone (view w plain)) (sym started_view)
+      (flush_begin_evolves (view w plain) c.good f p (unwrap_or (block_at s f p) 0) page cached is_dirty idle mapped
+      size_of_page)) (size-put s f file_after here refl)
+
+  -- the bytes that are noted are the page's
+  bytes_after : page_bytes begun f p ≡ page.bytes
+  bytes_after = ap (λ (o : Option Page). unwrap_or (option_map (λ x. x.bytes) o) [])
+      (page_at-put_page s f p (under_write page) here f p ∙ put2_here (page_at s) f p (Some (under_write page)))
+
+  are_noted : (t : Serial) → t.0 ≡ s.next → noted w.writing (reply.Job t) begun ≡ writing
+  are_noted t is = ap (λ o. put_some t.0 (world.to_write begun o) w.writing)
+      (get-insert_nat s.requests s.next request t.0
+      ∙ ap (λ b. cond b (Some request) (finmap.get s.requests t.0)) (eq-eqb t.0 s.next is))
+      ∙ (λ i. finmap.insert w.writing (is i) (bytes_after i))
+
+  -- and so are they where a table of syncs is put in
+  pub starts_with : (syncs : finmap.FinMap nat_cmp Sync) (t : Serial) → t.0 ≡ s.next
+      → let new = record (started s f p) { syncs = syncs } in
+      After w plain no_gone (record w { core = new; writing = noted w.writing (reply.Job t) new }) plain
+  starts_with syncs t is =
+      subst (λ (x : State). After w plain no_gone
+      (record w { core = record x { syncs = syncs }; writing = noted w.writing (reply.Job t) x }) plain) (sym is_begun)
+      (subst (λ (x : finmap.FinMap nat_cmp (List ℕ)). After w plain no_gone
+      (record w { core = record begun { syncs = syncs }; writing = x }) plain) (sym (are_noted t is))
+      (let a =
+      begins in record {
+        good = a.good;
+        tables = a.tables;
+        blocks = a.blocks;
+        handles = a.handles;
+        count = a.count;
+        valid = a.valid;
+        sizes = a.sizes;
+        evolves = a.evolves;
+      }))
+
+-- ---- a sync begins
+
+module _ (w : World) (plain : Plain) (c : Coupled w plain) (f n : ℕ) (y : Sync) (new : State)
+    (begins : BeginsSync w.core f n y new) (here : f < length w.core.files) where
+  abbrev t : State
+  t = w.core
+
+  same_sizes : new.sizes ≡ t.sizes
+  same_sizes = ap (λ x. x.sizes) begins.rest
+
+  abbrev tagged_file : File
+  tagged_file = record (file_at t f) { pages = (file_at new f).pages }
+
+  file_now : (g : ℕ) → file_at new g ≡ cond (eqb g f) tagged_file (file_at t g)
+  file_now g = ap (λ fs. get_or fs g no_file) begins.file ∙ get_or-set t.files f g tagged_file no_file here
+
+  size_now : (g : ℕ) → (file_at new g).size ≡ (file_at t g).size
+  size_now g = ap (λ (x : File). x.size) (file_now g)
+      ∙ elim (eqb g f) as (λ b. eqb g f ≡ b → (cond b tagged_file (file_at t g)).size ≡ (file_at t g).size)
+      [ true ↦ λ e. ap (λ k. (file_at t k).size) (sym (eqb-true g f e)) | false ↦ λ e. refl ] refl
+
+  failures_now : (g : ℕ) → (file_at new g).failures ≡ (file_at t g).failures
+  failures_now g = ap (λ (x : File). x.failures) (file_now g)
+      ∙ elim (eqb g f) as (λ b. eqb g f ≡ b → (cond b tagged_file (file_at t g)).failures ≡ (file_at t g).failures)
+      [ true ↦ λ e. ap (λ k. (file_at t k).failures) (sym (eqb-true g f e)) | false ↦ λ e. refl ] refl
+
+  -- each page is as before, or gets TOWRITE where it is DIRTY
+  page_now : (g q : ℕ) → (page_at new g q ≡ page_at t g q)
+      ⊎ (page_at new g q ≡ option_map (to_write y q) (page_at t g q))
+  page_now g q =
+      elim (eqb g f) as (λ b. eqb g f ≡ b → (page_at new g q ≡ page_at t g q)
+      ⊎ (page_at new g q ≡ option_map (to_write y q) (page_at t g q))) [
+        | true ↦ λ e. inr ((λ i. page_at new (eqb-true g f e i) q) ∙ begins.pages q
+            ∙ (λ i. option_map (to_write y q) (page_at t (sym (eqb-true g f e) i) q)))
+        | false ↦ λ e. inl (ap (λ (x : File). finmap.get x.pages q)
+            (file_now g ∙ ap (λ b. cond b tagged_file (file_at t g)) e))
+      ] refl
+
+  to_write_some : (q : ℕ) (o : Option Page) → is_some (option_map (to_write y q) o) ≡ is_some o
+  to_write_some q None = refl
+  to_write_some q (Some x) = refl
+
+  to_write_dirty : (q : ℕ) (o : Option Page) → dirty (option_map (to_write y q) o) ≡ dirty o
+  to_write_dirty q None = refl
+  to_write_dirty q (Some x) = refl
+
+  to_write_writeback : (q : ℕ) (o : Option Page) → writeback (option_map (to_write y q) o) ≡ writeback o
+  to_write_writeback q None = refl
+  to_write_writeback q (Some x) = refl
+
+  to_write_bytes : (q : ℕ) (o : Option Page) (x : Page) → option_map (to_write y q) o ≡ Some x
+      → (v : Page) × (o ≡ Some v) × (x.bytes ≡ v.bytes)
+  to_write_bytes q None x e = absurd cc
+  to_write_bytes q (Some v) x e = (v, refl, (let a : to_write y q v ≡ x = cc in sym (ap (λ (z : Page). z.bytes) a)))
+
+  tagged : (a b c : Bool) → (a ≡ true → b ≡ true) → (a || b && c) ≡ true → b ≡ true
+  tagged true b c old e = old refl
+  tagged false true c old e = refl
+  tagged false false c old e = absurd cc
+
+  to_write_towrite : (q : ℕ) (o : Option Page) → (towrite o ≡ true → dirty o ≡ true)
+      → towrite (option_map (to_write y q) o) ≡ true → dirty o ≡ true
+  to_write_towrite q None old e = absurd cc
+  to_write_towrite q (Some x) old e = tagged x.tags.towrite x.tags.dirty (in_range y q) old e
+
+  retagged : Good (record (view w plain) { page = page_at new })
+  retagged = retag_kept (view w plain) c.good (page_at new)
+      (λ g q. elim (page_now g q) [ inl e ↦ ap is_some e | inr e ↦ ap is_some e ∙ to_write_some q (page_at t g q) ])
+      (λ g q x k. elim (page_now g q)
+      [ inl e ↦ (x, sym e ∙ k, refl) | inr e ↦ to_write_bytes q (page_at t g q) x (sym e ∙ k) ])
+      (λ g q. elim (page_now g q) [ inl e ↦ ap dirty e | inr e ↦ ap dirty e ∙ to_write_dirty q (page_at t g q) ])
+      (λ g q. elim (page_now g q) [
+        | inl e ↦ ap writeback e
+        | inr e ↦ ap writeback e
+            ∙ to_write_writeback q (page_at t g q)
+      ])
+      (λ g q k. elim (page_now g q) [
+        | inl e ↦ (c.good.pages g q).towrite (sym (ap towrite e) ∙ k)
+        | inr e ↦ to_write_towrite q (page_at t g q) (c.good.pages g q).towrite (sym (ap towrite e) ∙ k)
+      ])
+
+  to_write_more : (q : ℕ) (o : Option Page) → towrite o ≡ true → towrite (option_map (to_write y q) o) ≡ true
+  to_write_more q None e = e
+  to_write_more q (Some x) e = ap (λ b. b || x.tags.dirty && in_range y q) e
+
+  retag_evolves_here : Evolves no_gone (view w plain) (record (view w plain) { page = page_at new })
+  retag_evolves_here = retag_evolves (view w plain) c.good (page_at new)
+      (λ g q. elim (page_now g q) [ inl e ↦ ap is_some e | inr e ↦ ap is_some e ∙ to_write_some q (page_at t g q) ])
+      (λ g q x k. elim (page_now g q)
+      [ inl e ↦ (x, sym e ∙ k, refl) | inr e ↦ to_write_bytes q (page_at t g q) x (sym e ∙ k) ])
+      (λ g q. elim (page_now g q) [ inl e ↦ ap dirty e | inr e ↦ ap dirty e ∙ to_write_dirty q (page_at t g q) ])
+      (λ g q. elim (page_now g q) [
+        | inl e ↦ ap writeback e
+        | inr e ↦ ap writeback e
+            ∙ to_write_writeback q (page_at t g q)
+      ])
+      (λ g q k. elim (page_now g q) [
+        | inl e ↦ (c.good.pages g q).towrite (sym (ap towrite e) ∙ k)
+        | inr e ↦ to_write_towrite q (page_at t g q) (c.good.pages g q).towrite (sym (ap towrite e) ∙ k)
+      ])
+      (λ g q k. elim (page_now g q) [
+        | inl e ↦ ap towrite e ∙ k
+        | inr e ↦ ap towrite e
+            ∙ to_write_more q (page_at t g q) k
+      ])
+
+  begun_view : view (with_core w new) plain ≡ record (view w plain) { page = page_at new }
+  begun_view = λ i. record {
+    page_size = (same_sizes i).page;
+    blocks = length w.device;
+    next = (begins.rest i).next;
+    page = λ g q. page_at new g q;
+    spot = λ g q. spot_at (begins.rest i) g q;
+    request = λ u. flight_at (begins.rest i).requests w.writing u;
+    outcome = λ u. finmap.get w.outcomes u;
+    block = λ b. block_bytes w b;
+    size = λ g. size_now g i;
+    failures = λ g. failures_now g i;
+    content = λ g q. page_of (same_sizes i).page (plain_file plain g) q;
+  }
+
+  pub begun_sync : After w plain no_gone (with_core w new) plain
+  begun_sync = file_changed w plain c (with_core w new) f tagged_file refl begins.file same_sizes
+      (ap (λ x. x.handles) begins.rest) (subst Good (sym begun_view) retagged)
+      (subst (λ (x : State). Tables x.requests w.outcomes w.writing) (sym begins.rest) c.tables)
+      (subst (Evolves no_gone (view w plain)) (sym begun_view) retag_evolves_here) size_now

@@ -1,0 +1,19 @@
+-- A world and its plain files as look-ups alone, and what each kind of change keeps of them.
+pub mod View
+pub mod Place
+pub mod Places
+pub mod BeginRequest
+pub mod EndRequest
+pub mod EndQuietly
+pub mod FillBegin
+pub mod FillAtOnce
+pub mod FillEnd
+pub mod FlushBegin
+pub mod FlushFailed
+pub mod FlushWritten
+pub mod CallNoted
+pub mod BlockWritten
+pub mod Grow
+pub mod Retag
+pub mod Evict
+pub mod Fresh

@@ -1,0 +1,67 @@
+-- A fill begins.
+use Rattle.std.proofs.Common.{◌≡◌, ℕ, ◌+◌, true, false, [], refl, sym, ◌∙◌, arith}
+use Rattle.std.specs.Prelude.{Option, Some, None}
+use Rattle.pc_types.specs.declared.kind.Kind.TheVariants.{Fill, Flush}
+use Rattle.runs.proofs.views.View.{View, Flight, Good, RequestIs, HasFlush, Evolves, no_gone, quietly_evolves, put1}
+use Rattle.runs.proofs.views.View.{put1_tells, fresh, no_outcome, block_user, writeback}
+use Rattle.runs.proofs.views.BeginRequest.{begun_apart, begun_requests, stays_begun, begun_outcomes}
+use Rattle.runs.proofs.views.View.{good_after, still_flying}
+
+module _ (v : View) (ok : Good v) (f p b : ℕ) (absent : v.page f p ≡ None)
+    (mapped : v.spot f p ≡ Some (record { block = b; written = true }))
+    (alone : (t : ℕ) (r : Flight) → v.request t ≡ Some r → r.dropped ≡ false → r.kind ≡ Fill → r.file ≡ f → r.page ≡ p
+    → ⊥) where
+  abbrev pub new : Flight
+  new = record { kind = Fill; file = f; page = p; block = b; bytes = []; dropped = false }
+
+  abbrev pub after : View
+  after = record v { request = put1 v.request v.next (Some new); next = v.next + 1 }
+
+  new_request : RequestIs after v.next new
+  new_request = record {
+    serial = omega arith;
+    block = ok.spot_block f p _ mapped;
+    bytes = λ k. absurd cc;
+    fill = λ d k. record {
+      mapped = mapped;
+      absent = absent;
+      noted = λ bytes e. let none = no_outcome v ok in
+          absurd cc;
+    };
+    flush = λ d k. absurd cc;
+    dead = λ d. absurd cc;
+  }
+
+  old_request : (t : ℕ) (r : Flight) → v.request t ≡ Some r → RequestIs after t r
+  old_request t r e = let old = ok.requests t r e in record {
+    serial = let a = old.serial in omega arith;
+    block = old.block;
+    bytes = old.bytes;
+    fill = λ d k. let h = old.fill d k in record { mapped = h.mapped; absent = h.absent; noted = h.noted };
+    flush = λ d k. let h = old.flush d k in
+        record { mapped = h.mapped; writeback = h.writeback; clean = h.clean; noted = h.noted };
+    dead = old.dead;
+  }
+
+  clash : (u : ℕ) (s : Flight) → v.request u ≡ Some s → b ≡ s.block → ⊥
+  clash u s e same =
+      let who = block_user v ok u s f p _ e mapped same in
+      elim s.kind as (λ k. s.kind ≡ k → ⊥) [
+        | Fill ↦ λ k. alone u s e who.0 k (sym who.1) (sym who.2)
+        | Flush ↦ λ k. let w = ((ok.requests u s e).flush who.0 k).writeback in let a : writeback (v.page f p) ≡ true =
+            (λ i. writeback (v.page (who.1 i) (who.2 i))) ∙ w in absurd cc
+      ] refl
+
+  flushes : (g q : ℕ) → writeback (after.page g q) ≡ true → HasFlush after g q
+  flushes g q e = let h = ok.flushes g q e in still_flying v after g q h (stays_begun v ok new h.serial h.request h.is)
+
+  pub fill_begin_kept : Good after
+  fill_begin_kept = good_after v ok v.page (put1 v.request v.next (Some new)) v.outcome (v.next + 1) v.failures ok.pages
+      ok.page_in (begun_requests v ok new after new_request old_request) (begun_apart v ok new clash) flushes
+      (begun_outcomes v ok new)
+
+  pub fill_begin_evolves : Evolves no_gone v after
+  fill_begin_evolves =
+      quietly_evolves no_gone v after (λ g q _. refl) (λ u r e k d. grind (arith, put1_tells {A = Option Flight}))
+      (λ u r e k d _. let none = fresh v ok in grind (arith, put1_tells {A = Option Flight})) (λ g q _ e. e) (λ g. refl)
+      refl

@@ -1,0 +1,79 @@
+-- What becomes of a page that a sync looks after, in one step.
+use Rattle.std.proofs.Common.{◌≡◌, ℕ, ◌+◌, Bool, true, false, List, sym, subst, ◌∙◌, arith, inl, inr}
+use Rattle.std.specs.Prelude.{◌⊎◌, Some, None}
+use Rattle.pc_types.specs.declared.kind.Kind.TheVariants.{Flush}
+use Rattle.runs.proofs.views.View.{View, Flight, Good, Evolves, one_request, towrite, held}
+
+-- the device has bytes of a moment, and so has each write in flight
+pub record IsFresh (v : View) (Seen : List ℕ → Type 0) (f p : ℕ) : Type 0 where
+  pub on_device : Seen (held v f p)
+  pub flushes : (t : ℕ) (r : Flight) → v.request t ≡ Some r → r.kind ≡ Flush → r.dropped ≡ false → r.file ≡ f
+      → r.page ≡ p → Seen r.bytes
+
+-- a write of bytes of a moment is in flight
+pub record IsUnder (v : View) (Seen : List ℕ → Type 0) (f p t : ℕ) : Type 0 where
+  pub request : Flight
+  pub is : v.request t ≡ Some request
+  pub kind : request.kind ≡ Flush
+  pub live : request.dropped ≡ false
+  pub file : request.file ≡ f
+  pub page : request.page ≡ p
+  pub seen : Seen request.bytes
+
+module _ (v w : View) (ok : Good v) (gone : ℕ → ℕ → Bool) (ev : Evolves gone v w) (f p : ℕ) (left : gone f p ≡ false)
+    (Seen Later : List ℕ → Type 0) (more : (b : List ℕ) → Seen b → Later b) (now : Later (v.content f p)) where
+  from_now : (t : ℕ) (r : Flight) → w.request t ≡ Some r → r.kind ≡ Flush → r.dropped ≡ false → r.file ≡ f → r.page ≡ p
+      → (v.request t ≡ Some r → Later r.bytes) → Later r.bytes
+  from_now t r e k d g q old =
+      elim (ev.from t r e k d) [ inl h ↦ old h | inr h ↦ subst Later (sym (h ∙ (λ i. v.content (g i) (q i)))) now ]
+
+  pub fresh_next : IsFresh v Seen f p → IsFresh w Later f p
+  fresh_next h = record {
+    on_device = elim (ev.on_device f p left) [
+      | inl e ↦ subst Later (sym e) (more _ h.on_device)
+      | inr x ↦ subst Later (sym x.bytes) (more _ (h.flushes x.serial x.request x.is x.kind x.live x.file x.page))
+    ];
+    flushes = λ t r e k d g q. from_now t r e k d g q (λ o. more _ (h.flushes t r o k d g q));
+  }
+
+  pub under_next : (t : ℕ) → IsUnder v Seen f p t → w.failures f ≡ v.failures f → IsUnder w Later f p t
+      ⊎ IsFresh w Later f p
+  under_next t u same = elim (ev.flush t u.request u.is u.kind u.live ((λ i. gone (u.file i) (u.page i)) ∙ left)) [
+    | inl e ↦ inl (record {
+      request = u.request;
+      is = e;
+      kind = u.kind;
+      live = u.live;
+      file = u.file;
+      page = u.page;
+      seen = more _ u.seen;
+    })
+    | inr x ↦ elim x [
+      | inl failed ↦ absurd (let a : w.failures f ≡ v.failures f + 1 = (λ i. w.failures (sym u.file i)) ∙ failed
+          ∙ (λ i. v.failures (u.file i) + 1) in omega arith)
+      | inr done ↦ inr (record {
+        on_device = subst Later (sym ((λ i. held w (sym u.file i) (sym u.page i)) ∙ done.1)) (more _ u.seen);
+        flushes = λ s r e k d g q. from_now s r e k d g q (λ o.
+            let same_serial : s ≡ t = one_request v ok s t r u.request o u.is d u.live (g ∙ sym u.file)
+            (q ∙ sym u.page) in
+            absurd (let a : w.request s ≡ None = (λ i. w.request (same_serial i)) ∙ done.0 in cc));
+      })
+    ]
+  ]
+
+  pub waiting_next : towrite (v.page f p) ≡ true → (towrite (w.page f p) ≡ true) ⊎ ((t : ℕ) × IsUnder w Later f p t)
+  waiting_next e = elim (ev.to_write f p left e) [
+    | inl h ↦ inl h
+    | inr x ↦ inr (
+      x.serial,
+      record {
+        request = x.request;
+        is = x.is;
+        kind = x.kind;
+        live = x.live;
+        file = x.file;
+        page = x.page;
+        seen = subst Later (sym x.bytes) now;
+      },
+    )
+  ]

@@ -1,0 +1,11 @@
+use Rattle.std.proofs.Common.{refl}
+use Rattle.machine.specs.declared.event.Event.TheVariants as event
+use Rattle.world.proofs.EventReplies.{other_world}
+use Rattle.world.proofs.Spares.{with_spare}
+use Rattle.world.proofs.world.World.sync_begin_range.Goals as goal
+
+pub invariant_of-self : goal.invariant_of-self
+invariant_of-self g c = with_spare c.self.inside.spare c.self.invariant
+    (other_world c.self.inside.core.state c.self.inside.jobs _ c.self.invariant.0
+    (event.SyncBegin c.args.handle c.args.first c.args.last) _ c.sync_begin_range.new.self.state refl refl
+    c.sync_begin_range.ensures.step)

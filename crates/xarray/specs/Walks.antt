@@ -1,0 +1,42 @@
+-- A walk over entries in rising order, which keeps its place.
+use Rattle.std.specs.Prelude.{◌≡◌, ℕ, ◌+◌, ◌*◌, ◌/◌, ◌^◌, ◌≤◌, IfSome, ◌<◌, Bool, List, [], ◌∷◌, Option, Some, None, map as map_list}
+use Rattle.std.specs.FinMap as map
+use Rattle.slab.specs.Slab.{Slab}
+use Rattle.radix.specs.declared.node.Node.{Node}
+use Rattle.radix.specs.declared.entry.Position.{Position}
+use Rattle.radix.specs.Entries.{StandsAt}
+use Rattle.xarray.specs.declared.entry.Found.{Found}
+use Rattle.xarray.specs.declared.entry.Mark.{Mark}
+use Rattle.xarray.specs.MarkedArray.{IsArray, Range, Ranges, found_of, has_mark, is_any, entries_in, lowest}
+use Rattle.xarray.specs.Standing.{IsOutside, IsSpot}
+use Rattle.xarray.specs.View.{ranges_of}
+
+-- the entries that a walk is for: those with a mark, or all
+abbrev pub kind_of : Option Mark → Range → Bool
+kind_of None = is_any
+kind_of (Some mark) = has_mark mark
+
+-- the entries that are left from an index on, if there is one
+abbrev pub left : Option Mark → Ranges → Option ℕ → ℕ → List Found
+left mark m None to = []
+left mark m (Some from) to = map_list found_of (entries_in (kind_of mark) m from to)
+
+-- an index is the first one after a slot whose node is known
+pub record IsAfter (s : Slab Node) (slot : Position) (from : ℕ) : Type 0 where
+  pub low : slot.level ≤ 10
+  pub stands : StandsAt s slot.cursor slot.level (slot.place / 64)
+  pub after : from ≡ (slot.place + 1) * 64 ^ slot.level
+
+-- the next entry of a kind has one index, this one, and is in the node of the lowest level that has `from`
+pub record IsNear (m : Ranges) (kind : Range → Bool) (from to first value : ℕ) : Type 0 where
+  pub past : to < first → lowest kind m from to ≡ None
+  pub spot : first ≤ to → IsSpot m (lowest kind m from to) first 0 value
+  pub single : (r : Range) → map.get m first ≡ Some r → 0 ≡ r.order
+  pub beside : first / 64 ≡ from / 64
+  pub array : IsArray m
+
+-- a walk may go on from this index: no entry begins before it and ends past it, and it comes after the slot, if one is known
+pub record IsPlace (s : Slab Node) (next : Option ℕ) (to : ℕ) (slot : Option Position) : Type 0 where
+  pub outside : (from : ℕ) → next ≡ Some from → IsOutside (ranges_of s) from
+  pub le : (from : ℕ) → next ≡ Some from → from ≤ to
+  pub after : (from : ℕ) → next ≡ Some from → IfSome slot (λ p. IsAfter s p from)

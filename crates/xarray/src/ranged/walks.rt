@@ -1,0 +1,382 @@
+//! The searches for the next entry, and the steps of a walk over entries in rising order.
+ghost use Rattle.std.specs.Prelude.{◌≡◌, ℕ, ◌+◌, ◌*◌, ◌-◌, ◌/◌, ◌%◌, ◌^◌, ◌<◌, ◌≤◌, ◌==◌, [], ◌∷◌, Some, None, IfSome, MatchOption, true, option_map};
+ghost use Rattle.radix.specs.Entries as radix;
+ghost use Rattle.radix.specs.Entries.{HasNoNext, HasNoNextEntry, IsLeaf, IsNext, IsNextEntry, StandsAt};
+ghost use Rattle.xarray.specs.MarkedArray.{entry_at, found_of, given, has_mark, is_any, lowest};
+ghost use Rattle.xarray.specs.Standing.{IsLeafOf, IsOutside, IsSpot, IsStart};
+ghost use Rattle.xarray.specs.View.{ranges_of};
+ghost use Rattle.xarray.specs.Walks.{IsAfter, IsNear, IsPlace, kind_of, left};
+
+use super::{Ranged, Spot, last_of, leaf_value};
+use crate::entry::{Found, Mark};
+use radix::{Cursor, Near, Position, Walk, first_at, place_at};
+
+/// One step of a walk: the entry, where the walk goes on, if it does, and the entry's last slot.
+#[derive(Clone, Copy)]
+pub struct Step {
+    pub found: Found,
+    pub next: Option<u64>,
+    pub slot: Position,
+}
+
+impl Ranged {
+    // The lowest entry whose range meets the indexes from `from` to `to`. Most often it is in the node of `from`, and then one
+    // walk does, in the caller's own code.
+    #[inline(always)]
+    pub(super) fn next(&self, from: u64, to: u64) -> Option<Spot>
+        ensures spot { MatchOption result (lowest is_any (ranges_of self.now) from to ≡ None) (λ t. IsSpot (ranges_of self.now) (lowest is_any (ranges_of self.now) from to) t.first t.level t.value) }
+        ensures stands { IfSome result (λ t. StandsAt self.now t.cursor t.level (t.first / 64 ^ t.level / 64)) }
+    {
+        if from > to {
+            return None;
+        }
+        let Some(walk) = self.nodes.walk(from) else {
+            return self.next_far(None, from, to);
+        };
+        let Walk {
+            cursor,
+            level,
+            entry,
+        } = walk;
+        if let Some(spot) = self.spot_in(cursor, level, entry, from) {
+            return Some(spot);
+        }
+        if level > 0 {
+            return self.next_far(None, from, to);
+        }
+        self.next_in(cursor, from, to)
+    }
+
+    // The same where the node of `from` at the lowest level is known, and no entry begins before `from` and ends past
+    // it.
+    #[inline]
+    fn next_in(&self, cursor: Cursor, from: u64, to: u64) -> Option<Spot>
+        requires le { from ≤ to }
+        requires outside { IsOutside (ranges_of self.now) from }
+        requires stands { StandsAt self.now cursor 0 (from / 64 ^ 0 / 64) }
+        ensures spot { MatchOption result (lowest is_any (ranges_of self.now) from to ≡ None) (λ t. IsSpot (ranges_of self.now) (lowest is_any (ranges_of self.now) from to) t.first t.level t.value) }
+        ensures stands { IfSome result (λ t. StandsAt self.now t.cursor t.level (t.first / 64 ^ t.level / 64)) }
+    {
+        let Some(near) = self.nodes.next_entry_in(cursor, from) else {
+            return self.next_far(None, from, to);
+        };
+        if near.place > to {
+            return None;
+        }
+        Some(Spot {
+            cursor,
+            level: 0,
+            first: near.place,
+            value: near.value,
+        })
+    }
+
+    // The lowest first slot of an entry at an index or later: from the slot before the index upward, if that is known.
+    #[inline(always)]
+    fn first_slot(&self, slot: Option<Position>, from: u64) -> Option<Position>
+        requires after { IfSome slot (λ p. IsAfter self.now p from) }
+        ensures next { MatchOption result (HasNoNextEntry self.now from) (λ r. IsNextEntry self.now from r.level r.place) }
+        ensures stands { IfSome result (λ r. StandsAt self.now r.cursor r.level (r.place / 64)) }
+    {
+        match slot {
+            Some(slot) => self.nodes.next_entry_after(slot, from),
+            None => self.nodes.next_entry(from),
+        }
+    }
+
+    // The same of the entries with a mark.
+    #[inline(always)]
+    pub(super) fn first_marked(
+        &self,
+        slot: Option<Position>,
+        from: u64,
+        mark: usize,
+    ) -> Option<Position>
+        requires mark { mark < 3 }
+        requires after { IfSome slot (λ p. IsAfter self.now p from) }
+        ensures next { MatchOption result (HasNoNext self.now mark from) (λ r. IsNext self.now mark from r.level r.place) }
+        ensures stands { IfSome result (λ r. StandsAt self.now r.cursor r.level (r.place / 64)) }
+    {
+        match slot {
+            Some(slot) => self.nodes.next_set_after(slot, from, mark),
+            None => self.nodes.next_set(from, mark),
+        }
+    }
+
+    // The same by a search of the tree, from the slot before `from` upward if it is known.
+    #[inline(never)]
+    fn next_far(&self, slot: Option<Position>, from: u64, to: u64) -> Option<Spot>
+        requires le { from ≤ to }
+        requires outside { IsOutside (ranges_of self.now) from }
+        requires after { IfSome slot (λ p. IsAfter self.now p from) }
+        ensures spot { MatchOption result (lowest is_any (ranges_of self.now) from to ≡ None) (λ t. IsSpot (ranges_of self.now) (lowest is_any (ranges_of self.now) from to) t.first t.level t.value) }
+        ensures stands { IfSome result (λ t. StandsAt self.now t.cursor t.level (t.first / 64 ^ t.level / 64)) }
+    {
+        // As in `spot_in`.
+        let _nodes = &self.nodes;
+        let Some(next) = self.first_slot(slot, from) else {
+            return None;
+        };
+        let spot = self.spot_at(next);
+        if spot.first > to {
+            return None;
+        }
+        Some(spot)
+    }
+
+    /// Where a search that is to see the entry at an index begins: the nodes tell of an entry at its first slot.
+    #[inline(never)]
+    pub fn start(&self, index: u64) -> u64
+        ensures { IsStart (ranges_of self.now) index result }
+    {
+        let Some(walk) = self.nodes.walk(index) else {
+            return index;
+        };
+        let Walk {
+            cursor,
+            level,
+            entry,
+        } = walk;
+        match self.spot_in(cursor, level, entry, index) {
+            Some(spot) => spot.first,
+            None => index,
+        }
+    }
+
+    // The lowest entry with the mark whose range meets the indexes from `from` to `to`.
+    fn next_marked(&self, from: u64, to: u64, mark: Mark) -> Option<Spot>
+        ensures spot { MatchOption result (lowest (has_mark mark) (ranges_of self.now) from to ≡ None) (λ t. IsSpot (ranges_of self.now) (lowest (has_mark mark) (ranges_of self.now) from to) t.first t.level t.value) }
+        ensures stands { IfSome result (λ t. StandsAt self.now t.cursor t.level (t.first / 64 ^ t.level / 64)) }
+    {
+        if from > to {
+            return None;
+        }
+        let Some(next) = self.nodes.next_held(from, mark.number()) else {
+            return None;
+        };
+        let spot = self.spot_at(next);
+        if spot.first > to {
+            return None;
+        }
+        Some(spot)
+    }
+
+    // The lowest entry with the mark from an index on that no entry begins before and ends past, from the slot before the index
+    // upward if it is known.
+    #[inline]
+    fn next_marked_far(
+        &self,
+        slot: Option<Position>,
+        from: u64,
+        to: u64,
+        mark: Mark,
+    ) -> Option<Spot>
+        requires le { from ≤ to }
+        requires outside { IsOutside (ranges_of self.now) from }
+        requires after { IfSome slot (λ p. IsAfter self.now p from) }
+        ensures spot { MatchOption result (lowest (has_mark mark) (ranges_of self.now) from to ≡ None) (λ t. IsSpot (ranges_of self.now) (lowest (has_mark mark) (ranges_of self.now) from to) t.first t.level t.value) }
+        ensures stands { IfSome result (λ t. StandsAt self.now t.cursor t.level (t.first / 64 ^ t.level / 64)) }
+    {
+        // As in `spot_in`.
+        let _nodes = &self.nodes;
+        let Some(next) = self.first_marked(slot, from, mark.number()) else {
+            return None;
+        };
+        let spot = self.spot_at(next);
+        if spot.first > to {
+            return None;
+        }
+        Some(spot)
+    }
+
+    // The lowest entry with the mark, or of all where none is given, from an index on that no entry begins before and ends past.
+    #[inline(always)]
+    fn next_from(
+        &self,
+        slot: Option<Position>,
+        from: u64,
+        to: u64,
+        mark: Option<Mark>,
+    ) -> Option<Spot>
+        requires le { from ≤ to }
+        requires outside { IsOutside (ranges_of self.now) from }
+        requires after { IfSome slot (λ p. IsAfter self.now p from) }
+        ensures spot { MatchOption result (lowest (kind_of mark) (ranges_of self.now) from to ≡ None) (λ t. IsSpot (ranges_of self.now) (lowest (kind_of mark) (ranges_of self.now) from to) t.first t.level t.value) }
+        ensures stands { IfSome result (λ t. StandsAt self.now t.cursor t.level (t.first / 64 ^ t.level / 64)) }
+    {
+        match mark {
+            None => self.next_far(slot, from, to),
+            Some(mark) => self.next_marked_far(slot, from, to, mark),
+        }
+    }
+
+    // The next entry in a node of the lowest level that has `from`, most often with the news that it has one index.
+    #[inline(always)]
+    fn near(&self, cursor: Cursor, from: u64, mark: Option<Mark>) -> Option<Near>
+        requires outside { IsOutside (ranges_of self.now) from }
+        requires stands { StandsAt self.now cursor 0 (from / 64 ^ 0 / 64) }
+        ensures { IfSome result (λ r. r.is_alone ≡ true → (to : ℕ) → from ≤ to → IsNear (ranges_of self.now) (kind_of mark) from to r.place r.value) }
+    {
+        // As in `spot_in`.
+        let _nodes = &self.nodes;
+        match mark {
+            None => self.nodes.next_entry_in(cursor, from),
+            Some(mark) => self.nodes.next_set_in(cursor, from, mark.number()),
+        }
+    }
+
+    /// The first entry that is left of a walk, and where the walk goes on. Most often it has one index and is in the node of
+    /// the entry before, and then the step is short, in the caller's own code.
+    #[inline(always)]
+    pub fn step(
+        &self,
+        slot: Option<Position>,
+        from: u64,
+        to: u64,
+        mark: Option<Mark>,
+    ) -> Option<Step>
+        requires le { from ≤ to }
+        requires outside { IsOutside (ranges_of self.now) from }
+        requires after { IfSome slot (λ p. IsAfter self.now p from) }
+        ensures first { MatchOption result (left mark (ranges_of self.now) (Some from) to ≡ []) (λ r. left mark (ranges_of self.now) (Some from) to ≡ r.found ∷ left mark (ranges_of self.now) r.next to) }
+        ensures place { IfSome result (λ r. IsPlace self.now r.next to (Some r.slot)) }
+    {
+        let Some(last) = slot else {
+            return self.step_far(None, from, to, mark);
+        };
+        if last.level > 0 || last.place % 64 == 63 {
+            return self.step_far(Some(last), from, to, mark);
+        }
+        let Some(near) = self.near(last.cursor, from, mark) else {
+            return self.step_far(Some(last), from, to, mark);
+        };
+        if !near.is_alone {
+            return self.step_far(Some(last), from, to, mark);
+        }
+        if near.place > to {
+            return None;
+        }
+        Some(step_at(last.cursor, near, to))
+    }
+
+    // The same by each look that it may take.
+    #[inline(never)]
+    fn step_far(
+        &self,
+        slot: Option<Position>,
+        from: u64,
+        to: u64,
+        mark: Option<Mark>,
+    ) -> Option<Step>
+        requires le { from ≤ to }
+        requires outside { IsOutside (ranges_of self.now) from }
+        requires after { IfSome slot (λ p. IsAfter self.now p from) }
+        ensures first { MatchOption result (left mark (ranges_of self.now) (Some from) to ≡ []) (λ r. left mark (ranges_of self.now) (Some from) to ≡ r.found ∷ left mark (ranges_of self.now) r.next to) }
+        ensures place { IfSome result (λ r. IsPlace self.now r.next to (Some r.slot)) }
+    {
+        // As in `spot_in`.
+        let _nodes = &self.nodes;
+        let Some(spot) = self.next_from(slot, from, to, mark) else {
+            return None;
+        };
+        let Spot {
+            cursor,
+            level,
+            first,
+            value,
+        } = spot;
+        let order = self.order_beside(cursor, level, first);
+        let last = last_of(first, order);
+        Some(Step {
+            found: Found {
+                first,
+                order,
+                value,
+            },
+            next: index_after(last, to),
+            slot: Position {
+                cursor,
+                level,
+                place: place_at(last, level),
+            },
+        })
+    }
+
+    /// The lowest entry whose range meets the indexes from `from` to `to`.
+    #[inline(always)]
+    pub fn find(&self, from: u64, to: u64) -> Option<Found>
+        ensures { result ≡ option_map found_of (lowest is_any (ranges_of self.now) from to) }
+    {
+        match self.next(from, to) {
+            Some(spot) => Some(self.found(spot)),
+            None => None,
+        }
+    }
+
+    /// The lowest entry with the mark whose range meets the indexes from `from` to `to`.
+    #[inline(always)]
+    pub fn find_marked(&self, from: u64, to: u64, mark: Mark) -> Option<Found>
+        ensures { result ≡ option_map found_of (lowest (has_mark mark) (ranges_of self.now) from to) }
+    {
+        match self.next_marked(from, to, mark) {
+            Some(spot) => Some(self.found(spot)),
+            None => None,
+        }
+    }
+
+    // The entry whose first slot a search found.
+    #[inline]
+    fn spot_at(&self, next: Position) -> Spot
+        requires leaf { IsLeaf (radix.entry_at self.now next.level next.place) }
+        requires low { next.level ≤ 10 }
+        requires fits { next.place * 64 ^ next.level < 2 ^ 64 }
+        requires stands { StandsAt self.now next.cursor next.level (next.place / 64) }
+        ensures entry { IsLeafOf (ranges_of self.now) next.level next.place result.value }
+        ensures place { (result.first ≡ next.place * 64 ^ next.level) × (result.level ≡ next.level) }
+        ensures stands { StandsAt self.now result.cursor result.level (result.first / 64 ^ result.level / 64) }
+    {
+        let Position {
+            cursor,
+            level,
+            place,
+        } = next;
+        let first = first_at(level, place);
+        let value = leaf_value(self.nodes.entry_in(cursor, first, level));
+        Spot {
+            cursor,
+            level,
+            first,
+            value,
+        }
+    }
+}
+
+// The index after one, if it is not past the last.
+#[inline(always)]
+fn index_after(index: u64, last: u64) -> Option<u64>
+    ensures { MatchOption result (last ≤ index) (λ next. (next ≡ index + 1) × (index < last)) }
+{
+    if index < last { Some(index + 1) } else { None }
+}
+
+// The step to an entry of one index.
+#[inline(always)]
+fn step_at(cursor: Cursor, near: Near, to: u64) -> Step
+    ensures found { result.found ≡ record { first = near.place; order = 0; value = near.value } }
+    ensures next { MatchOption result.next (to ≤ near.place) (λ next. (next ≡ near.place + 1) × (near.place < to)) }
+    ensures slot { result.slot ≡ record { cursor = cursor; level = 0; place = near.place } }
+{
+    Step {
+        found: Found {
+            first: near.place,
+            order: 0,
+            value: near.value,
+        },
+        next: index_after(near.place, to),
+        slot: Position {
+            cursor,
+            level: 0,
+            place: near.place,
+        },
+    }
+}
