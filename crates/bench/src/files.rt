@@ -168,7 +168,8 @@ impl Cached {
 
     fn sync_some(&mut self) -> Result<(), Refusal> {
         let last = RANGE_FIRST + SYNCED_OF_RANGE - 1;
-        self.file.fsync_range(PageIndex(RANGE_FIRST), PageIndex(last))
+        self.file
+            .fsync_range(PageIndex(RANGE_FIRST), PageIndex(last))
     }
 }
 
