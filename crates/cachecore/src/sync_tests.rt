@@ -1,27 +1,17 @@
-//! A worked sync, in a cache of 16-byte pages, 48 frames, a dirty limit of 16 and 64 blocks. The ends of requests are run by the
+//! Worked syncs, in a cache of 16-byte pages, 48 frames, a dirty limit of 16 and 64 blocks. The ends of requests are run by the
 //! tests of the world, which makes device calls.
 
 use crate::{CacheCore, PageTags, Refused, SyncStepped};
 use blockdev::Buffer;
-use pc_types::{FileId, Geometry, HandleId, PageIndex, Refusal, Serial, SyncId, Tag, Tags};
+use pc_types::{FileId, HandleId, PageIndex, Refusal, Serial, SyncId, Tag, Tags};
 use std::alloc::Global;
 use std::process::Abort;
-use std::test::Fail;
 
 const FILE: FileId = FileId(0);
 
 const HANDLE: HandleId = HandleId(0);
 
 const SYNC: SyncId = SyncId(0);
-
-/// A cache with one file, which is open and has two dirty pages.
-fn written(alloc: Global) -> Result<CacheCore, Refusal> {
-    let mut core = CacheCore::new(alloc, &Geometry::new(16, 48, 16, 64)?, 7)?;
-    core.create()?;
-    core.open(FILE)?;
-    core.write(HANDLE, 0, &[0xab; 20])?;
-    Ok(core)
-}
 
 /// Makes a step of the sync with a new buffer.
 fn step(alloc: Global, core: &mut CacheCore) -> Result<Result<SyncStepped, Refused>, Refusal> {
@@ -44,7 +34,8 @@ fn starts(
     Ok(())
 }
 
-fn syncs(rt: &impl Abort, alloc: Global, core: &mut CacheCore) -> Result<(), Refusal> {
+pub fn syncs(rt: &impl Abort, alloc: Global, core: &mut CacheCore) -> Result<(), Refusal> {
+    core.write(HANDLE, 0, &[0xab; 20])?;
     assert_eq!(rt; core.sync_begin(HandleId(1)), Err(Refusal::BadHandle));
     let nothing = core.sync_begin_range(HANDLE, PageIndex(1), PageIndex(0));
     assert_eq!(rt; nothing, Err(Refusal::BadRange));
@@ -62,14 +53,8 @@ fn syncs(rt: &impl Abort, alloc: Global, core: &mut CacheCore) -> Result<(), Ref
     Ok(())
 }
 
-#[test]
-fn a_sync_writes_the_dirty_pages_and_waits_for_the_first(rt: HostRuntime) -> Result<(), Fail> {
-    let mut core = written(rt.alloc())?;
-    syncs(&rt, rt.alloc(), &mut core)?;
-    Ok(())
-}
-
-fn syncs_one_page(rt: &impl Abort, alloc: Global, core: &mut CacheCore) -> Result<(), Refusal> {
+pub fn syncs_one_page(rt: &impl Abort, alloc: Global, core: &mut CacheCore) -> Result<(), Refusal> {
+    core.write(HANDLE, 0, &[0xab; 20])?;
     let begun = core.sync_begin_range(HANDLE, PageIndex(1), PageIndex(1));
     assert_eq!(rt; begun, Ok(SYNC));
     let dirty = Tags::none().with(Tag::Dirty);
@@ -81,14 +66,7 @@ fn syncs_one_page(rt: &impl Abort, alloc: Global, core: &mut CacheCore) -> Resul
     Ok(())
 }
 
-#[test]
-fn a_sync_of_one_page_leaves_the_other(rt: HostRuntime) -> Result<(), Fail> {
-    let mut core = written(rt.alloc())?;
-    syncs_one_page(&rt, rt.alloc(), &mut core)?;
-    Ok(())
-}
-
-fn finishes(rt: &impl Abort, alloc: Global, core: &mut CacheCore) -> Result<(), Refusal> {
+pub fn finishes(rt: &impl Abort, alloc: Global, core: &mut CacheCore) -> Result<(), Refusal> {
     assert_eq!(rt; core.sync_begin(HANDLE), Ok(SYNC));
     let clean = step(alloc, core)?;
     assert!(rt; matches!(clean, Ok(SyncStepped::Clean(_))));
@@ -102,14 +80,5 @@ fn finishes(rt: &impl Abort, alloc: Global, core: &mut CacheCore) -> Result<(), 
             })
         )
     );
-    Ok(())
-}
-
-#[test]
-fn a_sync_of_no_dirty_page_is_clean_at_once(rt: HostRuntime) -> Result<(), Fail> {
-    let mut core = CacheCore::new(rt.alloc(), &Geometry::new(16, 48, 16, 64)?, 7)?;
-    core.create()?;
-    core.open(FILE)?;
-    finishes(&rt, rt.alloc(), &mut core)?;
     Ok(())
 }

@@ -1,7 +1,8 @@
 //! Worked sequences of calls with their answers, in a cache of 16-byte pages, 48 frames, a dirty limit of 16 and 64 blocks.
-//! Every row is run by `over_a_cache`, since the check is slow where a cache is dropped.
+//! Every row is run by `over_a_cache`, the one place that drops a cache: the check is slow there.
 
 use crate::page_life_tests::{evicts, flushes, truncates, truncates_under_a_write};
+use crate::sync_tests::{finishes, syncs, syncs_one_page};
 use crate::{CacheCore, FillBegun, PageTags, ReadAnswer, Refused, WriteAnswer};
 use blockdev::Buffer;
 use pc_types::{FileId, Geometry, HandleId, PageIndex, Refusal, Tag, Tags};
@@ -12,14 +13,6 @@ use std::test::Fail;
 const FILE: FileId = FileId(0);
 
 const HANDLE: HandleId = HandleId(0);
-
-/// A cache with one file, which is open.
-fn opened(alloc: Global) -> Result<CacheCore, Refusal> {
-    let mut core = CacheCore::new(alloc, &Geometry::new(16, 48, 16, 64)?, 7)?;
-    core.create()?;
-    core.open(FILE)?;
-    Ok(core)
-}
 
 /// Begins to fill a page with a new buffer.
 fn fill(
@@ -138,10 +131,15 @@ enum Row {
     Evicts,
     Truncates,
     TruncatesUnderAWrite,
+    Syncs,
+    SyncsOnePage,
+    Finishes,
 }
 
-/// Runs a row over a cache with one file, which is open.
+/// Makes a file, opens it and runs a row.
 fn run(rt: &impl Abort, alloc: Global, core: &mut CacheCore, row: Row) -> Result<(), Refusal> {
+    core.create()?;
+    core.open(FILE)?;
     match row {
         Row::Appends => appends(rt, core),
         Row::LeavesAGap => leaves_a_gap(rt, alloc, core)?,
@@ -153,13 +151,16 @@ fn run(rt: &impl Abort, alloc: Global, core: &mut CacheCore, row: Row) -> Result
         Row::Evicts => evicts(rt, alloc, core)?,
         Row::Truncates => truncates(rt, core)?,
         Row::TruncatesUnderAWrite => truncates_under_a_write(rt, alloc, core)?,
+        Row::Syncs => syncs(rt, alloc, core)?,
+        Row::SyncsOnePage => syncs_one_page(rt, alloc, core)?,
+        Row::Finishes => finishes(rt, alloc, core)?,
     }
     Ok(())
 }
 
 /// Runs a row over a new cache.
 fn over_a_cache(rt: &impl Abort, alloc: Global, row: Row) -> Result<(), Refusal> {
-    let mut core = opened(alloc)?;
+    let mut core = CacheCore::new(alloc, &Geometry::new(16, 48, 16, 64)?, 7)?;
     run(rt, alloc, &mut core, row)
 }
 
@@ -224,5 +225,23 @@ fn a_truncation_cuts_pages_off_and_zeroes_the_tail_of_the_last(
 #[test]
 fn a_page_under_a_write_may_be_cut(rt: HostRuntime) -> Result<(), Fail> {
     over_a_cache(&rt, rt.alloc(), Row::TruncatesUnderAWrite)?;
+    Ok(())
+}
+
+#[test]
+fn a_sync_writes_the_dirty_pages_and_waits_for_the_first(rt: HostRuntime) -> Result<(), Fail> {
+    over_a_cache(&rt, rt.alloc(), Row::Syncs)?;
+    Ok(())
+}
+
+#[test]
+fn a_sync_of_one_page_leaves_the_other(rt: HostRuntime) -> Result<(), Fail> {
+    over_a_cache(&rt, rt.alloc(), Row::SyncsOnePage)?;
+    Ok(())
+}
+
+#[test]
+fn a_sync_of_no_dirty_page_is_clean_at_once(rt: HostRuntime) -> Result<(), Fail> {
+    over_a_cache(&rt, rt.alloc(), Row::Finishes)?;
     Ok(())
 }
