@@ -1,3 +1,4 @@
 pub mod Counting
 pub mod Kept
 pub mod Replied
+pub mod Seats

@@ -3,3 +3,5 @@ pub mod Flights
 pub mod Keeps
 pub mod Denials
 pub mod Done
+pub mod Called
+pub mod Firsts

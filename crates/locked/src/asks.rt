@@ -1,6 +1,6 @@
 //! What is asked of the state without an event.
 
-ghost use Rattle.std.specs.Prelude.{◌≡◌, Some};
+ghost use Rattle.std.specs.Prelude.{◌≡◌, Some, length, nat_lt};
 ghost use Rattle.cachecore.specs.Replies.{sized};
 ghost use Rattle.cachecore.specs.Wants.{lacks_frames, passes_limit};
 ghost use Rattle.machine.specs.Tests.{tests};
@@ -9,7 +9,7 @@ ghost use Rattle.locked.specs.Flights.{is_busy};
 
 use crate::state::Locked;
 use crate::naming::Naming;
-use pc_types::{HandleId, Refusal};
+use pc_types::{FileId, HandleId, PageIndex, Refusal};
 use trail::Trail;
 
 impl<B: Naming, T: Trail> Locked<B, T> {
@@ -34,6 +34,13 @@ impl<B: Naming, T: Trail> Locked<B, T> {
         ensures { result ≡ passes_limit self.now.core.state handle.0 offset count }
     {
         self.held.core().passes_limit(handle, offset, count)
+    }
+
+    /// Whether there is such a file.
+    pub fn has_file(&self, file: FileId) -> bool
+        ensures { result ≡ nat_lt file.0 (length self.now.core.state.files) }
+    {
+        self.held.core().tags(file, PageIndex(0)).is_ok()
     }
 
     /// The size of the handle's file, in bytes: what the event would answer.
