@@ -37,12 +37,15 @@ records_board s e r old new h = ap (λ (x : RecorderSeen). x.board) h
 pub kept : (name : ℕ) (table board : TableId) (sizes : Sizes) (n : ℕ) (old new : HeldSeen) (e : Event) (r : Reply)
     (before after : SeatSeen) (slip : Slip) → Holds name table board sizes n old → Made e r old new before after slip
     → Holds name table board sizes (flights_after e r n) new
-kept name table board sizes n old new e r before after slip i m = (record {
-  named = m.entered.same.1 ∙ i.0.named;
-  seats = m.entered.same.0 ∙ i.0.seats;
-  errors = records_board old.core.state e r old.errors new.errors m.recorded ∙ i.0.errors;
-  sized = (steady old.core.state e r new.core.state m.step).sizes ∙ i.0.sized;
-}, counted_on n name old.core.state e r new.core.state i.1 m.step)
+kept name table board sizes n old new e r before after slip i m = (
+  record {
+    named = m.entered.same.1 ∙ i.0.named;
+    seats = m.entered.same.0 ∙ i.0.seats;
+    errors = records_board old.core.state e r old.errors new.errors m.recorded ∙ i.0.errors;
+    sized = (steady old.core.state e r new.core.state m.step).sizes ∙ i.0.sized;
+  },
+  counted_on n name old.core.state e r new.core.state i.1 m.step,
+)
 
 -- ---- calls that begin and end no request
 

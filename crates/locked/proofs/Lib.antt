@@ -2,3 +2,4 @@ pub mod Counting
 pub mod Kept
 pub mod Replied
 pub mod Seats
+pub mod Passing

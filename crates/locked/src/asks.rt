@@ -7,8 +7,8 @@ ghost use Rattle.machine.specs.Tests.{tests};
 ghost use Rattle.machine.specs.declared.event.Event.TheVariants as event;
 ghost use Rattle.locked.specs.Flights.{is_busy};
 
-use crate::state::Locked;
 use crate::naming::Naming;
+use crate::state::Locked;
 use pc_types::{FileId, HandleId, PageIndex, Refusal};
 use trail::Trail;
 

@@ -9,8 +9,8 @@ ghost use Rattle.machine.specs.declared.event.Reply.TheVariants as reply;
 ghost use Rattle.locked.specs.Denials.{IsDenied};
 
 use crate::denied::{Denied, by};
-use crate::state::Locked;
 use crate::naming::Naming;
+use crate::state::Locked;
 use cachecore::TruncateAnswer;
 use errboard::Pass;
 use held::call::{Answer, Call};
@@ -33,11 +33,7 @@ impl<B: Naming, T: Trail> Locked<B, T> {
     }
 
     /// Opens a file, with a pass of its failed writes.
-    pub fn open(
-        &mut self,
-        seat: &mut Seat,
-        file: FileId,
-    ) -> Result<(HandleId, Pass, Slip), Denied>
+    pub fn open(&mut self, seat: &mut Seat, file: FileId) -> Result<(HandleId, Pass, Slip), Denied>
         requires { seat.old.table ≡ B.table }
         ensures made { IfOk result (λ r. Made (event.Open file) (opened (Ok r.0)) self.old self.new seat.old seat.new r.2) }
         ensures pass { IfOk result (λ r. (r.1.board ≡ B.board) × (r.1.file ≡ file.0)) }
@@ -101,10 +97,7 @@ impl<B: Naming, T: Trail> Locked<B, T> {
     }
 
     /// Lets the first idle page of the scan order go, where there is one.
-    pub fn evict(
-        &mut self,
-        seat: &mut Seat,
-    ) -> Result<(Option<(FileId, PageIndex)>, Slip), Denied>
+    pub fn evict(&mut self, seat: &mut Seat) -> Result<(Option<(FileId, PageIndex)>, Slip), Denied>
         requires { seat.old.table ≡ B.table }
         ensures made { IfOk result (λ r. Made event.Evict (evicted r.0) self.old self.new seat.old seat.new r.1) }
         ensures denied { IfErr result (IsDenied event.Evict self.old self.new seat.old seat.new) }

@@ -8,6 +8,7 @@
 mod asks;
 pub mod denied;
 mod files;
+mod first;
 pub mod naming;
 mod requests;
 pub mod state;

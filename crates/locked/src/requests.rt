@@ -17,8 +17,8 @@ ghost use Rattle.locked.specs.Denials.{IsDenied};
 ghost use Rattle.locked.specs.Flights.{flights_after};
 
 use crate::denied::{Denied, by, without_slip};
-use crate::state::Locked;
 use crate::naming::Naming;
+use crate::state::Locked;
 use blockdev::{Buffer, Finished};
 use cachecore::{Ended, FillBegun, FlushBegun, SyncStepped};
 use errboard::Receipt;
@@ -56,11 +56,7 @@ impl<B: Naming, T: Trail> Locked<B, T> {
     }
 
     /// Ends a fill. An end whose request is in flight is always made.
-    pub fn fill_end(
-        &mut self,
-        seat: &mut Seat,
-        finished: Finished,
-    ) -> Result<(Ended, Slip), Denied>
+    pub fn fill_end(&mut self, seat: &mut Seat, finished: Finished) -> Result<(Ended, Slip), Denied>
         requires seat { seat.old.table ≡ B.table }
         requires size { length finished.bytes ≡ B.sizes.page }
         ensures made { IfOk result (λ r. Made (event.End Fill (end_of finished)) (fill_ended (Ok r.0)) self.old self.new seat.old seat.new r.1) }
