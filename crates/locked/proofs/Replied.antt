@@ -4,14 +4,13 @@ use Rattle.std.specs.Prelude.{◌&&◌, Option, Some, None, Result, Ok, find, is
 use Rattle.std.specs.Ordering.{nat_cmp}
 use Rattle.std.specs.FinMap as map
 use Rattle.std.proofs.lemmas.List.{get_or_past}
-use Rattle.blockdev.specs.Jobs.{IsJobFor, Task}
-use Rattle.cachecore.specs.Replies.{OnFillJob, OnFlushJob, OnSyncJob, sized}
+use Rattle.blockdev.specs.Jobs.{IsJobFor}
+use Rattle.cachecore.specs.Replies.{OnFillJob, OnFlushJob, OnSyncJob}
 use Rattle.cachecore.specs.declared.answers.FillBegun.{FillBegun}
 use Rattle.cachecore.specs.declared.answers.FlushBegun.{FlushBegun}
 use Rattle.cachecore.specs.declared.answers.Refused.{Refused}
 use Rattle.cachecore.specs.declared.answers.SyncStepped.{SyncStepped}
 use Rattle.machine.specs.declared.event.End.{End}
-use Rattle.machine.specs.declared.event.Event.{Event}
 use Rattle.machine.specs.declared.event.Event.TheVariants as event
 use Rattle.machine.specs.declared.event.Reply.{Reply}
 use Rattle.machine.specs.declared.event.Reply.TheVariants as reply
@@ -19,7 +18,6 @@ use Rattle.machine.specs.Changes.{flush_pick}
 use Rattle.machine.specs.State.{State, Page, file_at, no_file}
 use Rattle.machine.specs.Step.{AnswersOr, Step}
 use Rattle.machine.specs.Tests.{is_full, refuse, tests}
-use Rattle.machine.proofs.steps.Answered.{is_quiet}
 use Rattle.machine.proofs.steps.Cases.{answered, happened}
 use Rattle.machine.proofs.steps.Choices.{below, if_none}
 use Rattle.machine.proofs.steps.Ends.{end_loud}
