@@ -24,7 +24,7 @@ use trail::Trail;
 
 impl<B: Naming, D: BlockDevice, T: Trail> SharedCache<B, D, T> {
     /// Makes a new file.
-    #[tactic(auto, using(locked::proofs::Seats::goes_same, crate::proofs::Making::goes_after))]
+    #[tactic(auto, using(locked::proofs::Seats::goes_by, locked::proofs::Seats::goes_on, locked::proofs::Seats::goes_same, crate::proofs::Making::goes_denied, crate::proofs::Making::makes_by, crate::proofs::Making::denied_event))]
     pub fn create<R: Wait>(&self, rt: &R, seat: &mut Seat) -> Result<(FileId, Slip), Denied>
         requires seat { seat.old.name ≡ self.now.name → seat.old.table ≡ B.table }
         ensures foreign { seat.old.name ≢ self.now.name → (result ≡ Err (record { refusal = Stranger; slip = None })) × (seat.new ≡ seat.old) }
@@ -39,6 +39,7 @@ impl<B: Naming, D: BlockDevice, T: Trail> SharedCache<B, D, T> {
     }
 
     /// Opens a file.
+    #[tactic(auto, using(locked::proofs::Seats::goes_by, locked::proofs::Seats::goes_on, locked::proofs::Seats::goes_same, crate::proofs::Making::goes_denied, crate::proofs::Making::makes_by, crate::proofs::Making::denied_event))]
     pub fn open<R: Wait>(
         &self,
         rt: &R,
@@ -69,6 +70,7 @@ impl<B: Naming, D: BlockDevice, T: Trail> SharedCache<B, D, T> {
     }
 
     /// The size of the handle's file, in bytes.
+    #[tactic(auto, using(locked::proofs::Seats::goes_by, locked::proofs::Seats::goes_on, locked::proofs::Seats::goes_same, crate::proofs::Making::goes_denied, crate::proofs::Making::makes_by, crate::proofs::Making::denied_event))]
     pub fn size<R: Wait>(
         &self,
         rt: &R,
