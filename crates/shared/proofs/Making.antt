@@ -1,6 +1,7 @@
 -- What the events of a call say of its seat, from its begin to its end.
 use Rattle.std.proofs.Common.{◌≡◌, ℕ, List, [], ◌∷◌, ◌++◌, length, refl, sym, subst, ◌∙◌, inl, inr}
-use Rattle.std.specs.Prelude.{◌⊎◌, Ok, Option, Some, None}
+use Rattle.std.specs.Prelude.{◌⊎◌, IfErr, Ok, Option, Result, Some, None}
+use Rattle.std.proofs.lemmas.Result.{IfErr-weaker}
 use mathlib.Core.List.{IsPrefix}
 use Rattle.errseq.proofs.Prefixes.{prefix_self, prefix_trans}
 use Rattle.cachecore.specs.Replies.{fill_ended, flush_ended}
@@ -199,3 +200,10 @@ write_settled h o bytes old new a b c first d q goes (inl same) =
 write_settled h o bytes old new a b c first d q goes (inr room) =
     denied_on IsRoomEvent (IsWriteOf h o bytes) a b c d (λ e x. help_writes h o bytes e (room_helps h e x))
     (under_goes (event.Write h o bytes) old new a b first q) room
+
+-- what is answered was answered by the event, refusals too
+pub event_denied : {A : Type 0} (result : Result A Denied) (e : Event) (old new : HeldSeen) (before after : SeatSeen)
+    → IfErr result (under.IsDenied e old new before after) → IfErr result (IsDenied (λ x. x ≡ e) before after)
+event_denied result e old new before after q =
+    IfErr-weaker result (under.IsDenied e old new before after) (IsDenied (λ x. x ≡ e) before after)
+    (λ d k. denied_event e old new before after d k) q

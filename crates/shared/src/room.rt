@@ -14,7 +14,7 @@ use locked::denied::{Denied, by, without_slip};
 use locked::naming::Naming;
 use locked::state::Locked;
 use pc_types::{HandleId, PageIndex, Refusal};
-use std::sync::Wait;
+use std::sync::{MutexGuard, Wait};
 use trail::Trail;
 
 /// The bytes of a handle's file that a call reads or changes, whose pages it needs.
@@ -42,14 +42,22 @@ impl<B: Naming, D: BlockDevice, T: Trail> SharedCache<B, D, T> {
         ensures goes { Goes seat.old seat.new }
         ensures denied { IfErr result (IsDenied (IsHelp span.handle) seat.old seat.new) }
     {
-        match self.make_way(rt, seat, span) {
-            Ok(made) => self.fill_once(rt, seat, span.handle, page, made),
-            Err(denied) => Err(denied),
+        let is_room = match self.make_way(rt, seat, span) {
+            Ok(is_room) => is_room,
+            Err(denied) => return Err(denied),
+        };
+        match self.fill_once(rt, seat, span.handle, page) {
+            Ok(()) => Ok(()),
+            Err(denied) => {
+                if was_taken(is_room, denied.refusal) {
+                    return Ok(());
+                }
+                Err(denied)
+            }
         }
     }
 
-    /// Fills a page. Where it is refused while a request is in flight its end is waited for, and where room was made before it is
-    /// to be tried again: another caller took it.
+    /// Fills a page. Where it is refused while a request is in flight the end of one is waited for.
     #[tactic(auto, using(locked::proofs::Seats::goes_by, locked::proofs::Seats::goes_on, locked::proofs::Seats::goes_same, crate::proofs::Making::goes_denied, crate::proofs::Making::denied_begin, crate::proofs::Making::help_on))]
     fn fill_once<R: Wait>(
         &self,
@@ -57,7 +65,6 @@ impl<B: Naming, D: BlockDevice, T: Trail> SharedCache<B, D, T> {
         seat: &mut Seat,
         handle: HandleId,
         page: PageIndex,
-        is_room: bool,
     ) -> Result<(), Denied>
         requires { seat.old.table ≡ B.table }
         ensures goes { Goes seat.old seat.new }
@@ -70,17 +77,7 @@ impl<B: Naming, D: BlockDevice, T: Trail> SharedCache<B, D, T> {
         let mut guard = self.state.lock(rt);
         let begun = match guard.fill_begin(seat, handle, page, buffer) {
             Ok((begun, _)) => begun,
-            Err(denied) => {
-                let is_busy = guard.is_busy();
-                if is_busy && is_for_now(denied.refusal) {
-                    drop(self.changed.wait(rt, guard));
-                    return Ok(());
-                }
-                if is_room && is_of_frames(denied.refusal) {
-                    return Ok(());
-                }
-                return Err(denied);
-            }
+            Err(denied) => return self.wait_or(rt, guard, denied),
         };
         drop(guard);
         match begun {
@@ -192,12 +189,10 @@ impl<B: Naming, D: BlockDevice, T: Trail> SharedCache<B, D, T> {
         let begun = match guard.flush_first(seat, buffer) {
             Ok(begun) => begun,
             Err(denied) => {
-                let is_busy = guard.is_busy();
-                if is_busy && is_for_now(denied.refusal) {
-                    drop(self.changed.wait(rt, guard));
-                    return Ok(true);
-                }
-                return Err(denied);
+                return match self.wait_or(rt, guard, denied) {
+                    Ok(()) => Ok(true),
+                    Err(denied) => Err(denied),
+                };
             }
         };
         drop(guard);
@@ -205,6 +200,25 @@ impl<B: Naming, D: BlockDevice, T: Trail> SharedCache<B, D, T> {
             Some((job, _)) => self.flush_by(rt, seat, job),
             None => Ok(false),
         }
+    }
+
+    /// Waits for the end of a request, where one is in flight and the refusal may pass when it ends; else the refusal stands.
+    pub(crate) fn wait_or<R: Wait>(
+        &self,
+        rt: &R,
+        guard: MutexGuard<'_, Locked<B, T>>,
+        denied: Denied,
+    ) -> Result<(), Denied>
+        ensures { IfErr result (λ d. d ≡ denied) }
+    {
+        if !is_for_now(denied.refusal) {
+            return Err(denied);
+        }
+        if !guard.is_busy() {
+            return Err(denied);
+        }
+        drop(self.changed.wait(rt, guard));
+        Ok(())
     }
 
     /// Makes the device call of a flush, without the state's lock, and ends the flush. Answers whether the page was written.
@@ -253,7 +267,7 @@ pub(crate) fn is_for_now(refusal: Refusal) -> bool {
     )
 }
 
-/// Whether a refusal is for want of frames.
-fn is_of_frames(refusal: Refusal) -> bool {
-    matches!(refusal, Refusal::NoFrame)
+/// Whether a fill was refused a frame where room was made before: another caller took it.
+fn was_taken(is_room: bool, refusal: Refusal) -> bool {
+    is_room && matches!(refusal, Refusal::NoFrame)
 }

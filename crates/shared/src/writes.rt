@@ -129,11 +129,6 @@ impl<B: Naming, D: BlockDevice, T: Trail> SharedCache<B, D, T> {
             Ok(false) => {}
             Err(other) => return Err(other),
         }
-        let guard = self.state.lock(rt);
-        if guard.is_busy() {
-            drop(self.changed.wait(rt, guard));
-            return Ok(());
-        }
-        Err(denied)
+        self.wait_or(rt, self.state.lock(rt), denied)
     }
 }
