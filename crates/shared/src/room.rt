@@ -75,8 +75,8 @@ impl<B: Naming, D: BlockDevice, T: Trail> SharedCache<B, D, T> {
             Err(refusal) => return Err(without_slip(refusal)),
         };
         let mut guard = self.state.lock(rt);
-        let begun = match guard.fill_begin(seat, handle, page, buffer) {
-            Ok((begun, _)) => begun,
+        let (begun, _) = match guard.fill_begin(seat, handle, page, buffer) {
+            Ok(made) => made,
             Err(denied) => return self.wait_or(rt, guard, denied),
         };
         drop(guard);
