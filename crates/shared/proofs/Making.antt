@@ -1,10 +1,10 @@
 -- What the events of a call say of its seat, from its begin to its end.
-use Rattle.std.proofs.Common.{◌≡◌, ℕ, List, [], ◌∷◌, ◌++◌, length, refl, sym, subst, ◌∙◌, inl, inr}
-use Rattle.std.specs.Prelude.{◌⊎◌, IfErr, Ok, Option, Result, Some, None}
+use Rattle.std.proofs.Common.{◌≡◌, ℕ, List, [], ◌∷◌, ◌++◌, refl, sym, subst, ◌∙◌, inl, inr}
+use Rattle.std.specs.Prelude.{IfErr, Ok, Option, Result, Some, None}
 use Rattle.std.proofs.lemmas.Result.{IfErr-weaker}
 use mathlib.Core.List.{IsPrefix}
 use Rattle.errseq.proofs.Prefixes.{prefix_self, prefix_trans}
-use Rattle.cachecore.specs.Replies.{fill_ended, flush_ended}
+use Rattle.cachecore.specs.Replies.{fill_ended}
 use Rattle.cachecore.specs.declared.answers.Ended.TheVariants as ended
 use Rattle.machine.specs.declared.event.End.{End}
 use Rattle.machine.specs.declared.event.Event.{Event}
