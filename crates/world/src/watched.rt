@@ -1,6 +1,6 @@
 //! A device, with a note whether anything was written to it since it was last flushed well.
 
-ghost use Rattle.std.specs.Prelude.{◌≡◌, ◌<◌, ◌∷◌, [], true, false, OnOk, Ok, length};
+ghost use Rattle.std.specs.Prelude.{◌≡◌, ◌<◌, ◌≤◌, ◌∷◌, [], true, false, OnOk, Ok, length};
 ghost use Rattle.world.specs.Watching.{Clears, Makes, first_watch};
 
 use blockdev::{BlockDevice, FaultEffect, Finished, Job, ScriptDevice, perform};
@@ -64,10 +64,13 @@ impl<D: BlockDevice> Watched<D> {
         ensures written { self.old.unflushed ≡ true → Clears self.old result self.new }
         ensures unwritten { self.old.unflushed ≡ false → (result ≡ Ok tt) × (self.new ≡ self.old) }
         ensures durable { OnOk result (self.new.device.durable ≡ self.new.device.contents) }
+        ensures faults { self.old.device.faults ≤ self.new.device.faults }
     {
         if !self.is_written {
             return Ok(());
         }
+        // A flush that fails raises the faults where it is counted, and else changes nothing.
+        prove!(self.device.flushes() <= u64::MAX);
         self.flush()
     }
 }

@@ -1,6 +1,6 @@
 //! The device calls of requests in flight, and their ends.
 
-ghost use Rattle.std.specs.Prelude.{◌≡◌, OnOk, length};
+ghost use Rattle.std.specs.Prelude.{◌≡◌, ◌≤◌, OnOk, length};
 ghost use Rattle.std.specs.FinMap as map;
 ghost use Rattle.machine.specs.declared.event.Event.TheVariants as event;
 ghost use Rattle.machine.specs.Step.{Step as MachineStep};
@@ -81,6 +81,7 @@ impl<D: BlockDevice> World<D> {
     pub fn flush_written(&mut self) -> Result<(), ErrCode>
         ensures flushed { IsFlushedOnce self.old result self.new }
         ensures durable { OnOk result (self.new.device.durable ≡ self.new.device.contents) }
+        ensures faults { self.old.device.faults ≤ self.new.device.faults }
     {
         self.device.flush_written()
     }
