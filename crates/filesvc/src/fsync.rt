@@ -9,7 +9,7 @@ ghost use Rattle.runs.specs.Syncing.{dirty_between};
 ghost use Rattle.filesvc.specs.Made.{Moves, Syncs, is_for_sync};
 ghost use Rattle.filesvc.specs.Rests.{IsService, IsServing};
 ghost use Rattle.filesvc.specs.Saving.{Ends, IsSaveRefusal, IsUnflushed, SaveEnds, Saves};
-ghost use Rattle.filesvc.specs.Service.{AreOnDevice, CameFrom, IsAsBefore, IsOnDevice, IsSyncRefusal, IsSynced, IsUntried, Names, Reports, Serves, Tells, is_reported};
+ghost use Rattle.filesvc.specs.Service.{AreOnDevice, CameFrom, IsAsBefore, IsOnDevice, IsSyncRefusal, IsSynced, IsTold, IsUntried, Names, Reports, Serves, Tells, is_reported};
 ghost use Rattle.filesvc.specs.Syncs.{Drops, SyncTurn, clean_or, service_of, sync_end_of};
 
 use crate::handle::Handle;
@@ -39,6 +39,7 @@ impl<D: BlockDevice> Solo<D> {
         ensures synced { Tells self.old → OnOk result (IsOnDevice self.new handle.old.file) }
         ensures durable { OnOk result (self.new.world.device.durable ≡ self.new.world.device.contents) }
         ensures reports { Tells self.old → Reports self.old handle.old result self.new ⊎ IsUnflushed (record { 0 = 0 }) (record { 0 = LAST_PAGE }) self.old handle.old result self.new handle.new }
+        ensures told { IsTold self.new handle.old handle.new ⊎ (handle.new ≡ handle.old) }
         ensures kept { is_reported result ≡ false → handle.new ≡ handle.old }
         ensures refused { Names self.old handle.old → is_reported result ≡ false → IfErr result (λ r. IsSyncRefusal self.old r self.new) }
     {
@@ -68,6 +69,7 @@ impl<D: BlockDevice> Solo<D> {
         ensures synced { Tells self.old → OnOk result (AreOnDevice self.new handle.old.file first last) }
         ensures durable { OnOk result (self.new.world.device.durable ≡ self.new.world.device.contents) }
         ensures reports { Tells self.old → Reports self.old handle.old result self.new ⊎ IsUnflushed first last self.old handle.old result self.new handle.new }
+        ensures told { IsTold self.new handle.old handle.new ⊎ (handle.new ≡ handle.old) }
         ensures kept { is_reported result ≡ false → handle.new ≡ handle.old }
         ensures refused { Names self.old handle.old → first.0 ≤ last.0 → is_reported result ≡ false → IfErr result (λ r. IsSyncRefusal self.old r self.new) }
     {

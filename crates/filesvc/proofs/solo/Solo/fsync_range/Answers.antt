@@ -1,17 +1,15 @@
 use Rattle.std.proofs.Common.{◌≡◌, refl, true, false, Some, None, inl, inr, rules, subst, sym, ap, ◌∙◌}
 use Rattle.std.specs.FinMap as finmap
-use Rattle.std.specs.Prelude.{Err, IfErr}
+use Rattle.std.specs.Prelude.{◌⊎◌, Ok, Err, IfErr}
 use Rattle.cachecore.proofs.StepLemmas.{err_is}
-use Rattle.pc_types.specs.declared.refusal.Refusal.TheVariants.{BadRange}
-use Rattle.machine.specs.declared.event.Reply.TheVariants as reply
 use Rattle.filesvc.specs.Made.{is_for_sync}
-use Rattle.filesvc.specs.Saving.{SaveEnds, Saves}
+use Rattle.filesvc.specs.Saving.{Ends, IsUnflushed, SaveEnds, Saves}
 use Rattle.filesvc.specs.Seen.{HandleSeen, SoloSeen}
-use Rattle.filesvc.specs.Service.{AreOnDevice, IsSyncRefusal, IsSynced, Names, Serves, Tells, is_reported}
-use Rattle.filesvc.specs.Syncs.{clean_or, service_of}
-use Rattle.filesvc.proofs.FileSteps.{within}
+use Rattle.filesvc.specs.Service.{AreOnDevice, IsSyncRefusal, IsSynced, IsTold, Names, Reports, Serves, Tells, is_reported}
+use Rattle.filesvc.specs.Syncs.{service_of}
 use Rattle.filesvc.proofs.Laws.{moves_refl, serves_counted}
-use Rattle.filesvc.proofs.SyncLaws.{not_reported, refusal_counted, renamed_service}
+use Rattle.filesvc.proofs.Saved.{polled_ends, refused_ends, refused_reports, saved_refusal}
+use Rattle.filesvc.proofs.SyncLaws.{refusal_counted, renamed_service}
 use Rattle.filesvc.proofs.solo.Solo.fsync_range.Goals as goal
 use Rattle.filesvc.proofs.solo.Solo.fsync_range.Goals.{in-Some, in-None}
 
@@ -29,22 +27,36 @@ returns-in_err-failed-clause-serves g c =
 pub returns-in_err-failed-clause-ends : goal.returns-in_err-failed-clause-ends
 returns-in_err-failed-clause-ends g c =
     let why = c.in_err-failed.field-0.0 in
+    let old : SoloSeen = record { world = c.self.inside.world; errors = c.self.inside.recorder; attempts = c.self.inside.attempts } in
+    let h : HandleSeen = record { cache = c.handle.inside.cache; file = c.handle.inside.file.0; number = c.handle.inside.number.0; cursor = c.handle.inside.cursor; append = c.handle.inside.append; pass = c.handle.inside.pass } in
     let new : SoloSeen = record { world = c.save.new.world; errors = c.save.new.recorder; attempts = 1 } in
-    let is = err_is c.from_residual.result why c.from_residual.ensures.1 in
-    let ended : SaveEnds (record { 0 = c.args.handle.now.number }) c.args.first c.args.last c.args.self.now.world (Err why) c.save.new.world =
-    subst (λ (h : HandleSeen). SaveEnds (record { 0 = h.number }) c.args.first c.args.last c.args.self.now.world (Err why) c.save.new.world) c.handle.view_is
-    (subst (λ (s : SoloSeen). SaveEnds c.handle.inside.number c.args.first c.args.last s.world (Err why) c.save.new.world) c.self.view_is c.in_err-failed.ensures.ends) in
-    ?
+    subst (λ r. Ends c.args.first c.args.last c.args.self.now c.args.handle.now r new c.args.handle.now) (sym (err_is c.from_residual.result why c.from_residual.ensures.1))
+    (subst (λ (k : HandleSeen). Ends c.args.first c.args.last c.args.self.now k (Err why) new k) c.handle.view_is
+    (subst (λ (s : SoloSeen). Ends c.args.first c.args.last s h (Err why) new h) c.self.view_is
+    (refused_ends c.args.first c.args.last old h new why c.in_err-failed.ensures.ends)))
 
 pub returns-in_err-failed-clause-reports : goal.returns-in_err-failed-clause-reports
-returns-in_err-failed-clause-reports g c = ?
+returns-in_err-failed-clause-reports g c = λ tells.
+    let why = c.in_err-failed.field-0.0 in
+    let old : SoloSeen = record { world = c.self.inside.world; errors = c.self.inside.recorder; attempts = c.self.inside.attempts } in
+    let h : HandleSeen = record { cache = c.handle.inside.cache; file = c.handle.inside.file.0; number = c.handle.inside.number.0; cursor = c.handle.inside.cursor; append = c.handle.inside.append; pass = c.handle.inside.pass } in
+    let new : SoloSeen = record { world = c.save.new.world; errors = c.save.new.recorder; attempts = 1 } in
+    subst (λ r. Reports c.args.self.now c.args.handle.now r new ⊎ IsUnflushed c.args.first c.args.last c.args.self.now c.args.handle.now r new c.args.handle.now) (sym (err_is c.from_residual.result why c.from_residual.ensures.1))
+    (subst (λ (k : HandleSeen). Reports c.args.self.now k (Err why) new ⊎ IsUnflushed c.args.first c.args.last c.args.self.now k (Err why) new k) c.handle.view_is
+    (subst (λ (s : SoloSeen). Reports s h (Err why) new ⊎ IsUnflushed c.args.first c.args.last s h (Err why) new h) c.self.view_is
+    (refused_reports c.args.first c.args.last old h new why c.in_err-failed.ensures.ends)))
 
 pub returns-in_err-failed-clause-refused : goal.returns-in_err-failed-clause-refused
 returns-in_err-failed-clause-refused g c = λ names order unreported.
+    let why = c.in_err-failed.field-0.0 in
+    let old = service_of c.self.inside.world c.self.inside.recorder in
+    let mid = service_of c.save.new.world c.save.new.recorder in
     let new : SoloSeen = record { world = c.save.new.world; errors = c.save.new.recorder; attempts = 1 } in
-    let x = refusal_counted (service_of c.self.inside.world c.self.inside.recorder) (service_of c.save.new.world c.save.new.recorder) c.self.inside.attempts 1 c.in_err-failed.field-0.0 (c.in_err-failed.ensures.refused order) in
-    subst (λ r. IfErr r (λ why. IsSyncRefusal c.args.self.now why new)) (sym (err_is c.from_residual.result c.in_err-failed.field-0.0 c.from_residual.ensures.1))
-    (subst (λ a. IsSyncRefusal a c.in_err-failed.field-0.0 new) c.self.view_is x)
+    let is = err_is c.from_residual.result why c.from_residual.ensures.1 in
+    let quiet : is_reported (Err why) ≡ false = ap is_reported (sym is) ∙ unreported in
+    let x = refusal_counted old mid c.self.inside.attempts 1 why (saved_refusal old mid why quiet (c.in_err-failed.ensures.refused order)) in
+    subst (λ r. IfErr r (λ why. IsSyncRefusal c.args.self.now why new)) (sym is)
+    (subst (λ a. IsSyncRefusal a why new) c.self.view_is x)
 
 pub returns-clause-serves : goal.returns-clause-serves
 returns-clause-serves g c =
@@ -69,11 +81,46 @@ returns-clause-synced g c = elim c.match-or.branch [
       subst (λ t. AreOnDevice t c.args.handle.now.file c.args.first c.args.last) (sym c.poll.ensures.same) held))
 ]
 
+pub returns-clause-durable : goal.returns-clause-durable
+returns-clause-durable g c = elim c.match-or.branch [
+  | in-Some w ↦ search rules
+  | in-None w ↦
+      (let none : c.in_ok-failed.failed ≡ None = search rules in
+      let durable = c.save.ensures.durable (c.in_ok-failed.was ∙ ap Ok none) in
+      rw w.result-is (subst (λ (t : SoloSeen). t.world.device.durable ≡ t.world.device.contents) (sym c.poll.ensures.same) durable))
+]
+
 pub returns-clause-clean : goal.returns-clause-clean
-returns-clause-clean g c = ?
+returns-clause-clean g c = elim c.match-or.branch [
+  | in-Some w ↦ search rules
+  | in-None w ↦
+      (let none : c.in_ok-failed.failed ≡ None = search rules in
+      let ended : SaveEnds c.handle.inside.number c.args.first c.args.last c.self.inside.world (Ok c.in_ok-failed.failed) c.save.new.world = c.in_ok-failed.ensures.ends in
+      let saved : Saves c.handle.inside.number c.args.first c.args.last c.self.inside.world (Ok tt) c.save.new.world = subst (λ o. SaveEnds c.handle.inside.number c.args.first c.args.last c.self.inside.world (Ok o) c.save.new.world) none ended in
+      let named = subst (λ (h : HandleSeen). Saves (record { 0 = h.number }) c.args.first c.args.last c.self.inside.world (Ok tt) c.save.new.world) c.handle.view_is saved in
+      let began = subst (λ (s : SoloSeen). Saves (record { 0 = c.args.handle.now.number }) c.args.first c.args.last s.world (Ok tt) c.save.new.world) c.self.view_is named in
+      rw w.result-is (subst (λ (t : SoloSeen). Saves (record { 0 = c.args.handle.now.number }) c.args.first c.args.last c.args.self.now.world (Ok tt) t.world) (sym c.poll.ensures.same) began))
+]
 
 pub returns-clause-ends : goal.returns-clause-ends
-returns-clause-ends g c = ?
+returns-clause-ends g c =
+    let names : Names c.args.self.now c.args.handle.now = search rules in
+    let came = c.requires.came names in
+    let new : HandleSeen = record { cache = c.handle.inside.cache; file = c.handle.inside.file.0; number = c.handle.inside.number.0; cursor = c.handle.inside.cursor; append = c.handle.inside.append; pass = c.poll.new.pass } in
+    let told : IsTold c.poll.new.self c.args.handle.now new = record { same = search rules; board = search rules; file = search rules; known = search rules; done = search rules } in
+    let ended : SaveEnds c.handle.inside.number c.args.first c.args.last c.self.inside.world (Ok c.in_ok-failed.failed) c.save.new.world = c.in_ok-failed.ensures.ends in
+    let named = subst (λ (h : HandleSeen). SaveEnds (record { 0 = h.number }) c.args.first c.args.last c.self.inside.world (Ok c.in_ok-failed.failed) c.save.new.world) c.handle.view_is ended in
+    let began = subst (λ (s : SoloSeen). SaveEnds (record { 0 = c.args.handle.now.number }) c.args.first c.args.last s.world (Ok c.in_ok-failed.failed) c.save.new.world) c.self.view_is named in
+    let polled = subst (λ (t : SoloSeen). SaveEnds (record { 0 = c.args.handle.now.number }) c.args.first c.args.last c.args.self.now.world (Ok c.in_ok-failed.failed) t.world) (sym c.poll.ensures.same) began in
+    polled_ends c.args.first c.args.last c.args.self.now c.args.handle.now c.poll.new.self c.in_ok-failed.failed c.match-or.result new polled told
 
 pub returns-clause-reports : goal.returns-clause-reports
-returns-clause-reports g c = λ tells. inl ?
+returns-clause-reports g c = λ tells. inl (search rules)
+
+pub returns-clause-told : goal.returns-clause-told
+returns-clause-told g c =
+    let names : Names c.args.self.now c.args.handle.now = search rules in
+    let came = c.requires.came names in
+    let new : HandleSeen = record { cache = c.handle.inside.cache; file = c.handle.inside.file.0; number = c.handle.inside.number.0; cursor = c.handle.inside.cursor; append = c.handle.inside.append; pass = c.poll.new.pass } in
+    let told : IsTold c.poll.new.self c.args.handle.now new = record { same = search rules; board = search rules; file = search rules; known = search rules; done = search rules } in
+    inl told
