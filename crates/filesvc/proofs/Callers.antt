@@ -50,6 +50,14 @@ pub file_synced : (s : SoloSeen) (h new : HandleSeen) → IsTold s h new ⊎ (ne
 file_synced s h new (inl told) = ap (λ (x : HandleSeen). x.file) told.same
 file_synced s h new (inr kept) = ap (λ (x : HandleSeen). x.file) kept
 
+-- and so it is one that came from the service
+pub came_synced : (old s : SoloSeen) (h new : HandleSeen) → Keeps old s → IsTold s h new ⊎ (new ≡ h) → CameFrom old h → CameFrom s new
+came_synced old s h new k told came names = open_synced s h new told (open_on old s h k (came (sym (cache told) ∙ (names ∙ k.name))))
+  where
+    cache : IsTold s h new ⊎ (new ≡ h) → new.cache ≡ h.cache
+    cache (inl t) = ap (λ (x : HandleSeen). x.cache) t.same
+    cache (inr e) = ap (λ (x : HandleSeen). x.cache) e
+
 -- the file that its number names
 pub named_is : (s : SoloSeen) (h : HandleSeen) → IsOpen s h → named (files s) h.number ≡ h.file
 named_is s h o = ap (λ x. unwrap_or x 0) o.number

@@ -11,4 +11,4 @@ each s (Ok h) f = f h refl
 each s (Err why) f = tt
 
 pub returns : goal.returns
-returns c = each c.«open».new.solo c.«open».result (λ h is. opened_by c.create.new.solo c.«open».new.solo _ false c.«open».result h is c.«open».ensures.none c.«open».ensures.opened c.«open».ensures.errors)
+returns c = each c.«open».new.self c.«open».result (λ h is. opened_by c.create.new.self c.«open».new.self _ false c.«open».result h is c.«open».ensures.none c.«open».ensures.opened c.«open».ensures.errors)

@@ -2,13 +2,24 @@ use Rattle.std.proofs.Common.{◌≡◌, length, ◌∙◌, subst}
 use Rattle.std.specs.Prelude.{Result, Ok, Err, OnOk}
 use Rattle.pc_types.specs.declared.refusal.Refusal.{Refusal}
 use Rattle.filesvc.specs.Service.{IsOnDevice}
-use Rattle.filesvc.proofs.Callers.{file_synced, open_on, open_synced, written_is}
+use Rattle.filesvc.proofs.Callers.{came_on, came_synced, file_synced, open_on, open_synced, written_is}
 use Rattle.filesvc.proofs.Laws.{serves_trans}
 use Rattle.filesvc.proofs.tests.save.Goals as goal
 
 if_ok : {P : Type 0} (r : Result Unit Refusal) → P → OnOk r P
 if_ok (Ok x) p = p
 if_ok (Err x) p = tt
+
+pub fsync-requires-in-Err-Io : goal.fsync-requires-in-Err-Io
+fsync-requires-in-Err-Io g c =
+    came_synced c.pwrite.new.self c.fsync.new.self c.args.handle.now c.fsync.new.handle c.fsync.ensures.serves.keeps c.fsync.ensures.told
+    (came_on c.args.files.now c.pwrite.new.self c.args.handle.now c.pwrite.ensures.keeps c.requires.came)
+
+pub returns-in_default-clause-open : goal.returns-in_default-clause-open
+returns-in_default-clause-open g c = λ was.
+    open_synced c.fsync.new.self c.args.handle.now c.fsync.new.handle c.fsync.ensures.told
+    (open_on c.pwrite.new.self c.fsync.new.self c.args.handle.now c.fsync.ensures.serves.keeps
+    (open_on c.args.files.now c.pwrite.new.self c.args.handle.now c.pwrite.ensures.keeps was))
 
 pub returns-in-Err-Io-clause-open : goal.returns-in-Err-Io-clause-open
 returns-in-Err-Io-clause-open g c = λ was.
