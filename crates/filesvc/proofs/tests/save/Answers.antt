@@ -11,9 +11,10 @@ if_ok (Ok x) p = p
 if_ok (Err x) p = tt
 
 pub fsync-requires-in-Err-Io : goal.fsync-requires-in-Err-Io
-fsync-requires-in-Err-Io g c =
-    came_synced c.pwrite.new.self c.fsync.new.self c.args.handle.now c.fsync.new.handle c.fsync.ensures.serves.keeps c.fsync.ensures.told
-    (came_on c.args.files.now c.pwrite.new.self c.args.handle.now c.pwrite.ensures.keeps c.requires.came)
+fsync-requires-in-Err-Io g c = record {
+  came = came_synced c.pwrite.new.self c.fsync.new.self c.args.handle.now c.fsync.new.handle c.fsync.ensures.serves.keeps c.fsync.ensures.told
+      (came_on c.args.files.now c.pwrite.new.self c.args.handle.now c.pwrite.ensures.keeps c.requires.came);
+}
 
 pub returns-in_default-clause-open : goal.returns-in_default-clause-open
 returns-in_default-clause-open g c = λ was.
