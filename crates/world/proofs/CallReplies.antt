@@ -31,7 +31,7 @@ use Rattle.world.specs.Flights.{Jobs, is_asked, outcome_in, seen_of, IsWorld}
 use Rattle.world.proofs.DeviceCalls.{calls_move, fails_so}
 use Rattle.world.proofs.EndsAndCalls.{call_world, end_answers, end_steps, end_world, is_called, none_of_job, put_back}
 use Rattle.world.proofs.EndsAndCalls.{put_over, request_of}
-use Rattle.world.specs.Watching.{Watch, Makes}
+use Rattle.blockdev.specs.Watching.{Watch, Makes}
 
 -- a job that was taken out is not there
 pub taken_apart : (jobs new : Jobs) (t u : ℕ) → new ≡ finmap.remove jobs t → u ≡ t → finmap.get new u ≡ None

@@ -15,7 +15,7 @@ use Rattle.world.specs.declared.step.Step.{Step}
 use Rattle.world.specs.declared.step.Step.TheVariants as step
 use Rattle.world.specs.Flights.{Jobs, IsWorld, seen_of}
 use Rattle.world.specs.Flushing.{IsDurably, IsFlushed, fault_of, lasting}
-use Rattle.world.specs.Watching.{Watch, Clears}
+use Rattle.blockdev.specs.Watching.{Watch, Clears}
 use Rattle.world.specs.Stepping.{CallReply, EndReply, Plays, Steps, WorldSeen, world_of}
 
 -- ---- a flush

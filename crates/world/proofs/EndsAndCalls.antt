@@ -36,7 +36,7 @@ use Rattle.world.specs.Stepping.{world_of, IsCalled}
 use Rattle.world.specs.declared.jobs.Flight.{Flight}
 use Rattle.world.specs.declared.jobs.Flight.TheVariants.{Asked, Made}
 use Rattle.world.specs.Flights.{Jobs, outcome_in, written_by, task_of, seen_of, HasJob, IsJob, IsWorld}
-use Rattle.world.specs.Watching.{Watch, Makes}
+use Rattle.blockdev.specs.Watching.{Watch, Makes}
 use Rattle.world.proofs.WorldSteps.{fits_still}
 
 -- a job's request

@@ -16,7 +16,7 @@ use Rattle.world.specs.declared.jobs.Flight.TheVariants.{Asked}
 use Rattle.world.specs.Flights.{Jobs, seen_of, IsWorld}
 use Rattle.world.proofs.Beginnings.{begun_kind, no_job}
 use Rattle.world.proofs.WorldSteps.{IsBegunJob, job_acts, quiet_acts, quiet_world}
-use Rattle.world.specs.Watching.{Watch}
+use Rattle.blockdev.specs.Watching.{Watch}
 
 -- the event is made, and the device is left alone
 abbrev pub IsActed : WorldSeen → Event → Reply → WorldSeen → Type 0

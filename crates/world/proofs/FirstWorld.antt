@@ -13,7 +13,7 @@ use Rattle.machine.specs.History.{no_files}
 use Rattle.runs.specs.Runs.{IsFirst}
 use Rattle.world.specs.Stepping.{first_world, world_of}
 use Rattle.world.specs.Flights.{Jobs, outcome_in, written_by, seen_of, HasJob, IsWorld}
-use Rattle.world.specs.Watching.{first_watch}
+use Rattle.blockdev.specs.Watching.{first_watch}
 use Rattle.world.specs.declared.jobs.Flight.{Flight}
 
 first_seen : (g : Sizes) (name : ℕ) (dev : Told) → seen_of (no_files g name) finmap.empty (first_watch dev) ≡ first_world g name dev

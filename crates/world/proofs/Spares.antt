@@ -21,7 +21,7 @@ use Rattle.world.specs.declared.replies.Begun.TheVariants.{Answered}
 use Rattle.world.specs.Begins.{is_job, IsFillBegun, IsFlushBegun, IsSyncStepped}
 use Rattle.world.specs.Ends.{buffer_of}
 use Rattle.world.specs.Flights.{Jobs, HasJob, IsSpare, IsWorld, task_of}
-use Rattle.world.specs.Watching.{Watch}
+use Rattle.blockdev.specs.Watching.{Watch}
 
 -- over the same device pages are as long as before
 spare_stays : {core new : State} {jobs after : Jobs} {dev : Watch} → IsWorld core jobs dev → IsWorld new after dev

@@ -26,7 +26,7 @@ use Rattle.world.specs.Stepping.{world_of}
 use Rattle.world.specs.declared.jobs.Flight.{Flight}
 use Rattle.world.specs.declared.jobs.Flight.TheVariants.{Asked}
 use Rattle.world.specs.Flights.{Jobs, task_of, outcome_in, written_by, seen_of, HasJob, IsJob, IsWorld}
-use Rattle.world.specs.Watching.{Watch}
+use Rattle.blockdev.specs.Watching.{Watch}
 
 -- a reply that is no job notes nothing
 noted_none : (writing : finmap.FinMap nat_cmp (List ℕ)) (r : Reply) (s : State) → is_job r ≡ false

@@ -14,7 +14,7 @@ use Rattle.cachecore.specs.Replies.{outcome_of}
 use Rattle.world.specs.declared.jobs.Flight.{Flight}
 use Rattle.world.specs.declared.jobs.Flight.TheVariants.{Asked, Made}
 use Rattle.world.specs.Stepping.{WorldSeen}
-use Rattle.world.specs.Watching.{Watch}
+use Rattle.blockdev.specs.Watching.{Watch}
 
 -- ---- a job in flight
 

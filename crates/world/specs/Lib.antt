@@ -3,4 +3,3 @@ pub mod Ends
 pub mod Flights
 pub mod Flushing
 pub mod Stepping
-pub mod Watching

@@ -5,14 +5,13 @@
 //! clean sync means that the device has the file, and nothing is ever stuck.
 //!
 //! `world` has the cache with its device, `step` what may be asked of it, `replies` its answers, `jobs` the jobs in
-//! flight, `watched` a device with a note whether anything was written to it since it was last flushed well.
+//! flight.
 
 mod jobs;
 mod replies;
 pub mod step;
 #[cfg(test)]
 mod tests;
-mod watched;
 pub mod world;
 
 pub use step::Step;

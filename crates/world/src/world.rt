@@ -15,8 +15,7 @@ ghost use Rattle.world.specs.Stepping.{IsMade, LeadsTo, Plays, Steps, TellsForCa
 use crate::jobs::Jobs;
 use crate::replies::{self, Begun};
 use crate::step::Step;
-use crate::watched::Watched;
-use blockdev::{BlockDevice, Buffer};
+use blockdev::{BlockDevice, Buffer, Watched};
 use cachecore::{CacheCore, PageTags, ReadAnswer, Reply};
 use pc_types::limits::MAX_FILES;
 use pc_types::{Bytes, FileId, Geometry, HandleId, PageIndex, Refusal, Serial, SyncId};

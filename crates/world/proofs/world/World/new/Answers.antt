@@ -4,7 +4,7 @@ use Rattle.cachecore.specs.Core.{Core}
 use Rattle.runs.specs.Runs.{IsFirst}
 use Rattle.world.specs.Flights.{IsWorld, seen_of}
 use Rattle.world.specs.Stepping.{first_world, world_of}
-use Rattle.world.specs.Watching.{Watch}
+use Rattle.blockdev.specs.Watching.{Watch}
 use Rattle.world.proofs.FirstWorld.{first_is, first_kept, is_first}
 use Rattle.world.proofs.world.World.new.Goals as goal
 

@@ -1,4 +1,4 @@
--- Inside this crate: a device, and whether anything was written to it since it was last flushed well.
+-- A device, and whether anything was written to it since it was last flushed well.
 use Rattle.std.specs.Prelude.{◌≡◌, Bool, true, false, ◌||◌, OnOk, OnErr}
 use Rattle.blockdev.specs.Device.{Told, Flushes, Outcome}
 use Rattle.blockdev.specs.Jobs.{Task, FinishedTask, Performs}

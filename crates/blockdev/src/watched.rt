@@ -1,9 +1,12 @@
 //! A device, with a note whether anything was written to it since it was last flushed well.
 
 ghost use Rattle.std.specs.Prelude.{◌≡◌, ◌<◌, ◌≤◌, ◌∷◌, [], true, false, OnOk, Ok, length};
-ghost use Rattle.world.specs.Watching.{Clears, Makes, first_watch};
+ghost use Rattle.blockdev.specs.Watching.{Clears, Makes, first_watch};
 
-use blockdev::{BlockDevice, FaultEffect, Finished, Job, ScriptDevice, perform};
+use crate::device::BlockDevice;
+use crate::fault::FaultEffect;
+use crate::job::{Finished, Job, perform};
+use crate::script::ScriptDevice;
 use pc_types::{ErrCode, Kind};
 use std::marker::Model;
 
@@ -16,7 +19,7 @@ pub struct Watched<D: BlockDevice> {
 
 impl<D: BlockDevice> Model for Watched<D> {
     ghost use Rattle.std.specs.Prelude.{◌≡◌, false};
-    ghost use Rattle.world.specs.Watching.{Watch};
+    ghost use Rattle.blockdev.specs.Watching.{Watch};
 
     ghost Value = { Watch };
 
