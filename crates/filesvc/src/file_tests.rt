@@ -66,6 +66,22 @@ impl Desk {
         Ok(count == PAGE && out == [byte_of(page); PAGE as usize])
     }
 
+    fn write_all(&mut self) -> Result<(), Refusal> {
+        for page in 0..PAGES {
+            self.write(page)?;
+        }
+        Ok(())
+    }
+
+    fn has_all(&mut self) -> Result<bool, Refusal> {
+        for page in 0..PAGES {
+            if !self.has(page)? {
+                return Ok(false);
+            }
+        }
+        Ok(true)
+    }
+
     fn fsync(&mut self) -> Result<(), Refusal> {
         self.solo.fsync(&mut self.handle)
     }
@@ -77,6 +93,13 @@ impl Desk {
             self.solo.pwrite(&other, page.wrapping_mul(PAGE), &[0xff])?;
         }
         Ok(())
+    }
+
+    fn reads_back(&mut self) -> Result<bool, Refusal> {
+        self.write_all()?;
+        self.fsync()?;
+        self.evict()?;
+        self.has_all()
     }
 }
 
@@ -103,18 +126,16 @@ fn disk(rt: &HostRuntime) -> Result<(PathBuf, PathBuf), Fail> {
     Ok((folder, path))
 }
 
+/// Whether the pages that were written and synced are read back, when those of another file have taken their frames.
+fn reads_back(rt: &HostRuntime, path: Path) -> Result<bool, Refusal> {
+    let mut desk = Desk::new(rt, path)?;
+    desk.reads_back()
+}
+
 #[test]
 fn what_was_synced_is_in_the_file(rt: HostRuntime) -> Result<(), Fail> {
     let (folder, path) = disk(&rt)?;
-    let mut desk = Desk::new(&rt, path.as_path())?;
-    for page in 0..PAGES {
-        assert_eq!(rt; desk.write(page), Ok(PAGE));
-    }
-    assert_eq!(rt; desk.fsync(), Ok(()));
-    desk.evict()?;
-    for page in 0..PAGES {
-        assert_eq!(rt; desk.has(page), Ok(true));
-    }
+    assert_eq!(rt; reads_back(&rt, path.as_path()), Ok(true));
     fs::remove_dir_all(&rt, folder.as_path())?;
     Ok(())
 }
