@@ -8,6 +8,7 @@ use blockdev::FileDevice;
 use pc_types::{Geometry, Refusal};
 use std::alloc::Global;
 use std::marker::Model;
+use std::ops::Range;
 use std::path::{Path, PathBuf};
 use std::test::*;
 use std::{env, fs, process};
@@ -66,8 +67,8 @@ impl Desk {
         Ok(count == PAGE && out == [byte_of(page); PAGE as usize])
     }
 
-    fn write_all(&mut self) -> Result<(), Refusal> {
-        for page in 0..PAGES {
+    fn write_all(&mut self, pages: Range<u64>) -> Result<(), Refusal> {
+        for page in pages {
             self.write(page)?;
         }
         Ok(())
@@ -86,19 +87,11 @@ impl Desk {
         self.solo.fsync(&mut self.handle)
     }
 
-    /// Has as many pages of another file cached as there are frames.
-    fn evict(&mut self) -> Result<(), Refusal> {
-        let other = open_new(&mut self.solo)?;
-        for page in 0..FRAMES {
-            self.solo.pwrite(&other, page.wrapping_mul(PAGE), &[0xff])?;
-        }
-        Ok(())
-    }
-
+    /// Whether the pages that were written and synced are read back, when as many others as there are frames were written.
     fn reads_back(&mut self) -> Result<bool, Refusal> {
-        self.write_all()?;
+        self.write_all(0..PAGES)?;
         self.fsync()?;
-        self.evict()?;
+        self.write_all(PAGES..PAGES + FRAMES)?;
         self.has_all()
     }
 }
@@ -126,7 +119,7 @@ fn disk(rt: &HostRuntime) -> Result<(PathBuf, PathBuf), Fail> {
     Ok((folder, path))
 }
 
-/// Whether the pages that were written and synced are read back, when those of another file have taken their frames.
+/// Whether that is so over a file at this path.
 fn reads_back(rt: &HostRuntime, path: Path) -> Result<bool, Refusal> {
     let mut desk = Desk::new(rt, path)?;
     desk.reads_back()
