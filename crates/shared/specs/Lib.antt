@@ -1,0 +1,4 @@
+pub mod Keeps
+pub mod Called
+pub mod Denials
+pub mod Own
