@@ -2,7 +2,7 @@
 //! Files for many threads: one cache, whose state lies under one lock and its device under another. No call holds both.
 //!
 //! `cache` has the cache and its calls that wait for nothing, `handle` an open file, `files` its calls on files and handles, `reads`
-//! and `writes` those on bytes, `room` what these do on the way, and `disk` the device under its lock.
+//! and `writes` those on bytes, `seek` the one on a cursor, `room` what these do on the way, and `disk` the device under its lock.
 
 pub mod cache;
 pub mod disk;
@@ -10,4 +10,5 @@ mod files;
 pub mod handle;
 mod reads;
 mod room;
+mod seek;
 mod writes;
