@@ -5,9 +5,15 @@
 //! and `writes` those on bytes, `room` what these do on the way, and `disk` the device under its lock.
 
 pub mod cache;
+mod close;
 pub mod disk;
+pub mod ends;
 mod files;
 pub mod handle;
 mod reads;
 mod room;
+mod signal;
+pub mod turns;
+pub mod worker;
+mod workers;
 mod writes;
