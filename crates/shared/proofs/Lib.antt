@@ -1,2 +1,3 @@
 pub mod Making
 pub mod Sizes
+pub mod Ending

@@ -6,3 +6,4 @@ pub mod Seen
 pub mod Polls
 pub mod Changes
 pub mod Seeks
+pub mod Workers

@@ -5,10 +5,16 @@
 //! and `writes` those on bytes, `seek` the one on a cursor, `room` what these do on the way, and `disk` the device under its lock.
 
 pub mod cache;
+mod close;
 pub mod disk;
+pub mod ends;
 mod files;
 pub mod handle;
 mod reads;
 mod room;
 mod seek;
+mod signal;
+pub mod turns;
+pub mod worker;
+mod workers;
 mod writes;

@@ -104,7 +104,7 @@ impl<B: Naming, D: BlockDevice, T: Trail> SharedCache<B, D, T> {
     {
         let finished = self.disk.lock(rt).carry_out(job);
         let ended = self.state.lock(rt).fill_end(seat, finished);
-        self.changed.notify_all();
+        self.has_ended(rt);
         let (ended, slip) = match ended {
             Ok(ended) => ended,
             Err(denied) => return Err(denied),
@@ -231,7 +231,7 @@ impl<B: Naming, D: BlockDevice, T: Trail> SharedCache<B, D, T> {
     {
         let finished = self.disk.lock(rt).carry_out(job);
         let ended = self.state.lock(rt).flush_end(seat, finished);
-        self.changed.notify_all();
+        self.has_ended(rt);
         match ended {
             Ok((ended, _, _)) => Ok(!matches!(&ended, Ended::Failed(_, _))),
             Err(denied) => Err(denied),
