@@ -1,3 +1,4 @@
 pub mod Making
 pub mod Sizes
 pub mod Ending
+pub mod Syncing

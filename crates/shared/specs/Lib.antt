@@ -7,3 +7,4 @@ pub mod Polls
 pub mod Changes
 pub mod Seeks
 pub mod Workers
+pub mod Synced

@@ -6,6 +6,7 @@ ghost use Rattle.shared.specs.Keeps.{IsDisk};
 
 use blockdev::{BlockDevice, Finished, Job, perform};
 use locked::naming::Naming;
+use pc_types::ErrCode;
 use std::marker::{Model, PhantomData};
 
 /// The device of the cache that B names.
@@ -50,5 +51,10 @@ impl<B: Naming, D: BlockDevice> Disk<B, D> {
         ensures size { length result.bytes ≡ B.sizes.page }
     {
         perform(&mut self.device, job)
+    }
+
+    /// Makes what was written durable.
+    pub(crate) fn flush(&mut self) -> Result<(), ErrCode> {
+        self.device.flush()
     }
 }

@@ -7,6 +7,7 @@ ghost use Rattle.locked.specs.Flights.{is_busy};
 ghost use Rattle.shared.specs.Called.{is_for_now};
 ghost use Rattle.shared.specs.Denials.{IsDenied};
 ghost use Rattle.shared.specs.Own.{IsHelp, IsRoomEvent};
+ghost use Rattle.shared.specs.Synced.{IsFlushEnd};
 
 use crate::cache::SharedCache;
 use blockdev::{BlockDevice, Buffer, Job};
@@ -222,12 +223,18 @@ impl<B: Naming, D: BlockDevice, T: Trail> SharedCache<B, D, T> {
     }
 
     /// Makes the device call of a flush, without the state's lock, and ends the flush. Answers whether the page was written.
-    #[tactic(auto, using(locked::proofs::Seats::goes_by, locked::proofs::Seats::goes_on, locked::proofs::Seats::goes_same, crate::proofs::Making::goes_denied, crate::proofs::Making::denied_flush))]
-    fn flush_by<R: Wait>(&self, rt: &R, seat: &mut Seat, job: Job) -> Result<bool, Denied>
+    #[tactic(auto, using(locked::proofs::Seats::goes_by, locked::proofs::Seats::goes_on, locked::proofs::Seats::goes_same, crate::proofs::Making::goes_denied, crate::proofs::Making::denied_flush, crate::proofs::Syncing::flush_denied))]
+    pub(crate) fn flush_by<R: Wait>(
+        &self,
+        rt: &R,
+        seat: &mut Seat,
+        job: Job,
+    ) -> Result<bool, Denied>
         requires seat { seat.old.table ≡ B.table }
         requires fits { IsJobFor B.name B.sizes.blocks B.sizes.page job }
         ensures goes { Goes seat.old seat.new }
         ensures denied { IfErr result (IsDenied IsRoomEvent seat.old seat.new) }
+        ensures ended { IfErr result (IsDenied IsFlushEnd seat.old seat.new) }
     {
         let finished = self.disk.lock(rt).carry_out(job);
         let ended = self.state.lock(rt).flush_end(seat, finished);
