@@ -22,6 +22,19 @@ use std::alloc::Global;
 use std::sync::{Condvar, Mutex, Wait};
 use trail::Trail;
 
+/// What a cache is made of: its state and its board, its own seat at the state, the ring of jobs with the seat's pass of it, and the
+/// device.
+#[derive(Drop)]
+pub struct Parts<D: BlockDevice, T: Trail> {
+    pub name: u64,
+    pub geometry: Geometry,
+    pub held: Held<T>,
+    pub board: Board,
+    pub ring: Ring,
+    pub own: Worker,
+    pub device: D,
+}
+
 /// A cache that threads share.
 #[derive(Drop)]
 pub struct SharedCache<B: Naming, D: BlockDevice, T: Trail> {
@@ -46,35 +59,29 @@ pub struct SharedCache<B: Naming, D: BlockDevice, T: Trail> {
 }
 
 impl<B: Naming, D: BlockDevice, T: Trail> SharedCache<B, D, T> {
-    /// The cache over a device. Its state was made before, so that a caller could pick B; its own seat is the one that `Held::new` gave
-    /// beside the callers'.
-    pub fn of<R: Wait>(
-        rt: &R,
-        alloc: Global,
-        geometry: Geometry,
-        name: u64,
-        held: Held<T>,
-        board: Board,
-        seat: Seat,
-        device: D,
-    ) -> Result<SharedCache<B, D, T>, Refusal>
-        requires named { name ≡ B.name }
-        requires sized { geometry ≡ B.sizes }
-        requires board { board ≡ B.board }
-        requires state { IsLocked B.name B.table B.board B.sizes held }
-        requires idle { map.len held.core.state.requests ≡ 0 }
-        requires seat { (seat.name ≡ B.name) × (seat.table ≡ B.table) }
-        requires device { IsDisk B.sizes (D.told device) }
-        ensures named { IfOk result (λ c. c.name ≡ name) }
-        ensures refused { IsOkUnless result Memory }
+    /// The cache of these parts. Its state was made before, so that a caller could pick B.
+    pub fn of(alloc: Global, parts: Parts<D, T>) -> SharedCache<B, D, T>
+        requires named { parts.name ≡ B.name }
+        requires sized { parts.geometry ≡ B.sizes }
+        requires board { parts.board ≡ B.board }
+        requires state { IsLocked B.name B.table B.board B.sizes parts.held }
+        requires idle { map.len parts.held.core.state.requests ≡ 0 }
+        requires own { IsWorkerOf parts.ring B.name B.table B.sizes parts.own }
+        requires device { IsDisk B.sizes (D.told parts.device) }
+        ensures { result.name ≡ parts.name }
     {
-        let (ring, pass) = match Ring::new(rt, alloc, name, &geometry) {
-            Ok(made) => made,
-            Err(refusal) => return Err(refusal),
-        };
+        let Parts {
+            name,
+            geometry,
+            held,
+            board,
+            ring,
+            own,
+            device,
+        } = parts;
         let locked = Locked::of(held);
         let disk = Disk::of(device);
-        Ok(SharedCache {
+        SharedCache {
             name,
             geometry,
             board,
@@ -83,9 +90,9 @@ impl<B: Naming, D: BlockDevice, T: Trail> SharedCache<B, D, T> {
             disk: Mutex::new(disk),
             alloc,
             ring,
-            own: Worker { seat, pass },
+            own,
             work: Signal::new(),
-        })
+        }
     }
 
     /// A page may have become dirty, or a frame have been taken: workers who sleep look again.

@@ -20,6 +20,13 @@ pub struct Worker {
 }
 
 impl Worker {
+    /// Who enters events by this seat, and goes to the ring by this pass.
+    pub fn new(seat: Seat, pass: RingPass) -> Worker
+        ensures { result ≡ record { seat = seat; pass = pass } }
+    {
+        Worker { seat, pass }
+    }
+
     /// Its seat, to be given to `close`.
     pub fn into_seat(self) -> Seat
         ensures { result ≡ seat_of self }

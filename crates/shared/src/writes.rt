@@ -145,7 +145,10 @@ impl<B: Naming, D: BlockDevice, T: Trail> SharedCache<B, D, T> {
     {
         'attempts: for _ in rt.forever() {
             match self.try_change(rt, seat, handle, change, bytes) {
-                Ok(Some(answer)) => return Ok(answer),
+                Ok(Some(answer)) => {
+                    self.made_work(rt);
+                    return Ok(answer);
+                }
                 Ok(None) => {}
                 Err(denied) => return Err(denied),
             }
