@@ -3,6 +3,7 @@
 ghost use Rattle.std.specs.Prelude.{◌≡◌, Some, length, nat_lt};
 ghost use Rattle.cachecore.specs.Replies.{sized};
 ghost use Rattle.cachecore.specs.Wants.{lacks_frames, passes_limit};
+ghost use Rattle.machine.specs.State.{free_frames};
 ghost use Rattle.machine.specs.Tests.{tests};
 ghost use Rattle.machine.specs.declared.event.Event.TheVariants as event;
 ghost use Rattle.trail.specs.History.{After};
@@ -20,6 +21,13 @@ impl<B: Naming, T: Trail> Locked<B, T> {
         ensures { result ≡ is_busy self.now.core.state }
     {
         self.in_flight > 0
+    }
+
+    /// How many frames are free.
+    pub fn free_frames(&self) -> u64
+        ensures { result ≡ free_frames self.now.core.state }
+    {
+        self.held.core().free_frames()
     }
 
     /// Whether fewer frames are free than pages are absent which these bytes of the handle's file touch. `false` where no call

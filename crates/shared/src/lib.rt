@@ -3,13 +3,15 @@
 //!
 //! `cache` has the cache, `serve` makes one for a program and hands it on, and `close` takes it apart. `handle` is an open file, `files`
 //! has the calls on files and handles, `reads`, `writes` and `seek` those on bytes and the cursor, `fsync` syncs, and `room` what these
-//! do on the way. `worker` is who works beside the callers: `turns` has what one does in a turn, `workers` its loop, `ends` the end of a
+//! do on the way. `worker` is who works beside the callers: `turns` has what one does in a turn, `workers` its loop, `evictor` has the
+//! one that frees frames, `ends` the end of a
 //! job, and `signal` what wakes one. `disk` is the device under its lock.
 
 pub mod cache;
 mod close;
 pub mod disk;
 pub mod ends;
+pub mod evictor;
 mod files;
 mod fsync;
 pub mod handle;

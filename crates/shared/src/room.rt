@@ -161,7 +161,7 @@ impl<B: Naming, D: BlockDevice, T: Trail> SharedCache<B, D, T> {
 
     /// Lets an idle page go. Answers whether there was one.
     #[tactic(auto, using(locked::proofs::Seats::goes_by, locked::proofs::Seats::goes_on, locked::proofs::Seats::goes_same, crate::proofs::Making::goes_denied, crate::proofs::Making::denied_age, crate::proofs::Making::denied_evict))]
-    fn evict_one<R: Wait>(&self, rt: &R, seat: &mut Seat) -> Result<bool, Denied>
+    pub(crate) fn evict_one<R: Wait>(&self, rt: &R, seat: &mut Seat) -> Result<bool, Denied>
         requires { seat.old.table ≡ B.table }
         ensures goes { Goes seat.old seat.new }
         ensures denied { IfErr result (IsDenied IsRoomEvent seat.old seat.new) }
