@@ -1,7 +1,7 @@
 //! A cache that threads share.
 
 ghost use Rattle.std.specs.FinMap as map;
-ghost use Rattle.std.specs.Prelude.{◌≡◌, IfOk, IsOkUnless};
+ghost use Rattle.std.specs.Prelude.{◌≡◌, IfErr, IfOk};
 ghost use Rattle.pc_types.specs.declared.refusal.Refusal.TheVariants.{Memory};
 ghost use Rattle.locked.specs.Keeps.{IsLocked};
 ghost use Rattle.shared.specs.Keeps.{IsDisk};
@@ -47,7 +47,8 @@ pub struct SharedCache<B: Naming, D: BlockDevice, T: Trail> {
 
 impl<B: Naming, D: BlockDevice, T: Trail> SharedCache<B, D, T> {
     /// The cache over a device. Its state was made before, so that a caller could pick B; its own seat is the one that `Held::new` gave
-    /// beside the callers'.
+    /// beside the callers'. Where
+    /// memory is wanting for the ring, state, seat and device come back.
     pub fn of<R: Wait>(
         rt: &R,
         alloc: Global,
@@ -57,7 +58,7 @@ impl<B: Naming, D: BlockDevice, T: Trail> SharedCache<B, D, T> {
         board: Board,
         seat: Seat,
         device: D,
-    ) -> Result<SharedCache<B, D, T>, Refusal>
+    ) -> Result<SharedCache<B, D, T>, (Refusal, Held<T>, Seat, D)>
         requires named { name ≡ B.name }
         requires sized { geometry ≡ B.sizes }
         requires board { board ≡ B.board }
@@ -66,11 +67,11 @@ impl<B: Naming, D: BlockDevice, T: Trail> SharedCache<B, D, T> {
         requires seat { (seat.name ≡ B.name) × (seat.table ≡ B.table) }
         requires device { IsDisk B.sizes (D.told device) }
         ensures named { IfOk result (λ c. c.name ≡ name) }
-        ensures refused { IsOkUnless result Memory }
+        ensures err { IfErr result (λ e. (e.0 ≡ Memory) × (e.1 ≡ held) × (e.2 ≡ seat) × (e.3 ≡ device)) }
     {
         let (ring, pass) = match Ring::new(rt, alloc, name, &geometry) {
             Ok(made) => made,
-            Err(refusal) => return Err(refusal),
+            Err(refusal) => return Err((refusal, held, seat, device)),
         };
         let locked = Locked::of(held);
         let disk = Disk::of(device);
