@@ -1,6 +1,8 @@
 -- What the ends of jobs and the turns of workers say of a seat.
-use Rattle.std.proofs.Common.{◌≡◌, ℕ, List, [], ◌∷◌, ◌++◌, refl, sym, subst, ◌∙◌}
+use Rattle.std.proofs.Common.{◌≡◌, ℕ, zero, suc, List, [], ◌∷◌, ◌++◌, ap, arith, refl, sym, subst, ◌∙◌}
 use Rattle.std.specs.Prelude.{All, Ok, Option, Some, None}
+use Rattle.std.proofs.lemmas.List.{append_assoc, append-nil}
+use Rattle.std.proofs.lemmas.List.Elements.{All-append, All-nil, All-weaker}
 use Rattle.blockdev.specs.Jobs.{FinishedTask, Task}
 use Rattle.cachecore.specs.Replies.{end_of, fill_ended, flush_ended}
 use Rattle.cachecore.specs.declared.answers.Ended.{Ended}
@@ -20,7 +22,8 @@ use Rattle.locked.specs.declared.denied.Denied.{Denied}
 use Rattle.locked.proofs.Seats.{goes_same}
 use Rattle.shared.specs.Called.{Makes}
 use Rattle.shared.specs.Denials.{IsDenied}
-use Rattle.shared.specs.Workers.{Begins, Ends, GivesReceipt, IsEndOf, IsWriteBack}
+use Rattle.shared.specs.Workers.{AllEnded, Begins, Ends, GivesReceipt, IsEndOf, IsWriteBack, popped_by}
+use Rattle.shared.specs.declared.worker.Worker.{Worker}
 use Rattle.shared.proofs.Making.{denied_by, denied_on, makes_by, makes_on, makes_then}
 
 -- ---- ends
@@ -105,3 +108,37 @@ end_writes_back job e x = absurd x
 pub write_back_end : (job : Task) (a b c : SeatSeen) (d : Denied) → Goes a b → IsDenied (IsEndOf job) b c d
     → IsDenied IsWriteBack a c d
 write_back_end job a b c d p q = denied_on (IsEndOf job) IsWriteBack a b c d (end_writes_back job) p q
+
+-- ---- all jobs that a worker took
+
+-- this seat ended the job
+Ended_by : SeatSeen → SeatSeen → Task → Type 0
+Ended_by before after job = (slip : Slip) × (receipt : Option ReceiptSeen) × Ends job before after slip receipt
+
+pub none_ended : (w : Worker) → AllEnded w w
+none_ended w = ([], sym (append-nil (popped_by w)), All-nil (Ended_by w.seat w.seat))
+
+-- as far as the seat saw then
+pub still_ended : (a b c : Worker) → AllEnded a b → popped_by c ≡ popped_by b → Goes b.seat c.seat → AllEnded a c
+still_ended a b c p same goes = (
+  p.0,
+  same ∙ p.1,
+  All-weaker (Ended_by a.seat b.seat) (Ended_by a.seat c.seat)
+      (λ job q. (q.0, q.1, ends_then job a.seat b.seat c.seat q.0 q.1 q.2 goes)) p.0 p.2,
+)
+
+one_ended : (before after : SeatSeen) (job : Task) → Ended_by before after job → All (Ended_by before after) (job ∷ [])
+one_ended before after job p zero d less = p
+one_ended before after job p (suc k) d less = absurd (omega arith)
+
+pub one_more_ended : (a b c : Worker) (job : Task) (slip : Slip) (receipt : Option ReceiptSeen) → AllEnded a b
+    → popped_by c ≡ popped_by b ++ job ∷ [] → Goes a.seat b.seat → Goes b.seat c.seat → Ends job b.seat c.seat slip receipt
+    → AllEnded a c
+one_more_ended a b c job slip receipt p popped before goes end = (
+  p.0 ++ job ∷ [],
+  popped ∙ ap (λ jobs. jobs ++ job ∷ []) p.1 ∙ append_assoc (popped_by a) p.0 (job ∷ []),
+  All-append (Ended_by a.seat c.seat) p.0 (job ∷ [])
+      (All-weaker (Ended_by a.seat b.seat) (Ended_by a.seat c.seat)
+      (λ j q. (q.0, q.1, ends_then j a.seat b.seat c.seat q.0 q.1 q.2 goes)) p.0 p.2)
+      (one_ended a.seat c.seat job (slip, receipt, ends_on job a.seat b.seat c.seat slip receipt before end)),
+)
