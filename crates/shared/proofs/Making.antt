@@ -59,7 +59,7 @@ makes_then a b c slip e r p q = record {
 
 -- ---- refusals
 
-denied_on : (own wider : Event → Type 0) (a b c : SeatSeen) (d : Denied) → ((e : Event) → own e → wider e) → Goes a b
+pub denied_on : (own wider : Event → Type 0) (a b c : SeatSeen) (d : Denied) → ((e : Event) → own e → wider e) → Goes a b
     → IsDenied own b c d → IsDenied wider a c d
 denied_on own wider a b c d f p q = go d.refusal d.slip q
   where
@@ -75,7 +75,7 @@ denied_then own a b c d p q = go d.refusal d.slip p
     go r (Some slip) p = (p.0, p.1, p.2, p.3, makes_then a b c slip p.0 p.1 p.4 q)
 
 -- the event of a call was refused
-denied_by : (own : Event → Type 0) (e : Event) (old new : HeldSeen) (before after : SeatSeen) (d : Denied) → own e
+pub denied_by : (own : Event → Type 0) (e : Event) (old new : HeldSeen) (before after : SeatSeen) (d : Denied) → own e
     → under.IsDenied e old new before after d → IsDenied own before after d
 denied_by own e old new before after d is q = go d.refusal d.slip q
   where
