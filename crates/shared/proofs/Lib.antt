@@ -2,3 +2,4 @@ pub mod Making
 pub mod Sizes
 pub mod Ending
 pub mod Syncing
+pub mod Serving

@@ -13,7 +13,7 @@ use Rattle.pc_types.specs.declared.ids.HandleId.{HandleId}
 use Rattle.pc_types.specs.declared.ids.PageIndex.{PageIndex}
 use Rattle.pc_types.specs.declared.ids.SyncId.{SyncId}
 use Rattle.pc_types.specs.declared.kind.Kind.TheVariants.{Flush}
-use Rattle.pc_types.specs.declared.refusal.Refusal.TheVariants.{Io, Stranger, TrailFull}
+use Rattle.pc_types.specs.declared.refusal.Refusal.TheVariants.{Io, Stranger}
 use Rattle.shared.specs.Called.{Makes}
 use Rattle.shared.specs.Denials.{IsDenied}
 use Rattle.shared.specs.Polls.{Polled}
@@ -53,11 +53,10 @@ IsDropReply reply.Dropped = Unit {0}
 IsDropReply (reply.Refused why) = why ≡ Stranger
 IsDropReply r = ⊥
 
--- the seat has an entry that drops the sync. Only a full trail keeps the drop of a sync out that is in progress no longer
-abbrev pub IsDropped : SyncId → SeatSeen → SeatSeen → Denied → Type 0
-IsDropped sync before after d =
-    ((slip : Slip) × (r : Reply) × IsDropReply r × Makes before after slip (event.SyncDrop sync) r)
-    ⊎ (d ≡ record { refusal = TrailFull; slip = None })
+-- the seat has an entry that drops the sync
+abbrev pub IsDropped : SyncId → SeatSeen → SeatSeen → Type 0
+IsDropped sync before after =
+    (slip : Slip) × (r : Reply) × IsDropReply r × Makes before after slip (event.SyncDrop sync) r
 
 -- a turn of a sync that this call began was refused, and the sync dropped
 pub record GaveUp (h : HandleId) (first last : PageIndex) (before after : SeatSeen) (d : Denied) : Type 0 where
@@ -67,12 +66,13 @@ pub record GaveUp (h : HandleId) (first last : PageIndex) (before after : SeatSe
   pub began : Began h first last sync before at
   pub goes : Goes at over
   pub denied : IsDenied (IsTurnOf sync) at over d
-  pub dropped : IsDropped sync over after d
+  pub dropped : IsDropped sync over after
 
--- no sync was begun, or the one that was is given up
+-- no sync was begun, or the one that was is given up. Or another ended it, and a full trail has no room to say so
 abbrev pub IsSyncDenied : HandleId → PageIndex → PageIndex → SeatSeen → SeatSeen → Denied → Type 0
 IsSyncDenied h first last before after d =
-    IsDenied (λ e. e ≡ event.SyncBegin h first last) before after d ⊎ GaveUp h first last before after d
+    IsDenied (λ e. e ≡ event.SyncBegin h first last) before after d
+    ⊎ (GaveUp h first last before after d ⊎ (d ≡ record { refusal = Stranger; slip = None }))
 
 -- the refusal has the code that the poll answered, or else that of the step which ended the sync
 pub record Reports (failed : Option ℕ) (slip : Slip) (old new : PassSeen) (d : Denied) : Type 0 where
@@ -92,3 +92,9 @@ abbrev pub FlushFailed : HandleId → PageIndex → PageIndex → SeatSeen → S
 FlushFailed h first last before after d =
     (code : ℕ) × (slip : Slip) × Syncs h first last None before after slip
     × (d ≡ record { refusal = Io code; slip = None })
+
+-- how an fsync is refused. The pass is told of what a failed write was, and of nothing else
+abbrev pub IsFsyncDenied : HandleId → PageIndex → PageIndex → SeatSeen → SeatSeen → PassSeen → PassSeen → Denied → Type 0
+IsFsyncDenied h first last before after old new d =
+    WriteFailed h first last before after old new d
+    ⊎ ((new ≡ old) × (FlushFailed h first last before after d ⊎ IsSyncDenied h first last before after d))

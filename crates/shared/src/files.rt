@@ -14,6 +14,7 @@ ghost use Rattle.shared.specs.Polls.{Polled};
 use crate::cache::SharedCache;
 use crate::handle::{FailedWrite, Handle};
 use blockdev::BlockDevice;
+use errboard::Pass;
 use held::log::{Seat, Slip};
 use locked::denied::{Denied, without_slip};
 use locked::naming::Naming;
@@ -134,7 +135,15 @@ impl<B: Naming, D: BlockDevice, T: Trail> SharedCache<B, D, T> {
         if handle.cache != self.name {
             return Err(Refusal::BadHandle);
         }
-        Ok(self.board.poll(&mut handle.pass))
+        Ok(self.poll(&mut handle.pass))
+    }
+
+    /// What the error board answers a pass.
+    pub(crate) fn poll(&self, pass: &mut Pass) -> Option<ErrCode>
+        requires { pass.old.board ≡ B.board }
+        ensures { Polled pass.old pass.new result }
+    {
+        self.board.poll(pass)
     }
 
     /// Tells a handle of a failed write, without its code: the next `poll_error` answers that. One of another file or of another

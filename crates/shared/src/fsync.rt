@@ -4,12 +4,12 @@ ghost use Rattle.std.specs.Prelude.{◌≡◌, ◌≢◌, ◌⊎◌, Err, IfErr,
 ghost use Rattle.errboard.specs.Shown.{PassSeen};
 ghost use Rattle.machine.specs.declared.event.Event.TheVariants as event;
 ghost use Rattle.pc_types.specs.declared.limits.TheConstants.{LAST_PAGE};
-ghost use Rattle.pc_types.specs.declared.refusal.Refusal.TheVariants.{BadHandle, Stranger, TrailFull};
+ghost use Rattle.pc_types.specs.declared.refusal.Refusal.TheVariants.{BadHandle, Stranger};
 ghost use Rattle.locked.specs.Called.{Goes};
 ghost use Rattle.shared.specs.Called.{Makes};
 ghost use Rattle.shared.specs.Denials.{IsDenied};
 ghost use Rattle.shared.specs.Polls.{Polled};
-ghost use Rattle.shared.specs.Synced.{FlushFailed, IsDropped, IsSyncDenied, IsTurnOf, Reports, Syncs, WriteFailed, end_reply};
+ghost use Rattle.shared.specs.Synced.{IsDropped, IsFsyncDenied, IsSyncDenied, IsTurnOf, Reports, Syncs, end_reply};
 
 use crate::cache::SharedCache;
 use crate::handle::Handle;
@@ -46,15 +46,16 @@ impl<B: Naming, D: BlockDevice, T: Trail> SharedCache<B, D, T> {
         ensures foreign { seat.old.name ≢ self.now.name → (result ≡ Err (record { refusal = Stranger; slip = None })) × (seat.new ≡ seat.old) × (handle.new ≡ handle.old) }
         ensures closed { seat.old.name ≡ self.now.name → handle.old.cache ≢ self.now.name → (result ≡ Err (record { refusal = BadHandle; slip = None })) × (seat.new ≡ seat.old) × (handle.new ≡ handle.old) }
         ensures goes { Goes seat.old seat.new }
-        ensures same { (handle.new.cache ≡ handle.old.cache) × (handle.new.file ≡ handle.old.file) × (handle.new.number ≡ handle.old.number) × (handle.new.pass.board ≡ handle.old.pass.board) }
+        ensures same { (handle.new ≡ record handle.old { pass = handle.new.pass }) × (handle.new.pass.board ≡ handle.old.pass.board) }
         ensures clean { IfOk result (λ slip. Syncs handle.old.number (record { 0 = 0 }) (record { 0 = LAST_PAGE }) None seat.old seat.new slip × Polled handle.old.pass handle.new.pass None) }
-        ensures denied { seat.old.name ≡ self.now.name → handle.old.cache ≡ self.now.name → IfErr result (λ d. WriteFailed handle.old.number (record { 0 = 0 }) (record { 0 = LAST_PAGE }) seat.old seat.new handle.old.pass handle.new.pass d ⊎ ((handle.new ≡ handle.old) × (FlushFailed handle.old.number (record { 0 = 0 }) (record { 0 = LAST_PAGE }) seat.old seat.new d ⊎ IsSyncDenied handle.old.number (record { 0 = 0 }) (record { 0 = LAST_PAGE }) seat.old seat.new d))) }
+        ensures denied { seat.old.name ≡ self.now.name → handle.old.cache ≡ self.now.name → IfErr result (IsFsyncDenied handle.old.number (record { 0 = 0 }) (record { 0 = LAST_PAGE }) seat.old seat.new handle.old.pass handle.new.pass) }
     {
         self.fsync_range(rt, seat, handle, PageIndex(0), PageIndex(LAST_PAGE))
     }
 
     /// Writes those of the file's pages from `first` to `last` to the device that are dirty. Refused by `BadRange` where `first` is
     /// past `last`, and by `Io` as `fsync` is: also where the write that failed was of a page outside the range.
+    #[tactic(auto, using(locked::proofs::Seats::goes_same, crate::proofs::Syncing::fsync_clean, crate::proofs::Syncing::fsync_denied, crate::proofs::Syncing::flush_failed, crate::proofs::Syncing::sync_denied))]
     pub fn fsync_range<R: Wait>(
         &self,
         rt: &R,
@@ -68,9 +69,9 @@ impl<B: Naming, D: BlockDevice, T: Trail> SharedCache<B, D, T> {
         ensures foreign { seat.old.name ≢ self.now.name → (result ≡ Err (record { refusal = Stranger; slip = None })) × (seat.new ≡ seat.old) × (handle.new ≡ handle.old) }
         ensures closed { seat.old.name ≡ self.now.name → handle.old.cache ≢ self.now.name → (result ≡ Err (record { refusal = BadHandle; slip = None })) × (seat.new ≡ seat.old) × (handle.new ≡ handle.old) }
         ensures goes { Goes seat.old seat.new }
-        ensures same { (handle.new.cache ≡ handle.old.cache) × (handle.new.file ≡ handle.old.file) × (handle.new.number ≡ handle.old.number) × (handle.new.pass.board ≡ handle.old.pass.board) }
+        ensures same { (handle.new ≡ record handle.old { pass = handle.new.pass }) × (handle.new.pass.board ≡ handle.old.pass.board) }
         ensures clean { IfOk result (λ slip. Syncs handle.old.number first last None seat.old seat.new slip × Polled handle.old.pass handle.new.pass None) }
-        ensures denied { seat.old.name ≡ self.now.name → handle.old.cache ≡ self.now.name → IfErr result (λ d. WriteFailed handle.old.number first last seat.old seat.new handle.old.pass handle.new.pass d ⊎ ((handle.new ≡ handle.old) × (FlushFailed handle.old.number first last seat.old seat.new d ⊎ IsSyncDenied handle.old.number first last seat.old seat.new d))) }
+        ensures denied { seat.old.name ≡ self.now.name → handle.old.cache ≡ self.now.name → IfErr result (IsFsyncDenied handle.old.number first last seat.old seat.new handle.old.pass handle.new.pass) }
     {
         if let Err(refusal) = self.admits(seat, handle) {
             return Err(without_slip(refusal));
@@ -88,13 +89,14 @@ impl<B: Naming, D: BlockDevice, T: Trail> SharedCache<B, D, T> {
     }
 
     /// What the handle is told once the sync has ended: the code of the last write that failed, if it was not told of that.
+    #[tactic(auto, using(crate::proofs::Syncing::none_polled, crate::proofs::Syncing::reports_by))]
     fn report(&self, handle: &mut Handle, synced: Synced) -> Result<Slip, Denied>
         requires { handle.old.pass.board ≡ B.board }
-        ensures same { (handle.new.cache ≡ handle.old.cache) × (handle.new.file ≡ handle.old.file) × (handle.new.number ≡ handle.old.number) × (handle.new.pass.board ≡ handle.old.pass.board) }
+        ensures same { (handle.new ≡ record handle.old { pass = handle.new.pass }) × (handle.new.pass.board ≡ handle.old.pass.board) }
         ensures clean { IfOk result (λ slip. (slip ≡ synced.slip) × (synced.failed ≡ None) × Polled handle.old.pass handle.new.pass None) }
         ensures failed { IfErr result (Reports synced.failed synced.slip handle.old.pass handle.new.pass) }
     {
-        match self.board.poll(&mut handle.pass).or(synced.failed) {
+        match self.poll(&mut handle.pass).or(synced.failed) {
             Some(code) => Err(by(Refusal::Io(code), synced.slip)),
             None => Ok(synced.slip),
         }
@@ -146,7 +148,7 @@ impl<B: Naming, D: BlockDevice, T: Trail> SharedCache<B, D, T> {
 
     /// Makes a step of the sync. Where that begins a write it is carried out, where a page is being written or too many requests
     /// are in flight the end of one is waited for, and nothing is answered.
-    #[tactic(auto, using(locked::proofs::Seats::goes_by, locked::proofs::Seats::goes_on, locked::proofs::Seats::goes_same, crate::proofs::Making::goes_denied, crate::proofs::Syncing::step_ended, crate::proofs::Syncing::denied_step, crate::proofs::Syncing::turn_flush))]
+    #[tactic(auto, using(locked::proofs::Seats::goes_by, locked::proofs::Seats::goes_on, locked::proofs::Seats::goes_same, crate::proofs::Making::goes_denied, crate::proofs::Syncing::clean_ended, crate::proofs::Syncing::failed_ended, crate::proofs::Syncing::denied_step, crate::proofs::Syncing::turn_flush))]
     fn sync_turn<R: Wait>(
         &self,
         rt: &R,
@@ -180,8 +182,10 @@ impl<B: Naming, D: BlockDevice, T: Trail> SharedCache<B, D, T> {
             }
             SyncStepped::Clean(_) => return Ok(Some(Synced { failed: None, slip })),
             SyncStepped::Failed(code, _) => {
-                let failed = Some(code);
-                return Ok(Some(Synced { failed, slip }));
+                return Ok(Some(Synced {
+                    failed: Some(code),
+                    slip,
+                }));
             }
         };
         drop(guard);
@@ -191,14 +195,13 @@ impl<B: Naming, D: BlockDevice, T: Trail> SharedCache<B, D, T> {
         }
     }
 
-    /// Drops a sync whose turn was refused, and answers that refusal. Only where the trail has no room for the drop is it
-    /// `TrailFull`: the sync is in progress no longer then, since room is kept for the drop of each that is.
-    #[tactic(auto, using(locked::proofs::Seats::goes_by, locked::proofs::Seats::goes_on, locked::proofs::Seats::goes_same, crate::proofs::Making::goes_denied, crate::proofs::Syncing::dropped_by, crate::proofs::Syncing::dropped_refused, crate::proofs::Syncing::full_refusal))]
+    /// Drops a sync whose turn was refused, and answers that refusal. The drop has no slip only where the trail is full and the sync in
+    /// progress no longer, since room is kept for the drop of each that is: `Stranger` then, as a drop with a slip would have it.
+    #[tactic(auto, using(locked::proofs::Seats::goes_by, locked::proofs::Seats::goes_on, locked::proofs::Seats::goes_same, crate::proofs::Making::goes_denied, crate::proofs::Syncing::dropped_by, crate::proofs::Syncing::dropped_refused))]
     fn give_up<R: Wait>(&self, rt: &R, seat: &mut Seat, sync: SyncId, denied: Denied) -> Denied
         requires { seat.old.table ≡ B.table }
         ensures goes { Goes seat.old seat.new }
-        ensures dropped { IsDropped sync seat.old seat.new result }
-        ensures same { (result ≡ denied) ⊎ (result ≡ record { refusal = TrailFull; slip = None }) }
+        ensures dropped { ((result ≡ denied) × IsDropped sync seat.old seat.new) ⊎ (result ≡ record { refusal = Stranger; slip = None }) }
     {
         match self.state.lock(rt).sync_drop(seat, sync) {
             Ok(_) => denied,
@@ -206,7 +209,7 @@ impl<B: Naming, D: BlockDevice, T: Trail> SharedCache<B, D, T> {
                 if other.slip.is_some() {
                     return denied;
                 }
-                other
+                without_slip(Refusal::Stranger)
             }
         }
     }

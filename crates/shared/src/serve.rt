@@ -50,6 +50,7 @@ pub struct Unserved<D, T, P> {
 }
 
 /// Makes a cache of this name over the device, and runs the program with it and so many seats. The cache has no files.
+#[tactic(auto, using(crate::proofs::Serving::idle_first))]
 pub fn serve<R: Wait, D: BlockDevice, T: Trail, P: Program<D, T>>(
     rt: &R,
     alloc: Global,
