@@ -57,9 +57,11 @@ flush_receipt old new (Some f) (ended.Failed code b) (Some receipt) h = tt
 flush_receipt old new (Some f) (ended.Failed code b) None h = absurd h
 flush_receipt old new None (ended.Failed code b) receipt h = absurd h
 flush_receipt old new f (ended.Dropped b) None h = tt
-flush_receipt old new f (ended.Dropped b) (Some receipt) h = absurd h
+flush_receipt old new (Some f) (ended.Dropped b) (Some receipt) h = absurd h
+flush_receipt old new None (ended.Dropped b) (Some receipt) h = absurd h
 flush_receipt old new f (ended.Done b) None h = tt
-flush_receipt old new f (ended.Done b) (Some receipt) h = absurd h
+flush_receipt old new (Some f) (ended.Done b) (Some receipt) h = absurd h
+flush_receipt old new None (ended.Done b) (Some receipt) h = absurd h
 
 pub ends_on : (job : Task) (a b c : SeatSeen) (slip : Slip) (receipt : Option ReceiptSeen) → Goes a b
     → Ends job b c slip receipt → Ends job a c slip receipt
@@ -112,7 +114,7 @@ write_back_end job a b c d p q = denied_on (IsEndOf job) IsWriteBack a b c d (en
 -- ---- all jobs that a worker took
 
 -- this seat ended the job
-Ended_by : SeatSeen → SeatSeen → Task → Type 0
+abbrev Ended_by : SeatSeen → SeatSeen → Task → Type 0
 Ended_by before after job = (slip : Slip) × (receipt : Option ReceiptSeen) × Ends job before after slip receipt
 
 pub none_ended : (w : Worker) → AllEnded w w
