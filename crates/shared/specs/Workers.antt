@@ -1,9 +1,8 @@
 -- Workers, and what their turns make.
-use Rattle.std.specs.Prelude.{◌≡◌, ◌++◌, ◌∷◌, [], All, ℕ, List, Option, Some, None}
+use Rattle.std.specs.Prelude.{◌≡◌, ◌++◌, ◌∷◌, [], All, ℕ, Bool, true, false, List, is_some}
 use Rattle.atomic_table.specs.Seated.{TableId}
 use Rattle.blockdev.specs.Jobs.{Task}
 use Rattle.crossbeam_queue.specs.Passes.{view}
-use Rattle.errboard.specs.Shown.{ReceiptSeen}
 use Rattle.machine.specs.declared.event.End.{End}
 use Rattle.machine.specs.declared.event.Event.{Event}
 use Rattle.machine.specs.declared.event.Event.TheVariants as event
@@ -18,6 +17,7 @@ use Rattle.ring.specs.declared.ring.Ring.{Ring}
 use Rattle.held.specs.declared.log.Slip.{Slip}
 use Rattle.held.specs.Shown.{SeatSeen}
 use Rattle.shared.specs.Called.{Makes}
+use Rattle.shared.specs.Seen.{FailedSeen}
 use Rattle.shared.specs.declared.turns.Flushed.{Flushed}
 use Rattle.shared.specs.declared.turns.Flushed.TheVariants as flushed
 use Rattle.shared.specs.declared.worker.Worker.{Worker}
@@ -45,20 +45,22 @@ abbrev pub IsEndOf : Task → Event → Type 0
 IsEndOf job (event.End kind end) = (kind ≡ job.kind) × (end.serial.0 ≡ job.serial)
 IsEndOf job e = ⊥
 
--- the end of a flush that failed gives a receipt, and no other end does
-abbrev pub GivesReceipt : Kind → Reply → Option ReceiptSeen → Type 0
-GivesReceipt Flush (reply.Failed code) (Some receipt) = Unit {0}
-GivesReceipt Flush (reply.Failed code) None = ⊥
-GivesReceipt kind r (Some receipt) = ⊥
-GivesReceipt kind r None = Unit {0}
+-- the request was a write, and it failed
+abbrev pub fails_write : Kind → Reply → Bool
+fails_write Flush (reply.Failed code) = true
+fails_write kind r = false
 
--- the seat made the end of the job's request, at the slip's entry
-pub record Ends (job : Task) (before after : SeatSeen) (slip : Slip) (receipt : Option ReceiptSeen) : Type 0 where
+-- the seat made the end of the job's request, at the slip's entry; and whether it tells of a failed write
+pub record Ends (job : Task) (before after : SeatSeen) (slip : Slip) (told : Bool) : Type 0 where
   pub event : Event
   pub reply : Reply
   pub is_end : IsEndOf job event
   pub made : Makes before after slip event reply
-  pub receipt_is : GivesReceipt job.kind reply receipt
+  pub failed : told ≡ fails_write job.kind reply
+
+-- the failed write is one of this cache and this board
+abbrev pub IsOwnFailure : ℕ → TableId → FailedSeen → Type 0
+IsOwnFailure name board w = (w.cache ≡ name) × (w.receipt.board ≡ board)
 
 -- the seat began a write of a page, at the slip's entry, which answered a job of this serial
 abbrev pub Begins : ℕ → SeatSeen → SeatSeen → Slip → Type 0
@@ -79,11 +81,11 @@ IsFlushed old new (flushed.Pushed serial slip) =
     × (job : Task) × (job.serial ≡ serial.0) × (pushed_by new ≡ pushed_by old ++ job ∷ [])
 IsFlushed old new (flushed.Ended slip done) =
     Begins done.serial.0 old.seat new.seat slip
-    × (job : Task) × (job.serial ≡ done.serial.0) × Ends job old.seat new.seat done.slip done.receipt
+    × (job : Task) × (job.serial ≡ done.serial.0) × Ends job old.seat new.seat done.slip (is_some done.failed)
     × (pushed_by new ≡ pushed_by old)
 
 -- each job that it took from the ring in between was ended by it
 abbrev pub AllEnded : Worker → Worker → Type 0
 AllEnded old new =
     (jobs : List Task) × (popped_by new ≡ popped_by old ++ jobs)
-    × All (λ job. (slip : Slip) × (receipt : Option ReceiptSeen) × Ends job old.seat new.seat slip receipt) jobs
+    × All (λ job. (slip : Slip) × (told : Bool) × Ends job old.seat new.seat slip told) jobs
