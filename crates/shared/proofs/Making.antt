@@ -15,7 +15,7 @@ use Rattle.pc_types.specs.declared.ids.HandleId.{HandleId}
 use Rattle.pc_types.specs.declared.ids.PageIndex.{PageIndex}
 use Rattle.pc_types.specs.declared.kind.Kind.TheVariants.{Fill, Flush}
 use Rattle.pc_types.specs.declared.refusal.Refusal.{Refusal}
-use Rattle.pc_types.specs.declared.refusal.Refusal.TheVariants.{Io}
+use Rattle.pc_types.specs.declared.refusal.Refusal.TheVariants.{Io, TrailFull}
 use Rattle.trail.specs.Entries.{entry_of}
 use Rattle.held.specs.declared.log.Slip.{Slip}
 use Rattle.held.specs.Entered.{Made}
@@ -185,8 +185,11 @@ pub retries_denied : (e : Event) (old new : HeldSeen) (a b c : SeatSeen) (d : De
     → under.IsDenied e old new a b d → Goes b c → Retries a c e
 retries_denied e old new a b c d later q goes = go d.refusal d.slip later q
   where
+    never : is_for_now TrailFull ≡ true → Retries a c e
+    never x = absurd cc
+
     go : (r : Refusal) (o : Option Slip) → is_for_now r ≡ true → under.DeniedBy e old new a b r o → Retries a c e
-    go r None later q = absurd (subst (λ (x : Refusal). is_for_now x ≡ true) q.0 later)
+    go r None later q = never (subst (λ (x : Refusal). is_for_now x ≡ true) q.0 later)
     go r (Some slip) later q = retries_by e (reply.Refused r) old new a b c slip later q goes
 
 -- what is answered was answered by the event, refusals too

@@ -1,6 +1,7 @@
 -- How far reads and writes go: no file is longer than the limit.
 use Rattle.std.proofs.Common.{◌≡◌, ℕ, ◌+◌, ◌≤◌, List, [], ◌∷◌, length, sym, subst, ap, ◌∙◌, arith}
-use Rattle.std.specs.Prelude.{map}
+use Rattle.std.specs.Prelude.{Ok, map}
+use Rattle.cachecore.specs.Replies.{wrote}
 use Rattle.cachecore.specs.declared.answers.WriteAnswer.{WriteAnswer}
 use Rattle.cachecore.specs.declared.answers.WriteAnswer.TheVariants as answer
 use Rattle.filesvc.proofs.CallSteps.{appended_all, read_small, wrote_all}
@@ -19,8 +20,8 @@ use Rattle.pc_types.specs.Limits.{Sizes}
 use Rattle.pc_types.specs.declared.ids.HandleId.{HandleId}
 use Rattle.pc_types.specs.declared.limits.TheConstants.{MAX_FILE_SIZE}
 use Rattle.trail.specs.History.{After, seatless}
-use Rattle.shared.specs.Changes.{IsWholeIn, reply_of}
-use Rattle.shared.specs.declared.writes.Change.TheVariants.{Append, Truncate, Write}
+use Rattle.shared.specs.Changes.{IsWholeIn}
+use Rattle.shared.specs.declared.writes.Change.TheVariants.{Append, Write}
 
 leads_bounded : (old : State) (es : List (Event × Reply)) (new : State) → AreBounded old → machine.Leads old es new
     → AreBounded new
@@ -43,7 +44,7 @@ read_within h o n bytes old new before after slip legal m =
     read_small old.core.state new.core.state h o n bytes (bounded_after old legal) m.step
 
 pub whole_write : (h : HandleId) (at : ℕ) (bytes : List ℕ) (a : WriteAnswer) (old new : HeldSeen) (before after : SeatSeen)
-    (slip : Slip) → Made (event.Write h at bytes) (reply_of (Write at) a) old new before after slip
+    (slip : Slip) → Made (event.Write h at bytes) (wrote (Ok a)) old new before after slip
     → IsWholeIn (Write at) bytes a
 whole_write h at bytes (answer.Wrote count end) old new before after slip m =
     let w = wrote_all old.core.state new.core.state h at bytes (record { count = count; end = end }) m.step in
@@ -53,7 +54,7 @@ whole_write h at bytes (answer.Miss p) old new before after slip m = tt
 
 pub whole_append : (h : HandleId) (bytes : List ℕ) (a : WriteAnswer) (old new : HeldSeen) (before after : SeatSeen)
     (slip : Slip) → After old.core.state.sizes old.core.state.name old.log.history old.core.state
-    → Made (event.Append h bytes) (reply_of Append a) old new before after slip → IsWholeIn Append bytes a
+    → Made (event.Append h bytes) (wrote (Ok a)) old new before after slip → IsWholeIn Append bytes a
 whole_append h bytes (answer.Wrote count end) old new before after slip legal m =
     let w = appended_all old.core.state new.core.state h bytes (record { count = count; end = end }) m.step in
     (w.count, w.small (bounded_after old legal (handle_file old.core.state h.0)))

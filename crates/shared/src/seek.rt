@@ -3,7 +3,8 @@
 ghost use Rattle.std.specs.Prelude.{◌≡◌, ◌≢◌, Err, None};
 ghost use Rattle.pc_types.specs.declared.refusal.Refusal.TheVariants.{BadHandle, Stranger};
 ghost use Rattle.locked.specs.Called.{Goes};
-ghost use Rattle.shared.specs.Seeks.{Seeks, place_after};
+ghost use Rattle.filesvc.specs.Service.{placed, target};
+ghost use Rattle.shared.specs.Seeks.{Seeks, place_after, with_slip};
 
 use crate::cache::SharedCache;
 use crate::handle::Handle;
@@ -36,19 +37,31 @@ impl<B: Naming, D: BlockDevice, T: Trail> SharedCache<B, D, T> {
         if let Err(refusal) = self.admits(seat, handle) {
             return Err(without_slip(refusal));
         }
-        let (size, slip) = match place {
+        match place {
             Seek::End(_) => match self.state.lock(rt).size(seat, handle.number) {
-                Ok((size, slip)) => (size, Some(slip)),
-                Err(denied) => return Err(denied),
+                Ok((size, slip)) => put(handle, place, size, Some(slip)),
+                Err(denied) => Err(denied),
             },
-            _ => (0, None),
-        };
-        match place.offset(handle.cursor, size) {
-            Ok(at) => {
-                handle.cursor = at;
-                Ok((at, slip))
-            }
-            Err(refusal) => Err(Denied { refusal, slip }),
+            _ => put(handle, place, 0, None),
         }
+    }
+}
+
+/// Puts the cursor at a place of a file of this size.
+fn put(
+    handle: &mut Handle,
+    place: Seek,
+    size: u64,
+    slip: Option<Slip>,
+) -> Result<(u64, Option<Slip>), Denied>
+    ensures at { result ≡ with_slip slip (placed (target place handle.old.cursor size)) }
+    ensures cursor { handle.new ≡ record handle.old { cursor = place_after handle.old.cursor result } }
+{
+    match place.offset(handle.cursor, size) {
+        Ok(at) => {
+            handle.cursor = at;
+            Ok((at, slip))
+        }
+        Err(refusal) => Err(Denied { refusal, slip }),
     }
 }

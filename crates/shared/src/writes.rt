@@ -229,6 +229,7 @@ impl<B: Naming, D: BlockDevice, T: Trail> SharedCache<B, D, T> {
 }
 
 /// Makes the event of a change.
+#[tactic(auto, using(crate::proofs::Sizes::whole_write))]
 fn change_by<B: Naming, T: Trail>(
     state: &mut Locked<B, T>,
     seat: &mut Seat,

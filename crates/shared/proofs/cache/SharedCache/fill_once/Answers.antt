@@ -1,9 +1,10 @@
 use Rattle.std.proofs.Common.{◌≡◌, subst, sym}
 use Rattle.std.proofs.lemmas.Result.{IfErr-weaker}
+use Rattle.machine.specs.declared.event.Event.TheVariants as event
 use Rattle.locked.proofs.Seats.{goes_by}
 use Rattle.shared.specs.Denials.{IsDenied}
 use Rattle.shared.specs.Own.{IsHelp}
-use Rattle.shared.proofs.Making.{denied_begin, help_on}
+use Rattle.shared.proofs.Making.{denied_begin, goes_denied, help_on}
 use Rattle.shared.proofs.cache.SharedCache.fill_once.Goals as goal
 
 pub returns-in-Job-clause-denied : goal.returns-in-Job-clause-denied
@@ -18,4 +19,9 @@ returns-in-Err-fill_begin-clause-denied g c = IfErr-weaker c.wait_or.result (λ 
     (IsDenied (IsHelp c.args.handle) c.args.seat.now c.fill_begin.new.seat)
     (λ d e. subst (IsDenied (IsHelp c.args.handle) c.args.seat.now c.fill_begin.new.seat) (sym e)
     (denied_begin c.args.handle c.args.page c.deref_mut.result.now c.fill_begin.new.self c.args.seat.now
-    c.fill_begin.new.seat c.in-Err-fill_begin.denied c.in-Err-fill_begin.ensures.denied)) c.wait_or.ensures
+    c.fill_begin.new.seat c.in-Err-fill_begin.denied c.in-Err-fill_begin.ensures.denied)) c.wait_or.ensures.denied
+
+pub returns-in-Err-fill_begin-clause-goes : goal.returns-in-Err-fill_begin-clause-goes
+returns-in-Err-fill_begin-clause-goes g c =
+    goes_denied (event.FillBegin c.args.handle c.args.page) c.deref_mut.result.now c.fill_begin.new.self
+    c.args.seat.now c.fill_begin.new.seat c.in-Err-fill_begin.denied c.in-Err-fill_begin.ensures.denied
