@@ -1,5 +1,5 @@
 -- Workers, and what their turns make.
-use Rattle.std.specs.Prelude.{◌≡◌, ◌++◌, ◌∷◌, [], All, ℕ, Bool, true, false, List, is_some}
+use Rattle.std.specs.Prelude.{◌≡◌, ◌++◌, ◌∷◌, [], All, ℕ, Bool, true, false, List, IfSome, is_some}
 use Rattle.atomic_table.specs.Seated.{TableId}
 use Rattle.blockdev.specs.Jobs.{Task}
 use Rattle.crossbeam_queue.specs.Passes.{view}
@@ -83,6 +83,11 @@ IsFlushed old new (flushed.Ended slip done) =
     Begins done.serial.0 old.seat new.seat slip
     × (job : Task) × (job.serial ≡ done.serial.0) × Ends job old.seat new.seat done.slip (is_some done.failed)
     × (pushed_by new ≡ pushed_by old)
+
+-- a failed write that the turn tells of is one of this cache and this board
+abbrev pub FailsOwn : ℕ → TableId → Flushed → Type 0
+FailsOwn name board (flushed.Ended slip done) = IfSome done.failed (IsOwnFailure name board)
+FailsOwn name board f = Unit {0}
 
 -- each job that it took from the ring in between was ended by it
 abbrev pub AllEnded : Worker → Worker → Type 0

@@ -52,7 +52,7 @@ impl<B: Naming, D: BlockDevice, T: Trail> SharedCache<B, D, T> {
             mut own,
             work,
         } = self;
-        drain(rt, &ring, &disk, &state, &mut own);
+        drain(rt, &ring, &disk, &state, name, &mut own);
         let Worker { seat, pass } = own;
         match state.into_inner().close(seats, seat) {
             Ok((trail, core)) => Ok((trail, core, disk.into_inner().into_device())),
@@ -83,6 +83,7 @@ fn drain<B: Naming, D: BlockDevice, T: Trail, R: Wait>(
     ring: &Ring,
     disk: &Mutex<Disk<B, D>>,
     state: &Mutex<Locked<B, T>>,
+    name: u64,
     own: &mut Worker,
 ) -> bool
     requires worker { IsWorkerOf ring.now B.name B.table B.sizes own.old }
@@ -96,7 +97,7 @@ fn drain<B: Naming, D: BlockDevice, T: Trail, R: Wait>(
         let Some(job) = ring.pop(rt, &mut own.pass) else {
             return are_ended;
         };
-        if carry_through(rt, disk, state, &mut own.seat, job).is_err() {
+        if carry_through(rt, disk, state, name, &mut own.seat, job).is_err() {
             are_ended = false;
         }
     }

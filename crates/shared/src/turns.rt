@@ -1,10 +1,10 @@
 //! The turns of workers.
 
-ghost use Rattle.std.specs.Prelude.{◌≡◌, ◌++◌, ◌∷◌, [], IfErr, IfNone, IfOk, IfSome};
+ghost use Rattle.std.specs.Prelude.{◌≡◌, ◌++◌, ◌∷◌, [], IfErr, IfNone, IfOk, IfSome, is_some};
 ghost use Rattle.blockdev.specs.Jobs.{IsJobFor, Task};
 ghost use Rattle.locked.specs.Called.{Goes};
 ghost use Rattle.shared.specs.Denials.{IsDenied};
-ghost use Rattle.shared.specs.Workers.{Begins, Ends, IsEndOf, IsFlushed, IsWorkerOf, IsWriteBack, popped_by, pushed_by, seat_of};
+ghost use Rattle.shared.specs.Workers.{Begins, Ends, IsEndOf, FailsOwn, IsFlushed, IsOwnFailure, IsWorkerOf, IsWriteBack, popped_by, pushed_by, seat_of};
 
 use crate::cache::SharedCache;
 use crate::ends::{Done, carry_through};
@@ -43,7 +43,7 @@ impl<B: Naming, D: BlockDevice, T: Trail> SharedCache<B, D, T> {
         ensures goes { Goes (seat_of worker.old) (seat_of worker.new) }
         ensures pushed { pushed_by worker.new ≡ pushed_by worker.old }
         ensures idle { IfOk result (λ o. IfNone o ((seat_of worker.new ≡ seat_of worker.old) × (popped_by worker.new ≡ popped_by worker.old))) }
-        ensures ended { IfOk result (λ o. IfSome o (λ d. (job : Task) × (popped_by worker.new ≡ popped_by worker.old ++ job ∷ []) × (d.serial.0 ≡ job.serial) × Ends job (seat_of worker.old) (seat_of worker.new) d.slip d.receipt)) }
+        ensures ended { IfOk result (λ o. IfSome o (λ d. (job : Task) × (popped_by worker.new ≡ popped_by worker.old ++ job ∷ []) × (d.serial.0 ≡ job.serial) × Ends job (seat_of worker.old) (seat_of worker.new) d.slip (is_some d.failed) × IfSome d.failed (IsOwnFailure self.now.name B.board))) }
         ensures denied { IfErr result (λ d. (job : Task) × (popped_by worker.new ≡ popped_by worker.old ++ job ∷ []) × IsDenied (IsEndOf job) (seat_of worker.old) (seat_of worker.new) d) }
     {
         let Some(job) = self.ring.pop(rt, &mut worker.pass) else {
@@ -70,6 +70,7 @@ impl<B: Naming, D: BlockDevice, T: Trail> SharedCache<B, D, T> {
         ensures goes { Goes (seat_of worker.old) (seat_of worker.new) }
         ensures popped { popped_by worker.new ≡ popped_by worker.old }
         ensures done { IfOk result (IsFlushed worker.old worker.new) }
+        ensures failed { IfOk result (λ f. FailsOwn self.now.name B.board f) }
         ensures denied { IfErr result (λ d. (pushed_by worker.new ≡ pushed_by worker.old) × IsDenied IsWriteBack (seat_of worker.old) (seat_of worker.new) d) }
     {
         let (job, slip) = match self.begin_flush(rt, &mut worker.seat) {
@@ -110,10 +111,11 @@ impl<B: Naming, D: BlockDevice, T: Trail> SharedCache<B, D, T> {
         requires seat { seat.old.table ≡ B.table }
         requires fits { IsJobFor B.name B.sizes.blocks B.sizes.page job }
         ensures goes { Goes seat.old seat.new }
-        ensures ended { IfOk result (λ d. (d.serial.0 ≡ job.serial) × Ends job seat.old seat.new d.slip d.receipt) }
+        ensures ended { IfOk result (λ d. (d.serial.0 ≡ job.serial) × Ends job seat.old seat.new d.slip (is_some d.failed)) }
+        ensures failed { IfOk result (λ d. IfSome d.failed (IsOwnFailure self.now.name B.board)) }
         ensures denied { IfErr result (IsDenied (IsEndOf job) seat.old seat.new) }
     {
-        let ended = carry_through(rt, &self.disk, &self.state, seat, job);
+        let ended = carry_through(rt, &self.disk, &self.state, self.name, seat, job);
         self.has_ended(rt);
         ended
     }

@@ -1,5 +1,5 @@
 use Rattle.std.proofs.Common.{◌≡◌, ◌∙◌, subst, sym}
-use Rattle.std.specs.Prelude.{None, Ok}
+use Rattle.std.specs.Prelude.{false, is_some, Ok}
 use Rattle.cachecore.specs.Replies.{end_of, fill_ended, flush_ended}
 use Rattle.machine.specs.declared.event.Event.TheVariants as event
 use Rattle.machine.specs.declared.event.Reply.{Reply}
@@ -8,8 +8,8 @@ use Rattle.pc_types.specs.declared.kind.Kind.TheVariants.{Fill, Flush}
 use Rattle.locked.proofs.Seats.{goes_by}
 use Rattle.shared.specs.Called.{Makes}
 use Rattle.shared.specs.Denials.{IsDenied}
-use Rattle.shared.specs.Workers.{GivesReceipt}
-use Rattle.shared.proofs.Ending.{fill_receipt, flush_receipt}
+use Rattle.shared.specs.Workers.{fails_write}
+use Rattle.shared.proofs.Ending.{fill_told, flush_told}
 use Rattle.shared.proofs.Making.{denied_event, goes_denied, makes_by}
 use Rattle.shared.proofs.ends.end.Goals as goal
 
@@ -19,8 +19,8 @@ returns-in-Ok-clause-goes g c = goes_by _ _ _ _ _ _ _ c.in-Ok.ensures.made
 pub returns-in-Ok-clause-made : goal.returns-in-Ok-clause-made
 returns-in-Ok-clause-made g c =
     subst (λ (kind : Kind). (r : Reply) × Makes c.args.seat.now c.fill_end.new.seat c.in-Ok.slip
-    (event.End kind (end_of c.args.finished)) r × GivesReceipt kind r None) (sym (sym c.kind.ensures ∙ c.in-Fill.is))
-    (fill_ended (Ok c.in-Ok.field-0-0), makes_by _ _ _ _ _ _ _ c.in-Ok.ensures.made, fill_receipt c.in-Ok.field-0-0)
+    (event.End kind (end_of c.args.finished)) r × (false ≡ fails_write kind r)) (sym (sym c.kind.ensures ∙ c.in-Fill.is))
+    (fill_ended (Ok c.in-Ok.field-0-0), makes_by _ _ _ _ _ _ _ c.in-Ok.ensures.made, fill_told c.in-Ok.field-0-0)
 
 pub returns-in-Fill-clause-goes : goal.returns-in-Fill-clause-goes
 returns-in-Fill-clause-goes g c = goes_denied (event.End Fill (end_of c.args.finished)) c.args.state.now
@@ -39,10 +39,12 @@ returns-in-Ok-flush_end-clause-goes g c = goes_by _ _ _ _ _ _ _ c.in-Ok-flush_en
 pub returns-in-Ok-flush_end-clause-made : goal.returns-in-Ok-flush_end-clause-made
 returns-in-Ok-flush_end-clause-made g c =
     subst (λ (kind : Kind). (r : Reply) × Makes c.args.seat.now c.flush_end.new.seat c.in-Ok-flush_end.slip
-    (event.End kind (end_of c.args.finished)) r × GivesReceipt kind r c.in-Ok-flush_end.receipt)
-    (sym (sym c.kind.ensures ∙ c.in-Flush.is))
-    (flush_ended (Ok c.in-Ok-flush_end.field-0-0), makes_by _ _ _ _ _ _ _ c.in-Ok-flush_end.ensures.made,
-    flush_receipt _ _ _ c.in-Ok-flush_end.field-0-0 c.in-Ok-flush_end.receipt c.in-Ok-flush_end.ensures.receipt)
+    (event.End kind (end_of c.args.finished)) r × (is_some c.in-Ok-flush_end.receipt ≡ fails_write kind r))
+    (sym (sym c.kind.ensures ∙ c.in-Flush.is)) (
+      flush_ended (Ok c.in-Ok-flush_end.field-0-0),
+      makes_by _ _ _ _ _ _ _ c.in-Ok-flush_end.ensures.made,
+      flush_told _ _ _ c.in-Ok-flush_end.field-0-0 c.in-Ok-flush_end.receipt c.in-Ok-flush_end.ensures.receipt,
+    )
 
 pub returns-clause-goes : goal.returns-clause-goes
 returns-clause-goes g c = goes_denied (event.End Flush (end_of c.args.finished)) c.args.state.now c.flush_end.new.self

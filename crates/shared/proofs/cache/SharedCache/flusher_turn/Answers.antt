@@ -1,4 +1,5 @@
 use Rattle.std.proofs.Common.{ap, subst, sym, ◌∙◌}
+use Rattle.std.specs.Prelude.{is_some}
 use Rattle.blockdev.specs.Jobs.{IsJobFor, Task}
 use Rattle.ring.specs.declared.log.Log.{Log}
 use Rattle.shared.specs.Workers.{Begins}
@@ -19,6 +20,6 @@ returns-in-Ok-clause-done g c = (
   c.in-Err-push.job,
   sym c.in-Ok.ensures.ended.0,
   ends_on c.in-Err-push.job c.args.worker.now.seat c.begin_flush.new.seat c.end_job.new.seat c.in-Ok.done.slip
-      c.in-Ok.done.receipt c.begin_flush.ensures.goes c.in-Ok.ensures.ended.1,
+      (is_some c.in-Ok.done.failed) c.begin_flush.ensures.goes c.in-Ok.ensures.ended.1,
   ap (λ (v : Log). v.pushed) c.in-Err-push.ensures.answer.1,
 )
