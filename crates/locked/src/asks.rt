@@ -5,10 +5,12 @@ ghost use Rattle.cachecore.specs.Replies.{sized};
 ghost use Rattle.cachecore.specs.Wants.{lacks_frames, passes_limit};
 ghost use Rattle.machine.specs.Tests.{tests};
 ghost use Rattle.machine.specs.declared.event.Event.TheVariants as event;
+ghost use Rattle.trail.specs.History.{After};
 ghost use Rattle.locked.specs.Flights.{is_busy};
 
 use crate::naming::Naming;
 use crate::state::Locked;
+use cachecore::CacheCore;
 use pc_types::{FileId, HandleId, PageIndex, Refusal};
 use trail::Trail;
 
@@ -34,6 +36,14 @@ impl<B: Naming, T: Trail> Locked<B, T> {
         ensures { result ≡ passes_limit self.now.core.state handle.0 offset count }
     {
         self.held.core().passes_limit(handle, offset, count)
+    }
+
+    /// The core, to be read.
+    pub fn core(&self) -> &CacheCore
+        ensures core { result.now ≡ self.now.core }
+        ensures legal { After self.now.core.state.sizes self.now.core.state.name self.now.log.history self.now.core.state }
+    {
+        self.held.core()
     }
 
     /// Whether there is such a file.

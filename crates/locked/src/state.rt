@@ -1,23 +1,27 @@
 //! The state of a shared cache, as it lies under its lock.
 
-ghost use Rattle.std.specs.Prelude.{◌≡◌, IfErr, IfOk, Ok, drop, length, ◌≤◌};
+ghost use Rattle.std.specs.Prelude.{◌≡◌, ◌≢◌, ◌↔◌, ◌⊎◌, ◌+◌, ◌≤◌, All, Any, IfErr, IfOk, IsErr, Ok, OnOk, Some, drop, length, vec_len};
+ghost use mathlib.Core.List.{IsPrefix};
 ghost use Rattle.std.specs.FinMap as map;
 ghost use Rattle.cachecore.specs.Replies.{bytes_read, was_read, wrote};
 ghost use Rattle.held.specs.Calls.{ByLists, event_of, reply_of};
 ghost use Rattle.held.specs.Entered.{Made};
+ghost use Rattle.held.specs.Views.{count_of};
 ghost use Rattle.machine.specs.declared.event.Event.TheVariants as event;
+ghost use Rattle.pc_types.specs.declared.refusal.Refusal.TheVariants.{Stranger};
+ghost use Rattle.trail.specs.History.{After};
 ghost use Rattle.locked.specs.Denials.{IsDenied};
 ghost use Rattle.locked.specs.Done.{IsDone};
 ghost use Rattle.locked.specs.Keeps.{IsLocked};
 
 use crate::denied::{Denied, by, without_slip};
 use crate::naming::Naming;
-use cachecore::{ReadAnswer, WriteAnswer};
+use cachecore::{CacheCore, ReadAnswer, WriteAnswer};
 use errboard::Pass;
 use held::call::{Answer, Call};
 use held::log::{Seat, Slip};
 use held::state::Held;
-use pc_types::HandleId;
+use pc_types::{HandleId, Refusal};
 use std::marker::{Model, PhantomData};
 use trail::Trail;
 
@@ -69,6 +73,38 @@ impl<B: Naming, T: Trail> Locked<B, T> {
         ensures locked { IsLocked B.name B.table B.board B.sizes result }
     {
         self.held
+    }
+
+    /// The trail and the core, if all seats come back, the cache's own beside the others. Refused by `Stranger` if one is missing
+    /// or of a cache of another name; all come back then, as they were.
+    pub fn close(
+        self,
+        seats: Vec<Seat>,
+        own: Seat,
+    ) -> Result<(T, CacheCore), (Refusal, Locked<B, T>, Vec<Seat>, Seat)>
+        requires came { All (λ s. s.name ≡ self.log.name → s.table ≡ self.log.table) seats.items }
+        requires own { own.name ≡ self.log.name → own.table ≡ self.log.table }
+        ensures refused { IsErr result ↔ ((vec_len seats + 1 ≢ self.log.made) ⊎ Any (λ s. s.name ≢ self.log.name) seats.items ⊎ (own.name ≢ self.log.name)) }
+        ensures err { IfErr result (λ e. (e.0 ≡ Stranger) × (e.1 ≡ self) × (e.2 ≡ seats) × (e.3 ≡ own)) }
+        ensures trail { IfOk result (λ r. T.records r.0 self.log.history × (r.1 ≡ self.core) × After r.1.state.sizes r.1.state.name self.log.history r.1.state) }
+        ensures cache { IfOk result (λ r. T.cache r.0 ≡ Some self.log.name) }
+        ensures seats { OnOk result (All (λ s. IsPrefix s.list self.log.history × (s.count ≡ count_of s.number self.log.history)) seats.items) }
+        ensures own { OnOk result (IsPrefix own.list self.log.history × (own.count ≡ count_of own.number self.log.history)) }
+    {
+        let Locked {
+            held, in_flight, ..
+        } = self;
+        match held.close(seats, own) {
+            Ok(parts) => Ok(parts),
+            Err((refusal, held, seats, own)) => {
+                let again = Locked {
+                    held,
+                    in_flight,
+                    of: PhantomData,
+                };
+                Err((refusal, again, seats, own))
+            }
+        }
     }
 
     /// Makes an event that has no bytes and begins no request.

@@ -1,5 +1,5 @@
 -- What the events of a call say of its seat, from its begin to its end.
-use Rattle.std.proofs.Common.{◌≡◌, ℕ, List, [], ◌∷◌, ◌++◌, refl, sym, subst, ◌∙◌, inl, inr}
+use Rattle.std.proofs.Common.{◌≡◌, true, ℕ, List, [], ◌∷◌, ◌++◌, refl, sym, subst, ◌∙◌, inl, inr}
 use Rattle.std.specs.Prelude.{IfErr, Ok, Option, Result, Some, None}
 use Rattle.std.proofs.lemmas.Result.{IfErr-weaker}
 use mathlib.Core.List.{IsPrefix}
@@ -25,9 +25,9 @@ use Rattle.locked.specs.Denials as under
 use Rattle.locked.specs.Firsts.{IsFirstDenied}
 use Rattle.locked.specs.declared.denied.Denied.{Denied}
 use Rattle.locked.proofs.Seats.{goes_by, goes_same}
-use Rattle.shared.specs.Called.{Makes}
+use Rattle.shared.specs.Called.{IsForLater, Makes, Retries, is_for_now}
 use Rattle.shared.specs.Denials.{DeniedBy, IsDenied}
-use Rattle.shared.specs.Own.{IsHelp, IsReadOf, IsRoomEvent, IsStillDenied, IsWriteOf}
+use Rattle.shared.specs.Own.{IsCallOf, IsHelp, IsRoomEvent, IsStillDenied}
 
 -- ---- what was made
 
@@ -59,7 +59,7 @@ makes_then a b c slip e r p q = record {
 
 -- ---- refusals
 
-denied_on : (own wider : Event → Type 0) (a b c : SeatSeen) (d : Denied) → ((e : Event) → own e → wider e) → Goes a b
+pub denied_on : (own wider : Event → Type 0) (a b c : SeatSeen) (d : Denied) → ((e : Event) → own e → wider e) → Goes a b
     → IsDenied own b c d → IsDenied wider a c d
 denied_on own wider a b c d f p q = go d.refusal d.slip q
   where
@@ -75,7 +75,7 @@ denied_then own a b c d p q = go d.refusal d.slip p
     go r (Some slip) p = (p.0, p.1, p.2, p.3, makes_then a b c slip p.0 p.1 p.4 q)
 
 -- the event of a call was refused
-denied_by : (own : Event → Type 0) (e : Event) (old new : HeldSeen) (before after : SeatSeen) (d : Denied) → own e
+pub denied_by : (own : Event → Type 0) (e : Event) (old new : HeldSeen) (before after : SeatSeen) (d : Denied) → own e
     → under.IsDenied e old new before after d → IsDenied own before after d
 denied_by own e old new before after d is q = go d.refusal d.slip q
   where
@@ -152,54 +152,42 @@ help_room h a b d q = denied_on IsRoomEvent (IsHelp h) a a b d (room_helps h) (g
 pub help_on : (h : HandleId) (a b c : SeatSeen) (d : Denied) → Goes a b → IsDenied (IsHelp h) b c d → IsDenied (IsHelp h) a c d
 help_on h a b c d p q = denied_on (IsHelp h) (IsHelp h) a b c d (λ e x. x) p q
 
-help_reads : (h : HandleId) (o n : ℕ) (e : Event) → IsHelp h e → IsReadOf h o n e
-help_reads h o n (event.FillBegin g p) x = x
-help_reads h o n (event.End kind end) x = x
-help_reads h o n (event.FlushBegin f) x = x
-help_reads h o n event.Evict x = x
-help_reads h o n event.Age x = x
-help_reads h o n e x = absurd x
+-- the call's own event was refused
+pub call_first : (h : HandleId) (own : Event) (old new : HeldSeen) (before after : SeatSeen) (d : Denied)
+    → under.IsDenied own old new before after d → IsDenied (IsCallOf h own) before after d
+call_first h own old new before after d q = denied_by (IsCallOf h own) own old new before after d (inl refl) q
 
-pub read_first : (h : HandleId) (o n : ℕ) (old new : HeldSeen) (before after : SeatSeen) (d : Denied)
-    → under.IsDenied (event.Read h o n) old new before after d → IsDenied (IsReadOf h o n) before after d
-read_first h o n old new before after d q =
-    denied_by (IsReadOf h o n) (event.Read h o n) old new before after d (refl, refl, refl) q
+pub call_help : (h : HandleId) (own : Event) (a b c : SeatSeen) (d : Denied) → Goes a b → IsDenied (IsHelp h) b c d
+    → IsDenied (IsCallOf h own) a c d
+call_help h own a b c d p q = denied_on (IsHelp h) (IsCallOf h own) a b c d (λ e x. inr x) p q
 
-pub read_help : (h : HandleId) (o n : ℕ) (a b c : SeatSeen) (d : Denied) → Goes a b → IsDenied (IsHelp h) b c d
-    → IsDenied (IsReadOf h o n) a c d
-read_help h o n a b c d p q = denied_on (IsHelp h) (IsReadOf h o n) a b c d (help_reads h o n) p q
+pub call_on : (h : HandleId) (own : Event) (a b c : SeatSeen) (d : Denied) → Goes a b → IsDenied (IsCallOf h own) b c d
+    → IsDenied (IsCallOf h own) a c d
+call_on h own a b c d p q = denied_on (IsCallOf h own) (IsCallOf h own) a b c d (λ e x. x) p q
 
-pub read_on : (h : HandleId) (o n : ℕ) (a b c : SeatSeen) (d : Denied) → Goes a b → IsDenied (IsReadOf h o n) b c d
-    → IsDenied (IsReadOf h o n) a c d
-read_on h o n a b c d p q = denied_on (IsReadOf h o n) (IsReadOf h o n) a b c d (λ e x. x) p q
+-- an event that was refused, and what came of it
+pub call_settled : (h : HandleId) (own : Event) (old new : HeldSeen) (a b c : SeatSeen) (first d : Denied)
+    → under.IsDenied own old new a b first → Goes b c → IsStillDenied first b c d → IsDenied (IsCallOf h own) a c d
+call_settled h own old new a b c first d q goes (inl same) =
+    subst (IsDenied (IsCallOf h own) a c) (sym same)
+    (denied_then (IsCallOf h own) a b c first (call_first h own old new a b first q) goes)
+call_settled h own old new a b c first d q goes (inr room) =
+    denied_on IsRoomEvent (IsCallOf h own) a b c d (λ e x. inr (room_helps h e x)) (under_goes own old new a b first q) room
 
-help_writes : (h : HandleId) (o : ℕ) (bytes : List ℕ) (e : Event) → IsHelp h e → IsWriteOf h o bytes e
-help_writes h o bytes (event.FillBegin g p) x = x
-help_writes h o bytes (event.End kind end) x = x
-help_writes h o bytes (event.FlushBegin f) x = x
-help_writes h o bytes event.Evict x = x
-help_writes h o bytes event.Age x = x
-help_writes h o bytes e x = absurd x
+-- ---- an attempt that is to be made again
 
-pub write_help : (h : HandleId) (o : ℕ) (bytes : List ℕ) (a b c : SeatSeen) (d : Denied) → Goes a b
-    → IsDenied (IsHelp h) b c d → IsDenied (IsWriteOf h o bytes) a c d
-write_help h o bytes a b c d p q = denied_on (IsHelp h) (IsWriteOf h o bytes) a b c d (help_writes h o bytes) p q
+pub retries_by : (e : Event) (r : Reply) (old new : HeldSeen) (a b c : SeatSeen) (slip : Slip) → IsForLater r
+    → Made e r old new a b slip → Goes b c → Retries a c e
+retries_by e r old new a b c slip later m goes =
+    (slip, r, later, makes_then a b c slip e r (makes_by e r old new a b slip m) goes)
 
-pub write_on : (h : HandleId) (o : ℕ) (bytes : List ℕ) (a b c : SeatSeen) (d : Denied) → Goes a b
-    → IsDenied (IsWriteOf h o bytes) b c d → IsDenied (IsWriteOf h o bytes) a c d
-write_on h o bytes a b c d p q = denied_on (IsWriteOf h o bytes) (IsWriteOf h o bytes) a b c d (λ e x. x) p q
-
--- a write that was refused, and what came of it
-pub write_settled : (h : HandleId) (o : ℕ) (bytes : List ℕ) (old new : HeldSeen) (a b c : SeatSeen) (first d : Denied)
-    → under.IsDenied (event.Write h o bytes) old new a b first → Goes b c → IsStillDenied first b c d
-    → IsDenied (IsWriteOf h o bytes) a c d
-write_settled h o bytes old new a b c first d q goes (inl same) =
-    subst (IsDenied (IsWriteOf h o bytes) a c) (sym same)
-    (denied_then (IsWriteOf h o bytes) a b c first
-    (denied_by (IsWriteOf h o bytes) (event.Write h o bytes) old new a b first (refl, refl, refl) q) goes)
-write_settled h o bytes old new a b c first d q goes (inr room) =
-    denied_on IsRoomEvent (IsWriteOf h o bytes) a b c d (λ e x. help_writes h o bytes e (room_helps h e x))
-    (under_goes (event.Write h o bytes) old new a b first q) room
+pub retries_denied : (e : Event) (old new : HeldSeen) (a b c : SeatSeen) (d : Denied) → is_for_now d.refusal ≡ true
+    → under.IsDenied e old new a b d → Goes b c → Retries a c e
+retries_denied e old new a b c d later q goes = go d.refusal d.slip later q
+  where
+    go : (r : Refusal) (o : Option Slip) → is_for_now r ≡ true → under.DeniedBy e old new a b r o → Retries a c e
+    go r None later q = absurd (subst (λ (x : Refusal). is_for_now x ≡ true) q.0 later)
+    go r (Some slip) later q = retries_by e (reply.Refused r) old new a b c slip later q goes
 
 -- what is answered was answered by the event, refusals too
 pub event_denied : {A : Type 0} (result : Result A Denied) (e : Event) (old new : HeldSeen) (before after : SeatSeen)

@@ -1,5 +1,5 @@
 -- The events of a call.
-use Rattle.std.specs.Prelude.{◌≡◌, ◌⊎◌, ℕ, List, Result, Ok, Err, if◌then◌else◌, ◌==◌}
+use Rattle.std.specs.Prelude.{◌≡◌, ◌⊎◌, ℕ, Result, Ok, Err, if◌then◌else◌, ◌==◌}
 use Rattle.pc_types.specs.declared.ids.HandleId.{HandleId}
 use Rattle.pc_types.specs.declared.refusal.Refusal.{Refusal}
 use Rattle.pc_types.specs.declared.refusal.Refusal.TheVariants.{BadHandle, Stranger}
@@ -31,13 +31,9 @@ IsRoomEvent e = ⊥
 abbrev pub IsStillDenied : Denied → SeatSeen → SeatSeen → Denied → Type 0
 IsStillDenied first before after d = (d ≡ first) ⊎ IsDenied IsRoomEvent before after d
 
-abbrev pub IsReadOf : HandleId → ℕ → ℕ → Event → Type 0
-IsReadOf h o n (event.Read g at count) = (g ≡ h) × (at ≡ o) × (count ≡ n)
-IsReadOf h o n e = IsHelp h e
-
-abbrev pub IsWriteOf : HandleId → ℕ → List ℕ → Event → Type 0
-IsWriteOf h o b (event.Write g at bytes) = (g ≡ h) × (at ≡ o) × (bytes ≡ b)
-IsWriteOf h o b e = IsHelp h e
+-- what a call by this handle does that is to make this event
+abbrev pub IsCallOf : HandleId → Event → Event → Type 0
+IsCallOf h own e = (e ≡ own) ⊎ IsHelp h e
 
 abbrev pub count_in : Result (ℕ × Slip) Denied → ℕ
 count_in (Ok r) = r.0

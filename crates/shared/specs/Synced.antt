@@ -1,10 +1,6 @@
 -- Syncs of a call, and how it answers them.
-use Rattle.std.specs.Prelude.{◌≡◌, ◌⊎◌, ◌<◌, ℕ, length, Option, Some, None, IfSome}
-use mathlib.Core.List.{IsPrefix}
+use Rattle.std.specs.Prelude.{◌≡◌, ◌⊎◌, ℕ, Option, Some, None}
 use Rattle.errboard.specs.Shown.{PassSeen}
-use Rattle.errseq.specs.Recorded.{last_code}
-use Rattle.errseq.specs.Samples.{StandsFor}
-use Rattle.errseq.specs.Word.{checked}
 use Rattle.held.specs.Shown.{SeatSeen}
 use Rattle.held.specs.declared.log.Slip.{Slip}
 use Rattle.locked.specs.Called.{Goes}
@@ -20,6 +16,7 @@ use Rattle.pc_types.specs.declared.kind.Kind.TheVariants.{Flush}
 use Rattle.pc_types.specs.declared.refusal.Refusal.TheVariants.{Io, Stranger, TrailFull}
 use Rattle.shared.specs.Called.{Makes}
 use Rattle.shared.specs.Denials.{IsDenied}
+use Rattle.shared.specs.Polls.{Polled}
 
 -- the last step of a sync, by the code of a failed write or without one
 abbrev pub end_reply : Option ℕ → Reply
@@ -77,20 +74,11 @@ abbrev pub IsSyncDenied : HandleId → PageIndex → PageIndex → SeatSeen → 
 IsSyncDenied h first last before after d =
     IsDenied (λ e. e ≡ event.SyncBegin h first last) before after d ⊎ GaveUp h first last before after d
 
--- a poll of the board answered this: it loaded a word that stands for what the pass knows now, all of which it is told of
-pub record Polled (answer : Option ℕ) (old new : PassSeen) : Type 0 where
-  pub loaded : ℕ
-  pub stands : StandsFor new.start loaded new.known
-  pub compared : answer ≡ checked loaded old.since
-  pub grows : IsPrefix old.known new.known
-  pub done : new.done ≡ length new.known
-  pub code : IfSome answer (λ c. (old.done < length new.known) × (c ≡ last_code new.known))
-
 -- the refusal has the code that the poll answered, or else that of the step which ended the sync
 pub record Reports (failed : Option ℕ) (slip : Slip) (old new : PassSeen) (d : Denied) : Type 0 where
   pub answer : Option ℕ
   pub code : ℕ
-  pub polled : Polled answer old new
+  pub polled : Polled old new answer
   pub tells : (answer ≡ Some code) ⊎ ((answer ≡ None) × (failed ≡ Some code))
   pub is : d ≡ record { refusal = Io code; slip = Some slip }
 

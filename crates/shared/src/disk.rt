@@ -37,10 +37,18 @@ impl<B: Naming, D: BlockDevice> Disk<B, D> {
         }
     }
 
+    /// The device, without its lock.
+    pub(crate) fn into_device(self) -> D
+        ensures { D.told result ≡ self }
+    {
+        self.device
+    }
+
     /// Makes the device call of a job.
     pub(crate) fn carry_out(&mut self, job: Job) -> Finished
         requires { IsJobFor B.name B.sizes.blocks B.sizes.page job }
-        ensures { length result.bytes ≡ B.sizes.page }
+        ensures same { (result.serial ≡ job.serial) × (result.kind ≡ job.kind) }
+        ensures size { length result.bytes ≡ B.sizes.page }
     {
         perform(&mut self.device, job)
     }

@@ -8,7 +8,8 @@ ghost use Rattle.pc_types.specs.declared.refusal.Refusal.TheVariants.{BadHandle,
 ghost use Rattle.locked.specs.Called.{Goes};
 ghost use Rattle.shared.specs.Called.{Makes};
 ghost use Rattle.shared.specs.Denials.{IsDenied};
-ghost use Rattle.shared.specs.Synced.{FlushFailed, IsDropped, IsSyncDenied, IsTurnOf, Polled, Reports, Syncs, WriteFailed, end_reply};
+ghost use Rattle.shared.specs.Polls.{Polled};
+ghost use Rattle.shared.specs.Synced.{FlushFailed, IsDropped, IsSyncDenied, IsTurnOf, Reports, Syncs, WriteFailed, end_reply};
 
 use crate::cache::SharedCache;
 use crate::handle::Handle;
@@ -46,7 +47,7 @@ impl<B: Naming, D: BlockDevice, T: Trail> SharedCache<B, D, T> {
         ensures closed { seat.old.name ≡ self.now.name → handle.old.cache ≢ self.now.name → (result ≡ Err (record { refusal = BadHandle; slip = None })) × (seat.new ≡ seat.old) × (handle.new ≡ handle.old) }
         ensures goes { Goes seat.old seat.new }
         ensures same { (handle.new.cache ≡ handle.old.cache) × (handle.new.file ≡ handle.old.file) × (handle.new.number ≡ handle.old.number) × (handle.new.pass.board ≡ handle.old.pass.board) }
-        ensures clean { IfOk result (λ slip. Syncs handle.old.number (record { 0 = 0 }) (record { 0 = LAST_PAGE }) None seat.old seat.new slip × Polled None handle.old.pass handle.new.pass) }
+        ensures clean { IfOk result (λ slip. Syncs handle.old.number (record { 0 = 0 }) (record { 0 = LAST_PAGE }) None seat.old seat.new slip × Polled handle.old.pass handle.new.pass None) }
         ensures denied { seat.old.name ≡ self.now.name → handle.old.cache ≡ self.now.name → IfErr result (λ d. WriteFailed handle.old.number (record { 0 = 0 }) (record { 0 = LAST_PAGE }) seat.old seat.new handle.old.pass handle.new.pass d ⊎ ((handle.new ≡ handle.old) × (FlushFailed handle.old.number (record { 0 = 0 }) (record { 0 = LAST_PAGE }) seat.old seat.new d ⊎ IsSyncDenied handle.old.number (record { 0 = 0 }) (record { 0 = LAST_PAGE }) seat.old seat.new d))) }
     {
         self.fsync_range(rt, seat, handle, PageIndex(0), PageIndex(LAST_PAGE))
@@ -68,7 +69,7 @@ impl<B: Naming, D: BlockDevice, T: Trail> SharedCache<B, D, T> {
         ensures closed { seat.old.name ≡ self.now.name → handle.old.cache ≢ self.now.name → (result ≡ Err (record { refusal = BadHandle; slip = None })) × (seat.new ≡ seat.old) × (handle.new ≡ handle.old) }
         ensures goes { Goes seat.old seat.new }
         ensures same { (handle.new.cache ≡ handle.old.cache) × (handle.new.file ≡ handle.old.file) × (handle.new.number ≡ handle.old.number) × (handle.new.pass.board ≡ handle.old.pass.board) }
-        ensures clean { IfOk result (λ slip. Syncs handle.old.number first last None seat.old seat.new slip × Polled None handle.old.pass handle.new.pass) }
+        ensures clean { IfOk result (λ slip. Syncs handle.old.number first last None seat.old seat.new slip × Polled handle.old.pass handle.new.pass None) }
         ensures denied { seat.old.name ≡ self.now.name → handle.old.cache ≡ self.now.name → IfErr result (λ d. WriteFailed handle.old.number first last seat.old seat.new handle.old.pass handle.new.pass d ⊎ ((handle.new ≡ handle.old) × (FlushFailed handle.old.number first last seat.old seat.new d ⊎ IsSyncDenied handle.old.number first last seat.old seat.new d))) }
     {
         if let Err(refusal) = self.admits(seat, handle) {
@@ -90,7 +91,7 @@ impl<B: Naming, D: BlockDevice, T: Trail> SharedCache<B, D, T> {
     fn report(&self, handle: &mut Handle, synced: Synced) -> Result<Slip, Denied>
         requires { handle.old.pass.board ≡ B.board }
         ensures same { (handle.new.cache ≡ handle.old.cache) × (handle.new.file ≡ handle.old.file) × (handle.new.number ≡ handle.old.number) × (handle.new.pass.board ≡ handle.old.pass.board) }
-        ensures clean { IfOk result (λ slip. (slip ≡ synced.slip) × (synced.failed ≡ None) × Polled None handle.old.pass handle.new.pass) }
+        ensures clean { IfOk result (λ slip. (slip ≡ synced.slip) × (synced.failed ≡ None) × Polled handle.old.pass handle.new.pass None) }
         ensures failed { IfErr result (Reports synced.failed synced.slip handle.old.pass handle.new.pass) }
     {
         match self.board.poll(&mut handle.pass).or(synced.failed) {

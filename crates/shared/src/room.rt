@@ -1,8 +1,10 @@
 //! What a call does on the way: it fills pages that it missed, and makes room.
 
-ghost use Rattle.std.specs.Prelude.{◌≡◌, IfErr};
+ghost use Rattle.std.specs.Prelude.{◌≡◌, ◌&&◌, IfErr, IfOk, true};
 ghost use Rattle.blockdev.specs.Jobs.{IsJobFor};
 ghost use Rattle.locked.specs.Called.{Goes};
+ghost use Rattle.locked.specs.Flights.{is_busy};
+ghost use Rattle.shared.specs.Called.{is_for_now};
 ghost use Rattle.shared.specs.Denials.{IsDenied};
 ghost use Rattle.shared.specs.Own.{IsHelp, IsRoomEvent};
 ghost use Rattle.shared.specs.Synced.{IsFlushEnd};
@@ -103,7 +105,7 @@ impl<B: Naming, D: BlockDevice, T: Trail> SharedCache<B, D, T> {
     {
         let finished = self.disk.lock(rt).carry_out(job);
         let ended = self.state.lock(rt).fill_end(seat, finished);
-        self.changed.notify_all();
+        self.has_ended(rt);
         let (ended, slip) = match ended {
             Ok(ended) => ended,
             Err(denied) => return Err(denied),
@@ -210,12 +212,10 @@ impl<B: Naming, D: BlockDevice, T: Trail> SharedCache<B, D, T> {
         guard: MutexGuard<'_, Locked<B, T>>,
         denied: Denied,
     ) -> Result<(), Denied>
-        ensures { IfErr result (λ d. d ≡ denied) }
+        ensures denied { IfErr result (λ d. d ≡ denied) }
+        ensures passing { IfOk result (λ _. is_for_now denied.refusal ≡ true) }
     {
-        if !is_for_now(denied.refusal) {
-            return Err(denied);
-        }
-        if !guard.is_busy() {
+        if !may_pass(&guard, denied.refusal) {
             return Err(denied);
         }
         drop(self.changed.wait(rt, guard));
@@ -238,7 +238,7 @@ impl<B: Naming, D: BlockDevice, T: Trail> SharedCache<B, D, T> {
     {
         let finished = self.disk.lock(rt).carry_out(job);
         let ended = self.state.lock(rt).flush_end(seat, finished);
-        self.changed.notify_all();
+        self.has_ended(rt);
         match ended {
             Ok((ended, _, _)) => Ok(!matches!(&ended, Ended::Failed(_, _))),
             Err(denied) => Err(denied),
@@ -266,8 +266,17 @@ fn wants<B: Naming, T: Trail>(state: &Locked<B, T>, span: Span) -> Option<Want> 
     None
 }
 
+/// Whether a refusal may pass when a request ends, and one is in flight.
+fn may_pass<B: Naming, T: Trail>(state: &Locked<B, T>, refusal: Refusal) -> bool
+    ensures { result ≡ (is_for_now refusal && is_busy state.now.core.state) }
+{
+    is_for_now(refusal) && state.is_busy()
+}
+
 /// Whether a refusal may pass when a request ends.
-pub(crate) fn is_for_now(refusal: Refusal) -> bool {
+pub(crate) fn is_for_now(refusal: Refusal) -> bool
+    ensures { result ≡ is_for_now refusal }
+{
     matches!(
         refusal,
         Refusal::NoFrame | Refusal::DirtyLimit | Refusal::TooManyInFlight

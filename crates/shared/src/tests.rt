@@ -43,12 +43,7 @@ struct Rows<'a, R> {
 impl<'a, R: Threads + Wait + Abort + Sync> Program<ScriptDevice, FullTrail> for Rows<'a, R> {
     type Out = bool;
 
-    fn run<B: Naming + Send + Sync>(
-        self,
-        cache: Tested<B>,
-        mut seats: Vec<Seat>,
-        own: Seat,
-    ) -> bool {
+    fn run<B: Naming + Send + Sync>(self, cache: Tested<B>, mut seats: Vec<Seat>) -> bool {
         let (Some(second), Some(first)) = (seats.pop(), seats.pop()) else {
             return false;
         };
@@ -85,7 +80,7 @@ fn opens<B: Naming, R: Wait>(rt: &R, cache: &Tested<B>, seat: &mut Seat) -> Opti
     ensures { seat.new.table ≡ seat.old.table }
 {
     let (file, _) = cache.create(rt, seat).ok()?;
-    let (handle, _) = cache.open(rt, seat, file).ok()?;
+    let (handle, _) = cache.open(rt, seat, file, false).ok()?;
     Some(handle)
 }
 
@@ -234,7 +229,7 @@ fn over_a_cache<R: Threads + Wait + Abort + Sync>(
         Row::TellsOfALostFlush => device.fail_next_flush(ErrCode::IO),
         _ => {}
     }
-    match serve(alloc, &geometry, 7, device, trail, 2, Rows { rt, row }) {
+    match serve(rt, alloc, &geometry, 7, device, trail, 2, Rows { rt, row }) {
         Ok(is_right) => Ok(is_right),
         Err(unserved) => Err(unserved.refusal),
     }
