@@ -52,7 +52,7 @@ pub fn time_reads<W: Wait + Threads + Sync>(
     let geometry = Geometry::new(PAGE, PAGES + 64, PAGES + 32, 2 * PAGES)?;
     let device = MemDevice::new(alloc, PAGE, 2 * PAGES)?;
     let rows = ReadRows { rt, threads };
-    match serve(alloc, &geometry, 1, device, NoTrail::new(), READERS, rows) {
+    match serve(threads, alloc, &geometry, 1, device, NoTrail::new(), READERS, rows) {
         Ok(times) => times,
         Err(_) => Err(Fault::Memory),
     }
@@ -72,7 +72,6 @@ impl<'a, W: Wait + Threads + Sync> Program<MemDevice, NoTrail> for ReadRows<'a, 
         self,
         cache: Cache<B>,
         mut seats: Vec<Seat>,
-        own: Seat,
     ) -> Result<ReadTimes, Fault> {
         let (Some(d), Some(c), Some(b), Some(a)) = (
             seats.pop(),
@@ -109,7 +108,7 @@ impl<B: Naming> Reader<B> {
     fn fill<W: Wait>(&mut self, threads: &W, cache: &Cache<B>) -> Result<Handle, Fault> {
         let seat = &mut self.seat;
         let (file, _) = cache.create(threads, seat)?;
-        let (handle, _) = cache.open(threads, seat, file)?;
+        let (handle, _) = cache.open(threads, seat, file, false)?;
         for page in 0..PAGES {
             cache.pwrite(threads, seat, &handle, page * PAGE, &[7; PAGE as usize])?;
         }
