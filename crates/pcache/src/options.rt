@@ -1,0 +1,42 @@
+//! What a storm is asked for.
+
+use std::string::String;
+use textline::words::number;
+
+/// The most callers, and the most calls of each.
+const MAX_THREADS: u64 = 16;
+const MAX_STEPS: u64 = 1_000;
+
+/// A storm's arguments.
+#[derive(Clone, Copy)]
+pub struct Options<'a> {
+    /// How many callers there are.
+    pub threads: u64,
+    /// How many calls each of them makes.
+    pub steps: u64,
+    /// The file that is the device, or none for memory.
+    pub path: Option<&'a str>,
+}
+
+impl<'a> Options<'a> {
+    /// The options that the words after `storm` ask for, where they are `THREADS STEPS [PATH]`.
+    pub fn parse(words: &'a [String]) -> Option<Options<'a>> {
+        if words.len() < 2 || words.len() > 3 {
+            return None;
+        }
+        Some(Options {
+            threads: number_up_to(words[0].as_str(), MAX_THREADS)?,
+            steps: number_up_to(words[1].as_str(), MAX_STEPS)?,
+            path: words.get(2).map(|word| word.as_str()),
+        })
+    }
+}
+
+/// The number that a word is, where it is one from 1 to `most`.
+fn number_up_to(word: &str, most: u64) -> Option<u64> {
+    let number = number(word.as_bytes())?;
+    if number == 0 || number > most {
+        return None;
+    }
+    Some(number)
+}
