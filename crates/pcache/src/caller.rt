@@ -1,5 +1,7 @@
 //! A caller: one thread that makes file calls.
 
+ghost use Rattle.std.specs.Prelude.{◌≡◌};
+
 use crate::steps::{FILES, Kind, MAX_COUNT, Step, Steps};
 use blockdev::BlockDevice;
 use held::log::Seat;
@@ -8,89 +10,139 @@ use pc_types::FileId;
 use shared::cache::SharedCache;
 use shared::handle::Handle;
 use std::alloc::{AllocError, Global};
+use std::marker::PhantomData;
 use std::sync::Wait;
 use trail::FullTrail;
 
+/// A seat of the cache that B names.
+#[derive(Drop)]
+pub struct Member<B: Naming> {
+    pub seat: Seat,
+    of: PhantomData<B>,
+    ghost seated: { seat.table ≡ B.table },
+}
+
+impl<B: Naming> Member<B> {
+    pub fn of(seat: Seat) -> Member<B>
+        requires { seat.table ≡ B.table }
+    {
+        Member {
+            seat,
+            of: PhantomData,
+        }
+    }
+}
+
+/// An open file of the cache that B names.
+#[derive(Drop)]
+struct Opened<B: Naming> {
+    handle: Handle,
+    of: PhantomData<B>,
+    ghost came: { handle.pass.board ≡ B.board },
+}
+
 /// A thread's seat, its open files, and which calls it makes.
 #[derive(Drop)]
-pub struct Caller {
-    pub seat: Seat,
-    handles: Vec<Handle>,
+pub struct Caller<B: Naming> {
+    member: Member<B>,
+    files: Vec<Opened<B>>,
     steps: Steps,
 }
 
-impl Caller {
+impl<B: Naming> Caller<B> {
     /// A caller with no open file.
-    pub fn new(alloc: Global, seat: Seat, steps: Steps) -> Result<Caller, AllocError> {
+    pub fn new(alloc: Global, seat: Seat, steps: Steps) -> Result<Caller<B>, AllocError>
+        requires { seat.table ≡ B.table }
+    {
         Ok(Caller {
-            seat,
-            handles: Vec::with_capacity(alloc, FILES as usize)?,
+            files: Vec::with_capacity(alloc, FILES as usize)?,
+            member: Member::of(seat),
             steps,
         })
     }
 
-    /// Opens the files, makes so many calls, and closes the files. A refused call counts as one that was made.
-    pub fn run<R: Wait, B: Naming, D: BlockDevice>(
-        &mut self,
+    /// Opens the files, makes so many calls, closes the files, and gives the seat back. A refused call counts as one that was made.
+    pub fn run<R: Wait, D: BlockDevice>(
+        self,
         rt: &R,
         cache: &SharedCache<B, D, FullTrail>,
         count: u64,
-    ) {
-        self.open_files(rt, cache);
-        for number in 0..count {
-            let step = self.steps.step(number);
-            self.make(rt, cache, &step);
-        }
-        self.close_files(rt, cache);
+    ) -> Member<B> {
+        let Caller {
+            mut member,
+            mut files,
+            mut steps,
+        } = self;
+        open_files(rt, cache, &mut member, &mut files);
+        make_calls(rt, cache, &mut member, &mut files, &mut steps, count);
+        close_files(rt, cache, &mut member, files);
+        member
     }
+}
 
-    fn open_files<R: Wait, B: Naming, D: BlockDevice>(
-        &mut self,
-        rt: &R,
-        cache: &SharedCache<B, D, FullTrail>,
-    ) {
-        for file in 0..FILES {
-            if let Ok((handle, _)) = cache.open(rt, &mut self.seat, FileId(file), true) {
-                let _ = self.handles.push(handle);
-            }
-        }
-    }
-
-    fn close_files<R: Wait, B: Naming, D: BlockDevice>(
-        &mut self,
-        rt: &R,
-        cache: &SharedCache<B, D, FullTrail>,
-    ) {
-        while let Some(handle) = self.handles.pop() {
-            let _ = cache.close_handle(rt, &mut self.seat, handle);
+/// Opens each file, for appending writes.
+fn open_files<R: Wait, B: Naming, D: BlockDevice>(
+    rt: &R,
+    cache: &SharedCache<B, D, FullTrail>,
+    member: &mut Member<B>,
+    files: &mut Vec<Opened<B>>,
+) {
+    for file in 0..FILES {
+        if let Ok((handle, _)) = cache.open(rt, &mut member.seat, FileId(file), true) {
+            let _ = files.push(Opened {
+                handle,
+                of: PhantomData,
+            });
         }
     }
+}
 
-    /// Makes a call. Whether it is refused is for the trail to tell.
-    fn make<R: Wait, B: Naming, D: BlockDevice>(
-        &mut self,
-        rt: &R,
-        cache: &SharedCache<B, D, FullTrail>,
-        step: &Step,
-    ) {
-        let seat = &mut self.seat;
-        let Some(handle) = self.handles.get_mut(step.file) else {
-            return;
-        };
+fn make_calls<R: Wait, B: Naming, D: BlockDevice>(
+    rt: &R,
+    cache: &SharedCache<B, D, FullTrail>,
+    member: &mut Member<B>,
+    files: &mut Vec<Opened<B>>,
+    steps: &mut Steps,
+    count: u64,
+) {
+    for number in 0..count {
+        let step = steps.step(number);
         let mut buffer = [0; MAX_COUNT];
         let bytes = &mut buffer[..step.count];
-        match step.kind {
-            Kind::Read => drop(cache.pread(rt, seat, handle, step.offset, bytes)),
-            Kind::Write => {
-                self.steps.fill(bytes);
-                drop(cache.pwrite(rt, seat, handle, step.offset, bytes));
-            }
-            Kind::Append => {
-                self.steps.fill(bytes);
-                drop(cache.write(rt, seat, handle, bytes));
-            }
-            Kind::Truncate => drop(cache.truncate(rt, seat, handle, step.offset)),
-            Kind::Fsync => drop(cache.fsync(rt, seat, handle)),
+        steps.fill(bytes);
+        if let Some(file) = files.get_mut(step.file) {
+            make_call(rt, cache, member, file, &step, bytes);
         }
+    }
+}
+
+/// Makes a call, with the bytes that are to be written or read over. What it answers is told by the trail.
+fn make_call<R: Wait, B: Naming, D: BlockDevice>(
+    rt: &R,
+    cache: &SharedCache<B, D, FullTrail>,
+    member: &mut Member<B>,
+    file: &mut Opened<B>,
+    step: &Step,
+    bytes: &mut [u8],
+) {
+    let seat = &mut member.seat;
+    let handle = &mut file.handle;
+    match step.kind {
+        Kind::Read => drop(cache.pread(rt, seat, handle, step.offset, bytes)),
+        Kind::Write => drop(cache.pwrite(rt, seat, handle, step.offset, bytes)),
+        Kind::Append => drop(cache.write(rt, seat, handle, bytes)),
+        Kind::Truncate => drop(cache.truncate(rt, seat, handle, step.offset)),
+        Kind::Fsync => drop(cache.fsync(rt, seat, handle)),
+    }
+}
+
+fn close_files<R: Wait, B: Naming, D: BlockDevice>(
+    rt: &R,
+    cache: &SharedCache<B, D, FullTrail>,
+    member: &mut Member<B>,
+    files: Vec<Opened<B>>,
+) {
+    for file in files {
+        drop(cache.close_handle(rt, &mut member.seat, file.handle));
     }
 }

@@ -1,6 +1,7 @@
 //! A device some of whose calls fail.
 
 ghost use Rattle.std.specs.Prelude.{◌≡◌};
+ghost use Rattle.pcache.specs.Faulty.{faulty};
 
 use blockdev::BlockDevice;
 use pc_types::{BlockNo, ErrCode};
@@ -31,7 +32,9 @@ impl<D: BlockDevice> Model for FaultyDevice<D> {
 
 impl<D: BlockDevice> FaultyDevice<D> {
     /// The device, no call made yet.
-    pub fn new(device: D, every: u64) -> FaultyDevice<D> {
+    pub fn new(device: D, every: u64) -> FaultyDevice<D>
+        ensures { result ≡ faulty (D.told device) }
+    {
         FaultyDevice {
             device,
             every,

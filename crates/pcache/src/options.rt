@@ -1,6 +1,9 @@
 //! What a storm is asked for.
 
-use std::string::String;
+ghost use Rattle.std.specs.Prelude.{◌<◌, ◌≤◌, ℕ, IfNone, IfSome};
+ghost use Rattle.textline.specs.Words.{IsNumber};
+ghost use Rattle.pcache.specs.Asked.{AsksFor, IsNumberUpTo};
+
 use textline::words::number;
 
 /// The most callers, and the most calls of each.
@@ -20,20 +23,27 @@ pub struct Options<'a> {
 
 impl<'a> Options<'a> {
     /// The options that the words after `storm` ask for, where they are `THREADS STEPS [PATH]`.
-    pub fn parse(words: &'a [String]) -> Option<Options<'a>> {
+    pub fn parse(words: &[&'a str]) -> Option<Options<'a>>
+        ensures asked { IfSome result (AsksFor words.now) }
+        ensures none { IfNone result ((o : Options) → ¬ (AsksFor words.now o)) }
+    {
         if words.len() < 2 || words.len() > 3 {
             return None;
         }
         Some(Options {
-            threads: number_up_to(words[0].as_str(), MAX_THREADS)?,
-            steps: number_up_to(words[1].as_str(), MAX_STEPS)?,
-            path: words.get(2).map(|word| word.as_str()),
+            threads: number_up_to(words[0], MAX_THREADS)?,
+            steps: number_up_to(words[1], MAX_STEPS)?,
+            path: words.get(2).copied(),
         })
     }
 }
 
 /// The number that a word is, where it is one from 1 to `most`.
-fn number_up_to(word: &str, most: u64) -> Option<u64> {
+#[tactic(auto, using(crate::proofs::OneNumber::one_number))]
+fn number_up_to(word: &str, most: u64) -> Option<u64>
+    ensures value { IfSome result (IsNumberUpTo most word.now) }
+    ensures none { IfNone result ((n : ℕ) → ¬ (IsNumberUpTo most word.now n)) }
+{
     let number = number(word.as_bytes())?;
     if number == 0 || number > most {
         return None;

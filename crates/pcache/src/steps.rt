@@ -1,5 +1,8 @@
 //! Which calls a caller makes, one after the other.
 
+ghost use Rattle.std.specs.Prelude.{◌≡◌, ◌+◌, ◌<◌, ◌≤◌, ◌%◌};
+ghost use Rattle.pcache.specs.Rounds.{place_of};
+
 use rand_core::{Rng, SeedableRng};
 use rand_xoshiro::SplitMix64;
 
@@ -35,8 +38,9 @@ pub struct Step {
 #[derive(Drop)]
 pub struct Steps {
     chance: SplitMix64,
-    // the kind of the first step
+    // the place of the first step's kind
     first: u64,
+    ghost fits: { first < 5 },
 }
 
 impl Steps {
@@ -48,7 +52,12 @@ impl Steps {
     }
 
     /// The step of this number, counted from 0. The first five are of the five kinds, each once.
-    pub fn step(&mut self, number: u64) -> Step {
+    pub fn step(&mut self, number: u64) -> Step
+        ensures kind { number < 5 → place_of result.kind ≡ (self.old.first + number) % 5 }
+        ensures file { result.file < FILES }
+        ensures count { result.count ≤ MAX_COUNT }
+        ensures first { self.new.first ≡ self.old.first }
+    {
         let word = self.chance.next_u64();
         let kind = if number < 5 {
             kind_at((self.first + number) % 5)
@@ -70,7 +79,10 @@ impl Steps {
 }
 
 /// The kinds by their places in a round of five.
-fn kind_at(place: u64) -> Kind {
+fn kind_at(place: u64) -> Kind
+    requires { place < 5 }
+    ensures { place_of result ≡ place }
+{
     match place {
         0 => Kind::Read,
         1 => Kind::Write,

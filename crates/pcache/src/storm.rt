@@ -1,28 +1,31 @@
 //! A storm: many callers and the workers of one cache at once, and whether its history is that of plain files.
 
-use crate::caller::Caller;
+ghost use Rattle.std.specs.Prelude.{◌≡◌, ◌≤◌};
+ghost use Rattle.pcache.specs.Told.{StormTells};
+
+use crate::caller::{Caller, Member};
+use crate::crew::{Crew, WORKERS};
 use crate::faulty::FaultyDevice;
 use crate::options::Options;
 use crate::steps::{FILES, Steps};
-use blockdev::{BlockDevice, FileDevice, Gate, MemDevice};
+use crate::told::{Fault, tell};
+use blockdev::{BlockDevice, FileDevice, MemDevice};
 use held::log::Seat;
 use locked::naming::Naming;
 use pc_types::{Geometry, Refusal};
 use shared::cache::SharedCache;
 use shared::serve::{Program, serve};
-use shared::workers::Worker;
 use std::alloc::Global;
 use std::fs::{File, Files};
 use std::io::Write;
-use std::string::String;
 use std::sync::Wait;
 use std::thread::{Threads, join, map_vec};
-use textline::{Stop, flush, print_line};
 use trail::{FullTrail, replay_plain};
 
 /// Bytes of a page, and how many blocks the device has.
 const PAGE: u64 = 64;
 const BLOCKS: u64 = 256;
+
 /// Fewer frames than the files have pages, and a limit that the writes come to.
 const FRAMES: u64 = 64;
 const DIRTY_LIMIT: u64 = 24;
@@ -31,15 +34,12 @@ const DIRTY_LIMIT: u64 = 24;
 const EVENTS: u64 = 65_536;
 const BYTES: u64 = 4_194_304;
 
-/// The flusher, two I/O workers and the evictor.
-const WORKERS: u64 = 4;
-
 /// What a storm is made with beside its arguments.
 #[derive(Clone, Copy)]
 pub struct Weather {
-    /// Which calls are made follows from it.
+    /// The calls of each caller follow from it.
     pub seed: u64,
-    /// Each device call with a multiple of this number fails; none where it is 0.
+    /// Each device call whose number is a multiple of this one fails; none where it is 0.
     pub faults: u64,
 }
 
@@ -48,65 +48,31 @@ pub struct Weather {
 pub fn run_storm<R: Threads + Wait + Files<File = File> + Sync, W: Write, E: Write>(
     rt: &R,
     alloc: Global,
-    arguments: &[String],
+    arguments: &[&str],
     weather: Weather,
     out: &mut W,
     err: &mut E,
-) -> u8 {
+) -> u8
+    ensures told { StormTells arguments.now result (W.contents out.old) (W.contents out.new) }
+{
     let Some(options) = Options::parse(arguments) else {
-        let _ = writeln!(err, "pcache: usage: pcache run | pcache storm THREADS STEPS [PATH]");
+        say_usage(err);
         return 2;
     };
-    let replays = match options.path {
+    let storm = match options.path {
         None => in_memory(rt, alloc, options, weather),
         Some(path) => in_file(rt, alloc, path, options, weather),
     };
-    let replays = match replays {
-        Ok(replays) => replays,
-        Err(fault) => {
-            let _ = writeln!(err, "pcache: {}", fault.reason());
-            return fault.status();
-        }
-    };
-    if !replays {
-        let _ = writeln!(err, "pcache: storm of seed {}", weather.seed);
-    }
-    match report(out, options.threads * options.steps, replays) {
-        Ok(()) => u8::from(!replays),
-        Err(stop) => {
-            let _ = writeln!(err, "pcache: {stop}");
-            stop.status()
-        }
-    }
+    let calls = options.threads * options.steps;
+    tell(out, err, calls, weather.seed, storm)
 }
 
-/// Why there was no storm.
-#[derive(Clone, Copy, PartialEq, Eq, Debug)]
-enum Fault {
-    Device,
-    Memory,
-}
-
-impl Fault {
-    fn reason(self) -> &'static str {
-        match self {
-            Fault::Device => "device failed",
-            Fault::Memory => "out of memory",
-        }
-    }
-
-    fn status(self) -> u8 {
-        match self {
-            Fault::Device => 3,
-            Fault::Memory => 4,
-        }
-    }
-}
-
-fn report<W: Write>(out: &mut W, calls: u64, replays: bool) -> Result<(), Stop> {
-    print_line(out, format_args!("calls {calls}"))?;
-    print_line(out, if replays { "replay yes" } else { "replay no" })?;
-    flush(out)
+/// Says how the program is called.
+pub fn say_usage<E: Write>(err: &mut E) {
+    let _ = writeln!(
+        err,
+        "pcache: usage: pcache run | pcache storm THREADS STEPS [PATH]"
+    );
 }
 
 /// A storm over memory. Answers whether its history replays.
@@ -115,7 +81,9 @@ fn in_memory<R: Threads + Wait + Sync>(
     alloc: Global,
     options: Options<'_>,
     weather: Weather,
-) -> Result<bool, Fault> {
+) -> Result<bool, Fault>
+    requires { options.threads ≤ 16 }
+{
     match MemDevice::new(alloc, PAGE, BLOCKS) {
         Ok(device) => over(rt, alloc, device, options, weather),
         Err(_) => Err(Fault::Memory),
@@ -129,7 +97,9 @@ fn in_file<R: Threads + Wait + Files<File = File> + Sync>(
     path: &str,
     options: Options<'_>,
     weather: Weather,
-) -> Result<bool, Fault> {
+) -> Result<bool, Fault>
+    requires { options.threads ≤ 16 }
+{
     match FileDevice::open(rt, alloc, path, PAGE, BLOCKS) {
         Ok(device) => over(rt, alloc, device, options, weather),
         Err(Refusal::Memory) => Err(Fault::Memory),
@@ -144,10 +114,11 @@ fn over<R: Threads + Wait + Sync, D: BlockDevice + Send>(
     device: D,
     options: Options<'_>,
     weather: Weather,
-) -> Result<bool, Fault> {
-    let Ok(geometry) = Geometry::new(PAGE, FRAMES, DIRTY_LIMIT, BLOCKS) else {
-        return Err(Fault::Memory);
-    };
+) -> Result<bool, Fault>
+    requires few { options.threads ≤ 16 }
+    requires device { ((D.told device).size ≡ 64) × ((D.told device).count ≡ 256) }
+{
+    let geometry = Geometry::new(PAGE, FRAMES, DIRTY_LIMIT, BLOCKS).unwrap();
     let Ok(trail) = FullTrail::new(alloc, EVENTS, BYTES) else {
         return Err(Fault::Memory);
     };
@@ -159,9 +130,8 @@ fn over<R: Threads + Wait + Sync, D: BlockDevice + Send>(
         steps: options.steps,
         seed: weather.seed,
     };
-    let trail = match serve(rt, alloc, &geometry, 1, device, trail, seats, storm) {
-        Ok(Some(trail)) => trail,
-        _ => return Err(Fault::Memory),
+    let Ok(Some(trail)) = serve(rt, alloc, &geometry, 1, device, trail, seats, storm) else {
+        return Err(Fault::Memory);
     };
     match replay_plain(alloc, &trail) {
         Ok(checked) => Ok(checked.is_some()),
@@ -181,43 +151,60 @@ struct Storm<'a, R> {
 impl<'a, R: Threads + Wait + Sync, D: BlockDevice + Send> Program<D, FullTrail> for Storm<'a, R> {
     type Out = Option<FullTrail>;
 
+    /// Gives the trail, or nothing where memory is wanted.
     fn run<B: Naming + Send + Sync>(
         self,
         mut cache: SharedCache<B, D, FullTrail>,
         mut seats: Vec<Seat>,
     ) -> Option<FullTrail> {
-        let workers = Workers::of(&mut cache, &mut seats)?;
-        for _ in 0..FILES {
-            if let Some(seat) = seats.first_mut() {
-                let _ = cache.create(self.rt, seat);
-            }
-        }
+        let crew = Crew::of(&mut cache, &mut seats)?;
+        create_files(self.rt, &cache, &mut seats);
         let callers = callers_of(self.alloc, seats, self.seed)?;
-        let shared = &cache;
-        let (rt, steps) = (self.rt, self.steps);
-        let (workers, callers) = join(
-            rt,
-            || workers.run(rt, shared),
-            || {
-                let callers = map_vec(rt, callers, &|mut caller: Caller| {
-                    caller.run(rt, shared, steps);
-                    caller.seat
-                });
-                shared.stop(rt);
-                callers
-            },
-        );
-        let mut seats = callers.ok()?;
-        workers.hand_back(&mut seats)?;
-        match cache.close(rt, seats) {
+        let (crew, seats) = rage(self.rt, &cache, crew, callers, self.steps);
+        let mut seats = seats_of(self.alloc, seats?)?;
+        crew.hand_back(&mut seats)?;
+        match cache.close(self.rt, seats) {
             Ok((trail, _, _)) => Some(trail),
             Err(_) => None,
         }
     }
 }
 
+/// Makes the files, by the first of these seats.
+fn create_files<R: Wait, B: Naming, D: BlockDevice>(
+    rt: &R,
+    cache: &SharedCache<B, D, FullTrail>,
+    seats: &mut Vec<Seat>,
+) {
+    if let Some(seat) = seats.first_mut() {
+        for _ in 0..FILES {
+            let _ = cache.create(rt, seat);
+        }
+    }
+}
+
+/// Runs the callers beside the workers, who are told to stop when the callers are done. Where no thread can be had the callers run
+/// first, and then the workers.
+fn rage<R: Threads + Wait + Sync, B: Naming + Send + Sync, D: BlockDevice + Send>(
+    rt: &R,
+    cache: &SharedCache<B, D, FullTrail>,
+    crew: Crew,
+    callers: Vec<Caller<B>>,
+    steps: u64,
+) -> (Crew, Option<Vec<Member<B>>>) {
+    join(
+        rt,
+        move || crew.run(rt, cache),
+        move || {
+            let members = map_vec(rt, callers, &|caller: Caller<B>| caller.run(rt, cache, steps));
+            cache.stop(rt);
+            members.ok()
+        },
+    )
+}
+
 /// A caller of each of these seats.
-fn callers_of(alloc: Global, seats: Vec<Seat>, seed: u64) -> Option<Vec<Caller>> {
+fn callers_of<B: Naming>(alloc: Global, seats: Vec<Seat>, seed: u64) -> Option<Vec<Caller<B>>> {
     let mut callers = Vec::new(alloc);
     let mut number = 0;
     for seat in seats {
@@ -228,91 +215,11 @@ fn callers_of(alloc: Global, seats: Vec<Seat>, seed: u64) -> Option<Vec<Caller>>
     Some(callers)
 }
 
-/// Lets each worker go on.
-#[derive(Drop)]
-struct Open;
-
-impl Gate for Open {
-    ghost passed = { λ _ _. ⊤ };
-
-    fn enter(&self, _number: u64) {}
-}
-
-/// The workers of a cache.
-#[derive(Drop)]
-struct Workers {
-    flusher: Worker,
-    first: Worker,
-    second: Worker,
-    evictor: Worker,
-}
-
-impl Workers {
-    fn of<B: Naming, D: BlockDevice>(
-        cache: &mut SharedCache<B, D, FullTrail>,
-        seats: &mut Vec<Seat>,
-    ) -> Option<Workers> {
-        Some(Workers {
-            flusher: cache.worker(seats.pop()?).ok()?,
-            first: cache.worker(seats.pop()?).ok()?,
-            second: cache.worker(seats.pop()?).ok()?,
-            evictor: cache.worker(seats.pop()?).ok()?,
-        })
+/// The seats of the callers.
+fn seats_of<B: Naming>(alloc: Global, members: Vec<Member<B>>) -> Option<Vec<Seat>> {
+    let mut seats = Vec::new(alloc);
+    for member in members {
+        seats.push(member.seat).ok()?;
     }
-
-    /// Runs the workers, each in a thread of its own, until they are told to stop.
-    fn run<R: Threads + Wait + Sync, B: Naming + Send + Sync, D: BlockDevice + Send>(
-        self,
-        rt: &R,
-        cache: &SharedCache<B, D, FullTrail>,
-    ) -> Workers {
-        let Workers {
-            mut flusher,
-            mut first,
-            mut second,
-            mut evictor,
-        } = self;
-        let (flusher, (first, (second, evictor))) = join(
-            rt,
-            move || {
-                cache.flusher(rt, &Open, &mut flusher);
-                flusher
-            },
-            move || {
-                join(
-                    rt,
-                    move || {
-                        cache.io_worker(rt, &Open, &mut first);
-                        first
-                    },
-                    move || {
-                        join(
-                            rt,
-                            move || {
-                                cache.io_worker(rt, &Open, &mut second);
-                                second
-                            },
-                            move || {
-                                cache.evictor(rt, &Open, &mut evictor);
-                                evictor
-                            },
-                        )
-                    },
-                )
-            },
-        );
-        Workers {
-            flusher,
-            first,
-            second,
-            evictor,
-        }
-    }
-
-    fn hand_back(self, seats: &mut Vec<Seat>) -> Option<()> {
-        seats.push(self.flusher.into_seat()).ok()?;
-        seats.push(self.first.into_seat()).ok()?;
-        seats.push(self.second.into_seat()).ok()?;
-        seats.push(self.evictor.into_seat()).ok()
-    }
+    Some(seats)
 }
