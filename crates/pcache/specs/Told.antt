@@ -8,6 +8,10 @@ use Rattle.pcache.specs.declared.options.Options.{Options}
 use Rattle.pcache.specs.declared.told.Fault.{Fault}
 use Rattle.pcache.specs.declared.told.Fault.TheVariants.{Device, Memory}
 
+-- how the program is called
+abbrev pub usage_line : List ℕ
+usage_line = ended (codes "pcache: usage: pcache run | pcache storm THREADS STEPS [PATH]")
+
 abbrev pub calls_text : ℕ → List ℕ
 calls_text calls = codes "calls " ++ decimal calls
 

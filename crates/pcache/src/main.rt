@@ -28,9 +28,10 @@ use std::string::String;
 use std::sync::Wait;
 use std::thread::Threads;
 use std::time::SystemTime;
-use storm::{Weather, run_storm, say_usage};
+use storm::{Weather, run_storm};
 use textline::Stop;
 use textline::words::number;
+use told::say_usage;
 
 /// What the program is asked to do.
 #[derive(Drop)]
@@ -49,7 +50,7 @@ fn main(rt: HostRuntime) -> ExitCode {
             run_threads(&rt, rt.alloc(), &words, weather(&rt), &mut out, &mut err)
         }
         Ok(Request::Neither) => {
-            say_usage(&mut rt.stderr());
+            let _ = say_usage(&mut rt.stderr());
             2
         }
         Err(stop) => say_stop(&mut rt.stderr(), stop),

@@ -8,6 +8,7 @@ use textline::words::number;
 
 /// The most callers, and the most calls of each.
 const MAX_THREADS: u64 = 16;
+
 const MAX_STEPS: u64 = 1_000;
 
 /// A storm's arguments.

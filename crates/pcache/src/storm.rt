@@ -8,7 +8,7 @@ use crate::crew::{Crew, WORKERS};
 use crate::faulty::FaultyDevice;
 use crate::options::Options;
 use crate::steps::{FILES, Steps};
-use crate::told::{Fault, tell};
+use crate::told::{Fault, say_usage, tell};
 use blockdev::{BlockDevice, FileDevice, MemDevice};
 use held::log::Seat;
 use locked::naming::Naming;
@@ -24,14 +24,17 @@ use trail::{FullTrail, replay_plain};
 
 /// Bytes of a page, and how many blocks the device has.
 const PAGE: u64 = 64;
+
 const BLOCKS: u64 = 256;
 
 /// Fewer frames than the files have pages, and a limit that the writes come to.
 const FRAMES: u64 = 64;
+
 const DIRTY_LIMIT: u64 = 24;
 
 /// The most events of the trail, and bytes of all of them.
 const EVENTS: u64 = 65_536;
+
 const BYTES: u64 = 4_194_304;
 
 /// What a storm is made with beside its arguments.
@@ -56,7 +59,7 @@ pub fn run_storm<R: Threads + Wait + Files<File = File> + Sync, W: Write, E: Wri
     ensures told { StormTells arguments.now result (W.contents out.old) (W.contents out.new) }
 {
     let Some(options) = Options::parse(arguments) else {
-        say_usage(err);
+        let _ = say_usage(err);
         return 2;
     };
     let storm = match options.path {
@@ -65,14 +68,6 @@ pub fn run_storm<R: Threads + Wait + Files<File = File> + Sync, W: Write, E: Wri
     };
     let calls = options.threads * options.steps;
     tell(out, err, calls, weather.seed, storm)
-}
-
-/// Says how the program is called.
-pub fn say_usage<E: Write>(err: &mut E) {
-    let _ = writeln!(
-        err,
-        "pcache: usage: pcache run | pcache storm THREADS STEPS [PATH]"
-    );
 }
 
 /// A storm over memory. Answers whether its history replays.
@@ -196,7 +191,11 @@ fn rage<R: Threads + Wait + Sync, B: Naming + Send + Sync, D: BlockDevice + Send
         rt,
         move || crew.run(rt, cache),
         move || {
-            let members = map_vec(rt, callers, &|caller: Caller<B>| caller.run(rt, cache, steps));
+            let members = map_vec(
+                rt,
+                callers,
+                &|caller: Caller<B>| caller.run(rt, cache, steps),
+            );
             cache.stop(rt);
             members.ok()
         },

@@ -3,7 +3,7 @@
 ghost use Rattle.std.specs.Prelude.{OnOk, Ok};
 ghost use Rattle.std.specs.Io.KnownBytes.{Appends};
 ghost use Rattle.textline.specs.Lines.{Prints};
-ghost use Rattle.pcache.specs.Told.{Tells, lines_told, replay_text};
+ghost use Rattle.pcache.specs.Told.{Tells, lines_told, replay_text, usage_line};
 
 use std::fmt;
 use std::fmt::Display;
@@ -25,6 +25,16 @@ impl Display for Fault {
             Fault::Memory => f.write_str("out of memory"),
         }
     }
+}
+
+/// Says how the program is called.
+pub fn say_usage<E: Write>(err: &mut E) -> std::io::Result<()>
+    ensures { OnOk result (Appends (E.contents err.old) (E.contents err.new) usage_line) }
+{
+    writeln!(
+        err,
+        "pcache: usage: pcache run | pcache storm THREADS STEPS [PATH]"
+    )
 }
 
 /// Tells what a storm of so many calls came to: whether its history replays. Of one that does not the seed is said on `err`, and
