@@ -32,7 +32,7 @@ use Rattle.cachecore.specs.Tables.{IsCache, IsCore}
 use Rattle.cachecore.proofs.EndKeeps.{failed_core, filled_core, fills_here, flushed_core, put_is, quiet_core}
 use Rattle.cachecore.proofs.EndKeeps.{unfilled_core}
 use Rattle.cachecore.proofs.EndSteps.{Ends, dropped_step, end_step}
-use Rattle.cachecore.proofs.Parts.{Goes, Parts, goes_to, state_by}
+use Rattle.cachecore.proofs.Parts.{Goes, IsKept, Parts, goes_to, state_by}
 use Rattle.cachecore.proofs.RequestLaws.{dropped_fills_none, flush_fills_none}
 use Rattle.cachecore.proofs.SyncLaws.{failed_syncs, moved_syncs, pages_failed}
 
@@ -49,11 +49,11 @@ written_is None b place spots e = absurd cc
 written_is (Some x) b place spots e =
     (let same : x.block ≡ b = cc in ap (λ k. finmap.insert spots place (record { block = k; written = true })) same)
 
-module _ (sizes : Sizes) (name : ℕ) (handles : FinMap nat_cmp ℕ) (p : Parts)
-    (w : IsCache (state_by sizes name handles p) p.store p.blocks) (f : FinishedTask) (x : Request)
-    (seen : State) (seen_is : state_by sizes name handles p ≡ seen) where
+module _ (p : Parts)
+    (w : IsKept p) (f : FinishedTask) (x : Request)
+    (seen : State) (seen_is : state_by p ≡ seen) where
   abbrev s : State
-  s = state_by sizes name handles p
+  s = state_by p
 
   -- the request ended, and its block was released
   abbrev left : Parts
@@ -63,16 +63,15 @@ module _ (sizes : Sizes) (name : ℕ) (handles : FinMap nat_cmp ℕ) (p : Parts)
   }
 
   abbrev Ended : Kind → Reply → Parts → Type 0
-  Ended kind r new = Goes sizes name handles s (event.End kind (end_of f)) r new
+  Ended kind r new = Goes s (event.End kind (end_of f)) r new
 
   -- the same, from the state that callers see
   abbrev pub Seen : Kind → Reply → Parts → Type 0
-  Seen kind r new = Goes sizes name handles seen (event.End kind (end_of f)) r new
+  Seen kind r new = Goes seen (event.End kind (end_of f)) r new
 
   -- by what the calls of the parts ensure
   seen_to : (kind : Kind) (r : Reply) (new now : Parts) → now ≡ new → Ended kind r new → Seen kind r now
-  seen_to kind r new now is g = subst (λ t. Goes sizes name handles t (event.End kind (end_of f)) r now) seen_is
-      (goes_to sizes name handles s (event.End kind (end_of f)) r new now is g)
+  seen_to kind r new now is g = goes_to s seen seen_is (event.End kind (end_of f)) r new now is g
 
   abbrev file : File
   file = stored_at p.store x.file
@@ -86,7 +85,7 @@ module _ (sizes : Sizes) (name : ℕ) (handles : FinMap nat_cmp ℕ) (p : Parts)
   module _ (e : Ends s Fill f x) where
     quiet_fill : x.dropped ≡ true → Ended Fill reply.Dropped left
     quiet_fill dropped = record {
-      step = dropped_step s Fill f x e dropped (state_by sizes name handles left) refl;
+      step = dropped_step s Fill f x e dropped (state_by left) refl;
       cache = record {
         core = quiet_core s p.store p.blocks w.core f.serial x e.found (dropped_fills_none x dropped);
         syncs = w.syncs;
@@ -132,7 +131,7 @@ module _ (sizes : Sizes) (name : ℕ) (handles : FinMap nat_cmp ℕ) (p : Parts)
       filled = record (repaged (finmap.insert file.pages x.page (record { bytes = f.bytes; tags = no_tags })))
           { filling = set.remove p.store.filling (x.file, x.page) }
 
-      is_filled : f.outcome ≡ Ok tt → length f.bytes ≡ sizes.page
+      is_filled : f.outcome ≡ Ok tt → length f.bytes ≡ p.sizes.page
           → Ended Fill reply.Filled (record left { store = filled })
       is_filled went size = record {
         step = end_step s Fill f x e (outcome.Read f.bytes) (ap (λ o. outcome_of Fill o f.bytes) went) reply.Filled _
@@ -140,13 +139,13 @@ module _ (sizes : Sizes) (name : ℕ) (handles : FinMap nat_cmp ℕ) (p : Parts)
         cache = record {
           core = filled_core s p.store p.blocks w.core f.serial x e.found live e.kind_is f.bytes size filled refl refl
               refl;
-          syncs = moved_syncs handles p.store.files p.syncs w.syncs filled.files
+          syncs = moved_syncs p.handles p.store.files p.syncs w.syncs filled.files
               (pages_failed (repaged (finmap.insert file.pages x.page (record { bytes = f.bytes; tags = no_tags })))
               p.store x.file _ _ refl);
         };
       }
 
-      pub fill_done : f.outcome ≡ Ok tt → length f.bytes ≡ sizes.page → (k : Store) (b : Blocks) (t : Flights)
+      pub fill_done : f.outcome ≡ Ok tt → length f.bytes ≡ p.sizes.page → (k : Store) (b : Blocks) (t : Flights)
           → k ≡ filled → b ≡ left.blocks → t ≡ left.flights
           → Seen Fill reply.Filled (record p { store = k; blocks = b; flights = t })
       fill_done went size k b t store blocks requests = seen_to Fill reply.Filled _ _
@@ -158,7 +157,7 @@ module _ (sizes : Sizes) (name : ℕ) (handles : FinMap nat_cmp ℕ) (p : Parts)
   module _ (e : Ends s Flush f x) where
     quiet_flush : x.dropped ≡ true → Ended Flush reply.Dropped left
     quiet_flush dropped = record {
-      step = dropped_step s Flush f x e dropped (state_by sizes name handles left) refl;
+      step = dropped_step s Flush f x e dropped (state_by left) refl;
       cache = record {
         core = quiet_core s p.store p.blocks w.core f.serial x e.found (flush_fills_none x e.kind_is);
         syncs = w.syncs;
@@ -209,7 +208,7 @@ module _ (sizes : Sizes) (name : ℕ) (handles : FinMap nat_cmp ℕ) (p : Parts)
         cache = record {
           core = flushed_core s p.store p.blocks w.core f.serial x e.found live e.kind_is (retagged false) refl refl
               refl;
-          syncs = moved_syncs handles p.store.files p.syncs w.syncs (retagged false).files
+          syncs = moved_syncs p.handles p.store.files p.syncs w.syncs (retagged false).files
               (pages_failed (retagged false) p.store x.file _ _ refl);
         };
       }
@@ -282,7 +281,7 @@ module _ (sizes : Sizes) (name : ℕ) (handles : FinMap nat_cmp ℕ) (p : Parts)
         cache = record {
           core = failed_core s p.store p.blocks w.core f.serial x e.found live e.kind_is code (failed_store code) refl
               refl refl;
-          syncs = failed_syncs handles p.store.files p.syncs w.syncs x.file (failed_file code) is_code;
+          syncs = failed_syncs p.handles p.store.files p.syncs w.syncs x.file (failed_file code) is_code;
         };
       }
 

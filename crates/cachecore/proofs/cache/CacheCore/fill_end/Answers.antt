@@ -13,7 +13,7 @@ use Rattle.machine.specs.declared.event.Reply.{Reply}
 use Rattle.machine.specs.State.{State}
 use Rattle.cachecore.proofs.CoreViews.{state_is}
 use Rattle.cachecore.proofs.EndSteps.{Ends, known, stranger_step}
-use Rattle.cachecore.proofs.Parts.{Parts, state_by}
+use Rattle.cachecore.proofs.Parts.{Parts, parts_of, state_by}
 use Rattle.cachecore.proofs.EndCalls.{Seen, awaited_here, fill_done, fill_dropped, fill_fails}
 use Rattle.cachecore.proofs.cache.CacheCore.fill_end.Goals as goal
 use Rattle.cachecore.proofs.cache.CacheCore.fill_end.Goals.{In-Some}
@@ -22,20 +22,14 @@ pub returns-in_default-clause-step : goal.returns-in_default-clause-step
 returns-in_default-clause-step c =
     stranger_step c.args.self.now.state Fill c.args.finished c.in_default.ensures
 
-abbrev parts : In-Some → Parts
-parts c =
-    let i = c.self.inside in
-    record { store = i.pages; blocks = i.blocks; flights = i.requests; syncs = i.syncs }
-
 ends : (c : In-Some)
-    → Ends (state_by c.self.inside.geometry c.self.inside.name c.self.inside.handles (parts c)) Fill c.args.finished
+    → Ends (state_by (parts_of c.self.inside)) Fill c.args.finished
     (request_of c.in-Some.request)
 ends c = known _ Fill c.args.finished c.args.self.now.state _ (state_is c.self.view_is) c.in-Some.ensures
 
 -- its end, as callers see it
 abbrev Goes : In-Some → Reply → Parts → Type 0
-Goes c = Seen c.self.inside.geometry c.self.inside.name c.self.inside.handles (parts c) c.self.invariant
-    c.args.finished (request_of c.in-Some.request) c.args.self.now.state (state_is c.self.view_is) Fill
+Goes c = Seen (parts_of c.self.inside) c.self.invariant c.args.finished (request_of c.in-Some.request) c.args.self.now.state (state_is c.self.view_is) Fill
 
 pub release-requires : goal.release-requires
 release-requires c =
@@ -43,11 +37,10 @@ release-requires c =
     (ends (goal.at.release-requires c).In-Some).found)
 
 dropped : (c : goal.Then-request) → Goes (goal.at.invariant_of-self c).In-Some reply.Dropped
-    (record (parts (goal.at.invariant_of-self c).In-Some) { blocks = c.release.new.self; flights = c.end.new.self })
+    (record (parts_of c.self.inside) { blocks = c.release.new.self; flights = c.end.new.self })
 dropped c =
     let b = (goal.at.invariant_of-self c).In-Some in
-    fill_dropped c.self.inside.geometry c.self.inside.name c.self.inside.handles (parts b) c.self.invariant
-    c.args.finished (request_of c.in-Some.request) c.args.self.now.state (state_is c.self.view_is) (ends b)
+    fill_dropped (parts_of c.self.inside) c.self.invariant c.args.finished (request_of c.in-Some.request) c.args.self.now.state (state_is c.self.view_is) (ends b)
     c.if-request.true _ _ c.release.ensures
     (c.end.ensures.ended
     ∙ ap (λ (k : FinishedParts). flights.ended c.self.inside.requests k.serial.0) c.into_parts-buffer.ensures)
@@ -61,15 +54,13 @@ returns-then-request-clause-step c = (dropped c).step
 pub finish_fill-requires-clause-filling : goal.finish_fill-requires-clause-filling
 finish_fill-requires-clause-filling c =
     let b = (goal.at.finish_fill-requires-clause-filling c).In-Some in
-    awaited_here c.self.inside.geometry c.self.inside.name c.self.inside.handles (parts b) c.self.invariant
-    c.args.finished (request_of c.in-Some.request) c.args.self.now.state (state_is c.self.view_is) (ends b)
+    awaited_here (parts_of c.self.inside) c.self.invariant c.args.finished (request_of c.in-Some.request) c.args.self.now.state (state_is c.self.view_is) (ends b)
     c.if-request.false
 
 pub abandon_fill-requires-clause-filling : goal.abandon_fill-requires-clause-filling
 abandon_fill-requires-clause-filling c =
     let b = (goal.at.abandon_fill-requires-clause-filling c).In-Some in
-    awaited_here c.self.inside.geometry c.self.inside.name c.self.inside.handles (parts b) c.self.invariant
-    c.args.finished (request_of c.in-Some.request) c.args.self.now.state (state_is c.self.view_is) (ends b)
+    awaited_here (parts_of c.self.inside) c.self.invariant c.args.finished (request_of c.in-Some.request) c.args.self.now.state (state_is c.self.view_is) (ends b)
     c.if-request.false
 
 -- as many bytes as a page
@@ -82,7 +73,7 @@ finish_fill-requires-clause-whole c = ap length (c.as_slice.ensures ∙ ap (λ (
     c.into_parts-buffer.ensures) ∙ sized (goal.at.finish_fill-requires-clause-whole c).In-Some ∙ sym c.self.invariant.core.page
 
 done : (c : goal.After-finish_fill) → Goes (goal.at.invariant_of-self-in-Ok c).In-Some reply.Filled
-    (record (parts (goal.at.invariant_of-self-in-Ok c).In-Some) {
+    (record (parts_of c.self.inside) {
       store = c.finish_fill.new.self;
       blocks = c.release.new.self;
       flights = c.end.new.self;
@@ -97,8 +88,7 @@ done c =
     (map.insert (stored_at pages x.file).pages x.page (record { bytes = b; tags = no_tags })) pages.free)
     { filling = set.remove pages.filling (x.file, x.page) } in k)
     (c.as_slice.ensures ∙ ap (λ (k : FinishedParts). k.buffer) c.into_parts-buffer.ensures) in
-    fill_done c.self.inside.geometry c.self.inside.name c.self.inside.handles (parts b) c.self.invariant
-    c.args.finished (request_of c.in-Some.request) c.args.self.now.state (state_is c.self.view_is) (ends b)
+    fill_done (parts_of c.self.inside) c.self.invariant c.args.finished (request_of c.in-Some.request) c.args.self.now.state (state_is c.self.view_is) (ends b)
     c.if-request.false (sym (ap (λ (k : FinishedParts). k.outcome) c.into_parts-buffer.ensures) ∙ c.in-Ok.is) (sized b) _ _ _ filling
     c.release.ensures (c.end.ensures.ended
     ∙ ap (λ (k : FinishedParts). flights.ended c.self.inside.requests k.serial.0) c.into_parts-buffer.ensures)
@@ -110,15 +100,14 @@ pub returns-in-Ok-clause-step : goal.returns-in-Ok-clause-step
 returns-in-Ok-clause-step c = (done c).step
 
 failed : (c : goal.After-abandon_fill) → Goes (goal.at.invariant_of-self-in-Err c).In-Some (reply.Failed c.in-Err.code)
-    (record (parts (goal.at.invariant_of-self-in-Err c).In-Some) {
+    (record (parts_of c.self.inside) {
       store = c.abandon_fill.new.self;
       blocks = c.release.new.self;
       flights = c.end.new.self;
     })
 failed c =
     let b = (goal.at.invariant_of-self-in-Err c).In-Some in
-    fill_fails c.self.inside.geometry c.self.inside.name c.self.inside.handles (parts b) c.self.invariant
-    c.args.finished (request_of c.in-Some.request) c.args.self.now.state (state_is c.self.view_is) (ends b)
+    fill_fails (parts_of c.self.inside) c.self.invariant c.args.finished (request_of c.in-Some.request) c.args.self.now.state (state_is c.self.view_is) (ends b)
     c.if-request.false c.in-Err.code (sym (ap (λ (k : FinishedParts). k.outcome) c.into_parts-buffer.ensures) ∙ c.in-Err.is) _ _ _
     c.abandon_fill.ensures c.release.ensures
     (c.end.ensures.ended

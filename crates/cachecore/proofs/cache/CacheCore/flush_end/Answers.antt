@@ -9,7 +9,7 @@ use Rattle.machine.specs.declared.event.Reply.TheVariants as reply
 use Rattle.machine.specs.declared.event.Reply.{Reply}
 use Rattle.cachecore.proofs.CoreViews.{state_is}
 use Rattle.cachecore.proofs.EndSteps.{Ends, known, stranger_step}
-use Rattle.cachecore.proofs.Parts.{Parts, state_by}
+use Rattle.cachecore.proofs.Parts.{Parts, parts_of, state_by}
 use Rattle.cachecore.proofs.EndCalls.{Seen, cached_here, few_failures, flush_done, flush_dropped, flush_fails}
 use Rattle.cachecore.proofs.SyncLaws.{err_code}
 use Rattle.cachecore.proofs.cache.CacheCore.flush_end.Goals as goal
@@ -19,20 +19,14 @@ pub returns-in_default-clause-step : goal.returns-in_default-clause-step
 returns-in_default-clause-step c =
     stranger_step c.args.self.now.state Flush c.args.finished c.in_default.ensures
 
-abbrev parts : In-Some → Parts
-parts c =
-    let i = c.self.inside in
-    record { store = i.pages; blocks = i.blocks; flights = i.requests; syncs = i.syncs }
-
 ends : (c : In-Some)
-    → Ends (state_by c.self.inside.geometry c.self.inside.name c.self.inside.handles (parts c)) Flush c.args.finished
+    → Ends (state_by (parts_of c.self.inside)) Flush c.args.finished
     (request_of c.in-Some.request)
 ends c = known _ Flush c.args.finished c.args.self.now.state _ (state_is c.self.view_is) c.in-Some.ensures
 
 -- its end, as callers see it
 abbrev Goes : In-Some → Reply → Parts → Type 0
-Goes c = Seen c.self.inside.geometry c.self.inside.name c.self.inside.handles (parts c) c.self.invariant
-    c.args.finished (request_of c.in-Some.request) c.args.self.now.state (state_is c.self.view_is) Flush
+Goes c = Seen (parts_of c.self.inside) c.self.invariant c.args.finished (request_of c.in-Some.request) c.args.self.now.state (state_is c.self.view_is) Flush
 
 pub release-requires : goal.release-requires
 release-requires c =
@@ -40,11 +34,10 @@ release-requires c =
     (ends (goal.at.release-requires c).In-Some).found)
 
 dropped : (c : goal.Then-request) → Goes (goal.at.invariant_of-self c).In-Some reply.Dropped
-    (record (parts (goal.at.invariant_of-self c).In-Some) { blocks = c.release.new.self; flights = c.end.new.self })
+    (record (parts_of c.self.inside) { blocks = c.release.new.self; flights = c.end.new.self })
 dropped c =
     let b = (goal.at.invariant_of-self c).In-Some in
-    flush_dropped c.self.inside.geometry c.self.inside.name c.self.inside.handles (parts b) c.self.invariant
-    c.args.finished (request_of c.in-Some.request) c.args.self.now.state (state_is c.self.view_is) (ends b)
+    flush_dropped (parts_of c.self.inside) c.self.invariant c.args.finished (request_of c.in-Some.request) c.args.self.now.state (state_is c.self.view_is) (ends b)
     c.if-request.true _ _ c.release.ensures
     (c.end.ensures.ended
     ∙ ap (λ (k : FinishedParts). flights.ended c.self.inside.requests k.serial.0) c.into_parts-buffer.ensures)
@@ -58,34 +51,30 @@ returns-then-request-clause-step c = (dropped c).step
 pub end_write-requires-clause-cached : goal.end_write-requires-clause-cached
 end_write-requires-clause-cached c =
     let b = (goal.at.end_write-requires-clause-cached c).In-Some in
-    cached_here c.self.inside.geometry c.self.inside.name c.self.inside.handles (parts b) c.self.invariant
-    c.args.finished (request_of c.in-Some.request) c.args.self.now.state (state_is c.self.view_is) (ends b)
+    cached_here (parts_of c.self.inside) c.self.invariant c.args.finished (request_of c.in-Some.request) c.args.self.now.state (state_is c.self.view_is) (ends b)
     c.if-request.false
 
 pub end_write-requires-in-Err-clause-cached : goal.end_write-requires-in-Err-clause-cached
 end_write-requires-in-Err-clause-cached c =
     let b = (goal.at.end_write-requires-in-Err-clause-cached c).In-Some in
-    cached_here c.self.inside.geometry c.self.inside.name c.self.inside.handles (parts b) c.self.invariant
-    c.args.finished (request_of c.in-Some.request) c.args.self.now.state (state_is c.self.view_is) (ends b)
+    cached_here (parts_of c.self.inside) c.self.invariant c.args.finished (request_of c.in-Some.request) c.args.self.now.state (state_is c.self.view_is) (ends b)
     c.if-request.false
 
 pub note_failure-requires-clause-few : goal.note_failure-requires-clause-few
 note_failure-requires-clause-few c =
     let b = (goal.at.note_failure-requires-clause-few c).In-Some in
-    few_failures c.self.inside.geometry c.self.inside.name c.self.inside.handles (parts b) c.self.invariant
-    c.args.finished (request_of c.in-Some.request) c.args.self.now.state (state_is c.self.view_is) (ends b)
+    few_failures (parts_of c.self.inside) c.self.invariant c.args.finished (request_of c.in-Some.request) c.args.self.now.state (state_is c.self.view_is) (ends b)
     c.if-request.false c.end_write-in-Err.new.self c.end_write-in-Err.ensures
 
 done : (c : goal.After-set_written) → Goes (goal.at.invariant_of-self-in-Ok c).In-Some reply.Written
-    (record (parts (goal.at.invariant_of-self-in-Ok c).In-Some) {
+    (record (parts_of c.self.inside) {
       store = c.end_write.new.self;
       blocks = c.set_written.new.self;
       flights = c.end.new.self;
     })
 done c =
     let b = (goal.at.invariant_of-self-in-Ok c).In-Some in
-    flush_done c.self.inside.geometry c.self.inside.name c.self.inside.handles (parts b) c.self.invariant
-    c.args.finished (request_of c.in-Some.request) c.args.self.now.state (state_is c.self.view_is) (ends b)
+    flush_done (parts_of c.self.inside) c.self.invariant c.args.finished (request_of c.in-Some.request) c.args.self.now.state (state_is c.self.view_is) (ends b)
     c.if-request.false (sym (ap (λ (k : FinishedParts). k.outcome) c.into_parts-buffer.ensures) ∙ c.in-Ok.is) _ _ _ _
     c.end_write.ensures c.release.ensures c.set_written.ensures
     (c.end.ensures.ended
@@ -98,7 +87,7 @@ pub returns-in-Ok-clause-step : goal.returns-in-Ok-clause-step
 returns-in-Ok-clause-step c = (done c).step
 
 failed : (c : goal.After-note_failure) → Goes (goal.at.invariant_of-self-in-Err c).In-Some (reply.Failed c.in-Err.code)
-    (record (parts (goal.at.invariant_of-self-in-Err c).In-Some) {
+    (record (parts_of c.self.inside) {
       store = c.note_failure.new.self;
       blocks = c.release.new.self;
       flights = c.end.new.self;
@@ -109,8 +98,7 @@ failed c =
     let is_code : IsTrue (is_err_code c.in-Err.code) = subst (λ n. IsTrue (is_err_code n)) code
     (err_code c.from.result (omega (arith, c.from.ensures, c.code.ensures.least))
     (omega (arith, c.from.ensures, c.code.ensures.most))) in
-    flush_fails c.self.inside.geometry c.self.inside.name c.self.inside.handles (parts b) c.self.invariant
-    c.args.finished (request_of c.in-Some.request) c.args.self.now.state (state_is c.self.view_is) (ends b)
+    flush_fails (parts_of c.self.inside) c.self.invariant c.args.finished (request_of c.in-Some.request) c.args.self.now.state (state_is c.self.view_is) (ends b)
     c.if-request.false c.in-Err.code c.from.result code (sym (ap (λ (k : FinishedParts). k.outcome) c.into_parts-buffer.ensures) ∙ c.in-Err.is) is_code c.end_write-in-Err.new.self
     _ _ _ c.end_write-in-Err.ensures
     c.note_failure.ensures c.release.ensures

@@ -14,7 +14,7 @@ use Rattle.cachecore.proofs.StepLemmas.{err_is, write_stopped, write_passed, wri
 use Rattle.pagestore.proofs.Spans.{not_less}
 use Rattle.cachecore.proofs.CoreViews.{state_is}
 use Rattle.cachecore.proofs.cache.CacheCore.write.Goals as goal
-use Rattle.cachecore.proofs.cache.CacheCore.write.Goals.{After-saturating_add-end, Else-overwrite}
+use Rattle.cachecore.proofs.cache.CacheCore.write.Goals.{After-overwrite, Else-overwrite}
 
 -- what has been tested before anything is written
 record Facts (s : State) (handle : HandleId) (offset file : ℕ) (bytes : List ℕ) : Type 0 where
@@ -23,7 +23,7 @@ record Facts (s : State) (handle : HandleId) (offset file : ℕ) (bytes : List �
   short : touched_count s.sizes.page offset (length bytes) ≤ MAX_TOUCHED
   small : offset + length bytes ≤ MAX_FILE_SIZE
 
-facts : (c : After-saturating_add-end)
+facts : (c : After-overwrite)
     → Facts c.args.self.now.state c.args.handle c.args.offset c.in-Some.file c.args.bytes.now
 facts c =
     let page = c.page.ensures.value ∙ ap (λ s. s.sizes.page) (state_is c.self.view_is) in
@@ -47,7 +47,7 @@ past c = subst (λ (k : Core). Facts k.state c.args.handle c.args.offset c.in-So
 pub returns-then-is_filling-clause-step : goal.returns-then-is_filling-clause-step
 returns-then-is_filling-clause-step c =
     let at = goal.at.returns-then-is_filling-clause-step c in
-    let w = past at.Else-overwrite (facts at.After-saturating_add-end) in
+    let w = past at.Else-overwrite (facts at.After-overwrite) in
     let s = c.overwrite.new.self.state in
     subst (λ (k : Core). Step k.state (event.Write c.args.handle c.args.offset c.args.bytes.now)
     (reply.Wait (record { 0 = c.in-Some-write_stop.page })) s)
@@ -58,7 +58,7 @@ returns-then-is_filling-clause-step c =
 pub returns-in-Some-write_stop-clause-step : goal.returns-in-Some-write_stop-clause-step
 returns-in-Some-write_stop-clause-step c =
     let at = goal.at.returns-in-Some-write_stop-clause-step c in
-    let w = past at.Else-overwrite (facts at.After-saturating_add-end) in
+    let w = past at.Else-overwrite (facts at.After-overwrite) in
     let s = c.overwrite.new.self.state in
     subst (λ (k : Core). Step k.state (event.Write c.args.handle c.args.offset c.args.bytes.now)
     (reply.Miss (record { 0 = c.in-Some-write_stop.page })) s)
@@ -69,7 +69,7 @@ returns-in-Some-write_stop-clause-step c =
 pub returns-in_err-check_room-clause-step : goal.returns-in_err-check_room-clause-step
 returns-in_err-check_room-clause-step c =
     let at = goal.at.returns-in_err-check_room-clause-step c in
-    let w = past at.Else-overwrite (facts at.After-saturating_add-end) in
+    let w = past at.Else-overwrite (facts at.After-overwrite) in
     let s = c.overwrite.new.self.state in
     subst (λ (k : Core). Step k.state (event.Write c.args.handle c.args.offset c.args.bytes.now)
     (wrote c.from_residual.result) s)
@@ -82,7 +82,7 @@ returns-in_err-check_room-clause-step c =
 pub write_pages-requires-clause-passed : goal.write_pages-requires-clause-passed
 write_pages-requires-clause-passed c =
     let at = goal.at.write_pages-requires-clause-passed c in
-    let w = past at.Else-overwrite (facts at.After-saturating_add-end) in
+    let w = past at.Else-overwrite (facts at.After-overwrite) in
     let s = c.overwrite.new.self.state in
     (
       c.args.handle.0,
@@ -94,7 +94,7 @@ write_pages-requires-clause-passed c =
 pub returns-in_err-write_pages-clause-step : goal.returns-in_err-write_pages-clause-step
 returns-in_err-write_pages-clause-step c =
     let at = goal.at.returns-in_err-write_pages-clause-step c in
-    let w = past at.Else-overwrite (facts at.After-saturating_add-end) in
+    let w = past at.Else-overwrite (facts at.After-overwrite) in
     let s = c.overwrite.new.self.state in
     subst (λ (k : Core). Step k.state (event.Write c.args.handle c.args.offset c.args.bytes.now)
     (wrote c.from_residual-in_err-write_pages.result) c.write_pages.new.self.state)
@@ -109,7 +109,7 @@ returns-in_err-write_pages-clause-step c =
 pub returns-clause-step : goal.returns-clause-step
 returns-clause-step c =
     let at = goal.at.returns-clause-step c in
-    let w = past at.Else-overwrite (facts at.After-saturating_add-end) in
+    let w = past at.Else-overwrite (facts at.After-overwrite) in
     let s = c.overwrite.new.self.state in
     subst (λ (k : Core). Step k.state (event.Write c.args.handle c.args.offset c.args.bytes.now)
     (reply.Wrote (length c.args.bytes.now) c.saturating_add-end.result) c.write_pages.new.self.state)
@@ -124,7 +124,7 @@ overwrite-requires-clause-open c =
 
 pub returns-then-overwrite-clause-step : goal.returns-then-overwrite-clause-step
 returns-then-overwrite-clause-step c =
-    let w = facts (goal.at.returns-then-overwrite-clause-step c).After-saturating_add-end in
+    let w = facts (goal.at.returns-then-overwrite-clause-step c).After-overwrite in
     let s = c.args.self.now.state in
     write_step s c.args.handle c.args.offset c.in-Some.file c.args.bytes.now w.found w.some w.short w.small
     (sym (c.if-overwrite.ensures.unstopped refl)) _ _ c.overwrite.new.self.state
