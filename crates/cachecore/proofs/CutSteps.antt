@@ -32,6 +32,7 @@ use Rattle.machine.specs.Sound.{Sound}
 use Rattle.machine.proofs.sound.Changes.{lookups, same_lookups}
 use Rattle.cachecore.specs.Tables.{IsCore, state_of}
 use Rattle.machine.proofs.changes.ChangeLaws.{cut_pages, get-cut_pages, shrunk_truncates}
+use Rattle.cachecore.proofs.FileChanges.{core-changed}
 use Rattle.cachecore.proofs.FillCuts.{filling-shrunk, filling_counted}
 use Rattle.cachecore.proofs.HoldCuts.{Holds-cut}
 use Rattle.machine.proofs.steps.Choices.{mapped_some}
@@ -41,69 +42,6 @@ use Rattle.maps.proofs.MapLaws.{len-each_value, same_place_map}
 use Rattle.pagestore.proofs.RangeLemmas.{stored-with, length-with}
 use Rattle.machine.proofs.sound.Cuts.{shrunk_sound}
 use Rattle.machine.proofs.sound.Lookups.{page_at-same}
-
--- ---- another entry at f, and other blocks and requests
-
-module _ (s : State) (store : Store) (blocks : Blocks) (c : IsCore s store blocks) (f : ℕ) (here : f < length s.files)
-    (e : File) (spots : FinMap place_cmp Spot) (requests : FinMap nat_cmp Request) (syncs : FinMap nat_cmp Sync) where
-  abbrev after : State
-  after = record s { files = slice_set s.files f e; spots = spots; requests = requests; syncs = syncs }
-
-  at : (g : ℕ) → eqb g f ≡ true → get_or (slice_set s.files f e) g no_file ≡ e
-  at g t = ap (λ k. get_or (slice_set s.files f e) k no_file) (eqb-true g f t)
-      ∙ get_or-set_same s.files f e no_file here
-
-  other : (g : ℕ) → eqb g f ≡ false → get_or (slice_set s.files f e) g no_file ≡ get_or s.files g no_file
-  other g t = grind (arith, nat_tests, get_or-set_other {A = File})
-
-  pub core-changed : (now : Store) (bs : Blocks) → AreSized s.sizes.page e.pages → e.size ≤ MAX_FILE_SIZE
-      → now.page ≡ store.page → finmap.len e.pages + filling_total after + now.free ≡ finmap.len (file_at s f).pages
-      + filling_total s + store.free
-      → ((g q : ℕ) → is_awaited now g q ≡ is_filling after g q) → bs.count ≡ blocks.count → Holds bs.held requests
-      → ((t : ℕ) (r : Request) → finmap.get requests t ≡ Some r → IsPage r.file r.page × (r.file < length s.files))
-      → e.failures ≡ (file_at s f).failures → finmap.len requests ≡ finmap.len s.requests → Sound after
-      → IsCore after now bs
-  core-changed now bs sized small page freed filling device holds within failures many sound =
-      let same : length (slice_set s.files f e) ≡ length s.files = length-set s.files f e in
-      record {
-        few_files = omega (arith, same, c.few_files);
-        known = λ h g k. let old : g < length s.files = c.known h g k in omega (arith, same, old);
-        bounded =
-            λ g. elim (eqb g f) as (λ t. eqb g f ≡ t
-            → (get_or (slice_set s.files f e) g no_file).size ≤ MAX_FILE_SIZE) [
-              | true ↦ λ t. subst (λ (x : File). x.size ≤ MAX_FILE_SIZE) (sym (at g t)) small
-              | false ↦ λ t. subst (λ (x : File). x.size ≤ MAX_FILE_SIZE) (sym (other g t)) (c.bounded g)
-            ] refl;
-        sized = λ g. elim (eqb g f) as (λ t. eqb g f ≡ t
-            → AreSized s.sizes.page (get_or (slice_set s.files f e) g no_file).pages) [
-              | true ↦ λ t. subst (λ (x : File). AreSized s.sizes.page x.pages) (sym (at g t)) sized
-              | false ↦ λ t. subst (λ (x : File). AreSized s.sizes.page x.pages) (sym (other g t)) (c.sized g)
-            ] refl;
-        page = page ∙ c.page;
-        framed = c.framed;
-        counted =
-            omega (
-              arith,
-              sum_by-set (λ (file : File). finmap.len file.pages) s.files f e no_file here,
-              c.counted,
-              freed,
-            );
-        filling = filling;
-        device = device ∙ c.device;
-        holds = holds;
-        within = λ t r e. (within t r e).0;
-        filed = λ t r e. let old : r.file < length s.files = (within t r e).1 in omega (arith, same, old);
-        failed =
-            λ g. elim (eqb g f) as (λ t. eqb g f ≡ t → (get_or (slice_set s.files f e) g no_file).failures
-            + finmap.len requests ≤ s.next) [
-              | true ↦ λ t. subst (λ (x : File). x.failures + finmap.len requests ≤ s.next) (sym (at g t))
-                  (omega (arith, failures, many, c.failed f))
-              | false ↦ λ t. subst (λ (x : File). x.failures + finmap.len requests ≤ s.next) (sym (other g t))
-                  (omega (arith, many, c.failed g))
-            ] refl;
-        serials = c.serials;
-        sound = sound;
-      }
 
 -- ---- the pages of the file that is cut
 

@@ -28,7 +28,7 @@ use Rattle.pagestore.specs.Store.{Store, stored_at, stored_page, is_awaited}
 use Rattle.pagestore.specs.Syncing.{failed_of}
 use Rattle.cachecore.specs.Tables.{IsCore, state_of}
 use Rattle.machine.specs.Tests.{has_idle}
-use Rattle.cachecore.proofs.CutSteps.{core-changed}
+use Rattle.cachecore.proofs.FileChanges.{core-changed}
 use Rattle.cachecore.proofs.HandleLemmas.{len_one_less}
 use Rattle.maps.proofs.MapLaws.{any_value, no_entries}
 use Rattle.maps.proofs.Maps.{get-remove_nat}

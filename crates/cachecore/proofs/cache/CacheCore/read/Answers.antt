@@ -13,7 +13,7 @@ use Rattle.machine.specs.declared.event.Reply.TheVariants as reply
 use Rattle.machine.specs.Step.{Step}
 use Rattle.pagestore.specs.Store.{Store}
 use Rattle.cachecore.specs.Tables.{state_of}
-use Rattle.cachecore.proofs.StepLemmas.{ReadFacts, read_too_long, stop_step, bytes_step}
+use Rattle.cachecore.proofs.StepLemmas.{ReadFacts, bytes_step, first_absent, read_too_long, stop_step}
 use Rattle.pagestore.proofs.Spans.{is_less, not_less}
 use Rattle.cachecore.proofs.CoreViews.{state_is}
 use Rattle.cachecore.proofs.cache.CacheCore.read.Goals as goal
