@@ -131,7 +131,7 @@ zeros_state sizes name store handles blocks flights syncs f p free page =
     (record (stored_at store f) { pages = finmap.insert (stored_at store f).pages p (blank n) })) handles blocks flights
     syncs) page
 
-module _ (s : State) (store : Store) (blocks : Blocks) (c : IsCore s store blocks) where
+module _ {s : State} {store : Store} {blocks : Blocks} (c : IsCore s store blocks) where
   -- ---- the page lists, of which the tables say nothing
 
   pub core-lists : (lists : PageLists) → IsCore s (with_lists store lists) blocks
@@ -260,7 +260,7 @@ module _ (s : State) (store : Store) (blocks : Blocks) (c : IsCore s store block
       → Sound (record (put_file s f e) { spots = bs.spots })
       → IsCore (record (put_file s f e) { spots = bs.spots }) now bs
   core-file f e made now bs here sized small more room page free idle count held failures sound =
-      core-changed s store blocks c f here e bs.spots s.requests s.syncs now bs sized small page
+      core-changed c f here e bs.spots s.requests s.syncs now bs sized small page
       (omega (arith, more, room, free)) (λ g q. idle g q ∙ c.filling g q) count
       (subst (λ (h : FinMap nat_cmp Bool). Holds h s.requests) (sym held) c.holds)
       (λ t r k. (c.within t r k, c.filed t r k)) failures refl sound
@@ -393,7 +393,7 @@ module _ (s : State) (store : Store) (blocks : Blocks) (c : IsCore s store block
 
       entry : e3 ≡ record (file_at s f)
           { size = max (file_at s f).size (o + length b); pages = written_pages s.sizes.page o b (file_at s f).pages }
-      entry = parts-file s.sizes.page o b (file_at s f) e1 e2 e3 w full some
+      entry = parts-file w full some
 
       write_same : record (put_file s f e3) { spots = (taken s.sizes.page).spots } ≡ written s f o b
       write_same = λ i. record (put_file s f (entry i)) { spots = placed_are f (touched s.sizes.page o (length b)) i }
@@ -412,7 +412,7 @@ module _ (s : State) (store : Store) (blocks : Blocks) (c : IsCore s store block
           let made : ℕ = count_by (λ p. not (is_some (finmap.get (file_at s f).pages p)))
           (range_with_len (o / P) (touched_count P o (length b))) in
           let more : finmap.len e3.pages ≡ finmap.len (file_at s f).pages + made =
-          ap finmap.len (parts-pages s.sizes.page o b (file_at s f) e1 e2 e3 w full some)
+          ap finmap.len (parts-pages w full some)
           ∙ len-written_pages s.sizes.page o b (file_at s f).pages
           ∙ ap (λ k. finmap.len (file_at s f).pages
           + count_by (λ p. not (is_some (finmap.get (file_at s f).pages p)))
@@ -420,7 +420,7 @@ module _ (s : State) (store : Store) (blocks : Blocks) (c : IsCore s store block
           let sound : Sound (written s f o b) =
           subst (λ g. Sound (written s g o b)) file
           (written_sound s c.sound h o b (may_write s h o (length b) passed)) in
-          core-file f e3 made now (taken P) here (parts_sized s.sizes.page o b (file_at s f) e1 e2 e3 w (c.sized f))
-          (omega (arith, c.bounded f, bound, parts-size s.sizes.page o b (file_at s f) e1 e2 e3 w)) more
+          core-file f e3 made now (taken P) here (parts_sized w (c.sized f))
+          (omega (arith, c.bounded f, bound, parts-size w)) more
           (frames_enough h f o (length b) P file page passed) same free idle refl refl
           (ap (λ (x : File). x.failures) entry) (subst Sound (sym write_state) sound)

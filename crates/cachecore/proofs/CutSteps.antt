@@ -92,7 +92,7 @@ pub record ShrinkSteps (s : State) (f z : ℕ) (old tail freed now : Store) : Ty
   pub is_freed : RemovesFrom tail freed f (page_count s.sizes.page z)
   pub is_sized : now ≡ record freed { files = slice_set freed.files f (record (stored_at freed f) { size = z }) }
 
-module _ (s : State) (f z : ℕ) (old tail freed now : Store) (w : ShrinkSteps s f z old tail freed now) where
+module _ {s : State} {f z : ℕ} {old tail freed now : Store} (w : ShrinkSteps s f z old tail freed now) where
   abbrev m : FinMap nat_cmp Page
   m = cut_boundary s f z (boundary s f z)
 
@@ -171,7 +171,7 @@ module _ (sizes : Sizes) (name f z : ℕ) (handles : FinMap nat_cmp ℕ) (old ta
     shrunk_state = λ i. record {
       sizes = sizes;
       name = name;
-      files = shrunk_files s f z old tail freed now w i;
+      files = shrunk_files w i;
       handles = handles;
       spots = spots_now i;
       next = (drops i).next;
@@ -184,16 +184,16 @@ module _ (sizes : Sizes) (name f z : ℕ) (handles : FinMap nat_cmp ℕ) (old ta
     core-shrunk c small =
         let t : State = shrunk s f z in
         let filling : (g q : ℕ) → is_awaited now g q ≡ is_filling t g q =
-        λ g q. shrunk_awaited s f z old tail freed now w g q
+        λ g q. shrunk_awaited w g q
         ∙ ap (λ b. b && not (eqb g f && nat_le (page_count sizes.page z) q)) (c.filling g q)
         ∙ sym (filling-shrunk s f z g q) in
         let sound : Sound t = shrunk_sound s c.sound f z in
         let was = filling_counted s old c.sound c.filling in
         let is = filling_counted t now sound filling in
         subst (λ x. IsCore x now after) (sym shrunk_state)
-        (core-changed s old before c f w.here (record (file_at s f) { size = z; pages = cut_pages s f z }) t.spots
-        t.requests t.syncs now after (sized_cut s f z (c.sized f)) small (shrunk_page s f z old tail freed now w)
-        (omega (arith, shrunk_freed s f z old tail freed now w, was, is)) filling cuts.count
+        (core-changed c f w.here (record (file_at s f) { size = z; pages = cut_pages s f z }) t.spots
+        t.requests t.syncs now after (sized_cut s f z (c.sized f)) small (shrunk_page w)
+        (omega (arith, shrunk_freed w, was, is)) filling cuts.count
         (Holds-cut s c.sound f z before after refl cuts c.holds)
         (λ u r e.
         let x = mapped_some cut (finmap.get s.requests u) r (sym (get-each_value (λ _. cut) s.requests u) ∙ e) in
@@ -234,7 +234,7 @@ module _ (sizes : Sizes) (name f z : ℕ) (handles : FinMap nat_cmp ℕ) (old no
         let sound : Sound (put_file before f (record (file_at before f) { size = z })) =
         grown_sound before f z c.sound in
         subst (λ x. IsCore x now blocks) (sym grown_state)
-        (core-changed before old blocks c f here (record (file_at before f) { size = z }) before.spots before.requests
+        (core-changed c f here (record (file_at before f) { size = z }) before.spots before.requests
         before.syncs now blocks (c.sized f) small (ap (λ (t : Store). t.page) is)
         (let free : now.free ≡ old.free = ap (λ (t : Store). t.free) is in omega (arith, free))
         (λ g q. ap (λ (t : Store). is_awaited t g q) is ∙ c.filling g q) refl c.holds

@@ -87,7 +87,7 @@ module _ (p : Parts)
     quiet_fill dropped = record {
       step = dropped_step s Fill f x e dropped (state_by left) refl;
       cache = record {
-        core = quiet_core s p.store p.blocks w.core f.serial x e.found (dropped_fills_none x dropped);
+        core = quiet_core w.core f.serial x e.found (dropped_fills_none x dropped);
         syncs = w.syncs;
       };
     }
@@ -99,7 +99,7 @@ module _ (p : Parts)
 
     module _ (live : x.dropped ≡ false) where
       pub awaited_here : is_awaited p.store x.file x.page ≡ true
-      awaited_here = fills_here s p.store p.blocks w.core f.serial x e.found live e.kind_is
+      awaited_here = fills_here w.core f.serial x e.found live e.kind_is
 
       abbrev absent_again : Store
       absent_again = record p.store {
@@ -115,7 +115,7 @@ module _ (p : Parts)
             (reply.Failed code) _ (live, refl)
             (sym (ap (λ k. cond (is_flush k) (flush_failed (ended s f.serial) x code) (ended s f.serial)) e.kind_is));
         cache = record {
-          core = unfilled_core s p.store p.blocks w.core f.serial x e.found live e.kind_is;
+          core = unfilled_core w.core f.serial x e.found live e.kind_is;
           syncs = w.syncs;
         };
       }
@@ -137,7 +137,7 @@ module _ (p : Parts)
         step = end_step s Fill f x e (outcome.Read f.bytes) (ap (λ o. outcome_of Fill o f.bytes) went) reply.Filled _
             live refl;
         cache = record {
-          core = filled_core s p.store p.blocks w.core f.serial x e.found live e.kind_is f.bytes size filled refl refl
+          core = filled_core w.core f.serial x e.found live e.kind_is f.bytes size filled refl refl
               refl;
           syncs = moved_syncs p.handles p.store.files p.syncs w.syncs filled.files
               (pages_failed (repaged (finmap.insert file.pages x.page (record { bytes = f.bytes; tags = no_tags })))
@@ -159,7 +159,7 @@ module _ (p : Parts)
     quiet_flush dropped = record {
       step = dropped_step s Flush f x e dropped (state_by left) refl;
       cache = record {
-        core = quiet_core s p.store p.blocks w.core f.serial x e.found (flush_fills_none x e.kind_is);
+        core = quiet_core w.core f.serial x e.found (flush_fills_none x e.kind_is);
         syncs = w.syncs;
       };
     }
@@ -206,7 +206,7 @@ module _ (p : Parts)
         step = end_step s Flush f x e outcome.Written (ap (λ o. outcome_of Flush o f.bytes) went) reply.Written _ live
             refl;
         cache = record {
-          core = flushed_core s p.store p.blocks w.core f.serial x e.found live e.kind_is (retagged false) refl refl
+          core = flushed_core w.core f.serial x e.found live e.kind_is (retagged false) refl refl
               refl;
           syncs = moved_syncs p.handles p.store.files p.syncs w.syncs (retagged false).files
               (pages_failed (retagged false) p.store x.file _ _ refl);
@@ -279,7 +279,7 @@ module _ (p : Parts)
             (reply.Failed code) _ (live, refl)
             (sym (ap (λ k. cond (is_flush k) (flush_failed (ended s f.serial) x code) (ended s f.serial)) e.kind_is));
         cache = record {
-          core = failed_core s p.store p.blocks w.core f.serial x e.found live e.kind_is code (failed_store code) refl
+          core = failed_core w.core f.serial x e.found live e.kind_is code (failed_store code) refl
               refl refl;
           syncs = failed_syncs p.handles p.store.files p.syncs w.syncs x.file (failed_file code) is_code;
         };

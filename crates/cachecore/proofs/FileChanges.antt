@@ -18,7 +18,7 @@ use Rattle.pagestore.specs.Ranges.{AreSized}
 use Rattle.cachecore.specs.Holding.{Holds}
 use Rattle.cachecore.specs.Tables.{IsCore}
 
-module _ (s : State) (store : Store) (blocks : Blocks) (c : IsCore s store blocks) (f : ℕ) (here : f < length s.files)
+module _ {s : State} {store : Store} {blocks : Blocks} (c : IsCore s store blocks) (f : ℕ) (here : f < length s.files)
     (e : File) (spots : FinMap place_cmp Spot) (requests : FinMap nat_cmp Request) (syncs : FinMap nat_cmp Sync) where
   abbrev after : State
   after = record s { files = slice_set s.files f e; spots = spots; requests = requests; syncs = syncs }

@@ -64,7 +64,7 @@ module _ (p : Parts)
     -- the cache after the fill began: its state is `requested s Fill f q`
     abbrev pub reading : Parts
     reading = record p {
-      store = filling_store s p.store p.blocks w.core f q absent idle spot at;
+      store = filling_store w.core f q absent idle spot at;
       blocks = holding block;
       flights = flights.begun p.flights (request block);
     }
@@ -72,7 +72,7 @@ module _ (p : Parts)
     pub reading_cache : IsPage f q → f < length p.store.files → spot.written ≡ true → 0 < p.store.free
         → p.flights.next < SERIAL_END → IsKept reading
     reading_cache place here written some room = record {
-      core = fill_begun_core s p.store p.blocks w.core f q absent idle spot at place here written some room;
+      core = fill_begun_core w.core f q absent idle spot at place here written some room;
       syncs = moved_syncs p.handles p.store.files p.syncs w.syncs reading.store.files (λ g. refl);
     }
 
@@ -86,7 +86,7 @@ module _ (p : Parts)
         → b ≡ holding spot.block → t ≡ flights.begun p.flights (request spot.block)
         → (let now : Parts = record p { store = k; blocks = b; flights = t } in now) ≡ reading
     reading_is k b t store blocks fly =
-        let same : spot.block ≡ block = sym (block_is s p.store p.blocks w.core f q absent idle spot at) in
+        let same : spot.block ≡ block = sym (block_is w.core f q absent idle spot at) in
         let held = blocks ∙ ap holding same in
         let flight = fly ∙ ap (λ b. flights.begun p.flights (request b)) same in
         λ i. let k : Parts = record p { store = store i; blocks = held i; flights = flight i } in k

@@ -124,7 +124,7 @@ module _ (p : Parts)
   cached_start = ap is_some start.1
 
   block_is : block_at s f q ≡ Some block
-  block_is = page_block s p.store p.blocks w.core f q page start.1 start.2 start.3
+  block_is = page_block w.core f q page start.1 start.2 start.3
 
   pub must_be_told : None ≡ option_map told (finmap.get p.blocks.spots (f, q)) → ⊥
   must_be_told none = no_told (finmap.get p.blocks.spots (f, q)) none (ap is_some block_is)
@@ -146,8 +146,8 @@ module _ (p : Parts)
   module _ (place : IsPage f q) (room : is_full s ≡ false) where
     pub begun_cache : IsKept begun
     begun_cache = record {
-      core = flush_begun_core s p.store p.blocks w.core f q page start.1 start.2 start.3 place
-          (serials_left s p.store p.blocks w.core room) begun.store refl refl refl;
+      core = flush_begun_core w.core f q page start.1 start.2 start.3 place
+          (serials_left w.core room) begun.store refl refl refl;
       syncs = moved_syncs p.handles p.store.files p.syncs w.syncs begun.store.files
           (pages_failed begun.store p.store f _ _ refl);
     }
@@ -163,10 +163,10 @@ module _ (p : Parts)
 
     pub unheld_block : finmap.get p.blocks.held placed.block.0 ≡ None
     unheld_block = ap (finmap.get p.blocks.held) same_block
-        ∙ unheld_here s p.store p.blocks w.core f q page start.1 start.2 start.3
+        ∙ unheld_here w.core f q page start.1 start.2 start.3
 
     pub held_room : is_full s ≡ false → finmap.len p.blocks.held < 64
-    held_room room = room_left s p.store p.blocks w.core room
+    held_room room = room_left w.core room
 
     -- as the calls of the parts say it
     pub begun_is : (k : Store) (b : Blocks) (t : Flights)

@@ -123,10 +123,10 @@ module _ (p : Parts)
         let e : File =
         record (stored_at p.store file) { pages = each_value (to_write fresh) (stored_at p.store file).pages } in
         let count = len-each_value (to_write fresh) (stored_at p.store file).pages in
-        let all = all_frames s p.store p.blocks w.core in
-        let files = count_files s p.store p.blocks w.core file e here s.spots s.next s.requests begun.syncs in
-        let cached = cached_after s p.store p.blocks w.core file e here s.spots s.next s.requests begun.syncs in
-        file_core s p.store p.blocks w.core file e here s.spots s.next s.requests begun.syncs begun.store p.blocks.held
+        let all = all_frames w.core in
+        let files = count_files w.core file e here s.spots s.next s.requests begun.syncs in
+        let cached = cached_after w.core file e here s.spots s.next s.requests begun.syncs in
+        file_core w.core file e here s.spots s.next s.requests begun.syncs begun.store p.blocks.held
         refl (sized_marked p.sizes.page fresh (stored_at p.store file).pages (w.core.sized file))
         (record {
           page = w.core.page;
@@ -135,7 +135,7 @@ module _ (p : Parts)
           holds = w.core.holds;
           within = w.core.within;
           filed = λ t x k. (let a = w.core.filed t x k in omega arith);
-          failed = each_file s p.store p.blocks w.core file e here s.spots s.next s.requests begun.syncs
+          failed = each_file w.core file e here s.spots s.next s.requests begun.syncs
               (λ x. x.failures + finmap.len s.requests ≤ s.next) (w.core.failed file) w.core.failed;
           serials = w.core.serials;
           sound = sound;
@@ -176,7 +176,7 @@ module _ (p : Parts)
   pub without_cache : (m : SyncId) → IsKept (without m)
   without_cache m =
       record {
-        core = core-syncs s p.store p.blocks w.core (finmap.remove p.syncs m.0);
+        core = core-syncs w.core (finmap.remove p.syncs m.0);
         syncs = removed_syncs p.handles p.store.files p.syncs w.syncs m.0;
       }
 
@@ -245,7 +245,7 @@ module _ (p : Parts)
                 ((λ i. let t : State = record s { syncs = put i } in t)
                 ∙ (λ i. put_sync s m.0 (record y { bound = Some (says.1 i) })));
             cache = record {
-              core = core-syncs s p.store p.blocks w.core (bounded b.0).syncs;
+              core = core-syncs w.core (bounded b.0).syncs;
               syncs = subst (AreSyncs p.handles p.store.files) (sym put)
                   (changed_syncs p.handles p.store.files p.syncs w.syncs m.0 y z (sym at) refl refl);
             };
@@ -285,7 +285,7 @@ pub last_cache : (p : Parts)
     → (x : FinMap nat_cmp Sync) → x ≡ change_at m (with_started q) p.syncs
     → IsKept (record p { syncs = x })
 last_cache p w m q y at x is = record {
-  core = core-syncs (state_by p) p.store p.blocks w.core x;
+  core = core-syncs w.core x;
   syncs = subst (AreSyncs p.handles p.store.files) (sym (is ∙ change_is p.syncs m (with_started q) y at))
       (changed_syncs p.handles p.store.files p.syncs w.syncs m y (with_started q y) at refl refl);
 }

@@ -96,7 +96,7 @@ untouched-blank P x y false e h = h
 lt_more : (a b : ℕ) → nat_lt a (b + 1) ≡ nat_le a b
 lt_more a b = grind (arith, nat_tests)
 
-module _ (P o : ℕ) (b : List ℕ) (e0 e1 e2 e3 : File) (w : WriteParts P o b e0 e1 e2 e3) where
+module _ {P o : ℕ} {b : List ℕ} {e0 e1 e2 e3 : File} (w : WriteParts P o b e0 e1 e2 e3) where
   parts-page : (p : ℕ) → finmap.get e3.pages p
       ≡ (if touches P o (length b) p then Some (written_page P o b p (finmap.get e0.pages p)) else finmap.get e0.pages
       p)

@@ -62,20 +62,20 @@ pub hold-requires-clause-mapped : goal.hold-requires-clause-mapped
 hold-requires-clause-mapped c =
     let p = parts_of c.self.inside in
     let w = fits (goal.at.hold-requires-clause-mapped c).After-self in
-    mapped_here (state_by p) p.store p.blocks c.self.invariant.core c.args.file c.args.page.0 w.absent w.idle
+    mapped_here c.self.invariant.core c.args.file c.args.page.0 w.absent w.idle
     (spot (goal.at.hold-requires-clause-mapped c).After-self) w.at refl
 
 pub hold-requires-clause-not_held : goal.hold-requires-clause-not_held
 hold-requires-clause-not_held c =
     let p = parts_of c.self.inside in
     let w = fits (goal.at.hold-requires-clause-not_held c).After-self in
-    unheld_here (state_by p) p.store p.blocks c.self.invariant.core c.args.file c.args.page.0 w.absent w.idle
+    unheld_here c.self.invariant.core c.args.file c.args.page.0 w.absent w.idle
     (spot (goal.at.hold-requires-clause-not_held c).After-self) w.at
 
 pub hold-requires-clause-room : goal.hold-requires-clause-room
 hold-requires-clause-room c =
     let p = parts_of c.self.inside in
-    held_room (state_by p) p.store p.blocks c.self.invariant.core (sym c.is_full.ensures ∙ c.if-is_full.false)
+    held_room c.self.invariant.core (sym c.is_full.ensures ∙ c.if-is_full.false)
 
 begun : (c : goal.After-begin) → (let w = fits (goal.at.invariant_of-self-2 c).After-self in
     let now : Parts =
@@ -102,14 +102,14 @@ invariant_of-self-2 c =
     let room = sym c.is_full.ensures ∙ c.if-is_full.false in
     let here : c.args.file < length p.store.files =
     subst (λ (s : State). c.args.file < length s.files) (sym same) c.requires.here in
-    let free = free_frames_are s p.store p.blocks c.self.invariant.core in
+    let free = free_frames_are c.self.invariant.core in
     let frames = ap free_frames same in
     let few = c.self.invariant.core.few_files in
     subst IsKept (sym (begun c))
     (reading_cache p c.self.invariant c.args.file c.args.page.0 w.absent w.idle
     (spot (goal.at.invariant_of-self-2 c).After-self) w.at
     (record { file = omega (arith, here, few); page = c.requires.below }) here refl
-    (omega (arith, free, frames, c.requires.room)) (serials_left s p.store p.blocks c.self.invariant.core room))
+    (omega (arith, free, frames, c.requires.room)) (serials_left c.self.invariant.core room))
 
 pub returns-clause-begun : goal.returns-clause-begun
 returns-clause-begun c =

@@ -62,7 +62,7 @@ tests_are c absent need left absent_is left_is need_is =
     let here : c.args.file < length c.self.inside.pages.files = omega arith in
     let back = sym (state_is c.self.view_is) in
     ap (λ s. room_tests s c.args.file c.args.offset c.args.count) back
-    ∙ room_is _ c.self.inside.pages c.self.inside.blocks c.self.invariant.core refl c.args.file c.args.offset
+    ∙ room_is c.self.invariant.core refl c.args.file c.args.offset
     c.args.count c.page-page_size.result (slice_index_or c.self.inside.pages.files c.args.file no_file)
     c.passes_dirty_limit.result absent need left c.page-page_size.ensures.value refl
     (c.passes_dirty_limit.ensures ∙ (λ i. nat_lt 0 (c.clean_pages.ensures i) && nat_lt (back i).sizes.dirty_limit

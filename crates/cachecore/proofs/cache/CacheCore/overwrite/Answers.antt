@@ -99,26 +99,26 @@ wrote c =
     let e1 = stored_at store f in
     let e2 = stored_at laid f in
     let e3 = stored_at final f in
-    let of_write = parts P o b f n store store laid final steps in
-    let files = final_files P o b f n store store laid final steps in
-    let blocks : Blocks = taken old store a.blocks core refl h f o P b e1 e2 e3 final file
+    let of_write = parts steps in
+    let files = final_files steps in
+    let blocks : Blocks = taken core refl h f o P b e1 e2 e3 final file
     c.page-page_size.ensures.value passed here of_write positive c.requires.bound P in
     let placed : blocks ≡ a.blocks = placed_same P o b positive c.requires.some fits a.blocks f
     (ap not (dirty_placed old core.sound f p dirty)) in
     let state : state_of a.geometry a.name final.files a.handles a.blocks a.requests a.syncs
     ≡ record (put_file old f e3) { spots = blocks.spots } =
     (λ i. state_of a.geometry a.name (files i) a.handles (sym placed i) a.requests a.syncs) in
-    let written_is = state ∙ write_state old store a.blocks core refl h f o P b e1 e2 e3 final file
+    let written_is = state ∙ write_state core refl h f o P b e1 e2 e3 final file
     c.page-page_size.ensures.value passed here of_write positive c.requires.bound in
     let kept =
     subst (λ (bs : Blocks). IsCore (state_of a.geometry a.name final.files a.handles a.blocks a.requests a.syncs)
     final bs) placed
     (subst (λ (t : State). IsCore t final blocks) (sym state)
-    (core-written old store a.blocks core refl h f o P b e1 e2 e3 final file c.page-page_size.ensures.value passed here
+    (core-written core refl h f o P b e1 e2 e3 final file c.page-page_size.ensures.value passed here
     of_write positive c.requires.bound
-    (final_page P o b f n store store laid final steps)
-    (final_free P o b f n store store laid final steps)
-    (final_idle P o b f n store store laid final steps))) in
+    (final_page steps)
+    (final_free steps)
+    (final_idle steps))) in
     (record {
       core = kept;
       syncs = moved_syncs a.handles a.pages.files a.syncs c.self.invariant.syncs final.files

@@ -101,7 +101,7 @@ invariant_of-self c =
     c.self.invariant.core small) in
     let failed : (g : ℕ) → failed_of c.set_size.new.self.files g ≡ failed_of a.pages.files g =
     λ g. ap (λ (fs : List File). failed_of fs g)
-    (shrunk_files (before c) f z a.pages c.match-boundary.self-inside.pages c.remove_from.new.self c.set_size.new.self
+    (shrunk_files
     (steps c)) ∙ kept_failed a.pages.files f _ refl refl g in
     let moved = moved_syncs a.handles a.pages.files a.syncs c.self.invariant.syncs c.set_size.new.self.files failed in
     record {

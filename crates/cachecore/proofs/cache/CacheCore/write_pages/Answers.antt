@@ -27,7 +27,7 @@ place-requires-clause-frames c =
     let a = c.self.inside in
     let n = length c.args.bytes.now in
     let passed = subst (λ s. Passed s c.args.file c.args.offset n) (sym (state_is c.self.view_is)) c.requires.passed in
-    frames_enough (state_of a.geometry a.name a.pages.files a.handles a.blocks a.requests a.syncs) a.pages a.blocks
+    frames_enough
     c.self.invariant.core refl passed.0 c.args.file c.args.offset n c.page-page_size.result
     passed.1 c.page-page_size.ensures.value passed.2
 
@@ -36,7 +36,7 @@ place-requires-clause-room c =
     let a = c.self.inside in
     let n = length c.args.bytes.now in
     let passed = subst (λ s. Passed s c.args.file c.args.offset n) (sym (state_is c.self.view_is)) c.requires.passed in
-    blocks_enough (state_of a.geometry a.name a.pages.files a.handles a.blocks a.requests a.syncs) a.pages a.blocks
+    blocks_enough
     c.self.invariant.core refl passed.0 c.args.file c.args.offset n c.page-page_size.result
     passed.1 c.page-page_size.ensures.value passed.2
 
@@ -45,7 +45,7 @@ place-requires-clause-idle c =
     let a = c.self.inside in
     let n = length c.args.bytes.now in
     let passed = subst (λ s. Passed s c.args.file c.args.offset n) (sym (state_is c.self.view_is)) c.requires.passed in
-    none_awaited (state_of a.geometry a.name a.pages.files a.handles a.blocks a.requests a.syncs) a.pages a.blocks
+    none_awaited
     c.self.invariant.core refl passed.0 c.args.file c.args.offset n c.page-page_size.result
     passed.1 c.page-page_size.ensures.value passed.2
 
@@ -97,14 +97,14 @@ wrote c =
     let e1 = stored_at c.place.new.pages f in
     let e2 = stored_at c.write.new.self f in
     let e3 = stored_at c.set_size.new.self f in
-    let of_write = parts P o b f c.max-size.result store c.place.new.pages c.write.new.self c.set_size.new.self steps in
-    let files = final_files P o b f c.max-size.result store c.place.new.pages c.write.new.self c.set_size.new.self
+    let of_write = parts steps in
+    let files = final_files
     steps in
     let passed = subst (λ s. Passed s f o (length b)) (sym (state_is c.self.view_is)) c.requires.passed in
     let state : state_of a.geometry a.name c.set_size.new.self.files a.handles c.place.new.blocks a.requests a.syncs
     ≡ record (put_file old f e3) {
       spots =
-          (taken old store a.blocks c.self.invariant.core refl passed.0 f o P b e1 e2 e3 c.set_size.new.self passed.1
+          (taken c.self.invariant.core refl passed.0 f o P b e1 e2 e3 c.set_size.new.self passed.1
           c.page-page_size.ensures.value passed.2 here of_write (omega (arith, c.page-page_size.ensures.least))
           c.requires.bound P).spots;
     } =
@@ -114,16 +114,16 @@ wrote c =
     (state_of a.geometry a.name c.set_size.new.self.files a.handles c.place.new.blocks a.requests a.syncs)
     c.set_size.new.self bs) (sym c.in_ok-place.ensures.placed)
     (subst (λ (t : State). IsCore t c.set_size.new.self
-    (taken old store a.blocks c.self.invariant.core refl passed.0 f o P b e1 e2 e3 c.set_size.new.self passed.1
+    (taken c.self.invariant.core refl passed.0 f o P b e1 e2 e3 c.set_size.new.self passed.1
     c.page-page_size.ensures.value passed.2 here of_write (omega (arith, c.page-page_size.ensures.least))
     c.requires.bound P)) (sym state)
-    (core-written old store a.blocks c.self.invariant.core refl passed.0 f o P b e1 e2 e3 c.set_size.new.self passed.1
+    (core-written c.self.invariant.core refl passed.0 f o P b e1 e2 e3 c.set_size.new.self passed.1
     c.page-page_size.ensures.value passed.2 here of_write (omega (arith, c.page-page_size.ensures.least))
     c.requires.bound
-    (final_page P o b f c.max-size.result store c.place.new.pages c.write.new.self c.set_size.new.self steps)
-    (final_free P o b f c.max-size.result store c.place.new.pages c.write.new.self c.set_size.new.self steps)
-    (final_idle P o b f c.max-size.result store c.place.new.pages c.write.new.self c.set_size.new.self steps))) in
-    let written_is = state ∙ write_state old store a.blocks c.self.invariant.core refl passed.0 f o P b e1 e2 e3
+    (final_page steps)
+    (final_free steps)
+    (final_idle steps))) in
+    let written_is = state ∙ write_state c.self.invariant.core refl passed.0 f o P b e1 e2 e3
     c.set_size.new.self passed.1 c.page-page_size.ensures.value passed.2 here of_write
     (omega (arith, c.page-page_size.ensures.least)) c.requires.bound in
     (record {
