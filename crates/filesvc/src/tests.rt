@@ -1,7 +1,7 @@
 //! A service as its callers use it, over a device that fails where it is told to. Every row is run by `over_a_service`, since the
 //! check is slow where a service is dropped.
 
-ghost use Rattle.std.specs.Prelude.{◌≡◌, None, OnOk};
+ghost use Rattle.std.specs.Prelude.{◌≡◌, IfOk, None, OnOk};
 ghost use Rattle.pc_types.specs.Files.{pwrite};
 ghost use Rattle.runs.specs.Plain.{plain_file};
 ghost use Rattle.filesvc.specs.Service as service;
@@ -481,6 +481,14 @@ enum Failing {
     SecondFlush,
 }
 
+/// A handle of a new file.
+fn open_first(solo: &mut Solo<OddDevice>, append: bool) -> Result<Handle, Refusal>
+    ensures { IfOk result (IsOpen solo.new) }
+{
+    let file = solo.create()?;
+    solo.open(file, append)
+}
+
 /// A service over a device that fails so, with pages of 16 bytes and one file that is open.
 fn open_desk(
     alloc: Global,
@@ -502,8 +510,7 @@ fn open_desk(
     let Ok(mut solo) = Solo::new(alloc, geometry, 7, device) else {
         return Err(Refusal::Memory);
     };
-    let file = solo.create()?;
-    let handle = solo.open(file, append)?;
+    let handle = open_first(&mut solo, append)?;
     Ok(Desk { solo, handle })
 }
 
