@@ -3,3 +3,4 @@ pub mod Buffer
 pub mod Device
 pub mod Jobs
 pub mod Script
+pub mod Watching

@@ -9,7 +9,8 @@
 //!
 //! `device` has the trait, `fault` what goes wrong, `blocks` the bytes in memory, `memory` a device that never fails,
 //! `script` one that fails when it is told to, `file` one over a file of the system, `gated` any of them behind a gate,
-//! `buffer` the bytes of one page on their way, and `job` a request's call.
+//! `buffer` the bytes of one page on their way, `job` a request's call, and `watched` a device with a note whether
+//! anything was written to it since it was last flushed well.
 
 mod blocks;
 pub mod buffer;
@@ -24,6 +25,7 @@ pub mod memory;
 pub mod script;
 #[cfg(test)]
 mod tests;
+pub mod watched;
 
 pub use buffer::Buffer;
 pub use device::BlockDevice;
@@ -33,3 +35,4 @@ pub use gated::{Gate, GatedDevice};
 pub use job::{Finished, FinishedParts, Job, perform};
 pub use memory::MemDevice;
 pub use script::ScriptDevice;
+pub use watched::Watched;

@@ -5,7 +5,7 @@ ghost use Rattle.std.specs.Prelude.{◌≡◌, ◌<◌, length, IfOk};
 
 use crate::{
     BlockDevice, Buffer, FaultEffect, FinishedParts, Gate, GatedDevice, Job, MemDevice,
-    ScriptDevice, perform,
+    ScriptDevice, Watched, perform,
 };
 use pc_types::{BlockNo, ErrCode, Geometry, Kind, Refusal, Serial};
 use std::alloc::Global;
@@ -208,6 +208,23 @@ fn a_flush_is_counted_apart(rt: HostRuntime) -> Result<(), Fail> {
         (script.calls(), script.flushes(), script.faults()),
         (1, 2, 1)
     );
+    Ok(())
+}
+
+// What was on a device before counts as written, and so does a write that failed.
+#[test]
+fn a_write_is_noted_until_a_good_flush(rt: HostRuntime) -> Result<(), Fail> {
+    let full = ErrCode::new(28)?;
+    let buffer = page(rt.alloc(), 7)?;
+    let mut script = ScriptDevice::new(rt.alloc(), 16, 2)?;
+    script.fail_next_flush(full);
+    let mut watched = Watched::over(script);
+    assert_eq!(rt; watched.flush_written(), Err(full));
+    assert_eq!(rt; watched.flush_written(), Ok(()));
+    watched.fail_next(full, FaultEffect::New);
+    let done = watched.perform(Job::new(3, Serial(7), Kind::Flush, BlockNo(1), buffer));
+    assert_eq!(rt; done.outcome(), Err(full));
+    assert_eq!(rt; watched.flush(), Ok(()));
     Ok(())
 }
 

@@ -77,26 +77,26 @@ by_event old new e r own t (inr k) same = absurd cc
 
 -- its own step of the world
 own_step : (old new : WorldSeen) (e : Event) (got : Reply) → is_call e ≡ true
-    → WorldStep (world_of old) (Act e got) (world_of new) → new.device ≡ old.device → Steps old (step_of e) got new
-own_step old new (event.Read h o n) got call m d = inl (m, d)
-own_step old new (event.Write h o b) got call m d = (m, d)
-own_step old new (event.Append h b) got call m d = (m, d)
-own_step old new (event.Truncate h z) got call m d = (m, d)
-own_step old new e got call m d = absurd cc
+    → WorldStep (world_of old) (Act e got) (world_of new) → new.device ≡ old.device → new.unflushed ≡ old.unflushed → Steps old (step_of e) got new
+own_step old new (event.Read h o n) got call m d still = inl (m, d, still)
+own_step old new (event.Write h o b) got call m d still = (m, d, still)
+own_step old new (event.Append h b) got call m d still = (m, d, still)
+own_step old new (event.Truncate h z) got call m d still = (m, d, still)
+own_step old new e got call m d still = absurd cc
 
 -- the service after the event of an attempt
 abbrev pub acted : SoloSeen → WorldSeen → SoloSeen
 acted old w = record { world = w; errors = old.errors; attempts = old.attempts + 1 }
 
-module _ (old : SoloSeen) (h : HandleId) (e : Event) (got : Reply) (w : WorldSeen) (call : is_call e ≡ true) (m : WorldStep (world_of old.world) (Act e got) (world_of w)) (d : w.device ≡ old.world.device) (ok : Sound old.world.core) where
+module _ (old : SoloSeen) (h : HandleId) (e : Event) (got : Reply) (w : WorldSeen) (call : is_call e ≡ true) (m : WorldStep (world_of old.world) (Act e got) (world_of w)) (d : w.device ≡ old.world.device) (still : w.unflushed ≡ old.world.unflushed) (ok : Sound old.world.core) where
   stepped : Step old.world.core e got w.core
   stepped = m.1.0
 
   same_world : w.core ≡ old.world.core → world_of w ≡ world_of old.world
-  same_world c = ap world_of (held_same old.world w e got (m, d) (no_job got (comes old.world.core w.core e got call m.1.0).own) c)
+  same_world c = ap world_of (held_same old.world w e got (m, d, still) (no_job got (comes old.world.core w.core e got call m.1.0).own) c)
 
   keeps_acted : Keeps old (acted old w)
-  keeps_acted = keeps_counted old (record old { world = w }) old.attempts (old.attempts + 1) (made_keeps old w e got (m, d) ok (call_keeps e got call))
+  keeps_acted = keeps_counted old (record old { world = w }) old.attempts (old.attempts + 1) (made_keeps old w e got (m, d, still) ok (call_keeps e got call))
 
   serves_acted : w.core ≡ old.world.core → Serves old (acted old w)
   serves_acted c = record { keeps = keeps_acted; lengths = λ f. ap (λ (s : State). (file_at s f).size) c; files = λ _. ap files_seen (same_world c) }
@@ -120,7 +120,7 @@ module _ (old : SoloSeen) (h : HandleId) (e : Event) (got : Reply) (w : WorldSee
       tried = record {
         got = got;
         after = w;
-        step = own_step old.world w e got call m d;
+        step = own_step old.world w e got call m d still;
         settled = λ _. (refl, refl);
         helped = λ u. absurd (let x : true ≡ false = sym t ∙ u in cc);
         failed = λ u. absurd (let x : true ≡ false = sym t ∙ u in cc);
@@ -151,7 +151,7 @@ module _ (old : SoloSeen) (h : HandleId) (e : Event) (got : Reply) (w : WorldSee
               tried = record {
                 got = got;
                 after = w;
-                step = own_step old.world w e got call m d;
+                step = own_step old.world w e got call m d still;
                 settled = λ t. absurd (let x : true ≡ false = sym t ∙ u in cc);
                 helped = λ _. f.helps.moves;
                 failed = λ _. fails;
@@ -187,9 +187,9 @@ module _ (old : SoloSeen) (h : HandleId) (e : Event) (got : Reply) (w : WorldSee
         by_settled false u = unsettled u
 
 -- a read leaves the files, whatever it answers
-pub read_serves : (old : SoloSeen) (h : HandleId) (o n : ℕ) (got : Reply) (w : WorldSeen) → WorldStep (world_of old.world) (Act (event.Read h o n) got) (world_of w) → w.device ≡ old.world.device → Sound old.world.core → (Tells old → IsReached (world_of old.world)) → Serves old (acted old w)
-read_serves old h o n got w m d ok reached = record {
-  keeps = keeps_acted old h (event.Read h o n) got w refl m d ok;
+pub read_serves : (old : SoloSeen) (h : HandleId) (o n : ℕ) (got : Reply) (w : WorldSeen) → WorldStep (world_of old.world) (Act (event.Read h o n) got) (world_of w) → w.device ≡ old.world.device → w.unflushed ≡ old.world.unflushed → Sound old.world.core → (Tells old → IsReached (world_of old.world)) → Serves old (acted old w)
+read_serves old h o n got w m d still ok reached = record {
+  keeps = keeps_acted old h (event.Read h o n) got w refl m d still ok;
   lengths = lengths_stay (world_of old.world) (world_of w) (Act (event.Read h o n) got) refl m;
   files = λ tells. files_step (world_of old.world) (world_of w) (Act (event.Read h o n) got) (reached tells) m;
 }

@@ -2,7 +2,7 @@
 use Rattle.std.proofs.Common.{◌≡◌, ℕ, ◌<◌, ◌≤◌, Bool, true, false, List, [], length, refl, ap, sym, subst, ◌∙◌, arith, inl, inr}
 use Rattle.std.proofs.lemmas.Grind.{get_or-set_at}
 use Rattle.std.proofs.lemmas.List.FromFn.{length-map-range_with_len}
-use Rattle.std.specs.Prelude.{◌⊎◌, Result, Ok, Err, Some, None, unwrap_or, nat_le, if◌then◌else◌}
+use Rattle.std.specs.Prelude.{◌⊎◌, IfOk, Result, Ok, Err, Some, None, unwrap_or, nat_le, if◌then◌else◌}
 use Rattle.std.specs.FinMap as finmap
 use Rattle.errboard.specs.Shown.{RecorderSeen}
 use Rattle.pc_types.specs.declared.limits.TheConstants.{MAX_FILES, MAX_HANDLES}
@@ -20,7 +20,7 @@ use Rattle.runs.specs.Plain.{Plain, change, named, plain_file}
 use Rattle.runs.specs.Reached.{file_seen}
 use Rattle.world.specs.Stepping.{world_of}
 use Rattle.filesvc.specs.Seen.{HandleSeen, SoloSeen}
-use Rattle.filesvc.specs.Service.{CameFrom, FilesAfter, IsAsBefore, IsOpen, IsTold, Keeps, Names, Opened, Opens, Serves, Tells, files, is_reported}
+use Rattle.filesvc.specs.Service.{CameFrom, FilesAfter, IsAsBefore, IsOpen, IsTold, Keeps, Names, Opened, Opens, Serves, Tells, files}
 
 pub open_on : (old new : SoloSeen) (h : HandleSeen) → Keeps old new → IsOpen old h → IsOpen new h
 open_on old new h k o = record { board = o.board ∙ sym k.board; pass = o.pass; number = ap (λ m. finmap.get m h.number) k.handles ∙ o.number; file = (let a = k.count in let b = o.file in omega arith) }
@@ -41,12 +41,22 @@ open_told s t h new told o =
     record { board = told.board ∙ o.board; pass = told.file ∙ (o.pass ∙ sym (ap (λ (x : HandleSeen). x.file) told.same)); number = ap (λ (x : HandleSeen). finmap.get s.world.core.handles x.number) told.same ∙ (o.number ∙ sym (ap (λ (x : HandleSeen). Some x.file) told.same)); file = subst (λ (n : ℕ). n < length s.world.core.files) (sym (ap (λ (x : HandleSeen). x.file) told.same)) o.file }
 
 -- after an fsync it is told, or as it was
-pub open_synced : (s : SoloSeen) (h new : HandleSeen) (r : Result Unit Refusal) → (is_reported r ≡ true → IsTold s h new) → (is_reported r ≡ false → new ≡ h) → IsOpen s h → IsOpen s new
-open_synced s h new r told kept o = by (is_reported r) refl
+pub open_synced : (s : SoloSeen) (h new : HandleSeen) → IsTold s h new ⊎ (new ≡ h) → IsOpen s h → IsOpen s new
+open_synced s h new (inl told) o = open_told s s h new told o
+open_synced s h new (inr kept) o = subst (IsOpen s) (sym kept) o
+
+-- of the same file
+pub file_synced : (s : SoloSeen) (h new : HandleSeen) → IsTold s h new ⊎ (new ≡ h) → new.file ≡ h.file
+file_synced s h new (inl told) = ap (λ (x : HandleSeen). x.file) told.same
+file_synced s h new (inr kept) = ap (λ (x : HandleSeen). x.file) kept
+
+-- and so it is one that came from the service
+pub came_synced : (old s : SoloSeen) (h new : HandleSeen) → Keeps old s → IsTold s h new ⊎ (new ≡ h) → CameFrom old h → CameFrom s new
+came_synced old s h new k told came names = open_synced s h new told (open_on old s h k (came (sym (cache told) ∙ (names ∙ k.name))))
   where
-    by : (b : Bool) → is_reported r ≡ b → IsOpen s new
-    by true e = open_told s s h new (told e) o
-    by false e = subst (IsOpen s) (sym (kept e)) o
+    cache : IsTold s h new ⊎ (new ≡ h) → new.cache ≡ h.cache
+    cache (inl t) = ap (λ (x : HandleSeen). x.cache) t.same
+    cache (inr e) = ap (λ (x : HandleSeen). x.cache) e
 
 -- the file that its number names
 pub named_is : (s : SoloSeen) (h : HandleSeen) → IsOpen s h → named (files s) h.number ≡ h.file
@@ -92,3 +102,10 @@ opened_by old new f append r h is none opened e = elim (few f MAX_FILES) [
   where
     few : (a b : ℕ) → (a < b) ⊎ (b ≤ a)
     few a b = grind arith
+
+-- the handle that an open answers is open
+pub opens : (old new : SoloSeen) (f : ℕ) (append : Bool) (r : Result HandleSeen Refusal)
+    → (MAX_FILES ≤ f → (r ≡ Err NoSuchFile) × IsAsBefore old new) → (f < MAX_FILES → Opened old f append r new)
+    → new.errors ≡ old.errors → IfOk r (IsOpen new)
+opens old new f append (Ok h) none opened e = opened_by old new f append (Ok h) h refl none opened e
+opens old new f append (Err why) none opened e = tt

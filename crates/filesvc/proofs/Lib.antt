@@ -19,6 +19,7 @@ pub mod Noted
 pub mod Polling
 pub mod Ranged
 pub mod RoomLaws
+pub mod Saved
 pub mod Sizes
 pub mod Stops
 pub mod SyncLaws

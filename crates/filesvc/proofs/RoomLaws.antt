@@ -301,7 +301,7 @@ pub held_same : (old new : WorldSeen) (e : Event) (r : Reply) → Made old e r n
 held_same old new e r m j c =
     let o = ap (λ x. x.outcomes) m.0.1.1 in
     let b = ap (λ x. x.writing) m.0.1.1 ∙ noted_same old.writing r new.core j in
-    λ i. record { core = c i; device = m.1 i; outcomes = o i; writing = b i }
+    λ i. record { core = c i; device = m.1 i; unflushed = m.2 i; outcomes = o i; writing = b i }
 
 squeezed : (m n c : ℕ) → m ≤ n → n ≤ c → c ≤ m → c ≡ m
 squeezed m n c a b d = omega arith

@@ -116,7 +116,7 @@ module _ (old new : Told) where
 -- ---- an event
 
 abbrev pub Made : WorldSeen → Event → Reply → WorldSeen → Type 0
-Made old e r new = WorldStep (world_of old) (Act e r) (world_of new) × (new.device ≡ old.device)
+Made old e r new = WorldStep (world_of old) (Act e r) (world_of new) × (new.device ≡ old.device) × (new.unflushed ≡ old.unflushed)
 
 -- what holds of a service's world also while a request is in flight
 pub record IsSound (w : WorldSeen) : Type 0 where
@@ -264,7 +264,7 @@ module _ (s : SoloSeen) (w : WorldSeen) (t : ℕ) (c : IsCalled s.world t w) (i 
 -- ---- an end
 
 abbrev pub Finished : WorldSeen → ℕ → Reply → WorldSeen → Type 0
-Finished old t r new = WorldStep (world_of old) (Finish t r) (world_of new) × (new.device ≡ old.device)
+Finished old t r new = WorldStep (world_of old) (Finish t r) (world_of new) × (new.device ≡ old.device) × (new.unflushed ≡ old.unflushed)
 
 -- with its failure noted
 pub finished_goes : (s : SoloSeen) (w : WorldSeen) (errors : RecorderSeen) (t : ℕ) (r : Reply) → Finished s.world t r w → IsNoted s.errors (flush_of s.world.core t) r errors → length s.errors.all ≡ MAX_FILES → IsSound s.world → Goes s (record s { world = w; errors = errors })

@@ -6,6 +6,8 @@
 //! `reads`, `writes` and `fsync`; `room` is what they do on the way, and `requests` makes a request with its device call and its
 //! end in one. specs/Service.antt says what holds of every call.
 
+#[cfg(test)]
+mod file_tests;
 mod fsync;
 mod handle;
 mod handles;

@@ -1,7 +1,7 @@
 //! A service as its callers use it, over a device that fails where it is told to. Every row is run by `over_a_service`, since the
 //! check is slow where a service is dropped.
 
-ghost use Rattle.std.specs.Prelude.{◌≡◌, None, OnOk};
+ghost use Rattle.std.specs.Prelude.{◌≡◌, IfOk, None, OnOk};
 ghost use Rattle.pc_types.specs.Files.{pwrite};
 ghost use Rattle.runs.specs.Plain.{plain_file};
 ghost use Rattle.filesvc.specs.Service as service;
@@ -16,16 +16,17 @@ use std::marker::Model;
 use std::process::Abort;
 use std::test::Fail;
 
-/// A device whose first read fails with this code, where there is one.
+/// A device whose first read fails with this code, where there is one, and of whose flushes those past so many fail.
 #[derive(Drop)]
 struct OddDevice {
     device: ScriptDevice,
     first_read: Option<ErrCode>,
+    good_flushes: u64,
 }
 
 impl BlockDevice for OddDevice {
-    // nothing is told of the faults to come, of which the read's is planned late
-    ghost told = { λ d. record d.device { plan = None } };
+    // nothing is told of the faults to come, which are planned late
+    ghost told = { λ d. record d.device { plan = None; flush_plan = None } };
 
     fn block_size(&self) -> u64 {
         self.device.block_size()
@@ -59,6 +60,9 @@ impl BlockDevice for OddDevice {
     }
 
     fn flush(&mut self) -> Result<(), ErrCode> {
+        if self.device.flushes() >= self.good_flushes {
+            self.device.fail_next_flush(ErrCode::IO);
+        }
         self.device.flush()
     }
 }
@@ -180,6 +184,19 @@ fn tells_an_error_once(rt: &impl Abort, desk: &mut Desk) -> Result<(), Refusal> 
     assert_eq!(rt; desk.fsync(), Ok(()));
     assert_eq!(rt; desk.fsync(), Ok(()));
     Ok(())
+}
+
+// Where nothing was written since the last good flush none is made. One that fails is answered each time, and the handle is told nothing.
+fn flushes_again(rt: &impl Abort, desk: &mut Desk) {
+    let failed = Err(Refusal::Io(ErrCode::IO));
+    assert_eq!(rt; desk.pwrite(0, &[1]), Ok(1));
+    assert_eq!(rt; desk.fsync(), Ok(()));
+    assert_eq!(rt; desk.fsync(), Ok(()));
+    assert_eq!(rt; desk.pwrite(0, &[2]), Ok(1));
+    assert_eq!(rt; desk.fsync(), failed);
+    assert!(rt; !desk.is_dirty(0));
+    assert_eq!(rt; desk.poll_error(), Ok(None));
+    assert_eq!(rt; desk.fsync_range(3, 4), failed);
 }
 
 // More fsyncs than syncs may be in progress at once, one after the other.
@@ -426,6 +443,7 @@ enum Row {
     SyncsAgainAndAgain,
     SyncsARange,
     TellsOfAnyPage,
+    FlushesAgain,
     // so many clean pages in use, and so many dirty ones
     IsNeverStuck(u16, u16),
     Mixes,
@@ -446,6 +464,7 @@ fn run(rt: &impl Abort, desk: &mut Desk, row: Row) -> Result<(), Refusal> {
         Row::SyncsAgainAndAgain => syncs_again_and_again(rt, desk),
         Row::SyncsARange => syncs_a_range(rt, desk),
         Row::TellsOfAnyPage => tells_of_any_page(rt, desk)?,
+        Row::FlushesAgain => flushes_again(rt, desk),
         Row::IsNeverStuck(clean, dirty) => is_never_stuck(rt, desk, clean, dirty),
         Row::Mixes => mixes(rt, desk),
         Row::ServesAUser => serves_a_user(rt, desk),
@@ -459,6 +478,15 @@ enum Failing {
     None,
     FirstCall,
     FirstRead,
+    SecondFlush,
+}
+
+/// A handle of a new file.
+fn open_first(solo: &mut Solo<OddDevice>, append: bool) -> Result<Handle, Refusal>
+    ensures { IfOk result (IsOpen solo.new) }
+{
+    let file = solo.create()?;
+    solo.open(file, append)
 }
 
 /// A service over a device that fails so, with pages of 16 bytes and one file that is open.
@@ -471,17 +499,18 @@ fn open_desk(
     let mut device = OddDevice {
         device: ScriptDevice::new(alloc, 16, geometry.blocks())?,
         first_read: None,
+        good_flushes: u64::MAX,
     };
     match failing {
         Failing::None => {}
         Failing::FirstCall => device.device.fail_next(full()?, FaultEffect::Old),
         Failing::FirstRead => device.first_read = Some(full()?),
+        Failing::SecondFlush => device.good_flushes = 1,
     }
     let Ok(mut solo) = Solo::new(alloc, geometry, 7, device) else {
         return Err(Refusal::Memory);
     };
-    let file = solo.create()?;
-    let handle = solo.open(file, append)?;
+    let handle = open_first(&mut solo, append)?;
     Ok(Desk { solo, handle })
 }
 
@@ -539,6 +568,11 @@ fn a_sync_of_a_range_stays_in_it(rt: HostRuntime) -> Result<(), Refusal> {
 #[test]
 fn a_sync_of_a_range_tells_of_any_page(rt: HostRuntime) -> Result<(), Refusal> {
     over_a_service(&rt, rt.alloc(), Failing::FirstCall, Row::TellsOfAnyPage)
+}
+
+#[test]
+fn a_flush_that_failed_is_made_again(rt: HostRuntime) -> Result<(), Refusal> {
+    over_a_service(&rt, rt.alloc(), Failing::SecondFlush, Row::FlushesAgain)
 }
 
 #[test]

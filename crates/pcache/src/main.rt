@@ -1,25 +1,10 @@
 #![tactic(auto)]
-//! The program of the page cache: `pcache run` reads a script of cache calls and prints what each answers.
-//!
-//! `run` runs a script line by line, which the crate `textline` fetches and takes apart. `keyword` has the names of the commands,
-//! `command` says what a line asks for, `session` has the cache with the board of its failed writes (`passes`: one a handle), and
-//! `answer` prints what came of a command.
+//! The program of the page cache: `pcache run` reads a script of cache calls and prints what each answers (crate `script`).
 
 ghost use Rattle.std.specs.Prelude.{◌≡◌};
 ghost use Rattle.textline.specs.Stops.{IsStatus};
 
-mod answer;
-mod command;
-mod keyword;
-mod passes;
-#[cfg(test)]
-mod row_tests;
-mod run;
-mod session;
-#[cfg(test)]
-mod tests;
-
-use run::{run_script, say};
+use script::{run_script, say};
 use std::env;
 use std::io::{BufReader, BufWriter, Write};
 use std::process::ExitCode;

@@ -7,8 +7,7 @@ use Rattle.pc_types.specs.declared.refusal.Refusal.TheVariants.{Stranger}
 use Rattle.pc_types.specs.declared.kind.Kind.{Kind}
 use Rattle.pc_types.specs.declared.kind.Kind.TheVariants.{Fill, Flush}
 use Rattle.blockdev.specs.declared.fault.FaultEffect.{FaultEffect}
-use Rattle.blockdev.specs.Device.{Told}
-use Rattle.blockdev.specs.Jobs.{Task, FinishedTask, Performs}
+use Rattle.blockdev.specs.Jobs.{Task, FinishedTask}
 use Rattle.maps.proofs.Filtered.{get-filter_map_values}
 use Rattle.maps.proofs.MapLaws.{same_nat_map}
 use Rattle.maps.proofs.Maps.{get-remove_nat}
@@ -32,6 +31,7 @@ use Rattle.world.specs.Flights.{Jobs, is_asked, outcome_in, seen_of, IsWorld}
 use Rattle.world.proofs.DeviceCalls.{calls_move, fails_so}
 use Rattle.world.proofs.EndsAndCalls.{call_world, end_answers, end_steps, end_world, is_called, none_of_job, put_back}
 use Rattle.world.proofs.EndsAndCalls.{put_over, request_of}
+use Rattle.blockdev.specs.Watching.{Watch, Makes}
 
 -- a job that was taken out is not there
 pub taken_apart : (jobs new : Jobs) (t u : ℕ) → new ≡ finmap.remove jobs t → u ≡ t → finmap.get new u ≡ None
@@ -55,15 +55,15 @@ none_taken jobs new t m is = m ∙ same_nat_map _ _ (λ u. get-remove_nat jobs t
     go u true e = is ∙ ap (finmap.get jobs) (sym (eqb-true u t e))
     go u false e = refl
 
-module _ (core : State) (jobs : Jobs) (dev : Told) (w : IsWorld core jobs dev) (t : ℕ) (old : WorldSeen)
+module _ (core : State) (jobs : Jobs) (dev : Watch) (w : IsWorld core jobs dev) (t : ℕ) (old : WorldSeen)
     (is_old : seen_of core jobs dev ≡ old) where
   out : (o : Option Outcome) → option_and_then outcome_in (finmap.get jobs t) ≡ o → finmap.get old.outcomes t ≡ o
   out o e = sym (ap (λ (v : WorldSeen). finmap.get v.outcomes t) is_old)
       ∙ get-filter_map_values outcome_in jobs t ∙ e
 
   -- the call is made
-  pub call_made : (job : Task) → Some (Asked job) ≡ finmap.get jobs t → (done : FinishedTask) (after : Told)
-      → Performs dev job done after → (table : Jobs) → table ≡ finmap.insert jobs t (Made done)
+  pub call_made : (job : Task) → Some (Asked job) ≡ finmap.get jobs t → (done : FinishedTask) (after : Watch)
+      → Makes dev job done after → (table : Jobs) → table ≡ finmap.insert jobs t (Made done)
       → CallReply old t (finmap.get old.core.requests t) (finmap.get old.outcomes t) reply.Done
       (seen_of core table after)
   call_made job is done after p table e =
@@ -77,8 +77,8 @@ module _ (core : State) (jobs : Jobs) (dev : Told) (w : IsWorld core jobs dev) (
       (subst (λ o. CallReply old t (Some c.asked.0) o reply.Done (seen_of core table after)) (sym none)
       (refl, c, calls_move old t (seen_of core table after) c none))
 
-  pub call_keeps : (job : Task) → Some (Asked job) ≡ finmap.get jobs t → (done : FinishedTask) (after : Told)
-      → Performs dev job done after → (table : Jobs) → table ≡ finmap.insert jobs t (Made done)
+  pub call_keeps : (job : Task) → Some (Asked job) ≡ finmap.get jobs t → (done : FinishedTask) (after : Watch)
+      → Makes dev job done after → (table : Jobs) → table ≡ finmap.insert jobs t (Made done)
       → IsWorld core table after
   call_keeps job is done after p table e =
       subst (λ m. IsWorld core m after) (sym e) (call_world core jobs dev w t job (sym is) done after p)
@@ -172,13 +172,13 @@ module _ (core : State) (jobs : Jobs) (dev : Told) (w : IsWorld core jobs dev) (
         go None is s = absurd cc
 
 -- the same table keeps what always holds
-pub same_table : (core : State) (jobs : Jobs) (dev : Told) → IsWorld core jobs dev → (table : Jobs) → table ≡ jobs
+pub same_table : (core : State) (jobs : Jobs) (dev : Watch) → IsWorld core jobs dev → (table : Jobs) → table ≡ jobs
     → IsWorld core table dev
 same_table core jobs dev w table e = subst (λ m. IsWorld core m dev) (sym e) w
 
 -- so does another device with as many blocks of the same size
-pub same_blocks : (core : State) (jobs : Jobs) (dev : Told) → IsWorld core jobs dev → (after : Told)
-    → after.size ≡ dev.size → after.count ≡ dev.count → IsWorld core jobs after
+pub same_blocks : (core : State) (jobs : Jobs) (dev : Watch) → IsWorld core jobs dev → (after : Watch)
+    → after.device.size ≡ dev.device.size → after.device.count ≡ dev.device.count → IsWorld core jobs after
 same_blocks core jobs dev w after size count =
     record {
       page_size = w.page_size;
@@ -190,7 +190,7 @@ same_blocks core jobs dev w after size count =
 
 -- ---- an end where the call was made
 
-module _ (core : State) (jobs : Jobs) (dev : Told) (w : IsWorld core jobs dev) (t : ℕ) (f : FinishedTask)
+module _ (core : State) (jobs : Jobs) (dev : Watch) (w : IsWorld core jobs dev) (t : ℕ) (f : FinishedTask)
     (is : Some (Made f) ≡ finmap.get jobs t) (k : Kind) (same : k ≡ f.kind) where
   of_kind : (new : State) (r : Reply) → Step core (event.End k (end_of f)) r new
       → Step core (event.End f.kind (end_of f)) r new
@@ -228,6 +228,7 @@ module _ (core : State) (jobs : Jobs) (dev : Told) (w : IsWorld core jobs dev) (
         (
           subst (λ v. WorldStep (world_of v) (Finish t r) (world_of (seen_of new table dev))) is_old moves,
           ap (λ (v : WorldSeen). v.device) is_old,
+          ap (λ (v : WorldSeen). v.unflushed) is_old,
         ),
         loud_answer r (end_answers core jobs dev w t f (sym is) new r (of_kind new r h)),
       )

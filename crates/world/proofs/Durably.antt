@@ -15,26 +15,29 @@ use Rattle.world.specs.declared.step.Step.{Step}
 use Rattle.world.specs.declared.step.Step.TheVariants as step
 use Rattle.world.specs.Flights.{Jobs, IsWorld, seen_of}
 use Rattle.world.specs.Flushing.{IsDurably, IsFlushed, fault_of, lasting}
+use Rattle.blockdev.specs.Watching.{Watch, Clears}
 use Rattle.world.specs.Stepping.{CallReply, EndReply, Plays, Steps, WorldSeen, world_of}
 
 -- ---- a flush
 
-module _ (core : State) (jobs : Jobs) (device new : Told) (r : Outcome) (f : Flushes device r new) where
-  pub flush_keeps : IsWorld core jobs device → IsWorld core jobs new
+module _ (core : State) (jobs : Jobs) (dev new : Watch) (r : Outcome) (f : Clears dev r new) where
+  pub flush_keeps : IsWorld core jobs dev → IsWorld core jobs new
   flush_keeps w = record {
     page_size = w.page_size;
     each_job = w.each_job;
     count = w.count;
-    block_size = ap (λ (d : Told). d.size) f.same ∙ w.block_size;
-    block_count = ap (λ (d : Told). d.count) f.same ∙ w.block_count;
+    block_size = ap (λ (d : Told). d.size) f.flushes.same ∙ w.block_size;
+    block_count = ap (λ (d : Told). d.count) f.flushes.same ∙ w.block_count;
   }
 
-  pub is_flushed : (old : WorldSeen) → seen_of core jobs device ≡ old → IsFlushed old r (seen_of core jobs new)
+  pub is_flushed : (old : WorldSeen) → seen_of core jobs dev ≡ old → IsFlushed old r (seen_of core jobs new)
   is_flushed old is = subst (λ (w : WorldSeen). IsFlushed w r (seen_of core jobs new)) is (record {
-    flushes = f;
+    flushes = f.flushes;
     rest = refl;
-    same = λ i. record (world_of (seen_of core jobs device)) {
-      device = unwrap_or ((ap (λ (d : Told). d.contents) f.same) i) [];
+    well = f.well;
+    failed = f.failed;
+    same = λ i. record (world_of (seen_of core jobs dev)) {
+      device = unwrap_or ((ap (λ (d : Told). d.contents) f.flushes.same) i) [];
     };
   })
 

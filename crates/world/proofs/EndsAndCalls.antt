@@ -2,7 +2,7 @@
 use Rattle.std.proofs.Common.{◌≡◌, ℕ, ◌+◌, ◌-◌, ◌<◌, ◌≤◌, Bool, true, false, cond, not, eqb, eqb-true, List, [], length}
 use Rattle.std.proofs.Common.{refl}
 use Rattle.std.proofs.Common.{ap, sym, subst, ◌∙◌}
-use Rattle.std.specs.Prelude.{Option, Some, None, is_some, Ok, Err, option_and_then, unwrap_or}
+use Rattle.std.specs.Prelude.{Option, Some, None, is_some, Ok, Err, ◌||◌, option_and_then, unwrap_or}
 use Rattle.std.specs.FinMap as finmap
 use Rattle.std.specs.Ordering.{nat_cmp}
 use Rattle.std.specs.Cmp.{nat_cmp_total}
@@ -12,9 +12,9 @@ use Rattle.pc_types.specs.Kinds.{is_flush}
 use Rattle.pc_types.specs.declared.limits.TheConstants.{MIN_PAGE_SIZE}
 use Rattle.pc_types.specs.declared.kind.Kind.{Kind}
 use Rattle.pc_types.specs.declared.kind.Kind.TheVariants.{Fill, Flush}
-use Rattle.blockdev.specs.Device.{Told, Calls}
+use Rattle.blockdev.specs.Device.{Calls}
 use Rattle.blockdev.specs.Device as device
-use Rattle.blockdev.specs.Jobs.{Task, FinishedTask, Performs, Transfers}
+use Rattle.blockdev.specs.Jobs.{Task, FinishedTask, Transfers}
 use Rattle.maps.specs.Maps.{filter_map_values}
 use Rattle.maps.proofs.Filtered.{get-filter_map_values, filter_map_values-insert, filter_map_values-remove}
 use Rattle.maps.proofs.Filtered.{filter_map_values-same}
@@ -36,6 +36,7 @@ use Rattle.world.specs.Stepping.{world_of, IsCalled}
 use Rattle.world.specs.declared.jobs.Flight.{Flight}
 use Rattle.world.specs.declared.jobs.Flight.TheVariants.{Asked, Made}
 use Rattle.world.specs.Flights.{Jobs, outcome_in, written_by, task_of, seen_of, HasJob, IsJob, IsWorld}
+use Rattle.blockdev.specs.Watching.{Watch, Makes}
 use Rattle.world.proofs.WorldSteps.{fits_still}
 
 -- a job's request
@@ -59,7 +60,7 @@ outcome_fits Fill (Err code) bytes = refl
 outcome_fits Flush (Ok u) bytes = refl
 outcome_fits Flush (Err code) bytes = refl
 
-module _ (core : State) (jobs : Jobs) (dev : Told) (w : IsWorld core jobs dev) (t : ℕ) where
+module _ (core : State) (jobs : Jobs) (dev : Watch) (w : IsWorld core jobs dev) (t : ℕ) where
   -- ---- an end
 
   module _ (f : FinishedTask) (is : finmap.get jobs t ≡ Some (Made f)) (new : State) (r : Reply)
@@ -156,41 +157,41 @@ module _ (core : State) (jobs : Jobs) (dev : Told) (w : IsWorld core jobs dev) (
     asked = request_of core t (finmap.get core.requests t) (finmap.get jobs t) (Asked job) (w.each_job t) is
 
     -- the device has its block, and the buffer is as long as one
-    pub call_within : job.block < dev.count
+    pub call_within : job.block < dev.device.count
     call_within = subst (λ n. job.block < n) (sym w.block_count) asked.2.fits.block
 
-    pub call_sized : length job.bytes ≡ dev.size
+    pub call_sized : length job.bytes ≡ dev.device.size
     call_sized = asked.2.fits.size ∙ sym w.block_size
 
-    module _ (done : FinishedTask) (after : Told) (p : Performs dev job done after) where
+    module _ (done : FinishedTask) (after : Watch) (p : Makes dev job done after) where
       abbrev table : Jobs
       table = finmap.insert jobs t (Made done)
 
-      calls : (k : Kind) → Transfers k dev job.block job.bytes done.outcome done.bytes after
-          → Calls dev done.outcome after
+      calls : (k : Kind) → Transfers k dev.device job.block job.bytes done.outcome done.bytes after.device
+          → Calls dev.device done.outcome after.device
       calls Fill h = h.call
       calls Flush h = h.0.call
 
       -- a flush leaves its buffer as it was
-      same_bytes : (k : Kind) → Transfers k dev job.block job.bytes done.outcome done.bytes after
+      same_bytes : (k : Kind) → Transfers k dev.device job.block job.bytes done.outcome done.bytes after.device
           → cond (is_flush k) (Some done.bytes) None ≡ cond (is_flush k) (Some job.bytes) None
       same_bytes Fill h = refl
       same_bytes Flush h = ap Some h.1
 
       still_written : written_by (Made done) ≡ written_by (Asked job)
-      still_written = ap (λ k. cond (is_flush k) (Some done.bytes) None) p.kind ∙ same_bytes job.kind p.call
+      still_written = ap (λ k. cond (is_flush k) (Some done.bytes) None) p.performs.kind ∙ same_bytes job.kind p.performs.call
 
       made_job : IsJob core t asked.0 (Made done)
       made_job = record {
         given = asked.2.given;
         fits = record {
-          cache = p.cache ∙ asked.2.fits.cache;
-          block = subst (λ k. k < core.sizes.blocks) (sym p.block) asked.2.fits.block;
-          size = p.length ∙ asked.2.fits.size;
+          cache = p.performs.cache ∙ asked.2.fits.cache;
+          block = subst (λ k. k < core.sizes.blocks) (sym p.performs.block) asked.2.fits.block;
+          size = p.performs.length ∙ asked.2.fits.size;
         };
-        serial = p.serial ∙ asked.2.serial;
-        kind = p.kind ∙ asked.2.kind;
-        block = p.block ∙ asked.2.block;
+        serial = p.performs.serial ∙ asked.2.serial;
+        kind = p.performs.kind ∙ asked.2.kind;
+        block = p.performs.block ∙ asked.2.block;
       }
 
       pub call_world : IsWorld core table after
@@ -200,8 +201,8 @@ module _ (core : State) (jobs : Jobs) (dev : Told) (w : IsWorld core jobs dev) (
             (either u (eqb u t) refl);
         count = len-insert nat_cmp_total jobs t (Made done)
             ∙ ap (λ b. cond b (finmap.len jobs) (finmap.len jobs + 1)) (ap is_some is) ∙ w.count;
-        block_size = (calls job.kind p.call).size ∙ w.block_size;
-        block_count = (calls job.kind p.call).count ∙ w.block_count;
+        block_size = (calls job.kind p.performs.call).size ∙ w.block_size;
+        block_count = (calls job.kind p.performs.call).count ∙ w.block_count;
       }
         where
           either : (u : ℕ) (b : Bool) → eqb u t ≡ b
@@ -212,14 +213,16 @@ module _ (core : State) (jobs : Jobs) (dev : Told) (w : IsWorld core jobs dev) (
           either u false e = w.each_job u
 
       pub call_noted : seen_of core table after ≡ record (seen_of core jobs dev) {
-        device = after;
+        device = after.device;
+        unflushed = is_flush job.kind || dev.unflushed;
         outcomes = finmap.insert (filter_map_values outcome_in jobs) t (outcome_of job.kind done.outcome done.bytes);
       }
       call_noted = λ i. record {
         core = core;
-        device = after;
+        device = after.device;
+        unflushed = p.unflushed i;
         outcomes = filter_map_values-insert outcome_in jobs t (Made done) (outcome_of job.kind done.outcome done.bytes)
-            (ap (λ k. Some (outcome_of k done.outcome done.bytes)) p.kind) i;
+            (ap (λ k. Some (outcome_of k done.outcome done.bytes)) p.performs.kind) i;
         writing = filter_map_values-same written_by jobs t (Made done)
             (still_written ∙ sym (ap (option_and_then written_by) is)) i;
       }
@@ -253,7 +256,7 @@ module _ (core : State) (jobs : Jobs) (dev : Told) (w : IsWorld core jobs dev) (
             bytes = job_bytes i;
           },
         );
-        performs = p;
+        performs = p.performs;
         noted = call_noted;
       }
 

@@ -2,7 +2,6 @@
 use Rattle.std.proofs.Common.{◌≡◌, ℕ, List, false, length, sym, ap, ◌∙◌}
 use Rattle.std.specs.Prelude.{Option, Some, None, Result, Ok, Err}
 use Rattle.std.specs.FinMap as finmap
-use Rattle.blockdev.specs.Device.{Told}
 use Rattle.blockdev.specs.Jobs.{FinishedTask}
 use Rattle.cachecore.specs.declared.answers.Ended.{Ended}
 use Rattle.cachecore.specs.declared.answers.Ended.TheVariants as ended
@@ -22,14 +21,15 @@ use Rattle.world.specs.declared.replies.Begun.TheVariants.{Answered}
 use Rattle.world.specs.Begins.{is_job, IsFillBegun, IsFlushBegun, IsSyncStepped}
 use Rattle.world.specs.Ends.{buffer_of}
 use Rattle.world.specs.Flights.{Jobs, HasJob, IsSpare, IsWorld, task_of}
+use Rattle.blockdev.specs.Watching.{Watch}
 
 -- over the same device pages are as long as before
-spare_stays : {core new : State} {jobs after : Jobs} {dev : Told} → IsWorld core jobs dev → IsWorld new after dev
+spare_stays : {core new : State} {jobs after : Jobs} {dev : Watch} → IsWorld core jobs dev → IsWorld new after dev
     → (spare : Option (List ℕ)) → IsSpare core spare → IsSpare new spare
 spare_stays old now None s = s
 spare_stays old now (Some buffer) s = s ∙ sym old.block_size ∙ now.block_size
 
-pub with_spare : {core new : State} {jobs after : Jobs} {dev : Told} (spare : Option (List ℕ))
+pub with_spare : {core new : State} {jobs after : Jobs} {dev : Watch} (spare : Option (List ℕ))
     → IsWorld core jobs dev × IsSpare core spare → IsWorld new after dev → IsWorld new after dev × IsSpare new spare
 with_spare spare old now = (now, spare_stays old.0 now spare old.1)
 
@@ -70,7 +70,7 @@ sync_back answer r given buffer page a back size = ap length (same answer (sym (
     same (Err e) n h g = sym h ∙ g
 
 -- the buffer of a request that ends is as long as that of its job
-pub end_back : {core : State} {jobs : Jobs} {dev : Told} → IsWorld core jobs dev → (t : ℕ) (f : FinishedTask)
+pub end_back : {core : State} {jobs : Jobs} {dev : Watch} → IsWorld core jobs dev → (t : ℕ) (f : FinishedTask)
     → Some (Made f) ≡ finmap.get jobs t → (end : Ended) (buffer : List ℕ) → EndGivesBack f (Ok end)
     → buffer ≡ buffer_of end → length buffer ≡ core.sizes.page
 end_back {core} {jobs} w t f is end buffer back same = ap length (same ∙ same_bytes end back)

@@ -10,7 +10,6 @@ use Rattle.pc_types.specs.Limits.{Sizes}
 use Rattle.pc_types.specs.Kinds.{is_flush}
 use Rattle.pc_types.specs.declared.kind.Kind.TheVariants.{Fill, Flush}
 use Rattle.pc_types.specs.declared.limits.TheConstants.{MIN_PAGE_SIZE}
-use Rattle.blockdev.specs.Device.{Told}
 use Rattle.blockdev.specs.Jobs.{Task, IsJobFor}
 use Rattle.maps.specs.Maps.{filter_map_values, put_some}
 use Rattle.maps.proofs.Filtered.{filter_map_values-put}
@@ -27,6 +26,7 @@ use Rattle.world.specs.Stepping.{world_of}
 use Rattle.world.specs.declared.jobs.Flight.{Flight}
 use Rattle.world.specs.declared.jobs.Flight.TheVariants.{Asked}
 use Rattle.world.specs.Flights.{Jobs, task_of, outcome_in, written_by, seen_of, HasJob, IsJob, IsWorld}
+use Rattle.blockdev.specs.Watching.{Watch}
 
 -- a reply that is no job notes nothing
 noted_none : (writing : finmap.FinMap nat_cmp (List ℕ)) (r : Reply) (s : State) → is_job r ≡ false
@@ -79,7 +79,7 @@ flush_job new job kind of = (
       }),
 )
 
-module _ (core : State) (jobs : Jobs) (dev : Told) (w : IsWorld core jobs dev) where
+module _ (core : State) (jobs : Jobs) (dev : Watch) (w : IsWorld core jobs dev) where
   page_still : (new : State) → new.sizes ≡ core.sizes → MIN_PAGE_SIZE ≤ new.sizes.page
   page_still new same = subst (λ (g : Sizes). MIN_PAGE_SIZE ≤ g.page) (sym same) w.page_size
 

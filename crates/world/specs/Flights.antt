@@ -4,7 +4,6 @@ use Rattle.std.specs.Prelude.{Some}
 use Rattle.std.specs.Prelude.{None}
 use Rattle.std.specs.Ordering.{nat_cmp}
 use Rattle.std.specs.FinMap as finmap
-use Rattle.blockdev.specs.Device.{Told}
 use Rattle.blockdev.specs.Jobs.{Task, IsJobFor}
 use Rattle.pc_types.specs.Kinds.{is_flush}
 use Rattle.pc_types.specs.declared.limits.TheConstants.{MIN_PAGE_SIZE}
@@ -15,6 +14,7 @@ use Rattle.cachecore.specs.Replies.{outcome_of}
 use Rattle.world.specs.declared.jobs.Flight.{Flight}
 use Rattle.world.specs.declared.jobs.Flight.TheVariants.{Asked, Made}
 use Rattle.world.specs.Stepping.{WorldSeen}
+use Rattle.blockdev.specs.Watching.{Watch}
 
 -- ---- a job in flight
 
@@ -53,11 +53,12 @@ Jobs = finmap.FinMap nat_cmp Flight
 
 -- ---- the world
 
-abbrev pub seen_of : State → Jobs → Told → WorldSeen
-seen_of core jobs device =
+abbrev pub seen_of : State → Jobs → Watch → WorldSeen
+seen_of core jobs dev =
     record {
       core = core;
-      device = device;
+      device = dev.device;
+      unflushed = dev.unflushed;
       outcomes = filter_map_values outcome_in jobs;
       writing = filter_map_values written_by jobs;
     }
@@ -78,13 +79,13 @@ HasJob core t _ _ = ⊥
 
 -- ---- what always holds
 
-pub record IsWorld (core : State) (jobs : Jobs) (device : Told) : Type 0 where
+pub record IsWorld (core : State) (jobs : Jobs) (dev : Watch) : Type 0 where
   -- the geometry's least page
   pub page_size : MIN_PAGE_SIZE ≤ core.sizes.page
   pub each_job : (t : ℕ) → HasJob core t (finmap.get core.requests t) (finmap.get jobs t)
   pub count : finmap.len jobs ≡ finmap.len core.requests
-  pub block_size : device.size ≡ core.sizes.page
-  pub block_count : device.count ≡ core.sizes.blocks
+  pub block_size : dev.device.size ≡ core.sizes.page
+  pub block_count : dev.device.count ≡ core.sizes.blocks
 
 -- a spare buffer has as many bytes as a page
 abbrev pub IsSpare : State → Option (List ℕ) → Type 0

@@ -1,5 +1,5 @@
 -- Steps that a caller asks for: what each of them does to the world, and what a list of them does.
-use Rattle.std.specs.Prelude.{Bool, true, false, map, ◌==◌, ◌&&◌, ◌≡◌, ◌≢◌, ℕ, ◌+◌, ◌<◌, ◌≤◌, ◌⊎◌, List, [], ◌∷◌, ◌++◌}
+use Rattle.std.specs.Prelude.{Bool, true, false, map, ◌==◌, ◌&&◌, ◌||◌, ◌≡◌, ◌≢◌, ℕ, ◌+◌, ◌<◌, ◌≤◌, ◌⊎◌, List, [], ◌∷◌, ◌++◌}
 use Rattle.std.specs.Prelude.{Option, Some, None}
 use Rattle.std.specs.Prelude.{is_some, unwrap_or, IfSome, Result, Ok, Err, if◌then◌else◌}
 use Rattle.std.specs.List.{list_any}
@@ -26,12 +26,13 @@ use Rattle.cachecore.specs.Replies.{IsJobOf, outcome_of}
 use Rattle.world.specs.declared.step.Step.{Step}
 use Rattle.world.specs.declared.step.Step.TheVariants as step
 
--- a world as its owner has it: the cache, what the device tells of itself, of each request whose device call was made
--- how it
--- went, and of each flush in flight the bytes that it writes
+-- a world as its owner has it: the cache, what the device tells of itself, whether anything was written to it since it
+-- was last flushed well, of each request whose device call was made how it went, and of each flush in flight the bytes
+-- that it writes
 pub record WorldSeen : Type 0 where
   pub core : State
   pub device : Told
+  pub unflushed : Bool
   pub outcomes : finmap.FinMap nat_cmp Outcome
   pub writing : finmap.FinMap nat_cmp (List ℕ)
 
@@ -44,10 +45,10 @@ world_of w =
 abbrev pub fits : Sizes → Told → Bool
 fits g d = d.size == g.page && d.count == g.blocks
 
--- a cache without files
+-- a cache without files. What was written to the device before is not known to be flushed
 abbrev pub first_world : Sizes → ℕ → Told → WorldSeen
 first_world g name d =
-    record { core = no_files g name; device = d; outcomes = finmap.empty; writing = finmap.empty }
+    record { core = no_files g name; device = d; unflushed = true; outcomes = finmap.empty; writing = finmap.empty }
 
 -- the range of a sync that begins on a file has all its pages
 abbrev pub HasAllPages : ℕ → Type 0
@@ -80,15 +81,16 @@ move_of (step.End t) r fault effect = Finish t.0 r
 
 -- the event or the end is made, and the device is left alone
 abbrev pub IsMade : WorldSeen → Step → Reply → WorldSeen → Type 0
-IsMade old s r new = WorldStep (world_of old) (move_of s r None true) (world_of new) × (new.device ≡ old.device)
+IsMade old s r new =
+    WorldStep (world_of old) (move_of s r None true) (world_of new) × (new.device ≡ old.device)
+    × (new.unflushed ≡ old.unflushed)
 
 -- nothing is made
 abbrev pub IsNotMade : WorldSeen → Refusal → Reply → WorldSeen → Type 0
 IsNotMade old why r new = (r ≡ reply.Refused why) × (new ≡ old)
 
--- one device call for request t, by its job, and the outcome is noted. Beside that a flush has the bytes that it
--- writes, the
--- job's buffer is of no matter
+-- one device call for request t, by its job, and the outcome is noted, and that something was written where it was a
+-- write, however it went. Beside that a flush has the bytes that it writes, the job's buffer is of no matter
 pub record IsCalled (old : WorldSeen) (t : ℕ) (new : WorldSeen) : Type 0 where
   pub job : Task
   pub done : FinishedTask
@@ -98,6 +100,7 @@ pub record IsCalled (old : WorldSeen) (t : ℕ) (new : WorldSeen) : Type 0 where
   pub performs : Performs old.device job done new.device
   pub noted : new ≡ record old {
     device = new.device;
+    unflushed = is_flush job.kind || old.unflushed;
     outcomes = finmap.insert old.outcomes t (outcome_of job.kind done.outcome done.bytes);
   }
 

@@ -516,8 +516,9 @@ fn flush_the_device(rt: &impl Abort, alloc: Global) -> Result<(), Refusal> {
     let Ok(mut world) = World::new(alloc, &geometry, 0, device) else {
         return Err(Refusal::BadConfig);
     };
-    assert_eq!(rt; world.flush(), Err(ErrCode::IO));
+    assert_eq!(rt; world.flush_written(), Err(ErrCode::IO));
     assert_eq!(rt; world.flush(), Ok(()));
+    assert_eq!(rt; world.flush_written(), Ok(()));
     Ok(())
 }
 

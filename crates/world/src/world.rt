@@ -15,7 +15,7 @@ ghost use Rattle.world.specs.Stepping.{IsMade, LeadsTo, Plays, Steps, TellsForCa
 use crate::jobs::Jobs;
 use crate::replies::{self, Begun};
 use crate::step::Step;
-use blockdev::{BlockDevice, Buffer};
+use blockdev::{BlockDevice, Buffer, Watched};
 use cachecore::{CacheCore, PageTags, ReadAnswer, Reply};
 use pc_types::limits::MAX_FILES;
 use pc_types::{Bytes, FileId, Geometry, HandleId, PageIndex, Refusal, Serial, SyncId};
@@ -27,7 +27,7 @@ use std::marker::Model;
 pub struct World<D: BlockDevice> {
     core: CacheCore,
     jobs: Jobs,
-    device: D,
+    device: Watched<D>,
     // a buffer that came back, for the next begin
     spare: Option<Buffer>,
     alloc: Global,
@@ -48,9 +48,9 @@ impl<D: BlockDevice> Model for World<D> {
 
     ghost use Rattle.world.specs.Flights.{seen_of, IsSpare, IsWorld};
 
-    ghost view = { λ w. seen_of w.core.state w.jobs (D.told w.device) };
+    ghost view = { λ w. seen_of w.core.state w.jobs w.device };
 
-    ghost invariant = { λ w. IsWorld w.core.state w.jobs (D.told w.device) × IsSpare w.core.state w.spare };
+    ghost invariant = { λ w. IsWorld w.core.state w.jobs w.device × IsSpare w.core.state w.spare };
 }
 
 impl<D: BlockDevice> World<D> {
@@ -78,7 +78,7 @@ impl<D: BlockDevice> World<D> {
             Ok(core) => Ok(World {
                 core,
                 jobs,
-                device,
+                device: Watched::over(device),
                 spare: None,
                 alloc,
             }),

@@ -1,6 +1,6 @@
 //! The device calls of requests in flight, and their ends.
 
-ghost use Rattle.std.specs.Prelude.{◌≡◌, length};
+ghost use Rattle.std.specs.Prelude.{◌≡◌, ◌≤◌, OnOk, length};
 ghost use Rattle.std.specs.FinMap as map;
 ghost use Rattle.machine.specs.declared.event.Event.TheVariants as event;
 ghost use Rattle.machine.specs.Step.{Step as MachineStep};
@@ -8,14 +8,14 @@ ghost use Rattle.cachecore.specs.Replies.{EndGivesBack, end_of};
 ghost use Rattle.world.specs.Ends.{ended};
 ghost use Rattle.runs.specs.Durable.{LastingStep, Flushed};
 ghost use Rattle.runs.specs.World.{World as TheWorld};
-ghost use Rattle.world.specs.Flushing.{IsDurably, IsFlushed, fault_of, lasting};
+ghost use Rattle.world.specs.Flushing.{IsDurably, IsFlushed, IsFlushedOnce, fault_of, lasting};
 ghost use Rattle.world.specs.Stepping.{CallReply, FailReply, Steps, done};
 
 use super::World;
 use crate::jobs::Flight;
 use crate::replies;
 use crate::step::Step;
-use blockdev::{BlockDevice, FaultEffect, Finished, ScriptDevice, perform};
+use blockdev::{BlockDevice, FaultEffect, Finished, ScriptDevice};
 use cachecore::{CacheCore, Ended, Kind, RefusedEnd, Reply};
 use pc_types::{ErrCode, Refusal, Serial};
 
@@ -26,7 +26,7 @@ impl<D: BlockDevice> World<D> {
     {
         match self.jobs.take(serial) {
             Some(Flight::Asked(job)) => {
-                let finished = perform(&mut self.device, job);
+                let finished = self.device.perform(job);
                 self.jobs.put(Flight::Made(finished));
                 Ok(())
             }
@@ -74,6 +74,16 @@ impl<D: BlockDevice> World<D> {
         ensures turn { (was : TheWorld) → IsDurably self.old was → (is : TheWorld) × IsDurably self.new is × LastingStep (lasting self.old was) (Flushed (fault_of result)) (lasting self.new is) }
     {
         self.device.flush()
+    }
+
+    /// Flushes the device as `flush` does, where something was written to it since it was last flushed well. Where nothing
+    /// was, it makes no device call.
+    pub fn flush_written(&mut self) -> Result<(), ErrCode>
+        ensures flushed { IsFlushedOnce self.old result self.new }
+        ensures durable { OnOk result (self.new.device.durable ≡ self.new.device.contents) }
+        ensures faults { self.old.device.faults ≤ self.new.device.faults }
+    {
+        self.device.flush_written()
     }
 }
 

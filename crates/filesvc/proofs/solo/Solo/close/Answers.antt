@@ -14,7 +14,7 @@ pub invariant_of-self-in-Err : goal.invariant_of-self-in-Err
 invariant_of-self-in-Err g c = service_acted _ _ _ _ _ c.self.invariant (event.Close c.handle.inside.number) _ c.close.ensures.0 c.close.ensures.1 refl (closed_quiet c.close.result)
 
 pub returns-in-Ok-clause-files : goal.returns-in-Ok-clause-files
-returns-in-Ok-clause-files g c = λ _. rw (← c.self.view_is, ← c.handle.view_is) (files_acted _ _ _ _ _ c.self.invariant (event.Close c.handle.inside.number) _ c.in-Ok.ensures.0 c.in-Ok.ensures.1)
+returns-in-Ok-clause-files g c = λ _. rw (← c.self.view_is, ← c.handle.view_is) (files_acted _ c.self.inside.world c.close.new.self _ _ c.self.invariant (event.Close c.handle.inside.number) _ c.in-Ok.ensures.0 c.in-Ok.ensures.1)
 
 pub returns-in-Err-clause-answers : goal.returns-in-Err-clause-answers
 returns-in-Err-clause-answers g c = λ names.

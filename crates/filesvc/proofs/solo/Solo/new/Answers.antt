@@ -13,7 +13,7 @@ invariant_of-result g c = record {
     board = sym c.in-Ok.ensures.board;
     lists = lists_in _ c.in-Ok.ensures.nothing;
     rests = record { requests = ap (λ (w : WorldSeen). w.core.requests) c.in_ok-world.ensures.fresh; outcomes = ap (λ (w : WorldSeen). w.outcomes) c.in_ok-world.ensures.fresh };
-    reached = reached_at _ _ (ap (λ (w : WorldSeen). w.device) c.in_ok-world.ensures.fresh) c.in_ok-world.ensures.first;
+    reached = reached_at c.in_ok-world.world _ (ap (λ (w : WorldSeen). w.device) c.in_ok-world.ensures.fresh) c.in_ok-world.ensures.first;
     sound = sound_at c.args.geometry.now c.args.name _ _ c.in_ok-world.ensures.fresh;
     counted = (let a : c.in_ok-world.world.device.calls ≡ c.calls.result = ap (λ (w : WorldSeen). w.device.calls) c.in_ok-world.ensures.fresh ∙ sym c.calls.ensures in let b = c.if-prove.false in omega arith);
     bounded = λ f. subst (λ (w : WorldSeen). (file_at w.core f).size ≤ MAX_FILE_SIZE) (sym c.in_ok-world.ensures.fresh) (omega arith);

@@ -16,20 +16,20 @@ pub invariant_of-self : goal.invariant_of-self
 invariant_of-self g c = service_kept _ _ _ _ _ (event.Read c.args.handle c.args.offset (length c.args.out.now)) _ refl c.read.ensures.made.0 c.read.ensures.made.1 c.self.invariant
 
 pub returns-in_err-count-clause-serves : goal.returns-in_err-count-clause-serves
-returns-in_err-count-clause-serves g c = rw (← c.self.view_is) (read_serves _ c.args.handle c.args.offset (length c.args.out.now) _ _ c.read.ensures.made.0 c.read.ensures.made.1 c.self.invariant.serving.sound c.self.invariant.serving.reached)
+returns-in_err-count-clause-serves g c = rw (← c.self.view_is) (read_serves _ c.args.handle c.args.offset (length c.args.out.now) _ _ c.read.ensures.made.0 c.read.ensures.made.1 c.read.ensures.made.2 c.self.invariant.serving.sound c.self.invariant.serving.reached)
 
 pub returns-in_err-count-clause-attempt : goal.returns-in_err-count-clause-attempt
 returns-in_err-count-clause-attempt g c =
     let p = err_from_is_err_and c.from_residual.result c.from_residual.ensures.1 in
-    rw (p.1, p.2) (rw (← c.self.view_is) (attempt_over _ c.args.handle (event.Read c.args.handle c.args.offset (length c.args.out.now)) _ _ refl c.in_err-count.ensures.made.0 c.in_err-count.ensures.made.1 c.self.invariant.serving.sound c.self.invariant.serving.reached (read_settled _ _ c.args.handle c.args.offset (length c.args.out.now) _ c.in_err-count.ensures.made.0.1.0)))
+    rw (p.1, p.2) (rw (← c.self.view_is) (attempt_over _ c.args.handle (event.Read c.args.handle c.args.offset (length c.args.out.now)) _ _ refl c.in_err-count.ensures.made.0 c.in_err-count.ensures.made.1 c.in_err-count.ensures.made.2 c.self.invariant.serving.sound c.self.invariant.serving.reached (read_settled _ _ c.args.handle c.args.offset (length c.args.out.now) _ c.in_err-count.ensures.made.0.1.0)))
 
 pub returns-in-Bytes-clause-serves : goal.returns-in-Bytes-clause-serves
-returns-in-Bytes-clause-serves g c = rw (← c.self.view_is) (read_serves _ c.args.handle c.args.offset (length c.args.out.now) _ _ c.read.ensures.made.0 c.read.ensures.made.1 c.self.invariant.serving.sound c.self.invariant.serving.reached)
+returns-in-Bytes-clause-serves g c = rw (← c.self.view_is) (read_serves _ c.args.handle c.args.offset (length c.args.out.now) _ _ c.read.ensures.made.0 c.read.ensures.made.1 c.read.ensures.made.2 c.self.invariant.serving.sound c.self.invariant.serving.reached)
 
 pub returns-in-Bytes-clause-attempt : goal.returns-in-Bytes-clause-attempt
 returns-in-Bytes-clause-attempt g c =
     let m = rw c.in-Bytes.is at c.in_ok-count.ensures.made in
-    rw (← c.self.view_is) (attempt_over _ c.args.handle (event.Read c.args.handle c.args.offset (length c.args.out.now)) _ _ refl m.0 m.1 c.self.invariant.serving.sound c.self.invariant.serving.reached refl)
+    rw (← c.self.view_is) (attempt_over _ c.args.handle (event.Read c.args.handle c.args.offset (length c.args.out.now)) _ _ refl m.0 m.1 m.2 c.self.invariant.serving.sound c.self.invariant.serving.reached refl)
 
 pub returns-in-Bytes-clause-bytes : goal.returns-in-Bytes-clause-bytes
 returns-in-Bytes-clause-bytes g c =
@@ -51,17 +51,17 @@ invariant_of-self-in-Miss g c = service_kept _ _ _ _ _ (event.Read c.args.handle
 
 pub returns-in_err-fill-in-Miss-clause-serves : goal.returns-in_err-fill-in-Miss-clause-serves
 returns-in_err-fill-in-Miss-clause-serves g c =
-    rw (← c.self.view_is) (serves_trans _ _ _ (read_serves _ c.args.handle c.args.offset (length c.args.out.now) _ _ c.read.ensures.made.0 c.read.ensures.made.1 c.self.invariant.serving.sound c.self.invariant.serving.reached) c.fill.ensures.helps.serves)
+    rw (← c.self.view_is) (serves_trans _ _ _ (read_serves _ c.args.handle c.args.offset (length c.args.out.now) _ _ c.read.ensures.made.0 c.read.ensures.made.1 c.read.ensures.made.2 c.self.invariant.serving.sound c.self.invariant.serving.reached) c.fill.ensures.helps.serves)
 
 pub returns-in_err-fill-in-Miss-clause-attempt : goal.returns-in_err-fill-in-Miss-clause-attempt
 returns-in_err-fill-in-Miss-clause-attempt g c =
     let p = err_from_is_err_and c.from_residual-in_err-fill-in-Miss.result c.from_residual-in_err-fill-in-Miss.ensures.1 in
-    rw (p.1, p.2) (rw (← c.self.view_is) (attempt_follows _ c.args.handle (event.Read c.args.handle c.args.offset (length c.args.out.now)) _ _ refl c.in_ok-count.ensures.made.0 c.in_ok-count.ensures.made.1 c.self.invariant.serving.sound c.self.invariant.serving.reached _ _ refl
+    rw (p.1, p.2) (rw (← c.self.view_is) (attempt_follows _ c.args.handle (event.Read c.args.handle c.args.offset (length c.args.out.now)) _ _ refl c.in_ok-count.ensures.made.0 c.in_ok-count.ensures.made.1 c.in_ok-count.ensures.made.2 c.self.invariant.serving.sound c.self.invariant.serving.reached _ _ refl
     (follows_refused _ _ _ _ _ c.fill.ensures.helps c.fill.ensures.attempts (read_unsettled _ _ _ c.in-Miss.is) c.in_err-fill-in-Miss.ensures.refused) (λ _ _ is. absurd cc)))
 
 pub returns-clause-serves : goal.returns-clause-serves
 returns-clause-serves g c =
-    rw (← c.self.view_is) (serves_trans _ _ _ (read_serves _ c.args.handle c.args.offset (length c.args.out.now) _ _ c.read.ensures.made.0 c.read.ensures.made.1 c.self.invariant.serving.sound c.self.invariant.serving.reached) c.fill.ensures.helps.serves)
+    rw (← c.self.view_is) (serves_trans _ _ _ (read_serves _ c.args.handle c.args.offset (length c.args.out.now) _ _ c.read.ensures.made.0 c.read.ensures.made.1 c.read.ensures.made.2 c.self.invariant.serving.sound c.self.invariant.serving.reached) c.fill.ensures.helps.serves)
 
 pub returns-clause-attempt : goal.returns-clause-attempt
 returns-clause-attempt g c =
@@ -69,7 +69,7 @@ returns-clause-attempt g c =
     let t : SoloSeen = record { world = c.read.new.self; errors = c.self.inside.recorder; attempts = c.self.inside.attempts + 1 } in
     let m = read_missed _ s _ c.self.invariant.serving t c.in_ok-count.ensures.made.1 c.args.handle c.args.offset (length c.args.out.now) c.count_within-count.result c.in_ok-count.field-0 c.read.new.out c.in-Miss.page c.in_ok-count.ensures.made.0.1.0 c.in-Miss.is c.count_within-count.ensures in
     let k = c.count_within-count.ensures (is_open_of (is_open t.world.core c.args.handle.0) _ _ _ m.may) in
-    rw (← c.self.view_is) (attempt_follows _ c.args.handle (event.Read c.args.handle c.args.offset (length c.args.out.now)) _ _ refl c.in_ok-count.ensures.made.0 c.in_ok-count.ensures.made.1 c.self.invariant.serving.sound c.self.invariant.serving.reached _ _ refl
+    rw (← c.self.view_is) (attempt_follows _ c.args.handle (event.Read c.args.handle c.args.offset (length c.args.out.now)) _ _ refl c.in_ok-count.ensures.made.0 c.in_ok-count.ensures.made.1 c.in_ok-count.ensures.made.2 c.self.invariant.serving.sound c.self.invariant.serving.reached _ _ refl
     (follows_again _ _ _ _ c.fill.ensures.helps c.fill.ensures.attempts (read_unsettled _ _ _ c.in-Miss.is))
     (λ _ tells _. read_gains t c.fill.new.self c.args.handle c.args.offset (length c.args.out.now) c.count_within-count.result c.fill.ensures.helps.serves k (c.in_ok-fill-in-Miss.ensures.gains tells)))
 

@@ -7,7 +7,7 @@ use Rattle.world.proofs.world.World.call.Goals as goal
 
 pub put-requires-clause-apart : goal.put-requires-clause-apart
 put-requires-clause-apart g c = taken_apart c.self.inside.jobs c.take.new.self c.args.serial.0 _ c.take.ensures.rest
-    (c.perform-finished.ensures.serial ∙ ap serial_of (sym c.in-Some-Asked.field-0-is) ∙ c.in-Some-Asked.ensures.serial)
+    (c.perform-finished.ensures.performs.serial ∙ ap serial_of (sym c.in-Some-Asked.field-0-is) ∙ c.in-Some-Asked.ensures.serial)
 
 pub invariant_of-self : goal.invariant_of-self
 invariant_of-self g c = (
@@ -16,7 +16,7 @@ invariant_of-self g c = (
       c.perform-finished.result _ c.perform-finished.ensures c.put.new.self
       (put_otherwise c.self.inside.jobs c.take.new.self c.put.new.self c.args.serial.0 _
       (Made c.perform-finished.result) c.take.ensures.rest c.put.ensures
-      (c.perform-finished.ensures.serial ∙ ap serial_of (sym c.in-Some-Asked.field-0-is)
+      (c.perform-finished.ensures.performs.serial ∙ ap serial_of (sym c.in-Some-Asked.field-0-is)
       ∙ c.in-Some-Asked.ensures.serial)),
   c.self.invariant.1,
 )
@@ -28,7 +28,7 @@ returns-in-Some-Asked g c =
     c.perform-finished.result _ c.perform-finished.ensures c.put.new.self
     (put_otherwise c.self.inside.jobs c.take.new.self c.put.new.self c.args.serial.0 _ (Made c.perform-finished.result)
     c.take.ensures.rest c.put.ensures
-    (c.perform-finished.ensures.serial ∙ ap serial_of (sym c.in-Some-Asked.field-0-is)
+    (c.perform-finished.ensures.performs.serial ∙ ap serial_of (sym c.in-Some-Asked.field-0-is)
     ∙ c.in-Some-Asked.ensures.serial))
 
 pub put-requires-in-Some-Made-clause-apart : goal.put-requires-in-Some-Made-clause-apart

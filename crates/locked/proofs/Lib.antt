@@ -1,0 +1,6 @@
+pub mod Counting
+pub mod Kept
+pub mod Replied
+pub mod Seats
+pub mod Passing
+pub mod Receipts
