@@ -37,6 +37,7 @@ use Rattle.machine.specs.Sound.{Sound}
 use Rattle.cachecore.specs.Placing.{is_bare, placed_on, with_placed}
 use Rattle.maps.proofs.Maps.{get-insert_nat, get-remove_nat}
 use Rattle.maps.proofs.MapLaws.{no_entries}
+use Rattle.cachecore.proofs.FileChanges.{core-changed}
 use Rattle.cachecore.proofs.Holdings.{free_blocks-same, Holds-none}
 use Rattle.pagestore.proofs.Runs.{none_absent}
 use Rattle.machine.proofs.steps.Passed.{MayWrite, may_write}
@@ -49,7 +50,8 @@ use Rattle.machine.proofs.sound.Writes.{written_sound}
 use Rattle.machine.specs.declared.event.Event.TheVariants as event
 use Rattle.machine.specs.declared.event.Reply.TheVariants as reply
 use Rattle.cachecore.proofs.WriteLemmas.{WriteParts, parts-file, parts-pages, parts-size, parts_sized}
-use Rattle.cachecore.proofs.WriteLemmas.{len-written_pages, sized_insert}
+use Rattle.cachecore.proofs.WriteLemmas.{sized_insert}
+use Rattle.machine.proofs.changes.WriteLengths.{len-written_pages}
 
 pub is_less : (m n : ℕ) → m < n → nat_lt m n ≡ true
 is_less m n h = grind (arith, nat_tests)
@@ -129,7 +131,7 @@ zeros_state sizes name store handles blocks flights syncs f p free page =
     (record (stored_at store f) { pages = finmap.insert (stored_at store f).pages p (blank n) })) handles blocks flights
     syncs) page
 
-module _ (s : State) (store : Store) (blocks : Blocks) (c : IsCore s store blocks) where
+module _ {s : State} {store : Store} {blocks : Blocks} (c : IsCore s store blocks) where
   -- ---- the page lists, of which the tables say nothing
 
   pub core-lists : (lists : PageLists) → IsCore s (with_lists store lists) blocks
@@ -258,55 +260,10 @@ module _ (s : State) (store : Store) (blocks : Blocks) (c : IsCore s store block
       → Sound (record (put_file s f e) { spots = bs.spots })
       → IsCore (record (put_file s f e) { spots = bs.spots }) now bs
   core-file f e made now bs here sized small more room page free idle count held failures sound =
-      let same : length (slice_set s.files f e) ≡ length s.files = length-set s.files f e in
-      record {
-        few_files = omega (arith, same, c.few_files);
-        known = λ h g k. let old : g < length s.files = c.known h g k in omega (arith, same, old);
-        bounded =
-            λ g. elim (eqb g f) as (λ t. eqb g f ≡ t
-            → (get_or (slice_set s.files f e) g no_file).size ≤ MAX_FILE_SIZE) [
-              | true ↦ λ t. subst (λ (x : File). x.size ≤ MAX_FILE_SIZE) (sym (at g t)) small
-              | false ↦ λ t. subst (λ (x : File). x.size ≤ MAX_FILE_SIZE) (sym (other g t)) (c.bounded g)
-            ] refl;
-        sized = λ g. elim (eqb g f) as (λ t. eqb g f ≡ t
-            → AreSized s.sizes.page (get_or (slice_set s.files f e) g no_file).pages) [
-              | true ↦ λ t. subst (λ (x : File). AreSized s.sizes.page x.pages) (sym (at g t)) sized
-              | false ↦ λ t. subst (λ (x : File). AreSized s.sizes.page x.pages) (sym (other g t)) (c.sized g)
-            ] refl;
-        page = page ∙ c.page;
-        framed = c.framed;
-        counted =
-            omega (
-              arith,
-              sum_by-set (λ (file : File). finmap.len file.pages) s.files f e no_file here,
-              c.counted,
-              more,
-              room,
-              free,
-            );
-        filling = λ g q. idle g q ∙ c.filling g q;
-        device = count ∙ c.device;
-        holds = subst (λ (h : FinMap nat_cmp Bool). Holds h s.requests) (sym held) c.holds;
-        within = c.within;
-        filed = λ t r k. (let old : r.file < length s.files = c.filed t r k in omega (arith, same, old));
-        failed =
-            λ g. elim (eqb g f) as (λ t. eqb g f ≡ t → (get_or (slice_set s.files f e) g no_file).failures
-            + finmap.len s.requests ≤ s.next) [
-              | true ↦ λ t. subst (λ (x : File). x.failures + finmap.len s.requests ≤ s.next) (sym (at g t))
-                  (subst (λ n. n + finmap.len s.requests ≤ s.next) (sym failures) (c.failed f))
-              | false ↦ λ t. subst (λ (x : File). x.failures + finmap.len s.requests ≤ s.next) (sym (other g t))
-                  (c.failed g)
-            ] refl;
-        serials = c.serials;
-        sound = sound;
-      }
-    where
-      at : (g : ℕ) → eqb g f ≡ true → get_or (slice_set s.files f e) g no_file ≡ e
-      at g t = ap (λ k. get_or (slice_set s.files f e) k no_file) (eqb-true g f t)
-          ∙ get_or-set_same s.files f e no_file here
-
-      other : (g : ℕ) → eqb g f ≡ false → get_or (slice_set s.files f e) g no_file ≡ get_or s.files g no_file
-      other g t = grind (arith, nat_tests, get_or-set_other {A = File})
+      core-changed c f here e bs.spots s.requests s.syncs now bs sized small page
+      (omega (arith, more, room, free)) (λ g q. idle g q ∙ c.filling g q) count
+      (subst (λ (h : FinMap nat_cmp Bool). Holds h s.requests) (sym held) c.holds)
+      (λ t r k. (c.within t r k, c.filed t r k)) failures refl sound
 
   -- ---- a page of zeros
 
@@ -436,7 +393,7 @@ module _ (s : State) (store : Store) (blocks : Blocks) (c : IsCore s store block
 
       entry : e3 ≡ record (file_at s f)
           { size = max (file_at s f).size (o + length b); pages = written_pages s.sizes.page o b (file_at s f).pages }
-      entry = parts-file s.sizes.page o b (file_at s f) e1 e2 e3 w full some
+      entry = parts-file w full some
 
       write_same : record (put_file s f e3) { spots = (taken s.sizes.page).spots } ≡ written s f o b
       write_same = λ i. record (put_file s f (entry i)) { spots = placed_are f (touched s.sizes.page o (length b)) i }
@@ -455,7 +412,7 @@ module _ (s : State) (store : Store) (blocks : Blocks) (c : IsCore s store block
           let made : ℕ = count_by (λ p. not (is_some (finmap.get (file_at s f).pages p)))
           (range_with_len (o / P) (touched_count P o (length b))) in
           let more : finmap.len e3.pages ≡ finmap.len (file_at s f).pages + made =
-          ap finmap.len (parts-pages s.sizes.page o b (file_at s f) e1 e2 e3 w full some)
+          ap finmap.len (parts-pages w full some)
           ∙ len-written_pages s.sizes.page o b (file_at s f).pages
           ∙ ap (λ k. finmap.len (file_at s f).pages
           + count_by (λ p. not (is_some (finmap.get (file_at s f).pages p)))
@@ -463,7 +420,7 @@ module _ (s : State) (store : Store) (blocks : Blocks) (c : IsCore s store block
           let sound : Sound (written s f o b) =
           subst (λ g. Sound (written s g o b)) file
           (written_sound s c.sound h o b (may_write s h o (length b) passed)) in
-          core-file f e3 made now (taken P) here (parts_sized s.sizes.page o b (file_at s f) e1 e2 e3 w (c.sized f))
-          (omega (arith, c.bounded f, bound, parts-size s.sizes.page o b (file_at s f) e1 e2 e3 w)) more
+          core-file f e3 made now (taken P) here (parts_sized w (c.sized f))
+          (omega (arith, c.bounded f, bound, parts-size w)) more
           (frames_enough h f o (length b) P file page passed) same free idle refl refl
           (ap (λ (x : File). x.failures) entry) (subst Sound (sym write_state) sound)

@@ -32,6 +32,7 @@ use Rattle.machine.specs.Sound.{Sound}
 use Rattle.machine.proofs.sound.Changes.{lookups, same_lookups}
 use Rattle.cachecore.specs.Tables.{IsCore, state_of}
 use Rattle.machine.proofs.changes.ChangeLaws.{cut_pages, get-cut_pages, shrunk_truncates}
+use Rattle.cachecore.proofs.FileChanges.{core-changed}
 use Rattle.cachecore.proofs.FillCuts.{filling-shrunk, filling_counted}
 use Rattle.cachecore.proofs.HoldCuts.{Holds-cut}
 use Rattle.machine.proofs.steps.Choices.{mapped_some}
@@ -41,69 +42,6 @@ use Rattle.maps.proofs.MapLaws.{len-each_value, same_place_map}
 use Rattle.pagestore.proofs.RangeLemmas.{stored-with, length-with}
 use Rattle.machine.proofs.sound.Cuts.{shrunk_sound}
 use Rattle.machine.proofs.sound.Lookups.{page_at-same}
-
--- ---- another entry at f, and other blocks and requests
-
-module _ (s : State) (store : Store) (blocks : Blocks) (c : IsCore s store blocks) (f : ℕ) (here : f < length s.files)
-    (e : File) (spots : FinMap place_cmp Spot) (requests : FinMap nat_cmp Request) (syncs : FinMap nat_cmp Sync) where
-  abbrev after : State
-  after = record s { files = slice_set s.files f e; spots = spots; requests = requests; syncs = syncs }
-
-  at : (g : ℕ) → eqb g f ≡ true → get_or (slice_set s.files f e) g no_file ≡ e
-  at g t = ap (λ k. get_or (slice_set s.files f e) k no_file) (eqb-true g f t)
-      ∙ get_or-set_same s.files f e no_file here
-
-  other : (g : ℕ) → eqb g f ≡ false → get_or (slice_set s.files f e) g no_file ≡ get_or s.files g no_file
-  other g t = grind (arith, nat_tests, get_or-set_other {A = File})
-
-  pub core-changed : (now : Store) (bs : Blocks) → AreSized s.sizes.page e.pages → e.size ≤ MAX_FILE_SIZE
-      → now.page ≡ store.page → finmap.len e.pages + filling_total after + now.free ≡ finmap.len (file_at s f).pages
-      + filling_total s + store.free
-      → ((g q : ℕ) → is_awaited now g q ≡ is_filling after g q) → bs.count ≡ blocks.count → Holds bs.held requests
-      → ((t : ℕ) (r : Request) → finmap.get requests t ≡ Some r → IsPage r.file r.page × (r.file < length s.files))
-      → e.failures ≡ (file_at s f).failures → finmap.len requests ≡ finmap.len s.requests → Sound after
-      → IsCore after now bs
-  core-changed now bs sized small page freed filling device holds within failures many sound =
-      let same : length (slice_set s.files f e) ≡ length s.files = length-set s.files f e in
-      record {
-        few_files = omega (arith, same, c.few_files);
-        known = λ h g k. let old : g < length s.files = c.known h g k in omega (arith, same, old);
-        bounded =
-            λ g. elim (eqb g f) as (λ t. eqb g f ≡ t
-            → (get_or (slice_set s.files f e) g no_file).size ≤ MAX_FILE_SIZE) [
-              | true ↦ λ t. subst (λ (x : File). x.size ≤ MAX_FILE_SIZE) (sym (at g t)) small
-              | false ↦ λ t. subst (λ (x : File). x.size ≤ MAX_FILE_SIZE) (sym (other g t)) (c.bounded g)
-            ] refl;
-        sized = λ g. elim (eqb g f) as (λ t. eqb g f ≡ t
-            → AreSized s.sizes.page (get_or (slice_set s.files f e) g no_file).pages) [
-              | true ↦ λ t. subst (λ (x : File). AreSized s.sizes.page x.pages) (sym (at g t)) sized
-              | false ↦ λ t. subst (λ (x : File). AreSized s.sizes.page x.pages) (sym (other g t)) (c.sized g)
-            ] refl;
-        page = page ∙ c.page;
-        framed = c.framed;
-        counted =
-            omega (
-              arith,
-              sum_by-set (λ (file : File). finmap.len file.pages) s.files f e no_file here,
-              c.counted,
-              freed,
-            );
-        filling = filling;
-        device = device ∙ c.device;
-        holds = holds;
-        within = λ t r e. (within t r e).0;
-        filed = λ t r e. let old : r.file < length s.files = (within t r e).1 in omega (arith, same, old);
-        failed =
-            λ g. elim (eqb g f) as (λ t. eqb g f ≡ t → (get_or (slice_set s.files f e) g no_file).failures
-            + finmap.len requests ≤ s.next) [
-              | true ↦ λ t. subst (λ (x : File). x.failures + finmap.len requests ≤ s.next) (sym (at g t))
-                  (omega (arith, failures, many, c.failed f))
-              | false ↦ λ t. subst (λ (x : File). x.failures + finmap.len requests ≤ s.next) (sym (other g t))
-                  (omega (arith, many, c.failed g))
-            ] refl;
-        serials = c.serials;
-        sound = sound;
-      }
 
 -- ---- the pages of the file that is cut
 
@@ -154,7 +92,7 @@ pub record ShrinkSteps (s : State) (f z : ℕ) (old tail freed now : Store) : Ty
   pub is_freed : RemovesFrom tail freed f (page_count s.sizes.page z)
   pub is_sized : now ≡ record freed { files = slice_set freed.files f (record (stored_at freed f) { size = z }) }
 
-module _ (s : State) (f z : ℕ) (old tail freed now : Store) (w : ShrinkSteps s f z old tail freed now) where
+module _ {s : State} {f z : ℕ} {old tail freed now : Store} (w : ShrinkSteps s f z old tail freed now) where
   abbrev m : FinMap nat_cmp Page
   m = cut_boundary s f z (boundary s f z)
 
@@ -233,7 +171,7 @@ module _ (sizes : Sizes) (name f z : ℕ) (handles : FinMap nat_cmp ℕ) (old ta
     shrunk_state = λ i. record {
       sizes = sizes;
       name = name;
-      files = shrunk_files s f z old tail freed now w i;
+      files = shrunk_files w i;
       handles = handles;
       spots = spots_now i;
       next = (drops i).next;
@@ -246,16 +184,16 @@ module _ (sizes : Sizes) (name f z : ℕ) (handles : FinMap nat_cmp ℕ) (old ta
     core-shrunk c small =
         let t : State = shrunk s f z in
         let filling : (g q : ℕ) → is_awaited now g q ≡ is_filling t g q =
-        λ g q. shrunk_awaited s f z old tail freed now w g q
+        λ g q. shrunk_awaited w g q
         ∙ ap (λ b. b && not (eqb g f && nat_le (page_count sizes.page z) q)) (c.filling g q)
         ∙ sym (filling-shrunk s f z g q) in
         let sound : Sound t = shrunk_sound s c.sound f z in
         let was = filling_counted s old c.sound c.filling in
         let is = filling_counted t now sound filling in
         subst (λ x. IsCore x now after) (sym shrunk_state)
-        (core-changed s old before c f w.here (record (file_at s f) { size = z; pages = cut_pages s f z }) t.spots
-        t.requests t.syncs now after (sized_cut s f z (c.sized f)) small (shrunk_page s f z old tail freed now w)
-        (omega (arith, shrunk_freed s f z old tail freed now w, was, is)) filling cuts.count
+        (core-changed c f w.here (record (file_at s f) { size = z; pages = cut_pages s f z }) t.spots
+        t.requests t.syncs now after (sized_cut s f z (c.sized f)) small (shrunk_page w)
+        (omega (arith, shrunk_freed w, was, is)) filling cuts.count
         (Holds-cut s c.sound f z before after refl cuts c.holds)
         (λ u r e.
         let x = mapped_some cut (finmap.get s.requests u) r (sym (get-each_value (λ _. cut) s.requests u) ∙ e) in
@@ -296,7 +234,7 @@ module _ (sizes : Sizes) (name f z : ℕ) (handles : FinMap nat_cmp ℕ) (old no
         let sound : Sound (put_file before f (record (file_at before f) { size = z })) =
         grown_sound before f z c.sound in
         subst (λ x. IsCore x now blocks) (sym grown_state)
-        (core-changed before old blocks c f here (record (file_at before f) { size = z }) before.spots before.requests
+        (core-changed c f here (record (file_at before f) { size = z }) before.spots before.requests
         before.syncs now blocks (c.sized f) small (ap (λ (t : Store). t.page) is)
         (let free : now.free ≡ old.free = ap (λ (t : Store). t.free) is in omega (arith, free))
         (λ g q. ap (λ (t : Store). is_awaited t g q) is ∙ c.filling g q) refl c.holds

@@ -117,7 +117,7 @@ sized_changed P p g pages same sized = record { each = λ q there. by_key q (eqb
 
 -- ---- a request ends
 
-module _ (s : State) (store : Store) (blocks : Blocks) (c : IsCore s store blocks) (t : ℕ) (x : Request)
+module _ {s : State} {store : Store} {blocks : Blocks} (c : IsCore s store blocks) (t : ℕ) (x : Request)
     (is : finmap.get s.requests t ≡ Some x) where
   less : finmap.len s.requests ≡ finmap.len (finmap.remove s.requests t) + 1
   less = len_remove_old s.requests t x is
@@ -131,7 +131,7 @@ module _ (s : State) (store : Store) (blocks : Blocks) (c : IsCore s store block
     here = c.filed t x is
 
     abbrev new : State
-    new = after s store blocks c x.file e here spots s.next (finmap.remove s.requests t) s.syncs
+    new = after c x.file e here spots s.next (finmap.remove s.requests t) s.syncs
 
     end_fits : (now : Store) → now.page ≡ s.sizes.page → ((g q : ℕ) → is_awaited now g q ≡ is_filling new g q)
         → cached_total s + finmap.len e.pages + set.len now.filling + now.free ≡ s.sizes.frames
@@ -139,8 +139,8 @@ module _ (s : State) (store : Store) (blocks : Blocks) (c : IsCore s store block
         → e.failures ≤ (file_at s x.file).failures + 1 → Sound new
         → FitsCore new now (finmap.remove blocks.held x.block)
     end_fits now page filling counted failures sound =
-        let files = count_files s store blocks c x.file e here spots s.next (finmap.remove s.requests t) s.syncs in
-        let cached = cached_after s store blocks c x.file e here spots s.next (finmap.remove s.requests t) s.syncs in
+        let files = count_files c x.file e here spots s.next (finmap.remove s.requests t) s.syncs in
+        let cached = cached_after c x.file e here spots s.next (finmap.remove s.requests t) s.syncs in
         let n = less in
         record {
           page = page;
@@ -149,7 +149,7 @@ module _ (s : State) (store : Store) (blocks : Blocks) (c : IsCore s store block
           holds = Holds-ended blocks.held s.requests c.holds t x is;
           within = λ u q k. c.within u q (get_left s.requests t u q k).1;
           filed = λ u q k. (let a = c.filed u q (get_left s.requests t u q k).1 in omega arith);
-          failed = each_file s store blocks c x.file e here spots s.next (finmap.remove s.requests t) s.syncs
+          failed = each_file c x.file e here spots s.next (finmap.remove s.requests t) s.syncs
               (λ y. y.failures + finmap.len (finmap.remove s.requests t) ≤ s.next)
               (let a = c.failed x.file in omega arith)
               (λ g. (let a = c.failed g in omega arith));
@@ -163,7 +163,7 @@ module _ (s : State) (store : Store) (blocks : Blocks) (c : IsCore s store block
       → FitsCore (ended s t) now (finmap.remove blocks.held x.block)
   ended_fits now page filling counted =
       let n = less in
-      let all = all_frames s store blocks c in
+      let all = all_frames c in
       record {
         page = page;
         filling = filling;
@@ -181,7 +181,7 @@ module _ (s : State) (store : Store) (blocks : Blocks) (c : IsCore s store block
   quiet fails g q = c.filling g q ∙ sym (any-ended (fills g q) s.requests t x is (not_fill x fails g q))
 
   pub quiet_core : is_live_fill x ≡ false → IsCore (ended s t) store (record held_left { spots = s.spots })
-  quiet_core fails = requests_core s store blocks c s.spots s.next (finmap.remove s.requests t) s.syncs store
+  quiet_core fails = requests_core c s.spots s.next (finmap.remove s.requests t) s.syncs store
       (finmap.remove blocks.held x.block) (ended_fits store c.page (quiet fails) refl)
 
   module _ (live : x.dropped ≡ false) where
@@ -229,7 +229,7 @@ module _ (s : State) (store : Store) (blocks : Blocks) (c : IsCore s store block
       pub unfilled_core : IsCore (ended s t) without_place (record held_left { spots = s.spots })
       unfilled_core =
           let one = set_less store.filling x.file x.page fills_here in
-          requests_core s store blocks c s.spots s.next (finmap.remove s.requests t) s.syncs without_place
+          requests_core c s.spots s.next (finmap.remove s.requests t) s.syncs without_place
           (finmap.remove blocks.held x.block)
           (ended_fits without_place c.page (not_filling without_place refl) (omega arith))
 
@@ -246,8 +246,8 @@ module _ (s : State) (store : Store) (blocks : Blocks) (c : IsCore s store block
             let one = set_less store.filling x.file x.page fills_here in
             let left = ap set.len places in
             let more = len_insert_new (file_at s x.file).pages x.page filled_page (c.sound.fill t x is live kind) in
-            let all = all_frames s store blocks c in
-            file_core s store blocks c x.file e (c.filed t x is) s.spots s.next (finmap.remove s.requests t) s.syncs now
+            let all = all_frames c in
+            file_core c x.file e (c.filed t x is) s.spots s.next (finmap.remove s.requests t) s.syncs now
             (finmap.remove blocks.held x.block) refl
             (sized_put s.sizes.page x.page (file_at s x.file).pages filled_page (c.sized x.file) size)
             (end_fits e s.spots now (page ∙ c.page) (not_filling now places) (omega arith) (omega arith)
@@ -261,15 +261,15 @@ module _ (s : State) (store : Store) (blocks : Blocks) (c : IsCore s store block
           → e.pages ≡ change_at x.page g (file_at s x.file).pages → ((page : Page) → (g page).bytes ≡ page.bytes)
           → e.size ≡ (file_at s x.file).size → e.failures ≤ (file_at s x.file).failures + 1
           → now.page ≡ store.page → now.filling ≡ store.filling → now.free ≡ store.free
-          → Sound (after s store blocks c x.file e (c.filed t x is) spots s.next (finmap.remove s.requests t)
+          → Sound (after c x.file e (c.filed t x is) spots s.next (finmap.remove s.requests t)
           s.syncs)
-          → IsCore (after s store blocks c x.file e (c.filed t x is) spots s.next (finmap.remove s.requests t) s.syncs)
+          → IsCore (after c x.file e (c.filed t x is) spots s.next (finmap.remove s.requests t) s.syncs)
           now (record blocks { spots = spots; held = finmap.remove blocks.held x.block })
       tags_core e g spots now pages bytes size failures same places free sound =
           let count = ap finmap.len pages ∙ len_changed x.page g (file_at s x.file).pages in
           let left = ap set.len places in
-          let all = all_frames s store blocks c in
-          file_core s store blocks c x.file e (c.filed t x is) spots s.next (finmap.remove s.requests t) s.syncs now
+          let all = all_frames c in
+          file_core c x.file e (c.filed t x is) spots s.next (finmap.remove s.requests t) s.syncs now
           (finmap.remove blocks.held x.block) size
           (subst (AreSized s.sizes.page) (sym pages)
           (sized_changed s.sizes.page x.page g (file_at s x.file).pages bytes (c.sized x.file)))

@@ -28,7 +28,7 @@ use Rattle.pagestore.specs.Store.{Store, stored_at, stored_page, is_awaited}
 use Rattle.pagestore.specs.Syncing.{failed_of}
 use Rattle.cachecore.specs.Tables.{IsCore, state_of}
 use Rattle.machine.specs.Tests.{has_idle}
-use Rattle.cachecore.proofs.CutSteps.{core-changed}
+use Rattle.cachecore.proofs.FileChanges.{core-changed}
 use Rattle.cachecore.proofs.HandleLemmas.{len_one_less}
 use Rattle.maps.proofs.MapLaws.{any_value, no_entries}
 use Rattle.maps.proofs.Maps.{get-remove_nat}
@@ -113,7 +113,7 @@ module _ (sizes : Sizes) (name : ℕ) (handles : FinMap nat_cmp ℕ) (old now : 
       let all : t ≡ put_pages s f (finmap.remove (file_at s f).pages p) =
       ap (λ (x : Store). state_of sizes name x.files handles blocks flight syncs) h.3 in
       subst (λ x. IsCore x now blocks) (sym all)
-      (core-changed s old blocks c f here file s.spots s.requests s.syncs now blocks
+      (core-changed c f here file s.spots s.requests s.syncs now blocks
       (fewer_sized sizes.page p (stored_at old f).pages (c.sized f)) (c.bounded f) (ap (λ (x : Store). x.page) h.3)
       (omega (arith, fewer, free)) (λ g q. ap (λ (x : Store). is_awaited x g q) h.3 ∙ c.filling g q) refl c.holds
       (λ t r e. (c.within t r e, c.filed t r e)) refl refl sound)

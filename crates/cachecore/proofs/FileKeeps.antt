@@ -44,7 +44,7 @@ page_here s f p page is = elim (ltb f (length s.files)) as (λ b. ltb f (length 
       absurd (let a = sym none ∙ is in cc)
 ] refl
 
-module _ (s : State) (store : Store) (blocks : Blocks) (c : IsCore s store blocks) where
+module _ {s : State} {store : Store} {blocks : Blocks} (c : IsCore s store blocks) where
   -- the cached pages, those that are filling and the free frames are all frames
   pub all_frames : cached_total s + set.len store.filling + store.free ≡ s.sizes.frames
   all_frames = (λ i. cached_total s + filling_is s c.sound store.filling c.filling i + store.free) ∙ c.counted

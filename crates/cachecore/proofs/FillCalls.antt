@@ -22,7 +22,7 @@ use Rattle.pagestore.specs.Store.{Store}
 use Rattle.cachecore.specs.Replies.{IsJobOf}
 use Rattle.cachecore.specs.Tables.{IsCache}
 use Rattle.cachecore.proofs.FillKeeps.{block_is, filling_store, fill_begun_core}
-use Rattle.cachecore.proofs.Parts.{Parts, state_by}
+use Rattle.cachecore.proofs.Parts.{IsKept, Parts, state_by}
 use Rattle.cachecore.proofs.SyncLaws.{moved_syncs}
 
 -- the job of the request that began
@@ -45,10 +45,10 @@ fill_job old new f p b at is job next name kind block =
       } in task),
     )
 
-module _ (sizes : Sizes) (name : ℕ) (handles : FinMap nat_cmp ℕ) (p : Parts)
-    (w : IsCache (state_by sizes name handles p) p.store p.blocks) (f q : ℕ) where
+module _ (p : Parts)
+    (w : IsKept p) (f q : ℕ) where
   abbrev s : State
-  s = state_by sizes name handles p
+  s = state_by p
 
   module _ (absent : is_cached s f q ≡ false) (idle : is_filling s f q ≡ false) (spot : Spot)
       (at : spot_at s f q ≡ Some spot) where
@@ -64,29 +64,29 @@ module _ (sizes : Sizes) (name : ℕ) (handles : FinMap nat_cmp ℕ) (p : Parts)
     -- the cache after the fill began: its state is `requested s Fill f q`
     abbrev pub reading : Parts
     reading = record p {
-      store = filling_store s p.store p.blocks w.core f q absent idle spot at;
+      store = filling_store w.core f q absent idle spot at;
       blocks = holding block;
       flights = flights.begun p.flights (request block);
     }
 
     pub reading_cache : IsPage f q → f < length p.store.files → spot.written ≡ true → 0 < p.store.free
-        → p.flights.next < SERIAL_END → IsCache (state_by sizes name handles reading) reading.store reading.blocks
+        → p.flights.next < SERIAL_END → IsKept reading
     reading_cache place here written some room = record {
-      core = fill_begun_core s p.store p.blocks w.core f q absent idle spot at place here written some room;
-      syncs = moved_syncs handles p.store.files p.syncs w.syncs reading.store.files (λ g. refl);
+      core = fill_begun_core w.core f q absent idle spot at place here written some room;
+      syncs = moved_syncs p.handles p.store.files p.syncs w.syncs reading.store.files (λ g. refl);
     }
 
     -- as the calls of the parts say it
-    pub reading_is : (now : Parts)
-        → now.store ≡ record p.store {
+    pub reading_is : (k : Store) (b : Blocks) (t : Flights)
+        → k ≡ record p.store {
           filling = set.insert p.store.filling (f, q);
           free = p.store.free - 1;
           lists = entered f q p.store.lists;
         }
-        → now.blocks ≡ holding spot.block → now.flights ≡ flights.begun p.flights (request spot.block)
-        → now.syncs ≡ p.syncs → now ≡ reading
-    reading_is now store blocks fly syncs =
-        let same : spot.block ≡ block = sym (block_is s p.store p.blocks w.core f q absent idle spot at) in
+        → b ≡ holding spot.block → t ≡ flights.begun p.flights (request spot.block)
+        → (let now : Parts = record p { store = k; blocks = b; flights = t } in now) ≡ reading
+    reading_is k b t store blocks fly =
+        let same : spot.block ≡ block = sym (block_is w.core f q absent idle spot at) in
         let held = blocks ∙ ap holding same in
         let flight = fly ∙ ap (λ b. flights.begun p.flights (request b)) same in
-        λ i. let k : Parts = record { store = store i; blocks = held i; flights = flight i; syncs = syncs i } in k
+        λ i. let k : Parts = record p { store = store i; blocks = held i; flights = flight i } in k

@@ -30,7 +30,7 @@ use Rattle.maps.proofs.Maps.{get_inserted}
 use Rattle.machine.proofs.sound.Pages.{filling_sound}
 use Rattle.pagestore.proofs.StoreEntries.{contains-put_in}
 
-module _ (s : State) (store : Store) (blocks : Blocks) (c : IsCore s store blocks) (f p : ℕ)
+module _ {s : State} {store : Store} {blocks : Blocks} (c : IsCore s store blocks) (f p : ℕ)
     (absent : is_cached s f p ≡ false) (idle : is_filling s f p ≡ false) (spot : Spot)
     (at : spot_at s f p ≡ Some spot) where
   has : block_at s f p ≡ Some spot.block
@@ -67,7 +67,7 @@ module _ (s : State) (store : Store) (blocks : Blocks) (c : IsCore s store block
       sym (shown-begun (fills g q) s.requests s.next new
       (λ i. eq-eqb f g (sym (eqb-true g f parts.0)) i && eq-eqb p q (sym (eqb-true q p parts.1)) i))
   fills_here g q false e = c.filling g q
-      ∙ sym (any-begun (fills g q) s.requests s.next new (fresh s store blocks c)
+      ∙ sym (any-begun (fills g q) s.requests s.next new (fresh c)
       (false_from_ne_true (fills g q new) (λ passes.
       let h = fills_of g q new passes in
       false≢true (sym e ∙ (λ i. eq-eqb g f (sym h.2) i && eq-eqb q p (sym h.3) i)))))
@@ -77,18 +77,18 @@ module _ (s : State) (store : Store) (blocks : Blocks) (c : IsCore s store block
     pub fill_begun_core : IsCore (requested s Fill f p) filling_store
         (record blocks { spots = s.spots; held = finmap.insert blocks.held (block) false })
     fill_begun_core =
-        let more = len_insert_new s.requests s.next new (fresh s store blocks c) in
+        let more = len_insert_new s.requests s.next new (fresh c) in
         let waits : set.len (set.insert store.filling (f, p)) ≡ set.len store.filling + 1 =
         len-insert places_total store.filling (f, p)
         ∙ ap (λ b. cond b (set.len store.filling) (set.len store.filling + 1)) (c.filling f p ∙ idle) in
-        let all = all_frames s store blocks c in
-        requests_core s store blocks c s.spots (s.next + 1) (finmap.insert s.requests s.next new) s.syncs filling_store
+        let all = all_frames c in
+        requests_core c s.spots (s.next + 1) (finmap.insert s.requests s.next new) s.syncs filling_store
         (finmap.insert blocks.held (block) false)
         (record {
           page = c.page;
           filling = λ g q. contains-put_in store.filling f p true g q ∙ fills_here g q (eqb g f && eqb q p) refl;
           counted = omega arith;
-          holds = Holds-begun blocks.held s.requests c.holds s.next new (fresh s store blocks c)
+          holds = Holds-begun blocks.held s.requests c.holds s.next new (fresh c)
               (ap (finmap.get blocks.held) block_is ∙ unheld_here) refl;
           within = λ t r e. elim (get_inserted s.requests s.next new t) [
             | inl k ↦ subst (λ (x : Request). IsPage x.file x.page)

@@ -23,6 +23,7 @@ use Rattle.blockmap.specs.declared.spots.Placed.{Placed}
 use Rattle.blockmap.proofs.MapLemmas.{mapped_at}
 use Rattle.mapping.proofs.MapLemmas.{get-insert_here}
 use Rattle.writeback.specs.Flights as flights
+use Rattle.writeback.specs.Flights.{Flights}
 use Rattle.maps.specs.Maps.{change_at}
 use Rattle.machine.specs.declared.event.Event.TheVariants as event
 use Rattle.machine.specs.declared.event.Reply.TheVariants as reply
@@ -39,7 +40,7 @@ use Rattle.cachecore.specs.Tables.{IsCache}
 use Rattle.cachecore.proofs.EndKeeps.{put_is}
 use Rattle.cachecore.proofs.FlushKeeps.{flush_begun_core, has_block as page_block, held_room as room_left, serials_left}
 use Rattle.cachecore.proofs.FlushKeeps.{unheld_here}
-use Rattle.cachecore.proofs.Parts.{Parts, state_by}
+use Rattle.cachecore.proofs.Parts.{IsKept, Parts, state_by}
 use Rattle.cachecore.proofs.StepLemmas.{by_change, by_test}
 use Rattle.cachecore.proofs.SyncLaws.{moved_syncs, pages_failed}
 
@@ -107,11 +108,11 @@ spot_has : (o : Option Spot) (b : ℕ) → option_map (λ (x : Spot). x.block) o
 spot_has None b e = absurd cc
 spot_has (Some x) b e = eq-eqb x.block b (let a : x.block ≡ b = cc in a)
 
-module _ (sizes : Sizes) (name : ℕ) (handles : FinMap nat_cmp ℕ) (p : Parts)
-    (w : IsCache (state_by sizes name handles p) p.store p.blocks) (f q : ℕ)
-    (start : MayStart (state_by sizes name handles p) f q) where
+module _ (p : Parts)
+    (w : IsKept p) (f q : ℕ)
+    (start : MayStart (state_by p) f q) where
   abbrev s : State
-  s = state_by sizes name handles p
+  s = state_by p
 
   abbrev page : Page
   page = start.0
@@ -123,7 +124,7 @@ module _ (sizes : Sizes) (name : ℕ) (handles : FinMap nat_cmp ℕ) (p : Parts)
   cached_start = ap is_some start.1
 
   block_is : block_at s f q ≡ Some block
-  block_is = page_block s p.store p.blocks w.core f q page start.1 start.2 start.3
+  block_is = page_block w.core f q page start.1 start.2 start.3
 
   pub must_be_told : None ≡ option_map told (finmap.get p.blocks.spots (f, q)) → ⊥
   must_be_told none = no_told (finmap.get p.blocks.spots (f, q)) none (ap is_some block_is)
@@ -143,11 +144,11 @@ module _ (sizes : Sizes) (name : ℕ) (handles : FinMap nat_cmp ℕ) (p : Parts)
   }
 
   module _ (place : IsPage f q) (room : is_full s ≡ false) where
-    pub begun_cache : IsCache (state_by sizes name handles begun) begun.store begun.blocks
+    pub begun_cache : IsKept begun
     begun_cache = record {
-      core = flush_begun_core s p.store p.blocks w.core f q page start.1 start.2 start.3 place
-          (serials_left s p.store p.blocks w.core room) begun.store refl refl refl;
-      syncs = moved_syncs handles p.store.files p.syncs w.syncs begun.store.files
+      core = flush_begun_core w.core f q page start.1 start.2 start.3 place
+          (serials_left w.core room) begun.store refl refl refl;
+      syncs = moved_syncs p.handles p.store.files p.syncs w.syncs begun.store.files
           (pages_failed begun.store p.store f _ _ refl);
     }
 
@@ -162,23 +163,23 @@ module _ (sizes : Sizes) (name : ℕ) (handles : FinMap nat_cmp ℕ) (p : Parts)
 
     pub unheld_block : finmap.get p.blocks.held placed.block.0 ≡ None
     unheld_block = ap (finmap.get p.blocks.held) same_block
-        ∙ unheld_here s p.store p.blocks w.core f q page start.1 start.2 start.3
+        ∙ unheld_here w.core f q page start.1 start.2 start.3
 
     pub held_room : is_full s ≡ false → finmap.len p.blocks.held < 64
-    held_room room = room_left s p.store p.blocks w.core room
+    held_room room = room_left w.core room
 
     -- as the calls of the parts say it
-    pub begun_is : (now : Parts) → now.store
-        ≡ with_pages p.store f (finmap.insert (stored_at p.store f).pages q
+    pub begun_is : (k : Store) (b : Blocks) (t : Flights)
+        → k ≡ with_pages p.store f (finmap.insert (stored_at p.store f).pages q
         (under_write (the_page (stored_at p.store f).pages q))) p.store.free
-        → now.blocks ≡ holding placed.block.0 → now.flights ≡ flights.begun p.flights (request placed.block.0)
-        → now.syncs ≡ p.syncs → now ≡ begun
-    begun_is now store blocks fly syncs =
+        → b ≡ holding placed.block.0 → t ≡ flights.begun p.flights (request placed.block.0)
+        → (let now : Parts = record p { store = k; blocks = b; flights = t } in now) ≡ begun
+    begun_is k b t store blocks fly =
         let put = store ∙ ap (λ m. with_pages p.store f m p.store.free)
         (put_is q under_write (stored_at p.store f).pages cached_start) in
         let held = blocks ∙ ap holding same_block in
         let flight = fly ∙ ap (λ b. flights.begun p.flights (request b)) same_block in
-        λ i. let k : Parts = record { store = put i; blocks = held i; flights = flight i; syncs = syncs i } in k
+        λ i. let k : Parts = record p { store = put i; blocks = held i; flights = flight i } in k
 
     the_bytes : (the_page (stored_at p.store f).pages q).bytes ≡ page_bytes (started s f q) f q
     the_bytes =
@@ -188,17 +189,17 @@ module _ (sizes : Sizes) (name : ℕ) (handles : FinMap nat_cmp ℕ) (p : Parts)
 
     pub started_call : (t : Serial) → t.0 ≡ p.flights.next → (job : Task)
         → job ≡ record {
-          cache = name;
+          cache = p.name;
           serial = t.0;
           kind = Flush;
           block = placed.block.0;
           bytes = (the_page (stored_at p.store f).pages q).bytes;
         }
-        → IsStarted s f q job (state_by sizes name handles begun)
+        → IsStarted s f q job (state_by begun)
     started_call t next job job_is =
         let serial : job.serial ≡ p.flights.next = ap (λ (k : Task). k.serial) job_is ∙ next in
         let whole : job ≡ record {
-          cache = name;
+          cache = p.name;
           serial = job.serial;
           kind = Flush;
           block = block;
@@ -206,7 +207,7 @@ module _ (sizes : Sizes) (name : ℕ) (handles : FinMap nat_cmp ℕ) (p : Parts)
         } =
         job_is ∙ (λ i. let k : Task =
         record {
-          cache = name;
+          cache = p.name;
           serial = (next ∙ sym serial) i;
           kind = Flush;
           block = same_block i;

@@ -29,7 +29,7 @@ use Rattle.cachecore.proofs.HoldLaws.{Holds-begun, not_held}
 use Rattle.cachecore.proofs.RequestLaws.{any-begun, not_fill}
 use Rattle.cachecore.proofs.SoundFacts.{unheld}
 
-module _ (s : State) (store : Store) (blocks : Blocks) (c : IsCore s store blocks) where
+module _ {s : State} {store : Store} {blocks : Blocks} (c : IsCore s store blocks) where
   -- no request has the next serial
   pub fresh : finmap.get s.requests s.next ≡ None
   fresh = go (finmap.get s.requests s.next) refl
@@ -84,10 +84,10 @@ module _ (s : State) (store : Store) (blocks : Blocks) (c : IsCore s store block
           let count = len_changed p under_write (file_at s f).pages in
           let more = len_insert_new s.requests s.next new fresh in
           let left = ap set.len places in
-          let all = all_frames s store blocks c in
-          let files = count_files s store blocks c f begun_file here s.spots (s.next + 1) requests s.syncs in
-          let cached = cached_after s store blocks c f begun_file here s.spots (s.next + 1) requests s.syncs in
-          file_core s store blocks c f begun_file here s.spots (s.next + 1) requests s.syncs now
+          let all = all_frames c in
+          let files = count_files c f begun_file here s.spots (s.next + 1) requests s.syncs in
+          let cached = cached_after c f begun_file here s.spots (s.next + 1) requests s.syncs in
+          file_core c f begun_file here s.spots (s.next + 1) requests s.syncs now
           (finmap.insert blocks.held block false) refl
           (sized_changed s.sizes.page p under_write (file_at s f).pages (λ page. refl) (c.sized f))
           (record {
@@ -106,7 +106,7 @@ module _ (s : State) (store : Store) (blocks : Blocks) (c : IsCore s store block
                   let b : f ≡ r.file = ap (λ (x : Request). x.file) a in let h = here in omega arith)
               | inr k ↦ (let a = c.filed t r (sym k.1 ∙ e) in omega arith)
             ];
-            failed = each_file s store blocks c f begun_file here s.spots (s.next + 1) requests s.syncs
+            failed = each_file c f begun_file here s.spots (s.next + 1) requests s.syncs
                 (λ x. x.failures + finmap.len requests ≤ s.next + 1)
                 (let a = c.failed f in omega arith)
                 (λ g. (let a = c.failed g in omega arith));

@@ -7,6 +7,7 @@ pub mod EndCalls
 pub mod EndKeeps
 pub mod EndSteps
 pub mod Evictions
+pub mod FileChanges
 pub mod FileKeeps
 pub mod FillCalls
 pub mod FillCuts

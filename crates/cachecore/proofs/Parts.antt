@@ -11,21 +11,41 @@ use Rattle.machine.specs.State.{State, Sync}
 use Rattle.machine.specs.Step.{Step}
 use Rattle.pagestore.specs.Store.{Store}
 use Rattle.cachecore.specs.Tables.{IsCache, state_of}
+use Rattle.cachecore.specs.declared.cache.CacheCore.TheInside.{Inside}
 
 pub record Parts : Type 0 where
+  pub sizes : Sizes
+  pub name : ℕ
+  pub handles : FinMap nat_cmp ℕ
   pub store : Store
   pub blocks : Blocks
   pub flights : Flights
   pub syncs : FinMap nat_cmp Sync
 
-module _ (sizes : Sizes) (name : ℕ) (handles : FinMap nat_cmp ℕ) where
-  abbrev pub state_by : Parts → State
-  state_by x = state_of sizes name x.store.files handles x.blocks x.flights x.syncs
+abbrev pub parts_of : Inside → Parts
+parts_of i =
+    record {
+      sizes = i.geometry;
+      name = i.name;
+      handles = i.handles;
+      store = i.pages;
+      blocks = i.blocks;
+      flights = i.requests;
+      syncs = i.syncs;
+    }
 
-  pub record Goes (s : State) (e : Event) (r : Reply) (new : Parts) : Type 0 where
-    pub step : Step s e r (state_by new)
-    pub cache : IsCache (state_by new) new.store new.blocks
+abbrev pub state_by : Parts → State
+state_by x = state_of x.sizes x.name x.store.files x.handles x.blocks x.flights x.syncs
 
-  -- by what the calls of the parts ensure
-  pub goes_to : (s : State) (e : Event) (r : Reply) (new now : Parts) → now ≡ new → Goes s e r new → Goes s e r now
-  goes_to s e r new now is g = subst (Goes s e r) (sym is) g
+-- what a cache of these parts keeps
+abbrev pub IsKept : Parts → Type 0
+IsKept x = IsCache (state_by x) x.store x.blocks
+
+pub record Goes (s : State) (e : Event) (r : Reply) (new : Parts) : Type 0 where
+  pub step : Step s e r (state_by new)
+  pub cache : IsKept new
+
+-- by what the calls of the parts ensure, from the state that callers see
+pub goes_to : (s seen : State) → s ≡ seen → (e : Event) (r : Reply) (new now : Parts) → now ≡ new → Goes s e r new
+    → Goes seen e r now
+goes_to s seen seen_is e r new now is g = subst (λ t. Goes t e r now) seen_is (subst (Goes s e r) (sym is) g)

@@ -45,7 +45,7 @@ use Rattle.cachecore.specs.Starting.{IsNext, IsStarted, MayStart}
 use Rattle.cachecore.specs.Tables.{IsCache, IsCore}
 use Rattle.cachecore.proofs.CoreLemmas.{core-syncs}
 use Rattle.cachecore.proofs.FileKeeps.{all_frames, cached_after, count_files, each_file, file_core}
-use Rattle.cachecore.proofs.Parts.{Goes, Parts, state_by}
+use Rattle.cachecore.proofs.Parts.{Goes, IsKept, Parts, state_by}
 use Rattle.cachecore.proofs.SyncChanges.{change_is, changed_syncs, put_syncs, removed_syncs}
 use Rattle.cachecore.proofs.SyncLaws.{moved_syncs, pages_failed}
 use Rattle.cachecore.proofs.SyncSteps.{begun_step, clean_step, dropped_step, failed_step, full_step, held_step, no_test}
@@ -89,14 +89,14 @@ left_found file y q page is = go (is_some y.bound) is
     go true e = absurd cc
     go false e = (found file.pages (is_left y) (q, page) e).1
 
-module _ (sizes : Sizes) (name : ℕ) (handles : FinMap nat_cmp ℕ) (p : Parts)
-    (w : IsCache (state_by sizes name handles p) p.store p.blocks) where
+module _ (p : Parts)
+    (w : IsKept p) where
   abbrev s : State
-  s = state_by sizes name handles p
+  s = state_by p
 
   -- ---- a sync begins
 
-  module _ (h : HandleId) (first last : PageIndex) (file : ℕ) (file_is : Some file ≡ finmap.get handles h.0)
+  module _ (h : HandleId) (first last : PageIndex) (file : ℕ) (file_is : Some file ≡ finmap.get p.handles h.0)
       (m : SyncId) where
     abbrev pub fresh : Sync
     fresh = record {
@@ -123,11 +123,11 @@ module _ (sizes : Sizes) (name : ℕ) (handles : FinMap nat_cmp ℕ) (p : Parts)
         let e : File =
         record (stored_at p.store file) { pages = each_value (to_write fresh) (stored_at p.store file).pages } in
         let count = len-each_value (to_write fresh) (stored_at p.store file).pages in
-        let all = all_frames s p.store p.blocks w.core in
-        let files = count_files s p.store p.blocks w.core file e here s.spots s.next s.requests begun.syncs in
-        let cached = cached_after s p.store p.blocks w.core file e here s.spots s.next s.requests begun.syncs in
-        file_core s p.store p.blocks w.core file e here s.spots s.next s.requests begun.syncs begun.store p.blocks.held
-        refl (sized_marked sizes.page fresh (stored_at p.store file).pages (w.core.sized file))
+        let all = all_frames w.core in
+        let files = count_files w.core file e here s.spots s.next s.requests begun.syncs in
+        let cached = cached_after w.core file e here s.spots s.next s.requests begun.syncs in
+        file_core w.core file e here s.spots s.next s.requests begun.syncs begun.store p.blocks.held
+        refl (sized_marked p.sizes.page fresh (stored_at p.store file).pages (w.core.sized file))
         (record {
           page = w.core.page;
           filling = w.core.filling;
@@ -135,34 +135,34 @@ module _ (sizes : Sizes) (name : ℕ) (handles : FinMap nat_cmp ℕ) (p : Parts)
           holds = w.core.holds;
           within = w.core.within;
           filed = λ t x k. (let a = w.core.filed t x k in omega arith);
-          failed = each_file s p.store p.blocks w.core file e here s.spots s.next s.requests begun.syncs
+          failed = each_file w.core file e here s.spots s.next s.requests begun.syncs
               (λ x. x.failures + finmap.len s.requests ≤ s.next) (w.core.failed file) w.core.failed;
           serials = w.core.serials;
           sound = sound;
         })
 
-    marked_syncs : AreSyncs handles begun.store.files begun.syncs
+    marked_syncs : AreSyncs p.handles begun.store.files begun.syncs
     marked_syncs =
-        let moved = moved_syncs handles p.store.files p.syncs w.syncs begun.store.files
+        let moved = moved_syncs p.handles p.store.files p.syncs w.syncs begun.store.files
         (pages_failed begun.store p.store file _ _ refl) in
-        let count : (failed_of begun.store.files (unwrap_or (finmap.get handles h.0) 0)).0
+        let count : (failed_of begun.store.files (unwrap_or (finmap.get p.handles h.0) 0)).0
         ≡ (stored_at p.store file).failures = ap (λ o. (failed_of begun.store.files (unwrap_or o 0)).0)
         (sym file_is) ∙ ap (λ (k : ℕ × ℕ). k.0) (pages_failed begun.store p.store file _ _ refl file) in
-        put_syncs handles begun.store.files p.syncs moved m.0 fresh (ap is_some (sym file_is))
+        put_syncs p.handles begun.store.files p.syncs moved m.0 fresh (ap is_some (sym file_is))
         (λ other. absurd (other count))
 
     pub begins : first.0 ≤ last.0 → finmap.len p.syncs < MAX_SYNCS → IsLowest (λ k. is_some (finmap.get p.syncs k)) m.0
-        → Goes sizes name handles s (event.SyncBegin h first last) (reply.Sync m) begun
+        → Goes s (event.SyncBegin h first last) (reply.Sync m) begun
     begins order room lowest =
         let of : handle_file s h.0 ≡ file = ap (λ o. unwrap_or o 0) (sym file_is) in
         let step = begun_step s h first last (ap is_some (sym file_is)) order room m lowest
-        (state_by sizes name handles begun)
+        (state_by begun)
         (λ i. sync_begun s (sym of i) m.0 (record fresh { failures = (file_at s (sym of i)).failures })) in
         record {
           step = step;
           cache = record {
             core =
-                marked_core (steps_stay_sound s (state_by sizes name handles begun) (event.SyncBegin h first last)
+                marked_core (steps_stay_sound s (state_by begun) (event.SyncBegin h first last)
                 (reply.Sync m) step w.core.sound);
             syncs = marked_syncs;
           };
@@ -173,28 +173,28 @@ module _ (sizes : Sizes) (name : ℕ) (handles : FinMap nat_cmp ℕ) (p : Parts)
   abbrev pub without : SyncId → Parts
   without m = record p { syncs = finmap.remove p.syncs m.0 }
 
-  pub without_cache : (m : SyncId) → IsCache (state_by sizes name handles (without m)) p.store p.blocks
+  pub without_cache : (m : SyncId) → IsKept (without m)
   without_cache m =
       record {
-        core = core-syncs s p.store p.blocks w.core (finmap.remove p.syncs m.0);
-        syncs = removed_syncs handles p.store.files p.syncs w.syncs m.0;
+        core = core-syncs w.core (finmap.remove p.syncs m.0);
+        syncs = removed_syncs p.handles p.store.files p.syncs w.syncs m.0;
       }
 
   pub drops : (m : SyncId) → is_some (finmap.get p.syncs m.0) ≡ true
-      → Goes sizes name handles s (event.SyncDrop m) reply.Dropped (without m)
+      → Goes s (event.SyncDrop m) reply.Dropped (without m)
   drops m there =
-      record { step = dropped_step s m there (state_by sizes name handles (without m)) refl; cache = without_cache m }
+      record { step = dropped_step s m there (state_by (without m)) refl; cache = without_cache m }
 
   -- ---- a sync y goes on, of this file
 
   module _ (m : SyncId) (y : Sync) (at : Some y ≡ finmap.get p.syncs m.0) where
     -- its handle is open
-    pub must_be_open : None ≡ finmap.get handles y.handle → ⊥
+    pub must_be_open : None ≡ finmap.get p.handles y.handle → ⊥
     must_be_open none =
         (let there = w.syncs.opened m.0 y (sym at) in let gone = ap is_some none in let clash : true ≡ false = sym there
         ∙ sym gone in cc)
 
-    module _ (file : ℕ) (file_is : Some file ≡ finmap.get handles y.handle) where
+    module _ (file : ℕ) (file_is : Some file ≡ finmap.get p.handles y.handle) where
       of : handle_file s y.handle ≡ file
       of = ap (λ o. unwrap_or o 0) (sym file_is)
 
@@ -233,7 +233,7 @@ module _ (sizes : Sizes) (name : ℕ) (handles : FinMap nat_cmp ℕ) (p : Parts)
       bounded b = record p { syncs = change_at m.0 (λ y. record y { bound = Some b }) p.syncs }
 
       pub awaits : (q : PageIndex) (b : Serial) → SyncSays file (stored_at p.store file) p.flights y (Await q b)
-          → Goes sizes name handles s (event.SyncStep m) (reply.Wait q) (bounded b.0)
+          → Goes s (event.SyncStep m) (reply.Wait q) (bounded b.0)
       awaits q b says =
           let z : Sync = record y { bound = Some b.0 } in
           let put = change_is p.syncs m.0 (λ (y : Sync). let z : Sync = record y { bound = Some b.0 } in z) y
@@ -241,13 +241,13 @@ module _ (sizes : Sizes) (name : ℕ) (handles : FinMap nat_cmp ℕ) (p : Parts)
           record {
             step = wait_step s m y (sym at) (pick_is s y file of None says.0) q
                 (ap (option_map (λ (e : ℕ × Request). e.1.page)) (sym (first_is b.0 says.1)) ∙ says.2)
-                (state_by sizes name handles (bounded b.0))
+                (state_by (bounded b.0))
                 ((λ i. let t : State = record s { syncs = put i } in t)
                 ∙ (λ i. put_sync s m.0 (record y { bound = Some (says.1 i) })));
             cache = record {
-              core = core-syncs s p.store p.blocks w.core (bounded b.0).syncs;
-              syncs = subst (AreSyncs handles p.store.files) (sym put)
-                  (changed_syncs handles p.store.files p.syncs w.syncs m.0 y z (sym at) refl refl);
+              core = core-syncs w.core (bounded b.0).syncs;
+              syncs = subst (AreSyncs p.handles p.store.files) (sym put)
+                  (changed_syncs p.handles p.store.files p.syncs w.syncs m.0 y z (sym at) refl refl);
             };
           }
 
@@ -256,21 +256,21 @@ module _ (sizes : Sizes) (name : ℕ) (handles : FinMap nat_cmp ℕ) (p : Parts)
         none_awaited = sym (first_is (bound_now p.flights y) refl) ∙ says.1
 
         pub clean_call : FailedSince (failed_of p.store.files file) y.failures None
-            → Goes sizes name handles s (event.SyncStep m) reply.Clean (without m)
+            → Goes s (event.SyncStep m) reply.Clean (without m)
         clean_call same = record {
           step = clean_step s m y (sym at) (pick_is s y file of None says.0) none_awaited
-              (ap (λ f. (failed_of p.store.files f).0) of ∙ same) (state_by sizes name handles (without m)) refl;
+              (ap (λ f. (failed_of p.store.files f).0) of ∙ same) (state_by (without m)) refl;
           cache = without_cache m;
         }
 
         pub failed_call : (code : ℕ) → FailedSince (failed_of p.store.files file) y.failures (Some code)
-            → Goes sizes name handles s (event.SyncStep m) (reply.Failed code) (without m)
+            → Goes s (event.SyncStep m) (reply.Failed code) (without m)
         failed_call code more =
             let k : FailedSince (failed_of p.store.files (handle_file s y.handle)) y.failures (Some code) =
             subst (λ f. FailedSince (failed_of p.store.files f) y.failures (Some code)) (sym of) more in
             record {
               step = failed_step s m y (sym at) (pick_is s y file of None says.0) none_awaited k.0 code k.1
-                  (state_by sizes name handles (without m)) refl;
+                  (state_by (without m)) refl;
               cache = without_cache m;
             }
 
@@ -280,14 +280,14 @@ module _ (sizes : Sizes) (name : ℕ) (handles : FinMap nat_cmp ℕ) (p : Parts)
 abbrev pub with_started : ℕ → Sync → Sync
 with_started q y = record y { started = Some q }
 
-pub last_cache : (sizes : Sizes) (name : ℕ) (handles : FinMap nat_cmp ℕ) (p : Parts)
-    → IsCache (state_by sizes name handles p) p.store p.blocks → (m q : ℕ) (y : Sync) → finmap.get p.syncs m ≡ Some y
+pub last_cache : (p : Parts)
+    → IsKept p → (m q : ℕ) (y : Sync) → finmap.get p.syncs m ≡ Some y
     → (x : FinMap nat_cmp Sync) → x ≡ change_at m (with_started q) p.syncs
-    → IsCache (state_by sizes name handles (record p { syncs = x })) p.store p.blocks
-last_cache sizes name handles p w m q y at x is = record {
-  core = core-syncs (state_by sizes name handles p) p.store p.blocks w.core x;
-  syncs = subst (AreSyncs handles p.store.files) (sym (is ∙ change_is p.syncs m (with_started q) y at))
-      (changed_syncs handles p.store.files p.syncs w.syncs m y (with_started q y) at refl refl);
+    → IsKept (record p { syncs = x })
+last_cache p w m q y at x is = record {
+  core = core-syncs w.core x;
+  syncs = subst (AreSyncs p.handles p.store.files) (sym (is ∙ change_is p.syncs m (with_started q) y at))
+      (changed_syncs p.handles p.store.files p.syncs w.syncs m y (with_started q y) at refl refl);
 }
 
 module _ (s : State) (sound : Sound s) (m : SyncId) (f : ℕ) (q : PageIndex) (n : IsNext s m.0 f q.0) where

@@ -89,7 +89,7 @@ pub record WriteSteps (P o : ℕ) (b : List ℕ) (f n : ℕ) (old made laid fina
   pub size : n ≡ max (stored_at laid f).size (o + length b)
   pub grown : final ≡ record laid { files = slice_set laid.files f (record (stored_at laid f) { size = n }) }
 
-module _ (P o : ℕ) (b : List ℕ) (f n : ℕ) (old made laid final : Store)
+module _ {P o : ℕ} {b : List ℕ} {f n : ℕ} {old made laid final : Store}
     (w : WriteSteps P o b f n old made laid final) where
   here_made : f < length made.files
   here_made = made_here f (o / P) ((o + length b - 1) / P + 1) old made w.here w.cover

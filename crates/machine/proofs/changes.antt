@@ -1,3 +1,4 @@
 -- What is looked up in a state after a change.
 pub mod StateLaws
 pub mod ChangeLaws
+pub mod WriteLengths

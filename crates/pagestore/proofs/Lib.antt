@@ -19,6 +19,7 @@ pub mod Removals
 pub mod Overlay
 pub mod Runs
 pub mod Spans
+pub mod PagePlaces
 pub mod PairLemmas
 pub mod ReadLemmas
 pub mod OnePage

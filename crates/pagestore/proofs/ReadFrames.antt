@@ -2,7 +2,6 @@
 use Rattle.std.proofs.Common.{◌≡◌, ℕ, ◌<◌, Bool, true, false, List, ap, sym, ◌∙◌, refl, arith}
 use Rattle.std.specs.Prelude.{Some, None, is_some, option_map, slice_index_or, length}
 use Rattle.std.specs.FinMap as finmap
-use Rattle.std.proofs.lemmas.List.{get_or_read}
 use Rattle.pc_types.specs.declared.ids.FileId.{FileId}
 use Rattle.pc_types.specs.declared.ids.FrameId.{FrameId}
 use Rattle.pc_types.specs.declared.ids.PageIndex.{PageIndex}
@@ -14,16 +13,46 @@ use Rattle.mapping.proofs.PageLemmas.{none_framed}
 use Rattle.pagestore.specs.declared.kept.KeptFile.{KeptFile}
 use Rattle.machine.specs.PageLists.{accessed}
 use Rattle.machine.specs.State.{Page}
-use Rattle.pagestore.specs.Store.{the_page, Store, IsStore, has_page, is_uptodate, store_of, none_kept, kept_at}
+use Rattle.pagestore.specs.Store.{the_page, Store, IsStore, has_page, is_uptodate, store_of, kept_at}
 use Rattle.pagestore.specs.Store.{entry_at, stored_at, stored_page, with_lists}
 use Rattle.pagestore.proofs.StoreLaws.{cached_at, page_seen, none_seen}
-use Rattle.pagestore.proofs.StoreFacts.{here_kept, page_taken, page_within, the_page_is, accessed_seen}
+use Rattle.pagestore.proofs.PagePlaces.{FilePage, file_entry, file_here}
+use Rattle.pagestore.proofs.StoreFacts.{page_taken, page_within, the_page_is, accessed_seen}
 use Rattle.pagestore.proofs.FrameEntries.{framed, framed_entry}
 use Rattle.pagestore.proofs.ListedFrames.{lists-accessed}
 use Rattle.pagestore.proofs.Owners.{entry_of, its_frame}
 
-module _ (t : Table) (up : List Bool) (files : List KeptFile) (dirty : ℕ) (s : IsStore t up files dirty) (store : Store)
-    (is : store_of t up files ≡ store) (f p : ℕ) where
+module _ (w : FilePage) where
+  abbrev t : Table
+  t = w.pages.frames
+
+  abbrev up : List Bool
+  up = w.pages.uptodate.items
+
+  abbrev files : List KeptFile
+  files = w.pages.files.items
+
+  abbrev dirty : ℕ
+  dirty = w.pages.dirty
+
+  abbrev store : Store
+  store = w.store
+
+  abbrev f : ℕ
+  f = w.file
+
+  abbrev p : ℕ
+  p = w.page
+
+  s : IsStore t up files dirty
+  s = w.kept
+
+  is : store_of t up files ≡ store
+  is = w.seen
+
+  here : f < length files
+  here = file_here w
+
   -- the page owns the frame
   pub owned_entry : (frame : FrameId) (owner : FileId) (number : PageIndex) → Some (owner, number) ≡ owner_of t frame.0
       → owner.0 ≡ f → number.0 ≡ p → entry_at files f p ≡ Some (framed (entry_at files f p) frame)
@@ -34,57 +63,53 @@ module _ (t : Table) (up : List Bool) (files : List KeptFile) (dirty : ℕ) (s :
       framed_entry (entry_at files f p) frame
       ((λ i. Some (record { 0 = sym its.2 i })) ∙ ap (option_map frame_of) (sym its.1))
 
-  module _ (within : f < length store.files) where
-    here : f < length files
-    here = here_kept t up files f store is within
+  -- k is file f, and a walk found no frame or this one
+  module _ (k : KeptFile) (value : k ≡ slice_index_or files f k) where
+    entry : k ≡ kept_at files f
+    entry = file_entry w k value
 
-    -- k is file f, and a walk found no frame or this one
-    module _ (k : KeptFile) (value : k ≡ slice_index_or files f k) where
-      entry : k ≡ kept_at files f
-      entry = get_or_read files f k here value none_kept
+    pub walked_none : None ≡ option_map frame_of (finmap.get k.mapping.pages p)
+        → false ≡ is_some (stored_page store f p)
+    walked_none none =
+        let absent =
+        none_framed (entry_at files f p)
+        (none ∙ ap (λ (k : KeptFile). option_map frame_of (finmap.get k.mapping.pages p)) entry) in
+        sym (ap (has_page up) absent) ∙ cached_at t up files f p ∙ ap (λ (s : Store). is_some (stored_page s f p)) is
 
-      pub walked_none : None ≡ option_map frame_of (finmap.get k.mapping.pages p)
-          → false ≡ is_some (stored_page store f p)
-      walked_none none =
-          let absent =
-          none_framed (entry_at files f p)
-          (none ∙ ap (λ (k : KeptFile). option_map frame_of (finmap.get k.mapping.pages p)) entry) in
-          sym (ap (has_page up) absent) ∙ cached_at t up files f p ∙ ap (λ (s : Store). is_some (stored_page s f p)) is
+    pub walked_entry : (frame : FrameId) → Some frame ≡ option_map frame_of (finmap.get k.mapping.pages p)
+        → entry_at files f p ≡ Some (framed (entry_at files f p) frame)
+    walked_entry frame found =
+        framed_entry (entry_at files f p) frame
+        (found ∙ ap (λ (k : KeptFile). option_map frame_of (finmap.get k.mapping.pages p)) entry)
 
-      pub walked_entry : (frame : FrameId) → Some frame ≡ option_map frame_of (finmap.get k.mapping.pages p)
-          → entry_at files f p ≡ Some (framed (entry_at files f p) frame)
-      walked_entry frame found =
-          framed_entry (entry_at files f p) frame
-          (found ∙ ap (λ (k : KeptFile). option_map frame_of (finmap.get k.mapping.pages p)) entry)
+  module _ (frame : FrameId) (there : entry_at files f p ≡ Some (framed (entry_at files f p) frame)) where
+    abbrev x : Mapped
+    x = framed (entry_at files f p) frame
 
-    module _ (frame : FrameId) (there : entry_at files f p ≡ Some (framed (entry_at files f p) frame)) where
-      abbrev x : Mapped
-      x = framed (entry_at files f p) frame
+    pub frame_taken : is_taken t frame.0 ≡ true
+    frame_taken = page_taken t up files dirty s f p x there
 
-      pub frame_taken : is_taken t frame.0 ≡ true
-      frame_taken = page_taken t up files dirty s f p x there
+    pub frame_flagged : frame.0 < length up
+    frame_flagged = let h = page_within t up files dirty s f p x there in omega (arith, h, s.flags)
 
-      pub frame_flagged : frame.0 < length up
-      frame_flagged = let h = page_within t up files dirty s f p x there in omega (arith, h, s.flags)
+    pub frame_cached : slice_index_or up frame.0 false ≡ is_some (stored_page store f p)
+    frame_cached = elim (is_uptodate up x) as (λ b. is_uptodate up x ≡ b → b ≡ is_some (stored_page store f p)) [
+      | true ↦ λ e. sym (ap is_some (sym (ap (λ (s : Store). stored_page s f p) is)
+          ∙ page_seen t up files f p x there e))
+      | false ↦ λ e. sym (ap is_some
+          (sym (ap (λ (s : Store). stored_page s f p) is) ∙ none_seen t up files f p x there e))
+    ] refl
 
-      pub frame_cached : slice_index_or up frame.0 false ≡ is_some (stored_page store f p)
-      frame_cached = elim (is_uptodate up x) as (λ b. is_uptodate up x ≡ b → b ≡ is_some (stored_page store f p)) [
-        | true ↦ λ e. sym (ap is_some (sym (ap (λ (s : Store). stored_page s f p) is)
-            ∙ page_seen t up files f p x there e))
-        | false ↦ λ e. sym (ap is_some
-            (sym (ap (λ (s : Store). stored_page s f p) is) ∙ none_seen t up files f p x there e))
-      ] refl
+    pub frame_bytes : slice_index_or up frame.0 false ≡ true
+        → row_at t.bytes frame.0 ≡ (the_page (stored_at store f).pages p).bytes
+    frame_bytes ready =
+        sym (ap (λ (page : Page). page.bytes) (sym (ap (λ (s : Store). the_page (stored_at s f).pages p) is)
+        ∙ the_page_is t up files dirty f p x s here there ready))
 
-      pub frame_bytes : slice_index_or up frame.0 false ≡ true
-          → row_at t.bytes frame.0 ≡ (the_page (stored_at store f).pages p).bytes
-      frame_bytes ready =
-          sym (ap (λ (page : Page). page.bytes) (sym (ap (λ (s : Store). the_page (stored_at s f).pages p) is)
-          ∙ the_page_is t up files dirty f p x s here there ready))
-
-      pub read_seen : IsSound t → store_of (table.accessed t frame.0) up files
-          ≡ with_lists store (accessed f p store.lists)
-      read_seen sound =
-          accessed_seen t up files dirty frame.0 s
-          ∙ ap (with_lists (store_of t up files))
-          (lists-accessed t sound f p frame.0 frame_taken (its_frame t up files dirty s f p x there))
-          ∙ ap (λ (s : Store). with_lists s (accessed f p s.lists)) is
+    pub read_seen : IsSound t → store_of (table.accessed t frame.0) up files
+        ≡ with_lists store (accessed f p store.lists)
+    read_seen sound =
+        accessed_seen t up files dirty frame.0 s
+        ∙ ap (with_lists (store_of t up files))
+        (lists-accessed t sound f p frame.0 frame_taken (its_frame t up files dirty s f p x there))
+        ∙ ap (λ (s : Store). with_lists s (accessed f p s.lists)) is

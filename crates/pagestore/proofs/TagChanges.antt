@@ -13,6 +13,7 @@ use Rattle.frames.proofs.RowLemmas.{with_row-whole}
 use Rattle.pc_types.specs.declared.tags.Tag.TheVariants.{Dirty}
 use Rattle.mapping.specs.Pages.{FilePages, Mapped, Pages, change_at, frame_of, with_tag}
 use Rattle.pagestore.specs.declared.kept.KeptFile.{KeptFile}
+use Rattle.pagestore.specs.declared.pages.Pages.TheInside.{Inside}
 use Rattle.machine.specs.State.{Page}
 use Rattle.pagestore.specs.Ranges.{with_part}
 use Rattle.pagestore.specs.Store.{the_page, Store, IsStore, store_of, none_kept, is_uptodate, has_page, kept_at}
@@ -22,18 +23,58 @@ use Rattle.pagestore.proofs.StoreFacts.{here_kept, page_store, page_after_is, ch
 use Rattle.pagestore.proofs.StoreFacts.{page_size, dirty_least, the_mapped, mapped_some, row_with, row_put}
 use Rattle.pagestore.proofs.StoreFacts.{length-row_with}
 
--- k is file f, in which page p is cached
-module _ (t : Table) (up : List Bool) (files : List KeptFile) (dirty : ℕ) (s : IsStore t up files dirty) (store : Store)
-    (is : store_of t up files ≡ store) (f p : ℕ) (within : f < length store.files)
-    (cached : is_some (stored_page store f p) ≡ true) (k : KeptFile) (value : k ≡ slice_index_or files f k) where
+-- a cached page, in the file that was looked up
+pub record CachedPage : Type 0 where
+  pub pages : Inside
+  pub kept : IsStore pages.frames pages.uptodate.items pages.files.items pages.dirty
+  pub store : Store
+  pub seen : store_of pages.frames pages.uptodate.items pages.files.items ≡ store
+  pub file : ℕ
+  pub page : ℕ
+  pub here : file < length store.files
+  pub cached : is_some (stored_page store file page) ≡ true
+  pub found : KeptFile
+  pub value : found ≡ slice_index_or pages.files.items file found
+
+module _ (w : CachedPage) where
+  abbrev t : Table
+  t = w.pages.frames
+
+  abbrev up : List Bool
+  up = w.pages.uptodate.items
+
+  abbrev files : List KeptFile
+  files = w.pages.files.items
+
+  abbrev dirty : ℕ
+  dirty = w.pages.dirty
+
+  abbrev store : Store
+  store = w.store
+
+  abbrev f : ℕ
+  f = w.file
+
+  abbrev p : ℕ
+  p = w.page
+
+  abbrev k : KeptFile
+  k = w.found
+
+  s : IsStore t up files dirty
+  s = w.kept
+
+  is : store_of t up files ≡ store
+  is = w.seen
+
   here : f < length files
-  here = here_kept t up files f store is within
+  here = here_kept t up files f store w.seen w.here
 
   entry : k ≡ kept_at files f
-  entry = get_or_read files f k here value none_kept
+  entry = get_or_read files f k here w.value none_kept
 
   has : has_page up (entry_at files f p) ≡ true
-  has = cached_at t up files f p ∙ ap (λ (s : Store). is_some (stored_page s f p)) is ∙ cached
+  has = cached_at t up files f p ∙ ap (λ (s : Store). is_some (stored_page s f p)) is ∙ w.cached
 
   is_entered : is_some (finmap.get k.mapping.pages p) ≡ true
   is_entered = ap (λ (k : KeptFile). is_some (finmap.get k.mapping.pages p)) entry

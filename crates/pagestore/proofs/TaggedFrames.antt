@@ -4,7 +4,7 @@ use Rattle.std.proofs.Common.{arith}
 use Rattle.std.specs.Prelude.{Option, Some, None, is_some, option_map, slice_set, slice_index_or}
 use Rattle.std.specs.FinMap as finmap
 use Rattle.std.proofs.lemmas.Bool.{false≢true}
-use Rattle.std.proofs.lemmas.List.{get_or_read, length-set}
+use Rattle.std.proofs.lemmas.List.{length-set}
 use borrow.Rule.Slice.PartMut.{put_mid}
 use Rattle.pc_types.specs.declared.ids.FrameId.{FrameId}
 use Rattle.pc_types.specs.declared.tags.Tag.TheVariants.{Dirty}
@@ -19,10 +19,11 @@ use Rattle.pagestore.specs.declared.kept.KeptFile.{KeptFile}
 use Rattle.machine.specs.PageLists.{accessed}
 use Rattle.pagestore.specs.Ranges.{with_part}
 use Rattle.machine.specs.State.{Page, tags_of}
-use Rattle.pagestore.specs.Store.{the_page, Store, IsStore, store_of, none_kept, is_uptodate, kept_at, entry_at}
+use Rattle.pagestore.specs.Store.{the_page, Store, IsStore, store_of, is_uptodate, kept_at, entry_at}
 use Rattle.pagestore.specs.Store.{lists_of, stored_at, stored_page, with_lists, with_pages}
 use Rattle.pagestore.proofs.StoreLaws.{dirty_at, kept_same}
-use Rattle.pagestore.proofs.StoreFacts.{here_kept, page_taken, page_within, page_size, page_store, page_after_is}
+use Rattle.pagestore.proofs.PagePlaces.{FilePage, file_entry, file_here}
+use Rattle.pagestore.proofs.StoreFacts.{page_taken, page_within, page_size, page_store, page_after_is}
 use Rattle.pagestore.proofs.StoreFacts.{the_page_is, accessed_store, accessed_seen, row_with, row_put, length-row_with}
 use Rattle.pagestore.proofs.FrameEntries.{framed, framed_entry}
 use Rattle.pagestore.proofs.ListedFrames.{lists-accessed}
@@ -42,14 +43,39 @@ none_tagged true o is absent = absent (none_framed o (is refl))
 none_tagged false o is absent = refl
 
 -- k is file f
-module _ (t : Table) (up : List Bool) (files : List KeptFile) (dirty : ℕ) (s : IsStore t up files dirty) (store : Store)
-    (is : store_of t up files ≡ store) (f p : ℕ) (within : f < length store.files) (k : KeptFile)
-    (value : k ≡ slice_index_or files f k) where
+module _ (w : FilePage) (k : KeptFile) (value : k ≡ slice_index_or w.pages.files.items w.file k) where
+  abbrev t : Table
+  t = w.pages.frames
+
+  abbrev up : List Bool
+  up = w.pages.uptodate.items
+
+  abbrev files : List KeptFile
+  files = w.pages.files.items
+
+  abbrev dirty : ℕ
+  dirty = w.pages.dirty
+
+  abbrev store : Store
+  store = w.store
+
+  abbrev f : ℕ
+  f = w.file
+
+  abbrev p : ℕ
+  p = w.page
+
+  s : IsStore t up files dirty
+  s = w.kept
+
+  is : store_of t up files ≡ store
+  is = w.seen
+
   here : f < length files
-  here = here_kept t up files f store is within
+  here = file_here w
 
   entry : k ≡ kept_at files f
-  entry = get_or_read files f k here value none_kept
+  entry = file_entry w k value
 
   dirty_is : has_at k.mapping.pages p Dirty ≡ (tags_of (stored_page store f p)).dirty
   dirty_is = ap (λ (k : KeptFile). has_at k.mapping.pages p Dirty) entry ∙ dirty_at t up files f p (s.bare f p)

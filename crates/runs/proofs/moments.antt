@@ -4,7 +4,6 @@ pub mod Moments
 pub mod Histories
 pub mod CoreSteps
 pub mod FrameCounts
-pub mod WriteLengths
 pub mod Limits
 pub mod AlwaysHold
 pub mod GoOn

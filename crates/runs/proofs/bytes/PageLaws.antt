@@ -10,21 +10,10 @@ use Rattle.pc_types.specs.Files.{pwrite, page_of}
 use Rattle.pc_types.proofs.FileLaws.{byte-pwrite, length-pwrite, byte-take, byte-page, length-cut}
 use Rattle.machine.specs.Changes.{overlay}
 use Rattle.machine.proofs.changes.StateLaws.{touches}
+use Rattle.machine.proofs.changes.WriteLengths.{length-overlay}
 
 pub length-page : (P : ℕ) (f : List ℕ) (p : ℕ) → length (page_of P f p) ≡ P
 length-page P f p = length-cut (drop (p * P) f) P
-
-length_wrote : (f : List ℕ) (o : ℕ) (b : List ℕ) → length f ≤ length (pwrite f o b)
-length_wrote f o [] = omega arith
-length_wrote f o (x ∷ b) = omega (arith, length-pwrite f o (x ∷ b) (omega arith))
-
-pub length-overlay : (P o p : ℕ) (b bytes : List ℕ) → length bytes ≡ P → length (overlay P o b p bytes) ≡ P
-length-overlay P o p b bytes e =
-    omega (
-      arith,
-      length-take P (pwrite bytes (o - p * P) (drop (p * P - o) b)),
-      length_wrote bytes (o - p * P) (drop (p * P - o) b),
-    )
 
 -- a write into a page of the file gives the page of the file that is written
 pub overlay-page : (P o p : ℕ) (b f : List ℕ) → overlay P o b p (page_of P f p) ≡ page_of P (pwrite f o b) p

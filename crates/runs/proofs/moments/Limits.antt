@@ -54,7 +54,7 @@ use Rattle.maps.proofs.Lengths.{len_gone, len_one_gone}
 use Rattle.runs.proofs.events.Lookups.{cached_within, get_or-default, get-insert1, get-remove1, failures-set}
 use Rattle.runs.proofs.events.Lookups.{failures-put}
 use Rattle.runs.proofs.moments.Moments.{run_keeps, first_coupled}
-use Rattle.runs.proofs.moments.WriteLengths.{len-written_pages}
+use Rattle.machine.proofs.changes.WriteLengths.{len-written_pages}
 
 -- the handle of the sync is open, and its range is one
 pub record SyncFits (s : State) (y : Sync) : Type 0 where

@@ -1,4 +1,4 @@
-use Rattle.std.proofs.Common.{arith, ap, sym, subst, ◌∙◌, ◌≡◌, ◌-◌, ◌≤◌, not, length, false}
+use Rattle.std.proofs.Common.{arith, ap, sym, subst, ◌∙◌, ◌≡◌, ◌-◌, ◌≤◌, ℕ, not, length, false}
 use Rattle.std.specs.Prelude.{is_some, IfSome, None}
 use Rattle.std.specs.List.{range_with_len}
 use Rattle.std.specs.FinMap as map
@@ -11,6 +11,16 @@ use Rattle.pagestore.proofs.RangeLemmas.{ne_less, none_of, on_err_of, ok_map}
 use Rattle.cachecore.proofs.PlaceLemmas.{IsGiven, is_given, count_past, placed_past, placed_none, room_given}
 use Rattle.cachecore.proofs.PlaceLemmas.{placed_given, given_unwritten, given_unheld, undone}
 use Rattle.cachecore.proofs.placing.+place.Goals as goal
+use Rattle.cachecore.proofs.placing.+place.Goals.{Else-is_err}
+
+-- the page got a block
+block_given : (t : ℕ) (c : Else-is_err t) → IsGiven c.args.blocks.now c.args.file c.args.next c.assign.new.self
+block_given t c =
+    let b = c.args.blocks.now in
+    let none = none_of (map.get b.spots (c.args.file, c.args.next)) (c.if-is_some.ensures ∙ ap is_some c.map.ensures
+    ∙ some_mapped told (map.get b.spots (c.args.file, c.args.next))) in
+    is_given b c.assign.new.self c.args.file c.args.next c.assign.result none c.if-is_err.ensures.value
+    c.assign.ensures.lowest c.assign.ensures.given
 
 pub returns-then-next-end-clause-placed : goal.returns-then-next-end-clause-placed
 returns-then-next-end-clause-placed t c =
@@ -88,11 +98,7 @@ pub unassign-requires-clause-unwritten : goal.unassign-requires-clause-unwritten
 unassign-requires-clause-unwritten t c =
     let b = c.args.blocks.now in
     let less = ne_less c.args.next c.args.end c.requires.order c.if-next-end.false in
-    let none = none_of (map.get b.spots (c.args.file, c.args.next)) (c.if-is_some.ensures ∙ ap is_some c.map.ensures
-    ∙ some_mapped told (map.get b.spots (c.args.file, c.args.next))) in
-    let given : IsGiven b c.args.file c.args.next c.assign.new.self =
-    is_given b c.assign.new.self c.args.file c.args.next c.assign.result none c.if-is_err.ensures.value
-    c.assign.ensures.lowest c.assign.ensures.given in
+    let given = block_given t (goal.at.unassign-requires-clause-unwritten t c).Else-is_err in
     let same = when_err c.place-rest.result _ c.if-is_err-2.ensures.value c.place-rest.ensures.not_placed in
     subst (λ (n : Blocks). IfSome (map.get n.spots (c.args.file, c.args.next)) (λ spot. spot.written ≡ false))
     (sym same) (given_unwritten b c.assign.new.self c.args.file c.args.next c.args.end less given)
@@ -101,11 +107,7 @@ pub unassign-requires-clause-not_held : goal.unassign-requires-clause-not_held
 unassign-requires-clause-not_held t c =
     let b = c.args.blocks.now in
     let less = ne_less c.args.next c.args.end c.requires.order c.if-next-end.false in
-    let none = none_of (map.get b.spots (c.args.file, c.args.next)) (c.if-is_some.ensures ∙ ap is_some c.map.ensures
-    ∙ some_mapped told (map.get b.spots (c.args.file, c.args.next))) in
-    let given : IsGiven b c.args.file c.args.next c.assign.new.self =
-    is_given b c.assign.new.self c.args.file c.args.next c.assign.result none c.if-is_err.ensures.value
-    c.assign.ensures.lowest c.assign.ensures.given in
+    let given = block_given t (goal.at.unassign-requires-clause-not_held t c).Else-is_err in
     let same = when_err c.place-rest.result _ c.if-is_err-2.ensures.value c.place-rest.ensures.not_placed in
     subst (λ (n : Blocks). IfSome (map.get n.spots (c.args.file, c.args.next))
     (λ spot. map.get n.held spot.block ≡ None)) (sym same)
@@ -115,11 +117,7 @@ pub returns-then-is_err-2-clause-not_placed : goal.returns-then-is_err-2-clause-
 returns-then-is_err-2-clause-not_placed t c =
     let b = c.args.blocks.now in
     let less = ne_less c.args.next c.args.end c.requires.order c.if-next-end.false in
-    let none = none_of (map.get b.spots (c.args.file, c.args.next)) (c.if-is_some.ensures ∙ ap is_some c.map.ensures
-    ∙ some_mapped told (map.get b.spots (c.args.file, c.args.next))) in
-    let given : IsGiven b c.args.file c.args.next c.assign.new.self =
-    is_given b c.assign.new.self c.args.file c.args.next c.assign.result none c.if-is_err.ensures.value
-    c.assign.ensures.lowest c.assign.ensures.given in
+    let given = block_given t (goal.at.returns-then-is_err-2-clause-not_placed t c).Else-is_err in
     let same = when_err c.place-rest.result _ c.if-is_err-2.ensures.value c.place-rest.ensures.not_placed in
     on_err_of c.place-rest.result _
     (undone b c.place-rest.new.blocks c.args.file c.args.next c.args.end less
@@ -130,10 +128,6 @@ pub returns-else-is_err-2-clause-placed : goal.returns-else-is_err-2-clause-plac
 returns-else-is_err-2-clause-placed t c =
     let b = c.args.blocks.now in
     let less = ne_less c.args.next c.args.end c.requires.order c.if-next-end.false in
-    let none = none_of (map.get b.spots (c.args.file, c.args.next)) (c.if-is_some.ensures ∙ ap is_some c.map.ensures
-    ∙ some_mapped told (map.get b.spots (c.args.file, c.args.next))) in
-    let given : IsGiven b c.args.file c.args.next c.assign.new.self =
-    is_given b c.assign.new.self c.args.file c.args.next c.assign.result none c.if-is_err.ensures.value
-    c.assign.ensures.lowest c.assign.ensures.given in
+    let given = block_given t (goal.at.returns-else-is_err-2-clause-placed t c).Else-is_err in
     on_ok c.place-rest.result _ (λ _. placed_given b c.assign.new.self c.args.file c.args.next c.args.end less given
     c.place-rest.new.blocks (when_ok c.place-rest.result _ c.if-is_err-2.ensures.value c.place-rest.ensures.placed))

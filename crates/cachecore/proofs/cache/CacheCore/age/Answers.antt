@@ -11,8 +11,7 @@ invariant_of-self c =
     subst (λ (p : Store). IsCache (state_of a.geometry a.name p.files a.handles a.blocks a.requests a.syncs) p a.blocks)
     (sym c.age.ensures.aged)
     (record {
-      core = core-lists (state_of a.geometry a.name a.pages.files a.handles a.blocks a.requests a.syncs) a.pages
-          a.blocks c.self.invariant.core _;
+      core = core-lists c.self.invariant.core _;
       syncs = c.self.invariant.syncs;
     })
 

@@ -30,7 +30,7 @@ invariant_of-self c =
     subst (λ m. IsCache (state_of a.geometry a.name a.pages.files m a.blocks a.requests a.syncs) a.pages a.blocks)
     (sym c.close.ensures)
     (record {
-      core = core-close old a.pages a.blocks c.self.invariant.core h;
+      core = core-close c.self.invariant.core h;
       syncs = closed_syncs a.handles a.pages.files a.syncs c.self.invariant.syncs h unused;
     })
 

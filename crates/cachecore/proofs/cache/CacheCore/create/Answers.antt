@@ -18,7 +18,7 @@ invariant_of-self c =
     (λ (p : Store). IsCache (state_of a.geometry a.name p.files a.handles a.blocks a.requests a.syncs) p a.blocks)
     c.add_file.ensures.ok c.add_file.ensures.err
     (record {
-      core = core-create (state_of a.geometry a.name old.files a.handles a.blocks a.requests a.syncs) old a.blocks
+      core = core-create
           c.self.invariant.core now refl refl refl few;
       syncs = moved_syncs a.handles a.pages.files a.syncs c.self.invariant.syncs now.files
           (λ g. ap (λ (x : File). (x.failures, x.last_code)) (get_or-push old.files no_file g));

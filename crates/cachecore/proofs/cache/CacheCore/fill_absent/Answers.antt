@@ -27,11 +27,11 @@ invariant_of-self-in_default c =
     c.self.invariant.core.page in
     let here : f < length i.pages.files = subst (λ (s : State). f < length s.files) (sym (state_is c.self.view_is))
     c.requires.here in
-    let free = free_frames_are old i.pages i.blocks c.self.invariant.core in
+    let free = free_frames_are c.self.invariant.core in
     let frames = ap free_frames (state_is c.self.view_is) in
     let core : IsCore (state_of i.geometry i.name now.files i.handles i.blocks i.requests i.syncs) now i.blocks =
     subst (λ t. IsCore t now i.blocks) (sym zeros)
-    (core-zeros old i.pages i.blocks c.self.invariant.core f p now
+    (core-zeros c.self.invariant.core f p now
     (ap (λ (s : State). is_cached s f p) (state_is c.self.view_is) ∙ c.requires.absent)
     (ap (λ (s : State). is_filling s f p) (state_is c.self.view_is) ∙ c.requires.idle) here
     (omega (arith, free, frames, c.requires.room)) refl refl (λ g q. refl) refl) in

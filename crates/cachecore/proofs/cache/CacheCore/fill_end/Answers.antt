@@ -1,225 +1,120 @@
-use Rattle.std.proofs.Common.{false, arith, ap, length, refl, sym, subst, ◌∙◌, ◌≡◌}
-use Rattle.std.specs.Prelude.{is_some, IsTrue}
-use Rattle.pc_types.specs.declared.kind.Kind.TheVariants.{Fill}
-use Rattle.blockdev.specs.declared.job.FinishedParts.{FinishedParts}
+use Rattle.std.proofs.Common.{ap, length, sym, ◌∙◌, ◌≡◌}
+use Rattle.std.specs.Prelude.{is_some}
 use Rattle.std.specs.FinMap as map
 use Rattle.std.specs.FinSet as set
 use Rattle.pc_types.specs.Tags.{no_tags}
+use Rattle.pc_types.specs.declared.kind.Kind.TheVariants.{Fill}
+use Rattle.blockdev.specs.declared.job.FinishedParts.{FinishedParts}
 use Rattle.pagestore.specs.Store.{Store, stored_at, with_pages}
 use Rattle.writeback.specs.Flights as flights
 use Rattle.writeback.specs.Requests.{request_of}
-use Rattle.machine.specs.declared.event.Event.TheVariants as event
 use Rattle.machine.specs.declared.event.Reply.TheVariants as reply
-use Rattle.machine.specs.State.{State, Request}
-use Rattle.machine.specs.Step.{Step}
-use Rattle.cachecore.specs.Replies.{end_of}
+use Rattle.machine.specs.declared.event.Reply.{Reply}
+use Rattle.machine.specs.State.{State}
 use Rattle.cachecore.proofs.CoreViews.{state_is}
 use Rattle.cachecore.proofs.EndSteps.{Ends, known, stranger_step}
-use Rattle.cachecore.proofs.Parts.{Parts, goes_to, state_by}
-use Rattle.cachecore.proofs.EndCalls.{absent_again, awaited_here, fill_done, fill_dropped, fill_fails, filled, left}
+use Rattle.cachecore.proofs.Parts.{Parts, parts_of, state_by}
+use Rattle.cachecore.proofs.EndCalls.{Seen, awaited_here, fill_done, fill_dropped, fill_fails}
 use Rattle.cachecore.proofs.cache.CacheCore.fill_end.Goals as goal
+use Rattle.cachecore.proofs.cache.CacheCore.fill_end.Goals.{In-Some}
 
 pub returns-in_default-clause-step : goal.returns-in_default-clause-step
 returns-in_default-clause-step c =
     stranger_step c.args.self.now.state Fill c.args.finished c.in_default.ensures
 
+ends : (c : In-Some)
+    → Ends (state_by (parts_of c.self.inside)) Fill c.args.finished
+    (request_of c.in-Some.request)
+ends c = known _ Fill c.args.finished c.args.self.now.state _ (state_is c.self.view_is) c.in-Some.ensures
+
+-- its end, as callers see it
+abbrev Goes : In-Some → Reply → Parts → Type 0
+Goes c = Seen (parts_of c.self.inside) c.self.invariant c.args.finished (request_of c.in-Some.request) c.args.self.now.state (state_is c.self.view_is) Fill
+
 pub release-requires : goal.release-requires
 release-requires c =
-    let i = c.self.inside in
-    let p : Parts = record { store = i.pages; blocks = i.blocks; flights = i.requests; syncs = i.syncs } in
-    let x : Request = request_of c.in-Some.request in
-    let e = known (state_by i.geometry i.name i.handles p) Fill c.args.finished c.args.self.now.state x
-    (state_is c.self.view_is) c.in-Some.ensures in
-    ap is_some (c.self.invariant.core.holds.held_is c.args.finished.serial x e.found)
+    ap is_some (c.self.invariant.core.holds.held_is c.args.finished.serial (request_of c.in-Some.request)
+    (ends (goal.at.release-requires c).In-Some).found)
+
+dropped : (c : goal.Then-request) → Goes (goal.at.invariant_of-self c).In-Some reply.Dropped
+    (record (parts_of c.self.inside) { blocks = c.release.new.self; flights = c.end.new.self })
+dropped c =
+    let b = (goal.at.invariant_of-self c).In-Some in
+    fill_dropped (parts_of c.self.inside) c.self.invariant c.args.finished (request_of c.in-Some.request) c.args.self.now.state (state_is c.self.view_is) (ends b)
+    c.if-request.true _ _ c.release.ensures
+    (c.end.ensures.ended
+    ∙ ap (λ (k : FinishedParts). flights.ended c.self.inside.requests k.serial.0) c.into_parts-buffer.ensures)
 
 pub invariant_of-self : goal.invariant_of-self
-invariant_of-self c =
-    let i = c.self.inside in
-    let p : Parts = record { store = i.pages; blocks = i.blocks; flights = i.requests; syncs = i.syncs } in
-    let x : Request = request_of c.in-Some.request in
-    let e = known (state_by i.geometry i.name i.handles p) Fill c.args.finished c.args.self.now.state x
-    (state_is c.self.view_is) c.in-Some.ensures in
-    let ended = c.end.ensures.ended
-    ∙ ap (λ (k : FinishedParts). flights.ended i.requests k.serial.0) c.into_parts-buffer.ensures in
-    let now : Parts =
-    record { store = i.pages; blocks = c.release.new.self; flights = c.end.new.self; syncs = i.syncs } in
-    let goes = goes_to i.geometry i.name i.handles (state_by i.geometry i.name i.handles p)
-    (event.End Fill (end_of c.args.finished)) reply.Dropped
-    (left i.geometry i.name i.handles p c.self.invariant c.args.finished x) now
-    (λ k. let y : Parts =
-    record { store = i.pages; blocks = c.release.ensures k; flights = ended k; syncs = i.syncs } in y)
-    (fill_dropped i.geometry i.name i.handles p c.self.invariant c.args.finished x e c.if-request.true) in
-    goes.cache
+invariant_of-self c = (dropped c).cache
 
 pub returns-then-request-clause-step : goal.returns-then-request-clause-step
-returns-then-request-clause-step c =
-    let i = c.self.inside in
-    let p : Parts = record { store = i.pages; blocks = i.blocks; flights = i.requests; syncs = i.syncs } in
-    let x : Request = request_of c.in-Some.request in
-    let e = known (state_by i.geometry i.name i.handles p) Fill c.args.finished c.args.self.now.state x
-    (state_is c.self.view_is) c.in-Some.ensures in
-    let ended = c.end.ensures.ended
-    ∙ ap (λ (k : FinishedParts). flights.ended i.requests k.serial.0) c.into_parts-buffer.ensures in
-    let now : Parts =
-    record { store = i.pages; blocks = c.release.new.self; flights = c.end.new.self; syncs = i.syncs } in
-    let goes = goes_to i.geometry i.name i.handles (state_by i.geometry i.name i.handles p)
-    (event.End Fill (end_of c.args.finished)) reply.Dropped
-    (left i.geometry i.name i.handles p c.self.invariant c.args.finished x) now
-    (λ k. let y : Parts =
-    record { store = i.pages; blocks = c.release.ensures k; flights = ended k; syncs = i.syncs } in y)
-    (fill_dropped i.geometry i.name i.handles p c.self.invariant c.args.finished x e c.if-request.true) in
-    subst (λ s. Step s (event.End Fill (end_of c.args.finished)) reply.Dropped
-    (state_by i.geometry i.name i.handles now)) (state_is c.self.view_is) goes.step
+returns-then-request-clause-step c = (dropped c).step
 
 pub finish_fill-requires-clause-filling : goal.finish_fill-requires-clause-filling
 finish_fill-requires-clause-filling c =
-    let i = c.self.inside in
-    let p : Parts = record { store = i.pages; blocks = i.blocks; flights = i.requests; syncs = i.syncs } in
-    let x : Request = request_of c.in-Some.request in
-    let e = known (state_by i.geometry i.name i.handles p) Fill c.args.finished c.args.self.now.state x
-    (state_is c.self.view_is) c.in-Some.ensures in
-    awaited_here i.geometry i.name i.handles p c.self.invariant c.args.finished x e c.if-request.false
+    let b = (goal.at.finish_fill-requires-clause-filling c).In-Some in
+    awaited_here (parts_of c.self.inside) c.self.invariant c.args.finished (request_of c.in-Some.request) c.args.self.now.state (state_is c.self.view_is) (ends b)
+    c.if-request.false
 
 pub abandon_fill-requires-clause-filling : goal.abandon_fill-requires-clause-filling
 abandon_fill-requires-clause-filling c =
-    let i = c.self.inside in
-    let p : Parts = record { store = i.pages; blocks = i.blocks; flights = i.requests; syncs = i.syncs } in
-    let x : Request = request_of c.in-Some.request in
-    let e = known (state_by i.geometry i.name i.handles p) Fill c.args.finished c.args.self.now.state x
-    (state_is c.self.view_is) c.in-Some.ensures in
-    awaited_here i.geometry i.name i.handles p c.self.invariant c.args.finished x e c.if-request.false
+    let b = (goal.at.abandon_fill-requires-clause-filling c).In-Some in
+    awaited_here (parts_of c.self.inside) c.self.invariant c.args.finished (request_of c.in-Some.request) c.args.self.now.state (state_is c.self.view_is) (ends b)
+    c.if-request.false
+
+-- as many bytes as a page
+sized : (c : In-Some) → length c.args.finished.bytes ≡ c.self.inside.geometry.page
+sized c = c.requires.size ((ends c).cache ∙ ap (λ (s : State). s.name) (state_is c.self.view_is))
+    ∙ ap (λ (s : State). s.sizes.page) (sym (state_is c.self.view_is))
 
 pub finish_fill-requires-clause-whole : goal.finish_fill-requires-clause-whole
-finish_fill-requires-clause-whole c =
-    let i = c.self.inside in
-    let p : Parts = record { store = i.pages; blocks = i.blocks; flights = i.requests; syncs = i.syncs } in
-    let x : Request = request_of c.in-Some.request in
-    let e = known (state_by i.geometry i.name i.handles p) Fill c.args.finished c.args.self.now.state x
-    (state_is c.self.view_is) c.in-Some.ensures in
-    let bytes = c.as_slice.ensures ∙ ap (λ (k : FinishedParts). k.buffer) c.into_parts-buffer.ensures in
-    ap length bytes ∙ c.requires.size (e.cache ∙ ap (λ (s : State). s.name) (state_is c.self.view_is))
-    ∙ ap (λ (s : State). s.sizes.page) (sym (state_is c.self.view_is)) ∙ sym c.self.invariant.core.page
+finish_fill-requires-clause-whole c = ap length (c.as_slice.ensures ∙ ap (λ (k : FinishedParts). k.buffer)
+    c.into_parts-buffer.ensures) ∙ sized (goal.at.finish_fill-requires-clause-whole c).In-Some ∙ sym c.self.invariant.core.page
+
+done : (c : goal.After-finish_fill) → Goes (goal.at.invariant_of-self-in-Ok c).In-Some reply.Filled
+    (record (parts_of c.self.inside) {
+      store = c.finish_fill.new.self;
+      blocks = c.release.new.self;
+      flights = c.end.new.self;
+    })
+done c =
+    let b = (goal.at.invariant_of-self-in-Ok c).In-Some in
+    let pages = c.self.inside.pages in
+    let x = request_of c.in-Some.request in
+    let filling = c.finish_fill.ensures
+    ∙ ap (λ b. let k : Store =
+    record (with_pages pages x.file
+    (map.insert (stored_at pages x.file).pages x.page (record { bytes = b; tags = no_tags })) pages.free)
+    { filling = set.remove pages.filling (x.file, x.page) } in k)
+    (c.as_slice.ensures ∙ ap (λ (k : FinishedParts). k.buffer) c.into_parts-buffer.ensures) in
+    fill_done (parts_of c.self.inside) c.self.invariant c.args.finished (request_of c.in-Some.request) c.args.self.now.state (state_is c.self.view_is) (ends b)
+    c.if-request.false (sym (ap (λ (k : FinishedParts). k.outcome) c.into_parts-buffer.ensures) ∙ c.in-Ok.is) (sized b) _ _ _ filling
+    c.release.ensures (c.end.ensures.ended
+    ∙ ap (λ (k : FinishedParts). flights.ended c.self.inside.requests k.serial.0) c.into_parts-buffer.ensures)
 
 pub invariant_of-self-in-Ok : goal.invariant_of-self-in-Ok
-invariant_of-self-in-Ok c =
-    let i = c.self.inside in
-    let p : Parts = record { store = i.pages; blocks = i.blocks; flights = i.requests; syncs = i.syncs } in
-    let x : Request = request_of c.in-Some.request in
-    let e = known (state_by i.geometry i.name i.handles p) Fill c.args.finished c.args.self.now.state x
-    (state_is c.self.view_is) c.in-Some.ensures in
-    let ended = c.end.ensures.ended
-    ∙ ap (λ (k : FinishedParts). flights.ended i.requests k.serial.0) c.into_parts-buffer.ensures in
-    let bytes = c.as_slice.ensures ∙ ap (λ (k : FinishedParts). k.buffer) c.into_parts-buffer.ensures in
-    let filling = c.finish_fill.ensures
-    ∙ ap (λ b. let k : Store =
-    record (with_pages i.pages x.file
-    (map.insert (stored_at i.pages x.file).pages x.page (record { bytes = b; tags = no_tags })) i.pages.free)
-    { filling = set.remove i.pages.filling (x.file, x.page) } in k) bytes in
-    let now : Parts =
-    record {
-      store = c.finish_fill.new.self;
-      blocks = c.release.new.self;
-      flights = c.end.new.self;
-      syncs = i.syncs;
-    } in
-    let goes = goes_to i.geometry i.name i.handles (state_by i.geometry i.name i.handles p)
-    (event.End Fill (end_of c.args.finished)) reply.Filled
-    (record (left i.geometry i.name i.handles p c.self.invariant c.args.finished x)
-    { store = filled i.geometry i.name i.handles p c.self.invariant c.args.finished x e c.if-request.false }) now
-    (λ k. let y : Parts =
-    record { store = filling k; blocks = c.release.ensures k; flights = ended k; syncs = i.syncs } in y)
-    (fill_done i.geometry i.name i.handles p c.self.invariant c.args.finished x e c.if-request.false
-    (sym (ap (λ (k : FinishedParts). k.outcome) c.into_parts-buffer.ensures) ∙ c.in-Ok.is)
-    (c.requires.size (e.cache ∙ ap (λ (s : State). s.name) (state_is c.self.view_is))
-    ∙ ap (λ (s : State). s.sizes.page) (sym (state_is c.self.view_is)))) in
-    goes.cache
+invariant_of-self-in-Ok c = (done c).cache
 
 pub returns-in-Ok-clause-step : goal.returns-in-Ok-clause-step
-returns-in-Ok-clause-step c =
-    let i = c.self.inside in
-    let p : Parts = record { store = i.pages; blocks = i.blocks; flights = i.requests; syncs = i.syncs } in
-    let x : Request = request_of c.in-Some.request in
-    let e = known (state_by i.geometry i.name i.handles p) Fill c.args.finished c.args.self.now.state x
-    (state_is c.self.view_is) c.in-Some.ensures in
-    let ended = c.end.ensures.ended
-    ∙ ap (λ (k : FinishedParts). flights.ended i.requests k.serial.0) c.into_parts-buffer.ensures in
-    let bytes = c.as_slice.ensures ∙ ap (λ (k : FinishedParts). k.buffer) c.into_parts-buffer.ensures in
-    let filling = c.finish_fill.ensures
-    ∙ ap (λ b. let k : Store =
-    record (with_pages i.pages x.file
-    (map.insert (stored_at i.pages x.file).pages x.page (record { bytes = b; tags = no_tags })) i.pages.free)
-    { filling = set.remove i.pages.filling (x.file, x.page) } in k) bytes in
-    let now : Parts =
-    record {
-      store = c.finish_fill.new.self;
+returns-in-Ok-clause-step c = (done c).step
+
+failed : (c : goal.After-abandon_fill) → Goes (goal.at.invariant_of-self-in-Err c).In-Some (reply.Failed c.in-Err.code)
+    (record (parts_of c.self.inside) {
+      store = c.abandon_fill.new.self;
       blocks = c.release.new.self;
       flights = c.end.new.self;
-      syncs = i.syncs;
-    } in
-    let goes = goes_to i.geometry i.name i.handles (state_by i.geometry i.name i.handles p)
-    (event.End Fill (end_of c.args.finished)) reply.Filled
-    (record (left i.geometry i.name i.handles p c.self.invariant c.args.finished x)
-    { store = filled i.geometry i.name i.handles p c.self.invariant c.args.finished x e c.if-request.false }) now
-    (λ k. let y : Parts =
-    record { store = filling k; blocks = c.release.ensures k; flights = ended k; syncs = i.syncs } in y)
-    (fill_done i.geometry i.name i.handles p c.self.invariant c.args.finished x e c.if-request.false
-    (sym (ap (λ (k : FinishedParts). k.outcome) c.into_parts-buffer.ensures) ∙ c.in-Ok.is)
-    (c.requires.size (e.cache ∙ ap (λ (s : State). s.name) (state_is c.self.view_is))
-    ∙ ap (λ (s : State). s.sizes.page) (sym (state_is c.self.view_is)))) in
-    subst (λ s. Step s (event.End Fill (end_of c.args.finished)) reply.Filled
-    (state_by i.geometry i.name i.handles now)) (state_is c.self.view_is) goes.step
+    })
+failed c =
+    let b = (goal.at.invariant_of-self-in-Err c).In-Some in
+    fill_fails (parts_of c.self.inside) c.self.invariant c.args.finished (request_of c.in-Some.request) c.args.self.now.state (state_is c.self.view_is) (ends b)
+    c.if-request.false c.in-Err.code (sym (ap (λ (k : FinishedParts). k.outcome) c.into_parts-buffer.ensures) ∙ c.in-Err.is) _ _ _
+    c.abandon_fill.ensures c.release.ensures
+    (c.end.ensures.ended
+    ∙ ap (λ (k : FinishedParts). flights.ended c.self.inside.requests k.serial.0) c.into_parts-buffer.ensures)
 
 pub invariant_of-self-in-Err : goal.invariant_of-self-in-Err
-invariant_of-self-in-Err c =
-    let i = c.self.inside in
-    let p : Parts = record { store = i.pages; blocks = i.blocks; flights = i.requests; syncs = i.syncs } in
-    let x : Request = request_of c.in-Some.request in
-    let e = known (state_by i.geometry i.name i.handles p) Fill c.args.finished c.args.self.now.state x
-    (state_is c.self.view_is) c.in-Some.ensures in
-    let ended = c.end.ensures.ended
-    ∙ ap (λ (k : FinishedParts). flights.ended i.requests k.serial.0) c.into_parts-buffer.ensures in
-    let now : Parts = record {
-      store = c.abandon_fill.new.self;
-      blocks = c.release.new.self;
-      flights = c.end.new.self;
-      syncs = i.syncs;
-    } in
-    let goes = goes_to i.geometry i.name i.handles (state_by i.geometry i.name i.handles p)
-    (event.End Fill (end_of c.args.finished)) (reply.Failed c.in-Err.code)
-    (record (left i.geometry i.name i.handles p c.self.invariant c.args.finished x)
-    { store = absent_again i.geometry i.name i.handles p c.self.invariant c.args.finished x e c.if-request.false })
-    now
-    (λ k. let y : Parts =
-    record { store = c.abandon_fill.ensures k; blocks = c.release.ensures k; flights = ended k; syncs = i.syncs } in
-    y)
-    (fill_fails i.geometry i.name i.handles p c.self.invariant c.args.finished x e c.if-request.false c.in-Err.code
-    (sym (ap (λ (k : FinishedParts). k.outcome) c.into_parts-buffer.ensures) ∙ c.in-Err.is)) in
-    goes.cache
+invariant_of-self-in-Err c = (failed c).cache
 
 pub returns-in-Err-clause-step : goal.returns-in-Err-clause-step
-returns-in-Err-clause-step c =
-    let i = c.self.inside in
-    let p : Parts = record { store = i.pages; blocks = i.blocks; flights = i.requests; syncs = i.syncs } in
-    let x : Request = request_of c.in-Some.request in
-    let e = known (state_by i.geometry i.name i.handles p) Fill c.args.finished c.args.self.now.state x
-    (state_is c.self.view_is) c.in-Some.ensures in
-    let ended = c.end.ensures.ended
-    ∙ ap (λ (k : FinishedParts). flights.ended i.requests k.serial.0) c.into_parts-buffer.ensures in
-    let now : Parts = record {
-      store = c.abandon_fill.new.self;
-      blocks = c.release.new.self;
-      flights = c.end.new.self;
-      syncs = i.syncs;
-    } in
-    let goes = goes_to i.geometry i.name i.handles (state_by i.geometry i.name i.handles p)
-    (event.End Fill (end_of c.args.finished)) (reply.Failed c.in-Err.code)
-    (record (left i.geometry i.name i.handles p c.self.invariant c.args.finished x)
-    { store = absent_again i.geometry i.name i.handles p c.self.invariant c.args.finished x e c.if-request.false })
-    now
-    (λ k. let y : Parts =
-    record { store = c.abandon_fill.ensures k; blocks = c.release.ensures k; flights = ended k; syncs = i.syncs } in
-    y)
-    (fill_fails i.geometry i.name i.handles p c.self.invariant c.args.finished x e c.if-request.false c.in-Err.code
-    (sym (ap (λ (k : FinishedParts). k.outcome) c.into_parts-buffer.ensures) ∙ c.in-Err.is)) in
-    subst (λ s. Step s (event.End Fill (end_of c.args.finished)) (reply.Failed c.in-Err.code)
-    (state_by i.geometry i.name i.handles now)) (state_is c.self.view_is) goes.step
+returns-in-Err-clause-step c = (failed c).step

@@ -23,7 +23,7 @@ invariant_of-self-2 c =
     subst (λ m. IsCache (state_of a.geometry a.name a.pages.files m a.blocks a.requests a.syncs) a.pages a.blocks)
     (sym c.in_ok-handle.ensures.opened)
     (record {
-      core = core-open old a.pages a.blocks c.self.invariant.core h f here;
+      core = core-open c.self.invariant.core h f here;
       syncs = opened_syncs a.handles a.pages.files a.syncs c.self.invariant.syncs h f free;
     })
 

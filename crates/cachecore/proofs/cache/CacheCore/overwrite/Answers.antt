@@ -12,7 +12,7 @@ use Rattle.machine.specs.Tests.{room_tests, write_stop}
 use Rattle.pagestore.specs.Ranges.{AreSized}
 use Rattle.pagestore.specs.Store.{Store, stored_at}
 use Rattle.pagestore.specs.Syncing.{failed_of}
-use Rattle.cachecore.specs.Tables.{IsCore, state_of}
+use Rattle.cachecore.specs.Tables.{IsCache, IsCore, state_of}
 use Rattle.pagestore.proofs.OnePage.{one_touched, one_touched_count}
 use Rattle.cachecore.proofs.DirtyPages.{dirty_cached, dirty_placed, dirty_room, dirty_unstopped}
 use Rattle.cachecore.proofs.Overwrites.{placed_same, put_lists, put_steps}
@@ -23,57 +23,55 @@ use Rattle.cachecore.proofs.StepLemmas.{write_passed}
 use Rattle.cachecore.proofs.CoreViews.{state_is}
 use Rattle.cachecore.proofs.cache.CacheCore.overwrite.Goals as goal
 
-pub returns-clause-unstopped : goal.returns-clause-unstopped
-returns-clause-unstopped c _ =
+abbrev before : goal.After-set_size → State
+before c =
     let a = c.self.inside in
-    let f = c.args.file in
+    state_of a.geometry a.name a.pages.files a.handles a.blocks a.requests a.syncs
+
+-- the write touches one page
+alone : (c : goal.After-set_size)
+    → touched (before c).sizes.page c.args.offset (length c.args.bytes.now) ≡ c.args.offset / c.page-page_size.result ∷ []
+alone c =
     let o = c.args.offset in
     let b = c.args.bytes.now in
     let P = c.page-page_size.result in
-    let p = o / P in
-    let old : State = state_of a.geometry a.name a.pages.files a.handles a.blocks a.requests a.syncs in
     let positive : 0 < P = omega (arith, c.page-page_size.ensures.least) in
-    let fits : o - p * P + length b ≤ P = omega arith in
-    let dirty : (tags_at old f p).dirty ≡ true = sym c.if-not-put_again.ensures.dirty in
-    let alone : touched old.sizes.page o (length b) ≡ p ∷ [] =
+    let fits : o - o / P * P + length b ≤ P = omega arith in
     sym (ap (λ k. touched k o (length b)) c.page-page_size.ensures.value)
-    ∙ one_touched P o (length b) positive c.requires.some fits in
-    ap (λ (s : State). write_stop s f o (length b)) (sym (state_is c.self.view_is))
-    ∙ dirty_unstopped old c.self.invariant.core.sound f p dirty o (length b) alone
+    ∙ one_touched P o (length b) positive c.requires.some fits
+
+pub returns-clause-unstopped : goal.returns-clause-unstopped
+returns-clause-unstopped c _ =
+    let f = c.args.file in
+    let o = c.args.offset in
+    let n = length c.args.bytes.now in
+    ap (λ (s : State). write_stop s f o n) (sym (state_is c.self.view_is))
+    ∙ dirty_unstopped (before c) c.self.invariant.core.sound f _ (sym c.if-not-put_again.ensures.dirty) o n (alone c)
 
 pub returns-clause-room : goal.returns-clause-room
 returns-clause-room c _ =
-    let a = c.self.inside in
     let f = c.args.file in
     let o = c.args.offset in
-    let b = c.args.bytes.now in
-    let P = c.page-page_size.result in
-    let p = o / P in
-    let old : State = state_of a.geometry a.name a.pages.files a.handles a.blocks a.requests a.syncs in
-    let positive : 0 < P = omega (arith, c.page-page_size.ensures.least) in
-    let fits : o - p * P + length b ≤ P = omega arith in
-    let dirty : (tags_at old f p).dirty ≡ true = sym c.if-not-put_again.ensures.dirty in
-    let alone : touched old.sizes.page o (length b) ≡ p ∷ [] =
-    sym (ap (λ k. touched k o (length b)) c.page-page_size.ensures.value)
-    ∙ one_touched P o (length b) positive c.requires.some fits in
-    ap (λ (s : State). room_tests s f o (length b)) (sym (state_is c.self.view_is))
-    ∙ dirty_room old c.self.invariant.core.sound f p dirty o (length b) alone
+    let n = length c.args.bytes.now in
+    ap (λ (s : State). room_tests s f o n) (sym (state_is c.self.view_is))
+    ∙ dirty_room (before c) c.self.invariant.core.sound f _ (sym c.if-not-put_again.ensures.dirty) o n (alone c)
 
-pub invariant_of-self-2 : goal.invariant_of-self-2
-invariant_of-self-2 c =
+-- what the cache keeps, and its state
+wrote : (c : goal.After-set_size) → (let a = c.self.inside in
+    let now : State = state_of a.geometry a.name c.set_size.new.self.files a.handles a.blocks a.requests a.syncs in
+    IsCache now c.set_size.new.self a.blocks
+    × (now ≡ written (before c) c.args.file c.args.offset c.args.bytes.now))
+wrote c =
     let a = c.self.inside in
     let f = c.args.file in
     let o = c.args.offset in
     let b = c.args.bytes.now in
     let P = c.page-page_size.result in
     let p = o / P in
-    let old : State = state_of a.geometry a.name a.pages.files a.handles a.blocks a.requests a.syncs in
+    let old : State = before c in
     let positive : 0 < P = omega (arith, c.page-page_size.ensures.least) in
     let fits : o - p * P + length b ≤ P = omega arith in
     let dirty : (tags_at old f p).dirty ≡ true = sym c.if-not-put_again.ensures.dirty in
-    let alone : touched old.sizes.page o (length b) ≡ p ∷ [] =
-    sym (ap (λ k. touched k o (length b)) c.page-page_size.ensures.value)
-    ∙ one_touched P o (length b) positive c.requires.some fits in
     let store = a.pages in
     let core = c.self.invariant.core in
     let h = c.requires.open.0 in
@@ -88,8 +86,8 @@ invariant_of-self-2 c =
       ap (λ k. touched_count k o (length b)) c.page-page_size.ensures.value,
     ) in
     let passed = write_passed old (record { 0 = h }) o f b found c.requires.some few c.requires.bound
-    (sym (dirty_unstopped old core.sound f p dirty o (length b) alone))
-    (sym (dirty_room old core.sound f p dirty o (length b) alone)) in
+    (sym (dirty_unstopped old core.sound f p dirty o (length b) (alone c)))
+    (sym (dirty_room old core.sound f p dirty o (length b) (alone c))) in
     let laid = c.put_again.new.self in
     let final = c.set_size.new.self in
     let n = c.max-size.result in
@@ -101,104 +99,51 @@ invariant_of-self-2 c =
     let e1 = stored_at store f in
     let e2 = stored_at laid f in
     let e3 = stored_at final f in
-    let of_write = parts P o b f n store store laid final steps in
-    let files = final_files P o b f n store store laid final steps in
-    let blocks : Blocks = taken old store a.blocks core refl h f o P b e1 e2 e3 final file
+    let of_write = parts steps in
+    let files = final_files steps in
+    let blocks : Blocks = taken core refl h f o P b e1 e2 e3 final file
     c.page-page_size.ensures.value passed here of_write positive c.requires.bound P in
     let placed : blocks ≡ a.blocks = placed_same P o b positive c.requires.some fits a.blocks f
     (ap not (dirty_placed old core.sound f p dirty)) in
     let state : state_of a.geometry a.name final.files a.handles a.blocks a.requests a.syncs
     ≡ record (put_file old f e3) { spots = blocks.spots } =
     (λ i. state_of a.geometry a.name (files i) a.handles (sym placed i) a.requests a.syncs) in
-    let written_is = state ∙ write_state old store a.blocks core refl h f o P b e1 e2 e3 final file
+    let written_is = state ∙ write_state core refl h f o P b e1 e2 e3 final file
     c.page-page_size.ensures.value passed here of_write positive c.requires.bound in
     let kept =
     subst (λ (bs : Blocks). IsCore (state_of a.geometry a.name final.files a.handles a.blocks a.requests a.syncs)
     final bs) placed
     (subst (λ (t : State). IsCore t final blocks) (sym state)
-    (core-written old store a.blocks core refl h f o P b e1 e2 e3 final file c.page-page_size.ensures.value passed here
+    (core-written core refl h f o P b e1 e2 e3 final file c.page-page_size.ensures.value passed here
     of_write positive c.requires.bound
-    (final_page P o b f n store store laid final steps)
-    (final_free P o b f n store store laid final steps)
-    (final_idle P o b f n store store laid final steps))) in
-    record {
+    (final_page steps)
+    (final_free steps)
+    (final_idle steps))) in
+    (record {
       core = kept;
       syncs = moved_syncs a.handles a.pages.files a.syncs c.self.invariant.syncs final.files
           (λ g. ap (λ (s : State). failed_of s.files g) written_is ∙ kept_failed store.files f _ refl refl g);
-    }
+    }, written_is)
+
+pub invariant_of-self-2 : goal.invariant_of-self-2
+invariant_of-self-2 c = (wrote c).0
 
 pub returns-clause-done : goal.returns-clause-done
-returns-clause-done c _ =
-    let a = c.self.inside in
-    let f = c.args.file in
-    let o = c.args.offset in
-    let b = c.args.bytes.now in
-    let P = c.page-page_size.result in
-    let p = o / P in
-    let old : State = state_of a.geometry a.name a.pages.files a.handles a.blocks a.requests a.syncs in
-    let positive : 0 < P = omega (arith, c.page-page_size.ensures.least) in
-    let fits : o - p * P + length b ≤ P = omega arith in
-    let dirty : (tags_at old f p).dirty ≡ true = sym c.if-not-put_again.ensures.dirty in
-    let alone : touched old.sizes.page o (length b) ≡ p ∷ [] =
-    sym (ap (λ k. touched k o (length b)) c.page-page_size.ensures.value)
-    ∙ one_touched P o (length b) positive c.requires.some fits in
-    let store = a.pages in
-    let core = c.self.invariant.core in
-    let h = c.requires.open.0 in
-    let found : Some f ≡ map.get old.handles h =
-    sym (ap (λ (s : State). map.get s.handles h) (state_is c.self.view_is) ∙ c.requires.open.1) in
-    let file : handle_file old h ≡ f = ap (λ o. unwrap_or o 0) (sym found) in
-    let here : f < length store.files = core.known h f (sym found) in
-    let few : touched_count old.sizes.page o (length b) ≤ MAX_TOUCHED =
-    omega (
-      arith,
-      one_touched_count P o (length b) positive c.requires.some fits,
-      ap (λ k. touched_count k o (length b)) c.page-page_size.ensures.value,
-    ) in
-    let passed = write_passed old (record { 0 = h }) o f b found c.requires.some few c.requires.bound
-    (sym (dirty_unstopped old core.sound f p dirty o (length b) alone))
-    (sym (dirty_room old core.sound f p dirty o (length b) alone)) in
-    let laid = c.put_again.new.self in
-    let final = c.set_size.new.self in
-    let n = c.max-size.result in
-    let steps : WriteSteps P o b f n store store laid final = put_steps P o b positive c.requires.some fits f store here
-    (c.page-page_size.ensures.value ∙ sym core.page) (dirty_cached old core.sound f p dirty) n laid final
-    (c.if-not-put_again.ensures.done refl) c.set_size.ensures
-    (c.max-size.ensures ∙ ap (λ n. max n (o + length b)) c.size.ensures)
-    (subst (λ (n : ℕ). AreSized n (stored_at store f).pages) (sym c.page-page_size.ensures.value) (core.sized f)) in
-    let e1 = stored_at store f in
-    let e2 = stored_at laid f in
-    let e3 = stored_at final f in
-    let of_write = parts P o b f n store store laid final steps in
-    let files = final_files P o b f n store store laid final steps in
-    let blocks : Blocks = taken old store a.blocks core refl h f o P b e1 e2 e3 final file
-    c.page-page_size.ensures.value passed here of_write positive c.requires.bound P in
-    let placed : blocks ≡ a.blocks = placed_same P o b positive c.requires.some fits a.blocks f
-    (ap not (dirty_placed old core.sound f p dirty)) in
-    let state : state_of a.geometry a.name final.files a.handles a.blocks a.requests a.syncs
-    ≡ record (put_file old f e3) { spots = blocks.spots } =
-    (λ i. state_of a.geometry a.name (files i) a.handles (sym placed i) a.requests a.syncs) in
-    let written_is = state ∙ write_state old store a.blocks core refl h f o P b e1 e2 e3 final file
-    c.page-page_size.ensures.value passed here of_write positive c.requires.bound in
-    written_is ∙ ap (λ s. written s f o b) (state_is c.self.view_is)
+returns-clause-done c _ = (wrote c).1
+    ∙ ap (λ s. written s c.args.file c.args.offset c.args.bytes.now) (state_is c.self.view_is)
 
 pub returns-clause-lists : goal.returns-clause-lists
 returns-clause-lists c _ =
-    let a = c.self.inside in
     let f = c.args.file in
     let o = c.args.offset in
     let b = c.args.bytes.now in
     let P = c.page-page_size.result in
-    let p = o / P in
-    let old : State = state_of a.geometry a.name a.pages.files a.handles a.blocks a.requests a.syncs in
     let positive : 0 < P = omega (arith, c.page-page_size.ensures.least) in
-    let fits : o - p * P + length b ≤ P = omega arith in
-    let dirty : (tags_at old f p).dirty ≡ true = sym c.if-not-put_again.ensures.dirty in
-    let alone : touched old.sizes.page o (length b) ≡ p ∷ [] =
-    sym (ap (λ k. touched k o (length b)) c.page-page_size.ensures.value)
-    ∙ one_touched P o (length b) positive c.requires.some fits in
+    let fits : o - o / P * P + length b ≤ P = omega arith in
+    let dirty : (tags_at (before c) f (o / P)).dirty ≡ true = sym c.if-not-put_again.ensures.dirty in
     let lists = λ (s : Store). s.lists in
-    put_lists old f o (length b) P a.pages.lists c.set_size.new.self.lists c.page-page_size.ensures.value positive
-    c.requires.some fits (dirty_cached old c.self.invariant.core.sound f p dirty)
+    put_lists (before c) f o (length b) P c.self.inside.pages.lists c.set_size.new.self.lists
+    c.page-page_size.ensures.value positive c.requires.some fits
+    (dirty_cached (before c) c.self.invariant.core.sound f (o / P) dirty)
     (ap lists c.set_size.ensures ∙ ap lists (c.if-not-put_again.ensures.done refl))
     ∙ ap (λ (k : Core). lists_written k.state f o (length b) k.lists) c.self.view_is

@@ -8,5 +8,5 @@ use Rattle.cachecore.proofs.cache.CacheCore.passes_dirty_limit.Goals as goal
 pub overflow_add-result : goal.overflow_add-result
 overflow_add-result c =
     let few : sum_by dirty_in c.self.inside.pages.files ≤ MAX_FRAMES =
-    few_dirty _ c.self.inside.pages c.self.inside.blocks c.self.invariant.core in
+    few_dirty c.self.invariant.core in
     omega (arith, few, c.dirty_total.ensures)

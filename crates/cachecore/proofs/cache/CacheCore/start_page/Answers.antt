@@ -9,7 +9,7 @@ use Rattle.machine.specs.State.{State, Sync}
 use Rattle.machine.specs.Step.{Step}
 use Rattle.writeback.specs.Slots.{sync_of}
 use Rattle.cachecore.proofs.CoreViews.{state_is}
-use Rattle.cachecore.proofs.Parts.{Parts, goes_to, state_by}
+use Rattle.cachecore.proofs.Parts.{Parts, goes_to, parts_of, state_by}
 use Rattle.pc_types.specs.declared.refusal.Refusal.TheVariants.{TooManyInFlight}
 use Rattle.machine.specs.Sound.{Sound}
 use Rattle.machine.specs.State.{page_bytes}
@@ -42,19 +42,17 @@ begin_flush-job-requires-clause-room c =
 
 pub invariant_of-self : goal.invariant_of-self
 invariant_of-self c =
-    let i = c.self-2.inside in
-    let p : Parts = record { store = i.pages; blocks = i.blocks; flights = i.requests; syncs = i.syncs } in
+    let p = parts_of c.self-2.inside in
     let n = c.requires.next in
     let kept = ap (λ (t : State). t.syncs) (state_is c.self-2.view_is ∙ c.begin_flush-job.ensures.begun.state) in
     let there = ap (λ (x : map.FinMap nat_cmp Sync). map.get x c.args.sync.0) kept ∙ n.is in
-    last_cache i.geometry i.name i.handles p c.self-2.invariant c.args.sync.0 c.args.page.0 n.sync there
+    last_cache p c.self-2.invariant c.args.sync.0 c.args.page.0 n.sync there
     c.started.new.self c.started.ensures
 
 pub returns-clause-step : goal.returns-clause-step
 returns-clause-step c =
     let sound = subst Sound (state_is c.self.view_is) c.self.invariant.core.sound in
-    let i = c.self-2.inside in
-    let p : Parts = record { store = i.pages; blocks = i.blocks; flights = i.requests; syncs = i.syncs } in
+    let p = parts_of c.self-2.inside in
     let n = c.requires.next in
     let mid = c.begin_flush-job.new.self.state in
     let put = c.started.ensures ∙ ap (λ (t : State). change_at c.args.sync.0 (with_started c.args.page.0) t.syncs)

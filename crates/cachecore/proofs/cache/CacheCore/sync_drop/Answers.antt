@@ -7,7 +7,7 @@ use Rattle.machine.specs.State.{State, Sync}
 use Rattle.machine.specs.Step.{Step}
 use Rattle.writeback.specs.Slots.{sync_of}
 use Rattle.cachecore.proofs.CoreViews.{state_is}
-use Rattle.cachecore.proofs.Parts.{Parts, goes_to, state_by}
+use Rattle.cachecore.proofs.Parts.{Goes, Parts, goes_to, parts_of, state_by}
 use Rattle.pc_types.specs.declared.refusal.Refusal.TheVariants.{Stranger}
 use Rattle.pagestore.proofs.StoreLaws.{some_mapped}
 use Rattle.cachecore.proofs.SyncCalls.{drops, without}
@@ -16,33 +16,23 @@ use Rattle.cachecore.proofs.cache.CacheCore.sync_drop.Goals as goal
 
 pub returns-then-is_none-clause-step : goal.returns-then-is_none-clause-step
 returns-then-is_none-clause-step c =
-    let i = c.self.inside in
-    let p : Parts = record { store = i.pages; blocks = i.blocks; flights = i.requests; syncs = i.syncs } in
+    let p = parts_of c.self.inside in
     let gone = ap is_some (sym c.get.ensures) ∙ some_mapped sync_of c.get.result ∙ c.if-is_none.ensures in
     subst (λ s. Step s (event.SyncDrop c.args.sync) (reply.Refused Stranger) s) (state_is c.self.view_is)
-    (not_dropped_step (state_by i.geometry i.name i.handles p) c.args.sync gone)
+    (not_dropped_step (state_by p) c.args.sync gone)
+
+dropped : (c : goal.After-remove) → Goes c.args.self.now.state (event.SyncDrop c.args.sync) reply.Dropped
+    (record (parts_of c.self.inside) { syncs = c.remove.new.self })
+dropped c =
+    let p = parts_of c.self.inside in
+    let there = ap is_some (sym c.get.ensures) ∙ some_mapped sync_of c.get.result ∙ c.if-is_none.ensures in
+    goes_to (state_by p) _ (state_is c.self.view_is) (event.SyncDrop c.args.sync) reply.Dropped
+    (without p c.self.invariant c.args.sync) _
+    (λ k. let x : Parts = record p { syncs = c.remove.ensures.removed k } in x)
+    (drops p c.self.invariant c.args.sync there)
 
 pub invariant_of-self : goal.invariant_of-self
-invariant_of-self c =
-    let i = c.self.inside in
-    let p : Parts = record { store = i.pages; blocks = i.blocks; flights = i.requests; syncs = i.syncs } in
-    let there = ap is_some (sym c.get.ensures) ∙ some_mapped sync_of c.get.result ∙ c.if-is_none.ensures in
-    let now : Parts = record p { syncs = c.remove.new.self } in
-    let goes = goes_to i.geometry i.name i.handles (state_by i.geometry i.name i.handles p) (event.SyncDrop c.args.sync)
-    reply.Dropped (without i.geometry i.name i.handles p c.self.invariant c.args.sync) now
-    (λ k. let x : Parts = record p { syncs = c.remove.ensures.removed k } in x)
-    (drops i.geometry i.name i.handles p c.self.invariant c.args.sync there) in
-    goes.cache
+invariant_of-self c = (dropped c).cache
 
 pub returns-clause-step : goal.returns-clause-step
-returns-clause-step c =
-    let i = c.self.inside in
-    let p : Parts = record { store = i.pages; blocks = i.blocks; flights = i.requests; syncs = i.syncs } in
-    let there = ap is_some (sym c.get.ensures) ∙ some_mapped sync_of c.get.result ∙ c.if-is_none.ensures in
-    let now : Parts = record p { syncs = c.remove.new.self } in
-    let goes = goes_to i.geometry i.name i.handles (state_by i.geometry i.name i.handles p) (event.SyncDrop c.args.sync)
-    reply.Dropped (without i.geometry i.name i.handles p c.self.invariant c.args.sync) now
-    (λ k. let x : Parts = record p { syncs = c.remove.ensures.removed k } in x)
-    (drops i.geometry i.name i.handles p c.self.invariant c.args.sync there) in
-    subst (λ t. Step t (event.SyncDrop c.args.sync) reply.Dropped (state_by i.geometry i.name i.handles now))
-    (state_is c.self.view_is) goes.step
+returns-clause-step c = (dropped c).step

@@ -9,7 +9,7 @@ use Rattle.machine.specs.State.{State, Sync}
 use Rattle.machine.specs.Step.{Step}
 use Rattle.writeback.specs.Slots.{sync_of}
 use Rattle.cachecore.proofs.CoreViews.{state_is}
-use Rattle.cachecore.proofs.Parts.{Parts, goes_to, state_by}
+use Rattle.cachecore.proofs.Parts.{Goes, IsKept, Parts, goes_to, parts_of, state_by}
 use Rattle.pc_types.specs.declared.refusal.Refusal.TheVariants.{Stranger}
 use Rattle.cachecore.specs.Replies.{IsSyncJob, sync_stepped}
 use Rattle.cachecore.specs.Starting.{IsNext}
@@ -21,117 +21,86 @@ use Rattle.cachecore.proofs.cache.CacheCore.sync_step.Goals.{in-None, in-Some-fa
 
 pub returns-in_default-clause-step : goal.returns-in_default-clause-step
 returns-in_default-clause-step c =
-    let i = c.self.inside in
-    let p : Parts = record { store = i.pages; blocks = i.blocks; flights = i.requests; syncs = i.syncs } in
+    let p = parts_of c.self.inside in
     subst (λ s. Step s (event.SyncStep c.args.sync) (reply.Refused Stranger) s) (state_is c.self.view_is)
-    (stranger_step (state_by i.geometry i.name i.handles p) c.args.sync (sym c.in_default.ensures))
+    (stranger_step (state_by p) c.args.sync (sym c.in_default.ensures))
 
 pub unreachable-requires : goal.unreachable-requires
 unreachable-requires c =
-    let i = c.self.inside in
-    let p : Parts = record { store = i.pages; blocks = i.blocks; flights = i.requests; syncs = i.syncs } in
-    must_be_open i.geometry i.name i.handles p c.self.invariant c.args.sync (sync_of c.in-Some.progress)
+    let p = parts_of c.self.inside in
+    must_be_open p c.self.invariant c.args.sync (sync_of c.in-Some.progress)
     c.in-Some.ensures c.in_default-file.ensures
 
 pub start_page-requires-clause-next : goal.start_page-requires-clause-next
 start_page-requires-clause-next c =
-    let i = c.self.inside in
-    let p : Parts = record { store = i.pages; blocks = i.blocks; flights = i.requests; syncs = i.syncs } in
+    let p = parts_of c.self.inside in
     subst (λ s. IsNext s c.args.sync.0 c.in-Some-file.file c.in-Start.found.page.0) (state_is c.self.view_is)
-    (next_call i.geometry i.name i.handles p c.self.invariant c.args.sync (sync_of c.in-Some.progress)
+    (next_call p c.self.invariant c.args.sync (sync_of c.in-Some.progress)
     c.in-Some.ensures c.in-Some-file.file c.in-Some-file.ensures c.in-Start.found c.in-Start.ensures.step)
 
 pub failure_since-requires-clause-coded : goal.failure_since-requires-clause-coded
 failure_since-requires-clause-coded c =
-    let i = c.self.inside in
-    let p : Parts = record { store = i.pages; blocks = i.blocks; flights = i.requests; syncs = i.syncs } in
-    told_code i.geometry i.name i.handles p c.self.invariant c.args.sync (sync_of c.in-Some.progress) c.in-Some.ensures
+    let p = parts_of c.self.inside in
+    told_code p c.self.invariant c.args.sync (sync_of c.in-Some.progress) c.in-Some.ensures
     c.in-Some-file.file c.in-Some-file.ensures
 
 pub returns-in-Held-clause-step : goal.returns-in-Held-clause-step
 returns-in-Held-clause-step c =
-    let i = c.self.inside in
-    let p : Parts = record { store = i.pages; blocks = i.blocks; flights = i.requests; syncs = i.syncs } in
+    let p = parts_of c.self.inside in
     subst (λ s. Step s (event.SyncStep c.args.sync) (reply.Wait c.in-Held.page) s) (state_is c.self.view_is)
-    (held_call i.geometry i.name i.handles p c.self.invariant c.args.sync (sync_of c.in-Some.progress)
+    (held_call p c.self.invariant c.args.sync (sync_of c.in-Some.progress)
     c.in-Some.ensures c.in-Some-file.file c.in-Some-file.ensures c.in-Held.page c.in-Held.ensures.step)
 
-pub invariant_of-self : goal.invariant_of-self
-invariant_of-self c =
-    let i = c.self.inside in
-    let p : Parts = record { store = i.pages; blocks = i.blocks; flights = i.requests; syncs = i.syncs } in
-    let now : Parts = record p { syncs = c.set_bound.new.self } in
-    let goes = goes_to i.geometry i.name i.handles (state_by i.geometry i.name i.handles p) (event.SyncStep c.args.sync)
-    (reply.Wait c.in-Await.page) (bounded i.geometry i.name i.handles p c.self.invariant c.args.sync
-    (sync_of c.in-Some.progress) c.in-Some.ensures c.in-Some-file.file c.in-Some-file.ensures c.in-Await.bound.0)
-    now
+awaited : (c : goal.After-set_bound) → Goes c.args.self.now.state (event.SyncStep c.args.sync)
+    (reply.Wait c.in-Await.page) (record (parts_of c.self.inside) { syncs = c.set_bound.new.self })
+awaited c =
+    let p = parts_of c.self.inside in
+    goes_to (state_by p) _ (state_is c.self.view_is) (event.SyncStep c.args.sync) (reply.Wait c.in-Await.page)
+    (bounded p c.self.invariant c.args.sync (sync_of c.in-Some.progress) c.in-Some.ensures c.in-Some-file.file
+    c.in-Some-file.ensures c.in-Await.bound.0) _
     (λ k. let x : Parts = record p { syncs = c.set_bound.ensures k } in x)
-    (awaits i.geometry i.name i.handles p c.self.invariant c.args.sync (sync_of c.in-Some.progress)
-    c.in-Some.ensures c.in-Some-file.file c.in-Some-file.ensures c.in-Await.page c.in-Await.bound
-    c.in-Await.ensures.step) in
-    goes.cache
+    (awaits p c.self.invariant c.args.sync (sync_of c.in-Some.progress) c.in-Some.ensures c.in-Some-file.file
+    c.in-Some-file.ensures c.in-Await.page c.in-Await.bound c.in-Await.ensures.step)
+
+pub invariant_of-self : goal.invariant_of-self
+invariant_of-self c = (awaited c).cache
 
 pub returns-in-Await-clause-step : goal.returns-in-Await-clause-step
-returns-in-Await-clause-step c =
-    let i = c.self.inside in
-    let p : Parts = record { store = i.pages; blocks = i.blocks; flights = i.requests; syncs = i.syncs } in
-    let now : Parts = record p { syncs = c.set_bound.new.self } in
-    let goes = goes_to i.geometry i.name i.handles (state_by i.geometry i.name i.handles p) (event.SyncStep c.args.sync)
-    (reply.Wait c.in-Await.page) (bounded i.geometry i.name i.handles p c.self.invariant c.args.sync
-    (sync_of c.in-Some.progress) c.in-Some.ensures c.in-Some-file.file c.in-Some-file.ensures c.in-Await.bound.0)
-    now
-    (λ k. let x : Parts = record p { syncs = c.set_bound.ensures k } in x)
-    (awaits i.geometry i.name i.handles p c.self.invariant c.args.sync (sync_of c.in-Some.progress)
-    c.in-Some.ensures c.in-Some-file.file c.in-Some-file.ensures c.in-Await.page c.in-Await.bound
-    c.in-Await.ensures.step) in
-    subst (λ t. Step t (event.SyncStep c.args.sync) (reply.Wait c.in-Await.page)
-    (state_by i.geometry i.name i.handles now)) (state_is c.self.view_is) goes.step
+returns-in-Await-clause-step c = (awaited c).step
 
 pub invariant_of-self-in-Over : goal.invariant_of-self-in-Over
 invariant_of-self-in-Over c =
-    let i = c.self.inside in
-    let p : Parts = record { store = i.pages; blocks = i.blocks; flights = i.requests; syncs = i.syncs } in
-    subst (λ (x : map.FinMap nat_cmp Sync). IsCache (state_by i.geometry i.name i.handles (record p { syncs = x }))
-    i.pages i.blocks) (sym c.remove.ensures.removed)
-    (without_cache i.geometry i.name i.handles p c.self.invariant c.args.sync)
+    let p = parts_of c.self.inside in
+    subst (λ (x : map.FinMap nat_cmp Sync). IsKept (record p { syncs = x })) (sym c.remove.ensures.removed)
+    (without_cache p c.self.invariant c.args.sync)
 
 pub returns-after-failure_since-clause-step : goal.returns-after-failure_since-clause-step
 returns-after-failure_since-clause-step c =
-    let i = c.self.inside in
-    let p : Parts = record { store = i.pages; blocks = i.blocks; flights = i.requests; syncs = i.syncs } in
+    let p = parts_of c.self.inside in
+    let s = c.args.self.now.state in
     let now : Parts = record p { syncs = c.remove.new.self } in
+    let y = sync_of c.in-Some.progress in
     elim c.match-failure_since.branch [
       | in-None w ↦
-          let goes = goes_to i.geometry i.name i.handles (state_by i.geometry i.name i.handles p)
-          (event.SyncStep c.args.sync) reply.Clean
-          (without i.geometry i.name i.handles p c.self.invariant c.args.sync) now
+          let goes = goes_to (state_by p) s (state_is c.self.view_is) (event.SyncStep c.args.sync) reply.Clean
+          (without p c.self.invariant c.args.sync) now
           (λ k. let x : Parts = record p { syncs = c.remove.ensures.removed k } in x)
-          (clean_call i.geometry i.name i.handles p c.self.invariant c.args.sync (sync_of c.in-Some.progress)
-          c.in-Some.ensures c.in-Some-file.file c.in-Some-file.ensures c.in-Over.ensures.step w.in-None.ensures) in
-          subst (λ t. Step t (event.SyncStep c.args.sync) (sync_stepped c.match-failure_since.result)
-          (state_by i.geometry i.name i.handles now)) (state_is c.self.view_is)
-          (subst (λ r. Step (state_by i.geometry i.name i.handles p) (event.SyncStep c.args.sync) (sync_stepped r)
-          (state_by i.geometry i.name i.handles now)) (sym w.result-is) goes.step)
+          (clean_call p c.self.invariant c.args.sync y c.in-Some.ensures c.in-Some-file.file c.in-Some-file.ensures
+          c.in-Over.ensures.step w.in-None.ensures) in
+          subst (λ r. Step s (event.SyncStep c.args.sync) (sync_stepped r) (state_by now)) (sym w.result-is) goes.step
       | in-Some-failure_since w ↦
-          let goes = goes_to i.geometry i.name i.handles (state_by i.geometry i.name i.handles p)
-          (event.SyncStep c.args.sync) (reply.Failed w.in-Some-failure_since.code)
-          (without i.geometry i.name i.handles p c.self.invariant c.args.sync) now
+          let goes = goes_to (state_by p) s (state_is c.self.view_is) (event.SyncStep c.args.sync)
+          (reply.Failed w.in-Some-failure_since.code) (without p c.self.invariant c.args.sync) now
           (λ k. let x : Parts = record p { syncs = c.remove.ensures.removed k } in x)
-          (failed_call i.geometry i.name i.handles p c.self.invariant c.args.sync (sync_of c.in-Some.progress)
-          c.in-Some.ensures c.in-Some-file.file c.in-Some-file.ensures c.in-Over.ensures.step
-          w.in-Some-failure_since.code
-          w.in-Some-failure_since.ensures) in
-          subst (λ t. Step t (event.SyncStep c.args.sync) (sync_stepped c.match-failure_since.result)
-          (state_by i.geometry i.name i.handles now)) (state_is c.self.view_is)
-          (subst (λ r. Step (state_by i.geometry i.name i.handles p) (event.SyncStep c.args.sync) (sync_stepped r)
-          (state_by i.geometry i.name i.handles now)) (sym w.result-is) goes.step)
+          (failed_call p c.self.invariant c.args.sync y c.in-Some.ensures c.in-Some-file.file c.in-Some-file.ensures
+          c.in-Over.ensures.step w.in-Some-failure_since.code w.in-Some-failure_since.ensures) in
+          subst (λ r. Step s (event.SyncStep c.args.sync) (sync_stepped r) (state_by now)) (sym w.result-is) goes.step
     ]
 
 pub returns-after-failure_since-clause-job : goal.returns-after-failure_since-clause-job
 returns-after-failure_since-clause-job c =
-    let i = c.self.inside in
-    let p : Parts = record { store = i.pages; blocks = i.blocks; flights = i.requests; syncs = i.syncs } in
-    let new : State = state_by i.geometry i.name i.handles (record p { syncs = c.remove.new.self }) in
+    let p = parts_of c.self.inside in
+    let new : State = state_by (record p { syncs = c.remove.new.self }) in
     elim c.match-failure_since.branch [
       | in-None w ↦ subst (IsSyncJob new) (sym w.result-is) tt
       | in-Some-failure_since w ↦ subst (IsSyncJob new) (sym w.result-is) tt

@@ -9,7 +9,7 @@ use Rattle.machine.specs.Tests.{write_tests}
 use Rattle.pagestore.specs.Ranges.{AreSized, IsLaid}
 use Rattle.pagestore.specs.Store.{Store, stored_at}
 use Rattle.pagestore.specs.Syncing.{failed_of}
-use Rattle.cachecore.specs.Tables.{IsCore, state_of}
+use Rattle.cachecore.specs.Tables.{IsCache, IsCore, state_of}
 use Rattle.cachecore.proofs.WriteMoves.{written_lists}
 use Rattle.cachecore.proofs.WriteSteps.{WriteSteps, laid_noted, parts, final_files, final_free, final_page, final_idle}
 use Rattle.cachecore.proofs.WriteSteps.{made_sized}
@@ -18,37 +18,35 @@ use Rattle.cachecore.proofs.SyncLaws.{kept_failed, moved_syncs}
 use Rattle.cachecore.proofs.CoreViews.{state_is}
 use Rattle.cachecore.proofs.cache.CacheCore.write_pages.Goals as goal
 
+-- a write that is not refused, by a handle of the file
+abbrev Passed : State → ℕ → ℕ → ℕ → Type 0
+Passed s f o n = (h : ℕ) × (handle_file s h ≡ f) × (write_tests s h o n ≡ None)
+
 pub place-requires-clause-frames : goal.place-requires-clause-frames
 place-requires-clause-frames c =
     let a = c.self.inside in
-    let passed =
-    subst (λ s. (h : ℕ) × (handle_file s h ≡ c.args.file)
-    × (write_tests s h c.args.offset (length c.args.bytes.now) ≡ None)) (sym (state_is c.self.view_is))
-    c.requires.passed in
-    frames_enough (state_of a.geometry a.name a.pages.files a.handles a.blocks a.requests a.syncs) a.pages a.blocks
-    c.self.invariant.core refl passed.0 c.args.file c.args.offset (length c.args.bytes.now) c.page-page_size.result
+    let n = length c.args.bytes.now in
+    let passed = subst (λ s. Passed s c.args.file c.args.offset n) (sym (state_is c.self.view_is)) c.requires.passed in
+    frames_enough
+    c.self.invariant.core refl passed.0 c.args.file c.args.offset n c.page-page_size.result
     passed.1 c.page-page_size.ensures.value passed.2
 
 pub place-requires-clause-room : goal.place-requires-clause-room
 place-requires-clause-room c =
     let a = c.self.inside in
-    let passed =
-    subst (λ s. (h : ℕ) × (handle_file s h ≡ c.args.file)
-    × (write_tests s h c.args.offset (length c.args.bytes.now) ≡ None)) (sym (state_is c.self.view_is))
-    c.requires.passed in
-    blocks_enough (state_of a.geometry a.name a.pages.files a.handles a.blocks a.requests a.syncs) a.pages a.blocks
-    c.self.invariant.core refl passed.0 c.args.file c.args.offset (length c.args.bytes.now) c.page-page_size.result
+    let n = length c.args.bytes.now in
+    let passed = subst (λ s. Passed s c.args.file c.args.offset n) (sym (state_is c.self.view_is)) c.requires.passed in
+    blocks_enough
+    c.self.invariant.core refl passed.0 c.args.file c.args.offset n c.page-page_size.result
     passed.1 c.page-page_size.ensures.value passed.2
 
 pub place-requires-clause-idle : goal.place-requires-clause-idle
 place-requires-clause-idle c =
     let a = c.self.inside in
-    let passed =
-    subst (λ s. (h : ℕ) × (handle_file s h ≡ c.args.file)
-    × (write_tests s h c.args.offset (length c.args.bytes.now) ≡ None)) (sym (state_is c.self.view_is))
-    c.requires.passed in
-    none_awaited (state_of a.geometry a.name a.pages.files a.handles a.blocks a.requests a.syncs) a.pages a.blocks
-    c.self.invariant.core refl passed.0 c.args.file c.args.offset (length c.args.bytes.now) c.page-page_size.result
+    let n = length c.args.bytes.now in
+    let passed = subst (λ s. Passed s c.args.file c.args.offset n) (sym (state_is c.self.view_is)) c.requires.passed in
+    none_awaited
+    c.self.invariant.core refl passed.0 c.args.file c.args.offset n c.page-page_size.result
     passed.1 c.page-page_size.ensures.value passed.2
 
 pub write-requires-clause-sized : goal.write-requires-clause-sized
@@ -64,8 +62,14 @@ write-requires-clause-sized c =
     (subst (λ (n : ℕ). AreSized n (stored_at store f).pages) (sym c.page-page_size.ensures.value)
     (c.self.invariant.core.sized f)))
 
-pub invariant_of-self-2 : goal.invariant_of-self-2
-invariant_of-self-2 c =
+-- what the cache keeps, and its state
+wrote : (c : goal.After-set_size) → (let a = c.self.inside in
+    let now : State =
+    state_of a.geometry a.name c.set_size.new.self.files a.handles c.place.new.blocks a.requests a.syncs in
+    IsCache now c.set_size.new.self c.place.new.blocks
+    × (now ≡ written (state_of a.geometry a.name a.pages.files a.handles a.blocks a.requests a.syncs) c.args.file
+    c.args.offset c.args.bytes.now))
+wrote c =
     let a = c.self.inside in
     let f = c.args.file in
     let o = c.args.offset in
@@ -93,15 +97,14 @@ invariant_of-self-2 c =
     let e1 = stored_at c.place.new.pages f in
     let e2 = stored_at c.write.new.self f in
     let e3 = stored_at c.set_size.new.self f in
-    let of_write = parts P o b f c.max-size.result store c.place.new.pages c.write.new.self c.set_size.new.self steps in
-    let files = final_files P o b f c.max-size.result store c.place.new.pages c.write.new.self c.set_size.new.self
+    let of_write = parts steps in
+    let files = final_files
     steps in
-    let passed = subst (λ s. (h : ℕ) × (handle_file s h ≡ f) × (write_tests s h o (length b) ≡ None))
-    (sym (state_is c.self.view_is)) c.requires.passed in
+    let passed = subst (λ s. Passed s f o (length b)) (sym (state_is c.self.view_is)) c.requires.passed in
     let state : state_of a.geometry a.name c.set_size.new.self.files a.handles c.place.new.blocks a.requests a.syncs
     ≡ record (put_file old f e3) {
       spots =
-          (taken old store a.blocks c.self.invariant.core refl passed.0 f o P b e1 e2 e3 c.set_size.new.self passed.1
+          (taken c.self.invariant.core refl passed.0 f o P b e1 e2 e3 c.set_size.new.self passed.1
           c.page-page_size.ensures.value passed.2 here of_write (omega (arith, c.page-page_size.ensures.least))
           c.requires.bound P).spots;
     } =
@@ -111,70 +114,31 @@ invariant_of-self-2 c =
     (state_of a.geometry a.name c.set_size.new.self.files a.handles c.place.new.blocks a.requests a.syncs)
     c.set_size.new.self bs) (sym c.in_ok-place.ensures.placed)
     (subst (λ (t : State). IsCore t c.set_size.new.self
-    (taken old store a.blocks c.self.invariant.core refl passed.0 f o P b e1 e2 e3 c.set_size.new.self passed.1
+    (taken c.self.invariant.core refl passed.0 f o P b e1 e2 e3 c.set_size.new.self passed.1
     c.page-page_size.ensures.value passed.2 here of_write (omega (arith, c.page-page_size.ensures.least))
     c.requires.bound P)) (sym state)
-    (core-written old store a.blocks c.self.invariant.core refl passed.0 f o P b e1 e2 e3 c.set_size.new.self passed.1
+    (core-written c.self.invariant.core refl passed.0 f o P b e1 e2 e3 c.set_size.new.self passed.1
     c.page-page_size.ensures.value passed.2 here of_write (omega (arith, c.page-page_size.ensures.least))
     c.requires.bound
-    (final_page P o b f c.max-size.result store c.place.new.pages c.write.new.self c.set_size.new.self steps)
-    (final_free P o b f c.max-size.result store c.place.new.pages c.write.new.self c.set_size.new.self steps)
-    (final_idle P o b f c.max-size.result store c.place.new.pages c.write.new.self c.set_size.new.self steps))) in
-    let written_is = state ∙ write_state old store a.blocks c.self.invariant.core refl passed.0 f o P b e1 e2 e3
+    (final_page steps)
+    (final_free steps)
+    (final_idle steps))) in
+    let written_is = state ∙ write_state c.self.invariant.core refl passed.0 f o P b e1 e2 e3
     c.set_size.new.self passed.1 c.page-page_size.ensures.value passed.2 here of_write
     (omega (arith, c.page-page_size.ensures.least)) c.requires.bound in
-    record {
+    (record {
       core = core;
       syncs = moved_syncs a.handles a.pages.files a.syncs c.self.invariant.syncs
           c.set_size.new.self.files (λ g. ap (λ (s : State). failed_of s.files g) written_is
           ∙ kept_failed store.files f _ refl refl g);
-    }
+    }, written_is)
+
+pub invariant_of-self-2 : goal.invariant_of-self-2
+invariant_of-self-2 c = (wrote c).0
 
 pub returns-clause-ok : goal.returns-clause-ok
-returns-clause-ok c =
-    let a = c.self.inside in
-    let f = c.args.file in
-    let o = c.args.offset in
-    let b = c.args.bytes.now in
-    let P = c.page-page_size.result in
-    let old : State = state_of a.geometry a.name a.pages.files a.handles a.blocks a.requests a.syncs in
-    let store = a.pages in
-    let here : f < length store.files =
-    omega (arith, c.requires.here, ap (λ s. length s.files) (state_is c.self.view_is)) in
-    let size : P ≡ store.page = c.page-page_size.ensures.value ∙ sym c.self.invariant.core.page in
-    let same : stored_at c.access_cached.new.self f ≡ stored_at c.place.new.pages f =
-    ap (λ (s : Store). stored_at s f) c.access_cached.ensures in
-    let steps : WriteSteps P o b f c.max-size.result store c.place.new.pages c.write.new.self c.set_size.new.self =
-    record {
-      here = here;
-      page = size;
-      cover = c.in_ok-place.ensures.made;
-      pages = subst (λ (e : File). IsLaid P o b (o / P) ((o + length b - 1) / P + 1) e.pages
-          (stored_at c.write.new.self f).pages) same c.write.ensures.pages;
-      rest = laid_noted f c.place.new.pages c.access_cached.new.self c.write.new.self _ c.access_cached.ensures
-          c.write.ensures.rest;
-      size = c.max-size.ensures ∙ ap (λ n. max n (o + length b)) c.size.ensures;
-      grown = c.set_size.ensures;
-    } in
-    let e1 = stored_at c.place.new.pages f in
-    let e2 = stored_at c.write.new.self f in
-    let e3 = stored_at c.set_size.new.self f in
-    let of_write = parts P o b f c.max-size.result store c.place.new.pages c.write.new.self c.set_size.new.self steps in
-    let files = final_files P o b f c.max-size.result store c.place.new.pages c.write.new.self c.set_size.new.self
-    steps in
-    let passed = subst (λ s. (h : ℕ) × (handle_file s h ≡ f) × (write_tests s h o (length b) ≡ None))
-    (sym (state_is c.self.view_is)) c.requires.passed in
-    let state : state_of a.geometry a.name c.set_size.new.self.files a.handles c.place.new.blocks a.requests a.syncs
-    ≡ record (put_file old f e3) {
-      spots =
-          (taken old store a.blocks c.self.invariant.core refl passed.0 f o P b e1 e2 e3 c.set_size.new.self passed.1
-          c.page-page_size.ensures.value passed.2 here of_write (omega (arith, c.page-page_size.ensures.least))
-          c.requires.bound P).spots;
-    } =
-    (λ i. state_of a.geometry a.name (files i) a.handles (c.in_ok-place.ensures.placed i) a.requests a.syncs) in
-    state ∙ write_state old store a.blocks c.self.invariant.core refl passed.0 f o P b e1 e2 e3 c.set_size.new.self
-    passed.1 c.page-page_size.ensures.value passed.2 here of_write (omega (arith, c.page-page_size.ensures.least))
-    c.requires.bound ∙ ap (λ s. written s f o b) (state_is c.self.view_is)
+returns-clause-ok c = (wrote c).1
+    ∙ ap (λ s. written s c.args.file c.args.offset c.args.bytes.now) (state_is c.self.view_is)
 
 pub returns-clause-lists : goal.returns-clause-lists
 returns-clause-lists c =

@@ -11,24 +11,35 @@ use Rattle.pagestore.specs.Store.{Store, none_kept, kept_at, entry_at, store_of,
 use Rattle.pagestore.proofs.StoreFacts.{here_kept}
 use Rattle.pagestore.proofs.ListedFrames.{accessed_nowhere, unlisted}
 use Rattle.pagestore.proofs.Owners.{no_frame}
+use Rattle.pagestore.proofs.PagePlaces.{FilePage}
 use Rattle.pagestore.proofs.ReadFrames.{frame_taken, read_seen, walked_entry}
 use Rattle.pagestore.proofs.pages.Pages.access.Goals as goal
+use Rattle.pagestore.proofs.pages.Pages.access.Goals.{After-self}
+
+abbrev at : After-self → FilePage
+at c = record {
+  pages = c.self.inside;
+  kept = c.self.invariant;
+  store = c.args.self.now;
+  seen = c.self.view_is;
+  file = c.args.file;
+  page = c.args.page;
+  here = c.requires;
+}
 
 pub accessed-requires : goal.accessed-requires
 accessed-requires c =
-    frame_taken c.self.inside.frames c.self.inside.uptodate.items c.self.inside.files.items c.self.inside.dirty
-    c.self.invariant c.args.self.now c.self.view_is c.args.file c.args.page c.requires c.in-Some.frame
-    (walked_entry c.self.inside.frames c.self.inside.uptodate.items c.self.inside.files.items c.self.inside.dirty
-    c.self.invariant c.args.self.now c.self.view_is c.args.file c.args.page c.requires c.index.result.now
+    let w = at (goal.at.accessed-requires c).After-self in
+    frame_taken w c.in-Some.frame
+    (walked_entry w c.index.result.now
     c.index.ensures c.in-Some.frame c.in-Some.ensures)
 
 pub returns-in-Some : goal.returns-in-Some
 returns-in-Some c =
+    let w = at (goal.at.returns-in-Some c).After-self in
     ap (λ (u : Table). store_of u c.self.inside.uptodate.items c.self.inside.files.items) c.accessed.ensures
-    ∙ read_seen c.self.inside.frames c.self.inside.uptodate.items c.self.inside.files.items c.self.inside.dirty
-    c.self.invariant c.args.self.now c.self.view_is c.args.file c.args.page c.requires c.in-Some.frame
-    (walked_entry c.self.inside.frames c.self.inside.uptodate.items c.self.inside.files.items c.self.inside.dirty
-    c.self.invariant c.args.self.now c.self.view_is c.args.file c.args.page c.requires c.index.result.now
+    ∙ read_seen w c.in-Some.frame
+    (walked_entry w c.index.result.now
     c.index.ensures c.in-Some.frame c.in-Some.ensures) c.free_count.ensures.sound
 
 pub returns-in_default : goal.returns-in_default

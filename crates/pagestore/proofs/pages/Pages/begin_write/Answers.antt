@@ -9,16 +9,33 @@ use Rattle.machine.specs.State.{Page}
 use Rattle.machine.specs.Changes.{under_write}
 use Rattle.pagestore.proofs.StoreFacts.{byte_is}
 use Rattle.pagestore.proofs.FrameEntries.{framed, framed_entry}
-use Rattle.pagestore.proofs.TagChanges.{not_absent, frame_taken, counts_dirty, page_found, tagged_store, tagged_seen}
+use Rattle.pagestore.proofs.TagChanges.{CachedPage, not_absent, frame_taken, counts_dirty, page_found, tagged_store, tagged_seen}
 use Rattle.pagestore.proofs.pages.Pages.begin_write.Goals as goal
+use Rattle.pagestore.proofs.pages.Pages.begin_write.Goals.{After-index_mut}
+
+-- the page, in its file
+abbrev at : After-index_mut → CachedPage
+at c = record {
+  pages = c.self.inside;
+  kept = c.self.invariant;
+  store = c.args.self.now;
+  seen = c.self.view_is;
+  file = c.args.file;
+  page = c.args.page;
+  here = c.requires.here;
+  cached = c.requires.cached;
+  found = c.index_mut.result.now;
+  value = c.index_mut.ensures.value;
+}
 
 pub unreachable-requires : goal.unreachable-requires
-unreachable-requires c = not_absent c.self.inside.frames c.self.inside.uptodate.items c.self.inside.files.items
-    c.self.inside.dirty c.self.invariant c.args.self.now c.self.view_is c.args.file c.args.page c.requires.here
-    c.requires.cached c.index_mut.result.now c.index_mut.ensures.value c.in_default.ensures
+unreachable-requires c =
+    let w = at (goal.at.unreachable-requires c).After-index_mut in
+    not_absent w c.in_default.ensures
 
 pub overflow_sub-self : goal.overflow_sub-self
 overflow_sub-self c =
+    let w = at (goal.at.overflow_sub-self c).After-index_mut in
     let entry = map.get c.index_mut.result.now.mapping.pages c.args.page in
     let x = framed entry c.in-Some.frame in
     let found = framed_entry entry c.in-Some.frame c.in-Some.ensures in
@@ -28,48 +45,42 @@ overflow_sub-self c =
     omega (
       arith,
       one,
-      counts_dirty c.self.inside.frames c.self.inside.uptodate.items c.self.inside.files.items
-          c.self.inside.dirty c.self.invariant c.args.self.now c.self.view_is c.args.file c.args.page c.requires.here
-          c.requires.cached c.index_mut.result.now c.index_mut.ensures.value x (sym found),
+      counts_dirty w x (sym found),
     )
 
 pub bytes-requires : goal.bytes-requires
-bytes-requires c = frame_taken c.self.inside.frames c.self.inside.uptodate.items c.self.inside.files.items
-    c.self.inside.dirty c.self.invariant c.args.self.now c.self.view_is c.args.file c.args.page c.requires.here
-    c.requires.cached c.index_mut.result.now c.index_mut.ensures.value
+bytes-requires c =
+    let w = at (goal.at.bytes-requires c).After-index_mut in
+    frame_taken w
     (framed (map.get c.index_mut.result.now.mapping.pages c.args.page) c.in-Some.frame)
     (sym (framed_entry (map.get c.index_mut.result.now.mapping.pages c.args.page) c.in-Some.frame c.in-Some.ensures))
 
 pub invariant_of-self : goal.invariant_of-self
 invariant_of-self c =
+    let w = at (goal.at.invariant_of-self c).After-index_mut in
     let entry = map.get c.index_mut.result.now.mapping.pages c.args.page in
     let x = framed entry c.in-Some.frame in
     let found = framed_entry entry c.in-Some.frame c.in-Some.ensures in
     let one =
     c.from.ensures ∙ ap from_bool (c.has_tag-was_dirty.ensures
     ∙ tag_of c.args.page Dirty c.index_mut.result.now.mapping.pages x found) ∙ byte_is x.tags.dirty in
-    let least = counts_dirty c.self.inside.frames c.self.inside.uptodate.items c.self.inside.files.items
-    c.self.inside.dirty c.self.invariant c.args.self.now c.self.view_is c.args.file c.args.page c.requires.here
-    c.requires.cached c.index_mut.result.now c.index_mut.ensures.value x (sym found) in
-    tagged_store c.self.inside.frames c.self.inside.uptodate.items c.self.inside.files.items c.self.inside.dirty
-    c.self.invariant c.args.self.now c.self.view_is c.args.file c.args.page c.requires.here c.requires.cached
-    c.index_mut.result.now c.index_mut.ensures.value x (sym found) (with_tags picks.under_write) refl
+    let least = counts_dirty w x (sym found) in
+    tagged_store w x (sym found) (with_tags picks.under_write) refl
     c.begin_write.new.mapping c.begin_write.ensures (c.self.inside.dirty - c.from.result)
     (omega (arith, one, least))
 
 pub returns-clause-begun : goal.returns-clause-begun
-returns-clause-begun c = tagged_seen c.self.inside.frames c.self.inside.uptodate.items c.self.inside.files.items
-    c.self.inside.dirty c.self.invariant c.args.self.now c.self.view_is c.args.file c.args.page c.requires.here
-    c.requires.cached c.index_mut.result.now c.index_mut.ensures.value
+returns-clause-begun c =
+    let w = at (goal.at.returns-clause-begun c).After-index_mut in
+    tagged_seen w
     (framed (map.get c.index_mut.result.now.mapping.pages c.args.page) c.in-Some.frame)
     (sym (framed_entry (map.get c.index_mut.result.now.mapping.pages c.args.page) c.in-Some.frame c.in-Some.ensures))
     (with_tags picks.under_write) refl c.begin_write.new.mapping c.begin_write.ensures under_write refl
 
 pub returns-clause-copy : goal.returns-clause-copy
 returns-clause-copy c =
-    let page = page_found c.self.inside.frames c.self.inside.uptodate.items c.self.inside.files.items
-    c.self.inside.dirty c.self.invariant c.args.self.now c.self.view_is c.args.file c.args.page c.requires.here
-    c.requires.cached c.index_mut.result.now c.index_mut.ensures.value
+    let w = at (goal.at.returns-clause-copy c).After-index_mut in
+    let page = page_found w
     (framed (map.get c.index_mut.result.now.mapping.pages c.args.page) c.in-Some.frame)
     (sym (framed_entry (map.get c.index_mut.result.now.mapping.pages c.args.page) c.in-Some.frame
     c.in-Some.ensures)) in

@@ -7,8 +7,9 @@ use Rattle.mapping.proofs.PageLemmas.{tag_of}
 use Rattle.writeback.specs.Picks as picks
 use Rattle.machine.specs.Changes.{after_write}
 use Rattle.pagestore.proofs.StoreFacts.{few_dirty_pages, byte_is, the_mapped}
-use Rattle.pagestore.proofs.TagChanges.{its_entry, tagged_store, tagged_seen}
+use Rattle.pagestore.proofs.TagChanges.{CachedPage, its_entry, tagged_store, tagged_seen}
 use Rattle.pagestore.proofs.pages.Pages.end_write.Goals as goal
+use Rattle.pagestore.proofs.pages.Pages.end_write.Goals.{After-index_mut}
 use Rattle.pagestore.proofs.pages.Pages.end_write.Goals.{then-failed, else-failed}
 
 -- one more page is DIRTY where it was not and the write failed
@@ -17,6 +18,21 @@ one_more true true = omega arith
 one_more true false = omega arith
 one_more false true = omega arith
 one_more false false = omega arith
+
+-- the page, in its file
+abbrev at : After-index_mut → CachedPage
+at c = record {
+  pages = c.self.inside;
+  kept = c.self.invariant;
+  store = c.args.self.now;
+  seen = c.self.view_is;
+  file = c.args.file;
+  page = c.args.page;
+  here = c.requires.here;
+  cached = c.requires.cached;
+  found = c.index_mut.result.now;
+  value = c.index_mut.ensures.value;
+}
 
 pub overflow_add-self : goal.overflow_add-self
 overflow_add-self c =
@@ -32,10 +48,9 @@ overflow_add-self c =
 
 pub invariant_of-self : goal.invariant_of-self
 invariant_of-self c =
+    let w = at (goal.at.invariant_of-self c).After-index_mut in
     let x = the_mapped (map.get c.index_mut.result.now.mapping.pages c.args.page) in
-    let found = its_entry c.self.inside.frames c.self.inside.uptodate.items c.self.inside.files.items
-    c.self.inside.dirty c.self.invariant c.args.self.now c.self.view_is c.args.file c.args.page c.requires.here
-    c.requires.cached c.index_mut.result.now c.index_mut.ensures.value in
+    let found = its_entry w in
     let was : c.has_tag-was_dirty.result ≡ x.tags.dirty = c.has_tag-was_dirty.ensures
     ∙ tag_of c.args.page Dirty c.index_mut.result.now.mapping.pages x (sym found) in
     let flag : c.if-failed.from ≡ (c.args.failed && not x.tags.dirty) = elim c.if-failed.branch [
@@ -43,18 +58,14 @@ invariant_of-self c =
       | else-failed w ↦ w.from-is ∙ w.if-failed.false ∙ ap (λ b. b && not x.tags.dirty) (sym w.if-failed.false)
     ] in
     let one = c.from.ensures ∙ ap from_bool flag ∙ byte_is (c.args.failed && not x.tags.dirty) in
-    tagged_store c.self.inside.frames c.self.inside.uptodate.items c.self.inside.files.items c.self.inside.dirty
-    c.self.invariant c.args.self.now c.self.view_is c.args.file c.args.page c.requires.here c.requires.cached
-    c.index_mut.result.now c.index_mut.ensures.value x found (picks.after_write c.args.failed) refl
+    tagged_store w x found (picks.after_write c.args.failed) refl
     c.end_write.new.mapping c.end_write.ensures (c.self.inside.dirty + c.from.result)
     (omega (arith, one, one_more x.tags.dirty c.args.failed))
 
 pub returns : goal.returns
-returns c = tagged_seen c.self.inside.frames c.self.inside.uptodate.items c.self.inside.files.items c.self.inside.dirty
-    c.self.invariant c.args.self.now c.self.view_is c.args.file c.args.page c.requires.here c.requires.cached
-    c.index_mut.result.now c.index_mut.ensures.value
+returns c =
+    let w = at (goal.at.returns c).After-index_mut in
+    tagged_seen w
     (the_mapped (map.get c.index_mut.result.now.mapping.pages c.args.page))
-    (its_entry c.self.inside.frames c.self.inside.uptodate.items c.self.inside.files.items c.self.inside.dirty
-    c.self.invariant c.args.self.now c.self.view_is c.args.file c.args.page c.requires.here c.requires.cached
-    c.index_mut.result.now c.index_mut.ensures.value) (picks.after_write c.args.failed) refl c.end_write.new.mapping
+    (its_entry w) (picks.after_write c.args.failed) refl c.end_write.new.mapping
     c.end_write.ensures (after_write c.args.failed) refl

@@ -1,38 +1,66 @@
 use Rattle.std.proofs.Common.{arith, ap, sym, subst, refl, true, false, ◌∙◌, ◌≡◌, ℕ, List, length}
-use Rattle.std.specs.Prelude.{Some, is_some, option_map, slice_set}
+use Rattle.std.specs.Prelude.{Some, is_some, option_map, slice_index_or, slice_set}
 use Rattle.std.specs.FinMap as map
 use Rattle.std.proofs.lemmas.Bool.{false≢true}
-use Rattle.std.proofs.lemmas.List.{get_or_read}
 use Rattle.frames.specs.Table.{free_frames}
 use Rattle.frames.specs.Rows.{with_row}
 use Rattle.frames.proofs.RowLemmas.{with_row-whole}
-use Rattle.mapping.specs.Pages.{frame_of}
+use Rattle.mapping.specs.Pages.{Mapped, frame_of}
 use Rattle.pc_types.specs.Tags.{TagSet, no_tags}
+use Rattle.pc_types.specs.declared.ids.FrameId.{FrameId}
 use Rattle.pagestore.specs.declared.kept.KeptFile.{KeptFile}
 use Rattle.machine.specs.State.{Page}
-use Rattle.pagestore.specs.Store.{Store, IsStore, store_of, none_kept, kept_at, entry_at, is_awaited, with_entry}
+use Rattle.pagestore.specs.Store.{Store, IsStore, awaits, store_of, kept_at, entry_at, is_awaited, with_entry}
 use Rattle.pagestore.proofs.StoreLaws.{waits_at, waiting_entry, waiting_flag, none_seen, kept_same, some_mapped}
 use Rattle.pagestore.proofs.FrameEntries.{framed, framed_entry}
-use Rattle.pagestore.proofs.StoreFacts.{here_kept, page_taken, dirty_one, changed_store, changed_seen}
+use Rattle.pagestore.proofs.PagePlaces.{FilePage, file_entry, file_here}
+use Rattle.pagestore.proofs.StoreFacts.{page_taken, dirty_one, changed_store, changed_seen}
 use Rattle.pagestore.proofs.pages.Pages.finish_fill.Goals as goal
+use Rattle.pagestore.proofs.pages.Pages.finish_fill.Goals.{After-self}
+
+abbrev at : After-self → FilePage
+at c = record {
+  pages = c.self.inside;
+  kept = c.self.invariant;
+  store = c.args.self.now;
+  seen = c.self.view_is;
+  file = c.args.file;
+  page = c.args.page;
+  here = c.requires.here;
+}
+
+-- the walk found its frame
+there_in : (w : FilePage) (k : KeptFile) → k ≡ slice_index_or w.pages.files.items w.file k → (frame : FrameId)
+    → Some frame ≡ option_map frame_of (map.get k.mapping.pages w.page)
+    → entry_at w.pages.files.items w.file w.page ≡ Some (framed (entry_at w.pages.files.items w.file w.page) frame)
+there_in w k value frame found = framed_entry (entry_at w.pages.files.items w.file w.page) frame
+    (found ∙ ap (λ (k : KeptFile). option_map frame_of (map.get k.mapping.pages w.page)) (file_entry w k value))
+
+waits : (w : FilePage) → is_awaited w.store w.file w.page ≡ true
+    → awaits w.pages.uptodate.items (entry_at w.pages.files.items w.file w.page) ≡ true
+waits w filling = sym (waits_at w.pages.frames w.pages.uptodate.items w.pages.files.items w.file w.page)
+    ∙ ap (λ (s : Store). is_awaited s w.file w.page) w.seen ∙ filling
+
+long : (c : After-self) → length c.args.bytes.now ≡ c.self.inside.frames.size
+long c = c.requires.whole ∙ ap (λ (s : Store). s.page) (sym c.self.view_is)
+
+rows : (c : goal.After-self-2-1) → (let t = c.self.inside.frames in
+    with_row t.size t.bytes c.in-Some.frame.0 c.copy_from_slice.new.self
+    ≡ slice_set t.bytes c.in-Some.frame.0 c.args.bytes.now)
+rows c =
+    let t = c.self.inside.frames in
+    ap (with_row t.size t.bytes c.in-Some.frame.0) c.copy_from_slice.ensures.after
+    ∙ with_row-whole t.size t.bytes c.in-Some.frame.0 c.args.bytes.now c.bytes_mut.ensures.sized
+    c.bytes_mut.ensures.within (long (goal.at.returns c).After-self)
 
 pub unreachable-requires : goal.unreachable-requires
 unreachable-requires c =
-    let t = c.self.inside.frames in
-    let up = c.self.inside.uptodate.items in
-    let files = c.self.inside.files.items in
-    let dirty = c.self.inside.dirty in
-    let s = c.self.invariant in
-    let f = c.args.file in
-    let p = c.args.page in
-    let here = here_kept t up files f c.args.self.now c.self.view_is c.requires.here in
-    let entry : c.index.result.now ≡ kept_at files f = get_or_read files f c.index.result.now here c.index.ensures
-    none_kept in
-    let waits = sym (waits_at t up files f p) ∙ ap (λ (s : Store). is_awaited s f p) c.self.view_is
-    ∙ c.requires.filling in
-    false≢true (ap is_some c.in_default.ensures ∙ some_mapped frame_of (map.get c.index.result.now.mapping.pages p)
-    ∙ ap (λ (k : KeptFile). is_some (map.get k.mapping.pages p)) entry
-    ∙ waiting_entry up (entry_at files f p) waits)
+    let w = at (goal.at.unreachable-requires c).After-self in
+    let k = c.index.result.now in
+    false≢true (ap is_some c.in_default.ensures ∙ some_mapped frame_of (map.get k.mapping.pages c.args.page)
+    ∙ ap (λ (k : KeptFile). is_some (map.get k.mapping.pages c.args.page)) (file_entry w k c.index.ensures)
+    ∙ waiting_entry c.self.inside.uptodate.items (entry_at c.self.inside.files.items c.args.file c.args.page)
+    (waits w c.requires.filling))
 
 pub bytes_mut-requires : goal.bytes_mut-requires
 bytes_mut-requires c =
@@ -43,12 +71,9 @@ bytes_mut-requires c =
     let s = c.self.invariant in
     let f = c.args.file in
     let p = c.args.page in
-    let here = here_kept t up files f c.args.self.now c.self.view_is c.requires.here in
-    let entry : c.index.result.now ≡ kept_at files f = get_or_read files f c.index.result.now here c.index.ensures
-    none_kept in
+    let w = at (goal.at.bytes_mut-requires c).After-self in
     let x = framed (entry_at files f p) c.in-Some.frame in
-    let there : map.get (kept_at files f).mapping.pages p ≡ Some x = framed_entry (entry_at files f p) c.in-Some.frame
-    (c.in-Some.ensures ∙ ap (λ (k : KeptFile). option_map frame_of (map.get k.mapping.pages p)) entry) in
+    let there = there_in w c.index.result.now c.index.ensures c.in-Some.frame c.in-Some.ensures in
     page_taken t up files dirty s f p x there
 
 pub invariant_of-self : goal.invariant_of-self
@@ -60,29 +85,21 @@ invariant_of-self c =
     let s = c.self.invariant in
     let f = c.args.file in
     let p = c.args.page in
-    let here = here_kept t up files f c.args.self.now c.self.view_is c.requires.here in
-    let entry : c.index.result.now ≡ kept_at files f = get_or_read files f c.index.result.now here c.index.ensures
-    none_kept in
+    let w = at (goal.at.invariant_of-self c).After-self in
     let x = framed (entry_at files f p) c.in-Some.frame in
-    let there : map.get (kept_at files f).mapping.pages p ≡ Some x = framed_entry (entry_at files f p) c.in-Some.frame
-    (c.in-Some.ensures ∙ ap (λ (k : KeptFile). option_map frame_of (map.get k.mapping.pages p)) entry) in
-    let waits = sym (waits_at t up files f p) ∙ ap (λ (s : Store). is_awaited s f p) c.self.view_is
-    ∙ c.requires.filling in
-    let flag = waiting_flag up (entry_at files f p) waits x there in
+    let there = there_in w c.index.result.now c.index.ensures c.in-Some.frame c.in-Some.ensures in
+    let flag = waiting_flag up (entry_at files f p) (waits w c.requires.filling) x there in
     let bare = s.bare f p x there flag in
     let row = c.args.bytes.now in
-    let long : length row ≡ t.size = c.requires.whole ∙ ap (λ (s : Store). s.page) (sym c.self.view_is) in
-    let rows : with_row t.size t.bytes x.frame c.copy_from_slice.new.self ≡ slice_set t.bytes x.frame row =
-    ap (with_row t.size t.bytes x.frame) c.copy_from_slice.ensures.after
-    ∙ with_row-whole t.size t.bytes x.frame row c.bytes_mut.ensures.sized c.bytes_mut.ensures.within long in
     let clean = ap dirty_one (none_seen t up files f p x there flag) in
     let marks : dirty_one (Some (let page : Page = record { bytes = row; tags = x.tags } in page)) ≡ 0 =
     ap (λ (g : TagSet). dirty_one (Some (let page : Page = record { bytes = row; tags = g } in page))) bare in
-    subst (λ (rs : List (List ℕ)). IsStore (record t { bytes = rs }) (slice_set up x.frame true) files dirty) (sym rows)
+    subst (λ (rs : List (List ℕ)). IsStore (record t { bytes = rs }) (slice_set up x.frame true) files dirty)
+    (sym (rows c))
     (subst (λ (fs : List KeptFile). IsStore (record t { bytes = slice_set t.bytes x.frame row })
     (slice_set up x.frame true) fs dirty) (kept_same files f p x there)
-    (changed_store t up files dirty f p x s here there row long true x refl dirty (λ e. absurd (false≢true (sym e)))
-    (omega (arith, clean, marks))))
+    (changed_store t up files dirty f p x s (file_here w) there row (long (goal.at.invariant_of-self c).After-self) true
+    x refl dirty (λ e. absurd (false≢true (sym e))) (omega (arith, clean, marks))))
 
 pub returns : goal.returns
 returns c =
@@ -93,23 +110,15 @@ returns c =
     let s = c.self.invariant in
     let f = c.args.file in
     let p = c.args.page in
-    let here = here_kept t up files f c.args.self.now c.self.view_is c.requires.here in
-    let entry : c.index.result.now ≡ kept_at files f = get_or_read files f c.index.result.now here c.index.ensures
-    none_kept in
+    let w = at (goal.at.returns c).After-self in
     let x = framed (entry_at files f p) c.in-Some.frame in
-    let there : map.get (kept_at files f).mapping.pages p ≡ Some x = framed_entry (entry_at files f p) c.in-Some.frame
-    (c.in-Some.ensures ∙ ap (λ (k : KeptFile). option_map frame_of (map.get k.mapping.pages p)) entry) in
-    let waits = sym (waits_at t up files f p) ∙ ap (λ (s : Store). is_awaited s f p) c.self.view_is
-    ∙ c.requires.filling in
-    let flag = waiting_flag up (entry_at files f p) waits x there in
+    let there = there_in w c.index.result.now c.index.ensures c.in-Some.frame c.in-Some.ensures in
+    let flag = waiting_flag up (entry_at files f p) (waits w c.requires.filling) x there in
     let bare = s.bare f p x there flag in
     let row = c.args.bytes.now in
-    let long : length row ≡ t.size = c.requires.whole ∙ ap (λ (s : Store). s.page) (sym c.self.view_is) in
-    let rows : with_row t.size t.bytes x.frame c.copy_from_slice.new.self ≡ slice_set t.bytes x.frame row =
-    ap (with_row t.size t.bytes x.frame) c.copy_from_slice.ensures.after
-    ∙ with_row-whole t.size t.bytes x.frame row c.bytes_mut.ensures.sized c.bytes_mut.ensures.within long in
-    (λ i. store_of (record t { bytes = rows i }) (slice_set up x.frame true) (sym (kept_same files f p x there) i))
-    ∙ changed_seen t up files dirty f p x s here there row long true x refl
+    (λ i. store_of (record t { bytes = rows c i }) (slice_set up x.frame true)
+    (sym (kept_same files f p x there) i))
+    ∙ changed_seen t up files dirty f p x s (file_here w) there row (long (goal.at.returns c).After-self) true x refl
     ∙ ap (λ (g : TagSet). with_entry (store_of t up files) f p
     (Some (let page : Page = record { bytes = row; tags = g } in page)) false (free_frames t)) bare
     ∙ ap (λ (s : Store). with_entry s f p (Some (let page : Page = record { bytes = row; tags = no_tags } in page))

@@ -5,14 +5,29 @@ use Rattle.mapping.proofs.PageLemmas.{tag_of}
 use Rattle.pc_types.specs.declared.tags.Tag.TheVariants.{Dirty}
 use Rattle.pagestore.proofs.FrameEntries.{framed, framed_entry}
 use Rattle.pagestore.proofs.StoreFacts.{few_dirty_pages}
-use Rattle.pagestore.proofs.TagChanges.{dirty_more, frame_taken, not_absent, put_seen, put_store, rows_put}
+use Rattle.pagestore.proofs.TagChanges.{CachedPage, dirty_more, frame_taken, not_absent, put_seen, put_store, rows_put}
 use Rattle.pagestore.proofs.pages.Pages.put.Goals as goal
+use Rattle.pagestore.proofs.pages.Pages.put.Goals.{After-index_mut}
+
+-- the page, in its file
+abbrev at : After-index_mut → CachedPage
+at c = record {
+  pages = c.self.inside;
+  kept = c.self.invariant;
+  store = c.args.self.now;
+  seen = c.self.view_is;
+  file = c.args.file;
+  page = c.args.page;
+  here = c.requires.here;
+  cached = c.requires.cached;
+  found = c.index_mut.result.now;
+  value = c.index_mut.ensures.value;
+}
 
 pub unreachable-requires : goal.unreachable-requires
 unreachable-requires c =
-    not_absent c.self.inside.frames c.self.inside.uptodate.items c.self.inside.files.items c.self.inside.dirty
-    c.self.invariant c.args.self.now c.self.view_is c.args.file c.args.page c.requires.here c.requires.cached
-    c.index_mut.result.now c.index_mut.ensures.value c.in_default.ensures
+    let w = at (goal.at.unreachable-requires c).After-index_mut in
+    not_absent w c.in_default.ensures
 
 pub overflow_add-self : goal.overflow_add-self
 overflow_add-self c =
@@ -28,49 +43,40 @@ overflow_add-self c =
 
 pub bytes_mut-requires : goal.bytes_mut-requires
 bytes_mut-requires c =
+    let w = at (goal.at.bytes_mut-requires c).After-index_mut in
     let x = framed (map.get c.index_mut.result.now.mapping.pages c.args.page) c.in-Some.frame in
     let found =
     sym (framed_entry (map.get c.index_mut.result.now.mapping.pages c.args.page) c.in-Some.frame
     c.in-Some.ensures) in
-    frame_taken c.self.inside.frames c.self.inside.uptodate.items c.self.inside.files.items c.self.inside.dirty
-    c.self.invariant c.args.self.now c.self.view_is c.args.file c.args.page c.requires.here c.requires.cached
-    c.index_mut.result.now c.index_mut.ensures.value x found
+    frame_taken w x found
 
 pub invariant_of-self : goal.invariant_of-self
 invariant_of-self c =
+    let w = at (goal.at.invariant_of-self c).After-index_mut in
     let x = framed (map.get c.index_mut.result.now.mapping.pages c.args.page) c.in-Some.frame in
     let found =
     sym (framed_entry (map.get c.index_mut.result.now.mapping.pages c.args.page) c.in-Some.frame
     c.in-Some.ensures) in
     let b = c.args.bytes.now in
-    let put = rows_put c.self.inside.frames c.self.inside.uptodate.items c.self.inside.files.items c.self.inside.dirty
-    c.self.invariant c.args.self.now c.self.view_is c.args.file c.args.page c.requires.here c.requires.cached
-    c.index_mut.result.now c.index_mut.ensures.value x found c.args.at b c.requires.room
+    let put = rows_put w x found c.args.at b c.requires.room
     (c.args.at + length b - c.args.at) c.bytes_mut.result.now c.copy_from_slice.new.self c.bytes_mut.ensures.bytes
     c.copy_from_slice.ensures.after (omega arith) c.bytes_mut.ensures.sized c.bytes_mut.ensures.within in
-    let more = dirty_more c.self.inside.frames c.self.inside.uptodate.items c.self.inside.files.items
-    c.self.inside.dirty c.self.invariant c.args.self.now c.self.view_is c.args.file c.args.page c.requires.here
-    c.requires.cached c.index_mut.result.now c.index_mut.ensures.value x found c.args.at b c.requires.room
+    let more = dirty_more w x found c.args.at b c.requires.room
     c.from.result c.has_tag-was_dirty.result c.from.ensures
     (c.has_tag-was_dirty.ensures ∙ tag_of c.args.page Dirty c.index_mut.result.now.mapping.pages x (sym found)) in
-    put_store c.self.inside.frames c.self.inside.uptodate.items c.self.inside.files.items c.self.inside.dirty
-    c.self.invariant c.args.self.now c.self.view_is c.args.file c.args.page c.requires.here c.requires.cached
-    c.index_mut.result.now c.index_mut.ensures.value x found c.args.at b c.requires.room _ put c.tag.new.self
+    put_store w x found c.args.at b c.requires.room _ put c.tag.new.self
     c.tag.ensures.tagged (c.self.inside.dirty + c.from.result) more
 
 pub returns : goal.returns
 returns c =
+    let w = at (goal.at.returns c).After-index_mut in
     let x = framed (map.get c.index_mut.result.now.mapping.pages c.args.page) c.in-Some.frame in
     let found =
     sym (framed_entry (map.get c.index_mut.result.now.mapping.pages c.args.page) c.in-Some.frame
     c.in-Some.ensures) in
     let b = c.args.bytes.now in
-    let put = rows_put c.self.inside.frames c.self.inside.uptodate.items c.self.inside.files.items c.self.inside.dirty
-    c.self.invariant c.args.self.now c.self.view_is c.args.file c.args.page c.requires.here c.requires.cached
-    c.index_mut.result.now c.index_mut.ensures.value x found c.args.at b c.requires.room
+    let put = rows_put w x found c.args.at b c.requires.room
     (c.args.at + length b - c.args.at) c.bytes_mut.result.now c.copy_from_slice.new.self c.bytes_mut.ensures.bytes
     c.copy_from_slice.ensures.after (omega arith) c.bytes_mut.ensures.sized c.bytes_mut.ensures.within in
-    put_seen c.self.inside.frames c.self.inside.uptodate.items c.self.inside.files.items c.self.inside.dirty
-    c.self.invariant c.args.self.now c.self.view_is c.args.file c.args.page c.requires.here c.requires.cached
-    c.index_mut.result.now c.index_mut.ensures.value x found c.args.at b c.requires.room _ put c.tag.new.self
+    put_seen w x found c.args.at b c.requires.room _ put c.tag.new.self
     c.tag.ensures.tagged

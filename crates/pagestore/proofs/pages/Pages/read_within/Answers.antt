@@ -2,55 +2,63 @@ use Rattle.std.proofs.Common.{◌+◌, ◌<◌, List, Bool, ℕ, false, length, 
 use Rattle.std.specs.Prelude.{slice_index_or, slice_range}
 use Rattle.frames.specs.Table.{Table}
 use Rattle.pagestore.specs.Store.{store_of}
+use Rattle.pagestore.proofs.PagePlaces.{FilePage}
 use Rattle.pagestore.proofs.ReadFrames.{frame_bytes, frame_cached, frame_flagged, frame_taken, owned_entry, read_seen}
 use Rattle.pagestore.proofs.pages.Pages.read_within.Goals as goal
+use Rattle.pagestore.proofs.pages.Pages.read_within.Goals.{After-self}
+
+abbrev at : After-self → FilePage
+at c = record {
+  pages = c.self.inside;
+  kept = c.self.invariant;
+  store = c.args.self.now;
+  seen = c.self.view_is;
+  file = c.args.file;
+  page = c.args.page;
+  here = c.requires.here;
+}
 
 pub read_frame-requires-clause-taken : goal.read_frame-requires-clause-taken
 read_frame-requires-clause-taken c =
-    let there = owned_entry c.self.inside.frames c.self.inside.uptodate.items c.self.inside.files.items
-    c.self.inside.dirty c.self.invariant c.args.self.now c.self.view_is c.args.file c.args.page c.of-guess.result
+    let w = at (goal.at.read_frame-requires-clause-taken c).After-self in
+    let there = owned_entry w c.of-guess.result
     c.in-Some.owner c.in-Some.number c.in-Some.ensures c.if-owner-file.true c.if-number-page.true in
-    frame_taken c.self.inside.frames c.self.inside.uptodate.items c.self.inside.files.items c.self.inside.dirty
-    c.self.invariant c.args.self.now c.self.view_is c.args.file c.args.page c.requires.here c.of-guess.result there
+    frame_taken w c.of-guess.result there
 
 pub read_frame-requires-clause-flagged : goal.read_frame-requires-clause-flagged
 read_frame-requires-clause-flagged c =
-    let there = owned_entry c.self.inside.frames c.self.inside.uptodate.items c.self.inside.files.items
-    c.self.inside.dirty c.self.invariant c.args.self.now c.self.view_is c.args.file c.args.page c.of-guess.result
+    let w = at (goal.at.read_frame-requires-clause-flagged c).After-self in
+    let there = owned_entry w c.of-guess.result
     c.in-Some.owner c.in-Some.number c.in-Some.ensures c.if-owner-file.true c.if-number-page.true in
     subst (λ (u : List Bool). c.of-guess.result.0 < length u) (sym c.deref.ensures.value)
-    (frame_flagged c.self.inside.frames c.self.inside.uptodate.items c.self.inside.files.items c.self.inside.dirty
-    c.self.invariant c.args.self.now c.self.view_is c.args.file c.args.page c.requires.here c.of-guess.result there)
+    (frame_flagged w c.of-guess.result there)
 
 pub returns-clause-cached : goal.returns-clause-cached
 returns-clause-cached c =
-    let there = owned_entry c.self.inside.frames c.self.inside.uptodate.items c.self.inside.files.items
-    c.self.inside.dirty c.self.invariant c.args.self.now c.self.view_is c.args.file c.args.page c.of-guess.result
+    let w = at (goal.at.returns-clause-cached c).After-self in
+    let there = owned_entry w c.of-guess.result
     c.in-Some.owner c.in-Some.number c.in-Some.ensures c.if-owner-file.true c.if-number-page.true in
     c.read_frame.ensures.flag ∙ ap (λ (u : List Bool). slice_index_or u c.of-guess.result.0 false) c.deref.ensures.value
-    ∙ frame_cached c.self.inside.frames c.self.inside.uptodate.items c.self.inside.files.items c.self.inside.dirty
-    c.self.invariant c.args.self.now c.self.view_is c.args.file c.args.page c.requires.here c.of-guess.result there
+    ∙ frame_cached w c.of-guess.result there
 
 pub returns-clause-read : goal.returns-clause-read
 returns-clause-read c =
-    let there = owned_entry c.self.inside.frames c.self.inside.uptodate.items c.self.inside.files.items
-    c.self.inside.dirty c.self.invariant c.args.self.now c.self.view_is c.args.file c.args.page c.of-guess.result
+    let w = at (goal.at.returns-clause-read c).After-self in
+    let there = owned_entry w c.of-guess.result
     c.in-Some.owner c.in-Some.number c.in-Some.ensures c.if-owner-file.true c.if-number-page.true in
     let flag = c.read_frame.ensures.flag
     ∙ ap (λ (u : List Bool). slice_index_or u c.of-guess.result.0 false) c.deref.ensures.value in
     λ ready. c.read_frame.ensures.read ready
     ∙ ap (λ (bs : List ℕ). slice_range bs c.args.at (c.args.at + length c.args.out.now))
-    (frame_bytes c.self.inside.frames c.self.inside.uptodate.items c.self.inside.files.items c.self.inside.dirty
-    c.self.invariant c.args.self.now c.self.view_is c.args.file c.args.page c.requires.here c.of-guess.result there
+    (frame_bytes w c.of-guess.result there
     (sym flag ∙ ready))
 
 pub returns-clause-moved : goal.returns-clause-moved
 returns-clause-moved c =
-    let there = owned_entry c.self.inside.frames c.self.inside.uptodate.items c.self.inside.files.items
-    c.self.inside.dirty c.self.invariant c.args.self.now c.self.view_is c.args.file c.args.page c.of-guess.result
+    let w = at (goal.at.returns-clause-moved c).After-self in
+    let there = owned_entry w c.of-guess.result
     c.in-Some.owner c.in-Some.number c.in-Some.ensures c.if-owner-file.true c.if-number-page.true in
     λ ready. ap (λ (t : Table). store_of t c.self.inside.uptodate.items c.self.inside.files.items)
     (c.read_frame.ensures.moved ready)
-    ∙ read_seen c.self.inside.frames c.self.inside.uptodate.items c.self.inside.files.items c.self.inside.dirty
-    c.self.invariant c.args.self.now c.self.view_is c.args.file c.args.page c.requires.here c.of-guess.result there
+    ∙ read_seen w c.of-guess.result there
     c.free_count.ensures.sound

@@ -1,6 +1,6 @@
--- How many pages a file has after a write.
-use Rattle.std.proofs.Common.{◌≡◌, ℕ, ◌+◌, ◌/◌, zero, suc, true, false, cond, not, ◌&&◌, eqb, eqb-true, leb, ltb, List}
-use Rattle.std.proofs.Common.{◌∷◌, length, map, refl, ap, sym, ◌∙◌, arith}
+-- How many pages a file has after a write, and how many bytes a page.
+use Rattle.std.proofs.Common.{◌≡◌, ℕ, ◌+◌, ◌-◌, ◌*◌, ◌/◌, ◌≤◌, zero, suc, true, false, cond, not, ◌&&◌, eqb, eqb-true}
+use Rattle.std.proofs.Common.{leb, ltb, List, [], ◌∷◌, length, drop, map, refl, ap, sym, ◌∙◌, arith}
 use Rattle.std.specs.Prelude.{Some, None, is_some, count_by}
 use Rattle.std.specs.Option.{option_or}
 use Rattle.std.specs.List.{range_with_len}
@@ -9,9 +9,12 @@ use Rattle.std.specs.Cmp.{nat_cmp_total, unsigned_tied}
 use Rattle.std.specs.FinMap as finmap
 use Rattle.std.specs.FinMap.{FinMap, find, len-insert, get-from_entries, get-entries}
 use Rattle.std.proofs.lemmas.Bool.Decides.{nat_tests}
+use Rattle.std.proofs.lemmas.List.{length-take}
 use Rattle.std.proofs.lemmas.List.Sums.{sum_by-cons}
+use Rattle.pc_types.specs.Files.{pwrite}
+use Rattle.pc_types.proofs.FileLaws.{length-pwrite}
 use Rattle.machine.specs.State.{Page, touched, touched_count}
-use Rattle.machine.specs.Changes.{written_page, written_pages}
+use Rattle.machine.specs.Changes.{overlay, written_page, written_pages}
 use Rattle.maps.specs.Maps.{overwrite}
 use Rattle.maps.proofs.MapLaws.{same_nat_map, get-overwrite}
 
@@ -64,3 +67,17 @@ pub len-written_pages : (P o : ℕ) (b : List ℕ) (m : FinMap nat_cmp Page)
     (touched P o (length b))
 len-written_pages P o b m = len-over (λ p. written_page P o b p (finmap.get m p)) m (o / P)
     (touched_count P o (length b))
+
+-- ---- the bytes of a page that is written
+
+length_wrote : (f : List ℕ) (o : ℕ) (b : List ℕ) → length f ≤ length (pwrite f o b)
+length_wrote f o [] = omega arith
+length_wrote f o (x ∷ b) = omega (arith, length-pwrite f o (x ∷ b) (omega arith))
+
+pub length-overlay : (P o p : ℕ) (b bytes : List ℕ) → length bytes ≡ P → length (overlay P o b p bytes) ≡ P
+length-overlay P o p b bytes e =
+    omega (
+      arith,
+      length-take P (pwrite bytes (o - p * P) (drop (p * P - o) b)),
+      length_wrote bytes (o - p * P) (drop (p * P - o) b),
+    )
