@@ -8,7 +8,7 @@ use crate::fault::Fault;
 use crate::holds::READS;
 use crate::jobs::TURNS;
 use crate::trails::{Recorded, TrailRow};
-use crate::{holds, jobs};
+use crate::{holds, jobs, reads};
 use std::sync::Wait;
 use std::thread::Threads;
 
@@ -20,6 +20,7 @@ pub fn print_rows<W: Wait + Threads + Sync>(
 ) -> Result<(), Fault> {
     let mut sum = print_trails(rt)?.wrapping_add(print_holds(rt)?);
     sum = sum.wrapping_add(print_jobs(rt, threads)?);
+    sum = sum.wrapping_add(print_reads(rt, threads)?);
     if let Some(path) = path {
         sum = sum.wrapping_add(print_blocks(rt, path)?);
     }
@@ -50,6 +51,36 @@ fn print_jobs<W: Wait + Threads + Sync>(rt: &HostRuntime, threads: &W) -> Result
     // Each of the two threads hands on so many.
     print_row(rt, handed, 2 * TURNS, "a job handed to another thread")?;
     Ok(alone.sum.wrapping_add(handed.sum))
+}
+
+/// Prints the reads of the shared cache. Those of four threads are divided by the reads of all.
+fn print_reads<W: Wait + Threads + Sync>(rt: &HostRuntime, threads: &W) -> Result<u64, Fault> {
+    let times = reads::time_reads(rt, threads)?;
+    print_row(
+        rt,
+        times.small,
+        reads::READS,
+        "pread of 64 bytes, shared cache, one thread",
+    )?;
+    print_row(
+        rt,
+        times.small_by_four,
+        reads::READS * reads::READERS,
+        "pread of 64 bytes, shared cache, of four threads",
+    )?;
+    print_row(
+        rt,
+        times.page,
+        reads::READS,
+        "pread of 4,096 bytes, shared cache, one thread",
+    )?;
+    print_row(
+        rt,
+        times.page_by_four,
+        reads::READS * reads::READERS,
+        "pread of 4,096 bytes, shared cache, of four threads",
+    )?;
+    Ok(times.small.sum.wrapping_add(times.page.sum))
 }
 
 fn print_blocks(rt: &HostRuntime, path: &str) -> Result<u64, Fault> {

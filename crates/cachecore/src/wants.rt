@@ -2,7 +2,7 @@
 
 ghost use Rattle.std.specs.Prelude.{◌≡◌, ◌+◌, ◌-◌, ◌/◌, ◌<◌, ◌≤◌, IfNone, IfSome, length, true, false};
 ghost use Rattle.pc_types.specs.declared.limits.TheConstants.{MAX_FILE_SIZE, MAX_TOUCHED};
-ghost use Rattle.machine.specs.State.{handle_file};
+ghost use Rattle.machine.specs.State.{free_frames, handle_file};
 ghost use Rattle.cachecore.specs.Wants.{lacks_frames, may_touch, passes_limit};
 
 use crate::cache::{CacheCore, is_too_long};
@@ -26,6 +26,13 @@ impl CacheCore {
             return false;
         };
         self.pages.free_frames() < self.pages.absent_pages(file, first, end) as u64
+    }
+
+    /// How many frames are free.
+    pub fn free_frames(&self) -> u64
+        ensures { result ≡ free_frames self.now.state }
+    {
+        self.pages.free_frames()
     }
 
     /// Whether too many pages would be dirty with those that these bytes of the handle's file touch. `false` where no call may

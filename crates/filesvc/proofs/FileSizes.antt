@@ -49,7 +49,7 @@ module _ (s : State) (c : AreBounded s) where
   kept : (f : ℕ) (file : File) → file.size ≡ (file_at s f).size → (g : ℕ) → size_in (slice_set s.files f file) g ≤ MAX_FILE_SIZE
   kept f file same = one_bounded s.files c f file (subst (λ n. n ≤ MAX_FILE_SIZE) (sym same) (c f))
 
-  bounded_cases : Cases s (λ e r t. AreBounded t)
+  pub bounded_cases : Cases s (λ e r t. AreBounded t)
   bounded_cases = record {
     same = λ e r step quiet. c;
     writes_none = λ e h o is step. c;

@@ -147,7 +147,7 @@ impl<D: BlockDevice> Solo<D> {
 }
 
 /// A place that a cursor may have.
-fn within(at: u64) -> Result<u64, Refusal>
+pub(crate) fn within(at: u64) -> Result<u64, Refusal>
     ensures { result ≡ placed (pos at) }
 {
     if at > MAX_FILE_SIZE {
@@ -157,7 +157,7 @@ fn within(at: u64) -> Result<u64, Refusal>
 }
 
 /// The place that is so far after this one, or before it.
-fn moved(from: u64, by: i64) -> Result<u64, Refusal>
+pub(crate) fn moved(from: u64, by: i64) -> Result<u64, Refusal>
     ensures { result ≡ placed (pos from +ℤ by) }
 {
     let far = by.unsigned_abs();

@@ -1,7 +1,5 @@
-pub mod Answers
-pub mod Commands
-pub mod Keywords
-pub mod Passes
-pub mod Runs
-pub mod Sessions
-pub mod Telling
+pub mod Asked
+pub mod Rounds
+pub mod Told
+pub mod Faulty
+pub mod Crews

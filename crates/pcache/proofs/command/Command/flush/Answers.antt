@@ -1,8 +1,0 @@
-use Rattle.pcache.specs.declared.keyword.Keyword.TheVariants.{Flush}
-use Rattle.pcache.proofs.CommandLemmas.{asks, no_number}
-use Rattle.pcache.proofs.command.Command.flush.Goals as goal
-
-pub returns-in_err-number-clause-malformed : goal.returns-in_err-number-clause-malformed
-returns-in_err-number-clause-malformed c = λ e other a.
-    let f = asks Flush _ other a in
-    no_number c.in_err-number.ensures.none f.1

@@ -1,6 +1,0 @@
-use Rattle.std.proofs.Common.{refl}
-use Rattle.pcache.proofs.run.default_geometry.Goals as goal
-
-pub unwrap-requires : goal.unwrap-requires
-unfolding lib.Count.ones
-unwrap-requires c = c.new.ensures.within.1 refl

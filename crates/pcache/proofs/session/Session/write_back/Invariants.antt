@@ -1,8 +1,0 @@
-use Rattle.pcache.proofs.SyncLaws.{IsWriting, serials_left}
-use Rattle.pcache.proofs.session.Session.write_back.Given as goal
-
-abbrev pub invariant-writes : goal.invariant-writes
-invariant-writes l = IsWriting l.initial.self l.sync l.self
-
-abbrev pub decreases-writes : goal.decreases-writes
-decreases-writes l = serials_left l.self

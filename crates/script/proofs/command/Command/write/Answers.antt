@@ -1,0 +1,19 @@
+use Rattle.std.proofs.Common.{rules}
+use Rattle.script.specs.declared.keyword.Keyword.TheVariants.{Write}
+use Rattle.script.proofs.CommandLemmas.{asks, after_number, no_number, no_bytes}
+use Rattle.script.proofs.command.Command.write.Goals as goal
+
+pub returns-in_err-number-clause-malformed : goal.returns-in_err-number-clause-malformed
+returns-in_err-number-clause-malformed c = λ e other a.
+    let f = asks Write _ other a in
+    no_number c.in_err-number.ensures.none f.3
+
+pub returns-in_err-offset-clause-malformed : goal.returns-in_err-offset-clause-malformed
+returns-in_err-offset-clause-malformed c = λ e other a.
+    let f = asks Write _ other a in
+    no_number c.in_err-offset.ensures.none (after_number c.in_ok-number.ensures.ok f.3)
+
+pub returns-in_err-bytes-clause-malformed : goal.returns-in_err-bytes-clause-malformed
+returns-in_err-bytes-clause-malformed c = λ e other a.
+    let f = asks Write _ other a in
+    no_bytes (c.in_err-bytes.ensures.malformed (search rules)) (after_number c.in_ok-offset.ensures.ok (after_number c.in_ok-number.ensures.ok f.3))

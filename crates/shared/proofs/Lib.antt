@@ -1,0 +1,5 @@
+pub mod Making
+pub mod Sizes
+pub mod Ending
+pub mod Syncing
+pub mod Serving
