@@ -14,7 +14,8 @@ use Rattle.machine.specs.Changes.{overlay}
 use Rattle.machine.specs.Tests.{covers}
 use Rattle.machine.specs.State.{page_count, touched, touched_count}
 use Rattle.machine.proofs.changes.StateLaws.{touches}
-use Rattle.runs.proofs.bytes.PageLaws.{length-page, length-overlay}
+use Rattle.machine.proofs.changes.WriteLengths.{length-overlay}
+use Rattle.runs.proofs.bytes.PageLaws.{length-page}
 
 -- ---- page counts
 
