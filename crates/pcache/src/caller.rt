@@ -2,9 +2,9 @@
 
 ghost use Rattle.std.specs.Prelude.{◌≡◌};
 
+use crate::member::Member;
 use crate::steps::{FILES, Kind, MAX_COUNT, Step, Steps};
 use blockdev::BlockDevice;
-use held::log::Seat;
 use locked::naming::Naming;
 use pc_types::FileId;
 use shared::cache::SharedCache;
@@ -13,25 +13,6 @@ use std::alloc::{AllocError, Global};
 use std::marker::PhantomData;
 use std::sync::Wait;
 use trail::FullTrail;
-
-/// A seat of the cache that B names.
-#[derive(Drop)]
-pub struct Member<B: Naming> {
-    pub seat: Seat,
-    of: PhantomData<B>,
-    ghost seated: { seat.table ≡ B.table },
-}
-
-impl<B: Naming> Member<B> {
-    pub fn of(seat: Seat) -> Member<B>
-        requires { seat.table ≡ B.table }
-    {
-        Member {
-            seat,
-            of: PhantomData,
-        }
-    }
-}
 
 /// An open file of the cache that B names.
 #[derive(Drop)]
@@ -51,12 +32,14 @@ pub struct Caller<B: Naming> {
 
 impl<B: Naming> Caller<B> {
     /// A caller with no open file.
-    pub fn new(alloc: Global, seat: Seat, steps: Steps) -> Result<Caller<B>, AllocError>
-        requires { seat.table ≡ B.table }
-    {
+    pub fn new(
+        alloc: Global,
+        member: Member<B>,
+        steps: Steps,
+    ) -> Result<Caller<B>, AllocError> {
         Ok(Caller {
             files: Vec::with_capacity(alloc, FILES as usize)?,
-            member: Member::of(seat),
+            member,
             steps,
         })
     }

@@ -1,11 +1,11 @@
 //! The workers of a storm.
 
-ghost use Rattle.std.specs.Prelude.{◌≡◌, All, IfSome};
+ghost use Rattle.std.specs.Prelude.{IfSome};
 ghost use Rattle.shared.specs.Workers.{IsWorkerOf};
-ghost use Rattle.pcache.specs.Crews.{IsCrewOf};
+ghost use Rattle.pcache.specs.Crews.{IsCrewOf, IsSeatedAt};
 
+use crate::member::Member;
 use blockdev::{BlockDevice, Gate};
-use held::log::Seat;
 use locked::naming::Naming;
 use shared::cache::SharedCache;
 use shared::worker::Worker;
@@ -36,20 +36,18 @@ pub struct Crew {
 }
 
 impl Crew {
-    /// Workers with the last of these seats.
+    /// Workers with the seats of the last of these members.
     pub fn of<B: Naming, D: BlockDevice>(
         cache: &mut SharedCache<B, D, FullTrail>,
-        seats: &mut Vec<Seat>,
+        members: &mut Vec<Member<B>>,
     ) -> Option<Crew>
-        requires { All (λ s. s.table ≡ B.table) seats.old.items }
-        ensures crew { IfSome result (IsCrewOf cache.new.ring B.name B.table B.sizes) }
-        ensures seats { All (λ s. s.table ≡ B.table) seats.new.items }
+        ensures { IfSome result (IsCrewOf cache.new.ring B.name B.table B.sizes) }
     {
         Some(Crew {
-            flusher: cache.worker(seats.pop()?).ok()?,
-            first: cache.worker(seats.pop()?).ok()?,
-            second: cache.worker(seats.pop()?).ok()?,
-            evictor: cache.worker(seats.pop()?).ok()?,
+            flusher: cache.worker(members.pop()?.seat).ok()?,
+            first: cache.worker(members.pop()?.seat).ok()?,
+            second: cache.worker(members.pop()?.seat).ok()?,
+            evictor: cache.worker(members.pop()?.seat).ok()?,
         })
     }
 
@@ -105,11 +103,13 @@ impl Crew {
         }
     }
 
-    /// Puts the workers' seats to the others. Nothing is answered where memory is wanted.
-    pub fn hand_back(self, seats: &mut Vec<Seat>) -> Option<()> {
-        seats.push(self.flusher.into_seat()).ok()?;
-        seats.push(self.first.into_seat()).ok()?;
-        seats.push(self.second.into_seat()).ok()?;
-        seats.push(self.evictor.into_seat()).ok()
+    /// Puts the workers to the members. Nothing is answered where memory is wanted.
+    pub fn hand_back<B: Naming>(self, members: &mut Vec<Member<B>>) -> Option<()>
+        requires { IsSeatedAt B.table self }
+    {
+        members.push(Member::of(self.flusher.into_seat())).ok()?;
+        members.push(Member::of(self.first.into_seat())).ok()?;
+        members.push(Member::of(self.second.into_seat())).ok()?;
+        members.push(Member::of(self.evictor.into_seat())).ok()
     }
 }

@@ -2,7 +2,7 @@
 //! The program of the page cache. `pcache run` reads a script of cache calls and prints what each answers; `pcache storm` makes
 //! calls from many threads at once, and replays their history.
 //!
-//! `storm` runs a storm: `options` says what it is asked for, `caller` has a thread that makes calls, `steps` which calls these are,
+//! `storm` runs a storm: `options` says what it is asked for, `caller` has a thread that makes calls, `member` its seat, `steps` which calls these are,
 //! `crew` the workers, `faulty` a device some of whose calls fail, and `told` what is printed.
 
 ghost use Rattle.std.specs.Prelude.{◌≡◌, IsOkUnless};
@@ -11,6 +11,7 @@ ghost use Rattle.textline.specs.Stops.{IsStatus, status_of};
 mod caller;
 mod crew;
 mod faulty;
+mod member;
 mod options;
 mod steps;
 mod storm;

@@ -3,9 +3,10 @@
 ghost use Rattle.std.specs.Prelude.{◌≡◌, ◌≤◌};
 ghost use Rattle.pcache.specs.Told.{StormTells};
 
-use crate::caller::{Caller, Member};
+use crate::caller::Caller;
 use crate::crew::{Crew, WORKERS};
 use crate::faulty::FaultyDevice;
+use crate::member::{Member, members_of, seats_of};
 use crate::options::Options;
 use crate::steps::{FILES, Steps};
 use crate::told::{Fault, say_usage, tell};
@@ -150,14 +151,16 @@ impl<'a, R: Threads + Wait + Sync, D: BlockDevice + Send> Program<D, FullTrail> 
     fn run<B: Naming + Send + Sync>(
         self,
         mut cache: SharedCache<B, D, FullTrail>,
-        mut seats: Vec<Seat>,
+        seats: Vec<Seat>,
     ) -> Option<FullTrail> {
-        let crew = Crew::of(&mut cache, &mut seats)?;
-        create_files(self.rt, &cache, &mut seats);
-        let callers = callers_of(self.alloc, seats, self.seed)?;
-        let (crew, seats) = rage(self.rt, &cache, crew, callers, self.steps);
-        let mut seats = seats_of(self.alloc, seats?)?;
-        crew.hand_back(&mut seats)?;
+        let mut members = members_of(self.alloc, seats)?;
+        let crew = Crew::of(&mut cache, &mut members)?;
+        create_files(self.rt, &cache, &mut members);
+        let callers = callers_of(self.alloc, members, self.seed)?;
+        let (crew, members) = rage(self.rt, &cache, crew, callers, self.steps);
+        let mut members = members?;
+        crew.hand_back(&mut members)?;
+        let seats = seats_of(self.alloc, members)?;
         match cache.close(self.rt, seats) {
             Ok((trail, _, _)) => Some(trail),
             Err(_) => None,
@@ -165,15 +168,15 @@ impl<'a, R: Threads + Wait + Sync, D: BlockDevice + Send> Program<D, FullTrail> 
     }
 }
 
-/// Makes the files, by the first of these seats.
+/// Makes the files, by the seat of the first of these members.
 fn create_files<R: Wait, B: Naming, D: BlockDevice>(
     rt: &R,
     cache: &SharedCache<B, D, FullTrail>,
-    seats: &mut Vec<Seat>,
+    members: &mut Vec<Member<B>>,
 ) {
-    if let Some(seat) = seats.first_mut() {
+    if let Some(member) = members.first_mut() {
         for _ in 0..FILES {
-            let _ = cache.create(rt, seat);
+            let _ = cache.create(rt, &mut member.seat);
         }
     }
 }
@@ -202,23 +205,16 @@ fn rage<R: Threads + Wait + Sync, B: Naming + Send + Sync, D: BlockDevice + Send
     )
 }
 
-/// A caller of each of these seats.
-fn callers_of<B: Naming>(alloc: Global, seats: Vec<Seat>, seed: u64) -> Option<Vec<Caller<B>>> {
+/// A caller of each of these members.
+fn callers_of<B: Naming>(
+    alloc: Global,
+    members: Vec<Member<B>>,
+    seed: u64,
+) -> Option<Vec<Caller<B>>> {
     let mut callers = Vec::new(alloc);
-    let mut number = 0;
-    for seat in seats {
-        let caller = Caller::new(alloc, seat, Steps::new(seed, number)).ok()?;
-        callers.push(caller).ok()?;
-        number += 1;
+    for (number, member) in members.into_iter().enumerate() {
+        let steps = Steps::new(seed, number as u64);
+        callers.push(Caller::new(alloc, member, steps).ok()?).ok()?;
     }
     Some(callers)
-}
-
-/// The seats of the callers.
-fn seats_of<B: Naming>(alloc: Global, members: Vec<Member<B>>) -> Option<Vec<Seat>> {
-    let mut seats = Vec::new(alloc);
-    for member in members {
-        seats.push(member.seat).ok()?;
-    }
-    Some(seats)
 }
