@@ -1,6 +1,7 @@
 //! A trail that keeps every entry, with its bytes.
 
-ghost use Rattle.std.specs.Prelude.{◌≡◌, ◌+◌, ◌<◌, ◌≤◌, [], ◌∷◌, ◌++◌, length, Option, Some, None, IfOk, IsOkUnless, true};
+ghost use Rattle.std.specs.Prelude.{◌≡◌, ◌+◌, ◌<◌, ◌≤◌, [], ◌∷◌, ◌++◌, length, Option, Some, None, IfNone, IfOk, IfSome, IsOkUnless, slice_get, true};
+ghost use Rattle.trail.specs.Entries.{entry_with};
 ghost use Rattle.trail.specs.Full.{IsEntryAt};
 ghost use Rattle.trail.specs.Room.{fits};
 
@@ -80,6 +81,16 @@ impl FullTrail {
         ensures { result ≡ length self.now.entries }
     {
         self.lines.len() as u64
+    }
+
+    /// The entry at a place, counted from 0, and beside it its bytes, of which `Entry` keeps the number alone.
+    pub fn entry(&self, place: u64) -> Option<(&Entry, &[u8])>
+        ensures some { IfSome result (λ r. slice_get self.now.entries place ≡ Some (entry_with r.0.now r.1.now)) }
+        ensures none { IfNone result (length self.now.entries ≤ place) }
+    {
+        let line = self.lines.get(place as usize)?;
+        let bytes = &self.bytes.as_slice()[line.start..line.start + line.len];
+        Some((&line.entry, bytes))
     }
 
     /// The number of entries.

@@ -1,10 +1,10 @@
 //! The check of a history against plain files.
 
-ghost use Rattle.std.specs.Prelude.{◌↔◌, [], true, is_some, IfOk, OnOk, IsTrue, IsOkUnless, Some, None, length, ◌+◌, ◌≡◌};
+ghost use Rattle.std.specs.Prelude.{◌↔◌, [], true, is_some, IfNone, IfOk, IfSome, OnOk, IsTrue, IsOkUnless, Some, None, length, ◌+◌, ◌≡◌};
 ghost use Rattle.machine.specs.declared.event.Event.TheVariants as event;
 ghost use Rattle.runs.specs.Plain.{plain_after};
 ghost use Rattle.trail.specs.Entries.{event_with, reply_with};
-ghost use Rattle.trail.specs.Replay.{plain_of, Agrees, Replays, Answered};
+ghost use Rattle.trail.specs.Replay.{plain_of, Agrees, IsFirstOdd, Replays, Answered};
 
 use crate::full::FullTrail;
 use crate::plain::PlainFiles;
@@ -19,8 +19,22 @@ pub struct Checked(());
 /// Replays a history on plain files. It answers `Some` exactly if every successful create, open, close, size, read,
 /// write, append and truncate answers as plain files do, with its number, count, end and bytes. It is refused by
 /// `Memory` alone.
+#[tactic(auto, using(crate::proofs::ReplayLaws::no_odd))]
 pub fn replay_plain(alloc: Global, trail: &FullTrail) -> Result<Option<Checked>, Refusal>
     ensures checked { IfOk result (λ o. IsTrue (is_some o) ↔ Replays trail.now.entries) }
+    ensures refused { IsOkUnless result Refusal.Memory }
+{
+    match first_odd(alloc, trail)? {
+        None => Ok(Some(Checked(()))),
+        Some(_) => Ok(None),
+    }
+}
+
+/// The place of the first entry, counted from 0, whose answer is not that of plain files; `None` if each entry's is. It
+/// is refused by `Memory` alone.
+pub fn first_odd(alloc: Global, trail: &FullTrail) -> Result<Option<u64>, Refusal>
+    ensures odd { IfOk result (λ o. IfSome o (IsFirstOdd trail.now.entries)) }
+    ensures none { IfOk result (λ o. IfNone o (Replays trail.now.entries)) }
     ensures refused { IsOkUnless result Refusal.Memory }
 {
     let mut plain = PlainFiles::new(alloc);
@@ -28,11 +42,11 @@ pub fn replay_plain(alloc: Global, trail: &FullTrail) -> Result<Option<Checked>,
     while place < trail.lines() {
         let (event, reply, bytes) = trail.line(place);
         if !plain.replay(alloc, event, reply, bytes)? {
-            return Ok(None);
+            return Ok(Some(place as u64));
         }
         place += 1;
     }
-    Ok(Some(Checked(())))
+    Ok(None)
 }
 
 impl PlainFiles {

@@ -1,6 +1,6 @@
 //! Trails that are written by hand, and whether they replay.
 
-use crate::{Entry, FullTrail, Reserve, Trail, replay_plain};
+use crate::{Entry, FullTrail, Reserve, Trail, first_odd, replay_plain};
 use machine::{End, Event, Outcome, Reply};
 use pc_types::{Bytes, FileId, HandleId, Kind, PageIndex, Refusal, Serial};
 use std::alloc::Global;
@@ -90,12 +90,19 @@ fn written(alloc: Global, trail: &mut FullTrail, change: Change) {
     }
 }
 
-fn replays(rt: &impl Abort, alloc: Global, change: Change, answer: bool) -> Result<(), Refusal> {
+/// The changed trail disagrees at this place first.
+fn replays(
+    rt: &impl Abort,
+    alloc: Global,
+    change: Change,
+    odd: Option<u64>,
+) -> Result<(), Refusal> {
     let mut trail = FullTrail::new(alloc, 8, 8)?;
     trail.begin(7);
     written(alloc, &mut trail, change);
+    assert_eq!(rt; first_odd(alloc, &trail)?, odd);
     let checked = replay_plain(alloc, &trail)?;
-    assert_eq!(rt; checked.is_some(), answer);
+    assert_eq!(rt; checked.is_some(), odd.is_none());
     assert_eq!(rt; trail.cache(), Some(7));
     Ok(())
 }
@@ -104,9 +111,9 @@ fn replays(rt: &impl Abort, alloc: Global, change: Change, answer: bool) -> Resu
 #[test]
 fn agreeing_trails_replay(rt: HostRuntime) -> Result<(), Fail> {
     let alloc = rt.alloc();
-    assert!(&rt; replays(&rt, alloc, Change::Nothing, true).is_ok());
-    assert!(&rt; replays(&rt, alloc, Change::Miss, true).is_ok());
-    assert!(&rt; replays(&rt, alloc, Change::Fill, true).is_ok());
+    assert!(&rt; replays(&rt, alloc, Change::Nothing, None).is_ok());
+    assert!(&rt; replays(&rt, alloc, Change::Miss, None).is_ok());
+    assert!(&rt; replays(&rt, alloc, Change::Fill, None).is_ok());
     Ok(())
 }
 
@@ -114,11 +121,11 @@ fn agreeing_trails_replay(rt: HostRuntime) -> Result<(), Fail> {
 #[test]
 fn other_trails_do_not(rt: HostRuntime) -> Result<(), Fail> {
     let alloc = rt.alloc();
-    assert!(&rt; replays(&rt, alloc, Change::ReadByte, false).is_ok());
-    assert!(&rt; replays(&rt, alloc, Change::WrittenByte, false).is_ok());
-    assert!(&rt; replays(&rt, alloc, Change::Count, false).is_ok());
-    assert!(&rt; replays(&rt, alloc, Change::Number, false).is_ok());
-    assert!(&rt; replays(&rt, alloc, Change::Size, false).is_ok());
+    assert!(&rt; replays(&rt, alloc, Change::ReadByte, Some(3)).is_ok());
+    assert!(&rt; replays(&rt, alloc, Change::WrittenByte, Some(3)).is_ok());
+    assert!(&rt; replays(&rt, alloc, Change::Count, Some(2)).is_ok());
+    assert!(&rt; replays(&rt, alloc, Change::Number, Some(0)).is_ok());
+    assert!(&rt; replays(&rt, alloc, Change::Size, Some(4)).is_ok());
     Ok(())
 }
 
