@@ -9,7 +9,7 @@ use crate::faulty::FaultyDevice;
 use crate::member::{Member, members_of, seats_of};
 use crate::options::Options;
 use crate::steps::{FILES, Steps};
-use crate::told::{Fault, say_usage, tell};
+use crate::told::{Fault, Odd, say_odd, say_usage, tell};
 use blockdev::{BlockDevice, FileDevice, MemDevice};
 use held::log::Seat;
 use locked::naming::Naming;
@@ -21,7 +21,7 @@ use std::fs::{File, Files};
 use std::io::Write;
 use std::sync::Wait;
 use std::thread::{Threads, join, map_vec};
-use trail::{FullTrail, replay_plain};
+use trail::{FullTrail, first_odd};
 
 /// Bytes of a page, and how many blocks the device has.
 const PAGE: u64 = 64;
@@ -67,17 +67,25 @@ pub fn run_storm<R: Threads + Wait + Files<File = File> + Sync, W: Write, E: Wri
         None => in_memory(rt, alloc, options, weather),
         Some(path) => in_file(rt, alloc, path, options, weather),
     };
+    let replays = match &storm {
+        Ok(None) => Ok(true),
+        Ok(Some(odd)) => {
+            let _ = say_odd(err, odd);
+            Ok(false)
+        }
+        Err(fault) => Err(*fault),
+    };
     let calls = options.threads * options.steps;
-    tell(out, err, calls, weather.seed, storm)
+    tell(out, err, calls, weather.seed, replays)
 }
 
-/// A storm over memory. Answers whether its history replays.
+/// A storm over memory. Answers the entry of its history that is not plain files', if there is one.
 fn in_memory<R: Threads + Wait + Sync>(
     rt: &R,
     alloc: Global,
     options: Options<'_>,
     weather: Weather,
-) -> Result<bool, Fault>
+) -> Result<Option<Odd>, Fault>
     requires { options.threads ≤ 16 }
 {
     match MemDevice::new(alloc, PAGE, BLOCKS) {
@@ -93,7 +101,7 @@ fn in_file<R: Threads + Wait + Files<File = File> + Sync>(
     path: &str,
     options: Options<'_>,
     weather: Weather,
-) -> Result<bool, Fault>
+) -> Result<Option<Odd>, Fault>
     requires { options.threads ≤ 16 }
 {
     match FileDevice::open(rt, alloc, path, PAGE, BLOCKS) {
@@ -110,7 +118,7 @@ fn over<R: Threads + Wait + Sync, D: BlockDevice + Send>(
     device: D,
     options: Options<'_>,
     weather: Weather,
-) -> Result<bool, Fault>
+) -> Result<Option<Odd>, Fault>
     requires few { options.threads ≤ 16 }
     requires device { ((D.told device).size ≡ 64) × ((D.told device).count ≡ 256) }
 {
@@ -129,8 +137,8 @@ fn over<R: Threads + Wait + Sync, D: BlockDevice + Send>(
     let Ok(Some(trail)) = serve(rt, alloc, &geometry, 1, device, trail, seats, storm) else {
         return Err(Fault::Memory);
     };
-    match replay_plain(alloc, &trail) {
-        Ok(checked) => Ok(checked.is_some()),
+    match first_odd(alloc, &trail) {
+        Ok(odd) => Ok(odd.map(|place| Odd { trail, place })),
         Err(_) => Err(Fault::Memory),
     }
 }

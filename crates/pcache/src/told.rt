@@ -9,6 +9,7 @@ use std::fmt;
 use std::fmt::Display;
 use std::io::Write;
 use textline::{Stop, flush, print_line};
+use trail::FullTrail;
 
 /// Why there was no storm.
 #[derive(Clone, Copy, PartialEq, Eq, Debug)]
@@ -25,6 +26,25 @@ impl Display for Fault {
             Fault::Memory => f.write_str("out of memory"),
         }
     }
+}
+
+/// A history, and the place of its first entry whose answer is not that of plain files.
+#[derive(Drop)]
+pub struct Odd {
+    pub trail: FullTrail,
+    pub place: u64,
+}
+
+/// Says which entry is odd: its place, who made it, what was asked, what was answered, and the bytes beside these.
+pub fn say_odd<E: Write>(err: &mut E, odd: &Odd) -> std::io::Result<()> {
+    let Some((entry, bytes)) = odd.trail.entry(odd.place) else {
+        return Ok(());
+    };
+    writeln!(
+        err,
+        "pcache: entry {} of seat {} is not that of plain files: {:?} answered {:?}, bytes {:?}",
+        odd.place, entry.seat, entry.event, entry.reply, bytes
+    )
 }
 
 /// Says how the program is called.
