@@ -32,11 +32,7 @@ pub struct Caller<B: Naming> {
 
 impl<B: Naming> Caller<B> {
     /// A caller with no open file.
-    pub fn new(
-        alloc: Global,
-        member: Member<B>,
-        steps: Steps,
-    ) -> Result<Caller<B>, AllocError> {
+    pub fn new(alloc: Global, member: Member<B>, steps: Steps) -> Result<Caller<B>, AllocError> {
         Ok(Caller {
             files: Vec::with_capacity(alloc, FILES as usize)?,
             member,

@@ -1,6 +1,9 @@
 //! Storms, with what they print, what is said on standard error, and the status.
 
 use crate::storm::{Weather, run_storm};
+use crate::told::{Odd, say_odd};
+use machine::{Event, Reply};
+use pc_types::FileId;
 use std::alloc::Global;
 use std::fs;
 use std::fs::{File, Files};
@@ -8,6 +11,7 @@ use std::process::Abort;
 use std::sync::Wait;
 use std::test::Fail;
 use std::thread::Threads;
+use trail::{Entry, FullTrail, Trail};
 
 const USAGE: &str = "pcache: usage: pcache run | pcache storm THREADS STEPS [PATH]\n";
 
@@ -119,4 +123,27 @@ fn a_path_that_is_not_there_is_told(rt: HostRuntime) -> Result<(), Fail> {
         status: 3,
     };
     check(&rt, rt.alloc(), row)
+}
+
+/// The first file has the number 0.
+#[test]
+fn an_odd_entry_is_said(rt: HostRuntime) -> Result<(), Fail> {
+    let alloc = rt.alloc();
+    let mut trail = FullTrail::new(alloc, 1, 0)?;
+    trail.begin(1);
+    trail.append(
+        Entry {
+            seat: 3,
+            event: Event::Create,
+            reply: Reply::File(FileId(1)),
+        },
+        &[],
+    );
+    let mut message = Vec::new(alloc);
+    say_odd(&mut message, &Odd { trail, place: 0 })?;
+    assert_eq!(&rt;
+        std::str::from_utf8(message.as_slice())?,
+        "pcache: entry 0 of seat 3 is not that of plain files: Create answered File(FileId(1)), bytes []\n"
+    );
+    Ok(())
 }
