@@ -52,7 +52,16 @@ pub fn time_reads<W: Wait + Threads + Sync>(
     let geometry = Geometry::new(PAGE, PAGES + 64, PAGES + 32, 2 * PAGES)?;
     let device = MemDevice::new(alloc, PAGE, 2 * PAGES)?;
     let rows = ReadRows { rt, threads };
-    match serve(threads, alloc, &geometry, 1, device, NoTrail::new(), READERS, rows) {
+    match serve(
+        threads,
+        alloc,
+        &geometry,
+        1,
+        device,
+        NoTrail::new(),
+        READERS,
+        rows,
+    ) {
         Ok(times) => times,
         Err(_) => Err(Fault::Memory),
     }

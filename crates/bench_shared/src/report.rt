@@ -8,7 +8,7 @@ use crate::fault::Fault;
 use crate::holds::READS;
 use crate::jobs::TURNS;
 use crate::trails::{Recorded, TrailRow};
-use crate::{holds, jobs, reads};
+use crate::{holds, jobs, reads, saves};
 use std::sync::Wait;
 use std::thread::Threads;
 
@@ -23,6 +23,7 @@ pub fn print_rows<W: Wait + Threads + Sync>(
     sum = sum.wrapping_add(print_reads(rt, threads)?);
     if let Some(path) = path {
         sum = sum.wrapping_add(print_blocks(rt, path)?);
+        sum = sum.wrapping_add(print_saves(rt, path)?);
     }
     // The sum of all answers: what was timed has to be computed.
     eprintln!(rt; "bench_shared: sum of the answers {sum}")?;
@@ -92,6 +93,24 @@ fn print_blocks(rt: &HostRuntime, path: &str) -> Result<u64, Fault> {
         sum = sum.wrapping_add(timed.sum);
     }
     Ok(sum)
+}
+
+/// Prints an fsync of dirty pages, and the same writes with one sync of std, each by the page.
+fn print_saves(rt: &HostRuntime, path: &str) -> Result<u64, Fault> {
+    let (synced, plain) = saves::time_saves(rt, path)?;
+    print_row(
+        rt,
+        synced,
+        saves::PAGES,
+        "fsync of 1,000 dirty pages, FileDevice, per page",
+    )?;
+    print_row(
+        rt,
+        plain,
+        saves::PAGES,
+        "write_all_at of 1,000 pages and sync_data, per page",
+    )?;
+    Ok(synced.sum.wrapping_add(plain.sum))
 }
 
 /// Prints a read by the core alone, and as a hold.
