@@ -2,7 +2,7 @@
 use Rattle.std.proofs.Common.{◌≡◌, ℕ, ◌<◌, ◌≤◌, Bool, true, false, List, [], length, refl, ap, sym, subst, ◌∙◌, arith, inl, inr}
 use Rattle.std.proofs.lemmas.Grind.{get_or-set_at}
 use Rattle.std.proofs.lemmas.List.FromFn.{length-map-range_with_len}
-use Rattle.std.specs.Prelude.{◌⊎◌, Result, Ok, Err, Some, None, unwrap_or, nat_le, if◌then◌else◌}
+use Rattle.std.specs.Prelude.{◌⊎◌, IfOk, Result, Ok, Err, Some, None, unwrap_or, nat_le, if◌then◌else◌}
 use Rattle.std.specs.FinMap as finmap
 use Rattle.errboard.specs.Shown.{RecorderSeen}
 use Rattle.pc_types.specs.declared.limits.TheConstants.{MAX_FILES, MAX_HANDLES}
@@ -102,3 +102,10 @@ opened_by old new f append r h is none opened e = elim (few f MAX_FILES) [
   where
     few : (a b : ℕ) → (a < b) ⊎ (b ≤ a)
     few a b = grind arith
+
+-- the handle that an open answers is open
+pub opens : (old new : SoloSeen) (f : ℕ) (append : Bool) (r : Result HandleSeen Refusal)
+    → (MAX_FILES ≤ f → (r ≡ Err NoSuchFile) × IsAsBefore old new) → (f < MAX_FILES → Opened old f append r new)
+    → new.errors ≡ old.errors → IfOk r (IsOpen new)
+opens old new f append (Ok h) none opened e = opened_by old new f append (Ok h) h refl none opened e
+opens old new f append (Err why) none opened e = tt
