@@ -3,3 +3,4 @@ pub mod Kept
 pub mod Replied
 pub mod Seats
 pub mod Passing
+pub mod Receipts

@@ -114,6 +114,7 @@ impl<B: Naming, T: Trail> Locked<B, T> {
         ensures made { IfOk result (λ r. Made (event.End Flush (end_of finished)) (flush_ended (Ok r.0)) self.old self.new seat.old seat.new r.2) }
         ensures in_flight { tests self.old.core.state (event.End Flush (end_of finished)) ≡ None → IsOk result }
         ensures receipt { IfOk result (λ r. IsRecorded self.old.errors (flush_of self.old.core.state finished.serial) (Ok r.0) r.1 self.new.errors) }
+        ensures own { IfOk result (λ r. IfSome r.1 (λ receipt. receipt.board ≡ B.board)) }
         ensures back { IfOk result (λ r. EndGivesBack finished (Ok r.0)) }
         ensures denied { IfErr result (IsDenied (event.End Flush (end_of finished)) self.old self.new seat.old seat.new) }
     {

@@ -63,17 +63,6 @@ flush_told old new f (ended.Done b) None h = refl
 flush_told old new (Some f) (ended.Done b) (Some receipt) h = absurd h
 flush_told old new None (ended.Done b) (Some receipt) h = absurd h
 
--- a receipt is of the board that it was recorded on
-pub own_receipt : (old new : RecorderSeen) (f : Option ℕ) (a : Ended) (receipt : Option ReceiptSeen)
-    → IsRecorded old f (Ok a) receipt new → IfSome receipt (λ r. r.board ≡ old.board)
-own_receipt old new f a None h = tt
-own_receipt old new (Some f) (ended.Failed code b) (Some receipt) h = h.2.2.0
-own_receipt old new None (ended.Failed code b) (Some receipt) h = absurd h
-own_receipt old new (Some f) (ended.Dropped b) (Some receipt) h = absurd h
-own_receipt old new None (ended.Dropped b) (Some receipt) h = absurd h
-own_receipt old new (Some f) (ended.Done b) (Some receipt) h = absurd h
-own_receipt old new None (ended.Done b) (Some receipt) h = absurd h
-
 pub ends_on : (job : Task) (a b c : SeatSeen) (slip : Slip) (told : Bool) → Goes a b
     → Ends job b c slip told → Ends job a c slip told
 ends_on job a b c slip told p q = record {

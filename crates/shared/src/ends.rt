@@ -75,7 +75,7 @@ fn failure(name: u64, receipt: Option<Receipt>) -> Option<FailedWrite>
 }
 
 /// Ends a request, by its kind.
-#[tactic(auto, using(locked::proofs::Seats::goes_by, crate::proofs::Making::goes_denied, crate::proofs::Making::makes_by, crate::proofs::Making::denied_event, crate::proofs::Ending::fill_told, crate::proofs::Ending::flush_told, crate::proofs::Ending::own_receipt))]
+#[tactic(auto, using(locked::proofs::Seats::goes_by, crate::proofs::Making::goes_denied, crate::proofs::Making::makes_by, crate::proofs::Making::denied_event, crate::proofs::Ending::fill_told, crate::proofs::Ending::flush_told))]
 fn end<B: Naming, T: Trail>(
     state: &mut Locked<B, T>,
     seat: &mut Seat,
