@@ -34,3 +34,11 @@ returns-in-Wait-clause-again g c =
     (subst (λ (x : ReadAnswer). Made (event.Read c.args.handle c.args.offset (length c.args.out.now))
     (was_read (Ok x) c.read.new.out) c.deref_mut.result.now c.read.new.self c.args.seat.now c.read.new.seat
     c.in-Ok.made.1) c.in-Wait.is c.in-Ok.ensures.made) (goes_same c.read.new.seat c.read.new.seat refl)
+
+pub returns-in-Ok-fill-clause-again : goal.returns-in-Ok-fill-clause-again
+returns-in-Ok-fill-clause-again g c =
+    retries_by (event.Read c.args.handle c.args.offset (length c.args.out.now)) (reply.Miss c.in-Miss.page)
+    c.deref_mut.result.now c.read.new.self c.args.seat.now c.read.new.seat c.fill.new.seat c.in-Ok.made.1 tt
+    (subst (λ (x : ReadAnswer). Made (event.Read c.args.handle c.args.offset (length c.args.out.now))
+    (was_read (Ok x) c.read.new.out) c.deref_mut.result.now c.read.new.self c.args.seat.now c.read.new.seat
+    c.in-Ok.made.1) c.in-Miss.is c.in-Ok.ensures.made) c.fill.ensures.goes
