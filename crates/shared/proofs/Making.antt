@@ -26,7 +26,7 @@ use Rattle.locked.specs.Firsts.{IsFirstDenied}
 use Rattle.locked.specs.declared.denied.Denied.{Denied}
 use Rattle.locked.proofs.Seats.{goes_by, goes_same}
 use Rattle.shared.specs.Called.{IsForLater, Makes, Retries, is_for_now}
-use Rattle.shared.specs.Denials.{DeniedBy, IsDenied}
+use Rattle.shared.specs.Denials.{DeniedBy, IsDenied, IsFullIfNoSlip}
 use Rattle.shared.specs.Own.{IsCallOf, IsHelp, IsRoomEvent, IsStillDenied}
 
 -- ---- what was made
@@ -198,3 +198,19 @@ pub event_denied : {A : Type 0} (result : Result A Denied) (e : Event) (old new 
 event_denied result e old new before after q =
     IfErr-weaker result (under.IsDenied e old new before after) (IsDenied (λ x. x ≡ e) before after)
     (λ d k. denied_event e old new before after d k) q
+
+-- an event that could not be made
+pub full_by : (e : Event) (old new : HeldSeen) (before after : SeatSeen) (d : Denied)
+    → under.IsDenied e old new before after d → IsFullIfNoSlip before after d
+full_by e old new before after d q none = go d.refusal d.slip q none
+  where
+    go : (r : Refusal) (o : Option Slip) → under.DeniedBy e old new before after r o → o ≡ None
+        → (r ≡ TrailFull) × (after ≡ before)
+    go r None q none = (q.0, q.2.1)
+    go r (Some slip) q none = absurd cc
+
+pub event_full : {A : Type 0} (result : Result A Denied) (e : Event) (old new : HeldSeen) (before after : SeatSeen)
+    → IfErr result (under.IsDenied e old new before after) → IfErr result (IsFullIfNoSlip before after)
+event_full result e old new before after q =
+    IfErr-weaker result (under.IsDenied e old new before after) (IsFullIfNoSlip before after)
+    (λ d k. full_by e old new before after d k) q

@@ -1,6 +1,7 @@
 -- How far reads and writes go: no file is longer than the limit.
-use Rattle.std.proofs.Common.{◌≡◌, ℕ, ◌+◌, ◌≤◌, List, [], ◌∷◌, length, sym, subst, ap, ◌∙◌, arith}
+use Rattle.std.proofs.Common.{◌≡◌, ℕ, ◌+◌, ◌≤◌, List, [], ◌∷◌, length, take, sym, subst, ap, ◌∙◌, arith}
 use Rattle.std.specs.Prelude.{Ok, map}
+use Rattle.std.proofs.lemmas.List.{length-take-le}
 use Rattle.cachecore.specs.Replies.{wrote}
 use Rattle.cachecore.specs.declared.answers.WriteAnswer.{WriteAnswer}
 use Rattle.cachecore.specs.declared.answers.WriteAnswer.TheVariants as answer
@@ -42,6 +43,14 @@ pub read_within : (h : HandleId) (o n : ℕ) (bytes : List ℕ) (old new : HeldS
     → o + length bytes ≤ MAX_FILE_SIZE
 read_within h o n bytes old new before after slip legal m =
     read_small old.core.state new.core.state h o n bytes (bounded_after old legal) m.step
+
+pub read_counted : (h : HandleId) (o n count : ℕ) (out : List ℕ) (old new : HeldSeen) (before after : SeatSeen) (slip : Slip)
+    → count ≤ length out → After old.core.state.sizes old.core.state.name old.log.history old.core.state
+    → Made (event.Read h o n) (reply.Bytes (take count out)) old new before after slip → o ≤ MAX_FILE_SIZE
+    → o + count ≤ MAX_FILE_SIZE
+read_counted h o n count out old new before after slip within legal m small =
+    subst (λ k. o + k ≤ MAX_FILE_SIZE) (length-take-le count out within)
+    (read_within h o n (take count out) old new before after slip legal m small)
 
 pub whole_write : (h : HandleId) (at : ℕ) (bytes : List ℕ) (a : WriteAnswer) (old new : HeldSeen) (before after : SeatSeen)
     (slip : Slip) → Made (event.Write h at bytes) (wrote (Ok a)) old new before after slip

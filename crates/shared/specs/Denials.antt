@@ -25,3 +25,7 @@ DeniedBy own before after refusal (Some slip) =
 
 abbrev pub IsDenied : (Event → Type 0) → SeatSeen → SeatSeen → Denied → Type 0
 IsDenied own before after d = DeniedBy own before after d.refusal d.slip
+
+-- one without a slip is that of a full trail, and leaves the seat: no event was made, and no memory is asked for outside one
+abbrev pub IsFullIfNoSlip : SeatSeen → SeatSeen → Denied → Type 0
+IsFullIfNoSlip before after d = d.slip ≡ None → (d.refusal ≡ TrailFull) × (after ≡ before)

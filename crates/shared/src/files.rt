@@ -7,7 +7,7 @@ ghost use Rattle.machine.specs.declared.event.Reply.TheVariants as reply;
 ghost use Rattle.pc_types.specs.declared.refusal.Refusal.TheVariants.{BadHandle, Stranger};
 ghost use Rattle.locked.specs.Called.{Goes};
 ghost use Rattle.shared.specs.Called.{Makes};
-ghost use Rattle.shared.specs.Denials.{IsDenied};
+ghost use Rattle.shared.specs.Denials.{IsDenied, IsFullIfNoSlip};
 ghost use Rattle.shared.specs.Own.{admitted};
 ghost use Rattle.shared.specs.Polls.{Polled};
 
@@ -24,13 +24,14 @@ use trail::Trail;
 
 impl<B: Naming, D: BlockDevice, T: Trail> SharedCache<B, D, T> {
     /// Makes a new file.
-    #[tactic(auto, using(locked::proofs::Seats::goes_by, locked::proofs::Seats::goes_on, locked::proofs::Seats::goes_same, crate::proofs::Making::goes_denied, crate::proofs::Making::makes_by, crate::proofs::Making::denied_event))]
+    #[tactic(auto, using(locked::proofs::Seats::goes_by, locked::proofs::Seats::goes_on, locked::proofs::Seats::goes_same, crate::proofs::Making::goes_denied, crate::proofs::Making::makes_by, crate::proofs::Making::denied_event, crate::proofs::Making::full_by))]
     pub fn create<R: Wait>(&self, rt: &R, seat: &mut Seat) -> Result<(FileId, Slip), Denied>
         requires seat { seat.old.name ≡ self.now.name → seat.old.table ≡ B.table }
         ensures foreign { seat.old.name ≢ self.now.name → (result ≡ Err (record { refusal = Stranger; slip = None })) × (seat.new ≡ seat.old) }
         ensures goes { Goes seat.old seat.new }
         ensures answer { IfOk result (λ r. Makes seat.old seat.new r.1 event.Create (reply.File r.0)) }
         ensures denied { seat.old.name ≡ self.now.name → IfErr result (IsDenied (λ e. e ≡ event.Create) seat.old seat.new) }
+        ensures full { seat.old.name ≡ self.now.name → IfErr result (IsFullIfNoSlip seat.old seat.new) }
     {
         if seat.name() != self.name {
             return Err(without_slip(Refusal::Stranger));
@@ -39,7 +40,7 @@ impl<B: Naming, D: BlockDevice, T: Trail> SharedCache<B, D, T> {
     }
 
     /// Opens a file. The handle's cursor is at the beginning; with `append` its writes go to the end of the file.
-    #[tactic(auto, using(locked::proofs::Seats::goes_by, locked::proofs::Seats::goes_on, locked::proofs::Seats::goes_same, crate::proofs::Making::goes_denied, crate::proofs::Making::makes_by, crate::proofs::Making::denied_event))]
+    #[tactic(auto, using(locked::proofs::Seats::goes_by, locked::proofs::Seats::goes_on, locked::proofs::Seats::goes_same, crate::proofs::Making::goes_denied, crate::proofs::Making::makes_by, crate::proofs::Making::denied_event, crate::proofs::Making::full_by))]
     pub fn open<R: Wait>(
         &self,
         rt: &R,
@@ -54,6 +55,7 @@ impl<B: Naming, D: BlockDevice, T: Trail> SharedCache<B, D, T> {
         ensures handle { IfOk result (λ r. (r.0.cache ≡ self.now.name) × (r.0.file ≡ file) × (r.0.pass.board ≡ B.board)) }
         ensures begins { IfOk result (λ r. (r.0.cursor ≡ 0) × (r.0.append ≡ append)) }
         ensures denied { seat.old.name ≡ self.now.name → IfErr result (IsDenied (λ e. e ≡ event.Open file) seat.old seat.new) }
+        ensures full { seat.old.name ≡ self.now.name → IfErr result (IsFullIfNoSlip seat.old seat.new) }
     {
         if seat.name() != self.name {
             return Err(without_slip(Refusal::Stranger));
@@ -74,7 +76,7 @@ impl<B: Naming, D: BlockDevice, T: Trail> SharedCache<B, D, T> {
     }
 
     /// Closes a handle. It comes back where that is refused, as by `Busy` while a sync by it is in progress.
-    #[tactic(auto, using(locked::proofs::Seats::goes_by, locked::proofs::Seats::goes_on, locked::proofs::Seats::goes_same, crate::proofs::Making::goes_denied, crate::proofs::Making::makes_by, crate::proofs::Making::denied_event))]
+    #[tactic(auto, using(locked::proofs::Seats::goes_by, locked::proofs::Seats::goes_on, locked::proofs::Seats::goes_same, crate::proofs::Making::goes_denied, crate::proofs::Making::makes_by, crate::proofs::Making::denied_event, crate::proofs::Making::full_by))]
     pub fn close_handle<R: Wait>(
         &self,
         rt: &R,
@@ -88,6 +90,7 @@ impl<B: Naming, D: BlockDevice, T: Trail> SharedCache<B, D, T> {
         ensures goes { Goes seat.old seat.new }
         ensures answer { IfOk result (λ slip. Makes seat.old seat.new slip (event.Close handle.number) reply.Closed) }
         ensures denied { seat.old.name ≡ self.now.name → handle.cache ≡ self.now.name → IfErr result (λ d. IsDenied (λ e. e ≡ event.Close handle.number) seat.old seat.new d.0) }
+        ensures full { seat.old.name ≡ self.now.name → handle.cache ≡ self.now.name → IfErr result (λ d. IsFullIfNoSlip seat.old seat.new d.0) }
         ensures back { IfErr result (λ d. d.1 ≡ handle) }
     {
         if let Err(refusal) = self.admits(seat, &handle) {
@@ -104,7 +107,7 @@ impl<B: Naming, D: BlockDevice, T: Trail> SharedCache<B, D, T> {
     }
 
     /// The size of the handle's file, in bytes.
-    #[tactic(auto, using(locked::proofs::Seats::goes_by, locked::proofs::Seats::goes_on, locked::proofs::Seats::goes_same, crate::proofs::Making::goes_denied, crate::proofs::Making::makes_by, crate::proofs::Making::denied_event))]
+    #[tactic(auto, using(locked::proofs::Seats::goes_by, locked::proofs::Seats::goes_on, locked::proofs::Seats::goes_same, crate::proofs::Making::goes_denied, crate::proofs::Making::makes_by, crate::proofs::Making::denied_event, crate::proofs::Making::full_by))]
     pub fn size<R: Wait>(
         &self,
         rt: &R,
@@ -117,6 +120,7 @@ impl<B: Naming, D: BlockDevice, T: Trail> SharedCache<B, D, T> {
         ensures goes { Goes seat.old seat.new }
         ensures answer { IfOk result (λ r. Makes seat.old seat.new r.1 (event.Size handle.now.number) (reply.Size r.0)) }
         ensures denied { seat.old.name ≡ self.now.name → handle.now.cache ≡ self.now.name → IfErr result (IsDenied (λ e. e ≡ event.Size handle.now.number) seat.old seat.new) }
+        ensures full { seat.old.name ≡ self.now.name → handle.now.cache ≡ self.now.name → IfErr result (IsFullIfNoSlip seat.old seat.new) }
     {
         if let Err(refusal) = self.admits(seat, handle) {
             return Err(without_slip(refusal));

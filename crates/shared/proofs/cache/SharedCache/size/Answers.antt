@@ -4,7 +4,7 @@ use Rattle.machine.specs.declared.event.Event.TheVariants as event
 use Rattle.pc_types.specs.declared.ids.HandleId.{HandleId}
 use Rattle.shared.specs.Denials.{IsDenied}
 use Rattle.shared.specs.Seen.{HandleSeen}
-use Rattle.shared.proofs.Making.{event_denied}
+use Rattle.shared.proofs.Making.{event_denied, event_full}
 use Rattle.shared.proofs.cache.SharedCache.size.Goals as goal
 
 pub returns-clause-denied : goal.returns-clause-denied
@@ -13,3 +13,8 @@ returns-clause-denied g c own here =
     (ap (λ (h : HandleSeen). h.number) c.handle.view_is)
     (event_denied c.size.result (event.Size c.handle.inside.number) c.deref_mut.result.now c.size.new.self
     c.args.seat.now c.size.new.seat c.size.ensures.denied)
+
+pub returns-clause-full : goal.returns-clause-full
+returns-clause-full g c own here =
+    event_full c.size.result (event.Size c.handle.inside.number) c.deref_mut.result.now c.size.new.self
+    c.args.seat.now c.size.new.seat c.size.ensures.denied

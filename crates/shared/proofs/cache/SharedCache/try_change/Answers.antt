@@ -54,3 +54,12 @@ returns-in-Wait-clause-again g c =
     (subst (λ (x : WriteAnswer). Made (event_of c.args.change c.args.handle c.args.bytes.now) (reply_of c.args.change x)
     c.deref_mut.result.now c.change_by.new.state c.args.seat.now c.change_by.new.seat c.in-Ok.made.1) c.in-Wait.is
     c.in-Ok.ensures.made) (goes_same c.change_by.new.seat c.change_by.new.seat refl)
+
+pub returns-in-Ok-fill-clause-again : goal.returns-in-Ok-fill-clause-again
+returns-in-Ok-fill-clause-again g c =
+    retries_by (event_of c.args.change c.args.handle c.args.bytes.now) (reply.Miss c.in-Miss.page)
+    c.deref_mut.result.now c.change_by.new.state c.args.seat.now c.change_by.new.seat c.fill.new.seat
+    c.in-Ok.made.1 tt
+    (subst (λ (x : WriteAnswer). Made (event_of c.args.change c.args.handle c.args.bytes.now) (reply_of c.args.change x)
+    c.deref_mut.result.now c.change_by.new.state c.args.seat.now c.change_by.new.seat c.in-Ok.made.1) c.in-Miss.is
+    c.in-Ok.ensures.made) c.fill.ensures.goes
