@@ -40,6 +40,13 @@ impl<D: BlockDevice> Watched<D> {
         }
     }
 
+    /// The device, without the note.
+    pub fn into_device(self) -> D
+        ensures { D.told result ≡ self.device }
+    {
+        self.device
+    }
+
     /// Makes the job's device call. A write is noted, since one that fails may have taken effect.
     pub fn perform(&mut self, job: Job) -> Finished
         requires exists { job.block < self.old.device.count }

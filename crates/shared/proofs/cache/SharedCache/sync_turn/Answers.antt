@@ -13,6 +13,6 @@ returns-in-Err-wait_or-clause-goes g c = goes_denied (event.SyncStep c.args.sync
 
 pub returns-in-Err-wait_or-clause-denied : goal.returns-in-Err-wait_or-clause-denied
 returns-in-Err-wait_or-clause-denied g c =
-    subst (IsDenied (IsTurnOf c.args.sync) c.args.seat.now c.sync_step.new.seat) (sym c.in-Err-wait_or.ensures)
+    subst (IsDenied (IsTurnOf c.args.sync) c.args.seat.now c.sync_step.new.seat) (sym c.in-Err-wait_or.ensures.denied)
     (denied_step c.args.sync c.deref_mut.result.now c.sync_step.new.self c.args.seat.now c.sync_step.new.seat
     c.in-Err-sync_step.denied c.in-Err-sync_step.ensures.denied)
