@@ -3,3 +3,4 @@ pub mod Sizes
 pub mod Ending
 pub mod Syncing
 pub mod Serving
+pub mod Seating

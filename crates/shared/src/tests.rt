@@ -2,6 +2,7 @@
 //! program, since the check is slow where a cache is dropped. The rows with two threads are those of `thread_tests`.
 
 ghost use Rattle.std.specs.Prelude.{◌≡◌, All, IfSome};
+ghost use Rattle.held.specs.Shown.{AreFresh};
 
 use crate::cache::SharedCache;
 use crate::handle::Handle;
@@ -21,6 +22,9 @@ use std::sync::Wait;
 use std::test::Fail;
 use std::thread::Threads;
 use trail::FullTrail;
+
+/// A device behind the turnstile.
+type Gated<'a> = GatedDevice<ScriptDevice, Entrance<'a>>;
 
 pub(crate) type Tested<B, D> = SharedCache<B, D, FullTrail>;
 
@@ -45,10 +49,14 @@ struct Rows<'a, R> {
     row: Row,
 }
 
-impl<'a, R: Threads + Wait + Sync, D: BlockDevice + Send> Program<D, FullTrail> for Rows<'a, R> {
+impl<'a, R: Threads + Wait + Sync> Program<Gated<'a>, FullTrail> for Rows<'a, R> {
     type Out = bool;
 
-    fn run<B: Naming + Send + Sync>(self, cache: Tested<B, D>, mut seats: Vec<Seat>) -> bool {
+    #[tactic(auto, using(crate::proofs::Seating::fresh_seated))]
+    fn run<B: Naming + Send + Sync>(self, cache: Tested<B, Gated<'a>>, mut seats: Vec<Seat>) -> bool
+        requires named { cache.name ≡ B.name }
+        requires seats { AreFresh B.table B.name seats.items }
+    {
         if let Row::Closes = self.row {
             return closes(self.rt, cache, seats);
         }
@@ -250,7 +258,7 @@ fn over_a_cache<R: Threads + Wait + Sync>(
     }
     let turnstile = Turnstile::new();
     let turnstile = &turnstile;
-    let device = GatedDevice::new(script, Entrance { rt, turnstile });
+    let device = GatedDevice::new(script, Entrance { turnstile });
     let rows = Rows { rt, turnstile, row };
     match serve(rt, alloc, &geometry, 7, device, trail, 2, rows) {
         Ok(is_right) => Ok(is_right),

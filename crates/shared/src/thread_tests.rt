@@ -7,8 +7,8 @@ use crate::tests::Tested;
 use blockdev::{BlockDevice, Gate};
 use held::log::Seat;
 use locked::naming::Naming;
-use std::sync::atomic::{AtomicBool, Ordering};
-use std::sync::{Barrier, Wait};
+use std::sync::Wait;
+use std::sync::atomic::{AtomicU64, Ordering};
 use std::thread;
 use std::thread::Threads;
 
@@ -17,38 +17,58 @@ const ROUNDS: u64 = 100;
 /// More pages than there are frames.
 const PAGES: u8 = 52;
 
-/// Where a device call and a thread meet.
+/// It lets every call through.
+const OPEN: u64 = 0;
+
+/// It holds the next call.
+const SHUT: u64 = 1;
+
+/// A call stands before it.
+const HOLDS: u64 = 2;
+
+/// Where a device call waits till a thread lets it go on.
 #[derive(Drop)]
 pub(crate) struct Turnstile {
-    is_shut: AtomicBool,
-    meeting: Barrier,
+    stage: AtomicU64,
 }
 
 impl Turnstile {
     pub(crate) fn new() -> Turnstile {
         Turnstile {
-            is_shut: AtomicBool::new(false),
-            meeting: Barrier::new(2),
+            stage: AtomicU64::new(OPEN),
+        }
+    }
+
+    fn set(&self, stage: u64) {
+        self.stage.store(stage, Ordering::SeqCst);
+    }
+
+    /// Waits till it is at this stage.
+    fn wait_till(&self, stage: u64) {
+        for _ in 0..u64::MAX {
+            if self.stage.load(Ordering::SeqCst) == stage {
+                return;
+            }
+            thread::yield_now();
         }
     }
 }
 
-/// The turnstile before a device. Once it is shut, the next call waits till a thread has met it twice.
+/// The turnstile before a device.
 #[derive(Drop)]
-pub(crate) struct Entrance<'a, R: Wait> {
-    pub(crate) rt: &'a R,
+pub(crate) struct Entrance<'a> {
     pub(crate) turnstile: &'a Turnstile,
 }
 
-impl<'a, R: Wait> Gate for Entrance<'a, R> {
+impl<'a> Gate for Entrance<'a> {
     ghost use Rattle.std.specs.Prelude.{⊤};
 
     ghost passed = { λ _ _. ⊤ };
 
     fn enter(&self, _number: u64) {
-        if self.turnstile.is_shut.swap(false, Ordering::SeqCst) {
-            self.turnstile.meeting.wait(self.rt);
-            self.turnstile.meeting.wait(self.rt);
+        if self.turnstile.stage.load(Ordering::SeqCst) == SHUT {
+            self.turnstile.set(HOLDS);
+            self.turnstile.wait_till(OPEN);
         }
     }
 }
@@ -104,7 +124,7 @@ pub(crate) fn reads_beside_a_fill<
     if !overfills(rt, cache, &mut first, handle) {
         return false;
     }
-    turnstile.is_shut.store(true, Ordering::SeqCst);
+    turnstile.set(SHUT);
     let (is_filled, is_read) = thread::join(
         rt,
         move ||
@@ -145,9 +165,9 @@ fn reads_meanwhile<B: Naming, D: BlockDevice, R: Wait>(
 ) -> bool
     requires { seat.table ≡ B.table }
 {
-    turnstile.meeting.wait(rt);
+    turnstile.wait_till(HOLDS);
     let is_read = reads_once(rt, cache, seat, handle, PAGES - 1);
-    turnstile.meeting.wait(rt);
+    turnstile.set(OPEN);
     is_read
 }
 
