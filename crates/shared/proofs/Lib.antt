@@ -4,3 +4,4 @@ pub mod Ending
 pub mod Syncing
 pub mod Serving
 pub mod Closing
+pub mod Seating
