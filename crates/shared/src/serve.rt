@@ -102,7 +102,7 @@ pub fn serve<R: Wait, D: BlockDevice, T: Trail, P: Program<D, T>>(
 }
 
 /// The ring of a cache that so many may share.
-fn ring_for<R: Wait>(
+pub(crate) fn ring_for<R: Wait>(
     rt: &R,
     alloc: Global,
     name: u64,

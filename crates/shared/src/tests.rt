@@ -1,12 +1,15 @@
 //! Worked calls on a shared cache of name 7, with 16-byte pages, 48 frames, a dirty limit of 16 and 64 blocks. Every row is run by one
-//! program, since the check is slow where a cache is dropped. The rows with two threads are those of `thread_tests`.
+//! function, since the check is slow where a cache is dropped. The rows with two threads are those of `thread_tests`.
 
 ghost use Rattle.std.specs.Prelude.{◌≡◌, All, IfSome};
+ghost use Rattle.std.specs.FinMap as map;
 ghost use Rattle.held.specs.Shown.{AreFresh};
+ghost use Rattle.locked.specs.Keeps.{IsLocked};
+ghost use Rattle.shared.specs.Keeps.{IsDisk};
+ghost use Rattle.shared.specs.Workers.{IsWorkerOf};
 
-use crate::cache::SharedCache;
+use crate::cache::{Parts, SharedCache};
 use crate::handle::Handle;
-use crate::serve::{Program, serve};
 use crate::thread_tests::{
     Entrance, Turnstile, is_seen_by_all, reads_beside_a_fill, reads_page, shares_a_file,
     writes_page,
@@ -17,7 +20,7 @@ use locked::denied::Denied;
 use locked::naming::Naming;
 use pc_types::{ErrCode, Geometry, Refusal};
 use std::alloc::Global;
-use std::process::Abort;
+use std::marker::Brand;
 use std::sync::Wait;
 use std::test::Fail;
 use std::thread::Threads;
@@ -41,30 +44,33 @@ enum Row {
     TellsOfALostFlush,
 }
 
-/// Runs a row. Its device calls pass the turnstile.
-#[derive(Drop)]
-struct Rows<'a, R> {
-    rt: &'a R,
-    turnstile: &'a Turnstile,
+/// Makes a cache of the parts and runs the row over it.
+#[tactic(auto, using(crate::proofs::Seating::fresh_seated))]
+fn runs_over<B: Naming + Send + Sync, D: BlockDevice + Send, R: Threads + Wait + Sync>(
+    rt: &R,
+    alloc: Global,
+    parts: Parts<D, FullTrail>,
+    mut seats: Vec<Seat>,
+    turnstile: &Turnstile,
     row: Row,
-}
-
-impl<'a, R: Threads + Wait + Sync> Program<Gated<'a>, FullTrail> for Rows<'a, R> {
-    type Out = bool;
-
-    #[tactic(auto, using(crate::proofs::Seating::fresh_seated))]
-    fn run<B: Naming + Send + Sync>(self, cache: Tested<B, Gated<'a>>, mut seats: Vec<Seat>) -> bool
-        requires named { cache.name ≡ B.name }
-        requires seats { AreFresh B.table B.name seats.items }
-    {
-        if let Row::Closes = self.row {
-            return closes(self.rt, cache, seats);
-        }
-        let (Some(second), Some(first)) = (seats.pop(), seats.pop()) else {
-            return false;
-        };
-        runs(self.rt, &cache, self.turnstile, first, second, self.row)
+) -> bool
+    requires named { parts.name ≡ B.name }
+    requires sized { parts.geometry ≡ B.sizes }
+    requires board { parts.board ≡ B.board }
+    requires state { IsLocked B.name B.table B.board B.sizes parts.held }
+    requires idle { map.len parts.held.core.state.requests ≡ 0 }
+    requires own { IsWorkerOf parts.ring B.name B.table B.sizes parts.own }
+    requires device { IsDisk B.sizes (D.told parts.device) }
+    requires seats { AreFresh B.table B.name seats.items }
+{
+    let cache = SharedCache::<B, D, FullTrail>::of(alloc, parts);
+    if let Row::Closes = row {
+        return closes(rt, cache, seats);
     }
+    let (Some(second), Some(first)) = (seats.pop(), seats.pop()) else {
+        return false;
+    };
+    runs(rt, &cache, turnstile, first, second, row)
 }
 
 /// Makes a file, opens it and runs the row.
@@ -259,10 +265,11 @@ fn over_a_cache<R: Threads + Wait + Sync>(
     let turnstile = Turnstile::new();
     let turnstile = &turnstile;
     let device = GatedDevice::new(script, Entrance { turnstile });
-    let rows = Rows { rt, turnstile, row };
-    match serve(rt, alloc, &geometry, 7, device, trail, 2, rows) {
-        Ok(is_right) => Ok(is_right),
-        Err(unserved) => Err(unserved.refusal),
+    match Parts::make(rt, alloc, &geometry, 7, device, trail, 2) {
+        Ok((parts, seats)) => {
+            Ok(runs_over::<Brand, Gated<'_>, R>(rt, alloc, parts, seats, turnstile, row))
+        }
+        Err(unmade) => Err(unmade.refusal),
     }
 }
 

@@ -1,0 +1,83 @@
+//! The parts of a cache, made at once.
+
+ghost use Rattle.std.specs.FinMap as map;
+ghost use Rattle.std.specs.Prelude.{◌≡◌, ◌&&◌, IfErr, IfOk, if◌then◌else◌, nat_le, nat_lt, vec_len};
+ghost use Rattle.held.specs.Shown.{AreFresh};
+ghost use Rattle.pc_types.specs.declared.refusal.Refusal.TheVariants.{BadConfig, Memory};
+ghost use Rattle.locked.specs.Keeps.{IsLocked};
+ghost use Rattle.shared.specs.Keeps.{IsDisk};
+ghost use Rattle.shared.specs.Workers.{IsWorkerOf};
+
+use crate::cache::Parts;
+use crate::serve::ring_for;
+use crate::worker::Worker;
+use blockdev::BlockDevice;
+use held::log::Seat;
+use held::state::Held;
+use pc_types::{Geometry, Refusal};
+use std::alloc::Global;
+use std::sync::Wait;
+use trail::Trail;
+
+/// What was to be among the parts of a cache that were not made.
+#[derive(Drop)]
+pub struct Unmade<D, T> {
+    pub refusal: Refusal,
+    pub device: D,
+    pub trail: T,
+}
+
+impl<D: BlockDevice, T: Trail> Parts<D, T> {
+    /// The parts of a cache of this name over the device, without files, and so many seats. A program that starts threads gives them to
+    /// a function of its own, at `Brand`, which makes the cache by `SharedCache::of`.
+    #[tactic(auto, using(crate::proofs::Serving::idle_first))]
+    pub fn make<R: Wait>(
+        rt: &R,
+        alloc: Global,
+        geometry: &Geometry,
+        name: u64,
+        device: D,
+        trail: T,
+        seat_count: u64,
+    ) -> Result<(Parts<D, T>, Vec<Seat>), Unmade<D, T>>
+        requires { IsDisk geometry.now (D.told device) }
+        ensures named { IfOk result (λ r. (r.0.name ≡ name) × (r.0.geometry ≡ geometry.now)) }
+        ensures state { IfOk result (λ r. IsLocked r.0.name r.0.held.log.table r.0.board r.0.geometry r.0.held) }
+        ensures idle { IfOk result (λ r. map.len r.0.held.core.state.requests ≡ 0) }
+        ensures own { IfOk result (λ r. IsWorkerOf r.0.ring r.0.name r.0.held.log.table r.0.geometry r.0.own) }
+        ensures device { IfOk result (λ r. r.0.device ≡ device) }
+        ensures seats { IfOk result (λ r. (vec_len r.1 ≡ seat_count) × AreFresh r.0.held.log.table r.0.name r.1.items) }
+        ensures refused { IfErr result (λ e. e.refusal ≡ (if nat_lt 0 seat_count && nat_le seat_count 64 then Memory else BadConfig)) }
+        ensures back { IfErr result (λ e. (e.device ≡ device) × (e.trail ≡ trail)) }
+    {
+        let (ring, pass) = match ring_for(rt, alloc, name, geometry, seat_count) {
+            Ok(made) => made,
+            Err(refusal) => {
+                return Err(Unmade {
+                    refusal,
+                    device,
+                    trail,
+                });
+            }
+        };
+        match Held::new(alloc, geometry, name, trail, seat_count) {
+            Ok((held, board, seats, own)) => {
+                let parts = Parts {
+                    name,
+                    geometry: *geometry,
+                    held,
+                    board,
+                    ring,
+                    own: Worker::new(own, pass),
+                    device,
+                };
+                Ok((parts, seats))
+            }
+            Err((refusal, trail)) => Err(Unmade {
+                refusal,
+                device,
+                trail,
+            }),
+        }
+    }
+}
