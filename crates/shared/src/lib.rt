@@ -1,11 +1,10 @@
 #![tactic(auto)]
 //! Files for many threads: one cache, whose state lies under one lock and its device under another. No call holds both.
 //!
-//! `cache` has the cache, `parts` what it is made of, `serve` makes one for a program and hands it on, and `close` takes it apart. `handle` is an open file, `files`
-//! has the calls on files and handles, `reads`, `writes` and `seek` those on bytes and the cursor, `fsync` syncs, and `room` what these
-//! do on the way. `worker` is who works beside the callers: `turns` has what one does in a turn, `workers` its loop, `evictor` has the
-//! one that frees frames, `ends` the end of a
-//! job, and `signal` what wakes one. `disk` is the device under its lock.
+//! `cache` has the cache, `parts` makes what it is made of, and `close` takes it apart. `handle` is an open file, `files` has the calls
+//! on files and handles, `reads`, `writes` and `seek` those on bytes and the cursor, `fsync` syncs, and `room` what these do on the way.
+//! `worker` is who works beside the callers: `turns` has what one does in a turn, `workers` its loop, `evictor` the one that frees
+//! frames, `ends` the end of a job, and `signal` what wakes one. `disk` is the device under its lock.
 
 pub mod cache;
 mod close;
@@ -19,7 +18,6 @@ pub mod parts;
 mod reads;
 mod room;
 mod seek;
-pub mod serve;
 mod signal;
 #[cfg(test)]
 mod tests;

@@ -1,23 +1,27 @@
 //! The parts of a cache, made at once.
 
 ghost use Rattle.std.specs.FinMap as map;
-ghost use Rattle.std.specs.Prelude.{◌≡◌, ◌&&◌, IfErr, IfOk, if◌then◌else◌, nat_le, nat_lt, vec_len};
+ghost use Rattle.std.specs.Prelude.{◌≡◌, ◌+◌, ◌<◌, ◌≤◌, ◌&&◌, IfErr, IfOk, OnOk, if◌then◌else◌, nat_le, nat_lt, vec_len};
 ghost use Rattle.held.specs.Shown.{AreFresh};
 ghost use Rattle.pc_types.specs.declared.refusal.Refusal.TheVariants.{BadConfig, Memory};
+ghost use Rattle.ring.specs.Serving.{Carries, Serves};
 ghost use Rattle.locked.specs.Keeps.{IsLocked};
 ghost use Rattle.shared.specs.Keeps.{IsDisk};
 ghost use Rattle.shared.specs.Workers.{IsWorkerOf};
 
 use crate::cache::Parts;
-use crate::serve::ring_for;
 use crate::worker::Worker;
 use blockdev::BlockDevice;
 use held::log::Seat;
 use held::state::Held;
 use pc_types::{Geometry, Refusal};
+use ring::{Ring, RingPass};
 use std::alloc::Global;
 use std::sync::Wait;
 use trail::Trail;
+
+/// The most seats of callers and workers.
+pub const MAX_SEATS: u64 = 64;
 
 /// What was to be among the parts of a cache that were not made.
 #[derive(Drop)]
@@ -42,7 +46,8 @@ impl<D: BlockDevice, T: Trail> Parts<D, T> {
     ) -> Result<(Parts<D, T>, Vec<Seat>), Unmade<D, T>>
         requires { IsDisk geometry.now (D.told device) }
         ensures named { IfOk result (λ r. (r.0.name ≡ name) × (r.0.geometry ≡ geometry.now)) }
-        ensures state { IfOk result (λ r. IsLocked r.0.name r.0.held.log.table r.0.board r.0.geometry r.0.held) }
+        ensures few { OnOk result ((0 < seat_count) × (seat_count ≤ 64)) }
+        ensures state { IfOk result (λ r. IsLocked r.0.name r.0.held.log.table r.0.board r.0.geometry (vec_len r.1 + 1) r.0.held) }
         ensures idle { IfOk result (λ r. map.len r.0.held.core.state.requests ≡ 0) }
         ensures own { IfOk result (λ r. IsWorkerOf r.0.ring r.0.name r.0.held.log.table r.0.geometry r.0.own) }
         ensures device { IfOk result (λ r. r.0.device ≡ device) }
@@ -80,4 +85,22 @@ impl<D: BlockDevice, T: Trail> Parts<D, T> {
             }),
         }
     }
+}
+
+/// The ring of a cache that so many may share.
+fn ring_for<R: Wait>(
+    rt: &R,
+    alloc: Global,
+    name: u64,
+    geometry: &Geometry,
+    seat_count: u64,
+) -> Result<(Ring, RingPass), Refusal>
+    ensures few { OnOk result ((0 < seat_count) × (seat_count ≤ 64)) }
+    ensures pass { IfOk result (λ r. Serves r.0 r.1 × Carries name geometry.now.blocks geometry.now.page r.1) }
+    ensures refused { IfErr result (λ e. e ≡ (if nat_lt 0 seat_count && nat_le seat_count 64 then Memory else BadConfig)) }
+{
+    if seat_count == 0 || seat_count > MAX_SEATS {
+        return Err(Refusal::BadConfig);
+    }
+    Ring::new(rt, alloc, name, geometry)
 }

@@ -1,3 +1,4 @@
+use Rattle.std.specs.Prelude.{◌+◌, vec_len}
 use Rattle.shared.proofs.tests.over_a_cache.Given as goal
 
 -- the parts that were just made
@@ -7,4 +8,5 @@ ghosts-runs_over g a = record {
   table = a.parts.held.log.table;
   board = a.parts.board;
   sizes = a.parts.geometry;
+  seats = vec_len a.seats + 1;
 }
