@@ -1,5 +1,0 @@
-pub mod Asked
-pub mod Rounds
-pub mod Told
-pub mod Faulty
-pub mod Crews
