@@ -1,1 +1,2 @@
 mod OneNumber
+mod Seating
