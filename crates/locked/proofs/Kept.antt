@@ -26,23 +26,24 @@ use Rattle.locked.specs.Keeps.{IsLocked}
 use Rattle.locked.proofs.Counting.{counted_on}
 
 -- what holds under the lock
-abbrev pub Holds : ℕ → TableId → TableId → Sizes → ℕ → HeldSeen → Type 0
-Holds name table board sizes n h = IsLocked name table board sizes h × IsCounted n name h.core.state
+abbrev pub Holds : ℕ → TableId → TableId → Sizes → ℕ → ℕ → HeldSeen → Type 0
+Holds name table board sizes made n h = IsLocked name table board sizes made h × IsCounted n name h.core.state
 
 records_board : (s : State) (e : Event) (r : Reply) (old new : RecorderSeen) → Records s e r old new
     → new.board ≡ old.board
 records_board s (event.End Flush end) (reply.Failed code) old new h = h.3.0
 records_board s e r old new h = ap (λ (x : RecorderSeen). x.board) h
 
-pub kept : (name : ℕ) (table board : TableId) (sizes : Sizes) (n : ℕ) (old new : HeldSeen) (e : Event) (r : Reply)
-    (before after : SeatSeen) (slip : Slip) → Holds name table board sizes n old → Made e r old new before after slip
-    → Holds name table board sizes (flights_after e r n) new
-kept name table board sizes n old new e r before after slip i m = (
+pub kept : (name : ℕ) (table board : TableId) (sizes : Sizes) (made n : ℕ) (old new : HeldSeen) (e : Event) (r : Reply)
+    (before after : SeatSeen) (slip : Slip) → Holds name table board sizes made n old → Made e r old new before after slip
+    → Holds name table board sizes made (flights_after e r n) new
+kept name table board sizes made n old new e r before after slip i m = (
   record {
     named = m.entered.same.1 ∙ i.0.named;
     seats = m.entered.same.0 ∙ i.0.seats;
     errors = records_board old.core.state e r old.errors new.errors m.recorded ∙ i.0.errors;
     sized = (steady old.core.state e r new.core.state m.step).sizes ∙ i.0.sized;
+    counted = m.entered.same.2 ∙ i.0.counted;
   },
   counted_on n name old.core.state e r new.core.state i.1 m.step,
 )
@@ -58,12 +59,12 @@ call_flights (call.Truncate h z) r n = refl
 call_flights call.Evict r n = refl
 call_flights call.Age r n = refl
 
-pub kept_call : (name : ℕ) (table board : TableId) (sizes : Sizes) (n : ℕ) (old new : HeldSeen) (c : Call) (r : Reply)
-    (before after : SeatSeen) (slip : Slip) → Holds name table board sizes n old
-    → Made (event_of c) r old new before after slip → Holds name table board sizes n new
-kept_call name table board sizes n old new c r before after slip i m =
-    subst (λ k. Holds name table board sizes k new) (call_flights c r n)
-    (kept name table board sizes n old new (event_of c) r before after slip i m)
+pub kept_call : (name : ℕ) (table board : TableId) (sizes : Sizes) (made n : ℕ) (old new : HeldSeen) (c : Call) (r : Reply)
+    (before after : SeatSeen) (slip : Slip) → Holds name table board sizes made n old
+    → Made (event_of c) r old new before after slip → Holds name table board sizes made n new
+kept_call name table board sizes made n old new c r before after slip i m =
+    subst (λ k. Holds name table board sizes made k new) (call_flights c r n)
+    (kept name table board sizes made n old new (event_of c) r before after slip i m)
 
 -- ---- ends
 
@@ -78,6 +79,6 @@ flush_end_flights end (ended.Failed c b) n = refl
 flush_end_flights end (ended.Done b) n = refl
 
 -- by another number of requests in flight
-pub recounted : (name : ℕ) (table board : TableId) (sizes : Sizes) (n m : ℕ) (h : HeldSeen) → Holds name table board sizes n h
-    → n ≡ m → Holds name table board sizes m h
-recounted name table board sizes n m h i e = subst (λ k. Holds name table board sizes k h) e i
+pub recounted : (name : ℕ) (table board : TableId) (sizes : Sizes) (made n m : ℕ) (h : HeldSeen) → Holds name table board sizes made n h
+    → n ≡ m → Holds name table board sizes made m h
+recounted name table board sizes made n m h i e = subst (λ k. Holds name table board sizes made k h) e i

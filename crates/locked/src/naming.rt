@@ -2,7 +2,7 @@
 
 use std::marker::Brand;
 
-/// Names a cache: its name, the tables behind its seats and its error board, and its sizes. A program picks it once.
+/// Names a cache: its name, the tables behind its seats and its error board, its sizes, and how many seats it has. A program picks it once.
 pub trait Naming {
     ghost use Rattle.std.specs.Prelude.{ℕ};
     ghost use Rattle.atomic_table.specs.Seated.{TableId};
@@ -15,6 +15,8 @@ pub trait Naming {
     ghost board: { TableId };
 
     ghost sizes: { Sizes };
+
+    ghost seats: { ℕ };
 }
 
 impl Naming for Brand {
@@ -27,4 +29,6 @@ impl Naming for Brand {
     ghost board = { no_table };
 
     ghost sizes = { no_sizes };
+
+    ghost seats = { 0 };
 }

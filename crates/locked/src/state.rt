@@ -48,13 +48,13 @@ impl<B: Naming, T: Trail> Model for Locked<B, T> {
 
     ghost view = { λ l. l.held };
 
-    ghost invariant = { λ l. IsLocked B.name B.table B.board B.sizes l.held × IsCounted l.in_flight B.name l.held.core.state };
+    ghost invariant = { λ l. IsLocked B.name B.table B.board B.sizes B.seats l.held × IsCounted l.in_flight B.name l.held.core.state };
 }
 
 impl<B: Naming, T: Trail> Locked<B, T> {
     /// The state of a cache with no request in flight.
     pub fn of(held: Held<T>) -> Locked<B, T>
-        requires state { IsLocked B.name B.table B.board B.sizes held }
+        requires state { IsLocked B.name B.table B.board B.sizes B.seats held }
         requires idle { map.len held.core.state.requests ≡ 0 }
         ensures { result ≡ held }
     {
@@ -70,7 +70,7 @@ impl<B: Naming, T: Trail> Locked<B, T> {
     /// The state, without its lock.
     pub fn into_held(self) -> Held<T>
         ensures state { result ≡ self }
-        ensures locked { IsLocked B.name B.table B.board B.sizes result }
+        ensures locked { IsLocked B.name B.table B.board B.sizes B.seats result }
     {
         self.held
     }
@@ -82,12 +82,12 @@ impl<B: Naming, T: Trail> Locked<B, T> {
         seats: Vec<Seat>,
         own: Seat,
     ) -> Result<(T, CacheCore), (Refusal, Locked<B, T>, Vec<Seat>, Seat)>
-        requires came { All (λ s. s.name ≡ self.log.name → s.table ≡ self.log.table) seats.items }
-        requires own { own.name ≡ self.log.name → own.table ≡ self.log.table }
-        ensures refused { IsErr result ↔ ((vec_len seats + 1 ≢ self.log.made) ⊎ Any (λ s. s.name ≢ self.log.name) seats.items ⊎ (own.name ≢ self.log.name)) }
+        requires came { All (λ s. s.name ≡ B.name → s.table ≡ B.table) seats.items }
+        requires own { own.name ≡ B.name → own.table ≡ B.table }
+        ensures refused { IsErr result ↔ ((vec_len seats + 1 ≢ B.seats) ⊎ Any (λ s. s.name ≢ B.name) seats.items ⊎ (own.name ≢ B.name)) }
         ensures err { IfErr result (λ e. (e.0 ≡ Stranger) × (e.1 ≡ self) × (e.2 ≡ seats) × (e.3 ≡ own)) }
         ensures trail { IfOk result (λ r. T.records r.0 self.log.history × (r.1 ≡ self.core) × After r.1.state.sizes r.1.state.name self.log.history r.1.state) }
-        ensures cache { IfOk result (λ r. T.cache r.0 ≡ Some self.log.name) }
+        ensures cache { IfOk result (λ r. T.cache r.0 ≡ Some B.name) }
         ensures seats { OnOk result (All (λ s. IsPrefix s.list self.log.history × (s.count ≡ count_of s.number self.log.history)) seats.items) }
         ensures own { OnOk result (IsPrefix own.list self.log.history × (own.count ≡ count_of own.number self.log.history)) }
     {

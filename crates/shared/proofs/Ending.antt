@@ -1,8 +1,9 @@
 -- What the ends of jobs and the turns of workers say of a seat.
 use Rattle.std.proofs.Common.{◌≡◌, ℕ, zero, suc, List, [], ◌∷◌, ◌++◌, ap, arith, refl, sym, subst, ◌∙◌}
-use Rattle.std.specs.Prelude.{All, Bool, false, IfSome, Ok, Option, Some, None, is_some}
+use Rattle.std.specs.Prelude.{All, Bool, false, IfNone, IfOk, IfSome, IsOk, Err, Ok, Option, Result, Some, None, is_some}
 use Rattle.std.proofs.lemmas.List.{append_assoc, append-nil}
 use Rattle.std.proofs.lemmas.List.Elements.{All-append, All-nil, All-weaker}
+use Rattle.atomic_table.specs.Seated.{TableId}
 use Rattle.blockdev.specs.Jobs.{FinishedTask, Task}
 use Rattle.cachecore.specs.Replies.{end_of, fill_ended, flush_ended}
 use Rattle.cachecore.specs.declared.answers.Ended.{Ended}
@@ -22,7 +23,8 @@ use Rattle.locked.specs.declared.denied.Denied.{Denied}
 use Rattle.locked.proofs.Seats.{goes_same}
 use Rattle.shared.specs.Called.{Makes}
 use Rattle.shared.specs.Denials.{IsDenied}
-use Rattle.shared.specs.Workers.{AllEnded, Begins, Ends, IsEndOf, IsWriteBack, fails_write, popped_by}
+use Rattle.shared.specs.Workers.{AllEnded, Begins, Ends, IsEndOf, IsOwnFailure, IsWriteBack, fails_write, popped_by}
+use Rattle.shared.specs.declared.ends.Done.{Done}
 use Rattle.shared.specs.declared.worker.Worker.{Worker}
 use Rattle.shared.proofs.Making.{denied_by, denied_on, makes_by, makes_on, makes_then}
 
@@ -144,3 +146,22 @@ one_more_ended a b c job slip told p popped before goes end = (
       (λ j q. (q.0, q.1, ends_then j a.seat b.seat c.seat q.0 q.1 q.2 goes)) p.0 p.2)
       (one_ended a.seat c.seat job (slip, told, ends_on job a.seat b.seat c.seat slip told before end)),
 )
+
+-- a turn took no job, or ended the one that it took
+pub turn_ended : (a b c : Worker) (turn : Option Done) (name : ℕ) (board : TableId) → AllEnded a b → Goes a.seat b.seat
+    → Goes b.seat c.seat → IfNone turn ((c.seat ≡ b.seat) × (popped_by c ≡ popped_by b))
+    → IfSome turn (λ d. (job : Task) × (popped_by c ≡ popped_by b ++ job ∷ []) × (d.serial.0 ≡ job.serial)
+    × Ends job b.seat c.seat d.slip (is_some d.failed) × IfSome d.failed (IsOwnFailure name board))
+    → AllEnded a c
+turn_ended a b c None name board p before goes idle end = still_ended a b c p idle.1 goes
+turn_ended a b c (Some d) name board p before goes idle end =
+    one_more_ended a b c end.0 d.slip (is_some d.failed) p end.1 before goes end.3
+
+-- a job was taken, and its end was not refused
+pub carried_ended : (a b c : Worker) (job : Task) (result : Result Done Denied) → AllEnded a b
+    → popped_by c ≡ popped_by b ++ job ∷ [] → Goes a.seat b.seat → Goes b.seat c.seat → IsOk result
+    → IfOk result (λ d. (d.serial.0 ≡ job.serial) × Ends job b.seat c.seat d.slip (is_some d.failed))
+    → AllEnded a c
+carried_ended a b c job (Ok d) p popped before goes is end =
+    one_more_ended a b c job d.slip (is_some d.failed) p popped before goes end.1
+carried_ended a b c job (Err d) p popped before goes is end = absurd cc

@@ -3,3 +3,5 @@ pub mod Sizes
 pub mod Ending
 pub mod Syncing
 pub mod Serving
+pub mod Closing
+pub mod Seating

@@ -1,5 +1,5 @@
 -- How far reads and writes go: no file is longer than the limit.
-use Rattle.std.proofs.Common.{◌≡◌, ℕ, ◌+◌, ◌≤◌, List, [], ◌∷◌, length, take, sym, subst, ap, ◌∙◌, arith}
+use Rattle.std.proofs.Common.{ℕ, ◌+◌, ◌≤◌, List, [], ◌∷◌, length, take, sym, subst, ap, ◌∙◌, arith}
 use Rattle.std.specs.Prelude.{Ok, map}
 use Rattle.std.proofs.lemmas.List.{length-take-le}
 use Rattle.cachecore.specs.Replies.{wrote}
@@ -12,12 +12,11 @@ use Rattle.held.specs.Entered.{Made}
 use Rattle.held.specs.Shown.{HeldSeen, SeatSeen}
 use Rattle.machine.proofs.steps.Cases.{by_cases}
 use Rattle.machine.specs.History as machine
-use Rattle.machine.specs.State.{State, file_at, handle_file}
+use Rattle.machine.specs.State.{State, handle_file}
 use Rattle.machine.specs.declared.event.Event.{Event}
 use Rattle.machine.specs.declared.event.Event.TheVariants as event
 use Rattle.machine.specs.declared.event.Reply.{Reply}
 use Rattle.machine.specs.declared.event.Reply.TheVariants as reply
-use Rattle.pc_types.specs.Limits.{Sizes}
 use Rattle.pc_types.specs.declared.ids.HandleId.{HandleId}
 use Rattle.pc_types.specs.declared.limits.TheConstants.{MAX_FILE_SIZE}
 use Rattle.trail.specs.History.{After, seatless}

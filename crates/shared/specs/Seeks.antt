@@ -1,5 +1,5 @@
 -- Where a cursor is put.
-use Rattle.std.specs.Prelude.{◌≡◌, ◌⊎◌, ℕ, Option, Some, None, Result, Ok, Err, IfErr, IsErr}
+use Rattle.std.specs.Prelude.{◌≡◌, ◌⊎◌, ℕ, Option, Some, None, Result, Ok, Err}
 use Rattle.filesvc.specs.Service.{placed, target}
 use Rattle.filesvc.specs.declared.seek.Seek.{Seek}
 use Rattle.filesvc.specs.declared.seek.Seek.TheVariants.{End}

@@ -64,7 +64,7 @@ impl<B: Naming, D: BlockDevice, T: Trail> SharedCache<B, D, T> {
         requires named { parts.name ≡ B.name }
         requires sized { parts.geometry ≡ B.sizes }
         requires board { parts.board ≡ B.board }
-        requires state { IsLocked B.name B.table B.board B.sizes parts.held }
+        requires state { IsLocked B.name B.table B.board B.sizes B.seats parts.held }
         requires idle { map.len parts.held.core.state.requests ≡ 0 }
         requires own { IsWorkerOf parts.ring B.name B.table B.sizes parts.own }
         requires device { IsDisk B.sizes (D.told parts.device) }

@@ -1,6 +1,6 @@
 //! The end of a cache.
 
-ghost use Rattle.std.specs.Prelude.{◌≡◌, ◌≢◌, All, Any, IfErr, IfOk, IsErr, List, Some, true};
+ghost use Rattle.std.specs.Prelude.{◌≡◌, ◌≢◌, ◌↔◌, ◌⊎◌, ◌+◌, All, Any, IfErr, IfOk, IsErr, List, Some, true, vec_len};
 ghost use Rattle.crossbeam_queue.specs.Fifo.{Held};
 ghost use Rattle.crossbeam_queue.specs.Passes.{view};
 ghost use Rattle.ring.specs.Order.{Stands};
@@ -36,7 +36,7 @@ impl<B: Naming, D: BlockDevice, T: Trail> SharedCache<B, D, T> {
         seats: Vec<Seat>,
     ) -> Result<(T, CacheCore, D), (Refusal, SharedCache<B, D, T>, Vec<Seat>)>
         requires came { All (λ s. s.name ≡ self.name → s.table ≡ B.table) seats.items }
-        ensures foreign { Any (λ s. s.name ≢ self.name) seats.items → IsErr result }
+        ensures refused { IsErr result ↔ ((vec_len seats + 1 ≢ B.seats) ⊎ Any (λ s. s.name ≢ self.name) seats.items) }
         ensures err { IfErr result (λ e. (e.0 ≡ Stranger) × (e.1.name ≡ self.name) × (e.1.ring ≡ self.ring) × (e.2 ≡ seats)) }
         ensures closed { IfOk result (λ r. (history : List Entry) × T.records r.0 history × (T.cache r.0 ≡ Some self.name) × After r.1.state.sizes r.1.state.name history r.1.state × All (λ s. IsPrefix s.list history × (s.count ≡ count_of s.number history)) seats.items) }
     {

@@ -22,6 +22,8 @@ pub mod serve;
 mod signal;
 #[cfg(test)]
 mod tests;
+#[cfg(test)]
+mod thread_tests;
 pub mod turns;
 pub mod worker;
 mod workers;

@@ -1,6 +1,6 @@
 //! A cache for a program, from its making on.
 
-ghost use Rattle.std.specs.Prelude.{◌≡◌, ◌<◌, ◌≤◌, ◌&&◌, IfErr, IfOk, OnOk, if◌then◌else◌, nat_le, nat_lt};
+ghost use Rattle.std.specs.Prelude.{◌≡◌, ◌+◌, ◌<◌, ◌≤◌, ◌&&◌, IfErr, IfOk, OnOk, if◌then◌else◌, nat_le, nat_lt, vec_len};
 ghost use Rattle.std.specs.FinMap as map;
 ghost use Rattle.held.specs.Shown.{AreFresh};
 ghost use Rattle.pc_types.specs.declared.refusal.Refusal.TheVariants.{BadConfig, Memory};
@@ -30,14 +30,15 @@ pub trait Program<D: BlockDevice, T: Trail> {
     /// What it answers.
     type Out;
 
-    /// Runs with the cache and the seats that were asked for, numbered from 0.
+    /// Runs with the cache and the seats that were asked for, numbered from 0. They are all that `close` wants back.
     fn run<B: Naming + Send + Sync>(
         self,
         cache: SharedCache<B, D, T>,
         seats: Vec<Seat>,
     ) -> Self::Out
         requires named { cache.name ≡ B.name }
-        requires seats { AreFresh B.table B.name seats.items };
+        requires seats { AreFresh B.table B.name seats.items }
+        requires whole { vec_len seats + 1 ≡ B.seats };
 }
 
 /// A program that no cache was made for, with what was to be its own.
@@ -128,11 +129,12 @@ fn start<B: Naming + Send + Sync, D: BlockDevice, T: Trail, P: Program<D, T>>(
     requires named { parts.name ≡ B.name }
     requires sized { parts.geometry ≡ B.sizes }
     requires board { parts.board ≡ B.board }
-    requires state { IsLocked B.name B.table B.board B.sizes parts.held }
+    requires state { IsLocked B.name B.table B.board B.sizes B.seats parts.held }
     requires idle { map.len parts.held.core.state.requests ≡ 0 }
     requires own { IsWorkerOf parts.ring B.name B.table B.sizes parts.own }
     requires device { IsDisk B.sizes (D.told parts.device) }
     requires seats { AreFresh B.table B.name seats.items }
+    requires whole { vec_len seats + 1 ≡ B.seats }
 {
     program.run(SharedCache::<B, D, T>::of(alloc, parts), seats)
 }

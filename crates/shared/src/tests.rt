@@ -1,60 +1,77 @@
 //! Worked calls on a shared cache of name 7, with 16-byte pages, 48 frames, a dirty limit of 16 and 64 blocks. Every row is run by one
-//! program, the one place that drops a cache: the check is slow there.
+//! program, since the check is slow where a cache is dropped. The rows with two threads are those of `thread_tests`.
 
-ghost use Rattle.std.specs.Prelude.{◌≡◌};
+ghost use Rattle.std.specs.Prelude.{◌≡◌, All, IfSome};
+ghost use Rattle.held.specs.Shown.{AreFresh};
 
 use crate::cache::SharedCache;
 use crate::handle::Handle;
 use crate::serve::{Program, serve};
-use blockdev::{FaultEffect, ScriptDevice};
+use crate::thread_tests::{
+    Entrance, Turnstile, is_seen_by_all, reads_beside_a_fill, reads_page, shares_a_file,
+    writes_page,
+};
+use blockdev::{BlockDevice, FaultEffect, GatedDevice, ScriptDevice};
 use held::log::Seat;
 use locked::denied::Denied;
 use locked::naming::Naming;
-use pc_types::{ErrCode, FileId, Geometry, Refusal};
+use pc_types::{ErrCode, Geometry, Refusal};
 use std::alloc::Global;
 use std::process::Abort;
 use std::sync::Wait;
 use std::test::Fail;
-use std::thread;
 use std::thread::Threads;
 use trail::FullTrail;
 
-const ROUNDS: u64 = 100;
+/// A device behind the turnstile.
+type Gated<'a> = GatedDevice<ScriptDevice, Entrance<'a>>;
 
-type Tested<B> = SharedCache<B, ScriptDevice, FullTrail>;
+pub(crate) type Tested<B, D> = SharedCache<B, D, FullTrail>;
 
 #[derive(Clone, Copy)]
 enum Row {
+    Closes,
     FillsTheTrail,
+    IsSeenByAll,
     ReadsBack,
+    ReadsBesideAFill,
     SharesAFile,
     Syncs,
     TellsOfAFault,
     TellsOfALostFlush,
 }
 
-/// Runs a row.
+/// Runs a row. Its device calls pass the turnstile.
 #[derive(Drop)]
 struct Rows<'a, R> {
     rt: &'a R,
+    turnstile: &'a Turnstile,
     row: Row,
 }
 
-impl<'a, R: Threads + Wait + Abort + Sync> Program<ScriptDevice, FullTrail> for Rows<'a, R> {
+impl<'a, R: Threads + Wait + Sync> Program<Gated<'a>, FullTrail> for Rows<'a, R> {
     type Out = bool;
 
-    fn run<B: Naming + Send + Sync>(self, cache: Tested<B>, mut seats: Vec<Seat>) -> bool {
+    #[tactic(auto, using(crate::proofs::Seating::fresh_seated))]
+    fn run<B: Naming + Send + Sync>(self, cache: Tested<B, Gated<'a>>, mut seats: Vec<Seat>) -> bool
+        requires named { cache.name ≡ B.name }
+        requires seats { AreFresh B.table B.name seats.items }
+    {
+        if let Row::Closes = self.row {
+            return closes(self.rt, cache, seats);
+        }
         let (Some(second), Some(first)) = (seats.pop(), seats.pop()) else {
             return false;
         };
-        runs(self.rt, &cache, first, second, self.row)
+        runs(self.rt, &cache, self.turnstile, first, second, self.row)
     }
 }
 
 /// Makes a file, opens it and runs the row.
-fn runs<B: Naming + Send + Sync, R: Threads + Wait + Abort + Sync>(
+fn runs<B: Naming + Send + Sync, D: BlockDevice + Send, R: Threads + Wait + Sync>(
     rt: &R,
-    cache: &Tested<B>,
+    cache: &Tested<B, D>,
+    turnstile: &Turnstile,
     mut first: Seat,
     second: Seat,
     row: Row,
@@ -66,8 +83,13 @@ fn runs<B: Naming + Send + Sync, R: Threads + Wait + Abort + Sync>(
         return false;
     };
     match row {
+        Row::Closes => false,
         Row::FillsTheTrail => fills_the_trail(rt, cache, &mut first, &handle),
+        Row::IsSeenByAll => is_seen_by_all(rt, cache, first, second, handle),
         Row::ReadsBack => reads_back(rt, cache, &mut first, &handle),
+        Row::ReadsBesideAFill => {
+            reads_beside_a_fill(rt, cache, turnstile, first, second, &handle)
+        }
         Row::SharesAFile => shares_a_file(rt, cache, first, second, &handle),
         Row::Syncs => syncs(rt, cache, &mut first, &mut handle),
         Row::TellsOfAFault => tells_of_a_fault(rt, cache, &mut first, &mut handle),
@@ -75,18 +97,23 @@ fn runs<B: Naming + Send + Sync, R: Threads + Wait + Abort + Sync>(
     }
 }
 
-fn opens<B: Naming, R: Wait>(rt: &R, cache: &Tested<B>, seat: &mut Seat) -> Option<Handle>
+fn opens<B: Naming, D: BlockDevice, R: Wait>(
+    rt: &R,
+    cache: &Tested<B, D>,
+    seat: &mut Seat,
+) -> Option<Handle>
     requires { seat.old.table ≡ B.table }
-    ensures { seat.new.table ≡ seat.old.table }
+    ensures seat { seat.new.table ≡ seat.old.table }
+    ensures board { IfSome result (λ h. h.pass.board ≡ B.board) }
 {
     let (file, _) = cache.create(rt, seat).ok()?;
     let (handle, _) = cache.open(rt, seat, file, false).ok()?;
     Some(handle)
 }
 
-fn fills_the_trail<B: Naming, R: Wait>(
+fn fills_the_trail<B: Naming, D: BlockDevice, R: Wait>(
     rt: &R,
-    cache: &Tested<B>,
+    cache: &Tested<B, D>,
     seat: &mut Seat,
     handle: &Handle,
 ) -> bool
@@ -103,9 +130,9 @@ fn fills_the_trail<B: Naming, R: Wait>(
     ) && out == [9]
 }
 
-fn reads_back<B: Naming, R: Wait>(
+fn reads_back<B: Naming, D: BlockDevice, R: Wait>(
     rt: &R,
-    cache: &Tested<B>,
+    cache: &Tested<B, D>,
     seat: &mut Seat,
     handle: &Handle,
 ) -> bool
@@ -117,53 +144,9 @@ fn reads_back<B: Naming, R: Wait>(
     wrote.is_ok() && matches!(read, Ok((3, _))) && out == [0, 0xaa, 0xbb]
 }
 
-/// Two threads write one page and read it, over and over.
-fn shares_a_file<B: Naming + Send + Sync, R: Threads + Wait + Sync>(
+fn syncs<B: Naming, D: BlockDevice, R: Wait>(
     rt: &R,
-    cache: &Tested<B>,
-    first: Seat,
-    second: Seat,
-    handle: &Handle,
-) -> bool
-    requires first { first.table ≡ B.table }
-    requires second { second.table ≡ B.table }
-{
-    let (one, two) = thread::join(
-        rt,
-        move ||
-            requires { first.table ≡ B.table }
-        { writes_and_reads(rt, cache, first, handle, 0xaa) },
-        move ||
-            requires { second.table ≡ B.table }
-        { writes_and_reads(rt, cache, second, handle, 0xbb) },
-    );
-    one && two
-}
-
-/// Writes the byte all over the page and reads the page, over and over: what is read is one of the two writes, whole.
-fn writes_and_reads<B: Naming, R: Wait>(
-    rt: &R,
-    cache: &Tested<B>,
-    mut seat: Seat,
-    handle: &Handle,
-    byte: u8,
-) -> bool
-    requires { seat.table ≡ B.table }
-{
-    for _ in 0..ROUNDS {
-        let mut out = [9; 16];
-        let wrote = cache.pwrite(rt, &mut seat, handle, 0, &[byte; 16]);
-        let read = cache.pread(rt, &mut seat, handle, 0, &mut out);
-        if wrote.is_err() || read.is_err() || !(out == [0xaa; 16] || out == [0xbb; 16]) {
-            return false;
-        }
-    }
-    true
-}
-
-fn syncs<B: Naming, R: Wait>(
-    rt: &R,
-    cache: &Tested<B>,
+    cache: &Tested<B, D>,
     seat: &mut Seat,
     handle: &mut Handle,
 ) -> bool
@@ -176,9 +159,9 @@ fn syncs<B: Naming, R: Wait>(
 }
 
 /// The device fails the first call.
-fn tells_of_a_fault<B: Naming, R: Wait>(
+fn tells_of_a_fault<B: Naming, D: BlockDevice, R: Wait>(
     rt: &R,
-    cache: &Tested<B>,
+    cache: &Tested<B, D>,
     seat: &mut Seat,
     handle: &mut Handle,
 ) -> bool
@@ -196,9 +179,9 @@ fn tells_of_a_fault<B: Naming, R: Wait>(
 }
 
 /// The device fails the first flush.
-fn tells_of_a_lost_flush<B: Naming, R: Wait>(
+fn tells_of_a_lost_flush<B: Naming, D: BlockDevice, R: Wait>(
     rt: &R,
-    cache: &Tested<B>,
+    cache: &Tested<B, D>,
     seat: &mut Seat,
     handle: &mut Handle,
 ) -> bool
@@ -214,22 +197,70 @@ fn tells_of_a_lost_flush<B: Naming, R: Wait>(
     is_told && synced.is_ok()
 }
 
+/// A cache is not closed while a seat is missing. It is with all of them, and gives the device: of three syncs after one write the
+/// first alone flushed it.
+fn closes<B: Naming, D: BlockDevice, R: Wait>(
+    rt: &R,
+    cache: Tested<B, D>,
+    mut seats: Vec<Seat>,
+) -> bool
+    requires { All (λ s. s.table ≡ B.table) seats.items }
+{
+    let Some(mut missing) = seats.pop() else {
+        return false;
+    };
+    let is_synced = syncs_thrice(rt, &cache, &mut missing);
+    let Err((refusal, cache, mut seats)) = cache.close(rt, seats) else {
+        return false;
+    };
+    if seats.push(missing).is_err() {
+        return false;
+    }
+    match cache.close(rt, seats) {
+        Ok((_, _, device)) => is_synced && refusal == Refusal::Stranger && device.flushes() == 1,
+        Err(_) => false,
+    }
+}
+
+/// Writes a page, and syncs it three times.
+fn syncs_thrice<B: Naming, D: BlockDevice, R: Wait>(
+    rt: &R,
+    cache: &Tested<B, D>,
+    seat: &mut Seat,
+) -> bool
+    requires { seat.old.table ≡ B.table }
+    ensures { seat.new.table ≡ seat.old.table }
+{
+    let Some(mut handle) = opens(rt, cache, seat) else {
+        return false;
+    };
+    let is_written = writes_page(rt, cache, seat, &handle, 1);
+    let first = cache.fsync(rt, seat, &mut handle).is_ok();
+    let second = cache.fsync(rt, seat, &mut handle).is_ok();
+    let third = cache.fsync(rt, seat, &mut handle).is_ok();
+    is_written && first && second && third && reads_page(rt, cache, seat, &handle, 1)
+}
+
 /// Runs a row over a new cache.
-fn over_a_cache<R: Threads + Wait + Abort + Sync>(
+fn over_a_cache<R: Threads + Wait + Sync>(
     rt: &R,
     alloc: Global,
     row: Row,
 ) -> Result<bool, Refusal> {
     let geometry = Geometry::new(16, 48, 16, 64)?;
-    let mut device = ScriptDevice::new(alloc, 16, 64)?;
+    let mut script = ScriptDevice::new(alloc, 16, 64)?;
     let mut trail = FullTrail::new(alloc, 1000, 20000)?;
     match row {
         Row::FillsTheTrail => trail = FullTrail::new(alloc, 2, 0)?,
-        Row::TellsOfAFault => device.fail_next(ErrCode::IO, FaultEffect::Old),
-        Row::TellsOfALostFlush => device.fail_next_flush(ErrCode::IO),
+        Row::TellsOfAFault => script.fail_next(ErrCode::IO, FaultEffect::Old),
+        Row::TellsOfALostFlush => script.fail_next_flush(ErrCode::IO),
         _ => {}
     }
-    match serve(rt, alloc, &geometry, 7, device, trail, 2, Rows { rt, row }) {
+    let turnstile = Turnstile::new();
+    let turnstile = &turnstile;
+    let device = GatedDevice::new(script, Entrance { turnstile });
+    let rows = Rows { rt, turnstile, row };
+    match serve(rt, alloc, &geometry, 7, device, trail, 2, rows) {
         Ok(is_right) => Ok(is_right),
         Err(unserved) => Err(unserved.refusal),
     }
@@ -268,5 +299,23 @@ fn a_failed_write_is_told_once(rt: HostRuntime) -> Result<(), Fail> {
 #[test]
 fn a_failed_flush_of_the_device_is_told_without_a_slip(rt: HostRuntime) -> Result<(), Fail> {
     assert!(&rt; over_a_cache(&rt, rt.alloc(), Row::TellsOfALostFlush)?);
+    Ok(())
+}
+
+#[test]
+fn a_cached_page_is_read_while_a_fill_is_held(rt: HostRuntime) -> Result<(), Fail> {
+    assert!(&rt; over_a_cache(&rt, rt.alloc(), Row::ReadsBesideAFill)?);
+    Ok(())
+}
+
+#[test]
+fn what_one_handle_wrote_another_reads(rt: HostRuntime) -> Result<(), Fail> {
+    assert!(&rt; over_a_cache(&rt, rt.alloc(), Row::IsSeenByAll)?);
+    Ok(())
+}
+
+#[test]
+fn a_cache_closes_with_all_its_seats(rt: HostRuntime) -> Result<(), Fail> {
+    assert!(&rt; over_a_cache(&rt, rt.alloc(), Row::Closes)?);
     Ok(())
 }

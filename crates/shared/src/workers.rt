@@ -42,7 +42,7 @@ impl<B: Naming, D: BlockDevice, T: Trail> SharedCache<B, D, T> {
 
     /// Carries out the jobs of the ring, and sleeps where there are none. Told to stop, it goes on till the ring is empty. It stops
     /// too where an end is refused, which no job gets whose request is in flight.
-    #[tactic(auto, using(locked::proofs::Seats::goes_same, locked::proofs::Seats::goes_on, crate::proofs::Ending::none_ended, crate::proofs::Ending::one_more_ended))]
+    #[tactic(auto, using(locked::proofs::Seats::goes_same, locked::proofs::Seats::goes_on, crate::proofs::Ending::none_ended))]
     pub fn io_worker<R: Wait, G: Gate>(
         &self,
         rt: &R,
@@ -58,15 +58,12 @@ impl<B: Naming, D: BlockDevice, T: Trail> SharedCache<B, D, T> {
         'turns: for _ in rt.forever() {
             let seen = self.work.count();
             let is_stopped = self.work.is_stopped();
-            match self.io_turn(rt, gate, worker) {
-                Ok(Some(_)) => {}
-                Ok(None) => {
-                    if is_stopped {
-                        return Ok(());
-                    }
-                    self.work.wait(rt, seen);
+            let is_idle = self.io_turn(rt, gate, worker)?.is_none();
+            if is_idle {
+                if is_stopped {
+                    return Ok(());
                 }
-                Err(denied) => return Err(denied),
+                self.work.wait(rt, seen);
             }
         }
         unreachable!()

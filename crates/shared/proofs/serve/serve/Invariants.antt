@@ -7,4 +7,5 @@ ghosts-start g a = record {
   table = a.parts.held.log.table;
   board = a.parts.board;
   sizes = a.parts.geometry;
+  seats = a.parts.held.log.made;
 }

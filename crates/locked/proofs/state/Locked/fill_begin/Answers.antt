@@ -10,11 +10,11 @@ use Rattle.locked.proofs.state.Locked.fill_begin.Goals as goal
 
 pub invariant_of-self-in-Err-answer : goal.invariant_of-self-in-Err-answer
 invariant_of-self-in-Err-answer g c =
-    recounted _ _ _ _ _ _ _ (kept _ _ _ _ _ _ _ _ _ _ _ _ c.self.invariant c.in-Ok.ensures.made)
+    recounted _ _ _ _ _ _ _ _ (kept _ _ _ _ _ _ _ _ _ _ _ _ _ c.self.invariant c.in-Ok.ensures.made)
     (ap (λ (x : Result FillBegun Refused). flights_after (event.FillBegin c.args.handle c.args.page) (fill_begun x) c.self.inside.in_flight) c.in-Err-answer.is)
 
 pub invariant_of-self-2 : goal.invariant_of-self-2
 invariant_of-self-2 g c =
-    recounted _ _ _ _ _ _ _ (kept _ _ _ _ _ _ _ _ _ _ _ _ c.self.invariant c.in-Ok.ensures.made)
+    recounted _ _ _ _ _ _ _ _ (kept _ _ _ _ _ _ _ _ _ _ _ _ _ c.self.invariant c.in-Ok.ensures.made)
     (ap (λ (x : Result FillBegun Refused). flights_after (event.FillBegin c.args.handle c.args.page) (fill_begun x) c.self.inside.in_flight) c.in-Ok-answer.is
     ∙ sym (c.with_fill-self-inside.ensures c.args.handle c.args.page))

@@ -10,11 +10,11 @@ use Rattle.locked.proofs.state.Locked.flush_begin.Goals as goal
 
 pub invariant_of-self-in-Err-answer : goal.invariant_of-self-in-Err-answer
 invariant_of-self-in-Err-answer g c =
-    recounted _ _ _ _ _ _ _ (kept _ _ _ _ _ _ _ _ _ _ _ _ c.self.invariant c.in-Ok.ensures.made)
+    recounted _ _ _ _ _ _ _ _ (kept _ _ _ _ _ _ _ _ _ _ _ _ _ c.self.invariant c.in-Ok.ensures.made)
     (ap (λ (x : Result FlushBegun Refused). flights_after (event.FlushBegin c.args.file) (flush_begun x) c.self.inside.in_flight) c.in-Err-answer.is)
 
 pub invariant_of-self-2 : goal.invariant_of-self-2
 invariant_of-self-2 g c =
-    recounted _ _ _ _ _ _ _ (kept _ _ _ _ _ _ _ _ _ _ _ _ c.self.invariant c.in-Ok.ensures.made)
+    recounted _ _ _ _ _ _ _ _ (kept _ _ _ _ _ _ _ _ _ _ _ _ _ c.self.invariant c.in-Ok.ensures.made)
     (ap (λ (x : Result FlushBegun Refused). flights_after (event.FlushBegin c.args.file) (flush_begun x) c.self.inside.in_flight) c.in-Ok-answer.is
     ∙ sym (c.with_flush-self-inside.ensures c.args.file))

@@ -14,12 +14,12 @@ use Rattle.locked.proofs.state.Locked.flush_end.Goals as goal
 
 pub invariant_of-self-in-Err-answer : goal.invariant_of-self-in-Err-answer
 invariant_of-self-in-Err-answer g c =
-    recounted _ _ _ _ _ _ _ (kept _ _ _ _ _ _ _ _ _ _ _ _ c.self.invariant c.in-Ok.ensures.made)
+    recounted _ _ _ _ _ _ _ _ (kept _ _ _ _ _ _ _ _ _ _ _ _ _ c.self.invariant c.in-Ok.ensures.made)
     (ap (λ (x : Result Ended RefusedEnd). flights_after (event.End Flush (end_of c.args.finished)) (flush_ended x) c.self.inside.in_flight) c.in-Err-answer.is)
 
 pub invariant_of-self-2 : goal.invariant_of-self-2
 invariant_of-self-2 g c =
-    recounted _ _ _ _ _ _ _ (kept _ _ _ _ _ _ _ _ _ _ _ _ c.self.invariant c.in-Ok.ensures.made)
+    recounted _ _ _ _ _ _ _ _ (kept _ _ _ _ _ _ _ _ _ _ _ _ _ c.self.invariant c.in-Ok.ensures.made)
     (ap (λ (x : Result Ended RefusedEnd). flights_after (event.End Flush (end_of c.args.finished)) (flush_ended x) c.self.inside.in_flight) c.in-Ok-answer.is
     ∙ flush_end_flights (end_of c.args.finished) c.in-Ok-answer.ended c.self.inside.in_flight ∙ sym c.saturating_sub-self-inside.ensures)
 

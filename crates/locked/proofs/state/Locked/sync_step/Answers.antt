@@ -10,11 +10,11 @@ use Rattle.locked.proofs.state.Locked.sync_step.Goals as goal
 
 pub invariant_of-self-in-Err-answer : goal.invariant_of-self-in-Err-answer
 invariant_of-self-in-Err-answer g c =
-    recounted _ _ _ _ _ _ _ (kept _ _ _ _ _ _ _ _ _ _ _ _ c.self.invariant c.in-Ok.ensures.made)
+    recounted _ _ _ _ _ _ _ _ (kept _ _ _ _ _ _ _ _ _ _ _ _ _ c.self.invariant c.in-Ok.ensures.made)
     (ap (λ (x : Result SyncStepped Refused). flights_after (event.SyncStep c.args.sync) (sync_stepped x) c.self.inside.in_flight) c.in-Err-answer.is)
 
 pub invariant_of-self-2 : goal.invariant_of-self-2
 invariant_of-self-2 g c =
-    recounted _ _ _ _ _ _ _ (kept _ _ _ _ _ _ _ _ _ _ _ _ c.self.invariant c.in-Ok.ensures.made)
+    recounted _ _ _ _ _ _ _ _ (kept _ _ _ _ _ _ _ _ _ _ _ _ _ c.self.invariant c.in-Ok.ensures.made)
     (ap (λ (x : Result SyncStepped Refused). flights_after (event.SyncStep c.args.sync) (sync_stepped x) c.self.inside.in_flight) c.in-Ok-answer.is
     ∙ sym (c.with_step-self-inside.ensures c.args.sync))
