@@ -49,7 +49,7 @@ returns-in-Ok-fill-clause-again g c =
 pub returns-in-Bytes-clause-within : goal.returns-in-Bytes-clause-within
 returns-in-Bytes-clause-within g c small =
     let counted : c.in-Bytes.count ≤ length c.args.out.now =
-        subst (λ (x : ReadAnswer). bytes_read (Ok x) ≤ length c.args.out.now) c.in-Bytes.is c.in-Ok.ensures.count in
+    subst (λ (x : ReadAnswer). bytes_read (Ok x) ≤ length c.args.out.now) c.in-Bytes.is c.in-Ok.ensures.count in
     let as_long = c.read.auto.out in
     read_counted c.args.handle c.args.offset (length c.args.out.now) c.in-Bytes.count c.read.new.out
     c.deref_mut.result.now c.read.new.self c.args.seat.now c.read.new.seat c.in-Ok.made.1 (omega arith)
