@@ -139,7 +139,7 @@ fn now(rt: &HostRuntime) -> u64 {
         return 0;
     };
     match time.duration_since(SystemTime::UNIX_EPOCH) {
-        Ok(since) => since.as_nanos() as u64,
+        Ok(since) => u64::try_from(since.as_nanos()).unwrap_or(0),
         Err(_) => 0,
     }
 }

@@ -1,6 +1,7 @@
 //! A storm: many callers and the workers of one cache at once, and whether its history is that of plain files.
 
-ghost use Rattle.std.specs.Prelude.{◌≡◌, ◌≤◌};
+ghost use Rattle.std.specs.Prelude.{◌≡◌, ◌≤◌, ◌+◌, vec_len};
+ghost use Rattle.held.specs.Shown.{AreFresh};
 ghost use Rattle.pcache.specs.Told.{StormTells};
 
 use crate::caller::Caller;
@@ -156,11 +157,16 @@ impl<'a, R: Threads + Wait + Sync, D: BlockDevice + Send> Program<D, FullTrail> 
     type Out = Option<FullTrail>;
 
     /// Gives the trail, or nothing where memory is wanted.
+    #[tactic(auto, using(crate::proofs::Seating::all_seated))]
     fn run<B: Naming + Send + Sync>(
         self,
         mut cache: SharedCache<B, D, FullTrail>,
         seats: Vec<Seat>,
-    ) -> Option<FullTrail> {
+    ) -> Option<FullTrail>
+        requires named { cache.name ≡ B.name }
+        requires seats { AreFresh B.table B.name seats.items }
+        requires whole { vec_len seats + 1 ≡ B.seats }
+    {
         let mut members = members_of(self.alloc, seats)?;
         let crew = Crew::of(&mut cache, &mut members)?;
         create_files(self.rt, &cache, &mut members);
