@@ -1,5 +1,6 @@
 //! Why the bench ends before its last row.
 
+use locked::denied::Denied;
 use pc_types::{ErrCode, Refusal};
 use std::alloc::AllocError;
 use std::io;
@@ -41,6 +42,13 @@ impl From<Refusal> for Fault {
             Refusal::Io(_) => Fault::System,
             _ => Fault::Memory,
         }
+    }
+}
+
+/// Why a call of the shared cache was refused.
+impl From<Denied> for Fault {
+    fn from(denied: Denied) -> Fault {
+        Fault::from(denied.refusal)
     }
 }
 

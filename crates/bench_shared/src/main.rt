@@ -2,15 +2,18 @@
 //! Times what several threads share: `bench_shared time [PATH]` prints a row a call, as `12.34 ns  append of a read of 64 bytes`.
 //! The rows of a device stand over a file that is made at PATH, and are left out without one.
 //!
-//! `trails` has the rows of the trail, `holds` those of the locked state, `jobs` those of the ring, `blocks` those of a device over a file, `clock` the best
-//! time of several rounds, and `report` what is printed.
+//! `trails` has the rows of the trail, `holds` those of the locked state, `jobs` those of the ring, `reads` those of the shared
+//! cache, `blocks` those of a device over a file, `saves` those of an fsync to it, `clock` the best time of several rounds, and
+//! `report` what is printed.
 
 mod blocks;
 mod clock;
 mod fault;
 mod holds;
 mod jobs;
+mod reads;
 mod report;
+mod saves;
 #[cfg(test)]
 mod tests;
 mod trails;

@@ -8,7 +8,7 @@ use crate::fault::Fault;
 use crate::holds::READS;
 use crate::jobs::TURNS;
 use crate::trails::{Recorded, TrailRow};
-use crate::{holds, jobs};
+use crate::{holds, jobs, reads, saves};
 use std::sync::Wait;
 use std::thread::Threads;
 
@@ -20,8 +20,10 @@ pub fn print_rows<W: Wait + Threads + Sync>(
 ) -> Result<(), Fault> {
     let mut sum = print_trails(rt)?.wrapping_add(print_holds(rt)?);
     sum = sum.wrapping_add(print_jobs(rt, threads)?);
+    sum = sum.wrapping_add(print_reads(rt, threads)?);
     if let Some(path) = path {
         sum = sum.wrapping_add(print_blocks(rt, path)?);
+        sum = sum.wrapping_add(print_saves(rt, path)?);
     }
     // The sum of all answers: what was timed has to be computed.
     eprintln!(rt; "bench_shared: sum of the answers {sum}")?;
@@ -52,6 +54,36 @@ fn print_jobs<W: Wait + Threads + Sync>(rt: &HostRuntime, threads: &W) -> Result
     Ok(alone.sum.wrapping_add(handed.sum))
 }
 
+/// Prints the reads of the shared cache. Those of four threads are divided by the reads of all.
+fn print_reads<W: Wait + Threads + Sync>(rt: &HostRuntime, threads: &W) -> Result<u64, Fault> {
+    let times = reads::time_reads(rt, threads)?;
+    print_row(
+        rt,
+        times.small,
+        reads::READS,
+        "pread of 64 bytes, shared cache, one thread",
+    )?;
+    print_row(
+        rt,
+        times.small_by_four,
+        reads::READS * reads::READERS,
+        "pread of 64 bytes, shared cache, of four threads",
+    )?;
+    print_row(
+        rt,
+        times.page,
+        reads::READS,
+        "pread of 4,096 bytes, shared cache, one thread",
+    )?;
+    print_row(
+        rt,
+        times.page_by_four,
+        reads::READS * reads::READERS,
+        "pread of 4,096 bytes, shared cache, of four threads",
+    )?;
+    Ok(times.small.sum.wrapping_add(times.page.sum))
+}
+
 fn print_blocks(rt: &HostRuntime, path: &str) -> Result<u64, Fault> {
     let mut disk = Disk::new(rt, path)?;
     let mut sum = 0u64;
@@ -61,6 +93,24 @@ fn print_blocks(rt: &HostRuntime, path: &str) -> Result<u64, Fault> {
         sum = sum.wrapping_add(timed.sum);
     }
     Ok(sum)
+}
+
+/// Prints an fsync of dirty pages, and the same writes with one sync of std, each by the page.
+fn print_saves(rt: &HostRuntime, path: &str) -> Result<u64, Fault> {
+    let (synced, plain) = saves::time_saves(rt, path)?;
+    print_row(
+        rt,
+        synced,
+        saves::PAGES,
+        "fsync of 1,000 dirty pages, FileDevice, per page",
+    )?;
+    print_row(
+        rt,
+        plain,
+        saves::PAGES,
+        "write_all_at of 1,000 pages and sync_data, per page",
+    )?;
+    Ok(synced.sum.wrapping_add(plain.sum))
 }
 
 /// Prints a read by the core alone, and as a hold.

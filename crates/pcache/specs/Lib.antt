@@ -1,0 +1,5 @@
+pub mod Asked
+pub mod Rounds
+pub mod Told
+pub mod Faulty
+pub mod Crews
