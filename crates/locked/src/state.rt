@@ -92,7 +92,9 @@ impl<B: Naming, T: Trail> Locked<B, T> {
         ensures own { OnOk result (IsPrefix own.list self.log.history × (own.count ≡ count_of own.number self.log.history)) }
     {
         let Locked {
-            held, in_flight, ..
+            held,
+            in_flight,
+            ..
         } = self;
         match held.close(seats, own) {
             Ok(parts) => Ok(parts),

@@ -14,9 +14,9 @@ close-requires g c = record {
 pub close-requires-2 : goal.close-requires-2
 close-requires-2 g c =
     let both = All-pop (λ s. s.table ≡ g.B.Naming.table) c.args.seats.items c.pop.new.self.items c.pop.result
-        c.pop.ensures.items c.requires in
+    c.pop.ensures.items c.requires in
     let mine : c.in-Some.missing.table ≡ g.B.Naming.table =
-        subst (λ (o : Option SeatSeen). IfSome o (λ s. s.table ≡ g.B.Naming.table)) c.in-Some.is both.1 in
+    subst (λ (o : Option SeatSeen). IfSome o (λ s. s.table ≡ g.B.Naming.table)) c.in-Some.is both.1 in
     let same : c.in-Err.seats.items ≡ c.pop.new.self.items = cc (c.in-Err.ensures.err.3) in
     let its : c.syncs_thrice-is_synced.new.seat.table ≡ g.B.Naming.table = cc (c.syncs_thrice-is_synced.ensures, mine) in
     record {

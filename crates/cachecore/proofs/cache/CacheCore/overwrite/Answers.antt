@@ -118,12 +118,14 @@ wrote c =
     of_write positive c.requires.bound
     (final_page steps)
     (final_free steps)
-    (final_idle steps))) in
-    (record {
-      core = kept;
-      syncs = moved_syncs a.handles a.pages.files a.syncs c.self.invariant.syncs final.files
-          (λ g. ap (λ (s : State). failed_of s.files g) written_is ∙ kept_failed store.files f _ refl refl g);
-    }, written_is)
+    (final_idle steps))) in (
+      record {
+        core = kept;
+        syncs = moved_syncs a.handles a.pages.files a.syncs c.self.invariant.syncs final.files
+            (λ g. ap (λ (s : State). failed_of s.files g) written_is ∙ kept_failed store.files f _ refl refl g);
+      },
+      written_is,
+    )
 
 pub invariant_of-self-2 : goal.invariant_of-self-2
 invariant_of-self-2 c = (wrote c).0

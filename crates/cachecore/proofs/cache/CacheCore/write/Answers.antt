@@ -83,8 +83,7 @@ pub write_pages-requires-clause-passed : goal.write_pages-requires-clause-passed
 write_pages-requires-clause-passed c =
     let at = goal.at.write_pages-requires-clause-passed c in
     let w = past at.Else-overwrite (facts at.After-overwrite) in
-    let s = c.overwrite.new.self.state in
-    (
+    let s = c.overwrite.new.self.state in (
       c.args.handle.0,
       ap (λ o. unwrap_or o 0) (sym w.found),
       write_passed s c.args.handle c.args.offset c.in-Some.file

@@ -125,13 +125,15 @@ wrote c =
     (final_idle steps))) in
     let written_is = state ∙ write_state c.self.invariant.core refl passed.0 f o P b e1 e2 e3
     c.set_size.new.self passed.1 c.page-page_size.ensures.value passed.2 here of_write
-    (omega (arith, c.page-page_size.ensures.least)) c.requires.bound in
-    (record {
-      core = core;
-      syncs = moved_syncs a.handles a.pages.files a.syncs c.self.invariant.syncs
-          c.set_size.new.self.files (λ g. ap (λ (s : State). failed_of s.files g) written_is
-          ∙ kept_failed store.files f _ refl refl g);
-    }, written_is)
+    (omega (arith, c.page-page_size.ensures.least)) c.requires.bound in (
+      record {
+        core = core;
+        syncs = moved_syncs a.handles a.pages.files a.syncs c.self.invariant.syncs
+            c.set_size.new.self.files (λ g. ap (λ (s : State). failed_of s.files g) written_is
+            ∙ kept_failed store.files f _ refl refl g);
+      },
+      written_is,
+    )
 
 pub invariant_of-self-2 : goal.invariant_of-self-2
 invariant_of-self-2 c = (wrote c).0
