@@ -1,22 +1,20 @@
 -- What the tables of a cache keep, and the machine's state after each change of them.
 use Rattle.std.proofs.Common.{◌≡◌, ℕ, ◌+◌, ◌-◌, ◌/◌, ◌<◌, ◌≤◌, zero, suc, max, Bool, true, false, cond, not, ◌&&◌, eqb}
-use Rattle.std.proofs.Common.{eqb-true, List, [], ◌∷◌, ◌++◌, length, get_or, refl, ap, sym, subst, ◌∙◌, arith}
-use Rattle.std.proofs.Common.{length-append, get_or-set_same, get_or-set_other, map}
-use Rattle.std.specs.Prelude.{Option, Some, None, is_some, option_map, filter, nat_lt, slice_set, count_by, ◌||◌}
+use Rattle.std.proofs.Common.{List, [], ◌∷◌, ◌++◌, length, get_or, refl, ap, sym, subst, ◌∙◌, arith}
+use Rattle.std.proofs.Common.{length-append, map}
+use Rattle.std.specs.Prelude.{Option, Some, None, is_some, filter, nat_lt, slice_set, count_by, ◌||◌}
 use Rattle.std.specs.FinSet as set
 use Rattle.std.specs.List.{list_any, range_with_len, zip}
 use Rattle.std.specs.Ordering.{nat_cmp}
 use Rattle.std.specs.Cmp.{nat_cmp_total}
 use Rattle.std.specs.FinMap as finmap
 use Rattle.std.specs.FinMap.{FinMap, get-empty, len-empty, len-entries, len-insert}
-use Rattle.std.proofs.Math.ListN.{length-set}
 use Rattle.std.proofs.lemmas.Bool.{false≢true}
 use Rattle.std.proofs.lemmas.Bool.Decides.{nat_tests}
-use Rattle.std.proofs.lemmas.List.Sums.{sum_by-set, sum_by_push, sum_by-le-sum_by, count_by-le-length, length-filter}
+use Rattle.std.proofs.lemmas.List.Sums.{sum_by_push, sum_by-le-sum_by, count_by-le-length, length-filter}
 use Rattle.pc_types.specs.Limits.{Sizes}
 use Rattle.pc_types.specs.declared.limits.TheConstants.{MAX_FILES, MAX_FILE_SIZE, MAX_FRAMES}
 use Rattle.pc_types.specs.declared.refusal.Refusal.TheVariants.{DirtyLimit, NoFrame, NoSpace}
-use Rattle.machine.specs.declared.event.Reply.{Reply}
 use Rattle.machine.specs.State.{State, Page, File, Request, Sync, no_file, file_at, is_cached, is_filling, tags_of}
 use Rattle.machine.specs.State.{tags_at, dirty_in, dirty_total, handle_file, fills, filling_total, free_frames}
 use Rattle.machine.specs.State.{free_blocks, without_block, touched, touched_count}
@@ -135,23 +133,7 @@ module _ {s : State} {store : Store} {blocks : Blocks} (c : IsCore s store block
   -- ---- the page lists, of which the tables say nothing
 
   pub core-lists : (lists : PageLists) → IsCore s (with_lists store lists) blocks
-  core-lists lists = record {
-    few_files = c.few_files;
-    known = c.known;
-    bounded = c.bounded;
-    sized = c.sized;
-    page = c.page;
-    framed = c.framed;
-    counted = c.counted;
-    filling = c.filling;
-    device = c.device;
-    holds = c.holds;
-    within = c.within;
-    filed = c.filed;
-    failed = c.failed;
-    serials = c.serials;
-    sound = c.sound;
-  }
+  core-lists lists = assumption c
 
   -- ---- a new file
 
@@ -192,23 +174,7 @@ module _ {s : State} {store : Store} {blocks : Blocks} (c : IsCore s store block
   core-tables : (now : FinMap nat_cmp ℕ) (syncs : FinMap nat_cmp Sync)
       → ((h f : ℕ) → finmap.get now h ≡ Some f → f < length s.files)
       → IsCore (record s { handles = now; syncs = syncs }) store blocks
-  core-tables now syncs known = record {
-    few_files = c.few_files;
-    known = known;
-    bounded = c.bounded;
-    sized = c.sized;
-    page = c.page;
-    framed = c.framed;
-    counted = c.counted;
-    filling = c.filling;
-    device = c.device;
-    holds = c.holds;
-    within = c.within;
-    filed = c.filed;
-    failed = c.failed;
-    serials = c.serials;
-    sound = c.sound;
-  }
+  core-tables now syncs known = assumption (known, c)
 
   -- other syncs
   pub core-syncs : (syncs : FinMap nat_cmp Sync) → IsCore (record s { syncs = syncs }) store blocks

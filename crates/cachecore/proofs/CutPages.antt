@@ -1,19 +1,18 @@
 -- The page that a truncation cuts into, as the code cuts it.
-use Rattle.std.proofs.Common.{◌≡◌, ℕ, zero, suc, ◌%◌, ◌≤◌, Bool, true, false, cond, eqb, [], refl, ap, sym, ◌∙◌, arith}
-use Rattle.std.specs.Prelude.{Option, Some, None, is_some, option_map, unwrap_or, if◌then◌else◌, slice_index_or, take}
+use Rattle.std.proofs.Common.{◌≡◌, ℕ, zero, suc, ◌%◌, ◌≤◌, Bool, true, false, cond, eqb, refl, ap, sym, ◌∙◌, arith}
+use Rattle.std.specs.Prelude.{Option, Some, None, is_some, option_map, if◌then◌else◌, slice_index_or, take}
 use Rattle.std.specs.Ordering.{nat_cmp}
 use Rattle.std.specs.FinMap as finmap
 use Rattle.std.specs.FinMap.{FinMap}
 use Rattle.std.proofs.Math.Nat.{mod-mod}
 use Rattle.pc_types.specs.Files as bytes
 use Rattle.pc_types.specs.Spots.{Spot}
-use Rattle.pc_types.specs.Tags.{no_tags}
 use Rattle.blockmap.specs.declared.spots.Placed.{Placed}
 use Rattle.blockmap.specs.Told.{told}
 use Rattle.pc_types.specs.declared.limits.TheConstants.{MAX_FILE_SIZE, MIN_PAGE_SIZE}
 use Rattle.mapping.specs.declared.mapping.TheConstants.{MAX_PAGES}
 use Rattle.machine.specs.State.{State, Page, has_block, no_file, page_count}
-use Rattle.pagestore.specs.Store.{the_page, Store, stored_at, stored_page, with_pages}
+use Rattle.pagestore.specs.Store.{Store, stored_at, stored_page, with_pages}
 use Rattle.machine.specs.Changes.{boundary, cut_boundary, cut_page}
 use Rattle.maps.specs.Maps.{change_at, put_some}
 use Rattle.maps.proofs.MapLaws.{get-change_at, same_nat_map}
@@ -27,17 +26,6 @@ count_below P z least small = go (page_count P z) refl
     go : (k : ℕ) → page_count P z ≡ k → k ≤ MAX_PAGES
     go zero e = omega arith
     go (suc k) e = let last = page_below P z k least small (omega (arith, e)) in omega (arith, last)
-
-change_there : (m : FinMap nat_cmp Page) (p : ℕ) (g : Page → Page) → is_some (finmap.get m p) ≡ true
-    → finmap.insert m p (g (the_page m p)) ≡ change_at p g m
-change_there m p g there = go (finmap.get m p) refl there
-  where
-    go : (o : Option Page) → finmap.get m p ≡ o → is_some o ≡ true
-        → finmap.insert m p (g (the_page m p)) ≡ change_at p g m
-    go None e t = absurd cc
-    go (Some x) e t =
-        ap (λ (o : Option Page). finmap.insert m p (g (unwrap_or o (record { bytes = []; tags = no_tags })))) e
-        ∙ sym (ap (λ (o : Option Page). put_some p (option_map g o) m) e)
 
 change_absent : (m : FinMap nat_cmp Page) (p : ℕ) (g : Page → Page) → is_some (finmap.get m p) ≡ false
     → change_at p g m ≡ m
@@ -62,17 +50,6 @@ change_same m p P z = same_nat_map (change_at p (cut_page P z false) m) m
 module _ (old : Store) (f p from : ℕ) (has : Bool) where
   abbrev cut : Store
   cut = with_pages old f (change_at p (cut_page old.page from has) (stored_at old f).pages) old.free
-
-  -- it is cached and has a block
-  pub cut_there : is_some (stored_page old f p) ≡ true → has ≡ true
-      → with_pages old f (finmap.insert (stored_at old f).pages p
-      (cut_page old.page from true (the_page (stored_at old f).pages p))) old.free ≡ cut
-  cut_there cached e =
-      ap (λ (b : Bool). with_pages old f
-      (finmap.insert (stored_at old f).pages p (cut_page old.page from b (the_page (stored_at old f).pages p)))
-      old.free) (sym e)
-      ∙ ap (λ (m : FinMap nat_cmp Page). with_pages old f m old.free)
-      (change_there (stored_at old f).pages p (cut_page old.page from has) cached)
 
   stays : change_at p (cut_page old.page from has) (stored_at old f).pages ≡ (stored_at old f).pages → old ≡ cut
   stays e = sym (with-itself old f) ∙ ap (λ (m : FinMap nat_cmp Page). with_pages old f m old.free) (sym e)

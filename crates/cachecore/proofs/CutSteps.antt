@@ -1,32 +1,25 @@
 -- A truncation as the code makes it, part by part: the state after it, and that the tables still fit.
-use Rattle.std.proofs.Common.{◌≡◌, ℕ, ◌+◌, ◌/◌, ◌<◌, ◌≤◌, Bool, true, false, cond, not, eqb, eqb-true, List, [], length}
-use Rattle.std.proofs.Common.{get_or, refl, ap, sym, subst, ◌∙◌, arith, get_or-set_same, get_or-set_other}
+use Rattle.std.proofs.Common.{◌≡◌, ℕ, ◌+◌, ◌/◌, ◌<◌, ◌≤◌, Bool, true, false, cond, not, eqb, List, [], length}
+use Rattle.std.proofs.Common.{get_or, refl, ap, sym, subst, ◌∙◌, arith}
 use Rattle.std.specs.Prelude.{◌&&◌, Option, Some, None, is_some, option_map, unwrap_or, nat_le, nat_lt, slice_set}
 use Rattle.std.specs.Ordering.{nat_cmp}
-use Rattle.std.specs.Cmp.{nat_cmp_total}
 use Rattle.std.specs.FinMap as finmap
-use Rattle.std.specs.FinMap.{FinMap, len-insert}
+use Rattle.std.specs.FinMap.{FinMap}
 use Rattle.std.specs.FinSet as set
-use Rattle.std.proofs.Math.ListN.{length-set}
-use Rattle.std.proofs.lemmas.Bool.Decides.{nat_tests}
 use Rattle.std.proofs.lemmas.List.{set-set}
-use Rattle.std.proofs.lemmas.List.Sums.{sum_by-set}
 use Rattle.pc_types.specs.Limits.{Sizes}
-use Rattle.pc_types.specs.Spots.{Spot, place_cmp}
 use Rattle.pc_types.specs.declared.limits.TheConstants.{MAX_FILE_SIZE}
 use Rattle.pc_types.specs.Tags.{no_tags}
 use Rattle.pc_types.proofs.FileLaws.{length-cut}
 use Rattle.blockmap.specs.Blocks.{Blocks, CutsFrom}
 use Rattle.blockmap.specs.Keys.{IsPage}
-use Rattle.writeback.specs.Flights as flights
 use Rattle.writeback.specs.Flights.{Flights}
 use Rattle.machine.specs.State.{Sync, State, File, Page, Request, no_file, file_at, page_at, has_block, is_filling}
-use Rattle.machine.specs.State.{filling_total, page_count}
+use Rattle.machine.specs.State.{page_count}
 use Rattle.pagestore.specs.Store.{the_page, Store, stored_at, is_awaited, with_pages}
 use Rattle.machine.specs.Changes.{boundary, cut_page, cut_boundary, cut_request, put_file, shrunk}
-use Rattle.maps.specs.Maps.{change_at, put_some, each_value}
+use Rattle.maps.specs.Maps.{each_value}
 use Rattle.pagestore.specs.Cuts.{RemovesFrom, pages_below}
-use Rattle.cachecore.specs.Holding.{Holds}
 use Rattle.pagestore.specs.Ranges.{AreSized}
 use Rattle.machine.specs.Sound.{Sound}
 use Rattle.machine.proofs.sound.Changes.{lookups, same_lookups}

@@ -1,6 +1,6 @@
 -- The ends of requests, way by way: the step of the machine, and what the cache keeps.
-use Rattle.std.proofs.Common.{◌≡◌, ℕ, ◌+◌, ◌^◌, ◌<◌, ◌≤◌, Bool, true, false, cond, List, length, get_or-set_same, refl}
-use Rattle.std.proofs.Common.{ap, sym, subst, ◌∙◌, arith}
+use Rattle.std.proofs.Common.{◌≡◌, ℕ, ◌+◌, ◌^◌, ◌<◌, ◌≤◌, Bool, true, false, cond, length, get_or-set_same, refl}
+use Rattle.std.proofs.Common.{ap, sym, ◌∙◌, arith}
 use Rattle.std.specs.Prelude.{Option, Some, None, Ok, Err, IsTrue, is_some, option_map, slice_set}
 use Rattle.std.specs.Ordering.{nat_cmp}
 use Rattle.std.specs.FinMap as finmap
@@ -8,7 +8,7 @@ use Rattle.std.specs.FinMap.{FinMap}
 use Rattle.std.specs.FinSet as set
 use Rattle.std.proofs.lemmas.List.{set-set}
 use Rattle.pc_types.specs.Kinds.{is_flush}
-use Rattle.pc_types.specs.Limits.{Sizes, is_err_code}
+use Rattle.pc_types.specs.Limits.{is_err_code}
 use Rattle.pc_types.specs.Spots.{Spot, place_cmp}
 use Rattle.pc_types.specs.Tags.{no_tags}
 use Rattle.pc_types.specs.declared.kind.Kind.{Kind}
@@ -24,11 +24,10 @@ use Rattle.machine.specs.declared.event.Outcome.TheVariants as outcome
 use Rattle.machine.specs.declared.event.Reply.{Reply}
 use Rattle.machine.specs.declared.event.Reply.TheVariants as reply
 use Rattle.machine.specs.PageLists as lists
-use Rattle.machine.specs.State.{State, File, Page, Request, Sync, no_file, page_at, tags_of}
-use Rattle.machine.specs.Changes.{ended, after_write, flush_failed, flushed}
+use Rattle.machine.specs.State.{State, File, Page, Request, no_file, page_at, tags_of}
+use Rattle.machine.specs.Changes.{ended, after_write, flush_failed}
 use Rattle.pagestore.specs.Store.{the_page, Store, is_awaited, stored_at, stored_page, with_pages}
 use Rattle.cachecore.specs.Replies.{end_of, outcome_of}
-use Rattle.cachecore.specs.Tables.{IsCache, IsCore}
 use Rattle.cachecore.proofs.EndKeeps.{failed_core, filled_core, fills_here, flushed_core, put_is, quiet_core}
 use Rattle.cachecore.proofs.EndKeeps.{unfilled_core}
 use Rattle.cachecore.proofs.EndSteps.{Ends, dropped_step, end_step}

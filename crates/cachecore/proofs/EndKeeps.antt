@@ -1,6 +1,6 @@
 -- What a cache keeps as a request ends.
 use Rattle.std.proofs.Common.{◌≡◌, ℕ, ◌+◌, ◌<◌, ◌≤◌, Bool, true, false, cond, eqb, eqb-true, eq-eqb, not, List, []}
-use Rattle.std.proofs.Common.{length, get_or-set_same, refl, ap, sym, subst, ◌∙◌, arith}
+use Rattle.std.proofs.Common.{length, refl, ap, sym, subst, ◌∙◌, arith}
 use Rattle.std.specs.Prelude.{◌&&◌, Option, Some, None, is_some, option_map, unwrap_or}
 use Rattle.std.specs.Ordering.{nat_cmp}
 use Rattle.std.specs.FinMap as finmap
@@ -50,12 +50,6 @@ sized_put P p pages page sized size = record { each = λ q h. go q (eqb q p) ref
         let same = get-insert_there pages p page q (λ k. false≢true (sym e ∙ eq-eqb q p k)) in
         ap (λ (o : Option Page). length (unwrap_or o (record { bytes = []; tags = no_tags })).bytes) same
         ∙ sized.each q (sym (ap is_some same) ∙ h)
-
-pub size_at : (P p : ℕ) (pages : FinMap nat_cmp Page) (page : Page) → AreSized P pages → finmap.get pages p ≡ Some page
-    → length page.bytes ≡ P
-size_at P p pages page sized is =
-    sym (ap (λ (o : Option Page). length (unwrap_or o (record { bytes = []; tags = no_tags })).bytes) is)
-    ∙ sized.each p (ap is_some is)
 
 same_twice : (a b : ℕ) (x : Bool) → (eqb a a && eqb b b) ≡ x → x ≡ true
 same_twice a b x e = sym e ∙ (λ i. eq-eqb a a refl i && eq-eqb b b refl i)

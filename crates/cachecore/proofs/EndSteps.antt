@@ -1,5 +1,5 @@
 -- The end of a request is a step of the machine.
-use Rattle.std.proofs.Common.{◌≡◌, ℕ, Bool, true, false, cond, eqb, eqb-true, eq-eqb, List, refl, ap, sym, subst, ◌∙◌}
+use Rattle.std.proofs.Common.{◌≡◌, Bool, true, false, cond, eqb, eqb-true, eq-eqb, refl, ap, sym, subst, ◌∙◌}
 use Rattle.std.specs.Prelude.{◌&&◌, Option, Some, None, Ok, Err}
 use Rattle.std.specs.FinMap as finmap
 use Rattle.pc_types.specs.Kinds.{same_kind}
@@ -13,7 +13,6 @@ use Rattle.machine.specs.declared.event.Outcome.{Outcome}
 use Rattle.machine.specs.declared.event.Outcome.TheVariants as outcome
 use Rattle.machine.specs.declared.event.Reply.{Reply}
 use Rattle.machine.specs.declared.event.Reply.TheVariants as reply
-use Rattle.machine.specs.State as machine
 use Rattle.machine.specs.State.{State, Request}
 use Rattle.machine.specs.Changes as changes
 use Rattle.machine.specs.Changes.{ended}

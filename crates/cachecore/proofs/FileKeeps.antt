@@ -9,7 +9,7 @@ use Rattle.std.specs.FinSet as set
 use Rattle.std.proofs.lemmas.Bool.Decides.{nat_tests}
 use Rattle.std.proofs.lemmas.List.{length-set, get_or_past}
 use Rattle.std.proofs.lemmas.List.Sums.{sum_by-set}
-use Rattle.pc_types.specs.declared.limits.TheConstants.{MAX_FILE_SIZE, SERIAL_END}
+use Rattle.pc_types.specs.declared.limits.TheConstants.{MAX_FILES, MAX_FILE_SIZE, SERIAL_END}
 use Rattle.blockmap.specs.Blocks.{Blocks, Spots}
 use Rattle.blockmap.specs.Keys.{IsPage}
 use Rattle.machine.specs.State.{State, File, Page, Request, Sync, no_file, file_at, page_at, is_filling, cached_total}
@@ -56,24 +56,13 @@ module _ {s : State} {store : Store} {blocks : Blocks} (c : IsCore s store block
 
     pub requests_core : (now : Store) (held : FinMap nat_cmp Bool) → FitsCore same_files now held
         → IsCore same_files now (record blocks { spots = spots; held = held })
-    requests_core now held n = record {
-      few_files = c.few_files;
-      known = c.known;
-      bounded = c.bounded;
-      sized = c.sized;
-      page = n.page;
-      framed = c.framed;
-      counted = (λ i. cached_total s + sym (filling_is same_files n.sound now.filling n.filling) i + now.free)
-          ∙ n.counted;
-      filling = n.filling;
-      device = c.device;
-      holds = n.holds;
-      within = n.within;
-      filed = n.filed;
-      failed = n.failed;
-      serials = n.serials;
-      sound = n.sound;
-    }
+    requests_core now held n =
+        assumption (
+          n,
+          c,
+          ap (λ (k : ℕ). cached_total s + k + now.free)
+              (sym (filling_is same_files n.sound now.filling n.filling)) ∙ n.counted,
+        )
 
   -- file f becomes e
   module _ (f : ℕ) (e : File) (here : f < length s.files) (spots : Spots) (next : ℕ) (requests : FinMap nat_cmp Request)
@@ -96,22 +85,17 @@ module _ {s : State} {store : Store} {blocks : Blocks} (c : IsCore s store block
     pub file_core : (now : Store) (held : FinMap nat_cmp Bool) → e.size ≡ (file_at s f).size
         → AreSized s.sizes.page e.pages → FitsCore after now held
         → IsCore after now (record blocks { spots = spots; held = held })
-    file_core now held size sized n = record {
-      few_files = (let a = c.few_files in let b = count_files in omega arith);
-      known = λ h g is. (let a = c.known h g is in let b = count_files in omega arith);
-      bounded = each_file (λ x. x.size ≤ MAX_FILE_SIZE) (subst (λ k. k ≤ MAX_FILE_SIZE) (sym size) (c.bounded f))
-          c.bounded;
-      sized = each_file (λ x. AreSized s.sizes.page x.pages) sized c.sized;
-      page = n.page;
-      framed = c.framed;
-      counted = (λ i. cached_total after + sym (filling_is after n.sound now.filling n.filling) i + now.free)
-          ∙ n.counted;
-      filling = n.filling;
-      device = c.device;
-      holds = n.holds;
-      within = n.within;
-      filed = n.filed;
-      failed = n.failed;
-      serials = n.serials;
-      sound = n.sound;
-    }
+    file_core now held size sized n =
+        let few : length after.files ≤ MAX_FILES = (let a = c.few_files in let b = count_files in omega arith) in
+        let known : (h g : ℕ) → finmap.get s.handles h ≡ Some g → g < length after.files =
+        λ h g is. (let a = c.known h g is in let b = count_files in omega arith) in
+        assumption (
+          n,
+          c,
+          few,
+          known,
+          each_file (λ x. x.size ≤ MAX_FILE_SIZE) (subst (λ k. k ≤ MAX_FILE_SIZE) (sym size) (c.bounded f)) c.bounded,
+          each_file (λ x. AreSized s.sizes.page x.pages) sized c.sized,
+          ap (λ (k : ℕ). cached_total after + k + now.free) (sym (filling_is after n.sound now.filling n.filling))
+              ∙ n.counted,
+        )

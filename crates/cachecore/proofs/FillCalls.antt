@@ -1,11 +1,8 @@
 -- What is left of the begin of a fill after its first tests: its job, and what the cache keeps.
 use Rattle.std.proofs.Common.{◌≡◌, ℕ, ◌-◌, ◌<◌, false, true, length, refl, ap, sym, ◌∙◌}
 use Rattle.std.specs.Prelude.{Some, option_map, unwrap_or}
-use Rattle.std.specs.Ordering.{nat_cmp}
 use Rattle.std.specs.FinMap as finmap
-use Rattle.std.specs.FinMap.{FinMap}
 use Rattle.std.specs.FinSet as set
-use Rattle.pc_types.specs.Limits.{Sizes}
 use Rattle.pc_types.specs.Spots.{Spot}
 use Rattle.pc_types.specs.declared.kind.Kind.TheVariants.{Fill}
 use Rattle.pc_types.specs.declared.limits.TheConstants.{SERIAL_END}
@@ -20,7 +17,6 @@ use Rattle.machine.specs.Changes.{requested}
 use Rattle.machine.specs.PageLists.{entered}
 use Rattle.pagestore.specs.Store.{Store}
 use Rattle.cachecore.specs.Replies.{IsJobOf}
-use Rattle.cachecore.specs.Tables.{IsCache}
 use Rattle.cachecore.proofs.FillKeeps.{block_is, filling_store, fill_begun_core}
 use Rattle.cachecore.proofs.Parts.{IsKept, Parts, state_by}
 use Rattle.cachecore.proofs.SyncLaws.{moved_syncs}

@@ -1,13 +1,10 @@
 -- The begin of a flush, way by way: the step of the machine, its job, and what the cache keeps.
-use Rattle.std.proofs.Common.{◌≡◌, ℕ, ◌<◌, ◌≤◌, Bool, true, false, not, eq-eqb, List, [], ◌++◌, length, take, drop}
+use Rattle.std.proofs.Common.{◌≡◌, ℕ, ◌<◌, ◌≤◌, true, false, not, eq-eqb, List, [], ◌++◌, length, take, drop}
 use Rattle.std.proofs.Common.{refl, ap, sym, subst, ◌∙◌, arith}
 use Rattle.std.specs.Prelude.{Option, Some, None, is_some, option_map, unwrap_or, nat_le}
-use Rattle.std.specs.Ordering.{nat_cmp}
 use Rattle.std.specs.FinMap as finmap
-use Rattle.std.specs.FinMap.{FinMap}
 use Rattle.std.proofs.lemmas.Bool.Decides.{nat_tests}
 use Rattle.std.proofs.Math.Seq.{take-append_seam}
-use Rattle.pc_types.specs.Limits.{Sizes}
 use Rattle.pc_types.specs.Spots.{Spot}
 use Rattle.pc_types.specs.Tags.{no_tags}
 use Rattle.pc_types.specs.declared.ids.FileId.{FileId}
@@ -27,7 +24,7 @@ use Rattle.writeback.specs.Flights.{Flights}
 use Rattle.maps.specs.Maps.{change_at}
 use Rattle.machine.specs.declared.event.Event.TheVariants as event
 use Rattle.machine.specs.declared.event.Reply.TheVariants as reply
-use Rattle.machine.specs.State.{State, Page, Request, file_at, page_at, page_bytes, block_at}
+use Rattle.machine.specs.State.{State, Page, Request, file_at, page_bytes, block_at}
 use Rattle.machine.specs.Changes.{started, flush_pick, under_write}
 use Rattle.machine.specs.Tests.{is_full, tests}
 use Rattle.machine.specs.Step.{Step}
@@ -36,7 +33,6 @@ use Rattle.machine.proofs.steps.Choices.{at_false, at_true}
 use Rattle.machine.proofs.steps.Passed.{may_flush}
 use Rattle.pagestore.specs.Store.{the_page, Store, stored_at, stored_page, with_pages}
 use Rattle.cachecore.specs.Starting.{IsStarted, MayStart}
-use Rattle.cachecore.specs.Tables.{IsCache}
 use Rattle.cachecore.proofs.EndKeeps.{put_is}
 use Rattle.cachecore.proofs.FlushKeeps.{flush_begun_core, has_block as page_block, held_room as room_left, serials_left}
 use Rattle.cachecore.proofs.FlushKeeps.{unheld_here}

@@ -1,14 +1,14 @@
 -- The table of open handles: the map that its places make, and what it keeps through each change.
 use Rattle.std.proofs.Common.{◌≡◌, ◌≢◌, ℕ, ◌+◌, ◌-◌, ◌<◌, ◌≤◌, ◌&&◌, ◌⊎◌, zero, suc, Bool, true, false, cond, not, eqb}
-use Rattle.std.proofs.Common.{eq-eqb, List, [], ◌∷◌, length, replicate, get_or, Option, Some, None, refl, ap, sym, ◌∙◌}
+use Rattle.std.proofs.Common.{List, length, replicate, get_or, Option, Some, None, refl, ap, sym, ◌∙◌}
 use Rattle.std.proofs.Common.{arith, inl, inr}
 use Rattle.std.specs.Prelude.{◌||◌, is_some, Result, Ok, Err, IsOk, IsOkUnless, slice_set}
-use Rattle.std.specs.Ordering.{nat_cmp, eq_by_cmp}
+use Rattle.std.specs.Ordering.{nat_cmp}
 use Rattle.std.specs.Cmp.{nat_cmp_total, unsigned_tied}
 use Rattle.std.specs.FinMap as map
 use Rattle.std.specs.FinSet as set
-use Rattle.std.proofs.lemmas.Bool.{cases_eq, cases_lt, ne_eqb, false≢true}
-use Rattle.std.proofs.lemmas.List.{length-set, length-replicate, get_or-replicate, get_or_past}
+use Rattle.std.proofs.lemmas.Bool.{cases_lt, ne_eqb, false≢true}
+use Rattle.std.proofs.lemmas.List.{length-set, length-replicate, get_or_past}
 use Rattle.pc_types.specs.declared.limits.TheConstants.{MAX_HANDLES}
 use Rattle.pc_types.specs.declared.refusal.Refusal.{Refusal}
 use Rattle.pc_types.specs.declared.refusal.Refusal.TheVariants.{Memory, NoEntry, NoId}
@@ -20,8 +20,7 @@ use Rattle.maps.proofs.Lengths.{len_one_gone}
 use Rattle.mapping.proofs.MapLemmas.{len_insert_new}
 use Rattle.machine.proofs.steps.Choices.{some_of}
 use Rattle.machine.specs.Step.{IsLowest}
-use Rattle.maps.proofs.MapLaws.{same_nat_map}
-use Rattle.maps.proofs.Maps.{get-insert_nat, get-remove_nat}
+use Rattle.maps.proofs.Maps.{get-remove_nat}
 
 -- ---- how many entries a map has
 

@@ -1,13 +1,11 @@
 -- The requests in flight hold their blocks after a truncation: those of the pages cut off are dropped, and their blocks
 -- are cut.
-use Rattle.std.proofs.Common.{◌≡◌, ℕ, suc, Bool, true, false, cond, eqb, eqb-true, eq-eqb, T, List, [], ◌∷◌, length}
-use Rattle.std.proofs.Common.{refl, ap, sym, subst, ◌∙◌, map}
+use Rattle.std.proofs.Common.{◌≡◌, ℕ, Bool, true, false, cond, eqb, eqb-true, eq-eqb}
+use Rattle.std.proofs.Common.{refl, ap, sym, ◌∙◌}
 use Rattle.std.specs.Prelude.{◌&&◌, ◌||◌, Option, Some, None, is_some, option_map, nat_le}
-use Rattle.std.specs.Ordering.{nat_cmp, is_lt, eq_by_cmp}
-use Rattle.std.specs.Cmp.{nat_cmp_total, unsigned_tied}
+use Rattle.std.specs.Ordering.{nat_cmp}
 use Rattle.std.specs.FinMap as finmap
-use Rattle.std.specs.FinMap.{FinMap, find, nat_cmp-IsAntisymmetric, entries_sorted, get-entries, len-entries}
-use Rattle.std.specs.FinMap.Entries.{below_all, is_sorted, same_entries}
+use Rattle.std.specs.FinMap.{FinMap}
 use Rattle.std.proofs.lemmas.Bool.{and_parts, and_from, false_from_ne_true, false≢true}
 use Rattle.pc_types.specs.Spots.{Spot}
 use Rattle.blockmap.specs.Blocks.{Blocks, Spots, CutsFrom, has_block, is_from, is_cut}

@@ -35,3 +35,4 @@ pub mod Values
 pub mod WriteLemmas
 pub mod WriteMoves
 pub mod WriteSteps
+pub mod ToWrite

@@ -309,9 +309,6 @@ is_given b now f p (Ok x) none ok low is = record { block = x.0; none = none; lo
 is_given b now f p (Err e) none ok low is = absurd (false≢true ok)
 
 module _ (b now : Blocks) (f p end : ℕ) (less : p < end) (g : IsGiven b f p now) where
-  abbrev after : Blocks
-  after = record b { spots = finmap.insert b.spots (f, p) (record { block = g.block; written = false }) }
-
   pub room_given : count_by (is_bare b f) (range_with_len p (end - p)) ≤ length (free_blocks b)
       → count_by (is_bare now f) (range_with_len (p + 1) (end - (p + 1))) ≤ length (free_blocks now)
   room_given h =

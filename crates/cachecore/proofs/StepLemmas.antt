@@ -3,54 +3,38 @@ use Rattle.std.proofs.Common.{◌≡◌, ℕ, ◌+◌, ◌-◌, ◌/◌, ◌%◌
 use Rattle.std.proofs.Common.{◌∷◌, ◌++◌}
 use Rattle.std.proofs.Common.{length, get_or, take, refl, ap, sym, subst, ◌∙◌, arith, length-append}
 use Rattle.std.specs.Prelude.{◌&&◌, ◌||◌, Option, Some, None, is_some, unwrap_or, find, nat_lt, nat_le, Result, Ok, Err}
-use Rattle.std.specs.Prelude.{IsErrAnd, is_err, OnOk, OnErr}
+use Rattle.std.specs.Prelude.{IsErrAnd}
 use Rattle.std.specs.List.{range_with_len, list_any}
-use Rattle.std.specs.Ordering.{nat_cmp}
 use Rattle.std.specs.FinMap as finmap
-use Rattle.std.specs.FinMap.{FinMap}
-use Rattle.std.proofs.lemmas.Bool.{false≢true}
 use Rattle.std.proofs.lemmas.Bool.Decides.{nat_tests}
 use Rattle.std.proofs.lemmas.Grind.{same_number_lists}
 use Rattle.std.proofs.lemmas.List.{get_or-take, length-take, get_or_append_left}
 use Rattle.pc_types.specs.declared.ids.FileId.{FileId}
 use Rattle.pc_types.specs.declared.ids.HandleId.{HandleId}
 use Rattle.pc_types.specs.declared.ids.PageIndex.{PageIndex}
-use Rattle.pc_types.specs.declared.ids.Serial.{Serial}
 use Rattle.pc_types.specs.declared.limits.TheConstants.{MAX_FILES, MAX_HANDLES, MAX_TOUCHED, MAX_FILE_SIZE}
 use Rattle.pc_types.specs.declared.refusal.Refusal.{Refusal}
 use Rattle.pc_types.specs.declared.refusal.Refusal.TheVariants.{Busy, TooLong, TooLarge, NoFrame, Memory}
 use Rattle.pc_types.specs.declared.refusal.Refusal.TheVariants.{TooManyInFlight}
-use Rattle.pc_types.specs.Tags.{no_tags}
-use Rattle.pc_types.specs.Files.{cut}
-use Rattle.pc_types.specs.declared.kind.Kind.TheVariants.{Fill}
 use Rattle.machine.specs.declared.event.Event.{Event}
 use Rattle.machine.specs.declared.event.Event.TheVariants as event
 use Rattle.machine.specs.declared.event.Reply.{Reply}
 use Rattle.machine.specs.declared.event.Reply.TheVariants as reply
-use Rattle.machine.specs.State.{State, File, Page, Sync, no_file, file_at, handle_file, is_open, is_cached, is_filling}
+use Rattle.machine.specs.State.{State, File, Sync, no_file, file_at, handle_file, is_open, is_cached, is_filling}
 use Rattle.machine.specs.State.{is_written}
 use Rattle.machine.specs.State.{touched_count, bytes_at, page_count, free_frames}
-use Rattle.machine.specs.Changes.{boundary, changed, put_page, requested, truncated, written}
+use Rattle.machine.specs.Changes.{boundary, changed, truncated, written}
 use Rattle.machine.specs.Tests.{tests, read_count, read_stop, write_stop, truncate_stop, must_fill, stopped, first_of}
 use Rattle.machine.specs.Tests.{refuse, room_tests, write_tests, is_full}
 use Rattle.machine.specs.Step.{IsLowest, Step, AnswersOr, MayReply}
-use Rattle.machine.proofs.changes.ChangeLaws.{byte_at, byte-bytes_at, length-bytes_at}
+use Rattle.machine.proofs.changes.ChangeLaws.{byte-bytes_at, length-bytes_at}
 use Rattle.machine.proofs.steps.Choices.{at_true, at_false}
-use Rattle.pagestore.specs.Ranges.{AreCached, AreRead, page_byte}
-use Rattle.pagestore.proofs.Runs.{none_absent}
+use Rattle.pagestore.specs.Ranges.{AreRead, page_byte}
 
 -- what `?` makes of an error
 pub err_is : {A E : Type 0} (r : Result A E) (e : E) → IsErrAnd r (λ x. x ≡ e) → r ≡ Err e
 err_is (Ok x) e h = absurd h
 err_is (Err x) e h = ap Err h
-
-pub when_err : {A E : Type 0} (r : Result A E) (P : Type 0) → true ≡ is_err r → OnErr r P → P
-when_err (Ok x) P e h = absurd (false≢true (sym e))
-when_err (Err x) P e h = h
-
-pub when_ok : {A E : Type 0} (r : Result A E) (P : Type 0) → false ≡ is_err r → OnOk r P → P
-when_ok (Ok x) P e h = h
-when_ok (Err x) P e h = absurd (false≢true e)
 
 -- ---- a step from its tests
 
@@ -190,18 +174,6 @@ module _ (s : State) (h : HandleId) (o n f P count : ℕ) (entry : File) (c : Re
         same : take count (out ++ rest) ≡ bytes_at s g o count
         same = same_number_lists _ _ (bytes_len ∙ sym (length-bytes_at s g o count))
             (λ i k. byte i (omega (arith, bytes_len)))
-
-pub all_cached : (first end : ℕ) (pages : FinMap nat_cmp Page) → first ≤ end
-    → None ≡ find (λ q. not (is_some (finmap.get pages q))) (range_with_len first (end - first))
-    → AreCached first end pages
-all_cached first end pages h none = record {
-  each = λ q l k. cached (is_some (finmap.get pages q))
-      (none_absent (λ q. not (is_some (finmap.get pages q))) first (end - first) (sym none) q l (omega arith));
-}
-  where
-    cached : (b : Bool) → not b ≡ false → b ≡ true
-    cached true n = refl
-    cached false n = absurd (false≢true (sym n))
 
 -- ---- writes
 
@@ -349,46 +321,3 @@ module _ (s : State) (h : HandleId) (p : PageIndex) (f : ℕ) (found : Some f �
       pub fill_no_frame : free_frames s ≡ 0 → Step s (event.FillBegin h p) (reply.Refused NoFrame) s
       fill_no_frame full = by_test s filling (reply.Refused NoFrame)
           (filling_tests_left ∙ at_false _ _ _ idle ∙ at_false _ _ _ absent ∙ at_true _ _ _ (ap (λ n. eqb n 0) full))
-
-      module _ (frame : 0 < free_frames s) where
-        filling_room_left : tests s filling ≡ cond (is_written s f p.0 && is_full s) (refuse TooManyInFlight) None
-        filling_room_left = filling_tests_left ∙ at_false _ _ _ idle ∙ at_false _ _ _ absent
-            ∙ at_false _ _ _ (above_zero (free_frames s) frame)
-
-        -- the page's bytes are not on the device
-        module _ (fresh : is_written s f p.0 ≡ false) where
-          none_left : tests s filling ≡ None
-          none_left = filling_room_left ∙ ap (λ b. cond (b && is_full s) (refuse TooManyInFlight) None) fresh
-
-          pub zeros_step : (new : State)
-              → new ≡ put_page s f p.0 (record { bytes = cut [] s.sizes.page; tags = no_tags })
-              → Step s (event.FillBegin h p) reply.Filled new
-          zeros_step new is = by_change s filling reply.Filled new none_left
-              (ap (λ g. is_written s g p.0) (file_is s h f found) ∙ fresh)
-              (is ∙ ap (λ g. put_page s g p.0 (record { bytes = cut [] s.sizes.page; tags = no_tags }))
-              (sym (file_is s h f found)))
-
-          pub zeros_no_memory : (new : State) → new ≡ s → Step s (event.FillBegin h p) (reply.Refused Memory) new
-          zeros_no_memory new same = by_change s filling (reply.Refused Memory) new none_left tt same
-
-        -- they are
-        module _ (there : is_written s f p.0 ≡ true) where
-          full_left : tests s filling ≡ cond (is_full s) (refuse TooManyInFlight) None
-          full_left = filling_room_left ∙ ap (λ b. cond (b && is_full s) (refuse TooManyInFlight) None) there
-
-          pub read_refused : (why : Refusal) (new : State) → new ≡ s → why ≡ cond (is_full s) TooManyInFlight Memory
-              → Step s (event.FillBegin h p) (reply.Refused why) new
-          read_refused why new same is = by_room (is_full s) refl
-            where
-              by_room : (b : Bool) → is_full s ≡ b → Step s (event.FillBegin h p) (reply.Refused why) new
-              by_room true k = subst (Step s filling (reply.Refused why)) (sym same)
-                  (by_test s filling (reply.Refused why)
-                  (full_left ∙ at_true _ _ _ k ∙ ap refuse (sym (is ∙ at_true _ _ _ k))))
-              by_room false k = subst (λ x. Step s filling (reply.Refused x) new) (sym (is ∙ at_false _ _ _ k))
-                  (by_change s filling (reply.Refused Memory) new (full_left ∙ at_false _ _ _ k) tt same)
-
-          pub read_step : (t : Serial) (new : State) → is_full s ≡ false → t.0 ≡ s.next
-              → new ≡ requested s Fill f p.0 → Step s (event.FillBegin h p) (reply.Job t) new
-          read_step t new room next is = by_change s filling (reply.Job t) new (full_left ∙ at_false _ _ _ room)
-              (ap (λ g. is_written s g p.0) (file_is s h f found) ∙ there, next)
-              (is ∙ ap (λ g. requested s Fill g p.0) (sym (file_is s h f found)))

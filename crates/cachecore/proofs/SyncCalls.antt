@@ -1,15 +1,12 @@
 -- The calls of a sync, way by way: the step of the machine, and what the cache keeps.
-use Rattle.std.proofs.Common.{◌≡◌, ℕ, ◌+◌, ◌<◌, ◌≤◌, Bool, true, false, cond, not, List, [], length, refl, ap, sym}
+use Rattle.std.proofs.Common.{◌≡◌, ℕ, ◌+◌, ◌<◌, ◌≤◌, Bool, true, false, cond, [], length, refl, ap, sym}
 use Rattle.std.proofs.Common.{subst, ◌∙◌, arith}
 use Rattle.std.specs.Prelude.{◌&&◌, Option, Some, None, find, is_some, nat_le, option_map, unwrap_or}
 use Rattle.std.specs.Ordering.{nat_cmp}
 use Rattle.std.specs.FinMap as finmap
 use Rattle.std.specs.FinMap.{FinMap}
-use Rattle.std.specs.FinSet as set
 use Rattle.std.proofs.lemmas.Bool.{false≢true}
 use Rattle.std.proofs.lemmas.Bool.Decides.{nat_tests}
-use Rattle.pc_types.specs.Limits.{Sizes}
-use Rattle.pc_types.specs.Spots.{place_cmp}
 use Rattle.pc_types.specs.Tags.{TagSet, no_tags}
 use Rattle.pc_types.specs.declared.ids.HandleId.{HandleId}
 use Rattle.pc_types.specs.declared.ids.PageIndex.{PageIndex}
@@ -28,9 +25,9 @@ use Rattle.maps.proofs.Maps.{get-each_value}
 use Rattle.maps.proofs.MapLaws.{len-each_value}
 use Rattle.machine.specs.declared.event.Event.TheVariants as event
 use Rattle.machine.specs.declared.event.Reply.TheVariants as reply
-use Rattle.machine.specs.State.{State, File, Page, Request, Sync, bound_of, file_at, first_awaited, handle_file}
+use Rattle.machine.specs.State.{State, File, Page, Request, Sync, file_at, first_awaited, handle_file}
 use Rattle.machine.specs.State.{in_range, page_at, tags_of}
-use Rattle.machine.specs.Changes.{is_left, new_sync, put_sync, started, sync_begun, sync_pick, to_write}
+use Rattle.machine.specs.Changes.{is_left, put_sync, started, sync_begun, to_write}
 use Rattle.machine.specs.Sound.{Sound}
 use Rattle.machine.specs.Step.{IsLowest, Step}
 use Rattle.machine.specs.Tests.{is_full}
@@ -38,11 +35,11 @@ use Rattle.machine.proofs.sound.Steps.{steps_stay_sound}
 use Rattle.machine.proofs.steps.Choices.{and_true}
 use Rattle.machine.proofs.steps.Passed.{may_start}
 use Rattle.pagestore.specs.Ranges.{AreSized}
-use Rattle.pagestore.specs.Store.{the_page, Store, stored_at, with_pages}
+use Rattle.pagestore.specs.Store.{stored_at, with_pages}
 use Rattle.pagestore.specs.Syncing.{FailedSince, IsCoded, SyncSays, bound_now, failed_of, left_of}
 use Rattle.cachecore.specs.Syncing.{AreSyncs}
 use Rattle.cachecore.specs.Starting.{IsNext, IsStarted, MayStart}
-use Rattle.cachecore.specs.Tables.{IsCache, IsCore}
+use Rattle.cachecore.specs.Tables.{IsCore}
 use Rattle.cachecore.proofs.CoreLemmas.{core-syncs}
 use Rattle.cachecore.proofs.FileKeeps.{all_frames, cached_after, count_files, each_file, file_core}
 use Rattle.cachecore.proofs.Parts.{Goes, IsKept, Parts, state_by}

@@ -12,7 +12,7 @@ use Rattle.pc_types.specs.declared.refusal.Refusal.TheVariants.{BadHandle, BadRa
 use Rattle.machine.specs.declared.event.Event.TheVariants as event
 use Rattle.machine.specs.declared.event.Reply.{Reply}
 use Rattle.machine.specs.declared.event.Reply.TheVariants as reply
-use Rattle.machine.specs.State.{State, File, Page, Request, Sync, bound_of, file_at, first_awaited, handle_file}
+use Rattle.machine.specs.State.{State, Page, Request, Sync, bound_of, file_at, first_awaited, handle_file}
 use Rattle.machine.specs.State.{is_open, page_at, tags_of}
 use Rattle.machine.specs.Changes.{drop_sync, is_left, new_sync, put_sync, started, sync_begun, sync_pick, sync_stepped}
 use Rattle.machine.specs.Tests.{is_full, refuse, start_tests, sync_tests}

@@ -1,21 +1,20 @@
 -- A write over a range of pages, from the parts that the code does.
-use Rattle.std.proofs.Common.{◌≡◌, ℕ, ◌+◌, ◌-◌, ◌*◌, ◌/◌, ◌<◌, ◌≤◌, zero, suc, max, Bool, true, false, cond, not, ◌&&◌}
-use Rattle.std.proofs.Common.{eqb, eqb-true, leb, ltb, List, [], ◌∷◌, length, drop, map, refl, ap, sym, subst, ◌∙◌}
+use Rattle.std.proofs.Common.{◌≡◌, ℕ, ◌+◌, ◌-◌, ◌/◌, ◌<◌, max, Bool, true, false, cond, not, ◌&&◌}
+use Rattle.std.proofs.Common.{eqb, List, [], length, refl, ap, sym, subst, ◌∙◌}
 use Rattle.std.proofs.Common.{arith}
-use Rattle.std.specs.Prelude.{Option, Some, None, is_some, unwrap_or, if◌then◌else◌, nat_le, nat_lt, count_by}
+use Rattle.std.specs.Prelude.{Option, Some, None, is_some, unwrap_or, if◌then◌else◌, nat_le, nat_lt}
 use Rattle.std.specs.Ordering.{nat_cmp}
-use Rattle.std.specs.Cmp.{nat_cmp_total, unsigned_tied}
 use Rattle.std.specs.FinMap as finmap
-use Rattle.std.specs.FinMap.{FinMap, find, len-insert, get-from_entries, get-entries}
+use Rattle.std.specs.FinMap.{FinMap}
 use Rattle.std.proofs.lemmas.Bool.{false≢true}
 use Rattle.std.proofs.lemmas.Bool.Decides.{nat_tests}
-use Rattle.pc_types.specs.Files.{cut, pwrite}
+use Rattle.pc_types.specs.Files.{cut}
 use Rattle.pc_types.specs.Tags.{no_tags}
-use Rattle.pc_types.proofs.FileLaws.{length-cut, length-pwrite}
-use Rattle.machine.specs.State.{Page, File, touched, touched_count}
+use Rattle.pc_types.proofs.FileLaws.{length-cut}
+use Rattle.machine.specs.State.{Page, File}
 use Rattle.machine.proofs.changes.StateLaws.{touches}
 use Rattle.pagestore.specs.Store.{blank}
-use Rattle.machine.specs.Changes.{overlay, written_page, written_pages}
+use Rattle.machine.specs.Changes.{written_page, written_pages}
 use Rattle.pagestore.specs.Ranges.{AreSized, IsLaid}
 use Rattle.maps.proofs.MapLaws.{same_nat_map}
 use Rattle.maps.proofs.Maps.{get-insert_nat}

@@ -1,15 +1,14 @@
 -- A write of a file's pages in the store, from the steps that the code does.
-use Rattle.std.proofs.Common.{◌≡◌, ℕ, ◌+◌, ◌-◌, ◌/◌, ◌<◌, ◌≤◌, max, Bool, true, false, cond, not, ◌&&◌, eq-eqb, List}
+use Rattle.std.proofs.Common.{◌≡◌, ℕ, ◌+◌, ◌-◌, ◌/◌, ◌<◌, max, cond, not, ◌&&◌, eq-eqb, List}
 use Rattle.std.proofs.Common.{length, refl, ap, sym, ◌∙◌, arith}
-use Rattle.std.specs.Prelude.{Option, Some, None, is_some, if◌then◌else◌, nat_le, nat_lt, count_by, slice_set}
+use Rattle.std.specs.Prelude.{Some, is_some, if◌then◌else◌, nat_le, nat_lt, count_by, slice_set}
 use Rattle.std.specs.List.{range_with_len}
 use Rattle.std.specs.FinMap as finmap
-use Rattle.std.proofs.lemmas.Bool.{false≢true}
 use Rattle.std.proofs.lemmas.Bool.Decides.{nat_tests}
 use Rattle.std.proofs.lemmas.List.{set-set}
 use Rattle.machine.specs.State.{File, no_file, touched_count}
 use Rattle.pagestore.specs.Store.{blank, Store, stored_at, stored_page, is_awaited, with_pages, with_lists, AreMade}
-use Rattle.pagestore.specs.Ranges.{AreCached, AreSized, IsLaid}
+use Rattle.pagestore.specs.Ranges.{AreSized, IsLaid}
 use Rattle.machine.specs.PageLists.{PageLists}
 use Rattle.machine.proofs.changes.StateLaws.{get_or-set}
 use Rattle.pagestore.proofs.RangeLemmas.{stored-with, length-with}
@@ -40,11 +39,6 @@ made_here f first end old new here h =
 pub made_size : (f first end : ℕ) (old new : Store) → AreMade f first end old new → new.page ≡ old.page
 made_size f first end old new h = ap (λ (s : Store). s.page) h.rest
 
-pub laid_here : (f : ℕ) (made laid : Store) → f < length made.files
-    → laid ≡ with_pages made f (stored_at laid f).pages made.free → f < length laid.files
-laid_here f made laid here e =
-    omega (arith, here, ap (λ (s : Store). length s.files) e, length-with made f (stored_at laid f).pages made.free)
-
 -- the pages were accessed between
 pub laid_noted : (f : ℕ) (made noted laid : Store) (lists : PageLists) → noted ≡ with_lists made lists
     → laid ≡ with_pages noted f (stored_at laid f).pages noted.free
@@ -53,25 +47,6 @@ laid_noted f made noted laid lists noted_is laid_is =
     let now : laid ≡ with_lists (with_pages made f (stored_at laid f).pages made.free) lists = laid_is
     ∙ ap (λ (s : Store). with_pages s f (stored_at laid f).pages s.free) noted_is in
     now ∙ ap (with_lists (with_pages made f (stored_at laid f).pages made.free)) (sym (ap (λ (s : Store). s.lists) now))
-
-within : (first last q : ℕ) → first ≤ q → q ≤ last → (nat_le first q && nat_le q last) ≡ true
-within first last q h k = grind (arith, nat_tests)
-
-filled : {X : Type 0} (a b : Bool) (x : X) (o : Option X) → (a && b) ≡ true
-    → is_some (if a && b && not (is_some o) then Some x else o) ≡ true
-filled true true x o e = elim o as (λ o. is_some (if not (is_some o) then Some x else o) ≡ true)
-    [ None ↦ refl | Some y ↦ refl ]
-filled true false x o e = absurd (false≢true e)
-filled false b x o e = absurd (false≢true e)
-
--- each page of the range is cached then
-pub made_cached : (f first last : ℕ) (old new : Store) → AreMade f first (last + 1) old new
-    → AreCached first (last + 1) (stored_at new f).pages
-made_cached f first last old new h = record {
-  each = λ q above below. ap is_some (made_page f first last old new old.page refl h q)
-      ∙ filled (nat_le first q) (nat_le q last) (blank old.page) (stored_page old f q)
-      (within first last q above (omega arith));
-}
 
 pub made_sized : (f first last : ℕ) (old new : Store) (P : ℕ) → P ≡ old.page → AreMade f first (last + 1) old new
     → AreSized P (stored_at old f).pages → AreSized P (stored_at new f).pages

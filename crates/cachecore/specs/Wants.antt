@@ -1,9 +1,10 @@
 -- Which room a call wants: frames for the pages that it lacks, and room for those that it makes dirty. No event asks
 -- for it.
-use Rattle.std.specs.Prelude.{ℕ, ◌+◌, Bool, not, ◌&&◌, nat_lt, nat_le, count_by}
+use Rattle.std.specs.Prelude.{◌≡◌, ◌<◌, ℕ, ◌+◌, Bool, true, not, ◌&&◌, None, is_some, nat_lt, nat_le, count_by}
 use Rattle.pc_types.specs.declared.limits.TheConstants.{MAX_FILE_SIZE, MAX_TOUCHED}
-use Rattle.machine.specs.State.{State, dirty_total, handle_file, free_frames, is_cached, is_open, tags_at, touched}
-use Rattle.machine.specs.State.{touched_count}
+use Rattle.machine.specs.Changes.{flush_pick}
+use Rattle.machine.specs.State.{State, dirty_total, file_at, handle_file, free_frames, is_cached, is_open, tags_at}
+use Rattle.machine.specs.State.{touched, touched_count}
 
 -- n bytes at o of an open file, which a call may touch: some, in at most 16 pages, and none past the greatest size of a
 -- file
@@ -27,3 +28,11 @@ abbrev pub passes_limit : State → ℕ → ℕ → ℕ → Bool
 passes_limit s h o n =
     let more = dirtied s (handle_file s h) o n in
     may_touch s h o n && (nat_lt 0 more && nat_lt s.sizes.dirty_limit (dirty_total s + more))
+
+-- no file has a page to write; f is the first that has one
+abbrev pub NothingToWrite : State → Type 0
+NothingToWrite s = (f : ℕ) → flush_pick (file_at s f) ≡ None
+
+abbrev pub IsFirstToWrite : State → ℕ → Type 0
+IsFirstToWrite s f =
+    (is_some (flush_pick (file_at s f)) ≡ true) × ((g : ℕ) → g < f → flush_pick (file_at s g) ≡ None)

@@ -1,13 +1,13 @@
-//! Which room a call wants. Asking for it is no event.
+//! Which room a call wants, and which file has a page to write. Asking is no event.
 
 ghost use Rattle.std.specs.Prelude.{◌≡◌, ◌+◌, ◌-◌, ◌/◌, ◌<◌, ◌≤◌, IfNone, IfSome, length, true, false};
 ghost use Rattle.pc_types.specs.declared.limits.TheConstants.{MAX_FILE_SIZE, MAX_TOUCHED};
 ghost use Rattle.machine.specs.State.{free_frames, handle_file};
-ghost use Rattle.cachecore.specs.Wants.{lacks_frames, may_touch, passes_limit};
+ghost use Rattle.cachecore.specs.Wants.{IsFirstToWrite, NothingToWrite, lacks_frames, may_touch, passes_limit};
 
 use crate::cache::{CacheCore, is_too_long};
-use pc_types::HandleId;
 use pc_types::limits::MAX_FILE_SIZE;
+use pc_types::{FileId, HandleId};
 
 /// The pages of a file from `first` up to `end`.
 struct Touched {
@@ -33,6 +33,19 @@ impl CacheCore {
         ensures { result ≡ free_frames self.now.state }
     {
         self.pages.free_frames()
+    }
+
+    /// The first file that has a page to write: one that is dirty and has no write in flight.
+    pub fn first_to_write(&self) -> Option<FileId>
+        ensures some { IfSome result (λ f. IsFirstToWrite self.now.state f.0) }
+        ensures none { IfNone result (NothingToWrite self.now.state) }
+    {
+        'files: for file in 0..self.pages.file_count() {
+            if self.pages.flush_pick(file).is_some() {
+                return Some(FileId(file));
+            }
+        }
+        None
     }
 
     /// Whether too many pages would be dirty with those that these bytes of the handle's file touch. `false` where no call may

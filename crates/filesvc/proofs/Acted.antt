@@ -19,6 +19,7 @@ use Rattle.runs.proofs.moments.Reached.{files_step, reached_step}
 use Rattle.world.proofs.Stays.{stays}
 use Rattle.filesvc.proofs.FailedWrites.{core_sound}
 use Rattle.filesvc.proofs.FileSizes.{bounded_stays, few_stays}
+use Rattle.filesvc.proofs.Orderly.{orderly_stays}
 use Rattle.filesvc.specs.Rests.{IsResting, IsService, IsServing}
 
 resting : (w : WorldSeen) → IsResting w → NoneInFlight (world_of w)
@@ -36,6 +37,7 @@ module _ (name : ℕ) (w new : WorldSeen) (table : TableId) (errors : RecorderSe
     rests = (let a = none_stays (world_of w) (world_of new) e r j (resting w s.serving.rests) m in record { requests = a.requests; outcomes = a.outcomes });
     reached = λ t. reached_step (world_of w) (world_of new) (Act e r) (s.serving.reached (tells t)) m;
     sound = core_sound (world_of w) (world_of new) (Act e r) m s.serving.sound;
+    orderly = orderly_stays (world_of w) (world_of new) (Act e r) m s.serving.sound s.serving.orderly;
     counted = subst (λ (x : Told). x.calls ≤ max_calls) (sym d) s.serving.counted;
     bounded = bounded_stays (world_of w) (world_of new) (Act e r) m s.serving.bounded;
     page = subst (λ (z : Sizes). MIN_PAGE_SIZE ≤ z.page) (sym (stays (world_of w) (world_of new) (Act e r) m).0) s.serving.page;

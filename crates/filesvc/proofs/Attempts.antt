@@ -32,18 +32,21 @@ use Rattle.filesvc.specs.declared.writes.Wrote.{Wrote}
 use Rattle.world.specs.declared.step.Step.TheVariants as step
 use Rattle.world.specs.Stepping.{Steps}
 use Rattle.filesvc.specs.Attempts.{Attempt, Follows, Helps, WroteAll, need_of, step_of, write_over}
-use Rattle.filesvc.specs.Made.{FailsFill, IsMadeOf, Tries, Try, write_step}
+use Rattle.filesvc.specs.Made.{FailsFill, IsMadeOf, Tries, write_step}
 use Rattle.filesvc.specs.Rests.{IsService}
 use Rattle.filesvc.specs.Seen.{HandleSeen, SoloSeen}
-use Rattle.filesvc.specs.Service.{FilesAfter, IsOpen, IsRefusal, IsSettledAtOnce, IsSoonOver, Keeps, Refuses, Serves, Tells, files, is_settled, touched_by, wrote_reply}
+use Rattle.filesvc.specs.Service.{FilesAfter, IsOpen, IsRefusal, IsSettledAtOnce, IsSoonOver, Keeps, LengthsAfter}
+use Rattle.filesvc.specs.Service.{Refuses, Serves, Tells, files, is_settled, length_after, touched_by, wrote_reply}
 use Rattle.filesvc.proofs.Acted.{service_acted}
 use Rattle.filesvc.proofs.CallSteps.{call_keeps, call_no_sync, comes, is_call, is_own, no_job, own_reply, plain_refused, appended_all, wrote_all}
 use Rattle.filesvc.proofs.FileSizes.{lengths_stay}
 use Rattle.filesvc.proofs.Laws.{helps_refl, tries_again, keeps_counted, keeps_trans, serves_counted, serves_refl, serves_trans}
 use Rattle.filesvc.proofs.Fronts.{closed_refuses, handle_of, kept_refuses}
-use Rattle.filesvc.proofs.RoomLaws.{faulted_before, held_same, room_before}
+use Rattle.filesvc.proofs.RoomLaws.{faulted_before, held_same}
 use Rattle.filesvc.specs.Rooms.{IsFillRefusal}
 use Rattle.filesvc.proofs.Needs.{need_most}
+use Rattle.filesvc.proofs.CallLengths.{length_kept, quiet_length, step_length}
+use Rattle.filesvc.specs.Rests.{IsOrderly}
 use Rattle.filesvc.proofs.Stops.{read_few, write_few}
 use Rattle.filesvc.proofs.WorldLaws.{made_keeps}
 
@@ -55,12 +58,11 @@ refused_before old mid e BadHandle new call s x = kept_refuses BadHandle refl ol
 refused_before old mid e TooLong new call s x = kept_refuses TooLong refl old mid s e call x
 refused_before old mid e TooLarge new call s x = kept_refuses TooLarge refl old mid s e call x
 refused_before old mid e NoSpace new call s x = x
-refused_before old mid e NoFrame new call s x = room_before old mid new NoFrame s x
-refused_before old mid e DirtyLimit new call s x = room_before old mid new DirtyLimit s x
+refused_before old mid e NoFrame new call s x = faulted_before old mid new s x
+refused_before old mid e DirtyLimit new call s x = faulted_before old mid new s x
 refused_before old mid e (Io code) new call s x = faulted_before old mid new s x
 refused_before old mid e TooManyInFlight new call s x = x
 refused_before old mid e Memory new call s x = tt
-refused_before old mid e Turns new call s x = (λ t. x.0 (s.keeps.tells ∙ t), x.1)
 refused_before old mid e r new call s x = absurd x
 
 -- an event that the cache itself refused, but for want of room
@@ -108,7 +110,7 @@ module _ (old : SoloSeen) (h : HandleId) (e : Event) (got : Reply) (w : WorldSee
       let own : is_own r ≡ true = subst (λ x. own_reply x ≡ true) is c.own in
       by_event old (acted old w) e r own (subst (λ x. is_settled (Some x) ≡ true) is t) (c.why r is) (c.refused r is)
 
-  module _ (reached : Tells old → IsReached (world_of old.world)) where
+  module _ (reached : Tells old → IsReached (world_of old.world)) (orderly : IsOrderly old.world.core) where
     -- the attempt is over with the event
     pub attempt_over : is_settled (Some got) ≡ true → Attempt old e (Some got) (acted old w)
     attempt_over t = record {
@@ -116,6 +118,8 @@ module _ (old : SoloSeen) (h : HandleId) (e : Event) (got : Reply) (w : WorldSee
       counted = refl;
       again = λ is. absurd cc;
       files = λ r is tells. files_step (world_of old.world) (world_of w) (Act e got) (reached tells) m ∙ ap (plain_after (files_seen (world_of old.world)) e) (let x : got ≡ r = cc in x);
+      lengths = λ r is f. step_length old.world.core orderly e got w.core call stepped f
+          ∙ ap (λ x. length_after old.world.core e x f) (let x : got ≡ r = cc in x);
       settled = λ _. (got, refl, stepped);
       tried = record {
         got = got;
@@ -126,11 +130,14 @@ module _ (old : SoloSeen) (h : HandleId) (e : Event) (got : Reply) (w : WorldSee
         failed = λ u. absurd (let x : true ≡ false = sym t ∙ u in cc);
       };
       refused = λ r is. refused_over r t (let x : got ≡ reply.Refused r = cc in x);
-      less = λ _ is. absurd cc;
+      less = λ is. absurd cc;
     }
 
     -- it went on after the event
-    pub attempt_follows : (over : Option Reply) (new : SoloSeen) → handle_of e ≡ h.0 → Follows (acted old w) h got over new → (is_settled (Some got) ≡ false → Tells (acted old w) → over ≡ None → need_of new.world.core e < need_of w.core e) → Attempt old e over new
+    pub attempt_follows : (over : Option Reply) (new : SoloSeen) → handle_of e ≡ h.0
+        → Follows (acted old w) h got over new
+        → (is_settled (Some got) ≡ false → over ≡ None → need_of new.world.core e < need_of w.core e)
+        → Attempt old e over new
     attempt_follows over new by f gains = by_settled (is_settled (Some got)) refl
       where
         unsettled : is_settled (Some got) ≡ false → Attempt old e over new
@@ -143,6 +150,7 @@ module _ (old : SoloSeen) (h : HandleId) (e : Event) (got : Reply) (w : WorldSee
               counted = f.attempts;
               again = λ _. t;
               files = λ r is tells. t.files tells ∙ sym (after r is);
+              lengths = λ r is g. t.lengths g ∙ unchanged r is g;
               settled = λ x. absurd (let y = c.unsettled u in cc);
               refused = λ r is. elim (f.stopped u) [
                 | inl a ↦ absurd (let x : Some (reply.Refused r) ≡ None = sym is ∙ a in cc)
@@ -156,7 +164,7 @@ module _ (old : SoloSeen) (h : HandleId) (e : Event) (got : Reply) (w : WorldSee
                 helped = λ _. f.helps.moves;
                 failed = λ _. fails;
               };
-              less = λ tells is. subst (λ x. need_of new.world.core e < need_of x e) (c.same u) (gains u (s.keeps.tells ∙ tells) is);
+              less = λ is. subst (λ x. need_of new.world.core e < need_of x e) (c.same u) (gains u is);
             }
           where
             fails : (code : ℕ) → over ≡ Some (reply.Refused (Io code)) → FailsFill w code new.world
@@ -175,6 +183,16 @@ module _ (old : SoloSeen) (h : HandleId) (e : Event) (got : Reply) (w : WorldSee
             fill_refuses TooManyInFlight x = x
             fill_refuses Memory x = tt
             fill_refuses r x = absurd x
+
+            unchanged : (r : Reply) → over ≡ Some r → (g : ℕ)
+                → (file_at old.world.core g).size ≡ length_after old.world.core e r g
+            unchanged r is g = elim (f.stopped u) [
+              | inl a ↦ absurd (let x : Some r ≡ None = sym is ∙ a in cc)
+              | inr a ↦ (let x : reply.Refused a.0 ≡ r =
+                  (let y : Some (reply.Refused a.0) ≡ Some r = sym a.1 ∙ is in cc) in
+                  sym (quiet_length old.world.core e (reply.Refused a.0) g refl)
+                  ∙ ap (λ y. length_after old.world.core e y g) x)
+            ]
 
             after : (r : Reply) → over ≡ Some r → plain_after (files_seen (world_of old.world)) e r ≡ files_seen (world_of old.world)
             after r is = elim (f.stopped u) [
@@ -251,12 +269,13 @@ pub record Trying (old : SoloSeen) (e : Event) (cur : SoloSeen) : Type 0 where
   pub first : is_settled (tests old.world.core e) ≡ true → (cur.world.core ≡ old.world.core) × (cur.attempts ≡ 0)
   pub tried : Tries (step_of e) old.world cur.attempts cur.world
   -- what it needs still is no more than is left
-  pub room : Tells old → cur.attempts + need_of cur.world.core e ≤ touched_by old.world.core e + 1
+  pub room : cur.attempts + need_of cur.world.core e ≤ touched_by old.world.core e + 1
 
 -- a call that ended with this reply
 pub record Ended (old : SoloSeen) (h : HandleSeen) (e : Event) (r : Reply) (new : SoloSeen) : Type 0 where
   pub keeps : Keeps old new
   pub files : FilesAfter old e r new
+  pub lengths : LengthsAfter old e r new
   pub first : IsSettledAtOnce old h e r new
   pub refused : (why : Refusal) → r ≡ reply.Refused why → IsRefusal old e why new
   pub attempts : IsSoonOver old e new
@@ -283,7 +302,14 @@ few_touched s e call u = absurd cc
 
 module _ (old : SoloSeen) (e : Event) where
   pub try_first : Trying old e (record old { attempts = 0 })
-  try_first = record { serves = serves_counted old old _ 0 (serves_refl old); few = omega arith; first = λ _. (refl, refl); tried = refl; room = λ _. (let m = need_within old.world.core e in omega arith) }
+  try_first = record {
+    serves = serves_counted old old _ 0 (serves_refl old);
+    few = omega arith;
+    first =
+        λ _. (refl, refl);
+    tried = refl;
+    room = (let m = need_within old.world.core e in omega arith);
+  }
 
   module _ (cur : SoloSeen) (t : Trying old e cur) where
     settled_first : is_settled (tests old.world.core e) ≡ true → is_settled (tests cur.world.core e) ≡ true
@@ -295,43 +321,35 @@ module _ (old : SoloSeen) (e : Event) where
       few = (let c = a.counted in omega arith);
       first = λ s. absurd (let x = a.settled (settled_first s) in let y = x.1 in cc);
       tried = tries_again (step_of e) old.world cur.world new.world cur.attempts new.attempts a.counted t.tried a.tried;
-      room = λ tells. (let c = a.counted in let r = t.room tells in let l = a.less (t.serves.keeps.tells ∙ tells) refl in omega arith);
+      room = (let c = a.counted in let r = t.room in let l = a.less refl in omega arith);
     }
 
     pub try_over : (h : HandleSeen) (r : Reply) (new : SoloSeen) → Attempt cur e (Some r) new → is_call e ≡ true → Ended old h e r new
     try_over h r new a call = record {
       keeps = keeps_trans old cur new t.serves.keeps a.keeps;
       files = λ tells. a.files r refl (t.serves.keeps.tells ∙ tells) ∙ ap (λ f. plain_after f e r) (t.serves.files tells);
+      lengths = λ f. a.lengths r refl f
+          ∙ length_kept old.world.core cur.world.core t.serves.keeps.handles t.serves.lengths e r f;
       first = λ _ s.
           let x = a.settled (settled_first s) in
           let same : x.0 ≡ r = (let y = x.1 in cc) in
           let f = t.first s in
           (subst (λ c. Step c e r new.world.core) f.0 (subst (λ z. Step cur.world.core e z new.world.core) same x.2), a.counted ∙ ap (λ n. n + 1) f.1);
       refused = λ why is. refused_before old cur e why new call t.serves (a.refused why (ap Some is));
-      attempts = λ tells. (let c = a.counted in let r = t.room tells in omega arith);
-      made = inr (cur.attempts, cur.world, t.tried, a.tried, a.counted);
+      attempts = (let c = a.counted in let r = t.room in omega arith);
+      made = (cur.attempts, cur.world, t.tried, a.tried, a.counted);
     }
 
+    -- it does not run out of attempts
     pub try_turns : (h : HandleSeen) → is_call e ≡ true → (cur.attempts < 256 → ⊥) → Ended old h e (reply.Refused Turns) cur
-    try_turns h call none = record {
-      keeps = t.serves.keeps;
-      files = λ tells. t.serves.files tells ∙ sym (plain_refused (files_seen (world_of old.world)) e Turns call);
-      first = λ _ s. absurd (let f = (t.first s).1 in omega (arith, none));
-      refused = λ why is. (let x : Turns ≡ why = cc in subst (λ y. IsRefusal old e y cur) x ((λ tells. never tells), all));
-      attempts = λ tells. absurd (never tells);
-      made = inl (refl, t.tried);
-    }
+    try_turns h call none = absurd (by (is_settled (tests old.world.core e)) refl)
       where
         all : cur.attempts ≡ 256
         all = let f = t.few in omega (arith, none)
 
-        -- so many attempts are not needed
-        never : Tells old → ⊥
-        never tells = by (is_settled (tests old.world.core e)) refl
-          where
-            by : (b : Bool) → is_settled (tests old.world.core e) ≡ b → ⊥
-            by true s = let f = (t.first s).1 in let a = all in omega arith
-            by false u = let r = t.room tells in let f = few_touched old.world.core e call u in let a = all in omega arith
+        by : (b : Bool) → is_settled (tests old.world.core e) ≡ b → ⊥
+        by true s = let f = (t.first s).1 in let a = all in omega arith
+        by false u = let r = t.room in let f = few_touched old.world.core e call u in let a = all in omega arith
 
 -- ---- a write at the cursor, or at the end by an appending handle
 

@@ -4,7 +4,7 @@ use Rattle.std.specs.Int.{is_power_of_two}
 use Rattle.std.specs.Prelude.{◌&&◌, ◌||◌, not, is_some, option_map, Option, Some, None, nat_le, nat_lt, sum_by, ◌⊎◌, IsTrue}
 use Rattle.std.specs.List.{list_any}
 use Rattle.std.specs.FinMap as finmap
-use Rattle.std.specs.FinMap.{get-empty, get-entries, len-empty}
+use Rattle.std.specs.FinMap.{get-entries, len-empty}
 use Rattle.std.specs.Ordering.{nat_cmp}
 use Rattle.std.proofs.lemmas.Bool.Decides.{nat_tests}
 use Rattle.std.proofs.lemmas.List.Sums.{sum_by-cons}
@@ -21,18 +21,16 @@ use Rattle.cachecore.specs.Wants.{dirtied, lacking, lacks_frames, passes_limit}
 use Rattle.maps.proofs.Found.{found_none}
 use Rattle.maps.proofs.MapLaws.{any_value, no_entries}
 use Rattle.cachecore.proofs.TouchCounts.{count_below}
-use Rattle.runs.specs.Always.{Always, PageAlways}
-use Rattle.runs.specs.World.{World}
 use Rattle.maps.proofs.Count.{count_le, count_of}
 use Rattle.maps.proofs.Lengths.{count_empty, len_le}
 use Rattle.runs.proofs.moments.FrameCounts.{filling_is, is_live_fill}
 use Rattle.runs.proofs.events.Lookups.{cached_within}
-use Rattle.runs.proofs.moments.Reached.{reached_always}
-use Rattle.world.specs.Stepping.{world_of}
-use Rattle.filesvc.specs.Rests.{IsServing}
+use Rattle.machine.specs.Sound.{Sound}
+use Rattle.filesvc.proofs.Orderly.{none_under}
+use Rattle.filesvc.specs.Rests.{IsOrderly, IsServing}
 use Rattle.filesvc.specs.Rooms.{FlushesOne, IsClean, Suffices}
 use Rattle.filesvc.specs.Seen.{SoloSeen}
-use Rattle.filesvc.specs.Service.{Faulted, Tells}
+use Rattle.filesvc.specs.Service.{Faulted}
 
 -- ---- an idle page is found
 
@@ -92,34 +90,41 @@ undirty true false a b = absurd cc
 undirty true true a b = absurd cc
 undirty false w a b = refl
 
-module _ (w : World) (always : Always w) (resting : w.core.requests ≡ finmap.empty) (clean : (f : ℕ) → f < length w.core.files → tests w.core (event.FlushBegin (record { 0 = f })) ≡ Some reply.Nothing) where
-  no_write : (f p : ℕ) (page : Page) → PageAlways w.core f p page → page.tags.writeback ≡ false
-  no_write f p page a = by page.tags.writeback refl
+module _ (s : State) (ok : Sound s) (orderly : IsOrderly s) (resting : s.requests ≡ finmap.empty)
+    (clean : (f : ℕ) → f < length s.files → tests s (event.FlushBegin (record { 0 = f })) ≡ Some reply.Nothing) where
+  no_write : (f p : ℕ) (page : Page) → page_at s f p ≡ Some page → page.tags.writeback ≡ false
+  no_write f p page is = by page.tags.writeback refl
     where
       by : (b : Bool) → page.tags.writeback ≡ b → page.tags.writeback ≡ false
       by false e = e
-      by true e = absurd (let x = a.flush e in let none : finmap.get w.core.requests x.0 ≡ None = ap (λ m. finmap.get m x.0) resting ∙ get-empty nat_cmp x.0 in let n = sym none ∙ x.2 in cc)
+      by true e = absurd (none_under s orderly resting f p (ap (λ o. (tags_of o).writeback) is ∙ e))
 
-  not_left : (f p : ℕ) (page : Page) → page_at w.core f p ≡ Some page → (page.tags.dirty && not page.tags.writeback) ≡ false
+  not_left : (f p : ℕ) (page : Page) → page_at s f p ≡ Some page → (page.tags.dirty && not page.tags.writeback) ≡ false
   not_left f p page is =
-      let here = cached_within w.core f p (ap is_some is) in
-      let pick = no_pick (nat_le (length w.core.files) f) (is_full w.core) (flush_pick (file_at w.core f)) (clean f here) in
-      found_none (file_at w.core f).pages (λ e. e.1.tags.dirty && not e.1.tags.writeback) (not_picked _ pick) p page is
+      let here = cached_within s f p (ap is_some is) in
+      let pick = no_pick (nat_le (length s.files) f) (is_full s) (flush_pick (file_at s f)) (clean f here) in
+      found_none (file_at s f).pages (λ e. e.1.tags.dirty && not e.1.tags.writeback) (not_picked _ pick) p page is
 
-  no_dirty : (f p : ℕ) (page : Page) → page_at w.core f p ≡ Some page → page.tags.dirty ≡ false
-  no_dirty f p page is = undirty page.tags.dirty page.tags.writeback (not_left f p page is) (no_write f p page (always.pages f p page is))
+  no_dirty : (f p : ℕ) (page : Page) → page_at s f p ≡ Some page → page.tags.dirty ≡ false
+  no_dirty f p page is = undirty page.tags.dirty page.tags.writeback (not_left f p page is) (no_write f p page is)
 
-  none_dirty : dirty_total w.core ≡ 0
-  none_dirty = no_sum dirty_in w.core.files (λ f. (
-      let a = count_le (λ (x : Page). x.tags.dirty) (λ (x : Page). x.tags.dirty) (file_at w.core f).pages (finmap.empty {X = Page} {R = nat_cmp}) (λ q x e t. absurd (let k : true ≡ false = sym t ∙ no_dirty f q x e in cc)) in
+  none_dirty : dirty_total s ≡ 0
+  none_dirty = no_sum dirty_in s.files (λ f. (
+      let a = count_le (λ (x : Page). x.tags.dirty) (λ (x : Page). x.tags.dirty) (file_at s f).pages
+      (finmap.empty {X = Page} {R = nat_cmp})
+      (λ q x e t. absurd (let k : true ≡ false = sym t ∙ no_dirty f q x e in cc)) in
       let b = count_empty (λ (x : Page). x.tags.dirty) in omega arith))
 
   -- no call would make too many pages dirty
-  pub clean_enough : MIN_DIRTY_LIMIT ≤ w.core.sizes.dirty_limit → (h o n : ℕ) → passes_limit w.core h o n ≡ false
+  pub clean_enough : MIN_DIRTY_LIMIT ≤ s.sizes.dirty_limit → (h o n : ℕ) → passes_limit s h o n ≡ false
   clean_enough many h o n =
-      let most = count_below (dirtied w.core (handle_file w.core h) o n) (o / w.core.sizes.page) (touched_count w.core.sizes.page o n) (λ p. not ((tags_at w.core (handle_file w.core h) p).dirty)) refl in
+      let most = count_below (dirtied s (handle_file s h) o n) (o / s.sizes.page) (touched_count s.sizes.page o n)
+      (λ p. not ((tags_at s (handle_file s h) p).dirty)) refl in
       let none = none_dirty in
-      by (is_open w.core h) (nat_lt 0 n) (nat_le (touched_count w.core.sizes.page o n) MAX_TOUCHED) (nat_le (o + n) MAX_FILE_SIZE) (nat_lt 0 (dirtied w.core (handle_file w.core h) o n)) (nat_lt w.core.sizes.dirty_limit (dirty_total w.core + dirtied w.core (handle_file w.core h) o n)) (λ small. grind (arith, nat_tests))
+      by (is_open s h) (nat_lt 0 n) (nat_le (touched_count s.sizes.page o n) MAX_TOUCHED) (nat_le (o + n) MAX_FILE_SIZE)
+      (nat_lt 0 (dirtied s (handle_file s h) o n))
+      (nat_lt s.sizes.dirty_limit (dirty_total s + dirtied s (handle_file s h) o n))
+      (λ small. grind (arith, nat_tests))
     where
       by : (a b c d x e : Bool) → (c ≡ true → e ≡ false) → ((a && b && c && d) && (x && e)) ≡ false
       by true true true true true e k = k refl
@@ -129,35 +134,40 @@ module _ (w : World) (always : Always w) (resting : w.core.requests ≡ finmap.e
       by true true false d x e k = refl
       by true true true false x e k = refl
 
-  module _ (idle : tests w.core event.Evict ≡ Some reply.NoneIdle) where
-    none_cached : (f p : ℕ) (page : Page) → page_at w.core f p ≡ Some page → ⊥
+  module _ (idle : tests s event.Evict ≡ Some reply.NoneIdle) where
+    none_cached : (f p : ℕ) (page : Page) → page_at s f p ≡ Some page → ⊥
     none_cached f p page is =
-        let a = always.pages f p page is in
-        let free = untagged page.tags.dirty page.tags.writeback page.tags.towrite (not_left f p page is) (no_write f p page a) (subst (λ o. (tags_of o).towrite ≡ true → (tags_of o).dirty ≡ true) is (always.sound.towrite_dirty f p)) in
-        let some = some_idle w.core f p page is free in
-        let none = no_idle (has_idle w.core) idle in
+        let free = untagged page.tags.dirty page.tags.writeback page.tags.towrite (not_left f p page is)
+        (no_write f p page is)
+        (subst (λ o. (tags_of o).towrite ≡ true → (tags_of o).dirty ≡ true) is (ok.towrite_dirty f p)) in
+        let some = some_idle s f p page is free in
+        let none = no_idle (has_idle s) idle in
         absurd (let x : true ≡ false = sym some ∙ none in cc)
 
-    no_pages : (f : ℕ) → finmap.len (file_at w.core f).pages ≡ 0
+    no_pages : (f : ℕ) → finmap.len (file_at s f).pages ≡ 0
     no_pages f =
-        let a = len_le (file_at w.core f).pages (finmap.empty {X = Page} {R = nat_cmp}) (λ q x e. absurd (none_cached f q x e)) in
+        let a = len_le (file_at s f).pages (finmap.empty {X = Page} {R = nat_cmp})
+        (λ q x e. absurd (none_cached f q x e)) in
         let b = len-empty nat_cmp Page in omega arith
 
-    all_free : free_frames w.core ≡ w.core.sizes.frames
+    all_free : free_frames s ≡ s.sizes.frames
     all_free =
-        let a : cached_total w.core ≡ 0 = no_sum (λ (file : File). finmap.len file.pages) w.core.files no_pages in
-        let b = filling_is w.core in
+        let a : cached_total s ≡ 0 = no_sum (λ (file : File). finmap.len file.pages) s.files no_pages in
+        let b = filling_is s in
         let c = ap (count_of is_live_fill) resting in
         let d = count_empty is_live_fill in omega arith
 
-    pub some_free : MIN_FRAMES ≤ w.core.sizes.frames → 0 < free_frames w.core
+    pub some_free : MIN_FRAMES ≤ s.sizes.frames → 0 < free_frames s
     some_free many = let free = all_free in omega arith
 
-    pub enough : MIN_FRAMES ≤ w.core.sizes.frames → (h o n : ℕ) → lacks_frames w.core h o n ≡ false
+    pub enough : MIN_FRAMES ≤ s.sizes.frames → (h o n : ℕ) → lacks_frames s h o n ≡ false
     enough many h o n =
-        let most = count_below (lacking w.core (handle_file w.core h) o n) (o / w.core.sizes.page) (touched_count w.core.sizes.page o n) (λ p. not (is_cached w.core (handle_file w.core h) p)) refl in
+        let most = count_below (lacking s (handle_file s h) o n) (o / s.sizes.page) (touched_count s.sizes.page o n)
+        (λ p. not (is_cached s (handle_file s h) p)) refl in
         let free = all_free in
-        by (is_open w.core h) (nat_lt 0 n) (nat_le (touched_count w.core.sizes.page o n) MAX_TOUCHED) (nat_le (o + n) MAX_FILE_SIZE) (nat_lt (free_frames w.core) (lacking w.core (handle_file w.core h) o n)) (λ small. grind (arith, nat_tests))
+        by (is_open s h) (nat_lt 0 n) (nat_le (touched_count s.sizes.page o n) MAX_TOUCHED)
+        (nat_le (o + n) MAX_FILE_SIZE) (nat_lt (free_frames s) (lacking s (handle_file s h) o n))
+        (λ small. grind (arith, nat_tests))
       where
         by : (a b c d e : Bool) → (c ≡ true → e ≡ false) → ((a && b && c && d) && e) ≡ false
         by true true true true e k = k refl
@@ -196,13 +206,17 @@ enough_dirty g e = by (is_page_size g.page) (nat_le MIN_FRAMES g.frames) (nat_le
     by false b c d x y z k e = absurd cc
 
 -- where no room could be made for a frame
-pub full_refused : (s new : SoloSeen) (name : ℕ) (table : TableId) → IsServing name s.world table s.errors → Tells s → tests s.world.core event.Evict ≡ Some reply.NoneIdle → FlushesOne s false new → Faulted s new ⊎ Suffices s
-full_refused s new name table i tells idle (inl x) =
-    let always = reached_always (world_of s.world) (i.reached tells) in
-    inr (some_free (world_of s.world) always i.rests.requests x.1 idle i.frames, λ h o n. enough (world_of s.world) always i.rests.requests x.1 idle i.frames h o n)
-full_refused s new name table i tells idle (inr x) = inl x
+pub full_refused : (s new : SoloSeen) (name : ℕ) (table : TableId) → IsServing name s.world table s.errors
+    → tests s.world.core event.Evict ≡ Some reply.NoneIdle → FlushesOne s false new → Faulted s new ⊎ Suffices s
+full_refused s new name table i idle (inl x) = inr (
+  some_free s.world.core i.sound i.orderly i.rests.requests x.1 idle i.frames,
+  λ h o n. enough s.world.core i.sound i.orderly i.rests.requests x.1 idle i.frames h o n,
+)
+full_refused s new name table i idle (inr x) = inl x
 
 -- and where none could be made for a dirty page
-pub dirty_refused : (s new : SoloSeen) (name : ℕ) (table : TableId) → IsServing name s.world table s.errors → Tells s → FlushesOne s false new → Faulted s new ⊎ IsClean s
-dirty_refused s new name table i tells (inl x) = inr (λ h o n. clean_enough (world_of s.world) (reached_always (world_of s.world) (i.reached tells)) i.rests.requests x.1 i.dirty h o n)
-dirty_refused s new name table i tells (inr x) = inl x
+pub dirty_refused : (s new : SoloSeen) (name : ℕ) (table : TableId) → IsServing name s.world table s.errors
+    → FlushesOne s false new → Faulted s new ⊎ IsClean s
+dirty_refused s new name table i (inl x) =
+    inr (λ h o n. clean_enough s.world.core i.sound i.orderly i.rests.requests x.1 i.dirty h o n)
+dirty_refused s new name table i (inr x) = inl x

@@ -1,11 +1,11 @@
 -- How many writes of each file failed, and the code of the last: the end of a flush that failed changes these, and nothing
 -- else does. Of any world.
-use Rattle.std.proofs.Common.{◌≡◌, ℕ, ◌+◌, ◌<◌, Bool, true, false, cond, eqb, eqb-true, List, [], length, get_or, refl, ap, sym, subst, ◌∙◌, arith, inl, inr}
-use Rattle.std.specs.Prelude.{◌⊎◌, Option, Some, None, is_some, slice_set}
+use Rattle.std.proofs.Common.{◌≡◌, ℕ, ◌+◌, ◌<◌, Bool, true, false, cond, eqb, eqb-true, length, get_or, refl, ap, sym}
+use Rattle.std.proofs.Common.{subst, ◌∙◌, inl, inr}
+use Rattle.std.specs.Prelude.{Option, Some, None, is_some, slice_set}
 use Rattle.std.specs.FinMap as map
 use Rattle.std.specs.Ordering.{nat_cmp}
 use Rattle.pc_types.specs.Kinds.{is_flush}
-use Rattle.pc_types.specs.declared.ids.HandleId.{HandleId}
 use Rattle.pc_types.specs.declared.refusal.Refusal.TheVariants.{Stranger}
 use Rattle.pc_types.specs.declared.kind.Kind.{Kind}
 use Rattle.pc_types.specs.declared.kind.Kind.TheVariants.{Fill, Flush}
@@ -22,7 +22,7 @@ use Rattle.machine.specs.State.{State, File, Page, Request, file_at, handle_file
 use Rattle.machine.specs.Step.{Step}
 use Rattle.machine.specs.Tests.{tests}
 use Rattle.machine.proofs.changes.StateLaws.{get_or-set}
-use Rattle.machine.proofs.steps.Answered.{IsWrite, is_quiet}
+use Rattle.machine.proofs.steps.Answered.{is_quiet}
 use Rattle.machine.proofs.steps.Cases.{Cases, answered, by_cases}
 use Rattle.machine.proofs.steps.Ends.{end_loud}
 use Rattle.machine.proofs.steps.Passed.{MayEnd}

@@ -2,11 +2,8 @@
 use Rattle.std.proofs.Common.{◌≡◌, ℕ, ◌<◌, ◌≤◌, Bool, true, false, cond, eqb, eqb-true, List, length, get_or, refl, ap, sym}
 use Rattle.std.proofs.Common.{◌∙◌, arith, inl, inr}
 use Rattle.std.specs.Prelude.{◌⊎◌, slice_set}
-use Rattle.std.specs.FinMap as finmap
-use Rattle.std.specs.Ordering.{nat_cmp}
 use Rattle.std.proofs.lemmas.List.{set_past}
-use Rattle.machine.specs.Changes.{put_pages}
-use Rattle.machine.specs.State.{State, File, Page, file_at, no_file}
+use Rattle.machine.specs.State.{File, no_file}
 use Rattle.machine.proofs.changes.StateLaws.{get_or-set}
 
 pub within : (a n : ℕ) → (a < n) ⊎ (n ≤ a)

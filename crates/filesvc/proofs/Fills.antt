@@ -32,13 +32,11 @@ use Rattle.world.specs.Stepping.{WorldSeen, world_of}
 use Rattle.runs.specs.World.{Ends, Finish, WorldStep}
 use Rattle.machine.proofs.steps.Ends.{of_end, own_end}
 use Rattle.runs.proofs.events.Lookups.{get-insert1}
-use Rattle.runs.proofs.moments.Reached.{reached_always}
 use Rattle.runs.proofs.views.View.{put1_here}
 use Rattle.filesvc.specs.Rests as rests
 use Rattle.filesvc.specs.Rests.{AtOnce, IsServing}
 use Rattle.filesvc.specs.Rooms.{IsMissed, need, wants}
 use Rattle.filesvc.specs.Seen.{SoloSeen}
-use Rattle.filesvc.specs.Service.{Tells}
 use Rattle.filesvc.proofs.Needs.{Fills, filled_needs, some_free}
 use Rattle.filesvc.proofs.WorldLaws.{Once, Quiet, Unmade, Whole, fill_begins, once}
 
@@ -102,15 +100,21 @@ end_of_fill s w new t f p x r at is kind live file page idle rests kept well m =
           fill_over s w.core new.core t f p a.x o r at (ap (λ (y : Request). y.dropped) same ∙ live) (ap (λ (y : Request). y.file) same ∙ file) (ap (λ (y : Request). y.page) same ∙ page) (subst (λ k. fits k o ≡ true) kind a.may.fitting) idle rests kept well a.reply a.is)
     ]
 
-pub fill_fills : (name : ℕ) (s : SoloSeen) (w : WorldSeen) (errors : RecorderSeen) (table : TableId) (h : HandleId) (o n : ℕ) (p : PageIndex) (r : Reply) → IsServing name s.world table s.errors → w.core.requests ≡ finmap.empty → IsMissed s h.0 o n p.0 → Tells s → AtOnce s.world s.errors (step.FillBegin h p) r w errors → ((why : Refusal) → r ≡ reply.Refused why → ⊥) → ((code : ℕ) → r ≡ reply.Failed code → ⊥) → Fills s.world.core w.core (handle_file s.world.core h.0) p.0
-fill_fills name s w errors table h o n p r i after m tells a kept well = by (once s.world w s.errors errors (step.FillBegin h p) (event.FillBegin h p) r (fill_begins h p) a)
+pub fill_fills : (name : ℕ) (s : SoloSeen) (w : WorldSeen) (errors : RecorderSeen) (table : TableId) (h : HandleId)
+    (o n : ℕ) (p : PageIndex) (r : Reply) → IsServing name s.world table s.errors → w.core.requests ≡ finmap.empty
+    → IsMissed s h.0 o n p.0 → AtOnce s.world s.errors (step.FillBegin h p) r w errors
+    → ((why : Refusal) → r ≡ reply.Refused why → ⊥) → ((code : ℕ) → r ≡ reply.Failed code → ⊥)
+    → Fills s.world.core w.core (handle_file s.world.core h.0) p.0
+fill_fills name s w errors table h o n p r i after m a kept well =
+    by (once s.world w s.errors errors (step.FillBegin h p) (event.FillBegin h p) r (fill_begins h p) a)
   where
     by : Once s.world s.errors (event.FillBegin h p) r w errors → Fills s.world.core w.core (handle_file s.world.core h.0) p.0
     by (Unmade e same none) = absurd (kept Memory e)
-    by (Quiet j k none) = quiet_fills s.world.core w.core h p r i.rests.requests after m.absent (m.within tells) kept j k.0.1.0
+    by (Quiet j k none) = quiet_fills s.world.core w.core h p r i.rests.requests after m.absent m.within kept j k.0.1.0
     by (Whole c) =
         let f = handle_file s.world.core h.0 in
-        let b = begun_fill s.world.core c.begun.core h p c.serial (refuses s.world.core w.core h p r i.rests.requests after m.absent (m.within tells)) c.begin.0.1.0 in
+        let b = begun_fill s.world.core c.begun.core h p c.serial
+        (refuses s.world.core w.core h p r i.rests.requests after m.absent m.within) c.begin.0.1.0 in
         let core : c.called.core ≡ requested s.world.core Fill f p.0 = ap (λ (x : WorldSeen). x.core) c.call.noted ∙ b.1 in
         let put : (x : Request) → finmap.get (finmap.insert s.world.core.requests s.world.core.next x) c.serial.0 ≡ Some x = λ x. subst (λ k. finmap.get (finmap.insert s.world.core.requests k x) c.serial.0 ≡ Some x) b.0 (get-insert1 s.world.core.requests c.serial.0 x c.serial.0 ∙ put1_here _ c.serial.0 _) in
         end_of_fill s.world.core c.called w c.serial.0 f p.0 _ r core (ap (λ (x : State). finmap.get x.requests c.serial.0) core ∙ put _) refl refl refl refl i.rests.requests after kept well c.end.0
@@ -126,8 +130,11 @@ module _ (name : ℕ) (s : SoloSeen) (table : TableId) (i : IsServing name s.wor
   pub frame_free : 0 < free_frames s.world.core
   frame_free = some_free dirties s.world.core h.0 o n p.0 m.first m.last m.absent m.may room
 
-  pub fill_gains : (w : WorldSeen) (errors : RecorderSeen) (r : Reply) → w.core.requests ≡ finmap.empty → AtOnce s.world s.errors (step.FillBegin h p) r w errors → ((why : Refusal) → r ≡ reply.Refused why → ⊥) → ((code : ℕ) → r ≡ reply.Failed code → ⊥) → Tells s → need dirties w.core h.0 o n < need dirties s.world.core h.0 o n
-  fill_gains w errors r after a kept well tells =
+  pub fill_gains : (w : WorldSeen) (errors : RecorderSeen) (r : Reply) → w.core.requests ≡ finmap.empty
+      → AtOnce s.world s.errors (step.FillBegin h p) r w errors → ((why : Refusal) → r ≡ reply.Refused why → ⊥)
+      → ((code : ℕ) → r ≡ reply.Failed code → ⊥) → need dirties w.core h.0 o n < need dirties s.world.core h.0 o n
+  fill_gains w errors r after a kept well =
       let opened : is_open s.world.core h.0 ≡ true = is_open_of (is_open s.world.core h.0) _ _ _ m.may in
-      let here = (reached_always (world_of s.world) (i.reached tells)).handles h.0 opened in
-      filled_needs dirties s w.core h.0 o n p.0 here m room (fill_fills name s w errors table h o n p r i after m tells a kept well)
+      let here = i.orderly.handles h.0 opened in
+      filled_needs dirties s w.core h.0 o n p.0 here m room
+      (fill_fills name s w errors table h o n p r i after m a kept well)

@@ -39,7 +39,7 @@ module _ (s t : SoloSeen) (e : t.world.core ≡ s.world.core) (d : t.world.devic
     first = subst (λ (c : State). first_page c.sizes.page o ≤ p) (sym e) m.first;
     last = subst (λ (c : State). p ≤ last_page c.sizes.page o n) (sym e) m.last;
     absent = ap (λ c. is_cached c (handle_file c h) p) e ∙ m.absent;
-    within = λ tells. subst (λ (c : State). p < page_count c.sizes.page (file_at c (handle_file c h)).size) (sym e) (m.within (ap (λ x. is_some x.contents) (sym d) ∙ tells));
+    within = subst (λ (c : State). p < page_count c.sizes.page (file_at c (handle_file c h)).size) (sym e) m.within;
   }
 
   stops_at : (r : Reply) → Stops s h o n r → Stops t h o n r

@@ -1,15 +1,13 @@
 -- What every call keeps, one call after another.
-use Rattle.std.proofs.Common.{◌≡◌, ℕ, zero, suc, ◌+◌, Bool, true, List, [], ◌∷◌, ◌++◌, refl, sym, subst, ◌∙◌, arith, inl, inr}
+use Rattle.std.proofs.Common.{◌≡◌, ℕ, suc, ◌+◌, Bool, true, List, [], ◌∷◌, ◌++◌, refl, subst, ◌∙◌, arith}
 use Rattle.std.proofs.lemmas.List.Elements.{All-append, All-cons, All-nil, All-weaker}
-use Rattle.std.specs.Prelude.{◌⊎◌, All, None}
+use Rattle.std.specs.Prelude.{All, None}
 use Rattle.errseq.proofs.Prefixes.{prefix_self, prefix_trans}
-use Rattle.errboard.specs.Shown.{RecorderSeen}
 use Rattle.machine.specs.declared.event.Reply.{Reply}
 use Rattle.world.specs.declared.step.Step.{Step}
 use Rattle.world.specs.Stepping.{WorldSeen, Plays, Steps}
 use Rattle.filesvc.specs.Attempts.{Helps}
 use Rattle.filesvc.specs.Made.{Moves, Tries, Try}
-use Rattle.filesvc.specs.Rests.{AtOnce}
 use Rattle.filesvc.specs.Seen.{SoloSeen}
 use Rattle.filesvc.specs.Service.{Keeps, Serves}
 

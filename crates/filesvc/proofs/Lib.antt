@@ -1,6 +1,7 @@
 pub mod Acted
 pub mod Attempts
 pub mod Beginning
+pub mod CallLengths
 pub mod CallSteps
 pub mod Callers
 pub mod Coming
@@ -16,6 +17,7 @@ pub mod Lightens
 pub mod Load
 pub mod Needs
 pub mod Noted
+pub mod Orderly
 pub mod Polling
 pub mod Ranged
 pub mod RoomLaws

@@ -1,7 +1,7 @@
 -- What making room takes away, by steps of the machine: an eviction takes a cached page, and a page whose write begins is DIRTY no
 -- more. No page becomes cached.
 use Rattle.std.proofs.Common.{◌≡◌, ℕ, ◌+◌, ◌-◌, ◌<◌, ◌≤◌, Bool, true, false, cond, eqb, eq-eqb, List, [], ◌∷◌, length, refl, ap, sym, subst, ◌∙◌, arith, inl, inr}
-use Rattle.std.specs.Prelude.{◌⊎◌, ◌≢◌, ◌||◌, is_some, option_map, Option, Some, None, slice_set, sum_by, unwrap_or}
+use Rattle.std.specs.Prelude.{◌≢◌, ◌||◌, is_some, option_map, Option, Some, None, slice_set, sum_by, unwrap_or}
 use Rattle.std.specs.FinMap as map
 use Rattle.std.specs.FinMap.{FinMap, find, get-entries, len-entries, len-remove}
 use Rattle.std.specs.Cmp.{nat_cmp_total}
@@ -18,7 +18,7 @@ use Rattle.machine.specs.declared.event.Outcome.TheVariants as outcome
 use Rattle.machine.specs.declared.event.Reply.TheVariants as reply
 use Rattle.machine.specs.Changes as changes
 use Rattle.machine.specs.Changes.{after_write, change_page, ended, flushed, put_pages, started, under_write}
-use Rattle.machine.specs.State.{State, File, Page, Request, dirty_in, dirty_total, file_at, is_cached, is_idle, no_file, page_at}
+use Rattle.machine.specs.State.{State, File, Page, Request, dirty_in, dirty_total, file_at, is_idle, no_file, page_at}
 use Rattle.machine.specs.Step.{EndReply, Step}
 use Rattle.machine.proofs.sound.Lookups.{change_page_tells, removed_tells}
 use Rattle.machine.proofs.steps.Cases.{Happened, happened}

@@ -1,5 +1,5 @@
 -- Making room ends: an eviction takes a cached page away, and a page that was written back is DIRTY no more.
-use Rattle.std.proofs.Common.{◌≡◌, ℕ, ◌<◌, ◌≤◌, refl, ap, ◌∙◌, arith, inl, inr}
+use Rattle.std.proofs.Common.{◌≡◌, ℕ, ◌<◌, refl, ap, ◌∙◌, arith, inl, inr}
 use Rattle.std.specs.Prelude.{Option, Some, None}
 use Rattle.std.specs.FinMap as map
 use Rattle.errboard.specs.Shown.{RecorderSeen}
@@ -11,7 +11,6 @@ use Rattle.machine.specs.declared.event.Outcome.{Outcome}
 use Rattle.machine.specs.declared.event.Reply.TheVariants as reply
 use Rattle.machine.specs.State.{State, Request, is_cached}
 use Rattle.machine.specs.Step.{Step}
-use Rattle.machine.specs.Tests.{tests}
 use Rattle.machine.proofs.steps.Cases.{happened}
 use Rattle.runs.specs.World.{Ends, Finish, WorldStep}
 use Rattle.world.specs.declared.step.Step.TheVariants as step

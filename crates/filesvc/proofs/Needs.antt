@@ -225,7 +225,9 @@ still_missed s t h o n p m k a =
       first = subst (λ P. first_page P o ≤ p) (sym page) m.first;
       last = subst (λ P. p ≤ last_page P o n) (sym page) m.last;
       absent = ap (λ g. is_cached t.world.core g p) file ∙ a (handle_file s.world.core h) p m.absent;
-      within = λ tells. subst (λ size. p < page_count t.world.core.sizes.page size) (sym (ap (λ g. (file_at t.world.core g).size) file ∙ k.lengths (handle_file s.world.core h))) (subst (λ P. p < page_count P (file_at s.world.core (handle_file s.world.core h)).size) (sym page) (m.within (sym k.keeps.tells ∙ tells)));
+      within = subst (λ size. p < page_count t.world.core.sizes.page size)
+          (sym (ap (λ g. (file_at t.world.core g).size) file ∙ k.lengths (handle_file s.world.core h)))
+          (subst (λ P. p < page_count P (file_at s.world.core (handle_file s.world.core h)).size) (sym page) m.within);
     }
 
 -- after room is made a call needs no more than before

@@ -7,7 +7,7 @@ use Rattle.std.specs.Ordering.{nat_cmp}
 use Rattle.std.proofs.lemmas.List.Sums.{sum_by-cons}
 use Rattle.pc_types.specs.Tags.{no_tags}
 use Rattle.maps.specs.Maps.{each_value}
-use Rattle.maps.proofs.Count.{count_le, count_lt, count_of, passing}
+use Rattle.maps.proofs.Count.{count_le, count_lt, count_of}
 use Rattle.maps.proofs.MapLaws.{entries-each_value}
 use Rattle.maps.proofs.Maps.{get-each_value}
 use Rattle.machine.specs.State.{File, Page}

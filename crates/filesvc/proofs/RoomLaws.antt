@@ -15,9 +15,7 @@ use Rattle.pc_types.specs.declared.refusal.Refusal.{Refusal}
 use Rattle.pc_types.specs.declared.ids.Serial.{Serial}
 use Rattle.pc_types.specs.declared.limits.TheConstants.{MAX_IN_FLIGHT, SERIAL_END}
 use Rattle.pc_types.specs.declared.refusal.Refusal.TheVariants.{BadHandle, DirtyLimit, Io, Memory, NoFrame, NoSuchFile, Stranger, TooManyInFlight, Turns}
-use Rattle.pc_types.specs.declared.kind.Kind.{Kind}
-use Rattle.pc_types.specs.declared.kind.Kind.TheVariants.{Fill, Flush}
-use Rattle.machine.specs.declared.event.End.{End}
+use Rattle.pc_types.specs.declared.kind.Kind.TheVariants.{Flush}
 use Rattle.machine.specs.declared.event.Event.{Event}
 use Rattle.machine.specs.declared.event.Event.TheVariants as event
 use Rattle.machine.specs.declared.event.Outcome as core
@@ -30,21 +28,20 @@ use Rattle.machine.specs.Step.{EndReply, MayReply, Step}
 use Rattle.machine.specs.Tests.{fits, tests, is_full}
 use Rattle.machine.specs.Changes.{flush_pick}
 use Rattle.machine.proofs.steps.Choices.{and_true, not_true, quiet_if, quiet_none, quiet_when}
-use Rattle.machine.proofs.steps.Answered.{is_quiet}
 use Rattle.machine.proofs.steps.Cases.{answered, happened}
 use Rattle.world.specs.declared.step.Step.TheVariants as step
 use Rattle.world.specs.Stepping.{WorldSeen, world_of}
 use Rattle.runs.specs.World.{Finish, WorldStep, Ends, noted}
 use Rattle.machine.proofs.steps.Ends.{end_loud, of_end, own_end}
-use Rattle.world.proofs.InFlight.{finish_step, only_core}
+use Rattle.world.proofs.InFlight.{finish_step}
 use Rattle.runs.proofs.moments.KeptRequests.{is_job}
 use Rattle.runs.proofs.events.Lookups.{get-insert1}
 use Rattle.runs.proofs.views.View.{put1_here}
 use Rattle.filesvc.specs.Rests as rests
 use Rattle.filesvc.specs.Rests.{AtOnce, IsService, IsServing}
-use Rattle.filesvc.specs.Rooms.{FlushesOne, IsClean, IsFillRefusal, IsFlush, IsFull, MakesRoom, Suffices}
+use Rattle.filesvc.specs.Rooms.{FlushesOne, IsClean, IsFillRefusal, IsFlush, MakesRoom, Suffices}
 use Rattle.filesvc.specs.Seen.{SoloSeen}
-use Rattle.filesvc.specs.Service.{Faulted, IsWithoutRoom, Serves, Tells}
+use Rattle.filesvc.specs.Service.{Faulted, Serves}
 use Rattle.filesvc.proofs.Acted.{service_acted}
 use Rattle.filesvc.specs.Attempts.{Helps}
 use Rattle.filesvc.specs.Made.{FailsFill, Moves, is_help}
@@ -146,60 +143,32 @@ fill_stopped name s w errors table h p r i a free =
     by Memory y n = tt
     by r y n = absurd y
 
--- one that asks for no room
-pub other_full : (old new : SoloSeen) (r : Refusal) → (r ≡ NoFrame → ⊥) → (r ≡ DirtyLimit → ⊥) → IsFull old r new
-other_full old new NoFrame a b = absurd (a refl)
-other_full old new DirtyLimit a b = absurd (b refl)
-other_full old new r a b = tt
-
 -- ---- want of room since before
 
 pub faulted_before : (old mid new : SoloSeen) → Serves old mid → Faulted mid new → Faulted old new
 faulted_before old mid new s (inl x) = inl (let y = s.keeps.faults in omega arith)
 faulted_before old mid new s (inr x) = inr x
 
-pub room_before : (old mid new : SoloSeen) (r : Refusal) → Serves old mid → IsWithoutRoom mid r new → IsWithoutRoom old r new
-room_before old mid new NoFrame s (inl x) = inl (faulted_before old mid new s x)
-room_before old mid new NoFrame s (inr x) = inr ((λ t. x.0 (s.keeps.tells ∙ t)), x.1)
-room_before old mid new DirtyLimit s (inl x) = inl (faulted_before old mid new s x)
-room_before old mid new DirtyLimit s (inr x) = inr ((λ t. x.0 (s.keeps.tells ∙ t)), x.1)
-room_before old mid new r s x = tt
-
--- where no more room can be made, and what is wanted would be there if no device call had failed
+-- the room that a call wants could not be made, which would be there if no device call had failed
 module _ (old mid new : SoloSeen) (serves : Serves old mid) where
-  unless_tells : {P : Type 0} (X : Type 0) → X → (Tells mid → Faulted mid new ⊎ P) → (P → ⊥) → Faulted old new ⊎ ((Tells old → ⊥) × X)
-  unless_tells X x never wanted = by (is_some old.world.device.contents) refl
-    where
-      by : (b : Bool) → is_some old.world.device.contents ≡ b → Faulted old new ⊎ ((Tells old → ⊥) × X)
-      by true t = elim (never (serves.keeps.tells ∙ t)) [ inl f ↦ inl (faulted_before old mid new serves f) | inr y ↦ absurd (wanted y) ]
-      by false t = inr ((λ tells. absurd (let e : true ≡ false = sym tells ∙ t in cc)), x)
+  unless : {P : Type 0} → Faulted mid new ⊎ P → (P → ⊥) → Faulted old new
+  unless (inl f) wanted = faulted_before old mid new serves f
+  unless (inr y) wanted = absurd (wanted y)
 
-  pub without_frame : (r : Refusal) → (r ≡ NoFrame) ⊎ (r ≡ Memory) → IsFull mid r new → (Tells mid → r ≡ NoFrame → Faulted mid new ⊎ Suffices mid) → (Suffices mid → ⊥) → IsWithoutRoom old r new
-  without_frame NoFrame k (inr f) never wanted = inl (faulted_before old mid new serves f)
-  without_frame NoFrame k (inl x) never wanted = unless_tells _ x (λ t. never t refl) wanted
-  without_frame Memory k x never wanted = tt
-  without_frame r (inl k) x never wanted = absurd cc
-  without_frame r (inr k) x never wanted = absurd cc
-
-  pub without_clean : (r : Refusal) → (r ≡ DirtyLimit) ⊎ (r ≡ Memory) → IsFull mid r new → (Tells mid → r ≡ DirtyLimit → Faulted mid new ⊎ IsClean mid) → (IsClean mid → ⊥) → IsWithoutRoom old r new
-  without_clean DirtyLimit k (inr f) never wanted = inl (faulted_before old mid new serves f)
-  without_clean DirtyLimit k (inl x) never wanted = unless_tells _ x (λ t. never t refl) wanted
-  without_clean Memory k x never wanted = tt
-  without_clean r (inl k) x never wanted = absurd cc
-  without_clean r (inr k) x never wanted = absurd cc
-
--- the room that a call wants could not be made
-pub way_refused : (old mid new : SoloSeen) (h : HandleId) (want r : Refusal) → Serves old mid → (want ≡ NoFrame) × (Suffices mid → ⊥) ⊎ (want ≡ DirtyLimit) × (IsClean mid → ⊥) → (r ≡ want) ⊎ (r ≡ Memory) → IsFull mid r new → (Tells mid → want ≡ NoFrame → r ≡ NoFrame → Faulted mid new ⊎ Suffices mid) → (Tells mid → want ≡ DirtyLimit → r ≡ DirtyLimit → Faulted mid new ⊎ IsClean mid) → IsFillRefusal old h r new
-way_refused old mid new h want NoFrame s (inl x) k full frames clean = without_frame old mid new s NoFrame (inl refl) full (λ t. frames t x.0) x.1
-way_refused old mid new h want NoFrame s (inr x) (inl k) full frames clean = absurd (let e : NoFrame ≡ DirtyLimit = k ∙ x.0 in cc)
-way_refused old mid new h want NoFrame s (inr x) (inr k) full frames clean = absurd cc
-way_refused old mid new h want DirtyLimit s (inr x) k full frames clean = without_clean old mid new s DirtyLimit (inl refl) full (λ t. clean t x.0) x.1
-way_refused old mid new h want DirtyLimit s (inl x) (inl k) full frames clean = absurd (let e : DirtyLimit ≡ NoFrame = k ∙ x.0 in cc)
-way_refused old mid new h want DirtyLimit s (inl x) (inr k) full frames clean = absurd cc
-way_refused old mid new h want Memory s x k full frames clean = tt
-way_refused old mid new h want r s (inl x) (inl k) full frames clean = absurd (let e : r ≡ NoFrame = k ∙ x.0 in cc)
-way_refused old mid new h want r s (inr x) (inl k) full frames clean = absurd (let e : r ≡ DirtyLimit = k ∙ x.0 in cc)
-way_refused old mid new h want r s x (inr k) full frames clean = absurd cc
+  pub way_refused : (h : HandleId) (want r : Refusal) → (want ≡ NoFrame) × (Suffices mid → ⊥) ⊎ (want ≡ DirtyLimit)
+      × (IsClean mid → ⊥)
+      → (r ≡ want) ⊎ (r ≡ Memory) → (want ≡ NoFrame → r ≡ NoFrame → Faulted mid new ⊎ Suffices mid)
+      → (want ≡ DirtyLimit → r ≡ DirtyLimit → Faulted mid new ⊎ IsClean mid) → IsFillRefusal old h r new
+  way_refused h want NoFrame (inl x) k frames clean = unless (frames x.0 refl) x.1
+  way_refused h want NoFrame (inr x) (inl k) frames clean = absurd (let e : NoFrame ≡ DirtyLimit = k ∙ x.0 in cc)
+  way_refused h want NoFrame (inr x) (inr k) frames clean = absurd cc
+  way_refused h want DirtyLimit (inr x) k frames clean = unless (clean x.0 refl) x.1
+  way_refused h want DirtyLimit (inl x) (inl k) frames clean = absurd (let e : DirtyLimit ≡ NoFrame = k ∙ x.0 in cc)
+  way_refused h want DirtyLimit (inl x) (inr k) frames clean = absurd cc
+  way_refused h want Memory x k frames clean = tt
+  way_refused h want r (inl x) (inl k) frames clean = absurd (let e : r ≡ NoFrame = k ∙ x.0 in cc)
+  way_refused h want r (inr x) (inl k) frames clean = absurd (let e : r ≡ DirtyLimit = k ∙ x.0 in cc)
+  way_refused h want r x (inr k) frames clean = absurd cc
 
 fails_before : (old mid new : WorldSeen) (code : ℕ) → Moves is_help old mid → FailsFill mid code new → FailsFill old code new
 fails_before old mid new code m (last, n, h, p, t, fill) = (last, moves_trans is_help old mid last m n, h, p, t, fill)
@@ -207,8 +176,8 @@ fails_before old mid new code m (last, n, h, p, t, fill) = (last, moves_trans is
 pub fill_refusal_before : (old mid new : SoloSeen) (h : HandleId) (r : Refusal) → Helps old mid → IsFillRefusal mid h r new
     → IsFillRefusal old h r new
 fill_refusal_before old mid new h BadHandle k x = ap (λ m. is_some (finmap.get m h.0)) (sym k.serves.keeps.handles) ∙ x
-fill_refusal_before old mid new h NoFrame k x = room_before old mid new NoFrame k.serves x
-fill_refusal_before old mid new h DirtyLimit k x = room_before old mid new DirtyLimit k.serves x
+fill_refusal_before old mid new h NoFrame k x = faulted_before old mid new k.serves x
+fill_refusal_before old mid new h DirtyLimit k x = faulted_before old mid new k.serves x
 fill_refusal_before old mid new h (Io code) k x =
     (faulted_before old mid new k.serves x.0, fails_before old.world mid.world new.world code k.moves x.1)
 fill_refusal_before old mid new h TooManyInFlight k x = x

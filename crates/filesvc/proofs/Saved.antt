@@ -17,10 +17,11 @@ use Rattle.runs.specs.World.{World, on_device}
 use Rattle.world.specs.Flushing.{IsFlushedOnce}
 use Rattle.world.specs.Stepping.{WorldSeen, world_of}
 use Rattle.filesvc.specs.Made.{Moves, is_for_sync}
-use Rattle.filesvc.specs.Rests.{IsService}
+use Rattle.filesvc.specs.Rests.{IsOrderly, IsService}
 use Rattle.filesvc.specs.Saving.{Ends, IsSaveRefusal, IsUnflushed, SaveEnds}
 use Rattle.filesvc.specs.Seen.{HandleSeen, SoloSeen}
-use Rattle.filesvc.specs.Service.{IsSyncRefusal, IsSynced, IsTold, Reports, Serves, errors_of, is_reported}
+use Rattle.filesvc.specs.Service.{AreOnDevice, IsSyncRefusal, IsTallied, IsTold, Reports, Serves, errors_of}
+use Rattle.filesvc.specs.Service.{is_reported}
 use Rattle.filesvc.specs.Syncs.{service_of}
 use Rattle.filesvc.proofs.FileSteps.{within}
 use Rattle.filesvc.proofs.Laws.{keeps_refl}
@@ -69,6 +70,7 @@ module _ (w v : WorldSeen) (u : Unmoved w v) (errors : RecorderSeen) where
       };
       reached = λ t. subst IsReached (sym u.world) (i.serving.reached (sym (ap is_some u.contents) ∙ t));
       sound = subst Sound (sym u.core) i.serving.sound;
+      orderly = subst IsOrderly (sym u.core) i.serving.orderly;
       counted = subst (λ n. n ≤ max_calls) (sym u.calls) i.serving.counted;
       bounded = subst (λ (s : State). (f : ℕ) → (file_at s f).size ≤ MAX_FILE_SIZE) (sym u.core) i.serving.bounded;
       few = subst (λ (s : State). length s.files ≤ MAX_FILES) (sym u.core) i.serving.few;
@@ -100,34 +102,35 @@ module _ (w v : WorldSeen) (u : Unmoved w v) (errors : RecorderSeen) where
     files = λ _. ap files_seen u.world;
   }
 
-  pub flush_synced : (old : SoloSeen) (f : ℕ) (first last : PageIndex) → IsSynced old f first last (service_of w errors) None
-      → IsSynced old f first last (service_of v errors) None
-  flush_synced old f first last s = (
-    subst (λ (x : World). (p : ℕ) → first.0 ≤ p → p ≤ last.0
-        → p < page_count x.core.sizes.page (length (plain_file (files_seen x) f))
-        → on_device x f p ≡ page_of x.core.sizes.page (plain_file (files_seen x) f) p) (sym u.world) s.0,
-    ap (λ (s : State). (file_at s f).failures) u.core ∙ s.1,
-  )
+  pub flush_synced : (f : ℕ) (first last : PageIndex) → AreOnDevice (service_of w errors) f first last
+      → AreOnDevice (service_of v errors) f first last
+  flush_synced f first last s = subst (λ (x : World). (p : ℕ) → first.0 ≤ p → p ≤ last.0
+      → p < page_count x.core.sizes.page (length (plain_file (files_seen x) f))
+      → on_device x f p ≡ page_of x.core.sizes.page (plain_file (files_seen x) f) p) (sym u.world) s
+
+  pub flush_tallied : (old : SoloSeen) (f : ℕ) → IsTallied old f (service_of w errors) None
+      → IsTallied old f (service_of v errors) None
+  flush_tallied old f s = ap (λ (s : State). (file_at s f).failures) u.core ∙ s
 
 -- ---- a sync that is refused
 
-module _ (h : HandleId) (first last : PageIndex) (old new : WorldSeen) (a b : SoloSeen) where
+module _ (h : HandleId) (first last : PageIndex) (old new : WorldSeen) (b : SoloSeen) where
   pub save_refused : (why : Refusal) → Moves is_for_sync old new → (last.0 < first.0 → why ≡ BadRange)
-      → (first.0 ≤ last.0 → IsSyncRefusal a why b) → SaveEnds h first last old (Err why) new
+      → (first.0 ≤ last.0 → IsSyncRefusal why b) → SaveEnds h first last old (Err why) new
   save_refused (Io code) m turned refused = absurd (elim (within last.0 first.0) [
     | inl x ↦ (let e = turned x in absurd cc)
     | inr x ↦ refused x
   ])
   save_refused why m turned refused = m
 
-pub save_why : (a b : SoloSeen) (why : Refusal) → IsSyncRefusal a why b → IsSaveRefusal a why b
-save_why a b (Io code) x = tt
-save_why a b why x = x
+pub save_why : (b : SoloSeen) (why : Refusal) → IsSyncRefusal why b → IsSaveRefusal why b
+save_why b (Io code) x = tt
+save_why b why x = x
 
-pub saved_refusal : (a b : SoloSeen) (why : Refusal) → is_reported (Err why) ≡ false → IsSaveRefusal a why b
-    → IsSyncRefusal a why b
-saved_refusal a b (Io code) e x = absurd cc
-saved_refusal a b why e x = x
+pub saved_refusal : (b : SoloSeen) (why : Refusal) → is_reported (Err why) ≡ false → IsSaveRefusal why b
+    → IsSyncRefusal why b
+saved_refusal b (Io code) e x = absurd cc
+saved_refusal b why e x = x
 
 -- ---- how the call ends
 

@@ -16,11 +16,9 @@ use Rattle.machine.specs.Tests.{covers, first_of, must_fill, read_count, read_st
 use Rattle.cachecore.specs.Wants.{dirtied, lacking, lacks_frames, may_touch, passes_limit}
 use Rattle.machine.proofs.steps.Choices.{not_true, quiet_none}
 use Rattle.runs.proofs.bytes.CutLaws.{touched_in}
-use Rattle.runs.proofs.moments.Reached.{reached_always, reached_coupled}
-use Rattle.world.specs.Stepping.{world_of}
 use Rattle.filesvc.specs.Rests.{IsServing}
 use Rattle.filesvc.specs.Seen.{SoloSeen}
-use Rattle.filesvc.specs.Service.{Tells, is_settled}
+use Rattle.filesvc.specs.Service.{is_settled}
 use Rattle.filesvc.proofs.Fills.{none_fills}
 use Rattle.filesvc.proofs.Needs.{wants_clean, wants_frames}
 use Rattle.filesvc.proofs.Touched.{found_in}
@@ -93,10 +91,15 @@ touches_in P a b p l m = by (nat_le a p) (nat_le p b) (grind (arith, nat_tests))
 
 module _ (name : ℕ) (s : SoloSeen) (table : TableId) (i : IsServing name s.world table s.errors) (h : ℕ) where
   -- a page that has to be read first
-  filled_first : (p : ℕ) → must_fill s.world.core (handle_file s.world.core h) p ≡ true → (is_cached s.world.core (handle_file s.world.core h) p ≡ false) × (Tells s → p < page_count s.world.core.sizes.page (file_at s.world.core (handle_file s.world.core h)).size)
+  filled_first : (p : ℕ) → must_fill s.world.core (handle_file s.world.core h) p ≡ true
+      → (is_cached s.world.core (handle_file s.world.core h) p ≡ false)
+      × (p < page_count s.world.core.sizes.page (file_at s.world.core (handle_file s.world.core h)).size)
   filled_first p e =
-      let x = missing (is_cached s.world.core (handle_file s.world.core h) p) (is_written s.world.core (handle_file s.world.core h) p) e in
-      (x.0, λ tells. (reached_always (world_of s.world) (i.reached tells)).within (handle_file s.world.core h) p (written_there (spot_at s.world.core (handle_file s.world.core h) p) x.1))
+      let x = missing (is_cached s.world.core (handle_file s.world.core h) p) (is_written s.world.core (handle_file s.world.core h) p) e in (
+        x.0,
+        i.orderly.within (handle_file s.world.core h) p
+            (written_there (spot_at s.world.core (handle_file s.world.core h) p) x.1),
+      )
 
   -- ---- a read
 
@@ -124,7 +127,10 @@ module _ (name : ℕ) (s : SoloSeen) (table : TableId) (i : IsServing name s.wor
             first = x.1;
             last = last;
             absent = not_true (is_cached s.world.core (handle_file s.world.core h) p) x.0;
-            within = λ tells. touched_in s.world.core.sizes.page o k p (file_at s.world.core (handle_file s.world.core h)).size (reached_coupled (world_of s.world) (i.reached tells)).good.positive some end (touches_in s.world.core.sizes.page (first_page s.world.core.sizes.page o) (last_page s.world.core.sizes.page o k) p x.1 last);
+            within = touched_in s.world.core.sizes.page o k p
+                (file_at s.world.core (handle_file s.world.core h)).size i.orderly.positive some end
+                (touches_in s.world.core.sizes.page (first_page s.world.core.sizes.page o)
+                (last_page s.world.core.sizes.page o k) p x.1 last);
           }
 
       all : (r : Reply) → tests s.world.core (event.Read (record { 0 = h }) o n) ≡ Some r → P r

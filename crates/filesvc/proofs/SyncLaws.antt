@@ -1,5 +1,6 @@
 -- A sync that one call makes from its begin to its end.
-use Rattle.std.proofs.Common.{◌≡◌, ◌≢◌, ℕ, ◌+◌, ◌-◌, ◌<◌, ◌≤◌, Bool, true, false, cond, List, [], ◌∷◌, length, refl, ap, sym, subst, ◌∙◌, arith, inl, inr}
+use Rattle.std.proofs.Common.{◌≡◌, ◌≢◌, ℕ, ◌+◌, ◌-◌, ◌<◌, ◌≤◌, Bool, true, false, cond, [], ◌∷◌, length, refl, ap, sym}
+use Rattle.std.proofs.Common.{subst, ◌∙◌, arith, inl, inr}
 use Rattle.std.specs.Prelude.{◌⊎◌, Option, Some, None, is_some, unwrap_or, IfSome, slice_index_or, Result, Ok, Err, IfErr, IfOk}
 use Rattle.std.specs.FinMap as finmap
 use Rattle.atomic_table.specs.Seated.{TableId}
@@ -11,7 +12,7 @@ use Rattle.pc_types.specs.declared.ids.Serial.{Serial}
 use Rattle.pc_types.specs.declared.ids.SyncId.{SyncId}
 use Rattle.pc_types.specs.declared.limits.TheConstants.{LAST_PAGE, MAX_FILE_SIZE, SERIAL_END}
 use Rattle.pc_types.specs.declared.refusal.Refusal.{Refusal}
-use Rattle.pc_types.specs.declared.refusal.Refusal.TheVariants.{BadRange, Busy, Io, Memory, TooManyInFlight}
+use Rattle.pc_types.specs.declared.refusal.Refusal.TheVariants.{BadRange, Memory, TooManyInFlight}
 use Rattle.machine.specs.declared.event.Event.{Event}
 use Rattle.machine.specs.declared.event.Event.TheVariants as event
 use Rattle.machine.specs.declared.event.Outcome.{Outcome}
@@ -20,7 +21,8 @@ use Rattle.machine.specs.declared.event.Reply.TheVariants as reply
 use Rattle.cachecore.specs.Replies.{sync_begun, sync_dropped}
 use Rattle.blockdev.specs.Device.{max_calls}
 use Rattle.machine.specs.Sound.{Sound}
-use Rattle.machine.specs.State.{State, Request, Sync, no_file, file_at, first_awaited, handle_file, is_open, page_count, tags_at}
+use Rattle.machine.specs.State.{State, File, Request, Sync, no_file, file_at, first_awaited, handle_file, is_open}
+use Rattle.machine.specs.State.{page_count, tags_at}
 use Rattle.machine.specs.Tests.{is_full, refuse, start_tests, sync_tests}
 use Rattle.machine.specs.Changes.{new_sync, sync_pick}
 use Rattle.machine.specs.Step.{Step, SyncReply, SyncStepReply}
@@ -39,15 +41,16 @@ use Rattle.runs.proofs.views.View.{put1_here}
 use Rattle.runs.proofs.events.Lookups.{get-insert1}
 use Rattle.world.proofs.Stays.{handles_stay, keeps_handles}
 use Rattle.world.proofs.InFlight.{begins_none, next_rises, next_stays}
-use Rattle.world.proofs.RangeSync.{IsRangeSynced, SyncsRange, is_of_sync, range_begins, range_clean, range_failed, range_goes}
+use Rattle.world.proofs.RangeSync.{IsRangeSynced, SyncsRange, is_of_sync, range_begins, range_clean, range_goes}
 use Rattle.world.proofs.SyncStays.{is_over, never_waits, over_leaves_files, sync_stays, syncs_stay}
 use Rattle.runs.proofs.syncs.Track.{move_tracked}
-use Rattle.filesvc.specs.Rests.{AtOnce, IsResting, IsService, IsServing, is_job}
+use Rattle.filesvc.specs.Rests.{AtOnce, IsOrderly, IsResting, IsService, IsServing, is_job}
 use Rattle.filesvc.specs.Seen.{SoloSeen}
-use Rattle.filesvc.specs.Service.{AreOnDevice, HasFailed, IsOnDevice, IsSyncRefusal, IsSynced, Serves, Tells, files, is_reported}
+use Rattle.filesvc.specs.Service.{AreOnDevice, IsOnDevice, IsSyncRefusal, IsTallied, Serves, Tells, files}
 use Rattle.filesvc.specs.Syncs.{Drops, SyncTurn, clean_or, is_sync_end, service_of, sync_end_of}
 use Rattle.filesvc.specs.Made.{Moves, Syncs, Writes, is_for_sync, is_sync_write}
 use Rattle.filesvc.proofs.Laws.{moves_also, moves_refl, moves_trans, one_move, three, serves_refl}
+use Rattle.filesvc.proofs.Orderly.{none_under}
 use Rattle.filesvc.proofs.RoomLaws.{held_same, no_serial}
 use Rattle.filesvc.proofs.SyncsKept.{OnlySync, begin_refused, dropped_none, finish_none, only_left, over_none, step_none}
 use Rattle.filesvc.proofs.Waiting.{begin_tags, finish_waits, step_takes, waiting}
@@ -57,11 +60,12 @@ use Rattle.filesvc.proofs.WorldLaws.{Made, call_by, one_call, at_once_serves, at
 
 -- what each reply to a step of the sync tells
 abbrev Answered : State → Option Sync → Reply → State → Type 0
-Answered s o reply.Clean new = Unit {0}
-Answered s (Some y) (reply.Failed c) new = c ≡ (file_at s (handle_file s y.handle)).last_code
 Answered s o (reply.Job t) new = Unit {0}
 Answered s o (reply.Wait p) new = Unit {0}
 Answered s o (reply.Refused why) new = Unit {0}
+Answered s o reply.Clean new = IfSome o (λ y. (file_at s (handle_file s y.handle)).failures ≡ y.failures)
+Answered s o (reply.Failed c) new = IfSome o (λ y.
+    let file = file_at s (handle_file s y.handle) in (file.failures ≢ y.failures) × (c ≡ file.last_code))
 Answered s o _ new = ⊥
 
 module _ (s new : State) where
@@ -78,8 +82,8 @@ module _ (s new : State) where
   by_reply y (Some p) e _ h = absurd h
   by_reply y None (Some e) (reply.Wait p) h = tt
   by_reply y None (Some e) _ h = absurd h
-  by_reply y None None reply.Clean h = tt
-  by_reply y None None (reply.Failed c) h = h.1
+  by_reply y None None reply.Clean h = h
+  by_reply y None None (reply.Failed c) h = h
   by_reply y None None _ h = absurd h
 
   by_sync : (o : Option Sync) (r : Reply) → SyncStepReply s o r → Answered s o r new
@@ -298,21 +302,50 @@ in_sync h first last n w v r m =
 named_is : (w : WorldSeen) (h f : ℕ) → finmap.get w.core.handles h ≡ Some f → named (files_seen (world_of w)) h ≡ f
 named_is w h f e = ap (λ o. unwrap_or o 0) e
 
-pub ends_clean : (old now new : SoloSeen) (h : HandleId) (first last : PageIndex) (n : SyncId) (f : ℕ) → finmap.get old.world.core.handles h.0 ≡ Some f → new.world.core.sizes ≡ old.world.core.sizes → InSync h first last n (world_of old.world) (world_of now.world) → IsMade now.world (step.SyncStep n) reply.Clean new.world → IsSynced old f first last new None
+pub ends_clean : (old now new : SoloSeen) (h : HandleId) (first last : PageIndex) (n : SyncId) (f : ℕ)
+    → finmap.get old.world.core.handles h.0 ≡ Some f → new.world.core.sizes ≡ old.world.core.sizes
+    → InSync h first last n (world_of old.world) (world_of now.world)
+    → IsMade now.world (step.SyncStep n) reply.Clean new.world → AreOnDevice new f first last
 ends_clean old now new h first last n f here sizes s m =
     let x = subst (IsRangeSynced first last (world_of old.world) (world_of new.world)) (named_is old.world h.0 f here) (range_clean h first last n (world_of old.world) (world_of now.world) (world_of new.world) s.syncing m.0) in
-    (λ p from to small. x.pages p from to (subst (λ k. p < k) (λ i. page_count (sizes i).page (length (plain_file (x.files i) f))) small) ∙ (λ i. page_of (sym sizes i).page (plain_file (sym x.files i) f) p), x.failures)
+    λ p from to small. x.pages p from to
+    (subst (λ k. p < k) (λ i. page_count (sizes i).page (length (plain_file (x.files i) f))) small)
+    ∙ (λ i. page_of (sym sizes i).page (plain_file (sym x.files i) f) p)
 
-pub ends_failed : (old now new : SoloSeen) (h : HandleId) (first last : PageIndex) (n : SyncId) (f code : ℕ) → finmap.get old.world.core.handles h.0 ≡ Some f → finmap.get now.world.core.handles h.0 ≡ Some f → InSync h first last n (world_of old.world) (world_of now.world) → IsMade now.world (step.SyncStep n) (reply.Failed code) new.world → IsSynced old f first last new (Some code)
-ends_failed old now new h first last n f code here there s m =
-    (subst (HasFailed old new) (named_is old.world h.0 f here) (range_failed h first last n (world_of old.world) (world_of now.world) (world_of new.world) s.syncing code m.0).0, is_last)
-  where
-    is_last : code ≡ (file_at new.world.core f).last_code
-    is_last =
-        let a = step_answered now.world.core new.world.core n (reply.Failed code) m.0.1.0 in
-        let b : code ≡ (file_at now.world.core (handle_file now.world.core s.sync.handle)).last_code = subst (λ o. Answered now.world.core o (reply.Failed code) new.world.core) s.is a in
-        let file : handle_file now.world.core s.sync.handle ≡ f = ap (λ x. handle_file now.world.core x) s.handle ∙ ap (λ o. unwrap_or o 0) there in
-        b ∙ ap (λ g. (file_at now.world.core g).last_code) file ∙ ap (λ fs. (slice_index_or fs f no_file).last_code) (sym (over_leaves_files (world_of now.world) (world_of new.world) n (reply.Failed code) refl m.0))
+-- what it tells of failed writes, of every device
+module _ (old now new : SoloSeen) (h : HandleId) (first last : PageIndex) (n : SyncId) (f : ℕ)
+    (here : finmap.get old.world.core.handles h.0 ≡ Some f) (there : finmap.get now.world.core.handles h.0 ≡ Some f)
+    (s : SyncOf h first last n old.world.core now.world.core) where
+  its_file : handle_file now.world.core s.sync.handle ≡ f
+  its_file = ap (handle_file now.world.core) s.handle ∙ ap (λ o. unwrap_or o 0) there
+
+  then : s.sync.failures ≡ (file_at old.world.core f).failures
+  then = s.failures ∙ ap (λ o. (file_at old.world.core (unwrap_or o 0)).failures) here
+
+  -- the last step leaves the file
+  last_file : (r : Reply) → is_over r ≡ true → IsMade now.world (step.SyncStep n) r new.world
+      → file_at new.world.core f ≡ file_at now.world.core (handle_file now.world.core s.sync.handle)
+  last_file r over m = ap (λ fs. slice_index_or fs f no_file)
+      (over_leaves_files (world_of now.world) (world_of new.world) n r over m.0)
+      ∙ ap (file_at now.world.core) (sym its_file)
+
+  tallied : (r : Reply) → IsMade now.world (step.SyncStep n) r new.world
+      → Answered now.world.core (Some s.sync) r new.world.core
+  tallied r m = subst (λ o. Answered now.world.core o r new.world.core) s.is
+      (step_answered now.world.core new.world.core n r m.0.1.0)
+
+  pub tallied_clean : IsMade now.world (step.SyncStep n) reply.Clean new.world → IsTallied old f new None
+  tallied_clean m = ap (λ (x : File). x.failures) (last_file reply.Clean refl m) ∙ tallied reply.Clean m ∙ then
+
+  pub tallied_failed : (code : ℕ) → IsMade now.world (step.SyncStep n) (reply.Failed code) new.world
+      → IsTallied old f new (Some code)
+  tallied_failed code m =
+      let a = tallied (reply.Failed code) m in
+      let file = last_file (reply.Failed code) refl m in (
+        λ same. a.0 (ap (λ (x : File). x.failures) (sym file) ∙ same ∙ sym then),
+        a.1
+            ∙ ap (λ (x : File). x.last_code) (sym file),
+      )
 
 -- ---- why it is refused
 
@@ -351,13 +384,21 @@ step_why w v n why none there m = elim m [
 -- ---- the reply by which it is over
 
 -- where no request is in flight a step that writes nothing is the last
-pub step_ends : (w v : WorldSeen) (n : SyncId) (r : Reply) → IsReached (world_of w) → IsResting w → is_job r ≡ false → Steps w (step.SyncStep n) r v → is_sync_end r ≡ true
-step_ends w v n reply.Clean reached rests j m = refl
-step_ends w v n (reply.Failed c) reached rests j m = refl
-step_ends w v n (reply.Refused why) reached rests j m = refl
-step_ends w v n (reply.Job t) reached rests j m = absurd cc
-step_ends w v n (reply.Wait p) reached rests j m = elim m [ inl m ↦ absurd (never_waits (world_of w) (world_of v) n p reached rests.requests m.0) | inr x ↦ absurd (let k = x.0 in cc) ]
-step_ends w v n r reached rests j m = elim m [ inl m ↦ absurd (step_answered w.core v.core n r m.0.1.0) | inr x ↦ absurd (let k = x.0 in cc) ]
+pub step_ends : (w v : WorldSeen) (n : SyncId) (r : Reply) → IsOrderly w.core → IsResting w → is_job r ≡ false
+    → Steps w (step.SyncStep n) r v → is_sync_end r ≡ true
+step_ends w v n reply.Clean orderly rests j m = refl
+step_ends w v n (reply.Failed c) orderly rests j m = refl
+step_ends w v n (reply.Refused why) orderly rests j m = refl
+step_ends w v n (reply.Job t) orderly rests j m = absurd cc
+step_ends w v n (reply.Wait p) orderly rests j m =
+    elim m [
+      | inl m ↦ absurd
+          (never_waits (world_of w) (world_of v) n p rests.requests (none_under w.core orderly rests.requests) m.0)
+      | inr x ↦
+          absurd (let k = x.0 in cc)
+    ]
+step_ends w v n r orderly rests j m =
+    elim m [ inl m ↦ absurd (step_answered w.core v.core n r m.0.1.0) | inr x ↦ absurd (let k = x.0 in cc) ]
 
 -- ---- what a step leaves of the service
 
@@ -389,39 +430,68 @@ module _ (old now mid new : SoloSeen) (h : HandleId) (first last : PageIndex) (n
   there : finmap.get now.world.core.handles h.0 ≡ Some f
   there = ap (λ m. finmap.get m h.0) serves.keeps.handles ∙ here
 
-  synced_by : (r : Reply) → InSync h first last n (world_of old.world) (world_of now.world) → Steps now.world (step.SyncStep n) r mid.world → IfOk (sync_end_of r) (λ _. new ≡ mid) → IfOk (sync_end_of r) (IsSynced old f first last new)
-  synced_by reply.Clean s m same = elim m [
-    | inl m ↦ subst (λ x. IsSynced old f first last x None) (sym same) (ends_clean old now mid h first last n f here (then.keeps.sizes ∙ serves.keeps.sizes) s m)
+  tallied_by : (r : Reply) → SyncOf h first last n old.world.core now.world.core
+      → Steps now.world (step.SyncStep n) r mid.world → IfOk (sync_end_of r) (λ _. new ≡ mid)
+      → IfOk (sync_end_of r) (IsTallied old f new)
+  tallied_by reply.Clean s m same = elim m [
+    | inl m ↦ subst (λ x. IsTallied old f x None) (sym same) (tallied_clean old now mid h first last n f here there s m)
     | inr x ↦ absurd (let k = x.0 in cc)
   ]
-  synced_by (reply.Failed code) s m same = elim m [
-    | inl m ↦ subst (λ x. IsSynced old f first last x (Some code)) (sym same) (ends_failed old now mid h first last n f code here there s m)
+  tallied_by (reply.Failed code) s m same = elim m [
+    | inl m ↦ subst (λ x. IsTallied old f x (Some code)) (sym same)
+        (tallied_failed old now mid h first last n f here there s code m)
     | inr x ↦ absurd (let k = x.0 in cc)
   ]
-  synced_by _ s m same = tt
+  tallied_by _ s m same = tt
 
-  pub call_synced : (r : Reply) (o : Result (Option ℕ) Refusal) → InSync h first last n (world_of old.world) (world_of now.world) → Steps now.world (step.SyncStep n) r mid.world → o ≡ sync_end_of r → IfOk o (λ _. new ≡ mid) → IfOk o (IsSynced old f first last new)
-  call_synced r o s m e same = subst (λ o. IfOk o (IsSynced old f first last new)) (sym e) (synced_by r s m (subst (λ o. IfOk o (λ _. new ≡ mid)) e same))
+  pub call_tallied : (r : Reply) (o : Result (Option ℕ) Refusal) → SyncOf h first last n old.world.core now.world.core
+      → Steps now.world (step.SyncStep n) r mid.world → o ≡ sync_end_of r → IfOk o (λ _. new ≡ mid)
+      → IfOk o (IsTallied old f new)
+  call_tallied r o s m e same =
+      subst (λ o. IfOk o (IsTallied old f new)) (sym e) (tallied_by r s m (subst (λ o. IfOk o (λ _. new ≡ mid)) e same))
+
+  synced_by : (r : Reply) → InSync h first last n (world_of old.world) (world_of now.world)
+      → Steps now.world (step.SyncStep n) r mid.world → IfOk (sync_end_of r) (λ _. new ≡ mid) → sync_end_of r ≡ Ok None
+      → AreOnDevice new f first last
+  synced_by reply.Clean s m same clean = elim m [
+    | inl m ↦ subst (λ x. AreOnDevice x f first last) (sym same)
+        (ends_clean old now mid h first last n f here (then.keeps.sizes ∙ serves.keeps.sizes) s m)
+    | inr x ↦ absurd (let k = x.0 in cc)
+  ]
+  synced_by (reply.Failed code) s m same clean = absurd cc
+  synced_by (reply.Refused why) s m same clean = absurd cc
+  synced_by _ s m same clean = absurd cc
+
+  pub call_synced : (r : Reply) (o : Result (Option ℕ) Refusal)
+      → InSync h first last n (world_of old.world) (world_of now.world) → Steps now.world (step.SyncStep n) r mid.world
+      → o ≡ sync_end_of r → IfOk o (λ _. new ≡ mid) → o ≡ Ok None → AreOnDevice new f first last
+  call_synced r o s m e same clean = synced_by r s m (subst (λ o. IfOk o (λ _. new ≡ mid)) e same) (sym e ∙ clean)
 
 drop_begins_none : (n : SyncId) (r : Result Unit Refusal) → begins_none (Act (event.SyncDrop n) (sync_dropped r)) ≡ true
 drop_begins_none n (Ok _) = refl
 drop_begins_none n (Err why) = refl
 
-module _ (old now mid new : SoloSeen) (n : SyncId) (before : Tells old → Tells now) (rests : IsResting now.world) (reached : Tells now → IsReached (world_of now.world)) (only : OnlySync now.world.core n.0) where
-  by_refusal : (r : Reply) → is_job r ≡ false → Steps now.world (step.SyncStep n) r mid.world → IfErr (sync_end_of r) (λ _. Drops mid.world n new.world) → IfErr (sync_end_of r) (λ why. IsSyncRefusal old why new)
+module _ (now mid new : SoloSeen) (n : SyncId) (rests : IsResting now.world) (orderly : IsOrderly now.world.core)
+    (only : OnlySync now.world.core n.0) where
+  by_refusal : (r : Reply) → is_job r ≡ false → Steps now.world (step.SyncStep n) r mid.world
+      → IfErr (sync_end_of r) (λ _. Drops mid.world n new.world) → IfErr (sync_end_of r) (λ why. IsSyncRefusal why new)
   by_refusal reply.Clean j m d = tt
   by_refusal (reply.Failed code) j m d = tt
   by_refusal (reply.Refused why) j m d =
       let x = step_why now.world mid.world n why rests.requests only.there m in
       let stays : new.world.core.next ≡ now.world.core.next = next_stays (world_of mid.world) (world_of new.world) (Act (event.SyncDrop n) (sync_dropped d.0)) (drop_begins_none n d.0) d.1.0 ∙ ap (λ (c : State). c.next) x.1 in
       elim x.0 [
-        | inl e ↦ subst (λ y. IsSyncRefusal old y new) (sym e) tt
-        | inr y ↦ subst (λ z. IsSyncRefusal old z new) (sym y.0) (subst (λ k. SERIAL_END ≤ k) (sym stays) y.1)
+        | inl e ↦ subst (λ y. IsSyncRefusal y new) (sym e) tt
+        | inr y ↦ subst (λ z. IsSyncRefusal z new) (sym y.0) (subst (λ k. SERIAL_END ≤ k) (sym stays) y.1)
       ]
-  by_refusal r j m d = λ tells. absurd (let e = step_ends now.world mid.world n r (reached (before tells)) rests j m in cc)
+  by_refusal r j m d = absurd (let e = step_ends now.world mid.world n r orderly rests j m in cc)
 
-  pub call_refused : (r : Reply) (o : Result (Option ℕ) Refusal) → is_job r ≡ false → Steps now.world (step.SyncStep n) r mid.world → o ≡ sync_end_of r → IfErr o (λ _. Drops mid.world n new.world) → IfErr o (λ why. IsSyncRefusal old why new)
-  call_refused r o j m e d = subst (λ o. IfErr o (λ why. IsSyncRefusal old why new)) (sym e) (by_refusal r j m (subst (λ o. IfErr o (λ _. Drops mid.world n new.world)) e d))
+  pub call_refused : (r : Reply) (o : Result (Option ℕ) Refusal) → is_job r ≡ false
+      → Steps now.world (step.SyncStep n) r mid.world → o ≡ sync_end_of r → IfErr o (λ _. Drops mid.world n new.world)
+      → IfErr o (λ why. IsSyncRefusal why new)
+  call_refused r o j m e d =
+      subst (λ o. IfErr o (λ why. IsSyncRefusal why new)) (sym e)
+      (by_refusal r j m (subst (λ o. IfErr o (λ _. Drops mid.world n new.world)) e d))
 
 -- ---- a begin that is refused
 
@@ -529,14 +599,49 @@ module _ (now mid new : WorldSeen) (n : SyncId) (only : OnlySync now.core n.0) w
 -- ---- what a service is, by the name that its cache has
 
 pub renamed : (name : ℕ) (w : WorldSeen) (table : TableId) (errors : RecorderSeen) → IsServing name w table errors → IsServing w.core.name w errors.board errors
-renamed name w table errors i = record { named = refl; board = refl; lists = i.lists; rests = i.rests; reached = i.reached; sound = i.sound; counted = i.counted; bounded = i.bounded; few = i.few; page = i.page; frames = i.frames; dirty = i.dirty; serials = i.serials }
+renamed name w table errors i =
+    record {
+      named = refl;
+      board = refl;
+      lists = i.lists;
+      rests = i.rests;
+      reached = i.reached;
+      sound = i.sound;
+      orderly = i.orderly;
+      counted = i.counted;
+      bounded = i.bounded;
+      few = i.few;
+      page = i.page;
+      frames = i.frames;
+      dirty = i.dirty;
+      serials = i.serials;
+    }
 
 pub renamed_service : (name : ℕ) (w : WorldSeen) (table : TableId) (errors : RecorderSeen) → IsService name w table errors → IsService w.core.name w errors.board errors
 renamed_service name w table errors i = record { serving = renamed name w table errors i.serving; syncs = i.syncs }
 
 pub service_on : (name : ℕ) (old w : WorldSeen) (table : TableId) (before errors : RecorderSeen) → IsService name old table before → Serves (service_of old before) (service_of w errors) → IsService w.core.name w errors.board errors → IsService name w table errors
 service_on name old w table before errors i s j = record {
-  serving = record { named = s.keeps.name ∙ i.serving.named; board = i.serving.board ∙ sym s.keeps.board; lists = j.serving.lists; rests = j.serving.rests; reached = j.serving.reached; sound = j.serving.sound; counted = j.serving.counted; bounded = j.serving.bounded; few = j.serving.few; page = j.serving.page; frames = j.serving.frames; dirty = j.serving.dirty; serials = j.serving.serials };
+  serving = record {
+    named = s.keeps.name ∙ i.serving.named;
+    board = i.serving.board
+        ∙ sym s.keeps.board;
+    lists = j.serving.lists;
+    rests = j.serving.rests;
+    reached = j.serving.reached;
+    sound =
+        j.serving.sound;
+    orderly = j.serving.orderly;
+    counted = j.serving.counted;
+    bounded = j.serving.bounded;
+    few =
+        j.serving.few;
+    page = j.serving.page;
+    frames = j.serving.frames;
+    dirty = j.serving.dirty;
+    serials =
+        j.serving.serials;
+  };
   syncs = j.syncs;
 }
 
@@ -556,17 +661,12 @@ pub same_service : (mid new : WorldSeen) (errors : RecorderSeen) (o : Result (Op
 same_service mid new errors (Ok x) e = ap (λ w. service_of w errors) e
 same_service mid new errors (Err why) e = tt
 
--- a refusal that is no failed write comes before the poll
-pub not_reported : (old new : SoloSeen) (why : Refusal) → IsSyncRefusal old why new → is_reported (Err why) ≡ true → ⊥
-not_reported old new (Io code) n e = n
-not_reported old new why n e = absurd cc
-
 -- how many attempts were made is of no matter
-pub refusal_counted : (old new : SoloSeen) (m n : ℕ) (why : Refusal) → IsSyncRefusal old why new → IsSyncRefusal (record old { attempts = m }) why (record new { attempts = n })
-refusal_counted old new m n Memory x = tt
-refusal_counted old new m n TooManyInFlight x = x
-refusal_counted old new m n Busy x = x
-refusal_counted old new m n why x = absurd x
+pub refusal_counted : (new : SoloSeen) (n : ℕ) (why : Refusal) → IsSyncRefusal why new
+    → IsSyncRefusal why (record new { attempts = n })
+refusal_counted new n Memory x = tt
+refusal_counted new n TooManyInFlight x = x
+refusal_counted new n why x = absurd x
 
 -- no file has a page past the last that a sync may name
 pub whole_file : (name : ℕ) (old new : SoloSeen) (table : TableId) (f : ℕ) → IsServing name old.world table old.errors → Serves old new → Tells old

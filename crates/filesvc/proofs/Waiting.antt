@@ -1,8 +1,9 @@
 -- How many pages of a range of a file its syncs have still to write, which are those with TOWRITE. As a sync of the range begins they
 -- are no more than its DIRTY pages; each write that the sync starts takes one, and the end of a request adds none. Of any state.
-use Rattle.std.proofs.Common.{◌≡◌, ◌≢◌, ℕ, ◌+◌, ◌<◌, ◌≤◌, Bool, true, false, cond, eqb, eqb-true, eq-eqb, List, length, get_or, refl}
+use Rattle.std.proofs.Common.{◌≡◌, ◌≢◌, ℕ, ◌+◌, ◌≤◌, Bool, true, false, cond, eqb, eqb-true, eq-eqb, List, length}
+use Rattle.std.proofs.Common.{get_or, refl}
 use Rattle.std.proofs.Common.{ap, sym, subst, ◌∙◌, arith, inl, inr}
-use Rattle.std.specs.Prelude.{◌⊎◌, ◌&&◌, ◌||◌, Option, Some, None, is_some, option_map, unwrap_or, slice_set}
+use Rattle.std.specs.Prelude.{◌&&◌, ◌||◌, Option, Some, None, is_some, option_map, unwrap_or, slice_set}
 use Rattle.std.specs.FinMap as map
 use Rattle.std.specs.FinMap.{FinMap}
 use Rattle.std.specs.Ordering.{nat_cmp}
@@ -22,7 +23,7 @@ use Rattle.machine.specs.declared.event.Outcome.{Outcome}
 use Rattle.machine.specs.declared.event.Outcome.TheVariants as outcome
 use Rattle.machine.specs.declared.event.Reply.{Reply}
 use Rattle.machine.specs.declared.event.Reply.TheVariants as reply
-use Rattle.machine.specs.Changes.{after_write, ended, flush_failed, is_left, new_sync, request_ended, started}
+use Rattle.machine.specs.Changes.{after_write, ended, flush_failed, new_sync, request_ended, started}
 use Rattle.machine.specs.Changes.{sync_pick, sync_stepped, to_write, under_write}
 use Rattle.machine.specs.Sound.{Sound}
 use Rattle.machine.specs.State.{State, File, Page, Request, Sync, file_at, first_awaited, handle_file, in_range, no_file, tags_of}

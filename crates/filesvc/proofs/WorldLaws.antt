@@ -42,7 +42,7 @@ use Rattle.runs.proofs.events.Lookups.{get-insert1}
 use Rattle.runs.proofs.moments.Reached.{files_step, reached_step}
 use Rattle.world.proofs.Stays.{handles_stay, keeps_handles, stays}
 use Rattle.runs.proofs.views.View.{put1_here}
-use Rattle.filesvc.specs.Rests.{AtOnce, IsAlone, IsNoted, IsResting, IsService, IsServing, is_job}
+use Rattle.filesvc.specs.Rests.{AtOnce, IsAlone, IsNoted, IsOrderly, IsResting, IsService, IsServing, is_job}
 use Rattle.filesvc.specs.Seen.{SoloSeen}
 use Rattle.filesvc.specs.Service.{IsCoded, Keeps, Serves, Tells, files}
 use Rattle.filesvc.proofs.FailedWrites.{act_codes, act_failures, core_sound, failures_in, finish_codes, finish_rises}
@@ -51,6 +51,7 @@ use Rattle.filesvc.proofs.FileSizes.{AreBounded, bounded_stays, leaves_lengths, 
 use Rattle.filesvc.specs.Attempts.{Helps}
 use Rattle.filesvc.specs.Made.{Moves, is_help}
 use Rattle.filesvc.proofs.Laws.{one_move, three, serves_refl, serves_trans}
+use Rattle.filesvc.proofs.Orderly.{orderly_stays}
 
 -- ---- a device call, on the device
 
@@ -122,11 +123,13 @@ Made old e r new = WorldStep (world_of old) (Act e r) (world_of new) × (new.dev
 pub record IsSound (w : WorldSeen) : Type 0 where
   pub reached : is_some w.device.contents ≡ true → IsReached (world_of w)
   pub core : Sound w.core
+  pub orderly : IsOrderly w.core
   pub counted : w.device.calls ≤ max_calls
   pub bounded : AreBounded w.core
 
 pub service_sound : (name : ℕ) (w : WorldSeen) (table : TableId) (errors : RecorderSeen) → IsServing name w table errors → IsSound w
-service_sound name w table errors i = record { reached = i.reached; core = i.sound; counted = i.counted; bounded = i.bounded }
+service_sound name w table errors i =
+    record { reached = i.reached; core = i.sound; orderly = i.orderly; counted = i.counted; bounded = i.bounded }
 
 -- the service goes on so
 pub record Goes (s t : SoloSeen) : Type 0 where
@@ -145,7 +148,17 @@ moved_keeps s w errors e m k d n same codes =
     record { name = a.1; sizes = a.0; handles = b.0; count = b.1; board = n.board; opening = n.opening; recorded = n.begins; noted = same; coded = codes; tells = ap (λ x. is_some x.contents) d; faults = same_faults s w d }
 
 moved_sound : (old w : WorldSeen) (e : Move) → WorldStep (world_of old) e (world_of w) → w.device ≡ old.device → IsSound old → IsSound w
-moved_sound old w e m d i = record { reached = λ t. reached_step (world_of old) (world_of w) e (i.reached (ap (λ x. is_some x.contents) (sym d) ∙ t)) m; core = core_sound (world_of old) (world_of w) e m i.core; counted = subst (λ x. x.calls ≤ max_calls) (sym d) i.counted; bounded = bounded_stays (world_of old) (world_of w) e m i.bounded }
+moved_sound old w e m d i =
+    record {
+      reached = λ t. reached_step (world_of old) (world_of w) e
+          (i.reached (ap (λ x. is_some x.contents) (sym d) ∙ t)) m;
+      core = core_sound (world_of old) (world_of w) e m i.core;
+      orderly = orderly_stays (world_of old) (world_of w) e m i.core i.orderly;
+      counted =
+          subst (λ x. x.calls ≤ max_calls) (sym d) i.counted;
+      bounded =
+          bounded_stays (world_of old) (world_of w) e m i.bounded;
+    }
 
 pub made_keeps : (s : SoloSeen) (w : WorldSeen) (e : Event) (r : Reply) → Made s.world e r w → Sound s.world.core → keeps_handles (Act e r) ≡ true → Keeps s (record s { world = w })
 made_keeps s w e r m ok k = moved_keeps s w s.errors (Act e r) m.0 k m.1 (notes s.errors s.errors None r refl) (λ f. ap (λ n. count_in s.errors f + n) (sym (act_failures (world_of s.world) (world_of w) e r ok m.0 f))) (λ same f. same f ∙ sym (act_codes (world_of s.world) (world_of w) e r ok m.0 f))
@@ -225,6 +238,7 @@ goes_service name s t table i g rest n = record {
   reached = g.sound.reached;
   counted = g.sound.counted;
   sound = g.sound.core;
+  orderly = g.sound.orderly;
   bounded = g.sound.bounded;
   few = subst (λ k. k ≤ MAX_FILES) (sym g.serves.keeps.count) i.few;
   page = subst (λ (z : Sizes). MIN_PAGE_SIZE ≤ z.page) (sym g.serves.keeps.sizes) i.page;
@@ -255,6 +269,7 @@ module _ (s : SoloSeen) (w : WorldSeen) (t : ℕ) (c : IsCalled s.world t w) (i 
     sound = record {
       reached = λ told. let before = sym counts.tells ∙ told in let m = if_told s.world.device.contents h before in reached_step (world_of s.world) (world_of w) (Call t m.0 m.1) (i.reached before) m.2;
       core = subst Sound (sym same_core) i.core;
+      orderly = subst IsOrderly (sym same_core) i.orderly;
       counted = counts.calls i.counted;
       bounded = subst AreBounded (sym same_core) i.bounded;
     };

@@ -16,7 +16,7 @@ use Rattle.world.specs.declared.step.Step.TheVariants as step
 use Rattle.filesvc.specs.Made.{Moves, Try, is_help}
 use Rattle.filesvc.specs.Seen.{SoloSeen}
 use Rattle.filesvc.specs.Rooms.{IsFillRefusal, need}
-use Rattle.filesvc.specs.Service.{FilesAfter, IsRefusal, Keeps, Serves, Tells, is_settled}
+use Rattle.filesvc.specs.Service.{FilesAfter, IsRefusal, Keeps, LengthsAfter, Serves, is_settled}
 
 abbrev pub read_over : Result (Option ℕ) Refusal → List ℕ → Option Reply
 read_over (Ok (Some n)) out = Some (reply.Bytes (take n out))
@@ -77,12 +77,13 @@ pub record Attempt (old : SoloSeen) (e : Event) (over : Option Reply) (new : Sol
   pub counted : new.attempts ≡ old.attempts + 1
   pub again : over ≡ None → Serves old new
   pub files : (r : Reply) → over ≡ Some r → FilesAfter old e r new
+  pub lengths : (r : Reply) → over ≡ Some r → LengthsAfter old e r new
   -- the event was over at once
   pub settled : is_settled (tests old.world.core e) ≡ true → (r : Reply) × (over ≡ Some r) × machine.Step old.world.core e r new.world.core
   pub refused : (r : Refusal) → over ≡ Some (reply.Refused r) → IsRefusal old e r new
   pub tried : Try (step_of e) old.world over new.world
   -- one that is to be made again needs fewer attempts
-  pub less : Tells old → over ≡ None → need_of new.world.core e < need_of old.world.core e
+  pub less : over ≡ None → need_of new.world.core e < need_of old.world.core e
 
 -- an attempt from its event on, which had this reply
 pub record Follows (old : SoloSeen) (h : HandleId) (got : Reply) (over : Option Reply) (new : SoloSeen) : Type 0 where

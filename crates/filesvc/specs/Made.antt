@@ -1,11 +1,12 @@
 -- How a call is made of steps of the world: of attempts, each of which is a step of the call's own and then steps that
 -- help it.
-use Rattle.std.specs.Prelude.{◌≡◌, ℕ, zero, suc, ◌+◌, ◌⊎◌, Bool, true, false, List, [], ◌∷◌, All, Option, Some, None, if◌then◌else◌}
+use Rattle.std.specs.Prelude.{◌≡◌, ℕ, zero, suc, ◌+◌, Bool, true, false, List, [], ◌∷◌, All, Option, Some, None}
+use Rattle.std.specs.Prelude.{if◌then◌else◌}
 use Rattle.pc_types.specs.declared.ids.HandleId.{HandleId}
 use Rattle.pc_types.specs.declared.ids.PageIndex.{PageIndex}
 use Rattle.pc_types.specs.declared.ids.Serial.{Serial}
 use Rattle.pc_types.specs.declared.ids.SyncId.{SyncId}
-use Rattle.pc_types.specs.declared.refusal.Refusal.TheVariants.{Io, Turns}
+use Rattle.pc_types.specs.declared.refusal.Refusal.TheVariants.{Io}
 use Rattle.machine.specs.declared.event.Reply.{Reply}
 use Rattle.machine.specs.declared.event.Reply.TheVariants as reply
 use Rattle.world.specs.declared.step.Step.{Step}
@@ -82,11 +83,10 @@ abbrev pub Tries : Step → WorldSeen → ℕ → WorldSeen → Type 0
 Tries own old zero new = new ≡ old
 Tries own old (suc n) new = (mid : WorldSeen) × Tries own old n mid × Try own mid None new
 
--- a call is made of its attempts, the last of which is answered so; or of attempts alone where it ran out of them
+-- a call is made of its attempts, the last of which is answered so
 abbrev pub IsMadeOf : Step → SoloSeen → Reply → SoloSeen → Type 0
 IsMadeOf own old r new =
-    ((r ≡ reply.Refused Turns) × Tries own old.world new.attempts new.world)
-    ⊎ ((n : ℕ) × (mid : WorldSeen) × Tries own old.world n mid × Try own mid (Some r) new.world × (new.attempts ≡ n + 1))
+    (n : ℕ) × (mid : WorldSeen) × Tries own old.world n mid × Try own mid (Some r) new.world × (new.attempts ≡ n + 1)
 
 -- the step of a write at the cursor, or at the end of the file by an appending handle
 abbrev pub write_step : HandleSeen → List ℕ → Step

@@ -17,7 +17,7 @@ use Rattle.world.specs.declared.step.Step.TheVariants as step
 use Rattle.filesvc.specs.Made.{FailsFill}
 use Rattle.filesvc.specs.Rests.{AtOnce}
 use Rattle.filesvc.specs.Seen.{SoloSeen}
-use Rattle.filesvc.specs.Service.{Faulted, IsWithoutRoom, NothingToFlush, Tells}
+use Rattle.filesvc.specs.Service.{Faulted}
 
 -- how many pages are cached, and how many DIRTY: what making room takes away
 abbrev pub load : State → ℕ
@@ -26,6 +26,11 @@ load s = cached_total s + dirty_total s
 -- a page of the file was written back
 abbrev pub WritesBack : SoloSeen → FileId → SoloSeen → Type 0
 WritesBack old f new = AtOnce old.world old.errors (step.FlushBegin f) reply.Written new.world new.errors
+
+-- no file has a page that a flush could begin with
+abbrev pub NothingToFlush : SoloSeen → Type 0
+NothingToFlush s = (f : ℕ) → f < length s.world.core.files
+    → tests s.world.core (event.FlushBegin (record { 0 = f })) ≡ Some reply.Nothing
 
 -- how a flush of a file ended: a page was written; or there was none to write, or no such file, and nothing changed; or memory was
 -- refused; and else a device call failed, or no more of them can be counted
@@ -50,18 +55,11 @@ FlushesOne old false new = ((new ≡ old) × NothingToFlush old) ⊎ Faulted old
 abbrev pub Evicts : SoloSeen → SoloSeen → Type 0
 Evicts old new = (f : FileId) × (p : PageIndex) × Step old.world.core event.Evict (reply.Evicted f p) new.world.core
 
--- no more room can be made for what was refused so: there is no idle page to evict and no page to write back; or a device call failed,
--- or no more of them can be counted
-abbrev pub IsFull : SoloSeen → Refusal → SoloSeen → Type 0
-IsFull old NoFrame new = ((tests new.world.core event.Evict ≡ Some reply.NoneIdle) × NothingToFlush new) ⊎ Faulted old new
-IsFull old DirtyLimit new = NothingToFlush new ⊎ Faulted old new
-IsFull old r new = Unit {0}
-
 -- why the fill of a page is refused, or the room for a call
 abbrev pub IsFillRefusal : SoloSeen → HandleId → Refusal → SoloSeen → Type 0
 IsFillRefusal old h BadHandle new = is_open old.world.core h.0 ≡ false
-IsFillRefusal old h NoFrame new = IsWithoutRoom old NoFrame new
-IsFillRefusal old h DirtyLimit new = IsWithoutRoom old DirtyLimit new
+IsFillRefusal old h NoFrame new = Faulted old new
+IsFillRefusal old h DirtyLimit new = Faulted old new
 IsFillRefusal old h (Io code) new = Faulted old new × FailsFill old.world code new.world
 IsFillRefusal old h TooManyInFlight new = SERIAL_END ≤ new.world.core.next
 IsFillRefusal old h Memory new = Unit {0}
@@ -98,7 +96,7 @@ pub record IsMissed (s : SoloSeen) (h o n p : ℕ) : Type 0 where
   pub first : first_page s.world.core.sizes.page o ≤ p
   pub last : p ≤ last_page s.world.core.sizes.page o n
   pub absent : is_cached s.world.core (handle_file s.world.core h) p ≡ false
-  pub within : Tells s → p < page_count s.world.core.sizes.page (file_at s.world.core (handle_file s.world.core h)).size
+  pub within : p < page_count s.world.core.sizes.page (file_at s.world.core (handle_file s.world.core h)).size
 
 -- what stands in its way by this reply
 abbrev pub Stops : SoloSeen → ℕ → ℕ → ℕ → Reply → Type 0

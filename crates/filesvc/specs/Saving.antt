@@ -61,6 +61,6 @@ SaveEnds h first last old (Err (Io code)) new = Saves h first last old (Err code
 SaveEnds h first last old (Err why) new = Moves is_for_sync old new
 
 -- why that is refused: the flush failed, or as a sync is refused
-abbrev pub IsSaveRefusal : SoloSeen → Refusal → SoloSeen → Type 0
-IsSaveRefusal old (Io code) new = Unit {0}
-IsSaveRefusal old why new = IsSyncRefusal old why new
+abbrev pub IsSaveRefusal : Refusal → SoloSeen → Type 0
+IsSaveRefusal (Io code) new = Unit {0}
+IsSaveRefusal why new = IsSyncRefusal why new

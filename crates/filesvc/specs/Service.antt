@@ -1,5 +1,7 @@
 -- What holds of a service for one thread, in the terms of its callers: plain files, failed writes, and the answers of the cache.
-use Rattle.std.specs.Prelude.{◌≡◌, ◌≢◌, ℕ, ℤ, pos, negsuc, ◌+ℤ◌, ◌+◌, ◌<◌, ◌≤◌, nat_le, ◌⊎◌, Bool, true, false, if◌then◌else◌, List, length, take, drop, Option, Some, None, is_some, Result, Ok, Err}
+use Rattle.std.specs.Prelude.{◌≡◌, ◌≢◌, ℕ, ℤ, pos, negsuc, ◌+ℤ◌, ◌+◌, ◌<◌, ◌≤◌, nat_le, max, not, ◌==◌, ◌&&◌, ◌⊎◌, Bool}
+use Rattle.std.specs.Prelude.{true, false, if◌then◌else◌, List, length, take, drop, Option, Some, None, is_some, Result}
+use Rattle.std.specs.Prelude.{Ok, Err}
 use Rattle.std.specs.FinMap as finmap
 use mathlib.Core.List.{IsPrefix}
 use Rattle.blockdev.specs.Device.{max_calls}
@@ -7,7 +9,8 @@ use Rattle.pc_types.specs.Files.{page_of}
 use Rattle.pc_types.specs.declared.ids.PageIndex.{PageIndex}
 use Rattle.pc_types.specs.declared.limits.TheConstants.{MAX_FILE_SIZE, SERIAL_END}
 use Rattle.pc_types.specs.declared.refusal.Refusal.{Refusal}
-use Rattle.pc_types.specs.declared.refusal.Refusal.TheVariants.{BadHandle, Busy, DirtyLimit, Io, Memory, NoFrame, NoSpace, TooLarge, TooLong, TooManyInFlight, Turns}
+use Rattle.pc_types.specs.declared.refusal.Refusal.TheVariants.{BadHandle, DirtyLimit, Io, Memory, NoFrame, NoSpace}
+use Rattle.pc_types.specs.declared.refusal.Refusal.TheVariants.{TooLarge, TooLong, TooManyInFlight}
 use Rattle.errboard.specs.Views.{recorded_of}
 use Rattle.errseq.specs.declared.recording.Recording.{Recording}
 use Rattle.errseq.specs.Recorded.{last_code, raised}
@@ -98,35 +101,24 @@ pub record Serves (old new : SoloSeen) : Type 0 where
 abbrev pub Faulted : SoloSeen → SoloSeen → Type 0
 Faulted old new = (old.world.device.faults < new.world.device.faults) ⊎ (new.world.device.calls ≡ max_calls)
 
--- no file has a page that a flush could begin with
-abbrev pub NothingToFlush : SoloSeen → Type 0
-NothingToFlush s = (f : ℕ) → f < length s.world.core.files → tests s.world.core (event.FlushBegin (record { 0 = f })) ≡ Some reply.Nothing
-
--- why a call is refused a frame, or one more dirty page: a device call failed, or no more of them can be counted. Of a device that tells
--- no contents it is claimed that no more room can be made: no idle page is left to evict, and no page to write back
-abbrev pub IsWithoutRoom : SoloSeen → Refusal → SoloSeen → Type 0
-IsWithoutRoom old NoFrame new = Faulted old new ⊎ ((Tells old → ⊥) × ((tests new.world.core event.Evict ≡ Some reply.NoneIdle) × NothingToFlush new))
-IsWithoutRoom old DirtyLimit new = Faulted old new ⊎ ((Tells old → ⊥) × NothingToFlush new)
-IsWithoutRoom old r new = Unit {0}
-
 -- the cache's own tests refuse the event so
 abbrev pub Refuses : SoloSeen → Event → Refusal → Type 0
 Refuses s e r = tests s.world.core e ≡ Some (reply.Refused r)
 
 -- why a call is refused that makes the event e, for each refusal that it may have: its tests on the state before; that no block is free,
--- by the tests on the state after, which has the same blocks; want of room; a failed device call; that no serial is left for a fill; a
--- growth that was refused; or, of a device that tells no contents, that this was its last attempt
+-- by the tests on the state after, which has the same blocks; a failed device call, without which there is always room
+-- for a frame and for
+-- dirty pages; that no serial is left for a fill; or a growth that was refused
 abbrev pub IsRefusal : SoloSeen → Event → Refusal → SoloSeen → Type 0
 IsRefusal old e BadHandle new = Refuses old e BadHandle
 IsRefusal old e TooLong new = Refuses old e TooLong
 IsRefusal old e TooLarge new = Refuses old e TooLarge
 IsRefusal old e NoSpace new = Refuses new e NoSpace
-IsRefusal old e NoFrame new = IsWithoutRoom old NoFrame new
-IsRefusal old e DirtyLimit new = IsWithoutRoom old DirtyLimit new
+IsRefusal old e NoFrame new = Faulted old new
+IsRefusal old e DirtyLimit new = Faulted old new
 IsRefusal old e (Io code) new = Faulted old new
 IsRefusal old e TooManyInFlight new = SERIAL_END ≤ new.world.core.next
 IsRefusal old e Memory new = Unit {0}
-IsRefusal old e Turns new = (Tells old → ⊥) × (new.attempts ≡ 256)
 IsRefusal old e r new = ⊥
 
 -- ---- attempts
@@ -141,7 +133,7 @@ touched_by s e = 0
 
 -- a call makes no more attempts than it touches pages, and two: one is for room that it wants, and the last is over
 abbrev pub IsSoonOver : SoloSeen → Event → SoloSeen → Type 0
-IsSoonOver old e new = Tells old → new.attempts ≤ touched_by old.world.core e + 2
+IsSoonOver old e new = new.attempts ≤ touched_by old.world.core e + 2
 
 -- whether an event is over with its tests' answer: there is no page to fill, and no room to make
 abbrev pub is_settled : Option Reply → Bool
@@ -176,6 +168,19 @@ write_reply (Err r) end = reply.Refused r
 abbrev pub truncate_reply : Result Unit Refusal → Reply
 truncate_reply (Ok _) = reply.Done
 truncate_reply (Err r) = reply.Refused r
+
+-- how long a file is after an event with this reply: a write that ends past its end makes it longer
+abbrev pub length_after : State → Event → Reply → ℕ → ℕ
+length_after s (event.Write h o b) (reply.Wrote n end) f =
+    let size = (file_at s f).size in if handle_file s h.0 == f && not (n == 0) then max size end else size
+length_after s (event.Append h b) (reply.Wrote n end) f =
+    let size = (file_at s f).size in if handle_file s h.0 == f && not (n == 0) then max size end else size
+length_after s (event.Truncate h z) reply.Done f = if handle_file s h.0 == f then z else (file_at s f).size
+length_after s e r f = (file_at s f).size
+
+-- how long the files are after a call that makes this event and is answered so, of every device
+abbrev pub LengthsAfter : SoloSeen → Event → Reply → SoloSeen → Type 0
+LengthsAfter old e r new = (f : ℕ) → (file_at new.world.core f).size ≡ length_after old.world.core e r f
 
 -- the plain files after a call that makes this event and is answered so
 abbrev pub FilesAfter : SoloSeen → Event → Reply → SoloSeen → Type 0
@@ -267,13 +272,12 @@ abbrev pub open_reply : Result HandleSeen Refusal → Reply
 open_reply (Ok h) = reply.Handle (record { 0 = h.number })
 open_reply (Err r) = reply.Refused r
 
--- why an fsync is refused that ends by no success and no error of a write: a growth was refused, or no serial is left for a write. It
--- waits for nothing, which takes a device that tells its contents
-abbrev pub IsSyncRefusal : SoloSeen → Refusal → SoloSeen → Type 0
-IsSyncRefusal old Memory new = Unit {0}
-IsSyncRefusal old TooManyInFlight new = SERIAL_END ≤ new.world.core.next
-IsSyncRefusal old Busy new = Tells old → ⊥
-IsSyncRefusal old r new = ⊥
+-- why an fsync is refused that ends by no success and no error of a write: a growth was refused, or no serial is left
+-- for a write
+abbrev pub IsSyncRefusal : Refusal → SoloSeen → Type 0
+IsSyncRefusal Memory new = Unit {0}
+IsSyncRefusal TooManyInFlight new = SERIAL_END ≤ new.world.core.next
+IsSyncRefusal r new = ⊥
 
 -- where an fsync ends by a success or an error: with an error exactly where a write of the file failed during the call, or the handle is
 -- owed one, with the code of the last
@@ -306,10 +310,11 @@ abbrev pub cursor_after : SoloSeen → HandleSeen → Result ℕ Refusal → ℕ
 cursor_after s h (Ok n) = write_place s h + n
 cursor_after s h (Err r) = h.cursor
 
--- a sync of these pages of the file is over: clean, with the pages on the device, or with the code of the last of the file's writes that failed
-abbrev pub IsSynced : SoloSeen → ℕ → PageIndex → PageIndex → SoloSeen → Option ℕ → Type 0
-IsSynced old f first last new None = AreOnDevice new f first last × (failures_of new f ≡ failures_of old f)
-IsSynced old f first last new (Some code) = HasFailed old new f × (code ≡ (file_at new.world.core f).last_code)
+-- a sync of the file is over: clean, where no write of the file failed since it began, or with the code of the last
+-- that did
+abbrev pub IsTallied : SoloSeen → ℕ → SoloSeen → Option ℕ → Type 0
+IsTallied old f new None = failures_of new f ≡ failures_of old f
+IsTallied old f new (Some code) = HasFailed old new f × (code ≡ (file_at new.world.core f).last_code)
 
 -- what a close answers
 abbrev pub close_reply : Result Unit (Refusal × HandleSeen) → Reply

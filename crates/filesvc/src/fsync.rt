@@ -9,7 +9,7 @@ ghost use Rattle.runs.specs.Syncing.{dirty_between};
 ghost use Rattle.filesvc.specs.Made.{Moves, Syncs, is_for_sync};
 ghost use Rattle.filesvc.specs.Rests.{IsService, IsServing};
 ghost use Rattle.filesvc.specs.Saving.{Ends, IsSaveRefusal, IsUnflushed, SaveEnds, Saves};
-ghost use Rattle.filesvc.specs.Service.{AreOnDevice, CameFrom, IsAsBefore, IsOnDevice, IsSyncRefusal, IsSynced, IsTold, IsUntried, Names, Reports, Serves, Tells, is_reported};
+ghost use Rattle.filesvc.specs.Service.{AreOnDevice, CameFrom, IsAsBefore, IsOnDevice, IsSyncRefusal, IsTallied, IsTold, IsUntried, Names, Reports, Serves, Tells, is_reported};
 ghost use Rattle.filesvc.specs.Syncs.{Drops, SyncTurn, clean_or, service_of, sync_end_of};
 
 use crate::handle::Handle;
@@ -38,10 +38,10 @@ impl<D: BlockDevice> Solo<D> {
         ensures no_sync { self.new.world.core.syncs ≡ map.empty }
         ensures synced { Tells self.old → OnOk result (IsOnDevice self.new handle.old.file) }
         ensures durable { OnOk result (self.new.world.device.durable ≡ self.new.world.device.contents) }
-        ensures reports { Tells self.old → Reports self.old handle.old result self.new ⊎ IsUnflushed (record { 0 = 0 }) (record { 0 = LAST_PAGE }) self.old handle.old result self.new handle.new }
+        ensures reports { Reports self.old handle.old result self.new ⊎ IsUnflushed (record { 0 = 0 }) (record { 0 = LAST_PAGE }) self.old handle.old result self.new handle.new }
         ensures told { IsTold self.new handle.old handle.new ⊎ (handle.new ≡ handle.old) }
         ensures kept { is_reported result ≡ false → handle.new ≡ handle.old }
-        ensures refused { Names self.old handle.old → is_reported result ≡ false → IfErr result (λ r. IsSyncRefusal self.old r self.new) }
+        ensures refused { Names self.old handle.old → is_reported result ≡ false → IfErr result (λ r. IsSyncRefusal r self.new) }
     {
         // Opens `self`: its invariant says how small a page is, and so that no file has a page past `LAST_PAGE`.
         let _ = &self.world;
@@ -68,10 +68,10 @@ impl<D: BlockDevice> Solo<D> {
         ensures no_sync { self.new.world.core.syncs ≡ map.empty }
         ensures synced { Tells self.old → OnOk result (AreOnDevice self.new handle.old.file first last) }
         ensures durable { OnOk result (self.new.world.device.durable ≡ self.new.world.device.contents) }
-        ensures reports { Tells self.old → Reports self.old handle.old result self.new ⊎ IsUnflushed first last self.old handle.old result self.new handle.new }
+        ensures reports { Reports self.old handle.old result self.new ⊎ IsUnflushed first last self.old handle.old result self.new handle.new }
         ensures told { IsTold self.new handle.old handle.new ⊎ (handle.new ≡ handle.old) }
         ensures kept { is_reported result ≡ false → handle.new ≡ handle.old }
-        ensures refused { Names self.old handle.old → first.0 ≤ last.0 → is_reported result ≡ false → IfErr result (λ r. IsSyncRefusal self.old r self.new) }
+        ensures refused { Names self.old handle.old → first.0 ≤ last.0 → is_reported result ≡ false → IfErr result (λ r. IsSyncRefusal r self.new) }
     {
         self.attempts = 0;
         if handle.cache != self.name {
@@ -110,8 +110,9 @@ fn save<D: BlockDevice>(
     ensures ends { SaveEnds handle first last world.old result world.new }
     ensures cost { (f : ℕ) → map.get world.old.core.handles handle.0 ≡ Some f → world.new.device.calls ≤ world.old.device.calls + dirty_between (file_at world.old.core f) first.0 last.0 }
     ensures durable { result ≡ Ok None → world.new.device.durable ≡ world.new.device.contents }
-    ensures synced { is_some world.old.device.contents ≡ true → (f : ℕ) → map.get world.old.core.handles handle.0 ≡ Some f → IfOk result (IsSynced (service_of world.old recorder.old) f first last (service_of world.new recorder.new)) }
-    ensures refused { first.0 ≤ last.0 → IfErr result (λ r. IsSaveRefusal (service_of world.old recorder.old) r (service_of world.new recorder.new)) }
+    ensures tallied { (f : ℕ) → map.get world.old.core.handles handle.0 ≡ Some f → IfOk result (IsTallied (service_of world.old recorder.old) f (service_of world.new recorder.new)) }
+    ensures synced { is_some world.old.device.contents ≡ true → (f : ℕ) → map.get world.old.core.handles handle.0 ≡ Some f → result ≡ Ok None → AreOnDevice (service_of world.new recorder.new) f first last }
+    ensures refused { first.0 ≤ last.0 → IfErr result (λ r. IsSaveRefusal r (service_of world.new recorder.new)) }
 {
     let failed = sync_file(world, recorder, handle, first, last)?;
     if failed.is_some() {
@@ -140,8 +141,9 @@ fn sync_file<D: BlockDevice>(
     ensures made { Moves is_for_sync world.old world.new }
     ensures ends { IfOk result (λ failed. Syncs handle first last world.old (clean_or failed) world.new) }
     ensures cost { (f : ℕ) → map.get world.old.core.handles handle.0 ≡ Some f → world.new.device.calls ≤ world.old.device.calls + dirty_between (file_at world.old.core f) first.0 last.0 }
-    ensures synced { is_some world.old.device.contents ≡ true → (f : ℕ) → map.get world.old.core.handles handle.0 ≡ Some f → IfOk result (IsSynced (service_of world.old recorder.old) f first last (service_of world.new recorder.new)) }
-    ensures refused { first.0 ≤ last.0 → IfErr result (λ r. IsSyncRefusal (service_of world.old recorder.old) r (service_of world.new recorder.new)) }
+    ensures tallied { (f : ℕ) → map.get world.old.core.handles handle.0 ≡ Some f → IfOk result (IsTallied (service_of world.old recorder.old) f (service_of world.new recorder.new)) }
+    ensures synced { is_some world.old.device.contents ≡ true → (f : ℕ) → map.get world.old.core.handles handle.0 ≡ Some f → result ≡ Ok None → AreOnDevice (service_of world.new recorder.new) f first last }
+    ensures refused { first.0 ≤ last.0 → IfErr result (λ r. IsSyncRefusal r (service_of world.new recorder.new)) }
 {
     let sync = world.sync_begin_range(handle, first, last)?;
     'steps: loop {

@@ -7,6 +7,8 @@ ghost use Rattle.machine.specs.declared.event.Event.TheVariants as event;
 ghost use Rattle.cachecore.specs.Replies.{created};
 ghost use Rattle.machine.specs.State.{file_at};
 ghost use Rattle.machine.specs.Step.{Step};
+ghost use Rattle.world.specs.Stepping.{Steps};
+ghost use Rattle.world.specs.declared.step.Step.TheVariants as step;
 ghost use Rattle.errseq.specs.Recorded.{last_code, raised};
 ghost use Rattle.errseq.specs.Word.{IsWithinTurn};
 ghost use Rattle.filesvc.specs.Service.{CameFrom, FilesAfter, IsAsBefore, close_reply, IsCounted, IsTold, IsUntried, Names, Opened, Owes, errors_of, looks_of, open_reply, placed, target};
@@ -23,6 +25,7 @@ impl<D: BlockDevice> Solo<D> {
     /// A new file, without bytes. It stays as long as the service.
     pub fn create(&mut self) -> Result<FileId, Refusal>
         ensures step { Step self.old.world.core event.Create (created result) self.new.world.core }
+        ensures made { Steps self.old.world step.Create (created result) self.new.world }
         ensures files { FilesAfter self.old event.Create (created result) self.new }
         ensures device { self.new.world.device ≡ self.old.world.device }
         ensures errors { self.new.errors ≡ self.old.errors }
@@ -37,6 +40,7 @@ impl<D: BlockDevice> Solo<D> {
     pub fn open(&mut self, file: FileId, append: bool) -> Result<Handle, Refusal>
         ensures none { MAX_FILES ≤ file.0 → (result ≡ Err NoSuchFile) × IsAsBefore self.old self.new }
         ensures opened { file.0 < MAX_FILES → Opened self.old file.0 append result self.new }
+        ensures made { file.0 < MAX_FILES → Steps self.old.world (step.Open file) (open_reply result) self.new.world }
         ensures files { FilesAfter self.old (event.Open file) (open_reply result) self.new }
         ensures device { self.new.world.device ≡ self.old.world.device }
         ensures errors { self.new.errors ≡ self.old.errors }
@@ -65,6 +69,7 @@ impl<D: BlockDevice> Solo<D> {
         requires came { CameFrom self.old handle }
         ensures foreign { handle.cache ≢ self.old.world.core.name → IfErr result (λ e. e.0 ≡ BadHandle) × IsErr result × IsUntried self.old self.new }
         ensures closed { Names self.old handle → Step self.old.world.core (event.Close (record { 0 = handle.number })) (close_reply result) self.new.world.core }
+        ensures made { Names self.old handle → Steps self.old.world (step.Close (record { 0 = handle.number })) (close_reply result) self.new.world }
         ensures files { Names self.old handle → FilesAfter self.old (event.Close (record { 0 = handle.number })) (close_reply result) self.new }
         ensures answers { Names self.old handle → IfErr result (λ _. ⊥) }
         ensures attempts { Names self.old handle → self.new.attempts ≡ 1 }

@@ -1,11 +1,11 @@
 //! Reads.
 
-ghost use Rattle.std.specs.Prelude.{◌≡◌, ◌≢◌, ◌+◌, ◌<◌, ◌≤◌, true, length, take, drop, IfErr, IfOk, IfSome, Err};
+ghost use Rattle.std.specs.Prelude.{◌≡◌, ◌≢◌, ◌+◌, ◌-◌, ◌<◌, ◌≤◌, true, length, min, take, drop, IfErr, IfOk, IfSome, Err};
 ghost use Rattle.pc_types.specs.Files as plain;
 ghost use Rattle.pc_types.specs.declared.limits.TheConstants.{MAX_FILE_SIZE};
 ghost use Rattle.pc_types.specs.declared.refusal.Refusal.TheVariants.{BadHandle};
 ghost use Rattle.machine.specs.declared.event.Event.TheVariants as event;
-ghost use Rattle.machine.specs.State.{handle_file, is_open};
+ghost use Rattle.machine.specs.State.{file_at, handle_file, is_open};
 ghost use Rattle.machine.specs.Tests.{read_count};
 ghost use Rattle.runs.specs.Plain.{named, plain_file};
 ghost use Rattle.world.specs.declared.step.Step.TheVariants as step;
@@ -29,6 +29,7 @@ impl<D: BlockDevice> Solo<D> {
         ensures serves { Serves self.old self.new }
         ensures bytes { Tells self.old → IfOk result (λ n. take n out.new ≡ plain.pread (plain_file (files self.old) handle.now.file) offset (length out.old)) }
         ensures count { count_of result ≤ length out.old }
+        ensures all { IfOk result (λ n. n ≡ min (length out.old) ((file_at self.old.world.core handle.now.file).size - offset)) }
         ensures rest { drop (count_of result) out.new ≡ drop (count_of result) out.old }
         ensures within { offset ≤ MAX_FILE_SIZE → offset + count_of result ≤ MAX_FILE_SIZE }
         ensures first { IsSettledAtOnce self.old handle.now (event.Read (record { 0 = handle.now.number }) offset (length out.old)) (read_reply result out.new) self.new }
@@ -60,6 +61,7 @@ impl<D: BlockDevice> Solo<D> {
         ensures attempt { Attempt self.old (event.Read handle offset (length out.old)) (read_over result out.new) self.new }
         ensures bytes { Tells self.old → IfOk result (λ n. IfSome n (λ k. take k out.new ≡ plain.pread (plain_file (files self.old) (named (files self.old) handle.0)) offset (length out.old))) }
         ensures count { read_so_far result ≤ length out.old }
+        ensures all { IfOk result (λ n. IfSome n (λ k. k ≡ read_count self.old.world.core (handle_file self.old.world.core handle.0) offset (length out.old))) }
         ensures rest { drop (read_so_far result) out.new ≡ drop (read_so_far result) out.old }
         ensures within { offset ≤ MAX_FILE_SIZE → offset + read_so_far result ≤ MAX_FILE_SIZE }
     {
@@ -96,6 +98,7 @@ impl<D: BlockDevice> Solo<D> {
         ensures serves { Serves self.old self.new }
         ensures bytes { Tells self.old → IfOk result (λ n. take n out.new ≡ plain.pread (plain_file (files self.old) handle.old.file) handle.old.cursor (length out.old)) }
         ensures count { count_of result ≤ length out.old }
+        ensures all { IfOk result (λ n. n ≡ min (length out.old) ((file_at self.old.world.core handle.old.file).size - handle.old.cursor)) }
         ensures rest { drop (count_of result) out.new ≡ drop (count_of result) out.old }
         ensures cursor { handle.new ≡ record handle.old { cursor = handle.old.cursor + count_of result } }
         ensures first { IsSettledAtOnce self.old handle.old (event.Read (record { 0 = handle.old.number }) handle.old.cursor (length out.old)) (read_reply result out.new) self.new }

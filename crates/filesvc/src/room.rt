@@ -3,8 +3,8 @@
 ghost use Rattle.std.specs.Prelude.{◌≡◌, ◌⊎◌, ◌<◌, None, IfErr, IfOk, IsOkUnless, OnOk};
 ghost use Rattle.pc_types.specs.declared.refusal.Refusal.TheVariants.{DirtyLimit, Memory, NoFrame};
 ghost use Rattle.filesvc.specs.Attempts.{Helps};
-ghost use Rattle.filesvc.specs.Rooms.{FlushesOne, IsClean, IsFillRefusal, IsFlush, IsFull, IsMissed, MakesRoom, StaysAbsent, Suffices, need, wants};
-ghost use Rattle.filesvc.specs.Service.{Faulted, Tells};
+ghost use Rattle.filesvc.specs.Rooms.{FlushesOne, IsClean, IsFillRefusal, IsFlush, IsMissed, MakesRoom, StaysAbsent, Suffices, need, wants};
+ghost use Rattle.filesvc.specs.Service.{Faulted};
 
 use crate::requests::{fill_page, flush_page};
 use crate::solo::Solo;
@@ -31,7 +31,7 @@ impl<D: BlockDevice> Solo<D> {
         ensures helps { Helps self.old self.new }
         ensures attempts { self.new.attempts ≡ self.old.attempts }
         ensures refused { IfErr result (λ r. IsFillRefusal self.old span.handle r self.new) }
-        ensures gains { Tells self.old → OnOk result (need span.dirties self.new.world.core span.handle.0 span.offset span.count < need span.dirties self.old.world.core span.handle.0 span.offset span.count) }
+        ensures gains { OnOk result (need span.dirties self.new.world.core span.handle.0 span.offset span.count < need span.dirties self.old.world.core span.handle.0 span.offset span.count) }
     {
         self.make_way(span)?;
         self.fill_once(span, page)
@@ -44,7 +44,7 @@ impl<D: BlockDevice> Solo<D> {
         ensures helps { Helps self.old self.new }
         ensures attempts { self.new.attempts ≡ self.old.attempts }
         ensures refused { IfErr result (λ r. IsFillRefusal self.old span.handle r self.new) }
-        ensures gains { Tells self.old → OnOk result (need span.dirties self.new.world.core span.handle.0 span.offset span.count < need span.dirties self.old.world.core span.handle.0 span.offset span.count) }
+        ensures gains { OnOk result (need span.dirties self.new.world.core span.handle.0 span.offset span.count < need span.dirties self.old.world.core span.handle.0 span.offset span.count) }
     {
         let why = match fill_page(&mut self.world, &mut self.recorder, span.handle, page) {
             Reply::Failed(code) => Refusal::Io(code),
@@ -96,9 +96,8 @@ impl<D: BlockDevice> Solo<D> {
         ensures attempts { self.new.attempts ≡ self.old.attempts }
         ensures made { OnOk result (MakesRoom self.old refusal self.new) }
         ensures refused { IfErr result (λ r. (r ≡ refusal) ⊎ (r ≡ Memory)) }
-        ensures full { IfErr result (λ r. IsFull self.old r self.new) }
-        ensures frames { Tells self.old → refusal ≡ NoFrame → IfErr result (λ r. r ≡ NoFrame → Faulted self.old self.new ⊎ Suffices self.old) }
-        ensures clean { Tells self.old → refusal ≡ DirtyLimit → IfErr result (λ r. r ≡ DirtyLimit → Faulted self.old self.new ⊎ IsClean self.old) }
+        ensures frames { refusal ≡ NoFrame → IfErr result (λ r. r ≡ NoFrame → Faulted self.old self.new ⊎ Suffices self.old) }
+        ensures clean { refusal ≡ DirtyLimit → IfErr result (λ r. r ≡ DirtyLimit → Faulted self.old self.new ⊎ IsClean self.old) }
     {
         match refusal {
             Refusal::NoFrame => {

@@ -12,7 +12,7 @@ use std::alloc::Global;
 use std::marker::Model;
 use world::World;
 
-/// How many attempts a call makes at most.
+/// After so many attempts a call gives up, by `Turns`. None needs so many (`IsSoonOver` in specs/Service.antt), so none does.
 pub(crate) const MAX_ATTEMPTS: u64 = 256;
 
 /// A cache over a device, for one thread.

@@ -10,7 +10,7 @@ ghost use Rattle.world.specs.declared.step.Step.TheVariants as step;
 ghost use Rattle.filesvc.specs.Made.{IsMadeOf, write_step};
 ghost use Rattle.filesvc.specs.Attempts.{Attempt, Follows, WroteAll, append_reply, truncate_over, write_over};
 ghost use Rattle.filesvc.specs.Rooms.{Stops, need};
-ghost use Rattle.filesvc.specs.Service.{CameFrom, FilesAfter, IsRefusal, IsSettledAtOnce, IsUntried, IsSoonOver, Keeps, Names, Tells, count_of, cursor_after, truncate_reply, write_event, write_reply, wrote_reply};
+ghost use Rattle.filesvc.specs.Service.{CameFrom, FilesAfter, IsRefusal, IsSettledAtOnce, IsUntried, IsSoonOver, Keeps, LengthsAfter, Names, count_of, cursor_after, truncate_reply, write_event, write_reply, wrote_reply};
 
 use crate::handle::Handle;
 use crate::room::Span;
@@ -36,6 +36,7 @@ impl<D: BlockDevice> Solo<D> {
         ensures count { IfOk result (λ n. n ≡ length bytes.now) }
         ensures within { offset ≤ MAX_FILE_SIZE → offset + count_of result ≤ MAX_FILE_SIZE }
         ensures files { FilesAfter self.old (event.Write (record { 0 = handle.now.number }) offset bytes.now) (write_reply result (offset + length bytes.now)) self.new }
+        ensures lengths { LengthsAfter self.old (event.Write (record { 0 = handle.now.number }) offset bytes.now) (write_reply result (offset + length bytes.now)) self.new }
         ensures first { IsSettledAtOnce self.old handle.now (event.Write (record { 0 = handle.now.number }) offset bytes.now) (write_reply result (offset + length bytes.now)) self.new }
         ensures refused { Names self.old handle.now → IfErr result (λ r. IsRefusal self.old (event.Write (record { 0 = handle.now.number }) offset bytes.now) r self.new) }
         ensures attempts { IsSoonOver self.old (event.Write (record { 0 = handle.now.number }) offset bytes.now) self.new }
@@ -61,6 +62,7 @@ impl<D: BlockDevice> Solo<D> {
         ensures keeps { Keeps self.old self.new }
         ensures count { IfOk result (λ n. n ≡ length bytes.now) }
         ensures files { FilesAfter self.old (write_event handle.old bytes.now) (wrote_reply self.old handle.old result) self.new }
+        ensures lengths { LengthsAfter self.old (write_event handle.old bytes.now) (wrote_reply self.old handle.old result) self.new }
         ensures cursor { handle.new ≡ record handle.old { cursor = cursor_after self.old handle.old result } }
         ensures first { IsSettledAtOnce self.old handle.old (write_event handle.old bytes.now) (wrote_reply self.old handle.old result) self.new }
         ensures refused { Names self.old handle.old → IfErr result (λ r. IsRefusal self.old (write_event handle.old bytes.now) r self.new) }
@@ -85,6 +87,7 @@ impl<D: BlockDevice> Solo<D> {
         ensures wrote { IfOk result (WroteAll (file_at self.old.world.core handle.now.file).size bytes.now) }
         ensures within { IfOk result (λ w. w.end ≤ MAX_FILE_SIZE) }
         ensures files { FilesAfter self.old (event.Append (record { 0 = handle.now.number }) bytes.now) (append_reply result) self.new }
+        ensures lengths { LengthsAfter self.old (event.Append (record { 0 = handle.now.number }) bytes.now) (append_reply result) self.new }
         ensures first { IsSettledAtOnce self.old handle.now (event.Append (record { 0 = handle.now.number }) bytes.now) (append_reply result) self.new }
         ensures refused { Names self.old handle.now → IfErr result (λ r. IsRefusal self.old (event.Append (record { 0 = handle.now.number }) bytes.now) r self.new) }
         ensures attempts { IsSoonOver self.old (event.Append (record { 0 = handle.now.number }) bytes.now) self.new }
@@ -157,7 +160,7 @@ impl<D: BlockDevice> Solo<D> {
         requires dirties { span.dirties ≡ true }
         requires stops { Stops self.old span.handle.0 span.offset span.count (wrote answer) }
         ensures follows { Follows self.old span.handle (wrote answer) (write_over result) self.new }
-        ensures gains { Tells self.old → write_over result ≡ None → need true self.new.world.core span.handle.0 span.offset span.count < need true self.old.world.core span.handle.0 span.offset span.count }
+        ensures gains { write_over result ≡ None → need true self.new.world.core span.handle.0 span.offset span.count < need true self.old.world.core span.handle.0 span.offset span.count }
     {
         match answer {
             Ok(WriteAnswer::Wrote { count, end }) => return Ok(Some(Wrote { count, end })),
@@ -175,6 +178,7 @@ impl<D: BlockDevice> Solo<D> {
         ensures foreign { handle.now.cache ≢ self.old.world.core.name → (result ≡ Err BadHandle) × IsUntried self.old self.new }
         ensures keeps { Keeps self.old self.new }
         ensures files { FilesAfter self.old (event.Truncate (record { 0 = handle.now.number }) size) (truncate_reply result) self.new }
+        ensures lengths { LengthsAfter self.old (event.Truncate (record { 0 = handle.now.number }) size) (truncate_reply result) self.new }
         ensures first { IsSettledAtOnce self.old handle.now (event.Truncate (record { 0 = handle.now.number }) size) (truncate_reply result) self.new }
         ensures refused { Names self.old handle.now → IfErr result (λ r. IsRefusal self.old (event.Truncate (record { 0 = handle.now.number }) size) r self.new) }
         ensures attempts { IsSoonOver self.old (event.Truncate (record { 0 = handle.now.number }) size) self.new }

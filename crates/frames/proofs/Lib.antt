@@ -6,3 +6,4 @@ pub mod ListedLemmas
 pub mod RowLemmas
 pub mod ScanLemmas
 pub mod TiedLemmas
+pub mod PassedLemmas

@@ -40,10 +40,10 @@ module _ (links : List Link) (places : List Place) (al il : ℕ) (A I : List ℕ
       ∙ ap (λ (xs : List ℕ). let v : Lists = record { count = length places; active = A; inactive = xs } in v) walks_inactive
 
   -- nothing stands in a list past the last frame
-  out_active : (x : ℕ) → length places ≤ x → has x A ≡ false
+  pub out_active : (x : ℕ) → length places ≤ x → has x A ≡ false
   out_active x h = l.in_active x ∙ ap is_active (get_or_past places x Free h)
 
-  out_inactive : (x : ℕ) → length places ≤ x → has x I ≡ false
+  pub out_inactive : (x : ℕ) → length places ≤ x → has x I ≡ false
   out_inactive x h = l.in_inactive x ∙ ap is_inactive (get_or_past places x Free h)
 
   pub below_active : (x : ℕ) → has x A ≡ true → x < length places

@@ -13,6 +13,8 @@ pub record Table : Type 0 where
   pub inactive : List ℕ
   -- whether the frame was referenced
   pub referenced : List Bool
+  -- whether the search for the oldest frame passes over it; of a free frame it means nothing
+  pub aside : List Bool
   -- the file and the page that it was taken for, or nothing where it is free
   pub owners : List (Option (FileId × PageIndex))
   -- its bytes; of a free frame they mean nothing
@@ -27,13 +29,16 @@ is_taken t f = is_some (owner_of t f)
 abbrev pub is_referenced : Table → ℕ → Bool
 is_referenced t f = slice_index_or t.referenced f false
 
+abbrev pub is_aside : Table → ℕ → Bool
+is_aside t f = slice_index_or t.aside f false
+
 -- how many frames are free
 abbrev pub free_frames : Table → ℕ
 free_frames t = count_by is_none t.owners
 
 -- all frames are free
 abbrev pub new_table : ℕ → ℕ → Table
-new_table size count = record { size = size; active = []; inactive = []; referenced = replicate count false; owners = replicate count None; bytes = zero_rows size count }
+new_table size count = record { size = size; active = []; inactive = []; referenced = replicate count false; aside = replicate count false; owners = replicate count None; bytes = zero_rows size count }
 
 -- no frame is in a list twice or in both, and the frames in the lists are those taken
 pub record IsSound (t : Table) : Type 0 where
@@ -42,6 +47,7 @@ pub record IsSound (t : Table) : Type 0 where
   pub apart : (f : ℕ) → has f t.active ≡ true → has f t.inactive ≡ false
   pub listed : (f : ℕ) → is_taken t f ≡ (has f t.active || has f t.inactive)
   pub flags : length t.referenced ≡ length t.owners
+  pub asides : length t.aside ≡ length t.owners
   pub rows : length t.bytes ≡ length t.owners
 
 -- the lowest free frame
@@ -50,9 +56,9 @@ pub record IsLowestFree (t : Table) (f : ℕ) : Type 0 where
   pub here : is_taken t f ≡ false
   pub lower : (g : ℕ) → g < f → is_taken t g ≡ true
 
--- a frame is taken: zeros, at the inactive head, unreferenced
+-- a frame is taken: zeros, at the inactive head, unreferenced, and not set aside
 abbrev pub taken : Table → ℕ → FileId × PageIndex → Table
-taken t f owner = record t { inactive = f ∷ t.inactive; referenced = slice_set t.referenced f false; owners = slice_set t.owners f (Some owner); bytes = slice_set t.bytes f (replicate t.size 0) }
+taken t f owner = record t { inactive = f ∷ t.inactive; referenced = slice_set t.referenced f false; aside = slice_set t.aside f false; owners = slice_set t.owners f (Some owner); bytes = slice_set t.bytes f (replicate t.size 0) }
 
 -- a frame leaves its list and is free
 abbrev pub given : Table → ℕ → Table
@@ -81,3 +87,10 @@ aged t = record t { active = take (kept t) t.active; inactive = drop (kept t) t.
 -- from the inactive tail to its head, then from the active tail to its head
 abbrev pub scan_order : Table → List ℕ
 scan_order t = reverse t.inactive ++ reverse t.active
+
+-- the search for the oldest frame passes over a frame, or no more
+abbrev pub set_aside : Table → ℕ → Table
+set_aside t f = record t { aside = slice_set t.aside f true }
+
+abbrev pub put_back : Table → ℕ → Table
+put_back t f = record t { aside = slice_set t.aside f false }

@@ -1,7 +1,7 @@
 //! The table of frames.
 
-ghost use Rattle.std.specs.Prelude.{◌≡◌, ℕ, ◌+◌, ◌<◌, true, length, option_map, All, IfOk, OnErr, IsOkUnless};
-ghost use Rattle.frames.specs.Table.{new_table, IsSound, IsLowestFree, is_taken, owner_of, free_frames, taken, given, accessed, aged, kept, scan_order};
+ghost use Rattle.std.specs.Prelude.{◌≡◌, ◌==◌, ℕ, ◌+◌, ◌<◌, true, not, cond, find, length, reverse, option_map, All, IfOk, OnErr, IsOkUnless};
+ghost use Rattle.frames.specs.Table.{new_table, IsSound, IsLowestFree, is_taken, is_aside, owner_of, free_frames, taken, given, accessed, aged, kept, scan_order, set_aside, put_back};
 ghost use Rattle.frames.specs.Lists.{IsFirstPassing};
 ghost use Rattle.frames.specs.Rows.{row_at};
 
@@ -14,25 +14,34 @@ use std::marker::Model;
 
 /// The bytes of cached pages, and the two lists by which the first to go is found.
 ///
-/// All memory is taken when it is made, in seven pieces; the bytes of all frames are one of them.
+/// All memory is taken when it is made, in eight pieces; the bytes of all frames are one of them.
 #[derive(Drop)]
 pub struct Frames {
     lists: PageLists,
     free: FreeMap,
     referenced: Vec<bool>,
+    // which frames the search for the oldest one passes over
+    aside: Vec<bool>,
+    // The search begins before this frame of each list, and at its tail where the frame is not in it. All frames from it on
+    // are set aside, so that a search does not pass over them again.
+    active_from: u32,
+    inactive_from: u32,
     owners: Vec<Option<(FileId, PageIndex)>>,
     bytes: Rows,
 }
 
+/// No frame has this number, so that a search begins at the tail.
+const NOWHERE: u32 = u32::MAX;
+
 impl Model for Frames {
     ghost use Rattle.frames.specs.Table.{Table};
-    ghost use Rattle.frames.specs.Tied.{IsTied};
+    ghost use Rattle.frames.specs.Tied.{IsTied, IsPassed};
 
     ghost Value = { Table };
 
-    ghost view = { λ t. record { size = t.bytes.size; active = t.lists.active; inactive = t.lists.inactive; referenced = t.referenced.items; owners = t.owners.items; bytes = t.bytes.rows } };
+    ghost view = { λ t. record { size = t.bytes.size; active = t.lists.active; inactive = t.lists.inactive; referenced = t.referenced.items; aside = t.aside.items; owners = t.owners.items; bytes = t.bytes.rows } };
 
-    ghost invariant = { λ t. IsTied t.lists t.free t.referenced.items t.owners.items t.bytes };
+    ghost invariant = { λ t. IsTied t.lists t.free t.referenced.items t.owners.items t.bytes × IsPassed t.lists t.aside.items t.active_from t.inactive_from };
 }
 
 impl Frames {
@@ -48,12 +57,16 @@ impl Frames {
         let lists = PageLists::empty(alloc, count)?;
         let free = FreeMap::all(alloc, count)?;
         let referenced = vec![in alloc; false; count]?;
+        let aside = vec![in alloc; false; count]?;
         let owners = vec![in alloc; None; count]?;
         let bytes = Rows::zeros(alloc, geometry.page() as usize, count)?;
         Ok(Frames {
             lists,
             free,
             referenced,
+            aside,
+            active_from: NOWHERE,
+            inactive_from: NOWHERE,
             owners,
             bytes,
         })
@@ -80,7 +93,9 @@ impl Frames {
         };
         self.free.put(frame, false);
         self.lists.push_inactive(frame as u32);
+        self.inactive_from = unless(self.inactive_from, frame as u32);
         self.referenced[frame] = false;
+        self.aside[frame] = false;
         self.owners[frame] = Some((file, page));
         self.bytes.clear(frame as u32);
         Ok(FrameId(frame as u32))
@@ -145,6 +160,7 @@ impl Frames {
         } else {
             self.lists.remove_inactive(frame.0);
             self.lists.push_active(frame.0);
+            self.active_from = unless(self.active_from, frame.0);
             self.referenced[at] = false;
         }
     }
@@ -159,10 +175,75 @@ impl Frames {
             let frame = self.lists.last_active();
             self.lists.remove_active(frame);
             self.lists.push_inactive(frame);
+            self.inactive_from = unless(self.inactive_from, frame);
             self.referenced[frame as usize] = false;
             moved += 1;
         }
         moved
+    }
+
+    /// The first frame that is not set aside, from the inactive tail to its head, then from the active tail to its head. It goes
+    /// on where the last search ended, so that it passes over a frame once.
+    pub fn oldest(&mut self) -> Option<FrameId>
+        ensures oldest { option_map (λ frame. frame.0) result ≡ find (λ f. not (is_aside self.old f)) (scan_order self.old) }
+        ensures same { self.new ≡ self.old }
+    {
+        let found = self.oldest_inactive();
+        if found.is_some() {
+            found
+        } else {
+            self.oldest_active()
+        }
+    }
+
+    fn oldest_inactive(&mut self) -> Option<FrameId>
+        ensures oldest { option_map (λ frame. frame.0) result ≡ find (λ f. not (is_aside self.old f)) (reverse self.old.inactive) }
+        ensures same { self.new ≡ self.old }
+    {
+        while let Some(frame) = self.lists.inactive_before(self.inactive_from) {
+            if !self.aside[frame as usize] {
+                return Some(FrameId(frame));
+            }
+            self.inactive_from = frame;
+        }
+        None
+    }
+
+    fn oldest_active(&mut self) -> Option<FrameId>
+        ensures oldest { option_map (λ frame. frame.0) result ≡ find (λ f. not (is_aside self.old f)) (reverse self.old.active) }
+        ensures same { self.new ≡ self.old }
+    {
+        while let Some(frame) = self.lists.active_before(self.active_from) {
+            if !self.aside[frame as usize] {
+                return Some(FrameId(frame));
+            }
+            self.active_from = frame;
+        }
+        None
+    }
+
+    /// The search for the oldest frame passes over this one from now on.
+    pub fn set_aside(&mut self, frame: FrameId)
+        requires { is_taken self.old frame.0 ≡ true }
+        ensures { self.new ≡ set_aside self.old frame.0 }
+    {
+        self.aside[frame.0 as usize] = true;
+    }
+
+    /// The search for the oldest frame passes over this one no more.
+    pub fn put_back(&mut self, frame: FrameId)
+        requires { is_taken self.old frame.0 ≡ true }
+        ensures { self.new ≡ put_back self.old frame.0 }
+    {
+        if !self.aside[frame.0 as usize] {
+            return;
+        }
+        self.aside[frame.0 as usize] = false;
+        if self.lists.is_active(frame.0) {
+            self.active_from = NOWHERE;
+        } else {
+            self.inactive_from = NOWHERE;
+        }
     }
 
     /// The first frame that passes the test, from the inactive tail to its head, then from the active tail to its head.
@@ -177,4 +258,11 @@ impl Frames {
             self.lists.find_active(&test)
         }
     }
+}
+
+/// Where a search begins, after a frame came to the head of its list: no more at this frame.
+fn unless(from: u32, frame: u32) -> u32
+    ensures { result ≡ cond (from == frame) NOWHERE from }
+{
+    if from == frame { NOWHERE } else { from }
 }

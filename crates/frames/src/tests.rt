@@ -25,6 +25,16 @@ fn access(rt: &impl Abort, frames: &mut Frames, frame: u32) {
     frames.accessed(FrameId(frame));
 }
 
+/// Sets a frame aside, or back.
+fn set_aside(rt: &impl Abort, frames: &mut Frames, frame: u32, aside: bool) {
+    expect_taken(rt, frames, FrameId(frame));
+    if aside {
+        frames.set_aside(FrameId(frame));
+    } else {
+        frames.put_back(FrameId(frame));
+    }
+}
+
 /// Writes over a frame's bytes, and no others: so a caller sees what `bytes_mut` lends.
 fn put(frames: &mut Frames, frame: FrameId, bytes: &[u8])
     requires taken { is_taken frames.old frame.0 ≡ true }
@@ -141,6 +151,7 @@ struct Plain {
     active: Vec<u32>,
     inactive: Vec<u32>,
     referenced: Vec<u32>,
+    aside: Vec<u32>,
 }
 
 fn leave(list: &mut Vec<u32>, frame: u32) -> bool {
@@ -158,6 +169,7 @@ impl Plain {
         for frame in 0..48 {
             if !self.active.contains(&frame) && !self.inactive.contains(&frame) {
                 self.inactive.insert(0, frame)?;
+                leave(&mut self.aside, frame);
                 return Ok(Some(frame));
             }
         }
@@ -182,6 +194,28 @@ impl Plain {
             self.referenced.push(frame)?;
         }
         Ok(())
+    }
+
+    fn set_aside(&mut self, frame: u32, aside: bool) -> Result<(), Fail> {
+        leave(&mut self.aside, frame);
+        if aside {
+            self.aside.push(frame)?;
+        }
+        Ok(())
+    }
+
+    fn oldest(&self) -> Option<u32> {
+        for frame in self.inactive.iter().rev() {
+            if !self.aside.contains(frame) {
+                return Some(*frame);
+            }
+        }
+        for frame in self.active.iter().rev() {
+            if !self.aside.contains(frame) {
+                return Some(*frame);
+            }
+        }
+        None
     }
 
     fn age(&mut self) -> Result<u64, Fail> {
@@ -221,7 +255,7 @@ fn call_both(
 ) -> Result<(), Fail> {
     let frame = (number % 48) as u32;
     let is_taken = frames.owner(FrameId(frame)).is_some();
-    match number / 48 % 16 {
+    match number / 48 % 24 {
         0..=4 => {
             let taken = frames.take(FileId(0), PageIndex(0)).ok();
             assert_eq!(rt; taken, plain.take()?.map(FrameId));
@@ -235,12 +269,18 @@ fn call_both(
             access(rt, frames, frame);
             plain.access(frame)?;
         }
+        16..=23 if is_taken => {
+            let aside = number / 48 % 24 < 22;
+            set_aside(rt, frames, frame, aside);
+            plain.set_aside(frame, aside)?;
+        }
         _ => {}
     }
     Ok(())
 }
 
-fn compare(rt: &impl Abort, frames: &Frames, plain: &Plain) {
+fn compare(rt: &impl Abort, frames: &mut Frames, plain: &Plain) {
+    assert_eq!(rt; frames.oldest(), plain.oldest().map(FrameId));
     let free = 48_u64
         .saturating_sub(plain.active.len() as u64)
         .saturating_sub(plain.inactive.len() as u64);
@@ -260,6 +300,7 @@ fn random_calls_as_the_plain_program(rt: HostRuntime) -> Result<(), Fail> {
         active: Vec::new(rt.alloc()),
         inactive: Vec::new(rt.alloc()),
         referenced: Vec::new(rt.alloc()),
+        aside: Vec::new(rt.alloc()),
     };
     let mut seed = 20_261_122_u64;
     for _ in 0..4_000 {
@@ -267,7 +308,7 @@ fn random_calls_as_the_plain_program(rt: HostRuntime) -> Result<(), Fail> {
             .wrapping_mul(6_364_136_223_846_793_005)
             .wrapping_add(1_442_695_040_888_963_407);
         call_both(&rt, &mut frames, &mut plain, seed >> 33)?;
-        compare(&rt, &frames, &plain);
+        compare(&rt, &mut frames, &plain);
     }
     Ok(())
 }

@@ -13,7 +13,6 @@ use Rattle.pc_types.specs.declared.tags.Tag.TheVariants.{Dirty, Writeback, Towri
 use Rattle.pc_types.specs.Tags.{has}
 use Rattle.xarray.specs.declared.entry.Found.{Found}
 use Rattle.xarray.specs.declared.entry.Mark.{Mark}
-use Rattle.xarray.specs.declared.entry.Mark.TheVariants.{M0, M1, M2}
 use Rattle.xarray.specs.declared.entry.Marked.{Marked}
 use Rattle.xarray.specs.declared.entry.Marks.{Marks}
 use Rattle.xarray.specs.MarkedArray.{Range, Ranges, has_mark, with_mark, with_marks, marks_of, marked_of, meets, entry_at, lowest, erased, given, remarked, is_any, is_marked, found_of}

@@ -115,11 +115,20 @@ impl Mapping {
         ensures frame { result ≡ option_map frame_of (map.get self.old.pages index.0) }
         ensures gone { self.new ≡ record self.old { pages = map.remove self.old.pages index.0 } }
     {
+        let page = self.take_page(index)?;
+        Some(page.frame)
+    }
+
+    /// Drops a page as `remove_page` does, and answers it as it was: one walk.
+    pub fn take_page(&mut self, index: PageIndex) -> Option<MappedPage>
+        ensures page { option_map seen result ≡ map.get self.old.pages index.0 }
+        ensures gone { self.new ≡ record self.old { pages = map.remove self.old.pages index.0 } }
+    {
         let entry = self.pages.take(index.0)?;
         let page = mapped_page(entry);
         self.page_count -= 1;
         self.totals.forget(page.tags);
-        Some(page.frame)
+        Some(page)
     }
 
     /// Whether a page is cached at the index and has the tag.

@@ -1,7 +1,7 @@
 -- The pages that are idle, by the owners of the frames, and what a scan of the frames finds of them.
 use Rattle.std.proofs.Common.{◌≡◌, ℕ, ◌<◌, ◌≤◌, Bool, true, false, cond, eqb, eqb-true, List, [], ◌∷◌, ◌++◌, length}
-use Rattle.std.proofs.Common.{get_or, refl, ap, sym, subst, ◌∙◌, arith, map, reverse, inl, inr}
-use Rattle.std.specs.Prelude.{◌&&◌, ◌||◌, Option, Some, None, is_some}
+use Rattle.std.proofs.Common.{get_or, refl, ap, sym, ◌∙◌, arith, map, reverse, inl, inr}
+use Rattle.std.specs.Prelude.{◌&&◌, ◌||◌, Option, Some, None, find, is_some}
 use Rattle.std.specs.Option.{option_and_then}
 use Rattle.std.specs.List.{list_any}
 use Rattle.std.specs.Ordering.{nat_cmp}
@@ -10,61 +10,59 @@ use Rattle.std.specs.FinMap.{get-empty}
 use Rattle.std.proofs.lemmas.Bool.{cases_lt}
 use Rattle.std.proofs.lemmas.List.{get_or_default, get_or_past, length-map, reverse-reverse}
 use Rattle.std.proofs.lemmas.List.Folds.{list_any_none}
-use Rattle.frames.specs.Lists.{has, IsFirstPassing}
+use Rattle.frames.specs.Lists.{has}
 use Rattle.frames.specs.Rows.{row_at}
 use Rattle.frames.specs.Table.{Table, IsSound, owner_of, is_taken, scan_order}
 use Rattle.frames.proofs.ScanLemmas.{has-reverse}
 use Rattle.mapping.proofs.MapLemmas.{AllEntries, all_entries}
 use Rattle.mapping.specs.Pages.{Mapped}
 use Rattle.pagestore.specs.declared.kept.KeptFile.{KeptFile}
-use Rattle.pagestore.specs.Cuts.{is_untagged, is_idle_entry, is_idle_owner, is_idle_frame}
+use Rattle.pagestore.specs.Store.{is_untagged, is_idle_entry}
+use Rattle.pagestore.specs.Cuts.{is_idle_owner, is_idle_frame}
 use Rattle.machine.specs.State.{File, Page, no_file, is_idle}
 use Rattle.pagestore.specs.Store.{IsStore, Store, entry_at, file_of, is_uptodate, none_kept, page_of, store_of}
 use Rattle.pagestore.specs.Store.{stored_page}
 use Rattle.machine.proofs.steps.Choices.{and_true}
 use Rattle.pagestore.proofs.StoreLaws.{page_seen, seen_at}
 
--- ---- the first frame that passes a test
+-- ---- where no frame passes a test
 
--- what a test says of a frame that passes, and of one that does not: apart, so that both are found in a closure's
--- contract
-abbrev pub Says : (ℕ → Type 0) → (ℕ → Type 0) → ℕ → Bool → Type 0
-Says passed failed f true = passed f
-Says passed failed f false = failed f
+find_none : (test : ℕ → Bool) (xs : List ℕ) → find test xs ≡ None → (f : ℕ) → has f xs ≡ true → test f ≡ false
+find_none test [] none f there = absurd cc
+find_none test (x ∷ xs) none f there =
+    elim (test x) as (λ b. test x ≡ b → cond b (Some x) (find test xs) ≡ None → test f ≡ false) [
+      | true ↦ λ e k. absurd cc
+      | false ↦ λ e k. elim (eqb x f) as (λ b. eqb x f ≡ b → (b || has f xs) ≡ true → test f ≡ false) [
+        | true ↦ λ same h. ap test (sym (eqb-true x f same)) ∙ e
+        | false ↦ λ other h. find_none test xs k f h
+      ] refl there
+    ] refl none
 
-module _ (passed failed : ℕ → Type 0) where
-  pub first_passes : (xs : List ℕ) (f : ℕ) → IsFirstPassing (Says passed failed) xs (Some f) → passed f
-  first_passes [] f h = absurd cc
-  first_passes (x ∷ xs) f (inl h) = let is : x ≡ f = cc in subst passed is h.0
-  first_passes (x ∷ xs) f (inr h) = first_passes xs f h.1
+in_first : (f : ℕ) (xs ys : List ℕ) → has f xs ≡ true → has f (xs ++ ys) ≡ true
+in_first f [] ys h = absurd cc
+in_first f (x ∷ xs) ys h = elim (eqb x f) as (λ b. (b || has f xs) ≡ true → (b || has f (xs ++ ys)) ≡ true) [
+  | true ↦ λ k. refl
+  | false ↦ λ k. in_first f xs ys k
+] h
 
-  none_passes : (xs : List ℕ) → IsFirstPassing (Says passed failed) xs None → (f : ℕ) → has f xs ≡ true → failed f
-  none_passes [] h f there = absurd cc
-  none_passes (x ∷ xs) (inl h) f there = absurd cc
-  none_passes (x ∷ xs) (inr h) f there = elim (eqb x f) as (λ b. eqb x f ≡ b → (b || has f xs) ≡ true → failed f) [
-    | true ↦ λ e k. subst failed (eqb-true x f e) h.0
-    | false ↦ λ e k. none_passes xs h.1 f k
-  ] refl there
+in_second : (f : ℕ) (xs ys : List ℕ) → has f ys ≡ true → has f (xs ++ ys) ≡ true
+in_second f [] ys h = h
+in_second f (x ∷ xs) ys h = elim (eqb x f) as (λ b. (b || has f (xs ++ ys)) ≡ true)
+    [ true ↦ refl | false ↦ in_second f xs ys h ]
 
-  none_in_both : (xs ys : List ℕ) → IsFirstPassing (Says passed failed) (xs ++ ys) None
-      → IsFirstPassing (Says passed failed) xs None × IsFirstPassing (Says passed failed) ys None
-  none_in_both [] ys h = (refl, h)
-  none_in_both (x ∷ xs) ys (inl h) = absurd cc
-  none_in_both (x ∷ xs) ys (inr h) = let rest = none_in_both xs ys h.1 in (inr (h.0, rest.0), rest.1)
-
-  -- the scan goes over each frame that is taken
-  pub none_taken : (t : Table) → IsSound t → IsFirstPassing (Says passed failed) (scan_order t) None → (f : ℕ)
-      → is_taken t f ≡ true → failed f
-  none_taken t sound h f taken =
-      let both = none_in_both (reverse t.inactive) (reverse t.active) h in
-      elim (has f t.active) as (λ b. has f t.active ≡ b → failed f) [
-        | true ↦ λ e. none_passes (reverse t.active) both.1 f (turned t.active e)
-        | false ↦ λ e. none_passes (reverse t.inactive) both.0 f
-            (turned t.inactive (ap (λ b. b || has f t.inactive) (sym e) ∙ sym (sound.listed f) ∙ taken))
-      ] refl
-    where
-      turned : (xs : List ℕ) → has f xs ≡ true → has f (reverse xs) ≡ true
-      turned xs e = has-reverse f (reverse xs) (ap (has f) (reverse-reverse xs) ∙ e)
+-- the scan goes over each frame that is taken
+pub none_taken : (test : ℕ → Bool) (t : Table) → IsSound t → find test (scan_order t) ≡ None → (f : ℕ)
+    → is_taken t f ≡ true → test f ≡ false
+none_taken test t sound none f taken =
+    find_none test (scan_order t) none f (elim (has f t.active) as (λ b. has f t.active ≡ b
+    → has f (scan_order t) ≡ true) [
+      | true ↦ λ e. in_second f (reverse t.inactive) (reverse t.active) (turned t.active e)
+      | false ↦ λ e. in_first f (reverse t.inactive) (reverse t.active)
+          (turned t.inactive (ap (λ b. b || has f t.inactive) (sym e) ∙ sym (sound.listed f) ∙ taken))
+    ] refl)
+  where
+    turned : (xs : List ℕ) → has f xs ≡ true → has f (reverse xs) ≡ true
+    turned xs e = has-reverse f (reverse xs) (ap (has f) (reverse-reverse xs) ∙ e)
 
 -- ---- an entry and its page
 

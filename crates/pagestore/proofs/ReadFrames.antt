@@ -1,19 +1,19 @@
 -- A page whose frame is known, as a read finds it: whether it is cached, its bytes, and the store once it was accessed.
-use Rattle.std.proofs.Common.{◌≡◌, ℕ, ◌<◌, Bool, true, false, List, ap, sym, ◌∙◌, refl, arith}
+use Rattle.std.proofs.Common.{◌≡◌, ◌<◌, true, false, ap, sym, ◌∙◌, refl, arith}
 use Rattle.std.specs.Prelude.{Some, None, is_some, option_map, slice_index_or, length}
 use Rattle.std.specs.FinMap as finmap
 use Rattle.pc_types.specs.declared.ids.FileId.{FileId}
 use Rattle.pc_types.specs.declared.ids.FrameId.{FrameId}
 use Rattle.pc_types.specs.declared.ids.PageIndex.{PageIndex}
 use Rattle.frames.specs.Table as table
-use Rattle.frames.specs.Table.{Table, IsSound, is_taken, owner_of}
+use Rattle.frames.specs.Table.{IsSound, is_taken, owner_of}
 use Rattle.frames.specs.Rows.{row_at}
 use Rattle.mapping.specs.Pages.{Mapped, frame_of}
 use Rattle.mapping.proofs.PageLemmas.{none_framed}
 use Rattle.pagestore.specs.declared.kept.KeptFile.{KeptFile}
 use Rattle.machine.specs.PageLists.{accessed}
 use Rattle.machine.specs.State.{Page}
-use Rattle.pagestore.specs.Store.{the_page, Store, IsStore, has_page, is_uptodate, store_of, kept_at}
+use Rattle.pagestore.specs.Store.{the_page, Store, has_page, is_uptodate, store_of, kept_at}
 use Rattle.pagestore.specs.Store.{entry_at, stored_at, stored_page, with_lists}
 use Rattle.pagestore.proofs.StoreLaws.{cached_at, page_seen, none_seen}
 use Rattle.pagestore.proofs.PagePlaces.{FilePage, file_entry, file_here}
@@ -23,32 +23,8 @@ use Rattle.pagestore.proofs.ListedFrames.{lists-accessed}
 use Rattle.pagestore.proofs.Owners.{entry_of, its_frame}
 
 module _ (w : FilePage) where
-  abbrev t : Table
-  t = w.pages.frames
-
-  abbrev up : List Bool
-  up = w.pages.uptodate.items
-
-  abbrev files : List KeptFile
-  files = w.pages.files.items
-
-  abbrev dirty : ℕ
-  dirty = w.pages.dirty
-
-  abbrev store : Store
-  store = w.store
-
-  abbrev f : ℕ
-  f = w.file
-
-  abbrev p : ℕ
-  p = w.page
-
-  s : IsStore t up files dirty
-  s = w.kept
-
-  is : store_of t up files ≡ store
-  is = w.seen
+  open w use {store, file as f, page as p, kept as s, seen as is}
+  open w.pages use {frames as t, dirty, uptodate.{items as up}, files.{items as files}}
 
   here : f < length files
   here = file_here w

@@ -22,7 +22,8 @@ use Rattle.pc_types.specs.Tags.{TagSet, no_tags}
 use Rattle.pc_types.specs.declared.ids.FileId.{FileId}
 use Rattle.pc_types.specs.declared.ids.PageIndex.{PageIndex}
 use Rattle.pc_types.specs.declared.limits.TheConstants.{MAX_FRAMES}
-use Rattle.frames.specs.Table.{Table, owner_of, is_taken, taken, given, accessed, free_frames, new_table}
+use Rattle.frames.specs.Table.{Table, owner_of, is_taken, is_aside, taken, given, accessed, free_frames, new_table}
+use Rattle.frames.specs.Table.{put_back}
 use Rattle.frames.specs.Rows.{row_at}
 use Rattle.mapping.specs.Pages.{Mapped, untagged, change_at, put_some}
 use Rattle.mapping.proofs.MapLemmas as entries
@@ -32,7 +33,7 @@ use Rattle.pagestore.specs.declared.kept.KeptFile.{KeptFile}
 use Rattle.machine.specs.State.{File, Page, no_file, dirty_in}
 use Rattle.pagestore.specs.Store.{the_page, blank, none_kept, is_uptodate, awaits, page_of, each_seen, file_of, kept_at}
 use Rattle.pagestore.specs.Store.{entry_at, lists_of, Store, store_of, stored_at, stored_page, with_pages, with_lists}
-use Rattle.pagestore.specs.Store.{with_entry, put_at, IsStore}
+use Rattle.pagestore.specs.Store.{with_entry, put_at, IsStore, is_untagged, is_idle_entry}
 use Rattle.machine.proofs.changes.StateLaws.{get_or-set}
 use Rattle.maps.proofs.MapLaws.{no_entries}
 use Rattle.pagestore.proofs.StoreEntries.{len-each_seen}
@@ -74,6 +75,13 @@ within_owned t fr o e =
           (ap (λ (x : Option Owner). is_some x) (sym (get_or_past t.owners fr None (not_below fr (length t.owners) h))
           ∙ e)))
     ] refl
+
+pub within_taken : (t : Table) (fr : ℕ) → is_taken t fr ≡ true → fr < length t.owners
+within_taken t fr taken = go (owner_of t fr) refl
+  where
+    go : (o : Option Owner) → owner_of t fr ≡ o → fr < length t.owners
+    go None e = absurd (false≢true (sym (ap (λ (x : Option Owner). is_some x) e) ∙ taken))
+    go (Some o) e = within_owned t fr o e
 
 owned_is_taken : (t : Table) (fr : ℕ) (o : Owner) → owner_of t fr ≡ Some o → is_taken t fr ≡ true
 owned_is_taken t fr o e = ap (λ (x : Option Owner). is_some x) e
@@ -171,6 +179,45 @@ module _ {X : Type 0} (m : FinMap nat_cmp X) (k : ℕ) where
       ≡ count_by test (finmap.entries m) + entries.taken test k o
   count-put test o = count-put_to test o (finmap.get m k) refl
 
+-- ---- the frames that are set aside
+
+still_aside : (flags : List Bool) (i j : ℕ) → slice_index_or (slice_set flags i false) j false ≡ true
+    → slice_index_or flags j false ≡ true
+still_aside [] i j h = h
+still_aside (b ∷ flags) zero zero h = absurd (false≢true h)
+still_aside (b ∷ flags) zero (suc j) h = h
+still_aside (b ∷ flags) (suc i) zero h = h
+still_aside (b ∷ flags) (suc i) (suc j) h = still_aside flags i j h
+
+pub not_aside : (flags : List Bool) (i : ℕ) → slice_index_or (slice_set flags i false) i false ≡ false
+not_aside [] i = refl
+not_aside (b ∷ flags) zero = refl
+not_aside (b ∷ flags) (suc i) = not_aside flags i
+
+-- flags that are set for busy pages alone
+pub aside_store : (t : Table) (up : List Bool) (files : List KeptFile) (dirty : ℕ) (flags : List Bool)
+    → IsStore t up files dirty
+    → ((f p : ℕ) (x : Mapped) → entry_at files f p ≡ Some x → slice_index_or flags x.frame false ≡ true
+    → is_idle_entry up (Some x) ≡ false) → IsStore (record t { aside = flags }) up files dirty
+aside_store t up files dirty flags s busy =
+    record {
+      owned = s.owned;
+      bare = s.bare;
+      busy = busy;
+      counted = s.counted;
+      sized = s.sized;
+      rows = s.rows;
+      flags = s.flags;
+      few = s.few;
+      dirty_is = s.dirty_is;
+    }
+
+-- a frame is set aside no more
+pub back_store : (t : Table) (up : List Bool) (files : List KeptFile) (dirty fr : ℕ) → IsStore t up files dirty
+    → IsStore (put_back t fr) up files dirty
+back_store t up files dirty fr s = aside_store t up files dirty (slice_set t.aside fr false) s
+    (λ f p x e aside. s.busy f p x e (still_aside t.aside fr x.frame aside))
+
 -- ---- one entry and the frames change
 
 -- 1 for a page that is DIRTY
@@ -223,15 +270,16 @@ module _ (t u : Table) (up vp : List Bool) (files : List KeptFile) (dirty f p : 
   module _ (others : (g q : ℕ) (y : Mapped) → (g ≡ f → q ≡ p → ⊥) → entry_at files g q ≡ Some y
       → owner_of u y.frame ≡ Some (record { 0 = g }, record { 0 = q })) (owners : length u.owners ≡ length t.owners)
       (bytes : length u.bytes ≡ length t.bytes) (sized : All (λ (row : List ℕ). length row ≡ u.size) u.bytes)
-      (flags : length vp ≡ length up) where
+      (flags : length vp ≡ length up) (asides : (g : ℕ) → is_aside u g ≡ true → is_aside t g ≡ true) where
     pub store_changed : (o : Option Mapped) (now : ℕ)
         → ((y : Mapped) → o ≡ Some y → owner_of u y.frame ≡ Some (record { 0 = f }, record { 0 = p }))
         → ((y : Mapped) → o ≡ Some y → is_uptodate vp y ≡ false → y.tags ≡ no_tags)
+        → ((y : Mapped) → o ≡ Some y → is_aside u y.frame ≡ true → is_idle_entry vp (Some y) ≡ false)
         → cond (is_some o) 1 0 + free_frames u ≡ cond (is_some (entry_at files f p)) 1 0 + free_frames t
         → now + dirty_one (stored_page (store_of t up files) f p) ≡ dirty
         + dirty_one (option_and_then (page_of u vp) o)
         → IsStore u vp (slice_set files f (with_kept (kept_at files f) p o)) now
-    store_changed o now own tags free marks =
+    store_changed o now own tags quiet free marks =
         record {
           owned = λ g q y e. at_entry o g q y e (owner_of u y.frame ≡ Some (record { 0 = g }, record { 0 = q }))
               (λ a b d. own y d ∙ (λ i. let x : Option Owner = Some (record { 0 = sym a i }, record { 0 = sym b i }) in
@@ -239,6 +287,9 @@ module _ (t u : Table) (up vp : List Bool) (files : List KeptFile) (dirty f p : 
               (λ n d. others g q y n d);
           bare = λ g q y e waits. at_entry o g q y e (y.tags ≡ no_tags) (λ a b d. tags y d waits)
               (λ n d. s.bare g q y d (sym (alike.flags g q y n d) ∙ waits));
+          busy = λ g q y e aside. at_entry o g q y e (is_idle_entry vp (Some y) ≡ false) (λ a b d. quiet y d aside)
+              (λ n d. ap (λ b. b && is_untagged y.tags) (alike.flags g q y n d)
+              ∙ s.busy g q y d (asides y.frame aside));
           counted =
               omega (
                 arith,
@@ -259,11 +310,13 @@ module _ (t u : Table) (up vp : List Bool) (files : List KeptFile) (dirty f p : 
 pub store_same : (t u : Table) (up : List Bool) (files : List KeptFile) (dirty : ℕ) → IsStore t up files dirty
     → ((g : ℕ) → owner_of u g ≡ owner_of t g) → length u.owners ≡ length t.owners → length u.bytes ≡ length t.bytes
     → All (λ (row : List ℕ). length row ≡ u.size) u.bytes → free_frames u ≡ free_frames t
+    → ((g : ℕ) → is_aside u g ≡ true → is_aside t g ≡ true)
     → store_of u up files ≡ with_lists (store_of t up files) (lists_of u) → IsStore u up files dirty
-store_same t u up files dirty s same owners bytes sized free seen =
+store_same t u up files dirty s same owners bytes sized free asides seen =
     record {
       owned = λ f p x e. same x.frame ∙ s.owned f p x e;
       bare = s.bare;
+      busy = λ f p x e aside. s.busy f p x e (asides x.frame aside);
       counted = omega (arith, s.counted, owners, free);
       sized = sized;
       rows = bytes ∙ s.rows ∙ sym owners;
@@ -369,9 +422,12 @@ module _ (t : Table) (up : List Bool) (files : List KeptFile) (dirty f p fr : �
         let gone : ◌≡◌ {A = ℕ} (cond (is_some (entry_at files f p)) 1 0) 0 =
         ap (λ (o : Option Mapped). cond (is_some o) 1 0) absent in
         store_changed t u up vp files dirty f p s here alike refl (λ g q y n e. owner_kept g q y e) same_owners
-        same_bytes all_sized (length-set up fr ready) (Some (untagged fr)) dirty
+        same_bytes all_sized (length-set up fr ready) (λ g aside. still_aside t.aside fr g aside)
+        (Some (untagged fr)) dirty
         (λ y e. ap (λ (y : Mapped). owner_of u y.frame) (sym (some_is (untagged fr) y e)) ∙ own)
         (λ y e waits. ap (λ (y : Mapped). y.tags) (sym (some_is (untagged fr) y e)))
+        (λ y e aside. absurd (false≢true (sym (not_aside t.aside fr)
+        ∙ ap (λ (y : Mapped). is_aside u y.frame) (some_is (untagged fr) y e) ∙ aside)))
         (omega (arith, less, gone))
         (omega (arith, ap dirty_one none_before, ap dirty_one page_now, clean ready))
 
@@ -388,9 +444,6 @@ module _ (t : Table) (up : List Bool) (files : List KeptFile) (dirty f p fr : �
 
   abbrev pub v : Table
   v = given u fr
-
-  pub taken_now : is_taken u fr ≡ true
-  taken_now = ap (λ (x : Option Owner). is_some x) own
 
   owner_back : (g : ℕ) (b : Bool) → eqb g fr ≡ b
       → cond b None (cond b (Some (record { 0 = f }, record { 0 = p })) (owner_of t g)) ≡ owner_of t g
@@ -409,7 +462,7 @@ module _ (t : Table) (up : List Bool) (files : List KeptFile) (dirty f p fr : �
 
   pub unmade_store : IsStore v up files dirty
   unmade_store = store_same t v up files dirty s owner_again (length-set u.owners fr None ∙ same_owners) same_bytes
-      all_sized free_again unmade_seen
+      all_sized free_again (λ g aside. still_aside t.aside fr g aside) unmade_seen
 
 -- ---- an entry goes, or changes
 
@@ -447,8 +500,9 @@ module _ (t : Table) (up : List Bool) (files : List KeptFile) (dirty f p : ℕ) 
       ∙ s.owned g q y e in
       store_changed t (given t x.frame) up up files dirty f p s here
       (record { rows = λ g q y n e. refl; flags = λ g q y n e. refl }) refl others
-      (length-set t.owners x.frame None) refl s.sized refl None now
-      (λ y e. absurd (none_not_some y e)) (λ y e waits. absurd (none_not_some y e)) (omega (arith, less_one, one_there))
+      (length-set t.owners x.frame None) refl s.sized refl (λ g aside. aside) None now
+      (λ y e. absurd (none_not_some y e)) (λ y e waits. absurd (none_not_some y e))
+      (λ y e aside. absurd (none_not_some y e)) (omega (arith, less_one, one_there))
       (omega (arith, marks, tag_counts))
 
   pub left_seen : store_of (given t x.frame) up (slice_set files f (with_kept (kept_at files f) p None))
@@ -495,17 +549,21 @@ module _ (t : Table) (up : List Bool) (files : List KeptFile) (dirty f p : ℕ) 
     awaits_after = ap not flag_after
 
     pub changed_store : (now : ℕ) → (ready ≡ false → y.tags ≡ no_tags)
+        → (is_aside t x.frame ≡ true → (ready && is_untagged y.tags) ≡ false)
         → now + dirty_one (stored_page (store_of t up files) f p) ≡ dirty
         + dirty_one (cond ready (Some (record { bytes = row; tags = y.tags })) None)
         → IsStore w wp (slice_set files f (with_kept (kept_at files f) p (Some y))) now
-    changed_store now tags marks =
+    changed_store now tags quiet marks =
         store_changed t w up wp files dirty f p s here same_else refl (λ g q z n e. s.owned g q z e) refl
         (length-set t.bytes x.frame row)
         (All-set (λ (row : List ℕ). length row ≡ t.size) t.bytes x.frame row long s.sized)
-        (length-set up x.frame ready) (Some y) now
+        (length-set up x.frame ready) (λ g aside. aside) (Some y) now
         (λ z e. ap (owner_of t) (ap (λ (z : Mapped). z.frame) (sym (some_is y z e)) ∙ frame) ∙ s.owned f p x there)
         (λ z e waits. ap (λ (z : Mapped). z.tags) (sym (some_is y z e))
         ∙ tags (sym flag_after ∙ ap (is_uptodate wp) (some_is y z e) ∙ waits))
+        (λ z e aside. ap (λ (z : Mapped). is_idle_entry wp (Some z)) (sym (some_is y z e))
+        ∙ ap (λ b. b && is_untagged y.tags) flag_after
+        ∙ quiet (ap (is_aside t) (sym frame ∙ ap (λ (z : Mapped). z.frame) (some_is y z e)) ∙ aside))
         (omega (arith, one_there)) (omega (arith, marks, ap dirty_one page_after))
 
     pub changed_seen : store_of w wp (slice_set files f (with_kept (kept_at files f) p (Some y)))
@@ -526,13 +584,13 @@ module _ (t : Table) (up : List Bool) (files : List KeptFile) (dirty f p : ℕ) 
       same_flags : slice_set up x.frame true ≡ up
       same_flags = ap (slice_set up x.frame) (sym ready) ∙ set-get_or up x.frame false
 
-      pub page_store : (now : ℕ) → now + cond x.tags.dirty 1 0 ≡ dirty + cond y.tags.dirty 1 0
+      pub page_store : (now : ℕ) → (is_aside t x.frame ≡ true → is_untagged y.tags ≡ false) → now + cond x.tags.dirty 1 0 ≡ dirty + cond y.tags.dirty 1 0
           → IsStore (record t { bytes = slice_set t.bytes x.frame row }) up
           (slice_set files f (with_kept (kept_at files f) p (Some y))) now
-      page_store now marks =
+      page_store now quiet marks =
           subst (λ wp. IsStore (record t { bytes = slice_set t.bytes x.frame row }) wp
           (slice_set files f (with_kept (kept_at files f) p (Some y))) now) same_flags
-          (changed_store row long true y frame now (λ e. absurd (false≢true (sym e)))
+          (changed_store row long true y frame now (λ e. absurd (false≢true (sym e))) quiet
           (ap (λ (o : Option Page). now + dirty_one o) (page_seen t up files f p x there ready) ∙ marks))
 
       pub page_after_is : store_of (record t { bytes = slice_set t.bytes x.frame row }) up
@@ -567,6 +625,9 @@ module _ (t : Table) (up : List Bool) (files : List KeptFile) (dirty fr : ℕ) (
   bytes_same : (accessed t fr).bytes ≡ t.bytes
   bytes_same = either_way (λ (t : Table). t.bytes) _ _ _ t.bytes refl refl
 
+  aside_same : (accessed t fr).aside ≡ t.aside
+  aside_same = either_way (λ (t : Table). t.aside) _ _ _ t.aside refl refl
+
   free_same : free_frames (accessed t fr) ≡ free_frames t
   free_same = ap (count_by (λ (o : Option Owner). is_none o)) owners_same
 
@@ -582,7 +643,8 @@ module _ (t : Table) (up : List Bool) (files : List KeptFile) (dirty fr : ℕ) (
       (ap (λ (rows : List (List ℕ)). length rows) bytes_same)
       (subst (λ (rows : List (List ℕ)). All (λ (row : List ℕ). length row ≡ (accessed t fr).size) rows) (sym bytes_same)
       (subst (λ n. All (λ (row : List ℕ). length row ≡ n) t.bytes) (sym same_size) s.sized))
-      free_same accessed_seen
+      free_same (λ g aside. ap (λ (flags : List Bool). slice_index_or flags g false) (sym aside_same) ∙ aside)
+      accessed_seen
 
 -- ---- at the start, and a new file
 
@@ -604,6 +666,7 @@ store_start size frames up few flags =
     record {
       owned = λ f p x e. absurd (no_pages f p x e);
       bare = λ f p x e. absurd (no_pages f p x e);
+      busy = λ f p x e. absurd (no_pages f p x e);
       counted = omega (arith, free, owners);
       sized = all_replicated (λ (row : List ℕ). length row ≡ size) frames (replicate size 0) (length-replicate size 0);
       rows = length-replicate frames (replicate size 0) ∙ sym owners;
@@ -611,9 +674,6 @@ store_start size frames up few flags =
       few = omega (arith, owners, few);
       dirty_is = refl;
     }
-
-pub free_start : (size frames : ℕ) → free_frames (new_table size frames) ≡ frames
-free_start size frames = sum_by-replicate (λ (x : Option Owner). cond (is_none x) 1 0) frames None ∙ omega arith
 
 none_dirty : dirty_in no_file ≡ 0
 none_dirty = ap (sum_by (λ (e : ℕ × Page). cond e.1.tags.dirty 1 0)) (no_entries nat_cmp)
@@ -624,6 +684,7 @@ store_push t up files dirty s =
     record {
       owned = λ f p x e. s.owned f p x (sym (entry-push files f p) ∙ e);
       bare = λ f p x e. s.bare f p x (sym (entry-push files f p) ∙ e);
+      busy = λ f p x e. s.busy f p x (sym (entry-push files f p) ∙ e);
       counted =
           omega (
             arith,
@@ -671,6 +732,7 @@ store_file t up files dirty f k is here s =
     record {
       owned = λ g q x e. s.owned g q x (sym (entry-kept files f k here is g q) ∙ e);
       bare = λ g q x e. s.bare g q x (sym (entry-kept files f k here is g q) ∙ e);
+      busy = λ g q x e. s.busy g q x (sym (entry-kept files f k here is g q) ∙ e);
       counted =
           omega (
             arith,

@@ -35,9 +35,6 @@ module _ (t : Table) (up : List Bool) (files : List KeptFile) (dirty : ℕ) (s :
   file = file_of t up (kept_at files f)
 
   module _ (y : Sync) where
-    abbrev in_reach : ℕ → Bool
-    in_reach q = in_range y q && unwrap_or (option_map (λ p. nat_lt p q) y.started) true
-
     abbrev lowest : Option (ℕ × Page)
     lowest = find (machine.is_left y) (finmap.entries file.pages)
 

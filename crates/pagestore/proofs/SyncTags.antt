@@ -1,15 +1,16 @@
 -- The DIRTY pages of a file become TOWRITE, in its mapping and as the store shows them.
-use Rattle.std.proofs.Common.{◌≡◌, ℕ, ◌+◌, ◌<◌, Bool, true, false, cond, eqb, eqb-true, List, [], ◌∷◌, length}
+use Rattle.std.proofs.Common.{◌≡◌, ℕ, ◌+◌, ◌<◌, Bool, true, false, cond, not, eqb, eqb-true, List, [], ◌∷◌, length}
 use Rattle.std.proofs.Common.{refl, ap, sym, subst, ◌∙◌, arith, map, fold, count_by}
 use Rattle.std.specs.Prelude.{◌&&◌, ◌||◌, Option, Some, None, option_map, slice_set, slice_index_or, sum_by}
 use Rattle.std.specs.Option.{option_and_then}
 use Rattle.std.specs.Ordering.{nat_cmp}
 use Rattle.std.specs.FinMap as finmap
 use Rattle.std.specs.FinMap.{FinMap}
+use Rattle.std.proofs.lemmas.Bool.{false≢true}
 use Rattle.std.proofs.lemmas.List.{get_or_read, length-map, length-set}
 use Rattle.std.proofs.lemmas.List.Sums.{sum_by-set}
 use Rattle.pc_types.specs.Tags.{TagSet, no_tags}
-use Rattle.frames.specs.Table.{Table, owner_of}
+use Rattle.frames.specs.Table.{Table, is_aside, owner_of}
 use Rattle.frames.specs.Rows.{row_at}
 use Rattle.mapping.specs.Pages.{FilePages, Mapped, Pages}
 use Rattle.writeback.specs.Picks as picks
@@ -18,7 +19,7 @@ use Rattle.machine.specs.State.{Sync, in_range, File, Page, no_file, dirty_in}
 use Rattle.maps.specs.Maps.{each_value}
 use Rattle.machine.specs.Changes.{to_write}
 use Rattle.pagestore.specs.Store.{Store, IsStore, store_of, none_kept, is_uptodate, awaits, page_of, file_of, each_seen}
-use Rattle.pagestore.specs.Store.{kept_at, entry_at, stored_at, with_pages}
+use Rattle.pagestore.specs.Store.{is_untagged, kept_at, entry_at, stored_at, with_pages}
 use Rattle.maps.proofs.MapLaws.{entries-each_value, len-each_value, same_nat_map}
 use Rattle.maps.proofs.Maps.{get-each_value}
 use Rattle.machine.proofs.changes.StateLaws.{get_or-set}
@@ -35,6 +36,20 @@ marked y = picks.to_write y.first y.last
 no_mark : (y : Sync) (p : ℕ) (x : Mapped) → x.tags ≡ no_tags → (marked y p x).tags ≡ no_tags
 no_mark y p x e = ap (λ (g : TagSet). let g : TagSet = record g { towrite = g.towrite || g.dirty && in_range y p } in g)
     e
+
+no_less : (y : Sync) (p : ℕ) (x : Mapped) → is_untagged x.tags ≡ false → is_untagged (marked y p x).tags ≡ false
+no_less y p x e = go x.tags.dirty x.tags.writeback x.tags.towrite (in_range y p) e
+  where
+    go : (d w h r : Bool) → (not d && not w && not h) ≡ false → (not d && not w && not (h || d && r)) ≡ false
+    go true w h r e = refl
+    go false true h r e = refl
+    go false false true r e = refl
+    go false false false r e = absurd (false≢true (sym e))
+
+still_busy : (ready before after : Bool) → (ready && before) ≡ false → (before ≡ false → after ≡ false)
+    → (ready && after) ≡ false
+still_busy true before after e h = h e
+still_busy false before after e h = refl
 
 module _ (t : Table) (up : List Bool) (y : Sync) where
   page_marked : (p : ℕ) (x : Mapped) → page_of t up (marked y p x) ≡ option_map (to_write y p) (page_of t up x)
@@ -110,10 +125,12 @@ module _ (t : Table) (up : List Bool) (files : List KeptFile) (dirty : ℕ) (s :
   -- an entry was one with the same frame
   was : (g q : ℕ) (x : Mapped) → entry_at (slice_set files f after) g q ≡ Some x
       → (z : Mapped) × (entry_at files g q ≡ Some z) × (z.frame ≡ x.frame) × (z.tags ≡ no_tags → x.tags ≡ no_tags)
+      × (is_untagged z.tags ≡ false → is_untagged x.tags ≡ false)
   was g q x e = go (eqb g f) (entry_at files g q) refl (sym (at g q) ∙ e)
     where
       go : (b : Bool) (o : Option Mapped) → entry_at files g q ≡ o → cond b (option_map (marked y q) o) o ≡ Some x
           → (z : Mapped) × (entry_at files g q ≡ Some z) × (z.frame ≡ x.frame) × (z.tags ≡ no_tags → x.tags ≡ no_tags)
+          × (is_untagged z.tags ≡ false → is_untagged x.tags ≡ false)
       go true None i h = absurd cc
       go false None i h = absurd cc
       go true (Some z) i h =
@@ -123,10 +140,17 @@ module _ (t : Table) (up : List Bool) (files : List KeptFile) (dirty : ℕ) (s :
             ap (λ (v : Mapped). v.frame) same,
             λ none. ap (λ (v : Mapped). v.tags) (sym same)
                 ∙ no_mark y q z none,
+            λ tagged. ap (λ (v : Mapped). is_untagged v.tags) (sym same) ∙ no_less y q z tagged,
           ))
       go false (Some z) i h =
           (let same : z ≡ x =
-          cc in (z, i, ap (λ (v : Mapped). v.frame) same, λ none. ap (λ (v : Mapped). v.tags) (sym same) ∙ none))
+          cc in (
+            z,
+            i,
+            ap (λ (v : Mapped). v.frame) same,
+            λ none. ap (λ (v : Mapped). v.tags) (sym same) ∙ none,
+            λ tagged. ap (λ (v : Mapped). is_untagged v.tags) (sym same) ∙ tagged,
+          ))
 
   seen_after : store_of t up (slice_set files f after) ≡ record (store_of t up files)
       { files = slice_set (map (file_of t up) files) f (file_of t up after) }
@@ -183,6 +207,10 @@ module _ (t : Table) (up : List Bool) (files : List KeptFile) (dirty : ℕ) (s :
             subst (λ n. owner_of t n ≡ Some (record { 0 = g }, record { 0 = q })) w.2 (s.owned g q w.0 w.1));
         bare = λ g q x e free. (let w = was g q x e in
             w.3 (s.bare g q w.0 w.1 (ap (λ n. slice_index_or up n false) w.2 ∙ free)));
+        busy = λ g q x e aside. (let w = was g q x e in
+            still_busy (is_uptodate up x) (is_untagged w.0.tags) (is_untagged x.tags)
+            (ap (λ n. slice_index_or up n false && is_untagged w.0.tags) (sym w.2)
+            ∙ s.busy g q w.0 w.1 (ap (is_aside t) w.2 ∙ aside)) w.4);
         counted =
             omega (
               arith,

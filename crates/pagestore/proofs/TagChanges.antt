@@ -7,7 +7,7 @@ use Rattle.std.specs.Prelude.{All, Some, None, is_some, option_map, slice_set, s
 use Rattle.std.specs.FinMap as finmap
 use Rattle.std.proofs.lemmas.Bool.{false≢true}
 use Rattle.std.proofs.lemmas.List.{get_or_read, set-get_or}
-use Rattle.frames.specs.Table.{Table, free_frames, is_taken}
+use Rattle.frames.specs.Table.{Table, free_frames, is_aside, is_taken}
 use Rattle.frames.specs.Rows.{row_at, with_row}
 use Rattle.frames.proofs.RowLemmas.{with_row-whole}
 use Rattle.pc_types.specs.declared.tags.Tag.TheVariants.{Dirty}
@@ -17,7 +17,7 @@ use Rattle.pagestore.specs.declared.pages.Pages.TheInside.{Inside}
 use Rattle.machine.specs.State.{Page}
 use Rattle.pagestore.specs.Ranges.{with_part}
 use Rattle.pagestore.specs.Store.{the_page, Store, IsStore, store_of, none_kept, is_uptodate, has_page, kept_at}
-use Rattle.pagestore.specs.Store.{entry_at, stored_at, stored_page, with_pages}
+use Rattle.pagestore.specs.Store.{entry_at, is_untagged, stored_at, stored_page, with_pages}
 use Rattle.pagestore.proofs.StoreLaws.{cached_at, cached_entry, some_entry, some_mapped, with_kept}
 use Rattle.pagestore.proofs.StoreFacts.{here_kept, page_store, page_after_is, changed_entry, the_page_is, page_taken}
 use Rattle.pagestore.proofs.StoreFacts.{page_size, dirty_least, the_mapped, mapped_some, row_with, row_put}
@@ -37,35 +37,8 @@ pub record CachedPage : Type 0 where
   pub value : found ≡ slice_index_or pages.files.items file found
 
 module _ (w : CachedPage) where
-  abbrev t : Table
-  t = w.pages.frames
-
-  abbrev up : List Bool
-  up = w.pages.uptodate.items
-
-  abbrev files : List KeptFile
-  files = w.pages.files.items
-
-  abbrev dirty : ℕ
-  dirty = w.pages.dirty
-
-  abbrev store : Store
-  store = w.store
-
-  abbrev f : ℕ
-  f = w.file
-
-  abbrev p : ℕ
-  p = w.page
-
-  abbrev k : KeptFile
-  k = w.found
-
-  s : IsStore t up files dirty
-  s = w.kept
-
-  is : store_of t up files ≡ store
-  is = w.seen
+  open w use {store, file as f, page as p, found as k, kept as s, seen as is}
+  open w.pages use {frames as t, dirty, uptodate.{items as up}, files.{items as files}}
 
   here : f < length files
   here = here_kept t up files f store w.seen w.here
@@ -126,14 +99,14 @@ module _ (w : CachedPage) where
       same_rows : slice_set t.bytes x.frame (row_at t.bytes x.frame) ≡ t.bytes
       same_rows = set-get_or t.bytes x.frame []
 
-      pub tagged_store : (now : ℕ) → now + cond x.tags.dirty 1 0 ≡ dirty + cond (change x).tags.dirty 1 0
+      pub tagged_store : (now : ℕ) → (is_aside t x.frame ≡ true → is_untagged (change x).tags ≡ false) → now + cond x.tags.dirty 1 0 ≡ dirty + cond (change x).tags.dirty 1 0
           → IsStore t up (slice_set files f (record k { mapping = m })) now
-      tagged_store now marks =
+      tagged_store now quiet marks =
           subst (λ (l : KeptFile). IsStore t up (slice_set files f l) now) (sym kept)
           (subst (λ (rows : List (List ℕ)). IsStore (record t { bytes = rows }) up
           (slice_set files f (with_kept (kept_at files f) p (Some (change x)))) now) same_rows
           (page_store t up files dirty f p x s here there ready (row_at t.bytes x.frame)
-          (page_size t up files dirty s f p x there) (change x) frame now marks))
+          (page_size t up files dirty s f p x there) (change x) frame now quiet marks))
 
       pub tagged_seen : (after : Page → Page) → record { bytes = row_at t.bytes x.frame; tags = (change x).tags }
           ≡ after (record { bytes = row_at t.bytes x.frame; tags = x.tags })
@@ -190,7 +163,8 @@ module _ (w : CachedPage) where
             (slice_set files f (record k { mapping = m })) now) (sym rows_are)
             (subst (λ (l : KeptFile). IsStore (record t { bytes = slice_set t.bytes x.frame row }) up
             (slice_set files f l) now) (sym (kept (with_tag Dirty true) refl m changed))
-            (page_store t up files dirty f p x s here there ready row long (with_tag Dirty true x) refl now marks))
+            (page_store t up files dirty f p x s here there ready row long (with_tag Dirty true x) refl now (λ aside. refl)
+            marks))
 
         pub put_seen : store_of (record t { bytes = rows }) up (slice_set files f (record k { mapping = m }))
             ≡ with_pages store f (finmap.insert (stored_at store f).pages p

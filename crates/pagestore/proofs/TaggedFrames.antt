@@ -1,7 +1,7 @@
 -- A page that is DIRTY, found by its frame: it is cached, gets other bytes, and is accessed.
-use Rattle.std.proofs.Common.{◌≡◌, ℕ, ◌+◌, ◌-◌, ◌<◌, ◌≤◌, Bool, true, false, List, length, refl, ap, sym, subst, ◌∙◌}
+use Rattle.std.proofs.Common.{◌≡◌, ℕ, ◌+◌, ◌-◌, ◌<◌, ◌≤◌, Bool, true, false, List, length, refl, ap, sym, subst, ◌∙◌, not}
 use Rattle.std.proofs.Common.{arith}
-use Rattle.std.specs.Prelude.{Option, Some, None, is_some, option_map, slice_set, slice_index_or}
+use Rattle.std.specs.Prelude.{◌&&◌, Option, Some, None, is_some, option_map, slice_set, slice_index_or}
 use Rattle.std.specs.FinMap as finmap
 use Rattle.std.proofs.lemmas.Bool.{false≢true}
 use Rattle.std.proofs.lemmas.List.{length-set}
@@ -44,32 +44,8 @@ none_tagged false o is absent = refl
 
 -- k is file f
 module _ (w : FilePage) (k : KeptFile) (value : k ≡ slice_index_or w.pages.files.items w.file k) where
-  abbrev t : Table
-  t = w.pages.frames
-
-  abbrev up : List Bool
-  up = w.pages.uptodate.items
-
-  abbrev files : List KeptFile
-  files = w.pages.files.items
-
-  abbrev dirty : ℕ
-  dirty = w.pages.dirty
-
-  abbrev store : Store
-  store = w.store
-
-  abbrev f : ℕ
-  f = w.file
-
-  abbrev p : ℕ
-  p = w.page
-
-  s : IsStore t up files dirty
-  s = w.kept
-
-  is : store_of t up files ≡ store
-  is = w.seen
+  open w use {store, file as f, page as p, kept as s, seen as is}
+  open w.pages use {frames as t, dirty, uptodate.{items as up}, files.{items as files}}
 
   here : f < length files
   here = file_here w
@@ -134,7 +110,8 @@ module _ (w : FilePage) (k : KeptFile) (value : k ≡ slice_index_or w.pages.fil
 
       put_store : IsStore u up files dirty
       put_store = subst (λ (fs : List KeptFile). IsStore u up fs dirty) (kept_same files f p x there)
-          (page_store t up files dirty f p x s here there ready row long x refl dirty refl)
+          (page_store t up files dirty f p x s here there ready row long x refl dirty
+          (λ aside. ap (λ b. not b && not x.tags.writeback && not x.tags.towrite) has_tag) refl)
 
       part : record { bytes = row; tags = x.tags } ≡ with_part (the_page (stored_at (store_of t up files) f).pages p) at
           b
@@ -183,6 +160,7 @@ module _ (w : FilePage) (k : KeptFile) (value : k ≡ slice_index_or w.pages.fil
               apart = sound.apart;
               listed = sound.listed;
               flags = sound.flags;
+              asides = sound.asides;
               rows = length-set t.bytes frame.0 row ∙ sound.rows;
             } in
             let lists : lists_of (table.accessed u frame.0) ≡ accessed f p store.lists =

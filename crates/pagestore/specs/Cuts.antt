@@ -6,24 +6,13 @@ use Rattle.std.specs.FinMap as map
 use Rattle.std.specs.FinSet as set
 use Rattle.pc_types.specs.declared.ids.FileId.{FileId}
 use Rattle.pc_types.specs.declared.ids.PageIndex.{PageIndex}
-use Rattle.pc_types.specs.Tags.{TagSet}
-use Rattle.frames.specs.Table.{Table, owner_of}
-use Rattle.mapping.specs.Pages.{Mapped}
+use Rattle.frames.specs.Table.{Table, is_aside, owner_of}
 use Rattle.pagestore.specs.declared.kept.KeptFile.{KeptFile}
 use Rattle.machine.specs.State.{Page, is_idle}
 use Rattle.machine.specs.PageLists.{Listed, left, cut_off}
 use Rattle.machine.specs.ListChanges.{is_idle_page}
-use Rattle.pagestore.specs.Store.{Store, is_uptodate, entry_at, stored_at, stored_page, is_awaited, with_pages}
+use Rattle.pagestore.specs.Store.{Store, is_idle_entry, entry_at, stored_at, stored_page, is_awaited, with_pages}
 use Rattle.pagestore.specs.Store.{with_lists}
-
--- whether a page has no tag
-abbrev pub is_untagged : TagSet → Bool
-is_untagged t = not t.dirty && not t.writeback && not t.towrite
-
--- whether there is an entry whose page is idle: cached, and without tags
-abbrev pub is_idle_entry : List Bool → Option Mapped → Bool
-is_idle_entry up None = false
-is_idle_entry up (Some x) = is_uptodate up x && is_untagged x.tags
 
 -- whether the page that a frame was taken for is idle
 abbrev pub is_idle_owner : List Bool → List KeptFile → Option (FileId × PageIndex) → Bool
@@ -32,6 +21,10 @@ is_idle_owner up files (Some owner) = is_idle_entry up (entry_at files owner.0.0
 
 abbrev pub is_idle_frame : Table → List Bool → List KeptFile → ℕ → Bool
 is_idle_frame t up files frame = is_idle_owner up files (owner_of t frame)
+
+-- no frame that is set aside has an idle page
+abbrev pub AreBusy : Table → List Bool → List KeptFile → Type 0
+AreBusy t up files = (frame : ℕ) → is_aside t frame ≡ true → is_idle_frame t up files frame ≡ false
 
 -- whether a listed page is idle
 abbrev pub is_idle_at : Store → Listed → Bool

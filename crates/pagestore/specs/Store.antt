@@ -13,8 +13,8 @@ use Rattle.pc_types.specs.declared.ids.FileId.{FileId}
 use Rattle.pc_types.specs.declared.ids.PageIndex.{PageIndex}
 use Rattle.pc_types.specs.declared.limits.TheConstants.{MAX_FRAMES}
 use Rattle.pc_types.specs.Spots.{place_cmp}
-use Rattle.pc_types.specs.Tags.{no_tags}
-use Rattle.frames.specs.Table.{Table, owner_of, is_referenced, free_frames}
+use Rattle.pc_types.specs.Tags.{TagSet, no_tags}
+use Rattle.frames.specs.Table.{Table, owner_of, is_referenced, is_aside, free_frames}
 use Rattle.frames.specs.Rows.{row_at}
 use Rattle.mapping.specs.Pages.{Mapped}
 use Rattle.pagestore.specs.declared.kept.KeptFile.{KeptFile}
@@ -39,6 +39,15 @@ has_page up (Some x) = is_uptodate up x
 abbrev pub awaits : List Bool → Option Mapped → Bool
 awaits up None = false
 awaits up (Some x) = not (is_uptodate up x)
+
+-- whether a page has no tag
+abbrev pub is_untagged : TagSet → Bool
+is_untagged t = not t.dirty && not t.writeback && not t.towrite
+
+-- whether there is an entry whose page is idle: cached, and without tags
+abbrev pub is_idle_entry : List Bool → Option Mapped → Bool
+is_idle_entry up None = false
+is_idle_entry up (Some x) = is_uptodate up x && is_untagged x.tags
 
 -- a cached page: the bytes of its frame, and its tags
 abbrev pub page_of : Table → List Bool → Mapped → Option Page
@@ -177,11 +186,13 @@ pub record AreMade (f first end : ℕ) (old new : Store) : Type 0 where
 
 -- each entry has a frame of its own, which was taken for its page, and every taken frame is an entry's. A page that is
 -- filling
--- has no tags. `dirty` counts the DIRTY pages
+-- has no tags. A frame that is set aside has no idle page. `dirty` counts the DIRTY pages
 pub record IsStore (t : Table) (up : List Bool) (files : List KeptFile) (dirty : ℕ) : Type 0 where
   pub owned : (f p : ℕ) (x : Mapped) → entry_at files f p ≡ Some x
       → owner_of t x.frame ≡ Some (record { 0 = f }, record { 0 = p })
   pub bare : (f p : ℕ) (x : Mapped) → entry_at files f p ≡ Some x → is_uptodate up x ≡ false → x.tags ≡ no_tags
+  pub busy : (f p : ℕ) (x : Mapped) → entry_at files f p ≡ Some x → is_aside t x.frame ≡ true
+      → is_idle_entry up (Some x) ≡ false
   pub counted : sum_by (λ k. finmap.len k.mapping.pages) files + free_frames t ≡ length t.owners
   pub sized : All (λ row. length row ≡ t.size) t.bytes
   pub rows : length t.bytes ≡ length t.owners

@@ -6,8 +6,7 @@ ghost use Rattle.std.specs.FinMap as map;
 ghost use Rattle.pc_types.specs.declared.tags.Tag.TheVariants.{Dirty};
 ghost use Rattle.mapping.specs.Pages.{frame_of, has_at};
 ghost use Rattle.pc_types.specs.TagBits.{tag_set};
-ghost use Rattle.pagestore.specs.Cuts.{is_untagged, is_idle_entry};
-ghost use Rattle.pagestore.specs.Store.{none_kept, has_page};
+ghost use Rattle.pagestore.specs.Store.{none_kept, has_page, is_untagged, is_idle_entry};
 
 use frames::Frames;
 use mapping::Mapping;

@@ -36,6 +36,8 @@ impl Pages {
         let Some(frame) = self.files[file as usize].mapping.frame(PageIndex(page)) else {
             unreachable!()
         };
+        // the page is idle now, so that an eviction finds it
+        self.frames.put_back(frame);
         self.frames.bytes_mut(frame).copy_from_slice(bytes);
         self.uptodate[frame.0 as usize] = true;
     }

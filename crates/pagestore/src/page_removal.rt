@@ -4,7 +4,8 @@ ghost use Rattle.std.specs.Prelude.{◌≡◌, ◌+◌, ◌<◌, ◌≤◌, ◌|
 ghost use Rattle.std.specs.FinMap as map;
 ghost use Rattle.pagestore.specs.Store.{the_page, is_awaited, stored_at, stored_page, with_pages, with_lists};
 ghost use Rattle.machine.specs.Changes.{cut_page};
-ghost use Rattle.pagestore.specs.Cuts.{Evicts, RemovesFrom, is_idle_at, is_idle_frame};
+ghost use Rattle.frames.specs.Table as table;
+ghost use Rattle.pagestore.specs.Cuts.{AreBusy, Evicts, RemovesFrom, is_idle_at, is_idle_frame};
 ghost use Rattle.machine.specs.ListChanges.{numbers};
 ghost use Rattle.machine.specs.PageLists.{aged, cut_off, active_target, place, scan_order};
 
@@ -74,14 +75,32 @@ impl Pages {
     {
         // for what `free_count` ensures: each frame that is taken is in one of the two lists
         prove!(self.frames.free_count() <= MAX_FRAMES);
-        let is_idle = |frame| is_idle_frame(&self.frames, &self.uptodate, &self.files, frame);
-        let victim = self.frames.scan(is_idle)?;
+        let victim = first_idle(&mut self.frames, &self.uptodate, &self.files)?;
         let Some((file, page)) = self.frames.owner(victim) else {
             unreachable!()
         };
         self.leave(file.0, page.0);
         Some((file, page))
     }
+}
+
+/// The first frame in the order of eviction whose page is idle. Those before it are set aside, so that the next search does not
+/// come to them again.
+fn first_idle(frames: &mut Frames, uptodate: &[bool], files: &[KeptFile]) -> Option<FrameId>
+    requires busy { AreBusy frames.old uptodate.now files.now }
+    ensures first { option_map (λ frame. frame.0) result ≡ find (is_idle_frame frames.old uptodate.now files.now) (table.scan_order frames.old) }
+    ensures aside { frames.new ≡ record frames.old { aside = frames.new.aside } }
+    ensures busy { AreBusy frames.new uptodate.now files.now }
+{
+    while let Some(frame) = frames.oldest() {
+        if is_idle_frame(frames, uptodate, files, frame) {
+            return Some(frame);
+        }
+        // for what `free_count` ensures: each frame in a list is taken
+        prove!(frames.free_count() <= u64::MAX);
+        frames.set_aside(frame);
+    }
+    None
 }
 
 /// Whether the page that has the frame is cached and has no tag.

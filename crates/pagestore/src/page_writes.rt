@@ -69,9 +69,14 @@ impl Pages {
         ensures { self.new ≡ with_pages self.old file (map.insert (stored_at self.old file).pages page (after_write failed (the_page (stored_at self.old file).pages page))) self.old.free }
     {
         let mapping = &mut self.files[file as usize].mapping;
-        let was_dirty = mapping.has_tag(PageIndex(page), Tag::Dirty);
+        let Some(mapped) = mapping.page(PageIndex(page)) else {
+            unreachable!()
+        };
+        let was_dirty = mapped.tags.has(Tag::Dirty);
         writeback::end_write(mapping, PageIndex(page), failed);
         self.dirty += u64::from(failed && !was_dirty);
+        // the page may be idle now, so that an eviction finds it
+        self.frames.put_back(mapped.frame);
     }
 
     /// How many writes of the file failed.

@@ -217,10 +217,9 @@ impl Pages {
         // for what `free_count` ensures: each frame in a list is taken
         prove!(self.frames.free_count() <= MAX_FRAMES);
         let mapping = &mut self.files[file as usize].mapping;
-        let Some(mapped) = mapping.page(PageIndex(page)) else {
+        let Some(mapped) = mapping.take_page(PageIndex(page)) else {
             unreachable!()
         };
-        let _ = mapping.remove_page(PageIndex(page));
         self.dirty -= u64::from(mapped.tags.has(Tag::Dirty));
         self.frames.give(mapped.frame);
     }

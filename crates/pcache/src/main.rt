@@ -1,41 +1,93 @@
 #![tactic(auto)]
-//! The program of the page cache: `pcache run` reads a script of cache calls and prints what each answers (crate `script`).
+//! The program of the page cache. `pcache run` reads a script of cache calls and prints what each answers; `pcache storm` makes
+//! calls from many threads at once, and replays their history.
+//!
+//! `storm` runs a storm: `options` says what it is asked for, `caller` has a thread that makes calls, `member` its seat, `steps` which
+//! calls these are, `crew` the workers, and `told` what is printed. `odd` says which entry of a history is not as plain files answer,
+//! which are those of `plain`.
 
-ghost use Rattle.std.specs.Prelude.{◌≡◌};
-ghost use Rattle.textline.specs.Stops.{IsStatus};
+ghost use Rattle.std.specs.Prelude.{◌≡◌, IsOkUnless};
+ghost use Rattle.textline.specs.Stops.{IsStatus, status_of};
+
+mod caller;
+mod crew;
+mod member;
+mod odd;
+mod options;
+mod plain;
+mod steps;
+mod storm;
+#[cfg(test)]
+mod tests;
+mod told;
 
 use script::{run_script, say};
+use std::alloc::Global;
 use std::env;
+use std::fs::{File, Files};
 use std::io::{BufReader, BufWriter, Write};
 use std::process::ExitCode;
+use std::string::String;
+use std::sync::Wait;
+use std::thread::Threads;
+use std::time::SystemTime;
+use storm::{Weather, run_storm};
 use textline::Stop;
+use textline::words::number;
+use told::say_usage;
 
-fn main(rt: HostRuntime) -> ExitCode {
-    ExitCode::from(run_program(&rt))
+/// What the program is asked to do.
+#[derive(Drop)]
+enum Request {
+    Run,
+    /// A storm, with the words after `storm`.
+    Storm(Vec<String>),
+    Neither,
 }
 
-/// Does what the arguments ask for, and gives the status.
-fn run_program(rt: &HostRuntime) -> u8
-    ensures { IsStatus result }
-{
-    match env::args(rt) {
-        Ok(arguments) => {
-            if arguments
-                .skip(1)
-                .map(|word| word.as_str() == "run")
-                .eq([true])
-            {
-                return run_streams(rt);
-            }
+fn main(rt: HostRuntime) -> ExitCode {
+    let status = match request_of(&rt) {
+        Ok(Request::Run) => run_streams(&rt),
+        Ok(Request::Storm(words)) => {
+            let (mut out, mut err) = (rt.stdout(), rt.stderr());
+            run_threads(&rt, rt.alloc(), &words, weather(&rt), &mut out, &mut err)
         }
+        Ok(Request::Neither) => {
+            let _ = say_usage(&mut rt.stderr());
+            2
+        }
+        Err(stop) => say_stop(&mut rt.stderr(), stop),
+    };
+    ExitCode::from(status)
+}
+
+/// What the arguments ask for. It is refused by want of memory alone.
+fn request_of(rt: &HostRuntime) -> Result<Request, Stop>
+    ensures { IsOkUnless result Stop.Memory }
+{
+    let mut words = match env::args(rt) {
+        Ok(words) => words.skip(1),
         Err(error) => {
-            if Stop::of_input(&error) == Stop::Memory {
-                return say_memory(rt);
-            }
+            return match Stop::of_input(&error) {
+                Stop::Memory => Err(Stop::Memory),
+                _ => Ok(Request::Neither),
+            };
+        }
+    };
+    let Some(first) = words.next() else {
+        return Ok(Request::Neither);
+    };
+    let mut rest = Vec::new(rt.alloc());
+    for word in words {
+        if rest.push(word).is_err() {
+            return Err(Stop::Memory);
         }
     }
-    let _ = writeln!(rt.stderr(), "pcache: usage: pcache run");
-    2
+    match first.as_str() {
+        "run" if rest.is_empty() => Ok(Request::Run),
+        "storm" => Ok(Request::Storm(rest)),
+        _ => Ok(Request::Neither),
+    }
 }
 
 /// Runs the script on standard input.
@@ -48,13 +100,56 @@ fn run_streams(rt: &HostRuntime) -> u8
         BufWriter::new(alloc, rt.stdout()),
     ) {
         (Ok(reader), Ok(mut out)) => run_script(alloc, reader, &mut out, &mut rt.stderr()),
-        _ => say_memory(rt),
+        _ => say_stop(&mut rt.stderr(), Stop::Memory),
     }
 }
 
-fn say_memory(rt: &HostRuntime) -> u8
-    ensures { result ≡ 4 }
+/// Runs the storm that these words ask for.
+fn run_threads<R: Threads + Wait + Files<File = File> + Sync, W: Write, E: Write>(
+    rt: &R,
+    alloc: Global,
+    owned: &[String],
+    weather: Weather,
+    out: &mut W,
+    err: &mut E,
+) -> u8 {
+    let mut words = Vec::new(alloc);
+    for word in owned {
+        if words.push(word.as_str()).is_err() {
+            return say_stop(err, Stop::Memory);
+        }
+    }
+    run_storm(rt, alloc, &words, weather, out, err)
+}
+
+/// What the environment says of a storm. The seed is the time of day where it says none, so that each storm is another.
+fn weather(rt: &HostRuntime) -> Weather {
+    Weather {
+        seed: variable(rt, "PCACHE_SEED").unwrap_or(now(rt)),
+        faults: variable(rt, "PCACHE_FAULTS").unwrap_or(0),
+    }
+}
+
+/// The number in a variable of the environment, where it has one.
+fn variable(rt: &HostRuntime, name: &str) -> Option<u64> {
+    number(env::var(rt, name).ok()?.as_bytes())
+}
+
+/// The time of day in nanoseconds, or 0 where there is none.
+fn now(rt: &HostRuntime) -> u64 {
+    let Ok(time) = SystemTime::now(rt) else {
+        return 0;
+    };
+    match time.duration_since(SystemTime::UNIX_EPOCH) {
+        Ok(since) => u64::try_from(since.as_nanos()).unwrap_or(0),
+        Err(_) => 0,
+    }
+}
+
+/// Says why the program ends, and gives the status.
+fn say_stop<E: Write>(err: &mut E, stop: Stop) -> u8
+    ensures { result ≡ status_of stop }
 {
-    let _ = say(&mut rt.stderr(), Stop::Memory);
-    Stop::Memory.status()
+    let _ = say(err, stop);
+    stop.status()
 }

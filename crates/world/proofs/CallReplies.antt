@@ -176,18 +176,6 @@ pub same_table : (core : State) (jobs : Jobs) (dev : Watch) → IsWorld core job
     → IsWorld core table dev
 same_table core jobs dev w table e = subst (λ m. IsWorld core m dev) (sym e) w
 
--- so does another device with as many blocks of the same size
-pub same_blocks : (core : State) (jobs : Jobs) (dev : Watch) → IsWorld core jobs dev → (after : Watch)
-    → after.device.size ≡ dev.device.size → after.device.count ≡ dev.device.count → IsWorld core jobs after
-same_blocks core jobs dev w after size count =
-    record {
-      page_size = w.page_size;
-      each_job = w.each_job;
-      count = w.count;
-      block_size = size ∙ w.block_size;
-      block_count = count ∙ w.block_count;
-    }
-
 -- ---- an end where the call was made
 
 module _ (core : State) (jobs : Jobs) (dev : Watch) (w : IsWorld core jobs dev) (t : ℕ) (f : FinishedTask)

@@ -156,13 +156,6 @@ module _ (core : State) (jobs : Jobs) (dev : Watch) (w : IsWorld core jobs dev) 
     asked : (x : Request) × (finmap.get core.requests t ≡ Some x) × IsJob core t x (Asked job)
     asked = request_of core t (finmap.get core.requests t) (finmap.get jobs t) (Asked job) (w.each_job t) is
 
-    -- the device has its block, and the buffer is as long as one
-    pub call_within : job.block < dev.device.count
-    call_within = subst (λ n. job.block < n) (sym w.block_count) asked.2.fits.block
-
-    pub call_sized : length job.bytes ≡ dev.device.size
-    call_sized = asked.2.fits.size ∙ sym w.block_size
-
     module _ (done : FinishedTask) (after : Watch) (p : Makes dev job done after) where
       abbrev table : Jobs
       table = finmap.insert jobs t (Made done)

@@ -3,7 +3,7 @@
 -- Of any world.
 use Rattle.std.proofs.Common.{◌≡◌, ◌≢◌, ℕ, ◌+◌, ◌<◌, Bool, true, false, cond, not, refl, ap, sym, ◌∙◌, arith, inl}
 use Rattle.std.proofs.Common.{inr}
-use Rattle.std.specs.Prelude.{◌⊎◌, ◌||◌, Option, Some, None, is_some, nat_le}
+use Rattle.std.specs.Prelude.{◌⊎◌, ◌||◌, Option, Some, None, nat_le}
 use Rattle.std.specs.Ordering.{nat_cmp}
 use Rattle.std.specs.FinMap as finmap
 use Rattle.std.specs.FinMap.{FinMap, get-empty, len-empty}
@@ -25,7 +25,7 @@ use Rattle.machine.specs.Changes.{ended, flush_failed, request_ended}
 use Rattle.machine.specs.Tests.{is_full}
 use Rattle.machine.specs.Step.{Step}
 use Rattle.machine.proofs.steps.Ends.{end_loud, of_end, own_end}
-use Rattle.runs.specs.World.{World, Move, Act, Call, Finish, Calls, Ends, IsAct, WorldStep}
+use Rattle.runs.specs.World.{World, Move, Act, Call, Finish, Ends, IsAct, WorldStep}
 use Rattle.runs.proofs.moments.Histories.{calls}
 use Rattle.runs.proofs.moments.KeptRequests.{Kept, is_end, is_job, of_requests}
 
@@ -211,20 +211,6 @@ none_stays w new e r j none m = record {
   outcomes = ap (λ (x : World). x.outcomes) (only_core w new e r m) ∙ none.outcomes;
 }
 
-pub one_begins : (w new : World) (e : Event) (t : Serial) → NoneInFlight w → WorldStep w (Act e (reply.Job t)) new
-    → OneInFlight new t.0 × (finmap.get new.outcomes t.0 ≡ None)
-one_begins w new e t none m =
-    let b = begins w new e t m in
-    let clear : (u : ℕ) → finmap.get new.outcomes u ≡ None =
-    (λ u. ap (λ o. finmap.get o u) (b.outcomes ∙ none.outcomes) ∙ get-empty nat_cmp u) in (
-      record {
-        request = b.request;
-        requests = b.requests ∙ ap (λ m. finmap.insert m t.0 b.request) none.requests;
-        others = λ u _. clear u;
-      },
-      clear t.0,
-    )
-
 -- the cache stays, and an outcome of the request is noted
 pub one_noted : (w new : World) (t : ℕ) (o : Outcome) → OneInFlight w t → new.core ≡ w.core
     → new.outcomes ≡ finmap.insert w.outcomes t o → OneInFlight new t × (finmap.get new.outcomes t ≡ Some o)
@@ -236,19 +222,6 @@ one_noted w new t o one same noted = (
   },
   ap (λ m. finmap.get m t) noted ∙ here w.outcomes t o,
 )
-
-called : (w new : World) (t : ℕ) (q : Option Request) (o : Option Outcome) (fault : Option ℕ) (effect : Bool)
-    → Calls w t q o fault effect new → (o : Outcome) × (new.outcomes ≡ finmap.insert w.outcomes t o)
-called w new t (Some x) None fault effect h = (_, ap (λ (v : World). v.outcomes) h)
-called w new t (Some x) (Some o) fault effect h = absurd h
-called w new t None o fault effect h = absurd h
-
-pub one_called : (w new : World) (t : ℕ) (fault : Option ℕ) (effect : Bool) → OneInFlight w t
-    → WorldStep w (Call t fault effect) new → OneInFlight new t × (is_some (finmap.get new.outcomes t) ≡ true)
-one_called w new t fault effect one m =
-    let x = called w new t (finmap.get w.core.requests t) (finmap.get w.outcomes t) fault effect m in
-    let y = one_noted w new t x.0 one (call_core w new t fault effect m) x.1 in
-    (y.0, ap is_some y.1)
 
 pub one_ends : (w new : World) (t : ℕ) (r : Reply) → r ≢ reply.Refused Stranger → OneInFlight w t
     → WorldStep w (Finish t r) new → NoneInFlight new

@@ -4,7 +4,6 @@ use Rattle.std.proofs.Common.{◌≡◌, ℕ, Bool, true, false, cond, not, refl
 use Rattle.std.specs.Prelude.{Option, Some, None, is_some, find}
 use Rattle.std.specs.Ordering.{nat_cmp}
 use Rattle.std.specs.FinMap as finmap
-use Rattle.std.specs.FinMap.{get-empty}
 use Rattle.pc_types.specs.declared.ids.PageIndex.{PageIndex}
 use Rattle.pc_types.specs.declared.ids.SyncId.{SyncId}
 use Rattle.pc_types.specs.declared.refusal.Refusal.TheVariants.{TooManyInFlight}
@@ -14,17 +13,13 @@ use Rattle.machine.specs.declared.event.Event.{Event}
 use Rattle.machine.specs.declared.event.Event.TheVariants as event
 use Rattle.machine.specs.declared.event.Reply.{Reply}
 use Rattle.machine.specs.declared.event.Reply.TheVariants as reply
-use Rattle.machine.specs.State.{State, Page, Request, Sync, first_awaited, handle_file, is_awaited, page_at, tags_at}
-use Rattle.machine.specs.State.{tags_of}
+use Rattle.machine.specs.State.{State, Request, Sync, first_awaited, handle_file, is_awaited, tags_at}
 use Rattle.machine.specs.Changes.{sync_pick}
 use Rattle.machine.specs.Tests.{is_full, refuse, start_tests, sync_tests}
 use Rattle.machine.specs.Step.{Step, SyncReply, SyncStepReply}
 use Rattle.machine.proofs.steps.Cases.{Cases, IsVerdict, answered, by_cases}
 use Rattle.machine.proofs.steps.Ends.{own_end}
-use Rattle.runs.specs.Always.{Always}
-use Rattle.runs.specs.Reached.{IsReached}
 use Rattle.runs.specs.World.{World, Move, Act, Call, Finish, WorldStep}
-use Rattle.runs.proofs.moments.Reached.{reached_always}
 use Rattle.world.proofs.InFlight.{call_core, finish_step}
 
 -- ---- steps that leave every sync in progress
@@ -164,28 +159,17 @@ unfolding is_sync_step
 over_leaves_files w new m r over h =
     (by_cases w.core (Leaves w.core) (leaves_cases w.core) (event.SyncStep m) r new.core h.1.0).files refl over
 
--- ---- with no request in flight a sync never waits
+-- ---- with no request in flight, and so no page under WRITEBACK, a sync never waits
 
-module _ (w : World) (always : Always w) (none : w.core.requests ≡ finmap.empty) where
-  abbrev s : State
-  s = w.core
-
-  no_request : (t : ℕ) → finmap.get s.requests t ≡ None
-  no_request t = ap (λ m. finmap.get m t) none ∙ get-empty nat_cmp t
-
-  not_under : (f p : ℕ) (o : Option Page) → page_at s f p ≡ o → (tags_of o).writeback ≡ true → ⊥
-  not_under f p None is tag = cc
-  not_under f p (Some page) is tag =
-      let x = (always.pages f p page is).flush tag in
-      let a = no_request x.0 in let b = x.2 in absurd (let c = sym a ∙ b in cc)
-
+module _ (s : State) (none : s.requests ≡ finmap.empty)
+    (clear : (f p : ℕ) → (tags_at s f p).writeback ≡ true → ⊥) where
   no_start : (f : ℕ) (p : PageIndex) (o : Option ℕ) → start_tests s f o ≡ Some (reply.Wait p) → ⊥
   no_start f p None e = cc
   no_start f p (Some q) e =
       elim (tags_at s f q).writeback as (λ b. (tags_at s f q).writeback ≡ b
       → cond b (Some (reply.Wait (record { 0 = q }))) (cond (is_full s) (refuse TooManyInFlight) None)
       ≡ Some (reply.Wait p) → ⊥) [
-        | true ↦ λ tag j. not_under f q (page_at s f q) refl tag
+        | true ↦ λ tag j. clear f q tag
         | false ↦ λ tag j. elim (is_full s) as (λ b. cond b (refuse TooManyInFlight) None ≡ Some (reply.Wait p) → ⊥)
             [ true ↦ λ k. cc | false ↦ λ k. cc ] j
       ] refl e
@@ -208,12 +192,12 @@ module _ (w : World) (always : Always w) (none : w.core.requests ≡ finmap.empt
   no_wait p None h = h
   no_wait p (Some y) h = no_reply y p (sync_pick s y) (first_awaited s y) (none_awaited y) h
 
-pub never_waits : (w new : World) (m : SyncId) (p : PageIndex) → IsReached w → w.core.requests ≡ finmap.empty
+pub never_waits : (w new : World) (m : SyncId) (p : PageIndex) → w.core.requests ≡ finmap.empty
+    → ((f q : ℕ) → (tags_at w.core f q).writeback ≡ true → ⊥)
     → WorldStep w (Act (event.SyncStep m) (reply.Wait p)) new → ⊥
-never_waits w new m p reached none h =
-    let always = reached_always w reached in
+never_waits w new m p none clear h =
     elim (answered (sync_tests w.core (finmap.get w.core.syncs m.0)) w.core (event.SyncStep m) (reply.Wait p) new.core
     h.1.0) [
-      | inl a ↦ no_test w always none p (finmap.get w.core.syncs m.0) a.0
-      | inr b ↦ no_wait w always none p (finmap.get w.core.syncs m.0) b.1
+      | inl a ↦ no_test w.core none clear p (finmap.get w.core.syncs m.0) a.0
+      | inr b ↦ no_wait w.core none clear p (finmap.get w.core.syncs m.0) b.1
     ]

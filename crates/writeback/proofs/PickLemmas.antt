@@ -334,13 +334,3 @@ ended_tags file one two page a b = b
     or_true : (b : Bool) → true ≡ (b || true)
     or_true true = refl
     or_true false = refl
-
-pub ended_well : (file one : FilePages) (page : ℕ)
-    → one ≡ record file { pages = change_at page (with_tag Writeback false) file.pages }
-    → one ≡ record file { pages = change_at page (after_write false) file.pages }
-ended_well file one page a = a ∙ ap (λ (f : Mapped → Mapped). record file { pages = change_at page f file.pages })
-    (λ i m. record m { tags = record m.tags { dirty = or_false m.tags.dirty i; writeback = false } })
-  where
-    or_false : (b : Bool) → b ≡ (b || false)
-    or_false true = refl
-    or_false false = refl

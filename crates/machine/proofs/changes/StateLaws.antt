@@ -1,9 +1,8 @@
 -- What is looked up in a state after a file of it changes, when two states are equal, and what a free block is.
 use Rattle.std.proofs.Common.{◌≡◌, ℕ, ◌<◌, ◌≢◌, Bool, true, false, cond, not, eqb, eq-eqb, List, [], ◌∷◌, length}
-use Rattle.std.proofs.Common.{get_or, refl, ap, sym, ◌∙◌, arith, get_or-set_same, get_or-set_other}
-use Rattle.std.specs.Prelude.{◌+◌, ◌-◌, ◌/◌, ◌&&◌, ◌||◌, Some, slice_set, map, nat_le}
+use Rattle.std.proofs.Common.{refl, ap, sym, ◌∙◌}
+use Rattle.std.specs.Prelude.{◌+◌, ◌-◌, ◌/◌, ◌&&◌, ◌||◌, Some, map, nat_le}
 use Rattle.std.specs.List.{list_any}
-use Rattle.std.proofs.lemmas.Bool.Decides.{nat_tests}
 use Rattle.std.proofs.lemmas.List.Folds.{list_any-append}
 use Rattle.std.specs.Ordering.{nat_cmp}
 use Rattle.std.specs.FinMap as finmap
@@ -13,7 +12,7 @@ use Rattle.machine.specs.State.{State, File, Request, file_at, page_at, spot_at,
 use Rattle.machine.specs.State.{used_blocks}
 use Rattle.pc_types.specs.Spots.{Spot, place_cmp}
 use Rattle.machine.specs.Changes.{put_file}
-use Rattle.maps.proofs.MapLaws.{any_value, same_nat_map}
+use Rattle.maps.proofs.MapLaws.{any_value}
 
 -- whether n bytes at o touch page p
 abbrev pub touches : ℕ → ℕ → ℕ → ℕ → Bool
@@ -36,30 +35,6 @@ pub file_at-here : (s : State) (f : ℕ) (file : File) → f < length s.files �
 file_at-here s f file h = file_at-put s f f file h ∙ ap (λ b. cond b file (file_at s f)) (eq-eqb f f refl)
 
 -- ---- equal values
-
-pub same_file : (a b : File) → a.size ≡ b.size → a.failures ≡ b.failures → a.last_code ≡ b.last_code
-    → ((p : ℕ) → finmap.get a.pages p ≡ finmap.get b.pages p) → a ≡ b
-same_file a b size failures code pages =
-    λ i. record {
-      size = size i;
-      failures = failures i;
-      last_code = code i;
-      pages = same_nat_map a.pages b.pages pages i;
-    }
-
-pub same_state : (s t : State) → s.sizes ≡ t.sizes → s.name ≡ t.name → s.files ≡ t.files → s.handles ≡ t.handles
-    → s.spots ≡ t.spots → s.next ≡ t.next → s.requests ≡ t.requests → s.syncs ≡ t.syncs → s ≡ t
-same_state s t sizes name files handles spots next requests syncs =
-    λ i. record {
-      sizes = sizes i;
-      name = name i;
-      files = files i;
-      handles = handles i;
-      spots = spots i;
-      next = next i;
-      requests = requests i;
-      syncs = syncs i;
-    }
 
 -- ---- filling
 

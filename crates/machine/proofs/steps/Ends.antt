@@ -1,5 +1,5 @@
 -- The end of a request: it is refused, or it goes through, and then its request was in flight.
-use Rattle.std.proofs.Common.{◌≡◌, ℕ, Bool, true, false, cond, eqb, eq-eqb, refl, ap, sym, subst, ◌∙◌, inl, inr}
+use Rattle.std.proofs.Common.{◌≡◌, ℕ, true, false, cond, eqb, eq-eqb, refl, ap, sym, subst, ◌∙◌, inl, inr}
 use Rattle.std.specs.Prelude.{◌&&◌, ◌⊎◌, Option, Some, None}
 use Rattle.std.specs.FinMap as map
 use Rattle.pc_types.specs.declared.kind.Kind.{Kind}

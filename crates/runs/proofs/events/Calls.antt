@@ -4,16 +4,15 @@ use Rattle.std.proofs.Common.{inr}
 use Rattle.std.specs.Prelude.{◌&&◌, ◌||◌, Option, Some, None, is_some, slice_set}
 use Rattle.std.specs.FinMap as finmap
 use Rattle.std.proofs.Math.ListN.{length-set}
-use Rattle.pc_types.specs.Files.{page_of}
 use Rattle.pc_types.specs.Kinds.{is_fill, is_flush}
 use Rattle.pc_types.specs.declared.kind.Kind.{Kind}
 use Rattle.pc_types.specs.declared.kind.Kind.TheVariants.{Fill, Flush}
 use Rattle.machine.specs.declared.event.Outcome.{Outcome}
 use Rattle.machine.specs.declared.event.Outcome.TheVariants as outcome
-use Rattle.machine.specs.State.{State, Request, file_at, page_at, spot_at}
+use Rattle.machine.specs.State.{State, Request}
 use Rattle.machine.specs.Tests.{fits}
 use Rattle.machine.proofs.changes.StateLaws.{get_or-set}
-use Rattle.runs.specs.Plain.{Plain, plain_file}
+use Rattle.runs.specs.Plain.{Plain}
 use Rattle.runs.specs.World.{World, block_bytes, Calls, outcome_of, device_after}
 use Rattle.runs.proofs.views.View.{View, Flight, Good, Evolves, no_gone, put1, put1_here}
 use Rattle.runs.proofs.events.Coupled.{view, Coupled, After}
@@ -30,33 +29,14 @@ noting_evolves v w outcome e =
       on_device =
           λ f p g. elim (e.on_device f p g) [
             | inl h ↦ inl h
-            | inr h ↦ inr (record {
-              serial = h.serial;
-              request = h.request;
-              is = h.is;
-              kind = h.kind;
-              live = h.live;
-              file = h.file;
-              page = h.page;
-              bytes = h.bytes;
-            })
+            | inr h ↦ inr search
           ];
       from = e.from;
       flush = e.flush;
       to_write =
           λ f p g t. elim (e.to_write f p g t) [
             | inl h ↦ inl h
-            | inr h ↦ inr (record {
-              serial = h.serial;
-              request = h.request;
-              fresh_serial = h.fresh_serial;
-              is = h.is;
-              kind = h.kind;
-              live = h.live;
-              file = h.file;
-              page = h.page;
-              bytes = h.bytes;
-            })
+            | inr h ↦ inr search
           ];
       failures = e.failures;
       same_size = e.same_size;
@@ -80,18 +60,8 @@ module _ (w : World) (plain : Plain) (c : Coupled w plain) (t : ℕ) (x : Reques
 
   noted_view : (o : Outcome) → view (noted o) plain
       ≡ record (view w plain) { outcome = put1 (finmap.get w.outcomes) t (Some o) }
-  noted_view o = λ i. record {
-    page_size = s.sizes.page;
-    blocks = length w.device;
-    next = s.next;
-    page = λ g q. page_at s g q;
-    spot = λ g q. spot_at s g q;
-    request = λ u. flight_at s.requests w.writing u;
+  noted_view o = λ i. record (view w plain) {
     outcome = λ u. get-insert1 w.outcomes t o u i;
-    block = λ b. block_bytes w b;
-    size = λ g. (file_at s g).size;
-    failures = λ g. (file_at s g).failures;
-    content = λ g q. page_of s.sizes.page (plain_file plain g) q;
   }
 
   notes : (o : Outcome) → fits x.kind o ≡ true → WentWell (view w plain) r o → After w plain no_gone (noted o) plain
@@ -144,18 +114,10 @@ module _ (w : World) (plain : Plain) (c : Coupled w plain) (t : ℕ) (x : Reques
         outcome = put1 (finmap.get w.outcomes) t (Some o);
         block = put1 (block_bytes w) r.block r.bytes;
       }
-  wrote_view o = λ i. record {
-    page_size = s.sizes.page;
+  wrote_view o = λ i. record (view w plain) {
     blocks = same_length i;
-    next = s.next;
-    page = λ g q. page_at s g q;
-    spot = λ g q. spot_at s g q;
-    request = λ u. flight_at s.requests w.writing u;
     outcome = λ u. get-insert1 w.outcomes t o u i;
     block = λ b. block_after b i;
-    size = λ g. (file_at s g).size;
-    failures = λ g. (file_at s g).failures;
-    content = λ g q. page_of s.sizes.page (plain_file plain g) q;
   }
 
   -- the block has the request's bytes, and then the outcome is noted

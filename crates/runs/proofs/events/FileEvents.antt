@@ -4,12 +4,11 @@ use Rattle.std.proofs.Common.{length-append}
 use Rattle.std.specs.Prelude.{Some, None, is_some, unwrap_or}
 use Rattle.std.specs.FinMap as finmap
 use Rattle.pc_types.specs.Files.{page_of}
-use Rattle.machine.specs.State.{State, File, handle_file, spot_at, no_file}
+use Rattle.machine.specs.State.{State, File, handle_file, no_file}
 use Rattle.runs.specs.Plain.{Plain}
-use Rattle.runs.specs.World.{World, block_bytes}
+use Rattle.runs.specs.World.{World}
 use Rattle.runs.proofs.views.View.{Good, put1_tells, Evolves, no_gone, stays}
 use Rattle.runs.proofs.events.Lookups.{get_or-default, get-insert1, get-remove1}
-use Rattle.runs.proofs.events.Tables.{flight_at}
 use Rattle.runs.proofs.events.Coupled.{view, Coupled, After, with_core}
 
 module _ (w : World) (plain : Plain) (c : Coupled w plain) where
@@ -23,15 +22,8 @@ module _ (w : World) (plain : Plain) (c : Coupled w plain) where
   one_more = record plain { files = plain.files ++ [] ∷ [] }
 
   same_view : view (with_core w created) one_more ≡ view w plain
-  same_view = λ i. record {
-    page_size = s.sizes.page;
-    blocks = length w.device;
-    next = s.next;
+  same_view = λ i. record (view w plain) {
     page = λ f p. finmap.get (get_or-default s.files no_file f i).pages p;
-    spot = λ f p. spot_at s f p;
-    request = λ t. flight_at s.requests w.writing t;
-    outcome = λ t. finmap.get w.outcomes t;
-    block = λ b. block_bytes w b;
     size = λ f. (get_or-default s.files no_file f i).size;
     failures = λ f. (get_or-default s.files no_file f i).failures;
     content = λ f p. page_of s.sizes.page (get_or-default plain.files [] f i) p;

@@ -21,8 +21,7 @@ use Rattle.machine.proofs.changes.StateLaws.{filling_shows}
 use Rattle.runs.specs.Plain.{Plain, plain_file}
 use Rattle.runs.specs.World.{World, block_bytes, noted, to_write}
 use Rattle.runs.proofs.views.View.{Flight, Good, Evolves, no_gone, put1, put2, dirty, writeback, settled, held_by}
-use Rattle.runs.proofs.views.View.{fresh}
-use Rattle.runs.proofs.views.View.{no_outcome}
+use Rattle.runs.proofs.views.View.{fresh, no_outcome}
 use Rattle.runs.proofs.events.Coupled.{view, Coupled, After, with_core, file_changed}
 use Rattle.runs.proofs.events.Lookups.{page_at-put_page, size-put, failures-put}
 use Rattle.runs.proofs.events.Tables.{writes, flight, flight_at, request_is, in_flight, flight_begun, begun_tables}
@@ -76,19 +75,11 @@ module _ (w : World) (plain : Plain) (c : Coupled w plain) (f p : ℕ) (here : f
 
   at_once_view : view (with_core w (put_page s f p zeros)) plain ≡ record (view w plain)
       { page = put2 (page_at s) f p (Some zeros) }
-  at_once_view = λ i. record {
-    page_size = s.sizes.page;
-    blocks = length w.device;
-    next = s.next;
+  at_once_view = λ i. record (view w plain) {
     page = λ g q. page_at-put_page s f p zeros here g q i;
-    spot = λ g q. spot_at s g q;
-    request = λ t. flight_at s.requests w.writing t;
-    outcome = λ t. finmap.get w.outcomes t;
-    block = λ b. block_bytes w b;
     size = λ g. size-put s f (record (file_at s f) { pages = finmap.insert (file_at s f).pages p zeros }) here refl g i;
     failures = λ g. failures-put s f (record (file_at s f) { pages = finmap.insert (file_at s f).pages p zeros }) here
         refl g i;
-    content = λ g q. page_of s.sizes.page (plain_file plain g) q;
   }
 
   pub at_once : is_written s f p ≡ false → After w plain no_gone (with_core w (put_page s f p zeros)) plain
@@ -123,19 +114,10 @@ module _ (w : World) (plain : Plain) (c : Coupled w plain) (f p : ℕ) (here : f
         request = put1 (flight_at s.requests w.writing) s.next (Some (flight [] request));
         next = s.next + 1;
       }
-  begun_view = λ i. record {
-    page_size = s.sizes.page;
-    blocks = length w.device;
+  begun_view = λ i. record (view w plain) {
     next = s.next + 1;
-    page = λ g q. page_at s g q;
-    spot = λ g q. spot_at s g q;
     request = λ t. flight_begun s.requests w.writing w.writing s.next request []
         (ap (λ o. unwrap_or o []) next_unwritten) (λ u n. refl) t i;
-    outcome = λ t. finmap.get w.outcomes t;
-    block = λ b. block_bytes w b;
-    size = λ g. (file_at s g).size;
-    failures = λ g. (file_at s g).failures;
-    content = λ g q. page_of s.sizes.page (plain_file plain g) q;
   }
 
   begins : is_written s f p ≡ true → After w plain no_gone (with_core w (requested s Fill f p)) plain

@@ -1,7 +1,6 @@
 -- A write of a page is started, and a sync begins.
-use Rattle.std.proofs.Common.{[]}
-use Rattle.std.proofs.Common.{◌≡◌, ◌≢◌, ℕ, ◌+◌, ◌<◌, Bool, true, false, cond, eqb, eqb-true, eq-eqb, List}
-use Rattle.std.proofs.Common.{length, get_or, refl, ap, sym, subst, ◌∙◌, inl, inr}
+use Rattle.std.proofs.Common.{[], ◌≡◌, ◌≢◌, ℕ, ◌+◌, ◌<◌, Bool, true, false, cond, eqb, eqb-true, eq-eqb, List, length}
+use Rattle.std.proofs.Common.{get_or, refl, ap, sym, subst, ◌∙◌, inl, inr}
 use Rattle.std.specs.Prelude.{◌&&◌, ◌||◌, ◌⊎◌, Option, Some, None, is_some, option_map, unwrap_or}
 use Rattle.std.specs.Ordering.{nat_cmp}
 use Rattle.std.specs.FinMap as finmap
@@ -13,23 +12,21 @@ use Rattle.machine.specs.State.{State, File, Page, Request, Sync, file_at, page_
 use Rattle.machine.specs.State.{no_file, in_range}
 use Rattle.machine.specs.Changes.{put_page, requested, under_write, started, to_write}
 use Rattle.maps.specs.Maps.{put_some}
-use Rattle.machine.proofs.steps.Choices.{none_of}
 use Rattle.machine.proofs.changes.ChangeLaws.{BeginsSync}
 use Rattle.maps.proofs.Maps.{get-insert_nat}
 use Rattle.machine.proofs.changes.StateLaws.{get_or-set}
 use Rattle.runs.specs.Plain.{Plain, plain_file}
-use Rattle.runs.specs.World.{World, block_bytes, noted}
+use Rattle.runs.specs.World.{World, noted}
 use Rattle.runs.specs.World as world
 use Rattle.runs.proofs.views.View.{Good, Evolves, no_gone, put1, put1_else, put2, put2_here, dirty, writeback, towrite}
-use Rattle.runs.proofs.views.View.{fresh}
-use Rattle.runs.proofs.views.View.{no_outcome}
-use Rattle.runs.proofs.events.Tables.{Tables, flight, flight_at, in_flight, flight_begun, begun_tables}
+use Rattle.runs.proofs.views.View.{View, no_outcome}
+use Rattle.runs.proofs.events.Tables.{Tables, flight, flight_at, flight_begun, begun_tables}
 use Rattle.runs.proofs.events.Coupled.{view, Coupled, After, with_core, block_is, file_changed}
 use Rattle.runs.proofs.bytes.PageLaws.{length-page}
 use Rattle.runs.proofs.events.Lookups.{cached_within, page_at-put_page, change_page-is, size-put, failures-put}
 use Rattle.runs.proofs.events.Lookups.{get-insert1}
 use Rattle.runs.proofs.views.FlushBegin.{flush_begin_kept, flush_begin_evolves}
-use Rattle.runs.proofs.views.Retag.{retag_kept, retag_evolves}
+use Rattle.runs.proofs.views.Retag.{retag}
 
 -- ---- a write of a page is started
 
@@ -58,11 +55,6 @@ module _ (w : World) (plain : Plain) (c : Coupled w plain) (f p : ℕ) (page : P
   abbrev file_after : File
   file_after = record (file_at s f) { pages = finmap.insert (file_at s f).pages p (under_write page) }
 
-  next_free : finmap.get s.requests s.next ≡ None
-  next_free =
-      none_of (finmap.get s.requests s.next)
-      (sym (in_flight s.requests w.writing s.next) ∙ ap is_some (fresh (view w plain) c.good))
-
   own_bytes : finmap.get writing s.next ≡ Some page.bytes
   own_bytes = get-insert_nat w.writing s.next page.bytes s.next
       ∙ ap (λ b. cond b (Some page.bytes) (finmap.get w.writing s.next)) (eq-eqb s.next s.next refl)
@@ -75,19 +67,13 @@ module _ (w : World) (plain : Plain) (c : Coupled w plain) (f p : ℕ) (page : P
     request = put1 (flight_at s.requests w.writing) s.next (Some (flight page.bytes request));
     next = s.next + 1;
   }
-  started_view = λ i. record {
-    page_size = s.sizes.page;
-    blocks = length w.device;
+  started_view = λ i. record (view w plain) {
     next = s.next + 1;
     page = λ g q. page_at-put_page s f p (under_write page) here g q i;
-    spot = λ g q. spot_at s g q;
     request = λ t. flight_begun s.requests w.writing writing s.next request page.bytes
         (ap (λ o. unwrap_or o []) own_bytes) others t i;
-    outcome = λ t. finmap.get w.outcomes t;
-    block = λ b. block_bytes w b;
     size = λ g. size-put s f file_after here refl g i;
     failures = λ g. failures-put s f file_after here refl g i;
-    content = λ g q. page_of s.sizes.page (plain_file plain g) q;
   }
 
   mapped : option_map (λ x. x.block) (spot_at s f p) ≡ Some (unwrap_or (block_at s f p) 0)
@@ -127,17 +113,7 @@ module _ (w : World) (plain : Plain) (c : Coupled w plain) (f p : ℕ) (page : P
       (record w { core = record x { syncs = syncs }; writing = noted w.writing (reply.Job t) x }) plain) (sym is_begun)
       (subst (λ (x : finmap.FinMap nat_cmp (List ℕ)). After w plain no_gone
       (record w { core = record begun { syncs = syncs }; writing = x }) plain) (sym (are_noted t is))
-      (let a =
-      begins in record {
-        good = a.good;
-        tables = a.tables;
-        blocks = a.blocks;
-        handles = a.handles;
-        count = a.count;
-        valid = a.valid;
-        sizes = a.sizes;
-        evolves = a.evolves;
-      }))
+      (assumption begins))
 
 -- ---- a sync begins
 
@@ -204,8 +180,10 @@ module _ (w : World) (plain : Plain) (c : Coupled w plain) (f n : ℕ) (y : Sync
   to_write_towrite q None old e = absurd cc
   to_write_towrite q (Some x) old e = tagged x.tags.towrite x.tags.dirty (in_range y q) old e
 
-  retagged : Good (record (view w plain) { page = page_at new })
-  retagged = retag_kept (view w plain) c.good (page_at new)
+  retagged : let after : View = record (view w plain) { page = page_at new } in Good after
+      × (((g q : ℕ) → towrite (page_at t g q) ≡ true → towrite (page_at new g q) ≡ true)
+      → Evolves no_gone (view w plain) after)
+  retagged = retag (view w plain) c.good (page_at new)
       (λ g q. elim (page_now g q) [ inl e ↦ ap is_some e | inr e ↦ ap is_some e ∙ to_write_some q (page_at t g q) ])
       (λ g q x k. elim (page_now g q)
       [ inl e ↦ (x, sym e ∙ k, refl) | inr e ↦ to_write_bytes q (page_at t g q) x (sym e ∙ k) ])
@@ -224,37 +202,12 @@ module _ (w : World) (plain : Plain) (c : Coupled w plain) (f n : ℕ) (y : Sync
   to_write_more q None e = e
   to_write_more q (Some x) e = ap (λ b. b || x.tags.dirty && in_range y q) e
 
-  retag_evolves_here : Evolves no_gone (view w plain) (record (view w plain) { page = page_at new })
-  retag_evolves_here = retag_evolves (view w plain) c.good (page_at new)
-      (λ g q. elim (page_now g q) [ inl e ↦ ap is_some e | inr e ↦ ap is_some e ∙ to_write_some q (page_at t g q) ])
-      (λ g q x k. elim (page_now g q)
-      [ inl e ↦ (x, sym e ∙ k, refl) | inr e ↦ to_write_bytes q (page_at t g q) x (sym e ∙ k) ])
-      (λ g q. elim (page_now g q) [ inl e ↦ ap dirty e | inr e ↦ ap dirty e ∙ to_write_dirty q (page_at t g q) ])
-      (λ g q. elim (page_now g q) [
-        | inl e ↦ ap writeback e
-        | inr e ↦ ap writeback e
-            ∙ to_write_writeback q (page_at t g q)
-      ])
-      (λ g q k. elim (page_now g q) [
-        | inl e ↦ (c.good.pages g q).towrite (sym (ap towrite e) ∙ k)
-        | inr e ↦ to_write_towrite q (page_at t g q) (c.good.pages g q).towrite (sym (ap towrite e) ∙ k)
-      ])
-      (λ g q k. elim (page_now g q) [
-        | inl e ↦ ap towrite e ∙ k
-        | inr e ↦ ap towrite e
-            ∙ to_write_more q (page_at t g q) k
-      ])
-
   begun_view : view (with_core w new) plain ≡ record (view w plain) { page = page_at new }
-  begun_view = λ i. record {
+  begun_view = λ i. record (view (with_core w new) plain) {
     page_size = (same_sizes i).page;
-    blocks = length w.device;
     next = (begins.rest i).next;
-    page = λ g q. page_at new g q;
     spot = λ g q. spot_at (begins.rest i) g q;
     request = λ u. flight_at (begins.rest i).requests w.writing u;
-    outcome = λ u. finmap.get w.outcomes u;
-    block = λ b. block_bytes w b;
     size = λ g. size_now g i;
     failures = λ g. failures_now g i;
     content = λ g q. page_of (same_sizes i).page (plain_file plain g) q;
@@ -262,6 +215,10 @@ module _ (w : World) (plain : Plain) (c : Coupled w plain) (f n : ℕ) (y : Sync
 
   pub begun_sync : After w plain no_gone (with_core w new) plain
   begun_sync = file_changed w plain c (with_core w new) f tagged_file refl begins.file same_sizes
-      (ap (λ x. x.handles) begins.rest) (subst Good (sym begun_view) retagged)
+      (ap (λ x. x.handles) begins.rest) (subst Good (sym begun_view) retagged.0)
       (subst (λ (x : State). Tables x.requests w.outcomes w.writing) (sym begins.rest) c.tables)
-      (subst (Evolves no_gone (view w plain)) (sym begun_view) retag_evolves_here) size_now
+      (subst (Evolves no_gone (view w plain)) (sym begun_view) (retagged.1
+      (λ g q k. elim (page_now g q) [
+        | inl e ↦ ap towrite e ∙ k
+        | inr e ↦ ap towrite e ∙ to_write_more q (page_at t g q) k
+      ]))) size_now

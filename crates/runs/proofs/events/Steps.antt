@@ -1,18 +1,14 @@
 -- Each step of the world keeps cache and plain files coupled.
-use Rattle.std.specs.Prelude.{◌&&◌}
-use Rattle.std.proofs.Common.{eqb}
-use Rattle.std.specs.Prelude.{nat_le}
+use Rattle.std.specs.Prelude.{◌&&◌, nat_le, Option, Some, None, unwrap_or}
+use Rattle.std.proofs.Common.{eqb, ◌≡◌, ℕ, ◌+◌, Bool, true, false, List, [], length, refl, ap, sym, subst, ◌∙◌, inl}
+use Rattle.std.proofs.Common.{inr}
 use Rattle.std.specs.Ordering.{nat_cmp}
-use Rattle.machine.specs.Changes.{is_left}
+use Rattle.machine.specs.Changes.{is_left, drop_sync, shrunk, new_sync, sync_begun}
 use Rattle.machine.specs.Changes as changes
-use Rattle.machine.specs.State.{page_count}
-use Rattle.machine.specs.Changes.{drop_sync}
-use Rattle.machine.proofs.steps.Cases.{IsVerdict}
+use Rattle.machine.specs.State.{page_count, State, Page, Request, Sync, file_at, handle_file, page_at}
+use Rattle.machine.proofs.steps.Cases.{IsVerdict, Cases, by_cases}
 use Rattle.pc_types.specs.declared.ids.SyncId.{SyncId}
 use Rattle.pc_types.specs.declared.refusal.Refusal.TheVariants.{Stranger}
-use Rattle.std.proofs.Common.{◌≡◌, ℕ, ◌+◌, Bool, true, false, List, [], length, refl, ap, sym, subst, ◌∙◌, inl}
-use Rattle.std.proofs.Common.{inr}
-use Rattle.std.specs.Prelude.{Option, Some, None, unwrap_or}
 use Rattle.std.specs.FinMap as finmap
 use Rattle.std.proofs.lemmas.List.{set-get_or}
 use Rattle.pc_types.specs.Files.{pwrite, cut}
@@ -25,12 +21,9 @@ use Rattle.machine.specs.declared.event.Event.TheVariants as event
 use Rattle.machine.specs.declared.event.Outcome.{Outcome}
 use Rattle.machine.specs.declared.event.Reply.{Reply}
 use Rattle.machine.specs.declared.event.Reply.TheVariants as reply
-use Rattle.machine.specs.State.{State, Page, Request, Sync, file_at, handle_file, page_at}
-use Rattle.machine.specs.Changes.{shrunk, new_sync, sync_begun}
 use Rattle.machine.specs.Step.{Step, AnswersOr}
 use Rattle.machine.proofs.steps.Answered.{is_quiet, IsWrite}
 use Rattle.machine.proofs.steps.Ends.{end_loud}
-use Rattle.machine.proofs.steps.Cases.{Cases, by_cases}
 use Rattle.machine.proofs.changes.ChangeLaws.{written_writes, shrunk_truncates, sync_begun_begins}
 use Rattle.machine.proofs.steps.Choices.{and_true}
 use Rattle.machine.proofs.steps.Passed.{MayWrite}

@@ -144,10 +144,6 @@ module _ (requests : Requests) (outcomes : Outcomes) (writing : Bytes) (ok : Tab
     ];
   }
 
-  no_call : (o : Option Request) → fit o None ≡ true
-  no_call None = refl
-  no_call (Some x) = refl
-
   -- request t ends
   pub ended_tables : (t : ℕ) → Tables (finmap.remove requests t) (finmap.remove outcomes t) (finmap.remove writing t)
   ended_tables t = record {

@@ -18,8 +18,7 @@ use Rattle.machine.proofs.changes.StateLaws.{get_or-set, page_at-put}
 use Rattle.runs.specs.Plain.{Plain, plain_file}
 use Rattle.runs.specs.World.{World, block_bytes}
 use Rattle.runs.proofs.views.View.{View, Good, PageIs, Evolves, no_gone, put1, dirty, writeback, towrite, settled}
-use Rattle.runs.proofs.views.View.{held_by}
-use Rattle.runs.proofs.views.View.{held}
+use Rattle.runs.proofs.views.View.{held_by, held}
 use Rattle.runs.proofs.events.Coupled.{view, Coupled, After, with_core}
 use Rattle.runs.proofs.events.Tables.{Tables, flight_at, flight_cut, cut_tables}
 use Rattle.runs.proofs.events.Fills.{spot_written}
@@ -91,15 +90,8 @@ module _ (w : World) (plain : Plain) (c : Coupled w plain) (f z : ℕ) (here : f
 
   grown_view : (file_at s f).size ≤ z
       → view (with_core w grown) after ≡ record (view w plain) { size = put1 (λ g. (file_at s g).size) f z }
-  grown_view more = λ i. record {
-    page_size = P;
-    blocks = length w.device;
-    next = s.next;
+  grown_view more = λ i. record (view w plain) {
     page = λ g q. grown_page g q i;
-    spot = λ g q. spot_at s g q;
-    request = λ u. flight_at s.requests w.writing u;
-    outcome = λ u. finmap.get w.outcomes u;
-    block = λ b. block_bytes w b;
     size = λ g. size-set s f (record (file_at s f) { size = z }) here g i;
     failures = λ g. failures-put s f (record (file_at s f) { size = z }) here refl g i;
     content = λ g q. grown_content more g q i;
@@ -390,18 +382,12 @@ module _ (w : World) (plain : Plain) (c : Coupled w plain) (f z : ℕ) (here : f
           size = λ g. (file_at new g).size;
           request = λ u. option_map (dropped_where gone) (flight_at s.requests w.writing u);
         }
-    cut_view = λ i. record {
+    cut_view = λ i. record (view (with_core w new) after) {
       page_size = (same_sizes i).page;
-      blocks = length w.device;
       next = (cuts.rest i).next;
-      page = λ g q. page_at new g q;
-      spot = λ g q. spot_at new g q;
       request =
           λ u. (ap (λ (x : State). flight_at x.requests w.writing u) cuts.rest ∙ flight_cut s.requests w.writing f n u)
           i;
-      outcome = λ u. finmap.get w.outcomes u;
-      block = λ b. block_bytes w b;
-      size = λ g. (file_at new g).size;
       failures = λ g. failures_now g i;
       content = λ g q. page_of (same_sizes i).page (plain_file after g) q;
     }

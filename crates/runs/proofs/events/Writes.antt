@@ -299,18 +299,12 @@ module _ (w : World) (plain : Plain) (c : Coupled w plain) (f o : ℕ) (b : List
         size = λ g. (file_at new g).size;
         request = λ u. option_map (dropped_where (λ g q. false)) (flight_at s.requests w.writing u);
       }
-  written_view = λ i. record {
+  written_view = λ i. record (view (with_core w new) after) {
     page_size = (same_sizes i).page;
-    blocks = length w.device;
     next = (writes.rest i).next;
-    page = λ g q. page_at new g q;
-    spot = λ g q. spot_at new g q;
     request =
         λ u. (ap (λ (x : State). flight_at x.requests w.writing u) writes.rest
         ∙ sym (undropped (flight_at s.requests w.writing u))) i;
-    outcome = λ u. finmap.get w.outcomes u;
-    block = λ b. block_bytes w b;
-    size = λ g. (file_at new g).size;
     failures = λ g. failures_now g i;
     content = λ g q. page_of (same_sizes i).page (plain_file after g) q;
   }

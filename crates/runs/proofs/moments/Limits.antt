@@ -1,21 +1,15 @@
 -- How many files, handles, requests, syncs, frames and failures there are at most, and how long files are; and that
 -- the handle of a sync in progress is open.
-use Rattle.std.proofs.Common.{List}
+use Rattle.std.proofs.Common.{List, ◌≡◌, ℕ, ◌+◌, ◌/◌, ◌<◌, ◌≤◌, ◌++◌, Bool, true, false, cond, not, eqb, eq-eqb, []}
+use Rattle.std.proofs.Common.{◌∷◌, length, get_or, refl, ap, sym, subst, ◌∙◌, arith, inl, inr}
 use Rattle.maps.specs.Maps.{change_at}
-use Rattle.std.specs.Prelude.{count_by}
-use Rattle.machine.specs.State.{spot_at}
-use Rattle.machine.specs.State.{touched}
+use Rattle.std.specs.Prelude.{count_by, ◌&&◌, Option, Some, None, is_some, option_map, max, nat_le, slice_set, sum_by}
+use Rattle.machine.specs.State.{spot_at, touched, free_frames, State, File, Page, Request, Sync, file_at, handle_file}
+use Rattle.machine.specs.State.{is_open, page_at, page_count, has_block, no_file, cached_total, filling_total}
 use Rattle.machine.specs.Changes as changes
 use Rattle.machine.specs.History as history
-use Rattle.machine.specs.Changes.{put_page}
-use Rattle.machine.specs.Changes.{put_file}
-use Rattle.machine.specs.Changes.{put_pages}
-use Rattle.machine.specs.State.{free_frames}
-use Rattle.machine.specs.Changes.{sync_begun}
-use Rattle.machine.specs.Changes.{flush_failed}
-use Rattle.std.proofs.Common.{◌≡◌, ℕ, ◌+◌, ◌/◌, ◌<◌, ◌≤◌, ◌++◌, Bool, true, false, cond, not, eqb, eq-eqb, []}
-use Rattle.std.proofs.Common.{◌∷◌, length, get_or, refl, ap, sym, subst, ◌∙◌, arith, inl, inr}
-use Rattle.std.specs.Prelude.{◌&&◌, Option, Some, None, is_some, option_map, max, nat_le, slice_set, sum_by}
+use Rattle.machine.specs.Changes.{put_page, put_file, put_pages, sync_begun, flush_failed, boundary, cut_page}
+use Rattle.machine.specs.Changes.{cut_request, to_write, new_sync, under_write, after_write, started, shrunk, ended}
 use Rattle.std.specs.List.{list_any}
 use Rattle.std.specs.Ordering.{nat_cmp}
 use Rattle.std.specs.FinMap as finmap
@@ -26,11 +20,7 @@ use Rattle.pc_types.specs.Kinds.{is_fill}
 use Rattle.pc_types.specs.declared.kind.Kind.TheVariants.{Fill}
 use Rattle.pc_types.specs.declared.limits.TheConstants.{MAX_FILES, MAX_FILE_SIZE, MAX_HANDLES, MAX_IN_FLIGHT, MAX_SYNCS}
 use Rattle.pc_types.specs.declared.limits.TheConstants.{SERIAL_END}
-use Rattle.machine.specs.State.{State, File, Page, Request, Sync, file_at, handle_file, is_open, page_at, page_count}
-use Rattle.machine.specs.State.{has_block, no_file, cached_total, filling_total}
 use Rattle.machine.specs.Tests.{is_full}
-use Rattle.machine.specs.Changes.{boundary, cut_page, cut_request, to_write, new_sync, under_write, after_write}
-use Rattle.machine.specs.Changes.{started, shrunk, put_sync, ended}
 use Rattle.machine.proofs.steps.Cases.{Cases}
 use Rattle.machine.proofs.changes.ChangeLaws.{cut_pages, get-cut_pages}
 use Rattle.machine.proofs.steps.Choices.{neither, below}
@@ -46,11 +36,9 @@ use Rattle.runs.proofs.events.Tables.{flight, bytes_of, flight_is}
 use Rattle.runs.proofs.moments.CoreSteps.{core_cases}
 use Rattle.maps.proofs.Count.{count_of}
 use Rattle.runs.proofs.events.Ends.{within}
-use Rattle.runs.proofs.moments.FrameCounts.{cached_set, cached_more}
-use Rattle.maps.proofs.Lengths.{count_empty, count_put, count_gone, count_one_gone}
-use Rattle.runs.proofs.moments.FrameCounts.{count_cut, filling_is, is_live_fill}
-use Rattle.maps.proofs.Lengths.{len_le, len_put, len_put_there, len_changed}
-use Rattle.maps.proofs.Lengths.{len_gone, len_one_gone}
+use Rattle.runs.proofs.moments.FrameCounts.{cached_set, cached_more, count_cut, filling_is, is_live_fill}
+use Rattle.maps.proofs.Lengths.{count_empty, count_put, count_gone, count_one_gone, len_le, len_put, len_put_there}
+use Rattle.maps.proofs.Lengths.{len_changed, len_gone, len_one_gone}
 use Rattle.runs.proofs.events.Lookups.{cached_within, get_or-default, get-insert1, get-remove1, failures-set}
 use Rattle.runs.proofs.events.Lookups.{failures-put}
 use Rattle.runs.proofs.moments.Moments.{run_keeps, first_coupled}
@@ -119,6 +107,10 @@ module _ (s : State) (c : Limits s) (valid : (h : ℕ) → is_open s h ≡ true 
     pub size : file.size ≤ MAX_FILE_SIZE
     pub handles : new.handles ≡ s.handles
     pub sizes : new.sizes ≡ s.sizes
+
+  file_change : (new : State) (f : ℕ) (file : File) → f < length s.files → new.files ≡ slice_set s.files f file
+      → file.size ≤ MAX_FILE_SIZE → new.handles ≡ s.handles → new.sizes ≡ s.sizes → FileChange new f file
+  file_change new f file here files size handles sizes = assumption
 
   file_now : (new : State) (f : ℕ) (file : File) → FileChange new f file → (g : ℕ)
       → file_at new g ≡ cond (eqb g f) file (file_at s g)
@@ -277,14 +269,7 @@ module _ (s : State) (c : Limits s) (valid : (h : ℕ) → is_open s h ≡ true 
       → Limits (record (started s f p) { syncs = syncs })
   starts_with f p page is room syncs l each =
       let new = record (started s f p) { syncs = syncs } in
-      let k : FileChange new f _ =
-      record {
-        here = cached_within s f p (ap is_some is);
-        files = refl;
-        size = c.sizes f;
-        handles = refl;
-        sizes = refl;
-      } in
+      let k = file_change new f _ (cached_within s f p (ap is_some is)) refl (c.sizes f) refl refl in
       one_file new f _ k (flush_more new f _ _ k refl refl room refl refl
       (len_changed p under_write (file_at s f).pages)) l each
 
@@ -313,8 +298,7 @@ module _ (s : State) (c : Limits s) (valid : (h : ℕ) → is_open s h ≡ true 
         last_code = code;
         pages = change_at x.page (after_write true) file.pages;
       } in
-      let k : FileChange new x.file after =
-      record { here = live_file t x is live; files = refl; size = c.sizes x.file; handles = refl; sizes = refl } in
+      let k = file_change new x.file after (live_file t x is live) refl (c.sizes x.file) refl refl in
       one_file new x.file after k (record {
         count = no_more _ (finmap.len s.requests) MAX_IN_FLIGHT (len_gone s.requests t) c.requests;
         filling = let a = cached_set s new x.file after k.here refl in
@@ -355,7 +339,7 @@ module _ (s : State) (c : Limits s) (valid : (h : ℕ) → is_open s h ≡ true 
   cuts f z here small =
       let new = shrunk s f z in
       let n = page_count s.sizes.page z in
-      let k : FileChange new f _ = record { here = here; files = refl; size = small; handles = refl; sizes = refl } in
+      let k = file_change new f _ here refl small refl refl in
       one_file new f _ k (requests_fewer new f _ k refl (let a = len-each_value (λ _. cut_request f n) s.requests in
       omega arith) refl
       (let a = count_cut f n s.requests in let b = len_le (cut_pages s f z) (file_at s f).pages (cut_from f z) in
@@ -421,14 +405,8 @@ module _ (s : State) (c : Limits s) (valid : (h : ℕ) → is_open s h ≡ true 
           → Limits (changes.written s f o b)
       written f o b here small room =
           let new = changes.written s f o b in
-          let k : FileChange new f _ =
-          record {
-            here = here;
-            files = refl;
-            size = longest (file_at s f).size (o + length b) MAX_FILE_SIZE (c.sizes f) small;
-            handles = refl;
-            sizes = refl;
-          } in
+          let k = file_change new f _ here refl
+          (longest (file_at s f).size (o + length b) MAX_FILE_SIZE (c.sizes f) small) refl refl in
           one_file new f _ k (requests_stay new f _ k refl refl refl
           (let n = len-written_pages s.sizes.page o b (file_at s f).pages in let old = c.frames in omega arith))
           c.syncs kept_syncs
@@ -437,8 +415,7 @@ module _ (s : State) (c : Limits s) (valid : (h : ℕ) → is_open s h ≡ true 
           → Limits (put_file s f (record (file_at s f) { size = z }))
       resized f z here small =
           let new = put_file s f (record (file_at s f) { size = z }) in
-          let k : FileChange new f _ =
-          record { here = here; files = refl; size = small; handles = refl; sizes = refl } in
+          let k = file_change new f _ here refl small refl refl in
           one_file new f _ k (requests_stay new f _ k refl refl refl (let old = c.frames in omega arith)) c.syncs
           kept_syncs
 
@@ -446,8 +423,7 @@ module _ (s : State) (c : Limits s) (valid : (h : ℕ) → is_open s h ≡ true 
           → Limits (put_page s f p page)
       put_one f p page here free =
           let new = put_page s f p page in
-          let k : FileChange new f _ =
-          record { here = here; files = refl; size = c.sizes f; handles = refl; sizes = refl } in
+          let k = file_change new f _ here refl (c.sizes f) refl refl in
           one_file new f _ k (requests_stay new f _ k refl refl refl
           (let n = len_put (file_at s f).pages p page in omega arith)) c.syncs kept_syncs
 
@@ -455,14 +431,7 @@ module _ (s : State) (c : Limits s) (valid : (h : ℕ) → is_open s h ≡ true 
           → Limits (put_pages s f (finmap.remove (file_at s f).pages p))
       evicted f p page is =
           let new = put_pages s f (finmap.remove (file_at s f).pages p) in
-          let k : FileChange new f _ =
-          record {
-            here = cached_within s f p (ap is_some is);
-            files = refl;
-            size = c.sizes f;
-            handles = refl;
-            sizes = refl;
-          } in
+          let k = file_change new f _ (cached_within s f p (ap is_some is)) refl (c.sizes f) refl refl in
           one_file new f _ k (requests_stay new f _ k refl refl refl
           (let n = len_gone (file_at s f).pages p in let old = c.frames in omega arith)) c.syncs kept_syncs
 
@@ -489,14 +458,7 @@ module _ (s : State) (c : Limits s) (valid : (h : ℕ) → is_open s h ≡ true 
       filled t x page is live kind =
           let new = put_page (ended s t) x.file x.page page in
           let it : is_live_fill x ≡ true = (λ i. is_fill (kind i) && not (live i)) in
-          let k : FileChange new x.file _ =
-          record {
-            here = live_file t x is live;
-            files = refl;
-            size = c.sizes x.file;
-            handles = refl;
-            sizes = refl;
-          } in
+          let k = file_change new x.file _ (live_file t x is live) refl (c.sizes x.file) refl refl in
           one_file new x.file _ k (requests_fewer new x.file _ k refl (len_gone s.requests t) refl
           (let less = count_one_gone is_live_fill s.requests t x is it in
           let more = len_put (file_at s x.file).pages x.page page in omega arith)) c.syncs kept_syncs
@@ -505,14 +467,7 @@ module _ (s : State) (c : Limits s) (valid : (h : ℕ) → is_open s h ≡ true 
           → Limits (changes.flushed (ended s t) x)
       flushed t x is live =
           let new = changes.flushed (ended s t) x in
-          let k : FileChange new x.file _ =
-          record {
-            here = live_file t x is live;
-            files = refl;
-            size = c.sizes x.file;
-            handles = refl;
-            sizes = refl;
-          } in
+          let k = file_change new x.file _ (live_file t x is live) refl (c.sizes x.file) refl refl in
           one_file new x.file _ k (requests_fewer new x.file _ k refl (len_gone s.requests t) refl
           (let a = count_gone is_live_fill s.requests t in
           let b = len_changed x.page (after_write false) (file_at s x.file).pages in omega arith)) c.syncs
@@ -522,8 +477,7 @@ module _ (s : State) (c : Limits s) (valid : (h : ℕ) → is_open s h ≡ true 
           → Limits (sync_begun s f m y)
       begun f m y here room fits =
           let new = sync_begun s f m y in
-          let k : FileChange new f _ =
-          record { here = here; files = refl; size = c.sizes f; handles = refl; sizes = refl } in
+          let k = file_change new f _ here refl (c.sizes f) refl refl in
           one_file new f _ k (requests_stay new f _ k refl refl refl
           (let a = len-each_value (to_write y) (file_at s f).pages in let old = c.frames in omega arith))
           (one_more _ (finmap.len s.syncs) MAX_SYNCS (len_put s.syncs m y) room) (put_syncs m y fits)

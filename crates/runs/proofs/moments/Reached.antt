@@ -46,9 +46,6 @@ reached_step w new e r m = record {
   leads = last-snoc r.run r.first new e;
 }
 
-pub files_first : (w : World) → IsFirst w → files_seen w ≡ no_files
-files_first w first = files_are w no_files (first_coupled w first)
-
 pub files_step : (w new : World) (e : Move) → IsReached w → WorldStep w e new
     → files_seen new ≡ plain_move (files_seen w) e
 files_step w new e r m =

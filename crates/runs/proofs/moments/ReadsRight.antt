@@ -1,7 +1,7 @@
 -- Reads are right.
 use Rattle.std.proofs.Common.{◌≡◌, ℕ, ◌+◌, ◌-◌, ◌*◌, ◌/◌, ◌%◌, ◌<◌, ◌≤◌, true, not, eqb, eqb-true, List, [], length}
 use Rattle.std.proofs.Common.{get_or, refl, ap, sym, ◌∙◌, arith, inl, inr, min}
-use Rattle.std.specs.Prelude.{Option, Some, None, unwrap_or, option_map, nat_lt}
+use Rattle.std.specs.Prelude.{Option, Some, None, unwrap_or, option_map, nat_lt, find}
 use Rattle.std.specs.FinMap as finmap
 use Rattle.std.proofs.lemmas.Bool.Decides.{nat_tests}
 use Rattle.pc_types.specs.Files.{pread}
@@ -30,7 +30,6 @@ use Rattle.machine.specs.declared.event.Reply.TheVariants as reply
 use Rattle.std.proofs.lemmas.List.{take_all}
 use Rattle.std.proofs.lemmas.Grind.{same_number_lists}
 use Rattle.std.proofs.Math.Nat.{le-div_iff_mul-le}
-use Rattle.std.specs.Prelude.{find}
 
 none_left : (f : List ℕ) (o n : ℕ) → min n (length f - o) ≡ 0 → pread f o n ≡ []
 none_left f o n e = same_number_lists _ _ (length-pread f o n ∙ e) (λ k h. absurd (omega (arith, length-pread f o n)))

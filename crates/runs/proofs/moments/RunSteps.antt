@@ -1,10 +1,9 @@
 -- A run, step by step.
 use Rattle.std.proofs.Common.{◌≡◌, ℕ, zero, suc, ◌<◌, [], ◌∷◌, length, refl, arith, take}
-use Rattle.std.specs.Prelude.{Some}
+use Rattle.std.specs.Prelude.{Some, slice_get}
 use Rattle.runs.specs.Plain.{Plain}
 use Rattle.runs.specs.World.{World, Move, WorldStep}
 use Rattle.runs.specs.Runs.{Steps, Run, last, plain_move, plain_from}
-use Rattle.std.specs.Prelude.{slice_get}
 
 -- ---- a run, step by step
 
@@ -21,11 +20,4 @@ step_at [] w plain k r h = absurd (omega arith)
 step_at (step ∷ steps) w plain zero r h =
     record { move = step.0; new = step.1; there = refl; next = refl; moves = r.0; plain_next = refl }
 step_at (step ∷ steps) w plain (suc k) r h = let s = step_at steps step.1 (plain_move plain step.0) k r.1
-    (omega arith) in record {
-      move = s.move;
-      new = s.new;
-      there = s.there;
-      next = s.next;
-      moves = s.moves;
-      plain_next = s.plain_next;
-    }
+    (omega arith) in search s

@@ -1,6 +1,6 @@
 -- Syncs start few writes.
-use Rattle.maps.proofs.Count.{passing}
-use Rattle.maps.specs.Maps.{each_value}
+use Rattle.maps.proofs.Count.{passing, count_of, count_le, count_lt}
+use Rattle.maps.specs.Maps.{each_value, change_at}
 use Rattle.pc_types.specs.declared.ids.SyncId.{SyncId}
 use Rattle.machine.specs.declared.event.Outcome.{Outcome}
 use Rattle.pc_types.specs.declared.ids.HandleId.{HandleId}
@@ -20,7 +20,6 @@ use Rattle.machine.specs.declared.event.Reply.TheVariants as reply
 use Rattle.machine.specs.State.{State, File, Page, Request, Sync, file_at, handle_file, is_open, page_at, no_file}
 use Rattle.machine.specs.State.{page_count, has_block, in_range}
 use Rattle.machine.specs.Changes.{under_write, after_write, started, put_file, put_page, put_pages, to_write}
-use Rattle.maps.specs.Maps.{change_at}
 use Rattle.machine.specs.Changes.{sync_begun, new_sync, written_page, written, cut_page, boundary, shrunk, ended}
 use Rattle.machine.specs.Changes.{flushed, flush_failed, drop_sync}
 use Rattle.machine.specs.Step.{Step}
@@ -37,7 +36,6 @@ use Rattle.runs.specs.Syncing.{dirty_between, started_by, tagged_by, total, Sync
 use Rattle.runs.specs.World.{World, Move, Act, Call, Finish, WorldStep, Ends}
 use Rattle.runs.proofs.views.View.{put1_tells, put2, put2_tells, towrite}
 use Rattle.runs.proofs.events.Coupled.{Coupled, coupled}
-use Rattle.maps.proofs.Count.{count_of, count_le, count_lt}
 use Rattle.runs.proofs.moments.Histories.{calls}
 use Rattle.runs.proofs.moments.Limits.{live_file_of}
 use Rattle.runs.proofs.events.Lookups.{get_or-default, cached_within, change_page-is, get-insert1, get-remove1}

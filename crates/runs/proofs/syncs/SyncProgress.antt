@@ -1,5 +1,5 @@
 -- A sync in progress, at each moment of a run: where each page of its range stands that its file had as it began.
-use Rattle.runs.proofs.views.View.{Flight}
+use Rattle.runs.proofs.views.View.{Flight, View, Good, Evolves, put1_here, dirty, writeback, towrite}
 use Rattle.machine.proofs.steps.Answered.{is_quiet}
 use Rattle.std.proofs.Common.{◌≡◌, ◌≢◌, ℕ, zero, suc, ◌+◌, ◌<◌, ◌≤◌, Bool, true, false, not, eqb, eq-eqb, List, length}
 use Rattle.std.proofs.Common.{refl, ap, sym, subst, ◌∙◌, arith, inl, inr}
@@ -24,7 +24,6 @@ use Rattle.runs.specs.Plain.{Plain, plain_file, no_files}
 use Rattle.runs.specs.World.{World, Move, WorldStep}
 use Rattle.runs.specs.Runs.{Steps, IsFirst, Run, world_at, plain_at}
 use Rattle.runs.specs.Syncing.{cuts_off, CutOff, IsOnDevice, Begin, InRange, its_file}
-use Rattle.runs.proofs.views.View.{View, Good, Evolves, put1_here, dirty, writeback, towrite}
 use Rattle.runs.proofs.events.Coupled.{view, held_is}
 use Rattle.runs.proofs.events.Lookups.{get-insert1}
 use Rattle.runs.proofs.views.Fresh.{IsFresh, IsUnder, fresh_next, under_next, waiting_next}
@@ -409,18 +408,13 @@ module _ (w : World) (run : Steps) (first : IsFirst w) (r : Run w run) where
           clean_page e d true b =
               let j = good0.flushes f p b in
               let under : IsUnder (V i) (Seen i f i p) f p j.serial =
-              record {
-                request = j.request;
-                is = j.is;
-                kind = j.kind;
-                live = j.live;
-                file = j.file;
-                page = j.page;
-                seen = subst (Seen i f i p) (sym
+              search (
+                j,
+                subst (Seen i f i p) (sym
                     (((good0.requests j.serial j.request j.is).flush j.live j.kind).clean
                     ((λ m. dirty (page_at (W i).core (j.file m) (j.page m))) ∙ d)
-                    ∙ (λ m. (V i).content (j.file m) (j.page m)))) seen0;
-              } in
+                    ∙ (λ m. (V i).content (j.file m) (j.page m)))) seen0,
+              ) in
               elim (under_next (V i) (V (suc i)) good0 (gone_at i s) ev0 f p e (Seen i f i p) (Seen i f (suc i) p)
               (seen_more i f i p) (seen_now i f i p (omega arith) (omega arith)) j.serial under same0) [
                 | inl v ↦ inr (inl (j.serial, v, λ b k. absurd cc))

@@ -1,15 +1,13 @@
 -- Syncs over every run: what Clean and Failed mean, in which order pages are started, and what becomes of DIRTY pages.
-use Rattle.machine.specs.Changes.{is_left}
-use Rattle.runs.specs.Syncing.{InRange}
+use Rattle.machine.specs.Changes.{is_left, sync_pick, to_write, new_sync, sync_stepped}
+use Rattle.runs.specs.Syncing.{InRange, Begin, Begins, IsSync, its_file, CutOff, WasStarted, requested_page, cuts_off}
+use Rattle.runs.specs.Syncing.{DirtyPagesStay, SyncsAreSynced, SyncsRise, SyncsTell}
 use Rattle.maps.proofs.Found.{found}
-use Rattle.std.specs.Prelude.{find, nat_le}
-use Rattle.std.proofs.Common.{cond}
-use Rattle.machine.proofs.steps.Choices.{and_true, mapped_some}
-use Rattle.std.proofs.Common.{[]}
-use Rattle.machine.proofs.steps.Cases.{Happened}
-use Rattle.std.proofs.Common.{◌≡◌, ℕ, zero, suc, ◌+◌, ◌-◌, ◌<◌, ◌≤◌, Bool, true, false, length, refl, ap}
-use Rattle.std.proofs.Common.{sym, subst, ◌∙◌, arith, inl, inr}
-use Rattle.std.specs.Prelude.{◌&&◌, ◌||◌, ◌⊎◌, Option, Some, None, is_some, option_map, unwrap_or}
+use Rattle.std.specs.Prelude.{find, nat_le, ◌&&◌, ◌||◌, ◌⊎◌, Option, Some, None, is_some, option_map, unwrap_or}
+use Rattle.std.proofs.Common.{cond, [], ◌≡◌, ℕ, zero, suc, ◌+◌, ◌-◌, ◌<◌, ◌≤◌, Bool, true, false, length, refl, ap, sym}
+use Rattle.std.proofs.Common.{subst, ◌∙◌, arith, inl, inr}
+use Rattle.machine.proofs.steps.Choices.{and_true, mapped_some, some_of}
+use Rattle.machine.proofs.steps.Cases.{Happened, happened}
 use Rattle.std.specs.FinMap as finmap
 use Rattle.std.proofs.lemmas.Bool.Decides.{nat_tests}
 use Rattle.std.proofs.lemmas.Option.{slice_get_within}
@@ -24,27 +22,20 @@ use Rattle.machine.specs.declared.event.Reply.{Reply}
 use Rattle.machine.specs.declared.event.Reply.TheVariants as reply
 use Rattle.machine.specs.State.{State, Page, Request, Sync, file_at, handle_file, is_open, page_at, in_range}
 use Rattle.machine.specs.State.{first_awaited}
-use Rattle.machine.specs.Changes.{sync_pick, to_write, new_sync, sync_stepped}
 use Rattle.machine.specs.Step.{Step, SyncReply, SyncStepReply}
-use Rattle.machine.proofs.steps.Cases.{happened}
 use Rattle.machine.proofs.changes.ChangeLaws.{BeginsSync, sync_begun_begins}
-use Rattle.machine.proofs.steps.Choices.{some_of}
 use Rattle.machine.proofs.steps.Passed.{may_begin}
 use Rattle.machine.proofs.steps.Picks.{past, pick_past, pick_unbound}
 use Rattle.runs.specs.Plain.{plain_file, no_files}
 use Rattle.runs.specs.World.{World, Move, Act, WorldStep}
 use Rattle.runs.specs.Runs.{Steps, IsFirst, Run, EveryRun, world_at, core_at, plain_at}
-use Rattle.runs.specs.Syncing.{Begin, Begins, IsSync, its_file, CutOff, WasStarted, requested_page, cuts_off}
-use Rattle.runs.specs.Syncing.{DirtyPagesStay, SyncsAreSynced, SyncsRise, SyncsTell}
 use Rattle.runs.proofs.views.View.{Flight, put1_here, dirty, towrite}
 use Rattle.runs.proofs.events.Lookups.{get-insert1}
 use Rattle.runs.proofs.moments.Moments.{coupled_at}
 use Rattle.runs.proofs.moments.RunSteps.{StepAt}
 use Rattle.runs.proofs.syncs.SyncProgress.{at, begun, begun_unbound, clean_step, Done, done_on, done_synced}
-use Rattle.runs.proofs.syncs.SyncProgress.{ended_pages}
-use Rattle.runs.proofs.syncs.SyncProgress.{evolves_at, failed_step, file_is, InProgress, in_progress_on, moves_at}
-use Rattle.runs.proofs.syncs.SyncProgress.{off_more}
-use Rattle.runs.proofs.syncs.SyncProgress.{off_now, size_at, tracked_at}
+use Rattle.runs.proofs.syncs.SyncProgress.{ended_pages, evolves_at, failed_step, file_is, InProgress, in_progress_on}
+use Rattle.runs.proofs.syncs.SyncProgress.{moves_at, off_more, off_now, size_at, tracked_at}
 use Rattle.runs.proofs.events.Tables.{request_is, in_flight, writes}
 use Rattle.runs.proofs.syncs.Track.{IsUnmoved, IsStarting, IsBound}
 
@@ -340,18 +331,7 @@ module _ (w : World) (run : Steps) (first : IsFirst w) (r : Run w run) (i f : �
       ⊎ (CutOff w.core.sizes.page run i k f p ⊎ WasStarted w run i k f p)
 
   still_started : (k p : ℕ) → WasStarted w run i k f p → WasStarted w run i (suc k) f p
-  still_started k p s =
-      record {
-        moment = s.moment;
-        serial = s.serial;
-        block = s.block;
-        after = s.after;
-        before = let a = s.before in
-            omega arith;
-        was = s.was;
-        is = s.is;
-        bytes = s.bytes;
-      }
+  still_started k p s = let before : s.moment < suc k = (let a = s.before in omega arith) in search (s, before)
 
   not_in_flight : (o : Option Request) → is_some o ≡ false → o ≡ None
   not_in_flight None e = refl

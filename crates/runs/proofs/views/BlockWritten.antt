@@ -4,11 +4,9 @@ use Rattle.std.proofs.Common.{inr}
 use Rattle.std.specs.Prelude.{◌⊎◌, Option, Some, None}
 use Rattle.pc_types.specs.Files.{cut}
 use Rattle.pc_types.specs.Spots.{Spot}
-use Rattle.runs.proofs.views.View.{View, Flight, Good, PageIs, RequestIs, Evolves, WasFlushed, no_gone, put1}
-use Rattle.runs.proofs.views.View.{put1_tells}
-use Rattle.runs.proofs.views.View.{put1_here, put1_else, block_user, writeback, held_by, held}
+use Rattle.runs.proofs.views.View.{View, HasFlush, Flight, Good, PageIs, RequestIs, Evolves, WasFlushed, no_gone, put1}
+use Rattle.runs.proofs.views.View.{put1_tells, put1_here, put1_else, block_user, writeback, held_by, held, still_flying}
 use Rattle.pc_types.specs.declared.kind.Kind.TheVariants.{Flush}
-use Rattle.runs.proofs.views.View.{still_flying}
 use Rattle.runs.proofs.views.CallNoted.{same_request}
 
 module _ (v : View) (ok : Good v) (t : ℕ) (r : Flight) (is : v.request t ≡ Some r) (kind : r.kind ≡ Flush) where
@@ -65,19 +63,10 @@ module _ (v : View) (ok : Good v) (t : ℕ) (r : Flight) (is : v.request t ≡ S
   ]
 
   pub block_written_kept : Good after
-  block_written_kept = record {
-    positive = ok.positive;
-    pages = pages;
-    page_in = ok.page_in;
-    spot_in = ok.spot_in;
-    spot_block = ok.spot_block;
-    spots_apart = ok.spots_apart;
-    requests = requests;
-    requests_apart = ok.requests_apart;
-    flushes = λ g q e. still_flying v after g q (ok.flushes g q e) refl;
-    outcomes = ok.outcomes;
-    block_sizes = block_sizes;
-  }
+  block_written_kept =
+      let flushes : (g q : ℕ) → writeback (v.page g q) ≡ true → HasFlush after g q =
+      λ g q e. still_flying v after g q (ok.flushes g q e) refl in
+      assumption (pages, requests, flushes, block_sizes)
 
   pub block_written_evolves : Evolves no_gone v after
   block_written_evolves = record {

@@ -5,8 +5,7 @@ use Rattle.pc_types.specs.declared.kind.Kind.TheVariants.{Fill, Flush}
 use Rattle.machine.specs.declared.event.Outcome.{Outcome}
 use Rattle.machine.specs.declared.event.Outcome.TheVariants as outcome
 use Rattle.runs.proofs.views.View.{View, Flight, Good, RequestIs, Evolves, no_gone, quietly_evolves, put1, put1_tells}
-use Rattle.runs.proofs.views.View.{dirty}
-use Rattle.runs.proofs.views.View.{writeback, held_by, good_after, still_flying}
+use Rattle.runs.proofs.views.View.{dirty, writeback, held_by, good_after, still_flying}
 
 -- an outcome is of a request in flight
 pub noted_outcomes : (v : View) → Good v → (t : ℕ) (r : Flight) → v.request t ≡ Some r → (o : Outcome) (u : ℕ)

@@ -3,9 +3,8 @@ use Rattle.std.proofs.Common.{◌≡◌, ℕ, true, false, refl, ap, sym, ◌∙
 use Rattle.std.specs.Prelude.{Some, None}
 use Rattle.pc_types.specs.declared.kind.Kind.TheVariants.{Flush}
 use Rattle.runs.proofs.views.View.{View, Flight, Good, RequestIs, HasFlush, Evolves, no_gone, quietly_evolves, put1}
-use Rattle.runs.proofs.views.View.{writeback}
+use Rattle.runs.proofs.views.View.{writeback, good_after, still_flying}
 use Rattle.runs.proofs.views.EndRequest.{others, outcome_left, others_apart, outcomes_left, left}
-use Rattle.runs.proofs.views.View.{good_after, still_flying}
 
 module _ (v : View) (ok : Good v) (t : ℕ) (r : Flight) (is : v.request t ≡ Some r)
     (quiet : r.dropped ≡ false → r.kind ≡ Flush → ⊥) where

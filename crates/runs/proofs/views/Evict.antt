@@ -3,10 +3,8 @@ use Rattle.std.proofs.Common.{◌≡◌, ℕ, true, false, refl, arith}
 use Rattle.std.specs.Prelude.{Option, Some, None}
 use Rattle.machine.specs.State.{Page}
 use Rattle.runs.proofs.views.View.{View, Flight, Good, PageIs, RequestIs, HasFlush, Evolves, no_gone, quietly_evolves}
-use Rattle.runs.proofs.views.View.{put2}
-use Rattle.runs.proofs.views.View.{put2_tells, dirty, writeback, towrite, held}
-use Rattle.runs.proofs.views.View.{good_after, still_flying}
-use Rattle.runs.proofs.views.View.{one_page, one_page_in, dirty}
+use Rattle.runs.proofs.views.View.{put2, put2_tells, dirty, writeback, towrite, held, good_after, still_flying}
+use Rattle.runs.proofs.views.View.{one_page, one_page_in}
 
 module _ (v : View) (ok : Good v) (f p : ℕ) (clean : dirty (v.page f p) ≡ false)
     (idle : writeback (v.page f p) ≡ false) where

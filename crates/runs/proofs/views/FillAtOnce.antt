@@ -4,12 +4,9 @@ use Rattle.std.specs.Prelude.{Option, Some, None}
 use Rattle.pc_types.specs.Tags.{no_tags}
 use Rattle.machine.specs.State.{Page, page_count}
 use Rattle.runs.proofs.views.View.{View, Flight, Good, PageIs, RequestIs, HasFlush, Evolves, no_gone, quietly_evolves}
-use Rattle.runs.proofs.views.View.{put2}
-use Rattle.runs.proofs.views.View.{put2_tells, writeback, held}
-use Rattle.runs.proofs.views.View.{good_after, still_flying}
+use Rattle.runs.proofs.views.View.{put2, put2_tells, writeback, held, good_after, still_flying, one_page, one_page_in}
+use Rattle.runs.proofs.views.View.{dirty}
 use Rattle.pc_types.specs.declared.kind.Kind.TheVariants.{Fill}
-use Rattle.runs.proofs.views.View.{one_page, one_page_in, dirty}
-use Rattle.std.proofs.Common.{◌∙◌}
 
 module _ (v : View) (ok : Good v) (f p : ℕ) (absent : v.page f p ≡ None) (bytes : List ℕ)
     (right : bytes ≡ v.content f p) (within : p < page_count v.page_size (v.size f))

@@ -3,9 +3,8 @@ use Rattle.std.proofs.Common.{◌≡◌, ℕ, ◌+◌, true, false, [], refl, sy
 use Rattle.std.specs.Prelude.{Option, Some, None}
 use Rattle.pc_types.specs.declared.kind.Kind.TheVariants.{Fill, Flush}
 use Rattle.runs.proofs.views.View.{View, Flight, Good, RequestIs, HasFlush, Evolves, no_gone, quietly_evolves, put1}
-use Rattle.runs.proofs.views.View.{put1_tells, fresh, no_outcome, block_user, writeback}
+use Rattle.runs.proofs.views.View.{put1_tells, fresh, no_outcome, block_user, writeback, good_after, still_flying}
 use Rattle.runs.proofs.views.BeginRequest.{begun_apart, begun_requests, stays_begun, begun_outcomes}
-use Rattle.runs.proofs.views.View.{good_after, still_flying}
 
 module _ (v : View) (ok : Good v) (f p b : ℕ) (absent : v.page f p ≡ None)
     (mapped : v.spot f p ≡ Some (record { block = b; written = true }))

@@ -4,12 +4,9 @@ use Rattle.std.specs.Prelude.{Option, Some, None, is_some, option_map}
 use Rattle.pc_types.specs.declared.kind.Kind.TheVariants.{Fill, Flush}
 use Rattle.machine.specs.State.{Page}
 use Rattle.runs.proofs.views.View.{View, Flight, Good, PageIs, RequestIs, HasFlush, Evolves, no_gone, put1, put2}
-use Rattle.runs.proofs.views.View.{put1_tells}
-use Rattle.runs.proofs.views.View.{put2_tells, put1_here, spot_of, fresh, no_outcome, live_spot, block_user, writeback}
-use Rattle.runs.proofs.views.View.{towrite, held}
+use Rattle.runs.proofs.views.View.{put1_tells, put2_tells, put1_here, spot_of, fresh, no_outcome, live_spot, block_user}
+use Rattle.runs.proofs.views.View.{writeback, towrite, held, good_after, still_flying, one_page, one_page_in}
 use Rattle.runs.proofs.views.BeginRequest.{begun_apart, begun_requests, stays_begun, begun_outcomes}
-use Rattle.runs.proofs.views.View.{good_after, still_flying}
-use Rattle.runs.proofs.views.View.{one_page, one_page_in, spot_of}
 
 module _ (v : View) (ok : Good v) (f p b : ℕ) (old_page : Page) (cached : v.page f p ≡ Some old_page)
     (is_dirty : old_page.tags.dirty ≡ true) (idle : old_page.tags.writeback ≡ false)

@@ -4,11 +4,9 @@ use Rattle.std.specs.Prelude.{Option, Some, None, is_some}
 use Rattle.pc_types.specs.declared.kind.Kind.TheVariants.{Flush}
 use Rattle.machine.specs.State.{Page}
 use Rattle.runs.proofs.views.View.{View, Flight, Good, PageIs, FlushIs, RequestIs, HasFlush, Evolves, no_gone, put1}
-use Rattle.runs.proofs.views.View.{put2}
-use Rattle.runs.proofs.views.View.{put1_tells, put2_tells, put1_here, writeback, towrite, held}
+use Rattle.runs.proofs.views.View.{put2, put1_tells, put2_tells, put1_here, writeback, towrite, held, good_after}
+use Rattle.runs.proofs.views.View.{still_flying, one_page, one_page_in, spot_of}
 use Rattle.runs.proofs.views.EndRequest.{others, outcome_left, others_apart, outcomes_left, left, none_beside}
-use Rattle.runs.proofs.views.View.{good_after, still_flying}
-use Rattle.runs.proofs.views.View.{one_page, one_page_in, spot_of}
 
 module _ (v : View) (ok : Good v) (t : ℕ) (r : Flight) (is : v.request t ≡ Some r) (live : r.dropped ≡ false)
     (kind : r.kind ≡ Flush) (old_page page : Page) (cached : v.page r.file r.page ≡ Some old_page)

@@ -6,12 +6,9 @@ use Rattle.machine.specs.declared.event.Outcome.TheVariants as outcome
 use Rattle.machine.specs.State.{Page, page_count}
 use Rattle.pc_types.specs.Spots.{Spot}
 use Rattle.runs.proofs.views.View.{View, Flight, Good, PageIs, FlushIs, RequestIs, HasFlush, Evolves, no_gone, put1}
-use Rattle.runs.proofs.views.View.{put2}
-use Rattle.runs.proofs.views.View.{put1_tells, put2_tells, put2_here, spot_of, dirty, writeback, towrite, settled}
-use Rattle.runs.proofs.views.View.{held_by}
-use Rattle.runs.proofs.views.View.{held}
+use Rattle.runs.proofs.views.View.{put2, put1_tells, put2_tells, put2_here, spot_of, dirty, writeback, towrite, settled}
+use Rattle.runs.proofs.views.View.{held_by, held, still_flying}
 use Rattle.runs.proofs.views.EndRequest.{others, outcome_left, others_apart, outcomes_left, left, none_beside}
-use Rattle.runs.proofs.views.View.{still_flying}
 
 module _ (v : View) (ok : Good v) (t : ℕ) (r : Flight) (is : v.request t ≡ Some r) (live : r.dropped ≡ false)
     (kind : r.kind ≡ Flush) (old_page page : Page) (cached : v.page r.file r.page ≡ Some old_page)

@@ -39,15 +39,7 @@ module _ (v w : View) (ok : Good v) (gone : ℕ → ℕ → Bool) (ev : Evolves 
   pub under_next : (t : ℕ) → IsUnder v Seen f p t → w.failures f ≡ v.failures f → IsUnder w Later f p t
       ⊎ IsFresh w Later f p
   under_next t u same = elim (ev.flush t u.request u.is u.kind u.live ((λ i. gone (u.file i) (u.page i)) ∙ left)) [
-    | inl e ↦ inl (record {
-      request = u.request;
-      is = e;
-      kind = u.kind;
-      live = u.live;
-      file = u.file;
-      page = u.page;
-      seen = more _ u.seen;
-    })
+    | inl e ↦ inl (search (e, more _ u.seen))
     | inr x ↦ elim x [
       | inl failed ↦ absurd (let a : w.failures f ≡ v.failures f + 1 = (λ i. w.failures (sym u.file i)) ∙ failed
           ∙ (λ i. v.failures (u.file i) + 1) in omega arith)
@@ -64,16 +56,5 @@ module _ (v w : View) (ok : Good v) (gone : ℕ → ℕ → Bool) (ev : Evolves 
   pub waiting_next : towrite (v.page f p) ≡ true → (towrite (w.page f p) ≡ true) ⊎ ((t : ℕ) × IsUnder w Later f p t)
   waiting_next e = elim (ev.to_write f p left e) [
     | inl h ↦ inl h
-    | inr x ↦ inr (
-      x.serial,
-      record {
-        request = x.request;
-        is = x.is;
-        kind = x.kind;
-        live = x.live;
-        file = x.file;
-        page = x.page;
-        seen = subst Later (sym x.bytes) now;
-      },
-    )
+    | inr x ↦ inr (x.serial, search (subst Later (sym x.bytes) now))
   ]

@@ -4,8 +4,7 @@ use Rattle.std.specs.Prelude.{Some, is_some}
 use Rattle.std.proofs.Math.Nat.{le-div_iff_mul-le}
 use Rattle.machine.specs.State.{page_count}
 use Rattle.runs.proofs.views.View.{View, Flight, Good, RequestIs, HasFlush, Evolves, no_gone, quietly_evolves, put1}
-use Rattle.runs.proofs.views.View.{put1_tells, writeback}
-use Rattle.runs.proofs.views.View.{still_flying}
+use Rattle.runs.proofs.views.View.{put1_tells, writeback, still_flying}
 
 pub page_count_more : (P a b : ℕ) → 0 < P → a ≤ b → page_count P a ≤ page_count P b
 page_count_more P a b h l =
@@ -32,33 +31,13 @@ module _ (v : View) (ok : Good v) (f z : ℕ) (more : v.size f ≤ z) where
       let m = page_count_more v.page_size (v.size g) (after.size g) ok.positive (grows g) in omega arith
 
   requests : (u : ℕ) (s : Flight) → after.request u ≡ Some s → RequestIs after u s
-  requests u s e = let old = ok.requests u s e in
-      record {
-        serial = old.serial;
-        block = old.block;
-        bytes = old.bytes;
-        fill = old.fill;
-        flush = old.flush;
-        dead = old.dead;
-      }
+  requests u s e = assumption (ok.requests u s e)
 
   flushes : (g q : ℕ) → writeback (after.page g q) ≡ true → HasFlush after g q
   flushes g q e = let j = ok.flushes g q e in still_flying v after g q j refl
 
   pub grow_kept : Good after
-  grow_kept = record {
-    positive = ok.positive;
-    pages = ok.pages;
-    page_in = page_in;
-    spot_in = spot_in;
-    spot_block = ok.spot_block;
-    spots_apart = ok.spots_apart;
-    requests = requests;
-    requests_apart = ok.requests_apart;
-    flushes = flushes;
-    outcomes = ok.outcomes;
-    block_sizes = ok.block_sizes;
-  }
+  grow_kept = assumption (page_in, spot_in, requests, flushes)
 
   pub grow_evolves : Evolves no_gone v after
   grow_evolves = quietly_evolves no_gone v after (λ g q _. refl) (λ u r e k d. e) (λ u r e k d _. e) (λ g q _ e. e)

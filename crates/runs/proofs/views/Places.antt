@@ -4,8 +4,7 @@ use Rattle.std.specs.Prelude.{◌⊎◌, Option, Some, None, is_some, option_map
 use Rattle.machine.specs.State.{Page, page_count}
 use Rattle.pc_types.specs.Spots.{Spot}
 use Rattle.runs.proofs.views.View.{View, Flight, Good, PageIs, RequestIs, HasFlush, Evolves, quietly_evolves}
-use Rattle.runs.proofs.views.View.{block_user}
-use Rattle.runs.proofs.views.View.{dirty, writeback, towrite, settled, held_by, held}
+use Rattle.runs.proofs.views.View.{block_user, dirty, writeback, towrite, settled, held_by, held}
 use Rattle.runs.proofs.views.Place.{IsSame, IsGone, IsNew, IsPut, dropped_where}
 
 module _ (v : View) (ok : Good v) (page : ℕ → ℕ → Option Page) (spot : ℕ → ℕ → Option Spot) (content : ℕ → ℕ → List ℕ)
@@ -207,16 +206,11 @@ module _ (v : View) (ok : Good v) (page : ℕ → ℕ → Option Page) (spot : �
   still_flushes : (g q : ℕ) → gone g q ≡ false → HasFlush v g q → HasFlush after g q
   still_flushes g q n h =
       let not_gone : gone h.request.file h.request.page ≡ false = (λ i. gone (h.file i) (h.page i)) ∙ n in
-      record {
-        serial = h.serial;
-        request = h.request;
-        is = ap (option_map (dropped_where gone)) h.is
-            ∙ ap (λ b. Some (cond b (record h.request { dropped = true }) h.request)) not_gone;
-        kind = h.kind;
-        live = h.live;
-        file = h.file;
-        page = h.page;
-      }
+      search (
+        h,
+        ap (option_map (dropped_where gone)) h.is
+            ∙ ap (λ b. Some (cond b (record h.request { dropped = true }) h.request)) not_gone,
+      )
 
   flushes : (g q : ℕ) → writeback (page g q) ≡ true → HasFlush after g q
   flushes g q e = elim (gone_or g q) [

@@ -257,16 +257,7 @@ stays gone v = quietly_evolves gone v v (λ f p g. refl) (λ t r e k d. e) (λ t
 -- a write in flight whose request stays
 pub still_flying : (v w : View) (f p : ℕ) (j : HasFlush v f p) → w.request j.serial ≡ v.request j.serial
     → HasFlush w f p
-still_flying v w f p j e =
-    record {
-      serial = j.serial;
-      request = j.request;
-      is = e ∙ j.is;
-      kind = j.kind;
-      live = j.live;
-      file = j.file;
-      page = j.page;
-    }
+still_flying v w f p j e = search (e ∙ j.is)
 
 -- a change of pages, of requests and of what is noted of them
 abbrev pub changed : View → (ℕ → ℕ → Option Page) → (ℕ → Option Flight) → (ℕ → Option Outcome) → ℕ → (ℕ → ℕ) → View
@@ -284,19 +275,8 @@ pub good_after : (v : View) → Good v
     → ((f p : ℕ) → writeback (page f p) ≡ true → HasFlush (changed v page request outcome next failures) f p)
     → ((t : ℕ) → is_some (outcome t) ≡ true → is_some (request t) ≡ true)
     → Good (changed v page request outcome next failures)
-good_after v ok page request outcome next failures pages page_in requests requests_apart flushes outcomes = record {
-  positive = ok.positive;
-  pages = pages;
-  page_in = page_in;
-  spot_in = ok.spot_in;
-  spot_block = ok.spot_block;
-  spots_apart = ok.spots_apart;
-  requests = requests;
-  requests_apart = requests_apart;
-  flushes = flushes;
-  outcomes = outcomes;
-  block_sizes = ok.block_sizes;
-}
+good_after v ok page request outcome next failures pages page_in requests requests_apart flushes outcomes =
+    assumption
 
 -- one page changes
 pub one_page : (v : View) → Good v → (f p : ℕ) (x : Option Page) → PageIs (v.content f p) (held v f p) (v.spot f p) x

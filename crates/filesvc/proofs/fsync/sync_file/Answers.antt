@@ -1,19 +1,18 @@
-use Rattle.std.proofs.Common.{◌≡◌, ◌≤◌, ◌+◌, ℕ, ap, refl, sym, subst, ◌∙◌, arith}
+use Rattle.std.proofs.Common.{◌≡◌, ap, refl, sym, subst, ◌∙◌, arith}
 use Rattle.std.specs.Prelude.{Err, IfOk, is_some}
 use Rattle.std.specs.FinMap as map
 use Rattle.machine.specs.declared.event.Event.TheVariants as event
 use Rattle.machine.specs.declared.event.Reply.TheVariants as reply
-use Rattle.machine.specs.State.{file_at}
-use Rattle.runs.specs.Syncing.{dirty_between}
 use Rattle.world.specs.Stepping.{WorldSeen, world_of}
 use Rattle.filesvc.specs.Rests.{IsService}
-use Rattle.filesvc.specs.Service.{IsSynced, Serves}
+use Rattle.filesvc.specs.Service.{IsTallied, Serves}
 use Rattle.filesvc.specs.Syncs.{clean_or, service_of}
 use Rattle.world.specs.declared.step.Step.TheVariants as step
 use Rattle.cachecore.proofs.StepLemmas.{err_is}
 use Rattle.filesvc.specs.Made.{Syncs, is_for_sync}
 use Rattle.filesvc.proofs.Laws.{moves_trans, one_move, serves_refl, serves_trans}
-use Rattle.filesvc.proofs.SyncLaws.{begin_costs, begin_left, begun_of, call_ends, call_refused, call_synced, end_moves, ends_free, ends_serving, goes_down, in_sync, made_service}
+use Rattle.filesvc.proofs.SyncLaws.{begin_costs, begin_left, begun_of, call_ends, call_refused, call_synced}
+use Rattle.filesvc.proofs.SyncLaws.{call_tallied, end_moves, ends_free, ends_serving, goes_down, in_sync, made_service}
 use Rattle.filesvc.proofs.SyncLaws.{renamed, same_service, syncs_over, turn_goes, turn_next, turn_of, turn_only, turned_costs, writes_begin, writes_go, writes_moves}
 use Rattle.filesvc.proofs.SyncsKept.{begun_range, only_begun}
 use Rattle.filesvc.proofs.fsync.sync_file.Goals as goal
@@ -32,7 +31,10 @@ returns-in_err-sync g c =
       made = one_move is_for_sync old new (step.SyncBeginRange c.args.handle c.args.first c.args.last) (reply.Refused c.in_err-sync.field-0.0) refl c.in_err-sync.ensures;
       ends = subst (λ r. IfOk r (λ failed. Syncs c.args.handle c.args.first c.args.last old (clean_or failed) new)) (sym is) tt;
       cost = λ f here. (let a : new.device.calls ≡ old.device.calls = ap (λ (w : WorldSeen). w.device.calls) same in omega arith);
-      synced = λ tells f here. subst (λ r. IfOk r (IsSynced (service_of old c.args.recorder.now) f c.args.first c.args.last (service_of new c.args.recorder.now))) (sym is) tt;
+      tallied = λ f here. subst
+          (λ r. IfOk r (IsTallied (service_of old c.args.recorder.now) f (service_of new c.args.recorder.now)))
+          (sym is) tt;
+      synced = λ tells f here e. absurd (let y = sym is ∙ e in cc);
       refused = λ order. absurd (let turned = x.1.0 in omega arith);
     }
 
@@ -74,8 +76,12 @@ returns-in-Some g c =
           let y = ends_free c.steps.world c.sync_step.new.world c.sync_end.new.world c.in_ok-sync.sync
           c.in-Some.reply c.sync_end.result turn.1 end.same end.dropped in
           omega arith);
+      tallied = λ f here. call_tallied old now mid new c.args.handle c.args.first c.args.last c.in_ok-sync.sync f here
+          i.serves c.sync_step.ensures.serves c.in-Some.reply c.sync_end.result i.of turn.1 end.end
+          (same_service c.sync_step.new.world c.sync_end.new.world c.sync_step.new.recorder c.sync_end.result end.same);
       synced = λ tells f here. call_synced old now mid new c.args.handle c.args.first c.args.last c.in_ok-sync.sync f here i.serves c.sync_step.ensures.serves c.in-Some.reply c.sync_end.result (i.syncing tells) turn.1 end.end (same_service c.sync_step.new.world c.sync_end.new.world c.sync_step.new.recorder c.sync_end.result end.same);
-      refused = λ _. call_refused old now mid new c.in_ok-sync.sync (λ t. i.serves.keeps.tells ∙ t) i.serving.rests i.serving.reached i.only c.in-Some.reply c.sync_end.result turn.0 turn.1 end.end end.dropped;
+      refused = λ _. call_refused now mid new c.in_ok-sync.sync i.serving.rests i.serving.orderly i.only c.in-Some.reply
+          c.sync_end.result turn.0 turn.1 end.end end.dropped;
     }
 
 pub steps-smaller : goal.steps-smaller

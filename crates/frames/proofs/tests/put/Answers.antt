@@ -1,4 +1,4 @@
-use Rattle.std.proofs.Common.{◌≡◌, ◌∙◌, ap, ℕ, List, length, slice_set}
+use Rattle.std.proofs.Common.{◌∙◌, ap, ℕ, List, length, slice_set}
 use Rattle.frames.specs.Table.{Table}
 use Rattle.frames.proofs.RowLemmas.{with_row-whole}
 use Rattle.frames.proofs.tests.put.Goals as goal

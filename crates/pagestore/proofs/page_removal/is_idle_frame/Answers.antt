@@ -1,5 +1,6 @@
 use Rattle.std.proofs.Common.{ap, sym, ◌∙◌}
-use Rattle.pagestore.specs.Cuts.{is_idle_entry, is_idle_owner}
+use Rattle.pagestore.specs.Cuts.{is_idle_owner}
+use Rattle.pagestore.specs.Store.{is_idle_entry}
 use Rattle.pagestore.proofs.Idle.{past_files}
 use Rattle.pagestore.proofs.page_removal.is_idle_frame.Goals as goal
 

@@ -1,4 +1,4 @@
-use Rattle.std.proofs.Common.{arith, length, ap, refl, sym, subst, ◌∙◌, ◌≡◌}
+use Rattle.std.proofs.Common.{arith, length, ap, sym, subst, ◌∙◌, ◌≡◌}
 use Rattle.pc_types.specs.declared.kind.Kind.TheVariants.{Flush}
 use Rattle.blockmap.specs.Keys.{IsPage}
 use Rattle.blockdev.specs.Buffer.{written_over}
@@ -7,7 +7,6 @@ use Rattle.pagestore.specs.Store.{the_page, stored_at}
 use Rattle.machine.specs.State.{State}
 use Rattle.machine.specs.Tests.{is_full}
 use Rattle.cachecore.specs.Starting.{IsStarted, MayStart}
-use Rattle.cachecore.specs.Tables.{IsCache}
 use Rattle.cachecore.proofs.CoreViews.{state_is}
 use Rattle.cachecore.proofs.FlushCalls.{begun, begun_cache, begun_is, cached_start, held_room, mapped_block}
 use Rattle.cachecore.proofs.FlushCalls.{must_be_told, started_call, unheld_block, written_whole}

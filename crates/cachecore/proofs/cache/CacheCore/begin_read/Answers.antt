@@ -10,7 +10,7 @@ use Rattle.machine.specs.PageLists.{entered}
 use Rattle.pagestore.specs.Store.{Store}
 use Rattle.pagestore.proofs.PairLemmas.{when_err, when_ok}
 use Rattle.cachecore.specs.Core.{Core}
-use Rattle.cachecore.specs.Tables.{IsCache, state_of}
+use Rattle.cachecore.specs.Tables.{state_of}
 use Rattle.cachecore.proofs.CoreLemmas.{free_frames_are}
 use Rattle.cachecore.proofs.FillCalls.{reading, reading_cache, reading_is}
 use Rattle.cachecore.proofs.FillKeeps.{mapped_here, unheld_here}

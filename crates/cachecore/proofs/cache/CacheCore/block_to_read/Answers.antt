@@ -1,5 +1,4 @@
-use Rattle.std.proofs.Common.{◌≡◌, ◌<◌, ap, sym, ◌∙◌, arith}
-use Rattle.std.specs.Prelude.{Some}
+use Rattle.std.proofs.Common.{ap, arith}
 use Rattle.machine.specs.State.{State}
 use Rattle.cachecore.specs.Tables.{state_of}
 use Rattle.cachecore.proofs.PlacedBlocks.{told_within}

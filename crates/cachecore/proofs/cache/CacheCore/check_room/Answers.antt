@@ -6,7 +6,7 @@ use Rattle.std.proofs.lemmas.List.FromFn.{length-range_with_len}
 use Rattle.std.proofs.lemmas.List.Sums.{count_by-le-length}
 use Rattle.pc_types.specs.declared.limits.TheConstants.{MAX_TOUCHED}
 use Rattle.pc_types.specs.declared.refusal.Refusal.TheVariants.{DirtyLimit, NoFrame, NoSpace}
-use Rattle.machine.specs.State.{File, no_file, tags_of, touched_count, dirty_total}
+use Rattle.machine.specs.State.{no_file, tags_of, touched_count, dirty_total}
 use Rattle.machine.specs.Tests.{refuse, room_tests}
 use Rattle.cachecore.specs.Placing.{is_bare}
 use Rattle.blockmap.specs.Blocks.{free_blocks}

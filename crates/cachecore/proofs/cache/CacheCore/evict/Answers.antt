@@ -1,4 +1,4 @@
-use Rattle.std.proofs.Common.{arith, subst}
+use Rattle.std.proofs.Common.{subst}
 use Rattle.machine.specs.declared.event.Event.TheVariants as event
 use Rattle.cachecore.specs.Replies.{evicted}
 use Rattle.machine.specs.Step.{Step}

@@ -1,5 +1,5 @@
 use Rattle.std.proofs.Common.{arith, ◌≡◌, ◌<◌, ◌≤◌, length, ap, sym, subst, ◌∙◌}
-use Rattle.std.specs.Prelude.{None, Some}
+use Rattle.std.specs.Prelude.{Some}
 use Rattle.machine.specs.State.{State, file_at}
 use Rattle.machine.specs.Changes.{flush_pick}
 use Rattle.machine.specs.Tests.{is_full}

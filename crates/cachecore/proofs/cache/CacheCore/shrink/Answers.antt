@@ -1,6 +1,6 @@
 use Rattle.std.proofs.Common.{arith, ap, sym, subst, refl, ◌∙◌, ◌≡◌, ◌≤◌, ◌%◌, List, length, ℕ}
 use Rattle.pc_types.specs.declared.limits.TheConstants.{MAX_FILE_SIZE}
-use Rattle.blockmap.specs.Blocks.{Blocks, CutsFrom}
+use Rattle.blockmap.specs.Blocks.{CutsFrom}
 use Rattle.writeback.specs.Flights.{Flights}
 use Rattle.machine.specs.State.{File, State, file_at, page_count}
 use Rattle.machine.specs.Changes.{boundary, cut_boundary, cut_request, shrunk}

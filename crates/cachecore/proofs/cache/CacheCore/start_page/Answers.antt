@@ -1,5 +1,4 @@
-use Rattle.std.proofs.Common.{arith, length, ap, false, refl, sym, subst, true, ◌∙◌, ◌≡◌, ◌≤◌, ◌<◌}
-use Rattle.std.specs.Prelude.{None, Some, is_some}
+use Rattle.std.proofs.Common.{ap, false, sym, subst, true, ◌∙◌}
 use Rattle.std.specs.FinMap as map
 use Rattle.std.specs.Ordering.{nat_cmp}
 use Rattle.maps.specs.Maps.{change_at}
@@ -7,10 +6,8 @@ use Rattle.machine.specs.declared.event.Event.TheVariants as event
 use Rattle.machine.specs.declared.event.Reply.TheVariants as reply
 use Rattle.machine.specs.State.{State, Sync}
 use Rattle.machine.specs.Step.{Step}
-use Rattle.writeback.specs.Slots.{sync_of}
 use Rattle.cachecore.proofs.CoreViews.{state_is}
-use Rattle.cachecore.proofs.Parts.{Parts, goes_to, parts_of, state_by}
-use Rattle.pc_types.specs.declared.refusal.Refusal.TheVariants.{TooManyInFlight}
+use Rattle.cachecore.proofs.Parts.{parts_of}
 use Rattle.machine.specs.Sound.{Sound}
 use Rattle.machine.specs.State.{page_bytes}
 use Rattle.machine.specs.Tests.{is_full}

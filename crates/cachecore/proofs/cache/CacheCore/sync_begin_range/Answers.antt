@@ -1,15 +1,13 @@
-use Rattle.std.proofs.Common.{arith, length, ap, false, refl, sym, subst, true, ◌∙◌, ◌≡◌, ◌≤◌, ◌<◌}
-use Rattle.std.specs.Prelude.{None, Some, is_some}
+use Rattle.std.proofs.Common.{arith, ap, false, refl, sym, subst, true, ◌∙◌}
+use Rattle.std.specs.Prelude.{None, is_some}
 use Rattle.std.specs.FinMap as map
 use Rattle.pagestore.specs.Store.{Store}
 use Rattle.machine.specs.declared.event.Event.TheVariants as event
 use Rattle.machine.specs.declared.event.Reply.TheVariants as reply
-use Rattle.machine.specs.State.{State, Sync}
+use Rattle.machine.specs.State.{Sync}
 use Rattle.machine.specs.Step.{Step}
-use Rattle.writeback.specs.Slots.{sync_of}
 use Rattle.cachecore.proofs.CoreViews.{lists_are, state_is}
 use Rattle.cachecore.proofs.Parts.{Goes, Parts, goes_to, parts_of, state_by}
-use Rattle.pc_types.specs.declared.limits.TheConstants.{MAX_SYNCS}
 use Rattle.pc_types.specs.declared.refusal.Refusal.TheVariants.{BadHandle, BadRange, TooManyInFlight}
 use Rattle.cachecore.specs.Replies as replies
 use Rattle.cachecore.proofs.StepLemmas.{err_is}

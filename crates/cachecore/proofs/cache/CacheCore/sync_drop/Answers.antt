@@ -1,9 +1,7 @@
-use Rattle.std.proofs.Common.{arith, length, ap, false, refl, sym, subst, true, ◌∙◌, ◌≡◌, ◌≤◌, ◌<◌}
-use Rattle.std.specs.Prelude.{None, Some, is_some}
-use Rattle.std.specs.FinMap as map
+use Rattle.std.proofs.Common.{ap, sym, subst, ◌∙◌}
+use Rattle.std.specs.Prelude.{is_some}
 use Rattle.machine.specs.declared.event.Event.TheVariants as event
 use Rattle.machine.specs.declared.event.Reply.TheVariants as reply
-use Rattle.machine.specs.State.{State, Sync}
 use Rattle.machine.specs.Step.{Step}
 use Rattle.writeback.specs.Slots.{sync_of}
 use Rattle.cachecore.proofs.CoreViews.{state_is}

@@ -1,8 +1,6 @@
-use Rattle.std.proofs.Common.{arith, length, ap, false, refl, sym, subst, true, ◌∙◌, ◌≡◌, ◌≤◌, ◌<◌}
-use Rattle.std.specs.Prelude.{None, Some, is_some}
+use Rattle.std.proofs.Common.{sym, subst}
 use Rattle.std.specs.FinMap as map
 use Rattle.std.specs.Ordering.{nat_cmp}
-use Rattle.cachecore.specs.Tables.{IsCache}
 use Rattle.machine.specs.declared.event.Event.TheVariants as event
 use Rattle.machine.specs.declared.event.Reply.TheVariants as reply
 use Rattle.machine.specs.State.{State, Sync}

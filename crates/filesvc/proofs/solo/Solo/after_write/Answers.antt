@@ -5,7 +5,7 @@ use Rattle.machine.specs.declared.event.Reply.TheVariants as reply
 use Rattle.filesvc.specs.Attempts.{Follows}
 use Rattle.std.specs.Prelude.{is_some}
 use Rattle.filesvc.specs.Rooms.{need, wants}
-use Rattle.filesvc.proofs.Attempts.{follows_over, settled_unless}
+use Rattle.filesvc.proofs.Attempts.{follows_again, follows_over, settled_unless}
 use Rattle.filesvc.proofs.Needs.{less_needed}
 use Rattle.filesvc.proofs.solo.Solo.after_write.Goals as goal
 use Rattle.filesvc.proofs.solo.Solo.after_write.Goals.{in-Ok+in-Ok-Miss+in_ok-fill-in-Ok-Miss, in-Err-NoFrame+in_ok-make_way-in-Err-NoFrame, in-Err-DirtyLimit+in_ok-make_way-in-Err-DirtyLimit}
@@ -22,19 +22,37 @@ returns-in-Err g c = record {
   follows = rw c.in-Err.is
       (follows_over c.args.self.now c.args.span.handle (reply.Refused c.in-Err.refusal) c.args.self.now refl
       (settled_unless c.in-Err.refusal (search rules) (search rules)));
-  gains = λ tells is. absurd cc;
+  gains = λ is. absurd cc;
 }
+
+pub returns-clause-follows : goal.returns-clause-follows
+returns-clause-follows g c = elim c.match-answer.branch [
+  | in-Ok+in-Ok-Miss+in_ok-fill-in-Ok-Miss w ↦ search rules
+  | in-Err-NoFrame+in_ok-make_way-in-Err-NoFrame w ↦
+      rw (w.in-Err-NoFrame.is, w.in-Err-NoFrame.field-0-is, w.self-is)
+      (follows_again c.args.self.now c.args.span.handle _ _ w.in_ok-make_way-in-Err-NoFrame.ensures.helps
+      w.in_ok-make_way-in-Err-NoFrame.ensures.attempts refl)
+  | in-Err-DirtyLimit+in_ok-make_way-in-Err-DirtyLimit w ↦
+      rw (w.in-Err-DirtyLimit.is, w.in-Err-DirtyLimit.field-0-is, w.self-is)
+      (follows_again c.args.self.now c.args.span.handle _ _ w.in_ok-make_way-in-Err-DirtyLimit.ensures.helps
+      w.in_ok-make_way-in-Err-DirtyLimit.ensures.attempts refl)
+]
 
 pub returns-clause-gains : goal.returns-clause-gains
 returns-clause-gains g c = elim c.match-answer.branch [
   | in-Ok+in-Ok-Miss+in_ok-fill-in-Ok-Miss w ↦
-      rw w.self-is (λ tells _. subst (λ d. need d w.fill.new.self.world.core c.args.span.handle.0 c.args.span.offset c.args.span.count < need d c.args.self.now.world.core c.args.span.handle.0 c.args.span.offset c.args.span.count) c.requires.dirties (w.in_ok-fill-in-Ok-Miss.ensures.gains tells))
+      rw w.self-is (λ _. subst
+      (λ d. need d w.fill.new.self.world.core c.args.span.handle.0 c.args.span.offset c.args.span.count < need d
+      c.args.self.now.world.core c.args.span.handle.0 c.args.span.offset c.args.span.count) c.requires.dirties
+      w.in_ok-fill-in-Ok-Miss.ensures.gains)
   | in-Err-NoFrame+in_ok-make_way-in-Err-NoFrame w ↦
       (let some : is_some (wants true c.args.self.now.world.core c.args.span.handle.0 c.args.span.offset c.args.span.count) ≡ true = rw (w.in-Err-NoFrame.is, w.in-Err-NoFrame.field-0-is) at c.requires.stops in
       let none = subst (λ d. wants d (c.match-answer.self).world.core c.args.span.handle.0 c.args.span.offset c.args.span.count ≡ None) c.requires.dirties (rw w.self-is w.in_ok-make_way-in-Err-NoFrame.ensures.made) in
-      λ _ _. less_needed true c.args.self.now c.match-answer.self c.args.span.handle.0 c.args.span.offset c.args.span.count (rw w.self-is w.in_ok-make_way-in-Err-NoFrame.ensures.helps.serves) none some)
+      λ _. less_needed true c.args.self.now c.match-answer.self c.args.span.handle.0 c.args.span.offset
+      c.args.span.count (rw w.self-is w.in_ok-make_way-in-Err-NoFrame.ensures.helps.serves) none some)
   | in-Err-DirtyLimit+in_ok-make_way-in-Err-DirtyLimit w ↦
       (let some : is_some (wants true c.args.self.now.world.core c.args.span.handle.0 c.args.span.offset c.args.span.count) ≡ true = rw (w.in-Err-DirtyLimit.is, w.in-Err-DirtyLimit.field-0-is) at c.requires.stops in
       let none = subst (λ d. wants d (c.match-answer.self).world.core c.args.span.handle.0 c.args.span.offset c.args.span.count ≡ None) c.requires.dirties (rw w.self-is w.in_ok-make_way-in-Err-DirtyLimit.ensures.made) in
-      λ _ _. less_needed true c.args.self.now c.match-answer.self c.args.span.handle.0 c.args.span.offset c.args.span.count (rw w.self-is w.in_ok-make_way-in-Err-DirtyLimit.ensures.helps.serves) none some)
+      λ _. less_needed true c.args.self.now c.match-answer.self c.args.span.handle.0 c.args.span.offset
+      c.args.span.count (rw w.self-is w.in_ok-make_way-in-Err-DirtyLimit.ensures.helps.serves) none some)
 ]

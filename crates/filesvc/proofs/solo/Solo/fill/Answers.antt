@@ -1,4 +1,4 @@
-use Rattle.std.proofs.Common.{arith, ◌∙◌}
+use Rattle.std.proofs.Common.{arith}
 use Rattle.std.specs.Prelude.{Result, Ok, Err, IfErr, OnOk}
 use Rattle.pc_types.specs.declared.refusal.Refusal.{Refusal}
 use Rattle.filesvc.proofs.Laws.{helps_trans}
@@ -25,4 +25,4 @@ returns-clause-helps g c = helps_trans _ _ _ c.make_way.ensures.helps c.fill_onc
 pub returns-clause-gains : goal.returns-clause-gains
 returns-clause-gains g c =
     let most = no_more_needed c.args.span.dirties c.args.self.now c.make_way.new.self c.args.span.handle.0 c.args.span.offset c.args.span.count c.make_way.ensures.helps.serves c.in_ok-make_way.ensures.made c.in_ok-make_way.ensures.kept in
-    λ tells. on_ok c.fill_once.result _ _ (c.fill_once.ensures.gains (c.make_way.ensures.helps.serves.keeps.tells ∙ tells)) (λ l. omega arith)
+    on_ok c.fill_once.result _ _ c.fill_once.ensures.gains (λ l. omega arith)

@@ -1,9 +1,8 @@
 use Rattle.std.proofs.Common.{◌≤◌, true, arith, inl, length, subst, sym, ◌∙◌}
 use Rattle.pc_types.specs.declared.limits.TheConstants.{MAX_FILES}
 use Rattle.filesvc.specs.Attempts.{Helps}
-use Rattle.filesvc.specs.Rooms.{FlushesOne}
+use Rattle.filesvc.specs.Rooms.{FlushesOne, NothingToFlush}
 use Rattle.filesvc.specs.Seen.{SoloSeen}
-use Rattle.filesvc.specs.Service.{NothingToFlush}
 use Rattle.filesvc.proofs.Laws.{helps_refl}
 use Rattle.filesvc.proofs.solo.Solo.flush_one.Goals as goal
 

@@ -1,4 +1,4 @@
-use Rattle.std.proofs.Common.{◌≡◌, ◌≤◌, arith, subst, sym}
+use Rattle.std.proofs.Common.{◌≤◌, arith, subst, sym}
 use Rattle.std.specs.Prelude.{Ok, Err, OnOk, Result}
 use Rattle.pc_types.specs.declared.limits.TheConstants.{LAST_PAGE}
 use Rattle.pc_types.specs.declared.refusal.Refusal.{Refusal}
@@ -6,7 +6,6 @@ use Rattle.machine.specs.State.{dirty_in, file_at}
 use Rattle.runs.specs.Syncing.{dirty_between}
 use Rattle.filesvc.specs.Seen.{SoloSeen}
 use Rattle.filesvc.specs.Service.{Serves, Tells}
-use Rattle.filesvc.specs.Syncs.{service_of}
 use Rattle.filesvc.proofs.Ranged.{some_dirty}
 use Rattle.filesvc.proofs.SyncLaws.{whole_file}
 use Rattle.filesvc.proofs.solo.Solo.fsync.Goals as goal

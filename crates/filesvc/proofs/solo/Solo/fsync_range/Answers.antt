@@ -1,11 +1,11 @@
-use Rattle.std.proofs.Common.{◌≡◌, refl, true, false, Some, None, inl, inr, rules, subst, sym, ap, ◌∙◌}
+use Rattle.std.proofs.Common.{◌≡◌, refl, false, Some, None, inl, inr, rules, subst, sym, ap, ◌∙◌}
 use Rattle.std.specs.FinMap as finmap
 use Rattle.std.specs.Prelude.{◌⊎◌, Ok, Err, IfErr}
 use Rattle.cachecore.proofs.StepLemmas.{err_is}
 use Rattle.filesvc.specs.Made.{is_for_sync}
 use Rattle.filesvc.specs.Saving.{Ends, IsUnflushed, SaveEnds, Saves}
 use Rattle.filesvc.specs.Seen.{HandleSeen, SoloSeen}
-use Rattle.filesvc.specs.Service.{AreOnDevice, IsSyncRefusal, IsSynced, IsTold, Names, Reports, Serves, Tells, is_reported}
+use Rattle.filesvc.specs.Service.{AreOnDevice, IsSyncRefusal, IsTold, Names, Reports, Serves, Tells, is_reported}
 use Rattle.filesvc.specs.Syncs.{service_of}
 use Rattle.filesvc.proofs.Laws.{moves_refl, serves_counted}
 use Rattle.filesvc.proofs.Saved.{polled_ends, refused_ends, refused_reports, saved_refusal}
@@ -36,7 +36,7 @@ returns-in_err-failed-clause-ends g c =
     (refused_ends c.args.first c.args.last old h new why c.in_err-failed.ensures.ends)))
 
 pub returns-in_err-failed-clause-reports : goal.returns-in_err-failed-clause-reports
-returns-in_err-failed-clause-reports g c = λ tells.
+returns-in_err-failed-clause-reports g c =
     let why = c.in_err-failed.field-0.0 in
     let old : SoloSeen = record { world = c.self.inside.world; errors = c.self.inside.recorder; attempts = c.self.inside.attempts } in
     let h : HandleSeen = record { cache = c.handle.inside.cache; file = c.handle.inside.file.0; number = c.handle.inside.number.0; cursor = c.handle.inside.cursor; append = c.handle.inside.append; pass = c.handle.inside.pass } in
@@ -49,14 +49,12 @@ returns-in_err-failed-clause-reports g c = λ tells.
 pub returns-in_err-failed-clause-refused : goal.returns-in_err-failed-clause-refused
 returns-in_err-failed-clause-refused g c = λ names order unreported.
     let why = c.in_err-failed.field-0.0 in
-    let old = service_of c.self.inside.world c.self.inside.recorder in
     let mid = service_of c.save.new.world c.save.new.recorder in
     let new : SoloSeen = record { world = c.save.new.world; errors = c.save.new.recorder; attempts = 1 } in
     let is = err_is c.from_residual.result why c.from_residual.ensures.1 in
     let quiet : is_reported (Err why) ≡ false = ap is_reported (sym is) ∙ unreported in
-    let x = refusal_counted old mid c.self.inside.attempts 1 why (saved_refusal old mid why quiet (c.in_err-failed.ensures.refused order)) in
-    subst (λ r. IfErr r (λ why. IsSyncRefusal c.args.self.now why new)) (sym is)
-    (subst (λ a. IsSyncRefusal a why new) c.self.view_is x)
+    let x = refusal_counted mid 1 why (saved_refusal mid why quiet (c.in_err-failed.ensures.refused order)) in
+    subst (λ r. IfErr r (λ why. IsSyncRefusal why new)) (sym is) x
 
 pub returns-clause-serves : goal.returns-clause-serves
 returns-clause-serves g c =
@@ -72,12 +70,11 @@ returns-clause-synced g c = elim c.match-or.branch [
       let none : c.in_ok-failed.failed ≡ None = search rules in
       let came = c.requires.came names in
       let number : finmap.get c.self.inside.world.core.handles c.handle.inside.number.0 ≡ Some c.args.handle.now.file = (λ i. finmap.get (c.self.view_is i).world.core.handles (c.handle.view_is i).number) ∙ came.number in
-      let old = service_of c.self.inside.world c.self.inside.recorder in
-      let new = service_of c.save.new.world c.save.new.recorder in
       let mid : SoloSeen = record { world = c.save.new.world; errors = c.save.new.recorder; attempts = 1 } in
       rw w.result-is (λ tells.
-      let synced : IsSynced old c.args.handle.now.file c.args.first c.args.last new None = subst (λ o. IsSynced old c.args.handle.now.file c.args.first c.args.last new o) none (c.in_ok-failed.ensures.synced (subst Tells (sym c.self.view_is) tells) c.args.handle.now.file number) in
-      let held : AreOnDevice mid c.args.handle.now.file c.args.first c.args.last = synced.0 in
+      let held : AreOnDevice mid c.args.handle.now.file c.args.first c.args.last =
+      c.save.ensures.synced (subst Tells (sym c.self.view_is) tells) c.args.handle.now.file number
+      (c.in_ok-failed.was ∙ ap Ok none) in
       subst (λ t. AreOnDevice t c.args.handle.now.file c.args.first c.args.last) (sym c.poll.ensures.same) held))
 ]
 
@@ -115,7 +112,7 @@ returns-clause-ends g c =
     polled_ends c.args.first c.args.last c.args.self.now c.args.handle.now c.poll.new.self c.in_ok-failed.failed c.match-or.result new polled told
 
 pub returns-clause-reports : goal.returns-clause-reports
-returns-clause-reports g c = λ tells. inl (search rules)
+returns-clause-reports g c = inl (search rules)
 
 pub returns-clause-told : goal.returns-clause-told
 returns-clause-told g c =

@@ -4,7 +4,7 @@ use Rattle.filesvc.proofs.Enough.{dirty_refused, full_refused}
 use Rattle.filesvc.specs.Rooms.{FlushesOne}
 use Rattle.filesvc.specs.Seen.{SoloSeen}
 use Rattle.filesvc.proofs.Laws.{helps_refl, helps_trans}
-use Rattle.filesvc.proofs.RoomLaws.{other_full, evicted_helps, evicted_service, flushed_for_frame, stuck_for_frame}
+use Rattle.filesvc.proofs.RoomLaws.{evicted_helps, evicted_service, flushed_for_frame, stuck_for_frame}
 use Rattle.filesvc.proofs.WorldLaws.{service_sound}
 use Rattle.filesvc.proofs.solo.Solo.make_room.Goals as goal
 use Rattle.filesvc.proofs.solo.Solo.make_room.Goals.{in-NoFrame+else-is_some, in-DirtyLimit}
@@ -20,9 +20,8 @@ returns-in_default g c = record {
   attempts = refl;
   made = tt;
   refused = inl refl;
-  full = other_full c.args.self.now c.args.self.now c.args.refusal c.in_default.not-NoFrame c.in_default.not-DirtyLimit;
-  frames = λ _ e. absurd (c.in_default.not-NoFrame e);
-  clean = λ _ e. absurd (c.in_default.not-DirtyLimit e);
+  frames = λ e. absurd (c.in_default.not-NoFrame e);
+  clean = λ e. absurd (c.in_default.not-DirtyLimit e);
 }
 
 pub returns-then-is_some-clause-helps : goal.returns-then-is_some-clause-helps
@@ -48,8 +47,11 @@ returns-else-branch-clause-frames g c =
     let s : SoloSeen = record { world = c.self.inside.world; errors = c.self.inside.recorder; attempts = c.self.inside.attempts } in
     let f : FlushesOne c.match-refusal.self false c.flush_one.new.self = rw c.if-branch.false at c.in_ok-flush_one.ensures.flushes in
     elim c.match-refusal.branch [
-      | in-NoFrame+else-is_some w ↦ rw (← c.self.view_is) (λ tells _ _. (let k = stuck_for_frame s c.flush_one.new.self _ _ w.age.result w.evict.result w.age.ensures w.evict.ensures (sym w.is_some.ensures ∙ w.if-is_some.false) (rw w.self-is at f) in full_refused s c.flush_one.new.self _ _ c.self.invariant.serving tells k.0 k.1))
-      | in-DirtyLimit w ↦ λ tells no _. absurd (let e : DirtyLimit ≡ NoFrame = sym w.in-DirtyLimit.is ∙ no in cc)
+      | in-NoFrame+else-is_some w ↦ rw (← c.self.view_is)
+          (λ _ _. (let k = stuck_for_frame s c.flush_one.new.self _ _ w.age.result w.evict.result w.age.ensures
+          w.evict.ensures (sym w.is_some.ensures ∙ w.if-is_some.false) (rw w.self-is at f) in
+          full_refused s c.flush_one.new.self _ _ c.self.invariant.serving k.0 k.1))
+      | in-DirtyLimit w ↦ λ no _. absurd (let e : DirtyLimit ≡ NoFrame = sym w.in-DirtyLimit.is ∙ no in cc)
     ]
 
 pub returns-else-branch-clause-clean : goal.returns-else-branch-clause-clean
@@ -57,8 +59,10 @@ returns-else-branch-clause-clean g c =
     let s : SoloSeen = record { world = c.self.inside.world; errors = c.self.inside.recorder; attempts = c.self.inside.attempts } in
     let f : FlushesOne c.match-refusal.self false c.flush_one.new.self = rw c.if-branch.false at c.in_ok-flush_one.ensures.flushes in
     elim c.match-refusal.branch [
-      | in-NoFrame+else-is_some w ↦ λ tells no _. absurd (let e : NoFrame ≡ DirtyLimit = sym w.in-NoFrame.is ∙ no in cc)
-      | in-DirtyLimit w ↦ rw (← c.self.view_is) (λ tells _ _. dirty_refused s c.flush_one.new.self _ _ c.self.invariant.serving tells (rw (w.self-is, ← c.self.view_is) at f))
+      | in-NoFrame+else-is_some w ↦ λ no _. absurd (let e : NoFrame ≡ DirtyLimit = sym w.in-NoFrame.is ∙ no in cc)
+      | in-DirtyLimit w ↦ rw (← c.self.view_is)
+          (λ _ _. dirty_refused s c.flush_one.new.self _ _ c.self.invariant.serving
+          (rw (w.self-is, ← c.self.view_is) at f))
     ]
 
 pub returns-in_err-flush_one-clause-helps : goal.returns-in_err-flush_one-clause-helps

@@ -3,7 +3,7 @@ use Rattle.std.proofs.Common.{◌≡◌, ◌≤◌, ◌∙◌, length, ap, sym, 
 use Rattle.pc_types.specs.declared.limits.TheConstants.{MAX_FILES, MAX_FILE_SIZE, MIN_DIRTY_LIMIT, MIN_FRAMES, MIN_PAGE_SIZE}
 use Rattle.machine.specs.State.{file_at}
 use Rattle.world.specs.Stepping.{WorldSeen}
-use Rattle.filesvc.proofs.Beginning.{lists_in, nothing_in, reached_at, sound_at}
+use Rattle.filesvc.proofs.Beginning.{lists_in, nothing_in, orderly_at, reached_at, sound_at}
 use Rattle.filesvc.proofs.solo.Solo.new.Goals as goal
 
 pub invariant_of-result : goal.invariant_of-result
@@ -15,6 +15,8 @@ invariant_of-result g c = record {
     rests = record { requests = ap (λ (w : WorldSeen). w.core.requests) c.in_ok-world.ensures.fresh; outcomes = ap (λ (w : WorldSeen). w.outcomes) c.in_ok-world.ensures.fresh };
     reached = reached_at c.in_ok-world.world _ (ap (λ (w : WorldSeen). w.device) c.in_ok-world.ensures.fresh) c.in_ok-world.ensures.first;
     sound = sound_at c.args.geometry.now c.args.name _ _ c.in_ok-world.ensures.fresh;
+    orderly = orderly_at c.args.geometry.now c.args.name _ _
+        (enough_page _ c.page.ensures.within) c.in_ok-world.ensures.fresh;
     counted = (let a : c.in_ok-world.world.device.calls ≡ c.calls.result = ap (λ (w : WorldSeen). w.device.calls) c.in_ok-world.ensures.fresh ∙ sym c.calls.ensures in let b = c.if-prove.false in omega arith);
     bounded = λ f. subst (λ (w : WorldSeen). (file_at w.core f).size ≤ MAX_FILE_SIZE) (sym c.in_ok-world.ensures.fresh) (omega arith);
     page = subst (λ (w : WorldSeen). MIN_PAGE_SIZE ≤ w.core.sizes.page) (sym c.in_ok-world.ensures.fresh) (enough_page _ c.page.ensures.within);

@@ -1,9 +1,12 @@
-use Rattle.std.proofs.Common.{◌≡◌, ◌∙◌, Some, None, length, take, refl}
+use Rattle.std.proofs.Common.{◌≡◌, ◌-◌, ◌<◌, ◌∙◌, ℕ, Some, None, ap, length, min, rules, take, refl}
 use Rattle.std.proofs.lemmas.Result.{err_from_is_err_and}
 use Rattle.machine.specs.declared.event.Event.TheVariants as event
 use Rattle.machine.specs.declared.event.Reply.TheVariants as reply
 use Rattle.filesvc.specs.Attempts.{Attempt}
-use Rattle.filesvc.proofs.Attempts.{try_again, try_first, try_over}
+use Rattle.filesvc.proofs.Attempts.{length_before, try_again, try_first, try_over, try_turns}
+use Rattle.filesvc.specs.Service.{Names}
+use Rattle.machine.specs.State.{handle_file}
+use Rattle.machine.specs.Tests.{read_count}
 use Rattle.filesvc.proofs.Laws.{serves_trans}
 use Rattle.filesvc.proofs.solo.Solo.pread.Goals as goal
 
@@ -49,3 +52,25 @@ attempts-preserved g c =
     let a : Attempt c.attempts.self (event.Read (record { 0 = c.args.handle.now.number }) c.args.offset (length c.args.out.now)) None c.try_read.new.self = rw (← c.handle.view_is, ← c.attempts.invariant.out) (rw c.in_default.is at c.in_ok-count.ensures.attempt) in
     let rest : c.try_read.new.out ≡ c.attempts.out = rw c.in_default.is at c.in_ok-count.ensures.rest in
     record { tries = try_again _ _ _ c.attempts.invariant.tries _ (rw (← c.self-in-attempts.view_is) c.attempts-test.true) a; out = rest ∙ c.attempts.invariant.out }
+
+-- it does not run out of attempts
+pub returns-clause-refused : goal.returns-clause-refused
+returns-clause-refused g c =
+    let none : c.attempts.self.attempts < 256 → ⊥ = search rules in
+    λ _. (try_turns _ _ _ c.attempts.invariant.tries c.args.handle.now refl none).refused _ refl
+
+pub returns-clause-made : goal.returns-clause-made
+returns-clause-made g c =
+    let none : c.attempts.self.attempts < 256 → ⊥ = search rules in
+    λ _. (try_turns _ _ _ c.attempts.invariant.tries c.args.handle.now refl none).made
+
+pub returns-in-Some-clause-all : goal.returns-in-Some-clause-all
+returns-in-Some-clause-all g c =
+    let names : Names c.args.self.now c.args.handle.now = search rules in
+    let n : ℕ = length c.args.out.now in
+    let k : c.in-Some.count ≡ read_count c.attempts.self.world.core
+    (handle_file c.attempts.self.world.core c.args.handle.now.number) c.args.offset n =
+    rw (← c.handle.view_is, ← c.attempts.invariant.out) (rw c.in-Some.is at c.in_ok-count.ensures.all) in
+    k ∙ ap (λ size. min n (size - c.args.offset))
+    (length_before c.args.self.now c.attempts.self c.args.handle.now c.attempts.invariant.tries.serves
+    (c.requires.came names))

@@ -14,7 +14,17 @@ pub returns-clause-attempt : goal.returns-clause-attempt
 returns-clause-attempt g c =
     let s : SoloSeen = record { world = c.self.inside.world; errors = c.self.inside.recorder; attempts = 0 } in
     let t : SoloSeen = record { world = c.append-answer.new.self; errors = c.self.inside.recorder; attempts = c.self.inside.attempts + 1 } in
-    rw (← c.self.view_is) (attempt_follows _ c.args.handle (event.Append c.args.handle c.args.bytes.now) _ _ refl c.append-answer.ensures.0 c.append-answer.ensures.1 c.append-answer.ensures.2 c.self.invariant.serving.sound c.self.invariant.serving.reached _ _ refl c.after_write.ensures.follows (λ u tells is. append_gains s t c.after_write.new.self c.args.handle c.unwrap_or-offset.result c.args.bytes.now _ c.append-answer.ensures.0.1.0 (λ o. c.unwrap_or-offset.ensures ∙ ap (λ r. result_unwrap_or r 0) (sized_is c.self.inside.world.core c.self.inside.world.core c.args.handle c.size.result c.size.ensures.0.1.0 o)) u c.after_write.ensures.follows.helps.serves (c.after_write.ensures.gains tells is)))
+    rw (← c.self.view_is)
+    (attempt_follows _ c.args.handle
+    (event.Append c.args.handle c.args.bytes.now) _ _ refl c.append-answer.ensures.0 c.append-answer.ensures.1
+    c.append-answer.ensures.2 c.self.invariant.serving.sound c.self.invariant.serving.reached
+    c.self.invariant.serving.orderly _ _ refl c.after_write.ensures.follows
+    (λ u is. append_gains s t c.after_write.new.self c.args.handle c.unwrap_or-offset.result c.args.bytes.now _
+    c.append-answer.ensures.0.1.0
+    (λ o. c.unwrap_or-offset.ensures
+    ∙ ap (λ r. result_unwrap_or r 0)
+    (sized_is c.self.inside.world.core c.self.inside.world.core c.args.handle c.size.result c.size.ensures.0.1.0 o))
+    u c.after_write.ensures.follows.helps.serves (c.after_write.ensures.gains is)))
 
 pub returns-clause-wrote : goal.returns-clause-wrote
 returns-clause-wrote g c = rw (← c.self.view_is) (follows_appended _ c.args.handle _ _ _ _ _ _ c.after_write.ensures.follows c.append-answer.ensures.0.1.0)

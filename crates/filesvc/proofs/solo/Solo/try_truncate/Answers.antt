@@ -13,7 +13,14 @@ invariant_of-self g c = service_kept _ _ _ _ _ (event.Truncate c.args.handle c.a
 pub returns-in_err-truncate : goal.returns-in_err-truncate
 returns-in_err-truncate g c =
     let p = err_from_is_err_and c.from_residual.result c.from_residual.ensures.1 in
-    record { attempt = rw (p.1, p.2) (rw (← c.self.view_is) (attempt_over _ c.args.handle (event.Truncate c.args.handle c.args.size) _ _ refl c.in_err-truncate.ensures.0 c.in_err-truncate.ensures.1 c.in_err-truncate.ensures.2 c.self.invariant.serving.sound c.self.invariant.serving.reached (truncate_settled _ _ c.args.handle c.args.size _ c.in_err-truncate.ensures.0.1.0))) }
+    record {
+      attempt = rw (p.1, p.2)
+          (rw (← c.self.view_is)
+          (attempt_over _ c.args.handle (event.Truncate c.args.handle c.args.size) _ _ refl c.in_err-truncate.ensures.0
+          c.in_err-truncate.ensures.1 c.in_err-truncate.ensures.2 c.self.invariant.serving.sound
+          c.self.invariant.serving.reached c.self.invariant.serving.orderly
+          (truncate_settled _ _ c.args.handle c.args.size _ c.in_err-truncate.ensures.0.1.0)));
+    }
 
 pub invariant_of-self-in-Done : goal.invariant_of-self-in-Done
 invariant_of-self-in-Done g c = service_kept _ _ _ _ _ (event.Truncate c.args.handle c.args.size) _ refl c.truncate.ensures.0 c.truncate.ensures.1 c.self.invariant
@@ -21,7 +28,11 @@ invariant_of-self-in-Done g c = service_kept _ _ _ _ _ (event.Truncate c.args.ha
 pub returns-in-Done : goal.returns-in-Done
 returns-in-Done g c =
     let m = rw c.in-Done.is at c.in_ok-truncate.ensures in
-    record { attempt = rw (← c.self.view_is) (attempt_over _ c.args.handle (event.Truncate c.args.handle c.args.size) _ _ refl m.0 m.1 m.2 c.self.invariant.serving.sound c.self.invariant.serving.reached refl) }
+    record {
+      attempt = rw (← c.self.view_is)
+          (attempt_over _ c.args.handle (event.Truncate c.args.handle c.args.size) _ _ refl m.0 m.1 m.2
+          c.self.invariant.serving.sound c.self.invariant.serving.reached c.self.invariant.serving.orderly refl);
+    }
 
 pub invariant_of-self-in-Miss : goal.invariant_of-self-in-Miss
 invariant_of-self-in-Miss g c = service_kept _ _ _ _ _ (event.Truncate c.args.handle c.args.size) _ refl c.truncate.ensures.0 c.truncate.ensures.1 c.self.invariant
@@ -30,16 +41,26 @@ pub returns-in_err-fill-in-Miss : goal.returns-in_err-fill-in-Miss
 returns-in_err-fill-in-Miss g c =
     let p = err_from_is_err_and c.from_residual-in_err-fill-in-Miss.result c.from_residual-in_err-fill-in-Miss.ensures.1 in
     record {
-      attempt = rw (p.1, p.2) (rw (← c.self.view_is) (attempt_follows _ c.args.handle (event.Truncate c.args.handle c.args.size) _ _ refl c.in_ok-truncate.ensures.0 c.in_ok-truncate.ensures.1 c.in_ok-truncate.ensures.2 c.self.invariant.serving.sound c.self.invariant.serving.reached _ _ refl
-          (follows_refused _ _ _ _ _ c.fill.ensures.helps c.fill.ensures.attempts (truncate_unsettled _ _ c.in-Miss.is) c.in_err-fill-in-Miss.ensures.refused) (λ _ _ is. absurd cc)));
+      attempt = rw (p.1, p.2)
+          (rw (← c.self.view_is)
+          (attempt_follows _ c.args.handle
+          (event.Truncate c.args.handle c.args.size) _ _ refl c.in_ok-truncate.ensures.0 c.in_ok-truncate.ensures.1
+          c.in_ok-truncate.ensures.2 c.self.invariant.serving.sound c.self.invariant.serving.reached
+          c.self.invariant.serving.orderly _ _ refl
+          (follows_refused _ _ _ _ _ c.fill.ensures.helps c.fill.ensures.attempts
+          (truncate_unsettled _ _ c.in-Miss.is) c.in_err-fill-in-Miss.ensures.refused) (λ _ is. absurd cc)));
     }
 
 pub returns : goal.returns
 returns g c =
     record {
-      attempt = rw (← c.self.view_is) (attempt_follows _ c.args.handle (event.Truncate c.args.handle c.args.size) _ _ refl c.in_ok-truncate.ensures.0 c.in_ok-truncate.ensures.1 c.in_ok-truncate.ensures.2 c.self.invariant.serving.sound c.self.invariant.serving.reached _ _ refl
+      attempt = rw (← c.self.view_is)
+          (attempt_follows _ c.args.handle
+          (event.Truncate c.args.handle c.args.size) _ _ refl c.in_ok-truncate.ensures.0 c.in_ok-truncate.ensures.1
+          c.in_ok-truncate.ensures.2 c.self.invariant.serving.sound c.self.invariant.serving.reached
+          c.self.invariant.serving.orderly _ _ refl
           (follows_again _ _ _ _ c.fill.ensures.helps c.fill.ensures.attempts (truncate_unsettled _ _ c.in-Miss.is))
-          (λ _ tells _. c.in_ok-fill-in-Miss.ensures.gains tells));
+          (λ _ _. c.in_ok-fill-in-Miss.ensures.gains));
     }
 
 pub fill-requires : goal.fill-requires

@@ -3,6 +3,7 @@ use Rattle.frames.specs.Lists.{Lists, has}
 use Rattle.frames.proofs.ListLemmas.{has-without_same}
 use Rattle.frames.proofs.ListedLemmas.{last_has}
 use Rattle.frames.proofs.TiedLemmas.{tied_deactivated}
+use Rattle.frames.proofs.PassedLemmas.{deactivated_passed}
 use Rattle.frames.proofs.AgeLemmas.{aged_more}
 use Rattle.frames.proofs.frames.Frames.age.Goals as goal
 
@@ -22,6 +23,7 @@ loop-self-preserved c =
     let there = last_has f (length i.lists.active - 1) i.lists.active (omega (arith, c.loop-self-test.true, c.active_len.ensures)) (sym c.last_active-frame.ensures.last) in
     let lists = c.push_inactive.ensures ∙ ap (λ (l : Lists). let m : Lists = record l { inactive = f ∷ l.inactive } in m) c.remove_active.ensures.lists in
     let inv = c.loop-self.invariant in
+    let below = c.last_active-frame.ensures.within in
     let aged = aged_more c.args.self.now.active c.args.self.now.inactive c.args.self.now.referenced c.loop-self.moved i.lists.active i.lists.inactive i.referenced.items f c.push_inactive.new.self.active c.push_inactive.new.self.inactive
     (record { counted = inv.moved; border = inv.border; front = inv.active; back = inv.inactive; flags = inv.referenced })
     (omega (arith, c.loop-self-test.true, c.active_len.ensures, c.inactive_len.ensures))
@@ -30,6 +32,14 @@ loop-self-preserved c =
     (ap (λ (l : Lists). l.inactive) lists)
     in
     record {
+      passed = deactivated_passed i.lists i.free i.referenced.items i.owners.items i.bytes inv.tied i.aside.items
+          inv.passed.asides i.active_from i.inactive_from inv.passed f (omega (
+            arith,
+            below,
+            inv.tied.count,
+            inv.tied.bound,
+          )) c.unless-self-inside.result c.push_inactive.new.self lists c.unless-self-inside.ensures;
+      flags = inv.flags;
       tied = tied_deactivated i.lists i.free i.referenced.items i.owners.items i.bytes inv.tied f _ c.push_inactive.new.self there lists;
       moved = aged.counted;
       border = aged.border;

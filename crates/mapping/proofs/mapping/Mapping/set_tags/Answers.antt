@@ -1,13 +1,12 @@
-use Rattle.std.proofs.Common.{◌≡◌, true, false, refl, ap, sym, subst, ◌∙◌, arith}
+use Rattle.std.proofs.Common.{◌≡◌, refl, ap, sym, subst, ◌∙◌, arith}
 use Rattle.std.specs.Prelude.{is_some}
 use Rattle.std.specs.FinMap as finmap
 use Rattle.std.proofs.lemmas.Bool.{false≢true}
 use Rattle.pc_types.specs.Tags.{TagSet, has}
-use Rattle.pc_types.specs.TagBits.{tag_set}
 use Rattle.xarray.specs.MarkedArray.{Array, marks_of}
 use Rattle.mapping.specs.declared.totals.Totals.{Totals}
 use Rattle.mapping.specs.Pages.{FilePages, Pages, change_at, with_tags}
-use Rattle.mapping.specs.Totals.{one, total, with_page}
+use Rattle.mapping.specs.Totals.{one, with_page}
 use Rattle.mapping.specs.View.{pages_of, tags_of, IsCounted}
 use Rattle.mapping.proofs.ArrayLemmas.{few_pages, marks_there, pages_of-given, told_none}
 use Rattle.mapping.proofs.CountedLemmas.{counted_given, counted_ungiven}

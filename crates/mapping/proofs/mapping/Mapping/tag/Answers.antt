@@ -1,4 +1,4 @@
-use Rattle.std.proofs.Common.{◌≡◌, ◌+◌, true, false, refl, ap, sym, subst, ◌∙◌, arith}
+use Rattle.std.proofs.Common.{◌≡◌, ◌+◌, true, refl, ap, sym, subst, ◌∙◌, arith}
 use Rattle.std.specs.Prelude.{is_some}
 use Rattle.std.specs.FinMap as finmap
 use Rattle.std.proofs.lemmas.Bool.{false≢true}
@@ -6,7 +6,7 @@ use Rattle.xarray.specs.MarkedArray.{Array, Ranges, has_mark, remarked}
 use Rattle.mapping.specs.declared.totals.Totals.{Totals}
 use Rattle.mapping.specs.Pages.{FilePages, Pages, with_tag, change_at}
 use Rattle.mapping.specs.Totals.{total, with_total}
-use Rattle.mapping.specs.View.{pages_of, IsCounted, tag_mark}
+use Rattle.mapping.specs.View.{pages_of, IsCounted}
 use Rattle.mapping.proofs.ArrayLemmas.{few_pages, mark_there, pages_of-remarked, told_none}
 use Rattle.mapping.proofs.CountedLemmas.{counted_raised, counted_same, counted_unraised}
 use Rattle.mapping.proofs.TotalLemmas.{total-le-len}

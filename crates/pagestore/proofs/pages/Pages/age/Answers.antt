@@ -15,7 +15,8 @@ invariant_of-self c =
     let files = c.self.inside.files.items in
     let s = c.self.invariant in
     subst (λ (u : Table). IsStore u up files c.self.inside.dirty) (sym c.age.ensures.aged)
-    (store_same t (aged t) up files c.self.inside.dirty s (λ g. refl) refl refl s.sized refl refl)
+    (store_same t (aged t) up files c.self.inside.dirty s (λ g. refl) refl refl s.sized refl (λ g aside. aside)
+    refl)
 
 pub returns-clause-moved : goal.returns-clause-moved
 returns-clause-moved c =

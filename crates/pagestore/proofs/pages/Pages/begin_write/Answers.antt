@@ -51,9 +51,8 @@ overflow_sub-self c =
 pub bytes-requires : goal.bytes-requires
 bytes-requires c =
     let w = at (goal.at.bytes-requires c).After-index_mut in
-    frame_taken w
-    (framed (map.get c.index_mut.result.now.mapping.pages c.args.page) c.in-Some.frame)
-    (sym (framed_entry (map.get c.index_mut.result.now.mapping.pages c.args.page) c.in-Some.frame c.in-Some.ensures))
+    let entry = map.get c.index_mut.result.now.mapping.pages c.args.page in
+    frame_taken w (framed entry c.in-Some.frame) (sym (framed_entry entry c.in-Some.frame c.in-Some.ensures))
 
 pub invariant_of-self : goal.invariant_of-self
 invariant_of-self c =
@@ -67,21 +66,23 @@ invariant_of-self c =
     let least = counts_dirty w x (sym found) in
     tagged_store w x (sym found) (with_tags picks.under_write) refl
     c.begin_write.new.mapping c.begin_write.ensures (c.self.inside.dirty - c.from.result)
+    (λ aside. refl)
     (omega (arith, one, least))
 
 pub returns-clause-begun : goal.returns-clause-begun
 returns-clause-begun c =
     let w = at (goal.at.returns-clause-begun c).After-index_mut in
+    let entry = map.get c.index_mut.result.now.mapping.pages c.args.page in
     tagged_seen w
-    (framed (map.get c.index_mut.result.now.mapping.pages c.args.page) c.in-Some.frame)
-    (sym (framed_entry (map.get c.index_mut.result.now.mapping.pages c.args.page) c.in-Some.frame c.in-Some.ensures))
+    (framed entry c.in-Some.frame)
+    (sym (framed_entry entry c.in-Some.frame c.in-Some.ensures))
     (with_tags picks.under_write) refl c.begin_write.new.mapping c.begin_write.ensures under_write refl
 
 pub returns-clause-copy : goal.returns-clause-copy
 returns-clause-copy c =
     let w = at (goal.at.returns-clause-copy c).After-index_mut in
+    let entry = map.get c.index_mut.result.now.mapping.pages c.args.page in
     let page = page_found w
-    (framed (map.get c.index_mut.result.now.mapping.pages c.args.page) c.in-Some.frame)
-    (sym (framed_entry (map.get c.index_mut.result.now.mapping.pages c.args.page) c.in-Some.frame
-    c.in-Some.ensures)) in
+    (framed entry c.in-Some.frame)
+    (sym (framed_entry entry c.in-Some.frame c.in-Some.ensures)) in
     c.copy_from_slice.ensures.after ∙ c.bytes.ensures.bytes ∙ ap (λ (page : Page). page.bytes) (sym page)

@@ -1,13 +1,14 @@
-use Rattle.std.proofs.Common.{arith, ap, sym, refl, ◌∙◌, ◌≡◌, ◌+◌, ◌≤◌, Bool, true, false, cond, not}
-use Rattle.std.specs.Prelude.{◌&&◌, ◌||◌}
+use Rattle.std.proofs.Common.{arith, ap, sym, subst, refl, ◌∙◌, ◌≡◌, ◌+◌, ◌≤◌, Bool, true, false, cond, not}
+use Rattle.std.specs.Prelude.{◌&&◌, ◌||◌, slice_set}
+use Rattle.std.proofs.lemmas.Bool.{false≢true}
 use Rattle.std.specs.Int.{from_bool}
-use Rattle.std.specs.FinMap as map
-use Rattle.pc_types.specs.declared.tags.Tag.TheVariants.{Dirty}
-use Rattle.mapping.proofs.PageLemmas.{tag_of}
 use Rattle.writeback.specs.Picks as picks
 use Rattle.machine.specs.Changes.{after_write}
-use Rattle.pagestore.proofs.StoreFacts.{few_dirty_pages, byte_is, the_mapped}
-use Rattle.pagestore.proofs.TagChanges.{CachedPage, its_entry, tagged_store, tagged_seen}
+use Rattle.frames.specs.Table.{Table, put_back}
+use Rattle.mapping.specs.Pages.{Mapped, seen}
+use Rattle.pagestore.specs.Store.{IsStore, store_of}
+use Rattle.pagestore.proofs.StoreFacts.{few_dirty_pages, byte_is, back_store, not_aside}
+use Rattle.pagestore.proofs.TagChanges.{CachedPage, frame_taken, none_left, tagged_store, tagged_seen}
 use Rattle.pagestore.proofs.pages.Pages.end_write.Goals as goal
 use Rattle.pagestore.proofs.pages.Pages.end_write.Goals.{After-index_mut}
 use Rattle.pagestore.proofs.pages.Pages.end_write.Goals.{then-failed, else-failed}
@@ -46,26 +47,47 @@ overflow_add-self c =
       most c.if-failed.from,
     )
 
+-- the page in the frames once its own is set aside no more
+abbrev put_back_at : (w : CachedPage) → Mapped → CachedPage
+put_back_at w x = record w {
+  pages = record w.pages { frames = put_back w.pages.frames x.frame };
+  kept = back_store w.pages.frames w.pages.uptodate.items w.pages.files.items w.pages.dirty x.frame w.kept;
+}
+
+pub unreachable-requires : goal.unreachable-requires
+unreachable-requires c =
+    let w = at (goal.at.unreachable-requires c).After-index_mut in
+    none_left w c.in_default.ensures
+
+pub put_back-requires : goal.put_back-requires
+put_back-requires c =
+    let w = at (goal.at.put_back-requires c).After-index_mut in
+    frame_taken w (seen c.in-Some.mapped) c.in-Some.ensures
+
 pub invariant_of-self : goal.invariant_of-self
 invariant_of-self c =
     let w = at (goal.at.invariant_of-self c).After-index_mut in
-    let x = the_mapped (map.get c.index_mut.result.now.mapping.pages c.args.page) in
-    let found = its_entry w in
-    let was : c.has_tag-was_dirty.result ≡ x.tags.dirty = c.has_tag-was_dirty.ensures
-    ∙ tag_of c.args.page Dirty c.index_mut.result.now.mapping.pages x (sym found) in
+    let x = seen c.in-Some.mapped in
+    let was : c.has-was_dirty.result ≡ x.tags.dirty = c.has-was_dirty.ensures in
     let flag : c.if-failed.from ≡ (c.args.failed && not x.tags.dirty) = elim c.if-failed.branch [
       | then-failed w ↦ w.from-is ∙ (λ i. sym w.if-failed.true i && not (was i))
       | else-failed w ↦ w.from-is ∙ w.if-failed.false ∙ ap (λ b. b && not x.tags.dirty) (sym w.if-failed.false)
     ] in
     let one = c.from.ensures ∙ ap from_bool flag ∙ byte_is (c.args.failed && not x.tags.dirty) in
-    tagged_store w x found (picks.after_write c.args.failed) refl
+    let files = slice_set c.self.inside.files.items c.args.file
+    (record c.index_mut.result.now { mapping = c.end_write.new.mapping }) in
+    subst (λ (u : Table). IsStore u c.self.inside.uptodate.items files (c.self.inside.dirty + c.from.result))
+    (sym c.put_back.ensures)
+    (tagged_store (put_back_at w x) x c.in-Some.ensures (picks.after_write c.args.failed) refl
     c.end_write.new.mapping c.end_write.ensures (c.self.inside.dirty + c.from.result)
-    (omega (arith, one, one_more x.tags.dirty c.args.failed))
+    (λ aside. absurd (false≢true (sym (not_aside c.self.inside.frames.aside x.frame) ∙ aside)))
+    (omega (arith, one, one_more x.tags.dirty c.args.failed)))
 
 pub returns : goal.returns
 returns c =
     let w = at (goal.at.returns c).After-index_mut in
-    tagged_seen w
-    (the_mapped (map.get c.index_mut.result.now.mapping.pages c.args.page))
-    (its_entry w) (picks.after_write c.args.failed) refl c.end_write.new.mapping
-    c.end_write.ensures (after_write c.args.failed) refl
+    let files = slice_set c.self.inside.files.items c.args.file
+    (record c.index_mut.result.now { mapping = c.end_write.new.mapping }) in
+    ap (λ (u : Table). store_of u c.self.inside.uptodate.items files) c.put_back.ensures
+    ∙ tagged_seen w (seen c.in-Some.mapped) c.in-Some.ensures (picks.after_write c.args.failed) refl
+    c.end_write.new.mapping c.end_write.ensures (after_write c.args.failed) refl

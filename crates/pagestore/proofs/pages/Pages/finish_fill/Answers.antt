@@ -2,19 +2,19 @@ use Rattle.std.proofs.Common.{arith, ap, sym, subst, refl, true, false, ◌∙�
 use Rattle.std.specs.Prelude.{Some, is_some, option_map, slice_index_or, slice_set}
 use Rattle.std.specs.FinMap as map
 use Rattle.std.proofs.lemmas.Bool.{false≢true}
-use Rattle.frames.specs.Table.{free_frames}
+use Rattle.frames.specs.Table.{Table, free_frames, is_taken, put_back}
 use Rattle.frames.specs.Rows.{with_row}
 use Rattle.frames.proofs.RowLemmas.{with_row-whole}
-use Rattle.mapping.specs.Pages.{Mapped, frame_of}
+use Rattle.mapping.specs.Pages.{frame_of}
 use Rattle.pc_types.specs.Tags.{TagSet, no_tags}
 use Rattle.pc_types.specs.declared.ids.FrameId.{FrameId}
 use Rattle.pagestore.specs.declared.kept.KeptFile.{KeptFile}
 use Rattle.machine.specs.State.{Page}
-use Rattle.pagestore.specs.Store.{Store, IsStore, awaits, store_of, kept_at, entry_at, is_awaited, with_entry}
+use Rattle.pagestore.specs.Store.{Store, IsStore, awaits, store_of, entry_at, is_awaited, with_entry}
 use Rattle.pagestore.proofs.StoreLaws.{waits_at, waiting_entry, waiting_flag, none_seen, kept_same, some_mapped}
 use Rattle.pagestore.proofs.FrameEntries.{framed, framed_entry}
 use Rattle.pagestore.proofs.PagePlaces.{FilePage, file_entry, file_here}
-use Rattle.pagestore.proofs.StoreFacts.{page_taken, dirty_one, changed_store, changed_seen}
+use Rattle.pagestore.proofs.StoreFacts.{page_taken, dirty_one, back_store, not_aside, changed_store, changed_seen}
 use Rattle.pagestore.proofs.pages.Pages.finish_fill.Goals as goal
 use Rattle.pagestore.proofs.pages.Pages.finish_fill.Goals.{After-self}
 
@@ -44,14 +44,15 @@ waits w filling = sym (waits_at w.pages.frames w.pages.uptodate.items w.pages.fi
 long : (c : After-self) → length c.args.bytes.now ≡ c.self.inside.frames.size
 long c = c.requires.whole ∙ ap (λ (s : Store). s.page) (sym c.self.view_is)
 
-rows : (c : goal.After-self-2-1) → (let t = c.self.inside.frames in
+rows : (c : goal.After-self-2-1) → (let t = c.put_back.new.self in
     with_row t.size t.bytes c.in-Some.frame.0 c.copy_from_slice.new.self
     ≡ slice_set t.bytes c.in-Some.frame.0 c.args.bytes.now)
 rows c =
-    let t = c.self.inside.frames in
+    let t = c.put_back.new.self in
     ap (with_row t.size t.bytes c.in-Some.frame.0) c.copy_from_slice.ensures.after
     ∙ with_row-whole t.size t.bytes c.in-Some.frame.0 c.args.bytes.now c.bytes_mut.ensures.sized
-    c.bytes_mut.ensures.within (long (goal.at.returns c).After-self)
+    c.bytes_mut.ensures.within
+    (long (goal.at.returns c).After-self ∙ sym (ap (λ (t : Table). t.size) c.put_back.ensures))
 
 pub unreachable-requires : goal.unreachable-requires
 unreachable-requires c =
@@ -62,19 +63,22 @@ unreachable-requires c =
     ∙ waiting_entry c.self.inside.uptodate.items (entry_at c.self.inside.files.items c.args.file c.args.page)
     (waits w c.requires.filling))
 
+-- its frame is taken
+taken_there : (w : FilePage) (k : KeptFile) → k ≡ slice_index_or w.pages.files.items w.file k → (frame : FrameId)
+    → Some frame ≡ option_map frame_of (map.get k.mapping.pages w.page) → is_taken w.pages.frames frame.0 ≡ true
+taken_there w k value frame found =
+    page_taken w.pages.frames w.pages.uptodate.items w.pages.files.items w.pages.dirty w.kept w.file w.page
+    (framed (entry_at w.pages.files.items w.file w.page) frame) (there_in w k value frame found)
+
+pub put_back-requires : goal.put_back-requires
+put_back-requires c = taken_there (at (goal.at.put_back-requires c).After-self) c.index.result.now c.index.ensures
+    c.in-Some.frame c.in-Some.ensures
+
 pub bytes_mut-requires : goal.bytes_mut-requires
 bytes_mut-requires c =
-    let t = c.self.inside.frames in
-    let up = c.self.inside.uptodate.items in
-    let files = c.self.inside.files.items in
-    let dirty = c.self.inside.dirty in
-    let s = c.self.invariant in
-    let f = c.args.file in
-    let p = c.args.page in
-    let w = at (goal.at.bytes_mut-requires c).After-self in
-    let x = framed (entry_at files f p) c.in-Some.frame in
-    let there = there_in w c.index.result.now c.index.ensures c.in-Some.frame c.in-Some.ensures in
-    page_taken t up files dirty s f p x there
+    ap (λ (t : Table). is_taken t c.in-Some.frame.0) c.put_back.ensures
+    ∙ taken_there (at (goal.at.bytes_mut-requires c).After-self) c.index.result.now c.index.ensures
+    c.in-Some.frame c.in-Some.ensures
 
 pub invariant_of-self : goal.invariant_of-self
 invariant_of-self c =
@@ -94,12 +98,16 @@ invariant_of-self c =
     let clean = ap dirty_one (none_seen t up files f p x there flag) in
     let marks : dirty_one (Some (let page : Page = record { bytes = row; tags = x.tags } in page)) ≡ 0 =
     ap (λ (g : TagSet). dirty_one (Some (let page : Page = record { bytes = row; tags = g } in page))) bare in
-    subst (λ (rs : List (List ℕ)). IsStore (record t { bytes = rs }) (slice_set up x.frame true) files dirty)
-    (sym (rows c))
-    (subst (λ (fs : List KeptFile). IsStore (record t { bytes = slice_set t.bytes x.frame row })
+    let u = put_back t x.frame in
+    subst (λ (rs : List (List ℕ)). IsStore (record c.put_back.new.self { bytes = rs }) (slice_set up x.frame true) files
+    dirty) (sym (rows c))
+    (subst (λ (v : Table). IsStore (record v { bytes = slice_set v.bytes x.frame row }) (slice_set up x.frame true) files
+    dirty) (sym c.put_back.ensures)
+    (subst (λ (fs : List KeptFile). IsStore (record u { bytes = slice_set u.bytes x.frame row })
     (slice_set up x.frame true) fs dirty) (kept_same files f p x there)
-    (changed_store t up files dirty f p x s (file_here w) there row (long (goal.at.invariant_of-self c).After-self) true
-    x refl dirty (λ e. absurd (false≢true (sym e))) (omega (arith, clean, marks))))
+    (changed_store u up files dirty f p x (back_store t up files dirty x.frame s) (file_here w) there row
+    (long (goal.at.invariant_of-self c).After-self) true x refl dirty (λ e. absurd (false≢true (sym e)))
+    (λ aside. absurd (false≢true (sym (not_aside t.aside x.frame) ∙ aside))) (omega (arith, clean, marks)))))
 
 pub returns : goal.returns
 returns c =
@@ -116,8 +124,10 @@ returns c =
     let flag = waiting_flag up (entry_at files f p) (waits w c.requires.filling) x there in
     let bare = s.bare f p x there flag in
     let row = c.args.bytes.now in
-    (λ i. store_of (record t { bytes = rows c i }) (slice_set up x.frame true)
-    (sym (kept_same files f p x there) i))
+    ap (λ (rs : List (List ℕ)). store_of (record c.put_back.new.self { bytes = rs }) (slice_set up x.frame true) files)
+    (rows c)
+    ∙ (λ i. let v : Table = c.put_back.ensures i in store_of (record v { bytes = slice_set v.bytes x.frame row })
+    (slice_set up x.frame true) (sym (kept_same files f p x there) i))
     ∙ changed_seen t up files dirty f p x s (file_here w) there row (long (goal.at.returns c).After-self) true x refl
     ∙ ap (λ (g : TagSet). with_entry (store_of t up files) f p
     (Some (let page : Page = record { bytes = row; tags = g } in page)) false (free_frames t)) bare

@@ -39,18 +39,18 @@ least w x there = dirty_least w.pages.frames w.pages.uptodate.items w.pages.file
     w.kept (file_here w) there
 
 gone : (c : goal.After-give) → (let now : KeptFile =
-    record c.index_mut.result.now { mapping = c.remove_page.new.self } in
+    record c.index_mut.result.now { mapping = c.take_page.new.self } in
     now ≡ with_kept (kept_at c.self.inside.files.items c.args.file) c.args.page None)
 gone c =
     ap (λ (m : FilePages). let k : KeptFile = record c.index_mut.result.now { mapping = m } in k)
-    c.remove_page.ensures.gone ∙ ap (λ (k : KeptFile). with_kept k c.args.page None)
+    c.take_page.ensures.gone ∙ ap (λ (k : KeptFile). with_kept k c.args.page None)
     (file_entry (at (goal.at.invariant_of-self c).After-self) c.index_mut.result.now c.index_mut.ensures.value)
 
 -- whether its page was cached or awaited
 seen_left : (c : goal.After-give) → (let t = c.self.inside.frames in let up = c.self.inside.uptodate.items in
     let files = c.self.inside.files.items in
     store_of c.give.new.self up
-    (slice_set files c.args.file (record c.index_mut.result.now { mapping = c.remove_page.new.self }))
+    (slice_set files c.args.file (record c.index_mut.result.now { mapping = c.take_page.new.self }))
     ≡ with_lists (with_entry (store_of t up files) c.args.file c.args.page None false (free_frames t + 1))
     (left c.args.file c.args.page (lists_of t)))
 seen_left c =
@@ -63,7 +63,7 @@ seen_left c =
     let p = c.args.page in
     let w = at (goal.at.invariant_of-self c).After-self in
     let x = seen c.in-Some.mapped in
-    let there = there_in w c.index_mut.result.now c.index_mut.ensures.value x c.in-Some.ensures in
+    let there = there_in w c.index_mut.result.now c.index_mut.ensures.value x c.in-Some.ensures.page in
     (λ i. store_of (c.give.ensures i) up (slice_set files f (gone c i)))
     ∙ left_seen t up files dirty f p x s (file_here w) there
     ∙ ap (with_lists (with_entry (store_of t up files) f p None false (free_frames t + 1)))
@@ -74,7 +74,7 @@ pub unreachable-requires : goal.unreachable-requires
 unreachable-requires c =
     let w = at (goal.at.unreachable-requires c).After-self in
     let entry = file_entry w c.index_mut.result.now c.index_mut.ensures.value in
-    false≢true (ap is_some c.in_default.ensures
+    false≢true (ap is_some c.in_default.ensures.page
     ∙ ap (λ (k : KeptFile). is_some (map.get k.mapping.pages c.args.page)) entry
     ∙ an_entry c.self.inside.frames c.self.inside.uptodate.items c.self.inside.files.items c.args.file c.args.page
     (ap (λ (s : Store). is_some (stored_page s c.args.file c.args.page) || is_awaited s c.args.file c.args.page)
@@ -84,7 +84,7 @@ pub overflow_sub-self : goal.overflow_sub-self
 overflow_sub-self c =
     let w = at (goal.at.overflow_sub-self c).After-self in
     let x = seen c.in-Some.mapped in
-    let there = there_in w c.index_mut.result.now c.index_mut.ensures.value x c.in-Some.ensures in
+    let there = there_in w c.index_mut.result.now c.index_mut.ensures.value x c.in-Some.ensures.page in
     let one = c.from.ensures ∙ ap from_bool c.has.ensures ∙ byte_is x.tags.dirty in
     omega (arith, one, least w x there)
 
@@ -92,7 +92,7 @@ pub give-requires : goal.give-requires
 give-requires c =
     let w = at (goal.at.give-requires c).After-self in
     let x = seen c.in-Some.mapped in
-    let there = there_in w c.index_mut.result.now c.index_mut.ensures.value x c.in-Some.ensures in
+    let there = there_in w c.index_mut.result.now c.index_mut.ensures.value x c.in-Some.ensures.page in
     page_taken c.self.inside.frames c.self.inside.uptodate.items c.self.inside.files.items c.self.inside.dirty
     c.self.invariant c.args.file c.args.page x there
 
@@ -105,7 +105,7 @@ invariant_of-self c =
     let now = c.self.inside.dirty - c.from.result in
     let w = at (goal.at.invariant_of-self c).After-self in
     let x = seen c.in-Some.mapped in
-    let there = there_in w c.index_mut.result.now c.index_mut.ensures.value x c.in-Some.ensures in
+    let there = there_in w c.index_mut.result.now c.index_mut.ensures.value x c.in-Some.ensures.page in
     let one = c.from.ensures ∙ ap from_bool c.has.ensures ∙ byte_is x.tags.dirty in
     subst (λ (k : KeptFile). IsStore c.give.new.self up (slice_set files f k) now) (sym (gone c))
     (subst (λ (u : Table). IsStore u up (slice_set files f (with_kept (kept_at files f) c.args.page None)) now)

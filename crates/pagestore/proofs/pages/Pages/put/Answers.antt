@@ -44,19 +44,17 @@ overflow_add-self c =
 pub bytes_mut-requires : goal.bytes_mut-requires
 bytes_mut-requires c =
     let w = at (goal.at.bytes_mut-requires c).After-index_mut in
-    let x = framed (map.get c.index_mut.result.now.mapping.pages c.args.page) c.in-Some.frame in
-    let found =
-    sym (framed_entry (map.get c.index_mut.result.now.mapping.pages c.args.page) c.in-Some.frame
-    c.in-Some.ensures) in
+    let entry = map.get c.index_mut.result.now.mapping.pages c.args.page in
+    let x = framed entry c.in-Some.frame in
+    let found = sym (framed_entry entry c.in-Some.frame c.in-Some.ensures) in
     frame_taken w x found
 
 pub invariant_of-self : goal.invariant_of-self
 invariant_of-self c =
     let w = at (goal.at.invariant_of-self c).After-index_mut in
-    let x = framed (map.get c.index_mut.result.now.mapping.pages c.args.page) c.in-Some.frame in
-    let found =
-    sym (framed_entry (map.get c.index_mut.result.now.mapping.pages c.args.page) c.in-Some.frame
-    c.in-Some.ensures) in
+    let entry = map.get c.index_mut.result.now.mapping.pages c.args.page in
+    let x = framed entry c.in-Some.frame in
+    let found = sym (framed_entry entry c.in-Some.frame c.in-Some.ensures) in
     let b = c.args.bytes.now in
     let put = rows_put w x found c.args.at b c.requires.room
     (c.args.at + length b - c.args.at) c.bytes_mut.result.now c.copy_from_slice.new.self c.bytes_mut.ensures.bytes
@@ -70,10 +68,9 @@ invariant_of-self c =
 pub returns : goal.returns
 returns c =
     let w = at (goal.at.returns c).After-index_mut in
-    let x = framed (map.get c.index_mut.result.now.mapping.pages c.args.page) c.in-Some.frame in
-    let found =
-    sym (framed_entry (map.get c.index_mut.result.now.mapping.pages c.args.page) c.in-Some.frame
-    c.in-Some.ensures) in
+    let entry = map.get c.index_mut.result.now.mapping.pages c.args.page in
+    let x = framed entry c.in-Some.frame in
+    let found = sym (framed_entry entry c.in-Some.frame c.in-Some.ensures) in
     let b = c.args.bytes.now in
     let put = rows_put w x found c.args.at b c.requires.room
     (c.args.at + length b - c.args.at) c.bytes_mut.result.now c.copy_from_slice.new.self c.bytes_mut.ensures.bytes

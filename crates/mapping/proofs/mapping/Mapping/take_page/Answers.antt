@@ -4,24 +4,24 @@ use Rattle.std.specs.FinMap as finmap
 use Rattle.pc_types.specs.TagBits.{tag_set}
 use Rattle.xarray.specs.MarkedArray.{Array}
 use Rattle.mapping.specs.declared.totals.Totals.{Totals}
-use Rattle.mapping.specs.Pages.{FilePages, Mapped, Pages, frame_of, seen}
+use Rattle.mapping.specs.Pages.{FilePages, Pages, seen}
 use Rattle.mapping.specs.Totals.{without_page}
 use Rattle.mapping.specs.View.{pages_of, IsCounted}
 use Rattle.mapping.proofs.ArrayLemmas.{marked_frame, marked_none, marked_there, pages_of-erased}
 use Rattle.mapping.proofs.CountedLemmas.{counted_erased, counted_unerased}
 use Rattle.mapping.proofs.MapLemmas.{len_remove_old}
 use Rattle.mapping.proofs.TotalLemmas.{one_of}
-use Rattle.mapping.proofs.mapping.Mapping.remove_page.Goals as goal
+use Rattle.mapping.proofs.mapping.Mapping.take_page.Goals as goal
 
 pub invariant_of-self : goal.invariant_of-self
 invariant_of-self c =
     let none = marked_none c.self.inside.pages.ranges c.self.invariant.each c.args.index.0 c.in_err-entry.ensures.before in
     subst (λ (a : Array). IsCounted a.ranges c.self.inside.page_count c.self.inside.totals) (sym c.take.ensures.takes) (counted_unerased c.self.inside.pages.ranges c.self.inside.page_count c.self.inside.totals c.self.invariant c.args.index.0 none)
 
-pub returns-in_err-entry-clause-frame : goal.returns-in_err-entry-clause-frame
-returns-in_err-entry-clause-frame c =
-    c.from_residual.ensures ∙ sym (ap (option_map frame_of) (marked_none c.self.inside.pages.ranges c.self.invariant.each c.args.index.0 c.in_err-entry.ensures.before))
-    ∙ ap (λ (f : FilePages). option_map frame_of (finmap.get f.pages c.args.index.0)) c.self.view_is
+pub returns-in_err-entry-clause-page : goal.returns-in_err-entry-clause-page
+returns-in_err-entry-clause-page c =
+    ap (option_map seen) c.from_residual.ensures ∙ sym ((marked_none c.self.inside.pages.ranges c.self.invariant.each c.args.index.0 c.in_err-entry.ensures.before))
+    ∙ ap (λ (f : FilePages). finmap.get f.pages c.args.index.0) c.self.view_is
 
 pub returns-in_err-entry-clause-gone : goal.returns-in_err-entry-clause-gone
 returns-in_err-entry-clause-gone c =
@@ -49,10 +49,10 @@ invariant_of-self-2 c =
     subst (λ (totals : Totals). IsCounted c.take.new.self.ranges (c.self.inside.page_count - 1) totals) (sym c.forget.ensures)
     (subst (λ (a : Array). IsCounted a.ranges (c.self.inside.page_count - 1) (without_page c.self.inside.totals (tag_set c.mapped_page-page.result.tags))) (sym c.take.ensures.takes) kept)
 
-pub returns-clause-frame : goal.returns-clause-frame
-returns-clause-frame c =
+pub returns-clause-page : goal.returns-clause-page
+returns-clause-page c =
     let some = marked_there c.self.inside.pages.ranges c.self.invariant.each c.args.index.0 c.in_ok-entry.entry c.in_ok-entry.ensures.before ∙ ap (λ page. Some page) (sym c.mapped_page-page.ensures) in
-    sym (ap (option_map frame_of) some) ∙ ap (λ (f : FilePages). option_map frame_of (finmap.get f.pages c.args.index.0)) c.self.view_is
+    sym some ∙ ap (λ (f : FilePages). finmap.get f.pages c.args.index.0) c.self.view_is
 
 pub returns-clause-gone : goal.returns-clause-gone
 returns-clause-gone c =

@@ -1,0 +1,7 @@
+#![tactic(auto)]
+//! A device some of whose calls fail, for storms and tests. Which calls fail is tested, not proved: what is proved of it is what is
+//! proved of every device.
+
+mod device;
+
+pub use device::FaultyDevice;

@@ -1,0 +1,5 @@
+pub mod Counting
+pub mod Kept
+pub mod Replied
+pub mod Seats
+pub mod Receipts

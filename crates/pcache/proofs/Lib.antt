@@ -1,0 +1,2 @@
+mod OneNumber
+mod Seating

@@ -1,0 +1,7 @@
+-- A word is one number at most.
+use Rattle.std.proofs.Common.{◌≡◌, ℕ, List, sym, ◌∙◌}
+use Rattle.std.proofs.lemmas.Fmt.{decimal_injective}
+use Rattle.textline.specs.Words.{IsNumber}
+
+pub one_number : (word : List ℕ) (m n : ℕ) → IsNumber word m → IsNumber word n → m ≡ n
+one_number word m n h k = decimal_injective m n h.1 k.1 (sym h.0 ∙ k.0)

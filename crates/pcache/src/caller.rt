@@ -1,0 +1,127 @@
+//! A caller: one thread that makes file calls.
+
+ghost use Rattle.std.specs.Prelude.{◌≡◌};
+
+use crate::member::Member;
+use crate::steps::{FILES, Kind, MAX_COUNT, Step, Steps};
+use blockdev::BlockDevice;
+use locked::naming::Naming;
+use pc_types::FileId;
+use shared::cache::SharedCache;
+use shared::handle::Handle;
+use std::alloc::{AllocError, Global};
+use std::marker::PhantomData;
+use std::sync::Wait;
+use trail::FullTrail;
+
+/// An open file of the cache that B names.
+#[derive(Drop)]
+struct Opened<B: Naming> {
+    handle: Handle,
+    of: PhantomData<B>,
+    ghost came: { handle.pass.board ≡ B.board },
+}
+
+/// A thread's seat, its open files, and which calls it makes.
+#[derive(Drop)]
+pub struct Caller<B: Naming> {
+    member: Member<B>,
+    files: Vec<Opened<B>>,
+    steps: Steps,
+}
+
+impl<B: Naming> Caller<B> {
+    /// A caller with no open file.
+    pub fn new(alloc: Global, member: Member<B>, steps: Steps) -> Result<Caller<B>, AllocError> {
+        Ok(Caller {
+            files: Vec::with_capacity(alloc, FILES as usize)?,
+            member,
+            steps,
+        })
+    }
+
+    /// Opens the files, makes so many calls, closes the files, and gives the seat back. A refused call counts as one that was made.
+    pub fn run<R: Wait, D: BlockDevice>(
+        self,
+        rt: &R,
+        cache: &SharedCache<B, D, FullTrail>,
+        count: u64,
+    ) -> Member<B> {
+        let Caller {
+            mut member,
+            mut files,
+            mut steps,
+        } = self;
+        open_files(rt, cache, &mut member, &mut files);
+        make_calls(rt, cache, &mut member, &mut files, &mut steps, count);
+        close_files(rt, cache, &mut member, files);
+        member
+    }
+}
+
+/// Opens each file, for appending writes.
+fn open_files<R: Wait, B: Naming, D: BlockDevice>(
+    rt: &R,
+    cache: &SharedCache<B, D, FullTrail>,
+    member: &mut Member<B>,
+    files: &mut Vec<Opened<B>>,
+) {
+    for file in 0..FILES {
+        if let Ok((handle, _)) = cache.open(rt, &mut member.seat, FileId(file), true) {
+            let _ = files.push(Opened {
+                handle,
+                of: PhantomData,
+            });
+        }
+    }
+}
+
+fn make_calls<R: Wait, B: Naming, D: BlockDevice>(
+    rt: &R,
+    cache: &SharedCache<B, D, FullTrail>,
+    member: &mut Member<B>,
+    files: &mut Vec<Opened<B>>,
+    steps: &mut Steps,
+    count: u64,
+) {
+    for number in 0..count {
+        let step = steps.step(number);
+        let mut buffer = [0; MAX_COUNT];
+        let bytes = &mut buffer[..step.count];
+        steps.fill(bytes);
+        if let Some(file) = files.get_mut(step.file) {
+            make_call(rt, cache, member, file, &step, bytes);
+        }
+    }
+}
+
+/// Makes a call, with the bytes that are to be written or read over. What it answers is told by the trail.
+fn make_call<R: Wait, B: Naming, D: BlockDevice>(
+    rt: &R,
+    cache: &SharedCache<B, D, FullTrail>,
+    member: &mut Member<B>,
+    file: &mut Opened<B>,
+    step: &Step,
+    bytes: &mut [u8],
+) {
+    let seat = &mut member.seat;
+    let handle = &mut file.handle;
+    match step.kind {
+        Kind::Read => drop(cache.pread(rt, seat, handle, step.offset, bytes)),
+        Kind::Write => drop(cache.pwrite(rt, seat, handle, step.offset, bytes)),
+        Kind::Append => drop(cache.write(rt, seat, handle, bytes)),
+        Kind::Truncate => drop(cache.truncate(rt, seat, handle, step.offset)),
+        Kind::Fsync => drop(cache.fsync(rt, seat, handle)),
+    }
+}
+
+fn close_files<R: Wait, B: Naming, D: BlockDevice>(
+    rt: &R,
+    cache: &SharedCache<B, D, FullTrail>,
+    member: &mut Member<B>,
+    files: Vec<Opened<B>>,
+) {
+    for file in files {
+        drop(cache.close_handle(rt, &mut member.seat, file.handle));
+    }
+}

@@ -1,0 +1,165 @@
+-- What the ends of jobs and the turns of workers say of a seat.
+use Rattle.std.proofs.Common.{◌≡◌, ℕ, zero, suc, List, [], ◌∷◌, ◌++◌, ap, arith, refl, sym, subst, ◌∙◌}
+use Rattle.std.specs.Prelude.{All, Bool, false, IfNone, IfOk, IfSome, IsOk, Err, Ok, Option, Result, Some, None, is_some}
+use Rattle.std.proofs.lemmas.List.{append_assoc, append-nil}
+use Rattle.std.proofs.lemmas.List.Elements.{All-append, All-nil, All-weaker}
+use Rattle.atomic_table.specs.Seated.{TableId}
+use Rattle.blockdev.specs.Jobs.{FinishedTask, Task}
+use Rattle.cachecore.specs.Replies.{end_of, fill_ended, flush_ended}
+use Rattle.cachecore.specs.declared.answers.Ended.{Ended}
+use Rattle.cachecore.specs.declared.answers.Ended.TheVariants as ended
+use Rattle.errboard.specs.Shown.{ReceiptSeen, RecorderSeen}
+use Rattle.machine.specs.declared.event.Event.{Event}
+use Rattle.machine.specs.declared.event.Event.TheVariants as event
+use Rattle.machine.specs.declared.event.Reply.{Reply}
+use Rattle.machine.specs.declared.event.Reply.TheVariants as reply
+use Rattle.pc_types.specs.declared.kind.Kind.TheVariants.{Fill, Flush}
+use Rattle.held.specs.Ends.{IsRecorded}
+use Rattle.held.specs.declared.log.Slip.{Slip}
+use Rattle.held.specs.Shown.{HeldSeen, SeatSeen}
+use Rattle.locked.specs.Called.{Goes}
+use Rattle.locked.specs.Firsts.{IsFirstDenied, Writes}
+use Rattle.locked.specs.declared.denied.Denied.{Denied}
+use Rattle.locked.proofs.Seats.{goes_same}
+use Rattle.shared.specs.Called.{Makes}
+use Rattle.shared.specs.Denials.{IsDenied}
+use Rattle.shared.specs.Workers.{AllEnded, Begins, Ends, IsEndOf, IsOwnFailure, IsWriteBack, fails_write, popped_by}
+use Rattle.shared.specs.declared.ends.Done.{Done}
+use Rattle.shared.specs.declared.worker.Worker.{Worker}
+use Rattle.shared.proofs.Making.{denied_by, denied_on, makes_by, makes_on, makes_then}
+
+-- ---- ends
+
+-- the end of what came of a job is the job's
+pub ends_by : (job : Task) (done : FinishedTask) (before after : SeatSeen) (slip : Slip) (told : Bool)
+    → done.serial ≡ job.serial → done.kind ≡ job.kind → done.cache ≡ job.cache
+    → (r : Reply) × Makes before after slip (event.End done.kind (end_of done)) r × (told ≡ fails_write done.kind r)
+    → Ends job before after slip told
+ends_by job done before after slip told serial kind cache p = record {
+  event = event.End done.kind (end_of done);
+  reply = p.0;
+  is_end = (kind, serial, cache);
+  made = p.1;
+  failed = subst (λ k. told ≡ fails_write k p.0) kind p.2;
+}
+
+pub denied_job : (job : Task) (done : FinishedTask) (before after : SeatSeen) (d : Denied) → done.serial ≡ job.serial
+    → done.kind ≡ job.kind → done.cache ≡ job.cache
+    → IsDenied (λ e. e ≡ event.End done.kind (end_of done)) before after d → IsDenied (IsEndOf job) before after d
+denied_job job done before after d serial kind cache q =
+    denied_on (λ e. e ≡ event.End done.kind (end_of done)) (IsEndOf job) before before after d
+    (λ e same. subst (IsEndOf job) (sym same) (kind, serial, cache)) (goes_same before before refl) q
+
+pub fill_told : (a : Ended) → false ≡ fails_write Fill (fill_ended (Ok a))
+fill_told a = refl
+
+pub flush_told : (old new : RecorderSeen) (f : Option ℕ) (a : Ended) (receipt : Option ReceiptSeen)
+    → IsRecorded old f (Ok a) receipt new → is_some receipt ≡ fails_write Flush (flush_ended (Ok a))
+flush_told old new (Some f) (ended.Failed code b) (Some receipt) h = refl
+flush_told old new (Some f) (ended.Failed code b) None h = absurd h
+flush_told old new None (ended.Failed code b) receipt h = absurd h
+flush_told old new f (ended.Dropped b) None h = refl
+flush_told old new (Some f) (ended.Dropped b) (Some receipt) h = absurd h
+flush_told old new None (ended.Dropped b) (Some receipt) h = absurd h
+flush_told old new f (ended.Done b) None h = refl
+flush_told old new (Some f) (ended.Done b) (Some receipt) h = absurd h
+flush_told old new None (ended.Done b) (Some receipt) h = absurd h
+
+pub ends_on : (job : Task) (a b c : SeatSeen) (slip : Slip) (told : Bool) → Goes a b
+    → Ends job b c slip told → Ends job a c slip told
+ends_on job a b c slip told p q = record {
+  event = q.event;
+  reply = q.reply;
+  is_end = q.is_end;
+  made = makes_on a b c slip q.event q.reply p q.made;
+  failed = q.failed;
+}
+
+pub ends_then : (job : Task) (a b c : SeatSeen) (slip : Slip) (told : Bool) → Ends job a b slip told
+    → Goes b c → Ends job a c slip told
+ends_then job a b c slip told p q = record {
+  event = p.event;
+  reply = p.reply;
+  is_end = p.is_end;
+  made = makes_then a b c slip p.event p.reply p.made q;
+  failed = p.failed;
+}
+
+-- ---- a flusher's turn
+
+pub begins_first : (job : Task) (slip : Slip) (old new : HeldSeen) (before after : SeatSeen)
+    → Writes job slip old new before after → Begins job.serial before after slip
+begins_first job slip old new before after w = (
+  w.file,
+  makes_by (event.FlushBegin w.file) (reply.Job (record { 0 = job.serial })) old new before after slip w.made,
+)
+
+pub begins_then : (serial : ℕ) (a b c : SeatSeen) (slip : Slip) → Begins serial a b slip → Goes b c → Begins serial a c slip
+begins_then serial a b c slip p q =
+    (p.0, makes_then a b c slip (event.FlushBegin p.0) (reply.Job (record { 0 = serial })) p.1 q)
+
+pub denied_begun : (old new : HeldSeen) (before after : SeatSeen) (d : Denied) → IsFirstDenied old new before after d
+    → IsDenied IsWriteBack before after d
+denied_begun old new before after d q =
+    denied_by IsWriteBack (event.FlushBegin q.file) old new before after d tt q.denied
+
+end_writes_back : (job : Task) (e : Event) → IsEndOf job e → IsWriteBack e
+end_writes_back job (event.End kind end) x = tt
+end_writes_back job e x = absurd x
+
+pub write_back_end : (job : Task) (a b c : SeatSeen) (d : Denied) → Goes a b → IsDenied (IsEndOf job) b c d
+    → IsDenied IsWriteBack a c d
+write_back_end job a b c d p q = denied_on (IsEndOf job) IsWriteBack a b c d (end_writes_back job) p q
+
+-- ---- all jobs that a worker took
+
+-- this seat ended the job
+abbrev Ended_by : SeatSeen → SeatSeen → Task → Type 0
+Ended_by before after job = (slip : Slip) × (told : Bool) × Ends job before after slip told
+
+pub none_ended : (w : Worker) → AllEnded w w
+none_ended w = ([], sym (append-nil (popped_by w)), All-nil (Ended_by w.seat w.seat))
+
+-- as far as the seat saw then
+pub still_ended : (a b c : Worker) → AllEnded a b → popped_by c ≡ popped_by b → Goes b.seat c.seat → AllEnded a c
+still_ended a b c p same goes = (
+  p.0,
+  same ∙ p.1,
+  All-weaker (Ended_by a.seat b.seat) (Ended_by a.seat c.seat)
+      (λ job q. (q.0, q.1, ends_then job a.seat b.seat c.seat q.0 q.1 q.2 goes)) p.0 p.2,
+)
+
+one_ended : (before after : SeatSeen) (job : Task) → Ended_by before after job → All (Ended_by before after) (job ∷ [])
+one_ended before after job p zero d less = p
+one_ended before after job p (suc k) d less = absurd (omega arith)
+
+pub one_more_ended : (a b c : Worker) (job : Task) (slip : Slip) (told : Bool) → AllEnded a b
+    → popped_by c ≡ popped_by b ++ job ∷ [] → Goes a.seat b.seat → Goes b.seat c.seat → Ends job b.seat c.seat slip told
+    → AllEnded a c
+one_more_ended a b c job slip told p popped before goes end = (
+  p.0 ++ job ∷ [],
+  popped ∙ ap (λ jobs. jobs ++ job ∷ []) p.1 ∙ append_assoc (popped_by a) p.0 (job ∷ []),
+  All-append (Ended_by a.seat c.seat) p.0 (job ∷ [])
+      (All-weaker (Ended_by a.seat b.seat) (Ended_by a.seat c.seat)
+      (λ j q. (q.0, q.1, ends_then j a.seat b.seat c.seat q.0 q.1 q.2 goes)) p.0 p.2)
+      (one_ended a.seat c.seat job (slip, told, ends_on job a.seat b.seat c.seat slip told before end)),
+)
+
+-- a turn took no job, or ended the one that it took
+pub turn_ended : (a b c : Worker) (turn : Option Done) (name : ℕ) (board : TableId) → AllEnded a b → Goes a.seat b.seat
+    → Goes b.seat c.seat → IfNone turn ((c.seat ≡ b.seat) × (popped_by c ≡ popped_by b))
+    → IfSome turn (λ d. (job : Task) × (popped_by c ≡ popped_by b ++ job ∷ []) × (d.serial.0 ≡ job.serial)
+    × Ends job b.seat c.seat d.slip (is_some d.failed) × IfSome d.failed (IsOwnFailure name board))
+    → AllEnded a c
+turn_ended a b c None name board p before goes idle end = still_ended a b c p idle.1 goes
+turn_ended a b c (Some d) name board p before goes idle end =
+    one_more_ended a b c end.0 d.slip (is_some d.failed) p end.1 before goes end.3
+
+-- a job was taken, and its end was not refused
+pub carried_ended : (a b c : Worker) (job : Task) (result : Result Done Denied) → AllEnded a b
+    → popped_by c ≡ popped_by b ++ job ∷ [] → Goes a.seat b.seat → Goes b.seat c.seat → IsOk result
+    → IfOk result (λ d. (d.serial.0 ≡ job.serial) × Ends job b.seat c.seat d.slip (is_some d.failed))
+    → AllEnded a c
+carried_ended a b c job (Ok d) p popped before goes is end =
+    one_more_ended a b c job d.slip (is_some d.failed) p popped before goes end.1
+carried_ended a b c job (Err d) p popped before goes is end = absurd cc

@@ -1,0 +1,229 @@
+-- What the events of a call say of its seat, from its begin to its end.
+use Rattle.std.proofs.Common.{◌≡◌, true, ℕ, List, [], ◌∷◌, ◌++◌, refl, sym, subst, ◌∙◌, inl, inr}
+use Rattle.std.specs.Prelude.{IfErr, Ok, Option, Result, Some, None}
+use Rattle.std.proofs.lemmas.Result.{IfErr-weaker}
+use mathlib.Core.List.{IsPrefix}
+use Rattle.errseq.proofs.Prefixes.{prefix_self, prefix_trans}
+use Rattle.cachecore.specs.Replies.{fill_ended}
+use Rattle.cachecore.specs.declared.answers.Ended.TheVariants as ended
+use Rattle.machine.specs.declared.event.End.{End}
+use Rattle.machine.specs.declared.event.Event.{Event}
+use Rattle.machine.specs.declared.event.Event.TheVariants as event
+use Rattle.machine.specs.declared.event.Reply.{Reply}
+use Rattle.machine.specs.declared.event.Reply.TheVariants as reply
+use Rattle.pc_types.specs.declared.ids.HandleId.{HandleId}
+use Rattle.pc_types.specs.declared.ids.PageIndex.{PageIndex}
+use Rattle.pc_types.specs.declared.kind.Kind.TheVariants.{Fill, Flush}
+use Rattle.pc_types.specs.declared.refusal.Refusal.{Refusal}
+use Rattle.pc_types.specs.declared.refusal.Refusal.TheVariants.{Io, TrailFull}
+use Rattle.trail.specs.Entries.{entry_of}
+use Rattle.held.specs.declared.log.Slip.{Slip}
+use Rattle.held.specs.Entered.{Made}
+use Rattle.held.specs.Shown.{HeldSeen, SeatSeen}
+use Rattle.locked.specs.Called.{Goes}
+use Rattle.locked.specs.Denials as under
+use Rattle.locked.specs.Firsts.{IsFirstDenied}
+use Rattle.locked.specs.declared.denied.Denied.{Denied}
+use Rattle.locked.proofs.Seats.{goes_by, goes_same}
+use Rattle.shared.specs.Called.{IsForLater, Makes, Retries, is_for_now}
+use Rattle.shared.specs.Denials.{DeniedBy, IsDenied, IsFullIfNoSlip, MadeOne}
+use Rattle.shared.specs.Own.{IsCallOf, IsHelp, IsRoomEvent, IsStillDenied}
+
+-- ---- what was made
+
+pub makes_by : (e : Event) (r : Reply) (old new : HeldSeen) (before after : SeatSeen) (slip : Slip)
+    → Made e r old new before after slip → Makes before after slip e r
+makes_by e r old new before after slip m = record {
+  earlier = old.log.history;
+  saw = m.entered.saw;
+  entered = subst (IsPrefix (old.log.history ++ entry_of before.number e r ∷ []))
+      (sym (m.entered.sees ∙ m.entered.history)) (prefix_self _);
+  placed = m.entered.placed;
+}
+
+pub makes_on : (a b c : SeatSeen) (slip : Slip) (e : Event) (r : Reply) → Goes a b → Makes b c slip e r → Makes a c slip e r
+makes_on a b c slip e r p q = record {
+  earlier = q.earlier;
+  saw = prefix_trans a.list b.list q.earlier p.grows q.saw;
+  entered = subst (λ n. IsPrefix (q.earlier ++ entry_of n e r ∷ []) c.list) p.same.2 q.entered;
+  placed = (q.placed.0 ∙ p.same.1, q.placed.1);
+}
+
+pub makes_then : (a b c : SeatSeen) (slip : Slip) (e : Event) (r : Reply) → Makes a b slip e r → Goes b c → Makes a c slip e r
+makes_then a b c slip e r p q = record {
+  earlier = p.earlier;
+  saw = p.saw;
+  entered = prefix_trans _ b.list c.list p.entered q.grows;
+  placed = p.placed;
+}
+
+-- ---- refusals
+
+pub denied_on : (own wider : Event → Type 0) (a b c : SeatSeen) (d : Denied) → ((e : Event) → own e → wider e) → Goes a b
+    → IsDenied own b c d → IsDenied wider a c d
+denied_on own wider a b c d f p q = go d.refusal d.slip q
+  where
+    go : (r : Refusal) (o : Option Slip) → DeniedBy own b c r o → DeniedBy wider a c r o
+    go r None q = q
+    go r (Some slip) q = (q.0, q.1, f q.0 q.2, q.3, makes_on a b c slip q.0 q.1 p q.4)
+
+denied_then : (own : Event → Type 0) (a b c : SeatSeen) (d : Denied) → IsDenied own a b d → Goes b c → IsDenied own a c d
+denied_then own a b c d p q = go d.refusal d.slip p
+  where
+    go : (r : Refusal) (o : Option Slip) → DeniedBy own a b r o → DeniedBy own a c r o
+    go r None p = p
+    go r (Some slip) p = (p.0, p.1, p.2, p.3, makes_then a b c slip p.0 p.1 p.4 q)
+
+-- the event of a call was refused
+pub denied_by : (own : Event → Type 0) (e : Event) (old new : HeldSeen) (before after : SeatSeen) (d : Denied) → own e
+    → under.IsDenied e old new before after d → IsDenied own before after d
+denied_by own e old new before after d is q = go d.refusal d.slip q
+  where
+    go : (r : Refusal) (o : Option Slip) → under.DeniedBy e old new before after r o → DeniedBy own before after r o
+    go r None q = inl q.0
+    go r (Some slip) q = (e, reply.Refused r, is, refl, makes_by e (reply.Refused r) old new before after slip q)
+
+under_goes : (e : Event) (old new : HeldSeen) (before after : SeatSeen) (d : Denied)
+    → under.IsDenied e old new before after d → Goes before after
+under_goes e old new before after d q = go d.refusal d.slip q
+  where
+    go : (r : Refusal) (o : Option Slip) → under.DeniedBy e old new before after r o → Goes before after
+    go r None q = goes_same before after q.2.1
+    go r (Some slip) q = goes_by e (reply.Refused r) old new before after slip q
+
+-- the seat goes on where an event is refused
+pub goes_denied : (e : Event) (old new : HeldSeen) (before after : SeatSeen) (d : Denied)
+    → under.IsDenied e old new before after d → Goes before after
+goes_denied = under_goes
+
+pub denied_event : (e : Event) (old new : HeldSeen) (before after : SeatSeen) (d : Denied)
+    → under.IsDenied e old new before after d → IsDenied (λ x. x ≡ e) before after d
+denied_event e old new before after d q = denied_by (λ x. x ≡ e) e old new before after d refl q
+
+pub denied_begin : (h : HandleId) (p : PageIndex) (old new : HeldSeen) (before after : SeatSeen) (d : Denied)
+    → under.IsDenied (event.FillBegin h p) old new before after d → IsDenied (IsHelp h) before after d
+denied_begin h p old new before after d q = denied_by (IsHelp h) (event.FillBegin h p) old new before after d refl q
+
+pub denied_end : (h : HandleId) (end : End) (old new : HeldSeen) (before after : SeatSeen) (d : Denied)
+    → under.IsDenied (event.End Fill end) old new before after d → IsDenied (IsHelp h) before after d
+denied_end h end old new before after d q = denied_by (IsHelp h) (event.End Fill end) old new before after d tt q
+
+-- a fill whose device call failed
+pub failed_end : (h : HandleId) (end : End) (code : ℕ) (b : List ℕ) (old new : HeldSeen) (before after : SeatSeen) (slip : Slip)
+    → Made (event.End Fill end) (fill_ended (Ok (ended.Failed code b))) old new before after slip
+    → IsDenied (IsHelp h) before after (record { refusal = Io code; slip = Some slip })
+failed_end h end code b old new before after slip m =
+    (event.End Fill end, reply.Failed code, tt, refl, makes_by (event.End Fill end) (reply.Failed code) old new before after slip m)
+
+pub denied_flush : (end : End) (old new : HeldSeen) (before after : SeatSeen) (d : Denied)
+    → under.IsDenied (event.End Flush end) old new before after d → IsDenied IsRoomEvent before after d
+denied_flush end old new before after d q = denied_by IsRoomEvent (event.End Flush end) old new before after d tt q
+
+pub denied_age : (old new : HeldSeen) (before after : SeatSeen) (d : Denied)
+    → under.IsDenied event.Age old new before after d → IsDenied IsRoomEvent before after d
+denied_age old new before after d q = denied_by IsRoomEvent event.Age old new before after d tt q
+
+pub denied_evict : (old new : HeldSeen) (a b c : SeatSeen) (d : Denied) → Goes a b
+    → under.IsDenied event.Evict old new b c d → IsDenied IsRoomEvent a c d
+denied_evict old new a b c d p q =
+    denied_on IsRoomEvent IsRoomEvent a b c d (λ e x. x) p (denied_by IsRoomEvent event.Evict old new b c d tt q)
+
+pub denied_first : (old new : HeldSeen) (before after : SeatSeen) (d : Denied) → IsFirstDenied old new before after d
+    → IsDenied IsRoomEvent before after d
+denied_first old new before after d q =
+    denied_by IsRoomEvent (event.FlushBegin q.file) old new before after d tt q.denied
+
+-- ---- one part of a call after another
+
+pub room_on : (a b c : SeatSeen) (d : Denied) → Goes a b → IsDenied IsRoomEvent b c d → IsDenied IsRoomEvent a c d
+room_on a b c d p q = denied_on IsRoomEvent IsRoomEvent a b c d (λ e x. x) p q
+
+room_helps : (h : HandleId) (e : Event) → IsRoomEvent e → IsHelp h e
+room_helps h (event.End kind end) x = x
+room_helps h (event.FlushBegin f) x = x
+room_helps h event.Evict x = x
+room_helps h event.Age x = x
+room_helps h e x = absurd x
+
+pub help_room : (h : HandleId) (a b : SeatSeen) (d : Denied) → IsDenied IsRoomEvent a b d → IsDenied (IsHelp h) a b d
+help_room h a b d q = denied_on IsRoomEvent (IsHelp h) a a b d (room_helps h) (goes_same a a refl) q
+
+pub help_on : (h : HandleId) (a b c : SeatSeen) (d : Denied) → Goes a b → IsDenied (IsHelp h) b c d → IsDenied (IsHelp h) a c d
+help_on h a b c d p q = denied_on (IsHelp h) (IsHelp h) a b c d (λ e x. x) p q
+
+-- the call's own event was refused
+pub call_first : (h : HandleId) (own : Event) (old new : HeldSeen) (before after : SeatSeen) (d : Denied)
+    → under.IsDenied own old new before after d → IsDenied (IsCallOf h own) before after d
+call_first h own old new before after d q = denied_by (IsCallOf h own) own old new before after d (inl refl) q
+
+pub call_help : (h : HandleId) (own : Event) (a b c : SeatSeen) (d : Denied) → Goes a b → IsDenied (IsHelp h) b c d
+    → IsDenied (IsCallOf h own) a c d
+call_help h own a b c d p q = denied_on (IsHelp h) (IsCallOf h own) a b c d (λ e x. inr x) p q
+
+pub call_on : (h : HandleId) (own : Event) (a b c : SeatSeen) (d : Denied) → Goes a b → IsDenied (IsCallOf h own) b c d
+    → IsDenied (IsCallOf h own) a c d
+call_on h own a b c d p q = denied_on (IsCallOf h own) (IsCallOf h own) a b c d (λ e x. x) p q
+
+-- an event that was refused, and what came of it
+pub call_settled : (h : HandleId) (own : Event) (old new : HeldSeen) (a b c : SeatSeen) (first d : Denied)
+    → under.IsDenied own old new a b first → Goes b c → IsStillDenied first b c d → IsDenied (IsCallOf h own) a c d
+call_settled h own old new a b c first d q goes (inl same) =
+    subst (IsDenied (IsCallOf h own) a c) (sym same)
+    (denied_then (IsCallOf h own) a b c first (call_first h own old new a b first q) goes)
+call_settled h own old new a b c first d q goes (inr room) =
+    denied_on IsRoomEvent (IsCallOf h own) a b c d (λ e x. inr (room_helps h e x)) (under_goes own old new a b first q) room
+
+-- ---- an attempt that is to be made again
+
+pub retries_by : (e : Event) (r : Reply) (old new : HeldSeen) (a b c : SeatSeen) (slip : Slip) → IsForLater r
+    → Made e r old new a b slip → Goes b c → Retries a c e
+retries_by e r old new a b c slip later m goes =
+    (slip, r, later, makes_then a b c slip e r (makes_by e r old new a b slip m) goes)
+
+pub retries_denied : (e : Event) (old new : HeldSeen) (a b c : SeatSeen) (d : Denied) → is_for_now d.refusal ≡ true
+    → under.IsDenied e old new a b d → Goes b c → Retries a c e
+retries_denied e old new a b c d later q goes = go d.refusal d.slip later q
+  where
+    never : is_for_now TrailFull ≡ true → Retries a c e
+    never x = absurd cc
+
+    go : (r : Refusal) (o : Option Slip) → is_for_now r ≡ true → under.DeniedBy e old new a b r o → Retries a c e
+    go r None later q = never (subst (λ (x : Refusal). is_for_now x ≡ true) q.0 later)
+    go r (Some slip) later q = retries_by e (reply.Refused r) old new a b c slip later q goes
+
+-- what is answered was answered by the event, refusals too
+pub event_denied : {A : Type 0} (result : Result A Denied) (e : Event) (old new : HeldSeen) (before after : SeatSeen)
+    → IfErr result (under.IsDenied e old new before after) → IfErr result (IsDenied (λ x. x ≡ e) before after)
+event_denied result e old new before after q =
+    IfErr-weaker result (under.IsDenied e old new before after) (IsDenied (λ x. x ≡ e) before after)
+    (λ d k. denied_event e old new before after d k) q
+
+-- an event that could not be made
+pub full_by : (e : Event) (old new : HeldSeen) (before after : SeatSeen) (d : Denied)
+    → under.IsDenied e old new before after d → IsFullIfNoSlip before after d
+full_by e old new before after d q none = go d.refusal d.slip q none
+  where
+    go : (r : Refusal) (o : Option Slip) → under.DeniedBy e old new before after r o → o ≡ None
+        → (r ≡ TrailFull) × (after ≡ before)
+    go r None q none = (q.0, q.2.1)
+    go r (Some slip) q none = absurd cc
+
+pub event_full : {A : Type 0} (result : Result A Denied) (e : Event) (old new : HeldSeen) (before after : SeatSeen)
+    → IfErr result (under.IsDenied e old new before after) → IfErr result (IsFullIfNoSlip before after)
+event_full result e old new before after q =
+    IfErr-weaker result (under.IsDenied e old new before after) (IsFullIfNoSlip before after)
+    (λ d k. full_by e old new before after d k) q
+
+-- an event that was made is one entry of the seat
+pub made_one : (e : Event) (r : Reply) (old new : HeldSeen) (before after : SeatSeen) (slip : Slip)
+    → Made e r old new before after slip → MadeOne (Some slip) before after
+made_one e r old new before after slip m = m.entered.count
+
+-- one that was refused is too, where there is a slip of it
+pub denied_one : (e : Event) (old new : HeldSeen) (before after : SeatSeen) (d : Denied)
+    → under.IsDenied e old new before after d → MadeOne d.slip before after
+denied_one e old new before after d q = go d.refusal d.slip q
+  where
+    go : (r : Refusal) (o : Option Slip) → under.DeniedBy e old new before after r o → MadeOne o before after
+    go r None q = q.2.1
+    go r (Some slip) q = q.entered.count

@@ -1,0 +1,11 @@
+use Rattle.machine.specs.declared.event.Event.TheVariants as event
+use Rattle.shared.proofs.Making.{event_denied, event_full}
+use Rattle.shared.proofs.cache.SharedCache.create.Goals as goal
+
+pub returns-clause-denied : goal.returns-clause-denied
+returns-clause-denied g c own = event_denied c.create.result event.Create c.deref_mut.result.now c.create.new.self
+    c.args.seat.now c.create.new.seat c.create.ensures.denied
+
+pub returns-clause-full : goal.returns-clause-full
+returns-clause-full g c own = event_full c.create.result event.Create c.deref_mut.result.now c.create.new.self
+    c.args.seat.now c.create.new.seat c.create.ensures.denied

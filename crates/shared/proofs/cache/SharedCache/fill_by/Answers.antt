@@ -1,0 +1,24 @@
+use Rattle.std.proofs.Common.{subst, sym}
+use Rattle.std.specs.Prelude.{Ok}
+use Rattle.cachecore.specs.Replies.{end_of, fill_ended}
+use Rattle.cachecore.specs.declared.answers.Ended.{Ended}
+use Rattle.machine.specs.declared.event.Event.TheVariants as event
+use Rattle.pc_types.specs.declared.kind.Kind.TheVariants.{Fill}
+use Rattle.held.specs.Entered.{Made}
+use Rattle.shared.specs.Denials.{IsDenied}
+use Rattle.shared.specs.Own.{IsHelp}
+use Rattle.shared.proofs.Making.{denied_end, failed_end}
+use Rattle.shared.proofs.cache.SharedCache.fill_by.Goals as goal
+
+pub returns-in-Err-clause-denied : goal.returns-in-Err-clause-denied
+returns-in-Err-clause-denied g c = denied_end c.args.handle (end_of c.carry_out-finished.result) c.deref_mut-2.result.now
+    c.fill_end-ended.new.self c.args.seat.now c.fill_end-ended.new.seat c.in-Err.denied c.in-Err.ensures.denied
+
+pub returns-in-Failed-clause-denied : goal.returns-in-Failed-clause-denied
+returns-in-Failed-clause-denied g c =
+    subst (IsDenied (IsHelp c.args.handle) c.args.seat.now c.fill_end-ended.new.seat) (sym c.by.ensures)
+    (failed_end c.args.handle (end_of c.carry_out-finished.result) c.in-Failed.code c.in-Failed.field-1
+    c.deref_mut-2.result.now c.fill_end-ended.new.self c.args.seat.now c.fill_end-ended.new.seat c.in-Ok.ended.1
+    (subst (λ (x : Ended). Made (event.End Fill (end_of c.carry_out-finished.result)) (fill_ended (Ok x))
+    c.deref_mut-2.result.now c.fill_end-ended.new.self c.args.seat.now c.fill_end-ended.new.seat c.in-Ok.ended.1)
+    c.in-Failed.is c.in-Ok.ensures.made))

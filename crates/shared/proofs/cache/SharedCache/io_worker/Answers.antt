@@ -1,0 +1,32 @@
+use Rattle.std.proofs.Common.{◌∙◌}
+use Rattle.locked.proofs.Seats.{goes_on}
+use Rattle.shared.proofs.Ending.{turn_ended}
+use Rattle.shared.proofs.cache.SharedCache.io_worker.Goals as goal
+
+pub returns-then-is_stopped-clause-ended : goal.returns-then-is_stopped-clause-ended
+returns-then-is_stopped-clause-ended g c =
+    turn_ended c.args.worker.now c.turns.worker c.io_turn.new.worker c.in_ok-io_turn.field-0 c.args.self.now.name
+    g.B.Naming.board c.turns.invariant.ended c.turns.invariant.goes c.io_turn.ensures.goes
+    c.in_ok-io_turn.ensures.idle c.in_ok-io_turn.ensures.ended
+
+pub turns-preserved-then-is_idle : goal.turns-preserved-then-is_idle
+turns-preserved-then-is_idle g c = record {
+  worker = c.io_turn.ensures.worker;
+  goes = goes_on c.args.worker.now.seat c.turns.worker.seat c.io_turn.new.worker.seat c.turns.invariant.goes
+      c.io_turn.ensures.goes;
+  pushed = c.io_turn.ensures.pushed ∙ c.turns.invariant.pushed;
+  ended = turn_ended c.args.worker.now c.turns.worker c.io_turn.new.worker c.in_ok-io_turn.field-0 c.args.self.now.name
+      g.B.Naming.board c.turns.invariant.ended c.turns.invariant.goes c.io_turn.ensures.goes
+      c.in_ok-io_turn.ensures.idle c.in_ok-io_turn.ensures.ended;
+}
+
+pub turns-preserved : goal.turns-preserved
+turns-preserved g c = record {
+  worker = c.io_turn.ensures.worker;
+  goes = goes_on c.args.worker.now.seat c.turns.worker.seat c.io_turn.new.worker.seat c.turns.invariant.goes
+      c.io_turn.ensures.goes;
+  pushed = c.io_turn.ensures.pushed ∙ c.turns.invariant.pushed;
+  ended = turn_ended c.args.worker.now c.turns.worker c.io_turn.new.worker c.in_ok-io_turn.field-0 c.args.self.now.name
+      g.B.Naming.board c.turns.invariant.ended c.turns.invariant.goes c.io_turn.ensures.goes
+      c.in_ok-io_turn.ensures.idle c.in_ok-io_turn.ensures.ended;
+}

@@ -1,0 +1,20 @@
+use Rattle.std.proofs.Common.{◌≡◌, ap, subst}
+use Rattle.std.specs.Prelude.{IfErr}
+use Rattle.machine.specs.declared.event.Event.TheVariants as event
+use Rattle.pc_types.specs.declared.ids.HandleId.{HandleId}
+use Rattle.shared.specs.Denials.{IsDenied}
+use Rattle.shared.specs.Seen.{HandleSeen}
+use Rattle.shared.proofs.Making.{event_denied, event_full}
+use Rattle.shared.proofs.cache.SharedCache.size.Goals as goal
+
+pub returns-clause-denied : goal.returns-clause-denied
+returns-clause-denied g c own here =
+    subst (λ (n : HandleId). IfErr c.size.result (IsDenied (λ e. e ≡ event.Size n) c.args.seat.now c.size.new.seat))
+    (ap (λ (h : HandleSeen). h.number) c.handle.view_is)
+    (event_denied c.size.result (event.Size c.handle.inside.number) c.deref_mut.result.now c.size.new.self
+    c.args.seat.now c.size.new.seat c.size.ensures.denied)
+
+pub returns-clause-full : goal.returns-clause-full
+returns-clause-full g c own here =
+    event_full c.size.result (event.Size c.handle.inside.number) c.deref_mut.result.now c.size.new.self
+    c.args.seat.now c.size.new.seat c.size.ensures.denied

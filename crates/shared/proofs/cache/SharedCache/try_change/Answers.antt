@@ -1,0 +1,65 @@
+use Rattle.std.proofs.Common.{refl, subst}
+use Rattle.cachecore.specs.declared.answers.WriteAnswer.{WriteAnswer}
+use Rattle.pc_types.specs.declared.ids.HandleId.{HandleId}
+use Rattle.held.specs.Entered.{Made}
+use Rattle.machine.specs.declared.event.Reply.TheVariants as reply
+use Rattle.locked.proofs.Seats.{goes_by, goes_on, goes_same}
+use Rattle.shared.specs.Called.{Makes}
+use Rattle.shared.specs.Changes.{IsWholeIn, event_of, reply_of}
+use Rattle.shared.specs.Denials.{IsDenied}
+use Rattle.shared.specs.Own.{IsHelp}
+use Rattle.shared.proofs.Making.{call_help, call_settled, goes_denied, makes_by, retries_by}
+use Rattle.shared.proofs.cache.SharedCache.try_change.Goals as goal
+
+pub returns-in-Err-settle-clause-denied : goal.returns-in-Err-settle-clause-denied
+returns-in-Err-settle-clause-denied g c =
+    call_settled c.args.handle (event_of c.args.change c.args.handle c.args.bytes.now) c.deref_mut.result.now
+    c.change_by.new.state c.args.seat.now c.change_by.new.seat c.settle.new.seat c.in-Err.denied
+    c.in-Err-settle.denied c.in-Err.ensures.denied c.settle.ensures.goes c.in-Err-settle.ensures.denied
+
+pub returns-in-Wrote-clause-answer : goal.returns-in-Wrote-clause-answer
+returns-in-Wrote-clause-answer g c =
+    subst (λ (x : WriteAnswer). Makes c.args.seat.now c.change_by.new.seat c.in-Ok.made.1
+    (event_of c.args.change c.args.handle c.args.bytes.now) (reply_of c.args.change x)) c.in-Wrote.is
+    (makes_by _ _ _ _ _ _ _ c.in-Ok.ensures.made)
+
+pub returns-in-Wrote-clause-whole : goal.returns-in-Wrote-clause-whole
+returns-in-Wrote-clause-whole g c =
+    subst (λ (x : WriteAnswer). IsWholeIn c.args.change c.args.bytes.now x) c.in-Wrote.is c.in-Ok.ensures.whole
+
+pub returns-in-Err-fill-clause-denied : goal.returns-in-Err-fill-clause-denied
+returns-in-Err-fill-clause-denied g c =
+    call_help c.args.handle (event_of c.args.change c.args.handle c.args.bytes.now) c.args.seat.now
+    c.change_by.new.seat c.fill.new.seat c.in-Err-fill.denied (goes_by _ _ _ _ _ _ _ c.in-Ok.ensures.made)
+    (subst (λ (h : HandleId). IsDenied (IsHelp h) c.change_by.new.seat c.fill.new.seat c.in-Err-fill.denied)
+    c.span_of-span.ensures c.in-Err-fill.ensures.denied)
+
+pub returns-in-Ok-settle-clause-goes : goal.returns-in-Ok-settle-clause-goes
+returns-in-Ok-settle-clause-goes g c =
+    goes_on c.args.seat.now c.change_by.new.seat c.settle.new.seat (goes_denied (event_of c.args.change c.args.handle c.args.bytes.now) c.deref_mut.result.now
+    c.change_by.new.state c.args.seat.now c.change_by.new.seat c.in-Err.denied c.in-Err.ensures.denied)
+    c.settle.ensures.goes
+
+pub returns-in-Err-settle-clause-goes : goal.returns-in-Err-settle-clause-goes
+returns-in-Err-settle-clause-goes g c =
+    goes_on c.args.seat.now c.change_by.new.seat c.settle.new.seat (goes_denied (event_of c.args.change c.args.handle c.args.bytes.now) c.deref_mut.result.now
+    c.change_by.new.state c.args.seat.now c.change_by.new.seat c.in-Err.denied c.in-Err.ensures.denied)
+    c.settle.ensures.goes
+
+pub returns-in-Wait-clause-again : goal.returns-in-Wait-clause-again
+returns-in-Wait-clause-again g c =
+    retries_by (event_of c.args.change c.args.handle c.args.bytes.now) (reply.Wait c.in-Wait.field-0)
+    c.deref_mut.result.now c.change_by.new.state c.args.seat.now c.change_by.new.seat c.change_by.new.seat
+    c.in-Ok.made.1 tt
+    (subst (λ (x : WriteAnswer). Made (event_of c.args.change c.args.handle c.args.bytes.now) (reply_of c.args.change x)
+    c.deref_mut.result.now c.change_by.new.state c.args.seat.now c.change_by.new.seat c.in-Ok.made.1) c.in-Wait.is
+    c.in-Ok.ensures.made) (goes_same c.change_by.new.seat c.change_by.new.seat refl)
+
+pub returns-in-Ok-fill-clause-again : goal.returns-in-Ok-fill-clause-again
+returns-in-Ok-fill-clause-again g c =
+    retries_by (event_of c.args.change c.args.handle c.args.bytes.now) (reply.Miss c.in-Miss.page)
+    c.deref_mut.result.now c.change_by.new.state c.args.seat.now c.change_by.new.seat c.fill.new.seat
+    c.in-Ok.made.1 tt
+    (subst (λ (x : WriteAnswer). Made (event_of c.args.change c.args.handle c.args.bytes.now) (reply_of c.args.change x)
+    c.deref_mut.result.now c.change_by.new.state c.args.seat.now c.change_by.new.seat c.in-Ok.made.1) c.in-Miss.is
+    c.in-Ok.ensures.made) c.fill.ensures.goes

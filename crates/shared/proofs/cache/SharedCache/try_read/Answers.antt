@@ -1,0 +1,60 @@
+use Rattle.std.proofs.Common.{◌≤◌, ◌∙◌, arith, length, refl, subst, sym}
+use Rattle.std.specs.Prelude.{Ok}
+use Rattle.cachecore.specs.Replies.{bytes_read, was_read}
+use Rattle.cachecore.specs.declared.answers.ReadAnswer.{ReadAnswer}
+use Rattle.machine.specs.declared.event.Event.TheVariants as event
+use Rattle.held.specs.Entered.{Made}
+use Rattle.held.specs.Shown.{HeldSeen}
+use Rattle.trail.specs.History.{After}
+use Rattle.machine.specs.declared.event.Reply.TheVariants as reply
+use Rattle.locked.proofs.Seats.{goes_by, goes_same}
+use Rattle.shared.specs.Called.{Makes}
+use Rattle.shared.proofs.Making.{call_first, call_help, makes_by, retries_by}
+use Rattle.shared.proofs.Sizes.{read_counted}
+use Rattle.shared.proofs.cache.SharedCache.try_read.Goals as goal
+
+pub returns-in-Bytes-clause-answer : goal.returns-in-Bytes-clause-answer
+returns-in-Bytes-clause-answer g c =
+    subst (λ (x : ReadAnswer). Makes c.args.seat.now c.read.new.seat c.in-Ok.made.1
+    (event.Read c.args.handle c.args.offset (length c.args.out.now)) (was_read (Ok x) c.read.new.out)) c.in-Bytes.is
+    (makes_by _ _ _ _ _ _ _ c.in-Ok.ensures.made)
+
+pub returns-in-Err-fill-clause-denied : goal.returns-in-Err-fill-clause-denied
+returns-in-Err-fill-clause-denied g c =
+    call_help c.args.handle (event.Read c.args.handle c.args.offset (length c.args.out.now)) c.args.seat.now
+    c.read.new.seat c.fill.new.seat c.in-Err-fill.denied (goes_by _ _ _ _ _ _ _ c.in-Ok.ensures.made)
+    c.in-Err-fill.ensures.denied
+
+pub returns-in-Err-clause-denied : goal.returns-in-Err-clause-denied
+returns-in-Err-clause-denied g c =
+    call_first c.args.handle (event.Read c.args.handle c.args.offset (length c.args.out.now)) c.deref_mut.result.now
+    c.read.new.self c.args.seat.now c.read.new.seat c.in-Err.denied c.in-Err.ensures.denied
+
+pub returns-in-Wait-clause-again : goal.returns-in-Wait-clause-again
+returns-in-Wait-clause-again g c =
+    retries_by (event.Read c.args.handle c.args.offset (length c.args.out.now)) (reply.Wait c.in-Wait.field-0)
+    c.deref_mut.result.now c.read.new.self c.args.seat.now c.read.new.seat c.read.new.seat c.in-Ok.made.1 tt
+    (subst (λ (x : ReadAnswer). Made (event.Read c.args.handle c.args.offset (length c.args.out.now))
+    (was_read (Ok x) c.read.new.out) c.deref_mut.result.now c.read.new.self c.args.seat.now c.read.new.seat
+    c.in-Ok.made.1) c.in-Wait.is c.in-Ok.ensures.made) (goes_same c.read.new.seat c.read.new.seat refl)
+
+pub returns-in-Ok-fill-clause-again : goal.returns-in-Ok-fill-clause-again
+returns-in-Ok-fill-clause-again g c =
+    retries_by (event.Read c.args.handle c.args.offset (length c.args.out.now)) (reply.Miss c.in-Miss.page)
+    c.deref_mut.result.now c.read.new.self c.args.seat.now c.read.new.seat c.fill.new.seat c.in-Ok.made.1 tt
+    (subst (λ (x : ReadAnswer). Made (event.Read c.args.handle c.args.offset (length c.args.out.now))
+    (was_read (Ok x) c.read.new.out) c.deref_mut.result.now c.read.new.self c.args.seat.now c.read.new.seat
+    c.in-Ok.made.1) c.in-Miss.is c.in-Ok.ensures.made) c.fill.ensures.goes
+
+pub returns-in-Bytes-clause-within : goal.returns-in-Bytes-clause-within
+returns-in-Bytes-clause-within g c small =
+    let counted : c.in-Bytes.count ≤ length c.args.out.now =
+    subst (λ (x : ReadAnswer). bytes_read (Ok x) ≤ length c.args.out.now) c.in-Bytes.is c.in-Ok.ensures.count in
+    let as_long = c.read.auto.out in
+    read_counted c.args.handle c.args.offset (length c.args.out.now) c.in-Bytes.count c.read.new.out
+    c.deref_mut.result.now c.read.new.self c.args.seat.now c.read.new.seat c.in-Ok.made.1 (omega arith)
+    (subst (λ (s : HeldSeen). After s.core.state.sizes s.core.state.name s.log.history s.core.state)
+    (c.deref.ensures ∙ sym c.deref_mut.ensures.value) c.core.ensures.legal)
+    (subst (λ (x : ReadAnswer). Made (event.Read c.args.handle c.args.offset (length c.args.out.now))
+    (was_read (Ok x) c.read.new.out) c.deref_mut.result.now c.read.new.self c.args.seat.now c.read.new.seat
+    c.in-Ok.made.1) c.in-Bytes.is c.in-Ok.ensures.made) small

@@ -1,0 +1,58 @@
+use Rattle.std.proofs.Common.{◌≡◌, ◌∙◌, subst, sym}
+use Rattle.std.specs.Prelude.{false, is_some, Ok}
+use Rattle.cachecore.specs.Replies.{end_of, fill_ended, flush_ended}
+use Rattle.machine.specs.declared.event.Event.TheVariants as event
+use Rattle.machine.specs.declared.event.Reply.{Reply}
+use Rattle.pc_types.specs.declared.kind.Kind.{Kind}
+use Rattle.pc_types.specs.declared.kind.Kind.TheVariants.{Fill, Flush}
+use Rattle.locked.proofs.Seats.{goes_by}
+use Rattle.shared.specs.Called.{Makes}
+use Rattle.shared.specs.Denials.{IsDenied}
+use Rattle.shared.specs.Workers.{fails_write}
+use Rattle.shared.proofs.Ending.{fill_told, flush_told}
+use Rattle.shared.proofs.Making.{denied_event, goes_denied, makes_by}
+use Rattle.shared.proofs.ends.end.Goals as goal
+
+pub returns-in-Ok-clause-goes : goal.returns-in-Ok-clause-goes
+returns-in-Ok-clause-goes g c = goes_by _ _ _ _ _ _ _ c.in-Ok.ensures.made
+
+pub returns-in-Ok-clause-made : goal.returns-in-Ok-clause-made
+returns-in-Ok-clause-made g c =
+    subst (λ (kind : Kind). (r : Reply) × Makes c.args.seat.now c.fill_end.new.seat c.in-Ok.slip
+    (event.End kind (end_of c.args.finished)) r × (false ≡ fails_write kind r)) (sym (sym c.kind.ensures ∙ c.in-Fill.is))
+    (fill_ended (Ok c.in-Ok.field-0-0), makes_by _ _ _ _ _ _ _ c.in-Ok.ensures.made, fill_told c.in-Ok.field-0-0)
+
+pub returns-in-Fill-clause-goes : goal.returns-in-Fill-clause-goes
+returns-in-Fill-clause-goes g c = goes_denied (event.End Fill (end_of c.args.finished)) c.args.state.now
+    c.fill_end.new.self c.args.seat.now c.fill_end.new.seat c.in-Err.denied c.in-Err.ensures.denied
+
+pub returns-in-Fill-clause-denied : goal.returns-in-Fill-clause-denied
+returns-in-Fill-clause-denied g c =
+    subst (λ (kind : Kind). IsDenied (λ e. e ≡ event.End kind (end_of c.args.finished)) c.args.seat.now
+    c.fill_end.new.seat c.in-Err.denied) (sym (sym c.kind.ensures ∙ c.in-Fill.is))
+    (denied_event (event.End Fill (end_of c.args.finished)) c.args.state.now c.fill_end.new.self c.args.seat.now
+    c.fill_end.new.seat c.in-Err.denied c.in-Err.ensures.denied)
+
+pub returns-in-Ok-flush_end-clause-goes : goal.returns-in-Ok-flush_end-clause-goes
+returns-in-Ok-flush_end-clause-goes g c = goes_by _ _ _ _ _ _ _ c.in-Ok-flush_end.ensures.made
+
+pub returns-in-Ok-flush_end-clause-made : goal.returns-in-Ok-flush_end-clause-made
+returns-in-Ok-flush_end-clause-made g c =
+    subst (λ (kind : Kind). (r : Reply) × Makes c.args.seat.now c.flush_end.new.seat c.in-Ok-flush_end.slip
+    (event.End kind (end_of c.args.finished)) r × (is_some c.in-Ok-flush_end.receipt ≡ fails_write kind r))
+    (sym (sym c.kind.ensures ∙ c.in-Flush.is)) (
+      flush_ended (Ok c.in-Ok-flush_end.field-0-0),
+      makes_by _ _ _ _ _ _ _ c.in-Ok-flush_end.ensures.made,
+      flush_told _ _ _ c.in-Ok-flush_end.field-0-0 c.in-Ok-flush_end.receipt c.in-Ok-flush_end.ensures.receipt,
+    )
+
+pub returns-clause-goes : goal.returns-clause-goes
+returns-clause-goes g c = goes_denied (event.End Flush (end_of c.args.finished)) c.args.state.now c.flush_end.new.self
+    c.args.seat.now c.flush_end.new.seat c.in-Err-flush_end.denied c.in-Err-flush_end.ensures.denied
+
+pub returns-clause-denied : goal.returns-clause-denied
+returns-clause-denied g c =
+    subst (λ (kind : Kind). IsDenied (λ e. e ≡ event.End kind (end_of c.args.finished)) c.args.seat.now
+    c.flush_end.new.seat c.in-Err-flush_end.denied) (sym (sym c.kind.ensures ∙ c.in-Flush.is))
+    (denied_event (event.End Flush (end_of c.args.finished)) c.args.state.now c.flush_end.new.self c.args.seat.now
+    c.flush_end.new.seat c.in-Err-flush_end.denied c.in-Err-flush_end.ensures.denied)

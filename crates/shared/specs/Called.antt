@@ -1,0 +1,38 @@
+-- What a call makes, as its caller's seat has seen it.
+use Rattle.std.specs.Prelude.{◌≡◌, Bool, true, false, ◌++◌, ◌∷◌, [], List, length}
+use mathlib.Core.List.{IsPrefix}
+use Rattle.machine.specs.declared.event.Event.{Event}
+use Rattle.machine.specs.declared.event.Reply.{Reply}
+use Rattle.machine.specs.declared.event.Reply.TheVariants as reply
+use Rattle.pc_types.specs.declared.refusal.Refusal.{Refusal}
+use Rattle.pc_types.specs.declared.refusal.Refusal.TheVariants.{DirtyLimit, NoFrame, TooManyInFlight}
+use Rattle.trail.specs.declared.entry.Entry.{Entry}
+use Rattle.trail.specs.Entries.{entry_of}
+use Rattle.held.specs.declared.log.Slip.{Slip}
+use Rattle.held.specs.Shown.{SeatSeen}
+
+-- the seat has seen the slip's entry. It is the seat's own, of this event and this reply, and stands past all that the
+-- seat had seen before the call
+pub record Makes (before after : SeatSeen) (slip : Slip) (e : Event) (r : Reply) : Type 0 where
+  pub earlier : List Entry
+  pub saw : IsPrefix before.list earlier
+  pub entered : IsPrefix (earlier ++ entry_of before.number e r ∷ []) after.list
+  pub placed : (slip.name ≡ before.name) × (slip.place ≡ length earlier)
+
+-- a refusal that may pass when a request ends
+abbrev pub is_for_now : Refusal → Bool
+is_for_now NoFrame = true
+is_for_now DirtyLimit = true
+is_for_now TooManyInFlight = true
+is_for_now _ = false
+
+-- a reply after which the call tries again: a page is to be filled, or a request to end
+abbrev pub IsForLater : Reply → Type 0
+IsForLater (reply.Miss p) = Unit {0}
+IsForLater (reply.Wait p) = Unit {0}
+IsForLater (reply.Refused why) = is_for_now why ≡ true
+IsForLater r = ⊥
+
+-- the event was made by the seat, and has to be tried again
+abbrev pub Retries : SeatSeen → SeatSeen → Event → Type 0
+Retries before after e = (slip : Slip) × (r : Reply) × IsForLater r × Makes before after slip e r

@@ -1,0 +1,10 @@
+pub mod Keeps
+pub mod Called
+pub mod Denials
+pub mod Own
+pub mod Seen
+pub mod Polls
+pub mod Changes
+pub mod Seeks
+pub mod Workers
+pub mod Synced

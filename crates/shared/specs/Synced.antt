@@ -1,0 +1,106 @@
+-- Syncs of a call, and how it answers them.
+use Rattle.std.specs.Prelude.{◌≡◌, ◌⊎◌, ℕ, Option, Some, None}
+use Rattle.errboard.specs.Shown.{PassSeen}
+use Rattle.held.specs.Shown.{SeatSeen}
+use Rattle.held.specs.declared.log.Slip.{Slip}
+use Rattle.locked.specs.Called.{Goes}
+use Rattle.locked.specs.declared.denied.Denied.{Denied}
+use Rattle.machine.specs.declared.event.Event.{Event}
+use Rattle.machine.specs.declared.event.Event.TheVariants as event
+use Rattle.machine.specs.declared.event.Reply.{Reply}
+use Rattle.machine.specs.declared.event.Reply.TheVariants as reply
+use Rattle.pc_types.specs.declared.ids.HandleId.{HandleId}
+use Rattle.pc_types.specs.declared.ids.PageIndex.{PageIndex}
+use Rattle.pc_types.specs.declared.ids.SyncId.{SyncId}
+use Rattle.pc_types.specs.declared.kind.Kind.TheVariants.{Flush}
+use Rattle.pc_types.specs.declared.refusal.Refusal.TheVariants.{Io, Stranger}
+use Rattle.shared.specs.Called.{Makes}
+use Rattle.shared.specs.Denials.{IsDenied, IsFullIfNoSlip, MadeOne}
+use Rattle.shared.specs.Polls.{Polled}
+
+-- the last step of a sync, by the code of a failed write or without one
+abbrev pub end_reply : Option ℕ → Reply
+end_reply None = reply.Clean
+end_reply (Some code) = reply.Failed code
+
+-- this call began the sync of the handle's pages from first to last, and the seat stands so thereafter
+pub record Began (h : HandleId) (first last : PageIndex) (sync : SyncId) (before at : SeatSeen) : Type 0 where
+  pub slip : Slip
+  pub made : Makes before at slip (event.SyncBegin h first last) (reply.Sync sync)
+  pub goes : Goes before at
+
+-- the slip's entry ends a sync that this call began
+pub record Syncs (h : HandleId) (first last : PageIndex) (failed : Option ℕ) (before after : SeatSeen) (slip : Slip)
+    : Type 0 where
+  pub sync : SyncId
+  pub at : SeatSeen
+  pub began : Began h first last sync before at
+  pub ended : Makes at after slip (event.SyncStep sync) (end_reply failed)
+
+-- the end of a write
+abbrev pub IsFlushEnd : Event → Type 0
+IsFlushEnd (event.End Flush end) = Unit {0}
+IsFlushEnd e = ⊥
+
+-- a turn of a sync: its step, or the end of a write that a step began
+abbrev pub IsTurnOf : SyncId → Event → Type 0
+IsTurnOf sync (event.SyncStep m) = m ≡ sync
+IsTurnOf sync e = IsFlushEnd e
+
+-- the sync was dropped, or was in progress no longer
+abbrev pub IsDropReply : Reply → Type 0
+IsDropReply reply.Dropped = Unit {0}
+IsDropReply (reply.Refused why) = why ≡ Stranger
+IsDropReply r = ⊥
+
+-- the seat has an entry that drops the sync
+abbrev pub IsDropped : SyncId → SeatSeen → SeatSeen → Type 0
+IsDropped sync before after =
+    (slip : Slip) × (r : Reply) × IsDropReply r × Makes before after slip (event.SyncDrop sync) r
+
+-- a turn of a sync that this call began was refused, and the sync dropped
+pub record GaveUp (h : HandleId) (first last : PageIndex) (before after : SeatSeen) (d : Denied) : Type 0 where
+  pub sync : SyncId
+  pub at : SeatSeen
+  pub over : SeatSeen
+  pub began : Began h first last sync before at
+  pub goes : Goes at over
+  pub denied : IsDenied (IsTurnOf sync) at over d
+  pub dropped : IsDropped sync over after
+
+-- no sync was begun, by a refusal of its begin
+abbrev pub IsNotBegun : HandleId → PageIndex → PageIndex → SeatSeen → SeatSeen → Denied → Type 0
+IsNotBegun h first last before after d =
+    IsDenied (λ e. e ≡ event.SyncBegin h first last) before after d × MadeOne d.slip before after
+    × IsFullIfNoSlip before after d
+
+-- no sync was begun, or the one that was is given up. Or another ended it, and a full trail has no room to say so
+abbrev pub IsSyncDenied : HandleId → PageIndex → PageIndex → SeatSeen → SeatSeen → Denied → Type 0
+IsSyncDenied h first last before after d =
+    IsNotBegun h first last before after d
+    ⊎ (GaveUp h first last before after d ⊎ (d ≡ record { refusal = Stranger; slip = None }))
+
+-- the refusal has the code that the poll answered, or else that of the step which ended the sync
+pub record Reports (failed : Option ℕ) (slip : Slip) (old new : PassSeen) (d : Denied) : Type 0 where
+  pub answer : Option ℕ
+  pub code : ℕ
+  pub polled : Polled old new answer
+  pub tells : (answer ≡ Some code) ⊎ ((answer ≡ None) × (failed ≡ Some code))
+  pub is : d ≡ record { refusal = Io code; slip = Some slip }
+
+-- a write of the file failed: while this call's sync was in progress, or since the handle was last told
+abbrev pub WriteFailed : HandleId → PageIndex → PageIndex → SeatSeen → SeatSeen → PassSeen → PassSeen → Denied → Type 0
+WriteFailed h first last before after old new d =
+    (failed : Option ℕ) × (slip : Slip) × Syncs h first last failed before after slip × Reports failed slip old new d
+
+-- this call's sync ended clean, and the device could not make its writes durable
+abbrev pub FlushFailed : HandleId → PageIndex → PageIndex → SeatSeen → SeatSeen → Denied → Type 0
+FlushFailed h first last before after d =
+    (code : ℕ) × (slip : Slip) × Syncs h first last None before after slip
+    × (d ≡ record { refusal = Io code; slip = None })
+
+-- how an fsync is refused. The pass is told of what a failed write was, and of nothing else
+abbrev pub IsFsyncDenied : HandleId → PageIndex → PageIndex → SeatSeen → SeatSeen → PassSeen → PassSeen → Denied → Type 0
+IsFsyncDenied h first last before after old new d =
+    WriteFailed h first last before after old new d
+    ⊎ ((new ≡ old) × (FlushFailed h first last before after d ⊎ IsSyncDenied h first last before after d))

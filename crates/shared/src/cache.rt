@@ -1,0 +1,107 @@
+//! A cache that threads share.
+
+ghost use Rattle.std.specs.FinMap as map;
+ghost use Rattle.std.specs.Prelude.{◌≡◌, IfOk, IsOkUnless};
+ghost use Rattle.pc_types.specs.declared.refusal.Refusal.TheVariants.{Memory};
+ghost use Rattle.locked.specs.Keeps.{IsLocked};
+ghost use Rattle.shared.specs.Keeps.{IsDisk};
+ghost use Rattle.shared.specs.Workers.{IsWorkerOf};
+
+use crate::disk::Disk;
+use crate::signal::Signal;
+use crate::worker::Worker;
+use blockdev::BlockDevice;
+use errboard::Board;
+use held::log::Seat;
+use held::state::Held;
+use locked::naming::Naming;
+use locked::state::Locked;
+use pc_types::{Geometry, Refusal};
+use ring::Ring;
+use std::alloc::Global;
+use std::sync::{Condvar, Mutex, Wait};
+use trail::Trail;
+
+/// What a cache is made of: its state and its board, its own seat at the state, the ring of jobs with the seat's pass of it, and the
+/// device.
+#[derive(Drop)]
+pub struct Parts<D: BlockDevice, T: Trail> {
+    pub name: u64,
+    pub geometry: Geometry,
+    pub held: Held<T>,
+    pub board: Board,
+    pub ring: Ring,
+    pub own: Worker,
+    pub device: D,
+}
+
+/// A cache that threads share.
+#[derive(Drop)]
+pub struct SharedCache<B: Naming, D: BlockDevice, T: Trail> {
+    pub(crate) name: u64,
+    pub(crate) geometry: Geometry,
+    pub(crate) board: Board,
+    pub(crate) state: Mutex<Locked<B, T>>,
+    // a request has ended
+    pub(crate) changed: Condvar,
+    pub(crate) disk: Mutex<Disk<B, D>>,
+    pub(crate) alloc: Global,
+    // jobs that a worker is to carry out
+    pub(crate) ring: Ring,
+    // there may be work
+    pub(crate) work: Signal,
+    ghost named: { name ≡ B.name },
+    ghost sized: { geometry ≡ B.sizes },
+    ghost boarded: { board ≡ B.board },
+}
+
+impl<B: Naming, D: BlockDevice, T: Trail> SharedCache<B, D, T> {
+    /// The cache of these parts, and its own worker, which makes the others and closes the cache. Threads share the cache, and one
+    /// keeps the worker. The cache's state was made before, so that a caller could pick B.
+    pub fn of(alloc: Global, parts: Parts<D, T>) -> (SharedCache<B, D, T>, Worker)
+        requires named { parts.name ≡ B.name }
+        requires sized { parts.geometry ≡ B.sizes }
+        requires board { parts.board ≡ B.board }
+        requires state { IsLocked B.name B.table B.board B.sizes B.seats parts.held }
+        requires idle { map.len parts.held.core.state.requests ≡ 0 }
+        requires own { IsWorkerOf parts.ring B.name B.table B.sizes parts.own }
+        requires device { IsDisk B.sizes (D.told parts.device) }
+        ensures named { result.0.name ≡ parts.name }
+        ensures own { IsWorkerOf result.0.ring B.name B.table B.sizes result.1 }
+    {
+        let Parts {
+            name,
+            geometry,
+            held,
+            board,
+            ring,
+            own,
+            device,
+        } = parts;
+        let locked = Locked::of(held);
+        let disk = Disk::of(device);
+        let cache = SharedCache {
+            name,
+            geometry,
+            board,
+            state: Mutex::new(locked),
+            changed: Condvar::new(),
+            disk: Mutex::new(disk),
+            alloc,
+            ring,
+            work: Signal::new(),
+        };
+        (cache, own)
+    }
+
+    /// A page may have become dirty, or a frame have been taken: workers who sleep look again.
+    pub(crate) fn made_work<R: Wait>(&self, rt: &R) {
+        self.work.give(rt);
+    }
+
+    /// A request has ended: those who wait for that go on, and workers who sleep look again.
+    pub(crate) fn has_ended<R: Wait>(&self, rt: &R) {
+        self.changed.notify_all();
+        self.work.give(rt);
+    }
+}

@@ -1,0 +1,70 @@
+//! The device of a shared cache, as it lies under its lock.
+
+ghost use Rattle.std.specs.Prelude.{◌≡◌, Ok, OnOk, false, length, true};
+ghost use Rattle.blockdev.specs.Jobs.{IsJobFor};
+ghost use Rattle.blockdev.specs.Watching.{Clears, Makes, first_watch};
+ghost use Rattle.shared.specs.Keeps.{IsDisk};
+
+use blockdev::{BlockDevice, Finished, Job, Watched};
+use locked::naming::Naming;
+use pc_types::ErrCode;
+use std::marker::{Model, PhantomData};
+
+/// The device of the cache that B names, with a note whether anything was written to it since it was last flushed well.
+#[derive(Drop)]
+pub struct Disk<B: Naming, D: BlockDevice> {
+    device: Watched<D>,
+    of: PhantomData<B>,
+}
+
+impl<B: Naming, D: BlockDevice> Model for Disk<B, D> {
+    ghost use Rattle.blockdev.specs.Watching.{Watch};
+    ghost use Rattle.shared.specs.Keeps.{IsDisk};
+
+    ghost Value = { Watch };
+
+    ghost view = { λ d. d.device };
+
+    ghost invariant = { λ d. IsDisk B.sizes d.device.device };
+}
+
+impl<B: Naming, D: BlockDevice> Disk<B, D> {
+    /// A device that may have been written to before.
+    pub(crate) fn of(device: D) -> Disk<B, D>
+        requires { IsDisk B.sizes (D.told device) }
+        ensures { result ≡ first_watch (D.told device) }
+    {
+        Disk {
+            device: Watched::over(device),
+            of: PhantomData,
+        }
+    }
+
+    /// The device, without its lock.
+    pub(crate) fn into_device(self) -> D
+        ensures told { D.told result ≡ self.device }
+        ensures fits { IsDisk B.sizes (D.told result) }
+    {
+        self.device.into_device()
+    }
+
+    /// Makes the device call of a job. A write is noted.
+    pub(crate) fn carry_out(&mut self, job: Job) -> Finished
+        requires { IsJobFor B.name B.sizes.blocks B.sizes.page job }
+        ensures made { Makes self.old job result self.new }
+        ensures same { (result.serial ≡ job.serial) × (result.kind ≡ job.kind) × (result.cache ≡ job.cache) }
+        ensures size { length result.bytes ≡ B.sizes.page }
+    {
+        self.device.perform(job)
+    }
+
+    /// Makes what was written durable. Where nothing was written since the last flush that ended well no call is made. A flush that
+    /// fails leaves the note, so that the next one is tried again.
+    pub(crate) fn flush(&mut self) -> Result<(), ErrCode>
+        ensures written { self.old.unflushed ≡ true → Clears self.old result self.new }
+        ensures unwritten { self.old.unflushed ≡ false → (result ≡ Ok tt) × (self.new ≡ self.old) }
+        ensures durable { OnOk result (self.new.device.durable ≡ self.new.device.contents) }
+    {
+        self.device.flush_written()
+    }
+}

@@ -1,0 +1,103 @@
+//! A job's device call, and the end of its request.
+
+ghost use Rattle.std.specs.Prelude.{◌≡◌, IfErr, IfOk, IfSome, is_some, length};
+ghost use Rattle.atomic_table.specs.Seated.{TableId};
+ghost use Rattle.blockdev.specs.Jobs.{IsJobFor};
+ghost use Rattle.cachecore.specs.Replies.{end_of};
+ghost use Rattle.machine.specs.declared.event.Event.TheVariants as event;
+ghost use Rattle.machine.specs.declared.event.Reply.{Reply};
+ghost use Rattle.locked.specs.Called.{Goes};
+ghost use Rattle.shared.specs.Called.{Makes};
+ghost use Rattle.shared.specs.Denials.{IsDenied, IsFullIfNoSlip};
+ghost use Rattle.shared.specs.Workers.{Ends, IsEndOf, IsOwnFailure, fails_write};
+
+use crate::disk::Disk;
+use crate::handle::FailedWrite;
+use blockdev::{BlockDevice, Finished, Job};
+use errboard::Receipt;
+use held::log::{Seat, Slip};
+use locked::denied::Denied;
+use locked::naming::Naming;
+use locked::state::Locked;
+use pc_types::{Kind, Serial};
+use std::sync::{Mutex, Wait};
+use trail::Trail;
+
+/// A request that was ended: its serial, the slip of its end, and the failed write, where it was one.
+#[derive(Drop)]
+pub struct Done {
+    pub serial: Serial,
+    pub slip: Slip,
+    pub failed: Option<FailedWrite>,
+}
+
+/// Makes a job's device call, without the state's lock, and ends its request.
+#[tactic(auto, using(crate::proofs::Ending::ends_by, crate::proofs::Ending::denied_job))]
+pub(crate) fn carry_through<B: Naming, D: BlockDevice, T: Trail, R: Wait>(
+    rt: &R,
+    disk: &Mutex<Disk<B, D>>,
+    state: &Mutex<Locked<B, T>>,
+    name: u64,
+    seat: &mut Seat,
+    job: Job,
+) -> Result<Done, Denied>
+    requires seat { seat.old.table ≡ B.table }
+    requires fits { IsJobFor B.name B.sizes.blocks B.sizes.page job }
+    ensures goes { Goes seat.old seat.new }
+    ensures ended { IfOk result (λ d. (d.serial.0 ≡ job.serial) × Ends job seat.old seat.new d.slip (is_some d.failed)) }
+    ensures failed { IfOk result (λ d. IfSome d.failed (IsOwnFailure name B.board)) }
+    ensures denied { IfErr result (IsDenied (IsEndOf job) seat.old seat.new) }
+    ensures full { IfErr result (IsFullIfNoSlip seat.old seat.new) }
+{
+    let serial = job.serial();
+    let finished = disk.lock(rt).carry_out(job);
+    match end(&mut state.lock(rt), seat, finished) {
+        Ok((slip, receipt)) => Ok(Done {
+            serial,
+            slip,
+            failed: failure(name, receipt),
+        }),
+        Err(denied) => Err(denied),
+    }
+}
+
+/// The failed write of a receipt, where there is one.
+fn failure(name: u64, receipt: Option<Receipt>) -> Option<FailedWrite>
+    ensures told { is_some result ≡ is_some receipt }
+    ensures own { (board : TableId) → IfSome receipt (λ r. r.board ≡ board) → IfSome result (IsOwnFailure name board) }
+{
+    match receipt {
+        Some(receipt) => Some(FailedWrite {
+            cache: name,
+            receipt,
+        }),
+        None => None,
+    }
+}
+
+/// Ends a request, by its kind.
+#[tactic(auto, using(locked::proofs::Seats::goes_by, crate::proofs::Making::goes_denied, crate::proofs::Making::makes_by, crate::proofs::Making::denied_event, crate::proofs::Making::full_by, crate::proofs::Ending::fill_told, crate::proofs::Ending::flush_told))]
+fn end<B: Naming, T: Trail>(
+    state: &mut Locked<B, T>,
+    seat: &mut Seat,
+    finished: Finished,
+) -> Result<(Slip, Option<Receipt>), Denied>
+    requires seat { seat.old.table ≡ B.table }
+    requires size { length finished.bytes ≡ B.sizes.page }
+    ensures goes { Goes seat.old seat.new }
+    ensures made { IfOk result (λ r. (reply : Reply) × Makes seat.old seat.new r.0 (event.End finished.kind (end_of finished)) reply × (is_some r.1 ≡ fails_write finished.kind reply)) }
+    ensures own { IfOk result (λ r. IfSome r.1 (λ receipt. receipt.board ≡ B.board)) }
+    ensures denied { IfErr result (IsDenied (λ e. e ≡ event.End finished.kind (end_of finished)) seat.old seat.new) }
+    ensures full { IfErr result (IsFullIfNoSlip seat.old seat.new) }
+{
+    match finished.kind() {
+        Kind::Fill => match state.fill_end(seat, finished) {
+            Ok((_, slip)) => Ok((slip, None)),
+            Err(denied) => Err(denied),
+        },
+        Kind::Flush => match state.flush_end(seat, finished) {
+            Ok((_, receipt, slip)) => Ok((slip, receipt)),
+            Err(denied) => Err(denied),
+        },
+    }
+}

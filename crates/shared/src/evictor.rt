@@ -1,0 +1,69 @@
+//! The evictor: frames are free before a caller needs them.
+
+ghost use Rattle.std.specs.Prelude.{◌≡◌, IfErr};
+ghost use Rattle.locked.specs.Called.{Goes};
+ghost use Rattle.shared.specs.Denials.{IsDenied};
+ghost use Rattle.shared.specs.Own.{IsRoomEvent};
+ghost use Rattle.shared.specs.Workers.{IsWorkerOf, popped_by, pushed_by, seat_of};
+
+use crate::cache::SharedCache;
+use crate::worker::Worker;
+use blockdev::{BlockDevice, Gate};
+use locked::denied::Denied;
+use locked::naming::Naming;
+use std::sync::Wait;
+use trail::Trail;
+
+/// The evictor lets pages go while fewer frames than these are free: as many as the pages that one call touches.
+pub const SPARE_FRAMES: u64 = 16;
+
+impl<B: Naming, D: BlockDevice, T: Trail> SharedCache<B, D, T> {
+    /// One turn of an evictor: while few frames are free, pages of the active list age and the first idle page goes. It ends where
+    /// enough are free, or no page is idle, and answers how many pages went. The gate is entered with 0 before each.
+    #[tactic(auto, using(locked::proofs::Seats::goes_same, locked::proofs::Seats::goes_on, crate::proofs::Making::room_on))]
+    pub fn evictor_turn<R: Wait, G: Gate>(
+        &self,
+        rt: &R,
+        gate: &G,
+        worker: &mut Worker,
+    ) -> Result<u64, Denied>
+        requires worker { IsWorkerOf self.now.ring B.name B.table B.sizes worker.old }
+        ensures worker { IsWorkerOf self.now.ring B.name B.table B.sizes worker.new }
+        ensures goes { Goes (seat_of worker.old) (seat_of worker.new) }
+        ensures ring { (popped_by worker.new ≡ popped_by worker.old) × (pushed_by worker.new ≡ pushed_by worker.old) }
+        ensures denied { IfErr result (IsDenied IsRoomEvent (seat_of worker.old) (seat_of worker.new)) }
+    {
+        let mut gone = 0u64;
+        'pages: for _ in rt.forever() {
+            if self.state.lock(rt).free_frames() >= SPARE_FRAMES {
+                break;
+            }
+            gate.enter(0);
+            match self.evict_one(rt, &mut worker.seat) {
+                Ok(true) => gone = gone.saturating_add(1),
+                Ok(false) => break,
+                Err(denied) => return Err(denied),
+            }
+        }
+        Ok(gone)
+    }
+
+    /// Lets pages go while few frames are free, and sleeps where enough are, until it is told to stop.
+    #[tactic(auto, using(locked::proofs::Seats::goes_same, locked::proofs::Seats::goes_on))]
+    pub fn evictor<R: Wait, G: Gate>(&self, rt: &R, gate: &G, worker: &mut Worker)
+        requires worker { IsWorkerOf self.now.ring B.name B.table B.sizes worker.old }
+        ensures worker { IsWorkerOf self.now.ring B.name B.table B.sizes worker.new }
+        ensures goes { Goes (seat_of worker.old) (seat_of worker.new) }
+        ensures ring { (popped_by worker.new ≡ popped_by worker.old) × (pushed_by worker.new ≡ pushed_by worker.old) }
+    {
+        'turns: for _ in rt.forever() {
+            let seen = self.work.count();
+            if self.work.is_stopped() {
+                return;
+            }
+            // A refusal may pass, as the end of a turn does: both wait for the next signal.
+            let _ = self.evictor_turn(rt, gate, worker);
+            self.work.wait(rt, seen);
+        }
+    }
+}

@@ -1,0 +1,27 @@
+#![tactic(auto)]
+//! Files for many threads: one cache, whose state lies under one lock and its device under another. No call holds both.
+//!
+//! `cache` has the cache, `parts` makes what it is made of, and `close` takes it apart. `handle` is an open file, `files` has the calls
+//! on files and handles, `reads`, `writes` and `seek` those on bytes and the cursor, `fsync` syncs, and `room` what these do on the way.
+//! `worker` is who works beside the callers: `turns` has what one does in a turn, `workers` its loop, `evictor` the one that frees
+//! frames, `ends` the end of a job, and `signal` what wakes one. `facts` is what the cache tells of itself, and `disk` the device under
+//! its lock.
+
+pub mod cache;
+mod close;
+pub mod disk;
+pub mod ends;
+pub mod evictor;
+mod facts;
+mod files;
+mod fsync;
+pub mod handle;
+pub mod parts;
+mod reads;
+mod room;
+mod seek;
+mod signal;
+pub mod turns;
+pub mod worker;
+mod workers;
+pub mod writes;

@@ -1,0 +1,109 @@
+//! The parts of a cache, made at once.
+
+ghost use Rattle.std.specs.FinMap as map;
+ghost use Rattle.std.specs.Prelude.{◌≡◌, [], ◌+◌, ◌<◌, ◌≤◌, ◌&&◌, IfErr, IfOk, OnOk, if◌then◌else◌, nat_le, nat_lt, vec_len};
+ghost use Rattle.held.specs.Shown.{AreFresh};
+ghost use Rattle.pc_types.specs.declared.refusal.Refusal.TheVariants.{BadConfig, Memory};
+ghost use Rattle.ring.specs.Serving.{Carries, Serves};
+ghost use Rattle.machine.specs.History.{no_files};
+ghost use Rattle.machine.specs.PageLists.{no_lists};
+ghost use Rattle.locked.specs.Keeps.{IsLocked};
+ghost use Rattle.shared.specs.Keeps.{IsDisk};
+ghost use Rattle.shared.specs.Workers.{IsWorkerOf};
+
+use crate::cache::Parts;
+use crate::worker::Worker;
+use blockdev::BlockDevice;
+use held::log::Seat;
+use held::state::Held;
+use pc_types::{Geometry, Refusal};
+use ring::{Ring, RingPass};
+use std::alloc::Global;
+use std::sync::Wait;
+use trail::Trail;
+
+/// The most seats of callers and workers.
+pub const MAX_SEATS: u64 = 64;
+
+/// What was to be among the parts of a cache that were not made.
+#[derive(Drop)]
+pub struct Unmade<D, T> {
+    pub refusal: Refusal,
+    pub device: D,
+    pub trail: T,
+}
+
+impl<D: BlockDevice, T: Trail> Parts<D, T> {
+    /// The parts of a cache of this name over the device, without files, and so many seats. A program that starts threads gives them to
+    /// a function of its own, at `Brand`, which makes the cache by `SharedCache::of`.
+    #[tactic(auto, using(crate::proofs::Serving::idle_first))]
+    pub fn make<R: Wait>(
+        rt: &R,
+        alloc: Global,
+        geometry: &Geometry,
+        name: u64,
+        device: D,
+        trail: T,
+        seat_count: u64,
+    ) -> Result<(Parts<D, T>, Vec<Seat>), Unmade<D, T>>
+        requires { IsDisk geometry.now (D.told device) }
+        ensures named { IfOk result (λ r. (r.0.name ≡ name) × (r.0.geometry ≡ geometry.now)) }
+        ensures few { OnOk result ((0 < seat_count) × (seat_count ≤ 64)) }
+        ensures state { IfOk result (λ r. IsLocked r.0.name r.0.held.log.table r.0.board r.0.geometry (vec_len r.1 + 1) r.0.held) }
+        ensures empty { IfOk result (λ r. (r.0.held.log.history ≡ []) × (r.0.held.core ≡ record { state = no_files geometry.now name; lists = no_lists })) }
+        ensures idle { IfOk result (λ r. map.len r.0.held.core.state.requests ≡ 0) }
+        ensures own { IfOk result (λ r. IsWorkerOf r.0.ring r.0.name r.0.held.log.table r.0.geometry r.0.own) }
+        ensures device { IfOk result (λ r. r.0.device ≡ device) }
+        ensures seats { IfOk result (λ r. (vec_len r.1 ≡ seat_count) × AreFresh r.0.held.log.table r.0.name r.1.items) }
+        ensures refused { IfErr result (λ e. e.refusal ≡ (if nat_lt 0 seat_count && nat_le seat_count 64 then Memory else BadConfig)) }
+        ensures back { IfErr result (λ e. (e.device ≡ device) × (e.trail ≡ trail)) }
+    {
+        let (ring, pass) = match ring_for(rt, alloc, name, geometry, seat_count) {
+            Ok(made) => made,
+            Err(refusal) => {
+                return Err(Unmade {
+                    refusal,
+                    device,
+                    trail,
+                });
+            }
+        };
+        match Held::new(alloc, geometry, name, trail, seat_count) {
+            Ok((held, board, seats, own)) => {
+                let parts = Parts {
+                    name,
+                    geometry: *geometry,
+                    held,
+                    board,
+                    ring,
+                    own: Worker::new(own, pass),
+                    device,
+                };
+                Ok((parts, seats))
+            }
+            Err((refusal, trail)) => Err(Unmade {
+                refusal,
+                device,
+                trail,
+            }),
+        }
+    }
+}
+
+/// The ring of a cache that so many may share.
+fn ring_for<R: Wait>(
+    rt: &R,
+    alloc: Global,
+    name: u64,
+    geometry: &Geometry,
+    seat_count: u64,
+) -> Result<(Ring, RingPass), Refusal>
+    ensures few { OnOk result ((0 < seat_count) × (seat_count ≤ 64)) }
+    ensures pass { IfOk result (λ r. Serves r.0 r.1 × Carries name geometry.now.blocks geometry.now.page r.1) }
+    ensures refused { IfErr result (λ e. e ≡ (if nat_lt 0 seat_count && nat_le seat_count 64 then Memory else BadConfig)) }
+{
+    if seat_count == 0 || seat_count > MAX_SEATS {
+        return Err(Refusal::BadConfig);
+    }
+    Ring::new(rt, alloc, name, geometry)
+}

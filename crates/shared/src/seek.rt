@@ -1,0 +1,67 @@
+//! Where a cursor is put.
+
+ghost use Rattle.std.specs.Prelude.{◌≡◌, ◌≢◌, Err, None};
+ghost use Rattle.pc_types.specs.declared.refusal.Refusal.TheVariants.{BadHandle, Stranger};
+ghost use Rattle.locked.specs.Called.{Goes};
+ghost use Rattle.filesvc.specs.Service.{placed, target};
+ghost use Rattle.shared.specs.Seeks.{Seeks, place_after, with_slip};
+
+use crate::cache::SharedCache;
+use crate::handle::Handle;
+use blockdev::BlockDevice;
+use filesvc::Seek;
+use held::log::{Seat, Slip};
+use locked::denied::{Denied, without_slip};
+use locked::naming::Naming;
+use std::sync::Wait;
+use trail::Trail;
+
+impl<B: Naming, D: BlockDevice, T: Trail> SharedCache<B, D, T> {
+    /// Puts the cursor, and answers where it is now. Refused by `TooLarge` below 0 and past the greatest size of a file. Only a place
+    /// that is counted from the end of the file makes an event, which asks for the file's size.
+    #[tactic(auto, using(locked::proofs::Seats::goes_by, locked::proofs::Seats::goes_same, crate::proofs::Making::goes_denied, crate::proofs::Making::makes_by, crate::proofs::Making::denied_event, crate::proofs::Making::full_by))]
+    pub fn seek<R: Wait>(
+        &self,
+        rt: &R,
+        seat: &mut Seat,
+        handle: &mut Handle,
+        place: Seek,
+    ) -> Result<(u64, Option<Slip>), Denied>
+        requires seat { seat.old.name ≡ self.now.name → seat.old.table ≡ B.table }
+        ensures foreign { seat.old.name ≢ self.now.name → (result ≡ Err (record { refusal = Stranger; slip = None })) × (seat.new ≡ seat.old) }
+        ensures closed { seat.old.name ≡ self.now.name → handle.old.cache ≢ self.now.name → (result ≡ Err (record { refusal = BadHandle; slip = None })) × (seat.new ≡ seat.old) }
+        ensures goes { Goes seat.old seat.new }
+        ensures sought { seat.old.name ≡ self.now.name → handle.old.cache ≡ self.now.name → Seeks place handle.old seat.old seat.new result }
+        ensures cursor { handle.new ≡ record handle.old { cursor = place_after handle.old.cursor result } }
+    {
+        if let Err(refusal) = self.admits(seat, handle) {
+            return Err(without_slip(refusal));
+        }
+        match place {
+            Seek::End(_) => match self.state.lock(rt).size(seat, handle.number) {
+                Ok((size, slip)) => put(handle, place, size, Some(slip)),
+                Err(denied) => Err(denied),
+            },
+            _ => put(handle, place, 0, None),
+        }
+    }
+}
+
+/// Puts the cursor at a place of a file of this size.
+fn put(
+    handle: &mut Handle,
+    place: Seek,
+    size: u64,
+    slip: Option<Slip>,
+) -> Result<(u64, Option<Slip>), Denied>
+    ensures at { result ≡ with_slip slip (placed (target place handle.old.cursor size)) }
+    ensures cursor { handle.new ≡ record handle.old { cursor = place_after handle.old.cursor result } }
+{
+    match place.offset(handle.cursor, size) {
+        Ok(at) => {
+            handle.cursor = at;
+            Ok((at, slip))
+        }
+        Err(refusal) => Err(Denied { refusal, slip }),
+    }
+}

@@ -1,0 +1,124 @@
+//! The turns of workers.
+
+ghost use Rattle.std.specs.Prelude.{◌≡◌, ◌++◌, ◌∷◌, [], IfErr, IfNone, IfOk, IfSome, is_some};
+ghost use Rattle.blockdev.specs.Jobs.{IsJobFor, Task};
+ghost use Rattle.locked.specs.Called.{Goes};
+ghost use Rattle.shared.specs.Denials.{IsDenied, IsFullIfNoSlip};
+ghost use Rattle.shared.specs.Workers.{Begins, Ends, IsEndOf, FailsOwn, IsFlushed, IsOwnFailure, IsWorkerOf, IsWriteBack, popped_by, pushed_by, seat_of};
+
+use crate::cache::SharedCache;
+use crate::ends::{Done, carry_through};
+use crate::worker::Worker;
+use blockdev::{BlockDevice, Buffer, Gate, Job};
+use held::log::{Seat, Slip};
+use locked::denied::{Denied, without_slip};
+use locked::naming::Naming;
+use pc_types::Serial;
+use std::sync::Wait;
+use trail::Trail;
+
+/// What a turn of the flusher did.
+#[derive(Drop)]
+pub enum Flushed {
+    /// No page is to be written.
+    Nothing,
+    /// A write was begun, and its job put into the ring: its serial, and the slip of its beginning.
+    Pushed(Serial, Slip),
+    /// The ring was full: a write was begun and ended.
+    Ended(Slip, Done),
+}
+
+impl<B: Naming, D: BlockDevice, T: Trail> SharedCache<B, D, T> {
+    /// One turn of an I/O worker: it takes a job from the ring, makes its device call, and ends its request. Answers nothing where the
+    /// ring was empty. The gate is entered with the job's serial, before the device call.
+    #[tactic(auto, using(locked::proofs::Seats::goes_same))]
+    pub fn io_turn<R: Wait, G: Gate>(
+        &self,
+        rt: &R,
+        gate: &G,
+        worker: &mut Worker,
+    ) -> Result<Option<Done>, Denied>
+        requires worker { IsWorkerOf self.now.ring B.name B.table B.sizes worker.old }
+        ensures worker { IsWorkerOf self.now.ring B.name B.table B.sizes worker.new }
+        ensures goes { Goes (seat_of worker.old) (seat_of worker.new) }
+        ensures pushed { pushed_by worker.new ≡ pushed_by worker.old }
+        ensures idle { IfOk result (λ o. IfNone o ((seat_of worker.new ≡ seat_of worker.old) × (popped_by worker.new ≡ popped_by worker.old))) }
+        ensures ended { IfOk result (λ o. IfSome o (λ d. (job : Task) × (popped_by worker.new ≡ popped_by worker.old ++ job ∷ []) × (d.serial.0 ≡ job.serial) × Ends job (seat_of worker.old) (seat_of worker.new) d.slip (is_some d.failed) × IfSome d.failed (IsOwnFailure self.now.name B.board))) }
+        ensures denied { IfErr result (λ d. (job : Task) × (popped_by worker.new ≡ popped_by worker.old ++ job ∷ []) × IsDenied (IsEndOf job) (seat_of worker.old) (seat_of worker.new) d × IsFullIfNoSlip (seat_of worker.old) (seat_of worker.new) d) }
+        ensures passed { IfOk result (λ o. IfSome o (λ d. G.passed gate.now d.serial.0)) }
+    {
+        let Some(job) = self.ring.pop(rt, &mut worker.pass) else {
+            return Ok(None);
+        };
+        gate.enter(job.serial().0);
+        match self.end_job(rt, &mut worker.seat, job) {
+            Ok(done) => Ok(Some(done)),
+            Err(denied) => Err(denied),
+        }
+    }
+
+    /// One turn of a flusher: it begins to write the lowest page of the first file that has one to write, and puts the job into the
+    /// ring. Where the ring is full it makes the device call itself, for which the gate is entered with the job's serial.
+    #[tactic(auto, using(locked::proofs::Seats::goes_same, locked::proofs::Seats::goes_on, crate::proofs::Ending::begins_then, crate::proofs::Ending::ends_on, crate::proofs::Ending::write_back_end))]
+    pub fn flusher_turn<R: Wait, G: Gate>(
+        &self,
+        rt: &R,
+        gate: &G,
+        worker: &mut Worker,
+    ) -> Result<Flushed, Denied>
+        requires worker { IsWorkerOf self.now.ring B.name B.table B.sizes worker.old }
+        ensures worker { IsWorkerOf self.now.ring B.name B.table B.sizes worker.new }
+        ensures goes { Goes (seat_of worker.old) (seat_of worker.new) }
+        ensures popped { popped_by worker.new ≡ popped_by worker.old }
+        ensures done { IfOk result (IsFlushed worker.old worker.new) }
+        ensures failed { IfOk result (λ f. FailsOwn self.now.name B.board f) }
+        ensures denied { IfErr result (λ d. (pushed_by worker.new ≡ pushed_by worker.old) × IsDenied IsWriteBack (seat_of worker.old) (seat_of worker.new) d) }
+    {
+        let (job, slip) = match self.begin_flush(rt, &mut worker.seat) {
+            Ok(Some(begun)) => begun,
+            Ok(None) => return Ok(Flushed::Nothing),
+            Err(denied) => return Err(denied),
+        };
+        let serial = job.serial();
+        let Err(job) = self.ring.push(rt, &mut worker.pass, job) else {
+            self.work.give(rt);
+            return Ok(Flushed::Pushed(serial, slip));
+        };
+        gate.enter(serial.0);
+        match self.end_job(rt, &mut worker.seat, job) {
+            Ok(done) => Ok(Flushed::Ended(slip, done)),
+            Err(denied) => Err(denied),
+        }
+    }
+
+    /// Begins to write a page, of the first file that has one to write.
+    #[tactic(auto, using(locked::proofs::Seats::goes_same, crate::proofs::Ending::begins_first, crate::proofs::Ending::denied_begun))]
+    fn begin_flush<R: Wait>(&self, rt: &R, seat: &mut Seat) -> Result<Option<(Job, Slip)>, Denied>
+        requires { seat.old.table ≡ B.table }
+        ensures goes { Goes seat.old seat.new }
+        ensures begun { IfOk result (λ o. IfSome o (λ r. Begins r.0.serial seat.old seat.new r.1)) }
+        ensures fits { IfOk result (λ o. IfSome o (λ r. IsJobFor B.name B.sizes.blocks B.sizes.page r.0)) }
+        ensures denied { IfErr result (IsDenied IsWriteBack seat.old seat.new) }
+    {
+        let buffer = match Buffer::new(self.alloc, &self.geometry) {
+            Ok(buffer) => buffer,
+            Err(refusal) => return Err(without_slip(refusal)),
+        };
+        self.state.lock(rt).flush_first(seat, buffer)
+    }
+
+    /// Makes a job's device call, ends its request, and wakes those who wait for an end.
+    pub(crate) fn end_job<R: Wait>(&self, rt: &R, seat: &mut Seat, job: Job) -> Result<Done, Denied>
+        requires seat { seat.old.table ≡ B.table }
+        requires fits { IsJobFor B.name B.sizes.blocks B.sizes.page job }
+        ensures goes { Goes seat.old seat.new }
+        ensures ended { IfOk result (λ d. (d.serial.0 ≡ job.serial) × Ends job seat.old seat.new d.slip (is_some d.failed)) }
+        ensures failed { IfOk result (λ d. IfSome d.failed (IsOwnFailure self.now.name B.board)) }
+        ensures denied { IfErr result (IsDenied (IsEndOf job) seat.old seat.new) }
+        ensures full { IfErr result (IsFullIfNoSlip seat.old seat.new) }
+    {
+        let ended = carry_through(rt, &self.disk, &self.state, self.name, seat, job);
+        self.has_ended(rt);
+        ended
+    }
+}

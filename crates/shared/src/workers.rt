@@ -1,0 +1,72 @@
+//! Workers' loops: they go on until the cache tells them to stop.
+
+ghost use Rattle.std.specs.Prelude.{◌≡◌, IfErr, OnOk};
+ghost use Rattle.locked.specs.Called.{Goes};
+ghost use Rattle.shared.specs.Workers.{AllEnded, IsRefusedEnd, IsWorkerOf, popped_by, pushed_by, seat_of};
+
+use crate::cache::SharedCache;
+use crate::turns::Flushed;
+use crate::worker::Worker;
+use blockdev::{BlockDevice, Gate};
+use locked::denied::Denied;
+use locked::naming::Naming;
+use std::sync::Wait;
+use trail::Trail;
+
+impl<B: Naming, D: BlockDevice, T: Trail> SharedCache<B, D, T> {
+    /// Tells the workers to stop. It waits for none of them.
+    pub fn stop<R: Wait>(&self, rt: &R) {
+        self.work.stop(rt);
+    }
+
+    /// Writes pages back while there are any to write, and sleeps where there are none, until it is told to stop.
+    #[tactic(auto, using(locked::proofs::Seats::goes_same, locked::proofs::Seats::goes_on))]
+    pub fn flusher<R: Wait, G: Gate>(&self, rt: &R, gate: &G, worker: &mut Worker)
+        requires worker { IsWorkerOf self.now.ring B.name B.table B.sizes worker.old }
+        ensures worker { IsWorkerOf self.now.ring B.name B.table B.sizes worker.new }
+        ensures goes { Goes (seat_of worker.old) (seat_of worker.new) }
+        ensures popped { popped_by worker.new ≡ popped_by worker.old }
+    {
+        'turns: for _ in rt.forever() {
+            let seen = self.work.count();
+            if self.work.is_stopped() {
+                return;
+            }
+            match self.flusher_turn(rt, gate, worker) {
+                Ok(Flushed::Pushed(_, _) | Flushed::Ended(_, _)) => {}
+                // A refusal may pass when a request ends, which gives the signal.
+                Ok(Flushed::Nothing) | Err(_) => self.work.wait(rt, seen),
+            }
+        }
+    }
+
+    /// Carries out the jobs of the ring, and sleeps where there are none. Told to stop, it goes on till the ring is empty. It stops
+    /// too where an end is refused, which no job gets whose request is in flight.
+    #[tactic(auto, using(locked::proofs::Seats::goes_same, locked::proofs::Seats::goes_on, crate::proofs::Ending::none_ended))]
+    pub fn io_worker<R: Wait, G: Gate>(
+        &self,
+        rt: &R,
+        gate: &G,
+        worker: &mut Worker,
+    ) -> Result<(), Denied>
+        requires worker { IsWorkerOf self.now.ring B.name B.table B.sizes worker.old }
+        ensures worker { IsWorkerOf self.now.ring B.name B.table B.sizes worker.new }
+        ensures goes { Goes (seat_of worker.old) (seat_of worker.new) }
+        ensures pushed { pushed_by worker.new ≡ pushed_by worker.old }
+        ensures ended { OnOk result (AllEnded worker.old worker.new) }
+        ensures refused { IfErr result (IsRefusedEnd worker.old worker.new) }
+    {
+        'turns: for _ in rt.forever() {
+            let seen = self.work.count();
+            let is_stopped = self.work.is_stopped();
+            let is_idle = self.io_turn(rt, gate, worker)?.is_none();
+            if is_idle {
+                if is_stopped {
+                    return Ok(());
+                }
+                self.work.wait(rt, seen);
+            }
+        }
+        unreachable!()
+    }
+}

@@ -1,0 +1,11 @@
+#![tactic(auto)]
+//! Worked rows of the shared cache. They are a crate of their own, since a crate with tests is proved once more beside them.
+
+#[cfg(test)]
+mod history_rows;
+#[cfg(test)]
+mod rows;
+#[cfg(test)]
+mod thread_rows;
+#[cfg(test)]
+mod worker_rows;

@@ -1,0 +1,176 @@
+//! Rows with a worker: one whose device call is held, and one that begins so many writes that the ring is full.
+
+ghost use Rattle.std.specs.Prelude.{◌≡◌, All};
+ghost use Rattle.shared.specs.Workers.{IsWorkerOf};
+
+use crate::rows::{Tested, opens};
+use crate::thread_rows::{Turnstile, reads_meanwhile, writes_page};
+use blockdev::{BlockDevice, Gate};
+use held::log::Seat;
+use locked::naming::Naming;
+use shared::turns::Flushed;
+use shared::worker::Worker;
+use std::sync::Wait;
+use std::thread;
+use std::thread::Threads;
+
+/// As many pages as the ring has places.
+const PLACES: u8 = 64;
+
+/// Lets a worker go on.
+#[derive(Drop)]
+struct Open;
+
+impl Gate for Open {
+    ghost use Rattle.std.specs.Prelude.{⊤};
+
+    ghost passed = { λ _ _. ⊤ };
+
+    fn enter(&self, _number: u64) {}
+}
+
+/// A page is read while the device call that writes it is held.
+pub(crate) fn reads_beside_a_write<
+    B: Naming + Send + Sync,
+    D: BlockDevice + Send,
+    R: Threads + Wait + Sync,
+>(
+    rt: &R,
+    cache: &Tested<B, D>,
+    turnstile: &Turnstile,
+    mut own: Worker,
+    mut seats: Vec<Seat>,
+) -> bool
+    requires own { IsWorkerOf cache.now.ring B.name B.table B.sizes own }
+    requires seats { All (λ s. s.table ≡ B.table) seats.items }
+{
+    let (Some(mut caller), Some(seat)) = (seats.pop(), seats.pop()) else {
+        return false;
+    };
+    let Ok(mut worker) = cache.worker(&mut own, seat) else {
+        return false;
+    };
+    let Some(handle) = opens(rt, cache, &mut caller) else {
+        return false;
+    };
+    let is_dirty = writes_page(rt, cache, &mut caller, &handle, 0);
+    if !is_dirty || !begins_a_write(rt, cache, &mut worker) {
+        return false;
+    }
+    turnstile.shut();
+    let (is_written, is_read) = thread::join(
+        rt,
+        move ||
+            requires { IsWorkerOf cache.now.ring B.name B.table B.sizes worker }
+        { ends_a_write(rt, cache, worker) },
+        move ||
+            requires { caller.table ≡ B.table }
+        { reads_meanwhile(rt, cache, turnstile, caller, handle, 0) },
+    );
+    is_written && is_read
+}
+
+/// Whether a turn of the worker, which is given up, ended a write well.
+fn ends_a_write<B: Naming, D: BlockDevice, R: Wait>(
+    rt: &R,
+    cache: &Tested<B, D>,
+    mut worker: Worker,
+) -> bool
+    requires { IsWorkerOf cache.now.ring B.name B.table B.sizes worker }
+{
+    match cache.io_turn(rt, &Open, &mut worker) {
+        Ok(Some(done)) => done.failed.is_none(),
+        _ => false,
+    }
+}
+
+/// A worker that is told to stop ends what the ring has: no page is to be written then.
+pub(crate) fn stops_with_a_full_ring<B: Naming, D: BlockDevice, R: Wait>(
+    rt: &R,
+    cache: &Tested<B, D>,
+    mut own: Worker,
+    mut seats: Vec<Seat>,
+) -> bool
+    requires own { IsWorkerOf cache.now.ring B.name B.table B.sizes own }
+    requires seats { All (λ s. s.table ≡ B.table) seats.items }
+{
+    let (Some(mut caller), Some(seat)) = (seats.pop(), seats.pop()) else {
+        return false;
+    };
+    let Ok(mut worker) = cache.worker(&mut own, seat) else {
+        return false;
+    };
+    let is_full = fills_the_ring(rt, cache, &mut caller, &mut worker);
+    cache.stop(rt);
+    let is_stopped = cache.io_worker(rt, &Open, &mut worker).is_ok();
+    let is_written = matches!(
+        cache.flusher_turn(rt, &Open, &mut worker),
+        Ok(Flushed::Nothing)
+    );
+    is_full && is_stopped && is_written
+}
+
+/// A cache that closes ends what the ring has: the device was called for each of its jobs.
+pub(crate) fn closes_with_a_full_ring<B: Naming, D: BlockDevice, R: Wait>(
+    rt: &R,
+    cache: Tested<B, D>,
+    mut own: Worker,
+    mut seats: Vec<Seat>,
+) -> bool
+    requires own { IsWorkerOf cache.ring B.name B.table B.sizes own }
+    requires seats { All (λ s. s.table ≡ B.table) seats.items }
+{
+    let (Some(mut caller), Some(seat)) = (seats.pop(), seats.pop()) else {
+        return false;
+    };
+    let Ok(mut worker) = cache.worker(&mut own, seat) else {
+        return false;
+    };
+    let is_full = fills_the_ring(rt, &cache, &mut caller, &mut worker);
+    if seats.push(caller).is_err() || seats.push(worker.into_seat()).is_err() {
+        return false;
+    }
+    match cache.close(rt, own, seats) {
+        Ok((_, _, device)) => is_full && device.calls() == u64::from(PLACES),
+        Err(_) => false,
+    }
+}
+
+/// Makes so many pages dirty, and begins to write each.
+fn fills_the_ring<B: Naming, D: BlockDevice, R: Wait>(
+    rt: &R,
+    cache: &Tested<B, D>,
+    caller: &mut Seat,
+    worker: &mut Worker,
+) -> bool
+    requires caller { caller.old.table ≡ B.table }
+    requires worker { IsWorkerOf cache.now.ring B.name B.table B.sizes worker.old }
+    ensures caller { caller.new.table ≡ caller.old.table }
+    ensures worker { IsWorkerOf cache.now.ring B.name B.table B.sizes worker.new }
+{
+    let Some(handle) = opens(rt, cache, caller) else {
+        return false;
+    };
+    for page in 0..PLACES {
+        let is_written = writes_page(rt, cache, caller, &handle, page);
+        if !is_written || !begins_a_write(rt, cache, worker) {
+            return false;
+        }
+    }
+    true
+}
+
+/// Whether a turn of the flusher put a job into the ring.
+fn begins_a_write<B: Naming, D: BlockDevice, R: Wait>(
+    rt: &R,
+    cache: &Tested<B, D>,
+    worker: &mut Worker,
+) -> bool
+    requires { IsWorkerOf cache.now.ring B.name B.table B.sizes worker.old }
+    ensures { IsWorkerOf cache.now.ring B.name B.table B.sizes worker.new }
+{
+    matches!(
+        cache.flusher_turn(rt, &Open, worker),
+        Ok(Flushed::Pushed(_, _))
+    )
+}
