@@ -3,7 +3,7 @@
 ghost use Rattle.std.specs.Prelude.{◌≡◌, All};
 ghost use Rattle.shared.specs.Workers.{IsWorkerOf};
 
-use crate::rows::{Tested, opens};
+use crate::rows::{Tested, opens, two_of, with_two};
 use blockdev::BlockDevice;
 use filesvc::Seek;
 use held::log::{Seat, Slip, confirm};
@@ -57,36 +57,19 @@ pub(crate) fn leaves_a_history<B: Naming, D: BlockDevice, R: Wait>(
     requires own { IsWorkerOf cache.ring B.name B.table B.sizes own }
     requires seats { All (λ s. s.table ≡ B.table) seats.items }
 {
-    let (Some(mut second), Some(mut first)) = (seats.pop(), seats.pop()) else {
+    let Some((mut first, mut second)) = two_of::<B>(&mut seats) else {
         return false;
     };
     let Some(slips) = plays(rt, &cache, &mut first, &mut second, story) else {
         return false;
     };
-    match closes_after(rt, cache, own, seats, first, second) {
-        Some(trail) => is_in(alloc, &trail, slips, story),
-        None => false,
+    let Some(seats) = with_two::<B>(seats, first, second) else {
+        return false;
+    };
+    match cache.close(rt, own, seats) {
+        Ok((trail, _, _)) => is_in(alloc, &trail, slips, story),
+        Err(_) => false,
     }
-}
-
-/// Closes the cache with these seats and two more, and gives its trail.
-fn closes_after<B: Naming, D: BlockDevice, R: Wait>(
-    rt: &R,
-    cache: Tested<B, D>,
-    own: Worker,
-    mut seats: Vec<Seat>,
-    first: Seat,
-    second: Seat,
-) -> Option<FullTrail>
-    requires own { IsWorkerOf cache.ring B.name B.table B.sizes own }
-    requires seats { All (λ s. s.table ≡ B.table) seats.items }
-    requires first { first.table ≡ B.table }
-    requires second { second.table ≡ B.table }
-{
-    seats.push(first).ok()?;
-    seats.push(second).ok()?;
-    let (trail, _, _) = cache.close(rt, own, seats).ok()?;
-    Some(trail)
 }
 
 /// Whether the slips stand in the trail as the story says, and it replays.

@@ -83,10 +83,37 @@ fn runs_over<B: Naming + Send + Sync, D: BlockDevice + Send, R: Threads + Wait +
         Row::StopsWithAFullRing => return stops_with_a_full_ring(rt, &cache, own, seats),
         _ => {}
     }
-    let (Some(second), Some(first)) = (seats.pop(), seats.pop()) else {
-        return false;
-    };
-    runs(rt, &cache, turnstile, first, second, row)
+    match two_of::<B>(&mut seats) {
+        Some((first, second)) => runs(rt, &cache, turnstile, first, second, row),
+        None => false,
+    }
+}
+
+/// Takes the last two of the seats.
+pub(crate) fn two_of<B: Naming>(seats: &mut Vec<Seat>) -> Option<(Seat, Seat)>
+    requires { All (λ s. s.table ≡ B.table) seats.old.items }
+    ensures left { All (λ s. s.table ≡ B.table) seats.new.items }
+    ensures two { IfSome result (λ r. (r.0.table ≡ B.table) × (r.1.table ≡ B.table)) }
+{
+    let second = seats.pop()?;
+    let first = seats.pop()?;
+    Some((first, second))
+}
+
+/// Puts two seats to the others, if there is room.
+pub(crate) fn with_two<B: Naming>(
+    mut seats: Vec<Seat>,
+    first: Seat,
+    second: Seat,
+) -> Option<Vec<Seat>>
+    requires those { All (λ s. s.table ≡ B.table) seats.items }
+    requires first { first.table ≡ B.table }
+    requires second { second.table ≡ B.table }
+    ensures { IfSome result (λ all. All (λ s. s.table ≡ B.table) all.items) }
+{
+    seats.push(first).ok()?;
+    seats.push(second).ok()?;
+    Some(seats)
 }
 
 /// Makes a file, opens it and runs the row.

@@ -3,7 +3,7 @@
 ghost use Rattle.std.specs.Prelude.{◌≡◌, All};
 ghost use Rattle.shared.specs.Workers.{IsWorkerOf};
 
-use crate::rows::{Tested, opens};
+use crate::rows::{Tested, opens, two_of, with_two};
 use crate::thread_rows::{Turnstile, reads_meanwhile, writes_page};
 use blockdev::{BlockDevice, Gate};
 use held::log::Seat;
@@ -44,7 +44,7 @@ pub(crate) fn reads_beside_a_write<
     requires own { IsWorkerOf cache.now.ring B.name B.table B.sizes own }
     requires seats { All (λ s. s.table ≡ B.table) seats.items }
 {
-    let (Some(mut caller), Some(seat)) = (seats.pop(), seats.pop()) else {
+    let Some((mut caller, seat)) = two_of::<B>(&mut seats) else {
         return false;
     };
     let Ok(mut worker) = cache.worker(&mut own, seat) else {
@@ -94,7 +94,7 @@ pub(crate) fn stops_with_a_full_ring<B: Naming, D: BlockDevice, R: Wait>(
     requires own { IsWorkerOf cache.now.ring B.name B.table B.sizes own }
     requires seats { All (λ s. s.table ≡ B.table) seats.items }
 {
-    let (Some(mut caller), Some(seat)) = (seats.pop(), seats.pop()) else {
+    let Some((mut caller, seat)) = two_of::<B>(&mut seats) else {
         return false;
     };
     let Ok(mut worker) = cache.worker(&mut own, seat) else {
@@ -120,16 +120,16 @@ pub(crate) fn closes_with_a_full_ring<B: Naming, D: BlockDevice, R: Wait>(
     requires own { IsWorkerOf cache.ring B.name B.table B.sizes own }
     requires seats { All (λ s. s.table ≡ B.table) seats.items }
 {
-    let (Some(mut caller), Some(seat)) = (seats.pop(), seats.pop()) else {
+    let Some((mut caller, seat)) = two_of::<B>(&mut seats) else {
         return false;
     };
     let Ok(mut worker) = cache.worker(&mut own, seat) else {
         return false;
     };
     let is_full = fills_the_ring(rt, &cache, &mut caller, &mut worker);
-    if seats.push(caller).is_err() || seats.push(worker.into_seat()).is_err() {
+    let Some(seats) = with_two::<B>(seats, caller, worker.into_seat()) else {
         return false;
-    }
+    };
     match cache.close(rt, own, seats) {
         Ok((_, _, device)) => is_full && device.calls() == u64::from(PLACES),
         Err(_) => false,

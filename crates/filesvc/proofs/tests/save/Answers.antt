@@ -22,6 +22,12 @@ returns-in_default-clause-open g c = λ was.
     (open_on c.pwrite.new.self c.fsync.new.self c.args.handle.now c.fsync.ensures.serves.keeps
     (open_on c.args.files.now c.pwrite.new.self c.args.handle.now c.pwrite.ensures.keeps was))
 
+pub returns-in_default-2-clause-open : goal.returns-in_default-2-clause-open
+returns-in_default-2-clause-open g c = λ was.
+    open_synced c.fsync.new.self c.args.handle.now c.fsync.new.handle c.fsync.ensures.told
+    (open_on c.pwrite.new.self c.fsync.new.self c.args.handle.now c.fsync.ensures.serves.keeps
+    (open_on c.args.files.now c.pwrite.new.self c.args.handle.now c.pwrite.ensures.keeps was))
+
 pub returns-in-Err-Io-clause-open : goal.returns-in-Err-Io-clause-open
 returns-in-Err-Io-clause-open g c = λ was.
     let written = open_on c.args.files.now c.pwrite.new.self c.args.handle.now c.pwrite.ensures.keeps was in
