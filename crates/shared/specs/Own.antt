@@ -27,6 +27,12 @@ IsRoomEvent event.Evict = Unit {0}
 IsRoomEvent event.Age = Unit {0}
 IsRoomEvent e = ⊥
 
+-- to let a page go
+abbrev pub IsEviction : Event → Type 0
+IsEviction event.Evict = Unit {0}
+IsEviction event.Age = Unit {0}
+IsEviction e = ⊥
+
 -- the refusal stands, or making room was refused
 abbrev pub IsStillDenied : Denied → SeatSeen → SeatSeen → Denied → Type 0
 IsStillDenied first before after d = (d ≡ first) ⊎ IsDenied IsRoomEvent before after d

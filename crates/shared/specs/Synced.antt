@@ -3,7 +3,7 @@ use Rattle.std.specs.Prelude.{◌≡◌, ◌⊎◌, ℕ, Option, Some, None}
 use Rattle.errboard.specs.Shown.{PassSeen}
 use Rattle.held.specs.Shown.{SeatSeen}
 use Rattle.held.specs.declared.log.Slip.{Slip}
-use Rattle.locked.specs.Called.{Goes}
+use Rattle.locked.specs.Called.{Goes, Only}
 use Rattle.locked.specs.declared.denied.Denied.{Denied}
 use Rattle.machine.specs.declared.event.Event.{Event}
 use Rattle.machine.specs.declared.event.Event.TheVariants as event
@@ -46,6 +46,15 @@ IsFlushEnd e = ⊥
 abbrev pub IsTurnOf : SyncId → Event → Type 0
 IsTurnOf sync (event.SyncStep m) = m ≡ sync
 IsTurnOf sync e = IsFlushEnd e
+
+-- the begin of a sync of these pages by this handle, a turn of this sync, or its drop
+abbrev pub IsSyncBy : HandleId → PageIndex → PageIndex → SyncId → Event → Type 0
+IsSyncBy h first last sync e = (e ≡ event.SyncBegin h first last) ⊎ ((e ≡ event.SyncDrop sync) ⊎ IsTurnOf sync e)
+
+-- the seat made events of one sync of these pages alone
+pub record OneSync (h : HandleId) (first last : PageIndex) (before after : SeatSeen) : Type 0 where
+  pub sync : SyncId
+  pub only : Only (IsSyncBy h first last sync) before after
 
 -- the sync was dropped, or was in progress no longer
 abbrev pub IsDropReply : Reply → Type 0

@@ -1,5 +1,6 @@
-use Rattle.locked.specs.Called.{Goes}
+use Rattle.locked.specs.Called.{Goes, Only}
+use Rattle.shared.specs.Own.{IsRoomEvent}
 use Rattle.shared.proofs.cache.SharedCache.make_way.Given as goal
 
 abbrev pub invariant-turns : goal.invariant-turns
-invariant-turns g l = Goes l.initial.seat l.seat
+invariant-turns g l = Goes l.initial.seat l.seat × Only IsRoomEvent l.initial.seat l.seat

@@ -1,5 +1,6 @@
-use Rattle.locked.specs.Called.{Goes}
+use Rattle.locked.specs.Called.{Goes, Only}
+use Rattle.shared.specs.Synced.{IsTurnOf}
 use Rattle.shared.proofs.cache.SharedCache.sync_turns.Given as goal
 
 abbrev pub invariant-turns : goal.invariant-turns
-invariant-turns g l = Goes l.initial.seat l.seat
+invariant-turns g l = Goes l.initial.seat l.seat × Only (IsTurnOf l.fn.sync) l.initial.seat l.seat
