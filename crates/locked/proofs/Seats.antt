@@ -8,7 +8,7 @@ use Rattle.errseq.proofs.Prefixes.{prefix_self, prefix_trans, prefix_more}
 use Rattle.machine.specs.declared.event.Event.{Event}
 use Rattle.machine.specs.declared.event.Reply.{Reply}
 use Rattle.trail.specs.declared.entry.Entry.{Entry}
-use Rattle.trail.specs.Entries.{entry_of}
+use Rattle.trail.specs.Entries.{entry_of, noted}
 use Rattle.held.specs.declared.log.Slip.{Slip}
 use Rattle.held.specs.Entered.{Made}
 use Rattle.held.specs.Shown.{HeldSeen, SeatSeen}
@@ -49,13 +49,13 @@ none_made own number [] none = All-nil (λ (e : Entry). e.seat ≡ number → ow
 none_made own number (x ∷ xs) none =
     All-cons (λ (e : Entry). e.seat ≡ number → own e.event) x xs
     (λ same. absurd (
-        let rest : ℕ = count_of number xs in
-        let first : (if x.seat == number then 1 else 0) ≡ 1 = ap (λ b. if b then 1 else 0) (eq-eqb x.seat number same) in
-        omega (arith, none, first)))
+        let first : ℕ = if x.seat == number then 1 else 0 in
+        let one : first ≡ 1 = ap (λ b. if b then 1 else 0) (eq-eqb x.seat number same) in
+        omega (arith, none, one)))
     (none_made own number xs (let first : ℕ = if x.seat == number then 1 else 0 in omega (arith, none)))
 
 pub only_by : (own : Event → Type 0) (e : Event) (r : Reply) (old new : HeldSeen) (before after : SeatSeen) (slip : Slip)
-    → own e → Made e r old new before after slip → Only own before after
+    → own (noted e r) → Made e r old new before after slip → Only own before after
 only_by own e r old new before after slip is m =
     let entry : Entry = entry_of before.number e r in
     let others : List Entry = m.entered.saw.0 in
@@ -66,6 +66,7 @@ only_by own e r old new before after slip is m =
     let here : count_of before.number (entry ∷ []) ≡ 1 =
         ap (λ b. (if b then 1 else 0) + 0) (eq-eqb before.number before.number refl) in
     record {
+      same = m.entered.seat.2;
       since = others ++ entry ∷ [];
       saw = m.entered.sees ∙ m.entered.history ∙ ap (λ l. l ++ entry ∷ []) (sym there)
           ∙ append_assoc before.list others (entry ∷ []);
@@ -76,26 +77,29 @@ only_by own e r old new before after slip is m =
 
 pub only_same : (own : Event → Type 0) (before after : SeatSeen) → after ≡ before → Only own before after
 only_same own before after e = subst (Only own before) (sym e) (record {
+  same = refl;
   since = [];
   saw = sym (append-nil before.list);
   made = All-nil (λ (x : Entry). x.seat ≡ before.number → own x.event);
   count = omega arith;
 })
 
-pub only_on : (own : Event → Type 0) (a b c : SeatSeen) → Goes a b → Only own a b → Only own b c → Only own a c
-only_on own a b c goes p q =
-    let renamed : count_of b.number q.since ≡ count_of a.number q.since = ap (λ n. count_of n q.since) goes.same.2 in
+pub only_on : (own : Event → Type 0) (a b c : SeatSeen) → Only own a b → Only own b c → Only own a c
+only_on own a b c p q =
+    let renamed : count_of b.number q.since ≡ count_of a.number q.since = ap (λ n. count_of n q.since) p.same in
     record {
+      same = q.same ∙ p.same;
       since = p.since ++ q.since;
       saw = q.saw ∙ ap (λ l. l ++ q.since) p.saw ∙ append_assoc a.list p.since q.since;
       made = All-append (λ (x : Entry). x.seat ≡ a.number → own x.event) p.since q.since p.made
-          (subst (λ n. All (λ (x : Entry). x.seat ≡ n → own x.event) q.since) goes.same.2 q.made);
+          (subst (λ n. All (λ (x : Entry). x.seat ≡ n → own x.event) q.since) p.same q.made);
       count = omega (arith, p.count, q.count, count_both a.number p.since q.since, renamed);
     }
 
 pub only_wider : (own wider : Event → Type 0) (before after : SeatSeen) → ((e : Event) → own e → wider e)
     → Only own before after → Only wider before after
 only_wider own wider before after f p = record {
+  same = p.same;
   since = p.since;
   saw = p.saw;
   made = All-weaker (λ (x : Entry). x.seat ≡ before.number → own x.event)

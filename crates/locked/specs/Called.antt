@@ -14,6 +14,7 @@ pub record Goes (before after : SeatSeen) : Type 0 where
 
 -- what it has seen since, and of that its own, which it has counted: these events alone
 pub record Only (own : Event → Type 0) (before after : SeatSeen) : Type 0 where
+  pub same : after.number ≡ before.number
   pub since : List Entry
   pub saw : after.list ≡ before.list ++ since
   pub made : All (λ e. e.seat ≡ before.number → own e.event) since

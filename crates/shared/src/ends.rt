@@ -2,7 +2,7 @@
 
 ghost use Rattle.std.specs.Prelude.{◌≡◌, IfErr, IfOk, IfSome, is_some, length};
 ghost use Rattle.atomic_table.specs.Seated.{TableId};
-ghost use Rattle.blockdev.specs.Jobs.{IsJobFor};
+ghost use Rattle.blockdev.specs.Jobs.{IsJobFor, Task};
 ghost use Rattle.cachecore.specs.Replies.{end_of};
 ghost use Rattle.machine.specs.declared.event.Event.TheVariants as event;
 ghost use Rattle.machine.specs.declared.event.Reply.{Reply};
@@ -32,7 +32,7 @@ pub struct Done {
 }
 
 /// Makes a job's device call, without the state's lock, and ends its request.
-#[tactic(auto, using(crate::proofs::Ending::ends_by, crate::proofs::Ending::denied_job, crate::proofs::Owning::only_end))]
+#[tactic(auto, using(crate::proofs::Ending::ends_by, crate::proofs::Ending::denied_job))]
 pub(crate) fn carry_through<B: Naming, D: BlockDevice, T: Trail, R: Wait>(
     rt: &R,
     disk: &Mutex<Disk<B, D>>,
@@ -77,7 +77,7 @@ fn failure(name: u64, receipt: Option<Receipt>) -> Option<FailedWrite>
 }
 
 /// Ends a request, by its kind.
-#[tactic(auto, using(locked::proofs::Seats::goes_by, crate::proofs::Making::goes_denied, crate::proofs::Making::makes_by, crate::proofs::Making::denied_event, crate::proofs::Making::full_by, crate::proofs::Ending::fill_told, crate::proofs::Ending::flush_told, crate::proofs::Owning::only_event, crate::proofs::Owning::only_event_denied))]
+#[tactic(auto, using(locked::proofs::Seats::goes_by, crate::proofs::Making::goes_denied, crate::proofs::Making::makes_by, crate::proofs::Making::denied_event, crate::proofs::Making::full_by, crate::proofs::Ending::fill_told, crate::proofs::Ending::flush_told, crate::proofs::Owning::only_end, crate::proofs::Owning::only_end_denied))]
 fn end<B: Naming, T: Trail>(
     state: &mut Locked<B, T>,
     seat: &mut Seat,
@@ -86,7 +86,7 @@ fn end<B: Naming, T: Trail>(
     requires seat { seat.old.table ≡ B.table }
     requires size { length finished.bytes ≡ B.sizes.page }
     ensures goes { Goes seat.old seat.new }
-    ensures only { Only (λ e. e ≡ event.End finished.kind (end_of finished)) seat.old seat.new }
+    ensures only { (job : Task) → finished.kind ≡ job.kind → finished.serial ≡ job.serial → finished.cache ≡ job.cache → Only (IsEndOf job) seat.old seat.new }
     ensures made { IfOk result (λ r. (reply : Reply) × Makes seat.old seat.new r.0 (event.End finished.kind (end_of finished)) reply × (is_some r.1 ≡ fails_write finished.kind reply)) }
     ensures own { IfOk result (λ r. IfSome r.1 (λ receipt. receipt.board ≡ B.board)) }
     ensures denied { IfErr result (IsDenied (λ e. e ≡ event.End finished.kind (end_of finished)) seat.old seat.new) }

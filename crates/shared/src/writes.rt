@@ -165,7 +165,7 @@ impl<B: Naming, D: BlockDevice, T: Trail> SharedCache<B, D, T> {
 
     /// One attempt to change the file. Where a page is missing it is filled, where there is no room it is made, and nothing is
     /// answered.
-    #[tactic(auto, using(locked::proofs::Seats::goes_by, locked::proofs::Seats::goes_on, locked::proofs::Seats::goes_same, crate::proofs::Making::goes_denied, crate::proofs::Making::makes_by, crate::proofs::Making::call_help, crate::proofs::Making::call_settled, locked::proofs::Seats::only_on, crate::proofs::Owning::only_call, crate::proofs::Owning::only_call_denied, crate::proofs::Owning::only_help, crate::proofs::Owning::only_room_call))]
+    #[tactic(auto, using(locked::proofs::Seats::goes_by, locked::proofs::Seats::goes_on, locked::proofs::Seats::goes_same, crate::proofs::Making::goes_denied, crate::proofs::Making::makes_by, crate::proofs::Making::call_help, crate::proofs::Making::call_settled, locked::proofs::Seats::only_on, crate::proofs::Owning::change_plain, crate::proofs::Owning::only_call, crate::proofs::Owning::only_call_denied, crate::proofs::Owning::only_help, crate::proofs::Owning::only_room_call))]
     fn try_change<R: Wait>(
         &self,
         rt: &R,

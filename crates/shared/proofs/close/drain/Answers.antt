@@ -10,7 +10,7 @@ pub jobs-preserved : goal.jobs-preserved
 jobs-preserved g c = record {
   worker = search (rules, c.pop.ensures.pass, c.jobs.invariant.worker.named, c.jobs.invariant.worker.seated);
   goes = goes_on c.args.own.now.seat c.jobs.own.seat c.carry_through.new.seat c.jobs.invariant.goes c.carry_through.ensures.goes;
-  only = only_on IsWriteBack c.args.own.now.seat c.jobs.own.seat c.carry_through.new.seat c.jobs.invariant.goes
+  only = only_on IsWriteBack c.args.own.now.seat c.jobs.own.seat c.carry_through.new.seat
       c.jobs.invariant.only (only_job c.in-Some-pop.job c.jobs.own.seat c.carry_through.new.seat c.carry_through.ensures.only);
   ended = λ e. carried_ended c.args.own.now c.jobs.own (record { seat = c.carry_through.new.seat; pass = c.pop.new.pass })
       c.in-Some-pop.job c.carry_through.result (c.jobs.invariant.ended e)

@@ -15,7 +15,7 @@ turns-preserved-then-is_idle g c = record {
   worker = c.io_turn.ensures.worker;
   goes = goes_on c.args.worker.now.seat c.turns.worker.seat c.io_turn.new.worker.seat c.turns.invariant.goes
       c.io_turn.ensures.goes;
-  only = only_on IsWriteBack c.args.worker.now.seat c.turns.worker.seat c.io_turn.new.worker.seat c.turns.invariant.goes
+  only = only_on IsWriteBack c.args.worker.now.seat c.turns.worker.seat c.io_turn.new.worker.seat
       c.turns.invariant.only c.io_turn.ensures.only;
   pushed = c.io_turn.ensures.pushed ∙ c.turns.invariant.pushed;
   ended = turn_ended c.args.worker.now c.turns.worker c.io_turn.new.worker c.in_ok-io_turn.field-0 c.args.self.now.name
@@ -28,7 +28,7 @@ turns-preserved g c = record {
   worker = c.io_turn.ensures.worker;
   goes = goes_on c.args.worker.now.seat c.turns.worker.seat c.io_turn.new.worker.seat c.turns.invariant.goes
       c.io_turn.ensures.goes;
-  only = only_on IsWriteBack c.args.worker.now.seat c.turns.worker.seat c.io_turn.new.worker.seat c.turns.invariant.goes
+  only = only_on IsWriteBack c.args.worker.now.seat c.turns.worker.seat c.io_turn.new.worker.seat
       c.turns.invariant.only c.io_turn.ensures.only;
   pushed = c.io_turn.ensures.pushed ∙ c.turns.invariant.pushed;
   ended = turn_ended c.args.worker.now c.turns.worker c.io_turn.new.worker c.in_ok-io_turn.field-0 c.args.self.now.name
