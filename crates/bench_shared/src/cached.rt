@@ -18,12 +18,9 @@ pub const PAGE: u64 = 4_096;
 /// Pages of the file, all of them cached.
 pub const PAGES: u64 = FILE_SIZE / PAGE;
 
-/// How many blocks the device has.
-pub const BLOCKS: u64 = 2 * PAGES;
-
-/// A frame for each page of the file, and each may be dirty.
+/// A frame and two blocks for each page of the file, and each may be dirty.
 pub fn geometry() -> Result<Geometry, Refusal> {
-    Geometry::new(PAGE, PAGES + 64, PAGES + 32, BLOCKS)
+    Geometry::new(PAGE, PAGES + 64, PAGES + 32, 2 * PAGES)
 }
 
 /// How many bytes a read reads.
@@ -126,8 +123,9 @@ pub struct Cached {
 impl Cached {
     /// The file has the plain bytes.
     pub fn new(alloc: Global, plain: &Plain) -> Result<Cached, Refusal> {
-        let device = MemDevice::new(alloc, PAGE, BLOCKS)?;
-        let mut file = OpenFile::new(alloc, &geometry()?, device)?;
+        let geometry = geometry()?;
+        let device = MemDevice::new(alloc, geometry.page(), geometry.blocks())?;
+        let mut file = OpenFile::new(alloc, &geometry, device)?;
         for page in 0..PAGES {
             file.pwrite(page * PAGE, plain.at(page * PAGE, PAGE as usize))?;
         }

@@ -186,9 +186,18 @@ fn four_of<B: Naming>(seats: &mut Vec<Seat>) -> Option<(Seat, Seat, Seat, Seat)>
     requires { All (λ s. s.table ≡ B.table) seats.old.items }
     ensures { IfSome result (λ r. (r.0.table ≡ B.table) × (r.1.table ≡ B.table) × (r.2.table ≡ B.table) × (r.3.table ≡ B.table)) }
 {
-    let fourth = seats.pop()?;
-    let third = seats.pop()?;
+    let (third, fourth) = two_of::<B>(seats)?;
+    let (first, second) = two_of::<B>(seats)?;
+    Some((first, second, third, fourth))
+}
+
+/// Takes the last two of the seats.
+fn two_of<B: Naming>(seats: &mut Vec<Seat>) -> Option<(Seat, Seat)>
+    requires { All (λ s. s.table ≡ B.table) seats.old.items }
+    ensures left { All (λ s. s.table ≡ B.table) seats.new.items }
+    ensures two { IfSome result (λ r. (r.0.table ≡ B.table) × (r.1.table ≡ B.table)) }
+{
     let second = seats.pop()?;
     let first = seats.pop()?;
-    Some((first, second, third, fourth))
+    Some((first, second))
 }

@@ -8,7 +8,7 @@ ghost use Rattle.shared.specs.Keeps.{IsDisk};
 ghost use Rattle.shared.specs.Workers.{IsWorkerOf};
 ghost use Rattle.bench_shared.specs.declared.reads.TheConstants.{READS};
 
-use crate::cached::{BLOCKS, Cached, FILE_SIZE, PAGE, Plain, Reads, Size, geometry};
+use crate::cached::{Cached, FILE_SIZE, Plain, Reads, Size, geometry};
 use crate::clock::Timed;
 use crate::fault::Fault;
 use crate::numbers::Numbers;
@@ -266,7 +266,7 @@ fn time_beside<R: Threads + Wait + Sync>(
 ) -> Result<(), Fault> {
     let alloc = rt.alloc();
     let geometry = geometry()?;
-    let device = MemDevice::new(alloc, PAGE, BLOCKS)?;
+    let device = MemDevice::new(alloc, geometry.page(), geometry.blocks())?;
     match Parts::make(
         threads,
         alloc,

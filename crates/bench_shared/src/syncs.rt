@@ -23,8 +23,8 @@ pub const PAGE: u64 = 4_096;
 /// How many blocks the device has.
 pub const BLOCKS: u64 = 4_096;
 
-/// How many rounds a row has.
-const ROUNDS: usize = 25;
+/// How many rounds a row has: more than others, since the disk has other work too.
+const ROUNDS: usize = 100;
 
 /// The best times of the two rows.
 #[derive(Clone, Copy)]
