@@ -1,8 +1,10 @@
 //! A round of syncs writes what it says, to the device and to the plain file.
 
+use crate::fault::Fault;
 use crate::syncs::{BLOCKS, PAGE, PAGES, Synced, device_at};
-use blockdev::{BlockDevice, MemDevice};
-use pc_types::{BlockNo, ErrCode};
+use blockdev::{BlockDevice, FileDevice, MemDevice};
+use pc_types::{BlockNo, ErrCode, Refusal};
+use std::mem::drop;
 use std::sync::atomic::{AtomicU64, Ordering};
 use std::test::Fail;
 use std::{env, fs, process};
@@ -68,14 +70,39 @@ impl<'a> BlockDevice for Counted<'a> {
     }
 }
 
-/// The path of a file that the test makes.
+/// The path of a file that a test makes.
 fn path_of(rt: &HostRuntime, name: &str) -> Result<String, Fail> {
     let mut path = env::temp_dir(rt)?;
-    path.push(format!(in rt.alloc();
-        "bench_shared-{name}-{}",
-        process::id(rt.process())
-    )?.as_str())?;
+    let id = process::id(rt.process());
+    path.push(format!(in rt.alloc(); "bench_shared-{name}-{id}")?.as_str())?;
     Ok(path.to_string_lossy().to_owned(rt.alloc())?)
+}
+
+/// The counts after the writes and after the sync of each of two rounds.
+fn counts_of(rt: &HostRuntime, path: &str, counts: &Counts) -> Result<[(u64, u64); 4], Fault> {
+    let device = Counted {
+        device: MemDevice::new(rt.alloc(), PAGE, BLOCKS)?,
+        counts,
+    };
+    let mut synced = Synced::new(rt, device, path)?;
+    let seen = counts_in(&mut synced, counts);
+    // by a call, since the check is slow where a service goes out of scope
+    drop(synced);
+    Ok(seen?)
+}
+
+fn counts_in(
+    synced: &mut Synced<Counted<'_>>,
+    counts: &Counts,
+) -> Result<[(u64, u64); 4], Refusal> {
+    synced.prepare()?;
+    let written = counts.seen();
+    synced.sync()?;
+    let once = counts.seen();
+    synced.prepare()?;
+    let written_again = counts.seen();
+    synced.sync()?;
+    Ok([written, once, written_again, counts.seen()])
 }
 
 // An fsync writes each page once and flushes once. The writes before it write none.
@@ -86,40 +113,44 @@ fn each_page_is_written_by_the_fsync(rt: HostRuntime) -> Result<(), Fail> {
         writes: AtomicU64::new(0),
         flushes: AtomicU64::new(0),
     };
-    let device = Counted {
-        device: MemDevice::new(rt.alloc(), PAGE, BLOCKS)?,
-        counts: &counts,
-    };
-    let mut synced = Synced::new(&rt, device, path.as_str())?;
-    for round in 0..3 {
-        synced.prepare()?;
-        assert_eq!(&rt; counts.seen(), (round * PAGES, round));
-        synced.sync()?;
-        assert_eq!(&rt; counts.seen(), (round * PAGES + PAGES, round + 1));
-    }
-    drop(synced);
+    let seen = counts_of(&rt, path.as_str(), &counts)?;
+    assert_eq!(&rt; seen, [(0, 0), (PAGES, 1), (PAGES, 1), (2 * PAGES, 2)]);
     fs::remove_file(&rt, path.as_str())?;
     Ok(())
 }
 
-// Both files have the pages, and those of the next round are others.
+/// Whether both files have the pages of the second of two rounds, which are others than those of the first.
+fn has_written_both(rt: &HostRuntime, path: &str, plain: &str) -> Result<bool, Fault> {
+    let device = device_at(rt, path)?;
+    let mut synced = Synced::new(rt, device, plain)?;
+    let has_written = has_written_in(rt, &mut synced, path, plain);
+    drop(synced);
+    has_written
+}
+
+fn has_written_in(
+    rt: &HostRuntime,
+    synced: &mut Synced<FileDevice>,
+    path: &str,
+    plain: &str,
+) -> Result<bool, Fault> {
+    synced.prepare()?;
+    let first = synced.pages().to_vec(rt.alloc())?;
+    synced.prepare()?;
+    synced.sync()?;
+    synced.write_plain()?;
+    let on_device = fs::read(rt, path)?;
+    let in_plain = fs::read(rt, plain)?;
+    let pages = synced.pages();
+    let is_new = first.as_slice() != pages;
+    Ok(is_new && in_plain.as_slice() == pages && on_device.as_slice().starts_with(pages))
+}
+
 #[test]
 fn both_files_have_the_pages(rt: HostRuntime) -> Result<(), Fail> {
     let path = path_of(&rt, "synced")?;
     let plain = path_of(&rt, "plain")?;
-    let device = device_at(&rt, path.as_str())?;
-    let mut synced = Synced::new(&rt, device, plain.as_str())?;
-    synced.prepare()?;
-    let first = synced.pages().to_vec(rt.alloc())?;
-    synced.prepare()?;
-    assert!(&rt; first.as_slice() != synced.pages());
-    synced.sync()?;
-    synced.write_plain()?;
-    let on_device = fs::read(&rt, path.as_str())?;
-    let in_plain = fs::read(&rt, plain.as_str())?;
-    assert!(&rt; in_plain.as_slice() == synced.pages());
-    assert!(&rt; on_device.as_slice().starts_with(synced.pages()));
-    drop(synced);
+    assert!(&rt; has_written_both(&rt, path.as_str(), plain.as_str())?);
     fs::remove_file(&rt, path.as_str())?;
     fs::remove_file(&rt, plain.as_str())?;
     Ok(())
