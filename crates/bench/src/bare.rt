@@ -1,6 +1,6 @@
 //! A cache without a service: its core, its device and the buffer that goes between them.
 
-ghost use Rattle.std.specs.Prelude.{◌≡◌, ◌+◌, ◌≤◌, IfOk, length};
+ghost use Rattle.std.specs.Prelude.{◌≡◌, ◌+◌, ◌≤◌, IfOk, IfSome, None, length};
 ghost use Rattle.pc_types.specs.declared.limits.TheConstants.{MAX_FRAMES};
 
 use crate::files::{FILL, PAGE};
@@ -34,7 +34,7 @@ impl Model for Bare {
 
     ghost view = { λ b. tt };
 
-    ghost invariant = { λ b. Fits b.core.state b.device b.buffer };
+    ghost invariant = { λ b. Fits b.core.state.sizes b.device b.buffer };
 }
 
 impl Bare {
@@ -63,7 +63,7 @@ impl Bare {
     {
         self.resize(0)?;
         for page in 0..dirty {
-            self.write(page)?;
+            self.write(page * PAGE, &[FILL; PAGE as usize])?;
         }
         self.resize((dirty + clean) * PAGE)?;
         for page in dirty..dirty + clean {
@@ -77,17 +77,14 @@ impl Bare {
         Ok(())
     }
 
-    fn write(&mut self, page: u64) -> Result<(), Refusal>
-        requires { page ≤ MAX_FRAMES }
-    {
-        self.core
-            .write(HANDLE, page * PAGE, &[FILL; PAGE as usize])?;
+    fn write(&mut self, offset: u64, bytes: &[u8]) -> Result<(), Refusal> {
+        self.core.write(HANDLE, offset, bytes)?;
         Ok(())
     }
 
     /// Fills a page that was never written, which takes no device call.
     fn fill(&mut self, page: u64) -> Result<(), Refusal> {
-        let buffer = self.take_buffer()?;
+        let buffer = buffer_for(&self.core, &mut self.buffer, self.alloc)?;
         match self.core.fill_begin(HANDLE, PageIndex(page), buffer) {
             Ok(FillBegun::Filled(buffer)) => {
                 self.buffer = Some(buffer);
@@ -110,7 +107,7 @@ impl Bare {
     /// Begins the flush of the lowest dirty page, writes it to the device, and ends it.
     #[inline(always)]
     fn flush_one(&mut self) -> Result<(), Refusal> {
-        let buffer = self.take_buffer()?;
+        let buffer = buffer_for(&self.core, &mut self.buffer, self.alloc)?;
         let Ok(FlushBegun::Job(job)) = self.core.flush_begin(FILE, buffer) else {
             return Err(Refusal::Busy);
         };
@@ -120,14 +117,6 @@ impl Bare {
         };
         self.buffer = Some(buffer);
         Ok(())
-    }
-
-    /// A buffer with any bytes.
-    fn take_buffer(&mut self) -> Result<Buffer, Refusal> {
-        match self.buffer.take() {
-            Some(buffer) => Ok(buffer),
-            None => Buffer::new(self.alloc, &self.core.geometry()),
-        }
     }
 
     /// Evicts so many pages, and gives the sum of their numbers.
@@ -140,5 +129,21 @@ impl Bare {
             }
         }
         sum
+    }
+}
+
+/// A buffer for a request, with any bytes: the one that came back, where there is one.
+fn buffer_for(
+    core: &CacheCore,
+    spare: &mut Option<Buffer>,
+    alloc: Global,
+) -> Result<Buffer, Refusal>
+    requires { IfSome spare.old (λ bytes. length bytes ≡ core.now.state.sizes.page) }
+    ensures size { IfOk result (λ buffer. length buffer ≡ core.now.state.sizes.page) }
+    ensures taken { spare.new ≡ None }
+{
+    match spare.take() {
+        Some(buffer) => Ok(buffer),
+        None => Buffer::new(alloc, &core.geometry()),
     }
 }

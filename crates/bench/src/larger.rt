@@ -1,7 +1,5 @@
 //! A file that is larger than the cache it is read through.
 
-ghost use Rattle.std.specs.Prelude.{◌<◌, length};
-
 use crate::files::{FILL, PAGE, PAGES};
 use crate::open_file::OpenFile;
 use pc_types::limits::CLEAN_FRAMES;
@@ -45,45 +43,49 @@ impl Larger {
 
     /// Reads the second half of the file, so that its last quarter is cached.
     pub fn cache_the_end(&mut self) -> Result<(), Refusal> {
-        let mut out = [0; PAGE as usize];
-        for page in HALF..TIMES_THE_CACHE {
-            self.read(page * PAGE, &mut out)?;
-        }
+        read_pages(&mut self.file, HALF)?;
         Ok(())
     }
 
     /// Reads the pages of the first half in their random order, and gives the sum of what `read` answers.
-    #[inline(never)]
     pub fn read_at_random(&mut self) -> Result<u64, Refusal> {
-        let mut out = [0; PAGE as usize];
-        let mut sum = 0u64;
-        for at in 0..self.offsets.len() {
-            let offset = self.offsets[at];
-            sum = sum.wrapping_add(self.read(offset, &mut out)?);
-        }
-        Ok(sum)
+        read_each(&mut self.file, self.offsets.as_slice())
     }
 
     /// Reads the file from its beginning to its end, page by page, and gives the sum of what `read` answers.
-    #[inline(never)]
     pub fn read_in_order(&mut self) -> Result<u64, Refusal> {
-        let mut out = [0; PAGE as usize];
-        let mut sum = 0u64;
-        for page in 0..TIMES_THE_CACHE {
-            sum = sum.wrapping_add(self.read(page * PAGE, &mut out)?);
-        }
-        Ok(sum)
+        read_pages(&mut self.file, 0)
     }
+}
 
-    /// Answers how many bytes were read, the first of them, and how many attempts that took: two where the page was absent.
-    #[inline(always)]
-    fn read(&mut self, offset: u64, out: &mut [u8]) -> Result<u64, Refusal>
-        requires { 0 < length out.old }
-    {
-        let count = self.file.pread(offset, out)?;
-        let first = u64::from(out[0]);
-        Ok(count.wrapping_add(first).wrapping_add(self.file.attempts()))
+/// Reads the pages that begin at these offsets.
+#[inline(never)]
+fn read_each(file: &mut OpenFile, offsets: &[u64]) -> Result<u64, Refusal> {
+    let mut out = [0; PAGE as usize];
+    let mut sum = 0u64;
+    for offset in offsets {
+        sum = sum.wrapping_add(read(file, *offset, &mut out)?);
     }
+    Ok(sum)
+}
+
+/// Reads the pages from this one to the last, in their order.
+#[inline(never)]
+fn read_pages(file: &mut OpenFile, first: u64) -> Result<u64, Refusal> {
+    let mut out = [0; PAGE as usize];
+    let mut sum = 0u64;
+    for page in first..TIMES_THE_CACHE {
+        sum = sum.wrapping_add(read(file, page * PAGE, &mut out)?);
+    }
+    Ok(sum)
+}
+
+/// Answers how many bytes were read, the first of them, and how many attempts that took: two where the page was absent.
+#[inline(always)]
+fn read(file: &mut OpenFile, offset: u64, out: &mut [u8; PAGE as usize]) -> Result<u64, Refusal> {
+    let count = file.pread(offset, out)?;
+    let first = u64::from(out[0]);
+    Ok(count.wrapping_add(first).wrapping_add(file.attempts()))
 }
 
 /// Where the pages of an order begin that are below a number, in this order.
