@@ -24,8 +24,8 @@ pub fn print_rows(rt: &HostRuntime) -> Result<(), Fault> {
     let mut sum = print_form::<Inlined>(rt, order, "")?;
     sum = sum.wrapping_add(print_form::<Outlined>(rt, order, OUTLINED)?);
     sum = sum.wrapping_add(print_files(rt, order)?);
-    sum = sum.wrapping_add(print_larger(rt, &mut Larger::new(rt.alloc(), order)?)?);
-    sum = sum.wrapping_add(print_paths(rt, &mut Bare::new(rt.alloc())?, &BarePath::ALL)?);
+    sum = sum.wrapping_add(print_larger(rt, order)?);
+    sum = sum.wrapping_add(print_bare(rt)?);
     // The sum of all answers: what was timed has to be computed.
     eprintln!(rt; "bench: sum of the answers {sum}")?;
     Ok(())
@@ -74,9 +74,18 @@ fn print_file_rows(rt: &HostRuntime, cached: &mut Cached, order: &[u64]) -> Resu
 }
 
 /// Prints each row over the file that is larger than its cache, and gives the sum of their answers.
-fn print_larger(rt: &HostRuntime, larger: &mut Larger) -> Result<u64, Fault> {
+fn print_larger(rt: &HostRuntime, order: &[u64]) -> Result<u64, Fault> {
+    print_larger_rows(rt, &mut Larger::new(rt.alloc(), order)?)
+}
+
+fn print_larger_rows(rt: &HostRuntime, larger: &mut Larger) -> Result<u64, Fault> {
     larger.fill()?;
     print_paths(rt, larger, &LargerPath::ALL)
+}
+
+/// Prints each row over the cache without a service, and gives the sum of their answers.
+fn print_bare(rt: &HostRuntime) -> Result<u64, Fault> {
+    print_paths(rt, &mut Bare::new(rt.alloc())?, &BarePath::ALL)
 }
 
 /// Prints rows over one thing, and gives the sum of their answers.
