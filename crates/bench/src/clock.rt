@@ -15,7 +15,7 @@ const ROUNDS: usize = 9;
 const FILE_ROUNDS: usize = 40;
 
 /// How many rounds a row of the paths has. Before each it is prepared, which takes longer than the round.
-const PATH_ROUNDS: usize = 20;
+const PATH_ROUNDS: usize = 10;
 
 /// What came of the rounds of a row.
 #[derive(Clone, Copy)]
