@@ -3,6 +3,7 @@
 use crate::fault::Fault;
 use crate::files::{Cached, FileRow};
 use crate::form::{Form, Timed};
+use crate::paths::Path;
 use std::alloc::Global;
 use std::time::{Clock, Duration, Instant};
 
@@ -12,6 +13,9 @@ const ROUNDS: usize = 9;
 /// How many rounds a row of the files has: what it reads is past the caches that a processor has for itself, and there the
 /// machine's other programs are felt.
 const FILE_ROUNDS: usize = 40;
+
+/// How many rounds a row of the paths has. Before each it is prepared, which takes longer than the round.
+const PATH_ROUNDS: usize = 10;
 
 /// What came of the rounds of a row.
 #[derive(Clone, Copy)]
@@ -57,6 +61,21 @@ pub fn time_file_row(
         row.prepare(cached)?;
         let start = Instant::now(clock)?;
         timed.sum = row.run(cached, offsets)?;
+        timed.nanos = timed.nanos.min(nanos(start.elapsed(clock)?));
+    }
+    Ok(timed)
+}
+
+/// Times a row of the paths.
+pub fn time_path<P: Path>(clock: &impl Clock, on: &mut P::On, path: P) -> Result<Best, Fault> {
+    let mut timed = Best {
+        nanos: u64::MAX,
+        sum: 0,
+    };
+    for _ in 0..PATH_ROUNDS {
+        path.prepare(on)?;
+        let start = Instant::now(clock)?;
+        timed.sum = path.run(on)?;
         timed.nanos = timed.nanos.min(nanos(start.elapsed(clock)?));
     }
     Ok(timed)

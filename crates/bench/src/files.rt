@@ -1,11 +1,9 @@
 //! The rows of the files: reads, writes and syncs of a cached file, each read and write beside a plain copy of as many bytes.
 
-ghost use Rattle.std.specs.Prelude.{◌+◌, ◌<◌, ◌≤◌, IfOk, length};
-ghost use Rattle.filesvc.specs.Service.{IsOpen};
+ghost use Rattle.std.specs.Prelude.{◌<◌, ◌≤◌, length};
 ghost use Rattle.bench.specs.declared.files.TheConstants.{FILE_SIZE, PAGE};
 
-use blockdev::MemDevice;
-use filesvc::{Handle, Solo};
+use crate::open_file::OpenFile;
 use pc_types::{Geometry, PageIndex, Refusal};
 use std::alloc::{AllocError, Global};
 use std::marker::Model;
@@ -17,7 +15,7 @@ pub const FILE_SIZE: u64 = 67_108_864;
 pub const PAGE: u64 = 4_096;
 
 /// Pages of the file. Each is cached, and each may be dirty.
-const PAGES: u64 = FILE_SIZE / PAGE;
+pub const PAGES: u64 = FILE_SIZE / PAGE;
 
 /// Bytes of a small read or write.
 pub const SMALL: u64 = 64;
@@ -36,62 +34,6 @@ const RANGE_FIRST: u64 = SYNCED / 2;
 
 /// What each byte of the file is.
 pub const FILL: u8 = 7;
-
-/// A service and a handle that it opened.
-#[derive(Drop)]
-struct OpenFile {
-    solo: Solo<MemDevice>,
-    handle: Handle,
-}
-
-impl Model for OpenFile {
-    ghost use Rattle.filesvc.specs.Service.{IsOpen};
-
-    ghost Value = { Unit };
-
-    ghost view = { λ f. tt };
-
-    ghost invariant = { λ f. IsOpen f.solo f.handle };
-}
-
-impl OpenFile {
-    /// A new file, with a frame and a block for each of its pages.
-    fn new(alloc: Global) -> Result<OpenFile, Refusal> {
-        let geometry = Geometry::new(PAGE, PAGES + 64, PAGES + 32, 2 * PAGES)?;
-        let device = MemDevice::new(alloc, PAGE, 2 * PAGES)?;
-        let Ok(mut solo) = Solo::new(alloc, &geometry, 1, device) else {
-            return Err(Refusal::Memory);
-        };
-        let handle = open_first(&mut solo)?;
-        Ok(OpenFile { solo, handle })
-    }
-
-    #[inline(always)]
-    fn pread(&mut self, offset: u64, out: &mut [u8]) -> Result<u64, Refusal> {
-        self.solo.pread(&self.handle, offset, out)
-    }
-
-    #[inline(always)]
-    fn pwrite(&mut self, offset: u64, bytes: &[u8]) -> Result<u64, Refusal> {
-        self.solo.pwrite(&self.handle, offset, bytes)
-    }
-
-    fn fsync(&mut self) -> Result<(), Refusal> {
-        self.solo.fsync(&mut self.handle)
-    }
-
-    fn fsync_range(&mut self, first: PageIndex, last: PageIndex) -> Result<(), Refusal> {
-        self.solo.fsync_range(&mut self.handle, first, last)
-    }
-}
-
-/// A handle of a new file.
-fn open_first(solo: &mut Solo<MemDevice>) -> Result<Handle, Refusal>
-    ensures { IfOk result (IsOpen solo.new) }
-{
-    let file = solo.create()?;
-    solo.open(file, false)
-}
 
 /// An open file, all of whose pages are cached, and as many plain bytes.
 #[derive(Drop)]
@@ -114,7 +56,8 @@ impl Model for Cached {
 impl Cached {
     pub fn new(alloc: Global) -> Result<Cached, Refusal> {
         let plain = vec![in alloc; FILL; FILE_SIZE as usize]?;
-        let file = OpenFile::new(alloc)?;
+        let geometry = Geometry::new(PAGE, PAGES + 64, PAGES + 32, 2 * PAGES)?;
+        let file = OpenFile::new(alloc, &geometry)?;
         Ok(Cached { file, plain })
     }
 
@@ -128,7 +71,7 @@ impl Cached {
 
     /// Answers how many bytes were read, and the first of them.
     #[inline(always)]
-    fn read(&mut self, offset: u64, out: &mut [u8]) -> Result<u64, Refusal>
+    pub fn read(&mut self, offset: u64, out: &mut [u8]) -> Result<u64, Refusal>
         requires { 0 < length out.old }
     {
         let count = self.file.pread(offset, out)?;
@@ -136,13 +79,13 @@ impl Cached {
     }
 
     #[inline(always)]
-    fn write(&mut self, offset: u64, bytes: &[u8]) -> Result<u64, Refusal> {
+    pub fn write(&mut self, offset: u64, bytes: &[u8]) -> Result<u64, Refusal> {
         self.file.pwrite(offset, bytes)
     }
 
     /// Copies out of the plain bytes, from the last place for so many where `offset` is past it, and answers as `read` does.
     #[inline(always)]
-    fn copy_out(&self, offset: u64, out: &mut [u8]) -> u64
+    pub fn copy_out(&self, offset: u64, out: &mut [u8]) -> u64
         requires some { 0 < length out.old }
         requires small { length out.old ≤ PAGE }
     {
@@ -154,7 +97,7 @@ impl Cached {
 
     /// Copies into the plain bytes, to the last place for so many where `offset` is past it, and answers as `write` does.
     #[inline(always)]
-    fn copy_in(&mut self, offset: u64, bytes: &[u8]) -> u64
+    pub fn copy_in(&mut self, offset: u64, bytes: &[u8]) -> u64
         requires { length bytes.now ≤ PAGE }
     {
         let at = offset.min(FILE_SIZE - bytes.len() as u64) as usize;
@@ -162,7 +105,12 @@ impl Cached {
         bytes.len() as u64
     }
 
-    fn sync(&mut self) -> Result<(), Refusal> {
+    /// Makes the file as long as this.
+    pub fn truncate(&mut self, size: u64) -> Result<(), Refusal> {
+        self.file.truncate(size)
+    }
+
+    pub fn sync(&mut self) -> Result<(), Refusal> {
         self.file.fsync()
     }
 

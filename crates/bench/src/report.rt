@@ -1,13 +1,17 @@
-//! What is printed: a row a line, first of the calls that may be inlined, then of those that may not, and last of the files.
+//! What is printed: a row a line, first of the calls that may be inlined, then of those that may not, then of the files, and last of the
+//! paths.
 
 ghost use Rattle.std.specs.Prelude.{◌≡◌, ◌*◌, ◌/◌, ◌^◌, ◌<◌};
 
-use crate::clock::{Best, time_file_row, time_row};
+use crate::bare::Bare;
+use crate::clock::{Best, time_file_row, time_path, time_row};
 use crate::fault::Fault;
 use crate::files::{Cached, FileRow};
 use crate::form::{Form, Inlined, Outlined, Timed};
 use crate::ids::IdRow;
+use crate::larger::Larger;
 use crate::order::random_order;
+use crate::paths::{BarePath, CachedPath, LargerPath, Path};
 use crate::row::Row;
 use crate::words::WordRow;
 
@@ -20,6 +24,8 @@ pub fn print_rows(rt: &HostRuntime) -> Result<(), Fault> {
     let mut sum = print_form::<Inlined>(rt, order, "")?;
     sum = sum.wrapping_add(print_form::<Outlined>(rt, order, OUTLINED)?);
     sum = sum.wrapping_add(print_files(rt, order)?);
+    sum = sum.wrapping_add(print_larger(rt, order)?);
+    sum = sum.wrapping_add(print_bare(rt)?);
     // The sum of all answers: what was timed has to be computed.
     eprintln!(rt; "bench: sum of the answers {sum}")?;
     Ok(())
@@ -50,7 +56,7 @@ fn print_each<F: Form, R: Timed>(
     Ok(sum)
 }
 
-/// Prints each row of the files, all over one file, and gives the sum of their answers.
+/// Prints each row over the file whose pages are all cached, and gives the sum of their answers.
 fn print_files(rt: &HostRuntime, order: &[u64]) -> Result<u64, Fault> {
     print_file_rows(rt, &mut Cached::new(rt.alloc())?, order)
 }
@@ -62,6 +68,33 @@ fn print_file_rows(rt: &HostRuntime, cached: &mut Cached, order: &[u64]) -> Resu
         let offsets = row.offsets(rt.alloc(), order)?;
         let timed = time_file_row(rt, cached, row, offsets.as_slice())?;
         print_row(rt, timed, row.count(), row.label(), "")?;
+        sum = sum.wrapping_add(timed.sum);
+    }
+    Ok(sum.wrapping_add(print_paths(rt, cached, &CachedPath::ALL)?))
+}
+
+/// Prints each row over the file that is larger than its cache, and gives the sum of their answers.
+fn print_larger(rt: &HostRuntime, order: &[u64]) -> Result<u64, Fault> {
+    print_larger_rows(rt, &mut Larger::new(rt.alloc(), order)?)
+}
+
+fn print_larger_rows(rt: &HostRuntime, larger: &mut Larger) -> Result<u64, Fault> {
+    larger.fill()?;
+    print_paths(rt, larger, &LargerPath::ALL)
+}
+
+/// Prints each row over the cache without a service, and gives the sum of their answers.
+fn print_bare(rt: &HostRuntime) -> Result<u64, Fault> {
+    print_paths(rt, &mut Bare::new(rt.alloc())?, &BarePath::ALL)
+}
+
+/// Prints rows over one thing, and gives the sum of their answers.
+fn print_paths<P: Path>(rt: &HostRuntime, on: &mut P::On, paths: &[P]) -> Result<u64, Fault> {
+    let mut sum = 0u64;
+    for path in paths {
+        let path = *path;
+        let timed = time_path(rt, on, path)?;
+        print_row(rt, timed, path.count(), path.label(), "")?;
         sum = sum.wrapping_add(timed.sum);
     }
     Ok(sum)

@@ -1,9 +1,12 @@
 //! What the rows compute: a row that skips its work would be fast.
 
-use crate::files::{CALLS, Cached, FILL, FileRow, PAGE, SMALL, SYNCED, SYNCED_OF_RANGE};
+use crate::bare::Bare;
+use crate::files::{CALLS, Cached, FILL, FileRow, PAGE, PAGES, SMALL, SYNCED, SYNCED_OF_RANGE};
 use crate::form::{Form, Inlined, Outlined, Timed};
 use crate::ids::{HOLES, IdRow};
+use crate::larger::{HALF, Larger, TIMES_THE_CACHE};
 use crate::order::{ENTRIES, random_order};
+use crate::paths::{BEHIND, BarePath, CachedPath, EVICTED, FEW, FLUSHED, LargerPath, Path};
 use crate::report::hundredths_each;
 use crate::row::Row;
 use crate::words::{LOOKS, WordRow};
@@ -118,6 +121,72 @@ fn check_files(
         row.prepare(cached)?;
         assert_eq!(rt; row.run(cached, offsets.as_slice())?, expected, "{label}");
     }
+    Ok(())
+}
+
+/// A row that was prepared.
+fn run_path<P: Path>(on: &mut P::On, path: P) -> Result<u64, Fail> {
+    path.prepare(on)?;
+    Ok(path.run(on)?)
+}
+
+/// A write answers its count, and a file that was cut off has no byte: none of its pages is left, and those that are written next
+/// are new.
+#[test]
+fn paths_over_a_cached_file_do_their_work(rt: HostRuntime) -> Result<(), Fail> {
+    check_cached_paths(&rt, &mut Cached::new(rt.alloc())?)
+}
+
+fn check_cached_paths(rt: &impl Abort, cached: &mut Cached) -> Result<(), Fail> {
+    let fill = u64::from(FILL);
+    for path in CachedPath::ALL {
+        let expected = match path {
+            CachedPath::CopyOut => PAGES * (PAGE + fill),
+            CachedPath::CopyIn | CachedPath::MakePage => PAGES * PAGE,
+            CachedPath::Truncate => PAGES,
+            CachedPath::SyncFew => FEW,
+        };
+        let label = path.label();
+        assert_eq!(rt; run_path(cached, path)?, expected, "{label}");
+    }
+    CachedPath::MakePage.prepare(cached)?;
+    assert_eq!(rt; cached.read(0, &mut [0; 1])?, 0);
+    run_path(cached, CachedPath::Truncate)?;
+    assert_eq!(rt; cached.read(0, &mut [0; 1])?, 0);
+    Ok(())
+}
+
+/// Each read takes two attempts, one to find its page absent and one after the page was filled.
+#[test]
+fn paths_over_a_larger_file_do_their_work(rt: HostRuntime) -> Result<(), Fail> {
+    let order = random_order(rt.alloc())?;
+    check_larger_paths(&rt, &mut Larger::new(rt.alloc(), order.as_slice())?)
+}
+
+fn check_larger_paths(rt: &impl Abort, larger: &mut Larger) -> Result<(), Fail> {
+    larger.fill()?;
+    let each = PAGE + u64::from(FILL) + 2;
+    assert_eq!(rt; run_path(larger, LargerPath::FillPage)?, HALF * each);
+    assert_eq!(rt;
+        run_path(larger, LargerPath::ReadInOrder)?,
+        TIMES_THE_CACHE * each
+    );
+    assert_eq!(rt; run_path(larger, LargerPath::FillPage)?, HALF * each);
+    Ok(())
+}
+
+/// Each flush writes a block. The pages behind the dirty ones are evicted in the order in which they came.
+#[test]
+fn paths_over_a_bare_cache_do_their_work(rt: HostRuntime) -> Result<(), Fail> {
+    check_bare_paths(&rt, &mut Bare::new(rt.alloc())?)
+}
+
+fn check_bare_paths(rt: &impl Abort, bare: &mut Bare) -> Result<(), Fail> {
+    assert_eq!(rt; run_path(bare, BarePath::Flush)?, FLUSHED);
+    assert_eq!(rt; bare.flush(1).is_ok(), false, "none is dirty");
+    let numbers = (BEHIND..BEHIND + EVICTED).fold(0u64, |sum, page| sum.wrapping_add(page));
+    assert_eq!(rt; run_path(bare, BarePath::Evict)?, numbers);
+    assert_eq!(rt; run_path(bare, BarePath::Flush)?, FLUSHED);
     Ok(())
 }
 

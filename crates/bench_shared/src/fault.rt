@@ -1,5 +1,6 @@
 //! Why the bench ends before its last row.
 
+use locked::denied::Denied;
 use pc_types::{ErrCode, Refusal};
 use std::alloc::AllocError;
 use std::io;
@@ -10,6 +11,8 @@ pub enum Fault {
     System,
     #[error("out of memory")]
     Memory,
+    #[error("a call answered what it should not")]
+    Odd,
 }
 
 impl Fault {
@@ -18,6 +21,7 @@ impl Fault {
         match self {
             Fault::System => 3,
             Fault::Memory => 4,
+            Fault::Odd => 5,
         }
     }
 }
@@ -41,6 +45,13 @@ impl From<Refusal> for Fault {
             Refusal::Io(_) => Fault::System,
             _ => Fault::Memory,
         }
+    }
+}
+
+/// So are those of the shared cache.
+impl From<Denied> for Fault {
+    fn from(denied: Denied) -> Fault {
+        Fault::from(denied.refusal)
     }
 }
 

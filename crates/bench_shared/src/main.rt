@@ -1,16 +1,25 @@
 #![tactic(auto)]
 //! Times what several threads share: `bench_shared time [PATH]` prints a row a call, as `12.34 ns  append of a read of 64 bytes`.
-//! The rows of a device stand over a file that is made at PATH, and are left out without one.
+//! The rows of a device and those of syncs stand over files that are made at PATH and beside it, and are left out without one.
 //!
-//! `trails` has the rows of the trail, `holds` those of the locked state, `jobs` those of the ring, `blocks` those of a device over a file, `clock` the best
-//! time of several rounds, and `report` what is printed.
+//! `trails` has the rows of the trail, `holds` those of the locked state, `jobs` those of the ring, `reads` those of cached reads, `blocks` those of a device
+//! over a file, and `syncs` those of syncs. `cached` has what the reads of a shared cache are compared with, `readers` the threads that read, `opened` a file
+//! of a service for one thread, `numbers` a cheap generator, `clock` the best time of several rounds, and `report` what is printed.
 
 mod blocks;
+mod cached;
 mod clock;
 mod fault;
 mod holds;
 mod jobs;
+mod numbers;
+mod opened;
+mod readers;
+mod reads;
 mod report;
+#[cfg(test)]
+mod sync_tests;
+mod syncs;
 #[cfg(test)]
 mod tests;
 mod trails;

@@ -8,11 +8,12 @@ use crate::fault::Fault;
 use crate::holds::READS;
 use crate::jobs::TURNS;
 use crate::trails::{Recorded, TrailRow};
-use crate::{holds, jobs};
+use crate::{holds, jobs, reads, syncs};
 use std::sync::Wait;
 use std::thread::Threads;
 
-/// Prints all rows. Those of a device stand over a file that is made at the path, and are left out if there is none.
+/// Prints all rows. Those of a device and of syncs stand over files that are made at the path and beside it, and are left out if there
+/// is none.
 pub fn print_rows<W: Wait + Threads + Sync>(
     rt: &HostRuntime,
     threads: &W,
@@ -20,8 +21,10 @@ pub fn print_rows<W: Wait + Threads + Sync>(
 ) -> Result<(), Fault> {
     let mut sum = print_trails(rt)?.wrapping_add(print_holds(rt)?);
     sum = sum.wrapping_add(print_jobs(rt, threads)?);
+    sum = sum.wrapping_add(print_reads(rt, threads)?);
     if let Some(path) = path {
         sum = sum.wrapping_add(print_blocks(rt, path)?);
+        sum = sum.wrapping_add(print_syncs(rt, path)?);
     }
     // The sum of all answers: what was timed has to be computed.
     eprintln!(rt; "bench_shared: sum of the answers {sum}")?;
@@ -61,6 +64,34 @@ fn print_blocks(rt: &HostRuntime, path: &str) -> Result<u64, Fault> {
         sum = sum.wrapping_add(timed.sum);
     }
     Ok(sum)
+}
+
+/// Prints each row of cached reads.
+fn print_reads<W: Wait + Threads + Sync>(rt: &HostRuntime, threads: &W) -> Result<u64, Fault> {
+    let mut sum = 0u64;
+    for entry in &reads::time_reads(rt, threads, reads::READS, reads::ROUNDS)? {
+        print_row(rt, entry.timed, entry.row.count(), entry.row.label())?;
+        sum = sum.wrapping_add(entry.timed.sum);
+    }
+    Ok(sum)
+}
+
+/// Prints an fsync, and the same pages written to a plain file and synced.
+fn print_syncs(rt: &HostRuntime, path: &str) -> Result<u64, Fault> {
+    let times = syncs::time_syncs(rt, path)?;
+    print_row(
+        rt,
+        times.synced,
+        syncs::PAGES,
+        "fsync of 1,000 dirty pages, FileDevice, per page",
+    )?;
+    print_row(
+        rt,
+        times.plain,
+        syncs::PAGES,
+        "1,000 writes of 4,096 bytes and one sync_data, per page",
+    )?;
+    Ok(times.synced.sum.wrapping_add(times.plain.sum))
 }
 
 /// Prints a read by the core alone, and as a hold.

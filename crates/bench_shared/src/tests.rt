@@ -4,6 +4,7 @@ use crate::blocks::{Disk, DiskRow};
 use crate::clock::Timed;
 use crate::jobs;
 use crate::jobs::TURNS;
+use crate::reads::{ReadRow, TimedRow, time_reads};
 use crate::report::hundredths_each;
 use crate::trails::{ENTRIES, Recorded, TrailRow};
 use pc_types::Refusal;
@@ -49,6 +50,35 @@ fn jobs_go_round(rt: HostRuntime) -> Result<(), Fail> {
     assert!(&rt; jobs::time_between_two(&rt, &rt, &mut handed).is_ok());
     assert_eq!(&rt; alone.sum, 1);
     assert_eq!(&rt; handed.sum, 2 * TURNS);
+    Ok(())
+}
+
+/// The sum of the answers of a row's last round.
+fn sum_of(rows: &[TimedRow], row: ReadRow) -> Option<u64> {
+    let entry = rows.iter().find(|entry| entry.row == row)?;
+    Some(entry.timed.sum)
+}
+
+// No row is timed but over reads that answer what stands there, and all rows of a thread answer the same.
+#[test]
+fn reads_answer_what_stands_there(rt: HostRuntime) -> Result<(), Fail> {
+    let rows = time_reads(&rt, &rt, 100, 1)?;
+    let rows = rows.as_slice();
+    assert_eq!(&rt; rows.len(), ReadRow::ALL.len());
+    assert!(&rt; sum_of(rows, ReadRow::SoloSmall) > Some(6_400));
+    assert_eq!(&rt;
+        sum_of(rows, ReadRow::OneSmall),
+        sum_of(rows, ReadRow::SoloSmall)
+    );
+    assert!(&rt; sum_of(rows, ReadRow::SoloPage) > Some(409_600));
+    assert_eq!(&rt;
+        sum_of(rows, ReadRow::CopyPage),
+        sum_of(rows, ReadRow::SoloPage)
+    );
+    assert_eq!(&rt;
+        sum_of(rows, ReadRow::OnePage),
+        sum_of(rows, ReadRow::SoloPage)
+    );
     Ok(())
 }
 

@@ -1,4 +1,3 @@
-use Rattle.std.proofs.Common.{◌≡◌}
 use Rattle.ring.specs.Serving.{Carries, Serves}
 use Rattle.bench_shared.proofs.jobs.time_between_two.Given as goal
 

@@ -1,4 +1,4 @@
-use Rattle.bench.proofs.files.open_first.Goals as goal
+use Rattle.bench.proofs.open_file.open_first.Goals as goal
 use Rattle.bench.proofs.Opening.{opens}
 
 pub returns : goal.returns

@@ -1,0 +1,60 @@
+//! A file that is open at a service for one thread.
+
+ghost use Rattle.std.specs.Prelude.{IfOk};
+ghost use Rattle.filesvc.specs.Service.{IsOpen};
+
+use blockdev::BlockDevice;
+use filesvc::{Handle, Solo};
+use pc_types::{Geometry, Refusal};
+use std::alloc::Global;
+use std::marker::Model;
+
+/// A service over a device, and a handle that it opened.
+#[derive(Drop)]
+pub struct OpenFile<D: BlockDevice> {
+    solo: Solo<D>,
+    handle: Handle,
+}
+
+impl<D: BlockDevice> Model for OpenFile<D> {
+    ghost use Rattle.filesvc.specs.Service.{IsOpen};
+
+    ghost Value = { Unit };
+
+    ghost view = { λ f. tt };
+
+    ghost invariant = { λ f. IsOpen f.solo f.handle };
+}
+
+impl<D: BlockDevice> OpenFile<D> {
+    /// A new file of a new service over the device.
+    pub fn new(alloc: Global, geometry: &Geometry, device: D) -> Result<OpenFile<D>, Refusal> {
+        let Ok(mut solo) = Solo::new(alloc, geometry, 1, device) else {
+            return Err(Refusal::Memory);
+        };
+        let handle = open_first(&mut solo)?;
+        Ok(OpenFile { solo, handle })
+    }
+
+    #[inline(always)]
+    pub fn pread(&mut self, offset: u64, out: &mut [u8]) -> Result<u64, Refusal> {
+        self.solo.pread(&self.handle, offset, out)
+    }
+
+    #[inline(always)]
+    pub fn pwrite(&mut self, offset: u64, bytes: &[u8]) -> Result<u64, Refusal> {
+        self.solo.pwrite(&self.handle, offset, bytes)
+    }
+
+    pub fn fsync(&mut self) -> Result<(), Refusal> {
+        self.solo.fsync(&mut self.handle)
+    }
+}
+
+/// A handle of a new file.
+fn open_first<D: BlockDevice>(solo: &mut Solo<D>) -> Result<Handle, Refusal>
+    ensures { IfOk result (IsOpen solo.new) }
+{
+    let file = solo.create()?;
+    solo.open(file, false)
+}
