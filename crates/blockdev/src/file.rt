@@ -95,7 +95,7 @@ fn open_long<R: Files<File = File>, P: AsPath>(files: &R, path: P, bytes: u64) -
 
 impl<F: FileExt + OpenFile + Drop> FileDevice<F> {
     /// A device over an open file which is long enough. `spare` is for the bytes of a block.
-    pub(crate) fn new(file: F, size: u64, count: u64, spare: Vec<u8>) -> FileDevice<F>
+    pub fn new(file: F, size: u64, count: u64, spare: Vec<u8>) -> FileDevice<F>
         requires spare { vec_len spare ≡ size }
         requires within { count * size < 2 ^ 63 }
         ensures { result ≡ silent size count }

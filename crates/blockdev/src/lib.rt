@@ -17,14 +17,10 @@ pub mod buffer;
 pub mod device;
 pub mod fault;
 pub mod file;
-#[cfg(test)]
-mod file_tests;
 pub mod gated;
 pub mod job;
 pub mod memory;
 pub mod script;
-#[cfg(test)]
-mod tests;
 pub mod watched;
 
 pub use buffer::Buffer;

@@ -9,8 +9,4 @@ mod end;
 pub mod log;
 pub mod state;
 mod steps;
-#[cfg(test)]
-mod tests;
-#[cfg(test)]
-mod trail_tests;
 pub mod views;

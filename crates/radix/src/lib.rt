@@ -19,8 +19,6 @@ mod nodes;
 mod parts;
 mod removal;
 mod slot;
-#[cfg(test)]
-mod tests;
 mod tree;
 
 pub use entry::{Cursor, Entry, Near, Position, Walk};

@@ -9,11 +9,7 @@ mod answer;
 mod command;
 mod keyword;
 mod passes;
-#[cfg(test)]
-mod row_tests;
 pub mod run;
 mod session;
-#[cfg(test)]
-mod tests;
 
 pub use run::{run_script, say};

@@ -13,11 +13,7 @@ mod plain;
 mod promises;
 pub mod replay;
 pub mod reserve;
-#[cfg(test)]
-mod room_tests;
 mod sparse;
-#[cfg(test)]
-mod tests;
 pub mod trail;
 
 pub use entry::Entry;

@@ -10,8 +10,6 @@
 mod jobs;
 mod replies;
 pub mod step;
-#[cfg(test)]
-mod tests;
 pub mod world;
 
 pub use step::Step;

@@ -12,8 +12,6 @@ mod array;
 mod entries;
 mod entry;
 mod ranged;
-#[cfg(test)]
-mod tests;
 
 pub use array::{MAX_VALUE, XArray};
 pub use entries::Entries;

@@ -1,8 +1,8 @@
 //! Worked syncs, in a cache of 16-byte pages, 48 frames, a dirty limit of 16 and 64 blocks. The ends of requests are run by the
 //! tests of the world, which makes device calls.
 
-use crate::{CacheCore, PageTags, Refused, SyncStepped};
 use blockdev::Buffer;
+use cachecore::{CacheCore, PageTags, Refused, SyncStepped};
 use pc_types::{FileId, HandleId, PageIndex, Refusal, Serial, SyncId, Tag, Tags};
 use std::alloc::Global;
 use std::process::Abort;

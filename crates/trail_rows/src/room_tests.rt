@@ -1,12 +1,12 @@
 //! The room of a trail.
 
 use crate::tests::{NONE, none, put};
-use crate::{FullTrail, NoTrail, Reserve, Trail};
 use machine::{Event, Reply};
 use pc_types::{HandleId, Refusal};
 use std::alloc::Global;
 use std::process::Abort;
 use std::test::Fail;
+use trail::{FullTrail, NoTrail, Reserve, Trail};
 
 const HANDLE: HandleId = HandleId(0);
 

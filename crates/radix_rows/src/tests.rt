@@ -2,7 +2,7 @@
 ghost use Rattle.std.specs.Prelude.{ℕ, ◌+◌, ◌/◌, ◌%◌, ◌^◌, ◌<◌, ◌≤◌};
 ghost use Rattle.radix.specs.Entries.{StandsAt, IsRun};
 
-use crate::{Cursor, Entry, Nodes};
+use radix::{Cursor, Entry, Nodes};
 use std::test::Fail;
 
 const EDGES: [u64; 7] = [

@@ -1,11 +1,11 @@
 //! Trails that are written by hand, and whether they replay.
 
-use crate::{Entry, FullTrail, Reserve, Trail, first_odd, replay_plain};
 use machine::{End, Event, Outcome, Reply};
 use pc_types::{Bytes, FileId, HandleId, Kind, PageIndex, Refusal, Serial};
 use std::alloc::Global;
 use std::process::Abort;
 use std::test::Fail;
+use trail::{Entry, FullTrail, Reserve, Trail, first_odd, replay_plain};
 
 const HANDLE: HandleId = HandleId(0);
 

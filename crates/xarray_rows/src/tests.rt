@@ -4,10 +4,10 @@ ghost use Rattle.std.specs.Prelude.{◌≡◌, ◌<◌, ◌≤◌, OnOk, true};
 ghost use Rattle.std.specs.FinMap as map;
 ghost use Rattle.xarray.specs.MarkedArray.{remarked, unmarked};
 
-use crate::{Found, MAX_VALUE, Mark, Marked, Marks, XArray};
 use pc_types::Refusal;
 use std::process::Abort;
 use std::test::Fail;
+use xarray::{Found, MAX_VALUE, Mark, Marked, Marks, XArray};
 
 const ALL: u64 = u64::MAX;
 

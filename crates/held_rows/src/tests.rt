@@ -3,12 +3,12 @@
 
 ghost use Rattle.std.specs.Prelude.{◌≡◌, IfSome, length};
 
-use crate::call::{Answer, Call};
-use crate::log::{Seat, Slip};
-use crate::state::Held;
 use blockdev::{BlockDevice, Buffer, FaultEffect, Finished, Job, ScriptDevice, perform};
 use cachecore::{CacheCore, Ended, FillBegun, FlushBegun, ReadAnswer, SyncStepped, WriteAnswer};
 use errboard::{Board, Receipt};
+use held::call::{Answer, Call};
+use held::log::{Seat, Slip};
+use held::state::Held;
 use pc_types::{ErrCode, FileId, Geometry, HandleId, PageIndex, Refusal, SyncId};
 use std::alloc::Global;
 use std::mem::drop;

@@ -1,7 +1,6 @@
 //! A world over a device in memory, as a caller uses it. Every row is run by `over_a_world`, since the check is slow
 //! where a world is dropped.
 
-use super::*;
 use blockdev::{FaultEffect, MemDevice, ScriptDevice};
 use cachecore::{PageTags, Reply};
 use pc_types::{
@@ -9,6 +8,7 @@ use pc_types::{
 };
 use std::alloc::{AllocError, Global};
 use std::process::Abort;
+use world::{Step, World};
 
 fn bytes(alloc: Global, items: &[u8]) -> Result<Bytes, AllocError> {
     Ok(Bytes::from_vec(items.to_vec(alloc)?))

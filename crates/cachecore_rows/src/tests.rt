@@ -3,8 +3,8 @@
 
 use crate::page_life_tests::{evicts, flushes, truncates, truncates_under_a_write};
 use crate::sync_tests::{finishes, syncs, syncs_one_page};
-use crate::{CacheCore, FillBegun, PageTags, ReadAnswer, Refused, WriteAnswer};
 use blockdev::Buffer;
+use cachecore::{CacheCore, FillBegun, PageTags, ReadAnswer, Refused, WriteAnswer};
 use pc_types::{FileId, Geometry, HandleId, PageIndex, Refusal, Tag, Tags};
 use std::alloc::Global;
 use std::process::Abort;

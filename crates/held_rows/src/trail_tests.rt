@@ -2,11 +2,11 @@
 
 ghost use Rattle.std.specs.Prelude.{◌≡◌, All};
 
-use crate::call::{Answer, Call};
-use crate::log::{Seat, Slip, confirm};
-use crate::state::Held;
 use crate::tests::{FILE, HANDLE, opens, reads, writes};
 use cachecore::ReadAnswer;
+use held::call::{Answer, Call};
+use held::log::{Seat, Slip, confirm};
+use held::state::Held;
 use pc_types::{Geometry, HandleId, Refusal};
 use std::alloc::Global;
 use std::mem::drop;

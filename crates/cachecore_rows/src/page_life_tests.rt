@@ -1,8 +1,10 @@
 //! Worked flushes, evictions and truncations, in a cache of 16-byte pages, 48 frames, a dirty limit of 16 and 64 blocks. The ends
 //! of requests are run by the tests of the world, which makes device calls.
 
-use crate::{CacheCore, FlushBegun, PageTags, ReadAnswer, Refused, TruncateAnswer, WriteAnswer};
 use blockdev::Buffer;
+use cachecore::{
+    CacheCore, FlushBegun, PageTags, ReadAnswer, Refused, TruncateAnswer, WriteAnswer,
+};
 use pc_types::{FileId, HandleId, Kind, PageIndex, Refusal, Serial, Tag, Tags};
 use std::alloc::Global;
 use std::process::Abort;

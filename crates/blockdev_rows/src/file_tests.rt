@@ -1,6 +1,6 @@
 //! A device over a file: what it takes, what it refuses, what a system call cut short means, and a flush that failed.
 
-use crate::{BlockDevice, FileDevice};
+use blockdev::{BlockDevice, FileDevice};
 use pc_types::{BlockNo, ErrCode, Refusal};
 use std::cell::Cell;
 use std::fs::{Metadata, OpenFile, OpenOptions};

@@ -1,6 +1,6 @@
 //! Scripts with what they print, what is said on standard error, and the status.
 
-use crate::run::run_script;
+use script::run::run_script;
 use std::alloc::Global;
 use std::io::{BufReader, ErrorKind, Read, Result as IoResult, Write};
 use std::process::Abort;

@@ -1,0 +1,7 @@
+#![tactic(auto)]
+//! The tests of `blockdev`. They are a crate of their own, since a crate with tests is proved once more beside them.
+
+#[cfg(test)]
+mod file_tests;
+#[cfg(test)]
+mod tests;
