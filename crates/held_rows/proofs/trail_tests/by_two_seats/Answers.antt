@@ -2,7 +2,7 @@ use Rattle.std.proofs.Common.{◌≡◌, sym, ◌∙◌}
 use Rattle.std.specs.Prelude.{All, IfSome, Some}
 use Rattle.std.proofs.lemmas.List.Elements.{All-pop, All-weaker}
 use Rattle.held.specs.Shown.{SeatSeen}
-use Rattle.held.proofs.trail_tests.by_two_seats.Goals as goal
+use Rattle.held_rows.proofs.trail_tests.by_two_seats.Goals as goal
 
 pub closes_again-requires-clause-none : goal.closes_again-requires-clause-none
 closes_again-requires-clause-none g c =

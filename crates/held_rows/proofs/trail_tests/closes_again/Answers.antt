@@ -2,7 +2,7 @@ use Rattle.std.proofs.Common.{◌≡◌, List, ap, sym, ◌∙◌}
 use Rattle.std.specs.Prelude.{All}
 use Rattle.std.proofs.lemmas.List.Elements.{All-push, All-same, All-weaker}
 use Rattle.held.specs.Shown.{HeldSeen, SeatSeen}
-use Rattle.held.proofs.trail_tests.closes_again.Goals as goal
+use Rattle.held_rows.proofs.trail_tests.closes_again.Goals as goal
 
 -- the seats that come back are of the state that does
 came : (held back : HeldSeen) (none seats : List SeatSeen) → back ≡ held → seats ≡ none
