@@ -1,6 +1,6 @@
 //! The names of the commands.
 
-ghost use Rattle.std.specs.Prelude.{◌≡◌, ◌≢◌, ◌==◌, MatchOption, find};
+ghost use Rattle.std.specs.Prelude.{◌≡◌, ◌≢◌, MatchOption, All};
 ghost use Rattle.script.specs.Keywords.{name_of};
 ghost use Rattle.script.specs.declared.keyword.Keyword.{Keyword as TheKeyword};
 
@@ -98,7 +98,7 @@ impl Keyword {
 
 /// The first of these keywords that is written so.
 fn written_so(keywords: &[Keyword], word: &[u8]) -> Option<Keyword>
-    ensures { result ≡ find (λ k. name_of k == word.now) keywords.now }
+    ensures { MatchOption result (All (λ (k : TheKeyword). name_of k ≢ word.now) keywords.now) (λ k. name_of k ≡ word.now) }
 {
     keywords
         .iter()
