@@ -3,7 +3,7 @@ use Rattle.std.proofs.Common.{◌≡◌, ℕ, ◌+◌, ◌-◌, ◌*◌, ◌/◌
 use Rattle.std.specs.Prelude.{Some, is_some}
 use Rattle.std.proofs.Math.Nat.{le-div_iff_mul-le}
 use Rattle.machine.specs.State.{page_count}
-use Rattle.runs.proofs.views.View.{View, Flight, Good, RequestIs, HasFlush, Evolves, no_gone, quietly_evolves, put1}
+use Rattle.runs.proofs.views.View.{View, Flight, Good, RequestIs, HasFlush, Goes, no_gone, quietly_evolves, put1}
 use Rattle.runs.proofs.views.View.{put1_tells, writeback, still_flying}
 
 pub page_count_more : (P a b : ℕ) → 0 < P → a ≤ b → page_count P a ≤ page_count P b
@@ -36,9 +36,9 @@ module _ (v : View) (ok : Good v) (f z : ℕ) (more : v.size f ≤ z) where
   flushes : (g q : ℕ) → writeback (after.page g q) ≡ true → HasFlush after g q
   flushes g q e = let j = ok.flushes g q e in still_flying v after g q j refl
 
-  pub grow_kept : Good after
-  grow_kept = assumption (page_in, spot_in, requests, flushes)
-
-  pub grow_evolves : Evolves no_gone v after
-  grow_evolves = quietly_evolves no_gone v after (λ g q _. refl) (λ u r e k d. e) (λ u r e k d _. e) (λ g q _ e. e)
-      (λ g. refl) refl
+  pub grow : Goes no_gone v after
+  grow = (
+    assumption (page_in, spot_in, requests, flushes),
+    quietly_evolves no_gone v after (λ g q _. refl) (λ u r e k d. e) (λ u r e k d _. e) (λ g q _ e. e) (λ g. refl)
+        refl,
+  )
