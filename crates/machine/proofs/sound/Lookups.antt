@@ -108,7 +108,7 @@ removed_tells s f p g q =
     ]
 
 -- a new element at the end that is the default
-get_or-default : {A : Type 0} (xs : List A) (d : A) (j : ℕ) → get_or (xs ++ d ∷ []) j d ≡ get_or xs j d
+pub get_or-default : {A : Type 0} (xs : List A) (d : A) (j : ℕ) → get_or (xs ++ d ∷ []) j d ≡ get_or xs j d
 get_or-default [] d zero = refl
 get_or-default [] d (suc j) = refl
 get_or-default (x ∷ xs) d zero = refl

@@ -22,7 +22,8 @@ use Rattle.runs.proofs.events.Coupled.{view, Coupled, After, with_core, put_plai
 use Rattle.runs.proofs.events.Tables.{Tables, flight_at, request_is}
 use Rattle.runs.proofs.events.Fills.{spot_written, alone}
 use Rattle.runs.proofs.bytes.PageLaws.{overlay-page, untouched_page, length-page}
-use Rattle.runs.proofs.bytes.CutLaws.{none_touched, touched_in, overlay_covered}
+use Rattle.runs.proofs.bytes.CutLaws.{touched_in, overlay_covered}
+use Rattle.machine.proofs.sound.Writes.{none_touched}
 use Rattle.runs.proofs.views.Place.{IsSame, IsNew, IsPut, dropped_where}
 use Rattle.runs.proofs.views.Places.{places}
 use Rattle.runs.proofs.views.Grow.{page_count_more}

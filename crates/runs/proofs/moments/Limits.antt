@@ -39,7 +39,8 @@ use Rattle.runs.proofs.events.Ends.{within}
 use Rattle.runs.proofs.moments.FrameCounts.{cached_set, cached_more, count_cut, filling_is, is_live_fill}
 use Rattle.maps.proofs.Lengths.{count_empty, count_put, count_gone, count_one_gone, len_le, len_put, len_put_there}
 use Rattle.maps.proofs.Lengths.{len_changed, len_gone, len_one_gone}
-use Rattle.runs.proofs.events.Lookups.{cached_within, get_or-default, get-insert1, get-remove1, failures-set}
+use Rattle.runs.proofs.events.Lookups.{cached_within, get-insert1, get-remove1, failures-set}
+use Rattle.machine.proofs.sound.Lookups.{get_or-default}
 use Rattle.runs.proofs.events.Lookups.{failures-put}
 use Rattle.runs.proofs.moments.Moments.{run_keeps, first_coupled}
 use Rattle.machine.proofs.changes.WriteLengths.{len-written_pages}

@@ -20,7 +20,7 @@ use Rattle.machine.specs.Step.{Step}
 use Rattle.runs.specs.Runs.{last, plain_from, plain_at}
 use Rattle.runs.specs.Reading.{ReadsAreRight}
 use Rattle.pc_types.proofs.FileLaws.{byte-page, length-pread, byte-pread}
-use Rattle.runs.proofs.bytes.CutLaws.{none_touched}
+use Rattle.machine.proofs.sound.Writes.{none_touched}
 use Rattle.runs.proofs.moments.Moments.{first_coupled, run_coupled}
 use Rattle.pc_types.specs.declared.limits.TheConstants.{MAX_TOUCHED}
 use Rattle.pc_types.specs.declared.ids.HandleId.{HandleId}

@@ -38,7 +38,8 @@ use Rattle.runs.proofs.views.View.{put1_tells, put2, put2_tells, towrite}
 use Rattle.runs.proofs.events.Coupled.{Coupled, coupled}
 use Rattle.runs.proofs.moments.Histories.{calls}
 use Rattle.runs.proofs.moments.Limits.{live_file_of}
-use Rattle.runs.proofs.events.Lookups.{get_or-default, cached_within, change_page-is, get-insert1, get-remove1}
+use Rattle.runs.proofs.events.Lookups.{cached_within, change_page-is, get-insert1, get-remove1}
+use Rattle.machine.proofs.sound.Lookups.{get_or-default}
 use Rattle.runs.proofs.events.Lookups.{page_at-put_page}
 use Rattle.runs.proofs.moments.Moments.{first_coupled}
 use Rattle.runs.proofs.events.Steps.{move_kept}

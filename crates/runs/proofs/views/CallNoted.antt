@@ -64,7 +64,7 @@ module _ (v : View) (ok : Good v) (t : ℕ) (r : Flight) (is : v.request t ≡ S
 
   pub call_noted : Goes no_gone v after
   call_noted = (
-    good_after v ok v.page v.request after.outcome v.next v.failures ok.pages ok.page_in requests ok.requests_apart
+    good_after v ok _ _ _ _ _ ok.pages ok.page_in requests ok.requests_apart
         (λ g q e. still_flying v after g q (ok.flushes g q e) refl) (noted_outcomes v ok t r is o),
     quietly_evolves no_gone v after (λ g q _. refl) (λ u r e k d. e) (λ u r e k d _. e) (λ g q _ e. e) (λ g. refl)
         refl,

@@ -1,9 +1,9 @@
 -- An absent page is cached with the bytes that it has in its file, and no tags, where no fill of it is in flight.
-use Rattle.std.proofs.Common.{◌≡◌, ℕ, ◌<◌, true, refl, arith, List, false, sym, ap, ◌∙◌}
+use Rattle.std.proofs.Common.{◌≡◌, ℕ, ◌<◌, refl, arith, List, false, sym, ap, ◌∙◌}
 use Rattle.std.specs.Prelude.{Option, Some, None}
 use Rattle.pc_types.specs.Tags.{no_tags}
 use Rattle.machine.specs.State.{Page, page_count}
-use Rattle.runs.proofs.views.View.{View, Flight, Good, PageIs, RequestIs, HasFlush, Goes, no_gone, quietly_evolves, request_stays}
+use Rattle.runs.proofs.views.View.{View, Flight, Good, PageIs, Goes, no_gone, quietly_evolves, request_stays}
 use Rattle.runs.proofs.views.View.{put2, put2_else, put2_tells, writeback, held, good_after, still_flying, one_page, one_page_in}
 use Rattle.runs.proofs.views.View.{dirty}
 use Rattle.pc_types.specs.declared.kind.Kind.TheVariants.{Fill}
@@ -28,20 +28,15 @@ module _ (v : View) (ok : Good v) (f p : ℕ) (absent : v.page f p ≡ None) (by
     clean_block = λ _ _. (ok.pages f p).clean_block (ap dirty absent) (ap writeback absent);
   }
 
-  requests : (t : ℕ) (r : Flight) → v.request t ≡ Some r → RequestIs after t r
-  requests t r e = let old = ok.requests t r e in
-      request_stays v (put2 v.page f p (Some page)) v.request v.outcome v.next v.failures t r old old.serial refl
-      (λ d k. put2_else v.page f p (Some page) r.file r.page (alone t r e d k))
-      (λ d k. let a = (old.flush d k).writeback in grind (arith, put2_tells {A = Option Page}))
-
-  flushes : (g q : ℕ) → writeback (after.page g q) ≡ true → HasFlush after g q
-  flushes g q e = still_flying v after g q (ok.flushes g q (grind (arith, put2_tells {A = Option Page}))) refl
-
   pub fill_at_once : Goes no_gone v after
   fill_at_once = (
-    good_after v ok (put2 v.page f p (Some page)) v.request v.outcome v.next v.failures
-        (one_page v ok f p (Some page) page_is) (one_page_in v ok f p (Some page) (λ _. within)) requests
-        ok.requests_apart flushes ok.outcomes,
+    good_after v ok _ _ _ _ _ (one_page v ok f p (Some page) page_is) (one_page_in v ok f p (Some page) (λ _. within))
+        (λ t r e. let old = ok.requests t r e in request_stays v _ _ _ _ _ t r old old.serial refl
+        (λ d k. put2_else v.page f p (Some page) r.file r.page (alone t r e d k))
+        (λ d k. let a = (old.flush d k).writeback in grind (arith, put2_tells {A = Option Page})))
+        ok.requests_apart
+        (λ g q e. still_flying v after g q (ok.flushes g q (grind (arith, put2_tells {A = Option Page}))) refl)
+        ok.outcomes,
     quietly_evolves no_gone v after (λ g q _. refl) (λ u r e k d. e) (λ u r e k d _. e)
         (λ g q _ e. grind (arith, put2_tells {A = Option Page})) (λ g. refl) refl,
   )

@@ -69,8 +69,7 @@ module _ (v : View) (ok : Good v) (f p b : ℕ) (old_page : Page) (cached : v.pa
   old_request t r e =
       let old = ok.requests t r e in
       let same = λ (d : r.dropped ≡ false). put2_else v.page f p (Some page) r.file r.page (apart t r e d) in
-      request_stays v (put2 v.page f p (Some page)) (put1 v.request v.next (Some new)) v.outcome (v.next + 1) v.failures
-      t r old (let a = old.serial in omega arith) refl (λ d _. same d) (λ d _. same d)
+      request_stays v _ _ _ _ _ t r old (let a = old.serial in omega arith) refl (λ d _. same d) (λ d _. same d)
 
   flushes : (g q : ℕ) → writeback (after.page g q) ≡ true → HasFlush after g q
   flushes g q e = elim (put2_tells v.page f p (Some page) g q) [
@@ -88,8 +87,7 @@ module _ (v : View) (ok : Good v) (f p b : ℕ) (old_page : Page) (cached : v.pa
   ]
 
   kept : Good after
-  kept = good_after v ok (put2 v.page f p (Some page)) (put1 v.request v.next (Some new)) v.outcome
-      (v.next + 1) v.failures (one_page v ok f p (Some page) page_is)
+  kept = good_after v ok _ _ _ _ _ (one_page v ok f p (Some page) page_is)
       (one_page_in v ok f p (Some page) (λ _. ok.page_in f p (ap is_some cached)))
       (begun_requests v ok new after new_request old_request) (begun_apart v ok new clash) flushes
       (begun_outcomes v ok new)

@@ -43,8 +43,7 @@ module _ (v : View) (ok : Good v) (t : ℕ) (r : Flight) (is : v.request t ≡ S
       let old = ok.requests u s k.1 in
       let same = λ (d : s.dropped ≡ false). put2_else v.page r.file r.page (Some page) s.file s.page
       (none_beside v ok t r is live u s k.0 k.1 d) in
-      request_stays v after.page after.request after.outcome v.next after.failures u s old old.serial
-      (outcome_left v ok t u k.0) (λ d _. same d) (λ d _. same d)
+      request_stays v _ _ _ _ _ u s old old.serial (outcome_left v ok t u k.0) (λ d _. same d) (λ d _. same d)
 
   flushes : (g q : ℕ) → writeback (after.page g q) ≡ true → HasFlush after g q
   flushes g q e = elim (put2_tells v.page r.file r.page (Some page) g q) [
@@ -55,9 +54,7 @@ module _ (v : View) (ok : Good v) (t : ℕ) (r : Flight) (is : v.request t ≡ S
   ]
 
   kept : Good after
-  kept = good_after v ok (put2 v.page r.file r.page (Some page)) (put1 v.request t None)
-      (put1 v.outcome t None) v.next (put1 v.failures r.file (v.failures r.file + 1))
-      (one_page v ok r.file r.page (Some page) page_is)
+  kept = good_after v ok _ _ _ _ _ (one_page v ok r.file r.page (Some page) page_is)
       (one_page_in v ok r.file r.page (Some page) (λ _. ok.page_in r.file r.page (ap is_some cached))) requests
       (others_apart v ok t) flushes (outcomes_left v ok t)
 

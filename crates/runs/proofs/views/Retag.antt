@@ -2,7 +2,7 @@
 use Rattle.std.proofs.Common.{◌≡◌, ℕ, ◌<◌, true, false, refl, ap, sym, ◌∙◌}
 use Rattle.std.specs.Prelude.{Option, Some, None, is_some}
 use Rattle.machine.specs.State.{Page, page_count}
-use Rattle.runs.proofs.views.View.{View, Flight, Good, PageIs, RequestIs, HasFlush, Goes, no_gone, quietly_evolves}
+use Rattle.runs.proofs.views.View.{View, Flight, Good, PageIs, RequestIs, Goes, no_gone, quietly_evolves}
 use Rattle.runs.proofs.views.View.{dirty, writeback, towrite, held, good_after, still_flying}
 
 module _ (v : View) (ok : Good v) (page : ℕ → ℕ → Option Page)
@@ -48,13 +48,10 @@ module _ (v : View) (ok : Good v) (page : ℕ → ℕ → Option Page)
     dead = old.dead;
   }
 
-  flushes : (g q : ℕ) → writeback (after.page g q) ≡ true → HasFlush after g q
-  flushes g q e = let j = ok.flushes g q (sym (same_writeback g q) ∙ e) in still_flying v after g q j refl
-
   pub retag : ((g q : ℕ) → towrite (v.page g q) ≡ true → towrite (page g q) ≡ true) → Goes no_gone v after
   retag more = (
-    good_after v ok page v.request v.outcome v.next v.failures pages page_in requests ok.requests_apart flushes
-        ok.outcomes,
+    good_after v ok _ _ _ _ _ pages page_in requests ok.requests_apart
+        (λ g q e. still_flying v after g q (ok.flushes g q (sym (same_writeback g q) ∙ e)) refl) ok.outcomes,
     quietly_evolves no_gone v after (λ g q _. refl) (λ u r e k d. e) (λ u r e k d _. e) (λ g q _ e. more g q e)
         (λ g. refl) refl,
   )
