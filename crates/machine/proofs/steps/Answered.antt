@@ -1,7 +1,6 @@
 -- What a test that holds answers: a reply that changes nothing, or, to a write of no bytes, that none were written.
 use Rattle.std.proofs.Common.{◌≡◌, ℕ, ◌+◌, Bool, true, false, cond, not, eqb, eqb-true, List, [], ◌∷◌, length, refl, ap}
-use Rattle.std.proofs.Common.{arith, inl, inr}
-use Rattle.std.specs.Prelude.{◌&&◌, ◌⊎◌, Option, Some, None, is_some, count_by, nat_lt, nat_le}
+use Rattle.std.proofs.Common.{arith, inl, inr, ◌&&◌, ◌⊎◌, Option, Some, None, is_some, count_by, nat_lt, nat_le}
 use Rattle.std.specs.List.{list_any}
 use Rattle.std.specs.FinMap as map
 use Rattle.pc_types.specs.declared.ids.HandleId.{HandleId}

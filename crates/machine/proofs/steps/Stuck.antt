@@ -2,8 +2,8 @@
 use Rattle.pc_types.specs.declared.ids.HandleId.{HandleId}
 use Rattle.pc_types.specs.declared.ids.PageIndex.{PageIndex}
 use Rattle.std.proofs.Common.{◌≡◌, ◌≢◌, ℕ, suc, ◌+◌, Bool, true, false, cond, eqb, eqb-true, eq-eqb, List, [], ◌∷◌}
-use Rattle.std.proofs.Common.{length, get_or, refl, ap, ◌∙◌, inl, inr}
-use Rattle.std.specs.Prelude.{◌||◌, Option, Some, None, is_some, option_map, find}
+use Rattle.std.proofs.Common.{length, get_or, refl, ap, ◌∙◌, inl, inr, ◌||◌, Option, Some, None, is_some, option_map}
+use Rattle.std.proofs.Common.{find}
 use Rattle.std.specs.List.{list_any}
 use Rattle.std.specs.FinMap as map
 use Rattle.pc_types.specs.declared.refusal.Refusal.TheVariants.{Memory, BadHandle}
@@ -13,12 +13,10 @@ use Rattle.machine.specs.declared.event.Event.{Event}
 use Rattle.machine.specs.declared.event.Event.TheVariants as event
 use Rattle.machine.specs.declared.event.Reply.{Reply}
 use Rattle.machine.specs.declared.event.Reply.TheVariants as reply
-use Rattle.machine.specs.State.{State, File, Page, Request, Sync, no_file, file_at, handle_file, is_open}
-use Rattle.machine.specs.State.{is_written, is_idle, bytes_at}
-use Rattle.machine.specs.State.{first_awaited}
+use Rattle.machine.specs.State.{State, File, Page, Request, Sync, no_file, file_at, handle_file, is_open, is_written}
+use Rattle.machine.specs.State.{is_idle, bytes_at, first_awaited}
 use Rattle.machine.specs.Changes.{sync_pick, changed}
-use Rattle.machine.specs.Tests.{tests, read_count}
-use Rattle.machine.specs.Tests.{has_idle, sync_tests, refuse}
+use Rattle.machine.specs.Tests.{tests, read_count, has_idle, sync_tests, refuse}
 use Rattle.machine.specs.Step.{AnswersOr, MayReply, EndReply, SyncReply, SyncStepReply}
 use Rattle.machine.specs.Laws.{NoEventIsStuck}
 use Rattle.machine.proofs.steps.Answered.{is_told, tells}

@@ -1,8 +1,6 @@
 -- What a truncation does to the pages of a plain file, and which pages a write covers.
-use Rattle.std.proofs.Common.{◌≡◌, ℕ, ◌+◌, ◌-◌, ◌*◌, ◌/◌, ◌%◌, ◌<◌, ◌≤◌, true, cond, ltb, leb}
-use Rattle.std.proofs.Common.{List, [], length, get_or, take, drop, ap, sym, ◌∙◌, arith, inl, inr, length-drop}
-use Rattle.std.specs.Prelude.{◌&&◌, ◌⊎◌}
-use Rattle.std.proofs.Math.Nat.{le-div_iff_mul-le}
+use Rattle.std.proofs.Common.{◌≡◌, ℕ, ◌+◌, ◌-◌, ◌*◌, ◌/◌, ◌%◌, ◌<◌, ◌≤◌, true, cond, ltb, leb, List, [], length, get_or}
+use Rattle.std.proofs.Common.{take, drop, ap, sym, ◌∙◌, arith, inl, inr, length-drop, ◌&&◌, ◌⊎◌, le-div_iff_mul-le}
 use Rattle.std.proofs.lemmas.Grind.{same_number_lists}
 use Rattle.std.proofs.lemmas.Bool.Decides.{nat_tests}
 use Rattle.std.proofs.lemmas.List.{get_or_past}

@@ -1,9 +1,7 @@
 -- A device call.
 use Rattle.std.proofs.Common.{◌≡◌, ℕ, ◌<◌, Bool, true, false, cond, not, [], length, refl, ap, sym, subst, ◌∙◌, inl}
-use Rattle.std.proofs.Common.{inr}
-use Rattle.std.specs.Prelude.{◌&&◌, ◌||◌, Option, Some, None, is_some, slice_set}
+use Rattle.std.proofs.Common.{inr, ◌&&◌, ◌||◌, Option, Some, None, is_some, slice_set, length-set}
 use Rattle.std.specs.FinMap as finmap
-use Rattle.std.proofs.Math.ListN.{length-set}
 use Rattle.pc_types.specs.Kinds.{is_fill, is_flush}
 use Rattle.pc_types.specs.declared.kind.Kind.{Kind}
 use Rattle.pc_types.specs.declared.kind.Kind.TheVariants.{Fill, Flush}

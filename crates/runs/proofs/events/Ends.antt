@@ -1,11 +1,9 @@
 -- A request ends.
-use Rattle.std.proofs.Common.{◌≡◌, ℕ, ◌+◌, ◌-◌, ◌*◌, ◌/◌, ◌<◌, ◌≤◌, true, false, ltb, List, length}
-use Rattle.std.proofs.Common.{refl, ap, sym, subst, ◌∙◌, arith}
-use Rattle.std.specs.Prelude.{Option, Some, None, is_some, option_map}
+use Rattle.std.proofs.Common.{◌≡◌, ℕ, ◌+◌, ◌-◌, ◌*◌, ◌/◌, ◌<◌, ◌≤◌, true, false, ltb, List, length, refl, ap, sym}
+use Rattle.std.proofs.Common.{subst, ◌∙◌, arith, Option, Some, None, is_some, option_map, le-div_iff_mul-le}
 use Rattle.std.specs.FinMap as finmap
 use Rattle.std.proofs.lemmas.Bool.Decides.{nat_tests}
 use Rattle.std.proofs.lemmas.List.{get_or_past}
-use Rattle.std.proofs.Math.Nat.{le-div_iff_mul-le}
 use Rattle.std.proofs.Math.Bool.{or-true, or-false}
 use Rattle.pc_types.specs.Files.{page_of}
 use Rattle.pc_types.specs.Tags.{no_tags}
@@ -23,8 +21,8 @@ use Rattle.runs.specs.Plain.{Plain, plain_file}
 use Rattle.runs.specs.World.{World, block_bytes}
 use Rattle.runs.proofs.views.View.{Flight, FlushIs, Goes, no_gone, put1, put2, writeback}
 use Rattle.runs.proofs.events.Coupled.{view, Coupled, After, file_changed, put_view}
-use Rattle.runs.proofs.events.Lookups.{cached_within, page_at-put_one, change_page-is, size-put}
-use Rattle.runs.proofs.events.Lookups.{failures-set, get-remove1, get-insert2}
+use Rattle.runs.proofs.events.Lookups.{cached_within, page_at-put_one, change_page-is, size-put, failures-set}
+use Rattle.runs.proofs.events.Lookups.{get-remove1, get-insert2}
 use Rattle.runs.proofs.events.Tables.{Tables, fit, flight, flight_at, flight_is, bytes_of, flight_ended, ended_tables}
 use Rattle.runs.proofs.views.EndQuietly.{end_quietly}
 use Rattle.runs.proofs.views.FillEnd.{fill_end}

@@ -1,7 +1,6 @@
 -- A page is evicted; and the table of syncs is no part of what is looked up.
-use Rattle.std.proofs.Common.{◌≡◌, ℕ, ◌<◌, Bool, true, false, not, length, refl, ap, ◌∙◌}
-use Rattle.std.specs.Prelude.{◌&&◌, Some, None, is_some}
-use Rattle.std.specs.Ordering.{nat_cmp}
+use Rattle.std.proofs.Common.{◌≡◌, ℕ, ◌<◌, Bool, true, false, not, length, refl, ap, ◌∙◌, ◌&&◌, Some, None, is_some}
+use Rattle.std.proofs.Common.{nat_cmp}
 use Rattle.std.specs.FinMap as finmap
 use Rattle.machine.specs.State.{State, File, Page, Sync, file_at, page_at, is_idle}
 use Rattle.machine.specs.Changes.{put_file}

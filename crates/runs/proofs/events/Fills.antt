@@ -1,8 +1,7 @@
 -- A fill begins, or a page without a block is cached at once.
 use Rattle.std.proofs.Common.{◌≡◌, ℕ, ◌+◌, ◌<◌, Bool, true, false, cond, not, eqb, eq-eqb, List, [], length, refl, ap}
-use Rattle.std.proofs.Common.{sym, subst, ◌∙◌}
-use Rattle.std.specs.Prelude.{◌&&◌, Option, Some, None, is_some, option_map, unwrap_or}
-use Rattle.std.specs.Ordering.{nat_cmp}
+use Rattle.std.proofs.Common.{sym, subst, ◌∙◌, ◌&&◌, Option, Some, None, is_some, option_map, nat_cmp}
+use Rattle.std.specs.Prelude.{unwrap_or}
 use Rattle.std.specs.FinMap as finmap
 use Rattle.std.proofs.lemmas.Bool.{false≢true}
 use Rattle.pc_types.specs.Files.{page_of, cut}
@@ -20,8 +19,7 @@ use Rattle.maps.proofs.Maps.{get-insert_nat}
 use Rattle.machine.proofs.changes.StateLaws.{filling_shows}
 use Rattle.runs.specs.Plain.{Plain, plain_file}
 use Rattle.runs.specs.World.{World, block_bytes, noted, to_write}
-use Rattle.runs.proofs.views.View.{Flight, Goes, no_gone, put1, dirty, writeback, settled, held_by}
-use Rattle.runs.proofs.views.View.{fresh, no_outcome}
+use Rattle.runs.proofs.views.View.{Flight, Goes, no_gone, put1, dirty, writeback, settled, held_by, fresh, no_outcome}
 use Rattle.runs.proofs.events.Coupled.{view, Coupled, After, with_core, file_changed, put_view}
 use Rattle.runs.proofs.events.Tables.{writes, flight, flight_at, request_is, in_flight, flight_begun, begun_tables}
 use Rattle.runs.proofs.views.FillAtOnce.{fill_at_once}

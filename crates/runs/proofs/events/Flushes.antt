@@ -1,8 +1,8 @@
 -- A write of a page is started, and a sync begins.
 use Rattle.std.proofs.Common.{[], ◌≡◌, ◌≢◌, ℕ, ◌+◌, ◌<◌, Bool, true, false, cond, eqb, eqb-true, eq-eqb, List, length}
-use Rattle.std.proofs.Common.{get_or, refl, ap, sym, subst, ◌∙◌}
-use Rattle.std.specs.Prelude.{◌&&◌, ◌||◌, Option, Some, None, is_some, option_map, unwrap_or}
-use Rattle.std.specs.Ordering.{nat_cmp}
+use Rattle.std.proofs.Common.{get_or, refl, ap, sym, subst, ◌∙◌, ◌&&◌, ◌||◌, Option, Some, None, is_some, option_map}
+use Rattle.std.proofs.Common.{nat_cmp}
+use Rattle.std.specs.Prelude.{unwrap_or}
 use Rattle.std.specs.FinMap as finmap
 use Rattle.pc_types.specs.Files.{page_of}
 use Rattle.pc_types.specs.declared.ids.Serial.{Serial}
@@ -18,8 +18,7 @@ use Rattle.machine.proofs.changes.StateLaws.{get_or-set}
 use Rattle.runs.specs.Plain.{Plain, plain_file}
 use Rattle.runs.specs.World.{World, noted}
 use Rattle.runs.specs.World as world
-use Rattle.runs.proofs.views.View.{no_gone, put1, put1_else, put2, put2_here, dirty, writeback, towrite}
-use Rattle.runs.proofs.views.View.{no_outcome}
+use Rattle.runs.proofs.views.View.{no_gone, put1, put1_else, put2, put2_here, dirty, writeback, towrite, no_outcome}
 use Rattle.runs.proofs.events.Tables.{Tables, flight, flight_at, flight_begun, begun_tables}
 use Rattle.runs.proofs.events.Coupled.{view, Coupled, After, with_core, block_is, file_changed, put_view}
 use Rattle.runs.proofs.bytes.PageLaws.{length-page}

@@ -1,8 +1,7 @@
 -- Each step of the world keeps cache and plain files coupled.
-use Rattle.std.specs.Prelude.{◌&&◌, nat_le, Option, Some, None, unwrap_or}
-use Rattle.std.proofs.Common.{eqb, ◌≡◌, ℕ, ◌+◌, Bool, true, false, List, [], length, refl, ap, sym, subst, ◌∙◌, inl}
-use Rattle.std.proofs.Common.{inr}
-use Rattle.std.specs.Ordering.{nat_cmp}
+use Rattle.std.proofs.Common.{◌&&◌, nat_le, Option, Some, None, eqb, ◌≡◌, ℕ, ◌+◌, Bool, true, false, List, [], length}
+use Rattle.std.proofs.Common.{refl, ap, sym, subst, ◌∙◌, inl, inr, nat_cmp}
+use Rattle.std.specs.Prelude.{unwrap_or}
 use Rattle.machine.specs.Changes.{is_left, drop_sync, shrunk, new_sync, sync_begun}
 use Rattle.machine.specs.Changes as changes
 use Rattle.machine.specs.State.{page_count, State, Page, Request, Sync, file_at, handle_file, page_at}
@@ -32,14 +31,13 @@ use Rattle.runs.specs.World.{World, Move, Act, Call, Finish, WorldStep, IsAct, E
 use Rattle.runs.specs.Runs.{plain_move}
 use Rattle.runs.specs.Syncing.{cuts_off}
 use Rattle.runs.proofs.views.View.{no_gone, dirty, towrite}
-use Rattle.runs.proofs.events.Coupled.{Coupled, After, with_core, same_after}
+use Rattle.runs.proofs.events.Coupled.{Coupled, After, with_core, same_after, put_plain}
 use Rattle.runs.proofs.events.FileEvents.{creates, opens, closes}
 use Rattle.runs.proofs.events.Evicts.{other_syncs, evicted}
 use Rattle.runs.proofs.events.Fills.{at_once, fills_begin}
 use Rattle.runs.proofs.events.Flushes.{starts_with, begun_sync}
 use Rattle.runs.proofs.events.Ends.{quietly, filled, failed, written, known}
 use Rattle.runs.proofs.events.Calls.{call_kept}
-use Rattle.runs.proofs.events.Coupled.{put_plain}
 use Rattle.runs.proofs.events.Truncations.{grows, shrinks}
 use Rattle.runs.proofs.events.Writes.{wrote}
 

@@ -1,7 +1,7 @@
 -- What the world notes of the requests in flight: the bytes of each flush, and outcomes that fit.
-use Rattle.std.proofs.Common.{◌≡◌, ℕ, ◌≢◌, Bool, true, false, cond, eqb, List, [], refl, ap, sym, ◌∙◌, inl, inr}
-use Rattle.std.specs.Prelude.{◌&&◌, Option, Some, None, is_some, option_map, unwrap_or, nat_le}
-use Rattle.std.specs.Ordering.{nat_cmp}
+use Rattle.std.proofs.Common.{◌≡◌, ℕ, ◌≢◌, Bool, true, false, cond, eqb, List, [], refl, ap, sym, ◌∙◌, inl, inr, ◌&&◌}
+use Rattle.std.proofs.Common.{Option, Some, None, is_some, option_map, nat_le, nat_cmp}
+use Rattle.std.specs.Prelude.{unwrap_or}
 use Rattle.std.specs.FinMap as finmap
 use Rattle.pc_types.specs.Kinds.{is_flush}
 use Rattle.machine.specs.declared.event.Outcome.{Outcome}

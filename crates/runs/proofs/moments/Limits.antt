@@ -1,21 +1,19 @@
 -- How many files, handles, requests, syncs, frames and failures there are at most, and how long files are; and that
 -- the handle of a sync in progress is open.
 use Rattle.std.proofs.Common.{List, ◌≡◌, ℕ, ◌+◌, ◌/◌, ◌<◌, ◌≤◌, ◌++◌, Bool, true, false, cond, not, eqb, eq-eqb, []}
-use Rattle.std.proofs.Common.{◌∷◌, length, get_or, refl, ap, sym, subst, ◌∙◌, arith, inl, inr}
+use Rattle.std.proofs.Common.{◌∷◌, length, get_or, refl, ap, sym, subst, ◌∙◌, arith, inl, inr, count_by, ◌&&◌, Option}
+use Rattle.std.proofs.Common.{Some, None, is_some, option_map, max, nat_le, slice_set, sum_by, nat_cmp, length-set}
+use Rattle.std.proofs.Common.{length-append}
 use Rattle.maps.specs.Maps.{change_at}
-use Rattle.std.specs.Prelude.{count_by, ◌&&◌, Option, Some, None, is_some, option_map, max, nat_le, slice_set, sum_by}
 use Rattle.machine.specs.State.{spot_at, touched, free_frames, State, File, Page, Request, Sync, file_at, handle_file}
 use Rattle.machine.specs.State.{is_open, page_at, page_count, has_block, no_file, cached_total, filling_total}
 use Rattle.machine.specs.Changes as changes
 use Rattle.machine.specs.History as history
-use Rattle.machine.specs.Changes.{put_page, put_file, sync_begun, flush_failed, boundary, cut_page}
-use Rattle.machine.specs.Changes.{cut_request, to_write, new_sync, under_write, after_write, started, shrunk, ended}
+use Rattle.machine.specs.Changes.{put_page, put_file, sync_begun, flush_failed, boundary, cut_page, cut_request}
+use Rattle.machine.specs.Changes.{to_write, new_sync, under_write, after_write, started, shrunk, ended}
 use Rattle.std.specs.List.{list_any}
-use Rattle.std.specs.Ordering.{nat_cmp}
 use Rattle.std.specs.FinMap as finmap
 use Rattle.std.specs.FinMap.{len-empty}
-use Rattle.std.proofs.Math.ListN.{length-set}
-use Rattle.std.proofs.lemmas.List.{length-append}
 use Rattle.pc_types.specs.Kinds.{is_fill}
 use Rattle.pc_types.specs.declared.kind.Kind.TheVariants.{Fill}
 use Rattle.pc_types.specs.declared.limits.TheConstants.{MAX_FILES, MAX_FILE_SIZE, MAX_HANDLES, MAX_IN_FLIGHT, MAX_SYNCS}
@@ -39,9 +37,8 @@ use Rattle.runs.proofs.events.Ends.{within}
 use Rattle.runs.proofs.moments.FrameCounts.{cached_set, cached_more, count_cut, filling_is, is_live_fill}
 use Rattle.maps.proofs.Lengths.{count_empty, count_put, count_gone, count_one_gone, len_le, len_put, len_put_there}
 use Rattle.maps.proofs.Lengths.{len_changed, len_gone, len_one_gone}
-use Rattle.runs.proofs.events.Lookups.{cached_within, get-insert1, get-remove1, failures-set}
+use Rattle.runs.proofs.events.Lookups.{cached_within, get-insert1, get-remove1, failures-set, failures-put}
 use Rattle.machine.proofs.sound.Lookups.{get_or-default}
-use Rattle.runs.proofs.events.Lookups.{failures-put}
 use Rattle.runs.proofs.moments.Moments.{run_keeps, first_coupled}
 use Rattle.machine.proofs.changes.WriteLengths.{len-written_pages}
 

@@ -1,7 +1,6 @@
 -- Cache and plain files are coupled at each moment of a run.
-use Rattle.std.proofs.Common.{◌≡◌, ℕ, zero, suc, ◌<◌, ◌≤◌, true, false, [], ◌∷◌, length, ap, sym, subst, refl, ◌∙◌, arith}
-use Rattle.std.proofs.Common.{take, option_map, None, is_some, nat_le}
-use Rattle.std.specs.Ordering.{nat_cmp}
+use Rattle.std.proofs.Common.{◌≡◌, ℕ, zero, suc, ◌<◌, ◌≤◌, true, false, [], ◌∷◌, length, ap, sym, subst, refl, ◌∙◌}
+use Rattle.std.proofs.Common.{arith, take, option_map, None, is_some, nat_le, nat_cmp}
 use Rattle.std.specs.FinMap as finmap
 use Rattle.std.proofs.lemmas.Bool.Decides.{nat_tests}
 use Rattle.std.proofs.lemmas.Grind.{same_number_lists}

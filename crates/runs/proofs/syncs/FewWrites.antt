@@ -5,10 +5,9 @@ use Rattle.pc_types.specs.declared.ids.SyncId.{SyncId}
 use Rattle.machine.specs.declared.event.Outcome.{Outcome}
 use Rattle.pc_types.specs.declared.ids.HandleId.{HandleId}
 use Rattle.std.proofs.Common.{◌≡◌, ℕ, ◌+◌, ◌/◌, ◌<◌, ◌≤◌, Bool, true, false, cond, eqb, eqb-true, List, [], ◌∷◌, length}
-use Rattle.std.proofs.Common.{get_or, refl, ap, sym, ◌∙◌, arith, inl, inr, subst, map}
-use Rattle.std.specs.Prelude.{◌&&◌, ◌||◌, ◌==◌, if◌then◌else◌, Option, Some, None, is_some, option_map, unwrap_or}
-use Rattle.std.specs.Prelude.{nat_le, slice_set, count_by}
-use Rattle.std.specs.Ordering.{nat_cmp}
+use Rattle.std.proofs.Common.{get_or, refl, ap, sym, ◌∙◌, arith, inl, inr, subst, map, ◌&&◌, ◌||◌, ◌==◌, if◌then◌else◌}
+use Rattle.std.proofs.Common.{Option, Some, None, is_some, option_map, nat_le, slice_set, count_by, nat_cmp}
+use Rattle.std.specs.Prelude.{unwrap_or}
 use Rattle.std.specs.FinMap as finmap
 use Rattle.std.proofs.lemmas.Bool.Decides.{nat_tests}
 use Rattle.std.proofs.lemmas.List.Sums.{sum_by-cons}
@@ -19,9 +18,8 @@ use Rattle.machine.specs.declared.event.Reply.{Reply}
 use Rattle.machine.specs.declared.event.Reply.TheVariants as reply
 use Rattle.machine.specs.State.{State, File, Page, Request, Sync, file_at, handle_file, is_open, page_at, no_file}
 use Rattle.machine.specs.State.{page_count, has_block, in_range}
-use Rattle.machine.specs.Changes.{under_write, after_write, started, to_write}
-use Rattle.machine.specs.Changes.{sync_begun, new_sync, written_page, written, cut_page, boundary}
-use Rattle.machine.specs.Changes.{drop_sync}
+use Rattle.machine.specs.Changes.{under_write, after_write, started, to_write, sync_begun, new_sync, written_page}
+use Rattle.machine.specs.Changes.{written, cut_page, boundary, drop_sync}
 use Rattle.machine.specs.Step.{Step}
 use Rattle.machine.proofs.steps.Answered.{is_quiet, IsWrite}
 use Rattle.machine.proofs.steps.Cases.{Cases, by_cases, IsVerdict}
@@ -38,9 +36,8 @@ use Rattle.runs.proofs.views.View.{put1_tells, put2, put2_tells, towrite}
 use Rattle.runs.proofs.events.Coupled.{Coupled, coupled}
 use Rattle.runs.proofs.moments.Histories.{calls}
 use Rattle.runs.proofs.moments.Limits.{live_file_of}
-use Rattle.runs.proofs.events.Lookups.{cached_within, change_page-is, get-insert1, get-remove1}
+use Rattle.runs.proofs.events.Lookups.{cached_within, change_page-is, get-insert1, get-remove1, page_at-put_page}
 use Rattle.machine.proofs.sound.Lookups.{get_or-default}
-use Rattle.runs.proofs.events.Lookups.{page_at-put_page}
 use Rattle.runs.proofs.moments.Moments.{first_coupled}
 use Rattle.runs.proofs.events.Steps.{move_kept}
 

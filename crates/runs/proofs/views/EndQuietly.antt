@@ -1,9 +1,8 @@
 -- A request ends that was dropped, or a fill that failed.
-use Rattle.std.proofs.Common.{◌≡◌, ℕ, false, refl, ap, sym, ◌∙◌}
-use Rattle.std.specs.Prelude.{Some, None}
+use Rattle.std.proofs.Common.{◌≡◌, ℕ, false, refl, ap, sym, ◌∙◌, Some, None}
 use Rattle.pc_types.specs.declared.kind.Kind.TheVariants.{Flush}
-use Rattle.runs.proofs.views.View.{View, Flight, Good, Goes, no_gone, quietly_evolves, request_stays, put1}
-use Rattle.runs.proofs.views.View.{good_after, still_flying}
+use Rattle.runs.proofs.views.View.{View, Flight, Good, Goes, no_gone, quietly_evolves, request_stays, put1, good_after}
+use Rattle.runs.proofs.views.View.{still_flying}
 use Rattle.runs.proofs.views.EndRequest.{others, outcome_left, others_apart, outcomes_left, left}
 
 module _ (v : View) (ok : Good v) (t : ℕ) (r : Flight) (is : v.request t ≡ Some r)

@@ -1,10 +1,8 @@
 -- An eviction keeps what holds always.
-use Rattle.std.proofs.Common.{◌≡◌, ℕ, false, refl, arith}
-use Rattle.std.specs.Prelude.{Option, None}
+use Rattle.std.proofs.Common.{◌≡◌, ℕ, false, refl, arith, Option, None}
 use Rattle.machine.specs.State.{Page}
-use Rattle.runs.proofs.views.View.{View, Good, PageIs, Goes, no_gone, quietly_evolves, request_stays}
-use Rattle.runs.proofs.views.View.{put2, put2_tells, dirty, writeback, towrite, held, good_after, still_flying}
-use Rattle.runs.proofs.views.View.{one_page, one_page_in}
+use Rattle.runs.proofs.views.View.{View, Good, PageIs, Goes, no_gone, quietly_evolves, request_stays, put2, put2_tells}
+use Rattle.runs.proofs.views.View.{dirty, writeback, towrite, held, good_after, still_flying, one_page, one_page_in}
 
 module _ (v : View) (ok : Good v) (f p : ℕ) (clean : dirty (v.page f p) ≡ false)
     (idle : writeback (v.page f p) ≡ false) where

@@ -1,11 +1,10 @@
 -- An absent page is cached with the bytes that it has in its file, and no tags, where no fill of it is in flight.
-use Rattle.std.proofs.Common.{◌≡◌, ℕ, ◌<◌, refl, arith, List, false, sym, ap, ◌∙◌}
-use Rattle.std.specs.Prelude.{Option, Some, None}
+use Rattle.std.proofs.Common.{◌≡◌, ℕ, ◌<◌, refl, arith, List, false, sym, ap, ◌∙◌, Option, Some, None}
 use Rattle.pc_types.specs.Tags.{no_tags}
 use Rattle.machine.specs.State.{Page, page_count}
-use Rattle.runs.proofs.views.View.{View, Flight, Good, PageIs, Goes, no_gone, quietly_evolves, request_stays}
-use Rattle.runs.proofs.views.View.{put2, put2_else, put2_tells, writeback, held, good_after, still_flying, one_page, one_page_in}
-use Rattle.runs.proofs.views.View.{dirty}
+use Rattle.runs.proofs.views.View.{View, Flight, Good, PageIs, Goes, no_gone, quietly_evolves, request_stays, put2}
+use Rattle.runs.proofs.views.View.{put2_else, put2_tells, writeback, held, good_after, still_flying, one_page}
+use Rattle.runs.proofs.views.View.{one_page_in, dirty}
 use Rattle.pc_types.specs.declared.kind.Kind.TheVariants.{Fill}
 
 module _ (v : View) (ok : Good v) (f p : ℕ) (absent : v.page f p ≡ None) (bytes : List ℕ)

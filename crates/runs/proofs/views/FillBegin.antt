@@ -1,6 +1,5 @@
 -- A fill begins.
-use Rattle.std.proofs.Common.{◌≡◌, ℕ, ◌+◌, true, false, [], refl, sym, ◌∙◌, arith}
-use Rattle.std.specs.Prelude.{Option, Some, None}
+use Rattle.std.proofs.Common.{◌≡◌, ℕ, ◌+◌, true, false, [], refl, sym, ◌∙◌, arith, Option, Some, None}
 use Rattle.pc_types.specs.declared.kind.Kind.TheVariants.{Fill, Flush}
 use Rattle.runs.proofs.views.View.{View, Flight, Good, RequestIs, Goes, no_gone, quietly_evolves, request_stays, put1}
 use Rattle.runs.proofs.views.View.{put1_tells, fresh, no_outcome, block_user, writeback, good_after, still_flying}

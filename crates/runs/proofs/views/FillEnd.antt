@@ -1,12 +1,10 @@
 -- A fill ends well, and its page is cached.
-use Rattle.std.proofs.Common.{◌≡◌, ℕ, false, List, refl, ap, sym, ◌∙◌, arith}
-use Rattle.std.specs.Prelude.{Option, Some, None, is_some}
+use Rattle.std.proofs.Common.{◌≡◌, ℕ, false, List, refl, ap, sym, ◌∙◌, arith, Option, Some, None, is_some}
 use Rattle.pc_types.specs.Tags.{no_tags}
 use Rattle.pc_types.specs.declared.kind.Kind.TheVariants.{Fill, Flush}
 use Rattle.machine.specs.declared.event.Outcome.TheVariants as outcome
 use Rattle.machine.specs.State.{Page}
-use Rattle.runs.proofs.views.View.{View, Flight, Good, FillIs, Goes, no_gone, quietly_evolves, put1, put2}
-use Rattle.runs.proofs.views.View.{put2_tells}
+use Rattle.runs.proofs.views.View.{View, Flight, Good, FillIs, Goes, no_gone, quietly_evolves, put1, put2, put2_tells}
 use Rattle.runs.proofs.views.EndRequest.{others, left, none_beside}
 use Rattle.runs.proofs.views.EndQuietly.{end_quietly}
 use Rattle.runs.proofs.views.FillAtOnce.{fill_at_once}

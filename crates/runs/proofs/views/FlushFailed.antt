@@ -1,11 +1,10 @@
 -- A write ends that failed.
-use Rattle.std.proofs.Common.{◌≡◌, ℕ, ◌+◌, true, false, refl, ap, sym, ◌∙◌, arith, inl, inr}
-use Rattle.std.specs.Prelude.{Some, None, is_some}
+use Rattle.std.proofs.Common.{◌≡◌, ℕ, ◌+◌, true, false, refl, ap, sym, ◌∙◌, arith, inl, inr, Some, None, is_some}
 use Rattle.pc_types.specs.declared.kind.Kind.TheVariants.{Flush}
 use Rattle.machine.specs.State.{Page}
 use Rattle.runs.proofs.views.View.{View, Flight, Good, PageIs, FlushIs, RequestIs, HasFlush, Evolves, no_gone, put1}
-use Rattle.runs.proofs.views.View.{Goes, request_stays, put2, put2_else, put1_tells, put2_tells, put1_here, writeback, towrite, held, good_after}
-use Rattle.runs.proofs.views.View.{still_flying, one_page, one_page_in, spot_of}
+use Rattle.runs.proofs.views.View.{Goes, request_stays, put2, put2_else, put1_tells, put2_tells, put1_here, writeback}
+use Rattle.runs.proofs.views.View.{towrite, held, good_after, still_flying, one_page, one_page_in, spot_of}
 use Rattle.runs.proofs.views.EndRequest.{others, outcome_left, others_apart, outcomes_left, left, none_beside}
 
 module _ (v : View) (ok : Good v) (t : ℕ) (r : Flight) (is : v.request t ≡ Some r) (live : r.dropped ≡ false)

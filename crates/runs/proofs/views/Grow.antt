@@ -1,7 +1,6 @@
 -- A file grows by zeros.
-use Rattle.std.proofs.Common.{◌≡◌, ℕ, ◌+◌, ◌-◌, ◌*◌, ◌/◌, ◌<◌, ◌≤◌, true, refl, arith, inl, inr}
-use Rattle.std.specs.Prelude.{Some, is_some}
-use Rattle.std.proofs.Math.Nat.{le-div_iff_mul-le}
+use Rattle.std.proofs.Common.{◌≡◌, ℕ, ◌+◌, ◌-◌, ◌*◌, ◌/◌, ◌<◌, ◌≤◌, true, refl, arith, inl, inr, Some, is_some}
+use Rattle.std.proofs.Common.{le-div_iff_mul-le}
 use Rattle.machine.specs.State.{page_count}
 use Rattle.runs.proofs.views.View.{View, Flight, Good, RequestIs, HasFlush, Goes, no_gone, quietly_evolves, put1}
 use Rattle.runs.proofs.views.View.{put1_tells, writeback, still_flying}

@@ -1,9 +1,8 @@
 -- Pages may get TOWRITE where they are DIRTY.
-use Rattle.std.proofs.Common.{◌≡◌, ℕ, ◌<◌, true, false, refl, ap, sym, ◌∙◌}
-use Rattle.std.specs.Prelude.{Option, Some, None, is_some}
+use Rattle.std.proofs.Common.{◌≡◌, ℕ, ◌<◌, true, false, refl, ap, sym, ◌∙◌, Option, Some, None, is_some}
 use Rattle.machine.specs.State.{Page, page_count}
-use Rattle.runs.proofs.views.View.{View, Flight, Good, PageIs, RequestIs, Goes, no_gone, quietly_evolves}
-use Rattle.runs.proofs.views.View.{dirty, writeback, towrite, held, good_after, still_flying}
+use Rattle.runs.proofs.views.View.{View, Flight, Good, PageIs, RequestIs, Goes, no_gone, quietly_evolves, dirty}
+use Rattle.runs.proofs.views.View.{writeback, towrite, held, good_after, still_flying}
 
 module _ (v : View) (ok : Good v) (page : ℕ → ℕ → Option Page)
     (same_some : (g q : ℕ) → is_some (page g q) ≡ is_some (v.page g q))
