@@ -29,7 +29,8 @@ use Rattle.machine.proofs.steps.Passed.{MayEnd}
 use Rattle.machine.proofs.sound.Steps.{steps_stay_sound}
 use Rattle.runs.specs.World.{World, Move, Act, Finish, Ends, WorldStep}
 use Rattle.runs.proofs.moments.Histories.{core_step}
-use Rattle.runs.proofs.events.Lookups.{cached_within, get_or-default}
+use Rattle.runs.proofs.events.Lookups.{cached_within}
+use Rattle.machine.proofs.sound.Lookups.{get_or-default}
 use Rattle.cachecore.specs.Flushing.{flush_of, flushed_file}
 use Rattle.filesvc.proofs.FileSteps.{one_same}
 

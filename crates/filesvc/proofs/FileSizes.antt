@@ -18,7 +18,7 @@ use Rattle.machine.proofs.steps.Answered.{IsWrite}
 use Rattle.machine.proofs.steps.Cases.{Cases, by_cases}
 use Rattle.runs.specs.World.{World, Move, Act, Call, Finish, Ends, WorldStep}
 use Rattle.runs.proofs.moments.Histories.{calls}
-use Rattle.runs.proofs.events.Lookups.{get_or-default}
+use Rattle.machine.proofs.sound.Lookups.{get_or-default}
 use Rattle.runs.proofs.moments.CoreSteps.{core_cases}
 use Rattle.filesvc.proofs.FileSteps.{one_same, within}
 

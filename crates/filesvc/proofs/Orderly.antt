@@ -33,7 +33,7 @@ use Rattle.maps.specs.Maps.{change_at, each_value}
 use Rattle.maps.proofs.Maps.{get-each_value, get-remove_nat, get_inserted}
 use Rattle.maps.proofs.MapLaws.{get-change_at, get-insert_place}
 use Rattle.runs.proofs.bytes.CutLaws.{touched_in}
-use Rattle.runs.proofs.events.Lookups.{get_or-default}
+use Rattle.machine.proofs.sound.Lookups.{get_or-default}
 use Rattle.runs.proofs.views.Grow.{page_count_more}
 use Rattle.runs.specs.World.{World, Move, WorldStep}
 use Rattle.runs.proofs.moments.CoreSteps.{core_cases}

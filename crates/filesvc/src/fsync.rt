@@ -20,7 +20,7 @@ use cachecore::Reply;
 use errboard::Recorder;
 use pc_types::limits::LAST_PAGE;
 use pc_types::{ErrCode, HandleId, PageIndex, Refusal, SyncId};
-use world::World;
+use world::{World, answers};
 
 impl<D: BlockDevice> Solo<D> {
     /// Writes the file's dirty pages to the device, and has the device make them durable: it is flushed where anything was written to it
@@ -164,7 +164,7 @@ fn sync_step<D: BlockDevice>(
     ensures serves { Serves (service_of world.old recorder.old) (service_of world.new recorder.new) }
     ensures turn { SyncTurn world.old sync result world.new }
 {
-    match world.sync_step(sync) {
+    match answers::sync_reply(&world.sync_step(sync)) {
         Reply::Job(serial) => {
             carry_out(world, recorder, serial);
             None

@@ -13,7 +13,7 @@ use cachecore::Reply;
 use errboard::Recorder;
 use pc_types::limits::MAX_FILES;
 use pc_types::{FileId, HandleId, PageIndex, Serial};
-use world::World;
+use world::{World, answers};
 
 /// Fills a page.
 pub(crate) fn fill_page<D: BlockDevice>(
@@ -26,7 +26,7 @@ pub(crate) fn fill_page<D: BlockDevice>(
     ensures rests { IsResting world.new }
     ensures made { AtOnce world.old recorder.old (step.FillBegin handle page) result world.new recorder.new }
 {
-    match world.fill_begin(handle, page) {
+    match answers::fill_reply(&world.fill_begin(handle, page)) {
         Reply::Job(serial) => carry_out(world, recorder, serial),
         reply => reply,
     }
@@ -42,7 +42,7 @@ pub(crate) fn flush_page<D: BlockDevice>(
     ensures rests { IsResting world.new }
     ensures made { AtOnce world.old recorder.old (step.FlushBegin file) result world.new recorder.new }
 {
-    match world.flush_begin(file) {
+    match answers::flush_reply(&world.flush_begin(file)) {
         Reply::Job(serial) => carry_out(world, recorder, serial),
         reply => reply,
     }
@@ -62,7 +62,7 @@ pub(crate) fn carry_out<D: BlockDevice>(
     // Once the request has ended nothing tells its file.
     let written = world.flush_of(serial);
     let _ = world.call(serial);
-    let end = world.end(serial);
+    let end = answers::end_reply(&world.end(serial));
     note(recorder, written, &end);
     end
 }

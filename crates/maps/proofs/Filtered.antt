@@ -1,13 +1,10 @@
 -- A map of what a function gives of the values of another, where it gives one.
-use Rattle.std.proofs.Common.{◌≡◌, ℕ, Bool, true, false, cond, eqb, eqb-true, T, List, [], ◌∷◌, refl, ap, sym}
-use Rattle.std.proofs.Common.{◌∙◌, arith}
-use Rattle.std.specs.Prelude.{Option, Some, None, option_map, option_and_then, filter_map}
+use Rattle.std.proofs.Common.{◌≡◌, ℕ, Bool, true, false, cond, eqb, eqb-true, T, List, [], ◌∷◌, refl, ap, sym, ◌∙◌}
+use Rattle.std.proofs.Common.{arith, Option, Some, None, option_map, option_and_then, filter_map, nat_cmp}
 use Rattle.std.specs.List.{cons_option}
-use Rattle.std.specs.Ordering.{nat_cmp}
 use Rattle.std.specs.Cmp.{nat_cmp_total, unsigned_tied}
 use Rattle.std.specs.FinMap as finmap
-use Rattle.std.specs.FinMap.{FinMap, find, get-empty, get-entries, get-from_entries}
-use Rattle.std.specs.FinMap.{entries_sorted}
+use Rattle.std.specs.FinMap.{FinMap, find, get-empty, get-entries, get-from_entries, entries_sorted}
 use Rattle.std.specs.FinMap.Entries.{below_all, is_sorted}
 use Rattle.maps.specs.Maps.{filter_map_values, put_some}
 use Rattle.maps.proofs.Found.{above, both_true}

@@ -1,9 +1,8 @@
 -- The numbers of a range that pass a test, in order, and each beside an element of another list.
 use Rattle.std.proofs.Common.{◌≡◌, ℕ, zero, suc, ◌+◌, ◌-◌, ◌<◌, ◌≤◌, Bool, true, false, cond, eqb, eq-eqb, leb, ltb}
-use Rattle.std.proofs.Common.{List, [], ◌∷◌, length, get_or, refl, ap, sym, ◌∙◌, arith, inl, inr}
-use Rattle.std.specs.Prelude.{◌&&◌, ◌⊎◌, Some, None, Option, filter}
+use Rattle.std.proofs.Common.{List, [], ◌∷◌, length, get_or, refl, ap, sym, ◌∙◌, arith, inl, inr, ◌&&◌, ◌⊎◌, Some, None}
+use Rattle.std.proofs.Common.{Option, filter, nat_cmp}
 use Rattle.std.specs.List.{range_with_len, zip}
-use Rattle.std.specs.Ordering.{nat_cmp}
 use Rattle.std.specs.Cmp.{unsigned_tied}
 use Rattle.std.specs.FinMap.{find}
 use Rattle.std.proofs.lemmas.Bool.Decides.{nat_tests}

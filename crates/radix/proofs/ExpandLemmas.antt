@@ -1,5 +1,5 @@
 -- Lemmas on a node of entries that comes in the place of an entry of one slot.
-use Rattle.std.proofs.Common.{◌≡◌, ◌≢◌, ℕ, zero, suc, List, [], ◌∷◌, if◌then◌else◌, lit<, ◌+◌, ◌-◌, ◌*◌, ◌/◌, ◌%◌, ◌^◌, ◌<◌, ◌≤◌, ◌⊎◌, min, true, cond, eqb, get_or, count_by, Some, None, refl, sym, ap, ◌∙◌, inl, inr, arith, length-set}
+use Rattle.std.proofs.Common.{◌≡◌, ◌≢◌, ℕ, zero, suc, List, [], ◌∷◌, if◌then◌else◌, lit<, ◌+◌, ◌-◌, ◌*◌, ◌/◌, ◌%◌, ◌^◌, ◌<◌, ◌≤◌, min, true, cond, eqb, get_or, count_by, Some, None, refl, sym, ap, ◌∙◌, inl, inr, arith, length-set}
 use Rattle.std.specs.Int.{bit_at}
 use Rattle.std.proofs.lemmas.Bool.{cases_eq, cases_lt}
 use Rattle.std.proofs.lemmas.Option.{same_Some, none-some}
@@ -11,13 +11,14 @@ use Rattle.radix.specs.declared.node.Node.{Node}
 use Rattle.radix.specs.declared.slot.Slot.{Slot}
 use Rattle.radix.specs.declared.slot.Slot.TheVariants.{Empty, Child, Sibling}
 use Rattle.radix.specs.Entries.{slot, bits, content, bit_of, see, entry_at, IsElsewhere, IsLeaf, StandsAt}
-use Rattle.radix.specs.Tree.{is_used, IsLeafSlot, IsLink, HasChild, HasParent, IsNode, IsTree, IsMarked, MarkIsExactBut, NoneEmptyBut, IsSound, HasBy, TellsEntries, with_slot}
+use Rattle.radix.specs.Tree.{is_used, IsLeafSlot, IsLink, IsNode, IsTree, IsMarked, MarkIsExactBut, NoneEmptyBut, IsSound, TellsEntries, with_slot}
 use Rattle.radix.specs.Parts.{AllParts, AreFirsts, IsFull, Parts, WritesParts, part_slot}
 use Rattle.radix.proofs.Places.{place-small}
 use Rattle.radix.proofs.SeeLemmas.{see-same, see-is}
 use Rattle.radix.proofs.TreeLemmas.{contains_key}
 use Rattle.radix.proofs.RunLemmas.{slot_in_is}
-use Rattle.radix.proofs.GrowthLemmas.{Gains, IsLink-at, count_by-set, relink, slot-other, slot-same}
+use Rattle.radix.proofs.GrowthLemmas.{count_by-set, slot-other, slot-same}
+use Rattle.radix.proofs.LinkedLemmas.{Gains, Linked, cases_new, kept, not_child, tree_new}
 use Rattle.radix.proofs.FirstsLemmas.{given_at, given_any}
 use Rattle.radix.proofs.CutLemmas.{count_by-all, leaf_slot, len_kept, part_bit, part_content, part_no_child, part_not_empty, part_quiet, part_used, parts_tell, parts_written}
 
@@ -45,33 +46,8 @@ module _ (old new : Slab Node) (head key : ℕ) (n b : Node) (child place step :
   Gains-n : Gains n m
   Gains-n = record { level = refl; prefix = refl; parent = refl; marks = refl; keeps = λ o c names. same_slot o (no_child_was o c names) ∙ names }
 
-  Gains-refl : (x : Node) → Gains x x
-  Gains-refl x = record { level = refl; prefix = refl; parent = refl; marks = refl; keeps = λ o c names. names }
-
-  not_child : (x : ℕ) (y : Node) → get old x ≡ Some y → x ≢ child
-  not_child x y at same = none-some y (sym vacant ∙ ap (get old) (sym same) ∙ at)
-
-  -- an old node is there, with more
-  kept : (x : ℕ) (y : Node) → get old x ≡ Some y → HasBy Gains new x y
-  kept x y at = elim (cases_eq x key) [
-    | inl same ↦
-        let e : y ≡ n = same_Some y n (sym at ∙ ap (get old) same ∙ was) in
-        record { node = m; there = ap (get new) same ∙ now; is = rw e Gains-n }
-    | inr differs ↦ record { node = y; there = others x differs (not_child x y at) ∙ at; is = Gains-refl y }
-  ]
-
   link_new : IsLink key m (place % 64) b
   link_new = record { parent = full.parent; level = full.level; prefix = omega (arith, on_path, full.prefix); within = omega arith }
-
-  -- what each node of the new slab is
-  cases_new : (x : ℕ) (y : Node) → get new x ≡ Some y → ((x ≡ child) × (y ≡ b)) ⊎ (((x ≡ key) × (y ≡ m)) ⊎ ((x ≢ key) × (get old x ≡ Some y)))
-  cases_new x y at = elim (cases_eq x child) [
-    | inl same ↦ inl (same, same_Some y b (sym at ∙ ap (get new) same ∙ made))
-    | inr apart ↦ elim (cases_eq x key) [
-      | inl same ↦ inr (inl (same, same_Some y m (sym at ∙ ap (get new) same ∙ now)))
-      | inr differs ↦ inr (inr (differs, sym (others x differs apart) ∙ at))
-    ]
-  ]
 
   count_new : n.count ≡ count_by is_used m.slots
   count_new =
@@ -94,12 +70,6 @@ module _ (old new : Slab Node) (head key : ℕ) (n b : Node) (child place step :
         count = omega (arith, used, full.count, full.slots_length);
       }
 
-  nodes_new : (x : ℕ) (y : Node) → get new x ≡ Some y → IsNode y
-  nodes_new x y at = elim (cases_new x y at) [
-    | inl p ↦ rw (p.1) IsNode-b
-    | inr q ↦ elim q [ inl p ↦ rw (p.1) IsNode-m | inr p ↦ tree_was.nodes x y p.1 ]
-  ]
-
   -- no slot of the new node has a child
   no_child : (o c : ℕ) → slot b o ≡ Child c → ⊥
   no_child o c names = elim (cases_lt o 64) [
@@ -107,56 +77,23 @@ module _ (old new : Slab Node) (head key : ℕ) (n b : Node) (child place step :
     | inr past ↦ let e : Empty ≡ Child c = sym (get_or_past b.slots o Empty (omega (arith, past, full.slots_length))) ∙ names in cc
   ]
 
-  children_new : (x : ℕ) (y : Node) (o c : ℕ) → get new x ≡ Some y → slot y o ≡ Child c → HasChild new x y o c
-  children_new x y o c at names = elim (cases_new x y at) [
-    | inl p ↦ absurd (no_child o c (ap (λ z. slot z o) (sym p.1) ∙ names))
-    | inr q ↦ elim q [
-      | inl p ↦ elim (cases_eq o (place % 64)) [
-        | inl same ↦
-            let e : Child child ≡ Child c = sym linked ∙ ap (slot m) (sym same) ∙ ap (λ z. slot z o) (sym p.1) ∙ names in
-            let f : c ≡ child = cc in
-            record { below = b; there = ap (get new) f ∙ made; link = rw (p.0, p.1, same) link_new }
-        | inr differs ↦
-            let h = tree_was.children key n o c was (sym (same_slot o differs) ∙ ap (λ z. slot z o) (sym p.1) ∙ names) in
-            let k = kept c h.below h.there in
-            record { below = k.node; there = k.there; link = IsLink-at x key y m o k.node p.0 p.1 (relink key n m o h.below k.node Gains-n k.is h.link) }
-      ]
-      | inr p ↦
-          let h = tree_was.children x y o c p.1 names in
-          let k = kept c h.below h.there in
-          record { below = k.node; there = k.there; link = relink x y y o h.below k.node (Gains-refl y) k.is h.link }
-    ]
-  ]
-
-  parents_old : (x : ℕ) (y z : Node) → get old x ≡ Some y → Gains y z → x ≢ head → HasParent new x z
-  parents_old x y z at gains below =
-      let p = tree_was.parents x y at below in
-      let k = kept p.key p.above p.there in
-      record { key = p.key; above = k.node; offset = p.offset; there = k.there; names = k.is.keeps p.offset x p.names; link = relink p.key p.above k.node p.offset y z k.is gains p.link }
-
-  parents_new : (x : ℕ) (y : Node) → get new x ≡ Some y → x ≢ head → HasParent new x y
-  parents_new x y at below = elim (cases_new x y at) [
-    | inl p ↦ rw (p.0, p.1) (record { key = key; above = m; offset = place % 64; there = now; names = linked; link = link_new })
-    | inr q ↦ elim q [
-      | inl p ↦ rw (p.0, p.1) (parents_old key n m was Gains-n (λ e. below (p.0 ∙ e)))
-      | inr p ↦ parents_old x y y p.1 (Gains-refl y) below
-    ]
-  ]
-
-  tree_new : IsTree new head
-  tree_new =
-      let t = kept head tree_was.top tree_was.is_head.there in
-      record {
-        top = t.node;
-        is_head = record { there = t.there; parent = t.is.parent ∙ tree_was.is_head.parent; prefix = t.is.prefix ∙ tree_was.is_head.prefix };
-        nodes = nodes_new;
-        children = children_new;
-        parents = parents_new;
-        small = λ x y at. elim (cases_new x y at) [
-          | inl p ↦ rw (p.0) tiny
-          | inr q ↦ elim q [ inl p ↦ rw (p.0) (tree_was.small key n was) | inr p ↦ tree_was.small x y p.1 ]
-        ];
-      }
+  in_slab : Linked old new head key n m b child place
+  in_slab = record {
+    tree_was = tree_was;
+    was = was;
+    vacant = vacant;
+    tiny = tiny;
+    now = now;
+    made = made;
+    others = others;
+    gains = Gains-n;
+    link = link_new;
+    linked = linked;
+    same_slot = same_slot;
+    node_above = IsNode-m;
+    node_below = IsNode-b;
+    no_child = no_child;
+  }
 
   -- ---- the marks
 
@@ -164,7 +101,7 @@ module _ (old new : Slab Node) (head key : ℕ) (n b : Node) (child place step :
   child_kept : (mark x : ℕ) (y : Node) (o c : ℕ) (below : Node) → mark < 4 → get old x ≡ Some y → o < 64 → slot y o ≡ Child c → get new c ≡ Some below → bit_at (bits y mark) o ≡ min (bits below mark) 1
   child_kept mark x y o c below low there inside names is =
       let h = tree_was.children x y o c there names in
-      let k = kept c h.below h.there in
+      let k = kept in_slab c h.below h.there in
       let e : bits below mark ≡ bits h.below mark = ap (λ w. bits w mark) (same_Some below k.node (sym is ∙ k.there)) ∙ ap (λ ms. get_or ms mark 0) k.is.marks in
       ((sound.exact mark low).each x y there).child o c h.below inside names (λ e. cc) h.there ∙ ap (λ w. min w 1) (sym e)
 
@@ -202,7 +139,7 @@ module _ (old new : Slab Node) (head key : ℕ) (n b : Node) (child place step :
 
   exact_new : (mark : ℕ) → mark < 4 → MarkIsExactBut new mark None
   exact_new mark low = record {
-    each = λ x y at. elim (cases_new x y at) [
+    each = λ x y at. elim (cases_new in_slab x y at) [
       | inl p ↦ rw (p.1) (exact_b mark low)
       | inr q ↦ elim q [ inl p ↦ rw (p.1) (exact_m mark low) | inr p ↦ exact_other mark low x y p.1 ]
     ];
@@ -210,14 +147,14 @@ module _ (old new : Slab Node) (head key : ℕ) (n b : Node) (child place step :
 
   filled_new : NoneEmptyBut new None
   filled_new = record {
-    each = λ x y at but. elim (cases_new x y at) [
+    each = λ x y at but. elim (cases_new in_slab x y at) [
       | inl p ↦ rw (p.1, full.count) (omega arith)
       | inr q ↦ elim q [ inl p ↦ rw (p.1) (sound.filled.each key n was (λ e. cc)) | inr p ↦ sound.filled.each x y p.1 (λ e. cc) ]
     ];
   }
 
   pub full_sound : IsSound new head None
-  full_sound = record { tree = tree_new; exact = exact_new; filled = filled_new }
+  full_sound = record { tree = tree_new in_slab; exact = exact_new; filled = filled_new }
 
   -- ---- what the nodes stand for
 
@@ -227,16 +164,16 @@ module _ (old new : Slab Node) (head key : ℕ) (n b : Node) (child place step :
     beside l p = here (λ same. differs (sym l) (omega (arith, same, p, on_path)))
 
     seen_new : see f none new level at ≡ see f none old level at
-    seen_new = see-same f none old new head head tree_was tree_new level at
+    seen_new = see-same f none old new head head tree_was (tree_new in_slab) level at
         (λ x y is at_level at_prefix. elim (cases_eq x key) [
           | inl same ↦
               let e : y ≡ n = same_Some y n (sym is ∙ ap (get old) same ∙ was) in
               let l : n.level ≡ level = ap (λ (z : Node). z.level) (sym e) ∙ at_level in
               let p : n.prefix ≡ at / 64 = ap (λ (z : Node). z.prefix) (sym e) ∙ at_prefix in
               record { key = key; node = m; there = now; at_level = l; at_prefix = p; sees = beside l p ∙ ap (λ z. f z (at % 64)) (sym e) }
-          | inr other ↦ record { key = x; node = y; there = others x other (not_child x y is) ∙ is; at_level = at_level; at_prefix = at_prefix; sees = refl }
+          | inr other ↦ record { key = x; node = y; there = others x other (not_child in_slab x y is) ∙ is; at_level = at_level; at_prefix = at_prefix; sees = refl }
         ])
-        (λ x y is at_level at_prefix. elim (cases_new x y is) [
+        (λ x y is at_level at_prefix. elim (cases_new in_slab x y is) [
           | inl p ↦
               let l : b.level ≡ level = ap (λ (z : Node). z.level) (sym p.1) ∙ at_level in
               let q : b.prefix ≡ at / 64 = ap (λ (z : Node). z.prefix) (sym p.1) ∙ at_prefix in
@@ -260,19 +197,19 @@ module _ (old new : Slab Node) (head key : ℕ) (n b : Node) (child place step :
   pub full_writes : WritesParts old new n.level place b.level (place * 64) 64 step
   full_writes = record {
     slots = λ value j is low.
-        see-is (λ z o. content (slot z o)) None new head tree_new b.level (place * 64 + j) child b made refl (below_prefix j low)
+        see-is (λ z o. content (slot z o)) None new head (tree_new in_slab) b.level (place * 64 + j) child b made refl (below_prefix j low)
         ∙ ap (λ o. content (slot b o)) (below_offset j low)
         ∙ ap content (full.slots j low)
         ∙ part_content (eqb (j % 2 ^ step) 0) (slot n (place % 64)) 0 (0 + (j - j % 2 ^ step)) ((place * 64 + (j - j % 2 ^ step)) % 64) value
         (sym (see-is (λ z o. content (slot z o)) None old head tree_was n.level place key n was refl on_path) ∙ is) (omega (arith, low));
     marks = λ mark j small_mark low.
-        see-is (λ z o. bit_of (slot z o) (bit_at (bits z mark) o)) 0 new head tree_new b.level (place * 64 + j) child b made refl (below_prefix j low)
+        see-is (λ z o. bit_of (slot z o) (bit_at (bits z mark) o)) 0 new head (tree_new in_slab) b.level (place * 64 + j) child b made refl (below_prefix j low)
         ∙ ap (λ o. bit_of (slot b o) (bit_at (bits b mark) o)) (below_offset j low)
         ∙ ap (λ z. bit_of z (bit_at (bits b mark) j)) (full.slots j low)
         ∙ ap (bit_of (part_slot (slot n (place % 64)) 0 step j)) (full.marks mark j small_mark low)
         ∙ part_bit (eqb (j % 2 ^ step) 0) (slot n (place % 64)) (0 + (j - j % 2 ^ step)) (bit_at (bits n mark) (place % 64)) leaf
         ∙ ap (λ z. cond (eqb (j % 2 ^ step) 0) z 0) (sym (see-is (λ z o. bit_of (slot z o) (bit_at (bits z mark) o)) 0 old head tree_was n.level place key n was refl on_path));
-    gone = λ apart. see-is (λ z o. content (slot z o)) None new head tree_new n.level place key m now refl on_path ∙ ap content linked;
+    gone = λ apart. see-is (λ z o. content (slot z o)) None new head (tree_new in_slab) n.level place key m now refl on_path ∙ ap content linked;
     others = λ level at apart differs. seen_new (λ z o. content (slot z o)) None level at (λ unlike. ap content (same_slot (at % 64) unlike)) apart differs;
     other_marks = λ mark level at small_mark apart differs.
         seen_new (λ z o. bit_of (slot z o) (bit_at (bits z mark) o)) 0 level at (λ unlike. ap (λ z. bit_of z (bit_at (bits n mark) (at % 64))) (same_slot (at % 64) unlike)) apart differs;

@@ -1,5 +1,5 @@
 -- Lemmas on a node that is made below an empty slot.
-use Rattle.std.proofs.Common.{◌≡◌, ◌≢◌, ℕ, zero, suc, ◌+◌, ◌-◌, ◌/◌, ◌%◌, ◌^◌, ◌<◌, ◌≤◌, ◌⊎◌, min, Bool, cond, List, length, get_or, set, Option, Some, None, count_by, refl, sym, ap, ◌∙◌, inl, inr, arith, get_or-set_same, get_or-set_other, length-set, lit<}
+use Rattle.std.proofs.Common.{◌≡◌, ◌≢◌, ℕ, zero, suc, ◌+◌, ◌-◌, ◌/◌, ◌%◌, ◌^◌, ◌<◌, ◌≤◌, min, Bool, cond, List, length, get_or, set, Option, Some, None, count_by, refl, sym, ap, ◌∙◌, inl, inr, arith, get_or-set_same, get_or-set_other, length-set, lit<}
 use Rattle.std.proofs.Math.ListN.{replicate}
 use Rattle.std.specs.Int.{bit_at}
 use Rattle.std.proofs.lemmas.Nat.Bits.{bit_at-zero}
@@ -13,10 +13,11 @@ use Rattle.radix.specs.declared.node.Node.{Node}
 use Rattle.radix.specs.declared.slot.Slot.{Slot}
 use Rattle.radix.specs.declared.slot.Slot.TheVariants.{Empty, Child, Sibling}
 use Rattle.radix.specs.Entries.{slot, bits, content, bit_of, see}
-use Rattle.radix.specs.Tree.{is_used, IsLink, HasChild, HasParent, IsNode, IsTree, IsMarked, MarkIsExactBut, NoneEmptyBut, IsSound, SameSlots, HasGap, HasBy, blank, with_slot}
+use Rattle.radix.specs.Tree.{is_used, IsLink, IsNode, IsTree, IsMarked, MarkIsExactBut, NoneEmptyBut, IsSound, SameSlots, HasGap, blank, with_slot}
 use Rattle.radix.proofs.SeeLemmas.{see-same}
 use Rattle.radix.proofs.TreeLemmas.{contains_key}
 use Rattle.radix.proofs.Places.{place-small}
+use Rattle.radix.proofs.LinkedLemmas.{Gains, Linked, cases_new, kept, not_child, tree_new}
 
 -- ---- slots that change
 
@@ -52,25 +53,6 @@ fits-blank level prefix parent (suc (suc (suc (suc mark)))) = lit< tt
 pub IsNode-blank : (level prefix : ℕ) (parent : Option ℕ) → level ≤ 10 → prefix < 2 ^ 58 → IsNode (blank level prefix parent)
 IsNode-blank level prefix parent low small = record { slots = refl; marks = refl; level = low; prefix = small; fits = fits-blank level prefix parent; count = refl }
 
--- the node keeps its place, its children and its bits
-pub record Gains (old new : Node) : Type 0 where
-  pub level : new.level ≡ old.level
-  pub prefix : new.prefix ≡ old.prefix
-  pub parent : new.parent ≡ old.parent
-  pub marks : new.marks ≡ old.marks
-  pub keeps : (offset child : ℕ) → slot old offset ≡ Child child → slot new offset ≡ Child child
-
-pub relink : (key : ℕ) (above above' : Node) (offset : ℕ) (below below' : Node) → Gains above above' → Gains below below' → IsLink key above offset below → IsLink key above' offset below'
-relink key above above' offset below below' up down link = record {
-  parent = down.parent ∙ link.parent;
-  level = omega (arith, up.level, down.level, link.level);
-  prefix = omega (arith, up.prefix, down.prefix, link.prefix);
-  within = link.within;
-}
-
-pub IsLink-at : (x key : ℕ) (y m : Node) (offset : ℕ) (below : Node) → x ≡ key → y ≡ m → IsLink key m offset below → IsLink x y offset below
-IsLink-at x key y m offset below keys nodes link = rw (keys, nodes) link
-
 -- a node `child` below the node `key`, at `place`
 module _ (old new : Slab Node) (head key : ℕ) (n : Node) (child place : ℕ) (sound : IsSound old head (Some key)) (was : get old key ≡ Some n) (vacant : get old child ≡ None) (tiny : child < 2 ^ 62) (small : place < 2 ^ 58) (inner : 0 < n.level) (on_path : n.prefix ≡ place / 64) (empty : slot n (place % 64) ≡ Empty) (now : get new key ≡ Some (with_slot n (place % 64) (Child child) (n.count + 1))) (made : get new child ≡ Some (blank (n.level - 1) place (Some key))) (others : (x : ℕ) → x ≢ key → x ≢ child → get new x ≡ get old x) where
   abbrev m : Node
@@ -99,33 +81,8 @@ module _ (old new : Slab Node) (head key : ℕ) (n : Node) (child place : ℕ) (
         slot-other n (place % 64) o (Child child) (n.count + 1) differs ∙ names;
   }
 
-  Gains-refl : (x : Node) → Gains x x
-  Gains-refl x = record { level = refl; prefix = refl; parent = refl; marks = refl; keeps = λ o c names. names }
-
-  not_child : (x : ℕ) (y : Node) → get old x ≡ Some y → x ≢ child
-  not_child x y at same = none-some y (sym vacant ∙ ap (get old) (sym same) ∙ at)
-
-  -- an old node is there, with more
-  pub kept : (x : ℕ) (y : Node) → get old x ≡ Some y → HasBy Gains new x y
-  kept x y at = elim (cases_eq x key) [
-    | inl same ↦
-        let e : y ≡ n = same_Some y n (sym at ∙ ap (get old) same ∙ was) in
-        record { node = m; there = ap (get new) same ∙ now; is = rw e Gains-n }
-    | inr differs ↦ record { node = y; there = others x differs (not_child x y at) ∙ at; is = Gains-refl y }
-  ]
-
   link_new : IsLink key m (place % 64) b
   link_new = record { parent = refl; level = omega arith; prefix = omega (arith, on_path); within = omega arith }
-
-  -- what each node of the new slab is
-  cases_new : (x : ℕ) (y : Node) → get new x ≡ Some y → ((x ≡ child) × (y ≡ b)) ⊎ (((x ≡ key) × (y ≡ m)) ⊎ ((x ≢ key) × (get old x ≡ Some y)))
-  cases_new x y at = elim (cases_eq x child) [
-    | inl same ↦ inl (same, same_Some y b (sym at ∙ ap (get new) same ∙ made))
-    | inr apart ↦ elim (cases_eq x key) [
-      | inl same ↦ inr (inl (same, same_Some y m (sym at ∙ ap (get new) same ∙ now)))
-      | inr differs ↦ inr (inr (differs, sym (others x differs apart) ∙ at))
-    ]
-  ]
 
   count_new : n.count + 1 ≡ count_by is_used m.slots
   count_new =
@@ -136,69 +93,29 @@ module _ (old new : Slab Node) (head key : ℕ) (n : Node) (child place : ℕ) (
   IsNode-m : IsNode m
   IsNode-m = record { slots = length-set n.slots (place % 64) (Child child) ∙ node_was.slots; marks = node_was.marks; level = node_was.level; prefix = node_was.prefix; fits = node_was.fits; count = count_new }
 
-  nodes_new : (x : ℕ) (y : Node) → get new x ≡ Some y → IsNode y
-  nodes_new x y at = elim (cases_new x y at) [
-    | inl p ↦ rw (p.1) (IsNode-blank (n.level - 1) place (Some key) (omega (arith, node_was.level)) small)
-    | inr q ↦ elim q [ inl p ↦ rw (p.1) IsNode-m | inr p ↦ tree_was.nodes x y p.1 ]
-  ]
-
-  children_new : (x : ℕ) (y : Node) (o c : ℕ) → get new x ≡ Some y → slot y o ≡ Child c → HasChild new x y o c
-  children_new x y o c at names = elim (cases_new x y at) [
-    | inl p ↦ absurd (let e : Empty ≡ Child c = sym (slot-blank (n.level - 1) place (Some key) o) ∙ ap (λ z. slot z o) (sym p.1) ∙ names in cc)
-    | inr q ↦ elim q [
-      | inl p ↦ elim (cases_eq o (place % 64)) [
-        | inl same ↦
-            let e : Child child ≡ Child c = sym linked ∙ ap (slot m) (sym same) ∙ ap (λ z. slot z o) (sym p.1) ∙ names in
-            let f : c ≡ child = cc in
-            record { below = b; there = ap (get new) f ∙ made; link = rw (p.0, p.1, same) link_new }
-        | inr differs ↦
-            let e : slot n o ≡ Child c = sym (slot-other n (place % 64) o (Child child) (n.count + 1) differs) ∙ ap (λ z. slot z o) (sym p.1) ∙ names in
-            let h = tree_was.children key n o c was e in
-            let k = kept c h.below h.there in
-            record { below = k.node; there = k.there; link = IsLink-at x key y m o k.node p.0 p.1 (relink key n m o h.below k.node Gains-n k.is h.link) }
-      ]
-      | inr p ↦
-          let h = tree_was.children x y o c p.1 names in
-          let k = kept c h.below h.there in
-          record { below = k.node; there = k.there; link = relink x y y o h.below k.node (Gains-refl y) k.is h.link }
-    ]
-  ]
-
-  parents_old : (x : ℕ) (y z : Node) → get old x ≡ Some y → Gains y z → x ≢ head → HasParent new x z
-  parents_old x y z at gains below =
-      let p = tree_was.parents x y at below in
-      let k = kept p.key p.above p.there in
-      record { key = p.key; above = k.node; offset = p.offset; there = k.there; names = k.is.keeps p.offset x p.names; link = relink p.key p.above k.node p.offset y z k.is gains p.link }
-
-  parents_new : (x : ℕ) (y : Node) → get new x ≡ Some y → x ≢ head → HasParent new x y
-  parents_new x y at below = elim (cases_new x y at) [
-    | inl p ↦ rw (p.0, p.1) (record { key = key; above = m; offset = place % 64; there = now; names = linked; link = link_new })
-    | inr q ↦ elim q [
-      | inl p ↦ rw (p.0, p.1) (parents_old key n m was Gains-n (λ e. below (p.0 ∙ e)))
-      | inr p ↦ parents_old x y y p.1 (Gains-refl y) below
-    ]
-  ]
-
-  pub tree_new : IsTree new head
-  tree_new =
-      let t = kept head tree_was.top tree_was.is_head.there in
-      record {
-        top = t.node;
-        is_head = record { there = t.there; parent = t.is.parent ∙ tree_was.is_head.parent; prefix = t.is.prefix ∙ tree_was.is_head.prefix };
-        nodes = nodes_new;
-        children = children_new;
-        parents = parents_new;
-        small = λ x y at. elim (cases_new x y at) [
-          | inl p ↦ rw (p.0) tiny
-          | inr q ↦ elim q [ inl p ↦ rw (p.0) (tree_was.small key n was) | inr p ↦ tree_was.small x y p.1 ]
-        ];
-      }
+  in_slab : Linked old new head key n m b child place
+  in_slab = record {
+    tree_was = tree_was;
+    was = was;
+    vacant = vacant;
+    tiny = tiny;
+    now = now;
+    made = made;
+    others = others;
+    gains = Gains-n;
+    link = link_new;
+    linked = linked;
+    same_slot = λ o differs. slot-other n (place % 64) o (Child child) (n.count + 1) differs;
+    node_above = IsNode-m;
+    node_below = IsNode-blank (n.level - 1) place (Some key) (omega (arith, node_was.level)) small;
+    no_child = λ o c names. let e : Empty ≡ Child c = sym (slot-blank (n.level - 1) place (Some key) o) ∙ names in cc;
+  }
 
   -- ---- the marks
 
   bits_kept : (mark x : ℕ) (y z : Node) → get old x ≡ Some y → get new x ≡ Some z → bits z mark ≡ bits y mark
   bits_kept mark x y z at is =
-      let k = kept x y at in
+      let k = kept in_slab x y at in
       ap (λ w. bits w mark) (same_Some z k.node (sym is ∙ k.there)) ∙ ap (λ ms. get_or ms mark 0) k.is.marks
 
   exact_m : (mark : ℕ) → mark < 4 → IsMarked new mark None m
@@ -247,7 +164,7 @@ module _ (old new : Slab Node) (head key : ℕ) (n : Node) (child place : ℕ) (
 
   exact_new : (mark : ℕ) → mark < 4 → MarkIsExactBut new mark None
   exact_new mark low = record {
-    each = λ x y at. elim (cases_new x y at) [
+    each = λ x y at. elim (cases_new in_slab x y at) [
       | inl p ↦ rw (p.1) (exact_b mark low)
       | inr q ↦ elim q [ inl p ↦ rw (p.1) (exact_m mark low) | inr p ↦ exact_other mark low x y p.1 ]
     ];
@@ -255,27 +172,27 @@ module _ (old new : Slab Node) (head key : ℕ) (n : Node) (child place : ℕ) (
 
   filled_new : NoneEmptyBut new (Some child)
   filled_new = record {
-    each = λ x y at but. elim (cases_new x y at) [
+    each = λ x y at but. elim (cases_new in_slab x y at) [
       | inl p ↦ absurd (but (ap Some p.0))
       | inr q ↦ elim q [ inl p ↦ rw (p.1) (omega arith) | inr p ↦ sound.filled.each x y p.1 (λ e. p.0 (let f : x ≡ key = cc in f)) ]
     ];
   }
 
   pub sound_new : IsSound new head (Some child)
-  sound_new = record { tree = tree_new; exact = exact_new; filled = filled_new }
+  sound_new = record { tree = tree_new in_slab; exact = exact_new; filled = filled_new }
 
   -- ---- what the nodes stand for
 
   module _ {X : Type 0} (f : Node → ℕ → X) (none : X) (same : (o : ℕ) → f m o ≡ f n o) (gone : (o : ℕ) → f b o ≡ none) (level at : ℕ) where
     seen_new : see f none new level at ≡ see f none old level at
-    seen_new = see-same f none old new head head tree_was tree_new level at
+    seen_new = see-same f none old new head head tree_was (tree_new in_slab) level at
         (λ x y is at_level at_prefix. elim (cases_eq x key) [
           | inl here ↦
               let e : y ≡ n = same_Some y n (sym is ∙ ap (get old) here ∙ was) in
               record { key = key; node = m; there = now; at_level = ap (λ (z : Node). z.level) (sym e) ∙ at_level; at_prefix = ap (λ (z : Node). z.prefix) (sym e) ∙ at_prefix; sees = same (at % 64) ∙ ap (λ z. f z (at % 64)) (sym e) }
-          | inr differs ↦ record { key = x; node = y; there = others x differs (not_child x y is) ∙ is; at_level = at_level; at_prefix = at_prefix; sees = refl }
+          | inr differs ↦ record { key = x; node = y; there = others x differs (not_child in_slab x y is) ∙ is; at_level = at_level; at_prefix = at_prefix; sees = refl }
         ])
-        (λ x y is at_level at_prefix. elim (cases_new x y is) [
+        (λ x y is at_level at_prefix. elim (cases_new in_slab x y is) [
           | inl p ↦ inr (ap (λ z. f z (at % 64)) p.1 ∙ gone (at % 64))
           | inr q ↦ inl (elim q [
             | inl p ↦ record { key = key; node = n; there = was; at_level = ap (λ (z : Node). z.level) (sym p.1) ∙ at_level; at_prefix = ap (λ (z : Node). z.prefix) (sym p.1) ∙ at_prefix; sees = sym (same (at % 64)) ∙ ap (λ z. f z (at % 64)) (sym p.1) }

@@ -7,6 +7,7 @@ pub mod WalkLemmas
 pub mod NodeLemmas
 pub mod MarkLemmas
 pub mod SeeLemmas
+pub mod LinkedLemmas
 pub mod GrowthLemmas
 pub mod DescentLemmas
 pub mod WriteLemmas

@@ -15,7 +15,8 @@ use Rattle.radix.specs.Entries.{slot, bits, IsVoid, node_at, by_node, content, b
 use Rattle.radix.specs.Tree.{is_used, IsLink, HasChild, HasParent, IsNode, IsTree, IsMarked, IsSound, SameSlots, HasBy, with_slot, level_of, IsEntrySlot, IsPlain, IsQuiet, IsUnmarked, ErasesRun, WritesSlot}
 use Rattle.radix.proofs.TreeLemmas.{node_at-found, node_at-none, same_node, contains_key, IsUnder, is_under}
 use Rattle.radix.proofs.SeeLemmas.{see-same, see-is}
-use Rattle.radix.proofs.GrowthLemmas.{slot-same, slot-other, count_by-set, IsLink-at}
+use Rattle.radix.proofs.GrowthLemmas.{slot-same, slot-other, count_by-set}
+use Rattle.radix.proofs.LinkedLemmas.{IsLink-at}
 use Rattle.radix.proofs.DescentLemmas.{used_counts, filled_but, SameSlots-trans}
 use Rattle.radix.proofs.WriteLemmas.{put_tree, put_exact, put_filled, put_entries}
 use Rattle.radix.proofs.PutLemmas.{WritesSlot-at}

@@ -12,5 +12,6 @@ pub mod PlayLemmas
 pub mod Durably
 pub mod InFlight
 pub mod Stays
+pub mod StepKinds
 pub mod SyncStays
 pub mod RangeSync

@@ -21,6 +21,7 @@ use Rattle.machine.specs.Tests.{tests}
 use Rattle.machine.proofs.steps.Cases.{answered}
 use Rattle.machine.proofs.steps.Ends.{end_loud}
 use Rattle.runs.specs.World.{Move, World, WorldStep, Acts}
+use Rattle.world.proofs.StepKinds.{comes_to}
 use Rattle.world.specs.declared.step.Step.{Step}
 use Rattle.world.specs.declared.step.Step.TheVariants as step
 use Rattle.world.specs.Stepping.{WorldSeen, world_of, move_of, is_made, is_call, TellsForCalls, CallReply, EndReply}
@@ -114,43 +115,16 @@ told_so : {A : Type 0} (o : Option A) (Q : Type 0) → is_some o ≡ true → If
 told_so None Q e h = absurd cc
 told_so (Some x) Q e h = h
 
-called : (old new : WorldSeen) (t : Serial) (r : Reply) (q : Option Request) (o : Option Noted)
-    → is_made (step.Call t) r ≡ true → is_some old.device.contents ≡ true → CallReply old t.0 q o r new
-    → IsMove (step.Call t) r old new
-called old new t r (Some x) None e tells h = told_so old.device.contents _ tells h.2
-called old new t r (Some x) (Some o) e tells h = absurd (let k = ap (is_made (step.Call t)) h.0 in cc)
-called old new t r None o e tells h = absurd (let k = ap (is_made (step.Call t)) h.0 in cc)
-
-ended : (old new : WorldSeen) (t : Serial) (r : Reply) (o : Option Noted) → is_made (step.End t) r ≡ true
-    → EndReply old (step.End t) o r new → IsMove (step.End t) r old new
-ended old new t r (Some o) e h = (None, true, h.0.0)
-ended old new t r None e h = absurd (let k = ap (is_made (step.End t)) h.0 in cc)
-
 made : (s : Step) (r : Reply) (old new : WorldSeen) → is_made s r ≡ true
     → (is_call s ≡ true → is_some old.device.contents ≡ true) → Steps old s r new → IsMove s r old new
-made step.Create r old new e t m = (None, true, m.0)
-made (step.Open f) r old new e t m = (None, true, m.0)
-made (step.Close h) r old new e t m = (None, true, m.0)
-made (step.Size h) r old new e t m = (None, true, m.0)
-made (step.Read h o n) r old new e t (inl m) = (None, true, m.0)
-made (step.Read h o n) r old new e t (inr m) = absurd (let k = ap (is_made (step.Read h o n)) m.0 in cc)
-made (step.Write h o b) r old new e t m = (None, true, m.0)
-made (step.Append h b) r old new e t m = (None, true, m.0)
-made (step.Truncate h z) r old new e t m = (None, true, m.0)
-made (step.FillBegin h p) r old new e t (inl m) = (None, true, m.0)
-made (step.FillBegin h p) r old new e t (inr m) = absurd (let k = ap (is_made (step.FillBegin h p)) m.0 in cc)
-made (step.FlushBegin f) r old new e t (inl m) = (None, true, m.0)
-made (step.FlushBegin f) r old new e t (inr m) = absurd (let k = ap (is_made (step.FlushBegin f)) m.0 in cc)
-made step.Evict r old new e t m = (None, true, m.0)
-made step.Age r old new e t m = (None, true, m.0)
-made (step.SyncBegin h) r old new e t m = (None, true, m.0)
-made (step.SyncBeginRange h first last) r old new e t m = (None, true, m.0)
-made (step.SyncStep n) r old new e t (inl m) = (None, true, m.0)
-made (step.SyncStep n) r old new e t (inr m) = absurd (let k = ap (is_made (step.SyncStep n)) m.0 in cc)
-made (step.SyncDrop n) r old new e t m = (None, true, m.0)
-made (step.Call n) r old new e t m = called old new n r (finmap.get old.core.requests n.0) (finmap.get old.outcomes n.0)
-    e (t refl) m
-made (step.End n) r old new e t m = ended old new n r (finmap.get old.outcomes n.0) e m
+made s r old new e t m = elim (comes_to s r old new m) [
+  | inl a ↦ (None, true, a.0)
+  | inr b ↦ elim b [
+    | inl c ↦ absurd (let k = c.1 in cc)
+    | inr d ↦ subst (λ x. IsMove x r old new) (sym d.is)
+        (told_so old.device.contents _ (t (ap is_call d.is)) d.moves)
+  ]
+]
 
 -- ---- a device that tells its contents goes on to tell them
 
@@ -166,47 +140,16 @@ moved Flush old new b before after (Ok u) h e = ap is_some h.0.written ∙ tells
 moved Flush old new b before after (Err c) h e =
     elim h.0.whole [ inl x ↦ ap is_some x ∙ e | inr x ↦ ap is_some x ∙ tells_with old.contents b before e ]
 
-still_called : (old new : WorldSeen) (t : ℕ) (r : Reply) (q : Option Request) (o : Option Noted)
-    → CallReply old t q o r new → is_some old.device.contents ≡ true → is_some new.device.contents ≡ true
-still_called old new t r (Some x) None h e = moved h.1.job.kind old.device new.device h.1.job.block h.1.job.bytes
-    h.1.done.bytes h.1.done.outcome h.1.performs.call e
-still_called old new t r (Some x) (Some o) h e = ap (λ (v : WorldSeen). is_some v.device.contents) h.1 ∙ e
-still_called old new t r None o h e = ap (λ (v : WorldSeen). is_some v.device.contents) h.1 ∙ e
-
-left : (old new : WorldSeen) → new.device ≡ old.device → is_some old.device.contents ≡ true
-    → is_some new.device.contents ≡ true
-left old new d e = ap (λ (v : Told). is_some v.contents) d ∙ e
-
-still_ended : (old new : WorldSeen) (s : Step) (r : Reply) (o : Option Noted) → EndReply old s o r new
-    → new.device ≡ old.device
-still_ended old new s r (Some o) h = h.0.1
-still_ended old new s r None h = ap (λ (v : WorldSeen). v.device) h.1
-
 still_tells : (s : Step) (r : Reply) (old new : WorldSeen) → Steps old s r new → is_some old.device.contents ≡ true
     → is_some new.device.contents ≡ true
-still_tells step.Create r old new m = left old new m.1
-still_tells (step.Open f) r old new m = left old new m.1
-still_tells (step.Close h) r old new m = left old new m.1
-still_tells (step.Size h) r old new m = left old new m.1
-still_tells (step.Read h o n) r old new (inl m) = left old new m.1
-still_tells (step.Read h o n) r old new (inr m) = left old new (ap (λ (v : WorldSeen). v.device) m.1)
-still_tells (step.Write h o b) r old new m = left old new m.1
-still_tells (step.Append h b) r old new m = left old new m.1
-still_tells (step.Truncate h z) r old new m = left old new m.1
-still_tells (step.FillBegin h p) r old new (inl m) = left old new m.1
-still_tells (step.FillBegin h p) r old new (inr m) = left old new (ap (λ (v : WorldSeen). v.device) m.1)
-still_tells (step.FlushBegin f) r old new (inl m) = left old new m.1
-still_tells (step.FlushBegin f) r old new (inr m) = left old new (ap (λ (v : WorldSeen). v.device) m.1)
-still_tells step.Evict r old new m = left old new m.1
-still_tells step.Age r old new m = left old new m.1
-still_tells (step.SyncBegin h) r old new m = left old new m.1
-still_tells (step.SyncBeginRange h first last) r old new m = left old new m.1
-still_tells (step.SyncStep n) r old new (inl m) = left old new m.1
-still_tells (step.SyncStep n) r old new (inr m) = left old new (ap (λ (v : WorldSeen). v.device) m.1)
-still_tells (step.SyncDrop n) r old new m = left old new m.1
-still_tells (step.Call t) r old new m = still_called old new t.0 r (finmap.get old.core.requests t.0)
-    (finmap.get old.outcomes t.0) m
-still_tells (step.End t) r old new m = left old new (still_ended old new (step.End t) r (finmap.get old.outcomes t.0) m)
+still_tells s r old new m e = elim (comes_to s r old new m) [
+  | inl a ↦ ap (λ (v : Told). is_some v.contents) a.1 ∙ e
+  | inr b ↦ elim b [
+    | inl c ↦ ap (λ (v : WorldSeen). is_some v.device.contents) c.0 ∙ e
+    | inr d ↦ (let h = d.called in moved h.job.kind old.device new.device h.job.block h.job.bytes h.done.bytes
+        h.done.outcome h.performs.call e)
+  ]
+]
 
 -- ---- the run
 

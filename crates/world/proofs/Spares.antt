@@ -14,10 +14,13 @@ use Rattle.cachecore.specs.declared.answers.SyncStepped.{SyncStepped}
 use Rattle.cachecore.specs.declared.answers.SyncStepped.TheVariants as sync
 use Rattle.cachecore.specs.Replies.{flush_begun, sync_stepped, GivesBack, FlushGivesBack, SyncGivesBack, EndGivesBack}
 use Rattle.machine.specs.State.{State, Request}
-use Rattle.machine.specs.declared.event.Reply.{Reply}
+use Rattle.pc_types.specs.declared.refusal.Refusal.{Refusal}
 use Rattle.world.specs.declared.jobs.Flight.{Flight}
 use Rattle.world.specs.declared.jobs.Flight.TheVariants.{Made}
-use Rattle.world.specs.declared.replies.Begun.TheVariants.{Answered}
+use Rattle.world.specs.declared.answers.FillAnswer.{FillAnswer}
+use Rattle.world.specs.declared.answers.FlushAnswer.{FlushAnswer}
+use Rattle.world.specs.declared.answers.SyncAnswer.{SyncAnswer}
+use Rattle.world.specs.declared.begun.Begun.TheVariants.{Answered}
 use Rattle.world.specs.Begins.{is_job, IsFillBegun, IsFlushBegun, IsSyncStepped}
 use Rattle.world.specs.Ends.{buffer_of}
 use Rattle.world.specs.Flights.{Jobs, HasJob, IsSpare, IsWorld, task_of}
@@ -35,7 +38,7 @@ with_spare spare old now = (now, spare_stays old.0 now spare old.1)
 
 -- ---- what came back without a job is as long as what was handed in
 
-pub fill_back : (answer : Result FillBegun Refused) (r : Reply) (given buffer : List ℕ) (page : ℕ)
+pub fill_back : (answer : Result FillBegun Refused) (r : Result FillAnswer Refusal) (given buffer : List ℕ) (page : ℕ)
     → IsFillBegun answer (Answered r buffer) → GivesBack given answer → length given ≡ page → length buffer ≡ page
 fill_back answer r given buffer page a back size = ap length (same answer a.2 back) ∙ size
   where
@@ -47,7 +50,7 @@ fill_back answer r given buffer page a back size = ap length (same answer a.2 ba
     same (Ok (fill.Job job)) h g = sym h ∙ g
     same (Err e) h g = sym h ∙ g
 
-pub flush_back : (answer : Result FlushBegun Refused) (r : Reply) (given buffer : List ℕ) (page : ℕ)
+pub flush_back : (answer : Result FlushBegun Refused) (r : Result FlushAnswer Refusal) (given buffer : List ℕ) (page : ℕ)
     → IsFlushBegun answer (Answered r buffer) → FlushGivesBack given answer → length given ≡ page → length buffer ≡ page
 flush_back answer r given buffer page a back size = ap length (same answer (sym (ap is_job a.0) ∙ a.1) a.2 back) ∙ size
   where
@@ -57,7 +60,7 @@ flush_back answer r given buffer page a back size = ap length (same answer (sym 
     same (Ok (flush.Job job)) n h g = absurd cc
     same (Err e) n h g = sym h ∙ g
 
-pub sync_back : (answer : Result SyncStepped Refused) (r : Reply) (given buffer : List ℕ) (page : ℕ)
+pub sync_back : (answer : Result SyncStepped Refused) (r : Result SyncAnswer Refusal) (given buffer : List ℕ) (page : ℕ)
     → IsSyncStepped answer (Answered r buffer) → SyncGivesBack given answer → length given ≡ page → length buffer ≡ page
 sync_back answer r given buffer page a back size = ap length (same answer (sym (ap is_job a.0) ∙ a.1) a.2 back) ∙ size
   where

@@ -1,6 +1,5 @@
--- Inside this crate: what a call that may begin a request comes to. Where none begins, there is a reply that is no job,
--- and
--- the buffer that was handed in comes back.
+-- Inside this crate: what a call that may begin a request comes to. Where none begins, the answer is no job, and the
+-- buffer that was handed in comes back.
 use Rattle.std.specs.Prelude.{◌≡◌, Bool, true, false, Result, Ok}
 use Rattle.cachecore.specs.declared.answers.FillBegun.{FillBegun}
 use Rattle.cachecore.specs.declared.answers.FillBegun.TheVariants as fill
@@ -12,24 +11,28 @@ use Rattle.cachecore.specs.declared.answers.SyncStepped.TheVariants as sync
 use Rattle.machine.specs.declared.event.Reply.{Reply}
 use Rattle.machine.specs.declared.event.Reply.TheVariants as reply
 use Rattle.cachecore.specs.Replies.{fill_begun, flush_begun, sync_stepped, GivesBack, FlushGivesBack, SyncGivesBack}
-use Rattle.world.specs.declared.replies.Begun.{Begun}
-use Rattle.world.specs.declared.replies.Begun.TheVariants.{Job, Answered}
+use Rattle.world.specs.Answers.{fill_answered, flush_answered, sync_answered}
+use Rattle.world.specs.declared.answers.FillAnswer.{FillAnswer}
+use Rattle.world.specs.declared.answers.FlushAnswer.{FlushAnswer}
+use Rattle.world.specs.declared.answers.SyncAnswer.{SyncAnswer}
+use Rattle.world.specs.declared.begun.Begun.{Begun}
+use Rattle.world.specs.declared.begun.Begun.TheVariants.{Job, Answered}
 
 abbrev pub is_job : Reply → Bool
 is_job (reply.Job t) = true
 is_job _ = false
 
-abbrev pub IsFillBegun : Result FillBegun Refused → Begun → Type 0
+abbrev pub IsFillBegun : Result FillBegun Refused → Begun FillAnswer → Type 0
 IsFillBegun answer (Job job) = answer ≡ Ok (fill.Job job)
-IsFillBegun answer (Answered reply buffer) = (reply ≡ fill_begun answer) × (is_job reply ≡ false)
+IsFillBegun answer (Answered a buffer) = (fill_answered a ≡ fill_begun answer) × (is_job (fill_answered a) ≡ false)
     × GivesBack buffer answer
 
-abbrev pub IsFlushBegun : Result FlushBegun Refused → Begun → Type 0
+abbrev pub IsFlushBegun : Result FlushBegun Refused → Begun FlushAnswer → Type 0
 IsFlushBegun answer (Job job) = answer ≡ Ok (flush.Job job)
-IsFlushBegun answer (Answered reply buffer) = (reply ≡ flush_begun answer) × (is_job reply ≡ false)
+IsFlushBegun answer (Answered a buffer) = (flush_answered a ≡ flush_begun answer) × (is_job (flush_answered a) ≡ false)
     × FlushGivesBack buffer answer
 
-abbrev pub IsSyncStepped : Result SyncStepped Refused → Begun → Type 0
+abbrev pub IsSyncStepped : Result SyncStepped Refused → Begun SyncAnswer → Type 0
 IsSyncStepped answer (Job job) = answer ≡ Ok (sync.Job job)
-IsSyncStepped answer (Answered reply buffer) = (reply ≡ sync_stepped answer) × (is_job reply ≡ false)
+IsSyncStepped answer (Answered a buffer) = (sync_answered a ≡ sync_stepped answer) × (is_job (sync_answered a) ≡ false)
     × SyncGivesBack buffer answer

@@ -4,11 +4,12 @@
 //! Each `step` of a `World` is a step of a run (crate `runs`), and so the theorems on runs hold of it: reads are right, a
 //! clean sync means that the device has the file, and nothing is ever stuck.
 //!
-//! `world` has the cache with its device, `step` what may be asked of it, `replies` its answers, `jobs` the jobs in
-//! flight.
+//! `world` has the cache with its device, `step` what may be asked of it, `answers` what it answers, `jobs` the jobs in
+//! flight, and `begun` what comes of the cache's calls that begin or end a request.
 
+pub mod answers;
+mod begun;
 mod jobs;
-mod replies;
 pub mod step;
 pub mod world;
 

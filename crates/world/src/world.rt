@@ -8,15 +8,17 @@ ghost use Rattle.pc_types.specs.declared.refusal.Refusal.TheVariants.{BadConfig,
 ghost use Rattle.cachecore.specs.Flushing.{flush_of};
 ghost use Rattle.cachecore.specs.Replies.{TagsAre};
 ghost use Rattle.cachecore.specs.Wants.{lacks_frames, passes_limit};
+ghost use Rattle.world.specs.Answers.{fill_answered, flush_answered, sync_answered};
 ghost use Rattle.world.specs.Flights.{IsSpare};
 ghost use Rattle.runs.specs.Runs.{IsFirst};
 ghost use Rattle.world.specs.Stepping.{IsMade, LeadsTo, Plays, Steps, TellsForCalls, first_world, fits, world_of};
 
+use crate::answers::{self, FillAnswer, FlushAnswer, SyncAnswer};
+use crate::begun::{self, Begun};
 use crate::jobs::Jobs;
-use crate::replies::{self, Begun};
 use crate::step::Step;
 use blockdev::{BlockDevice, Buffer, Watched};
-use cachecore::{CacheCore, PageTags, ReadAnswer, Reply};
+use cachecore::{CacheCore, PageTags, ReadAnswer, Reply, replies};
 use pc_types::limits::MAX_FILES;
 use pc_types::{Bytes, FileId, Geometry, HandleId, PageIndex, Refusal, Serial, SyncId};
 use std::alloc::{AllocError, Global};
@@ -93,34 +95,34 @@ impl<D: BlockDevice> World<D> {
         ensures { Steps self.old step.now result self.new }
     {
         match step {
-            Step::Create => replies::of_create(self.create()),
-            Step::Open(file) => replies::of_open(self.open(*file)),
-            Step::Close(handle) => replies::of_close(self.close(*handle)),
-            Step::Size(handle) => replies::of_size(self.size(*handle)),
+            Step::Create => replies::of_create(&self.create()),
+            Step::Open(file) => replies::of_open(&self.open(*file)),
+            Step::Close(handle) => replies::of_close(&self.close(*handle)),
+            Step::Size(handle) => replies::of_size(&self.size(*handle)),
             Step::Read(handle, offset, count) => self.read_new(*handle, *offset, *count),
             Step::Write(handle, offset, bytes) => {
-                replies::of_write(self.write(*handle, *offset, bytes.as_slice()))
+                replies::of_write(&self.write(*handle, *offset, bytes.as_slice()))
             },
-            Step::Append(handle, bytes) => replies::of_write(self.append(
+            Step::Append(handle, bytes) => replies::of_write(&self.append(
                 *handle,
                 bytes.as_slice(),
             )),
-            Step::Truncate(handle, size) => { replies::of_truncate(self.truncate(*handle, *size)) }
-            Step::FillBegin(handle, page) => self.fill_begin(*handle, *page),
-            Step::FlushBegin(file) => self.flush_begin(*file),
-            Step::Evict => replies::of_evict(self.evict()),
+            Step::Truncate(handle, size) => { replies::of_truncate(&self.truncate(*handle, *size)) }
+            Step::FillBegin(handle, page) => answers::fill_reply(&self.fill_begin(*handle, *page)),
+            Step::FlushBegin(file) => answers::flush_reply(&self.flush_begin(*file)),
+            Step::Evict => replies::of_evict(&self.evict()),
             Step::Age => Reply::Aged(self.age()),
-            Step::SyncBegin(handle) => replies::of_sync_begin(self.sync_begin(*handle)),
+            Step::SyncBegin(handle) => replies::of_sync_begin(&self.sync_begin(*handle)),
             Step::SyncBeginRange(handle, first, last) => {
-                replies::of_sync_begin(self.sync_begin_range(*handle, *first, *last))
+                replies::of_sync_begin(&self.sync_begin_range(*handle, *first, *last))
             }
-            Step::SyncStep(sync) => self.sync_step(*sync),
-            Step::SyncDrop(sync) => replies::of_sync_drop(self.sync_drop(*sync)),
+            Step::SyncStep(sync) => answers::sync_reply(&self.sync_step(*sync)),
+            Step::SyncDrop(sync) => replies::of_sync_drop(&self.sync_drop(*sync)),
             Step::Call(serial) => match self.call(*serial) {
                 Ok(()) => Reply::Done,
                 Err(refusal) => Reply::Refused(refusal),
             },
-            Step::End(serial) => self.end(*serial),
+            Step::End(serial) => answers::end_reply(&self.end(*serial)),
         }
     }
 
@@ -188,49 +190,43 @@ impl<D: BlockDevice> World<D> {
     }
 
     /// Begins a fill of the page.
-    pub fn fill_begin(&mut self, handle: HandleId, page: PageIndex) -> Reply
-        ensures { Steps self.old (Step.FillBegin handle page) result self.new }
+    pub fn fill_begin(&mut self, handle: HandleId, page: PageIndex) -> Result<FillAnswer, Refusal>
+        ensures { Steps self.old (Step.FillBegin handle page) (fill_answered result) self.new }
     {
-        let Ok(buffer) = buffer_for(&self.core, &mut self.spare, self.alloc) else {
-            return Reply::Refused(Refusal::Memory);
-        };
-        match replies::of_fill_begin(self.core.fill_begin(handle, page, buffer)) {
-            Begun::Job(job) => Reply::Job(self.jobs.ask(job)),
-            Begun::Answered(reply, buffer) => {
+        let buffer = buffer_for(&self.core, &mut self.spare, self.alloc)?;
+        match begun::of_fill_begin(self.core.fill_begin(handle, page, buffer)) {
+            Begun::Job(job) => Ok(FillAnswer::Begun(self.jobs.ask(job))),
+            Begun::Answered(answer, buffer) => {
                 self.spare = Some(buffer);
-                reply
+                answer
             }
         }
     }
 
     /// Begins a write of the file's lowest page that is to be written.
-    pub fn flush_begin(&mut self, file: FileId) -> Reply
-        ensures { Steps self.old (Step.FlushBegin file) result self.new }
+    pub fn flush_begin(&mut self, file: FileId) -> Result<FlushAnswer, Refusal>
+        ensures { Steps self.old (Step.FlushBegin file) (flush_answered result) self.new }
     {
-        let Ok(buffer) = buffer_for(&self.core, &mut self.spare, self.alloc) else {
-            return Reply::Refused(Refusal::Memory);
-        };
-        match replies::of_flush_begin(self.core.flush_begin(file, buffer)) {
-            Begun::Job(job) => Reply::Job(self.jobs.ask(job)),
-            Begun::Answered(reply, buffer) => {
+        let buffer = buffer_for(&self.core, &mut self.spare, self.alloc)?;
+        match begun::of_flush_begin(self.core.flush_begin(file, buffer)) {
+            Begun::Job(job) => Ok(FlushAnswer::Begun(self.jobs.ask(job))),
+            Begun::Answered(answer, buffer) => {
                 self.spare = Some(buffer);
-                reply
+                answer
             }
         }
     }
 
     /// Makes a step of the sync.
-    pub fn sync_step(&mut self, sync: SyncId) -> Reply
-        ensures { Steps self.old (Step.SyncStep sync) result self.new }
+    pub fn sync_step(&mut self, sync: SyncId) -> Result<SyncAnswer, Refusal>
+        ensures { Steps self.old (Step.SyncStep sync) (sync_answered result) self.new }
     {
-        let Ok(buffer) = buffer_for(&self.core, &mut self.spare, self.alloc) else {
-            return Reply::Refused(Refusal::Memory);
-        };
-        match replies::of_sync_step(self.core.sync_step(sync, buffer)) {
-            Begun::Job(job) => Reply::Job(self.jobs.ask(job)),
-            Begun::Answered(reply, buffer) => {
+        let buffer = buffer_for(&self.core, &mut self.spare, self.alloc)?;
+        match begun::of_sync_step(self.core.sync_step(sync, buffer)) {
+            Begun::Job(job) => Ok(SyncAnswer::Begun(self.jobs.ask(job))),
+            Begun::Answered(answer, buffer) => {
                 self.spare = Some(buffer);
-                reply
+                answer
             }
         }
     }

@@ -1,7 +1,6 @@
 -- What holds of each entry of a list, and of a map.
-use Rattle.std.proofs.Common.{◌≡◌, ℕ, ◌<◌, Bool, true, false, cond, eqb, T, List, [], ◌∷◌, refl, ap, ◌∙◌, arith}
-use Rattle.std.specs.Prelude.{Some}
-use Rattle.std.specs.Ordering.{nat_cmp, is_lt}
+use Rattle.std.proofs.Common.{◌≡◌, ℕ, ◌<◌, Bool, true, false, cond, eqb, T, List, [], ◌∷◌, refl, ap, ◌∙◌, arith, Some}
+use Rattle.std.proofs.Common.{nat_cmp, is_lt}
 use Rattle.std.specs.FinMap as finmap
 use Rattle.std.specs.FinMap.{FinMap, entries_sorted}
 use Rattle.std.specs.FinMap.Entries.{below_all, is_sorted}

@@ -1,7 +1,6 @@
 -- A search by a test, as far as it has come.
 use Rattle.std.proofs.Common.{◌≡◌, ℕ, ◌+◌, ◌<◌, ◌≤◌, zero, suc, Bool, true, false, cond, List, [], ◌∷◌, length, get_or}
-use Rattle.std.proofs.Common.{drop, refl, ap, sym, ◌∙◌, arith}
-use Rattle.std.specs.Prelude.{Some, None, find}
+use Rattle.std.proofs.Common.{drop, refl, ap, sym, ◌∙◌, arith, Some, None, find}
 
 module _ {A : Type 0} (test : A → Bool) where
   -- the i-th passes

@@ -1,8 +1,8 @@
 -- The picks: a search by a tag between two numbers finds what the definitions name, and skips what they skip.
 use Rattle.std.proofs.Common.{◌≡◌, ℕ, ◌+◌, ◌<◌, ◌≤◌, Bool, true, false, cond, not, eqb, eqb-true, T, List, [], ◌∷◌}
-use Rattle.std.proofs.Common.{refl, ap, sym, subst, ◌∙◌, arith, map}
-use Rattle.std.specs.Prelude.{◌&&◌, ◌||◌, Option, Some, None, option_map, unwrap_or, find, nat_le, nat_lt}
-use Rattle.std.specs.Ordering.{nat_cmp}
+use Rattle.std.proofs.Common.{refl, ap, sym, subst, ◌∙◌, arith, map, ◌&&◌, ◌||◌, Option, Some, None, option_map, find}
+use Rattle.std.proofs.Common.{nat_le, nat_lt, nat_cmp}
+use Rattle.std.specs.Prelude.{unwrap_or}
 use Rattle.std.specs.FinMap as finmap
 use Rattle.std.specs.FinMap.{FinMap, entries_sorted}
 use Rattle.std.specs.FinMap.Entries.{below_all, is_sorted}

@@ -1,9 +1,8 @@
 -- Entries in rising order in a list, and the finite map that they make.
 use Rattle.std.proofs.Common.{◌≡◌, ℕ, ◌+◌, ◌<◌, ◌≤◌, zero, suc, Bool, true, false, cond, not, eqb, eqb-true, ltb, T}
-use Rattle.std.proofs.Common.{List, [], ◌∷◌, ◌++◌, length, get_or, take, drop, refl, ap, sym, ◌∙◌, arith, map}
-use Rattle.std.specs.Prelude.{Option, Some, None, position, remove}
+use Rattle.std.proofs.Common.{List, [], ◌∷◌, ◌++◌, length, get_or, take, drop, refl, ap, sym, ◌∙◌, arith, map, Option}
+use Rattle.std.proofs.Common.{Some, None, position, remove, nat_cmp, is_lt}
 use Rattle.std.specs.List.{prefix_len}
-use Rattle.std.specs.Ordering.{nat_cmp, is_lt}
 use Rattle.std.specs.Cmp.{nat_cmp_total}
 use Rattle.std.specs.FinMap as finmap
 use Rattle.std.specs.FinMap.{nat_cmp-IsAntisymmetric, from_entries, from_entries_push, len-entries}

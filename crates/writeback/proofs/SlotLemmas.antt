@@ -1,8 +1,7 @@
 -- A table of slots and the finite map that it makes.
 use Rattle.std.proofs.Common.{◌≡◌, ℕ, ◌+◌, ◌<◌, ◌≤◌, zero, suc, Bool, true, false, cond, not, eqb, List, [], ◌∷◌}
 use Rattle.std.proofs.Common.{length, get_or, set, refl, ap, sym, subst, ◌∙◌, arith, map, get_or-set_same}
-use Rattle.std.proofs.Common.{get_or-set_other}
-use Rattle.std.specs.Prelude.{◌||◌, Option, Some, None, is_some, option_map, count_by, position}
+use Rattle.std.proofs.Common.{get_or-set_other, ◌||◌, Option, Some, None, is_some, option_map, count_by, position}
 use Rattle.std.specs.List.{prefix_len, list_any}
 use Rattle.std.specs.FinMap as finmap
 use Rattle.std.proofs.lemmas.Bool.{false≢true}

@@ -1,9 +1,8 @@
 -- The table of requests in flight as a finite map, and what each change of the table does to the map.
 use Rattle.std.proofs.Common.{◌≡◌, ℕ, ◌+◌, ◌<◌, Bool, true, false, cond, eqb, eqb-true, List, [], ◌∷◌, ◌++◌, length}
-use Rattle.std.proofs.Common.{get_or, refl, ap, sym, subst, ◌∙◌, arith, map, nat_le, ◌≤◌}
-use Rattle.std.specs.Prelude.{◌&&◌, ◌||◌, Option, Some, None, option_map, find, position, remove}
+use Rattle.std.proofs.Common.{get_or, refl, ap, sym, subst, ◌∙◌, arith, map, nat_le, ◌≤◌, ◌&&◌, ◌||◌, Option, Some}
+use Rattle.std.proofs.Common.{None, option_map, find, position, remove, nat_cmp}
 use Rattle.std.specs.List.{list_any}
-use Rattle.std.specs.Ordering.{nat_cmp}
 use Rattle.std.specs.FinMap as finmap
 use Rattle.std.specs.FinMap.{from_entries}
 use Rattle.std.proofs.lemmas.Bool.Decides.{nat_tests}

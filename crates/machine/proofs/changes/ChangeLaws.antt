@@ -1,18 +1,18 @@
 -- What reads, writes, truncations and the begin of a sync do, page by page: each change of many pages as a record of
 -- look-ups. The change has the record.
 use Rattle.std.proofs.Common.{◌≡◌, ℕ, zero, suc, ◌+◌, ◌/◌, ◌%◌, ◌<◌, ◌≤◌, Bool, true, false, cond, not, eqb, eqb-true}
-use Rattle.std.proofs.Common.{leb, ltb, List, [], ◌∷◌, length, get_or, refl, ap, sym, ◌∙◌, arith, max}
-use Rattle.std.specs.Prelude.{◌&&◌, ◌||◌, Option, Some, None, is_some, option_map, slice_set, nat_le, nat_lt, map}
+use Rattle.std.proofs.Common.{leb, ltb, List, [], ◌∷◌, length, get_or, refl, ap, sym, ◌∙◌, arith, max, ◌&&◌, ◌||◌}
+use Rattle.std.proofs.Common.{Option, Some, None, is_some, option_map, slice_set, nat_le, nat_lt, map, nat_cmp}
 use Rattle.std.specs.Option.{option_or}
 use Rattle.std.specs.List.{range_with_len, zip}
-use Rattle.std.specs.Ordering.{nat_cmp, eq_by_cmp}
+use Rattle.std.specs.Ordering.{eq_by_cmp}
 use Rattle.std.specs.Cmp.{nat_cmp_total, unsigned_tied}
 use Rattle.std.specs.FinMap as finmap
 use Rattle.std.specs.FinMap.{FinMap, find}
 use Rattle.std.proofs.lemmas.Bool.Decides.{nat_tests}
 use Rattle.std.proofs.lemmas.List.FromFn.{length-map-range_with_len, get_or-map-range_with_len}
 use Rattle.machine.specs.State.{State, File, Page, file_at, page_at, spot_at, page_count, has_block, touched}
-use Rattle.machine.specs.State.{touched_count, without_block, free_blocks, page_bytes, bytes_at}
+use Rattle.machine.specs.State.{touched_count, without_block, free_blocks, page_bytes, bytes_at, Sync}
 use Rattle.pc_types.specs.Spots.{Spot, place_cmp}
 use Rattle.machine.specs.Changes.{written_page, written_pages, placed, written, boundary, cut_page, cut_boundary}
 use Rattle.machine.specs.Changes.{cut_request, shrunk, to_write, sync_begun}
@@ -21,7 +21,6 @@ use Rattle.maps.proofs.MapLaws.{places_total, same_place, get-overwrite, get-cha
 use Rattle.maps.proofs.MapLaws.{get-retain_place}
 use Rattle.maps.proofs.Maps.{get-each_value}
 use Rattle.machine.proofs.changes.StateLaws.{file_at-here, touches, is_free}
-use Rattle.machine.specs.State.{Sync}
 use Rattle.maps.proofs.Kept.{IsKept, kept_below, kept_at, kept_rise, kept_more, kept_within, find_kept}
 
 -- ---- reads

@@ -1,15 +1,13 @@
 -- How many pages a file has after a write, and how many bytes a page.
 use Rattle.std.proofs.Common.{◌≡◌, ℕ, ◌+◌, ◌-◌, ◌*◌, ◌/◌, ◌≤◌, zero, suc, true, false, cond, not, ◌&&◌, eqb, eqb-true}
-use Rattle.std.proofs.Common.{leb, ltb, List, [], ◌∷◌, length, drop, map, refl, ap, sym, ◌∙◌, arith}
-use Rattle.std.specs.Prelude.{Some, None, is_some, count_by}
+use Rattle.std.proofs.Common.{leb, ltb, List, [], ◌∷◌, length, drop, map, refl, ap, sym, ◌∙◌, arith, Some, None}
+use Rattle.std.proofs.Common.{is_some, count_by, nat_cmp, length-take}
 use Rattle.std.specs.Option.{option_or}
 use Rattle.std.specs.List.{range_with_len}
-use Rattle.std.specs.Ordering.{nat_cmp}
 use Rattle.std.specs.Cmp.{nat_cmp_total, unsigned_tied}
 use Rattle.std.specs.FinMap as finmap
 use Rattle.std.specs.FinMap.{FinMap, find, len-insert, get-from_entries, get-entries}
 use Rattle.std.proofs.lemmas.Bool.Decides.{nat_tests}
-use Rattle.std.proofs.lemmas.List.{length-take}
 use Rattle.std.proofs.lemmas.List.Sums.{sum_by-cons}
 use Rattle.pc_types.specs.Files.{pwrite}
 use Rattle.pc_types.proofs.FileLaws.{length-pwrite}

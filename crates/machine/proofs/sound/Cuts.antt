@@ -1,13 +1,11 @@
 -- A truncation keeps a state sound: the pages that are cut off lose their blocks, and their requests are dropped.
 use Rattle.std.proofs.Common.{◌≡◌, ℕ, ◌/◌, Bool, true, false, cond, eqb, eqb-true, eq-eqb, refl, ap, sym, subst, inl}
-use Rattle.std.proofs.Common.{inr}
-use Rattle.std.specs.Prelude.{◌&&◌, Option, Some, None, is_some, option_map, nat_le}
+use Rattle.std.proofs.Common.{inr, ◌&&◌, Option, Some, None, is_some, option_map, nat_le}
 use Rattle.std.specs.FinMap as finmap
 use Rattle.pc_types.specs.Spots.{Spot}
-use Rattle.machine.specs.State.{State, File, Page, Request, file_at, page_at, spot_at, page_count, has_block}
+use Rattle.machine.specs.State.{State, File, Page, Request, file_at, page_at, spot_at, page_count, has_block, block_at}
 use Rattle.machine.specs.Changes.{boundary, cut_page, cut_request, shrunk}
 use Rattle.machine.specs.Sound.{Sound}
-use Rattle.machine.specs.State.{block_at}
 use Rattle.machine.proofs.steps.Choices.{and_true}
 use Rattle.maps.proofs.Maps.{get-each_value}
 use Rattle.machine.proofs.changes.ChangeLaws.{cut_pages, get-cut_pages}

@@ -1,22 +1,19 @@
 -- What is looked up in a state after one of its parts changes. A file past the last doesn't change, and has no pages.
-use Rattle.std.proofs.Common.{◌≡◌, ℕ, zero, suc, ◌≤◌, Bool, true, false, cond, not, eqb, eqb-true, eq-eqb, ltb}
-use Rattle.std.proofs.Common.{List, [], ◌∷◌, ◌++◌, length, get_or, refl, ap, sym, ◌∙◌, arith, inl, inr}
-use Rattle.std.specs.Prelude.{◌&&◌, ◌||◌, ◌⊎◌, Option, Some, None, is_some, option_map, unwrap_or, nat_le, nat_lt}
-use Rattle.std.specs.Ordering.{nat_cmp}
+use Rattle.std.proofs.Common.{◌≡◌, ℕ, zero, suc, ◌≤◌, Bool, true, false, cond, not, eqb, eqb-true, eq-eqb, ltb, List}
+use Rattle.std.proofs.Common.{[], ◌∷◌, ◌++◌, length, get_or, refl, ap, sym, ◌∙◌, arith, inl, inr, ◌&&◌, ◌||◌, ◌⊎◌}
+use Rattle.std.proofs.Common.{Option, Some, None, is_some, option_map, nat_le, nat_lt, nat_cmp}
+use Rattle.std.specs.Prelude.{unwrap_or}
 use Rattle.std.specs.FinMap as finmap
 use Rattle.std.specs.FinMap.{FinMap, get-empty}
 use Rattle.std.proofs.lemmas.Bool.{false≢true}
 use Rattle.std.proofs.lemmas.Bool.Decides.{nat_tests}
 use Rattle.std.proofs.lemmas.List.{get_or_past, set_past}
-use Rattle.pc_types.specs.Spots.{Spot}
-use Rattle.machine.specs.State.{State, File, Page, file_at, page_at, spot_at, no_file, page_count}
+use Rattle.pc_types.specs.Spots.{Spot, place_cmp}
+use Rattle.machine.specs.State.{State, File, Page, file_at, page_at, spot_at, no_file, page_count, block_at}
 use Rattle.machine.specs.Changes.{put_file, put_page, put_pages, change_page, shrunk}
 use Rattle.maps.specs.Maps.{change_at}
-use Rattle.machine.specs.State.{block_at}
-use Rattle.maps.proofs.Maps.{get-remove_nat}
+use Rattle.maps.proofs.Maps.{get-remove_nat, get_inserted}
 use Rattle.maps.proofs.MapLaws.{get-insert_place, get-retain_place, get-change_at}
-use Rattle.pc_types.specs.Spots.{place_cmp}
-use Rattle.maps.proofs.Maps.{get_inserted}
 use Rattle.machine.proofs.changes.StateLaws.{page_at-put}
 
 -- ---- pages
@@ -108,7 +105,7 @@ removed_tells s f p g q =
     ]
 
 -- a new element at the end that is the default
-get_or-default : {A : Type 0} (xs : List A) (d : A) (j : ℕ) → get_or (xs ++ d ∷ []) j d ≡ get_or xs j d
+pub get_or-default : {A : Type 0} (xs : List A) (d : A) (j : ℕ) → get_or (xs ++ d ∷ []) j d ≡ get_or xs j d
 get_or-default [] d zero = refl
 get_or-default [] d (suc j) = refl
 get_or-default (x ∷ xs) d zero = refl

@@ -1,7 +1,7 @@
 -- A change of one page, and the begin or end of its request, keeps a state sound.
 use Rattle.std.proofs.Common.{◌≡◌, ℕ, Bool, true, false, cond, not, eqb, eqb-true, eq-eqb, List, [], refl, ap, sym}
-use Rattle.std.proofs.Common.{subst, ◌∙◌, inl, inr}
-use Rattle.std.specs.Prelude.{◌&&◌, ◌||◌, ◌⊎◌, Option, Some, None, is_some, option_map, unwrap_or}
+use Rattle.std.proofs.Common.{subst, ◌∙◌, inl, inr, ◌&&◌, ◌||◌, ◌⊎◌, Option, Some, None, is_some, option_map}
+use Rattle.std.specs.Prelude.{unwrap_or}
 use Rattle.std.specs.FinMap as finmap
 use Rattle.pc_types.specs.Files.{cut}
 use Rattle.pc_types.specs.Tags.{no_tags}
@@ -9,21 +9,19 @@ use Rattle.pc_types.specs.Kinds.{is_fill}
 use Rattle.pc_types.specs.Spots.{Spot}
 use Rattle.pc_types.specs.declared.kind.Kind.TheVariants.{Fill, Flush}
 use Rattle.machine.specs.State.{State, File, Page, Request, file_at, is_cached, page_at, spot_at, fills, is_filling}
-use Rattle.machine.specs.State.{is_idle, is_written}
+use Rattle.machine.specs.State.{is_idle, is_written, block_at}
 use Rattle.machine.specs.Changes.{put_page, put_pages, put_file, change_page, ended, requested, started, under_write}
 use Rattle.machine.specs.Changes.{after_write, flushed, flush_failed}
 use Rattle.maps.specs.Maps.{change_at}
 use Rattle.machine.specs.Sound.{Sound}
-use Rattle.machine.specs.State.{block_at}
 use Rattle.machine.proofs.steps.Choices.{and_true, not_true, none_of}
 use Rattle.machine.proofs.changes.StateLaws.{filling_shows}
 use Rattle.maps.proofs.MapLaws.{get-change_at}
-use Rattle.machine.proofs.sound.Lookups.{change_here}
+use Rattle.machine.proofs.sound.Lookups.{change_here, put_page_tells, removed_tells, change_page_tells, put_file_tells}
+use Rattle.machine.proofs.sound.Lookups.{block_is, block_written}
 use Rattle.machine.proofs.sound.Changes.{lookups, TagsFit, PageFits, IsOf, dirty, writeback, towrite, tags_fit}
 use Rattle.machine.proofs.sound.Changes.{page_fits, pages_change, requests_end, request_begins, one_request}
 use Rattle.machine.proofs.sound.Changes.{unheld_block, same_lookups}
-use Rattle.machine.proofs.sound.Lookups.{put_page_tells, removed_tells, change_page_tells, put_file_tells}
-use Rattle.machine.proofs.sound.Lookups.{block_is, block_written}
 use Rattle.maps.proofs.Maps.{get_inserted, get_left}
 
 -- a page without a tag

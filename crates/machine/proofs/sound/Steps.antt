@@ -1,14 +1,12 @@
 -- Each step of the machine keeps a state sound, and so does a legal history.
-use Rattle.std.proofs.Common.{◌≡◌, ℕ, Bool, true, false, List, [], ◌∷◌, refl, ap, sym, subst, ◌∙◌, inl, inr}
-use Rattle.std.specs.Prelude.{◌&&◌, ◌||◌, Option, Some, None, option_map}
-use Rattle.std.specs.Ordering.{nat_cmp}
+use Rattle.std.proofs.Common.{◌≡◌, ℕ, Bool, true, false, List, [], ◌∷◌, refl, ap, sym, subst, ◌∙◌, inl, inr, ◌&&◌, ◌||◌}
+use Rattle.std.proofs.Common.{Option, Some, None, option_map, nat_cmp}
 use Rattle.std.specs.FinMap.{get-empty}
 use Rattle.pc_types.specs.Limits.{Sizes}
 use Rattle.pc_types.specs.Spots.{Spot, place_cmp}
 use Rattle.machine.specs.declared.event.Event.{Event}
 use Rattle.machine.specs.declared.event.Reply.{Reply}
-use Rattle.machine.specs.State.{State, Page, Request, Sync, file_at, handle_file, page_at, block_at, tags_of}
-use Rattle.machine.specs.State.{in_range}
+use Rattle.machine.specs.State.{State, Page, Request, Sync, file_at, handle_file, page_at, block_at, tags_of, in_range}
 use Rattle.machine.specs.Changes.{to_write, new_sync, sync_begun, is_left}
 use Rattle.maps.specs.Maps.{each_value}
 use Rattle.machine.specs.History as history

@@ -1,7 +1,7 @@
 -- A write keeps a state sound: the pages that it touches become DIRTY, and those without a block take free ones.
 use Rattle.std.proofs.Common.{◌≡◌, ◌≢◌, ℕ, zero, suc, ◌+◌, ◌/◌, ◌<◌, ◌≤◌, Bool, true, false, cond, not, eqb, eqb-true}
-use Rattle.std.proofs.Common.{eq-eqb, ltb, leb, List, length, refl, ap, sym, subst, ◌∙◌, arith, inl, inr, max}
-use Rattle.std.specs.Prelude.{◌&&◌, ◌||◌, ◌⊎◌, Option, Some, None, is_some, option_map, find}
+use Rattle.std.proofs.Common.{eq-eqb, ltb, leb, List, length, refl, ap, sym, subst, ◌∙◌, arith, inl, inr, max, ◌&&◌}
+use Rattle.std.proofs.Common.{◌||◌, ◌⊎◌, Option, Some, None, is_some, option_map, find}
 use Rattle.std.specs.List.{range_with_len}
 use Rattle.std.specs.FinMap as finmap
 use Rattle.std.proofs.lemmas.Bool.Decides.{nat_tests}
@@ -9,11 +9,10 @@ use Rattle.pc_types.specs.Kinds.{is_fill}
 use Rattle.pc_types.specs.Spots.{Spot}
 use Rattle.pc_types.specs.declared.kind.Kind.TheVariants.{Fill}
 use Rattle.machine.specs.State.{State, Page, Request, file_at, handle_file, page_at, spot_at, has_block, fills}
-use Rattle.machine.specs.State.{is_filling, touched, touched_count}
+use Rattle.machine.specs.State.{is_filling, touched, touched_count, block_at}
 use Rattle.machine.specs.Changes.{written, written_page, written_pages}
 use Rattle.machine.specs.Tests.{must_fill, covers}
 use Rattle.machine.specs.Sound.{Sound}
-use Rattle.machine.specs.State.{block_at}
 use Rattle.machine.proofs.steps.Choices.{and_true, neither, none_of, not_true}
 use Rattle.machine.proofs.steps.Passed.{MayWrite}
 use Rattle.machine.proofs.changes.StateLaws.{touches, filling_shows, free_of_spots, free_of_requests}

@@ -1,11 +1,11 @@
 -- What a test that holds answers: a reply that changes nothing, or, to a write of no bytes, that none were written.
 use Rattle.std.proofs.Common.{◌≡◌, ℕ, ◌+◌, Bool, true, false, cond, not, eqb, eqb-true, List, [], ◌∷◌, length, refl, ap}
-use Rattle.std.proofs.Common.{arith, inl, inr}
-use Rattle.std.specs.Prelude.{◌&&◌, ◌⊎◌, Option, Some, None, is_some, count_by, nat_lt, nat_le}
+use Rattle.std.proofs.Common.{arith, inl, inr, ◌&&◌, ◌⊎◌, Option, Some, None, is_some, count_by, nat_lt, nat_le}
 use Rattle.std.specs.List.{list_any}
 use Rattle.std.specs.FinMap as map
 use Rattle.pc_types.specs.declared.ids.HandleId.{HandleId}
 use Rattle.pc_types.specs.declared.limits.TheConstants.{MAX_FILES, MAX_FILE_SIZE, MAX_HANDLES, MAX_SYNCS, MAX_TOUCHED}
+use Rattle.pc_types.specs.declared.refusal.Refusal.TheVariants.{Memory}
 use Rattle.machine.specs.declared.event.Event.{Event}
 use Rattle.machine.specs.declared.event.Event.TheVariants as event
 use Rattle.machine.specs.declared.event.Reply.{Reply}
@@ -43,6 +43,18 @@ WritesNone s e r = (h : HandleId) × (o : ℕ) × IsWrite s e h o [] × (r ≡ r
 abbrev Quiet : State → Event → Reply → Type 0
 Quiet s e r = (is_quiet r ≡ true) ⊎ WritesNone s e r
 
+-- a quiet reply that is no want of memory
+abbrev pub is_told : Reply → Bool
+is_told (reply.Refused Memory) = false
+is_told r = is_quiet r
+
+told_quiet : (r : Reply) → is_told r ≡ true → is_quiet r ≡ true
+told_quiet (reply.Refused Memory) e = absurd cc
+told_quiet _ e = e
+
+abbrev Told : State → Event → Reply → Type 0
+Told s e r = (is_told r ≡ true) ⊎ WritesNone s e r
+
 pub stopped_quiet : (H : Reply → Type 0) (s : State) (f : ℕ) (o : Option ℕ)
     → ((p : ℕ) → H (reply.Wait (record { 0 = p }))) → ((p : ℕ) → H (reply.Miss (record { 0 = p }))) → (r : Reply)
     → stopped s f o ≡ Some r → H r
@@ -66,7 +78,7 @@ nothing (x ∷ b) e = absurd (let a = eqb-true (length (x ∷ b)) 0 e in omega a
 
 module _ (s : State) where
   -- where all replies of the tests but the one to an empty write are quiet
-  write_answers : (H : Reply → Type 0) → ((r : Reply) → is_quiet r ≡ true → H r) → (h o n : ℕ)
+  write_answers : (H : Reply → Type 0) → ((r : Reply) → is_told r ≡ true → H r) → (h o n : ℕ)
       → (eqb n 0 ≡ true → H (reply.Wrote 0 o)) → (r : Reply) → write_tests s h o n ≡ Some r → H r
   write_answers H quiet h o n none r e =
       let f = handle_file s h in
@@ -82,53 +94,53 @@ module _ (s : State) where
       (quiet_if H (nat_lt (length (free_blocks s)) (length (without_block s f pages))) _ None (quiet _ refl)
       (quiet_none H)))))))) r e
 
-  start_answers : (H : Reply → Type 0) → ((r : Reply) → is_quiet r ≡ true → H r) → (f : ℕ) (o : Option ℕ) (r : Reply)
+  start_answers : (H : Reply → Type 0) → ((r : Reply) → is_told r ≡ true → H r) → (f : ℕ) (o : Option ℕ) (r : Reply)
       → start_tests s f o ≡ Some r → H r
   start_answers H quiet f None r e = absurd cc
   start_answers H quiet f (Some p) r e = quiet_if H (tags_at s f p).writeback _ _ (quiet _ refl)
       (quiet_if H (is_full s) _ None (quiet _ refl) (quiet_none H)) r e
 
-  sync_answers : (H : Reply → Type 0) → ((r : Reply) → is_quiet r ≡ true → H r) → (o : Option Sync) (r : Reply)
+  sync_answers : (H : Reply → Type 0) → ((r : Reply) → is_told r ≡ true → H r) → (o : Option Sync) (r : Reply)
       → sync_tests s o ≡ Some r → H r
   sync_answers H quiet None r e = quiet_some H _ r e (quiet _ refl)
   sync_answers H quiet (Some y) r e = start_answers H quiet (handle_file s y.handle) (sync_pick s y) r e
 
-  size_answers : (H : Reply → Type 0) → ((r : Reply) → is_quiet r ≡ true → H r) → (b : Bool) (z : ℕ) (why : Reply)
-      → is_quiet why ≡ true → (r : Reply) → cond b (Some (reply.Size z)) (Some why) ≡ Some r → H r
+  size_answers : (H : Reply → Type 0) → ((r : Reply) → is_told r ≡ true → H r) → (b : Bool) (z : ℕ) (why : Reply)
+      → is_told why ≡ true → (r : Reply) → cond b (Some (reply.Size z)) (Some why) ≡ Some r → H r
   size_answers H quiet true z why q r e = quiet_some H _ r e (quiet _ refl)
   size_answers H quiet false z why q r e = quiet_some H _ r e (quiet _ q)
 
-  pub answers : (e : Event) (r : Reply) → tests s e ≡ Some r → Quiet s e r
-  answers event.Create r t = quiet_if (Quiet s event.Create) (nat_le MAX_FILES (length s.files)) _ None (inl refl)
-      (quiet_none (Quiet s event.Create)) r t
-  answers (event.Open f) r t = let H = Quiet s (event.Open f) in
+  pub tells : (e : Event) (r : Reply) → tests s e ≡ Some r → Told s e r
+  tells event.Create r t = quiet_if (Told s event.Create) (nat_le MAX_FILES (length s.files)) _ None (inl refl)
+      (quiet_none (Told s event.Create)) r t
+  tells (event.Open f) r t = let H = Told s (event.Open f) in
       quiet_if H (nat_le (length s.files) f.0) _ _ (inl refl)
       (quiet_if H (nat_le MAX_HANDLES (map.len s.handles)) _ None (inl refl) (quiet_none H)) r t
-  answers (event.Close h) r t = let H = Quiet s (event.Close h) in
+  tells (event.Close h) r t = let H = Told s (event.Close h) in
       quiet_if H (not (is_open s h.0)) _ _ (inl refl)
       (quiet_if H (list_any (λ (y : Sync). eqb y.handle h.0) (map.values s.syncs)) _ None (inl refl) (quiet_none H)) r t
-  answers (event.Size h) r t = size_answers (Quiet s (event.Size h)) (λ r q. inl q) (is_open s h.0) _ _ refl r t
-  answers (event.Read h o n) r t =
-      let H = Quiet s (event.Read h o n) in
+  tells (event.Size h) r t = size_answers (Told s (event.Size h)) (λ r q. inl q) (is_open s h.0) _ _ refl r t
+  tells (event.Read h o n) r t =
+      let H = Told s (event.Read h o n) in
       let f = handle_file s h.0 in
       let count = read_count s f o n in
       quiet_if H (not (is_open s h.0)) _ _ (inl refl)
       (quiet_if H (eqb count 0) _ _ (inl refl)
       (quiet_if H (nat_lt MAX_TOUCHED (touched_count s.sizes.page o count)) _ _ (inl refl)
       (stopped_quiet H s f (read_stop s f o count) (λ p. inl refl) (λ p. inl refl)))) r t
-  answers (event.Write h o b) r t = write_answers (Quiet s (event.Write h o b)) (λ r q. inl q) h.0 o (length b)
+  tells (event.Write h o b) r t = write_answers (Told s (event.Write h o b)) (λ r q. inl q) h.0 o (length b)
       (λ e. inr (h, o, inl (ap (event.Write h o) (nothing b e)), refl)) r t
-  answers (event.Append h b) r t = let o = (file_at s (handle_file s h.0)).size in
-      write_answers (Quiet s (event.Append h b)) (λ r q. inl q) h.0 o (length b)
+  tells (event.Append h b) r t = let o = (file_at s (handle_file s h.0)).size in
+      write_answers (Told s (event.Append h b)) (λ r q. inl q) h.0 o (length b)
       (λ e. inr (h, o, inr (ap (event.Append h) (nothing b e), refl), refl)) r t
-  answers (event.Truncate h z) r t =
-      let H = Quiet s (event.Truncate h z) in
+  tells (event.Truncate h z) r t =
+      let H = Told s (event.Truncate h z) in
       let f = handle_file s h.0 in
       quiet_if H (not (is_open s h.0)) _ _ (inl refl)
       (quiet_if H (nat_lt MAX_FILE_SIZE z) _ _ (inl refl)
       (stopped_quiet H s f (truncate_stop s f (boundary s f z)) (λ p. inl refl) (λ p. inl refl))) r t
-  answers (event.FillBegin h p) r t =
-      let H = Quiet s (event.FillBegin h p) in
+  tells (event.FillBegin h p) r t =
+      let H = Told s (event.FillBegin h p) in
       let f = handle_file s h.0 in
       quiet_if H (not (is_open s h.0)) _ _ (inl refl)
       (quiet_if H (nat_le (page_count s.sizes.page (file_at s f).size) p.0) _ _ (inl refl)
@@ -136,19 +148,22 @@ module _ (s : State) where
       (quiet_if H (is_cached s f p.0) _ _ (inl refl)
       (quiet_if H (eqb (free_frames s) 0) _ _ (inl refl)
       (quiet_if H (is_written s f p.0 && is_full s) _ None (inl refl) (quiet_none H)))))) r t
-  answers (event.FlushBegin f) r t = let H = Quiet s (event.FlushBegin f) in
+  tells (event.FlushBegin f) r t = let H = Told s (event.FlushBegin f) in
       quiet_if H (nat_le (length s.files) f.0) _ _ (inl refl)
       (quiet_if H (not (is_some (flush_pick (file_at s f.0)))) _ _ (inl refl)
       (quiet_if H (is_full s) _ None (inl refl) (quiet_none H))) r t
-  answers (event.End kind end) r t =
-      quiet_unless (Quiet s (event.End kind end))
+  tells (event.End kind end) r t =
+      quiet_unless (Told s (event.End kind end))
       (eqb end.cache s.name && is_of kind end (map.get s.requests end.serial.0)) _ (inl refl) r t
-  answers event.Evict r t = quiet_unless (Quiet s event.Evict) (has_idle s) _ (inl refl) r t
-  answers event.Age r t = absurd cc
-  answers (event.SyncBegin h first last) r t = let H = Quiet s (event.SyncBegin h first last) in
+  tells event.Evict r t = quiet_unless (Told s event.Evict) (has_idle s) _ (inl refl) r t
+  tells event.Age r t = absurd cc
+  tells (event.SyncBegin h first last) r t = let H = Told s (event.SyncBegin h first last) in
       quiet_if H (not (is_open s h.0)) _ _ (inl refl)
       (quiet_if H (nat_lt last.0 first.0) _ _ (inl refl)
       (quiet_if H (nat_le MAX_SYNCS (map.len s.syncs)) _ None (inl refl) (quiet_none H))) r t
-  answers (event.SyncStep m) r t = sync_answers (Quiet s (event.SyncStep m)) (λ r q. inl q) (map.get s.syncs m.0) r t
-  answers (event.SyncDrop m) r t = quiet_unless (Quiet s (event.SyncDrop m)) (is_some (map.get s.syncs m.0)) _
+  tells (event.SyncStep m) r t = sync_answers (Told s (event.SyncStep m)) (λ r q. inl q) (map.get s.syncs m.0) r t
+  tells (event.SyncDrop m) r t = quiet_unless (Told s (event.SyncDrop m)) (is_some (map.get s.syncs m.0)) _
       (inl refl) r t
+
+  pub answers : (e : Event) (r : Reply) → tests s e ≡ Some r → Quiet s e r
+  answers e r t = elim (tells e r t) [ inl a ↦ inl (told_quiet r a) | inr a ↦ inr a ]

@@ -1,10 +1,9 @@
 -- What a sync with a bound awaits only shrinks, by exactly the requests that end or are dropped.
 use Rattle.std.proofs.Common.{◌≡◌, ℕ, ◌≤◌, Bool, true, false, cond, not, eqb, eqb-true, refl, ap, sym, subst, ◌∙◌}
-use Rattle.std.proofs.Common.{arith, inl, inr}
-use Rattle.std.specs.Prelude.{◌&&◌, ◌⊎◌, ◌==◌, Option, Some, None, is_some, option_map, unwrap_or, nat_lt, nat_le}
-use Rattle.std.specs.Prelude.{filter}
+use Rattle.std.proofs.Common.{arith, inl, inr, ◌&&◌, ◌⊎◌, ◌==◌, Option, Some, None, is_some, option_map, nat_lt, nat_le}
+use Rattle.std.proofs.Common.{filter, nat_cmp}
+use Rattle.std.specs.Prelude.{unwrap_or}
 use Rattle.std.specs.List.{list_any}
-use Rattle.std.specs.Ordering.{nat_cmp}
 use Rattle.std.specs.FinMap as map
 use Rattle.std.proofs.lemmas.Bool.Decides.{nat_tests}
 use Rattle.pc_types.specs.Kinds.{is_flush}

@@ -84,6 +84,13 @@ pub quiet_unless : {A : Type 0} (H : A → Type 0) (b : Bool) (x : A) → H x �
 quiet_unless H true x h r e = absurd cc
 quiet_unless H false x h r e = quiet_some H x r e h
 
+-- ---- either way of a choice
+
+pub by_choice : {A : Type 0} (P : A → Type 0) {R : Type 0} (b : Bool) (x y : A) → (P x → R) → (P y → R) → P (cond b x y)
+    → R
+by_choice P true x y h k p = h p
+by_choice P false x y h k p = k p
+
 -- ---- a choice whose test is known
 
 pub at_true : {A : Type 0} (b : Bool) (x y : A) → b ≡ true → cond b x y ≡ x

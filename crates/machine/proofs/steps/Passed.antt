@@ -1,14 +1,13 @@
 -- What is known where no test of an event holds.
 use Rattle.pc_types.specs.Tags.{no_tags}
-use Rattle.machine.proofs.steps.Choices.{some_of}
-use Rattle.machine.proofs.steps.Choices.{not_false}
+use Rattle.machine.proofs.steps.Choices.{some_of, not_false, and_true, not_true, if_none, if_some, first_passed, below}
+use Rattle.machine.proofs.steps.Choices.{at_most, positive, mapped_some}
 use Rattle.pc_types.specs.declared.ids.FileId.{FileId}
 use Rattle.pc_types.specs.declared.ids.HandleId.{HandleId}
 use Rattle.pc_types.specs.declared.ids.PageIndex.{PageIndex}
 use Rattle.std.proofs.Common.{◌≡◌, ℕ, ◌+◌, ◌<◌, ◌≤◌, Bool, true, false, cond, not, eqb, eqb-true, length, refl, ap, sym}
-use Rattle.std.proofs.Common.{◌∙◌}
-use Rattle.std.specs.Prelude.{◌&&◌, ◌==◌, Option, Some, None, is_some, option_map, unwrap_or, nat_lt, nat_le, count_by}
-use Rattle.std.specs.Prelude.{find}
+use Rattle.std.proofs.Common.{◌∙◌, ◌&&◌, ◌==◌, Option, Some, None, is_some, option_map, nat_lt, nat_le, count_by, find}
+use Rattle.std.specs.Prelude.{unwrap_or}
 use Rattle.std.specs.FinMap as map
 use Rattle.pc_types.specs.declared.limits.TheConstants.{MAX_FILE_SIZE, MAX_SYNCS, MAX_TOUCHED}
 use Rattle.pc_types.specs.declared.kind.Kind.{Kind}
@@ -23,8 +22,6 @@ use Rattle.machine.specs.State.{free_blocks, without_block, dirty_total}
 use Rattle.machine.specs.Changes.{boundary, flush_pick, sync_pick, is_left}
 use Rattle.machine.specs.Tests.{tests, write_tests, write_stop, truncate_stop, room_tests, stopped, first_of, is_full}
 use Rattle.machine.specs.Tests.{is_of, fits, start_tests}
-use Rattle.machine.proofs.steps.Choices.{and_true, not_true, if_none, if_some, first_passed, below, at_most, positive}
-use Rattle.machine.proofs.steps.Choices.{mapped_some}
 use Rattle.maps.proofs.Found.{found}
 
 pub not_stopped : (s : State) (f : ℕ) (o : Option ℕ) → stopped s f o ≡ None → o ≡ None

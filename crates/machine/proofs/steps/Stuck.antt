@@ -1,12 +1,11 @@
 -- Each event has a reply that is not want of memory: the first test that holds, or what happens where none does.
 use Rattle.pc_types.specs.declared.ids.HandleId.{HandleId}
 use Rattle.pc_types.specs.declared.ids.PageIndex.{PageIndex}
-use Rattle.std.proofs.Common.{◌≡◌, ◌≢◌, ℕ, suc, ◌+◌, Bool, true, false, cond, not, eqb, eqb-true, eq-eqb, List, [], ◌∷◌}
-use Rattle.std.proofs.Common.{length, get_or, refl, ap, ◌∙◌}
-use Rattle.std.specs.Prelude.{◌&&◌, ◌||◌, ◌==◌, Option, Some, None, is_some, option_map, nat_lt, nat_le, find, count_by}
+use Rattle.std.proofs.Common.{◌≡◌, ◌≢◌, ℕ, suc, ◌+◌, Bool, true, false, cond, eqb, eqb-true, eq-eqb, List, [], ◌∷◌}
+use Rattle.std.proofs.Common.{length, get_or, refl, ap, ◌∙◌, inl, inr, ◌||◌, Option, Some, None, is_some, option_map}
+use Rattle.std.proofs.Common.{find}
 use Rattle.std.specs.List.{list_any}
 use Rattle.std.specs.FinMap as map
-use Rattle.pc_types.specs.declared.limits.TheConstants.{MAX_FILES, MAX_FILE_SIZE, MAX_HANDLES, MAX_SYNCS, MAX_TOUCHED}
 use Rattle.pc_types.specs.declared.refusal.Refusal.TheVariants.{Memory, BadHandle}
 use Rattle.machine.specs.declared.event.Outcome.{Outcome}
 use Rattle.machine.specs.declared.event.Outcome.TheVariants as outcome
@@ -14,20 +13,17 @@ use Rattle.machine.specs.declared.event.Event.{Event}
 use Rattle.machine.specs.declared.event.Event.TheVariants as event
 use Rattle.machine.specs.declared.event.Reply.{Reply}
 use Rattle.machine.specs.declared.event.Reply.TheVariants as reply
-use Rattle.machine.specs.State.{State, File, Page, Request, Sync, no_file, file_at, handle_file, is_open, page_count}
-use Rattle.machine.specs.State.{is_written, is_filling, is_cached, is_idle, tags_at, bytes_at, touched, touched_count}
-use Rattle.machine.specs.State.{dirty_total, free_frames, free_blocks, without_block, first_awaited}
-use Rattle.machine.specs.Changes.{boundary, flush_pick, sync_pick, changed}
-use Rattle.machine.specs.Tests.{tests, read_count, read_stop, write_stop, truncate_stop, stopped, first_of, room_tests}
-use Rattle.machine.specs.Tests.{write_tests, has_idle, start_tests, sync_tests, is_full, is_of, refuse}
+use Rattle.machine.specs.State.{State, File, Page, Request, Sync, no_file, file_at, handle_file, is_open, is_written}
+use Rattle.machine.specs.State.{is_idle, bytes_at, first_awaited}
+use Rattle.machine.specs.Changes.{sync_pick, changed}
+use Rattle.machine.specs.Tests.{tests, read_count, has_idle, sync_tests, refuse}
 use Rattle.machine.specs.Step.{AnswersOr, MayReply, EndReply, SyncReply, SyncStepReply}
 use Rattle.machine.specs.Laws.{NoEventIsStuck}
-use Rattle.machine.proofs.steps.Choices.{quiet_none, quiet_some, quiet_if, if_some}
+use Rattle.machine.proofs.steps.Answered.{is_told, tells}
+use Rattle.machine.proofs.steps.Choices.{if_some}
 use Rattle.maps.proofs.Found.{found}
 use Rattle.machine.proofs.steps.Lowest.{lowest_free}
 use Rattle.machine.proofs.steps.Passed.{may_end}
-
--- ---- no test answers that memory is wanting
 
 abbrev wants_memory : Reply → Bool
 wants_memory (reply.Refused Memory) = true
@@ -36,104 +32,8 @@ wants_memory _ = false
 abbrev Fine : Reply → Type 0
 Fine r = wants_memory r ≡ false
 
-pub fine_reply : (r : Reply) → wants_memory r ≡ false → r ≢ reply.Refused Memory
+fine_reply : (r : Reply) → Fine r → r ≢ reply.Refused Memory
 fine_reply r e k = let a = ap wants_memory k in cc
-
--- each answer of these tests is fine
-abbrev AllFine : Option Reply → Type 0
-AllFine o = (r : Reply) → o ≡ Some r → Fine r
-
-none : AllFine None
-none = quiet_none Fine
-
-test : (b : Bool) (x : Reply) (o : Option Reply) → Fine x → AllFine o → AllFine (cond b (Some x) o)
-test b x o h rest = quiet_if Fine b x o h rest
-
-one : (x : Reply) → Fine x → AllFine (Some x)
-one x h r e = quiet_some Fine x r e h
-
-last : (b : Bool) (x : Reply) → Fine x → AllFine (cond b None (Some x))
-last true x h = none
-last false x h = one x h
-
-stop : (s : State) (f : ℕ) (o : Option ℕ) → AllFine (stopped s f o)
-stop s f None = none
-stop s f (Some p) =
-    elim (is_filling s f p) as (λ k. AllFine
-    (Some (cond k (reply.Wait (record { 0 = p })) (reply.Miss (record { 0 = p })))))
-    [ true ↦ one _ refl | false ↦ one _ refl ]
-
-stop_or : (s : State) (f : ℕ) (o : Option ℕ) (rest : Option Reply) → AllFine rest
-    → AllFine (first_of (stopped s f o) rest)
-stop_or s f None rest h = h
-stop_or s f (Some p) rest h = stop s f (Some p)
-
-room : (s : State) (f o n : ℕ) → AllFine (room_tests s f o n)
-room s f o n =
-    let pages = touched s.sizes.page o n in
-    let dirtied = count_by (λ p. not (tags_at s f p).dirty) pages in
-    test (nat_lt 0 dirtied && nat_lt s.sizes.dirty_limit (dirty_total s + dirtied)) _ _ refl
-    (test (nat_lt (free_frames s) (count_by (λ p. not (is_cached s f p)) pages)) _ _ refl
-    (test (nat_lt (length (free_blocks s)) (length (without_block s f pages))) _ None refl none))
-
-write : (s : State) (h o n : ℕ) → AllFine (write_tests s h o n)
-write s h o n =
-    test (not (is_open s h)) _ _ refl
-    (test (eqb n 0) _ _ refl
-    (test (nat_lt MAX_TOUCHED (touched_count s.sizes.page o n)) _ _ refl
-    (test (nat_lt MAX_FILE_SIZE (o + n)) _ _ refl
-    (stop_or s (handle_file s h) (write_stop s (handle_file s h) o n) (room_tests s (handle_file s h) o n)
-    (room s (handle_file s h) o n)))))
-
-start : (s : State) (f : ℕ) (o : Option ℕ) → AllFine (start_tests s f o)
-start s f None = none
-start s f (Some p) = test (tags_at s f p).writeback _ _ refl (test (is_full s) _ None refl none)
-
-sync : (s : State) (o : Option Sync) → AllFine (sync_tests s o)
-sync s None = one _ refl
-sync s (Some y) = start s (handle_file s y.handle) (sync_pick s y)
-
-all_fine : (s : State) (e : Event) → AllFine (tests s e)
-all_fine s event.Create = test (nat_le MAX_FILES (length s.files)) _ None refl none
-all_fine s (event.Open f) =
-    test (nat_le (length s.files) f.0) _ _ refl (test (nat_le MAX_HANDLES (map.len s.handles)) _ None refl none)
-all_fine s (event.Close k) =
-    test (not (is_open s k.0)) _ _ refl
-    (test (list_any (λ (y : Sync). eqb y.handle k.0) (map.values s.syncs)) _ None refl none)
-all_fine s (event.Size k) =
-    elim (is_open s k.0) as (λ b. AllFine
-    (cond b (Some (reply.Size (file_at s (handle_file s k.0)).size)) (refuse BadHandle)))
-    [ true ↦ one _ refl | false ↦ one _ refl ]
-all_fine s (event.Read k o n) =
-    let f = handle_file s k.0 in
-    test (not (is_open s k.0)) _ _ refl
-    (test (eqb (read_count s f o n) 0) _ _ refl
-    (test (nat_lt MAX_TOUCHED (touched_count s.sizes.page o (read_count s f o n))) _ _ refl
-    (stop s f (read_stop s f o (read_count s f o n)))))
-all_fine s (event.Write k o b) = write s k.0 o (length b)
-all_fine s (event.Append k b) = write s k.0 (file_at s (handle_file s k.0)).size (length b)
-all_fine s (event.Truncate k z) =
-    test (not (is_open s k.0)) _ _ refl
-    (test (nat_lt MAX_FILE_SIZE z) _ _ refl
-    (stop s (handle_file s k.0) (truncate_stop s (handle_file s k.0) (boundary s (handle_file s k.0) z))))
-all_fine s (event.FillBegin k p) =
-    let f = handle_file s k.0 in
-    test (not (is_open s k.0)) _ _ refl
-    (test (nat_le (page_count s.sizes.page (file_at s f).size) p.0) _ _ refl
-    (test (is_filling s f p.0) _ _ refl
-    (test (is_cached s f p.0) _ _ refl
-    (test (eqb (free_frames s) 0) _ _ refl (test (is_written s f p.0 && is_full s) _ None refl none)))))
-all_fine s (event.FlushBegin f) =
-    test (nat_le (length s.files) f.0) _ _ refl
-    (test (not (is_some (flush_pick (file_at s f.0)))) _ _ refl (test (is_full s) _ None refl none))
-all_fine s (event.End kind end) = last (end.cache == s.name && is_of kind end (map.get s.requests end.serial.0)) _ refl
-all_fine s event.Evict = last (has_idle s) _ refl
-all_fine s event.Age = none
-all_fine s (event.SyncBegin k first end) =
-    test (not (is_open s k.0)) _ _ refl
-    (test (nat_lt end.0 first.0) _ _ refl (test (nat_le MAX_SYNCS (map.len s.syncs)) _ None refl none))
-all_fine s (event.SyncStep m) = sync s (map.get s.syncs m.0)
-all_fine s (event.SyncDrop m) = last (is_some (map.get s.syncs m.0)) _ refl
 
 -- ---- what happens where no test holds
 
@@ -228,4 +128,9 @@ no_event_is_stuck s e = go (tests s e) refl
     go : (o : Option Reply) → tests s e ≡ o → (r : Reply) × (new : State) × (r ≢ reply.Refused Memory)
         × AnswersOr o s e r new
     go None t = let x = happens s e t in (x.0, changed s e x.0, fine_reply x.0 x.1, (x.2, refl))
-    go (Some r) t = (r, s, fine_reply r (all_fine s e r t), (refl, refl))
+    go (Some r) t = (
+      r,
+      s,
+      (λ k. elim (tells s e r t) [ inl a ↦ (let b = ap is_told k in cc) | inr a ↦ (let b = a.3 in cc) ]),
+      (refl, refl),
+    )

@@ -1,8 +1,7 @@
 -- Worked examples of flushes and of eviction.
 use Rattle.machine.specs.declared.event.End.{End}
 use Rattle.machine.specs.declared.event.Outcome.{Outcome}
-use Rattle.std.proofs.Common.{◌≡◌, ℕ, List, [], ◌∷◌, refl}
-use Rattle.std.specs.Prelude.{Some, None, replicate, true, false, Bool}
+use Rattle.std.proofs.Common.{◌≡◌, ℕ, List, [], ◌∷◌, refl, Some, None, replicate, true, false, Bool}
 use Rattle.pc_types.specs.declared.refusal.Refusal.TheVariants.{NoSuchFile, Stranger}
 use Rattle.pc_types.specs.declared.kind.Kind.TheVariants.{Fill, Flush}
 use Rattle.machine.specs.declared.event.Outcome.TheVariants as outcome

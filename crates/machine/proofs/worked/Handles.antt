@@ -1,6 +1,5 @@
 -- Worked examples of handles.
-use Rattle.std.proofs.Common.{◌≡◌, ℕ, zero, suc, ◌<◌, [], ◌∷◌, refl, arith}
-use Rattle.std.specs.Prelude.{None, true, false}
+use Rattle.std.proofs.Common.{◌≡◌, ℕ, zero, suc, ◌<◌, [], ◌∷◌, refl, arith, None, true, false}
 use Rattle.pc_types.specs.declared.refusal.Refusal.TheVariants.{BadHandle, Busy, NoSuchFile}
 use Rattle.machine.specs.declared.event.Event.TheVariants as event
 use Rattle.machine.specs.declared.event.Reply.TheVariants as reply

@@ -1,6 +1,5 @@
 -- Worked examples of syncs of a range of pages.
-use Rattle.std.proofs.Common.{◌≡◌, ℕ, [], ◌∷◌, refl}
-use Rattle.std.specs.Prelude.{Some, None, replicate, false}
+use Rattle.std.proofs.Common.{◌≡◌, ℕ, [], ◌∷◌, refl, Some, None, replicate, false}
 use Rattle.pc_types.specs.declared.refusal.Refusal.TheVariants.{BadRange}
 use Rattle.pc_types.specs.declared.kind.Kind.TheVariants.{Flush}
 use Rattle.machine.specs.declared.event.Event.TheVariants as event

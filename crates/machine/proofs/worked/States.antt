@@ -1,8 +1,6 @@
 -- Closed states, by which the definitions are checked against worked examples: pages of 16 bytes, 48 frames, a dirty
 -- limit of 16, 64 blocks, and one file with handle 0 open on it.
-use Rattle.std.proofs.Common.{◌≡◌, ℕ, T, List, [], ◌∷◌, length, ap, subst, ◌∙◌}
-use Rattle.std.specs.Prelude.{Some, None, true, false}
-use Rattle.std.specs.Ordering.{nat_cmp}
+use Rattle.std.proofs.Common.{◌≡◌, ℕ, T, List, [], ◌∷◌, length, ap, subst, ◌∙◌, Some, None, true, false, nat_cmp}
 use Rattle.std.specs.declared.cmp.Ordering.{Ordering}
 use Rattle.std.specs.FinMap as map
 use Rattle.std.specs.FinMap.{from_sorted, entries-from_sorted, get-from_sorted, len-entries, is_sorted, find}

@@ -1,6 +1,5 @@
 -- Worked examples of syncs.
-use Rattle.std.proofs.Common.{◌≡◌, ℕ, [], ◌∷◌, refl}
-use Rattle.std.specs.Prelude.{Some, None, replicate, false}
+use Rattle.std.proofs.Common.{◌≡◌, ℕ, [], ◌∷◌, refl, Some, None, replicate, false}
 use Rattle.pc_types.specs.declared.refusal.Refusal.TheVariants.{Stranger}
 use Rattle.pc_types.specs.declared.kind.Kind.TheVariants.{Flush}
 use Rattle.machine.specs.declared.event.Event.TheVariants as event
@@ -49,7 +48,7 @@ step_passes = simp (sync_get begun tt, handle_0 begun, page_entries begun tt, pa
 not_clean_yet : (new : State) → Step (state_of begun) (event.SyncStep (sync 0)) reply.Clean new → ⊥
 not_clean_yet new step =
     absurd (let h = happens (state_of begun) new (event.SyncStep (sync 0)) reply.Clean step_passes step in
-    simp (sync_get begun tt, handle_0 begun, page_entries begun tt, page_get begun tt) at h)
+    simp (sync_get begun tt, handle_0 begun, page_entries begun tt) at h)
 
 -- pages 0 and 2 are started; page 1 was not tagged, so the sync waits for the two writes, the lowest serial first
 abbrev both_started : Parts
@@ -64,7 +63,7 @@ both_started = record begun {
 
 started_passes : tests (state_of both_started) (event.SyncStep (sync 0)) ≡ None
 started_passes =
-    simp (sync_get both_started tt, handle_0 both_started, page_entries both_started tt, page_get both_started tt) refl
+    simp (sync_get both_started tt, handle_0 both_started, page_entries both_started tt) refl
 
 no_third_write : (t : ℕ) (new : State) → Step (state_of both_started) (event.SyncStep (sync 0)) (reply.Job (serial t))
     new → ⊥
@@ -74,7 +73,6 @@ no_third_write t new step =
       sync_get both_started tt,
       handle_0 both_started,
       page_entries both_started tt,
-      page_get both_started tt,
       request_entries both_started tt,
     ) at h)
 
@@ -86,7 +84,6 @@ waits_for_page_0 p new step =
       sync_get both_started tt,
       handle_0 both_started,
       page_entries both_started tt,
-      page_get both_started tt,
       request_entries both_started tt,
     ) at h in k)
 
@@ -135,7 +132,6 @@ not_passed_over new step =
       sync_get old_write_ended tt,
       handle_0 old_write_ended,
       page_entries old_write_ended tt,
-      page_get old_write_ended tt,
     ) at h)
 
 -- ---- a page that a flusher started after the sync had tagged it
@@ -150,7 +146,6 @@ flusher_passes =
       sync_get flusher_was_first tt,
       handle_0 flusher_was_first,
       page_entries flusher_was_first tt,
-      page_get flusher_was_first tt,
     ) refl
 
 not_clean_over_flusher : (new : State) → Step (state_of flusher_was_first) (event.SyncStep (sync 0)) reply.Clean new → ⊥
@@ -160,7 +155,6 @@ not_clean_over_flusher new step =
       sync_get flusher_was_first tt,
       handle_0 flusher_was_first,
       page_entries flusher_was_first tt,
-      page_get flusher_was_first tt,
       request_entries flusher_was_first tt,
     ) at h)
 

@@ -1,7 +1,6 @@
 -- Worked examples of truncations.
 use Rattle.machine.specs.declared.event.End.{End}
-use Rattle.std.proofs.Common.{◌≡◌, ℕ, [], ◌∷◌, refl}
-use Rattle.std.specs.Prelude.{Some, None, replicate, true, false}
+use Rattle.std.proofs.Common.{◌≡◌, ℕ, [], ◌∷◌, refl, Some, None, replicate, true, false}
 use Rattle.pc_types.specs.declared.refusal.Refusal.TheVariants.{Stranger, TooLarge}
 use Rattle.pc_types.specs.declared.kind.Kind.TheVariants.{Flush}
 use Rattle.machine.specs.declared.event.Outcome.TheVariants as outcome

@@ -1,10 +1,6 @@
 -- What a truncation does to the pages of a plain file, and which pages a write covers.
-use Rattle.std.proofs.Common.{◌≡◌, ℕ, ◌+◌, ◌-◌, ◌*◌, ◌/◌, ◌%◌, ◌<◌, ◌≤◌, zero, suc, Bool, true, false, cond, ltb, leb}
-use Rattle.std.proofs.Common.{List, [], length, get_or, take, drop, refl, ap, sym, ◌∙◌, arith, inl, inr, length-drop}
-use Rattle.std.proofs.Common.{Some, None}
-use Rattle.std.specs.Prelude.{◌&&◌, ◌⊎◌, find}
-use Rattle.std.specs.List.{range_with_len}
-use Rattle.std.proofs.Math.Nat.{le-div_iff_mul-le}
+use Rattle.std.proofs.Common.{◌≡◌, ℕ, ◌+◌, ◌-◌, ◌*◌, ◌/◌, ◌%◌, ◌<◌, ◌≤◌, true, cond, ltb, leb, List, [], length, get_or}
+use Rattle.std.proofs.Common.{take, drop, ap, sym, ◌∙◌, arith, inl, inr, length-drop, ◌&&◌, ◌⊎◌, le-div_iff_mul-le}
 use Rattle.std.proofs.lemmas.Grind.{same_number_lists}
 use Rattle.std.proofs.lemmas.Bool.Decides.{nat_tests}
 use Rattle.std.proofs.lemmas.List.{get_or_past}
@@ -12,7 +8,7 @@ use Rattle.pc_types.specs.Files.{pwrite, cut, page_of}
 use Rattle.pc_types.proofs.FileLaws.{byte-pwrite, byte-take, byte-page, length-cut, byte-cut}
 use Rattle.machine.specs.Changes.{overlay}
 use Rattle.machine.specs.Tests.{covers}
-use Rattle.machine.specs.State.{page_count, touched, touched_count}
+use Rattle.machine.specs.State.{page_count}
 use Rattle.machine.proofs.changes.StateLaws.{touches}
 use Rattle.machine.proofs.changes.WriteLengths.{length-overlay}
 use Rattle.runs.proofs.bytes.PageLaws.{length-page}
@@ -132,28 +128,6 @@ overlay_covered P o p b x y e k c =
     same i small =
         let size = length-drop (p * P - o) b in
         grind (arith, nat_tests)
-
--- a page that is touched is in the list
-find_range : (test : ℕ → Bool) (a n p : ℕ) → find test (range_with_len a n) ≡ None → a ≤ p → p < a + n → test p ≡ false
-find_range test a zero p h l m = absurd (omega arith)
-find_range test a (suc n) p h l m =
-    elim (test a) as (λ b. test a ≡ b → cond b (Some a) (find test (range_with_len (a + 1) n)) ≡ None → test p ≡ false) [
-      | true ↦ λ t k. absurd cc
-      | false ↦ λ t k. elim (split a p l) [
-        | inl e ↦ ap test (sym e) ∙ t
-        | inr e ↦ find_range test (a + 1) n p k e (omega arith)
-      ]
-    ] refl h
-  where
-    split : (a p : ℕ) → a ≤ p → (a ≡ p) ⊎ (a + 1 ≤ p)
-    split a p l = grind arith
-
-pub none_touched : (test : ℕ → Bool) (P o n p : ℕ) → find test (touched P o n) ≡ None → touches P o n p ≡ true
-    → test p ≡ false
-none_touched test P o n p h t = find_range test (o / P) (touched_count P o n) p h
-    (let a : (o / P ≤ p) × (p ≤ (o + n - 1) / P) = grind (arith, nat_tests) in a.0)
-    (let a : (o / P ≤ p) × (p ≤ (o + n - 1) / P) = grind (arith, nat_tests) in let b = a.0 in let c = a.1 in
-    omega arith)
 
 -- a page that is touched is below the count of the size that is reached
 pub touched_in : (P o n p z : ℕ) → 0 < P → 0 < n → o + n ≤ z → touches P o n p ≡ true → p < page_count P z

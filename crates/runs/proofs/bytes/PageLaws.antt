@@ -1,16 +1,17 @@
 -- What a write does to the pages of a plain file.
-use Rattle.std.proofs.Common.{◌≡◌, ℕ, ◌+◌, ◌-◌, ◌*◌, ◌/◌, ◌<◌, ◌≤◌, false, cond, ltb, leb, List, length}
-use Rattle.std.proofs.Common.{get_or, take, drop, sym, ◌∙◌, arith, length-drop}
-use Rattle.std.specs.Prelude.{◌&&◌}
-use Rattle.std.proofs.Math.Nat.{le-div_iff_mul-le}
+use Rattle.std.proofs.Common.{◌≡◌, ℕ, ◌+◌, ◌-◌, ◌*◌, ◌/◌, ◌%◌, ◌<◌, ◌≤◌, false, cond, ltb, leb, List, length, get_or, take}
+use Rattle.std.proofs.Common.{drop, sym, ◌∙◌, arith, length-drop, ◌&&◌, le-div_iff_mul-le, get_or-drop}
 use Rattle.std.proofs.lemmas.Grind.{same_number_lists}
 use Rattle.std.proofs.lemmas.Bool.Decides.{nat_tests}
-use Rattle.std.proofs.lemmas.List.{get_or-drop}
 use Rattle.pc_types.specs.Files.{pwrite, page_of}
 use Rattle.pc_types.proofs.FileLaws.{byte-pwrite, byte-take, byte-page, length-cut}
 use Rattle.machine.specs.Changes.{overlay}
 use Rattle.machine.proofs.changes.StateLaws.{touches}
 use Rattle.machine.proofs.changes.WriteLengths.{length-overlay}
+
+-- where a byte stands: in a page, and there
+pub byte_place : (P x : ℕ) → 0 < P → (x % P < P) × (x / P * P + x % P ≡ x)
+byte_place P x h = (omega arith, let m : x / P * P ≡ P * (x / P) = grind arith in omega arith)
 
 pub length-page : (P : ℕ) (f : List ℕ) (p : ℕ) → length (page_of P f p) ≡ P
 length-page P f p = length-cut (drop (p * P) f) P

@@ -1,9 +1,7 @@
 -- A device call.
 use Rattle.std.proofs.Common.{◌≡◌, ℕ, ◌<◌, Bool, true, false, cond, not, [], length, refl, ap, sym, subst, ◌∙◌, inl}
-use Rattle.std.proofs.Common.{inr}
-use Rattle.std.specs.Prelude.{◌&&◌, ◌||◌, Option, Some, None, is_some, slice_set}
+use Rattle.std.proofs.Common.{inr, ◌&&◌, ◌||◌, Option, Some, None, is_some, slice_set, length-set}
 use Rattle.std.specs.FinMap as finmap
-use Rattle.std.proofs.Math.ListN.{length-set}
 use Rattle.pc_types.specs.Kinds.{is_fill, is_flush}
 use Rattle.pc_types.specs.declared.kind.Kind.{Kind}
 use Rattle.pc_types.specs.declared.kind.Kind.TheVariants.{Fill, Flush}
@@ -14,12 +12,12 @@ use Rattle.machine.specs.Tests.{fits}
 use Rattle.machine.proofs.changes.StateLaws.{get_or-set}
 use Rattle.runs.specs.Plain.{Plain}
 use Rattle.runs.specs.World.{World, block_bytes, Calls, outcome_of, device_after}
-use Rattle.runs.proofs.views.View.{View, Flight, Good, Evolves, no_gone, put1, put1_here}
+use Rattle.runs.proofs.views.View.{View, Flight, Evolves, Goes, no_gone, put1, put1_here}
 use Rattle.runs.proofs.events.Coupled.{view, Coupled, After}
 use Rattle.runs.proofs.events.Lookups.{get-insert1}
 use Rattle.runs.proofs.events.Tables.{flight, flight_at, flight_is, bytes_of, called_tables}
-use Rattle.runs.proofs.views.CallNoted.{WentWell, call_noted_kept, call_noted_evolves}
-use Rattle.runs.proofs.views.BlockWritten.{block_written_kept, block_written_evolves}
+use Rattle.runs.proofs.views.CallNoted.{WentWell, call_noted}
+use Rattle.runs.proofs.views.BlockWritten.{block_written}
 
 -- what is noted does not matter to pages that a sync looks after
 noting_evolves : (v w : View) (outcome : ℕ → Option Outcome) → Evolves no_gone v w
@@ -66,17 +64,9 @@ module _ (w : World) (plain : Plain) (c : Coupled w plain) (t : ℕ) (x : Reques
 
   notes : (o : Outcome) → fits x.kind o ≡ true → WentWell (view w plain) r o → After w plain no_gone (noted o) plain
   notes o fitting well =
-      record {
-        tables = called_tables s.requests w.outcomes w.writing c.tables t x o there fitting;
-        good = subst Good (sym (noted_view o)) (call_noted_kept (view w plain) c.good t r is o well);
-        evolves = subst (Evolves no_gone (view w plain)) (sym (noted_view o))
-            (call_noted_evolves (view w plain) c.good t r is o well);
-        blocks = c.blocks;
-        handles = c.handles;
-        count = c.count;
-        valid = c.valid;
-        sizes = c.sizes;
-      }
+      let now = subst (Goes no_gone (view w plain)) (sym (noted_view o))
+      (call_noted (view w plain) c.good t r is o well) in
+      assumption (called_tables s.requests w.outcomes w.writing c.tables t x o there fitting)
 
   read_well : x.kind ≡ Fill → After w plain no_gone (noted (outcome.Read (block_bytes w x.block))) plain
   read_well kind =
@@ -124,27 +114,18 @@ module _ (w : World) (plain : Plain) (c : Coupled w plain) (t : ℕ) (x : Reques
   wrote_all : x.kind ≡ Flush → (o : Outcome) → fits x.kind o ≡ true → After w plain no_gone (wrote o) plain
   wrote_all kind o fitting =
       let v = view w plain in
-      let first = block_written_kept v c.good t r is kind in
-      let both : Good (record v { outcome = put1 v.outcome t (Some o); block = put1 v.block r.block r.bytes }) =
-      call_noted_kept (record v { block = put1 v.block r.block r.bytes }) first t r is o
-      (record {
-        fill = λ bytes e k. absurd (let a = kind in cc);
-        flush = λ _ _. put1_here v.block r.block r.bytes;
-      }) in
-      let evolves : Evolves no_gone v
-      (record v { outcome = put1 v.outcome t (Some o); block = put1 v.block r.block r.bytes }) =
-      noting_evolves v (record v { block = put1 v.block r.block r.bytes }) (put1 v.outcome t (Some o))
-      (block_written_evolves v c.good t r is kind) in
-      record {
-        tables = called_tables s.requests w.outcomes w.writing c.tables t x o there fitting;
-        good = subst Good (sym (wrote_view o)) both;
-        evolves = subst (Evolves no_gone v) (sym (wrote_view o)) evolves;
-        blocks = same_length ∙ c.blocks;
-        handles = c.handles;
-        count = c.count;
-        valid = c.valid;
-        sizes = c.sizes;
-      }
+      let first = block_written v c.good t r is kind in
+      let block_now = put1 v.block r.block r.bytes in
+      let both : Goes no_gone v (record v { outcome = put1 v.outcome t (Some o); block = block_now }) = (
+        (call_noted (record v { block = block_now }) first.0 t r is o
+            (record {
+              fill = λ bytes e k. absurd (let a = kind in cc);
+              flush = λ _ _. put1_here v.block r.block r.bytes;
+            })).0,
+        noting_evolves v (record v { block = block_now }) (put1 v.outcome t (Some o)) first.1,
+      ) in
+      let now = subst (Goes no_gone v) (sym (wrote_view o)) both in
+      assumption (called_tables s.requests w.outcomes w.writing c.tables t x o there fitting, same_length ∙ c.blocks)
 
   by_kind : (k : Kind) (fault : Option ℕ) (effect : Bool) (new : World) → x.kind ≡ k
       → new ≡ record w {

@@ -1,16 +1,18 @@
 -- A world and the plain files that belong to it.
-use Rattle.std.proofs.Common.{[], arith, false, ◌≡◌, ℕ, ◌<◌, Bool, true, length, refl, ap, sym, ◌∙◌, cond}
+use Rattle.std.proofs.Common.{[], arith, false, ◌≡◌, ℕ, ◌<◌, Bool, true, List, length, get_or, refl, ap, sym, subst}
+use Rattle.std.proofs.Common.{◌∙◌, cond, eqb, slice_set, Option, Some, None, is_some, option_map, length-set}
 use Rattle.pc_types.specs.Files.{cut, page_of}
-use Rattle.runs.proofs.views.View.{held_by, View, Good, Evolves, stays, held, no_gone}
-use Rattle.std.specs.Prelude.{Option, Some, None, is_some, option_map, unwrap_or}
+use Rattle.runs.proofs.views.View.{held_by, View, Good, Evolves, Goes, put1, put2, stays, held, no_gone}
+use Rattle.std.specs.Prelude.{unwrap_or}
 use Rattle.std.specs.FinMap as finmap
-use Rattle.std.proofs.Math.ListN.{length-set}
-use Rattle.machine.specs.State.{State, File, file_at, handle_file, is_open, page_at, spot_at, block_at}
-use Rattle.machine.specs.Changes.{put_file}
+use Rattle.machine.specs.State.{State, File, Page, no_file, file_at, handle_file, is_open, page_at, spot_at, block_at}
+use Rattle.machine.specs.Changes.{put_file, put_page}
+use Rattle.machine.proofs.changes.StateLaws.{get_or-set}
 use Rattle.pc_types.specs.Spots.{Spot}
 use Rattle.runs.specs.Plain.{Plain, plain_file}
 use Rattle.runs.specs.World.{World, block_bytes, on_device}
 use Rattle.runs.proofs.events.Tables.{Tables, flight_at}
+use Rattle.runs.proofs.events.Lookups.{page_at-put_page, size-put, size-set, failures-put}
 
 -- the look-ups
 abbrev pub view : World → Plain → View
@@ -70,26 +72,75 @@ with_core w s = record w { core = s }
 pub same_after : (gone : ℕ → ℕ → Bool) (w : World) (plain : Plain) → Coupled w plain → After w plain gone w plain
 same_after gone w plain c = assumption (stays gone (view w plain))
 
+still_valid : (w : World) (plain : Plain) → Coupled w plain → (new : State) → length new.files ≡ length w.core.files
+    → new.handles ≡ w.core.handles → (h : ℕ) → is_open new h ≡ true → handle_file new h < length new.files
+still_valid w plain c new len handles h o =
+    let same_file : handle_file new h ≡ handle_file w.core h = ap (λ m. unwrap_or (finmap.get m h) 0) handles in
+    let old = c.valid h (sym (ap (λ m. is_some (finmap.get m h)) handles) ∙ o) in omega arith
+
 -- one file changes, and nothing else of files, handles and the device's size
 pub file_changed : (w : World) (plain : Plain) (c : Coupled w plain) (new : World) (f : ℕ) (file : File)
-    → length new.device ≡ length w.device → new.core.files ≡ (put_file w.core f file).files
-    → new.core.sizes ≡ w.core.sizes → new.core.handles ≡ w.core.handles
-    → Good (view new plain) → Tables new.core.requests new.outcomes new.writing
-    → Evolves no_gone (view w plain) (view new plain)
-    → ((g : ℕ) → (file_at new.core g).size ≡ (file_at w.core g).size) → After w plain no_gone new plain
-file_changed w plain c new f file d e s h good tables evolves same = record {
-  good = good;
-  tables = tables;
-  blocks = d ∙ c.blocks ∙ sym (ap (λ x. x.blocks) s);
-  handles = c.handles ∙ sym h;
-  count = c.count ∙ sym (ap length e ∙ length-set w.core.files f file);
-  valid = λ k o.
-      let len : length new.core.files ≡ length w.core.files = ap length e ∙ length-set w.core.files f file in
-      let same_file : handle_file new.core k ≡ handle_file w.core k = ap (λ m. unwrap_or (finmap.get m k) 0) h in
-      let old = c.valid k (sym (ap (λ m. is_some (finmap.get m k)) h) ∙ o) in omega arith;
-  sizes = λ g. c.sizes g ∙ sym (same g);
-  evolves = evolves;
+    → f < length w.core.files → file.size ≡ (file_at w.core f).size → length new.device ≡ length w.device
+    → new.core.files ≡ (put_file w.core f file).files → new.core.sizes ≡ w.core.sizes
+    → new.core.handles ≡ w.core.handles → {v : View} → view new plain ≡ v → Goes no_gone (view w plain) v
+    → Tables new.core.requests new.outcomes new.writing → After w plain no_gone new plain
+file_changed w plain c new f file here size d e s h is goes tables =
+    let len : length new.core.files ≡ length w.core.files = ap length e ∙ length-set w.core.files f file in
+    let now = subst (Goes no_gone (view w plain)) (sym is) goes in
+    record {
+      good = now.0;
+      tables = tables;
+      blocks = d ∙ c.blocks ∙ sym (ap (λ x. x.blocks) s);
+      handles = c.handles ∙ sym h;
+      count = c.count ∙ sym len;
+      valid = still_valid w plain c new.core len h;
+      sizes = λ g. c.sizes g ∙ sym (ap (λ fs. (get_or fs g no_file).size) e ∙ size-put w.core f file here size g);
+      evolves = now.1;
+    }
+
+-- the plain file f with these bytes
+abbrev pub put_plain : Plain → ℕ → List ℕ → Plain
+put_plain plain f bytes = record plain { files = slice_set plain.files f bytes }
+
+pub file_set : (plain : Plain) (f : ℕ) (bytes : List ℕ) → f < length plain.files → (g : ℕ)
+    → plain_file (put_plain plain f bytes) g ≡ cond (eqb g f) bytes (plain_file plain g)
+file_set plain f bytes h g = get_or-set plain.files f g bytes [] h
+
+-- one file changes, and its plain bytes
+pub plain_changed : (w : World) (plain : Plain) (c : Coupled w plain) (gone : ℕ → ℕ → Bool) (new : State) (f : ℕ)
+    (file : File) (bytes : List ℕ) → f < length w.core.files → length bytes ≡ file.size
+    → new.files ≡ (put_file w.core f file).files → new.sizes ≡ w.core.sizes → new.handles ≡ w.core.handles
+    → Goes gone (view w plain) (view (with_core w new) (put_plain plain f bytes))
+    → Tables new.requests w.outcomes w.writing → After w plain gone (with_core w new) (put_plain plain f bytes)
+unfolding put1
+plain_changed w plain c gone new f file bytes here size e s h goes tables =
+    let len : length new.files ≡ length w.core.files = ap length e ∙ length-set w.core.files f file in
+    record {
+      good = goes.0;
+      tables = tables;
+      blocks = c.blocks ∙ sym (ap (λ x. x.blocks) s);
+      handles = c.handles ∙ sym h;
+      count = length-set plain.files f bytes ∙ c.count ∙ sym len;
+      valid = still_valid w plain c new len h;
+      sizes = λ g. ap length (file_set plain f bytes (let a = c.count in omega arith) g)
+          ∙ elim (eqb g f) as (λ b. length (cond b bytes (plain_file plain g)) ≡ cond b file.size (file_at w.core g).size)
+          [ true ↦ size | false ↦ c.sizes g ]
+          ∙ sym (ap (λ fs. (get_or fs g no_file).size) e ∙ size-set w.core f file here g);
+      evolves = goes.1;
+    }
+
+-- a page is put
+pub put_view : (w : World) (plain : Plain) (f p : ℕ) (page : Page) → f < length w.core.files
+    → view (with_core w (put_page w.core f p page)) plain
+    ≡ record (view w plain) { page = put2 (page_at w.core) f p (Some page) }
+put_view w plain f p page here = λ i. record (view w plain) {
+  page = λ g q. page_at-put_page w.core f p page here g q i;
+  size = λ g. size-put w.core f file here refl g i;
+  failures = λ g. failures-put w.core f file here refl g i;
 }
+  where
+    file : File
+    file = record (file_at w.core f) { pages = finmap.insert (file_at w.core f).pages p page }
 
 pub block_is : (s : State) (f p : ℕ) → is_some (spot_at s f p) ≡ true
     → option_map (λ x. x.block) (spot_at s f p) ≡ Some (unwrap_or (block_at s f p) 0)

@@ -1,11 +1,10 @@
 -- A request ends.
-use Rattle.std.proofs.Common.{◌≡◌, ℕ, ◌+◌, ◌-◌, ◌*◌, ◌/◌, ◌<◌, ◌≤◌, Bool, true, false, ltb, List, length}
-use Rattle.std.proofs.Common.{refl, ap, sym, subst, ◌∙◌, arith}
-use Rattle.std.specs.Prelude.{◌||◌, Option, Some, None, is_some, option_map}
+use Rattle.std.proofs.Common.{◌≡◌, ℕ, ◌+◌, ◌-◌, ◌*◌, ◌/◌, ◌<◌, ◌≤◌, true, false, ltb, List, length, refl, ap, sym}
+use Rattle.std.proofs.Common.{subst, ◌∙◌, arith, Option, Some, None, is_some, option_map, le-div_iff_mul-le}
 use Rattle.std.specs.FinMap as finmap
 use Rattle.std.proofs.lemmas.Bool.Decides.{nat_tests}
 use Rattle.std.proofs.lemmas.List.{get_or_past}
-use Rattle.std.proofs.Math.Nat.{le-div_iff_mul-le}
+use Rattle.std.proofs.Math.Bool.{or-true, or-false}
 use Rattle.pc_types.specs.Files.{page_of}
 use Rattle.pc_types.specs.Tags.{no_tags}
 use Rattle.pc_types.specs.Spots.{Spot, place_cmp}
@@ -20,23 +19,15 @@ use Rattle.machine.specs.Tests.{tests}
 use Rattle.machine.proofs.steps.Ends.{own_end_passes}
 use Rattle.runs.specs.Plain.{Plain, plain_file}
 use Rattle.runs.specs.World.{World, block_bytes}
-use Rattle.runs.proofs.views.View.{Flight, Good, FlushIs, Evolves, no_gone, put1, put2, writeback}
-use Rattle.runs.proofs.events.Coupled.{view, Coupled, After, file_changed}
-use Rattle.runs.proofs.events.Lookups.{cached_within, page_at-put_page, page_at-put_one, change_page-is, size-put}
-use Rattle.runs.proofs.events.Lookups.{failures-put, failures-set, get-remove1, get-insert2}
+use Rattle.runs.proofs.views.View.{Flight, FlushIs, Goes, no_gone, put1, put2, writeback}
+use Rattle.runs.proofs.events.Coupled.{view, Coupled, After, file_changed, put_view}
+use Rattle.runs.proofs.events.Lookups.{cached_within, page_at-put_one, change_page-is, size-put, failures-set}
+use Rattle.runs.proofs.events.Lookups.{get-remove1, get-insert2}
 use Rattle.runs.proofs.events.Tables.{Tables, fit, flight, flight_at, flight_is, bytes_of, flight_ended, ended_tables}
-use Rattle.runs.proofs.views.EndQuietly.{end_quietly_kept, end_quietly_evolves}
-use Rattle.runs.proofs.views.FillEnd.{fill_end_kept, fill_end_evolves}
-use Rattle.runs.proofs.views.FlushFailed.{flush_failed_kept, flush_failed_evolves}
-use Rattle.runs.proofs.views.FlushWritten.{flush_written_kept, flush_written_evolves}
-
-or_true : (b : Bool) → (b || true) ≡ true
-or_true true = refl
-or_true false = refl
-
-or_false : (b : Bool) → (b || false) ≡ b
-or_false true = refl
-or_false false = refl
+use Rattle.runs.proofs.views.EndQuietly.{end_quietly}
+use Rattle.runs.proofs.views.FillEnd.{fill_end}
+use Rattle.runs.proofs.views.FlushFailed.{flush_fails}
+use Rattle.runs.proofs.views.FlushWritten.{flush_written}
 
 module _ (w : World) (plain : Plain) (c : Coupled w plain) (t : ℕ) (x : Request)
     (there : finmap.get w.core.requests t ≡ Some x) where
@@ -68,17 +59,19 @@ module _ (w : World) (plain : Plain) (c : Coupled w plain) (t : ℕ) (x : Reques
   }
 
   pub quietly : (r.dropped ≡ false → r.kind ≡ Flush → ⊥) → After w plain no_gone (done (ended s t)) plain
-  quietly q = record {
-    good = subst Good (sym ended_view) (end_quietly_kept (view w plain) c.good t r is q);
-    tables = tables;
-    blocks = c.blocks;
-    handles = c.handles;
-    count = c.count;
-    valid = c.valid;
-    sizes = c.sizes;
-    evolves = subst (Evolves no_gone (view w plain)) (sym ended_view)
-        (end_quietly_evolves (view w plain) c.good t r is q);
-  }
+  quietly q =
+      let now = subst (Goes no_gone (view w plain)) (sym ended_view) (end_quietly (view w plain) c.good t r is q) in
+      assumption tables
+
+  -- and a page is put
+  put_ended : (f p : ℕ) (page : Page) → f < length s.files → view (done (put_page (ended s t) f p page)) plain
+      ≡ record (view w plain) {
+        page = put2 (page_at s) f p (Some page);
+        request = put1 (flight_at s.requests w.writing) t None;
+        outcome = put1 (finmap.get w.outcomes) t None;
+      }
+  put_ended f p page here = put_view (done (ended s t)) plain f p page here
+      ∙ (λ i. record (ended_view i) { page = put2 (page_at s) f p (Some page) })
 
   -- ---- a fill
 
@@ -100,36 +93,14 @@ module _ (w : World) (plain : Plain) (c : Coupled w plain) (t : ℕ) (x : Reques
     abbrev page : Page
     page = record { bytes = bytes; tags = no_tags }
 
-    filled_view : r.file < length s.files → view (done (put_page (ended s t) r.file r.page page)) plain
-        ≡ record (view w plain) {
-          page = put2 (page_at s) r.file r.page (Some page);
-          request = put1 (flight_at s.requests w.writing) t None;
-          outcome = put1 (finmap.get w.outcomes) t None;
-        }
-    filled_view here = λ i. record (view w plain) {
-      page = λ g q. page_at-put_page (ended s t) r.file r.page page here g q i;
-      request = λ u. flight_ended s.requests w.writing t u i;
-      outcome = λ u. get-remove1 w.outcomes t u i;
-      size = λ g. size-put (ended s t) r.file
-          (record (file_at s r.file) { pages = finmap.insert (file_at s r.file).pages r.page page }) here refl g i;
-      failures =
-          λ g. failures-put (ended s t) r.file
-          (record (file_at s r.file) { pages = finmap.insert (file_at s r.file).pages r.page page }) here refl g i;
-    }
-
     pub filled : r.dropped ≡ false → r.kind ≡ Fill → finmap.get w.outcomes t ≡ Some (outcome.Read bytes)
         → After w plain no_gone (done (put_page (ended s t) r.file r.page page)) plain
     filled live kind noted =
         let f = (c.good.requests t r is).fill live kind in
         let here : r.file < length s.files =
         within r.page r.file (c.good.spot_in r.file r.page (ap is_some f.mapped)) in
-        let file = record (file_at s r.file) { pages = finmap.insert (file_at s r.file).pages r.page page } in
-        file_changed w plain c (done (put_page (ended s t) r.file r.page page)) r.file file refl refl refl refl
-        (subst Good (sym (filled_view here)) (fill_end_kept (view w plain) c.good t r is live kind bytes noted))
-        tables
-        (subst (Evolves no_gone (view w plain)) (sym (filled_view here))
-        (fill_end_evolves (view w plain) c.good t r is live kind bytes noted))
-        (size-put (ended s t) r.file file here refl)
+        file_changed w plain c (done (put_page (ended s t) r.file r.page page)) r.file _ here refl refl refl refl refl
+        (put_ended r.file r.page page here) (fill_end (view w plain) c.good t r is live kind bytes noted) tables
 
   -- ---- a flush
 
@@ -174,25 +145,18 @@ module _ (w : World) (plain : Plain) (c : Coupled w plain) (t : ℕ) (x : Reques
           outcome = put1 (finmap.get w.outcomes) t None;
           failures = put1 (λ k. (file_at s k).failures) x.file ((file_at s x.file).failures + 1);
         }
-    failed_view code = λ i. record (view w plain) {
+    failed_view code = λ i. record (ended_view i) {
       page = λ g q. page_at-put_one (ended s t) x.file x.page (after_write true old_page) (failed_file code) refl here g
           q i;
-      request = λ u. flight_ended s.requests w.writing t u i;
-      outcome = λ u. get-remove1 w.outcomes t u i;
       size = λ g. size-put (ended s t) x.file (failed_file code) here refl g i;
       failures = λ g. failures-set (ended s t) x.file (failed_file code) here g i;
     }
 
     failed_put : (code : ℕ) → After w plain no_gone (done (unflushed code)) plain
-    failed_put code = file_changed w plain c (done (unflushed code)) x.file (failed_file code) refl refl refl refl
-        (subst Good (sym (failed_view code))
-        (flush_failed_kept (view w plain) c.good t r is live kind old_page (after_write true old_page) cached refl
-        (or_true old_page.tags.dirty) refl))
-        tables
-        (subst (Evolves no_gone (view w plain)) (sym (failed_view code))
-        (flush_failed_evolves (view w plain) c.good t r is live kind old_page (after_write true old_page) cached
-        refl (or_true old_page.tags.dirty) refl refl))
-        (size-put (ended s t) x.file (failed_file code) here refl)
+    failed_put code = file_changed w plain c (done (unflushed code)) x.file (failed_file code) here refl refl refl refl
+        refl (failed_view code)
+        (flush_fails (view w plain) c.good t r is live kind old_page (after_write true old_page) cached refl
+        (or-true old_page.tags.dirty) refl refl) tables
 
     abbrev spots : finmap.FinMap place_cmp Spot
     spots = finmap.insert s.spots (x.file, x.page) (record { block = x.block; written = true })
@@ -205,10 +169,6 @@ module _ (w : World) (plain : Plain) (c : Coupled w plain) (t : ℕ) (x : Reques
         ap (λ (z : State). record z { spots = spots })
         (change_page-is (ended s t) x.file x.page (after_write false) old_page cached)
 
-    abbrev clean_file : File
-    clean_file =
-        record (file_at s x.file) { pages = finmap.insert (file_at s x.file).pages x.page (after_write false old_page) }
-
     written_view : view (done clean) plain
         ≡ record (view w plain) {
           page = put2 (page_at s) x.file x.page (Some (after_write false old_page));
@@ -216,28 +176,14 @@ module _ (w : World) (plain : Plain) (c : Coupled w plain) (t : ℕ) (x : Reques
           request = put1 (flight_at s.requests w.writing) t None;
           outcome = put1 (finmap.get w.outcomes) t None;
         }
-    written_view = λ i. record (view w plain) {
-      page = λ g q. page_at-put_page (ended s t) x.file x.page (after_write false old_page) here g q i;
-      spot = λ g q. get-insert2 s.spots x.file x.page (record {
-        block = x.block;
-        written = true;
-      }) g q i;
-      request = λ u. flight_ended s.requests w.writing t u i;
-      outcome = λ u. get-remove1 w.outcomes t u i;
-      size = λ g. size-put (ended s t) x.file clean_file here refl g i;
-      failures = λ g. failures-put (ended s t) x.file clean_file here refl g i;
+    written_view = λ i. record (put_ended x.file x.page (after_write false old_page) here i) {
+      spot = λ g q. get-insert2 s.spots x.file x.page (record { block = x.block; written = true }) g q i;
     }
 
     written_put : finmap.get w.outcomes t ≡ Some outcome.Written → After w plain no_gone (done clean) plain
-    written_put noted = file_changed w plain c (done clean) x.file clean_file refl refl refl refl
-        (subst Good (sym written_view)
-        (flush_written_kept (view w plain) c.good t r is live kind old_page (after_write false old_page) cached
-        noted refl (or_false old_page.tags.dirty) refl refl))
-        tables
-        (subst (Evolves no_gone (view w plain)) (sym written_view)
-        (flush_written_evolves (view w plain) c.good t r is live kind old_page (after_write false old_page) cached
-        noted refl (or_false old_page.tags.dirty) refl refl))
-        (size-put (ended s t) x.file clean_file here refl)
+    written_put noted = file_changed w plain c (done clean) x.file _ here refl refl refl refl refl written_view
+        (flush_written (view w plain) c.good t r is live kind old_page (after_write false old_page) cached noted refl
+        (or-false old_page.tags.dirty) refl refl) tables
 
   pub failed : (code : ℕ) → x.dropped ≡ false → x.kind ≡ Flush
       → After w plain no_gone (done (flush_failed (ended s t) x code)) plain

@@ -8,7 +8,8 @@ use Rattle.machine.specs.State.{State, File, handle_file, no_file}
 use Rattle.runs.specs.Plain.{Plain}
 use Rattle.runs.specs.World.{World}
 use Rattle.runs.proofs.views.View.{Good, put1_tells, Evolves, no_gone, stays}
-use Rattle.runs.proofs.events.Lookups.{get_or-default, get-insert1, get-remove1}
+use Rattle.runs.proofs.events.Lookups.{get-insert1, get-remove1}
+use Rattle.machine.proofs.sound.Lookups.{get_or-default}
 use Rattle.runs.proofs.events.Coupled.{view, Coupled, After, with_core}
 
 module _ (w : World) (plain : Plain) (c : Coupled w plain) where

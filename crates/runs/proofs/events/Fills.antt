@@ -1,8 +1,7 @@
 -- A fill begins, or a page without a block is cached at once.
 use Rattle.std.proofs.Common.{◌≡◌, ℕ, ◌+◌, ◌<◌, Bool, true, false, cond, not, eqb, eq-eqb, List, [], length, refl, ap}
-use Rattle.std.proofs.Common.{sym, subst, ◌∙◌}
-use Rattle.std.specs.Prelude.{◌&&◌, Option, Some, None, is_some, option_map, unwrap_or}
-use Rattle.std.specs.Ordering.{nat_cmp}
+use Rattle.std.proofs.Common.{sym, subst, ◌∙◌, ◌&&◌, Option, Some, None, is_some, option_map, nat_cmp}
+use Rattle.std.specs.Prelude.{unwrap_or}
 use Rattle.std.specs.FinMap as finmap
 use Rattle.std.proofs.lemmas.Bool.{false≢true}
 use Rattle.pc_types.specs.Files.{page_of, cut}
@@ -20,13 +19,11 @@ use Rattle.maps.proofs.Maps.{get-insert_nat}
 use Rattle.machine.proofs.changes.StateLaws.{filling_shows}
 use Rattle.runs.specs.Plain.{Plain, plain_file}
 use Rattle.runs.specs.World.{World, block_bytes, noted, to_write}
-use Rattle.runs.proofs.views.View.{Flight, Good, Evolves, no_gone, put1, put2, dirty, writeback, settled, held_by}
-use Rattle.runs.proofs.views.View.{fresh, no_outcome}
-use Rattle.runs.proofs.events.Coupled.{view, Coupled, After, with_core, file_changed}
-use Rattle.runs.proofs.events.Lookups.{page_at-put_page, size-put, failures-put}
+use Rattle.runs.proofs.views.View.{Flight, Goes, no_gone, put1, dirty, writeback, settled, held_by, fresh, no_outcome}
+use Rattle.runs.proofs.events.Coupled.{view, Coupled, After, with_core, file_changed, put_view}
 use Rattle.runs.proofs.events.Tables.{writes, flight, flight_at, request_is, in_flight, flight_begun, begun_tables}
-use Rattle.runs.proofs.views.FillAtOnce.{fill_at_once_kept, fill_at_once_evolves}
-use Rattle.runs.proofs.views.FillBegin.{fill_begin_kept, fill_begin_evolves}
+use Rattle.runs.proofs.views.FillAtOnce.{fill_at_once}
+use Rattle.runs.proofs.views.FillBegin.{fill_begin}
 use Rattle.pc_types.specs.declared.kind.Kind.TheVariants.{Fill}
 
 -- whether a spot is written
@@ -73,30 +70,16 @@ module _ (w : World) (plain : Plain) (c : Coupled w plain) (f p : ℕ) (here : f
   absent : page_at s f p ≡ None
   absent = none_of (page_at s f p) not_cached
 
-  at_once_view : view (with_core w (put_page s f p zeros)) plain ≡ record (view w plain)
-      { page = put2 (page_at s) f p (Some zeros) }
-  at_once_view = λ i. record (view w plain) {
-    page = λ g q. page_at-put_page s f p zeros here g q i;
-    size = λ g. size-put s f (record (file_at s f) { pages = finmap.insert (file_at s f).pages p zeros }) here refl g i;
-    failures = λ g. failures-put s f (record (file_at s f) { pages = finmap.insert (file_at s f).pages p zeros }) here
-        refl g i;
-  }
-
   pub at_once : is_written s f p ≡ false → After w plain no_gone (with_core w (put_page s f p zeros)) plain
   at_once e =
       let none = unwritten (spot_at s f p) ((c.good.pages f p).clean_block (ap dirty absent) (ap writeback absent)) e in
       let right : cut [] s.sizes.page ≡ page_of s.sizes.page (plain_file plain f) p =
       sym (ap (held_by (block_bytes w) s.sizes.page) none)
       ∙ (c.good.pages f p).clean (ap dirty absent) (ap writeback absent) in
-      file_changed w plain c (with_core w (put_page s f p zeros)) f _ refl refl refl refl
-      (subst Good (sym at_once_view)
-      (fill_at_once_kept (view w plain) c.good f p absent (cut [] s.sizes.page) right within
-      (alone w plain c f p not_filling)))
-      c.tables
-      (subst (Evolves no_gone (view w plain)) (sym at_once_view)
-      (fill_at_once_evolves (view w plain) c.good f p absent (cut [] s.sizes.page) right within
-      (alone w plain c f p not_filling)))
-      (size-put s f (record (file_at s f) { pages = finmap.insert (file_at s f).pages p zeros }) here refl)
+      file_changed w plain c (with_core w (put_page s f p zeros)) f _ here refl refl refl refl refl
+      (put_view w plain f p zeros here)
+      (fill_at_once (view w plain) c.good f p absent (cut [] s.sizes.page) right within
+      (alone w plain c f p not_filling)) c.tables
 
   abbrev request : Request
   request = record { kind = Fill; file = f; page = p; block = unwrap_or (block_at s f p) 0; dropped = false }
@@ -121,21 +104,13 @@ module _ (w : World) (plain : Plain) (c : Coupled w plain) (f p : ℕ) (here : f
   }
 
   begins : is_written s f p ≡ true → After w plain no_gone (with_core w (requested s Fill f p)) plain
-  begins e = record {
-    good = subst Good (sym begun_view)
-        (fill_begin_kept (view w plain) c.good f p (unwrap_or (block_at s f p) 0) absent (mapped_is s f p e)
-        (alone w plain c f p not_filling));
-    tables = begun_tables s.requests w.outcomes w.writing c.tables s.next request w.writing
-        (no_outcome (view w plain) c.good) (ap is_some next_unwritten) (λ u n. refl);
-    blocks = c.blocks;
-    handles = c.handles;
-    count = c.count;
-    valid = c.valid;
-    sizes = c.sizes;
-    evolves = subst (Evolves no_gone (view w plain)) (sym begun_view)
-        (fill_begin_evolves (view w plain) c.good f p (unwrap_or (block_at s f p) 0) absent (mapped_is s f p e)
-        (alone w plain c f p not_filling));
-  }
+  begins e =
+      let now = subst (Goes no_gone (view w plain)) (sym begun_view)
+      (fill_begin (view w plain) c.good f p (unwrap_or (block_at s f p) 0) absent (mapped_is s f p e)
+      (alone w plain c f p not_filling)) in
+      let tables = begun_tables s.requests w.outcomes w.writing c.tables s.next request w.writing
+      (no_outcome (view w plain) c.good) (ap is_some next_unwritten) (λ u n. refl) in
+      assumption
 
   -- a fill notes no bytes
   none_noted : (t : Serial) → t.0 ≡ s.next → noted w.writing (reply.Job t) (requested s Fill f p) ≡ w.writing

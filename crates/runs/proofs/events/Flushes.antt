@@ -1,8 +1,8 @@
 -- A write of a page is started, and a sync begins.
 use Rattle.std.proofs.Common.{[], ◌≡◌, ◌≢◌, ℕ, ◌+◌, ◌<◌, Bool, true, false, cond, eqb, eqb-true, eq-eqb, List, length}
-use Rattle.std.proofs.Common.{get_or, refl, ap, sym, subst, ◌∙◌, inl, inr}
-use Rattle.std.specs.Prelude.{◌&&◌, ◌||◌, ◌⊎◌, Option, Some, None, is_some, option_map, unwrap_or}
-use Rattle.std.specs.Ordering.{nat_cmp}
+use Rattle.std.proofs.Common.{get_or, refl, ap, sym, subst, ◌∙◌, ◌&&◌, ◌||◌, Option, Some, None, is_some, option_map}
+use Rattle.std.proofs.Common.{nat_cmp}
+use Rattle.std.specs.Prelude.{unwrap_or}
 use Rattle.std.specs.FinMap as finmap
 use Rattle.pc_types.specs.Files.{page_of}
 use Rattle.pc_types.specs.declared.ids.Serial.{Serial}
@@ -18,14 +18,13 @@ use Rattle.machine.proofs.changes.StateLaws.{get_or-set}
 use Rattle.runs.specs.Plain.{Plain, plain_file}
 use Rattle.runs.specs.World.{World, noted}
 use Rattle.runs.specs.World as world
-use Rattle.runs.proofs.views.View.{Good, Evolves, no_gone, put1, put1_else, put2, put2_here, dirty, writeback, towrite}
-use Rattle.runs.proofs.views.View.{View, no_outcome}
+use Rattle.runs.proofs.views.View.{no_gone, put1, put1_else, put2, put2_here, dirty, writeback, towrite, no_outcome}
 use Rattle.runs.proofs.events.Tables.{Tables, flight, flight_at, flight_begun, begun_tables}
-use Rattle.runs.proofs.events.Coupled.{view, Coupled, After, with_core, block_is, file_changed}
+use Rattle.runs.proofs.events.Coupled.{view, Coupled, After, with_core, block_is, file_changed, put_view}
 use Rattle.runs.proofs.bytes.PageLaws.{length-page}
 use Rattle.runs.proofs.events.Lookups.{cached_within, page_at-put_page, change_page-is, size-put, failures-put}
 use Rattle.runs.proofs.events.Lookups.{get-insert1}
-use Rattle.runs.proofs.views.FlushBegin.{flush_begin_kept, flush_begin_evolves}
+use Rattle.runs.proofs.views.FlushBegin.{flush_begin}
 use Rattle.runs.proofs.views.Retag.{retag}
 
 -- ---- a write of a page is started
@@ -52,9 +51,6 @@ module _ (w : World) (plain : Plain) (c : Coupled w plain) (f p : ℕ) (page : P
   here : f < length s.files
   here = cached_within s f p (ap is_some cached)
 
-  abbrev file_after : File
-  file_after = record (file_at s f) { pages = finmap.insert (file_at s f).pages p (under_write page) }
-
   own_bytes : finmap.get writing s.next ≡ Some page.bytes
   own_bytes = get-insert_nat w.writing s.next page.bytes s.next
       ∙ ap (λ b. cond b (Some page.bytes) (finmap.get w.writing s.next)) (eq-eqb s.next s.next refl)
@@ -67,13 +63,10 @@ module _ (w : World) (plain : Plain) (c : Coupled w plain) (f p : ℕ) (page : P
     request = put1 (flight_at s.requests w.writing) s.next (Some (flight page.bytes request));
     next = s.next + 1;
   }
-  started_view = λ i. record (view w plain) {
+  started_view = λ i. record (put_view w plain f p (under_write page) here i) {
     next = s.next + 1;
-    page = λ g q. page_at-put_page s f p (under_write page) here g q i;
     request = λ t. flight_begun s.requests w.writing writing s.next request page.bytes
         (ap (λ o. unwrap_or o []) own_bytes) others t i;
-    size = λ g. size-put s f file_after here refl g i;
-    failures = λ g. failures-put s f file_after here refl g i;
   }
 
   mapped : option_map (λ x. x.block) (spot_at s f p) ≡ Some (unwrap_or (block_at s f p) 0)
@@ -83,15 +76,12 @@ module _ (w : World) (plain : Plain) (c : Coupled w plain) (f p : ℕ) (page : P
   size_of_page = ap length ((c.good.pages f p).bytes page cached) ∙ length-page s.sizes.page (plain_file plain f) p
 
   begins : After w plain no_gone (record w { core = begun; writing = writing }) plain
-  begins = file_changed w plain c (record w { core = begun; writing = writing }) f file_after refl refl refl refl
-      (subst Good (sym started_view)
-      (flush_begin_kept (view w plain) c.good f p (unwrap_or (block_at s f p) 0) page cached is_dirty idle mapped
-      size_of_page))
+  begins = file_changed w plain c (record w { core = begun; writing = writing }) f _ here refl refl refl refl refl
+      started_view
+      (flush_begin (view w plain) c.good f p (unwrap_or (block_at s f p) 0) page cached is_dirty idle mapped
+      size_of_page)
       (begun_tables s.requests w.outcomes w.writing c.tables s.next request writing (no_outcome (view w plain) c.good)
       (ap is_some own_bytes) others)
-      (subst (Evolves no_gone (view w plain)) (sym started_view)
-      (flush_begin_evolves (view w plain) c.good f p (unwrap_or (block_at s f p) 0) page cached is_dirty idle mapped
-      size_of_page)) (size-put s f file_after here refl)
 
   -- the bytes that are noted are the page's
   bytes_after : page_bytes begun f p ≡ page.bytes
@@ -132,75 +122,59 @@ module _ (w : World) (plain : Plain) (c : Coupled w plain) (f n : ℕ) (y : Sync
   file_now g = ap (λ fs. get_or fs g no_file) begins.file ∙ get_or-set t.files f g tagged_file no_file here
 
   size_now : (g : ℕ) → (file_at new g).size ≡ (file_at t g).size
-  size_now g = ap (λ (x : File). x.size) (file_now g)
-      ∙ elim (eqb g f) as (λ b. eqb g f ≡ b → (cond b tagged_file (file_at t g)).size ≡ (file_at t g).size)
-      [ true ↦ λ e. ap (λ k. (file_at t k).size) (sym (eqb-true g f e)) | false ↦ λ e. refl ] refl
+  size_now g = ap (λ fs. (get_or fs g no_file).size) begins.file ∙ size-put t f tagged_file here refl g
 
   failures_now : (g : ℕ) → (file_at new g).failures ≡ (file_at t g).failures
-  failures_now g = ap (λ (x : File). x.failures) (file_now g)
-      ∙ elim (eqb g f) as (λ b. eqb g f ≡ b → (cond b tagged_file (file_at t g)).failures ≡ (file_at t g).failures)
-      [ true ↦ λ e. ap (λ k. (file_at t k).failures) (sym (eqb-true g f e)) | false ↦ λ e. refl ] refl
+  failures_now g = ap (λ fs. (get_or fs g no_file).failures) begins.file ∙ failures-put t f tagged_file here refl g
 
-  -- each page is as before, or gets TOWRITE where it is DIRTY
-  page_now : (g q : ℕ) → (page_at new g q ≡ page_at t g q)
-      ⊎ (page_at new g q ≡ option_map (to_write y q) (page_at t g q))
-  page_now g q =
-      elim (eqb g f) as (λ b. eqb g f ≡ b → (page_at new g q ≡ page_at t g q)
-      ⊎ (page_at new g q ≡ option_map (to_write y q) (page_at t g q))) [
-        | true ↦ λ e. inr ((λ i. page_at new (eqb-true g f e i) q) ∙ begins.pages q
-            ∙ (λ i. option_map (to_write y q) (page_at t (sym (eqb-true g f e) i) q)))
-        | false ↦ λ e. inl (ap (λ (x : File). finmap.get x.pages q)
-            (file_now g ∙ ap (λ b. cond b tagged_file (file_at t g)) e))
-      ] refl
+  -- a page is as before, or gets TOWRITE where it is DIRTY
+  abbrev now : Bool → ℕ → Option Page → Option Page
+  now b q o = cond b (option_map (to_write y q) o) o
 
-  to_write_some : (q : ℕ) (o : Option Page) → is_some (option_map (to_write y q) o) ≡ is_some o
-  to_write_some q None = refl
-  to_write_some q (Some x) = refl
+  page_now : (g q : ℕ) → page_at new g q ≡ now (eqb g f) q (page_at t g q)
+  page_now g q = elim (eqb g f) as (λ b. eqb g f ≡ b → page_at new g q ≡ now b q (page_at t g q)) [
+    | true ↦ λ e. (λ i. page_at new (eqb-true g f e i) q) ∙ begins.pages q
+        ∙ (λ i. option_map (to_write y q) (page_at t (sym (eqb-true g f e) i) q))
+    | false ↦ λ e. ap (λ (x : File). finmap.get x.pages q)
+        (file_now g ∙ ap (λ b. cond b tagged_file (file_at t g)) e)
+  ] refl
 
-  to_write_dirty : (q : ℕ) (o : Option Page) → dirty (option_map (to_write y q) o) ≡ dirty o
-  to_write_dirty q None = refl
-  to_write_dirty q (Some x) = refl
+  some_now : (b : Bool) (q : ℕ) (o : Option Page) → is_some (now b q o) ≡ is_some o
+  some_now false q o = refl
+  some_now true q None = refl
+  some_now true q (Some x) = refl
 
-  to_write_writeback : (q : ℕ) (o : Option Page) → writeback (option_map (to_write y q) o) ≡ writeback o
-  to_write_writeback q None = refl
-  to_write_writeback q (Some x) = refl
+  dirty_now : (b : Bool) (q : ℕ) (o : Option Page) → dirty (now b q o) ≡ dirty o
+  dirty_now false q o = refl
+  dirty_now true q None = refl
+  dirty_now true q (Some x) = refl
 
-  to_write_bytes : (q : ℕ) (o : Option Page) (x : Page) → option_map (to_write y q) o ≡ Some x
+  writeback_now : (b : Bool) (q : ℕ) (o : Option Page) → writeback (now b q o) ≡ writeback o
+  writeback_now false q o = refl
+  writeback_now true q None = refl
+  writeback_now true q (Some x) = refl
+
+  bytes_now : (b : Bool) (q : ℕ) (o : Option Page) (x : Page) → now b q o ≡ Some x
       → (v : Page) × (o ≡ Some v) × (x.bytes ≡ v.bytes)
-  to_write_bytes q None x e = absurd cc
-  to_write_bytes q (Some v) x e = (v, refl, (let a : to_write y q v ≡ x = cc in sym (ap (λ (z : Page). z.bytes) a)))
+  bytes_now false q o x e = (x, e, refl)
+  bytes_now true q None x e = absurd cc
+  bytes_now true q (Some v) x e = (v, refl, (let a : to_write y q v ≡ x = cc in sym (ap (λ (z : Page). z.bytes) a)))
 
   tagged : (a b c : Bool) → (a ≡ true → b ≡ true) → (a || b && c) ≡ true → b ≡ true
   tagged true b c old e = old refl
   tagged false true c old e = refl
   tagged false false c old e = absurd cc
 
-  to_write_towrite : (q : ℕ) (o : Option Page) → (towrite o ≡ true → dirty o ≡ true)
-      → towrite (option_map (to_write y q) o) ≡ true → dirty o ≡ true
-  to_write_towrite q None old e = absurd cc
-  to_write_towrite q (Some x) old e = tagged x.tags.towrite x.tags.dirty (in_range y q) old e
+  towrite_now : (b : Bool) (q : ℕ) (o : Option Page) → (towrite o ≡ true → dirty o ≡ true)
+      → towrite (now b q o) ≡ true → dirty o ≡ true
+  towrite_now false q o old e = old e
+  towrite_now true q None old e = absurd cc
+  towrite_now true q (Some x) old e = tagged x.tags.towrite x.tags.dirty (in_range y q) old e
 
-  retagged : let after : View = record (view w plain) { page = page_at new } in Good after
-      × (((g q : ℕ) → towrite (page_at t g q) ≡ true → towrite (page_at new g q) ≡ true)
-      → Evolves no_gone (view w plain) after)
-  retagged = retag (view w plain) c.good (page_at new)
-      (λ g q. elim (page_now g q) [ inl e ↦ ap is_some e | inr e ↦ ap is_some e ∙ to_write_some q (page_at t g q) ])
-      (λ g q x k. elim (page_now g q)
-      [ inl e ↦ (x, sym e ∙ k, refl) | inr e ↦ to_write_bytes q (page_at t g q) x (sym e ∙ k) ])
-      (λ g q. elim (page_now g q) [ inl e ↦ ap dirty e | inr e ↦ ap dirty e ∙ to_write_dirty q (page_at t g q) ])
-      (λ g q. elim (page_now g q) [
-        | inl e ↦ ap writeback e
-        | inr e ↦ ap writeback e
-            ∙ to_write_writeback q (page_at t g q)
-      ])
-      (λ g q k. elim (page_now g q) [
-        | inl e ↦ (c.good.pages g q).towrite (sym (ap towrite e) ∙ k)
-        | inr e ↦ to_write_towrite q (page_at t g q) (c.good.pages g q).towrite (sym (ap towrite e) ∙ k)
-      ])
-
-  to_write_more : (q : ℕ) (o : Option Page) → towrite o ≡ true → towrite (option_map (to_write y q) o) ≡ true
-  to_write_more q None e = e
-  to_write_more q (Some x) e = ap (λ b. b || x.tags.dirty && in_range y q) e
+  towrite_more : (b : Bool) (q : ℕ) (o : Option Page) → towrite o ≡ true → towrite (now b q o) ≡ true
+  towrite_more false q o e = e
+  towrite_more true q None e = e
+  towrite_more true q (Some x) e = ap (λ b. b || x.tags.dirty && in_range y q) e
 
   begun_view : view (with_core w new) plain ≡ record (view w plain) { page = page_at new }
   begun_view = λ i. record (view (with_core w new) plain) {
@@ -214,11 +188,14 @@ module _ (w : World) (plain : Plain) (c : Coupled w plain) (f n : ℕ) (y : Sync
   }
 
   pub begun_sync : After w plain no_gone (with_core w new) plain
-  begun_sync = file_changed w plain c (with_core w new) f tagged_file refl begins.file same_sizes
-      (ap (λ x. x.handles) begins.rest) (subst Good (sym begun_view) retagged.0)
+  begun_sync = file_changed w plain c (with_core w new) f tagged_file here refl refl begins.file same_sizes
+      (ap (λ x. x.handles) begins.rest) begun_view
+      (retag (view w plain) c.good (page_at new)
+      (λ g q. ap is_some (page_now g q) ∙ some_now (eqb g f) q (page_at t g q))
+      (λ g q x k. bytes_now (eqb g f) q (page_at t g q) x (sym (page_now g q) ∙ k))
+      (λ g q. ap dirty (page_now g q) ∙ dirty_now (eqb g f) q (page_at t g q))
+      (λ g q. ap writeback (page_now g q) ∙ writeback_now (eqb g f) q (page_at t g q))
+      (λ g q k. towrite_now (eqb g f) q (page_at t g q) (c.good.pages g q).towrite
+      (sym (ap towrite (page_now g q)) ∙ k))
+      (λ g q k. ap towrite (page_now g q) ∙ towrite_more (eqb g f) q (page_at t g q) k))
       (subst (λ (x : State). Tables x.requests w.outcomes w.writing) (sym begins.rest) c.tables)
-      (subst (Evolves no_gone (view w plain)) (sym begun_view) (retagged.1
-      (λ g q k. elim (page_now g q) [
-        | inl e ↦ ap towrite e ∙ k
-        | inr e ↦ ap towrite e ∙ to_write_more q (page_at t g q) k
-      ]))) size_now

@@ -1,8 +1,6 @@
 -- What is looked up in a state of the cache after a part of it changes.
-use Rattle.std.proofs.Common.{◌≡◌, ℕ, zero, suc, ◌<◌, true, false, cond, eqb, eqb-true, ltb, List, [], ◌∷◌, ◌++◌}
-use Rattle.std.proofs.Common.{length, get_or, refl, ap, sym, ◌∙◌, arith}
-use Rattle.std.specs.Prelude.{◌&&◌, Some, None, is_some, option_map}
-use Rattle.std.specs.Ordering.{nat_cmp}
+use Rattle.std.proofs.Common.{◌≡◌, ℕ, ◌<◌, true, false, cond, eqb, eqb-true, ltb, length, refl, ap, sym, ◌∙◌, arith}
+use Rattle.std.proofs.Common.{◌&&◌, Some, None, is_some, option_map, nat_cmp}
 use Rattle.std.specs.FinMap as finmap
 use Rattle.std.specs.FinMap.{FinMap, get-empty}
 use Rattle.std.proofs.lemmas.Bool.Decides.{nat_tests}
@@ -15,13 +13,6 @@ use Rattle.maps.proofs.Maps.{get-insert_nat, get-remove_nat}
 use Rattle.maps.proofs.MapLaws.{get-insert_place}
 use Rattle.machine.proofs.changes.StateLaws.{file_at-put, page_at-put}
 use Rattle.runs.proofs.views.View.{put1, put2}
-
--- a new element at the end that is the default
-pub get_or-default : {A : Type 0} (xs : List A) (d : A) (j : ℕ) → get_or (xs ++ d ∷ []) j d ≡ get_or xs j d
-get_or-default [] d zero = refl
-get_or-default [] d (suc j) = refl
-get_or-default (x ∷ xs) d zero = refl
-get_or-default (x ∷ xs) d (suc j) = get_or-default xs d j
 
 module _ {X : Type 0} (m : FinMap nat_cmp X) (t : ℕ) where
   pub get-insert1 : (x : X) (u : ℕ) → finmap.get (finmap.insert m t x) u ≡ put1 (finmap.get m) t (Some x) u

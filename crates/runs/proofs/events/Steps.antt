@@ -1,8 +1,7 @@
 -- Each step of the world keeps cache and plain files coupled.
-use Rattle.std.specs.Prelude.{◌&&◌, nat_le, Option, Some, None, unwrap_or}
-use Rattle.std.proofs.Common.{eqb, ◌≡◌, ℕ, ◌+◌, Bool, true, false, List, [], length, refl, ap, sym, subst, ◌∙◌, inl}
-use Rattle.std.proofs.Common.{inr}
-use Rattle.std.specs.Ordering.{nat_cmp}
+use Rattle.std.proofs.Common.{◌&&◌, nat_le, Option, Some, None, eqb, ◌≡◌, ℕ, ◌+◌, Bool, true, false, List, [], length}
+use Rattle.std.proofs.Common.{refl, ap, sym, subst, ◌∙◌, inl, inr, nat_cmp}
+use Rattle.std.specs.Prelude.{unwrap_or}
 use Rattle.machine.specs.Changes.{is_left, drop_sync, shrunk, new_sync, sync_begun}
 use Rattle.machine.specs.Changes as changes
 use Rattle.machine.specs.State.{page_count, State, Page, Request, Sync, file_at, handle_file, page_at}
@@ -32,14 +31,14 @@ use Rattle.runs.specs.World.{World, Move, Act, Call, Finish, WorldStep, IsAct, E
 use Rattle.runs.specs.Runs.{plain_move}
 use Rattle.runs.specs.Syncing.{cuts_off}
 use Rattle.runs.proofs.views.View.{no_gone, dirty, towrite}
-use Rattle.runs.proofs.events.Coupled.{Coupled, After, with_core, same_after}
+use Rattle.runs.proofs.events.Coupled.{Coupled, After, with_core, same_after, put_plain}
 use Rattle.runs.proofs.events.FileEvents.{creates, opens, closes}
 use Rattle.runs.proofs.events.Evicts.{other_syncs, evicted}
 use Rattle.runs.proofs.events.Fills.{at_once, fills_begin}
 use Rattle.runs.proofs.events.Flushes.{starts_with, begun_sync}
 use Rattle.runs.proofs.events.Ends.{quietly, filled, failed, written, known}
 use Rattle.runs.proofs.events.Calls.{call_kept}
-use Rattle.runs.proofs.events.Truncations.{put_plain, grows, shrinks}
+use Rattle.runs.proofs.events.Truncations.{grows, shrinks}
 use Rattle.runs.proofs.events.Writes.{wrote}
 
 -- ---- a reply that comes with no change
@@ -173,10 +172,15 @@ module _ (w : World) (plain : Plain) (c : Coupled w plain) where
             (a (subst (λ (x : End). finmap.get w.outcomes x.serial.0 ≡ Some x.outcome) (sym e) call)));
       }
 
+  abbrev ends_none : Event → Bool
+  ends_none (event.End kind end) = false
+  ends_none _ = true
+
   -- any other event comes as such
-  only_acts : (e : Event) (r : Reply) (new : State) → ((kind : Kind) (end : End) → e ≡ event.End kind end → ⊥)
+  only_acts : (e : Event) (r : Reply) (new : State) → ends_none e ≡ true
       → After w plain (off (Act e r)) (acted r new) (plain_after plain e r) → Kept e r new
-  only_acts e r new never a = record { acts = λ _. a; ends = λ kind end same _ _. absurd (never kind end same) }
+  only_acts e r new none a =
+      record { acts = λ _. a; ends = λ kind end same _ _. absurd (let b = sym none ∙ ap ends_none same in cc) }
 
   sync_starts_dirty : (y : Sync) (p : ℕ) (page : Page) → page_at s (handle_file s y.handle) p ≡ Some page
       → is_left y (p, page) ≡ true → page.tags.dirty ≡ true
@@ -188,56 +192,49 @@ module _ (w : World) (plain : Plain) (c : Coupled w plain) where
   cases = record {
     same = λ e r step q. quiet e r q;
     writes_none = λ e h o is step. empty e h o is;
-    creates = λ f room is. only_acts event.Create (reply.File f) _ (λ kind end same. absurd cc) (creates w plain c);
-    opens = λ f h in_files room low. only_acts (event.Open f) (reply.Handle h) _ (λ kind end same. absurd cc)
-        (opens w plain c h.0 f.0 in_files);
-    closes = λ h opened free. only_acts (event.Close h) reply.Closed _ (λ kind end same. absurd cc)
-        (closes w plain c h.0);
-    writes = λ e h o b is may. write e h o b is may;
+    creates = λ f room is. only_acts _ _ _ refl (creates w plain c);
+    opens = λ f h in_files room low. only_acts _ _ _ refl (opens w plain c h.0 f.0 in_files);
+    closes = λ h opened free. only_acts _ _ _ refl (closes w plain c h.0);
+    writes = write;
     shrinks = λ h z may less. let f = handle_file s h.0 in let here = c.valid h.0 may.opened in
         cut_at h z (shrunk s f z) (shrinks w plain c f z here (shrunk s f z) (shrunk_truncates s f z here) less
         may.free);
     grows = λ h z may more. cut_at h z _ (grows w plain c (handle_file s h.0) z (c.valid h.0 may.opened) more);
-    makes_zeros = λ h p may unwritten. only_acts (event.FillBegin h p) reply.Filled _ (λ kind end same. absurd cc)
+    makes_zeros = λ h p may unwritten. only_acts _ _ _ refl
         (at_once w plain c (handle_file s h.0) p.0 (c.valid h.0 may.opened) may.within may.idle may.absent unwritten);
-    evicts = λ f p page is idle. only_acts event.Evict (reply.Evicted f p) _ (λ kind end same. absurd cc)
-        (evicted w plain c f.0 p.0 page is idle);
-    fills = λ h p t may has full is. only_acts (event.FillBegin h p) (reply.Job t) _ (λ kind end same. absurd cc)
+    evicts = λ f p page is idle. only_acts _ _ _ refl (evicted w plain c f.0 p.0 page is idle);
+    fills = λ h p t may has full is. only_acts _ _ _ refl
         (fills_begin w plain c (handle_file s h.0) p.0 (c.valid h.0 may.opened) may.within may.idle may.absent t is
         has);
-    flushes = λ f p page t may is. only_acts (event.FlushBegin f) (reply.Job t) _ (λ kind end same. absurd cc)
+    flushes = λ f p page t may is. only_acts _ _ _ refl
         (starts_with w plain c f.0 p page may.is may.dirty may.clean s.syncs t is);
-    drops = λ kind end x may dropped. only_ends kind end reply.Dropped _ (λ refused. absurd cc)
+    drops = λ kind end x may dropped. only_ends kind end _ _ (λ refused. absurd cc)
         (λ call. quietly w plain c end.serial.0 x may.is (λ d k. absurd cc));
-    fill_fails = λ end x code may live o. only_ends Fill end (reply.Failed code) _ (λ refused. absurd cc)
+    fill_fails = λ end x code may live o. only_ends Fill end _ _ (λ refused. absurd cc)
         (λ call. quietly w plain c end.serial.0 x may.is (λ d k. absurd (let a = may.kind_is in cc)));
-    fill_ends = λ end x b may live o. only_ends Fill end reply.Filled _ (λ refused. absurd cc)
+    fill_ends = λ end x b may live o. only_ends Fill end _ _ (λ refused. absurd cc)
         (λ call. filled w plain c end.serial.0 x may.is b live may.kind_is (call ∙ ap Some o));
-    flush_fails = λ end x code may live o. only_ends Flush end (reply.Failed code) _ (λ refused. absurd cc)
+    flush_fails = λ end x code may live o. only_ends Flush end _ _ (λ refused. absurd cc)
         (λ call. failed w plain c end.serial.0 x may.is code live may.kind_is);
-    flush_ends = λ end x may live o. only_ends Flush end reply.Written _ (λ refused. absurd cc)
+    flush_ends = λ end x may live o. only_ends Flush end _ _ (λ refused. absurd cc)
         (λ call. written w plain c end.serial.0 x may.is live may.kind_is (call ∙ ap Some o));
     begins = λ h first last m may low. let f = handle_file s h.0 in let y = new_sync s h.0 first.0 last.0 in
         let here = c.valid h.0 may.opened in
-        only_acts (event.SyncBegin h first last) (reply.Sync m) _ (λ kind end same. absurd cc)
+        only_acts _ _ _ refl
         (begun_sync w plain c f m.0 y (sync_begun s f m.0 y) (sync_begun_begins s f m.0 y here) here);
-    starts = λ m y p page t is may given. only_acts (event.SyncStep m) (reply.Job t) _ (λ kind end same. absurd cc)
+    starts = λ m y p page t is may given. only_acts _ _ _ refl
         (starts_with w plain c (handle_file s y.handle) p page may.is (sync_starts_dirty y p page may.is may.left)
         may.clean _ t given);
-    waits = λ m y e p is pick first page. only_acts (event.SyncStep m) (reply.Wait p) _ (λ kind end same. absurd cc)
-        (other_syncs w plain c _);
+    waits = λ m y e p is pick first page. only_acts _ _ _ refl (other_syncs w plain c _);
     over = λ m y r is pick first verdict. over m y r verdict;
-    sync_drops = λ m y is. only_acts (event.SyncDrop m) reply.Dropped _ (λ kind end same. absurd cc)
-        (other_syncs w plain c _);
+    sync_drops = λ m y is. only_acts _ _ _ refl (other_syncs w plain c _);
   }
     where
       over : (m : SyncId) (y : Sync) (r : Reply)
           → IsVerdict s y r
           → Kept (event.SyncStep m) r (drop_sync s m.0)
-      over m y reply.Clean h = only_acts (event.SyncStep m) reply.Clean _ (λ kind end same. absurd cc)
-          (other_syncs w plain c _)
-      over m y (reply.Failed code) h = only_acts (event.SyncStep m) (reply.Failed code) _ (λ kind end same. absurd cc)
-          (other_syncs w plain c _)
+      over m y reply.Clean h = only_acts _ _ _ refl (other_syncs w plain c _)
+      over m y (reply.Failed code) h = only_acts _ _ _ refl (other_syncs w plain c _)
       over m y _ h = absurd h
 
   pub step_kept : (e : Event) (r : Reply) (new : State) → Step s e r new → Kept e r new

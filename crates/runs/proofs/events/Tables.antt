@@ -1,7 +1,7 @@
 -- What the world notes of the requests in flight: the bytes of each flush, and outcomes that fit.
-use Rattle.std.proofs.Common.{◌≡◌, ℕ, ◌≢◌, Bool, true, false, cond, eqb, List, [], refl, ap, sym, ◌∙◌, inl, inr}
-use Rattle.std.specs.Prelude.{◌&&◌, Option, Some, None, is_some, option_map, unwrap_or, nat_le}
-use Rattle.std.specs.Ordering.{nat_cmp}
+use Rattle.std.proofs.Common.{◌≡◌, ℕ, ◌≢◌, Bool, true, false, cond, eqb, List, [], refl, ap, sym, ◌∙◌, inl, inr, ◌&&◌}
+use Rattle.std.proofs.Common.{Option, Some, None, is_some, option_map, nat_le, nat_cmp}
+use Rattle.std.specs.Prelude.{unwrap_or}
 use Rattle.std.specs.FinMap as finmap
 use Rattle.pc_types.specs.Kinds.{is_flush}
 use Rattle.machine.specs.declared.event.Outcome.{Outcome}
@@ -10,7 +10,7 @@ use Rattle.machine.specs.Changes.{cut_request}
 use Rattle.maps.specs.Maps.{each_value}
 use Rattle.machine.specs.Tests.{fits}
 use Rattle.maps.proofs.Maps.{get-each_value}
-use Rattle.runs.proofs.views.View.{Flight, put1, put1_tells}
+use Rattle.runs.proofs.views.View.{Flight, put1, put1_tells, put1_at, put1_else}
 use Rattle.runs.proofs.views.Place.{dropped_where}
 use Rattle.runs.proofs.events.Lookups.{get-insert1, get-remove1}
 
@@ -77,36 +77,23 @@ module _ (requests : Requests) (writing : Bytes) where
       → flight_at (finmap.insert requests t x) after u ≡ put1 (flight_at requests writing) t (Some (flight b x)) u
   flight_begun after t x b own others u = elim (put1_tells (finmap.get requests) t (Some x) u) [
     | inl h ↦ ap (option_map (flight (bytes_of after u))) (get-insert1 requests t x u ∙ h.1)
-        ∙ ap (λ c. Some (flight c x)) (ap (bytes_of after) h.0 ∙ own) ∙ sym (here u h.0)
+        ∙ ap (λ c. Some (flight c x)) (ap (bytes_of after) h.0 ∙ own) ∙ sym (put1_at (flight_at requests writing) t (Some (flight b x)) u h.0)
     | inr h ↦ ap (option_map (flight (bytes_of after u))) (get-insert1 requests t x u ∙ h.1)
-        ∙ ap (λ o. option_map (flight (unwrap_or o [])) (finmap.get requests u)) (others u h.0) ∙ sym (there u h.0)
+        ∙ ap (λ o. option_map (flight (unwrap_or o [])) (finmap.get requests u)) (others u h.0)
+        ∙ sym (put1_else (flight_at requests writing) t (Some (flight b x)) u h.0)
   ]
-    where
-      here : (u : ℕ) → u ≡ t → put1 (flight_at requests writing) t (Some (flight b x)) u ≡ Some (flight b x)
-      here u e = elim (put1_tells (flight_at requests writing) t (Some (flight b x)) u)
-          [ inl h ↦ h.1 | inr h ↦ absurd (h.0 e) ]
-
-      there : (u : ℕ) → u ≢ t → put1 (flight_at requests writing) t (Some (flight b x)) u ≡ flight_at requests writing u
-      there u n = elim (put1_tells (flight_at requests writing) t (Some (flight b x)) u)
-          [ inl h ↦ absurd (n h.0) | inr h ↦ h.1 ]
 
   -- request t ends
   pub flight_ended : (t u : ℕ) → flight_at (finmap.remove requests t) (finmap.remove writing t) u
       ≡ put1 (flight_at requests writing) t None u
   flight_ended t u = elim (put1_tells (flight_at requests writing) t None u) [
-    | inl h ↦ ap (option_map (flight (bytes_of (finmap.remove writing t) u))) (get-remove1 requests t u ∙ none h.0)
+    | inl h ↦ ap (option_map (flight (bytes_of (finmap.remove writing t) u))) (get-remove1 requests t u ∙ put1_at (finmap.get requests) t None u h.0)
         ∙ sym h.1
     | inr h ↦ ap (option_map (flight (bytes_of (finmap.remove writing t) u)))
-        (get-remove1 requests t u ∙ other requests h.0)
+        (get-remove1 requests t u ∙ put1_else (finmap.get requests) t None u h.0)
         ∙ ap (λ o. option_map (flight (unwrap_or o [])) (finmap.get requests u))
-        (get-remove1 writing t u ∙ other writing h.0) ∙ sym h.1
+        (get-remove1 writing t u ∙ put1_else (finmap.get writing) t None u h.0) ∙ sym h.1
   ]
-    where
-      none : u ≡ t → put1 (finmap.get requests) t None u ≡ None
-      none e = elim (put1_tells (finmap.get requests) t None u) [ inl h ↦ h.1 | inr h ↦ absurd (h.0 e) ]
-
-      other : {X : Type 0} (m : finmap.FinMap nat_cmp X) → u ≢ t → put1 (finmap.get m) t None u ≡ finmap.get m u
-      other m n = elim (put1_tells (finmap.get m) t None u) [ inl h ↦ absurd (n h.0) | inr h ↦ h.1 ]
 
   -- requests of pages of f from n on are dropped
   pub flight_cut : (f n u : ℕ) → flight_at (each_value (λ _. cut_request f n) requests) writing u
@@ -148,23 +135,17 @@ module _ (requests : Requests) (outcomes : Outcomes) (writing : Bytes) (ok : Tab
   pub ended_tables : (t : ℕ) → Tables (finmap.remove requests t) (finmap.remove outcomes t) (finmap.remove writing t)
   ended_tables t = record {
     writes = λ u. elim (put1_tells (finmap.get requests) t None u) [
-      | inl h ↦ ap is_some (get-remove1 writing t u ∙ gone writing u h.0)
+      | inl h ↦ ap is_some (get-remove1 writing t u ∙ put1_at (finmap.get writing) t None u h.0)
           ∙ sym (ap writes (get-remove1 requests t u ∙ h.1))
-      | inr h ↦ ap is_some (get-remove1 writing t u ∙ other writing u h.0) ∙ ok.writes u
+      | inr h ↦ ap is_some (get-remove1 writing t u ∙ put1_else (finmap.get writing) t None u h.0) ∙ ok.writes u
           ∙ sym (ap writes (get-remove1 requests t u ∙ h.1))
     ];
     fit = λ u. elim (put1_tells (finmap.get requests) t None u) [
       | inl h ↦ ap (λ o. fit o (finmap.get (finmap.remove outcomes t) u)) (get-remove1 requests t u ∙ h.1)
-      | inr h ↦ (λ i. fit ((get-remove1 requests t u ∙ h.1) i) ((get-remove1 outcomes t u ∙ other outcomes u h.0) i))
+      | inr h ↦ (λ i. fit ((get-remove1 requests t u ∙ h.1) i) ((get-remove1 outcomes t u ∙ put1_else (finmap.get outcomes) t None u h.0) i))
           ∙ ok.fit u
     ];
   }
-    where
-      gone : {X : Type 0} (m : finmap.FinMap nat_cmp X) (u : ℕ) → u ≡ t → put1 (finmap.get m) t None u ≡ None
-      gone m u e = elim (put1_tells (finmap.get m) t None u) [ inl h ↦ h.1 | inr h ↦ absurd (h.0 e) ]
-
-      other : {X : Type 0} (m : finmap.FinMap nat_cmp X) (u : ℕ) → u ≢ t → put1 (finmap.get m) t None u ≡ finmap.get m u
-      other m u n = elim (put1_tells (finmap.get m) t None u) [ inl h ↦ absurd (n h.0) | inr h ↦ h.1 ]
 
   -- an outcome is noted that fits
   pub called_tables : (t : ℕ) (x : Request) (call : Outcome) → finmap.get requests t ≡ Some x → fits x.kind call ≡ true

@@ -1,14 +1,13 @@
 -- A truncation.
 use Rattle.std.proofs.Common.{◌≡◌, ℕ, ◌/◌, ◌%◌, ◌<◌, ◌≤◌, Bool, true, false, cond, not, eqb, eqb-true, eq-eqb, List, []}
 use Rattle.std.proofs.Common.{length, get_or, refl, ap, sym, subst, ◌∙◌, arith, inl, inr, take}
-use Rattle.std.specs.Prelude.{◌&&◌, ◌||◌, ◌⊎◌, Option, Some, None, is_some, option_map, nat_le, nat_lt, slice_set}
+use Rattle.std.specs.Prelude.{◌&&◌, ◌||◌, ◌⊎◌, Option, Some, None, is_some, option_map, nat_le, nat_lt}
 use Rattle.std.specs.FinMap as finmap
-use Rattle.std.proofs.Math.ListN.{length-set}
 use Rattle.std.proofs.lemmas.Bool.Decides.{nat_tests}
 use Rattle.pc_types.specs.Files.{cut, page_of}
 use Rattle.pc_types.specs.Spots.{Spot}
 use Rattle.pc_types.proofs.FileLaws.{length-cut}
-use Rattle.machine.specs.State.{State, File, Page, file_at, handle_file, is_open, page_at, spot_at, no_file, page_count}
+use Rattle.machine.specs.State.{State, File, Page, file_at, page_at, spot_at, no_file, page_count}
 use Rattle.machine.specs.State.{is_filling, has_block}
 use Rattle.machine.specs.Changes.{boundary, cut_page, put_file}
 use Rattle.machine.specs.Tests.{truncate_stop, must_fill}
@@ -17,24 +16,16 @@ use Rattle.machine.proofs.steps.Choices.{none_of, some_of, at_true, and_true, at
 use Rattle.machine.proofs.changes.StateLaws.{get_or-set, page_at-put}
 use Rattle.runs.specs.Plain.{Plain, plain_file}
 use Rattle.runs.specs.World.{World, block_bytes}
-use Rattle.runs.proofs.views.View.{View, Good, PageIs, Evolves, no_gone, put1, dirty, writeback, towrite, settled}
+use Rattle.runs.proofs.views.View.{View, PageIs, Evolves, Goes, no_gone, put1, dirty, writeback, towrite, settled}
 use Rattle.runs.proofs.views.View.{held_by, held}
-use Rattle.runs.proofs.events.Coupled.{view, Coupled, After, with_core}
+use Rattle.runs.proofs.events.Coupled.{view, Coupled, After, with_core, put_plain, file_set, plain_changed}
 use Rattle.runs.proofs.events.Tables.{Tables, flight_at, flight_cut, cut_tables}
 use Rattle.runs.proofs.events.Fills.{spot_written}
 use Rattle.runs.proofs.events.Lookups.{size-set, failures-put}
 use Rattle.runs.proofs.bytes.CutLaws.{begins_past, lies_before, cut_before, cut_past, cut_within, cut_zeros, cut_longer}
 use Rattle.runs.proofs.views.Place.{IsSame, IsGone, IsPut, dropped_where}
-use Rattle.runs.proofs.views.Places.{places_kept, places_evolve}
-use Rattle.runs.proofs.views.Grow.{grow_kept, grow_evolves}
-
--- the plain file f with these bytes
-abbrev pub put_plain : Plain → ℕ → List ℕ → Plain
-put_plain plain f bytes = record plain { files = slice_set plain.files f bytes }
-
-pub file_set : (plain : Plain) (f : ℕ) (bytes : List ℕ) → f < length plain.files → (g : ℕ)
-    → plain_file (put_plain plain f bytes) g ≡ cond (eqb g f) bytes (plain_file plain g)
-file_set plain f bytes h g = get_or-set plain.files f g bytes [] h
+use Rattle.runs.proofs.views.Places.{places}
+use Rattle.runs.proofs.views.Grow.{grow}
 
 -- nothing is gone, and so whatever is said to be gone
 anyhow : (gone : ℕ → ℕ → Bool) (v w : View) → Evolves no_gone v w → Evolves gone v w
@@ -97,31 +88,11 @@ module _ (w : World) (plain : Plain) (c : Coupled w plain) (f z : ℕ) (here : f
     content = λ g q. grown_content more g q i;
   }
 
-  set_sizes : (new : State) → ((g : ℕ) → (file_at new g).size ≡ cond (eqb g f) z (file_at s g).size) → (g : ℕ)
-      → length (plain_file after g) ≡ (file_at new g).size
-  set_sizes new h g = ap length (file_set plain f (cut pf z) there g)
-      ∙ elim (eqb g f) as (λ b. length (cond b (cut pf z) (plain_file plain g)) ≡ cond b z (file_at s g).size)
-      [ true ↦ length-cut pf z | false ↦ c.sizes g ] ∙ sym (h g)
-
-  grown_size : (g : ℕ) → (file_at grown g).size ≡ cond (eqb g f) z (file_at s g).size
-  unfolding put1
-  grown_size g = size-set s f (record (file_at s f) { size = z }) here g
-
   pub grows : (file_at s f).size ≤ z → After w plain cut_off (with_core w grown) after
-  grows more = record {
-    tables = c.tables;
-    good = subst Good (sym (grown_view more)) (grow_kept (view w plain) c.good f z more);
-    blocks = c.blocks;
-    handles = c.handles;
-    count = length-set plain.files f (cut pf z) ∙ c.count
-        ∙ sym (length-set s.files f (record (file_at s f) { size = z }));
-    valid = λ k o. let a = length-set s.files f (record (file_at s f) { size = z }) in let old = c.valid k o in
-        omega arith;
-    sizes = set_sizes grown grown_size;
-    evolves =
-        anyhow cut_off (view w plain) _
-        (subst (Evolves no_gone (view w plain)) (sym (grown_view more)) (grow_evolves (view w plain) c.good f z more));
-  }
+  grows more =
+      let now = subst (Goes no_gone (view w plain)) (sym (grown_view more)) (grow (view w plain) c.good f z more) in
+      plain_changed w plain c cut_off grown f _ (cut pf z) here (length-cut pf z) refl refl refl
+      (now.0, anyhow cut_off (view w plain) _ now.1) c.tables
 
   -- ---- the file shrinks
 
@@ -136,10 +107,20 @@ module _ (w : World) (plain : Plain) (c : Coupled w plain) (f z : ℕ) (here : f
     abbrev content_now : ℕ → ℕ → List ℕ
     content_now g q = page_of P (plain_file after g) q
 
-    file_now : (g : ℕ) → file_at new g
-        ≡ cond (eqb g f) (record (file_at s f) { size = z; pages = (file_at new f).pages }) (file_at s g)
-    file_now g = ap (λ fs. get_or fs g no_file) cuts.file
-        ∙ get_or-set s.files f g (record (file_at s f) { size = z; pages = (file_at new f).pages }) no_file here
+    abbrev Same : ℕ → ℕ → Type 0
+    Same g q = IsSame (view w plain) (page_at new) (spot_at new) content_now g q
+
+    abbrev Put : ℕ → ℕ → Type 0
+    Put g q = IsPut (view w plain) (page_at new) (spot_at new) content_now g q
+
+    abbrev Kept : ℕ → ℕ → Type 0
+    Kept g q = Same g q ⊎ Put g q
+
+    abbrev cut_file : File
+    cut_file = record (file_at s f) { size = z; pages = (file_at new f).pages }
+
+    file_now : (g : ℕ) → file_at new g ≡ cond (eqb g f) cut_file (file_at s g)
+    file_now g = ap (λ fs. get_or fs g no_file) cuts.file ∙ get_or-set s.files f g cut_file no_file here
 
     content_here : (q : ℕ) → content_now f q ≡ page_of P (cut pf z) q
     content_here q =
@@ -159,7 +140,7 @@ module _ (w : World) (plain : Plain) (c : Coupled w plain) (f z : ℕ) (here : f
         (gone_here q (let b = a.1 in grind (arith, nat_tests)))
 
     -- a page that is not in the file that is cut
-    elsewhere : (g q : ℕ) → eqb g f ≡ false → IsSame (view w plain) (page_at new) (spot_at new) content_now g q
+    elsewhere : (g q : ℕ) → eqb g f ≡ false → Same g q
     elsewhere g q e = record {
       on_page = ap (λ (x : File). finmap.get x.pages q) (file_now g ∙ at_false (eqb g f) _ _ e);
       on_spot = cuts.spots g q ∙ at_false (eqb g f && nat_le n q) _ _ (ap (λ b. b && nat_le n q) e);
@@ -224,14 +205,12 @@ module _ (w : World) (plain : Plain) (c : Coupled w plain) (f z : ℕ) (here : f
 
     cut_here : (q : ℕ) → nat_le n q ≡ false → z / P ≡ q → is_some (boundary s f z) ≡ true
         → page_at new f q ≡ option_map (cut_page P z (has_block s f q)) (page_at s f q)
-        → IsSame (view w plain) (page_at new) (spot_at new) content_now f q
-        ⊎ IsPut (view w plain) (page_at new) (spot_at new) content_now f q
+        → Kept f q
     cut_here q low at some is = go (page_at s f q) refl (has_block s f q) refl is
       where
         go : (o : Option Page) → page_at s f q ≡ o → (has : Bool) → has_block s f q ≡ has
             → page_at new f q ≡ option_map (cut_page P z has) o
-            → IsSame (view w plain) (page_at new) (spot_at new) content_now f q
-            ⊎ IsPut (view w plain) (page_at new) (spot_at new) content_now f q
+            → Kept f q
         go None k has b is =
             let stops : (is_filling s f q || must_fill s f q) ≡ false =
             (λ i. is_filling s f (sym at i) || must_fill s f (sym at i)) ∙ nothing_stops some in
@@ -269,12 +248,10 @@ module _ (w : World) (plain : Plain) (c : Coupled w plain) (f z : ℕ) (here : f
             unset true h = absurd (let a = h refl in cc)
             unset false h = refl
 
-    kept_here : (q : ℕ) → nat_le n q ≡ false → IsSame (view w plain) (page_at new) (spot_at new) content_now f q
-        ⊎ IsPut (view w plain) (page_at new) (spot_at new) content_now f q
+    kept_here : (q : ℕ) → nat_le n q ≡ false → Kept f q
     kept_here q low =
         elim (eqb (z / P) q && is_some (boundary s f z)) as (λ b. (eqb (z / P) q && is_some (boundary s f z)) ≡ b
-        → IsSame (view w plain) (page_at new) (spot_at new) content_now f q
-        ⊎ IsPut (view w plain) (page_at new) (spot_at new) content_now f q) [
+        → Kept f q) [
           | true ↦ λ e. (let a = and_true (eqb (z / P) q) (is_some (boundary s f z)) e in
               cut_here q low (eqb-true (z / P) q a.0) a.1 (page_kept q low ∙ at_true _ _ _ e))
           | false ↦ λ e. inl (record {
@@ -291,14 +268,11 @@ module _ (w : World) (plain : Plain) (c : Coupled w plain) (f z : ℕ) (here : f
         second true b k e = e
         second false b k e = absurd cc
 
-    is_kept : (g q : ℕ) → gone g q ≡ false → IsSame (view w plain) (page_at new) (spot_at new) content_now g q
-        ⊎ IsPut (view w plain) (page_at new) (spot_at new) content_now g q
+    is_kept : (g q : ℕ) → gone g q ≡ false → Kept g q
     is_kept g q e =
         elim (eqb g f) as (λ b. eqb g f ≡ b → (b && nat_le n q) ≡ false
-        → IsSame (view w plain) (page_at new) (spot_at new) content_now g q
-        ⊎ IsPut (view w plain) (page_at new) (spot_at new) content_now g q) [
-          | true ↦ λ k l. subst (λ h. IsSame (view w plain) (page_at new) (spot_at new) content_now h q
-              ⊎ IsPut (view w plain) (page_at new) (spot_at new) content_now h q) (sym (eqb-true g f k)) (kept_here q l)
+        → Kept g q) [
+          | true ↦ λ k l. subst (λ h. Kept h q) (sym (eqb-true g f k)) (kept_here q l)
           | false ↦ λ k l. inl (elsewhere g q k)
         ] refl e
 
@@ -310,9 +284,8 @@ module _ (w : World) (plain : Plain) (c : Coupled w plain) (f z : ℕ) (here : f
     ] refl
 
     size_now : (g : ℕ) → (file_at new g).size ≡ cond (eqb g f) z (file_at s g).size
-    size_now g = ap (λ (x : File). x.size) (file_now g)
-        ∙ elim (eqb g f) as (λ b. (cond b (record (file_at s f) { size = z; pages = (file_at new f).pages })
-        (file_at s g)).size ≡ cond b z (file_at s g).size) [ true ↦ refl | false ↦ refl ]
+    unfolding put1
+    size_now g = ap (λ fs. (get_or fs g no_file).size) cuts.file ∙ size-set s f cut_file here g
 
     within : (g q : ℕ) → gone g q ≡ false → q < page_count P (file_at s g).size → q < page_count P (file_at new g).size
     within g q e h =
@@ -330,7 +303,7 @@ module _ (w : World) (plain : Plain) (c : Coupled w plain) (f z : ℕ) (here : f
           (elim (is_kept g q k) [ inl h ↦ sym (ap is_some h.on_page) ∙ e | inr h ↦ was_cached g q h ]))
     ] refl
       where
-        was_cached : (g q : ℕ) → IsPut (view w plain) (page_at new) (spot_at new) content_now g q
+        was_cached : (g q : ℕ) → Put g q
             → is_some (page_at s g q) ≡ true
         was_cached g q h = elim (eqb g f) as (λ b. eqb g f ≡ b → is_some (page_at s g q) ≡ true) [
           | true ↦ λ k. (let same : g ≡ f = eqb-true g f k in (λ i. is_some (page_at s (same i) q))
@@ -357,13 +330,7 @@ module _ (w : World) (plain : Plain) (c : Coupled w plain) (f z : ℕ) (here : f
         within g q o.0 (c.good.spot_in g q (ap is_some o.1))
 
     failures_now : (g : ℕ) → (file_at new g).failures ≡ (file_at s g).failures
-    failures_now g = ap (λ (x : File). x.failures) (file_now g)
-        ∙ elim (eqb g f) as (λ b. eqb g f ≡ b
-        → (cond b (record (file_at s f) { size = z; pages = (file_at new f).pages }) (file_at s g)).failures
-        ≡ (file_at s g).failures) [
-          | true ↦ λ e. ap (λ k. (file_at s k).failures) (sym (eqb-true g f e))
-          | false ↦ λ e. refl
-        ] refl
+    failures_now g = ap (λ fs. (get_or fs g no_file).failures) cuts.file ∙ failures-put s f cut_file here refl g
 
     same_gone : gone ≡ cut_off
     same_gone = λ i g q. each g q i
@@ -392,33 +359,14 @@ module _ (w : World) (plain : Plain) (c : Coupled w plain) (f z : ℕ) (here : f
       content = λ g q. page_of (same_sizes i).page (plain_file after g) q;
     }
 
-    cut_good : Good (view (with_core w new) after)
-    cut_good =
-        subst Good (sym cut_view) (places_kept (view w plain) c.good (page_at new) (spot_at new) content_now
-        (λ g. (file_at new g).size) gone is_gone is_kept
-        (λ f p g q i j b. absurd (let o = old_spot f p _ i.is in let a = i.was in cc)) page_in spot_in)
-
-    cut_evolves : Evolves gone (view w plain) (view (with_core w new) after)
-    cut_evolves = subst (Evolves gone (view w plain)) (sym cut_view)
-        (places_evolve (view w plain) c.good (page_at new) (spot_at new) content_now (λ g. (file_at new g).size) gone
-        is_gone is_kept
-        (λ f p g q i j b. absurd (let o = old_spot f p _ i.is in let a = i.was in cc)) page_in spot_in)
+    goes : Goes gone (view w plain) (view (with_core w new) after)
+    goes = subst (Goes gone (view w plain)) (sym cut_view)
+        (places (view w plain) c.good (page_at new) (spot_at new) content_now (λ g. (file_at new g).size) gone is_gone
+        is_kept (λ f p g q i j b. absurd (let o = old_spot f p _ i.is in let a = i.was in cc)) page_in spot_in)
 
     pub shrinks : After w plain cut_off (with_core w new) after
-    shrinks = record {
-      good = cut_good;
-      tables = subst (λ (x : State). Tables x.requests w.outcomes w.writing) (sym cuts.rest)
-          (cut_tables s.requests w.outcomes w.writing c.tables f n);
-      blocks = c.blocks ∙ sym (ap (λ x. x.blocks) same_sizes);
-      handles = c.handles ∙ sym (ap (λ x. x.handles) cuts.rest);
-      count = length-set plain.files f (cut pf z) ∙ c.count ∙ sym len;
-      valid = λ k o.
-          let a = len in
-          let same_file : handle_file new k ≡ handle_file s k = ap (λ x. handle_file x k) cuts.rest in
-          let old = c.valid k (sym (ap (λ x. is_open x k) cuts.rest) ∙ o) in omega arith;
-      sizes = set_sizes new size_now;
-      evolves = subst (λ b. Evolves b (view w plain) (view (with_core w new) after)) same_gone cut_evolves;
-    }
-      where
-        len : length new.files ≡ length s.files
-        len = ap length cuts.file ∙ length-set s.files f _
+    shrinks = plain_changed w plain c cut_off new f cut_file (cut pf z) here (length-cut pf z) cuts.file same_sizes
+        (ap (λ x. x.handles) cuts.rest)
+        (subst (λ b. Goes b (view w plain) (view (with_core w new) after)) same_gone goes)
+        (subst (λ (x : State). Tables x.requests w.outcomes w.writing) (sym cuts.rest)
+        (cut_tables s.requests w.outcomes w.writing c.tables f n))

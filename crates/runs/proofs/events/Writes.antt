@@ -3,12 +3,11 @@ use Rattle.std.proofs.Common.{◌≡◌, ℕ, ◌+◌, ◌/◌, ◌<◌, ◌≤�
 use Rattle.std.proofs.Common.{length, get_or, refl, ap, sym, subst, ◌∙◌, arith, inl, inr, max}
 use Rattle.std.specs.Prelude.{◌&&◌, ◌||◌, ◌⊎◌, Option, Some, None, is_some, option_map, unwrap_or}
 use Rattle.std.specs.FinMap as finmap
-use Rattle.std.proofs.Math.ListN.{length-set}
 use Rattle.pc_types.specs.Files.{cut, page_of, pwrite}
 use Rattle.pc_types.specs.Spots.{Spot}
 use Rattle.pc_types.proofs.FileLaws.{length-pwrite, length-cut}
 use Rattle.pc_types.specs.declared.kind.Kind.TheVariants.{Fill}
-use Rattle.machine.specs.State.{State, File, Page, file_at, handle_file, is_open, page_at, spot_at, no_file, page_count}
+use Rattle.machine.specs.State.{State, File, Page, file_at, page_at, spot_at, no_file, page_count}
 use Rattle.machine.specs.State.{is_filling, has_block, touched, free_blocks, without_block}
 use Rattle.machine.specs.Changes.{written_page, overlay}
 use Rattle.machine.specs.Tests.{write_stop, must_fill, covers}
@@ -17,17 +16,18 @@ use Rattle.machine.proofs.steps.Choices.{none_of, some_of, at_true, at_false, ne
 use Rattle.machine.proofs.changes.StateLaws.{get_or-set, free_of_spots, free_of_requests, touches}
 use Rattle.runs.specs.Plain.{Plain, plain_file}
 use Rattle.runs.specs.World.{World, block_bytes}
-use Rattle.runs.proofs.views.View.{Flight, Good, PageIs, Evolves, no_gone, dirty, writeback, towrite, settled, held_by}
+use Rattle.runs.proofs.views.View.{Flight, PageIs, Goes, put1, no_gone, dirty, writeback, towrite, settled, held_by}
 use Rattle.runs.proofs.views.View.{held}
-use Rattle.runs.proofs.events.Coupled.{view, Coupled, After, with_core}
+use Rattle.runs.proofs.events.Coupled.{view, Coupled, After, with_core, put_plain, file_set, plain_changed}
 use Rattle.runs.proofs.events.Tables.{Tables, flight_at, request_is}
 use Rattle.runs.proofs.events.Fills.{spot_written, alone}
 use Rattle.runs.proofs.bytes.PageLaws.{overlay-page, untouched_page, length-page}
-use Rattle.runs.proofs.bytes.CutLaws.{none_touched, touched_in, overlay_covered}
+use Rattle.runs.proofs.bytes.CutLaws.{touched_in, overlay_covered}
+use Rattle.machine.proofs.sound.Writes.{none_touched}
 use Rattle.runs.proofs.views.Place.{IsSame, IsNew, IsPut, dropped_where}
-use Rattle.runs.proofs.views.Places.{places_kept, places_evolve}
+use Rattle.runs.proofs.views.Places.{places}
 use Rattle.runs.proofs.views.Grow.{page_count_more}
-use Rattle.runs.proofs.events.Truncations.{put_plain, file_set}
+use Rattle.runs.proofs.events.Lookups.{size-set, failures-put}
 
 max_left : (a b : ℕ) → a ≤ max a b
 max_left a b = omega arith
@@ -75,6 +75,9 @@ module _ (w : World) (plain : Plain) (c : Coupled w plain) (f o : ℕ) (b : List
 
   abbrev Put : ℕ → ℕ → Type 0
   Put g q = IsPut (view w plain) (page_at new) (spot_at new) content_now g q
+
+  abbrev New : ℕ → ℕ → Type 0
+  New g q = IsNew (view w plain) (page_at new) (spot_at new) content_now g q
 
   elsewhere : (g q : ℕ) → eqb g f ≡ false → Same g q
   elsewhere g q e = record {
@@ -131,11 +134,11 @@ module _ (w : World) (plain : Plain) (c : Coupled w plain) (f o : ℕ) (b : List
       ∙ at_true (eqb g f && needs_block s f o (length b) q) _ _ (λ i. eq-eqb g f e i && needs i)
 
   block_now : (q : ℕ) → touch q ≡ true → ((spot_at new f q ≡ spot_at s f q) × (is_some (spot_at s f q) ≡ true))
-      ⊎ IsNew (view w plain) (page_at new) (spot_at new) content_now f q
+      ⊎ New f q
   block_now q t =
       elim (has_block s f q) as (λ h. has_block s f q ≡ h
       → ((spot_at new f q ≡ spot_at s f q) × (is_some (spot_at s f q) ≡ true))
-      ⊎ IsNew (view w plain) (page_at new) (spot_at new) content_now f q) [
+      ⊎ New f q) [
         | true ↦ λ h. inl (
           writes.spots f q
               ∙ at_false (eqb f f && needs_block s f o (length b) q) _ _ (λ i. eq-eqb f f refl i && (t i && not (h i))),
@@ -206,9 +209,6 @@ module _ (w : World) (plain : Plain) (c : Coupled w plain) (f o : ℕ) (b : List
   three : (p q : ℕ) → (p < q) ⊎ ((p ≡ q) ⊎ (q < p))
   three p q = grind arith
 
-  abbrev New : ℕ → ℕ → Type 0
-  New g q = IsNew (view w plain) (page_at new) (spot_at new) content_now g q
-
   -- of two pages that took a block the higher took a higher one
   news_apart : (g p h q : ℕ) (i : New g p) (j : New h q) → i.block ≡ j.block → (g ≡ h) × (p ≡ q)
   news_apart g p h q i j e =
@@ -233,9 +233,8 @@ module _ (w : World) (plain : Plain) (c : Coupled w plain) (f o : ℕ) (b : List
       of_spot x y k = sym (ap (λ (z : Option Spot). unwrap_or (option_map (λ (v : Spot). v.block) z) 0) k)
 
   size_now : (g : ℕ) → (file_at new g).size ≡ cond (eqb g f) (max (file_at s f).size (o + length b)) (file_at s g).size
-  size_now g = ap (λ (x : File). x.size) (file_now g)
-      ∙ elim (eqb g f) as (λ e. (cond e file_after (file_at s g)).size ≡ cond e (max (file_at s f).size (o + length b))
-      (file_at s g).size) [ true ↦ refl | false ↦ refl ]
+  unfolding put1
+  size_now g = ap (λ fs. (get_or fs g no_file).size) writes.file ∙ size-set s f file_after here g
 
   size_more : (g : ℕ) → (file_at s g).size ≤ (file_at new g).size
   size_more g =
@@ -280,9 +279,7 @@ module _ (w : World) (plain : Plain) (c : Coupled w plain) (f o : ℕ) (b : List
   ] refl
 
   failures_now : (g : ℕ) → (file_at new g).failures ≡ (file_at s g).failures
-  failures_now g = ap (λ (x : File). x.failures) (file_now g)
-      ∙ elim (eqb g f) as (λ b. eqb g f ≡ b → (cond b file_after (file_at s g)).failures ≡ (file_at s g).failures)
-      [ true ↦ λ e. ap (λ k. (file_at s k).failures) (sym (eqb-true g f e)) | false ↦ λ e. refl ] refl
+  failures_now g = ap (λ fs. (get_or fs g no_file).failures) writes.file ∙ failures-put s f file_after here refl g
 
   same_sizes : new.sizes ≡ s.sizes
   same_sizes = ap (λ x. x.sizes) writes.rest
@@ -309,34 +306,11 @@ module _ (w : World) (plain : Plain) (c : Coupled w plain) (f o : ℕ) (b : List
     content = λ g q. page_of (same_sizes i).page (plain_file after g) q;
   }
 
-  written_good : Good (view (with_core w new) after)
-  written_good =
-      subst Good (sym written_view) (places_kept (view w plain) c.good (page_at new) (spot_at new) content_now
-      (λ g. (file_at new g).size) (λ g q. false) (λ g q e. absurd cc) (λ g q _. is_kept g q) news_apart page_in spot_in)
-
-  written_evolves : Evolves no_gone (view w plain) (view (with_core w new) after)
-  written_evolves = subst (Evolves no_gone (view w plain)) (sym written_view)
-      (places_evolve (view w plain) c.good (page_at new) (spot_at new) content_now (λ g. (file_at new g).size)
-      (λ g q. false) (λ g q e. absurd cc) (λ g q _. is_kept g q) news_apart page_in spot_in)
-
   pub wrote : After w plain no_gone (with_core w new) after
-  wrote = record {
-    good = written_good;
-    tables = subst (λ (x : State). Tables x.requests w.outcomes w.writing) (sym writes.rest) c.tables;
-    evolves = written_evolves;
-    blocks = c.blocks ∙ sym (ap (λ x. x.blocks) same_sizes);
-    handles = c.handles ∙ sym (ap (λ x. x.handles) writes.rest);
-    count = length-set plain.files f (pwrite pf o b) ∙ c.count ∙ sym len;
-    valid = λ k open_now.
-        let a = len in
-        let same_file : handle_file new k ≡ handle_file s k = ap (λ x. handle_file x k) writes.rest in
-        let old = c.valid k (sym (ap (λ x. is_open x k) writes.rest) ∙ open_now) in omega arith;
-    sizes = λ g. ap length (file_set plain f (pwrite pf o b) there g)
-        ∙ elim (eqb g f) as (λ e. length (cond e (pwrite pf o b) (plain_file plain g))
-        ≡ cond e (max (file_at s f).size (o + length b)) (file_at s g).size)
-        [ true ↦ length-pwrite pf o b full ∙ ap (λ x. max x (o + length b)) (c.sizes f) | false ↦ c.sizes g ]
-        ∙ sym (size_now g);
-  }
-    where
-      len : length new.files ≡ length s.files
-      len = ap length writes.file ∙ length-set s.files f file_after
+  wrote = plain_changed w plain c no_gone new f file_after (pwrite pf o b) here
+      (length-pwrite pf o b full ∙ ap (λ x. max x (o + length b)) (c.sizes f)) writes.file same_sizes
+      (ap (λ x. x.handles) writes.rest)
+      (subst (Goes no_gone (view w plain)) (sym written_view)
+      (places (view w plain) c.good (page_at new) (spot_at new) content_now (λ g. (file_at new g).size) (λ g q. false)
+      (λ g q e. absurd cc) (λ g q _. is_kept g q) news_apart page_in spot_in))
+      (subst (λ (x : State). Tables x.requests w.outcomes w.writing) (sym writes.rest) c.tables)

@@ -13,7 +13,7 @@ use Rattle.pc_types.specs.declared.kind.Kind.TheVariants.{Fill, Flush}
 use Rattle.pc_types.proofs.FileLaws.{byte-page}
 use Rattle.machine.specs.Sound.{Sound}
 use Rattle.machine.specs.State.{State, Page, Request, page_at, spot_at, is_filling, fills}
-use Rattle.machine.proofs.steps.Choices.{none_of, some_of}
+use Rattle.machine.proofs.steps.Choices.{and_true, none_of, not_true, some_of}
 use Rattle.maps.proofs.Found.{found}
 use Rattle.runs.specs.Always.{Always, PageAlways, RequestAlways, HoldsAlways}
 use Rattle.runs.specs.Plain.{Plain, plain_file}
@@ -36,17 +36,9 @@ any_found test (x ∷ es) h =
     → (e : _) × (cond b (Some x) (find (λ e. test e.1) es) ≡ Some e))
     [ true ↦ λ _. (x, refl) | false ↦ λ k. any_found test es k ] h
 
-both_of : (a b : Bool) → (a && b) ≡ true → (a ≡ true) × (b ≡ true)
-both_of true b e = (refl, e)
-both_of false b e = absurd cc
-
 fill_kind : (k : Kind) → is_fill k ≡ true → k ≡ Fill
 fill_kind Fill e = refl
 fill_kind Flush e = absurd cc
-
-undropped : (b : Bool) → not b ≡ true → b ≡ false
-undropped true e = absurd cc
-undropped false e = refl
 
 filling_found : (s : State) (f p : ℕ) → is_filling s f p ≡ true
     → (t : ℕ) × (r : Request) × (finmap.get s.requests t ≡ Some r) × (r.kind ≡ Fill) × (r.dropped ≡ false)
@@ -54,14 +46,14 @@ filling_found : (s : State) (f p : ℕ) → is_filling s f p ≡ true
 filling_found s f p e =
     let a = any_found (fills f p) (finmap.entries s.requests) e in
     let b = found s.requests (λ x. fills f p x.1) a.0 a.1 in
-    let c = both_of (is_fill a.0.1.kind && not a.0.1.dropped) (eqb a.0.1.file f && eqb a.0.1.page p) b.0 in
-    let d = both_of (is_fill a.0.1.kind) (not a.0.1.dropped) c.0 in
-    let g = both_of (eqb a.0.1.file f) (eqb a.0.1.page p) c.1 in (
+    let c = and_true (is_fill a.0.1.kind && not a.0.1.dropped) (eqb a.0.1.file f && eqb a.0.1.page p) b.0 in
+    let d = and_true (is_fill a.0.1.kind) (not a.0.1.dropped) c.0 in
+    let g = and_true (eqb a.0.1.file f) (eqb a.0.1.page p) c.1 in (
       a.0.0,
       a.0.1,
       b.1,
       fill_kind a.0.1.kind d.0,
-      undropped a.0.1.dropped d.1,
+      not_true a.0.1.dropped d.1,
       eqb-true a.0.1.file f g.0,
       eqb-true a.0.1.page p g.1,
     )

@@ -1,5 +1,5 @@
 -- A world that a run leads to holds the plain files of that run.
-use Rattle.std.proofs.Common.{◌≡◌, ℕ, ◌+◌, ◌*◌, ◌/◌, ◌%◌, ◌<◌, [], length, get_or, refl, ap, sym, ◌∙◌, arith}
+use Rattle.std.proofs.Common.{◌≡◌, ℕ, ◌/◌, ◌%◌, [], length, get_or, refl, ap, sym, ◌∙◌, arith}
 use Rattle.std.specs.Prelude.{Option, Some, None}
 use Rattle.std.proofs.lemmas.Grind.{same_number_lists}
 use Rattle.std.proofs.lemmas.List.{same_lists, take_all, get_or_default}
@@ -7,6 +7,7 @@ use Rattle.std.proofs.lemmas.List.FromFn.{length-map-range_with_len, get_or-map-
 use Rattle.pc_types.specs.Files.{page_of}
 use Rattle.pc_types.proofs.FileLaws.{byte-page}
 use Rattle.machine.specs.State.{Page, file_at, page_at, tags_of}
+use Rattle.runs.proofs.bytes.PageLaws.{byte_place}
 use Rattle.runs.specs.Plain.{Plain, no_files, plain_file}
 use Rattle.runs.specs.Reached.{cached_or, byte_seen, file_seen, files_seen, FilesAreThose}
 use Rattle.runs.specs.Reading.{HoldsFiles}
@@ -38,11 +39,9 @@ module _ (w : World) (plain : Plain) (c : Coupled w plain) where
 
   byte_is : (f x : ℕ) → byte_seen w f x ≡ get_or (plain_file plain f) x 0
   byte_is f x =
-      let small : x % P < P = (let a = c.good.positive in omega arith) in
-      let whole : x / P * P + x % P ≡ x =
-      (let a = c.good.positive in let m : x / P * P ≡ P * (x / P) = grind arith in omega arith) in
-      ap (λ bytes. get_or bytes (x % P) 0) (page_is f (x / P)) ∙ byte-page P (plain_file plain f) (x / P) (x % P) small
-      ∙ ap (λ y. get_or (plain_file plain f) y 0) whole
+      let place = byte_place P x c.good.positive in
+      ap (λ bytes. get_or bytes (x % P) 0) (page_is f (x / P)) ∙ byte-page P (plain_file plain f) (x / P) (x % P) place.0
+      ∙ ap (λ y. get_or (plain_file plain f) y 0) place.1
 
   file_is : (f : ℕ) → file_seen w f ≡ plain_file plain f
   file_is f =

@@ -1,8 +1,6 @@
 -- How many pages are cached and how many are filling, after a change of one file or of the requests.
-use Rattle.std.proofs.Common.{◌≡◌, ℕ, ◌++◌, ◌+◌, ◌<◌, ◌≤◌, Bool, true, false, cond, eqb, List, [], ◌∷◌}
-use Rattle.std.proofs.Common.{length, refl, ap, arith, map}
-use Rattle.std.specs.Prelude.{◌&&◌, not, count_by, sum_by, slice_set, nat_le}
-use Rattle.std.specs.Ordering.{nat_cmp}
+use Rattle.std.proofs.Common.{◌≡◌, ℕ, ◌++◌, ◌+◌, ◌<◌, ◌≤◌, Bool, true, false, cond, eqb, List, [], ◌∷◌, length, refl}
+use Rattle.std.proofs.Common.{ap, arith, map, ◌&&◌, not, count_by, sum_by, slice_set, nat_le, nat_cmp}
 use Rattle.std.specs.FinMap as finmap
 use Rattle.std.specs.FinMap.{FinMap, len-empty}
 use Rattle.std.proofs.lemmas.List.Sums.{sum_by-cons, sum_by-set, sum_by-append}

@@ -2,6 +2,7 @@
 use Rattle.std.proofs.Common.{◌≡◌, ℕ, ◌+◌, Bool, true, false, cond, not, eqb, refl, ap, sym, subst, ◌∙◌, inl, inr}
 use Rattle.std.specs.Prelude.{◌&&◌, Option, Some, None, option_map, nat_le}
 use Rattle.std.specs.FinMap as map
+use Rattle.pc_types.specs.Limits.{Sizes}
 use Rattle.pc_types.specs.declared.ids.Serial.{Serial}
 use Rattle.machine.specs.declared.event.End.{End}
 use Rattle.machine.specs.declared.event.Event.{Event}
@@ -73,12 +74,15 @@ stood s new k t x e = go (map.get s.requests t) refl (sym (k.at t) ∙ ap (optio
     go None is h = absurd cc
     go (Some y) is h = (y, is, (let i : undropped y ≡ undropped x = cc in sym i))
 
-same_kept : (s new : State) → new.next ≡ s.next → new.name ≡ s.name → new.sizes ≡ s.sizes
-    → new.requests ≡ s.requests → Kept s new
-same_kept s new next name sizes requests = record {
-  next = next;
-  name = name;
-  sizes = sizes;
+-- what is said of the requests, but for themselves
+abbrev rest : State → ℕ × ℕ × Sizes
+rest s = (s.next, s.name, s.sizes)
+
+same_kept : (s new : State) → rest new ≡ rest s → new.requests ≡ s.requests → Kept s new
+same_kept s new same requests = record {
+  next = ap (λ x. x.0) same;
+  name = ap (λ x. x.1) same;
+  sizes = ap (λ x. x.2) same;
   len = ap map.len requests;
   at = λ t. ap (λ m. option_map undropped (map.get m t)) requests;
 }
@@ -112,23 +116,43 @@ stays s new e r quiet goes k = record {
   over = λ i kind end is. absurd (let j = sym goes ∙ i in cc);
 }
 
-begins : (s new : State) (e : Event) (t : Serial) → is_end e (reply.Job t) ≡ false → Begun s new t.0
-    → OfRequests s e (reply.Job t) new
-begins s new e t goes b = record {
+begins : (s new : State) (e : Event) (t : Serial) (x : Request) → is_end e (reply.Job t) ≡ false → x.dropped ≡ false
+    → t.0 ≡ s.next → is_full s ≡ false → rest new ≡ (s.next + 1, s.name, s.sizes)
+    → new.requests ≡ map.insert s.requests s.next x → OfRequests s e (reply.Job t) new
+begins s new e t x goes live serial room same requests = record {
   kept = λ j _. absurd cc;
-  begun = λ u j. subst (λ (k : Serial). Begun s new k.0) (same_serial t u j) b;
+  begun = λ u j. subst (λ (k : Serial). Begun s new k.0) (same_serial t u j)
+      (record {
+        x = x;
+        serial = serial;
+        live = live;
+        room = room;
+        next = ap (λ y. y.0) same;
+        name = ap (λ y. y.1) same;
+        sizes = ap (λ y. y.2) same;
+        requests = requests;
+      });
   over = λ i kind end is. absurd (let j = sym goes ∙ i in cc);
 }
   where
     same_serial : (t u : Serial) → reply.Job t ≡ reply.Job u → t ≡ u
     same_serial t u e = cc
 
-ends : (s new : State) (kind : _) (end : End) (r : Reply) → is_job r ≡ false → is_quiet r ≡ false
-    → Over s new end.serial.0 → OfRequests s (event.End kind end) r new
-ends s new kind end r quiet loud o = record {
+ends : (s new : State) (kind : _) (end : End) (r : Reply) (x : Request) → is_job r ≡ false → is_quiet r ≡ false
+    → map.get s.requests end.serial.0 ≡ Some x → rest new ≡ rest s
+    → new.requests ≡ map.remove s.requests end.serial.0 → OfRequests s (event.End kind end) r new
+ends s new kind end r x quiet loud there same requests = record {
   kept = λ _ i. absurd (let j = sym i ∙ ap not loud in cc);
   begun = λ t j. absurd (let i = sym quiet ∙ ap is_job j in cc);
-  over = λ i of e is. subst (λ (k : End). Over s new k.serial.0) (same_end kind of end e is) o;
+  over = λ i of e is. subst (λ (k : End). Over s new k.serial.0) (same_end kind of end e is)
+      (record {
+        x = x;
+        is = there;
+        next = ap (λ y. y.0) same;
+        name = ap (λ y. y.1) same;
+        sizes = ap (λ y. y.2) same;
+        requests = requests;
+      });
 }
   where
     same_end : (a b : _) (x y : End) → event.End a x ≡ event.End b y → x ≡ y
@@ -154,63 +178,28 @@ verdict_job s y _ h = refl
 
 cases : (s : State) → Cases s (OfRequests s)
 cases s = record {
-  same = λ e r step q. stays s s e r (quiet_job r q) (quiet_end e r q) (same_kept s s refl refl refl refl);
-  writes_none = λ e h o is step. stays s s e _ refl (write_end s e h o _ _ is) (same_kept s s refl refl refl refl);
-  creates = λ f room is. stays s _ _ _ refl refl (same_kept s _ refl refl refl refl);
-  opens = λ f h known room low. stays s _ _ _ refl refl (same_kept s _ refl refl refl refl);
-  closes = λ h is none. stays s _ _ _ refl refl (same_kept s _ refl refl refl refl);
-  writes = λ e h o b is may. stays s _ e _ refl (write_end s e h o b _ is) (same_kept s _ refl refl refl refl);
+  same = λ e r step q. stays s s e r (quiet_job r q) (quiet_end e r q) (same_kept s s refl refl);
+  writes_none = λ e h o is step. stays s s e _ refl (write_end s e h o _ _ is) (same_kept s s refl refl);
+  creates = λ f room is. stays s _ _ _ refl refl (same_kept s _ refl refl);
+  opens = λ f h known room low. stays s _ _ _ refl refl (same_kept s _ refl refl);
+  closes = λ h is none. stays s _ _ _ refl refl (same_kept s _ refl refl);
+  writes = λ e h o b is may. stays s _ e _ refl (write_end s e h o b _ is) (same_kept s _ refl refl);
   shrinks = λ h z may less. stays s _ _ _ refl refl (shrunk_kept s _ z);
-  grows = λ h z may more. stays s _ _ _ refl refl (same_kept s _ refl refl refl refl);
-  makes_zeros = λ h p may un. stays s _ _ _ refl refl (same_kept s _ refl refl refl refl);
-  evicts = λ f p page is idle. stays s _ _ _ refl refl (same_kept s _ refl refl refl refl);
-  fills = λ h p t may is room serial. begins s _ _ t refl
-      (record {
-        x = _;
-        serial = serial;
-        live = refl;
-        room = room;
-        next = refl;
-        name = refl;
-        sizes = refl;
-        requests = refl;
-      });
-  flushes = λ f p page t may serial. begins s _ _ t refl
-      (record {
-        x = _;
-        serial = serial;
-        live = refl;
-        room = may.room;
-        next = refl;
-        name = refl;
-        sizes = refl;
-        requests = refl;
-      });
-  drops = λ kind end x may d. ends s _ kind end _ refl refl
-      (record { x = x; is = may.is; next = refl; name = refl; sizes = refl; requests = refl });
-  fill_fails = λ end x c may d is. ends s _ _ end _ refl refl
-      (record { x = x; is = may.is; next = refl; name = refl; sizes = refl; requests = refl });
-  fill_ends = λ end x b may d is. ends s _ _ end _ refl refl
-      (record { x = x; is = may.is; next = refl; name = refl; sizes = refl; requests = refl });
-  flush_fails = λ end x c may d is. ends s _ _ end _ refl refl
-      (record { x = x; is = may.is; next = refl; name = refl; sizes = refl; requests = refl });
-  flush_ends = λ end x may d is. ends s _ _ end _ refl refl
-      (record { x = x; is = may.is; next = refl; name = refl; sizes = refl; requests = refl });
-  begins = λ h first last m may low. stays s _ _ _ refl refl (same_kept s _ refl refl refl refl);
-  starts = λ m y p page t is may serial. begins s _ _ t refl
-      (record {
-        x = _;
-        serial = serial;
-        live = refl;
-        room = may.room;
-        next = refl;
-        name = refl;
-        sizes = refl;
-        requests = refl;
-      });
-  waits = λ m y e p is pick first at. stays s _ _ _ refl refl (same_kept s _ refl refl refl refl);
-  over = λ m y r is pick first v. stays s _ _ r (verdict_job s y r v) refl (same_kept s _ refl refl refl refl);
-  sync_drops = λ m y is. stays s _ _ _ refl refl (same_kept s _ refl refl refl refl);
+  grows = λ h z may more. stays s _ _ _ refl refl (same_kept s _ refl refl);
+  makes_zeros = λ h p may un. stays s _ _ _ refl refl (same_kept s _ refl refl);
+  evicts = λ f p page is idle. stays s _ _ _ refl refl (same_kept s _ refl refl);
+  fills = λ h p t may is room serial. begins s _ _ t _ refl refl serial room refl refl;
+  flushes = λ f p page t may serial. begins s _ _ t _ refl refl serial may.room refl refl;
+  drops = λ kind end x may d. ends s _ kind end _ x refl refl may.is refl refl;
+  fill_fails = λ end x c may d is. ends s _ _ end _ x refl refl may.is refl refl;
+  fill_ends = λ end x b may d is. ends s _ _ end _ x refl refl may.is refl refl;
+  flush_fails = λ end x c may d is. ends s _ _ end _ x refl refl may.is refl refl;
+  flush_ends = λ end x may d is. ends s _ _ end _ x refl refl may.is refl refl;
+  begins = λ h first last m may low. stays s _ _ _ refl refl (same_kept s _ refl refl);
+  starts = λ m y p page t is may serial. begins s _ _ t _ refl refl serial may.room refl refl;
+  waits = λ m y e p is pick first at. stays s _ _ _ refl refl (same_kept s _ refl refl);
+  over = λ m y r is pick first v. stays s _ _ r (verdict_job s y r v) refl (same_kept s _ refl refl);
+  sync_drops = λ m y is. stays s _ _ _ refl refl (same_kept s _ refl refl);
 }
 
 -- what a step makes of the requests in flight

@@ -1,21 +1,19 @@
 -- How many files, handles, requests, syncs, frames and failures there are at most, and how long files are; and that
 -- the handle of a sync in progress is open.
 use Rattle.std.proofs.Common.{List, ◌≡◌, ℕ, ◌+◌, ◌/◌, ◌<◌, ◌≤◌, ◌++◌, Bool, true, false, cond, not, eqb, eq-eqb, []}
-use Rattle.std.proofs.Common.{◌∷◌, length, get_or, refl, ap, sym, subst, ◌∙◌, arith, inl, inr}
+use Rattle.std.proofs.Common.{◌∷◌, length, get_or, refl, ap, sym, subst, ◌∙◌, arith, inl, inr, count_by, ◌&&◌, Option}
+use Rattle.std.proofs.Common.{Some, None, is_some, option_map, max, nat_le, slice_set, sum_by, nat_cmp, length-set}
+use Rattle.std.proofs.Common.{length-append}
 use Rattle.maps.specs.Maps.{change_at}
-use Rattle.std.specs.Prelude.{count_by, ◌&&◌, Option, Some, None, is_some, option_map, max, nat_le, slice_set, sum_by}
 use Rattle.machine.specs.State.{spot_at, touched, free_frames, State, File, Page, Request, Sync, file_at, handle_file}
 use Rattle.machine.specs.State.{is_open, page_at, page_count, has_block, no_file, cached_total, filling_total}
 use Rattle.machine.specs.Changes as changes
 use Rattle.machine.specs.History as history
-use Rattle.machine.specs.Changes.{put_page, put_file, put_pages, sync_begun, flush_failed, boundary, cut_page}
-use Rattle.machine.specs.Changes.{cut_request, to_write, new_sync, under_write, after_write, started, shrunk, ended}
+use Rattle.machine.specs.Changes.{put_page, put_file, sync_begun, flush_failed, boundary, cut_page, cut_request}
+use Rattle.machine.specs.Changes.{to_write, new_sync, under_write, after_write, started, shrunk, ended}
 use Rattle.std.specs.List.{list_any}
-use Rattle.std.specs.Ordering.{nat_cmp}
 use Rattle.std.specs.FinMap as finmap
 use Rattle.std.specs.FinMap.{len-empty}
-use Rattle.std.proofs.Math.ListN.{length-set}
-use Rattle.std.proofs.lemmas.List.{length-append}
 use Rattle.pc_types.specs.Kinds.{is_fill}
 use Rattle.pc_types.specs.declared.kind.Kind.TheVariants.{Fill}
 use Rattle.pc_types.specs.declared.limits.TheConstants.{MAX_FILES, MAX_FILE_SIZE, MAX_HANDLES, MAX_IN_FLIGHT, MAX_SYNCS}
@@ -23,7 +21,7 @@ use Rattle.pc_types.specs.declared.limits.TheConstants.{SERIAL_END}
 use Rattle.machine.specs.Tests.{is_full}
 use Rattle.machine.proofs.steps.Cases.{Cases}
 use Rattle.machine.proofs.changes.ChangeLaws.{cut_pages, get-cut_pages}
-use Rattle.machine.proofs.steps.Choices.{neither, below}
+use Rattle.machine.proofs.steps.Choices.{neither, below, by_choice}
 use Rattle.maps.proofs.Maps.{none_passes}
 use Rattle.maps.proofs.MapLaws.{len-each_value}
 use Rattle.machine.proofs.changes.StateLaws.{get_or-set}
@@ -39,8 +37,8 @@ use Rattle.runs.proofs.events.Ends.{within}
 use Rattle.runs.proofs.moments.FrameCounts.{cached_set, cached_more, count_cut, filling_is, is_live_fill}
 use Rattle.maps.proofs.Lengths.{count_empty, count_put, count_gone, count_one_gone, len_le, len_put, len_put_there}
 use Rattle.maps.proofs.Lengths.{len_changed, len_gone, len_one_gone}
-use Rattle.runs.proofs.events.Lookups.{cached_within, get_or-default, get-insert1, get-remove1, failures-set}
-use Rattle.runs.proofs.events.Lookups.{failures-put}
+use Rattle.runs.proofs.events.Lookups.{cached_within, get-insert1, get-remove1, failures-set, failures-put}
+use Rattle.machine.proofs.sound.Lookups.{get_or-default}
 use Rattle.runs.proofs.moments.Moments.{run_keeps, first_coupled}
 use Rattle.machine.proofs.changes.WriteLengths.{len-written_pages}
 
@@ -154,6 +152,14 @@ module _ (s : State) (c : Limits s) (valid : (h : ℕ) → is_open s h ≡ true 
     serials = subst (λ x. x ≤ SERIAL_END) (sym n) c.serials;
   }
 
+  -- a file is put whose pages there are frames for
+  put : (f : ℕ) (file : File) → f < length s.files → file.size ≤ MAX_FILE_SIZE → file.failures ≡ (file_at s f).failures
+      → cached_total s + finmap.len file.pages + filling_total s ≤ s.sizes.frames + finmap.len (file_at s f).pages
+      → Limits (put_file s f file)
+  put f file here size same room =
+      let k = file_change (put_file s f file) f file here refl size refl refl in
+      one_file _ f file k (requests_stay _ f file k same refl refl room) c.syncs c.each_sync
+
   -- requests are no more, and of them no more fill; nor has the file more pages
   requests_fewer : (new : State) (f : ℕ) (file : File) → FileChange new f file → file.failures ≡ (file_at s f).failures
       → finmap.len new.requests ≤ finmap.len s.requests → new.next ≡ s.next
@@ -185,9 +191,6 @@ module _ (s : State) (c : Limits s) (valid : (h : ℕ) → is_open s h ≡ true 
   }
 
   -- ---- syncs
-
-  kept_syncs : (m : ℕ) (y : Sync) → finmap.get s.syncs m ≡ Some y → SyncFits s y
-  kept_syncs = c.each_sync
 
   put_syncs : (k : ℕ) (z : Sync) → SyncFits s z → (m : ℕ) (y : Sync) → finmap.get (finmap.insert s.syncs k z) m ≡ Some y
       → SyncFits s y
@@ -284,7 +287,7 @@ module _ (s : State) (c : Limits s) (valid : (h : ℕ) → is_open s h ≡ true 
         let old = c.frames in omega arith;
     failures = λ f. let a = len_gone s.requests t in let old = c.failures f in omega arith;
     serials = c.serials;
-    each_sync = λ m y is. let a = c.each_sync m y is in record { opened = a.opened; range = a.range };
+    each_sync = λ m y is. assumption (c.each_sync m y is);
   }
 
   fails : (t : ℕ) (x : Request) (code : ℕ) → finmap.get s.requests t ≡ Some x → x.dropped ≡ false
@@ -313,7 +316,7 @@ module _ (s : State) (c : Limits s) (valid : (h : ℕ) → is_open s h ≡ true 
               | inr h ↦ (let a = failures-set (ended s t) x.file after k.here g ∙ h.1 in omega arith)
             ];
         serials = c.serials;
-      }) c.syncs kept_syncs
+      }) c.syncs c.each_sync
 
   kept_page : (o : Option Page) (P z : ℕ) (has : Bool) (x : Page) → option_map (cut_page P z has) o ≡ Some x
       → (y : Page) × (o ≡ Some y)
@@ -322,18 +325,10 @@ module _ (s : State) (c : Limits s) (valid : (h : ℕ) → is_open s h ≡ true 
 
   cut_from : (f z q : ℕ) (x : Page) → finmap.get (cut_pages s f z) q ≡ Some x → (y : Page) × (page_at s f q ≡ Some y)
   cut_from f z q x e =
-      elim (nat_le (page_count s.sizes.page z) q) as (λ b. cond b None
-      (cond (eqb (z / s.sizes.page) q && is_some (boundary s f z))
-      (option_map (cut_page s.sizes.page z (has_block s f q)) (page_at s f q)) (page_at s f q)) ≡ Some x
-      → (y : Page) × (page_at s f q ≡ Some y)) [
-        | true ↦ λ k. absurd cc
-        | false ↦ λ k. elim (eqb (z / s.sizes.page) q && is_some (boundary s f z)) as (λ b. cond b
-            (option_map (cut_page s.sizes.page z (has_block s f q)) (page_at s f q)) (page_at s f q) ≡ Some x
-            → (y : Page) × (page_at s f q ≡ Some y)) [
-              | true ↦ λ j. kept_page (page_at s f q) s.sizes.page z (has_block s f q) x j
-              | false ↦ λ j. (x, j)
-            ] k
-      ] (sym (get-cut_pages s f z q) ∙ e)
+      by_choice (λ o. o ≡ Some x) (nat_le (page_count s.sizes.page z) q) _ _ (λ k. absurd cc)
+      (by_choice (λ o. o ≡ Some x) (eqb (z / s.sizes.page) q && is_some (boundary s f z)) _ _
+      (kept_page (page_at s f q) s.sizes.page z (has_block s f q) x) (λ k. (x, k)))
+      (sym (get-cut_pages s f z q) ∙ e)
 
   cuts : (f z : ℕ) → f < length s.files → z ≤ MAX_FILE_SIZE → Limits (shrunk s f z)
   cuts f z here small =
@@ -343,7 +338,7 @@ module _ (s : State) (c : Limits s) (valid : (h : ℕ) → is_open s h ≡ true 
       one_file new f _ k (requests_fewer new f _ k refl (let a = len-each_value (λ _. cut_request f n) s.requests in
       omega arith) refl
       (let a = count_cut f n s.requests in let b = len_le (cut_pages s f z) (file_at s f).pages (cut_from f z) in
-      omega arith)) c.syncs kept_syncs
+      omega arith)) c.syncs c.each_sync
 
   pub limit_cases : Cases s (λ e r new. Limits new)
   limit_cases = record {
@@ -361,7 +356,7 @@ module _ (s : State) (c : Limits s) (valid : (h : ℕ) → is_open s h ≡ true 
       failures = λ g. let a = ap (λ (x : File). x.failures) (get_or-default s.files no_file g) in
           let old = c.failures g in omega arith;
       serials = c.serials;
-      each_sync = λ m y is. let a = c.each_sync m y is in record { opened = a.opened; range = a.range };
+      each_sync = λ m y is. assumption (c.each_sync m y is);
     };
     opens = λ f h in_files room low. other_tables (record s { handles = finmap.insert s.handles h.0 f.0 }) refl refl
         refl refl (one_more _ (finmap.len s.handles) MAX_HANDLES (len_put s.handles h.0 f.0) room) c.syncs
@@ -370,12 +365,14 @@ module _ (s : State) (c : Limits s) (valid : (h : ℕ) → is_open s h ≡ true 
         (no_more _ (finmap.len s.handles) MAX_HANDLES (len_gone s.handles h.0) c.handles) c.syncs (closing h.0 free);
     writes = λ e h o b is may. written (handle_file s h.0) o b (valid h.0 may.opened) may.small may.frames;
     shrinks = λ h z may less. cuts (handle_file s h.0) z (valid h.0 may.opened) may.small;
-    grows = λ h z may more. resized (handle_file s h.0) z (valid h.0 may.opened) may.small;
+    grows = λ h z may more. put (handle_file s h.0) _ (valid h.0 may.opened) may.small refl
+        (let old = c.frames in omega arith);
     makes_zeros = λ h p may unwritten. put_one (handle_file s h.0) p.0 _ (valid h.0 may.opened)
         (let free = may.frame in omega arith);
-    evicts = λ f p page is idle. evicted f.0 p.0 page is;
-    fills = λ h p t may has room is. filling _ refl (is_full_of s room) (let free = may.frame in omega arith);
-    flushes = λ f p page t may is. starts_with f.0 p page may.is may.room s.syncs c.syncs kept_syncs;
+    evicts = λ f p page is idle. put f.0 _ (cached_within s f.0 p.0 (ap is_some is)) (c.sizes f.0) refl
+        (let n = len_gone (file_at s f.0).pages p.0 in let old = c.frames in omega arith);
+    fills = λ h p t may has room is. filling _ refl room (let free = may.frame in omega arith);
+    flushes = λ f p page t may is. starts_with f.0 p page may.is may.room s.syncs c.syncs c.each_sync;
     drops = λ kind end x may dropped. ends_quietly end.serial.0;
     fill_fails = λ end x code may live o. ends_quietly end.serial.0;
     fill_ends = λ end x b may live o. filled end.serial.0 x _ may.is live may.kind_is;
@@ -392,9 +389,6 @@ module _ (s : State) (c : Limits s) (valid : (h : ℕ) → is_open s h ≡ true 
     sync_drops = λ m y is. dropped_sync m.0;
   }
     where
-      is_full_of : (s : State) → is_full s ≡ false → is_full s ≡ false
-      is_full_of s e = e
-
       sync_put : (n : ℕ) (y z : Sync) → finmap.get s.syncs n ≡ Some y
           → finmap.len (finmap.insert s.syncs n z) ≤ MAX_SYNCS
       sync_put n y z is = subst (λ k. k ≤ MAX_SYNCS) (sym (len_put_there s.syncs n z y is)) c.syncs
@@ -409,31 +403,12 @@ module _ (s : State) (c : Limits s) (valid : (h : ℕ) → is_open s h ≡ true 
           (longest (file_at s f).size (o + length b) MAX_FILE_SIZE (c.sizes f) small) refl refl in
           one_file new f _ k (requests_stay new f _ k refl refl refl
           (let n = len-written_pages s.sizes.page o b (file_at s f).pages in let old = c.frames in omega arith))
-          c.syncs kept_syncs
-
-      resized : (f z : ℕ) → f < length s.files → z ≤ MAX_FILE_SIZE
-          → Limits (put_file s f (record (file_at s f) { size = z }))
-      resized f z here small =
-          let new = put_file s f (record (file_at s f) { size = z }) in
-          let k = file_change new f _ here refl small refl refl in
-          one_file new f _ k (requests_stay new f _ k refl refl refl (let old = c.frames in omega arith)) c.syncs
-          kept_syncs
+          c.syncs c.each_sync
 
       put_one : (f p : ℕ) (page : Page) → f < length s.files → cached_total s + 1 + filling_total s ≤ s.sizes.frames
           → Limits (put_page s f p page)
       put_one f p page here free =
-          let new = put_page s f p page in
-          let k = file_change new f _ here refl (c.sizes f) refl refl in
-          one_file new f _ k (requests_stay new f _ k refl refl refl
-          (let n = len_put (file_at s f).pages p page in omega arith)) c.syncs kept_syncs
-
-      evicted : (f p : ℕ) (page : Page) → page_at s f p ≡ Some page
-          → Limits (put_pages s f (finmap.remove (file_at s f).pages p))
-      evicted f p page is =
-          let new = put_pages s f (finmap.remove (file_at s f).pages p) in
-          let k = file_change new f _ (cached_within s f p (ap is_some is)) refl (c.sizes f) refl refl in
-          one_file new f _ k (requests_stay new f _ k refl refl refl
-          (let n = len_gone (file_at s f).pages p in let old = c.frames in omega arith)) c.syncs kept_syncs
+          put f _ here (c.sizes f) refl (let n = len_put (file_at s f).pages p page in omega arith)
 
       filling : (x : Request) → is_live_fill x ≡ true → is_full s ≡ false
           → cached_total s + 1 + filling_total s ≤ s.sizes.frames
@@ -450,7 +425,7 @@ module _ (s : State) (c : Limits s) (valid : (h : ℕ) → is_open s h ≡ true 
             ap (λ b. cond b 1 0) fill in omega arith;
         failures = λ f. let a = len_put s.requests s.next x in let old = c.failures f in omega arith;
         serials = has_serial s room;
-        each_sync = λ m y is. let a = c.each_sync m y is in record { opened = a.opened; range = a.range };
+        each_sync = λ m y is. assumption (c.each_sync m y is);
       }
 
       filled : (t : ℕ) (x : Request) (page : Page) → finmap.get s.requests t ≡ Some x → x.dropped ≡ false
@@ -461,7 +436,7 @@ module _ (s : State) (c : Limits s) (valid : (h : ℕ) → is_open s h ≡ true 
           let k = file_change new x.file _ (live_file t x is live) refl (c.sizes x.file) refl refl in
           one_file new x.file _ k (requests_fewer new x.file _ k refl (len_gone s.requests t) refl
           (let less = count_one_gone is_live_fill s.requests t x is it in
-          let more = len_put (file_at s x.file).pages x.page page in omega arith)) c.syncs kept_syncs
+          let more = len_put (file_at s x.file).pages x.page page in omega arith)) c.syncs c.each_sync
 
       flushed : (t : ℕ) (x : Request) → finmap.get s.requests t ≡ Some x → x.dropped ≡ false
           → Limits (changes.flushed (ended s t) x)
@@ -471,7 +446,7 @@ module _ (s : State) (c : Limits s) (valid : (h : ℕ) → is_open s h ≡ true 
           one_file new x.file _ k (requests_fewer new x.file _ k refl (len_gone s.requests t) refl
           (let a = count_gone is_live_fill s.requests t in
           let b = len_changed x.page (after_write false) (file_at s x.file).pages in omega arith)) c.syncs
-          kept_syncs
+          c.each_sync
 
       begun : (f m : ℕ) (y : Sync) → f < length s.files → finmap.len s.syncs < MAX_SYNCS → SyncFits s y
           → Limits (sync_begun s f m y)

@@ -1,7 +1,6 @@
 -- Cache and plain files are coupled at each moment of a run.
-use Rattle.std.specs.Prelude.{option_map, None, is_some}
-use Rattle.std.proofs.Common.{◌≡◌, ℕ, zero, suc, ◌<◌, [], ◌∷◌, length, ap, sym, ◌∙◌, arith, take}
-use Rattle.std.specs.Ordering.{nat_cmp}
+use Rattle.std.proofs.Common.{◌≡◌, ℕ, zero, suc, ◌<◌, ◌≤◌, true, false, [], ◌∷◌, length, ap, sym, subst, refl, ◌∙◌}
+use Rattle.std.proofs.Common.{arith, take, option_map, None, is_some, nat_le, nat_cmp}
 use Rattle.std.specs.FinMap as finmap
 use Rattle.std.proofs.lemmas.Bool.Decides.{nat_tests}
 use Rattle.std.proofs.lemmas.Grind.{same_number_lists}
@@ -89,6 +88,15 @@ module _ (w : World) (first : IsFirst w) where
   }
 
 -- ---- a whole run
+
+-- what holds at moment i, and goes on from each moment to the next, holds at a later moment n
+pub climb : (P : ℕ → Type 0) (i n : ℕ) → i ≤ n → ((k : ℕ) → i ≤ k → k < n → P k → P (suc k)) → P i → P n
+climb P i zero l next here = subst P (omega arith) here
+climb P i (suc n) l next here = elim (nat_le i n) as (λ b. nat_le i n ≡ b → P (suc n)) [
+  | true ↦ λ e. let low : i ≤ n = grind (arith, nat_tests) in
+      next n low (omega arith) (climb P i n low (λ k a b. next k a (omega arith)) here)
+  | false ↦ λ e. subst P (grind (arith, nat_tests)) here
+] refl
 
 pub run_coupled : (run : Steps) (w : World) (plain : Plain) → Coupled w plain → Run w run
     → Coupled (last w run) (plain_from plain run)

@@ -1,6 +1,5 @@
 -- Worlds that a run leads to: the first, and each that a step leads to from one. What holds over runs holds of each.
-use Rattle.std.proofs.Common.{◌≡◌, ℕ, List, [], ◌∷◌, ◌++◌, length, refl, ap, sym, subst, ◌∙◌, arith}
-use Rattle.std.proofs.lemmas.List.{take_all}
+use Rattle.std.proofs.Common.{◌≡◌, ℕ, List, [], ◌∷◌, ◌++◌, length, refl, ap, sym, subst, ◌∙◌, arith, take_all}
 use Rattle.pc_types.specs.Files.{pread}
 use Rattle.pc_types.specs.declared.ids.HandleId.{HandleId}
 use Rattle.machine.specs.declared.event.Event.TheVariants as event

@@ -1,12 +1,14 @@
 -- Reads are right.
 use Rattle.std.proofs.Common.{◌≡◌, ℕ, ◌+◌, ◌-◌, ◌*◌, ◌/◌, ◌%◌, ◌<◌, ◌≤◌, true, not, eqb, eqb-true, List, [], length}
-use Rattle.std.proofs.Common.{get_or, refl, ap, sym, ◌∙◌, arith, inl, inr, min}
-use Rattle.std.specs.Prelude.{Option, Some, None, unwrap_or, option_map, nat_lt, find}
+use Rattle.std.proofs.Common.{get_or, refl, ap, sym, ◌∙◌, arith, inl, inr, min, Option, Some, None, option_map, nat_lt}
+use Rattle.std.proofs.Common.{find, take_all, le-div_iff_mul-le}
+use Rattle.std.specs.Prelude.{unwrap_or}
 use Rattle.std.specs.FinMap as finmap
 use Rattle.std.proofs.lemmas.Bool.Decides.{nat_tests}
 use Rattle.pc_types.specs.Files.{pread}
 use Rattle.machine.specs.State.{State, Page, handle_file, is_open, page_at, is_cached, touched, touched_count, bytes_at}
 use Rattle.machine.proofs.changes.ChangeLaws.{byte_at, length-bytes_at, byte-bytes_at}
+use Rattle.runs.proofs.bytes.PageLaws.{byte_place}
 use Rattle.runs.specs.Plain.{Plain, plain_file, named, no_files}
 use Rattle.runs.specs.World.{World}
 use Rattle.runs.proofs.events.Coupled.{Coupled}
@@ -20,16 +22,14 @@ use Rattle.machine.specs.Step.{Step}
 use Rattle.runs.specs.Runs.{last, plain_from, plain_at}
 use Rattle.runs.specs.Reading.{ReadsAreRight}
 use Rattle.pc_types.proofs.FileLaws.{byte-page, length-pread, byte-pread}
-use Rattle.runs.proofs.bytes.CutLaws.{none_touched}
+use Rattle.machine.proofs.sound.Writes.{none_touched}
 use Rattle.runs.proofs.moments.Moments.{first_coupled, run_coupled}
 use Rattle.pc_types.specs.declared.limits.TheConstants.{MAX_TOUCHED}
 use Rattle.pc_types.specs.declared.ids.HandleId.{HandleId}
 use Rattle.machine.specs.declared.event.Event.TheVariants as event
 use Rattle.machine.specs.declared.event.Reply.{Reply}
 use Rattle.machine.specs.declared.event.Reply.TheVariants as reply
-use Rattle.std.proofs.lemmas.List.{take_all}
 use Rattle.std.proofs.lemmas.Grind.{same_number_lists}
-use Rattle.std.proofs.Math.Nat.{le-div_iff_mul-le}
 
 none_left : (f : List ℕ) (o n : ℕ) → min n (length f - o) ≡ 0 → pread f o n ≡ []
 none_left f o n e = same_number_lists _ _ (length-pread f o n ∙ e) (λ k h. absurd (omega (arith, length-pread f o n)))
@@ -60,12 +60,10 @@ module _ (w : World) (plain : Plain) (c : Coupled w plain) (x : HandleId) (o n :
   one_byte : (x : ℕ) → is_cached s f (x / P) ≡ true → byte_at s f x ≡ get_or pf x 0
   one_byte x cached =
       let page = some_of (page_at s f (x / P)) cached in
-      let small : x % P < P = (let a = c.good.positive in omega arith) in
-      let whole : x / P * P + x % P ≡ x =
-      (let a = c.good.positive in let m : x / P * P ≡ P * (x / P) = grind arith in omega arith) in
+      let place = byte_place P x c.good.positive in
       ap (λ (y : Option Page). get_or (unwrap_or (option_map (λ v. v.bytes) y) []) (x % P) 0) page.1
       ∙ ap (λ bytes. get_or bytes (x % P) 0) ((c.good.pages f (x / P)).bytes page.0 page.1)
-      ∙ byte-page P pf (x / P) (x % P) small ∙ ap (λ y. get_or pf y 0) whole
+      ∙ byte-page P pf (x / P) (x % P) place.0 ∙ ap (λ y. get_or pf y 0) place.1
 
   within : (i : ℕ) → i < count → touches P o count ((o + i) / P) ≡ true
   within i l =

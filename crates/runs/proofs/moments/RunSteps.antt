@@ -1,6 +1,5 @@
 -- A run, step by step.
-use Rattle.std.proofs.Common.{◌≡◌, ℕ, zero, suc, ◌<◌, [], ◌∷◌, length, refl, arith, take}
-use Rattle.std.specs.Prelude.{Some, slice_get}
+use Rattle.std.proofs.Common.{◌≡◌, ℕ, zero, suc, ◌<◌, [], ◌∷◌, length, refl, arith, take, Some, slice_get}
 use Rattle.runs.specs.Plain.{Plain}
 use Rattle.runs.specs.World.{World, Move, WorldStep}
 use Rattle.runs.specs.Runs.{Steps, Run, last, plain_move, plain_from}

@@ -1,7 +1,6 @@
 -- A sync has one bound for as long as it is in progress, and what it awaits then only shrinks.
-use Rattle.std.proofs.Common.{◌≡◌, ℕ, suc, zero, ◌+◌, ◌-◌, ◌<◌, ◌≤◌, true, false, length, take, refl, ap, sym, subst}
-use Rattle.std.proofs.Common.{◌∙◌, arith, inl, inr}
-use Rattle.std.specs.Prelude.{◌⊎◌, Option, Some, None, is_some, nat_le, filter}
+use Rattle.std.proofs.Common.{◌≡◌, ℕ, suc, ◌<◌, ◌≤◌, true, false, length, take, refl, ap, sym, subst, ◌∙◌, arith, inl}
+use Rattle.std.proofs.Common.{inr, ◌⊎◌, Option, Some, None, is_some, nat_le, filter}
 use Rattle.std.specs.FinMap as finmap
 use Rattle.std.proofs.lemmas.Bool.Decides.{nat_tests}
 use Rattle.machine.specs.Awaiting.{Settled}
@@ -14,7 +13,7 @@ use Rattle.runs.specs.Syncing.{Begin, Begins, Lasts, BoundIs, AwaitsByBound}
 use Rattle.runs.specs.World.{World}
 use Rattle.runs.proofs.moments.Histories.{core_step}
 use Rattle.runs.proofs.moments.Limits.{run_limits}
-use Rattle.runs.proofs.moments.Moments.{coupled_at, run_take}
+use Rattle.runs.proofs.moments.Moments.{climb, coupled_at, run_take}
 use Rattle.runs.proofs.syncs.SyncProgress.{at, moves_at}
 use Rattle.runs.proofs.syncs.SyncRuns.{in_run, first_moment, first_unbound}
 use Rattle.runs.proofs.events.Tables.{flight_is}
@@ -182,17 +181,6 @@ module _ (w : World) (run : Steps) (first : IsFirst w) (r : Run w run) (a : Begi
   known_next m late short old =
       elim old [ inl b ↦ unsettled_next m late short b | inr b ↦ inr (has_bound_next m late short b) ]
 
-  known_on : (d m : ℕ) → i < m → d + m ≤ length run → Known m → Known (d + m)
-  known_on zero m late short old = subst Known (zero_more m) old
-    where
-      zero_more : (m : ℕ) → m ≡ zero + m
-      zero_more m = omega arith
-  known_on (suc d) m late short old =
-      subst Known (one_more d m) (known_next (d + m) (omega arith) (omega arith) (known_on d m late (omega arith) old))
-    where
-      one_more : (d m : ℕ) → suc (d + m) ≡ suc d + m
-      one_more d m = omega arith
-
   bound_at : (m : ℕ) → Known m → (b : ℕ) × ((k : ℕ) → i < k → k ≤ m → Bounded b k)
   bound_at m known =
       elim known [ inl b ↦ ((W m).core.next, λ k l u. quiet_bounded m k (b.1 k l u)) | inr b ↦ (b.0, b.1) ]
@@ -213,16 +201,10 @@ module _ (w : World) (run : Steps) (first : IsFirst w) (r : Run w run) (a : Begi
   one_bound there =
       let short = in_run w run first r a there in
       let q = first_moment w run first r a there in
-      let known = known_on (length run - suc i) (suc i) (omega arith) (gap_fits i (length run) short)
+      let known = climb Known (suc i) (length run) (omega arith) (λ m b l. known_next m (omega arith) l)
       (inl (from_begin q.sync q.is (first_unbound w run first r a there))) in
-      let all = bound_at (length run - suc i + suc i) known in
-      (all.0, λ j y after within lasts is_y. all.1 j after (gap_le i j (length run) short within) y lasts is_y)
-    where
-      gap_fits : (n l : ℕ) → n < l → l - suc n + suc n ≤ l
-      gap_fits n l h = omega arith
-
-      gap_le : (n j l : ℕ) → n < l → j ≤ l → j ≤ l - suc n + suc n
-      gap_le n j l h k = omega arith
+      let all = bound_at (length run) known in
+      (all.0, λ j y after within lasts is_y. all.1 j after within y lasts is_y)
 
   -- ---- what it awaits from a moment on at which it has its bound
 
@@ -270,33 +252,13 @@ module _ (w : World) (run : Steps) (first : IsFirst w) (r : Run w run) (a : Begi
         same_now k s z same e = let b : Some z ≡ Some s.now = sym e
             ∙ ap (λ (v : State). finmap.get v.syncs a.number.0) same ∙ s.here in cc
 
-    since_on : (d k : ℕ) → i < k → d + k ≤ length run → LastsTo (d + k) → Since k → Since (d + k)
-    since_on zero k late short lasts s = subst Since (zero_more k) s
-      where
-        zero_more : (m : ℕ) → m ≡ zero + m
-        zero_more m = omega arith
-    since_on (suc d) k late short lasts s =
-        subst Since (one_more d k) (since_next (d + k) (omega arith) (omega arith)
-        (subst LastsTo (sym (one_more d k)) lasts)
-        (since_on d k late (omega arith) (λ x b c. lasts x b (omega arith)) s))
-      where
-        one_more : (d m : ℕ) → suc (d + m) ≡ suc d + m
-        one_more d m = omega arith
-
     pub awaits_less : (k : ℕ) (z : Sync) → j ≤ k → k ≤ length run → LastsTo k → Now k z
         → awaited (W k).core z ≡ filter (is_live (W k).core) (awaited (W j).core y)
     awaits_less k z late short lasts at_k =
-        let s = subst Since (gap j k late)
-        (since_on (k - j) j after (fits j k (length run) late short) (subst LastsTo (sym (gap j k late)) lasts)
-        (record { now = y; here = is; later = later_self (W j).core bound y })) in
+        let s = climb Since j k late (λ m b l. since_next m (omega arith) (omega arith)
+        (λ x c d. lasts x c (omega arith))) (record { now = y; here = is; later = later_self (W j).core bound y }) in
         let same = one_sync k z s.now at_k s.here in
         ap (awaited (W k).core) same ∙ (shrinks (W j).core (W k).core bound y s.now bounded s.later).1
-      where
-        gap : (j m : ℕ) → j ≤ m → m - j + j ≡ m
-        gap j m l = omega arith
-
-        fits : (j m n : ℕ) → j ≤ m → m ≤ n → m - j + j ≤ n
-        fits j m n l k = omega arith
 
 pub awaits_by_bound : AwaitsByBound
 awaits_by_bound = record {

@@ -1,11 +1,10 @@
 -- What a flush after a sync makes durable: what is durable after a turn is what the device held at the last good flush,
 -- and from the end of a clean sync on the device holds its pages.
-use Rattle.std.proofs.Common.{◌≡◌, ℕ, zero, suc, ◌+◌, ◌<◌, ◌≤◌, [], ◌∷◌, ◌++◌, length, refl, ap, sym, subst, ◌∙◌}
-use Rattle.std.proofs.Common.{arith, inl, inr}
-use Rattle.std.specs.Prelude.{Option, Some, None, slice_get, take}
-use Rattle.std.proofs.lemmas.List.{append_assoc, take_all, take-append-le, length_push}
-use Rattle.runs.specs.Durable.{Lasting, LastingRun, Turn, Moves, Flushed, Turns, first_lasting}
-use Rattle.runs.specs.Durable.{SyncsAreDurable, lasting_last, moment_of, steps_of}
+use Rattle.std.proofs.Common.{◌≡◌, ℕ, zero, suc, ◌+◌, ◌<◌, ◌≤◌, [], ◌∷◌, ◌++◌, length, refl, ap, sym, subst, ◌∙◌, arith}
+use Rattle.std.proofs.Common.{inl, inr, Option, Some, None, slice_get, take, append_assoc, take_all}
+use Rattle.std.proofs.lemmas.List.{take-append-le, length_push}
+use Rattle.runs.specs.Durable.{Lasting, LastingRun, Turn, Moves, Flushed, Turns, first_lasting, SyncsAreDurable}
+use Rattle.runs.specs.Durable.{lasting_last, moment_of, steps_of}
 use Rattle.runs.specs.Runs.{Run, Steps, last, world_at}
 use Rattle.runs.specs.Syncing.{its_file}
 use Rattle.runs.specs.World.{World, Move, on_device}

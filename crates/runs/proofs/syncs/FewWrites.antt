@@ -5,10 +5,9 @@ use Rattle.pc_types.specs.declared.ids.SyncId.{SyncId}
 use Rattle.machine.specs.declared.event.Outcome.{Outcome}
 use Rattle.pc_types.specs.declared.ids.HandleId.{HandleId}
 use Rattle.std.proofs.Common.{◌≡◌, ℕ, ◌+◌, ◌/◌, ◌<◌, ◌≤◌, Bool, true, false, cond, eqb, eqb-true, List, [], ◌∷◌, length}
-use Rattle.std.proofs.Common.{get_or, refl, ap, sym, ◌∙◌, arith, inl, inr, subst, map}
-use Rattle.std.specs.Prelude.{◌&&◌, ◌||◌, ◌==◌, if◌then◌else◌, Option, Some, None, is_some, option_map, unwrap_or}
-use Rattle.std.specs.Prelude.{nat_le, slice_set, count_by}
-use Rattle.std.specs.Ordering.{nat_cmp}
+use Rattle.std.proofs.Common.{get_or, refl, ap, sym, ◌∙◌, arith, inl, inr, subst, map, ◌&&◌, ◌||◌, ◌==◌, if◌then◌else◌}
+use Rattle.std.proofs.Common.{Option, Some, None, is_some, option_map, nat_le, slice_set, count_by, nat_cmp}
+use Rattle.std.specs.Prelude.{unwrap_or}
 use Rattle.std.specs.FinMap as finmap
 use Rattle.std.proofs.lemmas.Bool.Decides.{nat_tests}
 use Rattle.std.proofs.lemmas.List.Sums.{sum_by-cons}
@@ -19,14 +18,13 @@ use Rattle.machine.specs.declared.event.Reply.{Reply}
 use Rattle.machine.specs.declared.event.Reply.TheVariants as reply
 use Rattle.machine.specs.State.{State, File, Page, Request, Sync, file_at, handle_file, is_open, page_at, no_file}
 use Rattle.machine.specs.State.{page_count, has_block, in_range}
-use Rattle.machine.specs.Changes.{under_write, after_write, started, put_file, put_page, put_pages, to_write}
-use Rattle.machine.specs.Changes.{sync_begun, new_sync, written_page, written, cut_page, boundary, shrunk, ended}
-use Rattle.machine.specs.Changes.{flushed, flush_failed, drop_sync}
+use Rattle.machine.specs.Changes.{under_write, after_write, started, to_write, sync_begun, new_sync, written_page}
+use Rattle.machine.specs.Changes.{written, cut_page, boundary, drop_sync}
 use Rattle.machine.specs.Step.{Step}
 use Rattle.machine.proofs.steps.Answered.{is_quiet, IsWrite}
 use Rattle.machine.proofs.steps.Cases.{Cases, by_cases, IsVerdict}
 use Rattle.machine.proofs.changes.ChangeLaws.{get-written_pages, cut_pages, get-cut_pages}
-use Rattle.machine.proofs.steps.Choices.{and_true}
+use Rattle.machine.proofs.steps.Choices.{and_true, by_choice}
 use Rattle.maps.proofs.MapLaws.{entries-each_value, get-change_at}
 use Rattle.machine.proofs.steps.Passed.{MayStart}
 use Rattle.machine.proofs.changes.StateLaws.{file_at-put, page_at-put, touches}
@@ -38,14 +36,17 @@ use Rattle.runs.proofs.views.View.{put1_tells, put2, put2_tells, towrite}
 use Rattle.runs.proofs.events.Coupled.{Coupled, coupled}
 use Rattle.runs.proofs.moments.Histories.{calls}
 use Rattle.runs.proofs.moments.Limits.{live_file_of}
-use Rattle.runs.proofs.events.Lookups.{get_or-default, cached_within, change_page-is, get-insert1, get-remove1}
-use Rattle.runs.proofs.events.Lookups.{page_at-put_page}
+use Rattle.runs.proofs.events.Lookups.{cached_within, change_page-is, get-insert1, get-remove1, page_at-put_page}
+use Rattle.machine.proofs.sound.Lookups.{get_or-default}
 use Rattle.runs.proofs.moments.Moments.{first_coupled}
 use Rattle.runs.proofs.events.Steps.{move_kept}
 
+abbrev is_towrite : Page → Bool
+is_towrite x = x.tags.towrite
+
 -- how many pages of f are TOWRITE
 abbrev waiting : State → ℕ → ℕ
-waiting s f = count_of (λ (x : Page). x.tags.towrite) (file_at s f).pages
+waiting s f = count_of is_towrite (file_at s f).pages
 
 -- no page gets TOWRITE
 record NoneTagged (s new : State) : Type 0 where
@@ -56,7 +57,7 @@ tagged_page None e = absurd cc
 tagged_page (Some x) e = (x, refl, e)
 
 no_more_waiting : (s new : State) → NoneTagged s new → (f : ℕ) → waiting new f ≤ waiting s f
-no_more_waiting s new n f = count_le (λ (x : Page). x.tags.towrite) (λ (x : Page). x.tags.towrite) (file_at new f).pages
+no_more_waiting s new n f = count_le is_towrite is_towrite (file_at new f).pages
     (file_at s f).pages (λ q x e t. tagged_page (page_at s f q) (n.was f q (ap towrite e ∙ t)))
 
 same_files : (s new : State) → new.files ≡ s.files → NoneTagged s new
@@ -94,11 +95,6 @@ drop_one m p q t = elim (put1_tells (finmap.get m) p None q) [
   | inr a ↦ sym (ap towrite (get-remove1 m p q ∙ a.1)) ∙ t
 ]
 
-if_towrite : (b : Bool) (x y : Option Page) (R : Type 0) → (towrite x ≡ true → R) → (towrite y ≡ true → R)
-    → towrite (cond b x y) ≡ true → R
-if_towrite true x y R h k t = h t
-if_towrite false x y R h k t = k t
-
 mapped_towrite : (g : Page → Page) → ((x : Page) → (g x).tags.towrite ≡ true → x.tags.towrite ≡ true)
     → (o : Option Page) → towrite (option_map g o) ≡ true → towrite o ≡ true
 mapped_towrite g h None t = absurd cc
@@ -108,8 +104,8 @@ mapped_towrite g h (Some x) t = h x t
 change_one : (m : finmap.FinMap nat_cmp Page) (p : ℕ) (g : Page → Page)
     → ((x : Page) → (g x).tags.towrite ≡ true → x.tags.towrite ≡ true) → (q : ℕ)
     → towrite (finmap.get (change_at p g m) q) ≡ true → towrite (finmap.get m q) ≡ true
-change_one m p g h q t = if_towrite (eqb q p) (option_map g (finmap.get m q)) (finmap.get m q)
-    (towrite (finmap.get m q) ≡ true) (mapped_towrite g h (finmap.get m q)) (λ k. k)
+change_one m p g h q t = by_choice (λ o. towrite o ≡ true) (eqb q p) (option_map g (finmap.get m q)) (finmap.get m q)
+    (mapped_towrite g h (finmap.get m q)) (λ k. k)
     (sym (ap towrite (get-change_at p g m q)) ∙ t)
 
 written_towrite : (P o : ℕ) (b : List ℕ) (q : ℕ) (x : Option Page) → towrite (Some (written_page P o b q x)) ≡ true
@@ -150,19 +146,13 @@ begun_waiting : (s : State) (f m : ℕ) (y : Sync) → f < length s.files → (g
     → waiting (sync_begun s f m y) g ≤ waiting s g + (if f == g then dirty_between (file_at s g) y.first y.last else 0)
 begun_waiting s f m y here g = go (eqb f g) refl
   where
-    file_now : file_at (sync_begun s f m y) g
-        ≡ cond (eqb g f) (record (file_at s f)
-        { pages = each_value (to_write y) (file_at s f).pages }) (file_at s g)
-    file_now = file_at-put s f g _ here
+    file : File
+    file = record (file_at s f) { pages = each_value (to_write y) (file_at s f).pages }
 
-    pages_now : (b : Bool) → eqb g f ≡ b → waiting (sync_begun s f m y) g ≡ count_of (λ (x : Page). x.tags.towrite)
-        (cond b (record (file_at s f) {
-          pages = each_value (to_write y)
-              (file_at s f).pages;
-        }) (file_at s g)).pages
-    pages_now b e = ap (λ (x : File). count_of (λ (x : Page). x.tags.towrite) x.pages)
-        (file_now ∙ ap (λ t. cond t (record (file_at s f)
-        { pages = each_value (to_write y) (file_at s f).pages }) (file_at s g)) e)
+    pages_now : (b : Bool) → eqb g f ≡ b
+        → waiting (sync_begun s f m y) g ≡ count_of is_towrite (cond b file (file_at s g)).pages
+    pages_now b e = ap (λ (x : File). count_of is_towrite x.pages)
+        (file_at-put s f g file here ∙ ap (λ t. cond t file (file_at s g)) e)
 
     turn : (a b : ℕ) (t : Bool) → eqb a b ≡ t → eqb b a ≡ t
     turn a b true e = grind (arith, nat_tests)
@@ -215,12 +205,12 @@ start_waiting s y p page may g = go (eqb f g) refl
     go : (t : Bool) → eqb f g ≡ t → cond t 1 0 + waiting new g ≤ waiting s g
     go true k =
         let same : f ≡ g = eqb-true f g k in
-        let less = count_lt (λ (x : Page). x.tags.towrite) (λ (x : Page). x.tags.towrite) (file_at new g).pages
+        let less = count_lt is_towrite is_towrite (file_at new g).pages
         (file_at s g).pages p page (λ q x j t. let m = kept g q x j t in (m.0 (sym same), (x, m.1, t)))
         ((λ i. page_at s (sym same i) p) ∙ may.is) tagged in
         omega arith
     go false k =
-        let less = count_le (λ (x : Page). x.tags.towrite) (λ (x : Page). x.tags.towrite) (file_at new g).pages
+        let less = count_le is_towrite is_towrite (file_at new g).pages
         (file_at s g).pages (λ q x j t. (x, (kept g q x j t).1, t)) in
         omega arith
 
@@ -248,8 +238,8 @@ module _ (s : State) (f : ℕ) (valid : (h : ℕ) → is_open s h ≡ true → h
 
   cut : (g z q : ℕ) → towrite (finmap.get (cut_pages s g z) q) ≡ true → towrite (page_at s g q) ≡ true
   cut g z q h =
-      if_towrite (nat_le (page_count s.sizes.page z) q) _ _ _ (λ k. absurd cc)
-      (λ k. if_towrite (eqb (z / s.sizes.page) q && is_some (boundary s g z)) _ _ _
+      by_choice (λ o. towrite o ≡ true) (nat_le (page_count s.sizes.page z) q) _ _ (λ k. absurd cc)
+      (λ k. by_choice (λ o. towrite o ≡ true) (eqb (z / s.sizes.page) q && is_some (boundary s g z)) _ _
       (λ j. mapped_towrite (cut_page s.sizes.page z (has_block s g q))
       (cut_towrite s.sizes.page z (has_block s g q)) (page_at s g q) j) (λ j. j) k)
       (sym (ap towrite (get-cut_pages s g z q)) ∙ h)
@@ -258,17 +248,17 @@ module _ (s : State) (f : ℕ) (valid : (h : ℕ) → is_open s h ≡ true → h
   write : (e : Event) (h : HandleId) (o : ℕ) (b : List ℕ)
       → IsWrite s e h o b → (n z : ℕ) (new : State) → NoneTagged s new → Few e (reply.Wrote n z) new
   write e h o b is n z new tags = elim is [
-    | inl a ↦ subst (λ x. Few x (reply.Wrote n z) new) (sym a)
-        (quiet (event.Write h o b) (reply.Wrote n z) new refl tags)
-    | inr a ↦ subst (λ x. Few x (reply.Wrote n z) new) (sym a.0)
-        (quiet (event.Append h b) (reply.Wrote n z) new refl tags)
+    | inl a ↦ subst (λ x. Few x (reply.Wrote n z) new) (sym a) (quiet _ _ new refl tags)
+    | inr a ↦ subst (λ x. Few x (reply.Wrote n z) new) (sym a.0) (quiet _ _ new refl tags)
   ]
 
-  verdict : (m : SyncId) (y : Sync) (r : Reply) → IsVerdict s y r
-      → Few (event.SyncStep m) r (drop_sync s m.0)
-  verdict m y reply.Clean h = quiet (event.SyncStep m) reply.Clean _ refl (same_files s (drop_sync s m.0) refl)
-  verdict m y (reply.Failed c) h = quiet (event.SyncStep m) (reply.Failed c) _ refl
-      (same_files s (drop_sync s m.0) refl)
+  -- the files stay
+  unwritten : (e : Event) (r : Reply) (new : State) → started_by s (Act e r) f ≡ 0 → new.files ≡ s.files → Few e r new
+  unwritten e r new none files = quiet e r new none (same_files s new files)
+
+  verdict : (m : SyncId) (y : Sync) (r : Reply) → IsVerdict s y r → Few (event.SyncStep m) r (drop_sync s m.0)
+  verdict m y reply.Clean h = unwritten _ _ _ refl refl
+  verdict m y (reply.Failed c) h = unwritten _ _ _ refl refl
   verdict m y _ h = absurd h
 
   zero_more : (a b : ℕ) → a ≤ b → 0 + a ≤ b
@@ -276,49 +266,37 @@ module _ (s : State) (f : ℕ) (valid : (h : ℕ) → is_open s h ≡ true → h
 
   cases : Cases s Few
   cases = record {
-    same = λ e r step q. quiet e r s (none_started s f e r q) (same_files s s refl);
+    same = λ e r step q. unwritten e r s (none_started s f e r q) refl;
     writes_none = λ e h o is step. write e h o [] is 0 o s (same_files s s refl);
-    creates = λ x room is. quiet event.Create (reply.File x) _ refl
+    creates = λ x room is. quiet _ _ _ refl
         (record {
           was =
               λ g q t. sym (ap (λ (x : File). towrite (finmap.get x.pages q)) (get_or-default s.files no_file g)) ∙ t;
         });
-    opens = λ x h in_files room low. quiet (event.Open x) (reply.Handle h) _ refl
-        (same_files s (record s { handles = finmap.insert s.handles h.0 x.0 }) refl);
-    closes = λ h opened free. quiet (event.Close h) reply.Closed _ refl
-        (same_files s (record s { handles = finmap.remove s.handles h.0 }) refl);
+    opens = λ x h in_files room low. unwritten _ _ _ refl refl;
+    closes = λ h opened free. unwritten _ _ _ refl refl;
     writes = λ e h o b is may. write e h o b is (length b) (o + length b) (written s (handle_file s h.0) o b)
         (file_pages s (written s (handle_file s h.0) o b) (handle_file s h.0) _ (valid h.0 may.opened) refl
-        (λ q t. if_towrite (touches s.sizes.page o (length b) q) _ _ _
+        (λ q t. by_choice (λ o. towrite o ≡ true) (touches s.sizes.page o (length b) q) _ _
         (λ k. written_towrite s.sizes.page o b q (page_at s (handle_file s h.0) q) k) (λ k. k)
         (sym (ap towrite (get-written_pages s.sizes.page o b (file_at s (handle_file s h.0)).pages q)) ∙ t)));
-    shrinks = λ h z may less. changes (event.Truncate h z) reply.Done (shrunk s (handle_file s h.0) z)
-        (handle_file s h.0) _ refl (valid h.0 may.opened) refl (cut (handle_file s h.0) z);
-    grows = λ h z may more. changes (event.Truncate h z) reply.Done
-        (put_file s (handle_file s h.0) (record (file_at s (handle_file s h.0)) { size = z })) (handle_file s h.0) _
-        refl (valid h.0 may.opened) refl (λ q t. t);
-    makes_zeros = λ h p may unwritten. changes (event.FillBegin h p) reply.Filled (put_page s (handle_file s h.0) p.0 _)
-        (handle_file s h.0) _ refl (valid h.0 may.opened) refl
+    shrinks = λ h z may less. changes _ _ _ (handle_file s h.0) _ refl (valid h.0 may.opened) refl
+        (cut (handle_file s h.0) z);
+    grows = λ h z may more. changes _ _ _ (handle_file s h.0) _ refl (valid h.0 may.opened) refl (λ q t. t);
+    makes_zeros = λ h p may zeros. changes _ _ _ (handle_file s h.0) _ refl (valid h.0 may.opened) refl
         (put_one (file_at s (handle_file s h.0)).pages p.0 _ refl);
-    evicts = λ g p page is idle. changes event.Evict (reply.Evicted g p)
-        (put_pages s g.0 (finmap.remove (file_at s g.0).pages p.0)) g.0 _ refl (cached_within s g.0 p.0 (ap is_some is))
-        refl (drop_one (file_at s g.0).pages p.0);
-    fills = λ h p t may has room is. quiet (event.FillBegin h p) (reply.Job t) _ refl (record { was = λ g q t. t });
-    flushes = λ g p page t may is. changes (event.FlushBegin g) (reply.Job t) (started s g.0 p) g.0 _ refl
-        (cached_within s g.0 p (ap is_some may.is)) refl
+    evicts = λ g p page is idle. changes _ _ _ g.0 _ refl (cached_within s g.0 p.0 (ap is_some is)) refl
+        (drop_one (file_at s g.0).pages p.0);
+    fills = λ h p t may has room is. unwritten _ _ _ refl refl;
+    flushes = λ g p page t may is. changes _ _ _ g.0 _ refl (cached_within s g.0 p (ap is_some may.is)) refl
         (change_one (file_at s g.0).pages p under_write (λ x k. absurd cc));
-    drops = λ kind end x may dropped. quiet (event.End kind end) reply.Dropped _ refl
-        (same_files s (ended s end.serial.0) refl);
-    fill_fails = λ end x c may live o. quiet (event.End _ end) (reply.Failed c) _ refl
-        (same_files s (ended s end.serial.0) refl);
-    fill_ends = λ end x b may live o. changes (event.End _ end) reply.Filled
-        (put_page (ended s end.serial.0) x.file x.page _) x.file _ refl (live_file end.serial.0 x may.is live) refl
+    drops = λ kind end x may dropped. unwritten _ _ _ refl refl;
+    fill_fails = λ end x c may live o. unwritten _ _ _ refl refl;
+    fill_ends = λ end x b may live o. changes _ _ _ x.file _ refl (live_file end.serial.0 x may.is live) refl
         (put_one (file_at s x.file).pages x.page _ refl);
-    flush_fails = λ end x c may live o. changes (event.End _ end) (reply.Failed c)
-        (flush_failed (ended s end.serial.0) x c) x.file _ refl (live_file end.serial.0 x may.is live) refl
+    flush_fails = λ end x c may live o. changes _ _ _ x.file _ refl (live_file end.serial.0 x may.is live) refl
         (change_one (file_at s x.file).pages x.page (after_write true) (λ v k. k));
-    flush_ends = λ end x may live o. changes (event.End _ end) reply.Written (flushed (ended s end.serial.0) x) x.file _
-        refl (live_file end.serial.0 x may.is live) refl
+    flush_ends = λ end x may live o. changes _ _ _ x.file _ refl (live_file end.serial.0 x may.is live) refl
         (change_one (file_at s x.file).pages x.page (after_write false) (λ v k. k));
     begins =
         λ h first last m may low. record {
@@ -334,9 +312,9 @@ module _ (s : State) (f : ℕ) (valid : (h : ℕ) → is_open s h ≡ true → h
           ap (λ o. if unwrap_or (option_map (λ (y : Sync). handle_file s y.handle == f) o) false then 1 else 0)
           is in omega arith;
     };
-    waits = λ m y e p is pick first page. quiet (event.SyncStep m) (reply.Wait p) _ refl (record { was = λ g q t. t });
+    waits = λ m y e p is pick first page. unwritten _ _ _ refl refl;
     over = λ m y r is pick first v. verdict m y r v;
-    sync_drops = λ m y is. quiet (event.SyncDrop m) reply.Dropped _ refl (same_files s (drop_sync s m.0) refl);
+    sync_drops = λ m y is. unwritten _ _ _ refl refl;
   }
 
   pub step_few : (e : Event) (r : Reply) (new : State) → Step s e r new → Few e r new
@@ -386,8 +364,8 @@ sync_writes_are_few w run first r f =
     none_pass (e ∷ es) = let a = sum_by-cons (λ (x : ℕ × Page). cond {A = ℕ} false 1 0) e es in let b = none_pass es in
         omega arith
 
-    nothing : count_of (λ (x : Page). x.tags.towrite) (finmap.empty {X = Page} {R = nat_cmp}) ≡ 0
-    nothing = let a = count_le (λ (x : Page). x.tags.towrite) (λ (x : Page). false)
+    nothing : count_of is_towrite (finmap.empty {X = Page} {R = nat_cmp}) ≡ 0
+    nothing = let a = count_le is_towrite (λ (x : Page). false)
         (finmap.empty {X = Page} {R = nat_cmp}) (finmap.empty {X = Page} {R = nat_cmp})
         (λ q x e t. absurd (let b : finmap.get (finmap.empty {X = Page} {R = nat_cmp}) q ≡ None =
         finmap.get-empty nat_cmp q in let d : Some x ≡ None = sym e ∙ b in cc)) in

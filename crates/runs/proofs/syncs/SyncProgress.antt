@@ -1,10 +1,11 @@
 -- A sync in progress, at each moment of a run: where each page of its range stands that its file had as it began.
 use Rattle.runs.proofs.views.View.{Flight, View, Good, Evolves, put1_here, dirty, writeback, towrite}
 use Rattle.machine.proofs.steps.Answered.{is_quiet}
-use Rattle.std.proofs.Common.{◌≡◌, ◌≢◌, ℕ, zero, suc, ◌+◌, ◌<◌, ◌≤◌, Bool, true, false, not, eqb, eq-eqb, List, length}
+use Rattle.std.proofs.Common.{◌≡◌, ◌≢◌, ℕ, zero, suc, ◌<◌, ◌≤◌, Bool, true, false, not, eqb, eq-eqb, List, length}
 use Rattle.std.proofs.Common.{refl, ap, sym, subst, ◌∙◌, arith, inl, inr}
 use Rattle.std.specs.Prelude.{◌&&◌, ◌||◌, ◌⊎◌, Option, Some, None, is_some, option_map, unwrap_or, nat_lt}
 use Rattle.std.specs.FinMap as finmap
+use Rattle.std.proofs.Math.Bool.{or-true}
 use Rattle.std.proofs.lemmas.Bool.Decides.{nat_tests}
 use Rattle.pc_types.specs.Files.{page_of}
 use Rattle.pc_types.specs.Kinds.{is_flush}
@@ -27,7 +28,7 @@ use Rattle.runs.specs.Syncing.{cuts_off, CutOff, IsOnDevice, Begin, InRange, its
 use Rattle.runs.proofs.events.Coupled.{view, held_is}
 use Rattle.runs.proofs.events.Lookups.{get-insert1}
 use Rattle.runs.proofs.views.Fresh.{IsFresh, IsUnder, fresh_next, under_next, waiting_next}
-use Rattle.runs.proofs.moments.Moments.{coupled_at}
+use Rattle.runs.proofs.moments.Moments.{climb, coupled_at}
 use Rattle.runs.proofs.moments.RunSteps.{StepAt, step_at}
 use Rattle.runs.proofs.events.Steps.{move_kept}
 use Rattle.runs.proofs.events.Tables.{request_is}
@@ -114,11 +115,9 @@ module _ (w : World) (run : Steps) (first : IsFirst w) (r : Run w run) where
       ] refl)
     ]
 
-    pub done_on : (n k p : ℕ) → i ≤ k → n + k ≤ length run → Done k p → Done (n + k) p
-    done_on zero k p h l d = subst (λ x. Done x p) (omega arith) d
-    done_on (suc n) k p h l d =
-        subst (λ x. Done x p) (omega arith)
-        (done_next (n + k) p (omega arith) (omega arith) (done_on n k p h (omega arith) d))
+    pub done_on : (k m p : ℕ) → i ≤ k → k ≤ m → m ≤ length run → Done k p → Done m p
+    done_on k m p h l short d =
+        climb (λ x. Done x p) k m l (λ x a b. done_next x p (omega arith) (omega arith)) d
 
     pub done_synced : (m p : ℕ) → Done m p → CutOff P run i m f p ⊎ IsOnDevice w run i m f p
     done_synced m p d = elim d [
@@ -280,13 +279,10 @@ module _ (w : World) (run : Steps) (first : IsFirst w) (r : Run w run) where
           pages = λ same p within. page_on k q s from short tr same p within;
         }
 
-    pub in_progress_on : (n k : ℕ) → InProgress k → i ≤ k → n + k ≤ length run
-        → ((x : ℕ) → k < x → x ≤ n + k → is_some (finmap.get (W x).core.syncs a.number.0) ≡ true) → InProgress (n + k)
-    in_progress_on zero k q from short lasts = subst InProgress (omega arith) q
-    in_progress_on (suc n) k q from short lasts =
-        subst InProgress (omega arith)
-        (in_progress_next (n + k) (in_progress_on n k q from (omega arith) (λ x a b. lasts x a (omega arith)))
-        (omega arith) (omega arith) (lasts (suc (n + k)) (omega arith) (omega arith)))
+    pub in_progress_on : (k m : ℕ) → InProgress k → i ≤ k → k ≤ m → m ≤ length run
+        → ((x : ℕ) → k < x → x ≤ m → is_some (finmap.get (W x).core.syncs a.number.0) ≡ true) → InProgress m
+    in_progress_on k m q from l short lasts = climb InProgress k m l
+        (λ x b c now. in_progress_next x now (omega arith) (omega arith) (lasts (suc x) (omega arith) (omega arith))) q
 
     -- ---- the sync answers
 
@@ -395,12 +391,8 @@ module _ (w : World) (run : Steps) (first : IsFirst w) (r : Run w run) where
           in_range_now : in_range sync_now p ≡ true
           in_range_now = let d = within.0 in let e = within.1 in grind (arith, nat_tests)
 
-          or_true : (b : Bool) → (b || true) ≡ true
-          or_true true = refl
-          or_true false = refl
-
           tagged : (x : Page) → x.tags.dirty ≡ true → towrite (option_map (to_write sync_now p) (Some x)) ≡ true
-          tagged x d = (λ j. x.tags.towrite || d j && in_range_now j) ∙ or_true x.tags.towrite
+          tagged x d = (λ j. x.tags.towrite || d j && in_range_now j) ∙ or-true x.tags.towrite
 
           clean_page : gone_at i s f p ≡ false → dirty (page_at (W i).core f p) ≡ false → (b : Bool)
               → writeback (page_at (W i).core f p) ≡ b → Waiting (suc i) sync_now p

@@ -4,11 +4,12 @@ use Rattle.runs.specs.Syncing.{InRange, Begin, Begins, IsSync, its_file, CutOff,
 use Rattle.runs.specs.Syncing.{DirtyPagesStay, SyncsAreSynced, SyncsRise, SyncsTell}
 use Rattle.maps.proofs.Found.{found}
 use Rattle.std.specs.Prelude.{find, nat_le, ◌&&◌, ◌||◌, ◌⊎◌, Option, Some, None, is_some, option_map, unwrap_or}
-use Rattle.std.proofs.Common.{cond, [], ◌≡◌, ℕ, zero, suc, ◌+◌, ◌-◌, ◌<◌, ◌≤◌, Bool, true, false, length, refl, ap, sym}
+use Rattle.std.proofs.Common.{cond, [], ◌≡◌, ℕ, suc, ◌+◌, ◌<◌, ◌≤◌, true, false, length, refl, ap, sym}
 use Rattle.std.proofs.Common.{subst, ◌∙◌, arith, inl, inr}
 use Rattle.machine.proofs.steps.Choices.{and_true, mapped_some, some_of}
 use Rattle.machine.proofs.steps.Cases.{Happened, happened}
 use Rattle.std.specs.FinMap as finmap
+use Rattle.std.proofs.Math.Bool.{or-true}
 use Rattle.std.proofs.lemmas.Bool.Decides.{nat_tests}
 use Rattle.std.proofs.lemmas.Option.{slice_get_within}
 use Rattle.pc_types.specs.Files.{page_of}
@@ -31,13 +32,12 @@ use Rattle.runs.specs.World.{World, Move, Act, WorldStep}
 use Rattle.runs.specs.Runs.{Steps, IsFirst, Run, EveryRun, world_at, core_at, plain_at}
 use Rattle.runs.proofs.views.View.{Flight, put1_here, dirty, towrite}
 use Rattle.runs.proofs.events.Lookups.{get-insert1}
-use Rattle.runs.proofs.moments.Moments.{coupled_at}
+use Rattle.runs.proofs.moments.Moments.{climb, coupled_at}
 use Rattle.runs.proofs.moments.RunSteps.{StepAt}
-use Rattle.runs.proofs.syncs.SyncProgress.{at, begun, begun_unbound, clean_step, Done, done_on, done_synced}
+use Rattle.runs.proofs.syncs.SyncProgress.{at, begun, begun_unbound, clean_step, done_on, done_synced}
 use Rattle.runs.proofs.syncs.SyncProgress.{ended_pages, evolves_at, failed_step, file_is, InProgress, in_progress_on}
 use Rattle.runs.proofs.syncs.SyncProgress.{moves_at, off_more, off_now, size_at, tracked_at}
 use Rattle.runs.proofs.events.Tables.{request_is, in_flight, writes}
-use Rattle.runs.proofs.syncs.Track.{IsUnmoved, IsStarting, IsBound}
 
 -- a page past the last one started is a higher one
 after_started : (x p : ℕ) → past (Some x) p ≡ true → x < p
@@ -92,16 +92,13 @@ module _ (w : World) (run : Steps) (first : IsFirst w) (r : Run w run) (a : Begi
   unfolding first_moment
   first_unbound = begun_unbound w run first r a step_i in_run begins_i.0 named_file begins_i.1
 
-  gap_at : (m : ℕ) → i < m → m - suc i + suc i ≡ m
-  gap_at m l = omega arith
-
   -- it is in progress at each moment up to j, where it lasts so long
   pub moment : (m : ℕ) → i < m → m ≤ length run
       → ((k : ℕ) → i < k → k ≤ m → is_some (finmap.get (world_at w run k).core.syncs a.number.0) ≡ true)
       → InProgress w run first r a m
-  moment m late short lasts = subst (InProgress w run first r a) (gap_at m late)
-      (in_progress_on w run first r a (m - suc i) (suc i) first_moment (omega arith)
-      (let g = gap_at m late in omega arith) (λ k d e. lasts k (omega arith) (let g = gap_at m late in omega arith)))
+  moment m late short lasts =
+      in_progress_on w run first r a (suc i) m first_moment (omega arith) (omega arith) short
+      (λ k d e. lasts k (omega arith) e)
 
 -- ---- where it answers
 
@@ -129,24 +126,19 @@ module _ (w : World) (run : Steps) (first : IsFirst w) (r : Run w run) (a : Begi
   last_moment = moment_j j c.before (omega arith)
 
   -- the sync starts pages past e alone, or none any more
+  abbrev Past : ℕ → Sync → Type 0
+  Past e y = (is_some y.bound ≡ true) ⊎ ((p : ℕ) → past y.started p ≡ true → e < p)
+
   abbrev StartsPast : ℕ → ℕ → Type 0
-  StartsPast e m = (y : Sync) → finmap.get (world_at w run m).core.syncs a.number.0 ≡ Some y → (is_some y.bound ≡ true)
-      ⊎ ((p : ℕ) → past y.started p ≡ true → e < p)
+  StartsPast e m = (y : Sync) → finmap.get (world_at w run m).core.syncs a.number.0 ≡ Some y → Past e y
 
   starts_past_next : (e m : ℕ) → a.step < m → m < j → StartsPast e m → StartsPast e (suc m)
   starts_past_next e m late b old z is =
       let q = moment_j m late (omega arith) in
       let tr = tracked_at w run first r a m q (let l = in_j in omega arith) (c.lasts (suc m) (omega arith) b) in
       let same : tr.now ≡ z = (let k : Some tr.now ≡ Some z = sym tr.is ∙ is in cc) in
-      subst (λ x. (is_some x.bound ≡ true) ⊎ ((p : ℕ) → past x.started p ≡ true → e < p)) same
-      (by_how m q.sync tr.now tr.how (old q.sync q.is))
-    where
-      by_how : (m : ℕ) (y z : Sync) → IsUnmoved y z
-          ⊎ (IsStarting (world_at w run m).core (world_at w run (suc m)).core y z
-          ⊎ IsBound (world_at w run m).core (world_at w run (suc m)).core y z) → (is_some y.bound ≡ true)
-          ⊎ ((p : ℕ) → past y.started p ≡ true → e < p) → (is_some z.bound ≡ true)
-          ⊎ ((p : ℕ) → past z.started p ≡ true → e < p)
-      by_how m y z how o = elim how [
+      let o : Past e q.sync = old q.sync q.is in
+      subst (Past e) same (elim tr.how [
         | inl x ↦ elim o [
           | inl some ↦ inl (ap is_some x.bound ∙ some)
           | inr more ↦ inr (λ p h. more p (ap (λ l. past l p) (sym x.started) ∙ h))
@@ -155,24 +147,12 @@ module _ (w : World) (run : Steps) (first : IsFirst w) (r : Run w run) (a : Begi
           | inl x ↦ elim o [
             | inl some ↦ absurd (let k = ap is_some x.was in cc)
             | inr more ↦ inr (λ p h. (let first_past =
-                more x.page (pick_past (world_at w run m).core y x.page x.pick) in
+                more x.page (pick_past (world_at w run m).core q.sync x.page x.pick) in
                 let then_past = after_started x.page p (ap (λ l. past l p) (sym x.started) ∙ h) in omega arith))
           ]
           | inr x ↦ inl (ap is_some x.is)
         ]
-      ]
-
-  from_zero : (m : ℕ) → m ≡ zero + m
-  from_zero m = omega arith
-
-  from_suc : (d m : ℕ) → suc (d + m) ≡ suc d + m
-  from_suc d m = omega arith
-
-  starts_past_on : (d e m : ℕ) → a.step < m → d + m ≤ j → StartsPast e m → StartsPast e (d + m)
-  starts_past_on zero e m late b old = subst (StartsPast e) (from_zero m) old
-  starts_past_on (suc d) e m late b old =
-      subst (StartsPast e) (from_suc d m)
-      (starts_past_next e (d + m) (omega arith) (omega arith) (starts_past_on d e m late (omega arith) old))
+      ])
 
 pub syncs_are_synced : SyncsAreSynced
 syncs_are_synced w run first r a j k c late short p within small =
@@ -181,15 +161,7 @@ syncs_are_synced w run first r a j k c late short p within small =
     (core_j w run first r a j reply.Clean c) in
     let done_j = ended_pages w run first r a j q over p within in
     done_synced w run first r a.step (its_file run a) k p
-    (subst (λ x. Done w run first r a.step (its_file run a) x p) (gap j k late)
-    (done_on w run first r a.step (its_file run a) (k - j) j p (let b = c.before in omega arith)
-    (fits j k (length run) late short) done_j))
-  where
-    gap : (j m : ℕ) → j ≤ m → m - j + j ≡ m
-    gap j m l = omega arith
-
-    fits : (j m n : ℕ) → j ≤ m → m ≤ n → m - j + j ≤ n
-    fits j m n l k = omega arith
+    (done_on w run first r a.step (its_file run a) j k p (let b = c.before in omega arith) late short done_j)
 
 pub syncs_tell : SyncsTell
 syncs_tell = record {
@@ -253,15 +225,6 @@ none_is_some o a b = let k = ap is_some a in cc
 one_more : (m : ℕ) → suc m ≡ m + 1
 one_more m = omega arith
 
-next_of : (i j : ℕ) → i < j → i < suc j
-next_of i j l = omega arith
-
-gap_le : (j k : ℕ) → j < k → k - suc j + suc j ≤ k
-gap_le j k l = omega arith
-
-gap_eq : (j k : ℕ) → j < k → k - suc j + suc j ≡ k
-gap_eq j k l = omega arith
-
 rising : EveryRun (λ w run. (a : Begin) (j k p q : ℕ) (t u : Serial) → IsSync w run a j (reply.Job t)
     → IsSync w run a k (reply.Job u) → j < k → requested_page (core_at w run (j + 1)) t.0 ≡ Some p
     → requested_page (core_at w run (k + 1)) u.0 ≡ Some q → p < q)
@@ -275,10 +238,10 @@ rising w run first r a j k p q t u cj ck later ep eq =
     let start : StartsPast w run first r a k (reply.Job u) ck sj.started (suc j) =
     (λ y is. inr (λ x b. after_started sj.started x
     (sym (ap (λ (z : Sync). past z.started x) (one_sync _ _ y sj.sync is)) ∙ b))) in
-    let at_k = starts_past_on w run first r a k (reply.Job u) ck (k - suc j) sj.started (suc j)
-    (next_of a.step j cj.before) (gap_le j k later) start in
     let now : StartsPast w run first r a k (reply.Job u) ck sj.started k =
-    subst (StartsPast w run first r a k (reply.Job u) ck sj.started) (gap_eq j k later) at_k in
+    climb (StartsPast w run first r a k (reply.Job u) ck sj.started) (suc j) k (omega arith)
+    (λ m b l. starts_past_next w run first r a k (reply.Job u) ck sj.started m (let c = cj.before in omega arith) l)
+    start in
     let same_p : sj.started ≡ p =
     same_some _ _ (sym sj.page ∙ (λ m. requested_page (world_at w run (one_more j m)).core t.0) ∙ ep) in
     let same_q : sk.started ≡ q =
@@ -376,17 +339,9 @@ module _ (w : World) (run : Steps) (first : IsFirst w) (r : Run w run) (i f : �
         ] refl)
   ]
 
-  kept_on : (d k p : ℕ) → i < k → d + k ≤ length run → Kept k p → Kept (d + k) p
-  kept_on zero k p a b old = subst (λ m. Kept m p) (from_none k) old
-    where
-      from_none : (m : ℕ) → m ≡ zero + m
-      from_none m = omega arith
-  kept_on (suc d) k p a b old =
-      subst (λ m. Kept m p) (from_more d k)
-      (kept_next (d + k) p (omega arith) (omega arith) (kept_on d k p a (omega arith) old))
-    where
-      from_more : (d m : ℕ) → suc (d + m) ≡ suc d + m
-      from_more d m = omega arith
+  kept_on : (k m p : ℕ) → i < k → k ≤ m → m ≤ length run → Kept k p → Kept m p
+  kept_on k m p a l short old =
+      climb (λ x. Kept x p) k m l (λ x b c. kept_next x p (omega arith) (omega arith)) old
 
 pub dirty_pages_stay : DirtyPagesStay
 dirty_pages_stay w run first r a k p there later short within is_dirty_now =
@@ -400,13 +355,8 @@ dirty_pages_stay w run first r a k p there later short within is_dirty_now =
     let begins : towrite (page_at (world_at w run (suc i)).core f p) ≡ true =
     (λ j. towrite (page_at (world_at w run (suc i)).core (sym named_f j) p)) ∙ ap towrite (b.0.pages p)
     ∙ (λ j. towrite (option_map (to_write y p) (page_at (world_at w run i).core (named_f j) p))) ∙ tag in
-    subst (λ x. Kept w run first r i f x p) (gap i k later)
-    (kept_on w run first r i f (k - suc i) (suc i) p (omega arith) (fits i k (length run) later short) (inl begins))
+    kept_on w run first r i f (suc i) k p (omega arith) (omega arith) short (inl begins)
   where
-    or_true : (b : Bool) → (b || true) ≡ true
-    or_true true = refl
-    or_true false = refl
-
     range_now : (y : Sync) (low high p : ℕ) → y.first ≡ low → y.last ≡ high → (low ≤ p) × (p ≤ high)
         → in_range y p ≡ true
     range_now y low high p a b within = let d = within.0 in let e = within.1 in grind (arith, nat_tests)
@@ -414,10 +364,4 @@ dirty_pages_stay w run first r a k p there later short within is_dirty_now =
     tagged_now : (y : Sync) (p : ℕ) → in_range y p ≡ true → (o : Option Page) → dirty o ≡ true
         → towrite (option_map (to_write y p) o) ≡ true
     tagged_now y p within None e = absurd cc
-    tagged_now y p within (Some x) e = (λ j. x.tags.towrite || e j && within j) ∙ or_true x.tags.towrite
-
-    gap : (i j : ℕ) → i < j → j - suc i + suc i ≡ j
-    gap i j l = omega arith
-
-    fits : (i k n : ℕ) → i < k → k ≤ n → k - suc i + suc i ≤ n
-    fits i k n l m = omega arith
+    tagged_now y p within (Some x) e = (λ j. x.tags.towrite || e j && within j) ∙ or-true x.tags.towrite

@@ -1,6 +1,5 @@
 -- What a request that begins adds to the others.
-use Rattle.std.proofs.Common.{◌≡◌, ℕ, true, ap, sym, subst, ◌∙◌, inl, inr}
-use Rattle.std.specs.Prelude.{Some, None, is_some}
+use Rattle.std.proofs.Common.{◌≡◌, ℕ, true, ap, sym, subst, ◌∙◌, inl, inr, Some, None, is_some}
 use Rattle.runs.proofs.views.View.{View, Flight, Good, RequestIs, put1, put1_tells, put1_else, fresh}
 
 module _ (v : View) (ok : Good v) (new : Flight) where

@@ -5,7 +5,7 @@ use Rattle.std.specs.Prelude.{◌⊎◌, Option, Some, None}
 use Rattle.pc_types.specs.Files.{cut}
 use Rattle.pc_types.specs.Spots.{Spot}
 use Rattle.runs.proofs.views.View.{View, HasFlush, Flight, Good, PageIs, RequestIs, Evolves, WasFlushed, no_gone, put1}
-use Rattle.runs.proofs.views.View.{put1_tells, put1_here, put1_else, block_user, writeback, held_by, held, still_flying}
+use Rattle.runs.proofs.views.View.{Goes, put1_tells, put1_here, put1_else, block_user, writeback, held_by, held, still_flying}
 use Rattle.pc_types.specs.declared.kind.Kind.TheVariants.{Flush}
 use Rattle.runs.proofs.views.CallNoted.{same_request}
 
@@ -62,14 +62,14 @@ module _ (v : View) (ok : Good v) (t : ℕ) (r : Flight) (is : v.request t ≡ S
     | inr w ↦ ap length w.1 ∙ ok.block_sizes b h
   ]
 
-  pub block_written_kept : Good after
-  block_written_kept =
+  kept : Good after
+  kept =
       let flushes : (g q : ℕ) → writeback (v.page g q) ≡ true → HasFlush after g q =
       λ g q e. still_flying v after g q (ok.flushes g q e) refl in
       assumption (pages, requests, flushes, block_sizes)
 
-  pub block_written_evolves : Evolves no_gone v after
-  block_written_evolves = record {
+  evolves : Evolves no_gone v after
+  evolves = record {
     on_device = λ g q _. go g q (v.spot g q) refl;
     from = λ u s e k d. inl e;
     flush = λ u s e k d _. inl e;
@@ -105,3 +105,6 @@ module _ (v : View) (ok : Good v) (t : ℕ) (r : Flight) (is : v.request t ≡ S
         | inr h ↦ inl (ap (held_by after.block v.page_size) e ∙ ap (λ y. cond x.written y (cut [] v.page_size)) h.1
             ∙ sym (ap (held_by v.block v.page_size) e))
       ]
+
+  pub block_written : Goes no_gone v after
+  block_written = (kept, evolves)

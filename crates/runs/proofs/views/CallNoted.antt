@@ -1,10 +1,9 @@
 -- The outcome of a device call is noted.
-use Rattle.std.proofs.Common.{◌≡◌, ℕ, true, List, refl, ap, sym, ◌∙◌, inl, inr}
-use Rattle.std.specs.Prelude.{Some, is_some}
+use Rattle.std.proofs.Common.{◌≡◌, ℕ, true, List, refl, ap, sym, ◌∙◌, inl, inr, Some, is_some}
 use Rattle.pc_types.specs.declared.kind.Kind.TheVariants.{Fill, Flush}
 use Rattle.machine.specs.declared.event.Outcome.{Outcome}
 use Rattle.machine.specs.declared.event.Outcome.TheVariants as outcome
-use Rattle.runs.proofs.views.View.{View, Flight, Good, RequestIs, Evolves, no_gone, quietly_evolves, put1, put1_tells}
+use Rattle.runs.proofs.views.View.{View, Flight, Good, RequestIs, Goes, no_gone, quietly_evolves, put1, put1_tells}
 use Rattle.runs.proofs.views.View.{dirty, writeback, held_by, good_after, still_flying}
 
 -- an outcome is of a request in flight
@@ -62,11 +61,10 @@ module _ (v : View) (ok : Good v) (t : ℕ) (r : Flight) (is : v.request t ≡ S
     dead = old.dead;
   }
 
-  pub call_noted_kept : Good after
-  call_noted_kept = good_after v ok v.page v.request (put1 v.outcome t (Some o)) v.next v.failures ok.pages ok.page_in
-      requests ok.requests_apart (λ g q e. still_flying v after g q (ok.flushes g q e) refl)
-      (noted_outcomes v ok t r is o)
-
-  pub call_noted_evolves : Evolves no_gone v after
-  call_noted_evolves = quietly_evolves no_gone v after (λ g q _. refl) (λ u r e k d. e) (λ u r e k d _. e)
-      (λ g q _ e. e) (λ g. refl) refl
+  pub call_noted : Goes no_gone v after
+  call_noted = (
+    good_after v ok _ _ _ _ _ ok.pages ok.page_in requests ok.requests_apart
+        (λ g q e. still_flying v after g q (ok.flushes g q e) refl) (noted_outcomes v ok t r is o),
+    quietly_evolves no_gone v after (λ g q _. refl) (λ u r e k d. e) (λ u r e k d _. e) (λ g q _ e. e) (λ g. refl)
+        refl,
+  )

@@ -1,6 +1,5 @@
 -- What stays when a request ends: the others.
-use Rattle.std.proofs.Common.{◌≡◌, ℕ, ◌≢◌, true, false, ap, sym, ◌∙◌, inl, inr}
-use Rattle.std.specs.Prelude.{Some, None, is_some}
+use Rattle.std.proofs.Common.{◌≡◌, ℕ, ◌≢◌, true, false, ap, sym, ◌∙◌, inl, inr, Some, None, is_some}
 use Rattle.runs.proofs.views.View.{View, Flight, Good, put1, put1_tells, put1_else, one_request}
 
 module _ (v : View) (ok : Good v) (t : ℕ) where

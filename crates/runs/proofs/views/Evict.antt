@@ -1,10 +1,8 @@
 -- An eviction keeps what holds always.
-use Rattle.std.proofs.Common.{◌≡◌, ℕ, true, false, refl, arith}
-use Rattle.std.specs.Prelude.{Option, Some, None}
+use Rattle.std.proofs.Common.{◌≡◌, ℕ, false, refl, arith, Option, None}
 use Rattle.machine.specs.State.{Page}
-use Rattle.runs.proofs.views.View.{View, Flight, Good, PageIs, RequestIs, HasFlush, Evolves, no_gone, quietly_evolves}
-use Rattle.runs.proofs.views.View.{put2, put2_tells, dirty, writeback, towrite, held, good_after, still_flying}
-use Rattle.runs.proofs.views.View.{one_page, one_page_in}
+use Rattle.runs.proofs.views.View.{View, Good, PageIs, Goes, no_gone, quietly_evolves, request_stays, put2, put2_tells}
+use Rattle.runs.proofs.views.View.{dirty, writeback, towrite, held, good_after, still_flying, one_page, one_page_in}
 
 module _ (v : View) (ok : Good v) (f p : ℕ) (clean : dirty (v.page f p) ≡ false)
     (idle : writeback (v.page f p) ≡ false) where
@@ -21,38 +19,15 @@ module _ (v : View) (ok : Good v) (f p : ℕ) (clean : dirty (v.page f p) ≡ fa
     clean_block = λ _ _. (ok.pages f p).clean_block clean idle;
   }
 
-  requests : (t : ℕ) (r : Flight) → v.request t ≡ Some r → RequestIs after t r
-  requests t r e = let old = ok.requests t r e in record {
-    serial = old.serial;
-    block = old.block;
-    bytes = old.bytes;
-    fill = λ d k. let h = old.fill d k in
-        record {
-          mapped = h.mapped;
-          absent = let a = h.absent in grind (arith, put2_tells {A = Option Page});
-          noted = h.noted;
-        };
-    flush = λ d k. let h = old.flush d k in
-        record {
-          mapped = h.mapped;
-          writeback = let a = h.writeback in grind (arith, put2_tells {A = Option Page});
-          clean = let a = h.clean in let b = h.writeback in grind (arith, put2_tells {A = Option Page});
-          noted = h.noted;
-        };
-    dead = old.dead;
-  }
-
-  flushes : (g q : ℕ) → writeback (put2 v.page f p None g q) ≡ true → HasFlush after g q
-  flushes g q e =
-      let there : writeback (v.page g q) ≡ true = grind (arith, put2_tells {A = Option Page}) in
-      let h = ok.flushes g q there in
-      still_flying v after g q h refl
-
-  pub evict_kept : Good after
-  evict_kept = good_after v ok (put2 v.page f p None) v.request v.outcome v.next v.failures
-      (one_page v ok f p None absent_is) (one_page_in v ok f p None (λ e. absurd cc)) requests ok.requests_apart flushes
-      ok.outcomes
-
-  pub evict_evolves : towrite (v.page f p) ≡ false → Evolves no_gone v after
-  evict_evolves t = quietly_evolves no_gone v after (λ g q _. refl) (λ u r e k d. e) (λ u r e k d _. e)
-      (λ g q _ e. grind (arith, put2_tells {A = Option Page})) (λ g. refl) refl
+  pub evict : towrite (v.page f p) ≡ false → Goes no_gone v after
+  evict t = (
+    good_after v ok _ _ _ _ _ (one_page v ok f p None absent_is) (one_page_in v ok f p None (λ e. absurd cc))
+        (λ t r e. let old = ok.requests t r e in request_stays v _ _ _ _ _ t r old old.serial refl
+        (λ d k. let a = (old.fill d k).absent in grind (arith, put2_tells {A = Option Page}))
+        (λ d k. let a = (old.flush d k).writeback in grind (arith, put2_tells {A = Option Page})))
+        ok.requests_apart
+        (λ g q e. still_flying v after g q (ok.flushes g q (grind (arith, put2_tells {A = Option Page}))) refl)
+        ok.outcomes,
+    quietly_evolves no_gone v after (λ g q _. refl) (λ u r e k d. e) (λ u r e k d _. e)
+        (λ g q _ e. grind (arith, put2_tells {A = Option Page})) (λ g. refl) refl,
+  )

@@ -1,11 +1,10 @@
 -- An absent page is cached with the bytes that it has in its file, and no tags, where no fill of it is in flight.
-use Rattle.std.proofs.Common.{◌≡◌, ℕ, ◌<◌, true, refl, arith, List, false, sym, ap, ◌∙◌}
-use Rattle.std.specs.Prelude.{Option, Some, None}
+use Rattle.std.proofs.Common.{◌≡◌, ℕ, ◌<◌, refl, arith, List, false, sym, ap, ◌∙◌, Option, Some, None}
 use Rattle.pc_types.specs.Tags.{no_tags}
 use Rattle.machine.specs.State.{Page, page_count}
-use Rattle.runs.proofs.views.View.{View, Flight, Good, PageIs, RequestIs, HasFlush, Evolves, no_gone, quietly_evolves}
-use Rattle.runs.proofs.views.View.{put2, put2_tells, writeback, held, good_after, still_flying, one_page, one_page_in}
-use Rattle.runs.proofs.views.View.{dirty}
+use Rattle.runs.proofs.views.View.{View, Flight, Good, PageIs, Goes, no_gone, quietly_evolves, request_stays, put2}
+use Rattle.runs.proofs.views.View.{put2_else, put2_tells, writeback, held, good_after, still_flying, one_page}
+use Rattle.runs.proofs.views.View.{one_page_in, dirty}
 use Rattle.pc_types.specs.declared.kind.Kind.TheVariants.{Fill}
 
 module _ (v : View) (ok : Good v) (f p : ℕ) (absent : v.page f p ≡ None) (bytes : List ℕ)
@@ -28,38 +27,15 @@ module _ (v : View) (ok : Good v) (f p : ℕ) (absent : v.page f p ≡ None) (by
     clean_block = λ _ _. (ok.pages f p).clean_block (ap dirty absent) (ap writeback absent);
   }
 
-  requests : (t : ℕ) (r : Flight) → v.request t ≡ Some r → RequestIs after t r
-  requests t r e = let old = ok.requests t r e in record {
-    serial = old.serial;
-    block = old.block;
-    bytes = old.bytes;
-    fill = λ d k. let h = old.fill d k in let n = alone t r e d k in
-        record {
-          mapped = h.mapped;
-          absent = let a = h.absent in grind (arith, put2_tells {A = Option Page});
-          noted = h.noted;
-        };
-    flush = λ d k. let h = old.flush d k in
-        record {
-          mapped = h.mapped;
-          writeback = let a = h.writeback in grind (arith, put2_tells {A = Option Page});
-          clean = let a = h.clean in let b = h.writeback in grind (arith, put2_tells {A = Option Page});
-          noted = h.noted;
-        };
-    dead = old.dead;
-  }
-
-  flushes : (g q : ℕ) → writeback (after.page g q) ≡ true → HasFlush after g q
-  flushes g q e =
-      let there : writeback (v.page g q) ≡ true = grind (arith, put2_tells {A = Option Page}) in
-      let h = ok.flushes g q there in
-      still_flying v after g q h refl
-
-  pub fill_at_once_kept : Good after
-  fill_at_once_kept = good_after v ok (put2 v.page f p (Some page)) v.request v.outcome v.next v.failures
-      (one_page v ok f p (Some page) page_is) (one_page_in v ok f p (Some page) (λ _. within)) requests
-      ok.requests_apart flushes ok.outcomes
-
-  pub fill_at_once_evolves : Evolves no_gone v after
-  fill_at_once_evolves = quietly_evolves no_gone v after (λ g q _. refl) (λ u r e k d. e) (λ u r e k d _. e)
-      (λ g q _ e. grind (arith, put2_tells {A = Option Page})) (λ g. refl) refl
+  pub fill_at_once : Goes no_gone v after
+  fill_at_once = (
+    good_after v ok _ _ _ _ _ (one_page v ok f p (Some page) page_is) (one_page_in v ok f p (Some page) (λ _. within))
+        (λ t r e. let old = ok.requests t r e in request_stays v _ _ _ _ _ t r old old.serial refl
+        (λ d k. put2_else v.page f p (Some page) r.file r.page (alone t r e d k))
+        (λ d k. let a = (old.flush d k).writeback in grind (arith, put2_tells {A = Option Page})))
+        ok.requests_apart
+        (λ g q e. still_flying v after g q (ok.flushes g q (grind (arith, put2_tells {A = Option Page}))) refl)
+        ok.outcomes,
+    quietly_evolves no_gone v after (λ g q _. refl) (λ u r e k d. e) (λ u r e k d _. e)
+        (λ g q _ e. grind (arith, put2_tells {A = Option Page})) (λ g. refl) refl,
+  )

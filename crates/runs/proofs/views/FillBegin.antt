@@ -1,8 +1,7 @@
 -- A fill begins.
-use Rattle.std.proofs.Common.{◌≡◌, ℕ, ◌+◌, true, false, [], refl, sym, ◌∙◌, arith}
-use Rattle.std.specs.Prelude.{Option, Some, None}
+use Rattle.std.proofs.Common.{◌≡◌, ℕ, ◌+◌, true, false, [], refl, sym, ◌∙◌, arith, Option, Some, None}
 use Rattle.pc_types.specs.declared.kind.Kind.TheVariants.{Fill, Flush}
-use Rattle.runs.proofs.views.View.{View, Flight, Good, RequestIs, HasFlush, Evolves, no_gone, quietly_evolves, put1}
+use Rattle.runs.proofs.views.View.{View, Flight, Good, RequestIs, Goes, no_gone, quietly_evolves, request_stays, put1}
 use Rattle.runs.proofs.views.View.{put1_tells, fresh, no_outcome, block_user, writeback, good_after, still_flying}
 use Rattle.runs.proofs.views.BeginRequest.{begun_apart, begun_requests, stays_begun, begun_outcomes}
 
@@ -31,17 +30,6 @@ module _ (v : View) (ok : Good v) (f p b : ℕ) (absent : v.page f p ≡ None)
     dead = λ d. absurd cc;
   }
 
-  old_request : (t : ℕ) (r : Flight) → v.request t ≡ Some r → RequestIs after t r
-  old_request t r e = let old = ok.requests t r e in record {
-    serial = let a = old.serial in omega arith;
-    block = old.block;
-    bytes = old.bytes;
-    fill = λ d k. let h = old.fill d k in record { mapped = h.mapped; absent = h.absent; noted = h.noted };
-    flush = λ d k. let h = old.flush d k in
-        record { mapped = h.mapped; writeback = h.writeback; clean = h.clean; noted = h.noted };
-    dead = old.dead;
-  }
-
   clash : (u : ℕ) (s : Flight) → v.request u ≡ Some s → b ≡ s.block → ⊥
   clash u s e same =
       let who = block_user v ok u s f p _ e mapped same in
@@ -51,16 +39,15 @@ module _ (v : View) (ok : Good v) (f p b : ℕ) (absent : v.page f p ≡ None)
             (λ i. writeback (v.page (who.1 i) (who.2 i))) ∙ w in absurd cc
       ] refl
 
-  flushes : (g q : ℕ) → writeback (after.page g q) ≡ true → HasFlush after g q
-  flushes g q e = let h = ok.flushes g q e in still_flying v after g q h (stays_begun v ok new h.serial h.request h.is)
-
-  pub fill_begin_kept : Good after
-  fill_begin_kept = good_after v ok v.page (put1 v.request v.next (Some new)) v.outcome (v.next + 1) v.failures ok.pages
-      ok.page_in (begun_requests v ok new after new_request old_request) (begun_apart v ok new clash) flushes
-      (begun_outcomes v ok new)
-
-  pub fill_begin_evolves : Evolves no_gone v after
-  fill_begin_evolves =
-      quietly_evolves no_gone v after (λ g q _. refl) (λ u r e k d. grind (arith, put1_tells {A = Option Flight}))
-      (λ u r e k d _. let none = fresh v ok in grind (arith, put1_tells {A = Option Flight})) (λ g q _ e. e) (λ g. refl)
-      refl
+  pub fill_begin : Goes no_gone v after
+  fill_begin = (
+    good_after v ok _ _ _ _ _ ok.pages ok.page_in
+        (begun_requests v ok new after new_request (λ t r e. let old = ok.requests t r e in
+        request_stays v _ _ _ _ _ t r old (let a = old.serial in omega arith) refl (λ _ _. refl) (λ _ _. refl)))
+        (begun_apart v ok new clash)
+        (λ g q e. let h = ok.flushes g q e in still_flying v after g q h (stays_begun v ok new h.serial h.request h.is))
+        (begun_outcomes v ok new),
+    quietly_evolves no_gone v after (λ g q _. refl) (λ u r e k d. grind (arith, put1_tells {A = Option Flight}))
+        (λ u r e k d _. let none = fresh v ok in grind (arith, put1_tells {A = Option Flight})) (λ g q _ e. e)
+        (λ g. refl) refl,
+  )

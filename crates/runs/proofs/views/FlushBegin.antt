@@ -4,8 +4,8 @@ use Rattle.std.specs.Prelude.{Option, Some, None, is_some, option_map}
 use Rattle.pc_types.specs.declared.kind.Kind.TheVariants.{Fill, Flush}
 use Rattle.machine.specs.State.{Page}
 use Rattle.runs.proofs.views.View.{View, Flight, Good, PageIs, RequestIs, HasFlush, Evolves, no_gone, put1, put2}
-use Rattle.runs.proofs.views.View.{put1_tells, put2_tells, put1_here, spot_of, fresh, no_outcome, live_spot, block_user}
-use Rattle.runs.proofs.views.View.{writeback, towrite, held, good_after, still_flying, one_page, one_page_in}
+use Rattle.runs.proofs.views.View.{put1_tells, put2_else, put2_tells, put1_here, spot_of, fresh, no_outcome, live_spot, block_user}
+use Rattle.runs.proofs.views.View.{Goes, request_stays, writeback, towrite, held, good_after, still_flying, one_page, one_page_in}
 use Rattle.runs.proofs.views.BeginRequest.{begun_apart, begun_requests, stays_begun, begun_outcomes}
 
 module _ (v : View) (ok : Good v) (f p b : ℕ) (old_page : Page) (cached : v.page f p ≡ Some old_page)
@@ -66,25 +66,10 @@ module _ (v : View) (ok : Good v) (f p b : ℕ) (old_page : Page) (cached : v.pa
       (λ i. option_map (λ s. s.block) (v.spot (g i) (q i))) ∙ mapped in cc)
 
   old_request : (t : ℕ) (r : Flight) → v.request t ≡ Some r → RequestIs after t r
-  old_request t r e = let old = ok.requests t r e in let not_here = apart t r e in record {
-    serial = let a = old.serial in omega arith;
-    block = old.block;
-    bytes = old.bytes;
-    fill = λ d k. let h = old.fill d k in let n = not_here d in
-        record {
-          mapped = h.mapped;
-          absent = let a = h.absent in grind (arith, put2_tells {A = Option Page});
-          noted = h.noted;
-        };
-    flush = λ d k. let h = old.flush d k in let n = not_here d in
-        record {
-          mapped = h.mapped;
-          writeback = let a = h.writeback in grind (arith, put2_tells {A = Option Page});
-          clean = let a = h.clean in grind (arith, put2_tells {A = Option Page});
-          noted = h.noted;
-        };
-    dead = old.dead;
-  }
+  old_request t r e =
+      let old = ok.requests t r e in
+      let same = λ (d : r.dropped ≡ false). put2_else v.page f p (Some page) r.file r.page (apart t r e d) in
+      request_stays v _ _ _ _ _ t r old (let a = old.serial in omega arith) refl (λ d _. same d) (λ d _. same d)
 
   flushes : (g q : ℕ) → writeback (after.page g q) ≡ true → HasFlush after g q
   flushes g q e = elim (put2_tells v.page f p (Some page) g q) [
@@ -101,15 +86,14 @@ module _ (v : View) (ok : Good v) (f p b : ℕ) (old_page : Page) (cached : v.pa
         still_flying v after g q j (stays_begun v ok new j.serial j.request j.is)
   ]
 
-  pub flush_begin_kept : Good after
-  flush_begin_kept = good_after v ok (put2 v.page f p (Some page)) (put1 v.request v.next (Some new)) v.outcome
-      (v.next + 1) v.failures (one_page v ok f p (Some page) page_is)
+  kept : Good after
+  kept = good_after v ok _ _ _ _ _ (one_page v ok f p (Some page) page_is)
       (one_page_in v ok f p (Some page) (λ _. ok.page_in f p (ap is_some cached)))
       (begun_requests v ok new after new_request old_request) (begun_apart v ok new clash) flushes
       (begun_outcomes v ok new)
 
-  pub flush_begin_evolves : Evolves no_gone v after
-  flush_begin_evolves = record {
+  evolves : Evolves no_gone v after
+  evolves = record {
     on_device = λ g q _. inl refl;
     from = λ u r e k d. elim (put1_tells v.request v.next (Some new) u) [
       | inl h ↦ inr (let a : Some new ≡ Some r = sym h.1 ∙ e in let b : new ≡ r = cc in
@@ -135,3 +119,6 @@ module _ (v : View) (ok : Good v) (f p b : ℕ) (old_page : Page) (cached : v.pa
     failures = λ g. omega arith;
     same_size = refl;
   }
+
+  pub flush_begin : Goes no_gone v after
+  flush_begin = (kept, evolves)

@@ -1,11 +1,10 @@
 -- A write ends that failed.
-use Rattle.std.proofs.Common.{◌≡◌, ℕ, ◌+◌, true, false, refl, ap, sym, ◌∙◌, arith, inl, inr}
-use Rattle.std.specs.Prelude.{Option, Some, None, is_some}
+use Rattle.std.proofs.Common.{◌≡◌, ℕ, ◌+◌, true, false, refl, ap, sym, ◌∙◌, arith, inl, inr, Some, None, is_some}
 use Rattle.pc_types.specs.declared.kind.Kind.TheVariants.{Flush}
 use Rattle.machine.specs.State.{Page}
 use Rattle.runs.proofs.views.View.{View, Flight, Good, PageIs, FlushIs, RequestIs, HasFlush, Evolves, no_gone, put1}
-use Rattle.runs.proofs.views.View.{put2, put1_tells, put2_tells, put1_here, writeback, towrite, held, good_after}
-use Rattle.runs.proofs.views.View.{still_flying, one_page, one_page_in, spot_of}
+use Rattle.runs.proofs.views.View.{Goes, request_stays, put2, put2_else, put1_tells, put2_tells, put1_here, writeback}
+use Rattle.runs.proofs.views.View.{towrite, held, good_after, still_flying, one_page, one_page_in, spot_of}
 use Rattle.runs.proofs.views.EndRequest.{others, outcome_left, others_apart, outcomes_left, left, none_beside}
 
 module _ (v : View) (ok : Good v) (t : ℕ) (r : Flight) (is : v.request t ≡ Some r) (live : r.dropped ≡ false)
@@ -38,26 +37,12 @@ module _ (v : View) (ok : Good v) (t : ℕ) (r : Flight) (is : v.request t ≡ S
       mapped = ap is_some (spot_of _ _ flush_is.mapped).1
 
   requests : (u : ℕ) (s : Flight) → after.request u ≡ Some s → RequestIs after u s
-  requests u s e = let k = others v ok t u s e in let old = ok.requests u s k.1 in
-      let same = outcome_left v ok t u k.0 in let not_here = none_beside v ok t r is live u s k.0 k.1 in record {
-        serial = old.serial;
-        block = old.block;
-        bytes = old.bytes;
-        fill = λ d j. let h = old.fill d j in let n = not_here d in
-            record {
-              mapped = h.mapped;
-              absent = let a = h.absent in grind (arith, put2_tells {A = Option Page});
-              noted = λ bytes o. h.noted bytes (sym same ∙ o);
-            };
-        flush = λ d j. let h = old.flush d j in let n = not_here d in
-            record {
-              mapped = h.mapped;
-              writeback = let a = h.writeback in grind (arith, put2_tells {A = Option Page});
-              clean = let a = h.clean in grind (arith, put2_tells {A = Option Page});
-              noted = λ o. h.noted (sym same ∙ o);
-            };
-        dead = old.dead;
-      }
+  requests u s e =
+      let k = others v ok t u s e in
+      let old = ok.requests u s k.1 in
+      let same = λ (d : s.dropped ≡ false). put2_else v.page r.file r.page (Some page) s.file s.page
+      (none_beside v ok t r is live u s k.0 k.1 d) in
+      request_stays v _ _ _ _ _ u s old old.serial (outcome_left v ok t u k.0) (λ d _. same d) (λ d _. same d)
 
   flushes : (g q : ℕ) → writeback (after.page g q) ≡ true → HasFlush after g q
   flushes g q e = elim (put2_tells v.page r.file r.page (Some page) g q) [
@@ -67,15 +52,13 @@ module _ (v : View) (ok : Good v) (t : ℕ) (r : Flight) (is : v.request t ≡ S
         (λ d. h.0 (sym j.file ∙ ap (λ (x : Flight). x.file) d) (sym j.page ∙ ap (λ (x : Flight). x.page) d)))
   ]
 
-  pub flush_failed_kept : Good after
-  flush_failed_kept = good_after v ok (put2 v.page r.file r.page (Some page)) (put1 v.request t None)
-      (put1 v.outcome t None) v.next (put1 v.failures r.file (v.failures r.file + 1))
-      (one_page v ok r.file r.page (Some page) page_is)
+  kept : Good after
+  kept = good_after v ok _ _ _ _ _ (one_page v ok r.file r.page (Some page) page_is)
       (one_page_in v ok r.file r.page (Some page) (λ _. ok.page_in r.file r.page (ap is_some cached))) requests
       (others_apart v ok t) flushes (outcomes_left v ok t)
 
-  pub flush_failed_evolves : (page.tags.towrite ≡ old_page.tags.towrite) → Evolves no_gone v after
-  flush_failed_evolves same_towrite = record {
+  evolves : (page.tags.towrite ≡ old_page.tags.towrite) → Evolves no_gone v after
+  evolves same_towrite = record {
     on_device = λ g q _. inl refl;
     from = λ u s e k d. inl (others v ok t u s e).1;
     flush = λ u s e k d _. elim (put1_tells v.request t None u) [
@@ -93,3 +76,6 @@ module _ (v : View) (ok : Good v) (t : ℕ) (r : Flight) (is : v.request t ≡ S
         [ inl h ↦ (let a = h.1 in let b = ap v.failures h.0 in omega arith) | inr h ↦ (let a = h.1 in omega arith) ];
     same_size = refl;
   }
+
+  pub flush_fails : page.tags.towrite ≡ old_page.tags.towrite → Goes no_gone v after
+  flush_fails same = (kept, evolves same)

@@ -6,7 +6,7 @@ use Rattle.machine.specs.declared.event.Outcome.TheVariants as outcome
 use Rattle.machine.specs.State.{Page, page_count}
 use Rattle.pc_types.specs.Spots.{Spot}
 use Rattle.runs.proofs.views.View.{View, Flight, Good, PageIs, FlushIs, RequestIs, HasFlush, Evolves, no_gone, put1}
-use Rattle.runs.proofs.views.View.{put2, put1_tells, put2_tells, put2_here, spot_of, dirty, writeback, towrite, settled}
+use Rattle.runs.proofs.views.View.{Goes, put2, put1_tells, put2_tells, put2_here, spot_of, dirty, writeback, towrite, settled}
 use Rattle.runs.proofs.views.View.{held_by, held, still_flying}
 use Rattle.runs.proofs.views.EndRequest.{others, outcome_left, others_apart, outcomes_left, left, none_beside}
 
@@ -129,8 +129,8 @@ module _ (v : View) (ok : Good v) (t : ℕ) (r : Flight) (is : v.request t ≡ S
         (λ d. h.0 (sym j.file ∙ ap (λ (x : Flight). x.file) d) (sym j.page ∙ ap (λ (x : Flight). x.page) d)))
   ]
 
-  pub flush_written_kept : Good after
-  flush_written_kept = record {
+  kept : Good after
+  kept = record {
     positive = ok.positive;
     pages = pages;
     page_in = page_in;
@@ -144,8 +144,8 @@ module _ (v : View) (ok : Good v) (t : ℕ) (r : Flight) (is : v.request t ≡ S
     block_sizes = ok.block_sizes;
   }
 
-  pub flush_written_evolves : Evolves no_gone v after
-  flush_written_evolves =
+  evolves : Evolves no_gone v after
+  evolves =
       let now : held after r.file r.page ≡ r.bytes =
       ap (held_by v.block v.page_size) (put2_here v.spot r.file r.page (Some spot)) ∙ flush_is.noted noted in
       record {
@@ -180,3 +180,6 @@ module _ (v : View) (ok : Good v) (t : ℕ) (r : Flight) (is : v.request t ≡ S
         failures = λ g. omega arith;
         same_size = refl;
       }
+
+  pub flush_written : Goes no_gone v after
+  flush_written = (kept, evolves)

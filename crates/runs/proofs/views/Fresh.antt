@@ -1,6 +1,5 @@
 -- What becomes of a page that a sync looks after, in one step.
-use Rattle.std.proofs.Common.{◌≡◌, ℕ, ◌+◌, Bool, true, false, List, sym, subst, ◌∙◌, arith, inl, inr}
-use Rattle.std.specs.Prelude.{◌⊎◌, Some, None}
+use Rattle.std.proofs.Common.{◌≡◌, ℕ, ◌+◌, Bool, true, false, List, sym, subst, ◌∙◌, arith, inl, inr, ◌⊎◌, Some, None}
 use Rattle.pc_types.specs.declared.kind.Kind.TheVariants.{Flush}
 use Rattle.runs.proofs.views.View.{View, Flight, Good, Evolves, one_request, towrite, held}
 

@@ -1,9 +1,8 @@
 -- A file grows by zeros.
-use Rattle.std.proofs.Common.{◌≡◌, ℕ, ◌+◌, ◌-◌, ◌*◌, ◌/◌, ◌<◌, ◌≤◌, true, refl, arith, inl, inr}
-use Rattle.std.specs.Prelude.{Some, is_some}
-use Rattle.std.proofs.Math.Nat.{le-div_iff_mul-le}
+use Rattle.std.proofs.Common.{◌≡◌, ℕ, ◌+◌, ◌-◌, ◌*◌, ◌/◌, ◌<◌, ◌≤◌, true, refl, arith, inl, inr, Some, is_some}
+use Rattle.std.proofs.Common.{le-div_iff_mul-le}
 use Rattle.machine.specs.State.{page_count}
-use Rattle.runs.proofs.views.View.{View, Flight, Good, RequestIs, HasFlush, Evolves, no_gone, quietly_evolves, put1}
+use Rattle.runs.proofs.views.View.{View, Flight, Good, RequestIs, HasFlush, Goes, no_gone, quietly_evolves, put1}
 use Rattle.runs.proofs.views.View.{put1_tells, writeback, still_flying}
 
 pub page_count_more : (P a b : ℕ) → 0 < P → a ≤ b → page_count P a ≤ page_count P b
@@ -30,15 +29,13 @@ module _ (v : View) (ok : Good v) (f z : ℕ) (more : v.size f ≤ z) where
   spot_in g q e = let old = ok.spot_in g q e in
       let m = page_count_more v.page_size (v.size g) (after.size g) ok.positive (grows g) in omega arith
 
-  requests : (u : ℕ) (s : Flight) → after.request u ≡ Some s → RequestIs after u s
-  requests u s e = assumption (ok.requests u s e)
-
-  flushes : (g q : ℕ) → writeback (after.page g q) ≡ true → HasFlush after g q
-  flushes g q e = let j = ok.flushes g q e in still_flying v after g q j refl
-
-  pub grow_kept : Good after
-  grow_kept = assumption (page_in, spot_in, requests, flushes)
-
-  pub grow_evolves : Evolves no_gone v after
-  grow_evolves = quietly_evolves no_gone v after (λ g q _. refl) (λ u r e k d. e) (λ u r e k d _. e) (λ g q _ e. e)
-      (λ g. refl) refl
+  pub grow : Goes no_gone v after
+  grow = (
+    (let requests : (u : ℕ) (s : Flight) → v.request u ≡ Some s → RequestIs after u s =
+        λ u s e. assumption (ok.requests u s e) in
+        let flushes : (g q : ℕ) → writeback (v.page g q) ≡ true → HasFlush after g q =
+        λ g q e. still_flying v after g q (ok.flushes g q e) refl in
+        assumption (page_in, spot_in)),
+    quietly_evolves no_gone v after (λ g q _. refl) (λ u r e k d. e) (λ u r e k d _. e) (λ g q _ e. e) (λ g. refl)
+        refl,
+  )

@@ -1,6 +1,5 @@
 -- What a change of many pages does to each.
-use Rattle.std.proofs.Common.{◌≡◌, ℕ, ◌<◌, ◌≢◌, Bool, true, false, cond, List, []}
-use Rattle.std.specs.Prelude.{◌⊎◌, Option, Some, None, is_some}
+use Rattle.std.proofs.Common.{◌≡◌, ℕ, ◌<◌, ◌≢◌, Bool, true, false, cond, List, [], ◌⊎◌, Option, Some, None, is_some}
 use Rattle.pc_types.specs.Files.{cut}
 use Rattle.machine.specs.State.{Page}
 use Rattle.pc_types.specs.Spots.{Spot}

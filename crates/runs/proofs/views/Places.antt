@@ -4,7 +4,7 @@ use Rattle.std.specs.Prelude.{◌⊎◌, Option, Some, None, is_some, option_map
 use Rattle.machine.specs.State.{Page, page_count}
 use Rattle.pc_types.specs.Spots.{Spot}
 use Rattle.runs.proofs.views.View.{View, Flight, Good, PageIs, RequestIs, HasFlush, Evolves, quietly_evolves}
-use Rattle.runs.proofs.views.View.{block_user, dirty, writeback, towrite, settled, held_by, held}
+use Rattle.runs.proofs.views.View.{Goes, block_user, dirty, writeback, towrite, settled, held_by, held}
 use Rattle.runs.proofs.views.Place.{IsSame, IsGone, IsNew, IsPut, dropped_where}
 
 module _ (v : View) (ok : Good v) (page : ℕ → ℕ → Option Page) (spot : ℕ → ℕ → Option Spot) (content : ℕ → ℕ → List ℕ)
@@ -227,8 +227,8 @@ module _ (v : View) (ok : Good v) (page : ℕ → ℕ → Option Page) (spot : �
   outcomes u e = elim (v.request u) as (λ o. is_some o ≡ true → is_some (option_map (dropped_where gone) o) ≡ true)
       [ None ↦ λ k. k | Some r ↦ λ k. refl ] (ok.outcomes u e)
 
-  pub places_kept : Good after
-  places_kept = record {
+  kept : Good after
+  kept = record {
     positive = ok.positive;
     pages = pages;
     page_in = page_in;
@@ -242,8 +242,8 @@ module _ (v : View) (ok : Good v) (page : ℕ → ℕ → Option Page) (spot : �
     block_sizes = ok.block_sizes;
   }
 
-  pub places_evolve : Evolves gone v after
-  places_evolve = quietly_evolves gone v after
+  evolves : Evolves gone v after
+  evolves = quietly_evolves gone v after
       (λ g q n. elim (is_kept g q n) [
         | inl s ↦ ap (held_by v.block v.page_size) s.on_spot
         | inr s ↦ elim s.block [
@@ -260,3 +260,6 @@ module _ (v : View) (ok : Good v) (page : ℕ → ℕ → Option Page) (spot : �
       ∙ ap (λ b. Some (cond b (record r { dropped = true }) r)) n)
       (λ g q n e. elim (is_kept g q n) [ inl s ↦ ap towrite s.on_page ∙ e | inr s ↦ ap towrite s.is ∙ s.towrite ∙ e ])
       (λ g. refl) refl
+
+  pub places : Goes gone v after
+  places = (kept, evolves)

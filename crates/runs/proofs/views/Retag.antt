@@ -1,9 +1,8 @@
 -- Pages may get TOWRITE where they are DIRTY.
-use Rattle.std.proofs.Common.{◌≡◌, ℕ, ◌<◌, true, false, refl, ap, sym, ◌∙◌}
-use Rattle.std.specs.Prelude.{Option, Some, None, is_some}
+use Rattle.std.proofs.Common.{◌≡◌, ℕ, ◌<◌, true, false, refl, ap, sym, ◌∙◌, Option, Some, None, is_some}
 use Rattle.machine.specs.State.{Page, page_count}
-use Rattle.runs.proofs.views.View.{View, Flight, Good, PageIs, RequestIs, HasFlush, Evolves, no_gone, quietly_evolves}
-use Rattle.runs.proofs.views.View.{dirty, writeback, towrite, held, good_after, still_flying}
+use Rattle.runs.proofs.views.View.{View, Flight, Good, PageIs, RequestIs, Goes, no_gone, quietly_evolves, dirty}
+use Rattle.runs.proofs.views.View.{writeback, towrite, held, good_after, still_flying}
 
 module _ (v : View) (ok : Good v) (page : ℕ → ℕ → Option Page)
     (same_some : (g q : ℕ) → is_some (page g q) ≡ is_some (v.page g q))
@@ -48,17 +47,10 @@ module _ (v : View) (ok : Good v) (page : ℕ → ℕ → Option Page)
     dead = old.dead;
   }
 
-  flushes : (g q : ℕ) → writeback (after.page g q) ≡ true → HasFlush after g q
-  flushes g q e = let j = ok.flushes g q (sym (same_writeback g q) ∙ e) in still_flying v after g q j refl
-
-  retag_kept : Good after
-  retag_kept = good_after v ok page v.request v.outcome v.next v.failures pages page_in requests ok.requests_apart
-      flushes ok.outcomes
-
-  retag_evolves : ((g q : ℕ) → towrite (v.page g q) ≡ true → towrite (page g q) ≡ true) → Evolves no_gone v after
-  retag_evolves more = quietly_evolves no_gone v after (λ g q _. refl) (λ u r e k d. e) (λ u r e k d _. e)
-      (λ g q _ e. more g q e) (λ g. refl) refl
-
-  pub retag : Good after
-      × (((g q : ℕ) → towrite (v.page g q) ≡ true → towrite (page g q) ≡ true) → Evolves no_gone v after)
-  retag = (retag_kept, retag_evolves)
+  pub retag : ((g q : ℕ) → towrite (v.page g q) ≡ true → towrite (page g q) ≡ true) → Goes no_gone v after
+  retag more = (
+    good_after v ok _ _ _ _ _ pages page_in requests ok.requests_apart
+        (λ g q e. still_flying v after g q (ok.flushes g q (sym (same_writeback g q) ∙ e)) refl) ok.outcomes,
+    quietly_evolves no_gone v after (λ g q _. refl) (λ u r e k d. e) (λ u r e k d _. e) (λ g q _ e. more g q e)
+        (λ g. refl) refl,
+  )

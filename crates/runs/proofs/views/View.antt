@@ -148,11 +148,18 @@ pub record Good (v : View) : Type 0 where
 
 -- ---- what follows at once
 
+pub put1_at : {A : Type 0} (m : ℕ → A) (t : ℕ) (x : A) (u : ℕ) → u ≡ t → put1 m t x u ≡ x
+put1_at m t x u e = elim (put1_tells m t x u) [ inl h ↦ h.1 | inr h ↦ absurd (h.0 e) ]
+
 pub put1_here : {A : Type 0} (m : ℕ → A) (t : ℕ) (x : A) → put1 m t x t ≡ x
-put1_here m t x = elim (put1_tells m t x t) [ inl h ↦ h.1 | inr h ↦ absurd (h.0 refl) ]
+put1_here m t x = put1_at m t x t refl
 
 pub put2_here : {A : Type 0} (m : ℕ → ℕ → A) (f p : ℕ) (x : A) → put2 m f p x f p ≡ x
 put2_here m f p x = elim (put2_tells m f p x f p) [ inl h ↦ h.2 | inr h ↦ absurd (h.0 refl refl) ]
+
+pub put2_else : {A : Type 0} (m : ℕ → ℕ → A) (f p : ℕ) (x : A) (g q : ℕ) → ((g ≡ f) → (q ≡ p) → ⊥)
+    → put2 m f p x g q ≡ m g q
+put2_else m f p x g q n = elim (put2_tells m f p x g q) [ inl h ↦ absurd (n h.0 h.1) | inr h ↦ h.1 ]
 
 pub put1_else : {A : Type 0} (m : ℕ → A) (t : ℕ) (x : A) (u : ℕ) → u ≢ t → put1 m t x u ≡ m u
 put1_else m t x u n = elim (put1_tells m t x u) [ inl h ↦ absurd (n h.0) | inr h ↦ h.1 ]
@@ -234,6 +241,10 @@ pub record Evolves (gone : ℕ → ℕ → Bool) (v w : View) : Type 0 where
 abbrev pub no_gone : ℕ → ℕ → Bool
 no_gone f p = false
 
+-- w keeps what holds always, and evolves from v
+abbrev pub Goes : (ℕ → ℕ → Bool) → View → View → Type 0
+Goes gone v w = Good w × Evolves gone v w
+
 -- no write starts, ends or takes effect
 pub quietly_evolves : (gone : ℕ → ℕ → Bool) (v w : View) → ((f p : ℕ) → gone f p ≡ false → held w f p ≡ held v f p)
     → ((t : ℕ) (r : Flight) → w.request t ≡ Some r → r.kind ≡ Flush → r.dropped ≡ false → v.request t ≡ Some r)
@@ -263,6 +274,28 @@ still_flying v w f p j e = search (e ∙ j.is)
 abbrev pub changed : View → (ℕ → ℕ → Option Page) → (ℕ → Option Flight) → (ℕ → Option Outcome) → ℕ → (ℕ → ℕ) → View
 changed v page request outcome next failures =
     record v { page = page; request = request; outcome = outcome; next = next; failures = failures }
+
+-- a request in flight needs of its page and its outcome what it needed before
+pub request_stays : (v : View) (page : ℕ → ℕ → Option Page) (request : ℕ → Option Flight) (outcome : ℕ → Option Outcome)
+    (next : ℕ) (failures : ℕ → ℕ) (t : ℕ) (r : Flight) → RequestIs v t r → t < next → outcome t ≡ v.outcome t
+    → (r.dropped ≡ false → r.kind ≡ Fill → page r.file r.page ≡ v.page r.file r.page)
+    → (r.dropped ≡ false → r.kind ≡ Flush → page r.file r.page ≡ v.page r.file r.page)
+    → RequestIs (changed v page request outcome next failures) t r
+request_stays v page request outcome next failures t r old serial call fills flushes = record {
+  serial = serial;
+  block = old.block;
+  bytes = old.bytes;
+  fill = λ d k. let h = old.fill d k in
+      record { mapped = h.mapped; absent = fills d k ∙ h.absent; noted = λ bytes o. h.noted bytes (sym call ∙ o) };
+  flush = λ d k. let h = old.flush d k in let same = flushes d k in
+      record {
+        mapped = h.mapped;
+        writeback = ap writeback same ∙ h.writeback;
+        clean = λ c. h.clean (sym (ap dirty same) ∙ c);
+        noted = λ o. h.noted (sym call ∙ o);
+      };
+  dead = old.dead;
+}
 
 -- what has to be shown of it
 pub good_after : (v : View) → Good v

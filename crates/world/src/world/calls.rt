@@ -5,6 +5,7 @@ ghost use Rattle.std.specs.FinMap as map;
 ghost use Rattle.machine.specs.declared.event.Event.TheVariants as event;
 ghost use Rattle.machine.specs.Step.{Step as MachineStep};
 ghost use Rattle.cachecore.specs.Replies.{EndGivesBack, end_of};
+ghost use Rattle.world.specs.Answers.{end_answered};
 ghost use Rattle.world.specs.Ends.{ended};
 ghost use Rattle.runs.specs.Durable.{LastingStep, Flushed};
 ghost use Rattle.runs.specs.World.{World as TheWorld};
@@ -12,11 +13,12 @@ ghost use Rattle.world.specs.Flushing.{IsDurably, IsFlushed, IsFlushedOnce, faul
 ghost use Rattle.world.specs.Stepping.{CallReply, FailReply, Steps, done};
 
 use super::World;
+use crate::answers::EndAnswer;
+use crate::begun;
 use crate::jobs::Flight;
-use crate::replies;
 use crate::step::Step;
 use blockdev::{BlockDevice, FaultEffect, Finished, ScriptDevice};
-use cachecore::{CacheCore, Ended, Kind, RefusedEnd, Reply};
+use cachecore::{CacheCore, Ended, Kind, RefusedEnd};
 use pc_types::{ErrCode, Refusal, Serial};
 
 impl<D: BlockDevice> World<D> {
@@ -39,29 +41,29 @@ impl<D: BlockDevice> World<D> {
     }
 
     /// Ends the request.
-    pub fn end(&mut self, serial: Serial) -> Reply
-        ensures { Steps self.old (Step.End serial) result self.new }
+    pub fn end(&mut self, serial: Serial) -> Result<EndAnswer, Refusal>
+        ensures { Steps self.old (Step.End serial) (end_answered result) self.new }
     {
         match self.jobs.take(serial) {
             Some(Flight::Made(finished)) => {
                 let kind = finished.kind();
                 match hand_in(&mut self.core, kind, finished) {
                     Ok(end) => {
-                        let (reply, buffer) = replies::of_end(kind, end);
+                        let (answer, buffer) = begun::of_end(kind, end);
                         self.spare = Some(buffer);
-                        reply
+                        Ok(answer)
                     }
                     Err(refused) => {
                         self.jobs.put(Flight::Made(refused.finished));
-                        Reply::Refused(refused.refusal)
+                        Err(refused.refusal)
                     }
                 }
             }
             Some(Flight::Asked(job)) => {
                 self.jobs.put(Flight::Asked(job));
-                Reply::Refused(Refusal::Stranger)
+                Err(Refusal::Stranger)
             }
-            None => Reply::Refused(Refusal::Stranger),
+            None => Err(Refusal::Stranger),
         }
     }
 }

@@ -1,5 +1,4 @@
-use Rattle.std.proofs.Common.{◌≡◌, ◌-◌}
-use Rattle.std.specs.Prelude.{find}
+use Rattle.std.proofs.Common.{◌≡◌, ◌-◌, find}
 use Rattle.std.specs.FinMap as map
 use Rattle.mapping.specs.declared.mapping.TheConstants.{MAX_PAGES}
 use Rattle.writeback.specs.Picks.{is_flushable}

@@ -1,5 +1,4 @@
-use Rattle.std.proofs.Common.{◌≡◌, drop}
-use Rattle.std.specs.Prelude.{find}
+use Rattle.std.proofs.Common.{◌≡◌, drop, find}
 use Rattle.writeback.specs.declared.requests.Entry.{Entry}
 use Rattle.machine.specs.State.{awaits}
 use Rattle.writeback.specs.Requests.{entry_of}

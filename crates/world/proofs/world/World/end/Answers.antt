@@ -10,11 +10,11 @@ use Rattle.world.proofs.world.World.end.Goals as goal
 
 pub invariant_of-self : goal.invariant_of-self
 invariant_of-self g c =
-    with_spare (Some c.of_end-reply.result.1) (
+    with_spare (Some c.of_end-answer.result.1) (
       c.self.invariant.0,
       end_back c.self.invariant.0 c.args.serial.0 c.in-Some-Made.finished
-          (ap Some (sym c.in-Some-Made.field-0-is) ∙ c.in-Some-Made.ensures.job) c.in-Ok.end c.of_end-reply.result.1
-          c.in-Ok.ensures.back c.of_end-reply.ensures.buffer,
+          (ap Some (sym c.in-Some-Made.field-0-is) ∙ c.in-Some-Made.ensures.job) c.in-Ok.end c.of_end-answer.result.1
+          c.in-Ok.ensures.back c.of_end-answer.ensures.buffer,
     )
     (end_keeps c.self.inside.core.state c.self.inside.jobs _ c.self.invariant.0 c.args.serial.0 c.in-Some-Made.finished
     (ap Some (sym c.in-Some-Made.field-0-is) ∙ c.in-Some-Made.ensures.job) c.kind-kind.result c.kind-kind.ensures
@@ -22,7 +22,7 @@ invariant_of-self g c =
 
 pub returns-in-Ok : goal.returns-in-Ok
 returns-in-Ok g c =
-    rw c.of_end-reply.ensures.reply
+    rw c.of_end-answer.ensures.answer
     (end_made c.self.inside.core.state c.self.inside.jobs _ c.self.invariant.0 c.args.serial.0 c.in-Some-Made.finished
     (ap Some (sym c.in-Some-Made.field-0-is) ∙ c.in-Some-Made.ensures.job) c.kind-kind.result c.kind-kind.ensures
     c.args.self.now c.self.view_is c.hand_in.new.core.state _ c.in-Ok.ensures.step c.take.new.self

@@ -1,5 +1,4 @@
-use Rattle.std.proofs.Common.{◌≡◌, ap, sym, ◌∙◌, eqb, Some}
-use Rattle.std.specs.Prelude.{option_map, position, None}
+use Rattle.std.proofs.Common.{◌≡◌, ap, sym, ◌∙◌, eqb, Some, option_map, position, None}
 use Rattle.std.specs.FinMap as map
 use Rattle.writeback.specs.declared.requests.Entry.{Entry}
 use Rattle.writeback.specs.Flights.{Flights, ended}

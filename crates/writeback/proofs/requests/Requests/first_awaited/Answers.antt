@@ -1,5 +1,4 @@
-use Rattle.std.proofs.Common.{◌≡◌, ℕ, ap, sym, ◌∙◌, Some}
-use Rattle.std.specs.Prelude.{option_map, find, None}
+use Rattle.std.proofs.Common.{◌≡◌, ℕ, ap, sym, ◌∙◌, Some, option_map, find, None}
 use Rattle.writeback.specs.declared.requests.Entry.{Entry}
 use Rattle.writeback.specs.Flights.{Flights, first_awaited}
 use Rattle.machine.specs.State.{Request, awaits}

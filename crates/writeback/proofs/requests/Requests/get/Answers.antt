@@ -1,5 +1,4 @@
-use Rattle.std.proofs.Common.{ap, ◌∙◌, eqb, List}
-use Rattle.std.specs.Prelude.{option_map, find}
+use Rattle.std.proofs.Common.{ap, ◌∙◌, eqb, List, option_map, find}
 use Rattle.std.specs.FinMap as map
 use Rattle.writeback.specs.declared.requests.Entry.{Entry}
 use Rattle.writeback.specs.Flights.{Flights}

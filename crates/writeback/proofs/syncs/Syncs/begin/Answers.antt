@@ -1,6 +1,4 @@
-use Rattle.std.proofs.Common.{◌≡◌, ◌<◌, ap, sym, refl, subst, ◌∙◌, not}
-use Rattle.std.specs.Prelude.{Some, None, is_some, position, Option}
-use Rattle.std.specs.Ordering.{nat_cmp}
+use Rattle.std.proofs.Common.{◌≡◌, ◌<◌, ap, sym, refl, subst, ◌∙◌, not, Some, None, is_some, position, Option, nat_cmp}
 use Rattle.std.specs.FinMap as map
 use Rattle.std.proofs.lemmas.Bool.{false≢true}
 use Rattle.pc_types.specs.declared.limits.TheConstants.{MAX_SYNCS}

@@ -1,6 +1,4 @@
-use Rattle.std.proofs.Common.{ap, ◌∙◌}
-use Rattle.std.specs.Prelude.{option_map}
-use Rattle.std.specs.Ordering.{nat_cmp}
+use Rattle.std.proofs.Common.{ap, ◌∙◌, option_map, nat_cmp}
 use Rattle.std.specs.FinMap as map
 use Rattle.machine.specs.State.{Sync}
 use Rattle.writeback.specs.Slots.{sync_of}

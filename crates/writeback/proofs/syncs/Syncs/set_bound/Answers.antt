@@ -1,6 +1,4 @@
-use Rattle.std.proofs.Common.{ap, refl, ◌∙◌}
-use Rattle.std.specs.Prelude.{Some}
-use Rattle.std.specs.Ordering.{nat_cmp}
+use Rattle.std.proofs.Common.{ap, refl, ◌∙◌, Some, nat_cmp}
 use Rattle.std.specs.FinMap as map
 use Rattle.writeback.specs.declared.syncs.Progress.{Progress}
 use Rattle.machine.specs.State.{Sync}

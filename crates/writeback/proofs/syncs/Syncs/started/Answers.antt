@@ -1,6 +1,4 @@
-use Rattle.std.proofs.Common.{ap, refl, ◌∙◌}
-use Rattle.std.specs.Prelude.{Some}
-use Rattle.std.specs.Ordering.{nat_cmp}
+use Rattle.std.proofs.Common.{ap, refl, ◌∙◌, Some, nat_cmp}
 use Rattle.std.specs.FinMap as map
 use Rattle.maps.specs.Maps.{change_at}
 use Rattle.machine.specs.State.{Sync}

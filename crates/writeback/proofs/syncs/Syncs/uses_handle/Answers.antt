@@ -1,6 +1,5 @@
-use Rattle.std.proofs.Common.{ap, ◌∙◌, eqb}
+use Rattle.std.proofs.Common.{ap, ◌∙◌, eqb, nat_cmp}
 use Rattle.std.specs.List.{list_any}
-use Rattle.std.specs.Ordering.{nat_cmp}
 use Rattle.std.specs.FinMap as map
 use Rattle.machine.specs.State.{Sync}
 use Rattle.writeback.proofs.SlotLemmas.{uses_shown}
