@@ -28,10 +28,10 @@ pub record IsLaid (P o : ℕ) (b : List ℕ) (first end : ℕ) (old new : FinMap
 pub record AreRead (P o : ℕ) (pages : FinMap nat_cmp Page) (n : ℕ) (out : List ℕ) : Type 0 where
   pub each : (i : ℕ) → i < n → i < length out → slice_index out i ≡ page_byte (get pages ((o + i) / P)) ((o + i) % P)
 
+-- the page, DIRTY
+abbrev pub dirtied : Page → Page
+dirtied page = record page { tags = record page.tags { dirty = true } }
+
 -- the page with these bytes put in place from k on, and DIRTY
 abbrev pub with_part : Page → ℕ → List ℕ → Page
-with_part page k b =
-    record {
-      bytes = take k page.bytes ++ b ++ drop (k + length b) page.bytes;
-      tags = record page.tags { dirty = true };
-    }
+with_part page k b = dirtied (record page { bytes = take k page.bytes ++ b ++ drop (k + length b) page.bytes })
