@@ -78,8 +78,12 @@ module _ (old mid : Store) (f p : ℕ) (is : mid ≡ record old
       pages_now = ap (λ (s : Store). (stored_at s f).pages) finished ∙ pages-with old f here pages (old.free - 1)
 
       pub finished_here : f < length new.files
-      finished_here = omega (arith, here, ap (λ (s : Store). length s.files) finished,
-          length-with old f pages (old.free - 1))
+      finished_here = omega (
+        arith,
+        here,
+        ap (λ (s : Store). length s.files) finished,
+        length-with old f pages (old.free - 1),
+      )
 
       page_now : finmap.get (stored_at new f).pages p ≡ Some (page_with (row old.page))
       page_now = ap (λ (m : FinMap nat_cmp Page). finmap.get m p) pages_now

@@ -14,7 +14,7 @@ use Rattle.pagestore.specs.Store.{Store, IsStore, awaits, store_of, entry_at, is
 use Rattle.pagestore.proofs.StoreLaws.{waits_at, waiting_entry, waiting_flag, none_seen, kept_same, some_mapped}
 use Rattle.pagestore.proofs.FrameEntries.{framed, framed_entry}
 use Rattle.pagestore.proofs.PagePlaces.{FilePage, file_entry, file_here}
-use Rattle.pagestore.proofs.StoreFacts.{page_taken, dirty_one, back_store, not_aside, changed_store, changed_seen}
+use Rattle.pagestore.proofs.StoreFacts.{page_taken, page_within, dirty_one, back_store, not_aside, changed_store, changed_seen}
 use Rattle.pagestore.proofs.pages.Pages.finish.Goals as goal
 use Rattle.pagestore.proofs.pages.Pages.finish.Goals.{After-self}
 
@@ -50,10 +50,9 @@ long c = length-laid c.self.inside.frames.size c.args.at c.args.bytes.now
     (omega (arith, c.requires.inside, ap (λ (s : Store). s.page) c.self.view_is))
 
 -- the frames after it
-laid_is : (c : goal.After-lay) → c.lay.new.self ≡ with_bytes (put_back c.self.inside.frames c.in-Some.frame.0) c.in-Some.frame.0
-    (row (goal.at.returns c).After-self)
-laid_is c = c.lay.ensures ∙ ap (λ (t : Table). with_bytes t c.in-Some.frame.0 (laid t.size c.args.at c.args.bytes.now))
-    c.put_back.ensures
+laid_is : (t u v : Table) (frame at : ℕ) (b : List ℕ) → u ≡ put_back t frame
+    → v ≡ with_bytes u frame (laid u.size at b) → v ≡ with_bytes (put_back t frame) frame (laid t.size at b)
+laid_is t u v frame at b back lay = lay ∙ ap (λ (t : Table). with_bytes t frame (laid t.size at b)) back
 
 pub unreachable-requires : goal.unreachable-requires
 unreachable-requires c =
@@ -82,8 +81,22 @@ lay-requires-clause-taken c =
     c.in-Some.frame c.in-Some.ensures
 
 pub lay-requires-clause-inside : goal.lay-requires-clause-inside
-lay-requires-clause-inside c = omega (arith, c.requires.inside, ap (λ (s : Store). s.page) c.self.view_is,
-    ap (λ (t : Table). t.size) c.put_back.ensures)
+lay-requires-clause-inside c = omega (
+  arith,
+  c.requires.inside,
+  ap (λ (s : Store). s.page) c.self.view_is,
+  ap (λ (t : Table). t.size) c.put_back.ensures,
+)
+
+pub index_mut-requires : goal.index_mut-requires
+index_mut-requires c =
+    let w = at (goal.at.index_mut-requires c).After-self in
+    let i = c.self.inside in
+    let x = framed (entry_at i.files.items c.args.file c.args.page) c.in-Some.frame in
+    let there = there_in w c.index.result.now c.index.ensures c.in-Some.frame c.in-Some.ensures in
+    let within = page_within i.frames i.uptodate.items i.files.items i.dirty c.self.invariant c.args.file c.args.page x
+    there in
+    omega (arith, within, c.self.invariant.flags)
 
 pub invariant_of-self : goal.invariant_of-self
 invariant_of-self c =
@@ -99,15 +112,17 @@ invariant_of-self c =
     let there = there_in w c.index.result.now c.index.ensures c.in-Some.frame c.in-Some.ensures in
     let flag = waiting_flag up (entry_at files f p) (waits w c.requires.filling) x there in
     let bare = s.bare f p x there flag in
-    let row = row (goal.at.invariant_of-self c).After-self in
+    let its_row = row (goal.at.invariant_of-self c).After-self in
     let clean = ap dirty_one (none_seen t up files f p x there flag) in
-    let marks : dirty_one (Some (let page : Page = record { bytes = row; tags = x.tags } in page)) ≡ 0 =
-    ap (λ (g : TagSet). dirty_one (Some (let page : Page = record { bytes = row; tags = g } in page))) bare in
+    let marks : dirty_one (Some (let page : Page = record { bytes = its_row; tags = x.tags } in page)) ≡ 0 =
+    ap (λ (g : TagSet). dirty_one (Some (let page : Page = record { bytes = its_row; tags = g } in page))) bare in
     let u = put_back t x.frame in
-    subst (λ (v : Table). IsStore v (slice_set up x.frame true) files dirty) (sym (laid_is c))
-    (subst (λ (fs : List KeptFile). IsStore (with_bytes u x.frame row) (slice_set up x.frame true) fs dirty)
+    subst (λ (v : Table). IsStore v (slice_set up x.frame true) files dirty)
+    (sym (laid_is t c.put_back.new.self c.lay.new.self c.in-Some.frame.0 c.args.at c.args.bytes.now c.put_back.ensures
+    c.lay.ensures))
+    (subst (λ (fs : List KeptFile). IsStore (with_bytes u x.frame its_row) (slice_set up x.frame true) fs dirty)
     (kept_same files f p x there)
-    (changed_store u up files dirty f p x (back_store t up files dirty x.frame s) (file_here w) there row
+    (changed_store u up files dirty f p x (back_store t up files dirty x.frame s) (file_here w) there its_row
     (long (goal.at.invariant_of-self c).After-self) true x refl dirty (λ e. absurd (false≢true (sym e)))
     (λ aside. absurd (false≢true (sym (not_aside t.aside x.frame) ∙ aside))) (omega (arith, clean, marks))))
 
@@ -126,13 +141,15 @@ returns c =
     let there = there_in w c.index.result.now c.index.ensures c.in-Some.frame c.in-Some.ensures in
     let flag = waiting_flag up (entry_at files f p) (waits w c.requires.filling) x there in
     let bare = s.bare f p x there flag in
-    let row = row (goal.at.returns c).After-self in
-    ap (λ (v : Table). store_of v (slice_set up x.frame true) files) (laid_is c)
-    ∙ (λ i. store_of (with_bytes (put_back t x.frame) x.frame row) (slice_set up x.frame true)
+    let its_row = row (goal.at.returns c).After-self in
+    ap (λ (v : Table). store_of v (slice_set up x.frame true) files)
+    (laid_is t c.put_back.new.self c.lay.new.self c.in-Some.frame.0 c.args.at c.args.bytes.now c.put_back.ensures
+    c.lay.ensures)
+    ∙ (λ i. store_of (with_bytes (put_back t x.frame) x.frame its_row) (slice_set up x.frame true)
     (sym (kept_same files f p x there) i))
-    ∙ changed_seen t up files dirty f p x s (file_here w) there row (long (goal.at.returns c).After-self) true x refl
+    ∙ changed_seen t up files dirty f p x s (file_here w) there its_row (long (goal.at.returns c).After-self) true x refl
     ∙ ap (λ (g : TagSet). with_entry (store_of t up files) f p
-    (Some (let page : Page = record { bytes = row; tags = g } in page)) false (free_frames t)) bare
+    (Some (let page : Page = record { bytes = its_row; tags = g } in page)) false (free_frames t)) bare
     ∙ ap (λ (s : Store). with_entry s f p
     (Some (let page : Page = record { bytes = laid s.page c.args.at b; tags = no_tags } in page)) false s.free)
     c.self.view_is

@@ -17,8 +17,12 @@ finish-requires-clause-filling c = entered_awaited c.args.self.now c.start_fill.
     c.in_ok-start_fill.ensures.ok
 
 pub finish-requires-clause-inside : goal.finish-requires-clause-inside
-finish-requires-clause-inside c = omega (arith, c.requires.inside, entered_size c.args.self.now c.start_fill.new.self
-    c.args.file c.args.page c.in_ok-start_fill.ensures.ok)
+finish-requires-clause-inside c = omega (
+  arith,
+  c.requires.inside,
+  entered_size c.args.self.now c.start_fill.new.self
+      c.args.file c.args.page c.in_ok-start_fill.ensures.ok,
+)
 
 pub tag_dirty-requires-clause-here : goal.tag_dirty-requires-clause-here
 tag_dirty-requires-clause-here c = finished_here c.args.self.now c.start_fill.new.self c.args.file c.args.page
