@@ -172,19 +172,13 @@ module _ (P f o : ℕ) (b : List ℕ) (first end : ℕ) (old : Store) (less : fi
           ∙ ap (λ t. if t && nat_lt first end then Some (written_page P o b first (finmap.get were first)) else
           finmap.get were first) (not_yet first)
 
-      pub rest_here : f < length mid.files
+      rest_here : f < length mid.files
       rest_here = omega (
         arith,
         here,
         ap (λ (s : Store). length s.files) h.rest,
         length-with old f (stored_at mid f).pages mid.free,
       )
-
-      pub rest_size : mid.page ≡ old.page
-      rest_size = ap (λ (s : Store). s.page) h.rest
-
-      pub rest_cached : is_some (stored_page mid f first) ≡ true
-      rest_cached = ap is_some mid_first ∙ there
 
       pub rest_page : the_page (stored_at mid f).pages first ≡ the_page were first
       rest_page = ap (λ (o : Option Page). unwrap_or o (record { bytes = []; tags = no_tags })) mid_first
@@ -331,6 +325,13 @@ module _ (P f o : ℕ) (b : List ℕ) (first end : ℕ) (old : Store) (less : fi
         (left_entered f first old.lists unlisted i)) ∙ with-itself old f
 
 -- ---- a range is written or read
+
+pub some_page : (m : FinMap nat_cmp Page) (p : ℕ) → is_some (finmap.get m p) ≡ true
+    → Some (the_page m p) ≡ finmap.get m p
+some_page m p h =
+    elim (finmap.get m p) as (λ o. is_some o ≡ true
+    → Some (unwrap_or {T = Page} o (record { bytes = []; tags = no_tags })) ≡ o)
+    [ None ↦ λ e. absurd (false≢true e) | Some page ↦ λ e. refl ] h
 
 pub read_none : (P o : ℕ) (pages : FinMap nat_cmp Page) (out : List ℕ) → AreRead P o pages (o / P * P - o) out
 read_none P o pages out = record { each = λ i h k. absurd (omega (arith, h, div-mul-le_self o P)) }
