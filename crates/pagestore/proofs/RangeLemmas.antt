@@ -15,7 +15,7 @@ use Rattle.std.proofs.lemmas.List.{length-set, set-get_or, set-set}
 use Rattle.std.proofs.lemmas.List.Sums.{sum_by-cons}
 use Rattle.pc_types.specs.Tags.{no_tags}
 use Rattle.machine.specs.State.{File, Page, no_file}
-use Rattle.pagestore.specs.Store.{the_page, blank, Store, stored_at, stored_page, is_awaited, with_pages, with_lists}
+use Rattle.pagestore.specs.Store.{the_page, Store, stored_at, stored_page, is_awaited, with_pages, with_lists}
 use Rattle.pagestore.specs.Store.{absent_pages}
 use Rattle.machine.specs.Changes.{written_page}
 use Rattle.pagestore.specs.Ranges.{AreRead, AreSized, AreWritten, IsLaid}

@@ -12,12 +12,11 @@ use Rattle.std.specs.FinMap as finmap
 use Rattle.std.specs.FinMap.{FinMap, get-empty, len-empty}
 use Rattle.std.proofs.lemmas.Bool.{false≢true}
 use Rattle.std.proofs.lemmas.Bool.Decides.{nat_tests}
-use Rattle.std.proofs.lemmas.List.{length-set, length-replicate, length-map, get_or_past, take-replicate, drop-drop}
+use Rattle.std.proofs.lemmas.List.{length-set, length-replicate, length-map, get_or_past, drop-drop}
 use Rattle.std.proofs.lemmas.List.{length-take, append_assoc, set-get_or}
 use Rattle.std.proofs.lemmas.List.Elements.{All-set}
 use Rattle.std.proofs.lemmas.List.Folds.{sum_by-replicate}
 use Rattle.std.proofs.lemmas.List.Sums.{sum_by-set, sum_by-cons, sum_by_push}
-use Rattle.pc_types.specs.Files.{cut}
 use Rattle.pc_types.specs.Tags.{TagSet, no_tags}
 use Rattle.pc_types.specs.declared.ids.FileId.{FileId}
 use Rattle.pc_types.specs.declared.ids.PageIndex.{PageIndex}
@@ -31,7 +30,7 @@ use Rattle.mapping.proofs.MapLemmas.{count_insert, count_remove, count-le-len, r
 use Rattle.mapping.proofs.MapLemmas.{len_insert_old, len_remove_old}
 use Rattle.pagestore.specs.declared.kept.KeptFile.{KeptFile}
 use Rattle.machine.specs.State.{File, Page, no_file, dirty_in}
-use Rattle.pagestore.specs.Store.{the_page, blank, none_kept, is_uptodate, awaits, page_of, each_seen, file_of, kept_at}
+use Rattle.pagestore.specs.Store.{the_page, none_kept, is_uptodate, awaits, page_of, each_seen, file_of, kept_at}
 use Rattle.pagestore.specs.Store.{entry_at, lists_of, Store, store_of, stored_at, stored_page, with_pages, with_lists}
 use Rattle.pagestore.specs.Store.{with_entry, put_at, IsStore, is_untagged, is_idle_entry}
 use Rattle.machine.proofs.changes.StateLaws.{get_or-set}

@@ -2,8 +2,8 @@
 -- entry and its frame, so that the end of the fill takes no memory; a flag of the frame says whether it has the page's
 -- bytes.
 use Rattle.std.specs.Prelude.{◌≡◌, ◌+◌, ◌-◌, ◌<◌, ◌≤◌, ℕ, Bool, true, false, List, [], ◌∷◌, ◌++◌, map, filter}
-use Rattle.std.specs.Prelude.{filter_map, length, not, ◌&&◌, nat_le, nat_lt, if◌then◌else◌, Option, Some, None, is_some}
-use Rattle.std.specs.Prelude.{option_map, sum_by, count_by, slice_index_or, slice_set, unwrap_or, All, refl}
+use Rattle.std.specs.Prelude.{filter_map, length, not, ◌&&◌, if◌then◌else◌, Option, Some, None, is_some}
+use Rattle.std.specs.Prelude.{option_map, sum_by, slice_index_or, slice_set, unwrap_or, All, refl}
 use Rattle.std.specs.List.{range_with_len}
 use Rattle.std.specs.Ordering.{nat_cmp}
 use Rattle.std.specs.FinMap as finmap

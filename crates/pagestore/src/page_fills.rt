@@ -36,6 +36,7 @@ impl Pages {
             self.frames.give(frame);
             return Err(AllocError);
         }
+        // the frame has another page's bytes, which nobody reads before it is up to date
         self.uptodate[frame.0 as usize] = false;
         Ok(())
     }

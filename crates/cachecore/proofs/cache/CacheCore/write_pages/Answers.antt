@@ -1,7 +1,7 @@
 use Rattle.std.proofs.Common.{arith, sym, ap, subst, refl, max, ◌∙◌, ◌≡◌, ◌+◌, ◌-◌, ◌/◌, ◌<◌, ℕ, length}
 use Rattle.std.specs.Prelude.{None}
 use Rattle.blockmap.specs.Blocks.{Blocks}
-use Rattle.machine.specs.State.{State, File, handle_file}
+use Rattle.machine.specs.State.{State, handle_file}
 use Rattle.cachecore.specs.Core.{Core}
 use Rattle.machine.specs.Changes.{put_file, written}
 use Rattle.machine.specs.ListChanges.{lists_written}

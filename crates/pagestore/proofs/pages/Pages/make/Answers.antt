@@ -4,7 +4,7 @@ use Rattle.frames.specs.Rows.{laid}
 use Rattle.pc_types.specs.Tags.{no_tags}
 use Rattle.machine.specs.PageLists.{entered}
 use Rattle.machine.specs.State.{Page}
-use Rattle.pagestore.specs.Store.{Store, stored_at, with_lists, with_pages}
+use Rattle.pagestore.specs.Store.{stored_at, with_lists, with_pages}
 use Rattle.pagestore.proofs.NewPages.{entered_awaited, entered_here, finished, laid-none}
 use Rattle.pagestore.proofs.pages.Pages.make.Goals as goal
 

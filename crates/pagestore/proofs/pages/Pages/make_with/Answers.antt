@@ -1,9 +1,9 @@
-use Rattle.std.proofs.Common.{ap, sym, ◌∙◌, ◌+◌, ◌-◌, ◌≤◌, ℕ, length, arith}
+use Rattle.std.proofs.Common.{ap, ◌∙◌, ◌-◌, arith}
 use Rattle.std.specs.FinMap as map
 use Rattle.frames.specs.Rows.{laid}
 use Rattle.machine.specs.PageLists.{entered}
 use Rattle.machine.specs.State.{Page}
-use Rattle.pagestore.specs.Store.{Store, stored_at, with_lists, with_pages}
+use Rattle.pagestore.specs.Store.{stored_at, with_lists, with_pages}
 use Rattle.pagestore.proofs.NewPages.{entered_awaited, entered_here, entered_size, finished_cached, finished_dirty}
 use Rattle.pagestore.proofs.NewPages.{finished_here, laid_page}
 use Rattle.pagestore.proofs.pages.Pages.make_with.Goals as goal
