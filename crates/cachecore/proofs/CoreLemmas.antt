@@ -340,13 +340,13 @@ module _ {s : State} {store : Store} {blocks : Blocks} (c : IsCore s store block
               (touched_count s.sizes.page o n) may.free q l (omega (arith, l, m)) in
               ap (λ g. is_filling s g q) (sym file) ∙ (neither (is_filling s (handle_file s h) q) _ none).0
 
-    module _ (h f o P : ℕ) (b : List ℕ) (e1 e2 e3 : File) (now : Store) (file : handle_file s h ≡ f)
+    module _ (h f o P : ℕ) (b : List ℕ) (e1 e2 : File) (now : Store) (file : handle_file s h ≡ f)
         (page : P ≡ s.sizes.page) (passed : write_tests s h o (length b) ≡ None) (here : f < length s.files)
-        (parts : WriteParts P o b (file_at s f) e1 e2 e3) (positive : 0 < P)
+        (parts : WriteParts P o b (file_at s f) e1 e2) (positive : 0 < P)
         (bound : o + length b ≤ MAX_FILE_SIZE) where
       -- what is said of the page size that the code read, of the one that the cache has
-      w : WriteParts s.sizes.page o b (file_at s f) e1 e2 e3
-      w = subst (λ k. WriteParts k o b (file_at s f) e1 e2 e3) page parts
+      w : WriteParts s.sizes.page o b (file_at s f) e1 e2
+      w = subst (λ k. WriteParts k o b (file_at s f) e1 e2) page parts
 
       full : 0 < s.sizes.page
       full = omega (arith, page, positive)
@@ -357,27 +357,27 @@ module _ {s : State} {store : Store} {blocks : Blocks} (c : IsCore s store block
       abbrev pub taken : ℕ → Blocks
       taken k = with_placed blocks f (range_with_len (o / k) (touched_count k o (length b)))
 
-      entry : e3 ≡ record (file_at s f)
+      entry : e2 ≡ record (file_at s f)
           { size = max (file_at s f).size (o + length b); pages = written_pages s.sizes.page o b (file_at s f).pages }
       entry = parts-file w full some
 
-      write_same : record (put_file s f e3) { spots = (taken s.sizes.page).spots } ≡ written s f o b
+      write_same : record (put_file s f e2) { spots = (taken s.sizes.page).spots } ≡ written s f o b
       write_same = λ i. record (put_file s f (entry i)) { spots = placed_are f (touched s.sizes.page o (length b)) i }
 
       -- the state after a write
-      pub write_state : record (put_file s f e3) { spots = (taken P).spots } ≡ written s f o b
-      write_state = ap (λ k. let t : State = record (put_file s f e3) { spots = (taken k).spots } in t) page
+      pub write_state : record (put_file s f e2) { spots = (taken P).spots } ≡ written s f o b
+      write_state = ap (λ k. let t : State = record (put_file s f e2) { spots = (taken k).spots } in t) page
           ∙ write_same
 
       pub core-written : now.page ≡ store.page
           → now.free ≡ store.free - count_by (λ p. not (is_some (finmap.get (file_at s f).pages p)))
           (range_with_len (o / P) (touched_count P o (length b)))
           → ((g q : ℕ) → is_awaited now g q ≡ is_awaited store g q)
-          → IsCore (record (put_file s f e3) { spots = (taken P).spots }) now (taken P)
+          → IsCore (record (put_file s f e2) { spots = (taken P).spots }) now (taken P)
       core-written same free idle =
           let made : ℕ = count_by (λ p. not (is_some (finmap.get (file_at s f).pages p)))
           (range_with_len (o / P) (touched_count P o (length b))) in
-          let more : finmap.len e3.pages ≡ finmap.len (file_at s f).pages + made =
+          let more : finmap.len e2.pages ≡ finmap.len (file_at s f).pages + made =
           ap finmap.len (parts-pages w full some)
           ∙ len-written_pages s.sizes.page o b (file_at s f).pages
           ∙ ap (λ k. finmap.len (file_at s f).pages
@@ -386,7 +386,7 @@ module _ {s : State} {store : Store} {blocks : Blocks} (c : IsCore s store block
           let sound : Sound (written s f o b) =
           subst (λ g. Sound (written s g o b)) file
           (written_sound s c.sound h o b (may_write s h o (length b) passed)) in
-          core-file f e3 made now (taken P) here (parts_sized w (c.sized f))
+          core-file f e2 made now (taken P) here (parts_sized w (c.sized f))
           (omega (arith, c.bounded f, bound, parts-size w)) more
           (frames_enough h f o (length b) P file page passed) same free idle refl refl
           (ap (λ (x : File). x.failures) entry) (subst Sound (sym write_state) sound)

@@ -1,14 +1,14 @@
 -- Bytes written into one page that is DIRTY: the steps of a write, of which only the last two do anything.
-use Rattle.std.proofs.Common.{◌≡◌, ℕ, ◌+◌, ◌-◌, ◌*◌, ◌/◌, ◌<◌, ◌≤◌, max, true, false, cond, not, List, [], ◌∷◌, length}
+use Rattle.std.proofs.Common.{◌≡◌, ℕ, ◌+◌, ◌-◌, ◌*◌, ◌/◌, ◌<◌, ◌≤◌, max, Bool, true, false, cond, not, List, [], ◌∷◌, length}
 use Rattle.std.proofs.Common.{refl, ap, sym, subst, ◌∙◌, arith}
-use Rattle.std.specs.Prelude.{filter, is_some, slice_range, slice_set}
+use Rattle.std.specs.Prelude.{count_by, filter, is_some, slice_range, slice_set}
 use Rattle.std.specs.List.{range_with_len}
 use Rattle.std.specs.FinMap as finmap
 use Rattle.std.proofs.Math.Nat.{div-mul-le_self}
 use Rattle.std.proofs.lemmas.List.{take_all}
 use Rattle.blockmap.specs.Blocks.{Blocks}
 use Rattle.machine.specs.State.{State, is_cached, touched_count}
-use Rattle.pagestore.specs.Store.{the_page, Store, stored_at, stored_page, with_lists, with_pages, AreMade}
+use Rattle.pagestore.specs.Store.{the_page, Store, stored_at, stored_page, with_lists, with_pages}
 use Rattle.machine.specs.ListChanges.{lists_written}
 use Rattle.pagestore.specs.Ranges.{AreSized, IsLaid, with_part}
 use Rattle.machine.specs.PageLists.{PageLists, accessed, each_entered}
@@ -17,7 +17,7 @@ use Rattle.pagestore.proofs.OnePage.{one_count, one_last, one_range}
 use Rattle.pagestore.proofs.Overlay.{touched_above}
 use Rattle.pagestore.proofs.PairLemmas.{part_by_code}
 use Rattle.cachecore.proofs.PlaceLemmas.{placed_none, placed_past}
-use Rattle.pagestore.proofs.RangeLemmas.{laid_none, made_none, made_past, pages-with}
+use Rattle.pagestore.proofs.RangeLemmas.{laid_none, pages-with}
 use Rattle.cachecore.proofs.WriteMoves.{written_lists}
 use Rattle.cachecore.proofs.WriteSteps.{WriteSteps}
 
@@ -43,13 +43,8 @@ module _ (P o : ℕ) (b : List ℕ) (positive : 0 < P) (some : 0 < length b) (fi
       ap (λ n. with_placed blocks f (range_with_len page n)) one
       ∙ sym (placed_past blocks f page (page + 1) (omega arith) there) ∙ placed_none blocks f (page + 1)
 
-  module _ (f : ℕ) (store : Store) (here : f < length store.files) (size : P ≡ store.page)
+  module _ (f : ℕ) (store : Store) (here : f < length store.files)
       (cached : is_some (stored_page store f page) ≡ true) where
-    -- no page is made
-    made_same : AreMade f page end store store
-    made_same = subst (λ n. AreMade f page n store store) end_is
-        (made_past f page (page + 1) store (omega arith) cached store (made_none store f (page + 1)))
-
     abbrev part : Store
     part = with_pages store f (finmap.insert (stored_at store f).pages page
         (with_part (the_page (stored_at store f).pages page) (o - page * P) b)) store.free
@@ -75,14 +70,21 @@ module _ (P o : ℕ) (b : List ℕ) (positive : 0 < P) (some : 0 < length b) (fi
           (subst (IsLaid P o b page (page + 1) (stored_at store f).pages)
           (sym (laid_pages ∙ ap (finmap.insert (stored_at store f).pages page) (sym whole))) put)
 
-      pub put_steps : WriteSteps P o b f n store store laid final
+      -- no page is made
+      none_made : count_by (λ p. not (is_some (stored_page store f p))) (range_with_len page (end - page)) ≡ 0
+      none_made =
+          let absent : ℕ → Bool = λ p. not (is_some (stored_page store f p)) in
+          ap (λ n. count_by absent (range_with_len page (n - page))) (sym end_is)
+          ∙ ap (λ n. count_by absent (range_with_len page n)) (let one : page + 1 - page ≡ 1 = omega arith in one)
+          ∙ ap (λ b. count_by (λ t. t) (b ∷ [])) (ap not cached)
+
+      pub put_steps : WriteSteps P o b f n store laid final
       put_steps = record {
         here = here;
-        page = size;
-        cover = made_same;
         pages = lays;
-        rest = laid_is ∙ (λ i. with_lists (with_pages store f (sym laid_pages i) store.free)
-            (sym (ap (λ (s : Store). s.lists) laid_is) i));
+        rest = laid_is ∙ (λ i. with_lists (with_pages store f (sym laid_pages i)
+            (sym (ap (λ (s : Store). s.free) laid_is) i)) (sym (ap (λ (s : Store). s.lists) laid_is) i));
+        fewer = omega (arith, ap (λ (s : Store). s.free) laid_is, none_made);
         size = size_is;
         grown = grown;
       }

@@ -1,12 +1,11 @@
 -- A write over a range of pages, from the parts that the code does.
-use Rattle.std.proofs.Common.{◌≡◌, ℕ, ◌+◌, ◌-◌, ◌/◌, ◌<◌, max, Bool, true, false, cond, not, ◌&&◌}
+use Rattle.std.proofs.Common.{◌≡◌, ℕ, ◌+◌, ◌-◌, ◌/◌, ◌<◌, max, Bool, true, false, cond, ◌&&◌}
 use Rattle.std.proofs.Common.{eqb, List, [], length, refl, ap, sym, subst, ◌∙◌}
 use Rattle.std.proofs.Common.{arith}
 use Rattle.std.specs.Prelude.{Option, Some, None, is_some, unwrap_or, if◌then◌else◌, nat_le, nat_lt}
 use Rattle.std.specs.Ordering.{nat_cmp}
 use Rattle.std.specs.FinMap as finmap
 use Rattle.std.specs.FinMap.{FinMap}
-use Rattle.std.proofs.lemmas.Bool.{false≢true}
 use Rattle.std.proofs.lemmas.Bool.Decides.{nat_tests}
 use Rattle.pc_types.specs.Files.{cut}
 use Rattle.pc_types.specs.Tags.{no_tags}
@@ -35,18 +34,6 @@ sized_written : (P o : ℕ) (b : List ℕ) (p : ℕ) (x : Option Page) → Sized
 sized_written P o b p None h e = length-overlay P o p b (cut [] P) (length-cut [] P)
 sized_written P o b p (Some page) h e = length-overlay P o p b page.bytes (h refl)
 
--- pages of zeros have P bytes
-pub sized_cover : (P first last : ℕ) (old new : FinMap nat_cmp Page)
-    → ((q : ℕ) → finmap.get new q ≡ (if nat_le first q && nat_le q last && not (is_some (finmap.get old q)) then Some
-    (blank P) else finmap.get old q)) → AreSized P old → AreSized P new
-sized_cover P first last old new h s =
-    record {
-      each =
-          λ q. subst (Sized P) (sym (h q))
-          (sized_cond P (nat_le first q && nat_le q last && not (is_some (finmap.get old q))) (Some (blank P))
-          (finmap.get old q) (λ _. length-cut [] P) (s.each q));
-    }
-
 -- a page of zeros more
 pub sized_insert : (P p : ℕ) (m : FinMap nat_cmp Page) → AreSized P m → AreSized P (finmap.insert m p (blank P))
 sized_insert P p m s =
@@ -68,66 +55,39 @@ sized_laid P o b first end old new h s =
 
 -- ---- the parts of a write
 
--- what the steps of the code leave of the file's entry: e0 as it was, e1 with its pages made, e2 with the bytes, e3
--- with the size
-pub record WriteParts (P o : ℕ) (b : List ℕ) (e0 e1 e2 e3 : File) : Type 0 where
-  pub made : (q : ℕ) → finmap.get e1.pages q
-      ≡ (if nat_le (o / P) q && nat_le q ((o + length b - 1) / P) && not (is_some (finmap.get e0.pages q)) then Some
-      (blank P) else finmap.get e0.pages q)
-  pub made_rest : e1 ≡ record e0 { pages = e1.pages }
-  pub laid : IsLaid P o b (o / P) ((o + length b - 1) / P + 1) e1.pages e2.pages
-  pub laid_rest : e2 ≡ record e1 { pages = e2.pages }
-  pub grown : e3 ≡ record e2 { size = max e2.size (o + length b) }
-
--- a page of zeros that is written is what an absent page becomes
-blank-written : (P o : ℕ) (b : List ℕ) (p : ℕ) (x y : Option Page) (t : Bool) → t ≡ true
-    → y ≡ (if t && not (is_some x) then Some (blank P) else x)
-    → Some (written_page P o b p y) ≡ Some (written_page P o b p x)
-blank-written P o b p None y true e h = ap (λ z. Some (written_page P o b p z)) h
-blank-written P o b p (Some page) y true e h = ap (λ z. Some (written_page P o b p z)) h
-blank-written P o b p x y false e h = absurd (false≢true e)
-
-untouched-blank : (P : ℕ) (x y : Option Page) (t : Bool) → t ≡ false
-    → y ≡ (if t && not (is_some x) then Some (blank P) else x) → y ≡ x
-untouched-blank P x y true e h = absurd (false≢true (sym e))
-untouched-blank P x y false e h = h
+-- what the steps of the code leave of the file's entry: e0 as it was, e1 with the bytes, e2 with the size
+pub record WriteParts (P o : ℕ) (b : List ℕ) (e0 e1 e2 : File) : Type 0 where
+  pub laid : IsLaid P o b (o / P) ((o + length b - 1) / P + 1) e0.pages e1.pages
+  pub laid_rest : e1 ≡ record e0 { pages = e1.pages }
+  pub grown : e2 ≡ record e1 { size = max e1.size (o + length b) }
 
 lt_more : (a b : ℕ) → nat_lt a (b + 1) ≡ nat_le a b
 lt_more a b = grind (arith, nat_tests)
 
-module _ {P o : ℕ} {b : List ℕ} {e0 e1 e2 e3 : File} (w : WriteParts P o b e0 e1 e2 e3) where
-  parts-page : (p : ℕ) → finmap.get e3.pages p
+module _ {P o : ℕ} {b : List ℕ} {e0 e1 e2 : File} (w : WriteParts P o b e0 e1 e2) where
+  parts-page : (p : ℕ) → finmap.get e2.pages p
       ≡ (if touches P o (length b) p then Some (written_page P o b p (finmap.get e0.pages p)) else finmap.get e0.pages
       p)
   parts-page p =
-      let last = (o + length b - 1) / P in
-      let final : finmap.get e3.pages p ≡ finmap.get e2.pages p = ap (λ (f : File). finmap.get f.pages p) w.grown in
-      let laid : finmap.get e2.pages p ≡ cond (touches P o (length b) p)
-      (Some (written_page P o b p (finmap.get e1.pages p))) (finmap.get e1.pages p) =
-      w.laid.each p ∙ ap (λ t. cond (nat_le (o / P) p && t) (Some (written_page P o b p (finmap.get e1.pages p)))
-      (finmap.get e1.pages p)) (lt_more p last) in
-      final ∙ laid ∙ elim (touches P o (length b) p) as (λ t. touches P o (length b) p ≡ t
-      → cond t (Some (written_page P o b p (finmap.get e1.pages p))) (finmap.get e1.pages p)
-      ≡ cond t (Some (written_page P o b p (finmap.get e0.pages p))) (finmap.get e0.pages p)) [
-        | true ↦ λ t. blank-written P o b p (finmap.get e0.pages p) (finmap.get e1.pages p) _ t (w.made p)
-        | false ↦ λ t. untouched-blank P (finmap.get e0.pages p) (finmap.get e1.pages p) _ t (w.made p)
-      ] refl
+      ap (λ (f : File). finmap.get f.pages p) w.grown ∙ w.laid.each p
+      ∙ ap (λ t. cond (nat_le (o / P) p && t) (Some (written_page P o b p (finmap.get e0.pages p)))
+      (finmap.get e0.pages p)) (lt_more p ((o + length b - 1) / P))
 
-  pub parts-pages : 0 < P → 0 < length b → e3.pages ≡ written_pages P o b e0.pages
-  parts-pages positive some = same_nat_map e3.pages (written_pages P o b e0.pages)
+  pub parts-pages : 0 < P → 0 < length b → e2.pages ≡ written_pages P o b e0.pages
+  parts-pages positive some = same_nat_map e2.pages (written_pages P o b e0.pages)
       (λ q. parts-page q ∙ sym (get-written_pages P o b e0.pages q))
 
-  pub parts-size : e3.size ≡ max e0.size (o + length b)
+  pub parts-size : e2.size ≡ max e0.size (o + length b)
   parts-size = ap (λ (f : File). f.size) w.grown
-      ∙ ap (λ n. max n (o + length b)) (ap (λ (f : File). f.size) w.laid_rest ∙ ap (λ (f : File). f.size) w.made_rest)
+      ∙ ap (λ n. max n (o + length b)) (ap (λ (f : File). f.size) w.laid_rest)
 
   pub parts-file : 0 < P → 0 < length b
-      → e3 ≡ record e0 { size = max e0.size (o + length b); pages = written_pages P o b e0.pages }
+      → e2 ≡ record e0 { size = max e0.size (o + length b); pages = written_pages P o b e0.pages }
   parts-file positive some =
-      let failures : e3.failures ≡ e0.failures = ap (λ (f : File). f.failures) w.grown
-      ∙ ap (λ (f : File). f.failures) w.laid_rest ∙ ap (λ (f : File). f.failures) w.made_rest in
-      let last_code : e3.last_code ≡ e0.last_code = ap (λ (f : File). f.last_code) w.grown
-      ∙ ap (λ (f : File). f.last_code) w.laid_rest ∙ ap (λ (f : File). f.last_code) w.made_rest in
+      let failures : e2.failures ≡ e0.failures = ap (λ (f : File). f.failures) w.grown
+      ∙ ap (λ (f : File). f.failures) w.laid_rest in
+      let last_code : e2.last_code ≡ e0.last_code = ap (λ (f : File). f.last_code) w.grown
+      ∙ ap (λ (f : File). f.last_code) w.laid_rest in
       λ i. record {
         size = parts-size i;
         failures = failures i;
@@ -135,8 +95,7 @@ module _ {P o : ℕ} {b : List ℕ} {e0 e1 e2 e3 : File} (w : WriteParts P o b e
         pages = parts-pages positive some i;
       }
 
-  pub parts_sized : AreSized P e0.pages → AreSized P e3.pages
+  pub parts_sized : AreSized P e0.pages → AreSized P e2.pages
   parts_sized s =
-      let one = sized_cover P (o / P) ((o + length b - 1) / P) e0.pages e1.pages w.made s in
-      let two = sized_laid P o b (o / P) ((o + length b - 1) / P + 1) e1.pages e2.pages w.laid one in
-      subst (λ (f : File). AreSized P f.pages) (sym w.grown) two
+      let laid = sized_laid P o b (o / P) ((o + length b - 1) / P + 1) e0.pages e1.pages w.laid s in
+      subst (λ (f : File). AreSized P f.pages) (sym w.grown) laid

@@ -16,7 +16,7 @@ use crate::handles::Handles;
 use crate::placing::{count_without_block, place};
 use blockmap::BlockMap;
 use machine::Event;
-use pagestore::{Layout, Pages};
+use pagestore::{Layout, Pages, Span};
 use pc_types::limits::{MAX_FILE_SIZE, MAX_FILES, MAX_HANDLES, MAX_PAGE_SIZE, MAX_TOUCHED};
 use pc_types::{FileId, Geometry, HandleId, PageIndex, Refusal};
 use std::alloc::{AllocError, Global};
@@ -340,8 +340,8 @@ impl CacheCore {
         true
     }
 
-    /// Writes the bytes into a file, which may be made longer. The tests have passed. The blocks and frames are taken
-    /// first, which is all that may fail: a write is done whole or not at all.
+    /// Writes the bytes into a file, which may be made longer. The tests have passed. What may be refused is taken before a byte
+    /// of a cached page changes: a write is done whole or not at all.
     fn write_pages(&mut self, file: u64, offset: u64, bytes: &[u8]) -> Result<(), AllocError>
         requires here { file < length self.old.state.files }
         requires some { 0 < length bytes.now }
@@ -354,19 +354,16 @@ impl CacheCore {
     {
         let page_size = self.geometry.page();
         let end = offset + bytes.len() as u64;
-        let first_page = offset / page_size;
-        let end_page = (end - 1) / page_size + 1;
-        let cached = self.pages.which_cached(file, first_page, end_page);
-        place(
-            &mut self.pages,
-            &mut self.blocks,
+        let span = Span {
             file,
-            first_page,
-            first_page,
-            end_page,
-        )?;
-        self.pages.access_cached(file, first_page, &cached);
-        self.pages.write(file, page_size, offset, bytes);
+            page_size,
+            offset,
+            first: offset / page_size,
+            end: (end - 1) / page_size + 1,
+        };
+        let cached = self.pages.which_cached(file, span.first, span.end);
+        place(&mut self.pages, &mut self.blocks, span, bytes, span.first)?;
+        self.pages.access_cached(file, span.first, &cached);
         let size = self.pages.size(file).max(end);
         self.pages.set_size(file, size);
         Ok(())

@@ -1,15 +1,16 @@
 //! Blocks and frames for the pages of a write.
 
-ghost use Rattle.std.specs.Prelude.{◌≡◌, ◌-◌, ◌<◌, ◌≤◌, OnOk, OnErr, length, not, is_some, count_by};
+ghost use Rattle.std.specs.Prelude.{◌≡◌, ◌+◌, ◌-◌, ◌/◌, ◌<◌, ◌≤◌, OnOk, OnErr, length, not, is_some, count_by};
 ghost use Rattle.std.specs.List.{range_with_len};
 ghost use Rattle.mapping.specs.declared.mapping.TheConstants.{MAX_PAGES};
 ghost use Rattle.blockmap.specs.Blocks.{free_blocks};
 ghost use Rattle.cachecore.specs.Placing.{is_bare, with_placed};
-ghost use Rattle.pagestore.specs.Store.{stored_page, NoneAwaited, AreMade};
+ghost use Rattle.pagestore.specs.Ranges.{AreSized, AreWritten};
+ghost use Rattle.pagestore.specs.Store.{stored_at, stored_page, NoneAwaited};
 
 use blockmap::BlockMap;
-use pagestore::Pages;
-use pc_types::limits::MAX_FILES;
+use pagestore::{Pages, Span};
+use pc_types::limits::{MAX_FILE_SIZE, MAX_FILES, MAX_PAGE_SIZE};
 use pc_types::{FileId, PageIndex};
 use std::alloc::AllocError;
 
@@ -29,43 +30,51 @@ pub fn count_without_block(blocks: &BlockMap, file: u64, first: u64, end: u64) -
     count
 }
 
-/// Gives each page from `next` up to `end` that has no block the lowest free one, and then makes the absent pages from
-/// `first` on as pages of zeros. Where memory is refused, what was given is taken back, the last first. It calls itself
-/// once a page: at most 16 times in a call of the cache (no clause says so).
+/// Gives each page of the span from `next` on that has no block the lowest free one, and then writes the bytes into the span's
+/// pages. Where memory is refused, what was given is taken back, the last first. It calls itself once a page: at most 16
+/// times in a call of the cache (no clause says so).
 pub fn place(
     pages: &mut Pages,
     blocks: &mut BlockMap,
-    file: u64,
-    first: u64,
+    span: Span,
+    bytes: &[u8],
     next: u64,
-    end: u64,
 ) -> Result<(), AllocError>
-    requires file { file < MAX_FILES }
-    requires here { file < length pages.old.files }
-    requires begun { first ≤ next }
-    requires order { next ≤ end }
-    requires below { end ≤ MAX_PAGES }
-    requires idle { NoneAwaited file first end pages.old }
-    requires frames { count_by (λ p. not (is_some (stored_page pages.old file p))) (range_with_len first (end - first)) ≤ pages.old.free }
-    requires room { count_by (is_bare blocks.old file) (range_with_len next (end - next)) ≤ length (free_blocks blocks.old) }
-    ensures placed { OnOk result (blocks.new ≡ with_placed blocks.old file (range_with_len next (end - next))) }
-    ensures made { OnOk result (AreMade file first end pages.old pages.new) }
+    requires file { span.file < MAX_FILES }
+    requires here { span.file < length pages.old.files }
+    requires size { span.page_size ≡ pages.old.page }
+    requires positive { 0 < span.page_size }
+    requires small { span.page_size ≤ MAX_PAGE_SIZE }
+    requires some { 0 < length bytes.now }
+    requires bound { span.offset + length bytes.now ≤ MAX_FILE_SIZE }
+    requires from { span.offset / span.page_size ≤ span.first }
+    requires begun { span.first ≤ next }
+    requires order { next ≤ span.end }
+    requires to { span.end ≤ (span.offset + length bytes.now - 1) / span.page_size + 1 }
+    requires below { span.end ≤ MAX_PAGES }
+    requires sized { AreSized span.page_size (stored_at pages.old span.file).pages }
+    requires idle { NoneAwaited span.file span.first span.end pages.old }
+    requires frames { count_by (λ p. not (is_some (stored_page pages.old span.file p))) (range_with_len span.first (span.end - span.first)) ≤ pages.old.free }
+    requires room { count_by (is_bare blocks.old span.file) (range_with_len next (span.end - next)) ≤ length (free_blocks blocks.old) }
+    ensures placed { OnOk result (blocks.new ≡ with_placed blocks.old span.file (range_with_len next (span.end - next))) }
+    ensures written { OnOk result (AreWritten span.page_size span.file span.offset bytes.now span.first span.end pages.old pages.new) }
     ensures not_placed { OnErr result (blocks.new ≡ blocks.old) }
-    ensures not_made { OnErr result (pages.new ≡ pages.old) }
+    ensures not_written { OnErr result (pages.new ≡ pages.old) }
 {
-    if next == end {
-        return pages.cover(file, first, end);
+    if next == span.end {
+        return pages.write(span, bytes, span.first);
     }
+    let file = FileId(span.file);
     let page = PageIndex(next);
-    if blocks.map(FileId(file), page).is_some() {
-        return place(pages, blocks, file, first, next + 1, end);
+    if blocks.map(file, page).is_some() {
+        return place(pages, blocks, span, bytes, next + 1);
     }
-    if blocks.assign(FileId(file), page).is_err() {
+    if blocks.assign(file, page).is_err() {
         return Err(AllocError);
     }
-    let rest = place(pages, blocks, file, first, next + 1, end);
+    let rest = place(pages, blocks, span, bytes, next + 1);
     if rest.is_err() {
-        let _ = blocks.unassign(FileId(file), page);
+        let _ = blocks.unassign(file, page);
     }
     rest
 }

@@ -1,9 +1,9 @@
 -- Bytes cut into rows: a row read, and a row written.
 use Rattle.std.proofs.Common.{◌≡◌, ◌∙◌, sym, ap, refl, ℕ, zero, suc, ◌+◌, ◌*◌, ◌-◌, ◌<◌, ◌≤◌, List, [], ◌∷◌, ◌++◌, length, take, drop, replicate, slice_set, All, arith, length-append, length-drop}
-use Rattle.std.proofs.lemmas.List.{drop-drop, drop-take, drop-append-le, take-append-le, take-take, take_at, drop_at, take-replicate, drop-replicate, length-take-le, take-append-drop, nil_from_length}
+use Rattle.std.proofs.lemmas.List.{length-replicate, drop-drop, drop-take, drop-append-le, take-append-le, take-take, take_at, drop_at, take-replicate, drop-replicate, length-take-le, take-append-drop, nil_from_length}
 use Rattle.std.proofs.lemmas.Nat.{row_fits}
 use Rattle.std.proofs.lemmas.Grind.{common_steps}
-use Rattle.frames.specs.Rows.{row_at, rows_of, zero_rows, joined, with_row}
+use Rattle.frames.specs.Rows.{row_at, rows_of, zero_rows, joined, with_row, laid}
 
 pub length-rows_of : (s n : ℕ) (bytes : List ℕ) → length (rows_of s n bytes) ≡ n
 length-rows_of s zero bytes = refl
@@ -147,3 +147,8 @@ with_row-whole s rows f bytes all h e =
     ap (λ (xs : List ℕ). rows_of s (length rows) (take (f * s) (joined rows) ++ (bytes ++ xs))) past
     ∙ rows_of-placed s (length rows) (joined rows) f bytes h (length-joined s rows all) e
     ∙ ap (λ (xs : List (List ℕ)). slice_set xs f bytes) (rows_of-joined s rows all)
+
+-- bytes with zeros around them fill a row
+pub length-laid : (s at : ℕ) (bytes : List ℕ) → at + length bytes ≤ s → length (laid s at bytes) ≡ s
+length-laid s at bytes h =
+    simp length-append (omega (arith, length-replicate {A = ℕ} at 0, length-replicate {A = ℕ} (s - (at + length bytes)) 0))

@@ -95,11 +95,11 @@ module _ (lists : Lists) (free referenced : List Bool) (owners : List (Option Ow
   pub absent_inactive : (f : ℕ) → is_some (get_or owners f None) ≡ false → has f lists.inactive ≡ false
   absent_inactive f e = or_right (has f lists.active) (has f lists.inactive) (sym (t.listed f) ∙ e)
 
-  pub tied_taken : (f : ℕ) (o : Owner) (lists' : Lists) (free' : List Bool) (bytes' : Grid) (row : List ℕ) → f < length owners → is_some (get_or owners f None) ≡ false → lists' ≡ record lists { inactive = f ∷ lists.inactive } → free' ≡ slice_set free f false → bytes' ≡ record bytes { rows = slice_set bytes.rows f row } → IsTied lists' free' (slice_set referenced f false) (slice_set owners f (Some o)) bytes'
-  tied_taken f o lists' free' bytes' row h e of_lists of_free of_bytes = record {
+  pub tied_taken : (f : ℕ) (o : Owner) (lists' : Lists) (free' : List Bool) → f < length owners → is_some (get_or owners f None) ≡ false → lists' ≡ record lists { inactive = f ∷ lists.inactive } → free' ≡ slice_set free f false → IsTied lists' free' (slice_set referenced f false) (slice_set owners f (Some o)) bytes
+  tied_taken f o lists' free' h e of_lists of_free = record {
     count = ap (λ (l : Lists). l.count) of_lists ∙ t.count ∙ sym (length-set owners f (Some o));
     flags = length-set referenced f false ∙ t.flags ∙ sym (length-set owners f (Some o));
-    rows = ap (λ (g : Grid). length g.rows) of_bytes ∙ length-set bytes.rows f row ∙ t.rows ∙ sym (length-set owners f (Some o));
+    rows = t.rows ∙ sym (length-set owners f (Some o));
     bound = omega (arith, t.bound, length-set owners f (Some o));
     unowned = of_free ∙ ap (λ (bs : List Bool). slice_set bs f false) t.unowned ∙ sym (map-set is_none owners f (Some o));
     listed = λ g. elim (cases_eq g f) [
@@ -222,6 +222,19 @@ module _ (lists : Lists) (free referenced : List Bool) (owners : List (Option Ow
           | inl s ↦ absurd (false≢true (sym (ap (λ (n : ℕ). has n (without f lists.active)) s ∙ has-without_same f lists.active) ∙ in_active))
           | inr ne ↦ has-other g f lists.inactive (λ k. ne (sym k)) ∙ t.apart g (sym (has-without_other f g lists.active ne) ∙ in_active)
         ];
+  }
+
+  pub tied_laid : (f : ℕ) (row : List ℕ) (bytes' : Grid) → bytes' ≡ record bytes { rows = slice_set bytes.rows f row } → IsTied lists free referenced owners bytes'
+  tied_laid f row bytes' e = record {
+    count = t.count;
+    flags = t.flags;
+    rows = ap (λ (g : Grid). length g.rows) e ∙ length-set bytes.rows f row ∙ t.rows;
+    bound = t.bound;
+    unowned = t.unowned;
+    listed = t.listed;
+    active_once = t.active_once;
+    inactive_once = t.inactive_once;
+    apart = t.apart;
   }
 
   pub tied_lent : (f : ℕ) (w : List ℕ) → IsTied lists free referenced owners (record { size = bytes.size; rows = with_row bytes.size bytes.rows f w })

@@ -1,5 +1,5 @@
 -- The bytes of frames, one row a frame.
-use Rattle.std.specs.Prelude.{ℕ, zero, suc, List, [], ◌∷◌, ◌++◌, ◌*◌, length, take, drop, replicate, slice_index_or}
+use Rattle.std.specs.Prelude.{ℕ, zero, suc, List, [], ◌∷◌, ◌++◌, ◌+◌, ◌-◌, ◌*◌, length, take, drop, replicate, slice_index_or}
 
 -- the bytes of a frame
 abbrev pub row_at : List (List ℕ) → ℕ → List ℕ
@@ -13,6 +13,10 @@ pub record Grid : Type 0 where
 -- rows of zeros
 abbrev pub zero_rows : ℕ → ℕ → List (List ℕ)
 zero_rows size count = replicate count (replicate size 0)
+
+-- bytes from `at` on, and zeros around them
+abbrev pub laid : ℕ → ℕ → List ℕ → List ℕ
+laid size at bytes = replicate at 0 ++ bytes ++ replicate (size - (at + length bytes)) 0
 
 -- bytes, cut into `count` rows
 abbrev pub rows_of : ℕ → ℕ → List ℕ → List (List ℕ)

@@ -56,13 +56,17 @@ pub record IsLowestFree (t : Table) (f : ℕ) : Type 0 where
   pub here : is_taken t f ≡ false
   pub lower : (g : ℕ) → g < f → is_taken t g ≡ true
 
--- a frame is taken: zeros, at the inactive head, unreferenced, and not set aside
+-- a frame is taken: at the inactive head, unreferenced, and not set aside. Its bytes stay
 abbrev pub taken : Table → ℕ → FileId × PageIndex → Table
-taken t f owner = record t { inactive = f ∷ t.inactive; referenced = slice_set t.referenced f false; aside = slice_set t.aside f false; owners = slice_set t.owners f (Some owner); bytes = slice_set t.bytes f (replicate t.size 0) }
+taken t f owner = record t { inactive = f ∷ t.inactive; referenced = slice_set t.referenced f false; aside = slice_set t.aside f false; owners = slice_set t.owners f (Some owner) }
 
 -- a frame leaves its list and is free
 abbrev pub given : Table → ℕ → Table
 given t f = record t { active = without f t.active; inactive = without f t.inactive; referenced = slice_set t.referenced f false; owners = slice_set t.owners f None }
+
+-- a frame has these bytes
+abbrev pub with_bytes : Table → ℕ → List ℕ → Table
+with_bytes t f row = record t { bytes = slice_set t.bytes f row }
 
 -- a frame is accessed. inactive, unreferenced: referenced. inactive, referenced: to the active head, unreferenced. active: referenced
 abbrev pub accessed : Table → ℕ → Table

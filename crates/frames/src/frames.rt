@@ -1,9 +1,9 @@
 //! The table of frames.
 
-ghost use Rattle.std.specs.Prelude.{◌≡◌, ◌==◌, ℕ, ◌+◌, ◌<◌, true, not, cond, find, length, reverse, option_map, All, IfOk, OnErr, IsOkUnless};
-ghost use Rattle.frames.specs.Table.{new_table, IsSound, IsLowestFree, is_taken, is_aside, owner_of, free_frames, taken, given, accessed, aged, kept, scan_order, set_aside, put_back};
+ghost use Rattle.std.specs.Prelude.{◌≡◌, ◌==◌, ℕ, ◌+◌, ◌<◌, ◌≤◌, true, not, cond, find, length, reverse, option_map, All, IfOk, OnErr, IsOkUnless};
+ghost use Rattle.frames.specs.Table.{new_table, IsSound, IsLowestFree, is_taken, is_aside, owner_of, free_frames, taken, given, with_bytes, accessed, aged, kept, scan_order, set_aside, put_back};
 ghost use Rattle.frames.specs.Lists.{IsFirstPassing};
-ghost use Rattle.frames.specs.Rows.{row_at};
+ghost use Rattle.frames.specs.Rows.{row_at, laid};
 
 use crate::free_map::FreeMap;
 use crate::lists::PageLists;
@@ -80,7 +80,7 @@ impl Frames {
         self.free.len() as u64
     }
 
-    /// Takes the lowest free frame for a page: zeros, at the inactive head, unreferenced.
+    /// Takes the lowest free frame for a page: at the inactive head, unreferenced, with the bytes that it had.
     pub fn take(&mut self, file: FileId, page: PageIndex) -> Result<FrameId, Refusal>
         ensures lowest { IfOk result (λ frame. IsLowestFree self.old frame.0) }
         ensures taken { IfOk result (λ frame. self.new ≡ taken self.old frame.0 (file, page)) }
@@ -97,7 +97,6 @@ impl Frames {
         self.referenced[frame] = false;
         self.aside[frame] = false;
         self.owners[frame] = Some((file, page));
-        self.bytes.clear(frame as u32);
         Ok(FrameId(frame as u32))
     }
 
@@ -143,6 +142,15 @@ impl Frames {
         ensures within { frame.0 < length self.old.bytes }
     {
         self.bytes.get_mut(frame.0)
+    }
+
+    /// Writes each byte of a frame: these from `at` on, and zeros around them.
+    pub fn lay(&mut self, frame: FrameId, at: usize, bytes: &[u8])
+        requires taken { is_taken self.old frame.0 ≡ true }
+        requires inside { at + length bytes.now ≤ self.old.size }
+        ensures { self.new ≡ with_bytes self.old frame.0 (laid self.old.size at bytes.now) }
+    {
+        self.bytes.lay(frame.0, at, bytes);
     }
 
     /// Notes that a frame's page was read or written, as mark_page_accessed of Linux does:

@@ -1,7 +1,7 @@
 //! The bytes of all frames: one vector, row after row.
 
-ghost use Rattle.std.specs.Prelude.{◌≡◌, ◌<◌, length, replicate, slice_set, All, IfOk, IsOkUnless};
-ghost use Rattle.frames.specs.Rows.{row_at, zero_rows};
+ghost use Rattle.std.specs.Prelude.{◌≡◌, ◌+◌, ◌<◌, ◌≤◌, length, slice_set, All, IfOk, IsOkUnless};
+ghost use Rattle.frames.specs.Rows.{row_at, zero_rows, laid};
 
 use pc_types::Refusal;
 use std::alloc::Global;
@@ -73,11 +73,23 @@ impl Rows {
         self.bytes.slice_mut(start..end)
     }
 
-    /// Fills a row with zeros.
-    pub(crate) fn clear(&mut self, row: u32)
-        requires { row < length self.old.rows }
-        ensures { self.new ≡ record self.old { rows = slice_set self.old.rows row (replicate self.old.size 0) } }
+    /// Writes each byte of a row: these from `at` on, and zeros around them.
+    pub(crate) fn lay(&mut self, row: u32, at: usize, bytes: &[u8])
+        requires within { row < length self.old.rows }
+        requires inside { at + length bytes.now ≤ self.old.size }
+        ensures { self.new ≡ record self.old { rows = slice_set self.old.rows row (laid self.old.size at bytes.now) } }
     {
-        self.get_mut(row).fill(0);
+        lay(self.get_mut(row), at, bytes);
     }
+}
+
+/// Writes each byte of `out`: these from `at` on, and zeros around them.
+fn lay(out: &mut [u8], at: usize, bytes: &[u8])
+    requires { at + length bytes.now ≤ length out.old }
+    ensures { out.new ≡ laid (length out.old) at bytes.now }
+{
+    let end = at + bytes.len();
+    out[..at].fill(0);
+    out[at..end].copy_from_slice(bytes);
+    out[end..].fill(0);
 }

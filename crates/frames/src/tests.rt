@@ -106,7 +106,7 @@ fn page_lists_row_by_row(rt: HostRuntime) -> Result<(), Fail> {
 }
 
 #[test]
-fn a_new_page_is_zeros(rt: HostRuntime) -> Result<(), Fail> {
+fn a_frame_keeps_its_bytes_until_it_is_laid(rt: HostRuntime) -> Result<(), Fail> {
     let mut frames = Frames::new(rt.alloc(), &Geometry::new(16, 48, 16, 64)?)?;
     for page in 0..2 {
         let frame = frames.take(FileId(0), PageIndex(page))?;
@@ -116,11 +116,15 @@ fn a_new_page_is_zeros(rt: HostRuntime) -> Result<(), Fail> {
     expect_taken(&rt, &frames, FrameId(0));
     assert_eq!(rt; frames.bytes(FrameId(0)).len(), 16);
     put(&mut frames, FrameId(0), &[1; 16]);
-    assert_eq!(rt; frames.bytes(FrameId(0)), [1; 16].as_slice());
     give(&rt, &mut frames, 0);
     assert_takes(&rt, &mut frames, 2, 0);
     expect_taken(&rt, &frames, FrameId(0));
-    assert_eq!(rt; frames.bytes(FrameId(0)), [0; 16].as_slice());
+    assert_eq!(rt; frames.bytes(FrameId(0)), [1; 16].as_slice());
+    frames.lay(FrameId(0), 13, &[5, 6]);
+    assert_eq!(rt;
+        frames.bytes(FrameId(0)),
+        [0, 0, 0, 0, 0, 0, 0, 0, 0, 0, 0, 0, 0, 5, 6, 0].as_slice()
+    );
     expect_taken(&rt, &frames, FrameId(1));
     assert_eq!(rt; frames.bytes(FrameId(1)), [9; 16].as_slice());
     Ok(())

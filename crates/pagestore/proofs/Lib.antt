@@ -24,4 +24,5 @@ pub mod PairLemmas
 pub mod ReadLemmas
 pub mod OnePage
 pub mod RangeLemmas
+pub mod NewPages
 pub mod PowerLaws

@@ -94,6 +94,14 @@ part_of_page P o p b (Some page) d some size above below full positive =
       tags = record page.tags { dirty = true };
     }
 
+-- the same with the place and the part as the code has them
+pub written_part : (P o p at : ℕ) (b part : List ℕ) (o? : Option Page) (d : Page) → at ≡ o - p * P
+    → part ≡ slice_range b (p * P - o) (min (length b) (p * P + P - o)) → is_some o? ≡ true
+    → length (unwrap_or o? d).bytes ≡ P → o < p * P + P → p * P < o + length b → 0 < length b → 0 < P
+    → with_part (unwrap_or o? d) at part ≡ written_page P o b p o?
+written_part P o p at b part o? d at_is part_is some size above below full positive =
+    (λ i. with_part (unwrap_or o? d) (at_is i) (part_is i)) ∙ part_of_page P o p b o? d some size above below full positive
+
 -- the page that stands there after the part is put in, with the numbers as the code has them
 pub part_by_code : (P o p at from to : ℕ) (b : List ℕ) (first : ℕ) (old mid : FinMap nat_cmp Page) → at ≡ o - p * P
     → from ≡ p * P - o → to ≡ min (length b) (p * P + P - o)

@@ -15,10 +15,10 @@ use Rattle.std.proofs.lemmas.List.{length-set, set-get_or, set-set}
 use Rattle.std.proofs.lemmas.List.Sums.{sum_by-cons}
 use Rattle.pc_types.specs.Tags.{no_tags}
 use Rattle.machine.specs.State.{File, Page, no_file}
-use Rattle.pagestore.specs.Store.{the_page, blank, Store, stored_at, stored_page, is_awaited, with_pages, with_lists}
-use Rattle.pagestore.specs.Store.{AreMade}
+use Rattle.pagestore.specs.Store.{the_page, Store, stored_at, stored_page, is_awaited, with_pages, with_lists}
+use Rattle.pagestore.specs.Store.{absent_pages}
 use Rattle.machine.specs.Changes.{written_page}
-use Rattle.pagestore.specs.Ranges.{IsLaid, AreRead}
+use Rattle.pagestore.specs.Ranges.{AreRead, AreSized, AreWritten, IsLaid}
 use Rattle.machine.specs.PageLists.{is_listed, entered, left, each_entered}
 use Rattle.machine.proofs.changes.StateLaws.{get_or-set}
 use Rattle.pagestore.proofs.ListedFrames.{left_entered}
@@ -99,30 +99,25 @@ le_next first q e = grind (arith, nat_tests)
 nothing_between : (first q : ℕ) → (nat_le first q && nat_lt q first) ≡ false
 nothing_between first q = grind (arith, nat_tests)
 
-nothing_yet : (first p : ℕ) → (nat_le first p && nat_lt p p) ≡ false
-nothing_yet first p = grind (arith, nat_tests)
-
 not_yet : (first : ℕ) → nat_le (first + 1) first ≡ false
 not_yet first = grind (arith, nat_tests)
 
 in_turn : (first end : ℕ) → first < end → (nat_le first first && nat_lt first end) ≡ true
 in_turn first end h = grind (arith, nat_tests)
 
-never : (b : Bool) (x y : Option Page) → (if b && false then x else y) ≡ y
-never true x y = refl
-never false x y = refl
-
-split : (a b c : Bool) (x y : Option Page) → (if a && b && c then x else y) ≡ (if (a && b) && c then x else y)
-split true b c x y = refl
-split false b c x y = refl
-
 abbrev absent : Store → ℕ → ℕ → Bool
 absent s f p = not (is_some (stored_page s f p))
 
-pub made_none : (s : Store) (f p : ℕ) → AreMade f p p s s
-made_none s f p = record {
-  each = λ q. sym (split (nat_le p q) (nat_lt q p) (absent s f q) (Some (blank s.page)) (stored_page s f q)
-      ∙ ap (λ b. if b && absent s f q then Some (blank s.page) else stored_page s f q) (nothing_between p q));
+pub laid_none : (P o : ℕ) (b : List ℕ) (first : ℕ) (old : FinMap nat_cmp Page) → IsLaid P o b first first old old
+laid_none P o b first old =
+    record {
+      each = λ q. ap (λ t. if t then Some (written_page P o b q (finmap.get old q)) else finmap.get old q)
+          (sym (nothing_between first q));
+    }
+
+pub written_none : (P f o p : ℕ) (b : List ℕ) (s : Store) → AreWritten P f o b p p s s
+written_none P f o p b s = record {
+  pages = laid_none P o b p (stored_at s f).pages;
   rest = sym (with-itself s f) ∙ ap
       (λ ps. with_lists (with_pages s f (stored_at s f).pages s.free) (each_entered f ps s.lists))
       (sym (none_between (absent s f) p));
@@ -130,8 +125,35 @@ made_none s f p = record {
       ap (λ n. count_by (absent s f) (range_with_len p n)) none in omega (arith, count);
 }
 
-module _ (f first end : ℕ) (old : Store) (less : first < end) where
-  -- a page that is there is passed over
+-- the first page takes what it has after the write, and those after it are written
+laid_first : (P o : ℕ) (b : List ℕ) (first end : ℕ) (old rest new : FinMap nat_cmp Page) (page : Option Page)
+    → first < end → Some (written_page P o b first (finmap.get old first)) ≡ page
+    → ((q : ℕ) → finmap.get new q ≡ cond (eqb q first) page (finmap.get rest q))
+    → ((q : ℕ) → eqb q first ≡ false → finmap.get rest q
+    ≡ (if nat_le (first + 1) q && nat_lt q end then Some (written_page P o b q (finmap.get old q)) else finmap.get old q))
+    → IsLaid P o b first end old new
+laid_first P o b first end old rest new page less is here after = record {
+  each = λ q. here q ∙ elim (eqb q first) as (λ t. eqb q first ≡ t → cond t page (finmap.get rest q)
+      ≡ (if nat_le first q && nat_lt q end then Some (written_page P o b q (finmap.get old q)) else finmap.get old q)) [
+        | true ↦ λ e. sym is ∙ sym
+            (ap (λ n. if nat_le first n && nat_lt n end then Some (written_page P o b n (finmap.get old n)) else
+            finmap.get old n) (eqb-true q first e)
+            ∙ ap (λ t. if t then Some (written_page P o b first (finmap.get old first)) else finmap.get old first)
+            (in_turn first end less))
+        | false ↦ λ e. after q e ∙ ap (λ t. if t && nat_lt q end then Some (written_page P o b q (finmap.get old q)) else
+            finmap.get old q) (le_next first q e)
+      ] refl;
+}
+
+-- a page of P bytes, where there is one
+abbrev Sized : ℕ → Option Page → Type 0
+Sized P o = is_some o ≡ true → length (unwrap_or {T = Page} o (record { bytes = []; tags = no_tags })).bytes ≡ P
+
+module _ (P f o : ℕ) (b : List ℕ) (first end : ℕ) (old : Store) (less : first < end) (here : f < length old.files) where
+  abbrev were : FinMap nat_cmp Page
+  were = (stored_at old f).pages
+
+  -- a page that is there is written once the pages after it are
   module _ (there : is_some (stored_page old f first) ≡ true) where
     none_here : ◌≡◌ {A = ℕ} (cond (absent old f first) 1 0) 0
     none_here = ap (λ b. cond (not b) 1 0) there
@@ -140,55 +162,67 @@ module _ (f first end : ℕ) (old : Store) (less : first < end) where
         (range_with_len (first + 1) (end - (first + 1)))
     room_past = omega (arith, count-first (absent old f) first end less, none_here)
 
-    pub made_past : (new : Store) → AreMade f (first + 1) end old new → AreMade f first end old new
-    made_past new h = record {
-      each = λ q. h.each q ∙ elim (eqb q first) as (λ b. eqb q first ≡ b
-          → (if nat_le (first + 1) q && nat_lt q end && absent old f q then Some (blank old.page) else stored_page old f
-          q) ≡ (if nat_le first q && nat_lt q end && absent old f q then Some (blank old.page) else stored_page old f
-          q)) [
-            | true ↦ λ e. both_ways q (ap (λ n. is_some (stored_page old f n)) (eqb-true q first e) ∙ there)
-            | false ↦ λ e. ap (λ b. if b && nat_lt q end && absent old f q then Some (blank old.page) else stored_page old f
-                q) (le_next first q e)
-          ] refl;
-      rest = h.rest ∙ ap (λ ps. with_lists (with_pages old f (stored_at new f).pages new.free)
-          (each_entered f ps old.lists))
-          (sym (absent_after (absent old f) first end less
-          ∙ ap (λ b. cond (not b) (first ∷ filter (absent old f) (range_with_len (first + 1) (end - (first + 1))))
-          (filter (absent old f) (range_with_len (first + 1) (end - (first + 1))))) there));
-      fewer = h.fewer ∙ ap (λ n. old.free - n) (sym room_past);
-    }
-      where
-        both_ways : (q : ℕ) → is_some (stored_page old f q) ≡ true
-            → (if nat_le (first + 1) q && nat_lt q end && absent old f q then Some (blank old.page) else stored_page old
-            f q) ≡ (if nat_le first q && nat_lt q end && absent old f q then Some (blank old.page) else stored_page old
-            f q)
-        both_ways q e =
-            let x = Some (blank old.page) in
-            let y = stored_page old f q in
-            split (nat_le (first + 1) q) (nat_lt q end) (absent old f q) x y
-            ∙ ap (λ b. if (nat_le (first + 1) q && nat_lt q end) && not b then x else y) e
-            ∙ never (nat_le (first + 1) q && nat_lt q end) x y
-            ∙ sym (split (nat_le first q) (nat_lt q end) (absent old f q) x y
-            ∙ ap (λ b. if (nat_le first q && nat_lt q end) && not b then x else y) e
-            ∙ never (nat_le first q && nat_lt q end) x y)
+    same_absent_past : absent_pages old f first end ≡ absent_pages old f (first + 1) end
+    same_absent_past = absent_after (absent old f) first end less
+        ∙ ap (λ b. cond (not b) (first ∷ absent_pages old f (first + 1) end) (absent_pages old f (first + 1) end)) there
+
+    module _ (mid : Store) (h : AreWritten P f o b (first + 1) end old mid) where
+      mid_first : finmap.get (stored_at mid f).pages first ≡ finmap.get were first
+      mid_first = h.pages.each first
+          ∙ ap (λ t. if t && nat_lt first end then Some (written_page P o b first (finmap.get were first)) else
+          finmap.get were first) (not_yet first)
+
+      rest_here : f < length mid.files
+      rest_here = omega (
+        arith,
+        here,
+        ap (λ (s : Store). length s.files) h.rest,
+        length-with old f (stored_at mid f).pages mid.free,
+      )
+
+      pub rest_page : the_page (stored_at mid f).pages first ≡ the_page were first
+      rest_page = ap (λ (o : Option Page). unwrap_or o (record { bytes = []; tags = no_tags })) mid_first
+
+      pub written_past : (page : Page) (new : Store) → page ≡ written_page P o b first (finmap.get were first)
+          → new ≡ with_pages mid f (finmap.insert (stored_at mid f).pages first page) mid.free
+          → AreWritten P f o b first end old new
+      written_past page new is new_is =
+          let now = finmap.insert (stored_at mid f).pages first page in
+          let pages_now : (stored_at new f).pages ≡ now = ap (λ (s : Store). (stored_at s f).pages) new_is
+          ∙ pages-with mid f rest_here now mid.free in
+          let free : new.free ≡ mid.free = ap (λ (s : Store). s.free) new_is in
+          record {
+            pages = laid_first P o b first end were (stored_at mid f).pages (stored_at new f).pages (Some page) less
+                (ap Some (sym is))
+                (λ q. ap (λ (m : FinMap nat_cmp Page). finmap.get m q) pages_now
+                ∙ get-insert_nat (stored_at mid f).pages first page q)
+                (λ q e. h.pages.each q);
+            rest =
+                new_is
+                ∙ ap (λ (s : Store). with_pages s f now mid.free) h.rest
+                ∙ ap (λ (s : Store). with_lists s (each_entered f (absent_pages old f (first + 1) end) old.lists))
+                (with-with old f here (stored_at mid f).pages now mid.free mid.free)
+                ∙ (λ i. with_lists (with_pages old f (sym pages_now i) (sym free i))
+                (each_entered f (sym same_absent_past i) old.lists));
+            fewer = free ∙ h.fewer ∙ ap (λ n. old.free - n) (sym room_past);
+          }
 
   -- one that is absent is made
-  module _ (here : f < length old.files) (gone : stored_page old f first ≡ None) (room : 0 < old.free) (mid : Store)
-      (is : mid ≡ with_lists (with_pages old f (finmap.insert (stored_at old f).pages first (blank old.page))
-      (old.free - 1)) (entered f first old.lists)) where
-    mid_page : (q : ℕ) → stored_page mid f q ≡ cond (eqb q first) (Some (blank old.page)) (stored_page old f q)
+  module _ (gone : stored_page old f first ≡ None) (room : 0 < old.free) (page : Page) (mid : Store)
+      (is : mid ≡ with_lists (with_pages old f (finmap.insert (stored_at old f).pages first page) (old.free - 1))
+      (entered f first old.lists)) where
+    mid_page : (q : ℕ) → stored_page mid f q ≡ cond (eqb q first) (Some page) (stored_page old f q)
     mid_page q =
         ap (λ (s : Store). stored_page s f q) is
         ∙ ap (λ (m : FinMap nat_cmp Page). finmap.get m q)
-        (pages-with old f here (finmap.insert (stored_at old f).pages first (blank old.page)) (old.free - 1))
-        ∙ get-insert_nat (stored_at old f).pages first (blank old.page) q
+        (pages-with old f here (finmap.insert (stored_at old f).pages first page) (old.free - 1))
+        ∙ get-insert_nat (stored_at old f).pages first page q
 
     mid_other : (q : ℕ) → eqb q first ≡ false → stored_page mid f q ≡ stored_page old f q
-    mid_other q e = mid_page q ∙ ap (λ b. cond b (Some (blank old.page)) (stored_page old f q)) e
+    mid_other q e = mid_page q ∙ ap (λ b. cond b (Some page) (stored_page old f q)) e
 
-    pub mid_first : stored_page mid f first ≡ Some (blank old.page)
-    mid_first = mid_page first ∙ ap (λ b. cond b (Some (blank old.page)) (stored_page old f first))
-        (eq-eqb first first refl)
+    made_first : stored_page mid f first ≡ Some page
+    made_first = mid_page first ∙ ap (λ b. cond b (Some page) (stored_page old f first)) (eq-eqb first first refl)
 
     pub mid_here : f < length mid.files
     mid_here =
@@ -196,14 +230,23 @@ module _ (f first end : ℕ) (old : Store) (less : first < end) where
           arith,
           here,
           ap (λ (s : Store). length s.files) is,
-          length-with old f (finmap.insert (stored_at old f).pages first (blank old.page)) (old.free - 1),
+          length-with old f (finmap.insert (stored_at old f).pages first page) (old.free - 1),
         )
 
+    pub mid_size : mid.page ≡ old.page
+    mid_size = ap (λ (s : Store). s.page) is
+
     pub mid_cached : is_some (stored_page mid f first) ≡ true
-    mid_cached = ap is_some mid_first
+    mid_cached = ap is_some made_first
 
     pub mid_idle : (q : ℕ) → is_awaited mid f q ≡ is_awaited old f q
     mid_idle q = ap (λ (s : Store). is_awaited s f q) is
+
+    pub mid_sized : length page.bytes ≡ P → AreSized P (stored_at old f).pages → AreSized P (stored_at mid f).pages
+    mid_sized long s = record {
+      each = λ q. subst (Sized P) (sym (mid_page q)) (elim (eqb q first) as (λ b. Sized P (cond b (Some page) (stored_page old f q)))
+          [ true ↦ λ _. long | false ↦ s.each q ]);
+    }
 
     past_first : (q : ℕ) → first + 1 ≤ q → eqb q first ≡ false
     past_first q h = grind (arith, nat_tests)
@@ -235,15 +278,17 @@ module _ (f first end : ℕ) (old : Store) (less : first < end) where
         → count_by (absent mid f) (range_with_len (first + 1) (end - (first + 1))) ≤ mid.free
     mid_room h = omega (arith, h, count-first (absent old f) first end less, one_here, same_count, mid_free)
 
-    pub made_more : (new : Store) → AreMade f (first + 1) end mid new → AreMade f first end old new
-    made_more new h = record {
-      each = λ q. h.each q ∙ elim (eqb q first) as (λ b. eqb q first ≡ b
-          → (if nat_le (first + 1) q && nat_lt q end && absent mid f q then Some (blank mid.page) else stored_page mid f
-          q) ≡ (if nat_le first q && nat_lt q end && absent old f q then Some (blank old.page) else stored_page old f
-          q)) [
-            | true ↦ λ e. at_first q (eqb-true q first e)
-            | false ↦ λ e. elsewhere q e
-          ] refl;
+    pub written_more : page ≡ written_page P o b first None → (new : Store) → AreWritten P f o b (first + 1) end mid new
+        → AreWritten P f o b first end old new
+    written_more page_is new h = record {
+      pages = laid_first P o b first end were (stored_at new f).pages (stored_at new f).pages
+          (finmap.get (stored_at new f).pages first) less
+          (ap (λ (x : Option Page). Some (written_page P o b first x)) gone ∙ ap Some (sym page_is) ∙ sym made_first
+          ∙ sym (h.pages.each first ∙ ap (λ t. if t && nat_lt first end then Some (written_page P o b first
+          (stored_page mid f first)) else stored_page mid f first) (not_yet first)))
+          (λ q. same_at q (eqb q first) refl)
+          (λ q e. h.pages.each q ∙ ap (λ x. if nat_le (first + 1) q && nat_lt q end then Some (written_page P o b q x) else
+          x) (mid_other q e));
       rest =
           h.rest
           ∙ (λ i. with_lists (with_pages (is i) f (stored_at new f).pages new.free)
@@ -251,68 +296,35 @@ module _ (f first end : ℕ) (old : Store) (less : first < end) where
           ∙ ap (λ (s : Store). with_lists s
           (each_entered f (filter (absent old f) (range_with_len (first + 1) (end - (first + 1))))
           (entered f first old.lists))) (with-with old f here
-          (finmap.insert (stored_at old f).pages first (blank old.page)) (stored_at new f).pages (old.free - 1)
+          (finmap.insert (stored_at old f).pages first page) (stored_at new f).pages (old.free - 1)
           new.free)
           ∙ ap (λ ps. with_lists (with_pages old f (stored_at new f).pages new.free) (each_entered f ps old.lists))
           (sym first_absent);
       fewer = omega (arith, h.fewer, mid_free, same_count, count-first (absent old f) first end less, one_here);
     }
       where
-        mid_size : mid.page ≡ old.page
-        mid_size = ap (λ (s : Store). s.page) is
-
-        at_first : (q : ℕ) → q ≡ first
-            → (if nat_le (first + 1) q && nat_lt q end && absent mid f q then Some (blank mid.page) else stored_page mid
-            f q) ≡ (if nat_le first q && nat_lt q end && absent old f q then Some (blank old.page) else stored_page old
-            f q)
-        at_first q e =
-            ap (λ n. if nat_le (first + 1) n && nat_lt n end && absent mid f n then Some (blank mid.page) else
-            stored_page mid f n) e
-            ∙ ap (λ b. if b && nat_lt first end && absent mid f first then Some (blank mid.page) else stored_page mid f
-            first) (not_yet first)
-            ∙ mid_first
-            ∙ sym (
-            ap (λ n. if nat_le first n && nat_lt n end && absent old f n then Some (blank old.page) else stored_page old
-            f n) e
-            ∙ split (nat_le first first) (nat_lt first end) (absent old f first) (Some (blank old.page))
-            (stored_page old f first)
-            ∙ ap (λ b. if b && absent old f first then Some (blank old.page) else stored_page old f first)
-            (in_turn first end less)
-            ∙ ap (λ (o : Option Page). if not (is_some o) then Some (blank old.page) else stored_page old f first) gone)
-
-        elsewhere : (q : ℕ) → eqb q first ≡ false
-            → (if nat_le (first + 1) q && nat_lt q end && absent mid f q then Some (blank mid.page) else stored_page mid
-            f q) ≡ (if nat_le first q && nat_lt q end && absent old f q then Some (blank old.page) else stored_page old
-            f q)
-        elsewhere q e =
-            let same = mid_other q e in
-            let next = le_next first q e in
-            λ i. if next i && nat_lt q end && not (is_some (same i)) then Some (blank (mid_size i)) else same i
+        same_at : (q : ℕ) (t : Bool) → eqb q first ≡ t → finmap.get (stored_at new f).pages q
+            ≡ cond t (finmap.get (stored_at new f).pages first) (finmap.get (stored_at new f).pages q)
+        same_at q true e = ap (finmap.get (stored_at new f).pages) (eqb-true q first e)
+        same_at q false e = refl
 
     -- and taken away again
     pub unmade : is_listed f first old.lists ≡ false → (new : Store)
         → new ≡ with_lists (with_pages mid f (finmap.remove (stored_at mid f).pages first) (mid.free + 1))
         (left f first mid.lists) → new ≡ old
     unmade unlisted new e =
-        let pages = finmap.insert (stored_at old f).pages first (blank old.page) in
-        let mid_pages : (stored_at mid f).pages ≡ pages = ap (λ (s : Store). (stored_at s f).pages) is
-        ∙ pages-with old f here pages (old.free - 1) in
+        let made = finmap.insert (stored_at old f).pages first page in
+        let mid_pages : (stored_at mid f).pages ≡ made = ap (λ (s : Store). (stored_at s f).pages) is
+        ∙ pages-with old f here made (old.free - 1) in
         let back : finmap.remove (stored_at mid f).pages first ≡ (stored_at old f).pages =
         ap (λ (m : FinMap nat_cmp Page). finmap.remove m first) mid_pages
-        ∙ taken_back (stored_at old f).pages first (blank old.page) gone in
+        ∙ taken_back (stored_at old f).pages first page gone in
         let free : mid.free + 1 ≡ old.free = omega (arith, mid_free, room) in
         e ∙ (λ i. with_lists (with_pages (is i) f (back i) (free i)) (left f first (is i).lists))
-        ∙ (λ i. with_lists (with-with old f here pages (stored_at old f).pages (old.free - 1) old.free i)
+        ∙ (λ i. with_lists (with-with old f here made (stored_at old f).pages (old.free - 1) old.free i)
         (left_entered f first old.lists unlisted i)) ∙ with-itself old f
 
 -- ---- a range is written or read
-
--- the page that comes next is as it was
-pub laid_at : (P o : ℕ) (b : List ℕ) (first p : ℕ) (old mid : FinMap nat_cmp Page) → IsLaid P o b first p old mid
-    → finmap.get mid p ≡ finmap.get old p
-laid_at P o b first p old mid h =
-    h.each p ∙ ap (λ t. if t then Some (written_page P o b p (finmap.get old p)) else finmap.get old p)
-    (nothing_yet first p)
 
 pub some_page : (m : FinMap nat_cmp Page) (p : ℕ) → is_some (finmap.get m p) ≡ true
     → Some (the_page m p) ≡ finmap.get m p
@@ -320,22 +332,6 @@ some_page m p h =
     elim (finmap.get m p) as (λ o. is_some o ≡ true
     → Some (unwrap_or {T = Page} o (record { bytes = []; tags = no_tags })) ≡ o)
     [ None ↦ λ e. absurd (false≢true e) | Some page ↦ λ e. refl ] h
-
-pub rest_step : (old mid : Store) (f : ℕ) (m n : FinMap nat_cmp Page) → f < length old.files
-    → mid ≡ with_pages old f m old.free → with_pages mid f n mid.free ≡ with_pages old f n old.free
-rest_step old mid f m n here e = ap (λ (s : Store). with_pages s f n s.free) e
-    ∙ with-with old f here m n old.free old.free
-
-pub rest_here : (old mid : Store) (f : ℕ) (m : FinMap nat_cmp Page) → f < length old.files
-    → mid ≡ with_pages old f m old.free → f < length mid.files
-rest_here old mid f m here e = omega (arith, here, ap (λ (s : Store). length s.files) e, length-with old f m old.free)
-
-pub laid_none : (P o : ℕ) (b : List ℕ) (first : ℕ) (old : FinMap nat_cmp Page) → IsLaid P o b first first old old
-laid_none P o b first old =
-    record {
-      each = λ q. ap (λ t. if t then Some (written_page P o b q (finmap.get old q)) else finmap.get old q)
-          (sym (nothing_between first q));
-    }
 
 pub read_none : (P o : ℕ) (pages : FinMap nat_cmp Page) (out : List ℕ) → AreRead P o pages (o / P * P - o) out
 read_none P o pages out = record { each = λ i h k. absurd (omega (arith, h, div-mul-le_self o P)) }

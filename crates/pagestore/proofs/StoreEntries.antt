@@ -129,6 +129,18 @@ taken_back m k v e =
     same_nat_map _ _ (λ q. get-remove_nat (finmap.insert m k v) k q ∙ ap (cond (eqb q k) None) (get-insert_nat m k v q)
     ∙ gone_again m k e v q (eqb q k) refl)
 
+-- what is put in twice is put in once
+pub insert-twice : {X : Type 0} (m : FinMap nat_cmp X) (k : ℕ) (v w : X)
+    → finmap.insert (finmap.insert m k v) k w ≡ finmap.insert m k w
+insert-twice {X} m k v w =
+    same_nat_map _ _ (λ q. get-insert_nat (finmap.insert m k v) k w q
+    ∙ ap (cond (eqb q k) (Some w)) (get-insert_nat m k v q) ∙ once (eqb q k) (finmap.get m q)
+    ∙ sym (get-insert_nat m k w q))
+  where
+    once : (t : Bool) (o : Option X) → cond t (Some w) (cond t (Some v) o) ≡ cond t (Some w) o
+    once true o = refl
+    once false o = refl
+
 -- ---- how many values are seen
 
 len-from_entries : {Y : Type 0} (es : List (ℕ × Y)) → finmap.len (from_entries {R = nat_cmp} es) ≤ length es
@@ -191,3 +203,17 @@ put_in-same s f p b e =
     same_places _ _ (λ g q. contains-put_in s f p b g q
     ∙ ap (λ b. cond (eqb g f && eqb q p) b (set.contains s (g, q))) (sym e)
     ∙ no_change s f p g q (eqb g f) (eqb q p) refl refl)
+
+-- a place that is put in and taken out again
+pub put_in-again : (s : set.FinSet place_cmp) (f p : ℕ) → set.contains s (f, p) ≡ false
+    → put_in (f, p) false (put_in (f, p) true s) ≡ s
+put_in-again s f p e =
+    same_places _ _ (λ g q. contains-put_in (put_in (f, p) true s) f p false g q
+    ∙ ap (cond (eqb g f && eqb q p) false) (contains-put_in s f p true g q)
+    ∙ once (eqb g f && eqb q p) (set.contains s (g, q))
+    ∙ ap (λ b. cond (eqb g f && eqb q p) b (set.contains s (g, q))) (sym e)
+    ∙ no_change s f p g q (eqb g f) (eqb q p) refl refl)
+  where
+    once : (t c : Bool) → cond t false (cond t true c) ≡ cond t false c
+    once true c = refl
+    once false c = refl

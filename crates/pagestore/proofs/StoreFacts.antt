@@ -12,12 +12,11 @@ use Rattle.std.specs.FinMap as finmap
 use Rattle.std.specs.FinMap.{FinMap, get-empty, len-empty}
 use Rattle.std.proofs.lemmas.Bool.{false≢true}
 use Rattle.std.proofs.lemmas.Bool.Decides.{nat_tests}
-use Rattle.std.proofs.lemmas.List.{length-set, length-replicate, length-map, get_or_past, take-replicate, drop-drop}
+use Rattle.std.proofs.lemmas.List.{length-set, length-replicate, length-map, get_or_past, drop-drop}
 use Rattle.std.proofs.lemmas.List.{length-take, append_assoc, set-get_or}
 use Rattle.std.proofs.lemmas.List.Elements.{All-set}
 use Rattle.std.proofs.lemmas.List.Folds.{sum_by-replicate}
 use Rattle.std.proofs.lemmas.List.Sums.{sum_by-set, sum_by-cons, sum_by_push}
-use Rattle.pc_types.specs.Files.{cut}
 use Rattle.pc_types.specs.Tags.{TagSet, no_tags}
 use Rattle.pc_types.specs.declared.ids.FileId.{FileId}
 use Rattle.pc_types.specs.declared.ids.PageIndex.{PageIndex}
@@ -31,7 +30,7 @@ use Rattle.mapping.proofs.MapLemmas.{count_insert, count_remove, count-le-len, r
 use Rattle.mapping.proofs.MapLemmas.{len_insert_old, len_remove_old}
 use Rattle.pagestore.specs.declared.kept.KeptFile.{KeptFile}
 use Rattle.machine.specs.State.{File, Page, no_file, dirty_in}
-use Rattle.pagestore.specs.Store.{the_page, blank, none_kept, is_uptodate, awaits, page_of, each_seen, file_of, kept_at}
+use Rattle.pagestore.specs.Store.{the_page, none_kept, is_uptodate, awaits, page_of, each_seen, file_of, kept_at}
 use Rattle.pagestore.specs.Store.{entry_at, lists_of, Store, store_of, stored_at, stored_page, with_pages, with_lists}
 use Rattle.pagestore.specs.Store.{with_entry, put_at, IsStore, is_untagged, is_idle_entry}
 use Rattle.machine.proofs.changes.StateLaws.{get_or-set}
@@ -343,10 +342,7 @@ free-given t fr o own =
     ap (λ (x : Option Owner). cond (is_none x) 1 0) own in
     omega (arith, one, was)
 
--- ---- an entry is made, and its frame has the page's bytes or waits for them
-
-zeros_cut : (n : ℕ) → cut [] n ≡ replicate n 0
-zeros_cut n = take-replicate n (n - 0) 0 (omega arith)
+-- ---- an entry is made, and its frame waits for the page's bytes
 
 module _ (t : Table) (up : List Bool) (files : List KeptFile) (dirty f p fr : ℕ) (s : IsStore t up files dirty)
     (free : is_taken t fr ≡ false) (within : fr < length t.owners) where
@@ -365,79 +361,57 @@ module _ (t : Table) (up : List Bool) (files : List KeptFile) (dirty f p fr : �
       ∙ ap (λ b. cond b (Some (record { 0 = f }, record { 0 = p })) (owner_of t y.frame))
       (not_free t y.frame fr _ (s.owned g q y e) free) ∙ s.owned g q y e
 
-  row_kept : (g q : ℕ) (y : Mapped) → entry_at files g q ≡ Some y → row_at u.bytes y.frame ≡ row_at t.bytes y.frame
-  row_kept g q y e =
-      row-set t fr y.frame (replicate t.size 0) (omega (arith, s.rows, within))
-      ∙ ap (λ b. cond b (replicate t.size 0) (row_at t.bytes y.frame))
-      (not_free t y.frame fr _ (s.owned g q y e) free)
-
-  all_sized : All (λ (row : List ℕ). length row ≡ t.size) u.bytes
-  all_sized = All-set (λ (row : List ℕ). length row ≡ t.size) t.bytes fr (replicate t.size 0)
-      (length-replicate t.size 0) s.sized
-
   same_owners : length u.owners ≡ length t.owners
   same_owners = length-set t.owners fr (Some (record { 0 = f }, record { 0 = p }))
-
-  same_bytes : length u.bytes ≡ length t.bytes
-  same_bytes = length-set t.bytes fr (replicate t.size 0)
 
   less : free_frames u + 1 ≡ free_frames t
   less = free-taken t fr (record { 0 = f }, record { 0 = p }) free within
 
-  row_now : row_at u.bytes fr ≡ cut [] t.size
-  row_now =
-      row-set t fr fr (replicate t.size 0) (omega (arith, s.rows, within))
-      ∙ ap (λ b. cond b (replicate t.size 0) (row_at t.bytes fr)) (eq-eqb fr fr refl) ∙ sym (zeros_cut t.size)
-
   pub flag_within : fr < length up
   flag_within = omega (arith, within, s.flags)
 
-  module _ (ready : Bool) (here : f < length files) (absent : entry_at files f p ≡ None) where
+  module _ (here : f < length files) (absent : entry_at files f p ≡ None) where
     abbrev vp : List Bool
-    vp = slice_set up fr ready
+    vp = slice_set up fr false
 
-    flag_now : is_uptodate vp (untagged fr) ≡ ready
-    flag_now = flag-set up fr fr ready flag_within
-        ∙ ap (λ b. cond b ready (slice_index_or up fr false)) (eq-eqb fr fr refl)
+    flag_now : is_uptodate vp (untagged fr) ≡ false
+    flag_now = flag-set up fr fr false flag_within
+        ∙ ap (λ b. cond b false (slice_index_or up fr false)) (eq-eqb fr fr refl)
 
     flag_kept : (g q : ℕ) (y : Mapped) → entry_at files g q ≡ Some y → is_uptodate vp y ≡ is_uptodate up y
-    flag_kept g q y e = flag-set up fr y.frame ready flag_within
-        ∙ ap (λ b. cond b ready (is_uptodate up y)) (not_free t y.frame fr _ (s.owned g q y e) free)
+    flag_kept g q y e = flag-set up fr y.frame false flag_within
+        ∙ ap (λ b. cond b false (is_uptodate up y)) (not_free t y.frame fr _ (s.owned g q y e) free)
 
     alike : Alike t u up vp files f p
-    alike = record { rows = λ g q y n e. row_kept g q y e; flags = λ g q y n e. flag_kept g q y e }
+    alike = record { rows = λ g q y n e. refl; flags = λ g q y n e. flag_kept g q y e }
 
     none_before : stored_page (store_of t up files) f p ≡ None
     none_before = seen_at t up files f p ∙ ap (option_and_then (page_of t up)) absent
 
-    page_now : page_of u vp (untagged fr) ≡ cond ready (Some (blank t.size)) None
-    page_now = λ i. let page : Page = record { bytes = row_now i; tags = no_tags } in cond (flag_now i) (Some page) None
-
-    clean : (b : Bool) → dirty_one (cond b (Some (blank t.size)) None) ≡ 0
-    clean true = refl
-    clean false = refl
+    none_now : page_of u vp (untagged fr) ≡ None
+    none_now = ap (λ b. cond b (Some (let page : Page = record { bytes = row_at t.bytes fr; tags = no_tags } in page)) None)
+        flag_now
 
     pub entered_store : IsStore u vp (slice_set files f (with_kept (kept_at files f) p (Some (untagged fr)))) dirty
     entered_store =
         let gone : ◌≡◌ {A = ℕ} (cond (is_some (entry_at files f p)) 1 0) 0 =
         ap (λ (o : Option Mapped). cond (is_some o) 1 0) absent in
         store_changed t u up vp files dirty f p s here alike refl (λ g q y n e. owner_kept g q y e) same_owners
-        same_bytes all_sized (length-set up fr ready) (λ g aside. still_aside t.aside fr g aside)
+        refl s.sized (length-set up fr false) (λ g aside. still_aside t.aside fr g aside)
         (Some (untagged fr)) dirty
         (λ y e. ap (λ (y : Mapped). owner_of u y.frame) (sym (some_is (untagged fr) y e)) ∙ own)
         (λ y e waits. ap (λ (y : Mapped). y.tags) (sym (some_is (untagged fr) y e)))
         (λ y e aside. absurd (false≢true (sym (not_aside t.aside fr)
         ∙ ap (λ (y : Mapped). is_aside u y.frame) (some_is (untagged fr) y e) ∙ aside)))
         (omega (arith, less, gone))
-        (omega (arith, ap dirty_one none_before, ap dirty_one page_now, clean ready))
+        (omega (arith, ap dirty_one none_before, ap dirty_one none_now))
 
     pub entered_seen : store_of u vp (slice_set files f (with_kept (kept_at files f) p (Some (untagged fr))))
-        ≡ with_lists (with_entry (store_of t up files) f p (cond ready (Some (blank t.size)) None) (not ready)
-        (free_frames t - 1)) (lists_of u)
+        ≡ with_lists (with_entry (store_of t up files) f p None true (free_frames t - 1)) (lists_of u)
     entered_seen =
         let fewer : free_frames u ≡ free_frames t - 1 = omega (arith, less) in
         seen-entry t u up vp files f p refl here alike (Some (untagged fr))
-        ∙ (λ i. with_lists (with_entry (store_of t up files) f p (page_now i) (not (flag_now i)) (fewer i))
+        ∙ (λ i. with_lists (with_entry (store_of t up files) f p (none_now i) (not (flag_now i)) (fewer i))
         (lists_of u))
 
   -- ---- and the frame is given back, since there is no memory for the entry
@@ -458,11 +432,11 @@ module _ (t : Table) (up : List Bool) (files : List KeptFile) (dirty f p fr : �
   free_again = free-given u fr _ own ∙ less
 
   pub unmade_seen : store_of v up files ≡ with_lists (store_of t up files) (lists_of v)
-  unmade_seen = seen-same t v up up files refl free_again row_kept (λ g q y e. refl)
+  unmade_seen = seen-same t v up up files refl free_again (λ g q y e. refl) (λ g q y e. refl)
 
   pub unmade_store : IsStore v up files dirty
-  unmade_store = store_same t v up files dirty s owner_again (length-set u.owners fr None ∙ same_owners) same_bytes
-      all_sized free_again (λ g aside. still_aside t.aside fr g aside) unmade_seen
+  unmade_store = store_same t v up files dirty s owner_again (length-set u.owners fr None ∙ same_owners) refl
+      s.sized free_again (λ g aside. still_aside t.aside fr g aside) unmade_seen
 
 -- ---- an entry goes, or changes
 

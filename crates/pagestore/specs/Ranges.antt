@@ -1,10 +1,12 @@
 -- Words of the contracts: pages read and written one after the other.
-use Rattle.std.specs.Prelude.{◌≡◌, ◌+◌, ◌/◌, ◌%◌, ◌<◌, ◌≤◌, slice_index, true, length, take, drop, ◌++◌, ℕ, List, []}
-use Rattle.std.specs.Prelude.{Option, Some, option_map, unwrap_or, if◌then◌else◌, nat_le, nat_lt, ◌&&◌, is_some}
+use Rattle.std.specs.Prelude.{◌≡◌, ◌+◌, ◌-◌, ◌/◌, ◌%◌, ◌<◌, ◌≤◌, slice_index, true, length, take, drop, ◌++◌, ℕ, List, []}
+use Rattle.std.specs.Prelude.{Option, Some, option_map, unwrap_or, if◌then◌else◌, nat_le, nat_lt, ◌&&◌, is_some, not, count_by}
+use Rattle.std.specs.List.{range_with_len}
 use Rattle.std.specs.Ordering.{nat_cmp}
 use Rattle.std.specs.FinMap.{FinMap, get}
 use Rattle.machine.specs.State.{Page}
-use Rattle.pagestore.specs.Store.{the_page}
+use Rattle.machine.specs.PageLists.{each_entered}
+use Rattle.pagestore.specs.Store.{Store, absent_pages, stored_at, stored_page, the_page, with_lists, with_pages}
 use Rattle.machine.specs.Changes.{written_page}
 
 -- byte k of a page, where it is cached
@@ -24,14 +26,22 @@ pub record IsLaid (P o : ℕ) (b : List ℕ) (first end : ℕ) (old new : FinMap
   pub each : (q : ℕ) → get new q
       ≡ (if nat_le first q && nat_lt q end then Some (written_page P o b q (get old q)) else get old q)
 
+-- b is written at o into the pages of file f from `first` up to `end`; those that were absent are made
+pub record AreWritten (P f o : ℕ) (b : List ℕ) (first end : ℕ) (old new : Store) : Type 0 where
+  pub pages : IsLaid P o b first end (stored_at old f).pages (stored_at new f).pages
+  pub rest : new ≡ with_lists (with_pages old f (stored_at new f).pages new.free)
+      (each_entered f (absent_pages old f first end) old.lists)
+  pub fewer : new.free ≡ old.free - count_by (λ p. not (is_some (stored_page old f p)))
+      (range_with_len first (end - first))
+
 -- the first n places of `out` have the bytes from o on of the cached pages
 pub record AreRead (P o : ℕ) (pages : FinMap nat_cmp Page) (n : ℕ) (out : List ℕ) : Type 0 where
   pub each : (i : ℕ) → i < n → i < length out → slice_index out i ≡ page_byte (get pages ((o + i) / P)) ((o + i) % P)
 
+-- the page, DIRTY
+abbrev pub dirtied : Page → Page
+dirtied page = record page { tags = record page.tags { dirty = true } }
+
 -- the page with these bytes put in place from k on, and DIRTY
 abbrev pub with_part : Page → ℕ → List ℕ → Page
-with_part page k b =
-    record {
-      bytes = take k page.bytes ++ b ++ drop (k + length b) page.bytes;
-      tags = record page.tags { dirty = true };
-    }
+with_part page k b = dirtied (record page { bytes = take k page.bytes ++ b ++ drop (k + length b) page.bytes })

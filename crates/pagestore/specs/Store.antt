@@ -2,8 +2,8 @@
 -- entry and its frame, so that the end of the fill takes no memory; a flag of the frame says whether it has the page's
 -- bytes.
 use Rattle.std.specs.Prelude.{◌≡◌, ◌+◌, ◌-◌, ◌<◌, ◌≤◌, ℕ, Bool, true, false, List, [], ◌∷◌, ◌++◌, map, filter}
-use Rattle.std.specs.Prelude.{filter_map, length, not, ◌&&◌, nat_le, nat_lt, if◌then◌else◌, Option, Some, None, is_some}
-use Rattle.std.specs.Prelude.{option_map, sum_by, count_by, slice_index_or, slice_set, unwrap_or, All, refl}
+use Rattle.std.specs.Prelude.{filter_map, length, not, ◌&&◌, if◌then◌else◌, Option, Some, None, is_some}
+use Rattle.std.specs.Prelude.{option_map, sum_by, slice_index_or, slice_set, unwrap_or, All, refl}
 use Rattle.std.specs.List.{range_with_len}
 use Rattle.std.specs.Ordering.{nat_cmp}
 use Rattle.std.specs.FinMap as finmap
@@ -19,7 +19,7 @@ use Rattle.frames.specs.Rows.{row_at}
 use Rattle.mapping.specs.Pages.{Mapped}
 use Rattle.pagestore.specs.declared.kept.KeptFile.{KeptFile}
 use Rattle.machine.specs.inside.Codes.{file_code, lists_code}
-use Rattle.machine.specs.PageLists.{Listed, PageLists, each_entered}
+use Rattle.machine.specs.PageLists.{Listed, PageLists}
 use Rattle.machine.specs.State.{File, Page, no_file, dirty_in}
 use Rattle.pc_types.specs.Files.{cut}
 
@@ -173,16 +173,6 @@ pub record NoneAwaited (f first end : ℕ) (s : Store) : Type 0 where
 -- the pages of file f from `first` up to `end` that are not cached, in rising order
 abbrev pub absent_pages : Store → ℕ → ℕ → ℕ → List ℕ
 absent_pages s f first end = filter (λ p. not (is_some (stored_page s f p))) (range_with_len first (end - first))
-
--- the absent pages of file f from `first` up to `end` were made
-pub record AreMade (f first end : ℕ) (old new : Store) : Type 0 where
-  pub each : (q : ℕ) → stored_page new f q
-      ≡ (if nat_le first q && nat_lt q end && not (is_some (stored_page old f q)) then Some (blank old.page) else
-      stored_page old f q)
-  pub rest : new ≡ with_lists (with_pages old f (stored_at new f).pages new.free)
-      (each_entered f (absent_pages old f first end) old.lists)
-  pub fewer : new.free ≡ old.free - count_by (λ p. not (is_some (stored_page old f p)))
-      (range_with_len first (end - first))
 
 -- each entry has a frame of its own, which was taken for its page, and every taken frame is an entry's. A page that is
 -- filling

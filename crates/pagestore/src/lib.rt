@@ -2,7 +2,8 @@
 //! The pages of all files, each in a frame of its own.
 //!
 //! `pages` has them one by one, `page_fills` those that are being filled, `page_writes` those that are written back, `page_removal` those
-//! that leave, `ranges` several of them, `kept` one file of theirs, `guesses` where pages were found last, and `layout` the sizes.
+//! that leave, `ranges` several of them, `span` where a write's bytes go, `kept` one file of theirs, `guesses` where pages were found
+//! last, and `layout` the sizes.
 
 mod guesses;
 mod kept;
@@ -12,6 +13,8 @@ mod page_removal;
 mod page_writes;
 mod pages;
 mod ranges;
+mod span;
 
 pub use layout::Layout;
 pub use pages::Pages;
+pub use span::Span;

@@ -10,8 +10,8 @@ ghost use Rattle.frames.specs.Table.{is_taken};
 ghost use Rattle.mapping.specs.declared.mapping.TheConstants.{MAX_PAGES};
 ghost use Rattle.pc_types.specs.TagBits.{tag_set};
 ghost use Rattle.machine.specs.State.{no_file, dirty_in, tags_of};
-ghost use Rattle.pagestore.specs.Store.{the_page, blank, Store, stored_at, stored_page, is_awaited, with_pages, with_lists, with_entry};
-ghost use Rattle.pagestore.specs.Ranges.{with_part};
+ghost use Rattle.pagestore.specs.Store.{the_page, blank, stored_at, stored_page, is_awaited, with_pages, with_lists};
+ghost use Rattle.pagestore.specs.Ranges.{dirtied, with_part};
 ghost use Rattle.machine.specs.PageLists.{no_lists, is_listed, entered, left, accessed};
 
 use crate::guesses::Guesses;
@@ -170,7 +170,45 @@ impl Pages {
         ensures err { OnErr result (self.new ≡ self.old) }
         ensures unlisted { is_listed file page self.old.lists ≡ false }
     {
-        self.enter(file, page, true)
+        self.start_fill(file, page)?;
+        self.finish(file, page, 0, &[]);
+        Ok(())
+    }
+
+    /// Makes an absent page of these bytes from `at` on, with zeros around them, and tags it DIRTY.
+    pub(crate) fn make_with(
+        &mut self,
+        file: u64,
+        page: u64,
+        at: usize,
+        bytes: &[u8],
+    ) -> Result<(), AllocError>
+        requires here { file < length self.old.files }
+        requires below { page < MAX_PAGES }
+        requires absent { stored_page self.old file page ≡ None }
+        requires idle { is_awaited self.old file page ≡ false }
+        requires room { 0 < self.old.free }
+        requires inside { at + length bytes.now ≤ self.old.page }
+        ensures ok { OnOk result (self.new ≡ with_lists (with_pages self.old file (map.insert (stored_at self.old file).pages page (with_part (blank self.old.page) at bytes.now)) (self.old.free - 1)) (entered file page self.old.lists)) }
+        ensures err { OnErr result (self.new ≡ self.old) }
+        ensures unlisted { is_listed file page self.old.lists ≡ false }
+    {
+        self.start_fill(file, page)?;
+        self.finish(file, page, at, bytes);
+        self.tag_dirty(file, page);
+        Ok(())
+    }
+
+    /// Tags a cached page DIRTY.
+    fn tag_dirty(&mut self, file: u64, page: u64)
+        requires here { file < length self.old.files }
+        requires cached { is_some (stored_page self.old file page) ≡ true }
+        ensures { self.new ≡ with_pages self.old file (map.insert (stored_at self.old file).pages page (dirtied (the_page (stored_at self.old file).pages page))) self.old.free }
+    {
+        let mapping = &mut self.files[file as usize].mapping;
+        let was_dirty = mapping.has_tag(PageIndex(page), Tag::Dirty);
+        let _ = mapping.tag(PageIndex(page), Tag::Dirty);
+        self.dirty += u64::from(!was_dirty);
     }
 
     /// Takes a cached page away.
@@ -180,31 +218,6 @@ impl Pages {
         ensures { self.new ≡ with_lists (with_pages self.old file (map.remove (stored_at self.old file).pages page) (self.old.free + 1)) (left file page self.old.lists) }
     {
         self.leave(file, page);
-    }
-
-    /// Gives an absent page an entry and a frame of zeros, which are the page's bytes or are yet to be filled.
-    pub fn enter(&mut self, file: u64, page: u64, uptodate: bool) -> Result<(), AllocError>
-        requires here { file < length self.old.files }
-        requires below { page < MAX_PAGES }
-        requires absent { stored_page self.old file page ≡ None }
-        requires idle { is_awaited self.old file page ≡ false }
-        requires room { 0 < self.old.free }
-        ensures ok { OnOk result (self.new ≡ with_lists (with_entry self.old file page (cond uptodate (Some (blank self.old.page)) None) (not uptodate) (self.old.free - 1)) (entered file page self.old.lists)) }
-        ensures err { OnErr result (self.new ≡ self.old) }
-        ensures unlisted { is_listed file page self.old.lists ≡ false }
-    {
-        // for what `free_count` ensures: a free frame is in no list
-        prove!(self.frames.free_count() <= MAX_FRAMES);
-        let Ok(frame) = self.frames.take(FileId(file), PageIndex(page)) else {
-            unreachable!()
-        };
-        let mapping = &mut self.files[file as usize].mapping;
-        if mapping.insert_page(PageIndex(page), frame).is_err() {
-            self.frames.give(frame);
-            return Err(AllocError);
-        }
-        self.uptodate[frame.0 as usize] = uptodate;
-        Ok(())
     }
 
     /// Takes the entry of a page that is cached or filling away, and frees its frame.

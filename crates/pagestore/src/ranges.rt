@@ -1,66 +1,54 @@
-//! Ranges of pages: made, written, read, one page after the other.
+//! Ranges of pages: written and read, one page after the other.
 
 ghost use Rattle.std.specs.Prelude.{◌≡◌, ◌+◌, ◌-◌, ◌/◌, ◌<◌, ◌≤◌, IfNone, IfSome, OnOk, OnErr, length, find, not, is_some, count_by, filter};
 ghost use Rattle.std.specs.List.{range_with_len};
 ghost use Rattle.mapping.specs.declared.mapping.TheConstants.{MAX_PAGES};
-ghost use Rattle.pagestore.specs.Ranges.{AreCached, AreSized, IsLaid, AreRead};
+ghost use Rattle.pagestore.specs.Ranges.{AreCached, AreRead, AreSized, AreWritten};
 ghost use Rattle.machine.specs.PageLists.{each_accessed, flagged};
 ghost use Rattle.machine.specs.State.{touched};
-ghost use Rattle.pagestore.specs.Store.{stored_at, stored_page, with_pages, with_lists, NoneAwaited, AreMade};
+ghost use Rattle.pagestore.specs.Store.{stored_at, stored_page, with_lists, NoneAwaited};
 
 use crate::pages::Pages;
+use crate::span::Span;
 use pc_types::limits::{MAX_FILE_SIZE, MAX_PAGE_SIZE, MAX_TOUCHED};
 use std::alloc::AllocError;
 
 impl Pages {
-    /// Makes the absent pages from `first` up to `end` as pages of zeros. Where memory is refused, those made so far are
-    /// taken away again, the last one first. It calls itself once a page: at most 16 times in a call of the cache (no clause
-    /// says so).
-    pub fn cover(&mut self, file: u64, first: u64, end: u64) -> Result<(), AllocError>
-        requires here { file < length self.old.files }
-        requires order { first ≤ end }
-        requires below { end ≤ MAX_PAGES }
-        requires idle { NoneAwaited file first end self.old }
-        requires room { count_by (λ p. not (is_some (stored_page self.old file p))) (range_with_len first (end - first)) ≤ self.old.free }
-        ensures made { OnOk result (AreMade file first end self.old self.new) }
+    /// Writes the bytes into the span's pages from `page` on, and makes those that are absent. Where memory is refused, the pages
+    /// made so far are taken away again, the last one first. It calls itself once a page: at most 16 times in a call of the
+    /// cache (no clause says so).
+    pub fn write(&mut self, span: Span, bytes: &[u8], page: u64) -> Result<(), AllocError>
+        requires here { span.file < length self.old.files }
+        requires size { span.page_size ≡ self.old.page }
+        requires positive { 0 < span.page_size }
+        requires small { span.page_size ≤ MAX_PAGE_SIZE }
+        requires some { 0 < length bytes.now }
+        requires bound { span.offset + length bytes.now ≤ MAX_FILE_SIZE }
+        requires from { span.offset / span.page_size ≤ page }
+        requires order { page ≤ span.end }
+        requires to { span.end ≤ (span.offset + length bytes.now - 1) / span.page_size + 1 }
+        requires below { span.end ≤ MAX_PAGES }
+        requires sized { AreSized span.page_size (stored_at self.old span.file).pages }
+        requires idle { NoneAwaited span.file page span.end self.old }
+        requires room { count_by (λ p. not (is_some (stored_page self.old span.file p))) (range_with_len page (span.end - page)) ≤ self.old.free }
+        ensures written { OnOk result (AreWritten span.page_size span.file span.offset bytes.now page span.end self.old self.new) }
         ensures err { OnErr result (self.new ≡ self.old) }
     {
-        if first == end {
+        if page == span.end {
             return Ok(());
         }
-        if self.is_cached(file, first) {
-            return self.cover(file, first + 1, end);
+        let (at, part) = span.part(bytes, page);
+        if self.is_cached(span.file, page) {
+            self.write(span, bytes, page + 1)?;
+            self.put(span.file, page, at, part);
+            return Ok(());
         }
-        self.make(file, first)?;
-        let rest = self.cover(file, first + 1, end);
+        self.make_with(span.file, page, at, part)?;
+        let rest = self.write(span, bytes, page + 1);
         if rest.is_err() {
-            self.remove(file, first);
+            self.remove(span.file, page);
         }
         rest
-    }
-
-    /// Writes the bytes from `offset` on into pages that are cached.
-    pub fn write(&mut self, file: u64, page_size: u64, offset: u64, bytes: &[u8])
-        requires here { file < length self.old.files }
-        requires page { page_size ≡ self.old.page }
-        requires positive { 0 < page_size }
-        requires small { page_size ≤ MAX_PAGE_SIZE }
-        requires some { 0 < length bytes.now }
-        requires bound { offset + length bytes.now ≤ MAX_FILE_SIZE }
-        requires cached { AreCached (offset / page_size) ((offset + length bytes.now - 1) / page_size + 1) (stored_at self.old file).pages }
-        requires sized { AreSized page_size (stored_at self.old file).pages }
-        ensures pages { IsLaid page_size offset bytes.now (offset / page_size) ((offset + length bytes.now - 1) / page_size + 1) (stored_at self.old file).pages (stored_at self.new file).pages }
-        ensures rest { self.new ≡ with_pages self.old file (stored_at self.new file).pages self.old.free }
-    {
-        let first = offset / page_size;
-        let last = (offset + bytes.len() as u64 - 1) / page_size;
-        for p in first..last + 1 {
-            let start = p * page_size;
-            let at = offset.saturating_sub(start) as usize;
-            let from = start.saturating_sub(offset) as usize;
-            let to = bytes.len().min((start + page_size - offset) as usize);
-            self.put(file, p, at, &bytes[from..to]);
-        }
     }
 
     /// Copies the bytes from `offset` on out of their pages, and notes that each was read. Where not all of them are cached it

@@ -14,120 +14,85 @@ use Rattle.cachecore.proofs.placing.+place.Goals as goal
 use Rattle.cachecore.proofs.placing.+place.Goals.{Else-is_err}
 
 -- the page got a block
-block_given : (t : ℕ) (c : Else-is_err t) → IsGiven c.args.blocks.now c.args.file c.args.next c.assign.new.self
+block_given : (t : ℕ) (c : Else-is_err t) → IsGiven c.args.blocks.now c.args.span.file c.args.next c.assign.new.self
 block_given t c =
     let b = c.args.blocks.now in
-    let none = none_of (map.get b.spots (c.args.file, c.args.next)) (c.if-is_some.ensures ∙ ap is_some c.map.ensures
-    ∙ some_mapped told (map.get b.spots (c.args.file, c.args.next))) in
-    is_given b c.assign.new.self c.args.file c.args.next c.assign.result none c.if-is_err.ensures.value
+    let none = none_of (map.get b.spots (c.args.span.file, c.args.next)) (c.if-is_some.ensures ∙ ap is_some c.map.ensures
+    ∙ some_mapped told (map.get b.spots (c.args.span.file, c.args.next))) in
+    is_given b c.assign.new.self c.args.span.file c.args.next c.assign.result none c.if-is_err.ensures.value
     c.assign.ensures.lowest c.assign.ensures.given
 
-pub returns-then-next-end-clause-placed : goal.returns-then-next-end-clause-placed
-returns-then-next-end-clause-placed t c =
-    on_ok c.cover.result _ (λ _. sym
-    (ap (λ n. with_placed c.args.blocks.now c.args.file (range_with_len c.args.next (n - c.args.next)))
-    (sym c.if-next-end.true) ∙ placed_none c.args.blocks.now c.args.file c.args.next))
+pub returns-then-next-span-clause-placed : goal.returns-then-next-span-clause-placed
+returns-then-next-span-clause-placed t c =
+    on_ok c.write.result _ (λ _. sym
+    (ap (λ n. with_placed c.args.blocks.now c.args.span.file (range_with_len c.args.next (n - c.args.next)))
+    (sym c.if-next-span.true) ∙ placed_none c.args.blocks.now c.args.span.file c.args.next))
 
 pub place-requires : goal.place-requires
 place-requires t c =
     let b = c.args.blocks.now in
-    let less = ne_less c.args.next c.args.end c.requires.order c.if-next-end.false in
+    let less = ne_less c.args.next c.args.span.end c.requires.order c.if-next-span.false in
     let has = c.if-is_some.ensures ∙ ap is_some c.map.ensures
-    ∙ some_mapped told (map.get b.spots (c.args.file, c.args.next)) in
+    ∙ some_mapped told (map.get b.spots (c.args.span.file, c.args.next)) in
     let room =
     subst (λ n. n ≤ length (free_blocks b))
-    (count_past b c.args.file c.args.next c.args.end less (ap not (sym has))) c.requires.room in (
-      omega (arith, less),
-      (
-        c.requires.file,
-        (
-          c.requires.here,
-          (
-            omega (arith, c.requires.begun),
-            (omega (arith, less), (c.requires.below, (c.requires.idle, (c.requires.frames, room)))),
-          ),
-        ),
-      ),
-    )
+    (count_past b c.args.span.file c.args.next c.args.span.end less (ap not (sym has))) c.requires.room in
+    (omega (arith, less), (c.requires.file, (c.requires.here, (c.requires.size, (c.requires.positive, (c.requires.small, (c.requires.some, (c.requires.bound, (c.requires.from, (omega (arith, c.requires.begun), (omega (arith, less), (c.requires.to, (c.requires.below, (c.requires.sized, (c.requires.idle, (c.requires.frames, room))))))))))))))))
 
 pub returns-then-is_some-clause-placed : goal.returns-then-is_some-clause-placed
 returns-then-is_some-clause-placed t c =
     let b = c.args.blocks.now in
-    let less = ne_less c.args.next c.args.end c.requires.order c.if-next-end.false in
+    let less = ne_less c.args.next c.args.span.end c.requires.order c.if-next-span.false in
     let has = c.if-is_some.ensures ∙ ap is_some c.map.ensures
-    ∙ some_mapped told (map.get b.spots (c.args.file, c.args.next)) in
+    ∙ some_mapped told (map.get b.spots (c.args.span.file, c.args.next)) in
     ok_map c.place.result _ _ c.place.ensures.placed
-    (λ e. e ∙ placed_past b c.args.file c.args.next c.args.end less (ap not (sym has)))
+    (λ e. e ∙ placed_past b c.args.span.file c.args.next c.args.span.end less (ap not (sym has)))
 
 pub place-rest-requires : goal.place-rest-requires
 place-rest-requires t c =
     let b = c.args.blocks.now in
-    let less = ne_less c.args.next c.args.end c.requires.order c.if-next-end.false in
-    let none = none_of (map.get b.spots (c.args.file, c.args.next)) (c.if-is_some.ensures ∙ ap is_some c.map.ensures
-    ∙ some_mapped told (map.get b.spots (c.args.file, c.args.next))) in
-    let given : IsGiven b c.args.file c.args.next c.assign.new.self =
-    is_given b c.assign.new.self c.args.file c.args.next c.assign.result none c.if-is_err.ensures.value
-    c.assign.ensures.lowest c.assign.ensures.given in (
-      omega (arith, less),
-      (
-        c.requires.file,
-        (
-          c.requires.here,
-          (
-            omega (arith, c.requires.begun),
-            (
-              omega (arith, less),
-              (
-                c.requires.below,
-                (
-                  c.requires.idle,
-                  (
-                    c.requires.frames,
-                    room_given b c.assign.new.self c.args.file c.args.next c.args.end less
-                        given c.requires.room,
-                  ),
-                ),
-              ),
-            ),
-          ),
-        ),
-      ),
-    )
+    let less = ne_less c.args.next c.args.span.end c.requires.order c.if-next-span.false in
+    let none = none_of (map.get b.spots (c.args.span.file, c.args.next)) (c.if-is_some.ensures ∙ ap is_some c.map.ensures
+    ∙ some_mapped told (map.get b.spots (c.args.span.file, c.args.next))) in
+    let given : IsGiven b c.args.span.file c.args.next c.assign.new.self =
+    is_given b c.assign.new.self c.args.span.file c.args.next c.assign.result none c.if-is_err.ensures.value
+    c.assign.ensures.lowest c.assign.ensures.given in
+    (omega (arith, less), (c.requires.file, (c.requires.here, (c.requires.size, (c.requires.positive, (c.requires.small, (c.requires.some, (c.requires.bound, (c.requires.from, (omega (arith, c.requires.begun), (omega (arith, less), (c.requires.to, (c.requires.below, (c.requires.sized, (c.requires.idle, (c.requires.frames, room_given b c.assign.new.self c.args.span.file c.args.next c.args.span.end less given c.requires.room))))))))))))))))
 
 pub unassign-requires-clause-unwritten : goal.unassign-requires-clause-unwritten
 unassign-requires-clause-unwritten t c =
     let b = c.args.blocks.now in
-    let less = ne_less c.args.next c.args.end c.requires.order c.if-next-end.false in
+    let less = ne_less c.args.next c.args.span.end c.requires.order c.if-next-span.false in
     let given = block_given t (goal.at.unassign-requires-clause-unwritten t c).Else-is_err in
     let same = when_err c.place-rest.result _ c.if-is_err-2.ensures.value c.place-rest.ensures.not_placed in
-    subst (λ (n : Blocks). IfSome (map.get n.spots (c.args.file, c.args.next)) (λ spot. spot.written ≡ false))
-    (sym same) (given_unwritten b c.assign.new.self c.args.file c.args.next c.args.end less given)
+    subst (λ (n : Blocks). IfSome (map.get n.spots (c.args.span.file, c.args.next)) (λ spot. spot.written ≡ false))
+    (sym same) (given_unwritten b c.assign.new.self c.args.span.file c.args.next c.args.span.end less given)
 
 pub unassign-requires-clause-not_held : goal.unassign-requires-clause-not_held
 unassign-requires-clause-not_held t c =
     let b = c.args.blocks.now in
-    let less = ne_less c.args.next c.args.end c.requires.order c.if-next-end.false in
+    let less = ne_less c.args.next c.args.span.end c.requires.order c.if-next-span.false in
     let given = block_given t (goal.at.unassign-requires-clause-not_held t c).Else-is_err in
     let same = when_err c.place-rest.result _ c.if-is_err-2.ensures.value c.place-rest.ensures.not_placed in
-    subst (λ (n : Blocks). IfSome (map.get n.spots (c.args.file, c.args.next))
+    subst (λ (n : Blocks). IfSome (map.get n.spots (c.args.span.file, c.args.next))
     (λ spot. map.get n.held spot.block ≡ None)) (sym same)
-    (given_unheld b c.assign.new.self c.args.file c.args.next c.args.end less given)
+    (given_unheld b c.assign.new.self c.args.span.file c.args.next c.args.span.end less given)
 
 pub returns-then-is_err-2-clause-not_placed : goal.returns-then-is_err-2-clause-not_placed
 returns-then-is_err-2-clause-not_placed t c =
     let b = c.args.blocks.now in
-    let less = ne_less c.args.next c.args.end c.requires.order c.if-next-end.false in
+    let less = ne_less c.args.next c.args.span.end c.requires.order c.if-next-span.false in
     let given = block_given t (goal.at.returns-then-is_err-2-clause-not_placed t c).Else-is_err in
     let same = when_err c.place-rest.result _ c.if-is_err-2.ensures.value c.place-rest.ensures.not_placed in
     on_err_of c.place-rest.result _
-    (undone b c.place-rest.new.blocks c.args.file c.args.next c.args.end less
-    (subst (IsGiven b c.args.file c.args.next) (sym same) given) c.unassign.result c.unassign.new.self
+    (undone b c.place-rest.new.blocks c.args.span.file c.args.next c.args.span.end less
+    (subst (IsGiven b c.args.span.file c.args.next) (sym same) given) c.unassign.result c.unassign.new.self
     c.unassign.ensures.freed c.unassign.ensures.none.0 c.unassign.ensures.only)
 
 pub returns-else-is_err-2-clause-placed : goal.returns-else-is_err-2-clause-placed
 returns-else-is_err-2-clause-placed t c =
     let b = c.args.blocks.now in
-    let less = ne_less c.args.next c.args.end c.requires.order c.if-next-end.false in
+    let less = ne_less c.args.next c.args.span.end c.requires.order c.if-next-span.false in
     let given = block_given t (goal.at.returns-else-is_err-2-clause-placed t c).Else-is_err in
-    on_ok c.place-rest.result _ (λ _. placed_given b c.assign.new.self c.args.file c.args.next c.args.end less given
+    on_ok c.place-rest.result _ (λ _. placed_given b c.assign.new.self c.args.span.file c.args.next c.args.span.end less given
     c.place-rest.new.blocks (when_ok c.place-rest.result _ c.if-is_err-2.ensures.value c.place-rest.ensures.placed))

@@ -91,30 +91,29 @@ wrote c =
     let laid = c.put_again.new.self in
     let final = c.set_size.new.self in
     let n = c.max-size.result in
-    let steps : WriteSteps P o b f n store store laid final = put_steps P o b positive c.requires.some fits f store here
-    (c.page-page_size.ensures.value ∙ sym core.page) (dirty_cached old core.sound f p dirty) n laid final
+    let steps : WriteSteps P o b f n store laid final = put_steps P o b positive c.requires.some fits f store here
+    (dirty_cached old core.sound f p dirty) n laid final
     (c.if-not-put_again.ensures.done refl) c.set_size.ensures
     (c.max-size.ensures ∙ ap (λ n. max n (o + length b)) c.size.ensures)
     (subst (λ (n : ℕ). AreSized n (stored_at store f).pages) (sym c.page-page_size.ensures.value) (core.sized f)) in
-    let e1 = stored_at store f in
-    let e2 = stored_at laid f in
-    let e3 = stored_at final f in
+    let e1 = stored_at laid f in
+    let e2 = stored_at final f in
     let of_write = parts steps in
     let files = final_files steps in
-    let blocks : Blocks = taken core refl h f o P b e1 e2 e3 final file
+    let blocks : Blocks = taken core refl h f o P b e1 e2 final file
     c.page-page_size.ensures.value passed here of_write positive c.requires.bound P in
     let placed : blocks ≡ a.blocks = placed_same P o b positive c.requires.some fits a.blocks f
     (ap not (dirty_placed old core.sound f p dirty)) in
     let state : state_of a.geometry a.name final.files a.handles a.blocks a.requests a.syncs
-    ≡ record (put_file old f e3) { spots = blocks.spots } =
+    ≡ record (put_file old f e2) { spots = blocks.spots } =
     (λ i. state_of a.geometry a.name (files i) a.handles (sym placed i) a.requests a.syncs) in
-    let written_is = state ∙ write_state core refl h f o P b e1 e2 e3 final file
+    let written_is = state ∙ write_state core refl h f o P b e1 e2 final file
     c.page-page_size.ensures.value passed here of_write positive c.requires.bound in
     let kept =
     subst (λ (bs : Blocks). IsCore (state_of a.geometry a.name final.files a.handles a.blocks a.requests a.syncs)
     final bs) placed
     (subst (λ (t : State). IsCore t final blocks) (sym state)
-    (core-written core refl h f o P b e1 e2 e3 final file c.page-page_size.ensures.value passed here
+    (core-written core refl h f o P b e1 e2 final file c.page-page_size.ensures.value passed here
     of_write positive c.requires.bound
     (final_page steps)
     (final_free steps)

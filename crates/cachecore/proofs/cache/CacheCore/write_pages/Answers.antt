@@ -1,18 +1,17 @@
 use Rattle.std.proofs.Common.{arith, sym, ap, subst, refl, max, ◌∙◌, ◌≡◌, ◌+◌, ◌-◌, ◌/◌, ◌<◌, ℕ, length}
 use Rattle.std.specs.Prelude.{None}
 use Rattle.blockmap.specs.Blocks.{Blocks}
-use Rattle.machine.specs.State.{State, File, handle_file}
+use Rattle.machine.specs.State.{State, handle_file}
 use Rattle.cachecore.specs.Core.{Core}
 use Rattle.machine.specs.Changes.{put_file, written}
 use Rattle.machine.specs.ListChanges.{lists_written}
 use Rattle.machine.specs.Tests.{write_tests}
 use Rattle.pagestore.specs.Ranges.{AreSized, IsLaid}
-use Rattle.pagestore.specs.Store.{Store, stored_at}
+use Rattle.pagestore.specs.Store.{Store, stored_at, with_lists, with_pages}
 use Rattle.pagestore.specs.Syncing.{failed_of}
 use Rattle.cachecore.specs.Tables.{IsCache, IsCore, state_of}
 use Rattle.cachecore.proofs.WriteMoves.{written_lists}
 use Rattle.cachecore.proofs.WriteSteps.{WriteSteps, laid_noted, parts, final_files, final_free, final_page, final_idle}
-use Rattle.cachecore.proofs.WriteSteps.{made_sized}
 use Rattle.cachecore.proofs.CoreLemmas.{frames_enough, blocks_enough, none_awaited, write_state, core-written, taken}
 use Rattle.cachecore.proofs.SyncLaws.{kept_failed, moved_syncs}
 use Rattle.cachecore.proofs.CoreViews.{state_is}
@@ -49,18 +48,10 @@ place-requires-clause-idle c =
     c.self.invariant.core refl passed.0 c.args.file c.args.offset n c.page-page_size.result
     passed.1 c.page-page_size.ensures.value passed.2
 
-pub write-requires-clause-sized : goal.write-requires-clause-sized
-write-requires-clause-sized c =
-    let f = c.args.file in
-    let o = c.args.offset in
-    let P = c.page-page_size.result in
-    let last = (o + length c.args.bytes.now - 1) / P in
-    let store = c.self.inside.pages in
-    let size : P ≡ store.page = c.page-page_size.ensures.value ∙ sym c.self.invariant.core.page in
-    subst (λ (s : Store). AreSized P (stored_at s f).pages) (sym c.access_cached.ensures)
-    (made_sized f (o / P) last store c.place.new.pages P size c.in_ok-place.ensures.made
-    (subst (λ (n : ℕ). AreSized n (stored_at store f).pages) (sym c.page-page_size.ensures.value)
-    (c.self.invariant.core.sized f)))
+pub place-requires-clause-sized : goal.place-requires-clause-sized
+place-requires-clause-sized c =
+    subst (λ (n : ℕ). AreSized n (stored_at c.self.inside.pages c.args.file).pages) (sym c.page-page_size.ensures.value)
+    (c.self.invariant.core.sized c.args.file)
 
 -- what the cache keeps, and its state
 wrote : (c : goal.After-set_size) → (let a = c.self.inside in
@@ -79,32 +70,30 @@ wrote c =
     let store = a.pages in
     let here : f < length store.files =
     omega (arith, c.requires.here, ap (λ s. length s.files) (state_is c.self.view_is)) in
-    let size : P ≡ store.page = c.page-page_size.ensures.value ∙ sym c.self.invariant.core.page in
-    let same : stored_at c.access_cached.new.self f ≡ stored_at c.place.new.pages f =
-    ap (λ (s : Store). stored_at s f) c.access_cached.ensures in
-    let steps : WriteSteps P o b f c.max-size.result store c.place.new.pages c.write.new.self c.set_size.new.self =
+    let written = c.in_ok-place.ensures.written in
+    let noted = c.access_cached.ensures in
+    let steps : WriteSteps P o b f c.max-size.result store c.access_cached.new.self c.set_size.new.self =
     record {
       here = here;
-      page = size;
-      cover = c.in_ok-place.ensures.made;
-      pages = subst (λ (e : File). IsLaid P o b (o / P) ((o + length b - 1) / P + 1) e.pages
-          (stored_at c.write.new.self f).pages) same c.write.ensures.pages;
-      rest = laid_noted f c.place.new.pages c.access_cached.new.self c.write.new.self _ c.access_cached.ensures
-          c.write.ensures.rest;
+      pages = subst (λ (s : Store). IsLaid P o b (o / P) ((o + length b - 1) / P + 1) (stored_at store f).pages
+          (stored_at s f).pages) (sym noted) written.pages;
+      rest = laid_noted f store c.place.new.pages c.access_cached.new.self _
+          (written.rest ∙ ap (with_lists (with_pages store f (stored_at c.place.new.pages f).pages c.place.new.pages.free))
+          (sym (ap (λ (s : Store). s.lists) written.rest))) noted;
+      fewer = ap (λ (s : Store). s.free) noted ∙ written.fewer;
       size = c.max-size.ensures ∙ ap (λ n. max n (o + length b)) c.size.ensures;
       grown = c.set_size.ensures;
     } in
-    let e1 = stored_at c.place.new.pages f in
-    let e2 = stored_at c.write.new.self f in
-    let e3 = stored_at c.set_size.new.self f in
+    let e1 = stored_at c.access_cached.new.self f in
+    let e2 = stored_at c.set_size.new.self f in
     let of_write = parts steps in
     let files = final_files
     steps in
     let passed = subst (λ s. Passed s f o (length b)) (sym (state_is c.self.view_is)) c.requires.passed in
     let state : state_of a.geometry a.name c.set_size.new.self.files a.handles c.place.new.blocks a.requests a.syncs
-    ≡ record (put_file old f e3) {
+    ≡ record (put_file old f e2) {
       spots =
-          (taken c.self.invariant.core refl passed.0 f o P b e1 e2 e3 c.set_size.new.self passed.1
+          (taken c.self.invariant.core refl passed.0 f o P b e1 e2 c.set_size.new.self passed.1
           c.page-page_size.ensures.value passed.2 here of_write (omega (arith, c.page-page_size.ensures.least))
           c.requires.bound P).spots;
     } =
@@ -114,16 +103,16 @@ wrote c =
     (state_of a.geometry a.name c.set_size.new.self.files a.handles c.place.new.blocks a.requests a.syncs)
     c.set_size.new.self bs) (sym c.in_ok-place.ensures.placed)
     (subst (λ (t : State). IsCore t c.set_size.new.self
-    (taken c.self.invariant.core refl passed.0 f o P b e1 e2 e3 c.set_size.new.self passed.1
+    (taken c.self.invariant.core refl passed.0 f o P b e1 e2 c.set_size.new.self passed.1
     c.page-page_size.ensures.value passed.2 here of_write (omega (arith, c.page-page_size.ensures.least))
     c.requires.bound P)) (sym state)
-    (core-written c.self.invariant.core refl passed.0 f o P b e1 e2 e3 c.set_size.new.self passed.1
+    (core-written c.self.invariant.core refl passed.0 f o P b e1 e2 c.set_size.new.self passed.1
     c.page-page_size.ensures.value passed.2 here of_write (omega (arith, c.page-page_size.ensures.least))
     c.requires.bound
     (final_page steps)
     (final_free steps)
     (final_idle steps))) in
-    let written_is = state ∙ write_state c.self.invariant.core refl passed.0 f o P b e1 e2 e3
+    let written_is = state ∙ write_state c.self.invariant.core refl passed.0 f o P b e1 e2
     c.set_size.new.self passed.1 c.page-page_size.ensures.value passed.2 here of_write
     (omega (arith, c.page-page_size.ensures.least)) c.requires.bound in (
       record {
@@ -152,6 +141,6 @@ returns-clause-lists c =
     written_lists (state_of a.geometry a.name a.pages.files a.handles a.blocks a.requests a.syncs) f o n a.pages.lists
     c.page-page_size.result _ c.place.new.pages.lists c.set_size.new.self.lists c.page-page_size.ensures.value
     c.requires.some
-    c.which_cached-cached.ensures (ap lists c.in_ok-place.ensures.made.rest)
-    (ap lists c.set_size.ensures ∙ ap lists c.write.ensures.rest ∙ ap lists c.access_cached.ensures)
+    c.which_cached-cached.ensures (ap lists c.in_ok-place.ensures.written.rest)
+    (ap lists c.set_size.ensures ∙ ap lists c.access_cached.ensures)
     ∙ ap (λ (k : Core). lists_written k.state f o n k.lists) c.self.view_is
