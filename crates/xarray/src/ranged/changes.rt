@@ -76,7 +76,7 @@ impl Ranged {
         ensures room { HasPathRoom self.old 0 index → IsOk result }
         ensures over { IsSome (entry_at (ranges_of self.old) index) → IsOk result }
     {
-        let Some(walk) = self.nodes.walk(index) else {
+        let Some(walk) = self.nodes.walk_recent(index) else {
             self.put(index, 0, value)?;
             return Ok(None);
         };
@@ -102,7 +102,7 @@ impl Ranged {
         ensures err { IfErr result (λ refusal. refusal ≡ Refusal.Memory) }
         ensures room { HasPathRoom self.old 0 index → IsOk result }
     {
-        let Some(walk) = self.nodes.walk(index) else {
+        let Some(walk) = self.nodes.walk_recent(index) else {
             self.put(index, 0, value)?;
             return Ok(true);
         };
@@ -141,7 +141,7 @@ impl Ranged {
         ensures before { result ≡ option_map marked_of (entry_at (ranges_of self.old) index) }
         ensures takes { ranges_of self.new ≡ erased (ranges_of self.old) index }
     {
-        let Some(spot) = self.spot(index) else {
+        let Some(spot) = self.spot_recent(index) else {
             return None;
         };
         let Spot {
@@ -167,7 +167,7 @@ impl Ranged {
     pub fn set_mark(&mut self, index: u64, mark: Mark) -> bool
         ensures { MatchBool result (IsSome (entry_at (ranges_of self.old) index) × (ranges_of self.new ≡ remarked (ranges_of self.old) index mark true)) ((entry_at (ranges_of self.old) index ≡ None) × (self.new ≡ self.old)) }
     {
-        let Some(spot) = self.spot(index) else {
+        let Some(spot) = self.spot_recent(index) else {
             return false;
         };
         self.nodes
@@ -179,7 +179,7 @@ impl Ranged {
     pub fn clear_mark(&mut self, index: u64, mark: Mark)
         ensures { ranges_of self.new ≡ remarked (ranges_of self.old) index mark false }
     {
-        if let Some(spot) = self.spot(index) {
+        if let Some(spot) = self.spot_recent(index) {
             self.nodes
                 .clear_bit(spot.cursor, spot.first, spot.level, mark.number());
         }
@@ -207,7 +207,7 @@ impl Ranged {
         ensures before { result ≡ option_map (λ e. has_mark mark e.1) (entry_at (ranges_of self.old) index) }
         ensures sets { ranges_of self.new ≡ remarked (ranges_of self.old) index mark is_set }
     {
-        let Some(spot) = self.spot(index) else {
+        let Some(spot) = self.spot_recent(index) else {
             return None;
         };
         let Spot {
@@ -226,7 +226,7 @@ impl Ranged {
         ensures before { result ≡ option_map (λ e. marks_of e.1) (entry_at (ranges_of self.old) index) }
         ensures gives { ranges_of self.new ≡ given (ranges_of self.old) index marks }
     {
-        let Some(spot) = self.spot(index) else {
+        let Some(spot) = self.spot_recent(index) else {
             return None;
         };
         let Spot {
