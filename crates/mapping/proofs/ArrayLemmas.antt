@@ -15,11 +15,11 @@ use Rattle.xarray.specs.declared.entry.Found.{Found}
 use Rattle.xarray.specs.declared.entry.Mark.{Mark}
 use Rattle.xarray.specs.declared.entry.Marked.{Marked}
 use Rattle.xarray.specs.declared.entry.Marks.{Marks}
-use Rattle.xarray.specs.MarkedArray.{Range, Ranges, has_mark, with_mark, with_marks, marks_of, marked_of, meets, entry_at, lowest, erased, given, remarked, is_any, is_marked, found_of}
-use Rattle.xarray.proofs.Singles.{AllSingle, entry_at-get, erased-remove, given-some, given-none, remarked-some, remarked-none}
+use Rattle.xarray.specs.MarkedArray.{Range, Ranges, changed, marks_after, has_mark, with_mark, with_marks, marks_of, marked_of, meets, entry_at, lowest, erased, given, remarked, is_any, is_marked, found_of}
+use Rattle.xarray.proofs.Singles.{AllSingle, changed-given, changed-none, entry_at-get, erased-remove, given-some, given-none, remarked-some, remarked-none}
 use Rattle.mapping.specs.declared.mapping.TheConstants.{MAX_PAGES}
 use Rattle.mapping.specs.declared.page.FoundPage.{FoundPage}
-use Rattle.mapping.specs.Pages.{IsNumbered, Mapped, Pages, frame_of, with_tag, with_tags, put_some, change_at, within, is_tagged, found, untagged}
+use Rattle.mapping.specs.Pages.{IsNumbered, Mapped, Pages, frame_of, with_tag, with_tags, with_tags_after, put_some, change_at, within, is_tagged, found, untagged}
 use Rattle.mapping.specs.Pages as pages
 use Rattle.mapping.specs.View.{tag_mark, tags_of, page_from, page_of, pages_of, IsPage}
 use Rattle.mapping.proofs.MapLemmas.{same_nat_map, get-insert_here, get-insert_there, get-remove_here, get-remove_there, remove_absent, find_same, find_key, get-each, find_each, len-le}
@@ -156,6 +156,24 @@ module _ (m : Ranges) (each : (q : ℕ) (r : Range) → finmap.get m q ≡ Some 
       go (Some old) e =
           let was = each i old e in
           kept_insert m each i (with_marks marks old) (record { single = was.single; framed = was.framed; numbered = was.numbered }) q r (ap (λ z. finmap.get z q) (sym (given-some m singles i marks old e)) ∙ at)
+
+  pub pages_of-changed : (i : ℕ) (clear set : Marks) → pages_of (changed m i clear set) ≡ change_at i (with_tags_after (tags_of clear) (tags_of set)) (pages_of m)
+  pages_of-changed i clear set = go (finmap.get m i) refl
+    where
+      go : (o : Option Range) → finmap.get m i ≡ o → pages_of (changed m i clear set) ≡ change_at i (with_tags_after (tags_of clear) (tags_of set)) (pages_of m)
+      go None e = ap pages_of (changed-none m singles i clear set e) ∙ sym (change_none i (with_tags_after (tags_of clear) (tags_of set)) (pages_of m) (get-pages_of m i ∙ ap (option_map page_of) e))
+      go (Some r) e =
+          let marks = marks_after clear set (marks_of r) in
+          let there = get-pages_of m i ∙ ap (option_map page_of) e in
+          ap pages_of (changed-given m singles i clear set r e) ∙ pages_of-given i marks ∙ change_some i (with_tags (tags_of marks)) (pages_of m) (page_of r) there
+          ∙ sym (change_some i (with_tags_after (tags_of clear) (tags_of set)) (pages_of m) (page_of r) there)
+
+  pub kept_changed : (i : ℕ) (clear set : Marks) (q : ℕ) (r : Range) → finmap.get (changed m i clear set) q ≡ Some r → IsPage q r
+  kept_changed i clear set q r at = go (finmap.get m i) refl
+    where
+      go : (o : Option Range) → finmap.get m i ≡ o → IsPage q r
+      go None e = each q r (ap (λ z. finmap.get z q) (sym (changed-none m singles i clear set e)) ∙ at)
+      go (Some old) e = kept_given i (marks_after clear set (marks_of old)) q r (ap (λ z. finmap.get z q) (sym (changed-given m singles i clear set old e)) ∙ at)
 
   -- what the array tells of an entry is the page
   pub marked_page : (i : ℕ) → option_map page_from (option_map marked_of (entry_at m i)) ≡ finmap.get (pages_of m) i

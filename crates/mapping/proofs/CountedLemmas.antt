@@ -8,15 +8,15 @@ use Rattle.std.proofs.lemmas.Option.{none-some}
 use Rattle.pc_types.specs.declared.tags.Tag.{Tag}
 use Rattle.pc_types.specs.Tags.{has}
 use Rattle.xarray.specs.declared.entry.Marks.{Marks}
-use Rattle.xarray.specs.MarkedArray.{Range, Ranges, unmarked, erased, given, remarked}
+use Rattle.xarray.specs.MarkedArray.{Range, Ranges, changed, unmarked, erased, given, remarked}
 use Rattle.mapping.specs.declared.mapping.TheConstants.{MAX_PAGES}
 use Rattle.mapping.specs.declared.totals.Totals.{Totals}
-use Rattle.mapping.specs.Pages.{Mapped, with_tag, with_tags, has_at, tagged_count, untagged}
+use Rattle.mapping.specs.Pages.{Mapped, tags_after, with_tag, with_tags, with_tags_after, has_at, tagged_count, untagged}
 use Rattle.mapping.specs.Totals.{total, with_page, with_total, without_page}
 use Rattle.mapping.specs.View.{tag_mark, tags_of, pages_of, IsCounted, IsPage}
-use Rattle.mapping.proofs.ArrayLemmas.{pages_of-empty, pages_of-insert, pages_of-erased, pages_of-given, pages_of-remarked, kept_insert, kept_erased, kept_given, kept_remarked}
+use Rattle.mapping.proofs.ArrayLemmas.{pages_of-empty, pages_of-insert, pages_of-erased, pages_of-given, pages_of-changed, pages_of-remarked, kept_insert, kept_erased, kept_given, kept_changed, kept_remarked}
 use Rattle.mapping.proofs.MapLemmas.{len_insert_new, len_remove_old, remove_absent}
-use Rattle.mapping.proofs.PageLemmas.{change_none, change_same, tagged_page, len_changed, untag_same}
+use Rattle.mapping.proofs.PageLemmas.{change_none, change_same, change_some, tagged_page, len_changed, untag_same}
 use Rattle.mapping.proofs.TotalLemmas.{no_totals, inserted, forgotten, exchanged, raised, lowered}
 
 pub counted_empty : IsCounted finmap.empty 0 (record { dirty = 0; writeback = 0; towrite = 0 })
@@ -76,6 +76,20 @@ module _ (m : Ranges) (page_count : ℕ) (totals : Totals) (counted : IsCounted 
         tags = λ other. exchanged totals (pages_of m) counted.tags index page some (tags_of marks) other ∙ ap (tagged_count other) (sym same);
       }
 
+  -- a page loses tags and gets others
+  pub counted_changed : (clear set : Marks) (page : Mapped) → finmap.get (pages_of m) index ≡ Some page → IsCounted (changed m index clear set) page_count (with_page totals page.tags (tags_after (tags_of clear) (tags_of set) page.tags))
+  counted_changed clear set page some =
+      let change = with_tags_after (tags_of clear) (tags_of set) in
+      let tags = tags_after (tags_of clear) (tags_of set) page.tags in
+      let same = pages_of-changed m counted.each index clear set in
+      record {
+        each = kept_changed m counted.each index clear set;
+        pages = counted.pages ∙ sym (ap finmap.len same ∙ len_changed index change (pages_of m));
+        tags =
+            λ other. exchanged totals (pages_of m) counted.tags index page some tags other
+            ∙ ap (tagged_count other) (change_some index (with_tags tags) (pages_of m) page some ∙ sym (change_some index change (pages_of m) page some) ∙ sym same);
+      }
+
   -- an array that stands for the same pages
   pub counted_still : (new : Ranges) → ((q : ℕ) (r : Range) → finmap.get new q ≡ Some r → IsPage q r) → pages_of new ≡ pages_of m → IsCounted new page_count totals
   counted_still new each same = record {
@@ -90,6 +104,10 @@ module _ (m : Ranges) (page_count : ℕ) (totals : Totals) (counted : IsCounted 
 
   pub counted_ungiven : (marks : Marks) → finmap.get (pages_of m) index ≡ None → IsCounted (given m index marks) page_count totals
   counted_ungiven marks none = counted_still (given m index marks) (kept_given m counted.each index marks) (pages_of-given m counted.each index marks ∙ change_none index (with_tags (tags_of marks)) (pages_of m) none)
+
+  pub counted_unchanged : (clear set : Marks) → finmap.get (pages_of m) index ≡ None → IsCounted (changed m index clear set) page_count totals
+  counted_unchanged clear set none =
+      counted_still (changed m index clear set) (kept_changed m counted.each index clear set) (pages_of-changed m counted.each index clear set ∙ change_none index (with_tags_after (tags_of clear) (tags_of set)) (pages_of m) none)
 
   pub counted_unraised : (tag : Tag) → finmap.get (pages_of m) index ≡ None → IsCounted (remarked m index (tag_mark tag) true) page_count totals
   counted_unraised tag none = counted_still (remarked m index (tag_mark tag) true) (kept_remarked m counted.each index tag true) (pages_of-remarked m counted.each index tag true ∙ change_none index (with_tag tag true) (pages_of m) none)

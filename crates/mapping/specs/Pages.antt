@@ -1,6 +1,6 @@
 -- A file's cached pages: a finite map from page numbers to frames and tags. A page's frame holds its bytes. The tags are
 -- those of Linux's page cache (PAGECACHE_TAG_DIRTY, _WRITEBACK, _TOWRITE).
-use Rattle.std.specs.Prelude.{◌≡◌, ℕ, ◌<◌, Bool, true, false, unwrap_or, ◌&&◌, nat_le, if◌then◌else◌, map, find, count_by, Option, Some, None, option_map, refl}
+use Rattle.std.specs.Prelude.{◌≡◌, ℕ, ◌<◌, Bool, true, false, not, unwrap_or, ◌&&◌, ◌||◌, nat_le, if◌then◌else◌, map, find, count_by, Option, Some, None, option_map, refl}
 use Rattle.std.specs.Ordering.{nat_cmp}
 use Rattle.std.specs.Coded.{Coded, coded_ℕ, coded_bool, coded×, code_by}
 use Rattle.std.specs.FinMap as map
@@ -55,6 +55,17 @@ with_tag tag is page = record page { tags = put page.tags tag is }
 
 abbrev pub with_tags : TagSet → Mapped → Mapped
 with_tags tags page = record page { tags = tags }
+
+-- the tags without those of `clear`, and with those of `set`
+abbrev pub tags_after : TagSet → TagSet → TagSet → TagSet
+tags_after clear set tags = record {
+  dirty = not clear.dirty && tags.dirty || set.dirty;
+  writeback = not clear.writeback && tags.writeback || set.writeback;
+  towrite = not clear.towrite && tags.towrite || set.towrite;
+}
+
+abbrev pub with_tags_after : TagSet → TagSet → Mapped → Mapped
+with_tags_after clear set page = with_tags (tags_after clear set page.tags) page
 
 abbrev pub frame_of : Mapped → FrameId
 frame_of page = record { 0 = page.frame }

@@ -3,7 +3,7 @@
 ghost use Rattle.std.specs.Prelude.{◌≡◌, ◌+◌, ◌≤◌, ◌<◌, ◌^◌, ◌↔◌, true, false, nat_le, Some, None, Err, IfErr, IfSome, OnOk, OnErr, IsOk, IsOkUnless, IsSome, option_map};
 ghost use Rattle.std.specs.FinMap as map;
 ghost use Rattle.pc_types.specs.TagBits.{tag_set};
-ghost use Rattle.mapping.specs.Pages.{IsNumbered, seen, frame_of, has_at, untagged, with_tag, with_tags, change_at, is_tagged, lowest, count, totals_of, tag_each};
+ghost use Rattle.mapping.specs.Pages.{IsNumbered, seen, frame_of, has_at, untagged, with_tag, with_tags, with_tags_after, change_at, is_tagged, lowest, count, totals_of, tag_each};
 
 use crate::entry::{found_page, mapped_page, mark_of, marks_from, tags_from};
 use crate::page::{FoundPage, MappedPage};
@@ -174,6 +174,20 @@ impl Mapping {
         };
         self.totals.exchange(tags_from(were), tags);
         Ok(())
+    }
+
+    /// Takes the tags `clear` off a page and gives it the tags `set`, and answers it as it was: one walk. Takes no memory.
+    pub fn change_tags(&mut self, index: PageIndex, clear: Tags, set: Tags) -> Option<MappedPage>
+        ensures page { option_map seen result ≡ map.get self.old.pages index.0 }
+        ensures tagged { self.new ≡ record self.old { pages = change_at index.0 (with_tags_after (tag_set clear) (tag_set set)) self.old.pages } }
+    {
+        let cleared = marks_from(clear);
+        let given = marks_from(set);
+        let entry = self.pages.change_marks(index.0, cleared, given)?;
+        let page = mapped_page(entry);
+        let tags = tags_from(entry.marks.after(cleared, given));
+        self.totals.exchange(page.tags, tags);
+        Some(page)
     }
 
     /// Sets or takes off a tag of a page. Where no page is cached nothing is done.

@@ -48,13 +48,16 @@ impl Pages {
         requires { file < length self.old.files }
         ensures { RemovesFrom self.old self.new file page }
     {
-        while let Some(found) = self.first_from(file, page) {
+        let mut guess = page;
+        while let Some(found) = self.one_from(file, page, guess) {
             self.leave(file, found);
+            guess = found.saturating_add(1);
         }
     }
 
-    /// A page of the file that is cached or filling, at this page or after it.
-    fn first_from(&self, file: u64, page: u64) -> Option<u64>
+    /// A page of the file that is cached or filling, at this page or after it. It is looked for from the guess on first, since
+    /// a search costs least where the page before was taken away.
+    fn one_from(&self, file: u64, page: u64, guess: u64) -> Option<u64>
         requires { file < length self.now.files }
         ensures found { IfSome result (λ found. (page ≤ found) × ((is_some (stored_page self.now file found) || is_awaited self.now file found) ≡ true)) }
         ensures none { IfNone result ((q : ℕ) → page ≤ q → (is_some (stored_page self.now file q) || is_awaited self.now file q) ≡ false) }
@@ -62,9 +65,11 @@ impl Pages {
     {
         // for what `free_count` ensures: each frame in a list is taken
         prove!(self.frames.free_count() <= MAX_FRAMES);
-        let found = self.files[file as usize]
-            .mapping
-            .find_page(PageIndex(page))?;
+        let mapping = &self.files[file as usize].mapping;
+        if let Some(found) = mapping.find_page(PageIndex(guess.max(page))) {
+            return Some(found.page.0);
+        }
+        let found = mapping.find_page(PageIndex(page))?;
         Some(found.page.0)
     }
 

@@ -10,7 +10,7 @@ use Rattle.radix.specs.declared.entry.Entry.{Entry}
 use Rattle.radix.specs.Entries.{slot, node_at, by_node, content, entry_at, IsFound, HasNoEntry, IsWalked, StandsAt}
 use Rattle.radix.specs.Tree.{IsPlain, IsTree, HasCome, level_of}
 use Rattle.radix.proofs.Places.{place-up, place-levels}
-use Rattle.radix.proofs.TreeLemmas.{Found, node_at-found, node_at-none, same_node, level_below, no_node, under_head}
+use Rattle.radix.proofs.TreeLemmas.{Found, node_at-found, node_at-none, same_node, level_below, lowest_plain, no_node, under_head}
 use Rattle.radix.proofs.SeeLemmas.{see-is}
 use Rattle.radix.proofs.WalkLemmas.{on_path, step}
 
@@ -148,3 +148,19 @@ module _ (s : Slab Node) (head : ℕ) (tree : IsTree s head) (index : ℕ) where
       pub find_walked : ((c : ℕ) → slot n o ≡ Child c → ⊥) → (x : Option Entry) → content (slot n o) ≡ x → IsWalked s index level x
       find_walked never None is = find_none is never
       find_walked never (Some x) is = find_some x is
+
+-- a node of the lowest level that has an index
+module _ (s : Slab Node) (head : ℕ) (tree : IsTree s head) (index key : ℕ) (n : Node) (here : get s key ≡ Some n) (low : n.level ≡ 0) (at : n.prefix ≡ index / 64) where
+  come : HasCome s key 0 index
+  come =
+      let place : index / 64 ^ 0 / 64 ≡ index / 64 = omega arith in
+      record { node = n; there = here; above = omega arith; on_path = at ∙ sym place ∙ ap (λ l. index / 64 ^ l / 64) (sym low) }
+
+  counted : level_of (get s key) ≡ 0
+  counted = ap level_of here ∙ low
+
+  pub low_walked : (x : Option Entry) → content (slot n (index % 64)) ≡ x → IsWalked s index 0 x
+  low_walked x is = find_walked s head tree index key n here come 0 counted (index % 64) (omega arith) (λ c names. lowest_plain s head tree key n here low (index % 64) c names) x is
+
+  pub low_stands : StandsAt s key 0 (index / 64 ^ 0 / 64)
+  low_stands = find_stands s head tree index key n here come 0 counted

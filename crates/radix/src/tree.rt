@@ -138,6 +138,28 @@ pub(crate) fn walk(nodes: &Slab<Node>, head: usize, index: u64) -> Option<Walk>
     }
 }
 
+// The same at the node under a key, where that is of the lowest level and has the index.
+#[inline(always)]
+pub(crate) fn walk_in(nodes: &Slab<Node>, head: usize, key: usize, index: u64) -> Option<Walk>
+    requires { IsTree nodes.now head }
+    ensures low { IfSome result (λ r. r.level ≤ 10) }
+    ensures found { IfSome result (λ r. IsWalked nodes.now index r.level r.entry) }
+    ensures stands { IfSome result (λ r. StandsAt nodes.now r.cursor r.level (index / 64 ^ r.level / 64)) }
+{
+    let Some(node) = nodes.get(key) else {
+        return None;
+    };
+    if node.level != 0 || node.prefix != index / 64 {
+        return None;
+    }
+    let slot = node.read((index % 64) as usize);
+    Some(Walk {
+        cursor: Cursor::at(key),
+        level: 0,
+        entry: entry_of(slot),
+    })
+}
+
 // The entry at the slot of `index` in a node that has it.
 pub(crate) fn entry_in(
     nodes: &Slab<Node>,

@@ -8,7 +8,7 @@ use Rattle.std.proofs.lemmas.Option.{none-some, same_Some}
 use Rattle.xarray.specs.declared.entry.Mark.{Mark}
 use Rattle.xarray.specs.declared.entry.Mark.TheVariants.{M0, M1, M2}
 use Rattle.xarray.specs.declared.entry.Marks.{Marks}
-use Rattle.xarray.specs.MarkedArray.{IsArray, Range, Ranges, entry_at, lowest, stored, erased, remarked, given, store_at, erase_at, mark_at, give_at, in_range, meets, unmarked, with_value, with_mark, with_marks}
+use Rattle.xarray.specs.MarkedArray.{IsArray, Range, Ranges, entry_at, lowest, stored, erased, remarked, given, changed, store_at, erase_at, mark_at, marks_after, marks_of, give_at, change_at, in_range, meets, unmarked, with_value, with_mark, with_marks}
 use Rattle.xarray.proofs.EntryLemmas.{entries-rise, eq_tie, first_is, first_none, first_some, ne_tie, none_passes}
 
 -- ---- a key that is changed
@@ -118,6 +118,14 @@ module _ (m : Ranges) where
   pub given-none : (index : ℕ) (marks : Marks) → entry_at m index ≡ None → given m index marks ≡ m
   unfolding given
   given-none index marks is = ap (give_at m marks) is
+
+  pub changed-some : (index first : ℕ) (clear set : Marks) (r : Range) → entry_at m index ≡ Some (first, r) → changed m index clear set ≡ map.insert m first (with_marks (marks_after clear set (marks_of r)) r)
+  unfolding changed
+  changed-some index first clear set r is = ap (change_at m clear set) is
+
+  pub changed-none : (index : ℕ) (clear set : Marks) → entry_at m index ≡ None → changed m index clear set ≡ m
+  unfolding changed
+  changed-none index clear set is = ap (change_at m clear set) is
 
   -- ---- the lowest entry of a kind
 
@@ -235,19 +243,18 @@ put-put m k v w =
     ])
 
 -- an entry that gets three marks, one after another
-pub given-by : (m one two three : Ranges) (index first : ℕ) (marks : Marks) (r : Range) → entry_at m index ≡ Some (first, r) → map.get m first ≡ Some r
+pub given-by : (m one two three : Ranges) (first : ℕ) (marks : Marks) (r : Range) → map.get m first ≡ Some r
     → ((x : Range) → map.get m first ≡ Some x → one ≡ map.insert m first (with_mark M0 marks.m0 x))
     → ((x : Range) → map.get one first ≡ Some x → two ≡ map.insert one first (with_mark M1 marks.m1 x))
     → ((x : Range) → map.get two first ≡ Some x → three ≡ map.insert two first (with_mark M2 marks.m2 x))
-    → three ≡ given m index marks
-given-by m one two three index first marks r at there p q t =
+    → three ≡ map.insert m first (with_marks marks r)
+given-by m one two three first marks r there p q t =
     let a = with_mark M0 marks.m0 r in
     let b = with_mark M1 marks.m1 a in
     let c = with_mark M2 marks.m2 b in
     let one_is = p r there in
     let two_is : two ≡ map.insert m first b = q a (ap (λ n. map.get n first) one_is ∙ get-put m first first a refl) ∙ ap (λ n. map.insert n first b) one_is ∙ put-put m first a b in
     t b (ap (λ n. map.get n first) two_is ∙ get-put m first first b refl) ∙ ap (λ n. map.insert n first c) two_is ∙ put-put m first b c
-    ∙ sym (given-some m index first marks r at)
 
 -- a change that is taken back by a removal
 pub remove-put : (m : Ranges) (k : ℕ) (v : Range) → map.remove (map.insert m k v) k ≡ map.remove m k

@@ -8,7 +8,7 @@ use Rattle.std.proofs.lemmas.Option.{none-some, same_Some}
 use Rattle.xarray.specs.declared.entry.Mark.{Mark}
 use Rattle.xarray.specs.declared.entry.Mark.TheVariants.{M0, M1, M2}
 use Rattle.xarray.specs.declared.entry.Marks.{Marks}
-use Rattle.xarray.specs.MarkedArray.{Range, Ranges, entry_at, lowest, stored, erased, remarked, given, store_at, erase_at, mark_at, give_at, in_range, meets, unmarked, with_value, with_mark, with_marks}
+use Rattle.xarray.specs.MarkedArray.{Range, Ranges, entry_at, lowest, stored, erased, remarked, given, changed, store_at, erase_at, mark_at, marks_after, marks_of, give_at, change_at, in_range, meets, unmarked, with_value, with_mark, with_marks}
 use Rattle.xarray.proofs.EntryLemmas.{entries-rise, eq_tie, first_is, first_none, first_some, ne_tie, none_passes}
 
 -- every entry has order 0
@@ -146,6 +146,14 @@ module _ (m : Ranges) (single : AllSingle m) where
   pub given-none : (index : ℕ) (marks : Marks) → map.get m index ≡ None → given m index marks ≡ m
   unfolding given
   given-none index marks is = ap (give_at m marks) (entry_at-none index is)
+
+  pub changed-given : (index : ℕ) (clear set : Marks) (r : Range) → map.get m index ≡ Some r → changed m index clear set ≡ given m index (marks_after clear set (marks_of r))
+  unfolding changed
+  changed-given index clear set r is = ap (change_at m clear set) (entry_at-some index r is) ∙ sym (given-some index (marks_after clear set (marks_of r)) r is)
+
+  pub changed-none : (index : ℕ) (clear set : Marks) → map.get m index ≡ None → changed m index clear set ≡ m
+  unfolding changed
+  changed-none index clear set is = ap (change_at m clear set) (entry_at-none index is)
 
   pub stored-insert : (index value : ℕ) → stored m index value ≡ map.insert m index (stored_range value (map.get m index))
   stored-insert index value = by_get (map.get m index) refl

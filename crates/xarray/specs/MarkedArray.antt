@@ -1,6 +1,6 @@
 -- A marked array: a finite map from ranges of indexes to a value and three marks. A range of order k is 2 ^ k indexes, and
 -- it is kept by its first. (Linux, Documentation/core-api/xarray.rst: entries, marks, and multi-index entries.)
-use Rattle.std.specs.Prelude.{◌≡◌, ℕ, suc, zero, ◌+◌, ◌-◌, ◌*◌, ◌%◌, ◌^◌, ◌<◌, ◌≤◌, ◌&&◌, Bool, true, false, cond, ltb, leb, Option, Some, None, List, filter, find, count_by, map as map_list}
+use Rattle.std.specs.Prelude.{◌≡◌, ℕ, suc, zero, ◌+◌, ◌-◌, ◌*◌, ◌%◌, ◌^◌, ◌<◌, ◌≤◌, ◌&&◌, ◌||◌, Bool, true, false, not, cond, ltb, leb, Option, Some, None, List, filter, find, count_by, map as map_list}
 use Rattle.std.specs.Ordering.{nat_cmp}
 use Rattle.std.specs.Coded.{Coded, coded_ℕ, coded_bool, coded_option, coded×, code_by}
 use mathlib.Core.Path.{refl}
@@ -161,6 +161,22 @@ give_at m marks (Some e) = map.insert m e.0 (with_marks marks e.1)
 -- the entry at an index has these marks now and no others, for its whole range
 unfoldable pub given : Ranges → ℕ → Marks → Ranges
 given m index marks = give_at m marks (entry_at m index)
+
+-- the marks without those of `clear`, and with those of `set`
+abbrev pub marks_after : Marks → Marks → Marks → Marks
+marks_after clear set marks = record {
+  m0 = not clear.m0 && marks.m0 || set.m0;
+  m1 = not clear.m1 && marks.m1 || set.m1;
+  m2 = not clear.m2 && marks.m2 || set.m2;
+}
+
+abbrev pub change_at : Ranges → Marks → Marks → Option (ℕ × Range) → Ranges
+change_at m clear set None = m
+change_at m clear set (Some e) = map.insert m e.0 (with_marks (marks_after clear set (marks_of e.1)) e.1)
+
+-- the entry at an index has lost the marks of `clear` and then got those of `set`, for its whole range
+unfoldable pub changed : Ranges → ℕ → Marks → Marks → Ranges
+changed m index clear set = change_at m clear set (entry_at m index)
 
 abbrev pub retag_one : ℕ → ℕ → Mark → Mark → ℕ × Range → ℕ × Range
 retag_one from to mark other e = (e.0, cond (is_tagged from to mark e) (with_mark other true e.1) e.1)

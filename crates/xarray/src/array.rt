@@ -3,7 +3,7 @@ ghost use Rattle.std.specs.Prelude.{◌≡◌, ◌≢◌, ℕ, ◌+◌, ◌-◌,
 ghost use Rattle.std.specs.List.{list_any};
 ghost use Rattle.pc_types.specs.declared.refusal.Refusal.{Refusal};
 ghost use Rattle.std.specs.FinMap as map;
-ghost use Rattle.xarray.specs.MarkedArray.{IsArray, Range, after_refusal, count_of, entry_at, erased, found_of, given, has_mark, is_any, is_marked, lowest, marked_of, marks_of, entries_in, remarked, retagged, split, stored, unmarked};
+ghost use Rattle.xarray.specs.MarkedArray.{IsArray, Range, after_refusal, changed, count_of, entry_at, erased, found_of, given, has_mark, is_any, is_marked, lowest, marked_of, marks_of, entries_in, remarked, retagged, split, stored, unmarked};
 
 use crate::entries::Entries;
 use crate::entry::{Found, Mark, Marked, Marks};
@@ -258,6 +258,16 @@ impl XArray {
     {
         self.ready = None;
         self.ranged.swap_marks(index, marks)
+    }
+
+    /// Takes the marks `clear` off the entry at an index and gives it the marks `set`, and answers its value with the marks
+    /// that it had: one walk for all.
+    pub fn change_marks(&mut self, index: u64, clear: Marks, set: Marks) -> Option<Marked>
+        ensures before { result ≡ option_map marked_of (entry_at self.old.ranges index) }
+        ensures changes { self.new ≡ record { ranges = changed self.old.ranges index clear set; ready = None } }
+    {
+        self.ready = None;
+        self.ranged.change_marks(index, clear, set)
     }
 
     /// Whether the entry at an index has a mark.

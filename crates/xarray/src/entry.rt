@@ -1,6 +1,6 @@
 //! What the calls of an array speak of.
 ghost use Rattle.std.specs.Prelude.{◌≡◌};
-ghost use Rattle.xarray.specs.MarkedArray.{mark_number};
+ghost use Rattle.xarray.specs.MarkedArray.{mark_number, marks_after};
 
 /// A mark of an entry.
 #[derive(Clone, Copy, PartialEq, Eq, Debug)]
@@ -29,6 +29,20 @@ pub struct Marks {
     pub m0: bool,
     pub m1: bool,
     pub m2: bool,
+}
+
+impl Marks {
+    /// The marks without those of `clear`, and with those of `set`.
+    #[inline]
+    pub fn after(self, clear: Marks, set: Marks) -> Marks
+        ensures { result ≡ marks_after clear set self }
+    {
+        Marks {
+            m0: !clear.m0 && self.m0 || set.m0,
+            m1: !clear.m1 && self.m1 || set.m1,
+            m2: !clear.m2 && self.m2 || set.m2,
+        }
+    }
 }
 
 /// The value of an entry, with its marks.

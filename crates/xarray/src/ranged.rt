@@ -156,6 +156,24 @@ impl Ranged {
         }
     }
 
+    // The same where most often the entry is in the node of the last change.
+    #[inline(always)]
+    fn spot_recent(&self, index: u64) -> Option<Spot>
+        ensures spot { MatchOption result (entry_at (ranges_of self.now) index ≡ None) (λ t. IsSpot (ranges_of self.now) (entry_at (ranges_of self.now) index) t.first t.level t.value) }
+        ensures stands { IfSome result (λ t. StandsAt self.now t.cursor t.level (t.first / 64 ^ t.level / 64)) }
+    {
+        match self.nodes.walk_recent(index) {
+            Some(
+                Walk {
+                    cursor,
+                    level,
+                    entry,
+                },
+            ) => self.spot_in(cursor, level, entry, index),
+            None => None,
+        }
+    }
+
     // Whether the slot 2^step after an entry's first one is its sibling.
     #[inline(always)]
     fn reaches(&self, cursor: Cursor, level: u32, first: u64, step: u32) -> bool
@@ -271,7 +289,7 @@ impl Ranged {
     pub fn load_with_marks(&self, index: u64) -> Option<Marked>
         ensures { result ≡ option_map marked_of (entry_at (ranges_of self.now) index) }
     {
-        let Some(spot) = self.spot(index) else {
+        let Some(spot) = self.spot_recent(index) else {
             return None;
         };
         let Spot {
@@ -288,7 +306,7 @@ impl Ranged {
     pub fn get_mark(&self, index: u64, mark: Mark) -> bool
         ensures { result ≡ is_marked mark (entry_at (ranges_of self.now) index) }
     {
-        match self.spot(index) {
+        match self.spot_recent(index) {
             Some(spot) => self
                 .nodes
                 .get_bit(spot.cursor, spot.first, spot.level, mark.number()),

@@ -3,7 +3,7 @@ ghost use Rattle.std.specs.Prelude.{◌≡◌, ℕ, ◌+◌, ◌-◌, ◌/◌, �
 ghost use Rattle.std.specs.FinMap as map;
 ghost use Rattle.pc_types.specs.declared.refusal.Refusal.{Refusal};
 ghost use Rattle.radix.specs.Entries.{HasPathRoom, StandsAt};
-ghost use Rattle.xarray.specs.MarkedArray.{Range, entry_at, erased, given, has_mark, is_any, lowest, marked_of, marks_of, remarked, stored, unmarked, with_mark};
+ghost use Rattle.xarray.specs.MarkedArray.{Range, changed, entry_at, erased, given, has_mark, is_any, lowest, marked_of, marks_of, remarked, stored, unmarked, with_mark, with_marks};
 ghost use Rattle.xarray.specs.Standing.{IsFirstSlot, IsOutside, TagsNext, level_of};
 ghost use Rattle.xarray.specs.View.{ranges_of};
 ghost use Rattle.xarray.specs.Walks.{IsAfter};
@@ -76,7 +76,7 @@ impl Ranged {
         ensures room { HasPathRoom self.old 0 index → IsOk result }
         ensures over { IsSome (entry_at (ranges_of self.old) index) → IsOk result }
     {
-        let Some(walk) = self.nodes.walk(index) else {
+        let Some(walk) = self.nodes.walk_recent(index) else {
             self.put(index, 0, value)?;
             return Ok(None);
         };
@@ -102,7 +102,7 @@ impl Ranged {
         ensures err { IfErr result (λ refusal. refusal ≡ Refusal.Memory) }
         ensures room { HasPathRoom self.old 0 index → IsOk result }
     {
-        let Some(walk) = self.nodes.walk(index) else {
+        let Some(walk) = self.nodes.walk_recent(index) else {
             self.put(index, 0, value)?;
             return Ok(true);
         };
@@ -141,7 +141,7 @@ impl Ranged {
         ensures before { result ≡ option_map marked_of (entry_at (ranges_of self.old) index) }
         ensures takes { ranges_of self.new ≡ erased (ranges_of self.old) index }
     {
-        let Some(spot) = self.spot(index) else {
+        let Some(spot) = self.spot_recent(index) else {
             return None;
         };
         let Spot {
@@ -167,7 +167,7 @@ impl Ranged {
     pub fn set_mark(&mut self, index: u64, mark: Mark) -> bool
         ensures { MatchBool result (IsSome (entry_at (ranges_of self.old) index) × (ranges_of self.new ≡ remarked (ranges_of self.old) index mark true)) ((entry_at (ranges_of self.old) index ≡ None) × (self.new ≡ self.old)) }
     {
-        let Some(spot) = self.spot(index) else {
+        let Some(spot) = self.spot_recent(index) else {
             return false;
         };
         self.nodes
@@ -179,7 +179,7 @@ impl Ranged {
     pub fn clear_mark(&mut self, index: u64, mark: Mark)
         ensures { ranges_of self.new ≡ remarked (ranges_of self.old) index mark false }
     {
-        if let Some(spot) = self.spot(index) {
+        if let Some(spot) = self.spot_recent(index) {
             self.nodes
                 .clear_bit(spot.cursor, spot.first, spot.level, mark.number());
         }
@@ -207,7 +207,7 @@ impl Ranged {
         ensures before { result ≡ option_map (λ e. has_mark mark e.1) (entry_at (ranges_of self.old) index) }
         ensures sets { ranges_of self.new ≡ remarked (ranges_of self.old) index mark is_set }
     {
-        let Some(spot) = self.spot(index) else {
+        let Some(spot) = self.spot_recent(index) else {
             return None;
         };
         let Spot {
@@ -221,12 +221,24 @@ impl Ranged {
         Some(was)
     }
 
+    // Gives an entry these marks and no others, at its first slot.
+    #[inline]
+    fn give(&mut self, cursor: Cursor, level: u32, first: u64, marks: Marks)
+        requires there { IsFirstSlot (ranges_of self.old) first level }
+        requires stands { StandsAt self.old cursor level (first / 64 ^ level / 64) }
+        ensures { (r : Range) → map.get (ranges_of self.old) first ≡ Some r → ranges_of self.new ≡ map.insert (ranges_of self.old) first (with_marks marks r) }
+    {
+        self.remark(cursor, level, first, Mark::M0, marks.m0);
+        self.remark(cursor, level, first, Mark::M1, marks.m1);
+        self.remark(cursor, level, first, Mark::M2, marks.m2);
+    }
+
     /// Gives the entry at an index these marks and no others, and answers those that it had.
     pub fn swap_marks(&mut self, index: u64, marks: Marks) -> Option<Marks>
         ensures before { result ≡ option_map (λ e. marks_of e.1) (entry_at (ranges_of self.old) index) }
         ensures gives { ranges_of self.new ≡ given (ranges_of self.old) index marks }
     {
-        let Some(spot) = self.spot(index) else {
+        let Some(spot) = self.spot_recent(index) else {
             return None;
         };
         let Spot {
@@ -236,10 +248,27 @@ impl Ranged {
             ..
         } = spot;
         let were = self.marks_at(cursor, level, first);
-        self.remark(cursor, level, first, Mark::M0, marks.m0);
-        self.remark(cursor, level, first, Mark::M1, marks.m1);
-        self.remark(cursor, level, first, Mark::M2, marks.m2);
+        self.give(cursor, level, first, marks);
         Some(were)
+    }
+
+    /// Takes the marks `clear` off the entry at an index and gives it the marks `set`, and answers it as it was.
+    pub fn change_marks(&mut self, index: u64, clear: Marks, set: Marks) -> Option<Marked>
+        ensures before { result ≡ option_map marked_of (entry_at (ranges_of self.old) index) }
+        ensures changes { ranges_of self.new ≡ changed (ranges_of self.old) index clear set }
+    {
+        let Some(spot) = self.spot_recent(index) else {
+            return None;
+        };
+        let Spot {
+            cursor,
+            level,
+            first,
+            value,
+        } = spot;
+        let marks = self.marks_at(cursor, level, first);
+        self.give(cursor, level, first, marks.after(clear, set));
+        Some(Marked { value, marks })
     }
 
     /// Sets the mark `other` of the lowest entry with the mark whose range meets the indexes from `from` to `to`, and answers

@@ -30,7 +30,7 @@ impl Ranged {
         if from > to {
             return None;
         }
-        let Some(walk) = self.nodes.walk(from) else {
+        let Some(walk) = self.nodes.walk_recent(from) else {
             return self.next_far(None, from, to);
         };
         let Walk {
