@@ -20,15 +20,15 @@ use Rattle.runs.specs.Plain.{Plain, change, named, plain_file}
 use Rattle.runs.specs.Reached.{file_seen}
 use Rattle.world.specs.Stepping.{world_of}
 use Rattle.filesvc.specs.Seen.{HandleSeen, SoloSeen}
-use Rattle.filesvc.specs.Service.{CameFrom, FilesAfter, IsAsBefore, IsOpen, IsTold, Keeps, Names, Opened, Opens, Serves, Tells, files}
+use Rattle.filesvc.specs.Service.{CameFrom, FilesAfter, IsAsBefore, IsOpen, IsTold, KeepsBut, Names, Opened, Opens, ServesBut, Tells, files}
 
-pub open_on : (old new : SoloSeen) (h : HandleSeen) → Keeps old new → IsOpen old h → IsOpen new h
+pub open_on : {p : ℕ → Bool} (old new : SoloSeen) (h : HandleSeen) → KeepsBut p old new → IsOpen old h → IsOpen new h
 open_on old new h k o = record { board = o.board ∙ sym k.board; pass = o.pass; number = ap (λ m. finmap.get m h.number) k.handles ∙ o.number; file = (let a = k.count in let b = o.file in omega arith) }
 
-pub came_on : (old new : SoloSeen) (h : HandleSeen) → Keeps old new → CameFrom old h → CameFrom new h
+pub came_on : {p : ℕ → Bool} (old new : SoloSeen) (h : HandleSeen) → KeepsBut p old new → CameFrom old h → CameFrom new h
 came_on old new h k came names = open_on old new h k (came (names ∙ k.name))
 
-pub names_on : (old new : SoloSeen) (h : HandleSeen) → Keeps old new → Names old h → Names new h
+pub names_on : {p : ℕ → Bool} (old new : SoloSeen) (h : HandleSeen) → KeepsBut p old new → Names old h → Names new h
 names_on old new h k names = names ∙ sym k.name
 
 -- also where its cursor was moved
@@ -51,7 +51,7 @@ file_synced s h new (inl told) = ap (λ (x : HandleSeen). x.file) told.same
 file_synced s h new (inr kept) = ap (λ (x : HandleSeen). x.file) kept
 
 -- and so it is one that came from the service
-pub came_synced : (old s : SoloSeen) (h new : HandleSeen) → Keeps old s → IsTold s h new ⊎ (new ≡ h) → CameFrom old h → CameFrom s new
+pub came_synced : {p : ℕ → Bool} (old s : SoloSeen) (h new : HandleSeen) → KeepsBut p old s → IsTold s h new ⊎ (new ≡ h) → CameFrom old h → CameFrom s new
 came_synced old s h new k told came names = open_synced s h new told (open_on old s h k (came (sym (cache told) ∙ (names ∙ k.name))))
   where
     cache : IsTold s h new ⊎ (new ≡ h) → new.cache ≡ h.cache
@@ -88,7 +88,7 @@ opened_is old new f append h o e = elim (answered (tests old.world.core (event.O
     refuses false false e = absurd cc
 
 -- the file after a write, and after calls that change none
-pub written_is : (a b c : SoloSeen) (h : HandleSeen) (o : ℕ) (bytes : List ℕ) (n end : ℕ) → IsOpen a h → Tells a → FilesAfter a (event.Write (record { 0 = h.number }) o bytes) (reply.Wrote n end) b → Keeps a b → Serves b c → plain_file (files c) h.file ≡ pwrite (plain_file (files a) h.file) o bytes
+pub written_is : {p q : ℕ → Bool} (a b c : SoloSeen) (h : HandleSeen) (o : ℕ) (bytes : List ℕ) (n end : ℕ) → IsOpen a h → Tells a → FilesAfter a (event.Write (record { 0 = h.number }) o bytes) (reply.Wrote n end) b → KeepsBut p a b → ServesBut q b c → plain_file (files c) h.file ≡ pwrite (plain_file (files a) h.file) o bytes
 written_is a b c h o bytes n end here tells wrote kept served =
     ap (λ (p : Plain). plain_file p h.file) (served.files (kept.tells ∙ tells) ∙ wrote tells)
     ∙ changed_is a h (λ file. pwrite file o bytes) here
