@@ -1,5 +1,5 @@
 -- The steps of the recorder keep the rule, and what they tell.
-use Rattle.std.proofs.Common.{◌≡◌, ◌≢◌, ℕ, ◌+◌, ◌-◌, ◌/◌, ◌%◌, ◌<◌, ◌≤◌, Bool, true, false, eqb, eq-eqb, ne_eqb, List, [], ◌∷◌, ◌++◌, length, set, get_or, inl, inr, refl, sym, ap, ◌∙◌, subst, arith, ⊎_elim, true≢false, length-set, length-append, get_or-set_other, get_or-set_same}
+use Rattle.std.proofs.Common.{◌≡◌, ◌≢◌, ℕ, ◌+◌, ◌-◌, ◌%◌, ◌<◌, ◌≤◌, Bool, true, false, eqb, eq-eqb, ne_eqb, List, [], ◌∷◌, ◌++◌, length, set, get_or, inl, inr, refl, sym, ap, ◌∙◌, subst, arith, ⊎_elim, true≢false, length-set, length-append, get_or-set_other, get_or-set_same}
 use Rattle.std.specs.Prelude.{MatchBool, if◌then◌else◌}
 use mathlib.Core.Option.{none}
 use mathlib.Core.List.{IsPrefix}
@@ -8,7 +8,7 @@ use native.Mathlib.Decide.{ℕ_discrete}
 use prog.Atomic.{either}
 use Rattle.atomic_table.specs.Table.{State, Me, Step, step, keeps, stepped, Allows}
 use Rattle.errseq.specs.declared.recording.Recording.{Recording}
-use Rattle.errseq.specs.Word.{IsCode, code_of, is_seen, turns, with_seen, without_seen, word_set}
+use Rattle.errseq.specs.Word.{IsCode, code_of, is_seen, turns, without_seen, word_set}
 use Rattle.errseq.specs.Recorded.{last_code, raised, word_of}
 use Rattle.errseq.specs.Samples.{AreCodes, FitsPass, FitsFound, recording}
 use Rattle.errseq.proofs.Prefixes.{prefix_more}
@@ -223,38 +223,6 @@ second_recorded file before began all at st found code word after is set_is vali
 -- ---- what the recorder remembers
 unflagged : (w : ℕ) → is_seen w ≡ false → without_seen w ≡ w
 unflagged w e = ap (λ b. if b then w - 4096 else w) e
-
-flagged : (w : ℕ) → is_seen w ≡ true → with_seen w ≡ w
-flagged w e = ap (λ b. if b then w else w + 4096) e
-
--- SEEN can be set, and taken away again
-flag_both : (w : ℕ) → (is_seen (with_seen w) ≡ true) × (without_seen (with_seen w) ≡ without_seen w)
-flag_both w = cases (is_seen w) refl
-  where
-    cases : (b : Bool) → is_seen w ≡ b → (is_seen (with_seen w) ≡ true) × (without_seen (with_seen w) ≡ without_seen w)
-    cases true e = (ap is_seen (flagged w e) ∙ e, ap without_seen (flagged w e))
-    cases false e =
-        let h : w / 4096 % 2 ≢ 1 = (λ k. true≢false (sym (eq-eqb (w / 4096 % 2) 1 k) ∙ e)) in
-        let more : with_seen w ≡ w + 4096 = ap (λ b. if b then w else w + 4096) e in
-        let is : is_seen (w + 4096) ≡ true = eq-eqb ((w + 4096) / 4096 % 2) 1 (omega arith) in
-        let less : w + 4096 - 4096 ≡ w = omega arith in
-        (ap is_seen more ∙ is, ap without_seen more ∙ ap (λ b. if b then w + 4096 - 4096 else w + 4096) is ∙ less ∙ sym (unflagged w e))
-
--- which words have SEEN where one is set
-flags_set : (words : List ℕ) (file w : ℕ) (b : Bool) → file < length words → is_seen w ≡ b → (g : ℕ) → is_seen (get_or (set words file w) g 0) ≡ (if eqb g file then b else is_seen (get_or words g 0))
-flags_set words file w b inside e g = dite (ℕ_discrete g file)
-    (λ is. ap (λ k. is_seen (get_or (set words file w) k 0)) is ∙ ap is_seen (get_or-set_same words file w 0 inside) ∙ e ∙ sym (ap (λ t. if t then b else is_seen (get_or words g 0)) (eq-eqb g file is)))
-    (λ n. ap is_seen (get_or-set_other words file g w 0 n) ∙ sym (ap (λ t. if t then b else is_seen (get_or words g 0)) (ne_eqb g file n)))
-
--- what the recorder was told stays its word but for SEEN
-remembers_seen : (o written : List ℕ) (all : List Log) (file : ℕ) → file < files → Remembers o written all → Remembers o (set written file (with_seen (get_or written file 0))) all
-remembers_seen o written all file inside old = let a = old.0 in (
-  length-set written file _ ∙ old.0,
-  λ g h. dite (ℕ_discrete g file)
-      (λ e. subst (λ k. without_seen (get_or (set written file (with_seen (get_or written file 0))) k 0) ≡ word_of (start_of o k) (recorded_of all k) false) (sym e)
-      (ap without_seen (get_or-set_same written file (with_seen (get_or written file 0)) 0 (omega arith)) ∙ (flag_both (get_or written file 0)).1 ∙ old.1 file inside))
-      (λ n. ap without_seen (get_or-set_other written file g (with_seen (get_or written file 0)) 0 n) ∙ old.1 g h),
-)
 
 remembers_more : (o written : List ℕ) (all : List Log) (file word : ℕ) (x : Recording) → length all ≡ files → file < files → word ≡ word_of (start_of o file) (recorded_of all file ++ x ∷ []) false → is_seen word ≡ false → Remembers o written all → Remembers o (set written file word) (with_recording all file x)
 remembers_more o written all file word x b inside is unseen old = let a = old.0 in (
