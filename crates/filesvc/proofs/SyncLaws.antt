@@ -617,10 +617,6 @@ renamed name w table errors i =
       serials = i.serials;
     }
 
--- with the board of what was recorded
-pub reboarded : (name : ℕ) (w : WorldSeen) (table : TableId) (errors : RecorderSeen) → IsService name w table errors → IsService name w errors.board errors
-reboarded name w table errors i = subst (λ t. IsService name w t errors) i.serving.board i
-
 pub renamed_service : (name : ℕ) (w : WorldSeen) (table : TableId) (errors : RecorderSeen) → IsService name w table errors → IsService w.core.name w errors.board errors
 renamed_service name w table errors i = record { serving = renamed name w table errors i.serving; syncs = i.syncs }
 

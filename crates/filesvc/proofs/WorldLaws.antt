@@ -228,6 +228,10 @@ FewSerials w = w.core.next ≤ w.device.calls
 pub made_serials : (old w : WorldSeen) (e : Event) (r : Reply) → Made old e r w → is_job r ≡ false → FewSerials old → FewSerials w
 made_serials old w e r m j i = let a = next_stays (world_of old) (world_of w) (Act e r) (ap not (same_job r j)) m.0 in let b : w.device.calls ≡ old.device.calls = ap (λ d. d.calls) m.1 in omega arith
 
+-- with the board of what was recorded
+pub reboarded : (name : ℕ) (w : WorldSeen) (table : TableId) (errors : RecorderSeen) → IsService name w table errors → IsService name w errors.board errors
+reboarded name w table errors i = subst (λ t. IsService name w t errors) i.serving.board i
+
 -- what makes a service of a world that it goes on in
 pub goes_service : (name : ℕ) (s t : SoloSeen) (table : TableId) → IsServing name s.world table s.errors → Goes s t → IsResting t.world → FewSerials t.world → IsServing name t.world table t.errors
 goes_service name s t table i g rest n = record {
