@@ -1,5 +1,5 @@
 -- Splits and joins keep the rule, and what a pass knows after them.
-use Rattle.std.proofs.Common.{◌≡◌, ℕ, ◌<◌, ◌≤◌, Bool, true, false, eq-eqb, List, [], ◌∷◌, length, drop, get_or, inl, inr, refl, sym, ap, ◌∙◌, subst, arith, ⊎_elim, le_refl, true≢false, length-append, length-drop}
+use Rattle.std.proofs.Common.{◌≡◌, ℕ, ◌-◌, ◌<◌, ◌≤◌, ◌⊎◌, Bool, true, false, eq-eqb, List, [], ◌∷◌, length, drop, get_or, inl, inr, refl, sym, ap, ◌∙◌, subst, arith, ⊎_elim, le_refl, true≢false, length-append, length-drop}
 use Rattle.std.specs.Prelude.{if◌then◌else◌, ◌==◌}
 use mathlib.Core.Option.{none}
 use mathlib.Core.List.{IsPrefix}
@@ -7,24 +7,43 @@ use Rattle.std.proofs.lemmas.Bool.{eqb-true}
 use Rattle.std.proofs.lemmas.List.{append-nil}
 use Rattle.atomic_table.specs.Table.{Me, step, keeps, Allows, Splits, Joins}
 use Rattle.errseq.specs.Recorded.{word_of}
-use Rattle.errseq.specs.Samples.{Owes, FitsFound}
+use Rattle.errseq.specs.Samples.{Owes, FitsFound, FitsPass}
 use Rattle.errseq.proofs.Prefixes.{prefix_self}
 use Rattle.errseq.proofs.Samples.{Log, new_pass}
 use Rattle.errboard.specs.declared.views.View.{View}
 use Rattle.errboard.specs.declared.views.View.TheVariants.{Spent, Recorder, Sampled, Compares, Pass, Receipt}
-use Rattle.errboard.specs.Views.{recorded_of, start_of, recorder_left, pass_right, receipt_right, longer, told_of, informed, with_pass}
+use Rattle.errboard.specs.Views.{recorded_of, start_of, recorder_left, pass_right, owing_right, receipt_right, longer, told_of, informed, with_pass}
 use Rattle.errboard.specs.Rules.{Fits, IsKept, Rested, Confirmed}
 use Rattle.errboard.specs.Shown.{known_of}
 use Rattle.errboard.specs.Steps.{IsGiven}
 use Rattle.errboard.proofs.States.{unmoved, split_state, join_state, other_fits}
 
 -- ---- splits
+-- a pass that is told of the last recording
+owing_pass : (start : ℕ) (log : Log) (w : ℕ) → FitsPass start log w log (length log - 1) 0
+owing_pass start log w = record {
+  known_begins = prefix_self log;
+  done_within = omega arith;
+  fresh = λ _. some log;
+  sampled = λ n. absurd (n refl);
+}
+  where
+    some : (l : Log) → (l ≡ []) ⊎ (length l - 1 < length l)
+    some [] = inl refl
+    some (x ∷ xs) = inr (omega arith)
+
 gives_pass : (o : List ℕ) (id file found : ℕ) (began : List ℕ) (all : List Log) → Splits (IsKept o) id (Sampled began all file found) (Recorder began all) (pass_right (Sampled began all file found))
 gives_pass o id file found began all s r at =
     let mine = r.each_seat id (Sampled began all file found) at in
     let here = r.each_file file mine.3 in
     split_state o s r id (Recorder began all) (pass_right (Sampled began all file found)) (mine.0, mine.1, mine.2)
     (λ j. subst (λ (z : List ℕ × List Log). Fits o r.logs s.words r.writer j (pass_right (Sampled z.0 z.1 file found))) (λ i. (sym mine.1 i, sym mine.2 i)) (mine.3, refl, new_pass (start_of o file) (recorded_of r.logs file) (get_or s.words file 0) found here.codes mine.4))
+
+gives_owing : (o : List ℕ) (id file found : ℕ) (began : List ℕ) (all : List Log) → Splits (IsKept o) id (Sampled began all file found) (Recorder began all) (owing_right (Sampled began all file found))
+gives_owing o id file found began all s r at =
+    let mine = r.each_seat id (Sampled began all file found) at in
+    split_state o s r id (Recorder began all) (owing_right (Sampled began all file found)) (mine.0, mine.1, mine.2)
+    (λ j. subst (λ (z : List ℕ × List Log). Fits o r.logs s.words r.writer j (owing_right (Sampled z.0 z.1 file found))) (λ i. (sym mine.1 i, sym mine.2 i)) (mine.3, refl, owing_pass (start_of o file) (recorded_of r.logs file) (get_or s.words file 0)))
 
 gives_receipt : (o : List ℕ) (id file found : ℕ) (began : List ℕ) (all : List Log) → Splits (IsKept o) id (Sampled began all file found) (Recorder began all) (receipt_right (Sampled began all file found))
 gives_receipt o id file found began all s r at =
@@ -108,6 +127,9 @@ gives_receipt_as o id v began all file found is = subst (λ (u : View). Splits (
 pub gives_pass_as : (o : List ℕ) (id : ℕ) (v : View) (began : List ℕ) (all : List Log) (file found : ℕ) → v ≡ Sampled began all file found → Splits (IsKept o) id v (recorder_left v) (pass_right v)
 gives_pass_as o id v began all file found is = subst (λ (u : View). Splits (IsKept o) id u (recorder_left u) (pass_right u)) (sym is) (gives_pass o id file found began all)
 
+pub gives_owing_as : (o : List ℕ) (id : ℕ) (v : View) (began : List ℕ) (all : List Log) (file found : ℕ) → v ≡ Sampled began all file found → Splits (IsKept o) id v (recorder_left v) (owing_right v)
+gives_owing_as o id v began all file found is = subst (λ (u : View). Splits (IsKept o) id u (recorder_left u) (owing_right u)) (sym is) (gives_owing o id file found began all)
+
 pub copies_receipt_as : (o : List ℕ) (id : ℕ) (v : View) (file : ℕ) (known : Log) → v ≡ Receipt file known → Splits (IsKept o) id v v v
 copies_receipt_as o id v file known is = subst (λ (u : View). Splits (IsKept o) id u u u) (sym is) (copies_receipt o id file known)
 
@@ -135,6 +157,9 @@ is_given o all file found before after a b fits = (
       fits,
   b ∙ ap (λ (m : Me ℕ View). (pass_right m.0, [])) a,
 )
+
+pub is_owing : (o : List ℕ) (all : List Log) (file found : ℕ) (before after : Me ℕ View) → before ≡ (Sampled o all file found, []) → after ≡ (owing_right before.0, []) → after ≡ (Pass file (start_of o file) (recorded_of all file) (length (recorded_of all file) - 1) 0, [])
+is_owing o all file found before after a b = b ∙ ap (λ (m : Me ℕ View). (owing_right m.0, [])) a
 
 -- what a pass knows that was told: no less than before, and no less than the receipt of its file
 pub told_grows : (file : ℕ) (known : Log) (from : ℕ) (told : Log) → IsPrefix known (told_of file known from told) × (from ≡ file → length told ≤ length (told_of file known from told))

@@ -3,3 +3,4 @@ pub mod Polls
 pub mod Recordings
 pub mod Cuts
 pub mod Openings
+pub mod Polling

@@ -83,15 +83,15 @@ begins words are = record {
     one (suc j) v e = absurd (some-ne-none v (sym e))
 
 -- the recorder of a board that begins: its view, the number of its lists, and what it remembers
-pub recorder_begins : (me : Me ℕ View) (words written : List ℕ) → AreOpening words → me ≡ (opening_view words, []) → written ≡ map without_seen words
+pub recorder_begins : (me : Me ℕ View) (words written : List ℕ) → AreOpening words → me ≡ (opening_view words, []) → written ≡ words
     → (me ≡ (Recorder (opening_of me.0) (all_of me.0), [])) × (length (all_of me.0) ≡ files) × Remembers (opening_of me.0) written (all_of me.0)
-recorder_begins me words written are is unseen = subst (λ (z : Me ℕ View × List ℕ). (z.0 ≡ (Recorder (opening_of z.0.0) (all_of z.0.0), [])) × (length (all_of z.0.0) ≡ files) × Remembers (opening_of z.0.0) z.1 (all_of z.0.0)) (λ i. (sym is i, sym unseen i))
-    (refl, length-map words opening_log ∙ are.0, (length-map words without_seen ∙ are.0, each))
+recorder_begins me words written are is same = subst (λ (z : Me ℕ View × List ℕ). (z.0 ≡ (Recorder (opening_of z.0.0) (all_of z.0.0), [])) × (length (all_of z.0.0) ≡ files) × Remembers (opening_of z.0.0) z.1 (all_of z.0.0)) (λ i. (sym is i, sym same i))
+    (refl, length-map words opening_log ∙ are.0, (are.0, each))
   where
-    each : (file : ℕ) → file < files → slice_index (map without_seen words) file ≡ word_of (start_of words file) (recorded_of (map opening_log words) file) false
+    each : (file : ℕ) → file < files → without_seen (slice_index words file) ≡ word_of (start_of words file) (recorded_of (map opening_log words) file) false
     each file h =
         let f = opened_file words are file h in
-        get_or-map without_seen words file 0 0 (let count = are.0 in omega arith) ∙ without_seen_word (start_of words file) (recorded_of (map opening_log words) file) (slice_index words file) f.codes f.stands
+        without_seen_word (start_of words file) (recorded_of (map opening_log words) file) (slice_index words file) f.codes f.stands
 
 pub none_carried : (words : List ℕ) → words ≡ replicate files 0 → All MayBeCarried words
 none_carried words is k d h = inl (ap (λ l. get_or l k d) is ∙ get_or-replicate files k 0 d (let e : length words ≡ files = ap length is ∙ length-replicate {A = ℕ} files 0 in omega arith))

@@ -1,6 +1,6 @@
 -- The steps of the recorder keep the rule, and what they tell.
-use Rattle.std.proofs.Common.{◌≡◌, ◌≢◌, ℕ, ◌+◌, ◌<◌, Bool, true, false, eqb, eq-eqb, ne_eqb, List, [], ◌∷◌, ◌++◌, length, set, get_or, inl, inr, refl, sym, ap, ◌∙◌, subst, arith, ⊎_elim, true≢false, length-set, length-append, get_or-set_other, get_or-set_same}
-use Rattle.std.specs.Prelude.{MatchBool}
+use Rattle.std.proofs.Common.{◌≡◌, ◌≢◌, ℕ, ◌+◌, ◌-◌, ◌%◌, ◌<◌, ◌≤◌, Bool, true, false, eqb, eq-eqb, ne_eqb, List, [], ◌∷◌, ◌++◌, length, set, get_or, inl, inr, refl, sym, ap, ◌∙◌, subst, arith, ⊎_elim, true≢false, length-set, length-append, get_or-set_other, get_or-set_same}
+use Rattle.std.specs.Prelude.{MatchBool, if◌then◌else◌}
 use mathlib.Core.Option.{none}
 use mathlib.Core.List.{IsPrefix}
 use mathlib.Core.Logic.{dite}
@@ -8,10 +8,11 @@ use native.Mathlib.Decide.{ℕ_discrete}
 use prog.Atomic.{either}
 use Rattle.atomic_table.specs.Table.{State, Me, Step, step, keeps, stepped, Allows}
 use Rattle.errseq.specs.declared.recording.Recording.{Recording}
-use Rattle.errseq.specs.Word.{IsCode, code_of, is_seen, word_set}
-use Rattle.errseq.specs.Recorded.{word_of}
+use Rattle.errseq.specs.Word.{IsCode, code_of, is_seen, turns, without_seen, word_set}
+use Rattle.errseq.specs.Recorded.{last_code, raised, word_of}
 use Rattle.errseq.specs.Samples.{AreCodes, FitsPass, FitsFound, recording}
 use Rattle.errseq.proofs.Prefixes.{prefix_more}
+use Rattle.errseq.proofs.Words.{is_seen-word, last_code-push}
 use Rattle.errseq.proofs.Samples.{Log, seen_apart, seen_of_word, found_now, set_stands, code_of-set, codes_push, pass_recorded}
 use Rattle.errboard.specs.declared.views.View.{View}
 use Rattle.errboard.specs.declared.views.View.TheVariants.{Spent, Recorder, Sampled, Compares, Pass, Trying, Receipt}
@@ -192,9 +193,14 @@ pub records_again_as : (o : List ℕ) (slots id file : ℕ) (me : Me ℕ View) (
     → Allows (IsKept o) slots id me file (λ n. either (eqb n old) new n) (Recorded (step slots file old new none) me)
 records_again_as o slots id file me began all c old new code is a b v = subst (λ (m : Me ℕ View). Allows (IsKept o) slots id m file (λ n. either (eqb n old) new n) (Recorded (step slots file old new none) m)) (sym is) (records_again o slots id file began all c old new code a b v)
 
+unseen_pushed : (start : ℕ) (log : Log) (x : Recording) → IsCode x.code → is_seen (word_of start (log ++ x ∷ []) false) ≡ false
+unseen_pushed start log x valid = is_seen-word ((start + raised (log ++ x ∷ [])) % turns) (last_code (log ++ x ∷ [])) false (let e = last_code-push log x in let high : x.code ≤ 4095 = valid.1 in omega arith)
+
 -- what a try that recorded tells
 recorded_by : (file : ℕ) (began : List ℕ) (all : List Log) (st : Step ℕ) (code : ℕ) (after : Me ℕ View) → st.second ≡ word_set st.first code → IsCode code → after.1 ≡ [] → IsRecording file began all st after.0 → IsRecorded file began all code st.second after
-recorded_by file began all st code after is valid same h = (recording st.first st.second, ap code_of is ∙ code_of-set st.first code valid, h.2, (λ i. (h.0 i, same i)), h.1)
+recorded_by file began all st code after is valid same h =
+    let coded : code_of st.second ≡ code = ap code_of is ∙ code_of-set st.first code valid in
+    (recording st.first st.second, coded, h.2, (λ i. (h.0 i, same i)), h.1, ap is_seen h.1 ∙ unseen_pushed (start_of began file) (recorded_of all file) (recording st.first st.second) (subst IsCode (sym coded) valid))
 
 pub first_recorded : (file : ℕ) (before : Me ℕ View) (began : List ℕ) (all : List Log) (st : Step ℕ) (found code word : ℕ) (after : Me ℕ View) → before ≡ (Recorder began all, []) → st.word ≡ file → st.second ≡ word_set st.first code → IsCode code → found ≡ st.first → Recorded st before found after → word ≡ st.second → IsRecorded file began all code word after
 first_recorded file before began all st found code word after is at set_is valid hit told same =
@@ -215,13 +221,16 @@ second_recorded file before began all at st found code word after is set_is vali
     subst (λ n. IsRecorded file began all code n after) (sym same) (recorded_by file began all st code after set_is valid h.0 h.1)
 
 -- ---- what the recorder remembers
-remembers_more : (o written : List ℕ) (all : List Log) (file word : ℕ) (x : Recording) → length all ≡ files → file < files → word ≡ word_of (start_of o file) (recorded_of all file ++ x ∷ []) false → Remembers o written all → Remembers o (set written file word) (with_recording all file x)
-remembers_more o written all file word x b inside is old = let a = old.0 in (
+unflagged : (w : ℕ) → is_seen w ≡ false → without_seen w ≡ w
+unflagged w e = ap (λ b. if b then w - 4096 else w) e
+
+remembers_more : (o written : List ℕ) (all : List Log) (file word : ℕ) (x : Recording) → length all ≡ files → file < files → word ≡ word_of (start_of o file) (recorded_of all file ++ x ∷ []) false → is_seen word ≡ false → Remembers o written all → Remembers o (set written file word) (with_recording all file x)
+remembers_more o written all file word x b inside is unseen old = let a = old.0 in (
   length-set written file word ∙ old.0,
   λ g h. dite (ℕ_discrete g file)
-      (λ e. subst (λ k. get_or (set written file word) k 0 ≡ word_of (start_of o k) (recorded_of (with_recording all file x) k) false) (sym e)
-      (get_or-set_same written file word 0 (omega arith) ∙ is ∙ ap (λ l. word_of (start_of o file) l false) (sym (get_or-set_same all file (recorded_of all file ++ x ∷ []) [] (omega arith)))))
-      (λ n. get_or-set_other written file g word 0 n ∙ old.1 g h ∙ ap (λ l. word_of (start_of o g) l false) (sym (get_or-set_other all file g (recorded_of all file ++ x ∷ []) [] n))),
+      (λ e. subst (λ k. without_seen (get_or (set written file word) k 0) ≡ word_of (start_of o k) (recorded_of (with_recording all file x) k) false) (sym e)
+      (ap without_seen (get_or-set_same written file word 0 (omega arith)) ∙ unflagged word unseen ∙ is ∙ ap (λ l. word_of (start_of o file) l false) (sym (get_or-set_same all file (recorded_of all file ++ x ∷ []) [] (omega arith)))))
+      (λ n. ap without_seen (get_or-set_other written file g word 0 n) ∙ old.1 g h ∙ ap (λ l. word_of (start_of o g) l false) (sym (get_or-set_other all file g (recorded_of all file ++ x ∷ []) [] n))),
 )
 
 -- the recorder after a split that follows a recording
@@ -230,8 +239,8 @@ recorder_after before after o all file word a b = b ∙ ap (λ (m : Me ℕ View)
 
 -- what is true of the recorder then: its view, the number of its lists, and what it remembers
 pub recorder_kept : (before after : Me ℕ View) (o written : List ℕ) (all : List Log) (file word : ℕ) (x : Recording) → before ≡ (Sampled o (with_recording all file x) file word, []) → after ≡ (recorder_left before.0, before.1)
-    → length all ≡ files → file < files → word ≡ word_of (start_of o file) (recorded_of all file ++ x ∷ []) false → Remembers o written all
+    → length all ≡ files → file < files → word ≡ word_of (start_of o file) (recorded_of all file ++ x ∷ []) false → is_seen word ≡ false → Remembers o written all
     → (after ≡ (Recorder (opening_of after.0) (all_of after.0), [])) × (length (all_of after.0) ≡ files) × Remembers (opening_of after.0) (set written file word) (all_of after.0)
-recorder_kept before after o written all file word x a b la inside is old =
+recorder_kept before after o written all file word x a b la inside is unseen old =
     subst (λ (m : Me ℕ View). (m ≡ (Recorder (opening_of m.0) (all_of m.0), [])) × (length (all_of m.0) ≡ files) × Remembers (opening_of m.0) (set written file word) (all_of m.0)) (sym (recorder_after before after o (with_recording all file x) file word a b))
-    (refl, length-set all file (recorded_of all file ++ x ∷ []) ∙ la, remembers_more o written all file word x la inside is old)
+    (refl, length-set all file (recorded_of all file ++ x ∷ []) ∙ la, remembers_more o written all file word x la inside is unseen old)

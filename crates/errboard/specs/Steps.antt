@@ -5,7 +5,7 @@ use Rattle.atomic_table.specs.Seated.{TableId}
 use Rattle.atomic_table.specs.Table.{Me}
 use Rattle.atomic_table.specs.declared.shared.Seat.{Seat}
 use Rattle.errseq.specs.declared.recording.Recording.{Recording}
-use Rattle.errseq.specs.Word.{IsWithinTurn, sample_of}
+use Rattle.errseq.specs.Word.{IsWithinTurn, is_seen, sample_of}
 use Rattle.errseq.specs.Recorded.{raised, word_of}
 use Rattle.errseq.specs.Samples.{StandsFor, AreCodes, done_at}
 use Rattle.errboard.specs.declared.views.View.{View}
@@ -30,11 +30,11 @@ IsMarked file start tried found since after =
 abbrev pub with_recording : List (List Recording) → ℕ → Recording → List (List Recording)
 with_recording all file x = slice_set all file (recorded_of all file ++ x ∷ [])
 
--- the code is recorded, and this is the word then
+-- the code is recorded, and this is the word then, which has no SEEN
 abbrev pub IsRecorded : ℕ → List ℕ → List (List Recording) → ℕ → ℕ → Me ℕ View → Type 0
 IsRecorded file opening all code word after =
     (x : Recording) × (x.code ≡ code) × (x.raises ≡ true → 0 < length (recorded_of all file))
-    × (after ≡ (Sampled opening (with_recording all file x) file word, [])) × (word ≡ word_of (start_of opening file) (recorded_of all file ++ x ∷ []) false)
+    × (after ≡ (Sampled opening (with_recording all file x) file word, [])) × (word ≡ word_of (start_of opening file) (recorded_of all file ++ x ∷ []) false) × (is_seen word ≡ false)
 
 -- a poll found nothing new; or it found a code past what was done, and SEEN stands or a code was recorded since its load
 abbrev pub IsPolled : ℕ → ℕ → List Recording → ℕ → ℕ → ℕ → ℕ → Me ℕ View → Type 0

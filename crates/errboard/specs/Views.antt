@@ -1,5 +1,6 @@
 -- What the seats of a board know, and how views are cut and joined.
-use Rattle.std.specs.Prelude.{ℕ, ◌==◌, false, List, [], ◌∷◌, ◌++◌, map, length, drop, slice_index, slice_index_or, if◌then◌else◌}
+use Rattle.std.specs.Prelude.{ℕ, ◌==◌, ◌-◌, false, List, [], ◌∷◌, ◌++◌, map, length, drop, slice_index, slice_index_or}
+use Rattle.std.specs.Prelude.{if◌then◌else◌}
 use Rattle.pc_types.specs.declared.limits.TheConstants.{MAX_FILES}
 use Rattle.errseq.specs.declared.recording.Recording.{Recording}
 use Rattle.errseq.specs.Word.{code_of, counter_of, sample_of}
@@ -34,6 +35,11 @@ recorder_left v = v
 abbrev pub pass_right : View → View
 pass_right (Sampled opening all file found) = Pass file (start_of opening file) (recorded_of all file) (done_at (recorded_of all file) found) (sample_of found)
 pass_right v = Spent
+
+-- one that is told of the last recording, whoever else was
+abbrev pub owing_right : View → View
+owing_right (Sampled opening all file found) = Pass file (start_of opening file) (recorded_of all file) (length (recorded_of all file) - 1) 0
+owing_right v = Spent
 
 abbrev pub receipt_right : View → View
 receipt_right (Sampled opening all file found) = Receipt file (recorded_of all file)

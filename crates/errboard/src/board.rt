@@ -2,7 +2,7 @@
 
 ghost use Rattle.std.specs.Prelude.{◌≡◌, ◌≢◌, ◌⊎◌, ◌<◌, ◌≤◌, ◌∷◌, ◌↔◌, [], ℕ, true, length, drop, map, replicate, All, IfOk, IfErr, IsOk, IsOkUnless, IfSome, IfNone, IsSome};
 ghost use mathlib.Core.List.{IsPrefix};
-ghost use Rattle.errseq.specs.Word.{IsCode, IsWithinTurn, MayBeCarried, checked, code_of, without_seen};
+ghost use Rattle.errseq.specs.Word.{IsCode, IsWithinTurn, MayBeCarried, checked, code_of};
 ghost use Rattle.errseq.specs.Recorded.{raised, last_code, word_of};
 ghost use Rattle.errseq.specs.Samples.{StandsFor};
 ghost use Rattle.errboard.specs.Views.{files, opening_log, opening_view, told_of};
@@ -10,7 +10,7 @@ ghost use Rattle.errboard.specs.Views.{files, opening_log, opening_view, told_of
 use crate::recorder::Recorder;
 use crate::steps::{compare, inform};
 use crate::tokens::{Pass, Receipt};
-use crate::views::{FILES, Place, Told, View};
+use crate::views::{FILES, Place, Told, View, Words};
 use atomic_table::Table;
 use errseq::ErrWord;
 use pc_types::{ErrCode, Refusal};
@@ -60,7 +60,7 @@ impl Board {
         ensures board { IfOk result (λ r. r.1.board ≡ r.0) }
         ensures opening { IfOk result (λ r. r.1.opening ≡ words.now) }
         ensures recorded { IfOk result (λ r. r.1.all ≡ map opening_log words.now) }
-        ensures words { IfOk result (λ r. r.1.words ≡ map without_seen words.now) }
+        ensures words { IfOk result (λ r. r.1.words ≡ words.now) }
 
         // It is refused where a word can't be carried over, and else only where memory was.
         ensures code { (All MayBeCarried words.now → ⊥) → result ≡ Err Refusal.BadCode }
@@ -75,15 +75,23 @@ impl Board {
         ensures board { IfOk result (λ r. r.1.board ≡ r.0) }
         ensures opening { IfOk result (λ r. r.1.opening ≡ opening.now) }
         ensures recorded { IfOk result (λ r. r.1.all ≡ map opening_log opening.now) }
-        ensures words { IfOk result (λ r. r.1.words ≡ map without_seen opening.now) }
+        ensures words { IfOk result (λ r. r.1.words ≡ opening.now) }
         ensures refused { IsOkUnless result Refusal.Memory }
     {
         let (table, seat) = opened(alloc, opening)?;
         let Ok(words) = Arc::new(alloc, table) else {
             return Err(Refusal::Memory);
         };
-        let recorder = Recorder::of(Arc::try_clone(&words)?, seat, opening);
-        Ok((Board { words }, recorder))
+        let board = Board {
+            words: Arc::try_clone(&words)?,
+        };
+        Ok((Board { words }, Recorder::of(board, seat, opening)))
+    }
+
+    pub(crate) fn table(&self) -> &Words
+        ensures { result.now.table_id ≡ self.now }
+    {
+        &self.words.shared
     }
 
     /// The last code recorded, where there is one past what the pass was told; the pass is told of all then.

@@ -1,6 +1,6 @@
 //! The atomic steps, at a table and a seat.
 
-ghost use Rattle.std.specs.Prelude.{◌≡◌, ◌≢◌, ◌⊎◌, ◌<◌, [], true, false};
+ghost use Rattle.std.specs.Prelude.{◌≡◌, ◌≢◌, ◌⊎◌, ◌-◌, ◌<◌, [], true, false, length};
 ghost use mathlib.Core.List.{IsPrefix};
 ghost use Rattle.errseq.specs.Recorded.{word_of};
 ghost use Rattle.errseq.specs.Samples.{AreCodes, Owes, FitsFound};
@@ -11,8 +11,8 @@ ghost use Rattle.errboard.specs.Shown.{opening_of, all_of, file_of, start_in, kn
 ghost use Rattle.errboard.specs.Steps.{IsAt, Stays, IsMarked, IsPolled, IsRecorded, IsGiven};
 
 use crate::views::{
-    Confirms, Copies, Finds, GivesPass, GivesReceipt, Learns, Looks, Marks, Place, Records, Rests,
-    TakesBack, Words,
+    Confirms, Copies, Finds, GivesOwing, GivesPass, GivesReceipt, Learns, Looks, Marks, Place,
+    Records, Rests, TakesBack, Words,
 };
 use errseq::ErrWord;
 use pc_types::ErrCode;
@@ -129,6 +129,17 @@ pub(crate) fn give_pass(table: &Words, seat: &mut Place, file: usize) -> (ErrWor
     let found = find(table, seat, file);
     let pass = table.split_seat::<GivesPass>(seat);
     (found, pass)
+}
+
+// The load and the split of a new pass that is told of the last recording: the pass's seat. Its sample is 0.
+pub(crate) fn give_owing(table: &Words, seat: &mut Place, file: usize) -> Place
+    requires at { IsAt table.now.table_id seat.old file }
+    requires recorder { seat.old.me ≡ (Recorder (opening_of seat.old.me.0) (all_of seat.old.me.0), []) }
+    ensures seat { Stays seat.old seat.new × (seat.new.me ≡ seat.old.me) }
+    ensures given { (result.table_id ≡ table.now.table_id) × (result.me ≡ (Pass file (start_of (opening_of seat.old.me.0) file) (recorded_of (all_of seat.old.me.0) file) (length (recorded_of (all_of seat.old.me.0) file) - 1) 0, [])) }
+{
+    find(table, seat, file);
+    table.split_seat::<GivesOwing>(seat)
 }
 
 fn find(table: &Words, seat: &mut Place, file: usize) -> ErrWord

@@ -60,6 +60,33 @@ fn looks_twice(board: &Board, pass: &mut Pass) -> (Option<ErrCode>, Option<ErrCo
 }
 
 #[test]
+fn a_recorder_that_polls_alone_remembers_it(rt: HostRuntime) -> Result<(), Fail> {
+    let (board, mut recorder) = Board::new(rt.alloc())?;
+    let mut first = recorder.pass_remembered(FileId(0))?;
+    assert!(rt; recorder.poll(&mut first).is_none());
+
+    // Whoever comes after a recording and before the first poll is told of it, and nobody who comes after that poll.
+    recorder.record(FileId(0), ErrCode::IO);
+    let mut second = recorder.pass_remembered(FileId(0))?;
+    let mut third = recorder.pass_remembered(FileId(0))?;
+    assert!(rt; recorder.poll(&mut second) == Some(ErrCode::IO));
+    let mut fourth = recorder.pass_remembered(FileId(0))?;
+    assert!(rt; recorder.poll(&mut fourth).is_none() && recorder.poll(&mut second).is_none());
+    assert!(rt; recorder.poll(&mut first) == Some(ErrCode::IO));
+    assert!(rt; recorder.poll(&mut third) == Some(ErrCode::IO));
+
+    // It does not remember a poll of the board's, which a pass of the usual kind finds in the word.
+    recorder.record(FileId(0), ErrCode::IO);
+    assert!(rt; board.poll(&mut fourth) == Some(ErrCode::IO));
+    let mut usual = recorder.pass(FileId(0))?;
+    let mut again = recorder.pass_remembered(FileId(0))?;
+    assert!(rt; board.poll(&mut usual).is_none());
+    assert!(rt; recorder.poll(&mut again) == Some(ErrCode::IO));
+    assert!(rt; recorder.pass_remembered(FileId(64)).err() == Some(Refusal::NoSuchFile));
+    Ok(())
+}
+
+#[test]
 fn files_are_apart(rt: HostRuntime) -> Result<(), Fail> {
     let (board, mut recorder) = Board::new(rt.alloc())?;
     let mut first = recorder.pass(FileId(0))?;

@@ -113,6 +113,17 @@ impl Split<View> for GivesPass {
     ghost right = { pass_right };
 }
 
+/// The recorder gives a new pass of its file that is told of the last recording.
+pub struct GivesOwing;
+
+impl Split<View> for GivesOwing {
+    ghost use Rattle.errboard.specs.Views.{recorder_left, owing_right};
+
+    ghost left = { recorder_left };
+
+    ghost right = { owing_right };
+}
+
 /// The recorder gives a receipt for what its file has recorded.
 pub struct GivesReceipt;
 

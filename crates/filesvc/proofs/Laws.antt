@@ -1,25 +1,46 @@
 -- What every call keeps, one call after another.
-use Rattle.std.proofs.Common.{◌≡◌, ℕ, suc, ◌+◌, Bool, true, List, [], ◌∷◌, ◌++◌, refl, subst, ◌∙◌, arith}
+use Rattle.std.proofs.Common.{◌≡◌, ◌≢◌, ℕ, suc, ◌+◌, ◌≤◌, Bool, true, eq-eqb, ne_eqb, List, [], ◌∷◌, ◌++◌, refl, ap, sym, subst, ◌∙◌, arith}
 use Rattle.std.proofs.lemmas.List.Elements.{All-append, All-cons, All-nil, All-weaker}
-use Rattle.std.specs.Prelude.{All, None}
-use Rattle.errseq.proofs.Prefixes.{prefix_self, prefix_trans}
+use Rattle.std.specs.Prelude.{All, None, ◌==◌, if◌then◌else◌}
+use mathlib.Core.Logic.{dite}
+use native.Mathlib.Decide.{ℕ_discrete}
+use Rattle.errseq.proofs.Prefixes.{prefix_length, prefix_self, prefix_trans}
 use Rattle.machine.specs.declared.event.Reply.{Reply}
 use Rattle.world.specs.declared.step.Step.{Step}
 use Rattle.world.specs.Stepping.{WorldSeen, Plays, Steps}
 use Rattle.filesvc.specs.Attempts.{Helps}
 use Rattle.filesvc.specs.Made.{Moves, Tries, Try}
 use Rattle.filesvc.specs.Seen.{SoloSeen}
-use Rattle.filesvc.specs.Service.{Keeps, Serves}
+use Rattle.filesvc.specs.Service.{Keeps, Serves, failures_of}
+
+-- where no write failed, a file has an error that nobody was told of as before
+pub since_same : (u : Bool) (n m : ℕ) → m ≡ n → u ≡ (if m == n then u else true)
+since_same u n m e = sym (ap (λ t. if t then u else true) (eq-eqb m n e))
+
+since_failed : (u : Bool) (n m : ℕ) → m ≢ n → (if m == n then u else true) ≡ true
+since_failed u n m e = ap (λ t. if t then u else true) (ne_eqb m n e)
+
+-- in two calls, one after the other
+since_trans : (u v w : Bool) (a b c : ℕ) → a ≤ b → b ≤ c → v ≡ (if b == a then u else true) → w ≡ (if c == b then v else true) → w ≡ (if c == a then u else true)
+since_trans u v w a b c p q x y = dite (ℕ_discrete c a)
+    (λ e. let first : b ≡ a = omega arith in let second : c ≡ b = omega arith in y ∙ sym (since_same v b c second) ∙ x ∙ sym (since_same u a b first) ∙ since_same u a c e)
+    (λ n. dite (ℕ_discrete c b)
+        (λ e. let first : b ≢ a = (λ k. n (e ∙ k)) in y ∙ sym (since_same v b c e) ∙ x ∙ since_failed u a b first ∙ sym (since_failed u a c n))
+        (λ m. y ∙ since_failed v b c m ∙ sym (since_failed u a c n)))
+
+-- no call takes a failure back
+failures_rise : (a b : SoloSeen) → Keeps a b → (f : ℕ) → failures_of a f ≤ failures_of b f
+failures_rise a b k f = let more = prefix_length _ _ (k.recorded f) in let same = k.noted f in omega arith
 
 -- how many attempts were made is of no matter
 pub keeps_counted : (a b : SoloSeen) (m n : ℕ) → Keeps a b → Keeps (record a { attempts = m }) (record b { attempts = n })
-keeps_counted a b m n k = record { name = k.name; sizes = k.sizes; handles = k.handles; count = k.count; board = k.board; opening = k.opening; recorded = k.recorded; noted = k.noted; coded = k.coded; tells = k.tells; faults = k.faults }
+keeps_counted a b m n k = record { name = k.name; sizes = k.sizes; handles = k.handles; count = k.count; board = k.board; opening = k.opening; recorded = k.recorded; noted = k.noted; coded = k.coded; untold = k.untold; tells = k.tells; faults = k.faults }
 
 pub serves_counted : (a b : SoloSeen) (m n : ℕ) → Serves a b → Serves (record a { attempts = m }) (record b { attempts = n })
 serves_counted a b m n s = record { keeps = keeps_counted a b m n s.keeps; lengths = s.lengths; files = s.files }
 
 pub keeps_refl : (a : SoloSeen) → Keeps a a
-keeps_refl a = record { name = refl; sizes = refl; handles = refl; count = refl; board = refl; opening = refl; recorded = λ f. prefix_self _; noted = λ f. refl; coded = λ same. same; tells = refl; faults = omega arith }
+keeps_refl a = record { name = refl; sizes = refl; handles = refl; count = refl; board = refl; opening = refl; recorded = λ f. prefix_self _; noted = λ f. refl; coded = λ same. same; untold = λ f _. since_same _ _ _ refl; tells = refl; faults = omega arith }
 
 pub serves_refl : (a : SoloSeen) → Serves a a
 serves_refl a = record { keeps = keeps_refl a; lengths = λ f. refl; files = λ _. refl }
@@ -35,6 +56,7 @@ keeps_trans a b c k l = record {
   recorded = λ f. prefix_trans _ _ _ (k.recorded f) (l.recorded f);
   noted = λ f. (let x = k.noted f in let y = l.noted f in omega arith);
   coded = λ same. l.coded (k.coded same);
+  untold = λ f _. since_trans _ _ _ _ _ _ (failures_rise a b k f) (failures_rise b c l f) (k.untold f refl) (l.untold f refl);
   tells = l.tells ∙ k.tells;
   faults = (let x = k.faults in let y = l.faults in omega arith);
 }

@@ -18,7 +18,7 @@ pub mod Load
 pub mod Needs
 pub mod Noted
 pub mod Orderly
-pub mod Polling
+pub mod Polled
 pub mod Ranged
 pub mod RoomLaws
 pub mod Saved

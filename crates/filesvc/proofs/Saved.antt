@@ -1,6 +1,7 @@
 -- A flush of the device leaves the service as it was, and how an fsync ends by how its pages are saved.
 use Rattle.std.proofs.Common.{◌≡◌, ℕ, ◌+◌, ◌<◌, ◌≤◌, Bool, true, false, length, refl, ap, sym, subst, ◌∙◌, inl, inr}
-use Rattle.std.specs.Prelude.{◌⊎◌, Option, Some, None, is_some, Result, Ok, Err}
+use Rattle.std.specs.Option.{option_or}
+use Rattle.std.specs.Prelude.{◌⊎◌, Option, Some, None, is_some, unwrap_or, Result, Ok, Err}
 use Rattle.blockdev.specs.Device.{Outcome, Told, max_calls}
 use Rattle.errboard.specs.Shown.{RecorderSeen}
 use Rattle.pc_types.specs.Files.{page_of}
@@ -18,13 +19,13 @@ use Rattle.world.specs.Flushing.{IsFlushedOnce}
 use Rattle.world.specs.Stepping.{WorldSeen, world_of}
 use Rattle.filesvc.specs.Made.{Moves, is_for_sync}
 use Rattle.filesvc.specs.Rests.{IsOrderly, IsService}
-use Rattle.filesvc.specs.Saving.{Ends, IsSaveRefusal, IsUnflushed, SaveEnds}
+use Rattle.filesvc.specs.Saving.{Ends, IsSaveRefusal, IsUnflushed, SaveEnds, answer_of}
 use Rattle.filesvc.specs.Seen.{HandleSeen, SoloSeen}
-use Rattle.filesvc.specs.Service.{AreOnDevice, IsSyncRefusal, IsTallied, IsTold, Reports, Serves, errors_of}
-use Rattle.filesvc.specs.Service.{is_reported}
+use Rattle.filesvc.specs.Service.{AreOnDevice, IsPolled, IsSyncRefusal, IsTallied, Reports, Serves, errors_of}
+use Rattle.filesvc.specs.Service.{is_reported, is_untold, untold_since}
 use Rattle.filesvc.specs.Syncs.{service_of}
 use Rattle.filesvc.proofs.FileSteps.{within}
-use Rattle.filesvc.proofs.Laws.{keeps_refl}
+use Rattle.filesvc.proofs.Laws.{keeps_refl, since_same}
 
 -- ---- a flush
 
@@ -95,6 +96,7 @@ module _ (w v : WorldSeen) (u : Unmoved w v) (errors : RecorderSeen) where
       recorded = (keeps_refl (service_of w errors)).recorded;
       noted = λ f. ap (λ (s : State). length (errors_of (service_of w errors) f) + (file_at s f).failures) (sym u.core);
       coded = λ i f. i f ∙ ap (λ (s : State). (file_at s f).last_code) (sym u.core);
+      untold = λ f _. since_same _ _ _ (ap (λ (s : State). (file_at s f).failures) u.core);
       tells = ap is_some u.contents;
       faults = faults;
     };
@@ -134,19 +136,29 @@ saved_refusal b why e x = x
 
 -- ---- how the call ends
 
+or_none : (o : Option ℕ) → option_or o None ≡ o
+or_none None = refl
+or_none (Some code) = refl
+
+or_some : (o : Option ℕ) (code : ℕ) → answer_of (option_or o (Some code)) ≡ Err (Io (unwrap_or o code))
+or_some None code = refl
+or_some (Some c) code = refl
+
 module _ (first last : PageIndex) (old : SoloSeen) (h : HandleSeen) (new : SoloSeen) where
   pub refused_ends : (why : Refusal) → SaveEnds (record { 0 = h.number }) first last old.world (Err why) new.world
-      → Ends first last old h (Err why) new h
-  refused_ends (Io code) e = inr (inl (record { code = code; saves = e; answer = refl; kept = refl }))
-  refused_ends why e = inr (inr (inr (record { moves = e; unreported = refl; kept = refl })))
+      → is_untold new h.file ≡ untold_since old new h.file → Ends first last old h (Err why) new h
+  refused_ends (Io code) e u = inr (inl (record { code = code; saves = e; answer = refl; kept = refl; untold = u }))
+  refused_ends why e u = inr (inr (inr (record { moves = e; unreported = refl; kept = refl; untold = u })))
 
   pub refused_reports : (why : Refusal) → SaveEnds (record { 0 = h.number }) first last old.world (Err why) new.world
-      → Reports old h (Err why) new ⊎ IsUnflushed first last old h (Err why) new h
-  refused_reports (Io code) e = inr (record { code = code; saves = e; answer = refl; kept = refl })
-  refused_reports why e = inl tt
+      → is_untold new h.file ≡ untold_since old new h.file → Reports old h (Err why) new ⊎ IsUnflushed first last old h (Err why) new h
+  refused_reports (Io code) e u = inr (record { code = code; saves = e; answer = refl; kept = refl; untold = u })
+  refused_reports why e u = inl tt
 
-  pub polled_ends : (failed : Option ℕ) (result : Result Unit Refusal) (told : HandleSeen)
-      → SaveEnds (record { 0 = h.number }) first last old.world (Ok failed) new.world → IsTold new h told
-      → Ends first last old h result new told
-  polled_ends None result told e t = inl (record { saves = e; told = t })
-  polled_ends (Some code) result told e t = inr (inr (inl (record { code = code; syncs = e; told = t })))
+  pub polled_ends : (failed told : Option ℕ) (result : Result Unit Refusal) (after : HandleSeen)
+      → SaveEnds (record { 0 = h.number }) first last old.world (Ok failed) new.world → IsPolled old h told new after
+      → result ≡ answer_of (option_or told failed) → Ends first last old h result new after
+  polled_ends None told result after e p is =
+      inl (record { told = told; saves = e; polled = p; answer = is ∙ ap answer_of (or_none told) })
+  polled_ends (Some code) told result after e p is =
+      inr (inr (inl (record { code = code; told = told; syncs = e; polled = p; answer = is ∙ or_some told code })))

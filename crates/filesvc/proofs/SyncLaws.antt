@@ -46,7 +46,7 @@ use Rattle.world.proofs.SyncStays.{is_over, never_waits, over_leaves_files, sync
 use Rattle.runs.proofs.syncs.Track.{move_tracked}
 use Rattle.filesvc.specs.Rests.{AtOnce, IsOrderly, IsResting, IsService, IsServing, is_job}
 use Rattle.filesvc.specs.Seen.{SoloSeen}
-use Rattle.filesvc.specs.Service.{AreOnDevice, IsOnDevice, IsSyncRefusal, IsTallied, Serves, Tells, files}
+use Rattle.filesvc.specs.Service.{AreOnDevice, IsOnDevice, IsSyncRefusal, IsTallied, Serves, ServesBut, Tells, files}
 use Rattle.filesvc.specs.Syncs.{Drops, SyncTurn, clean_or, is_sync_end, service_of, sync_end_of}
 use Rattle.filesvc.specs.Made.{Moves, Syncs, Writes, is_for_sync, is_sync_write}
 use Rattle.filesvc.proofs.Laws.{moves_also, moves_refl, moves_trans, one_move, three, serves_refl}
@@ -669,7 +669,7 @@ refusal_counted new n TooManyInFlight x = x
 refusal_counted new n why x = absurd x
 
 -- no file has a page past the last that a sync may name
-pub whole_file : (name : ℕ) (old new : SoloSeen) (table : TableId) (f : ℕ) → IsServing name old.world table old.errors → Serves old new → Tells old
+pub whole_file : {p : ℕ → Bool} (name : ℕ) (old new : SoloSeen) (table : TableId) (f : ℕ) → IsServing name old.world table old.errors → ServesBut p old new → Tells old
     → AreOnDevice new f (record { 0 = 0 }) (record { 0 = LAST_PAGE }) → IsOnDevice new f
 whole_file name old new table f i s tells on = λ p small. on p (omega arith) (named_page p small) small
   where

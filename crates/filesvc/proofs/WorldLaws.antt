@@ -44,13 +44,13 @@ use Rattle.world.proofs.Stays.{handles_stay, keeps_handles, stays}
 use Rattle.runs.proofs.views.View.{put1_here}
 use Rattle.filesvc.specs.Rests.{AtOnce, IsAlone, IsNoted, IsOrderly, IsResting, IsService, IsServing, is_job}
 use Rattle.filesvc.specs.Seen.{SoloSeen}
-use Rattle.filesvc.specs.Service.{IsCoded, Keeps, Serves, Tells, files}
+use Rattle.filesvc.specs.Service.{IsCoded, Keeps, Serves, Tells, files, untold_since}
 use Rattle.filesvc.proofs.FailedWrites.{act_codes, act_failures, core_sound, failures_in, finish_codes, finish_rises}
-use Rattle.filesvc.proofs.Noted.{Notes, change_alike, count_in, noted_codes, noted_rises, notes, rise_alike}
+use Rattle.filesvc.proofs.Noted.{Notes, change_alike, count_in, noted_codes, noted_rises, noted_untold, notes, rise_alike, untold_in}
 use Rattle.filesvc.proofs.FileSizes.{AreBounded, bounded_stays, leaves_lengths, lengths_stay}
 use Rattle.filesvc.specs.Attempts.{Helps}
 use Rattle.filesvc.specs.Made.{Moves, is_help}
-use Rattle.filesvc.proofs.Laws.{one_move, three, serves_refl, serves_trans}
+use Rattle.filesvc.proofs.Laws.{one_move, three, serves_refl, serves_trans, since_same}
 use Rattle.filesvc.proofs.Orderly.{orderly_stays}
 
 -- ---- a device call, on the device
@@ -141,11 +141,11 @@ same_faults : (s : SoloSeen) (w : WorldSeen) → w.device ≡ s.world.device →
 same_faults s w d = subst (λ x. s.world.device.faults ≤ x.faults) (sym d) (omega arith)
 
 -- a step that raises the failures by those that are noted
-moved_keeps : (s : SoloSeen) (w : WorldSeen) (errors : RecorderSeen) (e : Move) → WorldStep (world_of s.world) e (world_of w) → keeps_handles e ≡ true → w.device ≡ s.world.device → Notes s.errors errors → ((f : ℕ) → count_in errors f + failures_in s.world.core f ≡ count_in s.errors f + failures_in w.core f) → (IsCoded s → IsCoded (record s { world = w; errors = errors })) → Keeps s (record s { world = w; errors = errors })
-moved_keeps s w errors e m k d n same codes =
+moved_keeps : (s : SoloSeen) (w : WorldSeen) (errors : RecorderSeen) (e : Move) → WorldStep (world_of s.world) e (world_of w) → keeps_handles e ≡ true → w.device ≡ s.world.device → Notes s.errors errors → ((f : ℕ) → count_in errors f + failures_in s.world.core f ≡ count_in s.errors f + failures_in w.core f) → (IsCoded s → IsCoded (record s { world = w; errors = errors })) → ((f : ℕ) → untold_in errors f ≡ untold_since s (record s { world = w; errors = errors }) f) → Keeps s (record s { world = w; errors = errors })
+moved_keeps s w errors e m k d n same codes untold =
     let a = stays (world_of s.world) (world_of w) e m in
     let b = handles_stay (world_of s.world) (world_of w) e k m in
-    record { name = a.1; sizes = a.0; handles = b.0; count = b.1; board = n.board; opening = n.opening; recorded = n.begins; noted = same; coded = codes; tells = ap (λ x. is_some x.contents) d; faults = same_faults s w d }
+    record { name = a.1; sizes = a.0; handles = b.0; count = b.1; board = n.board; opening = n.opening; recorded = n.begins; noted = same; coded = codes; untold = λ f _. untold f; tells = ap (λ x. is_some x.contents) d; faults = same_faults s w d }
 
 moved_sound : (old w : WorldSeen) (e : Move) → WorldStep (world_of old) e (world_of w) → w.device ≡ old.device → IsSound old → IsSound w
 moved_sound old w e m d i =
@@ -161,7 +161,7 @@ moved_sound old w e m d i =
     }
 
 pub made_keeps : (s : SoloSeen) (w : WorldSeen) (e : Event) (r : Reply) → Made s.world e r w → Sound s.world.core → keeps_handles (Act e r) ≡ true → Keeps s (record s { world = w })
-made_keeps s w e r m ok k = moved_keeps s w s.errors (Act e r) m.0 k m.1 (notes s.errors s.errors None r refl) (λ f. ap (λ n. count_in s.errors f + n) (sym (act_failures (world_of s.world) (world_of w) e r ok m.0 f))) (λ same f. same f ∙ sym (act_codes (world_of s.world) (world_of w) e r ok m.0 f))
+made_keeps s w e r m ok k = moved_keeps s w s.errors (Act e r) m.0 k m.1 (notes s.errors s.errors None r refl) (λ f. ap (λ n. count_in s.errors f + n) (sym (act_failures (world_of s.world) (world_of w) e r ok m.0 f))) (λ same f. same f ∙ sym (act_codes (world_of s.world) (world_of w) e r ok m.0 f)) (λ f. since_same (untold_in s.errors f) _ _ (act_failures (world_of s.world) (world_of w) e r ok m.0 f))
 
 pub made_files : (s : SoloSeen) (w : WorldSeen) (e : Event) (r : Reply) → Made s.world e r w → IsSound s.world → Tells s → files (record s { world = w }) ≡ plain_after (files s) e r
 made_files s w e r m i t = files_step (world_of s.world) (world_of w) (Act e r) (i.reached t) m.0
@@ -228,6 +228,10 @@ FewSerials w = w.core.next ≤ w.device.calls
 pub made_serials : (old w : WorldSeen) (e : Event) (r : Reply) → Made old e r w → is_job r ≡ false → FewSerials old → FewSerials w
 made_serials old w e r m j i = let a = next_stays (world_of old) (world_of w) (Act e r) (ap not (same_job r j)) m.0 in let b : w.device.calls ≡ old.device.calls = ap (λ d. d.calls) m.1 in omega arith
 
+-- with the board of what was recorded
+pub reboarded : (name : ℕ) (w : WorldSeen) (table : TableId) (errors : RecorderSeen) → IsService name w table errors → IsService name w errors.board errors
+reboarded name w table errors i = subst (λ t. IsService name w t errors) i.serving.board i
+
 -- what makes a service of a world that it goes on in
 pub goes_service : (name : ℕ) (s t : SoloSeen) (table : TableId) → IsServing name s.world table s.errors → Goes s t → IsResting t.world → FewSerials t.world → IsServing name t.world table t.errors
 goes_service name s t table i g rest n = record {
@@ -261,7 +265,7 @@ module _ (s : SoloSeen) (w : WorldSeen) (t : ℕ) (c : IsCalled s.world t w) (i 
   counts = performed s.world.device w.device c.job c.done c.performs
 
   called_keeps : Keeps s (record s { world = w })
-  called_keeps = record { name = ap (λ x. x.name) same_core; sizes = ap (λ x. x.sizes) same_core; handles = ap (λ x. x.handles) same_core; count = ap (λ x. length x.files) same_core; board = refl; opening = refl; recorded = λ g. prefix_self _; noted = λ g. ap (λ x. count_in s.errors g + failures_in x g) (sym same_core); coded = λ same g. same g ∙ ap (λ x. (file_at x g).last_code) (sym same_core); tells = counts.tells; faults = counts.faults i.counted }
+  called_keeps = record { name = ap (λ x. x.name) same_core; sizes = ap (λ x. x.sizes) same_core; handles = ap (λ x. x.handles) same_core; count = ap (λ x. length x.files) same_core; board = refl; opening = refl; recorded = λ g. prefix_self _; noted = λ g. ap (λ x. count_in s.errors g + failures_in x g) (sym same_core); coded = λ same g. same g ∙ ap (λ x. (file_at x g).last_code) (sym same_core); untold = λ g _. since_same (untold_in s.errors g) _ _ (ap (λ x. failures_in x g) same_core); tells = counts.tells; faults = counts.faults i.counted }
 
   pub called_goes : IfSome s.world.device.contents (λ _. MovesByCall s.world t w) → Goes s (record s { world = w })
   called_goes h = record {
@@ -284,7 +288,7 @@ Finished old t r new = WorldStep (world_of old) (Finish t r) (world_of new) × (
 -- with its failure noted
 pub finished_goes : (s : SoloSeen) (w : WorldSeen) (errors : RecorderSeen) (t : ℕ) (r : Reply) → Finished s.world t r w → IsNoted s.errors (flush_of s.world.core t) r errors → length s.errors.all ≡ MAX_FILES → IsSound s.world → Goes s (record s { world = w; errors = errors })
 finished_goes s w errors t r m n l i = record {
-  serves = record { keeps = moved_keeps s w errors (Finish t r) m.0 refl m.1 (notes s.errors errors (flush_of s.world.core t) r n) (rise_alike (flush_of s.world.core t) r _ _ _ _ (noted_rises s.errors errors (flush_of s.world.core t) r l n) (finish_rises (world_of s.world) (world_of w) t r i.core m.0)) (change_alike (flush_of s.world.core t) r _ _ _ _ (noted_codes s.errors errors (flush_of s.world.core t) r l n) (finish_codes (world_of s.world) (world_of w) t r i.core m.0)); lengths = lengths_stay (world_of s.world) (world_of w) (Finish t r) refl m.0; files = λ told. files_step (world_of s.world) (world_of w) (Finish t r) (i.reached told) m.0 };
+  serves = record { keeps = moved_keeps s w errors (Finish t r) m.0 refl m.1 (notes s.errors errors (flush_of s.world.core t) r n) (rise_alike (flush_of s.world.core t) r _ _ _ _ (noted_rises s.errors errors (flush_of s.world.core t) r l n) (finish_rises (world_of s.world) (world_of w) t r i.core m.0)) (change_alike (flush_of s.world.core t) r _ _ _ _ (noted_codes s.errors errors (flush_of s.world.core t) r l n) (finish_codes (world_of s.world) (world_of w) t r i.core m.0)) (noted_untold s.errors errors (flush_of s.world.core t) r l n _ _ (finish_rises (world_of s.world) (world_of w) t r i.core m.0)); lengths = lengths_stay (world_of s.world) (world_of w) (Finish t r) refl m.0; files = λ told. files_step (world_of s.world) (world_of w) (Finish t r) (i.reached told) m.0 };
   sound = moved_sound s.world w (Finish t r) m.0 m.1 i;
   lists = (notes s.errors errors (flush_of s.world.core t) r n).lists;
 }

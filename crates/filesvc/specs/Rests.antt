@@ -1,9 +1,9 @@
 -- Inside this crate: what holds of a service between its calls, and requests that are made, carried out and ended in one.
-use Rattle.std.specs.Prelude.{◌≡◌, ℕ, ◌<◌, ◌≤◌, ◌⊎◌, Bool, true, false, [], ◌∷◌, length, Option, Some, is_some}
+use Rattle.std.specs.Prelude.{◌≡◌, ℕ, ◌<◌, ◌≤◌, ◌==◌, ◌⊎◌, Bool, true, false, if◌then◌else◌, [], ◌∷◌, length, Option, Some, is_some}
 use Rattle.std.specs.FinMap as finmap
 use Rattle.atomic_table.specs.Seated.{TableId}
 use Rattle.blockdev.specs.Device.{max_calls}
-use Rattle.errboard.specs.Shown.{RecorderSeen}
+use Rattle.errboard.specs.Shown.{RecorderSeen, is_told}
 use Rattle.errboard.specs.Steps.{with_recording}
 use Rattle.errseq.specs.declared.recording.Recording.{Recording}
 use Rattle.pc_types.specs.declared.ids.Serial.{Serial}
@@ -73,10 +73,11 @@ abbrev pub is_job : Reply → Bool
 is_job (reply.Job t) = true
 is_job _ = false
 
--- a request that was a write of this file, and failed, was recorded; and else nothing
+-- a request that was a write of this file, and failed, was recorded, and nobody was told of it; and else nothing
 abbrev pub IsNoted : RecorderSeen → Option ℕ → Reply → RecorderSeen → Type 0
 IsNoted old (Some f) (reply.Failed code) new =
     (f < MAX_FILES) × (new.board ≡ old.board) × (new.opening ≡ old.opening) × (x : Recording) × (x.code ≡ code) × (new.all ≡ with_recording old.all f x)
+    × ((g : ℕ) → is_told new g ≡ (if g == f then false else is_told old g))
 IsNoted old _ _ new = new ≡ old
 
 -- the step was made, and where it began a request the device call and the end follow, whose reply this is and whose failure was recorded

@@ -1,7 +1,7 @@
 -- What holds of a service for one thread, in the terms of its callers: plain files, failed writes, and the answers of the cache.
-use Rattle.std.specs.Prelude.{◌≡◌, ◌≢◌, ℕ, ℤ, pos, negsuc, ◌+ℤ◌, ◌+◌, ◌<◌, ◌≤◌, nat_le, max, not, ◌==◌, ◌&&◌, ◌⊎◌, Bool}
+use Rattle.std.specs.Prelude.{◌≡◌, ◌≢◌, ℕ, ℤ, pos, negsuc, ◌+ℤ◌, ◌+◌, ◌-◌, ◌<◌, ◌≤◌, nat_le, nat_lt, max, not, ◌==◌, ◌&&◌, ◌⊎◌, Bool}
 use Rattle.std.specs.Prelude.{true, false, if◌then◌else◌, List, length, take, drop, Option, Some, None, is_some, Result}
-use Rattle.std.specs.Prelude.{Ok, Err}
+use Rattle.std.specs.Prelude.{Ok, Err, IfSome, IfNone}
 use Rattle.std.specs.FinMap as finmap
 use mathlib.Core.List.{IsPrefix}
 use Rattle.blockdev.specs.Device.{max_calls}
@@ -11,11 +11,11 @@ use Rattle.pc_types.specs.declared.limits.TheConstants.{MAX_FILE_SIZE, SERIAL_EN
 use Rattle.pc_types.specs.declared.refusal.Refusal.{Refusal}
 use Rattle.pc_types.specs.declared.refusal.Refusal.TheVariants.{BadHandle, DirtyLimit, Io, Memory, NoFrame, NoSpace}
 use Rattle.pc_types.specs.declared.refusal.Refusal.TheVariants.{TooLarge, TooLong, TooManyInFlight}
+use Rattle.errboard.specs.Shown.{is_told}
 use Rattle.errboard.specs.Views.{recorded_of}
 use Rattle.errseq.specs.declared.recording.Recording.{Recording}
 use Rattle.errseq.specs.Recorded.{last_code, raised}
-use Rattle.errseq.specs.Samples.{StandsFor, done_at}
-use Rattle.errseq.specs.Word.{IsWithinTurn, sample_of}
+use Rattle.errseq.specs.Word.{IsWithinTurn}
 use Rattle.machine.specs.declared.event.Event.{Event}
 use Rattle.machine.specs.declared.event.Event.TheVariants as event
 use Rattle.machine.specs.declared.event.Reply.{Reply}
@@ -53,6 +53,14 @@ failures_of s f = (file_at s.world.core f).failures
 abbrev pub IsCoded : SoloSeen → Type 0
 IsCoded s = (f : ℕ) → last_code (errors_of s f) ≡ (file_at s.world.core f).last_code
 
+-- whether a file has an error that nobody was told of, which is the last that was recorded of it
+abbrev pub is_untold : SoloSeen → ℕ → Bool
+is_untold s f = nat_lt 0 (length (errors_of s f)) && not (is_told s.errors f)
+
+-- whether it has one after calls in which nobody was told of it: where a write of it failed meanwhile, and else as before
+abbrev pub untold_since : SoloSeen → SoloSeen → ℕ → Bool
+untold_since old new f = if failures_of new f == failures_of old f then is_untold old f else true
+
 -- ---- handles
 
 -- whether a handle has this cache's name
@@ -74,7 +82,7 @@ CameFrom s h = Names s h → IsOpen s h
 
 -- its cache, with its open handles, and its board; what was recorded stays, and each write that fails is added at its end, once; and
 -- the device counts on
-pub record Keeps (old new : SoloSeen) : Type 0 where
+pub record KeepsBut (polled : ℕ → Bool) (old new : SoloSeen) : Type 0 where
   pub name : new.world.core.name ≡ old.world.core.name
   pub sizes : new.world.core.sizes ≡ old.world.core.sizes
   pub handles : new.world.core.handles ≡ old.world.core.handles
@@ -86,14 +94,22 @@ pub record Keeps (old new : SoloSeen) : Type 0 where
   pub noted : (f : ℕ) → length (errors_of new f) + failures_of old f ≡ length (errors_of old f) + failures_of new f
   -- each with its code
   pub coded : IsCoded old → IsCoded new
+  -- of each file that was not polled, nobody was told
+  pub untold : (f : ℕ) → polled f ≡ false → is_untold new f ≡ untold_since old new f
   pub tells : is_some new.world.device.contents ≡ is_some old.world.device.contents
   pub faults : old.world.device.faults ≤ new.world.device.faults
 
+abbrev pub Keeps : SoloSeen → SoloSeen → Type 0
+Keeps old new = KeepsBut (λ f. false) old new
+
 -- and it leaves the plain files as they are; their lengths also where the device does not tell its contents
-pub record Serves (old new : SoloSeen) : Type 0 where
-  pub keeps : Keeps old new
+pub record ServesBut (polled : ℕ → Bool) (old new : SoloSeen) : Type 0 where
+  pub keeps : KeepsBut polled old new
   pub lengths : (f : ℕ) → (file_at new.world.core f).size ≡ (file_at old.world.core f).size
   pub files : Tells old → files new ≡ files old
+
+abbrev pub Serves : SoloSeen → SoloSeen → Type 0
+Serves old new = ServesBut (λ f. false) old new
 
 -- ---- refusals
 
@@ -240,7 +256,7 @@ pub record Opens (old : SoloSeen) (f : ℕ) (append : Bool) (h : HandleSeen) (ne
   pub step : Step old.world.core (event.Open (record { 0 = f })) (reply.Handle (record { 0 = h.number })) new.world.core
   -- it is told of what was recorded before, but for the last where nobody was told of that
   pub known : h.pass.known ≡ errors_of old f
-  pub sampled : (loaded : ℕ) × StandsFor h.pass.start loaded h.pass.known × (h.pass.since ≡ sample_of loaded) × (h.pass.done ≡ done_at h.pass.known loaded)
+  pub done : h.pass.done ≡ (if is_untold old f then length (errors_of old f) - 1 else length (errors_of old f))
 
 abbrev pub Opened : SoloSeen → ℕ → Bool → Result HandleSeen Refusal → SoloSeen → Type 0
 Opened old f append (Ok h) new = Opens old f append h new
@@ -266,6 +282,14 @@ pub record IsTold (s : SoloSeen) (old new : HandleSeen) : Type 0 where
   pub file : new.pass.file ≡ old.pass.file
   pub known : new.pass.known ≡ errors_of s old.file
   pub done : new.pass.done ≡ length new.pass.known
+
+-- the handle was polled after these calls, with this answer: a code where it was owed one, after which its file has no error that nobody was
+-- told of
+pub record IsPolled (old : SoloSeen) (h : HandleSeen) (answer : Option ℕ) (new : SoloSeen) (after : HandleSeen) : Type 0 where
+  pub told : IsTold new h after
+  pub some : IfSome answer (λ code. Owes new h × (code ≡ last_code (errors_of new h.file)))
+  pub none : IfNone answer (IsCounted new h → Owes new h → ⊥)
+  pub untold : is_untold new h.file ≡ (if is_some answer then false else untold_since old new h.file)
 
 -- what an open answers, as a reply of the cache
 abbrev pub open_reply : Result HandleSeen Refusal → Reply

@@ -1,6 +1,6 @@
 //! Fsync, of a file or of a range of its pages.
 
-ghost use Rattle.std.specs.Prelude.{◌≡◌, ◌≢◌, ◌<◌, ◌≤◌, ◌+◌, ℕ, Some, ◌⊎◌, IfErr, IfOk, OnOk, Ok, Err, None, is_some, true, false};
+ghost use Rattle.std.specs.Prelude.{◌≡◌, ◌≢◌, ◌<◌, ◌≤◌, ◌+◌, ◌==◌, ℕ, Some, ◌⊎◌, IfErr, IfOk, OnOk, Ok, Err, None, is_some, true, false};
 ghost use Rattle.std.specs.FinMap as map;
 ghost use Rattle.pc_types.specs.declared.limits.TheConstants.{LAST_PAGE};
 ghost use Rattle.pc_types.specs.declared.refusal.Refusal.TheVariants.{BadHandle, BadRange};
@@ -9,7 +9,7 @@ ghost use Rattle.runs.specs.Syncing.{dirty_between};
 ghost use Rattle.filesvc.specs.Made.{Moves, Syncs, is_for_sync};
 ghost use Rattle.filesvc.specs.Rests.{IsService, IsServing};
 ghost use Rattle.filesvc.specs.Saving.{Ends, IsSaveRefusal, IsUnflushed, SaveEnds, Saves};
-ghost use Rattle.filesvc.specs.Service.{AreOnDevice, CameFrom, IsAsBefore, IsOnDevice, IsSyncRefusal, IsTallied, IsTold, IsUntried, Names, Reports, Serves, Tells, is_reported};
+ghost use Rattle.filesvc.specs.Service.{AreOnDevice, CameFrom, IsAsBefore, IsOnDevice, IsSyncRefusal, IsTallied, IsTold, IsUntried, Names, Reports, Serves, ServesBut, Tells, is_reported};
 ghost use Rattle.filesvc.specs.Syncs.{Drops, SyncTurn, clean_or, service_of, sync_end_of};
 
 use crate::handle::Handle;
@@ -30,7 +30,7 @@ impl<D: BlockDevice> Solo<D> {
     pub fn fsync(&mut self, handle: &mut Handle) -> Result<(), Refusal>
         requires came { CameFrom self.old handle.old }
         ensures foreign { handle.old.cache ≢ self.old.world.core.name → (result ≡ Err BadHandle) × IsUntried self.old self.new × (handle.new ≡ handle.old) }
-        ensures serves { Serves self.old self.new }
+        ensures serves { ServesBut (λ f. f == handle.old.file) self.old self.new }
         ensures attempts { Names self.old handle.old → self.new.attempts ≡ 1 }
         ensures ends { Ends (record { 0 = 0 }) (record { 0 = LAST_PAGE }) self.old handle.old result self.new handle.new }
         ensures clean { OnOk result (Saves (record { 0 = handle.old.number }) (record { 0 = 0 }) (record { 0 = LAST_PAGE }) self.old.world (Ok tt) self.new.world) }
@@ -60,7 +60,7 @@ impl<D: BlockDevice> Solo<D> {
         requires came { CameFrom self.old handle.old }
         ensures foreign { handle.old.cache ≢ self.old.world.core.name → (result ≡ Err BadHandle) × IsUntried self.old self.new × (handle.new ≡ handle.old) }
         ensures turned { Names self.old handle.old → last.0 < first.0 → (result ≡ Err BadRange) × IsAsBefore self.old self.new × (handle.new ≡ handle.old) }
-        ensures serves { Serves self.old self.new }
+        ensures serves { ServesBut (λ f. f == handle.old.file) self.old self.new }
         ensures attempts { Names self.old handle.old → self.new.attempts ≡ 1 }
         ensures ends { Ends first last self.old handle.old result self.new handle.new }
         ensures clean { OnOk result (Saves (record { 0 = handle.old.number }) first last self.old.world (Ok tt) self.new.world) }
@@ -85,7 +85,7 @@ impl<D: BlockDevice> Solo<D> {
             first,
             last,
         )?;
-        match self.poll(&mut handle.pass).or(failed) {
+        match self.recorder.poll(&mut handle.pass).or(failed) {
             Some(code) => Err(Refusal::Io(code)),
             None => Ok(()),
         }

@@ -1,6 +1,6 @@
 //! Files and handles: what comes and goes, where a cursor is put, and what a handle is told.
 
-ghost use Rattle.std.specs.Prelude.{◌≡◌, ◌≢◌, ◌+ℤ◌, pos, ◌<◌, ◌≤◌, length, drop, IfErr, IfOk, IfSome, IfNone, IsErr, IsOk, OnErr, Err};
+ghost use Rattle.std.specs.Prelude.{◌≡◌, ◌≢◌, ◌+ℤ◌, pos, ℕ, ◌<◌, ◌≤◌, ◌==◌, ◌&&◌, false, if◌then◌else◌, is_some, IfErr, IfOk, IfSome, IfNone, IsErr, IsOk, OnErr, Err};
 ghost use Rattle.pc_types.specs.declared.refusal.Refusal.TheVariants.{BadHandle, NoSuchFile};
 ghost use Rattle.pc_types.specs.declared.limits.TheConstants.{MAX_FILES};
 ghost use Rattle.machine.specs.declared.event.Event.TheVariants as event;
@@ -9,15 +9,13 @@ ghost use Rattle.machine.specs.State.{file_at};
 ghost use Rattle.machine.specs.Step.{Step};
 ghost use Rattle.world.specs.Stepping.{Steps};
 ghost use Rattle.world.specs.declared.step.Step.TheVariants as step;
-ghost use Rattle.errseq.specs.Recorded.{last_code, raised};
-ghost use Rattle.errseq.specs.Word.{IsWithinTurn};
-ghost use Rattle.filesvc.specs.Service.{CameFrom, FilesAfter, IsAsBefore, close_reply, IsCounted, IsTold, IsUntried, Names, Opened, Owes, errors_of, looks_of, open_reply, placed, target};
+ghost use Rattle.errseq.specs.Recorded.{last_code};
+ghost use Rattle.filesvc.specs.Service.{CameFrom, FilesAfter, IsAsBefore, close_reply, IsCounted, IsTold, IsUntried, Names, Opened, Owes, errors_of, is_untold, looks_of, open_reply, placed, target};
 
 use crate::handle::Handle;
 use crate::seek::Seek;
 use crate::solo::Solo;
 use blockdev::BlockDevice;
-use errboard::Pass;
 use pc_types::limits::MAX_FILE_SIZE;
 use pc_types::{ErrCode, FileId, Refusal};
 
@@ -47,7 +45,7 @@ impl<D: BlockDevice> Solo<D> {
         ensures attempts { self.new.attempts ≡ 1 }
     {
         self.attempts = 1;
-        let pass = self.recorder.pass(file)?;
+        let pass = self.recorder.pass_remembered(file)?;
         match self.world.open(file) {
             Ok(number) => Ok(Handle {
                 cache: self.name,
@@ -125,29 +123,16 @@ impl<D: BlockDevice> Solo<D> {
         ensures code { IfOk result (λ code. IfSome code (λ c. Owes self.old handle.old × (c ≡ last_code (errors_of self.old handle.old.file)))) }
         ensures none { IfOk result (λ code. IfNone code (IsCounted self.old handle.old → Owes self.old handle.old → ⊥)) }
         ensures told { IfOk result (λ _. IsTold self.new handle.old handle.new) }
-        ensures same { IsUntried self.old self.new }
+
+        // A code, and nothing else, takes the error from those that nobody was told of.
+        ensures untold { IfOk result (λ code. (f : ℕ) → is_untold self.new f ≡ (if f == handle.old.file && is_some code then false else is_untold self.old f)) }
+        ensures same { self.new ≡ record self.old { errors = record self.old.errors { words = self.new.errors.words }; attempts = 0 } }
     {
         self.attempts = 0;
         if handle.cache != self.name {
             return Err(Refusal::BadHandle);
         }
-        Ok(self.poll(&mut handle.pass))
-    }
-
-    /// Polls a pass, which knows all that was recorded then.
-    pub(crate) fn poll(&mut self, pass: &mut Pass) -> Option<ErrCode>
-        requires of_board { pass.old.board ≡ self.old.errors.board }
-        ensures same { self.new ≡ self.old }
-        ensures pass { (pass.new.board ≡ pass.old.board) × (pass.new.file ≡ pass.old.file) × (pass.new.start ≡ pass.old.start) }
-        ensures known { pass.new.known ≡ errors_of self.old pass.old.file }
-        ensures done { pass.new.done ≡ length (errors_of self.old pass.old.file) }
-        ensures code { IfSome result (λ c. (pass.old.done < length (errors_of self.old pass.old.file)) × (c ≡ last_code (errors_of self.old pass.old.file))) }
-        ensures none { IfNone result (IsWithinTurn (raised (drop pass.old.done (errors_of self.old pass.old.file))) → length (errors_of self.old pass.old.file) ≤ pass.old.done) }
-    {
-        self.recorder.level(pass);
-        let code = self.board.poll(pass);
-        self.recorder.level(pass);
-        code
+        Ok(self.recorder.poll(&mut handle.pass))
     }
 }
 

@@ -24,7 +24,6 @@ pub struct Solo<D: BlockDevice> {
     pub(crate) name: u64,
     // between two calls no request is in flight
     pub(crate) world: World<D>,
-    pub(crate) board: Board,
     pub(crate) recorder: Recorder,
     pub(crate) attempts: u64,
 }
@@ -46,7 +45,7 @@ impl<D: BlockDevice> Model for Solo<D> {
 
     ghost view = { λ s. record { world = s.world; errors = s.recorder; attempts = s.attempts } };
 
-    ghost invariant = { λ s. IsService s.name s.world s.board s.recorder };
+    ghost invariant = { λ s. IsService s.name s.world s.recorder.board s.recorder };
 }
 
 impl<D: BlockDevice> Solo<D> {
@@ -68,14 +67,13 @@ impl<D: BlockDevice> Solo<D> {
             return Err((Refusal::BadConfig, device));
         }
         prove!(device.calls() <= u64::MAX);
-        let Ok((board, recorder)) = Board::new(alloc) else {
+        let Ok((_board, recorder)) = Board::new(alloc) else {
             return Err((Refusal::Memory, device));
         };
         let world = World::new(alloc, geometry, name, device)?;
         Ok(Solo {
             name,
             world,
-            board,
             recorder,
             attempts: 0,
         })

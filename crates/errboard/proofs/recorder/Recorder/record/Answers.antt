@@ -11,5 +11,5 @@ invariant_of-self c =
     let r = c.record_at.ensures.recorded in
     let i = c.self.invariant in
     let s = c.split_seat-seat.ensures in
-    let k = recorder_kept _ _ _ _ _ _ _ _ r.3 s.2 i.3 c.requires r.4 i.4 in
+    let k = recorder_kept _ _ _ _ _ _ _ _ r.3 s.2 i.3 c.requires r.4 r.5 i.4 in
     (search rules, search rules, k.0, k.1, k.2)

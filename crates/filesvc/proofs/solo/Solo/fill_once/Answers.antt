@@ -3,19 +3,19 @@ use Rattle.filesvc.specs.Rooms.{IsMissed, wants}
 use Rattle.filesvc.specs.Seen.{SoloSeen}
 use Rattle.filesvc.proofs.Fills.{fill_gains, frame_free}
 use Rattle.filesvc.proofs.RoomLaws.{fill_faulted, fill_stopped}
-use Rattle.filesvc.proofs.WorldLaws.{at_once_helps, at_once_service, fill_begins, service_sound}
+use Rattle.filesvc.proofs.WorldLaws.{at_once_helps, at_once_service, fill_begins, reboarded, service_sound}
 use Rattle.filesvc.proofs.solo.Solo.fill_once.Goals as goal
 use Rattle.filesvc.proofs.solo.Solo.fill_once.Goals.{in-Failed, in-Refused}
 
 pub invariant_of-self : goal.invariant_of-self
 invariant_of-self g c =
     let s : SoloSeen = record { world = c.self.inside.world; errors = c.self.inside.recorder; attempts = 0 } in
-    at_once_service _ s _ _ _ _ _ _ (fill_begins c.args.span.handle c.args.page) refl c.fill_page.ensures.made c.self.invariant
+    reboarded _ _ _ _ (at_once_service _ s _ _ _ _ _ _ (fill_begins c.args.span.handle c.args.page) refl c.fill_page.ensures.made c.self.invariant)
 
 pub invariant_of-self-2 : goal.invariant_of-self-2
 invariant_of-self-2 g c =
     let s : SoloSeen = record { world = c.self.inside.world; errors = c.self.inside.recorder; attempts = 0 } in
-    at_once_service _ s _ _ _ _ _ _ (fill_begins c.args.span.handle c.args.page) refl c.fill_page.ensures.made c.self.invariant
+    reboarded _ _ _ _ (at_once_service _ s _ _ _ _ _ _ (fill_begins c.args.span.handle c.args.page) refl c.fill_page.ensures.made c.self.invariant)
 
 pub returns-in_default : goal.returns-in_default
 returns-in_default g c =

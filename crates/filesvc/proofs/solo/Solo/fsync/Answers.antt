@@ -1,11 +1,11 @@
 use Rattle.std.proofs.Common.{◌≤◌, arith, subst, sym}
-use Rattle.std.specs.Prelude.{Ok, Err, OnOk, Result}
+use Rattle.std.specs.Prelude.{Ok, Err, OnOk, Result, ◌==◌}
 use Rattle.pc_types.specs.declared.limits.TheConstants.{LAST_PAGE}
 use Rattle.pc_types.specs.declared.refusal.Refusal.{Refusal}
 use Rattle.machine.specs.State.{dirty_in, file_at}
 use Rattle.runs.specs.Syncing.{dirty_between}
 use Rattle.filesvc.specs.Seen.{SoloSeen}
-use Rattle.filesvc.specs.Service.{Serves, Tells}
+use Rattle.filesvc.specs.Service.{ServesBut, Tells}
 use Rattle.filesvc.proofs.Ranged.{some_dirty}
 use Rattle.filesvc.proofs.SyncLaws.{whole_file}
 use Rattle.filesvc.proofs.solo.Solo.fsync.Goals as goal
@@ -25,7 +25,7 @@ pub returns-clause-synced : goal.returns-clause-synced
 returns-clause-synced g c = λ tells.
     let old : SoloSeen = record { world = c.self.inside.world; errors = c.self.inside.recorder; attempts = c.self.inside.attempts } in
     on_ok c.fsync_range.result _ _
-    (whole_file c.self.inside.name old c.fsync_range.new.self c.self.inside.board c.args.handle.now.file c.self.invariant.serving
-    (subst (λ (s : SoloSeen). Serves s c.fsync_range.new.self) (sym c.self.view_is) c.fsync_range.ensures.serves)
+    (whole_file c.self.inside.name old c.fsync_range.new.self c.self.inside.recorder.board c.args.handle.now.file c.self.invariant.serving
+    (subst (λ (s : SoloSeen). ServesBut (λ f. f == c.args.handle.now.file) s c.fsync_range.new.self) (sym c.self.view_is) c.fsync_range.ensures.serves)
     (subst Tells (sym c.self.view_is) tells))
     (c.fsync_range.ensures.synced tells)

@@ -10,7 +10,7 @@ pub invariant_of-result : goal.invariant_of-result
 invariant_of-result g c = record {
   serving = record {
     named = ap (λ (w : WorldSeen). w.core.name) c.in_ok-world.ensures.fresh;
-    board = sym c.in-Ok.ensures.board;
+    board = refl;
     lists = lists_in _ c.in-Ok.ensures.nothing;
     rests = record { requests = ap (λ (w : WorldSeen). w.core.requests) c.in_ok-world.ensures.fresh; outcomes = ap (λ (w : WorldSeen). w.outcomes) c.in_ok-world.ensures.fresh };
     reached = reached_at c.in_ok-world.world _ (ap (λ (w : WorldSeen). w.device) c.in_ok-world.ensures.fresh) c.in_ok-world.ensures.first;
