@@ -204,8 +204,11 @@ impl<B: Naming, T: Trail> Locked<B, T> {
         ensures same { self.new ≡ self.old }
         ensures pass { pass.new ≡ record pass.old { known = pass.new.known } }
         ensures grows { IsPrefix pass.old.known pass.new.known }
-        ensures known { length pass.new.known ≡ (file_at self.old.core.state pass.old.file).failures }
+        ensures known { length pass.new.known ≡ (file_at self.old.core.state pass.new.file).failures }
+        ensures legal { After B.sizes B.name self.old.log.history self.old.core.state }
     {
+        // Lends that the history is legal.
+        let _ = self.held.core();
         self.held.level(pass);
     }
 
