@@ -216,7 +216,7 @@ told_on s t e r old new ok step records told =
 -- nothing failed yet, and nothing is recorded
 pub none_told : (s : State) (e : RecorderSeen) → s.files ≡ [] → e.all ≡ replicate files [] → AreTold s e
 none_told s e none all = record {
-  lists = ap length all ∙ length-replicate files [];
+  lists = ap length all ∙ length-replicate {A = List Recording} files [];
   counted = λ f. ap (λ l. length (recorded_of l f)) all ∙ empty files f
       ∙ sym (ap (λ (fs : List File). (get_or fs f no_file).failures) none ∙ nobody f);
 }
