@@ -5,3 +5,5 @@ pub mod Syncing
 pub mod Serving
 pub mod Closing
 pub mod Seating
+pub mod Owning
+pub mod Letting
