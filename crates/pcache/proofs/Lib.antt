@@ -1,2 +1,1 @@
-mod OneNumber
 mod Seating

@@ -1,4 +1,2 @@
-pub mod Asked
 pub mod Rounds
-pub mod Told
 pub mod Crews

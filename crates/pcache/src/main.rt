@@ -2,9 +2,9 @@
 //! The program of the page cache. `pcache run` reads a script of cache calls and prints what each answers; `pcache storm` makes
 //! calls from many threads at once, and replays their history.
 //!
-//! `storm` runs a storm: `options` says what it is asked for, `caller` has a thread that makes calls, `member` its seat, `steps` which
-//! calls these are, `crew` the workers, and `told` what is printed. `odd` says which entry of a history is not as plain files answer,
-//! which are those of `plain`.
+//! `storm` runs a storm, which the crate `storm_text` has in words: `caller` has a thread that makes calls, `member` its seat, `steps`
+//! which calls these are, and `crew` the workers. `odd` says which entry of a history is not as plain files answer, which are those of
+//! `plain`.
 
 ghost use Rattle.std.specs.Prelude.{◌≡◌, IsOkUnless};
 ghost use Rattle.textline.specs.Stops.{IsStatus, status_of};
@@ -13,13 +13,11 @@ mod caller;
 mod crew;
 mod member;
 mod odd;
-mod options;
 mod plain;
 mod steps;
 mod storm;
 #[cfg(test)]
 mod tests;
-mod told;
 
 use script::{run_script, say};
 use std::alloc::Global;
@@ -32,9 +30,9 @@ use std::sync::Wait;
 use std::thread::Threads;
 use std::time::SystemTime;
 use storm::{Weather, run_storm};
+use storm_text::say_usage;
 use textline::Stop;
 use textline::words::number;
-use told::say_usage;
 
 /// What the program is asked to do.
 #[derive(Drop)]

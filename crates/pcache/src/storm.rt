@@ -7,15 +7,13 @@ ghost use Rattle.locked.specs.Keeps.{IsLocked};
 ghost use Rattle.shared.specs.Keeps.{IsDisk};
 ghost use Rattle.shared.specs.Workers.{IsWorkerOf};
 ghost use Rattle.pcache.specs.Crews.{IsCrewOf};
-ghost use Rattle.pcache.specs.Told.{StormTells};
+ghost use Rattle.storm_text.specs.Told.{StormTells};
 
 use crate::caller::Caller;
 use crate::crew::{Crew, Pair, WORKERS, hand_back};
 use crate::member::{Member, members_of, seats_of};
 use crate::odd::Odd;
-use crate::options::Options;
 use crate::steps::{FILES, Steps};
-use crate::told::{Fault, say_usage, tell};
 use blockdev::{BlockDevice, FileDevice, MemDevice};
 use faulty::FaultyDevice;
 use held::log::Seat;
@@ -28,6 +26,7 @@ use std::io::Write;
 use std::marker::Brand;
 use std::sync::Wait;
 use std::thread::{Threads, join, map_vec};
+use storm_text::{Fault, Options, say_usage, tell};
 use trail::{FullTrail, first_odd};
 
 /// Bytes of a page, and how many blocks the device has.

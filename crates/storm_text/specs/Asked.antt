@@ -2,7 +2,7 @@
 use Rattle.std.specs.Prelude.{◌≡◌, ◌<◌, ◌≤◌, ℕ, List, [], ◌∷◌, Some, None}
 use denote.Ref.{Bor}
 use Rattle.textline.specs.Words.{IsNumber}
-use Rattle.pcache.specs.declared.options.Options.{Options}
+use Rattle.storm_text.specs.declared.options.Options.{Options}
 
 -- the word is this number, from 1 to the most
 abbrev pub IsNumberUpTo : ℕ → List ℕ → ℕ → Type 0

@@ -3,7 +3,7 @@
 ghost use Rattle.std.specs.Prelude.{OnOk, Ok};
 ghost use Rattle.std.specs.Io.KnownBytes.{Appends};
 ghost use Rattle.textline.specs.Lines.{Prints};
-ghost use Rattle.pcache.specs.Told.{Tells, lines_told, replay_text, usage_line};
+ghost use Rattle.storm_text.specs.Told.{Tells, lines_told, replay_text, usage_line};
 
 use std::fmt;
 use std::fmt::Display;

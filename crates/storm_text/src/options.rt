@@ -2,7 +2,7 @@
 
 ghost use Rattle.std.specs.Prelude.{◌<◌, ◌≤◌, ℕ, IfNone, IfSome};
 ghost use Rattle.textline.specs.Words.{IsNumber};
-ghost use Rattle.pcache.specs.Asked.{AsksFor, IsNumberUpTo};
+ghost use Rattle.storm_text.specs.Asked.{AsksFor, IsNumberUpTo};
 
 use textline::words::number;
 

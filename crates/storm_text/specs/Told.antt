@@ -3,10 +3,10 @@ use Rattle.std.specs.Prelude.{◌≡◌, ◌⊎◌, ◌*◌, ◌++◌, ℕ, Bool
 use Rattle.std.specs.Io.KnownBytes.{Appends, Keeps}
 use denote.Ref.{Bor}
 use Rattle.textline.specs.Lines.{ended}
-use Rattle.pcache.specs.Asked.{AsksFor}
-use Rattle.pcache.specs.declared.options.Options.{Options}
-use Rattle.pcache.specs.declared.told.Fault.{Fault}
-use Rattle.pcache.specs.declared.told.Fault.TheVariants.{Device, Memory}
+use Rattle.storm_text.specs.Asked.{AsksFor}
+use Rattle.storm_text.specs.declared.options.Options.{Options}
+use Rattle.storm_text.specs.declared.told.Fault.{Fault}
+use Rattle.storm_text.specs.declared.told.Fault.TheVariants.{Device, Memory}
 
 -- how the program is called
 abbrev pub usage_line : List ℕ
