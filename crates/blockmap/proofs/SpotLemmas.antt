@@ -1,5 +1,5 @@
 -- The pages' blocks that an array keeps, after each of its changes.
-use Rattle.std.proofs.Common.{◌≡◌, ◌≢◌, ℕ, ◌+◌, ◌*◌, ◌/◌, ◌%◌, ◌^◌, ◌<◌, ◌≤◌, true, false, cond, List, [], ◌∷◌, Option, Some, None, is_some, option_map, map as map_list, refl, sym, ap, subst, ◌∙◌, arith, inl, inr, IsSome, Ok, Err}
+use Rattle.std.proofs.Common.{◌≡◌, ℕ, ◌+◌, ◌*◌, ◌/◌, ◌%◌, ◌^◌, ◌<◌, ◌≤◌, true, false, cond, List, [], ◌∷◌, Option, Some, None, is_some, option_map, map as map_list, refl, sym, ap, subst, ◌∙◌, arith, inl, inr, IsSome, Ok, Err}
 use Rattle.std.specs.Prelude.{Result, OnOk, OnErr}
 use Rattle.std.specs.Prelude.{◌==◌}
 use Rattle.std.specs.Ordering.{nat_cmp, eq_by_cmp}
@@ -11,6 +11,7 @@ use Rattle.pc_types.specs.Spots.{Spot, place_cmp}
 use Rattle.xarray.specs.MarkedArray.{Range, Ranges, entry_at, erased, found_of, is_any, lowest, stored, unmarked, with_value}
 use Rattle.xarray.specs.declared.entry.Found.{Found}
 use Rattle.xarray.proofs.Singles as singles
+use Rattle.idalloc.proofs.MarkLemmas.{found_entry, found_none, get_here, get_there}
 use Rattle.blockmap.specs.Blocks.{Spots}
 use Rattle.blockmap.specs.Keys.{AreSpots, IsPageFrom, NoneFrom, key_of, place_of, spot_of, spots}
 use Rattle.blockmap.proofs.PlaceLemmas.{place_back, places_antisymmetric, places_total, tie_beyond, tie_here, tie_there}
@@ -168,12 +169,6 @@ range_at m k file page within same h = some_range m k (map.get m k) refl (ap (λ
 
 -- ---- what the calls change
 
-get_here : (m : Ranges) (i : ℕ) (r : Range) → map.get (map.insert m i r) i ≡ Some r
-get_here m i r = map.get-insert nat_cmp_total m i r i ∙ cond-true (eq_by_cmp nat_cmp i i) (Some r) (map.get m i) (unsigned_tied i i ∙ eq-eqb i i refl)
-
-get_there : (m : Ranges) (i : ℕ) (r : Range) (q : ℕ) → q ≢ i → map.get (map.insert m i r) q ≡ map.get m q
-get_there m i r q differs = map.get-insert nat_cmp_total m i r q ∙ cond-false (eq_by_cmp nat_cmp q i) (Some r) (map.get m q) (unsigned_tied q i ∙ ne_eqb q i differs)
-
 pub are-empty : AreSpots map.empty
 are-empty = record { single = singles.single-empty; fits = λ i r is. absurd (none-some r (sym (map.get-empty nat_cmp i) ∙ is)) }
 
@@ -251,14 +246,6 @@ erased-spots m k file page are within same =
     ∙ ap (map.remove (spots m)) (ap place_of same ∙ place_back file page within)
 
 -- ---- a search
-
-found_entry : (o : Option (ℕ × Range)) (f : Found) → Some f ≡ option_map found_of o → (e : ℕ × Range) × (o ≡ Some e) × (found_of e ≡ f)
-found_entry None f h = absurd (none-some f (sym h))
-found_entry (Some e) f h = (e, refl, sym (same_Some f (found_of e) h))
-
-found_none : (o : Option (ℕ × Range)) → None ≡ option_map found_of o → o ≡ None
-found_none None h = refl
-found_none (Some e) h = absurd (none-some (found_of e) h)
 
 entry_page : (m : Ranges) (file from low high first : ℕ) (r : Range) → low ≡ file * 2 ^ 36 + from → high ≡ file * 2 ^ 36 + 68719476735 → map.get m first ≡ Some r → low ≤ first → first ≤ high → IsPageFrom (spots m) file from (first % 2 ^ 36)
 entry_page m file from low high first r low_is high_is there above below =

@@ -142,10 +142,10 @@ none_open m from to are is =
 
 -- ---- what the calls change
 
-get_here : (m : Ranges) (i : ℕ) (r : Range) → map.get (map.insert m i r) i ≡ Some r
+pub get_here : (m : Ranges) (i : ℕ) (r : Range) → map.get (map.insert m i r) i ≡ Some r
 get_here m i r = map.get-insert nat_cmp_total m i r i ∙ cond-true (eq_by_cmp nat_cmp i i) (Some r) (map.get m i) (unsigned_tied i i ∙ eq-eqb i i refl)
 
-get_there : (m : Ranges) (i : ℕ) (r : Range) (q : ℕ) → q ≢ i → map.get (map.insert m i r) q ≡ map.get m q
+pub get_there : (m : Ranges) (i : ℕ) (r : Range) (q : ℕ) → q ≢ i → map.get (map.insert m i r) q ≡ map.get m q
 get_there m i r q differs = map.get-insert nat_cmp_total m i r q ∙ cond-false (eq_by_cmp nat_cmp q i) (Some r) (map.get m q) (unsigned_tied q i ∙ ne_eqb q i differs)
 
 pub marked-empty : AreMarked map.empty
@@ -188,11 +188,11 @@ marked-remove m i are = record {
 
 -- ---- answers of a search
 
-found_entry : (o : Option (ℕ × Range)) (f : Found) → Some f ≡ option_map found_of o → (e : ℕ × Range) × (o ≡ Some e) × (found_of e ≡ f)
+pub found_entry : (o : Option (ℕ × Range)) (f : Found) → Some f ≡ option_map found_of o → (e : ℕ × Range) × (o ≡ Some e) × (found_of e ≡ f)
 found_entry None f h = absurd (none-some f (sym h))
 found_entry (Some e) f h = (e, refl, sym (same_Some f (found_of e) h))
 
-found_none : (o : Option (ℕ × Range)) → None ≡ option_map found_of o → o ≡ None
+pub found_none : (o : Option (ℕ × Range)) → None ≡ option_map found_of o → o ≡ None
 found_none None h = refl
 found_none (Some e) h = absurd (none-some (found_of e) h)
 

@@ -1,34 +1,28 @@
 -- Finite maps from numbers: equal maps, their entries changed one by one, searched and counted.
 use Rattle.std.proofs.Common.{◌≡◌, ℕ, ◌+◌, ◌-◌, ◌<◌, ◌≤◌, Bool, true, false, cond, eqb, eqb-true, eq-eqb, T, List, [], ◌∷◌, length, refl, ap, sym, ◌∙◌, inl, inr, arith, map}
-use Rattle.std.specs.Prelude.{◌&&◌, Option, Some, None, option_map, is_some, find, count_by}
+use Rattle.std.specs.Prelude.{◌&&◌, Option, Some, None, option_map, find, count_by}
 use Rattle.std.specs.declared.cmp.Ordering.{Ordering}
 use Rattle.std.specs.declared.cmp.Ordering.TheVariants.{Less, Equal, Greater}
 use Rattle.std.specs.Ordering.{nat_cmp, eq_by_cmp, is_lt}
 use Rattle.std.specs.Cmp.{nat_cmp_total, unsigned_tied}
 use Rattle.std.specs.FinMap as finmap
-use Rattle.std.specs.FinMap.{FinMap, nat_cmp-IsAntisymmetric, put, get-insert, get-remove, get-entries, get-from_entries, same_map, entries-insert, entries_sorted, len-entries, len-empty, len-insert, from_entries}
+use Rattle.std.specs.FinMap.{FinMap, put, get-entries, get-from_entries, entries-insert, entries_sorted, len-entries, len-empty, from_entries}
 use Rattle.std.specs.FinMap.Entries.{below_all, is_sorted, by_order}
 use Rattle.std.proofs.lemmas.Bool.{cases_eq}
 use Rattle.std.proofs.lemmas.Option.{none-some}
 use Rattle.std.proofs.lemmas.Bool.Decides.{nat_tests}
 use Rattle.std.proofs.lemmas.List.Sums.{sum_by-cons, count_by-le-length}
+use Rattle.maps.proofs.Found.{above}
+pub use Rattle.maps.proofs.Found.{both_true, found, found_lowest, found_none}
+pub use Rattle.maps.proofs.Lengths.{len_put_new as len_insert_new, len_put_there as len_insert_old, len_one_gone as len_remove_old}
+pub use Rattle.maps.proofs.MapLaws.{same_nat_map}
+pub use Rattle.maps.proofs.Maps.{get-insert_nat, get-remove_nat}
 
 -- ---- tests
-
-pub both_true : (a b : Bool) → T (a && b) → T a × T b
-both_true true b h = (tt, h)
-both_true false b h = absurd h
 
 pub both_join : (a b : Bool) → T a → T b → T (a && b)
 both_join true b p q = q
 both_join false b p q = p
-
-is_true : (b : Bool) → T b → b ≡ true
-is_true true h = refl
-is_true false h = absurd h
-
-less : (a b : ℕ) → is_lt (nat_cmp a b) ≡ true → a < b
-less a b e = grind (arith, nat_tests)
 
 cmp_less : (a b : ℕ) → nat_cmp a b ≡ Less → a < b
 cmp_less a b e = grind (arith, nat_tests)
@@ -53,20 +47,11 @@ bit b = cond b 1 0
 -- ---- equal maps
 
 module _ {X : Type 0} where
-  pub same_nat_map : (m n : FinMap nat_cmp X) → ((q : ℕ) → finmap.get m q ≡ finmap.get n q) → m ≡ n
-  same_nat_map m n is = same_map nat_cmp_total nat_cmp-IsAntisymmetric m n is
-
-  pub get-insert_nat : (m : FinMap nat_cmp X) (k : ℕ) (x : X) (q : ℕ) → finmap.get (finmap.insert m k x) q ≡ cond (eqb q k) (Some x) (finmap.get m q)
-  get-insert_nat m k x q = get-insert nat_cmp_total m k x q ∙ ap (λ b. cond b (Some x) (finmap.get m q)) (unsigned_tied q k)
-
   pub get-insert_here : (m : FinMap nat_cmp X) (k : ℕ) (x : X) (q : ℕ) → q ≡ k → finmap.get (finmap.insert m k x) q ≡ Some x
   get-insert_here m k x q e = get-insert_nat m k x q ∙ ap (λ b. cond b (Some x) (finmap.get m q)) (eq-eqb q k e)
 
   pub get-insert_there : (m : FinMap nat_cmp X) (k : ℕ) (x : X) (q : ℕ) → (q ≡ k → ⊥) → finmap.get (finmap.insert m k x) q ≡ finmap.get m q
   get-insert_there m k x q n = get-insert_nat m k x q ∙ ap (λ b. cond b (Some x) (finmap.get m q)) (apart q k n)
-
-  pub get-remove_nat : (m : FinMap nat_cmp X) (k q : ℕ) → finmap.get (finmap.remove m k) q ≡ cond (eqb q k) None (finmap.get m q)
-  get-remove_nat m k q = get-remove nat_cmp_total m k q ∙ ap (λ b. cond b None (finmap.get m q)) (unsigned_tied q k)
 
   pub get-remove_here : (m : FinMap nat_cmp X) (k q : ℕ) → q ≡ k → finmap.get (finmap.remove m k) q ≡ None
   get-remove_here m k q e = get-remove_nat m k q ∙ ap (λ b. cond b None (finmap.get m q)) (eq-eqb q k e)
@@ -95,17 +80,6 @@ module _ {X : Type 0} where
     | inr n ↦ get-insert_there m k x q n
   ])
 
-  -- ---- how many entries
-
-  pub len_insert_new : (m : FinMap nat_cmp X) (k : ℕ) (x : X) → finmap.get m k ≡ None → finmap.len (finmap.insert m k x) ≡ finmap.len m + 1
-  len_insert_new m k x none = len-insert nat_cmp_total m k x ∙ ap (λ o. cond (is_some o) (finmap.len m) (finmap.len m + 1)) none
-
-  pub len_insert_old : (m : FinMap nat_cmp X) (k : ℕ) (x y : X) → finmap.get m k ≡ Some y → finmap.len (finmap.insert m k x) ≡ finmap.len m
-  len_insert_old m k x y some = len-insert nat_cmp_total m k x ∙ ap (λ o. cond (is_some o) (finmap.len m) (finmap.len m + 1)) some
-
-  pub len_remove_old : (m : FinMap nat_cmp X) (k : ℕ) (x : X) → finmap.get m k ≡ Some x → finmap.len m ≡ finmap.len (finmap.remove m k) + 1
-  len_remove_old m k x some = sym (ap finmap.len (insert-remove m k x some)) ∙ len_insert_new (finmap.remove m k) k x (get-remove_here m k k refl)
-
 -- ---- the entries of a map
 
 -- what holds of each entry
@@ -119,17 +93,6 @@ module _ {X : Type 0} where
 
   find_later : (q : ℕ) (e : ℕ × X) (es : List (ℕ × X)) → (q ≡ e.0 → ⊥) → finmap.find nat_cmp q (e ∷ es) ≡ finmap.find nat_cmp q es
   find_later q e es n = ap (λ b. cond b (Some e.1) (finmap.find nat_cmp q es)) (unsigned_tied q e.0 ∙ apart q e.0 n)
-
-  -- a key that stands in the entries is above what is below all
-  above : (x q : ℕ) (v : X) (es : List (ℕ × X)) → T (below_all nat_cmp x es) → finmap.find nat_cmp q es ≡ Some v → x < q
-  above x q v [] h e = absurd cc
-  above x q v (y ∷ es) h e =
-      let parts = both_true _ _ h in
-      let l = less x y.0 (is_true _ parts.0) in
-      elim (cases_eq q y.0) [
-        | inl same ↦ omega (arith, same, l)
-        | inr n ↦ above x q v es parts.1 (sym (find_later q y es n) ∙ e)
-      ]
 
   -- a fact on what a map has is a fact on each entry
   all_in : (P : ℕ × X → Type 0) (es : List (ℕ × X)) → T (is_sorted nat_cmp es) → ((e : ℕ × X) → finmap.find nat_cmp e.0 es ≡ Some e.1 → P e) → AllEntries P es
@@ -179,65 +142,6 @@ module _ {X : Type 0} where
   pub count_none : (p : ℕ × X → Bool) (m : FinMap nat_cmp X) → ((k : ℕ) (x : X) → finmap.get m k ≡ Some x → p (k, x) ≡ false) → count_by p (finmap.entries m) ≡ 0
   count_none p m never = count_same p (λ _. false) m never ∙ count-none (finmap.entries m)
 
-  -- ---- an entry that a test finds
-
-  found_in : (test : ℕ × X → Bool) (e : ℕ × X) (es : List (ℕ × X)) → T (is_sorted nat_cmp es) → find test es ≡ Some e → (test e ≡ true) × (finmap.find nat_cmp e.0 es ≡ Some e.1)
-  found_in test e [] h k = absurd cc
-  found_in test e (y ∷ es) h k =
-      let parts = both_true _ _ h in
-      elim (test y) as (λ b. test y ≡ b → cond b (Some y) (find test es) ≡ Some e → (test e ≡ true) × (finmap.find nat_cmp e.0 (y ∷ es) ≡ Some e.1)) [
-        | true ↦ λ t j. (let same : y ≡ e = cc in (sym (ap test same) ∙ t, ap (λ (z : ℕ × X). finmap.find nat_cmp z.0 (y ∷ es)) (sym same) ∙ find_here y es ∙ ap (λ (z : ℕ × X). Some z.1) same))
-        | false ↦ λ t j.
-            let rest = found_in test e es parts.1 j in
-            let l = above y.0 e.0 e.1 es parts.0 rest.1 in
-            (rest.0, find_later e.0 y es (λ same. omega (arith, same, l)) ∙ rest.1)
-      ] refl k
-
-  lowest_in : (test : ℕ × X → Bool) (e : ℕ × X) (es : List (ℕ × X)) → T (is_sorted nat_cmp es) → find test es ≡ Some e → (q : ℕ) (v : X) → finmap.find nat_cmp q es ≡ Some v → test (q, v) ≡ true → e.0 ≤ q
-  lowest_in test e [] h k q v f t = absurd cc
-  lowest_in test e (y ∷ es) h k q v f t =
-      let parts : T (below_all nat_cmp y.0 es) × T (is_sorted nat_cmp es) = both_true _ _ h in
-      elim (test y) as (λ b. test y ≡ b → cond b (Some y) (find test es) ≡ Some e → e.0 ≤ q) [
-        | true ↦ λ s j. (
-            let same : y ≡ e = cc in
-            let key = ap (λ (z : ℕ × X). z.0) same in
-            elim (cases_eq q y.0) [
-              | inl n ↦ omega (arith, key, n)
-              | inr n ↦ (let l = above y.0 q v es parts.0 (sym (find_later q y es n) ∙ f) in omega (arith, key, l))
-            ]
-            )
-        | false ↦ λ s j. elim (cases_eq q y.0) [
-          | inl n ↦ absurd (
-              let a : Some y.1 ≡ Some v = sym (find_here y es) ∙ ap (λ z. finmap.find nat_cmp z (y ∷ es)) (sym n) ∙ f in
-              let b : y.1 ≡ v = cc in
-              let g : test y ≡ test (q, v) = (λ i. test (sym n i, b i)) in
-              cc
-              )
-          | inr n ↦ lowest_in test e es parts.1 j q v (sym (find_later q y es n) ∙ f) t
-        ]
-      ] refl k
-
-  none_in : (test : ℕ × X → Bool) (es : List (ℕ × X)) → find test es ≡ None → (q : ℕ) (v : X) → finmap.find nat_cmp q es ≡ Some v → test (q, v) ≡ false
-  none_in test [] k q v f = absurd cc
-  none_in test (y ∷ es) k q v f =
-      elim (test y) as (λ b. test y ≡ b → cond b (Some y) (find test es) ≡ None → test (q, v) ≡ false) [
-        | true ↦ λ s j. absurd cc
-        | false ↦ λ s j. elim (cases_eq q y.0) [
-          | inl n ↦ (let a : Some y.1 ≡ Some v = sym (find_here y es) ∙ ap (λ z. finmap.find nat_cmp z (y ∷ es)) (sym n) ∙ f in let b : y.1 ≡ v = cc in (λ i. test (n i, sym b i)) ∙ s)
-          | inr n ↦ none_in test es j q v (sym (find_later q y es n) ∙ f)
-        ]
-      ] refl k
-
-  module _ (m : FinMap nat_cmp X) (test : ℕ × X → Bool) where
-    pub found : (e : ℕ × X) → find test (finmap.entries m) ≡ Some e → (test e ≡ true) × (finmap.get m e.0 ≡ Some e.1)
-    found e k = let a = found_in test e (finmap.entries m) (entries_sorted m) k in (a.0, get-entries m e.0 ∙ a.1)
-
-    pub found_lowest : (e : ℕ × X) → find test (finmap.entries m) ≡ Some e → (q : ℕ) (v : X) → finmap.get m q ≡ Some v → test (q, v) ≡ true → e.0 ≤ q
-    found_lowest e k q v f t = lowest_in test e (finmap.entries m) (entries_sorted m) k q v (sym (get-entries m q) ∙ f) t
-
-    pub found_none : find test (finmap.entries m) ≡ None → (q : ℕ) (v : X) → finmap.get m q ≡ Some v → test (q, v) ≡ false
-    found_none k q v f = none_in test (finmap.entries m) k q v (sym (get-entries m q) ∙ f)
-
   -- ---- how many entries
 
   short : (n low : ℕ) (es : List (ℕ × X)) → T (is_sorted nat_cmp es) → ((q : ℕ) (x : X) → finmap.find nat_cmp q es ≡ Some x → (low ≤ q) × (q < n)) → length es ≤ n - low
@@ -271,7 +175,7 @@ module _ {X : Type 0} where
   none_below x q [] h l = refl
   none_below x q (y ∷ es) h l =
       let parts = both_true _ _ h in
-      let m = less x y.0 (is_true _ parts.0) in
+      let m = above x y.0 y.1 (y ∷ es) h (find_here y es) in
       find_later q y es (λ same. omega (arith, same, m, l)) ∙ none_below x q es parts.1 l
 
   count_put : (p : ℕ × X → Bool) (k : ℕ) (v : X) (es : List (ℕ × X)) → T (is_sorted nat_cmp es) → count_by p (put nat_cmp k v es) + taken p k (finmap.find nat_cmp k es) ≡ count_by p es + bit (p (k, v))
