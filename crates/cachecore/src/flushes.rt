@@ -61,7 +61,7 @@ impl CacheCore {
         };
         let block = placed.block;
         self.pages
-            .begin_write(file.0, page.0, buffer.as_mut_slice());
+            .start_write(file.0, page.0, buffer.as_mut_slice());
         self.blocks.hold(block);
         let serial = self.requests.begin(Kind::Flush, file, page, block);
         Job::new(self.name, serial, Kind::Flush, block, buffer)
@@ -91,13 +91,15 @@ impl CacheCore {
         }
         match outcome {
             Ok(()) => {
-                self.pages.end_write(request.file.0, request.page.0, false);
+                self.pages
+                    .finish_write(request.file.0, request.page.0, false);
                 self.blocks.set_written(request.file, request.page);
                 Ok(Ended::Done(buffer))
             }
             Err(code) => {
                 // DIRTY again, and counted: a sync that ends compares the counts (rules 9 and 14 of docs/DESIGN.md).
-                self.pages.end_write(request.file.0, request.page.0, true);
+                self.pages
+                    .finish_write(request.file.0, request.page.0, true);
                 self.pages
                     .note_failure(request.file.0, u64::from(code.code()));
                 Ok(Ended::Failed(code, buffer))

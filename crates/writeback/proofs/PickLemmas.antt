@@ -7,13 +7,14 @@ use Rattle.std.specs.FinMap as finmap
 use Rattle.std.specs.FinMap.{FinMap, entries_sorted}
 use Rattle.std.specs.FinMap.Entries.{below_all, is_sorted}
 use Rattle.std.proofs.lemmas.Bool.Decides.{nat_tests}
+use Rattle.pc_types.specs.Tags.{TagSet}
 use Rattle.pc_types.specs.declared.tags.Tag.TheVariants.{Dirty, Writeback, Towrite}
 use Rattle.mapping.specs.declared.mapping.TheConstants.{MAX_PAGES}
 use Rattle.mapping.specs.declared.page.FoundPage.{FoundPage}
 use Rattle.mapping.specs.Pages.{FilePages, IsNumbered, Mapped, Pages, change_at, found, has_at, is_tagged, lowest}
-use Rattle.mapping.specs.Pages.{tag_each, tag_if, with_tag, within}
+use Rattle.mapping.specs.Pages.{tag_each, tag_if, with_tag, with_tags_after, within}
 use Rattle.mapping.proofs.MapLemmas.{find_same, both_true}
-use Rattle.mapping.proofs.PageLemmas.{change_twice, tag_of}
+use Rattle.mapping.proofs.PageLemmas.{tag_of}
 use Rattle.writeback.specs.declared.picks.SyncStep.TheVariants.{Held, Start}
 use Rattle.maps.specs.Maps.{each_value}
 use Rattle.machine.specs.State.{Sync, in_range}
@@ -320,17 +321,18 @@ module _ (pages : Pages) (y : Sync) (f : FoundPage) (is : Some f ≡ option_map 
 
 -- ---- a write ends
 
-pub ended_tags : (file one two : FilePages) (page : ℕ)
-    → one ≡ record file { pages = change_at page (with_tag Writeback false) file.pages }
-    → two ≡ record one { pages = change_at page (with_tag Dirty true) one.pages }
-    → two ≡ record file { pages = change_at page (after_write true) file.pages }
-ended_tags file one two page a b = b
-    ∙ ap (λ (f : FilePages). record f { pages = change_at page (with_tag Dirty true) f.pages }) a
-    ∙ ap (λ (p : Pages). record file { pages = p })
-    (change_twice page (with_tag Writeback false) (with_tag Dirty true) file.pages
-    ∙ ap (λ (f : Mapped → Mapped). change_at page f file.pages)
-    (λ i m. record m { tags = record m.tags { dirty = or_true m.tags.dirty i; writeback = false } }))
+pub ended_tags : (file : FilePages) (page : ℕ) (failed : Bool) (clear set : TagSet)
+    → clear ≡ record { dirty = false; writeback = true; towrite = false }
+    → set ≡ record { dirty = failed; writeback = false; towrite = false }
+    → record file { pages = change_at page (with_tags_after clear set) file.pages }
+    ≡ record file { pages = change_at page (after_write failed) file.pages }
+ended_tags file page failed clear set a b =
+    (λ i. record file { pages = change_at page (with_tags_after (a i) (b i)) file.pages })
+    ∙ ap (λ (f : Mapped → Mapped). record file { pages = change_at page f file.pages })
+    (λ i m. record m {
+      tags = record m.tags { dirty = m.tags.dirty || failed; writeback = false; towrite = or_false m.tags.towrite i };
+    })
   where
-    or_true : (b : Bool) → true ≡ (b || true)
-    or_true true = refl
-    or_true false = refl
+    or_false : (b : Bool) → (b || false) ≡ b
+    or_false true = refl
+    or_false false = refl

@@ -1,14 +1,16 @@
 //! Which page is written next, and the tags of a page that is.
 
-ghost use Rattle.std.specs.Prelude.{◌≡◌, ◌<◌, IfSome, option_map};
-ghost use Rattle.mapping.specs.Pages.{change_at, found, with_tags};
+ghost use Rattle.std.specs.Prelude.{◌≡◌, ◌<◌, IfSome, false, option_map};
+ghost use Rattle.std.specs.FinMap as map;
+ghost use Rattle.pc_types.specs.TagBits.{tag_set};
+ghost use Rattle.mapping.specs.Pages.{change_at, found, seen, with_tags};
 ghost use Rattle.maps.specs.Maps.{each_value};
 ghost use Rattle.writeback.specs.Picks.{StartsBelow, after_write, flush_pick, picked, sync_pick, sync_step, to_write, under_write, waits};
 ghost use Rattle.writeback.specs.Slots.{sync_of};
 
 use crate::requests::Requests;
 use crate::syncs::Progress;
-use mapping::{FoundPage, MAX_PAGES, Mapping};
+use mapping::{FoundPage, MAX_PAGES, MappedPage, Mapping};
 use pc_types::{FileId, PageIndex, Serial, Tag, Tags};
 
 /// What a sync does next.
@@ -72,24 +74,37 @@ pub fn sync_step(
     }
 }
 
-/// A write of the page begins: it loses DIRTY and TOWRITE and gets WRITEBACK. If no page is cached nothing is done.
+/// A write of the page begins: it loses DIRTY and TOWRITE and gets WRITEBACK. Answers the page as it was. If no page is cached
+/// nothing is done.
 ///
 /// TOWRITE goes here and nowhere else (rule 7 of docs/DESIGN.md): whoever starts a page's write clears it. So a sync whose page
 /// another flusher started finds the tag no more, and waits for that write by its bound.
-pub fn begin_write(mapping: &mut Mapping, page: PageIndex)
-    ensures { mapping.new ≡ record mapping.old { pages = change_at page.0 (with_tags under_write) mapping.old.pages } }
+pub fn begin_write(mapping: &mut Mapping, page: PageIndex) -> Option<MappedPage>
+    ensures tags { mapping.new ≡ record mapping.old { pages = change_at page.0 (with_tags under_write) mapping.old.pages } }
+    ensures before { option_map seen result ≡ map.get mapping.old.pages page.0 }
 {
-    let _ = mapping.set_tags(page, Tags::none().with(Tag::Writeback));
+    let set = Tags::none().with(Tag::Writeback);
+    let clear = set.with(Tag::Dirty).with(Tag::Towrite);
+    mapping.change_tags(page, clear, set)
 }
 
-/// A write of the page ended: it loses WRITEBACK, and is DIRTY again if the write failed. A page left clean here is the second
-/// fsync that lies (rule 9 of docs/DESIGN.md).
-pub fn end_write(mapping: &mut Mapping, page: PageIndex, failed: bool)
-    ensures { mapping.new ≡ record mapping.old { pages = change_at page.0 (after_write failed) mapping.old.pages } }
+/// A write of the page ended: it loses WRITEBACK, and is DIRTY again if the write failed. Answers the page as it was. A page left
+/// clean here is the second fsync that lies (rule 9 of docs/DESIGN.md).
+pub fn end_write(mapping: &mut Mapping, page: PageIndex, failed: bool) -> Option<MappedPage>
+    ensures tags { mapping.new ≡ record mapping.old { pages = change_at page.0 (after_write failed) mapping.old.pages } }
+    ensures before { option_map seen result ≡ map.get mapping.old.pages page.0 }
 {
-    mapping.untag(page, Tag::Writeback);
+    let clear = Tags::none().with(Tag::Writeback);
+    mapping.change_tags(page, clear, dirty_if(failed))
+}
+
+fn dirty_if(failed: bool) -> Tags
+    ensures { tag_set result ≡ record { dirty = failed; writeback = false; towrite = false } }
+{
     if failed {
-        let _ = mapping.tag(page, Tag::Dirty);
+        Tags::none().with(Tag::Dirty)
+    } else {
+        Tags::none()
     }
 }
 

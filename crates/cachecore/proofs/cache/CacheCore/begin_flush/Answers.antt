@@ -24,10 +24,10 @@ unreachable-requires c =
     let start = may (goal.at.unreachable-requires c).After-self in
     must_be_told p c.self.invariant c.args.file.0 c.args.page.0 start c.in_default.ensures
 
-pub begin_write-requires-clause-cached : goal.begin_write-requires-clause-cached
-begin_write-requires-clause-cached c =
+pub start_write-requires-clause-cached : goal.start_write-requires-clause-cached
+start_write-requires-clause-cached c =
     let p = parts_of c.self.inside in
-    let start = may (goal.at.begin_write-requires-clause-cached c).After-self in
+    let start = may (goal.at.start_write-requires-clause-cached c).After-self in
     cached_start p c.self.invariant c.args.file.0 c.args.page.0 start
 
 pub hold-requires-clause-mapped : goal.hold-requires-clause-mapped
@@ -60,7 +60,7 @@ invariant_of-self c =
     let p = parts_of c.self.inside in
     let start = may (goal.at.invariant_of-self c).After-self in
     let is = begun_is p c.self.invariant c.args.file.0 c.args.page.0 start c.in-Some.placed
-    c.in-Some.ensures _ _ _ c.begin_write.ensures.begun c.hold.ensures c.begin-serial.ensures.begun in
+    c.in-Some.ensures _ _ _ c.start_write.ensures.begun c.hold.ensures c.begin-serial.ensures.begun in
     let few = c.self.invariant.core.few_files in
     let count = ap (λ (s : State). length s.files) (state_is c.self.view_is) in
     let here = c.requires.here in
@@ -76,17 +76,17 @@ whole c = (c.self.invariant.core.sized c.args.file.0).each c.args.page.0
     (cached_start (parts_of c.self.inside) c.self.invariant c.args.file.0 c.args.page.0 (may c))
     ∙ ap (λ (s : State). s.sizes.page) (state_is c.self.view_is) ∙ sym c.requires.size
 
-copy : (c : goal.After-new) → written_over c.args.buffer c.begin_write.new.out
+copy : (c : goal.After-new) → written_over c.args.buffer c.start_write.new.out
     ≡ (the_page (stored_at c.self.inside.pages c.args.file.0).pages c.args.page.0).bytes
-copy c = written_whole c.args.buffer c.begin_write.new.out
-    (ap length c.begin_write.ensures.copy ∙ whole (goal.at.returns-clause-fits c).After-self) ∙ c.begin_write.ensures.copy
+copy c = written_whole c.args.buffer c.start_write.new.out
+    (ap length c.start_write.ensures.copy ∙ whole (goal.at.returns-clause-fits c).After-self) ∙ c.start_write.ensures.copy
 
 pub returns-clause-begun : goal.returns-clause-begun
 returns-clause-begun c =
     let p = parts_of c.self.inside in
     let start = may (goal.at.returns-clause-begun c).After-self in
     let is = begun_is p c.self.invariant c.args.file.0 c.args.page.0 start c.in-Some.placed
-    c.in-Some.ensures _ _ _ c.begin_write.ensures.begun c.hold.ensures c.begin-serial.ensures.begun in
+    c.in-Some.ensures _ _ _ c.start_write.ensures.begun c.hold.ensures c.begin-serial.ensures.begun in
     let copied = copy c in
     let job =
     c.new.ensures ∙ (λ k. let task : Task =
@@ -100,7 +100,7 @@ returns-clause-begun c =
     let call = started_call p c.self.invariant c.args.file.0 c.args.page.0 start
     c.in-Some.placed c.in-Some.ensures c.begin-serial.result c.begin-serial.ensures.serial c.new.result job in
     let now : Parts =
-    record p { store = c.begin_write.new.self; blocks = c.hold.new.self; flights = c.begin-serial.new.self } in
+    record p { store = c.start_write.new.self; blocks = c.hold.new.self; flights = c.begin-serial.new.self } in
     subst (λ s. IsStarted s c.args.file.0 c.args.page.0 c.new.result (state_by now))
     (state_is c.self.view_is)
     (subst (λ (x : Parts). IsStarted (state_by p) c.args.file.0 c.args.page.0 c.new.result

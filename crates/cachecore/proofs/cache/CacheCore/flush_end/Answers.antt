@@ -48,15 +48,15 @@ invariant_of-self c = (dropped c).cache
 pub returns-then-request-clause-step : goal.returns-then-request-clause-step
 returns-then-request-clause-step c = (dropped c).step
 
-pub end_write-requires-clause-cached : goal.end_write-requires-clause-cached
-end_write-requires-clause-cached c =
-    let b = (goal.at.end_write-requires-clause-cached c).In-Some in
+pub finish_write-requires-clause-cached : goal.finish_write-requires-clause-cached
+finish_write-requires-clause-cached c =
+    let b = (goal.at.finish_write-requires-clause-cached c).In-Some in
     cached_here (parts_of c.self.inside) c.self.invariant c.args.finished (request_of c.in-Some.request) c.args.self.now.state (state_is c.self.view_is) (ends b)
     c.if-request.false
 
-pub end_write-requires-in-Err-clause-cached : goal.end_write-requires-in-Err-clause-cached
-end_write-requires-in-Err-clause-cached c =
-    let b = (goal.at.end_write-requires-in-Err-clause-cached c).In-Some in
+pub finish_write-requires-in-Err-clause-cached : goal.finish_write-requires-in-Err-clause-cached
+finish_write-requires-in-Err-clause-cached c =
+    let b = (goal.at.finish_write-requires-in-Err-clause-cached c).In-Some in
     cached_here (parts_of c.self.inside) c.self.invariant c.args.finished (request_of c.in-Some.request) c.args.self.now.state (state_is c.self.view_is) (ends b)
     c.if-request.false
 
@@ -64,11 +64,11 @@ pub note_failure-requires-clause-few : goal.note_failure-requires-clause-few
 note_failure-requires-clause-few c =
     let b = (goal.at.note_failure-requires-clause-few c).In-Some in
     few_failures (parts_of c.self.inside) c.self.invariant c.args.finished (request_of c.in-Some.request) c.args.self.now.state (state_is c.self.view_is) (ends b)
-    c.if-request.false c.end_write-in-Err.new.self c.end_write-in-Err.ensures
+    c.if-request.false c.finish_write-in-Err.new.self c.finish_write-in-Err.ensures
 
 done : (c : goal.After-set_written) → Goes (goal.at.invariant_of-self-in-Ok c).In-Some reply.Written
     (record (parts_of c.self.inside) {
-      store = c.end_write.new.self;
+      store = c.finish_write.new.self;
       blocks = c.set_written.new.self;
       flights = c.end.new.self;
     })
@@ -76,7 +76,7 @@ done c =
     let b = (goal.at.invariant_of-self-in-Ok c).In-Some in
     flush_done (parts_of c.self.inside) c.self.invariant c.args.finished (request_of c.in-Some.request) c.args.self.now.state (state_is c.self.view_is) (ends b)
     c.if-request.false (sym (ap (λ (k : FinishedParts). k.outcome) c.into_parts-buffer.ensures) ∙ c.in-Ok.is) _ _ _ _
-    c.end_write.ensures c.release.ensures c.set_written.ensures
+    c.finish_write.ensures c.release.ensures c.set_written.ensures
     (c.end.ensures.ended
     ∙ ap (λ (k : FinishedParts). flights.ended c.self.inside.requests k.serial.0) c.into_parts-buffer.ensures)
 
@@ -99,8 +99,8 @@ failed c =
     (err_code c.from.result (omega (arith, c.from.ensures, c.code.ensures.least))
     (omega (arith, c.from.ensures, c.code.ensures.most))) in
     flush_fails (parts_of c.self.inside) c.self.invariant c.args.finished (request_of c.in-Some.request) c.args.self.now.state (state_is c.self.view_is) (ends b)
-    c.if-request.false c.in-Err.code c.from.result code (sym (ap (λ (k : FinishedParts). k.outcome) c.into_parts-buffer.ensures) ∙ c.in-Err.is) is_code c.end_write-in-Err.new.self
-    _ _ _ c.end_write-in-Err.ensures
+    c.if-request.false c.in-Err.code c.from.result code (sym (ap (λ (k : FinishedParts). k.outcome) c.into_parts-buffer.ensures) ∙ c.in-Err.is) is_code c.finish_write-in-Err.new.self
+    _ _ _ c.finish_write-in-Err.ensures
     c.note_failure.ensures c.release.ensures
     (c.end.ensures.ended
     ∙ ap (λ (k : FinishedParts). flights.ended c.self.inside.requests k.serial.0) c.into_parts-buffer.ensures)

@@ -65,7 +65,7 @@ invariant_of-self c =
     ∙ tag_of c.args.page Dirty c.index_mut.result.now.mapping.pages x found) ∙ byte_is x.tags.dirty in
     let least = counts_dirty w x (sym found) in
     tagged_store w x (sym found) (with_tags picks.under_write) refl
-    c.begin_write.new.mapping c.begin_write.ensures (c.self.inside.dirty - c.from.result)
+    c.begin_write.new.mapping c.begin_write.ensures.tags (c.self.inside.dirty - c.from.result)
     (λ aside. refl)
     (omega (arith, one, least))
 
@@ -76,7 +76,7 @@ returns-clause-begun c =
     tagged_seen w
     (framed entry c.in-Some.frame)
     (sym (framed_entry entry c.in-Some.frame c.in-Some.ensures))
-    (with_tags picks.under_write) refl c.begin_write.new.mapping c.begin_write.ensures under_write refl
+    (with_tags picks.under_write) refl c.begin_write.new.mapping c.begin_write.ensures.tags under_write refl
 
 pub returns-clause-copy : goal.returns-clause-copy
 returns-clause-copy c =

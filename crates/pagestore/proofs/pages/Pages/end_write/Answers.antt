@@ -79,7 +79,7 @@ invariant_of-self c =
     subst (λ (u : Table). IsStore u c.self.inside.uptodate.items files (c.self.inside.dirty + c.from.result))
     (sym c.put_back.ensures)
     (tagged_store (put_back_at w x) x c.in-Some.ensures (picks.after_write c.args.failed) refl
-    c.end_write.new.mapping c.end_write.ensures (c.self.inside.dirty + c.from.result)
+    c.end_write.new.mapping c.end_write.ensures.tags (c.self.inside.dirty + c.from.result)
     (λ aside. absurd (false≢true (sym (not_aside c.self.inside.frames.aside x.frame) ∙ aside)))
     (omega (arith, one, one_more x.tags.dirty c.args.failed)))
 
@@ -90,4 +90,4 @@ returns c =
     (record c.index_mut.result.now { mapping = c.end_write.new.mapping }) in
     ap (λ (u : Table). store_of u c.self.inside.uptodate.items files) c.put_back.ensures
     ∙ tagged_seen w (seen c.in-Some.mapped) c.in-Some.ensures (picks.after_write c.args.failed) refl
-    c.end_write.new.mapping c.end_write.ensures (after_write c.args.failed) refl
+    c.end_write.new.mapping c.end_write.ensures.tags (after_write c.args.failed) refl

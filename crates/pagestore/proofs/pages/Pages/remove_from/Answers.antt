@@ -4,8 +4,8 @@ use Rattle.pagestore.proofs.pages.Pages.remove_from.Goals as goal
 pub loop-found-init : goal.loop-found-init
 loop-found-init c = removing_begins c.args.file c.args.page c.args.self.now
 
-pub first_from-requires : goal.first_from-requires
-first_from-requires c = removing_here c.args.file c.args.page c.args.self.now c.loop-found.self c.loop-found.invariant
+pub one_from-requires : goal.one_from-requires
+one_from-requires c = removing_here c.args.file c.args.page c.args.self.now c.loop-found.self c.loop-found.invariant
     c.requires
 
 pub leave-requires-clause-here : goal.leave-requires-clause-here
