@@ -3,7 +3,6 @@ use Rattle.std.proofs.Common.{◌≡◌, ◌-◌, ℕ, Bool, true, false, not, e
 use Rattle.std.specs.Prelude.{Option, Some, None, is_some, nat_lt, ◌==◌, ◌&&◌, if◌then◌else◌}
 use Rattle.errboard.specs.Shown.{RecorderSeen, is_told}
 use Rattle.world.specs.Stepping.{WorldSeen}
-use Rattle.filesvc.specs.Rests.{IsService}
 use Rattle.filesvc.specs.Seen.{SoloSeen}
 use Rattle.filesvc.specs.Service.{Keeps, KeepsBut, Serves, ServesBut, errors_of, is_untold, untold_since}
 
@@ -98,27 +97,3 @@ module _ (old : SoloSeen) (w : WorldSeen) (errors after : RecorderSeen) (n file 
 
   pub since_polled : Keeps old was → is_untold polled f ≡ (if is_some answer then false else untold_since old polled f)
   since_polled k = subst (λ (t : SoloSeen). is_untold t f ≡ (if is_some answer then false else untold_since old t f)) (sym is) (untold_after old was f answer words k seen)
-
-  pub each_polled : (g : ℕ) → is_untold polled g ≡ (if g == f && is_some answer then false else is_untold was g)
-  each_polled g = subst (λ (t : SoloSeen). is_untold t g ≡ (if g == f && is_some answer then false else is_untold was g)) (sym is) (untold_polled was f answer words seen g)
-
-pub service_polled : (name : ℕ) (w : WorldSeen) (errors after : RecorderSeen) (words : List ℕ) → after ≡ record errors { words = words } → IsService name w errors.board errors → IsService name w after.board after
-service_polled name w errors after words same i = subst (λ (e : RecorderSeen). IsService name w e.board e) (sym same) record {
-  serving = record {
-    named = i.serving.named;
-    board = refl;
-    lists = i.serving.lists;
-    rests = i.serving.rests;
-    reached = i.serving.reached;
-    sound = i.serving.sound;
-    orderly = i.serving.orderly;
-    counted = i.serving.counted;
-    bounded = i.serving.bounded;
-    few = i.serving.few;
-    page = i.serving.page;
-    frames = i.serving.frames;
-    dirty = i.serving.dirty;
-    serials = i.serving.serials;
-  };
-  syncs = i.syncs;
-}

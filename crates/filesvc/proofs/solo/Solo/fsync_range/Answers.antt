@@ -8,7 +8,7 @@ use Rattle.filesvc.specs.Seen.{HandleSeen, SoloSeen}
 use Rattle.filesvc.specs.Service.{AreOnDevice, IsPolled, IsSyncRefusal, IsTold, Names, Reports, Serves, Tells, is_reported}
 use Rattle.filesvc.specs.Syncs.{service_of}
 use Rattle.filesvc.proofs.Laws.{moves_refl, serves_counted, since_same}
-use Rattle.filesvc.proofs.Polled.{but_polled, serves_but, service_polled, since_polled}
+use Rattle.filesvc.proofs.Polled.{but_polled, serves_but, since_polled}
 use Rattle.filesvc.proofs.Saved.{polled_ends, refused_ends, refused_reports, saved_refusal}
 use Rattle.filesvc.proofs.SyncLaws.{refusal_counted, renamed_service}
 use Rattle.filesvc.proofs.solo.Solo.fsync_range.Goals as goal
