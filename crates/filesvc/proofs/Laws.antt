@@ -25,8 +25,8 @@ since_trans : (u v w : Bool) (a b c : ℕ) → a ≤ b → b ≤ c → v ≡ (if
 since_trans u v w a b c p q x y = dite (ℕ_discrete c a)
     (λ e. let first : b ≡ a = omega arith in let second : c ≡ b = omega arith in y ∙ sym (since_same v b c second) ∙ x ∙ sym (since_same u a b first) ∙ since_same u a c e)
     (λ n. dite (ℕ_discrete c b)
-        (λ e. let first : b ≢ a = (λ k. n (e ∙ k)) in y ∙ sym (since_same v b c e) ∙ x ∙ since_failed u a b first ∙ sym (since_failed u a c n))
-        (λ m. y ∙ since_failed v b c m ∙ sym (since_failed u a c n)))
+    (λ e. let first : b ≢ a = (λ k. n (e ∙ k)) in y ∙ sym (since_same v b c e) ∙ x ∙ since_failed u a b first ∙ sym (since_failed u a c n))
+    (λ m. y ∙ since_failed v b c m ∙ sym (since_failed u a c n)))
 
 -- no call takes a failure back
 failures_rise : (a b : SoloSeen) → Keeps a b → (f : ℕ) → failures_of a f ≤ failures_of b f

@@ -2,9 +2,7 @@
 use Rattle.std.proofs.Common.{◌≡◌, ◌-◌, ℕ, Bool, true, false, not, eq-eqb, List, [], ◌∷◌, length, refl, ap, sym, subst, ◌∙◌}
 use Rattle.std.specs.Prelude.{Option, Some, None, is_some, nat_lt, ◌==◌, ◌&&◌, if◌then◌else◌}
 use Rattle.errboard.specs.Shown.{RecorderSeen, is_told}
-use Rattle.errseq.specs.declared.recording.Recording.{Recording}
 use Rattle.world.specs.Stepping.{WorldSeen}
-use Rattle.filesvc.specs.Rests.{IsService}
 use Rattle.filesvc.specs.Seen.{SoloSeen}
 use Rattle.filesvc.specs.Service.{Keeps, KeepsBut, Serves, ServesBut, errors_of, is_untold, untold_since}
 
@@ -79,55 +77,23 @@ serves_but p old new serves = let k = serves.keeps in record {
   files = serves.files;
 }
 
--- ---- a handle that is opened
-
-pub done_untold : (log : List Recording) (told : Bool) → (if told then length log else length log - 1) ≡ (if nat_lt 0 (length log) && not told then length log - 1 else length log)
-done_untold [] true = refl
-done_untold [] false = refl
-done_untold (x ∷ log) true = refl
-done_untold (x ∷ log) false = refl
-
 -- ---- the service after a poll of its recorder
 
 module _ (old : SoloSeen) (w : WorldSeen) (errors after : RecorderSeen) (n file f : ℕ) (answer : Option ℕ) (words : List ℕ) (same : after ≡ record errors { words = words }) (told : (g : ℕ) → is_told after g ≡ (if g == file && is_some answer then true else is_told errors g)) (here : file ≡ f) where
-  abbrev before : SoloSeen
-  before = record { world = w; errors = errors; attempts = n }
+  abbrev was : SoloSeen
+  was = record { world = w; errors = errors; attempts = n }
 
-  abbrev then : SoloSeen
-  then = record { world = w; errors = after; attempts = n }
+  abbrev polled : SoloSeen
+  polled = record { world = w; errors = after; attempts = n }
 
-  is : then ≡ with_words before words
+  is : polled ≡ with_words was words
   is = ap (λ (e : RecorderSeen). record { world = w; errors = e; attempts = n }) same
 
-  seen : IsSeenIn before f answer words
+  seen : IsSeenIn was f answer words
   seen g = sym (ap (λ (e : RecorderSeen). is_told e g) same) ∙ told g ∙ ap (λ k. if g == k && is_some answer then true else is_told errors g) here
 
-  pub but_polled : Serves old before → ServesBut (λ g. g == f) old then
-  but_polled s = subst (λ (t : SoloSeen). ServesBut (λ g. g == f) old t) (sym is) (serves_polled old before f answer words s seen)
+  pub but_polled : Serves old was → ServesBut (λ g. g == f) old polled
+  but_polled s = subst (λ (t : SoloSeen). ServesBut (λ g. g == f) old t) (sym is) (serves_polled old was f answer words s seen)
 
-  pub since_polled : Keeps old before → is_untold then f ≡ (if is_some answer then false else untold_since old then f)
-  since_polled k = subst (λ (t : SoloSeen). is_untold t f ≡ (if is_some answer then false else untold_since old t f)) (sym is) (untold_after old before f answer words k seen)
-
-  pub each_polled : (g : ℕ) → is_untold then g ≡ (if g == f && is_some answer then false else is_untold before g)
-  each_polled g = subst (λ (t : SoloSeen). is_untold t g ≡ (if g == f && is_some answer then false else is_untold before g)) (sym is) (untold_polled before f answer words seen g)
-
-pub service_polled : (name : ℕ) (w : WorldSeen) (errors after : RecorderSeen) (words : List ℕ) → after ≡ record errors { words = words } → IsService name w errors.board errors → IsService name w after.board after
-service_polled name w errors after words same i = subst (λ (e : RecorderSeen). IsService name w e.board e) (sym same) record {
-  serving = record {
-    named = i.serving.named;
-    board = refl;
-    lists = i.serving.lists;
-    rests = i.serving.rests;
-    reached = i.serving.reached;
-    sound = i.serving.sound;
-    orderly = i.serving.orderly;
-    counted = i.serving.counted;
-    bounded = i.serving.bounded;
-    few = i.serving.few;
-    page = i.serving.page;
-    frames = i.serving.frames;
-    dirty = i.serving.dirty;
-    serials = i.serving.serials;
-  };
-  syncs = i.syncs;
-}
+  pub since_polled : Keeps old was → is_untold polled f ≡ (if is_some answer then false else untold_since old polled f)
+  since_polled k = subst (λ (t : SoloSeen). is_untold t f ≡ (if is_some answer then false else untold_since old t f)) (sym is) (untold_after old was f answer words k seen)

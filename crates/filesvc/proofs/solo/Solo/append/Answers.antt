@@ -1,11 +1,11 @@
-use Rattle.std.proofs.Common.{Some, None, refl, rules, subst, sym}
+use Rattle.std.proofs.Common.{◌<◌, Some, None, refl, rules, subst, sym}
 use Rattle.std.proofs.lemmas.Result.{err_from_is_err_and}
 use Rattle.machine.specs.declared.event.Event.TheVariants as event
 use Rattle.machine.specs.declared.event.Reply.TheVariants as reply
 use Rattle.machine.specs.State.{file_at, handle_file}
 use Rattle.filesvc.specs.Attempts.{Attempt, WroteAll, append_reply}
 use Rattle.filesvc.specs.Service.{LengthsAfter, Names}
-use Rattle.filesvc.proofs.Attempts.{length_before, try_again, try_first, try_over}
+use Rattle.filesvc.proofs.Attempts.{length_before, try_again, try_first, try_over, try_turns}
 use Rattle.cachecore.proofs.StepLemmas.{err_is}
 use Rattle.filesvc.proofs.Laws.{keeps_trans}
 use Rattle.filesvc.proofs.solo.Solo.append.Goals as goal
@@ -92,3 +92,8 @@ returns-in-Some-clause-lengths g c =
     (Some (reply.Wrote c.in-Some.wrote.count c.in-Some.wrote.end)) c.try_append.new.self =
     rw (← c.handle.view_is) (rw c.in-Some.is at c.in_ok-wrote.ensures.attempt) in
     (try_over _ _ _ c.attempts.invariant c.args.handle.now _ _ a refl).lengths
+
+pub returns-clause-made : goal.returns-clause-made
+returns-clause-made g c =
+    let none : c.attempts.self.attempts < 256 → ⊥ = search rules in
+    λ _. (try_turns _ _ _ c.attempts.invariant c.args.handle.now refl none).made

@@ -8,7 +8,7 @@ use Rattle.filesvc.specs.Seen.{HandleSeen, SoloSeen}
 use Rattle.filesvc.specs.Service.{AreOnDevice, IsPolled, IsSyncRefusal, IsTold, Names, Reports, Serves, Tells, is_reported}
 use Rattle.filesvc.specs.Syncs.{service_of}
 use Rattle.filesvc.proofs.Laws.{moves_refl, serves_counted, since_same}
-use Rattle.filesvc.proofs.Polled.{but_polled, serves_but, service_polled, since_polled}
+use Rattle.filesvc.proofs.Polled.{but_polled, serves_but, since_polled}
 use Rattle.filesvc.proofs.Saved.{polled_ends, refused_ends, refused_reports, saved_refusal}
 use Rattle.filesvc.proofs.SyncLaws.{refusal_counted, renamed_service}
 use Rattle.filesvc.proofs.solo.Solo.fsync_range.Goals as goal
@@ -106,11 +106,11 @@ returns-clause-ends g c =
     let came = c.requires.came names in
     let here = ap (λ (h : HandleSeen). h.pass.file) c.handle.view_is ∙ came.pass in
     let mid : SoloSeen = record { world = c.save.new.world; errors = c.save.new.recorder; attempts = 1 } in
-    let then : SoloSeen = record { world = c.save.new.world; errors = c.poll.new.self; attempts = 1 } in
+    let after : SoloSeen = record { world = c.save.new.world; errors = c.poll.new.self; attempts = 1 } in
     let serves = subst (λ s. Serves s mid) c.self.view_is (serves_counted (service_of c.self.inside.world c.self.inside.recorder) (service_of c.save.new.world c.save.new.recorder) c.self.inside.attempts 1 c.save.ensures.serves) in
     let new : HandleSeen = record { cache = c.handle.inside.cache; file = c.handle.inside.file.0; number = c.handle.inside.number.0; cursor = c.handle.inside.cursor; append = c.handle.inside.append; pass = c.poll.new.pass } in
-    let told : IsTold then c.args.handle.now new = record { same = search rules; board = search rules; file = search rules; known = search rules; done = search rules } in
-    let polled : IsPolled c.args.self.now c.args.handle.now c.poll.result then new = record {
+    let told : IsTold after c.args.handle.now new = record { same = search rules; board = search rules; file = search rules; known = search rules; done = search rules } in
+    let polled : IsPolled c.args.self.now c.args.handle.now c.poll.result after new = record {
       told = told;
       some = search rules;
       none = search rules;
@@ -119,7 +119,7 @@ returns-clause-ends g c =
     let ended : SaveEnds c.handle.inside.number c.args.first c.args.last c.self.inside.world (Ok c.in_ok-failed.failed) c.save.new.world = c.in_ok-failed.ensures.ends in
     let named = subst (λ (h : HandleSeen). SaveEnds (record { 0 = h.number }) c.args.first c.args.last c.self.inside.world (Ok c.in_ok-failed.failed) c.save.new.world) c.handle.view_is ended in
     let began = subst (λ (s : SoloSeen). SaveEnds (record { 0 = c.args.handle.now.number }) c.args.first c.args.last s.world (Ok c.in_ok-failed.failed) c.save.new.world) c.self.view_is named in
-    polled_ends c.args.first c.args.last c.args.self.now c.args.handle.now then c.in_ok-failed.failed c.poll.result c.match-or.result new began polled (search rules)
+    polled_ends c.args.first c.args.last c.args.self.now c.args.handle.now after c.in_ok-failed.failed c.poll.result c.match-or.result new began polled (search rules)
 
 pub returns-clause-reports : goal.returns-clause-reports
 returns-clause-reports g c = inl (search rules)
@@ -128,7 +128,7 @@ pub returns-clause-told : goal.returns-clause-told
 returns-clause-told g c =
     let names : Names c.args.self.now c.args.handle.now = search rules in
     let came = c.requires.came names in
-    let then : SoloSeen = record { world = c.save.new.world; errors = c.poll.new.self; attempts = 1 } in
+    let after : SoloSeen = record { world = c.save.new.world; errors = c.poll.new.self; attempts = 1 } in
     let new : HandleSeen = record { cache = c.handle.inside.cache; file = c.handle.inside.file.0; number = c.handle.inside.number.0; cursor = c.handle.inside.cursor; append = c.handle.inside.append; pass = c.poll.new.pass } in
-    let told : IsTold then c.args.handle.now new = record { same = search rules; board = search rules; file = search rules; known = search rules; done = search rules } in
+    let told : IsTold after c.args.handle.now new = record { same = search rules; board = search rules; file = search rules; known = search rules; done = search rules } in
     inl told
