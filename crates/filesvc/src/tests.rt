@@ -147,64 +147,6 @@ impl Desk {
     }
 }
 
-/// A service and three handles of its file.
-#[derive(Drop)]
-struct Three {
-    solo: Solo<OddDevice>,
-    first: Handle,
-    second: Handle,
-    third: Handle,
-}
-
-impl Model for Three {
-    ghost use Rattle.filesvc.specs.Service.{IsOpen};
-
-    ghost Value = { Unit };
-
-    ghost view = { λ t. tt };
-
-    ghost invariant = { λ t. IsOpen t.solo t.first × IsOpen t.solo t.second × IsOpen t.solo t.third };
-}
-
-impl Three {
-    fn of(desk: Desk) -> Result<Three, Refusal> {
-        let Desk {
-            mut solo,
-            handle: first,
-        } = desk;
-        let second = solo.open(FileId(0), false)?;
-        let third = solo.open(FileId(0), false)?;
-        Ok(Three {
-            solo,
-            first,
-            second,
-            third,
-        })
-    }
-
-    /// A new handle in place of the third.
-    fn renew(&mut self) -> Result<(), Refusal> {
-        self.third = self.solo.open(FileId(0), false)?;
-        Ok(())
-    }
-
-    fn pwrite(&mut self, offset: u64, bytes: &[u8]) -> Result<u64, Refusal> {
-        self.solo.pwrite(&self.first, offset, bytes)
-    }
-
-    fn fsync_first(&mut self) -> Result<(), Refusal> {
-        self.solo.fsync(&mut self.first)
-    }
-
-    fn fsync_second(&mut self) -> Result<(), Refusal> {
-        self.solo.fsync(&mut self.second)
-    }
-
-    fn poll_third(&mut self) -> Result<Option<ErrCode>, Refusal> {
-        self.solo.poll_error(&mut self.third)
-    }
-}
-
 /// The code of the fault that is planned: another than that of a call which can't be counted.
 fn full() -> Result<ErrCode, Refusal> {
     ErrCode::new(28)
@@ -318,24 +260,6 @@ fn hands_an_error_down(rt: &impl Abort, mut desk: Desk) -> Result<Desk, Refusal>
     let mut desk = desk.reopened()?;
     assert_eq!(rt; desk.poll_error(), Ok(None));
     Ok(desk)
-}
-
-// Each handle that was open as a write failed is told of it once. So is one that was opened before anybody was told, but
-// none that is opened after that.
-fn tells_each_handle(rt: &impl Abort, three: &mut Three) -> Result<(), Refusal> {
-    let failed = Err(Refusal::Io(full()?));
-    assert_eq!(rt; three.pwrite(0, &[1; 256]), Ok(256));
-    assert_eq!(rt; three.pwrite(256, &[2]), Err(Refusal::DirtyLimit));
-    three.renew()?;
-    three.renew()?;
-    assert_eq!(rt; three.fsync_first(), failed);
-    assert_eq!(rt; three.fsync_second(), failed);
-    assert_eq!(rt; three.fsync_first(), Ok(()));
-    assert_eq!(rt; three.poll_third(), Ok(Some(full()?)));
-    assert_eq!(rt; three.poll_third(), Ok(None));
-    three.renew()?;
-    assert_eq!(rt; three.poll_third(), Ok(None));
-    Ok(())
 }
 
 // An appending handle writes at the end, and pwrite where it is told to.
@@ -629,14 +553,6 @@ fn an_untold_error_is_handed_down(rt: HostRuntime) -> Result<(), Refusal> {
     let desk = hands_an_error_down(&rt, desk)?;
     assert!(rt; desk.close());
     Ok(())
-}
-
-#[test]
-fn each_handle_is_told(rt: HostRuntime) -> Result<(), Refusal> {
-    let geometry = Geometry::new(16, 48, 16, 64)?;
-    let desk = open_desk(rt.alloc(), &geometry, Failing::FirstCall, false)?;
-    let mut three = Three::of(desk)?;
-    tells_each_handle(&rt, &mut three)
 }
 
 #[test]
