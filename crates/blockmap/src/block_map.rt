@@ -162,19 +162,26 @@ impl BlockMap {
         requires page { page.0 ≤ 2 ^ 36 }
         ensures { CutsFrom self.old self.new file.0 page.0 }
     {
-        while let Some(cut) = self.page_from(file.0, page.0) {
+        let mut guess = page.0;
+        while let Some(cut) = self.page_from(file.0, page.0, guess) {
             self.cut_page(file.0, cut);
+            guess = cut + 1;
         }
     }
 
-    /// A page of the file that has a block, at this page or after it.
-    fn page_from(&self, file: u64, from: u64) -> Option<u64>
+    /// A page of the file that has a block, at this page or after it. It is looked for from the guess on first, since a search
+    /// costs least where the page before was cut.
+    fn page_from(&self, file: u64, from: u64, guess: u64) -> Option<u64>
         requires file { file < 64 }
-        requires from { from ≤ 2 ^ 36 }
+        requires from { from ≤ guess }
+        requires guess { guess ≤ 2 ^ 36 }
         ensures found { IfSome result (λ page. IsPageFrom self.now.spots file from page) }
         ensures none { IfNone result (NoneFrom self.now.spots file from) }
     {
-        self.spots.page_from(file, from)
+        match self.spots.page_from(file, guess) {
+            Some(page) => Some(page),
+            None => self.spots.page_from(file, from),
+        }
     }
 
     /// A page's block is free, or cut where it is held.
@@ -183,9 +190,8 @@ impl BlockMap {
         requires there { IsSome (map.get self.old.spots (file, page)) }
         ensures { self.new ≡ cut_one self.old (file, page) }
     {
-        let placed = self.spots.get(file, page).unwrap();
+        let placed = self.spots.remove(file, page).unwrap();
         let block = placed.block.0;
-        self.spots.remove(file, page);
         if self.held.get(block).is_some() {
             self.held.cut(block);
             return;

@@ -85,12 +85,16 @@ impl Spots {
             .unwrap();
     }
 
-    /// A page has no block any more.
-    pub(crate) fn remove(&mut self, file: u64, page: u64)
+    /// A page has no block any more. Answers the one that it had.
+    pub(crate) fn remove(&mut self, file: u64, page: u64) -> Option<Placed>
         requires { IsPage file page }
-        ensures { self.new ≡ map.remove self.old (file, page) }
+        ensures had { result ≡ option_map told (map.get self.old (file, page)) }
+        ensures gone { self.new ≡ map.remove self.old (file, page) }
     {
-        let _word = self.array.erase(key(file, page));
+        let Some(word) = self.array.erase(key(file, page)) else {
+            return None;
+        };
+        Some(placed_of(word))
     }
 
     /// A page of the file that has a block, at this page or after it.

@@ -1,4 +1,4 @@
-use Rattle.std.proofs.Common.{sym, subst, ◌<◌}
+use Rattle.std.proofs.Common.{sym, subst, ◌<◌, arith}
 use Rattle.std.specs.FinMap as map
 use Rattle.blockmap.specs.Blocks.{Blocks}
 use Rattle.blockmap.proofs.BlockLemmas.{fewer}
@@ -12,12 +12,24 @@ pub cut_page-requires-clause-there : goal.cut_page-requires-clause-there
 cut_page-requires-clause-there c = c.in-Some.ensures.found.there
 
 pub loop-cut-init : goal.loop-cut-init
-loop-cut-init c = cutting_begins c.args.self.now c.args.file.0 c.args.page.0
+loop-cut-init c = record {
+  cutting = cutting_begins c.args.self.now c.args.file.0 c.args.page.0;
+  low = omega arith;
+  high = c.requires.page;
+}
 
 pub loop-cut-preserved : goal.loop-cut-preserved
 loop-cut-preserved c =
-    subst (λ (b : Blocks). IsCutting c.args.self.now b c.args.file.0 c.args.page.0) (sym c.cut_page.ensures)
-    (cutting_goes_on c.args.self.now c.loop-cut.self c.args.file.0 c.args.page.0 c.in-Some.cut c.loop-cut.invariant c.in-Some.ensures.found)
+    let found = c.in-Some.ensures.found in
+    let low = found.low in
+    let within = found.within in
+    record {
+      cutting =
+          subst (λ (b : Blocks). IsCutting c.args.self.now b c.args.file.0 c.args.page.0) (sym c.cut_page.ensures)
+          (cutting_goes_on c.args.self.now c.loop-cut.self c.args.file.0 c.args.page.0 c.in-Some.cut c.loop-cut.invariant.cutting found);
+      low = omega (arith, low);
+      high = omega (arith, within);
+    }
 
 pub loop-cut-smaller : goal.loop-cut-smaller
 loop-cut-smaller c =
@@ -25,4 +37,4 @@ loop-cut-smaller c =
     (fewer c.loop-cut.self.spots (c.args.file.0, c.in-Some.cut) c.in-Some.ensures.found.there)
 
 pub returns : goal.returns
-returns c = cutting_ends c.args.self.now c.loop-cut.self c.args.file.0 c.args.page.0 c.loop-cut.invariant c.in_default.ensures.none
+returns c = cutting_ends c.args.self.now c.loop-cut.self c.args.file.0 c.args.page.0 c.loop-cut.invariant.cutting c.in_default.ensures.none

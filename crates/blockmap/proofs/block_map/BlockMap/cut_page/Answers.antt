@@ -14,13 +14,13 @@ use Rattle.blockmap.proofs.block_map.BlockMap.cut_page.Goals as goal
 pub unwrap-placed-requires : goal.unwrap-placed-requires
 unwrap-placed-requires c =
     let p : ℕ × ℕ = (c.args.file, c.args.page) in
-    ap is_some c.get.ensures ∙ told_some (map.get c.self.inside.spots p) ∙ ap (λ (b : Blocks). is_some (map.get b.spots p)) c.self.view_is ∙ c.requires.there
+    ap is_some c.remove.ensures.had ∙ told_some (map.get c.self.inside.spots p) ∙ ap (λ (b : Blocks). is_some (map.get b.spots p)) c.self.view_is ∙ c.requires.there
 
 pub give_back-requires : goal.give_back-requires
 give_back-requires c =
     let s = c.self.inside in
     let p : ℕ × ℕ = (c.args.file, c.args.page) in
-    let t = told_spot (map.get s.spots p) c.unwrap-placed.result (sym c.unwrap-placed.ensures ∙ c.get.ensures) in
+    let t = told_spot (map.get s.spots p) c.unwrap-placed.result (sym c.unwrap-placed.ensures ∙ c.remove.ensures.had) in
     let block = ap (λ (x : Placed). x.block.0) t.2 in
     ap (set.contains s.used.used) (sym block) ∙ spot_used s.count s.free s.spots s.used.used s.held c.self.invariant p t.0 t.1
 
@@ -34,11 +34,11 @@ pub invariant_of-self : goal.invariant_of-self
 invariant_of-self c =
     let s = c.self.inside in
     let p : ℕ × ℕ = (c.args.file, c.args.page) in
-    let t = told_spot (map.get s.spots p) c.unwrap-placed.result (sym c.unwrap-placed.ensures ∙ c.get.ensures) in
+    let t = told_spot (map.get s.spots p) c.unwrap-placed.result (sym c.unwrap-placed.ensures ∙ c.remove.ensures.had) in
     let block = ap (λ (x : Placed). x.block.0) t.2 in
-    let seen = ap (λ k. is_some (map.get s.held k)) block ∙ sym (ap is_some c.get-2.ensures) ∙ sym c.is_some.ensures ∙ c.if-is_some.true in
+    let seen = ap (λ k. is_some (map.get s.held k)) block ∙ sym (ap is_some c.get.ensures) ∙ sym c.is_some.ensures ∙ c.if-is_some.true in
     let w = some_held (map.get s.held t.0.block) seen in
-    subst (λ (m : Spots). IsBalanced s.count s.free m s.used.used c.cut.new.self) (sym c.remove.ensures)
+    subst (λ (m : Spots). IsBalanced s.count s.free m s.used.used c.cut.new.self) (sym c.remove.ensures.gone)
     (subst (λ (h : Held). IsBalanced s.count s.free (map.remove s.spots p) s.used.used h) (sym (c.cut.ensures ∙ ap (λ k. map.insert s.held k true) (sym block)))
     (balanced-cut s.count s.free s.spots s.used.used s.held c.self.invariant p t.0 w.0 t.1 w.1))
 
@@ -46,10 +46,10 @@ pub invariant_of-self-2 : goal.invariant_of-self-2
 invariant_of-self-2 c =
     let s = c.self.inside in
     let p : ℕ × ℕ = (c.args.file, c.args.page) in
-    let t = told_spot (map.get s.spots p) c.unwrap-placed.result (sym c.unwrap-placed.ensures ∙ c.get.ensures) in
+    let t = told_spot (map.get s.spots p) c.unwrap-placed.result (sym c.unwrap-placed.ensures ∙ c.remove.ensures.had) in
     let block = ap (λ (x : Placed). x.block.0) t.2 in
-    let seen = ap (λ k. is_some (map.get s.held k)) block ∙ sym (ap is_some c.get-2.ensures) ∙ sym c.is_some.ensures ∙ c.if-is_some.false in
-    subst (λ (m : Spots). IsBalanced s.count (s.free + 1) m c.give_back.new.used.used s.held) (sym c.remove.ensures)
+    let seen = ap (λ k. is_some (map.get s.held k)) block ∙ sym (ap is_some c.get.ensures) ∙ sym c.is_some.ensures ∙ c.if-is_some.false in
+    subst (λ (m : Spots). IsBalanced s.count (s.free + 1) m c.give_back.new.used.used s.held) (sym c.remove.ensures.gone)
     (subst (λ (u : set.FinSet nat_cmp). IsBalanced s.count (s.free + 1) (map.remove s.spots p) u s.held) (sym (c.give_back.ensures ∙ ap (set.remove s.used.used) (sym block)))
     (balanced-free s.count s.free s.spots s.used.used s.held c.self.invariant p t.0 t.1 (none_held (map.get s.held t.0.block) seen)))
 
@@ -57,18 +57,18 @@ pub returns-then-is_some : goal.returns-then-is_some
 returns-then-is_some c =
     let s = c.self.inside in
     let p : ℕ × ℕ = (c.args.file, c.args.page) in
-    let t = told_spot (map.get s.spots p) c.unwrap-placed.result (sym c.unwrap-placed.ensures ∙ c.get.ensures) in
+    let t = told_spot (map.get s.spots p) c.unwrap-placed.result (sym c.unwrap-placed.ensures ∙ c.remove.ensures.had) in
     let block = ap (λ (x : Placed). x.block.0) t.2 in
-    let seen = ap (λ k. is_some (map.get s.held k)) block ∙ sym (ap is_some c.get-2.ensures) ∙ sym c.is_some.ensures ∙ c.if-is_some.true in
+    let seen = ap (λ k. is_some (map.get s.held k)) block ∙ sym (ap is_some c.get.ensures) ∙ sym c.is_some.ensures ∙ c.if-is_some.true in
     let same = c.cut.ensures ∙ ap (λ k. map.insert s.held k true) (sym block) ∙ sym (cut_here s.spots s.held p t.0 t.1 seen) in
-    (λ i. record { count = s.count; spots = c.remove.ensures i; held = same i }) ∙ ap (λ (b : Blocks). cut_one b p) c.self.view_is
+    (λ i. record { count = s.count; spots = c.remove.ensures.gone i; held = same i }) ∙ ap (λ (b : Blocks). cut_one b p) c.self.view_is
 
 pub returns : goal.returns
 returns c =
     let s = c.self.inside in
     let p : ℕ × ℕ = (c.args.file, c.args.page) in
-    let t = told_spot (map.get s.spots p) c.unwrap-placed.result (sym c.unwrap-placed.ensures ∙ c.get.ensures) in
+    let t = told_spot (map.get s.spots p) c.unwrap-placed.result (sym c.unwrap-placed.ensures ∙ c.remove.ensures.had) in
     let block = ap (λ (x : Placed). x.block.0) t.2 in
-    let seen = ap (λ k. is_some (map.get s.held k)) block ∙ sym (ap is_some c.get-2.ensures) ∙ sym c.is_some.ensures ∙ c.if-is_some.false in
+    let seen = ap (λ k. is_some (map.get s.held k)) block ∙ sym (ap is_some c.get.ensures) ∙ sym c.is_some.ensures ∙ c.if-is_some.false in
     let same = sym (cut_idle s.spots s.held p t.0 t.1 seen) in
-    (λ i. record { count = s.count; spots = c.remove.ensures i; held = same i }) ∙ ap (λ (b : Blocks). cut_one b p) c.self.view_is
+    (λ i. record { count = s.count; spots = c.remove.ensures.gone i; held = same i }) ∙ ap (λ (b : Blocks). cut_one b p) c.self.view_is

@@ -32,6 +32,6 @@ invariant_of-self c =
     let block = ap (λ (x : Placed). x.block.0) t.2 in
     let not_held = subst (λ (b : Blocks). IfSome (map.get b.spots p) (λ spot. map.get b.held spot.block ≡ None)) (sym c.self.view_is) c.requires.not_held in
     let idle = subst (λ (o : Option Spot). IfSome o (λ spot. map.get s.held spot.block ≡ None)) t.1 not_held in
-    subst (λ (m : Spots). IsBalanced s.count (s.free + 1) m c.give_back.new.used.used s.held) (sym c.remove.ensures)
+    subst (λ (m : Spots). IsBalanced s.count (s.free + 1) m c.give_back.new.used.used s.held) (sym c.remove.ensures.gone)
     (subst (λ (u : set.FinSet nat_cmp). IsBalanced s.count (s.free + 1) (map.remove s.spots p) u s.held) (sym (c.give_back.ensures ∙ ap (set.remove s.used.used) (sym block)))
     (balanced-free s.count s.free s.spots s.used.used s.held c.self.invariant p t.0 t.1 idle))
