@@ -1,5 +1,4 @@
 pub mod Counting
-pub mod Failures
 pub mod Kept
 pub mod Replied
 pub mod Seats

@@ -1,18 +1,17 @@
 //! Pages that are written back, and what is known of a file's failed writes.
 
-ghost use Rattle.std.specs.Prelude.{IfSome, ◌≡◌, ◌+◌, ◌-◌, ◌<◌, ◌^◌, length, true, is_some, slice_set};
-ghost use Rattle.std.specs.FinMap as map;
+ghost use Rattle.std.specs.Prelude.{IfSome, ◌≡◌, ◌+◌, ◌<◌, ◌^◌, slice_set};
 ghost use Rattle.mapping.specs.declared.mapping.TheConstants.{MAX_PAGES};
 ghost use Rattle.writeback.specs.Picks.{StartsBelow};
 ghost use Rattle.writeback.specs.Slots.{sync_of};
-ghost use Rattle.pagestore.specs.Store.{the_page, stored_at, stored_page, with_pages};
+ghost use Rattle.pagestore.specs.Store.{stored_at, with_pages};
 ghost use Rattle.machine.specs.State.{Sync};
-ghost use Rattle.machine.specs.Changes.{flush_pick, after_write, to_write, under_write};
+ghost use Rattle.machine.specs.Changes.{flush_pick, to_write};
 ghost use Rattle.maps.specs.Maps.{each_value};
 ghost use Rattle.pagestore.specs.Syncing.{FailedSince, IsCoded, SyncSays, failed_of};
 
 use crate::pages::Pages;
-use pc_types::{ErrCode, FileId, PageIndex, Tag};
+use pc_types::{ErrCode, FileId, PageIndex};
 use writeback::{Progress, Requests, SyncStep};
 
 impl Pages {
@@ -42,41 +41,6 @@ impl Pages {
     {
         let mapping = &self.files[file as usize].mapping;
         writeback::sync_step(mapping, requests, FileId(file), progress)
-    }
-
-    /// A write of a cached page begins, and `out` gets the bytes that it writes.
-    pub fn begin_write(&mut self, file: u64, page: u64, out: &mut [u8])
-        requires here { file < length self.old.files }
-        requires cached { is_some (stored_page self.old file page) ≡ true }
-        requires whole { length out.old ≡ self.old.page }
-        ensures begun { self.new ≡ with_pages self.old file (map.insert (stored_at self.old file).pages page (under_write (the_page (stored_at self.old file).pages page))) self.old.free }
-        ensures copy { out.new ≡ (the_page (stored_at self.old file).pages page).bytes }
-    {
-        let mapping = &mut self.files[file as usize].mapping;
-        let Some(frame) = mapping.frame(PageIndex(page)) else {
-            unreachable!()
-        };
-        let was_dirty = mapping.has_tag(PageIndex(page), Tag::Dirty);
-        writeback::begin_write(mapping, PageIndex(page));
-        self.dirty -= u64::from(was_dirty);
-        out.copy_from_slice(self.frames.bytes(frame));
-    }
-
-    /// A write of a cached page ended.
-    pub fn end_write(&mut self, file: u64, page: u64, failed: bool)
-        requires here { file < length self.old.files }
-        requires cached { is_some (stored_page self.old file page) ≡ true }
-        ensures { self.new ≡ with_pages self.old file (map.insert (stored_at self.old file).pages page (after_write failed (the_page (stored_at self.old file).pages page))) self.old.free }
-    {
-        let mapping = &mut self.files[file as usize].mapping;
-        let Some(mapped) = mapping.page(PageIndex(page)) else {
-            unreachable!()
-        };
-        let was_dirty = mapped.tags.has(Tag::Dirty);
-        writeback::end_write(mapping, PageIndex(page), failed);
-        self.dirty += u64::from(failed && !was_dirty);
-        // the page may be idle now, so that an eviction finds it
-        self.frames.put_back(mapped.frame);
     }
 
     /// How many writes of the file failed.

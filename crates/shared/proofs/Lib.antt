@@ -5,5 +5,3 @@ pub mod Syncing
 pub mod Serving
 pub mod Closing
 pub mod Seating
-pub mod Owning
-pub mod Letting
