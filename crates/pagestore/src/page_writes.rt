@@ -1,6 +1,6 @@
 //! Pages that are written back, and what is known of a file's failed writes.
 
-ghost use Rattle.std.specs.Prelude.{IfSome, ◌≡◌, ◌+◌, ◌<◌, ◌^◌, slice_set};
+ghost use Rattle.std.specs.Prelude.{IfSome, ◌≡◌, ◌+◌, ◌<◌, ◌^◌, length, slice_set};
 ghost use Rattle.mapping.specs.declared.mapping.TheConstants.{MAX_PAGES};
 ghost use Rattle.writeback.specs.Picks.{StartsBelow};
 ghost use Rattle.writeback.specs.Slots.{sync_of};
