@@ -46,7 +46,7 @@ gone_by : (b : Bool) (e : Event) (r : Reply) (old new : HeldSeen) (before after 
     → Made e r old new before after slip → LetsGo (if b then 1 else 0) before after
 gone_by b e r old new before after slip is m =
     let p : Only (λ x. lets_go x.reply ≡ b) before after =
-        only_by (λ x. lets_go x.reply ≡ b) e r old new before after slip is m in
+    only_by (λ x. lets_go x.reply ≡ b) e r old new before after slip is m in
     let one : count_of before.number p.since ≡ 1 = omega (arith, p.count, m.entered.count) in
     record {
       since = p.since;

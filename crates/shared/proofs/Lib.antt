@@ -6,4 +6,5 @@ pub mod Serving
 pub mod Closing
 pub mod Seating
 pub mod Owning
+pub mod Answered
 pub mod Letting

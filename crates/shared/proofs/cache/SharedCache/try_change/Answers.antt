@@ -3,7 +3,7 @@ use Rattle.cachecore.specs.declared.answers.WriteAnswer.{WriteAnswer}
 use Rattle.pc_types.specs.declared.ids.HandleId.{HandleId}
 use Rattle.held.specs.Entered.{Made}
 use Rattle.machine.specs.declared.event.Reply.TheVariants as reply
-use Rattle.locked.proofs.Seats.{goes_by, goes_on, goes_same}
+use Rattle.locked.proofs.Seats.{goes_by, goes_on, goes_same, once_by}
 use Rattle.shared.specs.Called.{Makes}
 use Rattle.shared.specs.Changes.{IsWholeIn, event_of, reply_of}
 use Rattle.shared.specs.Denials.{IsDenied}
@@ -93,3 +93,6 @@ returns-in-Err-settle-clause-only g c =
     only_settled c.args.handle (event_of c.args.change c.args.handle c.args.bytes.now) c.deref_mut.result.now
     c.change_by.new.state c.args.seat.now c.change_by.new.seat c.settle.new.seat c.in-Err.denied c.in-Err.ensures.denied
     (change_plain c.args.change c.args.handle c.args.bytes.now) c.settle.ensures.only
+
+pub returns-in-Wrote-clause-once : goal.returns-in-Wrote-clause-once
+returns-in-Wrote-clause-once g c = once_by _ _ _ _ _ _ _ _ c.in-Ok.ensures.made
