@@ -1,5 +1,5 @@
 -- How many pages a seat let go.
-use Rattle.std.proofs.Common.{◌≡◌, ℕ, ◌+◌, ◌-◌, ◌^◌, List, [], ◌∷◌, ◌++◌, Bool, true, false, refl, sym, ap, subst, ◌∙◌, arith, add-zero, append_assoc, eqb-eq}
+use Rattle.std.proofs.Common.{◌≡◌, ℕ, ◌+◌, ◌-◌, ◌^◌, List, [], ◌∷◌, ◌++◌, Bool, true, false, refl, sym, ap, subst, ◌∙◌, arith, add-zero, append_assoc, eqb-true}
 use Rattle.std.specs.Prelude.{All, Option, Some, None, ◌==◌, ◌&&◌, count_by, if◌then◌else◌, is_some, min}
 use Rattle.std.proofs.lemmas.List.{append-nil}
 use Rattle.std.proofs.lemmas.List.Elements.{All-head, All-tail}
@@ -39,7 +39,7 @@ counted number true [] all = refl
 counted number false [] all = refl
 counted number b (x ∷ xs) all =
     one_more (x.seat == number) (lets_go x.reply) b (count_by (went number) xs) (count_of number xs)
-    (λ same. All-head (λ (e : Entry). e.seat ≡ number → lets_go e.reply ≡ b) x xs all (eqb-eq x.seat number same))
+    (λ same. All-head (λ (e : Entry). e.seat ≡ number → lets_go e.reply ≡ b) x xs all (eqb-true x.seat number same))
     (counted number b xs (All-tail (λ (e : Entry). e.seat ≡ number → lets_go e.reply ≡ b) x xs all))
 
 gone_by : (b : Bool) (e : Event) (r : Reply) (old new : HeldSeen) (before after : SeatSeen) (slip : Slip) → lets_go r ≡ b

@@ -16,3 +16,12 @@ jobs-preserved g c = record {
       (ap (λ (v : Log). v.popped) c.in-Some-pop.ensures.answer.0) c.jobs.invariant.goes c.carry_through.ensures.goes
       (search rules) c.carry_through.ensures.ended;
 }
+
+pub jobs-preserved-then-is_err : goal.jobs-preserved-then-is_err
+jobs-preserved-then-is_err g c = record {
+  worker = search (rules, c.pop.ensures.pass, c.jobs.invariant.worker.named, c.jobs.invariant.worker.seated);
+  goes = goes_on c.args.own.now.seat c.jobs.own.seat c.carry_through.new.seat c.jobs.invariant.goes c.carry_through.ensures.goes;
+  only = only_job_on c.in-Some-pop.job c.args.own.now.seat c.jobs.own.seat c.carry_through.new.seat c.jobs.invariant.only
+      c.carry_through.ensures.only;
+  ended = λ e. absurd cc;
+}

@@ -1,4 +1,4 @@
-use Rattle.std.proofs.Common.{◌≡◌, ℕ}
+use Rattle.std.proofs.Common.{◌≡◌, ℕ, ◌-◌, ◌^◌}
 use Rattle.std.specs.Prelude.{min}
 use Rattle.locked.specs.Called.{Goes, Only}
 use Rattle.shared.specs.Own.{IsEviction}
