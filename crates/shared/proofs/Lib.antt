@@ -4,6 +4,7 @@ pub mod Ending
 pub mod Syncing
 pub mod Serving
 pub mod Closing
+pub mod Hearing
 pub mod Seating
 pub mod Owning
 pub mod Answered

@@ -38,8 +38,9 @@ use Rattle.shared.specs.Called.{Makes}
 use Rattle.shared.specs.Denials.{DeniedBy, IsDenied}
 use Rattle.shared.specs.Own.{IsRoomEvent}
 use Rattle.shared.specs.Synced.{Began, GaveUp, IsDropReply, IsDropped, IsFlushEnd, IsFsyncDenied, IsSyncDenied, IsTurnOf}
-use Rattle.shared.specs.Polls.{Polled}
+use Rattle.shared.specs.Polls.{IsLevelled, Polled}
 use Rattle.shared.specs.Synced.{Reports, Syncs, end_reply}
+use Rattle.shared.proofs.Hearing.{polled_from, reports_from}
 use Rattle.shared.proofs.Making.{denied_by, denied_event, denied_on, denied_one, full_by, makes_by}
 
 -- ---- turns
@@ -190,14 +191,14 @@ pub write_failed : (h : HandleId) (first last : PageIndex) (failed : Option ℕ)
     → IsFsyncDenied h first last before after old new d
 write_failed h first last failed before after old new slip d s r = inl (failed, slip, s, r)
 
-pub flush_failed : (h : HandleId) (first last : PageIndex) (before after : SeatSeen) (old : PassSeen) (code : ℕ) (slip : Slip)
-    → Syncs h first last None before after slip
-    → IsFsyncDenied h first last before after old old (record { refusal = Io code; slip = None })
-flush_failed h first last before after old code slip s = inr (refl, inl (code, slip, s, refl))
+pub flush_failed : (h : HandleId) (first last : PageIndex) (before after : SeatSeen) (old new : PassSeen) (code : ℕ)
+    (slip : Slip) → IsLevelled old new → Syncs h first last None before after slip
+    → IsFsyncDenied h first last before after old new (record { refusal = Io code; slip = None })
+flush_failed h first last before after old new code slip level s = inr (inl (level, (code, slip, s, refl)))
 
 pub sync_denied : (h : HandleId) (first last : PageIndex) (before after : SeatSeen) (old : PassSeen) (d : Denied)
     → IsSyncDenied h first last before after d → IsFsyncDenied h first last before after old old d
-sync_denied h first last before after old d q = inr (refl, inr q)
+sync_denied h first last before after old d q = inr (inr (refl, q))
 
 -- a sync that ended without a failed write, and a poll that answers nothing
 clean_slip : (h : HandleId) (first last : PageIndex) (failed : Option ℕ) (before after : SeatSeen) (at slip : Slip)
@@ -207,17 +208,18 @@ clean_slip h first last failed before after at slip s same none =
     (subst (λ (x : Slip). Syncs h first last failed before after x) (sym same) s)
 
 pub fsync_clean : (result : Result Slip Denied) (h : HandleId) (first last : PageIndex) (failed : Option ℕ)
-    (before after : SeatSeen) (at : Slip) (old new : PassSeen) → Syncs h first last failed before after at
-    → IfOk result (λ slip. (slip ≡ at) × (failed ≡ None) × Polled old new None)
+    (before after : SeatSeen) (at : Slip) (old mid new : PassSeen) → Syncs h first last failed before after at
+    → IsLevelled old mid → IfOk result (λ slip. (slip ≡ at) × (failed ≡ None) × Polled mid new None)
     → IfOk result (λ slip. Syncs h first last None before after slip × Polled old new None)
-fsync_clean result h first last failed before after at old new s q =
-    IfOk-weaker result (λ slip. (slip ≡ at) × (failed ≡ None) × Polled old new None)
+fsync_clean result h first last failed before after at old mid new s level q =
+    IfOk-weaker result (λ slip. (slip ≡ at) × (failed ≡ None) × Polled mid new None)
     (λ slip. Syncs h first last None before after slip × Polled old new None)
-    (λ slip k. (clean_slip h first last failed before after at slip s k.0 k.1, k.2)) q
+    (λ slip k. (clean_slip h first last failed before after at slip s k.0 k.1, polled_from old mid new None level k.2)) q
 
 pub fsync_denied : (result : Result Slip Denied) (h : HandleId) (first last : PageIndex) (failed : Option ℕ)
-    (before after : SeatSeen) (at : Slip) (old new : PassSeen) → Syncs h first last failed before after at
-    → IfErr result (Reports failed at old new) → IfErr result (IsFsyncDenied h first last before after old new)
-fsync_denied result h first last failed before after at old new s q =
-    IfErr-weaker result (Reports failed at old new) (IsFsyncDenied h first last before after old new)
-    (λ d r. write_failed h first last failed before after old new at d s r) q
+    (before after : SeatSeen) (at : Slip) (old mid new : PassSeen) → Syncs h first last failed before after at
+    → IsLevelled old mid → IfErr result (Reports failed at mid new)
+    → IfErr result (IsFsyncDenied h first last before after old new)
+fsync_denied result h first last failed before after at old mid new s level q =
+    IfErr-weaker result (Reports failed at mid new) (IsFsyncDenied h first last before after old new)
+    (λ d r. write_failed h first last failed before after old new at d s (reports_from failed at old mid new d level r)) q

@@ -1,6 +1,6 @@
 //! Fsync, of a file or of a range of its pages.
 
-ghost use Rattle.std.specs.Prelude.{◌≡◌, ◌≢◌, ◌⊎◌, Err, IfErr, IfOk, IfSome, None, Some};
+ghost use Rattle.std.specs.Prelude.{◌≡◌, ◌≢◌, ◌⊎◌, Err, IfErr, IfNone, IfOk, IfSome, None, Some};
 ghost use Rattle.errboard.specs.Shown.{PassSeen};
 ghost use Rattle.machine.specs.declared.event.Event.TheVariants as event;
 ghost use Rattle.pc_types.specs.declared.limits.TheConstants.{LAST_PAGE};
@@ -8,13 +8,14 @@ ghost use Rattle.pc_types.specs.declared.refusal.Refusal.TheVariants.{BadHandle,
 ghost use Rattle.locked.specs.Called.{Goes, Only};
 ghost use Rattle.shared.specs.Called.{Makes};
 ghost use Rattle.shared.specs.Denials.{IsDenied};
-ghost use Rattle.shared.specs.Polls.{Polled};
+ghost use Rattle.shared.specs.Polls.{Hears, IsLevelled, Polled};
 ghost use Rattle.shared.specs.Synced.{IsDropped, IsFsyncDenied, IsSyncDenied, IsTurnOf, OneSync, Reports, Syncs, end_reply};
 
 use crate::cache::SharedCache;
 use crate::handle::Handle;
 use blockdev::{BlockDevice, Buffer};
 use cachecore::SyncStepped;
+use errboard::Pass;
 use held::log::{Seat, Slip};
 use locked::denied::{Denied, by, without_slip};
 use locked::naming::Naming;
@@ -49,6 +50,7 @@ impl<B: Naming, D: BlockDevice, T: Trail> SharedCache<B, D, T> {
         ensures only { OneSync handle.old.number (record { 0 = 0 }) (record { 0 = LAST_PAGE }) seat.old seat.new }
         ensures same { (handle.new ≡ record handle.old { pass = handle.new.pass }) × (handle.new.pass.board ≡ handle.old.pass.board) }
         ensures clean { IfOk result (λ slip. Syncs handle.old.number (record { 0 = 0 }) (record { 0 = LAST_PAGE }) None seat.old seat.new slip × Polled handle.old.pass handle.new.pass None) }
+        ensures hears { IfOk result (λ slip. Hears B.sizes self.now.name slip seat.new handle.new.pass) }
         ensures denied { seat.old.name ≡ self.now.name → handle.old.cache ≡ self.now.name → IfErr result (IsFsyncDenied handle.old.number (record { 0 = 0 }) (record { 0 = LAST_PAGE }) seat.old seat.new handle.old.pass handle.new.pass) }
     {
         self.fsync_range(rt, seat, handle, PageIndex(0), PageIndex(LAST_PAGE))
@@ -73,12 +75,13 @@ impl<B: Naming, D: BlockDevice, T: Trail> SharedCache<B, D, T> {
         ensures only { OneSync handle.old.number first last seat.old seat.new }
         ensures same { (handle.new ≡ record handle.old { pass = handle.new.pass }) × (handle.new.pass.board ≡ handle.old.pass.board) }
         ensures clean { IfOk result (λ slip. Syncs handle.old.number first last None seat.old seat.new slip × Polled handle.old.pass handle.new.pass None) }
+        ensures hears { IfOk result (λ slip. Hears B.sizes self.now.name slip seat.new handle.new.pass) }
         ensures denied { seat.old.name ≡ self.now.name → handle.old.cache ≡ self.now.name → IfErr result (IsFsyncDenied handle.old.number first last seat.old seat.new handle.old.pass handle.new.pass) }
     {
         if let Err(refusal) = self.admits(seat, handle) {
             return Err(without_slip(refusal));
         }
-        let synced = match self.sync_pages(rt, seat, handle.number, first, last) {
+        let synced = match self.sync_pages(rt, seat, &mut handle.pass, handle.number, first, last) {
             Ok(synced) => synced,
             Err(denied) => return Err(denied),
         };
@@ -110,12 +113,17 @@ impl<B: Naming, D: BlockDevice, T: Trail> SharedCache<B, D, T> {
         &self,
         rt: &R,
         seat: &mut Seat,
+        pass: &mut Pass,
         handle: HandleId,
         first: PageIndex,
         last: PageIndex,
     ) -> Result<Synced, Denied>
-        requires { seat.old.table ≡ B.table }
+        requires seat { seat.old.table ≡ B.table }
+        requires pass { pass.old.board ≡ B.board }
         ensures goes { Goes seat.old seat.new }
+        ensures level { IsLevelled pass.old pass.new }
+        ensures hears { IfOk result (λ r. Hears B.sizes B.name r.slip seat.new pass.new) }
+        ensures kept { IfErr result (λ _. pass.new ≡ pass.old) }
         ensures only { OneSync handle first last seat.old seat.new }
         ensures ended { IfOk result (λ r. Syncs handle first last r.failed seat.old seat.new r.slip) }
         ensures denied { IfErr result (IsSyncDenied handle first last seat.old seat.new) }
@@ -125,7 +133,7 @@ impl<B: Naming, D: BlockDevice, T: Trail> SharedCache<B, D, T> {
             Ok((sync, _)) => sync,
             Err(denied) => return Err(denied),
         };
-        match self.sync_turns(rt, seat, sync) {
+        match self.sync_turns(rt, seat, pass, sync) {
             Ok(synced) => Ok(synced),
             Err(denied) => Err(self.give_up(rt, seat, sync, denied)),
         }
@@ -133,15 +141,25 @@ impl<B: Naming, D: BlockDevice, T: Trail> SharedCache<B, D, T> {
 
     /// Makes turns of the sync until one ends it.
     #[tactic(auto, using(locked::proofs::Seats::goes_by, locked::proofs::Seats::goes_on, locked::proofs::Seats::goes_same, crate::proofs::Making::goes_denied, crate::proofs::Making::makes_on, crate::proofs::Syncing::turn_on, locked::proofs::Seats::only_same, crate::proofs::Owning::only_turn_on))]
-    fn sync_turns<R: Wait>(&self, rt: &R, seat: &mut Seat, sync: SyncId) -> Result<Synced, Denied>
-        requires { seat.old.table ≡ B.table }
+    fn sync_turns<R: Wait>(
+        &self,
+        rt: &R,
+        seat: &mut Seat,
+        pass: &mut Pass,
+        sync: SyncId,
+    ) -> Result<Synced, Denied>
+        requires seat { seat.old.table ≡ B.table }
+        requires pass { pass.old.board ≡ B.board }
         ensures goes { Goes seat.old seat.new }
+        ensures level { IsLevelled pass.old pass.new }
+        ensures hears { IfOk result (λ r. Hears B.sizes B.name r.slip seat.new pass.new) }
+        ensures kept { IfErr result (λ _. pass.new ≡ pass.old) }
         ensures only { Only (λ e. IsTurnOf sync e.event) seat.old seat.new }
         ensures ended { IfOk result (λ r. Makes seat.old seat.new r.slip (event.SyncStep sync) (end_reply r.failed)) }
         ensures denied { IfErr result (IsDenied (IsTurnOf sync) seat.old seat.new) }
     {
         'turns: for _ in rt.forever() {
-            match self.sync_turn(rt, seat, sync) {
+            match self.sync_turn(rt, seat, pass, sync) {
                 Ok(Some(synced)) => return Ok(synced),
                 Ok(None) => {}
                 Err(denied) => return Err(denied),
@@ -157,10 +175,16 @@ impl<B: Naming, D: BlockDevice, T: Trail> SharedCache<B, D, T> {
         &self,
         rt: &R,
         seat: &mut Seat,
+        pass: &mut Pass,
         sync: SyncId,
     ) -> Result<Option<Synced>, Denied>
-        requires { seat.old.table ≡ B.table }
+        requires seat { seat.old.table ≡ B.table }
+        requires pass { pass.old.board ≡ B.board }
         ensures goes { Goes seat.old seat.new }
+        ensures level { IsLevelled pass.old pass.new }
+        ensures hears { IfOk result (λ o. IfSome o (λ r. Hears B.sizes B.name r.slip seat.new pass.new)) }
+        ensures again { IfOk result (λ o. IfNone o (pass.new ≡ pass.old)) }
+        ensures kept { IfErr result (λ _. pass.new ≡ pass.old) }
         ensures only { Only (λ e. IsTurnOf sync e.event) seat.old seat.new }
         ensures ended { IfOk result (λ o. IfSome o (λ r. Makes seat.old seat.new r.slip (event.SyncStep sync) (end_reply r.failed))) }
         ensures denied { IfErr result (IsDenied (IsTurnOf sync) seat.old seat.new) }
@@ -185,8 +209,13 @@ impl<B: Naming, D: BlockDevice, T: Trail> SharedCache<B, D, T> {
                 drop(self.changed.wait(rt, guard));
                 return Ok(None);
             }
-            SyncStepped::Clean(_) => return Ok(Some(Synced { failed: None, slip })),
+            // The poll that follows knows all failed writes up to here.
+            SyncStepped::Clean(_) => {
+                guard.level(pass);
+                return Ok(Some(Synced { failed: None, slip }));
+            }
             SyncStepped::Failed(code, _) => {
+                guard.level(pass);
                 return Ok(Some(Synced {
                     failed: Some(code),
                     slip,
