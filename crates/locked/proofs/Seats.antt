@@ -49,9 +49,9 @@ none_made own number [] none = All-nil (λ (e : Entry). e.seat ≡ number → ow
 none_made own number (x ∷ xs) none =
     All-cons (λ (e : Entry). e.seat ≡ number → own e) x xs
     (λ same. absurd (
-        let first : ℕ = if x.seat == number then 1 else 0 in
-        let one : first ≡ 1 = ap (λ b. if b then 1 else 0) (eq-eqb x.seat number same) in
-        omega (arith, none, one)))
+    let first : ℕ = if x.seat == number then 1 else 0 in
+    let one : first ≡ 1 = ap (λ b. if b then 1 else 0) (eq-eqb x.seat number same) in
+    omega (arith, none, one)))
     (none_made own number xs (let first : ℕ = if x.seat == number then 1 else 0 in omega (arith, none)))
 
 pub only_by : (own : Entry → Type 0) (e : Event) (r : Reply) (old new : HeldSeen) (before after : SeatSeen) (slip : Slip)
@@ -61,10 +61,14 @@ only_by own e r old new before after slip is m =
     let others : List Entry = m.entered.saw.0 in
     let there : before.list ++ others ≡ old.log.history = m.entered.saw.1 in
     let none : count_of before.number others ≡ 0 =
-        omega (arith, sym (count_both before.number before.list others) ∙ ap (count_of before.number) there,
-        m.entered.counted, m.entered.own) in
+    omega (
+      arith,
+      sym (count_both before.number before.list others) ∙ ap (count_of before.number) there,
+      m.entered.counted,
+      m.entered.own,
+    ) in
     let here : count_of before.number (entry ∷ []) ≡ 1 =
-        ap (λ b. (if b then 1 else 0) + 0) (eq-eqb before.number before.number refl) in
+    ap (λ b. (if b then 1 else 0) + 0) (eq-eqb before.number before.number refl) in
     record {
       same = m.entered.seat.2;
       since = others ++ entry ∷ [];
