@@ -1,9 +1,9 @@
-use Rattle.std.proofs.Common.{◌≡◌, length, ◌∙◌, subst}
+use Rattle.std.proofs.Common.{◌≡◌, length, ap, ◌∙◌, subst}
 use Rattle.std.specs.Prelude.{Result, Ok, Err, OnOk}
 use Rattle.pc_types.specs.declared.refusal.Refusal.{Refusal}
+use Rattle.runs.specs.Plain.{Plain, plain_file}
 use Rattle.filesvc.specs.Service.{IsOnDevice}
 use Rattle.filesvc.proofs.Callers.{came_on, came_synced, file_synced, open_on, open_synced, written_is}
-use Rattle.filesvc.proofs.Laws.{serves_trans}
 use Rattle.filesvc.proofs.tests.save.Goals as goal
 
 if_ok : {P : Type 0} (r : Result Unit Refusal) → P → OnOk r P
@@ -38,7 +38,9 @@ returns-in-Err-Io-clause-open g c = λ was.
 
 pub returns-in-Err-Io-clause-saved : goal.returns-in-Err-Io-clause-saved
 returns-in-Err-Io-clause-saved g c = λ names tells. if_ok c.fsync-in-Err-Io.result
-    (written_is c.args.files.now c.pwrite.new.self c.fsync-in-Err-Io.new.self c.args.handle.now 0 c.args.bytes.now c.in_ok-pwrite.field-0 (length c.args.bytes.now) (c.requires.came names) tells c.in_ok-pwrite.ensures.files c.pwrite.ensures.keeps (serves_trans _ _ _ c.fsync.ensures.serves c.fsync-in-Err-Io.ensures.serves))
+    (ap (λ (p : Plain). plain_file p c.args.handle.now.file)
+    (c.fsync-in-Err-Io.ensures.serves.files (c.fsync.ensures.serves.keeps.tells ∙ (c.pwrite.ensures.keeps.tells ∙ tells)))
+    ∙ written_is c.args.files.now c.pwrite.new.self c.fsync.new.self c.args.handle.now 0 c.args.bytes.now c.in_ok-pwrite.field-0 (length c.args.bytes.now) (c.requires.came names) tells c.in_ok-pwrite.ensures.files c.pwrite.ensures.keeps c.fsync.ensures.serves)
 
 pub returns-in-Err-Io-clause-synced : goal.returns-in-Err-Io-clause-synced
 returns-in-Err-Io-clause-synced g c = λ names tells.
