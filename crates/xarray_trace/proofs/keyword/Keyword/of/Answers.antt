@@ -1,5 +1,4 @@
 use Rattle.std.proofs.Common.{◌≡◌, ◌≢◌, MatchOption, All, ℕ, List, [], ◌∷◌, Some, None, Option, arith}
-
 use Rattle.xarray_trace.specs.Keywords.{name_of}
 use Rattle.xarray_trace.specs.declared.keyword.Keyword.{Keyword as TheKeyword}
 use Rattle.xarray_trace.specs.declared.keyword.Keyword.TheVariants.{Store, Insert, InsertOrder, Erase, Load, Split, SetMark, ClearMark, GetMark, Marked, Find, FindMarked, Retag, Empty, Hash, Dump, New, Ids, Alloc, AllocCyclic, Free, IsUsed, ErrNew, ErrSet, ErrSample, ErrCheck, ErrAdvance}
