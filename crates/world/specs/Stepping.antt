@@ -115,11 +115,6 @@ CallReply old t (Some x) None answer new =
     (answer ≡ reply.Done) × IsCalled old t new × IfSome old.device.contents (λ _. MovesByCall old t new)
 CallReply old t _ _ answer new = IsNotMade old Stranger answer new
 
--- what a call answers, as a reply
-abbrev pub done : Result Unit Refusal → Reply
-done (Ok _) = reply.Done
-done (Err why) = reply.Refused why
-
 -- a request ends where its call was made, and then its end is not refused
 abbrev pub EndReply : WorldSeen → Step → Option Outcome → Reply → WorldSeen → Type 0
 EndReply old s (Some o) answer new = IsMade old s answer new × (answer ≢ reply.Refused Stranger)
@@ -143,44 +138,6 @@ Plays old [] [] new = new ≡ old
 Plays old (s ∷ ss) (r ∷ rs) new = (mid : WorldSeen) × Steps old s r mid × Plays mid ss rs new
 Plays old _ _ new = ⊥
 
--- ---- the run of the steps that were made
-
--- whether the reply tells that the step was made. What is refused memory changes nothing, made or not
-abbrev pub is_made : Step → Reply → Bool
-is_made (step.Read h o n) (reply.Refused Memory) = false
-is_made (step.FillBegin h p) (reply.Refused Memory) = false
-is_made (step.FlushBegin f) (reply.Refused Memory) = false
-is_made (step.SyncStep n) (reply.Refused Memory) = false
-is_made (step.Call t) (reply.Refused Stranger) = false
-is_made (step.End t) (reply.Refused Stranger) = false
-is_made s r = true
-
--- what one step leaves in a run
-abbrev pub Leaves : Bool → Step → Reply → List Move → Type 0
-Leaves true s r moves = (fault : Option ℕ) × (effect : Bool) × (moves ≡ move_of s r fault effect ∷ [])
-Leaves false s r moves = moves ≡ []
-
--- the moves are those of the steps that were made, with their replies
-abbrev pub Follow : List Step → List Reply → List Move → Type 0
-Follow [] [] moves = moves ≡ []
-Follow (s ∷ ss) (r ∷ rs) moves =
-    (first : List Move) × (rest : List Move) × (moves ≡ first ++ rest) × Leaves (is_made s r) s r first
-    × Follow ss rs rest
-Follow _ _ moves = ⊥
-
--- a run of these steps leads from w to v
-abbrev pub LeadsTo : World → List Step → List Reply → World → Type 0
-LeadsTo w ss rs v =
-    (run : List (Move × World)) × Run w run × Follow ss rs (map (λ x. x.0) run) × (last w run ≡ v)
-
-abbrev pub is_call : Step → Bool
-is_call (step.Call t) = true
-is_call _ = false
-
--- the device tells its contents where one of the steps is a device call
-abbrev pub TellsForCalls : List Step → Told → Type 0
-TellsForCalls ss d = list_any is_call ss ≡ true → is_some d.contents ≡ true
-
 -- ---- a device call that is made to fail
 
 -- the world where the device's next call fails so
@@ -188,19 +145,8 @@ abbrev pub failing : WorldSeen → ℕ → FaultEffect → WorldSeen
 failing w code effect =
     record w { device = record w.device { plan = Some (Some (record { code = code; effect = effect }) ∷ []) } }
 
-abbrev pub is_new : FaultEffect → Bool
-is_new effect.Old = false
-is_new effect.New = true
-
--- where the call can be counted it fails with this code
-abbrev pub FailReply : WorldSeen → ℕ → Option Request → Option Outcome → ℕ → FaultEffect → Result Unit Refusal
-    → WorldSeen
-    → Type 0
-FailReply old t (Some x) None code effect result new =
-    (result ≡ Ok tt) × IsCalled (failing old code effect) t new
-    × (old.device.calls < max_calls → WorldStep (world_of old) (Call t (Some code) (is_new effect)) (world_of new))
-FailReply old t _ _ code effect result new = (result ≡ Err Stranger) × (new ≡ old)
-
-abbrev pub Fails : WorldSeen → ℕ → ℕ → FaultEffect → Result Unit Refusal → WorldSeen → Type 0
-Fails old t code effect result new =
-    FailReply old t (finmap.get old.core.requests t) (finmap.get old.outcomes t) code effect result new
+-- the device's next call is made to fail, and then the call of request t is made, as a step of its own. Where that is
+-- refused no fault is planned
+abbrev pub Fails : WorldSeen → Serial → ℕ → FaultEffect → Result Unit Refusal → WorldSeen → Type 0
+Fails old t code effect (Ok _) new = Steps (failing old code effect) (step.Call t) reply.Done new
+Fails old t code effect (Err why) new = Steps old (step.Call t) (reply.Refused why) new
