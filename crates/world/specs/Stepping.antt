@@ -1,16 +1,15 @@
 -- Steps that a caller asks for: what each of them does to the world, and what a list of them does.
-use Rattle.std.specs.Prelude.{Bool, true, false, map, ◌==◌, ◌&&◌, ◌||◌, ◌≡◌, ◌≢◌, ℕ, ◌+◌, ◌<◌, ◌≤◌, ◌⊎◌, List, [], ◌∷◌, ◌++◌}
-use Rattle.std.specs.Prelude.{Option, Some, None}
-use Rattle.std.specs.Prelude.{is_some, unwrap_or, IfSome, Result, Ok, Err, if◌then◌else◌}
-use Rattle.std.specs.List.{list_any}
+use Rattle.std.specs.Prelude.{Bool, true, ◌==◌, ◌&&◌, ◌||◌, ◌≡◌, ◌≢◌, ℕ, ◌+◌, ◌≤◌, ◌⊎◌, List, [], ◌∷◌}
+use Rattle.std.specs.Prelude.{Option, Some, None, unwrap_or, IfSome, Result, Ok, Err, if◌then◌else◌}
 use Rattle.std.specs.Ordering.{nat_cmp}
 use Rattle.std.specs.FinMap as finmap
 use Rattle.blockdev.specs.declared.fault.FaultEffect.{FaultEffect}
 use Rattle.blockdev.specs.declared.fault.FaultEffect.TheVariants as effect
-use Rattle.blockdev.specs.Device.{Told, max_calls}
+use Rattle.blockdev.specs.Device.{Told}
 use Rattle.blockdev.specs.Jobs.{Task, FinishedTask, Performs}
 use Rattle.pc_types.specs.Kinds.{is_flush}
 use Rattle.pc_types.specs.Limits.{Sizes}
+use Rattle.pc_types.specs.declared.ids.Serial.{Serial}
 use Rattle.pc_types.specs.declared.limits.TheConstants.{LAST_PAGE, MAX_FILE_SIZE}
 use Rattle.pc_types.specs.declared.refusal.Refusal.{Refusal}
 use Rattle.pc_types.specs.declared.refusal.Refusal.TheVariants.{Memory, Stranger}
@@ -21,7 +20,6 @@ use Rattle.machine.specs.declared.event.Reply.TheVariants as reply
 use Rattle.machine.specs.State.{State, Request, page_count}
 use Rattle.machine.specs.History.{no_files}
 use Rattle.runs.specs.World.{World, Move, Act, Call, Finish, WorldStep}
-use Rattle.runs.specs.Runs.{Run, last}
 use Rattle.cachecore.specs.Replies.{IsJobOf, outcome_of}
 use Rattle.world.specs.declared.step.Step.{Step}
 use Rattle.world.specs.declared.step.Step.TheVariants as step
@@ -54,9 +52,8 @@ first_world g name d =
 abbrev pub HasAllPages : ℕ → Type 0
 HasAllPages P = (z : ℕ) → z ≤ MAX_FILE_SIZE → page_count P z ≤ LAST_PAGE + 1
 
--- what a step that is made does, with its reply: an event, a device call or an end. A call has its fault, if it had
--- one, and
--- whether a flush that failed left its bytes on the block
+-- what a step that is made does, with its reply: an event, a device call or an end. A call has its fault, if it had one,
+-- and whether a flush that failed left its bytes on the block
 abbrev pub move_of : Step → Reply → Option ℕ → Bool → Move
 move_of step.Create r fault effect = Act event.Create r
 move_of (step.Open f) r fault effect = Act (event.Open f) r
@@ -120,9 +117,8 @@ abbrev pub EndReply : WorldSeen → Step → Option Outcome → Reply → WorldS
 EndReply old s (Some o) answer new = IsMade old s answer new × (answer ≢ reply.Refused Stranger)
 EndReply old s None answer new = IsNotMade old Stranger answer new
 
--- a read is handed a place for its bytes, and what may begin a request a buffer: where memory for it is refused no
--- event is
--- made. The other events are handed nothing
+-- a read is handed a place for its bytes, and what may begin a request a buffer: where memory for it is refused no event
+-- is made. The other events are handed nothing
 abbrev pub Steps : WorldSeen → Step → Reply → WorldSeen → Type 0
 Steps old (step.Read h o n) r new = IsMade old (step.Read h o n) r new ⊎ IsNotMade old Memory r new
 Steps old (step.FillBegin h p) r new = IsMade old (step.FillBegin h p) r new ⊎ IsNotMade old Memory r new

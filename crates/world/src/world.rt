@@ -3,7 +3,7 @@
 mod calls;
 mod events;
 
-ghost use Rattle.std.specs.Prelude.{◌≡◌, ◌<◌, IfErr, IfOk, IfSome, IsOkUnless, None, OnErr, length, option_map, true, false, if◌then◌else◌};
+ghost use Rattle.std.specs.Prelude.{◌≡◌, ◌<◌, IfErr, IfOk, IfSome, IsOkUnless, None, OnErr, length, option_map, true, if◌then◌else◌};
 ghost use Rattle.pc_types.specs.declared.refusal.Refusal.TheVariants.{BadConfig, Memory};
 ghost use Rattle.cachecore.specs.Flushing.{flush_of};
 ghost use Rattle.cachecore.specs.Replies.{TagsAre, answered};
