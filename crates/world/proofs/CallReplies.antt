@@ -137,7 +137,7 @@ module _ (core : State) (jobs : Jobs) (dev : Watch) (w : IsWorld core jobs dev) 
   pub fail_made : (code : ℕ) (effect : FaultEffect) (new : WorldSeen) (result : Result Unit Refusal)
       → true ≡ is_asked (finmap.get jobs t)
       → Steps (failing old code effect) (step.Call (record { 0 = t })) (answered (λ _. reply.Done) result) new
-      → Fails old (record { 0 = t }) code effect result new
+      → Fails old t code effect result new
   fail_made code effect new (Ok u) some h = h
   fail_made code effect new (Err why) some h = absurd (go (finmap.get jobs t) refl some)
     where

@@ -9,7 +9,6 @@ use Rattle.blockdev.specs.Device.{Told}
 use Rattle.blockdev.specs.Jobs.{Task, FinishedTask, Performs}
 use Rattle.pc_types.specs.Kinds.{is_flush}
 use Rattle.pc_types.specs.Limits.{Sizes}
-use Rattle.pc_types.specs.declared.ids.Serial.{Serial}
 use Rattle.pc_types.specs.declared.limits.TheConstants.{LAST_PAGE, MAX_FILE_SIZE}
 use Rattle.pc_types.specs.declared.refusal.Refusal.{Refusal}
 use Rattle.pc_types.specs.declared.refusal.Refusal.TheVariants.{Memory, Stranger}
@@ -143,6 +142,6 @@ failing w code effect =
 
 -- the device's next call is made to fail, and then the call of request t is made, as a step of its own. Where that is
 -- refused no fault is planned
-abbrev pub Fails : WorldSeen → Serial → ℕ → FaultEffect → Result Unit Refusal → WorldSeen → Type 0
-Fails old t code effect (Ok _) new = Steps (failing old code effect) (step.Call t) reply.Done new
-Fails old t code effect (Err why) new = Steps old (step.Call t) (reply.Refused why) new
+abbrev pub Fails : WorldSeen → ℕ → ℕ → FaultEffect → Result Unit Refusal → WorldSeen → Type 0
+Fails old t code effect (Ok _) new = Steps (failing old code effect) (step.Call (record { 0 = t })) reply.Done new
+Fails old t code effect (Err why) new = Steps old (step.Call (record { 0 = t })) (reply.Refused why) new

@@ -96,7 +96,7 @@ impl World<ScriptDevice> {
         code: ErrCode,
         effect: FaultEffect,
     ) -> Result<(), Refusal>
-        ensures { Fails self.old serial code effect result self.new }
+        ensures { Fails self.old serial.0 code effect result self.new }
     {
         if !self.jobs.is_asked(serial) {
             return Err(Refusal::Stranger);
