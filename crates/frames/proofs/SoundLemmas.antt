@@ -4,7 +4,6 @@ use Rattle.std.proofs.Common.{is_none, replicate}
 use Rattle.std.proofs.lemmas.List.{length-replicate}
 use Rattle.pc_types.specs.declared.limits.TheConstants.{MAX_FRAMES}
 use Rattle.frames.specs.Lists.{Lists, has, without}
-use Rattle.frames.specs.Rows.{Grid}
 use Rattle.frames.specs.Table.{Table, IsSound, accessed, given, is_referenced, is_taken, new_table, taken}
 use Rattle.frames.specs.Tied.{IsTied}
 use Rattle.frames.proofs.TiedLemmas.{Owner, tied_activated, tied_given, tied_new, tied_taken}
