@@ -22,13 +22,14 @@ use Rattle.machine.specs.declared.event.Event.TheVariants as event
 use Rattle.machine.specs.declared.event.Reply.{Reply}
 use Rattle.machine.specs.declared.event.Reply.TheVariants as reply
 use Rattle.machine.proofs.changes.StateLaws.{get_or-set}
+use Rattle.machine.proofs.sound.Lookups.{get_or-default}
 use Rattle.machine.proofs.steps.Answered.{is_quiet}
 use Rattle.machine.proofs.steps.Cases.{Cases, by_cases}
 use Rattle.machine.proofs.steps.Passed.{MayEnd}
 use Rattle.pc_types.specs.Kinds.{is_flush}
 use Rattle.pc_types.specs.declared.kind.Kind.{Kind}
 use Rattle.pc_types.specs.declared.kind.Kind.TheVariants.{Fill, Flush}
-use Rattle.runs.proofs.events.Lookups.{cached_within, get_or-default}
+use Rattle.runs.proofs.events.Lookups.{cached_within}
 
 abbrev fails : State → ℕ → ℕ
 fails s f = (file_at s f).failures
