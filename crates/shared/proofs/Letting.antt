@@ -3,7 +3,7 @@ use Rattle.std.proofs.Common.{◌≡◌, ℕ, ◌+◌, ◌-◌, ◌^◌, List, [
 use Rattle.std.specs.Prelude.{All, Option, Some, None, ◌==◌, ◌&&◌, count_by, if◌then◌else◌, is_some, min}
 use Rattle.std.proofs.lemmas.List.{append-nil}
 use Rattle.std.proofs.lemmas.List.Elements.{All-head, All-tail}
-use Rattle.std.proofs.lemmas.List.Sums.{sum_by-append}
+use Rattle.std.proofs.lemmas.List.Sums.{sum_by-append, sum_by-cons}
 use Rattle.cachecore.specs.Replies.{evicted}
 use Rattle.machine.specs.declared.event.Event.{Event}
 use Rattle.machine.specs.declared.event.Event.TheVariants as event
@@ -38,7 +38,8 @@ counted : (number : ℕ) (b : Bool) (xs : List Entry) → All (λ e. e.seat ≡ 
 counted number true [] all = refl
 counted number false [] all = refl
 counted number b (x ∷ xs) all =
-    one_more (x.seat == number) (lets_go x.reply) b (count_by (went number) xs) (count_of number xs)
+    sum_by-cons (λ (e : Entry). if went number e then 1 else 0) x xs
+    ∙ one_more (x.seat == number) (lets_go x.reply) b (count_by (went number) xs) (count_of number xs)
     (λ same. All-head (λ (e : Entry). e.seat ≡ number → lets_go e.reply ≡ b) x xs all (eqb-true x.seat number same))
     (counted number b xs (All-tail (λ (e : Entry). e.seat ≡ number → lets_go e.reply ≡ b) x xs all))
 
@@ -68,9 +69,11 @@ pub evicted_gone : (n : ℕ) (page : Option (FileId × PageIndex)) (x y z w : He
     → Made event.Age (reply.Aged n) x y a b first → Made event.Evict (evicted page) z w b c slip
     → LetsGo (if is_some page then 1 else 0) a c
 evicted_gone n page x y z w a b c first slip m k =
-    gone_on 0 (if is_some page then 1 else 0) a b c (goes_by event.Age (reply.Aged n) x y a b first m)
+    let alone : 0 + (if is_some page then 1 else 0) ≡ (if is_some page then 1 else 0) = omega arith in
+    subst (λ pages. LetsGo pages a c) alone
+    (gone_on 0 (if is_some page then 1 else 0) a b c (goes_by event.Age (reply.Aged n) x y a b first m)
     (gone_by false event.Age (reply.Aged n) x y a b first refl m)
-    (gone_by (is_some page) event.Evict (evicted page) z w b c slip (let_go page) k)
+    (gone_by (is_some page) event.Evict (evicted page) z w b c slip (let_go page) k))
   where
     let_go : (o : Option (FileId × PageIndex)) → lets_go (evicted o) ≡ is_some o
     let_go (Some o) = refl
@@ -78,7 +81,7 @@ evicted_gone n page x y z w a b c first slip m k =
 
 -- ---- the count of a turn
 
-abbrev Counts : SeatSeen → SeatSeen → ℕ → Type 0
+abbrev pub Counts : SeatSeen → SeatSeen → ℕ → Type 0
 Counts before after n = (pages : ℕ) × LetsGo pages before after × (n ≡ min pages (2 ^ 64 - 1))
 
 pub none_gone : (before after : SeatSeen) → after ≡ before → Counts before after 0

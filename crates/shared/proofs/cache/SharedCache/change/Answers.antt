@@ -15,11 +15,11 @@ attempts-init g c = record {
 pub returns-in-Ok-Some-clause-once : goal.returns-in-Ok-Some-clause-once
 returns-in-Ok-Some-clause-once g c =
     once_try_on c.args.handle (event_of c.args.change c.args.handle c.args.bytes.now) c.args.seat.now c.attempts.seat
-    c.try_change.new.seat c.attempts.invariant.tried c.in-Ok-Some.ensures.once
+    c.try_change.new.seat c.attempts.invariant.tried (rw c.in-Ok-Some.field-0-is at c.in-Ok-Some.ensures.once)
 
 pub attempts-preserved : goal.attempts-preserved
 attempts-preserved g c = record {
   goes = goes_on c.args.seat.now c.attempts.seat c.try_change.new.seat c.attempts.invariant.goes c.try_change.ensures.goes;
   tried = only_try_on c.args.handle (event_of c.args.change c.args.handle c.args.bytes.now) c.args.seat.now c.attempts.seat
-      c.try_change.new.seat c.attempts.invariant.tried c.in-Ok-None.ensures.tried;
+      c.try_change.new.seat c.attempts.invariant.tried (rw c.in-Ok-None.field-0-is at c.in-Ok-None.ensures.tried);
 }

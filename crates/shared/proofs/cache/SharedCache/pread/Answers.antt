@@ -16,7 +16,7 @@ returns-in-Ok-Some-clause-once g c =
     (subst (λ (n : HandleId). Once (IsTry n (event.Read n c.args.offset (length c.args.out.now))) c.attempts.seat
     c.try_read.new.seat) (ap (λ (x : HandleSeen). x.number) c.handle.view_is)
     (subst (λ (l : List ℕ). Once (IsTry c.handle.inside.number (event.Read c.handle.inside.number c.args.offset (length l)))
-    c.attempts.seat c.try_read.new.seat) c.attempts.invariant.out c.in-Ok-Some.ensures.once))
+    c.attempts.seat c.try_read.new.seat) c.attempts.invariant.out (rw c.in-Ok-Some.field-0-is at c.in-Ok-Some.ensures.once)))
 
 pub attempts-preserved : goal.attempts-preserved
 attempts-preserved g c =
@@ -29,6 +29,6 @@ attempts-preserved g c =
           (subst (λ (n : HandleId). Only (IsTry n (event.Read n c.args.offset (length c.args.out.now))) c.attempts.seat
           c.try_read.new.seat) (ap (λ (x : HandleSeen). x.number) c.handle.view_is)
           (subst (λ (l : List ℕ). Only (IsTry c.handle.inside.number (event.Read c.handle.inside.number c.args.offset (length l)))
-          c.attempts.seat c.try_read.new.seat) c.attempts.invariant.out c.in-Ok-None.ensures.tried));
-      out = c.in-Ok-None.ensures.same ∙ c.attempts.invariant.out;
+          c.attempts.seat c.try_read.new.seat) c.attempts.invariant.out (rw c.in-Ok-None.field-0-is at c.in-Ok-None.ensures.tried)));
+      out = (rw c.in-Ok-None.field-0-is at c.in-Ok-None.ensures.same) ∙ c.attempts.invariant.out;
     }
