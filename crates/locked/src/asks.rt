@@ -50,6 +50,7 @@ impl<B: Naming, T: Trail> Locked<B, T> {
     pub fn core(&self) -> &CacheCore
         ensures core { result.now ≡ self.now.core }
         ensures legal { After self.now.core.state.sizes self.now.core.state.name self.now.log.history self.now.core.state }
+        ensures named { After B.sizes B.name self.now.log.history self.now.core.state }
     {
         self.held.core()
     }

@@ -1,5 +1,5 @@
 -- What the ends of jobs and the turns of workers say of a seat.
-use Rattle.std.proofs.Common.{◌≡◌, ℕ, zero, suc, List, [], ◌∷◌, ◌++◌, ap, arith, refl, sym, subst, ◌∙◌}
+use Rattle.std.proofs.Common.{◌≡◌, ℕ, zero, suc, [], ◌∷◌, ◌++◌, ap, arith, refl, sym, subst, ◌∙◌}
 use Rattle.std.specs.Prelude.{All, Bool, false, IfNone, IfOk, IfSome, IsOk, Err, Ok, Option, Result, Some, None, is_some}
 use Rattle.std.proofs.lemmas.List.{append_assoc, append-nil}
 use Rattle.std.proofs.lemmas.List.Elements.{All-append, All-nil, All-weaker}

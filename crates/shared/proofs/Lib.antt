@@ -4,7 +4,9 @@ pub mod Ending
 pub mod Syncing
 pub mod Serving
 pub mod Closing
+pub mod Hearing
 pub mod Seating
 pub mod Owning
+pub mod Rooming
 pub mod Answered
 pub mod Letting

@@ -173,6 +173,15 @@ call_settled h own old new a b c first d q goes (inl same) =
 call_settled h own old new a b c first d q goes (inr room) =
     denied_on IsRoomEvent (IsCallOf h own) a b c d (λ e x. inr (room_helps h e x)) (under_goes own old new a b first q) room
 
+-- a fill that was refused, and what came of it
+pub help_settled : (h : HandleId) (p : PageIndex) (old new : HeldSeen) (a b c : SeatSeen) (first d : Denied)
+    → under.IsDenied (event.FillBegin h p) old new a b first → Goes b c → IsStillDenied first b c d → IsDenied (IsHelp h) a c d
+help_settled h p old new a b c first d q goes (inl same) =
+    subst (IsDenied (IsHelp h) a c) (sym same)
+    (denied_then (IsHelp h) a b c first (denied_begin h p old new a b first q) goes)
+help_settled h p old new a b c first d q goes (inr room) =
+    denied_on IsRoomEvent (IsHelp h) a b c d (room_helps h) (under_goes (event.FillBegin h p) old new a b first q) room
+
 -- ---- an attempt that is to be made again
 
 pub retries_by : (e : Event) (r : Reply) (old new : HeldSeen) (a b c : SeatSeen) (slip : Slip) → IsForLater r

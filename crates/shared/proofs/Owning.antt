@@ -180,6 +180,12 @@ pub only_filled : (h : HandleId) (a b c : SeatSeen) → Only (λ x. IsRoomEvent 
     → Only (λ x. IsHelp h x.event) a c
 only_filled h a b c p q = only_on (λ x. IsHelp h x.event) a b c (only_room h a b p) q
 
+-- a fill was refused, and room made
+pub only_relieved : (h : HandleId) (p : PageIndex) (old new : HeldSeen) (a b c : SeatSeen) (d : Denied)
+    → under.IsDenied (event.FillBegin h p) old new a b d → Only (λ x. IsRoomEvent x.event) b c → Only (λ x. IsHelp h x.event) a c
+only_relieved h p old new a b c d q only =
+    only_on (λ x. IsHelp h x.event) a b c (only_fill_begin_denied h p old new a b d q) (only_room h b c only)
+
 -- ---- calls
 
 pub only_try : (h : HandleId) (own : Event) (r : Reply) (old new : HeldSeen) (before after : SeatSeen) (slip : Slip)

@@ -1,14 +1,11 @@
 -- What the events of a sync say of its call's seat.
-use Rattle.std.proofs.Common.{◌≡◌, ◌⊎◌, ℕ, Bool, true, false, refl, sym, subst, ap, inl, inr}
+use Rattle.std.proofs.Common.{◌≡◌, ◌⊎◌, ℕ, ◌≤◌, ◌++◌, ◌∷◌, [], ◌∙◌, Bool, true, false, refl, sym, subst, inl, inr, arith}
+use Rattle.std.proofs.lemmas.List.{length_push}
 use Rattle.std.proofs.lemmas.Result.{IfErr-weaker, IfOk-weaker}
 use Rattle.std.specs.FinMap as map
-use Rattle.std.specs.Option.{option_or}
-use Rattle.std.specs.Prelude.{◌<◌, List, Ok, Option, Some, None, IfErr, IfOk, IfSome, Result, is_some, length, if◌then◌else◌}
-use mathlib.Core.List.{IsPrefix}
+use Rattle.std.specs.Prelude.{◌<◌, List, Ok, Option, Some, None, IfErr, IfOk, Result, is_some, length, if◌then◌else◌}
 use Rattle.errboard.specs.Shown.{PassSeen}
-use Rattle.errseq.specs.Recorded.{last_code}
-use Rattle.errseq.specs.Samples.{StandsFor}
-use Rattle.errseq.specs.Word.{checked}
+use Rattle.errseq.proofs.Prefixes.{prefix_length}
 use Rattle.cachecore.specs.Replies.{sync_stepped}
 use Rattle.cachecore.specs.declared.answers.SyncStepped.{SyncStepped}
 use Rattle.cachecore.specs.declared.answers.SyncStepped.TheVariants as stepped
@@ -17,7 +14,6 @@ use Rattle.machine.specs.declared.event.Event.{Event}
 use Rattle.machine.specs.declared.event.Event.TheVariants as event
 use Rattle.machine.specs.declared.event.Reply.{Reply}
 use Rattle.machine.specs.declared.event.Reply.TheVariants as reply
-use Rattle.machine.specs.Step.{Step}
 use Rattle.machine.specs.Tests.{refuse, tests}
 use Rattle.machine.proofs.steps.Cases.{answered}
 use Rattle.pc_types.specs.declared.ids.HandleId.{HandleId}
@@ -26,6 +22,8 @@ use Rattle.pc_types.specs.declared.ids.SyncId.{SyncId}
 use Rattle.pc_types.specs.declared.kind.Kind.TheVariants.{Fill, Flush}
 use Rattle.pc_types.specs.declared.refusal.Refusal.{Refusal}
 use Rattle.pc_types.specs.declared.refusal.Refusal.TheVariants.{Io, Stranger}
+use Rattle.trail.specs.declared.entry.Entry.{Entry}
+use Rattle.trail.specs.Entries.{entry_of}
 use Rattle.held.specs.declared.log.Slip.{Slip}
 use Rattle.held.specs.Entered.{Made}
 use Rattle.held.specs.Shown.{HeldSeen, SeatSeen}
@@ -33,13 +31,14 @@ use Rattle.locked.specs.Called.{Goes}
 use Rattle.locked.specs.Denials as under
 use Rattle.locked.specs.declared.denied.Denied.{Denied}
 use Rattle.locked.proofs.Replied.{drop_taken}
-use Rattle.locked.proofs.Seats.{goes_by, goes_on}
+use Rattle.locked.proofs.Seats.{goes_by}
 use Rattle.shared.specs.Called.{Makes}
-use Rattle.shared.specs.Denials.{DeniedBy, IsDenied}
-use Rattle.shared.specs.Own.{IsRoomEvent}
-use Rattle.shared.specs.Synced.{Began, GaveUp, IsDropReply, IsDropped, IsFlushEnd, IsFsyncDenied, IsSyncDenied, IsTurnOf}
-use Rattle.shared.specs.Polls.{Polled}
+use Rattle.shared.specs.Denials.{IsDenied}
+use Rattle.shared.specs.Synced.{Began, IsDropReply, IsDropped, IsFlushEnd, IsFsyncDenied, IsSyncDenied, IsTurnOf}
+use Rattle.shared.specs.Polls.{IsLevelled, Polled}
+use Rattle.shared.specs.Seen.{HandleSeen}
 use Rattle.shared.specs.Synced.{Reports, Syncs, end_reply}
+use Rattle.shared.proofs.Hearing.{polled_from, reports_from}
 use Rattle.shared.proofs.Making.{denied_by, denied_event, denied_on, denied_one, full_by, makes_by}
 
 -- ---- turns
@@ -162,26 +161,23 @@ dropped_refused m old new before after other d q is = inl (refl, go other.refusa
 
 -- ---- what the handle is told
 
-or_none : (answer failed : Option ℕ) → option_or answer failed ≡ None → (answer ≡ None) × (failed ≡ None)
-or_none None failed e = (refl, e)
-or_none (Some c) failed e = absurd cc
-
-or_some : (answer failed : Option ℕ) (code : ℕ) → option_or answer failed ≡ Some code
-    → (answer ≡ Some code) ⊎ ((answer ≡ None) × (failed ≡ Some code))
-or_some None failed code e = inr (refl, e)
-or_some (Some c) failed code e = inl e
-
-pub none_polled : (answer failed : Option ℕ) (old new : PassSeen) → option_or answer failed ≡ None → Polled old new answer
-    → (failed ≡ None) × Polled old new None
-none_polled answer failed old new e p = let n = or_none answer failed e in (n.1, subst (λ o. Polled old new o) n.0 p)
-
-pub reports_by : (answer failed : Option ℕ) (code : ℕ) (slip : Slip) (old new : PassSeen) → option_or answer failed ≡ Some code
-    → Polled old new answer → Reports failed slip old new (record { refusal = Io code; slip = Some slip })
-reports_by answer failed code slip old new e p = record {
-  answer = answer;
+pub reports_polled : (failed : Option ℕ) (code : ℕ) (slip : Slip) (old new : PassSeen) → Polled old new (Some code)
+    → Reports failed slip old new (record { refusal = Io code; slip = Some slip })
+reports_polled failed code slip old new p = record {
+  answer = Some code;
   code = code;
   polled = p;
-  tells = or_some answer failed code e;
+  tells = inl refl;
+  is = refl;
+}
+
+pub reports_failed : (code : ℕ) (slip : Slip) (old new : PassSeen) → Polled old new None
+    → Reports (Some code) slip old new (record { refusal = Io code; slip = Some slip })
+reports_failed code slip old new p = record {
+  answer = None;
+  code = code;
+  polled = p;
+  tells = inr (refl, refl);
   is = refl;
 }
 
@@ -190,34 +186,56 @@ pub write_failed : (h : HandleId) (first last : PageIndex) (failed : Option ℕ)
     → IsFsyncDenied h first last before after old new d
 write_failed h first last failed before after old new slip d s r = inl (failed, slip, s, r)
 
-pub flush_failed : (h : HandleId) (first last : PageIndex) (before after : SeatSeen) (old : PassSeen) (code : ℕ) (slip : Slip)
-    → Syncs h first last None before after slip
-    → IsFsyncDenied h first last before after old old (record { refusal = Io code; slip = None })
-flush_failed h first last before after old code slip s = inr (refl, inl (code, slip, s, refl))
+pub flush_failed : (h : HandleId) (first last : PageIndex) (before after : SeatSeen) (old new : PassSeen) (code : ℕ)
+    (slip : Slip) → IsLevelled old new → Syncs h first last None before after slip
+    → IsFsyncDenied h first last before after old new (record { refusal = Io code; slip = None })
+flush_failed h first last before after old new code slip level s = inr (inl (level, (code, slip, s, refl)))
 
-pub sync_denied : (h : HandleId) (first last : PageIndex) (before after : SeatSeen) (old : PassSeen) (d : Denied)
-    → IsSyncDenied h first last before after d → IsFsyncDenied h first last before after old old d
-sync_denied h first last before after old d q = inr (refl, inr q)
+pub sync_denied : (h : HandleId) (first last : PageIndex) (before after : SeatSeen) (old new : PassSeen) (d : Denied)
+    → new ≡ old → IsSyncDenied h first last before after d → IsFsyncDenied h first last before after old new d
+sync_denied h first last before after old new d same q = inr (inr (same, q))
 
--- a sync that ended without a failed write, and a poll that answers nothing
-clean_slip : (h : HandleId) (first last : PageIndex) (failed : Option ℕ) (before after : SeatSeen) (at slip : Slip)
-    → Syncs h first last failed before after at → slip ≡ at → failed ≡ None → Syncs h first last None before after slip
-clean_slip h first last failed before after at slip s same none =
-    subst (λ (o : Option ℕ). Syncs h first last o before after slip) none
-    (subst (λ (x : Slip). Syncs h first last failed before after x) (sym same) s)
+-- a sync that ended without a failed write, a flush after its slip, and a poll that answers nothing. The handle is seen at
+-- the call as h, and k inside it
+pub fsync_clean : (result : Result Slip Denied) (k h : HandleSeen) (first last : PageIndex) (failed : Option ℕ)
+    (before after : SeatSeen) (at slip : Slip) (mid new : PassSeen) → k ≡ h → Syncs k.number first last failed before after slip
+    → failed ≡ None → at ≡ slip → IsLevelled k.pass mid → IfOk result (λ d. (d ≡ at) × Polled mid new None)
+    → IfOk result (λ d. Syncs h.number first last None before after d × Polled h.pass new None)
+fsync_clean result k h first last failed before after at slip mid new seen s none there level q =
+    subst (λ (x : HandleSeen). IfOk result (λ d. Syncs x.number first last None before after d × Polled x.pass new None)) seen
+    (IfOk-weaker result (λ d. (d ≡ at) × Polled mid new None)
+    (λ d. Syncs k.number first last None before after d × Polled k.pass new None)
+    (λ d p. (
+      subst (λ (x : Slip). Syncs k.number first last None before after x) (sym (p.0 ∙ there))
+          (subst (λ (o : Option ℕ). Syncs k.number first last o before after slip) none s),
+      polled_from k.pass mid new None level p.1,
+    )) q)
 
-pub fsync_clean : (result : Result Slip Denied) (h : HandleId) (first last : PageIndex) (failed : Option ℕ)
-    (before after : SeatSeen) (at : Slip) (old new : PassSeen) → Syncs h first last failed before after at
-    → IfOk result (λ slip. (slip ≡ at) × (failed ≡ None) × Polled old new None)
-    → IfOk result (λ slip. Syncs h first last None before after slip × Polled old new None)
-fsync_clean result h first last failed before after at old new s q =
-    IfOk-weaker result (λ slip. (slip ≡ at) × (failed ≡ None) × Polled old new None)
-    (λ slip. Syncs h first last None before after slip × Polled old new None)
-    (λ slip k. (clean_slip h first last failed before after at slip s k.0 k.1, k.2)) q
+-- a sync that ended with the code of a failed write
+pub fsync_failed : (k h : HandleSeen) (first last : PageIndex) (failed : Option ℕ) (code : ℕ) (before after : SeatSeen)
+    (slip : Slip) (mid new : PassSeen) (d : Denied) → k ≡ h → Syncs k.number first last failed before after slip
+    → failed ≡ Some code → IsLevelled k.pass mid → Reports (Some code) slip mid new d
+    → IsFsyncDenied h.number first last before after h.pass new d
+fsync_failed k h first last failed code before after slip mid new d seen s is level r =
+    subst (λ (x : HandleSeen). IsFsyncDenied x.number first last before after x.pass new d) seen
+    (write_failed k.number first last (Some code) before after k.pass new slip d
+    (subst (λ (o : Option ℕ). Syncs k.number first last o before after slip) is s)
+    (reports_from (Some code) slip k.pass mid new d level r))
+
+-- the seat has seen the slip's entry
+pub syncs_seen : (h : HandleId) (first last : PageIndex) (failed : Option ℕ) (before after : SeatSeen) (slip : Slip)
+    → Syncs h first last failed before after slip → Goes before after → (slip.name ≡ after.name) × (slip.place < length after.list)
+syncs_seen h first last failed before after slip s goes = (
+  s.ended.placed.0 ∙ s.began.goes.same.1 ∙ sym goes.same.1,
+  let entry : Entry = entry_of s.at.number (event.SyncStep s.sync) (end_reply failed) in
+      let there : length (s.ended.earlier ++ entry ∷ []) ≤ length after.list = prefix_length _ after.list s.ended.entered in
+      omega (arith, there, length_push s.ended.earlier entry, s.ended.placed.1),
+)
 
 pub fsync_denied : (result : Result Slip Denied) (h : HandleId) (first last : PageIndex) (failed : Option ℕ)
-    (before after : SeatSeen) (at : Slip) (old new : PassSeen) → Syncs h first last failed before after at
-    → IfErr result (Reports failed at old new) → IfErr result (IsFsyncDenied h first last before after old new)
-fsync_denied result h first last failed before after at old new s q =
-    IfErr-weaker result (Reports failed at old new) (IsFsyncDenied h first last before after old new)
-    (λ d r. write_failed h first last failed before after old new at d s r) q
+    (before after : SeatSeen) (at : Slip) (old mid new : PassSeen) → Syncs h first last failed before after at
+    → IsLevelled old mid → IfErr result (Reports failed at mid new)
+    → IfErr result (IsFsyncDenied h first last before after old new)
+fsync_denied result h first last failed before after at old mid new s level q =
+    IfErr-weaker result (Reports failed at mid new) (IsFsyncDenied h first last before after old new)
+    (λ d r. write_failed h first last failed before after old new at d s (reports_from failed at old mid new d level r)) q

@@ -2,6 +2,7 @@ pub mod Keeps
 pub mod Called
 pub mod Denials
 pub mod Own
+pub mod Rooms
 pub mod Seen
 pub mod Polls
 pub mod Changes

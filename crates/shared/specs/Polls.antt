@@ -1,10 +1,15 @@
 -- What a handle learns of failed writes.
-use Rattle.std.specs.Prelude.{◌≡◌, ◌⊎◌, ◌<◌, ◌≤◌, ℕ, true, length, drop, Option, IfSome, IfNone, IsSome}
+use Rattle.std.specs.Prelude.{◌≡◌, ◌⊎◌, ◌+◌, ◌<◌, ◌≤◌, ℕ, true, length, drop, take, Option, IfSome, IfNone, IsSome}
 use mathlib.Core.List.{IsPrefix}
 use Rattle.errboard.specs.Shown.{PassSeen}
 use Rattle.errseq.specs.Recorded.{last_code, raised, word_of}
 use Rattle.errseq.specs.Samples.{StandsFor}
 use Rattle.errseq.specs.Word.{IsWithinTurn, checked}
+use Rattle.held.specs.Shown.{SeatSeen}
+use Rattle.held.specs.declared.log.Slip.{Slip}
+use Rattle.machine.specs.State.{State, file_at}
+use Rattle.pc_types.specs.Limits.{Sizes}
+use Rattle.trail.specs.History.{After}
 
 -- a poll and its answer. What is known then is what was recorded as the poll took effect, and all of that is done. A code
 -- comes only of a recording past those done before, and is the last. It comes always, but for a counter that came round
@@ -19,3 +24,13 @@ pub record Polled (before after : PassSeen) (told : Option ℕ) : Type 0 where
   pub owed : IsWithinTurn (raised (drop before.done after.known)) → before.done < length before.known → IsSome told
   pub kept : IfNone told (after.since ≡ before.since)
   pub seen : IfSome told (λ _. (after.since ≡ word_of after.start after.known true) ⊎ (after.since ≡ 0))
+
+-- what is known is as much or more, and nothing was polled
+abbrev pub IsLevelled : PassSeen → PassSeen → Type 0
+IsLevelled before after = (after ≡ record before { known = after.known }) × IsPrefix before.known after.known
+
+-- the failed writes of the file, as many as the history has up to the slip's entry, are known
+pub record Hears (sizes : Sizes) (name : ℕ) (slip : Slip) (seat : SeatSeen) (pass : PassSeen) : Type 0 where
+  pub state : State
+  pub leaves : After sizes name (take (slip.place + 1) seat.list) state
+  pub known : (file_at state pass.file).failures ≤ length pass.known

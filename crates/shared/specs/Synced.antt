@@ -17,7 +17,7 @@ use Rattle.pc_types.specs.declared.refusal.Refusal.TheVariants.{Io, Stranger}
 use Rattle.trail.specs.declared.entry.Entry.{Entry}
 use Rattle.shared.specs.Called.{Makes}
 use Rattle.shared.specs.Denials.{IsDenied, IsFullIfNoSlip, MadeOne}
-use Rattle.shared.specs.Polls.{Polled}
+use Rattle.shared.specs.Polls.{IsLevelled, Polled}
 
 -- the last step of a sync, by the code of a failed write or without one
 abbrev pub end_reply : Option ℕ → Reply
@@ -121,4 +121,5 @@ FlushFailed h first last before after d =
 abbrev pub IsFsyncDenied : HandleId → PageIndex → PageIndex → SeatSeen → SeatSeen → PassSeen → PassSeen → Denied → Type 0
 IsFsyncDenied h first last before after old new d =
     WriteFailed h first last before after old new d
-    ⊎ ((new ≡ old) × (FlushFailed h first last before after d ⊎ IsSyncDenied h first last before after d))
+    ⊎ ((IsLevelled old new × FlushFailed h first last before after d)
+    ⊎ ((new ≡ old) × IsSyncDenied h first last before after d))

@@ -1,11 +1,12 @@
 //! The device of a shared cache, as it lies under its lock.
 
-ghost use Rattle.std.specs.Prelude.{◌≡◌, Ok, OnOk, false, length, true};
+ghost use Rattle.std.specs.Prelude.{◌≡◌, ◌<◌, IfOk, Ok, OnOk, false, length, true};
 ghost use Rattle.blockdev.specs.Jobs.{IsJobFor};
 ghost use Rattle.blockdev.specs.Watching.{Clears, Makes, first_watch};
 ghost use Rattle.shared.specs.Keeps.{IsDisk};
 
 use blockdev::{BlockDevice, Finished, Job, Watched};
+use held::log::{Seat, Slip};
 use locked::naming::Naming;
 use pc_types::ErrCode;
 use std::marker::{Model, PhantomData};
@@ -58,13 +59,53 @@ impl<B: Naming, D: BlockDevice> Disk<B, D> {
         self.device.perform(job)
     }
 
+    /// Makes what was written durable, after the entry of a slip that the seat has seen.
+    pub(crate) fn flush_after(&mut self, seat: &Seat, slip: Slip) -> Result<Durable<B, D>, ErrCode>
+        requires seen { (slip.name ≡ seat.now.name) × (slip.place < length seat.now.list) }
+        ensures slip { IfOk result (λ d. d ≡ slip) }
+        ensures flushed { OnOk result (self.new.unflushed ≡ false) }
+        ensures durable { OnOk result (self.new.device.durable ≡ self.new.device.contents) }
+    {
+        match self.flush() {
+            Ok(()) => Ok(Durable {
+                slip,
+                of: PhantomData,
+            }),
+            Err(code) => Err(code),
+        }
+    }
+
     /// Makes what was written durable. Where nothing was written since the last flush that ended well no call is made. A flush that
     /// fails leaves the note, so that the next one is tried again.
-    pub(crate) fn flush(&mut self) -> Result<(), ErrCode>
+    fn flush(&mut self) -> Result<(), ErrCode>
         ensures written { self.old.unflushed ≡ true → Clears self.old result self.new }
         ensures unwritten { self.old.unflushed ≡ false → (result ≡ Ok tt) × (self.new ≡ self.old) }
         ensures durable { OnOk result (self.new.device.durable ≡ self.new.device.contents) }
     {
         self.device.flush_written()
+    }
+}
+
+/// The slip of an entry, since which the device of the cache that B names was flushed, and well. Only `Disk::flush_after` makes one.
+#[derive(Drop)]
+pub struct Durable<B: Naming, D: BlockDevice> {
+    slip: Slip,
+    of: PhantomData<(B, D)>,
+}
+
+impl<B: Naming, D: BlockDevice> Model for Durable<B, D> {
+    ghost use Rattle.held.specs.declared.log.Slip.{Slip};
+
+    ghost Value = { Slip };
+
+    ghost view = { λ d. d.slip };
+}
+
+impl<B: Naming, D: BlockDevice> Durable<B, D> {
+    /// The slip of the entry.
+    pub fn slip(&self) -> Slip
+        ensures { result ≡ self.now }
+    {
+        self.slip
     }
 }

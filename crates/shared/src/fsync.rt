@@ -1,23 +1,28 @@
 //! Fsync, of a file or of a range of its pages.
 
-ghost use Rattle.std.specs.Prelude.{◌≡◌, ◌≢◌, ◌⊎◌, Err, IfErr, IfOk, IfSome, None, Some};
+ghost use Rattle.std.specs.Prelude.{◌≡◌, ◌≢◌, ◌⊎◌, Err, IfErr, IfNone, IfOk, IfSome, None, Some, length};
 ghost use Rattle.errboard.specs.Shown.{PassSeen};
+ghost use Rattle.machine.specs.State.{file_at};
 ghost use Rattle.machine.specs.declared.event.Event.TheVariants as event;
 ghost use Rattle.pc_types.specs.declared.limits.TheConstants.{LAST_PAGE};
 ghost use Rattle.pc_types.specs.declared.refusal.Refusal.TheVariants.{BadHandle, Stranger};
+ghost use Rattle.trail.specs.History.{After};
 ghost use Rattle.locked.specs.Called.{Goes, Only};
 ghost use Rattle.shared.specs.Called.{Makes};
 ghost use Rattle.shared.specs.Denials.{IsDenied};
-ghost use Rattle.shared.specs.Polls.{Polled};
+ghost use Rattle.shared.specs.Polls.{Hears, IsLevelled, Polled};
 ghost use Rattle.shared.specs.Synced.{IsDropped, IsFsyncDenied, IsSyncDenied, IsTurnOf, OneSync, Reports, Syncs, end_reply};
 
 use crate::cache::SharedCache;
+use crate::disk::Durable;
 use crate::handle::Handle;
 use blockdev::{BlockDevice, Buffer};
 use cachecore::SyncStepped;
+use errboard::Pass;
 use held::log::{Seat, Slip};
 use locked::denied::{Denied, by, without_slip};
 use locked::naming::Naming;
+use locked::state::Locked;
 use pc_types::limits::LAST_PAGE;
 use pc_types::{ErrCode, HandleId, PageIndex, Refusal, SyncId};
 use std::sync::Wait;
@@ -40,7 +45,7 @@ impl<B: Naming, D: BlockDevice, T: Trail> SharedCache<B, D, T> {
         rt: &R,
         seat: &mut Seat,
         handle: &mut Handle,
-    ) -> Result<Slip, Denied>
+    ) -> Result<Durable<B, D>, Denied>
         requires seat { seat.old.name ≡ self.now.name → seat.old.table ≡ B.table }
         requires came { handle.old.cache ≡ self.now.name → handle.old.pass.board ≡ B.board }
         ensures foreign { seat.old.name ≢ self.now.name → (result ≡ Err (record { refusal = Stranger; slip = None })) × (seat.new ≡ seat.old) × (handle.new ≡ handle.old) }
@@ -49,6 +54,7 @@ impl<B: Naming, D: BlockDevice, T: Trail> SharedCache<B, D, T> {
         ensures only { OneSync handle.old.number (record { 0 = 0 }) (record { 0 = LAST_PAGE }) seat.old seat.new }
         ensures same { (handle.new ≡ record handle.old { pass = handle.new.pass }) × (handle.new.pass.board ≡ handle.old.pass.board) }
         ensures clean { IfOk result (λ slip. Syncs handle.old.number (record { 0 = 0 }) (record { 0 = LAST_PAGE }) None seat.old seat.new slip × Polled handle.old.pass handle.new.pass None) }
+        ensures hears { IfOk result (λ slip. Hears B.sizes self.now.name slip seat.new handle.new.pass) }
         ensures denied { seat.old.name ≡ self.now.name → handle.old.cache ≡ self.now.name → IfErr result (IsFsyncDenied handle.old.number (record { 0 = 0 }) (record { 0 = LAST_PAGE }) seat.old seat.new handle.old.pass handle.new.pass) }
     {
         self.fsync_range(rt, seat, handle, PageIndex(0), PageIndex(LAST_PAGE))
@@ -56,7 +62,7 @@ impl<B: Naming, D: BlockDevice, T: Trail> SharedCache<B, D, T> {
 
     /// Writes those of the file's pages from `first` to `last` to the device that are dirty. Refused by `BadRange` where `first` is
     /// past `last`, and by `Io` as `fsync` is: also where the write that failed was of a page outside the range.
-    #[tactic(auto, using(locked::proofs::Seats::goes_same, crate::proofs::Syncing::fsync_clean, crate::proofs::Syncing::fsync_denied, crate::proofs::Syncing::flush_failed, crate::proofs::Syncing::sync_denied, crate::proofs::Owning::sync_same))]
+    #[tactic(auto, using(locked::proofs::Seats::goes_same, crate::proofs::Syncing::fsync_denied, crate::proofs::Syncing::syncs_seen, crate::proofs::Syncing::flush_failed, crate::proofs::Syncing::sync_denied, crate::proofs::Owning::sync_same))]
     pub fn fsync_range<R: Wait>(
         &self,
         rt: &R,
@@ -64,7 +70,7 @@ impl<B: Naming, D: BlockDevice, T: Trail> SharedCache<B, D, T> {
         handle: &mut Handle,
         first: PageIndex,
         last: PageIndex,
-    ) -> Result<Slip, Denied>
+    ) -> Result<Durable<B, D>, Denied>
         requires seat { seat.old.name ≡ self.now.name → seat.old.table ≡ B.table }
         requires came { handle.old.cache ≡ self.now.name → handle.old.pass.board ≡ B.board }
         ensures foreign { seat.old.name ≢ self.now.name → (result ≡ Err (record { refusal = Stranger; slip = None })) × (seat.new ≡ seat.old) × (handle.new ≡ handle.old) }
@@ -73,34 +79,51 @@ impl<B: Naming, D: BlockDevice, T: Trail> SharedCache<B, D, T> {
         ensures only { OneSync handle.old.number first last seat.old seat.new }
         ensures same { (handle.new ≡ record handle.old { pass = handle.new.pass }) × (handle.new.pass.board ≡ handle.old.pass.board) }
         ensures clean { IfOk result (λ slip. Syncs handle.old.number first last None seat.old seat.new slip × Polled handle.old.pass handle.new.pass None) }
+        ensures hears { IfOk result (λ slip. Hears B.sizes self.now.name slip seat.new handle.new.pass) }
         ensures denied { seat.old.name ≡ self.now.name → handle.old.cache ≡ self.now.name → IfErr result (IsFsyncDenied handle.old.number first last seat.old seat.new handle.old.pass handle.new.pass) }
     {
         if let Err(refusal) = self.admits(seat, handle) {
             return Err(without_slip(refusal));
         }
-        let synced = match self.sync_pages(rt, seat, handle.number, first, last) {
+        let synced = match self.sync_pages(rt, seat, &mut handle.pass, handle.number, first, last) {
             Ok(synced) => synced,
             Err(denied) => return Err(denied),
         };
-        if synced.failed.is_none() {
-            if let Err(code) = self.disk.lock(rt).flush() {
-                return Err(without_slip(Refusal::Io(code)));
-            }
+        if let Some(code) = synced.failed {
+            return Err(self.report_failed(handle, code, synced.slip));
         }
-        self.report(handle, synced)
+        let flushed = self.disk.lock(rt).flush_after(seat, synced.slip);
+        match flushed {
+            Ok(durable) => self.report(handle, durable),
+            Err(code) => Err(without_slip(Refusal::Io(code))),
+        }
     }
 
-    /// What the handle is told once the sync has ended: the code of the last write that failed, if it was not told of that.
-    #[tactic(auto, using(crate::proofs::Syncing::none_polled, crate::proofs::Syncing::reports_by))]
-    fn report(&self, handle: &mut Handle, synced: Synced) -> Result<Slip, Denied>
+    /// What the handle is told once the sync has ended clean: the code of the last write that failed, if it was not told of that.
+    #[tactic(auto, using(crate::proofs::Syncing::reports_polled))]
+    fn report(&self, handle: &mut Handle, durable: Durable<B, D>) -> Result<Durable<B, D>, Denied>
         requires { handle.old.pass.board ≡ B.board }
         ensures same { (handle.new ≡ record handle.old { pass = handle.new.pass }) × (handle.new.pass.board ≡ handle.old.pass.board) }
-        ensures clean { IfOk result (λ slip. (slip ≡ synced.slip) × (synced.failed ≡ None) × Polled handle.old.pass handle.new.pass None) }
-        ensures failed { IfErr result (Reports synced.failed synced.slip handle.old.pass handle.new.pass) }
+        ensures clean { IfOk result (λ d. (d ≡ durable) × Polled handle.old.pass handle.new.pass None) }
+        ensures failed { IfErr result (Reports None durable handle.old.pass handle.new.pass) }
     {
-        match self.poll(&mut handle.pass).or(synced.failed) {
-            Some(code) => Err(by(Refusal::Io(code), synced.slip)),
-            None => Ok(synced.slip),
+        match self.poll(&mut handle.pass) {
+            Some(code) => Err(by(Refusal::Io(code), durable.slip())),
+            None => Ok(durable),
+        }
+    }
+
+    /// What the handle is told once the sync has ended with the code of a failed write: the code of the last one that it was not told of,
+    /// or this.
+    #[tactic(auto, using(crate::proofs::Syncing::reports_failed))]
+    fn report_failed(&self, handle: &mut Handle, code: ErrCode, slip: Slip) -> Denied
+        requires { handle.old.pass.board ≡ B.board }
+        ensures same { (handle.new ≡ record handle.old { pass = handle.new.pass }) × (handle.new.pass.board ≡ handle.old.pass.board) }
+        ensures failed { Reports (Some code) slip handle.old.pass handle.new.pass result }
+    {
+        match self.poll(&mut handle.pass) {
+            Some(last) => by(Refusal::Io(last), slip),
+            None => by(Refusal::Io(code), slip),
         }
     }
 
@@ -110,12 +133,17 @@ impl<B: Naming, D: BlockDevice, T: Trail> SharedCache<B, D, T> {
         &self,
         rt: &R,
         seat: &mut Seat,
+        pass: &mut Pass,
         handle: HandleId,
         first: PageIndex,
         last: PageIndex,
     ) -> Result<Synced, Denied>
-        requires { seat.old.table ≡ B.table }
+        requires seat { seat.old.table ≡ B.table }
+        requires pass { pass.old.board ≡ B.board }
         ensures goes { Goes seat.old seat.new }
+        ensures level { IsLevelled pass.old pass.new }
+        ensures hears { IfOk result (λ r. Hears B.sizes B.name r.slip seat.new pass.new) }
+        ensures kept { IfErr result (λ _. pass.new ≡ pass.old) }
         ensures only { OneSync handle first last seat.old seat.new }
         ensures ended { IfOk result (λ r. Syncs handle first last r.failed seat.old seat.new r.slip) }
         ensures denied { IfErr result (IsSyncDenied handle first last seat.old seat.new) }
@@ -125,7 +153,7 @@ impl<B: Naming, D: BlockDevice, T: Trail> SharedCache<B, D, T> {
             Ok((sync, _)) => sync,
             Err(denied) => return Err(denied),
         };
-        match self.sync_turns(rt, seat, sync) {
+        match self.sync_turns(rt, seat, pass, sync) {
             Ok(synced) => Ok(synced),
             Err(denied) => Err(self.give_up(rt, seat, sync, denied)),
         }
@@ -133,15 +161,25 @@ impl<B: Naming, D: BlockDevice, T: Trail> SharedCache<B, D, T> {
 
     /// Makes turns of the sync until one ends it.
     #[tactic(auto, using(locked::proofs::Seats::goes_by, locked::proofs::Seats::goes_on, locked::proofs::Seats::goes_same, crate::proofs::Making::goes_denied, crate::proofs::Making::makes_on, crate::proofs::Syncing::turn_on, locked::proofs::Seats::only_same, crate::proofs::Owning::only_turn_on))]
-    fn sync_turns<R: Wait>(&self, rt: &R, seat: &mut Seat, sync: SyncId) -> Result<Synced, Denied>
-        requires { seat.old.table ≡ B.table }
+    fn sync_turns<R: Wait>(
+        &self,
+        rt: &R,
+        seat: &mut Seat,
+        pass: &mut Pass,
+        sync: SyncId,
+    ) -> Result<Synced, Denied>
+        requires seat { seat.old.table ≡ B.table }
+        requires pass { pass.old.board ≡ B.board }
         ensures goes { Goes seat.old seat.new }
+        ensures level { IsLevelled pass.old pass.new }
+        ensures hears { IfOk result (λ r. Hears B.sizes B.name r.slip seat.new pass.new) }
+        ensures kept { IfErr result (λ _. pass.new ≡ pass.old) }
         ensures only { Only (λ e. IsTurnOf sync e.event) seat.old seat.new }
         ensures ended { IfOk result (λ r. Makes seat.old seat.new r.slip (event.SyncStep sync) (end_reply r.failed)) }
         ensures denied { IfErr result (IsDenied (IsTurnOf sync) seat.old seat.new) }
     {
         'turns: for _ in rt.forever() {
-            match self.sync_turn(rt, seat, sync) {
+            match self.sync_turn(rt, seat, pass, sync) {
                 Ok(Some(synced)) => return Ok(synced),
                 Ok(None) => {}
                 Err(denied) => return Err(denied),
@@ -157,10 +195,16 @@ impl<B: Naming, D: BlockDevice, T: Trail> SharedCache<B, D, T> {
         &self,
         rt: &R,
         seat: &mut Seat,
+        pass: &mut Pass,
         sync: SyncId,
     ) -> Result<Option<Synced>, Denied>
-        requires { seat.old.table ≡ B.table }
+        requires seat { seat.old.table ≡ B.table }
+        requires pass { pass.old.board ≡ B.board }
         ensures goes { Goes seat.old seat.new }
+        ensures level { IsLevelled pass.old pass.new }
+        ensures hears { IfOk result (λ o. IfSome o (λ r. Hears B.sizes B.name r.slip seat.new pass.new)) }
+        ensures again { IfOk result (λ o. IfNone o (pass.new ≡ pass.old)) }
+        ensures kept { IfErr result (λ _. pass.new ≡ pass.old) }
         ensures only { Only (λ e. IsTurnOf sync e.event) seat.old seat.new }
         ensures ended { IfOk result (λ o. IfSome o (λ r. Makes seat.old seat.new r.slip (event.SyncStep sync) (end_reply r.failed))) }
         ensures denied { IfErr result (IsDenied (IsTurnOf sync) seat.old seat.new) }
@@ -182,15 +226,12 @@ impl<B: Naming, D: BlockDevice, T: Trail> SharedCache<B, D, T> {
         let job = match stepped {
             SyncStepped::Job(job) => job,
             SyncStepped::Wait(_, _) => {
-                drop(self.changed.wait(rt, guard));
+                self.waits(rt, guard);
                 return Ok(None);
             }
-            SyncStepped::Clean(_) => return Ok(Some(Synced { failed: None, slip })),
+            SyncStepped::Clean(_) => return Ok(Some(over(&mut guard, pass, None, slip))),
             SyncStepped::Failed(code, _) => {
-                return Ok(Some(Synced {
-                    failed: Some(code),
-                    slip,
-                }));
+                return Ok(Some(over(&mut guard, pass, Some(code), slip)));
             }
         };
         drop(guard);
@@ -219,4 +260,22 @@ impl<B: Naming, D: BlockDevice, T: Trail> SharedCache<B, D, T> {
             }
         }
     }
+}
+
+/// A sync that ended by the entry of this slip. The poll that follows knows all failed writes up to here.
+fn over<B: Naming, T: Trail>(
+    state: &mut Locked<B, T>,
+    pass: &mut Pass,
+    failed: Option<ErrCode>,
+    slip: Slip,
+) -> Synced
+    requires { pass.old.board ≡ B.board }
+    ensures is { result ≡ record { failed = failed; slip = slip } }
+    ensures same { state.new ≡ state.old }
+    ensures level { IsLevelled pass.old pass.new }
+    ensures known { length pass.new.known ≡ (file_at state.old.core.state pass.new.file).failures }
+    ensures legal { After B.sizes B.name state.old.log.history state.old.core.state }
+{
+    state.level(pass);
+    Synced { failed, slip }
 }

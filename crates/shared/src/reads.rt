@@ -8,6 +8,7 @@ ghost use Rattle.pc_types.specs.declared.refusal.Refusal.TheVariants.{BadHandle,
 ghost use Rattle.locked.specs.Called.{Goes, Once, Only};
 ghost use Rattle.shared.specs.Called.{Makes, Retries};
 ghost use Rattle.shared.specs.Denials.{IsDenied};
+ghost use Rattle.shared.specs.Rooms.{IsLost};
 ghost use Rattle.shared.specs.Own.{IsCallOf, IsTry, count_in};
 
 use crate::cache::SharedCache;
@@ -39,6 +40,7 @@ impl<B: Naming, D: BlockDevice, T: Trail> SharedCache<B, D, T> {
         ensures once { IfOk result (λ _. Once (IsTry handle.old.number (event.Read handle.old.number handle.old.cursor (length out.old))) seat.old seat.new) }
         ensures answer { IfOk result (λ r. Makes seat.old seat.new r.1 (event.Read handle.old.number handle.old.cursor (length out.old)) (reply.Bytes (take r.0 out.new))) }
         ensures denied { seat.old.name ≡ self.now.name → handle.old.cache ≡ self.now.name → IfErr result (IsDenied (IsCallOf handle.old.number (event.Read handle.old.number handle.old.cursor (length out.old))) seat.old seat.new) }
+        ensures lost { IfErr result (IsLost B.sizes self.now.name seat.new) }
         ensures count { IfOk result (λ r. r.0 ≤ length out.old) }
         ensures rest { drop (count_in result) out.new ≡ drop (count_in result) out.old }
         ensures cursor { handle.new ≡ record handle.old { cursor = handle.old.cursor + count_in result } }
@@ -71,6 +73,7 @@ impl<B: Naming, D: BlockDevice, T: Trail> SharedCache<B, D, T> {
         ensures once { IfOk result (λ _. Once (IsTry handle.now.number (event.Read handle.now.number offset (length out.old))) seat.old seat.new) }
         ensures answer { IfOk result (λ r. Makes seat.old seat.new r.1 (event.Read handle.now.number offset (length out.old)) (reply.Bytes (take r.0 out.new))) }
         ensures denied { seat.old.name ≡ self.now.name → handle.now.cache ≡ self.now.name → IfErr result (IsDenied (IsCallOf handle.now.number (event.Read handle.now.number offset (length out.old))) seat.old seat.new) }
+        ensures lost { IfErr result (IsLost B.sizes self.now.name seat.new) }
         ensures count { IfOk result (λ r. r.0 ≤ length out.old) }
         ensures rest { drop (count_in result) out.new ≡ drop (count_in result) out.old }
         ensures within { offset ≤ MAX_FILE_SIZE → offset + count_in result ≤ MAX_FILE_SIZE }
@@ -106,6 +109,7 @@ impl<B: Naming, D: BlockDevice, T: Trail> SharedCache<B, D, T> {
         ensures once { IfOk result (λ o. IfSome o (λ _. Once (IsTry handle (event.Read handle offset (length out.old))) seat.old seat.new)) }
         ensures answer { IfOk result (λ o. IfSome o (λ r. Makes seat.old seat.new r.1 (event.Read handle offset (length out.old)) (reply.Bytes (take r.0 out.new)))) }
         ensures denied { IfErr result (IsDenied (IsCallOf handle (event.Read handle offset (length out.old))) seat.old seat.new) }
+        ensures lost { IfErr result (IsLost B.sizes B.name seat.new) }
         ensures count { IfOk result (λ o. IfSome o (λ r. r.0 ≤ length out.old)) }
         ensures rest { IfOk result (λ o. IfSome o (λ r. drop r.0 out.new ≡ drop r.0 out.old)) }
         ensures within { IfOk result (λ o. IfSome o (λ r. offset ≤ MAX_FILE_SIZE → offset + r.0 ≤ MAX_FILE_SIZE)) }
@@ -124,7 +128,7 @@ impl<B: Naming, D: BlockDevice, T: Trail> SharedCache<B, D, T> {
         let page = match answer {
             ReadAnswer::Bytes(count) => return Ok(Some((count, slip))),
             ReadAnswer::Wait(_) => {
-                drop(self.changed.wait(rt, guard));
+                self.waits(rt, guard);
                 return Ok(None);
             }
             ReadAnswer::Miss(page) => page,

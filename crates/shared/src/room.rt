@@ -1,14 +1,20 @@
 //! What a call does on the way: it fills pages that it missed, and makes room.
 
-ghost use Rattle.std.specs.Prelude.{◌≡◌, ◌&&◌, IfErr, IfOk, if◌then◌else◌, true};
+ghost use Rattle.std.specs.Prelude.{◌≡◌, ◌&&◌, IfErr, IfOk, if◌then◌else◌, false, true};
+ghost use Rattle.std.specs.Sync.Mutex.{mutex_guard_value};
 ghost use Rattle.blockdev.specs.Jobs.{IsJobFor};
 ghost use Rattle.locked.specs.Called.{Goes, Only};
 ghost use Rattle.locked.specs.Flights.{is_busy};
+ghost use Rattle.machine.specs.Tests.{has_idle};
+ghost use Rattle.pc_types.specs.declared.refusal.Refusal.TheVariants.{NoFrame};
+ghost use Rattle.trail.specs.History.{After};
 ghost use Rattle.shared.specs.Called.{is_for_now};
 ghost use Rattle.shared.specs.Denials.{IsDenied};
-ghost use Rattle.shared.specs.Own.{IsEviction, IsHelp, IsRoomEvent};
+ghost use Rattle.shared.specs.Own.{IsEviction, IsHelp, IsRoomEvent, IsStillDenied};
+ghost use Rattle.shared.specs.Rooms.{IsCrammed, IsLost, wants_room};
 ghost use Rattle.shared.specs.Synced.{IsFlushEnd};
 ghost use Rattle.shared.specs.Workers.{LetsGo};
+ghost use Rattle.shared.specs.declared.room.Want.TheVariants.{Frames};
 
 use crate::cache::SharedCache;
 use blockdev::{BlockDevice, Buffer, Job};
@@ -34,7 +40,7 @@ pub(crate) struct Span {
 impl<B: Naming, D: BlockDevice, T: Trail> SharedCache<B, D, T> {
     /// Fills a page that a call on this span of bytes lacks. First room is made for all pages that it lacks: made for this one alone
     /// it could cost the call another of its pages.
-    #[tactic(auto, using(locked::proofs::Seats::goes_by, locked::proofs::Seats::goes_on, locked::proofs::Seats::goes_same, crate::proofs::Making::goes_denied, crate::proofs::Making::help_room, crate::proofs::Making::help_on, crate::proofs::Owning::only_room, crate::proofs::Owning::only_filled))]
+    #[tactic(auto, using(locked::proofs::Seats::goes_by, locked::proofs::Seats::goes_on, locked::proofs::Seats::goes_same, crate::proofs::Making::goes_denied, crate::proofs::Making::help_room, crate::proofs::Making::help_on, crate::proofs::Owning::only_room, crate::proofs::Owning::only_filled, crate::proofs::Rooming::lost_unwanted))]
     pub(crate) fn fill<R: Wait>(
         &self,
         rt: &R,
@@ -46,24 +52,16 @@ impl<B: Naming, D: BlockDevice, T: Trail> SharedCache<B, D, T> {
         ensures goes { Goes seat.old seat.new }
         ensures only { Only (λ e. IsHelp span.handle e.event) seat.old seat.new }
         ensures denied { IfErr result (IsDenied (IsHelp span.handle) seat.old seat.new) }
+        ensures lost { IfErr result (IsLost B.sizes B.name seat.new) }
     {
-        let is_room = match self.make_way(rt, seat, span) {
-            Ok(is_room) => is_room,
-            Err(denied) => return Err(denied),
-        };
-        match self.fill_once(rt, seat, span.handle, page) {
-            Ok(()) => Ok(()),
-            Err(denied) => {
-                if was_taken(is_room, denied.refusal) {
-                    return Ok(());
-                }
-                Err(denied)
-            }
+        if let Err(denied) = self.make_way(rt, seat, span) {
+            return Err(denied);
         }
+        self.fill_once(rt, seat, span.handle, page)
     }
 
-    /// Fills a page. Where it is refused while a request is in flight the end of one is waited for.
-    #[tactic(auto, using(locked::proofs::Seats::goes_by, locked::proofs::Seats::goes_on, locked::proofs::Seats::goes_same, crate::proofs::Making::goes_denied, crate::proofs::Making::denied_begin, crate::proofs::Making::help_on, locked::proofs::Seats::only_same, crate::proofs::Owning::only_fill_begin, crate::proofs::Owning::only_fill_begin_denied, crate::proofs::Owning::only_begun_on))]
+    /// Fills a page. Where it is refused for want of room some is made, or the end of a request waited for.
+    #[tactic(auto, using(locked::proofs::Seats::goes_by, locked::proofs::Seats::goes_on, locked::proofs::Seats::goes_same, crate::proofs::Making::goes_denied, crate::proofs::Making::denied_begin, crate::proofs::Making::help_on, locked::proofs::Seats::only_same, crate::proofs::Owning::only_fill_begin, crate::proofs::Owning::only_fill_begin_denied, crate::proofs::Owning::only_begun_on, crate::proofs::Rooming::lost_unwanted, crate::proofs::Making::help_settled, crate::proofs::Owning::only_relieved))]
     fn fill_once<R: Wait>(
         &self,
         rt: &R,
@@ -75,6 +73,7 @@ impl<B: Naming, D: BlockDevice, T: Trail> SharedCache<B, D, T> {
         ensures goes { Goes seat.old seat.new }
         ensures only { Only (λ e. IsHelp handle e.event) seat.old seat.new }
         ensures denied { IfErr result (IsDenied (IsHelp handle) seat.old seat.new) }
+        ensures lost { IfErr result (IsLost B.sizes B.name seat.new) }
     {
         let buffer = match Buffer::new(self.alloc, &self.geometry) {
             Ok(buffer) => buffer,
@@ -83,7 +82,7 @@ impl<B: Naming, D: BlockDevice, T: Trail> SharedCache<B, D, T> {
         let mut guard = self.state.lock(rt);
         let (begun, _) = match guard.fill_begin(seat, handle, page, buffer) {
             Ok(made) => made,
-            Err(denied) => return self.wait_or(rt, guard, denied),
+            Err(denied) => return self.relieve(rt, guard, seat, denied),
         };
         drop(guard);
         match begun {
@@ -93,7 +92,7 @@ impl<B: Naming, D: BlockDevice, T: Trail> SharedCache<B, D, T> {
     }
 
     /// Makes the device call of a fill, without the state's lock, and ends the fill.
-    #[tactic(auto, using(locked::proofs::Seats::goes_by, locked::proofs::Seats::goes_on, locked::proofs::Seats::goes_same, crate::proofs::Making::goes_denied, crate::proofs::Making::denied_end, crate::proofs::Making::failed_end, crate::proofs::Owning::only_fill_end, crate::proofs::Owning::only_fill_end_denied))]
+    #[tactic(auto, using(locked::proofs::Seats::goes_by, locked::proofs::Seats::goes_on, locked::proofs::Seats::goes_same, crate::proofs::Making::goes_denied, crate::proofs::Making::denied_end, crate::proofs::Making::failed_end, crate::proofs::Owning::only_fill_end, crate::proofs::Owning::only_fill_end_denied, crate::proofs::Rooming::end_unwanted))]
     fn fill_by<R: Wait>(
         &self,
         rt: &R,
@@ -106,6 +105,7 @@ impl<B: Naming, D: BlockDevice, T: Trail> SharedCache<B, D, T> {
         ensures goes { Goes seat.old seat.new }
         ensures only { Only (λ e. IsHelp handle e.event) seat.old seat.new }
         ensures denied { IfErr result (IsDenied (IsHelp handle) seat.old seat.new) }
+        ensures unwanted { IfErr result (λ d. wants_room d.refusal ≡ false) }
     {
         let finished = self.disk.lock(rt).carry_out(job);
         let ended = self.state.lock(rt).fill_end(seat, finished);
@@ -120,58 +120,116 @@ impl<B: Naming, D: BlockDevice, T: Trail> SharedCache<B, D, T> {
         }
     }
 
-    /// Makes room for a call: until as many frames are free as it lacks pages, and no more pages would be dirty than may be. Answers
-    /// whether there was such a moment; else no room can be made.
+    /// Makes room for a call: until as many frames are free as it lacks pages, and no more pages would be dirty than may be, or none can
+    /// be made.
     #[tactic(auto, using(locked::proofs::Seats::goes_by, locked::proofs::Seats::goes_on, locked::proofs::Seats::goes_same, crate::proofs::Making::goes_denied, crate::proofs::Making::room_on, locked::proofs::Seats::only_same, crate::proofs::Owning::only_room_on))]
     pub(crate) fn make_way<R: Wait>(
         &self,
         rt: &R,
         seat: &mut Seat,
         span: Span,
-    ) -> Result<bool, Denied>
+    ) -> Result<(), Denied>
         requires { seat.old.table ≡ B.table }
         ensures goes { Goes seat.old seat.new }
         ensures only { Only (λ e. IsRoomEvent e.event) seat.old seat.new }
         ensures denied { IfErr result (IsDenied IsRoomEvent seat.old seat.new) }
+        ensures unwanted { IfErr result (λ d. wants_room d.refusal ≡ false) }
     {
         'turns: for _ in rt.forever() {
-            let Some(want) = wants(&self.state.lock(rt), span) else {
-                return Ok(true);
+            let guard = self.state.lock(rt);
+            let Some(want) = wants(&guard, span) else {
+                return Ok(());
             };
-            match self.make_room(rt, seat, want) {
+            match self.make_room(rt, guard, seat, want) {
                 Ok(true) => {}
-                Ok(false) => return Ok(false),
+                Ok(false) => return Ok(()),
                 Err(denied) => return Err(denied),
             }
         }
         unreachable!()
     }
 
+    /// What comes of an event that was refused, in the hold that refused it: where it wanted room, some is made, or the end of a request
+    /// waited for. The refusal stands where none can be made, and where it is of another kind.
+    #[tactic(auto, using(locked::proofs::Seats::goes_same, crate::proofs::Making::goes_denied, locked::proofs::Seats::only_same, crate::proofs::Rooming::wants_pass))]
+    pub(crate) fn relieve<R: Wait>(
+        &self,
+        rt: &R,
+        guard: MutexGuard<'_, Locked<B, T>>,
+        seat: &mut Seat,
+        denied: Denied,
+    ) -> Result<(), Denied>
+        requires { seat.old.table ≡ B.table }
+        ensures goes { Goes seat.old seat.new }
+        ensures only { Only (λ e. IsRoomEvent e.event) seat.old seat.new }
+        ensures denied { IfErr result (IsStillDenied denied seat.old seat.new) }
+        ensures passing { IfOk result (λ _. is_for_now denied.refusal ≡ true) }
+        ensures crammed { IfErr result (λ d. wants_room d.refusal ≡ true → (d ≡ denied) × IsCrammed d.refusal (mutex_guard_value guard.entry).core.state) }
+        ensures legal { After B.sizes B.name (mutex_guard_value guard.entry).log.history (mutex_guard_value guard.entry).core.state }
+    {
+        // Lends that the history is legal.
+        let _ = guard.core();
+        if !wants_room(denied.refusal) {
+            return self.wait_or(rt, guard, denied);
+        }
+        match self.make_room(rt, guard, seat, want_of(denied.refusal)) {
+            Ok(true) => Ok(()),
+            Ok(false) => Err(denied),
+            Err(other) => Err(other),
+        }
+    }
+
     /// Makes some room: a page is evicted, or written, or the end of a request waited for. Answers whether that was done: not where no
-    /// page is idle or to be written and no request is in flight, nor where the write failed.
+    /// page is idle or to be written and no request is in flight, nor where only the call's own write was in flight, and failed.
     ///
     /// All of that is asked in one hold. Between two the end of a write could make a page idle that neither would see.
-    #[tactic(auto, using(locked::proofs::Seats::goes_by, locked::proofs::Seats::goes_on, locked::proofs::Seats::goes_same, crate::proofs::Making::goes_denied, crate::proofs::Making::denied_first, crate::proofs::Making::room_on, locked::proofs::Seats::only_same, crate::proofs::Owning::only_evicted, crate::proofs::Owning::only_evicted_on))]
-    fn make_room<R: Wait>(&self, rt: &R, seat: &mut Seat, want: Want) -> Result<bool, Denied>
+    fn make_room<R: Wait>(
+        &self,
+        rt: &R,
+        guard: MutexGuard<'_, Locked<B, T>>,
+        seat: &mut Seat,
+        want: Want,
+    ) -> Result<bool, Denied>
         requires { seat.old.table ≡ B.table }
         ensures goes { Goes seat.old seat.new }
         ensures only { Only (λ e. IsRoomEvent e.event) seat.old seat.new }
         ensures denied { IfErr result (IsDenied IsRoomEvent seat.old seat.new) }
+        ensures unwanted { IfErr result (λ d. wants_room d.refusal ≡ false) }
+        ensures still { IfOk result (λ made. made ≡ false → is_busy (mutex_guard_value guard.entry).core.state ≡ false) }
+        ensures idle { IfOk result (λ made. made ≡ false → want ≡ Frames → has_idle (mutex_guard_value guard.entry).core.state ≡ false) }
     {
-        let mut guard = self.state.lock(rt);
-        if matches!(want, Want::Frames) {
-            match evict_idle(&mut guard, seat) {
-                Ok(true) => return Ok(true),
-                Ok(false) => {}
-                Err(denied) => return Err(denied),
-            }
+        match want {
+            Want::Frames => self.free_frame(rt, guard, seat),
+            Want::Clean => self.flush_one(rt, guard, seat),
         }
-        self.flush_one(rt, guard, seat)
+    }
+
+    /// Lets an idle page go. Where none is idle a page is written back, or the end of a request waited for.
+    #[tactic(auto, using(locked::proofs::Seats::goes_on, crate::proofs::Making::room_on, crate::proofs::Owning::only_evicted, crate::proofs::Owning::only_evicted_on))]
+    fn free_frame<R: Wait>(
+        &self,
+        rt: &R,
+        mut guard: MutexGuard<'_, Locked<B, T>>,
+        seat: &mut Seat,
+    ) -> Result<bool, Denied>
+        requires { seat.old.table ≡ B.table }
+        ensures goes { Goes seat.old seat.new }
+        ensures only { Only (λ e. IsRoomEvent e.event) seat.old seat.new }
+        ensures denied { IfErr result (IsDenied IsRoomEvent seat.old seat.new) }
+        ensures unwanted { IfErr result (λ d. wants_room d.refusal ≡ false) }
+        ensures still { IfOk result (λ made. made ≡ false → is_busy (mutex_guard_value guard.entry).core.state ≡ false) }
+        ensures idle { IfOk result (λ made. made ≡ false → has_idle (mutex_guard_value guard.entry).core.state ≡ false) }
+    {
+        match evict_idle(&mut guard, seat) {
+            Ok(true) => Ok(true),
+            Ok(false) => self.flush_one(rt, guard, seat),
+            Err(denied) => Err(denied),
+        }
     }
 
     /// Writes a page back, of the first file that has one to write; or waits for the end of a request, where there is none to write or
-    /// too many are in flight. Answers whether that was done.
-    #[tactic(auto, using(locked::proofs::Seats::goes_by, locked::proofs::Seats::goes_on, locked::proofs::Seats::goes_same, crate::proofs::Making::goes_denied, crate::proofs::Making::denied_first, crate::proofs::Making::room_on, locked::proofs::Seats::only_same, crate::proofs::Owning::only_first_denied, crate::proofs::Owning::only_written))]
+    /// too many are in flight. Answers whether that was done; also where the write failed, if another request was in flight beside it.
+    #[tactic(auto, using(locked::proofs::Seats::goes_by, locked::proofs::Seats::goes_on, locked::proofs::Seats::goes_same, crate::proofs::Making::goes_denied, crate::proofs::Making::denied_first, crate::proofs::Making::room_on, locked::proofs::Seats::only_same, crate::proofs::Owning::only_first_denied, crate::proofs::Owning::only_written, crate::proofs::Rooming::first_unwanted))]
     fn flush_one<R: Wait>(
         &self,
         rt: &R,
@@ -182,7 +240,10 @@ impl<B: Naming, D: BlockDevice, T: Trail> SharedCache<B, D, T> {
         ensures goes { Goes seat.old seat.new }
         ensures only { Only (λ e. IsRoomEvent e.event) seat.old seat.new }
         ensures denied { IfErr result (IsDenied IsRoomEvent seat.old seat.new) }
+        ensures unwanted { IfErr result (λ d. wants_room d.refusal ≡ false) }
+        ensures still { IfOk result (λ made. made ≡ false → is_busy (mutex_guard_value guard.entry).core.state ≡ false) }
     {
+        let was_busy = guard.is_busy();
         let buffer = match Buffer::new(self.alloc, &self.geometry) {
             Ok(buffer) => buffer,
             Err(refusal) => return Err(without_slip(refusal)),
@@ -190,7 +251,10 @@ impl<B: Naming, D: BlockDevice, T: Trail> SharedCache<B, D, T> {
         match guard.flush_first(seat, buffer) {
             Ok(Some((job, _))) => {
                 drop(guard);
-                self.flush_by(rt, seat, job)
+                match self.flush_by(rt, seat, job) {
+                    Ok(is_written) => Ok(is_written || was_busy),
+                    Err(denied) => Err(denied),
+                }
             }
             Ok(None) => Ok(self.waits(rt, guard)),
             Err(denied) => match self.wait_or(rt, guard, denied) {
@@ -201,12 +265,21 @@ impl<B: Naming, D: BlockDevice, T: Trail> SharedCache<B, D, T> {
     }
 
     /// Waits for the end of a request, where one is in flight, and answers whether one was.
-    fn waits<R: Wait>(&self, rt: &R, guard: MutexGuard<'_, Locked<B, T>>) -> bool {
+    pub(crate) fn waits<R: Wait>(&self, rt: &R, guard: MutexGuard<'_, Locked<B, T>>) -> bool
+        ensures { result ≡ is_busy (mutex_guard_value guard.entry).core.state }
+    {
         if !guard.is_busy() {
             return false;
         }
-        drop(self.changed.wait(rt, guard));
+        self.wait_for_end(rt, guard);
         true
+    }
+
+    /// Waits for the end of a request. One is in flight.
+    fn wait_for_end<R: Wait>(&self, rt: &R, guard: MutexGuard<'_, Locked<B, T>>)
+        requires { is_busy (mutex_guard_value guard).core.state ≡ true }
+    {
+        drop(self.changed.wait(rt, guard));
     }
 
     /// Lets an idle page go. Answers whether there was one.
@@ -233,12 +306,12 @@ impl<B: Naming, D: BlockDevice, T: Trail> SharedCache<B, D, T> {
         if !may_pass(&guard, denied.refusal) {
             return Err(denied);
         }
-        drop(self.changed.wait(rt, guard));
+        self.wait_for_end(rt, guard);
         Ok(())
     }
 
     /// Makes the device call of a flush, without the state's lock, and ends the flush. Answers whether the page was written.
-    #[tactic(auto, using(locked::proofs::Seats::goes_by, locked::proofs::Seats::goes_on, locked::proofs::Seats::goes_same, crate::proofs::Making::goes_denied, crate::proofs::Making::denied_flush, crate::proofs::Syncing::flush_denied, crate::proofs::Owning::only_flush_end, crate::proofs::Owning::only_flush_end_denied))]
+    #[tactic(auto, using(locked::proofs::Seats::goes_by, locked::proofs::Seats::goes_on, locked::proofs::Seats::goes_same, crate::proofs::Making::goes_denied, crate::proofs::Making::denied_flush, crate::proofs::Syncing::flush_denied, crate::proofs::Owning::only_flush_end, crate::proofs::Owning::only_flush_end_denied, crate::proofs::Rooming::end_unwanted))]
     pub(crate) fn flush_by<R: Wait>(
         &self,
         rt: &R,
@@ -250,6 +323,7 @@ impl<B: Naming, D: BlockDevice, T: Trail> SharedCache<B, D, T> {
         ensures goes { Goes seat.old seat.new }
         ensures only { Only (λ e. IsFlushEnd e.event) seat.old seat.new }
         ensures denied { IfErr result (IsDenied IsRoomEvent seat.old seat.new) }
+        ensures unwanted { IfErr result (λ d. wants_room d.refusal ≡ false) }
         ensures ended { IfErr result (IsDenied IsFlushEnd seat.old seat.new) }
     {
         let finished = self.disk.lock(rt).carry_out(job);
@@ -263,7 +337,7 @@ impl<B: Naming, D: BlockDevice, T: Trail> SharedCache<B, D, T> {
 }
 
 /// Lets pages age, and then an idle one go. Answers whether there was one.
-#[tactic(auto, using(locked::proofs::Seats::goes_by, locked::proofs::Seats::goes_on, locked::proofs::Seats::goes_same, crate::proofs::Making::goes_denied, crate::proofs::Making::denied_age, crate::proofs::Making::denied_evict, crate::proofs::Owning::only_age_denied, crate::proofs::Owning::only_evicts, crate::proofs::Owning::only_evict_denied, crate::proofs::Letting::evicted_gone))]
+#[tactic(auto, using(locked::proofs::Seats::goes_by, locked::proofs::Seats::goes_on, locked::proofs::Seats::goes_same, crate::proofs::Making::goes_denied, crate::proofs::Making::denied_age, crate::proofs::Making::denied_evict, crate::proofs::Owning::only_age_denied, crate::proofs::Owning::only_evicts, crate::proofs::Owning::only_evict_denied, crate::proofs::Letting::evicted_gone, crate::proofs::Rooming::age_unwanted, crate::proofs::Rooming::evict_unwanted, crate::proofs::Rooming::evict_none))]
 fn evict_idle<B: Naming, T: Trail>(
     state: &mut Locked<B, T>,
     seat: &mut Seat,
@@ -273,6 +347,8 @@ fn evict_idle<B: Naming, T: Trail>(
     ensures only { Only (λ e. IsEviction e.event) seat.old seat.new }
     ensures gone { IfOk result (λ went. LetsGo (if went then 1 else 0) seat.old seat.new) }
     ensures denied { IfErr result (IsDenied IsRoomEvent seat.old seat.new) }
+    ensures unwanted { IfErr result (λ d. wants_room d.refusal ≡ false) }
+    ensures none { IfOk result (λ went. went ≡ false → (has_idle state.old.core.state ≡ false) × (state.new.core.state ≡ state.old.core.state)) }
 {
     if let Err(denied) = state.age(seat) {
         return Err(denied);
@@ -320,7 +396,19 @@ pub(crate) fn is_for_now(refusal: Refusal) -> bool
     )
 }
 
-/// Whether a fill was refused a frame where room was made before: another caller took it.
-fn was_taken(is_room: bool, refusal: Refusal) -> bool {
-    is_room && matches!(refusal, Refusal::NoFrame)
+/// Whether more room might have spared a refusal.
+fn wants_room(refusal: Refusal) -> bool
+    ensures { result ≡ wants_room refusal }
+{
+    matches!(refusal, Refusal::NoFrame | Refusal::DirtyLimit)
+}
+
+/// Which room an event wanted that was refused so.
+fn want_of(refusal: Refusal) -> Want
+    ensures { refusal ≡ NoFrame → result ≡ Frames }
+{
+    match refusal {
+        Refusal::NoFrame => Want::Frames,
+        _ => Want::Clean,
+    }
 }

@@ -1,22 +1,25 @@
 //! Writes and truncations.
 
 ghost use Rattle.std.specs.Prelude.{◌≡◌, ◌≢◌, ◌+◌, Err, IfErr, IfNone, IfOk, IfSome, None, Ok, length, true};
+ghost use Rattle.std.specs.Sync.Mutex.{mutex_guard_value};
 ghost use Rattle.cachecore.specs.Replies.{was_truncated};
 ghost use Rattle.held.specs.Entered.{Made};
 ghost use Rattle.machine.specs.declared.event.Event.TheVariants as event;
 ghost use Rattle.machine.specs.declared.event.Reply.TheVariants as reply;
 ghost use Rattle.pc_types.specs.declared.refusal.Refusal.TheVariants.{BadHandle, Stranger};
+ghost use Rattle.trail.specs.History.{After};
 ghost use Rattle.locked.specs.Called.{Goes, Once, Only};
 ghost use Rattle.locked.specs.Denials as under;
 ghost use Rattle.shared.specs.Called.{Makes, Retries, is_for_now};
 ghost use Rattle.shared.specs.Changes.{IsWhole, IsWholeIn, cursor_after, event_of, over, reply_of, write_event};
 ghost use Rattle.shared.specs.Denials.{IsDenied};
+ghost use Rattle.shared.specs.Rooms.{IsCrammed, IsLost, wants_room};
 ghost use Rattle.shared.specs.Own.{IsCallOf, IsRoomEvent, IsStillDenied, IsTry};
 ghost use Rattle.shared.specs.declared.writes.Change.TheVariants as change;
 
 use crate::cache::SharedCache;
 use crate::handle::Handle;
-use crate::room::{Span, is_for_now};
+use crate::room::Span;
 use blockdev::BlockDevice;
 use cachecore::{TruncateAnswer, WriteAnswer};
 use held::log::{Seat, Slip};
@@ -24,7 +27,7 @@ use locked::denied::{Denied, without_slip};
 use locked::naming::Naming;
 use locked::state::Locked;
 use pc_types::HandleId;
-use std::sync::Wait;
+use std::sync::{MutexGuard, Wait};
 use trail::Trail;
 
 /// How a write ended: how many bytes were written, and the offset after them.
@@ -64,6 +67,7 @@ impl<B: Naming, D: BlockDevice, T: Trail> SharedCache<B, D, T> {
         ensures once { IfOk result (λ _. Once (IsTry handle.now.number (event.Write handle.now.number offset bytes.now)) seat.old seat.new) }
         ensures answer { IfOk result (λ r. Makes seat.old seat.new r.1 (event.Write handle.now.number offset bytes.now) (reply.Wrote r.0.count r.0.end)) }
         ensures denied { seat.old.name ≡ self.now.name → handle.now.cache ≡ self.now.name → IfErr result (IsDenied (IsCallOf handle.now.number (event.Write handle.now.number offset bytes.now)) seat.old seat.new) }
+        ensures lost { IfErr result (IsLost B.sizes self.now.name seat.new) }
         ensures count { IfOk result (λ r. (r.0.count ≡ length bytes.now) × (r.0.end ≡ offset + length bytes.now)) }
     {
         if let Err(refusal) = self.admits(seat, handle) {
@@ -89,6 +93,7 @@ impl<B: Naming, D: BlockDevice, T: Trail> SharedCache<B, D, T> {
         ensures once { IfOk result (λ _. Once (IsTry handle.old.number (write_event handle.old bytes.now)) seat.old seat.new) }
         ensures answer { IfOk result (λ r. Makes seat.old seat.new r.1 (write_event handle.old bytes.now) (reply.Wrote r.0.count r.0.end)) }
         ensures denied { seat.old.name ≡ self.now.name → handle.old.cache ≡ self.now.name → IfErr result (IsDenied (IsCallOf handle.old.number (write_event handle.old bytes.now)) seat.old seat.new) }
+        ensures lost { IfErr result (IsLost B.sizes self.now.name seat.new) }
         ensures count { IfOk result (λ r. r.0.count ≡ length bytes.now) }
         ensures cursor { handle.new ≡ record handle.old { cursor = cursor_after handle.old.cursor result } }
     {
@@ -126,6 +131,7 @@ impl<B: Naming, D: BlockDevice, T: Trail> SharedCache<B, D, T> {
         ensures once { IfOk result (λ _. Once (IsTry handle.now.number (event.Truncate handle.now.number size)) seat.old seat.new) }
         ensures answer { IfOk result (λ slip. Makes seat.old seat.new slip (event.Truncate handle.now.number size) reply.Done) }
         ensures denied { seat.old.name ≡ self.now.name → handle.now.cache ≡ self.now.name → IfErr result (IsDenied (IsCallOf handle.now.number (event.Truncate handle.now.number size)) seat.old seat.new) }
+        ensures lost { IfErr result (IsLost B.sizes self.now.name seat.new) }
     {
         if let Err(refusal) = self.admits(seat, handle) {
             return Err(without_slip(refusal));
@@ -152,6 +158,7 @@ impl<B: Naming, D: BlockDevice, T: Trail> SharedCache<B, D, T> {
         ensures once { IfOk result (λ _. Once (IsTry handle (event_of change handle bytes.now)) seat.old seat.new) }
         ensures answer { IfOk result (λ r. Makes seat.old seat.new r.1 (event_of change handle bytes.now) (over change r.0)) }
         ensures denied { IfErr result (IsDenied (IsCallOf handle (event_of change handle bytes.now)) seat.old seat.new) }
+        ensures lost { IfErr result (IsLost B.sizes B.name seat.new) }
         ensures whole { IfOk result (λ r. IsWhole change bytes.now r.0) }
     {
         'attempts: for _ in rt.forever() {
@@ -185,6 +192,7 @@ impl<B: Naming, D: BlockDevice, T: Trail> SharedCache<B, D, T> {
         ensures once { IfOk result (λ o. IfSome o (λ _. Once (IsTry handle (event_of change handle bytes.now)) seat.old seat.new)) }
         ensures answer { IfOk result (λ o. IfSome o (λ r. Makes seat.old seat.new r.1 (event_of change handle bytes.now) (over change r.0))) }
         ensures denied { IfErr result (IsDenied (IsCallOf handle (event_of change handle bytes.now)) seat.old seat.new) }
+        ensures lost { IfErr result (IsLost B.sizes B.name seat.new) }
         ensures whole { IfOk result (λ o. IfSome o (λ r. IsWhole change bytes.now r.0)) }
         ensures again { IfOk result (λ o. IfNone o (Retries seat.old seat.new (event_of change handle bytes.now))) }
     {
@@ -193,8 +201,7 @@ impl<B: Naming, D: BlockDevice, T: Trail> SharedCache<B, D, T> {
         let (answer, slip) = match change_by(&mut guard, seat, handle, change, bytes) {
             Ok(made) => made,
             Err(denied) => {
-                drop(guard);
-                return match self.settle(rt, seat, span, denied) {
+                return match self.settle(rt, guard, seat, span, denied) {
                     Ok(()) => Ok(None),
                     Err(denied) => Err(denied),
                 };
@@ -203,7 +210,7 @@ impl<B: Naming, D: BlockDevice, T: Trail> SharedCache<B, D, T> {
         let page = match answer {
             WriteAnswer::Wrote { count, end } => return Ok(Some((Wrote { count, end }, slip))),
             WriteAnswer::Wait(_) => {
-                drop(self.changed.wait(rt, guard));
+                self.waits(rt, guard);
                 return Ok(None);
             }
             WriteAnswer::Miss(page) => page,
@@ -215,12 +222,13 @@ impl<B: Naming, D: BlockDevice, T: Trail> SharedCache<B, D, T> {
         }
     }
 
-    /// What a change comes to that was refused: where it was for want of room, room is made, or the end of a request waited for; else
-    /// the refusal stands.
-    #[tactic(auto, using(locked::proofs::Seats::goes_by, locked::proofs::Seats::goes_on, locked::proofs::Seats::goes_same, crate::proofs::Making::goes_denied, locked::proofs::Seats::only_same))]
+    /// What a change comes to that was refused, in the hold that refused it: where it was for want of room, room is made for all that
+    /// the call wants, or the end of a request waited for; else the refusal stands.
+    #[tactic(auto, using(locked::proofs::Seats::goes_on, locked::proofs::Seats::goes_same, locked::proofs::Seats::only_same, crate::proofs::Owning::only_room_on, crate::proofs::Making::room_on))]
     fn settle<R: Wait>(
         &self,
         rt: &R,
+        guard: MutexGuard<'_, Locked<B, T>>,
         seat: &mut Seat,
         span: Span,
         denied: Denied,
@@ -230,16 +238,13 @@ impl<B: Naming, D: BlockDevice, T: Trail> SharedCache<B, D, T> {
         ensures only { Only (λ e. IsRoomEvent e.event) seat.old seat.new }
         ensures denied { IfErr result (IsStillDenied denied seat.old seat.new) }
         ensures passing { IfOk result (λ _. is_for_now denied.refusal ≡ true) }
+        ensures crammed { IfErr result (λ d. wants_room d.refusal ≡ true → (d ≡ denied) × IsCrammed d.refusal (mutex_guard_value guard.entry).core.state) }
+        ensures legal { After B.sizes B.name (mutex_guard_value guard.entry).log.history (mutex_guard_value guard.entry).core.state }
     {
-        if !is_for_now(denied.refusal) {
-            return Err(denied);
+        if let Err(other) = self.relieve(rt, guard, seat, denied) {
+            return Err(other);
         }
-        match self.make_way(rt, seat, span) {
-            Ok(true) => return Ok(()),
-            Ok(false) => {}
-            Err(other) => return Err(other),
-        }
-        self.wait_or(rt, self.state.lock(rt), denied)
+        self.make_way(rt, seat, span)
     }
 }
 

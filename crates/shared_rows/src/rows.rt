@@ -231,9 +231,9 @@ fn tells_of_a_fault<B: Naming, D: BlockDevice, R: Wait>(
     let wrote = cache.pwrite(rt, seat, handle, 0, b"\xaa");
     let failed = cache.fsync(rt, seat, handle);
     let synced = cache.fsync(rt, seat, handle);
-    let is_told = match failed {
-        Err(denied) => denied.refusal == Refusal::Io(ErrCode::IO) && denied.slip.is_some(),
-        Ok(_) => false,
+    let is_told = match failed.err() {
+        Some(denied) => denied.refusal == Refusal::Io(ErrCode::IO) && denied.slip.is_some(),
+        None => false,
     };
     wrote.is_ok() && is_told && synced.is_ok()
 }
@@ -250,9 +250,9 @@ fn tells_of_a_lost_flush<B: Naming, D: BlockDevice, R: Wait>(
 {
     let failed = cache.fsync(rt, seat, handle);
     let synced = cache.fsync(rt, seat, handle);
-    let is_told = match failed {
-        Err(denied) => denied.refusal == Refusal::Io(ErrCode::IO) && denied.slip.is_none(),
-        Ok(_) => false,
+    let is_told = match failed.err() {
+        Some(denied) => denied.refusal == Refusal::Io(ErrCode::IO) && denied.slip.is_none(),
+        None => false,
     };
     is_told && synced.is_ok()
 }

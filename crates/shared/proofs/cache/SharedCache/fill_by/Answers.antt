@@ -9,6 +9,7 @@ use Rattle.shared.specs.Denials.{IsDenied}
 use Rattle.shared.specs.Own.{IsHelp}
 use Rattle.shared.proofs.Making.{denied_end, failed_end}
 use Rattle.shared.proofs.Owning.{only_fill_end, only_fill_end_denied}
+use Rattle.shared.proofs.Rooming.{end_unwanted}
 use Rattle.shared.proofs.cache.SharedCache.fill_by.Goals as goal
 
 pub returns-in-Err-clause-denied : goal.returns-in-Err-clause-denied
@@ -34,3 +35,7 @@ returns-in-Failed-clause-only g c = only_fill_end c.args.handle _ _ _ _ _ _ _ c.
 
 pub returns-clause-only : goal.returns-clause-only
 returns-clause-only g c = only_fill_end c.args.handle _ _ _ _ _ _ _ c.in-Ok.ensures.made
+
+pub returns-in-Err-clause-unwanted : goal.returns-in-Err-clause-unwanted
+returns-in-Err-clause-unwanted g c = end_unwanted Fill (end_of c.carry_out-finished.result) c.deref_mut-2.result.now
+    c.fill_end-ended.new.self c.args.seat.now c.fill_end-ended.new.seat c.in-Err.denied c.in-Err.ensures.denied

@@ -1,11 +1,13 @@
-use Rattle.std.proofs.Common.{◌≡◌, subst, sym}
+use Rattle.std.proofs.Common.{◌≡◌, true}
 use Rattle.std.proofs.lemmas.Result.{IfErr-weaker}
 use Rattle.machine.specs.declared.event.Event.TheVariants as event
-use Rattle.locked.proofs.Seats.{goes_by}
+use Rattle.locked.proofs.Seats.{goes_by, goes_on}
 use Rattle.shared.specs.Denials.{IsDenied}
-use Rattle.shared.specs.Own.{IsHelp}
-use Rattle.shared.proofs.Making.{denied_begin, goes_denied, help_on}
-use Rattle.shared.proofs.Owning.{only_begun_on, only_fill_begin, only_fill_begin_denied}
+use Rattle.shared.specs.Own.{IsHelp, IsStillDenied}
+use Rattle.shared.specs.Rooms.{IsCrammed, IsLost, wants_room}
+use Rattle.shared.proofs.Making.{goes_denied, help_on, help_settled}
+use Rattle.shared.proofs.Owning.{only_begun_on, only_fill_begin, only_relieved}
+use Rattle.shared.proofs.Rooming.{lost_denied}
 use Rattle.shared.proofs.cache.SharedCache.fill_once.Goals as goal
 
 pub returns-in-Job-clause-denied : goal.returns-in-Job-clause-denied
@@ -15,22 +17,35 @@ returns-in-Job-clause-denied g c = IfErr-weaker c.fill_by.result
     (λ d q. help_on c.args.handle c.args.seat.now c.fill_begin.new.seat c.fill_by.new.seat d
     (goes_by _ _ _ _ _ _ _ c.in-Ok-fill_begin.ensures.made) q) c.fill_by.ensures.denied
 
-pub returns-in-Err-fill_begin-clause-denied : goal.returns-in-Err-fill_begin-clause-denied
-returns-in-Err-fill_begin-clause-denied g c = IfErr-weaker c.wait_or.result (λ d. d ≡ c.in-Err-fill_begin.denied)
-    (IsDenied (IsHelp c.args.handle) c.args.seat.now c.fill_begin.new.seat)
-    (λ d e. subst (IsDenied (IsHelp c.args.handle) c.args.seat.now c.fill_begin.new.seat) (sym e)
-    (denied_begin c.args.handle c.args.page c.deref_mut.result.now c.fill_begin.new.self c.args.seat.now
-    c.fill_begin.new.seat c.in-Err-fill_begin.denied c.in-Err-fill_begin.ensures.denied)) c.wait_or.ensures.denied
-
 pub returns-in-Err-fill_begin-clause-goes : goal.returns-in-Err-fill_begin-clause-goes
 returns-in-Err-fill_begin-clause-goes g c =
-    goes_denied (event.FillBegin c.args.handle c.args.page) c.deref_mut.result.now c.fill_begin.new.self
-    c.args.seat.now c.fill_begin.new.seat c.in-Err-fill_begin.denied c.in-Err-fill_begin.ensures.denied
+    goes_on c.args.seat.now c.fill_begin.new.seat c.relieve.new.seat
+    (goes_denied (event.FillBegin c.args.handle c.args.page) c.deref_mut.result.now c.fill_begin.new.self
+    c.args.seat.now c.fill_begin.new.seat c.in-Err-fill_begin.denied c.in-Err-fill_begin.ensures.denied)
+    c.relieve.ensures.goes
 
 pub returns-in-Err-fill_begin-clause-only : goal.returns-in-Err-fill_begin-clause-only
 returns-in-Err-fill_begin-clause-only g c =
-    only_fill_begin_denied c.args.handle c.args.page c.deref_mut.result.now c.fill_begin.new.self c.args.seat.now
-    c.fill_begin.new.seat c.in-Err-fill_begin.denied c.in-Err-fill_begin.ensures.denied
+    only_relieved c.args.handle c.args.page c.deref_mut.result.now c.fill_begin.new.self c.args.seat.now
+    c.fill_begin.new.seat c.relieve.new.seat c.in-Err-fill_begin.denied c.in-Err-fill_begin.ensures.denied
+    c.relieve.ensures.only
+
+pub returns-in-Err-fill_begin-clause-denied : goal.returns-in-Err-fill_begin-clause-denied
+returns-in-Err-fill_begin-clause-denied g c =
+    IfErr-weaker c.relieve.result (IsStillDenied c.in-Err-fill_begin.denied c.fill_begin.new.seat c.relieve.new.seat)
+    (IsDenied (IsHelp c.args.handle) c.args.seat.now c.relieve.new.seat)
+    (λ d q. help_settled c.args.handle c.args.page c.deref_mut.result.now c.fill_begin.new.self c.args.seat.now
+    c.fill_begin.new.seat c.relieve.new.seat c.in-Err-fill_begin.denied d c.in-Err-fill_begin.ensures.denied
+    c.relieve.ensures.goes q) c.relieve.ensures.denied
+
+pub returns-in-Err-fill_begin-clause-lost : goal.returns-in-Err-fill_begin-clause-lost
+returns-in-Err-fill_begin-clause-lost g c =
+    IfErr-weaker c.relieve.result (λ d. wants_room d.refusal ≡ true → (d ≡ c.in-Err-fill_begin.denied)
+    × IsCrammed d.refusal c.fill_begin.new.self.core.state)
+    (IsLost g.B.Naming.sizes g.B.Naming.name c.relieve.new.seat)
+    (λ d q. lost_denied g.B.Naming.sizes g.B.Naming.name (event.FillBegin c.args.handle c.args.page) c.deref_mut.result.now
+    c.fill_begin.new.self c.args.seat.now c.fill_begin.new.seat c.relieve.new.seat c.in-Err-fill_begin.denied d
+    c.in-Err-fill_begin.ensures.denied c.relieve.ensures.legal c.relieve.ensures.goes q) c.relieve.ensures.crammed
 
 pub returns-in-Job-clause-only : goal.returns-in-Job-clause-only
 returns-in-Job-clause-only g c =

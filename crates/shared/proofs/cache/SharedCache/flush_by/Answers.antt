@@ -1,7 +1,9 @@
 use Rattle.cachecore.specs.Replies.{end_of}
+use Rattle.pc_types.specs.declared.kind.Kind.TheVariants.{Flush}
 use Rattle.shared.proofs.Making.{denied_flush}
 use Rattle.shared.proofs.Owning.{only_flush_end}
 use Rattle.shared.proofs.Syncing.{flush_denied}
+use Rattle.shared.proofs.Rooming.{end_unwanted}
 use Rattle.shared.proofs.cache.SharedCache.flush_by.Goals as goal
 
 pub returns-clause-denied : goal.returns-clause-denied
@@ -14,3 +16,7 @@ returns-clause-ended g c = flush_denied (end_of c.carry_out-finished.result) c.d
 
 pub returns-in-Ok-clause-only : goal.returns-in-Ok-clause-only
 returns-in-Ok-clause-only g c = only_flush_end _ _ _ _ _ _ _ c.in-Ok.ensures.made
+
+pub returns-clause-unwanted : goal.returns-clause-unwanted
+returns-clause-unwanted g c = end_unwanted Flush (end_of c.carry_out-finished.result) c.deref_mut-2.result.now
+    c.flush_end-ended.new.self c.args.seat.now c.flush_end-ended.new.seat c.in-Err.denied c.in-Err.ensures.denied

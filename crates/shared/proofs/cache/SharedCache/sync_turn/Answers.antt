@@ -1,6 +1,10 @@
-use Rattle.std.proofs.Common.{subst, sym}
+use Rattle.std.proofs.Common.{◌≡◌, ap, rules, subst, sym}
 use Rattle.machine.specs.declared.event.Event.TheVariants as event
+use Rattle.held.specs.declared.log.Slip.{Slip}
 use Rattle.shared.specs.Denials.{IsDenied}
+use Rattle.shared.specs.Polls.{Hears}
+use Rattle.shared.specs.declared.fsync.Synced.{Synced}
+use Rattle.shared.proofs.Hearing.{hears_by}
 use Rattle.shared.specs.Synced.{IsTurnOf}
 use Rattle.shared.proofs.Making.{goes_denied}
 use Rattle.shared.proofs.Owning.{only_step, only_step_denied, only_turned}
@@ -44,3 +48,25 @@ returns-in-Ok-flush_by-clause-only g c =
 pub returns-in-Err-flush_by-clause-only : goal.returns-in-Err-flush_by-clause-only
 returns-in-Err-flush_by-clause-only g c =
     only_turned c.args.sync _ _ _ _ _ _ _ c.in-Ok-sync_step.ensures.made c.flush_by.ensures.only
+
+-- the pass was levelled in the hold that ended the sync
+pub returns-in-Clean-clause-hears : goal.returns-in-Clean-clause-hears
+returns-in-Clean-clause-hears g c =
+    let same : c.deref_mut-in-Clean.result.now ≡ c.sync_step.new.self =
+    search (rules, c.deref_mut-in-Clean.ensures.value) in
+    subst (λ (s : Slip). Hears g.B.Naming.sizes g.B.Naming.name s c.sync_step.new.seat c.over.new.pass)
+    (sym (ap (λ (x : Synced). x.slip) c.over.ensures.is))
+    (hears_by g.B.Naming.sizes g.B.Naming.name (event.SyncStep c.args.sync) _ c.deref_mut.result.now c.sync_step.new.self
+    c.deref_mut-in-Clean.result.now c.args.seat.now c.sync_step.new.seat c.in-Ok-sync_step.made.1 c.over.new.pass
+    c.in-Ok-sync_step.ensures.made same c.over.ensures.legal c.over.ensures.known)
+
+pub returns-in-Failed-clause-hears : goal.returns-in-Failed-clause-hears
+returns-in-Failed-clause-hears g c =
+    let same : c.deref_mut-in-Failed.result.now ≡ c.sync_step.new.self =
+    search (rules, c.deref_mut-in-Failed.ensures.value) in
+    subst (λ (s : Slip). Hears g.B.Naming.sizes g.B.Naming.name s c.sync_step.new.seat c.over-in-Failed.new.pass)
+    (sym (ap (λ (x : Synced). x.slip) c.over-in-Failed.ensures.is))
+    (hears_by g.B.Naming.sizes g.B.Naming.name (event.SyncStep c.args.sync) _ c.deref_mut.result.now c.sync_step.new.self
+    c.deref_mut-in-Failed.result.now c.args.seat.now c.sync_step.new.seat c.in-Ok-sync_step.made.1
+    c.over-in-Failed.new.pass c.in-Ok-sync_step.ensures.made same c.over-in-Failed.ensures.legal
+    c.over-in-Failed.ensures.known)

@@ -1,5 +1,7 @@
+use Rattle.std.proofs.Common.{◌∙◌}
 use Rattle.locked.proofs.Seats.{goes_on}
 use Rattle.shared.proofs.Owning.{only_turn_on}
+use Rattle.shared.proofs.Syncing.{turn_on}
 use Rattle.shared.proofs.cache.SharedCache.sync_turns.Goals as goal
 
 pub returns-in-Ok-Some-clause-only : goal.returns-in-Ok-Some-clause-only
@@ -15,4 +17,9 @@ turns-preserved g c = record {
   goes = goes_on c.args.seat.now c.turns.seat c.sync_turn.new.seat c.turns.invariant.goes c.sync_turn.ensures.goes;
   only = only_turn_on c.args.sync c.args.seat.now c.turns.seat c.sync_turn.new.seat c.turns.invariant.only
       c.sync_turn.ensures.only;
+  pass = (rw c.in-Ok-None.field-0-is at c.in-Ok-None.ensures.again) ∙ c.turns.invariant.pass;
 }
+
+pub returns-in-Err-clause-denied : goal.returns-in-Err-clause-denied
+returns-in-Err-clause-denied g c = turn_on c.args.sync c.args.seat.now c.turns.seat c.sync_turn.new.seat c.in-Err.denied
+    c.turns.invariant.goes c.in-Err.ensures.denied

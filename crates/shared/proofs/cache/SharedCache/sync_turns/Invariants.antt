@@ -1,3 +1,4 @@
+use Rattle.std.proofs.Common.{◌≡◌}
 use Rattle.locked.specs.Called.{Goes, Only}
 use Rattle.shared.specs.Synced.{IsTurnOf}
 use Rattle.shared.proofs.cache.SharedCache.sync_turns.Given as goal
@@ -6,4 +7,5 @@ abbrev pub invariant-turns : goal.invariant-turns
 invariant-turns g l = record {
   goes : Goes l.initial.seat l.seat;
   only : Only (λ e. IsTurnOf l.fn.sync e.event) l.initial.seat l.seat;
+  pass : l.pass ≡ l.initial.pass;
 }

@@ -10,6 +10,7 @@ use Rattle.shared.specs.Denials.{IsDenied}
 use Rattle.shared.specs.Own.{IsHelp, IsUndone}
 use Rattle.shared.proofs.Making.{call_help, call_settled, goes_denied, makes_by, retries_by}
 use Rattle.shared.proofs.Owning.{change_plain, only_missed, only_settled, only_try}
+use Rattle.shared.proofs.Rooming.{lost_denied}
 use Rattle.shared.proofs.cache.SharedCache.try_change.Goals as goal
 
 pub returns-in-Err-settle-clause-denied : goal.returns-in-Err-settle-clause-denied
@@ -96,3 +97,10 @@ returns-in-Err-settle-clause-only g c =
 
 pub returns-in-Wrote-clause-once : goal.returns-in-Wrote-clause-once
 returns-in-Wrote-clause-once g c = once_by _ _ _ _ _ _ _ _ c.in-Ok.ensures.made
+
+-- the change was refused, and stands so if the cache is crammed
+pub returns-in-Err-settle-clause-lost : goal.returns-in-Err-settle-clause-lost
+returns-in-Err-settle-clause-lost g c =
+    lost_denied g.B.Naming.sizes g.B.Naming.name (event_of c.args.change c.args.handle c.args.bytes.now) c.deref_mut.result.now
+    c.change_by.new.state c.args.seat.now c.change_by.new.seat c.settle.new.seat c.in-Err.denied c.in-Err-settle.denied
+    c.in-Err.ensures.denied c.settle.ensures.legal c.settle.ensures.goes c.in-Err-settle.ensures.crammed

@@ -1,0 +1,208 @@
+-- What a refusal for want of room says of the cache at its entry.
+use Rattle.std.proofs.Common.{◌≡◌, ◌∙◌, ◌+◌, ◌≤◌, [], ℕ, Bool, true, false, cond, not, length, take, refl, sym, ap, subst, arith, inl, inr}
+use Rattle.std.specs.Prelude.{◌&&◌, ◌==◌, Option, Some, None, is_some, nat_le, nat_lt}
+use Rattle.std.proofs.lemmas.List.{length_push, take-append-le, take_all}
+use Rattle.std.specs.FinMap as map
+use Rattle.cachecore.specs.Replies.{evicted}
+use Rattle.machine.specs.declared.event.End.{End}
+use Rattle.machine.specs.declared.event.Event.{Event}
+use Rattle.machine.specs.declared.event.Event.TheVariants as event
+use Rattle.machine.specs.declared.event.Reply.{Reply}
+use Rattle.machine.specs.declared.event.Reply.TheVariants as reply
+use Rattle.machine.specs.Changes.{flush_pick}
+use Rattle.machine.specs.State.{State, file_at, handle_file, is_filling, is_open, touched_count}
+use Rattle.errseq.proofs.Prefixes.{prefix_length}
+use Rattle.machine.specs.Step.{Step}
+use Rattle.machine.specs.Tests.{has_idle, is_full, is_of, read_count, read_stop, refuse, stopped, tests}
+use Rattle.machine.proofs.steps.Cases.{answered}
+use Rattle.pc_types.specs.Limits.{Sizes}
+use Rattle.pc_types.specs.declared.ids.FileId.{FileId}
+use Rattle.pc_types.specs.declared.ids.HandleId.{HandleId}
+use Rattle.pc_types.specs.declared.ids.PageIndex.{PageIndex}
+use Rattle.pc_types.specs.declared.kind.Kind.{Kind}
+use Rattle.pc_types.specs.declared.limits.TheConstants.{MAX_TOUCHED}
+use Rattle.pc_types.specs.declared.refusal.Refusal.{Refusal}
+use Rattle.pc_types.specs.declared.refusal.Refusal.TheVariants.{BadHandle, DirtyLimit, NoFrame, NoSuchFile, Stranger, TooLong, TooManyInFlight}
+use Rattle.trail.specs.declared.entry.Entry.{Entry}
+use Rattle.trail.specs.Entries.{entry_of}
+use Rattle.trail.specs.History.{After}
+use Rattle.held.specs.declared.log.Slip.{Slip}
+use Rattle.held.specs.Entered.{Made}
+use Rattle.held.specs.Shown.{HeldSeen, SeatSeen}
+use Rattle.locked.specs.Called.{Goes}
+use Rattle.locked.specs.Denials as under
+use Rattle.locked.specs.Firsts.{IsFirstDenied}
+use Rattle.locked.specs.declared.denied.Denied.{Denied}
+use Rattle.locked.proofs.Replied.{end_taken}
+use Rattle.shared.specs.Called.{is_for_now}
+use Rattle.shared.specs.Own.{IsRoomEvent}
+use Rattle.shared.specs.Rooms.{IsCrammed, IsLost, IsRoomLost, wants_room}
+
+-- ---- refusals of another kind
+
+no_file_or_full : (past full : Bool) (pick : Option ℕ) (why : Refusal)
+    → cond past (refuse NoSuchFile) (cond (not (is_some pick)) (Some reply.Nothing) (cond full (refuse TooManyInFlight) None))
+    ≡ Some (reply.Refused why) → wants_room why ≡ false
+no_file_or_full true full pick why e =
+    let is : NoSuchFile ≡ why = cc in subst (λ (x : Refusal). wants_room x ≡ false) is refl
+no_file_or_full false full None why e = absurd cc
+no_file_or_full false true (Some p) why e =
+    let is : TooManyInFlight ≡ why = cc in subst (λ (x : Refusal). wants_room x ≡ false) is refl
+no_file_or_full false false (Some p) why e = absurd cc
+
+stranger : (here : Bool) (why : Refusal) → cond here None (refuse Stranger) ≡ Some (reply.Refused why) → wants_room why ≡ false
+stranger true why e = absurd cc
+stranger false why e = let is : Stranger ≡ why = cc in subst (λ (x : Refusal). wants_room x ≡ false) is refl
+
+never_refused : (idle : Bool) (why : Refusal) → cond idle None (Some reply.NoneIdle) ≡ Some (reply.Refused why) → ⊥
+never_refused true why e = cc
+never_refused false why e = cc
+
+-- what makes room is never refused for want of it
+room_refused : (s new : State) (e : Event) (why : Refusal) → IsRoomEvent e → Step s e (reply.Refused why) new → wants_room why ≡ false
+room_refused s new (event.End kind end) why is step =
+    elim (answered (tests s (event.End kind end)) s (event.End kind end) (reply.Refused why) new step) [
+      | inl a ↦ stranger (end.cache == s.name && is_of kind end (map.get s.requests end.serial.0)) why a.0
+      | inr a ↦ absurd (end_taken s kind end why new step a.0)
+    ]
+room_refused s new (event.FlushBegin f) why is step =
+    elim (answered (tests s (event.FlushBegin f)) s (event.FlushBegin f) (reply.Refused why) new step) [
+      | inl a ↦ no_file_or_full (nat_le (length s.files) f.0) (is_full s) (flush_pick (file_at s f.0)) why a.0
+      | inr a ↦ absurd a.1
+    ]
+room_refused s new event.Evict why is step =
+    elim (answered (tests s event.Evict) s event.Evict (reply.Refused why) new step) [
+      | inl a ↦ absurd (never_refused (has_idle s) why a.0)
+      | inr a ↦ absurd a.1
+    ]
+room_refused s new event.Age why is step = absurd step.0
+room_refused s new e why is step = absurd is
+
+pub room_unwanted : (e : Event) (old new : HeldSeen) (before after : SeatSeen) (d : Denied) → IsRoomEvent e
+    → under.IsDenied e old new before after d → wants_room d.refusal ≡ false
+room_unwanted e old new before after d is q = go d.refusal d.slip q
+  where
+    go : (r : Refusal) (o : Option Slip) → under.DeniedBy e old new before after r o → wants_room r ≡ false
+    go r None q = subst (λ (x : Refusal). wants_room x ≡ false) (sym q.0) refl
+    go r (Some slip) q = room_refused old.core.state new.core.state e r is q.step
+
+pub end_unwanted : (kind : Kind) (end : End) (old new : HeldSeen) (before after : SeatSeen) (d : Denied)
+    → under.IsDenied (event.End kind end) old new before after d → wants_room d.refusal ≡ false
+end_unwanted kind end old new before after d q = room_unwanted (event.End kind end) old new before after d tt q
+
+pub age_unwanted : (old new : HeldSeen) (before after : SeatSeen) (d : Denied)
+    → under.IsDenied event.Age old new before after d → wants_room d.refusal ≡ false
+age_unwanted old new before after d q = room_unwanted event.Age old new before after d tt q
+
+pub evict_unwanted : (old new : HeldSeen) (before after : SeatSeen) (d : Denied)
+    → under.IsDenied event.Evict old new before after d → wants_room d.refusal ≡ false
+evict_unwanted old new before after d q = room_unwanted event.Evict old new before after d tt q
+
+pub first_unwanted : (old new : HeldSeen) (before after : SeatSeen) (d : Denied) → IsFirstDenied old new before after d
+    → wants_room d.refusal ≡ false
+first_unwanted old new before after d q = room_unwanted (event.FlushBegin q.file) old new before after d tt q.denied
+
+-- nor is a read
+stops_unrefused : (s : State) (f : ℕ) (stop : Option ℕ) (why : Refusal) → stopped s f stop ≡ Some (reply.Refused why) → ⊥
+stops_unrefused s f None why e = cc
+stops_unrefused s f (Some p) why e = go (is_filling s f p) e
+  where
+    go : (filling : Bool)
+        → Some (cond filling (reply.Wait (record { 0 = p })) (reply.Miss (record { 0 = p }))) ≡ Some (reply.Refused why) → ⊥
+    go true e = cc
+    go false e = cc
+
+read_tested : (there none long : Bool) (last : Option Reply) (why : Refusal) → (last ≡ Some (reply.Refused why) → ⊥)
+    → cond (not there) (refuse BadHandle) (cond none (Some (reply.Bytes [])) (cond long (refuse TooLong) last))
+    ≡ Some (reply.Refused why) → wants_room why ≡ false
+read_tested false none long last why never e =
+    let is : BadHandle ≡ why = cc in subst (λ (x : Refusal). wants_room x ≡ false) is refl
+read_tested true true long last why never e = absurd cc
+read_tested true false true last why never e =
+    let is : TooLong ≡ why = cc in subst (λ (x : Refusal). wants_room x ≡ false) is refl
+read_tested true false false last why never e = absurd (never e)
+
+read_refused : (s new : State) (h : HandleId) (o n : ℕ) (why : Refusal) → Step s (event.Read h o n) (reply.Refused why) new
+    → wants_room why ≡ false
+read_refused s new h o n why step =
+    let f = handle_file s h.0 in
+    let count = read_count s f o n in
+    elim (answered (tests s (event.Read h o n)) s (event.Read h o n) (reply.Refused why) new step) [
+      | inl a ↦ read_tested (is_open s h.0) (count == 0) (nat_lt MAX_TOUCHED (touched_count s.sizes.page o count))
+          (stopped s f (read_stop s f o count)) why (stops_unrefused s f (read_stop s f o count) why) a.0
+      | inr a ↦ absurd a.1
+    ]
+
+pub read_unwanted : (h : HandleId) (o n : ℕ) (old new : HeldSeen) (before after : SeatSeen) (d : Denied)
+    → under.IsDenied (event.Read h o n) old new before after d → wants_room d.refusal ≡ false
+read_unwanted h o n old new before after d q = go d.refusal d.slip q
+  where
+    go : (r : Refusal) (k : Option Slip) → under.DeniedBy (event.Read h o n) old new before after r k → wants_room r ≡ false
+    go r None q = subst (λ (x : Refusal). wants_room x ≡ false) (sym q.0) refl
+    go r (Some slip) q = read_refused old.core.state new.core.state h o n r q.step
+
+pub wants_pass : (why : Refusal) → wants_room why ≡ true → is_for_now why ≡ true
+wants_pass NoFrame e = refl
+wants_pass DirtyLimit e = refl
+wants_pass why e = absurd cc
+
+pub lost_unwanted : (sizes : Sizes) (name : ℕ) (seat : SeatSeen) (d : Denied) → wants_room d.refusal ≡ false
+    → IsLost sizes name seat d
+lost_unwanted sizes name seat d other wants = absurd cc
+
+-- ---- no page is idle
+
+none_idle : (idle : Bool) → cond idle None (Some reply.NoneIdle) ≡ Some reply.NoneIdle → idle ≡ false
+none_idle true e = absurd cc
+none_idle false e = refl
+
+pub evict_none : (page : Option (FileId × PageIndex)) (n : ℕ) (x y z : HeldSeen) (a b c : SeatSeen) (first slip : Slip)
+    → Made event.Age (reply.Aged n) x y a b first → Made event.Evict (evicted page) y z b c slip → is_some page ≡ false
+    → (has_idle x.core.state ≡ false) × (z.core.state ≡ x.core.state)
+evict_none (Some p) n x y z a b c first slip m q e = absurd cc
+evict_none None n x y z a b c first slip m q e =
+    let s = y.core.state in
+    let aged : s ≡ x.core.state = m.step.1 in
+    let idle : (has_idle s ≡ false) × (z.core.state ≡ s) =
+    elim (answered (tests s event.Evict) s event.Evict reply.NoneIdle z.core.state q.step) [
+      | inl k ↦ (none_idle (has_idle s) k.0, k.1)
+      | inr k ↦ absurd k.1
+    ] in
+    (ap has_idle (sym aged) ∙ idle.0, idle.1 ∙ aged)
+
+-- ---- the entry of the refusal
+
+lost_by : (sizes : Sizes) (name : ℕ) (e : Event) (why : Refusal) (old new : HeldSeen) (before at after : SeatSeen) (slip : Slip)
+    → Made e (reply.Refused why) old new before at slip → After sizes name new.log.history new.core.state
+    → IsCrammed why new.core.state → Goes at after → IsRoomLost sizes name why after slip
+lost_by sizes name e why old new before at after slip m legal crammed goes =
+    let entry : Entry = entry_of before.number e (reply.Refused why) in
+    let long : length at.list ≡ slip.place + 1 =
+    ap length (m.entered.sees ∙ m.entered.history) ∙ length_push old.log.history entry
+    ∙ ap (λ n. n + 1) (sym m.entered.placed.1) in
+    let there : take (slip.place + 1) after.list ≡ at.list =
+    ap (take (slip.place + 1)) (sym goes.grows.1) ∙ take-append-le (slip.place + 1) at.list goes.grows.0 (omega (arith, long))
+    ∙ take_all (slip.place + 1) at.list (omega (arith, long)) in
+    let more : length at.list ≤ length after.list = prefix_length at.list after.list goes.grows in
+    record {
+      state = new.core.state;
+      seen = omega (arith, long, more);
+      leaves = subst (λ l. After sizes name l new.core.state) (sym (there ∙ m.entered.sees)) legal;
+      crammed = crammed;
+    }
+
+-- an event was refused, and it stands if the cache is crammed
+pub lost_denied : (sizes : Sizes) (name : ℕ) (e : Event) (old new : HeldSeen) (before at after : SeatSeen) (first d : Denied)
+    → under.IsDenied e old new before at first → After sizes name new.log.history new.core.state → Goes at after
+    → (wants_room d.refusal ≡ true → (d ≡ first) × IsCrammed d.refusal new.core.state) → IsLost sizes name after d
+lost_denied sizes name e old new before at after first d q legal goes f = λ wants.
+    let k = f wants in
+    let there = go first.refusal first.slip q (subst (λ (x : Denied). wants_room x.refusal ≡ true) k.0 wants)
+    (subst (λ (x : Denied). IsCrammed x.refusal new.core.state) k.0 k.1) in
+    subst (λ (x : Denied). (slip : Slip) × (x.slip ≡ Some slip) × IsRoomLost sizes name x.refusal after slip) (sym k.0) there
+  where
+    go : (r : Refusal) (o : Option Slip) → under.DeniedBy e old new before at r o → wants_room r ≡ true
+        → IsCrammed r new.core.state → (slip : Slip) × (o ≡ Some slip) × IsRoomLost sizes name r after slip
+    go r None q wants crammed =
+        let other : wants_room r ≡ false = subst (λ (x : Refusal). wants_room x ≡ false) (sym q.0) refl in absurd cc
+    go r (Some slip) q wants crammed = (slip, refl, lost_by sizes name e r old new before at after slip q legal crammed goes)
