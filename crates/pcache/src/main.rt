@@ -31,8 +31,8 @@ use std::thread::Threads;
 use std::time::SystemTime;
 use storm::{Weather, run_storm};
 use storm_text::say_usage;
-use textline::Stop;
 use textline::words::number;
+use textline::{Printer, Stop};
 
 /// What the program is asked to do.
 #[derive(Drop)]
@@ -47,8 +47,15 @@ fn main(rt: HostRuntime) -> ExitCode {
     let status = match request_of(&rt) {
         Ok(Request::Run) => run_streams(&rt),
         Ok(Request::Storm(words)) => {
-            let (mut out, mut err) = (rt.stdout(), rt.stderr());
-            run_threads(&rt, rt.alloc(), &words, weather(&rt), &mut out, &mut err)
+            let mut out = Printer::new(rt.alloc(), rt.stdout());
+            run_threads(
+                &rt,
+                rt.alloc(),
+                &words,
+                weather(&rt),
+                &mut out,
+                &mut rt.stderr(),
+            )
         }
         Ok(Request::Neither) => {
             let _ = say_usage(&mut rt.stderr());
@@ -97,7 +104,10 @@ fn run_streams(rt: &HostRuntime) -> u8
         BufReader::new(alloc, rt.stdin()),
         BufWriter::new(alloc, rt.stdout()),
     ) {
-        (Ok(reader), Ok(mut out)) => run_script(alloc, reader, &mut out, &mut rt.stderr()),
+        (Ok(reader), Ok(out)) => {
+            let mut out = Printer::new(alloc, out);
+            run_script(alloc, reader, &mut out, &mut rt.stderr()).status()
+        }
         _ => say_stop(&mut rt.stderr(), Stop::Memory),
     }
 }
@@ -108,7 +118,7 @@ fn run_threads<R: Threads + Wait + Files<File = File> + Sync, W: Write, E: Write
     alloc: Global,
     owned: &[String],
     weather: Weather,
-    out: &mut W,
+    out: &mut Printer<W>,
     err: &mut E,
 ) -> u8 {
     let mut words = Vec::new(alloc);

@@ -27,6 +27,7 @@ use std::marker::Brand;
 use std::sync::Wait;
 use std::thread::{Threads, join, map_vec};
 use storm_text::{Fault, Options, say_usage, tell};
+use textline::Printer;
 use trail::{FullTrail, first_odd};
 
 /// Bytes of a page, and how many blocks the device has.
@@ -63,10 +64,10 @@ pub fn run_storm<R: Threads + Wait + Files<File = File> + Sync, W: Write, E: Wri
     alloc: Global,
     arguments: &[&str],
     weather: Weather,
-    out: &mut W,
+    out: &mut Printer<W>,
     err: &mut E,
 ) -> u8
-    ensures told { StormTells arguments.now result (W.contents out.old) (W.contents out.new) }
+    ensures told { StormTells arguments.now result (W.contents out.old.writer) (W.contents out.new.writer) }
 {
     let Some(options) = Options::parse(arguments) else {
         let _ = say_usage(err);

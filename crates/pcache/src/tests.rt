@@ -11,6 +11,7 @@ use std::process::Abort;
 use std::sync::Wait;
 use std::test::Fail;
 use std::thread::Threads;
+use textline::Printer;
 use trail::{Entry, FullTrail, Reserve, Trail, first_odd};
 
 /// No end is owed.
@@ -36,14 +37,15 @@ fn check<R: Abort + Threads + Wait + Files<File = File> + Sync>(
     alloc: Global,
     row: Row<'_>,
 ) -> Result<(), Fail> {
-    let mut output = Vec::new(alloc);
+    let mut out = Printer::new(alloc, Vec::new(alloc));
     let mut message = Vec::new(alloc);
     let weather = Weather {
         seed: 1,
         faults: row.faults,
     };
-    let status = run_storm(rt, alloc, row.words, weather, &mut output, &mut message);
-    assert_eq!(rt; std::str::from_utf8(output.as_slice())?, row.output);
+    let status = run_storm(rt, alloc, row.words, weather, &mut out, &mut message);
+    let output = std::str::from_utf8(out.writer.as_slice())?;
+    assert_eq!(rt; output, row.output);
     assert_eq!(rt; std::str::from_utf8(message.as_slice())?, row.message);
     assert_eq!(rt; status, row.status);
     Ok(())

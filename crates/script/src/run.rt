@@ -69,7 +69,11 @@ pub fn say<E: Write>(err: &mut E, stop: Stop) -> std::io::Result<()>
 }
 
 /// Runs the lines of a script, in a session that they begin with their first command.
-fn run_lines<R: BufRead + Drop, W: Write>(alloc: Global, reader: R, out: &mut Printer<W>) -> Result<(), Stop>
+fn run_lines<R: BufRead + Drop, W: Write>(
+    alloc: Global,
+    reader: R,
+    out: &mut Printer<W>,
+) -> Result<(), Stop>
     ensures { IfSome (R.remaining reader) (λ script. Ends (lines_of script) result (W.contents out.old.writer) (W.contents out.new.writer)) }
 {
     let mut lines = Lines::new(alloc, reader);
@@ -269,7 +273,11 @@ fn sync_file<W: Write>(
 }
 
 /// Polls a handle, and prints what it is told.
-fn poll_handle<W: Write>(session: &mut Session, handle: HandleId, out: &mut Printer<W>) -> Result<(), Stop>
+fn poll_handle<W: Write>(
+    session: &mut Session,
+    handle: HandleId,
+    out: &mut Printer<W>,
+) -> Result<(), Stop>
     ensures { (printed : List ℕ) × PollsHandle session.old handle.0 printed session.new × Writes result printed (W.contents out.old.writer) (W.contents out.new.writer) }
 {
     print_polled(out, session.poll(handle))
