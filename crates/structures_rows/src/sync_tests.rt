@@ -3,9 +3,7 @@
 ghost use Rattle.std.specs.Prelude.{◌≡◌, ◌<◌, false};
 ghost use Rattle.writeback.specs.Flights.{is_full};
 
-use crate::{
-    Requests, SyncStep, Syncs, begin_write, end_write, flush_pick, sync_begin, sync_pick, sync_step,
-};
+use crate::checks::{check, same};
 use mapping::{FoundPage, Mapping};
 use pc_types::limits::LAST_PAGE;
 use pc_types::{
@@ -14,6 +12,9 @@ use pc_types::{
 use std::alloc::Global;
 use std::process::Abort;
 use std::test::Fail;
+use writeback::{
+    Requests, SyncStep, Syncs, begin_write, end_write, flush_pick, sync_begin, sync_pick, sync_step,
+};
 
 const FILE: FileId = FileId(0);
 
@@ -44,9 +45,9 @@ fn assert_tags(
     towrite: bool,
 ) {
     let page = PageIndex(page);
-    assert_eq!(rt; pages.has_tag(page, Tag::Dirty), dirty);
-    assert_eq!(rt; pages.has_tag(page, Tag::Writeback), writeback);
-    assert_eq!(rt; pages.has_tag(page, Tag::Towrite), towrite);
+    same(rt, pages.has_tag(page, Tag::Dirty), dirty);
+    same(rt, pages.has_tag(page, Tag::Writeback), writeback);
+    same(rt, pages.has_tag(page, Tag::Towrite), towrite);
 }
 
 /// Begins the write of a page.
@@ -65,7 +66,7 @@ fn expect_room(rt: &impl Abort, requests: &Requests)
 
 /// The write with this serial ends well.
 fn end(rt: &impl Abort, pages: &mut Mapping, requests: &mut Requests, serial: u64, page: u64) {
-    assert!(rt; requests.end(Serial(serial)).is_some());
+    check(rt, requests.end(Serial(serial)).is_some());
     end_write(pages, PageIndex(page), false);
 }
 
@@ -89,7 +90,7 @@ fn step(pages: &Mapping, requests: &Requests, syncs: &Syncs) -> Option<SyncStep>
 #[test]
 fn a_flush_takes_the_lowest_idle_dirty_page(rt: HostRuntime) -> Result<(), Fail> {
     let mut pages = four_pages(rt.alloc())?;
-    assert_eq!(rt; flush_pick(&pages), None);
+    same(&rt, flush_pick(&pages), None);
 
     // Page 0 is DIRTY and its write is in flight, page 1 is clean.
     pages.set_tags(
@@ -98,12 +99,12 @@ fn a_flush_takes_the_lowest_idle_dirty_page(rt: HostRuntime) -> Result<(), Fail>
     )?;
     pages.set_tags(PageIndex(2), Tags::none().with(Tag::Dirty))?;
     pages.set_tags(PageIndex(3), Tags::none().with(Tag::Dirty))?;
-    assert_eq!(rt; flush_pick(&pages), Some(found(2)));
+    same(&rt, flush_pick(&pages), Some(found(2)));
     begin_write(&mut pages, PageIndex(2));
     assert_tags(&rt, &pages, 2, false, true, false);
-    assert_eq!(rt; flush_pick(&pages), Some(found(3)));
+    same(&rt, flush_pick(&pages), Some(found(3)));
     begin_write(&mut pages, PageIndex(3));
-    assert_eq!(rt; flush_pick(&pages), None);
+    same(&rt, flush_pick(&pages), None);
 
     // A write that ends well keeps a DIRTY that was set meanwhile, and one that fails sets it.
     end_write(&mut pages, PageIndex(0), false);
@@ -112,7 +113,7 @@ fn a_flush_takes_the_lowest_idle_dirty_page(rt: HostRuntime) -> Result<(), Fail>
     assert_tags(&rt, &pages, 2, false, false, false);
     end_write(&mut pages, PageIndex(3), true);
     assert_tags(&rt, &pages, 3, true, false, false);
-    assert_eq!(rt; flush_pick(&pages), Some(found(0)));
+    same(&rt, flush_pick(&pages), Some(found(0)));
     Ok(())
 }
 
@@ -123,7 +124,7 @@ fn a_sync_writes_what_was_dirty_as_it_began(rt: HostRuntime) -> Result<(), Fail>
     let mut syncs = Syncs::new();
     pages.tag(PageIndex(0), Tag::Dirty)?;
     pages.tag(PageIndex(2), Tag::Dirty)?;
-    assert_eq!(rt; begin_all(&mut syncs), Ok(SyncId(0)));
+    same(&rt, begin_all(&mut syncs), Ok(SyncId(0)));
     sync_begin(&mut pages, PageIndex(0), PageIndex(LAST_PAGE));
     assert_tags(&rt, &pages, 0, true, false, true);
     assert_tags(&rt, &pages, 1, false, false, false);
@@ -131,27 +132,27 @@ fn a_sync_writes_what_was_dirty_as_it_began(rt: HostRuntime) -> Result<(), Fail>
     // Page 1 is made DIRTY after the sync began.
     pages.tag(PageIndex(1), Tag::Dirty)?;
     let next = step(&pages, &requests, &syncs);
-    assert_eq!(rt; next, Some(SyncStep::Start(found(0))));
-    assert_eq!(rt; start(&rt, &mut pages, &mut requests, 0), Serial(0));
+    same(&rt, next, Some(SyncStep::Start(found(0))));
+    same(&rt, start(&rt, &mut pages, &mut requests, 0), Serial(0));
     syncs.started(SyncId(0), PageIndex(0));
-    assert_eq!(rt; picked(&pages, &syncs), Some(found(2)));
+    same(&rt, picked(&pages, &syncs), Some(found(2)));
     let next = step(&pages, &requests, &syncs);
-    assert_eq!(rt; next, Some(SyncStep::Start(found(2))));
-    assert_eq!(rt; start(&rt, &mut pages, &mut requests, 2), Serial(1));
+    same(&rt, next, Some(SyncStep::Start(found(2))));
+    same(&rt, start(&rt, &mut pages, &mut requests, 2), Serial(1));
     syncs.started(SyncId(0), PageIndex(2));
 
     // Nothing is left to start: it awaits both writes, the oldest first.
     let next = step(&pages, &requests, &syncs);
-    assert_eq!(rt; next, Some(SyncStep::Await(PageIndex(0), Serial(2))));
+    same(&rt, next, Some(SyncStep::Await(PageIndex(0), Serial(2))));
     syncs.set_bound(SyncId(0), Serial(2));
-    assert_eq!(rt; start(&rt, &mut pages, &mut requests, 1), Serial(2));
+    same(&rt, start(&rt, &mut pages, &mut requests, 1), Serial(2));
     end(&rt, &mut pages, &mut requests, 0, 0);
     let next = step(&pages, &requests, &syncs);
-    assert_eq!(rt; next, Some(SyncStep::Await(PageIndex(2), Serial(2))));
+    same(&rt, next, Some(SyncStep::Await(PageIndex(2), Serial(2))));
     end(&rt, &mut pages, &mut requests, 1, 2);
 
     // The write of page 1 began later, and is none of its own.
-    assert_eq!(rt; step(&pages, &requests, &syncs), Some(SyncStep::Over));
+    same(&rt, step(&pages, &requests, &syncs), Some(SyncStep::Over));
     assert_tags(&rt, &pages, 1, false, true, false);
     Ok(())
 }
@@ -162,30 +163,33 @@ fn a_sync_waits_for_an_old_write_and_writes_anew(rt: HostRuntime) -> Result<(), 
     let mut requests = Requests::new();
     let mut syncs = Syncs::new();
     pages.tag(PageIndex(0), Tag::Dirty)?;
-    assert_eq!(rt; start(&rt, &mut pages, &mut requests, 0), Serial(0));
+    same(&rt, start(&rt, &mut pages, &mut requests, 0), Serial(0));
     pages.tag(PageIndex(0), Tag::Dirty)?;
-    assert_eq!(rt; begin_all(&mut syncs), Ok(SyncId(0)));
+    same(&rt, begin_all(&mut syncs), Ok(SyncId(0)));
     sync_begin(&mut pages, PageIndex(0), PageIndex(LAST_PAGE));
     assert_tags(&rt, &pages, 0, true, true, true);
-    assert_eq!(rt;
+    same(
+        &rt,
         step(&pages, &requests, &syncs),
-        Some(SyncStep::Held(PageIndex(0)))
+        Some(SyncStep::Held(PageIndex(0))),
     );
     end(&rt, &mut pages, &mut requests, 0, 0);
     assert_tags(&rt, &pages, 0, true, false, true);
-    assert_eq!(rt;
+    same(
+        &rt,
         step(&pages, &requests, &syncs),
-        Some(SyncStep::Start(found(0)))
+        Some(SyncStep::Start(found(0))),
     );
-    assert_eq!(rt; start(&rt, &mut pages, &mut requests, 0), Serial(1));
+    same(&rt, start(&rt, &mut pages, &mut requests, 0), Serial(1));
     syncs.started(SyncId(0), PageIndex(0));
     assert_tags(&rt, &pages, 0, false, true, false);
-    assert_eq!(rt;
+    same(
+        &rt,
         step(&pages, &requests, &syncs),
-        Some(SyncStep::Await(PageIndex(0), Serial(2)))
+        Some(SyncStep::Await(PageIndex(0), Serial(2))),
     );
     end(&rt, &mut pages, &mut requests, 1, 0);
-    assert_eq!(rt; step(&pages, &requests, &syncs), Some(SyncStep::Over));
+    same(&rt, step(&pages, &requests, &syncs), Some(SyncStep::Over));
     Ok(())
 }
 
@@ -195,15 +199,16 @@ fn a_sync_awaits_what_others_started(rt: HostRuntime) -> Result<(), Fail> {
     let mut requests = Requests::new();
     let mut syncs = Syncs::new();
     pages.tag(PageIndex(0), Tag::Dirty)?;
-    assert_eq!(rt; begin_all(&mut syncs), Ok(SyncId(0)));
+    same(&rt, begin_all(&mut syncs), Ok(SyncId(0)));
     sync_begin(&mut pages, PageIndex(0), PageIndex(LAST_PAGE));
-    assert_eq!(rt; start(&rt, &mut pages, &mut requests, 0), Serial(0));
-    assert_eq!(rt;
+    same(&rt, start(&rt, &mut pages, &mut requests, 0), Serial(0));
+    same(
+        &rt,
         step(&pages, &requests, &syncs),
-        Some(SyncStep::Await(PageIndex(0), Serial(1)))
+        Some(SyncStep::Await(PageIndex(0), Serial(1))),
     );
     end(&rt, &mut pages, &mut requests, 0, 0);
-    assert_eq!(rt; step(&pages, &requests, &syncs), Some(SyncStep::Over));
+    same(&rt, step(&pages, &requests, &syncs), Some(SyncStep::Over));
     Ok(())
 }
 
@@ -215,9 +220,10 @@ fn a_sync_of_a_range_leaves_other_pages(rt: HostRuntime) -> Result<(), Fail> {
     for page in 0..4u64 {
         pages.tag(PageIndex(page), Tag::Dirty)?;
     }
-    assert_eq!(rt;
+    same(
+        &rt,
         syncs.begin(HandleId(0), PageIndex(1), PageIndex(2), 0),
-        Ok(SyncId(0))
+        Ok(SyncId(0)),
     );
     sync_begin(&mut pages, PageIndex(1), PageIndex(2));
     assert_tags(&rt, &pages, 0, true, false, false);
@@ -225,23 +231,29 @@ fn a_sync_of_a_range_leaves_other_pages(rt: HostRuntime) -> Result<(), Fail> {
     assert_tags(&rt, &pages, 3, true, false, false);
 
     // Page 0 is written by another, and the sync starts the pages of its range.
-    assert_eq!(rt; start(&rt, &mut pages, &mut requests, 0), Serial(0));
+    same(&rt, start(&rt, &mut pages, &mut requests, 0), Serial(0));
     for page in 1..3u64 {
-        assert_eq!(rt;
+        same(
+            &rt,
             step(&pages, &requests, &syncs),
-            Some(SyncStep::Start(found(page)))
+            Some(SyncStep::Start(found(page))),
         );
-        assert_eq!(rt; start(&rt, &mut pages, &mut requests, page), Serial(page));
+        same(
+            &rt,
+            start(&rt, &mut pages, &mut requests, page),
+            Serial(page),
+        );
         syncs.started(SyncId(0), PageIndex(page));
     }
 
     // It awaits these alone.
-    assert_eq!(rt;
+    same(
+        &rt,
         step(&pages, &requests, &syncs),
-        Some(SyncStep::Await(PageIndex(1), Serial(3)))
+        Some(SyncStep::Await(PageIndex(1), Serial(3))),
     );
     end(&rt, &mut pages, &mut requests, 1, 1);
     end(&rt, &mut pages, &mut requests, 2, 2);
-    assert_eq!(rt; step(&pages, &requests, &syncs), Some(SyncStep::Over));
+    same(&rt, step(&pages, &requests, &syncs), Some(SyncStep::Over));
     Ok(())
 }

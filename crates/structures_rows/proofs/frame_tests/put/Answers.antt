@@ -1,7 +1,7 @@
 use Rattle.std.proofs.Common.{◌∙◌, ap, ℕ, List, length, slice_set}
 use Rattle.frames.specs.Table.{Table}
 use Rattle.frames.proofs.RowLemmas.{with_row-whole}
-use Rattle.frames.proofs.tests.put.Goals as goal
+use Rattle.structures_rows.proofs.frame_tests.put.Goals as goal
 
 pub returns : goal.returns
 returns c =

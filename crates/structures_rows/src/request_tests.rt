@@ -3,10 +3,11 @@
 ghost use Rattle.std.specs.Prelude.{◌≡◌, ◌<◌, ◌-◌, ◌^◌, false};
 ghost use Rattle.writeback.specs.Flights.{is_full};
 
-use crate::{Progress, Request, Requests, Syncs};
+use crate::checks::{check, same};
 use pc_types::limits::LAST_PAGE;
 use pc_types::{BlockNo, FileId, HandleId, Kind, PageIndex, Refusal, Serial, SyncId};
 use std::process::Abort;
+use writeback::{Progress, Request, Requests, Syncs};
 
 /// Stops the test where no request may begin.
 fn expect_room(rt: &impl Abort, requests: &Requests)
@@ -63,75 +64,84 @@ fn flush(requests: &mut Requests, file: FileId, page: PageIndex, block: BlockNo)
 #[test]
 fn serials_count_from_0(rt: HostRuntime) {
     let mut requests = Requests::new();
-    assert_eq!(rt; requests.next_serial(), Serial(0));
-    assert_eq!(rt; requests.len(), 0);
-    assert_eq!(rt; begin(&rt, &mut requests, Kind::Fill, 0, 3), Serial(0));
-    assert_eq!(rt; begin(&rt, &mut requests, Kind::Flush, 1, 4), Serial(1));
-    assert_eq!(rt; requests.len(), 2);
-    assert_eq!(rt;
+    same(&rt, requests.next_serial(), Serial(0));
+    same(&rt, requests.len(), 0);
+    same(&rt, begin(&rt, &mut requests, Kind::Fill, 0, 3), Serial(0));
+    same(&rt, begin(&rt, &mut requests, Kind::Flush, 1, 4), Serial(1));
+    same(&rt, requests.len(), 2);
+    same(
+        &rt,
         requests.get(Serial(0)),
-        Some(request(Kind::Fill, 0, 3, false))
+        Some(request(Kind::Fill, 0, 3, false)),
     );
-    assert_eq!(rt;
+    same(
+        &rt,
         requests.get(Serial(1)),
-        Some(request(Kind::Flush, 1, 4, false))
+        Some(request(Kind::Flush, 1, 4, false)),
     );
-    assert_eq!(rt; requests.get(Serial(2)), None);
-    assert!(rt; requests.is_filling(FileId(0), PageIndex(3)));
-    assert!(rt; !requests.is_filling(FileId(1), PageIndex(4)));
-    assert!(rt; !requests.is_filling(FileId(0), PageIndex(4)));
+    same(&rt, requests.get(Serial(2)), None);
+    check(&rt, requests.is_filling(FileId(0), PageIndex(3)));
+    check(&rt, !requests.is_filling(FileId(1), PageIndex(4)));
+    check(&rt, !requests.is_filling(FileId(0), PageIndex(4)));
 
     // An end takes the request out once, and its serial is not given again.
-    assert_eq!(rt;
+    same(
+        &rt,
         requests.end(Serial(0)),
-        Some(request(Kind::Fill, 0, 3, false))
+        Some(request(Kind::Fill, 0, 3, false)),
     );
-    assert_eq!(rt; requests.end(Serial(0)), None);
-    assert_eq!(rt; requests.get(Serial(0)), None);
-    assert_eq!(rt; requests.len(), 1);
-    assert_eq!(rt; begin(&rt, &mut requests, Kind::Fill, 0, 3), Serial(2));
+    same(&rt, requests.end(Serial(0)), None);
+    same(&rt, requests.get(Serial(0)), None);
+    same(&rt, requests.len(), 1);
+    same(&rt, begin(&rt, &mut requests, Kind::Fill, 0, 3), Serial(2));
 }
 
 #[test]
 fn a_full_table_ends_in_any_order(rt: HostRuntime) {
     let mut requests = Requests::new();
     for page in 0..64u64 {
-        assert_eq!(rt;
+        same(
+            &rt,
             begin(&rt, &mut requests, Kind::Flush, 0, page),
-            Serial(page)
+            Serial(page),
         );
     }
-    assert!(rt; requests.is_full());
-    assert_eq!(rt;
+    check(&rt, requests.is_full());
+    same(
+        &rt,
         flush(&mut requests, FileId(0), PageIndex(64), BlockNo(7)),
-        None
+        None,
     );
-    assert_eq!(rt; requests.len(), 64);
+    same(&rt, requests.len(), 64);
 
     // The odd ones end first, then the even ones from the last.
     for k in 0..32u64 {
-        assert_eq!(rt;
+        same(
+            &rt,
             requests.end(Serial(2 * k + 1)),
-            Some(request(Kind::Flush, 0, 2 * k + 1, false))
+            Some(request(Kind::Flush, 0, 2 * k + 1, false)),
         );
     }
-    assert!(rt; !requests.is_full());
+    check(&rt, !requests.is_full());
     let all = progress(0, LAST_PAGE);
     for k in 0..32u64 {
         let serial = 62 - 2 * k;
-        assert_eq!(rt;
+        same(
+            &rt,
             requests.first_awaited(FileId(0), &all, Serial(64)),
-            Some((Serial(0), PageIndex(0)))
+            Some((Serial(0), PageIndex(0))),
         );
-        assert_eq!(rt;
+        same(
+            &rt,
             requests.end(Serial(serial)),
-            Some(request(Kind::Flush, 0, serial, false))
+            Some(request(Kind::Flush, 0, serial, false)),
         );
     }
-    assert_eq!(rt; requests.len(), 0);
-    assert_eq!(rt;
+    same(&rt, requests.len(), 0);
+    same(
+        &rt,
         flush(&mut requests, FileId(0), PageIndex(64), BlockNo(7)),
-        Some(Serial(64))
+        Some(Serial(64)),
     );
 }
 
@@ -145,27 +155,32 @@ fn a_cut_drops_requests_and_keeps_them(rt: HostRuntime) {
 
     // Page 1 of file 0 and all pages of file 1 stay.
     requests.drop_from(FileId(0), PageIndex(2));
-    assert!(rt; !requests.is_filling(FileId(0), PageIndex(3)));
-    assert_eq!(rt; requests.len(), 4);
-    assert_eq!(rt;
+    check(&rt, !requests.is_filling(FileId(0), PageIndex(3)));
+    same(&rt, requests.len(), 4);
+    same(
+        &rt,
         requests.get(Serial(0)),
-        Some(request(Kind::Flush, 0, 1, false))
+        Some(request(Kind::Flush, 0, 1, false)),
     );
-    assert_eq!(rt;
+    same(
+        &rt,
         requests.get(Serial(1)),
-        Some(request(Kind::Flush, 0, 2, true))
+        Some(request(Kind::Flush, 0, 2, true)),
     );
-    assert_eq!(rt;
+    same(
+        &rt,
         requests.get(Serial(2)),
-        Some(request(Kind::Fill, 0, 3, true))
+        Some(request(Kind::Fill, 0, 3, true)),
     );
-    assert_eq!(rt;
+    same(
+        &rt,
         requests.get(Serial(3)),
-        Some(request(Kind::Flush, 1, 2, false))
+        Some(request(Kind::Flush, 1, 2, false)),
     );
-    assert_eq!(rt;
+    same(
+        &rt,
         requests.end(Serial(1)),
-        Some(request(Kind::Flush, 0, 2, true))
+        Some(request(Kind::Flush, 0, 2, true)),
     );
 }
 
@@ -179,32 +194,45 @@ fn the_oldest_flush_is_awaited_first(rt: HostRuntime) {
 
     // Fills and other files do not count, nor do requests at or past the bound.
     let all = progress(0, LAST_PAGE);
-    assert_eq!(rt;
+    same(
+        &rt,
         requests.first_awaited(FileId(0), &all, Serial(4)),
-        Some((Serial(2), PageIndex(9)))
+        Some((Serial(2), PageIndex(9))),
     );
-    assert_eq!(rt; requests.first_awaited(FileId(0), &all, Serial(2)), None);
-    assert_eq!(rt; requests.first_awaited(FileId(2), &all, Serial(4)), None);
+    same(
+        &rt,
+        requests.first_awaited(FileId(0), &all, Serial(2)),
+        None,
+    );
+    same(
+        &rt,
+        requests.first_awaited(FileId(2), &all, Serial(4)),
+        None,
+    );
 
     // Nor do pages past the range, or before it.
-    assert_eq!(rt;
+    same(
+        &rt,
         requests.first_awaited(FileId(0), &progress(7, 8), Serial(4)),
-        Some((Serial(3), PageIndex(8)))
+        Some((Serial(3), PageIndex(8))),
     );
-    assert_eq!(rt;
+    same(
+        &rt,
         requests.first_awaited(FileId(0), &progress(0, 7), Serial(4)),
-        None
+        None,
     );
-    assert_eq!(rt;
+    same(
+        &rt,
         requests.first_awaited(FileId(0), &progress(10, 11), Serial(4)),
-        None
+        None,
     );
 
     // A dropped flush does not count.
     requests.drop_from(FileId(0), PageIndex(9));
-    assert_eq!(rt;
+    same(
+        &rt,
         requests.first_awaited(FileId(0), &all, Serial(4)),
-        Some((Serial(3), PageIndex(8)))
+        Some((Serial(3), PageIndex(8))),
     );
 }
 
@@ -212,44 +240,49 @@ fn the_oldest_flush_is_awaited_first(rt: HostRuntime) {
 fn syncs_take_the_lowest_number(rt: HostRuntime) {
     let mut syncs = Syncs::new();
     for k in 0..64u64 {
-        assert_eq!(rt; begin_sync(&mut syncs, k + 100, k), Ok(SyncId(k)));
+        same(&rt, begin_sync(&mut syncs, k + 100, k), Ok(SyncId(k)));
     }
-    assert_eq!(rt; begin_sync(&mut syncs, 1, 0), Err(Refusal::TooManyInFlight));
-    assert!(rt; syncs.uses_handle(HandleId(163)));
-    assert!(rt; !syncs.uses_handle(HandleId(1)));
-    assert_eq!(rt; syncs.get(SyncId(64)), None);
+    same(
+        &rt,
+        begin_sync(&mut syncs, 1, 0),
+        Err(Refusal::TooManyInFlight),
+    );
+    check(&rt, syncs.uses_handle(HandleId(163)));
+    check(&rt, !syncs.uses_handle(HandleId(1)));
+    same(&rt, syncs.get(SyncId(64)), None);
 
-    assert!(rt; syncs.remove(SyncId(5)).is_some());
-    assert!(rt; syncs.remove(SyncId(5)).is_none());
-    assert!(rt; !syncs.uses_handle(HandleId(105)));
-    assert!(rt; syncs.remove(SyncId(3)).is_some());
-    assert_eq!(rt; begin_sync(&mut syncs, 1, 0), Ok(SyncId(3)));
-    assert_eq!(rt; begin_sync(&mut syncs, 1, 0), Ok(SyncId(5)));
+    check(&rt, syncs.remove(SyncId(5)).is_some());
+    check(&rt, syncs.remove(SyncId(5)).is_none());
+    check(&rt, !syncs.uses_handle(HandleId(105)));
+    check(&rt, syncs.remove(SyncId(3)).is_some());
+    same(&rt, begin_sync(&mut syncs, 1, 0), Ok(SyncId(3)));
+    same(&rt, begin_sync(&mut syncs, 1, 0), Ok(SyncId(5)));
 }
 
 #[test]
 fn a_sync_notes_what_it_started(rt: HostRuntime) {
     let mut syncs = Syncs::new();
-    assert_eq!(rt;
+    same(
+        &rt,
         syncs.begin(HandleId(2), PageIndex(3), PageIndex(6), 9),
-        Ok(SyncId(0))
+        Ok(SyncId(0)),
     );
     let mut expected = progress(3, 6);
-    assert_eq!(rt; expected.cursor(), PageIndex(3));
-    assert!(rt; expected.has_page(PageIndex(6)));
-    assert!(rt; !expected.has_page(PageIndex(7)));
-    assert_eq!(rt; syncs.get(SyncId(0)), Some(expected));
+    same(&rt, expected.cursor(), PageIndex(3));
+    check(&rt, expected.has_page(PageIndex(6)));
+    check(&rt, !expected.has_page(PageIndex(7)));
+    same(&rt, syncs.get(SyncId(0)), Some(expected));
     syncs.started(SyncId(0), PageIndex(4));
     expected.started = Some(PageIndex(4));
-    assert_eq!(rt; expected.cursor(), PageIndex(5));
-    assert_eq!(rt; syncs.get(SyncId(0)), Some(expected));
+    same(&rt, expected.cursor(), PageIndex(5));
+    same(&rt, syncs.get(SyncId(0)), Some(expected));
     syncs.set_bound(SyncId(0), Serial(11));
     expected.bound = Some(Serial(11));
-    assert_eq!(rt; syncs.get(SyncId(0)), Some(expected));
+    same(&rt, syncs.get(SyncId(0)), Some(expected));
 
     // Where there is no such sync nothing is done.
     syncs.started(SyncId(70), PageIndex(4));
     syncs.set_bound(SyncId(1), Serial(11));
-    assert_eq!(rt; syncs.get(SyncId(0)), Some(expected));
-    assert_eq!(rt; syncs.remove(SyncId(0)), Some(expected));
+    same(&rt, syncs.get(SyncId(0)), Some(expected));
+    same(&rt, syncs.remove(SyncId(0)), Some(expected));
 }

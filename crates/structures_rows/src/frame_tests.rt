@@ -3,7 +3,7 @@
 ghost use Rattle.std.specs.Prelude.{◌≡◌, true, length, slice_set};
 ghost use Rattle.frames.specs.Table.{is_taken};
 
-use crate::Frames;
+use frames::Frames;
 use pc_types::{FileId, FrameId, Geometry, PageIndex, Refusal};
 use std::process::Abort;
 use std::test::Fail;

@@ -2,7 +2,8 @@
 
 ghost use Rattle.std.specs.Prelude.{◌<◌};
 
-use crate::{FoundPage, MAX_PAGES, MappedPage, Mapping, Totals};
+use crate::checks::{check, same};
+use mapping::{FoundPage, MAX_PAGES, MappedPage, Mapping, Totals};
 use pc_types::{FrameId, PageIndex, Refusal, Tag, Tags};
 use std::alloc::Global;
 use std::process::Abort;
@@ -14,7 +15,7 @@ fn assert_totals(rt: &impl Abort, mapping: &Mapping, dirty: u64, writeback: u64,
         writeback,
         towrite,
     };
-    assert_eq!(rt; mapping.totals(), totals);
+    same(rt, mapping.totals(), totals);
 }
 
 /// A tag counts once, however often it is set, and is taken off once.
@@ -22,10 +23,14 @@ fn assert_totals(rt: &impl Abort, mapping: &Mapping, dirty: u64, writeback: u64,
 fn a_tag_counts_once(rt: HostRuntime) -> Result<(), Fail> {
     let page = PageIndex(3);
     let mut mapping = Mapping::new(rt.alloc());
-    assert_eq!(rt; mapping.page(page), None);
+    same(&rt, mapping.page(page), None);
     mapping.insert_page(page, FrameId(9))?;
-    assert_eq!(rt; mapping.insert_page(page, FrameId(8)), Err(Refusal::Busy));
-    assert_eq!(rt; mapping.page_count(), 1);
+    same(
+        &rt,
+        mapping.insert_page(page, FrameId(8)),
+        Err(Refusal::Busy),
+    );
+    same(&rt, mapping.page_count(), 1);
     assert_totals(&rt, &mapping, 0, 0, 0);
     mapping.tag(page, Tag::Dirty)?;
     assert_totals(&rt, &mapping, 1, 0, 0);
@@ -39,8 +44,8 @@ fn a_tag_counts_once(rt: HostRuntime) -> Result<(), Fail> {
     assert_totals(&rt, &mapping, 1, 0, 1);
     mapping.untag(page, Tag::Writeback);
     assert_totals(&rt, &mapping, 1, 0, 1);
-    assert!(rt; mapping.has_tag(page, Tag::Towrite));
-    assert!(rt; !mapping.has_tag(page, Tag::Writeback));
+    check(&rt, mapping.has_tag(page, Tag::Towrite));
+    check(&rt, !mapping.has_tag(page, Tag::Writeback));
     Ok(())
 }
 
@@ -49,7 +54,7 @@ fn a_tag_counts_once(rt: HostRuntime) -> Result<(), Fail> {
 fn a_page_goes_with_its_tags(rt: HostRuntime) -> Result<(), Fail> {
     let page = PageIndex(3);
     let mut mapping = Mapping::new(rt.alloc());
-    assert_eq!(rt; mapping.size(), 0);
+    same(&rt, mapping.size(), 0);
     mapping.set_size(100);
     mapping.insert_page(page, FrameId(9))?;
     mapping.tag(page, Tag::Dirty)?;
@@ -58,19 +63,23 @@ fn a_page_goes_with_its_tags(rt: HostRuntime) -> Result<(), Fail> {
         frame: FrameId(9),
         tags: Tags::none().with(Tag::Dirty).with(Tag::Towrite),
     };
-    assert_eq!(rt; mapping.page(page), Some(dirty));
-    assert_eq!(rt; mapping.frame(page), Some(FrameId(9)));
-    assert_eq!(rt; mapping.frame(PageIndex(4)), None);
-    assert_eq!(rt; mapping.tagged_frame(page, Tag::Towrite), Some(FrameId(9)));
-    assert_eq!(rt; mapping.tagged_frame(page, Tag::Writeback), None);
-    assert_eq!(rt; mapping.tagged_frame(PageIndex(4), Tag::Dirty), None);
+    same(&rt, mapping.page(page), Some(dirty));
+    same(&rt, mapping.frame(page), Some(FrameId(9)));
+    same(&rt, mapping.frame(PageIndex(4)), None);
+    same(
+        &rt,
+        mapping.tagged_frame(page, Tag::Towrite),
+        Some(FrameId(9)),
+    );
+    same(&rt, mapping.tagged_frame(page, Tag::Writeback), None);
+    same(&rt, mapping.tagged_frame(PageIndex(4), Tag::Dirty), None);
     // a write of the page begins: one call clears DIRTY and TOWRITE and sets WRITEBACK
     mapping.set_tags(page, Tags::none().with(Tag::Writeback))?;
     assert_totals(&rt, &mapping, 0, 1, 0);
-    assert_eq!(rt; mapping.remove_page(page), Some(FrameId(9)));
+    same(&rt, mapping.remove_page(page), Some(FrameId(9)));
     assert_totals(&rt, &mapping, 0, 0, 0);
-    assert_eq!(rt; mapping.page_count(), 0);
-    assert_eq!(rt; mapping.size(), 100);
+    same(&rt, mapping.page_count(), 0);
+    same(&rt, mapping.size(), 100);
     Ok(())
 }
 
@@ -95,15 +104,16 @@ fn no_page_no_tag(rt: HostRuntime) -> Result<(), Fail> {
     let mut mapping = Mapping::new(rt.alloc());
     mapping.insert_page(PageIndex(0), FrameId(0))?;
     let absent = PageIndex(1);
-    assert_eq!(rt; mapping.tag(absent, Tag::Dirty), Err(Refusal::NoEntry));
-    assert_eq!(rt;
+    same(&rt, mapping.tag(absent, Tag::Dirty), Err(Refusal::NoEntry));
+    same(
+        &rt,
         mapping.set_tags(absent, Tags::none()),
-        Err(Refusal::NoEntry)
+        Err(Refusal::NoEntry),
     );
     mapping.untag(absent, Tag::Dirty);
-    assert!(rt; !mapping.has_tag(absent, Tag::Dirty));
-    assert_eq!(rt; mapping.remove_page(absent), None);
-    assert_eq!(rt; mapping.page_count(), 1);
+    check(&rt, !mapping.has_tag(absent, Tag::Dirty));
+    same(&rt, mapping.remove_page(absent), None);
+    same(&rt, mapping.page_count(), 1);
     assert_totals(&rt, &mapping, 0, 0, 0);
     Ok(())
 }
@@ -128,9 +138,9 @@ fn assert_found(rt: &impl Abort, found: Option<FoundPage>, at: usize) {
             page: PageIndex(page_at(rt, at)),
             frame: FrameId(at as u32),
         };
-        assert_eq!(rt; found, Some(page));
+        same(rt, found, Some(page));
     } else {
-        assert_eq!(rt; found, None);
+        same(rt, found, None);
     }
 }
 
@@ -159,7 +169,7 @@ fn pages_are_found(rt: HostRuntime) -> Result<(), Fail> {
     let empty = Mapping::new(rt.alloc());
     assert_found(&rt, empty.find_page(PageIndex(0)), 7);
     let mut mapping = far_pages(&rt, rt.alloc())?;
-    assert_eq!(rt; mapping.page_count(), 7);
+    same(&rt, mapping.page_count(), 7);
     for at in 0..7usize {
         let page = page_at(&rt, at);
         assert_found(&rt, mapping.find_page(PageIndex(page)), at);
@@ -167,9 +177,9 @@ fn pages_are_found(rt: HostRuntime) -> Result<(), Fail> {
     }
     for at in 0..7usize {
         let removed = mapping.remove_page(PageIndex(page_at(&rt, at)));
-        assert_eq!(rt; removed, Some(FrameId(at as u32)));
+        same(&rt, removed, Some(FrameId(at as u32)));
     }
-    assert_eq!(rt; mapping.page_count(), 0);
+    same(&rt, mapping.page_count(), 0);
     Ok(())
 }
 
@@ -200,17 +210,17 @@ fn tagged_pages_are_retagged(rt: HostRuntime) -> Result<(), Fail> {
     let mut mapping = far_tagged_pages(&rt, rt.alloc())?;
     let (first, last) = (PageIndex(0), PageIndex(u64::MAX));
     let count = mapping.retag(PageIndex(1), PageIndex(4_096), Tag::Dirty, Tag::Towrite);
-    assert_eq!(rt; count, 2);
+    same(&rt, count, 2);
     assert_totals(&rt, &mapping, 4, 0, 2);
-    assert!(rt; mapping.has_tag(PageIndex(4_095), Tag::Towrite));
-    assert!(rt; !mapping.has_tag(first, Tag::Towrite));
+    check(&rt, mapping.has_tag(PageIndex(4_095), Tag::Towrite));
+    check(&rt, !mapping.has_tag(first, Tag::Towrite));
     let count = mapping.retag(first, last, Tag::Dirty, Tag::Towrite);
-    assert_eq!(rt; count, 4);
+    same(&rt, count, 4);
     assert_totals(&rt, &mapping, 4, 0, 4);
     let count = mapping.retag(PageIndex(2), PageIndex(1), Tag::Dirty, Tag::Writeback);
-    assert_eq!(rt; count, 0);
+    same(&rt, count, 0);
     let count = mapping.retag(first, last, Tag::Writeback, Tag::Dirty);
-    assert_eq!(rt; count, 0);
+    same(&rt, count, 0);
     assert_totals(&rt, &mapping, 4, 0, 4);
     for at in 0..7usize {
         mapping.remove_page(PageIndex(page_at(&rt, at)));

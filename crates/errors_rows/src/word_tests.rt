@@ -1,6 +1,7 @@
 ghost use Rattle.std.specs.Prelude.{◌≡◌, Some, None};
 
-use crate::word::ErrWord;
+use crate::checks::check;
+use errseq::{ErrWord, answers_as_recorded};
 use pc_types::{ErrCode, Refusal};
 use std::test::*;
 
@@ -12,19 +13,25 @@ fn a_code_is_told_once(rt: HostRuntime) -> Result<(), Fail> {
 
     // The first recording leaves the counter, and a handle that opens then is told of it too.
     word.set(five);
-    assert!(rt; word == ErrWord(0x5) && word.sample() == ErrWord(0));
+    check(&rt, word == ErrWord(0x5) && word.sample() == ErrWord(0));
 
     // A look is told the code once.
-    assert!(rt; word.check_and_advance(&mut since) == Some(5));
-    assert!(rt; since == ErrWord(0x1005) && word == ErrWord(0x1005));
-    assert!(rt; word.check_and_advance(&mut since).is_none() && word == ErrWord(0x1005));
+    check(&rt, word.check_and_advance(&mut since) == Some(5));
+    check(&rt, since == ErrWord(0x1005) && word == ErrWord(0x1005));
+    check(
+        &rt,
+        word.check_and_advance(&mut since).is_none() && word == ErrWord(0x1005),
+    );
 
     // A recording after a look raises the counter; one that nobody looked at doesn't.
     word.set(five);
-    assert!(rt; word == ErrWord(0x2005));
+    check(&rt, word == ErrWord(0x2005));
     word.set(full);
-    assert!(rt; word == ErrWord(0x201c));
-    assert!(rt; word.check(ErrWord(0x1005)) == Some(28) && word == ErrWord(0x201c));
+    check(&rt, word == ErrWord(0x201c));
+    check(
+        &rt,
+        word.check(ErrWord(0x1005)) == Some(28) && word == ErrWord(0x201c),
+    );
     Ok(())
 }
 
@@ -51,10 +58,13 @@ fn a_sample_that_never_stood_loses_an_error(rt: HostRuntime) -> Result<(), Fail>
 
     // The first code comes again, and handle B looks at it.
     word.set(five);
-    assert!(rt; word.check_and_advance(&mut ErrWord(0)) == Some(5));
+    check(&rt, word.check_and_advance(&mut ErrWord(0)) == Some(5));
 
     // With the word that A meant to write as its sample it is told nothing of the two codes, and with 0 of the last.
-    assert!(rt; word.check(meant).is_none() && word.check(ErrWord(0)) == Some(5));
+    check(
+        &rt,
+        word.check(meant).is_none() && word.check(ErrWord(0)) == Some(5),
+    );
     Ok(())
 }
 
@@ -62,7 +72,7 @@ fn a_sample_that_never_stood_loses_an_error(rt: HostRuntime) -> Result<(), Fail>
 fn the_counter_wraps(rt: HostRuntime) -> Result<(), Fail> {
     let mut word = ErrWord(0xffff_ffff_ffff_f005);
     word.set(code(5)?);
-    assert!(rt; word == ErrWord(0x5));
+    check(&rt, word == ErrWord(0x5));
     Ok(())
 }
 
@@ -72,26 +82,38 @@ fn a_word_of_32_bits_is_carried_over(rt: HostRuntime) -> Result<(), Fail> {
     let mut word = ErrWord::carry(0xffff_f005)?;
     let mut since = word.sample();
     word.set(code(5)?);
-    assert!(rt; word == ErrWord(0x1_0000_0005));
-    assert!(rt; word.check_and_advance(&mut since) == Some(5));
+    check(&rt, word == ErrWord(0x1_0000_0005));
+    check(&rt, word.check_and_advance(&mut since) == Some(5));
 
     // A word without a code was never one, but for that of a file on which nothing was recorded.
-    assert!(rt; ErrWord::carry(0x1000).err() == Some(Refusal::BadCode));
-    assert!(rt; ErrWord::carry(0x2000).err() == Some(Refusal::BadCode));
-    assert!(rt; ErrWord::carry(0)? == ErrWord(0) && ErrWord::carry(0x1005)? == ErrWord(0x1005));
+    check(&rt, ErrWord::carry(0x1000).err() == Some(Refusal::BadCode));
+    check(&rt, ErrWord::carry(0x2000).err() == Some(Refusal::BadCode));
+    check(
+        &rt,
+        ErrWord::carry(0)? == ErrWord(0) && ErrWord::carry(0x1005)? == ErrWord(0x1005),
+    );
     Ok(())
 }
 
 #[test]
 fn each_call_by_itself(rt: HostRuntime) -> Result<(), Fail> {
     let word = ErrWord(0x201c);
-    assert!(rt; !word.is_seen() && word.code() == 28);
-    assert!(rt; word.with_seen() == ErrWord(0x301c) && word.with_seen().is_seen());
-    assert!(rt; word.with_seen().sample() == ErrWord(0x301c));
-    assert!(rt; word.without_seen() == word && word.with_seen().without_seen() == word);
-    assert!(rt; word.to_u64() == 0x201c && ErrWord::from_u64(0x201c) == word);
-    assert!(rt; told_once(code(28)?) == (Some(28), None));
-    crate::answers_as_recorded();
+    check(&rt, !word.is_seen() && word.code() == 28);
+    check(
+        &rt,
+        word.with_seen() == ErrWord(0x301c) && word.with_seen().is_seen(),
+    );
+    check(&rt, word.with_seen().sample() == ErrWord(0x301c));
+    check(
+        &rt,
+        word.without_seen() == word && word.with_seen().without_seen() == word,
+    );
+    check(
+        &rt,
+        word.to_u64() == 0x201c && ErrWord::from_u64(0x201c) == word,
+    );
+    check(&rt, told_once(code(28)?) == (Some(28), None));
+    answers_as_recorded();
     Ok(())
 }
 

@@ -1,7 +1,7 @@
 //! Worked rows. What a call requires is asserted before it.
 ghost use Rattle.blockmap.specs.Keys.{IsPage};
 
-use crate::{BlockMap, Placed};
+use blockmap::{BlockMap, Placed};
 use pc_types::{BlockNo, FileId, PageIndex, Refusal};
 use std::process::Abort;
 

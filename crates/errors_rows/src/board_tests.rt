@@ -3,9 +3,8 @@ ghost use Rattle.errseq.specs.Word.{IsWithinTurn};
 ghost use Rattle.errseq.specs.Recorded.{raised};
 ghost use Rattle.std.specs.Thread.{IsSync};
 
-use crate::board::Board;
-use crate::recorder::Recorder;
-use crate::tokens::{Pass, Receipt};
+use crate::checks::check;
+use errboard::{Board, Pass, Receipt, Recorder};
 use pc_types::{ErrCode, FileId, Refusal};
 use std::snapshot::Snapshot;
 use std::test::*;
@@ -17,22 +16,34 @@ fn each_pass_is_told_once(rt: HostRuntime) -> Result<(), Fail> {
     let (board, mut recorder) = Board::new(rt.alloc())?;
     let mut first = recorder.pass(FileId(0))?;
     let mut second = recorder.pass(FileId(0))?;
-    assert!(rt; board.poll(&mut first).is_none());
+    check(&rt, board.poll(&mut first).is_none());
 
     // Each pass that was made before a recording is told of it once, and so is one made before anybody was told.
     let mut receipt = recorder.record(FileId(0), ErrCode::new(5)?);
     let mut third = recorder.pass(FileId(0))?;
-    assert!(rt; learns(&board, &mut first, &mut receipt) == Some(ErrCode::IO));
-    assert!(rt; board.poll(&mut first).is_none());
-    assert!(rt; polled(&board, &mut second) == Some(5) && polled(&board, &mut second).is_none());
-    assert!(rt; polled(&board, &mut third) == Some(5) && polled(&board, &mut third).is_none());
+    check(
+        &rt,
+        learns(&board, &mut first, &mut receipt) == Some(ErrCode::IO),
+    );
+    check(&rt, board.poll(&mut first).is_none());
+    check(
+        &rt,
+        polled(&board, &mut second) == Some(5) && polled(&board, &mut second).is_none(),
+    );
+    check(
+        &rt,
+        polled(&board, &mut third) == Some(5) && polled(&board, &mut third).is_none(),
+    );
 
     // One made after that isn't, and each is told of the next recording.
     let mut fourth = recorder.pass(FileId(0))?;
-    assert!(rt; board.poll(&mut fourth).is_none());
+    check(&rt, board.poll(&mut fourth).is_none());
     recorder.record(FileId(0), ErrCode::new(28)?);
     recorder.level(&mut fourth);
-    assert!(rt; polled(&board, &mut fourth) == Some(28) && polled(&board, &mut first) == Some(28));
+    check(
+        &rt,
+        polled(&board, &mut fourth) == Some(28) && polled(&board, &mut first) == Some(28),
+    );
     recorder.retire(first);
     Ok(())
 }
@@ -63,26 +74,32 @@ fn looks_twice(board: &Board, pass: &mut Pass) -> (Option<ErrCode>, Option<ErrCo
 fn a_recorder_that_polls_alone_remembers_it(rt: HostRuntime) -> Result<(), Fail> {
     let (board, mut recorder) = Board::new(rt.alloc())?;
     let mut first = recorder.pass_remembered(FileId(0))?;
-    assert!(rt; recorder.poll(&mut first).is_none());
+    check(&rt, recorder.poll(&mut first).is_none());
 
     // Whoever comes after a recording and before the first poll is told of it, and nobody who comes after that poll.
     recorder.record(FileId(0), ErrCode::IO);
     let mut second = recorder.pass_remembered(FileId(0))?;
     let mut third = recorder.pass_remembered(FileId(0))?;
-    assert!(rt; recorder.poll(&mut second) == Some(ErrCode::IO));
+    check(&rt, recorder.poll(&mut second) == Some(ErrCode::IO));
     let mut fourth = recorder.pass_remembered(FileId(0))?;
-    assert!(rt; recorder.poll(&mut fourth).is_none() && recorder.poll(&mut second).is_none());
-    assert!(rt; recorder.poll(&mut first) == Some(ErrCode::IO));
-    assert!(rt; recorder.poll(&mut third) == Some(ErrCode::IO));
+    check(
+        &rt,
+        recorder.poll(&mut fourth).is_none() && recorder.poll(&mut second).is_none(),
+    );
+    check(&rt, recorder.poll(&mut first) == Some(ErrCode::IO));
+    check(&rt, recorder.poll(&mut third) == Some(ErrCode::IO));
 
     // It does not remember a poll of the board's, which a pass of the usual kind finds in the word.
     recorder.record(FileId(0), ErrCode::IO);
-    assert!(rt; board.poll(&mut fourth) == Some(ErrCode::IO));
+    check(&rt, board.poll(&mut fourth) == Some(ErrCode::IO));
     let mut usual = recorder.pass(FileId(0))?;
     let mut again = recorder.pass_remembered(FileId(0))?;
-    assert!(rt; board.poll(&mut usual).is_none());
-    assert!(rt; recorder.poll(&mut again) == Some(ErrCode::IO));
-    assert!(rt; recorder.pass_remembered(FileId(64)).err() == Some(Refusal::NoSuchFile));
+    check(&rt, board.poll(&mut usual).is_none());
+    check(&rt, recorder.poll(&mut again) == Some(ErrCode::IO));
+    check(
+        &rt,
+        recorder.pass_remembered(FileId(64)).err() == Some(Refusal::NoSuchFile),
+    );
     Ok(())
 }
 
@@ -91,14 +108,17 @@ fn files_are_apart(rt: HostRuntime) -> Result<(), Fail> {
     let (board, mut recorder) = Board::new(rt.alloc())?;
     let mut first = recorder.pass(FileId(0))?;
     let mut last = recorder.pass(FileId(63))?;
-    assert!(rt; recorder.pass(FileId(64)).err() == Some(Refusal::NoSuchFile));
+    check(
+        &rt,
+        recorder.pass(FileId(64)).err() == Some(Refusal::NoSuchFile),
+    );
 
     // A recording of one file, and its receipt, tell a pass of another nothing.
     let mut receipt = recorder.record(FileId(63), ErrCode::IO);
     board.tell(&mut first, &mut receipt);
-    assert!(rt; board.poll(&mut first).is_none());
+    check(&rt, board.poll(&mut first).is_none());
     let (code, none, _between) = looks_twice(&board, &mut last);
-    assert!(rt; code == Some(ErrCode::IO) && none.is_none());
+    check(&rt, code == Some(ErrCode::IO) && none.is_none());
     Ok(())
 }
 
@@ -113,18 +133,30 @@ fn a_board_begins_with_carried_words(rt: HostRuntime) -> Result<(), Fail> {
     // A code that nobody was told of is told to a new pass, and one that somebody was told of is not.
     let mut untold = recorder.pass(FileId(0))?;
     let mut told = recorder.pass(FileId(1))?;
-    assert!(rt; polled(&board, &mut untold) == Some(5) && board.poll(&mut untold).is_none());
-    assert!(rt; board.poll(&mut told).is_none());
+    check(
+        &rt,
+        polled(&board, &mut untold) == Some(5) && board.poll(&mut untold).is_none(),
+    );
+    check(&rt, board.poll(&mut told).is_none());
 
     // What is recorded from now on is told to each, and past the end of the old counter too.
     let mut last = recorder.pass(FileId(2))?;
     let mut none = recorder.pass(FileId(3))?;
-    assert!(rt; board.poll(&mut last).is_none() && board.poll(&mut none).is_none());
+    check(
+        &rt,
+        board.poll(&mut last).is_none() && board.poll(&mut none).is_none(),
+    );
     for file in 0..4 {
         recorder.record(FileId(file), ErrCode::new(28)?);
     }
-    assert!(rt; polled(&board, &mut untold) == Some(28) && polled(&board, &mut told) == Some(28));
-    assert!(rt; polled(&board, &mut last) == Some(28) && polled(&board, &mut none) == Some(28));
+    check(
+        &rt,
+        polled(&board, &mut untold) == Some(28) && polled(&board, &mut told) == Some(28),
+    );
+    check(
+        &rt,
+        polled(&board, &mut last) == Some(28) && polled(&board, &mut none) == Some(28),
+    );
     Ok(())
 }
 
@@ -132,7 +164,10 @@ fn a_board_begins_with_carried_words(rt: HostRuntime) -> Result<(), Fail> {
 fn a_word_without_a_code_is_not_carried(rt: HostRuntime) -> Result<(), Fail> {
     let mut words = [0; 64];
     words[63] = 0x1000;
-    assert!(rt; Board::from_words(rt.alloc(), &words).err() == Some(Refusal::BadCode));
+    check(
+        &rt,
+        Board::from_words(rt.alloc(), &words).err() == Some(Refusal::BadCode),
+    );
     Ok(())
 }
 
@@ -153,8 +188,11 @@ fn every_pass_learns_of_the_last_recording(rt: HostRuntime) -> Result<(), Fail> 
     board.tell(&mut first, &mut receipt);
     let met = polled(&board, &mut first).or(met);
     let also = polled(&board, &mut second).or(also);
-    assert!(rt; met == Some(ROUNDS) && also == Some(ROUNDS));
-    assert!(rt; board.poll(&mut first).is_none() && board.poll(&mut second).is_none());
+    check(&rt, met == Some(ROUNDS) && also == Some(ROUNDS));
+    check(
+        &rt,
+        board.poll(&mut first).is_none() && board.poll(&mut second).is_none(),
+    );
     recorder.retire(first);
     recorder.retire(second);
     Ok(())

@@ -1,5 +1,6 @@
 //! Worked rows and limits.
-use crate::IdAlloc;
+use crate::checks::{check, same};
+use idalloc::IdAlloc;
 use pc_types::Refusal;
 use std::test::Fail;
 
@@ -8,12 +9,12 @@ fn numbers_come_lowest_first(rt: HostRuntime) -> Result<(), Fail> {
     let mut ids = IdAlloc::new(rt.alloc());
     for want in 1..4u64 {
         let n = ids.alloc(1, 3)?;
-        assert_eq!(rt; n, want);
+        same(&rt, n, want);
     }
     // No number from 1 to 3 is left.
-    assert_eq!(rt; ids.alloc(1, 3), Err(Refusal::NoId));
+    same(&rt, ids.alloc(1, 3), Err(Refusal::NoId));
     ids.free(2)?;
-    assert_eq!(rt; ids.alloc(1, 3)?, 2);
+    same(&rt, ids.alloc(1, 3)?, 2);
     Ok(())
 }
 
@@ -22,32 +23,32 @@ fn a_cyclic_number_is_the_next_and_then_begins_again(rt: HostRuntime) -> Result<
     let mut ids = IdAlloc::new(rt.alloc());
     for want in 1..4u64 {
         let given = ids.alloc_cyclic(1, 3)?;
-        assert_eq!(rt; given, (want, false));
+        same(&rt, given, (want, false));
     }
     ids.free(1)?;
-    assert_eq!(rt; ids.alloc_cyclic(1, 3)?, (1, true));
-    assert_eq!(rt; ids.alloc_cyclic(1, 3), Err(Refusal::NoId));
+    same(&rt, ids.alloc_cyclic(1, 3)?, (1, true));
+    same(&rt, ids.alloc_cyclic(1, 3), Err(Refusal::NoId));
     Ok(())
 }
 
 #[test]
 fn a_used_number_is_told_and_given_back_once(rt: HostRuntime) -> Result<(), Fail> {
     let mut ids = IdAlloc::new(rt.alloc());
-    assert_eq!(rt; ids.alloc(7, 9)?, 7);
-    assert!(rt; ids.is_used(7));
-    assert!(rt; !ids.is_used(8));
-    assert_eq!(rt; ids.free(8), Err(Refusal::NoEntry));
+    same(&rt, ids.alloc(7, 9)?, 7);
+    check(&rt, ids.is_used(7));
+    check(&rt, !ids.is_used(8));
+    same(&rt, ids.free(8), Err(Refusal::NoEntry));
     ids.free(7)?;
-    assert!(rt; !ids.is_used(7));
-    assert_eq!(rt; ids.free(7), Err(Refusal::NoEntry));
+    check(&rt, !ids.is_used(7));
+    same(&rt, ids.free(7), Err(Refusal::NoEntry));
     Ok(())
 }
 
 #[test]
 fn no_number_is_below_a_minimum_that_is_above_the_maximum(rt: HostRuntime) -> Result<(), Fail> {
     let mut ids = IdAlloc::new(rt.alloc());
-    assert_eq!(rt; ids.alloc(4, 3), Err(Refusal::NoId));
-    assert_eq!(rt; ids.alloc_cyclic(u64::MAX, 0), Err(Refusal::NoId));
+    same(&rt, ids.alloc(4, 3), Err(Refusal::NoId));
+    same(&rt, ids.alloc_cyclic(u64::MAX, 0), Err(Refusal::NoId));
     Ok(())
 }
 
@@ -57,24 +58,24 @@ fn the_last_number_is_given_and_the_next_wraps(rt: HostRuntime) -> Result<(), Fa
     // The last 32 numbers fill the last bitmap, behind which no other can stand.
     for n in 0..32u64 {
         let given = ids.alloc_cyclic(u64::MAX - 31, u64::MAX)?;
-        assert_eq!(rt; given, (18_446_744_073_709_551_584 + n, false));
+        same(&rt, given, (18_446_744_073_709_551_584 + n, false));
     }
-    assert!(rt; ids.is_used(u64::MAX));
-    assert_eq!(rt; ids.alloc(u64::MAX - 31, u64::MAX), Err(Refusal::NoId));
+    check(&rt, ids.is_used(u64::MAX));
+    same(&rt, ids.alloc(u64::MAX - 31, u64::MAX), Err(Refusal::NoId));
     // After the last number the next is 0.
-    assert_eq!(rt; ids.alloc_cyclic(0, u64::MAX)?, (0, false));
+    same(&rt, ids.alloc_cyclic(0, u64::MAX)?, (0, false));
     ids.free(u64::MAX)?;
-    assert_eq!(rt; ids.alloc(u64::MAX, u64::MAX)?, u64::MAX);
+    same(&rt, ids.alloc(u64::MAX, u64::MAX)?, u64::MAX);
     Ok(())
 }
 
 #[test]
 fn holes_are_found_lowest_first_and_no_node_is_left(rt: HostRuntime) -> Result<(), Fail> {
     let mut ids = IdAlloc::new(rt.alloc());
-    assert_eq!(rt; ids.nodes(), 0);
+    same(&rt, ids.nodes(), 0);
     for want in 0..200u64 {
         let n = ids.alloc(0, 199)?;
-        assert_eq!(rt; n, want);
+        same(&rt, n, want);
     }
     // Holes in the middle of full bitmaps, at the ends of bitmaps, and a whole bitmap.
     for n in [199u64, 31, 32, 100, 63, 64] {
@@ -82,12 +83,12 @@ fn holes_are_found_lowest_first_and_no_node_is_left(rt: HostRuntime) -> Result<(
     }
     for want in [31u64, 32, 63, 64, 100, 199] {
         let n = ids.alloc(0, 199)?;
-        assert_eq!(rt; n, want);
+        same(&rt, n, want);
     }
     for n in 0..200u64 {
         ids.free(199 - n)?;
     }
-    assert_eq!(rt; ids.nodes(), 0);
-    assert_eq!(rt; ids.alloc(0, 0)?, 0);
+    same(&rt, ids.nodes(), 0);
+    same(&rt, ids.alloc(0, 0)?, 0);
     Ok(())
 }
