@@ -53,7 +53,7 @@ pub fn run_script<R: BufRead + Drop, W: Write, E: Write>(
     ensures answers { IfSome (R.remaining reader) (λ script. Ends (lines_of script) result.end (W.contents out.old.writer) (W.contents out.new.writer)) }
     ensures said { Says result (E.contents err.old) (E.contents err.new) }
 {
-    let end = run_lines(alloc, reader, out);
+    let end = run_and_flush(alloc, reader, out);
     let is_said = match end {
         Ok(()) => true,
         Err(stop) => say(err, stop).is_ok(),
@@ -68,6 +68,19 @@ pub fn say<E: Write>(err: &mut E, stop: Stop) -> std::io::Result<()>
     writeln!(err, "pcache: {stop}")
 }
 
+/// Runs the lines of a script, and hands on what they printed, also where they end early.
+fn run_and_flush<R: BufRead + Drop, W: Write>(
+    alloc: Global,
+    reader: R,
+    out: &mut Printer<W>,
+) -> Result<(), Stop>
+    ensures { IfSome (R.remaining reader) (λ script. Ends (lines_of script) result (W.contents out.old.writer) (W.contents out.new.writer)) }
+{
+    let end = run_lines(alloc, reader, out);
+    flush(&mut out.writer)?;
+    end
+}
+
 /// Runs the lines of a script, in a session that they begin with their first command.
 fn run_lines<R: BufRead + Drop, W: Write>(
     alloc: Global,
@@ -78,10 +91,7 @@ fn run_lines<R: BufRead + Drop, W: Write>(
 {
     let mut lines = Lines::new(alloc, reader);
     let mut session = None;
-    let end = answer_lines(alloc, &mut lines, &mut session, out);
-    // The answers before a stop are handed on all the same.
-    flush(&mut out.writer)?;
-    end
+    answer_lines(alloc, &mut lines, &mut session, out)
 }
 
 /// Runs the lines, one after the other.
