@@ -1,25 +1,19 @@
 -- What a command gives, and the line that asks for it.
-use Rattle.std.proofs.Common.{◌≡◌, ◌≢◌, ℕ, Bool, true, false, inr, List, Option, Some, None, Result, Ok, Err, IfErr, IfOk, OnOk, IsOk, IsOkUnless, refl, sym, ap, subst, ◌∙◌}
+use Rattle.std.proofs.Common.{◌≡◌, ◌≢◌, ℕ, Bool, true, false, inr, List, Option, Some, None, Result, Ok, Err, IfOk, IsOk, IsOkUnless, refl, sym, ap, subst}
 use Rattle.std.specs.Prelude.{◌↔◌, IsTrue, if◌then◌else◌}
-use Rattle.std.specs.Io.KnownBytes.{Appends}
 use Rattle.std.proofs.lemmas.Bool.{false≢true}
-use Rattle.std.specs.Result.{result_unwrap_or}
 use Rattle.pc_types.specs.Limits.{Sizes, is_geometry}
-use Rattle.pc_types.specs.declared.ids.HandleId.{HandleId}
-use Rattle.pc_types.specs.declared.ids.PageIndex.{PageIndex}
 use Rattle.pc_types.specs.declared.refusal.Refusal.{Refusal}
 use Rattle.pc_types.specs.declared.refusal.Refusal.TheVariants.{BadConfig}
-use Rattle.machine.specs.declared.event.Reply.{Reply}
 use Rattle.script.specs.declared.command.Command.{Command}
 use Rattle.script.specs.declared.command.Command.TheVariants as command
 use Rattle.textline.specs.declared.stop.Stop.{Stop}
 use Rattle.textline.specs.declared.stop.Stop.TheVariants.{Malformed, Input, Output, Memory}
-use Rattle.script.specs.Answers.{answer_of}
 use Rattle.textline.specs.Lines.{is_blank}
-use Rattle.textline.specs.Prints.{Writes, ended}
+use Rattle.textline.specs.Prints.{Writes}
 use Rattle.script.specs.Commands.{Means}
-use Rattle.script.specs.Runs.{Answers, CommandGives, ConfigGives, IsMisplaced, LineGives, SyncsFile, TellsTags, config_text, default_sizes, sizes_of, session_of_sizes}
-use Rattle.script.specs.Sessions.{Fsyncs, SessionSeen}
+use Rattle.script.specs.Runs.{Answers, CommandGives, ConfigGives, IsMisplaced, LineGives, default_sizes, sizes_of, session_of_sizes}
+use Rattle.script.specs.Sessions.{SessionSeen}
 use Rattle.script.proofs.CommandLemmas.{config_alone}
 
 -- a command whose answer was printed, or begun, or for which memory was refused

@@ -1,5 +1,5 @@
 -- What the steps of a world leave of its handles, its files and its serials.
-use Rattle.std.proofs.Common.{◌≡◌, ◌≢◌, ℕ, ◌+◌, ◌<◌, ◌≤◌, Bool, true, false, List, [], ◌∷◌, ◌++◌, length, refl, ap, sym}
+use Rattle.std.proofs.Common.{◌≡◌, ◌≢◌, ℕ, ◌+◌, ◌<◌, ◌≤◌, Bool, true, false, [], ◌∷◌, length, refl, ap, sym}
 use Rattle.std.proofs.Common.{subst, ◌∙◌, arith, inl, inr}
 use Rattle.std.specs.Prelude.{Option, Some, None, nat_le, slice_set, Result}
 use Rattle.std.specs.FinMap as finmap
@@ -27,10 +27,10 @@ use Rattle.machine.proofs.steps.Answered.{is_quiet}
 use Rattle.machine.proofs.steps.Cases.{Cases, IsVerdict, answered, by_cases, happened}
 use Rattle.machine.proofs.steps.Choices.{below, if_none, neither, none_of}
 use Rattle.machine.proofs.steps.Passed.{may_begin}
-use Rattle.runs.specs.World.{Acts, Ends}
+use Rattle.runs.specs.World.{Ends}
 use Rattle.world.specs.declared.step.Step.{Step as Made}
 use Rattle.world.specs.declared.step.Step.TheVariants as step
-use Rattle.world.specs.Stepping.{WorldSeen, world_of, IsMade, IsNotMade, CallReply, EndReply, FailReply, Fails, Steps}
+use Rattle.world.specs.Stepping.{WorldSeen, world_of, IsNotMade, CallReply, EndReply, FailReply, Fails, Steps}
 
 -- ---- a step of the cache
 
