@@ -39,28 +39,27 @@ use Rattle.cachecore.specs.declared.answers.TruncateAnswer.TheVariants as cut
 use Rattle.cachecore.specs.declared.answers.WriteAnswer.{WriteAnswer}
 use Rattle.cachecore.specs.declared.answers.WriteAnswer.TheVariants as write
 
+-- what a call answers, or that it is refused
+abbrev pub answered : {X : Type 0} → (X → Reply) → Result X Refusal → Reply
+answered says (Ok x) = says x
+answered says (Err r) = reply.Refused r
+
 abbrev pub created : Result FileId Refusal → Reply
-created (Ok f) = reply.File f
-created (Err r) = reply.Refused r
+created = answered reply.File
 
 abbrev pub opened : Result HandleId Refusal → Reply
-opened (Ok h) = reply.Handle h
-opened (Err r) = reply.Refused r
+opened = answered reply.Handle
 
 abbrev pub closed : Result Unit Refusal → Reply
-closed (Ok _) = reply.Closed
-closed (Err r) = reply.Refused r
+closed = answered (λ _. reply.Closed)
 
 abbrev pub sized : Result ℕ Refusal → Reply
-sized (Ok n) = reply.Size n
-sized (Err r) = reply.Refused r
+sized = answered reply.Size
 
 -- how many bytes at the front of `out` a read has set
 abbrev pub bytes_read : Result ReadAnswer Refusal → ℕ
 bytes_read (Ok (read.Bytes n)) = n
-bytes_read (Ok (read.Wait p)) = 0
-bytes_read (Ok (read.Miss p)) = 0
-bytes_read (Err r) = 0
+bytes_read _ = 0
 
 -- what a read answers, with the bytes that it left at the front of `out`
 abbrev pub was_read : Result ReadAnswer Refusal → List ℕ → Reply
@@ -136,8 +135,7 @@ OnFlushJob (Ok (flush.Job job)) P = P job
 OnFlushJob _ P = Unit {0}
 
 abbrev pub sync_begun : Result SyncId Refusal → Reply
-sync_begun (Ok n) = reply.Sync n
-sync_begun (Err r) = reply.Refused r
+sync_begun = answered reply.Sync
 
 abbrev pub sync_stepped : Result SyncStepped Refused → Reply
 sync_stepped (Ok (sync.Job job)) = reply.Job (record { 0 = job.serial })
@@ -165,8 +163,7 @@ OnSyncJob (Ok (sync.Job job)) P = P job
 OnSyncJob _ P = Unit {0}
 
 abbrev pub sync_dropped : Result Unit Refusal → Reply
-sync_dropped (Ok _) = reply.Dropped
-sync_dropped (Err r) = reply.Refused r
+sync_dropped = answered (λ _. reply.Dropped)
 
 -- how the device call of a finished job of this kind went, with these bytes in its buffer
 abbrev pub outcome_of : Kind → device.Outcome → List ℕ → Outcome

@@ -1,6 +1,7 @@
 //! Worked flushes, evictions and truncations, in a cache of 16-byte pages, 48 frames, a dirty limit of 16 and 64 blocks. The ends
 //! of requests are run by the tests of the world, which makes device calls.
 
+use crate::checks::{check, same};
 use blockdev::Buffer;
 use cachecore::{
     CacheCore, FlushBegun, PageTags, ReadAnswer, Refused, TruncateAnswer, WriteAnswer,
@@ -27,66 +28,78 @@ pub fn flushes(rt: &impl Abort, alloc: Global, core: &mut CacheCore) -> Result<(
     core.write(HANDLE, 0, b"\xaa")?;
     let begun = flush(alloc, core, FILE)?;
     let Ok(FlushBegun::Job(job)) = begun else {
-        assert!(rt; false);
+        check(rt, false);
         return Ok(());
     };
-    assert_eq!(rt; job.cache(), 7);
-    assert_eq!(rt; job.serial(), Serial(0));
-    assert!(rt; matches!(job.kind(), Kind::Flush));
-    assert_eq!(rt;
+    same(rt, job.cache(), 7);
+    same(rt, job.serial(), Serial(0));
+    check(rt, matches!(job.kind(), Kind::Flush));
+    same(
+        rt,
         job.bytes(),
-        b"\xaa\0\0\0\0\0\0\0\0\0\0\0\0\0\0\0".as_slice()
+        b"\xaa\0\0\0\0\0\0\0\0\0\0\0\0\0\0\0".as_slice(),
     );
-    assert_eq!(rt; core.flush_of(Serial(0)), Some(FILE));
-    assert_eq!(rt; core.flush_of(Serial(1)), None);
+    same(rt, core.flush_of(Serial(0)), Some(FILE));
+    same(rt, core.flush_of(Serial(1)), None);
     let writing = Tags::none().with(Tag::Writeback);
-    assert_eq!(rt;
+    same(
+        rt,
         core.tags(FILE, PageIndex(0)),
-        Ok(PageTags::Cached(writing))
+        Ok(PageTags::Cached(writing)),
     );
     let again = flush(alloc, core, FILE)?;
-    assert!(rt; matches!(again, Ok(FlushBegun::Nothing(_))));
+    check(rt, matches!(again, Ok(FlushBegun::Nothing(_))));
     let other = flush(alloc, core, FileId(1))?;
-    assert!(rt;
+    check(
+        rt,
         matches!(
             other,
             Err(Refused {
                 refusal: Refusal::NoSuchFile,
                 ..
             })
-        )
+        ),
     );
     Ok(())
 }
 
 pub fn evicts(rt: &impl Abort, alloc: Global, core: &mut CacheCore) -> Result<(), Refusal> {
     core.write(HANDLE, 20, b"\xff")?;
-    assert_eq!(rt; core.evict(), None);
+    same(rt, core.evict(), None);
     let buffer = Buffer::new(alloc, &core.geometry())?;
     let _ = core.fill_begin(HANDLE, PageIndex(0), buffer);
-    assert_eq!(rt; core.age(), 0);
-    assert_eq!(rt; core.evict(), Some((FILE, PageIndex(0))));
-    assert_eq!(rt; core.tags(FILE, PageIndex(0)), Ok(PageTags::Absent));
-    assert_eq!(rt; core.evict(), None);
+    same(rt, core.age(), 0);
+    same(rt, core.evict(), Some((FILE, PageIndex(0))));
+    same(rt, core.tags(FILE, PageIndex(0)), Ok(PageTags::Absent));
+    same(rt, core.evict(), None);
     let dirty = Tags::none().with(Tag::Dirty);
-    assert_eq!(rt; core.tags(FILE, PageIndex(1)), Ok(PageTags::Cached(dirty)));
+    same(
+        rt,
+        core.tags(FILE, PageIndex(1)),
+        Ok(PageTags::Cached(dirty)),
+    );
     Ok(())
 }
 
 pub fn truncates(rt: &impl Abort, core: &mut CacheCore) -> Result<(), Refusal> {
     core.write(HANDLE, 0, &[0xab; 40])?;
-    assert_eq!(rt; core.truncate(HANDLE, 20), Ok(TruncateAnswer::Done));
-    assert_eq!(rt; core.size(HANDLE), Ok(20));
-    assert_eq!(rt; core.tags(FILE, PageIndex(2)), Ok(PageTags::Absent));
-    assert_eq!(rt; core.truncate(HANDLE, 32), Ok(TruncateAnswer::Done));
+    same(rt, core.truncate(HANDLE, 20), Ok(TruncateAnswer::Done));
+    same(rt, core.size(HANDLE), Ok(20));
+    same(rt, core.tags(FILE, PageIndex(2)), Ok(PageTags::Absent));
+    same(rt, core.truncate(HANDLE, 32), Ok(TruncateAnswer::Done));
     let mut out = [9; 16];
-    assert_eq!(rt; core.read(HANDLE, 16, &mut out), Ok(ReadAnswer::Bytes(16)));
-    assert_eq!(rt; out, *b"\xab\xab\xab\xab\0\0\0\0\0\0\0\0\0\0\0\0");
-    assert_eq!(rt;
-        core.truncate(HANDLE, 1_099_511_627_777),
-        Err(Refusal::TooLarge)
+    same(
+        rt,
+        core.read(HANDLE, 16, &mut out),
+        Ok(ReadAnswer::Bytes(16)),
     );
-    assert_eq!(rt; core.truncate(HandleId(1), 0), Err(Refusal::BadHandle));
+    same(rt, out, *b"\xab\xab\xab\xab\0\0\0\0\0\0\0\0\0\0\0\0");
+    same(
+        rt,
+        core.truncate(HANDLE, 1_099_511_627_777),
+        Err(Refusal::TooLarge),
+    );
+    same(rt, core.truncate(HandleId(1), 0), Err(Refusal::BadHandle));
     Ok(())
 }
 
@@ -98,15 +111,20 @@ pub fn truncates_under_a_write(
 ) -> Result<(), Refusal> {
     core.write(HANDLE, 0, &[0x11; 16])?;
     let begun = flush(alloc, core, FILE)?;
-    assert!(rt; matches!(begun, Ok(FlushBegun::Job(_))));
-    assert_eq!(rt; core.truncate(HANDLE, 4), Ok(TruncateAnswer::Done));
+    check(rt, matches!(begun, Ok(FlushBegun::Job(_))));
+    same(rt, core.truncate(HANDLE, 4), Ok(TruncateAnswer::Done));
     let both = Tags::none().with(Tag::Dirty).with(Tag::Writeback);
-    assert_eq!(rt; core.tags(FILE, PageIndex(0)), Ok(PageTags::Cached(both)));
-    assert_eq!(rt; core.truncate(HANDLE, 0), Ok(TruncateAnswer::Done));
-    assert_eq!(rt; core.tags(FILE, PageIndex(0)), Ok(PageTags::Absent));
-    assert_eq!(rt;
+    same(
+        rt,
+        core.tags(FILE, PageIndex(0)),
+        Ok(PageTags::Cached(both)),
+    );
+    same(rt, core.truncate(HANDLE, 0), Ok(TruncateAnswer::Done));
+    same(rt, core.tags(FILE, PageIndex(0)), Ok(PageTags::Absent));
+    same(
+        rt,
         core.write(HANDLE, 0, b"\xbb"),
-        Ok(WriteAnswer::Wrote { count: 1, end: 1 })
+        Ok(WriteAnswer::Wrote { count: 1, end: 1 }),
     );
     Ok(())
 }

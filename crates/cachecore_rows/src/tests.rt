@@ -1,6 +1,7 @@
 //! Worked sequences of calls with their answers, in a cache of 16-byte pages, 48 frames, a dirty limit of 16 and 64 blocks.
-//! Every row is run by `over_a_cache`, the one place that drops a cache: the check is slow there.
+//! Every row is run by `over_a_cache`.
 
+use crate::checks::{check, same};
 use crate::page_life_tests::{evicts, flushes, truncates, truncates_under_a_write};
 use crate::sync_tests::{finishes, syncs, syncs_one_page};
 use blockdev::Buffer;
@@ -30,92 +31,112 @@ fn wrote(count: u64, end: u64) -> Result<WriteAnswer, Refusal> {
 
 fn appends(rt: &impl Abort, core: &mut CacheCore) {
     let mut out = [9; 10];
-    assert_eq!(rt; core.read(HANDLE, 0, &mut out), Ok(ReadAnswer::Bytes(0)));
-    assert_eq!(rt; out, [9; 10]);
-    assert_eq!(rt; core.size(HANDLE), Ok(0));
-    assert_eq!(rt; core.append(HANDLE, b"\xaa"), wrote(1, 1));
-    assert_eq!(rt; core.size(HANDLE), Ok(1));
-    assert_eq!(rt; core.append(HANDLE, b"\xbb"), wrote(1, 2));
-    assert_eq!(rt; core.read(HANDLE, 0, &mut out), Ok(ReadAnswer::Bytes(2)));
-    assert_eq!(rt; out, [0xaa, 0xbb, 9, 9, 9, 9, 9, 9, 9, 9]);
+    same(rt, core.read(HANDLE, 0, &mut out), Ok(ReadAnswer::Bytes(0)));
+    same(rt, out, [9; 10]);
+    same(rt, core.size(HANDLE), Ok(0));
+    same(rt, core.append(HANDLE, b"\xaa"), wrote(1, 1));
+    same(rt, core.size(HANDLE), Ok(1));
+    same(rt, core.append(HANDLE, b"\xbb"), wrote(1, 2));
+    same(rt, core.read(HANDLE, 0, &mut out), Ok(ReadAnswer::Bytes(2)));
+    same(rt, out, [0xaa, 0xbb, 9, 9, 9, 9, 9, 9, 9, 9]);
 }
 
 fn leaves_a_gap(rt: &impl Abort, alloc: Global, core: &mut CacheCore) -> Result<(), Refusal> {
     let mut out = [9; 21];
-    assert_eq!(rt; core.write(HANDLE, 20, b"\xff"), wrote(1, 21));
-    assert_eq!(rt;
+    same(rt, core.write(HANDLE, 20, b"\xff"), wrote(1, 21));
+    same(
+        rt,
         core.read(HANDLE, 0, &mut out),
-        Ok(ReadAnswer::Miss(PageIndex(0)))
+        Ok(ReadAnswer::Miss(PageIndex(0))),
     );
-    assert_eq!(rt; out, [9; 21]);
+    same(rt, out, [9; 21]);
     let filled = fill(alloc, core, PageIndex(0))?;
-    assert!(rt; matches!(filled, Ok(FillBegun::Filled(_))));
+    check(rt, matches!(filled, Ok(FillBegun::Filled(_))));
     let present = fill(alloc, core, PageIndex(0))?;
-    assert!(rt; matches!(present, Ok(FillBegun::Present(_))));
+    check(rt, matches!(present, Ok(FillBegun::Present(_))));
     let gone = fill(alloc, core, PageIndex(2))?;
-    assert!(rt; matches!(gone, Ok(FillBegun::Gone(_))));
-    assert_eq!(rt; core.read(HANDLE, 0, &mut out), Ok(ReadAnswer::Bytes(21)));
-    assert_eq!(rt; out, *b"\0\0\0\0\0\0\0\0\0\0\0\0\0\0\0\0\0\0\0\0\xff");
-    assert_eq!(rt; core.size(HANDLE), Ok(21));
-    assert_eq!(rt;
-        core.tags(FILE, PageIndex(0)),
-        Ok(PageTags::Cached(Tags::none()))
+    check(rt, matches!(gone, Ok(FillBegun::Gone(_))));
+    same(
+        rt,
+        core.read(HANDLE, 0, &mut out),
+        Ok(ReadAnswer::Bytes(21)),
     );
-    assert_eq!(rt; core.tags(FILE, PageIndex(2)), Ok(PageTags::Absent));
+    same(rt, out, *b"\0\0\0\0\0\0\0\0\0\0\0\0\0\0\0\0\0\0\0\0\xff");
+    same(rt, core.size(HANDLE), Ok(21));
+    same(
+        rt,
+        core.tags(FILE, PageIndex(0)),
+        Ok(PageTags::Cached(Tags::none())),
+    );
+    same(rt, core.tags(FILE, PageIndex(2)), Ok(PageTags::Absent));
     Ok(())
 }
 
 fn writes_many_pages(rt: &impl Abort, core: &mut CacheCore) {
-    assert_eq!(rt; core.write(HANDLE, 0, &[0xab; 256]), wrote(256, 256));
-    assert_eq!(rt; core.write(HANDLE, 1, &[0xab; 256]), Err(Refusal::TooLong));
-    assert_eq!(rt;
-        core.write(HANDLE, u64::MAX, &[0xab; 256]),
-        Err(Refusal::TooLong)
+    same(rt, core.write(HANDLE, 0, &[0xab; 256]), wrote(256, 256));
+    same(
+        rt,
+        core.write(HANDLE, 1, &[0xab; 256]),
+        Err(Refusal::TooLong),
     );
-    assert_eq!(rt;
+    same(
+        rt,
+        core.write(HANDLE, u64::MAX, &[0xab; 256]),
+        Err(Refusal::TooLong),
+    );
+    same(
+        rt,
         core.write(HANDLE, u64::MAX, &[0xab; 1]),
-        Err(Refusal::TooLarge)
+        Err(Refusal::TooLarge),
     );
 }
 
 // 256 bytes from the start of a page touch 16 pages, and from the next byte on 17.
 fn dirties_pages(rt: &impl Abort, core: &mut CacheCore) {
-    assert_eq!(rt; core.write(HANDLE, 0, &[0xab; 256]), wrote(256, 256));
-    assert_eq!(rt; core.write(HANDLE, 256, b"\xff"), Err(Refusal::DirtyLimit));
-    assert_eq!(rt; core.size(HANDLE), Ok(256));
+    same(rt, core.write(HANDLE, 0, &[0xab; 256]), wrote(256, 256));
+    same(
+        rt,
+        core.write(HANDLE, 256, b"\xff"),
+        Err(Refusal::DirtyLimit),
+    );
+    same(rt, core.size(HANDLE), Ok(256));
     // pages that are dirty already may be written again
-    assert_eq!(rt; core.write(HANDLE, 100, b"\xff"), wrote(1, 101));
+    same(rt, core.write(HANDLE, 100, b"\xff"), wrote(1, 101));
 }
 
 fn writes_the_last_byte(rt: &impl Abort, core: &mut CacheCore) {
-    assert_eq!(rt;
+    same(
+        rt,
         core.write(HANDLE, 1_099_511_627_775, b"\xff"),
-        wrote(1, 1_099_511_627_776)
+        wrote(1, 1_099_511_627_776),
     );
-    assert_eq!(rt;
+    same(
+        rt,
         core.write(HANDLE, 1_099_511_627_776, b"\xff"),
-        Err(Refusal::TooLarge)
+        Err(Refusal::TooLarge),
     );
-    assert_eq!(rt; core.size(HANDLE), Ok(1_099_511_627_776));
+    same(rt, core.size(HANDLE), Ok(1_099_511_627_776));
     let dirty = Tags::none().with(Tag::Dirty);
-    assert_eq!(rt;
+    same(
+        rt,
         core.tags(FILE, PageIndex(68_719_476_735)),
-        Ok(PageTags::Cached(dirty))
+        Ok(PageTags::Cached(dirty)),
     );
 }
 
 fn closes_and_opens(rt: &impl Abort, core: &mut CacheCore) {
-    assert_eq!(rt; core.open(FILE), Ok(HandleId(1)));
-    assert_eq!(rt; core.close(HANDLE), Ok(()));
-    assert_eq!(rt; core.size(HANDLE), Err(Refusal::BadHandle));
-    assert_eq!(rt; core.close(HANDLE), Err(Refusal::BadHandle));
-    assert_eq!(rt; core.open(FILE), Ok(HANDLE));
-    assert_eq!(rt; core.open(FileId(1)), Err(Refusal::NoSuchFile));
-    assert_eq!(rt; core.create(), Ok(FileId(1)));
-    assert_eq!(rt; core.open(FileId(1)), Ok(HandleId(2)));
-    assert_eq!(rt;
+    same(rt, core.open(FILE), Ok(HandleId(1)));
+    same(rt, core.close(HANDLE), Ok(()));
+    same(rt, core.size(HANDLE), Err(Refusal::BadHandle));
+    same(rt, core.close(HANDLE), Err(Refusal::BadHandle));
+    same(rt, core.open(FILE), Ok(HANDLE));
+    same(rt, core.open(FileId(1)), Err(Refusal::NoSuchFile));
+    same(rt, core.create(), Ok(FileId(1)));
+    same(rt, core.open(FileId(1)), Ok(HandleId(2)));
+    same(
+        rt,
         core.tags(FileId(2), PageIndex(0)),
-        Err(Refusal::NoSuchFile)
+        Err(Refusal::NoSuchFile),
     );
 }
 
@@ -160,7 +181,11 @@ fn run(rt: &impl Abort, alloc: Global, core: &mut CacheCore, row: Row) -> Result
 
 /// Runs a row over a new cache.
 fn over_a_cache(rt: &impl Abort, alloc: Global, row: Row) -> Result<(), Refusal> {
-    let mut core = CacheCore::new(alloc, &Geometry::new(16, 48, 16, 64)?, 7)?;
+    // in a box, since the check is slow where a cache itself goes out of scope
+    let mut core = Box::new(
+        alloc,
+        CacheCore::new(alloc, &Geometry::new(16, 48, 16, 64)?, 7)?,
+    )?;
     run(rt, alloc, &mut core, row)
 }
 

@@ -2,6 +2,8 @@
 //! The tests of `held`. They are a crate of their own, since a crate with tests is proved once more beside them.
 
 #[cfg(test)]
+mod checks;
+#[cfg(test)]
 mod tests;
 #[cfg(test)]
 mod trail_tests;

@@ -3,6 +3,7 @@
 
 ghost use Rattle.std.specs.Prelude.{◌≡◌, IfSome, length};
 
+use crate::checks::check;
 use blockdev::{BlockDevice, Buffer, FaultEffect, Finished, Job, ScriptDevice, perform};
 use cachecore::{CacheCore, Ended, FillBegun, FlushBegun, ReadAnswer, SyncStepped, WriteAnswer};
 use errboard::{Board, Receipt};
@@ -30,9 +31,9 @@ pub(crate) fn opens<T: Trail>(
     ensures { (held.new.log.table ≡ held.old.log.table) × (seat.new.table ≡ seat.old.table) }
 {
     let (file, slip) = held.act(seat, Call::Create)?;
-    assert!(rt; matches!(file, Answer::File(FileId(0))));
+    check(rt, matches!(file, Answer::File(FileId(0))));
     let (handle, _) = held.act(seat, Call::Open(FILE))?;
-    assert!(rt; matches!(handle, Answer::Handle(HandleId(0))));
+    check(rt, matches!(handle, Answer::Handle(HandleId(0))));
     Ok(slip)
 }
 
@@ -46,7 +47,7 @@ pub(crate) fn writes<T: Trail>(
     ensures { (held.new.log.table ≡ held.old.log.table) × (seat.new.table ≡ seat.old.table) }
 {
     let (answer, slip) = held.write(seat, HANDLE, 0, b"\xaa")?;
-    assert!(rt; answer == Ok(WriteAnswer::Wrote { count: 1, end: 1 }));
+    check(rt, answer == Ok(WriteAnswer::Wrote { count: 1, end: 1 }));
     Ok(slip)
 }
 
@@ -62,8 +63,8 @@ pub(crate) fn reads<T: Trail>(
 {
     let mut out = [9];
     let (answer, slip) = held.read(seat, handle, 0, &mut out)?;
-    assert!(rt; answer == Ok(ReadAnswer::Bytes(1)));
-    assert!(rt; out == [0xaa]);
+    check(rt, answer == Ok(ReadAnswer::Bytes(1)));
+    check(rt, out == [0xaa]);
     Ok(slip)
 }
 
@@ -132,13 +133,16 @@ fn writes_and_fills(
     opens(rt, held, seat)?;
     writes(rt, held, seat)?;
     let (written, none) = flushes(alloc, held, seat, device)?;
-    assert!(rt; matches!(written, Ended::Done(_)) && none.is_none());
+    check(rt, matches!(written, Ended::Done(_)) && none.is_none());
     let (aged, _) = held.act(seat, Call::Age)?;
-    assert!(rt; matches!(aged, Answer::Aged(_)));
+    check(rt, matches!(aged, Answer::Aged(_)));
     let (evicted, _) = held.act(seat, Call::Evict)?;
-    assert!(rt; matches!(evicted, Answer::Evicted(FileId(0), PageIndex(0))));
+    check(
+        rt,
+        matches!(evicted, Answer::Evicted(FileId(0), PageIndex(0))),
+    );
     let filled = fills(alloc, held, seat, device)?;
-    assert!(rt; matches!(filled, Ended::Done(_)));
+    check(rt, matches!(filled, Ended::Done(_)));
     reads(rt, held, seat, HANDLE)?;
     Ok(())
 }
@@ -159,9 +163,12 @@ fn fails_a_flush(
     writes(rt, held, seat)?;
     device.fail_next(ErrCode::IO, FaultEffect::Old);
     let (failed, receipt) = flushes(alloc, held, seat, device)?;
-    assert!(rt; matches!(failed, Ended::Failed(_, _)) && receipt.is_some());
-    assert!(rt; board.poll(&mut pass) == Some(ErrCode::IO));
-    assert!(rt; board.poll(&mut pass).is_none());
+    check(
+        rt,
+        matches!(failed, Ended::Failed(_, _)) && receipt.is_some(),
+    );
+    check(rt, board.poll(&mut pass) == Some(ErrCode::IO));
+    check(rt, board.poll(&mut pass).is_none());
     Ok(())
 }
 
@@ -199,12 +206,12 @@ fn syncs(
     };
     let finished = made(device, held.core(), job).ok_or("a job of the device")?;
     let (written, _, _) = held.flush_end(seat, finished)?;
-    assert!(rt; matches!(written, Ok(Ended::Done(_))));
+    check(rt, matches!(written, Ok(Ended::Done(_))));
     let clean = steps(alloc, held, seat, sync)?;
-    assert!(rt; matches!(clean, SyncStepped::Clean(_)));
+    check(rt, matches!(clean, SyncStepped::Clean(_)));
     let (next, _) = held.sync_begin(seat, HANDLE)?;
     let (dropped, _) = held.sync_drop(seat, next?)?;
-    assert!(rt; dropped == Ok(()));
+    check(rt, dropped == Ok(()));
     Ok(())
 }
 
@@ -215,15 +222,15 @@ fn cuts(rt: &impl Abort, held: &mut Held<NoTrail>, seat: &mut Seat) -> Result<()
     opens(rt, held, seat)?;
     writes(rt, held, seat)?;
     let (answer, _) = held.append(seat, HANDLE, b"\xbb")?;
-    assert!(rt; answer == Ok(WriteAnswer::Wrote { count: 1, end: 2 }));
+    check(rt, answer == Ok(WriteAnswer::Wrote { count: 1, end: 2 }));
     let (cut, _) = held.act(seat, Call::Truncate(HANDLE, 1))?;
-    assert!(rt; matches!(cut, Answer::Done));
+    check(rt, matches!(cut, Answer::Done));
     let (size, _) = held.act(seat, Call::Size(HANDLE))?;
-    assert!(rt; matches!(size, Answer::Size(1)));
+    check(rt, matches!(size, Answer::Size(1)));
     reads(rt, held, seat, HANDLE)?;
     let (closed, slip) = held.act(seat, Call::Close(HANDLE))?;
-    assert!(rt; matches!(closed, Answer::Closed));
-    assert!(rt; slip.name == 7 && slip.place == 7);
+    check(rt, matches!(closed, Answer::Closed));
+    check(rt, slip.name == 7 && slip.place == 7);
     Ok(())
 }
 
@@ -232,9 +239,9 @@ fn passes(rt: &impl Abort, held: &mut Held<NoTrail>, board: &Board) -> Result<()
     requires { held.old.errors.board ≡ board.now }
 {
     let mut pass = held.pass(FILE)?;
-    assert!(rt; held.pass(FileId(64)).err() == Some(Refusal::NoSuchFile));
+    check(rt, held.pass(FileId(64)).err() == Some(Refusal::NoSuchFile));
     held.level(&mut pass);
-    assert!(rt; board.poll(&mut pass).is_none());
+    check(rt, board.poll(&mut pass).is_none());
     held.retire(pass);
     Ok(())
 }

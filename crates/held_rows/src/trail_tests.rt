@@ -2,6 +2,7 @@
 
 ghost use Rattle.std.specs.Prelude.{◌≡◌, All};
 
+use crate::checks::check;
 use crate::tests::{FILE, HANDLE, opens, reads, writes};
 use cachecore::ReadAnswer;
 use held::call::{Answer, Call};
@@ -52,7 +53,7 @@ fn closes_again(
             Err(Fail::new("a seat is missing"))
         }
         Err((refusal, held, mut seats, own)) => {
-            assert!(rt; refusal == Refusal::Stranger);
+            check(rt, refusal == Refusal::Stranger);
             match seats.push(seat) {
                 Ok(()) => closes(held, seats, own),
                 Err(_) => closes(held, seats, own),
@@ -72,11 +73,14 @@ fn meets_a_full_trail(
 {
     let first = opens(rt, held, seat)?;
     writes(rt, held, seat)?;
-    assert!(rt; reads(rt, held, seat, HANDLE).err() == Some(Refusal::TrailFull));
+    check(
+        rt,
+        reads(rt, held, seat, HANDLE).err() == Some(Refusal::TrailFull),
+    );
     let (answer, last) = held.read(seat, HANDLE, 0, &mut [])?;
-    assert!(rt; answer == Ok(ReadAnswer::Bytes(0)));
+    check(rt, answer == Ok(ReadAnswer::Bytes(0)));
     let full = held.act(seat, Call::Size(HANDLE));
-    assert!(rt; matches!(full, Err(Refusal::TrailFull)));
+    check(rt, matches!(full, Err(Refusal::TrailFull)));
     Ok((first, last))
 }
 
@@ -85,9 +89,9 @@ fn refuses_strangers(rt: &impl Abort, seat: &mut Seat)
     ensures { seat.new.table ≡ seat.old.table }
 {
     let foreign = Slip { name: 8, place: 0 };
-    assert!(rt; seat.see(&foreign) == Err(Refusal::Stranger));
+    check(rt, seat.see(&foreign) == Err(Refusal::Stranger));
     let later = Slip { name: 7, place: 99 };
-    assert!(rt; seat.see(&later) == Err(Refusal::Stranger));
+    check(rt, seat.see(&later) == Err(Refusal::Stranger));
 }
 
 // Each seat sees what the other did: the second reads what the first wrote, and the first closes what the second read by.
@@ -108,9 +112,9 @@ fn see_each_other(
     let read = reads(rt, held, second, HANDLE)?;
     first.see(&read)?;
     let (closed, _) = held.act(first, Call::Close(HANDLE))?;
-    assert!(rt; matches!(closed, Answer::Closed));
+    check(rt, matches!(closed, Answer::Closed));
     let (opened, _) = held.act(second, Call::Open(FILE))?;
-    assert!(rt; matches!(opened, Answer::Handle(HandleId(0))));
+    check(rt, matches!(opened, Answer::Handle(HandleId(0))));
     Ok((wrote, read))
 }
 
@@ -184,18 +188,18 @@ fn over_full_trail(
 #[test]
 fn a_full_trail_refuses(rt: HostRuntime) -> Result<(), Fail> {
     let (trail, (first, last)) = over_full_trail(&rt, rt.alloc(), 4, 1, Row::Full)?;
-    assert!(&rt; trail.len() == 4 && trail.cache() == Some(7));
-    assert!(&rt; confirm(&trail, first) == Ok(0));
-    assert!(&rt; confirm(&trail, last) == Ok(3));
+    check(&rt, trail.len() == 4 && trail.cache() == Some(7));
+    check(&rt, confirm(&trail, first) == Ok(0));
+    check(&rt, confirm(&trail, last) == Ok(3));
     Ok(())
 }
 
 #[test]
 fn two_seats_see_each_other(rt: HostRuntime) -> Result<(), Fail> {
     let (trail, (wrote, read)) = over_full_trail(&rt, rt.alloc(), 8, 8, Row::TwoSeats)?;
-    assert!(&rt; trail.len() == 6);
-    assert!(&rt; confirm(&trail, wrote) == Ok(2));
-    assert!(&rt; confirm(&trail, read) == Ok(3));
-    assert!(&rt; matches!(replay_plain(rt.alloc(), &trail), Ok(Some(_))));
+    check(&rt, trail.len() == 6);
+    check(&rt, confirm(&trail, wrote) == Ok(2));
+    check(&rt, confirm(&trail, read) == Ok(3));
+    check(&rt, matches!(replay_plain(rt.alloc(), &trail), Ok(Some(_))));
     Ok(())
 }

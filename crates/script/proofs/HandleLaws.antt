@@ -1,7 +1,7 @@
 -- What the steps of a world leave of its handles, its files and its serials.
-use Rattle.std.proofs.Common.{◌≡◌, ◌≢◌, ℕ, ◌+◌, ◌<◌, ◌≤◌, Bool, true, false, [], ◌∷◌, length, refl, ap, sym}
+use Rattle.std.proofs.Common.{◌≡◌, ◌≢◌, ℕ, ◌+◌, ◌<◌, ◌≤◌, Bool, true, false, List, [], ◌∷◌, ◌++◌, length, refl, ap, sym}
 use Rattle.std.proofs.Common.{subst, ◌∙◌, arith, inl, inr}
-use Rattle.std.specs.Prelude.{Option, Some, None, nat_le, slice_set, Result}
+use Rattle.std.specs.Prelude.{Option, Some, None, nat_le, slice_set}
 use Rattle.std.specs.FinMap as finmap
 use Rattle.std.proofs.Math.ListN.{length-set}
 use Rattle.std.proofs.lemmas.List.{length-append}
@@ -13,7 +13,6 @@ use Rattle.pc_types.specs.declared.ids.SyncId.{SyncId}
 use Rattle.pc_types.specs.declared.limits.TheConstants.{LAST_PAGE, MAX_FILES, MAX_HANDLES, MAX_IN_FLIGHT}
 use Rattle.pc_types.specs.declared.limits.TheConstants.{SERIAL_END}
 use Rattle.pc_types.specs.declared.refusal.Refusal.TheVariants.{Memory}
-use Rattle.blockdev.specs.declared.fault.FaultEffect.{FaultEffect}
 use Rattle.machine.specs.declared.event.Event.{Event}
 use Rattle.machine.specs.declared.event.Event.TheVariants as event
 use Rattle.machine.specs.declared.event.Outcome.{Outcome}
@@ -27,10 +26,10 @@ use Rattle.machine.proofs.steps.Answered.{is_quiet}
 use Rattle.machine.proofs.steps.Cases.{Cases, IsVerdict, answered, by_cases, happened}
 use Rattle.machine.proofs.steps.Choices.{below, if_none, neither, none_of}
 use Rattle.machine.proofs.steps.Passed.{may_begin}
-use Rattle.runs.specs.World.{Ends}
+use Rattle.runs.specs.World.{Acts, Ends}
 use Rattle.world.specs.declared.step.Step.{Step as Made}
 use Rattle.world.specs.declared.step.Step.TheVariants as step
-use Rattle.world.specs.Stepping.{WorldSeen, world_of, IsNotMade, CallReply, EndReply, FailReply, Fails, Steps}
+use Rattle.world.specs.Stepping.{WorldSeen, world_of, IsMade, IsNotMade, CallReply, EndReply, Steps}
 
 -- ---- a step of the cache
 
@@ -228,18 +227,6 @@ module _ (old new : WorldSeen) where
   left_by (step.Call t) r m =
       called (step.Call t) t.0 r (finmap.get old.core.requests t.0) (finmap.get old.outcomes t.0) m
   left_by (step.End t) r m = ended t r (finmap.get old.outcomes t.0) m
-
--- ---- a call that is made to fail leaves the cache
-
-module _ (old new : WorldSeen) (code : ℕ) (effect : FaultEffect) (result : Result Unit _) where
-  failed : (t : ℕ) (q : Option Request) (o : Option Outcome) → FailReply old t q o code effect result new
-      → new.core ≡ old.core
-  failed t (Some x) None h = ap (λ (y : WorldSeen). y.core) h.1.noted
-  failed t (Some x) (Some o) h = ap (λ (y : WorldSeen). y.core) h.1
-  failed t None o h = ap (λ (y : WorldSeen). y.core) h.1
-
-  pub fails_core : (t : ℕ) → Fails old t code effect result new → new.core ≡ old.core
-  fails_core t h = failed t (finmap.get old.core.requests t) (finmap.get old.outcomes t) h
 
 -- ---- a handle that is opened, and one that is closed
 

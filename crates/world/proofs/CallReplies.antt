@@ -19,16 +19,16 @@ use Rattle.machine.specs.State.{State, Request}
 use Rattle.machine.specs.Step.{Step}
 use Rattle.machine.proofs.steps.Answered.{is_quiet}
 use Rattle.cachecore.specs.declared.answers.RefusedEnd.{RefusedEnd}
-use Rattle.cachecore.specs.Replies.{end_of, outcome_of}
+use Rattle.cachecore.specs.Replies.{answered, end_of, outcome_of}
 use Rattle.runs.specs.World.{WorldStep, Finish}
 use Rattle.world.specs.Ends.{ended}
-use Rattle.world.specs.Stepping.{WorldSeen, world_of, CallReply, EndReply, FailReply, IsCalled, done, failing}
+use Rattle.world.specs.Stepping.{WorldSeen, world_of, CallReply, EndReply, Fails, IsCalled, Steps, failing}
 use Rattle.world.specs.declared.step.Step.{Step as Asking}
 use Rattle.world.specs.declared.step.Step.TheVariants as step
 use Rattle.world.specs.declared.jobs.Flight.{Flight}
 use Rattle.world.specs.declared.jobs.Flight.TheVariants.{Asked, Made}
 use Rattle.world.specs.Flights.{Jobs, is_asked, outcome_in, seen_of, IsWorld}
-use Rattle.world.proofs.DeviceCalls.{calls_move, fails_so}
+use Rattle.world.proofs.DeviceCalls.{calls_move}
 use Rattle.world.proofs.EndsAndCalls.{call_world, end_answers, end_steps, end_world, is_called, none_of_job, put_back}
 use Rattle.world.proofs.EndsAndCalls.{put_over, request_of}
 use Rattle.blockdev.specs.Watching.{Watch, Makes}
@@ -119,57 +119,38 @@ module _ (core : State) (jobs : Jobs) (dev : Watch) (w : IsWorld core jobs dev) 
 
   -- ---- a call that is to fail
 
-  module _ (code : ℕ) (effect : FaultEffect) (new : WorldSeen) where
-    unmade : (q : Option Request) (o : Outcome) → new ≡ old → FailReply old t q (Some o) code effect (Err Stranger) new
-    unmade (Some r) o e = (refl, e)
-    unmade None o e = (refl, e)
+  -- no call is to be made
+  pub uncalled : false ≡ is_asked (finmap.get jobs t)
+      → CallReply old t (finmap.get old.core.requests t) (finmap.get old.outcomes t) (reply.Refused Stranger) old
+  uncalled none =
+      subst (CallReply old t (finmap.get old.core.requests t) (finmap.get old.outcomes t) (reply.Refused Stranger))
+      is_old (go (finmap.get jobs t) refl none)
+    where
+      go : (o : Option Flight) → finmap.get jobs t ≡ o → false ≡ is_asked o
+          → CallReply old t (finmap.get old.core.requests t) (finmap.get old.outcomes t) (reply.Refused Stranger)
+          (seen_of core jobs dev)
+      go (Some (Asked job)) is n = absurd cc
+      go (Some (Made f)) is n = call_again f (sym is) jobs refl
+      go None is n = call_none (sym is) jobs refl
 
-    -- no call is to be made
-    pub fail_refused : false ≡ is_asked (finmap.get jobs t) → new ≡ old
-        → FailReply old t (finmap.get old.core.requests t) (finmap.get old.outcomes t) code effect (Err Stranger) new
-    fail_refused none e = go (finmap.get jobs t) refl none
-      where
-        go : (o : Option Flight) → finmap.get jobs t ≡ o → false ≡ is_asked o
-            → FailReply old t (finmap.get old.core.requests t) (finmap.get old.outcomes t) code effect (Err Stranger)
-            new
-        go (Some (Asked job)) is n = absurd cc
-        go (Some (Made f)) is n =
-            subst (λ o. FailReply old t (finmap.get old.core.requests t) o code effect (Err Stranger) new)
-            (sym (out (Some (outcome_of f.kind f.outcome f.bytes)) (ap (option_and_then outcome_in) is)))
-            (unmade (finmap.get old.core.requests t) (outcome_of f.kind f.outcome f.bytes) e)
-        go None is n = subst (λ q. FailReply old t q (finmap.get old.outcomes t) code effect (Err Stranger) new)
-            (sym (gone (sym is))) (refl, e)
-
-    failed : (r : Request) (result : Result Unit Refusal) → finmap.get old.outcomes t ≡ None
-        → CallReply (failing old code effect) t (Some r) None (done result) new
-        → FailReply old t (Some r) None code effect result new
-    failed r (Ok _) none h = (refl, h.1, λ counted. fails_so old t code effect new h.1 none counted)
-    failed r (Err why) none h = absurd (let e = h.0 in cc)
-
-    -- the call is made, over a device that was told to fail
-    pub fail_made : (result : Result Unit Refusal) → true ≡ is_asked (finmap.get jobs t)
-        → CallReply (failing old code effect) t (finmap.get old.core.requests t) (finmap.get old.outcomes t)
-        (done result) new
-        → FailReply old t (finmap.get old.core.requests t) (finmap.get old.outcomes t) code effect result new
-    fail_made result some h = go (finmap.get jobs t) refl some
-      where
-        at : (q : Option Request) (o : Option Outcome) (r : Request) → q ≡ Some r → o ≡ None
-            → finmap.get old.outcomes t ≡ None → CallReply (failing old code effect) t q o (done result) new
-            → FailReply old t q o code effect result new
-        at q o r a b none x = subst (λ y. FailReply old t y o code effect result new) (sym a)
-            (subst (λ y. FailReply old t (Some r) y code effect result new) (sym b)
-            (failed r result none (subst (λ y. CallReply (failing old code effect) t (Some r) y (done result) new) b
-            (subst (λ y. CallReply (failing old code effect) t y o (done result) new) a x))))
-
-        go : (o : Option Flight) → finmap.get jobs t ≡ o → true ≡ is_asked o
-            → FailReply old t (finmap.get old.core.requests t) (finmap.get old.outcomes t) code effect result new
-        go (Some (Asked job)) is s =
-            let q = request_of core t (finmap.get core.requests t) (finmap.get jobs t) (Asked job) (w.each_job t) is in
-            let none = out None (ap (option_and_then outcome_in) is) in
-            at (finmap.get old.core.requests t) (finmap.get old.outcomes t) _
-            (sym (ap (λ (v : WorldSeen). finmap.get v.core.requests t) is_old) ∙ q.1) none none h
-        go (Some (Made f)) is s = absurd cc
-        go None is s = absurd cc
+  -- the call is made, over a device that was told to fail
+  pub fail_made : (code : ℕ) (effect : FaultEffect) (new : WorldSeen) (result : Result Unit Refusal)
+      → true ≡ is_asked (finmap.get jobs t)
+      → Steps (failing old code effect) (step.Call (record { 0 = t })) (answered (λ _. reply.Done) result) new
+      → Fails old t code effect result new
+  fail_made code effect new (Ok u) some h = h
+  fail_made code effect new (Err why) some h = absurd (go (finmap.get jobs t) refl some)
+    where
+      go : (o : Option Flight) → finmap.get jobs t ≡ o → true ≡ is_asked o → ⊥
+      go (Some (Asked job)) is s =
+          let q = request_of core t (finmap.get core.requests t) (finmap.get jobs t) (Asked job) (w.each_job t) is in
+          let there = sym (ap (λ (v : WorldSeen). finmap.get v.core.requests t) is_old) ∙ q.1 in
+          let none = out None (ap (option_and_then outcome_in) is) in
+          let e = (subst (λ o. CallReply (failing old code effect) t (Some q.0) o (reply.Refused why) new) none
+          (subst (λ x. CallReply (failing old code effect) t x (finmap.get old.outcomes t) (reply.Refused why) new) there
+          h)).0 in cc
+      go (Some (Made f)) is s = absurd cc
+      go None is s = absurd cc
 
 -- the same table keeps what always holds
 pub same_table : (core : State) (jobs : Jobs) (dev : Watch) → IsWorld core jobs dev → (table : Jobs) → table ≡ jobs

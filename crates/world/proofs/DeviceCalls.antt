@@ -16,7 +16,7 @@ use Rattle.machine.specs.State.{Request}
 use Rattle.machine.specs.declared.event.Outcome.TheVariants as outcome
 use Rattle.runs.specs.World.{World, Call, Calls, WorldStep, block_bytes, device_after}
 use Rattle.runs.specs.World as runs
-use Rattle.world.specs.Stepping.{WorldSeen, world_of, IsCalled, MovesByCall, failing, is_new}
+use Rattle.world.specs.Stepping.{WorldSeen, world_of, IsCalled, MovesByCall, failing}
 
 set_shown : (c : Option (List (List ℕ))) (b : ℕ) (bytes : List ℕ)
     → unwrap_or (with_block c b bytes) [] ≡ slice_set (unwrap_or c []) b bytes
@@ -153,7 +153,11 @@ module _ (old : WorldSeen) (t : ℕ) (new : WorldSeen) (c : IsCalled old t new)
       go None is = tt
       go (Some blocks) is = by_kind blocks is x.kind refl
 
--- ---- a call that is made to fail
+-- ---- a call that is made to fail: it fails with this code, and leaves the old or the new bytes
+
+abbrev pub is_new : FaultEffect → Bool
+is_new Old = false
+is_new New = true
 
 module _ (old : WorldSeen) (t : ℕ) (code : ℕ) (effect : FaultEffect) (new : WorldSeen)
     (c : IsCalled (failing old code effect) t new) (none : finmap.get old.outcomes t ≡ None)

@@ -1,17 +1,15 @@
 -- What of the device is durable: a flush that ends well makes all of it so, and no other step makes anything so.
-use Rattle.std.proofs.Common.{◌≡◌, List, [], ◌∷◌, refl, ap, sym, subst, ◌∙◌, inl, inr}
-use Rattle.std.specs.Prelude.{ℕ, Some, Ok, Err, unwrap_or}
+use Rattle.std.proofs.Common.{◌≡◌, List, [], ◌∷◌, refl, ap, subst, ◌∙◌, inl, inr}
+use Rattle.std.specs.Prelude.{ℕ, unwrap_or}
 use Rattle.pc_types.specs.declared.kind.Kind.{Kind}
 use Rattle.pc_types.specs.declared.kind.Kind.TheVariants.{Fill, Flush}
-use Rattle.blockdev.specs.Device.{Flushes, Outcome, Told}
+use Rattle.blockdev.specs.Device.{Outcome, Told}
 use Rattle.blockdev.specs.Jobs.{Transfers}
 use Rattle.machine.specs.declared.event.Reply.{Reply}
 use Rattle.machine.specs.State.{State}
-use Rattle.runs.specs.Durable.{LastingStep, Flushed}
-use Rattle.runs.specs.World.{World}
 use Rattle.world.specs.declared.step.Step.{Step}
 use Rattle.world.specs.Flights.{Jobs, IsWorld, seen_of}
-use Rattle.world.specs.Flushing.{IsDurably, IsFlushed, fault_of, lasting}
+use Rattle.world.specs.Flushing.{IsFlushed}
 use Rattle.blockdev.specs.Watching.{Watch, Clears}
 use Rattle.world.proofs.StepKinds.{comes_to}
 use Rattle.world.specs.Stepping.{Plays, Steps, WorldSeen, world_of}
@@ -38,26 +36,6 @@ module _ (core : State) (jobs : Jobs) (dev new : Watch) (r : Outcome) (f : Clear
       device = unwrap_or ((ap (λ (d : Told). d.contents) f.flushes.same) i) [];
     };
   })
-
-pub flush_turn : (old new : WorldSeen) (r : Outcome) → IsFlushed old r new → (was : World) → IsDurably old was
-    → (is : World) × IsDurably new is × LastingStep (lasting old was) (Flushed (fault_of r)) (lasting new is)
-flush_turn old new r f was d = by r f.flushes
-  where
-    told : new.device.contents ≡ Some (world_of new).device
-    told = ap (λ (x : Told). x.contents) f.flushes.same ∙ d.contents ∙ ap (λ (x : World). Some x.device) (sym f.same)
-
-    by : (r : Outcome) → Flushes old.device r new.device
-        → (is : World) × IsDurably new is × LastingStep (lasting old was) (Flushed (fault_of r)) (lasting new is)
-    by (Ok u) g = (
-      world_of old,
-      record { contents = told; durable = g.durable ∙ d.contents },
-      λ i. record { world = f.same i; flushed = world_of old },
-    )
-    by (Err c) g = (
-      was,
-      record { contents = told; durable = g.kept ∙ d.durable },
-      λ i. record { world = f.same i; flushed = was },
-    )
 
 -- ---- every other step
 

@@ -1,4 +1,5 @@
--- Steps that are made one after the other, and the run that they are.
+-- Steps that are made one after the other, and the run that they are: what `play` leaves is what a run of its steps leads to,
+-- without those that were refused and changed nothing.
 use Rattle.std.proofs.Common.{◌≡◌, ℕ, ◌++◌, List, [], ◌∷◌, Bool, true, false, refl, ap, sym, subst, ◌∙◌, inl, inr, map}
 use Rattle.std.specs.Prelude.{◌||◌, Option, Some, None, is_some, IfSome, Ok, Err}
 use Rattle.std.specs.List.{list_any}
@@ -21,12 +22,39 @@ use Rattle.machine.specs.Tests.{tests}
 use Rattle.machine.proofs.steps.Cases.{answered}
 use Rattle.machine.proofs.steps.Ends.{end_loud}
 use Rattle.runs.specs.World.{Move, World, WorldStep, Acts}
-use Rattle.world.proofs.StepKinds.{comes_to}
+use Rattle.runs.specs.Runs.{Run, last}
+use Rattle.world.proofs.StepKinds.{comes_to, is_made}
 use Rattle.world.specs.declared.step.Step.{Step}
 use Rattle.world.specs.declared.step.Step.TheVariants as step
-use Rattle.world.specs.Stepping.{WorldSeen, world_of, move_of, is_made, is_call, TellsForCalls, CallReply, EndReply}
-use Rattle.world.specs.Stepping.{Leaves}
-use Rattle.world.specs.Stepping.{Steps, Plays, LeadsTo}
+use Rattle.world.specs.Stepping.{WorldSeen, world_of, move_of, CallReply, EndReply, Steps, Plays}
+
+-- ---- the run of the steps that were made
+
+-- what one step leaves in a run
+abbrev pub Leaves : Bool → Step → Reply → List Move → Type 0
+Leaves true s r moves = (fault : Option ℕ) × (effect : Bool) × (moves ≡ move_of s r fault effect ∷ [])
+Leaves false s r moves = moves ≡ []
+
+-- the moves are those of the steps that were made, with their replies
+abbrev pub Follow : List Step → List Reply → List Move → Type 0
+Follow [] [] moves = moves ≡ []
+Follow (s ∷ ss) (r ∷ rs) moves =
+    (first : List Move) × (rest : List Move) × (moves ≡ first ++ rest) × Leaves (is_made s r) s r first
+    × Follow ss rs rest
+Follow _ _ moves = ⊥
+
+-- a run of these steps leads from w to v
+abbrev pub LeadsTo : World → List Step → List Reply → World → Type 0
+LeadsTo w ss rs v =
+    (run : List (Move × World)) × Run w run × Follow ss rs (map (λ x. x.0) run) × (last w run ≡ v)
+
+abbrev pub is_call : Step → Bool
+is_call (step.Call t) = true
+is_call _ = false
+
+-- the device tells its contents where one of the steps is a device call
+abbrev pub TellsForCalls : List Step → Told → Type 0
+TellsForCalls ss d = list_any is_call ss ≡ true → is_some d.contents ≡ true
 
 -- one more step after those that were made
 pub plays-snoc : (ss : List Step) (rs : List Reply) (a b c : WorldSeen) (s : Step) (r : Reply) → Plays a ss rs b

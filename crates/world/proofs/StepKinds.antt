@@ -1,14 +1,25 @@
 -- What a step comes to, whichever it is: it is made, or nothing is, or it is a device call.
-use Rattle.std.proofs.Common.{◌≡◌, false, ◌⊎◌, refl, ap, inl, inr, Option, Some, None, IfSome}
+use Rattle.std.proofs.Common.{◌≡◌, Bool, true, false, ◌⊎◌, refl, ap, inl, inr, Option, Some, None, IfSome}
 use Rattle.std.specs.FinMap as finmap
 use Rattle.pc_types.specs.declared.ids.Serial.{Serial}
+use Rattle.pc_types.specs.declared.refusal.Refusal.TheVariants.{Memory, Stranger}
 use Rattle.machine.specs.declared.event.Outcome.{Outcome}
 use Rattle.machine.specs.declared.event.Reply.{Reply}
 use Rattle.machine.specs.declared.event.Reply.TheVariants as reply
 use Rattle.machine.specs.State.{Request}
 use Rattle.world.specs.declared.step.Step.{Step}
 use Rattle.world.specs.declared.step.Step.TheVariants as step
-use Rattle.world.specs.Stepping.{WorldSeen, is_made, CallReply, EndReply, IsCalled, IsMade, MovesByCall, Steps}
+use Rattle.world.specs.Stepping.{WorldSeen, CallReply, EndReply, IsCalled, IsMade, MovesByCall, Steps}
+
+-- whether the reply tells that the step was made. What is refused memory changes nothing, made or not
+abbrev pub is_made : Step → Reply → Bool
+is_made (step.Read h o n) (reply.Refused Memory) = false
+is_made (step.FillBegin h p) (reply.Refused Memory) = false
+is_made (step.FlushBegin f) (reply.Refused Memory) = false
+is_made (step.SyncStep n) (reply.Refused Memory) = false
+is_made (step.Call t) (reply.Refused Stranger) = false
+is_made (step.End t) (reply.Refused Stranger) = false
+is_made s r = true
 
 -- the step is the device call of a request, and is made
 pub record IsCall (s : Step) (r : Reply) (old new : WorldSeen) : Type 0 where

@@ -10,8 +10,8 @@ use Rattle.cachecore.specs.declared.answers.SyncStepped.{SyncStepped}
 use Rattle.cachecore.specs.declared.answers.SyncStepped.TheVariants as sync
 use Rattle.machine.specs.declared.event.Reply.{Reply}
 use Rattle.machine.specs.declared.event.Reply.TheVariants as reply
-use Rattle.cachecore.specs.Replies.{fill_begun, flush_begun, sync_stepped, GivesBack, FlushGivesBack, SyncGivesBack}
-use Rattle.world.specs.Answers.{fill_answered, flush_answered, sync_answered}
+use Rattle.cachecore.specs.Replies.{answered, fill_begun, flush_begun, sync_stepped, GivesBack, FlushGivesBack, SyncGivesBack}
+use Rattle.world.specs.Answers.{fill_says, flush_says, sync_says}
 use Rattle.world.specs.declared.answers.FillAnswer.{FillAnswer}
 use Rattle.world.specs.declared.answers.FlushAnswer.{FlushAnswer}
 use Rattle.world.specs.declared.answers.SyncAnswer.{SyncAnswer}
@@ -24,15 +24,15 @@ is_job _ = false
 
 abbrev pub IsFillBegun : Result FillBegun Refused → Begun FillAnswer → Type 0
 IsFillBegun answer (Job job) = answer ≡ Ok (fill.Job job)
-IsFillBegun answer (Answered a buffer) = (fill_answered a ≡ fill_begun answer) × (is_job (fill_answered a) ≡ false)
-    × GivesBack buffer answer
+IsFillBegun answer (Answered a buffer) =
+    (answered fill_says a ≡ fill_begun answer) × (is_job (answered fill_says a) ≡ false) × GivesBack buffer answer
 
 abbrev pub IsFlushBegun : Result FlushBegun Refused → Begun FlushAnswer → Type 0
 IsFlushBegun answer (Job job) = answer ≡ Ok (flush.Job job)
-IsFlushBegun answer (Answered a buffer) = (flush_answered a ≡ flush_begun answer) × (is_job (flush_answered a) ≡ false)
-    × FlushGivesBack buffer answer
+IsFlushBegun answer (Answered a buffer) =
+    (answered flush_says a ≡ flush_begun answer) × (is_job (answered flush_says a) ≡ false) × FlushGivesBack buffer answer
 
 abbrev pub IsSyncStepped : Result SyncStepped Refused → Begun SyncAnswer → Type 0
 IsSyncStepped answer (Job job) = answer ≡ Ok (sync.Job job)
-IsSyncStepped answer (Answered a buffer) = (sync_answered a ≡ sync_stepped answer) × (is_job (sync_answered a) ≡ false)
-    × SyncGivesBack buffer answer
+IsSyncStepped answer (Answered a buffer) =
+    (answered sync_says a ≡ sync_stepped answer) × (is_job (answered sync_says a) ≡ false) × SyncGivesBack buffer answer

@@ -1,13 +1,11 @@
 -- Steps that a caller asks for: what each of them does to the world, and what a list of them does.
-use Rattle.std.specs.Prelude.{Bool, true, false, map, ◌==◌, ◌&&◌, ◌||◌, ◌≡◌, ◌≢◌, ℕ, ◌+◌, ◌<◌, ◌≤◌, ◌⊎◌, List, [], ◌∷◌, ◌++◌}
-use Rattle.std.specs.Prelude.{Option, Some, None}
-use Rattle.std.specs.Prelude.{is_some, unwrap_or, IfSome, Result, Ok, Err, if◌then◌else◌}
-use Rattle.std.specs.List.{list_any}
+use Rattle.std.specs.Prelude.{Bool, true, ◌==◌, ◌&&◌, ◌||◌, ◌≡◌, ◌≢◌, ℕ, ◌+◌, ◌≤◌, ◌⊎◌, List, [], ◌∷◌}
+use Rattle.std.specs.Prelude.{Option, Some, None, unwrap_or, IfSome, Result, Ok, Err, if◌then◌else◌}
 use Rattle.std.specs.Ordering.{nat_cmp}
 use Rattle.std.specs.FinMap as finmap
 use Rattle.blockdev.specs.declared.fault.FaultEffect.{FaultEffect}
 use Rattle.blockdev.specs.declared.fault.FaultEffect.TheVariants as effect
-use Rattle.blockdev.specs.Device.{Told, max_calls}
+use Rattle.blockdev.specs.Device.{Told}
 use Rattle.blockdev.specs.Jobs.{Task, FinishedTask, Performs}
 use Rattle.pc_types.specs.Kinds.{is_flush}
 use Rattle.pc_types.specs.Limits.{Sizes}
@@ -21,7 +19,6 @@ use Rattle.machine.specs.declared.event.Reply.TheVariants as reply
 use Rattle.machine.specs.State.{State, Request, page_count}
 use Rattle.machine.specs.History.{no_files}
 use Rattle.runs.specs.World.{World, Move, Act, Call, Finish, WorldStep}
-use Rattle.runs.specs.Runs.{Run, last}
 use Rattle.cachecore.specs.Replies.{IsJobOf, outcome_of}
 use Rattle.world.specs.declared.step.Step.{Step}
 use Rattle.world.specs.declared.step.Step.TheVariants as step
@@ -54,9 +51,8 @@ first_world g name d =
 abbrev pub HasAllPages : ℕ → Type 0
 HasAllPages P = (z : ℕ) → z ≤ MAX_FILE_SIZE → page_count P z ≤ LAST_PAGE + 1
 
--- what a step that is made does, with its reply: an event, a device call or an end. A call has its fault, if it had
--- one, and
--- whether a flush that failed left its bytes on the block
+-- what a step that is made does, with its reply: an event, a device call or an end. A call has its fault, if it had one,
+-- and whether a flush that failed left its bytes on the block
 abbrev pub move_of : Step → Reply → Option ℕ → Bool → Move
 move_of step.Create r fault effect = Act event.Create r
 move_of (step.Open f) r fault effect = Act (event.Open f) r
@@ -115,19 +111,13 @@ CallReply old t (Some x) None answer new =
     (answer ≡ reply.Done) × IsCalled old t new × IfSome old.device.contents (λ _. MovesByCall old t new)
 CallReply old t _ _ answer new = IsNotMade old Stranger answer new
 
--- what a call answers, as a reply
-abbrev pub done : Result Unit Refusal → Reply
-done (Ok _) = reply.Done
-done (Err why) = reply.Refused why
-
 -- a request ends where its call was made, and then its end is not refused
 abbrev pub EndReply : WorldSeen → Step → Option Outcome → Reply → WorldSeen → Type 0
 EndReply old s (Some o) answer new = IsMade old s answer new × (answer ≢ reply.Refused Stranger)
 EndReply old s None answer new = IsNotMade old Stranger answer new
 
--- a read is handed a place for its bytes, and what may begin a request a buffer: where memory for it is refused no
--- event is
--- made. The other events are handed nothing
+-- a read is handed a place for its bytes, and what may begin a request a buffer: where memory for it is refused no event
+-- is made. The other events are handed nothing
 abbrev pub Steps : WorldSeen → Step → Reply → WorldSeen → Type 0
 Steps old (step.Read h o n) r new = IsMade old (step.Read h o n) r new ⊎ IsNotMade old Memory r new
 Steps old (step.FillBegin h p) r new = IsMade old (step.FillBegin h p) r new ⊎ IsNotMade old Memory r new
@@ -143,44 +133,6 @@ Plays old [] [] new = new ≡ old
 Plays old (s ∷ ss) (r ∷ rs) new = (mid : WorldSeen) × Steps old s r mid × Plays mid ss rs new
 Plays old _ _ new = ⊥
 
--- ---- the run of the steps that were made
-
--- whether the reply tells that the step was made. What is refused memory changes nothing, made or not
-abbrev pub is_made : Step → Reply → Bool
-is_made (step.Read h o n) (reply.Refused Memory) = false
-is_made (step.FillBegin h p) (reply.Refused Memory) = false
-is_made (step.FlushBegin f) (reply.Refused Memory) = false
-is_made (step.SyncStep n) (reply.Refused Memory) = false
-is_made (step.Call t) (reply.Refused Stranger) = false
-is_made (step.End t) (reply.Refused Stranger) = false
-is_made s r = true
-
--- what one step leaves in a run
-abbrev pub Leaves : Bool → Step → Reply → List Move → Type 0
-Leaves true s r moves = (fault : Option ℕ) × (effect : Bool) × (moves ≡ move_of s r fault effect ∷ [])
-Leaves false s r moves = moves ≡ []
-
--- the moves are those of the steps that were made, with their replies
-abbrev pub Follow : List Step → List Reply → List Move → Type 0
-Follow [] [] moves = moves ≡ []
-Follow (s ∷ ss) (r ∷ rs) moves =
-    (first : List Move) × (rest : List Move) × (moves ≡ first ++ rest) × Leaves (is_made s r) s r first
-    × Follow ss rs rest
-Follow _ _ moves = ⊥
-
--- a run of these steps leads from w to v
-abbrev pub LeadsTo : World → List Step → List Reply → World → Type 0
-LeadsTo w ss rs v =
-    (run : List (Move × World)) × Run w run × Follow ss rs (map (λ x. x.0) run) × (last w run ≡ v)
-
-abbrev pub is_call : Step → Bool
-is_call (step.Call t) = true
-is_call _ = false
-
--- the device tells its contents where one of the steps is a device call
-abbrev pub TellsForCalls : List Step → Told → Type 0
-TellsForCalls ss d = list_any is_call ss ≡ true → is_some d.contents ≡ true
-
 -- ---- a device call that is made to fail
 
 -- the world where the device's next call fails so
@@ -188,19 +140,8 @@ abbrev pub failing : WorldSeen → ℕ → FaultEffect → WorldSeen
 failing w code effect =
     record w { device = record w.device { plan = Some (Some (record { code = code; effect = effect }) ∷ []) } }
 
-abbrev pub is_new : FaultEffect → Bool
-is_new effect.Old = false
-is_new effect.New = true
-
--- where the call can be counted it fails with this code
-abbrev pub FailReply : WorldSeen → ℕ → Option Request → Option Outcome → ℕ → FaultEffect → Result Unit Refusal
-    → WorldSeen
-    → Type 0
-FailReply old t (Some x) None code effect result new =
-    (result ≡ Ok tt) × IsCalled (failing old code effect) t new
-    × (old.device.calls < max_calls → WorldStep (world_of old) (Call t (Some code) (is_new effect)) (world_of new))
-FailReply old t _ _ code effect result new = (result ≡ Err Stranger) × (new ≡ old)
-
+-- the device's next call is made to fail, and then the call of request t is made, as a step of its own. Where that is
+-- refused no fault is planned
 abbrev pub Fails : WorldSeen → ℕ → ℕ → FaultEffect → Result Unit Refusal → WorldSeen → Type 0
-Fails old t code effect result new =
-    FailReply old t (finmap.get old.core.requests t) (finmap.get old.outcomes t) code effect result new
+Fails old t code effect (Ok _) new = Steps (failing old code effect) (step.Call (record { 0 = t })) reply.Done new
+Fails old t code effect (Err why) new = Steps old (step.Call (record { 0 = t })) (reply.Refused why) new

@@ -1,7 +1,8 @@
 //! What the calls of a world answer that begin a request, or end one, and that as replies of the machine.
 
 ghost use Rattle.std.specs.Prelude.{◌≡◌};
-ghost use Rattle.world.specs.Answers.{end_answered, fill_answered, flush_answered, sync_answered};
+ghost use Rattle.cachecore.specs.Replies.{answered};
+ghost use Rattle.world.specs.Answers.{end_says, fill_says, flush_says, sync_says};
 
 use cachecore::Reply;
 use pc_types::{ErrCode, PageIndex, Refusal, Serial};
@@ -55,7 +56,7 @@ pub enum EndAnswer {
 }
 
 pub fn fill_reply(answer: &Result<FillAnswer, Refusal>) -> Reply
-    ensures { result ≡ fill_answered answer.now }
+    ensures { result ≡ answered fill_says answer.now }
 {
     match answer {
         Ok(FillAnswer::Gone) => Reply::Gone,
@@ -68,7 +69,7 @@ pub fn fill_reply(answer: &Result<FillAnswer, Refusal>) -> Reply
 }
 
 pub fn flush_reply(answer: &Result<FlushAnswer, Refusal>) -> Reply
-    ensures { result ≡ flush_answered answer.now }
+    ensures { result ≡ answered flush_says answer.now }
 {
     match answer {
         Ok(FlushAnswer::Nothing) => Reply::Nothing,
@@ -78,7 +79,7 @@ pub fn flush_reply(answer: &Result<FlushAnswer, Refusal>) -> Reply
 }
 
 pub fn sync_reply(answer: &Result<SyncAnswer, Refusal>) -> Reply
-    ensures { result ≡ sync_answered answer.now }
+    ensures { result ≡ answered sync_says answer.now }
 {
     match answer {
         Ok(SyncAnswer::Begun(serial)) => Reply::Job(*serial),
@@ -90,7 +91,7 @@ pub fn sync_reply(answer: &Result<SyncAnswer, Refusal>) -> Reply
 }
 
 pub fn end_reply(answer: &Result<EndAnswer, Refusal>) -> Reply
-    ensures { result ≡ end_answered answer.now }
+    ensures { result ≡ answered end_says answer.now }
 {
     match answer {
         Ok(EndAnswer::Dropped) => Reply::Dropped,

@@ -1,7 +1,7 @@
 //! What the cache's calls come to that begin a request or end one: the job, or the answer and the buffer that comes back.
 
 ghost use Rattle.std.specs.Prelude.{◌≡◌, Ok, Err};
-ghost use Rattle.world.specs.Answers.{end_answered};
+ghost use Rattle.world.specs.Answers.{end_says};
 ghost use Rattle.world.specs.Begins.{IsFillBegun, IsFlushBegun, IsSyncStepped};
 ghost use Rattle.world.specs.Ends.{buffer_of, ended};
 
@@ -64,7 +64,7 @@ fn of_stepped(stepped: SyncStepped) -> Begun<SyncAnswer>
 
 /// How a request ended, and its buffer.
 pub fn of_end(kind: Kind, end: Ended) -> (EndAnswer, Buffer)
-    ensures answer { end_answered (Ok result.0) ≡ ended kind (Ok end) }
+    ensures answer { end_says result.0 ≡ ended kind (Ok end) }
     ensures buffer { result.1 ≡ buffer_of end }
 {
     match end {

@@ -3,15 +3,15 @@
 mod calls;
 mod events;
 
-ghost use Rattle.std.specs.Prelude.{◌≡◌, ◌<◌, IfErr, IfOk, IfSome, IsOkUnless, None, OnErr, length, option_map, true, false, if◌then◌else◌};
+ghost use Rattle.std.specs.Prelude.{◌≡◌, ◌<◌, IfErr, IfOk, IfSome, IsOkUnless, None, OnErr, length, option_map, true, if◌then◌else◌};
 ghost use Rattle.pc_types.specs.declared.refusal.Refusal.TheVariants.{BadConfig, Memory};
 ghost use Rattle.cachecore.specs.Flushing.{flush_of};
-ghost use Rattle.cachecore.specs.Replies.{TagsAre};
+ghost use Rattle.cachecore.specs.Replies.{TagsAre, answered};
 ghost use Rattle.cachecore.specs.Wants.{lacks_frames, passes_limit};
-ghost use Rattle.world.specs.Answers.{fill_answered, flush_answered, sync_answered};
+ghost use Rattle.world.specs.Answers.{fill_says, flush_says, sync_says};
 ghost use Rattle.world.specs.Flights.{IsSpare};
 ghost use Rattle.runs.specs.Runs.{IsFirst};
-ghost use Rattle.world.specs.Stepping.{IsMade, LeadsTo, Plays, Steps, TellsForCalls, first_world, fits, world_of};
+ghost use Rattle.world.specs.Stepping.{Plays, Steps, first_world, fits, world_of};
 
 use crate::answers::{self, FillAnswer, FlushAnswer, SyncAnswer};
 use crate::begun::{self, Begun};
@@ -130,7 +130,6 @@ impl<D: BlockDevice> World<D> {
     /// is no room for the replies.
     pub fn play(&mut self, steps: &[Step]) -> Result<Vec<Reply>, Refusal>
         ensures played { IfOk result (λ replies. Plays self.old steps.now replies.items self.new) }
-        ensures is_run { IfOk result (λ replies. TellsForCalls steps.now self.old.device → LeadsTo (world_of self.old) steps.now replies.items (world_of self.new)) }
         ensures durable { self.new.device.durable ≡ self.old.device.durable }
         ensures refused { IsOkUnless result Refusal.Memory }
         ensures err { OnErr result (self.new ≡ self.old) }
@@ -191,7 +190,7 @@ impl<D: BlockDevice> World<D> {
 
     /// Begins a fill of the page.
     pub fn fill_begin(&mut self, handle: HandleId, page: PageIndex) -> Result<FillAnswer, Refusal>
-        ensures { Steps self.old (Step.FillBegin handle page) (fill_answered result) self.new }
+        ensures { Steps self.old (Step.FillBegin handle page) (answered fill_says result) self.new }
     {
         let buffer = buffer_for(&self.core, &mut self.spare, self.alloc)?;
         match begun::of_fill_begin(self.core.fill_begin(handle, page, buffer)) {
@@ -205,7 +204,7 @@ impl<D: BlockDevice> World<D> {
 
     /// Begins a write of the file's lowest page that is to be written.
     pub fn flush_begin(&mut self, file: FileId) -> Result<FlushAnswer, Refusal>
-        ensures { Steps self.old (Step.FlushBegin file) (flush_answered result) self.new }
+        ensures { Steps self.old (Step.FlushBegin file) (answered flush_says result) self.new }
     {
         let buffer = buffer_for(&self.core, &mut self.spare, self.alloc)?;
         match begun::of_flush_begin(self.core.flush_begin(file, buffer)) {
@@ -219,7 +218,7 @@ impl<D: BlockDevice> World<D> {
 
     /// Makes a step of the sync.
     pub fn sync_step(&mut self, sync: SyncId) -> Result<SyncAnswer, Refusal>
-        ensures { Steps self.old (Step.SyncStep sync) (sync_answered result) self.new }
+        ensures { Steps self.old (Step.SyncStep sync) (answered sync_says result) self.new }
     {
         let buffer = buffer_for(&self.core, &mut self.spare, self.alloc)?;
         match begun::of_sync_step(self.core.sync_step(sync, buffer)) {

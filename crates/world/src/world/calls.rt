@@ -1,16 +1,14 @@
 //! The device calls of requests in flight, and their ends.
 
 ghost use Rattle.std.specs.Prelude.{◌≡◌, ◌≤◌, OnOk, length};
-ghost use Rattle.std.specs.FinMap as map;
 ghost use Rattle.machine.specs.declared.event.Event.TheVariants as event;
 ghost use Rattle.machine.specs.Step.{Step as MachineStep};
-ghost use Rattle.cachecore.specs.Replies.{EndGivesBack, end_of};
-ghost use Rattle.world.specs.Answers.{end_answered};
+ghost use Rattle.machine.specs.declared.event.Reply.TheVariants as reply;
+ghost use Rattle.cachecore.specs.Replies.{EndGivesBack, answered, end_of};
+ghost use Rattle.world.specs.Answers.{end_says};
 ghost use Rattle.world.specs.Ends.{ended};
-ghost use Rattle.runs.specs.Durable.{LastingStep, Flushed};
-ghost use Rattle.runs.specs.World.{World as TheWorld};
-ghost use Rattle.world.specs.Flushing.{IsDurably, IsFlushed, IsFlushedOnce, fault_of, lasting};
-ghost use Rattle.world.specs.Stepping.{CallReply, FailReply, Steps, done};
+ghost use Rattle.world.specs.Flushing.{IsFlushed, IsFlushedOnce};
+ghost use Rattle.world.specs.Stepping.{Fails, Steps};
 
 use super::World;
 use crate::answers::EndAnswer;
@@ -24,7 +22,7 @@ use pc_types::{ErrCode, Refusal, Serial};
 impl<D: BlockDevice> World<D> {
     /// Makes the device call of the request.
     pub fn call(&mut self, serial: Serial) -> Result<(), Refusal>
-        ensures { CallReply self.old serial.0 (map.get self.old.core.requests serial.0) (map.get self.old.outcomes serial.0) (done result) self.new }
+        ensures { Steps self.old (Step.Call serial) (answered (λ _. reply.Done) result) self.new }
     {
         match self.jobs.take(serial) {
             Some(Flight::Asked(job)) => {
@@ -42,7 +40,7 @@ impl<D: BlockDevice> World<D> {
 
     /// Ends the request.
     pub fn end(&mut self, serial: Serial) -> Result<EndAnswer, Refusal>
-        ensures { Steps self.old (Step.End serial) (end_answered result) self.new }
+        ensures { Steps self.old (Step.End serial) (answered end_says result) self.new }
     {
         match self.jobs.take(serial) {
             Some(Flight::Made(finished)) => {
@@ -73,7 +71,7 @@ impl<D: BlockDevice> World<D> {
     /// a cache of its own. It is no event, and the device call of no request.
     pub fn flush(&mut self) -> Result<(), ErrCode>
         ensures flushed { IsFlushed self.old result self.new }
-        ensures turn { (was : TheWorld) → IsDurably self.old was → (is : TheWorld) × IsDurably self.new is × LastingStep (lasting self.old was) (Flushed (fault_of result)) (lasting self.new is) }
+        ensures durable { OnOk result (self.new.device.durable ≡ self.new.device.contents) }
     {
         self.device.flush()
     }
@@ -98,7 +96,7 @@ impl World<ScriptDevice> {
         code: ErrCode,
         effect: FaultEffect,
     ) -> Result<(), Refusal>
-        ensures { FailReply self.old serial.0 (map.get self.old.core.requests serial.0) (map.get self.old.outcomes serial.0) code effect result self.new }
+        ensures { Fails self.old serial.0 code effect result self.new }
     {
         if !self.jobs.is_asked(serial) {
             return Err(Refusal::Stranger);

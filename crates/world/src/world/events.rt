@@ -3,7 +3,7 @@
 ghost use Rattle.std.specs.Prelude.{◌≡◌, ◌≢◌, ◌≤◌, length, drop, Err};
 ghost use Rattle.pc_types.specs.declared.refusal.Refusal.TheVariants.{Memory};
 ghost use Rattle.machine.specs.declared.event.Reply.TheVariants as reply;
-ghost use Rattle.cachecore.specs.Replies.{bytes_read, closed, created, evicted, opened, sized, sync_begun, sync_dropped, was_read, was_truncated, wrote};
+ghost use Rattle.cachecore.specs.Replies.{answered, bytes_read, evicted, was_read, was_truncated, wrote};
 ghost use Rattle.world.specs.Stepping.{HasAllPages, IsMade};
 
 use super::World;
@@ -15,28 +15,28 @@ use pc_types::{FileId, HandleId, PageIndex, Refusal, SyncId};
 impl<D: BlockDevice> World<D> {
     /// A new file, without bytes.
     pub fn create(&mut self) -> Result<FileId, Refusal>
-        ensures { IsMade self.old Step.Create (created result) self.new }
+        ensures { IsMade self.old Step.Create (answered reply.File result) self.new }
     {
         self.core.create()
     }
 
     /// Opens a file, by the lowest free handle.
     pub fn open(&mut self, file: FileId) -> Result<HandleId, Refusal>
-        ensures { IsMade self.old (Step.Open file) (opened result) self.new }
+        ensures { IsMade self.old (Step.Open file) (answered reply.Handle result) self.new }
     {
         self.core.open(file)
     }
 
     /// Closes a handle.
     pub fn close(&mut self, handle: HandleId) -> Result<(), Refusal>
-        ensures { IsMade self.old (Step.Close handle) (closed result) self.new }
+        ensures { IsMade self.old (Step.Close handle) (answered (λ _. reply.Closed) result) self.new }
     {
         self.core.close(handle)
     }
 
     /// Bytes of the handle's file.
     pub fn size(&self, handle: HandleId) -> Result<u64, Refusal>
-        ensures { IsMade self.now (Step.Size handle) (sized result) self.now }
+        ensures { IsMade self.now (Step.Size handle) (answered reply.Size result) self.now }
     {
         self.core.size(handle)
     }
@@ -98,7 +98,7 @@ impl<D: BlockDevice> World<D> {
 
     /// Begins a sync of the handle's whole file.
     pub fn sync_begin(&mut self, handle: HandleId) -> Result<SyncId, Refusal>
-        ensures made { IsMade self.old (Step.SyncBegin handle) (sync_begun result) self.new }
+        ensures made { IsMade self.old (Step.SyncBegin handle) (answered reply.Sync result) self.new }
         ensures whole { HasAllPages self.old.core.sizes.page }
     {
         self.core.sync_begin(handle)
@@ -112,14 +112,14 @@ impl<D: BlockDevice> World<D> {
         first: PageIndex,
         last: PageIndex,
     ) -> Result<SyncId, Refusal>
-        ensures { IsMade self.old (Step.SyncBeginRange handle first last) (sync_begun result) self.new }
+        ensures { IsMade self.old (Step.SyncBeginRange handle first last) (answered reply.Sync result) self.new }
     {
         self.core.sync_begin_range(handle, first, last)
     }
 
     /// Gives a sync up. The pages that it tagged stay so.
     pub fn sync_drop(&mut self, sync: SyncId) -> Result<(), Refusal>
-        ensures { IsMade self.old (Step.SyncDrop sync) (sync_dropped result) self.new }
+        ensures { IsMade self.old (Step.SyncDrop sync) (answered (λ _. reply.Dropped) result) self.new }
     {
         self.core.sync_drop(sync)
     }

@@ -1,4 +1,4 @@
-use Rattle.world.proofs.Durably.{flush_keeps, flush_turn, is_flushed}
+use Rattle.world.proofs.Durably.{flush_keeps, is_flushed}
 use Rattle.world.proofs.world.World.flush.Goals as goal
 
 pub invariant_of-self : goal.invariant_of-self
@@ -10,6 +10,3 @@ invariant_of-self g c = (
 pub returns-clause-flushed : goal.returns-clause-flushed
 returns-clause-flushed g c = is_flushed c.self.inside.core.state c.self.inside.jobs _ _ c.flush.result c.flush.ensures.cleared _
     c.self.view_is
-
-pub returns-clause-turn : goal.returns-clause-turn
-returns-clause-turn g c = flush_turn _ _ c.flush.result (returns-clause-flushed g c)

@@ -7,7 +7,8 @@ use Rattle.world.proofs.Beginnings.{kind_is}
 use Rattle.world.proofs.EventReplies.{job_acted, quiet_acted}
 use Rattle.world.proofs.Spares.{flush_back, with_spare}
 use Rattle.world.proofs.WorldSteps.{flush_job, job_world, quiet_world}
-use Rattle.world.specs.Answers.{flush_answered}
+use Rattle.cachecore.specs.Replies.{answered}
+use Rattle.world.specs.Answers.{flush_says}
 use Rattle.world.proofs.world.World.flush_begin.Goals as goal
 
 pub invariant_of-self-in-Job : goal.invariant_of-self-in-Job
@@ -49,7 +50,7 @@ invariant_of-self-in-Answered g c =
       flush_back c.flush_begin.result c.in-Answered.answer
           c.in_ok-buffer.buffer c.in-Answered.buffer _ a c.flush_begin.ensures.back c.in_ok-buffer.ensures.size,
     )
-    (quiet_world c.self.inside.core.state c.self.inside.jobs _ c.self.invariant.0 e (flush_answered c.in-Answered.answer)
+    (quiet_world c.self.inside.core.state c.self.inside.jobs _ c.self.invariant.0 e (answered flush_says c.in-Answered.answer)
     c.flush_begin.new.self.state a.1 refl step)
 
 pub returns-in-Answered : goal.returns-in-Answered
@@ -59,4 +60,4 @@ returns-in-Answered g c =
     let step = subst (λ r. Step c.self.inside.core.state e r c.flush_begin.new.self.state) (sym a.0)
     c.flush_begin.ensures.step in
     inl (quiet_acted c.self.inside.core.state c.self.inside.jobs _ c.self.invariant.0 c.args.self.now c.self.view_is e
-    (flush_answered c.in-Answered.answer) c.flush_begin.new.self.state tt a.1 refl step)
+    (answered flush_says c.in-Answered.answer) c.flush_begin.new.self.state tt a.1 refl step)

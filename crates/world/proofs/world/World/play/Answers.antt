@@ -3,7 +3,7 @@ use Rattle.std.proofs.lemmas.List.{take_all, take_more}
 use Rattle.world.specs.declared.step.Step.{Step}
 use Rattle.world.specs.Stepping.{Plays}
 use Rattle.world.proofs.Durably.{plays_durable}
-use Rattle.world.proofs.PlayLemmas.{plays-snoc, plays_lead}
+use Rattle.world.proofs.PlayLemmas.{plays-snoc}
 use Rattle.world.proofs.world.World.play.Goals as goal
 
 pub loop-step-preserved : goal.loop-step-preserved
@@ -26,10 +26,5 @@ loop-step-preserved g c =
 
 pub returns-clause-durable : goal.returns-clause-durable
 returns-clause-durable g c = plays_durable c.args.steps.now c.loop-step.replies.items c.args.self.now c.loop-step.self
-    (subst (λ (ss : List Step). Plays c.args.self.now ss c.loop-step.replies.items c.loop-step.self)
-    (take_all c.loop-step.step-index c.args.steps.now c.loop-step-test.false) c.loop-step.invariant.played)
-
-pub returns-clause-is_run : goal.returns-clause-is_run
-returns-clause-is_run g c = plays_lead c.args.steps.now c.loop-step.replies.items c.args.self.now c.loop-step.self
     (subst (λ (ss : List Step). Plays c.args.self.now ss c.loop-step.replies.items c.loop-step.self)
     (take_all c.loop-step.step-index c.args.steps.now c.loop-step-test.false) c.loop-step.invariant.played)
