@@ -1,8 +1,7 @@
-//! A world over a device in memory, as a caller uses it. Every row is run by `over_a_world`, since the check is slow
-//! where a world is dropped.
+//! A world over a device in memory, as a caller uses it.
 
 use crate::checks::{check, same};
-use blockdev::{FaultEffect, MemDevice, ScriptDevice};
+use blockdev::{BlockDevice, FaultEffect, MemDevice, ScriptDevice};
 use cachecore::{PageTags, Reply};
 use pc_types::{
     Bytes, ErrCode, FileId, Geometry, HandleId, PageIndex, Refusal, Serial, SyncId, Tag, Tags,
@@ -44,34 +43,33 @@ fn play_a_gap(rt: &impl Abort, alloc: Global, world: &mut World<MemDevice>) -> R
     Ok(())
 }
 
+// A world in a box, since the check is slow where a world itself goes out of scope.
+fn boxed<D: BlockDevice>(alloc: Global, blocks: u64, device: D) -> Result<Box<World<D>>, Refusal> {
+    let geometry = Geometry::new(16, 48, 16, blocks)?;
+    match World::new(alloc, &geometry, 0, device) {
+        Ok(world) => Ok(Box::new(alloc, world)?),
+        Err((refusal, _)) => Err(refusal),
+    }
+}
+
 #[test]
 fn plays_a_gap(rt: HostRuntime) -> Result<(), Refusal> {
     let alloc = rt.alloc();
-    let geometry = Geometry::new(16, 48, 16, 64)?;
-    let device = MemDevice::new(alloc, 16, 64)?;
-    let Ok(mut world) = World::new(alloc, &geometry, 0, device) else {
-        return Err(Refusal::BadConfig);
-    };
+    let mut world = boxed(alloc, 64, MemDevice::new(alloc, 16, 64)?)?;
     play_a_gap(&rt, alloc, &mut world)
 }
 
 #[test]
 fn refuses_another_device(rt: HostRuntime) -> Result<(), Refusal> {
     let alloc = rt.alloc();
-    let geometry = Geometry::new(16, 48, 16, 64)?;
-    let device = MemDevice::new(alloc, 16, 63)?;
-    let refused = World::new(alloc, &geometry, 0, device);
-    check(&rt, matches!(refused, Err((Refusal::BadConfig, _))));
+    let refused = boxed(alloc, 64, MemDevice::new(alloc, 16, 63)?);
+    same(&rt, refused.err(), Some(Refusal::BadConfig));
     Ok(())
 }
 
 // A world over zeros, with one file that is open.
-fn opened(alloc: Global, blocks: u64) -> Result<World<ScriptDevice>, Refusal> {
-    let geometry = Geometry::new(16, 48, 16, blocks)?;
-    let device = ScriptDevice::new(alloc, 16, blocks)?;
-    let Ok(mut world) = World::new(alloc, &geometry, 0, device) else {
-        return Err(Refusal::BadConfig);
-    };
+fn opened(alloc: Global, blocks: u64) -> Result<Box<World<ScriptDevice>>, Refusal> {
+    let mut world = boxed(alloc, blocks, ScriptDevice::new(alloc, 16, blocks)?)?;
     world.step(&Step::Create);
     world.step(&Step::Open(FileId(0)));
     Ok(world)
@@ -583,12 +581,9 @@ fn sync_of_a_range(
 
 // A flush that fails does so once, and is no call.
 fn flush_the_device(rt: &impl Abort, alloc: Global) -> Result<(), Refusal> {
-    let geometry = Geometry::new(16, 48, 16, 64)?;
     let mut device = ScriptDevice::new(alloc, 16, 64)?;
     device.fail_next_flush(ErrCode::IO);
-    let Ok(mut world) = World::new(alloc, &geometry, 0, device) else {
-        return Err(Refusal::BadConfig);
-    };
+    let mut world = boxed(alloc, 64, device)?;
     same(rt, world.flush_written(), Err(ErrCode::IO));
     same(rt, world.flush(), Ok(()));
     same(rt, world.flush_written(), Ok(()));
