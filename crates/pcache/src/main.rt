@@ -2,22 +2,10 @@
 //! The program of the page cache. `pcache run` reads a script of cache calls and prints what each answers; `pcache storm` makes
 //! calls from many threads at once, and replays their history.
 //!
-//! `storm` runs a storm, which the crate `storm_text` has in words: `caller` has a thread that makes calls, `member` its seat, `steps`
-//! which calls these are, and `crew` the workers. `odd` says which entry of a history is not as plain files answer, which are those of
-//! `plain`.
+//! The crates `script` and `storm` have these two.
 
 ghost use Rattle.std.specs.Prelude.{◌≡◌, IsOkUnless};
 ghost use Rattle.textline.specs.Stops.{IsStatus, status_of};
-
-mod caller;
-mod crew;
-mod member;
-mod odd;
-mod plain;
-mod steps;
-mod storm;
-#[cfg(test)]
-mod tests;
 
 use script::{run_script, say};
 use std::alloc::Global;

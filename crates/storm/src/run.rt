@@ -6,7 +6,7 @@ ghost use Rattle.held.specs.Shown.{AreFresh};
 ghost use Rattle.locked.specs.Keeps.{IsLocked};
 ghost use Rattle.shared.specs.Keeps.{IsDisk};
 ghost use Rattle.shared.specs.Workers.{IsWorkerOf};
-ghost use Rattle.pcache.specs.Crews.{IsCrewOf};
+ghost use Rattle.storm.specs.Crews.{IsCrewOf};
 ghost use Rattle.storm_text.specs.Told.{StormTells};
 
 use crate::caller::Caller;

@@ -1,7 +1,7 @@
 //! Which calls a caller makes, one after the other.
 
 ghost use Rattle.std.specs.Prelude.{◌≡◌, ◌+◌, ◌<◌, ◌≤◌, ◌%◌};
-ghost use Rattle.pcache.specs.Rounds.{place_of};
+ghost use Rattle.storm.specs.Rounds.{place_of};
 
 use rand_core::{Rng, SeedableRng};
 use rand_xoshiro::SplitMix64;

@@ -4,7 +4,7 @@ use Rattle.atomic_table.specs.Seated.{TableId}
 use Rattle.pc_types.specs.Limits.{Sizes}
 use Rattle.ring.specs.declared.ring.Ring.{Ring}
 use Rattle.shared.specs.Workers.{IsWorkerOf}
-use Rattle.pcache.specs.declared.crew.Crew.{Crew}
+use Rattle.storm.specs.declared.crew.Crew.{Crew}
 
 -- each is a worker of the cache of this ring, name, table and sizes
 pub record IsCrewOf (ring : Ring) (name : ℕ) (table : TableId) (sizes : Sizes) (c : Crew) : Type 0 where

@@ -1,7 +1,5 @@
 //! Storms, with what they print, what is said on standard error, and the status.
 
-use crate::odd::Odd;
-use crate::storm::{Weather, run_storm};
 use machine::{Event, Reply};
 use pc_types::{Bytes, FileId, HandleId};
 use std::alloc::Global;
@@ -11,6 +9,7 @@ use std::process::Abort;
 use std::sync::Wait;
 use std::test::Fail;
 use std::thread::Threads;
+use storm::{Odd, Weather, run_storm};
 use textline::Printer;
 use trail::{Entry, FullTrail, Reserve, Trail, first_odd};
 

@@ -1,5 +1,5 @@
 use Rattle.std.specs.Prelude.{◌+◌, vec_len}
-use Rattle.pcache.proofs.storm.over.Given as goal
+use Rattle.storm.proofs.run.over.Given as goal
 
 -- the parts that were just made
 abbrev pub ghosts-history : goal.ghosts-history

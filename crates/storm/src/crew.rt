@@ -2,7 +2,7 @@
 
 ghost use Rattle.std.specs.Prelude.{◌≡◌, IfSome};
 ghost use Rattle.shared.specs.Workers.{IsWorkerOf};
-ghost use Rattle.pcache.specs.Crews.{IsCrewOf};
+ghost use Rattle.storm.specs.Crews.{IsCrewOf};
 
 use crate::member::Member;
 use blockdev::{BlockDevice, Gate};

@@ -1,7 +1,7 @@
 -- The kinds of calls in turn.
 use Rattle.std.specs.Prelude.{ℕ}
-use Rattle.pcache.specs.declared.steps.Kind.{Kind}
-use Rattle.pcache.specs.declared.steps.Kind.TheVariants as kind
+use Rattle.storm.specs.declared.steps.Kind.{Kind}
+use Rattle.storm.specs.declared.steps.Kind.TheVariants as kind
 
 -- the place of a kind in a round of all of them
 abbrev pub place_of : Kind → ℕ
