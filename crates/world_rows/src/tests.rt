@@ -1,7 +1,7 @@
 //! A world over a device in memory, as a caller uses it.
 
 use crate::checks::{check, same};
-use blockdev::{BlockDevice, FaultEffect, MemDevice, ScriptDevice};
+use blockdev::{FaultEffect, MemDevice, ScriptDevice};
 use cachecore::{PageTags, Reply};
 use pc_types::{
     Bytes, ErrCode, FileId, Geometry, HandleId, PageIndex, Refusal, Serial, SyncId, Tag, Tags,
@@ -44,25 +44,34 @@ fn play_a_gap(rt: &impl Abort, alloc: Global, world: &mut World<MemDevice>) -> R
 }
 
 // A world in a box, since the check is slow where a world itself goes out of scope.
-fn boxed<D: BlockDevice>(alloc: Global, blocks: u64, device: D) -> Result<Box<World<D>>, Refusal> {
+fn boxed(
+    alloc: Global,
+    blocks: u64,
+    device: ScriptDevice,
+) -> Result<Box<World<ScriptDevice>>, Refusal> {
     let geometry = Geometry::new(16, 48, 16, blocks)?;
-    match World::new(alloc, &geometry, 0, device) {
-        Ok(world) => Ok(Box::new(alloc, world)?),
-        Err((refusal, _)) => Err(refusal),
-    }
+    let Ok(world) = World::new(alloc, &geometry, 0, device) else {
+        return Err(Refusal::BadConfig);
+    };
+    Ok(Box::new(alloc, world)?)
 }
 
 #[test]
 fn plays_a_gap(rt: HostRuntime) -> Result<(), Refusal> {
     let alloc = rt.alloc();
-    let mut world = boxed(alloc, 64, MemDevice::new(alloc, 16, 64)?)?;
+    let geometry = Geometry::new(16, 48, 16, 64)?;
+    let device = MemDevice::new(alloc, 16, 64)?;
+    let Ok(world) = World::new(alloc, &geometry, 0, device) else {
+        return Err(Refusal::BadConfig);
+    };
+    let mut world = Box::new(alloc, world)?;
     play_a_gap(&rt, alloc, &mut world)
 }
 
 #[test]
 fn refuses_another_device(rt: HostRuntime) -> Result<(), Refusal> {
     let alloc = rt.alloc();
-    let refused = boxed(alloc, 64, MemDevice::new(alloc, 16, 63)?);
+    let refused = boxed(alloc, 64, ScriptDevice::new(alloc, 16, 63)?);
     same(&rt, refused.err(), Some(Refusal::BadConfig));
     Ok(())
 }
@@ -157,7 +166,7 @@ fn writes(
     let all = items.len() as u64;
     check(
         rt,
-        matches!(reply, Reply::Wrote(count, found) if count == all && found == end),
+        matches!(&reply, Reply::Wrote(count, found) if *count == all && *found == end),
     );
     Ok(())
 }
@@ -166,7 +175,7 @@ fn refuses(rt: &impl Abort, world: &mut World<ScriptDevice>, step: &Step, refusa
     let reply = world.step(step);
     check(
         rt,
-        matches!(reply, Reply::Refused(found) if found == refusal),
+        matches!(&reply, Reply::Refused(found) if *found == refusal),
     );
 }
 
