@@ -2,7 +2,7 @@
 //! The program of the page cache. `pcache run` reads a script of cache calls and prints what each answers; `pcache storm` makes
 //! calls from many threads at once, and replays their history.
 //!
-//! The crates `script` and `storm` have these two.
+//! The crate `script` does the first, and `storm` the second.
 
 ghost use Rattle.std.specs.Prelude.{◌≡◌, IsOkUnless};
 ghost use Rattle.textline.specs.Stops.{IsStatus, status_of};
