@@ -1,5 +1,6 @@
 //! A device over a file: what it takes, what it refuses, what a system call cut short means, and a flush that failed.
 
+use crate::checks::{check, same};
 use blockdev::{BlockDevice, FileDevice};
 use pc_types::{BlockNo, ErrCode, Refusal};
 use std::cell::Cell;
@@ -25,21 +26,22 @@ fn a_regular_file_reads_back(rt: HostRuntime) -> Result<(), Fail> {
     fs::write(&rt, path.as_path(), "short")?;
     let mut out = [9; 16];
     let mut device = FileDevice::open(&rt, rt.alloc(), path.as_path(), 16, 4)?;
-    assert!(rt; fs::metadata(&rt, path.as_path())?.len() == 64);
-    assert!(rt; device.write(BlockNo(3), b"sixteen bytes...").is_ok());
-    assert!(rt; device.flush().is_ok());
-    assert!(rt; device.read(BlockNo(3), &mut out).is_ok());
-    assert_eq!(rt; out, *b"sixteen bytes...");
-    assert_eq!(rt; (device.block_size(), device.blocks()), (16, 4));
-    assert_eq!(rt;
+    check(&rt, fs::metadata(&rt, path.as_path())?.len() == 64);
+    check(&rt, device.write(BlockNo(3), b"sixteen bytes...").is_ok());
+    check(&rt, device.flush().is_ok());
+    check(&rt, device.read(BlockNo(3), &mut out).is_ok());
+    same(&rt, out, *b"sixteen bytes...");
+    same(&rt, (device.block_size(), device.blocks()), (16, 4));
+    same(
+        &rt,
         (device.calls(), device.flushes(), device.faults()),
-        (2, 1, 0)
+        (2, 1, 0),
     );
 
     let mut fewer = FileDevice::open(&rt, rt.alloc(), path.as_path(), 16, 2)?;
-    assert!(rt; fs::metadata(&rt, path.as_path())?.len() == 64);
-    assert!(rt; fewer.read(BlockNo(0), &mut out).is_ok());
-    assert_eq!(rt; out, *b"short\0\0\0\0\0\0\0\0\0\0\0");
+    check(&rt, fs::metadata(&rt, path.as_path())?.len() == 64);
+    check(&rt, fewer.read(BlockNo(0), &mut out).is_ok());
+    same(&rt, out, *b"short\0\0\0\0\0\0\0\0\0\0\0");
     fs::remove_dir_all(&rt, folder.as_path())?;
     Ok(())
 }
@@ -49,16 +51,16 @@ fn what_is_no_device_is_refused(rt: HostRuntime) -> Result<(), Fail> {
     let folder = folder(&rt, "refused")?;
     let path = folder.join(rt.alloc(), "disk")?;
     let none = FileDevice::open(&rt, rt.alloc(), path.as_path(), 16, 4);
-    assert!(rt; matches!(none, Err(Refusal::Io(ErrCode::IO))));
+    check(&rt, matches!(none, Err(Refusal::Io(ErrCode::IO))));
     let directory = FileDevice::open(&rt, rt.alloc(), folder.as_path(), 16, 4);
-    assert!(rt; matches!(directory, Err(Refusal::Io(ErrCode::IO))));
+    check(&rt, matches!(directory, Err(Refusal::Io(ErrCode::IO))));
     fs::write(&rt, path.as_path(), "short")?;
     for (block_size, blocks) in [(0, 4), (16, u64::MAX), (1 << 40, 1 << 23)] {
         let refused = FileDevice::open(&rt, rt.alloc(), path.as_path(), block_size, blocks);
-        assert!(rt; matches!(refused, Err(Refusal::Io(ErrCode::IO))));
+        check(&rt, matches!(refused, Err(Refusal::Io(ErrCode::IO))));
     }
     // Nothing was done to the file.
-    assert!(rt; fs::metadata(&rt, path.as_path())?.len() == 5);
+    check(&rt, fs::metadata(&rt, path.as_path())?.len() == 5);
     fs::remove_dir_all(&rt, folder.as_path())?;
     Ok(())
 }
@@ -73,12 +75,12 @@ fn a_file_cut_shorter_is_a_fault(rt: HostRuntime) -> Result<(), Fail> {
     let other = OpenOptions::new().write(true).open(&rt, path.as_path())?;
     other.set_len(24)?;
     let mut out = [9; 16];
-    assert!(rt; device.read(BlockNo(0), &mut out).is_ok());
-    assert_eq!(rt; out, [0; 16]);
+    check(&rt, device.read(BlockNo(0), &mut out).is_ok());
+    same(&rt, out, [0; 16]);
     out = [9; 16];
-    assert_eq!(rt; device.read(BlockNo(1), &mut out), Err(ErrCode::IO));
-    assert_eq!(rt; out, [9; 16]);
-    assert_eq!(rt; (device.calls(), device.faults()), (2, 1));
+    same(&rt, device.read(BlockNo(1), &mut out), Err(ErrCode::IO));
+    same(&rt, out, [9; 16]);
+    same(&rt, (device.calls(), device.faults()), (2, 1));
     fs::remove_dir_all(&rt, folder.as_path())?;
     Ok(())
 }
@@ -136,9 +138,9 @@ impl OpenFile for Slow {
 fn a_call_that_is_cut_short_is_gone_on_with(rt: HostRuntime) -> Result<(), Fail> {
     let mut device = FileDevice::new(Slow::new(), 16, 4, vec![in rt.alloc(); 9; 16]?);
     let mut out = [9; 16];
-    assert!(rt; device.read(BlockNo(2), &mut out).is_ok());
-    assert_eq!(rt; out, [0; 16]);
-    assert!(rt; device.write(BlockNo(2), &out).is_ok());
+    check(&rt, device.read(BlockNo(2), &mut out).is_ok());
+    same(&rt, out, [0; 16]);
+    check(&rt, device.write(BlockNo(2), &out).is_ok());
     Ok(())
 }
 
@@ -146,11 +148,11 @@ fn a_call_that_is_cut_short_is_gone_on_with(rt: HostRuntime) -> Result<(), Fail>
 #[test]
 fn a_flush_that_failed_is_not_forgotten(rt: HostRuntime) -> Result<(), Fail> {
     let mut device = FileDevice::new(Slow::new(), 16, 4, vec![in rt.alloc(); 9; 16]?);
-    assert!(rt; device.flush().is_ok());
+    check(&rt, device.flush().is_ok());
     for failed in 1..4 {
-        assert_eq!(rt; device.flush(), Err(ErrCode::IO));
-        assert_eq!(rt; (device.calls(), device.faults()), (0, failed));
+        same(&rt, device.flush(), Err(ErrCode::IO));
+        same(&rt, (device.calls(), device.faults()), (0, failed));
     }
-    assert!(rt; device.flushes() == 4);
+    check(&rt, device.flushes() == 4);
     Ok(())
 }

@@ -3,6 +3,7 @@
 
 ghost use Rattle.std.specs.Prelude.{◌≡◌, ◌<◌, length, IfOk};
 
+use crate::checks::{check, same};
 use blockdev::{
     BlockDevice, Buffer, FaultEffect, FinishedParts, Gate, GatedDevice, Job, MemDevice,
     ScriptDevice, Watched, perform,
@@ -19,15 +20,15 @@ fn reads_back<D: BlockDevice>(rt: &impl Abort, device: &mut D)
     requires count { 1 < (D.told device.old).count }
 {
     let mut out = [9; 4];
-    assert!(rt; device.read(BlockNo(1), &mut out).is_ok());
-    assert_eq!(rt; out, [0; 4]);
-    assert!(rt; device.write(BlockNo(1), b"abcd").is_ok());
-    assert!(rt; device.read(BlockNo(0), &mut out).is_ok());
-    assert_eq!(rt; out, [0; 4]);
-    assert!(rt; device.read(BlockNo(1), &mut out).is_ok());
-    assert_eq!(rt; out, *b"abcd");
-    assert_eq!(rt; (device.block_size(), device.blocks()), (4, 2));
-    assert_eq!(rt; (device.calls(), device.faults()), (4, 0));
+    check(rt, device.read(BlockNo(1), &mut out).is_ok());
+    same(rt, out, [0; 4]);
+    check(rt, device.write(BlockNo(1), b"abcd").is_ok());
+    check(rt, device.read(BlockNo(0), &mut out).is_ok());
+    same(rt, out, [0; 4]);
+    check(rt, device.read(BlockNo(1), &mut out).is_ok());
+    same(rt, out, *b"abcd");
+    same(rt, (device.block_size(), device.blocks()), (4, 2));
+    same(rt, (device.calls(), device.faults()), (4, 0));
 }
 
 #[test]
@@ -42,17 +43,19 @@ fn devices_in_memory_read_back(rt: HostRuntime) -> Result<(), Fail> {
 // More bytes than can be addressed are want of memory, and no overflow.
 #[test]
 fn a_device_without_room_is_refused(rt: HostRuntime) {
-    assert!(rt;
+    check(
+        &rt,
         matches!(
             MemDevice::new(rt.alloc(), u64::MAX, 2),
             Err(Refusal::Memory)
-        )
+        ),
     );
-    assert!(rt;
+    check(
+        &rt,
         matches!(
             ScriptDevice::new(rt.alloc(), 4_096, u64::MAX),
             Err(Refusal::Memory)
-        )
+        ),
     );
 }
 
@@ -61,15 +64,15 @@ fn a_planned_write_fault_leaves_old_or_new_bytes(rt: HostRuntime) -> Result<(), 
     let full = ErrCode::new(28)?;
     for (effect, left) in [(FaultEffect::Old, b"old."), (FaultEffect::New, b"new.")] {
         let mut device = ScriptDevice::new(rt.alloc(), 4, 2)?;
-        assert!(rt; device.write(BlockNo(1), b"old.").is_ok());
+        check(&rt, device.write(BlockNo(1), b"old.").is_ok());
         device.fail_next(full, effect);
-        assert_eq!(rt; device.write(BlockNo(1), b"new."), Err(full));
-        assert_eq!(rt; device.bytes(BlockNo(1)), left.as_slice());
-        assert_eq!(rt; device.bytes(BlockNo(0)), [0; 4].as_slice());
-        assert_eq!(rt; (device.calls(), device.faults()), (2, 1));
+        same(&rt, device.write(BlockNo(1), b"new."), Err(full));
+        same(&rt, device.bytes(BlockNo(1)), left.as_slice());
+        same(&rt, device.bytes(BlockNo(0)), [0; 4].as_slice());
+        same(&rt, (device.calls(), device.faults()), (2, 1));
         // one call fails, and no more
-        assert!(rt; device.write(BlockNo(1), b"next").is_ok());
-        assert_eq!(rt; device.bytes(BlockNo(1)), b"next".as_slice());
+        check(&rt, device.write(BlockNo(1), b"next").is_ok());
+        same(&rt, device.bytes(BlockNo(1)), b"next".as_slice());
     }
     Ok(())
 }
@@ -78,15 +81,15 @@ fn a_planned_write_fault_leaves_old_or_new_bytes(rt: HostRuntime) -> Result<(), 
 fn a_planned_read_fault_changes_nothing(rt: HostRuntime) -> Result<(), Fail> {
     for effect in [FaultEffect::Old, FaultEffect::New] {
         let mut device = ScriptDevice::new(rt.alloc(), 4, 2)?;
-        assert!(rt; device.write(BlockNo(1), b"kept").is_ok());
+        check(&rt, device.write(BlockNo(1), b"kept").is_ok());
         device.fail_next(ErrCode::IO, effect);
         let mut out = [9; 4];
-        assert_eq!(rt; device.read(BlockNo(1), &mut out), Err(ErrCode::IO));
-        assert_eq!(rt; out, [9; 4]);
-        assert_eq!(rt; device.bytes(BlockNo(1)), b"kept".as_slice());
-        assert_eq!(rt; (device.calls(), device.faults()), (2, 1));
-        assert!(rt; device.read(BlockNo(1), &mut out).is_ok());
-        assert_eq!(rt; out, *b"kept");
+        same(&rt, device.read(BlockNo(1), &mut out), Err(ErrCode::IO));
+        same(&rt, out, [9; 4]);
+        same(&rt, device.bytes(BlockNo(1)), b"kept".as_slice());
+        same(&rt, (device.calls(), device.faults()), (2, 1));
+        check(&rt, device.read(BlockNo(1), &mut out).is_ok());
+        same(&rt, out, *b"kept");
     }
     Ok(())
 }
@@ -95,13 +98,13 @@ fn a_planned_read_fault_changes_nothing(rt: HostRuntime) -> Result<(), Fail> {
 fn a_buffer_carries_a_page(rt: HostRuntime) -> Result<(), Fail> {
     let geometry = Geometry::new(16, 48, 16, 64)?;
     let mut buffer = Buffer::new(rt.alloc(), &geometry)?;
-    assert_eq!(rt; buffer.as_slice(), [0; 16].as_slice());
+    same(&rt, buffer.as_slice(), [0; 16].as_slice());
     let mut device = MemDevice::new(rt.alloc(), 16, 64)?;
     buffer.as_mut_slice().copy_from_slice(b"sixteen bytes...");
-    assert!(rt; device.write(BlockNo(63), buffer.as_slice()).is_ok());
+    check(&rt, device.write(BlockNo(63), buffer.as_slice()).is_ok());
     buffer.as_mut_slice().fill(0);
-    assert!(rt; device.read(BlockNo(63), buffer.as_mut_slice()).is_ok());
-    assert_eq!(rt; buffer.as_slice(), b"sixteen bytes...".as_slice());
+    check(&rt, device.read(BlockNo(63), buffer.as_mut_slice()).is_ok());
+    same(&rt, buffer.as_slice(), b"sixteen bytes...".as_slice());
     Ok(())
 }
 
@@ -129,14 +132,23 @@ fn made<D: BlockDevice>(
     ensures count { 1 < (D.told device.new).count }
 {
     let job = Job::new(3, Serial(7), kind, BlockNo(1), buffer);
-    assert!(rt; job.cache() == 3 && job.serial() == Serial(7) && job.kind() == kind);
-    assert!(rt; job.block() == BlockNo(1) && job.bytes().len() == 16);
+    check(
+        rt,
+        job.cache() == 3 && job.serial() == Serial(7) && job.kind() == kind,
+    );
+    check(rt, job.block() == BlockNo(1) && job.bytes().len() == 16);
     let finished = perform(device, job);
-    assert!(rt; finished.cache() == 3 && finished.serial() == Serial(7) && finished.kind() == kind);
+    check(
+        rt,
+        finished.cache() == 3 && finished.serial() == Serial(7) && finished.kind() == kind,
+    );
     let outcome = finished.outcome();
     let parts = finished.into_parts();
-    assert!(rt; parts.cache == 3 && parts.serial == Serial(7) && parts.kind == kind);
-    assert!(rt; parts.block == BlockNo(1) && parts.outcome == outcome);
+    check(
+        rt,
+        parts.cache == 3 && parts.serial == Serial(7) && parts.kind == kind,
+    );
+    check(rt, parts.block == BlockNo(1) && parts.outcome == outcome);
     parts
 }
 
@@ -150,12 +162,12 @@ fn carries_a_page<D: BlockDevice>(
     requires count { 1 < (D.told device.old).count }
 {
     let flushed = made(rt, device, Kind::Flush, page(alloc, 7)?);
-    assert!(rt; flushed.outcome.is_ok());
-    assert_eq!(rt; flushed.buffer.as_slice(), [7; 16].as_slice());
+    check(rt, flushed.outcome.is_ok());
+    same(rt, flushed.buffer.as_slice(), [7; 16].as_slice());
     let filled = made(rt, device, Kind::Fill, page(alloc, 9)?);
-    assert!(rt; filled.outcome.is_ok());
-    assert_eq!(rt; filled.buffer.as_slice(), [7; 16].as_slice());
-    assert_eq!(rt; (device.calls(), device.faults()), (2, 0));
+    check(rt, filled.outcome.is_ok());
+    same(rt, filled.buffer.as_slice(), [7; 16].as_slice());
+    same(rt, (device.calls(), device.faults()), (2, 0));
     Ok(())
 }
 
@@ -176,15 +188,15 @@ fn a_job_that_fails_tells_the_code(rt: HostRuntime) -> Result<(), Fail> {
         let mut device = ScriptDevice::new(alloc, 16, 2)?;
         device.fail_next(full, effect);
         let flushed = made(&rt, &mut device, Kind::Flush, page(alloc, 7)?);
-        assert_eq!(rt; flushed.outcome, Err(full));
-        assert_eq!(rt; flushed.buffer.as_slice(), [7; 16].as_slice());
-        assert_eq!(rt; device.bytes(BlockNo(0)), [0; 16].as_slice());
-        assert_eq!(rt; device.bytes(BlockNo(1)), [left; 16].as_slice());
+        same(&rt, flushed.outcome, Err(full));
+        same(&rt, flushed.buffer.as_slice(), [7; 16].as_slice());
+        same(&rt, device.bytes(BlockNo(0)), [0; 16].as_slice());
+        same(&rt, device.bytes(BlockNo(1)), [left; 16].as_slice());
         device.fail_next(ErrCode::IO, effect);
         let filled = made(&rt, &mut device, Kind::Fill, page(alloc, 9)?);
-        assert_eq!(rt; filled.outcome, Err(ErrCode::IO));
-        assert_eq!(rt; filled.buffer.as_slice(), [9; 16].as_slice());
-        assert_eq!(rt; (device.calls(), device.faults()), (2, 2));
+        same(&rt, filled.outcome, Err(ErrCode::IO));
+        same(&rt, filled.buffer.as_slice(), [9; 16].as_slice());
+        same(&rt, (device.calls(), device.faults()), (2, 2));
     }
     Ok(())
 }
@@ -192,21 +204,26 @@ fn a_job_that_fails_tells_the_code(rt: HostRuntime) -> Result<(), Fail> {
 #[test]
 fn a_flush_is_counted_apart(rt: HostRuntime) -> Result<(), Fail> {
     let mut memory = MemDevice::new(rt.alloc(), 4, 2)?;
-    assert!(rt; memory.write(BlockNo(1), b"kept").is_ok() && memory.flush().is_ok());
-    assert_eq!(rt;
+    check(
+        &rt,
+        memory.write(BlockNo(1), b"kept").is_ok() && memory.flush().is_ok(),
+    );
+    same(
+        &rt,
         (memory.calls(), memory.flushes(), memory.faults()),
-        (1, 1, 0)
+        (1, 1, 0),
     );
     let full = ErrCode::new(28)?;
     let mut script = ScriptDevice::new(rt.alloc(), 4, 2)?;
     script.fail_next_flush(full);
-    assert!(rt; script.write(BlockNo(1), b"kept").is_ok());
-    assert_eq!(rt; script.flush(), Err(full));
-    assert!(rt; script.flush().is_ok());
-    assert_eq!(rt; script.bytes(BlockNo(1)), b"kept".as_slice());
-    assert_eq!(rt;
+    check(&rt, script.write(BlockNo(1), b"kept").is_ok());
+    same(&rt, script.flush(), Err(full));
+    check(&rt, script.flush().is_ok());
+    same(&rt, script.bytes(BlockNo(1)), b"kept".as_slice());
+    same(
+        &rt,
         (script.calls(), script.flushes(), script.faults()),
-        (1, 2, 1)
+        (1, 2, 1),
     );
     Ok(())
 }
@@ -219,12 +236,12 @@ fn a_write_is_noted_until_a_good_flush(rt: HostRuntime) -> Result<(), Fail> {
     let mut script = ScriptDevice::new(rt.alloc(), 16, 2)?;
     script.fail_next_flush(full);
     let mut watched = Watched::over(script);
-    assert_eq!(rt; watched.flush_written(), Err(full));
-    assert_eq!(rt; watched.flush_written(), Ok(()));
+    same(&rt, watched.flush_written(), Err(full));
+    same(&rt, watched.flush_written(), Ok(()));
     watched.fail_next(full, FaultEffect::New);
     let done = watched.perform(Job::new(3, Serial(7), Kind::Flush, BlockNo(1), buffer));
-    assert_eq!(rt; done.outcome(), Err(full));
-    assert_eq!(rt; watched.flush(), Ok(()));
+    same(&rt, done.outcome(), Err(full));
+    same(&rt, watched.flush(), Ok(()));
     Ok(())
 }
 
@@ -250,8 +267,8 @@ fn each_call_passes_the_gate(rt: HostRuntime) -> Result<(), Fail> {
     let gate = Counter { last: Cell::new(9) };
     let mut device = GatedDevice::new(ScriptDevice::new(rt.alloc(), 4, 2)?, gate);
     reads_back(&rt, &mut device);
-    assert!(rt; device.gate().last.get() == 3);
-    assert!(rt; device.flush().is_ok());
-    assert!(rt; device.gate().last.get() == 3 && device.flushes() == 1);
+    check(&rt, device.gate().last.get() == 3);
+    check(&rt, device.flush().is_ok());
+    check(&rt, device.gate().last.get() == 3 && device.flushes() == 1);
     Ok(())
 }

@@ -12,8 +12,6 @@ mod block_map;
 mod held;
 mod spots;
 mod table;
-#[cfg(test)]
-mod tests;
 
 pub use block_map::BlockMap;
 pub use spots::Placed;

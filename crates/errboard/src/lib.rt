@@ -12,8 +12,6 @@
 pub mod board;
 pub mod recorder;
 mod steps;
-#[cfg(test)]
-mod tests;
 pub mod tokens;
 pub mod views;
 

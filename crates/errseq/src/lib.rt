@@ -10,8 +10,6 @@
 
 pub mod law;
 pub mod recording;
-#[cfg(test)]
-mod tests;
 pub mod word;
 
 pub use law::answers_as_recorded;

@@ -15,7 +15,5 @@ mod link;
 mod lists;
 mod ring;
 mod rows;
-#[cfg(test)]
-mod tests;
 
 pub use frames::Frames;

@@ -17,7 +17,5 @@ mod changes;
 mod floor;
 mod id_alloc;
 mod search;
-#[cfg(test)]
-mod tests;
 
 pub use id_alloc::IdAlloc;

@@ -10,8 +10,6 @@
 mod entry;
 mod mapping;
 mod page;
-#[cfg(test)]
-mod tests;
 mod totals;
 
 pub use mapping::{MAX_PAGES, Mapping};

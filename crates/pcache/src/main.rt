@@ -2,22 +2,10 @@
 //! The program of the page cache. `pcache run` reads a script of cache calls and prints what each answers; `pcache storm` makes
 //! calls from many threads at once, and replays their history.
 //!
-//! `storm` runs a storm, which the crate `storm_text` has in words: `caller` has a thread that makes calls, `member` its seat, `steps`
-//! which calls these are, and `crew` the workers. `odd` says which entry of a history is not as plain files answer, which are those of
-//! `plain`.
+//! The crate `script` does the first, and `storm` the second.
 
 ghost use Rattle.std.specs.Prelude.{◌≡◌, IsOkUnless};
 ghost use Rattle.textline.specs.Stops.{IsStatus, status_of};
-
-mod caller;
-mod crew;
-mod member;
-mod odd;
-mod plain;
-mod steps;
-mod storm;
-#[cfg(test)]
-mod tests;
 
 use script::{run_script, say};
 use std::alloc::Global;
@@ -31,8 +19,8 @@ use std::thread::Threads;
 use std::time::SystemTime;
 use storm::{Weather, run_storm};
 use storm_text::say_usage;
-use textline::Stop;
 use textline::words::number;
+use textline::{Printer, Stop};
 
 /// What the program is asked to do.
 #[derive(Drop)]
@@ -47,8 +35,15 @@ fn main(rt: HostRuntime) -> ExitCode {
     let status = match request_of(&rt) {
         Ok(Request::Run) => run_streams(&rt),
         Ok(Request::Storm(words)) => {
-            let (mut out, mut err) = (rt.stdout(), rt.stderr());
-            run_threads(&rt, rt.alloc(), &words, weather(&rt), &mut out, &mut err)
+            let mut out = Printer::new(rt.alloc(), rt.stdout());
+            run_threads(
+                &rt,
+                rt.alloc(),
+                &words,
+                weather(&rt),
+                &mut out,
+                &mut rt.stderr(),
+            )
         }
         Ok(Request::Neither) => {
             let _ = say_usage(&mut rt.stderr());
@@ -97,7 +92,10 @@ fn run_streams(rt: &HostRuntime) -> u8
         BufReader::new(alloc, rt.stdin()),
         BufWriter::new(alloc, rt.stdout()),
     ) {
-        (Ok(reader), Ok(mut out)) => run_script(alloc, reader, &mut out, &mut rt.stderr()),
+        (Ok(reader), Ok(out)) => {
+            let mut out = Printer::new(alloc, out);
+            run_script(alloc, reader, &mut out, &mut rt.stderr()).status()
+        }
         _ => say_stop(&mut rt.stderr(), Stop::Memory),
     }
 }
@@ -108,7 +106,7 @@ fn run_threads<R: Threads + Wait + Files<File = File> + Sync, W: Write, E: Write
     alloc: Global,
     owned: &[String],
     weather: Weather,
-    out: &mut W,
+    out: &mut Printer<W>,
     err: &mut E,
 ) -> u8 {
     let mut words = Vec::new(alloc);

@@ -2,6 +2,7 @@
 ghost use Rattle.std.specs.Prelude.{ℕ, ◌+◌, ◌/◌, ◌%◌, ◌^◌, ◌<◌, ◌≤◌};
 ghost use Rattle.radix.specs.Entries.{StandsAt, IsRun};
 
+use crate::checks::{check, same};
 use radix::{Cursor, Entry, Nodes};
 use std::test::Fail;
 
@@ -138,28 +139,28 @@ fn grows_and_shrinks(rt: HostRuntime) -> Result<(), Fail> {
         (false, [11, 21, 27, 29, 30, 31, 31]),
     ] {
         let mut nodes = Nodes::new(rt.alloc());
-        assert_eq!(rt; nodes.count(), 0);
+        same(&rt, nodes.count(), 0);
         for i in 0..7usize {
             let index = if is_rising { EDGES[i] } else { EDGES[6 - i] };
-            assert!(rt; put(&mut nodes, index, index / 2));
-            assert!(rt; !put(&mut nodes, index, 5));
-            assert_eq!(rt; nodes.get(index, 0), Some(Entry::Leaf(index / 2)));
+            check(&rt, put(&mut nodes, index, index / 2));
+            check(&rt, !put(&mut nodes, index, 5));
+            same(&rt, nodes.get(index, 0), Some(Entry::Leaf(index / 2)));
             assert_eq!(rt; nodes.count(), counts[i], "at {index}");
         }
         // A search finds the entries in rising order, whatever the order in which they came.
         let mut from = 0;
         for index in EDGES {
             let place = index;
-            assert_eq!(rt; next_entry(&nodes, from), Some((0, place)));
+            same(&rt, next_entry(&nodes, from), Some((0, place)));
             from = index.wrapping_add(1);
         }
         for i in 0..7usize {
             let index = if is_rising { EDGES[i] } else { EDGES[6 - i] };
-            assert!(rt; take(&mut nodes, index));
-            assert!(rt; !take(&mut nodes, index));
+            check(&rt, take(&mut nodes, index));
+            check(&rt, !take(&mut nodes, index));
         }
-        assert_eq!(rt; nodes.count(), 0);
-        assert_eq!(rt; next_entry(&nodes, 0), None);
+        same(&rt, nodes.count(), 0);
+        same(&rt, next_entry(&nodes, 0), None);
     }
     Ok(())
 }
@@ -169,18 +170,18 @@ fn grows_and_shrinks(rt: HostRuntime) -> Result<(), Fail> {
 fn marks_at_every_level(rt: HostRuntime) -> Result<(), Fail> {
     let mut nodes = Nodes::new(rt.alloc());
     for index in EDGES {
-        assert!(rt; put(&mut nodes, index, 1));
+        check(&rt, put(&mut nodes, index, 1));
     }
-    assert!(rt; store(&mut nodes, 63, 2));
-    assert_eq!(rt; nodes.get(63, 0), Some(Entry::Leaf(2)));
-    assert!(rt; store(&mut nodes, 62, 3));
-    assert_eq!(rt; nodes.get(62, 0), Some(Entry::Leaf(3)));
-    assert!(rt; !nodes.marked(1));
+    check(&rt, store(&mut nodes, 63, 2));
+    same(&rt, nodes.get(63, 0), Some(Entry::Leaf(2)));
+    check(&rt, store(&mut nodes, 62, 3));
+    same(&rt, nodes.get(62, 0), Some(Entry::Leaf(3)));
+    check(&rt, !nodes.marked(1));
     for index in [63, 4_096, u64::MAX] {
-        assert!(rt; mark(&mut nodes, index, true));
+        check(&rt, mark(&mut nodes, index, true));
     }
-    assert!(rt; nodes.marked(1));
-    assert!(rt; !nodes.marked(0));
+    check(&rt, nodes.marked(1));
+    check(&rt, !nodes.marked(0));
     for (from, place) in [
         (0, 63),
         (63, 63),
@@ -188,18 +189,18 @@ fn marks_at_every_level(rt: HostRuntime) -> Result<(), Fail> {
         (4_097, u64::MAX),
         (u64::MAX, u64::MAX),
     ] {
-        assert_eq!(rt; next_set(&nodes, from), Some((0, place)));
+        same(&rt, next_set(&nodes, from), Some((0, place)));
     }
-    assert!(rt; mark(&mut nodes, 4_096, false));
-    assert!(rt; nodes.marked_under(63, 1, 1));
-    assert!(rt; !nodes.marked_under(64, 1, 1));
-    assert!(rt; nodes.marked_under(4_095, 2, 1));
-    assert!(rt; !nodes.marked_under(4_096, 2, 1));
-    assert_eq!(rt; next_set(&nodes, 64), Some((0, u64::MAX)));
-    assert!(rt; mark(&mut nodes, u64::MAX, false));
-    assert_eq!(rt; next_set(&nodes, 64), None);
-    assert!(rt; mark(&mut nodes, 63, false));
-    assert!(rt; !nodes.marked(1));
+    check(&rt, mark(&mut nodes, 4_096, false));
+    check(&rt, nodes.marked_under(63, 1, 1));
+    check(&rt, !nodes.marked_under(64, 1, 1));
+    check(&rt, nodes.marked_under(4_095, 2, 1));
+    check(&rt, !nodes.marked_under(4_096, 2, 1));
+    same(&rt, next_set(&nodes, 64), Some((0, u64::MAX)));
+    check(&rt, mark(&mut nodes, u64::MAX, false));
+    same(&rt, next_set(&nodes, 64), None);
+    check(&rt, mark(&mut nodes, 63, false));
+    check(&rt, !nodes.marked(1));
     Ok(())
 }
 
@@ -209,13 +210,13 @@ fn marks_at_every_level(rt: HostRuntime) -> Result<(), Fail> {
 fn next_of_several_slots(rt: HostRuntime) -> Result<(), Fail> {
     let mut nodes = Nodes::new(rt.alloc());
     let Ok(()) = nodes.reserve_path(256, 1) else {
-        assert!(rt; false);
+        check(&rt, false);
         return Ok(());
     };
     nodes.put_run(256, 1, 4, 9);
-    assert_eq!(rt; next_entry(&nodes, 1), Some((1, 4)));
-    assert_eq!(rt; next_entry(&nodes, 257), Some((1, 4)));
-    assert_eq!(rt; next_entry(&nodes, 320), None);
+    same(&rt, next_entry(&nodes, 1), Some((1, 4)));
+    same(&rt, next_entry(&nodes, 257), Some((1, 4)));
+    same(&rt, next_entry(&nodes, 320), None);
     Ok(())
 }
 
@@ -224,31 +225,35 @@ fn next_of_several_slots(rt: HostRuntime) -> Result<(), Fail> {
 fn several_slots(rt: HostRuntime) -> Result<(), Fail> {
     let mut nodes = Nodes::new(rt.alloc());
     let Ok(()) = nodes.reserve_path(256, 1) else {
-        assert!(rt; false);
+        check(&rt, false);
         return Ok(());
     };
     nodes.put_run(256, 1, 4, 9);
-    assert_eq!(rt; nodes.count(), 1);
-    assert_eq!(rt; nodes.get(256, 1), Some(Entry::Leaf(9)));
-    assert_eq!(rt; nodes.get(511, 1), Some(Entry::Sibling(4)));
-    assert_eq!(rt; nodes.get(512, 1), None);
+    same(&rt, nodes.count(), 1);
+    same(&rt, nodes.get(256, 1), Some(Entry::Leaf(9)));
+    same(&rt, nodes.get(511, 1), Some(Entry::Sibling(4)));
+    same(&rt, nodes.get(512, 1), None);
     let Some(cursor) = nodes.seek(256, 1) else {
-        assert!(rt; false);
+        check(&rt, false);
         return Ok(());
     };
-    assert_eq!(rt; nodes.beside(cursor, 256, 1, 7), Some(Entry::Sibling(4)));
-    assert!(rt; nodes.follows(cursor, 256, 1, 7));
-    assert!(rt; !nodes.follows(cursor, 256, 1, 8));
-    assert_eq!(rt; next_held(&nodes, 400), None);
+    same(
+        &rt,
+        nodes.beside(cursor, 256, 1, 7),
+        Some(Entry::Sibling(4)),
+    );
+    check(&rt, nodes.follows(cursor, 256, 1, 7));
+    check(&rt, !nodes.follows(cursor, 256, 1, 8));
+    same(&rt, next_held(&nodes, 400), None);
     nodes.set_bit(cursor, 256, 1, 0);
-    assert!(rt; nodes.get_bit(cursor, 256, 1, 0));
+    check(&rt, nodes.get_bit(cursor, 256, 1, 0));
     for from in [0u64, 256, 400, 511] {
-        assert_eq!(rt; next_held(&nodes, from), Some((1, 4)));
+        same(&rt, next_held(&nodes, from), Some((1, 4)));
     }
-    assert_eq!(rt; next_held(&nodes, 512), None);
+    same(&rt, next_held(&nodes, 512), None);
     take_run(&mut nodes, cursor, 256, 4);
-    assert_eq!(rt; nodes.get(511, 1), None);
-    assert_eq!(rt; nodes.count(), 0);
+    same(&rt, nodes.get(511, 1), None);
+    same(&rt, nodes.count(), 0);
     Ok(())
 }
 
@@ -257,12 +262,12 @@ fn several_slots(rt: HostRuntime) -> Result<(), Fail> {
 fn cut_in_two(rt: HostRuntime) -> Result<(), Fail> {
     let mut nodes = Nodes::new(rt.alloc());
     let Ok(()) = nodes.reserve_path(256, 1) else {
-        assert!(rt; false);
+        check(&rt, false);
         return Ok(());
     };
     nodes.put_run(256, 1, 4, 9);
     let Some(cursor) = nodes.seek(256, 1) else {
-        assert!(rt; false);
+        check(&rt, false);
         return Ok(());
     };
     nodes.set_bit(cursor, 256, 1, 1);
@@ -277,10 +282,10 @@ fn cut_in_two(rt: HostRuntime) -> Result<(), Fail> {
     ] {
         assert_eq!(rt; nodes.get(index, 1), entry, "at {index}");
     }
-    assert_eq!(rt; nodes.count(), 1);
-    assert_eq!(rt; next_set(&nodes, 0), Some((1, 4)));
-    assert_eq!(rt; next_set(&nodes, 320), Some((1, 6)));
-    assert_eq!(rt; next_set(&nodes, 448), None);
+    same(&rt, nodes.count(), 1);
+    same(&rt, next_set(&nodes, 0), Some((1, 4)));
+    same(&rt, next_set(&nodes, 320), Some((1, 6)));
+    same(&rt, next_set(&nodes, 448), None);
     Ok(())
 }
 
@@ -289,23 +294,23 @@ fn cut_in_two(rt: HostRuntime) -> Result<(), Fail> {
 fn expand_twice(rt: HostRuntime) -> Result<(), Fail> {
     let mut nodes = Nodes::new(rt.alloc());
     let Ok(()) = nodes.reserve_path(8_192, 2) else {
-        assert!(rt; false);
+        check(&rt, false);
         return Ok(());
     };
     nodes.put(8_192, 2, 7);
-    assert!(rt; mark(&mut nodes, 8_192, true));
-    assert!(rt; expand(&mut nodes, 8_192, 2, 0));
-    assert_eq!(rt; nodes.get(8_192, 2), None);
-    assert_eq!(rt; nodes.get(12_224, 1), Some(Entry::Leaf(7)));
-    assert!(rt; mark(&mut nodes, 8_192, false));
-    assert_eq!(rt; next_set(&nodes, 0), Some((1, 129)));
-    assert!(rt; expand(&mut nodes, 12_224, 1, 3));
-    assert_eq!(rt; nodes.get(12_224, 1), None);
-    assert_eq!(rt; nodes.get(12_280, 0), Some(Entry::Leaf(7)));
-    assert_eq!(rt; nodes.get(12_287, 0), Some(Entry::Sibling(56)));
-    assert_eq!(rt; next_set(&nodes, 12_224), Some((0, 12_224)));
-    assert_eq!(rt; next_set(&nodes, 12_225), Some((0, 12_232)));
-    assert_eq!(rt; next_set(&nodes, 12_281), None);
-    assert_eq!(rt; nodes.count(), 3);
+    check(&rt, mark(&mut nodes, 8_192, true));
+    check(&rt, expand(&mut nodes, 8_192, 2, 0));
+    same(&rt, nodes.get(8_192, 2), None);
+    same(&rt, nodes.get(12_224, 1), Some(Entry::Leaf(7)));
+    check(&rt, mark(&mut nodes, 8_192, false));
+    same(&rt, next_set(&nodes, 0), Some((1, 129)));
+    check(&rt, expand(&mut nodes, 12_224, 1, 3));
+    same(&rt, nodes.get(12_224, 1), None);
+    same(&rt, nodes.get(12_280, 0), Some(Entry::Leaf(7)));
+    same(&rt, nodes.get(12_287, 0), Some(Entry::Sibling(56)));
+    same(&rt, next_set(&nodes, 12_224), Some((0, 12_224)));
+    same(&rt, next_set(&nodes, 12_225), Some((0, 12_232)));
+    same(&rt, next_set(&nodes, 12_281), None);
+    same(&rt, nodes.count(), 3);
     Ok(())
 }

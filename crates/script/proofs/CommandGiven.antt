@@ -1,57 +1,29 @@
 -- What a command gives, and the line that asks for it.
-use Rattle.std.proofs.Common.{◌≡◌, ◌≢◌, ℕ, Bool, true, false, inr, List, Option, Some, None, Result, Ok, Err, IfErr, IfOk, OnOk, IsOk, IsOkUnless, refl, sym, ap, subst, ◌∙◌}
+use Rattle.std.proofs.Common.{◌≡◌, ◌≢◌, ℕ, Bool, true, false, inr, List, Option, Some, None, Result, Ok, Err, IfOk, IsOk, IsOkUnless, refl, sym, ap, subst}
 use Rattle.std.specs.Prelude.{◌↔◌, IsTrue, if◌then◌else◌}
-use Rattle.std.specs.Io.KnownBytes.{Appends}
 use Rattle.std.proofs.lemmas.Bool.{false≢true}
-use Rattle.std.specs.Result.{result_unwrap_or}
 use Rattle.pc_types.specs.Limits.{Sizes, is_geometry}
-use Rattle.pc_types.specs.declared.ids.HandleId.{HandleId}
-use Rattle.pc_types.specs.declared.ids.PageIndex.{PageIndex}
 use Rattle.pc_types.specs.declared.refusal.Refusal.{Refusal}
 use Rattle.pc_types.specs.declared.refusal.Refusal.TheVariants.{BadConfig}
-use Rattle.machine.specs.declared.event.Reply.{Reply}
 use Rattle.script.specs.declared.command.Command.{Command}
 use Rattle.script.specs.declared.command.Command.TheVariants as command
 use Rattle.textline.specs.declared.stop.Stop.{Stop}
 use Rattle.textline.specs.declared.stop.Stop.TheVariants.{Malformed, Input, Output, Memory}
-use Rattle.script.specs.Answers.{IsPrintFault, answer_of}
-use Rattle.textline.specs.Lines.{Prints, ended, is_blank}
+use Rattle.textline.specs.Lines.{is_blank}
+use Rattle.textline.specs.Prints.{Writes}
 use Rattle.script.specs.Commands.{Means}
-use Rattle.script.specs.Runs.{Answers, CommandGives, IsMisplaced, LineGives, SyncsFile, TellsTags, config_text, default_sizes, sizes_of, session_of_sizes}
-use Rattle.script.specs.Sessions.{Fsyncs, SessionSeen}
+use Rattle.script.specs.Runs.{Answers, CommandGives, ConfigGives, IsMisplaced, LineGives, default_sizes, sizes_of, session_of_sizes}
+use Rattle.script.specs.Sessions.{SessionSeen}
 use Rattle.script.proofs.CommandLemmas.{config_alone}
 
-pub fault_gives : (old new : Option SessionSeen) (n : ℕ) (c : Command) (before after : Option (List ℕ)) (stop : Stop) → IsPrintFault before after stop → CommandGives old n c (Err stop) new before after
-fault_gives old new n c before after (Malformed m) h = absurd h
-fault_gives old new n c before after Input h = absurd h
-fault_gives old new n c before after Output h = tt
-fault_gives old new n c before after Memory h = h
-
--- a command whose answer was printed, or is none since the printing failed
-pub answer_given : (old : Option SessionSeen) (n : ℕ) (c : Command) (r : Result (Unit {0}) Stop) (w : SessionSeen) (before after : Option (List ℕ))
-    → OnOk r ((printed : List ℕ) × Answers old c printed w × Appends before after printed) → IfErr r (IsPrintFault before after) → CommandGives old n c r (Some w) before after
-answer_given old n c (Ok done) w before after (printed, answered, appended) fault = (printed, w, answered, refl, appended)
-answer_given old n c (Err stop) w before after told fault = fault_gives old (Some w) n c before after stop fault
-
--- a fault of the output
-pub output_fault : (before after : Option (List ℕ)) (r : Result (Unit {0}) Stop) → IsOkUnless r Output → IfErr r (IsPrintFault before after)
-output_fault before after (Ok done) unless = tt
-output_fault before after (Err stop) unless = subst (IsPrintFault before after) (sym unless) tt
-
--- what comes of a sync is printed
-pub synced_printed : (r : Result (Unit {0}) Stop) (old new : SessionSeen) (handle : HandleId)
-    (range : Option (PageIndex × PageIndex)) (reply : Reply) (before after : Option (List ℕ))
-    → Fsyncs old handle range reply new → OnOk r (Prints before after (answer_of reply))
-    → OnOk r ((printed : List ℕ) × SyncsFile old handle range printed new × Appends before after printed)
-synced_printed (Ok done) old new handle range reply before after synced printed = (ended (answer_of reply), (reply, synced, refl), printed)
-synced_printed (Err stop) old new handle range reply before after synced printed = tt
-
--- what is known of a page changes no session
-pub told_same : (r : Result (Unit {0}) Stop) (w : SessionSeen) (file page : ℕ) (before after : Option (List ℕ))
-    → OnOk r ((printed : List ℕ) × TellsTags w file page printed × Appends before after printed)
-    → OnOk r ((printed : List ℕ) × (TellsTags w file page printed × (w ≡ w)) × Appends before after printed)
-told_same (Ok done) w file page before after (printed, told, appended) = (printed, (told, refl), appended)
-told_same (Err stop) w file page before after told = tt
+-- a command whose answer was printed, or begun, or for which memory was refused
+pub answer_given : (old : Option SessionSeen) (n : ℕ) (c : Command) (r : Result (Unit {0}) Stop) (w : SessionSeen) (before after : Option (List ℕ)) (printed : List ℕ)
+    → Answers old c printed w → Writes r printed before after → CommandGives old n c r (Some w) before after
+answer_given old n c (Ok done) w before after printed answered writes = (printed, w, answered, refl, writes)
+answer_given old n c (Err (Malformed m)) w before after printed answered writes = absurd writes
+answer_given old n c (Err Input) w before after printed answered writes = absurd writes
+answer_given old n c (Err Output) w before after printed answered writes = (printed, w, answered, writes)
+answer_given old n c (Err Memory) w before after printed answered writes = writes
 
 -- a geometry as it is made is the sizes of its line, or the refusal
 made_of : (b : Bool) (r : Result Sizes Refusal) (s : Sizes) → IfOk r (λ g. g ≡ s) → (IsOk r → IsTrue b) → (IsTrue b → IsOk r) → IsOkUnless r BadConfig → r ≡ (if b then Ok s else Err BadConfig)
@@ -69,11 +41,16 @@ misplaced w n p f d b new None = (refl, tt, tt)
 misplaced w n p f d b new (Some xs) = (refl, tt, refl)
 
 pub configured : (n p f d b : ℕ) (before after : Option (List ℕ)) (r : Result (Unit {0}) Stop) (new : Option SessionSeen) (sizes : Result Sizes Refusal) → sizes ≡ sizes_of p f d b
-    → OnOk r (new ≡ Some (session_of_sizes (result_unwrap_or sizes default_sizes))) → OnOk r (Prints before after (config_text sizes)) → IfErr r (IsPrintFault before after)
-    → CommandGives None n (command.Config p f d b) r new before after
-configured n p f d b before after (Ok done) new sizes e made printed fault =
-    (ended (config_text (sizes_of p f d b)), session_of_sizes (result_unwrap_or (sizes_of p f d b) default_sizes), (refl, refl), made ∙ ap (λ s. Some (session_of_sizes (result_unwrap_or s default_sizes))) e, subst (λ s. Prints before after (config_text s)) e printed)
-configured n p f d b before after (Err stop) new sizes e made printed fault = fault_gives None new n (command.Config p f d b) before after stop fault
+    → ConfigGives sizes r new before after → CommandGives None n (command.Config p f d b) r new before after
+configured n p f d b before after r new sizes e gives = configured_as n p f d b before after r new (subst (λ s. ConfigGives s r new before after) e gives)
+  where
+    configured_as : (n p f d b : ℕ) (before after : Option (List ℕ)) (r : Result (Unit {0}) Stop) (new : Option SessionSeen)
+        → ConfigGives (sizes_of p f d b) r new before after → CommandGives None n (command.Config p f d b) r new before after
+    configured_as n p f d b before after (Ok done) new gives = (_, _, (refl, refl), gives.0, gives.1)
+    configured_as n p f d b before after (Err (Malformed m)) new gives = absurd gives.1
+    configured_as n p f d b before after (Err Input) new gives = absurd gives.1
+    configured_as n p f d b before after (Err Output) new gives = (_, _, (refl, refl), gives.1)
+    configured_as n p f d b before after (Err Memory) new gives = gives
 
 -- any other first command finds the session of the default sizes
 pub first_given : (n : ℕ) (c : Command) (r : Result (Unit {0}) Stop) (new : Option SessionSeen) (before after : Option (List ℕ))
@@ -82,27 +59,27 @@ first_given n (command.Config p f d b) r new before after other gives = absurd (
 first_given n (command.Step s) (Ok done) new before after other gives = gives
 first_given n (command.Step s) (Err (Malformed m)) new before after other gives = absurd gives.1
 first_given n (command.Step s) (Err Input) new before after other gives = gives
-first_given n (command.Step s) (Err Output) new before after other gives = tt
+first_given n (command.Step s) (Err Output) new before after other gives = gives
 first_given n (command.Step s) (Err Memory) new before after other gives = gives
 first_given n (command.Fail s k e) (Ok done) new before after other gives = gives
 first_given n (command.Fail s k e) (Err (Malformed m)) new before after other gives = absurd gives.1
 first_given n (command.Fail s k e) (Err Input) new before after other gives = gives
-first_given n (command.Fail s k e) (Err Output) new before after other gives = tt
+first_given n (command.Fail s k e) (Err Output) new before after other gives = gives
 first_given n (command.Fail s k e) (Err Memory) new before after other gives = gives
 first_given n (command.Fsync h k) (Ok done) new before after other gives = gives
 first_given n (command.Fsync h k) (Err (Malformed m)) new before after other gives = absurd gives.1
 first_given n (command.Fsync h k) (Err Input) new before after other gives = gives
-first_given n (command.Fsync h k) (Err Output) new before after other gives = tt
+first_given n (command.Fsync h k) (Err Output) new before after other gives = gives
 first_given n (command.Fsync h k) (Err Memory) new before after other gives = gives
 first_given n (command.Poll h) (Ok done) new before after other gives = gives
 first_given n (command.Poll h) (Err (Malformed m)) new before after other gives = absurd gives.1
 first_given n (command.Poll h) (Err Input) new before after other gives = gives
-first_given n (command.Poll h) (Err Output) new before after other gives = tt
+first_given n (command.Poll h) (Err Output) new before after other gives = gives
 first_given n (command.Poll h) (Err Memory) new before after other gives = gives
 first_given n (command.Tags f p) (Ok done) new before after other gives = gives
 first_given n (command.Tags f p) (Err (Malformed m)) new before after other gives = absurd gives.1
 first_given n (command.Tags f p) (Err Input) new before after other gives = gives
-first_given n (command.Tags f p) (Err Output) new before after other gives = tt
+first_given n (command.Tags f p) (Err Output) new before after other gives = gives
 first_given n (command.Tags f p) (Err Memory) new before after other gives = gives
 
 -- where a line asks for a misplaced command, each command that it asks for is misplaced
@@ -128,5 +105,5 @@ pub line_given : (old : Option SessionSeen) (n : ℕ) (line : List ℕ) (c : Com
 line_given old n line c (Ok done) new before after some means (printed, w, answered, is, appended) = (printed, inr (some, c, w, means, answered, is), appended)
 line_given old n line c (Err (Malformed m)) new before after some means (is, mis, kept) = (is, (some, misplaced_line old line c means mis), kept)
 line_given old n line c (Err Input) new before after some means gives = gives
-line_given old n line c (Err Output) new before after some means gives = tt
+line_given old n line c (Err Output) new before after some means (printed, w, answered, part) = (printed, Some w, inr (some, c, w, means, answered, refl), part)
 line_given old n line c (Err Memory) new before after some means gives = gives

@@ -1,9 +1,10 @@
 -- A script, answered line by line.
-use Rattle.std.proofs.Common.{◌≡◌, ◌≢◌, ℕ, ◌+◌, ◌<◌, ◌≤◌, Bool, true, false, inl, inr, ◌⊎◌, List, [], ◌∷◌, ◌++◌, Option, Some, None, IfSome, Result, Ok, Err, IsOkUnless, length, refl, sym, ap, subst, ◌∙◌, arith}
+use Rattle.std.proofs.Common.{◌≡◌, ◌≢◌, ℕ, ◌+◌, ◌<◌, ◌≤◌, Bool, true, false, inl, inr, List, [], ◌∷◌, ◌++◌, Option, Some, None, IfSome, Result, Ok, Err, length, take, refl, sym, ap, subst, ◌∙◌, arith}
 use Rattle.std.specs.Prelude.{nat_lt}
 use Rattle.std.specs.List.{position_or_len, before_first, after_first, slice_split}
 use Rattle.std.specs.Io.KnownBytes.{Keeps, Appends}
 use Rattle.std.proofs.lemmas.Bool.{ltb-true, ltb-false}
+use Rattle.std.proofs.Math.Seq.{take-append-add}
 use Rattle.std.proofs.lemmas.List.{append-nil, append_assoc, drop_all, length-append, take_all}
 use Rattle.std.proofs.lemmas.List.Splits.{slice_split_first, length-slice_split}
 use Rattle.textline.specs.declared.lines.Fetched.TheVariants.{Line}
@@ -11,9 +12,10 @@ use Rattle.script.specs.declared.run.TheConstants.{MAX_LINE}
 use Rattle.textline.specs.declared.stop.Stop.{Stop}
 use Rattle.textline.specs.declared.stop.Stop.TheVariants.{Malformed, Input, Output, Memory}
 use Rattle.textline.specs.Lines.{is_newline, lines_of, without_empty_end, Fetches}
-use Rattle.script.specs.Runs.{Answered, AnsweredFirst, Ends, EndsWith, LineAnswers, LineGives}
+use Rattle.script.specs.Runs.{Answered, AnsweredFirst, Ends, LineAnswers, LineGives, PrintsPart}
 use Rattle.script.specs.Sessions.{SessionSeen}
-use Rattle.textline.specs.Stops.{IsFault, status_of}
+use Rattle.textline.specs.Prints.{AppendsPart}
+use Rattle.textline.specs.Stops.{IsFault}
 use Rattle.textline.proofs.WordLemmas.{whole}
 
 -- ---- the lines of a script
@@ -68,6 +70,13 @@ appends_on (Some x) None c s t h k = absurd h
 appends_on (Some x) (Some y) None s t h k = absurd k
 appends_on (Some x) (Some y) (Some z) s t h k = k ∙ ap (λ v. v ++ t) h ∙ append_assoc x s t
 
+-- all of it is a beginning of it
+whole_part : (a b : Option (List ℕ)) (s : List ℕ) → Appends a b s → AppendsPart a b s
+whole_part a b s h = (length s, subst (Appends a b) (sym (take_all (length s) s (omega arith))) h)
+
+part_on : (a b c : Option (List ℕ)) (s t : List ℕ) → Appends a b s → AppendsPart b c t → AppendsPart a c (s ++ t)
+part_on a b c s t h (n, more) = (length s + n, subst (Appends a c) (sym (take-append-add s t n)) (appends_on a b c s (take n t) h more))
+
 appends_kept : (a b c : Option (List ℕ)) (s : List ℕ) → Appends a b s → Keeps b c → Appends a c s
 appends_kept None b c s h k = tt
 appends_kept (Some x) None c s h k = absurd h
@@ -105,6 +114,42 @@ first_kept : (lines : List (List ℕ)) (n : ℕ) (rest : List (List ℕ)) (w : O
     → AnsweredFirst lines n rest w a b → Keeps b c → AnsweredFirst lines n rest w a c
 first_kept lines n rest w a b c (done, texts, split, count, answered, appended) kept = (done, texts, split, count, answered, appends_kept a b c texts appended kept)
 
+part_kept : (lines : List (List ℕ)) (a b c : Option (List ℕ)) → PrintsPart lines a b → Keeps b c → PrintsPart lines a c
+part_kept lines a b c p kept = record {
+  first = p.first;
+  rest = p.rest;
+  session = p.session;
+  printed = p.printed;
+  split = p.split;
+  answered = p.answered;
+  written = (p.written.0, appends_kept a b c _ p.written.1 kept);
+}
+
+-- all answers of the first lines were written
+first_part : (lines : List (List ℕ)) (n : ℕ) (rest : List (List ℕ)) (w : Option SessionSeen) (a b : Option (List ℕ)) → AnsweredFirst lines n rest w a b → PrintsPart lines a b
+first_part lines n rest w a b (done, printed, split, count, answered, appended) = record {
+  first = done;
+  rest = rest;
+  session = w;
+  printed = printed;
+  split = split;
+  answered = answered;
+  written = whole_part a b printed appended;
+}
+
+-- and then a beginning of the next line's
+first_and_part : (lines : List (List ℕ)) (n : ℕ) (line printed : List ℕ) (rest : List (List ℕ)) (w new : Option SessionSeen) (a b c : Option (List ℕ))
+    → AnsweredFirst lines n (line ∷ rest) w a b → length line ≤ MAX_LINE → LineAnswers w line printed new → AppendsPart b c printed → PrintsPart lines a c
+first_and_part lines n line printed rest w new a b c (done, texts, split, count, answered, appended) within answers part = record {
+  first = done ++ (line ∷ []);
+  rest = rest;
+  session = new;
+  printed = texts ++ printed;
+  split = split ∙ sym (append_assoc done (line ∷ []) rest);
+  answered = answered_more None done line texts printed w new answered within answers;
+  written = part_on a b c texts printed appended part;
+}
+
 -- ---- between two lines
 
 -- the first n lines of the script were answered, and the reader has the others left
@@ -126,7 +171,7 @@ fault_ends : {script : List ℕ} {left : Option (List ℕ)} {n : ℕ} {w : Optio
     → Stands script left n w a b → Keeps b c → IsFault stop → Ends (lines_of script) (Err stop) a c
 fault_ends c (Malformed line) s kept fault = absurd fault
 fault_ends {n = n} {w = w} {a = a} {b = b} c Input s kept fault = (n, w, lines_of s.bytes, first_kept _ n _ w a b c s.answered kept)
-fault_ends c Output s kept fault = tt
+fault_ends {n = n} {w = w} {a = a} {b = b} c Output s kept fault = first_part _ n _ w a c (first_kept _ n _ w a b c s.answered kept)
 fault_ends {n = n} {w = w} {a = a} {b = b} c Memory s kept fault = (n, w, lines_of s.bytes, first_kept _ n _ w a b c s.answered kept)
 
 pub stands_fault : {script : List ℕ} {left : Option (List ℕ)} {n : ℕ} {w : Option SessionSeen} {a b : Option (List ℕ)} (c : Option (List ℕ)) (stop : Stop) (r : Result (Unit {0}) Stop)
@@ -150,12 +195,12 @@ stands_too_long {script = script} {left = left} {k = k} {w = w} {a = a} {b = b} 
 
 -- what a line comes to that was fetched: the run goes on, or ends there
 line_ends : (lines : List (List ℕ)) (k : ℕ) (w : Option SessionSeen) (a b c : Option (List ℕ)) (n : ℕ) (line : List ℕ) (rest : List (List ℕ)) (stop : Stop) (new : Option SessionSeen)
-    → AnsweredFirst lines k (line ∷ rest) w a b → n ≡ k + 1 → LineGives w n line (Err stop) new b c → Ends lines (Err stop) a c
-line_ends lines k w a b c n line rest (Malformed m) new s counted gives =
+    → AnsweredFirst lines k (line ∷ rest) w a b → n ≡ k + 1 → length line ≤ MAX_LINE → LineGives w n line (Err stop) new b c → Ends lines (Err stop) a c
+line_ends lines k w a b c n line rest (Malformed m) new s counted within gives =
     (k, w, line, rest, gives.0 ∙ counted, first_kept _ k _ w a b c s gives.2, inr gives.1)
-line_ends lines k w a b c n line rest Input new s counted gives = (k, w, line ∷ rest, first_kept _ k _ w a b c s gives)
-line_ends lines k w a b c n line rest Output new s counted gives = tt
-line_ends lines k w a b c n line rest Memory new s counted gives = (k, w, line ∷ rest, first_kept _ k _ w a b c s gives)
+line_ends lines k w a b c n line rest Input new s counted within gives = (k, w, line ∷ rest, first_kept _ k _ w a b c s gives)
+line_ends lines k w a b c n line rest Output new s counted within (printed, next, answers, part) = first_and_part lines k line printed rest w next a b c s within answers part
+line_ends lines k w a b c n line rest Memory new s counted within gives = (k, w, line ∷ rest, first_kept _ k _ w a b c s gives)
 
 -- the lines that are not answered yet begin with the line that was fetched
 fetched_first : {script : List ℕ} {left : Option (List ℕ)} {k : ℕ} {w : Option SessionSeen} {a b : Option (List ℕ)} (c : Option (List ℕ)) (line : List ℕ) (after : Option (List ℕ))
@@ -168,11 +213,11 @@ fetched_first {script = script} {left = left} {k = k} {w = w} {a = a} {b = b} c 
     first_kept _ k _ w a b c (subst (λ lines. AnsweredFirst (lines_of script) k lines w a b) begins s.answered) kept
 
 pub stands_stopped : {script : List ℕ} {left : Option (List ℕ)} {k : ℕ} {w : Option SessionSeen} {a b : Option (List ℕ)} (c d : Option (List ℕ)) (n : ℕ) (line : List ℕ) (after : Option (List ℕ)) (stop : Stop) (new : Option SessionSeen) (r : Result (Unit {0}) Stop)
-    → r ≡ Err stop → Stands script left k w a b → IfSome left (λ bytes. Fetches MAX_LINE bytes Line line after) → Keeps b c → n ≡ k + 1 → LineGives w n line (Err stop) new c d
+    → r ≡ Err stop → Stands script left k w a b → IfSome left (λ bytes. Fetches MAX_LINE bytes Line line after) → Keeps b c → n ≡ k + 1 → length line ≤ MAX_LINE → LineGives w n line (Err stop) new c d
     → Ends (lines_of script) r a d
-stands_stopped {script = script} {k = k} {w = w} {a = a} c d n line after stop new r is s fetched kept counted gives =
+stands_stopped {script = script} {k = k} {w = w} {a = a} c d n line after stop new r is s fetched kept counted within gives =
     subst (λ end. Ends (lines_of script) end a d) (sym is)
-    (line_ends (lines_of script) k w a c d n line _ stop new (fetched_first c line after s fetched kept) counted gives)
+    (line_ends (lines_of script) k w a c d n line _ stop new (fetched_first c line after s fetched kept) counted within gives)
 
 pub stands_next : {script : List ℕ} {left : Option (List ℕ)} {k : ℕ} {w : Option SessionSeen} {a b : Option (List ℕ)} (c d : Option (List ℕ)) (n : ℕ) (line : List ℕ) (after : Option (List ℕ)) (new : Option SessionSeen)
     → Stands script left k w a b → IfSome left (λ bytes. Fetches MAX_LINE bytes Line line after) → Keeps b c → n ≡ k + 1 → length line ≤ MAX_LINE → LineGives w n line (Ok tt) new c d
@@ -187,30 +232,31 @@ stands_next {script = script} {left = left} {k = k} {w = w} {a = a} c d n line a
     }
 
 -- the script has ended
-pub stands_ended : {script : List ℕ} {left : Option (List ℕ)} {n : ℕ} {w : Option SessionSeen} {a b : Option (List ℕ)} (c d : Option (List ℕ)) (r : Result (Unit {0}) Stop)
-    → Stands script left n w a b → IfSome left (λ bytes. bytes ≡ []) → Keeps b c → Keeps c d → IsOkUnless r Output → Ends (lines_of script) r a d
-stands_ended {script = script} {left = left} {n = n} {w = w} {a = a} {b = b} c d (Ok done) s none kept flushed ok =
+pub stands_ended : {script : List ℕ} {left : Option (List ℕ)} {n : ℕ} {w : Option SessionSeen} {a b : Option (List ℕ)} (c : Option (List ℕ))
+    → Stands script left n w a b → IfSome left (λ bytes. bytes ≡ []) → Keeps b c → Ends (lines_of script) (Ok tt) a c
+stands_ended {script = script} {left = left} {n = n} {w = w} {a = a} {b = b} c s none kept =
     let empty : s.bytes ≡ [] = known (λ bytes. bytes ≡ []) left s.bytes s.has none in
     let all : AnsweredFirst (lines_of script) n [] w a b = subst (λ bytes. AnsweredFirst (lines_of script) n (lines_of bytes) w a b) empty s.answered in
-    (n, w, first_kept _ n _ w a c d (first_kept _ n _ w a b c all kept) flushed)
-stands_ended {script = script} {a = a} c d (Err stop) s none kept flushed ok =
-    let failed : Ends (lines_of script) (Err Output) a d = tt in
-    subst (λ e. Ends (lines_of script) (Err e) a d) (sym ok) failed
+    (n, w, first_kept _ n _ w a b c all kept)
 
--- ---- the status
+-- ---- what was printed is handed on
 
--- what holds of a run's end holds while its output is kept
-ends_kept : (lines : List (List ℕ)) (stop : Stop) (a b c : Option (List ℕ)) → Ends lines (Err stop) a b → Keeps b c → Ends lines (Err stop) a c
-ends_kept lines (Malformed n) a b c (k, w, line, rest, counted, first, bad) kept = (k, w, line, rest, counted, first_kept _ k _ w a b c first kept, bad)
-ends_kept lines Input a b c (n, w, rest, first) kept = (n, w, rest, first_kept _ n _ w a b c first kept)
-ends_kept lines Output a b c ends kept = tt
-ends_kept lines Memory a b c (n, w, rest, first) kept = (n, w, rest, first_kept _ n _ w a b c first kept)
+pub ends_kept : (lines : List (List ℕ)) (r : Result (Unit {0}) Stop) (a b c : Option (List ℕ)) → Ends lines r a b → Keeps b c → Ends lines r a c
+ends_kept lines (Ok done) a b c (n, w, first) kept = (n, w, first_kept _ n _ w a b c first kept)
+ends_kept lines (Err (Malformed n)) a b c (k, w, line, rest, counted, first, bad) kept = (k, w, line, rest, counted, first_kept _ k _ w a b c first kept, bad)
+ends_kept lines (Err Input) a b c (n, w, rest, first) kept = (n, w, rest, first_kept _ n _ w a b c first kept)
+ends_kept lines (Err Output) a b c part kept = part_kept lines a b c part kept
+ends_kept lines (Err Memory) a b c (n, w, rest, first) kept = (n, w, rest, first_kept _ n _ w a b c first kept)
 
-ends_as : (lines : List (List ℕ)) (stop end : Stop) (a b : Option (List ℕ)) (status : ℕ) → Ends lines (Err stop) a b → (end ≡ Output) ⊎ (end ≡ stop) → status ≡ status_of end → EndsWith lines status a b
-ends_as lines stop end a b status ends (inl failed) is = (Err Output, tt, is ∙ ap status_of failed)
-ends_as lines stop end a b status ends (inr same) is = (Err stop, ends, is ∙ ap status_of same)
+ends_part : (lines : List (List ℕ)) (r : Result (Unit {0}) Stop) (a b : Option (List ℕ)) → Ends lines r a b → PrintsPart lines a b
+ends_part lines (Ok done) a b (n, w, first) = first_part lines n _ w a b first
+ends_part lines (Err (Malformed n)) a b (k, w, line, rest, counted, first, bad) = first_part lines k _ w a b first
+ends_part lines (Err Input) a b (n, w, rest, first) = first_part lines n _ w a b first
+ends_part lines (Err Output) a b part = part
+ends_part lines (Err Memory) a b (n, w, rest, first) = first_part lines n _ w a b first
 
--- a run that stopped, and then handed on what it had printed
-pub ends_with_stop : (lines : List (List ℕ)) (stop end : Stop) (a b c : Option (List ℕ)) (status : ℕ) → Ends lines (Err stop) a b → Keeps b c → (end ≡ Output) ⊎ (end ≡ stop) → status ≡ status_of end
-    → EndsWith lines status a c
-ends_with_stop lines stop end a b c status ends kept which is = ends_as lines stop end a c status (ends_kept lines stop a b c ends kept) which is
+-- where that fails, a beginning of the answers was written all the same
+pub ends_unflushed : (lines : List (List ℕ)) (r s : Result (Unit {0}) Stop) (stop : Stop) (a b c : Option (List ℕ)) → Ends lines r a b → Keeps b c → s ≡ Err stop → stop ≡ Output → Ends lines s a c
+ends_unflushed lines r s stop a b c ends kept is failed =
+    let part : Ends lines (Err Output) a c = part_kept lines a b c (ends_part lines r a b ends) kept in
+    subst (λ e. Ends lines e a c) (sym (is ∙ ap Err failed)) part

@@ -1,6 +1,5 @@
 -- What a line of a script prints.
 use Rattle.std.specs.Prelude.{ℕ, Bool, false, if◌then◌else◌, List, [], ◌∷◌, ◌++◌, Option, Some, None, Result, Ok, Err, codes, decimal}
-use Rattle.std.specs.Io.KnownBytes.{Keeps}
 use Rattle.hex.specs.Hex.{encode_lower}
 use Rattle.pc_types.specs.declared.refusal.Refusal.{Refusal}
 use Rattle.pc_types.specs.declared.refusal.Refusal.TheVariants.{Io}
@@ -11,14 +10,6 @@ use Rattle.machine.specs.declared.event.Reply.{Reply}
 use Rattle.machine.specs.declared.event.Reply.TheVariants.{Refused, File, Handle, Closed, Size, Bytes, Wait, Miss, Wrote, Done, Gone, Present, Filled, Job, Dropped, Failed, Nothing, Written, Evicted, NoneIdle, Aged, Sync, Clean}
 use Rattle.cachecore.specs.declared.answers.PageTags.{PageTags}
 use Rattle.cachecore.specs.declared.answers.PageTags.TheVariants.{Absent, Filling, Cached}
-use Rattle.textline.specs.declared.stop.Stop.{Stop}
-use Rattle.textline.specs.declared.stop.Stop.TheVariants.{Memory, Output}
-
--- why a line was not printed: the output failed, or memory for it was refused before anything was written
-abbrev pub IsPrintFault : Option (List ℕ) → Option (List ℕ) → Stop → Type 0
-IsPrintFault old new Output = Unit {0}
-IsPrintFault old new Memory = Keeps old new
-IsPrintFault old new _ = ⊥
 
 -- two digits a byte, in lower case, or `-` for no byte
 abbrev pub hex_text : List ℕ → List ℕ

@@ -1,5 +1,5 @@
 -- What a script does: each command is a call of a session, with its answer on a line of its own.
-use Rattle.std.specs.Prelude.{◌≡◌, ℕ, ◌+◌, ◌<◌, ◌≤◌, ◌⊎◌, Bool, true, false, if◌then◌else◌, List, [], ◌∷◌, ◌++◌, length, Option, Some, None, unwrap_or, Result, Ok, Err, codes}
+use Rattle.std.specs.Prelude.{◌≡◌, ℕ, ◌+◌, ◌<◌, ◌≤◌, ◌⊎◌, Bool, true, false, if◌then◌else◌, List, [], ◌∷◌, ◌++◌, length, Option, Some, None, unwrap_or, Result, Ok, Err, MatchResult, codes}
 use Rattle.std.specs.Result.{result_unwrap_or}
 use Rattle.std.specs.Io.KnownBytes.{Keeps, Appends}
 use Rattle.machine.specs.declared.event.Reply.{Reply}
@@ -18,13 +18,15 @@ use Rattle.world.specs.declared.step.Step.TheVariants as step
 use Rattle.world.specs.Stepping.{Fails, WorldSeen, first_world}
 use Rattle.script.specs.declared.command.Command.{Command}
 use Rattle.script.specs.declared.command.Command.TheVariants as command
+use Rattle.script.specs.declared.run.Ended.{Ended}
 use Rattle.script.specs.declared.run.TheConstants.{MAX_LINE}
 use Rattle.textline.specs.declared.stop.Stop.{Stop}
 use Rattle.textline.specs.declared.stop.Stop.TheVariants.{Malformed, Input, Output, Memory}
 use Rattle.script.specs.Answers.{answer_of, polled_text, refusal_text, tags_text}
 use Rattle.script.specs.Commands.{Means}
 use Rattle.script.specs.Sessions.{Fsyncs, Makes, Polls, SessionSeen, first_session}
-use Rattle.textline.specs.Lines.{ended, is_blank}
+use Rattle.textline.specs.Lines.{is_blank}
+use Rattle.textline.specs.Prints.{AppendsPart, Writes, ended}
 use Rattle.textline.specs.Stops.{reason_of, status_of}
 
 -- ---- sizes
@@ -140,8 +142,18 @@ abbrev pub AnsweredFirst : List (List ℕ) → ℕ → List (List ℕ) → Optio
 AnsweredFirst lines n rest w before after =
     (done : List (List ℕ)) × (printed : List ℕ) × (lines ≡ done ++ rest) × (length done ≡ n) × Answered None done printed w × Appends before after printed
 
+-- the first lines were answered, and of their answers a beginning was written. The other lines are `rest`
+pub record PrintsPart (lines : List (List ℕ)) (before after : Option (List ℕ)) : Type 0 where
+  pub first : List (List ℕ)
+  pub rest : List (List ℕ)
+  pub session : Option SessionSeen
+  pub printed : List ℕ
+  pub split : lines ≡ first ++ rest
+  pub answered : Answered None first printed session
+  pub written : AppendsPart before after printed
+
 -- how a run ends: all lines were answered; or the first were, and the next, line n, is malformed; or the first were, and input or
--- memory failed. Where the output failed nothing is known of it
+-- memory failed; or the output failed, with a beginning of what it would have had
 abbrev pub Ends : List (List ℕ) → Result (Unit {0}) Stop → Option (List ℕ) → Option (List ℕ) → Type 0
 Ends lines (Ok _) before after = (n : ℕ) × (w : Option SessionSeen) × AnsweredFirst lines n [] w before after
 Ends lines (Err (Malformed n)) before after =
@@ -149,32 +161,39 @@ Ends lines (Err (Malformed n)) before after =
     × (n ≡ k + 1) × AnsweredFirst lines k (line ∷ rest) w before after × ((MAX_LINE < length line) ⊎ IsNoCommand w line)
 Ends lines (Err Input) before after = (n : ℕ) × (w : Option SessionSeen) × (rest : List (List ℕ)) × AnsweredFirst lines n rest w before after
 Ends lines (Err Memory) before after = (n : ℕ) × (w : Option SessionSeen) × (rest : List (List ℕ)) × AnsweredFirst lines n rest w before after
-Ends lines (Err Output) before after = Unit {0}
+Ends lines (Err Output) before after = PrintsPart lines before after
 
 -- the status tells how the run ended
 abbrev pub status_of_end : Result (Unit {0}) Stop → ℕ
 status_of_end (Ok _) = 0
 status_of_end (Err stop) = status_of stop
 
-abbrev pub EndsWith : List (List ℕ) → ℕ → Option (List ℕ) → Option (List ℕ) → Type 0
-EndsWith lines status before after = (end : Result (Unit {0}) Stop) × Ends lines end before after × (status ≡ status_of_end end)
-
--- what is said on standard error of a run that ended early, on a line of its own (byte 0a)
+-- why a run ended early, on a line of its own
 abbrev pub message_of : Stop → List ℕ
-message_of stop = codes "pcache: " ++ reason_of stop ++ (10 ∷ [])
+message_of stop = ended (codes "pcache: " ++ reason_of stop)
+
+-- what stands on standard error after a run: nothing where all lines were answered, else why it ended, if the writer took that
+abbrev pub Says : Ended → Option (List ℕ) → Option (List ℕ) → Type 0
+Says run before after = MatchResult run.end (λ _. (run.is_said ≡ true) × Keeps before after) (λ stop. run.is_said ≡ true → Appends before after (message_of stop))
 
 -- ---- what one line comes to in code
+
+-- the sizes were taken, or the refusal and so the default ones, and what the `config` line prints was printed; or memory was refused
+abbrev pub ConfigGives : Result Sizes Refusal → Result (Unit {0}) Stop → Option SessionSeen → Option (List ℕ) → Option (List ℕ) → Type 0
+ConfigGives sizes (Err Memory) new before after = Keeps before after
+ConfigGives sizes r new before after =
+    (new ≡ Some (session_of_sizes (result_unwrap_or sizes default_sizes))) × Writes r (ended (config_text sizes)) before after
 
 -- a command's answer was printed, and the session after it is the one that it tells of; or it was none and nothing was printed
 abbrev pub CommandGives : Option SessionSeen → ℕ → Command → Result (Unit {0}) Stop → Option SessionSeen → Option (List ℕ) → Option (List ℕ) → Type 0
 CommandGives old number c (Ok _) new before after = (printed : List ℕ) × (s : SessionSeen) × Answers old c printed s × (new ≡ Some s) × Appends before after printed
 CommandGives old number c (Err (Malformed n)) new before after = (n ≡ number) × IsMisplaced old c × Keeps before after
-CommandGives old number c (Err Output) new before after = Unit {0}
+CommandGives old number c (Err Output) new before after = (printed : List ℕ) × (s : SessionSeen) × Answers old c printed s × AppendsPart before after printed
 CommandGives old number c (Err _) new before after = Keeps before after
 
 -- the same of a line
 abbrev pub LineGives : Option SessionSeen → ℕ → List ℕ → Result (Unit {0}) Stop → Option SessionSeen → Option (List ℕ) → Option (List ℕ) → Type 0
 LineGives old number line (Ok _) new before after = (printed : List ℕ) × LineAnswers old line printed new × Appends before after printed
 LineGives old number line (Err (Malformed n)) new before after = (n ≡ number) × IsNoCommand old line × Keeps before after
-LineGives old number line (Err Output) new before after = Unit {0}
+LineGives old number line (Err Output) new before after = (printed : List ℕ) × (w : Option SessionSeen) × LineAnswers old line printed w × AppendsPart before after printed
 LineGives old number line (Err _) new before after = Keeps before after

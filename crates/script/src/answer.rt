@@ -1,20 +1,19 @@
 //! What a line of a script answers, as it is printed.
 
-ghost use Rattle.std.specs.Prelude.{◌≡◌, ◌++◌, OnOk, IfErr, IsOkUnless, codes};
+ghost use Rattle.std.specs.Prelude.{◌≡◌, ◌++◌, codes};
 ghost use Rattle.pc_types.specs.TagBits.{tag_set};
-ghost use Rattle.script.specs.Answers.{answer_of, letters_of, polled_text, refusal_text, tags_text, hex_text, IsPrintFault};
-ghost use Rattle.textline.specs.Lines.{Prints};
+ghost use Rattle.script.specs.Answers.{answer_of, letters_of, polled_text, refusal_text, tags_text, hex_text};
+ghost use Rattle.textline.specs.Prints.{Writes, ended};
 
 use cachecore::{PageTags, Reply};
 use pc_types::{ErrCode, Refusal, Tag, Tags};
 use std::alloc::Global;
 use std::io::Write;
-use textline::{Stop, print_line};
+use textline::{Printer, Stop, print_line};
 
 /// Prints what an event of the cache replied.
-pub fn print_reply<W: Write>(alloc: Global, out: &mut W, reply: &Reply) -> Result<(), Stop>
-    ensures printed { OnOk result (Prints (W.contents out.old) (W.contents out.new) (answer_of reply.now)) }
-    ensures fault { IfErr result (IsPrintFault (W.contents out.old) (W.contents out.new)) }
+pub fn print_reply<W: Write>(alloc: Global, out: &mut Printer<W>, reply: &Reply) -> Result<(), Stop>
+    ensures { Writes result (ended (answer_of reply.now)) (W.contents out.old.writer) (W.contents out.new.writer) }
 {
     match reply {
         Reply::Refused(refusal) => print_refusal(out, *refusal),
@@ -47,9 +46,8 @@ pub fn print_reply<W: Write>(alloc: Global, out: &mut W, reply: &Reply) -> Resul
 }
 
 /// Prints a refusal by its number.
-pub fn print_refusal<W: Write>(out: &mut W, refusal: Refusal) -> Result<(), Stop>
-    ensures printed { OnOk result (Prints (W.contents out.old) (W.contents out.new) (refusal_text refusal)) }
-    ensures fault { IsOkUnless result Stop.Output }
+pub fn print_refusal<W: Write>(out: &mut Printer<W>, refusal: Refusal) -> Result<(), Stop>
+    ensures { Writes result (ended (refusal_text refusal)) (W.contents out.old.writer) (W.contents out.new.writer) }
 {
     match refusal {
         Refusal::Io(code) => print_line(out, format_args!("refused 14 {}", code.code())),
@@ -58,9 +56,8 @@ pub fn print_refusal<W: Write>(out: &mut W, refusal: Refusal) -> Result<(), Stop
 }
 
 /// Prints bytes in lower case, or `-` where there are none.
-fn print_bytes<W: Write>(alloc: Global, out: &mut W, bytes: &[u8]) -> Result<(), Stop>
-    ensures printed { OnOk result (Prints (W.contents out.old) (W.contents out.new) (codes "bytes " ++ hex_text bytes.now)) }
-    ensures fault { IfErr result (IsPrintFault (W.contents out.old) (W.contents out.new)) }
+fn print_bytes<W: Write>(alloc: Global, out: &mut Printer<W>, bytes: &[u8]) -> Result<(), Stop>
+    ensures { Writes result (ended (codes "bytes " ++ hex_text bytes.now)) (W.contents out.old.writer) (W.contents out.new.writer) }
 {
     if bytes.is_empty() {
         return print_line(out, "bytes -");
@@ -71,11 +68,10 @@ fn print_bytes<W: Write>(alloc: Global, out: &mut W, bytes: &[u8]) -> Result<(),
 
 /// Prints what a poll tells.
 pub fn print_polled<W: Write>(
-    out: &mut W,
+    out: &mut Printer<W>,
     polled: Result<Option<ErrCode>, Refusal>,
 ) -> Result<(), Stop>
-    ensures printed { OnOk result (Prints (W.contents out.old) (W.contents out.new) (polled_text polled)) }
-    ensures fault { IsOkUnless result Stop.Output }
+    ensures { Writes result (ended (polled_text polled)) (W.contents out.old.writer) (W.contents out.new.writer) }
 {
     match polled {
         Ok(told) => match told {
@@ -87,9 +83,8 @@ pub fn print_polled<W: Write>(
 }
 
 /// Prints what is known of a page.
-pub fn print_tags<W: Write>(out: &mut W, tags: PageTags) -> Result<(), Stop>
-    ensures printed { OnOk result (Prints (W.contents out.old) (W.contents out.new) (tags_text tags)) }
-    ensures fault { IsOkUnless result Stop.Output }
+pub fn print_tags<W: Write>(out: &mut Printer<W>, tags: PageTags) -> Result<(), Stop>
+    ensures { Writes result (ended (tags_text tags)) (W.contents out.old.writer) (W.contents out.new.writer) }
 {
     match tags {
         PageTags::Absent => print_line(out, "absent"),

@@ -12,4 +12,4 @@ mod passes;
 pub mod run;
 mod session;
 
-pub use run::{run_script, say};
+pub use run::{Ended, run_script, say};

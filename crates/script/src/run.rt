@@ -1,12 +1,11 @@
 //! A run of a script.
 
-ghost use Rattle.std.specs.Prelude.{◌≡◌, ℕ, List, None, Some, IfErr, IfOk, IfSome, IsOkUnless, OnOk};
-ghost use Rattle.std.specs.Io.KnownBytes.{Appends};
-ghost use Rattle.std.specs.Result.{result_unwrap_or};
-ghost use Rattle.script.specs.Answers.{IsPrintFault};
-ghost use Rattle.script.specs.Runs.{CommandGives, Ends, EndsWith, FailsCall, LineGives, MakesStep, PollsHandle, SyncsFile, TellsTags, config_text, default_sizes, message_of, session_of_sizes};
+ghost use Rattle.std.specs.Prelude.{◌≡◌, ℕ, List, None, Some, IfSome, IsOkUnless, OnOk};
+ghost use Rattle.std.specs.Io.KnownBytes.{Appends, Keeps};
+ghost use Rattle.script.specs.Runs.{CommandGives, ConfigGives, Ends, FailsCall, LineGives, MakesStep, PollsHandle, Says, SyncsFile, TellsTags, default_sizes, message_of, session_of_sizes, status_of_end};
 ghost use Rattle.pc_types.specs.Limits.{is_err_code};
-ghost use Rattle.textline.specs.Lines.{Prints, lines_of};
+ghost use Rattle.textline.specs.Lines.{lines_of};
+ghost use Rattle.textline.specs.Prints.{Writes};
 ghost use Rattle.textline.specs.Stops.{IsStatus};
 
 use crate::answer::{print_polled, print_refusal, print_reply, print_tags};
@@ -17,36 +16,49 @@ use cachecore::Reply;
 use pc_types::{ErrCode, FileId, Geometry, HandleId, PageIndex, Refusal, Serial};
 use std::alloc::Global;
 use std::io::{BufRead, Write};
-use textline::{Fault, Fetched, Lines, Stop, flush, is_blank, print_line};
+use textline::{Fault, Fetched, Lines, Printer, Stop, flush, is_blank, print_line};
 use world::Step;
 
 /// The most bytes of a line, without its ending.
 pub const MAX_LINE: usize = 300_000;
 
-/// Runs a script and prints what each of its lines answers. Gives the status that the program ends with, and says on
-/// `err` why where it is not 0.
+/// How a run of a script ended.
+#[derive(Clone, Copy, PartialEq, Eq, Debug)]
+pub struct Ended {
+    pub end: Result<(), Stop>,
+    /// Whether all that there was to say of it stands on standard error.
+    pub is_said: bool,
+}
+
+impl Ended {
+    /// The status that the program ends with.
+    pub fn status(self) -> u8
+        ensures status { result ≡ status_of_end self.end }
+        ensures known { IsStatus result }
+    {
+        match self.end {
+            Ok(()) => 0,
+            Err(stop) => stop.status(),
+        }
+    }
+}
+
+/// Runs a script, and prints what each of its lines answers. Where it ends early, that is said on `err`.
 pub fn run_script<R: BufRead + Drop, W: Write, E: Write>(
     alloc: Global,
     reader: R,
-    out: &mut W,
+    out: &mut Printer<W>,
     err: &mut E,
-) -> u8
-    ensures answers { IfSome (R.remaining reader) (λ script. EndsWith (lines_of script) result (W.contents out.old) (W.contents out.new)) }
-    ensures status { IsStatus result }
+) -> Ended
+    ensures answers { IfSome (R.remaining reader) (λ script. Ends (lines_of script) result.end (W.contents out.old.writer) (W.contents out.new.writer)) }
+    ensures said { Says result (E.contents err.old) (E.contents err.new) }
 {
-    match run_lines(alloc, reader, out) {
-        Ok(()) => 0,
-        Err(stop) => {
-            // The answers before the stop are printed all the same.
-            let stop = if out.flush().is_err() {
-                Stop::Output
-            } else {
-                stop
-            };
-            let _ = say(err, stop);
-            stop.status()
-        }
-    }
+    let end = run_and_flush(alloc, reader, out);
+    let is_said = match end {
+        Ok(()) => true,
+        Err(stop) => say(err, stop).is_ok(),
+    };
+    Ended { end, is_said }
 }
 
 /// Says why a run ended.
@@ -56,9 +68,26 @@ pub fn say<E: Write>(err: &mut E, stop: Stop) -> std::io::Result<()>
     writeln!(err, "pcache: {stop}")
 }
 
+/// Runs the lines of a script, and hands on what they printed, also where they end early.
+fn run_and_flush<R: BufRead + Drop, W: Write>(
+    alloc: Global,
+    reader: R,
+    out: &mut Printer<W>,
+) -> Result<(), Stop>
+    ensures { IfSome (R.remaining reader) (λ script. Ends (lines_of script) result (W.contents out.old.writer) (W.contents out.new.writer)) }
+{
+    let end = run_lines(alloc, reader, out);
+    flush(&mut out.writer)?;
+    end
+}
+
 /// Runs the lines of a script, in a session that they begin with their first command.
-fn run_lines<R: BufRead + Drop, W: Write>(alloc: Global, reader: R, out: &mut W) -> Result<(), Stop>
-    ensures { IfSome (R.remaining reader) (λ script. Ends (lines_of script) result (W.contents out.old) (W.contents out.new)) }
+fn run_lines<R: BufRead + Drop, W: Write>(
+    alloc: Global,
+    reader: R,
+    out: &mut Printer<W>,
+) -> Result<(), Stop>
+    ensures { IfSome (R.remaining reader) (λ script. Ends (lines_of script) result (W.contents out.old.writer) (W.contents out.new.writer)) }
 {
     let mut lines = Lines::new(alloc, reader);
     let mut session = None;
@@ -70,17 +99,17 @@ fn answer_lines<R: BufRead, W: Write>(
     alloc: Global,
     lines: &mut Lines<R>,
     session: &mut Option<Session>,
-    out: &mut W,
+    out: &mut Printer<W>,
 ) -> Result<(), Stop>
     requires first_line { lines.old.number ≡ 0 }
     requires no_session { session.old ≡ None }
-    ensures { IfSome (R.remaining lines.old.reader) (λ script. Ends (lines_of script) result (W.contents out.old) (W.contents out.new)) }
+    ensures { IfSome (R.remaining lines.old.reader) (λ script. Ends (lines_of script) result (W.contents out.old.writer) (W.contents out.new.writer)) }
 {
     'lines: for _ in 0..u64::MAX {
-        match lines.fetch(MAX_LINE, out)? {
+        match lines.fetch(MAX_LINE, &mut out.writer)? {
             Fetched::Line => run_line(alloc, session, lines.number, lines.line.as_slice(), out)?,
             Fetched::TooLong => return Err(Stop::Malformed(lines.number)),
-            Fetched::End => return flush(out),
+            Fetched::End => return Ok(()),
         }
     }
     Err(Stop::Input)
@@ -92,9 +121,9 @@ fn run_line<W: Write>(
     session: &mut Option<Session>,
     number: u64,
     line: &[u8],
-    out: &mut W,
+    out: &mut Printer<W>,
 ) -> Result<(), Stop>
-    ensures { LineGives session.old number line.now result session.new (W.contents out.old) (W.contents out.new) }
+    ensures { LineGives session.old number line.now result session.new (W.contents out.old.writer) (W.contents out.new.writer) }
 {
     if is_blank(line) {
         return Ok(());
@@ -112,9 +141,9 @@ fn run_command<W: Write>(
     session: &mut Option<Session>,
     number: u64,
     command: &Command,
-    out: &mut W,
+    out: &mut Printer<W>,
 ) -> Result<(), Stop>
-    ensures { CommandGives session.old number command.now result session.new (W.contents out.old) (W.contents out.new) }
+    ensures { CommandGives session.old number command.now result session.new (W.contents out.old.writer) (W.contents out.new.writer) }
 {
     match session {
         Some(session) => obey(alloc, session, number, command, out),
@@ -128,9 +157,9 @@ fn obey<W: Write>(
     session: &mut Session,
     number: u64,
     command: &Command,
-    out: &mut W,
+    out: &mut Printer<W>,
 ) -> Result<(), Stop>
-    ensures { CommandGives (Some session.old) number command.now result (Some session.new) (W.contents out.old) (W.contents out.new) }
+    ensures { CommandGives (Some session.old) number command.now result (Some session.new) (W.contents out.old.writer) (W.contents out.new.writer) }
 {
     match command {
         Command::Config(_, _, _, _) => Err(Stop::Malformed(number)),
@@ -148,9 +177,9 @@ fn begin<W: Write>(
     session: &mut Option<Session>,
     number: u64,
     command: &Command,
-    out: &mut W,
+    out: &mut Printer<W>,
 ) -> Result<(), Stop>
-    ensures { CommandGives None number command.now result session.new (W.contents out.old) (W.contents out.new) }
+    ensures { CommandGives None number command.now result session.new (W.contents out.old.writer) (W.contents out.new.writer) }
 {
     if let Command::Config(page, frames, dirty_limit, blocks) = command {
         let sizes = Geometry::new(*page, *frames, *dirty_limit, *blocks);
@@ -167,11 +196,9 @@ fn configure<W: Write>(
     alloc: Global,
     session: &mut Option<Session>,
     sizes: Result<Geometry, Refusal>,
-    out: &mut W,
+    out: &mut Printer<W>,
 ) -> Result<(), Stop>
-    ensures made { OnOk result (session.new ≡ Some (session_of_sizes (result_unwrap_or sizes default_sizes))) }
-    ensures printed { OnOk result (Prints (W.contents out.old) (W.contents out.new) (config_text sizes)) }
-    ensures fault { IfErr result (IsPrintFault (W.contents out.old) (W.contents out.new)) }
+    ensures { ConfigGives sizes result session.new (W.contents out.old.writer) (W.contents out.new.writer) }
 {
     match sizes {
         Ok(geometry) => {
@@ -210,10 +237,9 @@ fn make_step<W: Write>(
     alloc: Global,
     session: &mut Session,
     step: &Step,
-    out: &mut W,
+    out: &mut Printer<W>,
 ) -> Result<(), Stop>
-    ensures made { OnOk result ((printed : List ℕ) × MakesStep session.old step.now printed session.new × Appends (W.contents out.old) (W.contents out.new) printed) }
-    ensures fault { IfErr result (IsPrintFault (W.contents out.old) (W.contents out.new)) }
+    ensures { (printed : List ℕ) × MakesStep session.old step.now printed session.new × Writes result printed (W.contents out.old.writer) (W.contents out.new.writer) }
 {
     let reply = session.step(step);
     match (step, &reply) {
@@ -228,10 +254,9 @@ fn fail_call<W: Write>(
     serial: Serial,
     code: u16,
     effect: FaultEffect,
-    out: &mut W,
+    out: &mut Printer<W>,
 ) -> Result<(), Stop>
-    ensures made { OnOk result ((printed : List ℕ) × FailsCall session.old serial.0 (is_err_code code) code effect printed session.new × Appends (W.contents out.old) (W.contents out.new) printed) }
-    ensures fault { IsOkUnless result Stop.Output }
+    ensures { (printed : List ℕ) × FailsCall session.old serial.0 (is_err_code code) code effect printed session.new × Writes result printed (W.contents out.old.writer) (W.contents out.new.writer) }
 {
     let failed = match ErrCode::new(code) {
         Ok(code) => session.fail(serial, code, effect),
@@ -249,19 +274,21 @@ fn sync_file<W: Write>(
     session: &mut Session,
     handle: HandleId,
     range: Option<(PageIndex, PageIndex)>,
-    out: &mut W,
+    out: &mut Printer<W>,
 ) -> Result<(), Stop>
-    ensures synced { OnOk result ((printed : List ℕ) × SyncsFile session.old handle range printed session.new × Appends (W.contents out.old) (W.contents out.new) printed) }
-    ensures fault { IfErr result (IsPrintFault (W.contents out.old) (W.contents out.new)) }
+    ensures { (printed : List ℕ) × SyncsFile session.old handle range printed session.new × Writes result printed (W.contents out.old.writer) (W.contents out.new.writer) }
 {
     let reply = session.fsync(handle, range);
     print_reply(alloc, out, &reply)
 }
 
 /// Polls a handle, and prints what it is told.
-fn poll_handle<W: Write>(session: &mut Session, handle: HandleId, out: &mut W) -> Result<(), Stop>
-    ensures polled { OnOk result ((printed : List ℕ) × PollsHandle session.old handle.0 printed session.new × Appends (W.contents out.old) (W.contents out.new) printed) }
-    ensures fault { IsOkUnless result Stop.Output }
+fn poll_handle<W: Write>(
+    session: &mut Session,
+    handle: HandleId,
+    out: &mut Printer<W>,
+) -> Result<(), Stop>
+    ensures { (printed : List ℕ) × PollsHandle session.old handle.0 printed session.new × Writes result printed (W.contents out.old.writer) (W.contents out.new.writer) }
 {
     print_polled(out, session.poll(handle))
 }
@@ -271,10 +298,9 @@ fn tell_tags<W: Write>(
     session: &Session,
     file: FileId,
     page: PageIndex,
-    out: &mut W,
+    out: &mut Printer<W>,
 ) -> Result<(), Stop>
-    ensures told { OnOk result ((printed : List ℕ) × TellsTags session.now file.0 page.0 printed × Appends (W.contents out.old) (W.contents out.new) printed) }
-    ensures fault { IsOkUnless result Stop.Output }
+    ensures { (printed : List ℕ) × TellsTags session.now file.0 page.0 printed × Writes result printed (W.contents out.old.writer) (W.contents out.new.writer) }
 {
     match session.tags(file, page) {
         Ok(tags) => print_tags(out, tags)?,

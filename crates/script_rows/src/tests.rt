@@ -5,6 +5,7 @@ use std::alloc::Global;
 use std::io::{BufReader, ErrorKind, Read, Result as IoResult, Write};
 use std::process::Abort;
 use std::test::Fail;
+use textline::{Printer, Stop};
 
 /// What a run of a script gives.
 #[derive(Clone, Copy)]
@@ -20,12 +21,14 @@ pub fn check(
     script: &[u8],
     expected: &Outcome<'_>,
 ) -> Result<(), Fail> {
-    let mut output = Vec::new(alloc);
+    let mut out = Printer::new(alloc, Vec::new(alloc));
     let mut message = Vec::new(alloc);
-    let status = run_script(alloc, script, &mut output, &mut message);
-    assert_eq!(rt; std::str::from_utf8(output.as_slice())?, expected.output);
+    let ended = run_script(alloc, script, &mut out, &mut message);
+    let output = std::str::from_utf8(out.writer.as_slice())?;
+    assert_eq!(rt; output, expected.output);
     assert_eq!(rt; std::str::from_utf8(message.as_slice())?, expected.message);
-    assert_eq!(rt; status, expected.status);
+    assert_eq!(rt; ended.status(), expected.status);
+    assert!(rt; ended.is_said);
     Ok(())
 }
 
@@ -187,15 +190,19 @@ fn answers_are_flushed_before_input_is_awaited(rt: HostRuntime) -> Result<(), Fa
         .as_slice()
         .chain(b"open 0\n".as_slice())
         .chain(b"size 0\n".as_slice());
-    let mut out = Flushes {
+    let flushes = Flushes {
         count: 0,
         flushed: Vec::new(alloc),
     };
+    let mut out = Printer::new(alloc, flushes);
     let mut message = Vec::new(alloc);
-    let status = run_script(alloc, reader, &mut out, &mut message);
-    assert_eq!(rt; status, 0);
+    let ended = run_script(alloc, reader, &mut out, &mut message);
+    assert!(rt; ended.end == Ok(()));
     // `file 0`, `handle 0` and `size 0` are 7, 9 and 7 bytes with their ends; at the end of the script all is flushed again.
-    assert_eq!(rt; out.flushed.as_slice(), [0, 7, 16, 23, 23].as_slice());
+    assert_eq!(rt;
+        out.writer.flushed.as_slice(),
+        [0, 7, 16, 23, 23].as_slice()
+    );
     Ok(())
 }
 
@@ -223,22 +230,60 @@ impl Write for Broken {
 #[test]
 fn failing_streams_end_a_script(rt: HostRuntime) -> Result<(), Fail> {
     let alloc = rt.alloc();
-    let mut output = Vec::new(alloc);
+    let mut out = Printer::new(alloc, Vec::new(alloc));
     let mut message = Vec::new(alloc);
     let reader = b"create\n".as_slice().chain(BufReader::new(alloc, Broken)?);
-    let status = run_script(alloc, reader, &mut output, &mut message);
-    assert_eq!(rt; std::str::from_utf8(output.as_slice())?, "file 0\n");
+    let ended = run_script(alloc, reader, &mut out, &mut message);
+    let output = std::str::from_utf8(out.writer.as_slice())?;
+    assert_eq!(rt; output, "file 0\n");
     assert_eq!(rt;
         std::str::from_utf8(message.as_slice())?,
         "pcache: input failed\n"
     );
-    assert_eq!(rt; status, 3);
+    assert_eq!(rt; ended.status(), 3);
     message.clear();
-    let status = run_script(alloc, b"create\n".as_slice(), &mut Broken, &mut message);
+    let mut out = Printer::new(alloc, Broken);
+    let ended = run_script(alloc, b"create\n".as_slice(), &mut out, &mut message);
     assert_eq!(rt;
         std::str::from_utf8(message.as_slice())?,
         "pcache: output failed\n"
     );
-    assert_eq!(rt; status, 3);
+    assert_eq!(rt; ended.status(), 3);
     Ok(())
+}
+
+/// Takes as many bytes as it has room for.
+#[derive(Drop)]
+struct Full {
+    taken: Vec<u8>,
+    room: usize,
+}
+
+impl Write for Full {
+    fn write(&mut self, buf: &[u8]) -> IoResult<usize> {
+        let count = buf.len().min(self.room);
+        self.taken.extend_from_slice(&buf[..count])?;
+        self.room -= count;
+        Ok(count)
+    }
+
+    fn flush(&mut self) -> IoResult<()> {
+        Ok(())
+    }
+}
+
+/// Where the output fails within a line, a beginning of that line stands; and where standard error takes nothing, nothing was said.
+#[test]
+fn a_full_output_has_a_beginning(rt: HostRuntime) {
+    let alloc = rt.alloc();
+    let full = Full {
+        taken: Vec::new(alloc),
+        room: 12,
+    };
+    let mut out = Printer::new(alloc, full);
+    let script = b"create\nopen 0\nsize 0\n".as_slice();
+    let ended = run_script(alloc, script, &mut out, &mut Broken);
+    assert!(rt; ended.end == Err(Stop::Output));
+    assert!(rt; !ended.is_said);
+    assert!(rt; out.writer.taken.as_slice() == b"file 0\nhandl".as_slice());
 }

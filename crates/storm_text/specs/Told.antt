@@ -2,7 +2,7 @@
 use Rattle.std.specs.Prelude.{◌≡◌, ◌⊎◌, ◌*◌, ◌++◌, ℕ, Bool, List, Option, Result, Ok, Err, codes, decimal, if◌then◌else◌}
 use Rattle.std.specs.Io.KnownBytes.{Appends, Keeps}
 use denote.Ref.{Bor}
-use Rattle.textline.specs.Lines.{ended}
+use Rattle.textline.specs.Prints.{AppendsPart, ended}
 use Rattle.storm_text.specs.Asked.{AsksFor}
 use Rattle.storm_text.specs.declared.options.Options.{Options}
 use Rattle.storm_text.specs.declared.told.Fault.{Fault}
@@ -23,10 +23,11 @@ abbrev pub lines_told : ℕ → Bool → List ℕ
 lines_told calls replays = ended (calls_text calls) ++ ended (replay_text replays)
 
 -- what a storm of so many calls came to is told, and the status is 0 where the history replays and 1 where it does not; or the
--- output failed
+-- output (3) or memory (4) failed, and a beginning of that was written
 abbrev pub Tells : ℕ → Result Bool Fault → ℕ → Option (List ℕ) → Option (List ℕ) → Type 0
 Tells calls (Ok replays) status before after =
-    ((status ≡ (if replays then 0 else 1)) × Appends before after (lines_told calls replays)) ⊎ (status ≡ 3)
+    ((status ≡ (if replays then 0 else 1)) × Appends before after (lines_told calls replays))
+    ⊎ (((status ≡ 3) ⊎ (status ≡ 4)) × AppendsPart before after (lines_told calls replays))
 Tells calls (Err Device) status before after = (status ≡ 3) × Keeps before after
 Tells calls (Err Memory) status before after = (status ≡ 4) × Keeps before after
 

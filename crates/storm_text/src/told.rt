@@ -1,14 +1,14 @@
 //! What a storm prints, and the status that it ends with.
 
-ghost use Rattle.std.specs.Prelude.{OnOk, Ok};
+ghost use Rattle.std.specs.Prelude.{OnErr, OnOk, Ok, IfErr};
 ghost use Rattle.std.specs.Io.KnownBytes.{Appends};
-ghost use Rattle.textline.specs.Lines.{Prints};
+ghost use Rattle.textline.specs.Prints.{AppendsPart, IsPrintFault, Writes, ended};
 ghost use Rattle.storm_text.specs.Told.{Tells, lines_told, replay_text, usage_line};
 
 use std::fmt;
 use std::fmt::Display;
 use std::io::Write;
-use textline::{Stop, flush, print_line};
+use textline::{Printer, Stop, flush, print_line};
 
 /// Why there was no storm.
 #[derive(Clone, Copy, PartialEq, Eq, Debug)]
@@ -40,13 +40,13 @@ pub fn say_usage<E: Write>(err: &mut E) -> std::io::Result<()>
 /// Tells what a storm of so many calls came to: whether its history replays. Of one that does not the seed is said on `err`, and
 /// where something failed what it was. Gives the status.
 pub fn tell<W: Write, E: Write>(
-    out: &mut W,
+    out: &mut Printer<W>,
     err: &mut E,
     calls: u64,
     seed: u64,
     storm: Result<bool, Fault>,
 ) -> u8
-    ensures { Tells calls storm result (W.contents out.old) (W.contents out.new) }
+    ensures { Tells calls storm result (W.contents out.old.writer) (W.contents out.new.writer) }
 {
     match storm {
         Ok(replays) => tell_replay(out, err, calls, seed, replays),
@@ -61,13 +61,13 @@ pub fn tell<W: Write, E: Write>(
 }
 
 fn tell_replay<W: Write, E: Write>(
-    out: &mut W,
+    out: &mut Printer<W>,
     err: &mut E,
     calls: u64,
     seed: u64,
     replays: bool,
 ) -> u8
-    ensures { Tells calls (Ok replays) result (W.contents out.old) (W.contents out.new) }
+    ensures { Tells calls (Ok replays) result (W.contents out.old.writer) (W.contents out.new.writer) }
 {
     if !replays {
         let _ = writeln!(
@@ -79,21 +79,23 @@ fn tell_replay<W: Write, E: Write>(
         Ok(()) => u8::from(!replays),
         Err(stop) => {
             let _ = writeln!(err, "pcache: {stop}");
-            3
+            stop.status()
         }
     }
 }
 
-fn print_lines<W: Write>(out: &mut W, calls: u64, replays: bool) -> Result<(), Stop>
-    ensures { OnOk result (Appends (W.contents out.old) (W.contents out.new) (lines_told calls replays)) }
+fn print_lines<W: Write>(out: &mut Printer<W>, calls: u64, replays: bool) -> Result<(), Stop>
+    ensures fault { IfErr result IsPrintFault }
+    ensures printed { OnOk result (Appends (W.contents out.old.writer) (W.contents out.new.writer) (lines_told calls replays)) }
+    ensures begun { OnErr result (AppendsPart (W.contents out.old.writer) (W.contents out.new.writer) (lines_told calls replays)) }
 {
     print_line(out, format_args!("calls {calls}"))?;
     print_replay(out, replays)?;
-    flush(out)
+    flush(&mut out.writer)
 }
 
-fn print_replay<W: Write>(out: &mut W, replays: bool) -> Result<(), Stop>
-    ensures { OnOk result (Prints (W.contents out.old) (W.contents out.new) (replay_text replays)) }
+fn print_replay<W: Write>(out: &mut Printer<W>, replays: bool) -> Result<(), Stop>
+    ensures { Writes result (ended (replay_text replays)) (W.contents out.old.writer) (W.contents out.new.writer) }
 {
     if replays {
         print_line(out, "replay yes")

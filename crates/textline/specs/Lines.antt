@@ -1,6 +1,5 @@
--- The lines of a text, as bytes that a reader has left, and a line that is printed.
+-- The lines of a text, as bytes that a reader has left.
 use Rattle.std.specs.Prelude.{◌≡◌, ◌≢◌, ℕ, ◌<◌, Bool, ◌==◌, ◌||◌, slice_index, List, [], ◌∷◌, ◌++◌, length, All, Option, Some}
-use Rattle.std.specs.Io.KnownBytes.{Appends}
 use Rattle.std.specs.List.{before_first, after_first, slice_split}
 use Rattle.textline.specs.declared.lines.Fetched.{Fetched}
 use Rattle.textline.specs.declared.lines.Fetched.TheVariants.{Line, TooLong, End}
@@ -39,11 +38,3 @@ Goes most bytes (Ended fetched) line left = Fetches most bytes fetched line left
 -- an empty line, or a comment: it begins with `#`, byte 23 in hexadecimal
 abbrev pub is_blank : List ℕ → Bool
 is_blank line = (length line == 0) || (slice_index line 0 == 35)
-
--- a line of its own: the text, and the end of a line (byte 0a)
-abbrev pub ended : List ℕ → List ℕ
-ended text = text ++ (10 ∷ [])
-
--- the text is added to what was written, on a line of its own
-abbrev pub Prints : Option (List ℕ) → Option (List ℕ) → List ℕ → Type 0
-Prints old new text = Appends old new (ended text)

@@ -2,7 +2,7 @@
 
 ghost use Rattle.std.specs.Prelude.{◌≡◌};
 ghost use Rattle.std.specs.IoError.{error_kind};
-ghost use Rattle.textline.specs.Stops.{status_of, stop_of_kind};
+ghost use Rattle.textline.specs.Stops.{IsStatus, status_of, stop_of_kind};
 
 use std::alloc::AllocError;
 use std::fmt;
@@ -22,7 +22,8 @@ pub enum Stop {
 impl Stop {
     /// The status that the program ends with.
     pub fn status(self) -> u8
-        ensures { result ≡ status_of self }
+        ensures status { result ≡ status_of self }
+        ensures known { IsStatus result }
     {
         match self {
             Stop::Malformed(_) => 2,

@@ -1,8 +1,8 @@
 //! Lines and words by the rules of the trace language and of the script language.
 
-use crate::{Fault, Fetched, Lines, Stop, Words, flush, is_blank, numbers, print_line};
+use crate::{Fault, Fetched, Lines, Printer, Stop, Words, flush, is_blank, numbers, print_line};
 use std::alloc::Global;
-use std::io::{BufRead, ErrorKind};
+use std::io::{BufRead, ErrorKind, Result as IoResult, Write};
 use std::process::Abort;
 use std::test::Fail;
 
@@ -41,12 +41,51 @@ fn a_line_can_be_too_long(rt: HostRuntime) -> Result<(), Fail> {
 /// Whoever prints has handed on what was printed before more input is awaited.
 #[test]
 fn what_was_printed_is_handed_on(rt: HostRuntime) -> Result<(), Fail> {
-    let mut out = Vec::new(rt.alloc());
+    let mut out = Printer::new(rt.alloc(), Vec::new(rt.alloc()));
     assert!(rt; print_line(&mut out, 7u64) == Ok(()));
     assert!(rt; print_line(&mut out, "none") == Ok(()));
-    assert!(rt; flush(&mut out) == Ok(()));
-    assert!(rt; out.as_slice() == b"7\nnone\n".as_slice());
+    assert!(rt; flush(&mut out.writer) == Ok(()));
+    assert!(rt; out.writer.as_slice() == b"7\nnone\n".as_slice());
     Ok(())
+}
+
+/// Takes at most two bytes a call, and as many in all as it has room for. Every other call is interrupted.
+#[derive(Drop)]
+struct Narrow {
+    taken: Vec<u8>,
+    room: usize,
+    is_calm: bool,
+}
+
+impl Write for Narrow {
+    fn write(&mut self, buf: &[u8]) -> IoResult<usize> {
+        self.is_calm = !self.is_calm;
+        if !self.is_calm {
+            return Err(ErrorKind::Interrupted.into());
+        }
+        let count = buf.len().min(2).min(self.room);
+        self.taken.extend_from_slice(&buf[..count])?;
+        self.room -= count;
+        Ok(count)
+    }
+
+    fn flush(&mut self) -> IoResult<()> {
+        Ok(())
+    }
+}
+
+/// A line is written part by part, and a beginning of it where the output fails.
+#[test]
+fn a_line_is_written_in_parts(rt: HostRuntime) {
+    let narrow = Narrow {
+        taken: Vec::new(rt.alloc()),
+        room: 8,
+        is_calm: true,
+    };
+    let mut out = Printer::new(rt.alloc(), narrow);
+    assert!(rt; print_line(&mut out, "none") == Ok(()));
+    assert!(rt; print_line(&mut out, "written") == Err(Stop::Output));
+    assert!(rt; out.writer.taken.as_slice() == b"none\nwri".as_slice());
 }
 
 /// An empty line and a comment say nothing.

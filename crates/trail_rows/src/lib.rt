@@ -2,6 +2,8 @@
 //! The tests of `trail`. They are a crate of their own, since a crate with tests is proved once more beside them.
 
 #[cfg(test)]
+mod checks;
+#[cfg(test)]
 mod room_tests;
 #[cfg(test)]
 mod tests;

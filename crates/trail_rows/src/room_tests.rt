@@ -1,5 +1,6 @@
 //! The room of a trail.
 
+use crate::checks::{check, same};
 use crate::tests::{NONE, none, put};
 use machine::{Event, Reply};
 use pc_types::{HandleId, Refusal};
@@ -31,22 +32,22 @@ fn is_full_at(
     one_less: (u64, u64),
 ) -> Result<(), Refusal> {
     let trail = FullTrail::new(alloc, need.0, need.1)?;
-    assert!(rt; fits(&trail, &NONE, need));
-    assert!(rt; !fits(&trail, &IN_FLIGHT, need));
+    check(rt, fits(&trail, &NONE, need));
+    check(rt, !fits(&trail, &IN_FLIGHT, need));
     let trail = FullTrail::new(alloc, one_less.0, need.1)?;
-    assert!(rt; !fits(&trail, &NONE, need));
+    check(rt, !fits(&trail, &NONE, need));
     let trail = FullTrail::new(alloc, need.0, one_less.1)?;
-    assert_eq!(rt; fits(&trail, &NONE, need), need.1 == 0);
+    same(rt, fits(&trail, &NONE, need), need.1 == 0);
     Ok(())
 }
 
 fn has_room_beside(rt: &impl Abort, alloc: Global) -> Result<(), Refusal> {
     let trail = FullTrail::new(alloc, 5, 20)?;
-    assert!(rt; fits(&trail, &IN_FLIGHT, (2, 4)));
-    assert!(rt; !fits(&trail, &IN_FLIGHT, (3, 4)));
-    assert!(rt; !fits(&trail, &IN_FLIGHT, (2, 5)));
-    assert!(rt; !fits(&trail, &IN_FLIGHT, (u64::MAX, 0)));
-    assert!(rt; !fits(&trail, &IN_FLIGHT, (0, u64::MAX)));
+    check(rt, fits(&trail, &IN_FLIGHT, (2, 4)));
+    check(rt, !fits(&trail, &IN_FLIGHT, (3, 4)));
+    check(rt, !fits(&trail, &IN_FLIGHT, (2, 5)));
+    check(rt, !fits(&trail, &IN_FLIGHT, (u64::MAX, 0)));
+    check(rt, !fits(&trail, &IN_FLIGHT, (0, u64::MAX)));
     Ok(())
 }
 
@@ -55,12 +56,15 @@ fn has_room_beside(rt: &impl Abort, alloc: Global) -> Result<(), Refusal> {
 #[test]
 fn a_trail_is_full_at_each_event(rt: HostRuntime) -> Result<(), Fail> {
     let alloc = rt.alloc();
-    assert!(&rt; is_full_at(&rt, alloc, (1, 3), (0, 2)).is_ok());
-    assert!(&rt; is_full_at(&rt, alloc, (1, 2), (0, 1)).is_ok());
-    assert!(&rt; is_full_at(&rt, alloc, (2, PAGE), (1, PAGE - 1)).is_ok());
-    assert!(&rt; is_full_at(&rt, alloc, (2, 0), (1, 0)).is_ok());
-    assert!(&rt; is_full_at(&rt, alloc, (1, 0), (0, 0)).is_ok());
-    assert!(&rt; has_room_beside(&rt, alloc).is_ok());
+    check(&rt, is_full_at(&rt, alloc, (1, 3), (0, 2)).is_ok());
+    check(&rt, is_full_at(&rt, alloc, (1, 2), (0, 1)).is_ok());
+    check(
+        &rt,
+        is_full_at(&rt, alloc, (2, PAGE), (1, PAGE - 1)).is_ok(),
+    );
+    check(&rt, is_full_at(&rt, alloc, (2, 0), (1, 0)).is_ok());
+    check(&rt, is_full_at(&rt, alloc, (1, 0), (0, 0)).is_ok());
+    check(&rt, has_room_beside(&rt, alloc).is_ok());
     Ok(())
 }
 
@@ -75,23 +79,23 @@ fn append(alloc: Global, trail: &mut FullTrail) -> bool {
 
 fn fills_up(rt: &impl Abort, alloc: Global) -> Result<(), Refusal> {
     let mut trail = FullTrail::new(alloc, 2, 1)?;
-    assert_eq!(rt; trail.cache(), None);
+    same(rt, trail.cache(), None);
     trail.begin(3);
-    assert!(rt; append(alloc, &mut trail));
-    assert!(rt; !append(alloc, &mut trail));
-    assert!(rt; put(&mut trail, Event::Age, Reply::Aged(0), &[]));
-    assert!(rt; !put(&mut trail, Event::Age, Reply::Aged(0), &[]));
-    assert_eq!(rt; trail.len(), 2);
+    check(rt, append(alloc, &mut trail));
+    check(rt, !append(alloc, &mut trail));
+    check(rt, put(&mut trail, Event::Age, Reply::Aged(0), &[]));
+    check(rt, !put(&mut trail, Event::Age, Reply::Aged(0), &[]));
+    same(rt, trail.len(), 2);
     trail.begin(4);
-    assert_eq!(rt; trail.cache(), Some(4));
-    assert_eq!(rt; trail.len(), 0);
-    assert!(rt; fits(&trail, &NONE, (2, 1)));
+    same(rt, trail.cache(), Some(4));
+    same(rt, trail.len(), 0);
+    check(rt, fits(&trail, &NONE, (2, 1)));
     Ok(())
 }
 
 #[test]
 fn entries_take_room(rt: HostRuntime) -> Result<(), Fail> {
-    assert!(&rt; fills_up(&rt, rt.alloc()).is_ok());
+    check(&rt, fills_up(&rt, rt.alloc()).is_ok());
     Ok(())
 }
 
@@ -99,12 +103,12 @@ fn entries_take_room(rt: HostRuntime) -> Result<(), Fail> {
 fn no_trail_counts(rt: HostRuntime) -> Result<(), Fail> {
     let mut trail = NoTrail::new();
     trail.begin(3);
-    assert!(&rt; put(&mut trail, Event::Age, Reply::Aged(0), &[1, 2, 3]));
+    check(&rt, put(&mut trail, Event::Age, Reply::Aged(0), &[1, 2, 3]));
     let refused = Reply::Refused(Refusal::BadHandle);
-    assert!(&rt; put(&mut trail, Event::Size(HANDLE), refused, &[]));
-    assert_eq!(&rt; trail.count(), 2);
-    assert!(&rt; trail.has_room(PAGE, &NONE, u64::MAX - 2, u64::MAX));
-    assert!(&rt; !trail.has_room(PAGE, &NONE, u64::MAX - 1, 0));
-    assert!(&rt; !trail.has_room(PAGE, &IN_FLIGHT, u64::MAX - 4, 0));
+    check(&rt, put(&mut trail, Event::Size(HANDLE), refused, &[]));
+    same(&rt, trail.count(), 2);
+    check(&rt, trail.has_room(PAGE, &NONE, u64::MAX - 2, u64::MAX));
+    check(&rt, !trail.has_room(PAGE, &NONE, u64::MAX - 1, 0));
+    check(&rt, !trail.has_room(PAGE, &IN_FLIGHT, u64::MAX - 4, 0));
     Ok(())
 }

@@ -1,5 +1,6 @@
 //! Trails that are written by hand, and whether they replay.
 
+use crate::checks::{check, same};
 use machine::{End, Event, Outcome, Reply};
 use pc_types::{Bytes, FileId, HandleId, Kind, PageIndex, Refusal, Serial};
 use std::alloc::Global;
@@ -100,10 +101,10 @@ fn replays(
     let mut trail = FullTrail::new(alloc, 8, 8)?;
     trail.begin(7);
     written(alloc, &mut trail, change);
-    assert_eq!(rt; first_odd(alloc, &trail)?, odd);
+    same(rt, first_odd(alloc, &trail)?, odd);
     let checked = replay_plain(alloc, &trail)?;
-    assert_eq!(rt; checked.is_some(), odd.is_none());
-    assert_eq!(rt; trail.cache(), Some(7));
+    same(rt, checked.is_some(), odd.is_none());
+    same(rt, trail.cache(), Some(7));
     Ok(())
 }
 
@@ -111,9 +112,9 @@ fn replays(
 #[test]
 fn agreeing_trails_replay(rt: HostRuntime) -> Result<(), Fail> {
     let alloc = rt.alloc();
-    assert!(&rt; replays(&rt, alloc, Change::Nothing, None).is_ok());
-    assert!(&rt; replays(&rt, alloc, Change::Miss, None).is_ok());
-    assert!(&rt; replays(&rt, alloc, Change::Fill, None).is_ok());
+    check(&rt, replays(&rt, alloc, Change::Nothing, None).is_ok());
+    check(&rt, replays(&rt, alloc, Change::Miss, None).is_ok());
+    check(&rt, replays(&rt, alloc, Change::Fill, None).is_ok());
     Ok(())
 }
 
@@ -121,11 +122,14 @@ fn agreeing_trails_replay(rt: HostRuntime) -> Result<(), Fail> {
 #[test]
 fn other_trails_do_not(rt: HostRuntime) -> Result<(), Fail> {
     let alloc = rt.alloc();
-    assert!(&rt; replays(&rt, alloc, Change::ReadByte, Some(3)).is_ok());
-    assert!(&rt; replays(&rt, alloc, Change::WrittenByte, Some(3)).is_ok());
-    assert!(&rt; replays(&rt, alloc, Change::Count, Some(2)).is_ok());
-    assert!(&rt; replays(&rt, alloc, Change::Number, Some(0)).is_ok());
-    assert!(&rt; replays(&rt, alloc, Change::Size, Some(4)).is_ok());
+    check(&rt, replays(&rt, alloc, Change::ReadByte, Some(3)).is_ok());
+    check(
+        &rt,
+        replays(&rt, alloc, Change::WrittenByte, Some(3)).is_ok(),
+    );
+    check(&rt, replays(&rt, alloc, Change::Count, Some(2)).is_ok());
+    check(&rt, replays(&rt, alloc, Change::Number, Some(0)).is_ok());
+    check(&rt, replays(&rt, alloc, Change::Size, Some(4)).is_ok());
     Ok(())
 }
 
@@ -171,9 +175,9 @@ fn a_truncation_to_2_40_replays(rt: HostRuntime) -> Result<(), Fail> {
     wrote(alloc, &mut trail, LARGEST - 1, &[0xbb]);
     read(alloc, &mut trail, LARGEST - 2, 9, &[0, 0xbb]);
     put(&mut trail, Event::Size(HANDLE), Reply::Size(LARGEST), &[]);
-    assert_eq!(&rt; trail.count(), 10);
+    same(&rt, trail.count(), 10);
     let checked = replay_plain(alloc, &trail);
-    assert!(&rt; matches!(&checked, Ok(Some(_))));
+    check(&rt, matches!(&checked, Ok(Some(_))));
     Ok(())
 }
 
@@ -194,8 +198,8 @@ fn cut_and_grown(alloc: Global, old: u8) -> Result<bool, Refusal> {
 // Bytes that were cut off do not come back as the file grows.
 #[test]
 fn cut_bytes_stay_gone(rt: HostRuntime) -> Result<(), Fail> {
-    assert!(&rt; matches!(cut_and_grown(rt.alloc(), 0), Ok(true)));
-    assert!(&rt; matches!(cut_and_grown(rt.alloc(), 2), Ok(false)));
+    check(&rt, matches!(cut_and_grown(rt.alloc(), 0), Ok(true)));
+    check(&rt, matches!(cut_and_grown(rt.alloc(), 2), Ok(false)));
     Ok(())
 }
 
@@ -223,7 +227,7 @@ fn appended(alloc: Global, end: u64) -> Result<bool, Refusal> {
 // An append writes at the end of its file, and a handle that was closed is the lowest that is free.
 #[test]
 fn appends_end_where_they_ended(rt: HostRuntime) -> Result<(), Fail> {
-    assert!(&rt; matches!(appended(rt.alloc(), 5), Ok(true)));
-    assert!(&rt; matches!(appended(rt.alloc(), 6), Ok(false)));
+    check(&rt, matches!(appended(rt.alloc(), 5), Ok(true)));
+    check(&rt, matches!(appended(rt.alloc(), 6), Ok(false)));
     Ok(())
 }

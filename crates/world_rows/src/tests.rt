@@ -1,6 +1,6 @@
-//! A world over a device in memory, as a caller uses it. Every row is run by `over_a_world`, since the check is slow
-//! where a world is dropped.
+//! A world over a device in memory, as a caller uses it.
 
+use crate::checks::{check, same};
 use blockdev::{FaultEffect, MemDevice, ScriptDevice};
 use cachecore::{PageTags, Reply};
 use pc_types::{
@@ -25,15 +25,35 @@ fn play_a_gap(rt: &impl Abort, alloc: Global, world: &mut World<MemDevice>) -> R
     steps.push_reserved(Step::FillBegin(handle, PageIndex(0)));
     steps.push_reserved(Step::Read(handle, 19, 8));
     let replies = world.play(&steps)?;
-    assert!(rt; matches!(replies.get(2), Some(Reply::Wrote(1, 21))));
-    assert!(rt; matches!(replies.get(3), Some(Reply::Miss(PageIndex(0)))));
-    assert!(rt; matches!(replies.get(4), Some(Reply::Filled)));
-    assert!(rt;
-        matches!(replies.get(5), Some(Reply::Bytes(read)) if read.as_slice() == [0, 255].as_slice())
+    check(rt, matches!(replies.get(2), Some(Reply::Wrote(1, 21))));
+    check(
+        rt,
+        matches!(replies.get(3), Some(Reply::Miss(PageIndex(0)))),
+    );
+    check(rt, matches!(replies.get(4), Some(Reply::Filled)));
+    check(
+        rt,
+        matches!(replies.get(5), Some(Reply::Bytes(read)) if read.as_slice() == [0, 255].as_slice()),
     );
     let tags = world.tags(FileId(0), PageIndex(1))?;
-    assert!(rt; matches!(tags, PageTags::Cached(tags) if tags.has(Tag::Dirty)));
+    check(
+        rt,
+        matches!(tags, PageTags::Cached(tags) if tags.has(Tag::Dirty)),
+    );
     Ok(())
+}
+
+// A world in a box, since the check is slow where a world itself goes out of scope.
+fn boxed(
+    alloc: Global,
+    blocks: u64,
+    device: ScriptDevice,
+) -> Result<Box<World<ScriptDevice>>, Refusal> {
+    let geometry = Geometry::new(16, 48, 16, blocks)?;
+    let Ok(world) = World::new(alloc, &geometry, 0, device) else {
+        return Err(Refusal::BadConfig);
+    };
+    Ok(Box::new(alloc, world)?)
 }
 
 #[test]
@@ -41,29 +61,24 @@ fn plays_a_gap(rt: HostRuntime) -> Result<(), Refusal> {
     let alloc = rt.alloc();
     let geometry = Geometry::new(16, 48, 16, 64)?;
     let device = MemDevice::new(alloc, 16, 64)?;
-    let Ok(mut world) = World::new(alloc, &geometry, 0, device) else {
+    let Ok(world) = World::new(alloc, &geometry, 0, device) else {
         return Err(Refusal::BadConfig);
     };
+    let mut world = Box::new(alloc, world)?;
     play_a_gap(&rt, alloc, &mut world)
 }
 
 #[test]
 fn refuses_another_device(rt: HostRuntime) -> Result<(), Refusal> {
     let alloc = rt.alloc();
-    let geometry = Geometry::new(16, 48, 16, 64)?;
-    let device = MemDevice::new(alloc, 16, 63)?;
-    let refused = World::new(alloc, &geometry, 0, device);
-    assert!(rt; matches!(refused, Err((Refusal::BadConfig, _))));
+    let refused = boxed(alloc, 64, ScriptDevice::new(alloc, 16, 63)?);
+    same(&rt, refused.err(), Some(Refusal::BadConfig));
     Ok(())
 }
 
 // A world over zeros, with one file that is open.
-fn opened(alloc: Global, blocks: u64) -> Result<World<ScriptDevice>, Refusal> {
-    let geometry = Geometry::new(16, 48, 16, blocks)?;
-    let device = ScriptDevice::new(alloc, 16, blocks)?;
-    let Ok(mut world) = World::new(alloc, &geometry, 0, device) else {
-        return Err(Refusal::BadConfig);
-    };
+fn opened(alloc: Global, blocks: u64) -> Result<Box<World<ScriptDevice>>, Refusal> {
+    let mut world = boxed(alloc, blocks, ScriptDevice::new(alloc, 16, blocks)?)?;
     world.step(&Step::Create);
     world.step(&Step::Open(FileId(0)));
     Ok(world)
@@ -138,15 +153,62 @@ fn ends_failed(world: &mut World<ScriptDevice>, serial: Serial) -> bool {
     }
 }
 
+// The bytes are written, up to this end.
+fn writes(
+    rt: &impl Abort,
+    alloc: Global,
+    world: &mut World<ScriptDevice>,
+    offset: u64,
+    items: &[u8],
+    end: u64,
+) -> Result<(), AllocError> {
+    let reply = write(world, alloc, offset, items)?;
+    let all = items.len() as u64;
+    check(
+        rt,
+        matches!(&reply, Reply::Wrote(count, found) if *count == all && *found == end),
+    );
+    Ok(())
+}
+
+fn refuses(rt: &impl Abort, world: &mut World<ScriptDevice>, step: &Step, refusal: Refusal) {
+    let reply = world.step(step);
+    check(
+        rt,
+        matches!(&reply, Reply::Refused(found) if *found == refusal),
+    );
+}
+
+fn cuts(rt: &impl Abort, world: &mut World<ScriptDevice>, size: u64) {
+    let reply = world.step(&Step::Truncate(HandleId(0), size));
+    check(rt, matches!(reply, Reply::Done));
+}
+
+fn calls(rt: &impl Abort, world: &mut World<ScriptDevice>, serial: Serial) {
+    check(rt, matches!(world.step(&Step::Call(serial)), Reply::Done));
+}
+
+fn ends_written(rt: &impl Abort, world: &mut World<ScriptDevice>, serial: Serial) {
+    check(rt, matches!(world.step(&Step::End(serial)), Reply::Written));
+}
+
+fn ends_dropped(rt: &impl Abort, world: &mut World<ScriptDevice>, serial: Serial) {
+    check(rt, matches!(world.step(&Step::End(serial)), Reply::Dropped));
+}
+
+fn ends_filled(rt: &impl Abort, world: &mut World<ScriptDevice>, serial: Serial) {
+    check(rt, matches!(world.step(&Step::End(serial)), Reply::Filled));
+}
+
 // The device call of a flush is made, and its request ends.
 fn written(rt: &impl Abort, world: &mut World<ScriptDevice>, serial: Serial) {
-    assert!(rt; matches!(world.step(&Step::Call(serial)), Reply::Done));
-    assert!(rt; matches!(world.step(&Step::End(serial)), Reply::Written));
+    calls(rt, world, serial);
+    ends_written(rt, world, serial);
 }
 
 // A page is written back, and its request ends.
 fn written_back(rt: &impl Abort, world: &mut World<ScriptDevice>, serial: Serial) {
-    assert!(rt; flush_begins(world, serial));
+    check(rt, flush_begins(world, serial));
     written(rt, world, serial);
 }
 
@@ -156,16 +218,20 @@ fn flush_then_write(
     alloc: Global,
     world: &mut World<ScriptDevice>,
 ) -> Result<(), Refusal> {
-    assert!(rt; matches!(write(world, alloc, 0, &[171; 256])?, Reply::Wrote(256, 256)));
-    assert!(rt;
+    writes(rt, alloc, world, 0, &[171; 256], 256)?;
+    check(
+        rt,
         matches!(
             write(world, alloc, 256, &[255])?,
             Reply::Refused(Refusal::DirtyLimit)
-        )
+        ),
     );
-    assert!(rt; matches!(world.step(&Step::Size(HandleId(0))), Reply::Size(256)));
+    check(
+        rt,
+        matches!(world.step(&Step::Size(HandleId(0))), Reply::Size(256)),
+    );
     written_back(rt, world, Serial(0));
-    assert!(rt; matches!(write(world, alloc, 256, &[255])?, Reply::Wrote(1, 257)));
+    writes(rt, alloc, world, 256, &[255], 257)?;
     Ok(())
 }
 
@@ -175,14 +241,14 @@ fn write_under_a_flush(
     alloc: Global,
     world: &mut World<ScriptDevice>,
 ) -> Result<(), Refusal> {
-    assert!(rt; matches!(write(world, alloc, 0, &[170])?, Reply::Wrote(1, 1)));
-    assert!(rt; flush_begins(world, Serial(0)));
-    assert!(rt; matches!(write(world, alloc, 0, &[187])?, Reply::Wrote(1, 1)));
-    assert!(rt; matches!(world.step(&Step::Call(Serial(0))), Reply::Done));
-    assert!(rt; matches!(world.step(&Step::End(Serial(0))), Reply::Written));
-    assert!(rt; is_dirty(world));
-    assert!(rt; reads(world, 1, &[187]));
-    assert!(rt; matches!(world.step(&Step::Evict), Reply::NoneIdle));
+    writes(rt, alloc, world, 0, &[170], 1)?;
+    check(rt, flush_begins(world, Serial(0)));
+    writes(rt, alloc, world, 0, &[187], 1)?;
+    calls(rt, world, Serial(0));
+    ends_written(rt, world, Serial(0));
+    check(rt, is_dirty(world));
+    check(rt, reads(world, 1, &[187]));
+    check(rt, matches!(world.step(&Step::Evict), Reply::NoneIdle));
     Ok(())
 }
 
@@ -193,30 +259,25 @@ fn fail_a_flush(
     world: &mut World<ScriptDevice>,
 ) -> Result<(), Refusal> {
     let serial = Serial(0);
-    assert_eq!(rt;
+    same(
+        rt,
         world.fail(serial, ErrCode::IO, FaultEffect::Old),
-        Err(Refusal::Stranger)
+        Err(Refusal::Stranger),
     );
-    assert!(rt; matches!(write(world, alloc, 0, &[170])?, Reply::Wrote(1, 1)));
-    assert!(rt; flush_begins(world, Serial(0)));
-    assert!(rt;
-        matches!(
-            world.step(&Step::End(serial)),
-            Reply::Refused(Refusal::Stranger)
-        )
+    writes(rt, alloc, world, 0, &[170], 1)?;
+    check(rt, flush_begins(world, Serial(0)));
+    refuses(rt, world, &Step::End(serial), Refusal::Stranger);
+    same(rt, world.flush_of(serial), Some(FileId(0)));
+    same(
+        rt,
+        world.fail(serial, ErrCode::IO, FaultEffect::Old),
+        Ok(()),
     );
-    assert_eq!(rt; world.flush_of(serial), Some(FileId(0)));
-    assert_eq!(rt; world.fail(serial, ErrCode::IO, FaultEffect::Old), Ok(()));
-    assert!(rt;
-        matches!(
-            world.step(&Step::Call(serial)),
-            Reply::Refused(Refusal::Stranger)
-        )
-    );
-    assert!(rt; ends_failed(world, serial));
-    assert_eq!(rt; world.flush_of(serial), None);
-    assert!(rt; is_dirty(world));
-    assert!(rt; reads(world, 1, &[170]));
+    refuses(rt, world, &Step::Call(serial), Refusal::Stranger);
+    check(rt, ends_failed(world, serial));
+    same(rt, world.flush_of(serial), None);
+    check(rt, is_dirty(world));
+    check(rt, reads(world, 1, &[170]));
     Ok(())
 }
 
@@ -227,37 +288,41 @@ fn cut_an_evicted_page(
     world: &mut World<ScriptDevice>,
 ) -> Result<(), Refusal> {
     let handle = HandleId(0);
-    assert!(rt; matches!(write(world, alloc, 0, &[17; 16])?, Reply::Wrote(16, 16)));
+    writes(rt, alloc, world, 0, &[17; 16], 16)?;
     written_back(rt, world, Serial(0));
-    assert!(rt;
+    check(
+        rt,
         matches!(
             world.step(&Step::Evict),
             Reply::Evicted(FileId(0), PageIndex(0))
-        )
+        ),
     );
-    assert!(rt;
+    check(
+        rt,
         matches!(
             world.step(&Step::Truncate(handle, 4)),
             Reply::Miss(PageIndex(0))
-        )
+        ),
     );
-    assert!(rt;
+    check(
+        rt,
         matches!(
             world.step(&Step::FillBegin(handle, PageIndex(0))),
             Reply::Job(Serial(1))
-        )
+        ),
     );
-    assert!(rt; matches!(world.step(&Step::Call(Serial(1))), Reply::Done));
-    assert!(rt; matches!(world.step(&Step::End(Serial(1))), Reply::Filled));
-    assert!(rt; matches!(world.step(&Step::Truncate(handle, 4)), Reply::Done));
-    assert!(rt; is_dirty(world));
-    assert!(rt; matches!(world.step(&Step::Truncate(handle, 16)), Reply::Done));
-    assert!(rt;
+    calls(rt, world, Serial(1));
+    ends_filled(rt, world, Serial(1));
+    cuts(rt, world, 4);
+    check(rt, is_dirty(world));
+    cuts(rt, world, 16);
+    check(
+        rt,
         reads(
             world,
             16,
-            &[17, 17, 17, 17, 0, 0, 0, 0, 0, 0, 0, 0, 0, 0, 0, 0]
-        )
+            &[17, 17, 17, 17, 0, 0, 0, 0, 0, 0, 0, 0, 0, 0, 0, 0],
+        ),
     );
     Ok(())
 }
@@ -268,25 +333,21 @@ fn cut_under_a_flush(
     alloc: Global,
     world: &mut World<ScriptDevice>,
 ) -> Result<(), Refusal> {
-    assert!(rt; matches!(write(world, alloc, 0, &[170])?, Reply::Wrote(1, 1)));
-    assert!(rt; flush_begins(world, Serial(0)));
-    assert!(rt; matches!(world.step(&Step::Truncate(HandleId(0), 0)), Reply::Done));
-    assert!(rt;
+    writes(rt, alloc, world, 0, &[170], 1)?;
+    check(rt, flush_begins(world, Serial(0)));
+    cuts(rt, world, 0);
+    check(
+        rt,
         matches!(
             write(world, alloc, 0, &[187])?,
             Reply::Refused(Refusal::NoSpace)
-        )
+        ),
     );
-    assert!(rt; matches!(world.step(&Step::Call(Serial(0))), Reply::Done));
-    assert!(rt; matches!(world.step(&Step::End(Serial(0))), Reply::Dropped));
-    assert!(rt;
-        matches!(
-            world.step(&Step::End(Serial(0))),
-            Reply::Refused(Refusal::Stranger)
-        )
-    );
-    assert!(rt; matches!(write(world, alloc, 0, &[187])?, Reply::Wrote(1, 1)));
-    assert!(rt; reads(world, 9, &[187]));
+    calls(rt, world, Serial(0));
+    ends_dropped(rt, world, Serial(0));
+    refuses(rt, world, &Step::End(Serial(0)), Refusal::Stranger);
+    writes(rt, alloc, world, 0, &[187], 1)?;
+    check(rt, reads(world, 9, &[187]));
     Ok(())
 }
 
@@ -297,32 +358,35 @@ fn cut_under_a_fill(
     world: &mut World<ScriptDevice>,
 ) -> Result<(), Refusal> {
     let handle = HandleId(0);
-    assert!(rt; matches!(write(world, alloc, 0, &[17; 16])?, Reply::Wrote(16, 16)));
+    writes(rt, alloc, world, 0, &[17; 16], 16)?;
     written_back(rt, world, Serial(0));
-    assert!(rt;
+    check(
+        rt,
         matches!(
             world.step(&Step::Evict),
             Reply::Evicted(FileId(0), PageIndex(0))
-        )
+        ),
     );
-    assert!(rt;
+    check(
+        rt,
         matches!(
             world.step(&Step::FillBegin(handle, PageIndex(0))),
             Reply::Job(Serial(1))
-        )
+        ),
     );
-    assert!(rt;
+    check(
+        rt,
         matches!(
             world.step(&Step::Read(handle, 0, 1)),
             Reply::Wait(PageIndex(0))
-        )
+        ),
     );
-    assert!(rt; matches!(world.step(&Step::Truncate(handle, 0)), Reply::Done));
-    assert!(rt; matches!(write(world, alloc, 0, &[34])?, Reply::Wrote(1, 1)));
-    assert!(rt; matches!(world.step(&Step::Call(Serial(1))), Reply::Done));
-    assert!(rt; matches!(world.step(&Step::End(Serial(1))), Reply::Dropped));
-    assert!(rt; reads(world, 16, &[34]));
-    assert!(rt; matches!(world.step(&Step::Age), Reply::Aged(_)));
+    cuts(rt, world, 0);
+    writes(rt, alloc, world, 0, &[34], 1)?;
+    calls(rt, world, Serial(1));
+    ends_dropped(rt, world, Serial(1));
+    check(rt, reads(world, 16, &[34]));
+    check(rt, matches!(world.step(&Step::Age), Reply::Aged(_)));
     Ok(())
 }
 
@@ -333,25 +397,27 @@ fn append_and_close(
     world: &mut World<ScriptDevice>,
 ) -> Result<(), Refusal> {
     let handle = HandleId(0);
-    assert!(rt; reads(world, 10, &[]));
+    check(rt, reads(world, 10, &[]));
     let append = Step::Append(handle, bytes(alloc, &[170])?);
-    assert!(rt; matches!(world.step(&append), Reply::Wrote(1, 1)));
-    assert!(rt; matches!(world.step(&append), Reply::Wrote(1, 2)));
-    assert!(rt; reads(world, 10, &[170, 170]));
-    assert!(rt; matches!(world.step(&Step::Close(handle)), Reply::Closed));
-    assert!(rt;
-        matches!(
-            world.step(&Step::Size(handle)),
-            Reply::Refused(Refusal::BadHandle)
-        )
+    check(rt, matches!(world.step(&append), Reply::Wrote(1, 1)));
+    check(rt, matches!(world.step(&append), Reply::Wrote(1, 2)));
+    check(rt, reads(world, 10, &[170, 170]));
+    check(
+        rt,
+        matches!(world.step(&Step::Close(handle)), Reply::Closed),
     );
-    assert!(rt;
+    refuses(rt, world, &Step::Size(handle), Refusal::BadHandle);
+    check(
+        rt,
         matches!(
             world.step(&Step::Open(FileId(0))),
             Reply::Handle(HandleId(0))
-        )
+        ),
     );
-    assert!(rt; matches!(world.step(&Step::Size(handle)), Reply::Size(2)));
+    check(
+        rt,
+        matches!(world.step(&Step::Size(handle)), Reply::Size(2)),
+    );
     Ok(())
 }
 
@@ -362,24 +428,34 @@ fn evict_by_use(
     alloc: Global,
     world: &mut World<ScriptDevice>,
 ) -> Result<(), Refusal> {
-    assert!(rt; matches!(write(world, alloc, 0, &[1; 48])?, Reply::Wrote(48, 48)));
+    writes(rt, alloc, world, 0, &[1; 48], 48)?;
     written_back(rt, world, Serial(0));
     written_back(rt, world, Serial(1));
     written_back(rt, world, Serial(2));
-    assert!(rt; matches!(world.step(&Step::FlushBegin(FileId(0))), Reply::Nothing));
-    assert!(rt; reads(world, 1, &[1]));
-    assert!(rt; reads(world, 1, &[1]));
-    assert!(rt; matches!(world.step(&Step::Age), Reply::Aged(0)));
-    assert!(rt; evicts(world, 1));
-    assert!(rt; evicts(world, 2));
-    assert!(rt; matches!(world.step(&Step::Age), Reply::Aged(1)));
-    assert!(rt; evicts(world, 0));
-    assert!(rt; matches!(world.step(&Step::Evict), Reply::NoneIdle));
+    check(
+        rt,
+        matches!(world.step(&Step::FlushBegin(FileId(0))), Reply::Nothing),
+    );
+    check(rt, reads(world, 1, &[1]));
+    check(rt, reads(world, 1, &[1]));
+    check(rt, matches!(world.step(&Step::Age), Reply::Aged(0)));
+    check(rt, evicts(world, 1));
+    check(rt, evicts(world, 2));
+    check(rt, matches!(world.step(&Step::Age), Reply::Aged(1)));
+    check(rt, evicts(world, 0));
+    check(rt, matches!(world.step(&Step::Evict), Reply::NoneIdle));
     let serial = Serial(3);
-    assert!(rt; fill_begins(world, serial));
-    assert_eq!(rt; world.fail(serial, ErrCode::IO, FaultEffect::Old), Ok(()));
-    assert!(rt; ends_failed(world, serial));
-    assert!(rt; matches!(world.tags(FileId(0), PageIndex(0)), Ok(PageTags::Absent)));
+    check(rt, fill_begins(world, serial));
+    same(
+        rt,
+        world.fail(serial, ErrCode::IO, FaultEffect::Old),
+        Ok(()),
+    );
+    check(rt, ends_failed(world, serial));
+    check(
+        rt,
+        matches!(world.tags(FileId(0), PageIndex(0)), Ok(PageTags::Absent)),
+    );
     Ok(())
 }
 
@@ -389,20 +465,20 @@ fn flush_after_a_cut(
     alloc: Global,
     world: &mut World<ScriptDevice>,
 ) -> Result<(), Refusal> {
-    assert!(rt; matches!(write(world, alloc, 0, &[170])?, Reply::Wrote(1, 1)));
-    assert!(rt; flush_begins(world, Serial(0)));
-    assert!(rt; matches!(world.step(&Step::Truncate(HandleId(0), 0)), Reply::Done));
-    assert!(rt; matches!(write(world, alloc, 0, &[187])?, Reply::Wrote(1, 1)));
-    assert!(rt; flush_begins(world, Serial(1)));
-    assert!(rt; matches!(world.step(&Step::Call(Serial(1))), Reply::Done));
-    assert!(rt; matches!(world.step(&Step::Call(Serial(0))), Reply::Done));
-    assert!(rt; matches!(world.step(&Step::End(Serial(0))), Reply::Dropped));
-    assert!(rt; matches!(world.step(&Step::End(Serial(1))), Reply::Written));
-    assert!(rt; evicts(world, 0));
-    assert!(rt; fill_begins(world, Serial(2)));
-    assert!(rt; matches!(world.step(&Step::Call(Serial(2))), Reply::Done));
-    assert!(rt; matches!(world.step(&Step::End(Serial(2))), Reply::Filled));
-    assert!(rt; reads(world, 1, &[187]));
+    writes(rt, alloc, world, 0, &[170], 1)?;
+    check(rt, flush_begins(world, Serial(0)));
+    cuts(rt, world, 0);
+    writes(rt, alloc, world, 0, &[187], 1)?;
+    check(rt, flush_begins(world, Serial(1)));
+    calls(rt, world, Serial(1));
+    calls(rt, world, Serial(0));
+    ends_dropped(rt, world, Serial(0));
+    ends_written(rt, world, Serial(1));
+    check(rt, evicts(world, 0));
+    check(rt, fill_begins(world, Serial(2)));
+    calls(rt, world, Serial(2));
+    ends_filled(rt, world, Serial(2));
+    check(rt, reads(world, 1, &[187]));
     Ok(())
 }
 
@@ -413,15 +489,19 @@ fn fail_over_a_newer_write(
     world: &mut World<ScriptDevice>,
 ) -> Result<(), Refusal> {
     let serial = Serial(0);
-    assert!(rt; matches!(write(world, alloc, 0, &[170])?, Reply::Wrote(1, 1)));
-    assert!(rt; flush_begins(world, serial));
-    assert!(rt; matches!(write(world, alloc, 0, &[187])?, Reply::Wrote(1, 1)));
-    assert_eq!(rt; world.fail(serial, ErrCode::IO, FaultEffect::New), Ok(()));
-    assert!(rt; ends_failed(world, serial));
-    assert!(rt; is_dirty(world));
-    assert!(rt; reads(world, 1, &[187]));
+    writes(rt, alloc, world, 0, &[170], 1)?;
+    check(rt, flush_begins(world, serial));
+    writes(rt, alloc, world, 0, &[187], 1)?;
+    same(
+        rt,
+        world.fail(serial, ErrCode::IO, FaultEffect::New),
+        Ok(()),
+    );
+    check(rt, ends_failed(world, serial));
+    check(rt, is_dirty(world));
+    check(rt, reads(world, 1, &[187]));
     let other = world.fail(Serial(9), ErrCode::IO, FaultEffect::Old);
-    assert_eq!(rt; other, Err(Refusal::Stranger));
+    same(rt, other, Err(Refusal::Stranger));
     Ok(())
 }
 
@@ -431,18 +511,18 @@ fn write_under_a_sync(
     alloc: Global,
     world: &mut World<ScriptDevice>,
 ) -> Result<(), Refusal> {
-    assert!(rt; matches!(write(world, alloc, 0, &[170])?, Reply::Wrote(1, 1)));
-    assert!(rt; matches!(write(world, alloc, 32, &[187])?, Reply::Wrote(1, 33)));
-    assert!(rt; sync_begins(world));
-    assert!(rt; matches!(write(world, alloc, 16, &[204])?, Reply::Wrote(1, 17)));
-    assert!(rt; sync_starts(world, Serial(0)));
-    assert!(rt; sync_starts(world, Serial(1)));
-    assert!(rt; sync_waits(world, 0));
+    writes(rt, alloc, world, 0, &[170], 1)?;
+    writes(rt, alloc, world, 32, &[187], 33)?;
+    check(rt, sync_begins(world));
+    writes(rt, alloc, world, 16, &[204], 17)?;
+    check(rt, sync_starts(world, Serial(0)));
+    check(rt, sync_starts(world, Serial(1)));
+    check(rt, sync_waits(world, 0));
     written(rt, world, Serial(0));
-    assert!(rt; sync_waits(world, 2));
+    check(rt, sync_waits(world, 2));
     written(rt, world, Serial(1));
-    assert!(rt; sync_is_clean(world));
-    assert!(rt; has_tags(world, 1, Tags::none().with(Tag::Dirty)));
+    check(rt, sync_is_clean(world));
+    check(rt, has_tags(world, 1, Tags::none().with(Tag::Dirty)));
     Ok(())
 }
 
@@ -453,19 +533,19 @@ fn sync_under_a_flush(
     world: &mut World<ScriptDevice>,
 ) -> Result<(), Refusal> {
     let to_write = Tags::none().with(Tag::Dirty).with(Tag::Towrite);
-    assert!(rt; matches!(write(world, alloc, 0, &[170])?, Reply::Wrote(1, 1)));
-    assert!(rt; flush_begins(world, Serial(0)));
-    assert!(rt; matches!(write(world, alloc, 0, &[187])?, Reply::Wrote(1, 1)));
-    assert!(rt; sync_begins(world));
-    assert!(rt; has_tags(world, 0, to_write.with(Tag::Writeback)));
-    assert!(rt; sync_waits(world, 0));
+    writes(rt, alloc, world, 0, &[170], 1)?;
+    check(rt, flush_begins(world, Serial(0)));
+    writes(rt, alloc, world, 0, &[187], 1)?;
+    check(rt, sync_begins(world));
+    check(rt, has_tags(world, 0, to_write.with(Tag::Writeback)));
+    check(rt, sync_waits(world, 0));
     written(rt, world, Serial(0));
-    assert!(rt; has_tags(world, 0, to_write));
-    assert!(rt; sync_starts(world, Serial(1)));
-    assert!(rt; has_tags(world, 0, Tags::none().with(Tag::Writeback)));
-    assert!(rt; sync_waits(world, 0));
+    check(rt, has_tags(world, 0, to_write));
+    check(rt, sync_starts(world, Serial(1)));
+    check(rt, has_tags(world, 0, Tags::none().with(Tag::Writeback)));
+    check(rt, sync_waits(world, 0));
     written(rt, world, Serial(1));
-    assert!(rt; sync_is_clean(world));
+    check(rt, sync_is_clean(world));
     Ok(())
 }
 
@@ -475,12 +555,12 @@ fn flush_under_a_sync(
     alloc: Global,
     world: &mut World<ScriptDevice>,
 ) -> Result<(), Refusal> {
-    assert!(rt; matches!(write(world, alloc, 0, &[170])?, Reply::Wrote(1, 1)));
-    assert!(rt; sync_begins(world));
-    assert!(rt; flush_begins(world, Serial(0)));
-    assert!(rt; sync_waits(world, 0));
+    writes(rt, alloc, world, 0, &[170], 1)?;
+    check(rt, sync_begins(world));
+    check(rt, flush_begins(world, Serial(0)));
+    check(rt, sync_waits(world, 0));
     written(rt, world, Serial(0));
-    assert!(rt; sync_is_clean(world));
+    check(rt, sync_is_clean(world));
     Ok(())
 }
 
@@ -491,57 +571,50 @@ fn sync_of_a_range(
     world: &mut World<ScriptDevice>,
 ) -> Result<(), Refusal> {
     let dirty = Tags::none().with(Tag::Dirty);
-    assert!(rt; matches!(write(world, alloc, 0, &[170])?, Reply::Wrote(1, 1)));
-    assert!(rt; flush_begins(world, Serial(0)));
-    assert!(rt; matches!(write(world, alloc, 0, &[171])?, Reply::Wrote(1, 1)));
-    assert!(rt; matches!(write(world, alloc, 32, &[187])?, Reply::Wrote(1, 33)));
-    assert!(rt; range_begins(world, 2, 5));
-    assert!(rt; has_tags(world, 0, dirty.with(Tag::Writeback)));
-    assert!(rt; has_tags(world, 2, dirty.with(Tag::Towrite)));
-    assert!(rt; sync_starts(world, Serial(1)));
-    assert!(rt; sync_waits(world, 2));
+    writes(rt, alloc, world, 0, &[170], 1)?;
+    check(rt, flush_begins(world, Serial(0)));
+    writes(rt, alloc, world, 0, &[171], 1)?;
+    writes(rt, alloc, world, 32, &[187], 33)?;
+    check(rt, range_begins(world, 2, 5));
+    check(rt, has_tags(world, 0, dirty.with(Tag::Writeback)));
+    check(rt, has_tags(world, 2, dirty.with(Tag::Towrite)));
+    check(rt, sync_starts(world, Serial(1)));
+    check(rt, sync_waits(world, 2));
     written(rt, world, Serial(1));
-    assert!(rt; sync_is_clean(world));
-    assert!(rt; has_tags(world, 0, dirty.with(Tag::Writeback)));
+    check(rt, sync_is_clean(world));
+    check(rt, has_tags(world, 0, dirty.with(Tag::Writeback)));
     let turned = world.sync_begin_range(HandleId(0), PageIndex(5), PageIndex(4));
-    assert_eq!(rt; turned, Err(Refusal::BadRange));
+    same(rt, turned, Err(Refusal::BadRange));
     Ok(())
 }
 
 // A flush that fails does so once, and is no call.
 fn flush_the_device(rt: &impl Abort, alloc: Global) -> Result<(), Refusal> {
-    let geometry = Geometry::new(16, 48, 16, 64)?;
     let mut device = ScriptDevice::new(alloc, 16, 64)?;
     device.fail_next_flush(ErrCode::IO);
-    let Ok(mut world) = World::new(alloc, &geometry, 0, device) else {
-        return Err(Refusal::BadConfig);
-    };
-    assert_eq!(rt; world.flush_written(), Err(ErrCode::IO));
-    assert_eq!(rt; world.flush(), Ok(()));
-    assert_eq!(rt; world.flush_written(), Ok(()));
+    let mut world = boxed(alloc, 64, device)?;
+    same(rt, world.flush_written(), Err(ErrCode::IO));
+    same(rt, world.flush(), Ok(()));
+    same(rt, world.flush_written(), Ok(()));
     Ok(())
 }
 
 // A handle is not closed while a sync of it goes on.
 fn close_under_a_sync(rt: &impl Abort, world: &mut World<ScriptDevice>) {
     let handle = HandleId(0);
-    assert!(rt; sync_begins(world));
-    assert!(rt;
-        matches!(
-            world.step(&Step::Close(handle)),
-            Reply::Refused(Refusal::Busy)
-        )
+    check(rt, sync_begins(world));
+    refuses(rt, world, &Step::Close(handle), Refusal::Busy);
+    check(
+        rt,
+        matches!(world.step(&Step::SyncDrop(SyncId(0))), Reply::Dropped),
     );
-    assert!(rt; matches!(world.step(&Step::SyncDrop(SyncId(0))), Reply::Dropped));
-    assert!(rt; matches!(world.step(&Step::Close(handle)), Reply::Closed));
-    assert!(rt;
-        matches!(
-            world.step(&Step::Size(handle)),
-            Reply::Refused(Refusal::BadHandle)
-        )
+    check(
+        rt,
+        matches!(world.step(&Step::Close(handle)), Reply::Closed),
     );
+    refuses(rt, world, &Step::Size(handle), Refusal::BadHandle);
     let other = world.step(&Step::Open(FileId(1)));
-    assert!(rt; matches!(other, Reply::Refused(Refusal::NoSuchFile)));
+    check(rt, matches!(other, Reply::Refused(Refusal::NoSuchFile)));
 }
 
 #[derive(Clone, Copy)]

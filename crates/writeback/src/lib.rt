@@ -9,11 +9,7 @@
 
 mod picks;
 mod requests;
-#[cfg(test)]
-mod sync_tests;
 mod syncs;
-#[cfg(test)]
-mod tests;
 
 pub use picks::{SyncStep, begin_write, end_write, flush_pick, sync_begin, sync_pick, sync_step};
 pub use requests::{Request, Requests};

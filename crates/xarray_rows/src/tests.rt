@@ -4,6 +4,7 @@ ghost use Rattle.std.specs.Prelude.{◌≡◌, ◌<◌, ◌≤◌, OnOk, true};
 ghost use Rattle.std.specs.FinMap as map;
 ghost use Rattle.xarray.specs.MarkedArray.{remarked, unmarked};
 
+use crate::checks::{check, same};
 use pc_types::Refusal;
 use std::process::Abort;
 use std::test::Fail;
@@ -12,11 +13,11 @@ use xarray::{Found, MAX_VALUE, Mark, Marked, Marks, XArray};
 const ALL: u64 = u64::MAX;
 
 fn assert_fresh(rt: &impl Abort, array: &mut XArray, index: u64, value: u64) {
-    assert_eq!(rt; array.store(index, value), Ok(None));
+    same(rt, array.store(index, value), Ok(None));
 }
 
 fn assert_marks(rt: &impl Abort, array: &mut XArray, index: u64, mark: Mark) {
-    assert_eq!(rt; array.set_mark(index, mark), Ok(()));
+    same(rt, array.set_mark(index, mark), Ok(()));
 }
 
 fn one(first: u64, value: u64) -> Option<Found> {
@@ -41,21 +42,21 @@ fn marks_are_found_in_order(rt: HostRuntime) -> Result<(), Fail> {
     three(&rt, &mut array);
     assert_marks(&rt, &mut array, 70, Mark::M0);
     assert_marks(&rt, &mut array, 4096, Mark::M0);
-    assert_eq!(rt; array.find_marked(0, ALL, Mark::M0), one(70, 2));
-    assert_eq!(rt; array.load_marked(70, Mark::M0), Some(2));
-    assert_eq!(rt; array.load_marked(70, Mark::M1), None);
-    assert_eq!(rt; array.load_marked(71, Mark::M0), None);
+    same(&rt, array.find_marked(0, ALL, Mark::M0), one(70, 2));
+    same(&rt, array.load_marked(70, Mark::M0), Some(2));
+    same(&rt, array.load_marked(70, Mark::M1), None);
+    same(&rt, array.load_marked(71, Mark::M0), None);
     array.clear_mark(70, Mark::M0);
-    assert_eq!(rt; array.find_marked(0, ALL, Mark::M0), one(4096, 3));
-    assert_eq!(rt; array.erase(4096), Some(3));
-    assert!(rt; !array.marked(Mark::M0));
-    assert_eq!(rt; array.find(4, ALL), one(70, 2));
-    assert_eq!(rt; array.retag(0, 70, Mark::M0, Mark::M1), 0);
-    assert_eq!(rt; array.store(70, 5), Ok(Some(2)));
-    assert_eq!(rt; array.set_mark(9, Mark::M0), Err(Refusal::NoEntry));
-    assert_eq!(rt; array.insert(3, 8), Err(Refusal::Busy));
-    assert_eq!(rt; array.reserve(9, 0), Ok(()));
-    assert_eq!(rt; array.insert(9, 8), Ok(()));
+    same(&rt, array.find_marked(0, ALL, Mark::M0), one(4096, 3));
+    same(&rt, array.erase(4096), Some(3));
+    check(&rt, !array.marked(Mark::M0));
+    same(&rt, array.find(4, ALL), one(70, 2));
+    same(&rt, array.retag(0, 70, Mark::M0, Mark::M1), 0);
+    same(&rt, array.store(70, 5), Ok(Some(2)));
+    same(&rt, array.set_mark(9, Mark::M0), Err(Refusal::NoEntry));
+    same(&rt, array.insert(3, 8), Err(Refusal::Busy));
+    same(&rt, array.reserve(9, 0), Ok(()));
+    same(&rt, array.insert(9, 8), Ok(()));
     Ok(())
 }
 
@@ -63,10 +64,10 @@ fn marks_are_found_in_order(rt: HostRuntime) -> Result<(), Fail> {
 #[test]
 fn greatest_index_comes_and_goes(rt: HostRuntime) -> Result<(), Fail> {
     let mut array = XArray::new(rt.alloc());
-    assert_eq!(rt; array.store(ALL, 1), Ok(None));
-    assert_eq!(rt; array.load(ALL), Some(1));
-    assert_eq!(rt; array.erase(ALL), Some(1));
-    assert_eq!(rt; array.nodes(), 0);
+    same(&rt, array.store(ALL, 1), Ok(None));
+    same(&rt, array.load(ALL), Some(1));
+    same(&rt, array.erase(ALL), Some(1));
+    same(&rt, array.nodes(), 0);
     Ok(())
 }
 
@@ -74,15 +75,16 @@ fn greatest_index_comes_and_goes(rt: HostRuntime) -> Result<(), Fail> {
 #[test]
 fn greatest_value_is_kept(rt: HostRuntime) -> Result<(), Fail> {
     let mut array = XArray::new(rt.alloc());
-    assert_eq!(rt;
+    same(
+        &rt,
         array.store(5, 9_223_372_036_854_775_808),
-        Err(Refusal::BadEntry)
+        Err(Refusal::BadEntry),
     );
-    assert_eq!(rt; array.insert(5, ALL), Err(Refusal::BadEntry));
-    assert_eq!(rt; array.load(5), None);
-    assert_eq!(rt; array.insert(5, MAX_VALUE), Ok(()));
-    assert_eq!(rt; array.load(5), Some(MAX_VALUE));
-    assert_eq!(rt; array.insert(5, ALL), Err(Refusal::BadEntry));
+    same(&rt, array.insert(5, ALL), Err(Refusal::BadEntry));
+    same(&rt, array.load(5), None);
+    same(&rt, array.insert(5, MAX_VALUE), Ok(()));
+    same(&rt, array.load(5), Some(MAX_VALUE));
+    same(&rt, array.insert(5, ALL), Err(Refusal::BadEntry));
     Ok(())
 }
 
@@ -95,12 +97,12 @@ fn retag_counts_its_entries(rt: HostRuntime) -> Result<(), Fail> {
     assert_marks(&rt, &mut array, 70, Mark::M1);
     assert_marks(&rt, &mut array, 70, Mark::M2);
     assert_marks(&rt, &mut array, 4096, Mark::M1);
-    assert_eq!(rt; array.retag(3, 4095, Mark::M1, Mark::M2), 2);
-    assert!(rt; array.get_mark(3, Mark::M2));
-    assert!(rt; array.get_mark(3, Mark::M1));
-    assert!(rt; !array.get_mark(4096, Mark::M2));
-    assert_eq!(rt; array.retag(4, 3, Mark::M1, Mark::M2), 0);
-    assert_eq!(rt; array.retag(0, ALL, Mark::M1, Mark::M1), 3);
+    same(&rt, array.retag(3, 4095, Mark::M1, Mark::M2), 2);
+    check(&rt, array.get_mark(3, Mark::M2));
+    check(&rt, array.get_mark(3, Mark::M1));
+    check(&rt, !array.get_mark(4096, Mark::M2));
+    same(&rt, array.retag(4, 3, Mark::M1, Mark::M2), 0);
+    same(&rt, array.retag(0, ALL, Mark::M1, Mark::M1), 3);
     Ok(())
 }
 
@@ -110,11 +112,11 @@ fn search_ends_at_its_end(rt: HostRuntime) -> Result<(), Fail> {
     let mut array = XArray::new(rt.alloc());
     three(&rt, &mut array);
     assert_marks(&rt, &mut array, 70, Mark::M2);
-    assert_eq!(rt; array.find(4, 69), None);
-    assert_eq!(rt; array.find(4, 70), one(70, 2));
-    assert_eq!(rt; array.find(70, 3), None);
-    assert_eq!(rt; array.find_marked(0, 69, Mark::M2), None);
-    assert_eq!(rt; array.find_marked(70, 70, Mark::M2), one(70, 2));
+    same(&rt, array.find(4, 69), None);
+    same(&rt, array.find(4, 70), one(70, 2));
+    same(&rt, array.find(70, 3), None);
+    same(&rt, array.find_marked(0, 69, Mark::M2), None);
+    same(&rt, array.find_marked(70, 70, Mark::M2), one(70, 2));
     Ok(())
 }
 
@@ -124,11 +126,11 @@ fn store_keeps_marks(rt: HostRuntime) -> Result<(), Fail> {
     let mut array = XArray::new(rt.alloc());
     three(&rt, &mut array);
     assert_marks(&rt, &mut array, 3, Mark::M0);
-    assert_eq!(rt; array.store(3, 9), Ok(Some(1)));
-    assert!(rt; array.get_mark(3, Mark::M0));
-    assert_eq!(rt; array.erase(3), Some(9));
-    assert_eq!(rt; array.store(3, 4), Ok(None));
-    assert!(rt; !array.get_mark(3, Mark::M0));
+    same(&rt, array.store(3, 9), Ok(Some(1)));
+    check(&rt, array.get_mark(3, Mark::M0));
+    same(&rt, array.erase(3), Some(9));
+    same(&rt, array.store(3, 4), Ok(None));
+    check(&rt, !array.get_mark(3, Mark::M0));
     Ok(())
 }
 
@@ -145,21 +147,21 @@ fn range(first: u64, order: u32, value: u64) -> Option<Found> {
 #[test]
 fn range_is_one_entry(rt: HostRuntime) -> Result<(), Fail> {
     let mut array = XArray::new(rt.alloc());
-    assert_eq!(rt; array.insert_order(64, 6, 7), Ok(()));
+    same(&rt, array.insert_order(64, 6, 7), Ok(()));
     for index in [64u64, 100, 127] {
-        assert_eq!(rt; array.load(index), Some(7));
+        same(&rt, array.load(index), Some(7));
     }
-    assert_eq!(rt; array.load(63), None);
-    assert_eq!(rt; array.load(128), None);
+    same(&rt, array.load(63), None);
+    same(&rt, array.load(128), None);
     assert_marks(&rt, &mut array, 100, Mark::M0);
-    assert_eq!(rt; array.find_marked(0, 200, Mark::M0), range(64, 6, 7));
-    assert_eq!(rt; array.find_marked(65, 200, Mark::M0), range(64, 6, 7));
-    assert_eq!(rt; array.find_marked(128, 200, Mark::M0), None);
-    assert_eq!(rt; array.retag(0, 64, Mark::M0, Mark::M2), 1);
-    assert!(rt; array.get_mark(127, Mark::M2));
-    assert_eq!(rt; array.erase(127), Some(7));
-    assert!(rt; !array.marked(Mark::M0));
-    assert_eq!(rt; array.nodes(), 0);
+    same(&rt, array.find_marked(0, 200, Mark::M0), range(64, 6, 7));
+    same(&rt, array.find_marked(65, 200, Mark::M0), range(64, 6, 7));
+    same(&rt, array.find_marked(128, 200, Mark::M0), None);
+    same(&rt, array.retag(0, 64, Mark::M0, Mark::M2), 1);
+    check(&rt, array.get_mark(127, Mark::M2));
+    same(&rt, array.erase(127), Some(7));
+    check(&rt, !array.marked(Mark::M0));
+    same(&rt, array.nodes(), 0);
     Ok(())
 }
 
@@ -169,19 +171,19 @@ fn each_order_is_served(rt: HostRuntime) -> Result<(), Fail> {
     let mut array = XArray::new(rt.alloc());
     for order in 0..64u32 {
         let first = u64::MAX - ((1u64 << order) - 1);
-        assert_eq!(rt; array.reserve(first, order), Ok(()));
-        assert_eq!(rt; array.insert_order(first, order, 9), Ok(()));
-        assert_eq!(rt; array.insert_order(ALL, 0, 9), Err(Refusal::Busy));
-        assert_eq!(rt; array.find(ALL, ALL), range(first, order, 9));
-        assert_eq!(rt; array.store(ALL, 8), Ok(Some(9)));
-        assert_eq!(rt; array.erase(first), Some(8));
-        assert_eq!(rt; array.nodes(), 0);
+        same(&rt, array.reserve(first, order), Ok(()));
+        same(&rt, array.insert_order(first, order, 9), Ok(()));
+        same(&rt, array.insert_order(ALL, 0, 9), Err(Refusal::Busy));
+        same(&rt, array.find(ALL, ALL), range(first, order, 9));
+        same(&rt, array.store(ALL, 8), Ok(Some(9)));
+        same(&rt, array.erase(first), Some(8));
+        same(&rt, array.nodes(), 0);
     }
-    assert_eq!(rt; array.insert_order(0, 64, 9), Err(Refusal::BadOrder));
-    assert_eq!(rt; array.insert_order(1, 1, 9), Err(Refusal::BadOrder));
-    assert_eq!(rt; array.insert_order(1, 64, ALL), Err(Refusal::BadEntry));
-    assert_eq!(rt; array.reserve(0, 64), Err(Refusal::BadOrder));
-    assert_eq!(rt; array.reserve(2, 2), Err(Refusal::BadOrder));
+    same(&rt, array.insert_order(0, 64, 9), Err(Refusal::BadOrder));
+    same(&rt, array.insert_order(1, 1, 9), Err(Refusal::BadOrder));
+    same(&rt, array.insert_order(1, 64, ALL), Err(Refusal::BadEntry));
+    same(&rt, array.reserve(0, 64), Err(Refusal::BadOrder));
+    same(&rt, array.reserve(2, 2), Err(Refusal::BadOrder));
     Ok(())
 }
 
@@ -190,12 +192,12 @@ fn each_order_is_served(rt: HostRuntime) -> Result<(), Fail> {
 fn ranges_do_not_overlap(rt: HostRuntime) -> Result<(), Fail> {
     let mut array = XArray::new(rt.alloc());
     assert_fresh(&rt, &mut array, 4095, 1);
-    assert_eq!(rt; array.insert_order(0, 12, 2), Err(Refusal::Busy));
-    assert_eq!(rt; array.insert_order(0, 13, 2), Err(Refusal::Busy));
-    assert_eq!(rt; array.insert_order(4096, 12, 2), Ok(()));
-    assert_eq!(rt; array.insert(8191, 3), Err(Refusal::Busy));
-    assert_eq!(rt; array.find(0, ALL), one(4095, 1));
-    assert_eq!(rt; array.find(4096, ALL), range(4096, 12, 2));
+    same(&rt, array.insert_order(0, 12, 2), Err(Refusal::Busy));
+    same(&rt, array.insert_order(0, 13, 2), Err(Refusal::Busy));
+    same(&rt, array.insert_order(4096, 12, 2), Ok(()));
+    same(&rt, array.insert(8191, 3), Err(Refusal::Busy));
+    same(&rt, array.find(0, ALL), one(4095, 1));
+    same(&rt, array.find(4096, ALL), range(4096, 12, 2));
     Ok(())
 }
 
@@ -203,14 +205,14 @@ fn ranges_do_not_overlap(rt: HostRuntime) -> Result<(), Fail> {
 #[test]
 fn parts_are_entries(rt: HostRuntime) -> Result<(), Fail> {
     let mut array = XArray::new(rt.alloc());
-    assert_eq!(rt; array.insert_order(0, 2, 9), Ok(()));
+    same(&rt, array.insert_order(0, 2, 9), Ok(()));
     assert_marks(&rt, &mut array, 1, Mark::M1);
-    assert_eq!(rt; array.split(3, 0), Ok(()));
-    assert_eq!(rt; array.erase(2), Some(9));
-    assert_eq!(rt; array.load(3), Some(9));
-    assert_eq!(rt; array.retag(0, 3, Mark::M1, Mark::M0), 3);
-    assert_eq!(rt; array.find(1, ALL), one(1, 9));
-    assert!(rt; !array.get_mark(3, Mark::M2));
+    same(&rt, array.split(3, 0), Ok(()));
+    same(&rt, array.erase(2), Some(9));
+    same(&rt, array.load(3), Some(9));
+    same(&rt, array.retag(0, 3, Mark::M1, Mark::M0), 3);
+    same(&rt, array.find(1, ALL), one(1, 9));
+    check(&rt, !array.get_mark(3, Mark::M2));
     Ok(())
 }
 
@@ -219,23 +221,24 @@ fn check_split(rt: &impl Abort, array: &mut XArray, from: u32, order: u32, nodes
     requires high { from < 32 }
     requires low { order ≤ from }
 {
-    assert_eq!(rt; array.insert_order(0, from, 7), Ok(()));
+    same(rt, array.insert_order(0, from, 7), Ok(()));
     assert_marks(rt, array, 1, Mark::M2);
-    assert_eq!(rt; array.split(5, order), Ok(()));
-    assert_eq!(rt; array.find(1 << from, ALL), None);
-    assert_eq!(rt; array.nodes(), nodes);
+    same(rt, array.split(5, order), Ok(()));
+    same(rt, array.find(1 << from, ALL), None);
+    same(rt, array.nodes(), nodes);
     for part in 0..1u64 << (from - order) {
         let first = part << order;
         let last = first | ((1 << order) - 1);
-        assert_eq!(rt;
+        same(
+            rt,
             array.find_marked(first, first, Mark::M2),
-            range(first, order, 7)
+            range(first, order, 7),
         );
-        assert!(rt; !array.get_mark(last, Mark::M0));
-        assert_eq!(rt; array.find(last, last), range(first, order, 7));
-        assert_eq!(rt; array.erase(last), Some(7));
+        check(rt, !array.get_mark(last, Mark::M0));
+        same(rt, array.find(last, last), range(first, order, 7));
+        same(rt, array.erase(last), Some(7));
     }
-    assert_eq!(rt; array.nodes(), 0);
+    same(rt, array.nodes(), 0);
 }
 
 // A split crosses levels, in a node for each slot, and a node goes with its last entry.
@@ -255,18 +258,18 @@ fn split_crosses_levels(rt: HostRuntime) -> Result<(), Fail> {
 #[test]
 fn split_is_refused(rt: HostRuntime) -> Result<(), Fail> {
     let mut array = XArray::new(rt.alloc());
-    assert_eq!(rt; array.split(0, 64), Err(Refusal::NoEntry));
-    assert_eq!(rt; array.insert_order(8, 3, 7), Ok(()));
-    assert_eq!(rt; array.split(7, 0), Err(Refusal::NoEntry));
-    assert_eq!(rt; array.split(15, 4), Err(Refusal::BadOrder));
-    assert_eq!(rt; array.split(15, 64), Err(Refusal::BadOrder));
-    assert_eq!(rt; array.split(15, 3), Ok(()));
-    assert_eq!(rt; array.find(0, ALL), range(8, 3, 7));
-    assert_eq!(rt; array.insert_order(1 << 63, 63, 8), Ok(()));
-    assert_eq!(rt; array.split(ALL, 0), Err(Refusal::Memory));
-    assert_eq!(rt; array.find(ALL, ALL), range(1 << 63, 63, 8));
-    assert_eq!(rt; array.split(ALL, 60), Ok(()));
-    assert_eq!(rt; array.find(ALL, ALL), range(15 << 60, 60, 8));
+    same(&rt, array.split(0, 64), Err(Refusal::NoEntry));
+    same(&rt, array.insert_order(8, 3, 7), Ok(()));
+    same(&rt, array.split(7, 0), Err(Refusal::NoEntry));
+    same(&rt, array.split(15, 4), Err(Refusal::BadOrder));
+    same(&rt, array.split(15, 64), Err(Refusal::BadOrder));
+    same(&rt, array.split(15, 3), Ok(()));
+    same(&rt, array.find(0, ALL), range(8, 3, 7));
+    same(&rt, array.insert_order(1 << 63, 63, 8), Ok(()));
+    same(&rt, array.split(ALL, 0), Err(Refusal::Memory));
+    same(&rt, array.find(ALL, ALL), range(1 << 63, 63, 8));
+    same(&rt, array.split(ALL, 60), Ok(()));
+    same(&rt, array.find(ALL, ALL), range(15 << 60, 60, 8));
     Ok(())
 }
 
@@ -277,15 +280,15 @@ fn dense_and_sparse_indexes(rt: HostRuntime) -> Result<(), Fail> {
     for step in [1u64, 64, 4097, 281_474_976_710_657] {
         for k in 0..200u64 {
             let index = k.wrapping_mul(step);
-            assert_eq!(rt; array.store(index, k), Ok(None));
-            assert_eq!(rt; array.load(index), Some(k));
+            same(&rt, array.store(index, k), Ok(None));
+            same(&rt, array.load(index), Some(k));
         }
         for k in 0..200u64 {
             let index = k.wrapping_mul(step);
-            assert_eq!(rt; array.find(0, ALL), one(index, k));
-            assert_eq!(rt; array.erase(index), Some(k));
+            same(&rt, array.find(0, ALL), one(index, k));
+            same(&rt, array.erase(index), Some(k));
         }
-        assert_eq!(rt; array.nodes(), 0);
+        same(&rt, array.nodes(), 0);
     }
     Ok(())
 }
@@ -319,12 +322,12 @@ fn sweep(array: &mut XArray) -> u64 {
 #[test]
 fn sweep_takes_each_once(rt: HostRuntime) -> Result<(), Fail> {
     let mut array = XArray::new(rt.alloc());
-    assert_eq!(rt; put_changed(&mut array, 5, 40), Ok(()));
-    assert_eq!(rt; put_changed(&mut array, 9000, 2), Ok(()));
+    same(&rt, put_changed(&mut array, 5, 40), Ok(()));
+    same(&rt, put_changed(&mut array, 9000, 2), Ok(()));
     assert_fresh(&rt, &mut array, 6, 100);
-    assert_eq!(rt; sweep(&mut array), 42);
-    assert_eq!(rt; sweep(&mut array), 0);
-    assert_eq!(rt; array.load(9000), Some(2));
+    same(&rt, sweep(&mut array), 42);
+    same(&rt, sweep(&mut array), 0);
+    same(&rt, array.load(9000), Some(2));
     Ok(())
 }
 
@@ -334,37 +337,39 @@ fn entries_come_in_rising_order(rt: HostRuntime) -> Result<(), Fail> {
     let mut array = XArray::new(rt.alloc());
     three(&rt, &mut array);
     assert_fresh(&rt, &mut array, 4097, 4);
-    assert_eq!(rt; array.insert_order(1 << 12 << 6, 12, 5), Ok(()));
+    same(&rt, array.insert_order(1 << 12 << 6, 12, 5), Ok(()));
     assert_fresh(&rt, &mut array, ALL, 6);
     let firsts = [3, 70, 4096, 4097, 1 << 12 << 6, ALL];
     let mut seen = 0usize;
     for found in array.entries(0, ALL) {
-        assert_eq!(rt; found.first, firsts[seen % 6]);
-        assert_eq!(rt; array.load(found.first), Some(found.value));
+        same(&rt, found.first, firsts[seen % 6]);
+        same(&rt, array.load(found.first), Some(found.value));
         seen = seen.wrapping_add(1);
     }
-    assert_eq!(rt; seen, 6);
+    same(&rt, seen, 6);
     let mut inner = array.entries(71, (1 << 12 << 6) + 9);
-    assert_eq!(rt; inner.next(), one(4096, 3));
-    assert_eq!(rt; inner.next(), one(4097, 4));
-    assert_eq!(rt;
+    same(&rt, inner.next(), one(4096, 3));
+    same(&rt, inner.next(), one(4097, 4));
+    same(
+        &rt,
         inner.next(),
         Some(Found {
             first: 1 << 12 << 6,
             order: 12,
-            value: 5
-        })
+            value: 5,
+        }),
     );
-    assert_eq!(rt; inner.next(), None);
-    assert_eq!(rt; inner.next(), None);
-    assert_eq!(rt; array.entries(9, 8).next(), None);
-    assert_eq!(rt;
+    same(&rt, inner.next(), None);
+    same(&rt, inner.next(), None);
+    same(&rt, array.entries(9, 8).next(), None);
+    same(
+        &rt,
         array.entries((1 << 12 << 6) + 7, ALL).next(),
         Some(Found {
             first: 1 << 12 << 6,
             order: 12,
-            value: 5
-        })
+            value: 5,
+        }),
     );
     Ok(())
 }
@@ -381,20 +386,25 @@ fn marked_entries_come_in_rising_order(rt: HostRuntime) -> Result<(), Fail> {
     }
     let mut count = 0u64;
     for found in array.entries_marked(0, ALL, Mark::M1) {
-        assert_eq!(rt;
+        same(
+            &rt,
             found,
             Found {
                 first: count % 50 * 10 + 3,
                 order: 0,
-                value: count % 50 * 10 + 4
-            }
+                value: count % 50 * 10 + 4,
+            },
         );
         count = count.wrapping_add(1);
     }
-    assert_eq!(rt; count, 50);
-    assert_eq!(rt; array.entries_marked(0, ALL, Mark::M0).next(), None);
-    assert_eq!(rt; array.entries_marked(14, 22, Mark::M1).next(), None);
-    assert_eq!(rt; array.entries_marked(14, 23, Mark::M1).next(), one(23, 24));
+    same(&rt, count, 50);
+    same(&rt, array.entries_marked(0, ALL, Mark::M0).next(), None);
+    same(&rt, array.entries_marked(14, 22, Mark::M1).next(), None);
+    same(
+        &rt,
+        array.entries_marked(14, 23, Mark::M1).next(),
+        one(23, 24),
+    );
     Ok(())
 }
 
@@ -413,38 +423,41 @@ fn marks_go_together(rt: HostRuntime) -> Result<(), Fail> {
         m1: false,
         m2: true,
     };
-    assert_eq!(rt; array.swap_marks(70, outer), Some(none));
-    assert_eq!(rt;
+    same(&rt, array.swap_marks(70, outer), Some(none));
+    same(
+        &rt,
         array.load_with_marks(70),
         Some(Marked {
             value: 2,
-            marks: outer
-        })
+            marks: outer,
+        }),
     );
-    assert_eq!(rt;
+    same(
+        &rt,
         array.load_with_marks(3),
         Some(Marked {
             value: 1,
-            marks: none
-        })
+            marks: none,
+        }),
     );
-    assert_eq!(rt; array.load_with_marks(71), None);
-    assert_eq!(rt; array.swap_mark(70, Mark::M2, false), Some(true));
-    assert_eq!(rt; array.swap_mark(70, Mark::M2, false), Some(false));
-    assert_eq!(rt; array.swap_mark(71, Mark::M2, true), None);
-    assert_eq!(rt; array.swap_marks(71, outer), None);
-    assert_eq!(rt;
+    same(&rt, array.load_with_marks(71), None);
+    same(&rt, array.swap_mark(70, Mark::M2, false), Some(true));
+    same(&rt, array.swap_mark(70, Mark::M2, false), Some(false));
+    same(&rt, array.swap_mark(71, Mark::M2, true), None);
+    same(&rt, array.swap_marks(71, outer), None);
+    same(
+        &rt,
         array.take(70),
         Some(Marked {
             value: 2,
             marks: Marks {
                 m0: true,
                 m1: false,
-                m2: false
-            }
-        })
+                m2: false,
+            },
+        }),
     );
-    assert_eq!(rt; array.take(70), None);
-    assert!(rt; !array.marked(Mark::M0));
+    same(&rt, array.take(70), None);
+    check(&rt, !array.marked(Mark::M0));
     Ok(())
 }

@@ -6,7 +6,7 @@ use Rattle.xarray.specs.declared.entry.Found.{Found}
 use Rattle.xarray.specs.MarkedArray.{IsArray, Range, Ranges, entries_in, entry_at, found_of, is_any}
 use Rattle.xarray_trace.specs.declared.entries.Entry.{Entry}
 use Rattle.xarray_trace.specs.declared.entries.TheConstants.{FNV_OFFSET}
-use Rattle.textline.specs.Lines.{Prints}
+use Rattle.textline.specs.Prints.{ended}
 use Rattle.xarray_trace.specs.Answers.{entry_text, lines_text}
 use Rattle.xarray_trace.specs.Entries.{bits_of, entry_bytes, entry_count, hash_bytes, hash_entries, hash_of, shown}
 use Rattle.xarray_trace.proofs.WalkLemmas.{Stand, all_entries, all_stand}
@@ -126,17 +126,17 @@ printed_none m shape walk is o = record {
 }
 
 pub printed_more : (m : Ranges) (found : Found) (walk : List Found) (entry : Entry) (old mid new : Option (List ℕ)) → Printed m (found ∷ walk) old mid
-    → entry ≡ record { found = found; marks = bits_of (entry_at m found.first) } → Prints mid new (entry_text entry) → Printed m walk old new
+    → entry ≡ record { found = found; marks = bits_of (entry_at m found.first) } → Appends mid new (ended (entry_text entry)) → Printed m walk old new
 printed_more m found walk entry old mid new printed is prints =
     let n = rest_next m found walk printed.entries printed.left in
     record {
       entries = n.more;
       left = n.left;
-      text = printed.text ++ (entry_text entry ++ (10 ∷ []));
-      appended = appends_both old mid new printed.text (entry_text entry ++ (10 ∷ [])) printed.appended prints;
+      text = printed.text ++ ended (entry_text entry);
+      appended = appends_both old mid new printed.text (ended (entry_text entry)) printed.appended prints;
       rest =
-          append_assoc printed.text (entry_text entry ++ (10 ∷ [])) (lines_text n.more)
-          ∙ ap (λ e. printed.text ++ ((entry_text e ++ (10 ∷ [])) ++ lines_text n.more)) (is ∙ sym n.shows)
+          append_assoc printed.text (ended (entry_text entry)) (lines_text n.more)
+          ∙ ap (λ e. printed.text ++ (ended (entry_text e) ++ lines_text n.more)) (is ∙ sym n.shows)
           ∙ ap (λ es. printed.text ++ lines_text es) (sym n.is) ∙ printed.rest;
     }
 

@@ -7,6 +7,7 @@ use Rattle.xarray_trace.specs.declared.answer.Answer.TheVariants as answer
 use Rattle.xarray.specs.MarkedArray.{Range}
 use Rattle.xarray_trace.specs.Entries.{shown}
 use Rattle.xarray_trace.specs.declared.entries.Entry.{Entry}
+use Rattle.textline.specs.Prints.{ended}
 
 -- so many hexadecimal digits in lower case, with zeros before them
 abbrev pub hex_text : ℕ → ℕ → List ℕ
@@ -52,4 +53,4 @@ entry_text e = decimal e.found.first ++ codes " " ++ decimal e.found.order ++ co
 -- a line for each entry
 abbrev pub lines_text : List (ℕ × Range) → List ℕ
 lines_text [] = []
-lines_text (e ∷ entries) = (entry_text (shown e) ++ (10 ∷ [])) ++ lines_text entries
+lines_text (e ∷ entries) = ended (entry_text (shown e)) ++ lines_text entries

@@ -1,7 +1,7 @@
 //! What an operation answers, as it is printed.
 
-ghost use Rattle.std.specs.Prelude.{◌≡◌, OnOk};
-ghost use Rattle.textline.specs.Lines.{Prints};
+ghost use Rattle.std.specs.Prelude.{◌≡◌};
+ghost use Rattle.textline.specs.Prints.{Writes, ended};
 ghost use Rattle.xarray_trace.specs.Answers.{answer_text, marks_text, entry_text};
 
 use crate::entries::Entry;
@@ -10,7 +10,7 @@ use pc_types::Refusal;
 use std::fmt;
 use std::fmt::Display;
 use std::io::Write;
-use textline::{Stop, print_line};
+use textline::{Printer, Stop, print_line};
 use xarray::Found;
 
 #[derive(Clone, Copy, PartialEq, Eq, Debug)]
@@ -91,8 +91,8 @@ impl Display for Digits {
 }
 
 /// Prints what an operation answered.
-pub fn print_answer<W: Write>(out: &mut W, answer: Answer) -> Result<(), Stop>
-    ensures { OnOk result (Prints (W.contents out.old) (W.contents out.new) (answer_text answer)) }
+pub fn print_answer<W: Write>(out: &mut Printer<W>, answer: Answer) -> Result<(), Stop>
+    ensures { Writes result (ended (answer_text answer)) (W.contents out.old.writer) (W.contents out.new.writer) }
 {
     match answer {
         Answer::Ok => print_line(out, "ok"),
@@ -124,8 +124,8 @@ pub fn print_answer<W: Write>(out: &mut W, answer: Answer) -> Result<(), Stop>
 }
 
 /// Prints an entry: its first index, its order, its value and its marks.
-pub fn print_entry<W: Write>(out: &mut W, entry: Entry) -> Result<(), Stop>
-    ensures { OnOk result (Prints (W.contents out.old) (W.contents out.new) (entry_text entry)) }
+pub fn print_entry<W: Write>(out: &mut Printer<W>, entry: Entry) -> Result<(), Stop>
+    ensures { Writes result (ended (entry_text entry)) (W.contents out.old.writer) (W.contents out.new.writer) }
 {
     let found = entry.found;
     print_line(

@@ -17,8 +17,6 @@ mod id_call;
 mod keyword;
 mod operation;
 mod run;
-#[cfg(test)]
-mod tests;
 mod word_call;
 
 use run::run_trace;

@@ -15,7 +15,7 @@ use crate::word_call::{Watched, watch};
 use idalloc::IdAlloc;
 use std::alloc::Global;
 use std::io::{BufRead, Write};
-use textline::{Fetched, Lines, Stop, is_blank, print_line};
+use textline::{Fetched, Lines, Printer, Stop, is_blank, print_line};
 use xarray::XArray;
 
 /// What the lines of a trace work on.
@@ -31,12 +31,13 @@ pub struct Session {
 pub fn run_trace<R: BufRead + Drop, W: Write + Drop, E: Write + Drop>(
     alloc: Global,
     reader: R,
-    mut out: W,
+    out: W,
     mut err: E,
 ) -> u8 {
+    let mut out = Printer::new(alloc, out);
     let ended = run_lines(alloc, reader, &mut out);
     // The answers before a stop are printed all the same.
-    let ended = if out.flush().is_err() {
+    let ended = if out.writer.flush().is_err() {
         Err(Stop::Output)
     } else {
         ended
@@ -53,7 +54,7 @@ pub fn run_trace<R: BufRead + Drop, W: Write + Drop, E: Write + Drop>(
 fn run_lines<R: BufRead + Drop, W: Write>(
     alloc: Global,
     reader: R,
-    out: &mut W,
+    out: &mut Printer<W>,
 ) -> Result<(), Stop> {
     let mut lines = Lines::new(alloc, reader);
     let mut session = Session {
@@ -62,7 +63,7 @@ fn run_lines<R: BufRead + Drop, W: Write>(
         watched: Watched::new(),
     };
     'lines: for _ in 0..u64::MAX {
-        match lines.fetch(usize::MAX, out)? {
+        match lines.fetch(usize::MAX, &mut out.writer)? {
             Fetched::Line if is_blank(lines.line.as_slice()) => {}
             Fetched::Line => run_line(alloc, &mut session, lines.line.as_slice(), out)?,
             // No memory holds such a line.
@@ -78,9 +79,9 @@ fn run_line<W: Write>(
     alloc: Global,
     session: &mut Session,
     line: &[u8],
-    out: &mut W,
+    out: &mut Printer<W>,
 ) -> Result<(), Stop>
-    ensures { OnOk result (RunsLine line.now session.old session.new (W.contents out.old) (W.contents out.new)) }
+    ensures { OnOk result (RunsLine line.now session.old session.new (W.contents out.old.writer) (W.contents out.new.writer)) }
 {
     match Operation::parse(alloc, line)? {
         None => print_line(out, "unknown"),
@@ -102,9 +103,9 @@ fn run_array_call<W: Write>(
     alloc: Global,
     array: &mut XArray,
     call: ArrayCall,
-    out: &mut W,
+    out: &mut Printer<W>,
 ) -> Result<(), Stop>
-    ensures { OnOk result (RunsCall array.old call array.new (W.contents out.old) (W.contents out.new)) }
+    ensures { OnOk result (RunsCall array.old call array.new (W.contents out.old.writer) (W.contents out.new.writer)) }
 {
     let answer = make(alloc, array, call)?;
     print_answer(out, answer)?;
@@ -116,8 +117,8 @@ fn run_array_call<W: Write>(
 
 /// Prints each entry on a line.
 #[tactic(auto, using(crate::proofs::SumLemmas::printed_none, crate::proofs::SumLemmas::printed_more, crate::proofs::SumLemmas::printed_end))]
-fn print_entries<W: Write>(array: &XArray, out: &mut W) -> Result<(), Stop>
-    ensures { OnOk result (Appends (W.contents out.old) (W.contents out.new) (lines_text (map.entries array.now.ranges))) }
+fn print_entries<W: Write>(array: &XArray, out: &mut Printer<W>) -> Result<(), Stop>
+    ensures { OnOk result (Appends (W.contents out.old.writer) (W.contents out.new.writer) (lines_text (map.entries array.now.ranges))) }
 {
     // As in `count_and_hash`.
     let _nodes = array.nodes();

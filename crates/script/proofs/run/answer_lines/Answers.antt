@@ -23,9 +23,10 @@ returns-in_err-run_line-in-Line g c =
     let after = g.R.Read.remaining c.fetch.new.self.reader in
     let line = subst (λ f. IfSome left (λ bytes. Fetches MAX_LINE bytes f c.fetch.new.self.line.items after)) c.in-Line.is c.in_ok-fetch.ensures.fetched in
     let fetched = subst (λ items. IfSome left (λ bytes. Fetches MAX_LINE bytes Line items after)) (sym c.as_slice.ensures.value) line in
+    let within : length c.as_slice.result.now ≤ MAX_LINE = omega (arith, c.in_ok-fetch.ensures.within, c.fetch.new.self.line.ok.0, ap length c.as_slice.ensures.value) in
     let made = err_from_is_err_and c.from_residual-in_err-run_line-in-Line.result c.from_residual-in_err-run_line-in-Line.ensures.1 in
     map_some (g.R.Read.remaining c.args.lines.now.reader) _ _ c.lines.invariant (λ script s.
-    stands_stopped _ _ _ _ after c.in_err-run_line-in-Line.field-0.0 _ _ (made.1 ∙ ap Err made.2) s fetched c.in_ok-fetch.ensures.out c.in_ok-fetch.ensures.number c.in_err-run_line-in-Line.ensures)
+    stands_stopped _ _ _ _ after c.in_err-run_line-in-Line.field-0.0 _ _ (made.1 ∙ ap Err made.2) s fetched c.in_ok-fetch.ensures.out c.in_ok-fetch.ensures.number within c.in_err-run_line-in-Line.ensures)
 
 pub returns-in-TooLong : goal.returns-in-TooLong
 returns-in-TooLong g c =
@@ -41,7 +42,7 @@ returns-in-End g c =
     let after = g.R.Read.remaining c.fetch.new.self.reader in
     let fetched = subst (λ f. IfSome left (λ bytes. Fetches MAX_LINE bytes f c.fetch.new.self.line.items after)) c.in-End.is c.in_ok-fetch.ensures.fetched in
     map_some (g.R.Read.remaining c.args.lines.now.reader) _ _ c.lines.invariant (λ script s.
-    stands_ended _ _ _ s fetched c.in_ok-fetch.ensures.out c.flush.ensures.kept c.flush.ensures.fault)
+    stands_ended _ s fetched c.in_ok-fetch.ensures.out)
 
 pub lines-preserved : goal.lines-preserved
 lines-preserved g c =

@@ -1,40 +1,38 @@
-use Rattle.std.proofs.Common.{Some}
+use Rattle.std.proofs.Common.{Some, refl}
 use Rattle.script.specs.declared.command.Command.TheVariants.{Step, Fail, Fsync, Poll, Tags}
-use Rattle.script.proofs.CommandGiven.{answer_given, misplaced, output_fault, told_same}
+use Rattle.script.proofs.CommandGiven.{answer_given, misplaced}
 use Rattle.script.proofs.run.obey.Goals as goal
 
 pub returns-in-Config : goal.returns-in-Config
 returns-in-Config g c =
-    rw c.in-Config.is (misplaced c.args.session.now c.args.number c.in-Config.field-0 c.in-Config.field-1 c.in-Config.field-2 c.in-Config.field-3 (Some c.args.session.now) (g.W.Write.contents c.args.out.now))
+    rw c.in-Config.is (misplaced c.args.session.now c.args.number c.in-Config.field-0 c.in-Config.field-1 c.in-Config.field-2 c.in-Config.field-3 (Some c.args.session.now) (g.W.Write.contents c.args.out.now.writer))
 
 pub returns-in-Step : goal.returns-in-Step
 returns-in-Step g c =
+    let (printed, made, writes) = c.make_step.ensures in
     rw c.in-Step.is
-    (answer_given (Some c.args.session.now) c.args.number (Step c.in-Step.step) c.make_step.result c.make_step.new.session (g.W.Write.contents c.args.out.now) (g.W.Write.contents c.make_step.new.out) c.make_step.ensures.made c.make_step.ensures.fault)
+    (answer_given (Some c.args.session.now) c.args.number (Step c.in-Step.step) c.make_step.result c.make_step.new.session _ _ printed made writes)
 
 pub returns-in-Fail : goal.returns-in-Fail
 returns-in-Fail g c =
-    let before = g.W.Write.contents c.args.out.now in
-    let after = g.W.Write.contents c.fail_call.new.out in
+    let (printed, made, writes) = c.fail_call.ensures in
     rw c.in-Fail.is
-    (answer_given (Some c.args.session.now) c.args.number (Fail c.in-Fail.serial c.in-Fail.code c.in-Fail.effect) c.fail_call.result c.fail_call.new.session before after c.fail_call.ensures.made (output_fault before after c.fail_call.result c.fail_call.ensures.fault))
+    (answer_given (Some c.args.session.now) c.args.number (Fail c.in-Fail.serial c.in-Fail.code c.in-Fail.effect) c.fail_call.result c.fail_call.new.session _ _ printed made writes)
 
 pub returns-in-Fsync : goal.returns-in-Fsync
 returns-in-Fsync g c =
+    let (printed, synced, writes) = c.sync_file.ensures in
     rw c.in-Fsync.is
-    (answer_given (Some c.args.session.now) c.args.number (Fsync c.in-Fsync.handle c.in-Fsync.range) c.sync_file.result c.sync_file.new.session (g.W.Write.contents c.args.out.now) (g.W.Write.contents c.sync_file.new.out) c.sync_file.ensures.synced c.sync_file.ensures.fault)
+    (answer_given (Some c.args.session.now) c.args.number (Fsync c.in-Fsync.handle c.in-Fsync.range) c.sync_file.result c.sync_file.new.session _ _ printed synced writes)
 
 pub returns-in-Poll : goal.returns-in-Poll
 returns-in-Poll g c =
-    let before = g.W.Write.contents c.args.out.now in
-    let after = g.W.Write.contents c.poll_handle.new.out in
+    let (printed, polled, writes) = c.poll_handle.ensures in
     rw c.in-Poll.is
-    (answer_given (Some c.args.session.now) c.args.number (Poll c.in-Poll.handle) c.poll_handle.result c.poll_handle.new.session before after c.poll_handle.ensures.polled (output_fault before after c.poll_handle.result c.poll_handle.ensures.fault))
+    (answer_given (Some c.args.session.now) c.args.number (Poll c.in-Poll.handle) c.poll_handle.result c.poll_handle.new.session _ _ printed polled writes)
 
 pub returns-in-Tags : goal.returns-in-Tags
 returns-in-Tags g c =
-    let before = g.W.Write.contents c.args.out.now in
-    let after = g.W.Write.contents c.tell_tags.new.out in
-    let told = told_same c.tell_tags.result c.args.session.now c.in-Tags.file.0 c.in-Tags.page.0 before after c.tell_tags.ensures.told in
+    let (printed, told, writes) = c.tell_tags.ensures in
     rw c.in-Tags.is
-    (answer_given (Some c.args.session.now) c.args.number (Tags c.in-Tags.file c.in-Tags.page) c.tell_tags.result c.args.session.now before after told (output_fault before after c.tell_tags.result c.tell_tags.ensures.fault))
+    (answer_given (Some c.args.session.now) c.args.number (Tags c.in-Tags.file c.in-Tags.page) c.tell_tags.result c.args.session.now _ _ printed (told, refl) writes)

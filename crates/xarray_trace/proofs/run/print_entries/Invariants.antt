@@ -5,4 +5,4 @@ abbrev pub invariant-loop-found : goal.invariant-loop-found
 invariant-loop-found g l =
     (goal.iterator-loop-found g).can_next l.found-iterator ×
     (goal.iterator-loop-found g).is_finite l.found-iterator ×
-    Printed l.array.ranges l.found-iterator (g.W.Write.contents l.initial.out) (g.W.Write.contents l.out)
+    Printed l.array.ranges l.found-iterator (g.W.Write.contents l.initial.out.writer) (g.W.Write.contents l.out.writer)

@@ -1,0 +1,187 @@
+//! The workers of a storm.
+
+ghost use Rattle.std.specs.Prelude.{◌≡◌, IfSome};
+ghost use Rattle.shared.specs.Workers.{IsWorkerOf};
+ghost use Rattle.storm.specs.Crews.{IsCrewOf};
+
+use crate::member::Member;
+use blockdev::{BlockDevice, Gate};
+use locked::naming::Naming;
+use shared::cache::SharedCache;
+use shared::worker::Worker;
+use std::sync::Wait;
+use std::thread::{Threads, join};
+use trail::FullTrail;
+
+/// The flusher, two I/O workers and the evictor.
+pub const WORKERS: u64 = 4;
+
+/// Lets each worker go on.
+#[derive(Drop)]
+struct Open;
+
+impl Gate for Open {
+    ghost use Rattle.std.specs.Prelude.{⊤};
+
+    ghost passed = { λ _ _. ⊤ };
+
+    fn enter(&self, _number: u64) {}
+}
+
+/// Seats of two workers.
+pub type Pair<B> = (Member<B>, Member<B>);
+
+/// The workers of a cache.
+#[derive(Drop)]
+pub struct Crew {
+    flusher: Worker,
+    first: Worker,
+    second: Worker,
+    evictor: Worker,
+}
+
+impl Crew {
+    /// Workers with the seats of the last of these members.
+    pub fn of<B: Naming, D: BlockDevice>(
+        cache: &SharedCache<B, D, FullTrail>,
+        own: &mut Worker,
+        members: &mut Vec<Member<B>>,
+    ) -> Option<Crew>
+        requires { IsWorkerOf cache.now.ring B.name B.table B.sizes own.old }
+        ensures crew { IfSome result (IsCrewOf cache.now.ring B.name B.table B.sizes) }
+        ensures own { IsWorkerOf cache.now.ring B.name B.table B.sizes own.new }
+    {
+        let flusher = worker_of(cache, own, members)?;
+        let first = worker_of(cache, own, members)?;
+        let second = worker_of(cache, own, members)?;
+        let evictor = worker_of(cache, own, members)?;
+        Some(Crew {
+            flusher,
+            first,
+            second,
+            evictor,
+        })
+    }
+
+    /// Runs the workers, each in a thread of its own, until they are told to stop. Gives their seats back.
+    pub fn run<R: Threads + Wait + Sync, B: Naming + Send + Sync, D: BlockDevice + Send>(
+        self,
+        rt: &R,
+        cache: &SharedCache<B, D, FullTrail>,
+    ) -> (Pair<B>, Pair<B>)
+        requires { IsCrewOf cache.now.ring B.name B.table B.sizes self }
+    {
+        let Crew {
+            flusher,
+            first,
+            second,
+            evictor,
+        } = self;
+        join(
+            rt,
+            move ||
+                requires { IsWorkerOf cache.now.ring B.name B.table B.sizes first × IsWorkerOf cache.now.ring B.name B.table B.sizes second }
+            { carry_out(rt, cache, first, second) },
+            move ||
+                requires { IsWorkerOf cache.now.ring B.name B.table B.sizes flusher × IsWorkerOf cache.now.ring B.name B.table B.sizes evictor }
+            { make_room(rt, cache, flusher, evictor) },
+        )
+    }
+}
+
+/// Runs two I/O workers, each in a thread of its own.
+fn carry_out<R: Threads + Wait + Sync, B: Naming + Send + Sync, D: BlockDevice + Send>(
+    rt: &R,
+    cache: &SharedCache<B, D, FullTrail>,
+    first: Worker,
+    second: Worker,
+) -> Pair<B>
+    requires first { IsWorkerOf cache.now.ring B.name B.table B.sizes first }
+    requires second { IsWorkerOf cache.now.ring B.name B.table B.sizes second }
+{
+    join(
+        rt,
+        move ||
+            requires { IsWorkerOf cache.now.ring B.name B.table B.sizes first }
+        { carry_out_jobs(rt, cache, first) },
+        move ||
+            requires { IsWorkerOf cache.now.ring B.name B.table B.sizes second }
+        { carry_out_jobs(rt, cache, second) },
+    )
+}
+
+/// Runs the flusher and the evictor, each in a thread of its own.
+fn make_room<R: Threads + Wait + Sync, B: Naming + Send + Sync, D: BlockDevice + Send>(
+    rt: &R,
+    cache: &SharedCache<B, D, FullTrail>,
+    flusher: Worker,
+    evictor: Worker,
+) -> Pair<B>
+    requires flusher { IsWorkerOf cache.now.ring B.name B.table B.sizes flusher }
+    requires evictor { IsWorkerOf cache.now.ring B.name B.table B.sizes evictor }
+{
+    join(
+        rt,
+        move ||
+            requires { IsWorkerOf cache.now.ring B.name B.table B.sizes flusher }
+        { write_back(rt, cache, flusher) },
+        move ||
+            requires { IsWorkerOf cache.now.ring B.name B.table B.sizes evictor }
+        { evict(rt, cache, evictor) },
+    )
+}
+
+fn carry_out_jobs<R: Wait, B: Naming, D: BlockDevice>(
+    rt: &R,
+    cache: &SharedCache<B, D, FullTrail>,
+    mut worker: Worker,
+) -> Member<B>
+    requires { IsWorkerOf cache.now.ring B.name B.table B.sizes worker }
+{
+    let _ = cache.io_worker(rt, &Open, &mut worker);
+    Member::of(worker.into_seat())
+}
+
+fn write_back<R: Wait, B: Naming, D: BlockDevice>(
+    rt: &R,
+    cache: &SharedCache<B, D, FullTrail>,
+    mut worker: Worker,
+) -> Member<B>
+    requires { IsWorkerOf cache.now.ring B.name B.table B.sizes worker }
+{
+    cache.flusher(rt, &Open, &mut worker);
+    Member::of(worker.into_seat())
+}
+
+fn evict<R: Wait, B: Naming, D: BlockDevice>(
+    rt: &R,
+    cache: &SharedCache<B, D, FullTrail>,
+    mut worker: Worker,
+) -> Member<B>
+    requires { IsWorkerOf cache.now.ring B.name B.table B.sizes worker }
+{
+    cache.evictor(rt, &Open, &mut worker);
+    Member::of(worker.into_seat())
+}
+
+/// Puts the members of these pairs to the others. Nothing is answered where memory is wanted.
+pub fn hand_back<B: Naming>(pairs: (Pair<B>, Pair<B>), members: &mut Vec<Member<B>>) -> Option<()> {
+    let ((first, second), (third, fourth)) = pairs;
+    members.push(first).ok()?;
+    members.push(second).ok()?;
+    members.push(third).ok()?;
+    members.push(fourth).ok()
+}
+
+/// A worker with the seat of the last of these members.
+fn worker_of<B: Naming, D: BlockDevice>(
+    cache: &SharedCache<B, D, FullTrail>,
+    own: &mut Worker,
+    members: &mut Vec<Member<B>>,
+) -> Option<Worker>
+    requires { IsWorkerOf cache.now.ring B.name B.table B.sizes own.old }
+    ensures worker { IfSome result (IsWorkerOf cache.now.ring B.name B.table B.sizes) }
+    ensures own { IsWorkerOf cache.now.ring B.name B.table B.sizes own.new }
+{
+    cache.worker(own, members.pop()?.seat).ok()
+}

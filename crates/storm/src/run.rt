@@ -1,0 +1,259 @@
+//! A storm: many callers and the workers of one cache at once, and whether its history is that of plain files.
+
+ghost use Rattle.std.specs.FinMap as map;
+ghost use Rattle.std.specs.Prelude.{◌≡◌, ◌≤◌};
+ghost use Rattle.held.specs.Shown.{AreFresh};
+ghost use Rattle.locked.specs.Keeps.{IsLocked};
+ghost use Rattle.shared.specs.Keeps.{IsDisk};
+ghost use Rattle.shared.specs.Workers.{IsWorkerOf};
+ghost use Rattle.storm.specs.Crews.{IsCrewOf};
+ghost use Rattle.storm_text.specs.Told.{StormTells};
+
+use crate::caller::Caller;
+use crate::crew::{Crew, Pair, WORKERS, hand_back};
+use crate::member::{Member, members_of, seats_of};
+use crate::odd::Odd;
+use crate::steps::{FILES, Steps};
+use blockdev::{BlockDevice, FileDevice, MemDevice};
+use faulty::FaultyDevice;
+use held::log::Seat;
+use locked::naming::Naming;
+use pc_types::{Geometry, Refusal};
+use shared::cache::{Parts, SharedCache};
+use std::alloc::Global;
+use std::fs::{File, Files};
+use std::io::Write;
+use std::marker::Brand;
+use std::sync::Wait;
+use std::thread::{Threads, join, map_vec};
+use storm_text::{Fault, Options, say_usage, tell};
+use textline::Printer;
+use trail::{FullTrail, first_odd};
+
+/// Bytes of a page, and how many blocks the device has.
+const PAGE: u64 = 64;
+
+const BLOCKS: u64 = 256;
+
+/// Fewer frames than the files have pages, and a limit that the writes come to.
+const FRAMES: u64 = 64;
+
+const DIRTY_LIMIT: u64 = 24;
+
+/// The most events of the trail, and bytes of all of them.
+const EVENTS: u64 = 65_536;
+
+const BYTES: u64 = 4_194_304;
+
+/// The cache's name.
+const NAME: u64 = 1;
+
+/// What a storm is made with beside its arguments.
+#[derive(Clone, Copy)]
+pub struct Weather {
+    /// The calls of each caller follow from it.
+    pub seed: u64,
+    /// Each read, write or flush of the device whose number is a multiple of this one fails; none where it is 0.
+    pub faults: u64,
+}
+
+/// Runs a storm, prints how many calls were made and whether the history replays, and gives the status that the program ends with.
+/// What went wrong is said on `err`.
+pub fn run_storm<R: Threads + Wait + Files<File = File> + Sync, W: Write, E: Write>(
+    rt: &R,
+    alloc: Global,
+    arguments: &[&str],
+    weather: Weather,
+    out: &mut Printer<W>,
+    err: &mut E,
+) -> u8
+    ensures told { StormTells arguments.now result (W.contents out.old.writer) (W.contents out.new.writer) }
+{
+    let Some(options) = Options::parse(arguments) else {
+        let _ = say_usage(err);
+        return 2;
+    };
+    let storm = match options.path {
+        None => in_memory(rt, alloc, options, weather),
+        Some(path) => in_file(rt, alloc, path, options, weather),
+    };
+    let replays = match &storm {
+        Ok(None) => Ok(true),
+        Ok(Some(odd)) => {
+            let _ = odd.say(alloc, err);
+            Ok(false)
+        }
+        Err(fault) => Err(*fault),
+    };
+    let calls = options.threads * options.steps;
+    tell(out, err, calls, weather.seed, replays)
+}
+
+/// A storm over memory. Answers the entry of its history that is not plain files', if there is one.
+fn in_memory<R: Threads + Wait + Sync>(
+    rt: &R,
+    alloc: Global,
+    options: Options<'_>,
+    weather: Weather,
+) -> Result<Option<Odd>, Fault>
+    requires { options.threads ≤ 16 }
+{
+    match MemDevice::new(alloc, PAGE, BLOCKS) {
+        Ok(device) => over(rt, alloc, device, options, weather),
+        Err(_) => Err(Fault::Memory),
+    }
+}
+
+/// A storm over the file at the path.
+fn in_file<R: Threads + Wait + Files<File = File> + Sync>(
+    rt: &R,
+    alloc: Global,
+    path: &str,
+    options: Options<'_>,
+    weather: Weather,
+) -> Result<Option<Odd>, Fault>
+    requires { options.threads ≤ 16 }
+{
+    match FileDevice::open(rt, alloc, path, PAGE, BLOCKS) {
+        Ok(device) => over(rt, alloc, device, options, weather),
+        Err(Refusal::Memory) => Err(Fault::Memory),
+        Err(_) => Err(Fault::Device),
+    }
+}
+
+/// A storm over a device.
+fn over<R: Threads + Wait + Sync, D: BlockDevice + Send>(
+    rt: &R,
+    alloc: Global,
+    device: D,
+    options: Options<'_>,
+    weather: Weather,
+) -> Result<Option<Odd>, Fault>
+    requires few { options.threads ≤ 16 }
+    requires device { ((D.told device).size ≡ 64) × ((D.told device).count ≡ 256) }
+{
+    // These sizes are within the limits.
+    let Ok(geometry) = Geometry::new(PAGE, FRAMES, DIRTY_LIMIT, BLOCKS) else {
+        return Err(Fault::Memory);
+    };
+    let Ok(trail) = FullTrail::new(alloc, EVENTS, BYTES) else {
+        return Err(Fault::Memory);
+    };
+    let device = FaultyDevice::new(device, weather.faults);
+    let seats = options.threads + WORKERS;
+    let Ok((parts, seats)) = Parts::make(rt, alloc, &geometry, NAME, device, trail, seats) else {
+        return Err(Fault::Memory);
+    };
+    let steps = options.steps;
+    let seed = weather.seed;
+    match history::<Brand, FaultyDevice<D>, R>(rt, alloc, parts, seats, steps, seed) {
+        Some(trail) => odd_in(alloc, trail),
+        None => Err(Fault::Memory),
+    }
+}
+
+/// The first entry of the history that is not plain files', if there is one.
+fn odd_in(alloc: Global, trail: FullTrail) -> Result<Option<Odd>, Fault> {
+    match first_odd(alloc, &trail) {
+        Ok(odd) => Ok(odd.map(|place| Odd { trail, place })),
+        Err(_) => Err(Fault::Memory),
+    }
+}
+
+/// Makes a cache of the parts, has a caller at each seat but the workers' make so many calls, and closes it. Gives its history, or
+/// nothing where memory is wanted.
+#[tactic(auto, using(crate::proofs::Seating::all_seated))]
+fn history<B: Naming + Send + Sync, D: BlockDevice + Send, R: Threads + Wait + Sync>(
+    rt: &R,
+    alloc: Global,
+    parts: Parts<D, FullTrail>,
+    seats: Vec<Seat>,
+    steps: u64,
+    seed: u64,
+) -> Option<FullTrail>
+    requires named { parts.name ≡ B.name }
+    requires sized { parts.geometry ≡ B.sizes }
+    requires board { parts.board ≡ B.board }
+    requires state { IsLocked B.name B.table B.board B.sizes B.seats parts.held }
+    requires idle { map.len parts.held.core.state.requests ≡ 0 }
+    requires own { IsWorkerOf parts.ring B.name B.table B.sizes parts.own }
+    requires device { IsDisk B.sizes (D.told parts.device) }
+    requires seats { AreFresh B.table B.name seats.items }
+{
+    let (cache, mut own) = SharedCache::<B, D, FullTrail>::of(alloc, parts);
+    let mut members = members_of(alloc, seats)?;
+    let crew = Crew::of(&cache, &mut own, &mut members)?;
+    create_files(rt, &cache, &mut members);
+    let callers = callers_of(alloc, members, seed)?;
+    let (workers, members) = rage(rt, &cache, crew, callers, steps);
+    let mut members = members?;
+    hand_back(workers, &mut members)?;
+    let seats = seats_of(alloc, members)?;
+    match cache.close(rt, own, seats) {
+        Ok((trail, _, _)) => Some(trail),
+        Err(_) => None,
+    }
+}
+
+/// Makes the files, by the seat of the first of these members.
+fn create_files<R: Wait, B: Naming, D: BlockDevice>(
+    rt: &R,
+    cache: &SharedCache<B, D, FullTrail>,
+    members: &mut Vec<Member<B>>,
+) {
+    if let Some(member) = members.first_mut() {
+        for _ in 0..FILES {
+            let _ = cache.create(rt, &mut member.seat);
+        }
+    }
+}
+
+/// Runs the callers beside the workers, who are told to stop when the callers are done. Where no thread can be had the callers run
+/// first, and then the workers.
+fn rage<R: Threads + Wait + Sync, B: Naming + Send + Sync, D: BlockDevice + Send>(
+    rt: &R,
+    cache: &SharedCache<B, D, FullTrail>,
+    crew: Crew,
+    callers: Vec<Caller<B>>,
+    steps: u64,
+) -> ((Pair<B>, Pair<B>), Option<Vec<Member<B>>>)
+    requires { IsCrewOf cache.now.ring B.name B.table B.sizes crew }
+{
+    join(
+        rt,
+        move ||
+            requires { IsCrewOf cache.now.ring B.name B.table B.sizes crew }
+        { crew.run(rt, cache) },
+        move || call_all(rt, cache, callers, steps),
+    )
+}
+
+/// Runs the callers, each in a thread of its own, and then tells the workers to stop. Nothing is answered where memory is wanted.
+fn call_all<R: Threads + Wait + Sync, B: Naming + Send + Sync, D: BlockDevice + Send>(
+    rt: &R,
+    cache: &SharedCache<B, D, FullTrail>,
+    callers: Vec<Caller<B>>,
+    steps: u64,
+) -> Option<Vec<Member<B>>> {
+    let members = map_vec(
+        rt,
+        callers,
+        &|caller: Caller<B>| caller.run(rt, cache, steps),
+    );
+    cache.stop(rt);
+    members.ok()
+}
+
+/// A caller of each of these members.
+fn callers_of<B: Naming>(
+    alloc: Global,
+    members: Vec<Member<B>>,
+    seed: u64,
+) -> Option<Vec<Caller<B>>> {
+    let mut callers = Vec::new(alloc);
+    for (number, member) in members.into_iter().enumerate() {
+        let steps = Steps::new(seed, number as u64);
+        callers.push(Caller::new(alloc, member, steps).ok()?).ok()?;
+    }
+    Some(callers)
+}

@@ -1,0 +1,142 @@
+//! Worked rows. What a call requires is asserted before it.
+ghost use Rattle.blockmap.specs.Keys.{IsPage};
+
+use blockmap::{BlockMap, Placed};
+use pc_types::{BlockNo, FileId, PageIndex, Refusal};
+use std::process::Abort;
+
+/// A page that has no block is given this one, or is refused so.
+fn gives(
+    rt: &impl Abort,
+    blocks: &mut BlockMap,
+    file: FileId,
+    page: PageIndex,
+    want: Result<BlockNo, Refusal>,
+)
+    requires { IsPage file.0 page.0 }
+{
+    let none = blocks.map(file, page).is_none();
+    assert!(rt; none);
+    let given = blocks.assign(file, page);
+    assert_eq!(rt; given, want);
+}
+
+/// A page's block is taken back, or this is refused so.
+fn takes_back(
+    rt: &impl Abort,
+    blocks: &mut BlockMap,
+    file: FileId,
+    page: PageIndex,
+    want: Result<(), Refusal>,
+)
+    requires { IsPage file.0 page.0 }
+{
+    if let Some(placed) = blocks.map(file, page) {
+        assert!(rt; !placed.is_written);
+        let is_held = blocks.is_held(placed.block);
+        assert!(rt; !is_held);
+    }
+    let taken = blocks.unassign(file, page);
+    assert_eq!(rt; taken, want);
+}
+
+/// What is told of a page.
+fn tells(rt: &impl Abort, blocks: &BlockMap, file: FileId, page: PageIndex, want: Option<Placed>)
+    requires { IsPage file.0 page.0 }
+{
+    let told = blocks.map(file, page);
+    assert_eq!(rt; told, want);
+}
+
+fn has_free(rt: &impl Abort, blocks: &BlockMap, want: u64) {
+    let count = blocks.free_count();
+    assert_eq!(rt; count, want);
+}
+
+fn release(rt: &impl Abort, blocks: &mut BlockMap, block: BlockNo) {
+    let is_held = blocks.is_held(block);
+    assert!(rt; is_held);
+    blocks.release(block);
+}
+
+/// Holds the block of a page, where that may be.
+fn hold(blocks: &mut BlockMap, file: FileId, page: PageIndex)
+    requires { IsPage file.0 page.0 }
+{
+    let Some(placed) = blocks.map(file, page) else {
+        return;
+    };
+    if blocks.is_held(placed.block) {
+        return;
+    }
+    if blocks.held_count() < 64 {
+        blocks.hold(placed.block);
+    }
+}
+
+#[test]
+fn a_held_block_is_free_only_after_its_release(rt: HostRuntime) {
+    let mut blocks = BlockMap::new(rt.alloc(), 2);
+    gives(&rt, &mut blocks, FileId(0), PageIndex(0), Ok(BlockNo(0)));
+    gives(&rt, &mut blocks, FileId(0), PageIndex(5), Ok(BlockNo(1)));
+    gives(
+        &rt,
+        &mut blocks,
+        FileId(1),
+        PageIndex(0),
+        Err(Refusal::NoSpace),
+    );
+    hold(&mut blocks, FileId(0), PageIndex(0));
+    // The cut frees block 1, and block 0 is still held.
+    blocks.cut_from(FileId(0), PageIndex(0));
+    has_free(&rt, &blocks, 1);
+    gives(&rt, &mut blocks, FileId(1), PageIndex(0), Ok(BlockNo(1)));
+    gives(
+        &rt,
+        &mut blocks,
+        FileId(1),
+        PageIndex(1),
+        Err(Refusal::NoSpace),
+    );
+    release(&rt, &mut blocks, BlockNo(0));
+    gives(&rt, &mut blocks, FileId(1), PageIndex(1), Ok(BlockNo(0)));
+    takes_back(&rt, &mut blocks, FileId(1), PageIndex(1), Ok(()));
+    takes_back(
+        &rt,
+        &mut blocks,
+        FileId(1),
+        PageIndex(1),
+        Err(Refusal::NoEntry),
+    );
+    has_free(&rt, &blocks, 1);
+}
+
+#[test]
+fn a_page_is_told_with_its_block(rt: HostRuntime) {
+    let mut blocks = BlockMap::new(rt.alloc(), 3);
+    tells(&rt, &blocks, FileId(0), PageIndex(7), None);
+    gives(&rt, &mut blocks, FileId(0), PageIndex(7), Ok(BlockNo(0)));
+    let fresh = Placed {
+        block: BlockNo(0),
+        is_written: false,
+    };
+    tells(&rt, &blocks, FileId(0), PageIndex(7), Some(fresh));
+    blocks.set_written(FileId(0), PageIndex(7));
+    let written = Placed {
+        block: BlockNo(0),
+        is_written: true,
+    };
+    tells(&rt, &blocks, FileId(0), PageIndex(7), Some(written));
+}
+
+#[test]
+fn the_last_page_of_the_last_file_is_cut(rt: HostRuntime) {
+    let mut blocks = BlockMap::new(rt.alloc(), 1);
+    let last = PageIndex(68_719_476_735);
+    gives(&rt, &mut blocks, FileId(63), last, Ok(BlockNo(0)));
+    // No page is past the last.
+    blocks.cut_from(FileId(63), PageIndex(68_719_476_736));
+    has_free(&rt, &blocks, 0);
+    blocks.cut_from(FileId(63), last);
+    has_free(&rt, &blocks, 1);
+}
