@@ -25,7 +25,8 @@ const FRAMES: u64 = PAGES + 32;
 /// A service over a file, and a handle that it opened.
 #[derive(Drop)]
 struct Desk {
-    solo: Solo<FileDevice>,
+    // in a box, since the check is slow where a service itself goes out of scope
+    solo: Box<Solo<FileDevice>>,
     handle: Handle,
 }
 
@@ -43,9 +44,10 @@ impl Desk {
     fn new(rt: &HostRuntime, path: Path) -> Result<Desk, Refusal> {
         let geometry = Geometry::new(PAGE, FRAMES, PAGES, 2 * FRAMES)?;
         let device = FileDevice::open(rt, rt.alloc(), path, PAGE, 2 * FRAMES)?;
-        let Ok(mut solo) = Solo::new(rt.alloc(), &geometry, 7, device) else {
+        let Ok(solo) = Solo::new(rt.alloc(), &geometry, 7, device) else {
             return Err(Refusal::Memory);
         };
+        let mut solo = Box::new(rt.alloc(), solo)?;
         let handle = open_new(&mut solo)?;
         Ok(Desk { solo, handle })
     }
