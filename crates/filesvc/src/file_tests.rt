@@ -31,13 +31,14 @@ struct Desk {
 }
 
 impl Model for Desk {
+    ghost use Rattle.std.specs.Prelude.{box_value};
     ghost use Rattle.filesvc.specs.Service.{IsOpen};
 
     ghost Value = { Unit };
 
     ghost view = { λ d. tt };
 
-    ghost invariant = { λ d. IsOpen d.solo d.handle };
+    ghost invariant = { λ d. IsOpen (box_value d.solo) d.handle };
 }
 
 impl Desk {

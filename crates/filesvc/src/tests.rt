@@ -76,13 +76,14 @@ struct Desk {
 }
 
 impl Model for Desk {
+    ghost use Rattle.std.specs.Prelude.{box_value};
     ghost use Rattle.filesvc.specs.Service.{IsOpen};
 
     ghost Value = { Unit };
 
     ghost view = { λ d. tt };
 
-    ghost invariant = { λ d. IsOpen d.solo d.handle };
+    ghost invariant = { λ d. IsOpen (box_value d.solo) d.handle };
 }
 
 impl Desk {
@@ -142,8 +143,7 @@ impl Desk {
     /// The same service with its file closed, and opened again.
     fn reopened(self) -> Result<Desk, Refusal> {
         let Desk { mut solo, handle } = self;
-        let _ = solo.close(handle);
-        let handle = solo.open(FileId(0), false)?;
+        let handle = reopen(&mut solo, handle)?;
         Ok(Desk { solo, handle })
     }
 }
@@ -190,15 +190,14 @@ fn tells_an_error_once(rt: &impl Abort, desk: &mut Desk) -> Result<(), Refusal> 
 
 // Where nothing was written since the last good flush none is made. One that fails is answered each time, and the handle is told nothing.
 fn flushes_again(rt: &impl Abort, desk: &mut Desk) {
-    let failed = Err(Refusal::Io(ErrCode::IO));
     same(rt, desk.pwrite(0, &[1]), Ok(1));
     same(rt, desk.fsync(), Ok(()));
     same(rt, desk.fsync(), Ok(()));
     same(rt, desk.pwrite(0, &[2]), Ok(1));
-    same(rt, desk.fsync(), failed);
+    same(rt, desk.fsync(), Err(Refusal::Io(ErrCode::IO)));
     check(rt, !desk.is_dirty(0));
     same(rt, desk.poll_error(), Ok(None));
-    same(rt, desk.fsync_range(3, 4), failed);
+    same(rt, desk.fsync_range(3, 4), Err(Refusal::Io(ErrCode::IO)));
 }
 
 // More fsyncs than syncs may be in progress at once, one after the other.
@@ -497,6 +496,15 @@ enum Failing {
     FirstCall,
     FirstRead,
     SecondFlush,
+}
+
+/// Another handle of the first file, in place of this one.
+fn reopen(solo: &mut Solo<OddDevice>, handle: Handle) -> Result<Handle, Refusal>
+    requires { CameFrom solo.old handle }
+    ensures { IfOk result (IsOpen solo.new) }
+{
+    let _ = solo.close(handle);
+    solo.open(FileId(0), false)
 }
 
 /// A handle of a new file.
