@@ -7,3 +7,4 @@ pub mod RowLemmas
 pub mod ScanLemmas
 pub mod TiedLemmas
 pub mod PassedLemmas
+pub mod SoundLemmas

@@ -74,8 +74,7 @@ impl Frames {
 
     /// How many frames are free.
     pub fn free_count(&self) -> u64
-        ensures count { result ≡ free_frames self.now }
-        ensures sound { IsSound self.now }
+        ensures { result ≡ free_frames self.now }
     {
         self.free.len() as u64
     }
@@ -177,6 +176,7 @@ impl Frames {
     pub fn age(&mut self) -> u64
         ensures moved { result + kept self.old ≡ length self.old.active }
         ensures aged { self.new ≡ aged self.old }
+        ensures sound { IsSound self.new }
     {
         let mut moved = 0;
         while self.lists.inactive_len() < self.lists.active_len() {

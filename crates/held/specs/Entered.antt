@@ -30,8 +30,9 @@ pub record Entered (entry : Entry) (old new : LogSeen) (before after : SeatSeen)
   -- what it had seen begins what was there
   pub saw : IsPrefix before.list old.history
   pub sees : after.list ≡ new.history
-  -- it had counted its own entries there
+  -- it had counted its own entries there, and had seen each
   pub counted : before.count ≡ count_of before.number old.history
+  pub own : before.count ≡ count_of before.number before.list
   pub count : after.count ≡ before.count + 1
   pub placed : (slip.name ≡ before.name) × (slip.place ≡ length old.history)
 

@@ -24,6 +24,7 @@ use Rattle.held.specs.Shown.{HeldSeen, SeatSeen}
 use Rattle.locked.specs.Flights.{IsCounted, flights_after}
 use Rattle.locked.specs.Keeps.{IsLocked}
 use Rattle.locked.proofs.Counting.{counted_on}
+use Rattle.locked.proofs.Failures.{told_on}
 
 -- what holds under the lock
 abbrev pub Holds : ℕ → TableId → TableId → Sizes → ℕ → ℕ → HeldSeen → Type 0
@@ -44,6 +45,7 @@ kept name table board sizes made n old new e r before after slip i m = (
     errors = records_board old.core.state e r old.errors new.errors m.recorded ∙ i.0.errors;
     sized = (steady old.core.state e r new.core.state m.step).sizes ∙ i.0.sized;
     counted = m.entered.same.2 ∙ i.0.counted;
+    told = told_on old.core.state new.core.state e r old.errors new.errors i.1.sound m.step m.recorded i.0.told;
   },
   counted_on n name old.core.state e r new.core.state i.1 m.step,
 )

@@ -1,4 +1,5 @@
 pub mod Counting
+pub mod Failures
 pub mod Kept
 pub mod Replied
 pub mod Seats

@@ -1,8 +1,16 @@
 -- What holds of the state under its lock.
-use Rattle.std.specs.Prelude.{◌≡◌, ℕ}
+use Rattle.std.specs.Prelude.{◌≡◌, ℕ, length}
 use Rattle.atomic_table.specs.Seated.{TableId}
+use Rattle.errboard.specs.Shown.{RecorderSeen}
+use Rattle.errboard.specs.Views.{files, recorded_of}
 use Rattle.pc_types.specs.Limits.{Sizes}
+use Rattle.machine.specs.State.{State, file_at}
 use Rattle.held.specs.Shown.{HeldSeen}
+
+-- each failed write of a file that the state counts is recorded, and no other
+pub record AreTold (s : State) (e : RecorderSeen) : Type 0 where
+  pub lists : length e.all ≡ files
+  pub counted : (f : ℕ) → length (recorded_of e.all f) ≡ (file_at s f).failures
 
 -- it is the cache of this name and these sizes, with these tables behind its seats and its error board, and it made so
 -- many seats
@@ -12,3 +20,4 @@ pub record IsLocked (called : ℕ) (table board : TableId) (sizes : Sizes) (made
   pub errors : h.errors.board ≡ board
   pub sized : h.core.state.sizes ≡ sizes
   pub counted : h.log.made ≡ made
+  pub told : AreTold h.core.state h.errors

@@ -7,6 +7,7 @@ ghost use Rattle.cachecore.specs.Replies.{bytes_read, was_read, wrote};
 ghost use Rattle.held.specs.Calls.{ByLists, event_of, reply_of};
 ghost use Rattle.held.specs.Entered.{Made};
 ghost use Rattle.held.specs.Views.{count_of};
+ghost use Rattle.machine.specs.State.{file_at};
 ghost use Rattle.machine.specs.declared.event.Event.TheVariants as event;
 ghost use Rattle.pc_types.specs.declared.refusal.Refusal.TheVariants.{Stranger};
 ghost use Rattle.trail.specs.History.{After};
@@ -195,6 +196,20 @@ impl<B: Naming, T: Trail> Locked<B, T> {
             Ok(answer) => Ok((answer, slip)),
             Err(refusal) => Err(by(refusal, slip)),
         }
+    }
+
+    /// Lets a pass know all failed writes of its file. It polls nothing.
+    pub fn level(&mut self, pass: &mut Pass)
+        requires { pass.old.board ≡ B.board }
+        ensures same { self.new ≡ self.old }
+        ensures pass { pass.new ≡ record pass.old { known = pass.new.known } }
+        ensures grows { IsPrefix pass.old.known pass.new.known }
+        ensures known { length pass.new.known ≡ (file_at self.old.core.state pass.new.file).failures }
+        ensures legal { After B.sizes B.name self.old.log.history self.old.core.state }
+    {
+        // Lends that the history is legal.
+        let _ = self.held.core();
+        self.held.level(pass);
     }
 
     /// Takes a pass back.

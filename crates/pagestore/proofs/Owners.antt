@@ -9,7 +9,7 @@ use Rattle.std.proofs.lemmas.Bool.{false≢true, cases_lt}
 use Rattle.std.proofs.lemmas.Bool.Decides.{nat_tests}
 use Rattle.std.proofs.lemmas.List.{length-set}
 use Rattle.std.proofs.lemmas.List.Sums.{sum_by-set, sum_by-cons}
-use Rattle.frames.specs.Table.{Table, IsSound, owner_of, is_taken}
+use Rattle.frames.specs.Table.{Table, owner_of, is_taken}
 use Rattle.mapping.specs.Pages.{Mapped}
 use Rattle.mapping.proofs.MapLemmas.{len-le}
 use Rattle.pagestore.specs.declared.kept.KeptFile.{KeptFile}
@@ -214,13 +214,13 @@ module _ (t : Table) (up : List Bool) (files : List KeptFile) (dirty : ℕ) (s :
           | false ↦ λ cut. refl
         ] refl
 
-    pub none_cut : IsSound t → cut_off f n (lists_of t) ≡ lists_of t
-    none_cut sound =
+    pub none_cut : cut_off f n (lists_of t) ≡ lists_of t
+    none_cut =
         let goes = λ (e : Listed). e.file == f && nat_le n e.page in
         let actives =
         none_goes goes (map (listed_at t) t.active)
-        (any_of_none goes (listed_at t) t.active (λ g e. not_cut g (active_taken t sound g e))) in
+        (any_of_none goes (listed_at t) t.active (λ g e. not_cut g (active_taken t s.sound g e))) in
         let inactives =
         none_goes goes (map (listed_at t) t.inactive)
-        (any_of_none goes (listed_at t) t.inactive (λ g e. not_cut g (inactive_taken t sound g e))) in
+        (any_of_none goes (listed_at t) t.inactive (λ g e. not_cut g (inactive_taken t s.sound g e))) in
         λ i. record { active = actives i; inactive = inactives i }

@@ -1,23 +1,23 @@
 -- A page whose frame is known, as a read finds it: whether it is cached, its bytes, and the store once it was accessed.
-use Rattle.std.proofs.Common.{◌≡◌, ◌<◌, true, false, ap, sym, ◌∙◌, refl, arith}
+use Rattle.std.proofs.Common.{◌≡◌, ◌<◌, Bool, true, false, ap, sym, subst, ◌∙◌, refl, arith}
 use Rattle.std.specs.Prelude.{Some, None, is_some, option_map, slice_index_or, length}
 use Rattle.std.specs.FinMap as finmap
 use Rattle.pc_types.specs.declared.ids.FileId.{FileId}
 use Rattle.pc_types.specs.declared.ids.FrameId.{FrameId}
 use Rattle.pc_types.specs.declared.ids.PageIndex.{PageIndex}
 use Rattle.frames.specs.Table as table
-use Rattle.frames.specs.Table.{IsSound, is_taken, owner_of}
+use Rattle.frames.specs.Table.{is_taken, owner_of}
 use Rattle.frames.specs.Rows.{row_at}
 use Rattle.mapping.specs.Pages.{Mapped, frame_of}
 use Rattle.mapping.proofs.PageLemmas.{none_framed}
 use Rattle.pagestore.specs.declared.kept.KeptFile.{KeptFile}
 use Rattle.machine.specs.PageLists.{accessed}
 use Rattle.machine.specs.State.{Page}
-use Rattle.pagestore.specs.Store.{the_page, Store, has_page, is_uptodate, store_of, kept_at}
+use Rattle.pagestore.specs.Store.{the_page, Store, IsStore, has_page, is_uptodate, store_of, kept_at}
 use Rattle.pagestore.specs.Store.{entry_at, stored_at, stored_page, with_lists}
 use Rattle.pagestore.proofs.StoreLaws.{cached_at, page_seen, none_seen}
 use Rattle.pagestore.proofs.PagePlaces.{FilePage, file_entry, file_here}
-use Rattle.pagestore.proofs.StoreFacts.{page_taken, page_within, the_page_is, accessed_seen}
+use Rattle.pagestore.proofs.StoreFacts.{page_taken, page_within, the_page_is, accessed_seen, accessed_store}
 use Rattle.pagestore.proofs.FrameEntries.{framed, framed_entry}
 use Rattle.pagestore.proofs.ListedFrames.{lists-accessed}
 use Rattle.pagestore.proofs.Owners.{entry_of, its_frame}
@@ -82,10 +82,17 @@ module _ (w : FilePage) where
         sym (ap (λ (page : Page). page.bytes) (sym (ap (λ (s : Store). the_page (stored_at s f).pages p) is)
         ∙ the_page_is t up files dirty f p x s here there ready))
 
-    pub read_seen : IsSound t → store_of (table.accessed t frame.0) up files
+    pub read_seen : store_of (table.accessed t frame.0) up files
         ≡ with_lists store (accessed f p store.lists)
-    read_seen sound =
+    read_seen =
         accessed_seen t up files dirty frame.0 s
         ∙ ap (with_lists (store_of t up files))
-        (lists-accessed t sound f p frame.0 frame_taken (its_frame t up files dirty s f p x there))
+        (lists-accessed t s.sound f p frame.0 frame_taken (its_frame t up files dirty s f p x there))
         ∙ ap (λ (s : Store). with_lists s (accessed f p s.lists)) is
+
+    -- what was read, if anything was, keeps what the store keeps
+    pub read_store : (u : table.Table) (read : Bool) → (read ≡ true → u ≡ table.accessed t frame.0)
+        → (read ≡ false → u ≡ t) → IsStore u up files dirty
+    read_store u true moved same = subst (λ (u : table.Table). IsStore u up files dirty) (sym (moved refl))
+        (accessed_store t up files dirty frame.0 s frame_taken)
+    read_store u false moved same = subst (λ (u : table.Table). IsStore u up files dirty) (sym (same refl)) s

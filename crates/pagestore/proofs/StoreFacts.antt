@@ -21,8 +21,9 @@ use Rattle.pc_types.specs.Tags.{TagSet, no_tags}
 use Rattle.pc_types.specs.declared.ids.FileId.{FileId}
 use Rattle.pc_types.specs.declared.ids.PageIndex.{PageIndex}
 use Rattle.pc_types.specs.declared.limits.TheConstants.{MAX_FRAMES}
-use Rattle.frames.specs.Table.{Table, owner_of, is_taken, is_aside, taken, given, accessed, free_frames, new_table}
-use Rattle.frames.specs.Table.{put_back}
+use Rattle.frames.specs.Table.{Table, IsSound, owner_of, is_taken, is_aside, taken, given, accessed, free_frames}
+use Rattle.frames.specs.Table.{new_table, put_back}
+use Rattle.frames.proofs.SoundLemmas.{sound_accessed, sound_aside, sound_given, sound_laid, sound_new, sound_taken}
 use Rattle.frames.specs.Rows.{row_at}
 use Rattle.mapping.specs.Pages.{Mapped, untagged, change_at, put_some}
 use Rattle.mapping.proofs.MapLemmas as entries
@@ -195,11 +196,12 @@ not_aside (b ∷ flags) (suc i) = not_aside flags i
 
 -- flags that are set for busy pages alone
 pub aside_store : (t : Table) (up : List Bool) (files : List KeptFile) (dirty : ℕ) (flags : List Bool)
-    → IsStore t up files dirty
+    → IsStore t up files dirty → IsSound (record t { aside = flags })
     → ((f p : ℕ) (x : Mapped) → entry_at files f p ≡ Some x → slice_index_or flags x.frame false ≡ true
     → is_idle_entry up (Some x) ≡ false) → IsStore (record t { aside = flags }) up files dirty
-aside_store t up files dirty flags s busy =
+aside_store t up files dirty flags s sound busy =
     record {
+      sound = sound;
       owned = s.owned;
       bare = s.bare;
       busy = busy;
@@ -215,6 +217,7 @@ aside_store t up files dirty flags s busy =
 pub back_store : (t : Table) (up : List Bool) (files : List KeptFile) (dirty fr : ℕ) → IsStore t up files dirty
     → IsStore (put_back t fr) up files dirty
 back_store t up files dirty fr s = aside_store t up files dirty (slice_set t.aside fr false) s
+    (sound_aside t s.sound (slice_set t.aside fr false) (length-set t.aside fr false ∙ s.sound.asides))
     (λ f p x e aside. s.busy f p x e (still_aside t.aside fr x.frame aside))
 
 -- ---- one entry and the frames change
@@ -269,7 +272,8 @@ module _ (t u : Table) (up vp : List Bool) (files : List KeptFile) (dirty f p : 
   module _ (others : (g q : ℕ) (y : Mapped) → (g ≡ f → q ≡ p → ⊥) → entry_at files g q ≡ Some y
       → owner_of u y.frame ≡ Some (record { 0 = g }, record { 0 = q })) (owners : length u.owners ≡ length t.owners)
       (bytes : length u.bytes ≡ length t.bytes) (sized : All (λ (row : List ℕ). length row ≡ u.size) u.bytes)
-      (flags : length vp ≡ length up) (asides : (g : ℕ) → is_aside u g ≡ true → is_aside t g ≡ true) where
+      (flags : length vp ≡ length up) (asides : (g : ℕ) → is_aside u g ≡ true → is_aside t g ≡ true)
+      (sound : IsSound u) where
     pub store_changed : (o : Option Mapped) (now : ℕ)
         → ((y : Mapped) → o ≡ Some y → owner_of u y.frame ≡ Some (record { 0 = f }, record { 0 = p }))
         → ((y : Mapped) → o ≡ Some y → is_uptodate vp y ≡ false → y.tags ≡ no_tags)
@@ -280,6 +284,7 @@ module _ (t u : Table) (up vp : List Bool) (files : List KeptFile) (dirty f p : 
         → IsStore u vp (slice_set files f (with_kept (kept_at files f) p o)) now
     store_changed o now own tags quiet free marks =
         record {
+          sound = sound;
           owned = λ g q y e. at_entry o g q y e (owner_of u y.frame ≡ Some (record { 0 = g }, record { 0 = q }))
               (λ a b d. own y d ∙ (λ i. let x : Option Owner = Some (record { 0 = sym a i }, record { 0 = sym b i }) in
               x))
@@ -310,9 +315,10 @@ pub store_same : (t u : Table) (up : List Bool) (files : List KeptFile) (dirty :
     → ((g : ℕ) → owner_of u g ≡ owner_of t g) → length u.owners ≡ length t.owners → length u.bytes ≡ length t.bytes
     → All (λ (row : List ℕ). length row ≡ u.size) u.bytes → free_frames u ≡ free_frames t
     → ((g : ℕ) → is_aside u g ≡ true → is_aside t g ≡ true)
-    → store_of u up files ≡ with_lists (store_of t up files) (lists_of u) → IsStore u up files dirty
-store_same t u up files dirty s same owners bytes sized free asides seen =
+    → store_of u up files ≡ with_lists (store_of t up files) (lists_of u) → IsSound u → IsStore u up files dirty
+store_same t u up files dirty s same owners bytes sized free asides seen sound =
     record {
+      sound = sound;
       owned = λ f p x e. same x.frame ∙ s.owned f p x e;
       bare = s.bare;
       busy = λ f p x e aside. s.busy f p x e (asides x.frame aside);
@@ -367,6 +373,9 @@ module _ (t : Table) (up : List Bool) (files : List KeptFile) (dirty f p fr : �
   less : free_frames u + 1 ≡ free_frames t
   less = free-taken t fr (record { 0 = f }, record { 0 = p }) free within
 
+  entered_sound : IsSound u
+  entered_sound = sound_taken t s.sound s.few fr (record { 0 = f }, record { 0 = p }) within free
+
   pub flag_within : fr < length up
   flag_within = omega (arith, within, s.flags)
 
@@ -397,7 +406,7 @@ module _ (t : Table) (up : List Bool) (files : List KeptFile) (dirty f p fr : �
         let gone : ◌≡◌ {A = ℕ} (cond (is_some (entry_at files f p)) 1 0) 0 =
         ap (λ (o : Option Mapped). cond (is_some o) 1 0) absent in
         store_changed t u up vp files dirty f p s here alike refl (λ g q y n e. owner_kept g q y e) same_owners
-        refl s.sized (length-set up fr false) (λ g aside. still_aside t.aside fr g aside)
+        refl s.sized (length-set up fr false) (λ g aside. still_aside t.aside fr g aside) entered_sound
         (Some (untagged fr)) dirty
         (λ y e. ap (λ (y : Mapped). owner_of u y.frame) (sym (some_is (untagged fr) y e)) ∙ own)
         (λ y e waits. ap (λ (y : Mapped). y.tags) (sym (some_is (untagged fr) y e)))
@@ -437,6 +446,7 @@ module _ (t : Table) (up : List Bool) (files : List KeptFile) (dirty f p fr : �
   pub unmade_store : IsStore v up files dirty
   unmade_store = store_same t v up files dirty s owner_again (length-set u.owners fr None ∙ same_owners) refl
       s.sized free_again (λ g aside. still_aside t.aside fr g aside) unmade_seen
+      (sound_given u entered_sound (omega (arith, same_owners, s.few)) fr (omega (arith, within, same_owners)))
 
 -- ---- an entry goes, or changes
 
@@ -474,7 +484,8 @@ module _ (t : Table) (up : List Bool) (files : List KeptFile) (dirty f p : ℕ) 
       ∙ s.owned g q y e in
       store_changed t (given t x.frame) up up files dirty f p s here
       (record { rows = λ g q y n e. refl; flags = λ g q y n e. refl }) refl others
-      (length-set t.owners x.frame None) refl s.sized refl (λ g aside. aside) None now
+      (length-set t.owners x.frame None) refl s.sized refl (λ g aside. aside)
+      (sound_given t s.sound s.few x.frame (page_within t up files dirty s f p x there)) None now
       (λ y e. absurd (none_not_some y e)) (λ y e waits. absurd (none_not_some y e))
       (λ y e aside. absurd (none_not_some y e)) (omega (arith, less_one, one_there))
       (omega (arith, marks, tag_counts))
@@ -531,7 +542,8 @@ module _ (t : Table) (up : List Bool) (files : List KeptFile) (dirty f p : ℕ) 
         store_changed t w up wp files dirty f p s here same_else refl (λ g q z n e. s.owned g q z e) refl
         (length-set t.bytes x.frame row)
         (All-set (λ (row : List ℕ). length row ≡ t.size) t.bytes x.frame row long s.sized)
-        (length-set up x.frame ready) (λ g aside. aside) (Some y) now
+        (length-set up x.frame ready) (λ g aside. aside)
+        (sound_laid t s.sound (slice_set t.bytes x.frame row) (length-set t.bytes x.frame row ∙ s.rows)) (Some y) now
         (λ z e. ap (owner_of t) (ap (λ (z : Mapped). z.frame) (sym (some_is y z e)) ∙ frame) ∙ s.owned f p x there)
         (λ z e waits. ap (λ (z : Mapped). z.tags) (sym (some_is y z e))
         ∙ tags (sym flag_after ∙ ap (is_uptodate wp) (some_is y z e) ∙ waits))
@@ -609,8 +621,8 @@ module _ (t : Table) (up : List Bool) (files : List KeptFile) (dirty fr : ℕ) (
   accessed_seen = seen-same t (accessed t fr) up up files same_size free_same
       (λ g q y e. ap (λ (rows : List (List ℕ)). row_at rows y.frame) bytes_same) (λ g q y e. refl)
 
-  pub accessed_store : IsStore (accessed t fr) up files dirty
-  accessed_store =
+  pub accessed_store : is_taken t fr ≡ true → IsStore (accessed t fr) up files dirty
+  accessed_store there =
       store_same t (accessed t fr) up files dirty s
       (λ g. ap (λ (os : List (Option Owner)). slice_index_or os g None) owners_same)
       (ap (λ (os : List (Option Owner)). length os) owners_same)
@@ -618,7 +630,7 @@ module _ (t : Table) (up : List Bool) (files : List KeptFile) (dirty fr : ℕ) (
       (subst (λ (rows : List (List ℕ)). All (λ (row : List ℕ). length row ≡ (accessed t fr).size) rows) (sym bytes_same)
       (subst (λ n. All (λ (row : List ℕ). length row ≡ n) t.bytes) (sym same_size) s.sized))
       free_same (λ g aside. ap (λ (flags : List Bool). slice_index_or flags g false) (sym aside_same) ∙ aside)
-      accessed_seen
+      accessed_seen (sound_accessed t s.sound s.few fr there)
 
 -- ---- at the start, and a new file
 
@@ -638,6 +650,7 @@ store_start size frames up few flags =
     sum_by-replicate (λ (x : Option Owner). cond (is_none x) 1 0) frames None ∙ omega arith in
     let owners : length (new_table size frames).owners ≡ frames = length-replicate frames None in
     record {
+      sound = sound_new size frames few;
       owned = λ f p x e. absurd (no_pages f p x e);
       bare = λ f p x e. absurd (no_pages f p x e);
       busy = λ f p x e. absurd (no_pages f p x e);
@@ -656,6 +669,7 @@ pub store_push : (t : Table) (up : List Bool) (files : List KeptFile) (dirty : �
     → IsStore t up (files ++ none_kept ∷ []) dirty
 store_push t up files dirty s =
     record {
+      sound = s.sound;
       owned = λ f p x e. s.owned f p x (sym (entry-push files f p) ∙ e);
       bare = λ f p x e. s.bare f p x (sym (entry-push files f p) ∙ e);
       busy = λ f p x e. s.busy f p x (sym (entry-push files f p) ∙ e);
@@ -704,6 +718,7 @@ store_file t up files dirty f k is here s =
     ap (λ (m : FinMap nat_cmp Mapped). dirty_in (record (file_of t up k) { pages = each_seen (page_of t up) m })) is
     ∙ sym (ap dirty_in (stored-kept t up files f)) in
     record {
+      sound = s.sound;
       owned = λ g q x e. s.owned g q x (sym (entry-kept files f k here is g q) ∙ e);
       bare = λ g q x e. s.bare g q x (sym (entry-kept files f k here is g q) ∙ e);
       busy = λ g q x e. s.busy g q x (sym (entry-kept files f k here is g q) ∙ e);

@@ -203,6 +203,7 @@ module _ (t : Table) (up : List Bool) (files : List KeptFile) (dirty : ℕ) (s :
       let files_sum = sum_by-set dirty_in (map (file_of t up) files) f (file_of t up after) no_file
       (omega (arith, here, length-map files (file_of t up))) in
       let it : IsStore t up (slice_set files f after) dirty = record {
+        sound = s.sound;
         owned = λ g q x e. (let w = was g q x e in
             subst (λ n. owner_of t n ≡ Some (record { 0 = g }, record { 0 = q })) w.2 (s.owned g q w.0 w.1));
         bare = λ g q x e free. (let w = was g q x e in

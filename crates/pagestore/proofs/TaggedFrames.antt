@@ -4,13 +4,12 @@ use Rattle.std.proofs.Common.{arith}
 use Rattle.std.specs.Prelude.{◌&&◌, Option, Some, None, is_some, option_map, slice_set, slice_index_or}
 use Rattle.std.specs.FinMap as finmap
 use Rattle.std.proofs.lemmas.Bool.{false≢true}
-use Rattle.std.proofs.lemmas.List.{length-set}
 use borrow.Rule.Slice.PartMut.{put_mid}
 use Rattle.pc_types.specs.declared.ids.FrameId.{FrameId}
 use Rattle.pc_types.specs.declared.tags.Tag.TheVariants.{Dirty}
 use Rattle.pc_types.specs.Tags.{TagSet}
 use Rattle.frames.specs.Table as table
-use Rattle.frames.specs.Table.{Table, IsSound, is_taken, free_frames}
+use Rattle.frames.specs.Table.{Table, is_taken, free_frames}
 use Rattle.frames.specs.Rows.{row_at, with_row}
 use Rattle.frames.proofs.RowLemmas.{with_row-whole}
 use Rattle.mapping.specs.Pages.{Mapped, frame_of, has_at}
@@ -146,25 +145,15 @@ module _ (w : FilePage) (k : KeptFile) (value : k ≡ slice_index_or w.pages.fil
 
         pub again_store : IsStore v up files dirty
         again_store = subst (λ (v : Table). IsStore v up files dirty) (sym v_is)
-            (accessed_store u up files dirty frame.0 put_store)
+            (accessed_store u up files dirty frame.0 put_store its_frame_taken)
 
-        pub again_seen : IsSound t → store_of v up files
+        pub again_seen : store_of v up files
             ≡ with_lists (with_pages store f
             (finmap.insert (stored_at store f).pages p (with_part (the_page (stored_at store f).pages p) at b))
             store.free) (accessed f p store.lists)
-        again_seen sound =
-            let still : IsSound u =
-            record {
-              active_once = sound.active_once;
-              inactive_once = sound.inactive_once;
-              apart = sound.apart;
-              listed = sound.listed;
-              flags = sound.flags;
-              asides = sound.asides;
-              rows = length-set t.bytes frame.0 row ∙ sound.rows;
-            } in
+        again_seen =
             let lists : lists_of (table.accessed u frame.0) ≡ accessed f p store.lists =
-            lists-accessed u still f p frame.0 its_frame_taken (its_frame t up files dirty s f p x there)
+            lists-accessed u put_store.sound f p frame.0 its_frame_taken (its_frame t up files dirty s f p x there)
             ∙ ap (λ (s : Store). accessed f p s.lists) is in
             ap (λ (v : Table). store_of v up files) v_is ∙ accessed_seen u up files dirty frame.0 put_store
             ∙ (λ i. with_lists (put_seen i) (lists i))

@@ -180,10 +180,10 @@ module _ (t : Table) (up : List Bool) (files : List KeptFile) (dirty : ℕ) (s :
       go None own = refl
       go (Some o) own = at o.0.0 o.1.0 own (entry_at files o.0.0 o.1.0) refl
 
-  pub set_aside_store : (u : Table) → u ≡ record t { aside = u.aside } → AreBusy u up files
+  pub set_aside_store : (u : Table) → u ≡ record t { aside = u.aside } → IsSound u → AreBusy u up files
       → IsStore u up files dirty
-  set_aside_store u same busy = subst (λ (u : Table). IsStore u up files dirty) (sym same)
-      (aside_store t up files dirty u.aside s
+  set_aside_store u same sound busy = subst (λ (u : Table). IsStore u up files dirty) (sym same)
+      (aside_store t up files dirty u.aside s (subst (λ (u : Table). IsSound u) same sound)
       (λ f p x e aside.
       let own : owner_of u x.frame ≡ Some (record { 0 = f }, record { 0 = p }) =
       ap (λ (u : Table). owner_of u x.frame) same ∙ s.owned f p x e in

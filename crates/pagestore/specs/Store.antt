@@ -14,7 +14,7 @@ use Rattle.pc_types.specs.declared.ids.PageIndex.{PageIndex}
 use Rattle.pc_types.specs.declared.limits.TheConstants.{MAX_FRAMES}
 use Rattle.pc_types.specs.Spots.{place_cmp}
 use Rattle.pc_types.specs.Tags.{TagSet, no_tags}
-use Rattle.frames.specs.Table.{Table, owner_of, is_referenced, is_aside, free_frames}
+use Rattle.frames.specs.Table.{Table, IsSound, owner_of, is_referenced, is_aside, free_frames}
 use Rattle.frames.specs.Rows.{row_at}
 use Rattle.mapping.specs.Pages.{Mapped}
 use Rattle.pagestore.specs.declared.kept.KeptFile.{KeptFile}
@@ -175,9 +175,9 @@ abbrev pub absent_pages : Store → ℕ → ℕ → ℕ → List ℕ
 absent_pages s f first end = filter (λ p. not (is_some (stored_page s f p))) (range_with_len first (end - first))
 
 -- each entry has a frame of its own, which was taken for its page, and every taken frame is an entry's. A page that is
--- filling
--- has no tags. A frame that is set aside has no idle page. `dirty` counts the DIRTY pages
+-- filling has no tags. A frame that is set aside has no idle page. `dirty` counts the DIRTY pages
 pub record IsStore (t : Table) (up : List Bool) (files : List KeptFile) (dirty : ℕ) : Type 0 where
+  pub sound : IsSound t
   pub owned : (f p : ℕ) (x : Mapped) → entry_at files f p ≡ Some x
       → owner_of t x.frame ≡ Some (record { 0 = f }, record { 0 = p })
   pub bare : (f p : ℕ) (x : Mapped) → entry_at files f p ≡ Some x → is_uptodate up x ≡ false → x.tags ≡ no_tags

@@ -10,7 +10,6 @@ ghost use Rattle.machine.specs.PageLists.{entered, is_listed, left};
 ghost use Rattle.pagestore.specs.Store.{stored_at, stored_page, is_awaited, with_pages};
 
 use crate::pages::Pages;
-use pc_types::limits::MAX_FRAMES;
 use pc_types::{FileId, PageIndex};
 use std::alloc::AllocError;
 
@@ -26,8 +25,6 @@ impl Pages {
         ensures err { OnErr result (self.new ≡ self.old) }
         ensures unlisted { is_listed file page self.old.lists ≡ false }
     {
-        // for what `free_count` ensures: a free frame is in no list
-        prove!(self.frames.free_count() <= MAX_FRAMES);
         let Ok(frame) = self.frames.take(FileId(file), PageIndex(page)) else {
             unreachable!()
         };

@@ -5,6 +5,7 @@ ghost use Rattle.std.specs.FinMap as map;
 ghost use Rattle.pagestore.specs.Store.{the_page, is_awaited, stored_at, stored_page, with_pages, with_lists};
 ghost use Rattle.machine.specs.Changes.{cut_page};
 ghost use Rattle.frames.specs.Table as table;
+ghost use Rattle.frames.specs.Table.{IsSound};
 ghost use Rattle.pagestore.specs.Cuts.{AreBusy, Evicts, RemovesFrom, is_idle_at, is_idle_frame};
 ghost use Rattle.machine.specs.ListChanges.{numbers};
 ghost use Rattle.machine.specs.PageLists.{aged, cut_off, active_target, place, scan_order};
@@ -12,7 +13,6 @@ ghost use Rattle.machine.specs.PageLists.{aged, cut_off, active_target, place, s
 use crate::kept::KeptFile;
 use crate::pages::Pages;
 use frames::Frames;
-use pc_types::limits::MAX_FRAMES;
 use pc_types::{FileId, FrameId, PageIndex, Tag};
 
 impl Pages {
@@ -22,8 +22,6 @@ impl Pages {
         ensures moved { result + active_target self.old.lists ≡ length self.old.lists.active }
         ensures aged { self.new ≡ with_lists self.old (aged self.old.lists) }
     {
-        // for what `free_count` ensures: no frame is in a list twice
-        prove!(self.frames.free_count() <= MAX_FRAMES);
         self.frames.age()
     }
 
@@ -63,8 +61,6 @@ impl Pages {
         ensures none { IfNone result ((q : ℕ) → page ≤ q → (is_some (stored_page self.now file q) || is_awaited self.now file q) ≡ false) }
         ensures unlisted { IfNone result (cut_off file page self.now.lists ≡ self.now.lists) }
     {
-        // for what `free_count` ensures: each frame in a list is taken
-        prove!(self.frames.free_count() <= MAX_FRAMES);
         let mapping = &self.files[file as usize].mapping;
         if let Some(found) = mapping.find_page(PageIndex(guess.max(page))) {
             return Some(found.page.0);
@@ -78,8 +74,6 @@ impl Pages {
         ensures evicted { Evicts self.old result self.new }
         ensures first { option_map numbers result ≡ option_map place (find (is_idle_at self.old) (scan_order self.old.lists)) }
     {
-        // for what `free_count` ensures: each frame that is taken is in one of the two lists
-        prove!(self.frames.free_count() <= MAX_FRAMES);
         let victim = first_idle(&mut self.frames, &self.uptodate, &self.files)?;
         let Some((file, page)) = self.frames.owner(victim) else {
             unreachable!()
@@ -92,17 +86,17 @@ impl Pages {
 /// The first frame in the order of eviction whose page is idle. Those before it are set aside, so that the next search does not
 /// come to them again.
 fn first_idle(frames: &mut Frames, uptodate: &[bool], files: &[KeptFile]) -> Option<FrameId>
+    requires sound { IsSound frames.old }
     requires busy { AreBusy frames.old uptodate.now files.now }
     ensures first { option_map (λ frame. frame.0) result ≡ find (is_idle_frame frames.old uptodate.now files.now) (table.scan_order frames.old) }
     ensures aside { frames.new ≡ record frames.old { aside = frames.new.aside } }
+    ensures sound { IsSound frames.new }
     ensures busy { AreBusy frames.new uptodate.now files.now }
 {
     while let Some(frame) = frames.oldest() {
         if is_idle_frame(frames, uptodate, files, frame) {
             return Some(frame);
         }
-        // for what `free_count` ensures: each frame in a list is taken
-        prove!(frames.free_count() <= u64::MAX);
         frames.set_aside(frame);
     }
     None

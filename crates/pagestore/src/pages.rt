@@ -227,8 +227,6 @@ impl Pages {
         ensures page { is_some (stored_page self.old file page) ≡ true → self.new ≡ with_lists (with_pages self.old file (map.remove (stored_at self.old file).pages page) (self.old.free + 1)) (left file page self.old.lists) }
         ensures fill { is_awaited self.old file page ≡ true → self.new ≡ record self.old { filling = set.remove self.old.filling (file, page); free = self.old.free + 1; lists = left file page self.old.lists } }
     {
-        // for what `free_count` ensures: each frame in a list is taken
-        prove!(self.frames.free_count() <= MAX_FRAMES);
         let mapping = &mut self.files[file as usize].mapping;
         let Some(mapped) = mapping.take_page(PageIndex(page)) else {
             unreachable!()
@@ -263,8 +261,6 @@ impl Pages {
         ensures done { result ≡ true → self.new ≡ with_lists (with_pages self.old file (map.insert (stored_at self.old file).pages page (with_part (the_page (stored_at self.old file).pages page) at bytes.now)) self.old.free) (accessed file page self.old.lists) }
         ensures same { result ≡ false → self.new ≡ self.old }
     {
-        // for what `free_count` ensures: each frame in a list is taken
-        prove!(self.frames.free_count() <= MAX_FRAMES);
         let mapping = &self.files[file as usize].mapping;
         let Some(frame) = mapping.tagged_frame(PageIndex(page), Tag::Dirty) else {
             return false;
@@ -285,8 +281,6 @@ impl Pages {
         ensures kept { result ≡ false → out.new ≡ out.old }
         ensures same { result ≡ false → self.new ≡ self.old }
     {
-        // for what `free_count` ensures: each frame in a list is taken
-        prove!(self.frames.free_count() <= MAX_FRAMES);
         let guess = self.guesses.of(file, page);
         if let Some((owner, number)) = self.frames.owner(guess)
             && owner.0 == file
@@ -308,8 +302,6 @@ impl Pages {
         ensures kept { result ≡ false → out.new ≡ out.old }
         ensures same { result ≡ false → self.new ≡ self.old }
     {
-        // for what `free_count` ensures: each frame in a list is taken
-        prove!(self.frames.free_count() <= MAX_FRAMES);
         let Some(frame) = self.files[file as usize].mapping.frame(PageIndex(page)) else {
             return false;
         };
@@ -339,8 +331,6 @@ impl Pages {
         let Some(frame) = self.files[file as usize].mapping.frame(PageIndex(page)) else {
             unreachable!()
         };
-        // for what `free_count` ensures: each frame in a list is taken
-        prove!(self.frames.free_count() <= MAX_FRAMES);
         let bytes = self.frames.bytes(frame);
         out[from..to].copy_from_slice(&bytes[at..at + (to - from)]);
         self.frames.accessed(frame);
@@ -352,8 +342,6 @@ impl Pages {
         requires { file < length self.old.files }
         ensures { self.new ≡ with_lists self.old (accessed file page self.old.lists) }
     {
-        // for what `free_count` ensures: each frame in a list is taken
-        prove!(self.frames.free_count() <= MAX_FRAMES);
         if let Some(frame) = self.files[file as usize].mapping.frame(PageIndex(page)) {
             self.frames.accessed(frame);
         }

@@ -22,7 +22,7 @@ use Rattle.locked.specs.Firsts.{IsFirstDenied, Writes}
 use Rattle.locked.specs.declared.denied.Denied.{Denied}
 use Rattle.locked.proofs.Seats.{goes_same}
 use Rattle.shared.specs.Called.{Makes}
-use Rattle.shared.specs.Denials.{IsDenied}
+use Rattle.shared.specs.Denials.{IsDenied, MadeOne}
 use Rattle.shared.specs.Workers.{AllEnded, Begins, Ends, IsEndOf, IsOwnFailure, IsWriteBack, fails_write, popped_by}
 use Rattle.shared.specs.declared.ends.Done.{Done}
 use Rattle.shared.specs.declared.worker.Worker.{Worker}
@@ -110,6 +110,10 @@ end_writes_back job e x = absurd x
 pub write_back_end : (job : Task) (a b c : SeatSeen) (d : Denied) → Goes a b → IsDenied (IsEndOf job) b c d
     → IsDenied IsWriteBack a c d
 write_back_end job a b c d p q = denied_on (IsEndOf job) IsWriteBack a b c d (end_writes_back job) p q
+
+pub begun_one : (job : Task) (slip : Slip) (old new : HeldSeen) (before after : SeatSeen)
+    → Writes job slip old new before after → MadeOne (Some slip) before after
+begun_one job slip old new before after w = w.made.entered.count
 
 -- ---- all jobs that a worker took
 

@@ -5,3 +5,6 @@ pub mod Syncing
 pub mod Serving
 pub mod Closing
 pub mod Seating
+pub mod Owning
+pub mod Answered
+pub mod Letting

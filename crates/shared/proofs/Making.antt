@@ -138,7 +138,7 @@ denied_first old new before after d q =
 pub room_on : (a b c : SeatSeen) (d : Denied) → Goes a b → IsDenied IsRoomEvent b c d → IsDenied IsRoomEvent a c d
 room_on a b c d p q = denied_on IsRoomEvent IsRoomEvent a b c d (λ e x. x) p q
 
-room_helps : (h : HandleId) (e : Event) → IsRoomEvent e → IsHelp h e
+pub room_helps : (h : HandleId) (e : Event) → IsRoomEvent e → IsHelp h e
 room_helps h (event.End kind end) x = x
 room_helps h (event.FlushBegin f) x = x
 room_helps h event.Evict x = x

@@ -5,6 +5,9 @@ use Rattle.pc_types.specs.declared.refusal.Refusal.{Refusal}
 use Rattle.pc_types.specs.declared.refusal.Refusal.TheVariants.{BadHandle, Stranger}
 use Rattle.machine.specs.declared.event.Event.{Event}
 use Rattle.machine.specs.declared.event.Event.TheVariants as event
+use Rattle.machine.specs.declared.event.Reply.{Reply}
+use Rattle.machine.specs.declared.event.Reply.TheVariants as reply
+use Rattle.trail.specs.declared.entry.Entry.{Entry}
 use Rattle.held.specs.declared.log.Slip.{Slip}
 use Rattle.held.specs.Shown.{SeatSeen}
 use Rattle.locked.specs.declared.denied.Denied.{Denied}
@@ -27,6 +30,12 @@ IsRoomEvent event.Evict = Unit {0}
 IsRoomEvent event.Age = Unit {0}
 IsRoomEvent e = ⊥
 
+-- to let a page go
+abbrev pub IsEviction : Event → Type 0
+IsEviction event.Evict = Unit {0}
+IsEviction event.Age = Unit {0}
+IsEviction e = ⊥
+
 -- the refusal stands, or making room was refused
 abbrev pub IsStillDenied : Denied → SeatSeen → SeatSeen → Denied → Type 0
 IsStillDenied first before after d = (d ≡ first) ⊎ IsDenied IsRoomEvent before after d
@@ -34,6 +43,17 @@ IsStillDenied first before after d = (d ≡ first) ⊎ IsDenied IsRoomEvent befo
 -- what a call by this handle does that is to make this event
 abbrev pub IsCallOf : HandleId → Event → Event → Type 0
 IsCallOf h own e = (e ≡ own) ⊎ IsHelp h e
+
+-- after this reply the event is still to be made
+abbrev pub IsUndone : Reply → Type 0
+IsUndone (reply.Miss p) = Unit {0}
+IsUndone (reply.Wait p) = Unit {0}
+IsUndone (reply.Refused why) = Unit {0}
+IsUndone r = ⊥
+
+-- what such a call enters before it has made its event
+abbrev pub IsTry : HandleId → Event → Entry → Type 0
+IsTry h own e = ((e.event ≡ own) × IsUndone e.reply) ⊎ IsHelp h e.event
 
 abbrev pub count_in : Result (ℕ × Slip) Denied → ℕ
 count_in (Ok r) = r.0

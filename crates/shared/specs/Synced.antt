@@ -3,7 +3,7 @@ use Rattle.std.specs.Prelude.{◌≡◌, ◌⊎◌, ℕ, Option, Some, None}
 use Rattle.errboard.specs.Shown.{PassSeen}
 use Rattle.held.specs.Shown.{SeatSeen}
 use Rattle.held.specs.declared.log.Slip.{Slip}
-use Rattle.locked.specs.Called.{Goes}
+use Rattle.locked.specs.Called.{Goes, Only}
 use Rattle.locked.specs.declared.denied.Denied.{Denied}
 use Rattle.machine.specs.declared.event.Event.{Event}
 use Rattle.machine.specs.declared.event.Event.TheVariants as event
@@ -14,6 +14,7 @@ use Rattle.pc_types.specs.declared.ids.PageIndex.{PageIndex}
 use Rattle.pc_types.specs.declared.ids.SyncId.{SyncId}
 use Rattle.pc_types.specs.declared.kind.Kind.TheVariants.{Flush}
 use Rattle.pc_types.specs.declared.refusal.Refusal.TheVariants.{Io, Stranger}
+use Rattle.trail.specs.declared.entry.Entry.{Entry}
 use Rattle.shared.specs.Called.{Makes}
 use Rattle.shared.specs.Denials.{IsDenied, IsFullIfNoSlip, MadeOne}
 use Rattle.shared.specs.Polls.{Polled}
@@ -46,6 +47,23 @@ IsFlushEnd e = ⊥
 abbrev pub IsTurnOf : SyncId → Event → Type 0
 IsTurnOf sync (event.SyncStep m) = m ≡ sync
 IsTurnOf sync e = IsFlushEnd e
+
+-- this sync was begun, or none
+abbrev pub IsBeginReply : SyncId → Reply → Type 0
+IsBeginReply sync (reply.Sync m) = m ≡ sync
+IsBeginReply sync (reply.Refused why) = Unit {0}
+IsBeginReply sync r = ⊥
+
+-- the begin of this sync, of these pages by this handle, a turn of it, or its drop
+abbrev pub IsSyncBy : HandleId → PageIndex → PageIndex → SyncId → Entry → Type 0
+IsSyncBy h first last sync e =
+    ((e.event ≡ event.SyncBegin h first last) × IsBeginReply sync e.reply)
+    ⊎ ((e.event ≡ event.SyncDrop sync) ⊎ IsTurnOf sync e.event)
+
+-- the seat made events of one sync of these pages alone
+pub record OneSync (h : HandleId) (first last : PageIndex) (before after : SeatSeen) : Type 0 where
+  pub sync : SyncId
+  pub only : Only (IsSyncBy h first last sync) before after
 
 -- the sync was dropped, or was in progress no longer
 abbrev pub IsDropReply : Reply → Type 0

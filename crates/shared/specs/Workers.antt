@@ -1,5 +1,5 @@
 -- Workers, and what their turns make.
-use Rattle.std.specs.Prelude.{◌≡◌, ◌++◌, ◌∷◌, [], All, ℕ, Bool, true, false, List, IfSome, is_some}
+use Rattle.std.specs.Prelude.{◌≡◌, ◌==◌, ◌&&◌, ◌++◌, ◌∷◌, [], All, ℕ, Bool, true, false, List, IfSome, count_by, is_some}
 use Rattle.atomic_table.specs.Seated.{TableId}
 use Rattle.blockdev.specs.Jobs.{Task}
 use Rattle.crossbeam_queue.specs.Passes.{view}
@@ -14,6 +14,7 @@ use Rattle.pc_types.specs.declared.kind.Kind.{Kind}
 use Rattle.pc_types.specs.declared.kind.Kind.TheVariants.{Fill, Flush}
 use Rattle.ring.specs.Serving.{Carries, Serves}
 use Rattle.ring.specs.declared.ring.Ring.{Ring}
+use Rattle.trail.specs.declared.entry.Entry.{Entry}
 use Rattle.held.specs.declared.log.Slip.{Slip}
 use Rattle.held.specs.Shown.{SeatSeen}
 use Rattle.locked.specs.declared.denied.Denied.{Denied}
@@ -69,6 +70,11 @@ abbrev pub Begins : ℕ → SeatSeen → SeatSeen → Slip → Type 0
 Begins serial before after slip =
     (file : FileId) × Makes before after slip (event.FlushBegin file) (reply.Job (record { 0 = serial }))
 
+-- the end of a request
+abbrev pub IsEnd : Event → Type 0
+IsEnd (event.End kind end) = Unit {0}
+IsEnd e = ⊥
+
 -- events of a flusher
 abbrev pub IsWriteBack : Event → Type 0
 IsWriteBack (event.FlushBegin file) = Unit {0}
@@ -85,6 +91,12 @@ IsFlushed old new (flushed.Ended slip done) =
     Begins done.serial.0 old.seat new.seat slip
     × (job : Task) × (job.serial ≡ done.serial.0) × Ends job old.seat new.seat done.slip (is_some done.failed)
     × (pushed_by new ≡ pushed_by old)
+
+-- how many events a turn of a flusher made
+abbrev pub entered_in : Flushed → ℕ
+entered_in flushed.Nothing = 0
+entered_in (flushed.Pushed serial slip) = 1
+entered_in (flushed.Ended slip done) = 2
 
 -- a failed write that the turn tells of is one of this cache and this board
 abbrev pub FailsOwn : ℕ → TableId → Flushed → Type 0
@@ -105,3 +117,14 @@ pub record IsRefusedEnd (old new : Worker) (d : Denied) : Type 0 where
   pub popped : popped_by new ≡ popped_by at ++ job ∷ []
   pub denied : IsDenied (IsEndOf job) at.seat new.seat d
   pub full : IsFullIfNoSlip at.seat new.seat d
+
+-- a page was let go
+abbrev pub lets_go : Reply → Bool
+lets_go (reply.Evicted file page) = true
+lets_go r = false
+
+-- how many pages the seat let go since
+pub record LetsGo (pages : ℕ) (before after : SeatSeen) : Type 0 where
+  pub since : List Entry
+  pub saw : after.list ≡ before.list ++ since
+  pub gone : pages ≡ count_by (λ e. e.seat == before.number && lets_go e.reply) since

@@ -9,9 +9,9 @@ ghost use Rattle.held.specs.Views.{count_of};
 ghost use Rattle.pc_types.specs.declared.refusal.Refusal.TheVariants.{Stranger};
 ghost use Rattle.trail.specs.History.{After};
 ghost use Rattle.trail.specs.declared.entry.Entry.{Entry};
-ghost use Rattle.locked.specs.Called.{Goes};
+ghost use Rattle.locked.specs.Called.{Goes, Only};
 ghost use Rattle.shared.specs.Keeps.{IsDisk};
-ghost use Rattle.shared.specs.Workers.{AllEnded, IsWorkerOf, seat_of};
+ghost use Rattle.shared.specs.Workers.{AllEnded, IsEnd, IsWorkerOf, seat_of};
 
 use crate::cache::SharedCache;
 use crate::disk::Disk;
@@ -42,6 +42,7 @@ impl<B: Naming, D: BlockDevice, T: Trail> SharedCache<B, D, T> {
         ensures refused { IsErr result ↔ ((vec_len seats + 1 ≢ B.seats) ⊎ Any (λ s. s.name ≢ self.name) seats.items) }
         ensures err { IfErr result (λ e. (e.0 ≡ Stranger) × (e.1.name ≡ self.name) × (e.1.ring ≡ self.ring) × (e.3 ≡ seats)) }
         ensures again { IfErr result (λ e. IsWorkerOf self.ring B.name B.table B.sizes e.2 × Goes (seat_of own) (seat_of e.2)) }
+        ensures only { IfErr result (λ e. Only (λ x. IsEnd x.event) (seat_of own) (seat_of e.2)) }
         ensures device { IfOk result (λ r. IsDisk B.sizes (D.told r.2)) }
         ensures core { IfOk result (λ r. (r.1.state.name ≡ self.name) × (r.1.state.sizes ≡ B.sizes)) }
         ensures closed { IfOk result (λ r. (history : List Entry) × T.records r.0 history × (T.cache r.0 ≡ Some self.name) × After r.1.state.sizes r.1.state.name history r.1.state × All (λ s. IsPrefix s.list history × (s.count ≡ count_of s.number history)) seats.items) }
@@ -81,7 +82,7 @@ impl<B: Naming, D: BlockDevice, T: Trail> SharedCache<B, D, T> {
 
 /// Carries out and ends what the ring has, till it is empty, and answers whether all ends were made. One is refused only where its
 /// request is in flight no more, and has nothing to be ended then.
-#[tactic(auto, using(locked::proofs::Seats::goes_same, locked::proofs::Seats::goes_on, crate::proofs::Ending::none_ended, crate::proofs::Ending::one_more_ended))]
+#[tactic(auto, using(locked::proofs::Seats::goes_same, locked::proofs::Seats::goes_on, crate::proofs::Ending::none_ended, crate::proofs::Ending::one_more_ended, locked::proofs::Seats::only_same, crate::proofs::Owning::only_job_on))]
 fn drain<B: Naming, D: BlockDevice, T: Trail, R: Wait>(
     rt: &R,
     ring: &Ring,
@@ -93,6 +94,7 @@ fn drain<B: Naming, D: BlockDevice, T: Trail, R: Wait>(
     requires worker { IsWorkerOf ring.now B.name B.table B.sizes own.old }
     ensures worker { IsWorkerOf ring.now B.name B.table B.sizes own.new }
     ensures goes { Goes (seat_of own.old) (seat_of own.new) }
+    ensures only { Only (λ e. IsEnd e.event) (seat_of own.old) (seat_of own.new) }
     ensures ended { result ≡ true → AllEnded own.old own.new }
     ensures emptied { Held 0 (Stands (view own.new.pass)) }
 {

@@ -1,14 +1,14 @@
 //! A job's device call, and the end of its request.
 
-ghost use Rattle.std.specs.Prelude.{◌≡◌, IfErr, IfOk, IfSome, is_some, length};
+ghost use Rattle.std.specs.Prelude.{◌≡◌, IfErr, IfOk, IfSome, Some, is_some, length};
 ghost use Rattle.atomic_table.specs.Seated.{TableId};
-ghost use Rattle.blockdev.specs.Jobs.{IsJobFor};
+ghost use Rattle.blockdev.specs.Jobs.{IsJobFor, Task};
 ghost use Rattle.cachecore.specs.Replies.{end_of};
 ghost use Rattle.machine.specs.declared.event.Event.TheVariants as event;
 ghost use Rattle.machine.specs.declared.event.Reply.{Reply};
-ghost use Rattle.locked.specs.Called.{Goes};
+ghost use Rattle.locked.specs.Called.{Goes, Only};
 ghost use Rattle.shared.specs.Called.{Makes};
-ghost use Rattle.shared.specs.Denials.{IsDenied, IsFullIfNoSlip};
+ghost use Rattle.shared.specs.Denials.{IsDenied, IsFullIfNoSlip, MadeOne};
 ghost use Rattle.shared.specs.Workers.{Ends, IsEndOf, IsOwnFailure, fails_write};
 
 use crate::disk::Disk;
@@ -44,7 +44,9 @@ pub(crate) fn carry_through<B: Naming, D: BlockDevice, T: Trail, R: Wait>(
     requires seat { seat.old.table ≡ B.table }
     requires fits { IsJobFor B.name B.sizes.blocks B.sizes.page job }
     ensures goes { Goes seat.old seat.new }
+    ensures only { Only (λ e. IsEndOf job e.event) seat.old seat.new }
     ensures ended { IfOk result (λ d. (d.serial.0 ≡ job.serial) × Ends job seat.old seat.new d.slip (is_some d.failed)) }
+    ensures one { IfOk result (λ d. MadeOne (Some d.slip) seat.old seat.new) }
     ensures failed { IfOk result (λ d. IfSome d.failed (IsOwnFailure name B.board)) }
     ensures denied { IfErr result (IsDenied (IsEndOf job) seat.old seat.new) }
     ensures full { IfErr result (IsFullIfNoSlip seat.old seat.new) }
@@ -76,7 +78,7 @@ fn failure(name: u64, receipt: Option<Receipt>) -> Option<FailedWrite>
 }
 
 /// Ends a request, by its kind.
-#[tactic(auto, using(locked::proofs::Seats::goes_by, crate::proofs::Making::goes_denied, crate::proofs::Making::makes_by, crate::proofs::Making::denied_event, crate::proofs::Making::full_by, crate::proofs::Ending::fill_told, crate::proofs::Ending::flush_told))]
+#[tactic(auto, using(locked::proofs::Seats::goes_by, crate::proofs::Making::goes_denied, crate::proofs::Making::makes_by, crate::proofs::Making::denied_event, crate::proofs::Making::full_by, crate::proofs::Making::made_one, crate::proofs::Ending::fill_told, crate::proofs::Ending::flush_told, crate::proofs::Owning::only_end, crate::proofs::Owning::only_end_denied))]
 fn end<B: Naming, T: Trail>(
     state: &mut Locked<B, T>,
     seat: &mut Seat,
@@ -85,7 +87,9 @@ fn end<B: Naming, T: Trail>(
     requires seat { seat.old.table ≡ B.table }
     requires size { length finished.bytes ≡ B.sizes.page }
     ensures goes { Goes seat.old seat.new }
+    ensures only { (job : Task) → finished.kind ≡ job.kind → finished.serial ≡ job.serial → finished.cache ≡ job.cache → Only (λ e. IsEndOf job e.event) seat.old seat.new }
     ensures made { IfOk result (λ r. (reply : Reply) × Makes seat.old seat.new r.0 (event.End finished.kind (end_of finished)) reply × (is_some r.1 ≡ fails_write finished.kind reply)) }
+    ensures one { IfOk result (λ r. MadeOne (Some r.0) seat.old seat.new) }
     ensures own { IfOk result (λ r. IfSome r.1 (λ receipt. receipt.board ≡ B.board)) }
     ensures denied { IfErr result (IsDenied (λ e. e ≡ event.End finished.kind (end_of finished)) seat.old seat.new) }
     ensures full { IfErr result (IsFullIfNoSlip seat.old seat.new) }

@@ -1,10 +1,10 @@
 //! The evictor: frames are free before a caller needs them.
 
-ghost use Rattle.std.specs.Prelude.{◌≡◌, IfErr};
-ghost use Rattle.locked.specs.Called.{Goes};
+ghost use Rattle.std.specs.Prelude.{◌≡◌, ℕ, IfErr, IfOk, min};
+ghost use Rattle.locked.specs.Called.{Goes, Only};
 ghost use Rattle.shared.specs.Denials.{IsDenied};
-ghost use Rattle.shared.specs.Own.{IsRoomEvent};
-ghost use Rattle.shared.specs.Workers.{IsWorkerOf, popped_by, pushed_by, seat_of};
+ghost use Rattle.shared.specs.Own.{IsEviction, IsRoomEvent};
+ghost use Rattle.shared.specs.Workers.{IsWorkerOf, LetsGo, popped_by, pushed_by, seat_of};
 
 use crate::cache::SharedCache;
 use crate::worker::Worker;
@@ -20,7 +20,7 @@ pub const SPARE_FRAMES: u64 = 16;
 impl<B: Naming, D: BlockDevice, T: Trail> SharedCache<B, D, T> {
     /// One turn of an evictor: while few frames are free, pages of the active list age and the first idle page goes. It ends where
     /// enough are free, or no page is idle, and answers how many pages went. The gate is entered with 0 before each.
-    #[tactic(auto, using(locked::proofs::Seats::goes_same, locked::proofs::Seats::goes_on, crate::proofs::Making::room_on))]
+    #[tactic(auto, using(locked::proofs::Seats::goes_same, locked::proofs::Seats::goes_on, crate::proofs::Making::room_on, locked::proofs::Seats::only_same, crate::proofs::Owning::eviction_on, crate::proofs::Letting::none_gone, crate::proofs::Letting::more_gone))]
     pub fn evictor_turn<R: Wait, G: Gate>(
         &self,
         rt: &R,
@@ -30,6 +30,8 @@ impl<B: Naming, D: BlockDevice, T: Trail> SharedCache<B, D, T> {
         requires worker { IsWorkerOf self.now.ring B.name B.table B.sizes worker.old }
         ensures worker { IsWorkerOf self.now.ring B.name B.table B.sizes worker.new }
         ensures goes { Goes (seat_of worker.old) (seat_of worker.new) }
+        ensures only { Only (λ e. IsEviction e.event) (seat_of worker.old) (seat_of worker.new) }
+        ensures gone { IfOk result (λ n. (pages : ℕ) × LetsGo pages (seat_of worker.old) (seat_of worker.new) × (n ≡ min pages u64.MAX)) }
         ensures ring { (popped_by worker.new ≡ popped_by worker.old) × (pushed_by worker.new ≡ pushed_by worker.old) }
         ensures denied { IfErr result (IsDenied IsRoomEvent (seat_of worker.old) (seat_of worker.new)) }
     {
@@ -49,11 +51,12 @@ impl<B: Naming, D: BlockDevice, T: Trail> SharedCache<B, D, T> {
     }
 
     /// Lets pages go while few frames are free, and sleeps where enough are, until it is told to stop.
-    #[tactic(auto, using(locked::proofs::Seats::goes_same, locked::proofs::Seats::goes_on))]
+    #[tactic(auto, using(locked::proofs::Seats::goes_same, locked::proofs::Seats::goes_on, locked::proofs::Seats::only_same, crate::proofs::Owning::eviction_on))]
     pub fn evictor<R: Wait, G: Gate>(&self, rt: &R, gate: &G, worker: &mut Worker)
         requires worker { IsWorkerOf self.now.ring B.name B.table B.sizes worker.old }
         ensures worker { IsWorkerOf self.now.ring B.name B.table B.sizes worker.new }
         ensures goes { Goes (seat_of worker.old) (seat_of worker.new) }
+        ensures only { Only (λ e. IsEviction e.event) (seat_of worker.old) (seat_of worker.new) }
         ensures ring { (popped_by worker.new ≡ popped_by worker.old) × (pushed_by worker.new ≡ pushed_by worker.old) }
     {
         'turns: for _ in rt.forever() {

@@ -5,11 +5,11 @@ ghost use Rattle.errboard.specs.Shown.{PassSeen};
 ghost use Rattle.machine.specs.declared.event.Event.TheVariants as event;
 ghost use Rattle.pc_types.specs.declared.limits.TheConstants.{LAST_PAGE};
 ghost use Rattle.pc_types.specs.declared.refusal.Refusal.TheVariants.{BadHandle, Stranger};
-ghost use Rattle.locked.specs.Called.{Goes};
+ghost use Rattle.locked.specs.Called.{Goes, Only};
 ghost use Rattle.shared.specs.Called.{Makes};
 ghost use Rattle.shared.specs.Denials.{IsDenied};
 ghost use Rattle.shared.specs.Polls.{Polled};
-ghost use Rattle.shared.specs.Synced.{IsDropped, IsFsyncDenied, IsSyncDenied, IsTurnOf, Reports, Syncs, end_reply};
+ghost use Rattle.shared.specs.Synced.{IsDropped, IsFsyncDenied, IsSyncDenied, IsTurnOf, OneSync, Reports, Syncs, end_reply};
 
 use crate::cache::SharedCache;
 use crate::handle::Handle;
@@ -46,6 +46,7 @@ impl<B: Naming, D: BlockDevice, T: Trail> SharedCache<B, D, T> {
         ensures foreign { seat.old.name ≢ self.now.name → (result ≡ Err (record { refusal = Stranger; slip = None })) × (seat.new ≡ seat.old) × (handle.new ≡ handle.old) }
         ensures closed { seat.old.name ≡ self.now.name → handle.old.cache ≢ self.now.name → (result ≡ Err (record { refusal = BadHandle; slip = None })) × (seat.new ≡ seat.old) × (handle.new ≡ handle.old) }
         ensures goes { Goes seat.old seat.new }
+        ensures only { OneSync handle.old.number (record { 0 = 0 }) (record { 0 = LAST_PAGE }) seat.old seat.new }
         ensures same { (handle.new ≡ record handle.old { pass = handle.new.pass }) × (handle.new.pass.board ≡ handle.old.pass.board) }
         ensures clean { IfOk result (λ slip. Syncs handle.old.number (record { 0 = 0 }) (record { 0 = LAST_PAGE }) None seat.old seat.new slip × Polled handle.old.pass handle.new.pass None) }
         ensures denied { seat.old.name ≡ self.now.name → handle.old.cache ≡ self.now.name → IfErr result (IsFsyncDenied handle.old.number (record { 0 = 0 }) (record { 0 = LAST_PAGE }) seat.old seat.new handle.old.pass handle.new.pass) }
@@ -55,7 +56,7 @@ impl<B: Naming, D: BlockDevice, T: Trail> SharedCache<B, D, T> {
 
     /// Writes those of the file's pages from `first` to `last` to the device that are dirty. Refused by `BadRange` where `first` is
     /// past `last`, and by `Io` as `fsync` is: also where the write that failed was of a page outside the range.
-    #[tactic(auto, using(locked::proofs::Seats::goes_same, crate::proofs::Syncing::fsync_clean, crate::proofs::Syncing::fsync_denied, crate::proofs::Syncing::flush_failed, crate::proofs::Syncing::sync_denied))]
+    #[tactic(auto, using(locked::proofs::Seats::goes_same, crate::proofs::Syncing::fsync_clean, crate::proofs::Syncing::fsync_denied, crate::proofs::Syncing::flush_failed, crate::proofs::Syncing::sync_denied, crate::proofs::Owning::sync_same))]
     pub fn fsync_range<R: Wait>(
         &self,
         rt: &R,
@@ -69,6 +70,7 @@ impl<B: Naming, D: BlockDevice, T: Trail> SharedCache<B, D, T> {
         ensures foreign { seat.old.name ≢ self.now.name → (result ≡ Err (record { refusal = Stranger; slip = None })) × (seat.new ≡ seat.old) × (handle.new ≡ handle.old) }
         ensures closed { seat.old.name ≡ self.now.name → handle.old.cache ≢ self.now.name → (result ≡ Err (record { refusal = BadHandle; slip = None })) × (seat.new ≡ seat.old) × (handle.new ≡ handle.old) }
         ensures goes { Goes seat.old seat.new }
+        ensures only { OneSync handle.old.number first last seat.old seat.new }
         ensures same { (handle.new ≡ record handle.old { pass = handle.new.pass }) × (handle.new.pass.board ≡ handle.old.pass.board) }
         ensures clean { IfOk result (λ slip. Syncs handle.old.number first last None seat.old seat.new slip × Polled handle.old.pass handle.new.pass None) }
         ensures denied { seat.old.name ≡ self.now.name → handle.old.cache ≡ self.now.name → IfErr result (IsFsyncDenied handle.old.number first last seat.old seat.new handle.old.pass handle.new.pass) }
@@ -103,7 +105,7 @@ impl<B: Naming, D: BlockDevice, T: Trail> SharedCache<B, D, T> {
     }
 
     /// Syncs these pages of the handle's file. No sync is left.
-    #[tactic(auto, using(locked::proofs::Seats::goes_by, locked::proofs::Seats::goes_on, locked::proofs::Seats::goes_same, crate::proofs::Making::goes_denied, crate::proofs::Syncing::syncs_by, crate::proofs::Syncing::begin_denied, crate::proofs::Syncing::gave_up))]
+    #[tactic(auto, using(locked::proofs::Seats::goes_by, locked::proofs::Seats::goes_on, locked::proofs::Seats::goes_same, crate::proofs::Making::goes_denied, crate::proofs::Syncing::syncs_by, crate::proofs::Syncing::begin_denied, crate::proofs::Syncing::gave_up, crate::proofs::Owning::sync_not_begun, crate::proofs::Owning::sync_over, crate::proofs::Owning::sync_given_up))]
     fn sync_pages<R: Wait>(
         &self,
         rt: &R,
@@ -114,6 +116,7 @@ impl<B: Naming, D: BlockDevice, T: Trail> SharedCache<B, D, T> {
     ) -> Result<Synced, Denied>
         requires { seat.old.table ≡ B.table }
         ensures goes { Goes seat.old seat.new }
+        ensures only { OneSync handle first last seat.old seat.new }
         ensures ended { IfOk result (λ r. Syncs handle first last r.failed seat.old seat.new r.slip) }
         ensures denied { IfErr result (IsSyncDenied handle first last seat.old seat.new) }
     {
@@ -129,10 +132,11 @@ impl<B: Naming, D: BlockDevice, T: Trail> SharedCache<B, D, T> {
     }
 
     /// Makes turns of the sync until one ends it.
-    #[tactic(auto, using(locked::proofs::Seats::goes_by, locked::proofs::Seats::goes_on, locked::proofs::Seats::goes_same, crate::proofs::Making::goes_denied, crate::proofs::Making::makes_on, crate::proofs::Syncing::turn_on))]
+    #[tactic(auto, using(locked::proofs::Seats::goes_by, locked::proofs::Seats::goes_on, locked::proofs::Seats::goes_same, crate::proofs::Making::goes_denied, crate::proofs::Making::makes_on, crate::proofs::Syncing::turn_on, locked::proofs::Seats::only_same, crate::proofs::Owning::only_turn_on))]
     fn sync_turns<R: Wait>(&self, rt: &R, seat: &mut Seat, sync: SyncId) -> Result<Synced, Denied>
         requires { seat.old.table ≡ B.table }
         ensures goes { Goes seat.old seat.new }
+        ensures only { Only (λ e. IsTurnOf sync e.event) seat.old seat.new }
         ensures ended { IfOk result (λ r. Makes seat.old seat.new r.slip (event.SyncStep sync) (end_reply r.failed)) }
         ensures denied { IfErr result (IsDenied (IsTurnOf sync) seat.old seat.new) }
     {
@@ -148,7 +152,7 @@ impl<B: Naming, D: BlockDevice, T: Trail> SharedCache<B, D, T> {
 
     /// Makes a step of the sync. Where that begins a write it is carried out, where a page is being written or too many requests
     /// are in flight the end of one is waited for, and nothing is answered.
-    #[tactic(auto, using(locked::proofs::Seats::goes_by, locked::proofs::Seats::goes_on, locked::proofs::Seats::goes_same, crate::proofs::Making::goes_denied, crate::proofs::Syncing::clean_ended, crate::proofs::Syncing::failed_ended, crate::proofs::Syncing::denied_step, crate::proofs::Syncing::turn_flush))]
+    #[tactic(auto, using(locked::proofs::Seats::goes_by, locked::proofs::Seats::goes_on, locked::proofs::Seats::goes_same, crate::proofs::Making::goes_denied, crate::proofs::Syncing::clean_ended, crate::proofs::Syncing::failed_ended, crate::proofs::Syncing::denied_step, crate::proofs::Syncing::turn_flush, locked::proofs::Seats::only_same, crate::proofs::Owning::only_step, crate::proofs::Owning::only_step_denied, crate::proofs::Owning::only_turned))]
     fn sync_turn<R: Wait>(
         &self,
         rt: &R,
@@ -157,6 +161,7 @@ impl<B: Naming, D: BlockDevice, T: Trail> SharedCache<B, D, T> {
     ) -> Result<Option<Synced>, Denied>
         requires { seat.old.table ≡ B.table }
         ensures goes { Goes seat.old seat.new }
+        ensures only { Only (λ e. IsTurnOf sync e.event) seat.old seat.new }
         ensures ended { IfOk result (λ o. IfSome o (λ r. Makes seat.old seat.new r.slip (event.SyncStep sync) (end_reply r.failed))) }
         ensures denied { IfErr result (IsDenied (IsTurnOf sync) seat.old seat.new) }
     {
@@ -197,10 +202,11 @@ impl<B: Naming, D: BlockDevice, T: Trail> SharedCache<B, D, T> {
 
     /// Drops a sync whose turn was refused, and answers that refusal. The drop has no slip only where the trail is full and the sync in
     /// progress no longer, since room is kept for the drop of each that is: `Stranger` then, as a drop with a slip would have it.
-    #[tactic(auto, using(locked::proofs::Seats::goes_by, locked::proofs::Seats::goes_on, locked::proofs::Seats::goes_same, crate::proofs::Making::goes_denied, crate::proofs::Syncing::dropped_by, crate::proofs::Syncing::dropped_refused))]
+    #[tactic(auto, using(locked::proofs::Seats::goes_by, locked::proofs::Seats::goes_on, locked::proofs::Seats::goes_same, crate::proofs::Making::goes_denied, crate::proofs::Syncing::dropped_by, crate::proofs::Syncing::dropped_refused, crate::proofs::Owning::only_event, crate::proofs::Owning::only_event_denied))]
     fn give_up<R: Wait>(&self, rt: &R, seat: &mut Seat, sync: SyncId, denied: Denied) -> Denied
         requires { seat.old.table ≡ B.table }
         ensures goes { Goes seat.old seat.new }
+        ensures only { Only (λ e. e.event ≡ event.SyncDrop sync) seat.old seat.new }
         ensures dropped { ((result ≡ denied) × IsDropped sync seat.old seat.new) ⊎ (result ≡ record { refusal = Stranger; slip = None }) }
     {
         match self.state.lock(rt).sync_drop(seat, sync) {

@@ -5,10 +5,10 @@ ghost use Rattle.machine.specs.declared.event.Event.TheVariants as event;
 ghost use Rattle.machine.specs.declared.event.Reply.TheVariants as reply;
 ghost use Rattle.pc_types.specs.declared.limits.TheConstants.{MAX_FILE_SIZE};
 ghost use Rattle.pc_types.specs.declared.refusal.Refusal.TheVariants.{BadHandle, Stranger};
-ghost use Rattle.locked.specs.Called.{Goes};
+ghost use Rattle.locked.specs.Called.{Goes, Once, Only};
 ghost use Rattle.shared.specs.Called.{Makes, Retries};
 ghost use Rattle.shared.specs.Denials.{IsDenied};
-ghost use Rattle.shared.specs.Own.{IsCallOf, count_in};
+ghost use Rattle.shared.specs.Own.{IsCallOf, IsTry, count_in};
 
 use crate::cache::SharedCache;
 use crate::handle::Handle;
@@ -35,6 +35,8 @@ impl<B: Naming, D: BlockDevice, T: Trail> SharedCache<B, D, T> {
         ensures foreign { seat.old.name ≢ self.now.name → (result ≡ Err (record { refusal = Stranger; slip = None })) × (seat.new ≡ seat.old) }
         ensures closed { seat.old.name ≡ self.now.name → handle.old.cache ≢ self.now.name → (result ≡ Err (record { refusal = BadHandle; slip = None })) × (seat.new ≡ seat.old) }
         ensures goes { Goes seat.old seat.new }
+        ensures only { IfErr result (λ _. Only (IsTry handle.old.number (event.Read handle.old.number handle.old.cursor (length out.old))) seat.old seat.new) }
+        ensures once { IfOk result (λ _. Once (IsTry handle.old.number (event.Read handle.old.number handle.old.cursor (length out.old))) seat.old seat.new) }
         ensures answer { IfOk result (λ r. Makes seat.old seat.new r.1 (event.Read handle.old.number handle.old.cursor (length out.old)) (reply.Bytes (take r.0 out.new))) }
         ensures denied { seat.old.name ≡ self.now.name → handle.old.cache ≡ self.now.name → IfErr result (IsDenied (IsCallOf handle.old.number (event.Read handle.old.number handle.old.cursor (length out.old))) seat.old seat.new) }
         ensures count { IfOk result (λ r. r.0 ≤ length out.old) }
@@ -52,7 +54,7 @@ impl<B: Naming, D: BlockDevice, T: Trail> SharedCache<B, D, T> {
 
     /// Reads the bytes from `offset` on into the front of `out`, and answers how many: as many as it takes, and none past the end of
     /// the file. A read touches 16 pages at most.
-    #[tactic(auto, using(locked::proofs::Seats::goes_by, locked::proofs::Seats::goes_on, locked::proofs::Seats::goes_same, crate::proofs::Making::goes_denied, crate::proofs::Making::makes_on, crate::proofs::Making::call_on))]
+    #[tactic(auto, using(locked::proofs::Seats::goes_by, locked::proofs::Seats::goes_on, locked::proofs::Seats::goes_same, crate::proofs::Making::goes_denied, crate::proofs::Making::makes_on, crate::proofs::Making::call_on, locked::proofs::Seats::only_same, crate::proofs::Owning::only_try_on, crate::proofs::Owning::once_try_on))]
     pub fn pread<R: Wait>(
         &self,
         rt: &R,
@@ -65,6 +67,8 @@ impl<B: Naming, D: BlockDevice, T: Trail> SharedCache<B, D, T> {
         ensures foreign { seat.old.name ≢ self.now.name → (result ≡ Err (record { refusal = Stranger; slip = None })) × (seat.new ≡ seat.old) }
         ensures closed { seat.old.name ≡ self.now.name → handle.now.cache ≢ self.now.name → (result ≡ Err (record { refusal = BadHandle; slip = None })) × (seat.new ≡ seat.old) }
         ensures goes { Goes seat.old seat.new }
+        ensures only { IfErr result (λ _. Only (IsTry handle.now.number (event.Read handle.now.number offset (length out.old))) seat.old seat.new) }
+        ensures once { IfOk result (λ _. Once (IsTry handle.now.number (event.Read handle.now.number offset (length out.old))) seat.old seat.new) }
         ensures answer { IfOk result (λ r. Makes seat.old seat.new r.1 (event.Read handle.now.number offset (length out.old)) (reply.Bytes (take r.0 out.new))) }
         ensures denied { seat.old.name ≡ self.now.name → handle.now.cache ≡ self.now.name → IfErr result (IsDenied (IsCallOf handle.now.number (event.Read handle.now.number offset (length out.old))) seat.old seat.new) }
         ensures count { IfOk result (λ r. r.0 ≤ length out.old) }
@@ -86,7 +90,7 @@ impl<B: Naming, D: BlockDevice, T: Trail> SharedCache<B, D, T> {
 
     /// One attempt to read. Where a page is missing it is filled, where one is filling the end of a request is waited for, and nothing
     /// is answered.
-    #[tactic(auto, using(locked::proofs::Seats::goes_by, locked::proofs::Seats::goes_on, locked::proofs::Seats::goes_same, crate::proofs::Making::goes_denied, crate::proofs::Making::makes_by, crate::proofs::Making::call_first, crate::proofs::Making::call_help))]
+    #[tactic(auto, using(locked::proofs::Seats::goes_by, locked::proofs::Seats::goes_on, locked::proofs::Seats::goes_same, crate::proofs::Making::goes_denied, crate::proofs::Making::makes_by, crate::proofs::Making::call_first, crate::proofs::Making::call_help, locked::proofs::Seats::once_by, crate::proofs::Owning::only_try_denied))]
     fn try_read<R: Wait>(
         &self,
         rt: &R,
@@ -97,6 +101,9 @@ impl<B: Naming, D: BlockDevice, T: Trail> SharedCache<B, D, T> {
     ) -> Result<Option<(u64, Slip)>, Denied>
         requires { seat.old.table ≡ B.table }
         ensures goes { Goes seat.old seat.new }
+        ensures only { IfErr result (λ _. Only (IsTry handle (event.Read handle offset (length out.old))) seat.old seat.new) }
+        ensures tried { IfOk result (λ o. IfNone o (Only (IsTry handle (event.Read handle offset (length out.old))) seat.old seat.new)) }
+        ensures once { IfOk result (λ o. IfSome o (λ _. Once (IsTry handle (event.Read handle offset (length out.old))) seat.old seat.new)) }
         ensures answer { IfOk result (λ o. IfSome o (λ r. Makes seat.old seat.new r.1 (event.Read handle offset (length out.old)) (reply.Bytes (take r.0 out.new)))) }
         ensures denied { IfErr result (IsDenied (IsCallOf handle (event.Read handle offset (length out.old))) seat.old seat.new) }
         ensures count { IfOk result (λ o. IfSome o (λ r. r.0 ≤ length out.old)) }

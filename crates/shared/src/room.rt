@@ -1,13 +1,14 @@
 //! What a call does on the way: it fills pages that it missed, and makes room.
 
-ghost use Rattle.std.specs.Prelude.{◌≡◌, ◌&&◌, IfErr, IfOk, true};
+ghost use Rattle.std.specs.Prelude.{◌≡◌, ◌&&◌, IfErr, IfOk, if◌then◌else◌, true};
 ghost use Rattle.blockdev.specs.Jobs.{IsJobFor};
-ghost use Rattle.locked.specs.Called.{Goes};
+ghost use Rattle.locked.specs.Called.{Goes, Only};
 ghost use Rattle.locked.specs.Flights.{is_busy};
 ghost use Rattle.shared.specs.Called.{is_for_now};
 ghost use Rattle.shared.specs.Denials.{IsDenied};
-ghost use Rattle.shared.specs.Own.{IsHelp, IsRoomEvent};
+ghost use Rattle.shared.specs.Own.{IsEviction, IsHelp, IsRoomEvent};
 ghost use Rattle.shared.specs.Synced.{IsFlushEnd};
+ghost use Rattle.shared.specs.Workers.{LetsGo};
 
 use crate::cache::SharedCache;
 use blockdev::{BlockDevice, Buffer, Job};
@@ -33,7 +34,7 @@ pub(crate) struct Span {
 impl<B: Naming, D: BlockDevice, T: Trail> SharedCache<B, D, T> {
     /// Fills a page that a call on this span of bytes lacks. First room is made for all pages that it lacks: made for this one alone
     /// it could cost the call another of its pages.
-    #[tactic(auto, using(locked::proofs::Seats::goes_by, locked::proofs::Seats::goes_on, locked::proofs::Seats::goes_same, crate::proofs::Making::goes_denied, crate::proofs::Making::help_room, crate::proofs::Making::help_on))]
+    #[tactic(auto, using(locked::proofs::Seats::goes_by, locked::proofs::Seats::goes_on, locked::proofs::Seats::goes_same, crate::proofs::Making::goes_denied, crate::proofs::Making::help_room, crate::proofs::Making::help_on, crate::proofs::Owning::only_room, crate::proofs::Owning::only_filled))]
     pub(crate) fn fill<R: Wait>(
         &self,
         rt: &R,
@@ -43,6 +44,7 @@ impl<B: Naming, D: BlockDevice, T: Trail> SharedCache<B, D, T> {
     ) -> Result<(), Denied>
         requires { seat.old.table ≡ B.table }
         ensures goes { Goes seat.old seat.new }
+        ensures only { Only (λ e. IsHelp span.handle e.event) seat.old seat.new }
         ensures denied { IfErr result (IsDenied (IsHelp span.handle) seat.old seat.new) }
     {
         let is_room = match self.make_way(rt, seat, span) {
@@ -61,7 +63,7 @@ impl<B: Naming, D: BlockDevice, T: Trail> SharedCache<B, D, T> {
     }
 
     /// Fills a page. Where it is refused while a request is in flight the end of one is waited for.
-    #[tactic(auto, using(locked::proofs::Seats::goes_by, locked::proofs::Seats::goes_on, locked::proofs::Seats::goes_same, crate::proofs::Making::goes_denied, crate::proofs::Making::denied_begin, crate::proofs::Making::help_on))]
+    #[tactic(auto, using(locked::proofs::Seats::goes_by, locked::proofs::Seats::goes_on, locked::proofs::Seats::goes_same, crate::proofs::Making::goes_denied, crate::proofs::Making::denied_begin, crate::proofs::Making::help_on, locked::proofs::Seats::only_same, crate::proofs::Owning::only_fill_begin, crate::proofs::Owning::only_fill_begin_denied, crate::proofs::Owning::only_begun_on))]
     fn fill_once<R: Wait>(
         &self,
         rt: &R,
@@ -71,6 +73,7 @@ impl<B: Naming, D: BlockDevice, T: Trail> SharedCache<B, D, T> {
     ) -> Result<(), Denied>
         requires { seat.old.table ≡ B.table }
         ensures goes { Goes seat.old seat.new }
+        ensures only { Only (λ e. IsHelp handle e.event) seat.old seat.new }
         ensures denied { IfErr result (IsDenied (IsHelp handle) seat.old seat.new) }
     {
         let buffer = match Buffer::new(self.alloc, &self.geometry) {
@@ -90,7 +93,7 @@ impl<B: Naming, D: BlockDevice, T: Trail> SharedCache<B, D, T> {
     }
 
     /// Makes the device call of a fill, without the state's lock, and ends the fill.
-    #[tactic(auto, using(locked::proofs::Seats::goes_by, locked::proofs::Seats::goes_on, locked::proofs::Seats::goes_same, crate::proofs::Making::goes_denied, crate::proofs::Making::denied_end, crate::proofs::Making::failed_end))]
+    #[tactic(auto, using(locked::proofs::Seats::goes_by, locked::proofs::Seats::goes_on, locked::proofs::Seats::goes_same, crate::proofs::Making::goes_denied, crate::proofs::Making::denied_end, crate::proofs::Making::failed_end, crate::proofs::Owning::only_fill_end, crate::proofs::Owning::only_fill_end_denied))]
     fn fill_by<R: Wait>(
         &self,
         rt: &R,
@@ -101,6 +104,7 @@ impl<B: Naming, D: BlockDevice, T: Trail> SharedCache<B, D, T> {
         requires seat { seat.old.table ≡ B.table }
         requires fits { IsJobFor B.name B.sizes.blocks B.sizes.page job }
         ensures goes { Goes seat.old seat.new }
+        ensures only { Only (λ e. IsHelp handle e.event) seat.old seat.new }
         ensures denied { IfErr result (IsDenied (IsHelp handle) seat.old seat.new) }
     {
         let finished = self.disk.lock(rt).carry_out(job);
@@ -118,7 +122,7 @@ impl<B: Naming, D: BlockDevice, T: Trail> SharedCache<B, D, T> {
 
     /// Makes room for a call: until as many frames are free as it lacks pages, and no more pages would be dirty than may be. Answers
     /// whether there was such a moment; else no room can be made.
-    #[tactic(auto, using(locked::proofs::Seats::goes_by, locked::proofs::Seats::goes_on, locked::proofs::Seats::goes_same, crate::proofs::Making::goes_denied, crate::proofs::Making::room_on))]
+    #[tactic(auto, using(locked::proofs::Seats::goes_by, locked::proofs::Seats::goes_on, locked::proofs::Seats::goes_same, crate::proofs::Making::goes_denied, crate::proofs::Making::room_on, locked::proofs::Seats::only_same, crate::proofs::Owning::only_room_on))]
     pub(crate) fn make_way<R: Wait>(
         &self,
         rt: &R,
@@ -127,6 +131,7 @@ impl<B: Naming, D: BlockDevice, T: Trail> SharedCache<B, D, T> {
     ) -> Result<bool, Denied>
         requires { seat.old.table ≡ B.table }
         ensures goes { Goes seat.old seat.new }
+        ensures only { Only (λ e. IsRoomEvent e.event) seat.old seat.new }
         ensures denied { IfErr result (IsDenied IsRoomEvent seat.old seat.new) }
     {
         'turns: for _ in rt.forever() {
@@ -146,10 +151,11 @@ impl<B: Naming, D: BlockDevice, T: Trail> SharedCache<B, D, T> {
     /// page is idle or to be written and no request is in flight, nor where the write failed.
     ///
     /// All of that is asked in one hold. Between two the end of a write could make a page idle that neither would see.
-    #[tactic(auto, using(locked::proofs::Seats::goes_by, locked::proofs::Seats::goes_on, locked::proofs::Seats::goes_same, crate::proofs::Making::goes_denied, crate::proofs::Making::denied_first, crate::proofs::Making::room_on))]
+    #[tactic(auto, using(locked::proofs::Seats::goes_by, locked::proofs::Seats::goes_on, locked::proofs::Seats::goes_same, crate::proofs::Making::goes_denied, crate::proofs::Making::denied_first, crate::proofs::Making::room_on, locked::proofs::Seats::only_same, crate::proofs::Owning::only_evicted, crate::proofs::Owning::only_evicted_on))]
     fn make_room<R: Wait>(&self, rt: &R, seat: &mut Seat, want: Want) -> Result<bool, Denied>
         requires { seat.old.table ≡ B.table }
         ensures goes { Goes seat.old seat.new }
+        ensures only { Only (λ e. IsRoomEvent e.event) seat.old seat.new }
         ensures denied { IfErr result (IsDenied IsRoomEvent seat.old seat.new) }
     {
         let mut guard = self.state.lock(rt);
@@ -165,7 +171,7 @@ impl<B: Naming, D: BlockDevice, T: Trail> SharedCache<B, D, T> {
 
     /// Writes a page back, of the first file that has one to write; or waits for the end of a request, where there is none to write or
     /// too many are in flight. Answers whether that was done.
-    #[tactic(auto, using(locked::proofs::Seats::goes_by, locked::proofs::Seats::goes_on, locked::proofs::Seats::goes_same, crate::proofs::Making::goes_denied, crate::proofs::Making::denied_first, crate::proofs::Making::room_on))]
+    #[tactic(auto, using(locked::proofs::Seats::goes_by, locked::proofs::Seats::goes_on, locked::proofs::Seats::goes_same, crate::proofs::Making::goes_denied, crate::proofs::Making::denied_first, crate::proofs::Making::room_on, locked::proofs::Seats::only_same, crate::proofs::Owning::only_first_denied, crate::proofs::Owning::only_written))]
     fn flush_one<R: Wait>(
         &self,
         rt: &R,
@@ -174,6 +180,7 @@ impl<B: Naming, D: BlockDevice, T: Trail> SharedCache<B, D, T> {
     ) -> Result<bool, Denied>
         requires { seat.old.table ≡ B.table }
         ensures goes { Goes seat.old seat.new }
+        ensures only { Only (λ e. IsRoomEvent e.event) seat.old seat.new }
         ensures denied { IfErr result (IsDenied IsRoomEvent seat.old seat.new) }
     {
         let buffer = match Buffer::new(self.alloc, &self.geometry) {
@@ -206,6 +213,8 @@ impl<B: Naming, D: BlockDevice, T: Trail> SharedCache<B, D, T> {
     pub(crate) fn evict_one<R: Wait>(&self, rt: &R, seat: &mut Seat) -> Result<bool, Denied>
         requires { seat.old.table ≡ B.table }
         ensures goes { Goes seat.old seat.new }
+        ensures only { Only (λ e. IsEviction e.event) seat.old seat.new }
+        ensures gone { IfOk result (λ went. LetsGo (if went then 1 else 0) seat.old seat.new) }
         ensures denied { IfErr result (IsDenied IsRoomEvent seat.old seat.new) }
     {
         evict_idle(&mut self.state.lock(rt), seat)
@@ -229,7 +238,7 @@ impl<B: Naming, D: BlockDevice, T: Trail> SharedCache<B, D, T> {
     }
 
     /// Makes the device call of a flush, without the state's lock, and ends the flush. Answers whether the page was written.
-    #[tactic(auto, using(locked::proofs::Seats::goes_by, locked::proofs::Seats::goes_on, locked::proofs::Seats::goes_same, crate::proofs::Making::goes_denied, crate::proofs::Making::denied_flush, crate::proofs::Syncing::flush_denied))]
+    #[tactic(auto, using(locked::proofs::Seats::goes_by, locked::proofs::Seats::goes_on, locked::proofs::Seats::goes_same, crate::proofs::Making::goes_denied, crate::proofs::Making::denied_flush, crate::proofs::Syncing::flush_denied, crate::proofs::Owning::only_flush_end, crate::proofs::Owning::only_flush_end_denied))]
     pub(crate) fn flush_by<R: Wait>(
         &self,
         rt: &R,
@@ -239,6 +248,7 @@ impl<B: Naming, D: BlockDevice, T: Trail> SharedCache<B, D, T> {
         requires seat { seat.old.table ≡ B.table }
         requires fits { IsJobFor B.name B.sizes.blocks B.sizes.page job }
         ensures goes { Goes seat.old seat.new }
+        ensures only { Only (λ e. IsFlushEnd e.event) seat.old seat.new }
         ensures denied { IfErr result (IsDenied IsRoomEvent seat.old seat.new) }
         ensures ended { IfErr result (IsDenied IsFlushEnd seat.old seat.new) }
     {
@@ -253,13 +263,15 @@ impl<B: Naming, D: BlockDevice, T: Trail> SharedCache<B, D, T> {
 }
 
 /// Lets pages age, and then an idle one go. Answers whether there was one.
-#[tactic(auto, using(locked::proofs::Seats::goes_by, locked::proofs::Seats::goes_on, locked::proofs::Seats::goes_same, crate::proofs::Making::goes_denied, crate::proofs::Making::denied_age, crate::proofs::Making::denied_evict))]
+#[tactic(auto, using(locked::proofs::Seats::goes_by, locked::proofs::Seats::goes_on, locked::proofs::Seats::goes_same, crate::proofs::Making::goes_denied, crate::proofs::Making::denied_age, crate::proofs::Making::denied_evict, crate::proofs::Owning::only_age_denied, crate::proofs::Owning::only_evicts, crate::proofs::Owning::only_evict_denied, crate::proofs::Letting::evicted_gone))]
 fn evict_idle<B: Naming, T: Trail>(
     state: &mut Locked<B, T>,
     seat: &mut Seat,
 ) -> Result<bool, Denied>
     requires { seat.old.table ≡ B.table }
     ensures goes { Goes seat.old seat.new }
+    ensures only { Only (λ e. IsEviction e.event) seat.old seat.new }
+    ensures gone { IfOk result (λ went. LetsGo (if went then 1 else 0) seat.old seat.new) }
     ensures denied { IfErr result (IsDenied IsRoomEvent seat.old seat.new) }
 {
     if let Err(denied) = state.age(seat) {

@@ -1,8 +1,9 @@
 //! Where a cursor is put.
 
 ghost use Rattle.std.specs.Prelude.{◌≡◌, ◌≢◌, Err, None};
+ghost use Rattle.machine.specs.declared.event.Event.TheVariants as event;
 ghost use Rattle.pc_types.specs.declared.refusal.Refusal.TheVariants.{BadHandle, Stranger};
-ghost use Rattle.locked.specs.Called.{Goes};
+ghost use Rattle.locked.specs.Called.{Goes, Only};
 ghost use Rattle.filesvc.specs.Service.{placed, target};
 ghost use Rattle.shared.specs.Seeks.{Seeks, place_after, with_slip};
 
@@ -19,7 +20,7 @@ use trail::Trail;
 impl<B: Naming, D: BlockDevice, T: Trail> SharedCache<B, D, T> {
     /// Puts the cursor, and answers where it is now. Refused by `TooLarge` below 0 and past the greatest size of a file. Only a place
     /// that is counted from the end of the file makes an event, which asks for the file's size.
-    #[tactic(auto, using(locked::proofs::Seats::goes_by, locked::proofs::Seats::goes_same, crate::proofs::Making::goes_denied, crate::proofs::Making::makes_by, crate::proofs::Making::denied_event, crate::proofs::Making::full_by))]
+    #[tactic(auto, using(locked::proofs::Seats::goes_by, locked::proofs::Seats::goes_same, crate::proofs::Making::goes_denied, crate::proofs::Making::makes_by, crate::proofs::Making::denied_event, crate::proofs::Making::full_by, locked::proofs::Seats::only_same, crate::proofs::Owning::only_event, crate::proofs::Owning::only_event_denied))]
     pub fn seek<R: Wait>(
         &self,
         rt: &R,
@@ -31,6 +32,7 @@ impl<B: Naming, D: BlockDevice, T: Trail> SharedCache<B, D, T> {
         ensures foreign { seat.old.name ≢ self.now.name → (result ≡ Err (record { refusal = Stranger; slip = None })) × (seat.new ≡ seat.old) }
         ensures closed { seat.old.name ≡ self.now.name → handle.old.cache ≢ self.now.name → (result ≡ Err (record { refusal = BadHandle; slip = None })) × (seat.new ≡ seat.old) }
         ensures goes { Goes seat.old seat.new }
+        ensures only { Only (λ e. e.event ≡ event.Size handle.old.number) seat.old seat.new }
         ensures sought { seat.old.name ≡ self.now.name → handle.old.cache ≡ self.now.name → Seeks place handle.old seat.old seat.new result }
         ensures cursor { handle.new ≡ record handle.old { cursor = place_after handle.old.cursor result } }
     {

@@ -1,10 +1,10 @@
 //! The turns of workers.
 
-ghost use Rattle.std.specs.Prelude.{◌≡◌, ◌++◌, ◌∷◌, [], IfErr, IfNone, IfOk, IfSome, is_some};
+ghost use Rattle.std.specs.Prelude.{◌≡◌, ◌+◌, ◌++◌, ◌∷◌, [], IfErr, IfNone, IfOk, IfSome, Some, is_some};
 ghost use Rattle.blockdev.specs.Jobs.{IsJobFor, Task};
-ghost use Rattle.locked.specs.Called.{Goes};
-ghost use Rattle.shared.specs.Denials.{IsDenied, IsFullIfNoSlip};
-ghost use Rattle.shared.specs.Workers.{Begins, Ends, IsEndOf, FailsOwn, IsFlushed, IsOwnFailure, IsWorkerOf, IsWriteBack, popped_by, pushed_by, seat_of};
+ghost use Rattle.locked.specs.Called.{Goes, Only};
+ghost use Rattle.shared.specs.Denials.{IsDenied, IsFullIfNoSlip, MadeOne};
+ghost use Rattle.shared.specs.Workers.{Begins, Ends, FailsOwn, IsEnd, IsEndOf, IsFlushed, IsOwnFailure, IsWorkerOf, IsWriteBack, entered_in, popped_by, pushed_by, seat_of};
 
 use crate::cache::SharedCache;
 use crate::ends::{Done, carry_through};
@@ -31,7 +31,7 @@ pub enum Flushed {
 impl<B: Naming, D: BlockDevice, T: Trail> SharedCache<B, D, T> {
     /// One turn of an I/O worker: it takes a job from the ring, makes its device call, and ends its request. Answers nothing where the
     /// ring was empty. The gate is entered with the job's serial, before the device call.
-    #[tactic(auto, using(locked::proofs::Seats::goes_same))]
+    #[tactic(auto, using(locked::proofs::Seats::goes_same, locked::proofs::Seats::only_same, crate::proofs::Owning::only_job))]
     pub fn io_turn<R: Wait, G: Gate>(
         &self,
         rt: &R,
@@ -41,9 +41,11 @@ impl<B: Naming, D: BlockDevice, T: Trail> SharedCache<B, D, T> {
         requires worker { IsWorkerOf self.now.ring B.name B.table B.sizes worker.old }
         ensures worker { IsWorkerOf self.now.ring B.name B.table B.sizes worker.new }
         ensures goes { Goes (seat_of worker.old) (seat_of worker.new) }
+        ensures only { Only (λ e. IsEnd e.event) (seat_of worker.old) (seat_of worker.new) }
         ensures pushed { pushed_by worker.new ≡ pushed_by worker.old }
         ensures idle { IfOk result (λ o. IfNone o ((seat_of worker.new ≡ seat_of worker.old) × (popped_by worker.new ≡ popped_by worker.old))) }
         ensures ended { IfOk result (λ o. IfSome o (λ d. (job : Task) × (popped_by worker.new ≡ popped_by worker.old ++ job ∷ []) × (d.serial.0 ≡ job.serial) × Ends job (seat_of worker.old) (seat_of worker.new) d.slip (is_some d.failed) × IfSome d.failed (IsOwnFailure self.now.name B.board))) }
+        ensures one { IfOk result (λ o. IfSome o (λ d. MadeOne (Some d.slip) (seat_of worker.old) (seat_of worker.new))) }
         ensures denied { IfErr result (λ d. (job : Task) × (popped_by worker.new ≡ popped_by worker.old ++ job ∷ []) × IsDenied (IsEndOf job) (seat_of worker.old) (seat_of worker.new) d × IsFullIfNoSlip (seat_of worker.old) (seat_of worker.new) d) }
         ensures passed { IfOk result (λ o. IfSome o (λ d. G.passed gate.now d.serial.0)) }
     {
@@ -59,7 +61,7 @@ impl<B: Naming, D: BlockDevice, T: Trail> SharedCache<B, D, T> {
 
     /// One turn of a flusher: it begins to write the lowest page of the first file that has one to write, and puts the job into the
     /// ring. Where the ring is full it makes the device call itself, for which the gate is entered with the job's serial.
-    #[tactic(auto, using(locked::proofs::Seats::goes_same, locked::proofs::Seats::goes_on, crate::proofs::Ending::begins_then, crate::proofs::Ending::ends_on, crate::proofs::Ending::write_back_end))]
+    #[tactic(auto, using(locked::proofs::Seats::goes_same, locked::proofs::Seats::goes_on, crate::proofs::Ending::begins_then, crate::proofs::Ending::ends_on, crate::proofs::Ending::write_back_end, locked::proofs::Seats::only_same, crate::proofs::Owning::only_flushed))]
     pub fn flusher_turn<R: Wait, G: Gate>(
         &self,
         rt: &R,
@@ -69,8 +71,10 @@ impl<B: Naming, D: BlockDevice, T: Trail> SharedCache<B, D, T> {
         requires worker { IsWorkerOf self.now.ring B.name B.table B.sizes worker.old }
         ensures worker { IsWorkerOf self.now.ring B.name B.table B.sizes worker.new }
         ensures goes { Goes (seat_of worker.old) (seat_of worker.new) }
+        ensures only { Only (λ e. IsWriteBack e.event) (seat_of worker.old) (seat_of worker.new) }
         ensures popped { popped_by worker.new ≡ popped_by worker.old }
         ensures done { IfOk result (IsFlushed worker.old worker.new) }
+        ensures count { IfOk result (λ f. (seat_of worker.new).count ≡ (seat_of worker.old).count + entered_in f) }
         ensures failed { IfOk result (λ f. FailsOwn self.now.name B.board f) }
         ensures denied { IfErr result (λ d. (pushed_by worker.new ≡ pushed_by worker.old) × IsDenied IsWriteBack (seat_of worker.old) (seat_of worker.new) d) }
     {
@@ -92,10 +96,13 @@ impl<B: Naming, D: BlockDevice, T: Trail> SharedCache<B, D, T> {
     }
 
     /// Begins to write a page, of the first file that has one to write.
-    #[tactic(auto, using(locked::proofs::Seats::goes_same, crate::proofs::Ending::begins_first, crate::proofs::Ending::denied_begun))]
+    #[tactic(auto, using(locked::proofs::Seats::goes_same, crate::proofs::Ending::begins_first, crate::proofs::Ending::denied_begun, locked::proofs::Seats::only_same, crate::proofs::Ending::begun_one, crate::proofs::Owning::only_begun, crate::proofs::Owning::only_begun_denied))]
     fn begin_flush<R: Wait>(&self, rt: &R, seat: &mut Seat) -> Result<Option<(Job, Slip)>, Denied>
         requires { seat.old.table ≡ B.table }
         ensures goes { Goes seat.old seat.new }
+        ensures only { Only (λ e. IsWriteBack e.event) seat.old seat.new }
+        ensures idle { IfOk result (λ o. IfNone o (seat.new ≡ seat.old)) }
+        ensures one { IfOk result (λ o. IfSome o (λ r. MadeOne (Some r.1) seat.old seat.new)) }
         ensures begun { IfOk result (λ o. IfSome o (λ r. Begins r.0.serial seat.old seat.new r.1)) }
         ensures fits { IfOk result (λ o. IfSome o (λ r. IsJobFor B.name B.sizes.blocks B.sizes.page r.0)) }
         ensures denied { IfErr result (IsDenied IsWriteBack seat.old seat.new) }
@@ -112,7 +119,9 @@ impl<B: Naming, D: BlockDevice, T: Trail> SharedCache<B, D, T> {
         requires seat { seat.old.table ≡ B.table }
         requires fits { IsJobFor B.name B.sizes.blocks B.sizes.page job }
         ensures goes { Goes seat.old seat.new }
+        ensures only { Only (λ e. IsEndOf job e.event) seat.old seat.new }
         ensures ended { IfOk result (λ d. (d.serial.0 ≡ job.serial) × Ends job seat.old seat.new d.slip (is_some d.failed)) }
+        ensures one { IfOk result (λ d. MadeOne (Some d.slip) seat.old seat.new) }
         ensures failed { IfOk result (λ d. IfSome d.failed (IsOwnFailure self.now.name B.board)) }
         ensures denied { IfErr result (IsDenied (IsEndOf job) seat.old seat.new) }
         ensures full { IfErr result (IsFullIfNoSlip seat.old seat.new) }

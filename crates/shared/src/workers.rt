@@ -1,8 +1,8 @@
 //! Workers' loops: they go on until the cache tells them to stop.
 
 ghost use Rattle.std.specs.Prelude.{◌≡◌, IfErr, OnOk};
-ghost use Rattle.locked.specs.Called.{Goes};
-ghost use Rattle.shared.specs.Workers.{AllEnded, IsRefusedEnd, IsWorkerOf, popped_by, pushed_by, seat_of};
+ghost use Rattle.locked.specs.Called.{Goes, Only};
+ghost use Rattle.shared.specs.Workers.{AllEnded, IsEnd, IsRefusedEnd, IsWorkerOf, IsWriteBack, popped_by, pushed_by, seat_of};
 
 use crate::cache::SharedCache;
 use crate::turns::Flushed;
@@ -20,11 +20,12 @@ impl<B: Naming, D: BlockDevice, T: Trail> SharedCache<B, D, T> {
     }
 
     /// Writes pages back while there are any to write, and sleeps where there are none, until it is told to stop.
-    #[tactic(auto, using(locked::proofs::Seats::goes_same, locked::proofs::Seats::goes_on))]
+    #[tactic(auto, using(locked::proofs::Seats::goes_same, locked::proofs::Seats::goes_on, locked::proofs::Seats::only_same, crate::proofs::Owning::only_write_back_on))]
     pub fn flusher<R: Wait, G: Gate>(&self, rt: &R, gate: &G, worker: &mut Worker)
         requires worker { IsWorkerOf self.now.ring B.name B.table B.sizes worker.old }
         ensures worker { IsWorkerOf self.now.ring B.name B.table B.sizes worker.new }
         ensures goes { Goes (seat_of worker.old) (seat_of worker.new) }
+        ensures only { Only (λ e. IsWriteBack e.event) (seat_of worker.old) (seat_of worker.new) }
         ensures popped { popped_by worker.new ≡ popped_by worker.old }
     {
         'turns: for _ in rt.forever() {
@@ -42,7 +43,7 @@ impl<B: Naming, D: BlockDevice, T: Trail> SharedCache<B, D, T> {
 
     /// Carries out the jobs of the ring, and sleeps where there are none. Told to stop, it goes on till the ring is empty. It stops
     /// too where an end is refused, which no job gets whose request is in flight.
-    #[tactic(auto, using(locked::proofs::Seats::goes_same, locked::proofs::Seats::goes_on, crate::proofs::Ending::none_ended))]
+    #[tactic(auto, using(locked::proofs::Seats::goes_same, locked::proofs::Seats::goes_on, crate::proofs::Ending::none_ended, locked::proofs::Seats::only_same, crate::proofs::Owning::only_ends_on))]
     pub fn io_worker<R: Wait, G: Gate>(
         &self,
         rt: &R,
@@ -52,6 +53,7 @@ impl<B: Naming, D: BlockDevice, T: Trail> SharedCache<B, D, T> {
         requires worker { IsWorkerOf self.now.ring B.name B.table B.sizes worker.old }
         ensures worker { IsWorkerOf self.now.ring B.name B.table B.sizes worker.new }
         ensures goes { Goes (seat_of worker.old) (seat_of worker.new) }
+        ensures only { Only (λ e. IsEnd e.event) (seat_of worker.old) (seat_of worker.new) }
         ensures pushed { pushed_by worker.new ≡ pushed_by worker.old }
         ensures ended { OnOk result (AllEnded worker.old worker.new) }
         ensures refused { IfErr result (IsRefusedEnd worker.old worker.new) }

@@ -6,12 +6,12 @@ ghost use Rattle.held.specs.Entered.{Made};
 ghost use Rattle.machine.specs.declared.event.Event.TheVariants as event;
 ghost use Rattle.machine.specs.declared.event.Reply.TheVariants as reply;
 ghost use Rattle.pc_types.specs.declared.refusal.Refusal.TheVariants.{BadHandle, Stranger};
-ghost use Rattle.locked.specs.Called.{Goes};
+ghost use Rattle.locked.specs.Called.{Goes, Once, Only};
 ghost use Rattle.locked.specs.Denials as under;
 ghost use Rattle.shared.specs.Called.{Makes, Retries, is_for_now};
 ghost use Rattle.shared.specs.Changes.{IsWhole, IsWholeIn, cursor_after, event_of, over, reply_of, write_event};
 ghost use Rattle.shared.specs.Denials.{IsDenied};
-ghost use Rattle.shared.specs.Own.{IsCallOf, IsStillDenied};
+ghost use Rattle.shared.specs.Own.{IsCallOf, IsRoomEvent, IsStillDenied, IsTry};
 ghost use Rattle.shared.specs.declared.writes.Change.TheVariants as change;
 
 use crate::cache::SharedCache;
@@ -47,6 +47,7 @@ pub(crate) enum Change {
 impl<B: Naming, D: BlockDevice, T: Trail> SharedCache<B, D, T> {
     /// Writes the bytes into the file from `offset` on, all of them, also by an appending handle. A gap before them reads as zeros. A
     /// write touches 16 pages at most.
+    #[tactic(auto, using(locked::proofs::Seats::only_same))]
     pub fn pwrite<R: Wait>(
         &self,
         rt: &R,
@@ -59,6 +60,8 @@ impl<B: Naming, D: BlockDevice, T: Trail> SharedCache<B, D, T> {
         ensures foreign { seat.old.name ≢ self.now.name → (result ≡ Err (record { refusal = Stranger; slip = None })) × (seat.new ≡ seat.old) }
         ensures closed { seat.old.name ≡ self.now.name → handle.now.cache ≢ self.now.name → (result ≡ Err (record { refusal = BadHandle; slip = None })) × (seat.new ≡ seat.old) }
         ensures goes { Goes seat.old seat.new }
+        ensures only { IfErr result (λ _. Only (IsTry handle.now.number (event.Write handle.now.number offset bytes.now)) seat.old seat.new) }
+        ensures once { IfOk result (λ _. Once (IsTry handle.now.number (event.Write handle.now.number offset bytes.now)) seat.old seat.new) }
         ensures answer { IfOk result (λ r. Makes seat.old seat.new r.1 (event.Write handle.now.number offset bytes.now) (reply.Wrote r.0.count r.0.end)) }
         ensures denied { seat.old.name ≡ self.now.name → handle.now.cache ≡ self.now.name → IfErr result (IsDenied (IsCallOf handle.now.number (event.Write handle.now.number offset bytes.now)) seat.old seat.new) }
         ensures count { IfOk result (λ r. (r.0.count ≡ length bytes.now) × (r.0.end ≡ offset + length bytes.now)) }
@@ -70,6 +73,7 @@ impl<B: Naming, D: BlockDevice, T: Trail> SharedCache<B, D, T> {
     }
 
     /// Writes at the cursor, or with an appending handle at the end of the file, all of the bytes, and puts the cursor behind them.
+    #[tactic(auto, using(locked::proofs::Seats::only_same))]
     pub fn write<R: Wait>(
         &self,
         rt: &R,
@@ -81,6 +85,8 @@ impl<B: Naming, D: BlockDevice, T: Trail> SharedCache<B, D, T> {
         ensures foreign { seat.old.name ≢ self.now.name → (result ≡ Err (record { refusal = Stranger; slip = None })) × (seat.new ≡ seat.old) }
         ensures closed { seat.old.name ≡ self.now.name → handle.old.cache ≢ self.now.name → (result ≡ Err (record { refusal = BadHandle; slip = None })) × (seat.new ≡ seat.old) }
         ensures goes { Goes seat.old seat.new }
+        ensures only { IfErr result (λ _. Only (IsTry handle.old.number (write_event handle.old bytes.now)) seat.old seat.new) }
+        ensures once { IfOk result (λ _. Once (IsTry handle.old.number (write_event handle.old bytes.now)) seat.old seat.new) }
         ensures answer { IfOk result (λ r. Makes seat.old seat.new r.1 (write_event handle.old bytes.now) (reply.Wrote r.0.count r.0.end)) }
         ensures denied { seat.old.name ≡ self.now.name → handle.old.cache ≡ self.now.name → IfErr result (IsDenied (IsCallOf handle.old.number (write_event handle.old bytes.now)) seat.old seat.new) }
         ensures count { IfOk result (λ r. r.0.count ≡ length bytes.now) }
@@ -104,6 +110,7 @@ impl<B: Naming, D: BlockDevice, T: Trail> SharedCache<B, D, T> {
     }
 
     /// Makes the file as long as this, in bytes. A longer one gains zeros. The cursor stays.
+    #[tactic(auto, using(locked::proofs::Seats::only_same))]
     pub fn truncate<R: Wait>(
         &self,
         rt: &R,
@@ -115,6 +122,8 @@ impl<B: Naming, D: BlockDevice, T: Trail> SharedCache<B, D, T> {
         ensures foreign { seat.old.name ≢ self.now.name → (result ≡ Err (record { refusal = Stranger; slip = None })) × (seat.new ≡ seat.old) }
         ensures closed { seat.old.name ≡ self.now.name → handle.now.cache ≢ self.now.name → (result ≡ Err (record { refusal = BadHandle; slip = None })) × (seat.new ≡ seat.old) }
         ensures goes { Goes seat.old seat.new }
+        ensures only { IfErr result (λ _. Only (IsTry handle.now.number (event.Truncate handle.now.number size)) seat.old seat.new) }
+        ensures once { IfOk result (λ _. Once (IsTry handle.now.number (event.Truncate handle.now.number size)) seat.old seat.new) }
         ensures answer { IfOk result (λ slip. Makes seat.old seat.new slip (event.Truncate handle.now.number size) reply.Done) }
         ensures denied { seat.old.name ≡ self.now.name → handle.now.cache ≡ self.now.name → IfErr result (IsDenied (IsCallOf handle.now.number (event.Truncate handle.now.number size)) seat.old seat.new) }
     {
@@ -128,7 +137,7 @@ impl<B: Naming, D: BlockDevice, T: Trail> SharedCache<B, D, T> {
     }
 
     /// Changes the handle's file, in as many attempts as it takes.
-    #[tactic(auto, using(locked::proofs::Seats::goes_on, locked::proofs::Seats::goes_same, crate::proofs::Making::makes_on, crate::proofs::Making::call_on))]
+    #[tactic(auto, using(locked::proofs::Seats::goes_on, locked::proofs::Seats::goes_same, crate::proofs::Making::makes_on, crate::proofs::Making::call_on, locked::proofs::Seats::only_same, crate::proofs::Owning::only_try_on, crate::proofs::Owning::once_try_on))]
     fn change<R: Wait>(
         &self,
         rt: &R,
@@ -139,6 +148,8 @@ impl<B: Naming, D: BlockDevice, T: Trail> SharedCache<B, D, T> {
     ) -> Result<(Wrote, Slip), Denied>
         requires { seat.old.table ≡ B.table }
         ensures goes { Goes seat.old seat.new }
+        ensures only { IfErr result (λ _. Only (IsTry handle (event_of change handle bytes.now)) seat.old seat.new) }
+        ensures once { IfOk result (λ _. Once (IsTry handle (event_of change handle bytes.now)) seat.old seat.new) }
         ensures answer { IfOk result (λ r. Makes seat.old seat.new r.1 (event_of change handle bytes.now) (over change r.0)) }
         ensures denied { IfErr result (IsDenied (IsCallOf handle (event_of change handle bytes.now)) seat.old seat.new) }
         ensures whole { IfOk result (λ r. IsWhole change bytes.now r.0) }
@@ -158,7 +169,7 @@ impl<B: Naming, D: BlockDevice, T: Trail> SharedCache<B, D, T> {
 
     /// One attempt to change the file. Where a page is missing it is filled, where there is no room it is made, and nothing is
     /// answered.
-    #[tactic(auto, using(locked::proofs::Seats::goes_by, locked::proofs::Seats::goes_on, locked::proofs::Seats::goes_same, crate::proofs::Making::goes_denied, crate::proofs::Making::makes_by, crate::proofs::Making::call_help, crate::proofs::Making::call_settled))]
+    #[tactic(auto, using(locked::proofs::Seats::goes_by, locked::proofs::Seats::goes_on, locked::proofs::Seats::goes_same, crate::proofs::Making::goes_denied, crate::proofs::Making::makes_by, crate::proofs::Making::call_help, crate::proofs::Making::call_settled, locked::proofs::Seats::once_by))]
     fn try_change<R: Wait>(
         &self,
         rt: &R,
@@ -169,6 +180,9 @@ impl<B: Naming, D: BlockDevice, T: Trail> SharedCache<B, D, T> {
     ) -> Result<Option<(Wrote, Slip)>, Denied>
         requires { seat.old.table ≡ B.table }
         ensures goes { Goes seat.old seat.new }
+        ensures only { IfErr result (λ _. Only (IsTry handle (event_of change handle bytes.now)) seat.old seat.new) }
+        ensures tried { IfOk result (λ o. IfNone o (Only (IsTry handle (event_of change handle bytes.now)) seat.old seat.new)) }
+        ensures once { IfOk result (λ o. IfSome o (λ _. Once (IsTry handle (event_of change handle bytes.now)) seat.old seat.new)) }
         ensures answer { IfOk result (λ o. IfSome o (λ r. Makes seat.old seat.new r.1 (event_of change handle bytes.now) (over change r.0))) }
         ensures denied { IfErr result (IsDenied (IsCallOf handle (event_of change handle bytes.now)) seat.old seat.new) }
         ensures whole { IfOk result (λ o. IfSome o (λ r. IsWhole change bytes.now r.0)) }
@@ -203,7 +217,7 @@ impl<B: Naming, D: BlockDevice, T: Trail> SharedCache<B, D, T> {
 
     /// What a change comes to that was refused: where it was for want of room, room is made, or the end of a request waited for; else
     /// the refusal stands.
-    #[tactic(auto, using(locked::proofs::Seats::goes_by, locked::proofs::Seats::goes_on, locked::proofs::Seats::goes_same, crate::proofs::Making::goes_denied))]
+    #[tactic(auto, using(locked::proofs::Seats::goes_by, locked::proofs::Seats::goes_on, locked::proofs::Seats::goes_same, crate::proofs::Making::goes_denied, locked::proofs::Seats::only_same))]
     fn settle<R: Wait>(
         &self,
         rt: &R,
@@ -213,6 +227,7 @@ impl<B: Naming, D: BlockDevice, T: Trail> SharedCache<B, D, T> {
     ) -> Result<(), Denied>
         requires { seat.old.table ≡ B.table }
         ensures goes { Goes seat.old seat.new }
+        ensures only { Only (λ e. IsRoomEvent e.event) seat.old seat.new }
         ensures denied { IfErr result (IsStillDenied denied seat.old seat.new) }
         ensures passing { IfOk result (λ _. is_for_now denied.refusal ≡ true) }
     {

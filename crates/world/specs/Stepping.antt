@@ -4,7 +4,6 @@ use Rattle.std.specs.Prelude.{Option, Some, None, unwrap_or, IfSome, Result, Ok,
 use Rattle.std.specs.Ordering.{nat_cmp}
 use Rattle.std.specs.FinMap as finmap
 use Rattle.blockdev.specs.declared.fault.FaultEffect.{FaultEffect}
-use Rattle.blockdev.specs.declared.fault.FaultEffect.TheVariants as effect
 use Rattle.blockdev.specs.Device.{Told}
 use Rattle.blockdev.specs.Jobs.{Task, FinishedTask, Performs}
 use Rattle.pc_types.specs.Kinds.{is_flush}

@@ -11,6 +11,7 @@ use Rattle.shared.specs.Denials.{IsDenied}
 use Rattle.shared.specs.Workers.{fails_write}
 use Rattle.shared.proofs.Ending.{fill_told, flush_told}
 use Rattle.shared.proofs.Making.{denied_event, goes_denied, makes_by}
+use Rattle.shared.proofs.Owning.{only_end, only_end_denied}
 use Rattle.shared.proofs.ends.end.Goals as goal
 
 pub returns-in-Ok-clause-goes : goal.returns-in-Ok-clause-goes
@@ -56,3 +57,25 @@ returns-clause-denied g c =
     c.flush_end.new.seat c.in-Err-flush_end.denied) (sym (sym c.kind.ensures ∙ c.in-Flush.is))
     (denied_event (event.End Flush (end_of c.args.finished)) c.args.state.now c.flush_end.new.self c.args.seat.now
     c.flush_end.new.seat c.in-Err-flush_end.denied c.in-Err-flush_end.ensures.denied)
+
+-- the event is the end of whatever job was finished
+pub returns-in-Ok-clause-only : goal.returns-in-Ok-clause-only
+returns-in-Ok-clause-only g c job kind serial cache =
+    only_end job Fill (end_of c.args.finished) _ _ _ _ _ _ (sym (sym c.kind.ensures ∙ c.in-Fill.is) ∙ kind) serial cache
+    c.in-Ok.ensures.made
+
+pub returns-in-Fill-clause-only : goal.returns-in-Fill-clause-only
+returns-in-Fill-clause-only g c job kind serial cache =
+    only_end_denied job Fill (end_of c.args.finished) c.args.state.now c.fill_end.new.self c.args.seat.now c.fill_end.new.seat
+    c.in-Err.denied (sym (sym c.kind.ensures ∙ c.in-Fill.is) ∙ kind) serial cache c.in-Err.ensures.denied
+
+pub returns-in-Ok-flush_end-clause-only : goal.returns-in-Ok-flush_end-clause-only
+returns-in-Ok-flush_end-clause-only g c job kind serial cache =
+    only_end job Flush (end_of c.args.finished) _ _ _ _ _ _ (sym (sym c.kind.ensures ∙ c.in-Flush.is) ∙ kind) serial cache
+    c.in-Ok-flush_end.ensures.made
+
+pub returns-clause-only : goal.returns-clause-only
+returns-clause-only g c job kind serial cache =
+    only_end_denied job Flush (end_of c.args.finished) c.args.state.now c.flush_end.new.self c.args.seat.now
+    c.flush_end.new.seat c.in-Err-flush_end.denied (sym (sym c.kind.ensures ∙ c.in-Flush.is) ∙ kind) serial cache
+    c.in-Err-flush_end.ensures.denied

@@ -5,6 +5,7 @@ use Rattle.frames.proofs.ListedLemmas.{last_has}
 use Rattle.frames.proofs.TiedLemmas.{tied_deactivated}
 use Rattle.frames.proofs.PassedLemmas.{deactivated_passed}
 use Rattle.frames.proofs.AgeLemmas.{aged_more}
+use Rattle.frames.proofs.SoundLemmas.{sound_by}
 use Rattle.frames.proofs.frames.Frames.age.Goals as goal
 
 pub remove_active-requires : goal.remove_active-requires
@@ -50,3 +51,9 @@ loop-self-preserved c =
       size = inv.size;
       bytes = inv.bytes;
     }
+
+pub returns-clause-sound : goal.returns-clause-sound
+returns-clause-sound c =
+    let i = c.loop-self.self-inside in
+    let tied = c.loop-self.invariant.tied in
+    sound_by _ i.lists.count i.free tied (c.loop-self.invariant.passed.asides ∙ tied.count)

@@ -1,4 +1,4 @@
-use Rattle.std.proofs.Common.{ap, sym, ◌∙◌, ◌≡◌}
+use Rattle.std.proofs.Common.{ap, sym, ◌∙◌, ◌≡◌, true}
 use Rattle.std.specs.Prelude.{option_map}
 use Rattle.std.specs.FinMap as map
 use Rattle.std.proofs.lemmas.List.{get_or_read}
@@ -12,7 +12,7 @@ use Rattle.pagestore.proofs.StoreFacts.{here_kept}
 use Rattle.pagestore.proofs.ListedFrames.{accessed_nowhere, unlisted}
 use Rattle.pagestore.proofs.Owners.{no_frame}
 use Rattle.pagestore.proofs.PagePlaces.{FilePage}
-use Rattle.pagestore.proofs.ReadFrames.{frame_taken, read_seen, walked_entry}
+use Rattle.pagestore.proofs.ReadFrames.{frame_taken, read_seen, read_store, walked_entry}
 use Rattle.pagestore.proofs.pages.Pages.access.Goals as goal
 use Rattle.pagestore.proofs.pages.Pages.access.Goals.{After-self}
 
@@ -40,7 +40,7 @@ returns-in-Some c =
     ap (λ (u : Table). store_of u c.self.inside.uptodate.items c.self.inside.files.items) c.accessed.ensures
     ∙ read_seen w c.in-Some.frame
     (walked_entry w c.index.result.now
-    c.index.ensures c.in-Some.frame c.in-Some.ensures) c.free_count.ensures.sound
+    c.index.ensures c.in-Some.frame c.in-Some.ensures)
 
 pub returns-in_default : goal.returns-in_default
 returns-in_default c =
@@ -56,6 +56,12 @@ returns-in_default c =
     none_framed (entry_at files f p)
     (c.in_default.ensures ∙ ap (λ (k : KeptFile). option_map frame_of (map.get k.mapping.pages p)) entry) in
     let nowhere = ap (λ (s : Store). is_listed f p s.lists) (sym c.self.view_is)
-    ∙ unlisted t c.free_count.ensures.sound f p
+    ∙ unlisted t c.self.invariant.sound f p
     (no_frame t up files c.self.inside.dirty c.self.invariant f p absent) in
     sym (ap (with_lists c.args.self.now) (accessed_nowhere f p c.args.self.now.lists nowhere))
+
+pub invariant_of-self : goal.invariant_of-self
+invariant_of-self c =
+    let w = at (goal.at.invariant_of-self c).After-self in
+    let there = walked_entry w c.index.result.now c.index.ensures c.in-Some.frame c.in-Some.ensures in
+    read_store w c.in-Some.frame there c.accessed.new.self true (λ _. c.accessed.ensures) (λ none. absurd cc)

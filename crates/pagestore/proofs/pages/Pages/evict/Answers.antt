@@ -22,6 +22,7 @@ first_idle-requires c =
     let up = c.self.inside.uptodate.items in
     let files = c.self.inside.files.items in
     record {
+      sound = c.self.invariant.sound;
       busy = subst (λ (x : List Bool). AreBusy t x c.deref-2.result.now) (sym c.deref.ensures.value)
           (subst (λ (y : List KeptFile). AreBusy t up y) (sym c.deref-2.ensures.value)
           (are_busy t up files c.self.inside.dirty c.self.invariant));
@@ -49,7 +50,7 @@ returns-in_err-victim-clause-evicted c =
     let it : Evicts now None now =
     subst (λ (s : Store). Evicts s None s) c.self.view_is (
       none_idle t up files c.self.inside.dirty c.self.invariant
-          (none_taken (is_idle_frame t up files) t c.free_count.ensures.sound
+          (none_taken (is_idle_frame t up files) t c.self.invariant.sound
           (none (goal.at.returns-in_err-victim-clause-evicted c).In_err-victim)),
       refl,
     ) in
@@ -65,7 +66,7 @@ returns-in_err-victim-clause-first c =
     ap (option_map numbers) c.from_residual.ensures
     ∙ ap (option_map place) (ap (option_map (listed_at t))
     (sym (none (goal.at.returns-in_err-victim-clause-first c).In_err-victim))
-    ∙ idle_first t up files c.free_count.ensures.sound)
+    ∙ idle_first t up files c.self.invariant.sound)
     ∙ ap (λ (s : Store). option_map place (find (is_idle_at s) (scan_order s.lists))) c.self.view_is
 
 victim_found : (c : In_ok-victim) → Some c.in_ok-victim.victim.0 ≡ find (is_idle_frame c.self.inside.frames
@@ -104,7 +105,7 @@ invariant_of-self-2 c =
     let up = c.self.inside.uptodate.items in
     let files = c.self.inside.files.items in
     let u = c.first_idle.new.frames in
-    set_aside_store t up files c.self.inside.dirty c.self.invariant u c.first_idle.ensures.aside
+    set_aside_store t up files c.self.inside.dirty c.self.invariant u c.first_idle.ensures.aside c.first_idle.ensures.sound
     (subst (λ (x : List Bool). AreBusy u x files) c.deref.ensures.value
     (subst (λ (y : List KeptFile). AreBusy u c.deref.result.now y) c.deref-2.ensures.value c.first_idle.ensures.busy))
 
@@ -146,5 +147,5 @@ returns-clause-first c =
     ap (λ (o : Option (FileId × PageIndex)). Some ((owner_in o).0.0, (owner_in o).1.0))
     (c.in-Some.ensures ∙ victim_owner w)
     ∙ ap (option_map place) (ap (option_map (listed_at t)) (victim_found w)
-    ∙ idle_first t up files c.free_count.ensures.sound)
+    ∙ idle_first t up files c.self.invariant.sound)
     ∙ ap (λ (s : Store). option_map place (find (is_idle_at s) (scan_order s.lists))) c.self.view_is

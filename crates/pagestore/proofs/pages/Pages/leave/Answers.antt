@@ -67,7 +67,7 @@ seen_left c =
     (λ i. store_of (c.give.ensures i) up (slice_set files f (gone c i)))
     ∙ left_seen t up files dirty f p x s (file_here w) there
     ∙ ap (with_lists (with_entry (store_of t up files) f p None false (free_frames t + 1)))
-    (lists-given t c.free_count.ensures.sound f p x.frame (page_taken t up files dirty s f p x there)
+    (lists-given t c.self.invariant.sound f p x.frame (page_taken t up files dirty s f p x there)
     (its_frame t up files dirty s f p x there))
 
 pub unreachable-requires : goal.unreachable-requires

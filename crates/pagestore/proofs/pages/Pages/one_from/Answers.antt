@@ -51,7 +51,7 @@ returns-in_err-found-clause-unlisted c =
     (ap (λ (k : KeptFile). k.mapping.pages) entry) c.in_err-found.ensures.lowest in
     if_none c.from_residual.result _
     (subst (λ (s : Store). cut_off f c.args.page s.lists ≡ s.lists) c.self.view_is
-    (none_cut t up files c.self.inside.dirty c.self.invariant f c.args.page none c.free_count.ensures.sound))
+    (none_cut t up files c.self.inside.dirty c.self.invariant f c.args.page none))
 
 pub returns-in-Some-clause-found : goal.returns-in-Some-clause-found
 returns-in-Some-clause-found c =

@@ -51,4 +51,4 @@ returns-clause-done c =
     λ _. again_seen w
     c.index.result.now c.index.ensures c.in-Some.frame c.in-Some.ensures.tagged c.in-Some.ensures.untagged c.args.at
     c.args.bytes.now c.requires.room c.bytes_mut.result.now c.copy_from_slice.new.self c.bytes_mut.ensures.bytes
-    c.copy_from_slice.ensures.after c.accessed.new.self c.accessed.ensures c.free_count.ensures.sound
+    c.copy_from_slice.ensures.after c.accessed.new.self c.accessed.ensures

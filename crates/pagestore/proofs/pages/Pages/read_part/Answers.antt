@@ -1,11 +1,11 @@
-use Rattle.std.proofs.Common.{arith, ap, sym, ◌∙◌, ◌≡◌, ◌+◌, ◌-◌, ◌++◌, ℕ, List}
+use Rattle.std.proofs.Common.{arith, ap, sym, ◌∙◌, ◌≡◌, ◌+◌, ◌-◌, ◌++◌, ℕ, List, true}
 use Rattle.std.specs.Prelude.{slice_range, take, drop}
 use Rattle.std.proofs.lemmas.Bool.{false≢true}
 use Rattle.std.proofs.lemmas.List.{drop-drop, append_assoc}
 use Rattle.frames.specs.Table.{Table}
 use Rattle.pagestore.specs.Store.{the_page, stored_at, store_of}
 use Rattle.pagestore.proofs.PagePlaces.{FilePage}
-use Rattle.pagestore.proofs.ReadFrames.{frame_bytes, frame_cached, frame_taken, read_seen, walked_entry, walked_none}
+use Rattle.pagestore.proofs.ReadFrames.{frame_bytes, frame_cached, frame_taken, read_seen, read_store, walked_entry, walked_none}
 use Rattle.pagestore.proofs.pages.Pages.read_part.Goals as goal
 use Rattle.pagestore.proofs.pages.Pages.read_part.Goals.{After-self}
 use borrow.Rule.Slice.PartMut.{put_mid}
@@ -67,4 +67,10 @@ returns-clause-moved c =
     ap (λ (u : Table). store_of u c.self.inside.uptodate.items c.self.inside.files.items) c.accessed.ensures
     ∙ read_seen w c.in-Some.frame
     (walked_entry w c.index.result.now
-    c.index.ensures c.in-Some.frame c.in-Some.ensures) c.free_count.ensures.sound
+    c.index.ensures c.in-Some.frame c.in-Some.ensures)
+
+pub invariant_of-self : goal.invariant_of-self
+invariant_of-self c =
+    let w = at (goal.at.invariant_of-self c).After-self in
+    let there = walked_entry w c.index.result.now c.index.ensures c.in-Some.frame c.in-Some.ensures in
+    read_store w c.in-Some.frame there c.accessed.new.self true (λ _. c.accessed.ensures) (λ none. absurd cc)

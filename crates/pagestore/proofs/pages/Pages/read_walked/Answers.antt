@@ -3,7 +3,7 @@ use Rattle.std.specs.Prelude.{slice_index_or, slice_range}
 use Rattle.frames.specs.Table.{Table}
 use Rattle.pagestore.specs.Store.{store_of}
 use Rattle.pagestore.proofs.PagePlaces.{FilePage}
-use Rattle.pagestore.proofs.ReadFrames.{frame_bytes, frame_cached, frame_flagged, frame_taken, read_seen, walked_entry}
+use Rattle.pagestore.proofs.ReadFrames.{frame_bytes, frame_cached, frame_flagged, frame_taken, read_seen, read_store, walked_entry}
 use Rattle.pagestore.proofs.ReadFrames.{walked_none}
 use Rattle.pagestore.proofs.pages.Pages.read_walked.Goals as goal
 use Rattle.pagestore.proofs.pages.Pages.read_walked.Goals.{After-self}
@@ -68,4 +68,9 @@ returns-clause-moved c =
     λ ready. ap (λ (t : Table). store_of t c.self.inside.uptodate.items c.self.inside.files.items)
     (c.read_frame.ensures.moved ready)
     ∙ read_seen w c.in-Some.frame there
-    c.free_count.ensures.sound
+
+pub invariant_of-self : goal.invariant_of-self
+invariant_of-self c =
+    let w = at (goal.at.invariant_of-self c).After-self in
+    let there = walked_entry w c.index.result.now c.index.ensures c.in-Some.frame c.in-Some.ensures in
+    read_store w c.in-Some.frame there c.read_frame.new.frames c.read_frame.result c.read_frame.ensures.moved c.read_frame.ensures.same

@@ -4,6 +4,7 @@ use Rattle.frames.specs.Table.{Table}
 use Rattle.pagestore.specs.Store.{store_of}
 use Rattle.pagestore.proofs.PagePlaces.{FilePage}
 use Rattle.pagestore.proofs.ReadFrames.{frame_bytes, frame_cached, frame_flagged, frame_taken, owned_entry, read_seen}
+use Rattle.pagestore.proofs.ReadFrames.{read_store}
 use Rattle.pagestore.proofs.pages.Pages.read_within.Goals as goal
 use Rattle.pagestore.proofs.pages.Pages.read_within.Goals.{After-self}
 
@@ -61,4 +62,10 @@ returns-clause-moved c =
     λ ready. ap (λ (t : Table). store_of t c.self.inside.uptodate.items c.self.inside.files.items)
     (c.read_frame.ensures.moved ready)
     ∙ read_seen w c.of-guess.result there
-    c.free_count.ensures.sound
+
+pub invariant_of-self : goal.invariant_of-self
+invariant_of-self c =
+    let w = at (goal.at.invariant_of-self c).After-self in
+    let there = owned_entry w c.of-guess.result c.in-Some.owner c.in-Some.number c.in-Some.ensures
+    c.if-owner-file.true c.if-number-page.true in
+    read_store w c.of-guess.result there c.read_frame.new.frames c.read_frame.result c.read_frame.ensures.moved c.read_frame.ensures.same

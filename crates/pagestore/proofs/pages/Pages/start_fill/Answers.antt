@@ -74,7 +74,7 @@ returns-then-is_err-clause-err c =
     (λ i. store_of (back c i) up (same_files c i))
     ∙ unmade_seen t up files c.self.inside.dirty f p c.in-Ok.frame.0 c.self.invariant low.here low.within
     ∙ ap (with_lists (store_of t up files))
-    (lists-untaken t c.free_count.ensures.sound f p c.in-Ok.frame.0 low.here low.within)
+    (lists-untaken t c.self.invariant.sound f p c.in-Ok.frame.0 low.here low.within)
     ∙ c.self.view_is
 
 -- ---- where the page is entered
@@ -127,7 +127,7 @@ returns-clause-ok c =
     (ap (λ (s : Store). stored_page s f p) c.self.view_is ∙ c.requires.absent))
     ∙ ap (λ (l : PageLists). let s : Store = record (store_of t up files)
     { filling = set.insert (store_of t up files).filling (f, p); free = free_frames t - 1; lists = l } in s)
-    (lists-taken t c.free_count.ensures.sound f p fr low.here low.within)
+    (lists-taken t c.self.invariant.sound f p fr low.here low.within)
     ∙ ap (λ (s : Store). let u : Store =
     record s { filling = set.insert s.filling (f, p); free = s.free - 1; lists = entered f p s.lists } in u)
     c.self.view_is
@@ -140,7 +140,7 @@ returns-then-is_err-clause-unlisted c =
     let f = c.args.file in
     let p = c.args.page in
     ap (λ (s : Store). is_listed f p s.lists) (sym c.self.view_is)
-    ∙ unlisted t c.free_count.ensures.sound f p
+    ∙ unlisted t c.self.invariant.sound f p
     (no_frame t up files c.self.inside.dirty c.self.invariant f p
     (absent (goal.at.returns-then-is_err-clause-unlisted c).After-self))
 
@@ -152,6 +152,6 @@ returns-clause-unlisted c =
     let f = c.args.file in
     let p = c.args.page in
     ap (λ (s : Store). is_listed f p s.lists) (sym c.self.view_is)
-    ∙ unlisted t c.free_count.ensures.sound f p
+    ∙ unlisted t c.self.invariant.sound f p
     (no_frame t up files c.self.inside.dirty c.self.invariant f p
     (absent (goal.at.returns-clause-unlisted c).After-self))

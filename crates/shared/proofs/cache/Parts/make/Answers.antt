@@ -1,6 +1,20 @@
+use Rattle.std.proofs.Common.{ap, rules}
+use Rattle.cachecore.specs.Core.{Core}
+use Rattle.locked.proofs.Failures.{none_told}
 use Rattle.shared.proofs.Serving.{idle_first}
 use Rattle.shared.proofs.cache.Parts.make.Goals as goal
 
 pub returns-in-Ok-new-clause-idle : goal.returns-in-Ok-new-clause-idle
 returns-in-Ok-new-clause-idle g c =
     idle_first c.in-Ok-new.held.core c.args.geometry.now c.args.name c.in-Ok-new.ensures.core
+
+pub returns-in-Ok-new-clause-state : goal.returns-in-Ok-new-clause-state
+returns-in-Ok-new-clause-state g c = record {
+  named = search rules;
+  seats = search rules;
+  errors = search rules;
+  sized = search rules;
+  counted = search rules;
+  told = none_told c.in-Ok-new.held.core.state c.in-Ok-new.held.errors
+      (ap (λ (x : Core). x.state.files) c.in-Ok-new.ensures.core) c.in-Ok-new.ensures.board.1;
+}

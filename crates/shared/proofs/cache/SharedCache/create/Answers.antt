@@ -1,5 +1,8 @@
+use Rattle.std.proofs.Common.{◌≡◌}
 use Rattle.machine.specs.declared.event.Event.TheVariants as event
+use Rattle.shared.proofs.Owning.{only_event, only_event_denied}
 use Rattle.shared.proofs.Making.{event_denied, event_full}
+use Rattle.shared.proofs.Answered.{only_answered}
 use Rattle.shared.proofs.cache.SharedCache.create.Goals as goal
 
 pub returns-clause-denied : goal.returns-clause-denied
@@ -9,3 +12,9 @@ returns-clause-denied g c own = event_denied c.create.result event.Create c.dere
 pub returns-clause-full : goal.returns-clause-full
 returns-clause-full g c own = event_full c.create.result event.Create c.deref_mut.result.now c.create.new.self
     c.args.seat.now c.create.new.seat c.create.ensures.denied
+
+pub returns-clause-only : goal.returns-clause-only
+returns-clause-only g c =
+    only_answered (λ x. x.event ≡ event.Create) c.args.seat.now c.create.new.seat _ _ c.create.result c.create.ensures.made
+    c.create.ensures.denied (λ r m. only_event _ _ _ _ _ _ _ m tt)
+    (λ d q. only_event_denied event.Create c.deref_mut.result.now c.create.new.self c.args.seat.now c.create.new.seat d q tt)

@@ -1,5 +1,6 @@
 use Rattle.std.proofs.Common.{◌≡◌}
-use Rattle.locked.specs.Called.{Goes}
+use Rattle.locked.specs.Called.{Goes, Only}
+use Rattle.shared.specs.Own.{IsEviction}
 use Rattle.shared.specs.Workers.{IsWorkerOf, popped_by, pushed_by}
 use Rattle.shared.proofs.cache.SharedCache.evictor.Given as goal
 
@@ -7,5 +8,6 @@ abbrev pub invariant-turns : goal.invariant-turns
 invariant-turns g l = record {
   worker : IsWorkerOf l.self.ring g.B.Naming.name g.B.Naming.table g.B.Naming.sizes l.worker;
   goes : Goes l.initial.worker.seat l.worker.seat;
+  only : Only (λ e. IsEviction e.event) l.initial.worker.seat l.worker.seat;
   ring : (popped_by l.worker ≡ popped_by l.initial.worker) × (pushed_by l.worker ≡ pushed_by l.initial.worker);
 }

@@ -8,6 +8,7 @@ use Rattle.held.specs.Entered.{Made}
 use Rattle.shared.specs.Denials.{IsDenied}
 use Rattle.shared.specs.Own.{IsHelp}
 use Rattle.shared.proofs.Making.{denied_end, failed_end}
+use Rattle.shared.proofs.Owning.{only_fill_end, only_fill_end_denied}
 use Rattle.shared.proofs.cache.SharedCache.fill_by.Goals as goal
 
 pub returns-in-Err-clause-denied : goal.returns-in-Err-clause-denied
@@ -22,3 +23,14 @@ returns-in-Failed-clause-denied g c =
     (subst (λ (x : Ended). Made (event.End Fill (end_of c.carry_out-finished.result)) (fill_ended (Ok x))
     c.deref_mut-2.result.now c.fill_end-ended.new.self c.args.seat.now c.fill_end-ended.new.seat c.in-Ok.ended.1)
     c.in-Failed.is c.in-Ok.ensures.made))
+
+pub returns-in-Err-clause-only : goal.returns-in-Err-clause-only
+returns-in-Err-clause-only g c =
+    only_fill_end_denied c.args.handle (end_of c.carry_out-finished.result) c.deref_mut-2.result.now
+    c.fill_end-ended.new.self c.args.seat.now c.fill_end-ended.new.seat c.in-Err.denied c.in-Err.ensures.denied
+
+pub returns-in-Failed-clause-only : goal.returns-in-Failed-clause-only
+returns-in-Failed-clause-only g c = only_fill_end c.args.handle _ _ _ _ _ _ _ c.in-Ok.ensures.made
+
+pub returns-clause-only : goal.returns-clause-only
+returns-clause-only g c = only_fill_end c.args.handle _ _ _ _ _ _ _ c.in-Ok.ensures.made

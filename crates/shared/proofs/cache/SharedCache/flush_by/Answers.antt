@@ -1,5 +1,6 @@
 use Rattle.cachecore.specs.Replies.{end_of}
 use Rattle.shared.proofs.Making.{denied_flush}
+use Rattle.shared.proofs.Owning.{only_flush_end}
 use Rattle.shared.proofs.Syncing.{flush_denied}
 use Rattle.shared.proofs.cache.SharedCache.flush_by.Goals as goal
 
@@ -10,3 +11,6 @@ returns-clause-denied g c = denied_flush (end_of c.carry_out-finished.result) c.
 pub returns-clause-ended : goal.returns-clause-ended
 returns-clause-ended g c = flush_denied (end_of c.carry_out-finished.result) c.deref_mut-2.result.now
     c.flush_end-ended.new.self c.args.seat.now c.flush_end-ended.new.seat c.in-Err.denied c.in-Err.ensures.denied
+
+pub returns-in-Ok-clause-only : goal.returns-in-Ok-clause-only
+returns-in-Ok-clause-only g c = only_flush_end _ _ _ _ _ _ _ c.in-Ok.ensures.made

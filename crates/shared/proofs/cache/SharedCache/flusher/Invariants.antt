@@ -1,11 +1,12 @@
 use Rattle.std.proofs.Common.{◌≡◌}
-use Rattle.locked.specs.Called.{Goes}
-use Rattle.shared.specs.Workers.{IsWorkerOf, popped_by}
+use Rattle.locked.specs.Called.{Goes, Only}
+use Rattle.shared.specs.Workers.{IsWorkerOf, IsWriteBack, popped_by}
 use Rattle.shared.proofs.cache.SharedCache.flusher.Given as goal
 
 abbrev pub invariant-turns : goal.invariant-turns
 invariant-turns g l = record {
   worker : IsWorkerOf l.self.ring g.B.Naming.name g.B.Naming.table g.B.Naming.sizes l.worker;
   goes : Goes l.initial.worker.seat l.worker.seat;
+  only : Only (λ e. IsWriteBack e.event) l.initial.worker.seat l.worker.seat;
   popped : popped_by l.worker ≡ popped_by l.initial.worker;
 }

@@ -4,6 +4,7 @@ use Rattle.blockdev.specs.Jobs.{IsJobFor, Task}
 use Rattle.ring.specs.declared.log.Log.{Log}
 use Rattle.shared.specs.Workers.{Begins}
 use Rattle.shared.proofs.Ending.{begins_then, ends_on}
+use Rattle.shared.proofs.Owning.{only_flushed}
 use Rattle.shared.proofs.cache.SharedCache.flusher_turn.Goals as goal
 
 pub end_job-requires-clause-fits : goal.end_job-requires-clause-fits
@@ -23,3 +24,13 @@ returns-in-Ok-clause-done g c = (
       (is_some c.in-Ok.done.failed) c.begin_flush.ensures.goes c.in-Ok.ensures.ended.1,
   ap (λ (v : Log). v.pushed) c.in-Err-push.ensures.answer.1,
 )
+
+pub returns-in-Ok-clause-only : goal.returns-in-Ok-clause-only
+returns-in-Ok-clause-only g c =
+    only_flushed c.in-Err-push.job c.args.worker.now.seat c.begin_flush.new.seat c.end_job.new.seat c.begin_flush.ensures.only
+    c.end_job.ensures.only
+
+pub returns-in-Err-end_job-clause-only : goal.returns-in-Err-end_job-clause-only
+returns-in-Err-end_job-clause-only g c =
+    only_flushed c.in-Err-push.job c.args.worker.now.seat c.begin_flush.new.seat c.end_job.new.seat c.begin_flush.ensures.only
+    c.end_job.ensures.only

@@ -1,6 +1,7 @@
 use Rattle.std.proofs.Common.{◌∙◌}
 use Rattle.locked.proofs.Seats.{goes_on}
 use Rattle.shared.proofs.Ending.{turn_ended}
+use Rattle.shared.proofs.Owning.{only_ends_on}
 use Rattle.shared.proofs.cache.SharedCache.io_worker.Goals as goal
 
 pub returns-then-is_stopped-clause-ended : goal.returns-then-is_stopped-clause-ended
@@ -14,6 +15,8 @@ turns-preserved-then-is_idle g c = record {
   worker = c.io_turn.ensures.worker;
   goes = goes_on c.args.worker.now.seat c.turns.worker.seat c.io_turn.new.worker.seat c.turns.invariant.goes
       c.io_turn.ensures.goes;
+  only = only_ends_on c.args.worker.now.seat c.turns.worker.seat c.io_turn.new.worker.seat
+      c.turns.invariant.only c.io_turn.ensures.only;
   pushed = c.io_turn.ensures.pushed ∙ c.turns.invariant.pushed;
   ended = turn_ended c.args.worker.now c.turns.worker c.io_turn.new.worker c.in_ok-io_turn.field-0 c.args.self.now.name
       g.B.Naming.board c.turns.invariant.ended c.turns.invariant.goes c.io_turn.ensures.goes
@@ -25,6 +28,8 @@ turns-preserved g c = record {
   worker = c.io_turn.ensures.worker;
   goes = goes_on c.args.worker.now.seat c.turns.worker.seat c.io_turn.new.worker.seat c.turns.invariant.goes
       c.io_turn.ensures.goes;
+  only = only_ends_on c.args.worker.now.seat c.turns.worker.seat c.io_turn.new.worker.seat
+      c.turns.invariant.only c.io_turn.ensures.only;
   pushed = c.io_turn.ensures.pushed ∙ c.turns.invariant.pushed;
   ended = turn_ended c.args.worker.now c.turns.worker c.io_turn.new.worker c.in_ok-io_turn.field-0 c.args.self.now.name
       g.B.Naming.board c.turns.invariant.ended c.turns.invariant.goes c.io_turn.ensures.goes

@@ -1,6 +1,14 @@
-use Rattle.std.proofs.Common.{◌≡◌}
-use Rattle.locked.specs.Called.{Goes}
+use Rattle.std.proofs.Common.{◌≡◌, length}
+use Rattle.machine.specs.declared.event.Event.TheVariants as event
+use Rattle.locked.specs.Called.{Goes, Only}
+use Rattle.shared.specs.Own.{IsTry}
 use Rattle.shared.proofs.cache.SharedCache.pread.Given as goal
 
 abbrev pub invariant-attempts : goal.invariant-attempts
-invariant-attempts g l = Goes l.initial.seat l.seat × (l.out ≡ l.initial.out)
+invariant-attempts g l = record {
+  goes : Goes l.initial.seat l.seat;
+  tried :
+      Only (IsTry l.fn.handle.number (event.Read l.fn.handle.number l.fn.offset (length l.initial.out)))
+      l.initial.seat l.seat;
+  out : l.out ≡ l.initial.out;
+}

@@ -2,10 +2,12 @@ use Rattle.std.proofs.Common.{◌≡◌, Err, ap, inr, subst, sym}
 use Rattle.filesvc.specs.declared.seek.Seek.{Seek}
 use Rattle.machine.specs.declared.event.Event.TheVariants as event
 use Rattle.pc_types.specs.declared.ids.HandleId.{HandleId}
+use Rattle.locked.specs.Called.{Only}
 use Rattle.shared.specs.Denials.{IsDenied}
 use Rattle.shared.specs.Seeks.{Seeks}
 use Rattle.shared.specs.Seen.{HandleSeen}
 use Rattle.shared.proofs.Making.{denied_event, full_by}
+use Rattle.shared.proofs.Owning.{only_event}
 use Rattle.shared.proofs.cache.SharedCache.seek.Goals as goal
 
 pub returns-in-End-clause-sought : goal.returns-in-End-clause-sought
@@ -19,3 +21,8 @@ returns-in-End-clause-sought g c own here =
       full_by (event.Size c.handle.inside.number) c.deref_mut.result.now c.size.new.self c.args.seat.now
           c.size.new.seat c.in-Err-size.denied c.in-Err-size.ensures.denied,
     ))
+
+pub returns-in-Ok-clause-only : goal.returns-in-Ok-clause-only
+returns-in-Ok-clause-only g c =
+    subst (λ (n : HandleId). Only (λ x. x.event ≡ event.Size n) c.args.seat.now c.size.new.seat)
+    (ap (λ (h : HandleSeen). h.number) c.handle.view_is) (only_event _ _ _ _ _ _ _ c.in-Ok.ensures.made tt)

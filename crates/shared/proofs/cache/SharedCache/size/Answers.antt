@@ -2,9 +2,12 @@ use Rattle.std.proofs.Common.{◌≡◌, ap, subst}
 use Rattle.std.specs.Prelude.{IfErr}
 use Rattle.machine.specs.declared.event.Event.TheVariants as event
 use Rattle.pc_types.specs.declared.ids.HandleId.{HandleId}
+use Rattle.locked.specs.Called.{Only}
 use Rattle.shared.specs.Denials.{IsDenied}
 use Rattle.shared.specs.Seen.{HandleSeen}
+use Rattle.shared.proofs.Owning.{only_event, only_event_denied}
 use Rattle.shared.proofs.Making.{event_denied, event_full}
+use Rattle.shared.proofs.Answered.{only_answered}
 use Rattle.shared.proofs.cache.SharedCache.size.Goals as goal
 
 pub returns-clause-denied : goal.returns-clause-denied
@@ -18,3 +21,12 @@ pub returns-clause-full : goal.returns-clause-full
 returns-clause-full g c own here =
     event_full c.size.result (event.Size c.handle.inside.number) c.deref_mut.result.now c.size.new.self
     c.args.seat.now c.size.new.seat c.size.ensures.denied
+
+pub returns-clause-only : goal.returns-clause-only
+returns-clause-only g c =
+    subst (λ (n : HandleId). Only (λ x. x.event ≡ event.Size n) c.args.seat.now c.size.new.seat)
+    (ap (λ (h : HandleSeen). h.number) c.handle.view_is)
+    (only_answered (λ x. x.event ≡ event.Size c.handle.inside.number) c.args.seat.now c.size.new.seat _ _ c.size.result
+    c.size.ensures.made c.size.ensures.denied (λ r m. only_event _ _ _ _ _ _ _ m tt)
+    (λ d q. only_event_denied (event.Size c.handle.inside.number) c.deref_mut.result.now c.size.new.self c.args.seat.now
+    c.size.new.seat d q tt))

@@ -1,5 +1,9 @@
-use Rattle.locked.specs.Called.{Goes}
+use Rattle.locked.specs.Called.{Goes, Only}
+use Rattle.shared.specs.Synced.{IsTurnOf}
 use Rattle.shared.proofs.cache.SharedCache.sync_turns.Given as goal
 
 abbrev pub invariant-turns : goal.invariant-turns
-invariant-turns g l = Goes l.initial.seat l.seat
+invariant-turns g l = record {
+  goes : Goes l.initial.seat l.seat;
+  only : Only (λ e. IsTurnOf l.fn.sync e.event) l.initial.seat l.seat;
+}

@@ -1,14 +1,15 @@
-use Rattle.std.proofs.Common.{refl, subst}
+use Rattle.std.proofs.Common.{refl, subst, sym}
 use Rattle.cachecore.specs.declared.answers.WriteAnswer.{WriteAnswer}
 use Rattle.pc_types.specs.declared.ids.HandleId.{HandleId}
 use Rattle.held.specs.Entered.{Made}
 use Rattle.machine.specs.declared.event.Reply.TheVariants as reply
-use Rattle.locked.proofs.Seats.{goes_by, goes_on, goes_same}
+use Rattle.locked.proofs.Seats.{goes_by, goes_on, goes_same, once_by}
 use Rattle.shared.specs.Called.{Makes}
 use Rattle.shared.specs.Changes.{IsWholeIn, event_of, reply_of}
 use Rattle.shared.specs.Denials.{IsDenied}
-use Rattle.shared.specs.Own.{IsHelp}
+use Rattle.shared.specs.Own.{IsHelp, IsUndone}
 use Rattle.shared.proofs.Making.{call_help, call_settled, goes_denied, makes_by, retries_by}
+use Rattle.shared.proofs.Owning.{change_plain, only_missed, only_settled, only_try}
 use Rattle.shared.proofs.cache.SharedCache.try_change.Goals as goal
 
 pub returns-in-Err-settle-clause-denied : goal.returns-in-Err-settle-clause-denied
@@ -63,3 +64,35 @@ returns-in-Ok-fill-clause-again g c =
     (subst (λ (x : WriteAnswer). Made (event_of c.args.change c.args.handle c.args.bytes.now) (reply_of c.args.change x)
     c.deref_mut.result.now c.change_by.new.state c.args.seat.now c.change_by.new.seat c.in-Ok.made.1) c.in-Miss.is
     c.in-Ok.ensures.made) c.fill.ensures.goes
+
+pub returns-in-Wait-clause-tried : goal.returns-in-Wait-clause-tried
+returns-in-Wait-clause-tried g c =
+    only_try c.args.handle _ _ _ _ _ _ _ c.in-Ok.ensures.made (change_plain c.args.change c.args.handle c.args.bytes.now)
+    (subst (λ (x : WriteAnswer). IsUndone (reply_of c.args.change x)) (sym c.in-Wait.is) tt)
+
+pub returns-in-Ok-fill-clause-tried : goal.returns-in-Ok-fill-clause-tried
+returns-in-Ok-fill-clause-tried g c =
+    only_missed c.args.handle _ _ _ _ _ _ _ _ _ c.in-Ok.ensures.made (change_plain c.args.change c.args.handle c.args.bytes.now)
+    (subst (λ (x : WriteAnswer). IsUndone (reply_of c.args.change x)) (sym c.in-Miss.is) tt) c.span_of-span.ensures
+    c.fill.ensures.only
+
+pub returns-in-Err-fill-clause-only : goal.returns-in-Err-fill-clause-only
+returns-in-Err-fill-clause-only g c =
+    only_missed c.args.handle _ _ _ _ _ _ _ _ _ c.in-Ok.ensures.made (change_plain c.args.change c.args.handle c.args.bytes.now)
+    (subst (λ (x : WriteAnswer). IsUndone (reply_of c.args.change x)) (sym c.in-Miss.is) tt) c.span_of-span.ensures
+    c.fill.ensures.only
+
+pub returns-in-Ok-settle-clause-tried : goal.returns-in-Ok-settle-clause-tried
+returns-in-Ok-settle-clause-tried g c =
+    only_settled c.args.handle (event_of c.args.change c.args.handle c.args.bytes.now) c.deref_mut.result.now
+    c.change_by.new.state c.args.seat.now c.change_by.new.seat c.settle.new.seat c.in-Err.denied c.in-Err.ensures.denied
+    (change_plain c.args.change c.args.handle c.args.bytes.now) c.settle.ensures.only
+
+pub returns-in-Err-settle-clause-only : goal.returns-in-Err-settle-clause-only
+returns-in-Err-settle-clause-only g c =
+    only_settled c.args.handle (event_of c.args.change c.args.handle c.args.bytes.now) c.deref_mut.result.now
+    c.change_by.new.state c.args.seat.now c.change_by.new.seat c.settle.new.seat c.in-Err.denied c.in-Err.ensures.denied
+    (change_plain c.args.change c.args.handle c.args.bytes.now) c.settle.ensures.only
+
+pub returns-in-Wrote-clause-once : goal.returns-in-Wrote-clause-once
+returns-in-Wrote-clause-once g c = once_by _ _ _ _ _ _ _ _ c.in-Ok.ensures.made

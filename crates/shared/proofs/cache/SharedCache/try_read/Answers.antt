@@ -7,9 +7,11 @@ use Rattle.held.specs.Entered.{Made}
 use Rattle.held.specs.Shown.{HeldSeen}
 use Rattle.trail.specs.History.{After}
 use Rattle.machine.specs.declared.event.Reply.TheVariants as reply
-use Rattle.locked.proofs.Seats.{goes_by, goes_same}
+use Rattle.locked.proofs.Seats.{goes_by, goes_same, once_by}
 use Rattle.shared.specs.Called.{Makes}
 use Rattle.shared.proofs.Making.{call_first, call_help, makes_by, retries_by}
+use Rattle.shared.specs.Own.{IsUndone}
+use Rattle.shared.proofs.Owning.{only_missed, only_try, only_try_denied}
 use Rattle.shared.proofs.Sizes.{read_counted}
 use Rattle.shared.proofs.cache.SharedCache.try_read.Goals as goal
 
@@ -58,3 +60,27 @@ returns-in-Bytes-clause-within g c small =
     (subst (λ (x : ReadAnswer). Made (event.Read c.args.handle c.args.offset (length c.args.out.now))
     (was_read (Ok x) c.read.new.out) c.deref_mut.result.now c.read.new.self c.args.seat.now c.read.new.seat
     c.in-Ok.made.1) c.in-Bytes.is c.in-Ok.ensures.made) small
+
+-- the page is filling, or missing
+pub returns-in-Wait-clause-tried : goal.returns-in-Wait-clause-tried
+returns-in-Wait-clause-tried g c =
+    only_try c.args.handle _ _ _ _ _ _ _ c.in-Ok.ensures.made tt
+    (subst (λ (x : ReadAnswer). IsUndone (was_read (Ok x) c.read.new.out)) (sym c.in-Wait.is) tt)
+
+pub returns-in-Ok-fill-clause-tried : goal.returns-in-Ok-fill-clause-tried
+returns-in-Ok-fill-clause-tried g c =
+    only_missed c.args.handle c.args.handle _ _ _ _ _ _ _ _ c.in-Ok.ensures.made tt
+    (subst (λ (x : ReadAnswer). IsUndone (was_read (Ok x) c.read.new.out)) (sym c.in-Miss.is) tt) refl c.fill.ensures.only
+
+pub returns-in-Err-fill-clause-only : goal.returns-in-Err-fill-clause-only
+returns-in-Err-fill-clause-only g c =
+    only_missed c.args.handle c.args.handle _ _ _ _ _ _ _ _ c.in-Ok.ensures.made tt
+    (subst (λ (x : ReadAnswer). IsUndone (was_read (Ok x) c.read.new.out)) (sym c.in-Miss.is) tt) refl c.fill.ensures.only
+
+pub returns-in-Bytes-clause-once : goal.returns-in-Bytes-clause-once
+returns-in-Bytes-clause-once g c = once_by _ _ _ _ _ _ _ _ c.in-Ok.ensures.made
+
+pub returns-in-Err-clause-only : goal.returns-in-Err-clause-only
+returns-in-Err-clause-only g c =
+    only_try_denied c.args.handle (event.Read c.args.handle c.args.offset (length c.args.out.now)) c.deref_mut.result.now
+    c.read.new.self c.args.seat.now c.read.new.seat c.in-Err.denied c.in-Err.ensures.denied tt

@@ -1,0 +1,99 @@
+-- How many pages a seat let go.
+use Rattle.std.proofs.Common.{◌≡◌, ℕ, ◌+◌, ◌-◌, ◌^◌, List, [], ◌∷◌, ◌++◌, Bool, true, false, refl, sym, ap, subst, ◌∙◌, arith, add-zero, append_assoc, eqb-true}
+use Rattle.std.specs.Prelude.{All, Option, Some, None, ◌==◌, ◌&&◌, count_by, if◌then◌else◌, is_some, min}
+use Rattle.std.proofs.lemmas.List.{append-nil}
+use Rattle.std.proofs.lemmas.List.Elements.{All-head, All-tail}
+use Rattle.std.proofs.lemmas.List.Sums.{sum_by-append, sum_by-cons}
+use Rattle.cachecore.specs.Replies.{evicted}
+use Rattle.machine.specs.declared.event.Event.{Event}
+use Rattle.machine.specs.declared.event.Event.TheVariants as event
+use Rattle.machine.specs.declared.event.Reply.{Reply}
+use Rattle.machine.specs.declared.event.Reply.TheVariants as reply
+use Rattle.pc_types.specs.declared.ids.FileId.{FileId}
+use Rattle.pc_types.specs.declared.ids.PageIndex.{PageIndex}
+use Rattle.trail.specs.declared.entry.Entry.{Entry}
+use Rattle.held.specs.declared.log.Slip.{Slip}
+use Rattle.held.specs.Entered.{Made}
+use Rattle.held.specs.Shown.{HeldSeen, SeatSeen}
+use Rattle.held.specs.Views.{count_of}
+use Rattle.locked.specs.Called.{Goes, Only}
+use Rattle.locked.proofs.Seats.{goes_by, only_by}
+use Rattle.shared.specs.Workers.{LetsGo, lets_go}
+
+abbrev went : ℕ → Entry → Bool
+went number e = e.seat == number && lets_go e.reply
+
+one_more : (same let_go b : Bool) (rest total : ℕ) → (same ≡ true → let_go ≡ b) → rest ≡ (if b then total else 0)
+    → (if same && let_go then 1 else 0) + rest ≡ (if b then (if same then 1 else 0) + total else 0)
+one_more true true true rest total is e = omega arith
+one_more true true false rest total is e = absurd (let x : true ≡ false = is refl in cc)
+one_more true false true rest total is e = absurd (let x : false ≡ true = is refl in cc)
+one_more true false false rest total is e = omega arith
+one_more false let_go true rest total is e = omega arith
+one_more false let_go false rest total is e = omega arith
+
+-- its entries all let a page go, or none does
+counted : (number : ℕ) (b : Bool) (xs : List Entry) → All (λ e. e.seat ≡ number → lets_go e.reply ≡ b) xs
+    → count_by (went number) xs ≡ (if b then count_of number xs else 0)
+counted number true [] all = refl
+counted number false [] all = refl
+counted number b (x ∷ xs) all =
+    sum_by-cons (λ (e : Entry). if went number e then 1 else 0) x xs
+    ∙ one_more (x.seat == number) (lets_go x.reply) b (count_by (went number) xs) (count_of number xs)
+    (λ same. All-head (λ (e : Entry). e.seat ≡ number → lets_go e.reply ≡ b) x xs all (eqb-true x.seat number same))
+    (counted number b xs (All-tail (λ (e : Entry). e.seat ≡ number → lets_go e.reply ≡ b) x xs all))
+
+gone_by : (b : Bool) (e : Event) (r : Reply) (old new : HeldSeen) (before after : SeatSeen) (slip : Slip) → lets_go r ≡ b
+    → Made e r old new before after slip → LetsGo (if b then 1 else 0) before after
+gone_by b e r old new before after slip is m =
+    let p : Only (λ x. lets_go x.reply ≡ b) before after =
+    only_by (λ x. lets_go x.reply ≡ b) e r old new before after slip is m in
+    let one : count_of before.number p.since ≡ 1 = omega (arith, p.count, m.entered.count) in
+    record {
+      since = p.since;
+      saw = p.saw;
+      gone = sym (counted before.number b p.since p.made ∙ ap (λ k. if b then k else 0) one);
+    }
+
+gone_on : (m n : ℕ) (a b c : SeatSeen) → Goes a b → LetsGo m a b → LetsGo n b c → LetsGo (m + n) a c
+gone_on m n a b c goes p q =
+    let same : n ≡ count_by (went a.number) q.since = q.gone ∙ ap (λ k. count_by (went k) q.since) goes.same.2 in
+    record {
+      since = p.since ++ q.since;
+      saw = q.saw ∙ ap (λ l. l ++ q.since) p.saw ∙ append_assoc a.list p.since q.since;
+      gone = omega (arith, p.gone, same, sum_by-append (λ (e : Entry). if went a.number e then 1 else 0) p.since q.since);
+    }
+
+-- pages aged, and then one was let go or none was idle
+pub evicted_gone : (n : ℕ) (page : Option (FileId × PageIndex)) (x y z w : HeldSeen) (a b c : SeatSeen) (first slip : Slip)
+    → Made event.Age (reply.Aged n) x y a b first → Made event.Evict (evicted page) z w b c slip
+    → LetsGo (if is_some page then 1 else 0) a c
+evicted_gone n page x y z w a b c first slip m k =
+    let alone : 0 + (if is_some page then 1 else 0) ≡ (if is_some page then 1 else 0) = omega arith in
+    subst (λ pages. LetsGo pages a c) alone
+    (gone_on 0 (if is_some page then 1 else 0) a b c (goes_by event.Age (reply.Aged n) x y a b first m)
+    (gone_by false event.Age (reply.Aged n) x y a b first refl m)
+    (gone_by (is_some page) event.Evict (evicted page) z w b c slip (let_go page) k))
+  where
+    let_go : (o : Option (FileId × PageIndex)) → lets_go (evicted o) ≡ is_some o
+    let_go (Some o) = refl
+    let_go None = refl
+
+-- ---- the count of a turn
+
+abbrev pub Counts : SeatSeen → SeatSeen → ℕ → Type 0
+Counts before after n = (pages : ℕ) × LetsGo pages before after × (n ≡ min pages (2 ^ 64 - 1))
+
+pub none_gone : (before after : SeatSeen) → after ≡ before → Counts before after 0
+none_gone before after e = (0, subst (LetsGo 0 before) (sym e) none, refl)
+  where
+    none : LetsGo 0 before before
+    none = record { since = []; saw = sym (append-nil before.list); gone = refl }
+
+pub last_gone : (a b c : SeatSeen) (n : ℕ) → Goes a b → Counts a b n → LetsGo 0 b c → Counts a c n
+last_gone a b c n goes p q =
+    (p.0 + 0, gone_on p.0 0 a b c goes p.1 q, p.2 ∙ ap (λ k. min k (2 ^ 64 - 1)) (sym (add-zero p.0)))
+
+pub more_gone : (a b c : SeatSeen) (n m : ℕ) → m ≡ min (n + 1) (2 ^ 64 - 1) → Goes a b → Counts a b n → LetsGo 1 b c
+    → Counts a c m
+more_gone a b c n m e goes p q = (p.0 + 1, gone_on p.0 1 a b c goes p.1 q, let x = p.2 in omega (arith, e, x))

@@ -1,0 +1,358 @@
+-- What a call's seat made meanwhile: the call's own events alone.
+use Rattle.std.proofs.Common.{◌≡◌, ℕ, List, [], refl, ap, subst, ◌∙◌, inl, inr}
+use Rattle.std.specs.Prelude.{Option, Some, None}
+use Rattle.blockdev.specs.Jobs.{Task}
+use Rattle.machine.specs.declared.event.End.{End}
+use Rattle.machine.specs.declared.event.Event.{Event}
+use Rattle.machine.specs.declared.event.Event.TheVariants as event
+use Rattle.machine.specs.declared.event.Reply.{Reply}
+use Rattle.machine.specs.declared.event.Reply.TheVariants as reply
+use Rattle.pc_types.specs.declared.ids.HandleId.{HandleId}
+use Rattle.pc_types.specs.declared.ids.PageIndex.{PageIndex}
+use Rattle.pc_types.specs.declared.ids.Serial.{Serial}
+use Rattle.pc_types.specs.declared.ids.SyncId.{SyncId}
+use Rattle.pc_types.specs.declared.kind.Kind.{Kind}
+use Rattle.pc_types.specs.declared.kind.Kind.TheVariants.{Fill, Flush}
+use Rattle.pc_types.specs.declared.refusal.Refusal.{Refusal}
+use Rattle.trail.specs.declared.entry.Entry.{Entry}
+use Rattle.trail.specs.Entries.{end_with, entry_of, noted}
+use Rattle.held.specs.declared.log.Slip.{Slip}
+use Rattle.held.specs.Entered.{Made}
+use Rattle.held.specs.Shown.{HeldSeen, SeatSeen}
+use Rattle.locked.specs.Called.{Once, Only}
+use Rattle.locked.specs.Denials as under
+use Rattle.locked.specs.Firsts.{IsFirstDenied, Writes}
+use Rattle.locked.specs.declared.denied.Denied.{Denied}
+use Rattle.locked.proofs.Seats.{once_on, only_by, only_on, only_same, only_wider}
+use Rattle.shared.specs.Changes.{event_of}
+use Rattle.shared.specs.declared.writes.Change.{Change}
+use Rattle.shared.specs.declared.writes.Change.TheVariants.{Append, Truncate, Write}
+use Rattle.shared.specs.Own.{IsEviction, IsHelp, IsRoomEvent, IsTry, IsUndone}
+use Rattle.shared.specs.Synced.{IsFlushEnd, IsSyncBy, IsTurnOf, OneSync}
+use Rattle.shared.specs.Workers.{IsEnd, IsEndOf, IsWriteBack}
+use Rattle.shared.proofs.Making.{room_helps}
+
+-- ---- events as a history keeps them
+
+-- an end loses its bytes at most
+noted_end : (P : Event → Type 0) (kind : Kind) (end : End) (r : Reply)
+    → ((x : End) → x.serial ≡ end.serial → x.cache ≡ end.cache → P (event.End kind x)) → P (noted (event.End kind end) r)
+noted_end P kind end (reply.Refused why) f = f (end_with end []) refl refl
+noted_end P kind end r f = f end refl refl
+
+abbrev IsPlain : Event → Type 0
+IsPlain (event.End kind end) = ⊥
+IsPlain e = Unit {0}
+
+-- and what is no end nothing
+noted_plain : (e : Event) (r : Reply) → IsPlain e → noted e r ≡ e
+noted_plain (event.End kind end) r x = absurd x
+noted_plain e r x = refl
+
+only_denied : (own : Entry → Type 0) (e : Event) (old new : HeldSeen) (before after : SeatSeen) (d : Denied)
+    → ((why : Refusal) → own (entry_of before.number e (reply.Refused why))) → under.IsDenied e old new before after d
+    → Only own before after
+only_denied own e old new before after d is q = go d.refusal d.slip q
+  where
+    go : (r : Refusal) (o : Option Slip) → under.DeniedBy e old new before after r o → Only own before after
+    go r None q = only_same own before after q.2.1
+    go r (Some slip) q = only_by own e (reply.Refused r) old new before after slip (is r) q
+
+-- ---- one event
+
+pub only_event : (e : Event) (r : Reply) (old new : HeldSeen) (before after : SeatSeen) (slip : Slip)
+    → Made e r old new before after slip → IsPlain e → Only (λ x. x.event ≡ e) before after
+only_event e r old new before after slip m plain =
+    only_by (λ x. x.event ≡ e) e r old new before after slip (noted_plain e r plain) m
+
+pub only_event_denied : (e : Event) (old new : HeldSeen) (before after : SeatSeen) (d : Denied)
+    → under.IsDenied e old new before after d → IsPlain e → Only (λ x. x.event ≡ e) before after
+only_event_denied e old new before after d q plain =
+    only_denied (λ x. x.event ≡ e) e old new before after d (λ why. noted_plain e (reply.Refused why) plain) q
+
+-- ---- room
+
+only_age : (r : Reply) (old new : HeldSeen) (before after : SeatSeen) (slip : Slip)
+    → Made event.Age r old new before after slip → Only (λ x. IsEviction x.event) before after
+only_age r old new before after slip m = only_by (λ x. IsEviction x.event) event.Age r old new before after slip tt m
+
+pub only_age_denied : (old new : HeldSeen) (before after : SeatSeen) (d : Denied)
+    → under.IsDenied event.Age old new before after d → Only (λ x. IsEviction x.event) before after
+only_age_denied old new before after d q = only_denied (λ x. IsEviction x.event) event.Age old new before after d (λ why. tt) q
+
+-- pages aged, and one was let go, or that was refused
+pub only_evicts : (r t : Reply) (x y z w : HeldSeen) (a b c : SeatSeen) (first slip : Slip)
+    → Made event.Age r x y a b first → Made event.Evict t z w b c slip → Only (λ x. IsEviction x.event) a c
+only_evicts r t x y z w a b c first slip m n =
+    only_on (λ x. IsEviction x.event) a b c (only_age r x y a b first m)
+    (only_by (λ x. IsEviction x.event) event.Evict t z w b c slip tt n)
+
+pub only_evict_denied : (r : Reply) (x y z w : HeldSeen) (a b c : SeatSeen) (first : Slip) (d : Denied)
+    → Made event.Age r x y a b first → under.IsDenied event.Evict z w b c d → Only (λ x. IsEviction x.event) a c
+only_evict_denied r x y z w a b c first d m q =
+    only_on (λ x. IsEviction x.event) a b c (only_age r x y a b first m)
+    (only_denied (λ x. IsEviction x.event) event.Evict z w b c d (λ why. tt) q)
+
+pub eviction_on : (a b c : SeatSeen) → Only (λ x. IsEviction x.event) a b → Only (λ x. IsEviction x.event) b c
+    → Only (λ x. IsEviction x.event) a c
+eviction_on a b c p q = only_on (λ x. IsEviction x.event) a b c p q
+
+pub only_flush_end : (end : End) (r : Reply) (old new : HeldSeen) (before after : SeatSeen) (slip : Slip)
+    → Made (event.End Flush end) r old new before after slip → Only (λ x. IsFlushEnd x.event) before after
+only_flush_end end r old new before after slip m =
+    only_by (λ x. IsFlushEnd x.event) (event.End Flush end) r old new before after slip
+    (noted_end IsFlushEnd Flush end r (λ x a b. tt)) m
+
+pub only_flush_end_denied : (end : End) (old new : HeldSeen) (before after : SeatSeen) (d : Denied)
+    → under.IsDenied (event.End Flush end) old new before after d → Only (λ x. IsFlushEnd x.event) before after
+only_flush_end_denied end old new before after d q =
+    only_denied (λ x. IsFlushEnd x.event) (event.End Flush end) old new before after d (λ why. tt) q
+
+pub only_first_denied : (old new : HeldSeen) (before after : SeatSeen) (d : Denied)
+    → IsFirstDenied old new before after d → Only (λ x. IsRoomEvent x.event) before after
+only_first_denied old new before after d q =
+    only_denied (λ x. IsRoomEvent x.event) (event.FlushBegin q.file) old new before after d (λ why. tt) q.denied
+
+evicts_room : (e : Event) → IsEviction e → IsRoomEvent e
+evicts_room event.Evict x = tt
+evicts_room event.Age x = tt
+evicts_room e x = absurd x
+
+pub only_evicted : (a b : SeatSeen) → Only (λ x. IsEviction x.event) a b → Only (λ x. IsRoomEvent x.event) a b
+only_evicted a b p = only_wider (λ x. IsEviction x.event) (λ x. IsRoomEvent x.event) a b (λ e. evicts_room e.event) p
+
+-- none was idle, and a page was written
+pub only_evicted_on : (a b c : SeatSeen) → Only (λ x. IsEviction x.event) a b → Only (λ x. IsRoomEvent x.event) b c
+    → Only (λ x. IsRoomEvent x.event) a c
+only_evicted_on a b c p q = only_on (λ x. IsRoomEvent x.event) a b c (only_evicted a b p) q
+
+ends_room : (e : Event) → IsFlushEnd e → IsRoomEvent e
+ends_room (event.End Flush end) x = tt
+ends_room (event.End Fill end) x = absurd x
+ends_room e x = absurd x
+
+-- a write was begun and ended
+pub only_written : (job : Task) (slip : Slip) (old new : HeldSeen) (a b c : SeatSeen) → Writes job slip old new a b
+    → Only (λ x. IsFlushEnd x.event) b c → Only (λ x. IsRoomEvent x.event) a c
+only_written job slip old new a b c w p =
+    only_on (λ x. IsRoomEvent x.event) a b c
+    (only_by (λ x. IsRoomEvent x.event) (event.FlushBegin w.file) (reply.Job (record { 0 = job.serial })) old new a b slip tt w.made)
+    (only_wider (λ x. IsFlushEnd x.event) (λ x. IsRoomEvent x.event) b c (λ e. ends_room e.event) p)
+
+pub only_room_on : (a b c : SeatSeen) → Only (λ x. IsRoomEvent x.event) a b → Only (λ x. IsRoomEvent x.event) b c
+    → Only (λ x. IsRoomEvent x.event) a c
+only_room_on a b c p q = only_on (λ x. IsRoomEvent x.event) a b c p q
+
+-- ---- fills
+
+pub only_fill_begin : (h : HandleId) (p : PageIndex) (r : Reply) (old new : HeldSeen) (before after : SeatSeen) (slip : Slip)
+    → Made (event.FillBegin h p) r old new before after slip → Only (λ x. IsHelp h x.event) before after
+only_fill_begin h p r old new before after slip m =
+    only_by (λ x. IsHelp h x.event) (event.FillBegin h p) r old new before after slip refl m
+
+pub only_fill_begin_denied : (h : HandleId) (p : PageIndex) (old new : HeldSeen) (before after : SeatSeen) (d : Denied)
+    → under.IsDenied (event.FillBegin h p) old new before after d → Only (λ x. IsHelp h x.event) before after
+only_fill_begin_denied h p old new before after d q =
+    only_denied (λ x. IsHelp h x.event) (event.FillBegin h p) old new before after d (λ why. refl) q
+
+-- a fill was begun, and helped on
+pub only_begun_on : (h : HandleId) (p : PageIndex) (r : Reply) (old new : HeldSeen) (a b c : SeatSeen) (slip : Slip)
+    → Made (event.FillBegin h p) r old new a b slip → Only (λ x. IsHelp h x.event) b c → Only (λ x. IsHelp h x.event) a c
+only_begun_on h p r old new a b c slip m q =
+    only_on (λ x. IsHelp h x.event) a b c (only_fill_begin h p r old new a b slip m) q
+
+pub only_fill_end : (h : HandleId) (end : End) (r : Reply) (old new : HeldSeen) (before after : SeatSeen) (slip : Slip)
+    → Made (event.End Fill end) r old new before after slip → Only (λ x. IsHelp h x.event) before after
+only_fill_end h end r old new before after slip m =
+    only_by (λ x. IsHelp h x.event) (event.End Fill end) r old new before after slip
+    (noted_end (IsHelp h) Fill end r (λ x a b. tt)) m
+
+pub only_fill_end_denied : (h : HandleId) (end : End) (old new : HeldSeen) (before after : SeatSeen) (d : Denied)
+    → under.IsDenied (event.End Fill end) old new before after d → Only (λ x. IsHelp h x.event) before after
+only_fill_end_denied h end old new before after d q =
+    only_denied (λ x. IsHelp h x.event) (event.End Fill end) old new before after d (λ why. tt) q
+
+pub only_room : (h : HandleId) (a b : SeatSeen) → Only (λ x. IsRoomEvent x.event) a b → Only (λ x. IsHelp h x.event) a b
+only_room h a b p = only_wider (λ x. IsRoomEvent x.event) (λ x. IsHelp h x.event) a b (λ e. room_helps h e.event) p
+
+-- room was made, and a page filled
+pub only_filled : (h : HandleId) (a b c : SeatSeen) → Only (λ x. IsRoomEvent x.event) a b → Only (λ x. IsHelp h x.event) b c
+    → Only (λ x. IsHelp h x.event) a c
+only_filled h a b c p q = only_on (λ x. IsHelp h x.event) a b c (only_room h a b p) q
+
+-- ---- calls
+
+pub only_try : (h : HandleId) (own : Event) (r : Reply) (old new : HeldSeen) (before after : SeatSeen) (slip : Slip)
+    → Made own r old new before after slip → IsPlain own → IsUndone r → Only (IsTry h own) before after
+only_try h own r old new before after slip m plain undone =
+    only_by (IsTry h own) own r old new before after slip (inl (noted_plain own r plain, undone)) m
+
+pub only_try_denied : (h : HandleId) (own : Event) (old new : HeldSeen) (before after : SeatSeen) (d : Denied)
+    → under.IsDenied own old new before after d → IsPlain own → Only (IsTry h own) before after
+only_try_denied h own old new before after d q plain =
+    only_denied (IsTry h own) own old new before after d (λ why. inl (noted_plain own (reply.Refused why) plain, tt)) q
+
+pub only_try_on : (h : HandleId) (own : Event) (a b c : SeatSeen) → Only (IsTry h own) a b → Only (IsTry h own) b c
+    → Only (IsTry h own) a c
+only_try_on h own a b c p q = only_on (IsTry h own) a b c p q
+
+pub once_try_on : (h : HandleId) (own : Event) (a b c : SeatSeen) → Only (IsTry h own) a b → Once (IsTry h own) b c
+    → Once (IsTry h own) a c
+once_try_on h own a b c p q = once_on (IsTry h own) a b c p q
+
+pub change_plain : (change : Change) (h : HandleId) (bytes : List ℕ) → IsPlain (event_of change h bytes)
+change_plain (Write at) h bytes = tt
+change_plain Append h bytes = tt
+change_plain (Truncate size) h bytes = tt
+
+only_help : (h : HandleId) (own : Event) (a b : SeatSeen) → Only (λ x. IsHelp h x.event) a b → Only (IsTry h own) a b
+only_help h own a b p = only_wider (λ x. IsHelp h x.event) (IsTry h own) a b (λ e x. inr x) p
+
+-- the event was not done, and help came
+pub only_missed : (h g : HandleId) (own : Event) (r : Reply) (old new : HeldSeen) (a b c : SeatSeen) (slip : Slip)
+    → Made own r old new a b slip → IsPlain own → IsUndone r → g ≡ h → Only (λ x. IsHelp g x.event) b c
+    → Only (IsTry h own) a c
+only_missed h g own r old new a b c slip m plain undone same p =
+    only_on (IsTry h own) a b c (only_try h own r old new a b slip m plain undone)
+    (only_help h own b c (subst (λ (n : HandleId). Only (λ x. IsHelp n x.event) b c) same p))
+
+-- it was refused, and room was made
+pub only_settled : (h : HandleId) (own : Event) (old new : HeldSeen) (a b c : SeatSeen) (d : Denied)
+    → under.IsDenied own old new a b d → IsPlain own → Only (λ x. IsRoomEvent x.event) b c → Only (IsTry h own) a c
+only_settled h own old new a b c d q plain p =
+    only_on (IsTry h own) a b c (only_try_denied h own old new a b d q plain) (only_help h own b c (only_room h b c p))
+
+-- ---- syncs
+
+pub only_step : (m : SyncId) (r : Reply) (old new : HeldSeen) (before after : SeatSeen) (slip : Slip)
+    → Made (event.SyncStep m) r old new before after slip → Only (λ x. IsTurnOf m x.event) before after
+only_step m r old new before after slip q =
+    only_by (λ x. IsTurnOf m x.event) (event.SyncStep m) r old new before after slip refl q
+
+pub only_step_denied : (m : SyncId) (old new : HeldSeen) (before after : SeatSeen) (d : Denied)
+    → under.IsDenied (event.SyncStep m) old new before after d → Only (λ x. IsTurnOf m x.event) before after
+only_step_denied m old new before after d q =
+    only_denied (λ x. IsTurnOf m x.event) (event.SyncStep m) old new before after d (λ why. refl) q
+
+ends_turn : (m : SyncId) (e : Event) → IsFlushEnd e → IsTurnOf m e
+ends_turn m (event.End Flush end) x = x
+ends_turn m (event.End Fill end) x = absurd x
+ends_turn m e x = absurd x
+
+-- a step began a write, which was ended
+pub only_turned : (m : SyncId) (r : Reply) (old new : HeldSeen) (a b c : SeatSeen) (slip : Slip)
+    → Made (event.SyncStep m) r old new a b slip → Only (λ x. IsFlushEnd x.event) b c → Only (λ x. IsTurnOf m x.event) a c
+only_turned m r old new a b c slip q p =
+    only_on (λ x. IsTurnOf m x.event) a b c (only_step m r old new a b slip q)
+    (only_wider (λ x. IsFlushEnd x.event) (λ x. IsTurnOf m x.event) b c (λ e. ends_turn m e.event) p)
+
+pub only_turn_on : (m : SyncId) (a b c : SeatSeen) → Only (λ x. IsTurnOf m x.event) a b → Only (λ x. IsTurnOf m x.event) b c
+    → Only (λ x. IsTurnOf m x.event) a c
+only_turn_on m a b c p q = only_on (λ x. IsTurnOf m x.event) a b c p q
+
+begun : (h : HandleId) (first last : PageIndex) (m : SyncId) (old new : HeldSeen) (before at : SeatSeen) (slip : Slip)
+    → Made (event.SyncBegin h first last) (reply.Sync m) old new before at slip → Only (IsSyncBy h first last m) before at
+begun h first last m old new before at slip q =
+    only_by (IsSyncBy h first last m) (event.SyncBegin h first last) (reply.Sync m) old new before at slip
+    (inl (refl, refl)) q
+
+turned : (h : HandleId) (first last : PageIndex) (m : SyncId) (a b : SeatSeen) → Only (λ x. IsTurnOf m x.event) a b
+    → Only (IsSyncBy h first last m) a b
+turned h first last m a b p =
+    only_wider (λ x. IsTurnOf m x.event) (IsSyncBy h first last m) a b (λ e x. inr (inr x)) p
+
+dropped : (h : HandleId) (first last : PageIndex) (m : SyncId) (a b : SeatSeen) → Only (λ x. x.event ≡ event.SyncDrop m) a b
+    → Only (IsSyncBy h first last m) a b
+dropped h first last m a b p =
+    only_wider (λ x. x.event ≡ event.SyncDrop m) (IsSyncBy h first last m) a b (λ e x. inr (inl x)) p
+
+pub sync_same : (h : HandleId) (first last : PageIndex) (before after : SeatSeen) → after ≡ before
+    → OneSync h first last before after
+sync_same h first last before after e = record {
+  sync = record { 0 = 0 };
+  only = only_same (IsSyncBy h first last (record { 0 = 0 })) before after e;
+}
+
+pub sync_not_begun : (h : HandleId) (first last : PageIndex) (old new : HeldSeen) (before after : SeatSeen) (d : Denied)
+    → under.IsDenied (event.SyncBegin h first last) old new before after d → OneSync h first last before after
+sync_not_begun h first last old new before after d q = record {
+  sync = record { 0 = 0 };
+  only = only_denied (IsSyncBy h first last (record { 0 = 0 })) (event.SyncBegin h first last) old new before after d
+      (λ why. inl (refl, tt)) q;
+}
+
+pub sync_over : (h : HandleId) (first last : PageIndex) (m : SyncId) (old new : HeldSeen) (a b c : SeatSeen) (slip : Slip)
+    → Made (event.SyncBegin h first last) (reply.Sync m) old new a b slip → Only (λ x. IsTurnOf m x.event) b c
+    → OneSync h first last a c
+sync_over h first last m old new a b c slip q p = record {
+  sync = m;
+  only = only_on (IsSyncBy h first last m) a b c
+      (begun h first last m old new a b slip q) (turned h first last m b c p);
+}
+
+pub sync_given_up : (h : HandleId) (first last : PageIndex) (m : SyncId) (old new : HeldSeen) (a b c d : SeatSeen) (slip : Slip)
+    → Made (event.SyncBegin h first last) (reply.Sync m) old new a b slip → Only (λ x. IsTurnOf m x.event) b c
+    → Only (λ x. x.event ≡ event.SyncDrop m) c d → OneSync h first last a d
+sync_given_up h first last m old new a b c d slip q p last_one = record {
+  sync = m;
+  only = only_on (IsSyncBy h first last m) a b d
+      (begun h first last m old new a b slip q)
+      (only_on (IsSyncBy h first last m) b c d (turned h first last m b c p) (dropped h first last m c d last_one));
+}
+
+-- ---- workers
+
+pub only_end : (job : Task) (kind : Kind) (end : End) (r : Reply) (old new : HeldSeen) (before after : SeatSeen) (slip : Slip)
+    → kind ≡ job.kind → end.serial.0 ≡ job.serial → end.cache ≡ job.cache
+    → Made (event.End kind end) r old new before after slip → Only (λ x. IsEndOf job x.event) before after
+only_end job kind end r old new before after slip same serial cache m =
+    only_by (λ x. IsEndOf job x.event) (event.End kind end) r old new before after slip
+    (noted_end (IsEndOf job) kind end r (λ x a b. (same, ap (λ (n : Serial). n.0) a ∙ serial, b ∙ cache))) m
+
+pub only_end_denied : (job : Task) (kind : Kind) (end : End) (old new : HeldSeen) (before after : SeatSeen) (d : Denied)
+    → kind ≡ job.kind → end.serial.0 ≡ job.serial → end.cache ≡ job.cache
+    → under.IsDenied (event.End kind end) old new before after d → Only (λ x. IsEndOf job x.event) before after
+only_end_denied job kind end old new before after d same serial cache q =
+    only_denied (λ x. IsEndOf job x.event) (event.End kind end) old new before after d (λ why. (same, serial, cache)) q
+
+ends_job : (job : Task) (e : Event) → IsEndOf job e → IsEnd e
+ends_job job (event.End kind end) x = tt
+ends_job job e x = absurd x
+
+pub only_job : (job : Task) (a b : SeatSeen) → Only (λ x. IsEndOf job x.event) a b → Only (λ x. IsEnd x.event) a b
+only_job job a b p = only_wider (λ x. IsEndOf job x.event) (λ x. IsEnd x.event) a b (λ e. ends_job job e.event) p
+
+pub only_ends_on : (a b c : SeatSeen) → Only (λ x. IsEnd x.event) a b → Only (λ x. IsEnd x.event) b c
+    → Only (λ x. IsEnd x.event) a c
+only_ends_on a b c p q = only_on (λ x. IsEnd x.event) a b c p q
+
+-- a job was ended too
+pub only_job_on : (job : Task) (a b c : SeatSeen) → Only (λ x. IsEnd x.event) a b → Only (λ x. IsEndOf job x.event) b c
+    → Only (λ x. IsEnd x.event) a c
+only_job_on job a b c p q = only_ends_on a b c p (only_job job b c q)
+
+ends_write_back : (e : Event) → IsEnd e → IsWriteBack e
+ends_write_back (event.End kind end) x = tt
+ends_write_back e x = absurd x
+
+-- a write was begun and ended
+pub only_flushed : (job : Task) (a b c : SeatSeen) → Only (λ x. IsWriteBack x.event) a b → Only (λ x. IsEndOf job x.event) b c
+    → Only (λ x. IsWriteBack x.event) a c
+only_flushed job a b c p q =
+    only_on (λ x. IsWriteBack x.event) a b c p
+    (only_wider (λ x. IsEnd x.event) (λ x. IsWriteBack x.event) b c (λ e. ends_write_back e.event) (only_job job b c q))
+
+pub only_write_back_on : (a b c : SeatSeen) → Only (λ x. IsWriteBack x.event) a b → Only (λ x. IsWriteBack x.event) b c
+    → Only (λ x. IsWriteBack x.event) a c
+only_write_back_on a b c p q = only_on (λ x. IsWriteBack x.event) a b c p q
+
+pub only_begun : (job : Task) (slip : Slip) (old new : HeldSeen) (before after : SeatSeen)
+    → Writes job slip old new before after → Only (λ x. IsWriteBack x.event) before after
+only_begun job slip old new before after w =
+    only_by (λ x. IsWriteBack x.event) (event.FlushBegin w.file) (reply.Job (record { 0 = job.serial })) old new before after
+    slip tt w.made
+
+pub only_begun_denied : (old new : HeldSeen) (before after : SeatSeen) (d : Denied)
+    → IsFirstDenied old new before after d → Only (λ x. IsWriteBack x.event) before after
+only_begun_denied old new before after d q =
+    only_denied (λ x. IsWriteBack x.event) (event.FlushBegin q.file) old new before after d (λ why. tt) q.denied

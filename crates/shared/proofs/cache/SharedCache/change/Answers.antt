@@ -1,0 +1,25 @@
+use Rattle.std.proofs.Common.{refl}
+use Rattle.locked.proofs.Seats.{goes_on, goes_same, only_same}
+use Rattle.shared.specs.Changes.{event_of}
+use Rattle.shared.specs.Own.{IsTry}
+use Rattle.shared.proofs.Owning.{once_try_on, only_try_on}
+use Rattle.shared.proofs.cache.SharedCache.change.Goals as goal
+
+pub attempts-init : goal.attempts-init
+attempts-init g c = record {
+  goes = goes_same c.args.seat.now c.args.seat.now refl;
+  tried = only_same (IsTry c.args.handle (event_of c.args.change c.args.handle c.args.bytes.now)) c.args.seat.now c.args.seat.now
+      refl;
+}
+
+pub returns-in-Ok-Some-clause-once : goal.returns-in-Ok-Some-clause-once
+returns-in-Ok-Some-clause-once g c =
+    once_try_on c.args.handle (event_of c.args.change c.args.handle c.args.bytes.now) c.args.seat.now c.attempts.seat
+    c.try_change.new.seat c.attempts.invariant.tried (rw c.in-Ok-Some.field-0-is at c.in-Ok-Some.ensures.once)
+
+pub attempts-preserved : goal.attempts-preserved
+attempts-preserved g c = record {
+  goes = goes_on c.args.seat.now c.attempts.seat c.try_change.new.seat c.attempts.invariant.goes c.try_change.ensures.goes;
+  tried = only_try_on c.args.handle (event_of c.args.change c.args.handle c.args.bytes.now) c.args.seat.now c.attempts.seat
+      c.try_change.new.seat c.attempts.invariant.tried (rw c.in-Ok-None.field-0-is at c.in-Ok-None.ensures.tried);
+}

@@ -1,0 +1,34 @@
+use Rattle.std.proofs.Common.{ℕ, ◌∙◌, List, ap, length, subst}
+use Rattle.machine.specs.declared.event.Event.TheVariants as event
+use Rattle.pc_types.specs.declared.ids.HandleId.{HandleId}
+use Rattle.locked.specs.Called.{Once, Only}
+use Rattle.locked.proofs.Seats.{goes_on}
+use Rattle.shared.specs.Own.{IsTry}
+use Rattle.shared.specs.Seen.{HandleSeen}
+use Rattle.shared.proofs.Owning.{once_try_on, only_try_on}
+use Rattle.shared.proofs.cache.SharedCache.pread.Goals as goal
+
+pub returns-in-Ok-Some-clause-once : goal.returns-in-Ok-Some-clause-once
+returns-in-Ok-Some-clause-once g c =
+    let h = c.args.handle.now.number in
+    once_try_on h (event.Read h c.args.offset (length c.args.out.now)) c.args.seat.now c.attempts.seat c.try_read.new.seat
+    c.attempts.invariant.tried
+    (subst (λ (n : HandleId). Once (IsTry n (event.Read n c.args.offset (length c.args.out.now))) c.attempts.seat
+    c.try_read.new.seat) (ap (λ (x : HandleSeen). x.number) c.handle.view_is)
+    (subst (λ (l : List ℕ). Once (IsTry c.handle.inside.number (event.Read c.handle.inside.number c.args.offset (length l)))
+    c.attempts.seat c.try_read.new.seat) c.attempts.invariant.out (rw c.in-Ok-Some.field-0-is at c.in-Ok-Some.ensures.once)))
+
+pub attempts-preserved : goal.attempts-preserved
+attempts-preserved g c =
+    let h = c.args.handle.now.number in
+    record {
+      goes = goes_on c.args.seat.now c.attempts.seat c.try_read.new.seat c.attempts.invariant.goes c.try_read.ensures.goes;
+      tried =
+          only_try_on h (event.Read h c.args.offset (length c.args.out.now)) c.args.seat.now c.attempts.seat c.try_read.new.seat
+          c.attempts.invariant.tried
+          (subst (λ (n : HandleId). Only (IsTry n (event.Read n c.args.offset (length c.args.out.now))) c.attempts.seat
+          c.try_read.new.seat) (ap (λ (x : HandleSeen). x.number) c.handle.view_is)
+          (subst (λ (l : List ℕ). Only (IsTry c.handle.inside.number (event.Read c.handle.inside.number c.args.offset (length l)))
+          c.attempts.seat c.try_read.new.seat) c.attempts.invariant.out (rw c.in-Ok-None.field-0-is at c.in-Ok-None.ensures.tried)));
+      out = (rw c.in-Ok-None.field-0-is at c.in-Ok-None.ensures.same) ∙ c.attempts.invariant.out;
+    }

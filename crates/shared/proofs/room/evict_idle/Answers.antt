@@ -1,0 +1,33 @@
+use Rattle.std.proofs.Common.{subst, sym}
+use Rattle.std.specs.Prelude.{if◌then◌else◌}
+use Rattle.machine.specs.declared.event.Event.TheVariants as event
+use Rattle.locked.proofs.Seats.{goes_by, goes_on}
+use Rattle.shared.specs.Workers.{LetsGo}
+use Rattle.shared.proofs.Letting.{evicted_gone}
+use Rattle.shared.proofs.Making.{goes_denied}
+use Rattle.shared.proofs.Owning.{only_evict_denied, only_evicts}
+use Rattle.shared.proofs.room.evict_idle.Goals as goal
+
+pub returns-in-Ok-clause-goes : goal.returns-in-Ok-clause-goes
+returns-in-Ok-clause-goes g c =
+    goes_on c.args.seat.now c.age.new.seat c.evict.new.seat (goes_by _ _ _ _ _ _ _ c.in_default.ensures.made)
+    (goes_by _ _ _ _ _ _ _ c.in-Ok.ensures.made)
+
+pub returns-in-Err-evict-clause-goes : goal.returns-in-Err-evict-clause-goes
+returns-in-Err-evict-clause-goes g c =
+    goes_on c.args.seat.now c.age.new.seat c.evict.new.seat (goes_by _ _ _ _ _ _ _ c.in_default.ensures.made)
+    (goes_denied event.Evict c.age.new.self c.evict.new.self c.age.new.seat c.evict.new.seat c.in-Err-evict.denied
+    c.in-Err-evict.ensures.denied)
+
+pub returns-in-Ok-clause-gone : goal.returns-in-Ok-clause-gone
+returns-in-Ok-clause-gone g c =
+    subst (λ b. LetsGo (if b then 1 else 0) c.args.seat.now c.evict.new.seat) (sym c.is_some.ensures)
+    (evicted_gone _ c.in-Ok.page _ _ _ _ _ _ _ _ _ c.in_default.ensures.made c.in-Ok.ensures.made)
+
+pub returns-in-Ok-clause-only : goal.returns-in-Ok-clause-only
+returns-in-Ok-clause-only g c =
+    only_evicts _ _ _ _ _ _ _ _ _ _ _ c.in_default.ensures.made c.in-Ok.ensures.made
+
+pub returns-in-Err-evict-clause-only : goal.returns-in-Err-evict-clause-only
+returns-in-Err-evict-clause-only g c =
+    only_evict_denied _ _ _ _ _ _ _ _ _ _ c.in_default.ensures.made c.in-Err-evict.ensures.denied
