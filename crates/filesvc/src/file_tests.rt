@@ -25,27 +25,30 @@ const FRAMES: u64 = PAGES + 32;
 /// A service over a file, and a handle that it opened.
 #[derive(Drop)]
 struct Desk {
-    solo: Solo<FileDevice>,
+    // in a box, since the check is slow where a service itself goes out of scope
+    solo: Box<Solo<FileDevice>>,
     handle: Handle,
 }
 
 impl Model for Desk {
+    ghost use Rattle.std.specs.Prelude.{box_value};
     ghost use Rattle.filesvc.specs.Service.{IsOpen};
 
     ghost Value = { Unit };
 
     ghost view = { λ d. tt };
 
-    ghost invariant = { λ d. IsOpen d.solo d.handle };
+    ghost invariant = { λ d. IsOpen (box_value d.solo) d.handle };
 }
 
 impl Desk {
     fn new(rt: &HostRuntime, path: Path) -> Result<Desk, Refusal> {
         let geometry = Geometry::new(PAGE, FRAMES, PAGES, 2 * FRAMES)?;
         let device = FileDevice::open(rt, rt.alloc(), path, PAGE, 2 * FRAMES)?;
-        let Ok(mut solo) = Solo::new(rt.alloc(), &geometry, 7, device) else {
+        let Ok(solo) = Solo::new(rt.alloc(), &geometry, 7, device) else {
             return Err(Refusal::Memory);
         };
+        let mut solo = Box::new(rt.alloc(), solo)?;
         let handle = open_new(&mut solo)?;
         Ok(Desk { solo, handle })
     }

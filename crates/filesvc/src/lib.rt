@@ -7,6 +7,8 @@
 //! end in one. specs/Service.antt says what holds of every call.
 
 #[cfg(test)]
+mod checks;
+#[cfg(test)]
 mod file_tests;
 mod fsync;
 mod handle;

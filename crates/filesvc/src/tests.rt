@@ -1,5 +1,4 @@
-//! A service as its callers use it, over a device that fails where it is told to. Every row is run by `over_a_service`, since the
-//! check is slow where a service is dropped.
+//! A service as its callers use it, over a device that fails where it is told to.
 
 ghost use Rattle.std.specs.Prelude.{◌≡◌, IfOk, None, OnOk};
 ghost use Rattle.pc_types.specs.Files.{pwrite};
@@ -8,6 +7,7 @@ ghost use Rattle.filesvc.specs.Service as service;
 ghost use Rattle.filesvc.specs.Service.{CameFrom, IsOnDevice, IsOpen, Names, Tells};
 
 use super::*;
+use crate::checks::{check, same};
 use blockdev::{BlockDevice, FaultEffect, ScriptDevice};
 use cachecore::PageTags;
 use pc_types::{BlockNo, ErrCode, FileId, Geometry, PageIndex, Refusal, Tag};
@@ -70,18 +70,20 @@ impl BlockDevice for OddDevice {
 /// A service and a handle that it opened.
 #[derive(Drop)]
 struct Desk {
-    solo: Solo<OddDevice>,
+    // in a box, since the check is slow where a service itself goes out of scope
+    solo: Box<Solo<OddDevice>>,
     handle: Handle,
 }
 
 impl Model for Desk {
+    ghost use Rattle.std.specs.Prelude.{box_value};
     ghost use Rattle.filesvc.specs.Service.{IsOpen};
 
     ghost Value = { Unit };
 
     ghost view = { λ d. tt };
 
-    ghost invariant = { λ d. IsOpen d.solo d.handle };
+    ghost invariant = { λ d. IsOpen (box_value d.solo) d.handle };
 }
 
 impl Desk {
@@ -141,8 +143,7 @@ impl Desk {
     /// The same service with its file closed, and opened again.
     fn reopened(self) -> Result<Desk, Refusal> {
         let Desk { mut solo, handle } = self;
-        let _ = solo.close(handle);
-        let handle = solo.open(FileId(0), false)?;
+        let handle = reopen(&mut solo, handle)?;
         Ok(Desk { solo, handle })
     }
 }
@@ -156,157 +157,157 @@ fn full() -> Result<ErrCode, Refusal> {
 fn moves_a_cursor(rt: &impl Abort, desk: &mut Desk) {
     let mut out = [0; 16];
     let mut part = [0; 8];
-    assert_eq!(rt; desk.write(&[1, 2, 3]), Ok(3));
-    assert_eq!(rt; desk.seek(Seek::Set(1)), Ok(1));
-    assert_eq!(rt; desk.read(&mut part), Ok(2));
-    assert!(rt; part.starts_with(&[2, 3, 0]));
-    assert_eq!(rt; desk.read(&mut part), Ok(0));
-    assert_eq!(rt; desk.seek(Seek::End(2)), Ok(5));
-    assert_eq!(rt; desk.write(&[255]), Ok(1));
-    assert_eq!(rt; desk.pread(0, &mut out), Ok(6));
-    assert!(rt; out.starts_with(&[1, 2, 3, 0, 0, 255, 0]));
-    assert_eq!(rt; desk.seek(Seek::Cur(-7)), Err(Refusal::TooLarge));
-    assert_eq!(rt; desk.seek(Seek::Cur(0)), Ok(6));
-    assert_eq!(rt;
+    same(rt, desk.write(&[1, 2, 3]), Ok(3));
+    same(rt, desk.seek(Seek::Set(1)), Ok(1));
+    same(rt, desk.read(&mut part), Ok(2));
+    check(rt, part.starts_with(&[2, 3, 0]));
+    same(rt, desk.read(&mut part), Ok(0));
+    same(rt, desk.seek(Seek::End(2)), Ok(5));
+    same(rt, desk.write(&[255]), Ok(1));
+    same(rt, desk.pread(0, &mut out), Ok(6));
+    check(rt, out.starts_with(&[1, 2, 3, 0, 0, 255, 0]));
+    same(rt, desk.seek(Seek::Cur(-7)), Err(Refusal::TooLarge));
+    same(rt, desk.seek(Seek::Cur(0)), Ok(6));
+    same(
+        rt,
         desk.seek(Seek::Set(1_099_511_627_777)),
-        Err(Refusal::TooLarge)
+        Err(Refusal::TooLarge),
     );
-    assert_eq!(rt; desk.truncate(2), Ok(()));
-    assert_eq!(rt; desk.pread(0, &mut out), Ok(2));
-    assert!(rt; out.starts_with(&[1, 2]));
+    same(rt, desk.truncate(2), Ok(()));
+    same(rt, desk.pread(0, &mut out), Ok(2));
+    check(rt, out.starts_with(&[1, 2]));
 }
 
 // A failed write is told once, and the next sync succeeds.
 fn tells_an_error_once(rt: &impl Abort, desk: &mut Desk) -> Result<(), Refusal> {
-    assert_eq!(rt; desk.pwrite(0, &[0xaa]), Ok(1));
-    assert_eq!(rt; desk.fsync(), Err(Refusal::Io(full()?)));
-    assert_eq!(rt; desk.poll_error(), Ok(None));
-    assert_eq!(rt; desk.fsync(), Ok(()));
-    assert_eq!(rt; desk.fsync(), Ok(()));
+    same(rt, desk.pwrite(0, &[0xaa]), Ok(1));
+    same(rt, desk.fsync(), Err(Refusal::Io(full()?)));
+    same(rt, desk.poll_error(), Ok(None));
+    same(rt, desk.fsync(), Ok(()));
+    same(rt, desk.fsync(), Ok(()));
     Ok(())
 }
 
 // Where nothing was written since the last good flush none is made. One that fails is answered each time, and the handle is told nothing.
 fn flushes_again(rt: &impl Abort, desk: &mut Desk) {
-    let failed = Err(Refusal::Io(ErrCode::IO));
-    assert_eq!(rt; desk.pwrite(0, &[1]), Ok(1));
-    assert_eq!(rt; desk.fsync(), Ok(()));
-    assert_eq!(rt; desk.fsync(), Ok(()));
-    assert_eq!(rt; desk.pwrite(0, &[2]), Ok(1));
-    assert_eq!(rt; desk.fsync(), failed);
-    assert!(rt; !desk.is_dirty(0));
-    assert_eq!(rt; desk.poll_error(), Ok(None));
-    assert_eq!(rt; desk.fsync_range(3, 4), failed);
+    same(rt, desk.pwrite(0, &[1]), Ok(1));
+    same(rt, desk.fsync(), Ok(()));
+    same(rt, desk.fsync(), Ok(()));
+    same(rt, desk.pwrite(0, &[2]), Ok(1));
+    same(rt, desk.fsync(), Err(Refusal::Io(ErrCode::IO)));
+    check(rt, !desk.is_dirty(0));
+    same(rt, desk.poll_error(), Ok(None));
+    same(rt, desk.fsync_range(3, 4), Err(Refusal::Io(ErrCode::IO)));
 }
 
 // More fsyncs than syncs may be in progress at once, one after the other.
 fn syncs_again_and_again(rt: &impl Abort, desk: &mut Desk) {
     for at in 0..65u64 {
-        assert_eq!(rt; desk.pwrite(at, &[1]), Ok(1));
-        assert_eq!(rt; desk.fsync(), Ok(()));
-        assert_eq!(rt; desk.solo.attempts(), 1);
+        same(rt, desk.pwrite(at, &[1]), Ok(1));
+        same(rt, desk.fsync(), Ok(()));
+        same(rt, desk.solo.attempts(), 1);
     }
 }
 
 // A sync of a range writes the dirty pages of the range alone. One that is turned round is refused, and nothing else happens.
 fn syncs_a_range(rt: &impl Abort, desk: &mut Desk) {
-    assert_eq!(rt; desk.pwrite(0, &[0xaa]), Ok(1));
-    assert_eq!(rt; desk.pwrite(32, &[0xbb]), Ok(1));
-    assert_eq!(rt; desk.fsync_range(5, 4), Err(Refusal::BadRange));
-    assert!(rt; desk.is_dirty(0) && desk.is_dirty(2));
-    assert_eq!(rt; desk.fsync_range(2, 5), Ok(()));
-    assert_eq!(rt; desk.solo.attempts(), 1);
-    assert!(rt; desk.is_dirty(0) && !desk.is_dirty(2));
-    assert_eq!(rt; desk.fsync_range(7, 7), Ok(()));
-    assert!(rt; desk.is_dirty(0));
-    assert_eq!(rt; desk.fsync(), Ok(()));
-    assert!(rt; !desk.is_dirty(0));
+    same(rt, desk.pwrite(0, &[0xaa]), Ok(1));
+    same(rt, desk.pwrite(32, &[0xbb]), Ok(1));
+    same(rt, desk.fsync_range(5, 4), Err(Refusal::BadRange));
+    check(rt, desk.is_dirty(0) && desk.is_dirty(2));
+    same(rt, desk.fsync_range(2, 5), Ok(()));
+    same(rt, desk.solo.attempts(), 1);
+    check(rt, desk.is_dirty(0) && !desk.is_dirty(2));
+    same(rt, desk.fsync_range(7, 7), Ok(()));
+    check(rt, desk.is_dirty(0));
+    same(rt, desk.fsync(), Ok(()));
+    check(rt, !desk.is_dirty(0));
 }
 
 // A failed write of a page outside the range is told all the same, once.
 fn tells_of_any_page(rt: &impl Abort, desk: &mut Desk) -> Result<(), Refusal> {
-    assert_eq!(rt; desk.pwrite(0, &[1; 256]), Ok(256));
-    assert_eq!(rt; desk.pwrite(256, &[2]), Err(Refusal::DirtyLimit));
-    assert_eq!(rt; desk.fsync_range(3, 4), Err(Refusal::Io(full()?)));
-    assert_eq!(rt; desk.fsync_range(3, 4), Ok(()));
-    assert!(rt; desk.is_dirty(0) && desk.is_dirty(15));
+    same(rt, desk.pwrite(0, &[1; 256]), Ok(256));
+    same(rt, desk.pwrite(256, &[2]), Err(Refusal::DirtyLimit));
+    same(rt, desk.fsync_range(3, 4), Err(Refusal::Io(full()?)));
+    same(rt, desk.fsync_range(3, 4), Ok(()));
+    check(rt, desk.is_dirty(0) && desk.is_dirty(15));
     Ok(())
 }
 
 // Where as many pages are dirty as may be, a write makes room by writing one back.
 fn makes_room(rt: &impl Abort, desk: &mut Desk) {
-    assert_eq!(rt; desk.pwrite(0, &[1; 256]), Ok(256));
-    assert_eq!(rt; desk.solo.attempts(), 1);
-    assert_eq!(rt; desk.pwrite(256, &[2]), Ok(1));
-    assert_eq!(rt; desk.solo.attempts(), 2);
+    same(rt, desk.pwrite(0, &[1; 256]), Ok(256));
+    same(rt, desk.solo.attempts(), 1);
+    same(rt, desk.pwrite(256, &[2]), Ok(1));
+    same(rt, desk.solo.attempts(), 2);
 }
 
 // Where that fails, the write is refused, and the next sync tells of it.
 fn refuses_without_room(rt: &impl Abort, desk: &mut Desk) -> Result<(), Refusal> {
-    assert_eq!(rt; desk.pwrite(0, &[1; 256]), Ok(256));
-    assert_eq!(rt; desk.pwrite(256, &[2]), Err(Refusal::DirtyLimit));
-    assert_eq!(rt; desk.fsync(), Err(Refusal::Io(full()?)));
-    assert_eq!(rt; desk.fsync(), Ok(()));
+    same(rt, desk.pwrite(0, &[1; 256]), Ok(256));
+    same(rt, desk.pwrite(256, &[2]), Err(Refusal::DirtyLimit));
+    same(rt, desk.fsync(), Err(Refusal::Io(full()?)));
+    same(rt, desk.fsync(), Ok(()));
     Ok(())
 }
 
 // A write that failed while room was made, and that no handle was told of, is told to the next one that is opened, and to no other.
 fn hands_an_error_down(rt: &impl Abort, mut desk: Desk) -> Result<Desk, Refusal> {
-    assert_eq!(rt; desk.pwrite(0, &[1; 256]), Ok(256));
-    assert_eq!(rt; desk.pwrite(256, &[2]), Err(Refusal::DirtyLimit));
+    same(rt, desk.pwrite(0, &[1; 256]), Ok(256));
+    same(rt, desk.pwrite(256, &[2]), Err(Refusal::DirtyLimit));
     let mut desk = desk.reopened()?;
-    assert_eq!(rt; desk.poll_error(), Ok(Some(full()?)));
-    assert_eq!(rt; desk.poll_error(), Ok(None));
+    same(rt, desk.poll_error(), Ok(Some(full()?)));
+    same(rt, desk.poll_error(), Ok(None));
     let mut desk = desk.reopened()?;
-    assert_eq!(rt; desk.poll_error(), Ok(None));
+    same(rt, desk.poll_error(), Ok(None));
     Ok(desk)
 }
 
 // An appending handle writes at the end, and pwrite where it is told to.
 fn appends(rt: &impl Abort, desk: &mut Desk) {
     let mut out = [0; 8];
-    assert_eq!(rt; desk.write(&[1, 2]), Ok(2));
-    assert_eq!(rt; desk.seek(Seek::Set(0)), Ok(0));
-    assert_eq!(rt; desk.write(&[3]), Ok(1));
-    assert_eq!(rt; desk.handle.cursor(), 3);
-    assert_eq!(rt; desk.pwrite(0, &[9]), Ok(1));
-    assert_eq!(rt; desk.seek(Seek::Set(1)), Ok(1));
-    assert_eq!(rt; desk.write(&[]), Ok(0));
-    assert_eq!(rt; desk.handle.cursor(), 3);
-    assert_eq!(rt; desk.pread(0, &mut out), Ok(3));
-    assert!(rt; out.starts_with(&[9, 2, 3]));
-    assert_eq!(rt; desk.pread(3, &mut out), Ok(0));
+    same(rt, desk.write(&[1, 2]), Ok(2));
+    same(rt, desk.seek(Seek::Set(0)), Ok(0));
+    same(rt, desk.write(&[3]), Ok(1));
+    same(rt, desk.handle.cursor(), 3);
+    same(rt, desk.pwrite(0, &[9]), Ok(1));
+    same(rt, desk.seek(Seek::Set(1)), Ok(1));
+    same(rt, desk.write(&[]), Ok(0));
+    same(rt, desk.handle.cursor(), 3);
+    same(rt, desk.pread(0, &mut out), Ok(3));
+    check(rt, out.starts_with(&[9, 2, 3]));
+    same(rt, desk.pread(3, &mut out), Ok(0));
 }
 
 // More pages than frames: a read of an evicted page fills it again.
 fn reads_back(rt: &impl Abort, desk: &mut Desk) {
     for at in 0..64u64 {
-        assert_eq!(rt; desk.pwrite(at * 16, &[at as u8; 16]), Ok(16));
+        same(rt, desk.pwrite(at * 16, &[at as u8; 16]), Ok(16));
     }
-    assert_eq!(rt; desk.fsync(), Ok(()));
+    same(rt, desk.fsync(), Ok(()));
     let mut out = [0; 16];
     for at in 0..64u64 {
-        assert_eq!(rt; desk.pread(at * 16, &mut out), Ok(16));
-        assert!(rt; out == [at as u8; 16]);
+        same(rt, desk.pread(at * 16, &mut out), Ok(16));
+        check(rt, out == [at as u8; 16]);
     }
-    assert_eq!(rt; desk.pread(0, &mut [0; 1024]), Err(Refusal::TooLong));
+    same(rt, desk.pread(0, &mut [0; 1024]), Err(Refusal::TooLong));
 }
 
 // A page that was evicted and whose fill fails is refused with the code of its own device call, which is no failed write; the next
 // read fills it.
 fn fails_to_fill(rt: &impl Abort, desk: &mut Desk) -> Result<(), Refusal> {
     for at in 0..64u64 {
-        assert_eq!(rt; desk.pwrite(at * 16, &[at as u8; 16]), Ok(16));
+        same(rt, desk.pwrite(at * 16, &[at as u8; 16]), Ok(16));
     }
-    assert_eq!(rt; desk.fsync(), Ok(()));
+    same(rt, desk.fsync(), Ok(()));
     let mut out = [0; 16];
-    assert_eq!(rt; desk.pread(0, &mut out), Err(Refusal::Io(full()?)));
-    assert_eq!(rt; desk.solo.attempts(), 1);
-    assert_eq!(rt; desk.poll_error(), Ok(None));
-    assert_eq!(rt; desk.pread(16, &mut out), Ok(16));
-    assert!(rt; out == [1; 16]);
-    assert_eq!(rt; desk.pread(0, &mut out), Ok(16));
-    assert!(rt; out == [0; 16]);
+    same(rt, desk.pread(0, &mut out), Err(Refusal::Io(full()?)));
+    same(rt, desk.solo.attempts(), 1);
+    same(rt, desk.poll_error(), Ok(None));
+    same(rt, desk.pread(16, &mut out), Ok(16));
+    check(rt, out == [1; 16]);
+    same(rt, desk.pread(0, &mut out), Ok(16));
+    check(rt, out == [0; 16]);
     Ok(())
 }
 
@@ -314,35 +315,44 @@ fn fails_to_fill(rt: &impl Abort, desk: &mut Desk) -> Result<(), Refusal> {
 fn is_never_stuck(rt: &impl Abort, desk: &mut Desk, clean: u16, dirty: u16) {
     let mut out = [0; 32];
     for page in 0..3000u64 {
-        assert_eq!(rt; desk.pwrite(page * 16, &[(page % 256) as u8; 16]), Ok(16));
+        same(
+            rt,
+            desk.pwrite(page * 16, &[(page % 256) as u8; 16]),
+            Ok(16),
+        );
     }
-    assert_eq!(rt; desk.fsync(), Ok(()));
+    same(rt, desk.fsync(), Ok(()));
     for _ in 0..3 {
         for page in 1000..1000 + u64::from(clean) {
-            assert_eq!(rt; desk.pread(page * 16, &mut out), Ok(32));
+            same(rt, desk.pread(page * 16, &mut out), Ok(32));
         }
     }
     for page in 0..u64::from(dirty) {
-        assert_eq!(rt; desk.pwrite(page * 16, &[1]), Ok(1));
+        same(rt, desk.pwrite(page * 16, &[1]), Ok(1));
     }
     for page in 2000..2004u64 {
-        assert_eq!(rt; desk.pread(page * 16, &mut out), Ok(32));
-        assert!(rt; desk.solo.attempts() <= 3);
-        assert!(rt;
+        same(rt, desk.pread(page * 16, &mut out), Ok(32));
+        check(rt, desk.solo.attempts() <= 3);
+        check(
+            rt,
             out.starts_with(&[(page % 256) as u8; 16])
-                && out.ends_with(&[((page + 1) % 256) as u8; 16])
+                && out.ends_with(&[((page + 1) % 256) as u8; 16]),
         );
     }
-    assert_eq!(rt; desk.pwrite(2100 * 16 + 8, &[2; 16]), Ok(16));
-    assert!(rt; desk.solo.attempts() <= 4);
-    assert_eq!(rt; desk.pread(2200 * 16, &mut [0; 256]), Ok(256));
-    assert!(rt; desk.solo.attempts() <= 17);
+    same(rt, desk.pwrite(2100 * 16 + 8, &[2; 16]), Ok(16));
+    check(rt, desk.solo.attempts() <= 4);
+    same(rt, desk.pread(2200 * 16, &mut [0; 256]), Ok(256));
+    check(rt, desk.solo.attempts() <= 17);
 }
 
 // A mix of reads of many pages and small writes, none of which is refused.
 fn mixes(rt: &impl Abort, desk: &mut Desk) {
     for page in 0..600u64 {
-        assert_eq!(rt; desk.pwrite(page * 16, &[(page % 256) as u8; 16]), Ok(16));
+        same(
+            rt,
+            desk.pwrite(page * 16, &[(page % 256) as u8; 16]),
+            Ok(16),
+        );
     }
     let mut out = [0; 240];
     let mut seed: u32 = 1;
@@ -351,18 +361,22 @@ fn mixes(rt: &impl Abort, desk: &mut Desk) {
         let offset = (seed >> 8) as u64 % (600 - 16) * 16 + 7;
         seed = seed.wrapping_mul(1103515245).wrapping_add(12345);
         if (seed >> 20) % 4 == 0 {
-            assert_eq!(rt; desk.pwrite(offset, &[3; 64]), Ok(64));
+            same(rt, desk.pwrite(offset, &[3; 64]), Ok(64));
         } else {
-            assert_eq!(rt; desk.pread(offset, &mut out), Ok(240));
+            same(rt, desk.pread(offset, &mut out), Ok(240));
         }
-        assert!(rt; desk.solo.attempts() <= 18);
+        check(rt, desk.solo.attempts() <= 18);
     }
 }
 
 // 20,000 calls as a user makes them: three reads for each write, of two pages or three, and an fsync now and then. None is refused.
 fn serves_a_user(rt: &impl Abort, desk: &mut Desk) {
     for page in 0..300u64 {
-        assert_eq!(rt; desk.pwrite(page * 16, &[(page % 256) as u8; 16]), Ok(16));
+        same(
+            rt,
+            desk.pwrite(page * 16, &[(page % 256) as u8; 16]),
+            Ok(16),
+        );
     }
     let mut out = [0; 24];
     let mut seed: u32 = 1;
@@ -371,33 +385,34 @@ fn serves_a_user(rt: &impl Abort, desk: &mut Desk) {
         let offset = (seed >> 8) as u64 % (300 - 2) * 16 + 7;
         seed = seed.wrapping_mul(1103515245).wrapping_add(12345);
         if (seed >> 20) % 256 == 0 {
-            assert_eq!(rt; desk.fsync(), Ok(()));
+            same(rt, desk.fsync(), Ok(()));
         } else if (seed >> 20) % 4 == 0 {
-            assert_eq!(rt; desk.pwrite(offset, &[3; 24]), Ok(24));
+            same(rt, desk.pwrite(offset, &[3; 24]), Ok(24));
         } else {
-            assert_eq!(rt; desk.pread(offset, &mut out), Ok(24));
+            same(rt, desk.pread(offset, &mut out), Ok(24));
         }
-        assert!(rt; desk.solo.attempts() <= 5);
+        check(rt, desk.solo.attempts() <= 5);
     }
 }
 
 // A handle of another service is refused, and comes back from close.
 fn refuses_a_stranger(rt: &impl Abort, desk: &mut Desk) {
+    // Asserted here, since the handle stays open where nothing was opened.
     let refused = desk.solo.open(FileId(1), false);
     assert!(rt; matches!(refused, Err(Refusal::NoSuchFile)));
     let refused = desk.solo.open(FileId(64), false);
     assert!(rt; matches!(refused, Err(Refusal::NoSuchFile)));
     desk.rename(8);
     let mut out = [0; 1];
-    assert_eq!(rt; desk.read(&mut out), Err(Refusal::BadHandle));
-    assert_eq!(rt; desk.write(&[1]), Err(Refusal::BadHandle));
-    assert_eq!(rt; desk.pread(0, &mut out), Err(Refusal::BadHandle));
-    assert_eq!(rt; desk.pwrite(0, &[1]), Err(Refusal::BadHandle));
-    assert_eq!(rt; desk.truncate(0), Err(Refusal::BadHandle));
-    assert_eq!(rt; desk.seek(Seek::Set(0)), Err(Refusal::BadHandle));
-    assert_eq!(rt; desk.fsync(), Err(Refusal::BadHandle));
-    assert_eq!(rt; desk.fsync_range(5, 4), Err(Refusal::BadHandle));
-    assert_eq!(rt; desk.poll_error(), Err(Refusal::BadHandle));
+    same(rt, desk.read(&mut out), Err(Refusal::BadHandle));
+    same(rt, desk.write(&[1]), Err(Refusal::BadHandle));
+    same(rt, desk.pread(0, &mut out), Err(Refusal::BadHandle));
+    same(rt, desk.pwrite(0, &[1]), Err(Refusal::BadHandle));
+    same(rt, desk.truncate(0), Err(Refusal::BadHandle));
+    same(rt, desk.seek(Seek::Set(0)), Err(Refusal::BadHandle));
+    same(rt, desk.fsync(), Err(Refusal::BadHandle));
+    same(rt, desk.fsync_range(5, 4), Err(Refusal::BadHandle));
+    same(rt, desk.poll_error(), Err(Refusal::BadHandle));
     desk.rename(7);
 }
 
@@ -424,8 +439,11 @@ fn save<D: BlockDevice>(
 fn saves(rt: &impl Abort, desk: &mut Desk) -> Result<(), Refusal> {
     save(&mut desk.solo, &mut desk.handle, &[0xaa; 40])?;
     let mut out = [0; 64];
-    assert_eq!(rt; desk.pread(0, &mut out), Ok(40));
-    assert!(rt; out.starts_with(&[0xaa; 40]) && !out.starts_with(&[0xaa; 41]));
+    same(rt, desk.pread(0, &mut out), Ok(40));
+    check(
+        rt,
+        out.starts_with(&[0xaa; 40]) && !out.starts_with(&[0xaa; 41]),
+    );
     Ok(())
 }
 
@@ -481,6 +499,15 @@ enum Failing {
     SecondFlush,
 }
 
+/// Another handle of the first file, in place of this one.
+fn reopen(solo: &mut Solo<OddDevice>, handle: Handle) -> Result<Handle, Refusal>
+    requires { CameFrom solo.old handle }
+    ensures { IfOk result (IsOpen solo.new) }
+{
+    let _ = solo.close(handle);
+    solo.open(FileId(0), false)
+}
+
 /// A handle of a new file.
 fn open_first(solo: &mut Solo<OddDevice>, append: bool) -> Result<Handle, Refusal>
     ensures { IfOk result (IsOpen solo.new) }
@@ -507,9 +534,10 @@ fn open_desk(
         Failing::FirstRead => device.first_read = Some(full()?),
         Failing::SecondFlush => device.good_flushes = 1,
     }
-    let Ok(mut solo) = Solo::new(alloc, geometry, 7, device) else {
+    let Ok(solo) = Solo::new(alloc, geometry, 7, device) else {
         return Err(Refusal::Memory);
     };
+    let mut solo = Box::new(alloc, solo)?;
     let handle = open_first(&mut solo, append)?;
     Ok(Desk { solo, handle })
 }
@@ -532,7 +560,7 @@ fn over(
 ) -> Result<(), Refusal> {
     let mut desk = open_desk(alloc, geometry, failing, matches!(row, Row::Appends))?;
     let done = run(rt, &mut desk, row);
-    assert!(rt; desk.close());
+    check(rt, desk.close());
     done
 }
 
@@ -551,7 +579,7 @@ fn an_untold_error_is_handed_down(rt: HostRuntime) -> Result<(), Refusal> {
     let geometry = Geometry::new(16, 48, 16, 64)?;
     let desk = open_desk(rt.alloc(), &geometry, Failing::FirstCall, false)?;
     let desk = hands_an_error_down(&rt, desk)?;
-    assert!(rt; desk.close());
+    check(&rt, desk.close());
     Ok(())
 }
 
@@ -615,7 +643,7 @@ fn another_device_is_refused(rt: HostRuntime) -> Result<(), Refusal> {
     let alloc = rt.alloc();
     let device = ScriptDevice::new(alloc, 16, 63)?;
     let refused = Solo::new(alloc, &Geometry::new(16, 48, 16, 64)?, 7, device);
-    assert!(rt; matches!(refused, Err((Refusal::BadConfig, _))));
+    check(&rt, matches!(refused, Err((Refusal::BadConfig, _))));
     Ok(())
 }
 
