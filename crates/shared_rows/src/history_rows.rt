@@ -1,6 +1,6 @@
 //! Rows whose history is looked at once the cache is closed.
 
-ghost use Rattle.std.specs.Prelude.{◌≡◌, All};
+ghost use Rattle.std.specs.Prelude.{◌≡◌, All, IfSome};
 ghost use Rattle.shared.specs.Workers.{IsWorkerOf};
 
 use crate::rows::{Tested, opens, two_of, with_two};
@@ -12,6 +12,7 @@ use locked::naming::Naming;
 use pc_types::Refusal;
 use shared::worker::Worker;
 use std::alloc::Global;
+use std::mem::drop;
 use std::sync::Wait;
 use trail::{FullTrail, replay_plain};
 
@@ -45,31 +46,55 @@ impl Story {
     }
 }
 
-/// Plays the story by two seats, closes the cache, and looks at its history.
+/// Plays the story by two seats, closes the cache, and looks at its history. Each part is dropped by a call, since the check is slow
+/// where a cache goes out of scope.
 pub(crate) fn leaves_a_history<B: Naming, D: BlockDevice, R: Wait>(
     rt: &R,
     alloc: Global,
     cache: Tested<B, D>,
     own: Worker,
-    mut seats: Vec<Seat>,
+    seats: Vec<Seat>,
     story: Story,
 ) -> bool
     requires own { IsWorkerOf cache.ring B.name B.table B.sizes own }
     requires seats { All (λ s. s.table ≡ B.table) seats.items }
 {
-    let Some((mut first, mut second)) = two_of::<B>(&mut seats) else {
-        return false;
-    };
-    let Some(slips) = plays(rt, &cache, &mut first, &mut second, story) else {
-        return false;
-    };
-    let Some(seats) = with_two::<B>(seats, first, second) else {
+    let Some((seats, slips)) = by_two(rt, &cache, seats, story) else {
+        drop(cache);
+        drop(own);
         return false;
     };
     match cache.close(rt, own, seats) {
-        Ok((trail, _, _)) => is_in(alloc, &trail, slips, story),
-        Err(_) => false,
+        Ok((trail, core, device)) => {
+            drop(core);
+            drop(device);
+            let is_so = is_in(alloc, &trail, slips, story);
+            drop(trail);
+            is_so
+        }
+        Err((_, cache, own, seats)) => {
+            drop(cache);
+            drop(own);
+            drop(seats);
+            false
+        }
     }
+}
+
+/// Plays the story by two of the seats. Gives all seats back, and two slips of the story.
+fn by_two<B: Naming, D: BlockDevice, R: Wait>(
+    rt: &R,
+    cache: &Tested<B, D>,
+    mut seats: Vec<Seat>,
+    story: Story,
+) -> Option<(Vec<Seat>, (Slip, Slip))>
+    requires { All (λ s. s.table ≡ B.table) seats.items }
+    ensures { IfSome result (λ r. All (λ s. s.table ≡ B.table) r.0.items) }
+{
+    let (mut first, mut second) = two_of::<B>(&mut seats)?;
+    let slips = plays(rt, cache, &mut first, &mut second, story)?;
+    let seats = with_two::<B>(seats, first, second)?;
+    Some((seats, slips))
 }
 
 /// Whether the slips stand in the trail as the story says, and it replays.

@@ -28,6 +28,7 @@ use shared::worker::Worker;
 use shared::writes::Wrote;
 use std::alloc::Global;
 use std::marker::Brand;
+use std::mem::drop;
 use std::sync::Wait;
 use std::test::Fail;
 use std::thread::Threads;
@@ -269,18 +270,54 @@ fn closes<B: Naming, D: BlockDevice, R: Wait>(
     requires seats { All (λ s. s.table ≡ B.table) seats.items }
 {
     let Some(mut missing) = seats.pop() else {
+        drop(cache);
+        drop(own);
         return false;
     };
     let is_synced = syncs_thrice(rt, &cache, &mut missing);
-    let Err((refusal, cache, own, mut seats)) = cache.close(rt, own, seats) else {
-        return false;
-    };
-    if seats.push(missing).is_err() {
-        return false;
-    }
     match cache.close(rt, own, seats) {
-        Ok((_, _, device)) => is_synced && refusal == Refusal::Stranger && device.flushes() == 1,
-        Err(_) => false,
+        Ok((trail, core, device)) => {
+            drop(trail);
+            drop(core);
+            drop(device);
+            false
+        }
+        Err((refusal, cache, own, mut seats)) => {
+            if seats.push(missing).is_err() {
+                drop(cache);
+                drop(own);
+                return false;
+            }
+            let is_closed = closes_well(rt, cache, own, seats);
+            is_synced && refusal == Refusal::Stranger && is_closed
+        }
+    }
+}
+
+/// Closes the cache with these seats. Answers whether that went well, and the device was flushed once.
+fn closes_well<B: Naming, D: BlockDevice, R: Wait>(
+    rt: &R,
+    cache: Tested<B, D>,
+    own: Worker,
+    seats: Vec<Seat>,
+) -> bool
+    requires own { IsWorkerOf cache.ring B.name B.table B.sizes own }
+    requires seats { All (λ s. s.table ≡ B.table) seats.items }
+{
+    match cache.close(rt, own, seats) {
+        Ok((trail, core, device)) => {
+            let flushes = device.flushes();
+            drop(trail);
+            drop(core);
+            drop(device);
+            flushes == 1
+        }
+        Err((_, cache, own, seats)) => {
+            drop(cache);
+            drop(own);
+            drop(seats);
+            false
+        }
     }
 }
 

@@ -14,8 +14,8 @@ close-requires g c = record {
   own = c.requires.own;
 }
 
-pub close-requires-2 : goal.close-requires-2
-close-requires-2 g c =
+pub closes_well-is_closed-requires : goal.closes_well-is_closed-requires
+closes_well-is_closed-requires g c =
     let both = All-pop (λ s. s.table ≡ g.B.Naming.table) c.args.seats.items c.pop.new.self.items c.pop.result
     c.pop.ensures.items c.requires.seats in
     let mine : c.in-Some.missing.table ≡ g.B.Naming.table =
@@ -23,9 +23,9 @@ close-requires-2 g c =
     let same : c.in-Err.seats.items ≡ c.pop.new.self.items = cc (c.in-Err.ensures.err.3) in
     let its : c.syncs_thrice-is_synced.new.seat.table ≡ g.B.Naming.table = cc (c.syncs_thrice-is_synced.ensures, mine) in
     record {
-      came = λ k d less named. put_back g.B.Naming.table c.in-Err.seats.items c.push.new.self.items
-          c.syncs_thrice-is_synced.new.seat _ c.push.ensures.items
-          (subst (λ (ss : List SeatSeen). All (λ s. s.table ≡ g.B.Naming.table) ss) (sym same) both.0) its k d less;
       own = subst (λ (r : Ring). IsWorkerOf r g.B.Naming.name g.B.Naming.table g.B.Naming.sizes c.in-Err.own)
           (sym c.in-Err.ensures.err.2) c.in-Err.ensures.again.0;
+      seats = put_back g.B.Naming.table c.in-Err.seats.items c.push.new.self.items
+          c.syncs_thrice-is_synced.new.seat _ c.push.ensures.items
+          (subst (λ (ss : List SeatSeen). All (λ s. s.table ≡ g.B.Naming.table) ss) (sym same) both.0) its;
     }
