@@ -1,13 +1,14 @@
 //! A device, with a note whether anything was written to it since it was last flushed well.
 
 ghost use Rattle.std.specs.Prelude.{◌≡◌, ◌<◌, ◌≤◌, ◌∷◌, [], true, false, OnOk, Ok, length};
+ghost use Rattle.blockdev.specs.Device.{Reads, Writes};
 ghost use Rattle.blockdev.specs.Watching.{Clears, Makes, first_watch};
 
 use crate::device::BlockDevice;
 use crate::fault::FaultEffect;
 use crate::job::{Finished, Job, perform};
 use crate::script::ScriptDevice;
-use pc_types::{ErrCode, Kind};
+use pc_types::{BlockNo, ErrCode, Kind};
 use std::marker::Model;
 
 /// A device, and whether a write was made since the last flush that ended well.
@@ -19,7 +20,8 @@ pub struct Watched<D: BlockDevice> {
 
 impl<D: BlockDevice> Model for Watched<D> {
     ghost use Rattle.std.specs.Prelude.{◌≡◌, false};
-    ghost use Rattle.blockdev.specs.Watching.{Watch};
+    ghost use Rattle.blockdev.specs.Device.{Reads, Writes};
+ghost use Rattle.blockdev.specs.Watching.{Watch};
 
     ghost Value = { Watch };
 
@@ -57,6 +59,27 @@ impl<D: BlockDevice> Watched<D> {
             self.is_written = true;
         }
         perform(&mut self.device, job)
+    }
+
+    /// Reads a block, for a caller that has a place for its bytes and wants no job.
+    pub fn read(&mut self, block: BlockNo, out: &mut [u8]) -> Result<(), ErrCode>
+        requires exists { block.0 < self.old.device.count }
+        requires size { length out.old ≡ self.old.device.size }
+        ensures reads { Reads self.old.device block.0 out.old result out.new self.new.device }
+        ensures unflushed { self.new.unflushed ≡ self.old.unflushed }
+    {
+        self.device.read(block, out)
+    }
+
+    /// Writes a block, for a caller that has its bytes at hand. It is noted, as in `perform`.
+    pub fn write(&mut self, block: BlockNo, bytes: &[u8]) -> Result<(), ErrCode>
+        requires exists { block.0 < self.old.device.count }
+        requires size { length bytes.now ≡ self.old.device.size }
+        ensures writes { Writes self.old.device block.0 bytes.now result self.new.device }
+        ensures unflushed { self.new.unflushed ≡ true }
+    {
+        self.is_written = true;
+        self.device.write(block, bytes)
     }
 
     /// Flushes the device.

@@ -56,7 +56,7 @@ past m k p = grind (arith, nat_tests)
 under : (m k : ℕ) → k < m → nat_le m k ≡ false
 under m k p = grind (arith, nat_tests)
 
-above_zero : (k : ℕ) → 0 < k → eqb k 0 ≡ false
+pub above_zero : (k : ℕ) → 0 < k → eqb k 0 ≡ false
 above_zero k p = grind (arith, nat_tests)
 
 -- Wait or Miss, by whether the page is filling
@@ -299,7 +299,7 @@ module _ (s : State) (h : HandleId) (p : PageIndex) (f : ℕ) (found : Some f �
       (cond (eqb (free_frames s) 0) (refuse NoFrame)
       (cond (is_written s f p.0 && is_full s) (refuse TooManyInFlight) None)))
 
-  filling_tests_left : tests s filling ≡ filling_rest
+  pub filling_tests_left : tests s filling ≡ filling_rest
   filling_tests_left = at_false _ _ _ (opened s h f found)
       ∙ ap (λ g. cond (nat_le (page_count s.sizes.page (file_at s g).size) p.0) (Some reply.Gone)
       (cond (is_filling s g p.0) (Some (reply.Wait p))

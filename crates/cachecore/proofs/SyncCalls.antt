@@ -38,7 +38,7 @@ use Rattle.pagestore.specs.Ranges.{AreSized}
 use Rattle.pagestore.specs.Store.{stored_at, with_pages}
 use Rattle.pagestore.specs.Syncing.{FailedSince, IsCoded, SyncSays, bound_now, failed_of, left_of}
 use Rattle.cachecore.specs.Syncing.{AreSyncs}
-use Rattle.cachecore.specs.Starting.{IsNext, IsStarted, MayStart}
+use Rattle.cachecore.specs.Starting.{IsNext, IsStarted, MayStart, with_started}
 use Rattle.cachecore.specs.Tables.{IsCore}
 use Rattle.cachecore.proofs.CoreLemmas.{core-syncs}
 use Rattle.cachecore.proofs.FileKeeps.{all_frames, cached_after, count_files, each_file, file_core}
@@ -272,10 +272,6 @@ module _ (p : Parts)
             }
 
 -- ---- a page is started
-
--- the sync after it started a page
-abbrev pub with_started : ℕ → Sync → Sync
-with_started q y = record y { started = Some q }
 
 pub last_cache : (p : Parts)
     → IsKept p → (m q : ℕ) (y : Sync) → finmap.get p.syncs m ≡ Some y

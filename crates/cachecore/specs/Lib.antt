@@ -1,8 +1,10 @@
+pub mod AtOnce
 pub mod Core
 pub mod Ending
 pub mod Flushing
 pub mod Handles
 pub mod Holding
+pub mod Nexts
 pub mod Placing
 pub mod Replies
 pub mod Starting

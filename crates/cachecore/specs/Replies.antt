@@ -1,6 +1,6 @@
 -- What the calls answer, as replies of the machine, and what else their contracts say of an answer.
 use Rattle.std.specs.FinMap as map
-use Rattle.std.specs.Prelude.{◌≡◌, ◌<◌, ◌≤◌, ℕ, true, false, List, length, take, Option, Some, None, option_map}
+use Rattle.std.specs.Prelude.{◌≡◌, ◌<◌, ◌≤◌, ℕ, Bool, true, false, List, length, take, Option, Some, None, option_map}
 use Rattle.std.specs.Prelude.{Result, Ok, Err}
 use Rattle.pc_types.specs.TagBits.{tag_set}
 use Rattle.pc_types.specs.declared.kind.Kind.{Kind}
@@ -43,6 +43,11 @@ use Rattle.cachecore.specs.declared.answers.WriteAnswer.TheVariants as write
 abbrev pub answered : {X : Type 0} → (X → Reply) → Result X Refusal → Reply
 answered says (Ok x) = says x
 answered says (Err r) = reply.Refused r
+
+-- whether a request begins
+abbrev pub is_job : Reply → Bool
+is_job (reply.Job t) = true
+is_job _ = false
 
 abbrev pub created : Result FileId Refusal → Reply
 created = answered reply.File

@@ -11,6 +11,7 @@ ghost use Rattle.machine.specs.Changes.{requested};
 ghost use Rattle.machine.specs.Step.{Step};
 ghost use Rattle.machine.specs.PageLists.{entered};
 ghost use Rattle.machine.specs.ListChanges.{lists_filling, lists_after};
+ghost use Rattle.cachecore.specs.Nexts.{IsToRead, OnRead, fill_says, is_read};
 ghost use Rattle.cachecore.specs.Replies.{EndGivesBack, GivesBack, IsFillJob, OnFillJob, end_of, fill_begun, fill_ended};
 
 use crate::answers::{Ended, FillBegun, Refused, RefusedEnd};
@@ -18,6 +19,20 @@ use crate::cache::{CacheCore, page_count};
 use blockdev::{Buffer, Finished, FinishedParts, Job};
 use machine::Event;
 use pc_types::{BlockNo, FileId, HandleId, Kind, PageIndex, Refusal, Serial};
+
+/// What a fill of a page comes to.
+#[derive(Clone, Copy)]
+pub(crate) enum FillNext {
+    /// The file has no such page.
+    Gone,
+    /// A fill of the page is in flight.
+    Wait(PageIndex),
+    Present,
+    /// The page is filled with zeros, at once.
+    Filled,
+    /// The page of this file is read from this block.
+    Read(FileId, BlockNo),
+}
 
 impl CacheCore {
     /// Begins to fill an absent page. Where the page's bytes are on the device, the job reads them into the buffer, and else
@@ -35,55 +50,79 @@ impl CacheCore {
         ensures fits { OnFillJob result (IsJobFor self.old.state.name self.old.state.sizes.blocks self.old.state.sizes.page) }
         ensures back { GivesBack buffer result }
     {
-        let Some(file) = self.handles.file(handle.0) else {
-            let refusal = Refusal::BadHandle;
-            return Err(Refused { refusal, buffer });
-        };
-        if page.0 >= page_count(self.geometry.page(), self.pages.size(file)) {
-            return Ok(FillBegun::Gone(buffer));
+        match self.next_fill(handle, page) {
+            Ok(FillNext::Read(file, block)) => self.read_by(file, page, block, buffer),
+            Ok(FillNext::Gone) => Ok(FillBegun::Gone(buffer)),
+            Ok(FillNext::Wait(page)) => Ok(FillBegun::Wait(page, buffer)),
+            Ok(FillNext::Present) => Ok(FillBegun::Present(buffer)),
+            Ok(FillNext::Filled) => Ok(FillBegun::Filled(buffer)),
+            Err(refusal) => Err(Refused { refusal, buffer }),
         }
-        if self.is_filling(file, page.0) {
-            return Ok(FillBegun::Wait(page, buffer));
-        }
-        if self.pages.is_cached(file, page.0) {
-            return Ok(FillBegun::Present(buffer));
-        }
-        if self.pages.free_frames() == 0 {
-            let refusal = Refusal::NoFrame;
-            return Err(Refused { refusal, buffer });
-        }
-        self.fill_absent(file, page, buffer)
     }
 
-    /// Fills an absent page: from its block where the page's bytes are there, and else with zeros. The tests that come before
-    /// have passed.
-    fn fill_absent(
-        &mut self,
-        file: u64,
-        page: PageIndex,
-        buffer: Buffer,
-    ) -> Result<FillBegun, Refused>
+    /// What a fill of the page comes to. Where its bytes are on the device they are left to the caller to be read, and else the event is
+    /// made.
+    pub(crate) fn next_fill(&mut self, handle: HandleId, page: PageIndex) -> Result<FillNext, Refusal>
+        ensures reads { IfOk result (OnRead (λ file block. (map.get self.old.state.handles handle.0 ≡ Some file.0) × IsToRead self.old.state file.0 page.0 block.0 × (self.new ≡ self.old))) }
+        ensures step { is_read result ≡ false → Step self.old.state (Event.FillBegin handle page) (fill_says result) self.new.state }
+        ensures lists { is_read result ≡ false → self.new.lists ≡ lists_after self.old.state (Event.FillBegin handle page) (fill_says result) self.old.lists }
+    {
+        let Some(file) = self.handles.file(handle.0) else {
+            return Err(Refusal::BadHandle);
+        };
+        if page.0 >= page_count(self.geometry.page(), self.pages.size(file)) {
+            return Ok(FillNext::Gone);
+        }
+        if self.is_filling(file, page.0) {
+            return Ok(FillNext::Wait(page));
+        }
+        if self.pages.is_cached(file, page.0) {
+            return Ok(FillNext::Present);
+        }
+        if self.pages.free_frames() == 0 {
+            return Err(Refusal::NoFrame);
+        }
+        self.next_absent(file, page)
+    }
+
+    /// The same of an absent page. The tests that come before have passed.
+    fn next_absent(&mut self, file: u64, page: PageIndex) -> Result<FillNext, Refusal>
         requires here { file < length self.old.state.files }
         requires below { page.0 < MAX_PAGES }
         requires inside { page.0 < page_count self.old.state.sizes.page (file_at self.old.state file).size }
         requires absent { is_cached self.old.state file page.0 ≡ false }
         requires idle { is_filling self.old.state file page.0 ≡ false }
         requires room { 0 < free_frames self.old.state }
+        ensures reads { IfOk result (OnRead (λ f block. (f.0 ≡ file) × IsToRead self.old.state file page.0 block.0 × (self.new ≡ self.old))) }
+        ensures step { (h : HandleId) → map.get self.old.state.handles h.0 ≡ Some file → is_read result ≡ false → Step self.old.state (Event.FillBegin h page) (fill_says result) self.new.state }
+        ensures lists { is_read result ≡ false → self.new.lists ≡ lists_filling file page.0 (fill_says result) self.old.lists }
+    {
+        if let Some(block) = self.block_to_read(file, page) {
+            return Ok(FillNext::Read(FileId(file), block));
+        }
+        match self.pages.make(file, page.0) {
+            Ok(()) => Ok(FillNext::Filled),
+            Err(_) => Err(Refusal::Memory),
+        }
+    }
+
+    /// Begins to read an absent page from its block into the buffer.
+    fn read_by(
+        &mut self,
+        file: FileId,
+        page: PageIndex,
+        block: BlockNo,
+        buffer: Buffer,
+    ) -> Result<FillBegun, Refused>
+        requires reads { IsToRead self.old.state file.0 page.0 block.0 }
         requires size { length buffer ≡ self.old.state.sizes.page }
-        ensures step { (h : HandleId) → map.get self.old.state.handles h.0 ≡ Some file → Step self.old.state (Event.FillBegin h page) (fill_begun result) self.new.state }
-        ensures lists { self.new.lists ≡ lists_filling file page.0 (fill_begun result) self.old.lists }
+        ensures step { (h : HandleId) → map.get self.old.state.handles h.0 ≡ Some file.0 → Step self.old.state (Event.FillBegin h page) (fill_begun result) self.new.state }
+        ensures lists { self.new.lists ≡ lists_filling file.0 page.0 (fill_begun result) self.old.lists }
         ensures job { IsFillJob self.new.state result }
         ensures fits { OnFillJob result (IsJobFor self.old.state.name self.old.state.sizes.blocks self.old.state.sizes.page) }
         ensures back { GivesBack buffer result }
     {
-        let Some(block) = self.block_to_read(file, page) else {
-            if self.pages.make(file, page.0).is_err() {
-                let refusal = Refusal::Memory;
-                return Err(Refused { refusal, buffer });
-            }
-            return Ok(FillBegun::Filled(buffer));
-        };
-        match self.begin_read(file, page, block) {
+        match self.begin_read(file.0, page, block) {
             Ok(serial) => {
                 let job = Job::new(self.name, serial, Kind::Fill, block, buffer);
                 Ok(FillBegun::Job(job))

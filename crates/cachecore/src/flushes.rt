@@ -1,13 +1,14 @@
 //! Flushes: the lowest page of a file that is dirty and has no write in flight, written to its block.
 
-ghost use Rattle.std.specs.Prelude.{◌≡◌, ◌≢◌, ◌<◌, IfErr, IfSome, false, length, option_map};
+ghost use Rattle.std.specs.Prelude.{◌≡◌, ◌≢◌, ◌<◌, IfErr, IfNone, IfOk, IfSome, false, length, option_map};
 ghost use Rattle.blockdev.specs.Jobs.{IsJobFor};
 ghost use Rattle.mapping.specs.declared.mapping.TheConstants.{MAX_PAGES};
 ghost use Rattle.pc_types.specs.declared.refusal.Refusal.TheVariants.{Memory};
+ghost use Rattle.machine.specs.declared.event.Reply.TheVariants as reply;
 ghost use Rattle.machine.specs.Step.{Step};
 ghost use Rattle.cachecore.specs.Flushing.{flush_of};
 ghost use Rattle.cachecore.specs.Replies.{EndGivesBack, FlushGivesBack, IsFlushJob, OnFlushJob, end_of, flush_begun, flush_ended};
-ghost use Rattle.cachecore.specs.Starting.{IsStarted, MayStart};
+ghost use Rattle.cachecore.specs.Starting.{IsStarted, IsToFlush, MayStart};
 ghost use Rattle.machine.specs.Tests.{is_full};
 
 use crate::answers::{Ended, FlushBegun, Refused, RefusedEnd};
@@ -29,18 +30,29 @@ impl CacheCore {
         ensures back { FlushGivesBack buffer result }
         ensures no_memory { IfErr result (λ e. e.refusal ≢ Memory) }
     {
+        match self.page_to_flush(file) {
+            Ok(Some(page)) => Ok(FlushBegun::Job(self.begin_flush(file, page, buffer))),
+            Ok(None) => Ok(FlushBegun::Nothing(buffer)),
+            Err(refusal) => Err(Refused { refusal, buffer }),
+        }
+    }
+
+    /// The page that a flush of the file writes, where there is one.
+    pub(crate) fn page_to_flush(&self, file: FileId) -> Result<Option<PageIndex>, Refusal>
+        ensures refused { IfErr result (λ r. Step self.now.state (Event.FlushBegin file) (reply.Refused r) self.now.state × (r ≢ Memory)) }
+        ensures none { IfOk result (λ o. IfNone o (Step self.now.state (Event.FlushBegin file) reply.Nothing self.now.state)) }
+        ensures some { IfOk result (λ o. IfSome o (λ page. IsToFlush self.now.state file page.0)) }
+    {
         if file.0 >= self.pages.file_count() {
-            let refusal = Refusal::NoSuchFile;
-            return Err(Refused { refusal, buffer });
+            return Err(Refusal::NoSuchFile);
         }
         let Some(number) = self.pages.flush_pick(file.0) else {
-            return Ok(FlushBegun::Nothing(buffer));
+            return Ok(None);
         };
         if self.requests.is_full() {
-            let refusal = Refusal::TooManyInFlight;
-            return Err(Refused { refusal, buffer });
+            return Err(Refusal::TooManyInFlight);
         }
-        Ok(FlushBegun::Job(self.begin_flush(file, PageIndex(number), buffer)))
+        Ok(Some(PageIndex(number)))
     }
 
     /// Begins to write a page that is DIRTY and has no write in flight. The buffer is for a copy of its bytes.

@@ -1,21 +1,37 @@
 //! Syncs: the pages of a file that are DIRTY as a sync begins are written, and it tells whether a write of the file failed since.
 
-ghost use Rattle.std.specs.Prelude.{◌≡◌, ◌≢◌, ◌<◌, Err, IfErr, length};
+ghost use Rattle.std.specs.Prelude.{◌≡◌, ◌≢◌, ◌<◌, Err, IfErr, IfOk, false, length};
 ghost use Rattle.blockdev.specs.Jobs.{IsJobFor};
 ghost use Rattle.mapping.specs.declared.mapping.TheConstants.{MAX_PAGES};
-ghost use Rattle.pc_types.specs.declared.refusal.Refusal.TheVariants.{Memory};
+ghost use Rattle.pc_types.specs.declared.refusal.Refusal.TheVariants.{Memory, TooManyInFlight};
+ghost use Rattle.machine.specs.declared.event.Reply.TheVariants as reply;
 ghost use Rattle.machine.specs.Step.{Step};
 ghost use Rattle.pc_types.specs.declared.limits.TheConstants.{LAST_PAGE};
 ghost use Rattle.cachecore.specs.Replies.{IsSyncJob, OnSyncJob, SyncGivesBack, sync_begun, sync_dropped, sync_stepped};
-ghost use Rattle.cachecore.specs.Starting.{IsNext};
+ghost use Rattle.cachecore.specs.Starting.{IsNext, IsToStart};
+ghost use Rattle.cachecore.specs.Nexts.{OnStart, is_start, sync_says};
+ghost use Rattle.cachecore.specs.declared.syncs.SyncNext.TheVariants as next;
 
 use crate::answers::{Refused, SyncStepped};
 use crate::cache::CacheCore;
 use blockdev::Buffer;
 use machine::Event;
 use pc_types::limits::LAST_PAGE;
-use pc_types::{FileId, HandleId, PageIndex, Refusal, SyncId};
+use pc_types::{ErrCode, FileId, HandleId, PageIndex, Refusal, SyncId};
 use writeback::SyncStep;
+
+/// What a sync does next.
+#[derive(Clone, Copy)]
+pub(crate) enum SyncNext {
+    /// It starts the write of this page of its file.
+    Start(FileId, PageIndex),
+    /// It waits for a write of this page.
+    Wait(PageIndex),
+    /// It is over, and no write of the file failed meanwhile.
+    Clean,
+    /// It is over, and a write failed, the last with this code.
+    Failed(ErrCode),
+}
 
 impl CacheCore {
     /// Begins a sync of the handle's whole file, by the lowest free number. Pages that become DIRTY later do not prolong it.
@@ -62,55 +78,60 @@ impl CacheCore {
         ensures back { SyncGivesBack buffer result }
         ensures no_memory { IfErr result (λ e. e.refusal ≢ Memory) }
     {
+        match self.next_of(sync) {
+            Ok(SyncNext::Start(file, page)) => {
+                let job = self.begin_flush(file, page, buffer);
+                self.syncs.started(sync, page);
+                Ok(SyncStepped::Job(job))
+            }
+            Ok(SyncNext::Wait(page)) => Ok(SyncStepped::Wait(page, buffer)),
+            Ok(SyncNext::Clean) => Ok(SyncStepped::Clean(buffer)),
+            Ok(SyncNext::Failed(code)) => Ok(SyncStepped::Failed(code, buffer)),
+            Err(refusal) => Err(Refused { refusal, buffer }),
+        }
+    }
+
+    /// What a sync does next. Where it starts a page that is left to the caller, and else the step is made.
+    pub(crate) fn next_of(&mut self, sync: SyncId) -> Result<SyncNext, Refusal>
+        ensures starts { IfOk result (OnStart (λ file page. IsToStart self.old.state sync file.0 page.0 × (self.new ≡ self.old))) }
+        ensures step { is_start result ≡ false → Step self.old.state (Event.SyncStep sync) (sync_says result) self.new.state }
+        ensures lists { self.new.lists ≡ self.old.lists }
+        ensures no_memory { result ≢ Err Memory }
+    {
         let Some(progress) = self.syncs.get(sync) else {
-            let refusal = Refusal::Stranger;
-            return Err(Refused { refusal, buffer });
+            return Err(Refusal::Stranger);
         };
         let Some(file) = self.handles.file(progress.handle.0) else {
             unreachable!()
         };
         match self.pages.sync_step(file, &self.requests, &progress) {
-            SyncStep::Start(found) => self.start_page(sync, file, found.page, buffer),
-            SyncStep::Held(page) => Ok(SyncStepped::Wait(page, buffer)),
+            SyncStep::Start(found) => self.start_of(sync, file, found.page),
+            SyncStep::Held(page) => Ok(SyncNext::Wait(page)),
             SyncStep::Await(page, bound) => {
                 self.syncs.set_bound(sync, bound);
-                Ok(SyncStepped::Wait(page, buffer))
+                Ok(SyncNext::Wait(page))
             }
             SyncStep::Over => {
                 let _ = self.syncs.remove(sync);
                 match self.pages.failure_since(file, progress.failures) {
-                    None => Ok(SyncStepped::Clean(buffer)),
-                    Some(code) => Ok(SyncStepped::Failed(code, buffer)),
+                    None => Ok(SyncNext::Clean),
+                    Some(code) => Ok(SyncNext::Failed(code)),
                 }
             }
         }
     }
 
-    /// Starts the write of the lowest page that a sync has left.
-    fn start_page(
-        &mut self,
-        sync: SyncId,
-        file: u64,
-        page: PageIndex,
-        buffer: Buffer,
-    ) -> Result<SyncStepped, Refused>
-        requires next { IsNext self.old.state sync.0 file page.0 }
+    /// The lowest page that a sync has left, where one more request may begin.
+    fn start_of(&self, sync: SyncId, file: u64, page: PageIndex) -> Result<SyncNext, Refusal>
+        requires next { IsNext self.now.state sync.0 file page.0 }
         requires below { page.0 < MAX_PAGES }
-        requires size { length buffer ≡ self.old.state.sizes.page }
-        ensures step { Step self.old.state (Event.SyncStep sync) (sync_stepped result) self.new.state }
-        ensures job { IsSyncJob self.new.state result }
-        ensures fits { OnSyncJob result (IsJobFor self.old.state.name self.old.state.sizes.blocks self.old.state.sizes.page) }
-        ensures lists { self.new.lists ≡ self.old.lists }
-        ensures back { SyncGivesBack buffer result }
-        ensures no_memory { IfErr result (λ e. e.refusal ≢ Memory) }
+        ensures starts { IfOk result (λ next. (next ≡ next.Start (record { 0 = file }) page) × IsToStart self.now.state sync file page.0) }
+        ensures refused { IfErr result (λ r. (r ≡ TooManyInFlight) × Step self.now.state (Event.SyncStep sync) (reply.Refused r) self.now.state) }
     {
         if self.requests.is_full() {
-            let refusal = Refusal::TooManyInFlight;
-            return Err(Refused { refusal, buffer });
+            return Err(Refusal::TooManyInFlight);
         }
-        let job = self.begin_flush(FileId(file), page, buffer);
-        self.syncs.started(sync, page);
-        Ok(SyncStepped::Job(job))
+        Ok(SyncNext::Start(FileId(file), page))
     }
 
     /// Forgets a sync. The tags that it set stay.

@@ -19,7 +19,7 @@ use Rattle.writeback.specs.declared.picks.SyncStep.TheVariants.{Held, Start}
 use Rattle.maps.specs.Maps.{each_value}
 use Rattle.machine.specs.State.{Sync, in_range}
 use Rattle.writeback.specs.Flights.{Flights}
-use Rattle.writeback.specs.Picks.{after_write, flush_pick, is_flushable, is_left, picked, sync_pick, to_write}
+use Rattle.writeback.specs.Picks.{after_write, flush_pick, is_flushable, is_left, picked, sync_pick, to_write, written_through}
 use Rattle.writeback.proofs.MapLaws.{lookup, get_is}
 use Rattle.writeback.proofs.Each.{Each, each_on, each_entry, more, is_true}
 
@@ -336,3 +336,13 @@ ended_tags file page failed clear set a b =
     or_false : (b : Bool) → (b || false) ≡ b
     or_false true = refl
     or_false false = refl
+
+-- ---- one that began and ended in one
+
+pub through_tags : (file : FilePages) (page : ℕ) (failed : Bool) (clear set : TagSet)
+    → clear ≡ record { dirty = true; writeback = true; towrite = true }
+    → set ≡ record { dirty = failed; writeback = false; towrite = false }
+    → record file { pages = change_at page (with_tags_after clear set) file.pages }
+    ≡ record file { pages = change_at page (written_through failed) file.pages }
+through_tags file page failed clear set a b =
+    (λ i. record file { pages = change_at page (with_tags_after (a i) (b i)) file.pages })

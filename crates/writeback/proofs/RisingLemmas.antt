@@ -36,6 +36,10 @@ module _ {X : Type 0} where
   rising_ends low high [] r = r
   rising_ends low high (e ∷ es) r = let k = rising_ends (e.0 + 1) high es r.1 in omega arith
 
+  pub rising_high : (low high top : ℕ) (es : List (ℕ × X)) → high ≤ top → IsRising low es high → IsRising low es top
+  rising_high low high top [] h r = omega arith
+  rising_high low high top (e ∷ es) h r = (r.0, rising_high (e.0 + 1) high top es h r.1)
+
   below_rising : (k low high : ℕ) (es : List (ℕ × X)) → k < low → IsRising low es high → T (below_all nat_cmp k es)
   below_rising k low high [] h r = tt
   below_rising k low high (e ∷ es) h r =

@@ -4,7 +4,7 @@ use Rattle.std.specs.Prelude.{ℕ, ◌<◌, Bool, true, false, not, ◌&&◌, �
 use Rattle.std.specs.Prelude.{None, find, option_map, unwrap_or}
 use Rattle.std.specs.FinMap as map
 use Rattle.pc_types.specs.Tags.{TagSet}
-use Rattle.mapping.specs.Pages.{Mapped, Pages, found, within}
+use Rattle.mapping.specs.Pages.{Mapped, Pages, found, with_tags, within}
 use Rattle.writeback.specs.declared.picks.SyncStep.{SyncStep}
 use Rattle.writeback.specs.declared.picks.SyncStep.TheVariants.{Await, Held, Over, Start}
 use Rattle.machine.specs.State.{Request, Sync, in_range}
@@ -44,6 +44,10 @@ under_write = record { dirty = false; writeback = true; towrite = false }
 abbrev pub after_write : Bool → Mapped → Mapped
 after_write failed page =
     record page { tags = record page.tags { dirty = page.tags.dirty || failed; writeback = false } }
+
+-- a page whose write began and ended in one
+abbrev pub written_through : Bool → Mapped → Mapped
+written_through failed page = after_write failed (with_tags under_write page)
 
 -- ---- a step of a sync y of file f
 

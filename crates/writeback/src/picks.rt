@@ -5,7 +5,7 @@ ghost use Rattle.std.specs.FinMap as map;
 ghost use Rattle.pc_types.specs.TagBits.{tag_set};
 ghost use Rattle.mapping.specs.Pages.{change_at, found, seen, with_tags};
 ghost use Rattle.maps.specs.Maps.{each_value};
-ghost use Rattle.writeback.specs.Picks.{StartsBelow, after_write, flush_pick, picked, sync_pick, sync_step, to_write, under_write, waits};
+ghost use Rattle.writeback.specs.Picks.{StartsBelow, after_write, flush_pick, picked, sync_pick, sync_step, to_write, under_write, waits, written_through};
 ghost use Rattle.writeback.specs.Slots.{sync_of};
 
 use crate::requests::Requests;
@@ -96,6 +96,18 @@ pub fn end_write(mapping: &mut Mapping, page: PageIndex, failed: bool) -> Option
 {
     let clear = Tags::none().with(Tag::Writeback);
     mapping.change_tags(page, clear, dirty_if(failed))
+}
+
+/// A write of the page that began and ended in one: it loses TOWRITE, and DIRTY too unless the write failed. Answers the page as it was.
+pub fn write_through(mapping: &mut Mapping, page: PageIndex, failed: bool) -> Option<MappedPage>
+    ensures tags { mapping.new ≡ record mapping.old { pages = change_at page.0 (written_through failed) mapping.old.pages } }
+    ensures before { option_map seen result ≡ map.get mapping.old.pages page.0 }
+{
+    let all = Tags::none()
+        .with(Tag::Dirty)
+        .with(Tag::Writeback)
+        .with(Tag::Towrite);
+    mapping.change_tags(page, all, dirty_if(failed))
 }
 
 fn dirty_if(failed: bool) -> Tags

@@ -1,6 +1,6 @@
 //! The requests in flight.
 
-ghost use Rattle.std.specs.Prelude.{◌≡◌, ℕ, ◌≤◌, ◌==◌, None, ◌&&◌, false, map as map_list, find, position, option_map, nat_lt};
+ghost use Rattle.std.specs.Prelude.{◌≡◌, ℕ, ◌+◌, ◌≤◌, ◌==◌, None, ◌&&◌, false, map as map_list, find, position, option_map, nat_lt};
 ghost use Rattle.std.specs.FinMap as map;
 ghost use Rattle.std.specs.List.{list_any};
 ghost use Rattle.machine.specs.Changes.{cut_request};
@@ -190,6 +190,14 @@ impl Requests {
         self.in_flight.push(Entry { serial, request });
         self.next += 1;
         serial
+    }
+
+    /// Takes the serial of a request that begins and ends in one.
+    pub fn pass(&mut self)
+        requires { is_full self.old ≡ false }
+        ensures { self.new ≡ record self.old { next = self.old.next + 1 } }
+    {
+        self.next += 1;
     }
 
     /// Ends the request with this serial, where it is in flight: also one that is dropped.

@@ -1,63 +1,8 @@
-use Rattle.std.proofs.Common.{arith, ◌≡◌, ◌<◌, ◌≤◌, length, ap, sym, subst, ◌∙◌}
-use Rattle.std.specs.Prelude.{Some}
-use Rattle.machine.specs.State.{State, file_at}
-use Rattle.machine.specs.Changes.{flush_pick}
-use Rattle.machine.specs.Tests.{is_full}
-use Rattle.cachecore.proofs.CoreViews.{state_is}
-use Rattle.cachecore.proofs.FlushCalls.{begun_step, flush_startable, full_step, no_file_step, nothing_step}
 use Rattle.cachecore.proofs.cache.CacheCore.flush_begin.Goals as goal
-use Rattle.cachecore.proofs.cache.CacheCore.flush_begin.Goals.{Else-file-file_count, In-Some}
 
-file_here : (c : Else-file-file_count) → c.args.file.0 < length c.args.self.now.state.files
-file_here c = subst (λ (s : State). c.args.file.0 < length s.files) (state_is c.self.view_is)
-    (omega (arith, c.file_count.ensures, c.if-file-file_count.false))
+pub returns-in-Ok-Some-clause-step : goal.returns-in-Ok-Some-clause-step
+returns-in-Ok-Some-clause-step c =
+    c.in-Ok-Some.ensures.some.begins c.begin_flush.result c.begin_flush.new.self.state c.begin_flush.ensures.begun
 
-picked : (c : In-Some) → Some c.in-Some.number ≡ flush_pick (file_at c.args.self.now.state c.args.file.0)
-picked c = c.in-Some.ensures.pick ∙ ap (λ s. flush_pick (file_at s c.args.file.0)) (state_is c.self.view_is)
-
-pub returns-then-file-file_count-clause-step : goal.returns-then-file-file_count-clause-step
-returns-then-file-file_count-clause-step c =
-    let s = c.args.self.now.state in
-    let past : length s.files ≤ c.args.file.0 = subst (λ (s : State). length s.files ≤ c.args.file.0)
-    (state_is c.self.view_is) (omega (arith, c.file_count.ensures, c.if-file-file_count.true)) in
-    no_file_step s c.args.file past
-
-pub returns-in_default-clause-step : goal.returns-in_default-clause-step
-returns-in_default-clause-step c =
-    let s = c.args.self.now.state in
-    let here = file_here (goal.at.returns-in_default-clause-step c).Else-file-file_count in
-    nothing_step s c.args.file here
-    (c.in_default.ensures.pick ∙ ap (λ s. flush_pick (file_at s c.args.file.0)) (state_is c.self.view_is))
-
-pub returns-then-is_full-clause-step : goal.returns-then-is_full-clause-step
-returns-then-is_full-clause-step c =
-    let s = c.args.self.now.state in
-    let here = file_here (goal.at.returns-then-is_full-clause-step c).Else-file-file_count in
-    let pick = picked (goal.at.returns-then-is_full-clause-step c).In-Some in
-    full_step s c.args.file here c.in-Some.number pick
-    (ap is_full (sym (state_is c.self.view_is)) ∙ sym c.is_full.ensures ∙ c.if-is_full.true)
-
-pub begin_flush-requires-clause-startable : goal.begin_flush-requires-clause-startable
-begin_flush-requires-clause-startable c =
-    let s = c.args.self.now.state in
-    let here = file_here (goal.at.begin_flush-requires-clause-startable c).Else-file-file_count in
-    let pick = picked (goal.at.begin_flush-requires-clause-startable c).In-Some in
-    let room = ap is_full (sym (state_is c.self.view_is)) ∙ sym c.is_full.ensures ∙ c.if-is_full.false in
-    flush_startable s c.args.file here c.in-Some.number pick room
-
-pub begin_flush-requires-clause-room : goal.begin_flush-requires-clause-room
-begin_flush-requires-clause-room c =
-    ap is_full (sym (state_is c.self.view_is)) ∙ sym c.is_full.ensures ∙ c.if-is_full.false
-
-pub returns-clause-step : goal.returns-clause-step
-returns-clause-step c =
-    let s = c.args.self.now.state in
-    let here = file_here (goal.at.returns-clause-step c).Else-file-file_count in
-    let pick = picked (goal.at.returns-clause-step c).In-Some in
-    let room = ap is_full (sym (state_is c.self.view_is)) ∙ sym c.is_full.ensures ∙ c.if-is_full.false in
-    begun_step s c.args.file here c.in-Some.number pick room c.begin_flush.result c.begin_flush.new.self.state
-    c.begin_flush.ensures.begun
-
-pub returns-clause-job : goal.returns-clause-job
-returns-clause-job c =
-    c.begin_flush.ensures.begun.job_is
+pub returns-in-Ok-Some-clause-job : goal.returns-in-Ok-Some-clause-job
+returns-in-Ok-Some-clause-job c = c.begin_flush.ensures.begun.job_is

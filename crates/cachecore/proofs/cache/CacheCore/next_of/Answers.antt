@@ -14,8 +14,8 @@ use Rattle.cachecore.specs.Starting.{IsNext}
 use Rattle.cachecore.proofs.SyncCalls.{awaits, bounded, clean_call, failed_call, held_call, must_be_open, next_call}
 use Rattle.cachecore.proofs.SyncCalls.{told_code, without, without_cache}
 use Rattle.cachecore.proofs.SyncSteps.{stranger_step}
-use Rattle.cachecore.proofs.cache.CacheCore.sync_step.Goals as goal
-use Rattle.cachecore.proofs.cache.CacheCore.sync_step.Goals.{in-None, in-Some-failure_since}
+use Rattle.cachecore.proofs.cache.CacheCore.next_of.Goals as goal
+use Rattle.cachecore.proofs.cache.CacheCore.next_of.Goals.{in-None, in-Some-failure_since}
 
 pub returns-in_default-clause-step : goal.returns-in_default-clause-step
 returns-in_default-clause-step c =
@@ -29,8 +29,8 @@ unreachable-requires c =
     must_be_open p c.self.invariant c.args.sync (sync_of c.in-Some.progress)
     c.in-Some.ensures c.in_default-file.ensures
 
-pub start_page-requires-clause-next : goal.start_page-requires-clause-next
-start_page-requires-clause-next c =
+pub start_of-requires-clause-next : goal.start_of-requires-clause-next
+start_of-requires-clause-next c =
     let p = parts_of c.self.inside in
     subst (λ s. IsNext s c.args.sync.0 c.in-Some-file.file c.in-Start.found.page.0) (state_is c.self.view_is)
     (next_call p c.self.invariant c.args.sync (sync_of c.in-Some.progress)

@@ -11,8 +11,8 @@ use Rattle.cachecore.proofs.FillCalls.{fill_job}
 use Rattle.pagestore.proofs.PairLemmas.{when_ok}
 use Rattle.cachecore.proofs.SyncLaws.{files_failed, moved_syncs}
 use Rattle.cachecore.proofs.CoreViews.{state_is}
-use Rattle.cachecore.proofs.cache.CacheCore.fill_absent.Goals as goal
-use Rattle.cachecore.proofs.cache.CacheCore.fill_absent.Goals.{in-Ok, in-Err}
+use Rattle.cachecore.proofs.cache.CacheCore.next_absent.Goals as goal
+use Rattle.cachecore.proofs.cache.CacheCore.next_absent.Goals.{in-Ok, in-Err}
 
 pub invariant_of-self-in_default : goal.invariant_of-self-in_default
 invariant_of-self-in_default c =

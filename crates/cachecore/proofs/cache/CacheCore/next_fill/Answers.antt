@@ -7,8 +7,8 @@ use Rattle.cachecore.proofs.Parts.{parts_of, state_by}
 use Rattle.cachecore.proofs.StepLemmas.{told_inside, fill_waits, fill_present, fill_no_frame}
 use Rattle.pagestore.proofs.Spans.{page_below}
 use Rattle.cachecore.proofs.CoreViews.{state_is}
-use Rattle.cachecore.proofs.cache.CacheCore.fill_begin.Goals as goal
-use Rattle.cachecore.proofs.cache.CacheCore.fill_begin.Goals.{After-is_cached, After-is_filling, In-Some}
+use Rattle.cachecore.proofs.cache.CacheCore.next_fill.Goals as goal
+use Rattle.cachecore.proofs.cache.CacheCore.next_fill.Goals.{After-is_cached, After-is_filling, In-Some}
 
 found : (c : In-Some) → Some c.in-Some.file ≡ map.get c.args.self.now.state.handles c.args.handle.0
 found c = c.in-Some.ensures ∙ ap (λ (s : State). map.get s.handles c.args.handle.0) (state_is c.self.view_is)
@@ -46,24 +46,24 @@ returns-then-free_frames-eq0-clause-step c =
     (inside at.After-is_filling) (sym c.is_filling.ensures ∙ c.if-is_filling.false)
     (cached_is at.After-is_cached ∙ c.if-is_cached.false) (omega (arith, free, frames, c.free_frames.ensures))
 
-pub fill_absent-requires-clause-below : goal.fill_absent-requires-clause-below
-fill_absent-requires-clause-below c =
+pub next_absent-requires-clause-below : goal.next_absent-requires-clause-below
+next_absent-requires-clause-below c =
     let small = c.self.invariant.core.bounded c.in-Some.file in
     page_below c.page.result c.size.result c.args.page.0 c.page.ensures.least (omega (arith, small, c.size.ensures))
     (omega (arith, c.page_count.ensures))
 
-pub fill_absent-requires-clause-absent : goal.fill_absent-requires-clause-absent
-fill_absent-requires-clause-absent c =
-    cached_is (goal.at.fill_absent-requires-clause-absent c).After-is_cached ∙ c.if-is_cached.false
+pub next_absent-requires-clause-absent : goal.next_absent-requires-clause-absent
+next_absent-requires-clause-absent c =
+    cached_is (goal.at.next_absent-requires-clause-absent c).After-is_cached ∙ c.if-is_cached.false
 
-pub fill_absent-requires-clause-room : goal.fill_absent-requires-clause-room
-fill_absent-requires-clause-room c =
+pub next_absent-requires-clause-room : goal.next_absent-requires-clause-room
+next_absent-requires-clause-room c =
     let free = free_frames_are c.self.invariant.core in
     let frames = ap free_frames (state_is c.self.view_is) in
     omega (arith, free, frames, c.free_frames.ensures)
 
-pub fill_absent-requires-clause-inside : goal.fill_absent-requires-clause-inside
-fill_absent-requires-clause-inside c = inside (goal.at.fill_absent-requires-clause-inside c).After-is_filling
+pub next_absent-requires-clause-inside : goal.next_absent-requires-clause-inside
+next_absent-requires-clause-inside c = inside (goal.at.next_absent-requires-clause-inside c).After-is_filling
 
 pub returns-clause-step : goal.returns-clause-step
-returns-clause-step c = c.fill_absent.ensures.step c.args.handle (sym (found (goal.at.returns-clause-step c).In-Some))
+returns-clause-step c = c.next_absent.ensures.step c.args.handle (sym (found (goal.at.returns-clause-step c).In-Some))
