@@ -1,5 +1,5 @@
 -- Inside this crate: a page whose write may start, and the state after it has started.
-use Rattle.std.specs.Prelude.{◌≡◌, ◌<◌, ℕ, true, false, is_some, length, Some}
+use Rattle.std.specs.Prelude.{◌≡◌, ◌<◌, ℕ, true, false, length, Some}
 use Rattle.std.specs.FinMap.{get}
 use Rattle.blockdev.specs.Jobs.{Task}
 use Rattle.mapping.specs.declared.mapping.TheConstants.{MAX_PAGES}
@@ -55,7 +55,8 @@ pub record IsNext (s : State) (m f p : ℕ) : Type 0 where
 -- the page of the file is the next that the sync has to start: once its write has started, and that is noted, the event is made
 pub record IsToStart (s : State) (m : SyncId) (f p : ℕ) : Type 0 where
   pub can : CanStart s f p
-  pub sync : is_some (get s.syncs m.0) ≡ true
+  pub sync : Sync
+  pub there : get s.syncs m.0 ≡ Some sync
   pub begins : (job : Task) (mid : State) → IsStarted s f p job mid
       → Step s (event.SyncStep m) (reply.Job (record { 0 = job.serial }))
       (record mid { syncs = change_at m.0 (with_started p) mid.syncs })

@@ -97,13 +97,13 @@ impl CacheCore {
         ensures step { (h : HandleId) → map.get self.old.state.handles h.0 ≡ Some file → is_read result ≡ false → Step self.old.state (Event.FillBegin h page) (fill_says result) self.new.state }
         ensures lists { is_read result ≡ false → self.new.lists ≡ lists_filling file page.0 (fill_says result) self.old.lists }
     {
-        if let Some(block) = self.block_to_read(file, page) {
-            return Ok(FillNext::Read(FileId(file), block));
-        }
-        match self.pages.make(file, page.0) {
-            Ok(()) => Ok(FillNext::Filled),
-            Err(_) => Err(Refusal::Memory),
-        }
+        let Some(block) = self.block_to_read(file, page) else {
+            if self.pages.make(file, page.0).is_err() {
+                return Err(Refusal::Memory);
+            }
+            return Ok(FillNext::Filled);
+        };
+        Ok(FillNext::Read(FileId(file), block))
     }
 
     /// Begins to read an absent page from its block into the buffer.

@@ -78,16 +78,19 @@ impl CacheCore {
         ensures back { SyncGivesBack buffer result }
         ensures no_memory { IfErr result (λ e. e.refusal ≢ Memory) }
     {
-        match self.next_of(sync) {
-            Ok(SyncNext::Start(file, page)) => {
+        let next = match self.next_of(sync) {
+            Ok(next) => next,
+            Err(refusal) => return Err(Refused { refusal, buffer }),
+        };
+        match next {
+            SyncNext::Start(file, page) => {
                 let job = self.begin_flush(file, page, buffer);
                 self.syncs.started(sync, page);
                 Ok(SyncStepped::Job(job))
             }
-            Ok(SyncNext::Wait(page)) => Ok(SyncStepped::Wait(page, buffer)),
-            Ok(SyncNext::Clean) => Ok(SyncStepped::Clean(buffer)),
-            Ok(SyncNext::Failed(code)) => Ok(SyncStepped::Failed(code, buffer)),
-            Err(refusal) => Err(Refused { refusal, buffer }),
+            SyncNext::Wait(page) => Ok(SyncStepped::Wait(page, buffer)),
+            SyncNext::Clean => Ok(SyncStepped::Clean(buffer)),
+            SyncNext::Failed(code) => Ok(SyncStepped::Failed(code, buffer)),
         }
     }
 
@@ -125,7 +128,7 @@ impl CacheCore {
     fn start_of(&self, sync: SyncId, file: u64, page: PageIndex) -> Result<SyncNext, Refusal>
         requires next { IsNext self.now.state sync.0 file page.0 }
         requires below { page.0 < MAX_PAGES }
-        ensures starts { IfOk result (λ next. (next ≡ next.Start (record { 0 = file }) page) × IsToStart self.now.state sync file page.0) }
+        ensures starts { IfOk result (λ n. (n ≡ next.Start (record { 0 = file }) page) × IsToStart self.now.state sync file page.0) }
         ensures refused { IfErr result (λ r. (r ≡ TooManyInFlight) × Step self.now.state (Event.SyncStep sync) (reply.Refused r) self.now.state) }
     {
         if self.requests.is_full() {

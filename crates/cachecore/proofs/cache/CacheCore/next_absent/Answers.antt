@@ -1,18 +1,14 @@
 use Rattle.std.proofs.Common.{◌<◌, ◌-◌, length, ap, sym, refl, subst, ◌∙◌, arith}
 use Rattle.std.specs.FinMap as map
-use Rattle.blockdev.specs.Jobs.{Task}
 use Rattle.machine.specs.State.{State, free_frames, is_cached, is_filling}
 use Rattle.pagestore.specs.Store.{blank, Store, stored_at, with_pages, with_lists}
-use Rattle.cachecore.specs.Replies.{IsFillJob}
 use Rattle.machine.specs.PageLists.{entered}
 use Rattle.cachecore.specs.Tables.{IsCore, state_of}
 use Rattle.cachecore.proofs.CoreLemmas.{core-zeros, free_frames_are, zeros_state}
-use Rattle.cachecore.proofs.FillCalls.{fill_job}
 use Rattle.pagestore.proofs.PairLemmas.{when_ok}
 use Rattle.cachecore.proofs.SyncLaws.{files_failed, moved_syncs}
 use Rattle.cachecore.proofs.CoreViews.{state_is}
 use Rattle.cachecore.proofs.cache.CacheCore.next_absent.Goals as goal
-use Rattle.cachecore.proofs.cache.CacheCore.next_absent.Goals.{in-Ok, in-Err}
 
 pub invariant_of-self-in_default : goal.invariant_of-self-in_default
 invariant_of-self-in_default c =
@@ -45,17 +41,3 @@ invariant_of-self-in_default c =
           c.make.new.self.files (files_failed c.make.new.self.files i.pages f _ 0
           (ap (λ (x : Store). x.files) (when_ok c.make.result _ c.if-is_err.ensures.value c.make.ensures.ok)));
     }
-
-pub returns-clause-job : goal.returns-clause-job
-returns-clause-job c = elim c.match-begin_read.branch [
-  | in-Ok w ↦
-      let begun = w.in-Ok.ensures.begun in
-      let job : Task = w.new-job.result in
-      subst (IsFillJob c.begin_read.new.self.state) (sym w.result-is)
-      (fill_job c.args.self.now.state c.begin_read.new.self.state c.args.file c.args.page.0 c.in-Some.block.0
-      c.in-Some.ensures.some begun.2 job
-      (ap (λ (t : Task). t.serial) w.new-job.ensures ∙ begun.1)
-      (ap (λ (t : Task). t.cache) w.new-job.ensures ∙ ap (λ (s : State). s.name) (state_is c.self-2.view_is))
-      (ap (λ (t : Task). t.kind) w.new-job.ensures) (ap (λ (t : Task). t.block) w.new-job.ensures))
-  | in-Err w ↦ subst (IsFillJob c.begin_read.new.self.state) (sym w.result-is) tt
-]

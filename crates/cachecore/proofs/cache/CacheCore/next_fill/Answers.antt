@@ -25,20 +25,20 @@ cached_is c = sym (c.is_cached.ensures
     ∙ ap (λ (s : State). is_cached s c.in-Some.file c.args.page.0) (state_is c.self.view_is))
 
 pub returns-then-is_filling-clause-step : goal.returns-then-is_filling-clause-step
-returns-then-is_filling-clause-step c =
+returns-then-is_filling-clause-step c = λ e.
     let at = goal.at.returns-then-is_filling-clause-step c in
     fill_waits c.args.self.now.state c.args.handle c.args.page c.in-Some.file (found at.In-Some)
     (inside at.After-is_filling) (sym c.is_filling.ensures ∙ c.if-is_filling.true)
 
 pub returns-then-is_cached-clause-step : goal.returns-then-is_cached-clause-step
-returns-then-is_cached-clause-step c =
+returns-then-is_cached-clause-step c = λ e.
     let at = goal.at.returns-then-is_cached-clause-step c in
     fill_present c.args.self.now.state c.args.handle c.args.page c.in-Some.file (found at.In-Some)
     (inside at.After-is_filling) (sym c.is_filling.ensures ∙ c.if-is_filling.false)
     (cached_is at.After-is_cached ∙ c.if-is_cached.true)
 
 pub returns-then-free_frames-eq0-clause-step : goal.returns-then-free_frames-eq0-clause-step
-returns-then-free_frames-eq0-clause-step c =
+returns-then-free_frames-eq0-clause-step c = λ e.
     let at = goal.at.returns-then-free_frames-eq0-clause-step c in
     let free = free_frames_are c.self.invariant.core in
     let frames = ap free_frames (state_is c.self.view_is) in

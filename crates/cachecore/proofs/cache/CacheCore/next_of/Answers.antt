@@ -9,7 +9,7 @@ use Rattle.writeback.specs.Slots.{sync_of}
 use Rattle.cachecore.proofs.CoreViews.{state_is}
 use Rattle.cachecore.proofs.Parts.{Goes, IsKept, Parts, goes_to, parts_of, state_by}
 use Rattle.pc_types.specs.declared.refusal.Refusal.TheVariants.{Stranger}
-use Rattle.cachecore.specs.Replies.{IsSyncJob, sync_stepped}
+use Rattle.cachecore.specs.Nexts.{sync_says}
 use Rattle.cachecore.specs.Starting.{IsNext}
 use Rattle.cachecore.proofs.SyncCalls.{awaits, bounded, clean_call, failed_call, held_call, must_be_open, next_call}
 use Rattle.cachecore.proofs.SyncCalls.{told_code, without, without_cache}
@@ -18,7 +18,7 @@ use Rattle.cachecore.proofs.cache.CacheCore.next_of.Goals as goal
 use Rattle.cachecore.proofs.cache.CacheCore.next_of.Goals.{in-None, in-Some-failure_since}
 
 pub returns-in_default-clause-step : goal.returns-in_default-clause-step
-returns-in_default-clause-step c =
+returns-in_default-clause-step c = λ e.
     let p = parts_of c.self.inside in
     subst (λ s. Step s (event.SyncStep c.args.sync) (reply.Refused Stranger) s) (state_is c.self.view_is)
     (stranger_step (state_by p) c.args.sync (sym c.in_default.ensures))
@@ -43,7 +43,7 @@ failure_since-requires-clause-coded c =
     c.in-Some-file.file c.in-Some-file.ensures
 
 pub returns-in-Held-clause-step : goal.returns-in-Held-clause-step
-returns-in-Held-clause-step c =
+returns-in-Held-clause-step c = λ e.
     let p = parts_of c.self.inside in
     subst (λ s. Step s (event.SyncStep c.args.sync) (reply.Wait c.in-Held.page) s) (state_is c.self.view_is)
     (held_call p c.self.invariant c.args.sync (sync_of c.in-Some.progress)
@@ -64,7 +64,7 @@ pub invariant_of-self : goal.invariant_of-self
 invariant_of-self c = (awaited c).cache
 
 pub returns-in-Await-clause-step : goal.returns-in-Await-clause-step
-returns-in-Await-clause-step c = (awaited c).step
+returns-in-Await-clause-step c = λ e. (awaited c).step
 
 pub invariant_of-self-in-Over : goal.invariant_of-self-in-Over
 invariant_of-self-in-Over c =
@@ -73,7 +73,7 @@ invariant_of-self-in-Over c =
     (without_cache p c.self.invariant c.args.sync)
 
 pub returns-after-failure_since-clause-step : goal.returns-after-failure_since-clause-step
-returns-after-failure_since-clause-step c =
+returns-after-failure_since-clause-step c = λ e.
     let p = parts_of c.self.inside in
     let s = c.args.self.now.state in
     let now : Parts = record p { syncs = c.remove.new.self } in
@@ -85,21 +85,12 @@ returns-after-failure_since-clause-step c =
           (λ k. let x : Parts = record p { syncs = c.remove.ensures.removed k } in x)
           (clean_call p c.self.invariant c.args.sync y c.in-Some.ensures c.in-Some-file.file c.in-Some-file.ensures
           c.in-Over.ensures.step w.in-None.ensures) in
-          subst (λ r. Step s (event.SyncStep c.args.sync) (sync_stepped r) (state_by now)) (sym w.result-is) goes.step
+          subst (λ r. Step s (event.SyncStep c.args.sync) (sync_says r) (state_by now)) (sym w.result-is) goes.step
       | in-Some-failure_since w ↦
           let goes = goes_to (state_by p) s (state_is c.self.view_is) (event.SyncStep c.args.sync)
           (reply.Failed w.in-Some-failure_since.code) (without p c.self.invariant c.args.sync) now
           (λ k. let x : Parts = record p { syncs = c.remove.ensures.removed k } in x)
           (failed_call p c.self.invariant c.args.sync y c.in-Some.ensures c.in-Some-file.file c.in-Some-file.ensures
           c.in-Over.ensures.step w.in-Some-failure_since.code w.in-Some-failure_since.ensures) in
-          subst (λ r. Step s (event.SyncStep c.args.sync) (sync_stepped r) (state_by now)) (sym w.result-is) goes.step
-    ]
-
-pub returns-after-failure_since-clause-job : goal.returns-after-failure_since-clause-job
-returns-after-failure_since-clause-job c =
-    let p = parts_of c.self.inside in
-    let new : State = state_by (record p { syncs = c.remove.new.self }) in
-    elim c.match-failure_since.branch [
-      | in-None w ↦ subst (IsSyncJob new) (sym w.result-is) tt
-      | in-Some-failure_since w ↦ subst (IsSyncJob new) (sym w.result-is) tt
+          subst (λ r. Step s (event.SyncStep c.args.sync) (sync_says r) (state_by now)) (sym w.result-is) goes.step
     ]

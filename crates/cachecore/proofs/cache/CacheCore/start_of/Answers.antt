@@ -1,9 +1,7 @@
 use Rattle.std.proofs.Common.{ap, refl, sym, subst, ◌∙◌}
-use Rattle.std.specs.Prelude.{is_some}
 use Rattle.cachecore.proofs.CoreViews.{state_is}
 use Rattle.machine.specs.Sound.{Sound}
 use Rattle.machine.specs.Tests.{is_full}
-use Rattle.cachecore.specs.Starting.{with_started}
 use Rattle.cachecore.proofs.FileKeeps.{page_here}
 use Rattle.cachecore.proofs.SyncCalls.{next_full, next_startable, next_started}
 use Rattle.cachecore.proofs.cache.CacheCore.start_of.Goals as goal
@@ -30,7 +28,8 @@ returns-clause-starts c =
           below = c.requires.below;
           room = room;
         };
-        sync = ap is_some n.is;
+        sync = n.sync;
+        there = n.is;
         begins = λ job mid started. next_started s sound c.args.sync c.args.file c.args.page n room job mid started _ refl;
       },
     )
