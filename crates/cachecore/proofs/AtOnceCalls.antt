@@ -1,5 +1,5 @@
 -- Requests that begin, are carried out and end in one call: the state between, which nobody sees, and the two steps.
-use Rattle.std.proofs.Common.{◌≡◌, ℕ, ◌+◌, ◌^◌, ◌<◌, Bool, false, true, List, [], length, refl, ap, sym, ◌∙◌}
+use Rattle.std.proofs.Common.{◌≡◌, ℕ, ◌+◌, ◌^◌, ◌<◌, Bool, false, true, List, [], length, refl, ap, sym, ◌∙◌, inl, inr}
 use Rattle.std.specs.Prelude.{◌&&◌, Option, Some, None, Ok, Err, IsTrue, is_some, option_map, unwrap_or, slice_set}
 use Rattle.std.specs.FinMap as finmap
 use Rattle.std.specs.FinMap.{FinMap}
@@ -36,16 +36,16 @@ use Rattle.machine.proofs.steps.Choices.{at_false}
 use Rattle.pagestore.specs.Filling.{filled}
 use Rattle.pagestore.specs.Store.{Store, stored_at, the_page, with_pages}
 use Rattle.pagestore.proofs.RangeLemmas.{pages-with, with-with}
-use Rattle.cachecore.specs.Replies.{IsJobOf}
+use Rattle.cachecore.specs.Replies.{IsJobOf, end_of}
 use Rattle.cachecore.specs.Starting.{IsStarted, MayStart}
-use Rattle.cachecore.proofs.EndCalls.{Seen, few_failures, fill_done, fill_fails, flush_done, flush_fails}
+use Rattle.cachecore.proofs.EndCalls.{few_failures, fill_done, fill_fails, flush_done, flush_fails}
 use Rattle.cachecore.proofs.EndKeeps.{put_is}
 use Rattle.cachecore.proofs.EndSteps.{Ends}
 use Rattle.cachecore.proofs.FillCalls.{fill_job, reading, reading_cache}
 use Rattle.cachecore.proofs.FillKeeps.{block_is, unheld_here as unheld_absent}
 use Rattle.cachecore.proofs.FlushCalls.{begun, begun_cache, cached_start, same_block, started_call, unheld_block}
 use Rattle.cachecore.proofs.FlushKeeps.{fresh}
-use Rattle.cachecore.proofs.Parts.{IsKept, Parts, state_by}
+use Rattle.cachecore.proofs.Parts.{Goes, IsKept, Parts, state_by}
 use Rattle.cachecore.proofs.StepLemmas.{above_zero, by_change, filling_tests_left}
 
 -- ---- maps
@@ -149,14 +149,17 @@ module _ (p : Parts) (w : IsKept p) (f q : ℕ) (start : MayStart (state_by p) f
   there : finmap.get (state_by writing).requests p.flights.next ≡ Some request
   there = get-insert_here p.flights.requests p.flights.next request p.flights.next refl
 
-  pub of_file : is_started.job_is.0.file ≡ f
-  of_file = ap (λ (o : Option Request). (unwrap_or o request).file) (sym is_started.job_is.1 ∙ there)
+  pub its_request : (x : Request) → finmap.get (state_by writing).requests p.flights.next ≡ Some x
+      → (x.file ≡ f) × (x.kind ≡ Flush)
+  its_request x is =
+      let same : x ≡ request = ap (λ (o : Option Request). unwrap_or o request) (sym is ∙ there) in
+      (ap (λ (x : Request). x.file) same, ap (λ (x : Request). x.kind) same)
 
   ends : Ends (state_by writing) Flush written_done request
   ends = record { cache = refl; job = refl; found = there; kind_is = refl }
 
-  abbrev After : Reply → Parts → Type 0
-  After = Seen writing writing_kept written_done request (state_by writing) refl Flush
+  abbrev pub WriteGoes : Reply → Parts → Type 0
+  WriteGoes r new = Goes (state_by writing) (event.End Flush (end_of written_done)) r new
 
   released : p.blocks ≡ record writing.blocks { held = finmap.remove writing.blocks.held request.block }
   released = held_again p w request.block (ap (finmap.get p.blocks.held) (sym (same_block p w f q start placed placed_is))
@@ -174,7 +177,7 @@ module _ (p : Parts) (w : IsKept p) (f q : ℕ) (start : MayStart (state_by p) f
       (after_write false (under_write (the_page (stored_at p.store f).pages q)))) p.store.free
       → b ≡ record p.blocks { spots = with_written (finmap.get p.blocks.spots (f, q)) (f, q) p.blocks.spots }
       → t ≡ passed p.flights
-      → After reply.Written (record writing { store = k; blocks = b; flights = t })
+      → WriteGoes reply.Written (record writing { store = k; blocks = b; flights = t })
   write_ends well k b t store blocks fly =
       flush_done writing writing_kept written_done request (state_by writing) refl ends refl well k p.blocks b t
       (put false k store) released blocks (fly ∙ passed_is p w request)
@@ -192,7 +195,7 @@ module _ (p : Parts) (w : IsKept p) (f q : ℕ) (start : MayStart (state_by p) f
       → k ≡ record k0 { files = slice_set k0.files f (record (stored_at k0 f)
       { failures = (stored_at k0 f).failures + 1; last_code = n }) }
       → t ≡ passed p.flights
-      → After (reply.Failed code) (record writing { store = k; blocks = p.blocks; flights = t })
+      → WriteGoes (reply.Failed code) (record writing { store = k; blocks = p.blocks; flights = t })
   write_fails code n same failed is_code k0 k t before after fly =
       flush_fails writing writing_kept written_done request (state_by writing) refl ends refl code n same failed is_code k0 k
       p.blocks t (put true k0 before) after released (fly ∙ passed_is p w request)
@@ -247,17 +250,17 @@ module _ (p : Parts) (w : IsKept p) (f q : ℕ) (absent : is_cached (state_by p)
   wanted_there : finmap.get (state_by being_read).requests p.flights.next ≡ Some wanted
   wanted_there = get-insert_here p.flights.requests p.flights.next wanted p.flights.next refl
 
-  pub read_of : is_read_job.0.file ≡ f
-  read_of = ap (λ (o : Option Request). (unwrap_or o wanted).file) (sym is_read_job.1 ∙ wanted_there)
-
-  pub read_kind : is_read_job.0.kind ≡ Fill
-  read_kind = ap (λ (o : Option Request). (unwrap_or o wanted).kind) (sym is_read_job.1 ∙ wanted_there)
+  pub read_request : (x : Request) → finmap.get (state_by being_read).requests p.flights.next ≡ Some x
+      → (x.file ≡ f) × (x.kind ≡ Fill)
+  read_request x is =
+      let same : x ≡ wanted = ap (λ (o : Option Request). unwrap_or o wanted) (sym is ∙ wanted_there) in
+      (ap (λ (x : Request). x.file) same, ap (λ (x : Request). x.kind) same)
 
   read_ends_it : Ends (state_by being_read) Fill read_done wanted
   read_ends_it = record { cache = refl; job = refl; found = wanted_there; kind_is = refl }
 
-  abbrev Read : Reply → Parts → Type 0
-  Read = Seen being_read being_kept read_done wanted (state_by being_read) refl Fill
+  abbrev pub ReadGoes : Reply → Parts → Type 0
+  ReadGoes r new = Goes (state_by being_read) (event.End Fill (end_of read_done)) r new
 
   let_go : p.blocks ≡ record being_read.blocks { held = finmap.remove being_read.blocks.held wanted.block }
   let_go = held_again p w wanted.block (ap (finmap.get p.blocks.held) (block_is w.core f q absent idle spot at)
@@ -265,7 +268,7 @@ module _ (p : Parts) (w : IsKept p) (f q : ℕ) (absent : is_cached (state_by p)
 
   pub read_ends : went ≡ Ok tt → length after ≡ p.sizes.page → (k0 k : Store) (t : Flights) → k0 ≡ being_read.store
       → k ≡ filled k0 f q after → t ≡ passed p.flights
-      → Read reply.Filled (record being_read { store = k; blocks = p.blocks; flights = t })
+      → ReadGoes reply.Filled (record being_read { store = k; blocks = p.blocks; flights = t })
   read_ends well size k0 k t begun store fly =
       fill_done being_read being_kept read_done wanted (state_by being_read) refl read_ends_it refl well size k p.blocks t
       (store ∙ ap (λ s. filled s f q after) begun) let_go (fly ∙ passed_is p w wanted)
@@ -277,7 +280,7 @@ module _ (p : Parts) (w : IsKept p) (f q : ℕ) (absent : is_cached (state_by p)
         lists = lists.left f q k0.lists;
       }
       → t ≡ passed p.flights
-      → Read (reply.Failed code) (record being_read { store = k; blocks = p.blocks; flights = t })
+      → ReadGoes (reply.Failed code) (record being_read { store = k; blocks = p.blocks; flights = t })
   read_fails code failed k0 k t begun store fly =
       fill_fails being_read being_kept read_done wanted (state_by being_read) refl read_ends_it refl code failed k p.blocks t
       (store ∙ ap (λ (s : Store). let z : Store = record s {

@@ -1,5 +1,6 @@
 -- Requests that begin, are carried out and end in one call, for a cache that one thread has.
-use Rattle.std.specs.Prelude.{◌≡◌, ℕ, false, if◌then◌else◌}
+use Rattle.std.specs.Prelude.{◌≡◌, ℕ, false, if◌then◌else◌, Some}
+use Rattle.std.specs.FinMap as map
 use Rattle.blockdev.specs.Jobs.{FinishedTask, IsJobFor, Task}
 use Rattle.blockdev.specs.Watching.{Makes, Watch}
 use Rattle.pc_types.specs.Kinds.{is_flush}
@@ -8,7 +9,7 @@ use Rattle.machine.specs.declared.event.Event.{Event}
 use Rattle.machine.specs.declared.event.Event.TheVariants as event
 use Rattle.machine.specs.declared.event.Reply.{Reply}
 use Rattle.machine.specs.declared.event.Reply.TheVariants as reply
-use Rattle.machine.specs.State.{State, page_bytes}
+use Rattle.machine.specs.State.{Request, State, page_bytes}
 use Rattle.machine.specs.Step.{Step}
 use Rattle.machine.specs.ListChanges.{lists_after}
 use Rattle.cachecore.specs.Core.{Core}
@@ -49,7 +50,7 @@ pub record IsWritten (old : Core) (f p : ℕ) (from : Watch) (r : Reply) (new : 
   pub done : FinishedTask
   pub started : IsStarted old.state f p job begun
   pub kind : job.kind ≡ Flush
-  pub file : started.job_is.0.file ≡ f
+  pub its : (x : Request) → map.get begun.requests job.serial ≡ Some x → (x.file ≡ f) × (x.kind ≡ Flush)
   pub fits : IsJobFor old.state.name old.state.sizes.blocks old.state.sizes.page job
   pub makes : Makes from job done to
   pub ends : Step begun (event.End Flush (end_of done)) r new.state
