@@ -1,20 +1,23 @@
 -- Requests that begin, are carried out and end in one call: the state between, which nobody sees, and the two steps.
-use Rattle.std.proofs.Common.{◌≡◌, ℕ, ◌+◌, ◌^◌, ◌<◌, Bool, false, true, List, [], length, refl, ap, sym, ◌∙◌, inl, inr}
+use Rattle.std.proofs.Common.{◌≡◌, ℕ, ◌+◌, ◌^◌, ◌<◌, Bool, false, true, List, [], length, cond, refl, ap, sym, subst, ◌∙◌, inl, inr}
 use Rattle.std.specs.Prelude.{◌&&◌, Option, Some, None, Ok, Err, IsTrue, is_some, option_map, unwrap_or, slice_set}
 use Rattle.std.specs.FinMap as finmap
 use Rattle.std.specs.FinMap.{FinMap}
 use Rattle.std.specs.FinSet as set
 use Rattle.std.specs.Ordering.{nat_cmp}
 use Rattle.std.proofs.lemmas.Bool.{cases_eq}
-use Rattle.pc_types.specs.Limits.{is_err_code}
+use Rattle.pc_types.specs.Kinds.{is_flush}
+use Rattle.pc_types.specs.Limits.{Sizes, is_err_code}
 use Rattle.pc_types.specs.Spots.{Spot}
 use Rattle.pc_types.specs.Tags.{no_tags}
 use Rattle.pc_types.specs.declared.ids.HandleId.{HandleId}
 use Rattle.pc_types.specs.declared.ids.PageIndex.{PageIndex}
+use Rattle.pc_types.specs.declared.ids.Serial.{Serial}
 use Rattle.pc_types.specs.declared.kind.Kind.TheVariants.{Fill, Flush}
 use Rattle.pc_types.specs.declared.limits.TheConstants.{SERIAL_END}
 use Rattle.blockdev.specs.Device as device
 use Rattle.blockdev.specs.Jobs.{FinishedTask, Task}
+use Rattle.blockdev.specs.Watching.{Watch}
 use Rattle.blockmap.specs.Blocks.{Blocks, with_written}
 use Rattle.blockmap.specs.Keys.{IsPage}
 use Rattle.blockmap.specs.Told.{told}
@@ -23,22 +26,27 @@ use Rattle.mapping.proofs.MapLemmas.{get-insert_here, get-insert_there, get-remo
 use Rattle.maps.proofs.MapLaws.{same_nat_map}
 use Rattle.maps.specs.Maps.{change_at}
 use Rattle.writeback.specs.Flights.{Flights}
+use Rattle.machine.specs.declared.event.Event.{Event}
 use Rattle.machine.specs.declared.event.Event.TheVariants as event
 use Rattle.machine.specs.declared.event.Reply.{Reply}
 use Rattle.machine.specs.declared.event.Reply.TheVariants as reply
+use Rattle.machine.specs.ListChanges.{lists_after, lists_unfilled}
 use Rattle.machine.specs.PageLists as lists
+use Rattle.machine.specs.PageLists.{PageLists}
 use Rattle.machine.specs.State.{State, Page, Request, block_at, file_at, free_frames, handle_file, is_cached, is_filling}
-use Rattle.machine.specs.State.{is_written, page_count, spot_at}
+use Rattle.machine.specs.State.{is_written, page_bytes, page_count, spot_at}
 use Rattle.machine.specs.Changes.{after_write, requested, under_write}
 use Rattle.machine.specs.Tests.{is_full}
 use Rattle.machine.specs.Step.{Step}
 use Rattle.machine.proofs.steps.Choices.{at_false}
 use Rattle.pagestore.specs.Filling.{filled}
-use Rattle.pagestore.specs.Store.{Store, stored_at, the_page, with_pages}
+use Rattle.pagestore.specs.Store.{Store, is_awaited, stored_at, the_page, with_pages}
 use Rattle.pagestore.proofs.RangeLemmas.{pages-with, with-with}
+use Rattle.cachecore.specs.AtOnce.{IsCarriedOut, IsWritten}
+use Rattle.cachecore.specs.Core.{Core}
 use Rattle.cachecore.specs.Replies.{IsJobOf, end_of}
 use Rattle.cachecore.specs.Starting.{IsStarted, MayStart}
-use Rattle.cachecore.proofs.EndCalls.{few_failures, fill_done, fill_fails, flush_done, flush_fails}
+use Rattle.cachecore.proofs.EndCalls.{awaited_here, few_failures, fill_done, fill_fails, flush_done, flush_fails}
 use Rattle.cachecore.proofs.EndKeeps.{put_is}
 use Rattle.cachecore.proofs.EndSteps.{Ends}
 use Rattle.cachecore.proofs.FillCalls.{fill_job, reading, reading_cache}
@@ -200,6 +208,46 @@ module _ (p : Parts) (w : IsKept p) (f q : ℕ) (start : MayStart (state_by p) f
       flush_fails writing writing_kept written_done request (state_by writing) refl ends refl code n same failed is_code k0 k
       p.blocks t (put true k0 before) after released (fly ∙ passed_is p w request)
 
+-- the event that began it, and its end
+pub carried : (old was : Core) (f p : ℕ) (from : Watch) (r : Reply) (new : Core) (to : Watch) → IsWritten was f p from r new to
+    → was.state.name ≡ old.state.name → was.state.sizes ≡ old.state.sizes → was.lists ≡ old.lists → (e : Event)
+    → ((job : Task) (mid : State) → IsStarted was.state f p job mid
+    → Step old.state e (reply.Job (record { 0 = job.serial })) mid)
+    → ((t : Serial) → lists_after old.state e (reply.Job t) old.lists ≡ old.lists) → IsCarriedOut old e from f r new to
+carried old was f p from r new to h name sizes same e begins still =
+    let of = h.started.job_is in
+    let it = h.its of.0 of.1 in
+    record {
+      begun = h.begun;
+      job = h.job;
+      done = h.done;
+      begins = begins h.job h.begun h.started;
+      its = (
+        of.0,
+        of.1,
+        of.2
+            ∙ (λ i. record {
+              cache = h.begun.name;
+              serial = h.job.serial;
+              kind = of.0.kind;
+              block = of.0.block;
+              bytes = cond (is_flush (sym it.1 i)) (page_bytes h.begun of.0.file of.0.page) h.job.bytes;
+            }),
+      );
+      file = it.0;
+      fits = record {
+        cache = h.fits.cache ∙ name;
+        block = subst (λ (g : Sizes). h.job.block < g.blocks) sizes h.fits.block;
+        size = h.fits.size ∙ ap (λ (g : Sizes). g.page) sizes;
+      };
+      makes = h.makes;
+      ends = subst (λ k. Step h.begun (event.End k (end_of h.done)) r new.state) (sym h.kind) h.ends;
+      lists = h.lists ∙ same
+          ∙ sym (ap (λ k. lists_after h.begun (event.End k (end_of h.done)) r
+          (lists_after old.state e (reply.Job (record { 0 = h.job.serial })) old.lists)) h.kind
+          ∙ still (record { 0 = h.job.serial }));
+    }
+
 -- ---- reads
 
 pub read_step : (s : State) (h : HandleId) (p : PageIndex) (f : ℕ) → finmap.get s.handles h.0 ≡ Some f
@@ -261,6 +309,32 @@ module _ (p : Parts) (w : IsKept p) (f q : ℕ) (absent : is_cached (state_by p)
 
   abbrev pub ReadGoes : Reply → Parts → Type 0
   ReadGoes r new = Goes (state_by being_read) (event.End Fill (end_of read_done)) r new
+
+  -- it waits for its bytes
+  pub awaits_it : is_awaited being_read.store f q ≡ true
+  awaits_it = awaited_here being_read being_kept read_done wanted (state_by being_read) refl read_ends_it refl
+
+  pub unfilled_lists : (l : PageLists) → lists_unfilled (finmap.get (state_by being_read).requests p.flights.next) l ≡ lists.left f q l
+  unfilled_lists l = ap (λ o. lists_unfilled o l) wanted_there
+
+  pub read_its : IsJobOf (state_by being_read) read_job
+      (λ x. cond (is_flush x.kind) (page_bytes (state_by being_read) x.file x.page) read_job.bytes)
+  read_its = (
+    is_read_job.0,
+    is_read_job.1,
+    is_read_job.2
+        ∙ (λ i. record {
+          cache = p.name;
+          serial = read_job.serial;
+          kind = is_read_job.0.kind;
+          block = is_read_job.0.block;
+          bytes = cond (is_flush (sym (read_request is_read_job.0 is_read_job.1).1 i))
+              (page_bytes (state_by being_read) is_read_job.0.file is_read_job.0.page) read_job.bytes;
+        }),
+  )
+
+  pub read_file : read_its.0.file ≡ f
+  read_file = (read_request read_its.0 read_its.1).0
 
   let_go : p.blocks ≡ record being_read.blocks { held = finmap.remove being_read.blocks.held wanted.block }
   let_go = held_again p w wanted.block (ap (finmap.get p.blocks.held) (block_is w.core f q absent idle spot at)
