@@ -13,6 +13,7 @@ use Rattle.pc_types.specs.Tags.{no_tags}
 use Rattle.pc_types.specs.declared.ids.HandleId.{HandleId}
 use Rattle.pc_types.specs.declared.ids.PageIndex.{PageIndex}
 use Rattle.pc_types.specs.declared.ids.Serial.{Serial}
+use Rattle.pc_types.specs.declared.ids.SyncId.{SyncId}
 use Rattle.pc_types.specs.declared.kind.Kind.TheVariants.{Fill, Flush}
 use Rattle.pc_types.specs.declared.limits.TheConstants.{SERIAL_END}
 use Rattle.blockdev.specs.Device as device
@@ -33,9 +34,9 @@ use Rattle.machine.specs.declared.event.Reply.TheVariants as reply
 use Rattle.machine.specs.ListChanges.{lists_after, lists_unfilled}
 use Rattle.machine.specs.PageLists as lists
 use Rattle.machine.specs.PageLists.{PageLists}
-use Rattle.machine.specs.State.{State, Page, Request, block_at, file_at, free_frames, handle_file, is_cached, is_filling}
+use Rattle.machine.specs.State.{State, Page, Request, Sync, block_at, file_at, free_frames, handle_file, is_cached, is_filling}
 use Rattle.machine.specs.State.{is_written, page_bytes, page_count, spot_at}
-use Rattle.machine.specs.Changes.{after_write, requested, under_write}
+use Rattle.machine.specs.Changes.{after_write, requested, started, under_write}
 use Rattle.machine.specs.Tests.{is_full}
 use Rattle.machine.specs.Step.{Step}
 use Rattle.machine.proofs.steps.Choices.{at_false}
@@ -45,7 +46,7 @@ use Rattle.pagestore.proofs.RangeLemmas.{pages-with, with-with}
 use Rattle.cachecore.specs.AtOnce.{IsCarriedOut, IsWritten}
 use Rattle.cachecore.specs.Core.{Core}
 use Rattle.cachecore.specs.Replies.{IsJobOf, end_of}
-use Rattle.cachecore.specs.Starting.{IsStarted, MayStart}
+use Rattle.cachecore.specs.Starting.{IsStarted, IsToStart, MayStart, with_started}
 use Rattle.cachecore.proofs.EndCalls.{awaited_here, few_failures, fill_done, fill_fails, flush_done, flush_fails}
 use Rattle.cachecore.proofs.EndKeeps.{put_is}
 use Rattle.cachecore.proofs.EndSteps.{Ends}
@@ -247,6 +248,22 @@ carried old was f p from r new to h name sizes same e begins still =
           (lists_after old.state e (reply.Job (record { 0 = h.job.serial })) old.lists)) h.kind
           ∙ still (record { 0 = h.job.serial }));
     }
+
+-- a sync's page is started after the sync has noted it, which is the same step
+pub noted_first : (old t : State) → t ≡ old → (m : SyncId) (f p : ℕ) → IsToStart old m f p → (x : FinMap nat_cmp Sync)
+    → x ≡ change_at m.0 (with_started p) t.syncs → (job : Task) (mid : State) → IsStarted (record t { syncs = x }) f p job mid
+    → Step old (event.SyncStep m) (reply.Job (record { 0 = job.serial })) mid
+noted_first old t same m f p start x put job mid h =
+    let bare : State = record mid { syncs = old.syncs } in
+    let begun : IsStarted old f p job bare = record {
+      next = h.next ∙ ap (λ (s : State). s.next) same;
+      state = (λ i. record (h.state i) { syncs = old.syncs }) ∙ (λ i. record (started (same i) f p) { syncs = old.syncs });
+      job_is = h.job_is;
+    } in
+    let noted : mid.syncs ≡ change_at m.0 (with_started p) old.syncs =
+    ap (λ (s : State). s.syncs) h.state ∙ put ∙ ap (λ (s : State). change_at m.0 (with_started p) s.syncs) same in
+    subst (λ y. Step old (event.SyncStep m) (reply.Job (record { 0 = job.serial })) (record mid { syncs = y })) (sym noted)
+    (start.begins job bare begun)
 
 -- ---- reads
 

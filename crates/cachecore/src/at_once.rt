@@ -72,16 +72,19 @@ impl CacheCore {
         requires { IsDeviceOf self.old.state device.old }
         ensures { MakesAtOnce self.old (Event.SyncStep sync) device.old result self.new device.new }
     {
-        match self.next_of(sync) {
-            Ok(SyncNext::Start(file, page)) => {
+        let next = match self.next_of(sync) {
+            Ok(next) => next,
+            Err(refusal) => return AtOnce::Answered(Reply::Refused(refusal)),
+        };
+        match next {
+            SyncNext::Start(file, page) => {
                 self.syncs.started(sync, page);
                 let reply = self.write_at_once(device, file, page);
                 AtOnce::Ended(file, reply)
             }
-            Ok(SyncNext::Wait(page)) => AtOnce::Answered(Reply::Wait(page)),
-            Ok(SyncNext::Clean) => AtOnce::Answered(Reply::Clean),
-            Ok(SyncNext::Failed(code)) => AtOnce::Answered(Reply::Failed(code)),
-            Err(refusal) => AtOnce::Answered(Reply::Refused(refusal)),
+            SyncNext::Wait(page) => AtOnce::Answered(Reply::Wait(page)),
+            SyncNext::Clean => AtOnce::Answered(Reply::Clean),
+            SyncNext::Failed(code) => AtOnce::Answered(Reply::Failed(code)),
         }
     }
 
