@@ -7,12 +7,10 @@ ghost use Rattle.mapping.specs.declared.mapping.TheConstants.{MAX_PAGES};
 ghost use Rattle.pc_types.specs.Tags.{no_tags};
 ghost use Rattle.frames.specs.Rows.{laid};
 ghost use Rattle.machine.specs.PageLists.{entered, is_listed, left};
-ghost use Rattle.pagestore.specs.Filling.{FillsBy};
 ghost use Rattle.pagestore.specs.Store.{stored_at, stored_page, is_awaited, with_pages};
 
 use crate::pages::Pages;
-use blockdev::{BlockDevice, Watched};
-use pc_types::{BlockNo, ErrCode, FileId, PageIndex};
+use pc_types::{FileId, PageIndex};
 use std::alloc::AllocError;
 
 impl Pages {
@@ -64,31 +62,6 @@ impl Pages {
         self.frames.put_back(frame);
         self.frames.lay(frame, at, bytes);
         self.uptodate[frame.0 as usize] = true;
-    }
-
-    /// The device reads a block into the frame of a page that is filling, which is cached then and has no tags. Where the device fails the
-    /// page is filling as before.
-    pub fn fill_by<D: BlockDevice>(
-        &mut self,
-        device: &mut Watched<D>,
-        block: BlockNo,
-        file: u64,
-        page: u64,
-    ) -> Result<(), ErrCode>
-        requires here { file < length self.old.files }
-        requires filling { is_awaited self.old file page ≡ true }
-        requires exists { block.0 < device.old.device.count }
-        requires size { device.old.device.size ≡ self.old.page }
-        ensures { FillsBy self.old file page device.old block.0 result self.new device.new }
-    {
-        let Some(frame) = self.files[file as usize].mapping.frame(PageIndex(page)) else {
-            unreachable!()
-        };
-        device.read(block, self.frames.bytes_mut(frame))?;
-        // the page is idle now, so that an eviction finds it
-        self.frames.put_back(frame);
-        self.uptodate[frame.0 as usize] = true;
-        Ok(())
     }
 
     /// A page that was filling is absent again.

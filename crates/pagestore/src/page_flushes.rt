@@ -1,4 +1,4 @@
-//! The begin and the end of a page's write: one walk of the file's mapping each, or one for both.
+//! The begin and the end of a page's write: one walk of the file's mapping each.
 
 ghost use Rattle.std.specs.Prelude.{◌≡◌, ◌<◌, is_some, length, true};
 ghost use Rattle.std.specs.FinMap as map;
@@ -39,34 +39,5 @@ impl Pages {
         self.dirty += u64::from(failed && !was_dirty);
         // the page may be idle now, so that an eviction finds it
         self.frames.put_back(mapped.frame);
-    }
-
-    /// A write of a cached page began and ended in one.
-    pub fn write_through(&mut self, file: u64, page: u64, failed: bool)
-        requires here { file < length self.old.files }
-        requires cached { is_some (stored_page self.old file page) ≡ true }
-        ensures { self.new ≡ with_pages self.old file (map.insert (stored_at self.old file).pages page (after_write failed (under_write (the_page (stored_at self.old file).pages page)))) self.old.free }
-    {
-        let mapping = &mut self.files[file as usize].mapping;
-        let Some(mapped) = writeback::write_through(mapping, PageIndex(page), failed) else {
-            unreachable!()
-        };
-        self.dirty -= u64::from(mapped.tags.has(Tag::Dirty));
-        self.dirty += u64::from(failed);
-        // the page may be idle now, so that an eviction finds it
-        self.frames.put_back(mapped.frame);
-    }
-
-    /// The bytes of a cached page.
-    pub fn bytes(&self, file: u64, page: u64) -> &[u8]
-        requires here { file < length self.now.files }
-        requires cached { is_some (stored_page self.now file page) ≡ true }
-        ensures bytes { result.now ≡ (the_page (stored_at self.now file).pages page).bytes }
-        ensures size { length result.now ≡ self.now.page }
-    {
-        let Some(frame) = self.files[file as usize].mapping.frame(PageIndex(page)) else {
-            unreachable!()
-        };
-        self.frames.bytes(frame)
     }
 }
