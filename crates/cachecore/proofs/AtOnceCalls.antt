@@ -236,6 +236,7 @@ carried old was f p from r new to h name sizes same e begins still =
             }),
       );
       file = it.0;
+      within = h.within;
       fits = record {
         cache = h.fits.cache ∙ name;
         block = subst (λ (g : Sizes). h.job.block < g.blocks) sizes h.fits.block;

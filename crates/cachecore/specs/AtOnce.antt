@@ -1,10 +1,11 @@
 -- Requests that begin, are carried out and end in one call, for a cache that one thread has.
-use Rattle.std.specs.Prelude.{◌≡◌, ℕ, false, if◌then◌else◌, Some}
+use Rattle.std.specs.Prelude.{◌≡◌, ◌<◌, ℕ, false, if◌then◌else◌, Some}
 use Rattle.std.specs.FinMap as map
 use Rattle.blockdev.specs.Jobs.{FinishedTask, IsJobFor, Task}
 use Rattle.blockdev.specs.Watching.{Makes, Watch}
 use Rattle.pc_types.specs.Kinds.{is_flush}
 use Rattle.pc_types.specs.declared.kind.Kind.TheVariants.{Flush}
+use Rattle.pc_types.specs.declared.limits.TheConstants.{MAX_FILES}
 use Rattle.machine.specs.declared.event.Event.{Event}
 use Rattle.machine.specs.declared.event.Event.TheVariants as event
 use Rattle.machine.specs.declared.event.Reply.{Reply}
@@ -31,6 +32,7 @@ pub record IsCarriedOut (old : Core) (e : Event) (from : Watch) (f : ℕ) (r : R
   pub begins : Step old.state e (reply.Job (record { 0 = job.serial })) begun
   pub its : IsJobOf begun job (λ x. if is_flush x.kind then page_bytes begun x.file x.page else job.bytes)
   pub file : its.0.file ≡ f
+  pub within : f < MAX_FILES
   pub fits : IsJobFor old.state.name old.state.sizes.blocks old.state.sizes.page job
   pub makes : Makes from job done to
   pub ends : Step begun (event.End job.kind (end_of done)) r new.state
@@ -51,6 +53,7 @@ pub record IsWritten (old : Core) (f p : ℕ) (from : Watch) (r : Reply) (new : 
   pub started : IsStarted old.state f p job begun
   pub kind : job.kind ≡ Flush
   pub its : (x : Request) → map.get begun.requests job.serial ≡ Some x → (x.file ≡ f) × (x.kind ≡ Flush)
+  pub within : f < MAX_FILES
   pub fits : IsJobFor old.state.name old.state.sizes.blocks old.state.sizes.page job
   pub makes : Makes from job done to
   pub ends : Step begun (event.End Flush (end_of done)) r new.state

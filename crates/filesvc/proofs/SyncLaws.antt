@@ -44,7 +44,8 @@ use Rattle.world.proofs.InFlight.{begins_none, next_rises, next_stays}
 use Rattle.world.proofs.RangeSync.{IsRangeSynced, SyncsRange, is_of_sync, range_begins, range_clean, range_goes}
 use Rattle.world.proofs.SyncStays.{is_over, never_waits, over_leaves_files, sync_stays, syncs_stay}
 use Rattle.runs.proofs.syncs.Track.{move_tracked}
-use Rattle.filesvc.specs.Rests.{AtOnce, IsOrderly, IsResting, IsService, IsServing, is_job}
+use Rattle.cachecore.specs.Replies.{is_job}
+use Rattle.filesvc.specs.Rests.{AtOnce, IsOrderly, IsResting, IsService, IsServing}
 use Rattle.filesvc.specs.Seen.{SoloSeen}
 use Rattle.filesvc.specs.Service.{AreOnDevice, IsOnDevice, IsSyncRefusal, IsTallied, Serves, ServesBut, Tells, files}
 use Rattle.filesvc.specs.Syncs.{Drops, SyncTurn, clean_or, is_sync_end, service_of, sync_end_of}

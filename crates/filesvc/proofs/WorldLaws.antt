@@ -42,7 +42,8 @@ use Rattle.runs.proofs.events.Lookups.{get-insert1}
 use Rattle.runs.proofs.moments.Reached.{files_step, reached_step}
 use Rattle.world.proofs.Stays.{handles_stay, keeps_handles, stays}
 use Rattle.runs.proofs.views.View.{put1_here}
-use Rattle.filesvc.specs.Rests.{AtOnce, IsAlone, IsNoted, IsOrderly, IsResting, IsService, IsServing, is_job}
+use Rattle.cachecore.specs.Replies.{is_job}
+use Rattle.filesvc.specs.Rests.{AtOnce, IsAlone, IsNoted, IsOrderly, IsResting, IsService, IsServing}
 use Rattle.filesvc.specs.Seen.{SoloSeen}
 use Rattle.filesvc.specs.Service.{IsCoded, Keeps, Serves, Tells, files, untold_since}
 use Rattle.filesvc.proofs.FailedWrites.{act_codes, act_failures, core_sound, failures_in, finish_codes, finish_rises}
@@ -328,9 +329,6 @@ module _ (old mid new : WorldSeen) (t : Serial) (a r : Reply) (alone : IsAlone o
   call_done : CallReply old t.0 (finmap.get old.core.requests t.0) (finmap.get old.outcomes t.0) reply.Done mid
   call_done = subst (λ x. CallReply old t.0 (finmap.get old.core.requests t.0) (finmap.get old.outcomes t.0) x mid) answer h
 
-  pub alone_plays : Plays old (step.Call t ∷ step.End t ∷ []) (reply.Done ∷ r ∷ []) new
-  alone_plays = (mid, call_done, (new, e, refl))
-
   pub alone_rests : IsResting new
   alone_rests =
       let c = (call_made old mid t.0 _ _ call_done).0 in
@@ -453,6 +451,15 @@ once_rests old new errors after st e r b (Quiet j m none) rest = made_rests old 
 once_rests old new errors after st e r b (Whole c) rest =
     let x = one_ends (world_of c.called) (world_of new) c.serial.0 r c.ended (one_called c.begun c.called c.serial.0 c.call (begun_alone old c.begun e c.serial rest c.begin)) c.end.0 in
     record { requests = x.requests; outcomes = x.outcomes }
+
+-- a request that was carried out at once leaves none in flight
+pub carried_rests : (old mid new : WorldSeen) (st : Step) (e : Event) (t : Serial) (r : Reply) → Begins st e
+    → Steps old st (reply.Job t) mid → Plays mid (step.Call t ∷ step.End t ∷ []) (reply.Done ∷ r ∷ []) new → IsResting old
+    → IsResting new
+carried_rests old mid new st e t r b begun (called, answered, (ended, end, same)) rest = elim (b.steps old mid (reply.Job t) begun) [
+  | inl m ↦ subst IsResting (sym same) (alone_rests mid called ended t reply.Done r (begun_alone old mid e t rest m) answered end)
+  | inr m ↦ absurd (cc (m.0))
+]
 
 serials_on : (a b c d m : ℕ) → a ≤ c → a < m → b ≡ a + 1 → (c < m → d ≡ c + 1) → c ≤ m → (c ≡ m → d ≡ c) → b ≤ d
 serials_on a b c d m h less e f most same = elim (at_most c m most) [ inl x ↦ (let y = f x in omega arith) | inr x ↦ (let y = same x in omega arith) ]

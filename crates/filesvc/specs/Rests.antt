@@ -12,6 +12,7 @@ use Rattle.pc_types.specs.declared.limits.TheConstants.{MAX_FILES, MAX_FILE_SIZE
 use Rattle.machine.specs.declared.event.Reply.{Reply}
 use Rattle.machine.specs.declared.event.Reply.TheVariants as reply
 use Rattle.cachecore.specs.Flushing.{flush_of}
+use Rattle.cachecore.specs.Replies.{is_job}
 use Rattle.machine.specs.Sound.{Sound}
 use Rattle.machine.specs.State.{Request, State, file_at, handle_file, has_block, is_open, page_count, tags_at}
 use Rattle.world.specs.declared.step.Step.{Step}
@@ -68,10 +69,6 @@ pub record IsServing (name : ℕ) (w : WorldSeen) (table : TableId) (errors : Re
 pub record IsService (name : ℕ) (w : WorldSeen) (table : TableId) (errors : RecorderSeen) : Type 0 where
   pub serving : IsServing name w table errors
   pub syncs : w.core.syncs ≡ finmap.empty
-
-abbrev pub is_job : Reply → Bool
-is_job (reply.Job t) = true
-is_job _ = false
 
 -- a request that was a write of this file, and failed, was recorded, and nobody was told of it; and else nothing
 abbrev pub IsNoted : RecorderSeen → Option ℕ → Reply → RecorderSeen → Type 0

@@ -13,14 +13,14 @@ ghost use Rattle.filesvc.specs.Service.{AreOnDevice, CameFrom, IsAsBefore, IsOnD
 ghost use Rattle.filesvc.specs.Syncs.{Drops, SyncTurn, clean_or, service_of, sync_end_of};
 
 use crate::handle::Handle;
-use crate::requests::carry_out;
+use crate::requests::note;
 use crate::solo::Solo;
 use blockdev::BlockDevice;
-use cachecore::Reply;
+use cachecore::{AtOnce, Reply};
 use errboard::Recorder;
 use pc_types::limits::LAST_PAGE;
 use pc_types::{ErrCode, HandleId, PageIndex, Refusal, SyncId};
-use world::{World, answers};
+use world::World;
 
 impl<D: BlockDevice> Solo<D> {
     /// Writes the file's dirty pages to the device, and has the device make them durable: it is flushed where anything was written to it
@@ -153,7 +153,7 @@ fn sync_file<D: BlockDevice>(
     }
 }
 
-/// Makes a step of the sync. Where that begins a write, it is carried out, and nothing is answered.
+/// Makes a step of the sync. Where that writes a page nothing is answered.
 fn sync_step<D: BlockDevice>(
     world: &mut World<D>,
     recorder: &mut Recorder,
@@ -164,12 +164,12 @@ fn sync_step<D: BlockDevice>(
     ensures serves { Serves (service_of world.old recorder.old) (service_of world.new recorder.new) }
     ensures turn { SyncTurn world.old sync result world.new }
 {
-    match answers::sync_reply(&world.sync_step(sync)) {
-        Reply::Job(serial) => {
-            carry_out(world, recorder, serial);
+    match world.sync_at_once(sync) {
+        AtOnce::Answered(reply) => Some(reply),
+        AtOnce::Ended(file, reply) => {
+            note(recorder, file, &reply);
             None
         }
-        reply => Some(reply),
     }
 }
 

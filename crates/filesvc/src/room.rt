@@ -46,7 +46,7 @@ impl<D: BlockDevice> Solo<D> {
         ensures refused { IfErr result (λ r. IsFillRefusal self.old span.handle r self.new) }
         ensures gains { OnOk result (need span.dirties self.new.world.core span.handle.0 span.offset span.count < need span.dirties self.old.world.core span.handle.0 span.offset span.count) }
     {
-        let why = match fill_page(&mut self.world, &mut self.recorder, span.handle, page) {
+        let why = match fill_page(&mut self.world, span.handle, page) {
             Reply::Failed(code) => Refusal::Io(code),
             Reply::Refused(refusal) => refusal,
             _ => return Ok(()),

@@ -1,3 +1,4 @@
+pub mod AtOnceSteps
 pub mod OnceLemmas
 pub mod JobTable
 pub mod Beginnings

@@ -148,7 +148,7 @@ module _ (core : State) (jobs : Jobs) (dev : Watch) (w : IsWorld core jobs dev) 
     begun : Begun core new job.serial
     begun = (of_requests core new e (reply.Job (record { 0 = job.serial })) step).begun (record { 0 = job.serial }) refl
 
-    job_apart : finmap.get jobs job.serial ≡ None
+    pub job_apart : finmap.get jobs job.serial ≡ None
     job_apart = ap (finmap.get jobs) begun.serial ∙ next_free.1
 
     requests : new.requests ≡ finmap.insert core.requests job.serial begun.x

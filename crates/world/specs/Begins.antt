@@ -10,17 +10,13 @@ use Rattle.cachecore.specs.declared.answers.SyncStepped.{SyncStepped}
 use Rattle.cachecore.specs.declared.answers.SyncStepped.TheVariants as sync
 use Rattle.machine.specs.declared.event.Reply.{Reply}
 use Rattle.machine.specs.declared.event.Reply.TheVariants as reply
-use Rattle.cachecore.specs.Replies.{answered, fill_begun, flush_begun, sync_stepped, GivesBack, FlushGivesBack, SyncGivesBack}
+use Rattle.cachecore.specs.Replies.{is_job, answered, fill_begun, flush_begun, sync_stepped, GivesBack, FlushGivesBack, SyncGivesBack}
 use Rattle.world.specs.Answers.{fill_says, flush_says, sync_says}
 use Rattle.world.specs.declared.answers.FillAnswer.{FillAnswer}
 use Rattle.world.specs.declared.answers.FlushAnswer.{FlushAnswer}
 use Rattle.world.specs.declared.answers.SyncAnswer.{SyncAnswer}
 use Rattle.world.specs.declared.begun.Begun.{Begun}
 use Rattle.world.specs.declared.begun.Begun.TheVariants.{Job, Answered}
-
-abbrev pub is_job : Reply → Bool
-is_job (reply.Job t) = true
-is_job _ = false
 
 abbrev pub IsFillBegun : Result FillBegun Refused → Begun FillAnswer → Type 0
 IsFillBegun answer (Job job) = answer ≡ Ok (fill.Job job)

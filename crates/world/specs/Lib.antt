@@ -1,4 +1,5 @@
 pub mod Answers
+pub mod AtOnce
 pub mod Begins
 pub mod Ends
 pub mod Flights

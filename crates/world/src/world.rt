@@ -1,5 +1,6 @@
 //! A cache and its device, driven one step at a time.
 
+mod at_once;
 mod calls;
 mod events;
 

@@ -1,14 +1,21 @@
 use Rattle.std.proofs.Common.{inl, inr, refl, subst, sym}
-use Rattle.world.specs.Stepping.{Steps}
-use Rattle.world.specs.declared.step.Step.TheVariants as step
-use Rattle.filesvc.proofs.WorldLaws.{flush_begins, no_job, quiet_rests}
+use Rattle.filesvc.specs.Rests.{IsNoted}
+use Rattle.filesvc.proofs.WorldLaws.{carried_rests, flush_begins, quiet_rests}
 use Rattle.filesvc.proofs.requests.flush_page.Goals as goal
 
-pub returns-in-Job-clause-made : goal.returns-in-Job-clause-made
-returns-in-Job-clause-made g c = inr (c.in-Job.serial, c.flush_begin.new.self, (subst (λ r. Steps c.args.world.now (step.FlushBegin c.args.file) r c.flush_begin.new.self) (sym c.in-Job.ensures) c.flush_begin.ensures), c.carry_out.ensures.made, c.carry_out.ensures.noted)
+pub returns-in-Answered : goal.returns-in-Answered
+returns-in-Answered g c =
+    let made = c.in-Answered.ensures in
+    record {
+      rests = quiet_rests _ _ _ _ _ (flush_begins c.args.file) made.0 made.1 c.requires;
+      made = inl (made.0, made.1, refl);
+    }
 
-pub returns-in_default : goal.returns-in_default
-returns-in_default g c =
-    let made = subst (λ r. Steps c.args.world.now (step.FlushBegin c.args.file) r c.flush_begin.new.self) (sym c.flush_reply.ensures) c.flush_begin.ensures in
-    let quiet = no_job c.flush_reply.result c.in_default.not-Job in
-    record { rests = quiet_rests _ _ _ _ _ (flush_begins c.args.file) quiet made c.requires; made = inl (quiet, made, refl) }
+pub returns-in-Ended : goal.returns-in-Ended
+returns-in-Ended g c =
+    let made = c.in-Ended.ensures in
+    record {
+      rests = carried_rests _ _ _ _ _ _ _ (flush_begins c.args.file) made.3 made.5 c.requires;
+      made = inr (made.1, made.2, made.3, made.5,
+          subst (λ o. IsNoted c.args.recorder.now o c.in-Ended.reply c.note.new.recorder) (sym made.4) c.note.ensures);
+    }

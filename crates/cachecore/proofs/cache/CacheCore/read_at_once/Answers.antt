@@ -165,6 +165,7 @@ returns-in-Ok g c = λ h found.
     (placed g b) (place g b) (here g b) (frames g b) (serials g b) e.before e.after c.fill_by.result;
       file = read_file (parts_of c.self.inside) c.self.invariant c.args.file.0 c.args.page.0 (absent g b) (idle g b) c.args.block.0
     (placed g b) (place g b) (here g b) (frames g b) (serials g b) e.before e.after c.fill_by.result;
+      within = (place g b).file;
       fits = record {
         cache = ap (λ (t : State). t.name) (state_is c.self.view_is);
         block = c.requires.reads.within;
@@ -205,6 +206,7 @@ returns-in-Err g c = λ h found.
     (placed g b) (place g b) (here g b) (frames g b) (serials g b) e.before e.after c.fill_by.result;
       file = read_file (parts_of c.self.inside) c.self.invariant c.args.file.0 c.args.page.0 (absent g b) (idle g b) c.args.block.0
     (placed g b) (place g b) (here g b) (frames g b) (serials g b) e.before e.after c.fill_by.result;
+      within = (place g b).file;
       fits = record {
         cache = ap (λ (t : State). t.name) (state_is c.self.view_is);
         block = c.requires.reads.within;

@@ -144,6 +144,7 @@ returns-in-Ok g c =
       kind = refl;
       its = its_request (parts_of c.self.inside) c.self.invariant c.args.file.0 c.args.page.0 (may g b) (place g b) (here g b)
           (room g b) c.in-Some.placed c.in-Some.ensures went;
+      within = (place g b).file;
       fits = record {
         cache = ap (λ (s : State). s.name) (state_is c.self.view_is);
         block = (let k = within g b in let same = ap (λ (s : State). s.sizes.blocks) (state_is c.self.view_is) in omega arith);
@@ -170,6 +171,7 @@ returns-in-Err g c =
       kind = refl;
       its = its_request (parts_of c.self.inside) c.self.invariant c.args.file.0 c.args.page.0 (may g b) (place g b) (here g b)
           (room g b) c.in-Some.placed c.in-Some.ensures went;
+      within = (place g b).file;
       fits = record {
         cache = ap (λ (s : State). s.name) (state_is c.self.view_is);
         block = (let k = within g b in let same = ap (λ (s : State). s.sizes.blocks) (state_is c.self.view_is) in omega arith);
