@@ -41,6 +41,7 @@ pub(crate) fn carry(nodes: &mut Slab<Node>, head: usize, key: usize, mark: usize
 }
 
 // Sets or clears the bit of a mark at an entry.
+#[inline(never)]
 pub(crate) fn change_bit(
     nodes: &mut Slab<Node>,
     head: usize,
@@ -69,6 +70,7 @@ pub(crate) fn change_bit(
 }
 
 // Whether the entry at a slot has a mark.
+#[inline(always)]
 pub(crate) fn get_bit(
     nodes: &Slab<Node>,
     head: usize,
@@ -84,6 +86,30 @@ pub(crate) fn get_bit(
     ensures { result ≡ (mark_at mark nodes.now level (index / 64 ^ level) == 1) }
 {
     has_bit(nodes[key].marks[mark], offset_at(index, level) as u32)
+}
+
+// The same where the bit may be so already. Then nothing is written, and nothing above is looked at.
+#[inline(always)]
+pub(crate) fn give_bit(
+    nodes: &mut Slab<Node>,
+    head: usize,
+    key: usize,
+    level: u32,
+    index: u64,
+    mark: usize,
+    is_set: bool,
+)
+    requires mark { mark < 4 }
+    requires stands { StandsAt nodes.old key level (index / 64 ^ level / 64) }
+    requires sound { IsSound nodes.old head None }
+    requires leaf { IsLeaf (entry_at nodes.old level (index / 64 ^ level)) }
+    ensures sound { IsSound nodes.new head None }
+    ensures writes { WritesBit nodes.old nodes.new mark level (index / 64 ^ level) (if is_set then 1 else 0) }
+    ensures stands { StandsAt nodes.new key level (index / 64 ^ level / 64) }
+{
+    if get_bit(nodes, head, key, level, index, mark) != is_set {
+        change_bit(nodes, head, key, level, index, mark, is_set);
+    }
 }
 
 // Whether an entry or a node begins at another slot of a node that has the slot of `index`. It reads the bits alone.

@@ -335,6 +335,7 @@ impl Nodes {
     }
 
     /// Sets a mark of an entry, at its first slot.
+    #[inline(always)]
     pub fn set_bit(&mut self, cursor: Cursor, index: u64, level: u32, mark: usize)
         requires stands { StandsAt self.old cursor level (index / 64 ^ level / 64) }
         requires mark { mark < 3 }
@@ -347,10 +348,11 @@ impl Nodes {
         };
         let key = cursor.key();
         self.recent = key;
-        marks::change_bit(&mut self.slab, head, key, level, index, mark, true);
+        marks::give_bit(&mut self.slab, head, key, level, index, mark, true);
     }
 
     /// Clears a mark of an entry, at its first slot.
+    #[inline(always)]
     pub fn clear_bit(&mut self, cursor: Cursor, index: u64, level: u32, mark: usize)
         requires stands { StandsAt self.old cursor level (index / 64 ^ level / 64) }
         requires mark { mark < 3 }
@@ -363,10 +365,11 @@ impl Nodes {
         };
         let key = cursor.key();
         self.recent = key;
-        marks::change_bit(&mut self.slab, head, key, level, index, mark, false);
+        marks::give_bit(&mut self.slab, head, key, level, index, mark, false);
     }
 
     /// Whether an entry has a mark, at its first slot.
+    #[inline(always)]
     pub fn get_bit(&self, cursor: Cursor, index: u64, level: u32, mark: usize) -> bool
         requires stands { StandsAt self.now cursor level (index / 64 ^ level / 64) }
         requires mark { mark < 3 }
