@@ -1,15 +1,15 @@
 -- Lemmas on the next entry with a mark, where the node above the one before is known.
-use Rattle.std.proofs.Common.{◌≡◌, ℕ, ◌+◌, ◌*◌, ◌/◌, ◌%◌, ◌^◌, ◌<◌, Some, None, refl, sym, ap, ◌∙◌, subst, arith, eqb, eq-eqb}
+use Rattle.std.proofs.Common.{◌≡◌, ℕ, Bool, false, Option, ◌+◌, ◌*◌, ◌/◌, ◌%◌, ◌^◌, ◌<◌, Some, None, refl, sym, ap, ◌∙◌, subst, arith, eqb, eq-eqb}
 use Rattle.std.specs.Int.{bit_at}
 use Rattle.std.proofs.lemmas.Option.{same_Some}
 use Rattle.slab.specs.Slab.{Slab, get, ContainsKey}
 use Rattle.radix.specs.declared.node.Node.{Node}
 use Rattle.radix.specs.declared.slot.Slot.TheVariants.{Leaf, Child}
 use Rattle.radix.specs.Bitmap.{IsLowestFrom, NoneFrom}
-use Rattle.radix.specs.Entries.{IsAlone, IsNext, IsNextAt, StandsAt, bits, content, entry_at, slot}
-use Rattle.radix.specs.Tree.{HasClimbed, IsAhead, IsSound, IsTree}
+use Rattle.radix.specs.Entries.{HasNoHeld, HasNoMarkedAt, IsAlone, IsNext, IsNextAt, StandsAt, bits, content, entry_at, slot}
+use Rattle.radix.specs.Tree.{HasClimbed, IsAhead, IsSound, IsTrail, IsTree}
 use Rattle.radix.proofs.ClimbLemmas.{climb_ahead, climb_begins, climb_up}
-use Rattle.radix.proofs.NextLemmas.{child_bits, under_down, under_next}
+use Rattle.radix.proofs.NextLemmas.{child_bits, in_node, under_down, under_next}
 use Rattle.radix.proofs.RunLemmas.{not_further}
 use Rattle.radix.proofs.SeeLemmas.{see-is}
 use Rattle.radix.proofs.TreeLemmas.{contains_key, is_under, level_below, lowest_plain, parent_of, unique}
@@ -114,3 +114,13 @@ above_stands s head tree key level prefix n stands there parent names =
       level_is = let e = u.link.level in omega (arith, e, l);
       prefix_is = let e = u.link.prefix in let w = u.link.within in omega (arith, e, w, p);
     }
+
+-- where the path of an index ends at a clear bit, no entry with the mark has the index at its first slot
+pub unmarked_path : (s : Slab Node) (head : ℕ) (sound : IsSound s head None) (mark : ℕ) (low : mark < 4) (index key level : ℕ) (is_set : Bool) (best : Option (ℕ × ℕ)) → IsTrail s mark index key level is_set best → is_set ≡ false → HasNoHeld s mark index → HasNoMarkedAt s mark index
+unmarked_path s head sound mark low index key level is_set best trail unset held = record {
+  here = λ other marked.
+      let at : trail.node.prefix ≡ index / 64 ^ trail.node.level / 64 = trail.on_path ∙ ap (λ l. index / 64 ^ l / 64) (sym trail.level_is) in
+      let set = in_node s head sound mark low key trail.node other index trail.there at marked in
+      trail.unset unset (ap (λ l. bit_at (bits trail.node mark) (index / 64 ^ l % 64)) (sym trail.level_is) ∙ set);
+  held = held;
+}

@@ -11,7 +11,9 @@ use crate::slot::Slot;
 use crate::tree::{covers, offset_at, place_at};
 use slab::Slab;
 
-// Makes the bits of a mark exact above a node whose own bits have changed.
+// Makes the bits of a mark exact above a node whose own bits have changed. It stays a call, so that a mark that is changed beside others
+// in its node costs little code.
+#[inline(never)]
 pub(crate) fn carry(nodes: &mut Slab<Node>, head: usize, key: usize, mark: usize)
     requires mark { mark < 4 }
     requires there { ContainsKey nodes.old key }
@@ -41,7 +43,7 @@ pub(crate) fn carry(nodes: &mut Slab<Node>, head: usize, key: usize, mark: usize
 }
 
 // Sets or clears the bit of a mark at an entry.
-#[inline(never)]
+#[inline(always)]
 pub(crate) fn change_bit(
     nodes: &mut Slab<Node>,
     head: usize,

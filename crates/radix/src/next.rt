@@ -1,7 +1,7 @@
 //! The next entry with a mark.
-ghost use Rattle.std.specs.Prelude.{◌≡◌, ◌≢◌, ℕ, ◌+◌, ◌*◌, ◌/◌, ◌%◌, ◌^◌, ◌<◌, ◌≤◌, true, Some, None, IfSome, MatchOption};
+ghost use Rattle.std.specs.Prelude.{◌≡◌, ◌≢◌, ℕ, ◌+◌, ◌*◌, ◌/◌, ◌%◌, ◌^◌, ◌<◌, ◌≤◌, true, Some, None, IfSome, MatchBool, MatchOption};
 ghost use Rattle.slab.specs.Slab.{get};
-ghost use Rattle.radix.specs.Entries.{IsNext, IsNextAt, HasNoNext, IsNextLeaf, IsAlone, HasNoneBeside, HasNoEntry, HasNoHeld, IsHeld, IsNextHeld, StandsAt};
+ghost use Rattle.radix.specs.Entries.{IsNext, IsNextAt, IsMarkedAt, HasNoMarkedAt, HasNoNext, IsNextLeaf, IsAlone, HasNoneBeside, HasNoEntry, HasNoHeld, IsHeld, IsNextHeld, StandsAt};
 ghost use Rattle.radix.specs.Tree.{IsSound, IsTree, IsAhead, IsTrail, HasClimbed, better_of};
 
 use crate::bitmap::{has_bit, lowest, lowest_above, lowest_from};
@@ -256,6 +256,25 @@ pub(crate) fn next_in(
             is_alone: node.ends_after(offset),
         }),
         _ => unreachable!(),
+    }
+}
+
+// Whether an entry with the mark has an index. Where the bit at the index tells it, the slot is not read.
+#[inline(always)]
+pub(crate) fn is_marked(nodes: &Slab<Node>, head: usize, index: u64, mark: usize) -> bool
+    requires mark { mark < 4 }
+    requires sound { IsSound nodes.now head None }
+    ensures { MatchBool result (IsMarkedAt nodes.now mark index) (HasNoMarkedAt nodes.now mark index) }
+{
+    let Some(trail) = leave_path(nodes, head, index, mark) else {
+        return false;
+    };
+    if trail.is_set {
+        return true;
+    }
+    match held_on(nodes, head, index, mark, trail) {
+        Some(_) => true,
+        None => false,
     }
 }
 

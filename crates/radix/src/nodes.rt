@@ -3,7 +3,7 @@ ghost use Rattle.std.specs.Prelude.{◌≡◌, ◌≢◌, ℕ, ◌+◌, ◌-◌,
 ghost use Rattle.pc_types.specs.declared.refusal.Refusal.{Refusal};
 ghost use Rattle.radix.specs.declared.entry.Entry.{Entry};
 ghost use Rattle.radix.specs.Parts.{Parts, HasNodeRoom};
-ghost use Rattle.radix.specs.Entries.{entry_at, mark_at, node_count, StandsAt, IsBare, IsLeaf, IsRun, IsClear, IsFree, HasNoMark, HasPathRoom, SameEntries, PutsEntry, PutsBit, PutsRun, ClearsRun, IsWalked, HasNoEntry, IsNext, HasNoNext, IsNextHeld, HasNoHeld, IsNextEntry, HasNoNextEntry, IsNextLeaf, HasNoneBeside, IsAlone, IsNextEntryLeaf, HasNoEntryBeside, IsNextAt, IsNextEntryAt, HasMarked, HasNoMarked, HasMarkedUnder, HasNoMarkedUnder};
+ghost use Rattle.radix.specs.Entries.{entry_at, mark_at, node_count, StandsAt, IsBare, IsLeaf, IsRun, IsClear, IsFree, HasNoMark, HasPathRoom, SameEntries, PutsEntry, PutsBit, PutsRun, ClearsRun, IsWalked, HasNoEntry, IsNext, HasNoNext, IsNextHeld, HasNoHeld, IsNextEntry, HasNoNextEntry, IsNextLeaf, HasNoneBeside, IsAlone, IsNextEntryLeaf, HasNoEntryBeside, IsNextAt, IsNextEntryAt, IsMarkedAt, HasNoMarkedAt, HasMarked, HasNoMarked, HasMarkedUnder, HasNoMarkedUnder};
 
 use crate::entry::{Ahead, Cursor, Entry, Near, Position, Walk};
 use crate::node::{ENTRY, Node};
@@ -380,6 +380,18 @@ impl Nodes {
             unreachable!()
         };
         marks::get_bit(&self.slab, head, cursor.key(), level, index, mark)
+    }
+
+    /// Whether an entry with the mark has an index: one walk by the mark's bits, which most often reads no slot of the last node.
+    #[inline(always)]
+    pub fn is_marked(&self, index: u64, mark: usize) -> bool
+        requires { mark < 3 }
+        ensures { MatchBool result (IsMarkedAt self.now mark index) (HasNoMarkedAt self.now mark index) }
+    {
+        match self.head {
+            Some(head) => next::is_marked(&self.slab, head, index, mark),
+            None => false,
+        }
     }
 
     /// Whether any entry has the mark.
