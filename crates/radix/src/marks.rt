@@ -60,6 +60,7 @@ pub(crate) fn change_bit(
     ensures sound { IsSound nodes.new head None }
     ensures writes { WritesBit nodes.old nodes.new mark level (index / 64 ^ level) (if is_set then 1 else 0) }
     ensures stands { StandsAt nodes.new key level (index / 64 ^ level / 64) }
+    ensures kept { (at high prefix : ℕ) → StandsAt nodes.old at high prefix → StandsAt nodes.new at high prefix }
 {
     let offset = offset_at(index, level);
     let node = &mut nodes[key];
@@ -108,6 +109,7 @@ pub(crate) fn give_bit(
     ensures sound { IsSound nodes.new head None }
     ensures writes { WritesBit nodes.old nodes.new mark level (index / 64 ^ level) (if is_set then 1 else 0) }
     ensures stands { StandsAt nodes.new key level (index / 64 ^ level / 64) }
+    ensures kept { (at high prefix : ℕ) → StandsAt nodes.old at high prefix → StandsAt nodes.new at high prefix }
 {
     if get_bit(nodes, head, key, level, index, mark) != is_set {
         change_bit(nodes, head, key, level, index, mark, is_set);

@@ -351,6 +351,23 @@ impl Nodes {
         marks::give_bit(&mut self.slab, head, key, level, index, mark, true);
     }
 
+    /// As `set_bit`. Each cursor stays good.
+    #[inline(always)]
+    pub fn set_bit_kept(&mut self, cursor: Cursor, index: u64, level: u32, mark: usize)
+        requires stands { StandsAt self.old cursor level (index / 64 ^ level / 64) }
+        requires mark { mark < 3 }
+        requires leaf { IsLeaf (entry_at self.old level (index / 64 ^ level)) }
+        ensures puts { PutsBit self.old self.new mark level (index / 64 ^ level) 1 }
+        ensures kept { (at high prefix : ℕ) → StandsAt self.old at high prefix → StandsAt self.new at high prefix }
+    {
+        let Some(head) = self.head else {
+            unreachable!()
+        };
+        let key = cursor.key();
+        self.recent = key;
+        marks::give_bit(&mut self.slab, head, key, level, index, mark, true);
+    }
+
     /// Clears a mark of an entry, at its first slot.
     #[inline(always)]
     pub fn clear_bit(&mut self, cursor: Cursor, index: u64, level: u32, mark: usize)

@@ -213,7 +213,7 @@ impl Ranged {
 
     // The next entry after a slot of the lowest level, where it is near, most often with the news that it has one index.
     #[inline(always)]
-    fn near(
+    pub(super) fn near(
         &self,
         cursor: Cursor,
         above: Option<Cursor>,
@@ -292,7 +292,7 @@ impl Ranged {
         let Ahead {
             cursor: found,
             above: up,
-            place: first,
+            place: at,
             value,
             is_alone,
         } = ahead;
@@ -308,10 +308,10 @@ impl Ranged {
                 mark,
             );
         }
-        if first > to {
+        if at > to {
             return None;
         }
-        Some(step_at(found, up, first, value, to))
+        Some(step_at(found, up, at, value, to))
     }
 
     // The same by each look that it may take.
