@@ -266,28 +266,10 @@ impl Ranged {
             place,
         } = last;
         if level > 0 {
-            return self.step_far(
-                Some(Position {
-                    cursor,
-                    level,
-                    place,
-                }),
-                from,
-                to,
-                mark,
-            );
+            return self.step_past(cursor, level, place, from, to, mark);
         }
         let Some(ahead) = self.near(cursor, above, place, from, mark) else {
-            return self.step_far(
-                Some(Position {
-                    cursor,
-                    level: 0,
-                    place,
-                }),
-                from,
-                to,
-                mark,
-            );
+            return self.step_past(cursor, 0, place, from, to, mark);
         };
         let Ahead {
             cursor: found,
@@ -297,21 +279,37 @@ impl Ranged {
             is_alone,
         } = ahead;
         if !is_alone {
-            return self.step_far(
-                Some(Position {
-                    cursor,
-                    level: 0,
-                    place,
-                }),
-                from,
-                to,
-                mark,
-            );
+            return self.step_past(cursor, 0, place, from, to, mark);
         }
         if at > to {
             return None;
         }
         Some(step_at(found, up, at, value, to))
+    }
+
+    // The same by each look that it may take, after a slot. The slot is put together here, out of the caller's loop.
+    #[inline(never)]
+    fn step_past(
+        &self,
+        cursor: Cursor,
+        level: u32,
+        place: u64,
+        from: u64,
+        to: u64,
+        mark: Option<Mark>,
+    ) -> Option<Step>
+        requires le { from ≤ to }
+        requires outside { IsOutside (ranges_of self.now) from }
+        requires after { IsAfter self.now (record { cursor = cursor; level = level; place = place }) from }
+        ensures first { MatchOption result (left mark (ranges_of self.now) (Some from) to ≡ []) (λ r. left mark (ranges_of self.now) (Some from) to ≡ r.found ∷ left mark (ranges_of self.now) r.next to) }
+        ensures place { IfSome result (λ r. IsPlace self.now r.next to (Some r.slot) r.above) }
+    {
+        let slot = Position {
+            cursor,
+            level,
+            place,
+        };
+        self.step_far(Some(slot), from, to, mark)
     }
 
     // The same by each look that it may take.
