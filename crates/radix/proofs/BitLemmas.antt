@@ -186,6 +186,25 @@ module _ (old : Slab Node) (head level index key : ℕ) (n : Node) (mark offset 
   pub set_stands : StandsAt after key level (index / 64 ^ level / 64)
   set_stands = record { node = with_bits n mark b; there = set_there; level_is = level_is; prefix_is = on_path }
 
+  -- each node stays at its key
+  pub set_kept : (at high prefix : ℕ) → StandsAt old at high prefix → StandsAt after at high prefix
+  set_kept at high prefix its = elim (cases_eq at key) [
+    | inl same ↦
+        let e : its.node ≡ n = same_Some its.node n (sym its.there ∙ ap (get old) same ∙ was) in
+        record {
+          node = with_bits n mark b;
+          there = ap (get after) same ∙ set_there;
+          level_is = sym (ap (λ (z : Node). z.level) e) ∙ its.level_is;
+          prefix_is = sym (ap (λ (z : Node). z.prefix) e) ∙ its.prefix_is;
+        }
+    | inr differs ↦ record {
+      node = its.node;
+      there = (Updates-with_value old key (with_bits n mark b) (contains_key old key n was)).others at differs ∙ its.there;
+      level_is = its.level_is;
+      prefix_is = its.prefix_is;
+    }
+  ]
+
   pub set_tree : IsTree after head
   set_tree = bit_tree old head key n spot mark b bit sound was on_path low small is_leaf changes_there
 
@@ -221,6 +240,12 @@ module _ (old : Slab Node) (head level index key : ℕ) (n : Node) (mark offset 
     carried_stands =
         let h = remarks.has key (with_bits n mark b) set_there in
         record { node = h.node; there = h.there; level_is = h.is.level ∙ level_is; prefix_is = h.is.prefix ∙ on_path }
+
+    pub carried_kept : (at high prefix : ℕ) → StandsAt old at high prefix → StandsAt new at high prefix
+    carried_kept at high prefix its =
+        let a = set_kept at high prefix its in
+        let h = remarks.has at a.node a.there in
+        record { node = h.node; there = h.there; level_is = h.is.level ∙ a.level_is; prefix_is = h.is.prefix ∙ a.prefix_is }
 
     pub carried_puts : WritesBit old new mark level spot bit
     carried_puts = WritesBit-then old after new mark level spot bit low set_puts (remarks_entries mark after new head remarks set_tree)

@@ -1,3 +1,4 @@
+pub mod AheadLemmas
 pub mod BesideLemmas
 pub mod BitmapLemmas
 pub mod ClimbLemmas

@@ -222,6 +222,28 @@ pub record IsNextEntryLeaf (s : Slab Node) (from place value : ℕ) : Type 0 whe
 pub record HasNoEntryBeside (s : Slab Node) (from : ℕ) : Type 0 where
   pub each : (at : ℕ) → from ≤ at → at / 64 ≡ from / 64 → IsLeaf (entry_at s 0 at) → ⊥
 
+-- an entry with the mark has an index, at its first slot or at a further one
+pub record IsMarkedAt (s : Slab Node) (mark index : ℕ) : Type 0 where
+  pub level : ℕ
+  pub place : ℕ
+  pub marked : mark_at mark s level place ≡ 1
+  pub at : (place ≡ index / 64 ^ level) ⊎ IsHeld s mark index level place
+
+-- no entry with the mark has an index
+pub record HasNoMarkedAt (s : Slab Node) (mark index : ℕ) : Type 0 where
+  pub here : (level : ℕ) → mark_at mark s level (index / 64 ^ level) ≢ 1
+  pub held : HasNoHeld s mark index
+
+-- this entry of one index has the mark, and no entry with it at `from` or a later index comes before
+pub record IsNextAt (s : Slab Node) (mark from place value : ℕ) : Type 0 where
+  pub next : IsNext s mark from 0 place
+  pub entry : entry_at s 0 place ≡ Some (entry.Leaf value)
+
+-- this entry of one index comes first at `from` or a later index
+pub record IsNextEntryAt (s : Slab Node) (from place value : ℕ) : Type 0 where
+  pub next : IsNextEntry s from 0 place
+  pub entry : entry_at s 0 place ≡ Some (entry.Leaf value)
+
 -- an entry with the mark
 pub record HasMarked (s : Slab Node) (mark : ℕ) : Type 0 where
   pub level : ℕ

@@ -69,3 +69,14 @@ pub struct Walk {
     pub level: u32,
     pub entry: Option<Entry>,
 }
+
+/// An entry at slot `place` of the lowest level, where its node is, and where the one above that is, if it is known.
+#[derive(Clone, Copy)]
+pub struct Ahead {
+    pub cursor: Cursor,
+    pub above: Option<Cursor>,
+    pub place: u64,
+    pub value: u64,
+    /// As that of `Near`.
+    pub is_alone: bool,
+}

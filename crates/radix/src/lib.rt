@@ -21,6 +21,6 @@ mod removal;
 mod slot;
 mod tree;
 
-pub use entry::{Cursor, Entry, Near, Position, Walk};
+pub use entry::{Ahead, Cursor, Entry, Near, Position, Walk};
 pub use nodes::Nodes;
 pub use tree::{first_at, place_at};

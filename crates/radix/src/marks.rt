@@ -11,7 +11,9 @@ use crate::slot::Slot;
 use crate::tree::{covers, offset_at, place_at};
 use slab::Slab;
 
-// Makes the bits of a mark exact above a node whose own bits have changed.
+// Makes the bits of a mark exact above a node whose own bits have changed. It stays a call, so that a mark that is changed beside others
+// in its node costs little code.
+#[inline(never)]
 pub(crate) fn carry(nodes: &mut Slab<Node>, head: usize, key: usize, mark: usize)
     requires mark { mark < 4 }
     requires there { ContainsKey nodes.old key }
@@ -41,6 +43,7 @@ pub(crate) fn carry(nodes: &mut Slab<Node>, head: usize, key: usize, mark: usize
 }
 
 // Sets or clears the bit of a mark at an entry.
+#[inline(always)]
 pub(crate) fn change_bit(
     nodes: &mut Slab<Node>,
     head: usize,
@@ -57,6 +60,7 @@ pub(crate) fn change_bit(
     ensures sound { IsSound nodes.new head None }
     ensures writes { WritesBit nodes.old nodes.new mark level (index / 64 ^ level) (if is_set then 1 else 0) }
     ensures stands { StandsAt nodes.new key level (index / 64 ^ level / 64) }
+    ensures kept { (at high prefix : ℕ) → StandsAt nodes.old at high prefix → StandsAt nodes.new at high prefix }
 {
     let offset = offset_at(index, level);
     let node = &mut nodes[key];
@@ -69,6 +73,7 @@ pub(crate) fn change_bit(
 }
 
 // Whether the entry at a slot has a mark.
+#[inline(always)]
 pub(crate) fn get_bit(
     nodes: &Slab<Node>,
     head: usize,
@@ -84,6 +89,31 @@ pub(crate) fn get_bit(
     ensures { result ≡ (mark_at mark nodes.now level (index / 64 ^ level) == 1) }
 {
     has_bit(nodes[key].marks[mark], offset_at(index, level) as u32)
+}
+
+// The same where the bit may be so already. Then nothing is written, and nothing above is looked at.
+#[inline(always)]
+pub(crate) fn give_bit(
+    nodes: &mut Slab<Node>,
+    head: usize,
+    key: usize,
+    level: u32,
+    index: u64,
+    mark: usize,
+    is_set: bool,
+)
+    requires mark { mark < 4 }
+    requires stands { StandsAt nodes.old key level (index / 64 ^ level / 64) }
+    requires sound { IsSound nodes.old head None }
+    requires leaf { IsLeaf (entry_at nodes.old level (index / 64 ^ level)) }
+    ensures sound { IsSound nodes.new head None }
+    ensures writes { WritesBit nodes.old nodes.new mark level (index / 64 ^ level) (if is_set then 1 else 0) }
+    ensures stands { StandsAt nodes.new key level (index / 64 ^ level / 64) }
+    ensures kept { (at high prefix : ℕ) → StandsAt nodes.old at high prefix → StandsAt nodes.new at high prefix }
+{
+    if get_bit(nodes, head, key, level, index, mark) != is_set {
+        change_bit(nodes, head, key, level, index, mark, is_set);
+    }
 }
 
 // Whether an entry or a node begins at another slot of a node that has the slot of `index`. It reads the bits alone.

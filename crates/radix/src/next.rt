@@ -1,11 +1,11 @@
 //! The next entry with a mark.
-ghost use Rattle.std.specs.Prelude.{◌≡◌, ◌≢◌, ℕ, ◌+◌, ◌*◌, ◌/◌, ◌%◌, ◌^◌, ◌<◌, ◌≤◌, true, Some, None, IfSome, MatchOption};
+ghost use Rattle.std.specs.Prelude.{◌≡◌, ◌≢◌, ℕ, ◌+◌, ◌*◌, ◌/◌, ◌%◌, ◌^◌, ◌<◌, ◌≤◌, true, Some, None, IfSome, MatchBool, MatchOption};
 ghost use Rattle.slab.specs.Slab.{get};
-ghost use Rattle.radix.specs.Entries.{IsNext, HasNoNext, IsNextLeaf, IsAlone, HasNoneBeside, HasNoEntry, HasNoHeld, IsHeld, IsNextHeld, StandsAt};
-ghost use Rattle.radix.specs.Tree.{IsSound, IsAhead, IsTrail, better_of};
+ghost use Rattle.radix.specs.Entries.{IsNext, IsNextAt, IsMarkedAt, HasNoMarkedAt, HasNoNext, IsNextLeaf, IsAlone, HasNoneBeside, HasNoEntry, HasNoHeld, IsHeld, IsNextHeld, StandsAt};
+ghost use Rattle.radix.specs.Tree.{IsSound, IsTree, IsAhead, IsTrail, HasClimbed, better_of};
 
 use crate::bitmap::{has_bit, lowest, lowest_above, lowest_from};
-use crate::entry::{Cursor, Near, Position};
+use crate::entry::{Ahead, Cursor, Near, Position};
 use crate::node::Node;
 use crate::slot::Slot;
 use crate::tree::{offset_at, place_at};
@@ -256,5 +256,143 @@ pub(crate) fn next_in(
             is_alone: node.ends_after(offset),
         }),
         _ => unreachable!(),
+    }
+}
+
+// Whether an entry with the mark has an index. Where the bit at the index tells it, the slot is not read.
+#[inline(always)]
+pub(crate) fn is_marked(nodes: &Slab<Node>, head: usize, index: u64, mark: usize) -> bool
+    requires mark { mark < 4 }
+    requires sound { IsSound nodes.now head None }
+    ensures { MatchBool result (IsMarkedAt nodes.now mark index) (HasNoMarkedAt nodes.now mark index) }
+{
+    let Some(trail) = leave_path(nodes, head, index, mark) else {
+        return false;
+    };
+    if trail.is_set {
+        return true;
+    }
+    match held_on(nodes, head, index, mark, trail) {
+        Some(_) => true,
+        None => false,
+    }
+}
+
+// The entry that a search by bits found at a slot of a node of the lowest level.
+#[inline(always)]
+fn ahead_at(
+    nodes: &Slab<Node>,
+    head: usize,
+    key: usize,
+    above: Option<Cursor>,
+    place: u64,
+    index: u64,
+    mark: usize,
+) -> Option<Ahead>
+    requires sound { IsSound nodes.now head None }
+    requires stands { StandsAt nodes.now key 0 (place / 64) }
+    requires above { IfSome above (λ k. StandsAt nodes.now k 1 (place / 64 / 64)) }
+    requires next { IsNext nodes.now mark index 0 place }
+    ensures next { IfSome result (λ r. IsNextAt nodes.now mark index r.place r.value) }
+    ensures above { IfSome result (λ r. IfSome r.above (λ k. StandsAt nodes.now k 1 (r.place / 64 / 64))) }
+    ensures stands { IfSome result (λ r. StandsAt nodes.now r.cursor 0 (r.place / 64)) }
+    ensures alone { IfSome result (λ r. r.is_alone ≡ true → IsAlone nodes.now r.place) }
+{
+    let node = &nodes[key];
+    let offset = (place % 64) as u32;
+    let Slot::Leaf(value) = node.read(offset as usize) else {
+        return None;
+    };
+    Some(Ahead {
+        cursor: Cursor::at(key),
+        above,
+        place,
+        value,
+        is_alone: node.ends_after(offset),
+    })
+}
+
+// The lowest entry with the mark at an index or later, where a search has gone up to a slot of level 1 and the entry is in a later
+// node below the same one.
+#[inline(always)]
+fn next_under(
+    nodes: &Slab<Node>,
+    head: usize,
+    above: Cursor,
+    place: u64,
+    index: u64,
+    mark: usize,
+) -> Option<Ahead>
+    requires mark { mark < 4 }
+    requires sound { IsSound nodes.now head None }
+    requires stands { StandsAt nodes.now above 1 (place / 64) }
+    requires climbed { HasClimbed nodes.now mark index above (place % 64) }
+    requires low { place < 2 ^ 58 }
+    ensures next { IfSome result (λ r. IsNextAt nodes.now mark index r.place r.value) }
+    ensures above { IfSome result (λ r. IfSome r.above (λ k. StandsAt nodes.now k 1 (r.place / 64 / 64))) }
+    ensures stands { IfSome result (λ r. StandsAt nodes.now r.cursor 0 (r.place / 64)) }
+    ensures alone { IfSome result (λ r. r.is_alone ≡ true → IsAlone nodes.now r.place) }
+{
+    let node = &nodes[above.key()];
+    let Some(later) = lowest_above(node.marks[mark], (place % 64) as u32) else {
+        return None;
+    };
+    let Slot::Child(child) = node.read(later as usize) else {
+        return None;
+    };
+    let first = lowest(nodes[child].marks[mark]);
+    let found = (place / 64 * 64 + later as u64) * 64 + first as u64;
+    ahead_at(nodes, head, child, Some(above), found, index, mark)
+}
+
+// The lowest entry with the mark after a slot of the lowest level, where it is in the slot's node or in a later one below the node
+// above, if that is known. Then no step of a walk waits for the link of the node that it leaves.
+#[inline(always)]
+pub(crate) fn next_near(
+    nodes: &Slab<Node>,
+    head: usize,
+    key: usize,
+    above: Option<Cursor>,
+    place: u64,
+    index: u64,
+    mark: usize,
+) -> Option<Ahead>
+    requires mark { mark < 4 }
+    requires sound { IsSound nodes.now head None }
+    requires stands { StandsAt nodes.now key 0 (place / 64) }
+    requires above { IfSome above (λ k. StandsAt nodes.now k 1 (place / 64 / 64)) }
+    requires after { index ≡ place + 1 }
+    ensures next { IfSome result (λ r. IsNextAt nodes.now mark index r.place r.value) }
+    ensures above { IfSome result (λ r. IfSome r.above (λ k. StandsAt nodes.now k 1 (r.place / 64 / 64))) }
+    ensures stands { IfSome result (λ r. StandsAt nodes.now r.cursor 0 (r.place / 64)) }
+    ensures alone { IfSome result (λ r. r.is_alone ≡ true → IsAlone nodes.now r.place) }
+{
+    let node = &nodes[key];
+    if let Some(offset) = lowest_above(node.marks[mark], (place % 64) as u32) {
+        let found = place / 64 * 64 + offset as u64;
+        return ahead_at(nodes, head, key, above, found, index, mark);
+    }
+    let Some(above) = above else {
+        return None;
+    };
+    next_under(nodes, head, above, place / 64, index, mark)
+}
+
+// The node above one.
+#[inline]
+pub(crate) fn above(
+    nodes: &Slab<Node>,
+    head: usize,
+    key: usize,
+    level: u32,
+    prefix: u64,
+) -> Option<Cursor>
+    requires tree { IsTree nodes.now head }
+    requires stands { StandsAt nodes.now key level prefix }
+    ensures { IfSome result (λ k. StandsAt nodes.now k (level + 1) (prefix / 64)) }
+{
+    match nodes[key].parent.key() {
+        Some(parent) => Some(Cursor::at(parent)),
+        None => None,
     }
 }

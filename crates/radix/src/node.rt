@@ -9,9 +9,12 @@ use crate::slot::{Link, Slot, Word};
 /// The mark that every entry has, on its first slot, after the three of the caller's.
 pub const ENTRY: usize = 3;
 
-/// 64 slots at a level of the tree. Fields that a walk reads together stand together; the order is the layout.
+/// 64 slots at a level of the tree. Fields that a search reads together stand together; the order is the layout. A large slab begins
+/// 16 bytes past a cache line, so a node's tag, its bits and its level lie in one line, which is all that a search by bits reads.
 #[derive(Drop)]
 pub struct Node {
+    /// For each mark one bit a slot, and last for the mark that every entry has.
+    pub marks: [u64; 4],
     /// How many levels are below this one: its shift is six times that.
     pub level: u32,
     /// How many slots are not empty, siblings and children included.
@@ -21,8 +24,6 @@ pub struct Node {
     pub prefix: u64,
     /// The node above, or none at the head.
     pub parent: Link,
-    /// For each mark one bit a slot, and last for the mark that every entry has.
-    pub marks: [u64; 4],
     pub slots: [Word; 64],
 }
 

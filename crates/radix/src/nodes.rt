@@ -3,9 +3,9 @@ ghost use Rattle.std.specs.Prelude.{◌≡◌, ◌≢◌, ℕ, ◌+◌, ◌-◌,
 ghost use Rattle.pc_types.specs.declared.refusal.Refusal.{Refusal};
 ghost use Rattle.radix.specs.declared.entry.Entry.{Entry};
 ghost use Rattle.radix.specs.Parts.{Parts, HasNodeRoom};
-ghost use Rattle.radix.specs.Entries.{entry_at, mark_at, node_count, StandsAt, IsBare, IsLeaf, IsRun, IsClear, IsFree, HasNoMark, HasPathRoom, SameEntries, PutsEntry, PutsBit, PutsRun, ClearsRun, IsWalked, HasNoEntry, IsNext, HasNoNext, IsNextHeld, HasNoHeld, IsNextEntry, HasNoNextEntry, IsNextLeaf, HasNoneBeside, IsAlone, IsNextEntryLeaf, HasNoEntryBeside, HasMarked, HasNoMarked, HasMarkedUnder, HasNoMarkedUnder};
+ghost use Rattle.radix.specs.Entries.{entry_at, mark_at, node_count, StandsAt, IsBare, IsLeaf, IsRun, IsClear, IsFree, HasNoMark, HasPathRoom, SameEntries, PutsEntry, PutsBit, PutsRun, ClearsRun, IsWalked, HasNoEntry, IsNext, HasNoNext, IsNextHeld, HasNoHeld, IsNextEntry, HasNoNextEntry, IsNextLeaf, HasNoneBeside, IsAlone, IsNextEntryLeaf, HasNoEntryBeside, IsNextAt, IsNextEntryAt, IsMarkedAt, HasNoMarkedAt, HasMarked, HasNoMarked, HasMarkedUnder, HasNoMarkedUnder};
 
-use crate::entry::{Cursor, Entry, Near, Position, Walk};
+use crate::entry::{Ahead, Cursor, Entry, Near, Position, Walk};
 use crate::node::{ENTRY, Node};
 use crate::{growth, marks, next, parts, removal, tree};
 use pc_types::Refusal;
@@ -335,6 +335,7 @@ impl Nodes {
     }
 
     /// Sets a mark of an entry, at its first slot.
+    #[inline(always)]
     pub fn set_bit(&mut self, cursor: Cursor, index: u64, level: u32, mark: usize)
         requires stands { StandsAt self.old cursor level (index / 64 ^ level / 64) }
         requires mark { mark < 3 }
@@ -347,10 +348,28 @@ impl Nodes {
         };
         let key = cursor.key();
         self.recent = key;
-        marks::change_bit(&mut self.slab, head, key, level, index, mark, true);
+        marks::give_bit(&mut self.slab, head, key, level, index, mark, true);
+    }
+
+    /// As `set_bit`. Each cursor stays good.
+    #[inline(always)]
+    pub fn set_bit_kept(&mut self, cursor: Cursor, index: u64, level: u32, mark: usize)
+        requires stands { StandsAt self.old cursor level (index / 64 ^ level / 64) }
+        requires mark { mark < 3 }
+        requires leaf { IsLeaf (entry_at self.old level (index / 64 ^ level)) }
+        ensures puts { PutsBit self.old self.new mark level (index / 64 ^ level) 1 }
+        ensures kept { (at high prefix : ℕ) → StandsAt self.old at high prefix → StandsAt self.new at high prefix }
+    {
+        let Some(head) = self.head else {
+            unreachable!()
+        };
+        let key = cursor.key();
+        self.recent = key;
+        marks::give_bit(&mut self.slab, head, key, level, index, mark, true);
     }
 
     /// Clears a mark of an entry, at its first slot.
+    #[inline(always)]
     pub fn clear_bit(&mut self, cursor: Cursor, index: u64, level: u32, mark: usize)
         requires stands { StandsAt self.old cursor level (index / 64 ^ level / 64) }
         requires mark { mark < 3 }
@@ -363,10 +382,11 @@ impl Nodes {
         };
         let key = cursor.key();
         self.recent = key;
-        marks::change_bit(&mut self.slab, head, key, level, index, mark, false);
+        marks::give_bit(&mut self.slab, head, key, level, index, mark, false);
     }
 
     /// Whether an entry has a mark, at its first slot.
+    #[inline(always)]
     pub fn get_bit(&self, cursor: Cursor, index: u64, level: u32, mark: usize) -> bool
         requires stands { StandsAt self.now cursor level (index / 64 ^ level / 64) }
         requires mark { mark < 3 }
@@ -377,6 +397,18 @@ impl Nodes {
             unreachable!()
         };
         marks::get_bit(&self.slab, head, cursor.key(), level, index, mark)
+    }
+
+    /// Whether an entry with the mark has an index: one walk by the mark's bits, which most often reads no slot of the last node.
+    #[inline(always)]
+    pub fn is_marked(&self, index: u64, mark: usize) -> bool
+        requires { mark < 3 }
+        ensures { MatchBool result (IsMarkedAt self.now mark index) (HasNoMarkedAt self.now mark index) }
+    {
+        match self.head {
+            Some(head) => next::is_marked(&self.slab, head, index, mark),
+            None => false,
+        }
     }
 
     /// Whether any entry has the mark.
@@ -491,5 +523,65 @@ impl Nodes {
             unreachable!()
         };
         next::next_in(&self.slab, head, cursor.key(), index, mark)
+    }
+
+    /// The lowest entry after a slot of the lowest level, where it is in the slot's node, or in a later one below the node `above`
+    /// that. Where it answers none it may be elsewhere.
+    #[inline(always)]
+    pub fn next_entry_near(
+        &self,
+        cursor: Cursor,
+        above: Option<Cursor>,
+        place: u64,
+        index: u64,
+    ) -> Option<Ahead>
+        requires stands { StandsAt self.now cursor 0 (place / 64) }
+        requires above { IfSome above (λ k. StandsAt self.now k 1 (place / 64 / 64)) }
+        requires after { index ≡ place + 1 }
+        ensures next { IfSome result (λ r. IsNextEntryAt self.now index r.place r.value) }
+        ensures above { IfSome result (λ r. IfSome r.above (λ k. StandsAt self.now k 1 (r.place / 64 / 64))) }
+        ensures stands { IfSome result (λ r. StandsAt self.now r.cursor 0 (r.place / 64)) }
+        ensures alone { IfSome result (λ r. r.is_alone ≡ true → IsAlone self.now r.place) }
+    {
+        let Some(head) = self.head else {
+            unreachable!()
+        };
+        next::next_near(&self.slab, head, cursor.key(), above, place, index, ENTRY)
+    }
+
+    /// As `next_entry_near`, of the entries with a mark.
+    #[inline(always)]
+    pub fn next_set_near(
+        &self,
+        cursor: Cursor,
+        above: Option<Cursor>,
+        place: u64,
+        index: u64,
+        mark: usize,
+    ) -> Option<Ahead>
+        requires stands { StandsAt self.now cursor 0 (place / 64) }
+        requires above { IfSome above (λ k. StandsAt self.now k 1 (place / 64 / 64)) }
+        requires after { index ≡ place + 1 }
+        requires mark { mark < 3 }
+        ensures next { IfSome result (λ r. IsNextAt self.now mark index r.place r.value) }
+        ensures above { IfSome result (λ r. IfSome r.above (λ k. StandsAt self.now k 1 (r.place / 64 / 64))) }
+        ensures stands { IfSome result (λ r. StandsAt self.now r.cursor 0 (r.place / 64)) }
+        ensures alone { IfSome result (λ r. r.is_alone ≡ true → IsAlone self.now r.place) }
+    {
+        let Some(head) = self.head else {
+            unreachable!()
+        };
+        next::next_near(&self.slab, head, cursor.key(), above, place, index, mark)
+    }
+
+    /// The node above that of a cursor, if there is one.
+    pub fn above(&self, cursor: Cursor, level: u32, prefix: u64) -> Option<Cursor>
+        requires { StandsAt self.now cursor level prefix }
+        ensures { IfSome result (λ k. StandsAt self.now k (level + 1) (prefix / 64)) }
+    {
+        let Some(head) = self.head else {
+            unreachable!()
+        };
+        next::above(&self.slab, head, cursor.key(), level, prefix)
     }
 }

@@ -1,21 +1,21 @@
 -- What a search by a mark finds where an entry may hold its first index.
-use Rattle.std.proofs.Common.{◌≡◌, ℕ, ◌+◌, ◌-◌, ◌*◌, ◌/◌, ◌%◌, ◌^◌, ◌<◌, ◌≤◌, true, eqb, eqb-true, Some, None, refl, sym, ap, ◌∙◌, inl, inr, arith}
+use Rattle.std.proofs.Common.{◌≡◌, ℕ, Bool, false, MatchBool, Option, ◌+◌, ◌-◌, ◌*◌, ◌/◌, ◌%◌, ◌^◌, ◌<◌, ◌≤◌, true, eqb, eqb-true, Some, None, refl, sym, ap, ◌∙◌, inl, inr, arith}
 use Rattle.std.specs.FinMap as map
-use Rattle.std.proofs.lemmas.Bool.{cases_lt}
+use Rattle.std.proofs.lemmas.Bool.{cases_lt, false_from_ne_true}
 use Rattle.std.proofs.lemmas.Option.{same_Some}
 use Rattle.slab.specs.Slab.{Slab}
 use Rattle.radix.specs.declared.node.Node.{Node}
 use Rattle.radix.specs.declared.entry.Entry.TheVariants.{Leaf}
 use Rattle.radix.specs.Entries as radix
-use Rattle.radix.specs.Entries.{HasNoHeld, HasNoNext, IsHeld, IsNext, IsNextHeld}
+use Rattle.radix.specs.Entries.{HasNoHeld, HasNoMarkedAt, HasNoNext, IsHeld, IsMarkedAt, IsNext, IsNextHeld}
 use Rattle.xarray.specs.declared.entry.Mark.{Mark}
-use Rattle.xarray.specs.MarkedArray.{Range, Ranges, entry_at, has_mark, lowest, mark_number}
+use Rattle.xarray.specs.MarkedArray.{Range, Ranges, entry_at, has_mark, is_marked, lowest, mark_number}
 use Rattle.xarray.specs.Standing.{IsLeafOf, IsSpot, Stands, level_of, place_of, span_of}
 use Rattle.xarray.proofs.ChangeLemmas.{mark_low}
 use Rattle.xarray.proofs.RangeLemmas.{at-some}
 use Rattle.xarray.proofs.SearchLemmas.{IsPast, first_is, mark_none, mark_of_leaf, mark_past, mark_spot, marked_leaf, named_at, spot_from, spot_here}
-use Rattle.xarray.proofs.SpanLemmas.{slot_high, within}
-use Rattle.xarray.proofs.StandLemmas.{aligned_at}
+use Rattle.xarray.proofs.SpanLemmas.{slot_high, slot_low, span_some, within}
+use Rattle.xarray.proofs.StandLemmas.{aligned_at, leaf-is}
 
 module _ (s : Slab Node) (m : Ranges) (stands : Stands s m) (mark : Mark) (from to : ℕ) where
   -- where no entry with the mark holds the index at a further slot
@@ -71,3 +71,39 @@ module _ (s : Slab Node) (m : Ranges) (stands : Stands s m) (mark : Mark) (from 
           let low = at.low in
           absurd (omega (arith, low, le, beyond))
       held_past (inr next) le beyond = mark_past s m stands mark from to (not_held next.1) level place value t next.0 beyond
+
+  -- ---- the mark of the entry that has the index
+
+  -- an entry with the mark that has it
+  spot_marked : (level place value made : ℕ) (t : IsLeafOf m level place value) → made ≡ t.first → radix.mark_at (mark_number mark) s level place ≡ 1 → IsSpot m (entry_at m from) made level value → is_marked mark (entry_at m from) ≡ true
+  spot_marked level place value made t is marked spot =
+      let same : spot.range ≡ t.range = same_Some spot.range t.range (sym spot.there ∙ ap (map.get m) is ∙ t.there) in
+      ap (is_marked mark) spot.is ∙ ap (has_mark mark) same ∙ mark_of_leaf s m stands mark level place value t ∙ ap (λ z. eqb z 1) marked
+
+  marked_true : IsMarkedAt s (mark_number mark) from → is_marked mark (entry_at m from) ≡ true
+  marked_true at =
+      let leaf = marked_leaf s m stands (mark_number mark) at.level at.place (mark_low mark) at.marked in
+      let t = leaf-is s m stands at.level at.place leaf.0 leaf.1 in
+      elim at.at [
+        | inl same ↦ spot_marked at.level at.place leaf.0 (at.place * 64 ^ at.level) t (sym t.first_is) at.marked (spot_from s m stands t.first t.range t.there at.level at.place leaf.0 t.level_is t.place_is t.value_is from (at.place * 64 ^ at.level) refl (omega (arith, same)) (omega (arith, same, span_some t.range.order)))
+        | inr held ↦ spot_marked at.level at.place leaf.0 t.first t refl at.marked (here at.level at.place leaf.0 t t.first refl held)
+      ]
+
+  marked_false : HasNoMarkedAt s (mark_number mark) from → is_marked mark (entry_at m from) ≡ false
+  marked_false none = by_entry (entry_at m from) refl
+    where
+      hit : (q : ℕ) (y : Range) → map.get m q ≡ Some y → q ≤ from → from < q + 2 ^ y.order → has_mark mark y ≡ true → ⊥
+      hit q y has low high is =
+          let past = not_held none.held q y has is high in
+          let at = slot_low q y.order (aligned_at s m stands q y has) from low in
+          let same : place_of q y.order ≡ from / 64 ^ level_of y.order = omega (arith, past, at) in
+          let set : eqb (radix.mark_at (mark_number mark) s (level_of y.order) (place_of q y.order)) 1 ≡ true = sym ((stands.each q y has).marks mark) ∙ is in
+          none.here (level_of y.order) (ap (radix.mark_at (mark_number mark) s (level_of y.order)) (sym same) ∙ eqb-true _ 1 set)
+
+      by_entry : (o : Option (ℕ × Range)) → entry_at m from ≡ o → is_marked mark (entry_at m from) ≡ false
+      by_entry None is = ap (is_marked mark) is
+      by_entry (Some e) is = let h = at-some m from e.0 e.1 is in ap (is_marked mark) is ∙ false_from_ne_true _ (hit e.0 e.1 h.there h.low h.high)
+
+  pub marked_by : (b : Bool) → MatchBool b (IsMarkedAt s (mark_number mark) from) (HasNoMarkedAt s (mark_number mark) from) → b ≡ is_marked mark (entry_at m from)
+  marked_by true at = sym (marked_true at)
+  marked_by false none = sym (marked_false none)

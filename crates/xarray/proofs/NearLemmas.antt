@@ -1,26 +1,26 @@
 -- The next entry of a walk, where it is in the node of the one before and has one index.
-use Rattle.std.proofs.Common.{◌≡◌, ◌≢◌, ℕ, ◌+◌, ◌*◌, ◌/◌, ◌%◌, ◌^◌, ◌<◌, ◌≤◌, zero, suc, List, [], ◌∷◌, Option, Some, None, IfSome, MatchOption, Bool, true, false, not, map as map_list, subst, refl, sym, ap, ◌∙◌, inl, inr, arith}
+use Rattle.std.proofs.Common.{◌≡◌, ℕ, ◌+◌, ◌*◌, ◌/◌, ◌%◌, ◌^◌, ◌<◌, ◌≤◌, zero, suc, [], ◌∷◌, Option, Some, None, IfSome, MatchOption, true, map as map_list, subst, refl, sym, ap, ◌∙◌, inl, inr, arith}
 use Rattle.std.specs.FinMap as map
 use Rattle.std.proofs.lemmas.Bool.{cases_eq}
 use Rattle.std.proofs.lemmas.Option.{same_Some}
 use Rattle.std.proofs.Math.Nat.{one-le-pow, pow-suc}
 use Rattle.slab.specs.Slab.{Slab}
 use Rattle.radix.specs.declared.node.Node.{Node}
-use Rattle.radix.specs.declared.entry.Near.{Near}
+use Rattle.radix.specs.declared.entry.Ahead.{Ahead}
 use Rattle.radix.specs.declared.entry.Position.{Position}
 use Rattle.radix.specs.Entries as radix
-use Rattle.radix.specs.Entries.{HasNoEntryBeside, HasNoneBeside, IsAlone, IsNextEntryLeaf, IsNextLeaf, StandsAt}
+use Rattle.radix.specs.Entries.{IsAlone, IsNextAt, IsNextEntryAt, StandsAt}
 use Rattle.xarray.specs.declared.entry.Mark.{Mark}
 use Rattle.xarray.specs.declared.entry.Found.{Found}
-use Rattle.xarray.specs.MarkedArray.{IsArray, Range, Ranges, found_of, has_mark, is_any, lowest, mark_number}
+use Rattle.xarray.specs.MarkedArray.{Range, Ranges, found_of, has_mark, is_any, lowest, mark_number}
 use Rattle.xarray.specs.Standing.{IsFirstSlot, IsLeafOf, IsOutside, IsSpot, level_of}
 use Rattle.xarray.specs.View.{IsRanged, ranges_of}
-use Rattle.xarray.specs.Walks.{IsAfter, IsNear, IsPlace, kind_of, left}
+use Rattle.xarray.specs.Walks.{IsNear, IsPlace, kind_of, left}
 use Rattle.xarray.proofs.CallLemmas.{beside_ends}
 use Rattle.xarray.proofs.SearchLemmas.{any_past, any_spot, mark_past, mark_spot, outside_past}
-use Rattle.xarray.proofs.SpanLemmas.{span_some, span_width, within}
+use Rattle.xarray.proofs.SpanLemmas.{within}
 use Rattle.xarray.proofs.StandLemmas.{leaf-is}
-use Rattle.xarray.proofs.WalkLemmas.{beside_stands, step_first, step_place, walk_none}
+use Rattle.xarray.proofs.WalkLemmas.{step_first, step_place, walk_none}
 
 module _ (s : Slab Node) (inv : IsRanged s) (from to first value : ℕ) (outside : IsOutside (ranges_of s) from) (le : from ≤ to) (alone : IsAlone s first) where
   abbrev m : Ranges
@@ -52,7 +52,7 @@ module _ (s : Slab Node) (inv : IsRanged s) (from to first value : ℕ) (outside
       small_order zero low = refl
       small_order (suc e) low = absurd (let p = one-le-pow e 2 (omega arith) in let q : 2 ^ suc e ≡ 2 ^ e * 2 = pow-suc 2 e in omega (arith, low, p, q))
 
-  pub near_any : IsNextEntryLeaf s from first value → IsNear m is_any from to first value
+  pub near_any : IsNextEntryAt s from first value → IsNear m is_any from to first value
   near_any is =
       let t = leaf-is s m inv.stands 0 first value is.entry in
       let same : t.first ≡ first = let e = t.first_is in omega (arith, e) in
@@ -60,11 +60,10 @@ module _ (s : Slab Node) (inv : IsRanged s) (from to first value : ℕ) (outside
         past = λ beyond. any_past s m inv.stands from to outside 0 first value t is.next (omega (arith, same, beyond));
         spot = λ low. any_spot s m inv.stands from to outside 0 first value t is.next le (omega (arith, same, low)) first (sym same);
         single = alone_single t;
-        beside = is.beside;
         array = inv.stands.shape;
       }
 
-  pub near_marked : (mark : Mark) → IsNextLeaf s (mark_number mark) from first value → IsNear m (has_mark mark) from to first value
+  pub near_marked : (mark : Mark) → IsNextAt s (mark_number mark) from first value → IsNear m (has_mark mark) from to first value
   near_marked mark is =
       let t = leaf-is s m inv.stands 0 first value is.entry in
       let same : t.first ≡ first = let e = t.first_is in omega (arith, e) in
@@ -73,25 +72,20 @@ module _ (s : Slab Node) (inv : IsRanged s) (from to first value : ℕ) (outside
         past = λ beyond. mark_past s m inv.stands mark from to after 0 first value t is.next (omega (arith, same, beyond));
         spot = λ low. mark_spot s m inv.stands mark from to after 0 first value t is.next le (omega (arith, same, low)) first (sym same);
         single = alone_single t;
-        beside = is.beside;
         array = inv.stands.shape;
       }
 
 -- what a look at the node answers
 module _ (s : Slab Node) (inv : IsRanged s) (from : ℕ) (outside : IsOutside (ranges_of s) from) where
-  pub near_any_if : (o : Option Near) → MatchOption o (HasNoEntryBeside s from) (λ r. IsNextEntryLeaf s from r.place r.value) → IfSome o (λ r. r.is_alone ≡ true → IsAlone s r.place) → IfSome o (λ r. r.is_alone ≡ true → (to : ℕ) → from ≤ to → IsNear (ranges_of s) is_any from to r.place r.value)
+  pub near_any_if : (o : Option Ahead) → IfSome o (λ r. IsNextEntryAt s from r.place r.value) → IfSome o (λ r. r.is_alone ≡ true → IsAlone s r.place) → IfSome o (λ r. r.is_alone ≡ true → (to : ℕ) → from ≤ to → IsNear (ranges_of s) is_any from to r.place r.value)
   near_any_if None none alone = tt
   near_any_if (Some r) is alone = λ tells to le. near_any s inv from to r.place r.value outside le (alone tells) is
 
-  pub near_marked_if : (mark : Mark) (number : ℕ) → number ≡ mark_number mark → (o : Option Near) → MatchOption o (HasNoneBeside s number from) (λ r. IsNextLeaf s number from r.place r.value) → IfSome o (λ r. r.is_alone ≡ true → IsAlone s r.place) → IfSome o (λ r. r.is_alone ≡ true → (to : ℕ) → from ≤ to → IsNear (ranges_of s) (has_mark mark) from to r.place r.value)
+  pub near_marked_if : (mark : Mark) (number : ℕ) → number ≡ mark_number mark → (o : Option Ahead) → IfSome o (λ r. IsNextAt s number from r.place r.value) → IfSome o (λ r. r.is_alone ≡ true → IsAlone s r.place) → IfSome o (λ r. r.is_alone ≡ true → (to : ℕ) → from ≤ to → IsNear (ranges_of s) (has_mark mark) from to r.place r.value)
   near_marked_if mark number names None none alone = tt
-  near_marked_if mark number names (Some r) is alone = λ tells to le. near_marked s inv from to r.place r.value outside le (alone tells) mark (subst (λ n. IsNextLeaf s n from r.place r.value) names is)
+  near_marked_if mark number names (Some r) is alone = λ tells to le. near_marked s inv from to r.place r.value outside le (alone tells) mark (subst (λ n. IsNextAt s n from r.place r.value) names is)
 
 -- ---- the step to it
-
-pub told : (b : Bool) → not b ≡ false → b ≡ true
-told true e = refl
-told false e = sym e
 
 module _ (m : Ranges) (mark : Option Mark) (from to first value : ℕ) (near : IsNear m (kind_of mark) from to first value) where
   pub near_none : to < first → left mark m (Some from) to ≡ []
@@ -109,10 +103,9 @@ module _ (m : Ranges) (mark : Option Mark) (from to first value : ℕ) (near : I
         step_first m near.array mark from to first 0 value spot 0 first (near.single spot.range spot.there) ends next after
         ∙ ap (λ f. f ∷ left mark m next to) (sym is)
 
-    pub near_place : (s : Slab Node) → ranges_of s ≡ m → (last : Position) → IsAfter s last from → last.level ≡ 0 → last.place % 64 ≢ 63 → (slot : Position) → slot ≡ record { cursor = last.cursor; level = 0; place = first } → IsPlace s next to (Some slot)
-    near_place s same last comes bottom apart slot is =
+    pub near_place : (s : Slab Node) → ranges_of s ≡ m → (cursor : ℕ) → StandsAt s cursor 0 (first / 64) → (above : Option ℕ) → IfSome above (λ k. StandsAt s k 1 (first / 64 / 64)) → (slot : Position) → slot ≡ record { cursor = cursor; level = 0; place = first } → (told : Option ℕ) → told ≡ above → IsPlace s next to (Some slot) told
+    near_place s same cursor stands above up slot is told same_up =
         let at : first / 64 ^ 0 ≡ first = omega arith in
-        let there : from / 64 ^ 0 ≡ from = omega arith in
-        let stands = subst (StandsAt s last.cursor 0) (omega (arith, at, there, near.beside)) (beside_stands s last from comes bottom apart) in
-        subst (λ p. IsPlace s next to (Some p)) (sym is)
-        (step_place m near.array mark from to first 0 value spot 0 first (near.single spot.range spot.there) ends s same last.cursor stands next first after (sym at))
+        subst (λ a. IsPlace s next to (Some slot) a) (sym same_up)
+        (subst (λ p. IsPlace s next to (Some p) above) (sym is)
+        (step_place m near.array mark from to first 0 value spot 0 first (near.single spot.range spot.there) ends s same cursor (subst (StandsAt s cursor 0) (ap (λ z. z / 64) (sym at)) stands) next first above after (sym at) up))

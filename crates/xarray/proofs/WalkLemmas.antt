@@ -1,5 +1,5 @@
 -- A walk over the entries of a kind, from each to the next.
-use Rattle.std.proofs.Common.{◌≡◌, ◌≢◌, ℕ, ◌+◌, ◌*◌, ◌/◌, ◌%◌, ◌^◌, ◌<◌, ◌≤◌, ◌&&◌, Bool, true, false, ltb, leb, List, [], ◌∷◌, find, filter, Option, Some, None, IfSome, MatchOption, map as map_list, subst, refl, sym, ap, ◌∙◌, inl, inr, arith, leb-true, ltb-true, le-leb, lt-ltb}
+use Rattle.std.proofs.Common.{◌≡◌, ℕ, ◌+◌, ◌*◌, ◌/◌, ◌%◌, ◌^◌, ◌<◌, ◌≤◌, ◌&&◌, Bool, true, false, ltb, leb, List, [], ◌∷◌, find, filter, Option, Some, None, IfSome, MatchOption, map as map_list, subst, refl, sym, ap, ◌∙◌, inl, inr, arith, leb-true, ltb-true, le-leb, lt-ltb}
 use Rattle.std.specs.FinMap as map
 use Rattle.std.proofs.lemmas.Bool.{cases_Bool, cases_order, cond-true, cond-false, and_parts, and_from, false_from_ne_true}
 use Rattle.std.proofs.lemmas.Nat.{pow_pos}
@@ -12,7 +12,7 @@ use Rattle.xarray.specs.declared.entry.Mark.{Mark}
 use Rattle.xarray.specs.MarkedArray.{IsArray, Range, Ranges, entries_in, found_of, lowest, meets}
 use Rattle.xarray.specs.Standing.{IsOutside, IsSpot, span_of}
 use Rattle.xarray.specs.View.{ranges_of}
-use Rattle.xarray.specs.Walks.{IsAfter, IsPlace, kind_of, left}
+use Rattle.xarray.specs.Walks.{IsAbove, IsAfter, IsPlace, kind_of, left}
 use Rattle.xarray.proofs.SpanLemmas.{end_is as span_end, last_slot, level_low, span_some, within}
 use Rattle.xarray.proofs.EntryLemmas.{Rises, above_key, entries-rise, look, look_here, look_later}
 
@@ -188,20 +188,26 @@ module _ (m : Ranges) (array : IsArray m) (mark : Option Mark) (from to first le
         after = end_is ∙ whole ∙ ap (λ z. z * 64 ^ level) (sym ends);
       }
 
-  pub step_place : (s : Slab Node) → ranges_of s ≡ m → (cursor : ℕ) → StandsAt s cursor level (first / 64 ^ level / 64) → (next : Option ℕ) (place : ℕ) → MatchOption next (to ≤ last) (λ n. (n ≡ last + 1) × (last < to)) → place ≡ last / 64 ^ level → IsPlace s next to (Some (record { cursor = cursor; level = level; place = place }))
-  step_place s same cursor stands next place after at = record {
+  pub step_place : (s : Slab Node) → ranges_of s ≡ m → (cursor : ℕ) → StandsAt s cursor level (first / 64 ^ level / 64) → (next : Option ℕ) (place : ℕ) (above : Option ℕ) → MatchOption next (to ≤ last) (λ n. (n ≡ last + 1) × (last < to)) → place ≡ last / 64 ^ level → IfSome above (λ k. StandsAt s k (level + 1) (place / 64 / 64)) → IsPlace s next to (Some (record { cursor = cursor; level = level; place = place })) above
+  step_place s same cursor stands next place above after at up = record {
     outside = λ n is. subst (λ m. IsOutside m n) (sym same) (subst (IsOutside m) (sym (this next n after is).0) outside_after);
     le = λ n is. let a = this next n after is in omega (arith, a.0, a.1);
     after = λ n is. subst (IsAfter s (record { cursor = cursor; level = level; place = place })) (sym (this next n after is).0) (slot_after s cursor stands place at);
+    up = up;
   }
     where
       this : (next : Option ℕ) (n : ℕ) → MatchOption next (to ≤ last) (λ n. (n ≡ last + 1) × (last < to)) → next ≡ Some n → (n ≡ last + 1) × (last < to)
       this None n h is = absurd (none-some n is)
       this (Some x) n h is = let e = same_Some x n is in (sym e ∙ h.0, h.1)
 
--- a slot that is not the last of its node of the lowest level is in the node of the index after it
-pub beside_stands : (s : Slab Node) (slot : Position) (from : ℕ) → IsAfter s slot from → slot.level ≡ 0 → slot.place % 64 ≢ 63 → StandsAt s slot.cursor 0 (from / 64 ^ 0 / 64)
-beside_stands s slot from after low apart =
-    let ends : from ≡ slot.place + 1 = after.after ∙ ap (λ l. (slot.place + 1) * 64 ^ l) low ∙ (let e : (slot.place + 1) * 64 ^ 0 ≡ slot.place + 1 = omega arith in e) in
-    subst (StandsAt s slot.cursor 0) (let e : from / 64 ^ 0 ≡ from = omega arith in omega (arith, e, ends, apart))
-    (subst (λ l. StandsAt s slot.cursor l (slot.place / 64)) low after.stands)
+-- ---- a slot of the lowest level
+
+module _ (s : Slab Node) (slot : Position) (low : slot.level ≡ 0) where
+  pub slot_stands : (from : ℕ) → IsAfter s slot from → StandsAt s slot.cursor 0 (slot.place / 64)
+  slot_stands from after = subst (λ l. StandsAt s slot.cursor l (slot.place / 64)) low after.stands
+
+  pub slot_next : (from : ℕ) → IsAfter s slot from → from ≡ slot.place + 1
+  slot_next from after = after.after ∙ ap (λ l. (slot.place + 1) * 64 ^ l) low ∙ (let e : (slot.place + 1) * 64 ^ 0 ≡ slot.place + 1 = omega arith in e)
+
+  pub slot_above : (above : Option ℕ) → IsAbove s slot above → IfSome above (λ k. StandsAt s k 1 (slot.place / 64 / 64))
+  slot_above above up = subst (λ l. IfSome above (λ k. StandsAt s k (l + 1) (slot.place / 64 / 64))) low up

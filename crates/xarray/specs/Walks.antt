@@ -1,5 +1,5 @@
 -- A walk over entries in rising order, which keeps its place.
-use Rattle.std.specs.Prelude.{◌≡◌, ℕ, ◌+◌, ◌*◌, ◌/◌, ◌^◌, ◌≤◌, IfSome, ◌<◌, Bool, List, [], ◌∷◌, Option, Some, None, map as map_list}
+use Rattle.std.specs.Prelude.{◌≡◌, ℕ, ◌+◌, ◌*◌, ◌/◌, ◌^◌, ◌≤◌, IfSome, ◌<◌, Bool, List, [], Option, Some, None, map as map_list}
 use Rattle.std.specs.FinMap as map
 use Rattle.slab.specs.Slab.{Slab}
 use Rattle.radix.specs.declared.node.Node.{Node}
@@ -27,16 +27,20 @@ pub record IsAfter (s : Slab Node) (slot : Position) (from : ℕ) : Type 0 where
   pub stands : StandsAt s slot.cursor slot.level (slot.place / 64)
   pub after : from ≡ (slot.place + 1) * 64 ^ slot.level
 
--- the next entry of a kind has one index, this one, and is in the node of the lowest level that has `from`
+-- the node above that of a slot, if it is known
+abbrev pub IsAbove : Slab Node → Position → Option ℕ → Type 0
+IsAbove s slot above = IfSome above (λ k. StandsAt s k (slot.level + 1) (slot.place / 64 / 64))
+
+-- the next entry of a kind has one index, this one
 pub record IsNear (m : Ranges) (kind : Range → Bool) (from to first value : ℕ) : Type 0 where
   pub past : to < first → lowest kind m from to ≡ None
   pub spot : first ≤ to → IsSpot m (lowest kind m from to) first 0 value
   pub single : (r : Range) → map.get m first ≡ Some r → 0 ≡ r.order
-  pub beside : first / 64 ≡ from / 64
   pub array : IsArray m
 
 -- a walk may go on from this index: no entry begins before it and ends past it, and it comes after the slot, if one is known
-pub record IsPlace (s : Slab Node) (next : Option ℕ) (to : ℕ) (slot : Option Position) : Type 0 where
+pub record IsPlace (s : Slab Node) (next : Option ℕ) (to : ℕ) (slot : Option Position) (above : Option ℕ) : Type 0 where
   pub outside : (from : ℕ) → next ≡ Some from → IsOutside (ranges_of s) from
   pub le : (from : ℕ) → next ≡ Some from → from ≤ to
   pub after : (from : ℕ) → next ≡ Some from → IfSome slot (λ p. IsAfter s p from)
+  pub up : IfSome slot (λ p. IsAbove s p above)

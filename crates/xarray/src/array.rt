@@ -9,7 +9,7 @@ use crate::entries::Entries;
 use crate::entry::{Found, Mark, Marked, Marks};
 use crate::ranged::Ranged;
 use pc_types::Refusal;
-use radix::Position;
+use radix::{Cursor, Position};
 use std::alloc::Global;
 use std::marker::Model;
 
@@ -330,8 +330,9 @@ impl XArray {
         let mut count: u64 = 0;
         let mut next = self.ranged.start(from);
         let mut slot: Option<Position> = None;
+        let mut above: Option<Cursor> = None;
         'entries: loop {
-            let Some(tagged) = self.ranged.tag_next(slot, next, to, mark, other) else {
+            let Some(tagged) = self.ranged.tag_next(slot, above, next, to, mark, other) else {
                 return count;
             };
             count = count.saturating_add(1);
@@ -340,6 +341,7 @@ impl XArray {
             }
             next = tagged.last + 1;
             slot = Some(tagged.slot);
+            above = tagged.above;
         }
     }
 }

@@ -1,5 +1,5 @@
-//! The entries of a range of indexes, one after another in rising order. The walk keeps its slot, so most of its steps read
-//! that node alone, and the others go up from it (xas_for_each and xas_for_each_marked of Linux).
+//! The entries of a range of indexes, one after another in rising order. The walk keeps its slot and the node above, so most of its
+//! steps read that node alone, and the others go up from it (xas_for_each and xas_for_each_marked of Linux).
 ghost use Rattle.std.specs.Prelude.{◌≡◌, map as map_list};
 ghost use Rattle.std.specs.Iterator.{YieldsFirst, item_count};
 ghost use Rattle.xarray.specs.MarkedArray.{found_of, entries_in};
@@ -8,7 +8,7 @@ ghost use Rattle.xarray.specs.Walks.{kind_of};
 
 use crate::entry::{Found, Mark};
 use crate::ranged::Ranged;
-use radix::Position;
+use radix::{Cursor, Position};
 use std::marker::Model;
 
 /// The entries whose ranges meet a range of indexes, seen as the list of those that are left.
@@ -22,6 +22,8 @@ pub struct Entries<'a> {
     to: u64,
     /// The last slot of the entry before `next`, if there is one.
     slot: Option<Position>,
+    /// The node above that of the slot, if it is known.
+    above: Option<Cursor>,
 }
 
 impl<'a> Model for Entries<'a> {
@@ -34,7 +36,7 @@ impl<'a> Model for Entries<'a> {
 
     ghost view = { λ it. left it.mark (ranges_of it.ranged.now) it.next it.to };
 
-    ghost invariant = { λ it. IsPlace it.ranged.now it.next it.to it.slot };
+    ghost invariant = { λ it. IsPlace it.ranged.now it.next it.to it.slot it.above };
 }
 
 impl<'a> Entries<'a> {
@@ -54,6 +56,7 @@ impl<'a> Entries<'a> {
             next,
             to,
             slot: None,
+            above: None,
         }
     }
 }
@@ -68,12 +71,16 @@ impl<'a> Iterator for Entries<'a> {
     #[inline(always)]
     fn next(&mut self) -> Option<Found> {
         let from = self.next?;
-        let Some(step) = self.ranged.step(self.slot, from, self.to, self.mark) else {
+        let Some(step) = self
+            .ranged
+            .step(self.slot, self.above, from, self.to, self.mark)
+        else {
             self.next = None;
             return None;
         };
         self.next = step.next;
         self.slot = Some(step.slot);
+        self.above = step.above;
         Some(step.found)
     }
 }

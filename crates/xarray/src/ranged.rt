@@ -306,12 +306,7 @@ impl Ranged {
     pub fn get_mark(&self, index: u64, mark: Mark) -> bool
         ensures { result ≡ is_marked mark (entry_at (ranges_of self.now) index) }
     {
-        match self.spot_recent(index) {
-            Some(spot) => self
-                .nodes
-                .get_bit(spot.cursor, spot.first, spot.level, mark.number()),
-            None => false,
-        }
+        self.nodes.is_marked(index, mark.number())
     }
 
     /// Whether any entry has the mark.

@@ -6,18 +6,20 @@ ghost use Rattle.radix.specs.Entries.{HasPathRoom, StandsAt};
 ghost use Rattle.xarray.specs.MarkedArray.{Range, changed, entry_at, erased, given, has_mark, is_any, lowest, marked_of, marks_of, remarked, stored, unmarked, with_mark, with_marks};
 ghost use Rattle.xarray.specs.Standing.{IsFirstSlot, IsOutside, TagsNext, level_of};
 ghost use Rattle.xarray.specs.View.{ranges_of};
-ghost use Rattle.xarray.specs.Walks.{IsAfter};
+ghost use Rattle.xarray.specs.Walks.{IsAbove, IsAfter};
 
 use super::{Ranged, Spot, last_of};
 use crate::entry::{Mark, Marked, Marks};
 use pc_types::Refusal;
-use radix::{Cursor, Position, Walk, first_at, place_at};
+use radix::{Ahead, Cursor, Position, Walk, first_at, place_at};
 
 /// Where an entry that a retag came to ends: its last index, and its last slot.
 #[derive(Clone, Copy)]
 pub struct Tagged {
     pub last: u64,
     pub slot: Position,
+    /// The node above that of the slot, if it is known.
+    pub above: Option<Cursor>,
 }
 
 impl Ranged {
@@ -272,8 +274,97 @@ impl Ranged {
     }
 
     /// Sets the mark `other` of the lowest entry with the mark whose range meets the indexes from `from` to `to`, and answers
-    /// where the entry ends. It goes up from the slot before `from`, if that is known.
+    /// where the entry ends. Most often that has one index and is near the slot before `from`, if that is known.
+    #[inline(always)]
     pub fn tag_next(
+        &mut self,
+        slot: Option<Position>,
+        above: Option<Cursor>,
+        from: u64,
+        to: u64,
+        mark: Mark,
+        other: Mark,
+    ) -> Option<Tagged>
+        requires le { from ≤ to }
+        requires outside { IsOutside (ranges_of self.old) from }
+        requires after { IfSome slot (λ p. IsAfter self.old p from) }
+        requires above { IfSome slot (λ p. IsAbove self.old p above) }
+        ensures tags { MatchOption result ((lowest (has_mark mark) (ranges_of self.old) from to ≡ None) × (self.new ≡ self.old)) (λ r. TagsNext (ranges_of self.old) (ranges_of self.new) from to mark other r.last) }
+        ensures after { IfSome result (λ r. IsAfter self.new r.slot (r.last + 1)) }
+        ensures above { IfSome result (λ r. IsAbove self.new r.slot r.above) }
+    {
+        let Some(last) = slot else {
+            return self.tag_far(None, from, to, mark, other);
+        };
+        let Position {
+            cursor,
+            level,
+            place,
+        } = last;
+        if level > 0 {
+            return self.tag_far(
+                Some(Position {
+                    cursor,
+                    level,
+                    place,
+                }),
+                from,
+                to,
+                mark,
+                other,
+            );
+        }
+        let Some(ahead) = self.near(cursor, above, place, from, Some(mark)) else {
+            return self.tag_far(
+                Some(Position {
+                    cursor,
+                    level: 0,
+                    place,
+                }),
+                from,
+                to,
+                mark,
+                other,
+            );
+        };
+        let Ahead {
+            cursor: found,
+            above: up,
+            place: at,
+            is_alone,
+            ..
+        } = ahead;
+        if !is_alone {
+            return self.tag_far(
+                Some(Position {
+                    cursor,
+                    level: 0,
+                    place,
+                }),
+                from,
+                to,
+                mark,
+                other,
+            );
+        }
+        if at > to {
+            return None;
+        }
+        self.nodes.set_bit_kept(found, at, 0, other.number());
+        Some(Tagged {
+            last: at,
+            slot: Position {
+                cursor: found,
+                level: 0,
+                place: at,
+            },
+            above: up,
+        })
+    }
+
+    // The same by each look that it may take. It goes up from the slot before `from`, if that is known.
+    #[inline(never)]
+    fn tag_far(
         &mut self,
         slot: Option<Position>,
         from: u64,
@@ -286,6 +377,7 @@ impl Ranged {
         requires after { IfSome slot (λ p. IsAfter self.old p from) }
         ensures tags { MatchOption result ((lowest (has_mark mark) (ranges_of self.old) from to ≡ None) × (self.new ≡ self.old)) (λ r. TagsNext (ranges_of self.old) (ranges_of self.new) from to mark other r.last) }
         ensures after { IfSome result (λ r. IsAfter self.new r.slot (r.last + 1)) }
+        ensures above { IfSome result (λ r. IsAbove self.new r.slot r.above) }
     {
         let Some(next) = self.first_marked(slot, from, mark.number()) else {
             return None;
@@ -293,21 +385,23 @@ impl Ranged {
         let Position {
             cursor,
             level,
-            place,
+            place: begin,
         } = next;
-        let first = first_at(level, place);
+        let first = first_at(level, begin);
         if first > to {
             return None;
         }
         let last = last_of(first, self.order_beside(cursor, level, first));
         self.nodes.set_bit(cursor, first, level, other.number());
+        let place = place_at(last, level);
         Some(Tagged {
             last,
             slot: Position {
                 cursor,
                 level,
-                place: place_at(last, level),
+                place,
             },
+            above: self.nodes.above(cursor, level, place / 64),
         })
     }
 }

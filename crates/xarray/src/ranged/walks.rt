@@ -5,18 +5,19 @@ ghost use Rattle.radix.specs.Entries.{HasNoNext, HasNoNextEntry, IsLeaf, IsNext,
 ghost use Rattle.xarray.specs.MarkedArray.{entry_at, found_of, given, has_mark, is_any, lowest};
 ghost use Rattle.xarray.specs.Standing.{IsLeafOf, IsOutside, IsSpot, IsStart};
 ghost use Rattle.xarray.specs.View.{ranges_of};
-ghost use Rattle.xarray.specs.Walks.{IsAfter, IsNear, IsPlace, kind_of, left};
+ghost use Rattle.xarray.specs.Walks.{IsAbove, IsAfter, IsNear, IsPlace, kind_of, left};
 
 use super::{Ranged, Spot, last_of, leaf_value};
 use crate::entry::{Found, Mark};
-use radix::{Cursor, Near, Position, Walk, first_at, place_at};
+use radix::{Ahead, Cursor, Position, Walk, first_at, place_at};
 
-/// One step of a walk: the entry, where the walk goes on, if it does, and the entry's last slot.
+/// One step of a walk: the entry, where the walk goes on, if it does, the entry's last slot, and the node above it, if it is known.
 #[derive(Clone, Copy)]
 pub struct Step {
     pub found: Found,
     pub next: Option<u64>,
     pub slot: Position,
+    pub above: Option<Cursor>,
 }
 
 impl Ranged {
@@ -210,27 +211,41 @@ impl Ranged {
         }
     }
 
-    // The next entry in a node of the lowest level that has `from`, most often with the news that it has one index.
+    // The next entry after a slot of the lowest level, where it is near, most often with the news that it has one index.
     #[inline(always)]
-    fn near(&self, cursor: Cursor, from: u64, mark: Option<Mark>) -> Option<Near>
+    pub(super) fn near(
+        &self,
+        cursor: Cursor,
+        above: Option<Cursor>,
+        place: u64,
+        from: u64,
+        mark: Option<Mark>,
+    ) -> Option<Ahead>
         requires outside { IsOutside (ranges_of self.now) from }
-        requires stands { StandsAt self.now cursor 0 (from / 64 ^ 0 / 64) }
-        ensures { IfSome result (λ r. r.is_alone ≡ true → (to : ℕ) → from ≤ to → IsNear (ranges_of self.now) (kind_of mark) from to r.place r.value) }
+        requires stands { StandsAt self.now cursor 0 (place / 64) }
+        requires above { IfSome above (λ k. StandsAt self.now k 1 (place / 64 / 64)) }
+        requires after { from ≡ place + 1 }
+        ensures near { IfSome result (λ r. r.is_alone ≡ true → (to : ℕ) → from ≤ to → IsNear (ranges_of self.now) (kind_of mark) from to r.place r.value) }
+        ensures above { IfSome result (λ r. IfSome r.above (λ k. StandsAt self.now k 1 (r.place / 64 / 64))) }
+        ensures stands { IfSome result (λ r. StandsAt self.now r.cursor 0 (r.place / 64)) }
     {
         // As in `spot_in`.
         let _nodes = &self.nodes;
         match mark {
-            None => self.nodes.next_entry_in(cursor, from),
-            Some(mark) => self.nodes.next_set_in(cursor, from, mark.number()),
+            None => self.nodes.next_entry_near(cursor, above, place, from),
+            Some(mark) => self
+                .nodes
+                .next_set_near(cursor, above, place, from, mark.number()),
         }
     }
 
     /// The first entry that is left of a walk, and where the walk goes on. Most often it has one index and is in the node of
-    /// the entry before, and then the step is short, in the caller's own code.
+    /// the entry before or in one beside it, and then the step is short, in the caller's own code.
     #[inline(always)]
     pub fn step(
         &self,
         slot: Option<Position>,
+        above: Option<Cursor>,
         from: u64,
         to: u64,
         mark: Option<Mark>,
@@ -238,25 +253,63 @@ impl Ranged {
         requires le { from ≤ to }
         requires outside { IsOutside (ranges_of self.now) from }
         requires after { IfSome slot (λ p. IsAfter self.now p from) }
+        requires above { IfSome slot (λ p. IsAbove self.now p above) }
         ensures first { MatchOption result (left mark (ranges_of self.now) (Some from) to ≡ []) (λ r. left mark (ranges_of self.now) (Some from) to ≡ r.found ∷ left mark (ranges_of self.now) r.next to) }
-        ensures place { IfSome result (λ r. IsPlace self.now r.next to (Some r.slot)) }
+        ensures place { IfSome result (λ r. IsPlace self.now r.next to (Some r.slot) r.above) }
     {
         let Some(last) = slot else {
             return self.step_far(None, from, to, mark);
         };
-        if last.level > 0 || last.place % 64 == 63 {
-            return self.step_far(Some(last), from, to, mark);
+        let Position {
+            cursor,
+            level,
+            place,
+        } = last;
+        if level > 0 {
+            return self.step_past(cursor, level, place, from, to, mark);
         }
-        let Some(near) = self.near(last.cursor, from, mark) else {
-            return self.step_far(Some(last), from, to, mark);
+        let Some(ahead) = self.near(cursor, above, place, from, mark) else {
+            return self.step_past(cursor, 0, place, from, to, mark);
         };
-        if !near.is_alone {
-            return self.step_far(Some(last), from, to, mark);
+        let Ahead {
+            cursor: found,
+            above: up,
+            place: at,
+            value,
+            is_alone,
+        } = ahead;
+        if !is_alone {
+            return self.step_past(cursor, 0, place, from, to, mark);
         }
-        if near.place > to {
+        if at > to {
             return None;
         }
-        Some(step_at(last.cursor, near, to))
+        Some(step_at(found, up, at, value, to))
+    }
+
+    // The same by each look that it may take, after a slot. The slot is put together here, out of the caller's loop.
+    #[inline(never)]
+    fn step_past(
+        &self,
+        cursor: Cursor,
+        level: u32,
+        place: u64,
+        from: u64,
+        to: u64,
+        mark: Option<Mark>,
+    ) -> Option<Step>
+        requires le { from ≤ to }
+        requires outside { IsOutside (ranges_of self.now) from }
+        requires after { IsAfter self.now (record { cursor = cursor; level = level; place = place }) from }
+        ensures first { MatchOption result (left mark (ranges_of self.now) (Some from) to ≡ []) (λ r. left mark (ranges_of self.now) (Some from) to ≡ r.found ∷ left mark (ranges_of self.now) r.next to) }
+        ensures place { IfSome result (λ r. IsPlace self.now r.next to (Some r.slot) r.above) }
+    {
+        let slot = Position {
+            cursor,
+            level,
+            place,
+        };
+        self.step_far(Some(slot), from, to, mark)
     }
 
     // The same by each look that it may take.
@@ -272,7 +325,7 @@ impl Ranged {
         requires outside { IsOutside (ranges_of self.now) from }
         requires after { IfSome slot (λ p. IsAfter self.now p from) }
         ensures first { MatchOption result (left mark (ranges_of self.now) (Some from) to ≡ []) (λ r. left mark (ranges_of self.now) (Some from) to ≡ r.found ∷ left mark (ranges_of self.now) r.next to) }
-        ensures place { IfSome result (λ r. IsPlace self.now r.next to (Some r.slot)) }
+        ensures place { IfSome result (λ r. IsPlace self.now r.next to (Some r.slot) r.above) }
     {
         // As in `spot_in`.
         let _nodes = &self.nodes;
@@ -287,6 +340,7 @@ impl Ranged {
         } = spot;
         let order = self.order_beside(cursor, level, first);
         let last = last_of(first, order);
+        let place = place_at(last, level);
         Some(Step {
             found: Found {
                 first,
@@ -297,8 +351,9 @@ impl Ranged {
             slot: Position {
                 cursor,
                 level,
-                place: place_at(last, level),
+                place,
             },
+            above: self.nodes.above(cursor, level, place / 64),
         })
     }
 
@@ -361,22 +416,24 @@ fn index_after(index: u64, last: u64) -> Option<u64>
 
 // The step to an entry of one index.
 #[inline(always)]
-fn step_at(cursor: Cursor, near: Near, to: u64) -> Step
-    ensures found { result.found ≡ record { first = near.place; order = 0; value = near.value } }
-    ensures next { MatchOption result.next (to ≤ near.place) (λ next. (next ≡ near.place + 1) × (near.place < to)) }
-    ensures slot { result.slot ≡ record { cursor = cursor; level = 0; place = near.place } }
+fn step_at(cursor: Cursor, above: Option<Cursor>, first: u64, value: u64, to: u64) -> Step
+    ensures found { result.found ≡ record { first = first; order = 0; value = value } }
+    ensures next { MatchOption result.next (to ≤ first) (λ next. (next ≡ first + 1) × (first < to)) }
+    ensures slot { result.slot ≡ record { cursor = cursor; level = 0; place = first } }
+    ensures above { result.above ≡ above }
 {
     Step {
         found: Found {
-            first: near.place,
+            first,
             order: 0,
-            value: near.value,
+            value,
         },
-        next: index_after(near.place, to),
+        next: index_after(first, to),
         slot: Position {
             cursor,
             level: 0,
-            place: near.place,
+            place: first,
         },
+        above,
     }
 }

@@ -1,7 +1,7 @@
 use Rattle.std.proofs.Common.{arith, cond}
 use Rattle.radix.specs.Entries.{bits}
 use Rattle.radix.proofs.MarkLemmas.{same_test_not}
-use Rattle.radix.proofs.BitLemmas.{set_tree, set_above, set_sound, set_puts, set_stands, carried_sound, carried_puts, carried_stands}
+use Rattle.radix.proofs.BitLemmas.{set_tree, set_above, set_sound, set_puts, set_stands, set_kept, carried_sound, carried_kept, carried_puts, carried_stands}
 use Rattle.radix.proofs.marks.change_bit.Goals as goal
 
 pub offset_at-offset-requires : goal.offset_at-offset-requires
@@ -44,4 +44,13 @@ returns-then-bits-now-clause-stands c = carried_stands c.args.nodes.now c.args.h
 
 pub returns-else-bits-now-clause-stands : goal.returns-else-bits-now-clause-stands
 returns-else-bits-now-clause-stands c = set_stands c.args.nodes.now c.args.head c.args.level c.args.index c.args.key c.index_mut-node.result.now c.args.mark c.offset_at-offset.result c.put_bit-now.result (cond c.args.is_set 1 0)
+    c.requires.mark c.put_bit-now.type_inv c.requires.sound c.requires.leaf c.requires.stands c.index_mut-node.ensures.value c.offset_at-offset.ensures c.put_bit-now.ensures
+
+pub returns-then-bits-now-clause-kept : goal.returns-then-bits-now-clause-kept
+returns-then-bits-now-clause-kept c = carried_kept c.args.nodes.now c.args.head c.args.level c.args.index c.args.key c.index_mut-node.result.now c.args.mark c.offset_at-offset.result c.put_bit-now.result (cond c.args.is_set 1 0)
+    c.requires.mark c.put_bit-now.type_inv c.requires.sound c.requires.leaf c.requires.stands c.index_mut-node.ensures.value c.offset_at-offset.ensures c.put_bit-now.ensures
+    c.carry.new.nodes c.carry.ensures.tree c.carry.ensures.exact c.carry.ensures.remarks
+
+pub returns-else-bits-now-clause-kept : goal.returns-else-bits-now-clause-kept
+returns-else-bits-now-clause-kept c = set_kept c.args.nodes.now c.args.head c.args.level c.args.index c.args.key c.index_mut-node.result.now c.args.mark c.offset_at-offset.result c.put_bit-now.result (cond c.args.is_set 1 0)
     c.requires.mark c.put_bit-now.type_inv c.requires.sound c.requires.leaf c.requires.stands c.index_mut-node.ensures.value c.offset_at-offset.ensures c.put_bit-now.ensures

@@ -1,7 +1,4 @@
-use Rattle.std.proofs.Common.{sym, ap, ◌∙◌}
-use Rattle.radix.specs.Bitmap.{NoneFrom}
-use Rattle.radix.specs.Entries.{bits}
-use Rattle.radix.specs.Tree.{HasClimbed}
+use Rattle.std.proofs.Common.{sym, ◌∙◌}
 use Rattle.radix.proofs.ClimbLemmas.{climb_ahead, climb_begins, climb_ends, climb_nearer, climb_up}
 use Rattle.radix.proofs.next.next_after.Goals as goal
 

@@ -28,6 +28,7 @@ entries-preserved c = record {
   outside = outside_next (ranges_of c.entries.self-inside.ranged) (ranges_of c.tag_next.new.self) c.entries.next c.args.to c.args.mark c.args.other c.in-Some.tagged.last c.in-Some.ensures.tags;
   small = omega (arith, c.saturating_add-count.ensures);
   after = c.in-Some.ensures.after;
+  above = c.in-Some.ensures.above;
 }
 
 pub returns-then-from-to-clause-count : goal.returns-then-from-to-clause-count
@@ -51,4 +52,5 @@ entries-init c =
       outside = c.start-next.ensures.outside;
       small = omega arith;
       after = tt;
+      above = tt;
     }

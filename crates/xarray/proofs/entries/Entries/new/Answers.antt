@@ -1,6 +1,6 @@
-use Rattle.std.proofs.Common.{◌≡◌, Some, None, ap, sym, ◌∙◌, arith}
+use Rattle.std.proofs.Common.{ap, sym, ◌∙◌, arith}
 use Rattle.std.specs.Prelude.{map as map_list}
-use Rattle.xarray.specs.MarkedArray.{entries_in, found_of}
+use Rattle.xarray.specs.MarkedArray.{found_of}
 use Rattle.xarray.specs.View.{ranges_of}
 use Rattle.xarray.specs.Walks.{kind_of, left}
 use Rattle.xarray.proofs.WalkLemmas.{walk_from, walk_past}

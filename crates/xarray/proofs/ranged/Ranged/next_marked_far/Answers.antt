@@ -1,6 +1,6 @@
 use Rattle.std.proofs.Common.{sym, arith, subst}
 use Rattle.radix.specs.Entries.{HasNoNext, IsNext}
-use Rattle.xarray.specs.MarkedArray.{has_mark, mark_number}
+use Rattle.xarray.specs.MarkedArray.{has_mark}
 use Rattle.xarray.specs.View.{ranges_of}
 use Rattle.xarray.proofs.CallLemmas.{hit_fits, hit_low}
 use Rattle.xarray.proofs.SearchLemmas.{mark_none, mark_past, mark_spot, outside_past}
