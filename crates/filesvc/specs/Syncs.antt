@@ -6,12 +6,11 @@ use Rattle.pc_types.specs.declared.refusal.Refusal.{Refusal}
 use Rattle.pc_types.specs.declared.refusal.Refusal.TheVariants.{Busy}
 use Rattle.machine.specs.declared.event.Reply.{Reply}
 use Rattle.machine.specs.declared.event.Reply.TheVariants as reply
-use Rattle.cachecore.specs.Replies.{sync_dropped}
+use Rattle.cachecore.specs.Replies.{is_job, sync_dropped}
 use Rattle.errboard.specs.Shown.{RecorderSeen}
 use Rattle.world.specs.declared.step.Step.TheVariants as step
 use Rattle.world.specs.Stepping.{WorldSeen, IsMade, Plays, Steps}
 use Rattle.filesvc.specs.Seen.{SoloSeen}
-use Rattle.filesvc.specs.Rests.{is_job}
 
 -- a page was written out, with whatever end; or the sync's step gave this reply
 abbrev pub SyncTurn : WorldSeen → SyncId → Option Reply → WorldSeen → Type 0

@@ -5,7 +5,8 @@ ghost use Rattle.std.specs.Prelude.{◌≡◌, ◌<◌, Some};
 ghost use Rattle.errboard.specs.Shown.{RecorderSeen};
 ghost use Rattle.pc_types.specs.declared.limits.TheConstants.{MAX_FILES};
 ghost use Rattle.world.specs.declared.step.Step.TheVariants as step;
-ghost use Rattle.filesvc.specs.Rests.{AtOnce, IsNoted, IsResting};
+ghost use Rattle.filesvc.specs.Rests as rests;
+ghost use Rattle.filesvc.specs.Rests.{IsNoted, IsResting};
 
 use blockdev::BlockDevice;
 use cachecore::{AtOnce, Reply};
@@ -21,7 +22,7 @@ pub(crate) fn fill_page<D: BlockDevice>(
 ) -> Reply
     requires { IsResting world.old }
     ensures rests { IsResting world.new }
-    ensures made { (errors : RecorderSeen) → AtOnce world.old errors (step.FillBegin handle page) result world.new errors }
+    ensures made { (errors : RecorderSeen) → rests.AtOnce world.old errors (step.FillBegin handle page) result world.new errors }
 {
     match world.fill_at_once(handle, page) {
         AtOnce::Answered(reply) => reply,
@@ -37,7 +38,7 @@ pub(crate) fn flush_page<D: BlockDevice>(
 ) -> Reply
     requires { IsResting world.old }
     ensures rests { IsResting world.new }
-    ensures made { AtOnce world.old recorder.old (step.FlushBegin file) result world.new recorder.new }
+    ensures made { rests.AtOnce world.old recorder.old (step.FlushBegin file) result world.new recorder.new }
 {
     match world.flush_at_once(file) {
         AtOnce::Answered(reply) => reply,

@@ -125,6 +125,7 @@ size_stays Flush old new b before after r h = h.0.call.size
 module _ (core : Core) (jobs : Jobs) (dev : Watch) (w : IsWorld core.state jobs dev) (old : WorldSeen)
     (is_old : seen_of core.state jobs dev ≡ old) (e : Event) (s : Step) (kind : Kind) (kind_of : begun_kind e ≡ Some kind)
     (act : (r : Reply) → IsAct e r) (goes : (r : Reply) → is_end e r ≡ false)
+    (writes : ℕ → Option ℕ) (written : (f : ℕ) → (if is_flush kind then Some f else None) ≡ writes f)
     (step_of : (r : Reply) (new : WorldSeen) → IsActed old e r new → Steps old s r new) (after : Core) (to : Watch) where
   pub at_once_world : (a : AtOnce) → MakesAtOnce core e dev a after to → IsWorld after.state jobs to
   at_once_world (Answered r) h = subst (IsWorld after.state jobs) (sym h.3)
@@ -145,9 +146,9 @@ module _ (core : Core) (jobs : Jobs) (dev : Watch) (w : IsWorld core.state jobs 
           h.makes.performs.call
 
   pub at_once_steps : (a : AtOnce) → MakesAtOnce core e dev a after to
-      → StepsAtOnce old s kind a (seen_of after.state jobs to)
+      → StepsAtOnce old s writes a (seen_of after.state jobs to)
   at_once_steps (Answered r) h = (
-    h.1,
+    λ t is. (let job : is_job r ≡ true = ap is_job is in let clash : true ≡ false = sym job ∙ h.1 in cc),
     step_of r (seen_of after.state jobs to)
         (subst (λ d. IsActed old e r (seen_of after.state jobs d)) (sym h.3)
         (quiet_acted core.state jobs dev w old is_old e r after.state (act r) (same_job r h.1) (goes r) h.0)),
@@ -160,7 +161,7 @@ module _ (core : Core) (jobs : Jobs) (dev : Watch) (w : IsWorld core.state jobs 
         one,
         step_of (reply.Job t) one (begins core jobs dev w old is_old e f.0 r after to h (act _)),
         its_file core jobs dev w old is_old e f.0 r after to h (act _) kind
-            (kind_is core.state h.begun e t kind kind_of h.begins),
+            (kind_is core.state h.begun e t kind kind_of h.begins) ∙ written f.0,
         (
           _,
           called core jobs dev w old is_old e f.0 r after to h (act _),

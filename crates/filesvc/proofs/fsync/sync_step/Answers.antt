@@ -1,14 +1,15 @@
 use Rattle.std.proofs.Common.{inl, inr, refl, subst, sym}
 use Rattle.filesvc.specs.Rests.{IsNoted}
 use Rattle.filesvc.specs.Syncs.{service_of}
-use Rattle.filesvc.proofs.SyncLaws.{renamed, stepped_service}
+use Rattle.filesvc.proofs.SyncLaws.{no_job, renamed, stepped_service}
 use Rattle.filesvc.proofs.fsync.sync_step.Goals as goal
 
 pub returns-in-Answered : goal.returns-in-Answered
 returns-in-Answered g c =
     let made = c.in-Answered.ensures in
-    let x = stepped_service c.args.world.now.core.name (service_of c.args.world.now c.args.recorder.now) c.sync_at_once.new.self c.args.recorder.now c.args.recorder.now.board c.args.sync c.in-Answered.reply (inl (made.0, made.1, refl)) c.requires in
-    record { serving = renamed _ _ _ _ x.0; serves = x.1; turn = (made.0, made.1) }
+    let quiet = no_job c.in-Answered.reply made.0 in
+    let x = stepped_service c.args.world.now.core.name (service_of c.args.world.now c.args.recorder.now) c.sync_at_once.new.self c.args.recorder.now c.args.recorder.now.board c.args.sync c.in-Answered.reply (inl (quiet, made.1, refl)) c.requires in
+    record { serving = renamed _ _ _ _ x.0; serves = x.1; turn = (quiet, made.1) }
 
 pub returns-in-Ended : goal.returns-in-Ended
 returns-in-Ended g c =

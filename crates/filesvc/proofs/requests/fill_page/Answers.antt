@@ -1,14 +1,15 @@
 use Rattle.std.proofs.Common.{inl, inr, refl, subst, sym}
 use Rattle.filesvc.specs.Rests.{IsNoted}
-use Rattle.filesvc.proofs.WorldLaws.{carried_rests, fill_begins, quiet_rests}
+use Rattle.filesvc.proofs.WorldLaws.{carried_rests, fill_begins, no_job, quiet_rests}
 use Rattle.filesvc.proofs.requests.fill_page.Goals as goal
 
 pub returns-in-Answered : goal.returns-in-Answered
 returns-in-Answered g c =
     let made = c.in-Answered.ensures in
+    let quiet = no_job c.in-Answered.reply made.0 in
     record {
-      rests = quiet_rests _ _ _ _ _ (fill_begins c.args.handle c.args.page) made.0 made.1 c.requires;
-      made = λ errors. inl (made.0, made.1, refl);
+      rests = quiet_rests _ _ _ _ _ (fill_begins c.args.handle c.args.page) quiet made.1 c.requires;
+      made = λ errors. inl (quiet, made.1, refl);
     }
 
 pub returns-in-Ended : goal.returns-in-Ended

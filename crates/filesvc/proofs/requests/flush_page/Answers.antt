@@ -1,14 +1,15 @@
 use Rattle.std.proofs.Common.{inl, inr, refl, subst, sym}
 use Rattle.filesvc.specs.Rests.{IsNoted}
-use Rattle.filesvc.proofs.WorldLaws.{carried_rests, flush_begins, quiet_rests}
+use Rattle.filesvc.proofs.WorldLaws.{carried_rests, flush_begins, no_job, quiet_rests}
 use Rattle.filesvc.proofs.requests.flush_page.Goals as goal
 
 pub returns-in-Answered : goal.returns-in-Answered
 returns-in-Answered g c =
     let made = c.in-Answered.ensures in
+    let quiet = no_job c.in-Answered.reply made.0 in
     record {
-      rests = quiet_rests _ _ _ _ _ (flush_begins c.args.file) made.0 made.1 c.requires;
-      made = inl (made.0, made.1, refl);
+      rests = quiet_rests _ _ _ _ _ (flush_begins c.args.file) quiet made.1 c.requires;
+      made = inl (quiet, made.1, refl);
     }
 
 pub returns-in-Ended : goal.returns-in-Ended
