@@ -13,6 +13,7 @@ ghost use Rattle.locked.specs.Called.{Goes, Only};
 ghost use Rattle.shared.specs.Keeps.{IsDisk};
 ghost use Rattle.shared.specs.Workers.{AllEnded, IsEnd, IsWorkerOf, seat_of};
 
+use crate::brief::BriefLock;
 use crate::cache::SharedCache;
 use crate::disk::Disk;
 use crate::ends::carry_through;
@@ -67,7 +68,7 @@ impl<B: Naming, D: BlockDevice, T: Trail> SharedCache<B, D, T> {
                     name,
                     geometry,
                     board,
-                    state: Mutex::new(locked),
+                    state: BriefLock::new(locked),
                     changed,
                     disk,
                     alloc,
@@ -87,7 +88,7 @@ fn drain<B: Naming, D: BlockDevice, T: Trail, R: Wait>(
     rt: &R,
     ring: &Ring,
     disk: &Mutex<Disk<B, D>>,
-    state: &Mutex<Locked<B, T>>,
+    state: &BriefLock<Locked<B, T>>,
     name: u64,
     own: &mut Worker,
 ) -> bool
