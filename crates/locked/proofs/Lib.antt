@@ -4,3 +4,4 @@ pub mod Kept
 pub mod Replied
 pub mod Seats
 pub mod Receipts
+pub mod Numbering

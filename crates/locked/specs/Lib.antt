@@ -5,3 +5,4 @@ pub mod Denials
 pub mod Done
 pub mod Called
 pub mod Firsts
+pub mod Numbers

@@ -1,6 +1,6 @@
 -- What the ends of jobs and the turns of workers say of a seat.
-use Rattle.std.proofs.Common.{◌≡◌, ℕ, zero, suc, [], ◌∷◌, ◌++◌, ap, arith, refl, sym, subst, ◌∙◌}
-use Rattle.std.specs.Prelude.{All, Bool, false, IfNone, IfOk, IfSome, IsOk, Err, Ok, Option, Result, Some, None, is_some}
+use Rattle.std.proofs.Common.{◌≡◌, ℕ, zero, suc, [], ◌∷◌, ◌++◌, ap, arith, refl, sym, subst, ◌∙◌, inl, inr}
+use Rattle.std.specs.Prelude.{All, Bool, false, IfErr, IfNone, IfOk, IfSome, IsOk, Err, Ok, Option, Result, Some, None, is_some}
 use Rattle.std.proofs.lemmas.List.{append_assoc, append-nil}
 use Rattle.std.proofs.lemmas.List.Elements.{All-append, All-nil, All-weaker}
 use Rattle.atomic_table.specs.Seated.{TableId}
@@ -22,11 +22,11 @@ use Rattle.locked.specs.Firsts.{IsFirstDenied, Writes}
 use Rattle.locked.specs.declared.denied.Denied.{Denied}
 use Rattle.locked.proofs.Seats.{goes_same}
 use Rattle.shared.specs.Called.{Makes}
-use Rattle.shared.specs.Denials.{IsDenied, MadeOne}
-use Rattle.shared.specs.Workers.{AllEnded, Begins, Ends, IsEndOf, IsOwnFailure, IsWriteBack, fails_write, popped_by}
+use Rattle.shared.specs.Denials.{IsDenied, IsFullIfNoSlip, MadeOne}
+use Rattle.shared.specs.Workers.{AllEnded, AllSettled, Begins, Ends, IsEndOf, IsOwnFailure, IsSettled, IsWriteBack, fails_write, popped_by}
 use Rattle.shared.specs.declared.ends.Done.{Done}
 use Rattle.shared.specs.declared.worker.Worker.{Worker}
-use Rattle.shared.proofs.Making.{denied_by, denied_on, makes_by, makes_on, makes_then}
+use Rattle.shared.proofs.Making.{denied_by, denied_on, denied_then, makes_by, makes_on, makes_then}
 
 -- ---- ends
 
@@ -167,3 +167,39 @@ pub carried_ended : (a b c : Worker) (job : Task) (result : Result Done Denied) 
 carried_ended a b c job (Ok d) p popped before goes is end =
     one_more_ended a b c job d.slip (is_some d.failed) p popped before goes end.1
 carried_ended a b c job (Err d) p popped before goes is end = absurd cc
+
+-- ---- all jobs that a worker took, with those whose end was refused
+
+pub none_settled : (w : Worker) → AllSettled w w
+none_settled w = ([], sym (append-nil (popped_by w)), All-nil (IsSettled w.seat w.seat))
+
+pub settled_by : (job : Task) (before after : SeatSeen) (result : Result Done Denied)
+    → IfOk result (λ d. (d.serial.0 ≡ job.serial) × Ends job before after d.slip (is_some d.failed))
+    → IfErr result (IsDenied (IsEndOf job) before after) → IfErr result (IsFullIfNoSlip before after)
+    → IsSettled before after job
+settled_by job before after (Ok d) end denied full = inl (d.slip, is_some d.failed, end.1)
+settled_by job before after (Err d) end denied full = inr (d, denied, λ none. (full none).0)
+
+settled_then : (job : Task) (a b c : SeatSeen) → Goes b c → IsSettled a b job → IsSettled a c job
+settled_then job a b c goes (inl p) = inl (p.0, p.1, ends_then job a b c p.0 p.1 p.2 goes)
+settled_then job a b c goes (inr q) = inr (q.0, denied_then (IsEndOf job) a b c q.0 q.1 goes, q.2)
+
+settled_on : (job : Task) (a b c : SeatSeen) → Goes a b → IsSettled b c job → IsSettled a c job
+settled_on job a b c goes (inl p) = inl (p.0, p.1, ends_on job a b c p.0 p.1 goes p.2)
+settled_on job a b c goes (inr q) =
+    inr (q.0, denied_on (IsEndOf job) (IsEndOf job) a b c q.0 (λ e x. x) goes q.1, q.2)
+
+one_settled : (before after : SeatSeen) (job : Task) → IsSettled before after job → All (IsSettled before after) (job ∷ [])
+one_settled before after job p zero d less = p
+one_settled before after job p (suc k) d less = absurd (omega arith)
+
+pub one_more_settled : (a b c : Worker) (job : Task) → AllSettled a b → popped_by c ≡ popped_by b ++ job ∷ [] → Goes a.seat b.seat
+    → Goes b.seat c.seat → IsSettled b.seat c.seat job → AllSettled a c
+one_more_settled a b c job p popped before goes settled = (
+  p.0 ++ job ∷ [],
+  popped ∙ ap (λ jobs. jobs ++ job ∷ []) p.1 ∙ append_assoc (popped_by a) p.0 (job ∷ []),
+  All-append (IsSettled a.seat c.seat) p.0 (job ∷ [])
+      (All-weaker (IsSettled a.seat b.seat) (IsSettled a.seat c.seat)
+      (λ j q. settled_then j a.seat b.seat c.seat goes q) p.0 p.2)
+      (one_settled a.seat c.seat job (settled_on job a.seat b.seat c.seat before settled)),
+)

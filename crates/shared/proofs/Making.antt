@@ -67,7 +67,7 @@ denied_on own wider a b c d f p q = go d.refusal d.slip q
     go r None q = q
     go r (Some slip) q = (q.0, q.1, f q.0 q.2, q.3, makes_on a b c slip q.0 q.1 p q.4)
 
-denied_then : (own : Event → Type 0) (a b c : SeatSeen) (d : Denied) → IsDenied own a b d → Goes b c → IsDenied own a c d
+pub denied_then : (own : Event → Type 0) (a b c : SeatSeen) (d : Denied) → IsDenied own a b d → Goes b c → IsDenied own a c d
 denied_then own a b c d p q = go d.refusal d.slip p
   where
     go : (r : Refusal) (o : Option Slip) → DeniedBy own a b r o → DeniedBy own a c r o

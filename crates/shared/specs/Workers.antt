@@ -1,7 +1,9 @@
 -- Workers, and what their turns make.
-use Rattle.std.specs.Prelude.{◌≡◌, ◌==◌, ◌&&◌, ◌++◌, ◌∷◌, [], All, ℕ, Bool, true, false, List, IfSome, count_by, is_some}
+use Rattle.std.specs.Prelude.{◌≡◌, ◌⊎◌, ◌==◌, ◌&&◌, ◌++◌, ◌∷◌, [], All, ℕ, Bool, true, false, List, IfSome, None, count_by, is_some}
+use mathlib.Core.List.{IsPrefix}
 use Rattle.atomic_table.specs.Seated.{TableId}
 use Rattle.blockdev.specs.Jobs.{Task}
+use Rattle.crossbeam_queue.specs.Fifo.{Held}
 use Rattle.crossbeam_queue.specs.Passes.{view}
 use Rattle.machine.specs.declared.event.Event.{Event}
 use Rattle.machine.specs.declared.event.Event.TheVariants as event
@@ -11,6 +13,8 @@ use Rattle.pc_types.specs.Limits.{Sizes}
 use Rattle.pc_types.specs.declared.ids.FileId.{FileId}
 use Rattle.pc_types.specs.declared.kind.Kind.{Kind}
 use Rattle.pc_types.specs.declared.kind.Kind.TheVariants.{Flush}
+use Rattle.pc_types.specs.declared.refusal.Refusal.TheVariants.{TrailFull}
+use Rattle.ring.specs.Order.{Stands}
 use Rattle.ring.specs.Serving.{Carries, Serves}
 use Rattle.ring.specs.declared.ring.Ring.{Ring}
 use Rattle.trail.specs.declared.entry.Entry.{Entry}
@@ -107,6 +111,27 @@ abbrev pub AllEnded : Worker → Worker → Type 0
 AllEnded old new =
     (jobs : List Task) × (popped_by new ≡ popped_by old ++ jobs)
     × All (λ job. (slip : Slip) × (told : Bool) × Ends job old.seat new.seat slip told) jobs
+
+-- the seat made the end of the job's request; or was refused it, by the end's own entry or by a full trail
+abbrev pub IsSettled : SeatSeen → SeatSeen → Task → Type 0
+IsSettled before after job =
+    ((slip : Slip) × (told : Bool) × Ends job before after slip told)
+    ⊎ ((d : Denied) × IsDenied (IsEndOf job) before after d × (d.slip ≡ None → d.refusal ≡ TrailFull))
+
+-- so it was with each job that the worker took from the ring in between
+abbrev pub AllSettled : Worker → Worker → Type 0
+AllSettled old new =
+    (jobs : List Task) × (popped_by new ≡ popped_by old ++ jobs) × All (IsSettled old.seat new.seat) jobs
+
+-- the worker emptied the ring: it took jobs till there was a moment at which the ring had none, and settled each. It put none
+-- in. The history has all that its seat had seen then
+pub record Drained (own : Worker) (history : List Entry) : Type 0 where
+  pub at : Worker
+  pub taken : AllSettled own at
+  pub pushed : pushed_by at ≡ pushed_by own
+  pub alone : (view at.pass).alone ≡ (view own.pass).alone
+  pub emptied : Held 0 (Stands (view at.pass))
+  pub seen : IsPrefix at.seat.list history
 
 -- each of them was ended but for the last, whose end was refused
 pub record IsRefusedEnd (old new : Worker) (d : Denied) : Type 0 where

@@ -7,6 +7,7 @@ ghost use Rattle.locked.specs.Keeps.{IsLocked};
 ghost use Rattle.shared.specs.Keeps.{IsDisk};
 ghost use Rattle.shared.specs.Workers.{IsWorkerOf};
 
+use crate::brief::BriefLock;
 use crate::disk::Disk;
 use crate::signal::Signal;
 use crate::worker::Worker;
@@ -41,7 +42,7 @@ pub struct SharedCache<B: Naming, D: BlockDevice, T: Trail> {
     pub(crate) name: u64,
     pub(crate) geometry: Geometry,
     pub(crate) board: Board,
-    pub(crate) state: Mutex<Locked<B, T>>,
+    pub(crate) state: BriefLock<Locked<B, T>>,
     // a request has ended
     pub(crate) changed: Condvar,
     pub(crate) disk: Mutex<Disk<B, D>>,
@@ -84,7 +85,7 @@ impl<B: Naming, D: BlockDevice, T: Trail> SharedCache<B, D, T> {
             name,
             geometry,
             board,
-            state: Mutex::new(locked),
+            state: BriefLock::new(locked),
             changed: Condvar::new(),
             disk: Mutex::new(disk),
             alloc,

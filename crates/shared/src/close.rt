@@ -11,8 +11,9 @@ ghost use Rattle.trail.specs.History.{After};
 ghost use Rattle.trail.specs.declared.entry.Entry.{Entry};
 ghost use Rattle.locked.specs.Called.{Goes, Only};
 ghost use Rattle.shared.specs.Keeps.{IsDisk};
-ghost use Rattle.shared.specs.Workers.{AllEnded, IsEnd, IsWorkerOf, seat_of};
+ghost use Rattle.shared.specs.Workers.{AllEnded, AllSettled, Drained, IsEnd, IsWorkerOf, pushed_by, seat_of};
 
+use crate::brief::BriefLock;
 use crate::cache::SharedCache;
 use crate::disk::Disk;
 use crate::ends::carry_through;
@@ -45,7 +46,7 @@ impl<B: Naming, D: BlockDevice, T: Trail> SharedCache<B, D, T> {
         ensures only { IfErr result (λ e. Only (λ x. IsEnd x.event) (seat_of own) (seat_of e.2)) }
         ensures device { IfOk result (λ r. IsDisk B.sizes (D.told r.2)) }
         ensures core { IfOk result (λ r. (r.1.state.name ≡ self.name) × (r.1.state.sizes ≡ B.sizes)) }
-        ensures closed { IfOk result (λ r. (history : List Entry) × T.records r.0 history × (T.cache r.0 ≡ Some self.name) × After r.1.state.sizes r.1.state.name history r.1.state × All (λ s. IsPrefix s.list history × (s.count ≡ count_of s.number history)) seats.items) }
+        ensures closed { IfOk result (λ r. (history : List Entry) × T.records r.0 history × (T.cache r.0 ≡ Some self.name) × After r.1.state.sizes r.1.state.name history r.1.state × Drained own history × All (λ s. IsPrefix s.list history × (s.count ≡ count_of s.number history)) seats.items) }
     {
         let SharedCache {
             name,
@@ -67,7 +68,7 @@ impl<B: Naming, D: BlockDevice, T: Trail> SharedCache<B, D, T> {
                     name,
                     geometry,
                     board,
-                    state: Mutex::new(locked),
+                    state: BriefLock::new(locked),
                     changed,
                     disk,
                     alloc,
@@ -82,12 +83,12 @@ impl<B: Naming, D: BlockDevice, T: Trail> SharedCache<B, D, T> {
 
 /// Carries out and ends what the ring has, till it is empty, and answers whether all ends were made. One is refused only where its
 /// request is in flight no more, and has nothing to be ended then.
-#[tactic(auto, using(locked::proofs::Seats::goes_same, locked::proofs::Seats::goes_on, crate::proofs::Ending::none_ended, crate::proofs::Ending::one_more_ended, locked::proofs::Seats::only_same, crate::proofs::Owning::only_job_on))]
+#[tactic(auto, using(locked::proofs::Seats::goes_same, locked::proofs::Seats::goes_on, crate::proofs::Ending::none_ended, crate::proofs::Ending::one_more_ended, crate::proofs::Ending::none_settled, locked::proofs::Seats::only_same, crate::proofs::Owning::only_job_on))]
 fn drain<B: Naming, D: BlockDevice, T: Trail, R: Wait>(
     rt: &R,
     ring: &Ring,
     disk: &Mutex<Disk<B, D>>,
-    state: &Mutex<Locked<B, T>>,
+    state: &BriefLock<Locked<B, T>>,
     name: u64,
     own: &mut Worker,
 ) -> bool
@@ -96,6 +97,8 @@ fn drain<B: Naming, D: BlockDevice, T: Trail, R: Wait>(
     ensures goes { Goes (seat_of own.old) (seat_of own.new) }
     ensures only { Only (λ e. IsEnd e.event) (seat_of own.old) (seat_of own.new) }
     ensures ended { result ≡ true → AllEnded own.old own.new }
+    ensures taken { AllSettled own.old own.new }
+    ensures same { (pushed_by own.new ≡ pushed_by own.old) × ((view own.new.pass).alone ≡ (view own.old.pass).alone) }
     ensures emptied { Held 0 (Stands (view own.new.pass)) }
 {
     let mut are_ended = true;

@@ -11,6 +11,7 @@ ghost use Rattle.shared.specs.Called.{Makes};
 ghost use Rattle.shared.specs.Denials.{IsDenied, IsFullIfNoSlip, MadeOne};
 ghost use Rattle.shared.specs.Workers.{Ends, IsEndOf, IsOwnFailure, fails_write};
 
+use crate::brief::BriefLock;
 use crate::disk::Disk;
 use crate::handle::FailedWrite;
 use blockdev::{BlockDevice, Finished, Job};
@@ -36,7 +37,7 @@ pub struct Done {
 pub(crate) fn carry_through<B: Naming, D: BlockDevice, T: Trail, R: Wait>(
     rt: &R,
     disk: &Mutex<Disk<B, D>>,
-    state: &Mutex<Locked<B, T>>,
+    state: &BriefLock<Locked<B, T>>,
     name: u64,
     seat: &mut Seat,
     job: Job,

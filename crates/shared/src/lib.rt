@@ -7,6 +7,7 @@
 //! frames, `ends` the end of a job, and `signal` what wakes one. `facts` is what the cache tells of itself, and `disk` the device under
 //! its lock.
 
+mod brief;
 pub mod cache;
 mod close;
 pub mod disk;
