@@ -33,7 +33,7 @@ use Rattle.runs.specs.World.{Ends, Finish, WorldStep}
 use Rattle.machine.proofs.steps.Ends.{of_end, own_end}
 use Rattle.runs.proofs.events.Lookups.{get-insert1}
 use Rattle.runs.proofs.views.View.{put1_here}
-use Rattle.filesvc.specs.Rests as rests
+use Rattle.cachecore.specs.Replies as replies
 use Rattle.filesvc.specs.Rests.{AtOnce, IsServing}
 use Rattle.filesvc.specs.Rooms.{IsMissed, need, wants}
 use Rattle.filesvc.specs.Seen.{SoloSeen}
@@ -60,13 +60,13 @@ module _ (s new : State) (h : HandleId) (p : PageIndex) (r : Reply) (idle : s.re
 
   module _ (kept : (why : Refusal) → r ≡ reply.Refused why → ⊥) where
     -- at once, as a page of zeros
-    quiet_fills : rests.is_job r ≡ false → Step s (event.FillBegin h p) r new → Fills s new (handle_file s h.0) p.0
+    quiet_fills : replies.is_job r ≡ false → Step s (event.FillBegin h p) r new → Fills s new (handle_file s h.0) p.0
     quiet_fills j a = elim (answered (tests s (event.FillBegin h p)) s (event.FillBegin h p) r new a) [
       | inl x ↦ absurd (let y = refuses r x.0 in kept y.0 y.1)
       | inr x ↦ by r j kept x.1 x.2
     ]
       where
-        by : (r : Reply) → rests.is_job r ≡ false → ((why : Refusal) → r ≡ reply.Refused why → ⊥) → MayReply s (event.FillBegin h p) r → new ≡ changed s (event.FillBegin h p) r → Fills s new (handle_file s h.0) p.0
+        by : (r : Reply) → replies.is_job r ≡ false → ((why : Refusal) → r ≡ reply.Refused why → ⊥) → MayReply s (event.FillBegin h p) r → new ≡ changed s (event.FillBegin h p) r → Fills s new (handle_file s h.0) p.0
         by reply.Filled j k may e = record { page = record { bytes = cut [] s.sizes.page; tags = no_tags }; clean = refl; sizes = ap (λ (x : State). x.sizes) e; handles = ap (λ (x : State). x.handles) e; files = ap (λ (x : State). x.files) e; before = idle; after = over }
         by (reply.Job t) j k may e = absurd cc
         by (reply.Refused Memory) j k may e = absurd (k Memory refl)

@@ -22,6 +22,7 @@ use Rattle.machine.specs.declared.event.Outcome as core
 use Rattle.machine.specs.declared.event.Outcome.TheVariants as outcome
 use Rattle.machine.specs.declared.event.Reply.{Reply}
 use Rattle.machine.specs.declared.event.Reply.TheVariants as reply
+use Rattle.cachecore.specs.Replies as replies
 use Rattle.cachecore.specs.Replies.{evicted, outcome_of}
 use Rattle.machine.specs.State.{State, Request, file_at, handle_file, free_frames, is_cached, is_filling, is_open, is_written, page_count}
 use Rattle.machine.specs.Step.{EndReply, MayReply, Step}
@@ -37,7 +38,6 @@ use Rattle.world.proofs.InFlight.{finish_step}
 use Rattle.runs.proofs.moments.KeptRequests.{is_job}
 use Rattle.runs.proofs.events.Lookups.{get-insert1}
 use Rattle.runs.proofs.views.View.{put1_here}
-use Rattle.filesvc.specs.Rests as rests
 use Rattle.filesvc.specs.Rests.{AtOnce, IsService, IsServing}
 use Rattle.filesvc.specs.Rooms.{FlushesOne, IsClean, IsFillRefusal, IsFlush, MakesRoom, Suffices}
 use Rattle.filesvc.specs.Seen.{SoloSeen}
@@ -262,11 +262,11 @@ module _ (s : SoloSeen) (aged new : WorldSeen) (n : ℕ) (r : Option (FileId × 
 
 -- ---- a flush in one
 
-noted_same : (writing : finmap.FinMap nat_cmp (List ℕ)) (r : Reply) (s : State) → rests.is_job r ≡ false → noted writing r s ≡ writing
+noted_same : (writing : finmap.FinMap nat_cmp (List ℕ)) (r : Reply) (s : State) → replies.is_job r ≡ false → noted writing r s ≡ writing
 noted_same writing (reply.Job t) s j = absurd cc
 noted_same writing _ s j = refl
 
-pub held_same : (old new : WorldSeen) (e : Event) (r : Reply) → Made old e r new → rests.is_job r ≡ false → new.core ≡ old.core → new ≡ old
+pub held_same : (old new : WorldSeen) (e : Event) (r : Reply) → Made old e r new → replies.is_job r ≡ false → new.core ≡ old.core → new ≡ old
 held_same old new e r m j c =
     let o = ap (λ x. x.outcomes) m.0.1.1 in
     let b = ap (λ x. x.writing) m.0.1.1 ∙ noted_same old.writing r new.core j in
@@ -279,11 +279,11 @@ squeezed m n c a b d = omega arith
 full_faulted : (name : ℕ) (s : SoloSeen) (table : TableId) → IsServing name s.world table s.errors → is_full s.world.core ≡ true → Faulted s s
 full_faulted name s table i full = inr (squeezed max_calls s.world.core.next s.world.device.calls (no_serial s.world.core i.rests.requests full) i.serials i.counted)
 
-no_flush : (s : State) (f : FileId) (r : Reply) → rests.is_job r ≡ false → MayReply s (event.FlushBegin f) r → ⊥
+no_flush : (s : State) (f : FileId) (r : Reply) → replies.is_job r ≡ false → MayReply s (event.FlushBegin f) r → ⊥
 no_flush s f (reply.Job t) j e = absurd cc
 no_flush s f _ j e = e
 
-quiet_flush : (s new : SoloSeen) (f : FileId) (r : Reply) → rests.is_job r ≡ false → Step s.world.core (event.FlushBegin f) r new.world.core → (new.world.core ≡ s.world.core → new ≡ s) → (is_full s.world.core ≡ true → Faulted s s) → IsFlush s f r new
+quiet_flush : (s new : SoloSeen) (f : FileId) (r : Reply) → replies.is_job r ≡ false → Step s.world.core (event.FlushBegin f) r new.world.core → (new.world.core ≡ s.world.core → new ≡ s) → (is_full s.world.core ≡ true → Faulted s s) → IsFlush s f r new
 quiet_flush s new f r j a same full = elim (answered (tests s.world.core (event.FlushBegin f)) s.world.core (event.FlushBegin f) r new.world.core a) [
   | inl x ↦ tested (same x.1) r x.0 x.0
   | inr x ↦ absurd (no_flush s.world.core f r j x.1)
