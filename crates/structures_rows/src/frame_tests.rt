@@ -9,6 +9,9 @@ use pc_types::{FileId, FrameId, Geometry, PageIndex, Refusal};
 use std::process::Abort;
 use std::test::Fail;
 
+/// A number past that of each frame.
+const NO_FRAME: u32 = u32::MAX;
+
 /// Stops the test unless the frame is taken.
 fn expect_taken(rt: &impl Abort, frames: &Frames, frame: FrameId)
     ensures { is_taken frames.now frame.0 ≡ true }
@@ -45,12 +48,17 @@ fn put(frames: &mut Frames, frame: FrameId, bytes: &[u8])
     frames.bytes_mut(frame).copy_from_slice(bytes);
 }
 
+/// The oldest frame but this one.
+fn first_but(frames: &Frames, but: u32) -> Option<FrameId> {
+    frames.scan(|at| at.0 != but)
+}
+
 fn assert_first(rt: &impl Abort, frames: &Frames, frame: u32) {
-    same(rt, frames.scan(|_| true), Some(FrameId(frame)));
+    same(rt, first_but(frames, NO_FRAME), Some(FrameId(frame)));
 }
 
 fn assert_first_but(rt: &impl Abort, frames: &Frames, but: u32, frame: u32) {
-    same(rt, frames.scan(|at| at.0 != but), Some(FrameId(frame)));
+    same(rt, first_but(frames, but), Some(FrameId(frame)));
 }
 
 fn assert_free(rt: &impl Abort, frames: &Frames, count: u64) {
@@ -68,6 +76,39 @@ fn assert_ages(rt: &impl Abort, frames: &mut Frames, count: u64) {
     same(rt, frames.age(), count);
 }
 
+/// Accesses move a frame from the inactive list to the active one.
+fn check_accesses(rt: &impl Abort, frames: &mut Frames) {
+    // inactive and unreferenced: it becomes referenced, its place unchanged
+    access(rt, frames, 0);
+    assert_first(rt, frames, 0);
+    // inactive and referenced: it goes to the active head
+    access(rt, frames, 0);
+    assert_first(rt, frames, 1);
+    // active: it becomes referenced, its place unchanged
+    access(rt, frames, 0);
+    access(rt, frames, 1);
+    access(rt, frames, 1);
+    // from the inactive tail to its head, then from the active tail to its head
+    assert_first(rt, frames, 2);
+    assert_first_but(rt, frames, 2, 0);
+}
+
+/// Ages the lists, and gives a frame back.
+fn check_ages(rt: &impl Abort, frames: &mut Frames) {
+    // the active tail goes to the inactive head, whatever its flag, while active is longer
+    assert_ages(rt, frames, 1);
+    assert_ages(rt, frames, 0);
+    assert_first(rt, frames, 2);
+    assert_first_but(rt, frames, 2, 0);
+    // and it is unreferenced there, so that one access leaves it in its place
+    access(rt, frames, 0);
+    assert_first_but(rt, frames, 2, 0);
+    // a frame that is given leaves its list, and is the lowest free one again
+    give(rt, frames, 1);
+    assert_free(rt, frames, 46);
+    assert_takes(rt, frames, 13, 1);
+}
+
 #[test]
 fn page_lists_row_by_row(rt: HostRuntime) -> Result<(), Fail> {
     let mut frames = Frames::new(rt.alloc(), &Geometry::new(16, 48, 16, 64)?)?;
@@ -77,31 +118,8 @@ fn page_lists_row_by_row(rt: HostRuntime) -> Result<(), Fail> {
         assert_takes(&rt, &mut frames, 10 + frame as u64, frame);
     }
     assert_first(&rt, &frames, 0);
-    // inactive and unreferenced: it becomes referenced, its place unchanged
-    access(&rt, &mut frames, 0);
-    assert_first(&rt, &frames, 0);
-    // inactive and referenced: it goes to the active head
-    access(&rt, &mut frames, 0);
-    assert_first(&rt, &frames, 1);
-    // active: it becomes referenced, its place unchanged
-    access(&rt, &mut frames, 0);
-    access(&rt, &mut frames, 1);
-    access(&rt, &mut frames, 1);
-    // from the inactive tail to its head, then from the active tail to its head
-    assert_first(&rt, &frames, 2);
-    assert_first_but(&rt, &frames, 2, 0);
-    // the active tail goes to the inactive head, whatever its flag, while active is longer
-    assert_ages(&rt, &mut frames, 1);
-    assert_ages(&rt, &mut frames, 0);
-    assert_first(&rt, &frames, 2);
-    assert_first_but(&rt, &frames, 2, 0);
-    // and it is unreferenced there, so that one access leaves it in its place
-    access(&rt, &mut frames, 0);
-    assert_first_but(&rt, &frames, 2, 0);
-    // a frame that is given leaves its list, and is the lowest free one again
-    give(&rt, &mut frames, 1);
-    assert_free(&rt, &frames, 46);
-    assert_takes(&rt, &mut frames, 13, 1);
+    check_accesses(&rt, &mut frames);
+    check_ages(&rt, &mut frames);
     drop(frames);
     Ok(())
 }
@@ -115,7 +133,8 @@ fn a_frame_keeps_its_bytes_until_it_is_laid(rt: HostRuntime) -> Result<(), Fail>
         frames.bytes_mut(frame).fill(9);
     }
     expect_taken(&rt, &frames, FrameId(0));
-    same(&rt, frames.bytes(FrameId(0)).len(), 16);
+    // a macro, since `put` requires what it says
+    assert_eq!(rt; frames.bytes(FrameId(0)).len(), 16);
     put(&mut frames, FrameId(0), &[1; 16]);
     give(&rt, &mut frames, 0);
     assert_takes(&rt, &mut frames, 2, 0);
@@ -150,7 +169,7 @@ fn a_full_table_is_taken_and_given_back(rt: HostRuntime) -> Result<(), Fail> {
         give(&rt, &mut frames, frame);
     }
     assert_free(&rt, &frames, 65_536);
-    same(&rt, frames.scan(|_| true), None);
+    same(&rt, first_but(&frames, NO_FRAME), None);
     drop(frames);
     Ok(())
 }
