@@ -139,7 +139,8 @@ fn a_frame_keeps_its_bytes_until_it_is_laid(rt: HostRuntime) -> Result<(), Fail>
     give(&rt, &mut frames, 0);
     assert_takes(&rt, &mut frames, 2, 0);
     expect_taken(&rt, &frames, FrameId(0));
-    check(&rt, frames.bytes(FrameId(0)) == [1; 16].as_slice());
+    // and this one, since `lay` does
+    assert_eq!(rt; frames.bytes(FrameId(0)), [1; 16].as_slice());
     frames.lay(FrameId(0), 13, &[5, 6]);
     let laid = [0, 0, 0, 0, 0, 0, 0, 0, 0, 0, 0, 0, 0, 5, 6, 0];
     check(&rt, frames.bytes(FrameId(0)) == laid.as_slice());

@@ -2,7 +2,7 @@
 //!
 //! What is large is dropped by a call, since the check is slow where a ring goes out of scope.
 
-ghost use Rattle.std.specs.Prelude.{◌≡◌, IfOk};
+ghost use Rattle.std.specs.Prelude.{◌≡◌, IfOk, OnOk};
 ghost use Rattle.std.specs.Thread.{IsSync};
 ghost use Rattle.blockdev.specs.Jobs.{IsJobFor};
 ghost use Rattle.ring.specs.Serving.{Carries, Serves};
@@ -113,7 +113,7 @@ fn fill<W: Wait>(
     pass: &mut RingPass,
 ) -> Result<(), Fault>
     requires { Serves ring.now pass.old × Carries 7 64 geometry.now.page pass.old }
-    ensures { Serves ring.now pass.new × Carries 7 64 geometry.now.page pass.new }
+    ensures { OnOk result (Serves ring.now pass.new × Carries 7 64 geometry.now.page pass.new) }
 {
     for _ in 0..GOING_ROUND {
         let next = job(alloc, geometry)?;
