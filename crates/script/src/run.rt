@@ -190,7 +190,7 @@ fn begin<W: Write>(
     }
     let mut first = Session::new(alloc, &default_geometry())?;
     let done = obey(alloc, &mut first, number, command, out);
-    drop(session.replace(first));
+    *session = Some(first);
     done
 }
 

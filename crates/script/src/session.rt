@@ -61,21 +61,13 @@ impl Session {
         let Ok((board, recorder)) = Board::new(alloc) else {
             return Err(Stop::Memory);
         };
-        match new_world(alloc, geometry) {
-            Ok(world) => Ok(Session {
-                world,
-                board,
-                recorder,
-                passes,
-            }),
-            Err(stop) => {
-                // each by a call, since the check is slow where it goes out of scope
-                drop(board);
-                drop(recorder);
-                drop(passes);
-                Err(stop)
-            }
-        }
+        let world = new_world(alloc, geometry)?;
+        Ok(Session {
+            world,
+            board,
+            recorder,
+            passes,
+        })
     }
 
     /// Makes one step of the world. A flush that fails leaves its code on the board.
