@@ -2,32 +2,10 @@
 //! Times the calls of the marked array, of the identifiers, of the error word and of the files: `bench time` prints a row a call, as
 //! `12.34 ns  load, random`.
 //!
-//! `form` has the two forms in which a call is timed, and what a call and a row are. `row` has the rows of the array, `calls` its
-//! calls, `ids`, `words` and `files` the rows and calls of their own, `loops` what the clock runs over, `order` the random order,
-//! `clock` the best time of several rounds, and `report` what is printed.
-//!
-//! `files` has the rows of a file whose pages are all cached, and `paths` those where pages come and go: over that file, over one that
-//! is `larger` than its cache, and over a `bare` cache without a service. `open_file` has what a file is read and written through.
+//! The rows are those of `timed_calls` and `timed_files`, and `report` prints them.
 
-mod bare;
-mod calls;
-mod clock;
-mod fault;
-mod files;
-mod form;
-mod ids;
-mod larger;
-mod loops;
-mod open_file;
-mod order;
-mod paths;
 mod report;
-mod row;
-#[cfg(test)]
-mod tests;
-mod words;
 
-use fault::Fault;
 use report::print_rows;
 use std::env;
 use std::io::Write;

@@ -1,19 +1,19 @@
 //! What is printed: a row a line, first of the calls that may be inlined, then of those that may not, then of the files, and last of the
 //! paths.
 
-ghost use Rattle.std.specs.Prelude.{◌≡◌, ◌*◌, ◌/◌, ◌^◌, ◌<◌};
-
-use crate::bare::Bare;
-use crate::clock::{Best, time_file_row, time_path, time_row};
-use crate::fault::Fault;
-use crate::files::{Cached, FileRow};
-use crate::form::{Form, Inlined, Outlined, Timed};
-use crate::ids::IdRow;
-use crate::larger::Larger;
-use crate::order::random_order;
-use crate::paths::{BarePath, CachedPath, LargerPath, Path};
-use crate::row::Row;
-use crate::words::WordRow;
+use std::io::Write;
+use timed_calls::form::{Form, Inlined, Outlined, Timed};
+use timed_calls::ids::IdRow;
+use timed_calls::order::random_order;
+use timed_calls::row::Row;
+use timed_calls::time_row;
+use timed_calls::words::WordRow;
+use timed_files::bare::Bare;
+use timed_files::files::{Cached, FileRow};
+use timed_files::larger::Larger;
+use timed_files::paths::{BarePath, CachedPath, LargerPath, Path};
+use timed_files::{time_file_row, time_path};
+use timing::{Fault, write_row};
 
 /// What a label ends with where each call goes through a function that is not inlined.
 const OUTLINED: &str = ", not inlined";
@@ -27,7 +27,7 @@ pub fn print_rows(rt: &HostRuntime) -> Result<(), Fault> {
     sum = sum.wrapping_add(print_larger(rt, order)?);
     sum = sum.wrapping_add(print_bare(rt)?);
     // The sum of all answers: what was timed has to be computed.
-    eprintln!(rt; "bench: sum of the answers {sum}")?;
+    writeln!(rt.stderr(), "bench: sum of the answers {sum}")?;
     Ok(())
 }
 
@@ -49,16 +49,20 @@ fn print_each<F: Form, R: Timed>(
     let mut sum = 0u64;
     for row in rows {
         let row = *row;
-        let timed = time_row::<F, R>(rt, rt.alloc(), row, order)?;
-        print_row(rt, timed, row.count(), row.label(), ending)?;
-        sum = sum.wrapping_add(timed.sum);
+        let best = time_row::<F, R>(rt, rt.alloc(), row, order)?;
+        write_row(&mut rt.stdout(), best, row.count(), row.label(), ending)?;
+        sum = sum.wrapping_add(best.sum);
     }
     Ok(sum)
 }
 
 /// Prints each row over the file whose pages are all cached, and gives the sum of their answers.
 fn print_files(rt: &HostRuntime, order: &[u64]) -> Result<u64, Fault> {
-    print_file_rows(rt, &mut Cached::new(rt.alloc())?, order)
+    let mut cached = Cached::new(rt.alloc())?;
+    let sum = print_file_rows(rt, &mut cached, order);
+    // by a call, since the check is slow where a service goes out of scope
+    drop(cached);
+    sum
 }
 
 fn print_file_rows(rt: &HostRuntime, cached: &mut Cached, order: &[u64]) -> Result<u64, Fault> {
@@ -66,16 +70,19 @@ fn print_file_rows(rt: &HostRuntime, cached: &mut Cached, order: &[u64]) -> Resu
     let mut sum = 0u64;
     for row in FileRow::ALL {
         let offsets = row.offsets(rt.alloc(), order)?;
-        let timed = time_file_row(rt, cached, row, offsets.as_slice())?;
-        print_row(rt, timed, row.count(), row.label(), "")?;
-        sum = sum.wrapping_add(timed.sum);
+        let best = time_file_row(rt, cached, row, offsets.as_slice())?;
+        write_row(&mut rt.stdout(), best, row.count(), row.label(), "")?;
+        sum = sum.wrapping_add(best.sum);
     }
     Ok(sum.wrapping_add(print_paths(rt, cached, &CachedPath::ALL)?))
 }
 
 /// Prints each row over the file that is larger than its cache, and gives the sum of their answers.
 fn print_larger(rt: &HostRuntime, order: &[u64]) -> Result<u64, Fault> {
-    print_larger_rows(rt, &mut Larger::new(rt.alloc(), order)?)
+    let mut larger = Larger::new(rt.alloc(), order)?;
+    let sum = print_larger_rows(rt, &mut larger);
+    drop(larger);
+    sum
 }
 
 fn print_larger_rows(rt: &HostRuntime, larger: &mut Larger) -> Result<u64, Fault> {
@@ -85,7 +92,10 @@ fn print_larger_rows(rt: &HostRuntime, larger: &mut Larger) -> Result<u64, Fault
 
 /// Prints each row over the cache without a service, and gives the sum of their answers.
 fn print_bare(rt: &HostRuntime) -> Result<u64, Fault> {
-    print_paths(rt, &mut Bare::new(rt.alloc())?, &BarePath::ALL)
+    let mut bare = Bare::new(rt.alloc())?;
+    let sum = print_paths(rt, &mut bare, &BarePath::ALL);
+    drop(bare);
+    sum
 }
 
 /// Prints rows over one thing, and gives the sum of their answers.
@@ -93,33 +103,9 @@ fn print_paths<P: Path>(rt: &HostRuntime, on: &mut P::On, paths: &[P]) -> Result
     let mut sum = 0u64;
     for path in paths {
         let path = *path;
-        let timed = time_path(rt, on, path)?;
-        print_row(rt, timed, path.count(), path.label(), "")?;
-        sum = sum.wrapping_add(timed.sum);
+        let best = time_path(rt, on, path)?;
+        write_row(&mut rt.stdout(), best, path.count(), path.label(), "")?;
+        sum = sum.wrapping_add(best.sum);
     }
     Ok(sum)
-}
-
-/// Prints `12.34 ns  LABEL`.
-fn print_row(
-    rt: &HostRuntime,
-    timed: Best,
-    count: u64,
-    label: &str,
-    ending: &str,
-) -> Result<(), Fault>
-    requires { 0 < count }
-{
-    let hundredths = hundredths_each(timed.nanos, count);
-    let (whole, part) = (hundredths / 100, hundredths % 100);
-    println!(rt; "{whole}.{part:02} ns  {label}{ending}")?;
-    Ok(())
-}
-
-/// The hundredths of a nanosecond that each of so many took, rounded down.
-pub fn hundredths_each(nanos: u64, count: u64) -> u64
-    requires { 0 < count }
-    ensures { nanos < 2 ^ 57 → result ≡ nanos * 100 / count }
-{
-    nanos.saturating_mul(100) / count
 }

@@ -2,42 +2,24 @@
 //! Times what several threads share: `bench_shared time [PATH]` prints a row a call, as `12.34 ns  append of a read of 64 bytes`.
 //! The rows of a device and those of syncs stand over files that are made at PATH and beside it, and are left out without one.
 //!
-//! `trails` has the rows of the trail, `holds` those of the locked state, `jobs` those of the ring, `reads` those of cached reads, `blocks` those of a device
-//! over a file, and `syncs` those of syncs. `cached` has what the reads of a shared cache are compared with, `readers` the threads that read, `opened` a file
-//! of a service for one thread, `numbers` a cheap generator, `clock` the best time of several rounds, and `report` what is printed.
+//! The rows are those of `timed_threads`, and `report` prints them.
 
-mod blocks;
-mod cached;
-mod clock;
-mod fault;
-mod holds;
-mod jobs;
-mod numbers;
-mod opened;
-mod readers;
-mod reads;
 mod report;
-#[cfg(test)]
-mod sync_tests;
-mod syncs;
-#[cfg(test)]
-mod tests;
-mod trails;
 
-use fault::Fault;
 use report::print_rows;
 use std::env;
 use std::io::Write;
 use std::process::ExitCode;
 use std::sync::Wait;
 use std::thread::Threads;
+use std::time::Clock;
 
 fn main(rt: HostRuntime) -> ExitCode {
     ExitCode::from(run_program(&rt, &rt))
 }
 
 /// Does what the arguments ask for, and gives the status.
-fn run_program<W: Wait + Threads + Sync>(rt: &HostRuntime, threads: &W) -> u8 {
+fn run_program<W: Wait + Threads + Clock + Sync>(rt: &HostRuntime, threads: &W) -> u8 {
     let Some(path) = path_asked(rt) else {
         let _ = writeln!(rt.stderr(), "bench_shared: usage: bench_shared time [PATH]");
         return 2;

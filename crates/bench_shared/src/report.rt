@@ -1,20 +1,21 @@
 //! What is printed: a row a line.
 
-ghost use Rattle.std.specs.Prelude.{◌≡◌, ◌*◌, ◌/◌, ◌^◌, ◌<◌};
+ghost use Rattle.std.specs.Prelude.{◌<◌};
 
-use crate::blocks::{BLOCKS, Disk, DiskRow};
-use crate::clock::{ROUNDS, Timed, time_disk_row, time_trail_row};
-use crate::fault::Fault;
-use crate::holds::READS;
-use crate::jobs::TURNS;
-use crate::trails::{Recorded, TrailRow};
-use crate::{holds, jobs, reads, syncs};
+use std::io::Write;
 use std::sync::Wait;
 use std::thread::Threads;
+use std::time::Clock;
+use timed_threads::blocks::{BLOCKS, Disk, DiskRow};
+use timed_threads::holds::READS;
+use timed_threads::jobs::TURNS;
+use timed_threads::trails::{Recorded, TrailRow};
+use timed_threads::{ROUNDS, holds, jobs, reads, syncs, time_disk_row, time_trail_row};
+use timing::{Best, Fault, write_row};
 
 /// Prints all rows. Those of a device and of syncs stand over files that are made at the path and beside it, and are left out if there
 /// is none.
-pub fn print_rows<W: Wait + Threads + Sync>(
+pub fn print_rows<W: Wait + Threads + Clock + Sync>(
     rt: &HostRuntime,
     threads: &W,
     path: Option<&str>,
@@ -27,27 +28,37 @@ pub fn print_rows<W: Wait + Threads + Sync>(
         sum = sum.wrapping_add(print_syncs(rt, path)?);
     }
     // The sum of all answers: what was timed has to be computed.
-    eprintln!(rt; "bench_shared: sum of the answers {sum}")?;
+    writeln!(rt.stderr(), "bench_shared: sum of the answers {sum}")?;
     Ok(())
 }
 
 /// Prints each row of the trail, and gives the sum of their answers.
 fn print_trails(rt: &HostRuntime) -> Result<u64, Fault> {
     let mut recorded = Recorded::new(rt.alloc())?;
+    let sum = print_trail_rows(rt, &mut recorded);
+    // by a call, since the check is slow where a trail goes out of scope
+    drop(recorded);
+    sum
+}
+
+fn print_trail_rows(rt: &HostRuntime, recorded: &mut Recorded) -> Result<u64, Fault> {
     let mut sum = 0u64;
     for row in TrailRow::ALL {
-        let timed = time_trail_row(rt, rt.alloc(), &mut recorded, row)?;
-        print_row(rt, timed, row.count(), row.label())?;
-        sum = sum.wrapping_add(timed.sum);
+        let best = time_trail_row(rt, rt.alloc(), recorded, row)?;
+        print_row(rt, best, row.count(), row.label())?;
+        sum = sum.wrapping_add(best.sum);
     }
     Ok(sum)
 }
 
-fn print_jobs<W: Wait + Threads + Sync>(rt: &HostRuntime, threads: &W) -> Result<u64, Fault> {
-    let (mut alone, mut handed) = (Timed::NONE, Timed::NONE);
+fn print_jobs<W: Wait + Threads + Clock + Sync>(
+    rt: &HostRuntime,
+    threads: &W,
+) -> Result<u64, Fault> {
+    let (mut alone, mut handed) = (Best::NONE, Best::NONE);
     for _ in 0..ROUNDS {
-        jobs::time_alone(rt, threads, &mut alone)?;
-        jobs::time_between_two(rt, threads, &mut handed)?;
+        jobs::time_alone(threads, rt.alloc(), &mut alone)?;
+        jobs::time_between_two(threads, rt.alloc(), &mut handed)?;
     }
     print_row(rt, alone, TURNS, "push and pop of a job, one thread")?;
     // Each of the two threads hands on so many.
@@ -56,29 +67,38 @@ fn print_jobs<W: Wait + Threads + Sync>(rt: &HostRuntime, threads: &W) -> Result
 }
 
 fn print_blocks(rt: &HostRuntime, path: &str) -> Result<u64, Fault> {
-    let mut disk = Disk::new(rt, path)?;
+    let mut disk = Disk::new(rt, rt.alloc(), path)?;
+    let sum = print_disk_rows(rt, &mut disk);
+    drop(disk);
+    sum
+}
+
+fn print_disk_rows(rt: &HostRuntime, disk: &mut Disk) -> Result<u64, Fault> {
     let mut sum = 0u64;
     for row in DiskRow::ALL {
-        let timed = time_disk_row(rt, &mut disk, row)?;
-        print_row(rt, timed, u64::from(BLOCKS), row.label())?;
-        sum = sum.wrapping_add(timed.sum);
+        let best = time_disk_row(rt, disk, row)?;
+        print_row(rt, best, u64::from(BLOCKS), row.label())?;
+        sum = sum.wrapping_add(best.sum);
     }
     Ok(sum)
 }
 
 /// Prints each row of cached reads.
-fn print_reads<W: Wait + Threads + Sync>(rt: &HostRuntime, threads: &W) -> Result<u64, Fault> {
+fn print_reads<W: Wait + Threads + Clock + Sync>(
+    rt: &HostRuntime,
+    threads: &W,
+) -> Result<u64, Fault> {
     let mut sum = 0u64;
-    for entry in &reads::time_reads(rt, threads, reads::READS, reads::ROUNDS)? {
-        print_row(rt, entry.timed, entry.row.count(), entry.row.label())?;
-        sum = sum.wrapping_add(entry.timed.sum);
+    for entry in &reads::time_reads(threads, rt.alloc(), reads::READS, reads::ROUNDS)? {
+        print_row(rt, entry.best, entry.row.count(), entry.row.label())?;
+        sum = sum.wrapping_add(entry.best.sum);
     }
     Ok(sum)
 }
 
 /// Prints an fsync, and the same pages written to a plain file and synced.
 fn print_syncs(rt: &HostRuntime, path: &str) -> Result<u64, Fault> {
-    let times = syncs::time_syncs(rt, path)?;
+    let times = syncs::time_syncs(rt, rt.alloc(), path)?;
     print_row(
         rt,
         times.synced,
@@ -109,19 +129,8 @@ fn print_holds(rt: &HostRuntime) -> Result<u64, Fault> {
 }
 
 /// Prints `12.34 ns  LABEL`.
-fn print_row(rt: &HostRuntime, timed: Timed, count: u64, label: &str) -> Result<(), Fault>
+fn print_row(rt: &HostRuntime, best: Best, count: u64, label: &str) -> Result<(), Fault>
     requires { 0 < count }
 {
-    let hundredths = hundredths_each(timed.best, count);
-    let (whole, part) = (hundredths / 100, hundredths % 100);
-    println!(rt; "{whole}.{part:02} ns  {label}")?;
-    Ok(())
-}
-
-/// The hundredths of a nanosecond that each of so many took, rounded down.
-pub fn hundredths_each(nanos: u64, count: u64) -> u64
-    requires { 0 < count }
-    ensures { nanos < 2 ^ 57 → result ≡ nanos * 100 / count }
-{
-    nanos.saturating_mul(100) / count
+    write_row(&mut rt.stdout(), best, count, label, "")
 }

@@ -91,7 +91,10 @@ fn run_lines<R: BufRead + Drop, W: Write>(
 {
     let mut lines = Lines::new(alloc, reader);
     let mut session = None;
-    answer_lines(alloc, &mut lines, &mut session, out)
+    let end = answer_lines(alloc, &mut lines, &mut session, out);
+    // by a call, since the check is slow where a session goes out of scope
+    drop(session);
+    end
 }
 
 /// Runs the lines, one after the other.
@@ -221,7 +224,8 @@ fn put_session(
     ensures fresh { OnOk result (session.new ≡ Some (session_of_sizes geometry.now)) }
     ensures refused { IsOkUnless result Stop.Memory }
 {
-    *session = Some(Session::new(alloc, geometry)?);
+    let made = Session::new(alloc, geometry)?;
+    drop(session.replace(made));
     Ok(())
 }
 

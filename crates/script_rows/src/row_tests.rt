@@ -1,32 +1,27 @@
 //! Scripts that make device calls, each line beside its answer.
 
 use crate::tests::{Outcome, check};
-use std::alloc::Global;
+use std::alloc::{AllocError, Global};
 use std::process::Abort;
 use std::test::Fail;
 
-/// The lines after a file was created and opened, with their answers.
-fn check_row(rt: &impl Abort, alloc: Global, row: &[(&str, &str)]) -> Result<(), Fail> {
-    check_whole(rt, alloc, "create\nopen 0\n", "file 0\nhandle 0\n", row)
+/// The first lines of a script, with their answers.
+const OPENED: &str = "create  file 0
+    open 0  handle 0";
+
+/// The lines after a file was created and opened. Behind each line, past two spaces or more, stands its answer.
+fn check_row(rt: &impl Abort, alloc: Global, rows: &str) -> Result<(), Fail> {
+    check_whole(rt, alloc, OPENED, rows)
 }
 
 /// The same after other first lines.
-fn check_whole(
-    rt: &impl Abort,
-    alloc: Global,
-    first: &str,
-    answers: &str,
-    row: &[(&str, &str)],
-) -> Result<(), Fail> {
+fn check_whole(rt: &impl Abort, alloc: Global, first: &str, rows: &str) -> Result<(), Fail> {
     let mut script = String::new(alloc);
     let mut output = String::new(alloc);
-    script.push_str(first)?;
-    output.push_str(answers)?;
-    for (line, answer) in row {
-        script.push_str(line)?;
-        script.push('\n')?;
-        output.push_str(answer)?;
-        output.push('\n')?;
+    for row in first.lines().chain(rows.lines()) {
+        let (line, answer) = row.trim().split_once("  ").unwrap_or((row, "no answer"));
+        push_line(&mut script, line)?;
+        push_line(&mut output, answer.trim())?;
     }
     let expected = Outcome {
         output: output.as_str(),
@@ -36,25 +31,27 @@ fn check_whole(
     check(rt, alloc, script.as_bytes(), &expected)
 }
 
+fn push_line(text: &mut String, line: &str) -> Result<(), AllocError> {
+    text.push_str(line)?;
+    text.push('\n')
+}
+
 /// A page that is written back counts no longer as dirty.
 #[test]
 fn a_written_page_makes_room_for_another(rt: HostRuntime) -> Result<(), Fail> {
     let alloc = rt.alloc();
     let many = "ab".repeat(alloc, 256)?;
     let write = format!(in alloc; "write 0 0 {many}")?;
-    check_row(
-        &rt,
-        alloc,
-        &[
-            (write.as_str(), "wrote 256"),
-            ("write 0 256 ff", "refused 10"),
-            ("size 0", "size 256"),
-            ("flush 0", "job 0"),
-            ("do 0", "done"),
-            ("end 0", "written"),
-            ("write 0 256 ff", "wrote 1"),
-        ],
-    )
+    let rows = format!(in alloc;
+        "{write}         wrote 256
+        write 0 256 ff  refused 10
+        size 0          size 256
+        flush 0         job 0
+        do 0            done
+        end 0           written
+        write 0 256 ff  wrote 1"
+    )?;
+    check_row(&rt, alloc, rows.as_str())
 }
 
 /// What is written while a write is in flight stays dirty, whether this one goes well or fails.
@@ -64,31 +61,27 @@ fn a_page_written_meanwhile_stays_dirty(rt: HostRuntime) -> Result<(), Fail> {
     check_row(
         &rt,
         alloc,
-        &[
-            ("write 0 0 aa", "wrote 1"),
-            ("flush 0", "job 0"),
-            ("write 0 0 bb", "wrote 1"),
-            ("do 0", "done"),
-            ("end 0", "written"),
-            ("tags 0 0", "D"),
-            ("read 0 0 1", "bytes bb"),
-            ("evict", "none"),
-        ],
+        "write 0 0 aa  wrote 1
+        flush 0       job 0
+        write 0 0 bb  wrote 1
+        do 0          done
+        end 0         written
+        tags 0 0      D
+        read 0 0 1    bytes bb
+        evict         none",
     )?;
     check_row(
         &rt,
         alloc,
-        &[
-            ("write 0 0 aa", "wrote 1"),
-            ("flush 0", "job 0"),
-            ("write 0 0 bb", "wrote 1"),
-            ("fail 0 5 new", "failed"),
-            ("end 0", "failed 5"),
-            ("tags 0 0", "D"),
-            ("read 0 0 1", "bytes bb"),
-            ("fail 9 0 old", "refused 21"),
-            ("fail 9 5 old", "refused 15"),
-        ],
+        "write 0 0 aa  wrote 1
+        flush 0       job 0
+        write 0 0 bb  wrote 1
+        fail 0 5 new  failed
+        end 0         failed 5
+        tags 0 0      D
+        read 0 0 1    bytes bb
+        fail 9 0 old  refused 21
+        fail 9 5 old  refused 15",
     )
 }
 
@@ -99,14 +92,12 @@ fn a_failed_write_loses_nothing(rt: HostRuntime) -> Result<(), Fail> {
     check_row(
         &rt,
         alloc,
-        &[
-            ("write 0 0 aa", "wrote 1"),
-            ("flush 0", "job 0"),
-            ("fail 0 5 old", "failed"),
-            ("end 0", "failed 5"),
-            ("tags 0 0", "D"),
-            ("read 0 0 1", "bytes aa"),
-        ],
+        "write 0 0 aa  wrote 1
+        flush 0       job 0
+        fail 0 5 old  failed
+        end 0         failed 5
+        tags 0 0      D
+        read 0 0 1    bytes aa",
     )
 }
 
@@ -117,21 +108,19 @@ fn a_truncation_cuts_a_page_on_the_device(rt: HostRuntime) -> Result<(), Fail> {
     check_row(
         &rt,
         alloc,
-        &[
-            ("write 0 0 11111111111111111111111111111111", "wrote 16"),
-            ("flush 0", "job 0"),
-            ("do 0", "done"),
-            ("end 0", "written"),
-            ("evict", "evicted 0 0"),
-            ("truncate 0 4", "miss 0"),
-            ("fill 0 0", "job 1"),
-            ("do 1", "done"),
-            ("end 1", "filled"),
-            ("truncate 0 4", "ok"),
-            ("tags 0 0", "D"),
-            ("truncate 0 16", "ok"),
-            ("read 0 0 16", "bytes 11111111000000000000000000000000"),
-        ],
+        "write 0 0 11111111111111111111111111111111  wrote 16
+        flush 0                                     job 0
+        do 0                                        done
+        end 0                                       written
+        evict                                       evicted 0 0
+        truncate 0 4                                miss 0
+        fill 0 0                                    job 1
+        do 1                                        done
+        end 1                                       filled
+        truncate 0 4                                ok
+        tags 0 0                                    D
+        truncate 0 16                               ok
+        read 0 0 16                                 bytes 11111111000000000000000000000000",
     )
 }
 
@@ -142,37 +131,34 @@ fn requests_outlive_the_pages_that_are_cut_off(rt: HostRuntime) -> Result<(), Fa
     check_whole(
         &rt,
         alloc,
-        "config 16 48 16 1\ncreate\nopen 0\n",
-        "configured\nfile 0\nhandle 0\n",
-        &[
-            ("write 0 0 aa", "wrote 1"),
-            ("flush 0", "job 0"),
-            ("truncate 0 0", "ok"),
-            ("write 0 0 bb", "refused 9"),
-            ("do 0", "done"),
-            ("end 0", "dropped"),
-            ("end 0", "refused 15"),
-            ("write 0 0 bb", "wrote 1"),
-            ("read 0 0 9", "bytes bb"),
-        ],
+        "config 16 48 16 1  configured
+        create             file 0
+        open 0             handle 0",
+        "write 0 0 aa  wrote 1
+        flush 0       job 0
+        truncate 0 0  ok
+        write 0 0 bb  refused 9
+        do 0          done
+        end 0         dropped
+        end 0         refused 15
+        write 0 0 bb  wrote 1
+        read 0 0 9    bytes bb",
     )?;
     check_row(
         &rt,
         alloc,
-        &[
-            ("write 0 0 11111111111111111111111111111111", "wrote 16"),
-            ("flush 0", "job 0"),
-            ("do 0", "done"),
-            ("end 0", "written"),
-            ("evict", "evicted 0 0"),
-            ("fill 0 0", "job 1"),
-            ("read 0 0 1", "wait 0"),
-            ("truncate 0 0", "ok"),
-            ("write 0 0 22", "wrote 1"),
-            ("do 1", "done"),
-            ("end 1", "dropped"),
-            ("read 0 0 16", "bytes 22"),
-        ],
+        "write 0 0 11111111111111111111111111111111  wrote 16
+        flush 0                                     job 0
+        do 0                                        done
+        end 0                                       written
+        evict                                       evicted 0 0
+        fill 0 0                                    job 1
+        read 0 0 1                                  wait 0
+        truncate 0 0                                ok
+        write 0 0 22                                wrote 1
+        do 1                                        done
+        end 1                                       dropped
+        read 0 0 16                                 bytes 22",
     )
 }
 
@@ -183,24 +169,23 @@ fn a_cut_block_is_used_again(rt: HostRuntime) -> Result<(), Fail> {
     check_whole(
         &rt,
         alloc,
-        "config 16 48 16 2\ncreate\nopen 0\n",
-        "configured\nfile 0\nhandle 0\n",
-        &[
-            ("write 0 0 aa", "wrote 1"),
-            ("flush 0", "job 0"),
-            ("truncate 0 0", "ok"),
-            ("write 0 0 bb", "wrote 1"),
-            ("flush 0", "job 1"),
-            ("do 1", "done"),
-            ("do 0", "done"),
-            ("end 0", "dropped"),
-            ("end 1", "written"),
-            ("evict", "evicted 0 0"),
-            ("fill 0 0", "job 2"),
-            ("do 2", "done"),
-            ("end 2", "filled"),
-            ("read 0 0 1", "bytes bb"),
-        ],
+        "config 16 48 16 2  configured
+        create             file 0
+        open 0             handle 0",
+        "write 0 0 aa  wrote 1
+        flush 0       job 0
+        truncate 0 0  ok
+        write 0 0 bb  wrote 1
+        flush 0       job 1
+        do 1          done
+        do 0          done
+        end 0         dropped
+        end 1         written
+        evict         evicted 0 0
+        fill 0 0      job 2
+        do 2          done
+        end 2         filled
+        read 0 0 1    bytes bb",
     )
 }
 
@@ -210,34 +195,31 @@ fn pages_in_use_are_evicted_last(rt: HostRuntime) -> Result<(), Fail> {
     let alloc = rt.alloc();
     let bytes = "01".repeat(alloc, 48)?;
     let write = format!(in alloc; "write 0 0 {bytes}")?;
-    check_row(
-        &rt,
-        alloc,
-        &[
-            (write.as_str(), "wrote 48"),
-            ("flush 0", "job 0"),
-            ("do 0", "done"),
-            ("end 0", "written"),
-            ("flush 0", "job 1"),
-            ("do 1", "done"),
-            ("end 1", "written"),
-            ("flush 0", "job 2"),
-            ("do 2", "done"),
-            ("end 2", "written"),
-            ("read 0 0 1", "bytes 01"),
-            ("read 0 0 1", "bytes 01"),
-            ("age", "aged 0"),
-            ("evict", "evicted 0 1"),
-            ("evict", "evicted 0 2"),
-            ("age", "aged 1"),
-            ("evict", "evicted 0 0"),
-            ("evict", "none"),
-            ("fill 0 0", "job 3"),
-            ("fail 3 5 old", "failed"),
-            ("end 3", "failed 5"),
-            ("tags 0 0", "absent"),
-        ],
-    )
+    let rows = format!(in alloc;
+        "{write}       wrote 48
+        flush 0       job 0
+        do 0          done
+        end 0         written
+        flush 0       job 1
+        do 1          done
+        end 1         written
+        flush 0       job 2
+        do 2          done
+        end 2         written
+        read 0 0 1    bytes 01
+        read 0 0 1    bytes 01
+        age           aged 0
+        evict         evicted 0 1
+        evict         evicted 0 2
+        age           aged 1
+        evict         evicted 0 0
+        evict         none
+        fill 0 0      job 3
+        fail 3 5 old  failed
+        end 3         failed 5
+        tags 0 0      absent"
+    )?;
+    check_row(&rt, alloc, rows.as_str())
 }
 
 /// A sync writes the pages that were dirty as it began, and waits for these writes. A page that is written meanwhile stays
@@ -248,22 +230,20 @@ fn a_sync_writes_what_was_dirty_as_it_began(rt: HostRuntime) -> Result<(), Fail>
     check_row(
         &rt,
         alloc,
-        &[
-            ("write 0 0 aa", "wrote 1"),
-            ("write 0 32 bb", "wrote 1"),
-            ("sync 0", "sync 0"),
-            ("write 0 16 cc", "wrote 1"),
-            ("step 0", "job 0"),
-            ("step 0", "job 1"),
-            ("step 0", "wait 0"),
-            ("do 0", "done"),
-            ("end 0", "written"),
-            ("step 0", "wait 2"),
-            ("do 1", "done"),
-            ("end 1", "written"),
-            ("step 0", "clean"),
-            ("tags 0 1", "D"),
-        ],
+        "write 0 0 aa   wrote 1
+        write 0 32 bb  wrote 1
+        sync 0         sync 0
+        write 0 16 cc  wrote 1
+        step 0         job 0
+        step 0         job 1
+        step 0         wait 0
+        do 0           done
+        end 0          written
+        step 0         wait 2
+        do 1           done
+        end 1          written
+        step 0         clean
+        tags 0 1       D",
     )
 }
 
@@ -275,36 +255,32 @@ fn a_sync_waits_for_writes_that_are_in_flight(rt: HostRuntime) -> Result<(), Fai
     check_row(
         &rt,
         alloc,
-        &[
-            ("write 0 0 aa", "wrote 1"),
-            ("flush 0", "job 0"),
-            ("write 0 0 bb", "wrote 1"),
-            ("sync 0", "sync 0"),
-            ("tags 0 0", "DWT"),
-            ("step 0", "wait 0"),
-            ("do 0", "done"),
-            ("end 0", "written"),
-            ("tags 0 0", "DT"),
-            ("step 0", "job 1"),
-            ("tags 0 0", "W"),
-            ("step 0", "wait 0"),
-            ("do 1", "done"),
-            ("end 1", "written"),
-            ("step 0", "clean"),
-        ],
+        "write 0 0 aa  wrote 1
+        flush 0       job 0
+        write 0 0 bb  wrote 1
+        sync 0        sync 0
+        tags 0 0      DWT
+        step 0        wait 0
+        do 0          done
+        end 0         written
+        tags 0 0      DT
+        step 0        job 1
+        tags 0 0      W
+        step 0        wait 0
+        do 1          done
+        end 1         written
+        step 0        clean",
     )?;
     check_row(
         &rt,
         alloc,
-        &[
-            ("write 0 0 aa", "wrote 1"),
-            ("sync 0", "sync 0"),
-            ("flush 0", "job 0"),
-            ("step 0", "wait 0"),
-            ("do 0", "done"),
-            ("end 0", "written"),
-            ("step 0", "clean"),
-        ],
+        "write 0 0 aa  wrote 1
+        sync 0        sync 0
+        flush 0       job 0
+        step 0        wait 0
+        do 0          done
+        end 0         written
+        step 0        clean",
     )
 }
 
@@ -315,16 +291,14 @@ fn a_sync_keeps_its_handle_open(rt: HostRuntime) -> Result<(), Fail> {
     check_row(
         &rt,
         alloc,
-        &[
-            ("sync 0", "sync 0"),
-            ("close 0", "refused 12"),
-            ("drop 0", "dropped"),
-            ("close 0", "closed"),
-            ("size 0", "refused 4"),
-            ("open 1", "refused 5"),
-            ("sync 0", "refused 4"),
-            ("drop 0", "refused 15"),
-        ],
+        "sync 0   sync 0
+        close 0  refused 12
+        drop 0   dropped
+        close 0  closed
+        size 0   refused 4
+        open 1   refused 5
+        sync 0   refused 4
+        drop 0   refused 15",
     )
 }
 
@@ -335,16 +309,14 @@ fn a_sync_tells_of_a_failed_write(rt: HostRuntime) -> Result<(), Fail> {
     check_row(
         &rt,
         alloc,
-        &[
-            ("write 0 0 aa", "wrote 1"),
-            ("sync 0", "sync 0"),
-            ("step 0", "job 0"),
-            ("fail 0 5 old", "failed"),
-            ("end 0", "failed 5"),
-            ("step 0", "failed 5"),
-            ("tags 0 0", "D"),
-            ("step 0", "refused 15"),
-        ],
+        "write 0 0 aa  wrote 1
+        sync 0        sync 0
+        step 0        job 0
+        fail 0 5 old  failed
+        end 0         failed 5
+        step 0        failed 5
+        tags 0 0      D
+        step 0        refused 15",
     )
 }
 
@@ -354,19 +326,16 @@ fn a_sync_awaits_no_page_that_was_cut_off(rt: HostRuntime) -> Result<(), Fail> {
     let alloc = rt.alloc();
     let bytes = "ab".repeat(alloc, 32)?;
     let write = format!(in alloc; "write 0 0 {bytes}")?;
-    check_row(
-        &rt,
-        alloc,
-        &[
-            (write.as_str(), "wrote 32"),
-            ("sync 0", "sync 0"),
-            ("step 0", "job 0"),
-            ("truncate 0 0", "ok"),
-            ("step 0", "clean"),
-            ("do 0", "done"),
-            ("end 0", "dropped"),
-        ],
-    )
+    let rows = format!(in alloc;
+        "{write}       wrote 32
+        sync 0        sync 0
+        step 0        job 0
+        truncate 0 0  ok
+        step 0        clean
+        do 0          done
+        end 0         dropped"
+    )?;
+    check_row(&rt, alloc, rows.as_str())
 }
 
 /// A sync tells of a write that failed before it, once, and writes the page.
@@ -376,30 +345,26 @@ fn fsync_tells_of_a_failed_write_once(rt: HostRuntime) -> Result<(), Fail> {
     check_row(
         &rt,
         alloc,
-        &[
-            ("write 0 0 aa", "wrote 1"),
-            ("flush 0", "job 0"),
-            ("fail 0 5 old", "failed"),
-            ("end 0", "failed 5"),
-            ("tags 0 0", "D"),
-            ("read 0 0 1", "bytes aa"),
-            ("fsync 0", "refused 14 5"),
-            ("tags 0 0", "-"),
-            ("fsync 0", "ok"),
-        ],
+        "write 0 0 aa  wrote 1
+        flush 0       job 0
+        fail 0 5 old  failed
+        end 0         failed 5
+        tags 0 0      D
+        read 0 0 1    bytes aa
+        fsync 0       refused 14 5
+        tags 0 0      -
+        fsync 0       ok",
     )?;
     check_row(
         &rt,
         alloc,
-        &[
-            ("write 0 0 aa", "wrote 1"),
-            ("flush 0", "job 0"),
-            ("fail 0 5 old", "failed"),
-            ("end 0", "failed 5"),
-            ("poll 0", "error 5"),
-            ("poll 0", "none"),
-            ("fsync 0", "ok"),
-        ],
+        "write 0 0 aa  wrote 1
+        flush 0       job 0
+        fail 0 5 old  failed
+        end 0         failed 5
+        poll 0        error 5
+        poll 0        none
+        fsync 0       ok",
     )
 }
 
@@ -410,34 +375,30 @@ fn each_handle_is_told_of_a_failed_write(rt: HostRuntime) -> Result<(), Fail> {
     check_row(
         &rt,
         alloc,
-        &[
-            ("open 0", "handle 1"),
-            ("write 0 0 aa", "wrote 1"),
-            ("flush 0", "job 0"),
-            ("fail 0 5 old", "failed"),
-            ("end 0", "failed 5"),
-            ("fsync 0", "refused 14 5"),
-            ("fsync 1", "refused 14 5"),
-            ("fsync 0", "ok"),
-            ("open 0", "handle 2"),
-            ("fsync 2", "ok"),
-        ],
+        "open 0        handle 1
+        write 0 0 aa  wrote 1
+        flush 0       job 0
+        fail 0 5 old  failed
+        end 0         failed 5
+        fsync 0       refused 14 5
+        fsync 1       refused 14 5
+        fsync 0       ok
+        open 0        handle 2
+        fsync 2       ok",
     )?;
     check_row(
         &rt,
         alloc,
-        &[
-            ("open 0", "handle 1"),
-            ("write 0 0 aa", "wrote 1"),
-            ("flush 0", "job 0"),
-            ("fail 0 5 old", "failed"),
-            ("end 0", "failed 5"),
-            ("open 0", "handle 2"),
-            ("fsync 0", "refused 14 5"),
-            ("fsync 1", "refused 14 5"),
-            ("fsync 0", "ok"),
-            ("fsync 2", "refused 14 5"),
-        ],
+        "open 0        handle 1
+        write 0 0 aa  wrote 1
+        flush 0       job 0
+        fail 0 5 old  failed
+        end 0         failed 5
+        open 0        handle 2
+        fsync 0       refused 14 5
+        fsync 1       refused 14 5
+        fsync 0       ok
+        fsync 2       refused 14 5",
     )
 }
 
@@ -447,26 +408,23 @@ fn fsync_leaves_pages_idle(rt: HostRuntime) -> Result<(), Fail> {
     let alloc = rt.alloc();
     let bytes = "01".repeat(alloc, 48)?;
     let write = format!(in alloc; "write 0 0 {bytes}")?;
-    check_row(
-        &rt,
-        alloc,
-        &[
-            (write.as_str(), "wrote 48"),
-            ("fsync 0", "ok"),
-            ("read 0 0 1", "bytes 01"),
-            ("read 0 0 1", "bytes 01"),
-            ("age", "aged 0"),
-            ("evict", "evicted 0 1"),
-            ("evict", "evicted 0 2"),
-            ("age", "aged 1"),
-            ("evict", "evicted 0 0"),
-            ("evict", "none"),
-            ("fill 0 0", "job 3"),
-            ("fail 3 5 old", "failed"),
-            ("end 3", "failed 5"),
-            ("tags 0 0", "absent"),
-        ],
-    )
+    let rows = format!(in alloc;
+        "{write}       wrote 48
+        fsync 0       ok
+        read 0 0 1    bytes 01
+        read 0 0 1    bytes 01
+        age           aged 0
+        evict         evicted 0 1
+        evict         evicted 0 2
+        age           aged 1
+        evict         evicted 0 0
+        evict         none
+        fill 0 0      job 3
+        fail 3 5 old  failed
+        end 3         failed 5
+        tags 0 0      absent"
+    )?;
+    check_row(&rt, alloc, rows.as_str())
 }
 
 /// A fill that fails is no failed write, and a failed write is of its own file.
@@ -475,27 +433,24 @@ fn fsync_tells_of_failed_writes_of_its_file(rt: HostRuntime) -> Result<(), Fail>
     let alloc = rt.alloc();
     let bytes = "01".repeat(alloc, 48)?;
     let write = format!(in alloc; "write 0 0 {bytes}")?;
-    check_row(
-        &rt,
-        alloc,
-        &[
-            (write.as_str(), "wrote 48"),
-            ("fsync 0", "ok"),
-            ("evict", "evicted 0 0"),
-            ("fill 0 0", "job 3"),
-            ("fail 3 5 old", "failed"),
-            ("end 3", "failed 5"),
-            ("poll 0", "none"),
-            ("create", "file 1"),
-            ("open 1", "handle 1"),
-            ("write 1 0 aa", "wrote 1"),
-            ("flush 1", "job 4"),
-            ("fail 4 28 new", "failed"),
-            ("end 4", "failed 28"),
-            ("poll 0", "none"),
-            ("poll 1", "error 28"),
-        ],
-    )
+    let rows = format!(in alloc;
+        "{write}        wrote 48
+        fsync 0        ok
+        evict          evicted 0 0
+        fill 0 0       job 3
+        fail 3 5 old   failed
+        end 3          failed 5
+        poll 0         none
+        create         file 1
+        open 1         handle 1
+        write 1 0 aa   wrote 1
+        flush 1        job 4
+        fail 4 28 new  failed
+        end 4          failed 28
+        poll 0         none
+        poll 1         error 28"
+    )?;
+    check_row(&rt, alloc, rows.as_str())
 }
 
 /// A sync waits for no request that is in flight: it is given up, and so the handle can be closed. A handle that is not open is
@@ -506,21 +461,19 @@ fn fsync_gives_up_where_it_would_wait(rt: HostRuntime) -> Result<(), Fail> {
     check_row(
         &rt,
         alloc,
-        &[
-            ("write 0 0 aa", "wrote 1"),
-            ("flush 0", "job 0"),
-            ("write 0 16 bb", "wrote 1"),
-            ("fsync 0", "wait 0"),
-            ("tags 0 1", "-"),
-            ("do 0", "done"),
-            ("end 0", "written"),
-            ("fsync 0", "ok"),
-            ("close 0", "closed"),
-            ("fsync 0", "refused 4"),
-            ("poll 0", "refused 4"),
-            ("open 0", "handle 0"),
-            ("poll 0", "none"),
-        ],
+        "write 0 0 aa   wrote 1
+        flush 0        job 0
+        write 0 16 bb  wrote 1
+        fsync 0        wait 0
+        tags 0 1       -
+        do 0           done
+        end 0          written
+        fsync 0        ok
+        close 0        closed
+        fsync 0        refused 4
+        poll 0         refused 4
+        open 0         handle 0
+        poll 0         none",
     )
 }
 
@@ -532,20 +485,18 @@ fn a_sync_of_a_range_leaves_the_other_pages(rt: HostRuntime) -> Result<(), Fail>
     check_row(
         &rt,
         alloc,
-        &[
-            ("write 0 0 aa", "wrote 1"),
-            ("write 0 32 bb", "wrote 1"),
-            ("sync 0 2 5", "sync 0"),
-            ("tags 0 0", "D"),
-            ("tags 0 2", "DT"),
-            ("step 0", "job 0"),
-            ("step 0", "wait 2"),
-            ("do 0", "done"),
-            ("end 0", "written"),
-            ("step 0", "clean"),
-            ("tags 0 0", "D"),
-            ("sync 0 5 4", "refused 24"),
-        ],
+        "write 0 0 aa   wrote 1
+        write 0 32 bb  wrote 1
+        sync 0 2 5     sync 0
+        tags 0 0       D
+        tags 0 2       DT
+        step 0         job 0
+        step 0         wait 2
+        do 0           done
+        end 0          written
+        step 0         clean
+        tags 0 0       D
+        sync 0 5 4     refused 24",
     )
 }
 
@@ -556,17 +507,15 @@ fn an_fsync_of_a_range_passes_other_writes(rt: HostRuntime) -> Result<(), Fail> 
     check_row(
         &rt,
         alloc,
-        &[
-            ("write 0 0 aa", "wrote 1"),
-            ("flush 0", "job 0"),
-            ("write 0 32 bb", "wrote 1"),
-            ("fsync 0 1 4", "ok"),
-            ("fsync 0", "wait 0"),
-            ("do 0", "done"),
-            ("end 0", "written"),
-            ("fsync 0", "ok"),
-            ("fsync 1 4 1", "refused 4"),
-            ("fsync 0 4 1", "refused 24"),
-        ],
+        "write 0 0 aa   wrote 1
+        flush 0        job 0
+        write 0 32 bb  wrote 1
+        fsync 0 1 4    ok
+        fsync 0        wait 0
+        do 0           done
+        end 0          written
+        fsync 0        ok
+        fsync 1 4 1    refused 4
+        fsync 0 4 1    refused 24",
     )
 }

@@ -1,5 +1,6 @@
 //! Scripts with what they print, what is said on standard error, and the status.
 
+use crate::checks::same;
 use script::run::run_script;
 use std::alloc::Global;
 use std::io::{BufReader, ErrorKind, Read, Result as IoResult, Write};
@@ -25,10 +26,14 @@ pub fn check(
     let mut message = Vec::new(alloc);
     let ended = run_script(alloc, script, &mut out, &mut message);
     let output = std::str::from_utf8(out.writer.as_slice())?;
-    assert_eq!(rt; output, expected.output);
-    assert_eq!(rt; std::str::from_utf8(message.as_slice())?, expected.message);
-    assert_eq!(rt; ended.status(), expected.status);
-    assert!(rt; ended.is_said);
+    same(rt, output, expected.output);
+    same(
+        rt,
+        std::str::from_utf8(message.as_slice())?,
+        expected.message,
+    );
+    same(rt, ended.status(), expected.status);
+    same(rt, ended.is_said, true);
     Ok(())
 }
 
@@ -197,11 +202,13 @@ fn answers_are_flushed_before_input_is_awaited(rt: HostRuntime) -> Result<(), Fa
     let mut out = Printer::new(alloc, flushes);
     let mut message = Vec::new(alloc);
     let ended = run_script(alloc, reader, &mut out, &mut message);
-    assert!(rt; ended.end == Ok(()));
+    same(&rt, ended.end, Ok(()));
     // `file 0`, `handle 0` and `size 0` are 7, 9 and 7 bytes with their ends; at the end of the script all is flushed again.
-    assert_eq!(rt;
-        out.writer.flushed.as_slice(),
-        [0, 7, 16, 23, 23].as_slice()
+    let flushed = [0, 7, 16, 23, 23];
+    same(
+        &rt,
+        out.writer.flushed.as_slice() == flushed.as_slice(),
+        true,
     );
     Ok(())
 }
@@ -235,20 +242,16 @@ fn failing_streams_end_a_script(rt: HostRuntime) -> Result<(), Fail> {
     let reader = b"create\n".as_slice().chain(BufReader::new(alloc, Broken)?);
     let ended = run_script(alloc, reader, &mut out, &mut message);
     let output = std::str::from_utf8(out.writer.as_slice())?;
-    assert_eq!(rt; output, "file 0\n");
-    assert_eq!(rt;
-        std::str::from_utf8(message.as_slice())?,
-        "pcache: input failed\n"
-    );
-    assert_eq!(rt; ended.status(), 3);
+    same(&rt, output, "file 0\n");
+    let said = std::str::from_utf8(message.as_slice())?;
+    same(&rt, said, "pcache: input failed\n");
+    same(&rt, ended.status(), 3);
     message.clear();
     let mut out = Printer::new(alloc, Broken);
     let ended = run_script(alloc, b"create\n".as_slice(), &mut out, &mut message);
-    assert_eq!(rt;
-        std::str::from_utf8(message.as_slice())?,
-        "pcache: output failed\n"
-    );
-    assert_eq!(rt; ended.status(), 3);
+    let said = std::str::from_utf8(message.as_slice())?;
+    same(&rt, said, "pcache: output failed\n");
+    same(&rt, ended.status(), 3);
     Ok(())
 }
 
@@ -283,7 +286,8 @@ fn a_full_output_has_a_beginning(rt: HostRuntime) {
     let mut out = Printer::new(alloc, full);
     let script = b"create\nopen 0\nsize 0\n".as_slice();
     let ended = run_script(alloc, script, &mut out, &mut Broken);
-    assert!(rt; ended.end == Err(Stop::Output));
-    assert!(rt; !ended.is_said);
-    assert!(rt; out.writer.taken.as_slice() == b"file 0\nhandl".as_slice());
+    same(&rt, ended.end, Err(Stop::Output));
+    same(&rt, ended.is_said, false);
+    let taken = out.writer.taken.as_slice();
+    same(&rt, taken == b"file 0\nhandl".as_slice(), true);
 }

@@ -90,28 +90,80 @@ fn make_calls<R: Wait, B: Naming, D: BlockDevice>(
         let bytes = &mut buffer[..step.count];
         steps.fill(bytes);
         if let Some(file) = files.get_mut(step.file) {
-            make_call(rt, cache, member, file, &step, bytes);
+            file.make_call(rt, cache, member, &step, bytes);
         }
     }
 }
 
-/// Makes a call, with the bytes that are to be written or read over. What it answers is told by the trail.
-fn make_call<R: Wait, B: Naming, D: BlockDevice>(
-    rt: &R,
-    cache: &SharedCache<B, D, FullTrail>,
-    member: &mut Member<B>,
-    file: &mut Opened<B>,
-    step: &Step,
-    bytes: &mut [u8],
-) {
-    let seat = &mut member.seat;
-    let handle = &mut file.handle;
-    match step.kind {
-        Kind::Read => drop(cache.pread(rt, seat, handle, step.offset, bytes)),
-        Kind::Write => drop(cache.pwrite(rt, seat, handle, step.offset, bytes)),
-        Kind::Append => drop(cache.write(rt, seat, handle, bytes)),
-        Kind::Truncate => drop(cache.truncate(rt, seat, handle, step.offset)),
-        Kind::Fsync => drop(cache.fsync(rt, seat, handle)),
+// What a call answers is told by the trail. Each kind has a function of its own: the check of one that makes them all takes minutes.
+impl<B: Naming> Opened<B> {
+    /// Makes a call, with the bytes that are to be written or read over.
+    fn make_call<R: Wait, D: BlockDevice>(
+        &mut self,
+        rt: &R,
+        cache: &SharedCache<B, D, FullTrail>,
+        member: &mut Member<B>,
+        step: &Step,
+        bytes: &mut [u8],
+    ) {
+        match step.kind {
+            Kind::Read => self.read(rt, cache, member, step.offset, bytes),
+            Kind::Write => self.write(rt, cache, member, step.offset, bytes),
+            Kind::Append => self.append(rt, cache, member, bytes),
+            Kind::Truncate => self.truncate(rt, cache, member, step.offset),
+            Kind::Fsync => self.fsync(rt, cache, member),
+        }
+    }
+
+    fn read<R: Wait, D: BlockDevice>(
+        &self,
+        rt: &R,
+        cache: &SharedCache<B, D, FullTrail>,
+        member: &mut Member<B>,
+        offset: u64,
+        bytes: &mut [u8],
+    ) {
+        drop(cache.pread(rt, &mut member.seat, &self.handle, offset, bytes));
+    }
+
+    fn write<R: Wait, D: BlockDevice>(
+        &self,
+        rt: &R,
+        cache: &SharedCache<B, D, FullTrail>,
+        member: &mut Member<B>,
+        offset: u64,
+        bytes: &[u8],
+    ) {
+        drop(cache.pwrite(rt, &mut member.seat, &self.handle, offset, bytes));
+    }
+
+    fn append<R: Wait, D: BlockDevice>(
+        &mut self,
+        rt: &R,
+        cache: &SharedCache<B, D, FullTrail>,
+        member: &mut Member<B>,
+        bytes: &[u8],
+    ) {
+        drop(cache.write(rt, &mut member.seat, &mut self.handle, bytes));
+    }
+
+    fn truncate<R: Wait, D: BlockDevice>(
+        &self,
+        rt: &R,
+        cache: &SharedCache<B, D, FullTrail>,
+        member: &mut Member<B>,
+        size: u64,
+    ) {
+        drop(cache.truncate(rt, &mut member.seat, &self.handle, size));
+    }
+
+    fn fsync<R: Wait, D: BlockDevice>(
+        &mut self,
+        rt: &R,
+        cache: &SharedCache<B, D, FullTrail>,
+        member: &mut Member<B>,
+    ) {
+        drop(cache.fsync(rt, &mut member.seat, &mut self.handle));
     }
 }
 

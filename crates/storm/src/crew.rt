@@ -51,16 +51,21 @@ impl Crew {
         ensures crew { IfSome result (IsCrewOf cache.now.ring B.name B.table B.sizes) }
         ensures own { IsWorkerOf cache.now.ring B.name B.table B.sizes own.new }
     {
-        let flusher = worker_of(cache, own, members)?;
-        let first = worker_of(cache, own, members)?;
-        let second = worker_of(cache, own, members)?;
-        let evictor = worker_of(cache, own, members)?;
-        Some(Crew {
-            flusher,
-            first,
-            second,
-            evictor,
-        })
+        let (flusher, evictor) = two_workers(cache, own, members)?;
+        match two_workers(cache, own, members) {
+            Some((first, second)) => Some(Crew {
+                flusher,
+                first,
+                second,
+                evictor,
+            }),
+            None => {
+                // by a call, since the check is slow where a worker goes out of scope
+                drop(flusher);
+                drop(evictor);
+                None
+            }
+        }
     }
 
     /// Runs the workers, each in a thread of its own, until they are told to stop. Gives their seats back.
@@ -166,11 +171,39 @@ fn evict<R: Wait, B: Naming, D: BlockDevice>(
 
 /// Puts the members of these pairs to the others. Nothing is answered where memory is wanted.
 pub fn hand_back<B: Naming>(pairs: (Pair<B>, Pair<B>), members: &mut Vec<Member<B>>) -> Option<()> {
-    let ((first, second), (third, fourth)) = pairs;
-    members.push(first).ok()?;
-    members.push(second).ok()?;
-    members.push(third).ok()?;
-    members.push(fourth).ok()
+    let (front, back) = pairs;
+    let first = push_both(front, members);
+    let second = push_both(back, members);
+    first?;
+    second
+}
+
+fn push_both<B: Naming>(pair: Pair<B>, members: &mut Vec<Member<B>>) -> Option<()> {
+    let (one, other) = pair;
+    let first = members.push(one).ok();
+    let second = members.push(other).ok();
+    first?;
+    second
+}
+
+/// Workers with the seats of the last two of these members.
+fn two_workers<B: Naming, D: BlockDevice>(
+    cache: &SharedCache<B, D, FullTrail>,
+    own: &mut Worker,
+    members: &mut Vec<Member<B>>,
+) -> Option<(Worker, Worker)>
+    requires { IsWorkerOf cache.now.ring B.name B.table B.sizes own.old }
+    ensures workers { IfSome result (λ r. IsWorkerOf cache.now.ring B.name B.table B.sizes r.0 × IsWorkerOf cache.now.ring B.name B.table B.sizes r.1) }
+    ensures own { IsWorkerOf cache.now.ring B.name B.table B.sizes own.new }
+{
+    let one = worker_of(cache, own, members)?;
+    match worker_of(cache, own, members) {
+        Some(other) => Some((one, other)),
+        None => {
+            drop(one);
+            None
+        }
+    }
 }
 
 /// A worker with the seat of the last of these members.

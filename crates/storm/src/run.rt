@@ -1,7 +1,7 @@
 //! A storm: many callers and the workers of one cache at once, and whether its history is that of plain files.
 
 ghost use Rattle.std.specs.FinMap as map;
-ghost use Rattle.std.specs.Prelude.{◌≡◌, ◌≤◌};
+ghost use Rattle.std.specs.Prelude.{◌≡◌, ◌≤◌, All, IfSome};
 ghost use Rattle.held.specs.Shown.{AreFresh};
 ghost use Rattle.locked.specs.Keeps.{IsLocked};
 ghost use Rattle.shared.specs.Keeps.{IsDisk};
@@ -20,6 +20,7 @@ use held::log::Seat;
 use locked::naming::Naming;
 use pc_types::{Geometry, Refusal};
 use shared::cache::{Parts, SharedCache};
+use shared::worker::Worker;
 use std::alloc::Global;
 use std::fs::{File, Files};
 use std::io::Write;
@@ -77,16 +78,20 @@ pub fn run_storm<R: Threads + Wait + Files<File = File> + Sync, W: Write, E: Wri
         None => in_memory(rt, alloc, options, weather),
         Some(path) => in_file(rt, alloc, path, options, weather),
     };
-    let replays = match &storm {
-        Ok(None) => Ok(true),
-        Ok(Some(odd)) => {
-            let _ = odd.say(alloc, err);
-            Ok(false)
-        }
-        Err(fault) => Err(*fault),
-    };
+    let replays = storm.map(|odd| say_odd(alloc, odd, err));
     let calls = options.threads * options.steps;
     tell(out, err, calls, weather.seed, replays)
+}
+
+/// Says which entry is odd, if one is, and answers whether none is.
+fn say_odd<E: Write>(alloc: Global, odd: Option<Odd>, err: &mut E) -> bool {
+    let Some(odd) = odd else {
+        return true;
+    };
+    let _ = odd.say(alloc, err);
+    // by a call, since the check is slow where a trail goes out of scope
+    drop(odd);
+    false
 }
 
 /// A storm over memory. Answers the entry of its history that is not plain files', if there is one.
@@ -181,17 +186,73 @@ fn history<B: Naming + Send + Sync, D: BlockDevice + Send, R: Threads + Wait + S
     requires seats { AreFresh B.table B.name seats.items }
 {
     let (cache, mut own) = SharedCache::<B, D, FullTrail>::of(alloc, parts);
-    let mut members = members_of(alloc, seats)?;
-    let crew = Crew::of(&cache, &mut own, &mut members)?;
-    create_files(rt, &cache, &mut members);
-    let callers = callers_of(alloc, members, seed)?;
-    let (workers, members) = rage(rt, &cache, crew, callers, steps);
-    let mut members = members?;
-    hand_back(workers, &mut members)?;
-    let seats = seats_of(alloc, members)?;
+    let members = members_of(alloc, seats);
+    let Some(seats) = take_part(rt, alloc, &cache, &mut own, members, steps, seed) else {
+        // each by a call, since the check is slow where a cache goes out of scope
+        drop(cache);
+        drop(own);
+        return None;
+    };
     match cache.close(rt, own, seats) {
-        Ok((trail, _, _)) => Some(trail),
-        Err(_) => None,
+        Ok((trail, core, device)) => {
+            drop(core);
+            drop(device);
+            Some(trail)
+        }
+        Err(open) => {
+            drop(open);
+            None
+        }
+    }
+}
+
+/// Has a caller at each seat but the workers' make so many calls, and gives the seats back, or nothing where memory is wanted.
+fn take_part<B: Naming + Send + Sync, D: BlockDevice + Send, R: Threads + Wait + Sync>(
+    rt: &R,
+    alloc: Global,
+    cache: &SharedCache<B, D, FullTrail>,
+    own: &mut Worker,
+    members: Option<Vec<Member<B>>>,
+    steps: u64,
+    seed: u64,
+) -> Option<Vec<Seat>>
+    requires { IsWorkerOf cache.now.ring B.name B.table B.sizes own.old }
+    ensures own { IsWorkerOf cache.now.ring B.name B.table B.sizes own.new }
+    ensures seats { IfSome result (λ seats. All (λ s. s.table ≡ B.table) seats.items) }
+{
+    let mut members = members?;
+    let Some(crew) = Crew::of(cache, own, &mut members) else {
+        drop(members);
+        return None;
+    };
+    create_files(rt, cache, &mut members);
+    match callers_of(alloc, members, seed) {
+        Some(callers) => all_seats(alloc, rage(rt, cache, crew, callers, steps)),
+        None => {
+            drop(crew);
+            None
+        }
+    }
+}
+
+/// The seats of the workers and of the callers.
+fn all_seats<B: Naming>(
+    alloc: Global,
+    back: ((Pair<B>, Pair<B>), Option<Vec<Member<B>>>),
+) -> Option<Vec<Seat>>
+    ensures { IfSome result (λ seats. All (λ s. s.table ≡ B.table) seats.items) }
+{
+    let (workers, members) = back;
+    let Some(mut members) = members else {
+        drop(workers);
+        return None;
+    };
+    match hand_back(workers, &mut members) {
+        Some(()) => seats_of(alloc, members),
+        None => {
+            drop(members);
+            None
+        }
     }
 }
 

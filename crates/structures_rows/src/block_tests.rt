@@ -1,6 +1,7 @@
 //! Worked rows. What a call requires is asserted before it.
 ghost use Rattle.blockmap.specs.Keys.{IsPage};
 
+use crate::checks::same;
 use blockmap::{BlockMap, Placed};
 use pc_types::{BlockNo, FileId, PageIndex, Refusal};
 use std::process::Abort;
@@ -18,7 +19,7 @@ fn gives(
     let none = blocks.map(file, page).is_none();
     assert!(rt; none);
     let given = blocks.assign(file, page);
-    assert_eq!(rt; given, want);
+    same(rt, given, want);
 }
 
 /// A page's block is taken back, or this is refused so.
@@ -37,7 +38,7 @@ fn takes_back(
         assert!(rt; !is_held);
     }
     let taken = blocks.unassign(file, page);
-    assert_eq!(rt; taken, want);
+    same(rt, taken, want);
 }
 
 /// What is told of a page.
@@ -45,12 +46,12 @@ fn tells(rt: &impl Abort, blocks: &BlockMap, file: FileId, page: PageIndex, want
     requires { IsPage file.0 page.0 }
 {
     let told = blocks.map(file, page);
-    assert_eq!(rt; told, want);
+    same(rt, told, want);
 }
 
 fn has_free(rt: &impl Abort, blocks: &BlockMap, want: u64) {
     let count = blocks.free_count();
-    assert_eq!(rt; count, want);
+    same(rt, count, want);
 }
 
 fn release(rt: &impl Abort, blocks: &mut BlockMap, block: BlockNo) {

@@ -3,10 +3,14 @@
 ghost use Rattle.std.specs.Prelude.{◌≡◌, true, length, slice_set};
 ghost use Rattle.frames.specs.Table.{is_taken};
 
+use crate::checks::{check, same};
 use frames::Frames;
 use pc_types::{FileId, FrameId, Geometry, PageIndex, Refusal};
 use std::process::Abort;
 use std::test::Fail;
+
+/// A number past that of each frame.
+const NO_FRAME: u32 = u32::MAX;
 
 /// Stops the test unless the frame is taken.
 fn expect_taken(rt: &impl Abort, frames: &Frames, frame: FrameId)
@@ -44,28 +48,65 @@ fn put(frames: &mut Frames, frame: FrameId, bytes: &[u8])
     frames.bytes_mut(frame).copy_from_slice(bytes);
 }
 
+/// The oldest frame but this one.
+fn first_but(frames: &Frames, but: u32) -> Option<FrameId> {
+    frames.scan(|at| at.0 != but)
+}
+
 fn assert_first(rt: &impl Abort, frames: &Frames, frame: u32) {
-    assert_eq!(rt; frames.scan(|_| true), Some(FrameId(frame)));
+    same(rt, first_but(frames, NO_FRAME), Some(FrameId(frame)));
 }
 
 fn assert_first_but(rt: &impl Abort, frames: &Frames, but: u32, frame: u32) {
-    assert_eq!(rt; frames.scan(|at| at.0 != but), Some(FrameId(frame)));
+    same(rt, first_but(frames, but), Some(FrameId(frame)));
 }
 
 fn assert_free(rt: &impl Abort, frames: &Frames, count: u64) {
-    assert_eq!(rt; frames.free_count(), count);
+    same(rt, frames.free_count(), count);
 }
 
 fn assert_takes(rt: &impl Abort, frames: &mut Frames, page: u64, frame: u32) {
-    assert_eq!(rt; frames.take(FileId(7), PageIndex(page)), Ok(FrameId(frame)));
-    assert_eq!(rt;
-        frames.owner(FrameId(frame)),
-        Some((FileId(7), PageIndex(page)))
-    );
+    let taken = frames.take(FileId(7), PageIndex(page));
+    same(rt, taken, Ok(FrameId(frame)));
+    let owner = frames.owner(FrameId(frame));
+    same(rt, owner, Some((FileId(7), PageIndex(page))));
 }
 
 fn assert_ages(rt: &impl Abort, frames: &mut Frames, count: u64) {
-    assert_eq!(rt; frames.age(), count);
+    same(rt, frames.age(), count);
+}
+
+/// Accesses move a frame from the inactive list to the active one.
+fn check_accesses(rt: &impl Abort, frames: &mut Frames) {
+    // inactive and unreferenced: it becomes referenced, its place unchanged
+    access(rt, frames, 0);
+    assert_first(rt, frames, 0);
+    // inactive and referenced: it goes to the active head
+    access(rt, frames, 0);
+    assert_first(rt, frames, 1);
+    // active: it becomes referenced, its place unchanged
+    access(rt, frames, 0);
+    access(rt, frames, 1);
+    access(rt, frames, 1);
+    // from the inactive tail to its head, then from the active tail to its head
+    assert_first(rt, frames, 2);
+    assert_first_but(rt, frames, 2, 0);
+}
+
+/// Ages the lists, and gives a frame back.
+fn check_ages(rt: &impl Abort, frames: &mut Frames) {
+    // the active tail goes to the inactive head, whatever its flag, while active is longer
+    assert_ages(rt, frames, 1);
+    assert_ages(rt, frames, 0);
+    assert_first(rt, frames, 2);
+    assert_first_but(rt, frames, 2, 0);
+    // and it is unreferenced there, so that one access leaves it in its place
+    access(rt, frames, 0);
+    assert_first_but(rt, frames, 2, 0);
+    // a frame that is given leaves its list, and is the lowest free one again
+    give(rt, frames, 1);
+    assert_free(rt, frames, 46);
+    assert_takes(rt, frames, 13, 1);
 }
 
 #[test]
@@ -77,31 +118,9 @@ fn page_lists_row_by_row(rt: HostRuntime) -> Result<(), Fail> {
         assert_takes(&rt, &mut frames, 10 + frame as u64, frame);
     }
     assert_first(&rt, &frames, 0);
-    // inactive and unreferenced: it becomes referenced, its place unchanged
-    access(&rt, &mut frames, 0);
-    assert_first(&rt, &frames, 0);
-    // inactive and referenced: it goes to the active head
-    access(&rt, &mut frames, 0);
-    assert_first(&rt, &frames, 1);
-    // active: it becomes referenced, its place unchanged
-    access(&rt, &mut frames, 0);
-    access(&rt, &mut frames, 1);
-    access(&rt, &mut frames, 1);
-    // from the inactive tail to its head, then from the active tail to its head
-    assert_first(&rt, &frames, 2);
-    assert_first_but(&rt, &frames, 2, 0);
-    // the active tail goes to the inactive head, whatever its flag, while active is longer
-    assert_ages(&rt, &mut frames, 1);
-    assert_ages(&rt, &mut frames, 0);
-    assert_first(&rt, &frames, 2);
-    assert_first_but(&rt, &frames, 2, 0);
-    // and it is unreferenced there, so that one access leaves it in its place
-    access(&rt, &mut frames, 0);
-    assert_first_but(&rt, &frames, 2, 0);
-    // a frame that is given leaves its list, and is the lowest free one again
-    give(&rt, &mut frames, 1);
-    assert_free(&rt, &frames, 46);
-    assert_takes(&rt, &mut frames, 13, 1);
+    check_accesses(&rt, &mut frames);
+    check_ages(&rt, &mut frames);
+    drop(frames);
     Ok(())
 }
 
@@ -114,38 +133,45 @@ fn a_frame_keeps_its_bytes_until_it_is_laid(rt: HostRuntime) -> Result<(), Fail>
         frames.bytes_mut(frame).fill(9);
     }
     expect_taken(&rt, &frames, FrameId(0));
+    // a macro, since `put` requires what it says
     assert_eq!(rt; frames.bytes(FrameId(0)).len(), 16);
     put(&mut frames, FrameId(0), &[1; 16]);
     give(&rt, &mut frames, 0);
     assert_takes(&rt, &mut frames, 2, 0);
     expect_taken(&rt, &frames, FrameId(0));
+    // and this one, since `lay` does
     assert_eq!(rt; frames.bytes(FrameId(0)), [1; 16].as_slice());
     frames.lay(FrameId(0), 13, &[5, 6]);
-    assert_eq!(rt;
-        frames.bytes(FrameId(0)),
-        [0, 0, 0, 0, 0, 0, 0, 0, 0, 0, 0, 0, 0, 5, 6, 0].as_slice()
-    );
+    let laid = [0, 0, 0, 0, 0, 0, 0, 0, 0, 0, 0, 0, 0, 5, 6, 0];
+    check(&rt, frames.bytes(FrameId(0)) == laid.as_slice());
     expect_taken(&rt, &frames, FrameId(1));
-    assert_eq!(rt; frames.bytes(FrameId(1)), [9; 16].as_slice());
+    check(&rt, frames.bytes(FrameId(1)) == [9; 16].as_slice());
+    drop(frames);
     Ok(())
+}
+
+/// Takes a frame for a page that is of no matter.
+fn takes(rt: &impl Abort, frames: &mut Frames, want: Result<FrameId, Refusal>) {
+    same(rt, frames.take(FileId(0), PageIndex(0)), want);
 }
 
 #[test]
 fn a_full_table_is_taken_and_given_back(rt: HostRuntime) -> Result<(), Fail> {
     let mut frames = Frames::new(rt.alloc(), &Geometry::new(16, 65_536, 16, 64)?)?;
     for frame in 0..65_536 {
-        assert_eq!(rt; frames.take(FileId(0), PageIndex(0)), Ok(FrameId(frame)));
+        takes(&rt, &mut frames, Ok(FrameId(frame)));
     }
-    assert_eq!(rt; frames.take(FileId(0), PageIndex(0)), Err(Refusal::NoFrame));
-    assert_eq!(rt; frames.free_count(), 0);
+    takes(&rt, &mut frames, Err(Refusal::NoFrame));
+    assert_free(&rt, &frames, 0);
     // one far from the lowest word is found at once
     give(&rt, &mut frames, 65_535);
-    assert_eq!(rt; frames.take(FileId(0), PageIndex(0)), Ok(FrameId(65_535)));
+    takes(&rt, &mut frames, Ok(FrameId(65_535)));
     for frame in 0..65_536 {
         give(&rt, &mut frames, frame);
     }
-    assert_eq!(rt; frames.free_count(), 65_536);
-    assert_eq!(rt; frames.scan(|_| true), None);
+    assert_free(&rt, &frames, 65_536);
+    same(&rt, first_but(&frames, NO_FRAME), None);
+    drop(frames);
     Ok(())
 }
 
@@ -262,7 +288,7 @@ fn call_both(
     match number / 48 % 24 {
         0..=4 => {
             let taken = frames.take(FileId(0), PageIndex(0)).ok();
-            assert_eq!(rt; taken, plain.take()?.map(FrameId));
+            same(rt, taken, plain.take()?.map(FrameId));
         }
         5..=6 if is_taken => {
             give(rt, frames, frame);
@@ -284,17 +310,28 @@ fn call_both(
 }
 
 fn compare(rt: &impl Abort, frames: &mut Frames, plain: &Plain) {
-    assert_eq!(rt; frames.oldest(), plain.oldest().map(FrameId));
+    same(rt, frames.oldest(), plain.oldest().map(FrameId));
     let free = 48_u64
         .saturating_sub(plain.active.len() as u64)
         .saturating_sub(plain.inactive.len() as u64);
     assert_free(rt, frames, free);
     for rest in 0..4 {
-        assert_eq!(rt;
-            frames.scan(|at| at.0 % 4 == rest),
-            plain.first(rest).map(FrameId)
-        );
+        let first = frames.scan(|at| at.0 % 4 == rest);
+        same(rt, first, plain.first(rest).map(FrameId));
     }
+}
+
+/// Makes random calls on both, and compares them after each.
+fn call_at_random(rt: &impl Abort, frames: &mut Frames, plain: &mut Plain) -> Result<(), Fail> {
+    let mut seed = 20_261_122_u64;
+    for _ in 0..4_000 {
+        seed = seed
+            .wrapping_mul(6_364_136_223_846_793_005)
+            .wrapping_add(1_442_695_040_888_963_407);
+        call_both(rt, frames, plain, seed >> 33)?;
+        compare(rt, frames, plain);
+    }
+    Ok(())
 }
 
 #[test]
@@ -306,13 +343,9 @@ fn random_calls_as_the_plain_program(rt: HostRuntime) -> Result<(), Fail> {
         referenced: Vec::new(rt.alloc()),
         aside: Vec::new(rt.alloc()),
     };
-    let mut seed = 20_261_122_u64;
-    for _ in 0..4_000 {
-        seed = seed
-            .wrapping_mul(6_364_136_223_846_793_005)
-            .wrapping_add(1_442_695_040_888_963_407);
-        call_both(&rt, &mut frames, &mut plain, seed >> 33)?;
-        compare(&rt, &mut frames, &plain);
-    }
-    Ok(())
+    let done = call_at_random(&rt, &mut frames, &mut plain);
+    // by a call, since the check is slow where frames go out of scope
+    drop(frames);
+    drop(plain);
+    done
 }

@@ -97,8 +97,16 @@ fn a_flush_takes_the_lowest_idle_dirty_page(rt: HostRuntime) -> Result<(), Fail>
         PageIndex(0),
         Tags::none().with(Tag::Dirty).with(Tag::Writeback),
     )?;
-    pages.set_tags(PageIndex(2), Tags::none().with(Tag::Dirty))?;
-    pages.set_tags(PageIndex(3), Tags::none().with(Tag::Dirty))?;
+    same(
+        &rt,
+        pages.set_tags(PageIndex(2), Tags::none().with(Tag::Dirty)),
+        Ok(()),
+    );
+    same(
+        &rt,
+        pages.set_tags(PageIndex(3), Tags::none().with(Tag::Dirty)),
+        Ok(()),
+    );
     same(&rt, flush_pick(&pages), Some(found(2)));
     begin_write(&mut pages, PageIndex(2));
     assert_tags(&rt, &pages, 2, false, true, false);
@@ -122,15 +130,15 @@ fn a_sync_writes_what_was_dirty_as_it_began(rt: HostRuntime) -> Result<(), Fail>
     let mut pages = four_pages(rt.alloc())?;
     let mut requests = Requests::new();
     let mut syncs = Syncs::new();
-    pages.tag(PageIndex(0), Tag::Dirty)?;
-    pages.tag(PageIndex(2), Tag::Dirty)?;
+    same(&rt, pages.tag(PageIndex(0), Tag::Dirty), Ok(()));
+    same(&rt, pages.tag(PageIndex(2), Tag::Dirty), Ok(()));
     same(&rt, begin_all(&mut syncs), Ok(SyncId(0)));
     sync_begin(&mut pages, PageIndex(0), PageIndex(LAST_PAGE));
     assert_tags(&rt, &pages, 0, true, false, true);
     assert_tags(&rt, &pages, 1, false, false, false);
 
     // Page 1 is made DIRTY after the sync began.
-    pages.tag(PageIndex(1), Tag::Dirty)?;
+    same(&rt, pages.tag(PageIndex(1), Tag::Dirty), Ok(()));
     let next = step(&pages, &requests, &syncs);
     same(&rt, next, Some(SyncStep::Start(found(0))));
     same(&rt, start(&rt, &mut pages, &mut requests, 0), Serial(0));
@@ -162,9 +170,9 @@ fn a_sync_waits_for_an_old_write_and_writes_anew(rt: HostRuntime) -> Result<(), 
     let mut pages = four_pages(rt.alloc())?;
     let mut requests = Requests::new();
     let mut syncs = Syncs::new();
-    pages.tag(PageIndex(0), Tag::Dirty)?;
+    same(&rt, pages.tag(PageIndex(0), Tag::Dirty), Ok(()));
     same(&rt, start(&rt, &mut pages, &mut requests, 0), Serial(0));
-    pages.tag(PageIndex(0), Tag::Dirty)?;
+    same(&rt, pages.tag(PageIndex(0), Tag::Dirty), Ok(()));
     same(&rt, begin_all(&mut syncs), Ok(SyncId(0)));
     sync_begin(&mut pages, PageIndex(0), PageIndex(LAST_PAGE));
     assert_tags(&rt, &pages, 0, true, true, true);
@@ -198,7 +206,7 @@ fn a_sync_awaits_what_others_started(rt: HostRuntime) -> Result<(), Fail> {
     let mut pages = four_pages(rt.alloc())?;
     let mut requests = Requests::new();
     let mut syncs = Syncs::new();
-    pages.tag(PageIndex(0), Tag::Dirty)?;
+    same(&rt, pages.tag(PageIndex(0), Tag::Dirty), Ok(()));
     same(&rt, begin_all(&mut syncs), Ok(SyncId(0)));
     sync_begin(&mut pages, PageIndex(0), PageIndex(LAST_PAGE));
     same(&rt, start(&rt, &mut pages, &mut requests, 0), Serial(0));
@@ -218,7 +226,7 @@ fn a_sync_of_a_range_leaves_other_pages(rt: HostRuntime) -> Result<(), Fail> {
     let mut requests = Requests::new();
     let mut syncs = Syncs::new();
     for page in 0..4u64 {
-        pages.tag(PageIndex(page), Tag::Dirty)?;
+        same(&rt, pages.tag(PageIndex(page), Tag::Dirty), Ok(()));
     }
     same(
         &rt,

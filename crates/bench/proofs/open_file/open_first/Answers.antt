@@ -1,5 +1,0 @@
-use Rattle.bench.proofs.open_file.open_first.Goals as goal
-use Rattle.bench.proofs.Opening.{opens}
-
-pub returns : goal.returns
-returns c = opens _ _ _ _ _ (λ past. (c.open.ensures.none past).0) c.open.ensures.opened c.open.ensures.errors
