@@ -1,15 +1,15 @@
-//! A cache without a service: its core, its device and the buffer that goes between them.
+//! A cache without a service: a world with one file, whose requests begin and end in one call.
 
-ghost use Rattle.std.specs.Prelude.{◌≡◌, ◌+◌, ◌≤◌, IfOk, IfSome, None, length};
+ghost use Rattle.std.specs.Prelude.{◌+◌, ◌≤◌};
 ghost use Rattle.pc_types.specs.declared.limits.TheConstants.{MAX_FRAMES};
 
 use crate::files::{FILL, PAGE};
-use blockdev::{BlockDevice, Buffer, MemDevice, perform};
-use cachecore::{CacheCore, Ended, FillBegun, FlushBegun};
+use blockdev::MemDevice;
+use cachecore::{AtOnce, Reply};
 use pc_types::limits::{CLEAN_FRAMES, MAX_FRAMES};
 use pc_types::{FileId, Geometry, HandleId, PageIndex, Refusal};
 use std::alloc::Global;
-use std::marker::Model;
+use world::World;
 
 /// The one file.
 const FILE: FileId = FileId(0);
@@ -17,38 +17,21 @@ const FILE: FileId = FileId(0);
 /// The one handle.
 const HANDLE: HandleId = HandleId(0);
 
-/// A core with as many frames as a cache may have, of which all but a few may be dirty, and a device with a block for each.
+/// A cache with as many frames as there may be, of which all but a few may be dirty, and a device with a block for each.
 #[derive(Drop)]
 pub struct Bare {
-    core: CacheCore,
-    device: MemDevice,
-    // one that came back, for the next begin
-    buffer: Option<Buffer>,
-    alloc: Global,
-}
-
-impl Model for Bare {
-    ghost use Rattle.timed_files.specs.Fitting.{Fits};
-
-    ghost Value = { Unit };
-
-    ghost view = { λ b. tt };
-
-    ghost invariant = { λ b. Fits b.core.state.sizes b.device b.buffer };
+    world: World<MemDevice>,
 }
 
 impl Bare {
-    /// A core with one file, which is open and has no bytes.
+    /// A cache with one file, which is open and has no bytes.
     pub fn new(alloc: Global) -> Result<Bare, Refusal> {
         let geometry = Geometry::new(PAGE, MAX_FRAMES, MAX_FRAMES - CLEAN_FRAMES, MAX_FRAMES)?;
         let device = MemDevice::new(alloc, geometry.page(), geometry.blocks())?;
-        let core = CacheCore::new(alloc, &geometry, 1)?;
-        let mut bare = Bare {
-            core,
-            device,
-            buffer: None,
-            alloc,
+        let Ok(world) = World::new(alloc, &geometry, 1, device) else {
+            return Err(Refusal::Memory);
         };
+        let mut bare = Bare { world };
         match bare.open() {
             Ok(()) => Ok(bare),
             Err(refusal) => {
@@ -60,8 +43,8 @@ impl Bare {
     }
 
     fn open(&mut self) -> Result<(), Refusal> {
-        let file = self.core.create()?;
-        self.core.open(file)?;
+        let file = self.world.create()?;
+        self.world.open(file)?;
         Ok(())
     }
 
@@ -81,50 +64,38 @@ impl Bare {
     }
 
     fn resize(&mut self, size: u64) -> Result<(), Refusal> {
-        self.core.truncate(HANDLE, size)?;
+        self.world.truncate(HANDLE, size)?;
         Ok(())
     }
 
     fn write(&mut self, offset: u64, bytes: &[u8]) -> Result<(), Refusal> {
-        self.core.write(HANDLE, offset, bytes)?;
+        self.world.write(HANDLE, offset, bytes)?;
         Ok(())
     }
 
     /// Fills a page that was never written, which takes no device call.
     fn fill(&mut self, page: u64) -> Result<(), Refusal> {
-        let buffer = buffer_for(&self.core, &mut self.buffer, self.alloc)?;
-        match self.core.fill_begin(HANDLE, PageIndex(page), buffer) {
-            Ok(FillBegun::Filled(buffer)) => {
-                self.buffer = Some(buffer);
-                Ok(())
-            }
+        match self.world.fill_at_once(HANDLE, PageIndex(page)) {
+            AtOnce::Answered(Reply::Filled) => Ok(()),
             _ => Err(Refusal::Busy),
         }
     }
 
-    /// Flushes so many pages, and gives how many writes the device was asked for.
+    /// Writes so many pages, the lowest dirty one each time, and gives how many these are.
     #[inline(never)]
     pub fn flush(&mut self, count: u64) -> Result<u64, Refusal> {
-        let before = self.device.calls();
         for _ in 0..count {
             self.flush_one()?;
         }
-        Ok(self.device.calls().wrapping_sub(before))
+        Ok(count)
     }
 
-    /// Begins the flush of the lowest dirty page, writes it to the device, and ends it.
     #[inline(always)]
     fn flush_one(&mut self) -> Result<(), Refusal> {
-        let buffer = buffer_for(&self.core, &mut self.buffer, self.alloc)?;
-        let Ok(FlushBegun::Job(job)) = self.core.flush_begin(FILE, buffer) else {
-            return Err(Refusal::Busy);
-        };
-        let finished = perform(&mut self.device, job);
-        let Ok(Ended::Done(buffer)) = self.core.flush_end(finished) else {
-            return Err(Refusal::Busy);
-        };
-        self.buffer = Some(buffer);
-        Ok(())
+        match self.world.flush_at_once(FILE) {
+            AtOnce::Ended(_, Reply::Written) => Ok(()),
+            _ => Err(Refusal::Busy),
+        }
     }
 
     /// Evicts so many pages, and gives the sum of their numbers.
@@ -132,26 +103,10 @@ impl Bare {
     pub fn evict(&mut self, count: u64) -> u64 {
         let mut sum = 0u64;
         for _ in 0..count {
-            if let Some((_, page)) = self.core.evict() {
+            if let Some((_, page)) = self.world.evict() {
                 sum = sum.wrapping_add(page.0);
             }
         }
         sum
-    }
-}
-
-/// A buffer for a request, with any bytes: the one that came back, where there is one.
-fn buffer_for(
-    core: &CacheCore,
-    spare: &mut Option<Buffer>,
-    alloc: Global,
-) -> Result<Buffer, Refusal>
-    requires { IfSome spare.old (λ bytes. length bytes ≡ core.now.state.sizes.page) }
-    ensures size { IfOk result (λ buffer. length buffer ≡ core.now.state.sizes.page) }
-    ensures taken { spare.new ≡ None }
-{
-    match spare.take() {
-        Some(buffer) => Ok(buffer),
-        None => Buffer::new(alloc, &core.geometry()),
     }
 }
