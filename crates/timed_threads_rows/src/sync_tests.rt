@@ -74,7 +74,7 @@ impl<'a> BlockDevice for Counted<'a> {
 fn path_of(rt: &HostRuntime, name: &str) -> Result<String, Fail> {
     let mut path = env::temp_dir(rt)?;
     let id = process::id(rt.process());
-    path.push(format!(in rt.alloc(); "bench_shared-{name}-{id}")?.as_str())?;
+    path.push(format!(in rt.alloc(); "timed_threads-{name}-{id}")?.as_str())?;
     Ok(path.to_string_lossy().to_owned(rt.alloc())?)
 }
 

@@ -47,7 +47,7 @@ fn run_disk<R: Files<File = File>>(
 #[test]
 fn blocks_are_written_and_read(rt: HostRuntime) -> Result<(), Fail> {
     let mut path = env::temp_dir(&rt)?;
-    path.push(format!(in rt.alloc(); "bench_shared-{}", process::id(rt.process()))?.as_str())?;
+    path.push(format!(in rt.alloc(); "timed_threads-{}", process::id(rt.process()))?.as_str())?;
     let name = path.to_string_lossy();
     for row in DiskRow::ALL {
         same(&rt, run_disk(&rt, rt.alloc(), name, row), Ok(7));
