@@ -77,7 +77,7 @@ pub fn sync_step(
 /// A write of the page begins: it loses DIRTY and TOWRITE and gets WRITEBACK. Answers the page as it was. If no page is cached
 /// nothing is done.
 ///
-/// TOWRITE goes here and nowhere else (rule 7 of docs/DESIGN.md): whoever starts a page's write clears it. So a sync whose page
+/// TOWRITE goes here and in `write_through` alone (rule 7 of docs/DESIGN.md): whoever starts a page's write clears it. So a sync whose page
 /// another flusher started finds the tag no more, and waits for that write by its bound.
 pub fn begin_write(mapping: &mut Mapping, page: PageIndex) -> Option<MappedPage>
     ensures tags { mapping.new ≡ record mapping.old { pages = change_at page.0 (with_tags under_write) mapping.old.pages } }
