@@ -21,7 +21,7 @@ pub struct Watched<D: BlockDevice> {
 impl<D: BlockDevice> Model for Watched<D> {
     ghost use Rattle.std.specs.Prelude.{◌≡◌, false};
     ghost use Rattle.blockdev.specs.Device.{Reads, Writes};
-ghost use Rattle.blockdev.specs.Watching.{Watch};
+    ghost use Rattle.blockdev.specs.Watching.{Watch};
 
     ghost Value = { Watch };
 

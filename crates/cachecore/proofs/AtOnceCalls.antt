@@ -201,8 +201,10 @@ module _ (p : Parts) (w : IsKept p) (f q : ℕ) (start : MayStart (state_by p) f
   pub write_fails : (code n : ℕ) → n ≡ code → went ≡ Err code → IsTrue (is_err_code code) → (k0 k : Store) (t : Flights)
       → k0 ≡ with_pages p.store f (finmap.insert (stored_at p.store f).pages q
       (after_write true (under_write (the_page (stored_at p.store f).pages q)))) p.store.free
-      → k ≡ record k0 { files = slice_set k0.files f (record (stored_at k0 f)
-      { failures = (stored_at k0 f).failures + 1; last_code = n }) }
+      → k ≡ record k0 {
+        files = slice_set k0.files f (record (stored_at k0 f)
+            { failures = (stored_at k0 f).failures + 1; last_code = n });
+      }
       → t ≡ passed p.flights
       → WriteGoes (reply.Failed code) (record writing { store = k; blocks = p.blocks; flights = t })
   write_fails code n same failed is_code k0 k t before after fly =

@@ -45,11 +45,7 @@ impl CacheCore {
     }
 
     /// Writes the file's lowest page that is dirty and has no write in flight.
-    pub fn flush_at_once<D: BlockDevice>(
-        &mut self,
-        device: &mut Watched<D>,
-        file: FileId,
-    ) -> AtOnce
+    pub fn flush_at_once<D: BlockDevice>(&mut self, device: &mut Watched<D>, file: FileId) -> AtOnce
         requires { IsDeviceOf self.old.state device.old }
         ensures { MakesAtOnce self.old (Event.FlushBegin file) device.old result self.new device.new }
     {
@@ -64,11 +60,7 @@ impl CacheCore {
     }
 
     /// Goes on with a sync, as `sync_step` does. A page that it starts is written.
-    pub fn sync_at_once<D: BlockDevice>(
-        &mut self,
-        device: &mut Watched<D>,
-        sync: SyncId,
-    ) -> AtOnce
+    pub fn sync_at_once<D: BlockDevice>(&mut self, device: &mut Watched<D>, sync: SyncId) -> AtOnce
         requires { IsDeviceOf self.old.state device.old }
         ensures { MakesAtOnce self.old (Event.SyncStep sync) device.old result self.new device.new }
     {

@@ -62,7 +62,11 @@ impl CacheCore {
 
     /// What a fill of the page comes to. Where its bytes are on the device they are left to the caller to be read, and else the event is
     /// made.
-    pub(crate) fn next_fill(&mut self, handle: HandleId, page: PageIndex) -> Result<FillNext, Refusal>
+    pub(crate) fn next_fill(
+        &mut self,
+        handle: HandleId,
+        page: PageIndex,
+    ) -> Result<FillNext, Refusal>
         ensures reads { IfOk result (OnRead (λ file block. (map.get self.old.state.handles handle.0 ≡ Some file.0) × IsToRead self.old.state file.0 page.0 block.0 × (self.new ≡ self.old))) }
         ensures step { is_read result ≡ false → Step self.old.state (Event.FillBegin handle page) (fill_says result) self.new.state }
         ensures lists { is_read result ≡ false → self.new.lists ≡ lists_after self.old.state (Event.FillBegin handle page) (fill_says result) self.old.lists }

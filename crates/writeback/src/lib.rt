@@ -11,6 +11,8 @@ mod picks;
 mod requests;
 mod syncs;
 
-pub use picks::{SyncStep, begin_write, end_write, flush_pick, sync_begin, sync_pick, sync_step, write_through};
+pub use picks::{
+    SyncStep, begin_write, end_write, flush_pick, sync_begin, sync_pick, sync_step, write_through,
+};
 pub use requests::{Request, Requests};
 pub use syncs::{Progress, Syncs};

@@ -17,6 +17,11 @@ returns-in-Ended g c =
     let made = c.in-Ended.ensures in
     record {
       rests = carried_rests _ _ _ _ _ _ _ (flush_begins c.args.file) made.3 made.5 c.requires;
-      made = inr (made.1, made.2, made.3, made.5,
-          subst (λ o. IsNoted c.args.recorder.now o c.in-Ended.reply c.note.new.recorder) (sym made.4) c.note.ensures);
+      made = inr (
+        made.1,
+        made.2,
+        made.3,
+        made.5,
+        subst (λ o. IsNoted c.args.recorder.now o c.in-Ended.reply c.note.new.recorder) (sym made.4) c.note.ensures,
+      );
     }

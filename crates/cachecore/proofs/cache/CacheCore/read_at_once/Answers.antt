@@ -155,16 +155,16 @@ returns-in-Ok g c = λ h found.
     ∙ ap (λ (t : State). t.sizes.page) (state_is c.self.view_is) in
     record {
       begun = state_by (being_read (parts_of c.self.inside) c.self.invariant c.args.file.0 c.args.page.0 (absent g b) (idle g b) c.args.block.0
-    (placed g b) (place g b) (here g b) (frames g b) (serials g b) e.before e.after c.fill_by.result);
+          (placed g b) (place g b) (here g b) (frames g b) (serials g b) e.before e.after c.fill_by.result);
       job = read_job (parts_of c.self.inside) c.self.invariant c.args.file.0 c.args.page.0 (absent g b) (idle g b) c.args.block.0
-    (placed g b) (place g b) (here g b) (frames g b) (serials g b) e.before e.after c.fill_by.result;
+          (placed g b) (place g b) (here g b) (frames g b) (serials g b) e.before e.after c.fill_by.result;
       done = read_done (parts_of c.self.inside) c.self.invariant c.args.file.0 c.args.page.0 (absent g b) (idle g b) c.args.block.0
-    (placed g b) (place g b) (here g b) (frames g b) (serials g b) e.before e.after c.fill_by.result;
+          (placed g b) (place g b) (here g b) (frames g b) (serials g b) e.before e.after c.fill_by.result;
       begins = begins g b h found;
       its = read_its (parts_of c.self.inside) c.self.invariant c.args.file.0 c.args.page.0 (absent g b) (idle g b) c.args.block.0
-    (placed g b) (place g b) (here g b) (frames g b) (serials g b) e.before e.after c.fill_by.result;
+          (placed g b) (place g b) (here g b) (frames g b) (serials g b) e.before e.after c.fill_by.result;
       file = read_file (parts_of c.self.inside) c.self.invariant c.args.file.0 c.args.page.0 (absent g b) (idle g b) c.args.block.0
-    (placed g b) (place g b) (here g b) (frames g b) (serials g b) e.before e.after c.fill_by.result;
+          (placed g b) (place g b) (here g b) (frames g b) (serials g b) e.before e.after c.fill_by.result;
       within = (place g b).file;
       fits = record {
         cache = ap (λ (t : State). t.name) (state_is c.self.view_is);
@@ -196,16 +196,16 @@ returns-in-Err g c = λ h found.
     let start = entered_lists g b h (record { 0 = p.flights.next }) found in
     record {
       begun = state_by (being_read (parts_of c.self.inside) c.self.invariant c.args.file.0 c.args.page.0 (absent g b) (idle g b) c.args.block.0
-    (placed g b) (place g b) (here g b) (frames g b) (serials g b) e.before e.after c.fill_by.result);
+          (placed g b) (place g b) (here g b) (frames g b) (serials g b) e.before e.after c.fill_by.result);
       job = read_job (parts_of c.self.inside) c.self.invariant c.args.file.0 c.args.page.0 (absent g b) (idle g b) c.args.block.0
-    (placed g b) (place g b) (here g b) (frames g b) (serials g b) e.before e.after c.fill_by.result;
+          (placed g b) (place g b) (here g b) (frames g b) (serials g b) e.before e.after c.fill_by.result;
       done = read_done (parts_of c.self.inside) c.self.invariant c.args.file.0 c.args.page.0 (absent g b) (idle g b) c.args.block.0
-    (placed g b) (place g b) (here g b) (frames g b) (serials g b) e.before e.after c.fill_by.result;
+          (placed g b) (place g b) (here g b) (frames g b) (serials g b) e.before e.after c.fill_by.result;
       begins = begins g b h found;
       its = read_its (parts_of c.self.inside) c.self.invariant c.args.file.0 c.args.page.0 (absent g b) (idle g b) c.args.block.0
-    (placed g b) (place g b) (here g b) (frames g b) (serials g b) e.before e.after c.fill_by.result;
+          (placed g b) (place g b) (here g b) (frames g b) (serials g b) e.before e.after c.fill_by.result;
       file = read_file (parts_of c.self.inside) c.self.invariant c.args.file.0 c.args.page.0 (absent g b) (idle g b) c.args.block.0
-    (placed g b) (place g b) (here g b) (frames g b) (serials g b) e.before e.after c.fill_by.result;
+          (placed g b) (place g b) (here g b) (frames g b) (serials g b) e.before e.after c.fill_by.result;
       within = (place g b).file;
       fits = record {
         cache = ap (λ (t : State). t.name) (state_is c.self.view_is);
@@ -227,5 +227,5 @@ returns-in-Err g c = λ h found.
       lists = ap (λ (x : Store). x.lists) c.abandon_fill.ensures
           ∙ ap (lists.left c.args.file.0 c.args.page.0) (ap (λ (x : Store). x.lists) e.failed ∙ start)
           ∙ sym (unfilled_lists (parts_of c.self.inside) c.self.invariant c.args.file.0 c.args.page.0 (absent g b) (idle g b) c.args.block.0
-    (placed g b) (place g b) (here g b) (frames g b) (serials g b) e.before e.after c.fill_by.result _);
+          (placed g b) (place g b) (here g b) (frames g b) (serials g b) e.before e.after c.fill_by.result _);
     }

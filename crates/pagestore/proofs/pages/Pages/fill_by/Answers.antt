@@ -169,8 +169,10 @@ returns-in_err-read g c =
     let size = c.bytes_mut.ensures.size ∙ page_size g b in
     let same : c.read.new.out ≡ c.bytes_mut.result.now = c.in_err-read.ensures.reads.failed in
     subst (λ r. FillsBy c.args.self.now c.args.file c.args.page c.args.device.now c.args.block.0 r
-    (store_of (record c.self.inside.frames { bytes = with_row c.self.inside.frames.size c.self.inside.frames.bytes c.in-Some.frame.0
-    c.read.new.out }) c.self.inside.uptodate.items c.self.inside.files.items) c.read.new.self) (sym is)
+    (store_of (record c.self.inside.frames {
+      bytes = with_row c.self.inside.frames.size c.self.inside.frames.bytes c.in-Some.frame.0
+          c.read.new.out;
+    }) c.self.inside.uptodate.items c.self.inside.files.items) c.read.new.self) (sym is)
     (record {
       before = c.bytes_mut.result.now;
       after = c.read.new.out;
