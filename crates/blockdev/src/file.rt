@@ -93,6 +93,22 @@ fn open_long<R: Files<File = File>, P: AsPath>(files: &R, path: P, bytes: u64) -
     Err(io::Error::from(io::ErrorKind::InvalidInput))
 }
 
+/// Fills the bytes from an offset of the file on, and answers whether it could. The system gives all of a block at once but for a
+/// rare case.
+#[inline(always)]
+fn read_whole<F: FileExt>(file: &F, bytes: &mut [u8], offset: u64) -> bool {
+    match file.read_at(bytes, offset) {
+        Ok(count) if count == bytes.len() => true,
+        _ => read_in_parts(file, bytes, offset),
+    }
+}
+
+/// The same by as many reads as it takes.
+#[inline(never)]
+fn read_in_parts<F: FileExt>(file: &F, bytes: &mut [u8], offset: u64) -> bool {
+    file.read_exact_at(bytes, offset).is_ok()
+}
+
 impl<F: FileExt + OpenFile + Drop> FileDevice<F> {
     /// A device over an open file which is long enough. `spare` is for the bytes of a block.
     pub fn new(file: F, size: u64, count: u64, spare: Vec<u8>) -> FileDevice<F>
@@ -151,16 +167,12 @@ impl<F: FileExt + OpenFile + Drop> BlockDevice for FileDevice<F> {
         }
         self.calls += 1;
         let offset = self.offset(block);
-        match self.file.read_exact_at(&mut self.spare, offset) {
-            Ok(()) => {
-                out.copy_from_slice(&self.spare);
-                Ok(())
-            }
-            Err(_) => {
-                self.faults += 1;
-                Err(ErrCode::IO)
-            }
+        if read_whole(&self.file, &mut self.spare, offset) {
+            out.copy_from_slice(&self.spare);
+            return Ok(());
         }
+        self.faults += 1;
+        Err(ErrCode::IO)
     }
 
     fn write(&mut self, block: BlockNo, bytes: &[u8]) -> Result<(), ErrCode> {
