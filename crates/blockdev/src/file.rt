@@ -3,8 +3,8 @@
 //! Which bytes a system call moves is told by no clause. So what such a device holds is not told, and that it returns what
 //! was written to it is a premise.
 
-ghost use Rattle.std.specs.Prelude.{◌≡◌, ◌<◌, ◌*◌, ◌^◌, ◌⊎◌, IfErr, IfOk, vec_len};
-ghost use Rattle.blockdev.specs.Device.{silent};
+ghost use Rattle.std.specs.Prelude.{◌≡◌, ◌<◌, ◌*◌, ◌^◌, ◌⊎◌, IfErr, IfOk, length, vec_len};
+ghost use Rattle.blockdev.specs.Device.{Reads, Writes, Flushes, silent};
 
 use crate::device::BlockDevice;
 use pc_types::{BlockNo, ErrCode, Refusal};
@@ -61,6 +61,7 @@ impl FileDevice {
         blocks: u64,
     ) -> Result<FileDevice, Refusal>
         ensures opened { IfOk result (λ d. d ≡ silent block_size blocks) }
+        ensures sized { IfOk result (λ d. (0 < block_size) × (block_size * blocks < 2 ^ 63)) }
         ensures refused { IfErr result (λ r. (r ≡ Refusal.Memory) ⊎ (r ≡ Refusal.Io 5)) }
     {
         let bytes = match block_size.checked_mul(blocks) {
@@ -93,12 +94,13 @@ fn open_long<R: Files<File = File>, P: AsPath>(files: &R, path: P, bytes: u64) -
     Err(io::Error::from(io::ErrorKind::InvalidInput))
 }
 
-/// Fills the bytes from an offset of the file on, and answers whether it could. The system gives all of a block at once but for a
-/// rare case.
+/// Fills the bytes from an offset of the file on, and answers whether it could. The system gives all of a block at once, unless
+/// it was interrupted, or gives a part. A read that it refuses is not made again.
 #[inline(always)]
 fn read_whole<F: FileExt>(file: &F, bytes: &mut [u8], offset: u64) -> bool {
     match file.read_at(bytes, offset) {
         Ok(count) if count == bytes.len() => true,
+        Err(error) if error.kind() != io::ErrorKind::Interrupted => false,
         _ => read_in_parts(file, bytes, offset),
     }
 }
@@ -161,7 +163,12 @@ impl<F: FileExt + OpenFile + Drop> BlockDevice for FileDevice<F> {
         self.flushes
     }
 
-    fn read(&mut self, block: BlockNo, out: &mut [u8]) -> Result<(), ErrCode> {
+    fn read(&mut self, block: BlockNo, out: &mut [u8]) -> Result<(), ErrCode>
+        requires exists { block.0 < self.old.count }
+        requires size { length out.old ≡ self.old.size }
+        ensures read { Reads self.old block.0 out.old result out.new self.new }
+        ensures code { IfErr result (λ code. code ≡ 5) }
+    {
         if self.calls == u64::MAX {
             return Err(ErrCode::IO);
         }
@@ -175,7 +182,12 @@ impl<F: FileExt + OpenFile + Drop> BlockDevice for FileDevice<F> {
         Err(ErrCode::IO)
     }
 
-    fn write(&mut self, block: BlockNo, bytes: &[u8]) -> Result<(), ErrCode> {
+    fn write(&mut self, block: BlockNo, bytes: &[u8]) -> Result<(), ErrCode>
+        requires exists { block.0 < self.old.count }
+        requires size { length bytes.now ≡ self.old.size }
+        ensures write { Writes self.old block.0 bytes.now result self.new }
+        ensures code { IfErr result (λ code. code ≡ 5) }
+    {
         if self.calls == u64::MAX {
             return Err(ErrCode::IO);
         }
@@ -192,7 +204,10 @@ impl<F: FileExt + OpenFile + Drop> BlockDevice for FileDevice<F> {
 
     /// After one failure it answers that for ever: the system may have dropped the pages that it could not write, and would
     /// call a later flush a success.
-    fn flush(&mut self) -> Result<(), ErrCode> {
+    fn flush(&mut self) -> Result<(), ErrCode>
+        ensures flush { Flushes self.old result self.new }
+        ensures code { IfErr result (λ code. code ≡ 5) }
+    {
         if self.flushes == u64::MAX {
             return Err(ErrCode::IO);
         }
