@@ -109,7 +109,6 @@ fill_fills name s w errors table h o n p r i after m a kept well =
     by (once s.world w s.errors errors (step.FillBegin h p) (event.FillBegin h p) r (fill_begins h p) a)
   where
     by : Once s.world s.errors (event.FillBegin h p) r w errors → Fills s.world.core w.core (handle_file s.world.core h.0) p.0
-    by (Unmade e same none) = absurd (kept Memory e)
     by (Quiet j k none) = quiet_fills s.world.core w.core h p r i.rests.requests after m.absent m.within kept j k.0.1.0
     by (Whole c) =
         let f = handle_file s.world.core h.0 in

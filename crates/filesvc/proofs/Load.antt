@@ -44,7 +44,6 @@ never_written : (s new : State) (f : FileId) → Step s (event.FlushBegin f) rep
 never_written s new f step = (happened s (event.FlushBegin f) reply.Written new step refl (λ n o k. cc)).may
 
 once_less : (old new : WorldSeen) (errors after : RecorderSeen) (f : FileId) → Once old errors (event.FlushBegin f) reply.Written new after → Lighter old.core new.core
-once_less old new errors after f (Unmade e same none) = absurd cc
 once_less old new errors after f (Quiet j m none) = absurd (never_written old.core new.core f m.0.1.0)
 once_less old new errors after f (Whole c) = carried_less old new errors after f c
 

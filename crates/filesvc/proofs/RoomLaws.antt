@@ -119,7 +119,6 @@ why_reply s h p Memory e = tt
 why_reply s h p _ e = absurd e
 
 refused_why : (old new : WorldSeen) (errors after : RecorderSeen) (h : HandleId) (p : PageIndex) (r : Refusal) → Once old errors (event.FillBegin h p) (reply.Refused r) new after → FillWhy old.core h.0 (reply.Refused r) × (new.core ≡ old.core)
-refused_why old new errors after h p r (Unmade e same none) = (subst (λ x. FillWhy old.core h.0 x) (sym e) tt, ap (λ (x : WorldSeen). x.core) same)
 refused_why old new errors after h p r (Quiet j m none) = elim (answered (tests old.core (event.FillBegin h p)) old.core (event.FillBegin h p) (reply.Refused r) new.core m.0.1.0) [
   | inl x ↦ (why_tests old.core h p (reply.Refused r) x.0, x.1)
   | inr x ↦ (why_reply old.core h p r x.1, x.2)
@@ -157,18 +156,14 @@ module _ (old mid new : SoloSeen) (serves : Serves old mid) where
 
   pub way_refused : (h : HandleId) (want r : Refusal) → (want ≡ NoFrame) × (Suffices mid → ⊥) ⊎ (want ≡ DirtyLimit)
       × (IsClean mid → ⊥)
-      → (r ≡ want) ⊎ (r ≡ Memory) → (want ≡ NoFrame → r ≡ NoFrame → Faulted mid new ⊎ Suffices mid)
+      → r ≡ want → (want ≡ NoFrame → r ≡ NoFrame → Faulted mid new ⊎ Suffices mid)
       → (want ≡ DirtyLimit → r ≡ DirtyLimit → Faulted mid new ⊎ IsClean mid) → IsFillRefusal old h r new
   way_refused h want NoFrame (inl x) k frames clean = unless (frames x.0 refl) x.1
-  way_refused h want NoFrame (inr x) (inl k) frames clean = absurd (let e : NoFrame ≡ DirtyLimit = k ∙ x.0 in cc)
-  way_refused h want NoFrame (inr x) (inr k) frames clean = absurd cc
+  way_refused h want NoFrame (inr x) k frames clean = absurd (let e : NoFrame ≡ DirtyLimit = k ∙ x.0 in cc)
   way_refused h want DirtyLimit (inr x) k frames clean = unless (clean x.0 refl) x.1
-  way_refused h want DirtyLimit (inl x) (inl k) frames clean = absurd (let e : DirtyLimit ≡ NoFrame = k ∙ x.0 in cc)
-  way_refused h want DirtyLimit (inl x) (inr k) frames clean = absurd cc
-  way_refused h want Memory x k frames clean = tt
-  way_refused h want r (inl x) (inl k) frames clean = absurd (let e : r ≡ NoFrame = k ∙ x.0 in cc)
-  way_refused h want r (inr x) (inl k) frames clean = absurd (let e : r ≡ DirtyLimit = k ∙ x.0 in cc)
-  way_refused h want r x (inr k) frames clean = absurd cc
+  way_refused h want DirtyLimit (inl x) k frames clean = absurd (let e : DirtyLimit ≡ NoFrame = k ∙ x.0 in cc)
+  way_refused h want r (inl x) k frames clean = absurd (let e : r ≡ NoFrame = k ∙ x.0 in cc)
+  way_refused h want r (inr x) k frames clean = absurd (let e : r ≡ DirtyLimit = k ∙ x.0 in cc)
 
 fails_before : (old mid new : WorldSeen) (code : ℕ) → Moves is_help old mid → FailsFill mid code new → FailsFill old code new
 fails_before old mid new code m (last, n, h, p, t, fill) = (last, moves_trans is_help old mid last m n, h, p, t, fill)
@@ -216,19 +211,15 @@ carried_faulted s w errors e code c i =
     some_same a b e = cc
 
 faulted_by : (s : SoloSeen) (w : WorldSeen) (errors : RecorderSeen) (h : HandleId) (p : PageIndex) (code : ℕ) → Once s.world s.errors (event.FillBegin h p) (reply.Failed code) w errors → IsSound s.world → Faulted s (record s { world = w; errors = errors })
-faulted_by s w errors h p code (Unmade e same none) i = absurd cc
 faulted_by s w errors h p code (Quiet j m none) i = absurd (let f = fill_fair _ _ _ _ _ m.0.1.0 in cc)
 faulted_by s w errors h p code (Whole c) i = carried_faulted s w errors _ code c i
 
 -- and the steps that it was
 fails_fill : (old new : WorldSeen) (errors after : RecorderSeen) (h : HandleId) (p : PageIndex) (code : ℕ)
     → AtOnce old errors (step.FillBegin h p) (reply.Failed code) new after → FailsFill old code new
-fails_fill old new errors after h p code (inl a) = elim a.1 [
-  | inl m ↦ absurd (let f = fill_fair _ _ _ _ _ m.0.1.0 in cc)
-  | inr x ↦ absurd (let e = x.0 in cc)
-]
+fails_fill old new errors after h p code (inl a) = absurd (let f = fill_fair _ _ _ _ _ a.1.0.1.0 in cc)
 fails_fill old new errors after h p code (inr (t, mid, begun, plays, noted)) =
-    (old, moves_refl is_help old, h, p, t, (mid, begun, plays))
+    (old, moves_refl is_help old, h, p, t, (mid, inl begun, plays))
 
 pub fill_faulted : (s : SoloSeen) (w : WorldSeen) (errors : RecorderSeen) (h : HandleId) (p : PageIndex) (code : ℕ)
     → AtOnce s.world s.errors (step.FillBegin h p) (reply.Failed code) w errors → IsSound s.world
@@ -334,7 +325,6 @@ carried_flush s w errors f r c a i =
     ]
 
 once_flush : (name : ℕ) (s : SoloSeen) (w : WorldSeen) (errors : RecorderSeen) (table : TableId) (f : FileId) (r : Reply) → Once s.world s.errors (event.FlushBegin f) r w errors → AtOnce s.world s.errors (step.FlushBegin f) r w errors → IsServing name s.world table s.errors → IsFlush s f r (record s { world = w; errors = errors })
-once_flush name s w errors table f r (Unmade e same none) a i = subst (λ x. IsFlush s f x (record s { world = w; errors = errors })) (sym e) tt
 once_flush name s w errors table f r (Quiet j m none) a i =
     quiet_flush s (record s { world = w; errors = errors }) f r j m.0.1.0
     (λ c. let e = held_same s.world w (event.FlushBegin f) r m j c in λ k. record s { world = e k; errors = none k })

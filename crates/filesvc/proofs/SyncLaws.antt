@@ -12,7 +12,7 @@ use Rattle.pc_types.specs.declared.ids.Serial.{Serial}
 use Rattle.pc_types.specs.declared.ids.SyncId.{SyncId}
 use Rattle.pc_types.specs.declared.limits.TheConstants.{LAST_PAGE, MAX_FILE_SIZE, SERIAL_END}
 use Rattle.pc_types.specs.declared.refusal.Refusal.{Refusal}
-use Rattle.pc_types.specs.declared.refusal.Refusal.TheVariants.{BadRange, Memory, TooManyInFlight}
+use Rattle.pc_types.specs.declared.refusal.Refusal.TheVariants.{BadRange, TooManyInFlight}
 use Rattle.machine.specs.declared.event.Event.{Event}
 use Rattle.machine.specs.declared.event.Event.TheVariants as event
 use Rattle.machine.specs.declared.event.Outcome.{Outcome}
@@ -373,13 +373,10 @@ refused_steps s why (Some y) h = by (sync_pick s y) (first_awaited s y) h
     by None None h = h
 
 -- the step of a sync that is there, with no request in flight, is refused memory or a serial
-step_why : (w v : WorldSeen) (n : SyncId) (why : Refusal) → w.core.requests ≡ finmap.empty → is_some (finmap.get w.core.syncs n.0) ≡ true → Steps w (step.SyncStep n) (reply.Refused why) v → ((why ≡ Memory) ⊎ ((why ≡ TooManyInFlight) × (SERIAL_END ≤ w.core.next))) × (v.core ≡ w.core)
-step_why w v n why none there m = elim m [
-  | inl m ↦ elim (answered (sync_tests w.core (finmap.get w.core.syncs n.0)) w.core (event.SyncStep n) (reply.Refused why) v.core m.0.1.0) [
-    | inl a ↦ (let x = refused_tests w.core (finmap.get w.core.syncs n.0) why there a.0 in (inr (x.0, no_serial w.core none x.1), a.1))
-    | inr b ↦ absurd (refused_steps w.core why (finmap.get w.core.syncs n.0) b.1)
-  ]
-  | inr x ↦ (inl (let same : why ≡ Memory = (let k = x.0 in cc) in same), ap (λ (y : WorldSeen). y.core) x.1)
+step_why : (w v : WorldSeen) (n : SyncId) (why : Refusal) → w.core.requests ≡ finmap.empty → is_some (finmap.get w.core.syncs n.0) ≡ true → IsMade w (step.SyncStep n) (reply.Refused why) v → (why ≡ TooManyInFlight) × (SERIAL_END ≤ w.core.next) × (v.core ≡ w.core)
+step_why w v n why none there m = elim (answered (sync_tests w.core (finmap.get w.core.syncs n.0)) w.core (event.SyncStep n) (reply.Refused why) v.core m.0.1.0) [
+  | inl a ↦ (let x = refused_tests w.core (finmap.get w.core.syncs n.0) why there a.0 in (x.0, no_serial w.core none x.1, a.1))
+  | inr b ↦ absurd (refused_steps w.core why (finmap.get w.core.syncs n.0) b.1)
 ]
 
 -- ---- the reply by which it is over
@@ -474,21 +471,18 @@ drop_begins_none n (Err why) = refl
 
 module _ (now mid new : SoloSeen) (n : SyncId) (rests : IsResting now.world) (orderly : IsOrderly now.world.core)
     (only : OnlySync now.world.core n.0) where
-  by_refusal : (r : Reply) → is_job r ≡ false → Steps now.world (step.SyncStep n) r mid.world
+  by_refusal : (r : Reply) → is_job r ≡ false → IsMade now.world (step.SyncStep n) r mid.world
       → IfErr (sync_end_of r) (λ _. Drops mid.world n new.world) → IfErr (sync_end_of r) (λ why. IsSyncRefusal why new)
   by_refusal reply.Clean j m d = tt
   by_refusal (reply.Failed code) j m d = tt
   by_refusal (reply.Refused why) j m d =
       let x = step_why now.world mid.world n why rests.requests only.there m in
-      let stays : new.world.core.next ≡ now.world.core.next = next_stays (world_of mid.world) (world_of new.world) (Act (event.SyncDrop n) (sync_dropped d.0)) (drop_begins_none n d.0) d.1.0 ∙ ap (λ (c : State). c.next) x.1 in
-      elim x.0 [
-        | inl e ↦ subst (λ y. IsSyncRefusal y new) (sym e) tt
-        | inr y ↦ subst (λ z. IsSyncRefusal z new) (sym y.0) (subst (λ k. SERIAL_END ≤ k) (sym stays) y.1)
-      ]
-  by_refusal r j m d = absurd (let e = step_ends now.world mid.world n r orderly rests j m in cc)
+      let stays : new.world.core.next ≡ now.world.core.next = next_stays (world_of mid.world) (world_of new.world) (Act (event.SyncDrop n) (sync_dropped d.0)) (drop_begins_none n d.0) d.1.0 ∙ ap (λ (c : State). c.next) x.2 in
+      subst (λ z. IsSyncRefusal z new) (sym x.0) (subst (λ k. SERIAL_END ≤ k) (sym stays) x.1)
+  by_refusal r j m d = absurd (let e = step_ends now.world mid.world n r orderly rests j (inl m) in cc)
 
   pub call_refused : (r : Reply) (o : Result (Option ℕ) Refusal) → is_job r ≡ false
-      → Steps now.world (step.SyncStep n) r mid.world → o ≡ sync_end_of r → IfErr o (λ _. Drops mid.world n new.world)
+      → IsMade now.world (step.SyncStep n) r mid.world → o ≡ sync_end_of r → IfErr o (λ _. Drops mid.world n new.world)
       → IfErr o (λ why. IsSyncRefusal why new)
   call_refused r o j m e d =
       subst (λ o. IfErr o (λ why. IsSyncRefusal why new)) (sym e)
@@ -665,7 +659,6 @@ same_service mid new errors (Err why) e = tt
 -- how many attempts were made is of no matter
 pub refusal_counted : (new : SoloSeen) (n : ℕ) (why : Refusal) → IsSyncRefusal why new
     → IsSyncRefusal why (record new { attempts = n })
-refusal_counted new n Memory x = tt
 refusal_counted new n TooManyInFlight x = x
 refusal_counted new n why x = absurd x
 

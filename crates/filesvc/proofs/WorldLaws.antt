@@ -16,7 +16,7 @@ use Rattle.pc_types.specs.Limits.{Sizes}
 use Rattle.pc_types.specs.declared.limits.TheConstants.{MAX_FILES, MIN_DIRTY_LIMIT, MIN_FRAMES, MIN_PAGE_SIZE}
 use Rattle.pc_types.specs.declared.kind.Kind.{Kind}
 use Rattle.pc_types.specs.declared.kind.Kind.TheVariants.{Fill, Flush}
-use Rattle.pc_types.specs.declared.refusal.Refusal.TheVariants.{Memory, Stranger}
+use Rattle.pc_types.specs.declared.refusal.Refusal.TheVariants.{Stranger}
 use Rattle.machine.specs.declared.event.Event.{Event}
 use Rattle.machine.specs.declared.event.Event.TheVariants as event
 use Rattle.machine.specs.declared.event.Outcome as core
@@ -34,7 +34,7 @@ use Rattle.world.specs.declared.step.Step.{Step}
 use Rattle.world.specs.declared.step.Step.TheVariants as step
 use Rattle.runs.specs.Plain.{Plain, plain_after}
 use Rattle.runs.specs.Reached.{IsReached}
-use Rattle.world.specs.Stepping.{CallReply, EndReply, WorldSeen, IsCalled, IsNotMade, MovesByCall, Plays, Steps, world_of}
+use Rattle.world.specs.Stepping.{CallReply, EndReply, WorldSeen, IsCalled, IsMade, MovesByCall, Plays, Steps, world_of}
 use Rattle.runs.specs.World.{Move, Act, Call, Finish, WorldStep}
 use Rattle.world.proofs.InFlight.{NoneInFlight, OneInFlight, begins, next_rises, next_stays, none_stays, one_ends, one_is, one_noted}
 use Rattle.runs.proofs.moments.KeptRequests as kept
@@ -338,19 +338,20 @@ module _ (old mid new : WorldSeen) (t : Serial) (a r : Reply) (alone : IsAlone o
 
 -- ---- a request in one, or the step that began none
 
--- the step makes this event, or nothing for want of memory; and the event may begin a request
+-- the step makes this event, which may begin a request
 pub record Begins (st : Step) (e : Event) : Type 0 where
   pub quiet : is_quiet e ≡ true
-  pub steps : (old new : WorldSeen) (r : Reply) → Steps old st r new → Made old e r new ⊎ IsNotMade old Memory r new
+  pub made : (old new : WorldSeen) (r : Reply) → IsMade old st r new → Made old e r new
+  pub steps : (old new : WorldSeen) (r : Reply) → IsMade old st r new → Steps old st r new
 
 pub fill_begins : (h : HandleId) (p : PageIndex) → Begins (step.FillBegin h p) (event.FillBegin h p)
-fill_begins h p = record { quiet = refl; steps = λ old new r x. x }
+fill_begins h p = record { quiet = refl; made = λ old new r x. x; steps = λ old new r x. inl x }
 
 pub flush_begins : (f : FileId) → Begins (step.FlushBegin f) (event.FlushBegin f)
-flush_begins f = record { quiet = refl; steps = λ old new r x. x }
+flush_begins f = record { quiet = refl; made = λ old new r x. x; steps = λ old new r x. inl x }
 
 pub sync_begins : (n : SyncId) → Begins (step.SyncStep n) (event.SyncStep n)
-sync_begins n = record { quiet = refl; steps = λ old new r x. x }
+sync_begins n = record { quiet = refl; made = λ old new r x. x; steps = λ old new r x. inl x }
 
 -- a request that was begun, called and ended, with its failure noted
 pub record Carried (old : WorldSeen) (errors : RecorderSeen) (e : Event) (r : Reply) (new : WorldSeen) (after : RecorderSeen) : Type 0 where
@@ -364,28 +365,25 @@ pub record Carried (old : WorldSeen) (errors : RecorderSeen) (e : Event) (r : Re
   pub ended : r ≢ reply.Refused Stranger
   pub noted : IsNoted errors (flush_of begun.core serial.0) r after
 
--- no memory, no request, or a whole one
+-- no request, or a whole one
 pub data Once (old : WorldSeen) (errors : RecorderSeen) (e : Event) (r : Reply) (new : WorldSeen) (after : RecorderSeen) : Type 0 where
-  Unmade : r ≡ reply.Refused Memory → new ≡ old → after ≡ errors → Once old errors e r new after
   Quiet : is_job r ≡ false → Made old e r new → after ≡ errors → Once old errors e r new after
   Whole : Carried old errors e r new after → Once old errors e r new after
 
 pub once : (old new : WorldSeen) (errors after : RecorderSeen) (st : Step) (e : Event) (r : Reply) → Begins st e → AtOnce old errors st r new after → Once old errors e r new after
-once old new errors after st e r b (inl a) = elim (b.steps old new r a.1) [ inl m ↦ Quiet a.0 m a.2 | inr m ↦ Unmade m.0 m.1 a.2 ]
-once old new errors after st e r b (inr (t, mid, asked, (called, answered, (ended, end, same)), noted)) = elim (b.steps old mid (reply.Job t) asked) [
-  | inl m ↦ (let c = call_made mid called t.0 _ _ answered in Whole (record {
-    serial = t;
-    begun = mid;
-    called = called;
-    begin = m;
-    call = c.0;
-    moves = c.1;
-    end = subst (Finished called t.0 r) (sym same) (end_made mid called ended t r c.0 end).0;
-    ended = (end_made mid called ended t r c.0 end).1;
-    noted = noted;
-  }))
-  | inr m ↦ absurd (cc (m.0))
-]
+once old new errors after st e r b (inl a) = Quiet a.0 (b.made old new r a.1) a.2
+once old new errors after st e r b (inr (t, mid, asked, (called, answered, (ended, end, same)), noted)) =
+    let c = call_made mid called t.0 _ _ answered in Whole (record {
+      serial = t;
+      begun = mid;
+      called = called;
+      begin = b.made old mid (reply.Job t) asked;
+      call = c.0;
+      moves = c.1;
+      end = subst (Finished called t.0 r) (sym same) (end_made mid called ended t r c.0 end).0;
+      ended = (end_made mid called ended t r c.0 end).1;
+      noted = noted;
+    })
 
 -- the service with another world and with what was noted
 abbrev pub with_world : SoloSeen → WorldSeen → RecorderSeen → SoloSeen
@@ -403,7 +401,6 @@ pub goes_refl : (s : SoloSeen) → IsSound s.world → Goes s s
 goes_refl s i = record { serves = serves_refl s; sound = i; lists = refl }
 
 once_goes : (s : SoloSeen) (w : WorldSeen) (errors : RecorderSeen) (st : Step) (e : Event) (r : Reply) → Begins st e → Once s.world s.errors e r w errors → length s.errors.all ≡ MAX_FILES → IsSound s.world → Goes s (with_world s w errors)
-once_goes s w errors st e r b (Unmade _ same none) l i = subst (λ x. Goes s (with_world s w x)) (sym none) (subst (λ x. Goes s (record s { world = x })) (sym same) (goes_refl s i))
 once_goes s w errors st e r b (Quiet j m none) l i = subst (λ x. Goes s (with_world s w x)) (sym none) (made_goes s w e r m b.quiet i)
 once_goes s w errors st e r b (Whole c) l i = carried_goes s w errors st e r b c l i
 
@@ -415,13 +412,14 @@ at_once_serves name s w errors table st e r b a i = (at_once_goes name s w error
 
 -- the steps that it is
 at_once_moves : (k : Step → Bool) (old new : WorldSeen) (errors after : RecorderSeen) (st : Step) (r : Reply)
+    → ((v : WorldSeen) (q : Reply) → IsMade old st q v → Steps old st q v)
     → k st ≡ true → ((t : Serial) → k (step.Call t) ≡ true) → ((t : Serial) → k (step.End t) ≡ true)
     → AtOnce old errors st r new after → Moves k old new
-at_once_moves k old new errors after st r is calls ends (inl a) = one_move k old new st r is a.1
-at_once_moves k old new errors after st r is calls ends (inr (t, mid, begun, plays, noted)) = record {
+at_once_moves k old new errors after st r steps is calls ends (inl a) = one_move k old new st r is (steps new r a.1)
+at_once_moves k old new errors after st r steps is calls ends (inr (t, mid, begun, plays, noted)) = record {
   steps = st ∷ step.Call t ∷ step.End t ∷ [];
   replies = reply.Job t ∷ reply.Done ∷ r ∷ [];
-  plays = (mid, begun, plays);
+  plays = (mid, steps mid (reply.Job t) begun, plays);
   each = three k st (step.Call t) (step.End t) is (calls t) (ends t);
 }
 
@@ -430,7 +428,7 @@ pub at_once_helps : (name : ℕ) (s : SoloSeen) (w : WorldSeen) (errors : Record
     → IsServing name s.world table s.errors → Helps s (with_world s w errors)
 at_once_helps name s w errors table st e r b k a i = record {
   serves = at_once_serves name s w errors table st e r b a i;
-  moves = at_once_moves is_help s.world w s.errors errors st r k (λ t. refl) (λ t. refl) a;
+  moves = at_once_moves is_help s.world w s.errors errors st r (λ v q m. b.steps s.world v q m) k (λ t. refl) (λ t. refl) a;
 }
 
 pub begun_alone : (old new : WorldSeen) (e : Event) (t : Serial) → IsResting old → Made old e (reply.Job t) new → IsAlone new t.0
@@ -438,15 +436,14 @@ begun_alone old new e t rest m =
     let x = begins (world_of old) (world_of new) e t m.0 in
     record { request = x.request; requests = x.requests ∙ ap (λ y. finmap.insert y t.0 x.request) rest.requests; outcomes = x.outcomes ∙ rest.outcomes }
 
-pub quiet_rests : (old new : WorldSeen) (st : Step) (e : Event) (r : Reply) → Begins st e → is_job r ≡ false → Steps old st r new → IsResting old → IsResting new
-quiet_rests old new st e r b j h rest = elim (b.steps old new r h) [ inl m ↦ made_rests old new e r m j rest | inr m ↦ subst IsResting (sym m.1) rest ]
+pub quiet_rests : (old new : WorldSeen) (st : Step) (e : Event) (r : Reply) → Begins st e → is_job r ≡ false → IsMade old st r new → IsResting old → IsResting new
+quiet_rests old new st e r b j h rest = made_rests old new e r (b.made old new r h) j rest
 
 pub no_job : (r : Reply) → ((t : Serial) → r ≡ reply.Job t → ⊥) → is_job r ≡ false
 no_job (reply.Job t) h = absurd (h t refl)
 no_job _ h = refl
 
 once_rests : (old new : WorldSeen) (errors after : RecorderSeen) (st : Step) (e : Event) (r : Reply) → Begins st e → Once old errors e r new after → IsResting old → IsResting new
-once_rests old new errors after st e r b (Unmade _ same none) rest = subst IsResting (sym same) rest
 once_rests old new errors after st e r b (Quiet j m none) rest = made_rests old new e r m j rest
 once_rests old new errors after st e r b (Whole c) rest =
     let x = one_ends (world_of c.called) (world_of new) c.serial.0 r c.ended (one_called c.begun c.called c.serial.0 c.call (begun_alone old c.begun e c.serial rest c.begin)) c.end.0 in
@@ -454,12 +451,10 @@ once_rests old new errors after st e r b (Whole c) rest =
 
 -- a request that was carried out at once leaves none in flight
 pub carried_rests : (old mid new : WorldSeen) (st : Step) (e : Event) (t : Serial) (r : Reply) → Begins st e
-    → Steps old st (reply.Job t) mid → Plays mid (step.Call t ∷ step.End t ∷ []) (reply.Done ∷ r ∷ []) new → IsResting old
+    → IsMade old st (reply.Job t) mid → Plays mid (step.Call t ∷ step.End t ∷ []) (reply.Done ∷ r ∷ []) new → IsResting old
     → IsResting new
-carried_rests old mid new st e t r b begun (called, answered, (ended, end, same)) rest = elim (b.steps old mid (reply.Job t) begun) [
-  | inl m ↦ subst IsResting (sym same) (alone_rests mid called ended t reply.Done r (begun_alone old mid e t rest m) answered end)
-  | inr m ↦ absurd (cc (m.0))
-]
+carried_rests old mid new st e t r b begun (called, answered, (ended, end, same)) rest = subst IsResting (sym same)
+    (alone_rests mid called ended t reply.Done r (begun_alone old mid e t rest (b.made old mid (reply.Job t) begun)) answered end)
 
 serials_on : (a b c d m : ℕ) → a ≤ c → a < m → b ≡ a + 1 → (c < m → d ≡ c + 1) → c ≤ m → (c ≡ m → d ≡ c) → b ≤ d
 serials_on a b c d m h less e f most same = elim (at_most c m most) [ inl x ↦ (let y = f x in omega arith) | inr x ↦ (let y = same x in omega arith) ]
@@ -478,7 +473,6 @@ carried_serials old new errors after e r c most i =
     (λ full. over ∙ ap (λ d. d.calls) (k.exhausted (device ∙ full)).1 ∙ device)
 
 once_serials : (old new : WorldSeen) (errors after : RecorderSeen) (st : Step) (e : Event) (r : Reply) → Begins st e → Once old errors e r new after → old.device.calls ≤ max_calls → FewSerials old → FewSerials new
-once_serials old new errors after st e r b (Unmade _ same none) most i = subst FewSerials (sym same) i
 once_serials old new errors after st e r b (Quiet j m none) most i = made_serials old new e r m j i
 once_serials old new errors after st e r b (Whole c) most i = carried_serials old new errors after e r c most i
 
@@ -490,7 +484,6 @@ at_once_serving name s w errors table st e r b a i =
 
 -- one that is no sync's begins none
 once_syncs : (old new : WorldSeen) (errors after : RecorderSeen) (e : Event) (r : Reply) → begins_sync e ≡ false → Once old errors e r new after → old.core.syncs ≡ finmap.empty → new.core.syncs ≡ finmap.empty
-once_syncs old new errors after e r q (Unmade _ same none) i = ap (λ (x : WorldSeen). x.core.syncs) same ∙ i
 once_syncs old new errors after e r q (Quiet j m none) i = none_empty old.core new.core (act_none (world_of old) (world_of new) e r q m.0) i
 once_syncs old new errors after e r q (Whole c) i =
     let a = none_empty old.core c.begun.core (act_none (world_of old) (world_of c.begun) e (reply.Job c.serial) q c.begin.0) i in

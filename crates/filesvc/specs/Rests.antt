@@ -18,7 +18,7 @@ use Rattle.machine.specs.State.{Request, State, file_at, handle_file, has_block,
 use Rattle.world.specs.declared.step.Step.{Step}
 use Rattle.world.specs.declared.step.Step.TheVariants as step
 use Rattle.runs.specs.Reached.{IsReached}
-use Rattle.world.specs.Stepping.{WorldSeen, Plays, Steps, world_of}
+use Rattle.world.specs.Stepping.{WorldSeen, IsMade, Plays, world_of}
 
 -- no request is in flight
 pub record IsResting (w : WorldSeen) : Type 0 where
@@ -80,8 +80,8 @@ IsNoted old _ _ new = new ≡ old
 -- the step was made, and where it began a request the device call and the end follow, whose reply this is and whose failure was recorded
 abbrev pub AtOnce : WorldSeen → RecorderSeen → Step → Reply → WorldSeen → RecorderSeen → Type 0
 AtOnce old errors s r new noted =
-    ((is_job r ≡ false) × Steps old s r new × (noted ≡ errors))
-    ⊎ ((t : Serial) × (mid : WorldSeen) × Steps old s (reply.Job t) mid × Plays mid (step.Call t ∷ step.End t ∷ []) (reply.Done ∷ r ∷ []) new × IsNoted errors (flush_of mid.core t.0) r noted)
+    ((is_job r ≡ false) × IsMade old s r new × (noted ≡ errors))
+    ⊎ ((t : Serial) × (mid : WorldSeen) × IsMade old s (reply.Job t) mid × Plays mid (step.Call t ∷ step.End t ∷ []) (reply.Done ∷ r ∷ []) new × IsNoted errors (flush_of mid.core t.0) r noted)
 
 -- request t alone is in flight, and its device call was not made yet
 pub record IsAlone (w : WorldSeen) (t : ℕ) : Type 0 where

@@ -32,12 +32,11 @@ abbrev pub NothingToFlush : SoloSeen → Type 0
 NothingToFlush s = (f : ℕ) → f < length s.world.core.files
     → tests s.world.core (event.FlushBegin (record { 0 = f })) ≡ Some reply.Nothing
 
--- how a flush of a file ended: a page was written; or there was none to write, or no such file, and nothing changed; or memory was
--- refused; and else a device call failed, or no more of them can be counted
+-- how a flush of a file ended: a page was written; or there was none to write, or no such file, and nothing changed; and else a device
+-- call failed, or no more of them can be counted
 abbrev pub IsFlush : SoloSeen → FileId → Reply → SoloSeen → Type 0
 IsFlush old f reply.Written new = WritesBack old f new
 IsFlush old f reply.Nothing new = (tests old.world.core (event.FlushBegin f) ≡ Some reply.Nothing) × (new ≡ old)
-IsFlush old f (reply.Refused Memory) new = Unit {0}
 IsFlush old f (reply.Refused NoSuchFile) new = (length old.world.core.files ≤ f.0) × (new ≡ old)
 IsFlush old f _ new = Faulted old new
 

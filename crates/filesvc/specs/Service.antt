@@ -296,10 +296,8 @@ abbrev pub open_reply : Result HandleSeen Refusal → Reply
 open_reply (Ok h) = reply.Handle (record { 0 = h.number })
 open_reply (Err r) = reply.Refused r
 
--- why an fsync is refused that ends by no success and no error of a write: a growth was refused, or no serial is left
--- for a write
+-- why an fsync is refused that ends by no success and no error of a write: no serial is left for a write
 abbrev pub IsSyncRefusal : Refusal → SoloSeen → Type 0
-IsSyncRefusal Memory new = Unit {0}
 IsSyncRefusal TooManyInFlight new = SERIAL_END ≤ new.world.core.next
 IsSyncRefusal r new = ⊥
 

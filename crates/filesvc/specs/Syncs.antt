@@ -9,13 +9,13 @@ use Rattle.machine.specs.declared.event.Reply.TheVariants as reply
 use Rattle.cachecore.specs.Replies.{is_job, sync_dropped}
 use Rattle.errboard.specs.Shown.{RecorderSeen}
 use Rattle.world.specs.declared.step.Step.TheVariants as step
-use Rattle.world.specs.Stepping.{WorldSeen, IsMade, Plays, Steps}
+use Rattle.world.specs.Stepping.{WorldSeen, IsMade, Plays}
 use Rattle.filesvc.specs.Seen.{SoloSeen}
 
 -- a page was written out, with whatever end; or the sync's step gave this reply
 abbrev pub SyncTurn : WorldSeen → SyncId → Option Reply → WorldSeen → Type 0
 SyncTurn old n None new = (t : Serial) × (r : Reply) × Plays old (step.SyncStep n ∷ step.Call t ∷ step.End t ∷ []) (reply.Job t ∷ reply.Done ∷ r ∷ []) new
-SyncTurn old n (Some r) new = (is_job r ≡ false) × Steps old (step.SyncStep n) r new
+SyncTurn old n (Some r) new = (is_job r ≡ false) × IsMade old (step.SyncStep n) r new
 
 -- the sync was given up, where it was there
 abbrev pub Drops : WorldSeen → SyncId → WorldSeen → Type 0

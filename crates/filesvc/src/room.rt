@@ -1,7 +1,7 @@
 //! What a call does on the way: it fills pages that it missed, and makes room.
 
 ghost use Rattle.std.specs.Prelude.{◌≡◌, ◌⊎◌, ◌<◌, None, IfErr, IfOk, IsOkUnless, OnOk};
-ghost use Rattle.pc_types.specs.declared.refusal.Refusal.TheVariants.{DirtyLimit, Memory, NoFrame};
+ghost use Rattle.pc_types.specs.declared.refusal.Refusal.TheVariants.{DirtyLimit, NoFrame};
 ghost use Rattle.filesvc.specs.Attempts.{Helps};
 ghost use Rattle.filesvc.specs.Rooms.{FlushesOne, IsClean, IsFillRefusal, IsFlush, IsMissed, MakesRoom, StaysAbsent, Suffices, need, wants};
 ghost use Rattle.filesvc.specs.Service.{Faulted};
@@ -95,7 +95,7 @@ impl<D: BlockDevice> Solo<D> {
         ensures helps { Helps self.old self.new }
         ensures attempts { self.new.attempts ≡ self.old.attempts }
         ensures made { OnOk result (MakesRoom self.old refusal self.new) }
-        ensures refused { IfErr result (λ r. (r ≡ refusal) ⊎ (r ≡ Memory)) }
+        ensures refused { IsOkUnless result refusal }
         ensures frames { refusal ≡ NoFrame → IfErr result (λ r. r ≡ NoFrame → Faulted self.old self.new ⊎ Suffices self.old) }
         ensures clean { refusal ≡ DirtyLimit → IfErr result (λ r. r ≡ DirtyLimit → Faulted self.old self.new ⊎ IsClean self.old) }
     {
@@ -109,7 +109,7 @@ impl<D: BlockDevice> Solo<D> {
             Refusal::DirtyLimit => {}
             other => return Err(other),
         }
-        if self.flush_one()? {
+        if self.flush_one() {
             Ok(())
         } else {
             Err(refusal)
@@ -117,23 +117,21 @@ impl<D: BlockDevice> Solo<D> {
     }
 
     /// Writes a dirty page back, of the first file that has one. Answers whether that was done.
-    fn flush_one(&mut self) -> Result<bool, Refusal>
+    fn flush_one(&mut self) -> bool
         ensures helps { Helps self.old self.new }
         ensures attempts { self.new.attempts ≡ self.old.attempts }
-        ensures refused { IsOkUnless result Refusal.Memory }
-        ensures flushes { IfOk result (λ done. FlushesOne self.old done self.new) }
+        ensures flushes { FlushesOne self.old result self.new }
     {
         // Opens `self`: its invariant says that there are `MAX_FILES` files at most, so the loop passes all of them.
         let _ = &self.world;
         'files: for file in 0..MAX_FILES {
             match self.flush_file(FileId(file)) {
                 Reply::Nothing => {}
-                Reply::Refused(Refusal::Memory) => return Err(Refusal::Memory),
-                Reply::Written => return Ok(true),
-                _ => return Ok(false),
+                Reply::Written => return true,
+                _ => return false,
             }
         }
-        Ok(false)
+        false
     }
 
     /// Writes the file's lowest dirty page back.

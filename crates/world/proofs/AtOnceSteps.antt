@@ -30,7 +30,7 @@ use Rattle.cachecore.specs.declared.at_once.AtOnce.{AtOnce}
 use Rattle.cachecore.specs.declared.at_once.AtOnce.TheVariants.{Answered, Ended}
 use Rattle.world.specs.AtOnce.{StepsAtOnce}
 use Rattle.world.specs.Flights.{IsSpare, IsWorld, Jobs, seen_of}
-use Rattle.world.specs.Stepping.{CallReply, EndReply, Steps, WorldSeen}
+use Rattle.world.specs.Stepping.{CallReply, EndReply, IsMade, WorldSeen}
 use Rattle.world.specs.declared.jobs.Flight.{Flight}
 use Rattle.world.specs.declared.jobs.Flight.TheVariants.{Asked, Made}
 use Rattle.world.specs.declared.step.Step.{Step}
@@ -126,7 +126,7 @@ module _ (core : Core) (jobs : Jobs) (dev : Watch) (w : IsWorld core.state jobs 
     (is_old : seen_of core.state jobs dev ≡ old) (e : Event) (s : Step) (kind : Kind) (kind_of : begun_kind e ≡ Some kind)
     (act : (r : Reply) → IsAct e r) (goes : (r : Reply) → is_end e r ≡ false)
     (writes : ℕ → Option ℕ) (written : (f : ℕ) → (if is_flush kind then Some f else None) ≡ writes f)
-    (step_of : (r : Reply) (new : WorldSeen) → IsActed old e r new → Steps old s r new) (after : Core) (to : Watch) where
+    (made_of : (r : Reply) (new : WorldSeen) → IsActed old e r new → IsMade old s r new) (after : Core) (to : Watch) where
   pub at_once_world : (a : AtOnce) → MakesAtOnce core e dev a after to → IsWorld after.state jobs to
   at_once_world (Answered r) h = subst (IsWorld after.state jobs) (sym h.3)
       (quiet_world core.state jobs dev w e r after.state (same_job r h.1) (goes r) h.0)
@@ -149,7 +149,7 @@ module _ (core : Core) (jobs : Jobs) (dev : Watch) (w : IsWorld core.state jobs 
       → StepsAtOnce old s writes a (seen_of after.state jobs to)
   at_once_steps (Answered r) h = (
     λ t is. (let job : is_job r ≡ true = ap is_job is in let clash : true ≡ false = sym job ∙ h.1 in cc),
-    step_of r (seen_of after.state jobs to)
+    made_of r (seen_of after.state jobs to)
         (subst (λ d. IsActed old e r (seen_of after.state jobs d)) (sym h.3)
         (quiet_acted core.state jobs dev w old is_old e r after.state (act r) (same_job r h.1) (goes r) h.0)),
   )
@@ -159,7 +159,7 @@ module _ (core : Core) (jobs : Jobs) (dev : Watch) (w : IsWorld core.state jobs 
         h.within,
         t,
         one,
-        step_of (reply.Job t) one (begins core jobs dev w old is_old e f.0 r after to h (act _)),
+        made_of (reply.Job t) one (begins core jobs dev w old is_old e f.0 r after to h (act _)),
         its_file core jobs dev w old is_old e f.0 r after to h (act _) kind
             (kind_is core.state h.begun e t kind kind_of h.begins) ∙ written f.0,
         (

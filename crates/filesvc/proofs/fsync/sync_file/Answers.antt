@@ -1,4 +1,4 @@
-use Rattle.std.proofs.Common.{◌≡◌, ap, refl, sym, subst, ◌∙◌, arith}
+use Rattle.std.proofs.Common.{◌≡◌, ap, inl, refl, sym, subst, ◌∙◌, arith}
 use Rattle.std.specs.Prelude.{Err, IfOk, is_some}
 use Rattle.std.specs.FinMap as map
 use Rattle.machine.specs.declared.event.Event.TheVariants as event
@@ -63,23 +63,23 @@ returns-in-Some g c =
     let mid = service_of c.sync_step.new.world c.sync_step.new.recorder in
     let new = service_of c.sync_end.new.world c.sync_step.new.recorder in
     record {
-      service = record { serving = x.0; syncs = call_ends c.steps.world c.sync_step.new.world c.sync_end.new.world c.in_ok-sync.sync i.only c.in-Some.reply c.sync_end.result turn.1 end.end end.same end.dropped };
+      service = record { serving = x.0; syncs = call_ends c.steps.world c.sync_step.new.world c.sync_end.new.world c.in_ok-sync.sync i.only c.in-Some.reply c.sync_end.result (inl turn.1) end.end end.same end.dropped };
       serves = serves_trans old now new i.serves (serves_trans now mid new c.sync_step.ensures.serves x.1);
       turned = λ turned. absurd (begun_range c.args.world.now.core c.sync_begin_range.new.self.core c.args.handle c.args.first c.args.last c.in_ok-sync.sync c.in_ok-sync.ensures.0.1.0 turned);
       made = moves_trans is_for_sync _ c.steps.world _ (writes_moves c.args.handle c.args.first c.args.last c.in_ok-sync.sync c.args.world.now c.steps.world i.writes)
           (moves_trans is_for_sync c.steps.world c.sync_step.new.world c.sync_end.new.world
-          (one_move is_for_sync c.steps.world c.sync_step.new.world (step.SyncStep c.in_ok-sync.sync) c.in-Some.reply refl turn.1)
+          (one_move is_for_sync c.steps.world c.sync_step.new.world (step.SyncStep c.in_ok-sync.sync) c.in-Some.reply refl (inl turn.1))
           (end_moves c.sync_step.new.world c.sync_end.new.world c.in_ok-sync.sync c.sync_end.result end.same end.dropped));
-      ends = syncs_over c.args.handle c.args.first c.args.last c.in_ok-sync.sync c.args.world.now c.steps.world c.sync_step.new.world c.sync_end.new.world i.writes c.in-Some.reply c.sync_end.result turn.1 end.end end.same;
+      ends = syncs_over c.args.handle c.args.first c.args.last c.in_ok-sync.sync c.args.world.now c.steps.world c.sync_step.new.world c.sync_end.new.world i.writes c.in-Some.reply c.sync_end.result (inl turn.1) end.end end.same;
       cost = λ f here.
           (let x = i.cost f here in
           let y = ends_free c.steps.world c.sync_step.new.world c.sync_end.new.world c.in_ok-sync.sync
-          c.in-Some.reply c.sync_end.result turn.1 end.same end.dropped in
+          c.in-Some.reply c.sync_end.result (inl turn.1) end.same end.dropped in
           omega arith);
       tallied = λ f here. call_tallied old now mid new c.args.handle c.args.first c.args.last c.in_ok-sync.sync f here
-          i.serves c.sync_step.ensures.serves c.in-Some.reply c.sync_end.result i.of turn.1 end.end
+          i.serves c.sync_step.ensures.serves c.in-Some.reply c.sync_end.result i.of (inl turn.1) end.end
           (same_service c.sync_step.new.world c.sync_end.new.world c.sync_step.new.recorder c.sync_end.result end.same);
-      synced = λ tells f here. call_synced old now mid new c.args.handle c.args.first c.args.last c.in_ok-sync.sync f here i.serves c.sync_step.ensures.serves c.in-Some.reply c.sync_end.result (i.syncing tells) turn.1 end.end (same_service c.sync_step.new.world c.sync_end.new.world c.sync_step.new.recorder c.sync_end.result end.same);
+      synced = λ tells f here. call_synced old now mid new c.args.handle c.args.first c.args.last c.in_ok-sync.sync f here i.serves c.sync_step.ensures.serves c.in-Some.reply c.sync_end.result (i.syncing tells) (inl turn.1) end.end (same_service c.sync_step.new.world c.sync_end.new.world c.sync_step.new.recorder c.sync_end.result end.same);
       refused = λ _. call_refused now mid new c.in_ok-sync.sync i.serving.rests i.serving.orderly i.only c.in-Some.reply
           c.sync_end.result turn.0 turn.1 end.end end.dropped;
     }

@@ -19,5 +19,5 @@ returns-in-Ended g c =
     record {
       serving = renamed _ _ _ _ x.0;
       serves = x.1;
-      turn = (made.1, c.in-Ended.reply, (made.2, made.3, made.5));
+      turn = (made.1, c.in-Ended.reply, (made.2, inl made.3, made.5));
     }
