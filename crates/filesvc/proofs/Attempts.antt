@@ -32,7 +32,7 @@ use Rattle.filesvc.specs.declared.writes.Wrote.{Wrote}
 use Rattle.world.specs.declared.step.Step.TheVariants as step
 use Rattle.world.specs.Stepping.{Steps}
 use Rattle.filesvc.specs.Attempts.{Attempt, Follows, Helps, WroteAll, need_of, step_of, write_over}
-use Rattle.filesvc.specs.Made.{FailsFill, IsMadeOf, Tries, write_step}
+use Rattle.filesvc.specs.Made.{FailsFill, IsMadeOf, Tries, WantsMemory, own_handle, write_step}
 use Rattle.filesvc.specs.Rests.{IsService}
 use Rattle.filesvc.specs.Seen.{HandleSeen, SoloSeen}
 use Rattle.filesvc.specs.Service.{FilesAfter, IsOpen, IsRefusal, IsSettledAtOnce, IsSoonOver, Keeps, LengthsAfter}
@@ -86,6 +86,13 @@ own_step old new (event.Append h b) got call m d still = (m, d, still)
 own_step old new (event.Truncate h z) got call m d still = (m, d, still)
 own_step old new e got call m d still = absurd cc
 
+own_names : (e : Event) → is_call e ≡ true → {h : ℕ} → handle_of e ≡ h → h ≡ own_handle (step_of e)
+own_names (event.Read h o n) call is = sym is
+own_names (event.Write h o b) call is = sym is
+own_names (event.Append h b) call is = sym is
+own_names (event.Truncate h z) call is = sym is
+own_names e call is = absurd cc
+
 -- the service after the event of an attempt
 abbrev pub acted : SoloSeen → WorldSeen → SoloSeen
 acted old w = record { world = w; errors = old.errors; attempts = old.attempts + 1 }
@@ -128,6 +135,7 @@ module _ (old : SoloSeen) (h : HandleId) (e : Event) (got : Reply) (w : WorldSee
         settled = λ _. (refl, refl);
         helped = λ u. absurd (let x : true ≡ false = sym t ∙ u in cc);
         failed = λ u. absurd (let x : true ≡ false = sym t ∙ u in cc);
+        wanting = λ u. absurd (let x : true ≡ false = sym t ∙ u in cc);
       };
       refused = λ r is. refused_over r t (let x : got ≡ reply.Refused r = cc in x);
       less = λ is. absurd cc;
@@ -163,16 +171,27 @@ module _ (old : SoloSeen) (h : HandleId) (e : Event) (got : Reply) (w : WorldSee
                 settled = λ t. absurd (let x : true ≡ false = sym t ∙ u in cc);
                 helped = λ _. f.helps.moves;
                 failed = λ _. fails;
+                wanting = λ _. wants_memory;
               };
               less = λ is. subst (λ x. need_of new.world.core e < need_of x e) (c.same u) (gains u is);
             }
           where
-            fails : (code : ℕ) → over ≡ Some (reply.Refused (Io code)) → FailsFill w code new.world
+            fails : (code : ℕ) → over ≡ Some (reply.Refused (Io code)) → FailsFill w (own_handle (step_of e)) code new.world
             fails code is = elim (f.stopped u) [
               | inl a ↦ absurd (let x : Some (reply.Refused (Io code)) ≡ None = sym is ∙ a in cc)
               | inr a ↦ (let x : Some (reply.Refused a.0) ≡ Some (reply.Refused (Io code)) = sym a.1 ∙ is in
                   let y : a.0 ≡ Io code = cc in
+                  subst (λ k. FailsFill w k code new.world) (own_names e call by)
                   (subst (λ r. IsFillRefusal (acted old w) h r new) y a.2).1)
+            ]
+
+            wants_memory : over ≡ Some (reply.Refused Memory) → WantsMemory w (own_handle (step_of e)) new.world
+            wants_memory is = elim (f.stopped u) [
+              | inl a ↦ absurd (let x : Some (reply.Refused Memory) ≡ None = sym is ∙ a in cc)
+              | inr a ↦ (let x : Some (reply.Refused a.0) ≡ Some (reply.Refused Memory) = sym a.1 ∙ is in
+                  let y : a.0 ≡ Memory = cc in
+                  subst (λ k. WantsMemory w k new.world) (own_names e call by)
+                  (subst (λ r. IsFillRefusal (acted old w) h r new) y a.2))
             ]
 
             fill_refuses : (r : Refusal) → IsFillRefusal (acted old w) h r new → IsRefusal (acted old w) e r new

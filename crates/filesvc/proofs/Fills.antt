@@ -38,7 +38,7 @@ use Rattle.filesvc.specs.Rests.{AtOnce, IsServing}
 use Rattle.filesvc.specs.Rooms.{IsMissed, need, wants}
 use Rattle.filesvc.specs.Seen.{SoloSeen}
 use Rattle.filesvc.proofs.Needs.{Fills, filled_needs, some_free}
-use Rattle.filesvc.proofs.WorldLaws.{Once, Quiet, Unmade, Whole, fill_begins, once}
+use Rattle.filesvc.proofs.WorldLaws.{Once, Quiet, Whole, fill_begins, once}
 
 abbrev IsRefused : Reply → Type 0
 IsRefused r = (why : Refusal) × (r ≡ reply.Refused why)

@@ -18,7 +18,7 @@ use Rattle.world.specs.Stepping.{WorldSeen, world_of}
 use Rattle.filesvc.specs.Rooms.{MakesRoom, StaysAbsent, WritesBack, load}
 use Rattle.filesvc.specs.Seen.{SoloSeen}
 use Rattle.filesvc.proofs.Lightens.{Lighter, NoHeavier, begin_less, end_most, evict_less}
-use Rattle.filesvc.proofs.WorldLaws.{Carried, Once, Quiet, Unmade, Whole, flush_begins, once}
+use Rattle.filesvc.proofs.WorldLaws.{Carried, Once, Quiet, Whole, flush_begins, once}
 
 -- the end of a flush that went well
 flush_end_most : (w new : WorldSeen) (t : ℕ) → WorldStep (world_of w) (Finish t reply.Written) (world_of new) → NoHeavier w.core new.core

@@ -44,10 +44,10 @@ use Rattle.filesvc.specs.Seen.{SoloSeen}
 use Rattle.filesvc.specs.Service.{Faulted, Serves}
 use Rattle.filesvc.proofs.Acted.{service_acted}
 use Rattle.filesvc.specs.Attempts.{Helps}
-use Rattle.filesvc.specs.Made.{FailsFill, Moves, is_help}
+use Rattle.filesvc.specs.Made.{FailsFill, Moves, WantsMemory, is_help}
 use Rattle.filesvc.proofs.Laws.{moves_refl, moves_trans, one_move, serves_trans}
 use Rattle.filesvc.proofs.WorldLaws as laws
-use Rattle.filesvc.proofs.WorldLaws.{Carried, IsSound, Made, Once, Quiet, Unmade, Whole, call_by, call_failed, fill_begins, made_goes, once, outcome_noted, service_sound}
+use Rattle.filesvc.proofs.WorldLaws.{Carried, IsSound, Made, Once, Quiet, Whole, call_by, call_failed, fill_begins, made_goes, once, outcome_noted, service_sound}
 
 -- ---- what a fill's begin may answer
 
@@ -129,6 +129,12 @@ refused_why old new errors after h p r (Whole c) = absurd (end_never c.called ne
 pub no_serial : (s : State) → s.requests ≡ finmap.empty → is_full s ≡ true → SERIAL_END ≤ s.next
 no_serial s none full = leb-true SERIAL_END s.next (subst (λ m. (nat_le MAX_IN_FLIGHT m || nat_le SERIAL_END s.next) ≡ true) (ap finmap.len none ∙ len-empty nat_cmp Request) full)
 
+-- the step that it was, where memory was refused
+memory_wanted : (old new : WorldSeen) (errors after : RecorderSeen) (h : HandleId) (p : PageIndex)
+    → Once old errors (event.FillBegin h p) (reply.Refused Memory) new after → WantsMemory old h.0 new
+memory_wanted old new errors after h p (Quiet j m none) = (old, moves_refl is_help old, p, m)
+memory_wanted old new errors after h p (Whole c) = absurd (end_never c.called new c.serial.0 Memory (λ e. cc) c.end.0)
+
 -- a fill that is refused, where a frame is free
 pub fill_stopped : (name : ℕ) (s : SoloSeen) (w : WorldSeen) (errors : RecorderSeen) (table : TableId) (h : HandleId) (p : PageIndex) (r : Refusal) → IsServing name s.world table s.errors → AtOnce s.world s.errors (step.FillBegin h p) (reply.Refused r) w errors → 0 < free_frames s.world.core → IsFillRefusal s h r (record s { world = w; errors = errors })
 fill_stopped name s w errors table h p r i a free =
@@ -139,7 +145,7 @@ fill_stopped name s w errors table h p r i a free =
     by BadHandle y n = y
     by NoFrame y n = absurd (let none = eqb-true (free_frames s.world.core) 0 y in omega arith)
     by TooManyInFlight y n = subst (λ k. SERIAL_END ≤ k) (sym n) (no_serial s.world.core i.rests.requests y)
-    by Memory y n = tt
+    by Memory y n = memory_wanted s.world w s.errors errors h p (once s.world w s.errors errors _ _ _ (fill_begins h p) a)
     by r y n = absurd y
 
 -- ---- want of room since before
@@ -165,8 +171,11 @@ module _ (old mid new : SoloSeen) (serves : Serves old mid) where
   way_refused h want r (inl x) k frames clean = absurd (let e : r ≡ NoFrame = k ∙ x.0 in cc)
   way_refused h want r (inr x) k frames clean = absurd (let e : r ≡ DirtyLimit = k ∙ x.0 in cc)
 
-fails_before : (old mid new : WorldSeen) (code : ℕ) → Moves is_help old mid → FailsFill mid code new → FailsFill old code new
-fails_before old mid new code m (last, n, h, p, t, fill) = (last, moves_trans is_help old mid last m n, h, p, t, fill)
+fails_before : (old mid new : WorldSeen) (h code : ℕ) → Moves is_help old mid → FailsFill mid h code new → FailsFill old h code new
+fails_before old mid new h code m (last, n, p, t, fill) = (last, moves_trans is_help old mid last m n, p, t, fill)
+
+wants_before : (old mid new : WorldSeen) (h : ℕ) → Moves is_help old mid → WantsMemory mid h new → WantsMemory old h new
+wants_before old mid new h m (last, n, p, fill) = (last, moves_trans is_help old mid last m n, p, fill)
 
 pub fill_refusal_before : (old mid new : SoloSeen) (h : HandleId) (r : Refusal) → Helps old mid → IsFillRefusal mid h r new
     → IsFillRefusal old h r new
@@ -174,9 +183,9 @@ fill_refusal_before old mid new h BadHandle k x = ap (λ m. is_some (finmap.get 
 fill_refusal_before old mid new h NoFrame k x = faulted_before old mid new k.serves x
 fill_refusal_before old mid new h DirtyLimit k x = faulted_before old mid new k.serves x
 fill_refusal_before old mid new h (Io code) k x =
-    (faulted_before old mid new k.serves x.0, fails_before old.world mid.world new.world code k.moves x.1)
+    (faulted_before old mid new k.serves x.0, fails_before old.world mid.world new.world h.0 code k.moves x.1)
 fill_refusal_before old mid new h TooManyInFlight k x = x
-fill_refusal_before old mid new h Memory k x = tt
+fill_refusal_before old mid new h Memory k x = wants_before old.world mid.world new.world h.0 k.moves x
 fill_refusal_before old mid new h r k x = absurd x
 
 -- ---- a fill in one whose device call failed
@@ -216,10 +225,10 @@ faulted_by s w errors h p code (Whole c) i = carried_faulted s w errors _ code c
 
 -- and the steps that it was
 fails_fill : (old new : WorldSeen) (errors after : RecorderSeen) (h : HandleId) (p : PageIndex) (code : ℕ)
-    → AtOnce old errors (step.FillBegin h p) (reply.Failed code) new after → FailsFill old code new
+    → AtOnce old errors (step.FillBegin h p) (reply.Failed code) new after → FailsFill old h.0 code new
 fails_fill old new errors after h p code (inl a) = absurd (let f = fill_fair _ _ _ _ _ a.1.0.1.0 in cc)
 fails_fill old new errors after h p code (inr (t, mid, begun, plays, noted)) =
-    (old, moves_refl is_help old, h, p, t, (mid, inl begun, plays))
+    (old, moves_refl is_help old, p, t, (mid, inl begun, plays))
 
 pub fill_faulted : (s : SoloSeen) (w : WorldSeen) (errors : RecorderSeen) (h : HandleId) (p : PageIndex) (code : ℕ)
     → AtOnce s.world s.errors (step.FillBegin h p) (reply.Failed code) w errors → IsSound s.world

@@ -6,12 +6,12 @@ use Rattle.pc_types.specs.declared.ids.HandleId.{HandleId}
 use Rattle.pc_types.specs.declared.ids.PageIndex.{PageIndex}
 use Rattle.pc_types.specs.declared.ids.Serial.{Serial}
 use Rattle.pc_types.specs.declared.ids.SyncId.{SyncId}
-use Rattle.pc_types.specs.declared.refusal.Refusal.TheVariants.{Io}
+use Rattle.pc_types.specs.declared.refusal.Refusal.TheVariants.{Io, Memory}
 use Rattle.machine.specs.declared.event.Reply.{Reply}
 use Rattle.machine.specs.declared.event.Reply.TheVariants as reply
 use Rattle.world.specs.declared.step.Step.{Step}
 use Rattle.world.specs.declared.step.Step.TheVariants as step
-use Rattle.world.specs.Stepping.{WorldSeen, Plays, Steps}
+use Rattle.world.specs.Stepping.{WorldSeen, IsMade, Plays, Steps}
 use Rattle.filesvc.specs.Seen.{HandleSeen, SoloSeen}
 use Rattle.filesvc.specs.Service.{is_settled}
 
@@ -61,22 +61,37 @@ pub record Syncs (h : HandleId) (first last : PageIndex) (old : WorldSeen) (r : 
   pub writes : Writes h first last sync old written
   pub ends : Steps written (step.SyncStep sync) r new
 
--- after steps that help, a page was filled, and the device call failed with this code
-abbrev pub FailsFill : WorldSeen → ℕ → WorldSeen → Type 0
-FailsFill old code new =
-    (mid : WorldSeen) × Moves is_help old mid × (h : HandleId) × (p : PageIndex) × (t : Serial)
-    × Plays mid (step.FillBegin h p ∷ step.Call t ∷ step.End t ∷ []) (reply.Job t ∷ reply.Done ∷ reply.Failed code ∷ [])
-    new
+-- the handle of a call's own step
+abbrev pub own_handle : Step → ℕ
+own_handle (step.Read h o n) = h.0
+own_handle (step.Write h o b) = h.0
+own_handle (step.Append h b) = h.0
+own_handle (step.Truncate h z) = h.0
+own_handle _ = 0
+
+-- after steps that help, a page of the handle's file was filled, and the device call failed with this code
+abbrev pub FailsFill : WorldSeen → ℕ → ℕ → WorldSeen → Type 0
+FailsFill old h code new =
+    (mid : WorldSeen) × Moves is_help old mid × (p : PageIndex) × (t : Serial)
+    × Plays mid (step.FillBegin (record { 0 = h }) p ∷ step.Call t ∷ step.End t ∷ [])
+    (reply.Job t ∷ reply.Done ∷ reply.Failed code ∷ []) new
+
+-- after steps that help, a page of the handle's file was to be filled, and memory for it was refused
+abbrev pub WantsMemory : WorldSeen → ℕ → WorldSeen → Type 0
+WantsMemory old h new =
+    (mid : WorldSeen) × Moves is_help old mid × (p : PageIndex) × IsMade mid (step.FillBegin (record { 0 = h }) p) (reply.Refused Memory) new
 
 -- one attempt of a call: its own step, whose reply is the answer; but where that asks for a page or for room, steps that
--- help, and no answer yet, or a refusal. One by a failed device call has the code of the fill that was the last of them
+-- help, and no answer yet, or a refusal. The last of them is a fill of a page of the call's own file, if that is for a failed device call,
+-- whose code it has, or for want of memory
 pub record Try (own : Step) (old : WorldSeen) (over : Option Reply) (new : WorldSeen) : Type 0 where
   pub got : Reply
   pub after : WorldSeen
   pub step : Steps old own got after
   pub settled : is_settled (Some got) ≡ true → (over ≡ Some got) × (new ≡ after)
   pub helped : is_settled (Some got) ≡ false → Moves is_help after new
-  pub failed : is_settled (Some got) ≡ false → (code : ℕ) → over ≡ Some (reply.Refused (Io code)) → FailsFill after code new
+  pub failed : is_settled (Some got) ≡ false → (code : ℕ) → over ≡ Some (reply.Refused (Io code)) → FailsFill after (own_handle own) code new
+  pub wanting : is_settled (Some got) ≡ false → over ≡ Some (reply.Refused Memory) → WantsMemory after (own_handle own) new
 
 -- so many attempts, none of which was answered
 abbrev pub Tries : Step → WorldSeen → ℕ → WorldSeen → Type 0

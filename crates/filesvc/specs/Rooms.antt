@@ -14,7 +14,7 @@ use Rattle.machine.specs.Step.{Step}
 use Rattle.machine.specs.Tests.{tests}
 use Rattle.cachecore.specs.Wants.{lacking, lacks_frames, may_touch, passes_limit}
 use Rattle.world.specs.declared.step.Step.TheVariants as step
-use Rattle.filesvc.specs.Made.{FailsFill}
+use Rattle.filesvc.specs.Made.{FailsFill, WantsMemory}
 use Rattle.filesvc.specs.Rests.{AtOnce}
 use Rattle.filesvc.specs.Seen.{SoloSeen}
 use Rattle.filesvc.specs.Service.{Faulted}
@@ -59,9 +59,9 @@ abbrev pub IsFillRefusal : SoloSeen → HandleId → Refusal → SoloSeen → Ty
 IsFillRefusal old h BadHandle new = is_open old.world.core h.0 ≡ false
 IsFillRefusal old h NoFrame new = Faulted old new
 IsFillRefusal old h DirtyLimit new = Faulted old new
-IsFillRefusal old h (Io code) new = Faulted old new × FailsFill old.world code new.world
+IsFillRefusal old h (Io code) new = Faulted old new × FailsFill old.world h.0 code new.world
 IsFillRefusal old h TooManyInFlight new = SERIAL_END ≤ new.world.core.next
-IsFillRefusal old h Memory new = Unit {0}
+IsFillRefusal old h Memory new = WantsMemory old.world h.0 new.world
 IsFillRefusal old h r new = ⊥
 
 -- what was done where this was refused: for a frame a page was evicted or, where none was idle, one written back; for one more dirty page
