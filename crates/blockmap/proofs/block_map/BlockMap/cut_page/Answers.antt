@@ -45,8 +45,8 @@ returns-in_default-clause-same c = λ _.
     let none = told_none (map.get s.spots p) c.in_default.ensures.had in
     (λ i. record { count = s.count; spots = (c.remove.ensures.gone ∙ gone_same s.spots p none) i; held = s.held }) ∙ c.self.view_is
 
-pub invariant_of-self-2 : goal.invariant_of-self-2
-invariant_of-self-2 c =
+pub invariant_of-self-then-is_some : goal.invariant_of-self-then-is_some
+invariant_of-self-then-is_some c =
     let s = c.self.inside in
     let p : ℕ × ℕ = (c.args.file, c.args.page) in
     let t = told_spot (map.get s.spots p) c.in-Some.placed c.in-Some.ensures.had in
@@ -57,8 +57,8 @@ invariant_of-self-2 c =
     (subst (λ (h : Held). IsBalanced s.count s.free (map.remove s.spots p) s.used.used h) (sym (c.cut.ensures ∙ ap (λ k. map.insert s.held k true) (sym block)))
     (balanced-cut s.count s.free s.spots s.used.used s.held c.self.invariant p t.0 w.0 t.1 w.1))
 
-pub invariant_of-self-3 : goal.invariant_of-self-3
-invariant_of-self-3 c =
+pub invariant_of-self-2 : goal.invariant_of-self-2
+invariant_of-self-2 c =
     let s = c.self.inside in
     let p : ℕ × ℕ = (c.args.file, c.args.page) in
     let t = told_spot (map.get s.spots p) c.in-Some.placed c.in-Some.ensures.had in
