@@ -1,8 +1,9 @@
-use Rattle.std.proofs.Common.{arith, ap, cond, sym, subst, List, ◌∙◌, ◌≡◌, ◌≤◌, ◌+◌, ◌-◌}
+use Rattle.std.proofs.Common.{arith, ap, cond, sym, subst, false, List, ◌∙◌, ◌≡◌, ◌≤◌, ◌+◌, ◌-◌}
 use Rattle.std.specs.Prelude.{Some, None, is_some, ◌||◌, slice_index_or, slice_set}
 use Rattle.std.specs.Int.{from_bool}
 use Rattle.std.specs.FinMap as map
 use Rattle.std.specs.FinSet as set
+use Rattle.std.proofs.lemmas.Bool.{false≢true, or_left, or_right}
 use Rattle.frames.specs.Table.{Table, free_frames}
 use Rattle.mapping.specs.Pages.{FilePages, Mapped, seen}
 use Rattle.pagestore.specs.declared.kept.KeptFile.{KeptFile}
@@ -72,11 +73,22 @@ seen_left c =
 
 -- ---- no page was there
 
+abbrev at_default : In_default → FilePage
+at_default c = record {
+  pages = c.self.inside;
+  kept = c.self.invariant;
+  store = c.args.self.now;
+  seen = c.self.view_is;
+  file = c.args.file;
+  page = c.args.page;
+  here = c.requires;
+}
+
 none_in : (c : In_default) → entry_at c.self.inside.files.items c.args.file c.args.page ≡ None
 none_in c =
     sym (c.in_default.ensures.page
     ∙ ap (λ (k : KeptFile). map.get k.mapping.pages c.args.page)
-    (file_entry (at c.After-self) c.index_mut.result.now c.index_mut.ensures.value))
+    (file_entry (at_default c) c.index_mut.result.now c.index_mut.ensures.value))
 
 -- the files are as before
 files_kept : (c : In_default) → slice_set c.self.inside.files.items c.args.file (record c.index_mut.result.now { mapping = c.take_page.new.self }) ≡ c.self.inside.files.items
@@ -86,7 +98,7 @@ files_kept c =
     ap (λ (m : FilePages). let k : KeptFile = record c.index_mut.result.now { mapping = m } in slice_set files f k)
     c.take_page.ensures.gone
     ∙ ap (λ (k : KeptFile). slice_set files f (with_kept k c.args.page None))
-    (file_entry (at c.After-self) c.index_mut.result.now c.index_mut.ensures.value)
+    (file_entry (at_default c) c.index_mut.result.now c.index_mut.ensures.value)
     ∙ none_same files f c.args.page (none_in c)
 
 pub invariant_of-self : goal.invariant_of-self
@@ -94,13 +106,28 @@ invariant_of-self c =
     subst (λ (fs : List KeptFile). IsStore c.self.inside.frames c.self.inside.uptodate.items fs c.self.inside.dirty)
     (sym (files_kept (goal.at.invariant_of-self c).In_default)) c.self.invariant
 
-pub returns-in_default-clause-there : goal.returns-in_default-clause-there
-returns-in_default-clause-there c =
+absent : (c : In_default) → (is_some (stored_page c.args.self.now c.args.file c.args.page)
+    || is_awaited c.args.self.now c.args.file c.args.page) ≡ false
+absent c =
     let f = c.args.file in
     let p = c.args.page in
-    sym (ap (λ (s : Store). is_some (stored_page s f p) || is_awaited s f p) (sym c.self.view_is)
-    ∙ is_there c.self.inside.frames c.self.inside.uptodate.items c.self.inside.files.items f 0 None p
-    (none_in (goal.at.returns-in_default-clause-there c).In_default))
+    ap (λ (s : Store). is_some (stored_page s f p) || is_awaited s f p) (sym c.self.view_is)
+    ∙ is_there c.self.inside.frames c.self.inside.uptodate.items c.self.inside.files.items f 0 None p (none_in c)
+
+pub returns-in_default-clause-there : goal.returns-in_default-clause-there
+returns-in_default-clause-there c = sym (absent (goal.at.returns-in_default-clause-there c).In_default)
+
+pub returns-in_default-clause-page : goal.returns-in_default-clause-page
+returns-in_default-clause-page c = λ cached.
+    absurd (false≢true (sym (absent (goal.at.returns-in_default-clause-page c).In_default)
+    ∙ or_left (is_some (stored_page c.args.self.now c.args.file c.args.page))
+    (is_awaited c.args.self.now c.args.file c.args.page) cached))
+
+pub returns-in_default-clause-fill : goal.returns-in_default-clause-fill
+returns-in_default-clause-fill c = λ waits.
+    absurd (false≢true (sym (absent (goal.at.returns-in_default-clause-fill c).In_default)
+    ∙ or_right (is_some (stored_page c.args.self.now c.args.file c.args.page))
+    (is_awaited c.args.self.now c.args.file c.args.page) waits))
 
 pub returns-in_default-clause-same : goal.returns-in_default-clause-same
 returns-in_default-clause-same c = λ _.

@@ -1,4 +1,4 @@
-use Rattle.std.proofs.Common.{ap, arith, sym, subst, length, ◌∙◌, ◌≡◌, ◌≤◌, ◌<◌, true}
+use Rattle.std.proofs.Common.{ap, arith, sym, subst, length, ◌∙◌, ◌≡◌, ◌≤◌, ◌<◌, ◌+◌, true}
 use Rattle.std.specs.Prelude.{is_some, ◌||◌}
 use Rattle.std.specs.FinMap as map
 use Rattle.std.specs.FinSet as set
@@ -7,7 +7,7 @@ use Rattle.pagestore.specs.Store.{Store, is_awaited, stored_at, stored_page, wit
 use Rattle.pagestore.proofs.pages.Pages.leave_one.Goals as goal
 
 pub returns-then-leave_if_there-clause-found : goal.returns-then-leave_if_there-clause-found
-returns-then-leave_if_there-clause-found c = (omega (arith, c.max.ensures), sym c.leave_if_there.ensures.there ∙ c.if-leave_if_there.true)
+returns-then-leave_if_there-clause-found c = (omega (arith, c.max-at.ensures), sym c.leave_if_there.ensures.there ∙ c.if-leave_if_there.true)
 
 pub one_from-requires : goal.one_from-requires
 one_from-requires c = subst (λ (s : Store). c.args.file < length s.files) (sym (c.leave_if_there.ensures.same c.if-leave_if_there.false)) c.requires
