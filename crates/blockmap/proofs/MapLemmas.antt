@@ -5,8 +5,8 @@ use Rattle.std.specs.Ordering.{eq_by_cmp}
 use Rattle.std.specs.FinMap as map
 use Rattle.std.proofs.lemmas.Bool.{and_from, and_parts, cases_Bool, cond-false, cond-true, eq-eqb, eqb-true, false_from_ne_true, false≢true, or_cases, or_left, or_right, true≢false}
 use Rattle.pc_types.specs.Spots.{Spot, place_cmp}
-use Rattle.blockmap.specs.Blocks.{Spots, has_block, is_mapped}
-use Rattle.blockmap.proofs.PlaceLemmas.{places_total, same_place}
+use Rattle.blockmap.specs.Blocks.{Spots, has_block, is_mapped, with_written}
+use Rattle.blockmap.proofs.PlaceLemmas.{places_antisymmetric, places_total, same_place}
 
 -- ---- tests of lists
 
@@ -64,6 +64,27 @@ gone_here m p = map.get-remove places_total m p p ∙ cond-true (eq_by_cmp place
 
 pub gone_there : (m : Spots) (p q : ℕ × ℕ) → q ≢ p → map.get (map.remove m p) q ≡ map.get m q
 gone_there m p q differs = map.get-remove places_total m p q ∙ cond-false (eq_by_cmp place_cmp q p) None (map.get m q) (apart_tie q p differs)
+
+-- what is there is put there once more
+pub put_same : (m : Spots) (p : ℕ × ℕ) (s : Spot) → map.get m p ≡ Some s → map.insert m p s ≡ m
+put_same m p s there = map.same_map places_total places_antisymmetric (map.insert m p s) m (λ q. elim (cases_place q p) [
+  | inl e ↦ ap (map.get (map.insert m p s)) e ∙ put_here m p s ∙ sym there ∙ sym (ap (map.get m) e)
+  | inr differs ↦ put_there m p s q differs
+])
+
+-- what is not there is taken away
+pub gone_same : (m : Spots) (p : ℕ × ℕ) → map.get m p ≡ None → map.remove m p ≡ m
+gone_same m p none = map.same_map places_total places_antisymmetric (map.remove m p) m (λ q. elim (cases_place q p) [
+  | inl e ↦ ap (map.get (map.remove m p)) e ∙ gone_here m p ∙ sym none ∙ sym (ap (map.get m) e)
+  | inr differs ↦ gone_there m p q differs
+])
+
+-- a block that is written is written once more
+pub written_same : (m : Spots) (p : ℕ × ℕ) (s : Spot) → map.get m p ≡ Some s → s.written ≡ true → with_written (map.get m p) p m ≡ m
+written_same m p s there is =
+    ap (λ o. with_written o p m) there
+    ∙ (λ i. map.insert m p (record { block = s.block; written = sym is i }))
+    ∙ put_same m p s there
 
 -- ---- who has a block
 

@@ -1,5 +1,5 @@
 //! The map as its caller sees it.
-ghost use Rattle.std.specs.Prelude.{◌≡◌, ℕ, ◌<◌, ◌≤◌, ◌^◌, ◌↔◌, true, false, Some, None, Err, length, IfOk, IfErr, IfSome, OnOk, OnErr, IsOkUnless, IsSome, IfNone, ◌-◌, option_map};
+ghost use Rattle.std.specs.Prelude.{◌≡◌, ℕ, ◌<◌, ◌≤◌, ◌^◌, ◌↔◌, true, false, is_some, Some, None, Err, length, IfOk, IfErr, IfSome, OnOk, OnErr, IsOkUnless, IsSome, IfNone, ◌-◌, option_map};
 ghost use Rattle.std.specs.FinMap as map;
 ghost use Rattle.pc_types.specs.declared.refusal.Refusal.{Refusal};
 ghost use Rattle.blockmap.specs.Blocks.{AllTaken, CutsFrom, IsBlockMap, IsLowestFree, IsNoSpaceOrMemory, free_blocks, cut_one, is_mapped, with_written};
@@ -9,7 +9,7 @@ ghost use Rattle.blockmap.specs.Keys.{IsPage, IsPageFrom, NoneFrom};
 ghost use Rattle.blockmap.specs.Told.{told};
 
 use crate::held::HeldBlocks;
-use crate::spots::{Placed, Spots};
+use crate::spots::{MAX_PAGES, Placed, Spots};
 use idalloc::IdAlloc;
 use pc_types::{BlockNo, FileId, PageIndex, Refusal};
 use std::alloc::Global;
@@ -120,13 +120,18 @@ impl BlockMap {
     }
 
     /// A write of the page on its block has ended well. Nothing, where the page has no block.
+    /// Nothing is stored, where the block was written before.
     pub fn set_written(&mut self, file: FileId, page: PageIndex)
         requires { IsPage file.0 page.0 }
         ensures { self.new ≡ record self.old { spots = with_written (map.get self.old.spots (file.0, page.0)) (file.0, page.0) self.old.spots } }
     {
-        if let Some(placed) = self.spots.get(file.0, page.0) {
-            self.spots.set_written(file.0, page.0, placed.block.0);
+        let Some(placed) = self.spots.get(file.0, page.0) else {
+            return;
+        };
+        if placed.is_written {
+            return;
         }
+        self.spots.set_written(file.0, page.0, placed.block.0);
     }
 
     /// A block that a page has is held: a request on it is in flight.
@@ -163,10 +168,44 @@ impl BlockMap {
         ensures { CutsFrom self.old self.new file.0 page.0 }
     {
         let mut guess = page.0;
-        while let Some(cut) = self.page_from(file.0, page.0, guess) {
-            self.cut_page(file.0, cut);
+        while let Some(cut) = self.cut_next(file.0, page.0, guess) {
             guess = cut + 1;
         }
+    }
+
+    /// One page of the file at `from` or after it has no block any more, and the call answers which. The page at the guess is
+    /// tried without a search, since the pages of a file mostly stand side by side.
+    fn cut_next(&mut self, file: u64, from: u64, guess: u64) -> Option<u64>
+        requires file { file < 64 }
+        requires from { from ≤ guess }
+        requires guess { guess ≤ 2 ^ 36 }
+        ensures found { IfSome result (λ page. IsPageFrom self.old.spots file from page) }
+        ensures cut { IfSome result (λ page. self.new ≡ cut_one self.old (file, page)) }
+        ensures none { IfNone result (NoneFrom self.old.spots file from) }
+        ensures same { IfNone result (self.new ≡ self.old) }
+    {
+        if self.cut_guess(file, guess) {
+            return Some(guess);
+        }
+        let Some(page) = self.page_from(file, from, guess) else {
+            return None;
+        };
+        self.cut_page(file, page);
+        Some(page)
+    }
+
+    /// The page at the guess has no block any more. Answers whether it had one; where it had none, nothing is done.
+    fn cut_guess(&mut self, file: u64, guess: u64) -> bool
+        requires file { file < 64 }
+        requires guess { guess ≤ 2 ^ 36 }
+        ensures had { result ≡ true → (guess < 2 ^ 36) × (is_some (map.get self.old.spots (file, guess)) ≡ true) }
+        ensures cut { result ≡ true → self.new ≡ cut_one self.old (file, guess) }
+        ensures same { result ≡ false → self.new ≡ self.old }
+    {
+        if guess == MAX_PAGES {
+            return false;
+        }
+        self.cut_page(file, guess)
     }
 
     /// A page of the file that has a block, at this page or after it. It is looked for from the guess on first, since a search
@@ -184,20 +223,25 @@ impl BlockMap {
         }
     }
 
-    /// A page's block is free, or cut where it is held.
-    fn cut_page(&mut self, file: u64, page: u64)
-        requires page { IsPage file page }
-        requires there { IsSome (map.get self.old.spots (file, page)) }
-        ensures { self.new ≡ cut_one self.old (file, page) }
+    /// A page's block is free, or cut where it is held. Answers whether the page had a block; where it had none, nothing is
+    /// done.
+    fn cut_page(&mut self, file: u64, page: u64) -> bool
+        requires { IsPage file page }
+        ensures had { result ≡ is_some (map.get self.old.spots (file, page)) }
+        ensures cut { result ≡ true → self.new ≡ cut_one self.old (file, page) }
+        ensures same { result ≡ false → self.new ≡ self.old }
     {
-        let placed = self.spots.remove(file, page).unwrap();
+        let Some(placed) = self.spots.remove(file, page) else {
+            return false;
+        };
         let block = placed.block.0;
         if self.held.get(block).is_some() {
             self.held.cut(block);
-            return;
+            return true;
         }
         give_back(&mut self.used, block);
         self.free += 1;
+        true
     }
 }
 

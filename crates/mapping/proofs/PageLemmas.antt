@@ -1,13 +1,13 @@
 -- One page of a file's pages changed.
 use Rattle.std.proofs.Common.{◌≡◌, ℕ, ◌+◌, Bool, true, false, refl, ap, sym, ◌∙◌, inl, inr}
-use Rattle.std.specs.Prelude.{Option, Some, None, option_map, unwrap_or}
+use Rattle.std.specs.Prelude.{◌||◌, Option, Some, None, option_map, unwrap_or}
 use Rattle.std.specs.FinMap as finmap
 use Rattle.std.proofs.lemmas.Bool.{cases_eq}
 use Rattle.std.proofs.lemmas.Option.{none-some}
 use Rattle.pc_types.specs.declared.tags.Tag.{Tag}
 use Rattle.pc_types.specs.declared.tags.Tag.TheVariants.{Dirty, Writeback, Towrite}
-use Rattle.pc_types.specs.Tags.{TagSet, has, put}
-use Rattle.mapping.specs.Pages.{Mapped, Pages, frame_of, with_tag, put_some, change_at, count, has_at}
+use Rattle.pc_types.specs.Tags.{TagSet, no_tags, has, put}
+use Rattle.mapping.specs.Pages.{Mapped, Pages, frame_of, with_tag, with_tags_after, tags_after, put_some, change_at, count, has_at}
 use Rattle.mapping.proofs.MapLemmas.{same_nat_map, get-insert_here, get-insert_there, insert_same, len_insert_old, count_insert, taken, bit}
 
 module _ (index : ℕ) (change : Mapped → Mapped) (pages : Pages) where
@@ -89,3 +89,22 @@ untag_same index tag pages isnt = go (finmap.get pages index) refl
 pub none_framed : (o : Option Mapped) → None ≡ option_map frame_of o → o ≡ None
 none_framed None h = refl
 none_framed (Some page) h = absurd (none-some (frame_of page) h)
+
+-- ---- a tag more
+
+or_true : (b : Bool) → (b || true) ≡ true
+or_true true = refl
+or_true false = refl
+
+or_false : (b : Bool) → (b || false) ≡ b
+or_false true = refl
+or_false false = refl
+
+tags_put : (tag : Tag) (t : TagSet) → tags_after no_tags (put no_tags tag true) t ≡ put t tag true
+tags_put Dirty t = λ i. record { dirty = or_true t.dirty i; writeback = or_false t.writeback i; towrite = or_false t.towrite i }
+tags_put Writeback t = λ i. record { dirty = or_false t.dirty i; writeback = or_true t.writeback i; towrite = or_false t.towrite i }
+tags_put Towrite t = λ i. record { dirty = or_false t.dirty i; writeback = or_false t.writeback i; towrite = or_true t.towrite i }
+
+-- a page that loses no tag and gets one
+pub tagging : (tag : Tag) → with_tags_after no_tags (put no_tags tag true) ≡ with_tag tag true
+tagging tag = λ i page. record page { tags = tags_put tag page.tags i }

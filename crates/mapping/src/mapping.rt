@@ -190,6 +190,15 @@ impl Mapping {
         Some(page)
     }
 
+    /// Tags a page as `tag` does, and answers it as it was: one walk. Takes no memory.
+    pub fn tag_page(&mut self, index: PageIndex, tag: Tag) -> Option<MappedPage>
+        ensures page { option_map seen result ≡ map.get self.old.pages index.0 }
+        ensures tagged { self.new ≡ record self.old { pages = change_at index.0 (with_tag tag true) self.old.pages } }
+    {
+        let empty = Tags::none();
+        self.change_tags(index, empty, empty.with(tag))
+    }
+
     /// Sets or takes off a tag of a page. Where no page is cached nothing is done.
     fn put_tag(&mut self, index: PageIndex, tag: Tag, is: bool)
         ensures { self.new ≡ record self.old { pages = change_at index.0 (with_tag tag is) self.old.pages } }

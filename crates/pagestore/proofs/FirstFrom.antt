@@ -29,9 +29,9 @@ either page true = refl
 either page false = refl
 
 module _ (t : Table) (up : List Bool) (files : List KeptFile) (f n : ℕ) where
-  there : (o : Option Mapped) (q : ℕ) → entry_at files f q ≡ o
+  pub is_there : (o : Option Mapped) (q : ℕ) → entry_at files f q ≡ o
       → (is_some (stored_page (store_of t up files) f q) || is_awaited (store_of t up files) f q) ≡ is_some o
-  there o q e = (λ i. is_some (seen_at t up files f q i) || waits_at t up files f q i)
+  is_there o q e = (λ i. is_some (seen_at t up files f q i) || waits_at t up files f q i)
       ∙ (λ i. is_some (option_and_then (page_of t up) (e i)) || awaits up (e i)) ∙ each o
     where
       each : (o : Option Mapped) → (is_some (option_and_then (page_of t up) o) || awaits up o) ≡ is_some o
@@ -53,7 +53,7 @@ module _ (t : Table) (up : List Bool) (files : List KeptFile) (f n : ℕ) where
   pub none_from : (m : Pages) → m ≡ (kept_at files f).mapping.pages → None ≡ mapping.lowest (λ e. nat_le n e.0) m
       → (q : ℕ) → n ≤ q → (is_some (stored_page (store_of t up files) f q) || is_awaited (store_of t up files) f q)
       ≡ false
-  none_from m same none q low = there None q (no_entry_from m same none q low)
+  none_from m same none q low = is_there None q (no_entry_from m same none q low)
 
   pub some_from : (m : Pages) (r : FoundPage) → m ≡ (kept_at files f).mapping.pages
       → Some r ≡ mapping.lowest (λ e. nat_le n e.0) m
@@ -65,7 +65,7 @@ module _ (t : Table) (up : List Bool) (files : List KeptFile) (f n : ℕ) where
       let at : w.0.0 ≡ r.page.0 = ap (λ (k : FoundPage). k.page.0) w.2 in
       let low : n ≤ w.0.0 = reach w.0.0 a.0 in
       subst (λ q. (n ≤ q) × ((is_some (stored_page (store_of t up files) f q) || is_awaited (store_of t up files) f q)
-      ≡ true)) at (low, there (Some w.0.1) w.0.0 (ap (λ (k : Pages). finmap.get k w.0.0) (sym same) ∙ a.1))
+      ≡ true)) at (low, is_there (Some w.0.1) w.0.0 (ap (λ (k : Pages). finmap.get k w.0.0) (sym same) ∙ a.1))
     where
       reach : (q : ℕ) → nat_le n q ≡ true → n ≤ q
       reach q e = grind (arith, nat_tests)

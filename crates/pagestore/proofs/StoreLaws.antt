@@ -255,6 +255,14 @@ kept_same files f p x there =
     (record (kept_at files f) { mapping = record (kept_at files f).mapping { pages = m } }))
     (put_at-same (kept_at files f).mapping.pages p (Some x) there) ∙ set-get_or files f none_kept
 
+-- no entry, taken away
+pub none_same : (files : List KeptFile) (f p : ℕ) → entry_at files f p ≡ None
+    → slice_set files f (with_kept (kept_at files f) p None) ≡ files
+none_same files f p none =
+    ap (λ (m : FinMap nat_cmp Mapped). slice_set files f
+    (record (kept_at files f) { mapping = record (kept_at files f).mapping { pages = m } }))
+    (put_at-same (kept_at files f).mapping.pages p None none) ∙ set-get_or files f none_kept
+
 -- ---- one file changes, and no entry
 
 same_entries : (files : List KeptFile) (f g : ℕ) (k : KeptFile) (b : Bool) → eqb g f ≡ b

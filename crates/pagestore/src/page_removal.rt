@@ -2,13 +2,14 @@
 
 ghost use Rattle.std.specs.Prelude.{◌≡◌, ◌+◌, ◌<◌, ◌≤◌, ◌||◌, ℕ, IfNone, IfSome, false, find, is_some, length, option_map, true};
 ghost use Rattle.std.specs.FinMap as map;
+ghost use Rattle.std.specs.FinSet as set;
 ghost use Rattle.pagestore.specs.Store.{the_page, is_awaited, stored_at, stored_page, with_pages, with_lists};
 ghost use Rattle.machine.specs.Changes.{cut_page};
 ghost use Rattle.frames.specs.Table as table;
 ghost use Rattle.frames.specs.Table.{IsSound};
 ghost use Rattle.pagestore.specs.Cuts.{AreBusy, Evicts, RemovesFrom, is_idle_at, is_idle_frame};
 ghost use Rattle.machine.specs.ListChanges.{numbers};
-ghost use Rattle.machine.specs.PageLists.{aged, cut_off, active_target, place, scan_order};
+ghost use Rattle.machine.specs.PageLists.{aged, cut_off, left, active_target, place, scan_order};
 
 use crate::kept::KeptFile;
 use crate::pages::Pages;
@@ -33,10 +34,9 @@ impl Pages {
         ensures { self.new ≡ with_pages self.old file (map.insert (stored_at self.old file).pages page (cut_page self.old.page from true (the_page (stored_at self.old file).pages page))) self.old.free }
     {
         let mapping = &mut self.files[file as usize].mapping;
-        let Some(mapped) = mapping.page(PageIndex(page)) else {
+        let Some(mapped) = mapping.tag_page(PageIndex(page), Tag::Dirty) else {
             unreachable!()
         };
-        let _ = mapping.tag(PageIndex(page), Tag::Dirty);
         self.dirty += u64::from(!mapped.tags.has(Tag::Dirty));
         self.frames.bytes_mut(mapped.frame)[from..].fill(0);
     }
@@ -47,10 +47,31 @@ impl Pages {
         ensures { RemovesFrom self.old self.new file page }
     {
         let mut guess = page;
-        while let Some(found) = self.one_from(file, page, guess) {
-            self.leave(file, found);
+        while let Some(found) = self.leave_one(file, page, guess) {
             guess = found.saturating_add(1);
         }
+    }
+
+    /// Takes one page of the file away, at this page or after it, and answers which. The page at the guess is tried without a
+    /// search, since the pages of a file mostly stand side by side.
+    fn leave_one(&mut self, file: u64, page: u64, guess: u64) -> Option<u64>
+        requires { file < length self.old.files }
+        ensures found { IfSome result (λ found. (page ≤ found) × ((is_some (stored_page self.old file found) || is_awaited self.old file found) ≡ true)) }
+        ensures page { IfSome result (λ found. is_some (stored_page self.old file found) ≡ true → self.new ≡ with_lists (with_pages self.old file (map.remove (stored_at self.old file).pages found) (self.old.free + 1)) (left file found self.old.lists)) }
+        ensures fill { IfSome result (λ found. is_awaited self.old file found ≡ true → self.new ≡ record self.old { filling = set.remove self.old.filling (file, found); free = self.old.free + 1; lists = left file found self.old.lists }) }
+        ensures none { IfNone result ((q : ℕ) → page ≤ q → (is_some (stored_page self.old file q) || is_awaited self.old file q) ≡ false) }
+        ensures unlisted { IfNone result (cut_off file page self.old.lists ≡ self.old.lists) }
+        ensures same { IfNone result (self.new ≡ self.old) }
+    {
+        let at = page.max(guess);
+        if self.leave_if_there(file, at) {
+            return Some(at);
+        }
+        let Some(found) = self.one_from(file, page, guess) else {
+            return None;
+        };
+        self.leave(file, found);
+        Some(found)
     }
 
     /// A page of the file that is cached or filling, at this page or after it. It is looked for from the guess on first, since

@@ -206,9 +206,10 @@ impl Pages {
         ensures { self.new ≡ with_pages self.old file (map.insert (stored_at self.old file).pages page (dirtied (the_page (stored_at self.old file).pages page))) self.old.free }
     {
         let mapping = &mut self.files[file as usize].mapping;
-        let was_dirty = mapping.has_tag(PageIndex(page), Tag::Dirty);
-        let _ = mapping.tag(PageIndex(page), Tag::Dirty);
-        self.dirty += u64::from(!was_dirty);
+        let Some(mapped) = mapping.tag_page(PageIndex(page), Tag::Dirty) else {
+            unreachable!()
+        };
+        self.dirty += u64::from(!mapped.tags.has(Tag::Dirty));
     }
 
     /// Takes a cached page away.
@@ -227,12 +228,24 @@ impl Pages {
         ensures page { is_some (stored_page self.old file page) ≡ true → self.new ≡ with_lists (with_pages self.old file (map.remove (stored_at self.old file).pages page) (self.old.free + 1)) (left file page self.old.lists) }
         ensures fill { is_awaited self.old file page ≡ true → self.new ≡ record self.old { filling = set.remove self.old.filling (file, page); free = self.old.free + 1; lists = left file page self.old.lists } }
     {
+        let _ = self.leave_if_there(file, page);
+    }
+
+    /// The same where the page may be absent. Answers whether it was there; where it was not, nothing is done.
+    pub(crate) fn leave_if_there(&mut self, file: u64, page: u64) -> bool
+        requires { file < length self.old.files }
+        ensures there { result ≡ (is_some (stored_page self.old file page) || is_awaited self.old file page) }
+        ensures page { is_some (stored_page self.old file page) ≡ true → self.new ≡ with_lists (with_pages self.old file (map.remove (stored_at self.old file).pages page) (self.old.free + 1)) (left file page self.old.lists) }
+        ensures fill { is_awaited self.old file page ≡ true → self.new ≡ record self.old { filling = set.remove self.old.filling (file, page); free = self.old.free + 1; lists = left file page self.old.lists } }
+        ensures same { result ≡ false → self.new ≡ self.old }
+    {
         let mapping = &mut self.files[file as usize].mapping;
         let Some(mapped) = mapping.take_page(PageIndex(page)) else {
-            unreachable!()
+            return false;
         };
         self.dirty -= u64::from(mapped.tags.has(Tag::Dirty));
         self.frames.give(mapped.frame);
+        true
     }
 
     /// Puts bytes into a cached page from `at` on, and tags it DIRTY.
@@ -243,13 +256,11 @@ impl Pages {
         ensures { self.new ≡ with_pages self.old file (map.insert (stored_at self.old file).pages page (with_part (the_page (stored_at self.old file).pages page) at bytes.now)) self.old.free }
     {
         let mapping = &mut self.files[file as usize].mapping;
-        let Some(frame) = mapping.frame(PageIndex(page)) else {
+        let Some(mapped) = mapping.tag_page(PageIndex(page), Tag::Dirty) else {
             unreachable!()
         };
-        let was_dirty = mapping.has_tag(PageIndex(page), Tag::Dirty);
-        let _ = mapping.tag(PageIndex(page), Tag::Dirty);
-        self.dirty += u64::from(!was_dirty);
-        self.frames.bytes_mut(frame)[at..at + bytes.len()].copy_from_slice(bytes);
+        self.dirty += u64::from(!mapped.tags.has(Tag::Dirty));
+        self.frames.bytes_mut(mapped.frame)[at..at + bytes.len()].copy_from_slice(bytes);
     }
 
     /// Puts bytes into a page from `at` on where it is DIRTY already, and notes that it was written: one look-up. Answers whether

@@ -1,15 +1,9 @@
 use Rattle.std.proofs.Common.{sym, subst, ◌<◌, arith}
 use Rattle.std.specs.FinMap as map
-use Rattle.blockmap.specs.Blocks.{Blocks}
+use Rattle.blockmap.specs.Blocks.{Blocks, CutsFrom}
 use Rattle.blockmap.proofs.BlockLemmas.{fewer}
 use Rattle.blockmap.proofs.CutLemmas.{IsCutting, cutting_begins, cutting_ends, cutting_goes_on}
 use Rattle.blockmap.proofs.block_map.BlockMap.cut_from.Goals as goal
-
-pub cut_page-requires-clause-page : goal.cut_page-requires-clause-page
-cut_page-requires-clause-page c = record { file = c.requires.file; page = c.in-Some.ensures.found.within }
-
-pub cut_page-requires-clause-there : goal.cut_page-requires-clause-there
-cut_page-requires-clause-there c = c.in-Some.ensures.found.there
 
 pub loop-cut-init : goal.loop-cut-init
 loop-cut-init c = record {
@@ -25,7 +19,7 @@ loop-cut-preserved c =
     let within = found.within in
     record {
       cutting =
-          subst (λ (b : Blocks). IsCutting c.args.self.now b c.args.file.0 c.args.page.0) (sym c.cut_page.ensures)
+          subst (λ (b : Blocks). IsCutting c.args.self.now b c.args.file.0 c.args.page.0) (sym c.in-Some.ensures.cut)
           (cutting_goes_on c.args.self.now c.loop-cut.self c.args.file.0 c.args.page.0 c.in-Some.cut c.loop-cut.invariant.cutting found);
       low = omega (arith, low);
       high = omega (arith, within);
@@ -33,8 +27,10 @@ loop-cut-preserved c =
 
 pub loop-cut-smaller : goal.loop-cut-smaller
 loop-cut-smaller c =
-    subst (λ (b : Blocks). map.len b.spots < map.len c.loop-cut.self.spots) (sym c.cut_page.ensures)
+    subst (λ (b : Blocks). map.len b.spots < map.len c.loop-cut.self.spots) (sym c.in-Some.ensures.cut)
     (fewer c.loop-cut.self.spots (c.args.file.0, c.in-Some.cut) c.in-Some.ensures.found.there)
 
 pub returns : goal.returns
-returns c = cutting_ends c.args.self.now c.loop-cut.self c.args.file.0 c.args.page.0 c.loop-cut.invariant.cutting c.in_default.ensures.none
+returns c =
+    subst (λ (b : Blocks). CutsFrom c.args.self.now b c.args.file.0 c.args.page.0) (sym c.in_default.ensures.same)
+    (cutting_ends c.args.self.now c.loop-cut.self c.args.file.0 c.args.page.0 c.loop-cut.invariant.cutting c.in_default.ensures.none)

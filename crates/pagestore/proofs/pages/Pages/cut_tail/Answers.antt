@@ -29,7 +29,7 @@ at c = record {
 pub unreachable-requires : goal.unreachable-requires
 unreachable-requires c =
     let w = at (goal.at.unreachable-requires c).After-index_mut in
-    none_left w c.in_default.ensures
+    none_left w c.in_default.ensures.page
 
 pub overflow_add-self : goal.overflow_add-self
 overflow_add-self c =
@@ -47,7 +47,7 @@ pub bytes_mut-requires : goal.bytes_mut-requires
 bytes_mut-requires c =
     let w = at (goal.at.bytes_mut-requires c).After-index_mut in
     let x = seen c.in-Some.mapped in
-    frame_taken w x c.in-Some.ensures
+    frame_taken w x c.in-Some.ensures.page
 
 pub invariant_of-self : goal.invariant_of-self
 invariant_of-self c =
@@ -62,13 +62,13 @@ invariant_of-self c =
     ∙ ap (λ (s : Store). s.page) c.self.view_is in
     let filled : c.fill.new.self ≡ replicate (length c.bytes_mut.result.now - c.args.from) 0 = search rules in
     let zeros : c.fill.new.self ≡ b = filled ∙ ap (λ n. replicate (n - c.args.from) 0) whole in
-    let put = rows_put w x c.in-Some.ensures c.args.from b fits
+    let put = rows_put w x c.in-Some.ensures.page c.args.from b fits
     (length c.bytes_mut.result.now - c.args.from) c.bytes_mut.result.now c.fill.new.self c.bytes_mut.ensures.bytes
     zeros (omega (arith, whole, many)) c.bytes_mut.ensures.sized c.bytes_mut.ensures.within in
-    let more = dirty_more w x c.in-Some.ensures c.args.from b fits
+    let more = dirty_more w x c.in-Some.ensures.page c.args.from b fits
     c.from.result c.has.result c.from.ensures c.has.ensures in
-    put_store w x c.in-Some.ensures c.args.from b fits _ put c.tag.new.self
-    c.tag.ensures.tagged (c.self.inside.dirty + c.from.result) more
+    put_store w x c.in-Some.ensures.page c.args.from b fits _ put c.tag_page.new.self
+    c.tag_page.ensures.tagged (c.self.inside.dirty + c.from.result) more
 
 pub returns : goal.returns
 returns c =
@@ -83,12 +83,12 @@ returns c =
     ∙ ap (λ (s : Store). s.page) c.self.view_is in
     let filled : c.fill.new.self ≡ replicate (length c.bytes_mut.result.now - c.args.from) 0 = search rules in
     let zeros : c.fill.new.self ≡ b = filled ∙ ap (λ n. replicate (n - c.args.from) 0) whole in
-    let put = rows_put w x c.in-Some.ensures c.args.from b fits
+    let put = rows_put w x c.in-Some.ensures.page c.args.from b fits
     (length c.bytes_mut.result.now - c.args.from) c.bytes_mut.result.now c.fill.new.self c.bytes_mut.ensures.bytes
     zeros (omega (arith, whole, many)) c.bytes_mut.ensures.sized c.bytes_mut.ensures.within in
-    put_seen w x c.in-Some.ensures c.args.from b fits _ put c.tag.new.self
-    c.tag.ensures.tagged
+    put_seen w x c.in-Some.ensures.page c.args.from b fits _ put c.tag_page.new.self
+    c.tag_page.ensures.tagged
     ∙ ap (λ (page : Page). with_pages c.args.self.now c.args.file
     (map.insert (stored_at c.args.self.now c.args.file).pages c.args.page page) c.args.self.now.free)
     (cut_is P c.args.from (the_page (stored_at c.args.self.now c.args.file).pages c.args.page)
-    (its_size w x c.in-Some.ensures) inside)
+    (its_size w x c.in-Some.ensures.page) inside)

@@ -1,11 +1,8 @@
-use Rattle.std.proofs.Common.{Bool, true, false, not, length, sym, ◌∙◌, ◌-◌, ◌+◌, ◌≤◌, arith}
-use Rattle.std.specs.FinMap as map
+use Rattle.std.proofs.Common.{Bool, true, false, not, length, ◌-◌, ◌+◌, ◌≤◌, arith}
 use Rattle.std.specs.Int.{from_bool}
-use Rattle.mapping.proofs.PageLemmas.{tag_of}
-use Rattle.pc_types.specs.declared.tags.Tag.TheVariants.{Dirty}
-use Rattle.pagestore.proofs.FrameEntries.{framed, framed_entry}
+use Rattle.mapping.specs.Pages.{seen}
 use Rattle.pagestore.proofs.StoreFacts.{few_dirty_pages}
-use Rattle.pagestore.proofs.TagChanges.{CachedPage, dirty_more, frame_taken, not_absent, put_seen, put_store, rows_put}
+use Rattle.pagestore.proofs.TagChanges.{CachedPage, dirty_more, frame_taken, none_left, put_seen, put_store, rows_put}
 use Rattle.pagestore.proofs.pages.Pages.put.Goals as goal
 use Rattle.pagestore.proofs.pages.Pages.put.Goals.{After-index_mut}
 
@@ -27,7 +24,7 @@ at c = record {
 pub unreachable-requires : goal.unreachable-requires
 unreachable-requires c =
     let w = at (goal.at.unreachable-requires c).After-index_mut in
-    not_absent w c.in_default.ensures
+    none_left w c.in_default.ensures.page
 
 pub overflow_add-self : goal.overflow_add-self
 overflow_add-self c =
@@ -38,42 +35,38 @@ overflow_add-self c =
       few_dirty_pages c.self.inside.frames c.self.inside.uptodate.items c.self.inside.files.items
           c.self.inside.dirty c.self.invariant,
       c.from.ensures,
-      most (not c.has_tag-was_dirty.result),
+      most (not c.has.result),
     )
 
 pub bytes_mut-requires : goal.bytes_mut-requires
 bytes_mut-requires c =
     let w = at (goal.at.bytes_mut-requires c).After-index_mut in
-    let entry = map.get c.index_mut.result.now.mapping.pages c.args.page in
-    let x = framed entry c.in-Some.frame in
-    let found = sym (framed_entry entry c.in-Some.frame c.in-Some.ensures) in
+    let x = seen c.in-Some.mapped in
+    let found = c.in-Some.ensures.page in
     frame_taken w x found
 
 pub invariant_of-self : goal.invariant_of-self
 invariant_of-self c =
     let w = at (goal.at.invariant_of-self c).After-index_mut in
-    let entry = map.get c.index_mut.result.now.mapping.pages c.args.page in
-    let x = framed entry c.in-Some.frame in
-    let found = sym (framed_entry entry c.in-Some.frame c.in-Some.ensures) in
+    let x = seen c.in-Some.mapped in
+    let found = c.in-Some.ensures.page in
     let b = c.args.bytes.now in
     let put = rows_put w x found c.args.at b c.requires.room
     (c.args.at + length b - c.args.at) c.bytes_mut.result.now c.copy_from_slice.new.self c.bytes_mut.ensures.bytes
     c.copy_from_slice.ensures.after (omega arith) c.bytes_mut.ensures.sized c.bytes_mut.ensures.within in
     let more = dirty_more w x found c.args.at b c.requires.room
-    c.from.result c.has_tag-was_dirty.result c.from.ensures
-    (c.has_tag-was_dirty.ensures ∙ tag_of c.args.page Dirty c.index_mut.result.now.mapping.pages x (sym found)) in
-    put_store w x found c.args.at b c.requires.room _ put c.tag.new.self
-    c.tag.ensures.tagged (c.self.inside.dirty + c.from.result) more
+    c.from.result c.has.result c.from.ensures c.has.ensures in
+    put_store w x found c.args.at b c.requires.room _ put c.tag_page.new.self
+    c.tag_page.ensures.tagged (c.self.inside.dirty + c.from.result) more
 
 pub returns : goal.returns
 returns c =
     let w = at (goal.at.returns c).After-index_mut in
-    let entry = map.get c.index_mut.result.now.mapping.pages c.args.page in
-    let x = framed entry c.in-Some.frame in
-    let found = sym (framed_entry entry c.in-Some.frame c.in-Some.ensures) in
+    let x = seen c.in-Some.mapped in
+    let found = c.in-Some.ensures.page in
     let b = c.args.bytes.now in
     let put = rows_put w x found c.args.at b c.requires.room
     (c.args.at + length b - c.args.at) c.bytes_mut.result.now c.copy_from_slice.new.self c.bytes_mut.ensures.bytes
     c.copy_from_slice.ensures.after (omega arith) c.bytes_mut.ensures.sized c.bytes_mut.ensures.within in
-    put_seen w x found c.args.at b c.requires.room _ put c.tag.new.self
-    c.tag.ensures.tagged
+    put_seen w x found c.args.at b c.requires.room _ put c.tag_page.new.self
+    c.tag_page.ensures.tagged

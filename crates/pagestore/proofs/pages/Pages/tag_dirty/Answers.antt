@@ -1,12 +1,10 @@
-use Rattle.std.proofs.Common.{Bool, true, false, not, [], sym, refl, ◌∙◌, ◌+◌, ◌≤◌, arith}
-use Rattle.std.specs.FinMap as map
+use Rattle.std.proofs.Common.{Bool, true, false, not, [], refl, ◌+◌, ◌≤◌, arith}
 use Rattle.std.specs.Int.{from_bool}
-use Rattle.mapping.specs.Pages.{with_tag}
-use Rattle.mapping.proofs.PageLemmas.{tag_of}
+use Rattle.mapping.specs.Pages.{seen, with_tag}
 use Rattle.pc_types.specs.declared.tags.Tag.TheVariants.{Dirty}
 use Rattle.pagestore.specs.Ranges.{dirtied}
-use Rattle.pagestore.proofs.StoreFacts.{few_dirty_pages, the_mapped}
-use Rattle.pagestore.proofs.TagChanges.{CachedPage, dirty_more, its_entry, tagged_seen, tagged_store}
+use Rattle.pagestore.proofs.StoreFacts.{few_dirty_pages}
+use Rattle.pagestore.proofs.TagChanges.{CachedPage, dirty_more, none_left, tagged_seen, tagged_store}
 use Rattle.pagestore.proofs.pages.Pages.tag_dirty.Goals as goal
 use Rattle.pagestore.proofs.pages.Pages.tag_dirty.Goals.{After-index_mut}
 
@@ -34,22 +32,26 @@ overflow_add-self c =
       few_dirty_pages c.self.inside.frames c.self.inside.uptodate.items c.self.inside.files.items
           c.self.inside.dirty c.self.invariant,
       c.from.ensures,
-      most (not c.has_tag-was_dirty.result),
+      most (not c.has.result),
     )
+
+pub unreachable-requires : goal.unreachable-requires
+unreachable-requires c =
+    let w = at (goal.at.unreachable-requires c).After-index_mut in
+    none_left w c.in_default.ensures.page
 
 pub invariant_of-self : goal.invariant_of-self
 invariant_of-self c =
     let w = at (goal.at.invariant_of-self c).After-index_mut in
-    let pages = c.index_mut.result.now.mapping.pages in
-    let x = the_mapped (map.get pages c.args.page) in
-    let found = its_entry w in
-    let more = dirty_more w x found 0 [] (omega arith) c.from.result c.has_tag-was_dirty.result c.from.ensures
-    (c.has_tag-was_dirty.ensures ∙ tag_of c.args.page Dirty pages x (sym found)) in
-    tagged_store w x found (with_tag Dirty true) refl c.tag.new.self c.tag.ensures.tagged
+    let x = seen c.in-Some.mapped in
+    let found = c.in-Some.ensures.page in
+    let more = dirty_more w x found 0 [] (omega arith) c.from.result c.has.result c.from.ensures c.has.ensures in
+    tagged_store w x found (with_tag Dirty true) refl c.tag_page.new.self c.tag_page.ensures.tagged
     (c.self.inside.dirty + c.from.result) (λ aside. refl) more
 
 pub returns : goal.returns
 returns c =
     let w = at (goal.at.returns c).After-index_mut in
-    let x = the_mapped (map.get c.index_mut.result.now.mapping.pages c.args.page) in
-    tagged_seen w x (its_entry w) (with_tag Dirty true) refl c.tag.new.self c.tag.ensures.tagged dirtied refl
+    let x = seen c.in-Some.mapped in
+    tagged_seen w x c.in-Some.ensures.page (with_tag Dirty true) refl c.tag_page.new.self c.tag_page.ensures.tagged
+    dirtied refl

@@ -1,22 +1,23 @@
-use Rattle.std.proofs.Common.{arith, ap, cond, sym, subst, false, ◌∙◌, ◌≡◌, ◌≤◌, ◌+◌, ◌-◌}
+use Rattle.std.proofs.Common.{arith, ap, cond, sym, subst, false, List, ◌∙◌, ◌≡◌, ◌≤◌, ◌+◌, ◌-◌}
 use Rattle.std.specs.Prelude.{Some, None, is_some, ◌||◌, slice_index_or, slice_set}
 use Rattle.std.specs.Int.{from_bool}
 use Rattle.std.specs.FinMap as map
 use Rattle.std.specs.FinSet as set
-use Rattle.std.proofs.lemmas.Bool.{false≢true}
+use Rattle.std.proofs.lemmas.Bool.{false≢true, or_left, or_right}
 use Rattle.frames.specs.Table.{Table, free_frames}
 use Rattle.mapping.specs.Pages.{FilePages, Mapped, seen}
 use Rattle.pagestore.specs.declared.kept.KeptFile.{KeptFile}
 use Rattle.pagestore.specs.Store.{Store, IsStore, store_of, entry_at, kept_at, stored_at, stored_page, is_awaited}
 use Rattle.pagestore.specs.Store.{lists_of, with_entry, with_pages, with_lists}
-use Rattle.pagestore.proofs.StoreLaws.{with_kept, an_entry, cached_idle, waiting_absent, entry_page, entry_wait}
+use Rattle.pagestore.proofs.StoreLaws.{with_kept, none_same, cached_idle, waiting_absent, entry_page, entry_wait}
+use Rattle.pagestore.proofs.FirstFrom.{is_there}
 use Rattle.pagestore.proofs.PagePlaces.{FilePage, file_entry, file_here}
 use Rattle.pagestore.proofs.StoreFacts.{left_store, left_seen, dirty_least, page_taken, byte_is}
 use Rattle.machine.specs.PageLists.{left}
 use Rattle.pagestore.proofs.ListedFrames.{lists-given}
 use Rattle.pagestore.proofs.Owners.{its_frame}
-use Rattle.pagestore.proofs.pages.Pages.leave.Goals as goal
-use Rattle.pagestore.proofs.pages.Pages.leave.Goals.{After-self}
+use Rattle.pagestore.proofs.pages.Pages.leave_if_there.Goals as goal
+use Rattle.pagestore.proofs.pages.Pages.leave_if_there.Goals.{After-self, In_default}
 
 abbrev at : After-self → FilePage
 at c = record {
@@ -26,7 +27,7 @@ at c = record {
   seen = c.self.view_is;
   file = c.args.file;
   page = c.args.page;
-  here = c.requires.here;
+  here = c.requires;
 }
 
 there_in : (w : FilePage) (k : KeptFile) → k ≡ slice_index_or w.pages.files.items w.file k → (x : Mapped)
@@ -44,7 +45,7 @@ gone : (c : goal.After-give) → (let now : KeptFile =
 gone c =
     ap (λ (m : FilePages). let k : KeptFile = record c.index_mut.result.now { mapping = m } in k)
     c.take_page.ensures.gone ∙ ap (λ (k : KeptFile). with_kept k c.args.page None)
-    (file_entry (at (goal.at.invariant_of-self c).After-self) c.index_mut.result.now c.index_mut.ensures.value)
+    (file_entry (at (goal.at.invariant_of-self-2 c).After-self) c.index_mut.result.now c.index_mut.ensures.value)
 
 -- whether its page was cached or awaited
 seen_left : (c : goal.After-give) → (let t = c.self.inside.frames in let up = c.self.inside.uptodate.items in
@@ -61,7 +62,7 @@ seen_left c =
     let s = c.self.invariant in
     let f = c.args.file in
     let p = c.args.page in
-    let w = at (goal.at.invariant_of-self c).After-self in
+    let w = at (goal.at.invariant_of-self-2 c).After-self in
     let x = seen c.in-Some.mapped in
     let there = there_in w c.index_mut.result.now c.index_mut.ensures.value x c.in-Some.ensures.page in
     (λ i. store_of (c.give.ensures i) up (slice_set files f (gone c i)))
@@ -70,15 +71,70 @@ seen_left c =
     (lists-given t c.self.invariant.sound f p x.frame (page_taken t up files dirty s f p x there)
     (its_frame t up files dirty s f p x there))
 
-pub unreachable-requires : goal.unreachable-requires
-unreachable-requires c =
-    let w = at (goal.at.unreachable-requires c).After-self in
-    let entry = file_entry w c.index_mut.result.now c.index_mut.ensures.value in
-    false≢true (ap is_some c.in_default.ensures.page
-    ∙ ap (λ (k : KeptFile). is_some (map.get k.mapping.pages c.args.page)) entry
-    ∙ an_entry c.self.inside.frames c.self.inside.uptodate.items c.self.inside.files.items c.args.file c.args.page
-    (ap (λ (s : Store). is_some (stored_page s c.args.file c.args.page) || is_awaited s c.args.file c.args.page)
-    c.self.view_is ∙ c.requires.there))
+-- ---- no page was there
+
+abbrev at_default : In_default → FilePage
+at_default c = record {
+  pages = c.self.inside;
+  kept = c.self.invariant;
+  store = c.args.self.now;
+  seen = c.self.view_is;
+  file = c.args.file;
+  page = c.args.page;
+  here = c.requires;
+}
+
+none_in : (c : In_default) → entry_at c.self.inside.files.items c.args.file c.args.page ≡ None
+none_in c =
+    sym (c.in_default.ensures.page
+    ∙ ap (λ (k : KeptFile). map.get k.mapping.pages c.args.page)
+    (file_entry (at_default c) c.index_mut.result.now c.index_mut.ensures.value))
+
+-- the files are as before
+files_kept : (c : In_default) → slice_set c.self.inside.files.items c.args.file (record c.index_mut.result.now { mapping = c.take_page.new.self }) ≡ c.self.inside.files.items
+files_kept c =
+    let files = c.self.inside.files.items in
+    let f = c.args.file in
+    ap (λ (m : FilePages). let k : KeptFile = record c.index_mut.result.now { mapping = m } in slice_set files f k)
+    c.take_page.ensures.gone
+    ∙ ap (λ (k : KeptFile). slice_set files f (with_kept k c.args.page None))
+    (file_entry (at_default c) c.index_mut.result.now c.index_mut.ensures.value)
+    ∙ none_same files f c.args.page (none_in c)
+
+pub invariant_of-self : goal.invariant_of-self
+invariant_of-self c =
+    subst (λ (fs : List KeptFile). IsStore c.self.inside.frames c.self.inside.uptodate.items fs c.self.inside.dirty)
+    (sym (files_kept (goal.at.invariant_of-self c).In_default)) c.self.invariant
+
+absent : (c : In_default) → (is_some (stored_page c.args.self.now c.args.file c.args.page)
+    || is_awaited c.args.self.now c.args.file c.args.page) ≡ false
+absent c =
+    let f = c.args.file in
+    let p = c.args.page in
+    ap (λ (s : Store). is_some (stored_page s f p) || is_awaited s f p) (sym c.self.view_is)
+    ∙ is_there c.self.inside.frames c.self.inside.uptodate.items c.self.inside.files.items f 0 None p (none_in c)
+
+pub returns-in_default-clause-there : goal.returns-in_default-clause-there
+returns-in_default-clause-there c = sym (absent (goal.at.returns-in_default-clause-there c).In_default)
+
+pub returns-in_default-clause-page : goal.returns-in_default-clause-page
+returns-in_default-clause-page c = λ cached.
+    absurd (false≢true (sym (absent (goal.at.returns-in_default-clause-page c).In_default)
+    ∙ or_left (is_some (stored_page c.args.self.now c.args.file c.args.page))
+    (is_awaited c.args.self.now c.args.file c.args.page) cached))
+
+pub returns-in_default-clause-fill : goal.returns-in_default-clause-fill
+returns-in_default-clause-fill c = λ waits.
+    absurd (false≢true (sym (absent (goal.at.returns-in_default-clause-fill c).In_default)
+    ∙ or_right (is_some (stored_page c.args.self.now c.args.file c.args.page))
+    (is_awaited c.args.self.now c.args.file c.args.page) waits))
+
+pub returns-in_default-clause-same : goal.returns-in_default-clause-same
+returns-in_default-clause-same c = λ _.
+    ap (λ (fs : List KeptFile). store_of c.self.inside.frames c.self.inside.uptodate.items fs)
+    (files_kept (goal.at.returns-in_default-clause-same c).In_default) ∙ c.self.view_is
+
+-- ---- a page was there
 
 pub overflow_sub-self : goal.overflow_sub-self
 overflow_sub-self c =
@@ -96,14 +152,14 @@ give-requires c =
     page_taken c.self.inside.frames c.self.inside.uptodate.items c.self.inside.files.items c.self.inside.dirty
     c.self.invariant c.args.file c.args.page x there
 
-pub invariant_of-self : goal.invariant_of-self
-invariant_of-self c =
+pub invariant_of-self-2 : goal.invariant_of-self-2
+invariant_of-self-2 c =
     let t = c.self.inside.frames in
     let up = c.self.inside.uptodate.items in
     let files = c.self.inside.files.items in
     let f = c.args.file in
     let now = c.self.inside.dirty - c.from.result in
-    let w = at (goal.at.invariant_of-self c).After-self in
+    let w = at (goal.at.invariant_of-self-2 c).After-self in
     let x = seen c.in-Some.mapped in
     let there = there_in w c.index_mut.result.now c.index_mut.ensures.value x c.in-Some.ensures.page in
     let one = c.from.ensures ∙ ap from_bool c.has.ensures ∙ byte_is x.tags.dirty in
@@ -141,3 +197,16 @@ returns-clause-fill c = λ waits.
     ∙ ap (λ (s : Store). let u : Store =
     record s { filling = set.remove s.filling (f, p); free = s.free + 1; lists = left f p s.lists } in u)
     c.self.view_is
+
+pub returns-clause-there : goal.returns-clause-there
+returns-clause-there c =
+    let t = c.self.inside.frames in
+    let up = c.self.inside.uptodate.items in
+    let files = c.self.inside.files.items in
+    let f = c.args.file in
+    let p = c.args.page in
+    let w = at (goal.at.returns-clause-there c).After-self in
+    let x = seen c.in-Some.mapped in
+    let is = there_in w c.index_mut.result.now c.index_mut.ensures.value x c.in-Some.ensures.page in
+    sym (ap (λ (s : Store). is_some (stored_page s f p) || is_awaited s f p) (sym c.self.view_is)
+    ∙ is_there t up files f 0 (Some x) p is)
