@@ -1,7 +1,7 @@
 -- How long files are after an event of a call.
-use Rattle.std.proofs.Common.{◌≡◌, ℕ, ◌+◌, ◌<◌, ◌≤◌, Bool, true, false, cond, not, eqb, eqb-true, eq-eqb, List, []}
+use Rattle.std.proofs.Common.{◌≡◌, ℕ, ◌+◌, ◌<◌, Bool, true, false, cond, not, eqb, eqb-true, List, []}
 use Rattle.std.proofs.Common.{length, max, refl, ap, sym, subst, ◌∙◌, arith, inl, inr}
-use Rattle.std.specs.Prelude.{◌&&◌, ◌⊎◌, Option, Some, None, nat_lt, unwrap_or}
+use Rattle.std.specs.Prelude.{◌&&◌, Option, Some, None, nat_lt, unwrap_or}
 use Rattle.std.specs.FinMap as finmap
 use Rattle.pc_types.specs.declared.ids.HandleId.{HandleId}
 use Rattle.pc_types.specs.declared.refusal.Refusal.TheVariants.{BadHandle, TooLong}

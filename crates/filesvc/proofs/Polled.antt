@@ -1,10 +1,10 @@
 -- What a poll leaves: the file has no error then that nobody was told of, where a code was answered, and nothing else is changed.
-use Rattle.std.proofs.Common.{◌≡◌, ◌-◌, ℕ, Bool, true, false, not, eq-eqb, List, [], ◌∷◌, length, refl, ap, sym, subst, ◌∙◌}
-use Rattle.std.specs.Prelude.{Option, Some, None, is_some, nat_lt, ◌==◌, ◌&&◌, if◌then◌else◌}
+use Rattle.std.proofs.Common.{◌≡◌, ℕ, Bool, true, false, not, eq-eqb, List, length, refl, ap, sym, subst, ◌∙◌}
+use Rattle.std.specs.Prelude.{Option, is_some, nat_lt, ◌==◌, ◌&&◌, if◌then◌else◌}
 use Rattle.errboard.specs.Shown.{RecorderSeen, is_told}
 use Rattle.world.specs.Stepping.{WorldSeen}
 use Rattle.filesvc.specs.Seen.{SoloSeen}
-use Rattle.filesvc.specs.Service.{Keeps, KeepsBut, Serves, ServesBut, errors_of, is_untold, untold_since}
+use Rattle.filesvc.specs.Service.{Keeps, Serves, ServesBut, errors_of, is_untold, untold_since}
 
 -- the service with these words of its recorder
 abbrev pub with_words : SoloSeen → List ℕ → SoloSeen

@@ -138,15 +138,17 @@ memory_wanted old new errors after h p (Whole c) = absurd (end_never c.called ne
 -- a fill that is refused, where a frame is free
 pub fill_stopped : (name : ℕ) (s : SoloSeen) (w : WorldSeen) (errors : RecorderSeen) (table : TableId) (h : HandleId) (p : PageIndex) (r : Refusal) → IsServing name s.world table s.errors → AtOnce s.world s.errors (step.FillBegin h p) (reply.Refused r) w errors → 0 < free_frames s.world.core → IsFillRefusal s h r (record s { world = w; errors = errors })
 fill_stopped name s w errors table h p r i a free =
-    let x = refused_why s.world w s.errors errors h p r (once s.world w s.errors errors _ _ _ (fill_begins h p) a) in
-    by r x.0 (ap (λ (c : State). c.next) x.1)
+    let fill = once s.world w s.errors errors _ _ _ (fill_begins h p) a in
+    let x = refused_why s.world w s.errors errors h p r fill in
+    by r x.0 (ap (λ (c : State). c.next) x.1) fill
   where
-    by : (r : Refusal) → FillWhy s.world.core h.0 (reply.Refused r) → w.core.next ≡ s.world.core.next → IsFillRefusal s h r (record s { world = w; errors = errors })
-    by BadHandle y n = y
-    by NoFrame y n = absurd (let none = eqb-true (free_frames s.world.core) 0 y in omega arith)
-    by TooManyInFlight y n = subst (λ k. SERIAL_END ≤ k) (sym n) (no_serial s.world.core i.rests.requests y)
-    by Memory y n = memory_wanted s.world w s.errors errors h p (once s.world w s.errors errors _ _ _ (fill_begins h p) a)
-    by r y n = absurd y
+    by : (r : Refusal) → FillWhy s.world.core h.0 (reply.Refused r) → w.core.next ≡ s.world.core.next
+        → Once s.world s.errors (event.FillBegin h p) (reply.Refused r) w errors → IsFillRefusal s h r (record s { world = w; errors = errors })
+    by BadHandle y n o = y
+    by NoFrame y n o = absurd (let none = eqb-true (free_frames s.world.core) 0 y in omega arith)
+    by TooManyInFlight y n o = subst (λ k. SERIAL_END ≤ k) (sym n) (no_serial s.world.core i.rests.requests y)
+    by Memory y n o = memory_wanted s.world w s.errors errors h p o
+    by r y n o = absurd y
 
 -- ---- want of room since before
 

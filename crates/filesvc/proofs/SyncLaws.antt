@@ -12,7 +12,7 @@ use Rattle.pc_types.specs.declared.ids.Serial.{Serial}
 use Rattle.pc_types.specs.declared.ids.SyncId.{SyncId}
 use Rattle.pc_types.specs.declared.limits.TheConstants.{LAST_PAGE, MAX_FILE_SIZE, SERIAL_END}
 use Rattle.pc_types.specs.declared.refusal.Refusal.{Refusal}
-use Rattle.pc_types.specs.declared.refusal.Refusal.TheVariants.{BadRange, TooManyInFlight}
+use Rattle.pc_types.specs.declared.refusal.Refusal.TheVariants.{BadRange, Memory, TooManyInFlight}
 use Rattle.machine.specs.declared.event.Event.{Event}
 use Rattle.machine.specs.declared.event.Event.TheVariants as event
 use Rattle.machine.specs.declared.event.Outcome.{Outcome}

@@ -1,4 +1,4 @@
-use Rattle.std.proofs.Common.{◌≡◌, true, false, inl, refl, sym, ◌∙◌}
+use Rattle.std.proofs.Common.{◌≡◌, true, false, refl, sym, ◌∙◌}
 use Rattle.pc_types.specs.declared.refusal.Refusal.TheVariants.{DirtyLimit, NoFrame}
 use Rattle.filesvc.proofs.Enough.{dirty_refused, full_refused}
 use Rattle.filesvc.specs.Rooms.{FlushesOne}
@@ -19,7 +19,7 @@ returns-in_default g c = record {
   helps = helps_refl c.args.self.now;
   attempts = refl;
   made = tt;
-  refused = inl refl;
+  refused = refl;
   frames = λ e. absurd (c.in_default.not-NoFrame e);
   clean = λ e. absurd (c.in_default.not-DirtyLimit e);
 }
@@ -27,25 +27,25 @@ returns-in_default g c = record {
 pub returns-then-is_some-clause-helps : goal.returns-then-is_some-clause-helps
 returns-then-is_some-clause-helps g c = rw (← c.self.view_is) (evicted_helps _ _ _ c.age.result c.evict.result c.age.ensures c.evict.ensures (service_sound _ _ _ _ c.self.invariant.serving))
 
-pub returns-then-branch-clause-helps : goal.returns-then-branch-clause-helps
-returns-then-branch-clause-helps g c = elim c.match-refusal.branch [
+pub returns-then-flush_one-clause-helps : goal.returns-then-flush_one-clause-helps
+returns-then-flush_one-clause-helps g c = elim c.match-refusal.branch [
   | in-NoFrame+else-is_some w ↦ rw (← c.self.view_is) (helps_trans _ _ _ (evicted_helps _ _ _ w.age.result w.evict.result w.age.ensures w.evict.ensures (service_sound _ _ _ _ c.self.invariant.serving)) (rw w.self-is at c.flush_one.ensures.helps))
   | in-DirtyLimit w ↦ rw w.self-is at c.flush_one.ensures.helps
 ]
 
-pub returns-then-branch-clause-made : goal.returns-then-branch-clause-made
-returns-then-branch-clause-made g c =
+pub returns-then-flush_one-clause-made : goal.returns-then-flush_one-clause-made
+returns-then-flush_one-clause-made g c =
     let s : SoloSeen = record { world = c.self.inside.world; errors = c.self.inside.recorder; attempts = c.self.inside.attempts } in
-    let f : FlushesOne c.match-refusal.self true c.flush_one.new.self = rw c.if-branch.true at c.in_ok-flush_one.ensures.flushes in
+    let f : FlushesOne c.match-refusal.self true c.flush_one.new.self = rw c.if-flush_one.true at c.flush_one.ensures.flushes in
     elim c.match-refusal.branch [
       | in-NoFrame+else-is_some w ↦ rw (w.in-NoFrame.is, ← c.self.view_is) (flushed_for_frame s c.flush_one.new.self _ _ w.age.result w.evict.result w.age.ensures w.evict.ensures (sym w.is_some.ensures ∙ w.if-is_some.false) (rw w.self-is at f))
       | in-DirtyLimit w ↦ rw w.in-DirtyLimit.is (rw w.self-is at f)
     ]
 
-pub returns-else-branch-clause-frames : goal.returns-else-branch-clause-frames
-returns-else-branch-clause-frames g c =
+pub returns-else-flush_one-clause-frames : goal.returns-else-flush_one-clause-frames
+returns-else-flush_one-clause-frames g c =
     let s : SoloSeen = record { world = c.self.inside.world; errors = c.self.inside.recorder; attempts = c.self.inside.attempts } in
-    let f : FlushesOne c.match-refusal.self false c.flush_one.new.self = rw c.if-branch.false at c.in_ok-flush_one.ensures.flushes in
+    let f : FlushesOne c.match-refusal.self false c.flush_one.new.self = rw c.if-flush_one.false at c.flush_one.ensures.flushes in
     elim c.match-refusal.branch [
       | in-NoFrame+else-is_some w ↦ rw (← c.self.view_is)
           (λ _ _. (let k = stuck_for_frame s c.flush_one.new.self _ _ w.age.result w.evict.result w.age.ensures
@@ -54,10 +54,10 @@ returns-else-branch-clause-frames g c =
       | in-DirtyLimit w ↦ λ no _. absurd (let e : DirtyLimit ≡ NoFrame = sym w.in-DirtyLimit.is ∙ no in cc)
     ]
 
-pub returns-else-branch-clause-clean : goal.returns-else-branch-clause-clean
-returns-else-branch-clause-clean g c =
+pub returns-else-flush_one-clause-clean : goal.returns-else-flush_one-clause-clean
+returns-else-flush_one-clause-clean g c =
     let s : SoloSeen = record { world = c.self.inside.world; errors = c.self.inside.recorder; attempts = c.self.inside.attempts } in
-    let f : FlushesOne c.match-refusal.self false c.flush_one.new.self = rw c.if-branch.false at c.in_ok-flush_one.ensures.flushes in
+    let f : FlushesOne c.match-refusal.self false c.flush_one.new.self = rw c.if-flush_one.false at c.flush_one.ensures.flushes in
     elim c.match-refusal.branch [
       | in-NoFrame+else-is_some w ↦ λ no _. absurd (let e : NoFrame ≡ DirtyLimit = sym w.in-NoFrame.is ∙ no in cc)
       | in-DirtyLimit w ↦ rw (← c.self.view_is)
@@ -65,8 +65,8 @@ returns-else-branch-clause-clean g c =
           (rw (w.self-is, ← c.self.view_is) at f))
     ]
 
-pub returns-in_err-flush_one-clause-helps : goal.returns-in_err-flush_one-clause-helps
-returns-in_err-flush_one-clause-helps g c = elim c.match-refusal.branch [
+pub returns-else-flush_one-clause-helps : goal.returns-else-flush_one-clause-helps
+returns-else-flush_one-clause-helps g c = elim c.match-refusal.branch [
   | in-NoFrame+else-is_some w ↦ rw (← c.self.view_is) (helps_trans _ _ _ (evicted_helps _ _ _ w.age.result w.evict.result w.age.ensures w.evict.ensures (service_sound _ _ _ _ c.self.invariant.serving)) (rw w.self-is at c.flush_one.ensures.helps))
   | in-DirtyLimit w ↦ rw w.self-is at c.flush_one.ensures.helps
 ]
