@@ -744,15 +744,6 @@ store_file t up files dirty f k is here s =
           );
     }
 
--- ---- an entry that is there
-
-abbrev pub the_mapped : Option Mapped → Mapped
-the_mapped o = unwrap_or o (record { frame = 0; tags = no_tags })
-
-pub mapped_some : (o : Option Mapped) → is_some o ≡ true → o ≡ Some (the_mapped o)
-mapped_some None e = absurd (false≢true e)
-mapped_some (Some x) e = refl
-
 -- ---- a part of a row is written
 
 pub byte_is : (b : Bool) → from_bool b ≡ cond b 1 0

@@ -398,18 +398,6 @@ pub no_entry : (t : Table) (up : List Bool) (files : List KeptFile) (f p : ℕ)
 no_entry t up files f p absent idle = either_entry t up (entry_at files f p) (sym (seen_at t up files f p) ∙ absent)
     (sym (waits_at t up files f p) ∙ idle)
 
-present : (t : Table) (up : List Bool) (o : Option Mapped) → (is_some (option_and_then (page_of t up) o) || awaits up o)
-    ≡ true → is_some o ≡ true
-present t up None h = absurd (false≢true h)
-present t up (Some x) h = refl
-
-pub an_entry : (t : Table) (up : List Bool) (files : List KeptFile) (f p : ℕ)
-    → (is_some (stored_page (store_of t up files) f p) || is_awaited (store_of t up files) f p) ≡ true
-    → is_some (entry_at files f p) ≡ true
-an_entry t up files f p h =
-    present t up (entry_at files f p)
-    ((λ i. is_some (sym (seen_at t up files f p) i) || sym (waits_at t up files f p) i) ∙ h)
-
 -- what a cached page is, and that a page that is not cached has none
 pub page_seen : (t : Table) (up : List Bool) (files : List KeptFile) (f p : ℕ) (x : Mapped)
     → entry_at files f p ≡ Some x → is_uptodate up x ≡ true

@@ -3,24 +3,24 @@ use Rattle.std.proofs.Common.{◌≡◌, ℕ, ◌+◌, ◌<◌, ◌≤◌, Bool,
 use Rattle.std.proofs.Common.{subst, ◌∙◌, arith}
 use borrow.Rule.Slice.PartMut.{put_mid}
 use Rattle.std.specs.Int.{from_bool}
-use Rattle.std.specs.Prelude.{All, Some, None, is_some, option_map, slice_set, slice_index_or}
+use Rattle.std.specs.Prelude.{All, Some, None, is_some, slice_set, slice_index_or}
 use Rattle.std.specs.FinMap as finmap
 use Rattle.std.proofs.lemmas.Bool.{false≢true}
 use Rattle.std.proofs.lemmas.List.{get_or_read, set-get_or}
-use Rattle.frames.specs.Table.{Table, free_frames, is_aside, is_taken}
+use Rattle.frames.specs.Table.{free_frames, is_aside, is_taken}
 use Rattle.frames.specs.Rows.{row_at, with_row}
 use Rattle.frames.proofs.RowLemmas.{with_row-whole}
 use Rattle.pc_types.specs.declared.tags.Tag.TheVariants.{Dirty}
-use Rattle.mapping.specs.Pages.{FilePages, Mapped, Pages, change_at, frame_of, with_tag}
+use Rattle.mapping.specs.Pages.{FilePages, Mapped, Pages, change_at, with_tag}
 use Rattle.pagestore.specs.declared.kept.KeptFile.{KeptFile}
 use Rattle.pagestore.specs.declared.pages.Pages.TheInside.{Inside}
 use Rattle.machine.specs.State.{Page}
 use Rattle.pagestore.specs.Ranges.{with_part}
 use Rattle.pagestore.specs.Store.{the_page, Store, IsStore, store_of, none_kept, is_uptodate, has_page, kept_at}
 use Rattle.pagestore.specs.Store.{entry_at, is_untagged, stored_at, stored_page, with_pages}
-use Rattle.pagestore.proofs.StoreLaws.{cached_at, cached_entry, some_entry, some_mapped, with_kept}
+use Rattle.pagestore.proofs.StoreLaws.{cached_at, cached_entry, some_entry, with_kept}
 use Rattle.pagestore.proofs.StoreFacts.{here_kept, page_store, page_after_is, changed_entry, the_page_is, page_taken}
-use Rattle.pagestore.proofs.StoreFacts.{page_size, dirty_least, the_mapped, mapped_some, row_with, row_put}
+use Rattle.pagestore.proofs.StoreFacts.{page_size, dirty_least, row_with, row_put}
 use Rattle.pagestore.proofs.StoreFacts.{length-row_with}
 
 -- a cached page, in the file that was looked up
@@ -53,15 +53,8 @@ module _ (w : CachedPage) where
   is_entered = ap (λ (k : KeptFile). is_some (finmap.get k.mapping.pages p)) entry
       ∙ some_entry up (entry_at files f p) has
 
-  pub not_absent : None ≡ option_map frame_of (finmap.get k.mapping.pages p) → ⊥
-  not_absent e = false≢true (ap is_some e ∙ some_mapped frame_of (finmap.get k.mapping.pages p) ∙ is_entered)
-
   pub none_left : None ≡ finmap.get k.mapping.pages p → ⊥
   none_left e = false≢true (ap is_some e ∙ is_entered)
-
-  -- it has an entry, whether or not its frame was looked up
-  pub its_entry : Some (the_mapped (finmap.get k.mapping.pages p)) ≡ finmap.get k.mapping.pages p
-  its_entry = sym (mapped_some (finmap.get k.mapping.pages p) is_entered)
 
   module _ (x : Mapped) (found : Some x ≡ finmap.get k.mapping.pages p) where
     there : entry_at files f p ≡ Some x

@@ -1,6 +1,4 @@
-use Rattle.std.proofs.Common.{◌∙◌, sym, ap, subst, true, Some}
-use Rattle.std.specs.Prelude.{IfNone, IfSome}
-use Rattle.std.specs.FinMap as map
+use Rattle.std.proofs.Common.{◌∙◌, ap, subst}
 use Rattle.blockmap.specs.Blocks.{Blocks, cut_one}
 use Rattle.blockmap.specs.Keys.{IsPageFrom, NoneFrom}
 use Rattle.blockmap.proofs.block_map.BlockMap.cut_next.Goals as goal

@@ -1,5 +1,5 @@
-use Rattle.std.proofs.Common.{arith, ap, sym, subst, refl, ◌∙◌, ◌≡◌, ◌+◌, ◌-◌, ◌≤◌, Bool, true, false, cond, not}
-use Rattle.std.specs.Prelude.{◌&&◌, slice_set}
+use Rattle.std.proofs.Common.{arith, ap, sym, subst, refl, ◌∙◌, ◌+◌, ◌-◌, ◌≤◌, Bool, true, false}
+use Rattle.std.specs.Prelude.{slice_set}
 use Rattle.std.proofs.lemmas.Bool.{false≢true}
 use Rattle.std.specs.Int.{from_bool}
 use Rattle.writeback.specs.Picks as picks
