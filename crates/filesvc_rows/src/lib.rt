@@ -6,4 +6,6 @@ mod checks;
 #[cfg(test)]
 mod file_tests;
 #[cfg(test)]
+mod stranger_tests;
+#[cfg(test)]
 mod tests;

@@ -30,7 +30,10 @@ fn full_and_empty(rt: HostRuntime) -> Result<(), Fail> {
     let (ring, mut pass) = Ring::new(&rt, rt.alloc(), 7, &geometry)?;
     check(&rt, ring.pop(&rt, &mut pass).is_none());
     // The 65th job comes back, and the 64 before it come out in their order.
-    check(&rt, fills(&rt, rt.alloc(), &ring, &mut pass, &geometry) == Ok(Some(64)));
+    check(
+        &rt,
+        fills(&rt, rt.alloc(), &ring, &mut pass, &geometry) == Ok(Some(64)),
+    );
     check(&rt, drains(&rt, &ring, &mut pass) == Some(64));
     check(&rt, ring.pop(&rt, &mut pass).is_none());
     Ok(())
