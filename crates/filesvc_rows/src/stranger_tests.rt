@@ -9,7 +9,6 @@ use pc_types::{ErrCode, FileId, Geometry, PageIndex, Refusal};
 use std::alloc::Global;
 use std::marker::Model;
 use std::process::Abort;
-use std::test::Fail;
 
 /// A service of name 7, and a handle of one of name 8.
 #[derive(Drop)]
@@ -80,10 +79,10 @@ fn service(alloc: Global, name: u64) -> Result<Solo<MemDevice>, Refusal>
 {
     let geometry = Geometry::new(16, 48, 16, 64)?;
     let device = MemDevice::new(alloc, 16, 64)?;
-    match Solo::new(alloc, &geometry, name, device) {
-        Ok(solo) => Ok(solo),
-        Err((refusal, _)) => Err(refusal),
-    }
+    let Ok(solo) = Solo::new(alloc, &geometry, name, device) else {
+        return Err(Refusal::Memory);
+    };
+    Ok(solo)
 }
 
 /// Makes the first file.
