@@ -1,12 +1,15 @@
 //! A device over a file: what it takes, what it refuses, what a system call cut short means, and a flush that failed.
 
+ghost use Rattle.std.specs.Prelude.{◌≡◌, ◌<◌};
+
 use crate::checks::{check, same};
 use blockdev::{BlockDevice, FileDevice};
 use pc_types::{BlockNo, ErrCode, Refusal};
 use std::cell::Cell;
 use std::fs::{Metadata, OpenFile, OpenOptions};
 use std::os::unix::fs::FileExt;
-use std::path::PathBuf;
+use std::path::{Path, PathBuf};
+use std::process::Abort;
 use std::test::*;
 use std::{env, fs, io, process};
 
@@ -18,30 +21,60 @@ fn folder(rt: &HostRuntime, name: &str) -> Result<PathBuf, Fail> {
     Ok(path)
 }
 
-// A file that is shorter is made as long as the blocks, one that is longer stays, and the bytes come back, also to the next who opens it.
-#[test]
-fn a_regular_file_reads_back(rt: HostRuntime) -> Result<(), Fail> {
-    let folder = folder(&rt, "reads_back")?;
+/// Such a folder, and a file in it with this text.
+fn disk(rt: &HostRuntime, name: &str, text: &str) -> Result<(PathBuf, PathBuf), Fail> {
+    let folder = folder(rt, name)?;
     let path = folder.join(rt.alloc(), "disk")?;
-    fs::write(&rt, path.as_path(), "short")?;
+    fs::write(rt, path.as_path(), text)?;
+    Ok((folder, path))
+}
+
+fn has_len(rt: &HostRuntime, path: Path, len: u64) -> bool {
+    matches!(fs::metadata(rt, path), Ok(metadata) if metadata.len() == len)
+}
+
+fn writes_and_reads(rt: &impl Abort, device: &mut FileDevice)
+    requires { (device.old.size ≡ 16) × (3 < device.old.count) }
+{
     let mut out = [9; 16];
-    let mut device = FileDevice::open(&rt, rt.alloc(), path.as_path(), 16, 4)?;
-    check(&rt, fs::metadata(&rt, path.as_path())?.len() == 64);
-    check(&rt, device.write(BlockNo(3), b"sixteen bytes...").is_ok());
-    check(&rt, device.flush().is_ok());
-    check(&rt, device.read(BlockNo(3), &mut out).is_ok());
-    same(&rt, out, *b"sixteen bytes...");
-    same(&rt, (device.block_size(), device.blocks()), (16, 4));
+    let written = device.write(BlockNo(3), b"sixteen bytes...");
+    same(rt, written, Ok(()));
+    same(rt, device.flush(), Ok(()));
+    same(rt, device.read(BlockNo(3), &mut out), Ok(()));
+    same(rt, out, *b"sixteen bytes...");
+    same(rt, (device.block_size(), device.blocks()), (16, 4));
     same(
-        &rt,
+        rt,
         (device.calls(), device.flushes(), device.faults()),
         (2, 1, 0),
     );
+}
 
-    let mut fewer = FileDevice::open(&rt, rt.alloc(), path.as_path(), 16, 2)?;
-    check(&rt, fs::metadata(&rt, path.as_path())?.len() == 64);
-    check(&rt, fewer.read(BlockNo(0), &mut out).is_ok());
-    same(&rt, out, *b"short\0\0\0\0\0\0\0\0\0\0\0");
+fn by_four_blocks(rt: &impl Abort, host: &HostRuntime, path: Path) -> Result<(), Refusal> {
+    let mut device = FileDevice::open(host, host.alloc(), path, 16, 4)?;
+    check(rt, has_len(host, path, 64));
+    writes_and_reads(rt, &mut device);
+    Ok(())
+}
+
+fn by_two_blocks(rt: &impl Abort, host: &HostRuntime, path: Path) -> Result<[u8; 16], Refusal> {
+    let mut out = [9; 16];
+    let mut fewer = FileDevice::open(host, host.alloc(), path, 16, 2)?;
+    check(rt, has_len(host, path, 64));
+    check(rt, fewer.read(BlockNo(0), &mut out).is_ok());
+    Ok(out)
+}
+
+// A file that is shorter is made as long as the blocks, one that is longer stays, and the bytes come back, also to the next who opens it.
+#[test]
+fn a_regular_file_reads_back(rt: HostRuntime) -> Result<(), Fail> {
+    let (folder, path) = disk(&rt, "reads_back", "short")?;
+    same(&rt, by_four_blocks(&rt, &rt, path.as_path()), Ok(()));
+    same(
+        &rt,
+        by_two_blocks(&rt, &rt, path.as_path()),
+        Ok(*b"short\0\0\0\0\0\0\0\0\0\0\0"),
+    );
     fs::remove_dir_all(&rt, folder.as_path())?;
     Ok(())
 }
@@ -65,22 +98,36 @@ fn what_is_no_device_is_refused(rt: HostRuntime) -> Result<(), Fail> {
     Ok(())
 }
 
+/// Makes the file 24 bytes long.
+fn cut(rt: &HostRuntime, path: Path) -> io::Result<()> {
+    let file = OpenOptions::new().write(true).open(rt, path)?;
+    file.set_len(24)
+}
+
+fn reads_what_is_left(rt: &impl Abort, device: &mut FileDevice)
+    requires { (device.old.size ≡ 16) × (3 < device.old.count) }
+{
+    let mut out = [9; 16];
+    same(rt, device.read(BlockNo(0), &mut out), Ok(()));
+    same(rt, out, [0; 16]);
+    out = [9; 16];
+    same(rt, device.read(BlockNo(1), &mut out), Err(ErrCode::IO));
+    same(rt, out, [9; 16]);
+    same(rt, (device.calls(), device.faults()), (2, 1));
+}
+
+fn over_a_cut_file(rt: &impl Abort, host: &HostRuntime, path: Path) -> Result<(), Refusal> {
+    let mut device = FileDevice::open(host, host.alloc(), path, 16, 4)?;
+    check(rt, cut(host, path).is_ok());
+    reads_what_is_left(rt, &mut device);
+    Ok(())
+}
+
 // A file that is cut shorter by another hand: a fault, which is counted, and no bytes.
 #[test]
 fn a_file_cut_shorter_is_a_fault(rt: HostRuntime) -> Result<(), Fail> {
-    let folder = folder(&rt, "cut")?;
-    let path = folder.join(rt.alloc(), "disk")?;
-    fs::write(&rt, path.as_path(), "")?;
-    let mut device = FileDevice::open(&rt, rt.alloc(), path.as_path(), 16, 4)?;
-    let other = OpenOptions::new().write(true).open(&rt, path.as_path())?;
-    other.set_len(24)?;
-    let mut out = [9; 16];
-    check(&rt, device.read(BlockNo(0), &mut out).is_ok());
-    same(&rt, out, [0; 16]);
-    out = [9; 16];
-    same(&rt, device.read(BlockNo(1), &mut out), Err(ErrCode::IO));
-    same(&rt, out, [9; 16]);
-    same(&rt, (device.calls(), device.faults()), (2, 1));
+    let (folder, path) = disk(&rt, "cut", "")?;
+    same(&rt, over_a_cut_file(&rt, &rt, path.as_path()), Ok(()));
     fs::remove_dir_all(&rt, folder.as_path())?;
     Ok(())
 }

@@ -6,10 +6,6 @@
 //! `reads`, `writes` and `fsync`; `room` is what they do on the way, and `requests` makes a request with its device call and its
 //! end in one. specs/Service.antt says what holds of every call.
 
-#[cfg(test)]
-mod checks;
-#[cfg(test)]
-mod file_tests;
 mod fsync;
 mod handle;
 mod handles;
@@ -18,8 +14,6 @@ mod requests;
 mod room;
 mod seek;
 mod solo;
-#[cfg(test)]
-mod tests;
 mod writes;
 
 pub use handle::Handle;

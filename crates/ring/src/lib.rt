@@ -9,7 +9,5 @@
 
 mod log;
 pub mod ring;
-#[cfg(test)]
-mod tests;
 
 pub use ring::{Ring, RingPass};

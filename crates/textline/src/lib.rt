@@ -12,8 +12,6 @@ pub mod find;
 pub mod lines;
 pub mod print;
 pub mod stop;
-#[cfg(test)]
-mod tests;
 pub mod words;
 
 pub use lines::{Fetched, Lines, is_blank};

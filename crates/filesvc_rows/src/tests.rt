@@ -6,15 +6,23 @@ ghost use Rattle.runs.specs.Plain.{plain_file};
 ghost use Rattle.filesvc.specs.Service as service;
 ghost use Rattle.filesvc.specs.Service.{CameFrom, IsOnDevice, IsOpen, Names, Tells};
 
-use super::*;
 use crate::checks::{check, same};
 use blockdev::{BlockDevice, FaultEffect, ScriptDevice};
-use cachecore::PageTags;
-use pc_types::{BlockNo, ErrCode, FileId, Geometry, PageIndex, Refusal, Tag};
+use filesvc::{Handle, Seek, Solo};
+use pc_types::{BlockNo, ErrCode, FileId, Geometry, PageIndex, Refusal};
 use std::alloc::Global;
+use std::cell::Cell;
 use std::marker::Model;
 use std::process::Abort;
+use std::rc::Rc;
 use std::test::Fail;
+
+/// How many writes a device was asked for, and the first byte of the last.
+#[derive(Clone, Copy, PartialEq, Eq, Debug)]
+struct Written {
+    count: u64,
+    byte: u8,
+}
 
 /// A device whose first read fails with this code, where there is one, and of whose flushes those past so many fail.
 #[derive(Drop)]
@@ -22,6 +30,7 @@ struct OddDevice {
     device: ScriptDevice,
     first_read: Option<ErrCode>,
     good_flushes: u64,
+    written: Rc<Cell<Written>>,
 }
 
 impl BlockDevice for OddDevice {
@@ -56,6 +65,7 @@ impl BlockDevice for OddDevice {
     }
 
     fn write(&mut self, block: BlockNo, bytes: &[u8]) -> Result<(), ErrCode> {
+        note(&self.written, bytes);
         self.device.write(block, bytes)
     }
 
@@ -67,12 +77,20 @@ impl BlockDevice for OddDevice {
     }
 }
 
+fn note(written: &Cell<Written>, bytes: &[u8]) {
+    written.set(Written {
+        count: written.get().count.wrapping_add(1),
+        byte: bytes.first().copied().unwrap_or(0),
+    });
+}
+
 /// A service and a handle that it opened.
 #[derive(Drop)]
 struct Desk {
     // in a box, since the check is slow where a service itself goes out of scope
     solo: Box<Solo<OddDevice>>,
     handle: Handle,
+    written: Rc<Cell<Written>>,
 }
 
 impl Model for Desk {
@@ -120,31 +138,42 @@ impl Desk {
             .fsync_range(&mut self.handle, PageIndex(first), PageIndex(last))
     }
 
-    /// Whether a page of the file is dirty.
-    fn is_dirty(&self, page: u64) -> bool {
-        let tags = self.solo.world.tags(FileId(0), PageIndex(page));
-        matches!(tags, Ok(PageTags::Cached(flags)) if flags.has(Tag::Dirty))
+    /// Whether so many writes reached the device.
+    fn has_written(&self, count: u64) -> bool {
+        self.written.get().count == count
+    }
+
+    /// Whether so many did, the last of which began with this byte.
+    fn has_last_written(&self, count: u64, byte: u8) -> bool {
+        self.written.get() == Written { count, byte }
     }
 
     fn poll_error(&mut self) -> Result<Option<ErrCode>, Refusal> {
         self.solo.poll_error(&mut self.handle)
     }
 
-    /// Gives the handle another cache's name.
-    fn rename(&mut self, name: u64) {
-        self.handle.cache = name;
-    }
-
     fn close(self) -> bool {
-        let Desk { mut solo, handle } = self;
+        let Desk {
+            mut solo,
+            handle,
+            ..
+        } = self;
         solo.close(handle).is_ok()
     }
 
     /// The same service with its file closed, and opened again.
     fn reopened(self) -> Result<Desk, Refusal> {
-        let Desk { mut solo, handle } = self;
+        let Desk {
+            mut solo,
+            handle,
+            written,
+        } = self;
         let handle = reopen(&mut solo, handle)?;
-        Ok(Desk { solo, handle })
+        Ok(Desk {
+            solo,
+            handle,
+            written,
+        })
     }
 }
 
@@ -188,16 +217,19 @@ fn tells_an_error_once(rt: &impl Abort, desk: &mut Desk) -> Result<(), Refusal> 
     Ok(())
 }
 
-// Where nothing was written since the last good flush none is made. One that fails is answered each time, and the handle is told nothing.
+// Where nothing was written since the last good flush none is made. One that fails is answered each time, and the handle is told nothing;
+// the page is clean by then.
 fn flushes_again(rt: &impl Abort, desk: &mut Desk) {
     same(rt, desk.pwrite(0, &[1]), Ok(1));
     same(rt, desk.fsync(), Ok(()));
     same(rt, desk.fsync(), Ok(()));
     same(rt, desk.pwrite(0, &[2]), Ok(1));
     same(rt, desk.fsync(), Err(Refusal::Io(ErrCode::IO)));
-    check(rt, !desk.is_dirty(0));
+    check(rt, desk.has_last_written(2, 2));
     same(rt, desk.poll_error(), Ok(None));
     same(rt, desk.fsync_range(3, 4), Err(Refusal::Io(ErrCode::IO)));
+    same(rt, desk.fsync(), Err(Refusal::Io(ErrCode::IO)));
+    check(rt, desk.has_written(2));
 }
 
 // More fsyncs than syncs may be in progress at once, one after the other.
@@ -214,23 +246,27 @@ fn syncs_a_range(rt: &impl Abort, desk: &mut Desk) {
     same(rt, desk.pwrite(0, &[0xaa]), Ok(1));
     same(rt, desk.pwrite(32, &[0xbb]), Ok(1));
     same(rt, desk.fsync_range(5, 4), Err(Refusal::BadRange));
-    check(rt, desk.is_dirty(0) && desk.is_dirty(2));
+    check(rt, desk.has_written(0));
     same(rt, desk.fsync_range(2, 5), Ok(()));
     same(rt, desk.solo.attempts(), 1);
-    check(rt, desk.is_dirty(0) && !desk.is_dirty(2));
+    check(rt, desk.has_last_written(1, 0xbb));
     same(rt, desk.fsync_range(7, 7), Ok(()));
-    check(rt, desk.is_dirty(0));
+    check(rt, desk.has_written(1));
     same(rt, desk.fsync(), Ok(()));
-    check(rt, !desk.is_dirty(0));
+    check(rt, desk.has_last_written(2, 0xaa));
+    same(rt, desk.fsync(), Ok(()));
+    check(rt, desk.has_written(2));
 }
 
-// A failed write of a page outside the range is told all the same, once.
+// A failed write of a page outside the range is told all the same, once. The pages outside stay dirty: the last fsync writes 14.
 fn tells_of_any_page(rt: &impl Abort, desk: &mut Desk) -> Result<(), Refusal> {
     same(rt, desk.pwrite(0, &[1; 256]), Ok(256));
     same(rt, desk.pwrite(256, &[2]), Err(Refusal::DirtyLimit));
     same(rt, desk.fsync_range(3, 4), Err(Refusal::Io(full()?)));
     same(rt, desk.fsync_range(3, 4), Ok(()));
-    check(rt, desk.is_dirty(0) && desk.is_dirty(15));
+    check(rt, desk.has_written(3));
+    same(rt, desk.fsync(), Ok(()));
+    check(rt, desk.has_written(17));
     Ok(())
 }
 
@@ -395,27 +431,6 @@ fn serves_a_user(rt: &impl Abort, desk: &mut Desk) {
     }
 }
 
-// A handle of another service is refused, and comes back from close.
-fn refuses_a_stranger(rt: &impl Abort, desk: &mut Desk) {
-    // Asserted here, since the handle stays open where nothing was opened.
-    let refused = desk.solo.open(FileId(1), false);
-    assert!(rt; matches!(refused, Err(Refusal::NoSuchFile)));
-    let refused = desk.solo.open(FileId(64), false);
-    assert!(rt; matches!(refused, Err(Refusal::NoSuchFile)));
-    desk.rename(8);
-    let mut out = [0; 1];
-    same(rt, desk.read(&mut out), Err(Refusal::BadHandle));
-    same(rt, desk.write(&[1]), Err(Refusal::BadHandle));
-    same(rt, desk.pread(0, &mut out), Err(Refusal::BadHandle));
-    same(rt, desk.pwrite(0, &[1]), Err(Refusal::BadHandle));
-    same(rt, desk.truncate(0), Err(Refusal::BadHandle));
-    same(rt, desk.seek(Seek::Set(0)), Err(Refusal::BadHandle));
-    same(rt, desk.fsync(), Err(Refusal::BadHandle));
-    same(rt, desk.fsync_range(5, 4), Err(Refusal::BadHandle));
-    same(rt, desk.poll_error(), Err(Refusal::BadHandle));
-    desk.rename(7);
-}
-
 // Saves the bytes at the beginning of a file. After success the device holds the file.
 fn save<D: BlockDevice>(
     files: &mut Solo<D>,
@@ -456,7 +471,6 @@ enum Row {
     Appends,
     ReadsBack,
     FailsToFill,
-    RefusesAStranger,
     Saves,
     SyncsAgainAndAgain,
     SyncsARange,
@@ -477,7 +491,6 @@ fn run(rt: &impl Abort, desk: &mut Desk, row: Row) -> Result<(), Refusal> {
         Row::Appends => appends(rt, desk),
         Row::ReadsBack => reads_back(rt, desk),
         Row::FailsToFill => fails_to_fill(rt, desk)?,
-        Row::RefusesAStranger => refuses_a_stranger(rt, desk),
         Row::Saves => saves(rt, desk)?,
         Row::SyncsAgainAndAgain => syncs_again_and_again(rt, desk),
         Row::SyncsARange => syncs_a_range(rt, desk),
@@ -523,10 +536,12 @@ fn open_desk(
     failing: Failing,
     append: bool,
 ) -> Result<Desk, Refusal> {
+    let written = Rc::new(alloc, Cell::new(Written { count: 0, byte: 0 }))?;
     let mut device = OddDevice {
         device: ScriptDevice::new(alloc, 16, geometry.blocks())?,
         first_read: None,
         good_flushes: u64::MAX,
+        written: written.clone()?,
     };
     match failing {
         Failing::None => {}
@@ -539,7 +554,11 @@ fn open_desk(
     };
     let mut solo = Box::new(alloc, solo)?;
     let handle = open_first(&mut solo, append)?;
-    Ok(Desk { solo, handle })
+    Ok(Desk {
+        solo,
+        handle,
+        written,
+    })
 }
 
 fn over_a_service(
@@ -626,11 +645,6 @@ fn evicted_pages_read_back(rt: HostRuntime) -> Result<(), Refusal> {
 #[test]
 fn a_failed_fill_has_its_own_code(rt: HostRuntime) -> Result<(), Refusal> {
     over_a_service(&rt, rt.alloc(), Failing::FirstRead, Row::FailsToFill)
-}
-
-#[test]
-fn a_stranger_is_refused(rt: HostRuntime) -> Result<(), Refusal> {
-    over_a_service(&rt, rt.alloc(), Failing::None, Row::RefusesAStranger)
 }
 
 #[test]

@@ -5,9 +5,10 @@ ghost use Rattle.crossbeam_queue.specs.Passes.{view};
 ghost use Rattle.blockdev.specs.Jobs.{IsJobFor};
 ghost use Rattle.ring.specs.Serving.{Serves, Carries};
 
-use crate::{Ring, RingPass};
+use crate::checks::check;
 use blockdev::{Buffer, Job};
 use pc_types::{BlockNo, Geometry, Kind, Refusal, Serial};
+use ring::{Ring, RingPass};
 use std::alloc::Global;
 use std::sync::Wait;
 use std::test::*;
@@ -27,11 +28,14 @@ fn job(alloc: Global, geometry: &Geometry, serial: u64) -> Result<Job, Refusal>
 fn full_and_empty(rt: HostRuntime) -> Result<(), Fail> {
     let geometry = Geometry::new(512, 48, 16, 64)?;
     let (ring, mut pass) = Ring::new(&rt, rt.alloc(), 7, &geometry)?;
-    assert!(rt; ring.pop(&rt, &mut pass).is_none());
+    check(&rt, ring.pop(&rt, &mut pass).is_none());
     // The 65th job comes back, and the 64 before it come out in their order.
-    assert!(rt; fills(&rt, rt.alloc(), &ring, &mut pass, &geometry)? == Some(64));
-    assert!(rt; drains(&rt, &ring, &mut pass) == Some(64));
-    assert!(rt; ring.pop(&rt, &mut pass).is_none());
+    check(
+        &rt,
+        fills(&rt, rt.alloc(), &ring, &mut pass, &geometry) == Ok(Some(64)),
+    );
+    check(&rt, drains(&rt, &ring, &mut pass) == Some(64));
+    check(&rt, ring.pop(&rt, &mut pass).is_none());
     Ok(())
 }
 
@@ -122,6 +126,6 @@ fn between_two_threads(rt: HostRuntime) -> Result<(), Fail> {
     );
     // Each of the numbers below 200,000 came out once.
     let total = a.unwrap_or(0).wrapping_add(b.unwrap_or(0));
-    assert!(rt; total == EACH * (2 * EACH - 1));
+    check(&rt, total == EACH * (2 * EACH - 1));
     Ok(())
 }

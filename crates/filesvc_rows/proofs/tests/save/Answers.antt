@@ -4,7 +4,7 @@ use Rattle.pc_types.specs.declared.refusal.Refusal.{Refusal}
 use Rattle.runs.specs.Plain.{Plain, plain_file}
 use Rattle.filesvc.specs.Service.{IsOnDevice}
 use Rattle.filesvc.proofs.Callers.{came_on, came_synced, file_synced, open_on, open_synced, written_is}
-use Rattle.filesvc.proofs.tests.save.Goals as goal
+use Rattle.filesvc_rows.proofs.tests.save.Goals as goal
 
 if_ok : {P : Type 0} (r : Result Unit Refusal) → P → OnOk r P
 if_ok (Ok x) p = p

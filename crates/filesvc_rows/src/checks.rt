@@ -3,10 +3,10 @@
 use std::fmt::Debug;
 use std::process::Abort;
 
-pub(crate) fn check(rt: &impl Abort, holds: bool) {
+pub fn check(rt: &impl Abort, holds: bool) {
     assert!(rt; holds);
 }
 
-pub(crate) fn same<T: PartialEq + Debug + Drop>(rt: &impl Abort, is: T, wanted: T) {
+pub fn same<T: PartialEq + Debug + Drop>(rt: &impl Abort, is: T, wanted: T) {
     assert_eq!(rt; is, wanted);
 }

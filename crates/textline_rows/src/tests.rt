@@ -1,10 +1,11 @@
 //! Lines and words by the rules of the trace language and of the script language.
 
-use crate::{Fault, Fetched, Lines, Printer, Stop, Words, flush, is_blank, numbers, print_line};
+use crate::checks::{check, same};
 use std::alloc::Global;
 use std::io::{BufRead, ErrorKind, Result as IoResult, Write};
 use std::process::Abort;
 use std::test::Fail;
+use textline::{Fault, Fetched, Lines, Printer, Stop, Words, flush, is_blank, numbers, print_line};
 
 fn check_line<R: BufRead>(
     rt: &impl Abort,
@@ -12,41 +13,39 @@ fn check_line<R: BufRead>(
     lines: &mut Lines<R>,
     fetched: Fetched,
     line: &[u8],
-) -> Result<(), Fail> {
+) {
     let mut out = Vec::new(alloc);
-    assert!(rt; lines.fetch(4, &mut out) == Ok(fetched));
-    assert!(rt; lines.line.as_slice() == line);
-    Ok(())
+    same(rt, lines.fetch(4, &mut out), Ok(fetched));
+    check(rt, lines.line.as_slice() == line);
 }
 
 /// A line ends in a newline, which the last may lack; empty lines count.
 #[test]
-fn lines_are_fetched_in_order(rt: HostRuntime) -> Result<(), Fail> {
+fn lines_are_fetched_in_order(rt: HostRuntime) {
     let mut lines = Lines::new(rt.alloc(), b"ab\n\ncdef\ng".as_slice());
-    check_line(&rt, rt.alloc(), &mut lines, Fetched::Line, b"ab")?;
-    check_line(&rt, rt.alloc(), &mut lines, Fetched::Line, b"")?;
-    check_line(&rt, rt.alloc(), &mut lines, Fetched::Line, b"cdef")?;
-    check_line(&rt, rt.alloc(), &mut lines, Fetched::Line, b"g")?;
-    assert_eq!(rt; lines.number, 4);
-    check_line(&rt, rt.alloc(), &mut lines, Fetched::End, b"")
+    check_line(&rt, rt.alloc(), &mut lines, Fetched::Line, b"ab");
+    check_line(&rt, rt.alloc(), &mut lines, Fetched::Line, b"");
+    check_line(&rt, rt.alloc(), &mut lines, Fetched::Line, b"cdef");
+    check_line(&rt, rt.alloc(), &mut lines, Fetched::Line, b"g");
+    check(&rt, lines.number == 4);
+    check_line(&rt, rt.alloc(), &mut lines, Fetched::End, b"");
 }
 
 /// A line with a byte more than it may have is none.
 #[test]
-fn a_line_can_be_too_long(rt: HostRuntime) -> Result<(), Fail> {
+fn a_line_can_be_too_long(rt: HostRuntime) {
     let mut lines = Lines::new(rt.alloc(), b"abcde\n".as_slice());
-    check_line(&rt, rt.alloc(), &mut lines, Fetched::TooLong, b"")
+    check_line(&rt, rt.alloc(), &mut lines, Fetched::TooLong, b"");
 }
 
 /// Whoever prints has handed on what was printed before more input is awaited.
 #[test]
-fn what_was_printed_is_handed_on(rt: HostRuntime) -> Result<(), Fail> {
+fn what_was_printed_is_handed_on(rt: HostRuntime) {
     let mut out = Printer::new(rt.alloc(), Vec::new(rt.alloc()));
-    assert!(rt; print_line(&mut out, 7u64) == Ok(()));
-    assert!(rt; print_line(&mut out, "none") == Ok(()));
-    assert!(rt; flush(&mut out.writer) == Ok(()));
-    assert!(rt; out.writer.as_slice() == b"7\nnone\n".as_slice());
-    Ok(())
+    same(&rt, print_line(&mut out, 7u64), Ok(()));
+    same(&rt, print_line(&mut out, "none"), Ok(()));
+    same(&rt, flush(&mut out.writer), Ok(()));
+    check(&rt, out.writer.as_slice() == b"7\nnone\n".as_slice());
 }
 
 /// Takes at most two bytes a call, and as many in all as it has room for. Every other call is interrupted.
@@ -83,17 +82,17 @@ fn a_line_is_written_in_parts(rt: HostRuntime) {
         is_calm: true,
     };
     let mut out = Printer::new(rt.alloc(), narrow);
-    assert!(rt; print_line(&mut out, "none") == Ok(()));
-    assert!(rt; print_line(&mut out, "written") == Err(Stop::Output));
-    assert!(rt; out.writer.taken.as_slice() == b"none\nwri".as_slice());
+    same(&rt, print_line(&mut out, "none"), Ok(()));
+    same(&rt, print_line(&mut out, "written"), Err(Stop::Output));
+    check(&rt, out.writer.taken.as_slice() == b"none\nwri".as_slice());
 }
 
 /// An empty line and a comment say nothing.
 #[test]
 fn blank_lines(rt: HostRuntime) {
-    assert!(rt; is_blank(b""));
-    assert!(rt; is_blank(b"# size 0"));
-    assert!(rt; !is_blank(b" #"));
+    check(&rt, is_blank(b""));
+    check(&rt, is_blank(b"# size 0"));
+    check(&rt, !is_blank(b" #"));
 }
 
 /// A number is written as it is printed.
@@ -101,7 +100,10 @@ fn blank_lines(rt: HostRuntime) {
 fn words_are_numbers(rt: HostRuntime) -> Result<(), Fail> {
     let alloc = rt.alloc();
     let read = numbers(alloc, &mut Words::new(b"0 18446744073709551615"))?;
-    assert!(rt; read.is_some_and(|read| read.as_slice() == [0, u64::MAX].as_slice()));
+    check(
+        &rt,
+        read.is_some_and(|read| read.as_slice() == [0, u64::MAX].as_slice()),
+    );
     for line in [
         b"".as_slice(),
         b"1  2",
@@ -110,44 +112,56 @@ fn words_are_numbers(rt: HostRuntime) -> Result<(), Fail> {
         b"-1",
         b"18446744073709551616",
     ] {
-        assert!(rt; numbers(alloc, &mut Words::new(line))?.is_none());
+        check(
+            &rt,
+            matches!(numbers(alloc, &mut Words::new(line)), Ok(None)),
+        );
     }
     Ok(())
 }
 
 /// Each word is taken once, and none is left then.
 #[test]
-fn words_are_taken_in_order(rt: HostRuntime) -> Result<(), Fail> {
+fn words_are_taken_in_order(rt: HostRuntime) {
     let mut words = Words::new(b"write 16 aBCd -");
-    assert!(rt; words.word() == Some(b"write".as_slice()));
-    assert!(rt; words.number() == Ok(16));
-    assert!(rt;
+    check(&rt, words.word() == Some(b"write".as_slice()));
+    same(&rt, words.number(), Ok(16));
+    check(
+        &rt,
         words
             .bytes(rt.alloc())
-            .is_ok_and(|read| read.as_slice() == [0xab, 0xcd].as_slice())
+            .is_ok_and(|read| read.as_slice() == [0xab, 0xcd].as_slice()),
     );
-    assert!(rt; words.end() == Err(Fault::Malformed));
-    assert!(rt;
+    same(&rt, words.end(), Err(Fault::Malformed));
+    check(
+        &rt,
         words
             .bytes(rt.alloc())
-            .is_ok_and(|read| read.as_slice().is_empty())
+            .is_ok_and(|read| read.as_slice().is_empty()),
     );
-    assert!(rt; words.end() == Ok(()));
-    assert!(rt; words.number() == Err(Fault::Malformed));
-    Ok(())
+    same(&rt, words.end(), Ok(()));
+    same(&rt, words.number(), Err(Fault::Malformed));
 }
 
 /// The statuses of the table, and what is said.
 #[test]
 fn stops_have_their_status(rt: HostRuntime) -> Result<(), Fail> {
     let alloc = rt.alloc();
-    assert_eq!(rt; Stop::Malformed(3).status(), 2);
-    assert_eq!(rt; Stop::Input.status(), 3);
-    assert_eq!(rt; Stop::Output.status(), 3);
-    assert_eq!(rt; Stop::Memory.status(), 4);
-    assert!(rt; Stop::of_input(&ErrorKind::OutOfMemory.into()) == Stop::Memory);
-    assert!(rt; Stop::of_input(&ErrorKind::BrokenPipe.into()) == Stop::Input);
+    check(&rt, Stop::Malformed(3).status() == 2);
+    check(&rt, Stop::Input.status() == 3);
+    check(&rt, Stop::Output.status() == 3);
+    check(&rt, Stop::Memory.status() == 4);
+    same(
+        &rt,
+        Stop::of_input(&ErrorKind::OutOfMemory.into()),
+        Stop::Memory,
+    );
+    same(
+        &rt,
+        Stop::of_input(&ErrorKind::BrokenPipe.into()),
+        Stop::Input,
+    );
     let said = format!(in alloc; "{}", Stop::Malformed(3))?;
-    assert_eq!(rt; said.as_str(), "line 3: malformed");
+    check(&rt, said.as_str() == "line 3: malformed");
     Ok(())
 }

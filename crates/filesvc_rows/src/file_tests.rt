@@ -3,8 +3,9 @@
 ghost use Rattle.std.specs.Prelude.{IfOk};
 ghost use Rattle.filesvc.specs.Service.{IsOpen};
 
-use super::*;
+use crate::checks::check;
 use blockdev::FileDevice;
+use filesvc::{Handle, Solo};
 use pc_types::{Geometry, Refusal};
 use std::alloc::Global;
 use std::marker::Model;
@@ -131,7 +132,7 @@ fn reads_back(rt: &HostRuntime, path: Path) -> Result<bool, Refusal> {
 #[test]
 fn what_was_synced_is_in_the_file(rt: HostRuntime) -> Result<(), Fail> {
     let (folder, path) = disk(&rt)?;
-    assert_eq!(rt; reads_back(&rt, path.as_path()), Ok(true));
+    check(&rt, reads_back(&rt, path.as_path()) == Ok(true));
     fs::remove_dir_all(&rt, folder.as_path())?;
     Ok(())
 }
