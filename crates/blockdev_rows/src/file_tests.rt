@@ -203,3 +203,61 @@ fn a_flush_that_failed_is_not_forgotten(rt: HostRuntime) -> Result<(), Fail> {
     check(&rt, device.flushes() == 4);
     Ok(())
 }
+
+/// A file whose first read is interrupted, and whose third is refused.
+#[derive(Drop)]
+struct Shy {
+    reads: Cell<u32>,
+}
+
+impl FileExt for Shy {
+    fn read_at(&self, buf: &mut [u8], _offset: u64) -> io::Result<usize> {
+        let before = self.reads.get();
+        self.reads.set(before.wrapping_add(1));
+        match before {
+            0 => Err(io::Error::from(io::ErrorKind::Interrupted)),
+            2 => Err(io::Error::from(io::ErrorKind::PermissionDenied)),
+            _ => {
+                buf.fill(7);
+                Ok(buf.len())
+            }
+        }
+    }
+
+    fn write_at(&self, buf: &[u8], _offset: u64) -> io::Result<usize> {
+        Ok(buf.len())
+    }
+}
+
+impl OpenFile for Shy {
+    fn metadata(&self) -> io::Result<Metadata> {
+        Ok(Metadata::of_file(64))
+    }
+
+    fn set_len(&self, _size: u64) -> io::Result<()> {
+        Ok(())
+    }
+
+    fn sync_all(&self) -> io::Result<()> {
+        Ok(())
+    }
+
+    fn sync_data(&self) -> io::Result<()> {
+        Ok(())
+    }
+}
+
+// Made again, the read that is refused would go well.
+#[test]
+fn a_read_that_is_refused_is_made_once(rt: HostRuntime) -> Result<(), Fail> {
+    let shy = Shy {
+        reads: Cell::new(0),
+    };
+    let mut device = FileDevice::new(shy, 16, 4, vec![in rt.alloc(); 9; 16]?);
+    let mut out = [9; 16];
+    same(&rt, device.read(BlockNo(2), &mut out), Ok(()));
+    same(&rt, out, [7; 16]);
+    same(&rt, device.read(BlockNo(2), &mut out), Err(ErrCode::IO));
+    same(&rt, (device.calls(), device.faults()), (2, 1));
+    Ok(())
+}
