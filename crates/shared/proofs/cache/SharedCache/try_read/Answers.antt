@@ -89,6 +89,6 @@ returns-in-Err-clause-only g c =
 -- a read wants no room
 pub returns-in-Err-clause-lost : goal.returns-in-Err-clause-lost
 returns-in-Err-clause-lost g c =
-    lost_unwanted g.B.Naming.sizes g.B.Naming.name c.read.new.seat c.in-Err.denied
+    lost_unwanted g.B.Naming.sizes g.B.Naming.name c.args.seat.now c.read.new.seat c.in-Err.denied
     (read_unwanted c.args.handle c.args.offset (length c.args.out.now) c.deref_mut.result.now c.read.new.self c.args.seat.now
     c.read.new.seat c.in-Err.denied c.in-Err.ensures.denied)
