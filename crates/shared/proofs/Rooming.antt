@@ -1,6 +1,6 @@
 -- What a refusal for want of room says of the cache at its entry.
 use Rattle.std.proofs.Common.{◌≡◌, ◌⊎◌, ◌∙◌, ◌+◌, ◌≤◌, [], ℕ, Bool, true, false, cond, not, length, take, refl, sym, ap, subst, arith, inl, inr}
-use Rattle.std.specs.Prelude.{◌&&◌, ◌||◌, ◌==◌, Ok, Option, Some, None, is_some, nat_le, nat_lt}
+use Rattle.std.specs.Prelude.{◌&&◌, ◌||◌, ◌==◌, IsTrue, Ok, Option, Some, None, is_some, nat_le, nat_lt}
 use Rattle.std.proofs.lemmas.List.{length_push, take-append-le, take_all}
 use Rattle.std.specs.FinMap as map
 use Rattle.cachecore.specs.Replies.{evicted, flush_ended}
@@ -18,7 +18,7 @@ use Rattle.errseq.proofs.Prefixes.{prefix_length}
 use Rattle.machine.specs.Step.{Step}
 use Rattle.machine.specs.Tests.{has_idle, is_full, is_of, read_count, read_stop, refuse, stopped, tests}
 use Rattle.machine.proofs.steps.Cases.{answered}
-use Rattle.pc_types.specs.Limits.{Sizes}
+use Rattle.pc_types.specs.Limits.{Sizes, is_geometry}
 use Rattle.pc_types.specs.declared.ids.FileId.{FileId}
 use Rattle.pc_types.specs.declared.ids.HandleId.{HandleId}
 use Rattle.pc_types.specs.declared.ids.PageIndex.{PageIndex}
@@ -43,6 +43,7 @@ use Rattle.shared.specs.Called.{is_for_now}
 use Rattle.shared.specs.Own.{IsRoomEvent}
 use Rattle.shared.specs.Rooms.{FailsToWrite, IsCrammed, IsLost, IsRoomLost, IsUnwritten, is_written, wants_room}
 use Rattle.shared.proofs.Making.{makes_by, makes_on}
+use Rattle.shared.proofs.Sparing.{IsAsked, has_to_write, stops_unrefused}
 
 -- ---- refusals of another kind
 
@@ -109,15 +110,6 @@ pub first_unwanted : (old new : HeldSeen) (before after : SeatSeen) (d : Denied)
 first_unwanted old new before after d q = room_unwanted (event.FlushBegin q.file) old new before after d tt q.denied
 
 -- nor is a read
-stops_unrefused : (s : State) (f : ℕ) (stop : Option ℕ) (why : Refusal) → stopped s f stop ≡ Some (reply.Refused why) → ⊥
-stops_unrefused s f None why e = cc
-stops_unrefused s f (Some p) why e = go (is_filling s f p) e
-  where
-    go : (filling : Bool)
-        → Some (cond filling (reply.Wait (record { 0 = p })) (reply.Miss (record { 0 = p }))) ≡ Some (reply.Refused why) → ⊥
-    go true e = cc
-    go false e = cc
-
 read_tested : (there none long : Bool) (last : Option Reply) (why : Refusal) → (last ≡ Some (reply.Refused why) → ⊥)
     → cond (not there) (refuse BadHandle) (cond none (Some (reply.Bytes [])) (cond long (refuse TooLong) last))
     ≡ Some (reply.Refused why) → wants_room why ≡ false
@@ -220,10 +212,10 @@ evict_none None n x y z a b c first slip m q e =
 -- ---- the entry of the refusal
 
 lost_by : (sizes : Sizes) (name : ℕ) (e : Event) (why : Refusal) (old new : HeldSeen) (before at after : SeatSeen) (slip : Slip)
-    → Made e (reply.Refused why) old new before at slip → After sizes name new.log.history new.core.state
-    → IsCrammed why new.core.state → IsUnwritten new.core.state at after → Goes at after
-    → IsRoomLost sizes name why before after slip
-lost_by sizes name e why old new before at after slip m legal crammed unwritten goes =
+    → IsTrue (is_geometry sizes) → IsAsked e → wants_room why ≡ true → Made e (reply.Refused why) old new before at slip
+    → After sizes name new.log.history new.core.state → IsCrammed why new.core.state → IsUnwritten new.core.state at after
+    → Goes at after → IsRoomLost sizes name why before after slip
+lost_by sizes name e why old new before at after slip geometry asked wants m legal crammed unwritten goes =
     let entry : Entry = entry_of before.number e (reply.Refused why) in
     let long : length at.list ≡ slip.place + 1 =
     ap length (m.entered.sees ∙ m.entered.history) ∙ length_push old.log.history entry
@@ -237,23 +229,25 @@ lost_by sizes name e why old new before at after slip m legal crammed unwritten 
       seen = omega (arith, long, more);
       leaves = subst (λ l. After sizes name l new.core.state) (sym (there ∙ m.entered.sees)) legal;
       crammed = crammed;
-      unwritten = since (omega (arith, long)) unwritten;
+      failed = since (omega (arith, long)) unwritten;
     }
   where
-    since : slip.place + 1 ≤ length at.list → IsUnwritten new.core.state at after
-        → NothingToWrite new.core.state ⊎ FailsToWrite (slip.place + 1) before after
-    since less (inl none) = inl none
+    since : slip.place + 1 ≤ length at.list → IsUnwritten new.core.state at after → FailsToWrite (slip.place + 1) before after
+    since less (inl none) =
+        absurd (has_to_write sizes name new.log.history old.core.state new.core.state e why geometry asked wants m.step legal
+        crammed.0 crammed.1 none)
     since less (inr fails) =
-        inr (fails_on (length at.list) (slip.place + 1) before at after less
-        (goes_by e (reply.Refused why) old new before at slip m) fails)
+        fails_on (length at.list) (slip.place + 1) before at after less (goes_by e (reply.Refused why) old new before at slip m)
+        fails
 
 -- an event was refused, and it stands if the cache is crammed
 pub lost_denied : (sizes : Sizes) (name : ℕ) (e : Event) (old new : HeldSeen) (before at after : SeatSeen) (first d : Denied)
-    → under.IsDenied e old new before at first → After sizes name new.log.history new.core.state → Goes at after
+    → IsTrue (is_geometry sizes) → IsAsked e → under.IsDenied e old new before at first
+    → After sizes name new.log.history new.core.state → Goes at after
     → (wants_room d.refusal ≡ true
     → (d ≡ first) × IsCrammed d.refusal new.core.state × IsUnwritten new.core.state at after)
     → IsLost sizes name before after d
-lost_denied sizes name e old new before at after first d q legal goes f = λ wants.
+lost_denied sizes name e old new before at after first d geometry asked q legal goes f = λ wants.
     let k = f wants in
     let there = go first.refusal first.slip q (subst (λ (x : Denied). wants_room x.refusal ≡ true) k.0 wants)
     (subst (λ (x : Denied). IsCrammed x.refusal new.core.state) k.0 k.1) k.2 in
@@ -265,23 +259,22 @@ lost_denied sizes name e old new before at after first d q legal goes f = λ wan
         → (slip : Slip) × (o ≡ Some slip) × IsRoomLost sizes name r before after slip
     go r None q wants crammed unwritten =
         let other : wants_room r ≡ false = subst (λ (x : Refusal). wants_room x ≡ false) (sym q.0) refl in absurd cc
-    go r (Some slip) q wants crammed unwritten =
-        (slip, refl, lost_by sizes name e r old new before at after slip q legal crammed unwritten goes)
+    go r (Some slip) q wants crammed unwritten = (
+      slip,
+      refl,
+      lost_by sizes name e r old new before at after slip geometry asked wants q legal crammed unwritten goes,
+    )
 
 -- a part of a call was refused so
 pub lost_on : (sizes : Sizes) (name : ℕ) (a b c : SeatSeen) (d : Denied) → Goes a b → IsLost sizes name b c d
     → IsLost sizes name a c d
 lost_on sizes name a b c d p q = λ wants. let k = q wants in (k.0, k.1, go k.0 k.2)
   where
-    since : (s : State) (n : ℕ) → NothingToWrite s ⊎ FailsToWrite n b c → NothingToWrite s ⊎ FailsToWrite n a c
-    since s n (inl none) = inl none
-    since s n (inr fails) = inr (fails_on n n a b c (omega arith) p fails)
-
     go : (slip : Slip) → IsRoomLost sizes name d.refusal b c slip → IsRoomLost sizes name d.refusal a c slip
     go slip k = record {
       state = k.state;
       seen = k.seen;
       leaves = k.leaves;
       crammed = k.crammed;
-      unwritten = since k.state (slip.place + 1) k.unwritten;
+      failed = fails_on (slip.place + 1) (slip.place + 1) a b c (omega arith) p k.failed;
     }

@@ -42,18 +42,18 @@ pub record FailsToWrite (place : ℕ) (before after : SeatSeen) : Type 0 where
   pub later : place ≤ slip.place
   pub made : Makes before after slip (event.End Flush end) (reply.Failed code)
 
--- no file has a page to write; or the seat wrote one since, and failed
+-- no file has a page to write; or the seat ended the write of one since, which failed
 abbrev pub IsUnwritten : State → SeatSeen → SeatSeen → Type 0
 IsUnwritten s before after = NothingToWrite s ⊎ FailsToWrite (length before.list) before after
 
--- the history up to the slip's entry leaves the cache so. No page was to be written, or past that entry the call wrote one
--- itself, and failed
+-- the history up to the slip's entry leaves the cache so, and a page to write was there still: past that entry the call wrote
+-- one back itself, and that write failed
 pub record IsRoomLost (sizes : Sizes) (name : ℕ) (why : Refusal) (before after : SeatSeen) (slip : Slip) : Type 0 where
   pub state : State
   pub seen : slip.place < length after.list
   pub leaves : After sizes name (take (slip.place + 1) after.list) state
   pub crammed : IsCrammed why state
-  pub unwritten : NothingToWrite state ⊎ FailsToWrite (slip.place + 1) before after
+  pub failed : FailsToWrite (slip.place + 1) before after
 
 -- a call is refused for want of room by such an entry alone
 abbrev pub IsLost : Sizes → ℕ → SeatSeen → SeatSeen → Denied → Type 0

@@ -1,11 +1,12 @@
 //! What a call does on the way: it fills pages that it missed, and makes room.
 
-ghost use Rattle.std.specs.Prelude.{◌≡◌, ◌&&◌, IfErr, IfOk, if◌then◌else◌, false, length, true};
+ghost use Rattle.std.specs.Prelude.{◌≡◌, ◌&&◌, IfErr, IfOk, IsTrue, if◌then◌else◌, false, length, true};
 ghost use Rattle.std.specs.Sync.Mutex.{mutex_guard_value};
 ghost use Rattle.blockdev.specs.Jobs.{IsJobFor};
 ghost use Rattle.locked.specs.Called.{Goes, Only};
 ghost use Rattle.locked.specs.Flights.{is_busy};
 ghost use Rattle.machine.specs.Tests.{has_idle};
+ghost use Rattle.pc_types.specs.Limits.{is_geometry};
 ghost use Rattle.pc_types.specs.declared.refusal.Refusal.TheVariants.{NoFrame};
 ghost use Rattle.trail.specs.History.{After};
 ghost use Rattle.shared.specs.Called.{is_for_now};
@@ -166,9 +167,11 @@ impl<B: Naming, D: BlockDevice, T: Trail> SharedCache<B, D, T> {
         ensures passing { IfOk result (λ _. is_for_now denied.refusal ≡ true) }
         ensures crammed { IfErr result (λ d. wants_room d.refusal ≡ true → (d ≡ denied) × IsCrammed d.refusal (mutex_guard_value guard.entry).core.state × IsUnwritten (mutex_guard_value guard.entry).core.state seat.old seat.new) }
         ensures legal { After B.sizes B.name (mutex_guard_value guard.entry).log.history (mutex_guard_value guard.entry).core.state }
+        ensures within { IsTrue (is_geometry B.sizes) }
     {
-        // Lends that the history is legal.
+        // Lend that the history is legal, and that the sizes are within their limits.
         let _ = guard.core();
+        let _ = self.geometry.page();
         if !wants_room(denied.refusal) {
             return self.wait_or(rt, guard, denied);
         }

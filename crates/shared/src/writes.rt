@@ -1,11 +1,12 @@
 //! Writes and truncations.
 
-ghost use Rattle.std.specs.Prelude.{◌≡◌, ◌≢◌, ◌+◌, Err, IfErr, IfNone, IfOk, IfSome, None, Ok, length, true};
+ghost use Rattle.std.specs.Prelude.{◌≡◌, ◌≢◌, ◌+◌, Err, IfErr, IfNone, IfOk, IfSome, IsTrue, None, Ok, length, true};
 ghost use Rattle.std.specs.Sync.Mutex.{mutex_guard_value};
 ghost use Rattle.cachecore.specs.Replies.{was_truncated};
 ghost use Rattle.held.specs.Entered.{Made};
 ghost use Rattle.machine.specs.declared.event.Event.TheVariants as event;
 ghost use Rattle.machine.specs.declared.event.Reply.TheVariants as reply;
+ghost use Rattle.pc_types.specs.Limits.{is_geometry};
 ghost use Rattle.pc_types.specs.declared.refusal.Refusal.TheVariants.{BadHandle, Stranger};
 ghost use Rattle.trail.specs.History.{After};
 ghost use Rattle.locked.specs.Called.{Goes, Once, Only};
@@ -240,6 +241,7 @@ impl<B: Naming, D: BlockDevice, T: Trail> SharedCache<B, D, T> {
         ensures passing { IfOk result (λ _. is_for_now denied.refusal ≡ true) }
         ensures crammed { IfErr result (λ d. wants_room d.refusal ≡ true → (d ≡ denied) × IsCrammed d.refusal (mutex_guard_value guard.entry).core.state × IsUnwritten (mutex_guard_value guard.entry).core.state seat.old seat.new) }
         ensures legal { After B.sizes B.name (mutex_guard_value guard.entry).log.history (mutex_guard_value guard.entry).core.state }
+        ensures within { IsTrue (is_geometry B.sizes) }
     {
         if let Err(other) = self.relieve(rt, guard, seat, denied) {
             return Err(other);

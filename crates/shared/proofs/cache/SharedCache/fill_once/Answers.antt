@@ -46,7 +46,7 @@ returns-in-Err-fill_begin-clause-lost g c =
     (IsLost g.B.Naming.sizes g.B.Naming.name c.args.seat.now c.relieve.new.seat)
     (λ d q. lost_denied g.B.Naming.sizes g.B.Naming.name (event.FillBegin c.args.handle c.args.page) c.deref_mut.result.now
     c.fill_begin.new.self c.args.seat.now c.fill_begin.new.seat c.relieve.new.seat c.in-Err-fill_begin.denied d
-    c.in-Err-fill_begin.ensures.denied c.relieve.ensures.legal c.relieve.ensures.goes q) c.relieve.ensures.crammed
+    c.relieve.ensures.within tt c.in-Err-fill_begin.ensures.denied c.relieve.ensures.legal c.relieve.ensures.goes q) c.relieve.ensures.crammed
 
 pub returns-in-Job-clause-only : goal.returns-in-Job-clause-only
 returns-in-Job-clause-only g c =
