@@ -63,7 +63,7 @@ kept_after sizes name history s geometry h =
 -- ---- tests, one after another
 
 other : (is why : Refusal) → is ≡ why → wants_room is ≡ false → wants_room why ≡ true → ⊥
-other is why same no yes = absurd (let x : true ≡ false = sym yes ∙ ap wants_room (sym same) ∙ no in cc)
+other is why same barred wants = let x : true ≡ false = sym wants ∙ ap wants_room (sym same) ∙ barred in cc
 
 -- a write is refused for want of room by the tests of room alone
 reaches_room : (opened none long large : Bool) (o : ℕ) (stop room : Option Reply) (why : Refusal) → wants_room why ≡ true
@@ -192,7 +192,7 @@ module _ (sizes : Sizes) (s : State) (geometry : IsTrue (is_geometry sizes)) (k 
   frame_kept : has_idle s ≡ false → (free_frames s == 0) ≡ true → ⊥
   frame_kept idle e =
       let some : 0 < free_frames s = some_free s k.sound k.orderly resting clean (idle_test idle) many in
-      let no : free_frames s ≡ 0 = grind (arith, nat_tests) in
+      let gone : free_frames s ≡ 0 = grind (arith, nat_tests) in
       omega arith
 
   write_spared : (h o n : ℕ) (why : Refusal) → wants_room why ≡ true → (why ≡ NoFrame → has_idle s ≡ false)
@@ -203,8 +203,9 @@ module _ (sizes : Sizes) (s : State) (geometry : IsTrue (is_geometry sizes)) (k 
       (nat_lt MAX_FILE_SIZE (o + n)) o (stopped s f (write_stop s f o n)) (room_tests s f o n) why wants
       (stops_unrefused s f (write_stop s f o n) why) e in
       let may : may_touch s h o n ≡ true =
-      both (is_open s h) _ r.0 (both (nat_lt 0 n) _ (some_of n r.1)
-      (both (nat_le (touched_count s.sizes.page o n) MAX_TOUCHED) _ (few_of _ _ r.2) (few_of _ _ r.3))) in
+      both _ (nat_le (o + n) MAX_FILE_SIZE) (both _ (nat_le (touched_count s.sizes.page o n) MAX_TOUCHED)
+      (both (is_open s h) (nat_lt 0 n) r.0 (some_of n r.1)) (few_of (touched_count s.sizes.page o n) MAX_TOUCHED r.2))
+      (few_of (o + n) MAX_FILE_SIZE r.3) in
       elim (room_case (nat_lt 0 (dirtied s f o n) && nat_lt s.sizes.dirty_limit (dirty_total s + dirtied s f o n))
       (nat_lt (free_frames s) (lacking s f o n)) _ why wants r.4) [
         | inl over ↦ (let x : true ≡ false = sym (both (may_touch s h o n) _ may over) ∙ limit_kept h o n in cc)
