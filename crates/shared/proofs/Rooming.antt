@@ -1,5 +1,5 @@
 -- What a refusal for want of room says of the cache at its entry.
-use Rattle.std.proofs.Common.{◌≡◌, ◌⊎◌, ◌∙◌, ◌+◌, ◌≤◌, [], ℕ, Bool, true, false, cond, not, length, take, refl, sym, ap, subst, arith, inl, inr}
+use Rattle.std.proofs.Common.{◌≡◌, ◌∙◌, ◌+◌, ◌≤◌, [], ℕ, Bool, true, false, cond, not, length, take, refl, sym, ap, subst, arith, inl, inr}
 use Rattle.std.specs.Prelude.{◌&&◌, ◌||◌, ◌==◌, IsTrue, Ok, Option, Some, None, is_some, nat_le, nat_lt}
 use Rattle.std.proofs.lemmas.List.{length_push, take-append-le, take_all}
 use Rattle.std.specs.FinMap as map
@@ -13,7 +13,7 @@ use Rattle.machine.specs.declared.event.Event.TheVariants as event
 use Rattle.machine.specs.declared.event.Reply.{Reply}
 use Rattle.machine.specs.declared.event.Reply.TheVariants as reply
 use Rattle.machine.specs.Changes.{flush_pick}
-use Rattle.machine.specs.State.{State, file_at, handle_file, is_filling, is_open, touched_count}
+use Rattle.machine.specs.State.{State, file_at, handle_file, is_open, touched_count}
 use Rattle.errseq.proofs.Prefixes.{prefix_length}
 use Rattle.machine.specs.Step.{Step}
 use Rattle.machine.specs.Tests.{has_idle, is_full, is_of, read_count, read_stop, refuse, stopped, tests}
