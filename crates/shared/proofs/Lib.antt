@@ -10,3 +10,4 @@ pub mod Owning
 pub mod Rooming
 pub mod Answered
 pub mod Letting
+pub mod Sparing

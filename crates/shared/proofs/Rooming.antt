@@ -1,25 +1,29 @@
 -- What a refusal for want of room says of the cache at its entry.
 use Rattle.std.proofs.Common.{◌≡◌, ◌∙◌, ◌+◌, ◌≤◌, [], ℕ, Bool, true, false, cond, not, length, take, refl, sym, ap, subst, arith, inl, inr}
-use Rattle.std.specs.Prelude.{◌&&◌, ◌==◌, Option, Some, None, is_some, nat_le, nat_lt}
+use Rattle.std.specs.Prelude.{◌&&◌, ◌||◌, ◌==◌, IsTrue, Ok, Option, Some, None, is_some, nat_le, nat_lt}
 use Rattle.std.proofs.lemmas.List.{length_push, take-append-le, take_all}
 use Rattle.std.specs.FinMap as map
-use Rattle.cachecore.specs.Replies.{evicted}
+use Rattle.cachecore.specs.Replies.{evicted, flush_ended}
+use Rattle.cachecore.specs.Wants.{NothingToWrite}
+use Rattle.cachecore.specs.declared.answers.Ended.{Ended}
+use Rattle.cachecore.specs.declared.answers.Ended.TheVariants as ended
 use Rattle.machine.specs.declared.event.End.{End}
 use Rattle.machine.specs.declared.event.Event.{Event}
 use Rattle.machine.specs.declared.event.Event.TheVariants as event
 use Rattle.machine.specs.declared.event.Reply.{Reply}
 use Rattle.machine.specs.declared.event.Reply.TheVariants as reply
 use Rattle.machine.specs.Changes.{flush_pick}
-use Rattle.machine.specs.State.{State, file_at, handle_file, is_filling, is_open, touched_count}
+use Rattle.machine.specs.State.{State, file_at, handle_file, is_open, touched_count}
 use Rattle.errseq.proofs.Prefixes.{prefix_length}
 use Rattle.machine.specs.Step.{Step}
 use Rattle.machine.specs.Tests.{has_idle, is_full, is_of, read_count, read_stop, refuse, stopped, tests}
 use Rattle.machine.proofs.steps.Cases.{answered}
-use Rattle.pc_types.specs.Limits.{Sizes}
+use Rattle.pc_types.specs.Limits.{Sizes, is_geometry}
 use Rattle.pc_types.specs.declared.ids.FileId.{FileId}
 use Rattle.pc_types.specs.declared.ids.HandleId.{HandleId}
 use Rattle.pc_types.specs.declared.ids.PageIndex.{PageIndex}
 use Rattle.pc_types.specs.declared.kind.Kind.{Kind}
+use Rattle.pc_types.specs.declared.kind.Kind.TheVariants.{Flush}
 use Rattle.pc_types.specs.declared.limits.TheConstants.{MAX_TOUCHED}
 use Rattle.pc_types.specs.declared.refusal.Refusal.{Refusal}
 use Rattle.pc_types.specs.declared.refusal.Refusal.TheVariants.{BadHandle, DirtyLimit, NoFrame, NoSuchFile, Stranger, TooLong, TooManyInFlight}
@@ -34,9 +38,12 @@ use Rattle.locked.specs.Denials as under
 use Rattle.locked.specs.Firsts.{IsFirstDenied}
 use Rattle.locked.specs.declared.denied.Denied.{Denied}
 use Rattle.locked.proofs.Replied.{end_taken}
+use Rattle.locked.proofs.Seats.{goes_by}
 use Rattle.shared.specs.Called.{is_for_now}
 use Rattle.shared.specs.Own.{IsRoomEvent}
-use Rattle.shared.specs.Rooms.{IsCrammed, IsLost, IsRoomLost, wants_room}
+use Rattle.shared.specs.Rooms.{FailsToWrite, IsCrammed, IsLost, IsRoomLost, IsUnwritten, is_written, wants_room}
+use Rattle.shared.proofs.Making.{makes_by, makes_on}
+use Rattle.shared.proofs.Sparing.{IsAsked, has_to_write, stops_unrefused}
 
 -- ---- refusals of another kind
 
@@ -103,15 +110,6 @@ pub first_unwanted : (old new : HeldSeen) (before after : SeatSeen) (d : Denied)
 first_unwanted old new before after d q = room_unwanted (event.FlushBegin q.file) old new before after d tt q.denied
 
 -- nor is a read
-stops_unrefused : (s : State) (f : ℕ) (stop : Option ℕ) (why : Refusal) → stopped s f stop ≡ Some (reply.Refused why) → ⊥
-stops_unrefused s f None why e = cc
-stops_unrefused s f (Some p) why e = go (is_filling s f p) e
-  where
-    go : (filling : Bool)
-        → Some (cond filling (reply.Wait (record { 0 = p })) (reply.Miss (record { 0 = p }))) ≡ Some (reply.Refused why) → ⊥
-    go true e = cc
-    go false e = cc
-
 read_tested : (there none long : Bool) (last : Option Reply) (why : Refusal) → (last ≡ Some (reply.Refused why) → ⊥)
     → cond (not there) (refuse BadHandle) (cond none (Some (reply.Bytes [])) (cond long (refuse TooLong) last))
     ≡ Some (reply.Refused why) → wants_room why ≡ false
@@ -146,9 +144,50 @@ wants_pass NoFrame e = refl
 wants_pass DirtyLimit e = refl
 wants_pass why e = absurd cc
 
-pub lost_unwanted : (sizes : Sizes) (name : ℕ) (seat : SeatSeen) (d : Denied) → wants_room d.refusal ≡ false
-    → IsLost sizes name seat d
-lost_unwanted sizes name seat d other wants = absurd cc
+pub lost_unwanted : (sizes : Sizes) (name : ℕ) (before after : SeatSeen) (d : Denied) → wants_room d.refusal ≡ false
+    → IsLost sizes name before after d
+lost_unwanted sizes name before after d other wants = absurd cc
+
+-- ---- no page was to be written, or one was written in vain
+
+pub failed_by : (end : End) (a : Ended) (old new : HeldSeen) (before after : SeatSeen) (slip : Slip)
+    → Made (event.End Flush end) (flush_ended (Ok a)) old new before after slip → is_written a ≡ false
+    → FailsToWrite (length before.list) before after
+failed_by end (ended.Failed code b) old new before after slip m is = record {
+  end = end;
+  code = code;
+  slip = slip;
+  later =
+      let earlier : length before.list ≤ length old.log.history = prefix_length before.list old.log.history m.entered.saw in
+      omega (arith, m.entered.placed.1, earlier);
+  made = makes_by (event.End Flush end) (reply.Failed code) old new before after slip m;
+}
+failed_by end a old new before after slip m is = absurd cc
+
+fails_on : (place least : ℕ) (a b c : SeatSeen) → least ≤ place → Goes a b → FailsToWrite place b c → FailsToWrite least a c
+fails_on place least a b c less p q = record {
+  end = q.end;
+  code = q.code;
+  slip = q.slip;
+  later = omega (arith, less, q.later);
+  made = makes_on a b c q.slip (event.End Flush q.end) (reply.Failed q.code) p q.made;
+}
+
+fails_since : (a b c : SeatSeen) → Goes a b → FailsToWrite (length b.list) b c → FailsToWrite (length a.list) a c
+fails_since a b c p q = fails_on (length b.list) (length a.list) a b c (prefix_length a.list b.list p.grows) p q
+
+pub unwritten_on : (s t : State) (a b c : SeatSeen) → t ≡ s → Goes a b → IsUnwritten t b c → IsUnwritten s a c
+unwritten_on s t a b c same p (inl none) = inl (subst NothingToWrite same none)
+unwritten_on s t a b c same p (inr fails) = inr (fails_since a b c p fails)
+
+pub none_unwritten : (s : State) (a c : SeatSeen) → NothingToWrite s → IsUnwritten s a c
+none_unwritten s a c none = inl none
+
+-- the page that was begun in b was not written
+pub write_unwritten : (s : State) (a b c : SeatSeen) (written busy : Bool) → Goes a b
+    → (written ≡ false → FailsToWrite (length b.list) b c) → (written || busy) ≡ false → IsUnwritten s a c
+write_unwritten s a b c true busy p q e = absurd cc
+write_unwritten s a b c false busy p q e = inr (fails_since a b c p (q refl))
 
 -- ---- no page is idle
 
@@ -173,9 +212,10 @@ evict_none None n x y z a b c first slip m q e =
 -- ---- the entry of the refusal
 
 lost_by : (sizes : Sizes) (name : ℕ) (e : Event) (why : Refusal) (old new : HeldSeen) (before at after : SeatSeen) (slip : Slip)
-    → Made e (reply.Refused why) old new before at slip → After sizes name new.log.history new.core.state
-    → IsCrammed why new.core.state → Goes at after → IsRoomLost sizes name why after slip
-lost_by sizes name e why old new before at after slip m legal crammed goes =
+    → IsTrue (is_geometry sizes) → IsAsked e → wants_room why ≡ true → Made e (reply.Refused why) old new before at slip
+    → After sizes name new.log.history new.core.state → IsCrammed why new.core.state → IsUnwritten new.core.state at after
+    → Goes at after → IsRoomLost sizes name why before after slip
+lost_by sizes name e why old new before at after slip geometry asked wants m legal crammed unwritten goes =
     let entry : Entry = entry_of before.number e (reply.Refused why) in
     let long : length at.list ≡ slip.place + 1 =
     ap length (m.entered.sees ∙ m.entered.history) ∙ length_push old.log.history entry
@@ -189,20 +229,52 @@ lost_by sizes name e why old new before at after slip m legal crammed goes =
       seen = omega (arith, long, more);
       leaves = subst (λ l. After sizes name l new.core.state) (sym (there ∙ m.entered.sees)) legal;
       crammed = crammed;
+      failed = since (omega (arith, long)) unwritten;
     }
+  where
+    since : slip.place + 1 ≤ length at.list → IsUnwritten new.core.state at after → FailsToWrite (slip.place + 1) before after
+    since less (inl none) =
+        absurd (has_to_write sizes name new.log.history old.core.state new.core.state e why geometry asked wants m.step legal
+        crammed.0 crammed.1 none)
+    since less (inr fails) =
+        fails_on (length at.list) (slip.place + 1) before at after less (goes_by e (reply.Refused why) old new before at slip m)
+        fails
 
 -- an event was refused, and it stands if the cache is crammed
 pub lost_denied : (sizes : Sizes) (name : ℕ) (e : Event) (old new : HeldSeen) (before at after : SeatSeen) (first d : Denied)
-    → under.IsDenied e old new before at first → After sizes name new.log.history new.core.state → Goes at after
-    → (wants_room d.refusal ≡ true → (d ≡ first) × IsCrammed d.refusal new.core.state) → IsLost sizes name after d
-lost_denied sizes name e old new before at after first d q legal goes f = λ wants.
+    → IsTrue (is_geometry sizes) → IsAsked e → under.IsDenied e old new before at first
+    → After sizes name new.log.history new.core.state → Goes at after
+    → (wants_room d.refusal ≡ true
+    → (d ≡ first) × IsCrammed d.refusal new.core.state × IsUnwritten new.core.state at after)
+    → IsLost sizes name before after d
+lost_denied sizes name e old new before at after first d geometry asked q legal goes f = λ wants.
     let k = f wants in
     let there = go first.refusal first.slip q (subst (λ (x : Denied). wants_room x.refusal ≡ true) k.0 wants)
-    (subst (λ (x : Denied). IsCrammed x.refusal new.core.state) k.0 k.1) in
-    subst (λ (x : Denied). (slip : Slip) × (x.slip ≡ Some slip) × IsRoomLost sizes name x.refusal after slip) (sym k.0) there
+    (subst (λ (x : Denied). IsCrammed x.refusal new.core.state) k.0 k.1) k.2 in
+    subst (λ (x : Denied). (slip : Slip) × (x.slip ≡ Some slip) × IsRoomLost sizes name x.refusal before after slip) (sym k.0)
+    there
   where
     go : (r : Refusal) (o : Option Slip) → under.DeniedBy e old new before at r o → wants_room r ≡ true
-        → IsCrammed r new.core.state → (slip : Slip) × (o ≡ Some slip) × IsRoomLost sizes name r after slip
-    go r None q wants crammed =
+        → IsCrammed r new.core.state → IsUnwritten new.core.state at after
+        → (slip : Slip) × (o ≡ Some slip) × IsRoomLost sizes name r before after slip
+    go r None q wants crammed unwritten =
         let other : wants_room r ≡ false = subst (λ (x : Refusal). wants_room x ≡ false) (sym q.0) refl in absurd cc
-    go r (Some slip) q wants crammed = (slip, refl, lost_by sizes name e r old new before at after slip q legal crammed goes)
+    go r (Some slip) q wants crammed unwritten = (
+      slip,
+      refl,
+      lost_by sizes name e r old new before at after slip geometry asked wants q legal crammed unwritten goes,
+    )
+
+-- a part of a call was refused so
+pub lost_on : (sizes : Sizes) (name : ℕ) (a b c : SeatSeen) (d : Denied) → Goes a b → IsLost sizes name b c d
+    → IsLost sizes name a c d
+lost_on sizes name a b c d p q = λ wants. let k = q wants in (k.0, k.1, go k.0 k.2)
+  where
+    go : (slip : Slip) → IsRoomLost sizes name d.refusal b c slip → IsRoomLost sizes name d.refusal a c slip
+    go slip k = record {
+      state = k.state;
+      seen = k.seen;
+      leaves = k.leaves;
+      crammed = k.crammed;
+      failed = fails_on (slip.place + 1) (slip.place + 1) a b c (omega arith) p k.failed;
+    }

@@ -1,15 +1,23 @@
 -- Refusals for want of room.
-use Rattle.std.specs.Prelude.{◌≡◌, ◌+◌, ◌<◌, ℕ, Bool, true, false, length, take, Some}
+use Rattle.std.specs.Prelude.{◌≡◌, ◌⊎◌, ◌+◌, ◌<◌, ◌≤◌, ℕ, Bool, true, false, length, take, Some}
+use Rattle.cachecore.specs.Wants.{NothingToWrite}
+use Rattle.cachecore.specs.declared.answers.Ended.{Ended}
+use Rattle.cachecore.specs.declared.answers.Ended.TheVariants as ended
 use Rattle.held.specs.declared.log.Slip.{Slip}
 use Rattle.held.specs.Shown.{SeatSeen}
 use Rattle.locked.specs.declared.denied.Denied.{Denied}
 use Rattle.locked.specs.Flights.{is_busy}
 use Rattle.machine.specs.State.{State}
 use Rattle.machine.specs.Tests.{has_idle}
+use Rattle.machine.specs.declared.event.End.{End}
+use Rattle.machine.specs.declared.event.Event.TheVariants as event
+use Rattle.machine.specs.declared.event.Reply.TheVariants as reply
 use Rattle.pc_types.specs.Limits.{Sizes}
+use Rattle.pc_types.specs.declared.kind.Kind.TheVariants.{Flush}
 use Rattle.pc_types.specs.declared.refusal.Refusal.{Refusal}
 use Rattle.pc_types.specs.declared.refusal.Refusal.TheVariants.{DirtyLimit, NoFrame}
 use Rattle.trail.specs.History.{After}
+use Rattle.shared.specs.Called.{Makes}
 
 -- more room might have spared it
 abbrev pub wants_room : Refusal → Bool
@@ -21,14 +29,34 @@ wants_room _ = false
 abbrev pub IsCrammed : Refusal → State → Type 0
 IsCrammed why s = (is_busy s ≡ false) × (why ≡ NoFrame → has_idle s ≡ false)
 
--- the history up to the slip's entry leaves the cache so
-pub record IsRoomLost (sizes : Sizes) (name : ℕ) (why : Refusal) (seat : SeatSeen) (slip : Slip) : Type 0 where
+-- the write of a flush that ended so did not fail
+abbrev pub is_written : Ended → Bool
+is_written (ended.Failed code b) = false
+is_written a = true
+
+-- the seat made the end of a write, which failed, at this place or past it
+pub record FailsToWrite (place : ℕ) (before after : SeatSeen) : Type 0 where
+  pub end : End
+  pub code : ℕ
+  pub slip : Slip
+  pub later : place ≤ slip.place
+  pub made : Makes before after slip (event.End Flush end) (reply.Failed code)
+
+-- no file has a page to write; or the seat ended the write of one since, which failed
+abbrev pub IsUnwritten : State → SeatSeen → SeatSeen → Type 0
+IsUnwritten s before after = NothingToWrite s ⊎ FailsToWrite (length before.list) before after
+
+-- the history up to the slip's entry leaves the cache so, and a page to write was there still: past that entry the call wrote
+-- one back itself, and that write failed
+pub record IsRoomLost (sizes : Sizes) (name : ℕ) (why : Refusal) (before after : SeatSeen) (slip : Slip) : Type 0 where
   pub state : State
-  pub seen : slip.place < length seat.list
-  pub leaves : After sizes name (take (slip.place + 1) seat.list) state
+  pub seen : slip.place < length after.list
+  pub leaves : After sizes name (take (slip.place + 1) after.list) state
   pub crammed : IsCrammed why state
+  pub failed : FailsToWrite (slip.place + 1) before after
 
 -- a call is refused for want of room by such an entry alone
-abbrev pub IsLost : Sizes → ℕ → SeatSeen → Denied → Type 0
-IsLost sizes name seat d =
-    wants_room d.refusal ≡ true → (slip : Slip) × (d.slip ≡ Some slip) × IsRoomLost sizes name d.refusal seat slip
+abbrev pub IsLost : Sizes → ℕ → SeatSeen → SeatSeen → Denied → Type 0
+IsLost sizes name before after d =
+    wants_room d.refusal ≡ true
+    → (slip : Slip) × (d.slip ≡ Some slip) × IsRoomLost sizes name d.refusal before after slip

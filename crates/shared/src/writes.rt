@@ -1,11 +1,12 @@
 //! Writes and truncations.
 
-ghost use Rattle.std.specs.Prelude.{◌≡◌, ◌≢◌, ◌+◌, Err, IfErr, IfNone, IfOk, IfSome, None, Ok, length, true};
+ghost use Rattle.std.specs.Prelude.{◌≡◌, ◌≢◌, ◌+◌, Err, IfErr, IfNone, IfOk, IfSome, IsTrue, None, Ok, length, true};
 ghost use Rattle.std.specs.Sync.Mutex.{mutex_guard_value};
 ghost use Rattle.cachecore.specs.Replies.{was_truncated};
 ghost use Rattle.held.specs.Entered.{Made};
 ghost use Rattle.machine.specs.declared.event.Event.TheVariants as event;
 ghost use Rattle.machine.specs.declared.event.Reply.TheVariants as reply;
+ghost use Rattle.pc_types.specs.Limits.{is_geometry};
 ghost use Rattle.pc_types.specs.declared.refusal.Refusal.TheVariants.{BadHandle, Stranger};
 ghost use Rattle.trail.specs.History.{After};
 ghost use Rattle.locked.specs.Called.{Goes, Once, Only};
@@ -13,7 +14,7 @@ ghost use Rattle.locked.specs.Denials as under;
 ghost use Rattle.shared.specs.Called.{Makes, Retries, is_for_now};
 ghost use Rattle.shared.specs.Changes.{IsWhole, IsWholeIn, cursor_after, event_of, over, reply_of, write_event};
 ghost use Rattle.shared.specs.Denials.{IsDenied};
-ghost use Rattle.shared.specs.Rooms.{IsCrammed, IsLost, wants_room};
+ghost use Rattle.shared.specs.Rooms.{IsCrammed, IsLost, IsUnwritten, wants_room};
 ghost use Rattle.shared.specs.Own.{IsCallOf, IsRoomEvent, IsStillDenied, IsTry};
 ghost use Rattle.shared.specs.declared.writes.Change.TheVariants as change;
 
@@ -67,7 +68,7 @@ impl<B: Naming, D: BlockDevice, T: Trail> SharedCache<B, D, T> {
         ensures once { IfOk result (λ _. Once (IsTry handle.now.number (event.Write handle.now.number offset bytes.now)) seat.old seat.new) }
         ensures answer { IfOk result (λ r. Makes seat.old seat.new r.1 (event.Write handle.now.number offset bytes.now) (reply.Wrote r.0.count r.0.end)) }
         ensures denied { seat.old.name ≡ self.now.name → handle.now.cache ≡ self.now.name → IfErr result (IsDenied (IsCallOf handle.now.number (event.Write handle.now.number offset bytes.now)) seat.old seat.new) }
-        ensures lost { IfErr result (IsLost B.sizes self.now.name seat.new) }
+        ensures lost { IfErr result (IsLost B.sizes self.now.name seat.old seat.new) }
         ensures count { IfOk result (λ r. (r.0.count ≡ length bytes.now) × (r.0.end ≡ offset + length bytes.now)) }
     {
         if let Err(refusal) = self.admits(seat, handle) {
@@ -93,7 +94,7 @@ impl<B: Naming, D: BlockDevice, T: Trail> SharedCache<B, D, T> {
         ensures once { IfOk result (λ _. Once (IsTry handle.old.number (write_event handle.old bytes.now)) seat.old seat.new) }
         ensures answer { IfOk result (λ r. Makes seat.old seat.new r.1 (write_event handle.old bytes.now) (reply.Wrote r.0.count r.0.end)) }
         ensures denied { seat.old.name ≡ self.now.name → handle.old.cache ≡ self.now.name → IfErr result (IsDenied (IsCallOf handle.old.number (write_event handle.old bytes.now)) seat.old seat.new) }
-        ensures lost { IfErr result (IsLost B.sizes self.now.name seat.new) }
+        ensures lost { IfErr result (IsLost B.sizes self.now.name seat.old seat.new) }
         ensures count { IfOk result (λ r. r.0.count ≡ length bytes.now) }
         ensures cursor { handle.new ≡ record handle.old { cursor = cursor_after handle.old.cursor result } }
     {
@@ -131,7 +132,7 @@ impl<B: Naming, D: BlockDevice, T: Trail> SharedCache<B, D, T> {
         ensures once { IfOk result (λ _. Once (IsTry handle.now.number (event.Truncate handle.now.number size)) seat.old seat.new) }
         ensures answer { IfOk result (λ slip. Makes seat.old seat.new slip (event.Truncate handle.now.number size) reply.Done) }
         ensures denied { seat.old.name ≡ self.now.name → handle.now.cache ≡ self.now.name → IfErr result (IsDenied (IsCallOf handle.now.number (event.Truncate handle.now.number size)) seat.old seat.new) }
-        ensures lost { IfErr result (IsLost B.sizes self.now.name seat.new) }
+        ensures lost { IfErr result (IsLost B.sizes self.now.name seat.old seat.new) }
     {
         if let Err(refusal) = self.admits(seat, handle) {
             return Err(without_slip(refusal));
@@ -143,7 +144,7 @@ impl<B: Naming, D: BlockDevice, T: Trail> SharedCache<B, D, T> {
     }
 
     /// Changes the handle's file, in as many attempts as it takes.
-    #[tactic(auto, using(locked::proofs::Seats::goes_on, locked::proofs::Seats::goes_same, crate::proofs::Making::makes_on, crate::proofs::Making::call_on, locked::proofs::Seats::only_same, crate::proofs::Owning::only_try_on, crate::proofs::Owning::once_try_on))]
+    #[tactic(auto, using(locked::proofs::Seats::goes_on, locked::proofs::Seats::goes_same, crate::proofs::Making::makes_on, crate::proofs::Making::call_on, locked::proofs::Seats::only_same, crate::proofs::Owning::only_try_on, crate::proofs::Owning::once_try_on, crate::proofs::Rooming::lost_on))]
     fn change<R: Wait>(
         &self,
         rt: &R,
@@ -158,7 +159,7 @@ impl<B: Naming, D: BlockDevice, T: Trail> SharedCache<B, D, T> {
         ensures once { IfOk result (λ _. Once (IsTry handle (event_of change handle bytes.now)) seat.old seat.new) }
         ensures answer { IfOk result (λ r. Makes seat.old seat.new r.1 (event_of change handle bytes.now) (over change r.0)) }
         ensures denied { IfErr result (IsDenied (IsCallOf handle (event_of change handle bytes.now)) seat.old seat.new) }
-        ensures lost { IfErr result (IsLost B.sizes B.name seat.new) }
+        ensures lost { IfErr result (IsLost B.sizes B.name seat.old seat.new) }
         ensures whole { IfOk result (λ r. IsWhole change bytes.now r.0) }
     {
         'attempts: for _ in rt.forever() {
@@ -176,7 +177,7 @@ impl<B: Naming, D: BlockDevice, T: Trail> SharedCache<B, D, T> {
 
     /// One attempt to change the file. Where a page is missing it is filled, where there is no room it is made, and nothing is
     /// answered.
-    #[tactic(auto, using(locked::proofs::Seats::goes_by, locked::proofs::Seats::goes_on, locked::proofs::Seats::goes_same, crate::proofs::Making::goes_denied, crate::proofs::Making::makes_by, crate::proofs::Making::call_help, crate::proofs::Making::call_settled, locked::proofs::Seats::once_by))]
+    #[tactic(auto, using(locked::proofs::Seats::goes_by, locked::proofs::Seats::goes_on, locked::proofs::Seats::goes_same, crate::proofs::Making::goes_denied, crate::proofs::Making::makes_by, crate::proofs::Making::call_help, crate::proofs::Making::call_settled, locked::proofs::Seats::once_by, crate::proofs::Rooming::lost_on))]
     fn try_change<R: Wait>(
         &self,
         rt: &R,
@@ -192,7 +193,7 @@ impl<B: Naming, D: BlockDevice, T: Trail> SharedCache<B, D, T> {
         ensures once { IfOk result (λ o. IfSome o (λ _. Once (IsTry handle (event_of change handle bytes.now)) seat.old seat.new)) }
         ensures answer { IfOk result (λ o. IfSome o (λ r. Makes seat.old seat.new r.1 (event_of change handle bytes.now) (over change r.0))) }
         ensures denied { IfErr result (IsDenied (IsCallOf handle (event_of change handle bytes.now)) seat.old seat.new) }
-        ensures lost { IfErr result (IsLost B.sizes B.name seat.new) }
+        ensures lost { IfErr result (IsLost B.sizes B.name seat.old seat.new) }
         ensures whole { IfOk result (λ o. IfSome o (λ r. IsWhole change bytes.now r.0)) }
         ensures again { IfOk result (λ o. IfNone o (Retries seat.old seat.new (event_of change handle bytes.now))) }
     {
@@ -238,8 +239,9 @@ impl<B: Naming, D: BlockDevice, T: Trail> SharedCache<B, D, T> {
         ensures only { Only (λ e. IsRoomEvent e.event) seat.old seat.new }
         ensures denied { IfErr result (IsStillDenied denied seat.old seat.new) }
         ensures passing { IfOk result (λ _. is_for_now denied.refusal ≡ true) }
-        ensures crammed { IfErr result (λ d. wants_room d.refusal ≡ true → (d ≡ denied) × IsCrammed d.refusal (mutex_guard_value guard.entry).core.state) }
+        ensures crammed { IfErr result (λ d. wants_room d.refusal ≡ true → (d ≡ denied) × IsCrammed d.refusal (mutex_guard_value guard.entry).core.state × IsUnwritten (mutex_guard_value guard.entry).core.state seat.old seat.new) }
         ensures legal { After B.sizes B.name (mutex_guard_value guard.entry).log.history (mutex_guard_value guard.entry).core.state }
+        ensures within { IsTrue (is_geometry B.sizes) }
     {
         if let Err(other) = self.relieve(rt, guard, seat, denied) {
             return Err(other);

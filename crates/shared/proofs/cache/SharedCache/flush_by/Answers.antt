@@ -1,9 +1,10 @@
+use Rattle.std.proofs.Common.{◌∙◌, sym}
 use Rattle.cachecore.specs.Replies.{end_of}
 use Rattle.pc_types.specs.declared.kind.Kind.TheVariants.{Flush}
 use Rattle.shared.proofs.Making.{denied_flush}
 use Rattle.shared.proofs.Owning.{only_flush_end}
 use Rattle.shared.proofs.Syncing.{flush_denied}
-use Rattle.shared.proofs.Rooming.{end_unwanted}
+use Rattle.shared.proofs.Rooming.{end_unwanted, failed_by}
 use Rattle.shared.proofs.cache.SharedCache.flush_by.Goals as goal
 
 pub returns-clause-denied : goal.returns-clause-denied
@@ -20,3 +21,7 @@ returns-in-Ok-clause-only g c = only_flush_end _ _ _ _ _ _ _ c.in-Ok.ensures.mad
 pub returns-clause-unwanted : goal.returns-clause-unwanted
 returns-clause-unwanted g c = end_unwanted Flush (end_of c.carry_out-finished.result) c.deref_mut-2.result.now
     c.flush_end-ended.new.self c.args.seat.now c.flush_end-ended.new.seat c.in-Err.denied c.in-Err.ensures.denied
+
+pub returns-in-Ok-clause-failed : goal.returns-in-Ok-clause-failed
+returns-in-Ok-clause-failed g c e =
+    failed_by _ _ _ _ _ _ _ c.in-Ok.ensures.made (sym c.is_written.ensures ∙ e)

@@ -1,0 +1,19 @@
+use Rattle.std.proofs.Common.{◌≡◌, ◌∙◌, ap, false}
+use Rattle.std.proofs.lemmas.Result.{IfOk-weaker}
+use Rattle.std.specs.Sync.Mutex.{mutex_guard_value}
+use Rattle.held.specs.Shown.{HeldSeen}
+use Rattle.shared.specs.Rooms.{IsUnwritten}
+use Rattle.shared.proofs.Rooming.{unwritten_on}
+use Rattle.shared.proofs.cache.SharedCache.free_frame.Goals as goal
+
+-- no page went, so the state is as it was
+pub returns-in-Ok-false-clause-unwritten : goal.returns-in-Ok-false-clause-unwritten
+returns-in-Ok-false-clause-unwritten g c =
+    let s = (mutex_guard_value c.args.guard).core.state in
+    let t = c.evict_idle.new.state.core.state in
+    let same : t ≡ s = (c.in-Ok-false.ensures.none c.in-Ok-false.field-0-test).1
+    ∙ ap (λ (x : HeldSeen). x.core.state) c.deref_mut.ensures.value in
+    IfOk-weaker c.flush_one.result (λ made. made ≡ false → IsUnwritten t c.evict_idle.new.seat c.flush_one.new.seat)
+    (λ made. made ≡ false → IsUnwritten s c.args.seat.now c.flush_one.new.seat)
+    (λ made q e. unwritten_on s t c.args.seat.now c.evict_idle.new.seat c.flush_one.new.seat same c.evict_idle.ensures.goes
+    (q e)) c.flush_one.ensures.unwritten
