@@ -30,9 +30,9 @@ use Rattle.runs.specs.World.{Act, WorldStep}
 use Rattle.runs.proofs.moments.Reached.{files_step}
 use Rattle.filesvc.specs.declared.writes.Wrote.{Wrote}
 use Rattle.world.specs.declared.step.Step.TheVariants as step
-use Rattle.world.specs.Stepping.{Steps}
+use Rattle.world.specs.Stepping.{IsMade}
 use Rattle.filesvc.specs.Attempts.{Attempt, Follows, Helps, WroteAll, need_of, step_of, write_over}
-use Rattle.filesvc.specs.Made.{FailsFill, IsMadeOf, Tries, WantsMemory, own_handle, write_step}
+use Rattle.filesvc.specs.Made.{Asks, FailsFill, IsMadeOf, Tries, WantsMemory, own_handle, write_step}
 use Rattle.filesvc.specs.Rests.{IsService}
 use Rattle.filesvc.specs.Seen.{HandleSeen, SoloSeen}
 use Rattle.filesvc.specs.Service.{FilesAfter, IsOpen, IsRefusal, IsSettledAtOnce, IsSoonOver, Keeps, LengthsAfter}
@@ -43,7 +43,7 @@ use Rattle.filesvc.proofs.FileSizes.{lengths_stay}
 use Rattle.filesvc.proofs.Laws.{helps_refl, tries_again, keeps_counted, keeps_trans, serves_counted, serves_refl, serves_trans}
 use Rattle.filesvc.proofs.Fronts.{closed_refuses, handle_of, kept_refuses}
 use Rattle.filesvc.proofs.RoomLaws.{faulted_before, held_same}
-use Rattle.filesvc.specs.Rooms.{IsFillRefusal}
+use Rattle.filesvc.specs.Rooms.{IsFillRefusal, IsHelpRefusal, IsWayRefusal}
 use Rattle.filesvc.proofs.Needs.{need_most}
 use Rattle.filesvc.proofs.CallLengths.{length_kept, quiet_length, step_length}
 use Rattle.filesvc.specs.Rests.{IsOrderly}
@@ -79,8 +79,8 @@ by_event old new e r own t (inr k) same = absurd cc
 
 -- its own step of the world
 own_step : (old new : WorldSeen) (e : Event) (got : Reply) → is_call e ≡ true
-    → WorldStep (world_of old) (Act e got) (world_of new) → new.device ≡ old.device → new.unflushed ≡ old.unflushed → Steps old (step_of e) got new
-own_step old new (event.Read h o n) got call m d still = inl (m, d, still)
+    → WorldStep (world_of old) (Act e got) (world_of new) → new.device ≡ old.device → new.unflushed ≡ old.unflushed → IsMade old (step_of e) got new
+own_step old new (event.Read h o n) got call m d still = (m, d, still)
 own_step old new (event.Write h o b) got call m d still = (m, d, still)
 own_step old new (event.Append h b) got call m d still = (m, d, still)
 own_step old new (event.Truncate h z) got call m d still = (m, d, still)
@@ -162,7 +162,7 @@ module _ (old : SoloSeen) (h : HandleId) (e : Event) (got : Reply) (w : WorldSee
               settled = λ x. absurd (let y = c.unsettled u in cc);
               refused = λ r is. elim (f.stopped u) [
                 | inl a ↦ absurd (let x : Some (reply.Refused r) ≡ None = sym is ∙ a in cc)
-                | inr a ↦ (let x : a.0 ≡ r = (let y : Some (reply.Refused a.0) ≡ Some (reply.Refused r) = sym a.1 ∙ is in cc) in subst (λ z. IsRefusal old e z new) x (refused_before old (acted old w) e a.0 new call s (fill_refuses a.0 a.2)))
+                | inr a ↦ (let x : a.0 ≡ r = (let y : Some (reply.Refused a.0) ≡ Some (reply.Refused r) = sym a.1 ∙ is in cc) in subst (λ z. IsRefusal old e z new) x (refused_before old (acted old w) e a.0 new call s (help_refuses a.0 a.2)))
               ];
               tried = record {
                 got = got;
@@ -176,32 +176,45 @@ module _ (old : SoloSeen) (h : HandleId) (e : Event) (got : Reply) (w : WorldSee
               less = λ is. subst (λ x. need_of new.world.core e < need_of x e) (c.same u) (gains u is);
             }
           where
-            fails : (code : ℕ) → over ≡ Some (reply.Refused (Io code)) → FailsFill w (own_handle (step_of e)) code new.world
+            fails : (code : ℕ) → over ≡ Some (reply.Refused (Io code))
+                → (p : PageIndex) × Asks got p × FailsFill w (own_handle (step_of e)) p code new.world
             fails code is = elim (f.stopped u) [
               | inl a ↦ absurd (let x : Some (reply.Refused (Io code)) ≡ None = sym is ∙ a in cc)
               | inr a ↦ (let x : Some (reply.Refused a.0) ≡ Some (reply.Refused (Io code)) = sym a.1 ∙ is in
                   let y : a.0 ≡ Io code = cc in
-                  subst (λ k. FailsFill w k code new.world) (own_names e call by)
-                  (subst (λ r. IsFillRefusal (acted old w) h r new) y a.2).1)
+                  elim (subst (λ r. IsHelpRefusal (acted old w) h got r new) y a.2) [
+                    | inl z ↦ (z.0, z.1, subst (λ k. FailsFill w k z.0 code new.world) (own_names e call by) z.2.1)
+                    | inr z ↦ absurd z
+                  ])
             ]
 
-            wants_memory : over ≡ Some (reply.Refused Memory) → WantsMemory w (own_handle (step_of e)) new.world
+            wants_memory : over ≡ Some (reply.Refused Memory)
+                → (p : PageIndex) × Asks got p × WantsMemory w (own_handle (step_of e)) p new.world
             wants_memory is = elim (f.stopped u) [
               | inl a ↦ absurd (let x : Some (reply.Refused Memory) ≡ None = sym is ∙ a in cc)
               | inr a ↦ (let x : Some (reply.Refused a.0) ≡ Some (reply.Refused Memory) = sym a.1 ∙ is in
                   let y : a.0 ≡ Memory = cc in
-                  subst (λ k. WantsMemory w k new.world) (own_names e call by)
-                  (subst (λ r. IsFillRefusal (acted old w) h r new) y a.2))
+                  elim (subst (λ r. IsHelpRefusal (acted old w) h got r new) y a.2) [
+                    | inl z ↦ (z.0, z.1, subst (λ k. WantsMemory w k z.0 new.world) (own_names e call by) z.2)
+                    | inr z ↦ absurd z
+                  ])
             ]
 
-            fill_refuses : (r : Refusal) → IsFillRefusal (acted old w) h r new → IsRefusal (acted old w) e r new
-            fill_refuses BadHandle x = closed_refuses w.core e call (ap (λ k. is_open w.core k) by ∙ x)
-            fill_refuses NoFrame x = x
-            fill_refuses DirtyLimit x = x
-            fill_refuses (Io code) x = x.0
-            fill_refuses TooManyInFlight x = x
-            fill_refuses Memory x = tt
-            fill_refuses r x = absurd x
+            way_refuses : (r : Refusal) → IsWayRefusal (acted old w) r new → IsRefusal (acted old w) e r new
+            way_refuses NoFrame x = x
+            way_refuses DirtyLimit x = x
+            way_refuses r x = absurd x
+
+            fill_refuses : (p : PageIndex) (r : Refusal) → IsFillRefusal (acted old w) h p r new → IsRefusal (acted old w) e r new
+            fill_refuses p BadHandle x = closed_refuses w.core e call (ap (λ k. is_open w.core k) by ∙ x)
+            fill_refuses p (Io code) x = x.0
+            fill_refuses p TooManyInFlight x = x
+            fill_refuses p Memory x = tt
+            fill_refuses p r x = way_refuses r x
+
+            help_refuses : (r : Refusal) → IsHelpRefusal (acted old w) h got r new → IsRefusal (acted old w) e r new
+            help_refuses r (inl x) = fill_refuses x.0 r x.2
+            help_refuses r (inr x) = way_refuses r x
 
             unchanged : (r : Reply) → over ≡ Some r → (g : ℕ)
                 → (file_at old.world.core g).size ≡ length_after old.world.core e r g
@@ -237,6 +250,15 @@ pub read_unsettled : (a : ReadAnswer) (out : List ℕ) (p : PageIndex) → (a �
 read_unsettled a out p (inl e) = ap (λ x. is_settled (Some (was_read (Ok x) out))) e
 read_unsettled a out p (inr e) = ap (λ x. is_settled (Some (was_read (Ok x) out))) e
 
+-- and for this page it asks
+pub read_asks : (a : ReadAnswer) (out : List ℕ) (p : PageIndex) → (a ≡ read.Miss p) ⊎ (a ≡ read.Wait p) → Asks (was_read (Ok a) out) p
+read_asks a out p (inl e) = inl (ap (λ x. was_read (Ok x) out) e)
+read_asks a out p (inr e) = inr (ap (λ x. was_read (Ok x) out) e)
+
+pub truncate_asks : (a : TruncateAnswer) (p : PageIndex) → (a ≡ cut.Miss p) ⊎ (a ≡ cut.Wait p) → Asks (was_truncated (Ok a)) p
+truncate_asks a p (inl e) = inl (ap (λ x. was_truncated (Ok x)) e)
+truncate_asks a p (inr e) = inr (ap (λ x. was_truncated (Ok x)) e)
+
 pub truncate_unsettled : (a : TruncateAnswer) (p : PageIndex) → (a ≡ cut.Miss p) ⊎ (a ≡ cut.Wait p) → is_settled (Some (was_truncated (Ok a))) ≡ false
 truncate_unsettled a p (inl e) = ap (λ x. is_settled (Some (was_truncated (Ok x)))) e
 truncate_unsettled a p (inr e) = ap (λ x. is_settled (Some (was_truncated (Ok x)))) e
@@ -248,7 +270,7 @@ module _ (old : SoloSeen) (h : HandleId) (got : Reply) (new : SoloSeen) where
   pub follows_again : Helps old new → new.attempts ≡ old.attempts → is_settled (Some got) ≡ false → Follows old h got None new
   follows_again s a u = record { helps = s; attempts = a; settled = λ t. absurd cc; stopped = λ _. inl refl }
 
-  pub follows_refused : (r : Refusal) → Helps old new → new.attempts ≡ old.attempts → is_settled (Some got) ≡ false → IsFillRefusal old h r new → Follows old h got (Some (reply.Refused r)) new
+  pub follows_refused : (r : Refusal) → Helps old new → new.attempts ≡ old.attempts → is_settled (Some got) ≡ false → IsHelpRefusal old h got r new → Follows old h got (Some (reply.Refused r)) new
   follows_refused r s a u why = record { helps = s; attempts = a; settled = λ t. absurd cc; stopped = λ _. inr (r, refl, why) }
 
   pub follows_wrote : (n end : ℕ) → Follows old h got (Some (reply.Wrote n end)) new → got ≡ reply.Wrote n end

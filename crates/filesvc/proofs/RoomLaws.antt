@@ -39,7 +39,7 @@ use Rattle.runs.proofs.moments.KeptRequests.{is_job}
 use Rattle.runs.proofs.events.Lookups.{get-insert1}
 use Rattle.runs.proofs.views.View.{put1_here}
 use Rattle.filesvc.specs.Rests.{AtOnce, IsService, IsServing}
-use Rattle.filesvc.specs.Rooms.{FlushesOne, IsClean, IsFillRefusal, IsFlush, MakesRoom, Suffices}
+use Rattle.filesvc.specs.Rooms.{FlushesOne, IsClean, IsFillRefusal, IsFlush, IsWayRefusal, MakesRoom, Suffices}
 use Rattle.filesvc.specs.Seen.{SoloSeen}
 use Rattle.filesvc.specs.Service.{Faulted, Serves}
 use Rattle.filesvc.proofs.Acted.{service_acted}
@@ -131,19 +131,19 @@ no_serial s none full = leb-true SERIAL_END s.next (subst (λ m. (nat_le MAX_IN_
 
 -- the step that it was, where memory was refused
 memory_wanted : (old new : WorldSeen) (errors after : RecorderSeen) (h : HandleId) (p : PageIndex)
-    → Once old errors (event.FillBegin h p) (reply.Refused Memory) new after → WantsMemory old h.0 new
-memory_wanted old new errors after h p (Quiet j m none) = (old, moves_refl is_help old, p, m)
+    → Once old errors (event.FillBegin h p) (reply.Refused Memory) new after → WantsMemory old h.0 p new
+memory_wanted old new errors after h p (Quiet j m none) = (old, moves_refl is_help old, m)
 memory_wanted old new errors after h p (Whole c) = absurd (end_never c.called new c.serial.0 Memory (λ e. cc) c.end.0)
 
 -- a fill that is refused, where a frame is free
-pub fill_stopped : (name : ℕ) (s : SoloSeen) (w : WorldSeen) (errors : RecorderSeen) (table : TableId) (h : HandleId) (p : PageIndex) (r : Refusal) → IsServing name s.world table s.errors → AtOnce s.world s.errors (step.FillBegin h p) (reply.Refused r) w errors → 0 < free_frames s.world.core → IsFillRefusal s h r (record s { world = w; errors = errors })
+pub fill_stopped : (name : ℕ) (s : SoloSeen) (w : WorldSeen) (errors : RecorderSeen) (table : TableId) (h : HandleId) (p : PageIndex) (r : Refusal) → IsServing name s.world table s.errors → AtOnce s.world s.errors (step.FillBegin h p) (reply.Refused r) w errors → 0 < free_frames s.world.core → IsFillRefusal s h p r (record s { world = w; errors = errors })
 fill_stopped name s w errors table h p r i a free =
     let fill = once s.world w s.errors errors _ _ _ (fill_begins h p) a in
     let x = refused_why s.world w s.errors errors h p r fill in
     by r x.0 (ap (λ (c : State). c.next) x.1) fill
   where
     by : (r : Refusal) → FillWhy s.world.core h.0 (reply.Refused r) → w.core.next ≡ s.world.core.next
-        → Once s.world s.errors (event.FillBegin h p) (reply.Refused r) w errors → IsFillRefusal s h r (record s { world = w; errors = errors })
+        → Once s.world s.errors (event.FillBegin h p) (reply.Refused r) w errors → IsFillRefusal s h p r (record s { world = w; errors = errors })
     by BadHandle y n o = y
     by NoFrame y n o = absurd (let none = eqb-true (free_frames s.world.core) 0 y in omega arith)
     by TooManyInFlight y n o = subst (λ k. SERIAL_END ≤ k) (sym n) (no_serial s.world.core i.rests.requests y)
@@ -162,33 +162,33 @@ module _ (old mid new : SoloSeen) (serves : Serves old mid) where
   unless (inl f) wanted = faulted_before old mid new serves f
   unless (inr y) wanted = absurd (wanted y)
 
-  pub way_refused : (h : HandleId) (want r : Refusal) → (want ≡ NoFrame) × (Suffices mid → ⊥) ⊎ (want ≡ DirtyLimit)
+  pub way_refused : (want r : Refusal) → (want ≡ NoFrame) × (Suffices mid → ⊥) ⊎ (want ≡ DirtyLimit)
       × (IsClean mid → ⊥)
       → r ≡ want → (want ≡ NoFrame → r ≡ NoFrame → Faulted mid new ⊎ Suffices mid)
-      → (want ≡ DirtyLimit → r ≡ DirtyLimit → Faulted mid new ⊎ IsClean mid) → IsFillRefusal old h r new
-  way_refused h want NoFrame (inl x) k frames clean = unless (frames x.0 refl) x.1
-  way_refused h want NoFrame (inr x) k frames clean = absurd (let e : NoFrame ≡ DirtyLimit = k ∙ x.0 in cc)
-  way_refused h want DirtyLimit (inr x) k frames clean = unless (clean x.0 refl) x.1
-  way_refused h want DirtyLimit (inl x) k frames clean = absurd (let e : DirtyLimit ≡ NoFrame = k ∙ x.0 in cc)
-  way_refused h want r (inl x) k frames clean = absurd (let e : r ≡ NoFrame = k ∙ x.0 in cc)
-  way_refused h want r (inr x) k frames clean = absurd (let e : r ≡ DirtyLimit = k ∙ x.0 in cc)
+      → (want ≡ DirtyLimit → r ≡ DirtyLimit → Faulted mid new ⊎ IsClean mid) → IsWayRefusal old r new
+  way_refused want NoFrame (inl x) k frames clean = unless (frames x.0 refl) x.1
+  way_refused want NoFrame (inr x) k frames clean = absurd (let e : NoFrame ≡ DirtyLimit = k ∙ x.0 in cc)
+  way_refused want DirtyLimit (inr x) k frames clean = unless (clean x.0 refl) x.1
+  way_refused want DirtyLimit (inl x) k frames clean = absurd (let e : DirtyLimit ≡ NoFrame = k ∙ x.0 in cc)
+  way_refused want r (inl x) k frames clean = absurd (let e : r ≡ NoFrame = k ∙ x.0 in cc)
+  way_refused want r (inr x) k frames clean = absurd (let e : r ≡ DirtyLimit = k ∙ x.0 in cc)
 
-fails_before : (old mid new : WorldSeen) (h code : ℕ) → Moves is_help old mid → FailsFill mid h code new → FailsFill old h code new
-fails_before old mid new h code m (last, n, p, t, fill) = (last, moves_trans is_help old mid last m n, p, t, fill)
+fails_before : (old mid new : WorldSeen) (h : ℕ) (p : PageIndex) (code : ℕ) → Moves is_help old mid → FailsFill mid h p code new → FailsFill old h p code new
+fails_before old mid new h p code m (last, n, t, fill) = (last, moves_trans is_help old mid last m n, t, fill)
 
-wants_before : (old mid new : WorldSeen) (h : ℕ) → Moves is_help old mid → WantsMemory mid h new → WantsMemory old h new
-wants_before old mid new h m (last, n, p, fill) = (last, moves_trans is_help old mid last m n, p, fill)
+wants_before : (old mid new : WorldSeen) (h : ℕ) (p : PageIndex) → Moves is_help old mid → WantsMemory mid h p new → WantsMemory old h p new
+wants_before old mid new h p m (last, n, fill) = (last, moves_trans is_help old mid last m n, fill)
 
-pub fill_refusal_before : (old mid new : SoloSeen) (h : HandleId) (r : Refusal) → Helps old mid → IsFillRefusal mid h r new
-    → IsFillRefusal old h r new
-fill_refusal_before old mid new h BadHandle k x = ap (λ m. is_some (finmap.get m h.0)) (sym k.serves.keeps.handles) ∙ x
-fill_refusal_before old mid new h NoFrame k x = faulted_before old mid new k.serves x
-fill_refusal_before old mid new h DirtyLimit k x = faulted_before old mid new k.serves x
-fill_refusal_before old mid new h (Io code) k x =
-    (faulted_before old mid new k.serves x.0, fails_before old.world mid.world new.world h.0 code k.moves x.1)
-fill_refusal_before old mid new h TooManyInFlight k x = x
-fill_refusal_before old mid new h Memory k x = wants_before old.world mid.world new.world h.0 k.moves x
-fill_refusal_before old mid new h r k x = absurd x
+pub fill_refusal_before : (old mid new : SoloSeen) (h : HandleId) (p : PageIndex) (r : Refusal) → Helps old mid → IsFillRefusal mid h p r new
+    → IsFillRefusal old h p r new
+fill_refusal_before old mid new h p BadHandle k x = ap (λ m. is_some (finmap.get m h.0)) (sym k.serves.keeps.handles) ∙ x
+fill_refusal_before old mid new h p NoFrame k x = faulted_before old mid new k.serves x
+fill_refusal_before old mid new h p DirtyLimit k x = faulted_before old mid new k.serves x
+fill_refusal_before old mid new h p (Io code) k x =
+    (faulted_before old mid new k.serves x.0, fails_before old.world mid.world new.world h.0 p code k.moves x.1)
+fill_refusal_before old mid new h p TooManyInFlight k x = x
+fill_refusal_before old mid new h p Memory k x = wants_before old.world mid.world new.world h.0 p k.moves x
+fill_refusal_before old mid new h p r k x = absurd x
 
 -- ---- a fill in one whose device call failed
 
@@ -227,14 +227,14 @@ faulted_by s w errors h p code (Whole c) i = carried_faulted s w errors _ code c
 
 -- and the steps that it was
 fails_fill : (old new : WorldSeen) (errors after : RecorderSeen) (h : HandleId) (p : PageIndex) (code : ℕ)
-    → AtOnce old errors (step.FillBegin h p) (reply.Failed code) new after → FailsFill old h.0 code new
+    → AtOnce old errors (step.FillBegin h p) (reply.Failed code) new after → FailsFill old h.0 p code new
 fails_fill old new errors after h p code (inl a) = absurd (let f = fill_fair _ _ _ _ _ a.1.0.1.0 in cc)
 fails_fill old new errors after h p code (inr (t, mid, begun, plays, noted)) =
-    (old, moves_refl is_help old, p, t, (mid, inl begun, plays))
+    (old, moves_refl is_help old, t, (mid, inl begun, plays))
 
 pub fill_faulted : (s : SoloSeen) (w : WorldSeen) (errors : RecorderSeen) (h : HandleId) (p : PageIndex) (code : ℕ)
     → AtOnce s.world s.errors (step.FillBegin h p) (reply.Failed code) w errors → IsSound s.world
-    → IsFillRefusal s h (Io code) (record s { world = w; errors = errors })
+    → IsFillRefusal s h p (Io code) (record s { world = w; errors = errors })
 fill_faulted s w errors h p code a i = (
   faulted_by s w errors h p code (once s.world w s.errors errors _ _ _ (fill_begins h p) a) i,
   fails_fill s.world w s.errors errors h p code a,

@@ -15,7 +15,7 @@ use Rattle.world.specs.declared.step.Step.{Step}
 use Rattle.world.specs.declared.step.Step.TheVariants as step
 use Rattle.filesvc.specs.Made.{Moves, Try, is_help}
 use Rattle.filesvc.specs.Seen.{SoloSeen}
-use Rattle.filesvc.specs.Rooms.{IsFillRefusal, need}
+use Rattle.filesvc.specs.Rooms.{IsHelpRefusal, need}
 use Rattle.filesvc.specs.Service.{FilesAfter, IsRefusal, Keeps, LengthsAfter, Serves, is_settled}
 
 abbrev pub read_over : Result (Option ℕ) Refusal → List ℕ → Option Reply
@@ -90,4 +90,4 @@ pub record Follows (old : SoloSeen) (h : HandleId) (got : Reply) (over : Option 
   pub helps : Helps old new
   pub attempts : new.attempts ≡ old.attempts
   pub settled : is_settled (Some got) ≡ true → (over ≡ Some got) × (new ≡ old)
-  pub stopped : is_settled (Some got) ≡ false → (over ≡ None) ⊎ ((r : Refusal) × (over ≡ Some (reply.Refused r)) × IsFillRefusal old h r new)
+  pub stopped : is_settled (Some got) ≡ false → (over ≡ None) ⊎ ((r : Refusal) × (over ≡ Some (reply.Refused r)) × IsHelpRefusal old h got r new)

@@ -1,6 +1,6 @@
 -- How a call is made of steps of the world: of attempts, each of which is a step of the call's own and then steps that
 -- help it.
-use Rattle.std.specs.Prelude.{◌≡◌, ℕ, zero, suc, ◌+◌, Bool, true, false, List, [], ◌∷◌, All, Option, Some, None}
+use Rattle.std.specs.Prelude.{◌≡◌, ◌⊎◌, ℕ, zero, suc, ◌+◌, Bool, true, false, List, [], ◌∷◌, All, Option, Some, None}
 use Rattle.std.specs.Prelude.{if◌then◌else◌}
 use Rattle.pc_types.specs.declared.ids.HandleId.{HandleId}
 use Rattle.pc_types.specs.declared.ids.PageIndex.{PageIndex}
@@ -69,29 +69,35 @@ own_handle (step.Append h b) = h.0
 own_handle (step.Truncate h z) = h.0
 own_handle _ = 0
 
--- after steps that help, a page of the handle's file was filled, and the device call failed with this code
-abbrev pub FailsFill : WorldSeen → ℕ → ℕ → WorldSeen → Type 0
-FailsFill old h code new =
-    (mid : WorldSeen) × Moves is_help old mid × (p : PageIndex) × (t : Serial)
+-- the reply asks for this page
+abbrev pub Asks : Reply → PageIndex → Type 0
+Asks r p = (r ≡ reply.Miss p) ⊎ (r ≡ reply.Wait p)
+
+-- after steps that help, this page was filled by the handle, and the device call failed with this code
+abbrev pub FailsFill : WorldSeen → ℕ → PageIndex → ℕ → WorldSeen → Type 0
+FailsFill old h p code new =
+    (mid : WorldSeen) × Moves is_help old mid × (t : Serial)
     × Plays mid (step.FillBegin (record { 0 = h }) p ∷ step.Call t ∷ step.End t ∷ [])
     (reply.Job t ∷ reply.Done ∷ reply.Failed code ∷ []) new
 
--- after steps that help, a page of the handle's file was to be filled, and memory for it was refused
-abbrev pub WantsMemory : WorldSeen → ℕ → WorldSeen → Type 0
-WantsMemory old h new =
-    (mid : WorldSeen) × Moves is_help old mid × (p : PageIndex) × IsMade mid (step.FillBegin (record { 0 = h }) p) (reply.Refused Memory) new
+-- after steps that help, this page was to be filled by the handle, and memory for it was refused
+abbrev pub WantsMemory : WorldSeen → ℕ → PageIndex → WorldSeen → Type 0
+WantsMemory old h p new =
+    (mid : WorldSeen) × Moves is_help old mid × IsMade mid (step.FillBegin (record { 0 = h }) p) (reply.Refused Memory) new
 
 -- one attempt of a call: its own step, whose reply is the answer; but where that asks for a page or for room, steps that
--- help, and no answer yet, or a refusal. The last of them is a fill of a page of the call's own file, if that is for a failed device call,
--- whose code it has, or for want of memory
+-- help, and no answer yet, or a refusal. If that is for a failed device call or for want of memory, the step asked for a page, and the last
+-- help was the fill of that page: the refusal has its code
 pub record Try (own : Step) (old : WorldSeen) (over : Option Reply) (new : WorldSeen) : Type 0 where
   pub got : Reply
   pub after : WorldSeen
-  pub step : Steps old own got after
+  pub step : IsMade old own got after
   pub settled : is_settled (Some got) ≡ true → (over ≡ Some got) × (new ≡ after)
   pub helped : is_settled (Some got) ≡ false → Moves is_help after new
-  pub failed : is_settled (Some got) ≡ false → (code : ℕ) → over ≡ Some (reply.Refused (Io code)) → FailsFill after (own_handle own) code new
-  pub wanting : is_settled (Some got) ≡ false → over ≡ Some (reply.Refused Memory) → WantsMemory after (own_handle own) new
+  pub failed : is_settled (Some got) ≡ false → (code : ℕ) → over ≡ Some (reply.Refused (Io code))
+      → (p : PageIndex) × Asks got p × FailsFill after (own_handle own) p code new
+  pub wanting : is_settled (Some got) ≡ false → over ≡ Some (reply.Refused Memory)
+      → (p : PageIndex) × Asks got p × WantsMemory after (own_handle own) p new
 
 -- so many attempts, none of which was answered
 abbrev pub Tries : Step → WorldSeen → ℕ → WorldSeen → Type 0

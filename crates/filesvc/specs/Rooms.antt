@@ -14,7 +14,7 @@ use Rattle.machine.specs.Step.{Step}
 use Rattle.machine.specs.Tests.{tests}
 use Rattle.cachecore.specs.Wants.{lacking, lacks_frames, may_touch, passes_limit}
 use Rattle.world.specs.declared.step.Step.TheVariants as step
-use Rattle.filesvc.specs.Made.{FailsFill, WantsMemory}
+use Rattle.filesvc.specs.Made.{Asks, FailsFill, WantsMemory}
 use Rattle.filesvc.specs.Rests.{AtOnce}
 use Rattle.filesvc.specs.Seen.{SoloSeen}
 use Rattle.filesvc.specs.Service.{Faulted}
@@ -54,15 +54,23 @@ FlushesOne old false new = ((new ≡ old) × NothingToFlush old) ⊎ Faulted old
 abbrev pub Evicts : SoloSeen → SoloSeen → Type 0
 Evicts old new = (f : FileId) × (p : PageIndex) × Step old.world.core event.Evict (reply.Evicted f p) new.world.core
 
--- why the fill of a page is refused, or the room for a call
-abbrev pub IsFillRefusal : SoloSeen → HandleId → Refusal → SoloSeen → Type 0
-IsFillRefusal old h BadHandle new = is_open old.world.core h.0 ≡ false
-IsFillRefusal old h NoFrame new = Faulted old new
-IsFillRefusal old h DirtyLimit new = Faulted old new
-IsFillRefusal old h (Io code) new = Faulted old new × FailsFill old.world h.0 code new.world
-IsFillRefusal old h TooManyInFlight new = SERIAL_END ≤ new.world.core.next
-IsFillRefusal old h Memory new = WantsMemory old.world h.0 new.world
-IsFillRefusal old h r new = ⊥
+-- why room for a call is refused
+abbrev pub IsWayRefusal : SoloSeen → Refusal → SoloSeen → Type 0
+IsWayRefusal old NoFrame new = Faulted old new
+IsWayRefusal old DirtyLimit new = Faulted old new
+IsWayRefusal old r new = ⊥
+
+-- why the fill of a page is refused, or the room for its call
+abbrev pub IsFillRefusal : SoloSeen → HandleId → PageIndex → Refusal → SoloSeen → Type 0
+IsFillRefusal old h p BadHandle new = is_open old.world.core h.0 ≡ false
+IsFillRefusal old h p (Io code) new = Faulted old new × FailsFill old.world h.0 p code new.world
+IsFillRefusal old h p TooManyInFlight new = SERIAL_END ≤ new.world.core.next
+IsFillRefusal old h p Memory new = WantsMemory old.world h.0 p new.world
+IsFillRefusal old h p r new = IsWayRefusal old r new
+
+-- why a call is refused after an event with this reply
+abbrev pub IsHelpRefusal : SoloSeen → HandleId → Reply → Refusal → SoloSeen → Type 0
+IsHelpRefusal old h got r new = ((p : PageIndex) × Asks got p × IsFillRefusal old h p r new) ⊎ IsWayRefusal old r new
 
 -- what was done where this was refused: for a frame a page was evicted or, where none was idle, one written back; for one more dirty page
 -- one was written back

@@ -3,7 +3,7 @@
 ghost use Rattle.std.specs.Prelude.{◌≡◌, ◌⊎◌, ◌<◌, None, IfErr, IfOk, IsOkUnless, OnOk};
 ghost use Rattle.pc_types.specs.declared.refusal.Refusal.TheVariants.{DirtyLimit, NoFrame};
 ghost use Rattle.filesvc.specs.Attempts.{Helps};
-ghost use Rattle.filesvc.specs.Rooms.{FlushesOne, IsClean, IsFillRefusal, IsFlush, IsMissed, MakesRoom, StaysAbsent, Suffices, need, wants};
+ghost use Rattle.filesvc.specs.Rooms.{FlushesOne, IsClean, IsFillRefusal, IsFlush, IsMissed, IsWayRefusal, MakesRoom, StaysAbsent, Suffices, need, wants};
 ghost use Rattle.filesvc.specs.Service.{Faulted};
 
 use crate::requests::{fill_page, flush_page};
@@ -30,7 +30,7 @@ impl<D: BlockDevice> Solo<D> {
         requires missed { IsMissed self.old span.handle.0 span.offset span.count page.0 }
         ensures helps { Helps self.old self.new }
         ensures attempts { self.new.attempts ≡ self.old.attempts }
-        ensures refused { IfErr result (λ r. IsFillRefusal self.old span.handle r self.new) }
+        ensures refused { IfErr result (λ r. IsFillRefusal self.old span.handle page r self.new) }
         ensures gains { OnOk result (need span.dirties self.new.world.core span.handle.0 span.offset span.count < need span.dirties self.old.world.core span.handle.0 span.offset span.count) }
     {
         self.make_way(span)?;
@@ -43,7 +43,7 @@ impl<D: BlockDevice> Solo<D> {
         requires room { wants span.dirties self.old.world.core span.handle.0 span.offset span.count ≡ None }
         ensures helps { Helps self.old self.new }
         ensures attempts { self.new.attempts ≡ self.old.attempts }
-        ensures refused { IfErr result (λ r. IsFillRefusal self.old span.handle r self.new) }
+        ensures refused { IfErr result (λ r. IsFillRefusal self.old span.handle page r self.new) }
         ensures gains { OnOk result (need span.dirties self.new.world.core span.handle.0 span.offset span.count < need span.dirties self.old.world.core span.handle.0 span.offset span.count) }
     {
         let why = match fill_page(&mut self.world, span.handle, page) {
@@ -61,7 +61,7 @@ impl<D: BlockDevice> Solo<D> {
         ensures made { OnOk result (wants span.dirties self.new.world.core span.handle.0 span.offset span.count ≡ None) }
         ensures kept { wants span.dirties self.old.world.core span.handle.0 span.offset span.count ≡ None → OnOk result (self.new ≡ self.old) }
         ensures absent { OnOk result (StaysAbsent self.old.world.core self.new.world.core) }
-        ensures refused { IfErr result (λ r. IsFillRefusal self.old span.handle r self.new) }
+        ensures refused { IfErr result (λ r. IsWayRefusal self.old r self.new) }
     {
         'turns: while let Some(want) = self.wants(span) {
             self.make_room(want)?;

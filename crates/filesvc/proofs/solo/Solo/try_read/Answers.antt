@@ -1,11 +1,11 @@
-use Rattle.std.proofs.Common.{◌+◌, ◌≤◌, length, take, refl, arith}
+use Rattle.std.proofs.Common.{◌+◌, ◌≤◌, inl, length, take, refl, arith}
 use Rattle.std.proofs.lemmas.List.{length-take}
 use Rattle.std.proofs.lemmas.Result.{err_from_is_err_and}
 use Rattle.machine.specs.declared.event.Event.TheVariants as event
 use Rattle.machine.specs.State.{is_open}
 use Rattle.filesvc.specs.Seen.{SoloSeen}
 use Rattle.runs.proofs.moments.Reached.{reached_read}
-use Rattle.filesvc.proofs.Attempts.{attempt_follows, attempt_over, follows_again, follows_refused, read_serves, read_unsettled, service_kept}
+use Rattle.filesvc.proofs.Attempts.{attempt_follows, attempt_over, follows_again, follows_refused, read_asks, read_serves, read_unsettled, service_kept}
 use Rattle.filesvc.proofs.CallLengths.{read_all}
 use Rattle.filesvc.proofs.CallSteps.{read_settled, read_small}
 use Rattle.filesvc.proofs.Fills.{is_open_of}
@@ -68,7 +68,8 @@ returns-in_err-fill-in-Miss-clause-attempt g c =
     c.in_ok-count.ensures.made.0 c.in_ok-count.ensures.made.1 c.in_ok-count.ensures.made.2
     c.self.invariant.serving.sound c.self.invariant.serving.reached c.self.invariant.serving.orderly _ _ refl
     (follows_refused _ _ _ _ _ c.fill.ensures.helps c.fill.ensures.attempts
-    (read_unsettled _ _ _ c.in-Miss.is) c.in_err-fill-in-Miss.ensures.refused) (λ _ is. absurd cc)))
+    (read_unsettled _ _ _ c.in-Miss.is)
+    (inl (c.in-Miss.page, read_asks _ _ _ c.in-Miss.is, c.in_err-fill-in-Miss.ensures.refused))) (λ _ is. absurd cc)))
 
 pub returns-clause-serves : goal.returns-clause-serves
 returns-clause-serves g c =

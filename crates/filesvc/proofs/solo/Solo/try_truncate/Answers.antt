@@ -1,7 +1,7 @@
-use Rattle.std.proofs.Common.{◌+◌, refl}
+use Rattle.std.proofs.Common.{◌+◌, inl, refl}
 use Rattle.std.proofs.lemmas.Result.{err_from_is_err_and}
 use Rattle.machine.specs.declared.event.Event.TheVariants as event
-use Rattle.filesvc.proofs.Attempts.{attempt_follows, attempt_over, follows_again, follows_refused, service_kept, truncate_unsettled}
+use Rattle.filesvc.proofs.Attempts.{attempt_follows, attempt_over, follows_again, follows_refused, service_kept, truncate_asks, truncate_unsettled}
 use Rattle.filesvc.specs.Seen.{SoloSeen}
 use Rattle.filesvc.proofs.Gains.{truncate_missed}
 use Rattle.filesvc.proofs.CallSteps.{truncate_settled}
@@ -48,7 +48,8 @@ returns-in_err-fill-in-Miss g c =
           c.in_ok-truncate.ensures.2 c.self.invariant.serving.sound c.self.invariant.serving.reached
           c.self.invariant.serving.orderly _ _ refl
           (follows_refused _ _ _ _ _ c.fill.ensures.helps c.fill.ensures.attempts
-          (truncate_unsettled _ _ c.in-Miss.is) c.in_err-fill-in-Miss.ensures.refused) (λ _ is. absurd cc)));
+          (truncate_unsettled _ _ c.in-Miss.is)
+          (inl (c.in-Miss.page, truncate_asks _ _ c.in-Miss.is, c.in_err-fill-in-Miss.ensures.refused))) (λ _ is. absurd cc)));
     }
 
 pub returns : goal.returns
