@@ -1,6 +1,6 @@
 -- What a step of the world leaves of a service: an event, a device call, an end, or a request with all three.
 use Rattle.std.proofs.Common.{◌≡◌, ℕ, ◌+◌, ◌<◌, ◌≤◌, Bool, true, false, not, List, [], ◌∷◌, length, refl, ap, sym, subst, ◌∙◌, arith, inl, inr}
-use Rattle.std.specs.Prelude.{◌⊎◌, ◌≢◌, Option, Some, None, is_some, option_map, IfSome, Ok, Err}
+use Rattle.std.specs.Prelude.{◌⊎◌, ◌≢◌, if◌then◌else◌, Option, Some, None, is_some, option_map, IfSome, Ok, Err}
 use Rattle.std.specs.FinMap as finmap
 use Rattle.atomic_table.specs.Seated.{TableId}
 use Rattle.errseq.proofs.Prefixes.{prefix_self}
@@ -14,6 +14,7 @@ use Rattle.pc_types.specs.declared.ids.Serial.{Serial}
 use Rattle.pc_types.specs.declared.ids.SyncId.{SyncId}
 use Rattle.pc_types.specs.Limits.{Sizes}
 use Rattle.pc_types.specs.declared.limits.TheConstants.{MAX_FILES, MIN_DIRTY_LIMIT, MIN_FRAMES, MIN_PAGE_SIZE}
+use Rattle.pc_types.specs.Kinds.{is_flush}
 use Rattle.pc_types.specs.declared.kind.Kind.{Kind}
 use Rattle.pc_types.specs.declared.kind.Kind.TheVariants.{Fill, Flush}
 use Rattle.pc_types.specs.declared.refusal.Refusal.TheVariants.{Stranger}
@@ -27,8 +28,8 @@ use Rattle.std.specs.FinMap.{get-empty}
 use Rattle.machine.specs.declared.event.Reply.{Reply}
 use Rattle.machine.specs.declared.event.Reply.TheVariants as reply
 use Rattle.cachecore.specs.Replies.{outcome_of}
-use Rattle.cachecore.specs.Flushing.{flush_of}
-use Rattle.machine.specs.State.{Request, file_at}
+use Rattle.cachecore.specs.Flushing.{flush_of, flushed_file}
+use Rattle.machine.specs.State.{Request, State, file_at}
 use Rattle.filesvc.proofs.SyncsKept.{begins_sync, act_none, finish_none, none_empty}
 use Rattle.world.specs.declared.step.Step.{Step}
 use Rattle.world.specs.declared.step.Step.TheVariants as step
@@ -352,6 +353,14 @@ flush_begins f = record { quiet = refl; made = λ old new r x. x; steps = λ old
 
 pub sync_begins : (n : SyncId) → Begins (step.SyncStep n) (event.SyncStep n)
 sync_begins n = record { quiet = refl; made = λ old new r x. x; steps = λ old new r x. inl x }
+
+-- the file that a request writes, if it is a write
+pub fill_writes : (s : State) (t : ℕ) (x : Request) → finmap.get s.requests t ≡ Some x → x.kind ≡ Fill → flush_of s t ≡ None
+fill_writes s t x is kind = ap flushed_file is ∙ ap (λ k. if is_flush k then Some x.file else None) kind
+
+pub flush_writes : (s : State) (t : ℕ) (x : Request) (f : ℕ) → finmap.get s.requests t ≡ Some x → x.kind ≡ Flush → x.file ≡ f
+    → flush_of s t ≡ Some f
+flush_writes s t x f is kind file = ap flushed_file is ∙ ap (λ k. if is_flush k then Some x.file else None) kind ∙ ap Some file
 
 -- a request that was begun, called and ended, with its failure noted
 pub record Carried (old : WorldSeen) (errors : RecorderSeen) (e : Event) (r : Reply) (new : WorldSeen) (after : RecorderSeen) : Type 0 where

@@ -1,22 +1,18 @@
 -- A request that is carried out and ended in the call that begins it: the three steps, over the jobs that would have been in flight.
 use Rattle.std.proofs.Common.{◌≡◌, ℕ, Bool, true, false, cond, eqb, eqb-true, eq-eqb, List, refl, ap, sym, subst, ◌∙◌}
-use Rattle.std.specs.Prelude.{Option, Some, None, if◌then◌else◌}
+use Rattle.std.specs.Prelude.{Option, Some, None}
 use Rattle.std.specs.FinMap as finmap
 use Rattle.std.specs.Ordering.{nat_cmp}
 use Rattle.blockdev.specs.Device as device
 use Rattle.blockdev.specs.Device.{Told}
 use Rattle.blockdev.specs.Jobs.{Transfers}
 use Rattle.blockdev.specs.Watching.{Watch}
-use Rattle.pc_types.specs.Kinds.{is_flush}
-use Rattle.pc_types.specs.declared.ids.FileId.{FileId}
 use Rattle.pc_types.specs.declared.ids.Serial.{Serial}
 use Rattle.pc_types.specs.declared.kind.Kind.{Kind}
 use Rattle.pc_types.specs.declared.kind.Kind.TheVariants.{Fill, Flush}
 use Rattle.machine.specs.declared.event.Event.{Event}
-use Rattle.machine.specs.declared.event.Event.TheVariants as event
 use Rattle.machine.specs.declared.event.Reply.{Reply}
 use Rattle.machine.specs.declared.event.Reply.TheVariants as reply
-use Rattle.machine.specs.State.{Request, State}
 use Rattle.maps.proofs.MapLaws.{same_nat_map}
 use Rattle.maps.proofs.Maps.{get-insert_nat, get-remove_nat}
 use Rattle.runs.specs.World.{IsAct}
@@ -24,14 +20,12 @@ use Rattle.runs.proofs.moments.KeptRequests as kept
 use Rattle.runs.proofs.moments.KeptRequests.{is_end}
 use Rattle.cachecore.specs.AtOnce.{IsCarriedOut, MakesAtOnce}
 use Rattle.cachecore.specs.Core.{Core}
-use Rattle.cachecore.specs.Flushing.{flush_of, flushed_file}
 use Rattle.cachecore.specs.Replies.{is_job}
 use Rattle.cachecore.specs.declared.at_once.AtOnce.{AtOnce}
 use Rattle.cachecore.specs.declared.at_once.AtOnce.TheVariants.{Answered, Ended}
 use Rattle.world.specs.AtOnce.{StepsAtOnce}
 use Rattle.world.specs.Flights.{IsSpare, IsWorld, Jobs, seen_of}
 use Rattle.world.specs.Stepping.{CallReply, EndReply, IsMade, WorldSeen}
-use Rattle.world.specs.declared.jobs.Flight.{Flight}
 use Rattle.world.specs.declared.jobs.Flight.TheVariants.{Asked, Made}
 use Rattle.world.specs.declared.step.Step.{Step}
 use Rattle.world.specs.declared.step.Step.TheVariants as step
@@ -105,12 +99,6 @@ module _ (core : Core) (jobs : Jobs) (dev : Watch) (w : IsWorld core.state jobs 
   pub after_world : IsWorld after.state jobs to
   after_world = end_keeps h.begun made to made_world t h.done made_there h.job.kind kind after.state r h.ends jobs gone
 
-  -- the file that it writes, if it writes one
-  pub its_file : (k : Kind) → ((x : Request) → finmap.get h.begun.requests t ≡ Some x → x.kind ≡ k)
-      → flush_of h.begun t ≡ (if is_flush k then Some f else None)
-  its_file k of = ap flushed_file h.its.1
-      ∙ (λ i. if is_flush (of h.its.0 h.its.1 i) then Some (h.file i) else None)
-
 -- ---- as the core's call says it
 
 same_job : (r : Reply) → is_job r ≡ false → kept.is_job r ≡ false
@@ -125,7 +113,6 @@ size_stays Flush old new b before after r h = h.0.call.size
 module _ (core : Core) (jobs : Jobs) (dev : Watch) (w : IsWorld core.state jobs dev) (old : WorldSeen)
     (is_old : seen_of core.state jobs dev ≡ old) (e : Event) (s : Step) (kind : Kind) (kind_of : begun_kind e ≡ Some kind)
     (act : (r : Reply) → IsAct e r) (goes : (r : Reply) → is_end e r ≡ false)
-    (writes : ℕ → Option ℕ) (written : (f : ℕ) → (if is_flush kind then Some f else None) ≡ writes f)
     (made_of : (r : Reply) (new : WorldSeen) → IsActed old e r new → IsMade old s r new) (after : Core) (to : Watch) where
   pub at_once_world : (a : AtOnce) → MakesAtOnce core e dev a after to → IsWorld after.state jobs to
   at_once_world (Answered r) h = subst (IsWorld after.state jobs) (sym h.3)
@@ -146,7 +133,7 @@ module _ (core : Core) (jobs : Jobs) (dev : Watch) (w : IsWorld core.state jobs 
           h.makes.performs.call
 
   pub at_once_steps : (a : AtOnce) → MakesAtOnce core e dev a after to
-      → StepsAtOnce old s writes a (seen_of after.state jobs to)
+      → StepsAtOnce old s kind a (seen_of after.state jobs to)
   at_once_steps (Answered r) h = (
     λ t is. (let job : is_job r ≡ true = ap is_job is in let clash : true ≡ false = sym job ∙ h.1 in cc),
     made_of r (seen_of after.state jobs to)
@@ -160,8 +147,10 @@ module _ (core : Core) (jobs : Jobs) (dev : Watch) (w : IsWorld core.state jobs 
         t,
         one,
         made_of (reply.Job t) one (begins core jobs dev w old is_old e f.0 r after to h (act _)),
-        its_file core jobs dev w old is_old e f.0 r after to h (act _) kind
-            (kind_is core.state h.begun e t kind kind_of h.begins) ∙ written f.0,
+        h.its.0,
+        h.its.1,
+        kind_is core.state h.begun e t kind kind_of h.begins h.its.0 h.its.1,
+        h.file,
         (
           _,
           called core jobs dev w old is_old e f.0 r after to h (act _),

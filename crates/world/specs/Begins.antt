@@ -1,6 +1,6 @@
 -- Inside this crate: what a call that may begin a request comes to. Where none begins, the answer is no job, and the
 -- buffer that was handed in comes back.
-use Rattle.std.specs.Prelude.{◌≡◌, Bool, true, false, Result, Ok}
+use Rattle.std.specs.Prelude.{◌≡◌, false, Result, Ok}
 use Rattle.cachecore.specs.declared.answers.FillBegun.{FillBegun}
 use Rattle.cachecore.specs.declared.answers.FillBegun.TheVariants as fill
 use Rattle.cachecore.specs.declared.answers.FlushBegun.{FlushBegun}
@@ -8,8 +8,6 @@ use Rattle.cachecore.specs.declared.answers.FlushBegun.TheVariants as flush
 use Rattle.cachecore.specs.declared.answers.Refused.{Refused}
 use Rattle.cachecore.specs.declared.answers.SyncStepped.{SyncStepped}
 use Rattle.cachecore.specs.declared.answers.SyncStepped.TheVariants as sync
-use Rattle.machine.specs.declared.event.Reply.{Reply}
-use Rattle.machine.specs.declared.event.Reply.TheVariants as reply
 use Rattle.cachecore.specs.Replies.{is_job, answered, fill_begun, flush_begun, sync_stepped, GivesBack, FlushGivesBack, SyncGivesBack}
 use Rattle.world.specs.Answers.{fill_says, flush_says, sync_says}
 use Rattle.world.specs.declared.answers.FillAnswer.{FillAnswer}

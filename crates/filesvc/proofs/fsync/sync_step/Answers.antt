@@ -2,6 +2,7 @@ use Rattle.std.proofs.Common.{inl, inr, refl, subst, sym}
 use Rattle.filesvc.specs.Rests.{IsNoted}
 use Rattle.filesvc.specs.Syncs.{service_of}
 use Rattle.filesvc.proofs.SyncLaws.{no_job, renamed, stepped_service}
+use Rattle.filesvc.proofs.WorldLaws.{flush_writes}
 use Rattle.filesvc.proofs.fsync.sync_step.Goals as goal
 
 pub returns-in-Answered : goal.returns-in-Answered
@@ -14,10 +15,10 @@ returns-in-Answered g c =
 pub returns-in-Ended : goal.returns-in-Ended
 returns-in-Ended g c =
     let made = c.in-Ended.ensures in
-    let noted = subst (λ o. IsNoted c.args.recorder.now o c.in-Ended.reply c.note.new.recorder) (sym made.4) c.note.ensures in
-    let x = stepped_service c.args.world.now.core.name (service_of c.args.world.now c.args.recorder.now) c.sync_at_once.new.self c.note.new.recorder c.args.recorder.now.board c.args.sync c.in-Ended.reply (inr (made.1, made.2, made.3, made.5, noted)) c.requires in
+    let noted = subst (λ o. IsNoted c.args.recorder.now o c.in-Ended.reply c.note.new.recorder) (sym (flush_writes made.2.core made.1.0 made.4 _ made.5 made.6 made.7)) c.note.ensures in
+    let x = stepped_service c.args.world.now.core.name (service_of c.args.world.now c.args.recorder.now) c.sync_at_once.new.self c.note.new.recorder c.args.recorder.now.board c.args.sync c.in-Ended.reply (inr (made.1, made.2, made.3, made.8, noted)) c.requires in
     record {
       serving = renamed _ _ _ _ x.0;
       serves = x.1;
-      turn = (made.1, c.in-Ended.reply, (made.2, inl made.3, made.5));
+      turn = (made.1, c.in-Ended.reply, (made.2, inl made.3, made.8));
     }

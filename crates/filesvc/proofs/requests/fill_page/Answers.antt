@@ -1,6 +1,6 @@
 use Rattle.std.proofs.Common.{inl, inr, refl, subst, sym}
 use Rattle.filesvc.specs.Rests.{IsNoted}
-use Rattle.filesvc.proofs.WorldLaws.{carried_rests, fill_begins, no_job, quiet_rests}
+use Rattle.filesvc.proofs.WorldLaws.{carried_rests, fill_begins, fill_writes, no_job, quiet_rests}
 use Rattle.filesvc.proofs.requests.fill_page.Goals as goal
 
 pub returns-in-Answered : goal.returns-in-Answered
@@ -16,6 +16,6 @@ pub returns-in-Ended : goal.returns-in-Ended
 returns-in-Ended g c =
     let made = c.in-Ended.ensures in
     record {
-      rests = carried_rests _ _ _ _ _ _ _ (fill_begins c.args.handle c.args.page) made.3 made.5 c.requires;
-      made = λ errors. inr (made.1, made.2, made.3, made.5, subst (λ o. IsNoted errors o c.in-Ended.reply errors) (sym made.4) refl);
+      rests = carried_rests _ _ _ _ _ _ _ (fill_begins c.args.handle c.args.page) made.3 made.8 c.requires;
+      made = λ errors. inr (made.1, made.2, made.3, made.8, subst (λ o. IsNoted errors o c.in-Ended.reply errors) (sym (fill_writes made.2.core made.1.0 made.4 made.5 made.6)) refl);
     }

@@ -1,6 +1,6 @@
 use Rattle.std.proofs.Common.{inl, inr, refl, subst, sym}
 use Rattle.filesvc.specs.Rests.{IsNoted}
-use Rattle.filesvc.proofs.WorldLaws.{carried_rests, flush_begins, no_job, quiet_rests}
+use Rattle.filesvc.proofs.WorldLaws.{carried_rests, flush_begins, flush_writes, no_job, quiet_rests}
 use Rattle.filesvc.proofs.requests.flush_page.Goals as goal
 
 pub returns-in-Answered : goal.returns-in-Answered
@@ -16,12 +16,12 @@ pub returns-in-Ended : goal.returns-in-Ended
 returns-in-Ended g c =
     let made = c.in-Ended.ensures in
     record {
-      rests = carried_rests _ _ _ _ _ _ _ (flush_begins c.args.file) made.3 made.5 c.requires;
+      rests = carried_rests _ _ _ _ _ _ _ (flush_begins c.args.file) made.3 made.8 c.requires;
       made = inr (
         made.1,
         made.2,
         made.3,
-        made.5,
-        subst (λ o. IsNoted c.args.recorder.now o c.in-Ended.reply c.note.new.recorder) (sym made.4) c.note.ensures,
+        made.8,
+        subst (λ o. IsNoted c.args.recorder.now o c.in-Ended.reply c.note.new.recorder) (sym (flush_writes made.2.core made.1.0 made.4 _ made.5 made.6 made.7)) c.note.ensures,
       );
     }

@@ -1,4 +1,4 @@
-use Rattle.std.proofs.Common.{refl, Some}
+use Rattle.std.proofs.Common.{refl}
 use Rattle.pc_types.specs.declared.kind.Kind.TheVariants.{Flush}
 use Rattle.machine.specs.declared.event.Event.TheVariants as event
 use Rattle.world.specs.declared.step.Step.TheVariants as step
@@ -8,13 +8,13 @@ use Rattle.world.proofs.world.World.flush_at_once.Goals as goal
 pub invariant_of-self : goal.invariant_of-self
 invariant_of-self g c =
     at_once_spare c.self.inside.core c.self.inside.jobs c.self.inside.device c.self.invariant.0 c.args.self.now c.self.view_is
-    (event.FlushBegin c.args.file) (step.FlushBegin c.args.file) Flush refl (λ r. tt) (λ r. refl) (λ f. Some f) (λ f. refl)
+    (event.FlushBegin c.args.file) (step.FlushBegin c.args.file) Flush refl (λ r. tt) (λ r. refl)
     (λ r new a. a)
     c.flush_at_once.new.self c.flush_at_once.new.device c.flush_at_once.result c.flush_at_once.ensures c.self.inside.spare c.self.invariant.1
 
 pub returns : goal.returns
 returns g c =
     at_once_steps c.self.inside.core c.self.inside.jobs c.self.inside.device c.self.invariant.0 c.args.self.now c.self.view_is
-    (event.FlushBegin c.args.file) (step.FlushBegin c.args.file) Flush refl (λ r. tt) (λ r. refl) (λ f. Some f) (λ f. refl)
+    (event.FlushBegin c.args.file) (step.FlushBegin c.args.file) Flush refl (λ r. tt) (λ r. refl)
     (λ r new a. a)
     c.flush_at_once.new.self c.flush_at_once.new.device c.flush_at_once.result c.flush_at_once.ensures
