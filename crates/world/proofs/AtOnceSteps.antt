@@ -143,7 +143,6 @@ module _ (core : Core) (jobs : Jobs) (dev : Watch) (w : IsWorld core.state jobs 
   at_once_steps (Ended f r) h =
       let t : Serial = record { 0 = h.job.serial } in
       let one = mid core jobs dev w old is_old e f.0 r after to h (act _) in (
-        h.within,
         t,
         one,
         made_of (reply.Job t) one (begins core jobs dev w old is_old e f.0 r after to h (act _)),
@@ -151,6 +150,7 @@ module _ (core : Core) (jobs : Jobs) (dev : Watch) (w : IsWorld core.state jobs 
         h.its.1,
         kind_is core.state h.begun e t kind kind_of h.begins h.its.0 h.its.1,
         h.file,
+        h.within,
         (
           _,
           called core jobs dev w old is_old e f.0 r after to h (act _),

@@ -16,6 +16,5 @@ use Rattle.world.specs.Stepping.{IsMade, Plays, WorldSeen}
 abbrev pub StepsAtOnce : WorldSeen → Step → Kind → AtOnce → WorldSeen → Type 0
 StepsAtOnce old s kind (Answered r) new = ((t : Serial) → r ≡ reply.Job t → ⊥) × IsMade old s r new
 StepsAtOnce old s kind (Ended f r) new =
-    (f.0 < MAX_FILES) × (t : Serial) × (mid : WorldSeen) × IsMade old s (reply.Job t) mid
-    × (x : Request) × (finmap.get mid.core.requests t.0 ≡ Some x) × (x.kind ≡ kind) × (x.file ≡ f.0)
-    × Plays mid (step.Call t ∷ step.End t ∷ []) (reply.Done ∷ r ∷ []) new
+    (t : Serial) × (mid : WorldSeen) × IsMade old s (reply.Job t) mid × (x : Request) × (finmap.get mid.core.requests t.0 ≡ Some x)
+    × (x.kind ≡ kind) × (x.file ≡ f.0) × (f.0 < MAX_FILES) × Plays mid (step.Call t ∷ step.End t ∷ []) (reply.Done ∷ r ∷ []) new

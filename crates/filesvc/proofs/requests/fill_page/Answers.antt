@@ -16,6 +16,6 @@ pub returns-in-Ended : goal.returns-in-Ended
 returns-in-Ended g c =
     let made = c.in-Ended.ensures in
     record {
-      rests = carried_rests _ _ _ _ _ _ _ (fill_begins c.args.handle c.args.page) made.3 made.8 c.requires;
-      made = λ errors. inr (made.1, made.2, made.3, made.8, subst (λ o. IsNoted errors o c.in-Ended.reply errors) (sym (fill_writes made.2.core made.1.0 made.4 made.5 made.6)) refl);
+      rests = carried_rests _ _ _ _ _ _ _ (fill_begins c.args.handle c.args.page) made.2 made.8 c.requires;
+      made = λ errors. inr (made.0, made.1, made.2, made.8, subst (λ o. IsNoted errors o c.in-Ended.reply errors) (sym (fill_writes made.1.core made.0.0 made.3 made.4 made.5)) refl);
     }

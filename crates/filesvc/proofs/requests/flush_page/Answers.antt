@@ -16,12 +16,12 @@ pub returns-in-Ended : goal.returns-in-Ended
 returns-in-Ended g c =
     let made = c.in-Ended.ensures in
     record {
-      rests = carried_rests _ _ _ _ _ _ _ (flush_begins c.args.file) made.3 made.8 c.requires;
+      rests = carried_rests _ _ _ _ _ _ _ (flush_begins c.args.file) made.2 made.8 c.requires;
       made = inr (
+        made.0,
         made.1,
         made.2,
-        made.3,
         made.8,
-        subst (λ o. IsNoted c.args.recorder.now o c.in-Ended.reply c.note.new.recorder) (sym (flush_writes made.2.core made.1.0 made.4 _ made.5 made.6 made.7)) c.note.ensures,
+        subst (λ o. IsNoted c.args.recorder.now o c.in-Ended.reply c.note.new.recorder) (sym (flush_writes made.1.core made.0.0 made.3 _ made.4 made.5 made.6)) c.note.ensures,
       );
     }
