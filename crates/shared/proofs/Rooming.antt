@@ -38,10 +38,10 @@ use Rattle.locked.specs.Denials as under
 use Rattle.locked.specs.Firsts.{IsFirstDenied}
 use Rattle.locked.specs.declared.denied.Denied.{Denied}
 use Rattle.locked.proofs.Replied.{end_taken}
-use Rattle.locked.proofs.Seats.{goes_by}
+use Rattle.locked.proofs.Seats.{goes_by, goes_same}
 use Rattle.shared.specs.Called.{is_for_now}
 use Rattle.shared.specs.Own.{IsRoomEvent}
-use Rattle.shared.specs.Rooms.{FailsToWrite, IsCrammed, IsLost, IsRoomLost, IsUnwritten, is_written, wants_room}
+use Rattle.shared.specs.Rooms.{FailsToWrite, IsAtRest, IsCrammed, IsFinal, IsFinalOr, IsLost, IsRoomLost, IsUnwritten, is_written, wants_room}
 use Rattle.shared.proofs.Making.{makes_by, makes_on}
 use Rattle.shared.proofs.Sparing.{IsAsked, has_to_write, stops_unrefused}
 
@@ -112,16 +112,16 @@ first_unwanted old new before after d q = room_unwanted (event.FlushBegin q.file
 -- nor is a read
 read_tested : (there none long : Bool) (last : Option Reply) (why : Refusal) → (last ≡ Some (reply.Refused why) → ⊥)
     → cond (not there) (refuse BadHandle) (cond none (Some (reply.Bytes [])) (cond long (refuse TooLong) last))
-    ≡ Some (reply.Refused why) → wants_room why ≡ false
+    ≡ Some (reply.Refused why) → is_for_now why ≡ false
 read_tested false none long last why never e =
-    let is : BadHandle ≡ why = cc in subst (λ (x : Refusal). wants_room x ≡ false) is refl
+    let is : BadHandle ≡ why = cc in subst (λ (x : Refusal). is_for_now x ≡ false) is refl
 read_tested true true long last why never e = absurd cc
 read_tested true false true last why never e =
-    let is : TooLong ≡ why = cc in subst (λ (x : Refusal). wants_room x ≡ false) is refl
+    let is : TooLong ≡ why = cc in subst (λ (x : Refusal). is_for_now x ≡ false) is refl
 read_tested true false false last why never e = absurd (never e)
 
 read_refused : (s new : State) (h : HandleId) (o n : ℕ) (why : Refusal) → Step s (event.Read h o n) (reply.Refused why) new
-    → wants_room why ≡ false
+    → is_for_now why ≡ false
 read_refused s new h o n why step =
     let f = handle_file s h.0 in
     let count = read_count s f o n in
@@ -131,18 +131,29 @@ read_refused s new h o n why step =
       | inr a ↦ absurd a.1
     ]
 
-pub read_unwanted : (h : HandleId) (o n : ℕ) (old new : HeldSeen) (before after : SeatSeen) (d : Denied)
-    → under.IsDenied (event.Read h o n) old new before after d → wants_room d.refusal ≡ false
-read_unwanted h o n old new before after d q = go d.refusal d.slip q
-  where
-    go : (r : Refusal) (k : Option Slip) → under.DeniedBy (event.Read h o n) old new before after r k → wants_room r ≡ false
-    go r None q = subst (λ (x : Refusal). wants_room x ≡ false) (sym q.0) refl
-    go r (Some slip) q = read_refused old.core.state new.core.state h o n r q.step
-
 pub wants_pass : (why : Refusal) → wants_room why ≡ true → is_for_now why ≡ true
 wants_pass NoFrame e = refl
 wants_pass DirtyLimit e = refl
 wants_pass why e = absurd cc
+
+unwanted_of : (why : Refusal) → is_for_now why ≡ false → wants_room why ≡ false
+unwanted_of why e = by (wants_room why) refl
+  where
+    by : (b : Bool) → wants_room why ≡ b → b ≡ false
+    by false is = refl
+    by true is = let x : true ≡ false = sym (wants_pass why is) ∙ e in absurd cc
+
+pub read_lasts : (h : HandleId) (o n : ℕ) (old new : HeldSeen) (before after : SeatSeen) (d : Denied)
+    → under.IsDenied (event.Read h o n) old new before after d → is_for_now d.refusal ≡ false
+read_lasts h o n old new before after d q = go d.refusal d.slip q
+  where
+    go : (r : Refusal) (k : Option Slip) → under.DeniedBy (event.Read h o n) old new before after r k → is_for_now r ≡ false
+    go r None q = subst (λ (x : Refusal). is_for_now x ≡ false) (sym q.0) refl
+    go r (Some slip) q = read_refused old.core.state new.core.state h o n r q.step
+
+pub read_unwanted : (h : HandleId) (o n : ℕ) (old new : HeldSeen) (before after : SeatSeen) (d : Denied)
+    → under.IsDenied (event.Read h o n) old new before after d → wants_room d.refusal ≡ false
+read_unwanted h o n old new before after d q = unwanted_of d.refusal (read_lasts h o n old new before after d q)
 
 pub lost_unwanted : (sizes : Sizes) (name : ℕ) (before after : SeatSeen) (d : Denied) → wants_room d.refusal ≡ false
     → IsLost sizes name before after d
@@ -229,6 +240,9 @@ lost_by sizes name e why old new before at after slip geometry asked wants m leg
       seen = omega (arith, long, more);
       leaves = subst (λ l. After sizes name l new.core.state) (sym (there ∙ m.entered.sees)) legal;
       crammed = crammed;
+      there =
+          has_to_write sizes name new.log.history old.core.state new.core.state e why geometry asked wants m.step legal crammed.0
+          crammed.1;
       failed = since (omega (arith, long)) unwritten;
     }
   where
@@ -276,5 +290,120 @@ lost_on sizes name a b c d p q = λ wants. let k = q wants in (k.0, k.1, go k.0 
       seen = k.seen;
       leaves = k.leaves;
       crammed = k.crammed;
+      there = k.there;
       failed = fails_on (slip.place + 1) (slip.place + 1) a b c (omega arith) p k.failed;
     }
+
+-- ---- no request is in flight at the entry of a refusal that may pass when one ends
+
+pub not_passing : (for_now busy : Bool) → (for_now && busy) ≡ false → for_now ≡ true → busy ≡ false
+not_passing true busy e is = e
+not_passing false busy e is = absurd cc
+
+pub final_lasting : (sizes : Sizes) (name : ℕ) (after : SeatSeen) (d : Denied) → is_for_now d.refusal ≡ false
+    → IsFinal sizes name after d
+final_lasting sizes name after d lasts passes = absurd cc
+
+-- an end is refused a stranger alone; to age and to evict are not refused
+stranger_lasts : (here : Bool) (why : Refusal) → cond here None (refuse Stranger) ≡ Some (reply.Refused why)
+    → is_for_now why ≡ false
+stranger_lasts true why e = absurd cc
+stranger_lasts false why e = let is : Stranger ≡ why = cc in subst (λ (x : Refusal). is_for_now x ≡ false) is refl
+
+pub end_final : (sizes : Sizes) (name : ℕ) (kind : Kind) (end : End) (old new : HeldSeen) (before after : SeatSeen) (d : Denied)
+    → under.IsDenied (event.End kind end) old new before after d → IsFinal sizes name after d
+end_final sizes name kind end old new before after d q = final_lasting sizes name after d (go d.refusal d.slip q)
+  where
+    go : (r : Refusal) (o : Option Slip) → under.DeniedBy (event.End kind end) old new before after r o → is_for_now r ≡ false
+    go r None q = subst (λ (x : Refusal). is_for_now x ≡ false) (sym q.0) refl
+    go r (Some slip) q =
+        let s = old.core.state in
+        elim (answered (tests s (event.End kind end)) s (event.End kind end) (reply.Refused r) new.core.state q.step) [
+          | inl a ↦ stranger_lasts (end.cache == s.name && is_of kind end (map.get s.requests end.serial.0)) r a.0
+          | inr a ↦ absurd (end_taken s kind end r new.core.state q.step a.0)
+        ]
+
+pub age_final : (sizes : Sizes) (name : ℕ) (old new : HeldSeen) (before after : SeatSeen) (d : Denied)
+    → under.IsDenied event.Age old new before after d → IsFinal sizes name after d
+age_final sizes name old new before after d q = final_lasting sizes name after d (go d.refusal d.slip q)
+  where
+    go : (r : Refusal) (o : Option Slip) → under.DeniedBy event.Age old new before after r o → is_for_now r ≡ false
+    go r None q = subst (λ (x : Refusal). is_for_now x ≡ false) (sym q.0) refl
+    go r (Some slip) q = absurd q.step.0
+
+pub evict_final : (sizes : Sizes) (name : ℕ) (old new : HeldSeen) (before after : SeatSeen) (d : Denied)
+    → under.IsDenied event.Evict old new before after d → IsFinal sizes name after d
+evict_final sizes name old new before after d q = final_lasting sizes name after d (go d.refusal d.slip q)
+  where
+    go : (r : Refusal) (o : Option Slip) → under.DeniedBy event.Evict old new before after r o → is_for_now r ≡ false
+    go r None q = subst (λ (x : Refusal). is_for_now x ≡ false) (sym q.0) refl
+    go r (Some slip) q =
+        elim (answered (tests old.core.state event.Evict) old.core.state event.Evict (reply.Refused r) new.core.state q.step) [
+          | inl a ↦ absurd (never_refused (has_idle old.core.state) r a.0)
+          | inr a ↦ absurd a.1
+        ]
+
+-- nor does the end of a request lift the refusal of a read
+pub read_final : (sizes : Sizes) (name : ℕ) (h : HandleId) (o n : ℕ) (old new : HeldSeen) (before after : SeatSeen) (d : Denied)
+    → under.IsDenied (event.Read h o n) old new before after d → IsFinal sizes name after d
+read_final sizes name h o n old new before after d q =
+    final_lasting sizes name after d (read_lasts h o n old new before after d q)
+
+at_rest : (sizes : Sizes) (name : ℕ) (e : Event) (why : Refusal) (old new : HeldSeen) (before at after : SeatSeen) (slip : Slip)
+    → Made e (reply.Refused why) old new before at slip → After sizes name new.log.history new.core.state
+    → is_busy new.core.state ≡ false → Goes at after → IsAtRest sizes name after slip
+at_rest sizes name e why old new before at after slip m legal rests goes =
+    let entry : Entry = entry_of before.number e (reply.Refused why) in
+    let long : length at.list ≡ slip.place + 1 =
+    ap length (m.entered.sees ∙ m.entered.history) ∙ length_push old.log.history entry
+    ∙ ap (λ n. n + 1) (sym m.entered.placed.1) in
+    let there : take (slip.place + 1) after.list ≡ at.list =
+    ap (take (slip.place + 1)) (sym goes.grows.1) ∙ take-append-le (slip.place + 1) at.list goes.grows.0 (omega (arith, long))
+    ∙ take_all (slip.place + 1) at.list (omega (arith, long)) in
+    let more : length at.list ≤ length after.list = prefix_length at.list after.list goes.grows in
+    record {
+      state = new.core.state;
+      seen = omega (arith, long, more);
+      leaves = subst (λ l. After sizes name l new.core.state) (sym (there ∙ m.entered.sees)) legal;
+      rests = rests;
+    }
+
+-- an event was refused, and that stands if no request is in flight
+pub final_denied : (sizes : Sizes) (name : ℕ) (e : Event) (old new : HeldSeen) (before at after : SeatSeen) (first d : Denied)
+    → under.IsDenied e old new before at first → After sizes name new.log.history new.core.state → Goes at after
+    → IsFinalOr first sizes name new.core.state after d → IsFinal sizes name after d
+final_denied sizes name e old new before at after first d q legal goes (inr final) = final
+final_denied sizes name e old new before at after first d q legal goes (inl k) = λ passes.
+    let there = go first.refusal first.slip q (subst (λ (x : Denied). is_for_now x.refusal ≡ true) k.0 passes) (k.1 passes) in
+    subst (λ (x : Denied). (slip : Slip) × (x.slip ≡ Some slip) × IsAtRest sizes name after slip) (sym k.0) there
+  where
+    go : (r : Refusal) (o : Option Slip) → under.DeniedBy e old new before at r o → is_for_now r ≡ true
+        → is_busy new.core.state ≡ false → (slip : Slip) × (o ≡ Some slip) × IsAtRest sizes name after slip
+    go r None q passes rests =
+        let other : is_for_now r ≡ false = subst (λ (x : Refusal). is_for_now x ≡ false) (sym q.0) refl in absurd cc
+    go r (Some slip) q passes rests = (
+      slip,
+      refl,
+      at_rest sizes name e r old new before at after slip q legal rests goes,
+    )
+
+-- the first file to write was refused, in the hold that says whether a request is in flight
+pub first_final : (sizes : Sizes) (name : ℕ) (old new : HeldSeen) (before at : SeatSeen) (first d : Denied)
+    → IsFirstDenied old new before at first → After sizes name new.log.history new.core.state → d ≡ first
+    → (is_for_now first.refusal ≡ true → is_busy new.core.state ≡ false) → IsFinal sizes name at d
+first_final sizes name old new before at first d q legal same rests =
+    final_denied sizes name (event.FlushBegin q.file) old new before at at first d q.denied legal (goes_same at at refl)
+    (inl (same, λ passes. rests (subst (λ (x : Denied). is_for_now x.refusal ≡ true) same passes)))
+
+pub stands_by : (sizes : Sizes) (name : ℕ) (s : State) (after : SeatSeen) (first d : Denied) → d ≡ first
+    → (is_for_now first.refusal ≡ true → is_busy s ≡ false) → IsFinalOr first sizes name s after d
+stands_by sizes name s after first d same rests =
+    inl (same, λ passes. rests (subst (λ (x : Denied). is_for_now x.refusal ≡ true) same passes))
+
+pub stands_still : (sizes : Sizes) (name : ℕ) (s : State) (after : SeatSeen) (first : Denied) → is_busy s ≡ false
+    → IsFinalOr first sizes name s after first
+stands_still sizes name s after first rests = inl (refl, λ passes. rests)
+
+pub stands_other : (sizes : Sizes) (name : ℕ) (s : State) (after : SeatSeen) (first d : Denied) → IsFinal sizes name after d
+    → IsFinalOr first sizes name s after d
+stands_other sizes name s after first d final = inr final

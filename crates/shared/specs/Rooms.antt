@@ -17,7 +17,7 @@ use Rattle.pc_types.specs.declared.kind.Kind.TheVariants.{Flush}
 use Rattle.pc_types.specs.declared.refusal.Refusal.{Refusal}
 use Rattle.pc_types.specs.declared.refusal.Refusal.TheVariants.{DirtyLimit, NoFrame}
 use Rattle.trail.specs.History.{After}
-use Rattle.shared.specs.Called.{Makes}
+use Rattle.shared.specs.Called.{Makes, is_for_now}
 
 -- more room might have spared it
 abbrev pub wants_room : Refusal → Bool
@@ -53,6 +53,7 @@ pub record IsRoomLost (sizes : Sizes) (name : ℕ) (why : Refusal) (before after
   pub seen : slip.place < length after.list
   pub leaves : After sizes name (take (slip.place + 1) after.list) state
   pub crammed : IsCrammed why state
+  pub there : NothingToWrite state → ⊥
   pub failed : FailsToWrite (slip.place + 1) before after
 
 -- a call is refused for want of room by such an entry alone
@@ -60,3 +61,20 @@ abbrev pub IsLost : Sizes → ℕ → SeatSeen → SeatSeen → Denied → Type 
 IsLost sizes name before after d =
     wants_room d.refusal ≡ true
     → (slip : Slip) × (d.slip ≡ Some slip) × IsRoomLost sizes name d.refusal before after slip
+
+-- the history up to the slip's entry leaves no request in flight
+pub record IsAtRest (sizes : Sizes) (name : ℕ) (after : SeatSeen) (slip : Slip) : Type 0 where
+  pub state : State
+  pub seen : slip.place < length after.list
+  pub leaves : After sizes name (take (slip.place + 1) after.list) state
+  pub rests : is_busy state ≡ false
+
+-- a refusal that may pass when a request ends is of an entry at which none was in flight
+abbrev pub IsFinal : Sizes → ℕ → SeatSeen → Denied → Type 0
+IsFinal sizes name after d =
+    is_for_now d.refusal ≡ true → (slip : Slip) × (d.slip ≡ Some slip) × IsAtRest sizes name after slip
+
+-- the refusal stands, and none is in flight in this state if it may pass when one ends; or making room was refused
+abbrev pub IsFinalOr : Denied → Sizes → ℕ → State → SeatSeen → Denied → Type 0
+IsFinalOr first sizes name s after d =
+    ((d ≡ first) × (is_for_now d.refusal ≡ true → is_busy s ≡ false)) ⊎ IsFinal sizes name after d

@@ -8,7 +8,7 @@ ghost use Rattle.pc_types.specs.declared.refusal.Refusal.TheVariants.{BadHandle,
 ghost use Rattle.locked.specs.Called.{Goes, Once, Only};
 ghost use Rattle.shared.specs.Called.{Makes, Retries};
 ghost use Rattle.shared.specs.Denials.{IsDenied};
-ghost use Rattle.shared.specs.Rooms.{IsLost};
+ghost use Rattle.shared.specs.Rooms.{IsFinal, IsLost};
 ghost use Rattle.shared.specs.Own.{IsCallOf, IsTry, count_in};
 
 use crate::cache::SharedCache;
@@ -44,6 +44,7 @@ impl<B: Naming, D: BlockDevice, T: Trail> SharedCache<B, D, T> {
         ensures count { IfOk result (λ r. r.0 ≤ length out.old) }
         ensures rest { drop (count_in result) out.new ≡ drop (count_in result) out.old }
         ensures cursor { handle.new ≡ record handle.old { cursor = handle.old.cursor + count_in result } }
+        ensures stands { IfErr result (IsFinal B.sizes self.now.name seat.new) }
     {
         match self.pread(rt, seat, handle, handle.cursor, out) {
             Ok((count, slip)) => {
@@ -77,6 +78,7 @@ impl<B: Naming, D: BlockDevice, T: Trail> SharedCache<B, D, T> {
         ensures count { IfOk result (λ r. r.0 ≤ length out.old) }
         ensures rest { drop (count_in result) out.new ≡ drop (count_in result) out.old }
         ensures within { offset ≤ MAX_FILE_SIZE → offset + count_in result ≤ MAX_FILE_SIZE }
+        ensures stands { IfErr result (IsFinal B.sizes self.now.name seat.new) }
     {
         if let Err(refusal) = self.admits(seat, handle) {
             return Err(without_slip(refusal));
@@ -93,7 +95,7 @@ impl<B: Naming, D: BlockDevice, T: Trail> SharedCache<B, D, T> {
 
     /// One attempt to read. Where a page is missing it is filled, where one is filling the end of a request is waited for, and nothing
     /// is answered.
-    #[tactic(auto, using(locked::proofs::Seats::goes_by, locked::proofs::Seats::goes_on, locked::proofs::Seats::goes_same, crate::proofs::Making::goes_denied, crate::proofs::Making::makes_by, crate::proofs::Making::call_first, crate::proofs::Making::call_help, locked::proofs::Seats::once_by, crate::proofs::Owning::only_try_denied, crate::proofs::Rooming::lost_on))]
+    #[tactic(auto, using(locked::proofs::Seats::goes_by, locked::proofs::Seats::goes_on, locked::proofs::Seats::goes_same, crate::proofs::Making::goes_denied, crate::proofs::Making::makes_by, crate::proofs::Making::call_first, crate::proofs::Making::call_help, locked::proofs::Seats::once_by, crate::proofs::Owning::only_try_denied, crate::proofs::Rooming::lost_on, crate::proofs::Rooming::read_final))]
     fn try_read<R: Wait>(
         &self,
         rt: &R,
@@ -116,6 +118,7 @@ impl<B: Naming, D: BlockDevice, T: Trail> SharedCache<B, D, T> {
         ensures same { IfOk result (λ o. IfNone o (out.new ≡ out.old)) }
         ensures kept { IfErr result (λ _. out.new ≡ out.old) }
         ensures again { IfOk result (λ o. IfNone o (Retries seat.old seat.new (event.Read handle offset (length out.old)))) }
+        ensures stands { IfErr result (IsFinal B.sizes B.name seat.new) }
     {
         let most = out.len() as u64;
         let mut guard = self.state.lock(rt);
