@@ -35,6 +35,7 @@ use Rattle.held.specs.Entered.{Made}
 use Rattle.held.specs.Shown.{HeldSeen, SeatSeen}
 use Rattle.locked.specs.Called.{Goes}
 use Rattle.locked.specs.Denials as under
+use Rattle.locked.specs.Flights.{is_busy}
 use Rattle.locked.specs.Firsts.{IsFirstDenied}
 use Rattle.locked.specs.declared.denied.Denied.{Denied}
 use Rattle.locked.proofs.Replied.{end_taken}
