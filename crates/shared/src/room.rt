@@ -41,7 +41,7 @@ pub(crate) struct Span {
 impl<B: Naming, D: BlockDevice, T: Trail> SharedCache<B, D, T> {
     /// Fills a page that a call on this span of bytes lacks. First room is made for all pages that it lacks: made for this one alone
     /// it could cost the call another of its pages.
-    #[tactic(auto, using(locked::proofs::Seats::goes_by, locked::proofs::Seats::goes_on, locked::proofs::Seats::goes_same, crate::proofs::Making::goes_denied, crate::proofs::Making::help_room, crate::proofs::Making::help_on, crate::proofs::Owning::only_room, crate::proofs::Owning::only_filled, crate::proofs::Rooming::lost_unwanted, crate::proofs::Rooming::lost_on))]
+    #[tactic(auto, using(locked::proofs::Seats::goes_by, locked::proofs::Seats::goes_on, locked::proofs::Seats::goes_same, crate::proofs::Making::goes_denied, crate::proofs::Making::help_room, crate::proofs::Making::help_on, crate::proofs::Owning::only_room, crate::proofs::Owning::only_filled, crate::proofs::Rooming::lost_unwanted))]
     pub(crate) fn fill<R: Wait>(
         &self,
         rt: &R,
@@ -53,7 +53,7 @@ impl<B: Naming, D: BlockDevice, T: Trail> SharedCache<B, D, T> {
         ensures goes { Goes seat.old seat.new }
         ensures only { Only (λ e. IsHelp span.handle e.event) seat.old seat.new }
         ensures denied { IfErr result (IsDenied (IsHelp span.handle) seat.old seat.new) }
-        ensures lost { IfErr result (IsLost B.sizes B.name seat.old seat.new) }
+        ensures lost { IfErr result (IsLost B.sizes B.name seat.new) }
         ensures stands { IfErr result (IsFinal B.sizes B.name seat.new) }
     {
         if let Err(denied) = self.make_way(rt, seat, span) {
@@ -75,7 +75,7 @@ impl<B: Naming, D: BlockDevice, T: Trail> SharedCache<B, D, T> {
         ensures goes { Goes seat.old seat.new }
         ensures only { Only (λ e. IsHelp handle e.event) seat.old seat.new }
         ensures denied { IfErr result (IsDenied (IsHelp handle) seat.old seat.new) }
-        ensures lost { IfErr result (IsLost B.sizes B.name seat.old seat.new) }
+        ensures lost { IfErr result (IsLost B.sizes B.name seat.new) }
         ensures stands { IfErr result (IsFinal B.sizes B.name seat.new) }
     {
         let buffer = match Buffer::new(self.alloc, &self.geometry) {
@@ -241,7 +241,7 @@ impl<B: Naming, D: BlockDevice, T: Trail> SharedCache<B, D, T> {
 
     /// Writes a page back, of the first file that has one to write; or waits for the end of a request, where there is none to write or
     /// too many are in flight. Answers whether that was done; also where the write failed, if another request was in flight beside it.
-    #[tactic(auto, using(locked::proofs::Seats::goes_by, locked::proofs::Seats::goes_on, locked::proofs::Seats::goes_same, crate::proofs::Making::goes_denied, crate::proofs::Making::denied_first, crate::proofs::Making::room_on, locked::proofs::Seats::only_same, crate::proofs::Owning::only_first_denied, crate::proofs::Owning::only_written, crate::proofs::Rooming::first_unwanted, crate::proofs::Rooming::none_unwritten, crate::proofs::Rooming::write_unwritten, crate::proofs::Rooming::first_final, crate::proofs::Rooming::final_lasting))]
+    #[tactic(auto, using(locked::proofs::Seats::goes_by, locked::proofs::Seats::goes_on, locked::proofs::Seats::goes_same, crate::proofs::Making::goes_denied, crate::proofs::Making::denied_first, crate::proofs::Making::room_on, locked::proofs::Seats::only_same, crate::proofs::Owning::only_first_denied, crate::proofs::Owning::only_written, crate::proofs::Rooming::first_unwanted, crate::proofs::Rooming::none_unwritten, crate::proofs::Rooming::first_final, crate::proofs::Rooming::final_lasting))]
     fn flush_one<R: Wait>(
         &self,
         rt: &R,
@@ -344,7 +344,7 @@ impl<B: Naming, D: BlockDevice, T: Trail> SharedCache<B, D, T> {
         ensures denied { IfErr result (IsDenied IsRoomEvent seat.old seat.new) }
         ensures unwanted { IfErr result (λ d. wants_room d.refusal ≡ false) }
         ensures ended { IfErr result (IsDenied IsFlushEnd seat.old seat.new) }
-        ensures failed { IfOk result (λ written. written ≡ false → FailsToWrite (length seat.old.list) seat.old seat.new) }
+        ensures failed { IfOk result (λ written. written ≡ false → FailsToWrite seat.old seat.new) }
         ensures stands { IfErr result (IsFinal B.sizes B.name seat.new) }
     {
         let finished = self.disk.lock(rt).carry_out(job);

@@ -68,7 +68,7 @@ impl<B: Naming, D: BlockDevice, T: Trail> SharedCache<B, D, T> {
         ensures once { IfOk result (λ _. Once (IsTry handle.now.number (event.Write handle.now.number offset bytes.now)) seat.old seat.new) }
         ensures answer { IfOk result (λ r. Makes seat.old seat.new r.1 (event.Write handle.now.number offset bytes.now) (reply.Wrote r.0.count r.0.end)) }
         ensures denied { seat.old.name ≡ self.now.name → handle.now.cache ≡ self.now.name → IfErr result (IsDenied (IsCallOf handle.now.number (event.Write handle.now.number offset bytes.now)) seat.old seat.new) }
-        ensures lost { IfErr result (IsLost B.sizes self.now.name seat.old seat.new) }
+        ensures lost { IfErr result (IsLost B.sizes self.now.name seat.new) }
         ensures count { IfOk result (λ r. (r.0.count ≡ length bytes.now) × (r.0.end ≡ offset + length bytes.now)) }
         ensures stands { IfErr result (IsFinal B.sizes self.now.name seat.new) }
     {
@@ -95,7 +95,7 @@ impl<B: Naming, D: BlockDevice, T: Trail> SharedCache<B, D, T> {
         ensures once { IfOk result (λ _. Once (IsTry handle.old.number (write_event handle.old bytes.now)) seat.old seat.new) }
         ensures answer { IfOk result (λ r. Makes seat.old seat.new r.1 (write_event handle.old bytes.now) (reply.Wrote r.0.count r.0.end)) }
         ensures denied { seat.old.name ≡ self.now.name → handle.old.cache ≡ self.now.name → IfErr result (IsDenied (IsCallOf handle.old.number (write_event handle.old bytes.now)) seat.old seat.new) }
-        ensures lost { IfErr result (IsLost B.sizes self.now.name seat.old seat.new) }
+        ensures lost { IfErr result (IsLost B.sizes self.now.name seat.new) }
         ensures count { IfOk result (λ r. r.0.count ≡ length bytes.now) }
         ensures cursor { handle.new ≡ record handle.old { cursor = cursor_after handle.old.cursor result } }
         ensures stands { IfErr result (IsFinal B.sizes self.now.name seat.new) }
@@ -134,7 +134,7 @@ impl<B: Naming, D: BlockDevice, T: Trail> SharedCache<B, D, T> {
         ensures once { IfOk result (λ _. Once (IsTry handle.now.number (event.Truncate handle.now.number size)) seat.old seat.new) }
         ensures answer { IfOk result (λ slip. Makes seat.old seat.new slip (event.Truncate handle.now.number size) reply.Done) }
         ensures denied { seat.old.name ≡ self.now.name → handle.now.cache ≡ self.now.name → IfErr result (IsDenied (IsCallOf handle.now.number (event.Truncate handle.now.number size)) seat.old seat.new) }
-        ensures lost { IfErr result (IsLost B.sizes self.now.name seat.old seat.new) }
+        ensures lost { IfErr result (IsLost B.sizes self.now.name seat.new) }
         ensures stands { IfErr result (IsFinal B.sizes self.now.name seat.new) }
     {
         if let Err(refusal) = self.admits(seat, handle) {
@@ -147,7 +147,7 @@ impl<B: Naming, D: BlockDevice, T: Trail> SharedCache<B, D, T> {
     }
 
     /// Changes the handle's file, in as many attempts as it takes.
-    #[tactic(auto, using(locked::proofs::Seats::goes_on, locked::proofs::Seats::goes_same, crate::proofs::Making::makes_on, crate::proofs::Making::call_on, locked::proofs::Seats::only_same, crate::proofs::Owning::only_try_on, crate::proofs::Owning::once_try_on, crate::proofs::Rooming::lost_on))]
+    #[tactic(auto, using(locked::proofs::Seats::goes_on, locked::proofs::Seats::goes_same, crate::proofs::Making::makes_on, crate::proofs::Making::call_on, locked::proofs::Seats::only_same, crate::proofs::Owning::only_try_on, crate::proofs::Owning::once_try_on))]
     fn change<R: Wait>(
         &self,
         rt: &R,
@@ -162,7 +162,7 @@ impl<B: Naming, D: BlockDevice, T: Trail> SharedCache<B, D, T> {
         ensures once { IfOk result (λ _. Once (IsTry handle (event_of change handle bytes.now)) seat.old seat.new) }
         ensures answer { IfOk result (λ r. Makes seat.old seat.new r.1 (event_of change handle bytes.now) (over change r.0)) }
         ensures denied { IfErr result (IsDenied (IsCallOf handle (event_of change handle bytes.now)) seat.old seat.new) }
-        ensures lost { IfErr result (IsLost B.sizes B.name seat.old seat.new) }
+        ensures lost { IfErr result (IsLost B.sizes B.name seat.new) }
         ensures whole { IfOk result (λ r. IsWhole change bytes.now r.0) }
         ensures stands { IfErr result (IsFinal B.sizes B.name seat.new) }
     {
@@ -181,7 +181,7 @@ impl<B: Naming, D: BlockDevice, T: Trail> SharedCache<B, D, T> {
 
     /// One attempt to change the file. Where a page is missing it is filled, where there is no room it is made, and nothing is
     /// answered.
-    #[tactic(auto, using(locked::proofs::Seats::goes_by, locked::proofs::Seats::goes_on, locked::proofs::Seats::goes_same, crate::proofs::Making::goes_denied, crate::proofs::Making::makes_by, crate::proofs::Making::call_help, crate::proofs::Making::call_settled, locked::proofs::Seats::once_by, crate::proofs::Rooming::lost_on))]
+    #[tactic(auto, using(locked::proofs::Seats::goes_by, locked::proofs::Seats::goes_on, locked::proofs::Seats::goes_same, crate::proofs::Making::goes_denied, crate::proofs::Making::makes_by, crate::proofs::Making::call_help, crate::proofs::Making::call_settled, locked::proofs::Seats::once_by))]
     fn try_change<R: Wait>(
         &self,
         rt: &R,
@@ -197,7 +197,7 @@ impl<B: Naming, D: BlockDevice, T: Trail> SharedCache<B, D, T> {
         ensures once { IfOk result (λ o. IfSome o (λ _. Once (IsTry handle (event_of change handle bytes.now)) seat.old seat.new)) }
         ensures answer { IfOk result (λ o. IfSome o (λ r. Makes seat.old seat.new r.1 (event_of change handle bytes.now) (over change r.0))) }
         ensures denied { IfErr result (IsDenied (IsCallOf handle (event_of change handle bytes.now)) seat.old seat.new) }
-        ensures lost { IfErr result (IsLost B.sizes B.name seat.old seat.new) }
+        ensures lost { IfErr result (IsLost B.sizes B.name seat.new) }
         ensures whole { IfOk result (λ o. IfSome o (λ r. IsWhole change bytes.now r.0)) }
         ensures again { IfOk result (λ o. IfNone o (Retries seat.old seat.new (event_of change handle bytes.now))) }
         ensures stands { IfErr result (IsFinal B.sizes B.name seat.new) }

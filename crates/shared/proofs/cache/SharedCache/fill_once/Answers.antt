@@ -43,7 +43,7 @@ returns-in-Err-fill_begin-clause-lost g c =
     IfErr-weaker c.relieve.result (λ d. wants_room d.refusal ≡ true → (d ≡ c.in-Err-fill_begin.denied)
     × IsCrammed d.refusal c.fill_begin.new.self.core.state
     × IsUnwritten c.fill_begin.new.self.core.state c.fill_begin.new.seat c.relieve.new.seat)
-    (IsLost g.B.Naming.sizes g.B.Naming.name c.args.seat.now c.relieve.new.seat)
+    (IsLost g.B.Naming.sizes g.B.Naming.name c.relieve.new.seat)
     (λ d q. lost_denied g.B.Naming.sizes g.B.Naming.name (event.FillBegin c.args.handle c.args.page) c.deref_mut.result.now
     c.fill_begin.new.self c.args.seat.now c.fill_begin.new.seat c.relieve.new.seat c.in-Err-fill_begin.denied d
     c.relieve.ensures.within tt c.in-Err-fill_begin.ensures.denied c.relieve.ensures.legal c.relieve.ensures.goes q) c.relieve.ensures.crammed
