@@ -1,6 +1,6 @@
 -- What a refusal for want of room says of the cache at its entry.
 use Rattle.std.proofs.Common.{◌≡◌, ◌∙◌, ◌+◌, ◌≤◌, [], ℕ, Bool, true, false, cond, not, length, take, refl, sym, ap, subst, arith, inl, inr}
-use Rattle.std.specs.Prelude.{◌&&◌, ◌||◌, ◌==◌, IsTrue, Ok, Option, Some, None, is_some, nat_le, nat_lt}
+use Rattle.std.specs.Prelude.{◌&&◌, ◌==◌, IsTrue, Ok, Option, Some, None, is_some, nat_le, nat_lt}
 use Rattle.std.proofs.lemmas.List.{length_push, take-append-le, take_all}
 use Rattle.std.specs.FinMap as map
 use Rattle.blockdev.specs.Jobs.{Task}

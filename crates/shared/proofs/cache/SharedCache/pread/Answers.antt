@@ -1,4 +1,4 @@
-use Rattle.std.proofs.Common.{ℕ, ◌∙◌, List, ap, length, rules, subst}
+use Rattle.std.proofs.Common.{ℕ, ◌∙◌, List, ap, length, subst}
 use Rattle.machine.specs.declared.event.Event.TheVariants as event
 use Rattle.pc_types.specs.declared.ids.HandleId.{HandleId}
 use Rattle.locked.specs.Called.{Once, Only}
