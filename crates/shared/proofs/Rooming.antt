@@ -1,8 +1,9 @@
 -- What a refusal for want of room says of the cache at its entry.
 use Rattle.std.proofs.Common.{◌≡◌, ◌∙◌, ◌+◌, ◌≤◌, [], ℕ, Bool, true, false, cond, not, length, take, refl, sym, ap, subst, arith, inl, inr}
-use Rattle.std.specs.Prelude.{◌&&◌, ◌||◌, ◌==◌, IsTrue, Ok, Option, Some, None, is_some, nat_le, nat_lt}
+use Rattle.std.specs.Prelude.{◌&&◌, ◌==◌, IsTrue, Ok, Option, Some, None, is_some, nat_le, nat_lt}
 use Rattle.std.proofs.lemmas.List.{length_push, take-append-le, take_all}
 use Rattle.std.specs.FinMap as map
+use Rattle.blockdev.specs.Jobs.{Task}
 use Rattle.cachecore.specs.Replies.{evicted, flush_ended}
 use Rattle.cachecore.specs.Wants.{NothingToWrite}
 use Rattle.cachecore.specs.declared.answers.Ended.{Ended}
@@ -33,16 +34,17 @@ use Rattle.trail.specs.History.{After}
 use Rattle.held.specs.declared.log.Slip.{Slip}
 use Rattle.held.specs.Entered.{Made}
 use Rattle.held.specs.Shown.{HeldSeen, SeatSeen}
-use Rattle.locked.specs.Called.{Goes}
+use Rattle.locked.specs.Called.{Goes, Only}
 use Rattle.locked.specs.Denials as under
-use Rattle.locked.specs.Firsts.{IsFirstDenied}
+use Rattle.locked.specs.Flights.{is_busy}
+use Rattle.locked.specs.Firsts.{IsFirstDenied, Writes}
 use Rattle.locked.specs.declared.denied.Denied.{Denied}
 use Rattle.locked.proofs.Replied.{end_taken}
-use Rattle.locked.proofs.Seats.{goes_by}
+use Rattle.locked.proofs.Seats.{goes_same, only_by, only_on, only_same, only_wider}
 use Rattle.shared.specs.Called.{is_for_now}
-use Rattle.shared.specs.Own.{IsRoomEvent}
-use Rattle.shared.specs.Rooms.{FailsToWrite, IsCrammed, IsLost, IsRoomLost, IsUnwritten, is_written, wants_room}
-use Rattle.shared.proofs.Making.{makes_by, makes_on}
+use Rattle.shared.specs.Own.{IsEviction, IsRoomEvent}
+use Rattle.shared.specs.Rooms.{FailsToWrite, IsAtRest, IsCrammed, IsFinal, IsFinalOr, IsLost, IsRoomLost, IsRoomTry, IsUnwritten, is_written, wants_room}
+use Rattle.shared.proofs.Making.{makes_by}
 use Rattle.shared.proofs.Sparing.{IsAsked, has_to_write, stops_unrefused}
 
 -- ---- refusals of another kind
@@ -112,16 +114,16 @@ first_unwanted old new before after d q = room_unwanted (event.FlushBegin q.file
 -- nor is a read
 read_tested : (there none long : Bool) (last : Option Reply) (why : Refusal) → (last ≡ Some (reply.Refused why) → ⊥)
     → cond (not there) (refuse BadHandle) (cond none (Some (reply.Bytes [])) (cond long (refuse TooLong) last))
-    ≡ Some (reply.Refused why) → wants_room why ≡ false
+    ≡ Some (reply.Refused why) → is_for_now why ≡ false
 read_tested false none long last why never e =
-    let is : BadHandle ≡ why = cc in subst (λ (x : Refusal). wants_room x ≡ false) is refl
+    let is : BadHandle ≡ why = cc in subst (λ (x : Refusal). is_for_now x ≡ false) is refl
 read_tested true true long last why never e = absurd cc
 read_tested true false true last why never e =
-    let is : TooLong ≡ why = cc in subst (λ (x : Refusal). wants_room x ≡ false) is refl
+    let is : TooLong ≡ why = cc in subst (λ (x : Refusal). is_for_now x ≡ false) is refl
 read_tested true false false last why never e = absurd (never e)
 
 read_refused : (s new : State) (h : HandleId) (o n : ℕ) (why : Refusal) → Step s (event.Read h o n) (reply.Refused why) new
-    → wants_room why ≡ false
+    → is_for_now why ≡ false
 read_refused s new h o n why step =
     let f = handle_file s h.0 in
     let count = read_count s f o n in
@@ -131,63 +133,84 @@ read_refused s new h o n why step =
       | inr a ↦ absurd a.1
     ]
 
-pub read_unwanted : (h : HandleId) (o n : ℕ) (old new : HeldSeen) (before after : SeatSeen) (d : Denied)
-    → under.IsDenied (event.Read h o n) old new before after d → wants_room d.refusal ≡ false
-read_unwanted h o n old new before after d q = go d.refusal d.slip q
-  where
-    go : (r : Refusal) (k : Option Slip) → under.DeniedBy (event.Read h o n) old new before after r k → wants_room r ≡ false
-    go r None q = subst (λ (x : Refusal). wants_room x ≡ false) (sym q.0) refl
-    go r (Some slip) q = read_refused old.core.state new.core.state h o n r q.step
-
 pub wants_pass : (why : Refusal) → wants_room why ≡ true → is_for_now why ≡ true
 wants_pass NoFrame e = refl
 wants_pass DirtyLimit e = refl
 wants_pass why e = absurd cc
 
-pub lost_unwanted : (sizes : Sizes) (name : ℕ) (before after : SeatSeen) (d : Denied) → wants_room d.refusal ≡ false
-    → IsLost sizes name before after d
-lost_unwanted sizes name before after d other wants = absurd cc
+unwanted_of : (why : Refusal) → is_for_now why ≡ false → wants_room why ≡ false
+unwanted_of why e = by (wants_room why) refl
+  where
+    by : (b : Bool) → wants_room why ≡ b → b ≡ false
+    by false is = refl
+    by true is = let x : true ≡ false = sym (wants_pass why is) ∙ e in absurd cc
+
+pub read_lasts : (h : HandleId) (o n : ℕ) (old new : HeldSeen) (before after : SeatSeen) (d : Denied)
+    → under.IsDenied (event.Read h o n) old new before after d → is_for_now d.refusal ≡ false
+read_lasts h o n old new before after d q = go d.refusal d.slip q
+  where
+    go : (r : Refusal) (k : Option Slip) → under.DeniedBy (event.Read h o n) old new before after r k → is_for_now r ≡ false
+    go r None q = subst (λ (x : Refusal). is_for_now x ≡ false) (sym q.0) refl
+    go r (Some slip) q = read_refused old.core.state new.core.state h o n r q.step
+
+pub read_unwanted : (h : HandleId) (o n : ℕ) (old new : HeldSeen) (before after : SeatSeen) (d : Denied)
+    → under.IsDenied (event.Read h o n) old new before after d → wants_room d.refusal ≡ false
+read_unwanted h o n old new before after d q = unwanted_of d.refusal (read_lasts h o n old new before after d q)
+
+pub lost_unwanted : (sizes : Sizes) (name : ℕ) (after : SeatSeen) (d : Denied) → wants_room d.refusal ≡ false
+    → IsLost sizes name after d
+lost_unwanted sizes name after d other wants = absurd cc
 
 -- ---- no page was to be written, or one was written in vain
 
 pub failed_by : (end : End) (a : Ended) (old new : HeldSeen) (before after : SeatSeen) (slip : Slip)
     → Made (event.End Flush end) (flush_ended (Ok a)) old new before after slip → is_written a ≡ false
-    → FailsToWrite (length before.list) before after
+    → FailsToWrite before after
 failed_by end (ended.Failed code b) old new before after slip m is = record {
+  at = before;
+  tried = only_same (λ e. IsRoomTry e.event) before before refl;
   end = end;
   code = code;
   slip = slip;
-  later =
-      let earlier : length before.list ≤ length old.log.history = prefix_length before.list old.log.history m.entered.saw in
-      omega (arith, m.entered.placed.1, earlier);
   made = makes_by (event.End Flush end) (reply.Failed code) old new before after slip m;
+  last = only_by (λ _. Unit {0}) (event.End Flush end) (reply.Failed code) old new before after slip tt m;
+  one = m.entered.count;
 }
 failed_by end a old new before after slip m is = absurd cc
 
-fails_on : (place least : ℕ) (a b c : SeatSeen) → least ≤ place → Goes a b → FailsToWrite place b c → FailsToWrite least a c
-fails_on place least a b c less p q = record {
+fails_on : (a b c : SeatSeen) → Only (λ e. IsRoomTry e.event) a b → FailsToWrite b c → FailsToWrite a c
+fails_on a b c p q = record {
+  at = q.at;
+  tried = only_on (λ e. IsRoomTry e.event) a b q.at p q.tried;
   end = q.end;
   code = q.code;
   slip = q.slip;
-  later = omega (arith, less, q.later);
-  made = makes_on a b c q.slip (event.End Flush q.end) (reply.Failed q.code) p q.made;
+  made = q.made;
+  last = q.last;
+  one = q.one;
 }
 
-fails_since : (a b c : SeatSeen) → Goes a b → FailsToWrite (length b.list) b c → FailsToWrite (length a.list) a c
-fails_since a b c p q = fails_on (length b.list) (length a.list) a b c (prefix_length a.list b.list p.grows) p q
+evicts_try : (e : Event) → IsEviction e → IsRoomTry e
+evicts_try event.Evict x = tt
+evicts_try event.Age x = tt
+evicts_try e x = absurd x
 
-pub unwritten_on : (s t : State) (a b c : SeatSeen) → t ≡ s → Goes a b → IsUnwritten t b c → IsUnwritten s a c
+pub unwritten_on : (s t : State) (a b c : SeatSeen) → t ≡ s → Only (λ e. IsEviction e.event) a b → IsUnwritten t b c
+    → IsUnwritten s a c
 unwritten_on s t a b c same p (inl none) = inl (subst NothingToWrite same none)
-unwritten_on s t a b c same p (inr fails) = inr (fails_since a b c p fails)
+unwritten_on s t a b c same p (inr fails) =
+    inr (fails_on a b c (only_wider (λ e. IsEviction e.event) (λ e. IsRoomTry e.event) a b (λ e. evicts_try e.event) p) fails)
 
 pub none_unwritten : (s : State) (a c : SeatSeen) → NothingToWrite s → IsUnwritten s a c
 none_unwritten s a c none = inl none
 
 -- the page that was begun in b was not written
-pub write_unwritten : (s : State) (a b c : SeatSeen) (written busy : Bool) → Goes a b
-    → (written ≡ false → FailsToWrite (length b.list) b c) → (written || busy) ≡ false → IsUnwritten s a c
-write_unwritten s a b c true busy p q e = absurd cc
-write_unwritten s a b c false busy p q e = inr (fails_since a b c p (q refl))
+pub write_unwritten : (job : Task) (slip : Slip) (old new : HeldSeen) (s : State) (a b c : SeatSeen)
+    → Writes job slip old new a b → FailsToWrite b c → IsUnwritten s a c
+write_unwritten job slip old new s a b c w fails =
+    inr (fails_on a b c
+    (only_by (λ e. IsRoomTry e.event) (event.FlushBegin w.file) (reply.Job (record { 0 = job.serial })) old new a b slip tt
+    w.made) fails)
 
 -- ---- no page is idle
 
@@ -214,7 +237,7 @@ evict_none None n x y z a b c first slip m q e =
 lost_by : (sizes : Sizes) (name : ℕ) (e : Event) (why : Refusal) (old new : HeldSeen) (before at after : SeatSeen) (slip : Slip)
     → IsTrue (is_geometry sizes) → IsAsked e → wants_room why ≡ true → Made e (reply.Refused why) old new before at slip
     → After sizes name new.log.history new.core.state → IsCrammed why new.core.state → IsUnwritten new.core.state at after
-    → Goes at after → IsRoomLost sizes name why before after slip
+    → Goes at after → IsRoomLost sizes name why after slip
 lost_by sizes name e why old new before at after slip geometry asked wants m legal crammed unwritten goes =
     let entry : Entry = entry_of before.number e (reply.Refused why) in
     let long : length at.list ≡ slip.place + 1 =
@@ -229,16 +252,19 @@ lost_by sizes name e why old new before at after slip geometry asked wants m leg
       seen = omega (arith, long, more);
       leaves = subst (λ l. After sizes name l new.core.state) (sym (there ∙ m.entered.sees)) legal;
       crammed = crammed;
-      failed = since (omega (arith, long)) unwritten;
+      there =
+          has_to_write sizes name new.log.history old.core.state new.core.state e why geometry asked wants m.step legal crammed.0
+          crammed.1;
+      at = at;
+      stood = sym there;
+      failed = since unwritten;
     }
   where
-    since : slip.place + 1 ≤ length at.list → IsUnwritten new.core.state at after → FailsToWrite (slip.place + 1) before after
-    since less (inl none) =
+    since : IsUnwritten new.core.state at after → FailsToWrite at after
+    since (inl none) =
         absurd (has_to_write sizes name new.log.history old.core.state new.core.state e why geometry asked wants m.step legal
         crammed.0 crammed.1 none)
-    since less (inr fails) =
-        fails_on (length at.list) (slip.place + 1) before at after less (goes_by e (reply.Refused why) old new before at slip m)
-        fails
+    since (inr fails) = fails
 
 -- an event was refused, and it stands if the cache is crammed
 pub lost_denied : (sizes : Sizes) (name : ℕ) (e : Event) (old new : HeldSeen) (before at after : SeatSeen) (first d : Denied)
@@ -246,17 +272,17 @@ pub lost_denied : (sizes : Sizes) (name : ℕ) (e : Event) (old new : HeldSeen) 
     → After sizes name new.log.history new.core.state → Goes at after
     → (wants_room d.refusal ≡ true
     → (d ≡ first) × IsCrammed d.refusal new.core.state × IsUnwritten new.core.state at after)
-    → IsLost sizes name before after d
+    → IsLost sizes name after d
 lost_denied sizes name e old new before at after first d geometry asked q legal goes f = λ wants.
     let k = f wants in
     let there = go first.refusal first.slip q (subst (λ (x : Denied). wants_room x.refusal ≡ true) k.0 wants)
     (subst (λ (x : Denied). IsCrammed x.refusal new.core.state) k.0 k.1) k.2 in
-    subst (λ (x : Denied). (slip : Slip) × (x.slip ≡ Some slip) × IsRoomLost sizes name x.refusal before after slip) (sym k.0)
+    subst (λ (x : Denied). (slip : Slip) × (x.slip ≡ Some slip) × IsRoomLost sizes name x.refusal after slip) (sym k.0)
     there
   where
     go : (r : Refusal) (o : Option Slip) → under.DeniedBy e old new before at r o → wants_room r ≡ true
         → IsCrammed r new.core.state → IsUnwritten new.core.state at after
-        → (slip : Slip) × (o ≡ Some slip) × IsRoomLost sizes name r before after slip
+        → (slip : Slip) × (o ≡ Some slip) × IsRoomLost sizes name r after slip
     go r None q wants crammed unwritten =
         let other : wants_room r ≡ false = subst (λ (x : Refusal). wants_room x ≡ false) (sym q.0) refl in absurd cc
     go r (Some slip) q wants crammed unwritten = (
@@ -265,16 +291,116 @@ lost_denied sizes name e old new before at after first d geometry asked q legal 
       lost_by sizes name e r old new before at after slip geometry asked wants q legal crammed unwritten goes,
     )
 
--- a part of a call was refused so
-pub lost_on : (sizes : Sizes) (name : ℕ) (a b c : SeatSeen) (d : Denied) → Goes a b → IsLost sizes name b c d
-    → IsLost sizes name a c d
-lost_on sizes name a b c d p q = λ wants. let k = q wants in (k.0, k.1, go k.0 k.2)
+-- ---- no request is in flight at the entry of a refusal that may pass when one ends
+
+pub not_passing : (for_now busy : Bool) → (for_now && busy) ≡ false → for_now ≡ true → busy ≡ false
+not_passing true busy e is = e
+not_passing false busy e is = absurd cc
+
+pub final_lasting : (sizes : Sizes) (name : ℕ) (after : SeatSeen) (d : Denied) → is_for_now d.refusal ≡ false
+    → IsFinal sizes name after d
+final_lasting sizes name after d lasts passes = absurd cc
+
+-- an end is refused a stranger alone; to age and to evict are not refused
+stranger_lasts : (here : Bool) (why : Refusal) → cond here None (refuse Stranger) ≡ Some (reply.Refused why)
+    → is_for_now why ≡ false
+stranger_lasts true why e = absurd cc
+stranger_lasts false why e = let is : Stranger ≡ why = cc in subst (λ (x : Refusal). is_for_now x ≡ false) is refl
+
+pub end_final : (sizes : Sizes) (name : ℕ) (kind : Kind) (end : End) (old new : HeldSeen) (before after : SeatSeen) (d : Denied)
+    → under.IsDenied (event.End kind end) old new before after d → IsFinal sizes name after d
+end_final sizes name kind end old new before after d q = final_lasting sizes name after d (go d.refusal d.slip q)
   where
-    go : (slip : Slip) → IsRoomLost sizes name d.refusal b c slip → IsRoomLost sizes name d.refusal a c slip
-    go slip k = record {
-      state = k.state;
-      seen = k.seen;
-      leaves = k.leaves;
-      crammed = k.crammed;
-      failed = fails_on (slip.place + 1) (slip.place + 1) a b c (omega arith) p k.failed;
+    go : (r : Refusal) (o : Option Slip) → under.DeniedBy (event.End kind end) old new before after r o → is_for_now r ≡ false
+    go r None q = subst (λ (x : Refusal). is_for_now x ≡ false) (sym q.0) refl
+    go r (Some slip) q =
+        let s = old.core.state in
+        elim (answered (tests s (event.End kind end)) s (event.End kind end) (reply.Refused r) new.core.state q.step) [
+          | inl a ↦ stranger_lasts (end.cache == s.name && is_of kind end (map.get s.requests end.serial.0)) r a.0
+          | inr a ↦ absurd (end_taken s kind end r new.core.state q.step a.0)
+        ]
+
+pub age_final : (sizes : Sizes) (name : ℕ) (old new : HeldSeen) (before after : SeatSeen) (d : Denied)
+    → under.IsDenied event.Age old new before after d → IsFinal sizes name after d
+age_final sizes name old new before after d q = final_lasting sizes name after d (go d.refusal d.slip q)
+  where
+    go : (r : Refusal) (o : Option Slip) → under.DeniedBy event.Age old new before after r o → is_for_now r ≡ false
+    go r None q = subst (λ (x : Refusal). is_for_now x ≡ false) (sym q.0) refl
+    go r (Some slip) q = absurd q.step.0
+
+pub evict_final : (sizes : Sizes) (name : ℕ) (old new : HeldSeen) (before after : SeatSeen) (d : Denied)
+    → under.IsDenied event.Evict old new before after d → IsFinal sizes name after d
+evict_final sizes name old new before after d q = final_lasting sizes name after d (go d.refusal d.slip q)
+  where
+    go : (r : Refusal) (o : Option Slip) → under.DeniedBy event.Evict old new before after r o → is_for_now r ≡ false
+    go r None q = subst (λ (x : Refusal). is_for_now x ≡ false) (sym q.0) refl
+    go r (Some slip) q =
+        elim (answered (tests old.core.state event.Evict) old.core.state event.Evict (reply.Refused r) new.core.state q.step) [
+          | inl a ↦ absurd (never_refused (has_idle old.core.state) r a.0)
+          | inr a ↦ absurd a.1
+        ]
+
+-- nor does the end of a request lift the refusal of a read
+pub read_final : (sizes : Sizes) (name : ℕ) (h : HandleId) (o n : ℕ) (old new : HeldSeen) (before after : SeatSeen) (d : Denied)
+    → under.IsDenied (event.Read h o n) old new before after d → IsFinal sizes name after d
+read_final sizes name h o n old new before after d q =
+    final_lasting sizes name after d (read_lasts h o n old new before after d q)
+
+at_rest : (sizes : Sizes) (name : ℕ) (e : Event) (why : Refusal) (old new : HeldSeen) (before at after : SeatSeen) (slip : Slip)
+    → Made e (reply.Refused why) old new before at slip → After sizes name new.log.history new.core.state
+    → is_busy new.core.state ≡ false → Goes at after → IsAtRest sizes name after slip
+at_rest sizes name e why old new before at after slip m legal rests goes =
+    let entry : Entry = entry_of before.number e (reply.Refused why) in
+    let long : length at.list ≡ slip.place + 1 =
+    ap length (m.entered.sees ∙ m.entered.history) ∙ length_push old.log.history entry
+    ∙ ap (λ n. n + 1) (sym m.entered.placed.1) in
+    let there : take (slip.place + 1) after.list ≡ at.list =
+    ap (take (slip.place + 1)) (sym goes.grows.1) ∙ take-append-le (slip.place + 1) at.list goes.grows.0 (omega (arith, long))
+    ∙ take_all (slip.place + 1) at.list (omega (arith, long)) in
+    let more : length at.list ≤ length after.list = prefix_length at.list after.list goes.grows in
+    record {
+      state = new.core.state;
+      seen = omega (arith, long, more);
+      leaves = subst (λ l. After sizes name l new.core.state) (sym (there ∙ m.entered.sees)) legal;
+      rests = rests;
     }
+
+-- an event was refused, and that stands if no request is in flight
+pub final_denied : (sizes : Sizes) (name : ℕ) (e : Event) (old new : HeldSeen) (before at after : SeatSeen) (first d : Denied)
+    → under.IsDenied e old new before at first → After sizes name new.log.history new.core.state → Goes at after
+    → IsFinalOr first sizes name new.core.state after d → IsFinal sizes name after d
+final_denied sizes name e old new before at after first d q legal goes (inr final) = final
+final_denied sizes name e old new before at after first d q legal goes (inl k) = λ passes.
+    let there = go first.refusal first.slip q (subst (λ (x : Denied). is_for_now x.refusal ≡ true) k.0 passes) (k.1 passes) in
+    subst (λ (x : Denied). (slip : Slip) × (x.slip ≡ Some slip) × IsAtRest sizes name after slip) (sym k.0) there
+  where
+    go : (r : Refusal) (o : Option Slip) → under.DeniedBy e old new before at r o → is_for_now r ≡ true
+        → is_busy new.core.state ≡ false → (slip : Slip) × (o ≡ Some slip) × IsAtRest sizes name after slip
+    go r None q passes rests =
+        let other : is_for_now r ≡ false = subst (λ (x : Refusal). is_for_now x ≡ false) (sym q.0) refl in absurd cc
+    go r (Some slip) q passes rests = (
+      slip,
+      refl,
+      at_rest sizes name e r old new before at after slip q legal rests goes,
+    )
+
+-- the first file to write was refused, in the hold that says whether a request is in flight
+pub first_final : (sizes : Sizes) (name : ℕ) (old new : HeldSeen) (before at : SeatSeen) (first d : Denied)
+    → IsFirstDenied old new before at first → After sizes name new.log.history new.core.state → d ≡ first
+    → (is_for_now first.refusal ≡ true → is_busy new.core.state ≡ false) → IsFinal sizes name at d
+first_final sizes name old new before at first d q legal same rests =
+    final_denied sizes name (event.FlushBegin q.file) old new before at at first d q.denied legal (goes_same at at refl)
+    (inl (same, λ passes. rests (subst (λ (x : Denied). is_for_now x.refusal ≡ true) same passes)))
+
+pub stands_by : (sizes : Sizes) (name : ℕ) (s : State) (after : SeatSeen) (first d : Denied) → d ≡ first
+    → (is_for_now first.refusal ≡ true → is_busy s ≡ false) → IsFinalOr first sizes name s after d
+stands_by sizes name s after first d same rests =
+    inl (same, λ passes. rests (subst (λ (x : Denied). is_for_now x.refusal ≡ true) same passes))
+
+pub stands_still : (sizes : Sizes) (name : ℕ) (s : State) (after : SeatSeen) (first : Denied) → is_busy s ≡ false
+    → IsFinalOr first sizes name s after first
+stands_still sizes name s after first rests = inl (refl, λ passes. rests)
+
+pub stands_other : (sizes : Sizes) (name : ℕ) (s : State) (after : SeatSeen) (first d : Denied) → IsFinal sizes name after d
+    → IsFinalOr first sizes name s after d
+stands_other sizes name s after first d final = inr final

@@ -1,15 +1,17 @@
 -- Refusals for want of room.
-use Rattle.std.specs.Prelude.{◌≡◌, ◌⊎◌, ◌+◌, ◌<◌, ◌≤◌, ℕ, Bool, true, false, length, take, Some}
+use Rattle.std.specs.Prelude.{◌≡◌, ◌⊎◌, ◌+◌, ◌<◌, ℕ, Bool, true, false, length, take, Some}
 use Rattle.cachecore.specs.Wants.{NothingToWrite}
 use Rattle.cachecore.specs.declared.answers.Ended.{Ended}
 use Rattle.cachecore.specs.declared.answers.Ended.TheVariants as ended
 use Rattle.held.specs.declared.log.Slip.{Slip}
 use Rattle.held.specs.Shown.{SeatSeen}
+use Rattle.locked.specs.Called.{Only}
 use Rattle.locked.specs.declared.denied.Denied.{Denied}
 use Rattle.locked.specs.Flights.{is_busy}
 use Rattle.machine.specs.State.{State}
 use Rattle.machine.specs.Tests.{has_idle}
 use Rattle.machine.specs.declared.event.End.{End}
+use Rattle.machine.specs.declared.event.Event.{Event}
 use Rattle.machine.specs.declared.event.Event.TheVariants as event
 use Rattle.machine.specs.declared.event.Reply.TheVariants as reply
 use Rattle.pc_types.specs.Limits.{Sizes}
@@ -17,7 +19,8 @@ use Rattle.pc_types.specs.declared.kind.Kind.TheVariants.{Flush}
 use Rattle.pc_types.specs.declared.refusal.Refusal.{Refusal}
 use Rattle.pc_types.specs.declared.refusal.Refusal.TheVariants.{DirtyLimit, NoFrame}
 use Rattle.trail.specs.History.{After}
-use Rattle.shared.specs.Called.{Makes}
+use Rattle.shared.specs.Called.{Makes, is_for_now}
+use Rattle.shared.specs.Own.{IsEviction}
 
 -- more room might have spared it
 abbrev pub wants_room : Refusal → Bool
@@ -34,29 +37,58 @@ abbrev pub is_written : Ended → Bool
 is_written (ended.Failed code b) = false
 is_written a = true
 
--- the seat made the end of a write, which failed, at this place or past it
-pub record FailsToWrite (place : ℕ) (before after : SeatSeen) : Type 0 where
+-- to let a page go, or to begin a write
+abbrev pub IsRoomTry : Event → Type 0
+IsRoomTry (event.FlushBegin f) = Unit {0}
+IsRoomTry e = IsEviction e
+
+-- the last event that the seat made is the end of a write, which failed; before it the seat let pages go and began a write
+pub record FailsToWrite (before after : SeatSeen) : Type 0 where
+  pub at : SeatSeen
+  pub tried : Only (λ e. IsRoomTry e.event) before at
   pub end : End
   pub code : ℕ
   pub slip : Slip
-  pub later : place ≤ slip.place
-  pub made : Makes before after slip (event.End Flush end) (reply.Failed code)
+  pub made : Makes at after slip (event.End Flush end) (reply.Failed code)
+  pub last : Only (λ _. Unit {0}) at after
+  pub one : after.count ≡ at.count + 1
 
--- no file has a page to write; or the seat ended the write of one since, which failed
+-- no file has a page to write; or the seat began to write one, and that failed
 abbrev pub IsUnwritten : State → SeatSeen → SeatSeen → Type 0
-IsUnwritten s before after = NothingToWrite s ⊎ FailsToWrite (length before.list) before after
+IsUnwritten s before after = NothingToWrite s ⊎ FailsToWrite before after
 
 -- the history up to the slip's entry leaves the cache so, and a page to write was there still: past that entry the call wrote
--- one back itself, and that write failed
-pub record IsRoomLost (sizes : Sizes) (name : ℕ) (why : Refusal) (before after : SeatSeen) (slip : Slip) : Type 0 where
+-- one back itself, that write failed, and the call did nothing more
+pub record IsRoomLost (sizes : Sizes) (name : ℕ) (why : Refusal) (after : SeatSeen) (slip : Slip) : Type 0 where
   pub state : State
   pub seen : slip.place < length after.list
   pub leaves : After sizes name (take (slip.place + 1) after.list) state
   pub crammed : IsCrammed why state
-  pub failed : FailsToWrite (slip.place + 1) before after
+  pub there : NothingToWrite state → ⊥
+  -- the seat when it was refused
+  pub at : SeatSeen
+  pub stood : at.list ≡ take (slip.place + 1) after.list
+  pub failed : FailsToWrite at after
 
 -- a call is refused for want of room by such an entry alone
-abbrev pub IsLost : Sizes → ℕ → SeatSeen → SeatSeen → Denied → Type 0
-IsLost sizes name before after d =
+abbrev pub IsLost : Sizes → ℕ → SeatSeen → Denied → Type 0
+IsLost sizes name after d =
     wants_room d.refusal ≡ true
-    → (slip : Slip) × (d.slip ≡ Some slip) × IsRoomLost sizes name d.refusal before after slip
+    → (slip : Slip) × (d.slip ≡ Some slip) × IsRoomLost sizes name d.refusal after slip
+
+-- the history up to the slip's entry leaves no request in flight
+pub record IsAtRest (sizes : Sizes) (name : ℕ) (after : SeatSeen) (slip : Slip) : Type 0 where
+  pub state : State
+  pub seen : slip.place < length after.list
+  pub leaves : After sizes name (take (slip.place + 1) after.list) state
+  pub rests : is_busy state ≡ false
+
+-- a refusal that may pass when a request ends is of an entry at which none was in flight
+abbrev pub IsFinal : Sizes → ℕ → SeatSeen → Denied → Type 0
+IsFinal sizes name after d =
+    is_for_now d.refusal ≡ true → (slip : Slip) × (d.slip ≡ Some slip) × IsAtRest sizes name after slip
+
+-- the refusal stands, and none is in flight in this state if it may pass when one ends; or making room was refused
+abbrev pub IsFinalOr : Denied → Sizes → ℕ → State → SeatSeen → Denied → Type 0
+IsFinalOr first sizes name s after d =
+    ((d ≡ first) × (is_for_now d.refusal ≡ true → is_busy s ≡ false)) ⊎ IsFinal sizes name after d

@@ -8,7 +8,7 @@ ghost use Rattle.pc_types.specs.declared.refusal.Refusal.TheVariants.{BadHandle,
 ghost use Rattle.locked.specs.Called.{Goes, Once, Only};
 ghost use Rattle.shared.specs.Called.{Makes, Retries};
 ghost use Rattle.shared.specs.Denials.{IsDenied};
-ghost use Rattle.shared.specs.Rooms.{IsLost};
+ghost use Rattle.shared.specs.Rooms.{IsFinal, IsLost};
 ghost use Rattle.shared.specs.Own.{IsCallOf, IsTry, count_in};
 
 use crate::cache::SharedCache;
@@ -40,10 +40,11 @@ impl<B: Naming, D: BlockDevice, T: Trail> SharedCache<B, D, T> {
         ensures once { IfOk result (λ _. Once (IsTry handle.old.number (event.Read handle.old.number handle.old.cursor (length out.old))) seat.old seat.new) }
         ensures answer { IfOk result (λ r. Makes seat.old seat.new r.1 (event.Read handle.old.number handle.old.cursor (length out.old)) (reply.Bytes (take r.0 out.new))) }
         ensures denied { seat.old.name ≡ self.now.name → handle.old.cache ≡ self.now.name → IfErr result (IsDenied (IsCallOf handle.old.number (event.Read handle.old.number handle.old.cursor (length out.old))) seat.old seat.new) }
-        ensures lost { IfErr result (IsLost B.sizes self.now.name seat.old seat.new) }
+        ensures lost { IfErr result (IsLost B.sizes self.now.name seat.new) }
         ensures count { IfOk result (λ r. r.0 ≤ length out.old) }
         ensures rest { drop (count_in result) out.new ≡ drop (count_in result) out.old }
         ensures cursor { handle.new ≡ record handle.old { cursor = handle.old.cursor + count_in result } }
+        ensures stands { IfErr result (IsFinal B.sizes self.now.name seat.new) }
     {
         match self.pread(rt, seat, handle, handle.cursor, out) {
             Ok((count, slip)) => {
@@ -56,7 +57,7 @@ impl<B: Naming, D: BlockDevice, T: Trail> SharedCache<B, D, T> {
 
     /// Reads the bytes from `offset` on into the front of `out`, and answers how many: as many as it takes, and none past the end of
     /// the file. A read touches 16 pages at most.
-    #[tactic(auto, using(locked::proofs::Seats::goes_by, locked::proofs::Seats::goes_on, locked::proofs::Seats::goes_same, crate::proofs::Making::goes_denied, crate::proofs::Making::makes_on, crate::proofs::Making::call_on, locked::proofs::Seats::only_same, crate::proofs::Owning::only_try_on, crate::proofs::Owning::once_try_on, crate::proofs::Rooming::lost_on))]
+    #[tactic(auto, using(locked::proofs::Seats::goes_by, locked::proofs::Seats::goes_on, locked::proofs::Seats::goes_same, crate::proofs::Making::goes_denied, crate::proofs::Making::makes_on, crate::proofs::Making::call_on, locked::proofs::Seats::only_same, crate::proofs::Owning::only_try_on, crate::proofs::Owning::once_try_on))]
     pub fn pread<R: Wait>(
         &self,
         rt: &R,
@@ -73,10 +74,11 @@ impl<B: Naming, D: BlockDevice, T: Trail> SharedCache<B, D, T> {
         ensures once { IfOk result (λ _. Once (IsTry handle.now.number (event.Read handle.now.number offset (length out.old))) seat.old seat.new) }
         ensures answer { IfOk result (λ r. Makes seat.old seat.new r.1 (event.Read handle.now.number offset (length out.old)) (reply.Bytes (take r.0 out.new))) }
         ensures denied { seat.old.name ≡ self.now.name → handle.now.cache ≡ self.now.name → IfErr result (IsDenied (IsCallOf handle.now.number (event.Read handle.now.number offset (length out.old))) seat.old seat.new) }
-        ensures lost { IfErr result (IsLost B.sizes self.now.name seat.old seat.new) }
+        ensures lost { IfErr result (IsLost B.sizes self.now.name seat.new) }
         ensures count { IfOk result (λ r. r.0 ≤ length out.old) }
         ensures rest { drop (count_in result) out.new ≡ drop (count_in result) out.old }
         ensures within { offset ≤ MAX_FILE_SIZE → offset + count_in result ≤ MAX_FILE_SIZE }
+        ensures stands { IfErr result (IsFinal B.sizes self.now.name seat.new) }
     {
         if let Err(refusal) = self.admits(seat, handle) {
             return Err(without_slip(refusal));
@@ -93,7 +95,7 @@ impl<B: Naming, D: BlockDevice, T: Trail> SharedCache<B, D, T> {
 
     /// One attempt to read. Where a page is missing it is filled, where one is filling the end of a request is waited for, and nothing
     /// is answered.
-    #[tactic(auto, using(locked::proofs::Seats::goes_by, locked::proofs::Seats::goes_on, locked::proofs::Seats::goes_same, crate::proofs::Making::goes_denied, crate::proofs::Making::makes_by, crate::proofs::Making::call_first, crate::proofs::Making::call_help, locked::proofs::Seats::once_by, crate::proofs::Owning::only_try_denied, crate::proofs::Rooming::lost_on))]
+    #[tactic(auto, using(locked::proofs::Seats::goes_by, locked::proofs::Seats::goes_on, locked::proofs::Seats::goes_same, crate::proofs::Making::goes_denied, crate::proofs::Making::makes_by, crate::proofs::Making::call_first, crate::proofs::Making::call_help, locked::proofs::Seats::once_by, crate::proofs::Owning::only_try_denied, crate::proofs::Rooming::read_final))]
     fn try_read<R: Wait>(
         &self,
         rt: &R,
@@ -109,13 +111,14 @@ impl<B: Naming, D: BlockDevice, T: Trail> SharedCache<B, D, T> {
         ensures once { IfOk result (λ o. IfSome o (λ _. Once (IsTry handle (event.Read handle offset (length out.old))) seat.old seat.new)) }
         ensures answer { IfOk result (λ o. IfSome o (λ r. Makes seat.old seat.new r.1 (event.Read handle offset (length out.old)) (reply.Bytes (take r.0 out.new)))) }
         ensures denied { IfErr result (IsDenied (IsCallOf handle (event.Read handle offset (length out.old))) seat.old seat.new) }
-        ensures lost { IfErr result (IsLost B.sizes B.name seat.old seat.new) }
+        ensures lost { IfErr result (IsLost B.sizes B.name seat.new) }
         ensures count { IfOk result (λ o. IfSome o (λ r. r.0 ≤ length out.old)) }
         ensures rest { IfOk result (λ o. IfSome o (λ r. drop r.0 out.new ≡ drop r.0 out.old)) }
         ensures within { IfOk result (λ o. IfSome o (λ r. offset ≤ MAX_FILE_SIZE → offset + r.0 ≤ MAX_FILE_SIZE)) }
         ensures same { IfOk result (λ o. IfNone o (out.new ≡ out.old)) }
         ensures kept { IfErr result (λ _. out.new ≡ out.old) }
         ensures again { IfOk result (λ o. IfNone o (Retries seat.old seat.new (event.Read handle offset (length out.old)))) }
+        ensures stands { IfErr result (IsFinal B.sizes B.name seat.new) }
     {
         let most = out.len() as u64;
         let mut guard = self.state.lock(rt);

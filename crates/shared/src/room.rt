@@ -12,7 +12,7 @@ ghost use Rattle.trail.specs.History.{After};
 ghost use Rattle.shared.specs.Called.{is_for_now};
 ghost use Rattle.shared.specs.Denials.{IsDenied};
 ghost use Rattle.shared.specs.Own.{IsEviction, IsHelp, IsRoomEvent, IsStillDenied};
-ghost use Rattle.shared.specs.Rooms.{FailsToWrite, IsCrammed, IsLost, IsUnwritten, is_written, wants_room};
+ghost use Rattle.shared.specs.Rooms.{FailsToWrite, IsCrammed, IsFinal, IsFinalOr, IsLost, IsUnwritten, is_written, wants_room};
 ghost use Rattle.shared.specs.Synced.{IsFlushEnd};
 ghost use Rattle.shared.specs.Workers.{LetsGo};
 ghost use Rattle.shared.specs.declared.room.Want.TheVariants.{Frames};
@@ -41,7 +41,7 @@ pub(crate) struct Span {
 impl<B: Naming, D: BlockDevice, T: Trail> SharedCache<B, D, T> {
     /// Fills a page that a call on this span of bytes lacks. First room is made for all pages that it lacks: made for this one alone
     /// it could cost the call another of its pages.
-    #[tactic(auto, using(locked::proofs::Seats::goes_by, locked::proofs::Seats::goes_on, locked::proofs::Seats::goes_same, crate::proofs::Making::goes_denied, crate::proofs::Making::help_room, crate::proofs::Making::help_on, crate::proofs::Owning::only_room, crate::proofs::Owning::only_filled, crate::proofs::Rooming::lost_unwanted, crate::proofs::Rooming::lost_on))]
+    #[tactic(auto, using(locked::proofs::Seats::goes_by, locked::proofs::Seats::goes_on, locked::proofs::Seats::goes_same, crate::proofs::Making::goes_denied, crate::proofs::Making::help_room, crate::proofs::Making::help_on, crate::proofs::Owning::only_room, crate::proofs::Owning::only_filled, crate::proofs::Rooming::lost_unwanted))]
     pub(crate) fn fill<R: Wait>(
         &self,
         rt: &R,
@@ -53,7 +53,8 @@ impl<B: Naming, D: BlockDevice, T: Trail> SharedCache<B, D, T> {
         ensures goes { Goes seat.old seat.new }
         ensures only { Only (λ e. IsHelp span.handle e.event) seat.old seat.new }
         ensures denied { IfErr result (IsDenied (IsHelp span.handle) seat.old seat.new) }
-        ensures lost { IfErr result (IsLost B.sizes B.name seat.old seat.new) }
+        ensures lost { IfErr result (IsLost B.sizes B.name seat.new) }
+        ensures stands { IfErr result (IsFinal B.sizes B.name seat.new) }
     {
         if let Err(denied) = self.make_way(rt, seat, span) {
             return Err(denied);
@@ -62,7 +63,7 @@ impl<B: Naming, D: BlockDevice, T: Trail> SharedCache<B, D, T> {
     }
 
     /// Fills a page. Where it is refused for want of room some is made, or the end of a request waited for.
-    #[tactic(auto, using(locked::proofs::Seats::goes_by, locked::proofs::Seats::goes_on, locked::proofs::Seats::goes_same, crate::proofs::Making::goes_denied, crate::proofs::Making::denied_begin, crate::proofs::Making::help_on, locked::proofs::Seats::only_same, crate::proofs::Owning::only_fill_begin, crate::proofs::Owning::only_fill_begin_denied, crate::proofs::Owning::only_begun_on, crate::proofs::Rooming::lost_unwanted, crate::proofs::Making::help_settled, crate::proofs::Owning::only_relieved))]
+    #[tactic(auto, using(locked::proofs::Seats::goes_by, locked::proofs::Seats::goes_on, locked::proofs::Seats::goes_same, crate::proofs::Making::goes_denied, crate::proofs::Making::denied_begin, crate::proofs::Making::help_on, locked::proofs::Seats::only_same, crate::proofs::Owning::only_fill_begin, crate::proofs::Owning::only_fill_begin_denied, crate::proofs::Owning::only_begun_on, crate::proofs::Rooming::lost_unwanted, crate::proofs::Making::help_settled, crate::proofs::Owning::only_relieved, crate::proofs::Rooming::final_lasting))]
     fn fill_once<R: Wait>(
         &self,
         rt: &R,
@@ -74,7 +75,8 @@ impl<B: Naming, D: BlockDevice, T: Trail> SharedCache<B, D, T> {
         ensures goes { Goes seat.old seat.new }
         ensures only { Only (λ e. IsHelp handle e.event) seat.old seat.new }
         ensures denied { IfErr result (IsDenied (IsHelp handle) seat.old seat.new) }
-        ensures lost { IfErr result (IsLost B.sizes B.name seat.old seat.new) }
+        ensures lost { IfErr result (IsLost B.sizes B.name seat.new) }
+        ensures stands { IfErr result (IsFinal B.sizes B.name seat.new) }
     {
         let buffer = match Buffer::new(self.alloc, &self.geometry) {
             Ok(buffer) => buffer,
@@ -93,7 +95,7 @@ impl<B: Naming, D: BlockDevice, T: Trail> SharedCache<B, D, T> {
     }
 
     /// Makes the device call of a fill, without the state's lock, and ends the fill.
-    #[tactic(auto, using(locked::proofs::Seats::goes_by, locked::proofs::Seats::goes_on, locked::proofs::Seats::goes_same, crate::proofs::Making::goes_denied, crate::proofs::Making::denied_end, crate::proofs::Making::failed_end, crate::proofs::Owning::only_fill_end, crate::proofs::Owning::only_fill_end_denied, crate::proofs::Rooming::end_unwanted))]
+    #[tactic(auto, using(locked::proofs::Seats::goes_by, locked::proofs::Seats::goes_on, locked::proofs::Seats::goes_same, crate::proofs::Making::goes_denied, crate::proofs::Making::denied_end, crate::proofs::Making::failed_end, crate::proofs::Owning::only_fill_end, crate::proofs::Owning::only_fill_end_denied, crate::proofs::Rooming::end_unwanted, crate::proofs::Rooming::end_final))]
     fn fill_by<R: Wait>(
         &self,
         rt: &R,
@@ -107,6 +109,7 @@ impl<B: Naming, D: BlockDevice, T: Trail> SharedCache<B, D, T> {
         ensures only { Only (λ e. IsHelp handle e.event) seat.old seat.new }
         ensures denied { IfErr result (IsDenied (IsHelp handle) seat.old seat.new) }
         ensures unwanted { IfErr result (λ d. wants_room d.refusal ≡ false) }
+        ensures stands { IfErr result (IsFinal B.sizes B.name seat.new) }
     {
         let finished = self.disk.lock(rt).carry_out(job);
         let ended = self.state.lock(rt).fill_end(seat, finished);
@@ -135,6 +138,7 @@ impl<B: Naming, D: BlockDevice, T: Trail> SharedCache<B, D, T> {
         ensures only { Only (λ e. IsRoomEvent e.event) seat.old seat.new }
         ensures denied { IfErr result (IsDenied IsRoomEvent seat.old seat.new) }
         ensures unwanted { IfErr result (λ d. wants_room d.refusal ≡ false) }
+        ensures stands { IfErr result (IsFinal B.sizes B.name seat.new) }
     {
         'turns: for _ in rt.forever() {
             let guard = self.state.lock(rt);
@@ -152,7 +156,7 @@ impl<B: Naming, D: BlockDevice, T: Trail> SharedCache<B, D, T> {
 
     /// What comes of an event that was refused, in the hold that refused it: where it wanted room, some is made, or the end of a request
     /// waited for. The refusal stands where none can be made, and where it is of another kind.
-    #[tactic(auto, using(locked::proofs::Seats::goes_same, crate::proofs::Making::goes_denied, locked::proofs::Seats::only_same, crate::proofs::Rooming::wants_pass))]
+    #[tactic(auto, using(locked::proofs::Seats::goes_same, crate::proofs::Making::goes_denied, locked::proofs::Seats::only_same, crate::proofs::Rooming::wants_pass, crate::proofs::Rooming::stands_by, crate::proofs::Rooming::stands_still, crate::proofs::Rooming::stands_other))]
     pub(crate) fn relieve<R: Wait>(
         &self,
         rt: &R,
@@ -168,6 +172,7 @@ impl<B: Naming, D: BlockDevice, T: Trail> SharedCache<B, D, T> {
         ensures crammed { IfErr result (λ d. wants_room d.refusal ≡ true → (d ≡ denied) × IsCrammed d.refusal (mutex_guard_value guard.entry).core.state × IsUnwritten (mutex_guard_value guard.entry).core.state seat.old seat.new) }
         ensures legal { After B.sizes B.name (mutex_guard_value guard.entry).log.history (mutex_guard_value guard.entry).core.state }
         ensures within { IsTrue (is_geometry B.sizes) }
+        ensures stands { IfErr result (IsFinalOr denied B.sizes B.name (mutex_guard_value guard.entry).core.state seat.new) }
     {
         // Lend that the history is legal, and that the sizes are within their limits.
         let _ = guard.core();
@@ -201,6 +206,7 @@ impl<B: Naming, D: BlockDevice, T: Trail> SharedCache<B, D, T> {
         ensures still { IfOk result (λ made. made ≡ false → is_busy (mutex_guard_value guard.entry).core.state ≡ false) }
         ensures unwritten { IfOk result (λ made. made ≡ false → IsUnwritten (mutex_guard_value guard.entry).core.state seat.old seat.new) }
         ensures idle { IfOk result (λ made. made ≡ false → want ≡ Frames → has_idle (mutex_guard_value guard.entry).core.state ≡ false) }
+        ensures stands { IfErr result (IsFinal B.sizes B.name seat.new) }
     {
         match want {
             Want::Frames => self.free_frame(rt, guard, seat),
@@ -224,6 +230,7 @@ impl<B: Naming, D: BlockDevice, T: Trail> SharedCache<B, D, T> {
         ensures still { IfOk result (λ made. made ≡ false → is_busy (mutex_guard_value guard.entry).core.state ≡ false) }
         ensures unwritten { IfOk result (λ made. made ≡ false → IsUnwritten (mutex_guard_value guard.entry).core.state seat.old seat.new) }
         ensures idle { IfOk result (λ made. made ≡ false → has_idle (mutex_guard_value guard.entry).core.state ≡ false) }
+        ensures stands { IfErr result (IsFinal B.sizes B.name seat.new) }
     {
         match evict_idle(&mut guard, seat) {
             Ok(true) => Ok(true),
@@ -234,7 +241,7 @@ impl<B: Naming, D: BlockDevice, T: Trail> SharedCache<B, D, T> {
 
     /// Writes a page back, of the first file that has one to write; or waits for the end of a request, where there is none to write or
     /// too many are in flight. Answers whether that was done; also where the write failed, if another request was in flight beside it.
-    #[tactic(auto, using(locked::proofs::Seats::goes_by, locked::proofs::Seats::goes_on, locked::proofs::Seats::goes_same, crate::proofs::Making::goes_denied, crate::proofs::Making::denied_first, crate::proofs::Making::room_on, locked::proofs::Seats::only_same, crate::proofs::Owning::only_first_denied, crate::proofs::Owning::only_written, crate::proofs::Rooming::first_unwanted, crate::proofs::Rooming::none_unwritten, crate::proofs::Rooming::write_unwritten))]
+    #[tactic(auto, using(locked::proofs::Seats::goes_by, locked::proofs::Seats::goes_on, locked::proofs::Seats::goes_same, crate::proofs::Making::goes_denied, crate::proofs::Making::denied_first, crate::proofs::Making::room_on, locked::proofs::Seats::only_same, crate::proofs::Owning::only_first_denied, crate::proofs::Owning::only_written, crate::proofs::Rooming::first_unwanted, crate::proofs::Rooming::none_unwritten, crate::proofs::Rooming::first_final, crate::proofs::Rooming::final_lasting))]
     fn flush_one<R: Wait>(
         &self,
         rt: &R,
@@ -248,6 +255,7 @@ impl<B: Naming, D: BlockDevice, T: Trail> SharedCache<B, D, T> {
         ensures unwanted { IfErr result (λ d. wants_room d.refusal ≡ false) }
         ensures still { IfOk result (λ made. made ≡ false → is_busy (mutex_guard_value guard.entry).core.state ≡ false) }
         ensures unwritten { IfOk result (λ made. made ≡ false → IsUnwritten (mutex_guard_value guard.entry).core.state seat.old seat.new) }
+        ensures stands { IfErr result (IsFinal B.sizes B.name seat.new) }
     {
         let was_busy = guard.is_busy();
         let buffer = match Buffer::new(self.alloc, &self.geometry) {
@@ -300,6 +308,7 @@ impl<B: Naming, D: BlockDevice, T: Trail> SharedCache<B, D, T> {
     }
 
     /// Waits for the end of a request, where one is in flight and the refusal may pass when it ends; else the refusal stands.
+    #[tactic(auto, using(crate::proofs::Rooming::not_passing))]
     pub(crate) fn wait_or<R: Wait>(
         &self,
         rt: &R,
@@ -308,7 +317,11 @@ impl<B: Naming, D: BlockDevice, T: Trail> SharedCache<B, D, T> {
     ) -> Result<(), Denied>
         ensures denied { IfErr result (λ d. d ≡ denied) }
         ensures passing { IfOk result (λ _. is_for_now denied.refusal ≡ true) }
+        ensures still { IfErr result (λ _. is_for_now denied.refusal ≡ true → is_busy (mutex_guard_value guard.entry).core.state ≡ false) }
+        ensures legal { After B.sizes B.name (mutex_guard_value guard.entry).log.history (mutex_guard_value guard.entry).core.state }
     {
+        // Lends that the history is legal.
+        let _ = guard.core();
         if !may_pass(&guard, denied.refusal) {
             return Err(denied);
         }
@@ -317,7 +330,7 @@ impl<B: Naming, D: BlockDevice, T: Trail> SharedCache<B, D, T> {
     }
 
     /// Makes the device call of a flush, without the state's lock, and ends the flush. Answers whether the page was written.
-    #[tactic(auto, using(locked::proofs::Seats::goes_by, locked::proofs::Seats::goes_on, locked::proofs::Seats::goes_same, crate::proofs::Making::goes_denied, crate::proofs::Making::denied_flush, crate::proofs::Syncing::flush_denied, crate::proofs::Owning::only_flush_end, crate::proofs::Owning::only_flush_end_denied, crate::proofs::Rooming::end_unwanted, crate::proofs::Rooming::failed_by))]
+    #[tactic(auto, using(locked::proofs::Seats::goes_by, locked::proofs::Seats::goes_on, locked::proofs::Seats::goes_same, crate::proofs::Making::goes_denied, crate::proofs::Making::denied_flush, crate::proofs::Syncing::flush_denied, crate::proofs::Owning::only_flush_end, crate::proofs::Owning::only_flush_end_denied, crate::proofs::Rooming::end_unwanted, crate::proofs::Rooming::failed_by, crate::proofs::Rooming::end_final))]
     pub(crate) fn flush_by<R: Wait>(
         &self,
         rt: &R,
@@ -331,7 +344,8 @@ impl<B: Naming, D: BlockDevice, T: Trail> SharedCache<B, D, T> {
         ensures denied { IfErr result (IsDenied IsRoomEvent seat.old seat.new) }
         ensures unwanted { IfErr result (λ d. wants_room d.refusal ≡ false) }
         ensures ended { IfErr result (IsDenied IsFlushEnd seat.old seat.new) }
-        ensures failed { IfOk result (λ written. written ≡ false → FailsToWrite (length seat.old.list) seat.old seat.new) }
+        ensures failed { IfOk result (λ written. written ≡ false → FailsToWrite seat.old seat.new) }
+        ensures stands { IfErr result (IsFinal B.sizes B.name seat.new) }
     {
         let finished = self.disk.lock(rt).carry_out(job);
         let ended = self.state.lock(rt).flush_end(seat, finished);
@@ -351,7 +365,7 @@ fn is_written(ended: &Ended) -> bool
 }
 
 /// Lets pages age, and then an idle one go. Answers whether there was one.
-#[tactic(auto, using(locked::proofs::Seats::goes_by, locked::proofs::Seats::goes_on, locked::proofs::Seats::goes_same, crate::proofs::Making::goes_denied, crate::proofs::Making::denied_age, crate::proofs::Making::denied_evict, crate::proofs::Owning::only_age_denied, crate::proofs::Owning::only_evicts, crate::proofs::Owning::only_evict_denied, crate::proofs::Letting::evicted_gone, crate::proofs::Rooming::age_unwanted, crate::proofs::Rooming::evict_unwanted, crate::proofs::Rooming::evict_none))]
+#[tactic(auto, using(locked::proofs::Seats::goes_by, locked::proofs::Seats::goes_on, locked::proofs::Seats::goes_same, crate::proofs::Making::goes_denied, crate::proofs::Making::denied_age, crate::proofs::Making::denied_evict, crate::proofs::Owning::only_age_denied, crate::proofs::Owning::only_evicts, crate::proofs::Owning::only_evict_denied, crate::proofs::Letting::evicted_gone, crate::proofs::Rooming::age_unwanted, crate::proofs::Rooming::evict_unwanted, crate::proofs::Rooming::evict_none, crate::proofs::Rooming::age_final, crate::proofs::Rooming::evict_final))]
 fn evict_idle<B: Naming, T: Trail>(
     state: &mut Locked<B, T>,
     seat: &mut Seat,
@@ -363,6 +377,7 @@ fn evict_idle<B: Naming, T: Trail>(
     ensures denied { IfErr result (IsDenied IsRoomEvent seat.old seat.new) }
     ensures unwanted { IfErr result (λ d. wants_room d.refusal ≡ false) }
     ensures none { IfOk result (λ went. went ≡ false → (has_idle state.old.core.state ≡ false) × (state.new.core.state ≡ state.old.core.state)) }
+    ensures stands { IfErr result (IsFinal B.sizes B.name seat.new) }
 {
     if let Err(denied) = state.age(seat) {
         return Err(denied);

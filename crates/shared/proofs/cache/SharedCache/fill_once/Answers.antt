@@ -4,10 +4,10 @@ use Rattle.machine.specs.declared.event.Event.TheVariants as event
 use Rattle.locked.proofs.Seats.{goes_by, goes_on}
 use Rattle.shared.specs.Denials.{IsDenied}
 use Rattle.shared.specs.Own.{IsHelp, IsStillDenied}
-use Rattle.shared.specs.Rooms.{IsCrammed, IsLost, IsUnwritten, wants_room}
+use Rattle.shared.specs.Rooms.{IsCrammed, IsFinal, IsFinalOr, IsLost, IsUnwritten, wants_room}
 use Rattle.shared.proofs.Making.{goes_denied, help_on, help_settled}
 use Rattle.shared.proofs.Owning.{only_begun_on, only_fill_begin, only_relieved}
-use Rattle.shared.proofs.Rooming.{lost_denied}
+use Rattle.shared.proofs.Rooming.{final_denied, lost_denied}
 use Rattle.shared.proofs.cache.SharedCache.fill_once.Goals as goal
 
 pub returns-in-Job-clause-denied : goal.returns-in-Job-clause-denied
@@ -43,7 +43,7 @@ returns-in-Err-fill_begin-clause-lost g c =
     IfErr-weaker c.relieve.result (λ d. wants_room d.refusal ≡ true → (d ≡ c.in-Err-fill_begin.denied)
     × IsCrammed d.refusal c.fill_begin.new.self.core.state
     × IsUnwritten c.fill_begin.new.self.core.state c.fill_begin.new.seat c.relieve.new.seat)
-    (IsLost g.B.Naming.sizes g.B.Naming.name c.args.seat.now c.relieve.new.seat)
+    (IsLost g.B.Naming.sizes g.B.Naming.name c.relieve.new.seat)
     (λ d q. lost_denied g.B.Naming.sizes g.B.Naming.name (event.FillBegin c.args.handle c.args.page) c.deref_mut.result.now
     c.fill_begin.new.self c.args.seat.now c.fill_begin.new.seat c.relieve.new.seat c.in-Err-fill_begin.denied d
     c.relieve.ensures.within tt c.in-Err-fill_begin.ensures.denied c.relieve.ensures.legal c.relieve.ensures.goes q) c.relieve.ensures.crammed
@@ -54,3 +54,12 @@ returns-in-Job-clause-only g c =
 
 pub returns-clause-only : goal.returns-clause-only
 returns-clause-only g c = only_fill_begin c.args.handle _ _ _ _ _ _ _ c.in-Ok-fill_begin.ensures.made
+
+pub returns-in-Err-fill_begin-clause-stands : goal.returns-in-Err-fill_begin-clause-stands
+returns-in-Err-fill_begin-clause-stands g c =
+    IfErr-weaker c.relieve.result
+    (IsFinalOr c.in-Err-fill_begin.denied g.B.Naming.sizes g.B.Naming.name c.fill_begin.new.self.core.state c.relieve.new.seat)
+    (IsFinal g.B.Naming.sizes g.B.Naming.name c.relieve.new.seat)
+    (λ d q. final_denied g.B.Naming.sizes g.B.Naming.name (event.FillBegin c.args.handle c.args.page) c.deref_mut.result.now
+    c.fill_begin.new.self c.args.seat.now c.fill_begin.new.seat c.relieve.new.seat c.in-Err-fill_begin.denied d
+    c.in-Err-fill_begin.ensures.denied c.relieve.ensures.legal c.relieve.ensures.goes q) c.relieve.ensures.stands

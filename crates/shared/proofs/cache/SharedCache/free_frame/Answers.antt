@@ -15,5 +15,5 @@ returns-in-Ok-false-clause-unwritten g c =
     ∙ ap (λ (x : HeldSeen). x.core.state) c.deref_mut.ensures.value in
     IfOk-weaker c.flush_one.result (λ made. made ≡ false → IsUnwritten t c.evict_idle.new.seat c.flush_one.new.seat)
     (λ made. made ≡ false → IsUnwritten s c.args.seat.now c.flush_one.new.seat)
-    (λ made q e. unwritten_on s t c.args.seat.now c.evict_idle.new.seat c.flush_one.new.seat same c.evict_idle.ensures.goes
+    (λ made q e. unwritten_on s t c.args.seat.now c.evict_idle.new.seat c.flush_one.new.seat same c.evict_idle.ensures.only
     (q e)) c.flush_one.ensures.unwritten

@@ -1,13 +1,11 @@
-use Rattle.std.proofs.Common.{ℕ, ◌∙◌, List, ap, length, rules, subst}
+use Rattle.std.proofs.Common.{ℕ, ◌∙◌, List, ap, length, subst}
 use Rattle.machine.specs.declared.event.Event.TheVariants as event
 use Rattle.pc_types.specs.declared.ids.HandleId.{HandleId}
 use Rattle.locked.specs.Called.{Once, Only}
 use Rattle.locked.proofs.Seats.{goes_on}
 use Rattle.shared.specs.Own.{IsTry}
 use Rattle.shared.specs.Seen.{HandleSeen}
-use Rattle.shared.specs.Rooms.{IsLost}
 use Rattle.shared.proofs.Owning.{once_try_on, only_try_on}
-use Rattle.shared.proofs.Rooming.{lost_on}
 use Rattle.shared.proofs.cache.SharedCache.pread.Goals as goal
 
 pub returns-in-Ok-Some-clause-once : goal.returns-in-Ok-Some-clause-once
@@ -34,10 +32,3 @@ attempts-preserved g c =
           c.attempts.seat c.try_read.new.seat) c.attempts.invariant.out (rw c.in-Ok-None.field-0-is at c.in-Ok-None.ensures.tried)));
       out = (rw c.in-Ok-None.field-0-is at c.in-Ok-None.ensures.same) ∙ c.attempts.invariant.out;
     }
-
-pub returns-in-Err-try_read-clause-lost : goal.returns-in-Err-try_read-clause-lost
-returns-in-Err-try_read-clause-lost g c =
-    let lost : IsLost g.B.Naming.sizes g.B.Naming.name c.args.seat.now c.try_read.new.seat c.in-Err-try_read.denied =
-    lost_on g.B.Naming.sizes g.B.Naming.name c.args.seat.now c.attempts.seat c.try_read.new.seat c.in-Err-try_read.denied
-    c.attempts.invariant.goes c.in-Err-try_read.ensures.lost in
-    search (rules, lost)

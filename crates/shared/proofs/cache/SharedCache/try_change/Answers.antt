@@ -10,7 +10,7 @@ use Rattle.shared.specs.Denials.{IsDenied}
 use Rattle.shared.specs.Own.{IsHelp, IsUndone}
 use Rattle.shared.proofs.Making.{call_help, call_settled, goes_denied, makes_by, retries_by}
 use Rattle.shared.proofs.Owning.{change_plain, only_missed, only_settled, only_try}
-use Rattle.shared.proofs.Rooming.{lost_denied, lost_on}
+use Rattle.shared.proofs.Rooming.{final_denied, lost_denied}
 use Rattle.shared.proofs.Sparing.{change_asked}
 use Rattle.shared.proofs.cache.SharedCache.try_change.Goals as goal
 
@@ -107,7 +107,8 @@ returns-in-Err-settle-clause-lost g c =
     c.settle.ensures.within (change_asked c.args.change c.args.handle c.args.bytes.now) c.in-Err.ensures.denied
     c.settle.ensures.legal c.settle.ensures.goes c.in-Err-settle.ensures.crammed
 
-pub returns-in-Err-fill-clause-lost : goal.returns-in-Err-fill-clause-lost
-returns-in-Err-fill-clause-lost g c =
-    lost_on g.B.Naming.sizes g.B.Naming.name c.args.seat.now c.change_by.new.seat c.fill.new.seat c.in-Err-fill.denied
-    (goes_by _ _ _ _ _ _ _ c.in-Ok.ensures.made) c.in-Err-fill.ensures.lost
+pub returns-in-Err-settle-clause-stands : goal.returns-in-Err-settle-clause-stands
+returns-in-Err-settle-clause-stands g c =
+    final_denied g.B.Naming.sizes g.B.Naming.name (event_of c.args.change c.args.handle c.args.bytes.now) c.deref_mut.result.now
+    c.change_by.new.state c.args.seat.now c.change_by.new.seat c.settle.new.seat c.in-Err.denied c.in-Err-settle.denied
+    c.in-Err.ensures.denied c.settle.ensures.legal c.settle.ensures.goes c.in-Err-settle.ensures.stands

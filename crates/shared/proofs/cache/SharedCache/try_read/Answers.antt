@@ -13,7 +13,7 @@ use Rattle.shared.proofs.Making.{call_first, call_help, makes_by, retries_by}
 use Rattle.shared.specs.Own.{IsUndone}
 use Rattle.shared.proofs.Owning.{only_missed, only_try, only_try_denied}
 use Rattle.shared.proofs.Sizes.{read_counted}
-use Rattle.shared.proofs.Rooming.{lost_on, lost_unwanted, read_unwanted}
+use Rattle.shared.proofs.Rooming.{lost_unwanted, read_unwanted}
 use Rattle.shared.proofs.cache.SharedCache.try_read.Goals as goal
 
 pub returns-in-Bytes-clause-answer : goal.returns-in-Bytes-clause-answer
@@ -89,11 +89,6 @@ returns-in-Err-clause-only g c =
 -- a read wants no room
 pub returns-in-Err-clause-lost : goal.returns-in-Err-clause-lost
 returns-in-Err-clause-lost g c =
-    lost_unwanted g.B.Naming.sizes g.B.Naming.name c.args.seat.now c.read.new.seat c.in-Err.denied
+    lost_unwanted g.B.Naming.sizes g.B.Naming.name c.read.new.seat c.in-Err.denied
     (read_unwanted c.args.handle c.args.offset (length c.args.out.now) c.deref_mut.result.now c.read.new.self c.args.seat.now
     c.read.new.seat c.in-Err.denied c.in-Err.ensures.denied)
-
-pub returns-in-Err-fill-clause-lost : goal.returns-in-Err-fill-clause-lost
-returns-in-Err-fill-clause-lost g c =
-    lost_on g.B.Naming.sizes g.B.Naming.name c.args.seat.now c.read.new.seat c.fill.new.seat c.in-Err-fill.denied
-    (goes_by _ _ _ _ _ _ _ c.in-Ok.ensures.made) c.in-Err-fill.ensures.lost
