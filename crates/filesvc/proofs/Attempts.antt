@@ -32,7 +32,7 @@ use Rattle.filesvc.specs.declared.writes.Wrote.{Wrote}
 use Rattle.world.specs.declared.step.Step.TheVariants as step
 use Rattle.world.specs.Stepping.{IsMade}
 use Rattle.filesvc.specs.Attempts.{Attempt, Follows, Helps, WroteAll, need_of, step_of, write_over}
-use Rattle.filesvc.specs.Made.{Asks, FailsFill, IsMadeOf, Tries, WantsMemory, own_handle, write_step}
+use Rattle.filesvc.specs.Made.{Asks, FailsFill, IsMadeOf, Moves, Tries, WantsMemory, is_help, own_handle, write_step}
 use Rattle.filesvc.specs.Rests.{IsService}
 use Rattle.filesvc.specs.Seen.{HandleSeen, SoloSeen}
 use Rattle.filesvc.specs.Service.{FilesAfter, IsOpen, IsRefusal, IsSettledAtOnce, IsSoonOver, Keeps, LengthsAfter}
@@ -169,7 +169,7 @@ module _ (old : SoloSeen) (h : HandleId) (e : Event) (got : Reply) (w : WorldSee
                 after = w;
                 step = own_step old.world w e got call m d still;
                 settled = λ t. absurd (let x : true ≡ false = sym t ∙ u in cc);
-                helped = λ _. f.helps.moves;
+                helped = λ _. subst (λ k. Moves (is_help k) w new.world) (own_names e call by) f.helps.moves;
                 failed = λ _. fails;
                 wanting = λ _. wants_memory;
               };
@@ -265,12 +265,12 @@ truncate_unsettled a p (inr e) = ap (λ x. is_settled (Some (was_truncated (Ok x
 
 module _ (old : SoloSeen) (h : HandleId) (got : Reply) (new : SoloSeen) where
   pub follows_over : new ≡ old → is_settled (Some got) ≡ true → Follows old h got (Some got) new
-  follows_over same t = record { helps = subst (Helps old) (sym same) (helps_refl old); attempts = ap (λ s. s.attempts) same; settled = λ _. (refl, same); stopped = λ u. absurd cc }
+  follows_over same t = record { helps = subst (Helps h.0 old) (sym same) (helps_refl old); attempts = ap (λ s. s.attempts) same; settled = λ _. (refl, same); stopped = λ u. absurd cc }
 
-  pub follows_again : Helps old new → new.attempts ≡ old.attempts → is_settled (Some got) ≡ false → Follows old h got None new
+  pub follows_again : Helps h.0 old new → new.attempts ≡ old.attempts → is_settled (Some got) ≡ false → Follows old h got None new
   follows_again s a u = record { helps = s; attempts = a; settled = λ t. absurd cc; stopped = λ _. inl refl }
 
-  pub follows_refused : (r : Refusal) → Helps old new → new.attempts ≡ old.attempts → is_settled (Some got) ≡ false → IsHelpRefusal old h got r new → Follows old h got (Some (reply.Refused r)) new
+  pub follows_refused : (r : Refusal) → Helps h.0 old new → new.attempts ≡ old.attempts → is_settled (Some got) ≡ false → IsHelpRefusal old h got r new → Follows old h got (Some (reply.Refused r)) new
   follows_refused r s a u why = record { helps = s; attempts = a; settled = λ t. absurd cc; stopped = λ _. inr (r, refl, why) }
 
   pub follows_wrote : (n end : ℕ) → Follows old h got (Some (reply.Wrote n end)) new → got ≡ reply.Wrote n end

@@ -105,10 +105,10 @@ three k a b c x y z = All-cons is a (b ∷ c ∷ []) x (All-cons is b (c ∷ [])
 
 -- ---- steps that help a call
 
-pub helps_refl : (a : SoloSeen) → Helps a a
+pub helps_refl : {k : ℕ} (a : SoloSeen) → Helps k a a
 helps_refl a = record { serves = serves_refl a; moves = moves_refl _ a.world }
 
-pub helps_trans : (a b c : SoloSeen) → Helps a b → Helps b c → Helps a c
+pub helps_trans : {k : ℕ} (a b c : SoloSeen) → Helps k a b → Helps k b c → Helps k a c
 helps_trans a b c h k = record { serves = serves_trans a b c h.serves k.serves; moves = moves_trans _ a.world b.world c.world h.moves k.moves }
 
 -- ---- attempts

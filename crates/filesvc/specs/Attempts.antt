@@ -66,10 +66,10 @@ step_of (event.Append h b) = step.Append h b
 step_of (event.Truncate h z) = step.Truncate h z
 step_of e = step.Age
 
--- steps that help a call, and leave the plain files as they are
-pub record Helps (old new : SoloSeen) : Type 0 where
+-- steps that help a call by this handle, and leave the plain files as they are
+pub record Helps (k : ℕ) (old new : SoloSeen) : Type 0 where
   pub serves : Serves old new
-  pub moves : Moves is_help old.world new.world
+  pub moves : Moves (is_help k) old.world new.world
 
 -- the attempt from its beginning to its end
 pub record Attempt (old : SoloSeen) (e : Event) (over : Option Reply) (new : SoloSeen) : Type 0 where
@@ -87,7 +87,7 @@ pub record Attempt (old : SoloSeen) (e : Event) (over : Option Reply) (new : Sol
 
 -- an attempt from its event on, which had this reply
 pub record Follows (old : SoloSeen) (h : HandleId) (got : Reply) (over : Option Reply) (new : SoloSeen) : Type 0 where
-  pub helps : Helps old new
+  pub helps : Helps h.0 old new
   pub attempts : new.attempts ≡ old.attempts
   pub settled : is_settled (Some got) ≡ true → (over ≡ Some got) × (new ≡ old)
   pub stopped : is_settled (Some got) ≡ false → (over ≡ None) ⊎ ((r : Refusal) × (over ≡ Some (reply.Refused r)) × IsHelpRefusal old h got r new)

@@ -18,14 +18,14 @@ pub turns-preserved : goal.turns-preserved
 turns-preserved g c =
     let way : wants c.args.span.dirties c.turns.self.world.core c.args.span.handle.0 c.args.span.offset c.args.span.count ≡ Some c.in-Some.want = sym c.wants.ensures ∙ c.in-Some.is in
     record {
-      helps = helps_trans _ _ _ c.turns.invariant.helps c.make_room.ensures.helps;
+      helps = helps_trans _ _ _ c.turns.invariant.helps (c.make_room.ensures.helps c.args.span.handle.0);
       attempts = c.make_room.ensures.attempts ∙ c.turns.invariant.attempts;
       absent = λ f p none. room_absent c.turns.self c.make_room.new.self c.in-Some.want c.in_ok-make_room.ensures.made f p (c.turns.invariant.absent f p none);
       kept = λ none. absurd (let e : None ≡ Some c.in-Some.want = sym (ap (λ (s : SoloSeen). wants c.args.span.dirties s.world.core c.args.span.handle.0 c.args.span.offset c.args.span.count) (c.turns.invariant.kept none) ∙ none) ∙ way in cc);
     }
 
 pub returns-in_err-make_room-clause-helps : goal.returns-in_err-make_room-clause-helps
-returns-in_err-make_room-clause-helps g c = helps_trans _ _ _ c.turns.invariant.helps c.make_room.ensures.helps
+returns-in_err-make_room-clause-helps g c = helps_trans _ _ _ c.turns.invariant.helps (c.make_room.ensures.helps c.args.span.handle.0)
 
 pub returns-in_err-make_room-clause-refused : goal.returns-in_err-make_room-clause-refused
 returns-in_err-make_room-clause-refused g c =
