@@ -152,28 +152,29 @@ impl<B: Naming, T: Trail> Locked<B, T> {
         }
     }
 
-    /// Makes a step of the sync.
+    /// Makes a step of the sync. Where that is refused the buffer comes back with the refusal, for another try.
     pub fn sync_step(
         &mut self,
         seat: &mut Seat,
         sync: SyncId,
         buffer: Buffer,
-    ) -> Result<(SyncStepped, Slip), Denied>
+    ) -> Result<(SyncStepped, Slip), (Denied, Buffer)>
         requires seat { seat.old.table ≡ B.table }
         requires size { length buffer ≡ B.sizes.page }
         ensures made { IfOk result (λ r. Made (event.SyncStep sync) (sync_stepped (Ok r.0)) self.old self.new seat.old seat.new r.1) }
         ensures job { IfOk result (λ r. IsSyncJob self.new.core.state (Ok r.0)) }
         ensures fits { IfOk result (λ r. OnSyncJob (Ok r.0) (IsJobFor B.name B.sizes.blocks B.sizes.page)) }
         ensures back { IfOk result (λ r. SyncGivesBack buffer (Ok r.0)) }
-        ensures denied { IfErr result (IsDenied (event.SyncStep sync) self.old self.new seat.old seat.new) }
+        ensures kept { IfErr result (λ e. e.1 ≡ buffer) }
+        ensures denied { IfErr result (λ e. IsDenied (event.SyncStep sync) self.old self.new seat.old seat.new e.0) }
     {
         let (answer, slip) = match self.held.sync_step(seat, sync, buffer) {
             Ok(made) => made,
-            Err(refused) => return Err(without_slip(refused.refusal)),
+            Err(refused) => return Err((without_slip(refused.refusal), refused.buffer)),
         };
         let stepped = match answer {
             Ok(stepped) => stepped,
-            Err(refused) => return Err(by(refused.refusal, slip)),
+            Err(refused) => return Err((by(refused.refusal, slip), refused.buffer)),
         };
         self.in_flight = with_step(self.in_flight, &stepped);
         Ok((stepped, slip))
