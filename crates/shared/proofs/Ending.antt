@@ -1,11 +1,11 @@
 -- What the ends of jobs and the turns of workers say of a seat.
 use Rattle.std.proofs.Common.{◌≡◌, ℕ, zero, suc, [], ◌∷◌, ◌++◌, ap, arith, refl, sym, subst, ◌∙◌, inl, inr}
-use Rattle.std.specs.Prelude.{All, Bool, false, IfErr, IfNone, IfOk, IfSome, IsOk, Err, Ok, Option, Result, Some, None, is_some}
+use Rattle.std.specs.Prelude.{All, Bool, false, IfErr, IfNone, IfOk, IfSome, IsOk, Err, Ok, Option, Result, Some, None, is_some, length}
 use Rattle.std.proofs.lemmas.List.{append_assoc, append-nil}
 use Rattle.std.proofs.lemmas.List.Elements.{All-append, All-nil, All-weaker}
 use Rattle.atomic_table.specs.Seated.{TableId}
 use Rattle.blockdev.specs.Jobs.{FinishedTask, Task}
-use Rattle.cachecore.specs.Replies.{end_of, fill_ended, flush_ended}
+use Rattle.cachecore.specs.Replies.{EndGivesBack, end_of, fill_ended, flush_ended}
 use Rattle.cachecore.specs.declared.answers.Ended.{Ended}
 use Rattle.cachecore.specs.declared.answers.Ended.TheVariants as ended
 use Rattle.errboard.specs.Shown.{ReceiptSeen, RecorderSeen}
@@ -26,6 +26,7 @@ use Rattle.shared.specs.Denials.{IsDenied, IsFullIfNoSlip, MadeOne}
 use Rattle.shared.specs.Workers.{AllEnded, AllSettled, Begins, Ends, IsEndOf, IsOwnFailure, IsSettled, IsWriteBack, fails_write, popped_by}
 use Rattle.shared.specs.declared.ends.Done.{Done}
 use Rattle.shared.specs.declared.worker.Worker.{Worker}
+use Rattle.world.specs.Ends.{buffer_of}
 use Rattle.shared.proofs.Making.{denied_by, denied_on, denied_then, makes_by, makes_on, makes_then}
 
 -- ---- ends
@@ -64,6 +65,12 @@ flush_told old new None (ended.Dropped b) (Some receipt) h = absurd h
 flush_told old new f (ended.Done b) None h = refl
 flush_told old new (Some f) (ended.Done b) (Some receipt) h = absurd h
 flush_told old new None (ended.Done b) (Some receipt) h = absurd h
+
+-- a buffer that comes back is as long as it was
+pub back_sized : (a : Ended) (f : FinishedTask) (n : ℕ) → EndGivesBack f (Ok a) → length f.bytes ≡ n → length (buffer_of a) ≡ n
+back_sized (ended.Dropped buffer) f n back size = ap length back ∙ size
+back_sized (ended.Failed code buffer) f n back size = ap length back ∙ size
+back_sized (ended.Done buffer) f n back size = ap length back ∙ size
 
 pub ends_on : (job : Task) (a b c : SeatSeen) (slip : Slip) (told : Bool) → Goes a b
     → Ends job b c slip told → Ends job a c slip told

@@ -1,6 +1,6 @@
 -- What a refusal for want of room says of the cache at its entry.
-use Rattle.std.proofs.Common.{◌≡◌, ◌∙◌, ◌+◌, ◌≤◌, [], ℕ, Bool, true, false, cond, not, length, take, refl, sym, ap, subst, arith, inl, inr}
-use Rattle.std.specs.Prelude.{◌&&◌, ◌==◌, IsTrue, Ok, Option, Some, None, is_some, nat_le, nat_lt}
+use Rattle.std.proofs.Common.{◌≡◌, ◌∙◌, ◌+◌, ◌<◌, ◌≤◌, [], ℕ, Bool, true, false, cond, not, length, take, refl, sym, ap, subst, arith, inl, inr}
+use Rattle.std.specs.Prelude.{◌⊎◌, ◌&&◌, ◌==◌, IsTrue, Ok, Err, Result, Option, Some, None, is_some, nat_le, nat_lt}
 use Rattle.std.proofs.lemmas.List.{length_push, take-append-le, take_all}
 use Rattle.std.specs.FinMap as map
 use Rattle.blockdev.specs.Jobs.{Task}
@@ -23,6 +23,7 @@ use Rattle.pc_types.specs.Limits.{Sizes, is_geometry}
 use Rattle.pc_types.specs.declared.ids.FileId.{FileId}
 use Rattle.pc_types.specs.declared.ids.HandleId.{HandleId}
 use Rattle.pc_types.specs.declared.ids.PageIndex.{PageIndex}
+use Rattle.pc_types.specs.declared.ids.SyncId.{SyncId}
 use Rattle.pc_types.specs.declared.kind.Kind.{Kind}
 use Rattle.pc_types.specs.declared.kind.Kind.TheVariants.{Flush}
 use Rattle.pc_types.specs.declared.limits.TheConstants.{MAX_TOUCHED}
@@ -42,7 +43,7 @@ use Rattle.locked.specs.declared.denied.Denied.{Denied}
 use Rattle.locked.proofs.Replied.{end_taken}
 use Rattle.locked.proofs.Seats.{goes_same, only_by, only_on, only_same, only_wider}
 use Rattle.shared.specs.Called.{is_for_now}
-use Rattle.shared.specs.Own.{IsEviction, IsRoomEvent}
+use Rattle.shared.specs.Own.{IsEviction, IsRoomEvent, admitted}
 use Rattle.shared.specs.Rooms.{FailsToWrite, IsAtRest, IsCrammed, IsFinal, IsFinalOr, IsLost, IsRoomLost, IsRoomTry, IsUnwritten, is_written, wants_room}
 use Rattle.shared.proofs.Making.{makes_by}
 use Rattle.shared.proofs.Sparing.{IsAsked, has_to_write, stops_unrefused}
@@ -301,6 +302,26 @@ pub final_lasting : (sizes : Sizes) (name : ℕ) (after : SeatSeen) (d : Denied)
     → IsFinal sizes name after d
 final_lasting sizes name after d lasts passes = absurd cc
 
+-- a seat or a handle is of another cache
+admitted_why : (here own : Bool) (why : Refusal) (r : Result Unit Refusal)
+    → r ≡ cond here (cond own (Ok tt) (Err BadHandle)) (Err Stranger) → r ≡ Err why → (why ≡ BadHandle) ⊎ (why ≡ Stranger)
+admitted_why true true why r is e = absurd cc
+admitted_why true false why r is e = inl cc
+admitted_why false own why r is e = inr cc
+
+pub refused_why : (name seat handle : ℕ) (why : Refusal) → admitted name seat handle ≡ Err why
+    → (why ≡ BadHandle) ⊎ (why ≡ Stranger)
+refused_why name seat handle why e = admitted_why (seat == name) (handle == name) why (admitted name seat handle) refl e
+
+pub admitted_final : (sizes : Sizes) (name : ℕ) (after : SeatSeen) (own seat handle : ℕ) (why : Refusal) (d : Denied)
+    → admitted own seat handle ≡ Err why → d ≡ record { refusal = why; slip = None } → IsFinal sizes name after d
+admitted_final sizes name after own seat handle why d e is = final_lasting sizes name after d
+    (ap (λ (x : Denied). is_for_now x.refusal) is ∙ lasts (refused_why own seat handle why e))
+  where
+    lasts : (why ≡ BadHandle) ⊎ (why ≡ Stranger) → is_for_now why ≡ false
+    lasts (inl x) = ap is_for_now x
+    lasts (inr x) = ap is_for_now x
+
 -- an end is refused a stranger alone; to age and to evict are not refused
 stranger_lasts : (here : Bool) (why : Refusal) → cond here None (refuse Stranger) ≡ Some (reply.Refused why)
     → is_for_now why ≡ false
@@ -384,13 +405,45 @@ final_denied sizes name e old new before at after first d q legal goes (inl k) =
       at_rest sizes name e r old new before at after slip q legal rests goes,
     )
 
--- the first file to write was refused, in the hold that says whether a request is in flight
+-- an event was refused, in the hold that says whether a request is in flight
+still_final : (sizes : Sizes) (name : ℕ) (e : Event) (old new : HeldSeen) (before at : SeatSeen) (first d : Denied)
+    → under.IsDenied e old new before at first → After sizes name new.log.history new.core.state → d ≡ first
+    → (is_for_now first.refusal ≡ true → is_busy new.core.state ≡ false) → IsFinal sizes name at d
+still_final sizes name e old new before at first d q legal same rests =
+    final_denied sizes name e old new before at at first d q legal (goes_same at at refl)
+    (inl (same, λ passes. rests (subst (λ (x : Denied). is_for_now x.refusal ≡ true) same passes)))
+
+-- of the first file to write
 pub first_final : (sizes : Sizes) (name : ℕ) (old new : HeldSeen) (before at : SeatSeen) (first d : Denied)
     → IsFirstDenied old new before at first → After sizes name new.log.history new.core.state → d ≡ first
     → (is_for_now first.refusal ≡ true → is_busy new.core.state ≡ false) → IsFinal sizes name at d
 first_final sizes name old new before at first d q legal same rests =
-    final_denied sizes name (event.FlushBegin q.file) old new before at at first d q.denied legal (goes_same at at refl)
-    (inl (same, λ passes. rests (subst (λ (x : Denied). is_for_now x.refusal ≡ true) same passes)))
+    still_final sizes name (event.FlushBegin q.file) old new before at first d q.denied legal same rests
+
+-- and of a sync's step
+pub step_final : (sizes : Sizes) (name : ℕ) (m : SyncId) (old new : HeldSeen) (before at : SeatSeen) (first d : Denied)
+    → under.IsDenied (event.SyncStep m) old new before at first → After sizes name new.log.history new.core.state → d ≡ first
+    → (is_for_now first.refusal ≡ true → is_busy new.core.state ≡ false) → IsFinal sizes name at d
+step_final sizes name m old new before at first d q legal same rests =
+    still_final sizes name (event.SyncStep m) old new before at first d q legal same rests
+
+-- the seat saw more since
+pub final_on : (sizes : Sizes) (name : ℕ) (at after : SeatSeen) (d : Denied) → Goes at after → IsFinal sizes name at d
+    → IsFinal sizes name after d
+final_on sizes name at after d goes final passes = let k = final passes in (k.0, k.1, rests k.0 k.2)
+  where
+    rests : (slip : Slip) → IsAtRest sizes name at slip → IsAtRest sizes name after slip
+    rests slip r =
+        let seen : slip.place < length at.list = r.seen in
+        let there : take (slip.place + 1) after.list ≡ take (slip.place + 1) at.list =
+        ap (take (slip.place + 1)) (sym goes.grows.1) ∙ take-append-le (slip.place + 1) at.list goes.grows.0 (omega arith) in
+        let more : length at.list ≤ length after.list = prefix_length at.list after.list goes.grows in
+        record {
+          state = r.state;
+          seen = omega arith;
+          leaves = subst (λ l. After sizes name l r.state) (sym there) r.leaves;
+          rests = r.rests;
+        }
 
 pub stands_by : (sizes : Sizes) (name : ℕ) (s : State) (after : SeatSeen) (first d : Denied) → d ≡ first
     → (is_for_now first.refusal ≡ true → is_busy s ≡ false) → IsFinalOr first sizes name s after d

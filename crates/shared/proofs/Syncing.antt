@@ -1,5 +1,5 @@
 -- What the events of a sync say of its call's seat.
-use Rattle.std.proofs.Common.{◌≡◌, ◌⊎◌, ℕ, ◌≤◌, ◌++◌, ◌∷◌, [], ◌∙◌, Bool, true, false, refl, sym, subst, inl, inr, arith}
+use Rattle.std.proofs.Common.{◌≡◌, ◌⊎◌, ℕ, ◌≤◌, ◌++◌, ◌∷◌, [], ◌∙◌, Bool, true, false, refl, sym, ap, subst, inl, inr, arith}
 use Rattle.std.proofs.lemmas.List.{length_push}
 use Rattle.std.proofs.lemmas.Result.{IfErr-weaker, IfOk-weaker}
 use Rattle.std.specs.FinMap as map
@@ -21,7 +21,7 @@ use Rattle.pc_types.specs.declared.ids.PageIndex.{PageIndex}
 use Rattle.pc_types.specs.declared.ids.SyncId.{SyncId}
 use Rattle.pc_types.specs.declared.kind.Kind.TheVariants.{Fill, Flush}
 use Rattle.pc_types.specs.declared.refusal.Refusal.{Refusal}
-use Rattle.pc_types.specs.declared.refusal.Refusal.TheVariants.{Io, Stranger}
+use Rattle.pc_types.specs.declared.refusal.Refusal.TheVariants.{Io, Memory, Stranger, TrailFull}
 use Rattle.trail.specs.declared.entry.Entry.{Entry}
 use Rattle.trail.specs.Entries.{entry_of}
 use Rattle.held.specs.declared.log.Slip.{Slip}
@@ -32,14 +32,17 @@ use Rattle.locked.specs.Denials as under
 use Rattle.locked.specs.declared.denied.Denied.{Denied}
 use Rattle.locked.proofs.Replied.{drop_taken}
 use Rattle.locked.proofs.Seats.{goes_by}
-use Rattle.shared.specs.Called.{Makes}
+use Rattle.pc_types.specs.Limits.{Sizes}
+use Rattle.shared.specs.Called.{Makes, is_for_now}
 use Rattle.shared.specs.Denials.{IsDenied}
-use Rattle.shared.specs.Synced.{Began, IsDropReply, IsDropped, IsFlushEnd, IsFsyncDenied, IsSyncDenied, IsTurnOf}
+use Rattle.shared.specs.Rooms.{IsFinal}
+use Rattle.shared.specs.Synced.{Began, IsDropReply, IsDropped, IsFlushEnd, IsFsyncDenied, IsNotBegun, IsSyncDenied, IsTurnOf}
 use Rattle.shared.specs.Polls.{IsLevelled, Polled}
 use Rattle.shared.specs.Seen.{HandleSeen}
 use Rattle.shared.specs.Synced.{Reports, Syncs, end_reply}
 use Rattle.shared.proofs.Hearing.{polled_from, reports_from}
 use Rattle.shared.proofs.Making.{denied_by, denied_event, denied_on, denied_one, full_by, makes_by}
+use Rattle.shared.proofs.Rooming.{final_lasting, final_on}
 
 -- ---- turns
 
@@ -58,6 +61,13 @@ flush_turns : (m : SyncId) (e : Event) → IsFlushEnd e → IsTurnOf m e
 flush_turns m (event.End Flush end) x = x
 flush_turns m (event.End Fill end) x = absurd x
 flush_turns m e x = absurd x
+
+-- without a slip it is that of a full trail
+pub step_full : (m : SyncId) (old new : HeldSeen) (before after : SeatSeen) (first d : Denied)
+    → under.IsDenied (event.SyncStep m) old new before after first → d ≡ first → d.slip ≡ None → d.refusal ≡ TrailFull
+step_full m old new before after first d q same none =
+    ap (λ (x : Denied). x.refusal) same
+    ∙ (full_by (event.SyncStep m) old new before after first q (ap (λ (x : Denied). x.slip) (sym same) ∙ none)).0
 
 -- the write that a step began was refused its end
 pub turn_flush : (m : SyncId) (a b c : SeatSeen) (d : Denied) → Goes a b → IsDenied IsFlushEnd b c d → IsDenied (IsTurnOf m) a c d
@@ -98,9 +108,16 @@ syncs_by h first last m failed old new before at after begin slip b e = record {
   ended = e;
 }
 
+-- there was no memory for it
+pub memory_denied : (h : HandleId) (first last : PageIndex) (before : SeatSeen) (why : Refusal) (d : Denied) → why ≡ Memory
+    → d ≡ record { refusal = why; slip = None } → IsNotBegun h first last before before d
+memory_denied h first last before why d is same =
+    let bare : Refusal → Denied = λ r. record { refusal = r; slip = None } in inl (same ∙ ap bare is, refl)
+
+-- its begin was refused
 pub begin_denied : (h : HandleId) (first last : PageIndex) (old new : HeldSeen) (before after : SeatSeen) (d : Denied)
-    → under.IsDenied (event.SyncBegin h first last) old new before after d → IsSyncDenied h first last before after d
-begin_denied h first last old new before after d q = inl (
+    → under.IsDenied (event.SyncBegin h first last) old new before after d → IsNotBegun h first last before after d
+begin_denied h first last old new before after d q = inr (
   denied_event (event.SyncBegin h first last) old new before after d q,
   denied_one (event.SyncBegin h first last) old new before after d q,
   full_by (event.SyncBegin h first last) old new before after d q,
@@ -108,19 +125,29 @@ begin_denied h first last old new before after d q = inl (
 
 pub gave_up : (h : HandleId) (first last : PageIndex) (m : SyncId) (old new : HeldSeen) (before at over after : SeatSeen)
     (begin : Slip) (why d : Denied) → Made (event.SyncBegin h first last) (reply.Sync m) old new before at begin → Goes at over
-    → IsDenied (IsTurnOf m) at over why
+    → IsDenied (IsTurnOf m) at over why → (why.slip ≡ None → why.refusal ≡ TrailFull)
     → ((d ≡ why) × IsDropped m over after) ⊎ (d ≡ record { refusal = Stranger; slip = None })
     → IsSyncDenied h first last before after d
-gave_up h first last m old new before at over after begin why d b goes denied (inl p) = inr (inl record {
+gave_up h first last m old new before at over after begin why d b goes denied full (inl p) = inr (inl record {
   sync = m;
   at = at;
   over = over;
   began = began_by h first last m old new before at begin b;
   goes = goes;
   denied = subst (IsDenied (IsTurnOf m) at over) (sym p.0) denied;
+  full = subst (λ (x : Denied). x.slip ≡ None → x.refusal ≡ TrailFull) (sym p.0) full;
   dropped = p.1;
 })
-gave_up h first last m old new before at over after begin why d b goes denied (inr p) = inr (inr p)
+gave_up h first last m old new before at over after begin why d b goes denied full (inr p) = inr (inr p)
+
+-- no request was in flight where its turn was refused so that one's end might help
+pub gave_up_final : (sizes : Sizes) (name : ℕ) (m : SyncId) (over after : SeatSeen) (why d : Denied) → Goes over after
+    → IsFinal sizes name over why
+    → ((d ≡ why) × IsDropped m over after) ⊎ (d ≡ record { refusal = Stranger; slip = None }) → IsFinal sizes name after d
+gave_up_final sizes name m over after why d goes final (inl p) =
+    subst (IsFinal sizes name after) (sym p.0) (final_on sizes name over after why goes final)
+gave_up_final sizes name m over after why d goes final (inr p) =
+    final_lasting sizes name after d (subst (λ (x : Denied). is_for_now x.refusal ≡ false) (sym p) refl)
 
 -- ---- the drop of a sync
 
@@ -180,6 +207,12 @@ reports_failed code slip old new p = record {
   tells = inr (refl, refl);
   is = refl;
 }
+
+-- no request's end makes up for a failed write
+pub report_final : (sizes : Sizes) (name : ℕ) (after : SeatSeen) (failed : Option ℕ) (slip : Slip) (old new : PassSeen)
+    (d : Denied) → Reports failed slip old new d → IsFinal sizes name after d
+report_final sizes name after failed slip old new d r =
+    final_lasting sizes name after d (subst (λ (x : Denied). is_for_now x.refusal ≡ false) (sym r.is) refl)
 
 pub write_failed : (h : HandleId) (first last : PageIndex) (failed : Option ℕ) (before after : SeatSeen) (old new : PassSeen)
     (slip : Slip) (d : Denied) → Syncs h first last failed before after slip → Reports failed slip old new d

@@ -1,5 +1,5 @@
 -- Refusals for want of room.
-use Rattle.std.specs.Prelude.{◌≡◌, ◌⊎◌, ◌+◌, ◌<◌, ℕ, Bool, true, false, length, take, Some}
+use Rattle.std.specs.Prelude.{◌≡◌, ◌⊎◌, ◌+◌, ◌<◌, ℕ, Bool, true, false, length, take, Some, None}
 use Rattle.cachecore.specs.Wants.{NothingToWrite}
 use Rattle.cachecore.specs.declared.answers.Ended.{Ended}
 use Rattle.cachecore.specs.declared.answers.Ended.TheVariants as ended
@@ -13,11 +13,12 @@ use Rattle.machine.specs.Tests.{has_idle}
 use Rattle.machine.specs.declared.event.End.{End}
 use Rattle.machine.specs.declared.event.Event.{Event}
 use Rattle.machine.specs.declared.event.Event.TheVariants as event
+use Rattle.machine.specs.declared.event.Reply.{Reply}
 use Rattle.machine.specs.declared.event.Reply.TheVariants as reply
 use Rattle.pc_types.specs.Limits.{Sizes}
 use Rattle.pc_types.specs.declared.kind.Kind.TheVariants.{Flush}
 use Rattle.pc_types.specs.declared.refusal.Refusal.{Refusal}
-use Rattle.pc_types.specs.declared.refusal.Refusal.TheVariants.{DirtyLimit, NoFrame}
+use Rattle.pc_types.specs.declared.refusal.Refusal.TheVariants.{DirtyLimit, Memory, NoFrame}
 use Rattle.trail.specs.History.{After}
 use Rattle.shared.specs.Called.{Makes, is_for_now}
 use Rattle.shared.specs.Own.{IsEviction}
@@ -75,6 +76,18 @@ abbrev pub IsLost : Sizes → ℕ → SeatSeen → Denied → Type 0
 IsLost sizes name after d =
     wants_room d.refusal ≡ true
     → (slip : Slip) × (d.slip ≡ Some slip) × IsRoomLost sizes name d.refusal after slip
+
+-- a reply that asks for a page or for room
+abbrev pub AsksMore : Reply → Type 0
+AsksMore (reply.Miss p) = Unit {0}
+AsksMore (reply.Refused why) = wants_room why ≡ true
+AsksMore r = ⊥
+
+-- a call is refused by memory outside an event only after its seat made this event, which asked for a page or for room
+abbrev pub IsShortFor : Event → SeatSeen → SeatSeen → Denied → Type 0
+IsShortFor e before after d =
+    d ≡ record { refusal = Memory; slip = None }
+    → (slip : Slip) × (r : Reply) × AsksMore r × Makes before after slip e r
 
 -- the history up to the slip's entry leaves no request in flight
 pub record IsAtRest (sizes : Sizes) (name : ℕ) (after : SeatSeen) (slip : Slip) : Type 0 where

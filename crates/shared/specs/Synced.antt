@@ -13,7 +13,7 @@ use Rattle.pc_types.specs.declared.ids.HandleId.{HandleId}
 use Rattle.pc_types.specs.declared.ids.PageIndex.{PageIndex}
 use Rattle.pc_types.specs.declared.ids.SyncId.{SyncId}
 use Rattle.pc_types.specs.declared.kind.Kind.TheVariants.{Flush}
-use Rattle.pc_types.specs.declared.refusal.Refusal.TheVariants.{Io, Stranger}
+use Rattle.pc_types.specs.declared.refusal.Refusal.TheVariants.{Io, Memory, Stranger, TrailFull}
 use Rattle.trail.specs.declared.entry.Entry.{Entry}
 use Rattle.shared.specs.Called.{Makes}
 use Rattle.shared.specs.Denials.{IsDenied, IsFullIfNoSlip, MadeOne}
@@ -76,7 +76,7 @@ abbrev pub IsDropped : SyncId → SeatSeen → SeatSeen → Type 0
 IsDropped sync before after =
     (slip : Slip) × (r : Reply) × IsDropReply r × Makes before after slip (event.SyncDrop sync) r
 
--- a turn of a sync that this call began was refused, and the sync dropped
+-- a turn of a sync that this call began was refused, without a slip by a full trail alone, and the sync dropped
 pub record GaveUp (h : HandleId) (first last : PageIndex) (before after : SeatSeen) (d : Denied) : Type 0 where
   pub sync : SyncId
   pub at : SeatSeen
@@ -84,13 +84,15 @@ pub record GaveUp (h : HandleId) (first last : PageIndex) (before after : SeatSe
   pub began : Began h first last sync before at
   pub goes : Goes at over
   pub denied : IsDenied (IsTurnOf sync) at over d
+  pub full : d.slip ≡ None → d.refusal ≡ TrailFull
   pub dropped : IsDropped sync over after
 
--- no sync was begun, by a refusal of its begin
+-- no sync was begun: there was no memory for it, and nothing was made; or its begin was refused
 abbrev pub IsNotBegun : HandleId → PageIndex → PageIndex → SeatSeen → SeatSeen → Denied → Type 0
 IsNotBegun h first last before after d =
-    IsDenied (λ e. e ≡ event.SyncBegin h first last) before after d × MadeOne d.slip before after
-    × IsFullIfNoSlip before after d
+    ((d ≡ record { refusal = Memory; slip = None }) × (after ≡ before))
+    ⊎ (IsDenied (λ e. e ≡ event.SyncBegin h first last) before after d × MadeOne d.slip before after
+    × IsFullIfNoSlip before after d)
 
 -- no sync was begun, or the one that was is given up. Or another ended it, and a full trail has no room to say so
 abbrev pub IsSyncDenied : HandleId → PageIndex → PageIndex → SeatSeen → SeatSeen → Denied → Type 0

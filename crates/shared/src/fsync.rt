@@ -5,13 +5,14 @@ ghost use Rattle.errboard.specs.Shown.{PassSeen};
 ghost use Rattle.machine.specs.State.{file_at};
 ghost use Rattle.machine.specs.declared.event.Event.TheVariants as event;
 ghost use Rattle.pc_types.specs.declared.limits.TheConstants.{LAST_PAGE};
-ghost use Rattle.pc_types.specs.declared.refusal.Refusal.TheVariants.{BadHandle, Stranger};
+ghost use Rattle.pc_types.specs.declared.refusal.Refusal.TheVariants.{BadHandle, Stranger, TrailFull};
 ghost use Rattle.trail.specs.History.{After};
 ghost use Rattle.locked.specs.Called.{Goes, Only};
 ghost use Rattle.shared.specs.Called.{Makes};
 ghost use Rattle.shared.specs.Denials.{IsDenied};
 ghost use Rattle.shared.specs.Polls.{Hears, IsLevelled, Polled};
-ghost use Rattle.shared.specs.Synced.{IsDropped, IsFsyncDenied, IsSyncDenied, IsTurnOf, OneSync, Reports, Syncs, end_reply};
+ghost use Rattle.shared.specs.Rooms.{IsFinal};
+ghost use Rattle.shared.specs.Synced.{IsDropped, IsFsyncDenied, IsNotBegun, IsSyncDenied, IsTurnOf, OneSync, Reports, Syncs, end_reply};
 
 use crate::cache::SharedCache;
 use crate::disk::Durable;
@@ -56,6 +57,7 @@ impl<B: Naming, D: BlockDevice, T: Trail> SharedCache<B, D, T> {
         ensures clean { IfOk result (λ slip. Syncs handle.old.number (record { 0 = 0 }) (record { 0 = LAST_PAGE }) None seat.old seat.new slip × Polled handle.old.pass handle.new.pass None) }
         ensures hears { IfOk result (λ slip. Hears B.sizes self.now.name slip seat.new handle.new.pass) }
         ensures denied { seat.old.name ≡ self.now.name → handle.old.cache ≡ self.now.name → IfErr result (IsFsyncDenied handle.old.number (record { 0 = 0 }) (record { 0 = LAST_PAGE }) seat.old seat.new handle.old.pass handle.new.pass) }
+        ensures stands { IfErr result (λ d. IsNotBegun handle.old.number (record { 0 = 0 }) (record { 0 = LAST_PAGE }) seat.old seat.new d ⊎ IsFinal B.sizes self.now.name seat.new d) }
     {
         self.fsync_range(rt, seat, handle, PageIndex(0), PageIndex(LAST_PAGE))
     }
@@ -81,6 +83,7 @@ impl<B: Naming, D: BlockDevice, T: Trail> SharedCache<B, D, T> {
         ensures clean { IfOk result (λ slip. Syncs handle.old.number first last None seat.old seat.new slip × Polled handle.old.pass handle.new.pass None) }
         ensures hears { IfOk result (λ slip. Hears B.sizes self.now.name slip seat.new handle.new.pass) }
         ensures denied { seat.old.name ≡ self.now.name → handle.old.cache ≡ self.now.name → IfErr result (IsFsyncDenied handle.old.number first last seat.old seat.new handle.old.pass handle.new.pass) }
+        ensures stands { IfErr result (λ d. IsNotBegun handle.old.number first last seat.old seat.new d ⊎ IsFinal B.sizes self.now.name seat.new d) }
     {
         if let Err(refusal) = self.admits(seat, handle) {
             return Err(without_slip(refusal));
@@ -127,7 +130,7 @@ impl<B: Naming, D: BlockDevice, T: Trail> SharedCache<B, D, T> {
         }
     }
 
-    /// Syncs these pages of the handle's file. No sync is left.
+    /// Syncs these pages of the handle's file. No sync is left. The one buffer of all its writes is made before it begins.
     #[tactic(auto, using(locked::proofs::Seats::goes_by, locked::proofs::Seats::goes_on, locked::proofs::Seats::goes_same, crate::proofs::Making::goes_denied, crate::proofs::Syncing::syncs_by, crate::proofs::Syncing::begin_denied, crate::proofs::Syncing::gave_up, crate::proofs::Owning::sync_not_begun, crate::proofs::Owning::sync_over, crate::proofs::Owning::sync_given_up))]
     fn sync_pages<R: Wait>(
         &self,
@@ -147,19 +150,24 @@ impl<B: Naming, D: BlockDevice, T: Trail> SharedCache<B, D, T> {
         ensures only { OneSync handle first last seat.old seat.new }
         ensures ended { IfOk result (λ r. Syncs handle first last r.failed seat.old seat.new r.slip) }
         ensures denied { IfErr result (IsSyncDenied handle first last seat.old seat.new) }
+        ensures stands { IfErr result (λ d. IsNotBegun handle first last seat.old seat.new d ⊎ IsFinal B.sizes B.name seat.new d) }
     {
+        let buffer = match Buffer::new(self.alloc, &self.geometry) {
+            Ok(buffer) => buffer,
+            Err(refusal) => return Err(without_slip(refusal)),
+        };
         let begun = self.state.lock(rt).sync_begin(seat, handle, first, last);
         let sync = match begun {
             Ok((sync, _)) => sync,
             Err(denied) => return Err(denied),
         };
-        match self.sync_turns(rt, seat, pass, sync) {
+        match self.sync_turns(rt, seat, pass, sync, buffer) {
             Ok(synced) => Ok(synced),
             Err(denied) => Err(self.give_up(rt, seat, sync, denied)),
         }
     }
 
-    /// Makes turns of the sync until one ends it.
+    /// Makes turns of the sync until one ends it, each with the buffer that the one before gave back.
     #[tactic(auto, using(locked::proofs::Seats::goes_by, locked::proofs::Seats::goes_on, locked::proofs::Seats::goes_same, crate::proofs::Making::goes_denied, crate::proofs::Making::makes_on, crate::proofs::Syncing::turn_on, locked::proofs::Seats::only_same, crate::proofs::Owning::only_turn_on))]
     fn sync_turns<R: Wait>(
         &self,
@@ -167,9 +175,11 @@ impl<B: Naming, D: BlockDevice, T: Trail> SharedCache<B, D, T> {
         seat: &mut Seat,
         pass: &mut Pass,
         sync: SyncId,
+        mut buffer: Buffer,
     ) -> Result<Synced, Denied>
         requires seat { seat.old.table ≡ B.table }
         requires pass { pass.old.board ≡ B.board }
+        requires size { length buffer ≡ B.sizes.page }
         ensures goes { Goes seat.old seat.new }
         ensures level { IsLevelled pass.old pass.new }
         ensures hears { IfOk result (λ r. Hears B.sizes B.name r.slip seat.new pass.new) }
@@ -177,19 +187,24 @@ impl<B: Naming, D: BlockDevice, T: Trail> SharedCache<B, D, T> {
         ensures only { Only (λ e. IsTurnOf sync e.event) seat.old seat.new }
         ensures ended { IfOk result (λ r. Makes seat.old seat.new r.slip (event.SyncStep sync) (end_reply r.failed)) }
         ensures denied { IfErr result (IsDenied (IsTurnOf sync) seat.old seat.new) }
+        ensures full { IfErr result (λ d. d.slip ≡ None → d.refusal ≡ TrailFull) }
+        ensures stands { IfErr result (IsFinal B.sizes B.name seat.new) }
     {
         'turns: for _ in rt.forever() {
-            match self.sync_turn(rt, seat, pass, sync) {
-                Ok(Some(synced)) => return Ok(synced),
-                Ok(None) => {}
+            let (ended, back) = match self.sync_turn(rt, seat, pass, sync, buffer) {
+                Ok(made) => made,
                 Err(denied) => return Err(denied),
+            };
+            if let Some(synced) = ended {
+                return Ok(synced);
             }
+            buffer = back;
         }
         unreachable!()
     }
 
     /// Makes a step of the sync. Where that begins a write it is carried out, where a page is being written or too many requests
-    /// are in flight the end of one is waited for, and nothing is answered.
+    /// are in flight the end of one is waited for, and the buffer alone is answered.
     #[tactic(auto, using(locked::proofs::Seats::goes_by, locked::proofs::Seats::goes_on, locked::proofs::Seats::goes_same, crate::proofs::Making::goes_denied, crate::proofs::Syncing::clean_ended, crate::proofs::Syncing::failed_ended, crate::proofs::Syncing::denied_step, crate::proofs::Syncing::turn_flush, locked::proofs::Seats::only_same, crate::proofs::Owning::only_step, crate::proofs::Owning::only_step_denied, crate::proofs::Owning::only_turned))]
     fn sync_turn<R: Wait>(
         &self,
@@ -197,46 +212,49 @@ impl<B: Naming, D: BlockDevice, T: Trail> SharedCache<B, D, T> {
         seat: &mut Seat,
         pass: &mut Pass,
         sync: SyncId,
-    ) -> Result<Option<Synced>, Denied>
+        buffer: Buffer,
+    ) -> Result<(Option<Synced>, Buffer), Denied>
         requires seat { seat.old.table ≡ B.table }
         requires pass { pass.old.board ≡ B.board }
+        requires size { length buffer ≡ B.sizes.page }
         ensures goes { Goes seat.old seat.new }
         ensures level { IsLevelled pass.old pass.new }
-        ensures hears { IfOk result (λ o. IfSome o (λ r. Hears B.sizes B.name r.slip seat.new pass.new)) }
-        ensures again { IfOk result (λ o. IfNone o (pass.new ≡ pass.old)) }
+        ensures hears { IfOk result (λ o. IfSome o.0 (λ r. Hears B.sizes B.name r.slip seat.new pass.new)) }
+        ensures again { IfOk result (λ o. IfNone o.0 (pass.new ≡ pass.old)) }
         ensures kept { IfErr result (λ _. pass.new ≡ pass.old) }
         ensures only { Only (λ e. IsTurnOf sync e.event) seat.old seat.new }
-        ensures ended { IfOk result (λ o. IfSome o (λ r. Makes seat.old seat.new r.slip (event.SyncStep sync) (end_reply r.failed))) }
+        ensures ended { IfOk result (λ o. IfSome o.0 (λ r. Makes seat.old seat.new r.slip (event.SyncStep sync) (end_reply r.failed))) }
+        ensures back { IfOk result (λ o. length o.1 ≡ B.sizes.page) }
         ensures denied { IfErr result (IsDenied (IsTurnOf sync) seat.old seat.new) }
+        ensures full { IfErr result (λ d. d.slip ≡ None → d.refusal ≡ TrailFull) }
+        ensures stands { IfErr result (IsFinal B.sizes B.name seat.new) }
     {
-        let buffer = match Buffer::new(self.alloc, &self.geometry) {
-            Ok(buffer) => buffer,
-            Err(refusal) => return Err(without_slip(refusal)),
-        };
         let mut guard = self.state.lock(rt);
         let (stepped, slip) = match guard.sync_step(seat, sync, buffer) {
             Ok(made) => made,
-            Err(denied) => {
+            Err((denied, buffer)) => {
                 return match self.wait_or(rt, guard, denied) {
-                    Ok(()) => Ok(None),
+                    Ok(()) => Ok((None, buffer)),
                     Err(denied) => Err(denied),
                 };
             }
         };
         let job = match stepped {
             SyncStepped::Job(job) => job,
-            SyncStepped::Wait(_, _) => {
+            SyncStepped::Wait(_, buffer) => {
                 self.waits(rt, guard);
-                return Ok(None);
+                return Ok((None, buffer));
             }
-            SyncStepped::Clean(_) => return Ok(Some(over(&mut guard, pass, None, slip))),
-            SyncStepped::Failed(code, _) => {
-                return Ok(Some(over(&mut guard, pass, Some(code), slip)));
+            SyncStepped::Clean(buffer) => {
+                return Ok((Some(over(&mut guard, pass, None, slip)), buffer));
+            }
+            SyncStepped::Failed(code, buffer) => {
+                return Ok((Some(over(&mut guard, pass, Some(code), slip)), buffer));
             }
         };
         drop(guard);
         match self.flush_by(rt, seat, job) {
-            Ok(_) => Ok(None),
+            Ok((_, buffer)) => Ok((None, buffer)),
             Err(denied) => Err(denied),
         }
     }

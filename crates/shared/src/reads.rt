@@ -8,7 +8,7 @@ ghost use Rattle.pc_types.specs.declared.refusal.Refusal.TheVariants.{BadHandle,
 ghost use Rattle.locked.specs.Called.{Goes, Once, Only};
 ghost use Rattle.shared.specs.Called.{Makes, Retries};
 ghost use Rattle.shared.specs.Denials.{IsDenied};
-ghost use Rattle.shared.specs.Rooms.{IsFinal, IsLost};
+ghost use Rattle.shared.specs.Rooms.{IsFinal, IsLost, IsShortFor};
 ghost use Rattle.shared.specs.Own.{IsCallOf, IsTry, count_in};
 
 use crate::cache::SharedCache;
@@ -45,6 +45,7 @@ impl<B: Naming, D: BlockDevice, T: Trail> SharedCache<B, D, T> {
         ensures rest { drop (count_in result) out.new ≡ drop (count_in result) out.old }
         ensures cursor { handle.new ≡ record handle.old { cursor = handle.old.cursor + count_in result } }
         ensures stands { IfErr result (IsFinal B.sizes self.now.name seat.new) }
+        ensures wanting { IfErr result (IsShortFor (event.Read handle.old.number handle.old.cursor (length out.old)) seat.old seat.new) }
     {
         match self.pread(rt, seat, handle, handle.cursor, out) {
             Ok((count, slip)) => {
@@ -79,6 +80,7 @@ impl<B: Naming, D: BlockDevice, T: Trail> SharedCache<B, D, T> {
         ensures rest { drop (count_in result) out.new ≡ drop (count_in result) out.old }
         ensures within { offset ≤ MAX_FILE_SIZE → offset + count_in result ≤ MAX_FILE_SIZE }
         ensures stands { IfErr result (IsFinal B.sizes self.now.name seat.new) }
+        ensures wanting { IfErr result (IsShortFor (event.Read handle.now.number offset (length out.old)) seat.old seat.new) }
     {
         if let Err(refusal) = self.admits(seat, handle) {
             return Err(without_slip(refusal));
@@ -119,6 +121,7 @@ impl<B: Naming, D: BlockDevice, T: Trail> SharedCache<B, D, T> {
         ensures kept { IfErr result (λ _. out.new ≡ out.old) }
         ensures again { IfOk result (λ o. IfNone o (Retries seat.old seat.new (event.Read handle offset (length out.old)))) }
         ensures stands { IfErr result (IsFinal B.sizes B.name seat.new) }
+        ensures wanting { IfErr result (IsShortFor (event.Read handle offset (length out.old)) seat.old seat.new) }
     {
         let most = out.len() as u64;
         let mut guard = self.state.lock(rt);

@@ -1,6 +1,6 @@
 //! What a call does on the way: it fills pages that it missed, and makes room.
 
-ghost use Rattle.std.specs.Prelude.{◌≡◌, ◌&&◌, IfErr, IfOk, IsTrue, if◌then◌else◌, false, length, true};
+ghost use Rattle.std.specs.Prelude.{◌≡◌, ◌&&◌, ◌⊎◌, IfErr, IfOk, IsTrue, if◌then◌else◌, false, length, true};
 ghost use Rattle.std.specs.Sync.Mutex.{mutex_guard_value};
 ghost use Rattle.blockdev.specs.Jobs.{IsJobFor};
 ghost use Rattle.locked.specs.Called.{Goes, Only};
@@ -10,12 +10,13 @@ ghost use Rattle.pc_types.specs.Limits.{is_geometry};
 ghost use Rattle.pc_types.specs.declared.refusal.Refusal.TheVariants.{NoFrame};
 ghost use Rattle.trail.specs.History.{After};
 ghost use Rattle.shared.specs.Called.{is_for_now};
-ghost use Rattle.shared.specs.Denials.{IsDenied};
+ghost use Rattle.shared.specs.Denials.{IsDenied, IsFullIfNoSlip};
 ghost use Rattle.shared.specs.Own.{IsEviction, IsHelp, IsRoomEvent, IsStillDenied};
 ghost use Rattle.shared.specs.Rooms.{FailsToWrite, IsCrammed, IsFinal, IsFinalOr, IsLost, IsUnwritten, is_written, wants_room};
 ghost use Rattle.shared.specs.Synced.{IsFlushEnd};
 ghost use Rattle.shared.specs.Workers.{LetsGo};
 ghost use Rattle.shared.specs.declared.room.Want.TheVariants.{Frames};
+ghost use Rattle.world.specs.Ends.{buffer_of};
 
 use crate::cache::SharedCache;
 use blockdev::{BlockDevice, Buffer, Job};
@@ -169,6 +170,7 @@ impl<B: Naming, D: BlockDevice, T: Trail> SharedCache<B, D, T> {
         ensures only { Only (λ e. IsRoomEvent e.event) seat.old seat.new }
         ensures denied { IfErr result (IsStillDenied denied seat.old seat.new) }
         ensures passing { IfOk result (λ _. is_for_now denied.refusal ≡ true) }
+        ensures other { IfErr result (λ d. (d ≡ denied) ⊎ (is_for_now denied.refusal ≡ true)) }
         ensures crammed { IfErr result (λ d. wants_room d.refusal ≡ true → (d ≡ denied) × IsCrammed d.refusal (mutex_guard_value guard.entry).core.state × IsUnwritten (mutex_guard_value guard.entry).core.state seat.old seat.new) }
         ensures legal { After B.sizes B.name (mutex_guard_value guard.entry).log.history (mutex_guard_value guard.entry).core.state }
         ensures within { IsTrue (is_geometry B.sizes) }
@@ -266,7 +268,7 @@ impl<B: Naming, D: BlockDevice, T: Trail> SharedCache<B, D, T> {
             Ok(Some((job, _))) => {
                 drop(guard);
                 match self.flush_by(rt, seat, job) {
-                    Ok(is_written) => Ok(is_written || was_busy),
+                    Ok((is_written, _)) => Ok(is_written || was_busy),
                     Err(denied) => Err(denied),
                 }
             }
@@ -329,14 +331,15 @@ impl<B: Naming, D: BlockDevice, T: Trail> SharedCache<B, D, T> {
         Ok(())
     }
 
-    /// Makes the device call of a flush, without the state's lock, and ends the flush. Answers whether the page was written.
+    /// Makes the device call of a flush, without the state's lock, and ends the flush. Answers whether the page was written, with the
+    /// job's buffer.
     #[tactic(auto, using(locked::proofs::Seats::goes_by, locked::proofs::Seats::goes_on, locked::proofs::Seats::goes_same, crate::proofs::Making::goes_denied, crate::proofs::Making::denied_flush, crate::proofs::Syncing::flush_denied, crate::proofs::Owning::only_flush_end, crate::proofs::Owning::only_flush_end_denied, crate::proofs::Rooming::end_unwanted, crate::proofs::Rooming::failed_by, crate::proofs::Rooming::end_final))]
     pub(crate) fn flush_by<R: Wait>(
         &self,
         rt: &R,
         seat: &mut Seat,
         job: Job,
-    ) -> Result<bool, Denied>
+    ) -> Result<(bool, Buffer), Denied>
         requires seat { seat.old.table ≡ B.table }
         requires fits { IsJobFor B.name B.sizes.blocks B.sizes.page job }
         ensures goes { Goes seat.old seat.new }
@@ -344,24 +347,31 @@ impl<B: Naming, D: BlockDevice, T: Trail> SharedCache<B, D, T> {
         ensures denied { IfErr result (IsDenied IsRoomEvent seat.old seat.new) }
         ensures unwanted { IfErr result (λ d. wants_room d.refusal ≡ false) }
         ensures ended { IfErr result (IsDenied IsFlushEnd seat.old seat.new) }
-        ensures failed { IfOk result (λ written. written ≡ false → FailsToWrite seat.old seat.new) }
+        ensures full { IfErr result (IsFullIfNoSlip seat.old seat.new) }
+        ensures failed { IfOk result (λ r. r.0 ≡ false → FailsToWrite seat.old seat.new) }
+        ensures size { IfOk result (λ r. length r.1 ≡ B.sizes.page) }
         ensures stands { IfErr result (IsFinal B.sizes B.name seat.new) }
     {
         let finished = self.disk.lock(rt).carry_out(job);
         let ended = self.state.lock(rt).flush_end(seat, finished);
         self.has_ended(rt);
         match ended {
-            Ok((ended, _, _)) => Ok(is_written(&ended)),
+            Ok((ended, _, _)) => Ok(written(ended)),
             Err(denied) => Err(denied),
         }
     }
 }
 
-/// Whether the write of a flush that ended so did not fail.
-fn is_written(ended: &Ended) -> bool
-    ensures { result ≡ is_written ended.now }
+/// Whether the write of a flush that ended so did not fail, and its buffer.
+fn written(ended: Ended) -> (bool, Buffer)
+    ensures is { result.0 ≡ is_written ended }
+    ensures back { result.1 ≡ buffer_of ended }
 {
-    !matches!(ended, Ended::Failed(_, _))
+    match ended {
+        Ended::Failed(_, buffer) => (false, buffer),
+        Ended::Done(buffer) => (true, buffer),
+        Ended::Dropped(buffer) => (true, buffer),
+    }
 }
 
 /// Lets pages age, and then an idle one go. Answers whether there was one.

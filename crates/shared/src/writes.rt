@@ -1,6 +1,6 @@
 //! Writes and truncations.
 
-ghost use Rattle.std.specs.Prelude.{◌≡◌, ◌≢◌, ◌+◌, Err, IfErr, IfNone, IfOk, IfSome, IsTrue, None, Ok, length, true};
+ghost use Rattle.std.specs.Prelude.{◌≡◌, ◌≢◌, ◌⊎◌, ◌+◌, Err, IfErr, IfNone, IfOk, IfSome, IsTrue, None, Ok, length, true};
 ghost use Rattle.std.specs.Sync.Mutex.{mutex_guard_value};
 ghost use Rattle.cachecore.specs.Replies.{was_truncated};
 ghost use Rattle.held.specs.Entered.{Made};
@@ -14,7 +14,7 @@ ghost use Rattle.locked.specs.Denials as under;
 ghost use Rattle.shared.specs.Called.{Makes, Retries, is_for_now};
 ghost use Rattle.shared.specs.Changes.{IsWhole, IsWholeIn, cursor_after, event_of, over, reply_of, write_event};
 ghost use Rattle.shared.specs.Denials.{IsDenied};
-ghost use Rattle.shared.specs.Rooms.{IsCrammed, IsFinal, IsFinalOr, IsLost, IsUnwritten, wants_room};
+ghost use Rattle.shared.specs.Rooms.{IsCrammed, IsFinal, IsFinalOr, IsLost, IsShortFor, IsUnwritten, wants_room};
 ghost use Rattle.shared.specs.Own.{IsCallOf, IsRoomEvent, IsStillDenied, IsTry};
 ghost use Rattle.shared.specs.declared.writes.Change.TheVariants as change;
 
@@ -71,6 +71,7 @@ impl<B: Naming, D: BlockDevice, T: Trail> SharedCache<B, D, T> {
         ensures lost { IfErr result (IsLost B.sizes self.now.name seat.new) }
         ensures count { IfOk result (λ r. (r.0.count ≡ length bytes.now) × (r.0.end ≡ offset + length bytes.now)) }
         ensures stands { IfErr result (IsFinal B.sizes self.now.name seat.new) }
+        ensures wanting { IfErr result (IsShortFor (event.Write handle.now.number offset bytes.now) seat.old seat.new) }
     {
         if let Err(refusal) = self.admits(seat, handle) {
             return Err(without_slip(refusal));
@@ -99,6 +100,7 @@ impl<B: Naming, D: BlockDevice, T: Trail> SharedCache<B, D, T> {
         ensures count { IfOk result (λ r. r.0.count ≡ length bytes.now) }
         ensures cursor { handle.new ≡ record handle.old { cursor = cursor_after handle.old.cursor result } }
         ensures stands { IfErr result (IsFinal B.sizes self.now.name seat.new) }
+        ensures wanting { IfErr result (IsShortFor (write_event handle.old bytes.now) seat.old seat.new) }
     {
         if let Err(refusal) = self.admits(seat, handle) {
             return Err(without_slip(refusal));
@@ -136,6 +138,7 @@ impl<B: Naming, D: BlockDevice, T: Trail> SharedCache<B, D, T> {
         ensures denied { seat.old.name ≡ self.now.name → handle.now.cache ≡ self.now.name → IfErr result (IsDenied (IsCallOf handle.now.number (event.Truncate handle.now.number size)) seat.old seat.new) }
         ensures lost { IfErr result (IsLost B.sizes self.now.name seat.new) }
         ensures stands { IfErr result (IsFinal B.sizes self.now.name seat.new) }
+        ensures wanting { IfErr result (IsShortFor (event.Truncate handle.now.number size) seat.old seat.new) }
     {
         if let Err(refusal) = self.admits(seat, handle) {
             return Err(without_slip(refusal));
@@ -165,6 +168,7 @@ impl<B: Naming, D: BlockDevice, T: Trail> SharedCache<B, D, T> {
         ensures lost { IfErr result (IsLost B.sizes B.name seat.new) }
         ensures whole { IfOk result (λ r. IsWhole change bytes.now r.0) }
         ensures stands { IfErr result (IsFinal B.sizes B.name seat.new) }
+        ensures wanting { IfErr result (IsShortFor (event_of change handle bytes.now) seat.old seat.new) }
     {
         'attempts: for _ in rt.forever() {
             match self.try_change(rt, seat, handle, change, bytes) {
@@ -201,6 +205,7 @@ impl<B: Naming, D: BlockDevice, T: Trail> SharedCache<B, D, T> {
         ensures whole { IfOk result (λ o. IfSome o (λ r. IsWhole change bytes.now r.0)) }
         ensures again { IfOk result (λ o. IfNone o (Retries seat.old seat.new (event_of change handle bytes.now))) }
         ensures stands { IfErr result (IsFinal B.sizes B.name seat.new) }
+        ensures wanting { IfErr result (IsShortFor (event_of change handle bytes.now) seat.old seat.new) }
     {
         let mut guard = self.state.lock(rt);
         let span = span_of(&guard, handle, change, bytes);
@@ -230,7 +235,7 @@ impl<B: Naming, D: BlockDevice, T: Trail> SharedCache<B, D, T> {
 
     /// What a change comes to that was refused, in the hold that refused it: where it was for want of room, room is made for all that
     /// the call wants, or the end of a request waited for; else the refusal stands.
-    #[tactic(auto, using(locked::proofs::Seats::goes_on, locked::proofs::Seats::goes_same, locked::proofs::Seats::only_same, crate::proofs::Owning::only_room_on, crate::proofs::Making::room_on, crate::proofs::Rooming::stands_other))]
+    #[tactic(auto, using(locked::proofs::Seats::goes_on, locked::proofs::Seats::goes_same, locked::proofs::Seats::only_same, crate::proofs::Owning::only_room_on, crate::proofs::Making::room_on, crate::proofs::Rooming::stands_other, crate::proofs::Wanting::passes_anyhow))]
     fn settle<R: Wait>(
         &self,
         rt: &R,
@@ -244,6 +249,7 @@ impl<B: Naming, D: BlockDevice, T: Trail> SharedCache<B, D, T> {
         ensures only { Only (λ e. IsRoomEvent e.event) seat.old seat.new }
         ensures denied { IfErr result (IsStillDenied denied seat.old seat.new) }
         ensures passing { IfOk result (λ _. is_for_now denied.refusal ≡ true) }
+        ensures other { IfErr result (λ d. (d ≡ denied) ⊎ (is_for_now denied.refusal ≡ true)) }
         ensures crammed { IfErr result (λ d. wants_room d.refusal ≡ true → (d ≡ denied) × IsCrammed d.refusal (mutex_guard_value guard.entry).core.state × IsUnwritten (mutex_guard_value guard.entry).core.state seat.old seat.new) }
         ensures legal { After B.sizes B.name (mutex_guard_value guard.entry).log.history (mutex_guard_value guard.entry).core.state }
         ensures within { IsTrue (is_geometry B.sizes) }

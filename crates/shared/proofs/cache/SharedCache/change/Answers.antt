@@ -3,6 +3,7 @@ use Rattle.locked.proofs.Seats.{goes_on, goes_same, only_same}
 use Rattle.shared.specs.Changes.{event_of}
 use Rattle.shared.specs.Own.{IsTry}
 use Rattle.shared.proofs.Owning.{once_try_on, only_try_on}
+use Rattle.shared.proofs.Wanting.{short_on}
 use Rattle.shared.proofs.cache.SharedCache.change.Goals as goal
 
 pub attempts-init : goal.attempts-init
@@ -23,3 +24,8 @@ attempts-preserved g c = record {
   tried = only_try_on c.args.handle (event_of c.args.change c.args.handle c.args.bytes.now) c.args.seat.now c.attempts.seat
       c.try_change.new.seat c.attempts.invariant.tried (rw c.in-Ok-None.field-0-is at c.in-Ok-None.ensures.tried);
 }
+
+pub returns-in-Err-clause-wanting : goal.returns-in-Err-clause-wanting
+returns-in-Err-clause-wanting g c =
+    short_on (event_of c.args.change c.args.handle c.args.bytes.now) c.args.seat.now c.attempts.seat c.try_change.new.seat
+    c.in-Err.denied c.attempts.invariant.goes c.in-Err.ensures.wanting

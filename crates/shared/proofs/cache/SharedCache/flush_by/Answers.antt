@@ -1,7 +1,9 @@
-use Rattle.std.proofs.Common.{◌∙◌, sym}
+use Rattle.std.proofs.Common.{◌∙◌, ap, length, sym}
 use Rattle.cachecore.specs.Replies.{end_of}
+use Rattle.machine.specs.declared.event.Event.TheVariants as event
 use Rattle.pc_types.specs.declared.kind.Kind.TheVariants.{Flush}
-use Rattle.shared.proofs.Making.{denied_flush}
+use Rattle.shared.proofs.Ending.{back_sized}
+use Rattle.shared.proofs.Making.{denied_flush, full_by}
 use Rattle.shared.proofs.Owning.{only_flush_end}
 use Rattle.shared.proofs.Syncing.{flush_denied}
 use Rattle.shared.proofs.Rooming.{end_unwanted, failed_by}
@@ -24,4 +26,13 @@ returns-clause-unwanted g c = end_unwanted Flush (end_of c.carry_out-finished.re
 
 pub returns-in-Ok-clause-failed : goal.returns-in-Ok-clause-failed
 returns-in-Ok-clause-failed g c e =
-    failed_by _ _ _ _ _ _ _ c.in-Ok.ensures.made (sym c.is_written.ensures ∙ e)
+    failed_by _ _ _ _ _ _ _ c.in-Ok.ensures.made (sym c.written.ensures.is ∙ e)
+
+pub returns-in-Ok-clause-size : goal.returns-in-Ok-clause-size
+returns-in-Ok-clause-size g c =
+    ap length c.written.ensures.back ∙ back_sized _ c.carry_out-finished.result g.B.Naming.sizes.page c.in-Ok.ensures.back
+    c.carry_out-finished.ensures.size
+
+pub returns-clause-full : goal.returns-clause-full
+returns-clause-full g c = full_by (event.End Flush (end_of c.carry_out-finished.result)) c.deref_mut-2.result.now
+    c.flush_end-ended.new.self c.args.seat.now c.flush_end-ended.new.seat c.in-Err.denied c.in-Err.ensures.denied

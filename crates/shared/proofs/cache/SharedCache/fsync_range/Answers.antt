@@ -1,11 +1,17 @@
-use Rattle.std.proofs.Common.{ap, subst, sym, ◌∙◌}
+use Rattle.std.proofs.Common.{ap, inr, subst, sym, ◌⊎◌, ◌∙◌}
+use Rattle.std.proofs.lemmas.Result.{IfErr-weaker}
+use Rattle.std.specs.Prelude.{None}
 use Rattle.pc_types.specs.declared.ids.HandleId.{HandleId}
 use Rattle.held.specs.declared.log.Slip.{Slip}
+use Rattle.locked.specs.declared.denied.Denied.{Denied}
+use Rattle.shared.specs.Called.{is_for_now}
 use Rattle.shared.specs.Polls.{Hears}
 use Rattle.shared.specs.Seen.{HandleSeen}
-use Rattle.shared.specs.Synced.{IsSyncDenied}
+use Rattle.shared.specs.Rooms.{IsFinal}
+use Rattle.shared.specs.Synced.{IsNotBegun, IsSyncDenied, Reports}
 use Rattle.shared.proofs.Hearing.{hears_told}
-use Rattle.shared.proofs.Syncing.{fsync_clean, fsync_failed, sync_denied}
+use Rattle.shared.proofs.Rooming.{admitted_final, final_lasting}
+use Rattle.shared.proofs.Syncing.{fsync_clean, fsync_failed, report_final, sync_denied}
 use Rattle.shared.proofs.cache.SharedCache.fsync_range.Goals as goal
 
 pub returns-in-Err-sync_pages-clause-denied : goal.returns-in-Err-sync_pages-clause-denied
@@ -37,3 +43,37 @@ returns-in-Ok-flushed-clause-hears g c =
     (sym c.args.self.now.named)
     (subst (λ (s : Slip). Hears g.B.Naming.sizes g.B.Naming.name s c.sync_pages.new.seat c.sync_pages.new.pass)
     (sym c.in-Ok-flushed.ensures.slip) c.in-Ok.ensures.hears)) c.report.ensures.clean
+
+-- a refusal that may pass when a request ends is that of the sync
+pub returns-in-Err-clause-stands : goal.returns-in-Err-clause-stands
+returns-in-Err-clause-stands g c =
+    inr (admitted_final g.B.Naming.sizes c.args.self.now.name c.args.seat.now c.args.self.now.name c.args.seat.now.name
+    c.args.handle.now.cache c.in-Err.refusal c.without_slip.result
+    (sym c.admits.ensures ∙ c.in-Err.is) c.without_slip.ensures)
+
+pub returns-in-Err-sync_pages-clause-stands : goal.returns-in-Err-sync_pages-clause-stands
+returns-in-Err-sync_pages-clause-stands g c =
+    subst (λ (n : HandleId). IsNotBegun n c.args.first c.args.last c.args.seat.now c.sync_pages.new.seat
+    c.in-Err-sync_pages.denied ⊎ IsFinal g.B.Naming.sizes c.args.self.now.name c.sync_pages.new.seat
+    c.in-Err-sync_pages.denied) (ap (λ (h : HandleSeen). h.number) c.handle.view_is)
+    (subst (λ n. IsNotBegun c.handle.inside.number c.args.first c.args.last c.args.seat.now c.sync_pages.new.seat
+    c.in-Err-sync_pages.denied ⊎ IsFinal g.B.Naming.sizes n c.sync_pages.new.seat c.in-Err-sync_pages.denied)
+    (sym c.args.self.now.named) c.in-Err-sync_pages.ensures.stands)
+
+pub returns-in-Some-clause-stands : goal.returns-in-Some-clause-stands
+returns-in-Some-clause-stands g c =
+    inr (report_final g.B.Naming.sizes c.args.self.now.name c.sync_pages.new.seat _ _ _ _ c.report_failed.result
+    c.report_failed.ensures.failed)
+
+pub returns-in-Ok-flushed-clause-stands : goal.returns-in-Ok-flushed-clause-stands
+returns-in-Ok-flushed-clause-stands g c =
+    let h = c.args.handle.now.number in
+    IfErr-weaker c.report.result (Reports None c.in-Ok-flushed.durable c.sync_pages.new.pass c.report.new.handle.pass)
+    (λ d. IsNotBegun h c.args.first c.args.last c.args.seat.now c.sync_pages.new.seat d
+    ⊎ IsFinal g.B.Naming.sizes c.args.self.now.name c.sync_pages.new.seat d)
+    (λ d r. inr (report_final g.B.Naming.sizes c.args.self.now.name c.sync_pages.new.seat _ _ _ _ d r)) c.report.ensures.failed
+
+pub returns-in-Err-flushed-clause-stands : goal.returns-in-Err-flushed-clause-stands
+returns-in-Err-flushed-clause-stands g c =
+    inr (final_lasting g.B.Naming.sizes c.args.self.now.name c.sync_pages.new.seat c.without_slip-in-Err-flushed.result
+    (ap (λ (x : Denied). is_for_now x.refusal) c.without_slip-in-Err-flushed.ensures))

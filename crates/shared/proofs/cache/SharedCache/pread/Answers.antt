@@ -1,11 +1,13 @@
-use Rattle.std.proofs.Common.{ℕ, ◌∙◌, List, ap, length, subst}
+use Rattle.std.proofs.Common.{ℕ, ◌∙◌, List, ap, length, subst, sym}
 use Rattle.machine.specs.declared.event.Event.TheVariants as event
 use Rattle.pc_types.specs.declared.ids.HandleId.{HandleId}
 use Rattle.locked.specs.Called.{Once, Only}
 use Rattle.locked.proofs.Seats.{goes_on}
 use Rattle.shared.specs.Own.{IsTry}
+use Rattle.shared.specs.Rooms.{IsShortFor}
 use Rattle.shared.specs.Seen.{HandleSeen}
 use Rattle.shared.proofs.Owning.{once_try_on, only_try_on}
+use Rattle.shared.proofs.Wanting.{short_admitted, short_on}
 use Rattle.shared.proofs.cache.SharedCache.pread.Goals as goal
 
 pub returns-in-Ok-Some-clause-once : goal.returns-in-Ok-Some-clause-once
@@ -32,3 +34,19 @@ attempts-preserved g c =
           c.attempts.seat c.try_read.new.seat) c.attempts.invariant.out (rw c.in-Ok-None.field-0-is at c.in-Ok-None.ensures.tried)));
       out = (rw c.in-Ok-None.field-0-is at c.in-Ok-None.ensures.same) ∙ c.attempts.invariant.out;
     }
+
+pub returns-in-Err-clause-wanting : goal.returns-in-Err-clause-wanting
+returns-in-Err-clause-wanting g c =
+    short_admitted (event.Read c.args.handle.now.number c.args.offset (length c.args.out.now)) c.args.seat.now c.args.seat.now
+    c.args.self.now.name c.args.seat.now.name c.args.handle.now.cache c.in-Err.refusal c.without_slip.result
+    (sym c.admits.ensures ∙ c.in-Err.is) c.without_slip.ensures
+
+pub returns-in-Err-try_read-clause-wanting : goal.returns-in-Err-try_read-clause-wanting
+returns-in-Err-try_read-clause-wanting g c =
+    let h = c.args.handle.now.number in
+    short_on (event.Read h c.args.offset (length c.args.out.now)) c.args.seat.now c.attempts.seat c.try_read.new.seat
+    c.in-Err-try_read.denied c.attempts.invariant.goes
+    (subst (λ (n : HandleId). IsShortFor (event.Read n c.args.offset (length c.args.out.now)) c.attempts.seat
+    c.try_read.new.seat c.in-Err-try_read.denied) (ap (λ (x : HandleSeen). x.number) c.handle.view_is)
+    (subst (λ (l : List ℕ). IsShortFor (event.Read c.handle.inside.number c.args.offset (length l)) c.attempts.seat
+    c.try_read.new.seat c.in-Err-try_read.denied) c.attempts.invariant.out c.in-Err-try_read.ensures.wanting))

@@ -1,28 +1,51 @@
-use Rattle.shared.proofs.Owning.{sync_given_up, sync_not_begun, sync_over}
-use Rattle.shared.proofs.Syncing.{begin_denied, gave_up, syncs_by}
+use Rattle.shared.proofs.Owning.{sync_given_up, sync_not_begun, sync_over, sync_same}
+use Rattle.std.proofs.Common.{inl, inr, refl}
+use Rattle.shared.proofs.Syncing.{begin_denied, gave_up, gave_up_final, memory_denied, syncs_by}
 use Rattle.shared.proofs.cache.SharedCache.sync_pages.Goals as goal
 
+-- there was no memory for a buffer
 pub returns-in-Err-clause-denied : goal.returns-in-Err-clause-denied
-returns-in-Err-clause-denied g c = begin_denied c.args.handle c.args.first c.args.last c.deref_mut.result.now
-    c.sync_begin-begun.new.self c.args.seat.now c.sync_begin-begun.new.seat c.in-Err.denied c.in-Err.ensures.denied
+returns-in-Err-clause-denied g c = inl (memory_denied c.args.handle c.args.first c.args.last c.args.seat.now c.in-Err.refusal
+    c.without_slip.result c.in-Err.ensures.refused c.without_slip.ensures)
+
+pub returns-in-Err-clause-stands : goal.returns-in-Err-clause-stands
+returns-in-Err-clause-stands g c = inl (memory_denied c.args.handle c.args.first c.args.last c.args.seat.now c.in-Err.refusal
+    c.without_slip.result c.in-Err.ensures.refused c.without_slip.ensures)
+
+pub returns-in-Err-clause-only : goal.returns-in-Err-clause-only
+returns-in-Err-clause-only g c = sync_same c.args.handle c.args.first c.args.last c.args.seat.now c.args.seat.now refl
+
+-- the begin was refused
+pub returns-in-Err-begun-clause-denied : goal.returns-in-Err-begun-clause-denied
+returns-in-Err-begun-clause-denied g c = inl (begin_denied c.args.handle c.args.first c.args.last c.deref_mut.result.now
+    c.sync_begin-begun.new.self c.args.seat.now c.sync_begin-begun.new.seat c.in-Err-begun.denied c.in-Err-begun.ensures.denied)
+
+pub returns-in-Err-begun-clause-stands : goal.returns-in-Err-begun-clause-stands
+returns-in-Err-begun-clause-stands g c = inl (begin_denied c.args.handle c.args.first c.args.last c.deref_mut.result.now
+    c.sync_begin-begun.new.self c.args.seat.now c.sync_begin-begun.new.seat c.in-Err-begun.denied c.in-Err-begun.ensures.denied)
 
 pub returns-in-Ok-sync_turns-clause-ended : goal.returns-in-Ok-sync_turns-clause-ended
 returns-in-Ok-sync_turns-clause-ended g c = syncs_by c.args.handle c.args.first c.args.last _ _ _ _ _ _ _ _ _
-    c.in-Ok.ensures.made c.in-Ok-sync_turns.ensures.ended
+    c.in-Ok-begun.ensures.made c.in-Ok-sync_turns.ensures.ended
 
 pub returns-in-Err-sync_turns-clause-denied : goal.returns-in-Err-sync_turns-clause-denied
 returns-in-Err-sync_turns-clause-denied g c = gave_up c.args.handle c.args.first c.args.last _ _ _ _ _ _ _ _
-    c.in-Err-sync_turns.denied c.give_up.result c.in-Ok.ensures.made c.sync_turns.ensures.goes
-    c.in-Err-sync_turns.ensures.denied c.give_up.ensures.dropped
+    c.in-Err-sync_turns.denied c.give_up.result c.in-Ok-begun.ensures.made c.sync_turns.ensures.goes
+    c.in-Err-sync_turns.ensures.denied c.in-Err-sync_turns.ensures.full c.give_up.ensures.dropped
 
-pub returns-in-Err-clause-only : goal.returns-in-Err-clause-only
-returns-in-Err-clause-only g c = sync_not_begun c.args.handle c.args.first c.args.last c.deref_mut.result.now
-    c.sync_begin-begun.new.self c.args.seat.now c.sync_begin-begun.new.seat c.in-Err.denied c.in-Err.ensures.denied
+pub returns-in-Err-sync_turns-clause-stands : goal.returns-in-Err-sync_turns-clause-stands
+returns-in-Err-sync_turns-clause-stands g c = inr (gave_up_final g.B.Naming.sizes g.B.Naming.name _ _ _
+    c.in-Err-sync_turns.denied c.give_up.result c.give_up.ensures.goes c.in-Err-sync_turns.ensures.stands
+    c.give_up.ensures.dropped)
+
+pub returns-in-Err-begun-clause-only : goal.returns-in-Err-begun-clause-only
+returns-in-Err-begun-clause-only g c = sync_not_begun c.args.handle c.args.first c.args.last c.deref_mut.result.now
+    c.sync_begin-begun.new.self c.args.seat.now c.sync_begin-begun.new.seat c.in-Err-begun.denied c.in-Err-begun.ensures.denied
 
 pub returns-in-Ok-sync_turns-clause-only : goal.returns-in-Ok-sync_turns-clause-only
 returns-in-Ok-sync_turns-clause-only g c = sync_over c.args.handle c.args.first c.args.last _ _ _ _ _ _ _
-    c.in-Ok.ensures.made c.sync_turns.ensures.only
+    c.in-Ok-begun.ensures.made c.sync_turns.ensures.only
 
 pub returns-in-Err-sync_turns-clause-only : goal.returns-in-Err-sync_turns-clause-only
 returns-in-Err-sync_turns-clause-only g c = sync_given_up c.args.handle c.args.first c.args.last _ _ _ _ _ _ _ _
-    c.in-Ok.ensures.made c.sync_turns.ensures.only c.give_up.ensures.only
+    c.in-Ok-begun.ensures.made c.sync_turns.ensures.only c.give_up.ensures.only

@@ -1,4 +1,7 @@
-use Rattle.std.proofs.Common.{◌≡◌, ap, rules, subst, sym}
+use Rattle.std.proofs.Common.{◌≡◌, ◌∙◌, ap, length, rules, subst, sym}
+use Rattle.std.specs.Prelude.{Ok}
+use Rattle.cachecore.specs.Replies.{SyncGivesBack}
+use Rattle.cachecore.specs.declared.answers.SyncStepped.{SyncStepped}
 use Rattle.machine.specs.declared.event.Event.TheVariants as event
 use Rattle.held.specs.declared.log.Slip.{Slip}
 use Rattle.shared.specs.Denials.{IsDenied}
@@ -8,46 +11,81 @@ use Rattle.shared.proofs.Hearing.{hears_by}
 use Rattle.shared.specs.Synced.{IsTurnOf}
 use Rattle.shared.proofs.Making.{goes_denied}
 use Rattle.shared.proofs.Owning.{only_step, only_step_denied, only_turned}
-use Rattle.shared.proofs.Syncing.{denied_step}
+use Rattle.shared.proofs.Rooming.{step_final}
+use Rattle.shared.proofs.Syncing.{denied_step, step_full}
 use Rattle.shared.proofs.cache.SharedCache.sync_turn.Goals as goal
 
 pub returns-in-Err-wait_or-clause-goes : goal.returns-in-Err-wait_or-clause-goes
 returns-in-Err-wait_or-clause-goes g c = goes_denied (event.SyncStep c.args.sync) c.deref_mut.result.now
-    c.sync_step.new.self c.args.seat.now c.sync_step.new.seat c.in-Err-sync_step.denied
-    c.in-Err-sync_step.ensures.denied
+    c.sync_step.new.self c.args.seat.now c.sync_step.new.seat c.in-Err.denied
+    c.in-Err.ensures.denied
 
 pub returns-in-Err-wait_or-clause-denied : goal.returns-in-Err-wait_or-clause-denied
 returns-in-Err-wait_or-clause-denied g c =
     subst (IsDenied (IsTurnOf c.args.sync) c.args.seat.now c.sync_step.new.seat) (sym c.in-Err-wait_or.ensures.denied)
     (denied_step c.args.sync c.deref_mut.result.now c.sync_step.new.self c.args.seat.now c.sync_step.new.seat
-    c.in-Err-sync_step.denied c.in-Err-sync_step.ensures.denied)
+    c.in-Err.denied c.in-Err.ensures.denied)
 
 pub returns-in-Ok-wait_or-clause-only : goal.returns-in-Ok-wait_or-clause-only
 returns-in-Ok-wait_or-clause-only g c =
     only_step_denied c.args.sync c.deref_mut.result.now c.sync_step.new.self c.args.seat.now c.sync_step.new.seat
-    c.in-Err-sync_step.denied c.in-Err-sync_step.ensures.denied
+    c.in-Err.denied c.in-Err.ensures.denied
 
 pub returns-in-Err-wait_or-clause-only : goal.returns-in-Err-wait_or-clause-only
 returns-in-Err-wait_or-clause-only g c =
     only_step_denied c.args.sync c.deref_mut.result.now c.sync_step.new.self c.args.seat.now c.sync_step.new.seat
-    c.in-Err-sync_step.denied c.in-Err-sync_step.ensures.denied
+    c.in-Err.denied c.in-Err.ensures.denied
 
 pub returns-in-Wait-clause-only : goal.returns-in-Wait-clause-only
-returns-in-Wait-clause-only g c = only_step c.args.sync _ _ _ _ _ _ c.in-Ok-sync_step.ensures.made
+returns-in-Wait-clause-only g c = only_step c.args.sync _ _ _ _ _ _ c.in-Ok.ensures.made
 
 pub returns-in-Clean-clause-only : goal.returns-in-Clean-clause-only
-returns-in-Clean-clause-only g c = only_step c.args.sync _ _ _ _ _ _ c.in-Ok-sync_step.ensures.made
+returns-in-Clean-clause-only g c = only_step c.args.sync _ _ _ _ _ _ c.in-Ok.ensures.made
 
 pub returns-in-Failed-clause-only : goal.returns-in-Failed-clause-only
-returns-in-Failed-clause-only g c = only_step c.args.sync _ _ _ _ _ _ c.in-Ok-sync_step.ensures.made
+returns-in-Failed-clause-only g c = only_step c.args.sync _ _ _ _ _ _ c.in-Ok.ensures.made
 
 pub returns-in-Ok-flush_by-clause-only : goal.returns-in-Ok-flush_by-clause-only
 returns-in-Ok-flush_by-clause-only g c =
-    only_turned c.args.sync _ _ _ _ _ _ _ c.in-Ok-sync_step.ensures.made c.flush_by.ensures.only
+    only_turned c.args.sync _ _ _ _ _ _ _ c.in-Ok.ensures.made c.flush_by.ensures.only
 
 pub returns-in-Err-flush_by-clause-only : goal.returns-in-Err-flush_by-clause-only
 returns-in-Err-flush_by-clause-only g c =
-    only_turned c.args.sync _ _ _ _ _ _ _ c.in-Ok-sync_step.ensures.made c.flush_by.ensures.only
+    only_turned c.args.sync _ _ _ _ _ _ _ c.in-Ok.ensures.made c.flush_by.ensures.only
+
+-- the refusal stands, in the hold that says whether a request is in flight
+pub returns-in-Err-wait_or-clause-stands : goal.returns-in-Err-wait_or-clause-stands
+returns-in-Err-wait_or-clause-stands g c =
+    step_final g.B.Naming.sizes g.B.Naming.name c.args.sync c.deref_mut.result.now c.sync_step.new.self c.args.seat.now
+    c.sync_step.new.seat c.in-Err.denied c.in-Err-wait_or.denied c.in-Err.ensures.denied
+    c.wait_or.ensures.legal c.in-Err-wait_or.ensures.denied c.in-Err-wait_or.ensures.still
+
+pub returns-in-Err-wait_or-clause-full : goal.returns-in-Err-wait_or-clause-full
+returns-in-Err-wait_or-clause-full g c =
+    step_full c.args.sync c.deref_mut.result.now c.sync_step.new.self c.args.seat.now c.sync_step.new.seat
+    c.in-Err.denied c.in-Err-wait_or.denied c.in-Err.ensures.denied c.in-Err-wait_or.ensures.denied
+
+pub returns-in-Err-flush_by-clause-full : goal.returns-in-Err-flush_by-clause-full
+returns-in-Err-flush_by-clause-full g c none = (c.in-Err-flush_by.ensures.full none).0
+
+-- the buffer came back
+pub returns-in-Ok-wait_or-clause-back : goal.returns-in-Ok-wait_or-clause-back
+returns-in-Ok-wait_or-clause-back g c = ap length c.in-Err.ensures.kept ∙ c.requires.size
+
+pub returns-in-Wait-clause-back : goal.returns-in-Wait-clause-back
+returns-in-Wait-clause-back g c =
+    ap length (subst (λ (x : SyncStepped). SyncGivesBack c.args.buffer (Ok x)) c.in-Wait.is c.in-Ok.ensures.back)
+    ∙ c.requires.size
+
+pub returns-in-Clean-clause-back : goal.returns-in-Clean-clause-back
+returns-in-Clean-clause-back g c =
+    ap length (subst (λ (x : SyncStepped). SyncGivesBack c.args.buffer (Ok x)) c.in-Clean.is c.in-Ok.ensures.back)
+    ∙ c.requires.size
+
+pub returns-in-Failed-clause-back : goal.returns-in-Failed-clause-back
+returns-in-Failed-clause-back g c =
+    ap length (subst (λ (x : SyncStepped). SyncGivesBack c.args.buffer (Ok x)) c.in-Failed.is c.in-Ok.ensures.back)
+    ∙ c.requires.size
 
 -- the pass was levelled in the hold that ended the sync
 pub returns-in-Clean-clause-hears : goal.returns-in-Clean-clause-hears
@@ -57,8 +95,8 @@ returns-in-Clean-clause-hears g c =
     subst (λ (s : Slip). Hears g.B.Naming.sizes g.B.Naming.name s c.sync_step.new.seat c.over.new.pass)
     (sym (ap (λ (x : Synced). x.slip) c.over.ensures.is))
     (hears_by g.B.Naming.sizes g.B.Naming.name (event.SyncStep c.args.sync) _ c.deref_mut.result.now c.sync_step.new.self
-    c.deref_mut-in-Clean.result.now c.args.seat.now c.sync_step.new.seat c.in-Ok-sync_step.made.1 c.over.new.pass
-    c.in-Ok-sync_step.ensures.made same c.over.ensures.legal c.over.ensures.known)
+    c.deref_mut-in-Clean.result.now c.args.seat.now c.sync_step.new.seat c.in-Ok.made.1 c.over.new.pass
+    c.in-Ok.ensures.made same c.over.ensures.legal c.over.ensures.known)
 
 pub returns-in-Failed-clause-hears : goal.returns-in-Failed-clause-hears
 returns-in-Failed-clause-hears g c =
@@ -67,6 +105,6 @@ returns-in-Failed-clause-hears g c =
     subst (λ (s : Slip). Hears g.B.Naming.sizes g.B.Naming.name s c.sync_step.new.seat c.over-in-Failed.new.pass)
     (sym (ap (λ (x : Synced). x.slip) c.over-in-Failed.ensures.is))
     (hears_by g.B.Naming.sizes g.B.Naming.name (event.SyncStep c.args.sync) _ c.deref_mut.result.now c.sync_step.new.self
-    c.deref_mut-in-Failed.result.now c.args.seat.now c.sync_step.new.seat c.in-Ok-sync_step.made.1
-    c.over-in-Failed.new.pass c.in-Ok-sync_step.ensures.made same c.over-in-Failed.ensures.legal
+    c.deref_mut-in-Failed.result.now c.args.seat.now c.sync_step.new.seat c.in-Ok.made.1
+    c.over-in-Failed.new.pass c.in-Ok.ensures.made same c.over-in-Failed.ensures.legal
     c.over-in-Failed.ensures.known)

@@ -1,4 +1,4 @@
-use Rattle.std.proofs.Common.{◌≡◌}
+use Rattle.std.proofs.Common.{◌≡◌, length}
 use Rattle.locked.specs.Called.{Goes, Only}
 use Rattle.shared.specs.Synced.{IsTurnOf}
 use Rattle.shared.proofs.cache.SharedCache.sync_turns.Given as goal
@@ -8,4 +8,5 @@ invariant-turns g l = record {
   goes : Goes l.initial.seat l.seat;
   only : Only (λ e. IsTurnOf l.fn.sync e.event) l.initial.seat l.seat;
   pass : l.pass ≡ l.initial.pass;
+  size : length l.buffer ≡ g.B.Naming.sizes.page;
 }

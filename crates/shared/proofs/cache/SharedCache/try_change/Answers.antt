@@ -12,6 +12,7 @@ use Rattle.shared.proofs.Making.{call_help, call_settled, goes_denied, makes_by,
 use Rattle.shared.proofs.Owning.{change_plain, only_missed, only_settled, only_try}
 use Rattle.shared.proofs.Rooming.{final_denied, lost_denied}
 use Rattle.shared.proofs.Sparing.{change_asked}
+use Rattle.shared.proofs.Wanting.{short_missed, short_settled}
 use Rattle.shared.proofs.cache.SharedCache.try_change.Goals as goal
 
 pub returns-in-Err-settle-clause-denied : goal.returns-in-Err-settle-clause-denied
@@ -112,3 +113,18 @@ returns-in-Err-settle-clause-stands g c =
     final_denied g.B.Naming.sizes g.B.Naming.name (event_of c.args.change c.args.handle c.args.bytes.now) c.deref_mut.result.now
     c.change_by.new.state c.args.seat.now c.change_by.new.seat c.settle.new.seat c.in-Err.denied c.in-Err-settle.denied
     c.in-Err.ensures.denied c.settle.ensures.legal c.settle.ensures.goes c.in-Err-settle.ensures.stands
+
+-- memory is asked for after the change was refused for want of room, or its page was missing
+pub returns-in-Err-settle-clause-wanting : goal.returns-in-Err-settle-clause-wanting
+returns-in-Err-settle-clause-wanting g c =
+    short_settled c.args.change c.args.handle c.args.bytes.now c.deref_mut.result.now c.change_by.new.state c.args.seat.now
+    c.change_by.new.seat c.settle.new.seat c.in-Err.denied c.in-Err-settle.denied c.in-Err.ensures.denied
+    c.settle.ensures.goes c.in-Err-settle.ensures.other
+
+pub returns-in-Err-fill-clause-wanting : goal.returns-in-Err-fill-clause-wanting
+returns-in-Err-fill-clause-wanting g c =
+    short_missed (event_of c.args.change c.args.handle c.args.bytes.now) (reply.Miss c.in-Miss.page) c.deref_mut.result.now
+    c.change_by.new.state c.args.seat.now c.change_by.new.seat c.fill.new.seat c.in-Ok.made.1 c.in-Err-fill.denied tt
+    (subst (λ (x : WriteAnswer). Made (event_of c.args.change c.args.handle c.args.bytes.now) (reply_of c.args.change x)
+    c.deref_mut.result.now c.change_by.new.state c.args.seat.now c.change_by.new.seat c.in-Ok.made.1) c.in-Miss.is
+    c.in-Ok.ensures.made) c.fill.ensures.goes

@@ -14,6 +14,7 @@ use Rattle.shared.specs.Own.{IsUndone}
 use Rattle.shared.proofs.Owning.{only_missed, only_try, only_try_denied}
 use Rattle.shared.proofs.Sizes.{read_counted}
 use Rattle.shared.proofs.Rooming.{lost_unwanted, read_unwanted}
+use Rattle.shared.proofs.Wanting.{short_denied, short_missed}
 use Rattle.shared.proofs.cache.SharedCache.try_read.Goals as goal
 
 pub returns-in-Bytes-clause-answer : goal.returns-in-Bytes-clause-answer
@@ -92,3 +93,18 @@ returns-in-Err-clause-lost g c =
     lost_unwanted g.B.Naming.sizes g.B.Naming.name c.read.new.seat c.in-Err.denied
     (read_unwanted c.args.handle c.args.offset (length c.args.out.now) c.deref_mut.result.now c.read.new.self c.args.seat.now
     c.read.new.seat c.in-Err.denied c.in-Err.ensures.denied)
+
+-- memory is asked for after the page was missing
+pub returns-in-Err-clause-wanting : goal.returns-in-Err-clause-wanting
+returns-in-Err-clause-wanting g c =
+    let own = event.Read c.args.handle c.args.offset (length c.args.out.now) in
+    short_denied own own c.deref_mut.result.now c.read.new.self c.args.seat.now c.read.new.seat c.args.seat.now c.read.new.seat
+    c.in-Err.denied c.in-Err.ensures.denied
+
+pub returns-in-Err-fill-clause-wanting : goal.returns-in-Err-fill-clause-wanting
+returns-in-Err-fill-clause-wanting g c =
+    short_missed (event.Read c.args.handle c.args.offset (length c.args.out.now)) (reply.Miss c.in-Miss.page)
+    c.deref_mut.result.now c.read.new.self c.args.seat.now c.read.new.seat c.fill.new.seat c.in-Ok.made.1 c.in-Err-fill.denied tt
+    (subst (λ (x : ReadAnswer). Made (event.Read c.args.handle c.args.offset (length c.args.out.now))
+    (was_read (Ok x) c.read.new.out) c.deref_mut.result.now c.read.new.self c.args.seat.now c.read.new.seat
+    c.in-Ok.made.1) c.in-Miss.is c.in-Ok.ensures.made) c.fill.ensures.goes
