@@ -268,7 +268,10 @@ impl<B: Naming, D: BlockDevice, T: Trail> SharedCache<B, D, T> {
             Ok(Some((job, _))) => {
                 drop(guard);
                 match self.flush_by(rt, seat, job) {
-                    Ok((is_written, _)) => Ok(is_written || was_busy),
+                    Ok((is_written, buffer)) => {
+                        drop(buffer);
+                        Ok(is_written || was_busy)
+                    }
                     Err(denied) => Err(denied),
                 }
             }
