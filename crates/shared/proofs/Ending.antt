@@ -3,6 +3,7 @@ use Rattle.std.proofs.Common.{◌≡◌, ℕ, zero, suc, [], ◌∷◌, ◌++◌
 use Rattle.std.specs.Prelude.{All, Bool, false, IfErr, IfNone, IfOk, IfSome, IsOk, Err, Ok, Option, Result, Some, None, is_some}
 use Rattle.std.proofs.lemmas.List.{append_assoc, append-nil}
 use Rattle.std.proofs.lemmas.List.Elements.{All-append, All-nil, All-weaker}
+use Rattle.std.proofs.lemmas.Result.{IfErr-weaker}
 use Rattle.atomic_table.specs.Seated.{TableId}
 use Rattle.blockdev.specs.Jobs.{FinishedTask, Task}
 use Rattle.cachecore.specs.Replies.{end_of, fill_ended, flush_ended}
@@ -18,6 +19,7 @@ use Rattle.held.specs.Ends.{IsRecorded}
 use Rattle.held.specs.declared.log.Slip.{Slip}
 use Rattle.held.specs.Shown.{HeldSeen, SeatSeen}
 use Rattle.locked.specs.Called.{Goes}
+use Rattle.locked.specs.Denials as under
 use Rattle.locked.specs.Firsts.{IsFirstDenied, Writes}
 use Rattle.locked.specs.declared.denied.Denied.{Denied}
 use Rattle.locked.proofs.Seats.{goes_same}
@@ -26,7 +28,16 @@ use Rattle.shared.specs.Denials.{IsDenied, IsFullIfNoSlip, MadeOne}
 use Rattle.shared.specs.Workers.{AllEnded, AllSettled, Begins, Ends, IsEndOf, IsOwnFailure, IsSettled, IsWriteBack, fails_write, popped_by}
 use Rattle.shared.specs.declared.ends.Done.{Done}
 use Rattle.shared.specs.declared.worker.Worker.{Worker}
-use Rattle.shared.proofs.Making.{denied_by, denied_on, denied_then, makes_by, makes_on, makes_then}
+use Rattle.shared.proofs.Making.{denied_by, denied_on, denied_one, denied_then, makes_by, makes_on, makes_then}
+
+-- ---- one event
+
+-- what is refused is one event or none
+pub event_once : {A : Type 0} (result : Result A Denied) (e : Event) (old new : HeldSeen) (before after : SeatSeen)
+    → IfErr result (under.IsDenied e old new before after) → IfErr result (λ d. MadeOne d.slip before after)
+event_once result e old new before after q =
+    IfErr-weaker result (under.IsDenied e old new before after) (λ d. MadeOne d.slip before after)
+    (λ d k. denied_one e old new before after d k) q
 
 -- ---- ends
 
