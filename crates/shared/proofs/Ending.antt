@@ -1,47 +1,66 @@
 -- What the ends of jobs and the turns of workers say of a seat.
-use Rattle.std.proofs.Common.{◌≡◌, ℕ, zero, suc, [], ◌∷◌, ◌++◌, ap, arith, refl, sym, subst, ◌∙◌, inl, inr}
-use Rattle.std.specs.Prelude.{All, Bool, false, IfErr, IfNone, IfOk, IfSome, IsOk, Err, Ok, Option, Result, Some, None, is_some, length}
+use Rattle.std.proofs.Common.{◌≡◌, ℕ, zero, suc, [], ◌∷◌, ◌++◌, ap, arith, refl, sym, subst, ◌∙◌}
+use Rattle.std.specs.Prelude.{All, Bool, false, IfErr, IfNone, IfOk, IfSome, Ok, Option, Result, Some, None, is_some, length}
 use Rattle.std.proofs.lemmas.List.{append_assoc, append-nil}
 use Rattle.std.proofs.lemmas.List.Elements.{All-append, All-nil, All-weaker}
+use Rattle.std.proofs.lemmas.Result.{IfErr-weaker}
 use Rattle.atomic_table.specs.Seated.{TableId}
 use Rattle.blockdev.specs.Jobs.{FinishedTask, Task}
-use Rattle.cachecore.specs.Replies.{EndGivesBack, end_of, fill_ended, flush_ended}
+use Rattle.cachecore.specs.Replies.{EndGivesBack, IsFlushJob, end_of, fill_ended, flush_ended}
 use Rattle.cachecore.specs.declared.answers.Ended.{Ended}
 use Rattle.cachecore.specs.declared.answers.Ended.TheVariants as ended
+use Rattle.cachecore.specs.declared.answers.FlushBegun.TheVariants as flush
+use mathlib.Core.List.{IsPrefix}
 use Rattle.errboard.specs.Shown.{ReceiptSeen, RecorderSeen}
+use Rattle.errseq.proofs.Prefixes.{prefix_self, prefix_trans}
 use Rattle.machine.specs.declared.event.Event.{Event}
 use Rattle.machine.specs.declared.event.Event.TheVariants as event
 use Rattle.machine.specs.declared.event.Reply.{Reply}
 use Rattle.machine.specs.declared.event.Reply.TheVariants as reply
 use Rattle.pc_types.specs.declared.kind.Kind.TheVariants.{Fill, Flush}
+use Rattle.pc_types.specs.Limits.{Sizes}
+use Rattle.trail.specs.Entries.{entry_of}
+use Rattle.trail.specs.History.{After}
 use Rattle.held.specs.Ends.{IsRecorded}
 use Rattle.held.specs.declared.log.Slip.{Slip}
 use Rattle.held.specs.Shown.{HeldSeen, SeatSeen}
 use Rattle.locked.specs.Called.{Goes}
+use Rattle.locked.specs.Denials as under
 use Rattle.locked.specs.Firsts.{IsFirstDenied, Writes}
 use Rattle.locked.specs.declared.denied.Denied.{Denied}
 use Rattle.locked.proofs.Seats.{goes_same}
 use Rattle.shared.specs.Called.{Makes}
-use Rattle.shared.specs.Denials.{IsDenied, IsFullIfNoSlip, MadeOne}
-use Rattle.shared.specs.Workers.{AllEnded, AllSettled, Begins, Ends, IsEndOf, IsOwnFailure, IsSettled, IsWriteBack, fails_write, popped_by}
+use Rattle.shared.specs.Denials.{IsDenied, MadeOne}
+use Rattle.shared.specs.Workers.{AllEnded, Begins, Ends, IsEndOf, IsEndReply, IsFlushBegin, IsOwnFailure, fails_write, popped_by}
 use Rattle.shared.specs.declared.ends.Done.{Done}
 use Rattle.shared.specs.declared.worker.Worker.{Worker}
 use Rattle.world.specs.Ends.{buffer_of}
-use Rattle.shared.proofs.Making.{denied_by, denied_on, denied_then, makes_by, makes_on, makes_then}
+use Rattle.shared.proofs.Making.{denied_by, denied_on, denied_one, makes_on, makes_then}
+
+-- ---- one event
+
+-- what is refused is one event or none
+pub event_once : {A : Type 0} (result : Result A Denied) (e : Event) (old new : HeldSeen) (before after : SeatSeen)
+    → IfErr result (under.IsDenied e old new before after) → IfErr result (λ d. MadeOne d.slip before after)
+event_once result e old new before after q =
+    IfErr-weaker result (under.IsDenied e old new before after) (λ d. MadeOne d.slip before after)
+    (λ d k. denied_one e old new before after d k) q
 
 -- ---- ends
 
 -- the end of what came of a job is the job's
 pub ends_by : (job : Task) (done : FinishedTask) (before after : SeatSeen) (slip : Slip) (told : Bool)
     → done.serial ≡ job.serial → done.kind ≡ job.kind → done.cache ≡ job.cache
-    → (r : Reply) × Makes before after slip (event.End done.kind (end_of done)) r × (told ≡ fails_write done.kind r)
+    → (r : Reply) × Makes before after slip (event.End done.kind (end_of done)) r × IsEndReply r
+    × (told ≡ fails_write done.kind r)
     → Ends job before after slip told
 ends_by job done before after slip told serial kind cache p = record {
   event = event.End done.kind (end_of done);
   reply = p.0;
   is_end = (kind, serial, cache);
+  ended = p.2;
   made = p.1;
-  failed = subst (λ k. told ≡ fails_write k p.0) kind p.2;
+  failed = subst (λ k. told ≡ fails_write k p.0) kind p.3;
 }
 
 pub denied_job : (job : Task) (done : FinishedTask) (before after : SeatSeen) (d : Denied) → done.serial ≡ job.serial
@@ -50,6 +69,16 @@ pub denied_job : (job : Task) (done : FinishedTask) (before after : SeatSeen) (d
 denied_job job done before after d serial kind cache q =
     denied_on (λ e. e ≡ event.End done.kind (end_of done)) (IsEndOf job) before before after d
     (λ e same. subst (IsEndOf job) (sym same) (kind, serial, cache)) (goes_same before before refl) q
+
+pub fill_replies : (a : Ended) → IsEndReply (fill_ended (Ok a))
+fill_replies (ended.Dropped b) = tt
+fill_replies (ended.Failed code b) = tt
+fill_replies (ended.Done b) = tt
+
+pub flush_replies : (a : Ended) → IsEndReply (flush_ended (Ok a))
+flush_replies (ended.Dropped b) = tt
+flush_replies (ended.Failed code b) = tt
+flush_replies (ended.Done b) = tt
 
 pub fill_told : (a : Ended) → false ≡ fails_write Fill (fill_ended (Ok a))
 fill_told a = refl
@@ -78,6 +107,7 @@ ends_on job a b c slip told p q = record {
   event = q.event;
   reply = q.reply;
   is_end = q.is_end;
+  ended = q.ended;
   made = makes_on a b c slip q.event q.reply p q.made;
   failed = q.failed;
 }
@@ -88,35 +118,60 @@ ends_then job a b c slip told p q = record {
   event = p.event;
   reply = p.reply;
   is_end = p.is_end;
+  ended = p.ended;
   made = makes_then a b c slip p.event p.reply p.made q;
   failed = p.failed;
 }
 
 -- ---- a flusher's turn
 
-pub begins_first : (job : Task) (slip : Slip) (old new : HeldSeen) (before after : SeatSeen)
-    → Writes job slip old new before after → Begins job.serial before after slip
-begins_first job slip old new before after w = (
-  w.file,
-  makes_by (event.FlushBegin w.file) (reply.Job (record { 0 = job.serial })) old new before after slip w.made,
-)
+pub begins_first : (sizes : Sizes) (name : ℕ) (job : Task) (slip : Slip) (old new : HeldSeen) (before after : SeatSeen)
+    → After sizes name old.log.history old.core.state → Writes job slip old new before after
+    → IsFlushJob new.core.state (Ok (flush.Job job)) → Begins sizes name job before after slip
+begins_first sizes name job slip old new before after legal w own = record {
+  file = w.file;
+  made = record {
+    earlier = old.log.history;
+    saw = w.made.entered.saw;
+    entered =
+        subst (IsPrefix (old.log.history ++ entry_of before.number (event.FlushBegin w.file) (reply.Job (record { 0 = job.serial })) ∷ []))
+        (sym (w.made.entered.sees ∙ w.made.entered.history)) (prefix_self _);
+    placed = w.made.entered.placed;
+  };
+  old = old.core.state;
+  new = new.core.state;
+  leaves = legal;
+  first = w.first;
+  step = w.made.step;
+  own = own;
+}
 
-pub begins_then : (serial : ℕ) (a b c : SeatSeen) (slip : Slip) → Begins serial a b slip → Goes b c → Begins serial a c slip
-begins_then serial a b c slip p q =
-    (p.0, makes_then a b c slip (event.FlushBegin p.0) (reply.Job (record { 0 = serial })) p.1 q)
+pub begins_then : (sizes : Sizes) (name : ℕ) (job : Task) (a b c : SeatSeen) (slip : Slip) → Begins sizes name job a b slip → Goes b c
+    → Begins sizes name job a c slip
+begins_then sizes name job a b c slip p q = record {
+  file = p.file;
+  made = record {
+    earlier = p.made.earlier;
+    saw = p.made.saw;
+    entered = prefix_trans _ b.list c.list p.made.entered q.grows;
+    placed = p.made.placed;
+  };
+  old = p.old;
+  new = p.new;
+  leaves = p.leaves;
+  first = p.first;
+  step = p.step;
+  own = p.own;
+}
 
 pub denied_begun : (old new : HeldSeen) (before after : SeatSeen) (d : Denied) → IsFirstDenied old new before after d
-    → IsDenied IsWriteBack before after d
+    → IsDenied IsFlushBegin before after d
 denied_begun old new before after d q =
-    denied_by IsWriteBack (event.FlushBegin q.file) old new before after d tt q.denied
+    denied_by IsFlushBegin (event.FlushBegin q.file) old new before after d tt q.denied
 
-end_writes_back : (job : Task) (e : Event) → IsEndOf job e → IsWriteBack e
-end_writes_back job (event.End kind end) x = tt
-end_writes_back job e x = absurd x
-
-pub write_back_end : (job : Task) (a b c : SeatSeen) (d : Denied) → Goes a b → IsDenied (IsEndOf job) b c d
-    → IsDenied IsWriteBack a c d
-write_back_end job a b c d p q = denied_on (IsEndOf job) IsWriteBack a b c d (end_writes_back job) p q
+pub unbegun : (old new : HeldSeen) (before after : SeatSeen) (d : Denied) → IsFirstDenied old new before after d
+    → MadeOne d.slip before after
+unbegun old new before after d q = denied_one (event.FlushBegin q.file) old new before after d q.denied
 
 pub begun_one : (job : Task) (slip : Slip) (old new : HeldSeen) (before after : SeatSeen)
     → Writes job slip old new before after → MadeOne (Some slip) before after
@@ -165,48 +220,3 @@ pub turn_ended : (a b c : Worker) (turn : Option Done) (name : ℕ) (board : Tab
 turn_ended a b c None name board p before goes idle end = still_ended a b c p idle.1 goes
 turn_ended a b c (Some d) name board p before goes idle end =
     one_more_ended a b c end.0 d.slip (is_some d.failed) p end.1 before goes end.3
-
--- a job was taken, and its end was not refused
-pub carried_ended : (a b c : Worker) (job : Task) (result : Result Done Denied) → AllEnded a b
-    → popped_by c ≡ popped_by b ++ job ∷ [] → Goes a.seat b.seat → Goes b.seat c.seat → IsOk result
-    → IfOk result (λ d. (d.serial.0 ≡ job.serial) × Ends job b.seat c.seat d.slip (is_some d.failed))
-    → AllEnded a c
-carried_ended a b c job (Ok d) p popped before goes is end =
-    one_more_ended a b c job d.slip (is_some d.failed) p popped before goes end.1
-carried_ended a b c job (Err d) p popped before goes is end = absurd cc
-
--- ---- all jobs that a worker took, with those whose end was refused
-
-pub none_settled : (w : Worker) → AllSettled w w
-none_settled w = ([], sym (append-nil (popped_by w)), All-nil (IsSettled w.seat w.seat))
-
-pub settled_by : (job : Task) (before after : SeatSeen) (result : Result Done Denied)
-    → IfOk result (λ d. (d.serial.0 ≡ job.serial) × Ends job before after d.slip (is_some d.failed))
-    → IfErr result (IsDenied (IsEndOf job) before after) → IfErr result (IsFullIfNoSlip before after)
-    → IsSettled before after job
-settled_by job before after (Ok d) end denied full = inl (d.slip, is_some d.failed, end.1)
-settled_by job before after (Err d) end denied full = inr (d, denied, λ none. (full none).0)
-
-settled_then : (job : Task) (a b c : SeatSeen) → Goes b c → IsSettled a b job → IsSettled a c job
-settled_then job a b c goes (inl p) = inl (p.0, p.1, ends_then job a b c p.0 p.1 p.2 goes)
-settled_then job a b c goes (inr q) = inr (q.0, denied_then (IsEndOf job) a b c q.0 q.1 goes, q.2)
-
-settled_on : (job : Task) (a b c : SeatSeen) → Goes a b → IsSettled b c job → IsSettled a c job
-settled_on job a b c goes (inl p) = inl (p.0, p.1, ends_on job a b c p.0 p.1 goes p.2)
-settled_on job a b c goes (inr q) =
-    inr (q.0, denied_on (IsEndOf job) (IsEndOf job) a b c q.0 (λ e x. x) goes q.1, q.2)
-
-one_settled : (before after : SeatSeen) (job : Task) → IsSettled before after job → All (IsSettled before after) (job ∷ [])
-one_settled before after job p zero d less = p
-one_settled before after job p (suc k) d less = absurd (omega arith)
-
-pub one_more_settled : (a b c : Worker) (job : Task) → AllSettled a b → popped_by c ≡ popped_by b ++ job ∷ [] → Goes a.seat b.seat
-    → Goes b.seat c.seat → IsSettled b.seat c.seat job → AllSettled a c
-one_more_settled a b c job p popped before goes settled = (
-  p.0 ++ job ∷ [],
-  popped ∙ ap (λ jobs. jobs ++ job ∷ []) p.1 ∙ append_assoc (popped_by a) p.0 (job ∷ []),
-  All-append (IsSettled a.seat c.seat) p.0 (job ∷ [])
-      (All-weaker (IsSettled a.seat b.seat) (IsSettled a.seat c.seat)
-      (λ j q. settled_then j a.seat b.seat c.seat goes q) p.0 p.2)
-      (one_settled a.seat c.seat job (settled_on job a.seat b.seat c.seat before settled)),
-)

@@ -12,3 +12,4 @@ pub mod Answered
 pub mod Letting
 pub mod Sparing
 pub mod Wanting
+pub mod Carrying

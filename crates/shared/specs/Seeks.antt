@@ -10,7 +10,7 @@ use Rattle.held.specs.declared.log.Slip.{Slip}
 use Rattle.held.specs.Shown.{SeatSeen}
 use Rattle.locked.specs.declared.denied.Denied.{Denied}
 use Rattle.shared.specs.Called.{Makes}
-use Rattle.shared.specs.Denials.{IsDenied, IsFullIfNoSlip}
+use Rattle.shared.specs.Denials.{IsDenied, IsFullIfNoSlip, MadeOne}
 use Rattle.shared.specs.Seen.{HandleSeen}
 
 -- the place, or why there is none, with the slip of the size that it was counted from
@@ -21,13 +21,14 @@ with_slip slip (Err why) = Err (record { refusal = why; slip = slip })
 abbrev pub IsRefused : HandleSeen → SeatSeen → SeatSeen → Result (ℕ × Option Slip) Denied → Type 0
 IsRefused h before after (Ok r) = ⊥
 IsRefused h before after (Err d) =
-    IsDenied (λ e. e ≡ event.Size h.number) before after d × IsFullIfNoSlip before after d
+    IsDenied (λ e. e ≡ event.Size h.number) before after d × IsFullIfNoSlip before after d × MadeOne d.slip before after
 
--- from the end of the file it is counted by the size that the slip's entry answers, if that is not refused; else no event
--- is made
+-- from the end of the file it is counted by the size that the slip's entry answers, if that is not refused; that is the one
+-- event. Else none is made
 abbrev pub Seeks : Seek → HandleSeen → SeatSeen → SeatSeen → Result (ℕ × Option Slip) Denied → Type 0
 Seeks (End by) h before after result =
     ((size : ℕ) × (slip : Slip) × Makes before after slip (event.Size h.number) (reply.Size size)
+    × MadeOne (Some slip) before after
     × (result ≡ with_slip (Some slip) (placed (target (End by) h.cursor size)))) ⊎ IsRefused h before after result
 Seeks place h before after result =
     (after ≡ before) × (result ≡ with_slip None (placed (target place h.cursor 0)))

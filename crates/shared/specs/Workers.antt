@@ -1,14 +1,20 @@
 -- Workers, and what their turns make.
-use Rattle.std.specs.Prelude.{◌≡◌, ◌⊎◌, ◌==◌, ◌&&◌, ◌++◌, ◌∷◌, [], All, ℕ, Bool, true, false, List, IfSome, None, count_by, is_some}
+use Rattle.std.specs.FinMap as map
+use Rattle.std.specs.Prelude.{◌≡◌, ◌≢◌, ◌⊎◌, ◌==◌, ◌&&◌, ◌++◌, ◌∷◌, [], All, Any, ℕ, Bool, true, false, List, IfSome, Ok, Result, None, Some, count_by, if◌then◌else◌, is_some}
 use mathlib.Core.List.{IsPrefix}
 use Rattle.atomic_table.specs.Seated.{TableId}
 use Rattle.blockdev.specs.Jobs.{Task}
+use Rattle.cachecore.specs.Replies.{IsFlushJob}
+use Rattle.cachecore.specs.Wants.{IsFirstToWrite}
+use Rattle.cachecore.specs.declared.answers.FlushBegun.TheVariants as flush
 use Rattle.crossbeam_queue.specs.Fifo.{Held}
 use Rattle.crossbeam_queue.specs.Passes.{view}
 use Rattle.machine.specs.declared.event.Event.{Event}
 use Rattle.machine.specs.declared.event.Event.TheVariants as event
 use Rattle.machine.specs.declared.event.Reply.{Reply}
 use Rattle.machine.specs.declared.event.Reply.TheVariants as reply
+use Rattle.machine.specs.State.{Request, State}
+use Rattle.machine.specs.Step.{Step}
 use Rattle.pc_types.specs.Limits.{Sizes}
 use Rattle.pc_types.specs.declared.ids.FileId.{FileId}
 use Rattle.pc_types.specs.declared.kind.Kind.{Kind}
@@ -17,9 +23,11 @@ use Rattle.pc_types.specs.declared.refusal.Refusal.TheVariants.{TrailFull}
 use Rattle.ring.specs.Order.{Stands}
 use Rattle.ring.specs.Serving.{Carries, Serves}
 use Rattle.ring.specs.declared.ring.Ring.{Ring}
+use Rattle.trail.specs.History.{After}
 use Rattle.trail.specs.declared.entry.Entry.{Entry}
 use Rattle.held.specs.declared.log.Slip.{Slip}
 use Rattle.held.specs.Shown.{SeatSeen}
+use Rattle.locked.specs.Called.{Only}
 use Rattle.locked.specs.declared.denied.Denied.{Denied}
 use Rattle.shared.specs.Called.{Makes}
 use Rattle.shared.specs.Denials.{IsDenied, IsFullIfNoSlip}
@@ -56,11 +64,20 @@ abbrev pub fails_write : Kind → Reply → Bool
 fails_write Flush (reply.Failed code) = true
 fails_write kind r = false
 
--- the seat made the end of the job's request, at the slip's entry; and whether it tells of a failed write
+-- the reply of an end that was not refused
+abbrev pub IsEndReply : Reply → Type 0
+IsEndReply reply.Filled = Unit {0}
+IsEndReply reply.Written = Unit {0}
+IsEndReply (reply.Failed code) = Unit {0}
+IsEndReply reply.Dropped = Unit {0}
+IsEndReply r = ⊥
+
+-- the seat ended the job's request, at the slip's entry; and whether it tells of a failed write
 pub record Ends (job : Task) (before after : SeatSeen) (slip : Slip) (told : Bool) : Type 0 where
   pub event : Event
   pub reply : Reply
   pub is_end : IsEndOf job event
+  pub ended : IsEndReply reply
   pub made : Makes before after slip event reply
   pub failed : told ≡ fails_write job.kind reply
 
@@ -68,10 +85,17 @@ pub record Ends (job : Task) (before after : SeatSeen) (slip : Slip) (told : Boo
 abbrev pub IsOwnFailure : ℕ → TableId → FailedSeen → Type 0
 IsOwnFailure name board w = (w.cache ≡ name) × (w.receipt.board ≡ board)
 
--- the seat began a write of a page, at the slip's entry, which answered a job of this serial
-abbrev pub Begins : ℕ → SeatSeen → SeatSeen → Slip → Type 0
-Begins serial before after slip =
-    (file : FileId) × Makes before after slip (event.FlushBegin file) (reply.Job (record { 0 = serial }))
+-- the seat began a write of a page, at the slip's entry, which answered this job. Of the state before that entry the file is
+-- the first that has a page to write, and of the state after it the job is its request's, with the bytes of its page
+pub record Begins (sizes : Sizes) (name : ℕ) (job : Task) (before after : SeatSeen) (slip : Slip) : Type 0 where
+  pub file : FileId
+  pub made : Makes before after slip (event.FlushBegin file) (reply.Job (record { 0 = job.serial }))
+  pub old : State
+  pub new : State
+  pub leaves : After sizes name made.earlier old
+  pub first : IsFirstToWrite old file.0
+  pub step : Step old (event.FlushBegin file) (reply.Job (record { 0 = job.serial })) new
+  pub own : IsFlushJob new (Ok (flush.Job job))
 
 -- the end of a request
 abbrev pub IsEnd : Event → Type 0
@@ -84,22 +108,61 @@ IsWriteBack (event.FlushBegin file) = Unit {0}
 IsWriteBack (event.End kind end) = Unit {0}
 IsWriteBack e = ⊥
 
--- what a turn of a flusher did. The write that it began lies in the ring, where its job was put, or its end was made
-abbrev pub IsFlushed : Worker → Worker → Flushed → Type 0
-IsFlushed old new flushed.Nothing = pushed_by new ≡ pushed_by old
-IsFlushed old new (flushed.Pushed serial slip) =
-    Begins serial.0 old.seat new.seat slip
-    × (job : Task) × (job.serial ≡ serial.0) × (pushed_by new ≡ pushed_by old ++ job ∷ [])
-IsFlushed old new (flushed.Ended slip done) =
-    Begins done.serial.0 old.seat new.seat slip
-    × (job : Task) × (job.serial ≡ done.serial.0) × Ends job old.seat new.seat done.slip (is_some done.failed)
-    × (pushed_by new ≡ pushed_by old)
+-- the begin of a write
+abbrev pub IsFlushBegin : Event → Type 0
+IsFlushBegin (event.FlushBegin file) = Unit {0}
+IsFlushBegin e = ⊥
+
+-- what a turn of a flusher did. The job of the write that it began lies in the ring, or its end was made, or refused
+abbrev pub IsFlushed : Sizes → ℕ → Worker → Worker → Flushed → Type 0
+IsFlushed sizes name old new flushed.Nothing = (new.seat ≡ old.seat) × (pushed_by new ≡ pushed_by old)
+IsFlushed sizes name old new (flushed.Pushed serial slip) =
+    (job : Task) × (job.serial ≡ serial.0) × Begins sizes name job old.seat new.seat slip
+    × (pushed_by new ≡ pushed_by old ++ job ∷ [])
+IsFlushed sizes name old new (flushed.Ended slip done) =
+    (job : Task) × (job.serial ≡ done.serial.0) × Begins sizes name job old.seat new.seat slip
+    × Ends job old.seat new.seat done.slip (is_some done.failed) × (pushed_by new ≡ pushed_by old)
+IsFlushed sizes name old new (flushed.Unended slip d) =
+    (job : Task) × Begins sizes name job old.seat new.seat slip × IsDenied (IsEndOf job) old.seat new.seat d
+    × (d.slip ≡ None → d.refusal ≡ TrailFull) × (pushed_by new ≡ pushed_by old)
 
 -- how many events a turn of a flusher made
 abbrev pub entered_in : Flushed → ℕ
 entered_in flushed.Nothing = 0
 entered_in (flushed.Pushed serial slip) = 1
 entered_in (flushed.Ended slip done) = 2
+entered_in (flushed.Unended slip d) = if is_some d.slip then 2 else 1
+
+-- the event is an end of the request of this serial
+abbrev pub IsEndAt : ℕ → Event → Type 0
+IsEndAt t (event.End kind end) = end.serial.0 ≡ t
+IsEndAt t e = ⊥
+
+-- the worker put the job of this serial into the ring, or entered an end of its request
+abbrev pub IsCarried : Worker → Worker → ℕ → Type 0
+IsCarried old new t =
+    ((jobs : List Task) × (pushed_by new ≡ pushed_by old ++ jobs) × Any (λ job. job.serial ≡ t) jobs)
+    ⊎ ((e : Event) × (r : Reply) × (slip : Slip) × IsEndAt t e × Makes old.seat new.seat slip e r)
+
+-- what holds of the serial of the write that the event began, where it began one
+abbrev pub OnBegun : (ℕ → Type 0) → Event → Reply → Type 0
+OnBegun P (event.FlushBegin file) (reply.Job t) = P t.0
+OnBegun P e r = Unit {0}
+
+-- so it was with each write that its seat began in between
+abbrev pub AllCarried : Worker → Worker → Type 0
+AllCarried old new = Only (λ e. OnBegun (IsCarried old new) e.event e.reply) old.seat new.seat
+
+-- a turn began a write, whose end was refused
+abbrev pub is_unended : Result Flushed Denied → Bool
+is_unended (Ok (flushed.Unended slip d)) = true
+is_unended r = false
+
+-- so it was with each write that its seat began in between; but that the end of the last may have been refused
+pub record CarriesAll (sizes : Sizes) (name : ℕ) (old new : Worker) : Type 0 where
+  pub at : Worker
+  pub carried : AllCarried old at
+  pub last : (new ≡ at) ⊎ ((slip : Slip) × (d : Denied) × IsFlushed sizes name at new (flushed.Unended slip d))
 
 -- a failed write that the turn tells of is one of this cache and this board
 abbrev pub FailsOwn : ℕ → TableId → Flushed → Type 0
@@ -112,22 +175,20 @@ AllEnded old new =
     (jobs : List Task) × (popped_by new ≡ popped_by old ++ jobs)
     × All (λ job. (slip : Slip) × (told : Bool) × Ends job old.seat new.seat slip told) jobs
 
--- the seat made the end of the job's request; or was refused it, by the end's own entry or by a full trail
-abbrev pub IsSettled : SeatSeen → SeatSeen → Task → Type 0
-IsSettled before after job =
-    ((slip : Slip) × (told : Bool) × Ends job before after slip told)
-    ⊎ ((d : Denied) × IsDenied (IsEndOf job) before after d × (d.slip ≡ None → d.refusal ≡ TrailFull))
+-- no request is in flight that the job's end would end
+abbrev pub IsOver : State → Task → Type 0
+IsOver s job = (x : Request) → map.get s.requests job.serial ≡ Some x → x.kind ≢ job.kind
 
--- so it was with each job that the worker took from the ring in between
-abbrev pub AllSettled : Worker → Worker → Type 0
-AllSettled old new =
-    (jobs : List Task) × (popped_by new ≡ popped_by old ++ jobs) × All (IsSettled old.seat new.seat) jobs
+-- so it is in this state with each job that the worker took from the ring in between
+abbrev pub AllOver : Worker → Worker → State → Type 0
+AllOver old new s = (jobs : List Task) × (popped_by new ≡ popped_by old ++ jobs) × All (IsOver s) jobs
 
--- the worker emptied the ring: it took jobs till there was a moment at which the ring had none, and settled each. It put none
--- in. The history has all that its seat had seen then
-pub record Drained (own : Worker) (history : List Entry) : Type 0 where
+-- the worker emptied the ring: it took jobs till there was a moment at which the ring had none, and of none of them a request is
+-- left in this state. It entered ends alone, and put no job in. The history has all that its seat had seen then
+pub record Drained (own : Worker) (history : List Entry) (state : State) : Type 0 where
   pub at : Worker
-  pub taken : AllSettled own at
+  pub taken : AllOver own at state
+  pub only : Only (λ e. IsEnd e.event) own.seat at.seat
   pub pushed : pushed_by at ≡ pushed_by own
   pub alone : (view at.pass).alone ≡ (view own.pass).alone
   pub emptied : Held 0 (Stands (view at.pass))

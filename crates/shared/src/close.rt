@@ -5,20 +5,21 @@ ghost use Rattle.crossbeam_queue.specs.Fifo.{Held};
 ghost use Rattle.crossbeam_queue.specs.Passes.{view};
 ghost use Rattle.ring.specs.Order.{Stands};
 ghost use mathlib.Core.List.{IsPrefix};
+ghost use Rattle.blockdev.specs.Jobs.{IsJobFor, Task};
 ghost use Rattle.held.specs.Views.{count_of};
 ghost use Rattle.pc_types.specs.declared.refusal.Refusal.TheVariants.{Stranger};
 ghost use Rattle.trail.specs.History.{After};
 ghost use Rattle.trail.specs.declared.entry.Entry.{Entry};
 ghost use Rattle.locked.specs.Called.{Goes, Only};
 ghost use Rattle.shared.specs.Keeps.{IsDisk};
-ghost use Rattle.shared.specs.Workers.{AllEnded, AllSettled, Drained, IsEnd, IsWorkerOf, pushed_by, seat_of};
+ghost use Rattle.shared.specs.Workers.{AllOver, Drained, IsEnd, IsEndOf, IsOver, IsWorkerOf, pushed_by, seat_of};
 
 use crate::brief::BriefLock;
 use crate::cache::SharedCache;
 use crate::disk::Disk;
-use crate::ends::carry_through;
+use crate::ends::end;
 use crate::worker::Worker;
-use blockdev::BlockDevice;
+use blockdev::{BlockDevice, Job};
 use cachecore::CacheCore;
 use held::log::Seat;
 use locked::naming::Naming;
@@ -46,7 +47,7 @@ impl<B: Naming, D: BlockDevice, T: Trail> SharedCache<B, D, T> {
         ensures only { IfErr result (λ e. Only (λ x. IsEnd x.event) (seat_of own) (seat_of e.2)) }
         ensures device { IfOk result (λ r. IsDisk B.sizes (D.told r.2)) }
         ensures core { IfOk result (λ r. (r.1.state.name ≡ self.name) × (r.1.state.sizes ≡ B.sizes)) }
-        ensures closed { IfOk result (λ r. (history : List Entry) × T.records r.0 history × (T.cache r.0 ≡ Some self.name) × After r.1.state.sizes r.1.state.name history r.1.state × Drained own history × All (λ s. IsPrefix s.list history × (s.count ≡ count_of s.number history)) seats.items) }
+        ensures closed { IfOk result (λ r. (history : List Entry) × T.records r.0 history × (T.cache r.0 ≡ Some self.name) × After r.1.state.sizes r.1.state.name history r.1.state × Drained own history r.1.state × All (λ s. IsPrefix s.list history × (s.count ≡ count_of s.number history)) seats.items) }
     {
         let SharedCache {
             name,
@@ -59,10 +60,12 @@ impl<B: Naming, D: BlockDevice, T: Trail> SharedCache<B, D, T> {
             ring,
             work,
         } = self;
-        drain(rt, &ring, &disk, &state, name, &mut own);
+        let mut locked = state.into_inner();
+        let mut device = disk.into_inner();
+        drain(rt, &ring, &mut device, &mut locked, &mut own);
         let Worker { seat, pass } = own;
-        match state.into_inner().close(seats, seat) {
-            Ok((trail, core)) => Ok((trail, core, disk.into_inner().into_device())),
+        match locked.close(seats, seat) {
+            Ok((trail, core)) => Ok((trail, core, device.into_device())),
             Err((refusal, locked, seats, seat)) => {
                 let cache = SharedCache {
                     name,
@@ -70,7 +73,7 @@ impl<B: Naming, D: BlockDevice, T: Trail> SharedCache<B, D, T> {
                     board,
                     state: BriefLock::new(locked),
                     changed,
-                    disk,
+                    disk: Mutex::new(device),
                     alloc,
                     ring,
                     work,
@@ -81,34 +84,47 @@ impl<B: Naming, D: BlockDevice, T: Trail> SharedCache<B, D, T> {
     }
 }
 
-/// Carries out and ends what the ring has, till it is empty, and answers whether all ends were made. One is refused only where its
-/// request is in flight no more, and has nothing to be ended then.
-#[tactic(auto, using(locked::proofs::Seats::goes_same, locked::proofs::Seats::goes_on, crate::proofs::Ending::none_ended, crate::proofs::Ending::one_more_ended, crate::proofs::Ending::none_settled, locked::proofs::Seats::only_same, crate::proofs::Owning::only_job_on))]
+/// Carries out and ends what the ring has, till it is empty. No other holds the cache, so no lock is taken.
+#[tactic(auto, using(locked::proofs::Seats::goes_same, locked::proofs::Seats::goes_on, locked::proofs::Seats::only_same, crate::proofs::Owning::only_job_on, crate::proofs::Closing::none_taken))]
 fn drain<B: Naming, D: BlockDevice, T: Trail, R: Wait>(
     rt: &R,
     ring: &Ring,
-    disk: &Mutex<Disk<B, D>>,
-    state: &BriefLock<Locked<B, T>>,
-    name: u64,
+    disk: &mut Disk<B, D>,
+    state: &mut Locked<B, T>,
     own: &mut Worker,
-) -> bool
+)
     requires worker { IsWorkerOf ring.now B.name B.table B.sizes own.old }
     ensures worker { IsWorkerOf ring.now B.name B.table B.sizes own.new }
     ensures goes { Goes (seat_of own.old) (seat_of own.new) }
     ensures only { Only (λ e. IsEnd e.event) (seat_of own.old) (seat_of own.new) }
-    ensures ended { result ≡ true → AllEnded own.old own.new }
-    ensures taken { AllSettled own.old own.new }
+    ensures taken { AllOver own.old own.new state.new.core.state }
     ensures same { (pushed_by own.new ≡ pushed_by own.old) × ((view own.new.pass).alone ≡ (view own.old.pass).alone) }
     ensures emptied { Held 0 (Stands (view own.new.pass)) }
 {
-    let mut are_ended = true;
     'jobs: for _ in rt.forever() {
         let Some(job) = ring.pop(rt, &mut own.pass) else {
-            return are_ended;
+            return;
         };
-        if carry_through(rt, disk, state, name, &mut own.seat, job).is_err() {
-            are_ended = false;
-        }
+        finish(disk, state, &mut own.seat, job);
     }
     unreachable!()
+}
+
+/// Makes a job's device call, and ends its request, if that is in flight.
+fn finish<B: Naming, D: BlockDevice, T: Trail>(
+    disk: &mut Disk<B, D>,
+    state: &mut Locked<B, T>,
+    seat: &mut Seat,
+    job: Job,
+)
+    requires seat { seat.old.table ≡ B.table }
+    requires fits { IsJobFor B.name B.sizes.blocks B.sizes.page job }
+    ensures goes { Goes seat.old seat.new }
+    ensures only { Only (λ e. IsEndOf job e.event) seat.old seat.new }
+    ensures over { IsOver state.new.core.state job }
+    ensures others { (other : Task) → IsOver state.old.core.state other → IsOver state.new.core.state other }
+{
+    let finished = disk.carry_out(job);
+    // The end is refused where the request is not in flight.
+    let _ = end(state, seat, finished);
 }

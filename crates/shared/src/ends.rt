@@ -9,7 +9,7 @@ ghost use Rattle.machine.specs.declared.event.Reply.{Reply};
 ghost use Rattle.locked.specs.Called.{Goes, Only};
 ghost use Rattle.shared.specs.Called.{Makes};
 ghost use Rattle.shared.specs.Denials.{IsDenied, IsFullIfNoSlip, MadeOne};
-ghost use Rattle.shared.specs.Workers.{Ends, IsEndOf, IsOwnFailure, fails_write};
+ghost use Rattle.shared.specs.Workers.{Ends, IsEndOf, IsEndReply, IsOver, IsOwnFailure, fails_write};
 
 use crate::brief::BriefLock;
 use crate::disk::Disk;
@@ -50,6 +50,7 @@ pub(crate) fn carry_through<B: Naming, D: BlockDevice, T: Trail, R: Wait>(
     ensures one { IfOk result (λ d. MadeOne (Some d.slip) seat.old seat.new) }
     ensures failed { IfOk result (λ d. IfSome d.failed (IsOwnFailure name B.board)) }
     ensures denied { IfErr result (IsDenied (IsEndOf job) seat.old seat.new) }
+    ensures refused_once { IfErr result (λ d. MadeOne d.slip seat.old seat.new) }
     ensures full { IfErr result (IsFullIfNoSlip seat.old seat.new) }
 {
     let serial = job.serial();
@@ -79,22 +80,28 @@ fn failure(name: u64, receipt: Option<Receipt>) -> Option<FailedWrite>
 }
 
 /// Ends a request, by its kind.
-#[tactic(auto, using(locked::proofs::Seats::goes_by, crate::proofs::Making::goes_denied, crate::proofs::Making::makes_by, crate::proofs::Making::denied_event, crate::proofs::Making::full_by, crate::proofs::Making::made_one, crate::proofs::Ending::fill_told, crate::proofs::Ending::flush_told, crate::proofs::Owning::only_end, crate::proofs::Owning::only_end_denied))]
-fn end<B: Naming, T: Trail>(
+#[tactic(auto, using(locked::proofs::Seats::goes_by, crate::proofs::Making::goes_denied, crate::proofs::Making::makes_by, crate::proofs::Making::denied_event, crate::proofs::Making::full_by, crate::proofs::Making::made_one, crate::proofs::Making::denied_one, crate::proofs::Ending::fill_told, crate::proofs::Ending::flush_told, crate::proofs::Owning::only_end, crate::proofs::Owning::only_end_denied))]
+pub(crate) fn end<B: Naming, T: Trail>(
     state: &mut Locked<B, T>,
     seat: &mut Seat,
     finished: Finished,
 ) -> Result<(Slip, Option<Receipt>), Denied>
     requires seat { seat.old.table ≡ B.table }
     requires size { length finished.bytes ≡ B.sizes.page }
+    requires cache { finished.cache ≡ B.name }
     ensures goes { Goes seat.old seat.new }
+    ensures over { (job : Task) → finished.kind ≡ job.kind → finished.serial ≡ job.serial → IsOver state.new.core.state job }
+    ensures others { (job : Task) → IsOver state.old.core.state job → IsOver state.new.core.state job }
     ensures only { (job : Task) → finished.kind ≡ job.kind → finished.serial ≡ job.serial → finished.cache ≡ job.cache → Only (λ e. IsEndOf job e.event) seat.old seat.new }
-    ensures made { IfOk result (λ r. (reply : Reply) × Makes seat.old seat.new r.0 (event.End finished.kind (end_of finished)) reply × (is_some r.1 ≡ fails_write finished.kind reply)) }
+    ensures made { IfOk result (λ r. (reply : Reply) × Makes seat.old seat.new r.0 (event.End finished.kind (end_of finished)) reply × IsEndReply reply × (is_some r.1 ≡ fails_write finished.kind reply)) }
     ensures one { IfOk result (λ r. MadeOne (Some r.0) seat.old seat.new) }
     ensures own { IfOk result (λ r. IfSome r.1 (λ receipt. receipt.board ≡ B.board)) }
     ensures denied { IfErr result (IsDenied (λ e. e ≡ event.End finished.kind (end_of finished)) seat.old seat.new) }
+    ensures refused_once { IfErr result (λ d. MadeOne d.slip seat.old seat.new) }
     ensures full { IfErr result (IsFullIfNoSlip seat.old seat.new) }
 {
+    // Lends that the history is legal, and so the state's name.
+    let _ = state.core();
     match finished.kind() {
         Kind::Fill => match state.fill_end(seat, finished) {
             Ok((_, slip)) => Ok((slip, None)),

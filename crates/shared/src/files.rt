@@ -24,7 +24,7 @@ use trail::Trail;
 
 impl<B: Naming, D: BlockDevice, T: Trail> SharedCache<B, D, T> {
     /// Makes a new file.
-    #[tactic(auto, using(locked::proofs::Seats::goes_by, locked::proofs::Seats::goes_on, locked::proofs::Seats::goes_same, crate::proofs::Making::goes_denied, crate::proofs::Making::makes_by, crate::proofs::Making::denied_event, crate::proofs::Making::full_by, crate::proofs::Making::made_one, locked::proofs::Seats::only_same, crate::proofs::Owning::only_event, crate::proofs::Owning::only_event_denied))]
+    #[tactic(auto, using(locked::proofs::Seats::goes_by, locked::proofs::Seats::goes_on, locked::proofs::Seats::goes_same, crate::proofs::Making::goes_denied, crate::proofs::Making::makes_by, crate::proofs::Making::denied_event, crate::proofs::Making::full_by, crate::proofs::Making::made_one, crate::proofs::Making::denied_one, locked::proofs::Seats::only_same, crate::proofs::Owning::only_event, crate::proofs::Owning::only_event_denied))]
     pub fn create<R: Wait>(&self, rt: &R, seat: &mut Seat) -> Result<(FileId, Slip), Denied>
         requires seat { seat.old.name ≡ self.now.name → seat.old.table ≡ B.table }
         ensures foreign { seat.old.name ≢ self.now.name → (result ≡ Err (record { refusal = Stranger; slip = None })) × (seat.new ≡ seat.old) }
@@ -32,6 +32,7 @@ impl<B: Naming, D: BlockDevice, T: Trail> SharedCache<B, D, T> {
         ensures only { Only (λ e. e.event ≡ event.Create) seat.old seat.new }
         ensures answer { IfOk result (λ r. Makes seat.old seat.new r.1 event.Create (reply.File r.0)) }
         ensures one { IfOk result (λ r. MadeOne (Some r.1) seat.old seat.new) }
+        ensures refused_once { IfErr result (λ d. MadeOne d.slip seat.old seat.new) }
         ensures denied { seat.old.name ≡ self.now.name → IfErr result (IsDenied (λ e. e ≡ event.Create) seat.old seat.new) }
         ensures full { seat.old.name ≡ self.now.name → IfErr result (IsFullIfNoSlip seat.old seat.new) }
     {
@@ -42,7 +43,7 @@ impl<B: Naming, D: BlockDevice, T: Trail> SharedCache<B, D, T> {
     }
 
     /// Opens a file. The handle's cursor is at the beginning; with `append` its writes go to the end of the file.
-    #[tactic(auto, using(locked::proofs::Seats::goes_by, locked::proofs::Seats::goes_on, locked::proofs::Seats::goes_same, crate::proofs::Making::goes_denied, crate::proofs::Making::makes_by, crate::proofs::Making::denied_event, crate::proofs::Making::full_by, crate::proofs::Making::made_one, locked::proofs::Seats::only_same, crate::proofs::Owning::only_event, crate::proofs::Owning::only_event_denied))]
+    #[tactic(auto, using(locked::proofs::Seats::goes_by, locked::proofs::Seats::goes_on, locked::proofs::Seats::goes_same, crate::proofs::Making::goes_denied, crate::proofs::Making::makes_by, crate::proofs::Making::denied_event, crate::proofs::Making::full_by, crate::proofs::Making::made_one, crate::proofs::Making::denied_one, locked::proofs::Seats::only_same, crate::proofs::Owning::only_event, crate::proofs::Owning::only_event_denied))]
     pub fn open<R: Wait>(
         &self,
         rt: &R,
@@ -56,6 +57,7 @@ impl<B: Naming, D: BlockDevice, T: Trail> SharedCache<B, D, T> {
         ensures only { Only (λ e. e.event ≡ event.Open file) seat.old seat.new }
         ensures answer { IfOk result (λ r. Makes seat.old seat.new r.1 (event.Open file) (reply.Handle r.0.number)) }
         ensures one { IfOk result (λ r. MadeOne (Some r.1) seat.old seat.new) }
+        ensures refused_once { IfErr result (λ d. MadeOne d.slip seat.old seat.new) }
         ensures handle { IfOk result (λ r. (r.0.cache ≡ self.now.name) × (r.0.file ≡ file) × (r.0.pass.board ≡ B.board)) }
         ensures begins { IfOk result (λ r. (r.0.cursor ≡ 0) × (r.0.append ≡ append)) }
         ensures denied { seat.old.name ≡ self.now.name → IfErr result (IsDenied (λ e. e ≡ event.Open file) seat.old seat.new) }
@@ -80,7 +82,7 @@ impl<B: Naming, D: BlockDevice, T: Trail> SharedCache<B, D, T> {
     }
 
     /// Closes a handle. It comes back where that is refused, as by `Busy` while a sync by it is in progress.
-    #[tactic(auto, using(locked::proofs::Seats::goes_by, locked::proofs::Seats::goes_on, locked::proofs::Seats::goes_same, crate::proofs::Making::goes_denied, crate::proofs::Making::makes_by, crate::proofs::Making::denied_event, crate::proofs::Making::full_by, crate::proofs::Making::made_one, locked::proofs::Seats::only_same, crate::proofs::Owning::only_event, crate::proofs::Owning::only_event_denied))]
+    #[tactic(auto, using(locked::proofs::Seats::goes_by, locked::proofs::Seats::goes_on, locked::proofs::Seats::goes_same, crate::proofs::Making::goes_denied, crate::proofs::Making::makes_by, crate::proofs::Making::denied_event, crate::proofs::Making::full_by, crate::proofs::Making::made_one, crate::proofs::Making::denied_one, locked::proofs::Seats::only_same, crate::proofs::Owning::only_event, crate::proofs::Owning::only_event_denied))]
     pub fn close_handle<R: Wait>(
         &self,
         rt: &R,
@@ -95,6 +97,7 @@ impl<B: Naming, D: BlockDevice, T: Trail> SharedCache<B, D, T> {
         ensures only { Only (λ e. e.event ≡ event.Close handle.number) seat.old seat.new }
         ensures answer { IfOk result (λ slip. Makes seat.old seat.new slip (event.Close handle.number) reply.Closed) }
         ensures one { IfOk result (λ slip. MadeOne (Some slip) seat.old seat.new) }
+        ensures refused_once { IfErr result (λ d. MadeOne d.0.slip seat.old seat.new) }
         ensures denied { seat.old.name ≡ self.now.name → handle.cache ≡ self.now.name → IfErr result (λ d. IsDenied (λ e. e ≡ event.Close handle.number) seat.old seat.new d.0) }
         ensures full { seat.old.name ≡ self.now.name → handle.cache ≡ self.now.name → IfErr result (λ d. IsFullIfNoSlip seat.old seat.new d.0) }
         ensures back { IfErr result (λ d. d.1 ≡ handle) }
@@ -113,7 +116,7 @@ impl<B: Naming, D: BlockDevice, T: Trail> SharedCache<B, D, T> {
     }
 
     /// The size of the handle's file, in bytes.
-    #[tactic(auto, using(locked::proofs::Seats::goes_by, locked::proofs::Seats::goes_on, locked::proofs::Seats::goes_same, crate::proofs::Making::goes_denied, crate::proofs::Making::makes_by, crate::proofs::Making::denied_event, crate::proofs::Making::full_by, crate::proofs::Making::made_one, locked::proofs::Seats::only_same, crate::proofs::Owning::only_event, crate::proofs::Owning::only_event_denied))]
+    #[tactic(auto, using(locked::proofs::Seats::goes_by, locked::proofs::Seats::goes_on, locked::proofs::Seats::goes_same, crate::proofs::Making::goes_denied, crate::proofs::Making::makes_by, crate::proofs::Making::denied_event, crate::proofs::Making::full_by, crate::proofs::Making::made_one, crate::proofs::Making::denied_one, locked::proofs::Seats::only_same, crate::proofs::Owning::only_event, crate::proofs::Owning::only_event_denied))]
     pub fn size<R: Wait>(
         &self,
         rt: &R,
@@ -127,6 +130,7 @@ impl<B: Naming, D: BlockDevice, T: Trail> SharedCache<B, D, T> {
         ensures only { Only (λ e. e.event ≡ event.Size handle.now.number) seat.old seat.new }
         ensures answer { IfOk result (λ r. Makes seat.old seat.new r.1 (event.Size handle.now.number) (reply.Size r.0)) }
         ensures one { IfOk result (λ r. MadeOne (Some r.1) seat.old seat.new) }
+        ensures refused_once { IfErr result (λ d. MadeOne d.slip seat.old seat.new) }
         ensures denied { seat.old.name ≡ self.now.name → handle.now.cache ≡ self.now.name → IfErr result (IsDenied (λ e. e ≡ event.Size handle.now.number) seat.old seat.new) }
         ensures full { seat.old.name ≡ self.now.name → handle.now.cache ≡ self.now.name → IfErr result (IsFullIfNoSlip seat.old seat.new) }
     {

@@ -47,7 +47,7 @@ impl Handle {
     }
 }
 
-/// A failed write of a file, as the turn tells that ended it. Handles of the file can be told of it.
+/// A failed write, as the turn tells that ended it. Handles of the file that it names can be told of it.
 #[derive(Drop)]
 pub struct FailedWrite {
     // the name of the cache

@@ -20,7 +20,7 @@ use trail::Trail;
 impl<B: Naming, D: BlockDevice, T: Trail> SharedCache<B, D, T> {
     /// Puts the cursor, and answers where it is now. Refused by `TooLarge` below 0 and past the greatest size of a file. Only a place
     /// that is counted from the end of the file makes an event, which asks for the file's size.
-    #[tactic(auto, using(locked::proofs::Seats::goes_by, locked::proofs::Seats::goes_same, crate::proofs::Making::goes_denied, crate::proofs::Making::makes_by, crate::proofs::Making::denied_event, crate::proofs::Making::full_by, locked::proofs::Seats::only_same, crate::proofs::Owning::only_event, crate::proofs::Owning::only_event_denied))]
+    #[tactic(auto, using(locked::proofs::Seats::goes_by, locked::proofs::Seats::goes_same, crate::proofs::Making::goes_denied, crate::proofs::Making::makes_by, crate::proofs::Making::denied_event, crate::proofs::Making::full_by, crate::proofs::Making::made_one, crate::proofs::Making::denied_one, locked::proofs::Seats::only_same, crate::proofs::Owning::only_event, crate::proofs::Owning::only_event_denied))]
     pub fn seek<R: Wait>(
         &self,
         rt: &R,

@@ -1,10 +1,10 @@
 //! The turns of workers.
 
-ghost use Rattle.std.specs.Prelude.{◌≡◌, ◌+◌, ◌++◌, ◌∷◌, [], IfErr, IfNone, IfOk, IfSome, Some, is_some};
+ghost use Rattle.std.specs.Prelude.{◌≡◌, ◌+◌, ◌++◌, ◌∷◌, [], IfErr, IfNone, IfOk, IfSome, Some, false, is_some};
 ghost use Rattle.blockdev.specs.Jobs.{IsJobFor, Task};
 ghost use Rattle.locked.specs.Called.{Goes, Only};
 ghost use Rattle.shared.specs.Denials.{IsDenied, IsFullIfNoSlip, MadeOne};
-ghost use Rattle.shared.specs.Workers.{Begins, Ends, FailsOwn, IsEnd, IsEndOf, IsFlushed, IsOwnFailure, IsWorkerOf, IsWriteBack, entered_in, popped_by, pushed_by, seat_of};
+ghost use Rattle.shared.specs.Workers.{AllCarried, Begins, Ends, FailsOwn, IsEnd, IsEndOf, IsFlushBegin, IsFlushed, IsOwnFailure, IsWorkerOf, IsWriteBack, OnBegun, entered_in, is_unended, popped_by, pushed_by, seat_of};
 
 use crate::cache::SharedCache;
 use crate::ends::{Done, carry_through};
@@ -20,17 +20,19 @@ use trail::Trail;
 /// What a turn of the flusher did.
 #[derive(Drop)]
 pub enum Flushed {
-    /// No page is to be written.
+    /// It found no page to write.
     Nothing,
     /// A write was begun, and its job put into the ring: its serial, and the slip of its beginning.
     Pushed(Serial, Slip),
-    /// The ring was full: a write was begun and ended.
+    /// A write was begun and ended.
     Ended(Slip, Done),
+    /// A write was begun, and its end was refused. No end is whose request is in flight.
+    Unended(Slip, Denied),
 }
 
 impl<B: Naming, D: BlockDevice, T: Trail> SharedCache<B, D, T> {
-    /// One turn of an I/O worker: it takes a job from the ring, makes its device call, and ends its request. Answers nothing where the
-    /// ring was empty. The gate is entered with the job's serial, before the device call.
+    /// One turn of an I/O worker: it takes a job from the ring, makes its device call, and ends its request. Answers nothing where it
+    /// got no job. The gate is entered with the job's serial, before the device call.
     #[tactic(auto, using(locked::proofs::Seats::goes_same, locked::proofs::Seats::only_same, crate::proofs::Owning::only_job))]
     pub fn io_turn<R: Wait, G: Gate>(
         &self,
@@ -60,8 +62,9 @@ impl<B: Naming, D: BlockDevice, T: Trail> SharedCache<B, D, T> {
     }
 
     /// One turn of a flusher: it begins to write the lowest page of the first file that has one to write, and puts the job into the
-    /// ring. Where the ring is full it makes the device call itself, for which the gate is entered with the job's serial.
-    #[tactic(auto, using(locked::proofs::Seats::goes_same, locked::proofs::Seats::goes_on, crate::proofs::Ending::begins_then, crate::proofs::Ending::ends_on, crate::proofs::Ending::write_back_end, locked::proofs::Seats::only_same, crate::proofs::Owning::only_flushed))]
+    /// ring. Where the ring is full it makes the device call itself, for which the gate is entered with the job's serial. Refused
+    /// only where no write was begun.
+    #[tactic(auto, using(locked::proofs::Seats::goes_same, locked::proofs::Seats::goes_on, crate::proofs::Ending::begins_then, crate::proofs::Ending::ends_on, locked::proofs::Seats::only_same, crate::proofs::Owning::only_flushed, crate::proofs::Carrying::none_carried))]
     pub fn flusher_turn<R: Wait, G: Gate>(
         &self,
         rt: &R,
@@ -73,10 +76,12 @@ impl<B: Naming, D: BlockDevice, T: Trail> SharedCache<B, D, T> {
         ensures goes { Goes (seat_of worker.old) (seat_of worker.new) }
         ensures only { Only (λ e. IsWriteBack e.event) (seat_of worker.old) (seat_of worker.new) }
         ensures popped { popped_by worker.new ≡ popped_by worker.old }
-        ensures done { IfOk result (IsFlushed worker.old worker.new) }
+        ensures done { IfOk result (IsFlushed B.sizes B.name worker.old worker.new) }
+        ensures carried { is_unended result ≡ false → AllCarried worker.old worker.new }
         ensures count { IfOk result (λ f. (seat_of worker.new).count ≡ (seat_of worker.old).count + entered_in f) }
         ensures failed { IfOk result (λ f. FailsOwn self.now.name B.board f) }
-        ensures denied { IfErr result (λ d. (pushed_by worker.new ≡ pushed_by worker.old) × IsDenied IsWriteBack (seat_of worker.old) (seat_of worker.new) d) }
+        ensures denied { IfErr result (IsDenied IsFlushBegin (seat_of worker.old) (seat_of worker.new)) }
+        ensures unbegun { IfErr result (λ d. (pushed_by worker.new ≡ pushed_by worker.old) × MadeOne d.slip (seat_of worker.old) (seat_of worker.new)) }
     {
         let (job, slip) = match self.begin_flush(rt, &mut worker.seat) {
             Ok(Some(begun)) => begun,
@@ -91,27 +96,32 @@ impl<B: Naming, D: BlockDevice, T: Trail> SharedCache<B, D, T> {
         gate.enter(serial.0);
         match self.end_job(rt, &mut worker.seat, job) {
             Ok(done) => Ok(Flushed::Ended(slip, done)),
-            Err(denied) => Err(denied),
+            Err(denied) => Ok(Flushed::Unended(slip, denied)),
         }
     }
 
     /// Begins to write a page, of the first file that has one to write.
-    #[tactic(auto, using(locked::proofs::Seats::goes_same, crate::proofs::Ending::begins_first, crate::proofs::Ending::denied_begun, locked::proofs::Seats::only_same, crate::proofs::Ending::begun_one, crate::proofs::Owning::only_begun, crate::proofs::Owning::only_begun_denied))]
+    #[tactic(auto, using(locked::proofs::Seats::goes_same, crate::proofs::Ending::begins_first, crate::proofs::Ending::denied_begun, locked::proofs::Seats::only_same, crate::proofs::Ending::begun_one, crate::proofs::Ending::unbegun, crate::proofs::Owning::only_begun, crate::proofs::Owning::only_begun_denied, crate::proofs::Carrying::begins_one, crate::proofs::Carrying::begins_none))]
     fn begin_flush<R: Wait>(&self, rt: &R, seat: &mut Seat) -> Result<Option<(Job, Slip)>, Denied>
         requires { seat.old.table ≡ B.table }
         ensures goes { Goes seat.old seat.new }
         ensures only { Only (λ e. IsWriteBack e.event) seat.old seat.new }
         ensures idle { IfOk result (λ o. IfNone o (seat.new ≡ seat.old)) }
         ensures one { IfOk result (λ o. IfSome o (λ r. MadeOne (Some r.1) seat.old seat.new)) }
-        ensures begun { IfOk result (λ o. IfSome o (λ r. Begins r.0.serial seat.old seat.new r.1)) }
+        ensures begun { IfOk result (λ o. IfSome o (λ r. Begins B.sizes B.name r.0 seat.old seat.new r.1)) }
+        ensures alone { IfOk result (λ o. IfSome o (λ r. Only (λ e. OnBegun (λ t. t ≡ r.0.serial) e.event e.reply) seat.old seat.new)) }
         ensures fits { IfOk result (λ o. IfSome o (λ r. IsJobFor B.name B.sizes.blocks B.sizes.page r.0)) }
-        ensures denied { IfErr result (IsDenied IsWriteBack seat.old seat.new) }
+        ensures denied { IfErr result (IsDenied IsFlushBegin seat.old seat.new) }
+        ensures unbegun { IfErr result (λ d. MadeOne d.slip seat.old seat.new × Only (λ e. OnBegun (λ _. ⊥) e.event e.reply) seat.old seat.new) }
     {
         let buffer = match Buffer::new(self.alloc, &self.geometry) {
             Ok(buffer) => buffer,
             Err(refusal) => return Err(without_slip(refusal)),
         };
-        self.state.lock(rt).flush_first(seat, buffer)
+        let mut guard = self.state.lock(rt);
+        // Lends that the history is legal.
+        let _ = guard.core();
+        guard.flush_first(seat, buffer)
     }
 
     /// Makes a job's device call, ends its request, and wakes those who wait for an end.
@@ -124,6 +134,7 @@ impl<B: Naming, D: BlockDevice, T: Trail> SharedCache<B, D, T> {
         ensures one { IfOk result (λ d. MadeOne (Some d.slip) seat.old seat.new) }
         ensures failed { IfOk result (λ d. IfSome d.failed (IsOwnFailure self.now.name B.board)) }
         ensures denied { IfErr result (IsDenied (IsEndOf job) seat.old seat.new) }
+        ensures refused_once { IfErr result (λ d. MadeOne d.slip seat.old seat.new) }
         ensures full { IfErr result (IsFullIfNoSlip seat.old seat.new) }
     {
         let ended = carry_through(rt, &self.disk, &self.state, self.name, seat, job);

@@ -2,7 +2,7 @@
 
 ghost use Rattle.std.specs.Prelude.{◌≡◌, IfErr, OnOk};
 ghost use Rattle.locked.specs.Called.{Goes, Only};
-ghost use Rattle.shared.specs.Workers.{AllEnded, IsEnd, IsRefusedEnd, IsWorkerOf, IsWriteBack, popped_by, pushed_by, seat_of};
+ghost use Rattle.shared.specs.Workers.{AllEnded, CarriesAll, IsEnd, IsRefusedEnd, IsWorkerOf, IsWriteBack, is_unended, popped_by, pushed_by, seat_of};
 
 use crate::cache::SharedCache;
 use crate::turns::Flushed;
@@ -19,24 +19,29 @@ impl<B: Naming, D: BlockDevice, T: Trail> SharedCache<B, D, T> {
         self.work.stop(rt);
     }
 
-    /// Writes pages back while there are any to write, and sleeps where there are none, until it is told to stop.
-    #[tactic(auto, using(locked::proofs::Seats::goes_same, locked::proofs::Seats::goes_on, locked::proofs::Seats::only_same, crate::proofs::Owning::only_write_back_on))]
+    /// Writes pages back while there are any to write, and sleeps where there are none, until it is told to stop. It stops too where
+    /// the end of a write that it began is refused, which no write gets whose request is in flight.
+    #[tactic(auto, using(locked::proofs::Seats::goes_same, locked::proofs::Seats::goes_on, locked::proofs::Seats::only_same, crate::proofs::Owning::only_write_back_on, crate::proofs::Carrying::none_carried, crate::proofs::Carrying::puts_none, crate::proofs::Carrying::carries_all, crate::proofs::Carrying::carries_last))]
     pub fn flusher<R: Wait, G: Gate>(&self, rt: &R, gate: &G, worker: &mut Worker)
         requires worker { IsWorkerOf self.now.ring B.name B.table B.sizes worker.old }
         ensures worker { IsWorkerOf self.now.ring B.name B.table B.sizes worker.new }
         ensures goes { Goes (seat_of worker.old) (seat_of worker.new) }
         ensures only { Only (λ e. IsWriteBack e.event) (seat_of worker.old) (seat_of worker.new) }
         ensures popped { popped_by worker.new ≡ popped_by worker.old }
+        ensures carried { CarriesAll B.sizes B.name worker.old worker.new }
     {
         'turns: for _ in rt.forever() {
             let seen = self.work.count();
             if self.work.is_stopped() {
                 return;
             }
-            match self.flusher_turn(rt, gate, worker) {
-                Ok(Flushed::Pushed(_, _) | Flushed::Ended(_, _)) => {}
-                // A refusal may pass when a request ends, which gives the signal.
-                Ok(Flushed::Nothing) | Err(_) => self.work.wait(rt, seen),
+            let turn = self.flusher_turn(rt, gate, worker);
+            if is_unended(&turn) {
+                return;
+            }
+            // A refusal may pass when a request ends, which gives the signal.
+            if is_idle(&turn) {
+                self.work.wait(rt, seen);
             }
         }
     }
@@ -71,4 +76,16 @@ impl<B: Naming, D: BlockDevice, T: Trail> SharedCache<B, D, T> {
         }
         unreachable!()
     }
+}
+
+/// Whether a turn began a write, whose end was refused.
+fn is_unended(turn: &Result<Flushed, Denied>) -> bool
+    ensures { result ≡ is_unended turn.now }
+{
+    matches!(turn, Ok(Flushed::Unended(_, _)))
+}
+
+/// Whether a turn began no write.
+fn is_idle(turn: &Result<Flushed, Denied>) -> bool {
+    matches!(turn, Ok(Flushed::Nothing) | Err(_))
 }

@@ -8,8 +8,9 @@ use Rattle.pc_types.specs.declared.kind.Kind.TheVariants.{Fill, Flush}
 use Rattle.locked.proofs.Seats.{goes_by}
 use Rattle.shared.specs.Called.{Makes}
 use Rattle.shared.specs.Denials.{IsDenied}
-use Rattle.shared.specs.Workers.{fails_write}
-use Rattle.shared.proofs.Ending.{fill_told, flush_told}
+use Rattle.shared.specs.Workers.{IsEndReply, fails_write}
+use Rattle.shared.proofs.Ending.{fill_replies, fill_told, flush_replies, flush_told}
+use Rattle.shared.proofs.Closing.{others_denied, others_made, over_made, over_refused}
 use Rattle.shared.proofs.Making.{denied_event, goes_denied, makes_by}
 use Rattle.shared.proofs.Owning.{only_end, only_end_denied}
 use Rattle.shared.proofs.ends.end.Goals as goal
@@ -20,8 +21,8 @@ returns-in-Ok-clause-goes g c = goes_by _ _ _ _ _ _ _ c.in-Ok.ensures.made
 pub returns-in-Ok-clause-made : goal.returns-in-Ok-clause-made
 returns-in-Ok-clause-made g c =
     subst (λ (kind : Kind). (r : Reply) × Makes c.args.seat.now c.fill_end.new.seat c.in-Ok.slip
-    (event.End kind (end_of c.args.finished)) r × (false ≡ fails_write kind r)) (sym (sym c.kind.ensures ∙ c.in-Fill.is))
-    (fill_ended (Ok c.in-Ok.field-0-0), makes_by _ _ _ _ _ _ _ c.in-Ok.ensures.made, fill_told c.in-Ok.field-0-0)
+    (event.End kind (end_of c.args.finished)) r × IsEndReply r × (false ≡ fails_write kind r)) (sym (sym c.kind.ensures ∙ c.in-Fill.is))
+    (fill_ended (Ok c.in-Ok.field-0-0), makes_by _ _ _ _ _ _ _ c.in-Ok.ensures.made, fill_replies c.in-Ok.field-0-0, fill_told c.in-Ok.field-0-0)
 
 pub returns-in-Fill-clause-goes : goal.returns-in-Fill-clause-goes
 returns-in-Fill-clause-goes g c = goes_denied (event.End Fill (end_of c.args.finished)) c.args.state.now
@@ -40,10 +41,11 @@ returns-in-Ok-flush_end-clause-goes g c = goes_by _ _ _ _ _ _ _ c.in-Ok-flush_en
 pub returns-in-Ok-flush_end-clause-made : goal.returns-in-Ok-flush_end-clause-made
 returns-in-Ok-flush_end-clause-made g c =
     subst (λ (kind : Kind). (r : Reply) × Makes c.args.seat.now c.flush_end.new.seat c.in-Ok-flush_end.slip
-    (event.End kind (end_of c.args.finished)) r × (is_some c.in-Ok-flush_end.receipt ≡ fails_write kind r))
+    (event.End kind (end_of c.args.finished)) r × IsEndReply r × (is_some c.in-Ok-flush_end.receipt ≡ fails_write kind r))
     (sym (sym c.kind.ensures ∙ c.in-Flush.is)) (
       flush_ended (Ok c.in-Ok-flush_end.field-0-0),
       makes_by _ _ _ _ _ _ _ c.in-Ok-flush_end.ensures.made,
+      flush_replies c.in-Ok-flush_end.field-0-0,
       flush_told _ _ _ c.in-Ok-flush_end.field-0-0 c.in-Ok-flush_end.receipt c.in-Ok-flush_end.ensures.receipt,
     )
 
@@ -79,3 +81,44 @@ returns-clause-only g c job kind serial cache =
     only_end_denied job Flush (end_of c.args.finished) c.args.state.now c.flush_end.new.self c.args.seat.now
     c.flush_end.new.seat c.in-Err-flush_end.denied (sym (sym c.kind.ensures ∙ c.in-Flush.is) ∙ kind) serial cache
     c.in-Err-flush_end.ensures.denied
+
+-- no request of whatever job was finished is left, and none came back
+pub returns-in-Ok-clause-over : goal.returns-in-Ok-clause-over
+returns-in-Ok-clause-over g c job kind serial =
+    over_made job Fill (end_of c.args.finished) _ _ _ _ _ _ (fill_replies c.in-Ok.field-0-0) serial c.in-Ok.ensures.made
+
+pub returns-in-Fill-clause-over : goal.returns-in-Fill-clause-over
+returns-in-Fill-clause-over g c job kind serial =
+    others_denied job Fill (end_of c.args.finished) c.args.state.now c.fill_end.new.self c.args.seat.now c.fill_end.new.seat
+    c.in-Err.denied c.in-Err.ensures.denied
+    (over_refused g.B.Naming.sizes g.B.Naming.name c.args.state.now c.args.finished job Fill c.core.ensures.named
+    c.requires.cache kind serial (sym c.kind.ensures ∙ c.in-Fill.is) c.in-Err.ensures.in_flight)
+
+pub returns-in-Ok-flush_end-clause-over : goal.returns-in-Ok-flush_end-clause-over
+returns-in-Ok-flush_end-clause-over g c job kind serial =
+    over_made job Flush (end_of c.args.finished) _ _ _ _ _ _ (flush_replies c.in-Ok-flush_end.field-0-0) serial
+    c.in-Ok-flush_end.ensures.made
+
+pub returns-clause-over : goal.returns-clause-over
+returns-clause-over g c job kind serial =
+    others_denied job Flush (end_of c.args.finished) c.args.state.now c.flush_end.new.self c.args.seat.now c.flush_end.new.seat
+    c.in-Err-flush_end.denied c.in-Err-flush_end.ensures.denied
+    (over_refused g.B.Naming.sizes g.B.Naming.name c.args.state.now c.args.finished job Flush c.core.ensures.named
+    c.requires.cache kind serial (sym c.kind.ensures ∙ c.in-Flush.is) c.in-Err-flush_end.ensures.in_flight)
+
+pub returns-in-Ok-clause-others : goal.returns-in-Ok-clause-others
+returns-in-Ok-clause-others g c job over = others_made job Fill (end_of c.args.finished) _ _ _ _ _ _ c.in-Ok.ensures.made over
+
+pub returns-in-Fill-clause-others : goal.returns-in-Fill-clause-others
+returns-in-Fill-clause-others g c job over =
+    others_denied job Fill (end_of c.args.finished) c.args.state.now c.fill_end.new.self c.args.seat.now c.fill_end.new.seat
+    c.in-Err.denied c.in-Err.ensures.denied over
+
+pub returns-in-Ok-flush_end-clause-others : goal.returns-in-Ok-flush_end-clause-others
+returns-in-Ok-flush_end-clause-others g c job over =
+    others_made job Flush (end_of c.args.finished) _ _ _ _ _ _ c.in-Ok-flush_end.ensures.made over
+
+pub returns-clause-others : goal.returns-clause-others
+returns-clause-others g c job over =
+    others_denied job Flush (end_of c.args.finished) c.args.state.now c.flush_end.new.self c.args.seat.now c.flush_end.new.seat
+    c.in-Err-flush_end.denied c.in-Err-flush_end.ensures.denied over

@@ -1,6 +1,8 @@
-use Rattle.std.proofs.Common.{◌≢◌, ◌+◌, ap, refl, sym, ◌∙◌}
-use Rattle.std.specs.Prelude.{is_err, vec_len}
+use Rattle.std.proofs.Common.{◌≢◌, ◌+◌, ap, refl, subst, sym, ◌∙◌}
+use Rattle.std.specs.Prelude.{Some, is_err, vec_len}
+use Rattle.cachecore.specs.Core.{Core}
 use Rattle.held.specs.declared.log.Seat.{Seat}
+use Rattle.shared.specs.Workers.{AllOver}
 use Rattle.shared.proofs.Closing.{not_by_its_own}
 use Rattle.shared.proofs.cache.SharedCache.close.Goals as goal
 
@@ -13,4 +15,23 @@ returns-in-Err-clause-refused g c = (
       c.args.self.name g.B.Naming.name c.drain.new.own.seat.name c.args.self.named c.drain.ensures.worker.named
       (c.close.ensures.refused.0 (ap is_err c.in-Err.is)),
   λ _. refl,
+)
+
+-- the core that comes back is the one that the ring was emptied into
+pub returns-in-Ok-clause-closed : goal.returns-in-Ok-clause-closed
+returns-in-Ok-clause-closed g c = (
+  c.drain.new.state.log.history,
+  c.in-Ok.ensures.trail.0,
+  c.in-Ok.ensures.cache ∙ ap Some (sym c.args.self.named),
+  c.in-Ok.ensures.trail.2,
+  record {
+    at = c.drain.new.own;
+    taken = subst (λ (k : Core). AllOver c.args.own c.drain.new.own k.state) (sym c.in-Ok.ensures.trail.1) c.drain.ensures.taken;
+    only = c.drain.ensures.only;
+    pushed = c.drain.ensures.same.0;
+    alone = c.drain.ensures.same.1;
+    emptied = c.drain.ensures.emptied;
+    seen = c.in-Ok.ensures.own.0;
+  },
+  c.in-Ok.ensures.seats,
 )

@@ -3,6 +3,7 @@ use Rattle.machine.specs.declared.event.Event.TheVariants as event
 use Rattle.shared.proofs.Owning.{only_event, only_event_denied}
 use Rattle.shared.proofs.Making.{event_denied, event_full}
 use Rattle.shared.proofs.Answered.{only_answered}
+use Rattle.shared.proofs.Ending.{event_once}
 use Rattle.shared.proofs.cache.SharedCache.create.Goals as goal
 
 pub returns-clause-denied : goal.returns-clause-denied
@@ -18,3 +19,7 @@ returns-clause-only g c =
     only_answered (λ x. x.event ≡ event.Create) c.args.seat.now c.create.new.seat _ _ c.create.result c.create.ensures.made
     c.create.ensures.denied (λ r m. only_event _ _ _ _ _ _ _ m tt)
     (λ d q. only_event_denied event.Create c.deref_mut.result.now c.create.new.self c.args.seat.now c.create.new.seat d q tt)
+
+pub returns-clause-refused_once : goal.returns-clause-refused_once
+returns-clause-refused_once g c = event_once c.create.result event.Create c.deref_mut.result.now c.create.new.self c.args.seat.now c.create.new.seat
+    c.create.ensures.denied

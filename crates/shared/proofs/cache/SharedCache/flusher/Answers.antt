@@ -1,44 +1,94 @@
-use Rattle.std.proofs.Common.{◌∙◌}
-use Rattle.locked.proofs.Seats.{goes_on}
+use Rattle.std.proofs.Common.{◌∙◌, refl, sym}
+use Rattle.locked.proofs.Seats.{goes_on, goes_same, only_same}
+use Rattle.shared.specs.Workers.{IsWriteBack}
+use Rattle.shared.proofs.Carrying.{carried_on, carries_last, none_carried, puts_none, puts_on, turn_puts}
 use Rattle.shared.proofs.Owning.{only_write_back_on}
 use Rattle.shared.proofs.cache.SharedCache.flusher.Goals as goal
 
-pub turns-preserved-after-flusher_turn : goal.turns-preserved-after-flusher_turn
-turns-preserved-after-flusher_turn g c = record {
-  worker = c.flusher_turn.ensures.worker;
-  goes = goes_on c.args.worker.now.seat c.turns.worker.seat c.flusher_turn.new.worker.seat c.turns.invariant.goes
-      c.flusher_turn.ensures.goes;
-  only = only_write_back_on c.args.worker.now.seat c.turns.worker.seat c.flusher_turn.new.worker.seat c.turns.invariant.only
-      c.flusher_turn.ensures.only;
-  popped = c.flusher_turn.ensures.popped ∙ c.turns.invariant.popped;
-}
-
-pub turns-preserved-after-flusher_turn-2 : goal.turns-preserved-after-flusher_turn-2
-turns-preserved-after-flusher_turn-2 g c = record {
-  worker = c.flusher_turn.ensures.worker;
-  goes = goes_on c.args.worker.now.seat c.turns.worker.seat c.flusher_turn.new.worker.seat c.turns.invariant.goes
-      c.flusher_turn.ensures.goes;
-  only = only_write_back_on c.args.worker.now.seat c.turns.worker.seat c.flusher_turn.new.worker.seat c.turns.invariant.only
-      c.flusher_turn.ensures.only;
-  popped = c.flusher_turn.ensures.popped ∙ c.turns.invariant.popped;
-}
-
-pub turns-preserved-after-flusher_turn-3 : goal.turns-preserved-after-flusher_turn-3
-turns-preserved-after-flusher_turn-3 g c = record {
-  worker = c.flusher_turn.ensures.worker;
-  goes = goes_on c.args.worker.now.seat c.turns.worker.seat c.flusher_turn.new.worker.seat c.turns.invariant.goes
-      c.flusher_turn.ensures.goes;
-  only = only_write_back_on c.args.worker.now.seat c.turns.worker.seat c.flusher_turn.new.worker.seat c.turns.invariant.only
-      c.flusher_turn.ensures.only;
-  popped = c.flusher_turn.ensures.popped ∙ c.turns.invariant.popped;
+pub turns-init : goal.turns-init
+turns-init g c = record {
+  worker = c.requires.worker;
+  goes = goes_same c.args.worker.now.seat c.args.worker.now.seat refl;
+  only = only_same (λ e. IsWriteBack e.event) c.args.worker.now.seat c.args.worker.now.seat refl;
+  popped = refl;
+  puts = puts_none c.args.worker.now;
+  carried = none_carried c.args.worker.now;
 }
 
 pub turns-preserved : goal.turns-preserved
 turns-preserved g c = record {
-  worker = c.flusher_turn.ensures.worker;
-  goes = goes_on c.args.worker.now.seat c.turns.worker.seat c.flusher_turn.new.worker.seat c.turns.invariant.goes
-      c.flusher_turn.ensures.goes;
-  only = only_write_back_on c.args.worker.now.seat c.turns.worker.seat c.flusher_turn.new.worker.seat c.turns.invariant.only
-      c.flusher_turn.ensures.only;
-  popped = c.flusher_turn.ensures.popped ∙ c.turns.invariant.popped;
+  worker = c.flusher_turn-turn.ensures.worker;
+  goes = goes_on c.args.worker.now.seat c.turns.worker.seat c.flusher_turn-turn.new.worker.seat c.turns.invariant.goes
+      c.flusher_turn-turn.ensures.goes;
+  only = only_write_back_on c.args.worker.now.seat c.turns.worker.seat c.flusher_turn-turn.new.worker.seat
+      c.turns.invariant.only c.flusher_turn-turn.ensures.only;
+  popped = c.flusher_turn-turn.ensures.popped ∙ c.turns.invariant.popped;
+  puts = puts_on c.args.worker.now c.turns.worker c.flusher_turn-turn.new.worker c.turns.invariant.puts
+      (turn_puts g.B.Naming.sizes g.B.Naming.name c.turns.worker c.flusher_turn-turn.new.worker c.flusher_turn-turn.result
+      c.flusher_turn-turn.ensures.done c.flusher_turn-turn.ensures.unbegun);
+  carried = carried_on c.args.worker.now c.turns.worker c.flusher_turn-turn.new.worker c.turns.invariant.goes
+      c.flusher_turn-turn.ensures.goes c.turns.invariant.puts
+      (turn_puts g.B.Naming.sizes g.B.Naming.name c.turns.worker c.flusher_turn-turn.new.worker c.flusher_turn-turn.result
+      c.flusher_turn-turn.ensures.done c.flusher_turn-turn.ensures.unbegun)
+      c.turns.invariant.carried (c.flusher_turn-turn.ensures.carried (sym c.is_unended.ensures ∙ c.if-is_unended.false));
 }
+
+pub turns-preserved-after-is_idle : goal.turns-preserved-after-is_idle
+turns-preserved-after-is_idle g c = record {
+  worker = c.flusher_turn-turn.ensures.worker;
+  goes = goes_on c.args.worker.now.seat c.turns.worker.seat c.flusher_turn-turn.new.worker.seat c.turns.invariant.goes
+      c.flusher_turn-turn.ensures.goes;
+  only = only_write_back_on c.args.worker.now.seat c.turns.worker.seat c.flusher_turn-turn.new.worker.seat
+      c.turns.invariant.only c.flusher_turn-turn.ensures.only;
+  popped = c.flusher_turn-turn.ensures.popped ∙ c.turns.invariant.popped;
+  puts = puts_on c.args.worker.now c.turns.worker c.flusher_turn-turn.new.worker c.turns.invariant.puts
+      (turn_puts g.B.Naming.sizes g.B.Naming.name c.turns.worker c.flusher_turn-turn.new.worker c.flusher_turn-turn.result
+      c.flusher_turn-turn.ensures.done c.flusher_turn-turn.ensures.unbegun);
+  carried = carried_on c.args.worker.now c.turns.worker c.flusher_turn-turn.new.worker c.turns.invariant.goes
+      c.flusher_turn-turn.ensures.goes c.turns.invariant.puts
+      (turn_puts g.B.Naming.sizes g.B.Naming.name c.turns.worker c.flusher_turn-turn.new.worker c.flusher_turn-turn.result
+      c.flusher_turn-turn.ensures.done c.flusher_turn-turn.ensures.unbegun)
+      c.turns.invariant.carried (c.flusher_turn-turn.ensures.carried (sym c.is_unended.ensures ∙ c.if-is_unended.false));
+}
+
+pub turns-preserved-after-is_idle-2 : goal.turns-preserved-after-is_idle-2
+turns-preserved-after-is_idle-2 g c = record {
+  worker = c.flusher_turn-turn.ensures.worker;
+  goes = goes_on c.args.worker.now.seat c.turns.worker.seat c.flusher_turn-turn.new.worker.seat c.turns.invariant.goes
+      c.flusher_turn-turn.ensures.goes;
+  only = only_write_back_on c.args.worker.now.seat c.turns.worker.seat c.flusher_turn-turn.new.worker.seat
+      c.turns.invariant.only c.flusher_turn-turn.ensures.only;
+  popped = c.flusher_turn-turn.ensures.popped ∙ c.turns.invariant.popped;
+  puts = puts_on c.args.worker.now c.turns.worker c.flusher_turn-turn.new.worker c.turns.invariant.puts
+      (turn_puts g.B.Naming.sizes g.B.Naming.name c.turns.worker c.flusher_turn-turn.new.worker c.flusher_turn-turn.result
+      c.flusher_turn-turn.ensures.done c.flusher_turn-turn.ensures.unbegun);
+  carried = carried_on c.args.worker.now c.turns.worker c.flusher_turn-turn.new.worker c.turns.invariant.goes
+      c.flusher_turn-turn.ensures.goes c.turns.invariant.puts
+      (turn_puts g.B.Naming.sizes g.B.Naming.name c.turns.worker c.flusher_turn-turn.new.worker c.flusher_turn-turn.result
+      c.flusher_turn-turn.ensures.done c.flusher_turn-turn.ensures.unbegun)
+      c.turns.invariant.carried (c.flusher_turn-turn.ensures.carried (sym c.is_unended.ensures ∙ c.if-is_unended.false));
+}
+
+pub turns-preserved-after-is_idle-3 : goal.turns-preserved-after-is_idle-3
+turns-preserved-after-is_idle-3 g c = record {
+  worker = c.flusher_turn-turn.ensures.worker;
+  goes = goes_on c.args.worker.now.seat c.turns.worker.seat c.flusher_turn-turn.new.worker.seat c.turns.invariant.goes
+      c.flusher_turn-turn.ensures.goes;
+  only = only_write_back_on c.args.worker.now.seat c.turns.worker.seat c.flusher_turn-turn.new.worker.seat
+      c.turns.invariant.only c.flusher_turn-turn.ensures.only;
+  popped = c.flusher_turn-turn.ensures.popped ∙ c.turns.invariant.popped;
+  puts = puts_on c.args.worker.now c.turns.worker c.flusher_turn-turn.new.worker c.turns.invariant.puts
+      (turn_puts g.B.Naming.sizes g.B.Naming.name c.turns.worker c.flusher_turn-turn.new.worker c.flusher_turn-turn.result
+      c.flusher_turn-turn.ensures.done c.flusher_turn-turn.ensures.unbegun);
+  carried = carried_on c.args.worker.now c.turns.worker c.flusher_turn-turn.new.worker c.turns.invariant.goes
+      c.flusher_turn-turn.ensures.goes c.turns.invariant.puts
+      (turn_puts g.B.Naming.sizes g.B.Naming.name c.turns.worker c.flusher_turn-turn.new.worker c.flusher_turn-turn.result
+      c.flusher_turn-turn.ensures.done c.flusher_turn-turn.ensures.unbegun)
+      c.turns.invariant.carried (c.flusher_turn-turn.ensures.carried (sym c.is_unended.ensures ∙ c.if-is_unended.false));
+}
+
+pub returns-then-is_unended-clause-carried : goal.returns-then-is_unended-clause-carried
+returns-then-is_unended-clause-carried g c =
+    carries_last g.B.Naming.sizes g.B.Naming.name c.args.worker.now c.turns.worker c.flusher_turn-turn.new.worker
+    c.flusher_turn-turn.result c.turns.invariant.carried c.flusher_turn-turn.ensures.done
+    (sym c.is_unended.ensures ∙ c.if-is_unended.true)

@@ -1,6 +1,7 @@
 use Rattle.std.proofs.Common.{◌≡◌}
 use Rattle.locked.specs.Called.{Goes, Only}
-use Rattle.shared.specs.Workers.{IsWorkerOf, IsWriteBack, popped_by}
+use Rattle.shared.specs.Workers.{AllCarried, IsWorkerOf, IsWriteBack, popped_by}
+use Rattle.shared.proofs.Carrying.{Puts}
 use Rattle.shared.proofs.cache.SharedCache.flusher.Given as goal
 
 abbrev pub invariant-turns : goal.invariant-turns
@@ -9,4 +10,6 @@ invariant-turns g l = record {
   goes : Goes l.initial.worker.seat l.worker.seat;
   only : Only (λ e. IsWriteBack e.event) l.initial.worker.seat l.worker.seat;
   popped : popped_by l.worker ≡ popped_by l.initial.worker;
+  puts : Puts l.initial.worker l.worker;
+  carried : AllCarried l.initial.worker l.worker;
 }

@@ -1,8 +1,11 @@
-use Rattle.std.proofs.Common.{ap, subst, sym, ◌∙◌}
+use Rattle.std.proofs.Common.{◌≡◌, ap, rules, subst, sym}
 use Rattle.std.specs.Prelude.{is_some}
 use Rattle.blockdev.specs.Jobs.{IsJobFor, Task}
 use Rattle.ring.specs.declared.log.Log.{Log}
-use Rattle.shared.specs.Workers.{Begins}
+use Rattle.locked.specs.Called.{Only}
+use Rattle.shared.specs.Workers.{Begins, IsEndOf, OnBegun}
+use Rattle.shared.proofs.Carrying.{ended_carried, pushed_carried, two_made, unended_count}
+use Rattle.shared.proofs.Making.{denied_on}
 use Rattle.shared.proofs.Ending.{begins_then, ends_on}
 use Rattle.shared.proofs.Owning.{only_flushed}
 use Rattle.shared.proofs.cache.SharedCache.flusher_turn.Goals as goal
@@ -14,12 +17,12 @@ end_job-requires-clause-fits g c =
 
 pub returns-in-Ok-clause-done : goal.returns-in-Ok-clause-done
 returns-in-Ok-clause-done g c = (
-  subst (λ n. Begins n c.args.worker.now.seat c.end_job.new.seat c.in-Ok-Some.begun.1)
-      (sym (c.in-Ok.ensures.ended.0 ∙ ap (λ (j : Task). j.serial) c.in-Err-push.ensures.answer.0))
-      (begins_then c.in-Ok-Some.begun.0.serial c.args.worker.now.seat c.begin_flush.new.seat c.end_job.new.seat
-      c.in-Ok-Some.begun.1 (rw c.in-Ok-Some.field-0-is at c.in-Ok-Some.ensures.begun) c.end_job.ensures.goes),
   c.in-Err-push.job,
   sym c.in-Ok.ensures.ended.0,
+  subst (λ (j : Task). Begins g.B.Naming.sizes g.B.Naming.name j c.args.worker.now.seat c.end_job.new.seat c.in-Ok-Some.begun.1)
+      (sym c.in-Err-push.ensures.answer.0)
+      (begins_then g.B.Naming.sizes g.B.Naming.name c.in-Ok-Some.begun.0 c.args.worker.now.seat c.begin_flush.new.seat
+      c.end_job.new.seat c.in-Ok-Some.begun.1 (rw c.in-Ok-Some.field-0-is at c.in-Ok-Some.ensures.begun) c.end_job.ensures.goes),
   ends_on c.in-Err-push.job c.args.worker.now.seat c.begin_flush.new.seat c.end_job.new.seat c.in-Ok.done.slip
       (is_some c.in-Ok.done.failed) c.begin_flush.ensures.goes c.in-Ok.ensures.ended.1,
   ap (λ (v : Log). v.pushed) c.in-Err-push.ensures.answer.1,
@@ -34,3 +37,42 @@ pub returns-in-Err-end_job-clause-only : goal.returns-in-Err-end_job-clause-only
 returns-in-Err-end_job-clause-only g c =
     only_flushed c.in-Err-push.job c.args.worker.now.seat c.begin_flush.new.seat c.end_job.new.seat c.begin_flush.ensures.only
     c.end_job.ensures.only
+
+-- the job was put into the ring
+pub returns-in_default-clause-carried : goal.returns-in_default-clause-carried
+returns-in_default-clause-carried g c = λ _.
+    pushed_carried c.args.worker.now (record { seat = c.begin_flush.new.seat; pass = c.push.new.pass }) c.in-Ok-Some.begun.0
+    (rw c.in-Ok-Some.field-0-is at c.in-Ok-Some.ensures.alone) (search rules)
+
+pub returns-in-Ok-clause-carried : goal.returns-in-Ok-clause-carried
+returns-in-Ok-clause-carried g c = λ _.
+    ended_carried c.args.worker.now (record { seat = c.end_job.new.seat; pass = c.push.new.pass }) c.begin_flush.new.seat
+    c.in-Err-push.job c.in-Ok.done.slip (is_some c.in-Ok.done.failed)
+    (subst (λ (j : Task). Only (λ e. OnBegun (λ t. t ≡ j.serial) e.event e.reply) c.args.worker.now.seat c.begin_flush.new.seat)
+    (sym c.in-Err-push.ensures.answer.0) (rw c.in-Ok-Some.field-0-is at c.in-Ok-Some.ensures.alone)) c.end_job.ensures.only
+    (ends_on c.in-Err-push.job c.args.worker.now.seat c.begin_flush.new.seat c.end_job.new.seat c.in-Ok.done.slip
+    (is_some c.in-Ok.done.failed) c.begin_flush.ensures.goes c.in-Ok.ensures.ended.1)
+
+pub returns-in-Ok-clause-count : goal.returns-in-Ok-clause-count
+returns-in-Ok-clause-count g c =
+    two_made c.in-Ok-Some.begun.1 c.in-Ok.done.slip c.args.worker.now.seat c.begin_flush.new.seat c.end_job.new.seat
+    (rw c.in-Ok-Some.field-0-is at c.in-Ok-Some.ensures.one) c.in-Ok.ensures.one
+
+-- its end was refused
+pub returns-in-Err-end_job-clause-done : goal.returns-in-Err-end_job-clause-done
+returns-in-Err-end_job-clause-done g c = (
+  c.in-Err-push.job,
+  subst (λ (j : Task). Begins g.B.Naming.sizes g.B.Naming.name j c.args.worker.now.seat c.end_job.new.seat c.in-Ok-Some.begun.1)
+      (sym c.in-Err-push.ensures.answer.0)
+      (begins_then g.B.Naming.sizes g.B.Naming.name c.in-Ok-Some.begun.0 c.args.worker.now.seat c.begin_flush.new.seat
+      c.end_job.new.seat c.in-Ok-Some.begun.1 (rw c.in-Ok-Some.field-0-is at c.in-Ok-Some.ensures.begun) c.end_job.ensures.goes),
+  denied_on (IsEndOf c.in-Err-push.job) (IsEndOf c.in-Err-push.job) c.args.worker.now.seat c.begin_flush.new.seat
+      c.end_job.new.seat c.in-Err-end_job.denied (λ e x. x) c.begin_flush.ensures.goes c.in-Err-end_job.ensures.denied,
+  λ none. (c.in-Err-end_job.ensures.full none).0,
+  ap (λ (v : Log). v.pushed) c.in-Err-push.ensures.answer.1,
+)
+
+pub returns-in-Err-end_job-clause-count : goal.returns-in-Err-end_job-clause-count
+returns-in-Err-end_job-clause-count g c =
+    unended_count c.in-Ok-Some.begun.1 c.in-Err-end_job.denied.slip c.args.worker.now.seat c.begin_flush.new.seat
+    c.end_job.new.seat (rw c.in-Ok-Some.field-0-is at c.in-Ok-Some.ensures.one) c.in-Err-end_job.ensures.refused_once

@@ -6,7 +6,7 @@ use Rattle.locked.specs.Called.{Only}
 use Rattle.shared.specs.Denials.{IsDenied}
 use Rattle.shared.specs.Seeks.{Seeks}
 use Rattle.shared.specs.Seen.{HandleSeen}
-use Rattle.shared.proofs.Making.{denied_event, full_by}
+use Rattle.shared.proofs.Making.{denied_event, denied_one, full_by}
 use Rattle.shared.proofs.Owning.{only_event}
 use Rattle.shared.proofs.cache.SharedCache.seek.Goals as goal
 
@@ -19,6 +19,8 @@ returns-in-End-clause-sought g c own here =
           (denied_event (event.Size c.handle.inside.number) c.deref_mut.result.now c.size.new.self c.args.seat.now
           c.size.new.seat c.in-Err-size.denied c.in-Err-size.ensures.denied),
       full_by (event.Size c.handle.inside.number) c.deref_mut.result.now c.size.new.self c.args.seat.now
+          c.size.new.seat c.in-Err-size.denied c.in-Err-size.ensures.denied,
+      denied_one (event.Size c.handle.inside.number) c.deref_mut.result.now c.size.new.self c.args.seat.now
           c.size.new.seat c.in-Err-size.denied c.in-Err-size.ensures.denied,
     ))
 

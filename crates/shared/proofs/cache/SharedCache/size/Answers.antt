@@ -8,6 +8,7 @@ use Rattle.shared.specs.Seen.{HandleSeen}
 use Rattle.shared.proofs.Owning.{only_event, only_event_denied}
 use Rattle.shared.proofs.Making.{event_denied, event_full}
 use Rattle.shared.proofs.Answered.{only_answered}
+use Rattle.shared.proofs.Ending.{event_once}
 use Rattle.shared.proofs.cache.SharedCache.size.Goals as goal
 
 pub returns-clause-denied : goal.returns-clause-denied
@@ -30,3 +31,7 @@ returns-clause-only g c =
     c.size.ensures.made c.size.ensures.denied (λ r m. only_event _ _ _ _ _ _ _ m tt)
     (λ d q. only_event_denied (event.Size c.handle.inside.number) c.deref_mut.result.now c.size.new.self c.args.seat.now
     c.size.new.seat d q tt))
+
+pub returns-clause-refused_once : goal.returns-clause-refused_once
+returns-clause-refused_once g c = event_once c.size.result (event.Size c.handle.inside.number) c.deref_mut.result.now c.size.new.self c.args.seat.now c.size.new.seat
+    c.size.ensures.denied
