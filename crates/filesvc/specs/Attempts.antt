@@ -85,9 +85,9 @@ pub record Attempt (old : SoloSeen) (e : Event) (over : Option Reply) (new : Sol
   -- one that is to be made again needs fewer attempts
   pub less : over ≡ None → need_of new.world.core e < need_of old.world.core e
 
--- an attempt from its event on, which had this reply
-pub record Follows (old : SoloSeen) (h : HandleId) (got : Reply) (over : Option Reply) (new : SoloSeen) : Type 0 where
+-- an attempt from its event on, which had this reply. It wants this room still
+pub record Follows (old : SoloSeen) (h : HandleId) (got : Reply) (want : Option Refusal) (over : Option Reply) (new : SoloSeen) : Type 0 where
   pub helps : Helps h.0 old new
   pub attempts : new.attempts ≡ old.attempts
   pub settled : is_settled (Some got) ≡ true → (over ≡ Some got) × (new ≡ old)
-  pub stopped : is_settled (Some got) ≡ false → (over ≡ None) ⊎ ((r : Refusal) × (over ≡ Some (reply.Refused r)) × IsHelpRefusal old h got r new)
+  pub stopped : is_settled (Some got) ≡ false → (over ≡ None) ⊎ ((r : Refusal) × (over ≡ Some (reply.Refused r)) × IsHelpRefusal old h got want r new)

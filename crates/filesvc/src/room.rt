@@ -3,8 +3,8 @@
 ghost use Rattle.std.specs.Prelude.{◌≡◌, ℕ, ◌⊎◌, ◌<◌, None, IfErr, IfOk, IsOkUnless, OnOk};
 ghost use Rattle.pc_types.specs.declared.refusal.Refusal.TheVariants.{DirtyLimit, NoFrame};
 ghost use Rattle.filesvc.specs.Attempts.{Helps};
-ghost use Rattle.filesvc.specs.Rooms.{FlushesOne, IsClean, IsFillRefusal, IsFlush, IsMissed, IsWayRefusal, MakesRoom, StaysAbsent, Suffices, need, wants};
-ghost use Rattle.filesvc.specs.Service.{Faulted};
+ghost use Rattle.filesvc.specs.Rooms.{FailsFlush, FlushesOne, IsClean, IsFillRefusal, IsFlush, IsMissed, IsWayRefusal, MakesRoom, StaysAbsent, Suffices, need};
+ghost use Rattle.filesvc.specs.Service.{wants};
 
 use crate::requests::{fill_page, flush_page};
 use crate::solo::Solo;
@@ -30,7 +30,7 @@ impl<D: BlockDevice> Solo<D> {
         requires missed { IsMissed self.old span.handle.0 span.offset span.count page.0 }
         ensures helps { Helps span.handle.0 self.old self.new }
         ensures attempts { self.new.attempts ≡ self.old.attempts }
-        ensures refused { IfErr result (λ r. IsFillRefusal self.old span.handle page r self.new) }
+        ensures refused { IfErr result (λ r. IsFillRefusal self.old span.handle page (wants span.dirties self.new.world.core span.handle.0 span.offset span.count) r self.new) }
         ensures gains { OnOk result (need span.dirties self.new.world.core span.handle.0 span.offset span.count < need span.dirties self.old.world.core span.handle.0 span.offset span.count) }
     {
         self.make_way(span)?;
@@ -43,7 +43,7 @@ impl<D: BlockDevice> Solo<D> {
         requires room { wants span.dirties self.old.world.core span.handle.0 span.offset span.count ≡ None }
         ensures helps { Helps span.handle.0 self.old self.new }
         ensures attempts { self.new.attempts ≡ self.old.attempts }
-        ensures refused { IfErr result (λ r. IsFillRefusal self.old span.handle page r self.new) }
+        ensures refused { IfErr result (λ r. IsFillRefusal self.old span.handle page (wants span.dirties self.new.world.core span.handle.0 span.offset span.count) r self.new) }
         ensures gains { OnOk result (need span.dirties self.new.world.core span.handle.0 span.offset span.count < need span.dirties self.old.world.core span.handle.0 span.offset span.count) }
     {
         let why = match fill_page(&mut self.world, span.handle, page) {
@@ -61,7 +61,7 @@ impl<D: BlockDevice> Solo<D> {
         ensures made { OnOk result (wants span.dirties self.new.world.core span.handle.0 span.offset span.count ≡ None) }
         ensures kept { wants span.dirties self.old.world.core span.handle.0 span.offset span.count ≡ None → OnOk result (self.new ≡ self.old) }
         ensures absent { OnOk result (StaysAbsent self.old.world.core self.new.world.core) }
-        ensures refused { IfErr result (λ r. IsWayRefusal self.old r self.new) }
+        ensures refused { IfErr result (λ r. IsWayRefusal self.old (wants span.dirties self.new.world.core span.handle.0 span.offset span.count) r self.new) }
     {
         'turns: while let Some(want) = self.wants(span) {
             self.make_room(want)?;
@@ -96,8 +96,8 @@ impl<D: BlockDevice> Solo<D> {
         ensures attempts { self.new.attempts ≡ self.old.attempts }
         ensures made { OnOk result (MakesRoom self.old refusal self.new) }
         ensures refused { IsOkUnless result refusal }
-        ensures frames { refusal ≡ NoFrame → IfErr result (λ r. r ≡ NoFrame → Faulted self.old self.new ⊎ Suffices self.old) }
-        ensures clean { refusal ≡ DirtyLimit → IfErr result (λ r. r ≡ DirtyLimit → Faulted self.old self.new ⊎ IsClean self.old) }
+        ensures frames { refusal ≡ NoFrame → IfErr result (λ r. r ≡ NoFrame → FailsFlush self.old self.new ⊎ Suffices self.old) }
+        ensures clean { refusal ≡ DirtyLimit → IfErr result (λ r. r ≡ DirtyLimit → FailsFlush self.old self.new ⊎ IsClean self.old) }
     {
         match refusal {
             Refusal::NoFrame => {

@@ -16,7 +16,7 @@ on_err (Err e) P Q p f = f e p
 
 pub returns-clause-refused : goal.returns-clause-refused
 returns-clause-refused g c = on_err c.fill_once.result _ _ c.fill_once.ensures.refused
-    (λ e x. fill_refusal_before c.args.self.now c.make_way.new.self c.fill_once.new.self c.args.span.handle c.args.page e
+    (λ e x. fill_refusal_before c.args.self.now c.make_way.new.self c.fill_once.new.self c.args.span.handle c.args.page _ e
     c.make_way.ensures.helps x)
 
 pub returns-clause-helps : goal.returns-clause-helps

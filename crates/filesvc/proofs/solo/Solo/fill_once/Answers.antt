@@ -1,5 +1,6 @@
 use Rattle.std.proofs.Common.{◌≡◌, None, eq-eqb, refl, sym, subst}
-use Rattle.filesvc.specs.Rooms.{IsMissed, wants}
+use Rattle.filesvc.specs.Rooms.{IsMissed}
+use Rattle.filesvc.specs.Service.{wants}
 use Rattle.filesvc.specs.Seen.{SoloSeen}
 use Rattle.filesvc.proofs.Fills.{fill_gains, frame_free}
 use Rattle.filesvc.proofs.RoomLaws.{fill_faulted, fill_stopped}
@@ -38,6 +39,6 @@ returns-clause-refused g c =
     let m : IsMissed s c.args.span.handle.0 c.args.span.offset c.args.span.count c.args.page.0 = subst (λ x. IsMissed x c.args.span.handle.0 c.args.span.offset c.args.span.count c.args.page.0) (sym c.self.view_is) c.requires.missed in
     let room : wants c.args.span.dirties s.world.core c.args.span.handle.0 c.args.span.offset c.args.span.count ≡ None = subst (λ (x : SoloSeen). wants c.args.span.dirties x.world.core c.args.span.handle.0 c.args.span.offset c.args.span.count ≡ None) (sym c.self.view_is) c.requires.room in
     elim c.match-fill_page.branch [
-      | in-Failed w ↦ rw (w.why-is, ← c.self.view_is) (fill_faulted s _ _ c.args.span.handle c.args.page w.in-Failed.code (w.in-Failed.ensures.made c.self.inside.recorder) (service_sound _ _ _ _ c.self.invariant.serving))
-      | in-Refused w ↦ rw (w.why-is, ← c.self.view_is) (fill_stopped _ s _ _ _ c.args.span.handle c.args.page w.in-Refused.refusal c.self.invariant.serving (w.in-Refused.ensures.made c.self.inside.recorder) (frame_free _ s _ c.self.invariant.serving c.args.span.dirties c.args.span.handle c.args.span.offset c.args.span.count c.args.page m room))
+      | in-Failed w ↦ rw (w.why-is, ← c.self.view_is) (fill_faulted s _ _ c.args.span.handle c.args.page None w.in-Failed.code (w.in-Failed.ensures.made c.self.inside.recorder) (service_sound _ _ _ _ c.self.invariant.serving))
+      | in-Refused w ↦ rw (w.why-is, ← c.self.view_is) (fill_stopped _ s _ _ _ c.args.span.handle c.args.page _ w.in-Refused.refusal c.self.invariant.serving (w.in-Refused.ensures.made c.self.inside.recorder) (frame_free _ s _ c.self.invariant.serving c.args.span.dirties c.args.span.handle c.args.span.offset c.args.span.count c.args.page m room))
     ]

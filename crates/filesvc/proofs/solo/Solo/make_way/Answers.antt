@@ -1,6 +1,6 @@
 use Rattle.std.proofs.Common.{◌≡◌, Some, None, refl, ap, sym, ◌∙◌}
 use Rattle.std.proofs.lemmas.Result.{err_from_is_err_and}
-use Rattle.filesvc.specs.Rooms.{wants}
+use Rattle.filesvc.specs.Service.{wants}
 use Rattle.filesvc.specs.Seen.{SoloSeen}
 use Rattle.filesvc.proofs.Laws.{helps_refl, helps_trans}
 use Rattle.filesvc.proofs.Load.{room_absent, room_less}
@@ -32,6 +32,6 @@ returns-in_err-make_room-clause-refused g c =
     let p = err_from_is_err_and c.from_residual.result c.from_residual.ensures.1 in
     let way : wants c.args.span.dirties c.turns.self.world.core c.args.span.handle.0 c.args.span.offset c.args.span.count ≡ Some c.in-Some.want = sym c.wants.ensures ∙ c.in-Some.is in
     rw (p.1, p.2) (way_refused c.args.self.now c.turns.self c.make_room.new.self c.turns.invariant.helps.serves
-    c.in-Some.want c.in_err-make_room.field-0.0
+    c.args.span.dirties c.args.span.handle.0 c.args.span.offset c.args.span.count c.in-Some.want c.in_err-make_room.field-0.0 way
     (wanted_room c.args.span.dirties c.turns.self.world.core c.args.span.handle.0 c.args.span.offset c.args.span.count c.turns.self refl c.in-Some.want way)
     c.in_err-make_room.ensures.refused c.in_err-make_room.ensures.frames c.in_err-make_room.ensures.clean)

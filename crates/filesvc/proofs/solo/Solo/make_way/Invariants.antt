@@ -1,5 +1,6 @@
 use Rattle.std.proofs.Common.{◌≡◌, None}
-use Rattle.filesvc.specs.Rooms.{StaysAbsent, load, wants}
+use Rattle.filesvc.specs.Rooms.{StaysAbsent, load}
+use Rattle.filesvc.specs.Service.{wants}
 use Rattle.filesvc.specs.Attempts.{Helps}
 use Rattle.filesvc.proofs.solo.Solo.make_way.Given as goal
 
