@@ -32,7 +32,7 @@ use Rattle.filesvc.specs.declared.writes.Wrote.{Wrote}
 use Rattle.world.specs.declared.step.Step.TheVariants as step
 use Rattle.world.specs.Stepping.{IsMade}
 use Rattle.filesvc.specs.Attempts.{Attempt, Follows, Helps, WroteAll, need_of, step_of, write_over}
-use Rattle.filesvc.specs.Made.{Asks, FailsFill, IsMadeOf, Moves, Tries, WantsMemory, is_help, own_handle, write_step}
+use Rattle.filesvc.specs.Made.{FailsFill, IsMadeOf, Moves, Tries, WantsMemory, asked, is_help, own_handle, write_step}
 use Rattle.filesvc.specs.Rests.{IsService}
 use Rattle.filesvc.specs.Seen.{HandleSeen, SoloSeen}
 use Rattle.filesvc.specs.Service.{FilesAfter, IsOpen, IsRefusal, IsSettledAtOnce, IsSoonOver, Keeps, LengthsAfter}
@@ -170,7 +170,7 @@ module _ (old : SoloSeen) (h : HandleId) (e : Event) (got : Reply) (w : WorldSee
                 after = w;
                 step = own_step old.world w e got call m d still;
                 settled = λ t. absurd (let x : true ≡ false = sym t ∙ u in cc);
-                helped = λ _. subst (λ k. Moves (is_help k) w new.world) (own_names e call by) f.helps.moves;
+                helped = λ _. subst (λ k. Moves (is_help k (asked got)) w new.world) (own_names e call by) f.helps.moves;
                 failed = λ _. fails;
                 wanting = λ _. wants_memory;
               };
@@ -178,7 +178,7 @@ module _ (old : SoloSeen) (h : HandleId) (e : Event) (got : Reply) (w : WorldSee
             }
           where
             fails : (code : ℕ) → over ≡ Some (reply.Refused (Io code))
-                → (p : PageIndex) × Asks got p × FailsFill w (own_handle (step_of e)) p code new.world
+                → (p : PageIndex) × (asked got ≡ Some p) × FailsFill w (own_handle (step_of e)) p code new.world
             fails code is = elim (f.stopped u) [
               | inl a ↦ absurd (let x : Some (reply.Refused (Io code)) ≡ None = sym is ∙ a in cc)
               | inr a ↦ (let x : Some (reply.Refused a.0) ≡ Some (reply.Refused (Io code)) = sym a.1 ∙ is in
@@ -190,7 +190,7 @@ module _ (old : SoloSeen) (h : HandleId) (e : Event) (got : Reply) (w : WorldSee
             ]
 
             wants_memory : over ≡ Some (reply.Refused Memory)
-                → (p : PageIndex) × Asks got p × WantsMemory w (own_handle (step_of e)) p new.world
+                → (p : PageIndex) × (asked got ≡ Some p) × WantsMemory w (own_handle (step_of e)) p new.world
             wants_memory is = elim (f.stopped u) [
               | inl a ↦ absurd (let x : Some (reply.Refused Memory) ≡ None = sym is ∙ a in cc)
               | inr a ↦ (let x : Some (reply.Refused a.0) ≡ Some (reply.Refused Memory) = sym a.1 ∙ is in
@@ -252,13 +252,13 @@ read_unsettled a out p (inl e) = ap (λ x. is_settled (Some (was_read (Ok x) out
 read_unsettled a out p (inr e) = ap (λ x. is_settled (Some (was_read (Ok x) out))) e
 
 -- and for this page it asks
-pub read_asks : (a : ReadAnswer) (out : List ℕ) (p : PageIndex) → (a ≡ read.Miss p) ⊎ (a ≡ read.Wait p) → Asks (was_read (Ok a) out) p
-read_asks a out p (inl e) = inl (ap (λ x. was_read (Ok x) out) e)
-read_asks a out p (inr e) = inr (ap (λ x. was_read (Ok x) out) e)
+pub read_asks : (a : ReadAnswer) (out : List ℕ) (p : PageIndex) → (a ≡ read.Miss p) ⊎ (a ≡ read.Wait p) → asked (was_read (Ok a) out) ≡ Some p
+read_asks a out p (inl e) = ap (λ x. asked (was_read (Ok x) out)) e
+read_asks a out p (inr e) = ap (λ x. asked (was_read (Ok x) out)) e
 
-pub truncate_asks : (a : TruncateAnswer) (p : PageIndex) → (a ≡ cut.Miss p) ⊎ (a ≡ cut.Wait p) → Asks (was_truncated (Ok a)) p
-truncate_asks a p (inl e) = inl (ap (λ x. was_truncated (Ok x)) e)
-truncate_asks a p (inr e) = inr (ap (λ x. was_truncated (Ok x)) e)
+pub truncate_asks : (a : TruncateAnswer) (p : PageIndex) → (a ≡ cut.Miss p) ⊎ (a ≡ cut.Wait p) → asked (was_truncated (Ok a)) ≡ Some p
+truncate_asks a p (inl e) = ap (λ x. asked (was_truncated (Ok x))) e
+truncate_asks a p (inr e) = ap (λ x. asked (was_truncated (Ok x))) e
 
 pub truncate_unsettled : (a : TruncateAnswer) (p : PageIndex) → (a ≡ cut.Miss p) ⊎ (a ≡ cut.Wait p) → is_settled (Some (was_truncated (Ok a))) ≡ false
 truncate_unsettled a p (inl e) = ap (λ x. is_settled (Some (was_truncated (Ok x)))) e
@@ -266,13 +266,13 @@ truncate_unsettled a p (inr e) = ap (λ x. is_settled (Some (was_truncated (Ok x
 
 module _ (old : SoloSeen) (h : HandleId) (got : Reply) (want : Option Refusal) (new : SoloSeen) where
   pub follows_over : new ≡ old → is_settled (Some got) ≡ true → Follows old h got want (Some got) new
-  follows_over same t = record { helps = subst (Helps h.0 old) (sym same) (helps_refl old); attempts = ap (λ s. s.attempts) same; settled = λ _. (refl, same); stopped = λ u. absurd cc }
+  follows_over same t = record { helps = subst (Helps h.0 (asked got) old) (sym same) (helps_refl old); attempts = ap (λ s. s.attempts) same; settled = λ _. (refl, same); stopped = λ u. absurd cc }
 
-  pub follows_again : Helps h.0 old new → new.attempts ≡ old.attempts → is_settled (Some got) ≡ false → Follows old h got want None new
-  follows_again s a u = record { helps = s; attempts = a; settled = λ t. absurd cc; stopped = λ _. inl refl }
+  pub follows_again : (page : Option PageIndex) → asked got ≡ page → Helps h.0 page old new → new.attempts ≡ old.attempts → is_settled (Some got) ≡ false → Follows old h got want None new
+  follows_again page is s a u = record { helps = subst (λ p. Helps h.0 p old new) (sym is) s; attempts = a; settled = λ t. absurd cc; stopped = λ _. inl refl }
 
-  pub follows_refused : (r : Refusal) → Helps h.0 old new → new.attempts ≡ old.attempts → is_settled (Some got) ≡ false → IsHelpRefusal old h got want r new → Follows old h got want (Some (reply.Refused r)) new
-  follows_refused r s a u why = record { helps = s; attempts = a; settled = λ t. absurd cc; stopped = λ _. inr (r, refl, why) }
+  pub follows_refused : (page : Option PageIndex) → asked got ≡ page → (r : Refusal) → Helps h.0 page old new → new.attempts ≡ old.attempts → is_settled (Some got) ≡ false → IsHelpRefusal old h got want r new → Follows old h got want (Some (reply.Refused r)) new
+  follows_refused page is r s a u why = record { helps = subst (λ p. Helps h.0 p old new) (sym is) s; attempts = a; settled = λ t. absurd cc; stopped = λ _. inr (r, refl, why) }
 
   pub follows_wrote : (n end : ℕ) → Follows old h got want (Some (reply.Wrote n end)) new → got ≡ reply.Wrote n end
   follows_wrote n end f = by_settled (is_settled (Some got)) refl

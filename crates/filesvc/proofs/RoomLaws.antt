@@ -133,7 +133,7 @@ no_serial s none full = leb-true SERIAL_END s.next (subst (λ m. (nat_le MAX_IN_
 -- the step that it was, where memory was refused
 memory_wanted : (old new : WorldSeen) (errors after : RecorderSeen) (h : HandleId) (p : PageIndex)
     → Once old errors (event.FillBegin h p) (reply.Refused Memory) new after → WantsMemory old h.0 p new
-memory_wanted old new errors after h p (Quiet j m none) = (old, moves_refl (is_help h.0) old, m)
+memory_wanted old new errors after h p (Quiet j m none) = (old, moves_refl (is_help h.0 (Some p)) old, m)
 memory_wanted old new errors after h p (Whole c) = absurd (end_never c.called new c.serial.0 Memory (λ e. cc) c.end.0)
 
 -- a fill that is refused, where a frame is free
@@ -179,13 +179,13 @@ module _ (old mid new : SoloSeen) (serves : Serves old mid) (d : Bool) (h o n : 
   way_refused want r way (inl x) k frames clean = absurd (let e : r ≡ NoFrame = k ∙ x.0 in cc)
   way_refused want r way (inr x) k frames clean = absurd (let e : r ≡ DirtyLimit = k ∙ x.0 in cc)
 
-fails_before : (old mid new : WorldSeen) (h : ℕ) (p : PageIndex) (code : ℕ) → Moves (is_help h) old mid → FailsFill mid h p code new → FailsFill old h p code new
-fails_before old mid new h p code m (last, n, t, fill) = (last, moves_trans (is_help h) old mid last m n, t, fill)
+fails_before : (old mid new : WorldSeen) (h : ℕ) (p : PageIndex) (code : ℕ) → Moves (is_help h (Some p)) old mid → FailsFill mid h p code new → FailsFill old h p code new
+fails_before old mid new h p code m (last, n, t, fill) = (last, moves_trans (is_help h (Some p)) old mid last m n, t, fill)
 
-wants_before : (old mid new : WorldSeen) (h : ℕ) (p : PageIndex) → Moves (is_help h) old mid → WantsMemory mid h p new → WantsMemory old h p new
-wants_before old mid new h p m (last, n, fill) = (last, moves_trans (is_help h) old mid last m n, fill)
+wants_before : (old mid new : WorldSeen) (h : ℕ) (p : PageIndex) → Moves (is_help h (Some p)) old mid → WantsMemory mid h p new → WantsMemory old h p new
+wants_before old mid new h p m (last, n, fill) = (last, moves_trans (is_help h (Some p)) old mid last m n, fill)
 
-pub fill_refusal_before : (old mid new : SoloSeen) (h : HandleId) (p : PageIndex) (want : Option Refusal) (r : Refusal) → Helps h.0 old mid
+pub fill_refusal_before : (old mid new : SoloSeen) (h : HandleId) (p : PageIndex) (want : Option Refusal) (r : Refusal) → Helps h.0 (Some p) old mid
     → IsFillRefusal mid h p want r new → IsFillRefusal old h p want r new
 fill_refusal_before old mid new h p want BadHandle k x = ap (λ m. is_some (finmap.get m h.0)) (sym k.serves.keeps.handles) ∙ x
 fill_refusal_before old mid new h p want NoFrame k x = (faulted_before old mid new k.serves x.0, x.1)
@@ -236,7 +236,7 @@ fails_fill : (old new : WorldSeen) (errors after : RecorderSeen) (h : HandleId) 
     → AtOnce old errors (step.FillBegin h p) (reply.Failed code) new after → FailsFill old h.0 p code new
 fails_fill old new errors after h p code (inl a) = absurd (let f = fill_fair _ _ _ _ _ a.1.0.1.0 in cc)
 fails_fill old new errors after h p code (inr (t, mid, begun, plays, noted)) =
-    (old, moves_refl (is_help h.0) old, t, (mid, inl begun, plays))
+    (old, moves_refl (is_help h.0 (Some p)) old, t, (mid, inl begun, plays))
 
 pub fill_faulted : (s : SoloSeen) (w : WorldSeen) (errors : RecorderSeen) (h : HandleId) (p : PageIndex) (want : Option Refusal) (code : ℕ)
     → AtOnce s.world s.errors (step.FillBegin h p) (reply.Failed code) w errors → IsSound s.world
@@ -258,11 +258,11 @@ module _ (s : SoloSeen) (aged new : WorldSeen) (n : ℕ) (r : Option (FileId × 
       let g = made_goes s aged event.Age (reply.Aged n) a refl i in
       serves_trans s (record s { world = aged }) _ g.serves (made_goes (record s { world = aged }) new event.Evict (evicted r) e refl g.sound).serves
 
-  pub evicted_helps : {k : ℕ} → IsSound s.world → Helps k s (record s { world = new })
-  evicted_helps {k} i = record {
+  pub evicted_helps : {k : ℕ} {page : Option PageIndex} → IsSound s.world → Helps k page s (record s { world = new })
+  evicted_helps {k} {page} i = record {
     serves = evicted_serves i;
-    moves = moves_trans (is_help k) s.world aged new (one_move (is_help k) s.world aged step.Age (reply.Aged n) refl a)
-        (one_move (is_help k) aged new step.Evict (evicted r) refl e);
+    moves = moves_trans (is_help k page) s.world aged new (one_move (is_help k page) s.world aged step.Age (reply.Aged n) refl a)
+        (one_move (is_help k page) aged new step.Evict (evicted r) refl e);
   }
 
   pub evicted_service : (name : ℕ) (table : TableId) → IsService name s.world table s.errors → IsService name new table s.errors

@@ -14,7 +14,7 @@ use Rattle.machine.specs.Step.{Step}
 use Rattle.machine.specs.Tests.{tests}
 use Rattle.cachecore.specs.Wants.{lacking, lacks_frames, may_touch, passes_limit}
 use Rattle.world.specs.declared.step.Step.TheVariants as step
-use Rattle.filesvc.specs.Made.{Asks, FailsFill, WantsMemory}
+use Rattle.filesvc.specs.Made.{FailsFill, WantsMemory, asked}
 use Rattle.filesvc.specs.Rests.{AtOnce}
 use Rattle.filesvc.specs.Seen.{SoloSeen}
 use Rattle.filesvc.specs.Service.{Faulted, wants}
@@ -74,7 +74,7 @@ IsFillRefusal old h p want r new = IsWayRefusal old want r new
 -- why a call is refused after an event with this reply
 abbrev pub IsHelpRefusal : SoloSeen → HandleId → Reply → Option Refusal → Refusal → SoloSeen → Type 0
 IsHelpRefusal old h got want r new =
-    ((p : PageIndex) × Asks got p × IsFillRefusal old h p want r new) ⊎ IsWayRefusal old want r new
+    ((p : PageIndex) × (asked got ≡ Some p) × IsFillRefusal old h p want r new) ⊎ IsWayRefusal old want r new
 
 -- what was done where this was refused: for a frame a page was evicted or, where none was idle, one written back; for one more dirty page
 -- one was written back

@@ -1,6 +1,7 @@
 //! What a call does on the way: it fills pages that it missed, and makes room.
 
-ghost use Rattle.std.specs.Prelude.{◌≡◌, ℕ, ◌⊎◌, ◌<◌, None, IfErr, IfOk, IsOkUnless, OnOk};
+ghost use Rattle.std.specs.Prelude.{◌≡◌, ℕ, ◌⊎◌, ◌<◌, Option, Some, None, IfErr, IfOk, IsOkUnless, OnOk};
+ghost use Rattle.pc_types.specs.declared.ids.PageIndex.{PageIndex};
 ghost use Rattle.pc_types.specs.declared.refusal.Refusal.TheVariants.{DirtyLimit, NoFrame};
 ghost use Rattle.filesvc.specs.Attempts.{Helps};
 ghost use Rattle.filesvc.specs.Rooms.{FailsFlush, FlushesOne, IsClean, IsFillRefusal, IsFlush, IsMissed, IsWayRefusal, MakesRoom, StaysAbsent, Suffices, need};
@@ -28,7 +29,7 @@ impl<D: BlockDevice> Solo<D> {
     /// it could cost the call another of its pages.
     pub(crate) fn fill(&mut self, span: Span, page: PageIndex) -> Result<(), Refusal>
         requires missed { IsMissed self.old span.handle.0 span.offset span.count page.0 }
-        ensures helps { Helps span.handle.0 self.old self.new }
+        ensures helps { Helps span.handle.0 (Some page) self.old self.new }
         ensures attempts { self.new.attempts ≡ self.old.attempts }
         ensures refused { IfErr result (λ r. IsFillRefusal self.old span.handle page (wants span.dirties self.new.world.core span.handle.0 span.offset span.count) r self.new) }
         ensures gains { OnOk result (need span.dirties self.new.world.core span.handle.0 span.offset span.count < need span.dirties self.old.world.core span.handle.0 span.offset span.count) }
@@ -41,7 +42,7 @@ impl<D: BlockDevice> Solo<D> {
     fn fill_once(&mut self, span: Span, page: PageIndex) -> Result<(), Refusal>
         requires missed { IsMissed self.old span.handle.0 span.offset span.count page.0 }
         requires room { wants span.dirties self.old.world.core span.handle.0 span.offset span.count ≡ None }
-        ensures helps { Helps span.handle.0 self.old self.new }
+        ensures helps { Helps span.handle.0 (Some page) self.old self.new }
         ensures attempts { self.new.attempts ≡ self.old.attempts }
         ensures refused { IfErr result (λ r. IsFillRefusal self.old span.handle page (wants span.dirties self.new.world.core span.handle.0 span.offset span.count) r self.new) }
         ensures gains { OnOk result (need span.dirties self.new.world.core span.handle.0 span.offset span.count < need span.dirties self.old.world.core span.handle.0 span.offset span.count) }
@@ -56,7 +57,7 @@ impl<D: BlockDevice> Solo<D> {
 
     /// Makes room for a call: until as many frames are free as it lacks pages, and no more pages would be dirty than may be.
     pub(crate) fn make_way(&mut self, span: Span) -> Result<(), Refusal>
-        ensures helps { Helps span.handle.0 self.old self.new }
+        ensures helps { (page : Option PageIndex) → Helps span.handle.0 page self.old self.new }
         ensures attempts { self.new.attempts ≡ self.old.attempts }
         ensures made { OnOk result (wants span.dirties self.new.world.core span.handle.0 span.offset span.count ≡ None) }
         ensures kept { wants span.dirties self.old.world.core span.handle.0 span.offset span.count ≡ None → OnOk result (self.new ≡ self.old) }
@@ -92,7 +93,7 @@ impl<D: BlockDevice> Solo<D> {
     /// Makes room where a page was refused a frame or would be one dirty page too many. Where that can't be done, and for any
     /// other refusal, that is the answer.
     pub(crate) fn make_room(&mut self, refusal: Refusal) -> Result<(), Refusal>
-        ensures helps { (k : ℕ) → Helps k self.old self.new }
+        ensures helps { (k : ℕ) (page : Option PageIndex) → Helps k page self.old self.new }
         ensures attempts { self.new.attempts ≡ self.old.attempts }
         ensures made { OnOk result (MakesRoom self.old refusal self.new) }
         ensures refused { IsOkUnless result refusal }
@@ -118,7 +119,7 @@ impl<D: BlockDevice> Solo<D> {
 
     /// Writes a dirty page back, of the first file that has one. Answers whether that was done.
     fn flush_one(&mut self) -> bool
-        ensures helps { (k : ℕ) → Helps k self.old self.new }
+        ensures helps { (k : ℕ) (page : Option PageIndex) → Helps k page self.old self.new }
         ensures attempts { self.new.attempts ≡ self.old.attempts }
         ensures flushes { FlushesOne self.old result self.new }
     {
@@ -136,7 +137,7 @@ impl<D: BlockDevice> Solo<D> {
 
     /// Writes the file's lowest dirty page back.
     fn flush_file(&mut self, file: FileId) -> Reply
-        ensures helps { (k : ℕ) → Helps k self.old self.new }
+        ensures helps { (k : ℕ) (page : Option PageIndex) → Helps k page self.old self.new }
         ensures attempts { self.new.attempts ≡ self.old.attempts }
         ensures flush { IsFlush self.old file result self.new }
     {

@@ -71,7 +71,7 @@ returns-in_err-fill-in-Miss-clause-attempt g c =
     (attempt_follows _ c.args.handle (event.Read c.args.handle c.args.offset (length c.args.out.now)) _ _ refl
     c.in_ok-count.ensures.made.0 c.in_ok-count.ensures.made.1 c.in_ok-count.ensures.made.2
     c.self.invariant.serving.sound c.self.invariant.serving.reached c.self.invariant.serving.orderly _ _ _ refl
-    (follows_refused _ _ _ _ _ _ c.fill.ensures.helps c.fill.ensures.attempts
+    (follows_refused _ _ _ _ _ _ (read_asks _ _ _ c.in-Miss.is) _ c.fill.ensures.helps c.fill.ensures.attempts
     (read_unsettled _ _ _ c.in-Miss.is)
     (inl (c.in-Miss.page, read_asks _ _ _ c.in-Miss.is, c.in_err-fill-in-Miss.ensures.refused)))
     (λ _ r is. read_wants t c.fill.new.self c.args.handle c.args.offset (length c.args.out.now) c.count_within-count.result c.fill.ensures.helps.serves k)
@@ -91,7 +91,7 @@ returns-clause-attempt g c =
     (attempt_follows _ c.args.handle (event.Read c.args.handle c.args.offset (length c.args.out.now)) _ _ refl
     c.in_ok-count.ensures.made.0 c.in_ok-count.ensures.made.1 c.in_ok-count.ensures.made.2
     c.self.invariant.serving.sound c.self.invariant.serving.reached c.self.invariant.serving.orderly _ _ _ refl
-    (follows_again _ _ _ None _ c.fill.ensures.helps c.fill.ensures.attempts (read_unsettled _ _ _ c.in-Miss.is))
+    (follows_again _ _ _ None _ _ (read_asks _ _ _ c.in-Miss.is) c.fill.ensures.helps c.fill.ensures.attempts (read_unsettled _ _ _ c.in-Miss.is))
     (λ _ r is. absurd cc)
     (λ _ _. read_gains t c.fill.new.self c.args.handle c.args.offset
     (length c.args.out.now) c.count_within-count.result c.fill.ensures.helps.serves k

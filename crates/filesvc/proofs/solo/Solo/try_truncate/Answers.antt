@@ -47,7 +47,7 @@ returns-in_err-fill-in-Miss g c =
           (event.Truncate c.args.handle c.args.size) _ _ refl c.in_ok-truncate.ensures.0 c.in_ok-truncate.ensures.1
           c.in_ok-truncate.ensures.2 c.self.invariant.serving.sound c.self.invariant.serving.reached
           c.self.invariant.serving.orderly _ _ _ refl
-          (follows_refused _ _ _ _ _ _ c.fill.ensures.helps c.fill.ensures.attempts
+          (follows_refused _ _ _ _ _ _ (truncate_asks _ _ c.in-Miss.is) _ c.fill.ensures.helps c.fill.ensures.attempts
           (truncate_unsettled _ _ c.in-Miss.is)
           (inl (c.in-Miss.page, truncate_asks _ _ c.in-Miss.is, c.in_err-fill-in-Miss.ensures.refused))) (λ _ r is. refl) (λ _ is. absurd cc)));
     }
@@ -60,7 +60,7 @@ returns g c =
           (event.Truncate c.args.handle c.args.size) _ _ refl c.in_ok-truncate.ensures.0 c.in_ok-truncate.ensures.1
           c.in_ok-truncate.ensures.2 c.self.invariant.serving.sound c.self.invariant.serving.reached
           c.self.invariant.serving.orderly _ _ _ refl
-          (follows_again _ _ _ None _ c.fill.ensures.helps c.fill.ensures.attempts (truncate_unsettled _ _ c.in-Miss.is))
+          (follows_again _ _ _ None _ _ (truncate_asks _ _ c.in-Miss.is) c.fill.ensures.helps c.fill.ensures.attempts (truncate_unsettled _ _ c.in-Miss.is))
           (λ _ r is. absurd cc)
           (λ _ _. c.in_ok-fill-in-Miss.ensures.gains));
     }
