@@ -32,11 +32,11 @@ use Rattle.filesvc.specs.declared.writes.Wrote.{Wrote}
 use Rattle.world.specs.declared.step.Step.TheVariants as step
 use Rattle.world.specs.Stepping.{IsMade}
 use Rattle.filesvc.specs.Attempts.{Attempt, Follows, Helps, WroteAll, need_of, step_of, write_over}
-use Rattle.filesvc.specs.Made.{Asks, FailsFill, IsMadeOf, Moves, Tries, WantsMemory, is_help, own_handle, write_step}
+use Rattle.filesvc.specs.Made.{FailsFill, IsMadeOf, Moves, Tries, WantsMemory, asked, is_help, own_handle, write_step}
 use Rattle.filesvc.specs.Rests.{IsService}
 use Rattle.filesvc.specs.Seen.{HandleSeen, SoloSeen}
 use Rattle.filesvc.specs.Service.{FilesAfter, IsOpen, IsRefusal, IsSettledAtOnce, IsSoonOver, Keeps, LengthsAfter}
-use Rattle.filesvc.specs.Service.{Refuses, Serves, Tells, files, is_settled, length_after, touched_by, wrote_reply}
+use Rattle.filesvc.specs.Service.{Refuses, Serves, Tells, files, is_settled, length_after, touched_by, wanted_by, wrote_reply}
 use Rattle.filesvc.proofs.Acted.{service_acted}
 use Rattle.filesvc.proofs.CallSteps.{call_keeps, call_no_sync, comes, is_call, is_own, no_job, own_reply, plain_refused, appended_all, wrote_all}
 use Rattle.filesvc.proofs.FileSizes.{lengths_stay}
@@ -58,8 +58,8 @@ refused_before old mid e BadHandle new call s x = kept_refuses BadHandle refl ol
 refused_before old mid e TooLong new call s x = kept_refuses TooLong refl old mid s e call x
 refused_before old mid e TooLarge new call s x = kept_refuses TooLarge refl old mid s e call x
 refused_before old mid e NoSpace new call s x = x
-refused_before old mid e NoFrame new call s x = faulted_before old mid new s x
-refused_before old mid e DirtyLimit new call s x = faulted_before old mid new s x
+refused_before old mid e NoFrame new call s x = (faulted_before old mid new s x.0, x.1)
+refused_before old mid e DirtyLimit new call s x = (faulted_before old mid new s x.0, x.1)
 refused_before old mid e (Io code) new call s x = faulted_before old mid new s x
 refused_before old mid e TooManyInFlight new call s x = x
 refused_before old mid e Memory new call s x = tt
@@ -142,11 +142,12 @@ module _ (old : SoloSeen) (h : HandleId) (e : Event) (got : Reply) (w : WorldSee
     }
 
     -- it went on after the event
-    pub attempt_follows : (over : Option Reply) (new : SoloSeen) → handle_of e ≡ h.0
-        → Follows (acted old w) h got over new
+    pub attempt_follows : (want : Option Refusal) (over : Option Reply) (new : SoloSeen) → handle_of e ≡ h.0
+        → Follows (acted old w) h got want over new
+        → (is_settled (Some got) ≡ false → (r : Refusal) → over ≡ Some (reply.Refused r) → want ≡ wanted_by new.world.core e)
         → (is_settled (Some got) ≡ false → over ≡ None → need_of new.world.core e < need_of w.core e)
         → Attempt old e over new
-    attempt_follows over new by f gains = by_settled (is_settled (Some got)) refl
+    attempt_follows want over new by f same_want gains = by_settled (is_settled (Some got)) refl
       where
         unsettled : is_settled (Some got) ≡ false → Attempt old e over new
         unsettled u =
@@ -162,14 +163,14 @@ module _ (old : SoloSeen) (h : HandleId) (e : Event) (got : Reply) (w : WorldSee
               settled = λ x. absurd (let y = c.unsettled u in cc);
               refused = λ r is. elim (f.stopped u) [
                 | inl a ↦ absurd (let x : Some (reply.Refused r) ≡ None = sym is ∙ a in cc)
-                | inr a ↦ (let x : a.0 ≡ r = (let y : Some (reply.Refused a.0) ≡ Some (reply.Refused r) = sym a.1 ∙ is in cc) in subst (λ z. IsRefusal old e z new) x (refused_before old (acted old w) e a.0 new call s (help_refuses a.0 a.2)))
+                | inr a ↦ (let x : a.0 ≡ r = (let y : Some (reply.Refused a.0) ≡ Some (reply.Refused r) = sym a.1 ∙ is in cc) in subst (λ z. IsRefusal old e z new) x (refused_before old (acted old w) e a.0 new call s (help_refuses a.0 (subst (λ v. IsHelpRefusal (acted old w) h got v a.0 new) (same_want u a.0 a.1) a.2))))
               ];
               tried = record {
                 got = got;
                 after = w;
                 step = own_step old.world w e got call m d still;
                 settled = λ t. absurd (let x : true ≡ false = sym t ∙ u in cc);
-                helped = λ _. subst (λ k. Moves (is_help k) w new.world) (own_names e call by) f.helps.moves;
+                helped = λ _. subst (λ k. Moves (is_help k (asked got)) w new.world) (own_names e call by) f.helps.moves;
                 failed = λ _. fails;
                 wanting = λ _. wants_memory;
               };
@@ -177,42 +178,42 @@ module _ (old : SoloSeen) (h : HandleId) (e : Event) (got : Reply) (w : WorldSee
             }
           where
             fails : (code : ℕ) → over ≡ Some (reply.Refused (Io code))
-                → (p : PageIndex) × Asks got p × FailsFill w (own_handle (step_of e)) p code new.world
+                → (p : PageIndex) × (asked got ≡ Some p) × FailsFill w (own_handle (step_of e)) p code new.world
             fails code is = elim (f.stopped u) [
               | inl a ↦ absurd (let x : Some (reply.Refused (Io code)) ≡ None = sym is ∙ a in cc)
               | inr a ↦ (let x : Some (reply.Refused a.0) ≡ Some (reply.Refused (Io code)) = sym a.1 ∙ is in
                   let y : a.0 ≡ Io code = cc in
-                  elim (subst (λ r. IsHelpRefusal (acted old w) h got r new) y a.2) [
+                  elim (subst (λ r. IsHelpRefusal (acted old w) h got want r new) y a.2) [
                     | inl z ↦ (z.0, z.1, subst (λ k. FailsFill w k z.0 code new.world) (own_names e call by) z.2.1)
                     | inr z ↦ absurd z
                   ])
             ]
 
             wants_memory : over ≡ Some (reply.Refused Memory)
-                → (p : PageIndex) × Asks got p × WantsMemory w (own_handle (step_of e)) p new.world
+                → (p : PageIndex) × (asked got ≡ Some p) × WantsMemory w (own_handle (step_of e)) p new.world
             wants_memory is = elim (f.stopped u) [
               | inl a ↦ absurd (let x : Some (reply.Refused Memory) ≡ None = sym is ∙ a in cc)
               | inr a ↦ (let x : Some (reply.Refused a.0) ≡ Some (reply.Refused Memory) = sym a.1 ∙ is in
                   let y : a.0 ≡ Memory = cc in
-                  elim (subst (λ r. IsHelpRefusal (acted old w) h got r new) y a.2) [
+                  elim (subst (λ r. IsHelpRefusal (acted old w) h got want r new) y a.2) [
                     | inl z ↦ (z.0, z.1, subst (λ k. WantsMemory w k z.0 new.world) (own_names e call by) z.2)
                     | inr z ↦ absurd z
                   ])
             ]
 
-            way_refuses : (r : Refusal) → IsWayRefusal (acted old w) r new → IsRefusal (acted old w) e r new
+            way_refuses : (r : Refusal) → IsWayRefusal (acted old w) (wanted_by new.world.core e) r new → IsRefusal (acted old w) e r new
             way_refuses NoFrame x = x
             way_refuses DirtyLimit x = x
             way_refuses r x = absurd x
 
-            fill_refuses : (p : PageIndex) (r : Refusal) → IsFillRefusal (acted old w) h p r new → IsRefusal (acted old w) e r new
+            fill_refuses : (p : PageIndex) (r : Refusal) → IsFillRefusal (acted old w) h p (wanted_by new.world.core e) r new → IsRefusal (acted old w) e r new
             fill_refuses p BadHandle x = closed_refuses w.core e call (ap (λ k. is_open w.core k) by ∙ x)
             fill_refuses p (Io code) x = x.0
             fill_refuses p TooManyInFlight x = x
             fill_refuses p Memory x = tt
             fill_refuses p r x = way_refuses r x
 
-            help_refuses : (r : Refusal) → IsHelpRefusal (acted old w) h got r new → IsRefusal (acted old w) e r new
+            help_refuses : (r : Refusal) → IsHelpRefusal (acted old w) h got (wanted_by new.world.core e) r new → IsRefusal (acted old w) e r new
             help_refuses r (inl x) = fill_refuses x.0 r x.2
             help_refuses r (inr x) = way_refuses r x
 
@@ -251,29 +252,29 @@ read_unsettled a out p (inl e) = ap (λ x. is_settled (Some (was_read (Ok x) out
 read_unsettled a out p (inr e) = ap (λ x. is_settled (Some (was_read (Ok x) out))) e
 
 -- and for this page it asks
-pub read_asks : (a : ReadAnswer) (out : List ℕ) (p : PageIndex) → (a ≡ read.Miss p) ⊎ (a ≡ read.Wait p) → Asks (was_read (Ok a) out) p
-read_asks a out p (inl e) = inl (ap (λ x. was_read (Ok x) out) e)
-read_asks a out p (inr e) = inr (ap (λ x. was_read (Ok x) out) e)
+pub read_asks : (a : ReadAnswer) (out : List ℕ) (p : PageIndex) → (a ≡ read.Miss p) ⊎ (a ≡ read.Wait p) → asked (was_read (Ok a) out) ≡ Some p
+read_asks a out p (inl e) = ap (λ x. asked (was_read (Ok x) out)) e
+read_asks a out p (inr e) = ap (λ x. asked (was_read (Ok x) out)) e
 
-pub truncate_asks : (a : TruncateAnswer) (p : PageIndex) → (a ≡ cut.Miss p) ⊎ (a ≡ cut.Wait p) → Asks (was_truncated (Ok a)) p
-truncate_asks a p (inl e) = inl (ap (λ x. was_truncated (Ok x)) e)
-truncate_asks a p (inr e) = inr (ap (λ x. was_truncated (Ok x)) e)
+pub truncate_asks : (a : TruncateAnswer) (p : PageIndex) → (a ≡ cut.Miss p) ⊎ (a ≡ cut.Wait p) → asked (was_truncated (Ok a)) ≡ Some p
+truncate_asks a p (inl e) = ap (λ x. asked (was_truncated (Ok x))) e
+truncate_asks a p (inr e) = ap (λ x. asked (was_truncated (Ok x))) e
 
 pub truncate_unsettled : (a : TruncateAnswer) (p : PageIndex) → (a ≡ cut.Miss p) ⊎ (a ≡ cut.Wait p) → is_settled (Some (was_truncated (Ok a))) ≡ false
 truncate_unsettled a p (inl e) = ap (λ x. is_settled (Some (was_truncated (Ok x)))) e
 truncate_unsettled a p (inr e) = ap (λ x. is_settled (Some (was_truncated (Ok x)))) e
 
-module _ (old : SoloSeen) (h : HandleId) (got : Reply) (new : SoloSeen) where
-  pub follows_over : new ≡ old → is_settled (Some got) ≡ true → Follows old h got (Some got) new
-  follows_over same t = record { helps = subst (Helps h.0 old) (sym same) (helps_refl old); attempts = ap (λ s. s.attempts) same; settled = λ _. (refl, same); stopped = λ u. absurd cc }
+module _ (old : SoloSeen) (h : HandleId) (got : Reply) (want : Option Refusal) (new : SoloSeen) where
+  pub follows_over : new ≡ old → is_settled (Some got) ≡ true → Follows old h got want (Some got) new
+  follows_over same t = record { helps = subst (Helps h.0 (asked got) old) (sym same) (helps_refl old); attempts = ap (λ s. s.attempts) same; settled = λ _. (refl, same); stopped = λ u. absurd cc }
 
-  pub follows_again : Helps h.0 old new → new.attempts ≡ old.attempts → is_settled (Some got) ≡ false → Follows old h got None new
-  follows_again s a u = record { helps = s; attempts = a; settled = λ t. absurd cc; stopped = λ _. inl refl }
+  pub follows_again : (page : Option PageIndex) → asked got ≡ page → Helps h.0 page old new → new.attempts ≡ old.attempts → is_settled (Some got) ≡ false → Follows old h got want None new
+  follows_again page is s a u = record { helps = subst (λ p. Helps h.0 p old new) (sym is) s; attempts = a; settled = λ t. absurd cc; stopped = λ _. inl refl }
 
-  pub follows_refused : (r : Refusal) → Helps h.0 old new → new.attempts ≡ old.attempts → is_settled (Some got) ≡ false → IsHelpRefusal old h got r new → Follows old h got (Some (reply.Refused r)) new
-  follows_refused r s a u why = record { helps = s; attempts = a; settled = λ t. absurd cc; stopped = λ _. inr (r, refl, why) }
+  pub follows_refused : (page : Option PageIndex) → asked got ≡ page → (r : Refusal) → Helps h.0 page old new → new.attempts ≡ old.attempts → is_settled (Some got) ≡ false → IsHelpRefusal old h got want r new → Follows old h got want (Some (reply.Refused r)) new
+  follows_refused page is r s a u why = record { helps = subst (λ p. Helps h.0 p old new) (sym is) s; attempts = a; settled = λ t. absurd cc; stopped = λ _. inr (r, refl, why) }
 
-  pub follows_wrote : (n end : ℕ) → Follows old h got (Some (reply.Wrote n end)) new → got ≡ reply.Wrote n end
+  pub follows_wrote : (n end : ℕ) → Follows old h got want (Some (reply.Wrote n end)) new → got ≡ reply.Wrote n end
   follows_wrote n end f = by_settled (is_settled (Some got)) refl
     where
       by_settled : (b : Bool) → is_settled (Some got) ≡ b → got ≡ reply.Wrote n end
@@ -281,15 +282,15 @@ module _ (old : SoloSeen) (h : HandleId) (got : Reply) (new : SoloSeen) where
       by_settled false u = elim (f.stopped u) [ inl a ↦ absurd cc | inr a ↦ absurd (let x = a.1 in cc) ]
 
 -- what was written, in the end, where an event of so many bytes at o was made
-pub follows_all : (old : SoloSeen) (h : HandleId) (got : Reply) (new : SoloSeen) (s t : State) (o : ℕ) (b : List ℕ) (result : Result (Option Wrote) Refusal) → Follows old h got (write_over result) new → Step s (event.Write h o b) got t → IfOk result (λ x. IfSome x (WroteAll o b))
-follows_all old h got new s t o b (Ok (Some w)) f made = wrote_all s t h o b w (subst (λ r. Step s (event.Write h o b) r t) (follows_wrote old h got new w.count w.end f) made)
-follows_all old h got new s t o b (Ok None) f made = tt
-follows_all old h got new s t o b (Err r) f made = tt
+pub follows_all : (old : SoloSeen) (h : HandleId) (got : Reply) (want : Option Refusal) (new : SoloSeen) (s t : State) (o : ℕ) (b : List ℕ) (result : Result (Option Wrote) Refusal) → Follows old h got want (write_over result) new → Step s (event.Write h o b) got t → IfOk result (λ x. IfSome x (WroteAll o b))
+follows_all old h got want new s t o b (Ok (Some w)) f made = wrote_all s t h o b w (subst (λ r. Step s (event.Write h o b) r t) (follows_wrote old h got want new w.count w.end f) made)
+follows_all old h got want new s t o b (Ok None) f made = tt
+follows_all old h got want new s t o b (Err r) f made = tt
 
-pub follows_appended : (old : SoloSeen) (h : HandleId) (got : Reply) (new : SoloSeen) (s t : State) (b : List ℕ) (result : Result (Option Wrote) Refusal) → Follows old h got (write_over result) new → Step s (event.Append h b) got t → IfOk result (λ x. IfSome x (WroteAll (file_at s (handle_file s h.0)).size b))
-follows_appended old h got new s t b (Ok (Some w)) f made = appended_all s t h b w (subst (λ r. Step s (event.Append h b) r t) (follows_wrote old h got new w.count w.end f) made)
-follows_appended old h got new s t b (Ok None) f made = tt
-follows_appended old h got new s t b (Err r) f made = tt
+pub follows_appended : (old : SoloSeen) (h : HandleId) (got : Reply) (want : Option Refusal) (new : SoloSeen) (s t : State) (b : List ℕ) (result : Result (Option Wrote) Refusal) → Follows old h got want (write_over result) new → Step s (event.Append h b) got t → IfOk result (λ x. IfSome x (WroteAll (file_at s (handle_file s h.0)).size b))
+follows_appended old h got want new s t b (Ok (Some w)) f made = appended_all s t h b w (subst (λ r. Step s (event.Append h b) r t) (follows_wrote old h got want new w.count w.end f) made)
+follows_appended old h got want new s t b (Ok None) f made = tt
+follows_appended old h got want new s t b (Err r) f made = tt
 
 pub settled_unless : (r : Refusal) → (r ≡ NoFrame → ⊥) → (r ≡ DirtyLimit → ⊥) → is_settled (Some (reply.Refused r)) ≡ true
 settled_unless NoFrame a b = absurd (a refl)

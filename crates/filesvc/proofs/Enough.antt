@@ -28,9 +28,8 @@ use Rattle.runs.proofs.events.Lookups.{cached_within}
 use Rattle.machine.specs.Sound.{Sound}
 use Rattle.filesvc.proofs.Orderly.{none_under}
 use Rattle.filesvc.specs.Rests.{IsOrderly, IsServing}
-use Rattle.filesvc.specs.Rooms.{FlushesOne, IsClean, Suffices}
+use Rattle.filesvc.specs.Rooms.{FailsFlush, FlushesOne, IsClean, Suffices}
 use Rattle.filesvc.specs.Seen.{SoloSeen}
-use Rattle.filesvc.specs.Service.{Faulted}
 
 -- ---- an idle page is found
 
@@ -207,7 +206,7 @@ enough_dirty g e = by (is_page_size g.page) (nat_le MIN_FRAMES g.frames) (nat_le
 
 -- where no room could be made for a frame
 pub full_refused : (s new : SoloSeen) (name : ℕ) (table : TableId) → IsServing name s.world table s.errors
-    → tests s.world.core event.Evict ≡ Some reply.NoneIdle → FlushesOne s false new → Faulted s new ⊎ Suffices s
+    → tests s.world.core event.Evict ≡ Some reply.NoneIdle → FlushesOne s false new → FailsFlush s new ⊎ Suffices s
 full_refused s new name table i idle (inl x) = inr (
   some_free s.world.core i.sound i.orderly i.rests.requests x.1 idle i.frames,
   λ h o n. enough s.world.core i.sound i.orderly i.rests.requests x.1 idle i.frames h o n,
@@ -216,7 +215,7 @@ full_refused s new name table i idle (inr x) = inl x
 
 -- and where none could be made for a dirty page
 pub dirty_refused : (s new : SoloSeen) (name : ℕ) (table : TableId) → IsServing name s.world table s.errors
-    → FlushesOne s false new → Faulted s new ⊎ IsClean s
+    → FlushesOne s false new → FailsFlush s new ⊎ IsClean s
 dirty_refused s new name table i (inl x) =
     inr (λ h o n. clean_enough s.world.core i.sound i.orderly i.rests.requests x.1 i.dirty h o n)
 dirty_refused s new name table i (inr x) = inl x

@@ -35,7 +35,8 @@ use Rattle.runs.proofs.events.Lookups.{get-insert1}
 use Rattle.runs.proofs.views.View.{put1_here}
 use Rattle.cachecore.specs.Replies as replies
 use Rattle.filesvc.specs.Rests.{AtOnce, IsServing}
-use Rattle.filesvc.specs.Rooms.{IsMissed, need, wants}
+use Rattle.filesvc.specs.Rooms.{IsMissed, need}
+use Rattle.filesvc.specs.Service.{wants}
 use Rattle.filesvc.specs.Seen.{SoloSeen}
 use Rattle.filesvc.proofs.Needs.{Fills, filled_needs, some_free}
 use Rattle.filesvc.proofs.WorldLaws.{Once, Quiet, Whole, fill_begins, once}

@@ -15,7 +15,7 @@ use Rattle.machine.specs.declared.event.Reply.{Reply}
 use Rattle.machine.specs.declared.event.Reply.TheVariants as reply
 use Rattle.cachecore.specs.Replies.{was_read, was_truncated}
 use Rattle.machine.specs.State.{State, file_at, handle_file, is_cached, is_open, page_count}
-use Rattle.filesvc.specs.Rooms.{first_page, last_page, IsMissed, Stops, need, wants}
+use Rattle.filesvc.specs.Rooms.{first_page, last_page, IsMissed, Stops, need}
 use Rattle.machine.specs.declared.event.Event.{Event}
 use Rattle.machine.specs.Step.{AnswersOr, MayReply, Step}
 use Rattle.machine.specs.Tests.{read_count, tests, write_tests}
@@ -25,7 +25,7 @@ use Rattle.machine.proofs.steps.Choices.{at_true}
 use Rattle.filesvc.specs.Attempts.{need_of}
 use Rattle.filesvc.specs.Rests.{IsServing}
 use Rattle.filesvc.specs.Seen.{SoloSeen}
-use Rattle.filesvc.specs.Service.{Serves, is_settled}
+use Rattle.filesvc.specs.Service.{Serves, is_settled, wanted_by, wants}
 use Rattle.filesvc.proofs.CallSteps.{comes}
 use Rattle.filesvc.proofs.Fills.{is_open_of}
 use Rattle.filesvc.proofs.Stops.{read_stops, truncate_stops, write_stops}
@@ -117,14 +117,37 @@ read_gains s t h o n k serves e l =
     let f : read_count s.world.core (handle_file s.world.core h.0) o n ≡ read_count t.world.core (handle_file t.world.core h.0) o n = ap (λ z. min n (z - o)) (sym (size_same s t h.0 serves)) in
     subst (λ x. need false t.world.core h.0 o x < need_of s.world.core (event.Read h o n)) f (subst (λ x. need false t.world.core h.0 o x < need false s.world.core h.0 o x) e l)
 
-pub append_gains : (s mid t : SoloSeen) (h : HandleId) (o : ℕ) (b : List ℕ) (r : Reply) → Step s.world.core (event.Append h b) r mid.world.core → (is_open s.world.core h.0 ≡ true → o ≡ (file_at s.world.core (handle_file s.world.core h.0)).size) → is_settled (Some r) ≡ false → Serves mid t → need true t.world.core h.0 o (length b) < need true mid.world.core h.0 o (length b) → need_of t.world.core (event.Append h b) < need_of mid.world.core (event.Append h b)
-append_gains s mid t h o b r step at u serves l = by (is_open s.world.core h.0) refl
+-- so it wants what the read wants
+pub read_wants : (s t : SoloSeen) (h : HandleId) (o n k : ℕ) → Serves s t
+    → k ≡ read_count s.world.core (handle_file s.world.core h.0) o n
+    → wants false t.world.core h.0 o k ≡ wanted_by t.world.core (event.Read h o n)
+read_wants s t h o n k serves e =
+    ap (wants false t.world.core h.0 o) (e ∙ ap (λ z. min n (z - o)) (sym (size_same s t h.0 serves)))
+
+-- an append that is not over begins at the end of the file, as long as that is
+append_at : (s mid t : SoloSeen) (h : HandleId) (o : ℕ) (b : List ℕ) (r : Reply) → Step s.world.core (event.Append h b) r mid.world.core
+    → (is_open s.world.core h.0 ≡ true → o ≡ (file_at s.world.core (handle_file s.world.core h.0)).size)
+    → is_settled (Some r) ≡ false → Serves mid t
+    → (o ≡ (file_at mid.world.core (handle_file mid.world.core h.0)).size) × (o ≡ (file_at t.world.core (handle_file t.world.core h.0)).size)
+append_at s mid t h o b r step at u serves = by (is_open s.world.core h.0) refl
   where
-    by : (x : Bool) → is_open s.world.core h.0 ≡ x → need_of t.world.core (event.Append h b) < need_of mid.world.core (event.Append h b)
+    by : (x : Bool) → is_open s.world.core h.0 ≡ x
+        → (o ≡ (file_at mid.world.core (handle_file mid.world.core h.0)).size) × (o ≡ (file_at t.world.core (handle_file t.world.core h.0)).size)
     by true e =
         let f : o ≡ (file_at mid.world.core (handle_file mid.world.core h.0)).size = at e ∙ ap (λ z. (file_at z (handle_file z h.0)).size) (sym ((comes s.world.core mid.world.core (event.Append h b) r refl step).same u)) in
-        let g : o ≡ (file_at t.world.core (handle_file t.world.core h.0)).size = f ∙ sym (size_same mid t h.0 serves) in
-        subst (λ x. need true t.world.core h.0 x (length b) < need_of mid.world.core (event.Append h b)) g (subst (λ x. need true t.world.core h.0 o (length b) < need true mid.world.core h.0 x (length b)) f l)
+        (f, f ∙ sym (size_same mid t h.0 serves))
     by false e = absurd (
         let bad : write_tests s.world.core h.0 (file_at s.world.core (handle_file s.world.core h.0)).size (length b) ≡ Some (reply.Refused BadHandle) = at_true (not (is_open s.world.core h.0)) _ _ (ap not e) in
         let k : true ≡ false = sym (ap is_settled bad) ∙ (comes s.world.core mid.world.core (event.Append h b) r refl step).unsettled u in cc)
+
+pub append_gains : (s mid t : SoloSeen) (h : HandleId) (o : ℕ) (b : List ℕ) (r : Reply) → Step s.world.core (event.Append h b) r mid.world.core → (is_open s.world.core h.0 ≡ true → o ≡ (file_at s.world.core (handle_file s.world.core h.0)).size) → is_settled (Some r) ≡ false → Serves mid t → need true t.world.core h.0 o (length b) < need true mid.world.core h.0 o (length b) → need_of t.world.core (event.Append h b) < need_of mid.world.core (event.Append h b)
+append_gains s mid t h o b r step at u serves l =
+    let x = append_at s mid t h o b r step at u serves in
+    subst (λ z. need true t.world.core h.0 z (length b) < need_of mid.world.core (event.Append h b)) x.1 (subst (λ z. need true t.world.core h.0 o (length b) < need true mid.world.core h.0 z (length b)) x.0 l)
+
+pub append_wants : (s mid t : SoloSeen) (h : HandleId) (o : ℕ) (b : List ℕ) (r : Reply) → Step s.world.core (event.Append h b) r mid.world.core
+    → (is_open s.world.core h.0 ≡ true → o ≡ (file_at s.world.core (handle_file s.world.core h.0)).size)
+    → is_settled (Some r) ≡ false → Serves mid t
+    → wants true t.world.core h.0 o (length b) ≡ wanted_by t.world.core (event.Append h b)
+append_wants s mid t h o b r step at u serves =
+    ap (λ z. wants true t.world.core h.0 z (length b)) (append_at s mid t h o b r step at u serves).1

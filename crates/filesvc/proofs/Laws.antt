@@ -1,10 +1,11 @@
 -- What every call keeps, one call after another.
 use Rattle.std.proofs.Common.{◌≡◌, ◌≢◌, ℕ, suc, ◌+◌, ◌≤◌, Bool, true, eq-eqb, ne_eqb, List, [], ◌∷◌, ◌++◌, refl, ap, sym, subst, ◌∙◌, arith}
 use Rattle.std.proofs.lemmas.List.Elements.{All-append, All-cons, All-nil, All-weaker}
-use Rattle.std.specs.Prelude.{All, None, ◌==◌, if◌then◌else◌}
+use Rattle.std.specs.Prelude.{All, Option, None, ◌==◌, if◌then◌else◌}
 use mathlib.Core.Logic.{dite}
 use native.Mathlib.Decide.{ℕ_discrete}
 use Rattle.errseq.proofs.Prefixes.{prefix_length, prefix_self, prefix_trans}
+use Rattle.pc_types.specs.declared.ids.PageIndex.{PageIndex}
 use Rattle.machine.specs.declared.event.Reply.{Reply}
 use Rattle.world.specs.declared.step.Step.{Step}
 use Rattle.world.specs.Stepping.{WorldSeen, Plays, Steps}
@@ -105,10 +106,10 @@ three k a b c x y z = All-cons is a (b ∷ c ∷ []) x (All-cons is b (c ∷ [])
 
 -- ---- steps that help a call
 
-pub helps_refl : {k : ℕ} (a : SoloSeen) → Helps k a a
+pub helps_refl : {k : ℕ} {page : Option PageIndex} (a : SoloSeen) → Helps k page a a
 helps_refl a = record { serves = serves_refl a; moves = moves_refl _ a.world }
 
-pub helps_trans : {k : ℕ} (a b c : SoloSeen) → Helps k a b → Helps k b c → Helps k a c
+pub helps_trans : {k : ℕ} {page : Option PageIndex} (a b c : SoloSeen) → Helps k page a b → Helps k page b c → Helps k page a c
 helps_trans a b c h k = record { serves = serves_trans a b c h.serves k.serves; moves = moves_trans _ a.world b.world c.world h.moves k.moves }
 
 -- ---- attempts

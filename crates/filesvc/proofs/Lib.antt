@@ -6,6 +6,7 @@ pub mod CallSteps
 pub mod Callers
 pub mod Coming
 pub mod Enough
+pub mod FailedFlush
 pub mod FailedWrites
 pub mod FileSizes
 pub mod FileSteps

@@ -9,7 +9,7 @@ use Rattle.pc_types.specs.declared.refusal.Refusal.{Refusal}
 use Rattle.pc_types.specs.declared.refusal.Refusal.TheVariants.{DirtyLimit, NoFrame}
 use Rattle.machine.specs.Changes.{put_page}
 use Rattle.machine.specs.State.{State, Page, dirty_total, file_at, handle_file, filling_total, free_frames, is_cached, tags_at, no_file, page_at, page_count, tags_of, touched, touched_count}
-use Rattle.filesvc.specs.Rooms.{first_page, last_page, IsClean, IsMissed, StaysAbsent, Suffices, need, wants}
+use Rattle.filesvc.specs.Rooms.{first_page, last_page, IsClean, IsMissed, StaysAbsent, Suffices, need}
 use Rattle.cachecore.specs.Wants.{dirtied, lacking, lacks_frames, may_touch, passes_limit}
 use Rattle.cachecore.proofs.TouchCounts.{count_below}
 use Rattle.maps.proofs.Count.{count_of}
@@ -18,7 +18,7 @@ use Rattle.maps.proofs.Lengths.{count_empty, count_put, len_put}
 use Rattle.runs.proofs.events.Lookups.{page_at-put_page}
 use Rattle.runs.proofs.views.View.{put2, put2_tells}
 use Rattle.filesvc.specs.Seen.{SoloSeen}
-use Rattle.filesvc.specs.Service.{Serves}
+use Rattle.filesvc.specs.Service.{Serves, wants}
 use Rattle.filesvc.proofs.Lightens.{dirty_set}
 use Rattle.filesvc.proofs.Touched.{count_le, count_less}
 

@@ -39,15 +39,16 @@ use Rattle.runs.proofs.moments.KeptRequests.{is_job}
 use Rattle.runs.proofs.events.Lookups.{get-insert1}
 use Rattle.runs.proofs.views.View.{put1_here}
 use Rattle.filesvc.specs.Rests.{AtOnce, IsService, IsServing}
-use Rattle.filesvc.specs.Rooms.{FlushesOne, IsClean, IsFillRefusal, IsFlush, IsWayRefusal, MakesRoom, Suffices}
+use Rattle.filesvc.specs.Rooms.{FailsFlush, FlushesOne, IsClean, IsFillRefusal, IsFlush, IsWayRefusal, MakesRoom, Suffices}
 use Rattle.filesvc.specs.Seen.{SoloSeen}
-use Rattle.filesvc.specs.Service.{Faulted, Serves}
+use Rattle.filesvc.specs.Service.{Faulted, Serves, wants}
 use Rattle.filesvc.proofs.Acted.{service_acted}
+use Rattle.filesvc.proofs.FailedFlush.{carried_still}
 use Rattle.filesvc.specs.Attempts.{Helps}
 use Rattle.filesvc.specs.Made.{FailsFill, Moves, WantsMemory, is_help}
 use Rattle.filesvc.proofs.Laws.{moves_refl, moves_trans, one_move, serves_trans}
 use Rattle.filesvc.proofs.WorldLaws as laws
-use Rattle.filesvc.proofs.WorldLaws.{Carried, IsSound, Made, Once, Quiet, Whole, call_by, call_failed, fill_begins, made_goes, once, outcome_noted, service_sound}
+use Rattle.filesvc.proofs.WorldLaws.{Carried, IsSound, Made, Once, Quiet, Whole, at_once_serving, call_by, call_failed, fill_begins, made_goes, once, outcome_noted, service_sound}
 
 -- ---- what a fill's begin may answer
 
@@ -132,18 +133,18 @@ no_serial s none full = leb-true SERIAL_END s.next (subst (λ m. (nat_le MAX_IN_
 -- the step that it was, where memory was refused
 memory_wanted : (old new : WorldSeen) (errors after : RecorderSeen) (h : HandleId) (p : PageIndex)
     → Once old errors (event.FillBegin h p) (reply.Refused Memory) new after → WantsMemory old h.0 p new
-memory_wanted old new errors after h p (Quiet j m none) = (old, moves_refl (is_help h.0) old, m)
+memory_wanted old new errors after h p (Quiet j m none) = (old, moves_refl (is_help h.0 (Some p)) old, m)
 memory_wanted old new errors after h p (Whole c) = absurd (end_never c.called new c.serial.0 Memory (λ e. cc) c.end.0)
 
 -- a fill that is refused, where a frame is free
-pub fill_stopped : (name : ℕ) (s : SoloSeen) (w : WorldSeen) (errors : RecorderSeen) (table : TableId) (h : HandleId) (p : PageIndex) (r : Refusal) → IsServing name s.world table s.errors → AtOnce s.world s.errors (step.FillBegin h p) (reply.Refused r) w errors → 0 < free_frames s.world.core → IsFillRefusal s h p r (record s { world = w; errors = errors })
-fill_stopped name s w errors table h p r i a free =
+pub fill_stopped : (name : ℕ) (s : SoloSeen) (w : WorldSeen) (errors : RecorderSeen) (table : TableId) (h : HandleId) (p : PageIndex) (want : Option Refusal) (r : Refusal) → IsServing name s.world table s.errors → AtOnce s.world s.errors (step.FillBegin h p) (reply.Refused r) w errors → 0 < free_frames s.world.core → IsFillRefusal s h p want r (record s { world = w; errors = errors })
+fill_stopped name s w errors table h p want r i a free =
     let fill = once s.world w s.errors errors _ _ _ (fill_begins h p) a in
     let x = refused_why s.world w s.errors errors h p r fill in
     by r x.0 (ap (λ (c : State). c.next) x.1) fill
   where
     by : (r : Refusal) → FillWhy s.world.core h.0 (reply.Refused r) → w.core.next ≡ s.world.core.next
-        → Once s.world s.errors (event.FillBegin h p) (reply.Refused r) w errors → IsFillRefusal s h p r (record s { world = w; errors = errors })
+        → Once s.world s.errors (event.FillBegin h p) (reply.Refused r) w errors → IsFillRefusal s h p want r (record s { world = w; errors = errors })
     by BadHandle y n o = y
     by NoFrame y n o = absurd (let none = eqb-true (free_frames s.world.core) 0 y in omega arith)
     by TooManyInFlight y n o = subst (λ k. SERIAL_END ≤ k) (sym n) (no_serial s.world.core i.rests.requests y)
@@ -156,39 +157,44 @@ pub faulted_before : (old mid new : SoloSeen) → Serves old mid → Faulted mid
 faulted_before old mid new s (inl x) = inl (let y = s.keeps.faults in omega arith)
 faulted_before old mid new s (inr x) = inr x
 
--- the room that a call wants could not be made, which would be there if no device call had failed
-module _ (old mid new : SoloSeen) (serves : Serves old mid) where
-  unless : {P : Type 0} → Faulted mid new ⊎ P → (P → ⊥) → Faulted old new
-  unless (inl f) wanted = faulted_before old mid new serves f
+-- the room that a call wants could not be made, which would be there if no device call had failed, and it wants that room still
+module _ (old mid new : SoloSeen) (serves : Serves old mid) (d : Bool) (h o n : ℕ) where
+  unless : {P : Type 0} → FailsFlush mid new ⊎ P → (P → ⊥) → FailsFlush mid new
+  unless (inl f) wanted = f
   unless (inr y) wanted = absurd (wanted y)
 
-  pub way_refused : (want r : Refusal) → (want ≡ NoFrame) × (Suffices mid → ⊥) ⊎ (want ≡ DirtyLimit)
-      × (IsClean mid → ⊥)
-      → r ≡ want → (want ≡ NoFrame → r ≡ NoFrame → Faulted mid new ⊎ Suffices mid)
-      → (want ≡ DirtyLimit → r ≡ DirtyLimit → Faulted mid new ⊎ IsClean mid) → IsWayRefusal old r new
-  way_refused want NoFrame (inl x) k frames clean = unless (frames x.0 refl) x.1
-  way_refused want NoFrame (inr x) k frames clean = absurd (let e : NoFrame ≡ DirtyLimit = k ∙ x.0 in cc)
-  way_refused want DirtyLimit (inr x) k frames clean = unless (clean x.0 refl) x.1
-  way_refused want DirtyLimit (inl x) k frames clean = absurd (let e : DirtyLimit ≡ NoFrame = k ∙ x.0 in cc)
-  way_refused want r (inl x) k frames clean = absurd (let e : r ≡ NoFrame = k ∙ x.0 in cc)
-  way_refused want r (inr x) k frames clean = absurd (let e : r ≡ DirtyLimit = k ∙ x.0 in cc)
+  stands : (want : Refusal) → wants d mid.world.core h o n ≡ Some want → FailsFlush mid new
+      → Faulted old new × (wants d new.world.core h o n ≡ Some want)
+  stands want way f = (faulted_before old mid new serves f.faulted, f.still d h o n ∙ way)
 
-fails_before : (old mid new : WorldSeen) (h : ℕ) (p : PageIndex) (code : ℕ) → Moves (is_help h) old mid → FailsFill mid h p code new → FailsFill old h p code new
-fails_before old mid new h p code m (last, n, t, fill) = (last, moves_trans (is_help h) old mid last m n, t, fill)
+  pub way_refused : (want r : Refusal) → wants d mid.world.core h o n ≡ Some want
+      → (want ≡ NoFrame) × (Suffices mid → ⊥) ⊎ (want ≡ DirtyLimit) × (IsClean mid → ⊥)
+      → r ≡ want → (want ≡ NoFrame → r ≡ NoFrame → FailsFlush mid new ⊎ Suffices mid)
+      → (want ≡ DirtyLimit → r ≡ DirtyLimit → FailsFlush mid new ⊎ IsClean mid)
+      → IsWayRefusal old (wants d new.world.core h o n) r new
+  way_refused want NoFrame way (inl x) k frames clean = stands NoFrame (way ∙ ap Some x.0) (unless (frames x.0 refl) x.1)
+  way_refused want NoFrame way (inr x) k frames clean = absurd (let e : NoFrame ≡ DirtyLimit = k ∙ x.0 in cc)
+  way_refused want DirtyLimit way (inr x) k frames clean = stands DirtyLimit (way ∙ ap Some x.0) (unless (clean x.0 refl) x.1)
+  way_refused want DirtyLimit way (inl x) k frames clean = absurd (let e : DirtyLimit ≡ NoFrame = k ∙ x.0 in cc)
+  way_refused want r way (inl x) k frames clean = absurd (let e : r ≡ NoFrame = k ∙ x.0 in cc)
+  way_refused want r way (inr x) k frames clean = absurd (let e : r ≡ DirtyLimit = k ∙ x.0 in cc)
 
-wants_before : (old mid new : WorldSeen) (h : ℕ) (p : PageIndex) → Moves (is_help h) old mid → WantsMemory mid h p new → WantsMemory old h p new
-wants_before old mid new h p m (last, n, fill) = (last, moves_trans (is_help h) old mid last m n, fill)
+fails_before : (old mid new : WorldSeen) (h : ℕ) (p : PageIndex) (code : ℕ) → Moves (is_help h (Some p)) old mid → FailsFill mid h p code new → FailsFill old h p code new
+fails_before old mid new h p code m (last, n, t, fill) = (last, moves_trans (is_help h (Some p)) old mid last m n, t, fill)
 
-pub fill_refusal_before : (old mid new : SoloSeen) (h : HandleId) (p : PageIndex) (r : Refusal) → Helps h.0 old mid → IsFillRefusal mid h p r new
-    → IsFillRefusal old h p r new
-fill_refusal_before old mid new h p BadHandle k x = ap (λ m. is_some (finmap.get m h.0)) (sym k.serves.keeps.handles) ∙ x
-fill_refusal_before old mid new h p NoFrame k x = faulted_before old mid new k.serves x
-fill_refusal_before old mid new h p DirtyLimit k x = faulted_before old mid new k.serves x
-fill_refusal_before old mid new h p (Io code) k x =
+wants_before : (old mid new : WorldSeen) (h : ℕ) (p : PageIndex) → Moves (is_help h (Some p)) old mid → WantsMemory mid h p new → WantsMemory old h p new
+wants_before old mid new h p m (last, n, fill) = (last, moves_trans (is_help h (Some p)) old mid last m n, fill)
+
+pub fill_refusal_before : (old mid new : SoloSeen) (h : HandleId) (p : PageIndex) (want : Option Refusal) (r : Refusal) → Helps h.0 (Some p) old mid
+    → IsFillRefusal mid h p want r new → IsFillRefusal old h p want r new
+fill_refusal_before old mid new h p want BadHandle k x = ap (λ m. is_some (finmap.get m h.0)) (sym k.serves.keeps.handles) ∙ x
+fill_refusal_before old mid new h p want NoFrame k x = (faulted_before old mid new k.serves x.0, x.1)
+fill_refusal_before old mid new h p want DirtyLimit k x = (faulted_before old mid new k.serves x.0, x.1)
+fill_refusal_before old mid new h p want (Io code) k x =
     (faulted_before old mid new k.serves x.0, fails_before old.world mid.world new.world h.0 p code k.moves x.1)
-fill_refusal_before old mid new h p TooManyInFlight k x = x
-fill_refusal_before old mid new h p Memory k x = wants_before old.world mid.world new.world h.0 p k.moves x
-fill_refusal_before old mid new h p r k x = absurd x
+fill_refusal_before old mid new h p want TooManyInFlight k x = x
+fill_refusal_before old mid new h p want Memory k x = wants_before old.world mid.world new.world h.0 p k.moves x
+fill_refusal_before old mid new h p want r k x = absurd x
 
 -- ---- a fill in one whose device call failed
 
@@ -230,12 +236,12 @@ fails_fill : (old new : WorldSeen) (errors after : RecorderSeen) (h : HandleId) 
     → AtOnce old errors (step.FillBegin h p) (reply.Failed code) new after → FailsFill old h.0 p code new
 fails_fill old new errors after h p code (inl a) = absurd (let f = fill_fair _ _ _ _ _ a.1.0.1.0 in cc)
 fails_fill old new errors after h p code (inr (t, mid, begun, plays, noted)) =
-    (old, moves_refl (is_help h.0) old, t, (mid, inl begun, plays))
+    (old, moves_refl (is_help h.0 (Some p)) old, t, (mid, inl begun, plays))
 
-pub fill_faulted : (s : SoloSeen) (w : WorldSeen) (errors : RecorderSeen) (h : HandleId) (p : PageIndex) (code : ℕ)
+pub fill_faulted : (s : SoloSeen) (w : WorldSeen) (errors : RecorderSeen) (h : HandleId) (p : PageIndex) (want : Option Refusal) (code : ℕ)
     → AtOnce s.world s.errors (step.FillBegin h p) (reply.Failed code) w errors → IsSound s.world
-    → IsFillRefusal s h p (Io code) (record s { world = w; errors = errors })
-fill_faulted s w errors h p code a i = (
+    → IsFillRefusal s h p want (Io code) (record s { world = w; errors = errors })
+fill_faulted s w errors h p want code a i = (
   faulted_by s w errors h p code (once s.world w s.errors errors _ _ _ (fill_begins h p) a) i,
   fails_fill s.world w s.errors errors h p code a,
 )
@@ -252,11 +258,11 @@ module _ (s : SoloSeen) (aged new : WorldSeen) (n : ℕ) (r : Option (FileId × 
       let g = made_goes s aged event.Age (reply.Aged n) a refl i in
       serves_trans s (record s { world = aged }) _ g.serves (made_goes (record s { world = aged }) new event.Evict (evicted r) e refl g.sound).serves
 
-  pub evicted_helps : {k : ℕ} → IsSound s.world → Helps k s (record s { world = new })
-  evicted_helps {k} i = record {
+  pub evicted_helps : {k : ℕ} {page : Option PageIndex} → IsSound s.world → Helps k page s (record s { world = new })
+  evicted_helps {k} {page} i = record {
     serves = evicted_serves i;
-    moves = moves_trans (is_help k) s.world aged new (one_move (is_help k) s.world aged step.Age (reply.Aged n) refl a)
-        (one_move (is_help k) aged new step.Evict (evicted r) refl e);
+    moves = moves_trans (is_help k page) s.world aged new (one_move (is_help k page) s.world aged step.Age (reply.Aged n) refl a)
+        (one_move (is_help k page) aged new step.Evict (evicted r) refl e);
   }
 
   pub evicted_service : (name : ℕ) (table : TableId) → IsService name s.world table s.errors → IsService name new table s.errors
@@ -278,14 +284,17 @@ squeezed : (m n c : ℕ) → m ≤ n → n ≤ c → c ≤ m → c ≡ m
 squeezed m n c a b d = omega arith
 
 -- which it is only by a device that can count no more
-full_faulted : (name : ℕ) (s : SoloSeen) (table : TableId) → IsServing name s.world table s.errors → is_full s.world.core ≡ true → Faulted s s
-full_faulted name s table i full = inr (squeezed max_calls s.world.core.next s.world.device.calls (no_serial s.world.core i.rests.requests full) i.serials i.counted)
+full_fails : (name : ℕ) (s : SoloSeen) (table : TableId) → IsServing name s.world table s.errors → is_full s.world.core ≡ true → FailsFlush s s
+full_fails name s table i full = record {
+  faulted = inr (squeezed max_calls s.world.core.next s.world.device.calls (no_serial s.world.core i.rests.requests full) i.serials i.counted);
+  still = λ d h o n. refl;
+}
 
 no_flush : (s : State) (f : FileId) (r : Reply) → replies.is_job r ≡ false → MayReply s (event.FlushBegin f) r → ⊥
 no_flush s f (reply.Job t) j e = absurd cc
 no_flush s f _ j e = e
 
-quiet_flush : (s new : SoloSeen) (f : FileId) (r : Reply) → replies.is_job r ≡ false → Step s.world.core (event.FlushBegin f) r new.world.core → (new.world.core ≡ s.world.core → new ≡ s) → (is_full s.world.core ≡ true → Faulted s s) → IsFlush s f r new
+quiet_flush : (s new : SoloSeen) (f : FileId) (r : Reply) → replies.is_job r ≡ false → Step s.world.core (event.FlushBegin f) r new.world.core → (new.world.core ≡ s.world.core → new ≡ s) → (is_full s.world.core ≡ true → FailsFlush s s) → IsFlush s f r new
 quiet_flush s new f r j a same full = elim (answered (tests s.world.core (event.FlushBegin f)) s.world.core (event.FlushBegin f) r new.world.core a) [
   | inl x ↦ tested (same x.1) r x.0 x.0
   | inr x ↦ absurd (no_flush s.world.core f r j x.1)
@@ -298,7 +307,7 @@ quiet_flush s new f r j a same full = elim (answered (tests s.world.core (event.
     tested e =
         quiet_when Flushed (nat_le (length s.world.core.files) f.0) (reply.Refused NoSuchFile) _ (λ h _. (leb-true _ _ h, e))
         (quiet_when Flushed (not (is_some (flush_pick (file_at s.world.core f.0)))) reply.Nothing _ (λ _ is. (is, e))
-        (quiet_when Flushed (is_full s.world.core) (reply.Refused TooManyInFlight) None (λ h _. subst (Faulted s) (sym e) (full h)) (quiet_none Flushed)))
+        (quiet_when Flushed (is_full s.world.core) (reply.Refused TooManyInFlight) None (λ h _. subst (FailsFlush s) (sym e) (full h)) (quiet_none Flushed)))
 
 -- the end of a flush that was not dropped
 flush_ended : (x : Request) (o : core.Outcome) (r : Reply) → x.dropped ≡ false → fits Flush o ≡ true → EndReply (Some x) o r → (r ≡ reply.Written) ⊎ ((code : ℕ) × (r ≡ reply.Failed code))
@@ -326,21 +335,26 @@ begun_flush old begun f t m =
     let put : (x : Request) → finmap.get (finmap.insert old.core.requests old.core.next x) t.0 ≡ Some x = λ x. subst (λ n. finmap.get (finmap.insert old.core.requests n x) t.0 ≡ Some x) a.may (get-insert1 old.core.requests t.0 x t.0 ∙ put1_here _ t.0 _) in
     (_, ap (λ (c : State). finmap.get c.requests t.0) a.is ∙ put _, refl, refl)
 
-carried_flush : (s : SoloSeen) (w : WorldSeen) (errors : RecorderSeen) (f : FileId) (r : Reply) → Carried s.world s.errors (event.FlushBegin f) r w errors → AtOnce s.world s.errors (step.FlushBegin f) r w errors → IsSound s.world → IsFlush s f r (record s { world = w; errors = errors })
-carried_flush s w errors f r c a i =
+carried_flush : (s : SoloSeen) (w : WorldSeen) (errors : RecorderSeen) (f : FileId) (r : Reply) → Carried s.world s.errors (event.FlushBegin f) r w errors → AtOnce s.world s.errors (step.FlushBegin f) r w errors → IsSound s.world → s.world.core.requests ≡ finmap.empty → w.core.requests ≡ finmap.empty → IsFlush s f r (record s { world = w; errors = errors })
+carried_flush s w errors f r c a i before rests =
     let b = begun_flush s.world c.begun f c.serial c.begin in
     let is : finmap.get c.called.core.requests c.serial.0 ≡ Some b.0 = ap (λ (x : WorldSeen). finmap.get x.core.requests c.serial.0) c.call.noted ∙ b.1 in
     elim (end_of_flush c.called w c.serial.0 b.0 r is b.2 b.3 c.ended c.end.0) [
       | inl e ↦ subst (λ x. IsFlush s f x (record s { world = w; errors = errors })) (sym e) (subst (λ x. AtOnce s.world s.errors (step.FlushBegin f) x w errors) e a)
-      | inr e ↦ subst (λ x. IsFlush s f x (record s { world = w; errors = errors })) (sym e.1) (carried_faulted s w errors _ e.0 (subst (λ x. Carried s.world s.errors (event.FlushBegin f) x w errors) e.1 c) i)
+      | inr e ↦ (let k = subst (λ x. Carried s.world s.errors (event.FlushBegin f) x w errors) e.1 c in
+          subst (λ x. IsFlush s f x (record s { world = w; errors = errors })) (sym e.1) (record {
+            faulted = carried_faulted s w errors _ e.0 k i;
+            still = carried_still s.world w s.errors errors f e.0 k before rests;
+          }))
     ]
 
 once_flush : (name : ℕ) (s : SoloSeen) (w : WorldSeen) (errors : RecorderSeen) (table : TableId) (f : FileId) (r : Reply) → Once s.world s.errors (event.FlushBegin f) r w errors → AtOnce s.world s.errors (step.FlushBegin f) r w errors → IsServing name s.world table s.errors → IsFlush s f r (record s { world = w; errors = errors })
 once_flush name s w errors table f r (Quiet j m none) a i =
     quiet_flush s (record s { world = w; errors = errors }) f r j m.0.1.0
     (λ c. let e = held_same s.world w (event.FlushBegin f) r m j c in λ k. record s { world = e k; errors = none k })
-    (full_faulted name s table i)
-once_flush name s w errors table f r (Whole c) a i = carried_flush s w errors f r c a (service_sound name s.world table s.errors i)
+    (full_fails name s table i)
+once_flush name s w errors table f r (Whole c) a i = carried_flush s w errors f r c a (service_sound name s.world table s.errors i) i.rests.requests
+    (at_once_serving name s w errors table (step.FlushBegin f) (event.FlushBegin f) r (laws.flush_begins f) a i).rests.requests
 
 pub at_once_flush : (name : ℕ) (s : SoloSeen) (w : WorldSeen) (errors : RecorderSeen) (table : TableId) (f : FileId) (r : Reply) → AtOnce s.world s.errors (step.FlushBegin f) r w errors → IsServing name s.world table s.errors → IsFlush s f r (record s { world = w; errors = errors })
 at_once_flush name s w errors table f r a i = once_flush name s w errors table f r (once s.world w s.errors errors (step.FlushBegin f) (event.FlushBegin f) r (laws.flush_begins f) a) a i

@@ -11,14 +11,14 @@ use Rattle.machine.specs.declared.event.Reply.{Reply}
 use Rattle.machine.specs.declared.event.Reply.TheVariants as reply
 use Rattle.machine.specs.Changes.{boundary}
 use Rattle.machine.specs.State.{State, dirty_total, file_at, handle_file, free_blocks, free_frames, is_cached, is_filling, is_open, is_written, page_count, spot_at, touched, touched_count, without_block}
-use Rattle.filesvc.specs.Rooms.{first_page, last_page, IsMissed, Stops, wants}
+use Rattle.filesvc.specs.Rooms.{first_page, last_page, IsMissed, Stops}
 use Rattle.machine.specs.Tests.{covers, first_of, must_fill, read_count, read_stop, tests, room_tests, stopped, truncate_stop, write_stop, write_tests}
 use Rattle.cachecore.specs.Wants.{dirtied, lacking, lacks_frames, may_touch, passes_limit}
 use Rattle.machine.proofs.steps.Choices.{not_true, quiet_none}
 use Rattle.runs.proofs.bytes.CutLaws.{touched_in}
 use Rattle.filesvc.specs.Rests.{IsServing}
 use Rattle.filesvc.specs.Seen.{SoloSeen}
-use Rattle.filesvc.specs.Service.{is_settled}
+use Rattle.filesvc.specs.Service.{is_settled, wants}
 use Rattle.filesvc.proofs.Fills.{none_fills}
 use Rattle.filesvc.proofs.Needs.{wants_clean, wants_frames}
 use Rattle.filesvc.proofs.Touched.{found_in}

@@ -432,12 +432,12 @@ at_once_moves k old new errors after st r steps is calls ends (inr (t, mid, begu
   each = three k st (step.Call t) (step.End t) is (calls t) (ends t);
 }
 
-pub at_once_helps : (q name : ℕ) (s : SoloSeen) (w : WorldSeen) (errors : RecorderSeen) (table : TableId) (st : Step)
-    (e : Event) (r : Reply) → Begins st e → is_help q st ≡ true → AtOnce s.world s.errors st r w errors
-    → IsServing name s.world table s.errors → Helps q s (with_world s w errors)
-at_once_helps q name s w errors table st e r b k a i = record {
+pub at_once_helps : (q : ℕ) (page : Option PageIndex) (name : ℕ) (s : SoloSeen) (w : WorldSeen) (errors : RecorderSeen) (table : TableId) (st : Step)
+    (e : Event) (r : Reply) → Begins st e → is_help q page st ≡ true → AtOnce s.world s.errors st r w errors
+    → IsServing name s.world table s.errors → Helps q page s (with_world s w errors)
+at_once_helps q page name s w errors table st e r b k a i = record {
   serves = at_once_serves name s w errors table st e r b a i;
-  moves = at_once_moves (is_help q) s.world w s.errors errors st r (λ v q m. b.steps s.world v q m) k (λ t. refl) (λ t. refl) a;
+  moves = at_once_moves (is_help q page) s.world w s.errors errors st r (λ v q m. b.steps s.world v q m) k (λ t. refl) (λ t. refl) a;
 }
 
 pub begun_alone : (old new : WorldSeen) (e : Event) (t : Serial) → IsResting old → Made old e (reply.Job t) new → IsAlone new t.0

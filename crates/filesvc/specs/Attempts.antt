@@ -1,6 +1,7 @@
 -- Inside this crate: what one attempt of a call comes to. It is over, with a reply, or it is to be made again.
 use Rattle.std.specs.Prelude.{◌≡◌, ℕ, ◌+◌, ◌<◌, ◌≤◌, ◌⊎◌, Bool, true, false, List, length, take, Option, Some, None, Result, Ok, Err}
 use Rattle.pc_types.specs.declared.ids.HandleId.{HandleId}
+use Rattle.pc_types.specs.declared.ids.PageIndex.{PageIndex}
 use Rattle.pc_types.specs.declared.limits.TheConstants.{MAX_FILE_SIZE}
 use Rattle.pc_types.specs.declared.refusal.Refusal.{Refusal}
 use Rattle.machine.specs.State.{State, file_at, handle_file}
@@ -13,7 +14,7 @@ use Rattle.machine.specs.Tests.{read_count, tests}
 use Rattle.filesvc.specs.declared.writes.Wrote.{Wrote}
 use Rattle.world.specs.declared.step.Step.{Step}
 use Rattle.world.specs.declared.step.Step.TheVariants as step
-use Rattle.filesvc.specs.Made.{Moves, Try, is_help}
+use Rattle.filesvc.specs.Made.{Moves, Try, asked, is_help}
 use Rattle.filesvc.specs.Seen.{SoloSeen}
 use Rattle.filesvc.specs.Rooms.{IsHelpRefusal, need}
 use Rattle.filesvc.specs.Service.{FilesAfter, IsRefusal, Keeps, LengthsAfter, Serves, is_settled}
@@ -66,10 +67,10 @@ step_of (event.Append h b) = step.Append h b
 step_of (event.Truncate h z) = step.Truncate h z
 step_of e = step.Age
 
--- steps that help a call by this handle, and leave the plain files as they are
-pub record Helps (k : ℕ) (old new : SoloSeen) : Type 0 where
+-- steps that help a call by this handle that asked for this page, and leave the plain files as they are
+pub record Helps (k : ℕ) (page : Option PageIndex) (old new : SoloSeen) : Type 0 where
   pub serves : Serves old new
-  pub moves : Moves (is_help k) old.world new.world
+  pub moves : Moves (is_help k page) old.world new.world
 
 -- the attempt from its beginning to its end
 pub record Attempt (old : SoloSeen) (e : Event) (over : Option Reply) (new : SoloSeen) : Type 0 where
@@ -85,9 +86,9 @@ pub record Attempt (old : SoloSeen) (e : Event) (over : Option Reply) (new : Sol
   -- one that is to be made again needs fewer attempts
   pub less : over ≡ None → need_of new.world.core e < need_of old.world.core e
 
--- an attempt from its event on, which had this reply
-pub record Follows (old : SoloSeen) (h : HandleId) (got : Reply) (over : Option Reply) (new : SoloSeen) : Type 0 where
-  pub helps : Helps h.0 old new
+-- an attempt from its event on, which had this reply. It wants this room still
+pub record Follows (old : SoloSeen) (h : HandleId) (got : Reply) (want : Option Refusal) (over : Option Reply) (new : SoloSeen) : Type 0 where
+  pub helps : Helps h.0 (asked got) old new
   pub attempts : new.attempts ≡ old.attempts
   pub settled : is_settled (Some got) ≡ true → (over ≡ Some got) × (new ≡ old)
-  pub stopped : is_settled (Some got) ≡ false → (over ≡ None) ⊎ ((r : Refusal) × (over ≡ Some (reply.Refused r)) × IsHelpRefusal old h got r new)
+  pub stopped : is_settled (Some got) ≡ false → (over ≡ None) ⊎ ((r : Refusal) × (over ≡ Some (reply.Refused r)) × IsHelpRefusal old h got want r new)

@@ -1,6 +1,6 @@
 -- How a call is made of steps of the world: of attempts, each of which is a step of the call's own and then steps that
 -- help it.
-use Rattle.std.specs.Prelude.{◌≡◌, ◌⊎◌, ℕ, zero, suc, ◌+◌, ◌==◌, Bool, true, false, List, [], ◌∷◌, All, Option, Some, None}
+use Rattle.std.specs.Prelude.{◌≡◌, ℕ, zero, suc, ◌+◌, ◌==◌, ◌&&◌, Bool, true, false, List, [], ◌∷◌, All, Option, Some, None, option_map, unwrap_or}
 use Rattle.std.specs.Prelude.{if◌then◌else◌}
 use Rattle.pc_types.specs.declared.ids.HandleId.{HandleId}
 use Rattle.pc_types.specs.declared.ids.PageIndex.{PageIndex}
@@ -22,15 +22,22 @@ pub record Moves (is_kind : Step → Bool) (old new : WorldSeen) : Type 0 where
   pub plays : Plays old steps replies new
   pub each : All (λ s. is_kind s ≡ true) steps
 
--- what helps a read, a write or a truncation by this handle: pages are filled by it, and pages evicted and written back
-abbrev pub is_help : ℕ → Step → Bool
-is_help k (step.FillBegin h p) = h.0 == k
-is_help k (step.FlushBegin f) = true
-is_help k step.Evict = true
-is_help k step.Age = true
-is_help k (step.Call t) = true
-is_help k (step.End t) = true
-is_help k _ = false
+-- the page that a reply asks for
+abbrev pub asked : Reply → Option PageIndex
+asked (reply.Miss p) = Some p
+asked (reply.Wait p) = Some p
+asked r = None
+
+-- what helps a read, a write or a truncation by this handle, where its own step asked for this page: that page is filled by it, and pages
+-- evicted and written back
+abbrev pub is_help : ℕ → Option PageIndex → Step → Bool
+is_help k page (step.FillBegin h p) = h.0 == k && unwrap_or (option_map (λ q. q.0 == p.0) page) false
+is_help k page (step.FlushBegin f) = true
+is_help k page step.Evict = true
+is_help k page step.Age = true
+is_help k page (step.Call t) = true
+is_help k page (step.End t) = true
+is_help k page _ = false
 
 -- what an fsync is made of
 abbrev pub is_for_sync : Step → Bool
@@ -69,21 +76,17 @@ own_handle (step.Append h b) = h.0
 own_handle (step.Truncate h z) = h.0
 own_handle _ = 0
 
--- the reply asks for this page
-abbrev pub Asks : Reply → PageIndex → Type 0
-Asks r p = (r ≡ reply.Miss p) ⊎ (r ≡ reply.Wait p)
-
 -- after steps that help, this page was filled by the handle, and the device call failed with this code
 abbrev pub FailsFill : WorldSeen → ℕ → PageIndex → ℕ → WorldSeen → Type 0
 FailsFill old h p code new =
-    (mid : WorldSeen) × Moves (is_help h) old mid × (t : Serial)
+    (mid : WorldSeen) × Moves (is_help h (Some p)) old mid × (t : Serial)
     × Plays mid (step.FillBegin (record { 0 = h }) p ∷ step.Call t ∷ step.End t ∷ [])
     (reply.Job t ∷ reply.Done ∷ reply.Failed code ∷ []) new
 
 -- after steps that help, this page was to be filled by the handle, and memory for it was refused
 abbrev pub WantsMemory : WorldSeen → ℕ → PageIndex → WorldSeen → Type 0
 WantsMemory old h p new =
-    (mid : WorldSeen) × Moves (is_help h) old mid × IsMade mid (step.FillBegin (record { 0 = h }) p) (reply.Refused Memory) new
+    (mid : WorldSeen) × Moves (is_help h (Some p)) old mid × IsMade mid (step.FillBegin (record { 0 = h }) p) (reply.Refused Memory) new
 
 -- one attempt of a call: its own step, whose reply is the answer; but where that asks for a page or for room, steps that
 -- help, and no answer yet, or a refusal. If that is for a failed device call or for want of memory, the step asked for a page, and the last
@@ -93,11 +96,11 @@ pub record Try (own : Step) (old : WorldSeen) (over : Option Reply) (new : World
   pub after : WorldSeen
   pub step : IsMade old own got after
   pub settled : is_settled (Some got) ≡ true → (over ≡ Some got) × (new ≡ after)
-  pub helped : is_settled (Some got) ≡ false → Moves (is_help (own_handle own)) after new
+  pub helped : is_settled (Some got) ≡ false → Moves (is_help (own_handle own) (asked got)) after new
   pub failed : is_settled (Some got) ≡ false → (code : ℕ) → over ≡ Some (reply.Refused (Io code))
-      → (p : PageIndex) × Asks got p × FailsFill after (own_handle own) p code new
+      → (p : PageIndex) × (asked got ≡ Some p) × FailsFill after (own_handle own) p code new
   pub wanting : is_settled (Some got) ≡ false → over ≡ Some (reply.Refused Memory)
-      → (p : PageIndex) × Asks got p × WantsMemory after (own_handle own) p new
+      → (p : PageIndex) × (asked got ≡ Some p) × WantsMemory after (own_handle own) p new
 
 -- so many attempts, none of which was answered
 abbrev pub Tries : Step → WorldSeen → ℕ → WorldSeen → Type 0

@@ -1,5 +1,5 @@
 -- Inside this crate: how room is made: an idle page is evicted, or a page written back.
-use Rattle.std.specs.Prelude.{◌≡◌, ℕ, ◌+◌, ◌-◌, ◌/◌, ◌<◌, ◌≤◌, ◌⊎◌, ◌&&◌, Bool, true, false, if◌then◌else◌, length, Option, Some, None, is_some}
+use Rattle.std.specs.Prelude.{◌≡◌, ℕ, ◌+◌, ◌-◌, ◌/◌, ◌<◌, ◌≤◌, ◌⊎◌, Bool, true, false, if◌then◌else◌, length, Option, Some, is_some}
 use Rattle.pc_types.specs.declared.ids.FileId.{FileId}
 use Rattle.pc_types.specs.declared.ids.HandleId.{HandleId}
 use Rattle.pc_types.specs.declared.ids.PageIndex.{PageIndex}
@@ -14,10 +14,10 @@ use Rattle.machine.specs.Step.{Step}
 use Rattle.machine.specs.Tests.{tests}
 use Rattle.cachecore.specs.Wants.{lacking, lacks_frames, may_touch, passes_limit}
 use Rattle.world.specs.declared.step.Step.TheVariants as step
-use Rattle.filesvc.specs.Made.{Asks, FailsFill, WantsMemory}
+use Rattle.filesvc.specs.Made.{FailsFill, WantsMemory, asked}
 use Rattle.filesvc.specs.Rests.{AtOnce}
 use Rattle.filesvc.specs.Seen.{SoloSeen}
-use Rattle.filesvc.specs.Service.{Faulted}
+use Rattle.filesvc.specs.Service.{Faulted, wants}
 
 -- how many pages are cached, and how many DIRTY: what making room takes away
 abbrev pub load : State → ℕ
@@ -32,45 +32,49 @@ abbrev pub NothingToFlush : SoloSeen → Type 0
 NothingToFlush s = (f : ℕ) → f < length s.world.core.files
     → tests s.world.core (event.FlushBegin (record { 0 = f })) ≡ Some reply.Nothing
 
--- how a flush of a file ended: a page was written; or there was none to write, or no such file, and nothing changed; and else a device
--- call failed, or no more of them can be counted
+-- a flush failed: a device call failed, or no more of them can be counted, and each call wants the room that it wanted
+pub record FailsFlush (old new : SoloSeen) : Type 0 where
+  pub faulted : Faulted old new
+  pub still : (dirties : Bool) (h o n : ℕ) → wants dirties new.world.core h o n ≡ wants dirties old.world.core h o n
+
+-- how a flush of a file ended: a page was written; or there was none to write, or no such file, and nothing changed; and else it failed
 abbrev pub IsFlush : SoloSeen → FileId → Reply → SoloSeen → Type 0
 IsFlush old f reply.Written new = WritesBack old f new
 IsFlush old f reply.Nothing new = (tests old.world.core (event.FlushBegin f) ≡ Some reply.Nothing) × (new ≡ old)
 IsFlush old f (reply.Refused NoSuchFile) new = (length old.world.core.files ≤ f.0) × (new ≡ old)
-IsFlush old f _ new = Faulted old new
+IsFlush old f _ new = FailsFlush old new
 
 -- no file below this one has a page to write back
 abbrev pub NothingBelow : SoloSeen → ℕ → Type 0
 NothingBelow s n = (f : ℕ) → f < n → tests s.world.core (event.FlushBegin (record { 0 = f })) ≡ Some reply.Nothing
 
--- whether a page was written back: of the first file that has one; or there was none in any file, and nothing changed, or a device call
--- failed, or no more of them can be counted
+-- whether a page was written back: of the first file that has one; or there was none in any file, and nothing changed, or the flush failed
 abbrev pub FlushesOne : SoloSeen → Bool → SoloSeen → Type 0
 FlushesOne old true new = (f : FileId) × NothingBelow old f.0 × WritesBack old f new
-FlushesOne old false new = ((new ≡ old) × NothingToFlush old) ⊎ Faulted old new
+FlushesOne old false new = ((new ≡ old) × NothingToFlush old) ⊎ FailsFlush old new
 
 -- an idle page was evicted, of the cache alone
 abbrev pub Evicts : SoloSeen → SoloSeen → Type 0
 Evicts old new = (f : FileId) × (p : PageIndex) × Step old.world.core event.Evict (reply.Evicted f p) new.world.core
 
--- why room for a call is refused
-abbrev pub IsWayRefusal : SoloSeen → Refusal → SoloSeen → Type 0
-IsWayRefusal old NoFrame new = Faulted old new
-IsWayRefusal old DirtyLimit new = Faulted old new
-IsWayRefusal old r new = ⊥
+-- why room is refused for a call that wants this still: a device call failed
+abbrev pub IsWayRefusal : SoloSeen → Option Refusal → Refusal → SoloSeen → Type 0
+IsWayRefusal old want NoFrame new = Faulted old new × (want ≡ Some NoFrame)
+IsWayRefusal old want DirtyLimit new = Faulted old new × (want ≡ Some DirtyLimit)
+IsWayRefusal old want r new = ⊥
 
 -- why the fill of a page is refused, or the room for its call
-abbrev pub IsFillRefusal : SoloSeen → HandleId → PageIndex → Refusal → SoloSeen → Type 0
-IsFillRefusal old h p BadHandle new = is_open old.world.core h.0 ≡ false
-IsFillRefusal old h p (Io code) new = Faulted old new × FailsFill old.world h.0 p code new.world
-IsFillRefusal old h p TooManyInFlight new = SERIAL_END ≤ new.world.core.next
-IsFillRefusal old h p Memory new = WantsMemory old.world h.0 p new.world
-IsFillRefusal old h p r new = IsWayRefusal old r new
+abbrev pub IsFillRefusal : SoloSeen → HandleId → PageIndex → Option Refusal → Refusal → SoloSeen → Type 0
+IsFillRefusal old h p want BadHandle new = is_open old.world.core h.0 ≡ false
+IsFillRefusal old h p want (Io code) new = Faulted old new × FailsFill old.world h.0 p code new.world
+IsFillRefusal old h p want TooManyInFlight new = SERIAL_END ≤ new.world.core.next
+IsFillRefusal old h p want Memory new = WantsMemory old.world h.0 p new.world
+IsFillRefusal old h p want r new = IsWayRefusal old want r new
 
 -- why a call is refused after an event with this reply
-abbrev pub IsHelpRefusal : SoloSeen → HandleId → Reply → Refusal → SoloSeen → Type 0
-IsHelpRefusal old h got r new = ((p : PageIndex) × Asks got p × IsFillRefusal old h p r new) ⊎ IsWayRefusal old r new
+abbrev pub IsHelpRefusal : SoloSeen → HandleId → Reply → Option Refusal → Refusal → SoloSeen → Type 0
+IsHelpRefusal old h got want r new =
+    ((p : PageIndex) × (asked got ≡ Some p) × IsFillRefusal old h p want r new) ⊎ IsWayRefusal old want r new
 
 -- what was done where this was refused: for a frame a page was evicted or, where none was idle, one written back; for one more dirty page
 -- one was written back
@@ -87,10 +91,6 @@ first_page P o = o / P
 
 abbrev pub last_page : ℕ → ℕ → ℕ → ℕ
 last_page P o n = (o + n - 1) / P
-
--- which room a call on n bytes at o wants, that makes their pages dirty or not: frames, or fewer dirty pages
-abbrev pub wants : Bool → State → ℕ → ℕ → ℕ → Option Refusal
-wants dirties s h o n = if lacks_frames s h o n then Some NoFrame else if dirties && passes_limit s h o n then Some DirtyLimit else None
 
 -- how many attempts it may still need before the last: one for each page that it lacks; but if it wants room, one more than it touches
 -- pages, since these may be evicted

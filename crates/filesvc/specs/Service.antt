@@ -23,6 +23,7 @@ use Rattle.machine.specs.declared.event.Reply.TheVariants as reply
 use Rattle.machine.specs.State.{State, file_at, handle_file, page_count, touched_count}
 use Rattle.machine.specs.Step.{Step}
 use Rattle.machine.specs.Tests.{read_count, tests}
+use Rattle.cachecore.specs.Wants.{lacks_frames, passes_limit}
 use Rattle.runs.specs.Plain.{Plain, plain_after, plain_file}
 use Rattle.runs.specs.Reached.{files_seen}
 use Rattle.world.specs.Stepping.{world_of}
@@ -92,7 +93,7 @@ pub record KeepsBut (polled : ℕ → Bool) (old new : SoloSeen) : Type 0 where
   pub recorded : (f : ℕ) → IsPrefix (errors_of old f) (errors_of new f)
   -- as many were added as failed meanwhile
   pub noted : (f : ℕ) → length (errors_of new f) + failures_of old f ≡ length (errors_of old f) + failures_of new f
-  -- each with its code
+  -- the last with its code
   pub coded : IsCoded old → IsCoded new
   -- of each file that was not polled, nobody was told
   pub untold : (f : ℕ) → polled f ≡ false → is_untold new f ≡ untold_since old new f
@@ -121,17 +122,29 @@ Faulted old new = (old.world.device.faults < new.world.device.faults) ⊎ (new.w
 abbrev pub Refuses : SoloSeen → Event → Refusal → Type 0
 Refuses s e r = tests s.world.core e ≡ Some (reply.Refused r)
 
+-- which room a call on n bytes at o wants, that makes their pages dirty or not: frames, or fewer dirty pages
+abbrev pub wants : Bool → State → ℕ → ℕ → ℕ → Option Refusal
+wants dirties s h o n = if lacks_frames s h o n then Some NoFrame else if dirties && passes_limit s h o n then Some DirtyLimit else None
+
+-- which room a read, a write or a truncation wants: a read none for the bytes past the end of the file, and a truncation for the page that
+-- it cuts into
+abbrev pub wanted_by : State → Event → Option Refusal
+wanted_by s (event.Read h o n) = wants false s h.0 o (read_count s (handle_file s h.0) o n)
+wanted_by s (event.Write h o b) = wants true s h.0 o (length b)
+wanted_by s (event.Append h b) = wants true s h.0 (file_at s (handle_file s h.0)).size (length b)
+wanted_by s (event.Truncate h z) = wants false s h.0 z 1
+wanted_by s e = None
+
 -- why a call is refused that makes the event e, for each refusal that it may have: its tests on the state before; that no block is free,
--- by the tests on the state after, which has the same blocks; a failed device call, without which there is always room
--- for a frame and for
--- dirty pages; that no serial is left for a fill; or a growth that was refused
+-- by the tests on the state after, which has the same blocks; that it wants this room still on the state after, and a device call failed,
+-- without which there is always room; a device call that failed; that no serial is left for a fill; or a growth that was refused
 abbrev pub IsRefusal : SoloSeen → Event → Refusal → SoloSeen → Type 0
 IsRefusal old e BadHandle new = Refuses old e BadHandle
 IsRefusal old e TooLong new = Refuses old e TooLong
 IsRefusal old e TooLarge new = Refuses old e TooLarge
 IsRefusal old e NoSpace new = Refuses new e NoSpace
-IsRefusal old e NoFrame new = Faulted old new
-IsRefusal old e DirtyLimit new = Faulted old new
+IsRefusal old e NoFrame new = Faulted old new × (wanted_by new.world.core e ≡ Some NoFrame)
+IsRefusal old e DirtyLimit new = Faulted old new × (wanted_by new.world.core e ≡ Some DirtyLimit)
 IsRefusal old e (Io code) new = Faulted old new
 IsRefusal old e TooManyInFlight new = SERIAL_END ≤ new.world.core.next
 IsRefusal old e Memory new = Unit {0}

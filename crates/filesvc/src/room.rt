@@ -1,10 +1,11 @@
 //! What a call does on the way: it fills pages that it missed, and makes room.
 
-ghost use Rattle.std.specs.Prelude.{◌≡◌, ℕ, ◌⊎◌, ◌<◌, None, IfErr, IfOk, IsOkUnless, OnOk};
+ghost use Rattle.std.specs.Prelude.{◌≡◌, ℕ, ◌⊎◌, ◌<◌, Option, Some, None, IfErr, IfOk, IsOkUnless, OnOk};
+ghost use Rattle.pc_types.specs.declared.ids.PageIndex.{PageIndex};
 ghost use Rattle.pc_types.specs.declared.refusal.Refusal.TheVariants.{DirtyLimit, NoFrame};
 ghost use Rattle.filesvc.specs.Attempts.{Helps};
-ghost use Rattle.filesvc.specs.Rooms.{FlushesOne, IsClean, IsFillRefusal, IsFlush, IsMissed, IsWayRefusal, MakesRoom, StaysAbsent, Suffices, need, wants};
-ghost use Rattle.filesvc.specs.Service.{Faulted};
+ghost use Rattle.filesvc.specs.Rooms.{FailsFlush, FlushesOne, IsClean, IsFillRefusal, IsFlush, IsMissed, IsWayRefusal, MakesRoom, StaysAbsent, Suffices, need};
+ghost use Rattle.filesvc.specs.Service.{wants};
 
 use crate::requests::{fill_page, flush_page};
 use crate::solo::Solo;
@@ -28,9 +29,9 @@ impl<D: BlockDevice> Solo<D> {
     /// it could cost the call another of its pages.
     pub(crate) fn fill(&mut self, span: Span, page: PageIndex) -> Result<(), Refusal>
         requires missed { IsMissed self.old span.handle.0 span.offset span.count page.0 }
-        ensures helps { Helps span.handle.0 self.old self.new }
+        ensures helps { Helps span.handle.0 (Some page) self.old self.new }
         ensures attempts { self.new.attempts ≡ self.old.attempts }
-        ensures refused { IfErr result (λ r. IsFillRefusal self.old span.handle page r self.new) }
+        ensures refused { IfErr result (λ r. IsFillRefusal self.old span.handle page (wants span.dirties self.new.world.core span.handle.0 span.offset span.count) r self.new) }
         ensures gains { OnOk result (need span.dirties self.new.world.core span.handle.0 span.offset span.count < need span.dirties self.old.world.core span.handle.0 span.offset span.count) }
     {
         self.make_way(span)?;
@@ -41,9 +42,9 @@ impl<D: BlockDevice> Solo<D> {
     fn fill_once(&mut self, span: Span, page: PageIndex) -> Result<(), Refusal>
         requires missed { IsMissed self.old span.handle.0 span.offset span.count page.0 }
         requires room { wants span.dirties self.old.world.core span.handle.0 span.offset span.count ≡ None }
-        ensures helps { Helps span.handle.0 self.old self.new }
+        ensures helps { Helps span.handle.0 (Some page) self.old self.new }
         ensures attempts { self.new.attempts ≡ self.old.attempts }
-        ensures refused { IfErr result (λ r. IsFillRefusal self.old span.handle page r self.new) }
+        ensures refused { IfErr result (λ r. IsFillRefusal self.old span.handle page (wants span.dirties self.new.world.core span.handle.0 span.offset span.count) r self.new) }
         ensures gains { OnOk result (need span.dirties self.new.world.core span.handle.0 span.offset span.count < need span.dirties self.old.world.core span.handle.0 span.offset span.count) }
     {
         let why = match fill_page(&mut self.world, span.handle, page) {
@@ -56,12 +57,12 @@ impl<D: BlockDevice> Solo<D> {
 
     /// Makes room for a call: until as many frames are free as it lacks pages, and no more pages would be dirty than may be.
     pub(crate) fn make_way(&mut self, span: Span) -> Result<(), Refusal>
-        ensures helps { Helps span.handle.0 self.old self.new }
+        ensures helps { (page : Option PageIndex) → Helps span.handle.0 page self.old self.new }
         ensures attempts { self.new.attempts ≡ self.old.attempts }
         ensures made { OnOk result (wants span.dirties self.new.world.core span.handle.0 span.offset span.count ≡ None) }
         ensures kept { wants span.dirties self.old.world.core span.handle.0 span.offset span.count ≡ None → OnOk result (self.new ≡ self.old) }
         ensures absent { OnOk result (StaysAbsent self.old.world.core self.new.world.core) }
-        ensures refused { IfErr result (λ r. IsWayRefusal self.old r self.new) }
+        ensures refused { IfErr result (λ r. IsWayRefusal self.old (wants span.dirties self.new.world.core span.handle.0 span.offset span.count) r self.new) }
     {
         'turns: while let Some(want) = self.wants(span) {
             self.make_room(want)?;
@@ -92,12 +93,12 @@ impl<D: BlockDevice> Solo<D> {
     /// Makes room where a page was refused a frame or would be one dirty page too many. Where that can't be done, and for any
     /// other refusal, that is the answer.
     pub(crate) fn make_room(&mut self, refusal: Refusal) -> Result<(), Refusal>
-        ensures helps { (k : ℕ) → Helps k self.old self.new }
+        ensures helps { (k : ℕ) (page : Option PageIndex) → Helps k page self.old self.new }
         ensures attempts { self.new.attempts ≡ self.old.attempts }
         ensures made { OnOk result (MakesRoom self.old refusal self.new) }
         ensures refused { IsOkUnless result refusal }
-        ensures frames { refusal ≡ NoFrame → IfErr result (λ r. r ≡ NoFrame → Faulted self.old self.new ⊎ Suffices self.old) }
-        ensures clean { refusal ≡ DirtyLimit → IfErr result (λ r. r ≡ DirtyLimit → Faulted self.old self.new ⊎ IsClean self.old) }
+        ensures frames { refusal ≡ NoFrame → IfErr result (λ r. r ≡ NoFrame → FailsFlush self.old self.new ⊎ Suffices self.old) }
+        ensures clean { refusal ≡ DirtyLimit → IfErr result (λ r. r ≡ DirtyLimit → FailsFlush self.old self.new ⊎ IsClean self.old) }
     {
         match refusal {
             Refusal::NoFrame => {
@@ -118,7 +119,7 @@ impl<D: BlockDevice> Solo<D> {
 
     /// Writes a dirty page back, of the first file that has one. Answers whether that was done.
     fn flush_one(&mut self) -> bool
-        ensures helps { (k : ℕ) → Helps k self.old self.new }
+        ensures helps { (k : ℕ) (page : Option PageIndex) → Helps k page self.old self.new }
         ensures attempts { self.new.attempts ≡ self.old.attempts }
         ensures flushes { FlushesOne self.old result self.new }
     {
@@ -136,7 +137,7 @@ impl<D: BlockDevice> Solo<D> {
 
     /// Writes the file's lowest dirty page back.
     fn flush_file(&mut self, file: FileId) -> Reply
-        ensures helps { (k : ℕ) → Helps k self.old self.new }
+        ensures helps { (k : ℕ) (page : Option PageIndex) → Helps k page self.old self.new }
         ensures attempts { self.new.attempts ≡ self.old.attempts }
         ensures flush { IsFlush self.old file result self.new }
     {

@@ -10,7 +10,7 @@ ghost use Rattle.world.specs.declared.step.Step.TheVariants as step;
 ghost use Rattle.filesvc.specs.Made.{IsMadeOf, write_step};
 ghost use Rattle.filesvc.specs.Attempts.{Attempt, Follows, WroteAll, append_reply, truncate_over, write_over};
 ghost use Rattle.filesvc.specs.Rooms.{Stops, need};
-ghost use Rattle.filesvc.specs.Service.{CameFrom, FilesAfter, IsRefusal, IsSettledAtOnce, IsUntried, IsSoonOver, Keeps, LengthsAfter, Names, count_of, cursor_after, truncate_reply, write_event, write_reply, wrote_reply};
+ghost use Rattle.filesvc.specs.Service.{CameFrom, FilesAfter, IsRefusal, IsSettledAtOnce, IsUntried, IsSoonOver, Keeps, LengthsAfter, Names, count_of, cursor_after, truncate_reply, wants, write_event, write_reply, wrote_reply};
 
 use crate::handle::Handle;
 use crate::room::Span;
@@ -159,7 +159,7 @@ impl<D: BlockDevice> Solo<D> {
     ) -> Result<Option<Wrote>, Refusal>
         requires dirties { span.dirties ≡ true }
         requires stops { Stops self.old span.handle.0 span.offset span.count (wrote answer) }
-        ensures follows { Follows self.old span.handle (wrote answer) (write_over result) self.new }
+        ensures follows { Follows self.old span.handle (wrote answer) (wants span.dirties self.new.world.core span.handle.0 span.offset span.count) (write_over result) self.new }
         ensures gains { write_over result ≡ None → need true self.new.world.core span.handle.0 span.offset span.count < need true self.old.world.core span.handle.0 span.offset span.count }
     {
         match answer {

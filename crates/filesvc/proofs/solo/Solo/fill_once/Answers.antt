@@ -1,5 +1,6 @@
-use Rattle.std.proofs.Common.{◌≡◌, None, eq-eqb, refl, sym, subst}
-use Rattle.filesvc.specs.Rooms.{IsMissed, wants}
+use Rattle.std.proofs.Common.{◌≡◌, ◌&&◌, Some, None, eq-eqb, refl, sym, subst}
+use Rattle.filesvc.specs.Rooms.{IsMissed}
+use Rattle.filesvc.specs.Service.{wants}
 use Rattle.filesvc.specs.Seen.{SoloSeen}
 use Rattle.filesvc.proofs.Fills.{fill_gains, frame_free}
 use Rattle.filesvc.proofs.RoomLaws.{fill_faulted, fill_stopped}
@@ -23,14 +24,14 @@ returns-in_default g c =
     let m : IsMissed s c.args.span.handle.0 c.args.span.offset c.args.span.count c.args.page.0 = subst (λ x. IsMissed x c.args.span.handle.0 c.args.span.offset c.args.span.count c.args.page.0) (sym c.self.view_is) c.requires.missed in
     let room : wants c.args.span.dirties s.world.core c.args.span.handle.0 c.args.span.offset c.args.span.count ≡ None = subst (λ (x : SoloSeen). wants c.args.span.dirties x.world.core c.args.span.handle.0 c.args.span.offset c.args.span.count ≡ None) (sym c.self.view_is) c.requires.room in
     rw (← c.self.view_is) (record {
-      helps = at_once_helps c.args.span.handle.0 _ _ _ _ _ _ _ _ (fill_begins c.args.span.handle c.args.page) (eq-eqb c.args.span.handle.0 c.args.span.handle.0 refl) (c.fill_page.ensures.made c.self.inside.recorder) c.self.invariant.serving;
+      helps = at_once_helps c.args.span.handle.0 (Some c.args.page) _ _ _ _ _ _ _ _ (fill_begins c.args.span.handle c.args.page) (λ i. eq-eqb c.args.span.handle.0 c.args.span.handle.0 refl i && eq-eqb c.args.page.0 c.args.page.0 refl i) (c.fill_page.ensures.made c.self.inside.recorder) c.self.invariant.serving;
       attempts = refl;
       refused = tt;
       gains = fill_gains _ s _ c.self.invariant.serving c.args.span.dirties c.args.span.handle c.args.span.offset c.args.span.count c.args.page m room _ _ _ c.fill_page.ensures.rests.requests (c.fill_page.ensures.made c.self.inside.recorder) c.in_default.not-Refused c.in_default.not-Failed;
     })
 
 pub returns-clause-helps : goal.returns-clause-helps
-returns-clause-helps g c = rw (← c.self.view_is) (at_once_helps c.args.span.handle.0 _ _ _ _ _ _ _ _ (fill_begins c.args.span.handle c.args.page) (eq-eqb c.args.span.handle.0 c.args.span.handle.0 refl) (c.fill_page.ensures.made c.self.inside.recorder) c.self.invariant.serving)
+returns-clause-helps g c = rw (← c.self.view_is) (at_once_helps c.args.span.handle.0 (Some c.args.page) _ _ _ _ _ _ _ _ (fill_begins c.args.span.handle c.args.page) (λ i. eq-eqb c.args.span.handle.0 c.args.span.handle.0 refl i && eq-eqb c.args.page.0 c.args.page.0 refl i) (c.fill_page.ensures.made c.self.inside.recorder) c.self.invariant.serving)
 
 pub returns-clause-refused : goal.returns-clause-refused
 returns-clause-refused g c =
@@ -38,6 +39,6 @@ returns-clause-refused g c =
     let m : IsMissed s c.args.span.handle.0 c.args.span.offset c.args.span.count c.args.page.0 = subst (λ x. IsMissed x c.args.span.handle.0 c.args.span.offset c.args.span.count c.args.page.0) (sym c.self.view_is) c.requires.missed in
     let room : wants c.args.span.dirties s.world.core c.args.span.handle.0 c.args.span.offset c.args.span.count ≡ None = subst (λ (x : SoloSeen). wants c.args.span.dirties x.world.core c.args.span.handle.0 c.args.span.offset c.args.span.count ≡ None) (sym c.self.view_is) c.requires.room in
     elim c.match-fill_page.branch [
-      | in-Failed w ↦ rw (w.why-is, ← c.self.view_is) (fill_faulted s _ _ c.args.span.handle c.args.page w.in-Failed.code (w.in-Failed.ensures.made c.self.inside.recorder) (service_sound _ _ _ _ c.self.invariant.serving))
-      | in-Refused w ↦ rw (w.why-is, ← c.self.view_is) (fill_stopped _ s _ _ _ c.args.span.handle c.args.page w.in-Refused.refusal c.self.invariant.serving (w.in-Refused.ensures.made c.self.inside.recorder) (frame_free _ s _ c.self.invariant.serving c.args.span.dirties c.args.span.handle c.args.span.offset c.args.span.count c.args.page m room))
+      | in-Failed w ↦ rw (w.why-is, ← c.self.view_is) (fill_faulted s _ _ c.args.span.handle c.args.page None w.in-Failed.code (w.in-Failed.ensures.made c.self.inside.recorder) (service_sound _ _ _ _ c.self.invariant.serving))
+      | in-Refused w ↦ rw (w.why-is, ← c.self.view_is) (fill_stopped _ s _ _ _ c.args.span.handle c.args.page _ w.in-Refused.refusal c.self.invariant.serving (w.in-Refused.ensures.made c.self.inside.recorder) (frame_free _ s _ c.self.invariant.serving c.args.span.dirties c.args.span.handle c.args.span.offset c.args.span.count c.args.page m room))
     ]

@@ -10,7 +10,7 @@ invariant_of-self g c =
     reboarded _ _ _ _ (at_once_service _ s _ _ _ _ _ _ (flush_begins c.args.file) refl c.flush_page.ensures.made c.self.invariant)
 
 pub returns-clause-helps : goal.returns-clause-helps
-returns-clause-helps g c = rw (← c.self.view_is) (λ k. at_once_helps k _ _ _ _ _ _ _ _ (flush_begins c.args.file) refl c.flush_page.ensures.made c.self.invariant.serving)
+returns-clause-helps g c = rw (← c.self.view_is) (λ k page. at_once_helps k page _ _ _ _ _ _ _ _ (flush_begins c.args.file) refl c.flush_page.ensures.made c.self.invariant.serving)
 
 pub returns-clause-flush : goal.returns-clause-flush
 returns-clause-flush g c = rw (← c.self.view_is) (at_once_flush _ (record { world = c.self.inside.world; errors = c.self.inside.recorder; attempts = c.self.inside.attempts }) _ _ _ c.args.file _ c.flush_page.ensures.made c.self.invariant.serving)

@@ -7,7 +7,7 @@ use Rattle.filesvc.proofs.Laws.{helps_refl}
 use Rattle.filesvc.proofs.solo.Solo.flush_one.Goals as goal
 
 pub returns-clause-helps : goal.returns-clause-helps
-returns-clause-helps g c = λ k. subst (Helps k c.args.self.now) (sym c.files.invariant.same) (helps_refl c.args.self.now)
+returns-clause-helps g c = λ k page. subst (Helps k page c.args.self.now) (sym c.files.invariant.same) (helps_refl c.args.self.now)
 
 pub returns-clause-flushes : goal.returns-clause-flushes
 returns-clause-flushes g c =
@@ -19,8 +19,8 @@ returns-in-Written-clause-flushes g c = subst (λ s. FlushesOne s true c.flush_f
 
 pub returns-in-Written-clause-helps : goal.returns-in-Written-clause-helps
 returns-in-Written-clause-helps g c =
-    λ k. subst (λ s. Helps k s c.flush_file.new.self) c.files.invariant.same (c.flush_file.ensures.helps k)
+    λ k page. subst (λ s. Helps k page s c.flush_file.new.self) c.files.invariant.same (c.flush_file.ensures.helps k page)
 
 pub returns-in_default-clause-helps : goal.returns-in_default-clause-helps
 returns-in_default-clause-helps g c =
-    λ k. subst (λ s. Helps k s c.flush_file.new.self) c.files.invariant.same (c.flush_file.ensures.helps k)
+    λ k page. subst (λ s. Helps k page s c.flush_file.new.self) c.files.invariant.same (c.flush_file.ensures.helps k page)

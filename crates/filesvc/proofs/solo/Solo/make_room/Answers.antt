@@ -16,7 +16,7 @@ invariant_of-self g c =
 
 pub returns-in_default : goal.returns-in_default
 returns-in_default g c = record {
-  helps = λ k. helps_refl c.args.self.now;
+  helps = λ k page. helps_refl c.args.self.now;
   attempts = refl;
   made = tt;
   refused = refl;
@@ -25,11 +25,11 @@ returns-in_default g c = record {
 }
 
 pub returns-then-is_some-clause-helps : goal.returns-then-is_some-clause-helps
-returns-then-is_some-clause-helps g c = rw (← c.self.view_is) (λ k. evicted_helps _ _ _ c.age.result c.evict.result c.age.ensures c.evict.ensures (service_sound _ _ _ _ c.self.invariant.serving))
+returns-then-is_some-clause-helps g c = rw (← c.self.view_is) (λ k page. evicted_helps _ _ _ c.age.result c.evict.result c.age.ensures c.evict.ensures (service_sound _ _ _ _ c.self.invariant.serving))
 
 pub returns-then-flush_one-clause-helps : goal.returns-then-flush_one-clause-helps
 returns-then-flush_one-clause-helps g c = elim c.match-refusal.branch [
-  | in-NoFrame+else-is_some w ↦ rw (← c.self.view_is) (λ k. helps_trans _ _ _ (evicted_helps _ _ _ w.age.result w.evict.result w.age.ensures w.evict.ensures (service_sound _ _ _ _ c.self.invariant.serving)) ((rw w.self-is at c.flush_one.ensures.helps) k))
+  | in-NoFrame+else-is_some w ↦ rw (← c.self.view_is) (λ k page. helps_trans _ _ _ (evicted_helps _ _ _ w.age.result w.evict.result w.age.ensures w.evict.ensures (service_sound _ _ _ _ c.self.invariant.serving)) ((rw w.self-is at c.flush_one.ensures.helps) k page))
   | in-DirtyLimit w ↦ rw w.self-is at c.flush_one.ensures.helps
 ]
 
@@ -67,6 +67,6 @@ returns-else-flush_one-clause-clean g c =
 
 pub returns-else-flush_one-clause-helps : goal.returns-else-flush_one-clause-helps
 returns-else-flush_one-clause-helps g c = elim c.match-refusal.branch [
-  | in-NoFrame+else-is_some w ↦ rw (← c.self.view_is) (λ k. helps_trans _ _ _ (evicted_helps _ _ _ w.age.result w.evict.result w.age.ensures w.evict.ensures (service_sound _ _ _ _ c.self.invariant.serving)) ((rw w.self-is at c.flush_one.ensures.helps) k))
+  | in-NoFrame+else-is_some w ↦ rw (← c.self.view_is) (λ k page. helps_trans _ _ _ (evicted_helps _ _ _ w.age.result w.evict.result w.age.ensures w.evict.ensures (service_sound _ _ _ _ c.self.invariant.serving)) ((rw w.self-is at c.flush_one.ensures.helps) k page))
   | in-DirtyLimit w ↦ rw w.self-is at c.flush_one.ensures.helps
 ]

@@ -1,6 +1,6 @@
 use Rattle.std.proofs.Common.{◌≡◌, Some, None, refl, ap, sym, ◌∙◌}
 use Rattle.std.proofs.lemmas.Result.{err_from_is_err_and}
-use Rattle.filesvc.specs.Rooms.{wants}
+use Rattle.filesvc.specs.Service.{wants}
 use Rattle.filesvc.specs.Seen.{SoloSeen}
 use Rattle.filesvc.proofs.Laws.{helps_refl, helps_trans}
 use Rattle.filesvc.proofs.Load.{room_absent, room_less}
@@ -9,7 +9,7 @@ use Rattle.filesvc.proofs.RoomLaws.{way_refused}
 use Rattle.filesvc.proofs.solo.Solo.make_way.Goals as goal
 
 pub turns-init : goal.turns-init
-turns-init g c = record { helps = helps_refl c.args.self.now; attempts = refl; absent = λ f p e. e; kept = λ _. refl }
+turns-init g c = record { helps = λ page. helps_refl c.args.self.now; attempts = refl; absent = λ f p e. e; kept = λ _. refl }
 
 pub turns-smaller : goal.turns-smaller
 turns-smaller g c = room_less c.turns.self c.make_room.new.self c.in-Some.want c.in_ok-make_room.ensures.made
@@ -18,20 +18,20 @@ pub turns-preserved : goal.turns-preserved
 turns-preserved g c =
     let way : wants c.args.span.dirties c.turns.self.world.core c.args.span.handle.0 c.args.span.offset c.args.span.count ≡ Some c.in-Some.want = sym c.wants.ensures ∙ c.in-Some.is in
     record {
-      helps = helps_trans _ _ _ c.turns.invariant.helps (c.make_room.ensures.helps c.args.span.handle.0);
+      helps = λ page. helps_trans _ _ _ (c.turns.invariant.helps page) (c.make_room.ensures.helps c.args.span.handle.0 page);
       attempts = c.make_room.ensures.attempts ∙ c.turns.invariant.attempts;
       absent = λ f p none. room_absent c.turns.self c.make_room.new.self c.in-Some.want c.in_ok-make_room.ensures.made f p (c.turns.invariant.absent f p none);
       kept = λ none. absurd (let e : None ≡ Some c.in-Some.want = sym (ap (λ (s : SoloSeen). wants c.args.span.dirties s.world.core c.args.span.handle.0 c.args.span.offset c.args.span.count) (c.turns.invariant.kept none) ∙ none) ∙ way in cc);
     }
 
 pub returns-in_err-make_room-clause-helps : goal.returns-in_err-make_room-clause-helps
-returns-in_err-make_room-clause-helps g c = helps_trans _ _ _ c.turns.invariant.helps (c.make_room.ensures.helps c.args.span.handle.0)
+returns-in_err-make_room-clause-helps g c = λ page. helps_trans _ _ _ (c.turns.invariant.helps page) (c.make_room.ensures.helps c.args.span.handle.0 page)
 
 pub returns-in_err-make_room-clause-refused : goal.returns-in_err-make_room-clause-refused
 returns-in_err-make_room-clause-refused g c =
     let p = err_from_is_err_and c.from_residual.result c.from_residual.ensures.1 in
     let way : wants c.args.span.dirties c.turns.self.world.core c.args.span.handle.0 c.args.span.offset c.args.span.count ≡ Some c.in-Some.want = sym c.wants.ensures ∙ c.in-Some.is in
-    rw (p.1, p.2) (way_refused c.args.self.now c.turns.self c.make_room.new.self c.turns.invariant.helps.serves
-    c.in-Some.want c.in_err-make_room.field-0.0
+    rw (p.1, p.2) (way_refused c.args.self.now c.turns.self c.make_room.new.self (c.turns.invariant.helps None).serves
+    c.args.span.dirties c.args.span.handle.0 c.args.span.offset c.args.span.count c.in-Some.want c.in_err-make_room.field-0.0 way
     (wanted_room c.args.span.dirties c.turns.self.world.core c.args.span.handle.0 c.args.span.offset c.args.span.count c.turns.self refl c.in-Some.want way)
     c.in_err-make_room.ensures.refused c.in_err-make_room.ensures.frames c.in_err-make_room.ensures.clean)

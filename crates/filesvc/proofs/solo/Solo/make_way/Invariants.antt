@@ -1,11 +1,13 @@
-use Rattle.std.proofs.Common.{◌≡◌, None}
-use Rattle.filesvc.specs.Rooms.{StaysAbsent, load, wants}
+use Rattle.std.proofs.Common.{◌≡◌, Option, None}
+use Rattle.pc_types.specs.declared.ids.PageIndex.{PageIndex}
+use Rattle.filesvc.specs.Rooms.{StaysAbsent, load}
+use Rattle.filesvc.specs.Service.{wants}
 use Rattle.filesvc.specs.Attempts.{Helps}
 use Rattle.filesvc.proofs.solo.Solo.make_way.Given as goal
 
 abbrev pub invariant-turns : goal.invariant-turns
 invariant-turns g l = record {
-  helps : Helps l.fn.span.handle.0 l.fn.self l.self;
+  helps : (page : Option PageIndex) → Helps l.fn.span.handle.0 page l.fn.self l.self;
   attempts : l.self.attempts ≡ l.fn.self.attempts;
   absent : StaysAbsent l.fn.self.world.core l.self.world.core;
   kept : wants l.fn.span.dirties l.fn.self.world.core l.fn.span.handle.0 l.fn.span.offset l.fn.span.count ≡ None → l.self ≡ l.fn.self;

@@ -1,9 +1,10 @@
-use Rattle.std.proofs.Common.{◌+◌, refl, ap, ◌∙◌}
+use Rattle.std.proofs.Common.{◌≡◌, ◌+◌, true, refl, ap, ◌∙◌}
 use Rattle.std.specs.Result.{result_unwrap_or}
 use Rattle.machine.specs.declared.event.Event.TheVariants as event
+use Rattle.machine.specs.State.{file_at, handle_file, is_open}
 use Rattle.filesvc.proofs.Attempts.{attempt_follows, follows_appended, service_kept}
 use Rattle.filesvc.specs.Seen.{SoloSeen}
-use Rattle.filesvc.proofs.Gains.{append_gains, append_stopped}
+use Rattle.filesvc.proofs.Gains.{append_gains, append_stopped, append_wants}
 use Rattle.filesvc.proofs.Sizes.{sized_is}
 use Rattle.filesvc.proofs.solo.Solo.try_append.Goals as goal
 
@@ -14,20 +15,19 @@ pub returns-clause-attempt : goal.returns-clause-attempt
 returns-clause-attempt g c =
     let s : SoloSeen = record { world = c.self.inside.world; errors = c.self.inside.recorder; attempts = 0 } in
     let t : SoloSeen = record { world = c.append-answer.new.self; errors = c.self.inside.recorder; attempts = c.self.inside.attempts + 1 } in
+    let at : is_open s.world.core c.args.handle.0 ≡ true → c.unwrap_or-offset.result ≡ (file_at s.world.core (handle_file s.world.core c.args.handle.0)).size = λ o. c.unwrap_or-offset.ensures ∙ ap (λ r. result_unwrap_or r 0) (sized_is c.self.inside.world.core c.self.inside.world.core c.args.handle c.size.result c.size.ensures.0.1.0 o) in
     rw (← c.self.view_is)
     (attempt_follows _ c.args.handle
     (event.Append c.args.handle c.args.bytes.now) _ _ refl c.append-answer.ensures.0 c.append-answer.ensures.1
     c.append-answer.ensures.2 c.self.invariant.serving.sound c.self.invariant.serving.reached
-    c.self.invariant.serving.orderly _ _ refl c.after_write.ensures.follows
+    c.self.invariant.serving.orderly _ _ _ refl c.after_write.ensures.follows
+    (λ u r is. append_wants s t c.after_write.new.self c.args.handle c.unwrap_or-offset.result c.args.bytes.now _
+    c.append-answer.ensures.0.1.0 at u c.after_write.ensures.follows.helps.serves)
     (λ u is. append_gains s t c.after_write.new.self c.args.handle c.unwrap_or-offset.result c.args.bytes.now _
-    c.append-answer.ensures.0.1.0
-    (λ o. c.unwrap_or-offset.ensures
-    ∙ ap (λ r. result_unwrap_or r 0)
-    (sized_is c.self.inside.world.core c.self.inside.world.core c.args.handle c.size.result c.size.ensures.0.1.0 o))
-    u c.after_write.ensures.follows.helps.serves (c.after_write.ensures.gains is)))
+    c.append-answer.ensures.0.1.0 at u c.after_write.ensures.follows.helps.serves (c.after_write.ensures.gains is)))
 
 pub returns-clause-wrote : goal.returns-clause-wrote
-returns-clause-wrote g c = rw (← c.self.view_is) (follows_appended _ c.args.handle _ _ _ _ _ _ c.after_write.ensures.follows c.append-answer.ensures.0.1.0)
+returns-clause-wrote g c = rw (← c.self.view_is) (follows_appended _ c.args.handle _ _ _ _ _ _ _ c.after_write.ensures.follows c.append-answer.ensures.0.1.0)
 
 pub after_write-requires : goal.after_write-requires
 after_write-requires g c =

@@ -1,4 +1,4 @@
-use Rattle.std.proofs.Common.{◌+◌, ◌≤◌, inl, length, take, refl, arith}
+use Rattle.std.proofs.Common.{◌+◌, ◌≤◌, None, inl, length, take, refl, arith}
 use Rattle.std.proofs.lemmas.List.{length-take}
 use Rattle.std.proofs.lemmas.Result.{err_from_is_err_and}
 use Rattle.machine.specs.declared.event.Event.TheVariants as event
@@ -9,7 +9,7 @@ use Rattle.filesvc.proofs.Attempts.{attempt_follows, attempt_over, follows_again
 use Rattle.filesvc.proofs.CallLengths.{read_all}
 use Rattle.filesvc.proofs.CallSteps.{read_settled, read_small}
 use Rattle.filesvc.proofs.Fills.{is_open_of}
-use Rattle.filesvc.proofs.Gains.{read_gains, read_missed}
+use Rattle.filesvc.proofs.Gains.{read_gains, read_missed, read_wants}
 use Rattle.filesvc.proofs.Laws.{serves_trans}
 use Rattle.filesvc.proofs.solo.Solo.try_read.Goals as goal
 
@@ -63,13 +63,19 @@ returns-in_err-fill-in-Miss-clause-serves g c =
 pub returns-in_err-fill-in-Miss-clause-attempt : goal.returns-in_err-fill-in-Miss-clause-attempt
 returns-in_err-fill-in-Miss-clause-attempt g c =
     let p = err_from_is_err_and c.from_residual-in_err-fill-in-Miss.result c.from_residual-in_err-fill-in-Miss.ensures.1 in
+    let s : SoloSeen = record { world = c.self.inside.world; errors = c.self.inside.recorder; attempts = 0 } in
+    let t : SoloSeen = record { world = c.read.new.self; errors = c.self.inside.recorder; attempts = c.self.inside.attempts + 1 } in
+    let m = read_missed _ s _ c.self.invariant.serving t c.in_ok-count.ensures.made.1 c.args.handle c.args.offset (length c.args.out.now) c.count_within-count.result c.in_ok-count.field-0 c.read.new.out c.in-Miss.page c.in_ok-count.ensures.made.0.1.0 c.in-Miss.is c.count_within-count.ensures in
+    let k = c.count_within-count.ensures (is_open_of (is_open t.world.core c.args.handle.0) _ _ _ m.may) in
     rw (p.1, p.2) (rw (← c.self.view_is)
     (attempt_follows _ c.args.handle (event.Read c.args.handle c.args.offset (length c.args.out.now)) _ _ refl
     c.in_ok-count.ensures.made.0 c.in_ok-count.ensures.made.1 c.in_ok-count.ensures.made.2
-    c.self.invariant.serving.sound c.self.invariant.serving.reached c.self.invariant.serving.orderly _ _ refl
-    (follows_refused _ _ _ _ _ c.fill.ensures.helps c.fill.ensures.attempts
+    c.self.invariant.serving.sound c.self.invariant.serving.reached c.self.invariant.serving.orderly _ _ _ refl
+    (follows_refused _ _ _ _ _ _ (read_asks _ _ _ c.in-Miss.is) _ c.fill.ensures.helps c.fill.ensures.attempts
     (read_unsettled _ _ _ c.in-Miss.is)
-    (inl (c.in-Miss.page, read_asks _ _ _ c.in-Miss.is, c.in_err-fill-in-Miss.ensures.refused))) (λ _ is. absurd cc)))
+    (inl (c.in-Miss.page, read_asks _ _ _ c.in-Miss.is, c.in_err-fill-in-Miss.ensures.refused)))
+    (λ _ r is. read_wants t c.fill.new.self c.args.handle c.args.offset (length c.args.out.now) c.count_within-count.result c.fill.ensures.helps.serves k)
+    (λ _ is. absurd cc)))
 
 pub returns-clause-serves : goal.returns-clause-serves
 returns-clause-serves g c =
@@ -84,8 +90,9 @@ returns-clause-attempt g c =
     rw (← c.self.view_is)
     (attempt_follows _ c.args.handle (event.Read c.args.handle c.args.offset (length c.args.out.now)) _ _ refl
     c.in_ok-count.ensures.made.0 c.in_ok-count.ensures.made.1 c.in_ok-count.ensures.made.2
-    c.self.invariant.serving.sound c.self.invariant.serving.reached c.self.invariant.serving.orderly _ _ refl
-    (follows_again _ _ _ _ c.fill.ensures.helps c.fill.ensures.attempts (read_unsettled _ _ _ c.in-Miss.is))
+    c.self.invariant.serving.sound c.self.invariant.serving.reached c.self.invariant.serving.orderly _ _ _ refl
+    (follows_again _ _ _ None _ _ (read_asks _ _ _ c.in-Miss.is) c.fill.ensures.helps c.fill.ensures.attempts (read_unsettled _ _ _ c.in-Miss.is))
+    (λ _ r is. absurd cc)
     (λ _ _. read_gains t c.fill.new.self c.args.handle c.args.offset
     (length c.args.out.now) c.count_within-count.result c.fill.ensures.helps.serves k
     c.in_ok-fill-in-Miss.ensures.gains))

@@ -1,4 +1,4 @@
-use Rattle.std.proofs.Common.{◌+◌, inl, refl}
+use Rattle.std.proofs.Common.{◌+◌, None, inl, refl}
 use Rattle.std.proofs.lemmas.Result.{err_from_is_err_and}
 use Rattle.machine.specs.declared.event.Event.TheVariants as event
 use Rattle.filesvc.proofs.Attempts.{attempt_follows, attempt_over, follows_again, follows_refused, service_kept, truncate_asks, truncate_unsettled}
@@ -46,10 +46,10 @@ returns-in_err-fill-in-Miss g c =
           (attempt_follows _ c.args.handle
           (event.Truncate c.args.handle c.args.size) _ _ refl c.in_ok-truncate.ensures.0 c.in_ok-truncate.ensures.1
           c.in_ok-truncate.ensures.2 c.self.invariant.serving.sound c.self.invariant.serving.reached
-          c.self.invariant.serving.orderly _ _ refl
-          (follows_refused _ _ _ _ _ c.fill.ensures.helps c.fill.ensures.attempts
+          c.self.invariant.serving.orderly _ _ _ refl
+          (follows_refused _ _ _ _ _ _ (truncate_asks _ _ c.in-Miss.is) _ c.fill.ensures.helps c.fill.ensures.attempts
           (truncate_unsettled _ _ c.in-Miss.is)
-          (inl (c.in-Miss.page, truncate_asks _ _ c.in-Miss.is, c.in_err-fill-in-Miss.ensures.refused))) (λ _ is. absurd cc)));
+          (inl (c.in-Miss.page, truncate_asks _ _ c.in-Miss.is, c.in_err-fill-in-Miss.ensures.refused))) (λ _ r is. refl) (λ _ is. absurd cc)));
     }
 
 pub returns : goal.returns
@@ -59,8 +59,9 @@ returns g c =
           (attempt_follows _ c.args.handle
           (event.Truncate c.args.handle c.args.size) _ _ refl c.in_ok-truncate.ensures.0 c.in_ok-truncate.ensures.1
           c.in_ok-truncate.ensures.2 c.self.invariant.serving.sound c.self.invariant.serving.reached
-          c.self.invariant.serving.orderly _ _ refl
-          (follows_again _ _ _ _ c.fill.ensures.helps c.fill.ensures.attempts (truncate_unsettled _ _ c.in-Miss.is))
+          c.self.invariant.serving.orderly _ _ _ refl
+          (follows_again _ _ _ None _ _ (truncate_asks _ _ c.in-Miss.is) c.fill.ensures.helps c.fill.ensures.attempts (truncate_unsettled _ _ c.in-Miss.is))
+          (λ _ r is. absurd cc)
           (λ _ _. c.in_ok-fill-in-Miss.ensures.gains));
     }
 

@@ -13,11 +13,11 @@ returns-clause-attempt g c =
     rw (← c.self.view_is)
     (attempt_follows _ c.args.handle (event.Write c.args.handle c.args.offset c.args.bytes.now) _ _ refl
     c.write-answer.ensures.0 c.write-answer.ensures.1 c.write-answer.ensures.2 c.self.invariant.serving.sound
-    c.self.invariant.serving.reached c.self.invariant.serving.orderly _ _ refl c.after_write.ensures.follows
-    (λ _ is. c.after_write.ensures.gains is))
+    c.self.invariant.serving.reached c.self.invariant.serving.orderly _ _ _ refl c.after_write.ensures.follows
+    (λ _ r is. refl) (λ _ is. c.after_write.ensures.gains is))
 
 pub returns-clause-wrote : goal.returns-clause-wrote
-returns-clause-wrote g c = follows_all _ c.args.handle _ _ _ _ _ _ _ c.after_write.ensures.follows c.write-answer.ensures.0.1.0
+returns-clause-wrote g c = follows_all _ c.args.handle _ _ _ _ _ _ _ _ c.after_write.ensures.follows c.write-answer.ensures.0.1.0
 
 pub after_write-requires : goal.after_write-requires
 after_write-requires g c =
