@@ -1,7 +1,10 @@
 -- What a call's seat made meanwhile: the call's own events alone.
-use Rattle.std.proofs.Common.{◌≡◌, ℕ, List, [], refl, ap, subst, ◌∙◌, inl, inr}
-use Rattle.std.specs.Prelude.{Option, Some, None}
+use Rattle.std.proofs.Common.{◌≡◌, ℕ, ◌+◌, ◌≤◌, List, [], refl, sym, ap, arith, subst, ◌∙◌, inl, inr}
+use Rattle.std.specs.Prelude.{Ok, Option, Some, None}
 use Rattle.blockdev.specs.Jobs.{Task}
+use Rattle.cachecore.specs.Replies.{sync_stepped}
+use Rattle.cachecore.specs.declared.answers.SyncStepped.{SyncStepped}
+use Rattle.cachecore.specs.declared.answers.SyncStepped.TheVariants as stepped
 use Rattle.machine.specs.declared.event.End.{End}
 use Rattle.machine.specs.declared.event.Event.{Event}
 use Rattle.machine.specs.declared.event.Event.TheVariants as event
@@ -28,7 +31,7 @@ use Rattle.shared.specs.Changes.{event_of}
 use Rattle.shared.specs.declared.writes.Change.{Change}
 use Rattle.shared.specs.declared.writes.Change.TheVariants.{Append, Truncate, Write}
 use Rattle.shared.specs.Own.{IsEviction, IsHelp, IsRoomEvent, IsTry, IsUndone}
-use Rattle.shared.specs.Synced.{IsFlushEnd, IsSyncBy, IsTurnOf, OneSync}
+use Rattle.shared.specs.Synced.{EndsOnce, IsFlushEnd, IsSyncOver, IsSyncTry, IsTurnTry, IsUnended, IsVerdict, OneSync}
 use Rattle.shared.specs.Workers.{IsEnd, IsEndOf, IsWriteBack}
 use Rattle.shared.proofs.Making.{room_helps}
 
@@ -230,80 +233,149 @@ only_settled h own old new a b c d q plain p =
 
 -- ---- syncs
 
-pub only_step : (m : SyncId) (r : Reply) (old new : HeldSeen) (before after : SeatSeen) (slip : Slip)
-    → Made (event.SyncStep m) r old new before after slip → Only (λ x. IsTurnOf m x.event) before after
-only_step m r old new before after slip q =
-    only_by (λ x. IsTurnOf m x.event) (event.SyncStep m) r old new before after slip refl q
+-- a step that did not end the sync
+step_try : (m : SyncId) (r : Reply) (old new : HeldSeen) (before after : SeatSeen) (slip : Slip) → IsUnended r
+    → Made (event.SyncStep m) r old new before after slip → Only (IsTurnTry m) before after
+step_try m r old new before after slip on q =
+    only_by (IsTurnTry m) (event.SyncStep m) r old new before after slip (inl (refl, on)) q
 
-pub only_step_denied : (m : SyncId) (old new : HeldSeen) (before after : SeatSeen) (d : Denied)
-    → under.IsDenied (event.SyncStep m) old new before after d → Only (λ x. IsTurnOf m x.event) before after
-only_step_denied m old new before after d q =
-    only_denied (λ x. IsTurnOf m x.event) (event.SyncStep m) old new before after d (λ why. refl) q
+pub try_denied : (m : SyncId) (old new : HeldSeen) (before after : SeatSeen) (d : Denied)
+    → under.IsDenied (event.SyncStep m) old new before after d → Only (IsTurnTry m) before after
+try_denied m old new before after d q =
+    only_denied (IsTurnTry m) (event.SyncStep m) old new before after d (λ why. inl (refl, tt)) q
 
-ends_turn : (m : SyncId) (e : Event) → IsFlushEnd e → IsTurnOf m e
-ends_turn m (event.End Flush end) x = x
-ends_turn m (event.End Fill end) x = absurd x
-ends_turn m e x = absurd x
+pub try_waits : (m : SyncId) (x : SyncStepped) (p : PageIndex) (b : List ℕ) (old new : HeldSeen) (before after : SeatSeen)
+    (slip : Slip) → x ≡ stepped.Wait p b → Made (event.SyncStep m) (sync_stepped (Ok x)) old new before after slip
+    → Only (IsTurnTry m) before after
+try_waits m x p b old new before after slip is q =
+    step_try m (sync_stepped (Ok x)) old new before after slip
+    (subst (λ (y : SyncStepped). IsUnended (sync_stepped (Ok y))) (sym is) tt) q
 
 -- a step began a write, which was ended
-pub only_turned : (m : SyncId) (r : Reply) (old new : HeldSeen) (a b c : SeatSeen) (slip : Slip)
-    → Made (event.SyncStep m) r old new a b slip → Only (λ x. IsFlushEnd x.event) b c → Only (λ x. IsTurnOf m x.event) a c
-only_turned m r old new a b c slip q p =
-    only_on (λ x. IsTurnOf m x.event) a b c (only_step m r old new a b slip q)
-    (only_wider (λ x. IsFlushEnd x.event) (λ x. IsTurnOf m x.event) b c (λ e. ends_turn m e.event) p)
+pub try_writes : (m : SyncId) (x : SyncStepped) (job : Task) (old new : HeldSeen) (a b c : SeatSeen) (slip : Slip)
+    → x ≡ stepped.Job job → Made (event.SyncStep m) (sync_stepped (Ok x)) old new a b slip
+    → Only (λ e. IsFlushEnd e.event) b c → Only (IsTurnTry m) a c
+try_writes m x job old new a b c slip is q p =
+    only_on (IsTurnTry m) a b c
+    (step_try m (sync_stepped (Ok x)) old new a b slip
+    (subst (λ (y : SyncStepped). IsUnended (sync_stepped (Ok y))) (sym is) tt) q)
+    (only_wider (λ e. IsFlushEnd e.event) (IsTurnTry m) b c (λ e x. inr x) p)
 
-pub only_turn_on : (m : SyncId) (a b c : SeatSeen) → Only (λ x. IsTurnOf m x.event) a b → Only (λ x. IsTurnOf m x.event) b c
-    → Only (λ x. IsTurnOf m x.event) a c
-only_turn_on m a b c p q = only_on (λ x. IsTurnOf m x.event) a b c p q
+pub turn_try_on : (m : SyncId) (a b c : SeatSeen) → Only (IsTurnTry m) a b → Only (IsTurnTry m) b c → Only (IsTurnTry m) a c
+turn_try_on m a b c p q = only_on (IsTurnTry m) a b c p q
+
+-- a step that ended it
+step_over : (m : SyncId) (r : Reply) (old new : HeldSeen) (before after : SeatSeen) (slip : Slip) → IsVerdict r
+    → Made (event.SyncStep m) r old new before after slip → EndsOnce (IsTurnTry m) (IsSyncOver m) before after
+step_over m r old new before after slip over q = record {
+  at = before;
+  tried = only_same (IsTurnTry m) before before refl;
+  ended = only_by (IsSyncOver m) (event.SyncStep m) r old new before after slip (inl (refl, over)) q;
+  few = let one = q.entered.count in omega arith;
+}
+
+pub once_clean : (m : SyncId) (x : SyncStepped) (b : List ℕ) (old new : HeldSeen) (before after : SeatSeen) (slip : Slip)
+    → x ≡ stepped.Clean b → Made (event.SyncStep m) (sync_stepped (Ok x)) old new before after slip
+    → EndsOnce (IsTurnTry m) (IsSyncOver m) before after
+once_clean m x b old new before after slip is q =
+    step_over m (sync_stepped (Ok x)) old new before after slip
+    (subst (λ (y : SyncStepped). IsVerdict (sync_stepped (Ok y))) (sym is) tt) q
+
+pub once_failed : (m : SyncId) (x : SyncStepped) (code : ℕ) (b : List ℕ) (old new : HeldSeen) (before after : SeatSeen)
+    (slip : Slip) → x ≡ stepped.Failed code b → Made (event.SyncStep m) (sync_stepped (Ok x)) old new before after slip
+    → EndsOnce (IsTurnTry m) (IsSyncOver m) before after
+once_failed m x code b old new before after slip is q =
+    step_over m (sync_stepped (Ok x)) old new before after slip
+    (subst (λ (y : SyncStepped). IsVerdict (sync_stepped (Ok y))) (sym is) tt) q
+
+pub once_turn_on : (m : SyncId) (a b c : SeatSeen) → Only (IsTurnTry m) a b → EndsOnce (IsTurnTry m) (IsSyncOver m) b c
+    → EndsOnce (IsTurnTry m) (IsSyncOver m) a c
+once_turn_on m a b c p q = record {
+  at = q.at;
+  tried = only_on (IsTurnTry m) a b q.at p q.tried;
+  ended = q.ended;
+  few = q.few;
+}
+
+-- an event is one at most
+pub event_few : (e : Event) (r : Reply) (old new : HeldSeen) (before after : SeatSeen) (slip : Slip)
+    → Made e r old new before after slip → after.count ≤ before.count + 1
+event_few e r old new before after slip m = let one = m.entered.count in omega arith
+
+pub event_denied_few : (e : Event) (old new : HeldSeen) (before after : SeatSeen) (d : Denied)
+    → under.IsDenied e old new before after d → after.count ≤ before.count + 1
+event_denied_few e old new before after d q = go d.refusal d.slip q
+  where
+    go : (r : Refusal) (o : Option Slip) → under.DeniedBy e old new before after r o → after.count ≤ before.count + 1
+    go r None q = let same : after.count ≡ before.count = ap (λ (s : SeatSeen). s.count) q.2.1 in omega arith
+    go r (Some slip) q = event_few e (reply.Refused r) old new before after slip q
 
 begun : (h : HandleId) (first last : PageIndex) (m : SyncId) (old new : HeldSeen) (before at : SeatSeen) (slip : Slip)
-    → Made (event.SyncBegin h first last) (reply.Sync m) old new before at slip → Only (IsSyncBy h first last m) before at
+    → Made (event.SyncBegin h first last) (reply.Sync m) old new before at slip → Only (IsSyncTry h first last m) before at
 begun h first last m old new before at slip q =
-    only_by (IsSyncBy h first last m) (event.SyncBegin h first last) (reply.Sync m) old new before at slip
+    only_by (IsSyncTry h first last m) (event.SyncBegin h first last) (reply.Sync m) old new before at slip
     (inl (refl, refl)) q
 
-turned : (h : HandleId) (first last : PageIndex) (m : SyncId) (a b : SeatSeen) → Only (λ x. IsTurnOf m x.event) a b
-    → Only (IsSyncBy h first last m) a b
-turned h first last m a b p =
-    only_wider (λ x. IsTurnOf m x.event) (IsSyncBy h first last m) a b (λ e x. inr (inr x)) p
+turned : (h : HandleId) (first last : PageIndex) (m : SyncId) (a b : SeatSeen) → Only (IsTurnTry m) a b
+    → Only (IsSyncTry h first last m) a b
+turned h first last m a b p = only_wider (IsTurnTry m) (IsSyncTry h first last m) a b (λ e x. inr x) p
 
-dropped : (h : HandleId) (first last : PageIndex) (m : SyncId) (a b : SeatSeen) → Only (λ x. x.event ≡ event.SyncDrop m) a b
-    → Only (IsSyncBy h first last m) a b
-dropped h first last m a b p =
-    only_wider (λ x. x.event ≡ event.SyncDrop m) (IsSyncBy h first last m) a b (λ e x. inr (inl x)) p
+dropped : (m : SyncId) (a b : SeatSeen) → Only (λ x. x.event ≡ event.SyncDrop m) a b → Only (IsSyncOver m) a b
+dropped m a b p = only_wider (λ x. x.event ≡ event.SyncDrop m) (IsSyncOver m) a b (λ e x. inr x) p
+
+-- nothing was made past the tries
+tried_alone : (h : HandleId) (first last : PageIndex) (m : SyncId) (before after : SeatSeen)
+    → Only (IsSyncTry h first last m) before after → OneSync h first last before after
+tried_alone h first last m before after p = record {
+  sync = m;
+  made = record {
+    at = after;
+    tried = p;
+    ended = only_same (IsSyncOver m) after after refl;
+    few = omega arith;
+  };
+}
 
 pub sync_same : (h : HandleId) (first last : PageIndex) (before after : SeatSeen) → after ≡ before
     → OneSync h first last before after
-sync_same h first last before after e = record {
-  sync = record { 0 = 0 };
-  only = only_same (IsSyncBy h first last (record { 0 = 0 })) before after e;
-}
+sync_same h first last before after e =
+    let none : SyncId = record { 0 = 0 } in
+    tried_alone h first last none before after (only_same (IsSyncTry h first last none) before after e)
 
 pub sync_not_begun : (h : HandleId) (first last : PageIndex) (old new : HeldSeen) (before after : SeatSeen) (d : Denied)
     → under.IsDenied (event.SyncBegin h first last) old new before after d → OneSync h first last before after
-sync_not_begun h first last old new before after d q = record {
-  sync = record { 0 = 0 };
-  only = only_denied (IsSyncBy h first last (record { 0 = 0 })) (event.SyncBegin h first last) old new before after d
-      (λ why. inl (refl, tt)) q;
-}
+sync_not_begun h first last old new before after d q =
+    let none : SyncId = record { 0 = 0 } in
+    tried_alone h first last none before after
+    (only_denied (IsSyncTry h first last none) (event.SyncBegin h first last) old new before after d
+    (λ why. inl (refl, tt)) q)
 
 pub sync_over : (h : HandleId) (first last : PageIndex) (m : SyncId) (old new : HeldSeen) (a b c : SeatSeen) (slip : Slip)
-    → Made (event.SyncBegin h first last) (reply.Sync m) old new a b slip → Only (λ x. IsTurnOf m x.event) b c
+    → Made (event.SyncBegin h first last) (reply.Sync m) old new a b slip → EndsOnce (IsTurnTry m) (IsSyncOver m) b c
     → OneSync h first last a c
 sync_over h first last m old new a b c slip q p = record {
   sync = m;
-  only = only_on (IsSyncBy h first last m) a b c
-      (begun h first last m old new a b slip q) (turned h first last m b c p);
+  made = record {
+    at = p.at;
+    tried = only_on (IsSyncTry h first last m) a b p.at
+        (begun h first last m old new a b slip q) (turned h first last m b p.at p.tried);
+    ended = p.ended;
+    few = p.few;
+  };
 }
 
 pub sync_given_up : (h : HandleId) (first last : PageIndex) (m : SyncId) (old new : HeldSeen) (a b c d : SeatSeen) (slip : Slip)
-    → Made (event.SyncBegin h first last) (reply.Sync m) old new a b slip → Only (λ x. IsTurnOf m x.event) b c
-    → Only (λ x. x.event ≡ event.SyncDrop m) c d → OneSync h first last a d
-sync_given_up h first last m old new a b c d slip q p last_one = record {
+    → Made (event.SyncBegin h first last) (reply.Sync m) old new a b slip → Only (IsTurnTry m) b c
+    → Only (λ x. x.event ≡ event.SyncDrop m) c d → d.count ≤ c.count + 1 → OneSync h first last a d
+sync_given_up h first last m old new a b c d slip q p last_one few = record {
   sync = m;
-  only = only_on (IsSyncBy h first last m) a b d
-      (begun h first last m old new a b slip q)
-      (only_on (IsSyncBy h first last m) b c d (turned h first last m b c p) (dropped h first last m c d last_one));
+  made = record {
+    at = c;
+    tried = only_on (IsSyncTry h first last m) a b c
+        (begun h first last m old new a b slip q) (turned h first last m b c p);
+    ended = dropped m c d last_one;
+    few = few;
+  };
 }
 
 -- ---- workers

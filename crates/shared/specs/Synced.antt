@@ -1,5 +1,5 @@
 -- Syncs of a call, and how it answers them.
-use Rattle.std.specs.Prelude.{◌≡◌, ◌⊎◌, ℕ, Option, Some, None}
+use Rattle.std.specs.Prelude.{◌≡◌, ◌⊎◌, ◌+◌, ◌≤◌, ℕ, Option, Some, None}
 use Rattle.errboard.specs.Shown.{PassSeen}
 use Rattle.held.specs.Shown.{SeatSeen}
 use Rattle.held.specs.declared.log.Slip.{Slip}
@@ -54,16 +54,43 @@ IsBeginReply sync (reply.Sync m) = m ≡ sync
 IsBeginReply sync (reply.Refused why) = Unit {0}
 IsBeginReply sync r = ⊥
 
--- the begin of this sync, of these pages by this handle, a turn of it, or its drop
-abbrev pub IsSyncBy : HandleId → PageIndex → PageIndex → SyncId → Entry → Type 0
-IsSyncBy h first last sync e =
-    ((e.event ≡ event.SyncBegin h first last) × IsBeginReply sync e.reply)
-    ⊎ ((e.event ≡ event.SyncDrop sync) ⊎ IsTurnOf sync e.event)
+-- a step that was answered so did not end the sync: a write was begun, or one is waited for, or the step was refused
+abbrev pub IsUnended : Reply → Type 0
+IsUnended (reply.Job t) = Unit {0}
+IsUnended (reply.Wait p) = Unit {0}
+IsUnended (reply.Refused why) = Unit {0}
+IsUnended r = ⊥
 
--- the seat made events of one sync of these pages alone
+-- one that was answered so did
+abbrev pub IsVerdict : Reply → Type 0
+IsVerdict reply.Clean = Unit {0}
+IsVerdict (reply.Failed code) = Unit {0}
+IsVerdict r = ⊥
+
+-- a step of the sync that did not end it, or the end of a write
+abbrev pub IsTurnTry : SyncId → Entry → Type 0
+IsTurnTry sync e = ((e.event ≡ event.SyncStep sync) × IsUnended e.reply) ⊎ IsFlushEnd e.event
+
+-- the begin of this sync, of these pages by this handle, or such a turn of it
+abbrev pub IsSyncTry : HandleId → PageIndex → PageIndex → SyncId → Entry → Type 0
+IsSyncTry h first last sync e =
+    ((e.event ≡ event.SyncBegin h first last) × IsBeginReply sync e.reply) ⊎ IsTurnTry sync e
+
+-- the sync is over after this entry: a step that ended it, or its drop
+abbrev pub IsSyncOver : SyncId → Entry → Type 0
+IsSyncOver sync e = ((e.event ≡ event.SyncStep sync) × IsVerdict e.reply) ⊎ (e.event ≡ event.SyncDrop sync)
+
+-- the seat made such tries, and past them one event at most, which is such an end
+pub record EndsOnce (tries over : Entry → Type 0) (before after : SeatSeen) : Type 0 where
+  pub at : SeatSeen
+  pub tried : Only tries before at
+  pub ended : Only over at after
+  pub few : after.count ≤ at.count + 1
+
+-- the seat made events of one sync of these pages alone, and none past the end of it
 pub record OneSync (h : HandleId) (first last : PageIndex) (before after : SeatSeen) : Type 0 where
   pub sync : SyncId
-  pub only : Only (IsSyncBy h first last sync) before after
+  pub made : EndsOnce (IsSyncTry h first last sync) (IsSyncOver sync) before after
 
 -- the sync was dropped, or was in progress no longer
 abbrev pub IsDropReply : Reply → Type 0

@@ -1,6 +1,6 @@
 //! Fsync, of a file or of a range of its pages.
 
-ghost use Rattle.std.specs.Prelude.{◌≡◌, ◌≢◌, ◌⊎◌, Err, IfErr, IfNone, IfOk, IfSome, None, Some, length};
+ghost use Rattle.std.specs.Prelude.{◌≡◌, ◌≢◌, ◌⊎◌, ◌+◌, ◌≤◌, Err, IfErr, IfNone, IfOk, IfSome, None, Some, length};
 ghost use Rattle.errboard.specs.Shown.{PassSeen};
 ghost use Rattle.machine.specs.State.{file_at};
 ghost use Rattle.machine.specs.declared.event.Event.TheVariants as event;
@@ -12,7 +12,7 @@ ghost use Rattle.shared.specs.Called.{Makes};
 ghost use Rattle.shared.specs.Denials.{IsDenied};
 ghost use Rattle.shared.specs.Polls.{Hears, IsLevelled, Polled};
 ghost use Rattle.shared.specs.Rooms.{IsFinal};
-ghost use Rattle.shared.specs.Synced.{IsDropped, IsFsyncDenied, IsNotBegun, IsSyncDenied, IsTurnOf, OneSync, Reports, Syncs, end_reply};
+ghost use Rattle.shared.specs.Synced.{EndsOnce, IsDropped, IsFsyncDenied, IsNotBegun, IsSyncDenied, IsSyncOver, IsTurnOf, IsTurnTry, OneSync, Reports, Syncs, end_reply};
 
 use crate::cache::SharedCache;
 use crate::disk::Durable;
@@ -168,7 +168,7 @@ impl<B: Naming, D: BlockDevice, T: Trail> SharedCache<B, D, T> {
     }
 
     /// Makes turns of the sync until one ends it, each with the buffer that the one before gave back.
-    #[tactic(auto, using(locked::proofs::Seats::goes_by, locked::proofs::Seats::goes_on, locked::proofs::Seats::goes_same, crate::proofs::Making::goes_denied, crate::proofs::Making::makes_on, crate::proofs::Syncing::turn_on, locked::proofs::Seats::only_same, crate::proofs::Owning::only_turn_on))]
+    #[tactic(auto, using(locked::proofs::Seats::goes_by, locked::proofs::Seats::goes_on, locked::proofs::Seats::goes_same, crate::proofs::Making::goes_denied, crate::proofs::Making::makes_on, crate::proofs::Syncing::turn_on, crate::proofs::Owning::turn_try_on))]
     fn sync_turns<R: Wait>(
         &self,
         rt: &R,
@@ -184,7 +184,8 @@ impl<B: Naming, D: BlockDevice, T: Trail> SharedCache<B, D, T> {
         ensures level { IsLevelled pass.old pass.new }
         ensures hears { IfOk result (λ r. Hears B.sizes B.name r.slip seat.new pass.new) }
         ensures kept { IfErr result (λ _. pass.new ≡ pass.old) }
-        ensures only { Only (λ e. IsTurnOf sync e.event) seat.old seat.new }
+        ensures once { IfOk result (λ _. EndsOnce (IsTurnTry sync) (IsSyncOver sync) seat.old seat.new) }
+        ensures tried { IfErr result (λ _. Only (IsTurnTry sync) seat.old seat.new) }
         ensures ended { IfOk result (λ r. Makes seat.old seat.new r.slip (event.SyncStep sync) (end_reply r.failed)) }
         ensures denied { IfErr result (IsDenied (IsTurnOf sync) seat.old seat.new) }
         ensures full { IfErr result (λ d. d.slip ≡ None → d.refusal ≡ TrailFull) }
@@ -205,7 +206,7 @@ impl<B: Naming, D: BlockDevice, T: Trail> SharedCache<B, D, T> {
 
     /// Makes a step of the sync. Where that begins a write it is carried out, where a page is being written or too many requests
     /// are in flight the end of one is waited for, and the buffer alone is answered.
-    #[tactic(auto, using(locked::proofs::Seats::goes_by, locked::proofs::Seats::goes_on, locked::proofs::Seats::goes_same, crate::proofs::Making::goes_denied, crate::proofs::Syncing::clean_ended, crate::proofs::Syncing::failed_ended, crate::proofs::Syncing::denied_step, crate::proofs::Syncing::turn_flush, locked::proofs::Seats::only_same, crate::proofs::Owning::only_step, crate::proofs::Owning::only_step_denied, crate::proofs::Owning::only_turned))]
+    #[tactic(auto, using(locked::proofs::Seats::goes_by, locked::proofs::Seats::goes_on, locked::proofs::Seats::goes_same, crate::proofs::Making::goes_denied, crate::proofs::Syncing::clean_ended, crate::proofs::Syncing::failed_ended, crate::proofs::Syncing::denied_step, crate::proofs::Syncing::turn_flush, crate::proofs::Owning::try_denied))]
     fn sync_turn<R: Wait>(
         &self,
         rt: &R,
@@ -222,7 +223,9 @@ impl<B: Naming, D: BlockDevice, T: Trail> SharedCache<B, D, T> {
         ensures hears { IfOk result (λ o. IfSome o.0 (λ r. Hears B.sizes B.name r.slip seat.new pass.new)) }
         ensures again { IfOk result (λ o. IfNone o.0 (pass.new ≡ pass.old)) }
         ensures kept { IfErr result (λ _. pass.new ≡ pass.old) }
-        ensures only { Only (λ e. IsTurnOf sync e.event) seat.old seat.new }
+        ensures once { IfOk result (λ o. IfSome o.0 (λ _. EndsOnce (IsTurnTry sync) (IsSyncOver sync) seat.old seat.new)) }
+        ensures goes_on { IfOk result (λ o. IfNone o.0 (Only (IsTurnTry sync) seat.old seat.new)) }
+        ensures tried { IfErr result (λ _. Only (IsTurnTry sync) seat.old seat.new) }
         ensures ended { IfOk result (λ o. IfSome o.0 (λ r. Makes seat.old seat.new r.slip (event.SyncStep sync) (end_reply r.failed))) }
         ensures back { IfOk result (λ o. length o.1 ≡ B.sizes.page) }
         ensures denied { IfErr result (IsDenied (IsTurnOf sync) seat.old seat.new) }
@@ -261,11 +264,12 @@ impl<B: Naming, D: BlockDevice, T: Trail> SharedCache<B, D, T> {
 
     /// Drops a sync whose turn was refused, and answers that refusal. The drop has no slip only where the trail is full and the sync in
     /// progress no longer, since room is kept for the drop of each that is: `Stranger` then, as a drop with a slip would have it.
-    #[tactic(auto, using(locked::proofs::Seats::goes_by, locked::proofs::Seats::goes_on, locked::proofs::Seats::goes_same, crate::proofs::Making::goes_denied, crate::proofs::Syncing::dropped_by, crate::proofs::Syncing::dropped_refused, crate::proofs::Owning::only_event, crate::proofs::Owning::only_event_denied))]
+    #[tactic(auto, using(locked::proofs::Seats::goes_by, locked::proofs::Seats::goes_on, locked::proofs::Seats::goes_same, crate::proofs::Making::goes_denied, crate::proofs::Syncing::dropped_by, crate::proofs::Syncing::dropped_refused, crate::proofs::Owning::only_event, crate::proofs::Owning::only_event_denied, crate::proofs::Owning::event_few, crate::proofs::Owning::event_denied_few))]
     fn give_up<R: Wait>(&self, rt: &R, seat: &mut Seat, sync: SyncId, denied: Denied) -> Denied
         requires { seat.old.table ≡ B.table }
         ensures goes { Goes seat.old seat.new }
         ensures only { Only (λ e. e.event ≡ event.SyncDrop sync) seat.old seat.new }
+        ensures few { seat.new.count ≤ seat.old.count + 1 }
         ensures dropped { ((result ≡ denied) × IsDropped sync seat.old seat.new) ⊎ (result ≡ record { refusal = Stranger; slip = None }) }
     {
         match self.state.lock(rt).sync_drop(seat, sync) {

@@ -44,8 +44,8 @@ returns-in-Err-begun-clause-only g c = sync_not_begun c.args.handle c.args.first
 
 pub returns-in-Ok-sync_turns-clause-only : goal.returns-in-Ok-sync_turns-clause-only
 returns-in-Ok-sync_turns-clause-only g c = sync_over c.args.handle c.args.first c.args.last _ _ _ _ _ _ _
-    c.in-Ok-begun.ensures.made c.sync_turns.ensures.only
+    c.in-Ok-begun.ensures.made c.in-Ok-sync_turns.ensures.once
 
 pub returns-in-Err-sync_turns-clause-only : goal.returns-in-Err-sync_turns-clause-only
 returns-in-Err-sync_turns-clause-only g c = sync_given_up c.args.handle c.args.first c.args.last _ _ _ _ _ _ _ _
-    c.in-Ok-begun.ensures.made c.sync_turns.ensures.only c.give_up.ensures.only
+    c.in-Ok-begun.ensures.made c.in-Err-sync_turns.ensures.tried c.give_up.ensures.only c.give_up.ensures.few

@@ -10,7 +10,7 @@ use Rattle.shared.specs.declared.fsync.Synced.{Synced}
 use Rattle.shared.proofs.Hearing.{hears_by}
 use Rattle.shared.specs.Synced.{IsTurnOf}
 use Rattle.shared.proofs.Making.{goes_denied}
-use Rattle.shared.proofs.Owning.{only_step, only_step_denied, only_turned}
+use Rattle.shared.proofs.Owning.{once_clean, once_failed, try_denied, try_waits, try_writes}
 use Rattle.shared.proofs.Rooming.{step_final}
 use Rattle.shared.proofs.Syncing.{denied_step, step_full}
 use Rattle.shared.proofs.cache.SharedCache.sync_turn.Goals as goal
@@ -26,32 +26,32 @@ returns-in-Err-wait_or-clause-denied g c =
     (denied_step c.args.sync c.deref_mut.result.now c.sync_step.new.self c.args.seat.now c.sync_step.new.seat
     c.in-Err.denied c.in-Err.ensures.denied)
 
-pub returns-in-Ok-wait_or-clause-only : goal.returns-in-Ok-wait_or-clause-only
-returns-in-Ok-wait_or-clause-only g c =
-    only_step_denied c.args.sync c.deref_mut.result.now c.sync_step.new.self c.args.seat.now c.sync_step.new.seat
+pub returns-in-Ok-wait_or-clause-goes_on : goal.returns-in-Ok-wait_or-clause-goes_on
+returns-in-Ok-wait_or-clause-goes_on g c =
+    try_denied c.args.sync c.deref_mut.result.now c.sync_step.new.self c.args.seat.now c.sync_step.new.seat
     c.in-Err.denied c.in-Err.ensures.denied
 
-pub returns-in-Err-wait_or-clause-only : goal.returns-in-Err-wait_or-clause-only
-returns-in-Err-wait_or-clause-only g c =
-    only_step_denied c.args.sync c.deref_mut.result.now c.sync_step.new.self c.args.seat.now c.sync_step.new.seat
+pub returns-in-Err-wait_or-clause-tried : goal.returns-in-Err-wait_or-clause-tried
+returns-in-Err-wait_or-clause-tried g c =
+    try_denied c.args.sync c.deref_mut.result.now c.sync_step.new.self c.args.seat.now c.sync_step.new.seat
     c.in-Err.denied c.in-Err.ensures.denied
 
-pub returns-in-Wait-clause-only : goal.returns-in-Wait-clause-only
-returns-in-Wait-clause-only g c = only_step c.args.sync _ _ _ _ _ _ c.in-Ok.ensures.made
+pub returns-in-Wait-clause-goes_on : goal.returns-in-Wait-clause-goes_on
+returns-in-Wait-clause-goes_on g c = try_waits c.args.sync _ _ _ _ _ _ _ _ c.in-Wait.is c.in-Ok.ensures.made
 
-pub returns-in-Clean-clause-only : goal.returns-in-Clean-clause-only
-returns-in-Clean-clause-only g c = only_step c.args.sync _ _ _ _ _ _ c.in-Ok.ensures.made
+pub returns-in-Clean-clause-once : goal.returns-in-Clean-clause-once
+returns-in-Clean-clause-once g c = once_clean c.args.sync _ _ _ _ _ _ _ c.in-Clean.is c.in-Ok.ensures.made
 
-pub returns-in-Failed-clause-only : goal.returns-in-Failed-clause-only
-returns-in-Failed-clause-only g c = only_step c.args.sync _ _ _ _ _ _ c.in-Ok.ensures.made
+pub returns-in-Failed-clause-once : goal.returns-in-Failed-clause-once
+returns-in-Failed-clause-once g c = once_failed c.args.sync _ _ _ _ _ _ _ _ c.in-Failed.is c.in-Ok.ensures.made
 
-pub returns-in-Ok-flush_by-clause-only : goal.returns-in-Ok-flush_by-clause-only
-returns-in-Ok-flush_by-clause-only g c =
-    only_turned c.args.sync _ _ _ _ _ _ _ c.in-Ok.ensures.made c.flush_by.ensures.only
+pub returns-in-Ok-flush_by-clause-goes_on : goal.returns-in-Ok-flush_by-clause-goes_on
+returns-in-Ok-flush_by-clause-goes_on g c =
+    try_writes c.args.sync _ _ _ _ _ _ _ _ c.in-Job.is c.in-Ok.ensures.made c.flush_by.ensures.only
 
-pub returns-in-Err-flush_by-clause-only : goal.returns-in-Err-flush_by-clause-only
-returns-in-Err-flush_by-clause-only g c =
-    only_turned c.args.sync _ _ _ _ _ _ _ c.in-Ok.ensures.made c.flush_by.ensures.only
+pub returns-in-Err-flush_by-clause-tried : goal.returns-in-Err-flush_by-clause-tried
+returns-in-Err-flush_by-clause-tried g c =
+    try_writes c.args.sync _ _ _ _ _ _ _ _ c.in-Job.is c.in-Ok.ensures.made c.flush_by.ensures.only
 
 -- the refusal stands, in the hold that says whether a request is in flight
 pub returns-in-Err-wait_or-clause-stands : goal.returns-in-Err-wait_or-clause-stands

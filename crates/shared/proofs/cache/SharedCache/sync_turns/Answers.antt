@@ -1,22 +1,22 @@
 use Rattle.std.proofs.Common.{◌∙◌}
 use Rattle.locked.proofs.Seats.{goes_on}
-use Rattle.shared.proofs.Owning.{only_turn_on}
+use Rattle.shared.proofs.Owning.{once_turn_on, turn_try_on}
 use Rattle.shared.proofs.Syncing.{turn_on}
 use Rattle.shared.proofs.cache.SharedCache.sync_turns.Goals as goal
 
-pub returns-in-Some-ended-clause-only : goal.returns-in-Some-ended-clause-only
-returns-in-Some-ended-clause-only g c = only_turn_on c.args.sync c.args.seat.now c.turns.seat c.sync_turn.new.seat
-    c.turns.invariant.only c.sync_turn.ensures.only
+pub returns-in-Some-ended-clause-once : goal.returns-in-Some-ended-clause-once
+returns-in-Some-ended-clause-once g c = once_turn_on c.args.sync c.args.seat.now c.turns.seat c.sync_turn.new.seat
+    c.turns.invariant.only (rw c.in-Some-ended.is at c.in-Ok.ensures.once)
 
-pub returns-in-Err-clause-only : goal.returns-in-Err-clause-only
-returns-in-Err-clause-only g c = only_turn_on c.args.sync c.args.seat.now c.turns.seat c.sync_turn.new.seat
-    c.turns.invariant.only c.sync_turn.ensures.only
+pub returns-in-Err-clause-tried : goal.returns-in-Err-clause-tried
+returns-in-Err-clause-tried g c = turn_try_on c.args.sync c.args.seat.now c.turns.seat c.sync_turn.new.seat
+    c.turns.invariant.only c.in-Err.ensures.tried
 
 pub turns-preserved : goal.turns-preserved
 turns-preserved g c = record {
   goes = goes_on c.args.seat.now c.turns.seat c.sync_turn.new.seat c.turns.invariant.goes c.sync_turn.ensures.goes;
-  only = only_turn_on c.args.sync c.args.seat.now c.turns.seat c.sync_turn.new.seat c.turns.invariant.only
-      c.sync_turn.ensures.only;
+  only = turn_try_on c.args.sync c.args.seat.now c.turns.seat c.sync_turn.new.seat c.turns.invariant.only
+      (rw c.in_default.is at c.in-Ok.ensures.goes_on);
   pass = (rw c.in_default.is at c.in-Ok.ensures.again) ∙ c.turns.invariant.pass;
   size = c.in-Ok.ensures.back;
 }
