@@ -11,3 +11,4 @@ pub mod Rooming
 pub mod Answered
 pub mod Letting
 pub mod Sparing
+pub mod Settling

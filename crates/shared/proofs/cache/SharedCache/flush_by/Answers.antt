@@ -5,6 +5,7 @@ use Rattle.shared.proofs.Making.{denied_flush}
 use Rattle.shared.proofs.Owning.{only_flush_end}
 use Rattle.shared.proofs.Syncing.{flush_denied}
 use Rattle.shared.proofs.Rooming.{end_unwanted, failed_by}
+use Rattle.shared.proofs.Settling.{done_ends, ends_by, ends_denied}
 use Rattle.shared.proofs.cache.SharedCache.flush_by.Goals as goal
 
 pub returns-clause-denied : goal.returns-clause-denied
@@ -25,3 +26,18 @@ returns-clause-unwanted g c = end_unwanted Flush (end_of c.carry_out-finished.re
 pub returns-in-Ok-clause-failed : goal.returns-in-Ok-clause-failed
 returns-in-Ok-clause-failed g c e =
     failed_by _ _ _ _ _ _ _ c.in-Ok.ensures.made (sym c.is_written.ensures ∙ e)
+
+pub returns-clause-ends : goal.returns-clause-ends
+returns-clause-ends g c is =
+    let job = c.args.job in
+    ends_denied g.B.Naming.name (Flush, job.serial) Flush (end_of c.carry_out-finished.result) c.deref_mut-2.result.now
+    c.flush_end-ended.new.self c.args.seat.now c.flush_end-ended.new.seat c.in-Err.denied
+    (done_ends g.B.Naming.name Flush job c.carry_out-finished.result is c.requires.fits.cache c.carry_out-finished.ensures.same)
+    c.in-Err.ensures.denied
+
+pub returns-in-Ok-clause-ends : goal.returns-in-Ok-clause-ends
+returns-in-Ok-clause-ends g c is =
+    let job = c.args.job in
+    ends_by g.B.Naming.name (Flush, job.serial) Flush _ _ _ _ _ _ _
+    (done_ends g.B.Naming.name Flush job c.carry_out-finished.result is c.requires.fits.cache c.carry_out-finished.ensures.same)
+    c.in-Ok.ensures.made
