@@ -13,3 +13,4 @@ pub mod Letting
 pub mod Sparing
 pub mod Wanting
 pub mod Carrying
+pub mod Settling

@@ -9,3 +9,4 @@ pub mod Changes
 pub mod Seeks
 pub mod Workers
 pub mod Synced
+pub mod Settled

@@ -7,12 +7,14 @@ ghost use Rattle.locked.specs.Called.{Goes, Only};
 ghost use Rattle.locked.specs.Flights.{is_busy};
 ghost use Rattle.machine.specs.Tests.{has_idle};
 ghost use Rattle.pc_types.specs.Limits.{is_geometry};
+ghost use Rattle.pc_types.specs.declared.kind.Kind.TheVariants.{Fill, Flush};
 ghost use Rattle.pc_types.specs.declared.refusal.Refusal.TheVariants.{NoFrame};
 ghost use Rattle.trail.specs.History.{After};
 ghost use Rattle.shared.specs.Called.{is_for_now};
 ghost use Rattle.shared.specs.Denials.{IsDenied, IsFullIfNoSlip};
 ghost use Rattle.shared.specs.Own.{IsEviction, IsHelp, IsRoomEvent, IsStillDenied};
 ghost use Rattle.shared.specs.Rooms.{FailsToWrite, IsCrammed, IsFinal, IsFinalOr, IsLost, IsUnwritten, is_written, wants_room};
+ghost use Rattle.shared.specs.Settled.{EndsIn, FillsNoOther, SettlesIn};
 ghost use Rattle.shared.specs.Synced.{IsFlushEnd};
 ghost use Rattle.shared.specs.Workers.{LetsGo};
 ghost use Rattle.shared.specs.declared.room.Want.TheVariants.{Frames};
@@ -56,6 +58,8 @@ impl<B: Naming, D: BlockDevice, T: Trail> SharedCache<B, D, T> {
         ensures denied { IfErr result (IsDenied (IsHelp span.handle) seat.old seat.new) }
         ensures lost { IfErr result (IsLost B.sizes B.name seat.new) }
         ensures stands { IfErr result (IsFinal B.sizes B.name seat.new) }
+        ensures settled { SettlesIn B.name seat.old seat.new result }
+        ensures page { Only (λ e. FillsNoOther page e.event) seat.old seat.new }
     {
         if let Err(denied) = self.make_way(rt, seat, span) {
             return Err(denied);
@@ -78,6 +82,8 @@ impl<B: Naming, D: BlockDevice, T: Trail> SharedCache<B, D, T> {
         ensures denied { IfErr result (IsDenied (IsHelp handle) seat.old seat.new) }
         ensures lost { IfErr result (IsLost B.sizes B.name seat.new) }
         ensures stands { IfErr result (IsFinal B.sizes B.name seat.new) }
+        ensures settled { SettlesIn B.name seat.old seat.new result }
+        ensures page { Only (λ e. FillsNoOther page e.event) seat.old seat.new }
     {
         let buffer = match Buffer::new(self.alloc, &self.geometry) {
             Ok(buffer) => buffer,
@@ -111,6 +117,7 @@ impl<B: Naming, D: BlockDevice, T: Trail> SharedCache<B, D, T> {
         ensures denied { IfErr result (IsDenied (IsHelp handle) seat.old seat.new) }
         ensures unwanted { IfErr result (λ d. wants_room d.refusal ≡ false) }
         ensures stands { IfErr result (IsFinal B.sizes B.name seat.new) }
+        ensures ends { job.kind ≡ Fill → EndsIn B.name (Fill, job.serial) seat.old seat.new result }
     {
         let finished = self.disk.lock(rt).carry_out(job);
         let ended = self.state.lock(rt).fill_end(seat, finished);
@@ -140,6 +147,7 @@ impl<B: Naming, D: BlockDevice, T: Trail> SharedCache<B, D, T> {
         ensures denied { IfErr result (IsDenied IsRoomEvent seat.old seat.new) }
         ensures unwanted { IfErr result (λ d. wants_room d.refusal ≡ false) }
         ensures stands { IfErr result (IsFinal B.sizes B.name seat.new) }
+        ensures settled { SettlesIn B.name seat.old seat.new result }
     {
         'turns: for _ in rt.forever() {
             let guard = self.state.lock(rt);
@@ -175,6 +183,7 @@ impl<B: Naming, D: BlockDevice, T: Trail> SharedCache<B, D, T> {
         ensures legal { After B.sizes B.name (mutex_guard_value guard.entry).log.history (mutex_guard_value guard.entry).core.state }
         ensures within { IsTrue (is_geometry B.sizes) }
         ensures stands { IfErr result (IsFinalOr denied B.sizes B.name (mutex_guard_value guard.entry).core.state seat.new) }
+        ensures settled { SettlesIn B.name seat.old seat.new result }
     {
         // Lend that the history is legal, and that the sizes are within their limits.
         let _ = guard.core();
@@ -209,6 +218,7 @@ impl<B: Naming, D: BlockDevice, T: Trail> SharedCache<B, D, T> {
         ensures unwritten { IfOk result (λ made. made ≡ false → IsUnwritten (mutex_guard_value guard.entry).core.state seat.old seat.new) }
         ensures idle { IfOk result (λ made. made ≡ false → want ≡ Frames → has_idle (mutex_guard_value guard.entry).core.state ≡ false) }
         ensures stands { IfErr result (IsFinal B.sizes B.name seat.new) }
+        ensures settled { SettlesIn B.name seat.old seat.new result }
     {
         match want {
             Want::Frames => self.free_frame(rt, guard, seat),
@@ -233,6 +243,7 @@ impl<B: Naming, D: BlockDevice, T: Trail> SharedCache<B, D, T> {
         ensures unwritten { IfOk result (λ made. made ≡ false → IsUnwritten (mutex_guard_value guard.entry).core.state seat.old seat.new) }
         ensures idle { IfOk result (λ made. made ≡ false → has_idle (mutex_guard_value guard.entry).core.state ≡ false) }
         ensures stands { IfErr result (IsFinal B.sizes B.name seat.new) }
+        ensures settled { SettlesIn B.name seat.old seat.new result }
     {
         match evict_idle(&mut guard, seat) {
             Ok(true) => Ok(true),
@@ -258,6 +269,7 @@ impl<B: Naming, D: BlockDevice, T: Trail> SharedCache<B, D, T> {
         ensures still { IfOk result (λ made. made ≡ false → is_busy (mutex_guard_value guard.entry).core.state ≡ false) }
         ensures unwritten { IfOk result (λ made. made ≡ false → IsUnwritten (mutex_guard_value guard.entry).core.state seat.old seat.new) }
         ensures stands { IfErr result (IsFinal B.sizes B.name seat.new) }
+        ensures settled { SettlesIn B.name seat.old seat.new result }
     {
         let was_busy = guard.is_busy();
         let buffer = match Buffer::new(self.alloc, &self.geometry) {
@@ -354,6 +366,7 @@ impl<B: Naming, D: BlockDevice, T: Trail> SharedCache<B, D, T> {
         ensures failed { IfOk result (λ r. r.0 ≡ false → FailsToWrite seat.old seat.new) }
         ensures size { IfOk result (λ r. length r.1 ≡ B.sizes.page) }
         ensures stands { IfErr result (IsFinal B.sizes B.name seat.new) }
+        ensures ends { job.kind ≡ Flush → EndsIn B.name (Flush, job.serial) seat.old seat.new result }
     {
         let finished = self.disk.lock(rt).carry_out(job);
         let ended = self.state.lock(rt).flush_end(seat, finished);

@@ -16,6 +16,7 @@ ghost use Rattle.shared.specs.Changes.{IsWhole, IsWholeIn, cursor_after, event_o
 ghost use Rattle.shared.specs.Denials.{IsDenied};
 ghost use Rattle.shared.specs.Rooms.{IsCrammed, IsFinal, IsFinalOr, IsLost, IsShortFor, IsUnwritten, wants_room};
 ghost use Rattle.shared.specs.Own.{IsCallOf, IsRoomEvent, IsStillDenied, IsTry};
+ghost use Rattle.shared.specs.Settled.{FillsMissed, SettlesIn};
 ghost use Rattle.shared.specs.declared.writes.Change.TheVariants as change;
 
 use crate::cache::SharedCache;
@@ -72,6 +73,8 @@ impl<B: Naming, D: BlockDevice, T: Trail> SharedCache<B, D, T> {
         ensures count { IfOk result (λ r. (r.0.count ≡ length bytes.now) × (r.0.end ≡ offset + length bytes.now)) }
         ensures stands { IfErr result (IsFinal B.sizes self.now.name seat.new) }
         ensures wanting { IfErr result (IsShortFor (event.Write handle.now.number offset bytes.now) seat.old seat.new) }
+        ensures settled { SettlesIn self.now.name seat.old seat.new result }
+        ensures missed { FillsMissed (event.Write handle.now.number offset bytes.now) seat.old seat.new }
     {
         if let Err(refusal) = self.admits(seat, handle) {
             return Err(without_slip(refusal));
@@ -101,6 +104,8 @@ impl<B: Naming, D: BlockDevice, T: Trail> SharedCache<B, D, T> {
         ensures cursor { handle.new ≡ record handle.old { cursor = cursor_after handle.old.cursor result } }
         ensures stands { IfErr result (IsFinal B.sizes self.now.name seat.new) }
         ensures wanting { IfErr result (IsShortFor (write_event handle.old bytes.now) seat.old seat.new) }
+        ensures settled { SettlesIn self.now.name seat.old seat.new result }
+        ensures missed { FillsMissed (write_event handle.old bytes.now) seat.old seat.new }
     {
         if let Err(refusal) = self.admits(seat, handle) {
             return Err(without_slip(refusal));
@@ -139,6 +144,8 @@ impl<B: Naming, D: BlockDevice, T: Trail> SharedCache<B, D, T> {
         ensures lost { IfErr result (IsLost B.sizes self.now.name seat.new) }
         ensures stands { IfErr result (IsFinal B.sizes self.now.name seat.new) }
         ensures wanting { IfErr result (IsShortFor (event.Truncate handle.now.number size) seat.old seat.new) }
+        ensures settled { SettlesIn self.now.name seat.old seat.new result }
+        ensures missed { FillsMissed (event.Truncate handle.now.number size) seat.old seat.new }
     {
         if let Err(refusal) = self.admits(seat, handle) {
             return Err(without_slip(refusal));
@@ -169,6 +176,8 @@ impl<B: Naming, D: BlockDevice, T: Trail> SharedCache<B, D, T> {
         ensures whole { IfOk result (λ r. IsWhole change bytes.now r.0) }
         ensures stands { IfErr result (IsFinal B.sizes B.name seat.new) }
         ensures wanting { IfErr result (IsShortFor (event_of change handle bytes.now) seat.old seat.new) }
+        ensures settled { SettlesIn B.name seat.old seat.new result }
+        ensures missed { FillsMissed (event_of change handle bytes.now) seat.old seat.new }
     {
         'attempts: for _ in rt.forever() {
             match self.try_change(rt, seat, handle, change, bytes) {
@@ -206,6 +215,8 @@ impl<B: Naming, D: BlockDevice, T: Trail> SharedCache<B, D, T> {
         ensures again { IfOk result (λ o. IfNone o (Retries seat.old seat.new (event_of change handle bytes.now))) }
         ensures stands { IfErr result (IsFinal B.sizes B.name seat.new) }
         ensures wanting { IfErr result (IsShortFor (event_of change handle bytes.now) seat.old seat.new) }
+        ensures settled { SettlesIn B.name seat.old seat.new result }
+        ensures missed { FillsMissed (event_of change handle bytes.now) seat.old seat.new }
     {
         let mut guard = self.state.lock(rt);
         let span = span_of(&guard, handle, change, bytes);
@@ -254,6 +265,7 @@ impl<B: Naming, D: BlockDevice, T: Trail> SharedCache<B, D, T> {
         ensures legal { After B.sizes B.name (mutex_guard_value guard.entry).log.history (mutex_guard_value guard.entry).core.state }
         ensures within { IsTrue (is_geometry B.sizes) }
         ensures stands { IfErr result (IsFinalOr denied B.sizes B.name (mutex_guard_value guard.entry).core.state seat.new) }
+        ensures settled { SettlesIn B.name seat.old seat.new result }
     {
         if let Err(other) = self.relieve(rt, guard, seat, denied) {
             return Err(other);

@@ -4,6 +4,7 @@ use Rattle.shared.specs.Changes.{event_of}
 use Rattle.shared.specs.Own.{IsTry}
 use Rattle.shared.proofs.Owning.{once_try_on, only_try_on}
 use Rattle.shared.proofs.Wanting.{short_on}
+use Rattle.shared.proofs.Settling.{denied_on, missed_on, missed_same, settles_on, settles_same}
 use Rattle.shared.proofs.cache.SharedCache.change.Goals as goal
 
 pub attempts-init : goal.attempts-init
@@ -11,6 +12,8 @@ attempts-init g c = record {
   goes = goes_same c.args.seat.now c.args.seat.now refl;
   tried = only_same (IsTry c.args.handle (event_of c.args.change c.args.handle c.args.bytes.now)) c.args.seat.now c.args.seat.now
       refl;
+  settled = settles_same g.B.Naming.name c.args.seat.now c.args.seat.now refl;
+  missed = missed_same (event_of c.args.change c.args.handle c.args.bytes.now) c.args.seat.now c.args.seat.now refl;
 }
 
 pub returns-in-Ok-Some-clause-once : goal.returns-in-Ok-Some-clause-once
@@ -23,9 +26,33 @@ attempts-preserved g c = record {
   goes = goes_on c.args.seat.now c.attempts.seat c.try_change.new.seat c.attempts.invariant.goes c.try_change.ensures.goes;
   tried = only_try_on c.args.handle (event_of c.args.change c.args.handle c.args.bytes.now) c.args.seat.now c.attempts.seat
       c.try_change.new.seat c.attempts.invariant.tried (rw c.in-Ok-None.field-0-is at c.in-Ok-None.ensures.tried);
+  settled = settles_on g.B.Naming.name c.args.seat.now c.attempts.seat c.try_change.new.seat c.attempts.invariant.settled
+      c.in-Ok-None.ensures.settled;
+  missed = missed_on (event_of c.args.change c.args.handle c.args.bytes.now) c.args.seat.now c.attempts.seat
+      c.try_change.new.seat c.attempts.invariant.missed c.try_change.ensures.missed;
 }
 
 pub returns-in-Err-clause-wanting : goal.returns-in-Err-clause-wanting
 returns-in-Err-clause-wanting g c =
     short_on (event_of c.args.change c.args.handle c.args.bytes.now) c.args.seat.now c.attempts.seat c.try_change.new.seat
     c.in-Err.denied c.attempts.invariant.goes c.in-Err.ensures.wanting
+
+pub returns-in-Ok-Some-clause-settled : goal.returns-in-Ok-Some-clause-settled
+returns-in-Ok-Some-clause-settled g c =
+    settles_on g.B.Naming.name c.args.seat.now c.attempts.seat c.try_change.new.seat c.attempts.invariant.settled
+    c.in-Ok-Some.ensures.settled
+
+pub returns-in-Err-clause-settled : goal.returns-in-Err-clause-settled
+returns-in-Err-clause-settled g c =
+    denied_on g.B.Naming.name c.args.seat.now c.attempts.seat c.try_change.new.seat c.in-Err.denied
+    c.attempts.invariant.settled c.in-Err.ensures.settled
+
+pub returns-in-Ok-Some-clause-missed : goal.returns-in-Ok-Some-clause-missed
+returns-in-Ok-Some-clause-missed g c =
+    missed_on (event_of c.args.change c.args.handle c.args.bytes.now) c.args.seat.now c.attempts.seat c.try_change.new.seat
+    c.attempts.invariant.missed c.try_change.ensures.missed
+
+pub returns-in-Err-clause-missed : goal.returns-in-Err-clause-missed
+returns-in-Err-clause-missed g c =
+    missed_on (event_of c.args.change c.args.handle c.args.bytes.now) c.args.seat.now c.attempts.seat c.try_change.new.seat
+    c.attempts.invariant.missed c.try_change.ensures.missed

@@ -10,6 +10,8 @@ use Rattle.shared.specs.Own.{IsHelp}
 use Rattle.shared.proofs.Making.{denied_end, failed_end}
 use Rattle.shared.proofs.Owning.{only_fill_end, only_fill_end_denied}
 use Rattle.shared.proofs.Rooming.{end_unwanted}
+use Rattle.std.proofs.Common.{inl}
+use Rattle.shared.proofs.Settling.{done_ends, ends_by, ends_denied}
 use Rattle.shared.proofs.cache.SharedCache.fill_by.Goals as goal
 
 pub returns-in-Err-clause-denied : goal.returns-in-Err-clause-denied
@@ -39,3 +41,25 @@ returns-clause-only g c = only_fill_end c.args.handle _ _ _ _ _ _ _ c.in-Ok.ensu
 pub returns-in-Err-clause-unwanted : goal.returns-in-Err-clause-unwanted
 returns-in-Err-clause-unwanted g c = end_unwanted Fill (end_of c.carry_out-finished.result) c.deref_mut-2.result.now
     c.fill_end-ended.new.self c.args.seat.now c.fill_end-ended.new.seat c.in-Err.denied c.in-Err.ensures.denied
+
+pub returns-in-Err-clause-ends : goal.returns-in-Err-clause-ends
+returns-in-Err-clause-ends g c is =
+    let job = c.args.job in
+    ends_denied g.B.Naming.name (Fill, job.serial) Fill (end_of c.carry_out-finished.result) c.deref_mut-2.result.now
+    c.fill_end-ended.new.self c.args.seat.now c.fill_end-ended.new.seat c.in-Err.denied
+    (done_ends g.B.Naming.name Fill job c.carry_out-finished.result is c.requires.fits.cache c.carry_out-finished.ensures.same)
+    c.in-Err.ensures.denied
+
+pub returns-in-Failed-clause-ends : goal.returns-in-Failed-clause-ends
+returns-in-Failed-clause-ends g c is =
+    let job = c.args.job in
+    inl (ends_by g.B.Naming.name (Fill, job.serial) Fill _ _ _ _ _ _ _
+    (done_ends g.B.Naming.name Fill job c.carry_out-finished.result is c.requires.fits.cache c.carry_out-finished.ensures.same)
+    c.in-Ok.ensures.made)
+
+pub returns-clause-ends : goal.returns-clause-ends
+returns-clause-ends g c is =
+    let job = c.args.job in
+    ends_by g.B.Naming.name (Fill, job.serial) Fill _ _ _ _ _ _ _
+    (done_ends g.B.Naming.name Fill job c.carry_out-finished.result is c.requires.fits.cache c.carry_out-finished.ensures.same)
+    c.in-Ok.ensures.made

@@ -7,6 +7,7 @@ use Rattle.shared.proofs.Making.{denied_flush, full_by}
 use Rattle.shared.proofs.Owning.{only_flush_end}
 use Rattle.shared.proofs.Syncing.{flush_denied}
 use Rattle.shared.proofs.Rooming.{end_unwanted, failed_by}
+use Rattle.shared.proofs.Settling.{done_ends, ends_by, ends_denied}
 use Rattle.shared.proofs.cache.SharedCache.flush_by.Goals as goal
 
 pub returns-clause-denied : goal.returns-clause-denied
@@ -36,3 +37,18 @@ returns-in-Ok-clause-size g c =
 pub returns-clause-full : goal.returns-clause-full
 returns-clause-full g c = full_by (event.End Flush (end_of c.carry_out-finished.result)) c.deref_mut-2.result.now
     c.flush_end-ended.new.self c.args.seat.now c.flush_end-ended.new.seat c.in-Err.denied c.in-Err.ensures.denied
+
+pub returns-clause-ends : goal.returns-clause-ends
+returns-clause-ends g c is =
+    let job = c.args.job in
+    ends_denied g.B.Naming.name (Flush, job.serial) Flush (end_of c.carry_out-finished.result) c.deref_mut-2.result.now
+    c.flush_end-ended.new.self c.args.seat.now c.flush_end-ended.new.seat c.in-Err.denied
+    (done_ends g.B.Naming.name Flush job c.carry_out-finished.result is c.requires.fits.cache c.carry_out-finished.ensures.same)
+    c.in-Err.ensures.denied
+
+pub returns-in-Ok-clause-ends : goal.returns-in-Ok-clause-ends
+returns-in-Ok-clause-ends g c is =
+    let job = c.args.job in
+    ends_by g.B.Naming.name (Flush, job.serial) Flush _ _ _ _ _ _ _
+    (done_ends g.B.Naming.name Flush job c.carry_out-finished.result is c.requires.fits.cache c.carry_out-finished.ensures.same)
+    c.in-Ok.ensures.made

@@ -4,6 +4,7 @@ use Rattle.std.specs.Sync.Mutex.{mutex_guard_value}
 use Rattle.held.specs.Shown.{HeldSeen}
 use Rattle.shared.specs.Rooms.{IsUnwritten}
 use Rattle.shared.proofs.Rooming.{unwritten_on}
+use Rattle.shared.proofs.Settling.{settled_on, settles_evicted}
 use Rattle.shared.proofs.cache.SharedCache.free_frame.Goals as goal
 
 -- no page went, so the state is as it was
@@ -17,3 +18,8 @@ returns-in-Ok-false-clause-unwritten g c =
     (λ made. made ≡ false → IsUnwritten s c.args.seat.now c.flush_one.new.seat)
     (λ made q e. unwritten_on s t c.args.seat.now c.evict_idle.new.seat c.flush_one.new.seat same c.evict_idle.ensures.only
     (q e)) c.flush_one.ensures.unwritten
+
+pub returns-in-Ok-false-clause-settled : goal.returns-in-Ok-false-clause-settled
+returns-in-Ok-false-clause-settled g c =
+    settled_on g.B.Naming.name c.args.seat.now c.evict_idle.new.seat c.flush_one.new.seat c.flush_one.result
+    (settles_evicted g.B.Naming.name c.args.seat.now c.evict_idle.new.seat c.evict_idle.ensures.only) c.flush_one.ensures.settled

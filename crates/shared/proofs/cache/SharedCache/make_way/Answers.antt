@@ -1,9 +1,12 @@
 use Rattle.locked.proofs.Seats.{goes_on}
 use Rattle.shared.proofs.Owning.{only_room_on}
+use Rattle.shared.proofs.Settling.{denied_on, settles_on}
 use Rattle.shared.proofs.cache.SharedCache.make_way.Goals as goal
 
 pub turns-preserved : goal.turns-preserved
 turns-preserved g c = record {
   goes = goes_on c.args.seat.now c.turns.seat c.make_room.new.seat c.turns.invariant.goes c.make_room.ensures.goes;
   only = only_room_on c.args.seat.now c.turns.seat c.make_room.new.seat c.turns.invariant.only c.make_room.ensures.only;
+  settled = settles_on g.B.Naming.name c.args.seat.now c.turns.seat c.make_room.new.seat c.turns.invariant.settled
+      c.in-Ok-true.ensures.settled;
 }

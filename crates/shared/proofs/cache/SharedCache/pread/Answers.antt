@@ -1,4 +1,5 @@
 use Rattle.std.proofs.Common.{ℕ, ◌∙◌, List, ap, length, subst, sym}
+use Rattle.std.specs.Prelude.{◌⊎◌}
 use Rattle.machine.specs.declared.event.Event.TheVariants as event
 use Rattle.pc_types.specs.declared.ids.HandleId.{HandleId}
 use Rattle.locked.specs.Called.{Once, Only}
@@ -8,6 +9,8 @@ use Rattle.shared.specs.Rooms.{IsShortFor}
 use Rattle.shared.specs.Seen.{HandleSeen}
 use Rattle.shared.proofs.Owning.{once_try_on, only_try_on}
 use Rattle.shared.proofs.Wanting.{short_admitted, short_on}
+use Rattle.shared.specs.Settled.{FillsMissed, LeavesOne, Settles}
+use Rattle.shared.proofs.Settling.{denied_on, missed_on, settles_on}
 use Rattle.shared.proofs.cache.SharedCache.pread.Goals as goal
 
 pub returns-in-Ok-Some-clause-once : goal.returns-in-Ok-Some-clause-once
@@ -32,6 +35,15 @@ attempts-preserved g c =
           c.try_read.new.seat) (ap (λ (x : HandleSeen). x.number) c.handle.view_is)
           (subst (λ (l : List ℕ). Only (IsTry c.handle.inside.number (event.Read c.handle.inside.number c.args.offset (length l)))
           c.attempts.seat c.try_read.new.seat) c.attempts.invariant.out (rw c.in-Ok-None.field-0-is at c.in-Ok-None.ensures.tried)));
+      settled = settles_on g.B.Naming.name c.args.seat.now c.attempts.seat c.try_read.new.seat c.attempts.invariant.settled
+          c.in-Ok-None.ensures.settled;
+      missed =
+          missed_on (event.Read h c.args.offset (length c.args.out.now)) c.args.seat.now c.attempts.seat c.try_read.new.seat
+          c.attempts.invariant.missed
+          (subst (λ (n : HandleId). FillsMissed (event.Read n c.args.offset (length c.args.out.now)) c.attempts.seat c.try_read.new.seat)
+          (ap (λ (x : HandleSeen). x.number) c.handle.view_is)
+          (subst (λ (l : List ℕ). FillsMissed (event.Read c.handle.inside.number c.args.offset (length l)) c.attempts.seat
+          c.try_read.new.seat) c.attempts.invariant.out c.try_read.ensures.missed));
       out = (rw c.in-Ok-None.field-0-is at c.in-Ok-None.ensures.same) ∙ c.attempts.invariant.out;
     }
 
@@ -50,3 +62,36 @@ returns-in-Err-try_read-clause-wanting g c =
     c.try_read.new.seat c.in-Err-try_read.denied) (ap (λ (x : HandleSeen). x.number) c.handle.view_is)
     (subst (λ (l : List ℕ). IsShortFor (event.Read c.handle.inside.number c.args.offset (length l)) c.attempts.seat
     c.try_read.new.seat c.in-Err-try_read.denied) c.attempts.invariant.out c.in-Err-try_read.ensures.wanting))
+
+pub returns-in-Ok-Some-clause-settled : goal.returns-in-Ok-Some-clause-settled
+returns-in-Ok-Some-clause-settled g c =
+    subst (λ n. Settles n c.args.seat.now c.try_read.new.seat) (sym c.args.self.now.named)
+    (settles_on g.B.Naming.name c.args.seat.now c.attempts.seat c.try_read.new.seat c.attempts.invariant.settled
+    c.in-Ok-Some.ensures.settled)
+
+pub returns-in-Err-try_read-clause-settled : goal.returns-in-Err-try_read-clause-settled
+returns-in-Err-try_read-clause-settled g c =
+    subst (λ n. Settles n c.args.seat.now c.try_read.new.seat ⊎ LeavesOne n c.args.seat.now c.try_read.new.seat c.in-Err-try_read.denied)
+    (sym c.args.self.now.named)
+    (denied_on g.B.Naming.name c.args.seat.now c.attempts.seat c.try_read.new.seat c.in-Err-try_read.denied
+    c.attempts.invariant.settled c.in-Err-try_read.ensures.settled)
+
+pub returns-in-Ok-Some-clause-missed : goal.returns-in-Ok-Some-clause-missed
+returns-in-Ok-Some-clause-missed g c =
+    let h = c.args.handle.now.number in
+    missed_on (event.Read h c.args.offset (length c.args.out.now)) c.args.seat.now c.attempts.seat c.try_read.new.seat
+    c.attempts.invariant.missed
+    (subst (λ (n : HandleId). FillsMissed (event.Read n c.args.offset (length c.args.out.now)) c.attempts.seat c.try_read.new.seat)
+    (ap (λ (x : HandleSeen). x.number) c.handle.view_is)
+    (subst (λ (l : List ℕ). FillsMissed (event.Read c.handle.inside.number c.args.offset (length l)) c.attempts.seat
+    c.try_read.new.seat) c.attempts.invariant.out c.try_read.ensures.missed))
+
+pub returns-in-Err-try_read-clause-missed : goal.returns-in-Err-try_read-clause-missed
+returns-in-Err-try_read-clause-missed g c =
+    let h = c.args.handle.now.number in
+    missed_on (event.Read h c.args.offset (length c.args.out.now)) c.args.seat.now c.attempts.seat c.try_read.new.seat
+    c.attempts.invariant.missed
+    (subst (λ (n : HandleId). FillsMissed (event.Read n c.args.offset (length c.args.out.now)) c.attempts.seat c.try_read.new.seat)
+    (ap (λ (x : HandleSeen). x.number) c.handle.view_is)
+    (subst (λ (l : List ℕ). FillsMissed (event.Read c.handle.inside.number c.args.offset (length l)) c.attempts.seat
+    c.try_read.new.seat) c.attempts.invariant.out c.try_read.ensures.missed))

@@ -2,6 +2,7 @@ use Rattle.std.proofs.Common.{◌≡◌, length}
 use Rattle.machine.specs.declared.event.Event.TheVariants as event
 use Rattle.locked.specs.Called.{Goes, Only}
 use Rattle.shared.specs.Own.{IsTry}
+use Rattle.shared.specs.Settled.{FillsMissed, Settles}
 use Rattle.shared.proofs.cache.SharedCache.pread.Given as goal
 
 abbrev pub invariant-attempts : goal.invariant-attempts
@@ -10,5 +11,8 @@ invariant-attempts g l = record {
   tried :
       Only (IsTry l.fn.handle.number (event.Read l.fn.handle.number l.fn.offset (length l.initial.out)))
       l.initial.seat l.seat;
+  settled : Settles g.B.Naming.name l.initial.seat l.seat;
+  missed :
+      FillsMissed (event.Read l.fn.handle.number l.fn.offset (length l.initial.out)) l.initial.seat l.seat;
   out : l.out ≡ l.initial.out;
 }

@@ -13,6 +13,7 @@ use Rattle.shared.proofs.Owning.{change_plain, only_missed, only_settled, only_t
 use Rattle.shared.proofs.Rooming.{final_denied, lost_denied}
 use Rattle.shared.proofs.Sparing.{change_asked}
 use Rattle.shared.proofs.Wanting.{short_missed, short_settled}
+use Rattle.shared.proofs.Settling.{change_begins, change_fills, change_noted, denied_on, missed_by, missed_denied, missed_filled, missed_on, missed_room, settles_by, settles_denied, settles_on}
 use Rattle.shared.proofs.cache.SharedCache.try_change.Goals as goal
 
 pub returns-in-Err-settle-clause-denied : goal.returns-in-Err-settle-clause-denied
@@ -128,3 +129,82 @@ returns-in-Err-fill-clause-wanting g c =
     (subst (λ (x : WriteAnswer). Made (event_of c.args.change c.args.handle c.args.bytes.now) (reply_of c.args.change x)
     c.deref_mut.result.now c.change_by.new.state c.args.seat.now c.change_by.new.seat c.in-Ok.made.1) c.in-Miss.is
     c.in-Ok.ensures.made) c.fill.ensures.goes
+
+-- a change begins no request, and fills no page by itself
+pub returns-in-Wrote-clause-settled : goal.returns-in-Wrote-clause-settled
+returns-in-Wrote-clause-settled g c =
+    settles_by g.B.Naming.name _ _ _ _ _ _ _ (λ x b. change_begins x c.args.change c.args.handle c.args.bytes.now _ b)
+    c.in-Ok.ensures.made
+
+pub returns-in-Wait-clause-settled : goal.returns-in-Wait-clause-settled
+returns-in-Wait-clause-settled g c =
+    settles_by g.B.Naming.name _ _ _ _ _ _ _ (λ x b. change_begins x c.args.change c.args.handle c.args.bytes.now _ b)
+    c.in-Ok.ensures.made
+
+pub returns-in-Ok-fill-clause-settled : goal.returns-in-Ok-fill-clause-settled
+returns-in-Ok-fill-clause-settled g c =
+    settles_on g.B.Naming.name c.args.seat.now c.change_by.new.seat c.fill.new.seat
+    (settles_by g.B.Naming.name _ _ _ _ _ _ _ (λ x b. change_begins x c.args.change c.args.handle c.args.bytes.now _ b)
+    c.in-Ok.ensures.made) c.in-Ok-fill.ensures.settled
+
+pub returns-in-Err-fill-clause-settled : goal.returns-in-Err-fill-clause-settled
+returns-in-Err-fill-clause-settled g c =
+    denied_on g.B.Naming.name c.args.seat.now c.change_by.new.seat c.fill.new.seat c.in-Err-fill.denied
+    (settles_by g.B.Naming.name _ _ _ _ _ _ _ (λ x b. change_begins x c.args.change c.args.handle c.args.bytes.now _ b)
+    c.in-Ok.ensures.made) c.in-Err-fill.ensures.settled
+
+pub returns-in-Ok-settle-clause-settled : goal.returns-in-Ok-settle-clause-settled
+returns-in-Ok-settle-clause-settled g c =
+    settles_on g.B.Naming.name c.args.seat.now c.change_by.new.seat c.settle.new.seat
+    (settles_denied g.B.Naming.name (event_of c.args.change c.args.handle c.args.bytes.now) c.deref_mut.result.now
+    c.change_by.new.state c.args.seat.now c.change_by.new.seat c.in-Err.denied c.in-Err.ensures.denied) c.in-Ok-settle.ensures.settled
+
+pub returns-in-Err-settle-clause-settled : goal.returns-in-Err-settle-clause-settled
+returns-in-Err-settle-clause-settled g c =
+    denied_on g.B.Naming.name c.args.seat.now c.change_by.new.seat c.settle.new.seat c.in-Err-settle.denied
+    (settles_denied g.B.Naming.name (event_of c.args.change c.args.handle c.args.bytes.now) c.deref_mut.result.now
+    c.change_by.new.state c.args.seat.now c.change_by.new.seat c.in-Err.denied c.in-Err.ensures.denied) c.in-Err-settle.ensures.settled
+
+pub returns-in-Wrote-clause-missed : goal.returns-in-Wrote-clause-missed
+returns-in-Wrote-clause-missed g c =
+    let own = event_of c.args.change c.args.handle c.args.bytes.now in
+    missed_by own _ _ _ _ _ _ _ (λ p f. change_fills p c.args.change c.args.handle c.args.bytes.now _ f) c.in-Ok.ensures.made
+
+pub returns-in-Wait-clause-missed : goal.returns-in-Wait-clause-missed
+returns-in-Wait-clause-missed g c =
+    let own = event_of c.args.change c.args.handle c.args.bytes.now in
+    missed_by own _ _ _ _ _ _ _ (λ p f. change_fills p c.args.change c.args.handle c.args.bytes.now _ f) c.in-Ok.ensures.made
+
+pub returns-in-Ok-fill-clause-missed : goal.returns-in-Ok-fill-clause-missed
+returns-in-Ok-fill-clause-missed g c =
+    let own = event_of c.args.change c.args.handle c.args.bytes.now in
+    missed_filled own c.in-Miss.page c.deref_mut.result.now c.change_by.new.state c.args.seat.now c.change_by.new.seat
+    c.fill.new.seat c.in-Ok.made.1 (λ p r f. change_fills p c.args.change c.args.handle c.args.bytes.now r f)
+    (λ r. change_noted c.args.change c.args.handle c.args.bytes.now r)
+    (subst (λ (x : WriteAnswer). Made own (reply_of c.args.change x) c.deref_mut.result.now c.change_by.new.state
+    c.args.seat.now c.change_by.new.seat c.in-Ok.made.1) c.in-Miss.is c.in-Ok.ensures.made) c.fill.ensures.page
+
+pub returns-in-Err-fill-clause-missed : goal.returns-in-Err-fill-clause-missed
+returns-in-Err-fill-clause-missed g c =
+    let own = event_of c.args.change c.args.handle c.args.bytes.now in
+    missed_filled own c.in-Miss.page c.deref_mut.result.now c.change_by.new.state c.args.seat.now c.change_by.new.seat
+    c.fill.new.seat c.in-Ok.made.1 (λ p r f. change_fills p c.args.change c.args.handle c.args.bytes.now r f)
+    (λ r. change_noted c.args.change c.args.handle c.args.bytes.now r)
+    (subst (λ (x : WriteAnswer). Made own (reply_of c.args.change x) c.deref_mut.result.now c.change_by.new.state
+    c.args.seat.now c.change_by.new.seat c.in-Ok.made.1) c.in-Miss.is c.in-Ok.ensures.made) c.fill.ensures.page
+
+pub returns-in-Ok-settle-clause-missed : goal.returns-in-Ok-settle-clause-missed
+returns-in-Ok-settle-clause-missed g c =
+    let own = event_of c.args.change c.args.handle c.args.bytes.now in
+    missed_on own c.args.seat.now c.change_by.new.seat c.settle.new.seat
+    (missed_denied own own c.deref_mut.result.now c.change_by.new.state c.args.seat.now c.change_by.new.seat c.in-Err.denied
+    (λ p r f. change_fills p c.args.change c.args.handle c.args.bytes.now r f) c.in-Err.ensures.denied)
+    (missed_room own c.change_by.new.seat c.settle.new.seat c.settle.ensures.only)
+
+pub returns-in-Err-settle-clause-missed : goal.returns-in-Err-settle-clause-missed
+returns-in-Err-settle-clause-missed g c =
+    let own = event_of c.args.change c.args.handle c.args.bytes.now in
+    missed_on own c.args.seat.now c.change_by.new.seat c.settle.new.seat
+    (missed_denied own own c.deref_mut.result.now c.change_by.new.state c.args.seat.now c.change_by.new.seat c.in-Err.denied
+    (λ p r f. change_fills p c.args.change c.args.handle c.args.bytes.now r f) c.in-Err.ensures.denied)
+    (missed_room own c.change_by.new.seat c.settle.new.seat c.settle.ensures.only)

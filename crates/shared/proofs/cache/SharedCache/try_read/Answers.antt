@@ -1,4 +1,4 @@
-use Rattle.std.proofs.Common.{◌≤◌, ◌∙◌, arith, length, refl, subst, sym}
+use Rattle.std.proofs.Common.{◌≤◌, ◌∙◌, arith, inl, length, refl, subst, sym}
 use Rattle.std.specs.Prelude.{Ok}
 use Rattle.cachecore.specs.Replies.{bytes_read, was_read}
 use Rattle.cachecore.specs.declared.answers.ReadAnswer.{ReadAnswer}
@@ -15,6 +15,7 @@ use Rattle.shared.proofs.Owning.{only_missed, only_try, only_try_denied}
 use Rattle.shared.proofs.Sizes.{read_counted}
 use Rattle.shared.proofs.Rooming.{lost_unwanted, read_unwanted}
 use Rattle.shared.proofs.Wanting.{short_denied, short_missed}
+use Rattle.shared.proofs.Settling.{denied_on, missed_by, missed_denied, missed_filled, settles_by, settles_denied, settles_on}
 use Rattle.shared.proofs.cache.SharedCache.try_read.Goals as goal
 
 pub returns-in-Bytes-clause-answer : goal.returns-in-Bytes-clause-answer
@@ -108,3 +109,55 @@ returns-in-Err-fill-clause-wanting g c =
     (subst (λ (x : ReadAnswer). Made (event.Read c.args.handle c.args.offset (length c.args.out.now))
     (was_read (Ok x) c.read.new.out) c.deref_mut.result.now c.read.new.self c.args.seat.now c.read.new.seat
     c.in-Ok.made.1) c.in-Miss.is c.in-Ok.ensures.made) c.fill.ensures.goes
+
+-- a read begins no request, and fills no page by itself
+pub returns-in-Err-clause-settled : goal.returns-in-Err-clause-settled
+returns-in-Err-clause-settled g c =
+    inl (settles_denied g.B.Naming.name (event.Read c.args.handle c.args.offset (length c.args.out.now)) c.deref_mut.result.now
+    c.read.new.self c.args.seat.now c.read.new.seat c.in-Err.denied c.in-Err.ensures.denied)
+
+pub returns-in-Bytes-clause-settled : goal.returns-in-Bytes-clause-settled
+returns-in-Bytes-clause-settled g c =
+    settles_by g.B.Naming.name _ _ _ _ _ _ _ (λ x b. b) c.in-Ok.ensures.made
+
+pub returns-in-Wait-clause-settled : goal.returns-in-Wait-clause-settled
+returns-in-Wait-clause-settled g c =
+    settles_by g.B.Naming.name _ _ _ _ _ _ _ (λ x b. b) c.in-Ok.ensures.made
+
+pub returns-in-Ok-fill-clause-settled : goal.returns-in-Ok-fill-clause-settled
+returns-in-Ok-fill-clause-settled g c =
+    settles_on g.B.Naming.name c.args.seat.now c.read.new.seat c.fill.new.seat
+    (settles_by g.B.Naming.name _ _ _ _ _ _ _ (λ x b. b) c.in-Ok.ensures.made) c.in-Ok-fill.ensures.settled
+
+pub returns-in-Err-fill-clause-settled : goal.returns-in-Err-fill-clause-settled
+returns-in-Err-fill-clause-settled g c =
+    denied_on g.B.Naming.name c.args.seat.now c.read.new.seat c.fill.new.seat c.in-Err-fill.denied
+    (settles_by g.B.Naming.name _ _ _ _ _ _ _ (λ x b. b) c.in-Ok.ensures.made) c.in-Err-fill.ensures.settled
+
+pub returns-in-Err-clause-missed : goal.returns-in-Err-clause-missed
+returns-in-Err-clause-missed g c =
+    let own = event.Read c.args.handle c.args.offset (length c.args.out.now) in
+    missed_denied own own c.deref_mut.result.now c.read.new.self c.args.seat.now c.read.new.seat c.in-Err.denied
+    (λ p r f. f) c.in-Err.ensures.denied
+
+pub returns-in-Bytes-clause-missed : goal.returns-in-Bytes-clause-missed
+returns-in-Bytes-clause-missed g c = missed_by _ _ _ _ _ _ _ _ (λ p f. f) c.in-Ok.ensures.made
+
+pub returns-in-Wait-clause-missed : goal.returns-in-Wait-clause-missed
+returns-in-Wait-clause-missed g c = missed_by _ _ _ _ _ _ _ _ (λ p f. f) c.in-Ok.ensures.made
+
+pub returns-in-Ok-fill-clause-missed : goal.returns-in-Ok-fill-clause-missed
+returns-in-Ok-fill-clause-missed g c =
+    let own = event.Read c.args.handle c.args.offset (length c.args.out.now) in
+    missed_filled own c.in-Miss.page c.deref_mut.result.now c.read.new.self c.args.seat.now c.read.new.seat c.fill.new.seat
+    c.in-Ok.made.1 (λ q r f. f) (λ r. refl)
+    (subst (λ (x : ReadAnswer). Made own (was_read (Ok x) c.read.new.out) c.deref_mut.result.now c.read.new.self c.args.seat.now
+    c.read.new.seat c.in-Ok.made.1) c.in-Miss.is c.in-Ok.ensures.made) c.fill.ensures.page
+
+pub returns-in-Err-fill-clause-missed : goal.returns-in-Err-fill-clause-missed
+returns-in-Err-fill-clause-missed g c =
+    let own = event.Read c.args.handle c.args.offset (length c.args.out.now) in
+    missed_filled own c.in-Miss.page c.deref_mut.result.now c.read.new.self c.args.seat.now c.read.new.seat c.fill.new.seat
+    c.in-Ok.made.1 (λ q r f. f) (λ r. refl)
+    (subst (λ (x : ReadAnswer). Made own (was_read (Ok x) c.read.new.out) c.deref_mut.result.now c.read.new.self c.args.seat.now
+    c.read.new.seat c.in-Ok.made.1) c.in-Miss.is c.in-Ok.ensures.made) c.fill.ensures.page

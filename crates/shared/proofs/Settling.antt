@@ -1,0 +1,556 @@
+-- What calls leave behind them: requests with their ends, and fills with the entries that asked for them.
+use Rattle.std.proofs.Common.{◌≡◌, ◌<◌, ◌+◌, ◌∙◌, ℕ, Bool, true, false, List, zero, suc, [], ◌∷◌, ◌++◌, refl, ap, subst, sym, arith, append_assoc, inl, inr}
+use Rattle.std.specs.Prelude.{◌⊎◌, ◌==◌, All, Any, if◌then◌else◌, Ok, Err, Option, Some, None, Result}
+use Rattle.std.proofs.lemmas.Bool.{eqb-true}
+use Rattle.std.proofs.lemmas.List.{append-nil}
+use Rattle.std.specs.FinMap as map
+use Rattle.std.specs.Ordering.{nat_cmp}
+use Rattle.blockdev.specs.Jobs.{FinishedTask, Task}
+use Rattle.cachecore.specs.Replies.{IsFillJob, IsFlushJob, end_of, fill_begun}
+use Rattle.cachecore.specs.declared.answers.FillBegun.{FillBegun}
+use Rattle.cachecore.specs.declared.answers.FillBegun.TheVariants as fill
+use Rattle.cachecore.specs.declared.answers.FlushBegun.TheVariants as flush
+use Rattle.maps.proofs.Maps.{get_inserted}
+use Rattle.machine.proofs.steps.Answered.{answers}
+use Rattle.machine.proofs.steps.Cases.{answered}
+use Rattle.machine.specs.State.{Request, State}
+use Rattle.machine.specs.Tests.{tests}
+use Rattle.machine.specs.declared.event.End.{End}
+use Rattle.machine.specs.declared.event.Event.{Event}
+use Rattle.machine.specs.declared.event.Event.TheVariants as event
+use Rattle.machine.specs.declared.event.Reply.{Reply}
+use Rattle.machine.specs.declared.event.Reply.TheVariants as reply
+use Rattle.pc_types.specs.declared.ids.HandleId.{HandleId}
+use Rattle.pc_types.specs.declared.ids.FileId.{FileId}
+use Rattle.pc_types.specs.declared.ids.PageIndex.{PageIndex}
+use Rattle.pc_types.specs.declared.ids.Serial.{Serial}
+use Rattle.pc_types.specs.declared.kind.Kind.{Kind}
+use Rattle.pc_types.specs.declared.kind.Kind.TheVariants.{Fill, Flush}
+use Rattle.pc_types.specs.declared.refusal.Refusal.{Refusal}
+use Rattle.pc_types.specs.declared.refusal.Refusal.TheVariants.{TrailFull}
+use Rattle.trail.specs.declared.entry.Entry.{Entry}
+use Rattle.trail.specs.Entries.{end_with, entry_of, noted}
+use Rattle.held.specs.declared.log.Slip.{Slip}
+use Rattle.held.specs.Entered.{Made}
+use Rattle.held.specs.Shown.{HeldSeen, SeatSeen}
+use Rattle.held.specs.Views.{count_of}
+use Rattle.locked.specs.Called.{Only}
+use Rattle.locked.specs.Denials as under
+use Rattle.locked.specs.Firsts.{IsFirstDenied, Writes}
+use Rattle.locked.specs.declared.denied.Denied.{Denied}
+use Rattle.locked.proofs.Seats.{only_by, only_on, only_same, only_wider}
+use Rattle.shared.specs.Changes.{event_of}
+use Rattle.shared.specs.declared.writes.Change.{Change}
+use Rattle.shared.specs.declared.writes.Change.TheVariants.{Append, Truncate, Write}
+use Rattle.shared.specs.Own.{IsEviction, IsRoomEvent}
+use Rattle.shared.specs.Settled.{IsBegun, IsEnded, EndsIn, EndsOne, Fills, FillsMissed, FillsNoOther, LeavesOne, Pairs, Settles, SettlesIn}
+
+-- ---- some element of two lists
+
+any_head : {X : Type 0} (P : X → Type 0) (x : X) (xs : List X) → P x → Any P (x ∷ xs)
+any_head P x xs p = (0, x, omega arith, refl, p)
+
+any_cons : {X : Type 0} (P : X → Type 0) (x : X) (xs : List X) → Any P xs → Any P (x ∷ xs)
+any_cons P x xs a = (suc a.0, a.1, omega (arith, a.2), a.3, a.4)
+
+any_left : {X : Type 0} (P : X → Type 0) (xs ys : List X) → Any P xs → Any P (xs ++ ys)
+any_left P [] ys a = absurd (omega (arith, a.2))
+any_left P (x ∷ xs) ys (zero, d, less, is, p) = (0, d, omega arith, is, p)
+any_left P (x ∷ xs) ys (suc k, d, less, is, p) = any_cons P x (xs ++ ys) (any_left P xs ys (k, d, omega arith, is, p))
+
+any_right : {X : Type 0} (P : X → Type 0) (xs ys : List X) → Any P ys → Any P (xs ++ ys)
+any_right P [] ys a = a
+any_right P (x ∷ xs) ys a = any_cons P x (xs ++ ys) (any_right P xs ys a)
+
+any_split : {X : Type 0} (P : X → Type 0) (xs ys : List X) → Any P (xs ++ ys) → Any P xs ⊎ Any P ys
+any_split P [] ys a = inr a
+any_split P (x ∷ xs) ys (zero, d, less, is, p) = inl (0, d, omega arith, is, p)
+any_split P (x ∷ xs) ys (suc k, d, less, is, p) =
+    elim (any_split P xs ys (k, d, omega arith, is, p)) [
+      | inl a ↦ inl (any_cons P x xs a)
+      | inr a ↦ inr a
+    ]
+
+any_with_all : {X : Type 0} (P Q R : X → Type 0) (xs : List X) → ((x : X) → P x → Q x → R x) → All P xs → Any Q xs → Any R xs
+any_with_all P Q R xs f all a = (a.0, a.1, a.2, a.3, f a.1 (rw a.3 at (all a.0 a.1 a.2)) a.4)
+
+-- a seat that counts some has one
+any_counted : (number : ℕ) (xs : List Entry) → 0 < count_of number xs → Any (λ e. e.seat ≡ number) xs
+any_counted number [] some = absurd (omega (arith, some))
+any_counted number (x ∷ xs) some = go (x.seat == number) refl (any_counted number xs)
+  where
+    go : (b : Bool) → x.seat == number ≡ b → (0 < count_of number xs → Any (λ e. e.seat ≡ number) xs)
+        → Any (λ e. e.seat ≡ number) (x ∷ xs)
+    go true is more = any_head (λ e. e.seat ≡ number) x xs (eqb-true x.seat number is)
+    go false is more =
+        any_cons (λ e. e.seat ≡ number) x xs
+        (more (let n : ℕ = if x.seat == number then 1 else 0 in
+        let none : n ≡ 0 = ap (λ b. if b then 1 else 0) is in
+        omega (arith, some, none)))
+
+-- ---- pairs
+
+module _ {A : Type 0} (first second : A → Entry → Type 0) where
+  pub pairs_same : (a b : SeatSeen) → b ≡ a → Pairs first second a b
+  pairs_same a b e = subst (Pairs first second a) (sym e) (record {
+    same = refl;
+    since = [];
+    saw = sym (append-nil a.list);
+    each = λ x some. absurd (omega (arith, some.2));
+  })
+
+  -- of these entries none is of the first kind
+  pub pairs_none : (own : Entry → Type 0) (a b : SeatSeen) → ((x : A) (e : Entry) → own e → first x e → ⊥) → Only own a b
+      → Pairs first second a b
+  pairs_none own a b never p = record {
+    same = p.same;
+    since = p.since;
+    saw = p.saw;
+    each = λ x some. absurd
+        (any_with_all (λ e. e.seat ≡ a.number → own e) (λ e. (e.seat ≡ a.number) × first x e) (λ _. ⊥) p.since
+        (λ e is q. never x e (is q.0) q.1) p.made some).4;
+  }
+
+  -- all that the seat makes is of the first kind at one x, and what comes then has one of the second
+  pub pairs_on : (a b c : SeatSeen) → Pairs first second a b → Pairs first second b c → Pairs first second a c
+  pairs_on a b c p q = record {
+    same = q.same ∙ p.same;
+    since = p.since ++ q.since;
+    saw = q.saw ∙ ap (λ l. l ++ q.since) p.saw ∙ append_assoc a.list p.since q.since;
+    each = λ x some.
+        let P : Entry → Type 0 = λ e. (e.seat ≡ a.number) × first x e in
+        let Q : Entry → Type 0 = λ e. (e.seat ≡ a.number) × second x e in
+        elim (any_split P p.since q.since some) [
+          | inl there ↦ any_left Q p.since q.since (p.each x there)
+          | inr there ↦ any_right Q p.since q.since
+              (subst (λ n. Any (λ e. (e.seat ≡ n) × first x e) q.since → Any (λ e. (e.seat ≡ n) × second x e) q.since)
+              p.same (q.each x) there)
+        ];
+  }
+
+  -- entries of the first kind, and one after them of the second for each
+  pub pairs_ended : (own last : Entry → Type 0) (a b c : SeatSeen)
+      → ((x : A) (e l : Entry) → own e → first x e → last l → second x l)
+      → ((x : A) (l : Entry) → last l → first x l → ⊥)
+      → Only own a b → Only last b c → c.count ≡ b.count + 1 → Pairs first second a c
+  pairs_ended own last a b c ends never p q one =
+      let renamed : count_of b.number q.since ≡ count_of a.number q.since = ap (λ n. count_of n q.since) p.same in
+      let lasts : All (λ e. e.seat ≡ a.number → last e) q.since =
+      subst (λ n. All (λ (e : Entry). e.seat ≡ n → last e) q.since) p.same q.made in
+      record {
+        same = q.same ∙ p.same;
+        since = p.since ++ q.since;
+        saw = q.saw ∙ ap (λ l. l ++ q.since) p.saw ∙ append_assoc a.list p.since q.since;
+        each = λ x some.
+            let P : Entry → Type 0 = λ e. (e.seat ≡ a.number) × first x e in
+            let Q : Entry → Type 0 = λ e. (e.seat ≡ a.number) × second x e in
+            elim (any_split P p.since q.since some) [
+              | inl there ↦ any_right Q p.since q.since
+                  (any_with_all (λ e. e.seat ≡ a.number → last e) (λ e. e.seat ≡ a.number) Q q.since
+                  (λ l is own_one. (own_one,
+                  (any_with_all (λ e. e.seat ≡ a.number → own e) P (λ _. second x l) p.since
+                  (λ e is_own is_first. ends x e l (is_own is_first.0) is_first.1 (is own_one)) p.made there).4)) lasts
+                  (any_counted a.number q.since (omega (arith, q.count, one, renamed))))
+              | inr there ↦ absurd
+                  (any_with_all (λ e. e.seat ≡ a.number → last e) P (λ _. ⊥) q.since
+                  (λ l is is_first. never x l (is is_first.0) is_first.1) lasts there).4
+            ];
+      }
+
+  -- one entry of the second kind, and entries after it of the first at that x
+  pub pairs_asked : (own last : Entry → Type 0) (a b c : SeatSeen)
+      → ((x : A) (e l : Entry) → own e → last l → first x l → second x e)
+      → ((x : A) (e : Entry) → own e → first x e → ⊥)
+      → Only own a b → b.count ≡ a.count + 1 → Only last b c → Pairs first second a c
+  pairs_asked own last a b c asks never p one q =
+      let lasts : All (λ e. e.seat ≡ a.number → last e) q.since =
+      subst (λ n. All (λ (e : Entry). e.seat ≡ n → last e) q.since) p.same q.made in
+      record {
+        same = q.same ∙ p.same;
+        since = p.since ++ q.since;
+        saw = q.saw ∙ ap (λ l. l ++ q.since) p.saw ∙ append_assoc a.list p.since q.since;
+        each = λ x some.
+            let P : Entry → Type 0 = λ e. (e.seat ≡ a.number) × first x e in
+            let Q : Entry → Type 0 = λ e. (e.seat ≡ a.number) × second x e in
+            elim (any_split P p.since q.since some) [
+              | inl there ↦ absurd
+                  (any_with_all (λ e. e.seat ≡ a.number → own e) P (λ _. ⊥) p.since
+                  (λ e is is_first. never x e (is is_first.0) is_first.1) p.made there).4
+              | inr there ↦ any_left Q p.since q.since
+                  (any_with_all (λ e. e.seat ≡ a.number → own e) (λ e. e.seat ≡ a.number) Q p.since
+                  (λ e is own_one. (own_one,
+                  (any_with_all (λ l. l.seat ≡ a.number → last l) P (λ _. second x e) q.since
+                  (λ l is_last is_first. asks x e l (is own_one) (is_last is_first.0) is_first.1) lasts there).4)) p.made
+                  (any_counted a.number p.since (omega (arith, p.count, one))))
+            ];
+      }
+
+-- ---- requests
+
+-- what is refused begins nothing
+refused_begins : (x : Kind × ℕ) (e : Event) (why : Refusal) → IsBegun x (noted e (reply.Refused why)) (reply.Refused why) → ⊥
+refused_begins x (event.FillBegin h p) why b = b
+refused_begins x (event.FlushBegin f) why b = b
+refused_begins x (event.SyncStep m) why b = b
+refused_begins x e why b = b
+
+end_begins : (x : Kind × ℕ) (name : ℕ) (y : Kind × ℕ) (e : Event) (r : Reply) → IsEnded name y e → IsBegun x e r → ⊥
+end_begins x name y (event.End kind end) r is b = b
+end_begins x name y e r is b = absurd is
+
+eviction_begins : (x : Kind × ℕ) (e : Event) (r : Reply) → IsEviction e → IsBegun x e r → ⊥
+eviction_begins x event.Evict r is b = b
+eviction_begins x event.Age r is b = b
+eviction_begins x e r is b = absurd is
+
+pub settles_same : (name : ℕ) (a b : SeatSeen) → b ≡ a → Settles name a b
+settles_same name a b e = pairs_same (λ x e. IsBegun x e.event e.reply) (λ x e. IsEnded name x e.event) a b e
+
+pub settles_on : (name : ℕ) (a b c : SeatSeen) → Settles name a b → Settles name b c → Settles name a c
+settles_on name a b c p q = pairs_on (λ x e. IsBegun x e.event e.reply) (λ x e. IsEnded name x e.event) a b c p q
+
+-- one event that begins nothing
+pub settles_by : (name : ℕ) (e : Event) (r : Reply) (old new : HeldSeen) (a b : SeatSeen) (slip : Slip)
+    → ((x : Kind × ℕ) → IsBegun x (noted e r) r → ⊥) → Made e r old new a b slip → Settles name a b
+settles_by name e r old new a b slip never m =
+    pairs_none (λ x e. IsBegun x e.event e.reply) (λ x e. IsEnded name x e.event) (λ l. l ≡ entry_of a.number e r) a b
+    (λ x l is b. never x (subst (λ (y : Entry). IsBegun x y.event y.reply) is b))
+    (only_by (λ l. l ≡ entry_of a.number e r) e r old new a b slip refl m)
+
+pub settles_denied : (name : ℕ) (e : Event) (old new : HeldSeen) (a b : SeatSeen) (d : Denied)
+    → under.IsDenied e old new a b d → Settles name a b
+settles_denied name e old new a b d q = go d.refusal d.slip q
+  where
+    go : (r : Refusal) (o : Option Slip) → under.DeniedBy e old new a b r o → Settles name a b
+    go r None q = settles_same name a b q.2.1
+    go r (Some slip) q = settles_by name e (reply.Refused r) old new a b slip (λ x b. refused_begins x e r b) q
+
+pub settles_first_denied : (name : ℕ) (old new : HeldSeen) (a b : SeatSeen) (d : Denied) → IsFirstDenied old new a b d
+    → Settles name a b
+settles_first_denied name old new a b d q = settles_denied name (event.FlushBegin q.file) old new a b d q.denied
+
+pub settles_evicted : (name : ℕ) (a b : SeatSeen) → Only (λ e. IsEviction e.event) a b → Settles name a b
+settles_evicted name a b p =
+    pairs_none (λ x e. IsBegun x e.event e.reply) (λ x e. IsEnded name x e.event) (λ e. IsEviction e.event) a b
+    (λ x e is b. eviction_begins x e.event e.reply is b) p
+
+-- a call after what is settled
+left_on : (name : ℕ) (a b c : SeatSeen) (d : Denied) → Settles name a b → LeavesOne name b c d → LeavesOne name a c d
+left_on name a b c d p q = record {
+  full = q.full;
+  at = q.at;
+  settled = settles_on name a b q.at p q.settled;
+  left = q.left;
+  begun = q.begun;
+  one = q.one;
+}
+
+pub denied_on : (name : ℕ) (a b c : SeatSeen) (d : Denied) → Settles name a b
+    → Settles name b c ⊎ LeavesOne name b c d → Settles name a c ⊎ LeavesOne name a c d
+denied_on name a b c d p (inl q) = inl (settles_on name a b c p q)
+denied_on name a b c d p (inr q) = inr (left_on name a b c d p q)
+
+pub settled_on : {R : Type 0} (name : ℕ) (a b c : SeatSeen) (result : Result R Denied) → Settles name a b
+    → SettlesIn name b c result → SettlesIn name a c result
+settled_on name a b c (Ok x) p q = settles_on name a b c p q
+settled_on name a b c (Err d) p q = denied_on name a b c d p q
+
+-- ---- the end of one
+
+-- an end loses its bytes at most
+noted_ends : (name : ℕ) (x : Kind × ℕ) (kind : Kind) (end : End) (r : Reply) → IsEnded name x (event.End kind end)
+    → IsEnded name x (noted (event.End kind end) r)
+noted_ends name x kind end (reply.Refused why) is = is
+noted_ends name x kind end r is = is
+
+pub ends_by : (name : ℕ) (x : Kind × ℕ) (kind : Kind) (end : End) (r : Reply) (old new : HeldSeen) (a b : SeatSeen) (slip : Slip)
+    → IsEnded name x (event.End kind end) → Made (event.End kind end) r old new a b slip → EndsOne name x a b
+ends_by name x kind end r old new a b slip is m = (
+  only_by (λ e. IsEnded name x e.event) (event.End kind end) r old new a b slip (noted_ends name x kind end r is) m,
+  m.entered.count,
+)
+
+pub ends_denied : (name : ℕ) (x : Kind × ℕ) (kind : Kind) (end : End) (old new : HeldSeen) (a b : SeatSeen) (d : Denied)
+    → IsEnded name x (event.End kind end) → under.IsDenied (event.End kind end) old new a b d
+    → EndsOne name x a b ⊎ ((d ≡ record { refusal = TrailFull; slip = None }) × (b ≡ a))
+ends_denied name x kind end old new a b d is q = go d.refusal d.slip refl q
+  where
+    go : (r : Refusal) (o : Option Slip) → d ≡ record { refusal = r; slip = o }
+        → under.DeniedBy (event.End kind end) old new a b r o
+        → EndsOne name x a b ⊎ ((d ≡ record { refusal = TrailFull; slip = None }) × (b ≡ a))
+    go r None same q = inr (same ∙ ap (λ (why : Refusal). record { refusal = why; slip = None }) q.0, q.2.1)
+    go r (Some slip) same q = inl (ends_by name x kind end (reply.Refused r) old new a b slip is q)
+
+-- what came of a job ends its request
+pub done_ends : (name : ℕ) (kind : Kind) (job : Task) (done : FinishedTask) → job.kind ≡ kind → job.cache ≡ name
+    → (done.serial ≡ job.serial) × (done.kind ≡ job.kind) × (done.cache ≡ job.cache)
+    → IsEnded name (kind, job.serial) (event.End kind (end_of done))
+done_ends name kind job done is here same = (refl, same.1 ∙ is, same.0, same.2 ∙ here)
+
+-- ---- a request from its begin to its end
+
+both : (x y : Kind × ℕ) → x.0 ≡ y.0 → x.1 ≡ y.1 → x ≡ y
+both x y p q =
+    subst (λ (k : Kind). x ≡ (k, y.1)) p (subst (λ n. x ≡ (x.0, n)) q refl)
+
+begun_is : (e : Event) (r : Reply) (x y : Kind × ℕ) → IsBegun x e r → IsBegun y e r → x ≡ y
+begun_is (event.FillBegin h p) (reply.Job t) x y b c = both x y (b.0 ∙ sym c.0) (sym b.1 ∙ c.1)
+begun_is (event.FlushBegin f) (reply.Job t) x y b c = both x y (b.0 ∙ sym c.0) (sym b.1 ∙ c.1)
+begun_is (event.SyncStep m) (reply.Job t) x y b c = both x y (b.0 ∙ sym c.0) (sym b.1 ∙ c.1)
+begun_is e r x y b c = absurd b
+
+pub settles_begun : (name : ℕ) (x : Kind × ℕ) (e : Event) (r : Reply) (old new : HeldSeen) (a b c : SeatSeen) (slip : Slip)
+    → IsBegun x (noted e r) r → Made e r old new a b slip → EndsOne name x b c → Settles name a c
+settles_begun name x e r old new a b c slip is m q =
+    pairs_ended (λ y l. IsBegun y l.event l.reply) (λ y l. IsEnded name y l.event) (λ l. l ≡ entry_of a.number e r)
+    (λ l. IsEnded name x l.event) a b c
+    (λ y l k own begins ends. subst (λ (z : Kind × ℕ). IsEnded name z k.event)
+    (begun_is (noted e r) r x y is (subst (λ (z : Entry). IsBegun y z.event z.reply) own begins)) ends)
+    (λ y l ends begins. end_begins y name x l.event l.reply ends begins)
+    (only_by (λ l. l ≡ entry_of a.number e r) e r old new a b slip refl m) q.0 q.1
+
+-- its end was refused, and it alone is left
+begun_left : (name : ℕ) (x : Kind × ℕ) (e : Event) (r : Reply) (old new : HeldSeen) (a b : SeatSeen) (slip : Slip) (d : Denied)
+    → IsBegun x (noted e r) r → Made e r old new a b slip → d ≡ record { refusal = TrailFull; slip = None } → LeavesOne name a b d
+begun_left name x e r old new a b slip d is m full = record {
+  full = full;
+  at = a;
+  settled = settles_same name a a refl;
+  left = x;
+  begun = only_by (λ l. IsBegun x l.event l.reply) e r old new a b slip is m;
+  one = m.entered.count;
+}
+
+pub begun_denied : (name : ℕ) (x : Kind × ℕ) (e : Event) (r : Reply) (old new : HeldSeen) (a b c : SeatSeen) (slip : Slip)
+    (d : Denied) → IsBegun x (noted e r) r → Made e r old new a b slip
+    → EndsOne name x b c ⊎ ((d ≡ record { refusal = TrailFull; slip = None }) × (c ≡ b))
+    → Settles name a c ⊎ LeavesOne name a c d
+begun_denied name x e r old new a b c slip d is m (inl q) = inl (settles_begun name x e r old new a b c slip is m q)
+begun_denied name x e r old new a b c slip d is m (inr q) =
+    inr (subst (λ (s : SeatSeen). LeavesOne name a s d) (sym q.1) (begun_left name x e r old new a b slip d is m q.0))
+
+pub begun_settles : {R : Type 0} (name : ℕ) (x : Kind × ℕ) (e : Event) (r : Reply) (old new : HeldSeen) (a b c : SeatSeen)
+    (slip : Slip) (result : Result R Denied) → IsBegun x (noted e r) r → Made e r old new a b slip → EndsIn name x b c result
+    → SettlesIn name a c result
+begun_settles name x e r old new a b c slip (Ok y) is m q = settles_begun name x e r old new a b c slip is m q
+begun_settles name x e r old new a b c slip (Err d) is m q = begun_denied name x e r old new a b c slip d is m q
+
+-- ---- the kind of a job
+
+never_job : (s : State) (e : Event) (t : Serial) → tests s e ≡ Some (reply.Job t) → ⊥
+never_job s e t is =
+    elim (answers s e (reply.Job t) is) [
+      | inl quiet ↦ absurd (let x : false ≡ true = quiet in cc)
+      | inr none ↦ absurd (let x : reply.Job t ≡ reply.Wrote 0 none.1 = none.3 in cc)
+    ]
+
+inserted_kind : (m : map.FinMap nat_cmp Request) (next : ℕ) (x : Request) (t : ℕ) (y : Request) → t ≡ next
+    → map.get (map.insert m next x) t ≡ Some y → y.kind ≡ x.kind
+inserted_kind m next x t y same is =
+    elim (get_inserted m next x t) [
+      | inl a ↦ let e : y ≡ x = cc (a.1, is) in ap (λ (r : Request). r.kind) e
+      | inr a ↦ absurd (a.0 same)
+    ]
+
+-- a job that begins a fill is one
+pub fill_kind : (h : HandleId) (p : PageIndex) (job : Task) (old new : HeldSeen) (a b : SeatSeen) (slip : Slip)
+    → Made (event.FillBegin h p) (reply.Job (record { 0 = job.serial })) old new a b slip
+    → IsFillJob new.core.state (Ok (fill.Job job)) → job.kind ≡ Fill
+fill_kind h p job old new a b slip m is =
+    let s : State = old.core.state in
+    elim (answered (tests s (event.FillBegin h p)) s (event.FillBegin h p) (reply.Job (record { 0 = job.serial }))
+    new.core.state m.step) [
+      | inl k ↦ absurd (never_job s (event.FillBegin h p) (record { 0 = job.serial }) k.0)
+      | inr k ↦ ap (λ (t : Task). t.kind) is.2
+          ∙ inserted_kind s.requests s.next _ job.serial is.0 k.1.1
+          (subst (λ (n : State). map.get n.requests job.serial ≡ Some is.0) k.2 is.1)
+    ]
+
+flush_kind : (f : FileId) (job : Task) (old new : HeldSeen) (a b : SeatSeen) (slip : Slip)
+    → Made (event.FlushBegin f) (reply.Job (record { 0 = job.serial })) old new a b slip
+    → IsFlushJob new.core.state (Ok (flush.Job job)) → job.kind ≡ Flush
+flush_kind f job old new a b slip m is =
+    let s : State = old.core.state in
+    elim (answered (tests s (event.FlushBegin f)) s (event.FlushBegin f) (reply.Job (record { 0 = job.serial }))
+    new.core.state m.step) [
+      | inl k ↦ absurd (never_job s (event.FlushBegin f) (record { 0 = job.serial }) k.0)
+      | inr k ↦ ap (λ (t : Task). t.kind) is.2
+          ∙ inserted_kind s.requests s.next _ job.serial is.0 k.1
+          (subst (λ (n : State). map.get n.requests job.serial ≡ Some is.0) k.2 is.1)
+    ]
+
+-- a job that begins a write is one
+pub first_kind : (job : Task) (slip : Slip) (old new : HeldSeen) (a b : SeatSeen) → Writes job slip old new a b
+    → IsFlushJob new.core.state (Ok (flush.Job job)) → job.kind ≡ Flush
+first_kind job slip old new a b w is = flush_kind w.file job old new a b slip w.made is
+
+-- ---- whole calls
+
+-- nothing was made
+pub settled_same : {R : Type 0} (name : ℕ) (a b : SeatSeen) (result : Result R Denied) → b ≡ a → SettlesIn name a b result
+settled_same name a b (Ok x) e = settles_same name a b e
+settled_same name a b (Err d) e = inl (settles_same name a b e)
+
+-- a write was begun and ended
+pub first_settles : (name : ℕ) (job : Task) (slip : Slip) (old new : HeldSeen) (a b c : SeatSeen)
+    → Writes job slip old new a b → IsFlushJob new.core.state (Ok (flush.Job job))
+    → (job.kind ≡ Flush → EndsOne name (Flush, job.serial) b c) → Settles name a c
+first_settles name job slip old new a b c w is ends =
+    settles_begun name (Flush, job.serial) (event.FlushBegin w.file) (reply.Job (record { 0 = job.serial })) old new a b c slip
+    (refl, refl) w.made (ends (first_kind job slip old new a b w is))
+
+pub first_denied : (name : ℕ) (job : Task) (slip : Slip) (old new : HeldSeen) (a b c : SeatSeen) (d : Denied)
+    → Writes job slip old new a b → IsFlushJob new.core.state (Ok (flush.Job job))
+    → (job.kind ≡ Flush → EndsOne name (Flush, job.serial) b c ⊎ ((d ≡ record { refusal = TrailFull; slip = None }) × (c ≡ b)))
+    → Settles name a c ⊎ LeavesOne name a c d
+first_denied name job slip old new a b c d w is ends =
+    begun_denied name (Flush, job.serial) (event.FlushBegin w.file) (reply.Job (record { 0 = job.serial })) old new a b c slip d
+    (refl, refl) w.made (ends (first_kind job slip old new a b w is))
+
+-- a fill was begun and ended
+pub fill_settles : {R : Type 0} (name : ℕ) (h : HandleId) (p : PageIndex) (begun : FillBegun) (job : Task) (old new : HeldSeen)
+    (a b c : SeatSeen) (slip : Slip) (result : Result R Denied) → begun ≡ fill.Job job
+    → Made (event.FillBegin h p) (fill_begun (Ok begun)) old new a b slip → IsFillJob new.core.state (Ok begun)
+    → (job.kind ≡ Fill → EndsIn name (Fill, job.serial) b c result) → SettlesIn name a c result
+fill_settles name h p begun job old new a b c slip result same m is ends =
+    let made : Made (event.FillBegin h p) (reply.Job (record { 0 = job.serial })) old new a b slip =
+    subst (λ (x : FillBegun). Made (event.FillBegin h p) (fill_begun (Ok x)) old new a b slip) same m in
+    begun_settles name (Fill, job.serial) (event.FillBegin h p) (reply.Job (record { 0 = job.serial })) old new a b c slip result
+    (refl, refl) made
+    (ends (fill_kind h p job old new a b slip made (subst (λ (x : FillBegun). IsFillJob new.core.state (Ok x)) same is)))
+
+pub change_begins : (x : Kind × ℕ) (change : Change) (h : HandleId) (bytes : List ℕ) (r : Reply)
+    → IsBegun x (noted (event_of change h bytes) r) r → ⊥
+change_begins x (Write at) h bytes r b = b
+change_begins x Append h bytes r b = b
+change_begins x (Truncate size) h bytes r b = b
+
+-- ---- pages
+
+room_fills : (p : PageIndex) (e : Event) → IsRoomEvent e → Fills p e → ⊥
+room_fills p (event.FillBegin h q) is f = absurd is
+room_fills p e is f = absurd f
+
+room_no_other : (p : PageIndex) (e : Event) → IsRoomEvent e → FillsNoOther p e
+room_no_other p (event.FillBegin h q) is = absurd is
+room_no_other p e is = tt
+
+fills_same : (p q : PageIndex) (e : Event) → FillsNoOther p e → Fills q e → p ≡ q
+fills_same p q (event.FillBegin h x) other fills = sym other ∙ fills
+fills_same p q e other fills = absurd fills
+
+pub change_fills : (p : PageIndex) (change : Change) (h : HandleId) (bytes : List ℕ) (r : Reply)
+    → Fills p (noted (event_of change h bytes) r) → ⊥
+change_fills p (Write at) h bytes r f = f
+change_fills p Append h bytes r f = f
+change_fills p (Truncate size) h bytes r f = f
+
+pub change_noted : (change : Change) (h : HandleId) (bytes : List ℕ) (r : Reply)
+    → noted (event_of change h bytes) r ≡ event_of change h bytes
+change_noted (Write at) h bytes r = refl
+change_noted Append h bytes r = refl
+change_noted (Truncate size) h bytes r = refl
+
+pub missed_same : (own : Event) (a b : SeatSeen) → b ≡ a → FillsMissed own a b
+missed_same own a b e =
+    pairs_same (λ p e. Fills p e.event) (λ p e. (e.event ≡ own) × (e.reply ≡ reply.Miss p)) a b e
+
+pub missed_on : (own : Event) (a b c : SeatSeen) → FillsMissed own a b → FillsMissed own b c → FillsMissed own a c
+missed_on own a b c p q =
+    pairs_on (λ p e. Fills p e.event) (λ p e. (e.event ≡ own) × (e.reply ≡ reply.Miss p)) a b c p q
+
+pub missed_room : (own : Event) (a b : SeatSeen) → Only (λ e. IsRoomEvent e.event) a b → FillsMissed own a b
+missed_room own a b p =
+    pairs_none (λ p e. Fills p e.event) (λ p e. (e.event ≡ own) × (e.reply ≡ reply.Miss p)) (λ e. IsRoomEvent e.event) a b
+    (λ p e is f. room_fills p e.event is f) p
+
+-- one event that fills nothing
+pub missed_by : (own e : Event) (r : Reply) (old new : HeldSeen) (a b : SeatSeen) (slip : Slip)
+    → ((p : PageIndex) → Fills p (noted e r) → ⊥) → Made e r old new a b slip → FillsMissed own a b
+missed_by own e r old new a b slip never m =
+    pairs_none (λ p e. Fills p e.event) (λ p e. (e.event ≡ own) × (e.reply ≡ reply.Miss p)) (λ l. l ≡ entry_of a.number e r) a b
+    (λ p l is f. never p (subst (λ (y : Entry). Fills p y.event) is f))
+    (only_by (λ l. l ≡ entry_of a.number e r) e r old new a b slip refl m)
+
+pub missed_denied : (own e : Event) (old new : HeldSeen) (a b : SeatSeen) (d : Denied)
+    → ((p : PageIndex) (r : Reply) → Fills p (noted e r) → ⊥) → under.IsDenied e old new a b d → FillsMissed own a b
+missed_denied own e old new a b d never q = go d.refusal d.slip q
+  where
+    go : (r : Refusal) (o : Option Slip) → under.DeniedBy e old new a b r o → FillsMissed own a b
+    go r None q = missed_same own a b q.2.1
+    go r (Some slip) q = missed_by own e (reply.Refused r) old new a b slip (λ p f. never p (reply.Refused r) f) q
+
+-- the event was answered a missing page, and no other was filled
+pub missed_filled : (own : Event) (p : PageIndex) (old new : HeldSeen) (a b c : SeatSeen) (slip : Slip)
+    → ((q : PageIndex) (r : Reply) → Fills q (noted own r) → ⊥) → ((r : Reply) → noted own r ≡ own)
+    → Made own (reply.Miss p) old new a b slip → Only (λ e. FillsNoOther p e.event) b c → FillsMissed own a c
+missed_filled own p old new a b c slip never plain m only =
+    pairs_asked (λ p e. Fills p e.event) (λ p e. (e.event ≡ own) × (e.reply ≡ reply.Miss p))
+    (λ l. l ≡ entry_of a.number own (reply.Miss p)) (λ l. FillsNoOther p l.event) a b c
+    (λ x e l is other fills. (ap (λ (y : Entry). y.event) is ∙ plain (reply.Miss p),
+    ap (λ (y : Entry). y.reply) is ∙ ap reply.Miss (fills_same p x l.event other fills)))
+    (λ x e is fills. never x (reply.Miss p) (subst (λ (y : Entry). Fills x y.event) is fills))
+    (only_by (λ l. l ≡ entry_of a.number own (reply.Miss p)) own (reply.Miss p) old new a b slip refl m)
+    m.entered.count only
+
+-- ---- fills of one page
+
+other_event : (p : PageIndex) (e : Event) (r : Reply) (old new : HeldSeen) (a b : SeatSeen) (slip : Slip)
+    → FillsNoOther p (noted e r) → Made e r old new a b slip → Only (λ l. FillsNoOther p l.event) a b
+other_event p e r old new a b slip is m = only_by (λ l. FillsNoOther p l.event) e r old new a b slip is m
+
+pub other_begun : (h : HandleId) (p : PageIndex) (r : Reply) (old new : HeldSeen) (a b : SeatSeen) (slip : Slip)
+    → Made (event.FillBegin h p) r old new a b slip → Only (λ l. FillsNoOther p l.event) a b
+other_begun h p r old new a b slip m = other_event p (event.FillBegin h p) r old new a b slip refl m
+
+other_denied : (h : HandleId) (p : PageIndex) (old new : HeldSeen) (a b : SeatSeen) (d : Denied)
+    → under.IsDenied (event.FillBegin h p) old new a b d → Only (λ l. FillsNoOther p l.event) a b
+other_denied h p old new a b d q = go d.refusal d.slip q
+  where
+    go : (r : Refusal) (o : Option Slip) → under.DeniedBy (event.FillBegin h p) old new a b r o → Only (λ l. FillsNoOther p l.event) a b
+    go r None q = only_same (λ l. FillsNoOther p l.event) a b q.2.1
+    go r (Some slip) q = other_begun h p (reply.Refused r) old new a b slip q
+
+pub other_room : (p : PageIndex) (a b : SeatSeen) → Only (λ l. IsRoomEvent l.event) a b → Only (λ l. FillsNoOther p l.event) a b
+other_room p a b only =
+    only_wider (λ l. IsRoomEvent l.event) (λ l. FillsNoOther p l.event) a b (λ l. room_no_other p l.event) only
+
+pub other_on : (p : PageIndex) (a b c : SeatSeen) → Only (λ l. IsRoomEvent l.event) a b → Only (λ l. FillsNoOther p l.event) b c
+    → Only (λ l. FillsNoOther p l.event) a c
+other_on p a b c before only = only_on (λ l. FillsNoOther p l.event) a b c (other_room p a b before) only
+
+-- it was refused, and room was made
+pub other_relieved : (h : HandleId) (p : PageIndex) (old new : HeldSeen) (a b c : SeatSeen) (d : Denied)
+    → under.IsDenied (event.FillBegin h p) old new a b d → Only (λ l. IsRoomEvent l.event) b c
+    → Only (λ l. FillsNoOther p l.event) a c
+other_relieved h p old new a b c d q room =
+    only_on (λ l. FillsNoOther p l.event) a b c (other_denied h p old new a b d q) (other_room p b c room)
+
+one_no_other : (name : ℕ) (x : Kind × ℕ) (p : PageIndex) (e : Event) → IsEnded name x e → FillsNoOther p e
+one_no_other name x p (event.FillBegin h q) is = absurd is
+one_no_other name x p e is = tt
+
+-- a fill was begun and ended
+pub other_filled : {R : Type 0} (name : ℕ) (h : HandleId) (p : PageIndex) (begun : FillBegun) (job : Task) (old new : HeldSeen)
+    (a b c : SeatSeen) (slip : Slip) (result : Result R Denied) → begun ≡ fill.Job job
+    → Made (event.FillBegin h p) (fill_begun (Ok begun)) old new a b slip → IsFillJob new.core.state (Ok begun)
+    → (job.kind ≡ Fill → EndsIn name (Fill, job.serial) b c result) → Only (λ l. FillsNoOther p l.event) a c
+other_filled {R} name h p first job old new a b c slip result same m is ends =
+    go result
+    (ends (fill_kind h p job old new a b slip
+    (subst (λ (x : FillBegun). Made (event.FillBegin h p) (fill_begun (Ok x)) old new a b slip) same m)
+    (subst (λ (x : FillBegun). IsFillJob new.core.state (Ok x)) same is)))
+  where
+    begun : Only (λ l. FillsNoOther p l.event) a b
+    begun = other_begun h p (fill_begun (Ok first)) old new a b slip m
+
+    ended : EndsOne name (Fill, job.serial) b c → Only (λ l. FillsNoOther p l.event) a c
+    ended q =
+        only_on (λ l. FillsNoOther p l.event) a b c begun
+        (only_wider (λ l. IsEnded name (Fill, job.serial) l.event) (λ l. FillsNoOther p l.event) b c
+        (λ l. one_no_other name (Fill, job.serial) p l.event) q.0)
+
+    go : (result : Result R Denied) → EndsIn name (Fill, job.serial) b c result → Only (λ l. FillsNoOther p l.event) a c
+    go (Ok y) q = ended q
+    go (Err d) (inl q) = ended q
+    go (Err d) (inr q) = subst (λ (s : SeatSeen). Only (λ l. FillsNoOther p l.event) a s) (sym q.1) begun

@@ -1,0 +1,81 @@
+-- What a call leaves behind it: no request of its own, and no page filled that it was not told to be missing.
+use Rattle.std.specs.Prelude.{◌≡◌, ◌⊎◌, ◌+◌, ◌++◌, ℕ, Any, List, None, Result, Ok, Err}
+use Rattle.machine.specs.declared.event.Event.{Event}
+use Rattle.machine.specs.declared.event.Event.TheVariants as event
+use Rattle.machine.specs.declared.event.Reply.{Reply}
+use Rattle.machine.specs.declared.event.Reply.TheVariants as reply
+use Rattle.pc_types.specs.declared.ids.PageIndex.{PageIndex}
+use Rattle.pc_types.specs.declared.kind.Kind.{Kind}
+use Rattle.pc_types.specs.declared.kind.Kind.TheVariants.{Fill, Flush}
+use Rattle.pc_types.specs.declared.refusal.Refusal.TheVariants.{TrailFull}
+use Rattle.trail.specs.declared.entry.Entry.{Entry}
+use Rattle.held.specs.Shown.{SeatSeen}
+use Rattle.locked.specs.Called.{Only}
+use Rattle.locked.specs.declared.denied.Denied.{Denied}
+
+-- the seat made an entry of the second kind since, if it made one of the first kind
+pub record Pairs {A : Type 0} (first second : A → Entry → Type 0) (before after : SeatSeen) : Type 0 where
+  pub same : after.number ≡ before.number
+  pub since : List Entry
+  pub saw : after.list ≡ before.list ++ since
+  pub each : (x : A) → Any (λ e. (e.seat ≡ before.number) × first x e) since
+      → Any (λ e. (e.seat ≡ before.number) × second x e) since
+
+-- ---- requests
+
+-- the event began the request of this kind and this serial
+abbrev pub IsBegun : Kind × ℕ → Event → Reply → Type 0
+IsBegun x (event.FillBegin h p) (reply.Job t) = (x.0 ≡ Fill) × (t.0 ≡ x.1)
+IsBegun x (event.FlushBegin f) (reply.Job t) = (x.0 ≡ Flush) × (t.0 ≡ x.1)
+IsBegun x (event.SyncStep m) (reply.Job t) = (x.0 ≡ Flush) × (t.0 ≡ x.1)
+IsBegun x e r = ⊥
+
+-- it is the end of that request, of the cache of this name
+abbrev pub IsEnded : ℕ → Kind × ℕ → Event → Type 0
+IsEnded name x (event.End kind end) = (kind ≡ x.0) × (end.kind ≡ x.0) × (end.serial.0 ≡ x.1) × (end.cache ≡ name)
+IsEnded name x e = ⊥
+
+-- the seat made the end of each request that it began since
+abbrev pub Settles : ℕ → SeatSeen → SeatSeen → Type 0
+Settles name before after = Pairs (λ x e. IsBegun x e.event e.reply) (λ x e. IsEnded name x e.event) before after
+
+-- so it did, but that the last event that it made began one more, whose end a full trail refused
+pub record LeavesOne (name : ℕ) (before after : SeatSeen) (d : Denied) : Type 0 where
+  pub full : d ≡ record { refusal = TrailFull; slip = None }
+  pub at : SeatSeen
+  pub settled : Settles name before at
+  pub left : Kind × ℕ
+  pub begun : Only (λ e. IsBegun left e.event e.reply) at after
+  pub one : after.count ≡ at.count + 1
+
+-- a call settles what it began; it leaves one request only where it says that the trail is full
+abbrev pub SettlesIn : {A : Type 0} → ℕ → SeatSeen → SeatSeen → Result A Denied → Type 0
+SettlesIn name before after (Ok x) = Settles name before after
+SettlesIn name before after (Err d) = Settles name before after ⊎ LeavesOne name before after d
+
+-- it made one event, the end of that request
+abbrev pub EndsOne : ℕ → Kind × ℕ → SeatSeen → SeatSeen → Type 0
+EndsOne name x before after = Only (λ e. IsEnded name x e.event) before after × (after.count ≡ before.count + 1)
+
+-- so it did, or made none where the trail is full
+abbrev pub EndsIn : {A : Type 0} → ℕ → Kind × ℕ → SeatSeen → SeatSeen → Result A Denied → Type 0
+EndsIn name x before after (Ok y) = EndsOne name x before after
+EndsIn name x before after (Err d) =
+    EndsOne name x before after ⊎ ((d ≡ record { refusal = TrailFull; slip = None }) × (after ≡ before))
+
+-- ---- pages
+
+-- the event began to fill this page
+abbrev pub Fills : PageIndex → Event → Type 0
+Fills p (event.FillBegin h q) = q ≡ p
+Fills p e = ⊥
+
+-- it is no fill but of this page
+abbrev pub FillsNoOther : PageIndex → Event → Type 0
+FillsNoOther p (event.FillBegin h q) = q ≡ p
+FillsNoOther p e = Unit {0}
+
+-- each page that the seat began to fill since was answered as missing to this event of the seat's
+abbrev pub FillsMissed : Event → SeatSeen → SeatSeen → Type 0
+FillsMissed own before after =
+    Pairs (λ p e. Fills p e.event) (λ p e. (e.event ≡ own) × (e.reply ≡ reply.Miss p)) before after
