@@ -147,9 +147,11 @@ module _ {A : Type 0} (first second : A → Entry → Type 0) where
             elim (any_split P p.since q.since some) [
               | inl there ↦ any_right Q p.since q.since
                   (any_with_all (λ e. e.seat ≡ a.number → last e) (λ e. e.seat ≡ a.number) Q q.since
-                  (λ l is own_one. (own_one,
-                  (any_with_all (λ e. e.seat ≡ a.number → own e) P (λ _. second x l) p.since
-                  (λ e is_own is_first. ends x e l (is_own is_first.0) is_first.1 (is own_one)) p.made there).4)) lasts
+                  (λ l is own_one. (
+                    own_one,
+                    (any_with_all (λ e. e.seat ≡ a.number → own e) P (λ _. second x l) p.since
+                        (λ e is_own is_first. ends x e l (is_own is_first.0) is_first.1 (is own_one)) p.made there).4,
+                  )) lasts
                   (any_counted a.number q.since (omega (arith, q.count, one, renamed))))
               | inr there ↦ absurd
                   (any_with_all (λ e. e.seat ≡ a.number → last e) P (λ _. ⊥) q.since
@@ -178,9 +180,11 @@ module _ {A : Type 0} (first second : A → Entry → Type 0) where
                   (λ e is is_first. never x e (is is_first.0) is_first.1) p.made there).4
               | inr there ↦ any_left Q p.since q.since
                   (any_with_all (λ e. e.seat ≡ a.number → own e) (λ e. e.seat ≡ a.number) Q p.since
-                  (λ e is own_one. (own_one,
-                  (any_with_all (λ l. l.seat ≡ a.number → last l) P (λ _. second x e) q.since
-                  (λ l is_last is_first. asks x e l (is own_one) (is_last is_first.0) is_first.1) lasts there).4)) p.made
+                  (λ e is own_one. (
+                    own_one,
+                    (any_with_all (λ l. l.seat ≡ a.number → last l) P (λ _. second x e) q.since
+                        (λ l is_last is_first. asks x e l (is own_one) (is_last is_first.0) is_first.1) lasts there).4,
+                  )) p.made
                   (any_counted a.number p.since (omega (arith, p.count, one))))
             ];
       }
@@ -419,6 +423,15 @@ fill_settles name h p begun job old new a b c slip result same m is ends =
     (refl, refl) made
     (ends (fill_kind h p job old new a b slip made (subst (λ (x : FillBegun). IsFillJob new.core.state (Ok x)) same is)))
 
+-- one that begins no request
+pub fill_quiet : (x : Kind × ℕ) (h : HandleId) (p : PageIndex) (begun : FillBegun) → ((job : Task) → begun ≡ fill.Job job → ⊥)
+    → IsBegun x (event.FillBegin h p) (fill_begun (Ok begun)) → ⊥
+fill_quiet x h p (fill.Job job) never b = never job refl
+fill_quiet x h p (fill.Gone buffer) never b = b
+fill_quiet x h p (fill.Wait q buffer) never b = b
+fill_quiet x h p (fill.Present buffer) never b = b
+fill_quiet x h p (fill.Filled buffer) never b = b
+
 pub change_begins : (x : Kind × ℕ) (change : Change) (h : HandleId) (bytes : List ℕ) (r : Reply)
     → IsBegun x (noted (event_of change h bytes) r) r → ⊥
 change_begins x (Write at) h bytes r b = b
@@ -487,8 +500,10 @@ pub missed_filled : (own : Event) (p : PageIndex) (old new : HeldSeen) (a b c : 
 missed_filled own p old new a b c slip never plain m only =
     pairs_asked (λ p e. Fills p e.event) (λ p e. (e.event ≡ own) × (e.reply ≡ reply.Miss p))
     (λ l. l ≡ entry_of a.number own (reply.Miss p)) (λ l. FillsNoOther p l.event) a b c
-    (λ x e l is other fills. (ap (λ (y : Entry). y.event) is ∙ plain (reply.Miss p),
-    ap (λ (y : Entry). y.reply) is ∙ ap reply.Miss (fills_same p x l.event other fills)))
+    (λ x e l is other fills. (
+      ap (λ (y : Entry). y.event) is ∙ plain (reply.Miss p),
+      ap (λ (y : Entry). y.reply) is ∙ ap reply.Miss (fills_same p x l.event other fills),
+    ))
     (λ x e is fills. never x (reply.Miss p) (subst (λ (y : Entry). Fills x y.event) is fills))
     (only_by (λ l. l ≡ entry_of a.number own (reply.Miss p)) own (reply.Miss p) old new a b slip refl m)
     m.entered.count only

@@ -5,6 +5,7 @@ use Rattle.shared.specs.Own.{IsTry}
 use Rattle.shared.proofs.Owning.{once_try_on, only_try_on}
 use Rattle.shared.proofs.Wanting.{short_on}
 use Rattle.shared.proofs.Settling.{denied_on, missed_on, missed_same, settles_on, settles_same}
+use Rattle.shared.proofs.Making.{call_on}
 use Rattle.shared.proofs.cache.SharedCache.change.Goals as goal
 
 pub attempts-init : goal.attempts-init
@@ -56,3 +57,8 @@ pub returns-in-Err-clause-missed : goal.returns-in-Err-clause-missed
 returns-in-Err-clause-missed g c =
     missed_on (event_of c.args.change c.args.handle c.args.bytes.now) c.args.seat.now c.attempts.seat c.try_change.new.seat
     c.attempts.invariant.missed c.try_change.ensures.missed
+
+pub returns-in-Err-clause-denied : goal.returns-in-Err-clause-denied
+returns-in-Err-clause-denied g c =
+    call_on c.args.handle (event_of c.args.change c.args.handle c.args.bytes.now) c.args.seat.now c.attempts.seat
+    c.try_change.new.seat c.in-Err.denied c.attempts.invariant.goes c.in-Err.ensures.denied

@@ -9,6 +9,7 @@ use Rattle.shared.proofs.Making.{goes_denied, help_on, help_settled}
 use Rattle.shared.proofs.Owning.{only_begun_on, only_fill_begin, only_relieved}
 use Rattle.shared.proofs.Rooming.{final_denied, lost_denied}
 use Rattle.shared.proofs.Settling.{fill_settles, other_filled, other_relieved, settled_on, settles_denied}
+use Rattle.shared.proofs.Settling.{fill_quiet, other_begun, settles_by}
 use Rattle.shared.proofs.cache.SharedCache.fill_once.Goals as goal
 
 pub returns-in-Job-clause-denied : goal.returns-in-Job-clause-denied
@@ -87,3 +88,12 @@ pub returns-in-Job-clause-page : goal.returns-in-Job-clause-page
 returns-in-Job-clause-page g c =
     other_filled g.B.Naming.name c.args.handle c.args.page _ c.in-Job.job _ _ _ _ _ _ c.fill_by.result c.in-Job.is
     c.in-Ok-fill_begin.ensures.made c.in-Ok-fill_begin.ensures.job c.fill_by.ensures.ends
+
+pub returns-clause-settled : goal.returns-clause-settled
+returns-clause-settled g c =
+    settles_by g.B.Naming.name _ _ _ _ _ _ _ (λ x b. fill_quiet x c.args.handle c.args.page _ c.in_default.not-Job b)
+    c.in-Ok-fill_begin.ensures.made
+
+pub returns-clause-page : goal.returns-clause-page
+returns-clause-page g c =
+    other_begun c.args.handle c.args.page _ _ _ _ _ _ c.in-Ok-fill_begin.ensures.made

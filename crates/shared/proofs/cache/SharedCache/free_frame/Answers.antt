@@ -5,6 +5,10 @@ use Rattle.held.specs.Shown.{HeldSeen}
 use Rattle.shared.specs.Rooms.{IsUnwritten}
 use Rattle.shared.proofs.Rooming.{unwritten_on}
 use Rattle.shared.proofs.Settling.{settled_on, settles_evicted}
+use Rattle.std.proofs.lemmas.Result.{IfErr-weaker}
+use Rattle.shared.specs.Denials.{IsDenied}
+use Rattle.shared.specs.Own.{IsRoomEvent}
+use Rattle.shared.proofs.Making.{room_on}
 use Rattle.shared.proofs.cache.SharedCache.free_frame.Goals as goal
 
 -- no page went, so the state is as it was
@@ -23,3 +27,10 @@ pub returns-in-Ok-false-clause-settled : goal.returns-in-Ok-false-clause-settled
 returns-in-Ok-false-clause-settled g c =
     settled_on g.B.Naming.name c.args.seat.now c.evict_idle.new.seat c.flush_one.new.seat c.flush_one.result
     (settles_evicted g.B.Naming.name c.args.seat.now c.evict_idle.new.seat c.evict_idle.ensures.only) c.flush_one.ensures.settled
+
+pub returns-in-Ok-false-clause-denied : goal.returns-in-Ok-false-clause-denied
+returns-in-Ok-false-clause-denied g c =
+    IfErr-weaker c.flush_one.result (IsDenied IsRoomEvent c.evict_idle.new.seat c.flush_one.new.seat)
+    (IsDenied IsRoomEvent c.args.seat.now c.flush_one.new.seat)
+    (λ d q. room_on c.args.seat.now c.evict_idle.new.seat c.flush_one.new.seat d c.evict_idle.ensures.goes q)
+    c.flush_one.ensures.denied

@@ -10,3 +10,13 @@ turns-preserved g c = record {
   settled = settles_on g.B.Naming.name c.args.seat.now c.turns.seat c.make_room.new.seat c.turns.invariant.settled
       c.in-Ok-true.ensures.settled;
 }
+
+pub returns-in-Ok-false-clause-settled : goal.returns-in-Ok-false-clause-settled
+returns-in-Ok-false-clause-settled g c =
+    settles_on g.B.Naming.name c.args.seat.now c.turns.seat c.make_room.new.seat c.turns.invariant.settled
+    c.in-Ok-false.ensures.settled
+
+pub returns-in-Err-clause-settled : goal.returns-in-Err-clause-settled
+returns-in-Err-clause-settled g c =
+    denied_on g.B.Naming.name c.args.seat.now c.turns.seat c.make_room.new.seat c.in-Err.denied c.turns.invariant.settled
+    c.in-Err.ensures.settled

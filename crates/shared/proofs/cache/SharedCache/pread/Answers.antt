@@ -11,6 +11,9 @@ use Rattle.shared.proofs.Owning.{once_try_on, only_try_on}
 use Rattle.shared.proofs.Wanting.{short_admitted, short_on}
 use Rattle.shared.specs.Settled.{FillsMissed, LeavesOne, Settles}
 use Rattle.shared.proofs.Settling.{denied_on, missed_on, settles_on}
+use Rattle.shared.specs.Denials.{IsDenied}
+use Rattle.shared.specs.Own.{IsCallOf}
+use Rattle.shared.proofs.Making.{call_on}
 use Rattle.shared.proofs.cache.SharedCache.pread.Goals as goal
 
 pub returns-in-Ok-Some-clause-once : goal.returns-in-Ok-Some-clause-once
@@ -95,3 +98,13 @@ returns-in-Err-try_read-clause-missed g c =
     (ap (λ (x : HandleSeen). x.number) c.handle.view_is)
     (subst (λ (l : List ℕ). FillsMissed (event.Read c.handle.inside.number c.args.offset (length l)) c.attempts.seat
     c.try_read.new.seat) c.attempts.invariant.out c.try_read.ensures.missed))
+
+pub returns-in-Err-try_read-clause-denied : goal.returns-in-Err-try_read-clause-denied
+returns-in-Err-try_read-clause-denied g c own here =
+    let h = c.args.handle.now.number in
+    call_on h (event.Read h c.args.offset (length c.args.out.now)) c.args.seat.now c.attempts.seat c.try_read.new.seat
+    c.in-Err-try_read.denied c.attempts.invariant.goes
+    (subst (λ (n : HandleId). IsDenied (IsCallOf n (event.Read n c.args.offset (length c.args.out.now))) c.attempts.seat
+    c.try_read.new.seat c.in-Err-try_read.denied) (ap (λ (x : HandleSeen). x.number) c.handle.view_is)
+    (subst (λ (l : List ℕ). IsDenied (IsCallOf c.handle.inside.number (event.Read c.handle.inside.number c.args.offset (length l)))
+    c.attempts.seat c.try_read.new.seat c.in-Err-try_read.denied) c.attempts.invariant.out c.in-Err-try_read.ensures.denied))
