@@ -125,10 +125,10 @@ begin_denied h first last old new before after d q = inr (
 
 pub gave_up : (h : HandleId) (first last : PageIndex) (m : SyncId) (old new : HeldSeen) (before at over after : SeatSeen)
     (begin : Slip) (why d : Denied) → Made (event.SyncBegin h first last) (reply.Sync m) old new before at begin → Goes at over
-    → IsDenied (IsTurnOf m) at over why → (why.slip ≡ None → why.refusal ≡ TrailFull)
+    → Goes over after → IsDenied (IsTurnOf m) at over why → (why.slip ≡ None → why.refusal ≡ TrailFull)
     → ((d ≡ why) × IsDropped m over after) ⊎ (d ≡ record { refusal = Stranger; slip = None })
     → IsSyncDenied h first last before after d
-gave_up h first last m old new before at over after begin why d b goes denied full (inl p) = inr (inl record {
+gave_up h first last m old new before at over after begin why d b goes past denied full (inl p) = inr (inl record {
   sync = m;
   at = at;
   over = over;
@@ -138,7 +138,18 @@ gave_up h first last m old new before at over after begin why d b goes denied fu
   full = subst (λ (x : Denied). x.slip ≡ None → x.refusal ≡ TrailFull) (sym p.0) full;
   dropped = p.1;
 })
-gave_up h first last m old new before at over after begin why d b goes denied full (inr p) = inr (inr p)
+gave_up h first last m old new before at over after begin why d b goes past denied full (inr p) = inr (inr record {
+  sync = m;
+  at = at;
+  over = over;
+  why = why;
+  began = began_by h first last m old new before at begin b;
+  goes = goes;
+  denied = denied;
+  full = full;
+  past = past;
+  is = p;
+})
 
 -- no request was in flight where its turn was refused so that one's end might help
 pub gave_up_final : (sizes : Sizes) (name : ℕ) (m : SyncId) (over after : SeatSeen) (why d : Denied) → Goes over after

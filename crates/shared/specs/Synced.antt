@@ -121,11 +121,25 @@ IsNotBegun h first last before after d =
     ⊎ (IsDenied (λ e. e ≡ event.SyncBegin h first last) before after d × MadeOne d.slip before after
     × IsFullIfNoSlip before after d)
 
--- no sync was begun, or the one that was is given up. Or another ended it, and a full trail has no room to say so
+-- a turn of a sync that this call began was refused, and no entry says what became of the sync: another ended it, and the
+-- trail was full. That it is over is not said here
+pub record WasLost (h : HandleId) (first last : PageIndex) (before after : SeatSeen) (d : Denied) : Type 0 where
+  pub sync : SyncId
+  pub at : SeatSeen
+  pub over : SeatSeen
+  pub why : Denied
+  pub began : Began h first last sync before at
+  pub goes : Goes at over
+  pub denied : IsDenied (IsTurnOf sync) at over why
+  pub full : why.slip ≡ None → why.refusal ≡ TrailFull
+  pub past : Goes over after
+  pub is : d ≡ record { refusal = Stranger; slip = None }
+
+-- no sync was begun, or the one that was is given up, or was lost
 abbrev pub IsSyncDenied : HandleId → PageIndex → PageIndex → SeatSeen → SeatSeen → Denied → Type 0
 IsSyncDenied h first last before after d =
     IsNotBegun h first last before after d
-    ⊎ (GaveUp h first last before after d ⊎ (d ≡ record { refusal = Stranger; slip = None }))
+    ⊎ (GaveUp h first last before after d ⊎ WasLost h first last before after d)
 
 -- the refusal has the code that the poll answered, or else that of the step which ended the sync
 pub record Reports (failed : Option ℕ) (slip : Slip) (old new : PassSeen) (d : Denied) : Type 0 where
