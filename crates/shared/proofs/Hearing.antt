@@ -87,3 +87,8 @@ hears_told result sizes name at seat mid new h q =
     IfOk-weaker result (λ slip. (slip ≡ at) × Polled mid new None) (λ slip. Hears sizes name slip seat new)
     (λ slip k. subst (λ (s : Slip). Hears sizes name s seat new) (sym k.0)
     (hears_on sizes name at seat mid new k.1.same.1 k.1.grows h)) q
+
+pub hears_reported : (sizes : Sizes) (name : ℕ) (at slip : Slip) (seat : SeatSeen) (mid new : PassSeen) (failed : Option ℕ)
+    (d : Denied) → Hears sizes name at seat mid → Reports failed slip mid new d → Hears sizes name at seat new
+hears_reported sizes name at slip seat mid new failed d h r =
+    hears_on sizes name at seat mid new r.polled.same.1 r.polled.grows h

@@ -37,10 +37,10 @@ use Rattle.shared.specs.Called.{Makes, is_for_now}
 use Rattle.shared.specs.Denials.{IsDenied}
 use Rattle.shared.specs.Rooms.{IsFinal}
 use Rattle.shared.specs.Synced.{Began, IsDropReply, IsDropped, IsFlushEnd, IsFsyncDenied, IsNotBegun, IsSyncDenied, IsTurnOf}
-use Rattle.shared.specs.Polls.{IsLevelled, Polled}
+use Rattle.shared.specs.Polls.{Hears, IsLevelled, Polled}
 use Rattle.shared.specs.Seen.{HandleSeen}
 use Rattle.shared.specs.Synced.{Reports, Syncs, end_reply}
-use Rattle.shared.proofs.Hearing.{polled_from, reports_from}
+use Rattle.shared.proofs.Hearing.{hears_reported, polled_from, reports_from}
 use Rattle.shared.proofs.Making.{denied_by, denied_event, denied_on, denied_one, full_by, makes_by}
 use Rattle.shared.proofs.Rooming.{final_lasting, final_on}
 
@@ -125,10 +125,10 @@ begin_denied h first last old new before after d q = inr (
 
 pub gave_up : (h : HandleId) (first last : PageIndex) (m : SyncId) (old new : HeldSeen) (before at over after : SeatSeen)
     (begin : Slip) (why d : Denied) → Made (event.SyncBegin h first last) (reply.Sync m) old new before at begin → Goes at over
-    → IsDenied (IsTurnOf m) at over why → (why.slip ≡ None → why.refusal ≡ TrailFull)
+    → Goes over after → IsDenied (IsTurnOf m) at over why → (why.slip ≡ None → why.refusal ≡ TrailFull)
     → ((d ≡ why) × IsDropped m over after) ⊎ (d ≡ record { refusal = Stranger; slip = None })
     → IsSyncDenied h first last before after d
-gave_up h first last m old new before at over after begin why d b goes denied full (inl p) = inr (inl record {
+gave_up h first last m old new before at over after begin why d b goes past denied full (inl p) = inr (inl record {
   sync = m;
   at = at;
   over = over;
@@ -138,7 +138,18 @@ gave_up h first last m old new before at over after begin why d b goes denied fu
   full = subst (λ (x : Denied). x.slip ≡ None → x.refusal ≡ TrailFull) (sym p.0) full;
   dropped = p.1;
 })
-gave_up h first last m old new before at over after begin why d b goes denied full (inr p) = inr (inr p)
+gave_up h first last m old new before at over after begin why d b goes past denied full (inr p) = inr (inr record {
+  sync = m;
+  at = at;
+  over = over;
+  why = why;
+  began = began_by h first last m old new before at begin b;
+  goes = goes;
+  denied = denied;
+  full = full;
+  past = past;
+  is = p;
+})
 
 -- no request was in flight where its turn was refused so that one's end might help
 pub gave_up_final : (sizes : Sizes) (name : ℕ) (m : SyncId) (over after : SeatSeen) (why d : Denied) → Goes over after
@@ -214,19 +225,21 @@ pub report_final : (sizes : Sizes) (name : ℕ) (after : SeatSeen) (failed : Opt
 report_final sizes name after failed slip old new d r =
     final_lasting sizes name after d (subst (λ (x : Denied). is_for_now x.refusal ≡ false) (sym r.is) refl)
 
-pub write_failed : (h : HandleId) (first last : PageIndex) (failed : Option ℕ) (before after : SeatSeen) (old new : PassSeen)
-    (slip : Slip) (d : Denied) → Syncs h first last failed before after slip → Reports failed slip old new d
-    → IsFsyncDenied h first last before after old new d
-write_failed h first last failed before after old new slip d s r = inl (failed, slip, s, r)
+pub write_failed : (sizes : Sizes) (name : ℕ) (h : HandleId) (first last : PageIndex) (failed : Option ℕ)
+    (before after : SeatSeen) (old new : PassSeen) (slip : Slip) (d : Denied) → Syncs h first last failed before after slip
+    → Hears sizes name slip after new → Reports failed slip old new d
+    → IsFsyncDenied sizes name h first last before after old new d
+write_failed sizes name h first last failed before after old new slip d s heard r = inl (failed, slip, s, heard, r)
 
-pub flush_failed : (h : HandleId) (first last : PageIndex) (before after : SeatSeen) (old new : PassSeen) (code : ℕ)
-    (slip : Slip) → IsLevelled old new → Syncs h first last None before after slip
-    → IsFsyncDenied h first last before after old new (record { refusal = Io code; slip = None })
-flush_failed h first last before after old new code slip level s = inr (inl (level, (code, slip, s, refl)))
+pub flush_failed : (sizes : Sizes) (name : ℕ) (h : HandleId) (first last : PageIndex) (before after : SeatSeen)
+    (old new : PassSeen) (code : ℕ) (slip : Slip) → IsLevelled old new → Syncs h first last None before after slip
+    → IsFsyncDenied sizes name h first last before after old new (record { refusal = Io code; slip = None })
+flush_failed sizes name h first last before after old new code slip level s = inr (inl (level, (code, slip, s, refl)))
 
-pub sync_denied : (h : HandleId) (first last : PageIndex) (before after : SeatSeen) (old new : PassSeen) (d : Denied)
-    → new ≡ old → IsSyncDenied h first last before after d → IsFsyncDenied h first last before after old new d
-sync_denied h first last before after old new d same q = inr (inr (same, q))
+pub sync_denied : (sizes : Sizes) (name : ℕ) (h : HandleId) (first last : PageIndex) (before after : SeatSeen)
+    (old new : PassSeen) (d : Denied) → new ≡ old → IsSyncDenied h first last before after d
+    → IsFsyncDenied sizes name h first last before after old new d
+sync_denied sizes name h first last before after old new d same q = inr (inr (same, q))
 
 -- a sync that ended without a failed write, a flush after its slip, and a poll that answers nothing. The handle is seen at
 -- the call as h, and k inside it
@@ -245,14 +258,16 @@ fsync_clean result k h first last failed before after at slip mid new seen s non
     )) q)
 
 -- a sync that ended with the code of a failed write
-pub fsync_failed : (k h : HandleSeen) (first last : PageIndex) (failed : Option ℕ) (code : ℕ) (before after : SeatSeen)
-    (slip : Slip) (mid new : PassSeen) (d : Denied) → k ≡ h → Syncs k.number first last failed before after slip
-    → failed ≡ Some code → IsLevelled k.pass mid → Reports (Some code) slip mid new d
-    → IsFsyncDenied h.number first last before after h.pass new d
-fsync_failed k h first last failed code before after slip mid new d seen s is level r =
-    subst (λ (x : HandleSeen). IsFsyncDenied x.number first last before after x.pass new d) seen
-    (write_failed k.number first last (Some code) before after k.pass new slip d
+pub fsync_failed : (sizes : Sizes) (name : ℕ) (k h : HandleSeen) (first last : PageIndex) (failed : Option ℕ) (code : ℕ)
+    (before after : SeatSeen) (slip : Slip) (mid new : PassSeen) (d : Denied) → k ≡ h
+    → Syncs k.number first last failed before after slip → failed ≡ Some code → IsLevelled k.pass mid
+    → Hears sizes name slip after mid → Reports (Some code) slip mid new d
+    → IsFsyncDenied sizes name h.number first last before after h.pass new d
+fsync_failed sizes name k h first last failed code before after slip mid new d seen s is level heard r =
+    subst (λ (x : HandleSeen). IsFsyncDenied sizes name x.number first last before after x.pass new d) seen
+    (write_failed sizes name k.number first last (Some code) before after k.pass new slip d
     (subst (λ (o : Option ℕ). Syncs k.number first last o before after slip) is s)
+    (hears_reported sizes name slip slip after mid new (Some code) d heard r)
     (reports_from (Some code) slip k.pass mid new d level r))
 
 -- the seat has seen the slip's entry
@@ -265,10 +280,16 @@ syncs_seen h first last failed before after slip s goes = (
       omega (arith, there, length_push s.ended.earlier entry, s.ended.placed.1),
 )
 
-pub fsync_denied : (result : Result Slip Denied) (h : HandleId) (first last : PageIndex) (failed : Option ℕ)
-    (before after : SeatSeen) (at : Slip) (old mid new : PassSeen) → Syncs h first last failed before after at
-    → IsLevelled old mid → IfErr result (Reports failed at mid new)
-    → IfErr result (IsFsyncDenied h first last before after old new)
-fsync_denied result h first last failed before after at old mid new s level q =
-    IfErr-weaker result (Reports failed at mid new) (IsFsyncDenied h first last before after old new)
-    (λ d r. write_failed h first last failed before after old new at d s (reports_from failed at old mid new d level r)) q
+-- a sync that ended without a failed write, and a poll that answered the code of one
+pub fsync_denied : (result : Result Slip Denied) (sizes : Sizes) (name : ℕ) (k h : HandleSeen) (first last : PageIndex)
+    (failed : Option ℕ) (before after : SeatSeen) (at slip : Slip) (mid new : PassSeen) → k ≡ h
+    → Syncs k.number first last failed before after slip → failed ≡ None → at ≡ slip → IsLevelled k.pass mid
+    → Hears sizes name slip after mid → IfErr result (Reports None at mid new)
+    → IfErr result (IsFsyncDenied sizes name h.number first last before after h.pass new)
+fsync_denied result sizes name k h first last failed before after at slip mid new seen s none there level heard q =
+    subst (λ (x : HandleSeen). IfErr result (IsFsyncDenied sizes name x.number first last before after x.pass new)) seen
+    (IfErr-weaker result (Reports None at mid new) (IsFsyncDenied sizes name k.number first last before after k.pass new)
+    (λ d r. write_failed sizes name k.number first last None before after k.pass new slip d
+    (subst (λ (o : Option ℕ). Syncs k.number first last o before after slip) none s)
+    (hears_reported sizes name slip at after mid new None d heard r)
+    (reports_from None slip k.pass mid new d level (subst (λ (x : Slip). Reports None x mid new d) there r))) q)

@@ -9,6 +9,7 @@ use Rattle.machine.specs.declared.event.Event.{Event}
 use Rattle.machine.specs.declared.event.Event.TheVariants as event
 use Rattle.machine.specs.declared.event.Reply.{Reply}
 use Rattle.machine.specs.declared.event.Reply.TheVariants as reply
+use Rattle.pc_types.specs.Limits.{Sizes}
 use Rattle.pc_types.specs.declared.ids.HandleId.{HandleId}
 use Rattle.pc_types.specs.declared.ids.PageIndex.{PageIndex}
 use Rattle.pc_types.specs.declared.ids.SyncId.{SyncId}
@@ -17,7 +18,7 @@ use Rattle.pc_types.specs.declared.refusal.Refusal.TheVariants.{Io, Memory, Stra
 use Rattle.trail.specs.declared.entry.Entry.{Entry}
 use Rattle.shared.specs.Called.{Makes}
 use Rattle.shared.specs.Denials.{IsDenied, IsFullIfNoSlip, MadeOne}
-use Rattle.shared.specs.Polls.{IsLevelled, Polled}
+use Rattle.shared.specs.Polls.{Hears, IsLevelled, Polled}
 
 -- the last step of a sync, by the code of a failed write or without one
 abbrev pub end_reply : Option ℕ → Reply
@@ -121,11 +122,25 @@ IsNotBegun h first last before after d =
     ⊎ (IsDenied (λ e. e ≡ event.SyncBegin h first last) before after d × MadeOne d.slip before after
     × IsFullIfNoSlip before after d)
 
--- no sync was begun, or the one that was is given up. Or another ended it, and a full trail has no room to say so
+-- a turn of a sync that this call began was refused, and no entry says what became of the sync: another ended it, and the
+-- trail was full. That it is over is not said here
+pub record WasLost (h : HandleId) (first last : PageIndex) (before after : SeatSeen) (d : Denied) : Type 0 where
+  pub sync : SyncId
+  pub at : SeatSeen
+  pub over : SeatSeen
+  pub why : Denied
+  pub began : Began h first last sync before at
+  pub goes : Goes at over
+  pub denied : IsDenied (IsTurnOf sync) at over why
+  pub full : why.slip ≡ None → why.refusal ≡ TrailFull
+  pub past : Goes over after
+  pub is : d ≡ record { refusal = Stranger; slip = None }
+
+-- no sync was begun, or the one that was is given up, or was lost
 abbrev pub IsSyncDenied : HandleId → PageIndex → PageIndex → SeatSeen → SeatSeen → Denied → Type 0
 IsSyncDenied h first last before after d =
     IsNotBegun h first last before after d
-    ⊎ (GaveUp h first last before after d ⊎ (d ≡ record { refusal = Stranger; slip = None }))
+    ⊎ (GaveUp h first last before after d ⊎ WasLost h first last before after d)
 
 -- the refusal has the code that the poll answered, or else that of the step which ended the sync
 pub record Reports (failed : Option ℕ) (slip : Slip) (old new : PassSeen) (d : Denied) : Type 0 where
@@ -135,10 +150,12 @@ pub record Reports (failed : Option ℕ) (slip : Slip) (old new : PassSeen) (d :
   pub tells : (answer ≡ Some code) ⊎ ((answer ≡ None) × (failed ≡ Some code))
   pub is : d ≡ record { refusal = Io code; slip = Some slip }
 
--- a write of the file failed: while this call's sync was in progress, or since the handle was last told
-abbrev pub WriteFailed : HandleId → PageIndex → PageIndex → SeatSeen → SeatSeen → PassSeen → PassSeen → Denied → Type 0
-WriteFailed h first last before after old new d =
-    (failed : Option ℕ) × (slip : Slip) × Syncs h first last failed before after slip × Reports failed slip old new d
+-- a write of the file failed: while this call's sync was in progress, or since the handle was last told. The handle knows of it
+abbrev pub WriteFailed : Sizes → ℕ → HandleId → PageIndex → PageIndex → SeatSeen → SeatSeen → PassSeen → PassSeen → Denied
+    → Type 0
+WriteFailed sizes name h first last before after old new d =
+    (failed : Option ℕ) × (slip : Slip) × Syncs h first last failed before after slip × Hears sizes name slip after new
+    × Reports failed slip old new d
 
 -- this call's sync ended clean, and the device could not make its writes durable
 abbrev pub FlushFailed : HandleId → PageIndex → PageIndex → SeatSeen → SeatSeen → Denied → Type 0
@@ -147,8 +164,9 @@ FlushFailed h first last before after d =
     × (d ≡ record { refusal = Io code; slip = None })
 
 -- how an fsync is refused. The pass is told of what a failed write was, and of nothing else
-abbrev pub IsFsyncDenied : HandleId → PageIndex → PageIndex → SeatSeen → SeatSeen → PassSeen → PassSeen → Denied → Type 0
-IsFsyncDenied h first last before after old new d =
-    WriteFailed h first last before after old new d
+abbrev pub IsFsyncDenied : Sizes → ℕ → HandleId → PageIndex → PageIndex → SeatSeen → SeatSeen → PassSeen → PassSeen → Denied
+    → Type 0
+IsFsyncDenied sizes name h first last before after old new d =
+    WriteFailed sizes name h first last before after old new d
     ⊎ ((IsLevelled old new × FlushFailed h first last before after d)
     ⊎ ((new ≡ old) × IsSyncDenied h first last before after d))

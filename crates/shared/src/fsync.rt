@@ -56,7 +56,7 @@ impl<B: Naming, D: BlockDevice, T: Trail> SharedCache<B, D, T> {
         ensures same { (handle.new ≡ record handle.old { pass = handle.new.pass }) × (handle.new.pass.board ≡ handle.old.pass.board) }
         ensures clean { IfOk result (λ slip. Syncs handle.old.number (record { 0 = 0 }) (record { 0 = LAST_PAGE }) None seat.old seat.new slip × Polled handle.old.pass handle.new.pass None) }
         ensures hears { IfOk result (λ slip. Hears B.sizes self.now.name slip seat.new handle.new.pass) }
-        ensures denied { seat.old.name ≡ self.now.name → handle.old.cache ≡ self.now.name → IfErr result (IsFsyncDenied handle.old.number (record { 0 = 0 }) (record { 0 = LAST_PAGE }) seat.old seat.new handle.old.pass handle.new.pass) }
+        ensures denied { seat.old.name ≡ self.now.name → handle.old.cache ≡ self.now.name → IfErr result (IsFsyncDenied B.sizes self.now.name handle.old.number (record { 0 = 0 }) (record { 0 = LAST_PAGE }) seat.old seat.new handle.old.pass handle.new.pass) }
         ensures stands { IfErr result (λ d. IsNotBegun handle.old.number (record { 0 = 0 }) (record { 0 = LAST_PAGE }) seat.old seat.new d ⊎ IsFinal B.sizes self.now.name seat.new d) }
     {
         self.fsync_range(rt, seat, handle, PageIndex(0), PageIndex(LAST_PAGE))
@@ -64,7 +64,7 @@ impl<B: Naming, D: BlockDevice, T: Trail> SharedCache<B, D, T> {
 
     /// Writes those of the file's pages from `first` to `last` to the device that are dirty. Refused by `BadRange` where `first` is
     /// past `last`, and by `Io` as `fsync` is: also where the write that failed was of a page outside the range.
-    #[tactic(auto, using(locked::proofs::Seats::goes_same, crate::proofs::Syncing::fsync_denied, crate::proofs::Syncing::syncs_seen, crate::proofs::Syncing::flush_failed, crate::proofs::Syncing::sync_denied, crate::proofs::Owning::sync_same))]
+    #[tactic(auto, using(locked::proofs::Seats::goes_same, crate::proofs::Syncing::syncs_seen, crate::proofs::Syncing::flush_failed, crate::proofs::Syncing::sync_denied, crate::proofs::Owning::sync_same))]
     pub fn fsync_range<R: Wait>(
         &self,
         rt: &R,
@@ -82,7 +82,7 @@ impl<B: Naming, D: BlockDevice, T: Trail> SharedCache<B, D, T> {
         ensures same { (handle.new ≡ record handle.old { pass = handle.new.pass }) × (handle.new.pass.board ≡ handle.old.pass.board) }
         ensures clean { IfOk result (λ slip. Syncs handle.old.number first last None seat.old seat.new slip × Polled handle.old.pass handle.new.pass None) }
         ensures hears { IfOk result (λ slip. Hears B.sizes self.now.name slip seat.new handle.new.pass) }
-        ensures denied { seat.old.name ≡ self.now.name → handle.old.cache ≡ self.now.name → IfErr result (IsFsyncDenied handle.old.number first last seat.old seat.new handle.old.pass handle.new.pass) }
+        ensures denied { seat.old.name ≡ self.now.name → handle.old.cache ≡ self.now.name → IfErr result (IsFsyncDenied B.sizes self.now.name handle.old.number first last seat.old seat.new handle.old.pass handle.new.pass) }
         ensures stands { IfErr result (λ d. IsNotBegun handle.old.number first last seat.old seat.new d ⊎ IsFinal B.sizes self.now.name seat.new d) }
     {
         if let Err(refusal) = self.admits(seat, handle) {
