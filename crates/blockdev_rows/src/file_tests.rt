@@ -79,21 +79,24 @@ fn a_regular_file_reads_back(rt: HostRuntime) -> Result<(), Fail> {
     Ok(())
 }
 
+/// Whether no device is made at this path.
+fn is_refused(rt: &HostRuntime, path: Path, block_size: u64, blocks: u64) -> bool {
+    let device = FileDevice::open(rt, rt.alloc(), path, block_size, blocks);
+    matches!(device, Err(Refusal::Io(ErrCode::IO)))
+}
+
 #[test]
 fn what_is_no_device_is_refused(rt: HostRuntime) -> Result<(), Fail> {
     let folder = folder(&rt, "refused")?;
     let path = folder.join(rt.alloc(), "disk")?;
-    let none = FileDevice::open(&rt, rt.alloc(), path.as_path(), 16, 4);
-    check(&rt, matches!(none, Err(Refusal::Io(ErrCode::IO))));
-    let directory = FileDevice::open(&rt, rt.alloc(), folder.as_path(), 16, 4);
-    check(&rt, matches!(directory, Err(Refusal::Io(ErrCode::IO))));
+    check(&rt, is_refused(&rt, path.as_path(), 16, 4));
+    check(&rt, is_refused(&rt, folder.as_path(), 16, 4));
     fs::write(&rt, path.as_path(), "short")?;
     for (block_size, blocks) in [(0, 4), (16, u64::MAX), (1 << 40, 1 << 23)] {
-        let refused = FileDevice::open(&rt, rt.alloc(), path.as_path(), block_size, blocks);
-        check(&rt, matches!(refused, Err(Refusal::Io(ErrCode::IO))));
+        check(&rt, is_refused(&rt, path.as_path(), block_size, blocks));
     }
     // Nothing was done to the file.
-    check(&rt, fs::metadata(&rt, path.as_path())?.len() == 5);
+    check(&rt, has_len(&rt, path.as_path(), 5));
     fs::remove_dir_all(&rt, folder.as_path())?;
     Ok(())
 }

@@ -1,7 +1,7 @@
 //! Each device through the trait's bound, planned faults in their four forms, a page on its way, and jobs of both kinds
 //! with both outcomes.
 
-ghost use Rattle.std.specs.Prelude.{◌≡◌, ◌<◌, length, IfOk};
+ghost use Rattle.std.specs.Prelude.{◌≡◌, ◌<◌, length};
 
 use crate::checks::{check, same};
 use blockdev::{
@@ -12,7 +12,6 @@ use pc_types::{BlockNo, ErrCode, Geometry, Kind, Refusal, Serial};
 use std::alloc::Global;
 use std::cell::Cell;
 use std::process::Abort;
-use std::test::Fail;
 
 /// What a read of the block answers, and what it leaves of four nines.
 fn read<D: BlockDevice>(device: &mut D, block: u32) -> (Result<(), ErrCode>, [u8; 4])
@@ -54,42 +53,26 @@ fn reads_back<D: BlockDevice>(rt: &impl Abort, device: &mut D)
     same(rt, (device.calls(), device.faults()), (4, 0));
 }
 
-fn memory_reads_back(rt: &impl Abort, alloc: Global) -> Result<(), Refusal> {
-    let mut memory = MemDevice::new(alloc, 4, 2)?;
-    reads_back(rt, &mut memory);
-    Ok(())
-}
-
-fn script_reads_back(rt: &impl Abort, alloc: Global) -> Result<(), Refusal> {
-    let mut script = ScriptDevice::new(alloc, 4, 2)?;
-    reads_back(rt, &mut script);
-    Ok(())
-}
-
 #[test]
-fn devices_in_memory_read_back(rt: HostRuntime) -> Result<(), Fail> {
-    memory_reads_back(&rt, rt.alloc())?;
-    script_reads_back(&rt, rt.alloc())?;
-    Ok(())
+fn devices_in_memory_read_back(rt: HostRuntime) {
+    let mut memory = MemDevice::new(rt.alloc(), 4, 2).expect(&rt, "memory");
+    reads_back(&rt, &mut memory);
+    let mut script = ScriptDevice::new(rt.alloc(), 4, 2).expect(&rt, "memory");
+    reads_back(&rt, &mut script);
 }
 
 // More bytes than can be addressed are want of memory, and no overflow.
 #[test]
 fn a_device_without_room_is_refused(rt: HostRuntime) {
-    check(
-        &rt,
-        matches!(
-            MemDevice::new(rt.alloc(), u64::MAX, 2),
-            Err(Refusal::Memory)
-        ),
-    );
-    check(
-        &rt,
-        matches!(
-            ScriptDevice::new(rt.alloc(), 4_096, u64::MAX),
-            Err(Refusal::Memory)
-        ),
-    );
+    let memory = MemDevice::new(rt.alloc(), u64::MAX, 2);
+    check(&rt, matches!(memory, Err(Refusal::Memory)));
+    let script = ScriptDevice::new(rt.alloc(), 4_096, u64::MAX);
+    check(&rt, matches!(script, Err(Refusal::Memory)));
+}
+
+/// The code 28.
+fn full(rt: &impl Abort) -> ErrCode {
+    ErrCode::new(28).expect(rt, "a code")
 }
 
 fn fails_a_write(
@@ -112,18 +95,15 @@ fn fails_a_write(
     check(rt, has(device, 1, b"next"));
 }
 
-fn leaves(rt: &impl Abort, alloc: Global, effect: FaultEffect, left: &[u8]) -> Result<(), Refusal> {
-    let full = ErrCode::new(28)?;
-    let mut device = ScriptDevice::new(alloc, 4, 2)?;
-    fails_a_write(rt, &mut device, full, effect, left);
-    Ok(())
+fn leaves(rt: &impl Abort, alloc: Global, effect: FaultEffect, left: &[u8]) {
+    let mut device = ScriptDevice::new(alloc, 4, 2).expect(rt, "memory");
+    fails_a_write(rt, &mut device, full(rt), effect, left);
 }
 
 #[test]
-fn a_planned_write_fault_leaves_old_or_new_bytes(rt: HostRuntime) -> Result<(), Fail> {
-    leaves(&rt, rt.alloc(), FaultEffect::Old, b"old.")?;
-    leaves(&rt, rt.alloc(), FaultEffect::New, b"new.")?;
-    Ok(())
+fn a_planned_write_fault_leaves_old_or_new_bytes(rt: HostRuntime) {
+    leaves(&rt, rt.alloc(), FaultEffect::Old, b"old.");
+    leaves(&rt, rt.alloc(), FaultEffect::New, b"new.");
 }
 
 fn fails_a_read(rt: &impl Abort, device: &mut ScriptDevice, effect: FaultEffect)
@@ -137,17 +117,23 @@ fn fails_a_read(rt: &impl Abort, device: &mut ScriptDevice, effect: FaultEffect)
     same(rt, read(device, 1), (Ok(()), *b"kept"));
 }
 
-fn changes_nothing(rt: &impl Abort, alloc: Global, effect: FaultEffect) -> Result<(), Refusal> {
-    let mut device = ScriptDevice::new(alloc, 4, 2)?;
+fn changes_nothing(rt: &impl Abort, alloc: Global, effect: FaultEffect) {
+    let mut device = ScriptDevice::new(alloc, 4, 2).expect(rt, "memory");
     fails_a_read(rt, &mut device, effect);
-    Ok(())
 }
 
 #[test]
-fn a_planned_read_fault_changes_nothing(rt: HostRuntime) -> Result<(), Fail> {
-    changes_nothing(&rt, rt.alloc(), FaultEffect::Old)?;
-    changes_nothing(&rt, rt.alloc(), FaultEffect::New)?;
-    Ok(())
+fn a_planned_read_fault_changes_nothing(rt: HostRuntime) {
+    changes_nothing(&rt, rt.alloc(), FaultEffect::Old);
+    changes_nothing(&rt, rt.alloc(), FaultEffect::New);
+}
+
+/// A buffer of 16 bytes.
+fn buffer(rt: &impl Abort, alloc: Global) -> Buffer
+    ensures { length result ≡ 16 }
+{
+    let geometry = Geometry::new(16, 48, 16, 64).expect(rt, "sizes");
+    Buffer::new(alloc, &geometry).expect(rt, "memory")
 }
 
 fn carries_a_buffer<D: BlockDevice>(rt: &impl Abort, device: &mut D, buffer: &mut Buffer)
@@ -164,22 +150,19 @@ fn carries_a_buffer<D: BlockDevice>(rt: &impl Abort, device: &mut D, buffer: &mu
 }
 
 #[test]
-fn a_buffer_carries_a_page(rt: HostRuntime) -> Result<(), Fail> {
-    let geometry = Geometry::new(16, 48, 16, 64)?;
-    let mut buffer = Buffer::new(rt.alloc(), &geometry)?;
-    let mut device = MemDevice::new(rt.alloc(), 16, 64)?;
+fn a_buffer_carries_a_page(rt: HostRuntime) {
+    let mut buffer = buffer(&rt, rt.alloc());
+    let mut device = MemDevice::new(rt.alloc(), 16, 64).expect(&rt, "memory");
     carries_a_buffer(&rt, &mut device, &mut buffer);
-    Ok(())
 }
 
 /// A page of the byte.
-fn page(alloc: Global, byte: u8) -> Result<Buffer, Refusal>
-    ensures { IfOk result (λ b. length b ≡ 16) }
+fn page(rt: &impl Abort, alloc: Global, byte: u8) -> Buffer
+    ensures { length result ≡ 16 }
 {
-    let geometry = Geometry::new(16, 48, 16, 64)?;
-    let mut buffer = Buffer::new(alloc, &geometry)?;
+    let mut buffer = buffer(rt, alloc);
     buffer.as_mut_slice().fill(byte);
-    Ok(buffer)
+    buffer
 }
 
 /// Makes the call of request 7 of cache 3 for block 1, and sees that what comes back names it.
@@ -195,61 +178,43 @@ fn made<D: BlockDevice>(
     ensures size { (D.told device.new).size ≡ 16 }
     ensures count { 1 < (D.told device.new).count }
 {
+    let named = (3, Serial(7), kind);
     let job = Job::new(3, Serial(7), kind, BlockNo(1), buffer);
-    check(
-        rt,
-        job.cache() == 3 && job.serial() == Serial(7) && job.kind() == kind,
-    );
-    check(rt, job.block() == BlockNo(1) && job.bytes().len() == 16);
+    same(rt, (job.cache(), job.serial(), job.kind()), named);
+    same(rt, (job.block(), job.bytes().len()), (BlockNo(1), 16));
     let finished = perform(device, job);
-    check(
+    same(
         rt,
-        finished.cache() == 3 && finished.serial() == Serial(7) && finished.kind() == kind,
+        (finished.cache(), finished.serial(), finished.kind()),
+        named,
     );
     let outcome = finished.outcome();
     let parts = finished.into_parts();
-    check(
-        rt,
-        parts.cache == 3 && parts.serial == Serial(7) && parts.kind == kind,
-    );
-    check(rt, parts.block == BlockNo(1) && parts.outcome == outcome);
+    same(rt, (parts.cache, parts.serial, parts.kind), named);
+    same(rt, (parts.block, parts.outcome), (BlockNo(1), outcome));
     parts
 }
 
 /// A flush puts its page into the block of a new device, and a fill brings it back.
-fn carries_a_page<D: BlockDevice>(
-    rt: &impl Abort,
-    alloc: Global,
-    device: &mut D,
-) -> Result<(), Refusal>
+fn carries_a_page<D: BlockDevice>(rt: &impl Abort, alloc: Global, device: &mut D)
     requires size { (D.told device.old).size ≡ 16 }
     requires count { 1 < (D.told device.old).count }
 {
-    let flushed = made(rt, device, Kind::Flush, page(alloc, 7)?);
-    check(rt, flushed.outcome.is_ok());
+    let flushed = made(rt, device, Kind::Flush, page(rt, alloc, 7));
+    same(rt, flushed.outcome, Ok(()));
     same(rt, flushed.buffer.as_slice(), [7; 16].as_slice());
-    let filled = made(rt, device, Kind::Fill, page(alloc, 9)?);
-    check(rt, filled.outcome.is_ok());
+    let filled = made(rt, device, Kind::Fill, page(rt, alloc, 9));
+    same(rt, filled.outcome, Ok(()));
     same(rt, filled.buffer.as_slice(), [7; 16].as_slice());
     same(rt, (device.calls(), device.faults()), (2, 0));
-    Ok(())
-}
-
-fn memory_carries_a_page(rt: &impl Abort, alloc: Global) -> Result<(), Refusal> {
-    let mut memory = MemDevice::new(alloc, 16, 2)?;
-    carries_a_page(rt, alloc, &mut memory)
-}
-
-fn script_carries_a_page(rt: &impl Abort, alloc: Global) -> Result<(), Refusal> {
-    let mut script = ScriptDevice::new(alloc, 16, 2)?;
-    carries_a_page(rt, alloc, &mut script)
 }
 
 #[test]
-fn jobs_carry_a_page(rt: HostRuntime) -> Result<(), Fail> {
-    memory_carries_a_page(&rt, rt.alloc())?;
-    script_carries_a_page(&rt, rt.alloc())?;
-    Ok(())
+fn jobs_carry_a_page(rt: HostRuntime) {
+    let mut memory = MemDevice::new(rt.alloc(), 16, 2).expect(&rt, "memory");
+    carries_a_page(&rt, rt.alloc(), &mut memory);
+    let mut script = ScriptDevice::new(rt.alloc(), 16, 2).expect(&rt, "memory");
+    carries_a_page(&rt, rt.alloc(), &mut script);
 }
 
 fn fails_a_flush(
@@ -258,19 +223,17 @@ fn fails_a_flush(
     effect: FaultEffect,
     left: u8,
     buffer: Buffer,
-) -> Result<(), Refusal>
+)
     requires device { (device.old.size ≡ 16) × (1 < device.old.count) }
     requires page { length buffer ≡ 16 }
     ensures { (device.new.size ≡ 16) × (1 < device.new.count) }
 {
-    let full = ErrCode::new(28)?;
-    device.fail_next(full, effect);
+    device.fail_next(full(rt), effect);
     let flushed = made(rt, device, Kind::Flush, buffer);
-    same(rt, flushed.outcome, Err(full));
+    same(rt, flushed.outcome, Err(full(rt)));
     same(rt, flushed.buffer.as_slice(), [7; 16].as_slice());
     check(rt, has(device, 0, &[0; 16]));
     check(rt, has(device, 1, &[left; 16]));
-    Ok(())
 }
 
 fn fails_a_fill(rt: &impl Abort, device: &mut ScriptDevice, effect: FaultEffect, buffer: Buffer)
@@ -284,23 +247,16 @@ fn fails_a_fill(rt: &impl Abort, device: &mut ScriptDevice, effect: FaultEffect,
     same(rt, (device.calls(), device.faults()), (2, 2));
 }
 
-fn tells_the_code(
-    rt: &impl Abort,
-    alloc: Global,
-    effect: FaultEffect,
-    left: u8,
-) -> Result<(), Refusal> {
-    let mut device = ScriptDevice::new(alloc, 16, 2)?;
-    fails_a_flush(rt, &mut device, effect, left, page(alloc, 7)?)?;
-    fails_a_fill(rt, &mut device, effect, page(alloc, 9)?);
-    Ok(())
+fn tells_the_code(rt: &impl Abort, alloc: Global, effect: FaultEffect, left: u8) {
+    let mut device = ScriptDevice::new(alloc, 16, 2).expect(rt, "memory");
+    fails_a_flush(rt, &mut device, effect, left, page(rt, alloc, 7));
+    fails_a_fill(rt, &mut device, effect, page(rt, alloc, 9));
 }
 
 #[test]
-fn a_job_that_fails_tells_the_code(rt: HostRuntime) -> Result<(), Fail> {
-    tells_the_code(&rt, rt.alloc(), FaultEffect::Old, 0)?;
-    tells_the_code(&rt, rt.alloc(), FaultEffect::New, 7)?;
-    Ok(())
+fn a_job_that_fails_tells_the_code(rt: HostRuntime) {
+    tells_the_code(&rt, rt.alloc(), FaultEffect::Old, 0);
+    tells_the_code(&rt, rt.alloc(), FaultEffect::New, 7);
 }
 
 fn memory_is_flushed(rt: &impl Abort, memory: &mut MemDevice)
@@ -331,12 +287,11 @@ fn script_is_flushed(rt: &impl Abort, script: &mut ScriptDevice, code: ErrCode)
 }
 
 #[test]
-fn a_flush_is_counted_apart(rt: HostRuntime) -> Result<(), Fail> {
-    let mut memory = MemDevice::new(rt.alloc(), 4, 2)?;
+fn a_flush_is_counted_apart(rt: HostRuntime) {
+    let mut memory = MemDevice::new(rt.alloc(), 4, 2).expect(&rt, "memory");
     memory_is_flushed(&rt, &mut memory);
-    let mut script = ScriptDevice::new(rt.alloc(), 4, 2)?;
-    script_is_flushed(&rt, &mut script, ErrCode::new(28)?);
-    Ok(())
+    let mut script = ScriptDevice::new(rt.alloc(), 4, 2).expect(&rt, "memory");
+    script_is_flushed(&rt, &mut script, full(&rt));
 }
 
 fn notes_a_write(
@@ -358,14 +313,12 @@ fn notes_a_write(
 
 // What was on a device before counts as written, and so does a write that failed.
 #[test]
-fn a_write_is_noted_until_a_good_flush(rt: HostRuntime) -> Result<(), Fail> {
-    let full = ErrCode::new(28)?;
-    let buffer = page(rt.alloc(), 7)?;
-    let mut script = ScriptDevice::new(rt.alloc(), 16, 2)?;
+fn a_write_is_noted_until_a_good_flush(rt: HostRuntime) {
+    let full = full(&rt);
+    let mut script = ScriptDevice::new(rt.alloc(), 16, 2).expect(&rt, "memory");
     script.fail_next_flush(full);
     let mut watched = Watched::over(script);
-    notes_a_write(&rt, &mut watched, full, buffer);
-    Ok(())
+    notes_a_write(&rt, &mut watched, full, page(&rt, rt.alloc(), 7));
 }
 
 /// A gate that keeps the last number.
@@ -395,9 +348,9 @@ fn passes_the_gate(rt: &impl Abort, device: &mut GatedDevice<ScriptDevice, Count
 }
 
 #[test]
-fn each_call_passes_the_gate(rt: HostRuntime) -> Result<(), Fail> {
+fn each_call_passes_the_gate(rt: HostRuntime) {
     let gate = Counter { last: Cell::new(9) };
-    let mut device = GatedDevice::new(ScriptDevice::new(rt.alloc(), 4, 2)?, gate);
+    let script = ScriptDevice::new(rt.alloc(), 4, 2).expect(&rt, "memory");
+    let mut device = GatedDevice::new(script, gate);
     passes_the_gate(&rt, &mut device);
-    Ok(())
 }

@@ -1,9 +1,10 @@
-ghost use Rattle.std.specs.Prelude.{◌≡◌, ◌<◌, length, drop, IfOk, IfSome, IsSome};
+ghost use Rattle.std.specs.Prelude.{◌≡◌, ◌<◌, length, drop, IfSome, IsSome};
 ghost use Rattle.errseq.specs.Word.{IsWithinTurn};
 ghost use Rattle.errseq.specs.Recorded.{raised};
 ghost use Rattle.std.specs.Thread.{IsSync};
 
-use crate::checks::check;
+use crate::checks::{check, same};
+use crate::word_tests::code;
 use errboard::{Board, Pass, Receipt, Recorder};
 use pc_types::{ErrCode, FileId, Refusal};
 use std::process::Abort;
@@ -12,65 +13,64 @@ use std::test::*;
 use std::thread;
 use std::thread::Threads;
 
-// Whether the pass is told this code, and then nothing.
-fn is_told_once(board: &Board, pass: &mut Pass, code: u16) -> bool
+// A pass of the file that is made now.
+fn pass_of(rt: &impl Abort, recorder: &mut Recorder, file: u64) -> Pass
+    ensures { (recorder.new.board ≡ recorder.old.board) × (result.board ≡ recorder.old.board) }
+{
+    recorder.pass(FileId(file)).expect(rt, "a pass")
+}
+
+fn polled(board: &Board, pass: &mut Pass) -> Option<ErrCode>
     requires { pass.old.board ≡ board.now }
     ensures { pass.new.board ≡ pass.old.board }
 {
-    let first = polled(board, pass);
-    let second = polled(board, pass);
-    first == Some(code) && second.is_none()
+    board.poll(pass)
+}
+
+// The pass is told this code, and then nothing.
+fn is_told_once(rt: &impl Abort, board: &Board, pass: &mut Pass, code: ErrCode)
+    requires { pass.old.board ≡ board.now }
+    ensures { pass.new.board ≡ pass.old.board }
+{
+    same(rt, polled(board, pass), Some(code));
+    same(rt, polled(board, pass), None);
 }
 
 // Each pass that was made before a recording is told of it once, and so is one made before anybody was told.
-fn tells_each(
-    rt: &impl Abort,
-    board: &Board,
-    recorder: &mut Recorder,
-    first: &mut Pass,
-) -> Result<(), Refusal>
+fn tells_each(rt: &impl Abort, board: &Board, recorder: &mut Recorder, first: &mut Pass)
     requires { (recorder.old.board ≡ board.now) × (first.old.board ≡ board.now) }
     ensures { (recorder.new.board ≡ board.now) × (first.new.board ≡ board.now) }
 {
-    let mut second = recorder.pass(FileId(0))?;
+    let mut second = pass_of(rt, recorder, 0);
     let mut receipt = recorder.record(FileId(0), ErrCode::IO);
-    let mut third = recorder.pass(FileId(0))?;
-    check(rt, learns(board, first, &mut receipt) == Some(ErrCode::IO));
-    check(rt, board.poll(first).is_none());
-    check(rt, is_told_once(board, &mut second, 5));
-    check(rt, is_told_once(board, &mut third, 5));
-    Ok(())
+    let mut third = pass_of(rt, recorder, 0);
+    same(rt, learns(board, first, &mut receipt), Some(ErrCode::IO));
+    same(rt, polled(board, first), None);
+    is_told_once(rt, board, &mut second, ErrCode::IO);
+    is_told_once(rt, board, &mut third, ErrCode::IO);
 }
 
 // One made after that isn't, and each is told of the next recording.
-fn tells_the_next(
-    rt: &impl Abort,
-    board: &Board,
-    recorder: &mut Recorder,
-    first: &mut Pass,
-) -> Result<(), Refusal>
+fn tells_the_next(rt: &impl Abort, board: &Board, recorder: &mut Recorder, first: &mut Pass)
     requires { (recorder.old.board ≡ board.now) × (first.old.board ≡ board.now) }
     ensures { (recorder.new.board ≡ board.now) × (first.new.board ≡ board.now) }
 {
-    let full = ErrCode::new(28)?;
-    let mut fourth = recorder.pass(FileId(0))?;
-    check(rt, board.poll(&mut fourth).is_none());
+    let full = code(28);
+    let mut fourth = pass_of(rt, recorder, 0);
+    same(rt, polled(board, &mut fourth), None);
     recorder.record(FileId(0), full);
     recorder.level(&mut fourth);
-    check(rt, polled(board, &mut fourth) == Some(28));
-    check(rt, polled(board, first) == Some(28));
-    Ok(())
+    same(rt, polled(board, &mut fourth), Some(full));
+    same(rt, polled(board, first), Some(full));
 }
 
 #[test]
 fn each_pass_is_told_once(rt: HostRuntime) -> Result<(), Fail> {
     let (board, mut recorder) = Board::new(rt.alloc())?;
-    let mut first = recorder.pass(FileId(0))?;
-    check(&rt, board.poll(&mut first).is_none());
-    let told = tells_each(&rt, &board, &mut recorder, &mut first);
-    check(&rt, told.is_ok());
-    let told = tells_the_next(&rt, &board, &mut recorder, &mut first);
-    check(&rt, told.is_ok());
+    let mut first = pass_of(&rt, &mut recorder, 0);
+    same(&rt, polled(&board, &mut first), None);
+    tells_each(&rt, &board, &mut recorder, &mut first);
+    tells_the_next(&rt, &board, &mut recorder, &mut first);
     recorder.retire(first);
     Ok(())
 }
@@ -97,119 +97,103 @@ fn looks_twice(board: &Board, pass: &mut Pass) -> (Option<ErrCode>, Option<ErrCo
     (first, second, between)
 }
 
-// Whoever comes after a recording and before the first poll is told of it, and nobody who comes after that poll. The last is such a pass.
-fn remembers(rt: &impl Abort, recorder: &mut Recorder) -> Result<Pass, Refusal>
-    ensures same { recorder.new.board ≡ recorder.old.board }
-    ensures pass { IfOk result (λ p. p.board ≡ recorder.old.board) }
+// A pass of file 0 that is made now, by what the recorder remembers.
+fn remembered(rt: &impl Abort, recorder: &mut Recorder) -> Pass
+    ensures { (recorder.new.board ≡ recorder.old.board) × (result.board ≡ recorder.old.board) }
 {
-    let mut first = recorder.pass_remembered(FileId(0))?;
-    check(rt, recorder.poll(&mut first).is_none());
+    recorder.pass_remembered(FileId(0)).expect(rt, "a pass")
+}
+
+// What a poll by the recorder answers.
+fn recalled(recorder: &mut Recorder, pass: &mut Pass) -> Option<ErrCode>
+    requires { pass.old.board ≡ recorder.old.board }
+    ensures { (recorder.new.board ≡ recorder.old.board) × (pass.new.board ≡ pass.old.board) }
+{
+    recorder.poll(pass)
+}
+
+// Whoever comes after a recording and before the first poll is told of it, and nobody who comes after that poll. The last is such a pass.
+fn remembers(rt: &impl Abort, recorder: &mut Recorder) -> Pass
+    ensures { (recorder.new.board ≡ recorder.old.board) × (result.board ≡ recorder.old.board) }
+{
+    let mut first = remembered(rt, recorder);
+    same(rt, recalled(recorder, &mut first), None);
     recorder.record(FileId(0), ErrCode::IO);
-    let mut second = recorder.pass_remembered(FileId(0))?;
-    let mut third = recorder.pass_remembered(FileId(0))?;
-    check(rt, recorder.poll(&mut second) == Some(ErrCode::IO));
-    let mut fourth = recorder.pass_remembered(FileId(0))?;
-    check(rt, recorder.poll(&mut fourth).is_none());
-    check(rt, recorder.poll(&mut second).is_none());
-    check(rt, recorder.poll(&mut first) == Some(ErrCode::IO));
-    check(rt, recorder.poll(&mut third) == Some(ErrCode::IO));
-    Ok(fourth)
+    let mut second = remembered(rt, recorder);
+    let mut third = remembered(rt, recorder);
+    same(rt, recalled(recorder, &mut second), Some(ErrCode::IO));
+    let mut fourth = remembered(rt, recorder);
+    same(rt, recalled(recorder, &mut fourth), None);
+    same(rt, recalled(recorder, &mut second), None);
+    same(rt, recalled(recorder, &mut first), Some(ErrCode::IO));
+    same(rt, recalled(recorder, &mut third), Some(ErrCode::IO));
+    fourth
 }
 
 // It does not remember a poll of the board's, which a pass of the usual kind finds in the word.
-fn does_not_remember(
-    rt: &impl Abort,
-    board: &Board,
-    recorder: &mut Recorder,
-    fourth: &mut Pass,
-) -> Result<(), Refusal>
+fn does_not_remember(rt: &impl Abort, board: &Board, recorder: &mut Recorder, fourth: &mut Pass)
     requires { (recorder.old.board ≡ board.now) × (fourth.old.board ≡ board.now) }
 {
     recorder.record(FileId(0), ErrCode::IO);
-    check(rt, board.poll(fourth) == Some(ErrCode::IO));
-    let mut usual = recorder.pass(FileId(0))?;
-    let mut again = recorder.pass_remembered(FileId(0))?;
-    check(rt, board.poll(&mut usual).is_none());
-    check(rt, recorder.poll(&mut again) == Some(ErrCode::IO));
+    same(rt, polled(board, fourth), Some(ErrCode::IO));
+    let mut usual = pass_of(rt, recorder, 0);
+    let mut again = remembered(rt, recorder);
+    same(rt, polled(board, &mut usual), None);
+    same(rt, recalled(recorder, &mut again), Some(ErrCode::IO));
     let none = recorder.pass_remembered(FileId(64));
-    check(rt, none.err() == Some(Refusal::NoSuchFile));
-    Ok(())
+    same(rt, none.err(), Some(Refusal::NoSuchFile));
 }
 
 #[test]
 fn a_recorder_that_polls_alone_remembers_it(rt: HostRuntime) -> Result<(), Fail> {
     let (board, mut recorder) = Board::new(rt.alloc())?;
-    let mut fourth = remembers(&rt, &mut recorder)?;
-    let done = does_not_remember(&rt, &board, &mut recorder, &mut fourth);
-    check(&rt, done.is_ok());
+    let mut fourth = remembers(&rt, &mut recorder);
+    does_not_remember(&rt, &board, &mut recorder, &mut fourth);
     Ok(())
 }
 
 // A recording of one file, and its receipt, tell a pass of another nothing.
-fn keeps_files_apart(rt: &impl Abort, board: &Board, recorder: &mut Recorder) -> Result<(), Refusal>
+fn keeps_files_apart(rt: &impl Abort, board: &Board, recorder: &mut Recorder)
     requires { recorder.old.board ≡ board.now }
 {
-    let mut first = recorder.pass(FileId(0))?;
-    let mut last = recorder.pass(FileId(63))?;
+    let mut first = pass_of(rt, recorder, 0);
+    let mut last = pass_of(rt, recorder, 63);
     let none = recorder.pass(FileId(64));
-    check(rt, none.err() == Some(Refusal::NoSuchFile));
+    same(rt, none.err(), Some(Refusal::NoSuchFile));
     let mut receipt = recorder.record(FileId(63), ErrCode::IO);
     board.tell(&mut first, &mut receipt);
-    check(rt, board.poll(&mut first).is_none());
+    same(rt, polled(board, &mut first), None);
     let (code, none, _between) = looks_twice(board, &mut last);
-    check(rt, code == Some(ErrCode::IO) && none.is_none());
-    Ok(())
+    same(rt, (code, none), (Some(ErrCode::IO), None));
 }
 
 #[test]
 fn files_are_apart(rt: HostRuntime) -> Result<(), Fail> {
     let (board, mut recorder) = Board::new(rt.alloc())?;
-    let done = keeps_files_apart(&rt, &board, &mut recorder);
-    check(&rt, done.is_ok());
+    keeps_files_apart(&rt, &board, &mut recorder);
     Ok(())
 }
 
-// A code that nobody was told of is told to a new pass, and one that somebody was told of is not.
-fn carries_codes(
-    rt: &impl Abort,
-    board: &Board,
-    recorder: &mut Recorder,
-) -> Result<(Pass, Pass), Refusal>
+// A code that nobody was told of is told to a new pass, and one that somebody was told of is not. What is recorded from then on is told
+// to each, and past the end of the old counter too.
+fn carries_codes(rt: &impl Abort, board: &Board, recorder: &mut Recorder)
     requires { recorder.old.board ≡ board.now }
-    ensures same { recorder.new.board ≡ board.now }
-    ensures passes { IfOk result (λ p. (p.0.board ≡ board.now) × (p.1.board ≡ board.now)) }
 {
-    let mut untold = recorder.pass(FileId(0))?;
-    let mut told = recorder.pass(FileId(1))?;
-    check(rt, is_told_once(board, &mut untold, 5));
-    check(rt, board.poll(&mut told).is_none());
-    Ok((untold, told))
-}
-
-// What is recorded from now on is told to each, and past the end of the old counter too.
-fn goes_on(
-    rt: &impl Abort,
-    board: &Board,
-    recorder: &mut Recorder,
-    untold: &mut Pass,
-    told: &mut Pass,
-) -> Result<(), Refusal>
-    requires recorder { recorder.old.board ≡ board.now }
-    requires passes { (untold.old.board ≡ board.now) × (told.old.board ≡ board.now) }
-{
-    let full = ErrCode::new(28)?;
-    let mut last = recorder.pass(FileId(2))?;
-    let mut none = recorder.pass(FileId(3))?;
-    check(rt, board.poll(&mut last).is_none());
-    check(rt, board.poll(&mut none).is_none());
+    let mut untold = pass_of(rt, recorder, 0);
+    let mut told = pass_of(rt, recorder, 1);
+    let mut last = pass_of(rt, recorder, 2);
+    let mut none = pass_of(rt, recorder, 3);
+    is_told_once(rt, board, &mut untold, ErrCode::IO);
+    same(rt, polled(board, &mut told), None);
+    same(rt, polled(board, &mut last), None);
+    same(rt, polled(board, &mut none), None);
     for file in 0..4 {
-        recorder.record(FileId(file), full);
+        recorder.record(FileId(file), code(28));
     }
-    check(rt, polled(board, untold) == Some(28));
-    check(rt, polled(board, told) == Some(28));
-    check(rt, polled(board, &mut last) == Some(28));
-    check(rt, polled(board, &mut none) == Some(28));
-    Ok(())
+    same(rt, polled(board, &mut untold), Some(code(28)));
+    same(rt, polled(board, &mut told), Some(code(28)));
+    same(rt, polled(board, &mut last), Some(code(28)));
+    same(rt, polled(board, &mut none), Some(code(28)));
 }
 
 #[test]
@@ -219,9 +203,7 @@ fn a_board_begins_with_carried_words(rt: HostRuntime) -> Result<(), Fail> {
     words[1] = 0x1005;
     words[2] = 0xffff_f005;
     let (board, mut recorder) = Board::from_words(rt.alloc(), &words)?;
-    let (mut untold, mut told) = carries_codes(&rt, &board, &mut recorder)?;
-    let done = goes_on(&rt, &board, &mut recorder, &mut untold, &mut told);
-    check(&rt, done.is_ok());
+    carries_codes(&rt, &board, &mut recorder);
     Ok(())
 }
 
@@ -242,28 +224,25 @@ const ROUNDS: u16 = 2_000;
 #[test]
 fn every_pass_learns_of_the_last_recording(rt: HostRuntime) -> Result<(), Fail> {
     let (board, mut recorder) = Board::new(rt.alloc())?;
-    let first = recorder.pass(FileId(7))?;
-    let second = recorder.pass(FileId(7))?;
-    let recorded = record_beside(&rt, &board, recorder, first, second);
-    let (mut recorder, mut receipt, (mut first, met), (mut second, also)) = recorded.ok_or(
-        "a receipt",
-    )?;
+    let first = pass_of(&rt, &mut recorder, 7);
+    let second = pass_of(&rt, &mut recorder, 7);
+    let (mut recorder, mut receipt, (mut first, met), (mut second, also)) = record_beside(
+        &rt, &board, recorder, first, second,
+    );
 
     // Whoever looks at the end has met the last code, or meets it now, and then nothing.
     board.tell(&mut first, &mut receipt);
     let met = polled(&board, &mut first).or(met);
     let also = polled(&board, &mut second).or(also);
-    check(&rt, met == Some(ROUNDS) && also == Some(ROUNDS));
-    check(
-        &rt,
-        board.poll(&mut first).is_none() && board.poll(&mut second).is_none(),
-    );
+    same(&rt, (met, also), (Some(code(ROUNDS)), Some(code(ROUNDS))));
+    same(&rt, polled(&board, &mut first), None);
+    same(&rt, polled(&board, &mut second), None);
     recorder.retire(first);
     recorder.retire(second);
     Ok(())
 }
 
-type Met = (Pass, Option<u16>);
+type Met = (Pass, Option<ErrCode>);
 
 // One thread records while two poll.
 fn record_beside<R: Threads + Sync>(
@@ -272,11 +251,11 @@ fn record_beside<R: Threads + Sync>(
     recorder: Recorder,
     first: Pass,
     second: Pass,
-) -> Option<(Recorder, Receipt, Met, Met)>
+) -> (Recorder, Receipt, Met, Met)
     requires { (recorder.board ≡ board.now) × (first.board ≡ board.now) × (second.board ≡ board.now) }
-    ensures { IfSome result (λ r. (r.0.board ≡ board.now) × (r.1.board ≡ board.now) × (r.2.0.board ≡ board.now) × (r.3.0.board ≡ board.now)) }
+    ensures { (result.0.board ≡ board.now) × (result.1.board ≡ board.now) × (result.2.0.board ≡ board.now) × (result.3.0.board ≡ board.now) }
 {
-    let (recorded, (first, second)) = thread::join(
+    let ((recorder, receipt), (first, second)) = thread::join(
         rt,
         move || record_all(recorder),
         move || -> (Met, Met)
@@ -284,8 +263,7 @@ fn record_beside<R: Threads + Sync>(
             ensures { (result.0.0.board ≡ board.entry.now) × (result.1.0.board ≡ board.entry.now) }
         { poll_both(rt, board, first, second) },
     );
-    let (recorder, receipt) = recorded?;
-    Some((recorder, receipt, first, second))
+    (recorder, receipt, first, second)
 }
 
 fn poll_both<R: Threads + Sync>(rt: &R, board: &Board, first: Pass, second: Pass) -> (Met, Met)
@@ -300,14 +278,14 @@ fn poll_both<R: Threads + Sync>(rt: &R, board: &Board, first: Pass, second: Pass
 }
 
 // Records the codes from 1 to the last one.
-fn record_all(mut recorder: Recorder) -> Option<(Recorder, Receipt)>
-    ensures { IfSome result (λ r. (r.0.board ≡ recorder.board) × (r.1.board ≡ recorder.board)) }
+fn record_all(mut recorder: Recorder) -> (Recorder, Receipt)
+    ensures { (result.0.board ≡ recorder.board) × (result.1.board ≡ recorder.board) }
 {
-    let mut last = recorder.record(FileId(7), ErrCode::new(1).ok()?);
+    let mut last = recorder.record(FileId(7), code(1));
     for number in 2..ROUNDS + 1 {
-        last = recorder.record(FileId(7), ErrCode::new(number).ok()?);
+        last = recorder.record(FileId(7), code(number));
     }
-    Some((recorder, last))
+    (recorder, last)
 }
 
 // Polls as often, and gives the last code that was answered.
@@ -320,11 +298,4 @@ fn poll_all(board: &Board, mut pass: Pass) -> Met
         met = polled(board, &mut pass).or(met);
     }
     (pass, met)
-}
-
-fn polled(board: &Board, pass: &mut Pass) -> Option<u16>
-    requires { pass.old.board ≡ board.now }
-    ensures { pass.new.board ≡ pass.old.board }
-{
-    Some(board.poll(pass)?.code())
 }

@@ -5,9 +5,14 @@ use errseq::{ErrWord, answers_as_recorded};
 use pc_types::{ErrCode, Refusal};
 use std::test::*;
 
+/// The code with this number, which is one.
+pub fn code(number: u16) -> ErrCode {
+    ErrCode::new(number).unwrap_or(ErrCode::IO)
+}
+
 #[test]
-fn a_code_is_told_once(rt: HostRuntime) -> Result<(), Fail> {
-    let (five, full) = (code(5)?, code(28)?);
+fn a_code_is_told_once(rt: HostRuntime) {
+    let (five, full) = (code(5), code(28));
     let mut word = ErrWord(0);
     let mut since = word.sample();
 
@@ -32,7 +37,6 @@ fn a_code_is_told_once(rt: HostRuntime) -> Result<(), Fail> {
         &rt,
         word.check(ErrWord(0x1005)) == Some(28) && word == ErrWord(0x201c),
     );
-    Ok(())
 }
 
 // A handle is opened, a write fails, and the handle looks twice: it is told the code, and then nothing.
@@ -47,8 +51,8 @@ fn told_once(code: ErrCode) -> (Option<u16>, Option<u16>)
 }
 
 #[test]
-fn a_sample_that_never_stood_loses_an_error(rt: HostRuntime) -> Result<(), Fail> {
-    let (five, full) = (code(5)?, code(28)?);
+fn a_sample_that_never_stood_loses_an_error(rt: HostRuntime) {
+    let (five, full) = (code(5), code(28));
     let mut word = ErrWord(0);
 
     // Handle A loads the word. Before it sets SEEN another code is recorded, so that its exchange fails.
@@ -65,15 +69,13 @@ fn a_sample_that_never_stood_loses_an_error(rt: HostRuntime) -> Result<(), Fail>
         &rt,
         word.check(meant).is_none() && word.check(ErrWord(0)) == Some(5),
     );
-    Ok(())
 }
 
 #[test]
-fn the_counter_wraps(rt: HostRuntime) -> Result<(), Fail> {
+fn the_counter_wraps(rt: HostRuntime) {
     let mut word = ErrWord(0xffff_ffff_ffff_f005);
-    word.set(code(5)?);
+    word.set(code(5));
     check(&rt, word == ErrWord(0x5));
-    Ok(())
 }
 
 #[test]
@@ -81,7 +83,7 @@ fn a_word_of_32_bits_is_carried_over(rt: HostRuntime) -> Result<(), Fail> {
     // Where the counter of 19 bits came round, the one of 51 bits goes on.
     let mut word = ErrWord::carry(0xffff_f005)?;
     let mut since = word.sample();
-    word.set(code(5)?);
+    word.set(code(5));
     check(&rt, word == ErrWord(0x1_0000_0005));
     check(&rt, word.check_and_advance(&mut since) == Some(5));
 
@@ -96,7 +98,7 @@ fn a_word_of_32_bits_is_carried_over(rt: HostRuntime) -> Result<(), Fail> {
 }
 
 #[test]
-fn each_call_by_itself(rt: HostRuntime) -> Result<(), Fail> {
+fn each_call_by_itself(rt: HostRuntime) {
     let word = ErrWord(0x201c);
     check(&rt, !word.is_seen() && word.code() == 28);
     check(
@@ -112,11 +114,6 @@ fn each_call_by_itself(rt: HostRuntime) -> Result<(), Fail> {
         &rt,
         word.to_u64() == 0x201c && ErrWord::from_u64(0x201c) == word,
     );
-    check(&rt, told_once(code(28)?) == (Some(28), None));
+    check(&rt, told_once(code(28)) == (Some(28), None));
     answers_as_recorded();
-    Ok(())
-}
-
-fn code(number: u16) -> Result<ErrCode, Fail> {
-    Ok(ErrCode::new(number).ok().ok_or("a code")?)
 }

@@ -18,35 +18,40 @@ fn assert_totals(rt: &impl Abort, mapping: &Mapping, dirty: u64, writeback: u64,
     same(rt, mapping.totals(), totals);
 }
 
+/// Sets a tag of page 3, and counts the tags.
+fn counts_set(
+    rt: &impl Abort,
+    mapping: &mut Mapping,
+    tag: Tag,
+    dirty: u64,
+    writeback: u64,
+    towrite: u64,
+) {
+    same(rt, mapping.tag(PageIndex(3), tag), Ok(()));
+    assert_totals(rt, mapping, dirty, writeback, towrite);
+}
+
 /// A tag counts once, however often it is set, and is taken off once.
 #[test]
-fn a_tag_counts_once(rt: HostRuntime) -> Result<(), Fail> {
+fn a_tag_counts_once(rt: HostRuntime) {
     let page = PageIndex(3);
     let mut mapping = Mapping::new(rt.alloc());
     same(&rt, mapping.page(page), None);
     same(&rt, mapping.insert_page(page, FrameId(9)), Ok(()));
-    same(
-        &rt,
-        mapping.insert_page(page, FrameId(8)),
-        Err(Refusal::Busy),
-    );
+    let again = mapping.insert_page(page, FrameId(8));
+    same(&rt, again, Err(Refusal::Busy));
     same(&rt, mapping.page_count(), 1);
     assert_totals(&rt, &mapping, 0, 0, 0);
-    same(&rt, mapping.tag(page, Tag::Dirty), Ok(()));
-    assert_totals(&rt, &mapping, 1, 0, 0);
-    same(&rt, mapping.tag(page, Tag::Dirty), Ok(()));
-    assert_totals(&rt, &mapping, 1, 0, 0);
-    same(&rt, mapping.tag(page, Tag::Writeback), Ok(()));
-    assert_totals(&rt, &mapping, 1, 1, 0);
-    same(&rt, mapping.tag(page, Tag::Towrite), Ok(()));
-    assert_totals(&rt, &mapping, 1, 1, 1);
+    counts_set(&rt, &mut mapping, Tag::Dirty, 1, 0, 0);
+    counts_set(&rt, &mut mapping, Tag::Dirty, 1, 0, 0);
+    counts_set(&rt, &mut mapping, Tag::Writeback, 1, 1, 0);
+    counts_set(&rt, &mut mapping, Tag::Towrite, 1, 1, 1);
     mapping.untag(page, Tag::Writeback);
     assert_totals(&rt, &mapping, 1, 0, 1);
     mapping.untag(page, Tag::Writeback);
     assert_totals(&rt, &mapping, 1, 0, 1);
     check(&rt, mapping.has_tag(page, Tag::Towrite));
     check(&rt, !mapping.has_tag(page, Tag::Writeback));
-    Ok(())
 }
 
 /// A page's frame is found with and without its tags, and the page goes with them.
@@ -148,50 +153,56 @@ fn assert_found(rt: &impl Abort, found: Option<FoundPage>, at: usize) {
     }
 }
 
-/// A mapping of the seven pages.
-fn far_pages(rt: &impl Abort, alloc: Global) -> Result<Mapping, Refusal> {
-    let mut mapping = Mapping::new(alloc);
+fn inserts_far_pages(rt: &impl Abort, mapping: &mut Mapping) {
     for at in 0..7usize {
-        mapping.insert_page(PageIndex(page_at(rt, at)), FrameId(at as u32))?;
+        let page = PageIndex(page_at(rt, at));
+        same(rt, mapping.insert_page(page, FrameId(at as u32)), Ok(()));
     }
-    Ok(mapping)
+    same(rt, mapping.page_count(), 7);
 }
 
-/// 0, 63, 4,095 and the last page are DIRTY, 63 is TOWRITE too.
-fn far_tagged_pages(rt: &impl Abort, alloc: Global) -> Result<Mapping, Refusal> {
-    let mut mapping = far_pages(rt, alloc)?;
-    for at in [0usize, 2, 4, 6] {
-        mapping.tag(PageIndex(page_at(rt, at)), Tag::Dirty)?;
+fn finds_far_pages(rt: &impl Abort, mapping: &Mapping) {
+    for at in 0..7usize {
+        let page = page_at(rt, at);
+        assert_found(rt, mapping.find_page(PageIndex(page)), at);
+        assert_found(rt, mapping.find_page(PageIndex(page + 1)), at + 1);
     }
-    mapping.tag(PageIndex(63), Tag::Towrite)?;
-    Ok(mapping)
+}
+
+fn removes_far_pages(rt: &impl Abort, mapping: &mut Mapping) {
+    for at in 0..7usize {
+        let removed = mapping.remove_page(PageIndex(page_at(rt, at)));
+        same(rt, removed, Some(FrameId(at as u32)));
+    }
+    same(rt, mapping.page_count(), 0);
 }
 
 /// A search finds the page at its start, or the next one, until the pages are removed.
 #[test]
-fn pages_are_found(rt: HostRuntime) -> Result<(), Fail> {
-    let empty = Mapping::new(rt.alloc());
-    assert_found(&rt, empty.find_page(PageIndex(0)), 7);
-    let mut mapping = far_pages(&rt, rt.alloc())?;
-    same(&rt, mapping.page_count(), 7);
-    for at in 0..7usize {
-        let page = page_at(&rt, at);
-        assert_found(&rt, mapping.find_page(PageIndex(page)), at);
-        assert_found(&rt, mapping.find_page(PageIndex(page + 1)), at + 1);
+fn pages_are_found(rt: HostRuntime) {
+    let mut mapping = Mapping::new(rt.alloc());
+    assert_found(&rt, mapping.find_page(PageIndex(0)), 7);
+    inserts_far_pages(&rt, &mut mapping);
+    finds_far_pages(&rt, &mapping);
+    removes_far_pages(&rt, &mut mapping);
+}
+
+/// 0, 63, 4,095 and the last page are DIRTY, 63 is TOWRITE too.
+fn tags_far_pages(rt: &impl Abort, mapping: &mut Mapping) {
+    inserts_far_pages(rt, mapping);
+    for at in [0usize, 2, 4, 6] {
+        let page = PageIndex(page_at(rt, at));
+        same(rt, mapping.tag(page, Tag::Dirty), Ok(()));
     }
-    for at in 0..7usize {
-        let removed = mapping.remove_page(PageIndex(page_at(&rt, at)));
-        same(&rt, removed, Some(FrameId(at as u32)));
-    }
-    same(&rt, mapping.page_count(), 0);
-    Ok(())
+    same(rt, mapping.tag(PageIndex(63), Tag::Towrite), Ok(()));
+    assert_totals(rt, mapping, 4, 0, 1);
 }
 
 /// A search for a tag passes over the pages without it, and goes no further than its end.
 #[test]
-fn tagged_pages_are_found(rt: HostRuntime) -> Result<(), Fail> {
-    let mapping = far_tagged_pages(&rt, rt.alloc())?;
-    assert_totals(&rt, &mapping, 4, 0, 1);
+fn tagged_pages_are_found(rt: HostRuntime) {
+    let mut mapping = Mapping::new(rt.alloc());
+    tags_far_pages(&rt, &mut mapping);
     let rows = [
         (0, u64::MAX, Tag::Dirty, 0usize),
         (1, u64::MAX, Tag::Dirty, 2),
@@ -205,30 +216,37 @@ fn tagged_pages_are_found(rt: HostRuntime) -> Result<(), Fail> {
         let found = mapping.find_tagged(PageIndex(from), PageIndex(to), tag);
         assert_found(&rt, found, at);
     }
-    Ok(())
+}
+
+/// Retags the pages from `from` to `to`, as many as this.
+fn retags(
+    rt: &impl Abort,
+    mapping: &mut Mapping,
+    from: u64,
+    to: u64,
+    tag: Tag,
+    other: Tag,
+    want: u64,
+) {
+    let count = mapping.retag(PageIndex(from), PageIndex(to), tag, other);
+    same(rt, count, want);
 }
 
 /// 63 and 4,095 are DIRTY from 1 to 4,096; only 4,095 is new as TOWRITE.
 #[test]
-fn tagged_pages_are_retagged(rt: HostRuntime) -> Result<(), Fail> {
-    let mut mapping = far_tagged_pages(&rt, rt.alloc())?;
-    let (first, last) = (PageIndex(0), PageIndex(u64::MAX));
-    let count = mapping.retag(PageIndex(1), PageIndex(4_096), Tag::Dirty, Tag::Towrite);
-    same(&rt, count, 2);
+fn tagged_pages_are_retagged(rt: HostRuntime) {
+    let (dirty, writeback, towrite) = (Tag::Dirty, Tag::Writeback, Tag::Towrite);
+    let mut mapping = Mapping::new(rt.alloc());
+    tags_far_pages(&rt, &mut mapping);
+    retags(&rt, &mut mapping, 1, 4_096, dirty, towrite, 2);
     assert_totals(&rt, &mapping, 4, 0, 2);
-    check(&rt, mapping.has_tag(PageIndex(4_095), Tag::Towrite));
-    check(&rt, !mapping.has_tag(first, Tag::Towrite));
-    let count = mapping.retag(first, last, Tag::Dirty, Tag::Towrite);
-    same(&rt, count, 4);
+    check(&rt, mapping.has_tag(PageIndex(4_095), towrite));
+    check(&rt, !mapping.has_tag(PageIndex(0), towrite));
+    retags(&rt, &mut mapping, 0, u64::MAX, dirty, towrite, 4);
     assert_totals(&rt, &mapping, 4, 0, 4);
-    let count = mapping.retag(PageIndex(2), PageIndex(1), Tag::Dirty, Tag::Writeback);
-    same(&rt, count, 0);
-    let count = mapping.retag(first, last, Tag::Writeback, Tag::Dirty);
-    same(&rt, count, 0);
+    retags(&rt, &mut mapping, 2, 1, dirty, writeback, 0);
+    retags(&rt, &mut mapping, 0, u64::MAX, writeback, dirty, 0);
     assert_totals(&rt, &mapping, 4, 0, 4);
-    for at in 0..7usize {
-        mapping.remove_page(PageIndex(page_at(&rt, at)));
-    }
+    removes_far_pages(&rt, &mut mapping);
     assert_totals(&rt, &mapping, 0, 0, 0);
-    Ok(())
 }

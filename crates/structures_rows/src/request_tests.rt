@@ -16,7 +16,7 @@ fn expect_room(rt: &impl Abort, requests: &Requests)
     assert!(rt; !requests.is_full());
 }
 
-fn begin(rt: &impl Abort, requests: &mut Requests, kind: Kind, file: u64, page: u64) -> Serial {
+pub fn begin(rt: &impl Abort, requests: &mut Requests, kind: Kind, file: u64, page: u64) -> Serial {
     expect_room(rt, requests);
     requests.begin(kind, FileId(file), PageIndex(page), BlockNo(7))
 }
@@ -96,53 +96,62 @@ fn serials_count_from_0(rt: HostRuntime) {
     same(&rt, begin(&rt, &mut requests, Kind::Fill, 0, 3), Serial(2));
 }
 
+/// A sync of these pages awaits this flush of the file first, of those below the bound.
+fn awaits(
+    rt: &impl Abort,
+    requests: &Requests,
+    file: u64,
+    pages: &Progress,
+    bound: u64,
+    want: Option<(Serial, PageIndex)>,
+) {
+    let first = requests.first_awaited(FileId(file), pages, Serial(bound));
+    same(rt, first, want);
+}
+
+/// Begins as many flushes as may be in flight, of the first pages of file 0.
+fn begins_all(rt: &impl Abort, requests: &mut Requests) {
+    for page in 0..64u64 {
+        let serial = begin(rt, requests, Kind::Flush, 0, page);
+        same(rt, serial, Serial(page));
+    }
+    check(rt, requests.is_full());
+}
+
+/// One of them ends.
+fn ends(rt: &impl Abort, requests: &mut Requests, page: u64) {
+    let ended = requests.end(Serial(page));
+    same(rt, ended, Some(request(Kind::Flush, 0, page, false)));
+}
+
+fn ends_odd_pages(rt: &impl Abort, requests: &mut Requests) {
+    for k in 0..32u64 {
+        ends(rt, requests, 2 * k + 1);
+    }
+    check(rt, !requests.is_full());
+}
+
+/// From the last on, so that the first is awaited to the end.
+fn ends_even_pages(rt: &impl Abort, requests: &mut Requests) {
+    let all = progress(0, LAST_PAGE);
+    for k in 0..32u64 {
+        awaits(rt, requests, 0, &all, 64, Some((Serial(0), PageIndex(0))));
+        ends(rt, requests, 62 - 2 * k);
+    }
+    same(rt, requests.len(), 0);
+}
+
 #[test]
 fn a_full_table_ends_in_any_order(rt: HostRuntime) {
     let mut requests = Requests::new();
-    for page in 0..64u64 {
-        same(
-            &rt,
-            begin(&rt, &mut requests, Kind::Flush, 0, page),
-            Serial(page),
-        );
-    }
-    check(&rt, requests.is_full());
-    same(
-        &rt,
-        flush(&mut requests, FileId(0), PageIndex(64), BlockNo(7)),
-        None,
-    );
+    begins_all(&rt, &mut requests);
+    let refused = flush(&mut requests, FileId(0), PageIndex(64), BlockNo(7));
+    same(&rt, refused, None);
     same(&rt, requests.len(), 64);
-
-    // The odd ones end first, then the even ones from the last.
-    for k in 0..32u64 {
-        same(
-            &rt,
-            requests.end(Serial(2 * k + 1)),
-            Some(request(Kind::Flush, 0, 2 * k + 1, false)),
-        );
-    }
-    check(&rt, !requests.is_full());
-    let all = progress(0, LAST_PAGE);
-    for k in 0..32u64 {
-        let serial = 62 - 2 * k;
-        same(
-            &rt,
-            requests.first_awaited(FileId(0), &all, Serial(64)),
-            Some((Serial(0), PageIndex(0))),
-        );
-        same(
-            &rt,
-            requests.end(Serial(serial)),
-            Some(request(Kind::Flush, 0, serial, false)),
-        );
-    }
-    same(&rt, requests.len(), 0);
-    same(
-        &rt,
-        flush(&mut requests, FileId(0), PageIndex(64), BlockNo(7)),
-        Some(Serial(64)),
-    );
+    ends_odd_pages(&rt, &mut requests);
+    ends_even_pages(&rt, &mut requests);
+    let begun = flush(&mut requests, FileId(0), PageIndex(64), BlockNo(7));
+    same(&rt, begun, Some(Serial(64)));
 }
 
 #[test]
@@ -194,46 +203,20 @@ fn the_oldest_flush_is_awaited_first(rt: HostRuntime) {
 
     // Fills and other files do not count, nor do requests at or past the bound.
     let all = progress(0, LAST_PAGE);
-    same(
-        &rt,
-        requests.first_awaited(FileId(0), &all, Serial(4)),
-        Some((Serial(2), PageIndex(9))),
-    );
-    same(
-        &rt,
-        requests.first_awaited(FileId(0), &all, Serial(2)),
-        None,
-    );
-    same(
-        &rt,
-        requests.first_awaited(FileId(2), &all, Serial(4)),
-        None,
-    );
+    let of_9 = Some((Serial(2), PageIndex(9)));
+    let of_8 = Some((Serial(3), PageIndex(8)));
+    awaits(&rt, &requests, 0, &all, 4, of_9);
+    awaits(&rt, &requests, 0, &all, 2, None);
+    awaits(&rt, &requests, 2, &all, 4, None);
 
     // Nor do pages past the range, or before it.
-    same(
-        &rt,
-        requests.first_awaited(FileId(0), &progress(7, 8), Serial(4)),
-        Some((Serial(3), PageIndex(8))),
-    );
-    same(
-        &rt,
-        requests.first_awaited(FileId(0), &progress(0, 7), Serial(4)),
-        None,
-    );
-    same(
-        &rt,
-        requests.first_awaited(FileId(0), &progress(10, 11), Serial(4)),
-        None,
-    );
+    awaits(&rt, &requests, 0, &progress(7, 8), 4, of_8);
+    awaits(&rt, &requests, 0, &progress(0, 7), 4, None);
+    awaits(&rt, &requests, 0, &progress(10, 11), 4, None);
 
     // A dropped flush does not count.
     requests.drop_from(FileId(0), PageIndex(9));
-    same(
-        &rt,
-        requests.first_awaited(FileId(0), &all, Serial(4)),
-        Some((Serial(3), PageIndex(8))),
-    );
+    awaits(&rt, &requests, 0, &all, 4, of_8);
 }
 
 #[test]

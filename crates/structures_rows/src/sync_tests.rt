@@ -1,31 +1,19 @@
 //! Picks, and whole syncs on a mapping: what is written and what is waited for, step by step.
 
-ghost use Rattle.std.specs.Prelude.{◌≡◌, ◌<◌, false};
-ghost use Rattle.writeback.specs.Flights.{is_full};
+ghost use Rattle.std.specs.Prelude.{◌<◌};
 
 use crate::checks::{check, same};
+use crate::request_tests::begin;
 use mapping::{FoundPage, Mapping};
 use pc_types::limits::LAST_PAGE;
-use pc_types::{
-    BlockNo, FileId, FrameId, HandleId, Kind, PageIndex, Refusal, Serial, SyncId, Tag, Tags,
-};
+use pc_types::{FileId, FrameId, HandleId, Kind, PageIndex, Serial, SyncId, Tag, Tags};
 use std::alloc::Global;
 use std::process::Abort;
-use std::test::Fail;
 use writeback::{
     Requests, SyncStep, Syncs, begin_write, end_write, flush_pick, sync_begin, sync_pick, sync_step,
 };
 
 const FILE: FileId = FileId(0);
-
-/// A mapping of four pages without tags, each in the frame 10 past its number.
-fn four_pages(alloc: Global) -> Result<Mapping, Refusal> {
-    let mut pages = Mapping::new(alloc);
-    for k in 0..4u32 {
-        pages.insert_page(PageIndex(k as u64), FrameId(k + 10))?;
-    }
-    Ok(pages)
-}
 
 fn found(page: u64) -> FoundPage
     requires { page < 4 }
@@ -36,232 +24,203 @@ fn found(page: u64) -> FoundPage
     }
 }
 
-fn assert_tags(
-    rt: &impl Abort,
-    pages: &Mapping,
-    page: u64,
-    dirty: bool,
-    writeback: bool,
-    towrite: bool,
-) {
-    let page = PageIndex(page);
-    same(rt, pages.has_tag(page, Tag::Dirty), dirty);
-    same(rt, pages.has_tag(page, Tag::Writeback), writeback);
-    same(rt, pages.has_tag(page, Tag::Towrite), towrite);
+/// Sync 0 has nothing to start, and awaits the write of this page, of those below the bound.
+fn awaits(page: u64, bound: u64) -> SyncStep {
+    SyncStep::Await(PageIndex(page), Serial(bound))
 }
 
-/// Begins the write of a page.
-fn start(rt: &impl Abort, pages: &mut Mapping, requests: &mut Requests, page: u64) -> Serial {
-    expect_room(rt, requests);
-    begin_write(pages, PageIndex(page));
-    requests.begin(Kind::Flush, FILE, PageIndex(page), BlockNo(0))
+/// The pages of a file, its requests and its syncs.
+#[derive(Drop)]
+struct Desk {
+    pages: Mapping,
+    requests: Requests,
+    syncs: Syncs,
 }
 
-/// Stops the test where no request may begin.
-fn expect_room(rt: &impl Abort, requests: &Requests)
-    ensures { is_full requests.now ≡ false }
-{
-    assert!(rt; !requests.is_full());
+impl Desk {
+    /// Four pages without tags, each in the frame 10 past its number.
+    fn new(rt: &impl Abort, alloc: Global) -> Desk {
+        let mut pages = Mapping::new(alloc);
+        for k in 0..4u32 {
+            let inserted = pages.insert_page(PageIndex(k as u64), FrameId(k + 10));
+            same(rt, inserted, Ok(()));
+        }
+        Desk {
+            pages,
+            requests: Requests::new(),
+            syncs: Syncs::new(),
+        }
+    }
+
+    fn set_tags(&mut self, rt: &impl Abort, page: u64, tags: Tags) {
+        same(rt, self.pages.set_tags(PageIndex(page), tags), Ok(()));
+    }
+
+    fn dirty(&mut self, rt: &impl Abort, page: u64) {
+        same(rt, self.pages.tag(PageIndex(page), Tag::Dirty), Ok(()));
+    }
+
+    fn has_tags(&self, rt: &impl Abort, page: u64, dirty: bool, writeback: bool, towrite: bool) {
+        let page = PageIndex(page);
+        same(rt, self.pages.has_tag(page, Tag::Dirty), dirty);
+        same(rt, self.pages.has_tag(page, Tag::Writeback), writeback);
+        same(rt, self.pages.has_tag(page, Tag::Towrite), towrite);
+    }
+
+    /// Begins the write of a page, by a request with this serial.
+    fn start(&mut self, rt: &impl Abort, page: u64, serial: u64) {
+        begin_write(&mut self.pages, PageIndex(page));
+        let begun = begin(rt, &mut self.requests, Kind::Flush, 0, page);
+        same(rt, begun, Serial(serial));
+    }
+
+    /// The write with this serial ends well.
+    fn end(&mut self, rt: &impl Abort, serial: u64, page: u64) {
+        check(rt, self.requests.end(Serial(serial)).is_some());
+        end_write(&mut self.pages, PageIndex(page), false);
+    }
+
+    /// Begins sync 0, of the pages from `first` to `last`.
+    fn sync(&mut self, rt: &impl Abort, first: u64, last: u64) {
+        let (first, last) = (PageIndex(first), PageIndex(last));
+        let begun = self.syncs.begin(HandleId(0), first, last, 0);
+        same(rt, begun, Ok(SyncId(0)));
+        sync_begin(&mut self.pages, first, last);
+    }
+
+    /// The page that sync 0 has left to start.
+    fn picked(&self) -> Option<FoundPage> {
+        let progress = self.syncs.get(SyncId(0))?;
+        sync_pick(&self.pages, &progress)
+    }
+
+    fn step(&self) -> Option<SyncStep> {
+        let progress = self.syncs.get(SyncId(0))?;
+        Some(sync_step(&self.pages, &self.requests, FILE, &progress))
+    }
+
+    /// What sync 0 does next.
+    fn goes_on(&self, rt: &impl Abort, want: SyncStep) {
+        same(rt, self.step(), Some(want));
+    }
+
+    /// Sync 0 starts the write of this page next.
+    fn starts(&mut self, rt: &impl Abort, page: u64, serial: u64)
+        requires { page < 4 }
+    {
+        self.goes_on(rt, SyncStep::Start(found(page)));
+        self.start(rt, page, serial);
+        self.syncs.started(SyncId(0), PageIndex(page));
+    }
 }
 
-/// The write with this serial ends well.
-fn end(rt: &impl Abort, pages: &mut Mapping, requests: &mut Requests, serial: u64, page: u64) {
-    check(rt, requests.end(Serial(serial)).is_some());
-    end_write(pages, PageIndex(page), false);
-}
-
-/// Begins a sync of all pages.
-fn begin_all(syncs: &mut Syncs) -> Result<SyncId, Refusal> {
-    syncs.begin(HandleId(0), PageIndex(0), PageIndex(LAST_PAGE), 0)
-}
-
-/// The page that sync 0 has left to start.
-fn picked(pages: &Mapping, syncs: &Syncs) -> Option<FoundPage> {
-    let progress = syncs.get(SyncId(0))?;
-    sync_pick(pages, &progress)
-}
-
-/// What sync 0 does next.
-fn step(pages: &Mapping, requests: &Requests, syncs: &Syncs) -> Option<SyncStep> {
-    let progress = syncs.get(SyncId(0))?;
-    Some(sync_step(pages, requests, FILE, &progress))
+fn picks_in_order(rt: &impl Abort, desk: &mut Desk) {
+    same(rt, flush_pick(&desk.pages), Some(found(2)));
+    begin_write(&mut desk.pages, PageIndex(2));
+    desk.has_tags(rt, 2, false, true, false);
+    same(rt, flush_pick(&desk.pages), Some(found(3)));
+    begin_write(&mut desk.pages, PageIndex(3));
+    same(rt, flush_pick(&desk.pages), None);
 }
 
 #[test]
-fn a_flush_takes_the_lowest_idle_dirty_page(rt: HostRuntime) -> Result<(), Fail> {
-    let mut pages = four_pages(rt.alloc())?;
-    same(&rt, flush_pick(&pages), None);
+fn a_flush_takes_the_lowest_idle_dirty_page(rt: HostRuntime) {
+    let mut desk = Desk::new(&rt, rt.alloc());
+    same(&rt, flush_pick(&desk.pages), None);
 
     // Page 0 is DIRTY and its write is in flight, page 1 is clean.
-    pages.set_tags(
-        PageIndex(0),
-        Tags::none().with(Tag::Dirty).with(Tag::Writeback),
-    )?;
-    same(
-        &rt,
-        pages.set_tags(PageIndex(2), Tags::none().with(Tag::Dirty)),
-        Ok(()),
-    );
-    same(
-        &rt,
-        pages.set_tags(PageIndex(3), Tags::none().with(Tag::Dirty)),
-        Ok(()),
-    );
-    same(&rt, flush_pick(&pages), Some(found(2)));
-    begin_write(&mut pages, PageIndex(2));
-    assert_tags(&rt, &pages, 2, false, true, false);
-    same(&rt, flush_pick(&pages), Some(found(3)));
-    begin_write(&mut pages, PageIndex(3));
-    same(&rt, flush_pick(&pages), None);
+    let dirty = Tags::none().with(Tag::Dirty);
+    desk.set_tags(&rt, 0, dirty.with(Tag::Writeback));
+    desk.set_tags(&rt, 2, dirty);
+    desk.set_tags(&rt, 3, dirty);
+    picks_in_order(&rt, &mut desk);
 
     // A write that ends well keeps a DIRTY that was set meanwhile, and one that fails sets it.
-    end_write(&mut pages, PageIndex(0), false);
-    assert_tags(&rt, &pages, 0, true, false, false);
-    end_write(&mut pages, PageIndex(2), false);
-    assert_tags(&rt, &pages, 2, false, false, false);
-    end_write(&mut pages, PageIndex(3), true);
-    assert_tags(&rt, &pages, 3, true, false, false);
-    same(&rt, flush_pick(&pages), Some(found(0)));
-    Ok(())
+    end_write(&mut desk.pages, PageIndex(0), false);
+    desk.has_tags(&rt, 0, true, false, false);
+    end_write(&mut desk.pages, PageIndex(2), false);
+    desk.has_tags(&rt, 2, false, false, false);
+    end_write(&mut desk.pages, PageIndex(3), true);
+    desk.has_tags(&rt, 3, true, false, false);
+    same(&rt, flush_pick(&desk.pages), Some(found(0)));
 }
 
 #[test]
-fn a_sync_writes_what_was_dirty_as_it_began(rt: HostRuntime) -> Result<(), Fail> {
-    let mut pages = four_pages(rt.alloc())?;
-    let mut requests = Requests::new();
-    let mut syncs = Syncs::new();
-    same(&rt, pages.tag(PageIndex(0), Tag::Dirty), Ok(()));
-    same(&rt, pages.tag(PageIndex(2), Tag::Dirty), Ok(()));
-    same(&rt, begin_all(&mut syncs), Ok(SyncId(0)));
-    sync_begin(&mut pages, PageIndex(0), PageIndex(LAST_PAGE));
-    assert_tags(&rt, &pages, 0, true, false, true);
-    assert_tags(&rt, &pages, 1, false, false, false);
+fn a_sync_writes_what_was_dirty_as_it_began(rt: HostRuntime) {
+    let mut desk = Desk::new(&rt, rt.alloc());
+    desk.dirty(&rt, 0);
+    desk.dirty(&rt, 2);
+    desk.sync(&rt, 0, LAST_PAGE);
+    desk.has_tags(&rt, 0, true, false, true);
+    desk.has_tags(&rt, 1, false, false, false);
 
     // Page 1 is made DIRTY after the sync began.
-    same(&rt, pages.tag(PageIndex(1), Tag::Dirty), Ok(()));
-    let next = step(&pages, &requests, &syncs);
-    same(&rt, next, Some(SyncStep::Start(found(0))));
-    same(&rt, start(&rt, &mut pages, &mut requests, 0), Serial(0));
-    syncs.started(SyncId(0), PageIndex(0));
-    same(&rt, picked(&pages, &syncs), Some(found(2)));
-    let next = step(&pages, &requests, &syncs);
-    same(&rt, next, Some(SyncStep::Start(found(2))));
-    same(&rt, start(&rt, &mut pages, &mut requests, 2), Serial(1));
-    syncs.started(SyncId(0), PageIndex(2));
+    desk.dirty(&rt, 1);
+    desk.starts(&rt, 0, 0);
+    same(&rt, desk.picked(), Some(found(2)));
+    desk.starts(&rt, 2, 1);
 
     // Nothing is left to start: it awaits both writes, the oldest first.
-    let next = step(&pages, &requests, &syncs);
-    same(&rt, next, Some(SyncStep::Await(PageIndex(0), Serial(2))));
-    syncs.set_bound(SyncId(0), Serial(2));
-    same(&rt, start(&rt, &mut pages, &mut requests, 1), Serial(2));
-    end(&rt, &mut pages, &mut requests, 0, 0);
-    let next = step(&pages, &requests, &syncs);
-    same(&rt, next, Some(SyncStep::Await(PageIndex(2), Serial(2))));
-    end(&rt, &mut pages, &mut requests, 1, 2);
+    desk.goes_on(&rt, awaits(0, 2));
+    desk.syncs.set_bound(SyncId(0), Serial(2));
+    desk.start(&rt, 1, 2);
+    desk.end(&rt, 0, 0);
+    desk.goes_on(&rt, awaits(2, 2));
+    desk.end(&rt, 1, 2);
 
     // The write of page 1 began later, and is none of its own.
-    same(&rt, step(&pages, &requests, &syncs), Some(SyncStep::Over));
-    assert_tags(&rt, &pages, 1, false, true, false);
-    Ok(())
+    desk.goes_on(&rt, SyncStep::Over);
+    desk.has_tags(&rt, 1, false, true, false);
 }
 
 #[test]
-fn a_sync_waits_for_an_old_write_and_writes_anew(rt: HostRuntime) -> Result<(), Fail> {
-    let mut pages = four_pages(rt.alloc())?;
-    let mut requests = Requests::new();
-    let mut syncs = Syncs::new();
-    same(&rt, pages.tag(PageIndex(0), Tag::Dirty), Ok(()));
-    same(&rt, start(&rt, &mut pages, &mut requests, 0), Serial(0));
-    same(&rt, pages.tag(PageIndex(0), Tag::Dirty), Ok(()));
-    same(&rt, begin_all(&mut syncs), Ok(SyncId(0)));
-    sync_begin(&mut pages, PageIndex(0), PageIndex(LAST_PAGE));
-    assert_tags(&rt, &pages, 0, true, true, true);
-    same(
-        &rt,
-        step(&pages, &requests, &syncs),
-        Some(SyncStep::Held(PageIndex(0))),
-    );
-    end(&rt, &mut pages, &mut requests, 0, 0);
-    assert_tags(&rt, &pages, 0, true, false, true);
-    same(
-        &rt,
-        step(&pages, &requests, &syncs),
-        Some(SyncStep::Start(found(0))),
-    );
-    same(&rt, start(&rt, &mut pages, &mut requests, 0), Serial(1));
-    syncs.started(SyncId(0), PageIndex(0));
-    assert_tags(&rt, &pages, 0, false, true, false);
-    same(
-        &rt,
-        step(&pages, &requests, &syncs),
-        Some(SyncStep::Await(PageIndex(0), Serial(2))),
-    );
-    end(&rt, &mut pages, &mut requests, 1, 0);
-    same(&rt, step(&pages, &requests, &syncs), Some(SyncStep::Over));
-    Ok(())
+fn a_sync_waits_for_an_old_write_and_writes_anew(rt: HostRuntime) {
+    let mut desk = Desk::new(&rt, rt.alloc());
+    desk.dirty(&rt, 0);
+    desk.start(&rt, 0, 0);
+    desk.dirty(&rt, 0);
+    desk.sync(&rt, 0, LAST_PAGE);
+    desk.has_tags(&rt, 0, true, true, true);
+    desk.goes_on(&rt, SyncStep::Held(PageIndex(0)));
+    desk.end(&rt, 0, 0);
+    desk.has_tags(&rt, 0, true, false, true);
+    desk.starts(&rt, 0, 1);
+    desk.has_tags(&rt, 0, false, true, false);
+    desk.goes_on(&rt, awaits(0, 2));
+    desk.end(&rt, 1, 0);
+    desk.goes_on(&rt, SyncStep::Over);
 }
 
 #[test]
-fn a_sync_awaits_what_others_started(rt: HostRuntime) -> Result<(), Fail> {
-    let mut pages = four_pages(rt.alloc())?;
-    let mut requests = Requests::new();
-    let mut syncs = Syncs::new();
-    same(&rt, pages.tag(PageIndex(0), Tag::Dirty), Ok(()));
-    same(&rt, begin_all(&mut syncs), Ok(SyncId(0)));
-    sync_begin(&mut pages, PageIndex(0), PageIndex(LAST_PAGE));
-    same(&rt, start(&rt, &mut pages, &mut requests, 0), Serial(0));
-    same(
-        &rt,
-        step(&pages, &requests, &syncs),
-        Some(SyncStep::Await(PageIndex(0), Serial(1))),
-    );
-    end(&rt, &mut pages, &mut requests, 0, 0);
-    same(&rt, step(&pages, &requests, &syncs), Some(SyncStep::Over));
-    Ok(())
+fn a_sync_awaits_what_others_started(rt: HostRuntime) {
+    let mut desk = Desk::new(&rt, rt.alloc());
+    desk.dirty(&rt, 0);
+    desk.sync(&rt, 0, LAST_PAGE);
+    desk.start(&rt, 0, 0);
+    desk.goes_on(&rt, awaits(0, 1));
+    desk.end(&rt, 0, 0);
+    desk.goes_on(&rt, SyncStep::Over);
 }
 
 #[test]
-fn a_sync_of_a_range_leaves_other_pages(rt: HostRuntime) -> Result<(), Fail> {
-    let mut pages = four_pages(rt.alloc())?;
-    let mut requests = Requests::new();
-    let mut syncs = Syncs::new();
+fn a_sync_of_a_range_leaves_other_pages(rt: HostRuntime) {
+    let mut desk = Desk::new(&rt, rt.alloc());
     for page in 0..4u64 {
-        same(&rt, pages.tag(PageIndex(page), Tag::Dirty), Ok(()));
+        desk.dirty(&rt, page);
     }
-    same(
-        &rt,
-        syncs.begin(HandleId(0), PageIndex(1), PageIndex(2), 0),
-        Ok(SyncId(0)),
-    );
-    sync_begin(&mut pages, PageIndex(1), PageIndex(2));
-    assert_tags(&rt, &pages, 0, true, false, false);
-    assert_tags(&rt, &pages, 1, true, false, true);
-    assert_tags(&rt, &pages, 3, true, false, false);
+    desk.sync(&rt, 1, 2);
+    desk.has_tags(&rt, 0, true, false, false);
+    desk.has_tags(&rt, 1, true, false, true);
+    desk.has_tags(&rt, 3, true, false, false);
 
     // Page 0 is written by another, and the sync starts the pages of its range.
-    same(&rt, start(&rt, &mut pages, &mut requests, 0), Serial(0));
-    for page in 1..3u64 {
-        same(
-            &rt,
-            step(&pages, &requests, &syncs),
-            Some(SyncStep::Start(found(page))),
-        );
-        same(
-            &rt,
-            start(&rt, &mut pages, &mut requests, page),
-            Serial(page),
-        );
-        syncs.started(SyncId(0), PageIndex(page));
-    }
+    desk.start(&rt, 0, 0);
+    desk.starts(&rt, 1, 1);
+    desk.starts(&rt, 2, 2);
 
     // It awaits these alone.
-    same(
-        &rt,
-        step(&pages, &requests, &syncs),
-        Some(SyncStep::Await(PageIndex(1), Serial(3))),
-    );
-    end(&rt, &mut pages, &mut requests, 1, 1);
-    end(&rt, &mut pages, &mut requests, 2, 2);
-    same(&rt, step(&pages, &requests, &syncs), Some(SyncStep::Over));
-    Ok(())
+    desk.goes_on(&rt, awaits(1, 3));
+    desk.end(&rt, 1, 1);
+    desk.end(&rt, 2, 2);
+    desk.goes_on(&rt, SyncStep::Over);
 }

@@ -350,26 +350,14 @@ fn entries_come_in_rising_order(rt: HostRuntime) -> Result<(), Fail> {
     let mut inner = array.entries(71, (1 << 12 << 6) + 9);
     same(&rt, inner.next(), one(4096, 3));
     same(&rt, inner.next(), one(4097, 4));
-    same(
-        &rt,
-        inner.next(),
-        Some(Found {
-            first: 1 << 12 << 6,
-            order: 12,
-            value: 5,
-        }),
-    );
+    same(&rt, inner.next(), range(1 << 12 << 6, 12, 5));
     same(&rt, inner.next(), None);
     same(&rt, inner.next(), None);
     same(&rt, array.entries(9, 8).next(), None);
     same(
         &rt,
         array.entries((1 << 12 << 6) + 7, ALL).next(),
-        Some(Found {
-            first: 1 << 12 << 6,
-            order: 12,
-            value: 5,
-        }),
+        range(1 << 12 << 6, 12, 5),
     );
     Ok(())
 }
@@ -408,55 +396,30 @@ fn marked_entries_come_in_rising_order(rt: HostRuntime) -> Result<(), Fail> {
     Ok(())
 }
 
+fn marks(m0: bool, m1: bool, m2: bool) -> Marks {
+    Marks { m0, m1, m2 }
+}
+
+fn marked(value: u64, marks: Marks) -> Option<Marked> {
+    Some(Marked { value, marks })
+}
+
 // All three marks of an entry are read, given and taken by one call.
 #[test]
 fn marks_go_together(rt: HostRuntime) -> Result<(), Fail> {
     let mut array = XArray::new(rt.alloc());
     three(&rt, &mut array);
-    let none = Marks {
-        m0: false,
-        m1: false,
-        m2: false,
-    };
-    let outer = Marks {
-        m0: true,
-        m1: false,
-        m2: true,
-    };
+    let none = marks(false, false, false);
+    let outer = marks(true, false, true);
     same(&rt, array.swap_marks(70, outer), Some(none));
-    same(
-        &rt,
-        array.load_with_marks(70),
-        Some(Marked {
-            value: 2,
-            marks: outer,
-        }),
-    );
-    same(
-        &rt,
-        array.load_with_marks(3),
-        Some(Marked {
-            value: 1,
-            marks: none,
-        }),
-    );
+    same(&rt, array.load_with_marks(70), marked(2, outer));
+    same(&rt, array.load_with_marks(3), marked(1, none));
     same(&rt, array.load_with_marks(71), None);
     same(&rt, array.swap_mark(70, Mark::M2, false), Some(true));
     same(&rt, array.swap_mark(70, Mark::M2, false), Some(false));
     same(&rt, array.swap_mark(71, Mark::M2, true), None);
     same(&rt, array.swap_marks(71, outer), None);
-    same(
-        &rt,
-        array.take(70),
-        Some(Marked {
-            value: 2,
-            marks: Marks {
-                m0: true,
-                m1: false,
-                m2: false,
-            },
-        }),
-    );
+    same(&rt, array.take(70), marked(2, marks(true, false, false)));
     same(&rt, array.take(70), None);
     check(&rt, !array.marked(Mark::M0));
     Ok(())

@@ -301,65 +301,36 @@ impl Ranged {
             level,
             place,
         } = last;
-        if level > 0 {
-            return self.tag_far(
-                Some(Position {
-                    cursor,
-                    level,
-                    place,
-                }),
-                from,
-                to,
-                mark,
-                other,
-            );
-        }
-        let Some(ahead) = self.near(cursor, above, place, from, Some(mark)) else {
-            return self.tag_far(
-                Some(Position {
+        if level == 0
+            && let Some(ahead) = self.near(cursor, above, place, from, Some(mark))
+            && ahead.is_alone
+        {
+            let Ahead {
+                cursor,
+                above,
+                place,
+                ..
+            } = ahead;
+            if place > to {
+                return None;
+            }
+            self.nodes.set_bit_kept(cursor, place, 0, other.number());
+            return Some(Tagged {
+                last: place,
+                slot: Position {
                     cursor,
                     level: 0,
                     place,
-                }),
-                from,
-                to,
-                mark,
-                other,
-            );
+                },
+                above,
+            });
+        }
+        let slot = Position {
+            cursor,
+            level,
+            place,
         };
-        let Ahead {
-            cursor: found,
-            above: up,
-            place: at,
-            is_alone,
-            ..
-        } = ahead;
-        if !is_alone {
-            return self.tag_far(
-                Some(Position {
-                    cursor,
-                    level: 0,
-                    place,
-                }),
-                from,
-                to,
-                mark,
-                other,
-            );
-        }
-        if at > to {
-            return None;
-        }
-        self.nodes.set_bit_kept(found, at, 0, other.number());
-        Some(Tagged {
-            last: at,
-            slot: Position {
-                cursor: found,
-                level: 0,
-                place: at,
-            },
-            above: up,
-        })
+        self.tag_far(Some(slot), from, to, mark, other)
     }
 
     // The same by each look that it may take. It goes up from the slot before `from`, if that is known.

@@ -18,7 +18,7 @@ closes-requires-clause-seats g c =
     let e = c.in-Err.ensures.err in
     let same = ap (λ (h : HeldSeen). h.log.table) (sym e.1) in
     let all : All P c.in-Err.seats.items = came c.args.held c.in-Err.held _ _ e.1 (λ i. (e.2 i).items) c.requires.none in
-    All-same P _ _ c.in-Ok-push.ensures.items (All-push P _ c.args.seat all (c.requires.seats.0 ∙ same))
+    All-same P _ _ c.in-Ok.ensures.items (All-push P _ c.args.seat all (c.requires.seats.0 ∙ same))
 
 pub closes-requires-in-Err-push-clause-seats : goal.closes-requires-in-Err-push-clause-seats
 closes-requires-in-Err-push-clause-seats g c =
