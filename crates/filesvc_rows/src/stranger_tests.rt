@@ -1,6 +1,6 @@
 //! What a service refuses that is not its own: a handle of another service, and a file that is not there.
 
-ghost use Rattle.std.specs.Prelude.{◌≡◌, IfOk};
+ghost use Rattle.std.specs.Prelude.{◌≡◌, IfOk, box_value};
 
 use crate::checks::{check, same};
 use blockdev::MemDevice;
@@ -74,15 +74,15 @@ impl Visit {
 }
 
 /// A service of this name with no file.
-fn service(alloc: Global, name: u64) -> Result<Solo<MemDevice>, Refusal>
-    ensures { IfOk result (λ s. s.world.core.name ≡ name) }
+fn service(rt: &impl Abort, alloc: Global, name: u64) -> Box<Solo<MemDevice>>
+    ensures { (box_value result).world.core.name ≡ name }
 {
-    let geometry = Geometry::new(16, 48, 16, 64)?;
-    let device = MemDevice::new(alloc, 16, 64)?;
+    let geometry = Geometry::new(16, 48, 16, 64).expect(rt, "sizes");
+    let device = MemDevice::new(alloc, 16, 64).expect(rt, "memory");
     let Ok(solo) = Solo::new(alloc, &geometry, name, device) else {
-        return Err(Refusal::Memory);
+        panic!(rt; "a service");
     };
-    Ok(solo)
+    Box::new(alloc, solo).expect(rt, "memory")
 }
 
 /// Makes the first file.
@@ -100,19 +100,21 @@ fn open(solo: &mut Solo<MemDevice>) -> Result<Handle, Refusal>
 }
 
 /// A handle of another service, which has a file with this number, too.
-fn stranger(alloc: Global) -> Result<Handle, Refusal>
-    ensures { IfOk result (λ h. h.cache ≡ 8) }
+fn stranger(rt: &impl Abort, alloc: Global) -> Handle
+    ensures { result.cache ≡ 8 }
 {
-    let mut other = Box::new(alloc, service(alloc, 8)?)?;
-    create(&mut other)?;
-    open(&mut other)
+    let mut other = service(rt, alloc, 8);
+    check(rt, create(&mut other).is_ok());
+    open(&mut other).expect(rt, "a handle")
 }
 
-fn visiting(alloc: Global) -> Result<Visit, Refusal> {
-    let mut solo = Box::new(alloc, service(alloc, 7)?)?;
-    create(&mut solo)?;
-    let handle = stranger(alloc)?;
-    Ok(Visit { solo, handle })
+fn visiting(rt: &impl Abort, alloc: Global) -> Visit {
+    let mut solo = service(rt, alloc, 7);
+    check(rt, create(&mut solo).is_ok());
+    Visit {
+        solo,
+        handle: stranger(rt, alloc),
+    }
 }
 
 // A handle of another service is refused, and comes back from close.
@@ -130,11 +132,10 @@ fn refuses_a_stranger(rt: &impl Abort, visit: &mut Visit) {
 }
 
 #[test]
-fn a_stranger_is_refused(rt: HostRuntime) -> Result<(), Refusal> {
-    let mut visit = visiting(rt.alloc())?;
+fn a_stranger_is_refused(rt: HostRuntime) {
+    let mut visit = visiting(&rt, rt.alloc());
     refuses_a_stranger(&rt, &mut visit);
     check(&rt, visit.comes_back());
-    Ok(())
 }
 
 fn lacks_a_file(rt: &impl Abort, solo: &mut Solo<MemDevice>) {
@@ -145,8 +146,7 @@ fn lacks_a_file(rt: &impl Abort, solo: &mut Solo<MemDevice>) {
 }
 
 #[test]
-fn a_file_that_is_not_there_is_refused(rt: HostRuntime) -> Result<(), Refusal> {
-    let Visit { mut solo, .. } = visiting(rt.alloc())?;
+fn a_file_that_is_not_there_is_refused(rt: HostRuntime) {
+    let Visit { mut solo, .. } = visiting(&rt, rt.alloc());
     lacks_a_file(&rt, &mut solo);
-    Ok(())
 }

@@ -15,7 +15,6 @@ use std::cell::Cell;
 use std::marker::Model;
 use std::process::Abort;
 use std::rc::Rc;
-use std::test::Fail;
 
 /// How many writes a device was asked for, and the first byte of the last.
 #[derive(Clone, Copy, PartialEq, Eq, Debug)]
@@ -162,24 +161,24 @@ impl Desk {
     }
 
     /// The same service with its file closed, and opened again.
-    fn reopened(self) -> Result<Desk, Refusal> {
+    fn reopened(self, rt: &impl Abort) -> Desk {
         let Desk {
             mut solo,
             handle,
             written,
         } = self;
-        let handle = reopen(&mut solo, handle)?;
-        Ok(Desk {
+        let handle = reopen(&mut solo, handle).expect(rt, "a handle");
+        Desk {
             solo,
             handle,
             written,
-        })
+        }
     }
 }
 
 /// The code of the fault that is planned: another than that of a call which can't be counted.
-fn full() -> Result<ErrCode, Refusal> {
-    ErrCode::new(28)
+fn full(rt: &impl Abort) -> ErrCode {
+    ErrCode::new(28).expect(rt, "a code")
 }
 
 // Reads, writes and seeks of one handle, at the ends of a file and of what a cursor may be.
@@ -208,13 +207,12 @@ fn moves_a_cursor(rt: &impl Abort, desk: &mut Desk) {
 }
 
 // A failed write is told once, and the next sync succeeds.
-fn tells_an_error_once(rt: &impl Abort, desk: &mut Desk) -> Result<(), Refusal> {
+fn tells_an_error_once(rt: &impl Abort, desk: &mut Desk) {
     same(rt, desk.pwrite(0, &[0xaa]), Ok(1));
-    same(rt, desk.fsync(), Err(Refusal::Io(full()?)));
+    same(rt, desk.fsync(), Err(Refusal::Io(full(rt))));
     same(rt, desk.poll_error(), Ok(None));
     same(rt, desk.fsync(), Ok(()));
     same(rt, desk.fsync(), Ok(()));
-    Ok(())
 }
 
 // Where nothing was written since the last good flush none is made. One that fails is answered each time, and the handle is told nothing;
@@ -259,15 +257,14 @@ fn syncs_a_range(rt: &impl Abort, desk: &mut Desk) {
 }
 
 // A failed write of a page outside the range is told all the same, once. The pages outside stay dirty: the last fsync writes 14.
-fn tells_of_any_page(rt: &impl Abort, desk: &mut Desk) -> Result<(), Refusal> {
+fn tells_of_any_page(rt: &impl Abort, desk: &mut Desk) {
     same(rt, desk.pwrite(0, &[1; 256]), Ok(256));
     same(rt, desk.pwrite(256, &[2]), Err(Refusal::DirtyLimit));
-    same(rt, desk.fsync_range(3, 4), Err(Refusal::Io(full()?)));
+    same(rt, desk.fsync_range(3, 4), Err(Refusal::Io(full(rt))));
     same(rt, desk.fsync_range(3, 4), Ok(()));
     check(rt, desk.has_written(3));
     same(rt, desk.fsync(), Ok(()));
     check(rt, desk.has_written(17));
-    Ok(())
 }
 
 // Where as many pages are dirty as may be, a write makes room by writing one back.
@@ -279,24 +276,23 @@ fn makes_room(rt: &impl Abort, desk: &mut Desk) {
 }
 
 // Where that fails, the write is refused, and the next sync tells of it.
-fn refuses_without_room(rt: &impl Abort, desk: &mut Desk) -> Result<(), Refusal> {
+fn refuses_without_room(rt: &impl Abort, desk: &mut Desk) {
     same(rt, desk.pwrite(0, &[1; 256]), Ok(256));
     same(rt, desk.pwrite(256, &[2]), Err(Refusal::DirtyLimit));
-    same(rt, desk.fsync(), Err(Refusal::Io(full()?)));
+    same(rt, desk.fsync(), Err(Refusal::Io(full(rt))));
     same(rt, desk.fsync(), Ok(()));
-    Ok(())
 }
 
 // A write that failed while room was made, and that no handle was told of, is told to the next one that is opened, and to no other.
-fn hands_an_error_down(rt: &impl Abort, mut desk: Desk) -> Result<Desk, Refusal> {
+fn hands_an_error_down(rt: &impl Abort, mut desk: Desk) -> Desk {
     same(rt, desk.pwrite(0, &[1; 256]), Ok(256));
     same(rt, desk.pwrite(256, &[2]), Err(Refusal::DirtyLimit));
-    let mut desk = desk.reopened()?;
-    same(rt, desk.poll_error(), Ok(Some(full()?)));
+    let mut desk = desk.reopened(rt);
+    same(rt, desk.poll_error(), Ok(Some(full(rt))));
     same(rt, desk.poll_error(), Ok(None));
-    let mut desk = desk.reopened()?;
+    let mut desk = desk.reopened(rt);
     same(rt, desk.poll_error(), Ok(None));
-    Ok(desk)
+    desk
 }
 
 // An appending handle writes at the end, and pwrite where it is told to.
@@ -331,20 +327,19 @@ fn reads_back(rt: &impl Abort, desk: &mut Desk) {
 
 // A page that was evicted and whose fill fails is refused with the code of its own device call, which is no failed write; the next
 // read fills it.
-fn fails_to_fill(rt: &impl Abort, desk: &mut Desk) -> Result<(), Refusal> {
+fn fails_to_fill(rt: &impl Abort, desk: &mut Desk) {
     for at in 0..64u64 {
         same(rt, desk.pwrite(at * 16, &[at as u8; 16]), Ok(16));
     }
     same(rt, desk.fsync(), Ok(()));
     let mut out = [0; 16];
-    same(rt, desk.pread(0, &mut out), Err(Refusal::Io(full()?)));
+    same(rt, desk.pread(0, &mut out), Err(Refusal::Io(full(rt))));
     same(rt, desk.solo.attempts(), 1);
     same(rt, desk.poll_error(), Ok(None));
     same(rt, desk.pread(16, &mut out), Ok(16));
     check(rt, out == [1; 16]);
     same(rt, desk.pread(0, &mut out), Ok(16));
     check(rt, out == [0; 16]);
-    Ok(())
 }
 
 // Clean pages that are used often, as many dirty ones as may be, and then calls that lack two pages.
@@ -451,15 +446,15 @@ fn save<D: BlockDevice>(
 }
 
 // A caller that meets a failed write.
-fn saves(rt: &impl Abort, desk: &mut Desk) -> Result<(), Refusal> {
-    save(&mut desk.solo, &mut desk.handle, &[0xaa; 40])?;
+fn saves(rt: &impl Abort, desk: &mut Desk) {
+    let saved = save(&mut desk.solo, &mut desk.handle, &[0xaa; 40]);
+    same(rt, saved, Ok(()));
     let mut out = [0; 64];
     same(rt, desk.pread(0, &mut out), Ok(40));
     check(
         rt,
         out.starts_with(&[0xaa; 40]) && !out.starts_with(&[0xaa; 41]),
     );
-    Ok(())
 }
 
 #[derive(Clone, Copy)]
@@ -482,25 +477,24 @@ enum Row {
     ServesAUser,
 }
 
-fn run(rt: &impl Abort, desk: &mut Desk, row: Row) -> Result<(), Refusal> {
+fn run(rt: &impl Abort, desk: &mut Desk, row: Row) {
     match row {
         Row::MovesACursor => moves_a_cursor(rt, desk),
-        Row::TellsAnErrorOnce => tells_an_error_once(rt, desk)?,
+        Row::TellsAnErrorOnce => tells_an_error_once(rt, desk),
         Row::MakesRoom => makes_room(rt, desk),
-        Row::RefusesWithoutRoom => refuses_without_room(rt, desk)?,
+        Row::RefusesWithoutRoom => refuses_without_room(rt, desk),
         Row::Appends => appends(rt, desk),
         Row::ReadsBack => reads_back(rt, desk),
-        Row::FailsToFill => fails_to_fill(rt, desk)?,
-        Row::Saves => saves(rt, desk)?,
+        Row::FailsToFill => fails_to_fill(rt, desk),
+        Row::Saves => saves(rt, desk),
         Row::SyncsAgainAndAgain => syncs_again_and_again(rt, desk),
         Row::SyncsARange => syncs_a_range(rt, desk),
-        Row::TellsOfAnyPage => tells_of_any_page(rt, desk)?,
+        Row::TellsOfAnyPage => tells_of_any_page(rt, desk),
         Row::FlushesAgain => flushes_again(rt, desk),
         Row::IsNeverStuck(clean, dirty) => is_never_stuck(rt, desk, clean, dirty),
         Row::Mixes => mixes(rt, desk),
         Row::ServesAUser => serves_a_user(rt, desk),
     }
-    Ok(())
 }
 
 /// Which device call fails of those that a row makes.
@@ -529,218 +523,201 @@ fn open_first(solo: &mut Solo<OddDevice>, append: bool) -> Result<Handle, Refusa
     solo.open(file, append)
 }
 
+/// A device that fails so, with blocks of 16 bytes.
+fn odd_device(
+    rt: &impl Abort,
+    alloc: Global,
+    blocks: u64,
+    failing: Failing,
+    written: Rc<Cell<Written>>,
+) -> OddDevice {
+    let mut device = OddDevice {
+        device: ScriptDevice::new(alloc, 16, blocks).expect(rt, "memory"),
+        first_read: None,
+        good_flushes: u64::MAX,
+        written,
+    };
+    match failing {
+        Failing::None => {}
+        Failing::FirstCall => device.device.fail_next(full(rt), FaultEffect::Old),
+        Failing::FirstRead => device.first_read = Some(full(rt)),
+        Failing::SecondFlush => device.good_flushes = 1,
+    }
+    device
+}
+
 /// A service over a device that fails so, with pages of 16 bytes and one file that is open.
 fn open_desk(
+    rt: &impl Abort,
     alloc: Global,
     geometry: &Geometry,
     failing: Failing,
     append: bool,
-) -> Result<Desk, Refusal> {
-    let written = Rc::new(alloc, Cell::new(Written { count: 0, byte: 0 }))?;
-    let mut device = OddDevice {
-        device: ScriptDevice::new(alloc, 16, geometry.blocks())?,
-        first_read: None,
-        good_flushes: u64::MAX,
-        written: written.clone()?,
-    };
-    match failing {
-        Failing::None => {}
-        Failing::FirstCall => device.device.fail_next(full()?, FaultEffect::Old),
-        Failing::FirstRead => device.first_read = Some(full()?),
-        Failing::SecondFlush => device.good_flushes = 1,
-    }
+) -> Desk {
+    let none = Cell::new(Written { count: 0, byte: 0 });
+    let written = Rc::new(alloc, none).expect(rt, "memory");
+    let noted = written.clone().expect(rt, "a count");
+    let device = odd_device(rt, alloc, geometry.blocks(), failing, noted);
     let Ok(solo) = Solo::new(alloc, geometry, 7, device) else {
-        return Err(Refusal::Memory);
+        panic!(rt; "a service");
     };
-    let mut solo = Box::new(alloc, solo)?;
-    let handle = open_first(&mut solo, append)?;
-    Ok(Desk {
+    let mut solo = Box::new(alloc, solo).expect(rt, "memory");
+    let handle = open_first(&mut solo, append).expect(rt, "a handle");
+    Desk {
         solo,
         handle,
         written,
-    })
+    }
 }
 
-fn over_a_service(
-    rt: &impl Abort,
-    alloc: Global,
-    failing: Failing,
-    row: Row,
-) -> Result<(), Refusal> {
-    over(rt, alloc, &Geometry::new(16, 48, 16, 64)?, failing, row)
+fn geometry(rt: &impl Abort, frames: u64, dirty: u64, blocks: u64) -> Geometry {
+    Geometry::new(16, frames, dirty, blocks).expect(rt, "sizes")
 }
 
-fn over(
-    rt: &impl Abort,
-    alloc: Global,
-    geometry: &Geometry,
-    failing: Failing,
-    row: Row,
-) -> Result<(), Refusal> {
-    let mut desk = open_desk(alloc, geometry, failing, matches!(row, Row::Appends))?;
-    let done = run(rt, &mut desk, row);
+fn over_a_service(rt: &impl Abort, alloc: Global, failing: Failing, row: Row) {
+    over(rt, alloc, &geometry(rt, 48, 16, 64), failing, row);
+}
+
+/// The same over a device that does not fail, by so many frames, of which so many may be dirty, and so many blocks.
+fn over_frames(rt: &impl Abort, alloc: Global, frames: u64, dirty: u64, blocks: u64, row: Row) {
+    let geometry = geometry(rt, frames, dirty, blocks);
+    over(rt, alloc, &geometry, Failing::None, row);
+}
+
+fn over(rt: &impl Abort, alloc: Global, geometry: &Geometry, failing: Failing, row: Row) {
+    let is_append = matches!(row, Row::Appends);
+    let mut desk = open_desk(rt, alloc, geometry, failing, is_append);
+    run(rt, &mut desk, row);
     check(rt, desk.close());
-    done
 }
 
 #[test]
-fn a_cursor_moves(rt: HostRuntime) -> Result<(), Refusal> {
-    over_a_service(&rt, rt.alloc(), Failing::None, Row::MovesACursor)
+fn a_cursor_moves(rt: HostRuntime) {
+    over_a_service(&rt, rt.alloc(), Failing::None, Row::MovesACursor);
 }
 
 #[test]
-fn an_error_is_told_once(rt: HostRuntime) -> Result<(), Refusal> {
-    over_a_service(&rt, rt.alloc(), Failing::FirstCall, Row::TellsAnErrorOnce)
+fn an_error_is_told_once(rt: HostRuntime) {
+    over_a_service(&rt, rt.alloc(), Failing::FirstCall, Row::TellsAnErrorOnce);
 }
 
 #[test]
-fn an_untold_error_is_handed_down(rt: HostRuntime) -> Result<(), Refusal> {
-    let geometry = Geometry::new(16, 48, 16, 64)?;
-    let desk = open_desk(rt.alloc(), &geometry, Failing::FirstCall, false)?;
-    let desk = hands_an_error_down(&rt, desk)?;
+fn an_untold_error_is_handed_down(rt: HostRuntime) {
+    let geometry = geometry(&rt, 48, 16, 64);
+    let desk = open_desk(&rt, rt.alloc(), &geometry, Failing::FirstCall, false);
+    let desk = hands_an_error_down(&rt, desk);
     check(&rt, desk.close());
-    Ok(())
 }
 
 #[test]
-fn no_sync_is_left(rt: HostRuntime) -> Result<(), Refusal> {
-    over_a_service(&rt, rt.alloc(), Failing::None, Row::SyncsAgainAndAgain)
+fn no_sync_is_left(rt: HostRuntime) {
+    over_a_service(&rt, rt.alloc(), Failing::None, Row::SyncsAgainAndAgain);
 }
 
 #[test]
-fn a_sync_of_a_range_stays_in_it(rt: HostRuntime) -> Result<(), Refusal> {
-    over_a_service(&rt, rt.alloc(), Failing::None, Row::SyncsARange)
+fn a_sync_of_a_range_stays_in_it(rt: HostRuntime) {
+    over_a_service(&rt, rt.alloc(), Failing::None, Row::SyncsARange);
 }
 
 #[test]
-fn a_sync_of_a_range_tells_of_any_page(rt: HostRuntime) -> Result<(), Refusal> {
-    over_a_service(&rt, rt.alloc(), Failing::FirstCall, Row::TellsOfAnyPage)
+fn a_sync_of_a_range_tells_of_any_page(rt: HostRuntime) {
+    over_a_service(&rt, rt.alloc(), Failing::FirstCall, Row::TellsOfAnyPage);
 }
 
 #[test]
-fn a_flush_that_failed_is_made_again(rt: HostRuntime) -> Result<(), Refusal> {
-    over_a_service(&rt, rt.alloc(), Failing::SecondFlush, Row::FlushesAgain)
+fn a_flush_that_failed_is_made_again(rt: HostRuntime) {
+    over_a_service(&rt, rt.alloc(), Failing::SecondFlush, Row::FlushesAgain);
 }
 
 #[test]
-fn a_write_makes_room(rt: HostRuntime) -> Result<(), Refusal> {
-    over_a_service(&rt, rt.alloc(), Failing::None, Row::MakesRoom)
+fn a_write_makes_room(rt: HostRuntime) {
+    over_a_service(&rt, rt.alloc(), Failing::None, Row::MakesRoom);
 }
 
 #[test]
-fn a_write_without_room_is_refused(rt: HostRuntime) -> Result<(), Refusal> {
-    over_a_service(&rt, rt.alloc(), Failing::FirstCall, Row::RefusesWithoutRoom)
+fn a_write_without_room_is_refused(rt: HostRuntime) {
+    over_a_service(&rt, rt.alloc(), Failing::FirstCall, Row::RefusesWithoutRoom);
 }
 
 #[test]
-fn an_append_goes_to_the_end(rt: HostRuntime) -> Result<(), Refusal> {
-    over_a_service(&rt, rt.alloc(), Failing::None, Row::Appends)
+fn an_append_goes_to_the_end(rt: HostRuntime) {
+    over_a_service(&rt, rt.alloc(), Failing::None, Row::Appends);
 }
 
 #[test]
-fn evicted_pages_read_back(rt: HostRuntime) -> Result<(), Refusal> {
-    over_a_service(&rt, rt.alloc(), Failing::None, Row::ReadsBack)
+fn evicted_pages_read_back(rt: HostRuntime) {
+    over_a_service(&rt, rt.alloc(), Failing::None, Row::ReadsBack);
 }
 
 #[test]
-fn a_failed_fill_has_its_own_code(rt: HostRuntime) -> Result<(), Refusal> {
-    over_a_service(&rt, rt.alloc(), Failing::FirstRead, Row::FailsToFill)
+fn a_failed_fill_has_its_own_code(rt: HostRuntime) {
+    over_a_service(&rt, rt.alloc(), Failing::FirstRead, Row::FailsToFill);
 }
 
 #[test]
-fn a_caller_saves(rt: HostRuntime) -> Result<(), Refusal> {
-    over_a_service(&rt, rt.alloc(), Failing::FirstCall, Row::Saves)
+fn a_caller_saves(rt: HostRuntime) {
+    over_a_service(&rt, rt.alloc(), Failing::FirstCall, Row::Saves);
 }
 
 #[test]
-fn another_device_is_refused(rt: HostRuntime) -> Result<(), Refusal> {
+fn another_device_is_refused(rt: HostRuntime) {
     let alloc = rt.alloc();
-    let device = ScriptDevice::new(alloc, 16, 63)?;
-    let refused = Solo::new(alloc, &Geometry::new(16, 48, 16, 64)?, 7, device);
+    let device = ScriptDevice::new(alloc, 16, 63).expect(&rt, "memory");
+    let refused = Solo::new(alloc, &geometry(&rt, 48, 16, 64), 7, device);
     check(&rt, matches!(refused, Err((Refusal::BadConfig, _))));
-    Ok(())
 }
 
 #[test]
-fn two_absent_pages_of_64(rt: HostRuntime) -> Result<(), Refusal> {
-    let geometry = Geometry::new(16, 64, 32, 4096)?;
-    over(
-        &rt,
-        rt.alloc(),
-        &geometry,
-        Failing::None,
-        Row::IsNeverStuck(32, 32),
-    )
+fn two_absent_pages_of_64(rt: HostRuntime) {
+    over_frames(&rt, rt.alloc(), 64, 32, 4096, Row::IsNeverStuck(32, 32));
 }
 
 #[test]
-fn two_absent_pages_of_128(rt: HostRuntime) -> Result<(), Refusal> {
-    let geometry = Geometry::new(16, 128, 96, 4096)?;
-    over(
-        &rt,
-        rt.alloc(),
-        &geometry,
-        Failing::None,
-        Row::IsNeverStuck(32, 96),
-    )
+fn two_absent_pages_of_128(rt: HostRuntime) {
+    over_frames(&rt, rt.alloc(), 128, 96, 4096, Row::IsNeverStuck(32, 96));
 }
 
 #[test]
-fn two_absent_pages_of_256(rt: HostRuntime) -> Result<(), Refusal> {
-    let geometry = Geometry::new(16, 256, 128, 4096)?;
-    over(
-        &rt,
-        rt.alloc(),
-        &geometry,
-        Failing::None,
-        Row::IsNeverStuck(128, 128),
-    )
+fn two_absent_pages_of_256(rt: HostRuntime) {
+    over_frames(&rt, rt.alloc(), 256, 128, 4096, Row::IsNeverStuck(128, 128));
 }
 
 #[test]
-fn a_mix_over_64(rt: HostRuntime) -> Result<(), Refusal> {
-    let geometry = Geometry::new(16, 64, 32, 4096)?;
-    over(&rt, rt.alloc(), &geometry, Failing::None, Row::Mixes)
+fn a_mix_over_64(rt: HostRuntime) {
+    over_frames(&rt, rt.alloc(), 64, 32, 4096, Row::Mixes);
 }
 
 #[test]
-fn a_mix_over_80(rt: HostRuntime) -> Result<(), Refusal> {
-    let geometry = Geometry::new(16, 80, 48, 4096)?;
-    over(&rt, rt.alloc(), &geometry, Failing::None, Row::Mixes)
+fn a_mix_over_80(rt: HostRuntime) {
+    over_frames(&rt, rt.alloc(), 80, 48, 4096, Row::Mixes);
 }
 
 #[test]
-fn a_mix_over_128(rt: HostRuntime) -> Result<(), Refusal> {
-    let geometry = Geometry::new(16, 128, 96, 4096)?;
-    over(&rt, rt.alloc(), &geometry, Failing::None, Row::Mixes)
+fn a_mix_over_128(rt: HostRuntime) {
+    over_frames(&rt, rt.alloc(), 128, 96, 4096, Row::Mixes);
 }
 
 #[test]
-fn a_mix_over_256(rt: HostRuntime) -> Result<(), Refusal> {
-    let geometry = Geometry::new(16, 256, 224, 4096)?;
-    over(&rt, rt.alloc(), &geometry, Failing::None, Row::Mixes)
+fn a_mix_over_256(rt: HostRuntime) {
+    over_frames(&rt, rt.alloc(), 256, 224, 4096, Row::Mixes);
 }
 
 #[test]
-fn a_user_over_64(rt: HostRuntime) -> Result<(), Refusal> {
-    let geometry = Geometry::new(16, 64, 32, 512)?;
-    over(&rt, rt.alloc(), &geometry, Failing::None, Row::ServesAUser)
+fn a_user_over_64(rt: HostRuntime) {
+    over_frames(&rt, rt.alloc(), 64, 32, 512, Row::ServesAUser);
 }
 
 #[test]
-fn a_user_over_80(rt: HostRuntime) -> Result<(), Refusal> {
-    let geometry = Geometry::new(16, 80, 48, 512)?;
-    over(&rt, rt.alloc(), &geometry, Failing::None, Row::ServesAUser)
+fn a_user_over_80(rt: HostRuntime) {
+    over_frames(&rt, rt.alloc(), 80, 48, 512, Row::ServesAUser);
 }
 
 #[test]
-fn a_user_over_128(rt: HostRuntime) -> Result<(), Refusal> {
-    let geometry = Geometry::new(16, 128, 96, 512)?;
-    over(&rt, rt.alloc(), &geometry, Failing::None, Row::ServesAUser)
+fn a_user_over_128(rt: HostRuntime) {
+    over_frames(&rt, rt.alloc(), 128, 96, 512, Row::ServesAUser);
 }
 
 #[test]
-fn a_user_over_256(rt: HostRuntime) -> Result<(), Refusal> {
-    let geometry = Geometry::new(16, 256, 224, 512)?;
-    over(&rt, rt.alloc(), &geometry, Failing::None, Row::ServesAUser)
+fn a_user_over_256(rt: HostRuntime) {
+    over_frames(&rt, rt.alloc(), 256, 224, 512, Row::ServesAUser);
 }

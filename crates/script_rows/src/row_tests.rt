@@ -1,62 +1,67 @@
 //! Scripts that make device calls, each line beside its answer.
 
 use crate::tests::{Outcome, check};
-use std::alloc::{AllocError, Global};
+use std::alloc::Global;
 use std::process::Abort;
-use std::test::Fail;
 
 /// The first lines of a script, with their answers.
 const OPENED: &str = "create  file 0
     open 0  handle 0";
 
 /// The lines after a file was created and opened. Behind each line, past two spaces or more, stands its answer.
-fn check_row(rt: &impl Abort, alloc: Global, rows: &str) -> Result<(), Fail> {
-    check_whole(rt, alloc, OPENED, rows)
+fn check_row(rt: &impl Abort, alloc: Global, rows: &str) {
+    check_whole(rt, alloc, OPENED, rows);
+}
+
+/// The same after a write at 0 too, of as many bytes as this one is to be repeated.
+fn check_after_write(rt: &impl Abort, alloc: Global, byte: &str, count: usize, rows: &str) {
+    let bytes = byte.repeat(alloc, count).expect(rt, "memory");
+    let first = format!(in alloc; "{OPENED}\nwrite 0 0 {bytes}  wrote {count}");
+    check_whole(rt, alloc, first.expect(rt, "memory").as_str(), rows);
 }
 
 /// The same after other first lines.
-fn check_whole(rt: &impl Abort, alloc: Global, first: &str, rows: &str) -> Result<(), Fail> {
+fn check_whole(rt: &impl Abort, alloc: Global, first: &str, rows: &str) {
     let mut script = String::new(alloc);
     let mut output = String::new(alloc);
     for row in first.lines().chain(rows.lines()) {
         let (line, answer) = row.trim().split_once("  ").unwrap_or((row, "no answer"));
-        push_line(&mut script, line)?;
-        push_line(&mut output, answer.trim())?;
+        push_line(rt, &mut script, line);
+        push_line(rt, &mut output, answer.trim());
     }
     let expected = Outcome {
         output: output.as_str(),
         message: "",
         status: 0,
     };
-    check(rt, alloc, script.as_bytes(), &expected)
+    check(rt, alloc, script.as_bytes(), &expected);
 }
 
-fn push_line(text: &mut String, line: &str) -> Result<(), AllocError> {
-    text.push_str(line)?;
-    text.push('\n')
+fn push_line(rt: &impl Abort, text: &mut String, line: &str) {
+    text.push_str(line).expect(rt, "memory");
+    text.push('\n').expect(rt, "memory");
 }
 
 /// A page that is written back counts no longer as dirty.
 #[test]
-fn a_written_page_makes_room_for_another(rt: HostRuntime) -> Result<(), Fail> {
-    let alloc = rt.alloc();
-    let many = "ab".repeat(alloc, 256)?;
-    let write = format!(in alloc; "write 0 0 {many}")?;
-    let rows = format!(in alloc;
-        "{write}         wrote 256
-        write 0 256 ff  refused 10
+fn a_written_page_makes_room_for_another(rt: HostRuntime) {
+    check_after_write(
+        &rt,
+        rt.alloc(),
+        "ab",
+        256,
+        "write 0 256 ff  refused 10
         size 0          size 256
         flush 0         job 0
         do 0            done
         end 0           written
-        write 0 256 ff  wrote 1"
-    )?;
-    check_row(&rt, alloc, rows.as_str())
+        write 0 256 ff  wrote 1",
+    );
 }
 
 /// What is written while a write is in flight stays dirty, whether this one goes well or fails.
 #[test]
-fn a_page_written_meanwhile_stays_dirty(rt: HostRuntime) -> Result<(), Fail> {
+fn a_page_written_meanwhile_stays_dirty(rt: HostRuntime) {
     let alloc = rt.alloc();
     check_row(
         &rt,
@@ -69,7 +74,7 @@ fn a_page_written_meanwhile_stays_dirty(rt: HostRuntime) -> Result<(), Fail> {
         tags 0 0      D
         read 0 0 1    bytes bb
         evict         none",
-    )?;
+    );
     check_row(
         &rt,
         alloc,
@@ -82,12 +87,12 @@ fn a_page_written_meanwhile_stays_dirty(rt: HostRuntime) -> Result<(), Fail> {
         read 0 0 1    bytes bb
         fail 9 0 old  refused 21
         fail 9 5 old  refused 15",
-    )
+    );
 }
 
 /// A page whose write failed is dirty again, and its bytes are not lost.
 #[test]
-fn a_failed_write_loses_nothing(rt: HostRuntime) -> Result<(), Fail> {
+fn a_failed_write_loses_nothing(rt: HostRuntime) {
     let alloc = rt.alloc();
     check_row(
         &rt,
@@ -98,12 +103,12 @@ fn a_failed_write_loses_nothing(rt: HostRuntime) -> Result<(), Fail> {
         end 0         failed 5
         tags 0 0      D
         read 0 0 1    bytes aa",
-    )
+    );
 }
 
 /// A page that was evicted is read in again, before a truncation cuts into it.
 #[test]
-fn a_truncation_cuts_a_page_on_the_device(rt: HostRuntime) -> Result<(), Fail> {
+fn a_truncation_cuts_a_page_on_the_device(rt: HostRuntime) {
     let alloc = rt.alloc();
     check_row(
         &rt,
@@ -121,12 +126,12 @@ fn a_truncation_cuts_a_page_on_the_device(rt: HostRuntime) -> Result<(), Fail> {
         tags 0 0                                    D
         truncate 0 16                               ok
         read 0 0 16                                 bytes 11111111000000000000000000000000",
-    )
+    );
 }
 
 /// A block that a write in flight may still reach is not given out, and a request whose page is cut off changes nothing.
 #[test]
-fn requests_outlive_the_pages_that_are_cut_off(rt: HostRuntime) -> Result<(), Fail> {
+fn requests_outlive_the_pages_that_are_cut_off(rt: HostRuntime) {
     let alloc = rt.alloc();
     check_whole(
         &rt,
@@ -143,7 +148,7 @@ fn requests_outlive_the_pages_that_are_cut_off(rt: HostRuntime) -> Result<(), Fa
         end 0         refused 15
         write 0 0 bb  wrote 1
         read 0 0 9    bytes bb",
-    )?;
+    );
     check_row(
         &rt,
         alloc,
@@ -159,12 +164,12 @@ fn requests_outlive_the_pages_that_are_cut_off(rt: HostRuntime) -> Result<(), Fa
         do 1                                        done
         end 1                                       dropped
         read 0 0 16                                 bytes 22",
-    )
+    );
 }
 
 /// A block that was cut is reused as soon as its request has ended, by a page of its own.
 #[test]
-fn a_cut_block_is_used_again(rt: HostRuntime) -> Result<(), Fail> {
+fn a_cut_block_is_used_again(rt: HostRuntime) {
     let alloc = rt.alloc();
     check_whole(
         &rt,
@@ -186,18 +191,18 @@ fn a_cut_block_is_used_again(rt: HostRuntime) -> Result<(), Fail> {
         do 2          done
         end 2         filled
         read 0 0 1    bytes bb",
-    )
+    );
 }
 
 /// A page that was read twice outlives those that were not, until the lists age.
 #[test]
-fn pages_in_use_are_evicted_last(rt: HostRuntime) -> Result<(), Fail> {
-    let alloc = rt.alloc();
-    let bytes = "01".repeat(alloc, 48)?;
-    let write = format!(in alloc; "write 0 0 {bytes}")?;
-    let rows = format!(in alloc;
-        "{write}       wrote 48
-        flush 0       job 0
+fn pages_in_use_are_evicted_last(rt: HostRuntime) {
+    check_after_write(
+        &rt,
+        rt.alloc(),
+        "01",
+        48,
+        "flush 0       job 0
         do 0          done
         end 0         written
         flush 0       job 1
@@ -217,15 +222,14 @@ fn pages_in_use_are_evicted_last(rt: HostRuntime) -> Result<(), Fail> {
         fill 0 0      job 3
         fail 3 5 old  failed
         end 3         failed 5
-        tags 0 0      absent"
-    )?;
-    check_row(&rt, alloc, rows.as_str())
+        tags 0 0      absent",
+    );
 }
 
 /// A sync writes the pages that were dirty as it began, and waits for these writes. A page that is written meanwhile stays
 /// dirty.
 #[test]
-fn a_sync_writes_what_was_dirty_as_it_began(rt: HostRuntime) -> Result<(), Fail> {
+fn a_sync_writes_what_was_dirty_as_it_began(rt: HostRuntime) {
     let alloc = rt.alloc();
     check_row(
         &rt,
@@ -244,13 +248,13 @@ fn a_sync_writes_what_was_dirty_as_it_began(rt: HostRuntime) -> Result<(), Fail>
         end 1          written
         step 0         clean
         tags 0 1       D",
-    )
+    );
 }
 
 /// A page that is dirty again while its write is in flight is written once more. Where a flush took the page first, the
 /// sync waits for that.
 #[test]
-fn a_sync_waits_for_writes_that_are_in_flight(rt: HostRuntime) -> Result<(), Fail> {
+fn a_sync_waits_for_writes_that_are_in_flight(rt: HostRuntime) {
     let alloc = rt.alloc();
     check_row(
         &rt,
@@ -270,7 +274,7 @@ fn a_sync_waits_for_writes_that_are_in_flight(rt: HostRuntime) -> Result<(), Fai
         do 1          done
         end 1         written
         step 0        clean",
-    )?;
+    );
     check_row(
         &rt,
         alloc,
@@ -281,12 +285,12 @@ fn a_sync_waits_for_writes_that_are_in_flight(rt: HostRuntime) -> Result<(), Fai
         do 0          done
         end 0         written
         step 0        clean",
-    )
+    );
 }
 
 /// A handle with a sync in progress is not closed. A sync that was dropped is over.
 #[test]
-fn a_sync_keeps_its_handle_open(rt: HostRuntime) -> Result<(), Fail> {
+fn a_sync_keeps_its_handle_open(rt: HostRuntime) {
     let alloc = rt.alloc();
     check_row(
         &rt,
@@ -299,12 +303,12 @@ fn a_sync_keeps_its_handle_open(rt: HostRuntime) -> Result<(), Fail> {
         open 1   refused 5
         sync 0   refused 4
         drop 0   refused 15",
-    )
+    );
 }
 
 /// A sync tells that a write failed while it was in progress, and is over then.
 #[test]
-fn a_sync_tells_of_a_failed_write(rt: HostRuntime) -> Result<(), Fail> {
+fn a_sync_tells_of_a_failed_write(rt: HostRuntime) {
     let alloc = rt.alloc();
     check_row(
         &rt,
@@ -317,30 +321,29 @@ fn a_sync_tells_of_a_failed_write(rt: HostRuntime) -> Result<(), Fail> {
         step 0        failed 5
         tags 0 0      D
         step 0        refused 15",
-    )
+    );
 }
 
 /// A sync waits for no write whose page was cut off.
 #[test]
-fn a_sync_awaits_no_page_that_was_cut_off(rt: HostRuntime) -> Result<(), Fail> {
-    let alloc = rt.alloc();
-    let bytes = "ab".repeat(alloc, 32)?;
-    let write = format!(in alloc; "write 0 0 {bytes}")?;
-    let rows = format!(in alloc;
-        "{write}       wrote 32
-        sync 0        sync 0
+fn a_sync_awaits_no_page_that_was_cut_off(rt: HostRuntime) {
+    check_after_write(
+        &rt,
+        rt.alloc(),
+        "ab",
+        32,
+        "sync 0        sync 0
         step 0        job 0
         truncate 0 0  ok
         step 0        clean
         do 0          done
-        end 0         dropped"
-    )?;
-    check_row(&rt, alloc, rows.as_str())
+        end 0         dropped",
+    );
 }
 
 /// A sync tells of a write that failed before it, once, and writes the page.
 #[test]
-fn fsync_tells_of_a_failed_write_once(rt: HostRuntime) -> Result<(), Fail> {
+fn fsync_tells_of_a_failed_write_once(rt: HostRuntime) {
     let alloc = rt.alloc();
     check_row(
         &rt,
@@ -354,7 +357,7 @@ fn fsync_tells_of_a_failed_write_once(rt: HostRuntime) -> Result<(), Fail> {
         fsync 0       refused 14 5
         tags 0 0      -
         fsync 0       ok",
-    )?;
+    );
     check_row(
         &rt,
         alloc,
@@ -365,12 +368,12 @@ fn fsync_tells_of_a_failed_write_once(rt: HostRuntime) -> Result<(), Fail> {
         poll 0        error 5
         poll 0        none
         fsync 0       ok",
-    )
+    );
 }
 
 /// Each handle is told of a failed write. One that was opened later is told where nobody was yet.
 #[test]
-fn each_handle_is_told_of_a_failed_write(rt: HostRuntime) -> Result<(), Fail> {
+fn each_handle_is_told_of_a_failed_write(rt: HostRuntime) {
     let alloc = rt.alloc();
     check_row(
         &rt,
@@ -385,7 +388,7 @@ fn each_handle_is_told_of_a_failed_write(rt: HostRuntime) -> Result<(), Fail> {
         fsync 0       ok
         open 0        handle 2
         fsync 2       ok",
-    )?;
+    );
     check_row(
         &rt,
         alloc,
@@ -399,18 +402,18 @@ fn each_handle_is_told_of_a_failed_write(rt: HostRuntime) -> Result<(), Fail> {
         fsync 1       refused 14 5
         fsync 0       ok
         fsync 2       refused 14 5",
-    )
+    );
 }
 
 /// A sync from its beginning to its end leaves its pages idle.
 #[test]
-fn fsync_leaves_pages_idle(rt: HostRuntime) -> Result<(), Fail> {
-    let alloc = rt.alloc();
-    let bytes = "01".repeat(alloc, 48)?;
-    let write = format!(in alloc; "write 0 0 {bytes}")?;
-    let rows = format!(in alloc;
-        "{write}       wrote 48
-        fsync 0       ok
+fn fsync_leaves_pages_idle(rt: HostRuntime) {
+    check_after_write(
+        &rt,
+        rt.alloc(),
+        "01",
+        48,
+        "fsync 0       ok
         read 0 0 1    bytes 01
         read 0 0 1    bytes 01
         age           aged 0
@@ -422,20 +425,19 @@ fn fsync_leaves_pages_idle(rt: HostRuntime) -> Result<(), Fail> {
         fill 0 0      job 3
         fail 3 5 old  failed
         end 3         failed 5
-        tags 0 0      absent"
-    )?;
-    check_row(&rt, alloc, rows.as_str())
+        tags 0 0      absent",
+    );
 }
 
 /// A fill that fails is no failed write, and a failed write is of its own file.
 #[test]
-fn fsync_tells_of_failed_writes_of_its_file(rt: HostRuntime) -> Result<(), Fail> {
-    let alloc = rt.alloc();
-    let bytes = "01".repeat(alloc, 48)?;
-    let write = format!(in alloc; "write 0 0 {bytes}")?;
-    let rows = format!(in alloc;
-        "{write}        wrote 48
-        fsync 0        ok
+fn fsync_tells_of_failed_writes_of_its_file(rt: HostRuntime) {
+    check_after_write(
+        &rt,
+        rt.alloc(),
+        "01",
+        48,
+        "fsync 0        ok
         evict          evicted 0 0
         fill 0 0       job 3
         fail 3 5 old   failed
@@ -448,15 +450,14 @@ fn fsync_tells_of_failed_writes_of_its_file(rt: HostRuntime) -> Result<(), Fail>
         fail 4 28 new  failed
         end 4          failed 28
         poll 0         none
-        poll 1         error 28"
-    )?;
-    check_row(&rt, alloc, rows.as_str())
+        poll 1         error 28",
+    );
 }
 
 /// A sync waits for no request that is in flight: it is given up, and so the handle can be closed. A handle that is not open is
 /// neither synced nor polled.
 #[test]
-fn fsync_gives_up_where_it_would_wait(rt: HostRuntime) -> Result<(), Fail> {
+fn fsync_gives_up_where_it_would_wait(rt: HostRuntime) {
     let alloc = rt.alloc();
     check_row(
         &rt,
@@ -474,13 +475,13 @@ fn fsync_gives_up_where_it_would_wait(rt: HostRuntime) -> Result<(), Fail> {
         poll 0         refused 4
         open 0         handle 0
         poll 0         none",
-    )
+    );
 }
 
 /// A sync of a range starts, awaits and leaves clean the pages of the range alone. One that would begin past its end is
 /// refused.
 #[test]
-fn a_sync_of_a_range_leaves_the_other_pages(rt: HostRuntime) -> Result<(), Fail> {
+fn a_sync_of_a_range_leaves_the_other_pages(rt: HostRuntime) {
     let alloc = rt.alloc();
     check_row(
         &rt,
@@ -497,12 +498,12 @@ fn a_sync_of_a_range_leaves_the_other_pages(rt: HostRuntime) -> Result<(), Fail>
         step 0         clean
         tags 0 0       D
         sync 0 5 4     refused 24",
-    )
+    );
 }
 
 /// An fsync of a range does not wait for a write of a page outside it; one of the whole file does.
 #[test]
-fn an_fsync_of_a_range_passes_other_writes(rt: HostRuntime) -> Result<(), Fail> {
+fn an_fsync_of_a_range_passes_other_writes(rt: HostRuntime) {
     let alloc = rt.alloc();
     check_row(
         &rt,
@@ -517,5 +518,5 @@ fn an_fsync_of_a_range_passes_other_writes(rt: HostRuntime) -> Result<(), Fail> 
         fsync 0        ok
         fsync 1 4 1    refused 4
         fsync 0 4 1    refused 24",
-    )
+    );
 }

@@ -5,6 +5,7 @@ use script::run::run_script;
 use std::alloc::Global;
 use std::io::{BufReader, ErrorKind, Read, Result as IoResult, Write};
 use std::process::Abort;
+use std::str::from_utf8;
 use std::test::Fail;
 use textline::{Printer, Stop};
 
@@ -16,38 +17,31 @@ pub struct Outcome<'a> {
     pub status: u8,
 }
 
-pub fn check(
-    rt: &impl Abort,
-    alloc: Global,
-    script: &[u8],
-    expected: &Outcome<'_>,
-) -> Result<(), Fail> {
+pub fn check(rt: &impl Abort, alloc: Global, script: &[u8], expected: &Outcome<'_>) {
     let mut out = Printer::new(alloc, Vec::new(alloc));
     let mut message = Vec::new(alloc);
     let ended = run_script(alloc, script, &mut out, &mut message);
-    let output = std::str::from_utf8(out.writer.as_slice())?;
-    same(rt, output, expected.output);
-    same(
-        rt,
-        std::str::from_utf8(message.as_slice())?,
-        expected.message,
-    );
+    reads(rt, out.writer.as_slice(), expected.output);
+    reads(rt, message.as_slice(), expected.message);
     same(rt, ended.status(), expected.status);
     same(rt, ended.is_said, true);
-    Ok(())
+}
+
+/// What was written is this text.
+fn reads(rt: &impl Abort, written: &[u8], text: &str) {
+    same(rt, from_utf8(written).expect(rt, "text"), text);
 }
 
 /// Scripts of which no line is malformed.
-fn check_answers(rt: &impl Abort, alloc: Global, scripts: &[(&str, &str)]) -> Result<(), Fail> {
+fn check_answers(rt: &impl Abort, alloc: Global, scripts: &[(&str, &str)]) {
     for (script, output) in scripts {
         let expected = Outcome {
             output,
             message: "",
             status: 0,
         };
-        check(rt, alloc, script.as_bytes(), &expected)?;
+        check(rt, alloc, script.as_bytes(), &expected);
     }
-    Ok(())
 }
 
 /// A read, a write, and what is refused of them, each line beside its answer.
@@ -84,12 +78,13 @@ fn reads_and_writes_are_answered(rt: HostRuntime) -> Result<(), Fail> {
             "file 0\nhandle 0\nwrote 1\nrefused 7\nsize 1099511627776\nD\n",
         ),
     ];
-    check_answers(&rt, alloc, &scripts)
+    check_answers(&rt, alloc, &scripts);
+    Ok(())
 }
 
 /// What a script's first lines say of the cache's sizes, and lines that say nothing.
 #[test]
-fn first_lines_are_answered(rt: HostRuntime) -> Result<(), Fail> {
+fn first_lines_are_answered(rt: HostRuntime) {
     let scripts = [
         // Digits of either case are read, and lower case is printed.
         (
@@ -107,7 +102,7 @@ fn first_lines_are_answered(rt: HostRuntime) -> Result<(), Fail> {
             "configured\nfile 0\nhandle 0\nclosed\nrefused 4\n",
         ),
     ];
-    check_answers(&rt, rt.alloc(), &scripts)
+    check_answers(&rt, rt.alloc(), &scripts);
 }
 
 /// A line that is none ends the run, and the answers before it stand.
@@ -145,27 +140,27 @@ fn malformed_lines_end_a_script(rt: HostRuntime) -> Result<(), Fail> {
     };
     for line in &lines {
         let script = format!(in alloc; "create\nopen 0\n{line}\nsize 0\n")?;
-        check(&rt, alloc, script.as_bytes(), &expected)?;
+        check(&rt, alloc, script.as_bytes(), &expected);
     }
     Ok(())
 }
 
 /// A line is told by its number, with the lines that say nothing.
 #[test]
-fn malformed_lines_are_counted(rt: HostRuntime) -> Result<(), Fail> {
+fn malformed_lines_are_counted(rt: HostRuntime) {
     let alloc = rt.alloc();
     let alone = Outcome {
         output: "",
         message: "pcache: line 1: malformed\n",
         status: 2,
     };
-    check(&rt, alloc, b"read 0 0", &alone)?;
+    check(&rt, alloc, b"read 0 0", &alone);
     let counted = Outcome {
         output: "file 0\n",
         message: "pcache: line 5: malformed\n",
         status: 2,
     };
-    check(&rt, alloc, b"\n# \xff\xfe\0\ncreate\n\nopen\n", &counted)
+    check(&rt, alloc, b"\n# \xff\xfe\0\ncreate\n\nopen\n", &counted);
 }
 
 /// A writer that counts its bytes, and remembers how many there were at each flush.
@@ -241,16 +236,13 @@ fn failing_streams_end_a_script(rt: HostRuntime) -> Result<(), Fail> {
     let mut message = Vec::new(alloc);
     let reader = b"create\n".as_slice().chain(BufReader::new(alloc, Broken)?);
     let ended = run_script(alloc, reader, &mut out, &mut message);
-    let output = std::str::from_utf8(out.writer.as_slice())?;
-    same(&rt, output, "file 0\n");
-    let said = std::str::from_utf8(message.as_slice())?;
-    same(&rt, said, "pcache: input failed\n");
+    reads(&rt, out.writer.as_slice(), "file 0\n");
+    reads(&rt, message.as_slice(), "pcache: input failed\n");
     same(&rt, ended.status(), 3);
     message.clear();
     let mut out = Printer::new(alloc, Broken);
     let ended = run_script(alloc, b"create\n".as_slice(), &mut out, &mut message);
-    let said = std::str::from_utf8(message.as_slice())?;
-    same(&rt, said, "pcache: output failed\n");
+    reads(&rt, message.as_slice(), "pcache: output failed\n");
     same(&rt, ended.status(), 3);
     Ok(())
 }
