@@ -1,19 +1,23 @@
 -- What calls leave behind them: requests with their ends, and fills with the entries that asked for them.
-use Rattle.std.proofs.Common.{◌≡◌, ◌<◌, ◌+◌, ◌∙◌, ℕ, Bool, true, false, List, zero, suc, [], ◌∷◌, ◌++◌, refl, ap, subst, sym, arith, append_assoc, inl, inr}
+use Rattle.std.proofs.Common.{◌≡◌, ◌<◌, ◌≤◌, ◌+◌, ◌∙◌, ℕ, Bool, true, false, List, zero, suc, [], ◌∷◌, ◌++◌, refl, ap, subst, sym, arith, append_assoc, inl, inr}
 use Rattle.std.specs.Prelude.{◌⊎◌, ◌==◌, All, Any, if◌then◌else◌, Ok, Err, Option, Some, None, Result}
 use Rattle.std.proofs.lemmas.Bool.{eqb-true}
 use Rattle.std.proofs.lemmas.List.{append-nil}
 use Rattle.std.specs.FinMap as map
 use Rattle.std.specs.Ordering.{nat_cmp}
 use Rattle.blockdev.specs.Jobs.{FinishedTask, Task}
-use Rattle.cachecore.specs.Replies.{IsFillJob, IsFlushJob, end_of, fill_begun}
+use Rattle.cachecore.specs.Replies.{IsFillJob, IsFlushJob, IsSyncJob, end_of, fill_begun, sync_stepped}
 use Rattle.cachecore.specs.declared.answers.FillBegun.{FillBegun}
 use Rattle.cachecore.specs.declared.answers.FillBegun.TheVariants as fill
 use Rattle.cachecore.specs.declared.answers.FlushBegun.TheVariants as flush
+use Rattle.cachecore.specs.declared.answers.SyncStepped.{SyncStepped}
+use Rattle.cachecore.specs.declared.answers.SyncStepped.TheVariants as stepped
 use Rattle.maps.proofs.Maps.{get_inserted}
 use Rattle.machine.proofs.steps.Answered.{answers}
 use Rattle.machine.proofs.steps.Cases.{answered}
-use Rattle.machine.specs.State.{Request, State}
+use Rattle.machine.specs.Changes as changes
+use Rattle.machine.specs.State.{Request, State, Sync, first_awaited}
+use Rattle.machine.specs.Step.{SyncReply, SyncStepReply}
 use Rattle.machine.specs.Tests.{tests}
 use Rattle.machine.specs.declared.event.End.{End}
 use Rattle.machine.specs.declared.event.Event.{Event}
@@ -24,10 +28,11 @@ use Rattle.pc_types.specs.declared.ids.HandleId.{HandleId}
 use Rattle.pc_types.specs.declared.ids.FileId.{FileId}
 use Rattle.pc_types.specs.declared.ids.PageIndex.{PageIndex}
 use Rattle.pc_types.specs.declared.ids.Serial.{Serial}
+use Rattle.pc_types.specs.declared.ids.SyncId.{SyncId}
 use Rattle.pc_types.specs.declared.kind.Kind.{Kind}
 use Rattle.pc_types.specs.declared.kind.Kind.TheVariants.{Fill, Flush}
 use Rattle.pc_types.specs.declared.refusal.Refusal.{Refusal}
-use Rattle.pc_types.specs.declared.refusal.Refusal.TheVariants.{TrailFull}
+use Rattle.pc_types.specs.declared.refusal.Refusal.TheVariants.{Stranger, TrailFull}
 use Rattle.trail.specs.declared.entry.Entry.{Entry}
 use Rattle.trail.specs.Entries.{end_with, entry_of, noted}
 use Rattle.held.specs.declared.log.Slip.{Slip}
@@ -43,7 +48,7 @@ use Rattle.shared.specs.Changes.{event_of}
 use Rattle.shared.specs.declared.writes.Change.{Change}
 use Rattle.shared.specs.declared.writes.Change.TheVariants.{Append, Truncate, Write}
 use Rattle.shared.specs.Own.{IsEviction, IsRoomEvent}
-use Rattle.shared.specs.Settled.{IsBegun, IsEnded, EndsIn, EndsOne, Fills, FillsMissed, FillsNoOther, LeavesOne, Pairs, Settles, SettlesIn}
+use Rattle.shared.specs.Settled.{IsBegun, IsEnded, EndsIn, EndsOne, Fills, FillsMissed, FillsNoOther, LeavesOne, LeavesOneOfSync, Pairs, Settles, SettlesIn, SettlesSync}
 
 -- ---- some element of two lists
 
@@ -388,6 +393,43 @@ pub first_kind : (job : Task) (slip : Slip) (old new : HeldSeen) (a b : SeatSeen
     → IsFlushJob new.core.state (Ok (flush.Job job)) → job.kind ≡ Flush
 first_kind job slip old new a b w is = flush_kind w.file job old new a b slip w.made is
 
+-- a step of a sync that begins a write takes the next serial
+sync_next : (s : State) (o : Option Sync) (t : Serial) → SyncStepReply s o (reply.Job t) → t.0 ≡ s.next
+sync_next s None t r = absurd r
+sync_next s (Some y) t r = go (changes.sync_pick s y) (first_awaited s y) r
+  where
+    go : (p : Option ℕ) (e : Option (ℕ × Request)) → SyncReply s y p e (reply.Job t) → t.0 ≡ s.next
+    go (Some p) e r = r
+    go None None r = absurd r
+    go None (Some e) r = absurd r
+
+sync_inserted : (s : State) (o : Option Sync) (m : ℕ) (t : Serial) (x : Request) → SyncStepReply s o (reply.Job t)
+    → map.get (changes.sync_stepped s m o (reply.Job t)).requests t.0 ≡ Some x → x.kind ≡ Flush
+sync_inserted s None m t x r is = absurd r
+sync_inserted s (Some y) m t x r is = inserted_kind s.requests s.next _ t.0 x (sync_next s (Some y) t r) is
+
+-- a job that a step of a sync begins is a write
+sync_kind : (m : SyncId) (job : Task) (old new : HeldSeen) (a b : SeatSeen) (slip : Slip)
+    → Made (event.SyncStep m) (reply.Job (record { 0 = job.serial })) old new a b slip
+    → IsSyncJob new.core.state (Ok (stepped.Job job)) → job.kind ≡ Flush
+sync_kind m job old new a b slip made is =
+    let s : State = old.core.state in
+    let t : Serial = record { 0 = job.serial } in
+    elim (answered (tests s (event.SyncStep m)) s (event.SyncStep m) (reply.Job t) new.core.state made.step) [
+      | inl k ↦ absurd (never_job s (event.SyncStep m) t k.0)
+      | inr k ↦ ap (λ (j : Task). j.kind) is.2
+          ∙ sync_inserted s (map.get s.syncs m.0) m.0 t is.0 k.1
+          (subst (λ (n : State). map.get n.requests job.serial ≡ Some is.0) k.2 is.1)
+    ]
+
+step_kind : (m : SyncId) (y : SyncStepped) (job : Task) (old new : HeldSeen) (a b : SeatSeen) (slip : Slip)
+    → y ≡ stepped.Job job → Made (event.SyncStep m) (sync_stepped (Ok y)) old new a b slip → IsSyncJob new.core.state (Ok y)
+    → job.kind ≡ Flush
+step_kind m y job old new a b slip same made is =
+    sync_kind m job old new a b slip
+    (subst (λ (x : SyncStepped). Made (event.SyncStep m) (sync_stepped (Ok x)) old new a b slip) same made)
+    (subst (λ (x : SyncStepped). IsSyncJob new.core.state (Ok x)) same is)
+
 -- ---- whole calls
 
 -- nothing was made
@@ -569,3 +611,74 @@ other_filled {R} name h p first job old new a b c slip result same m is ends =
     go (Ok y) q = ended q
     go (Err d) (inl q) = ended q
     go (Err d) (inr q) = subst (λ (s : SeatSeen). Only (λ l. FillsNoOther p l.event) a s) (sym q.1) begun
+
+-- ---- syncs
+
+-- a step of a sync began a write, which was ended
+pub step_settles : (name : ℕ) (m : SyncId) (y : SyncStepped) (job : Task) (old new : HeldSeen) (a b c : SeatSeen) (slip : Slip)
+    → y ≡ stepped.Job job → Made (event.SyncStep m) (sync_stepped (Ok y)) old new a b slip → IsSyncJob new.core.state (Ok y)
+    → (job.kind ≡ Flush → EndsOne name (Flush, job.serial) b c) → Settles name a c
+step_settles name m y job old new a b c slip same made is ends =
+    settles_begun name (Flush, job.serial) (event.SyncStep m) (reply.Job (record { 0 = job.serial })) old new a b c slip
+    (refl, refl) (subst (λ (x : SyncStepped). Made (event.SyncStep m) (sync_stepped (Ok x)) old new a b slip) same made)
+    (ends (step_kind m y job old new a b slip same made is))
+
+pub write_denied : (name : ℕ) (m : SyncId) (y : SyncStepped) (job : Task) (old new : HeldSeen) (a b c : SeatSeen) (slip : Slip)
+    (d : Denied) → y ≡ stepped.Job job → Made (event.SyncStep m) (sync_stepped (Ok y)) old new a b slip
+    → IsSyncJob new.core.state (Ok y)
+    → (job.kind ≡ Flush → EndsOne name (Flush, job.serial) b c ⊎ ((d ≡ record { refusal = TrailFull; slip = None }) × (c ≡ b)))
+    → Settles name a c ⊎ LeavesOne name a c d
+write_denied name m y job old new a b c slip d same made is ends =
+    begun_denied name (Flush, job.serial) (event.SyncStep m) (reply.Job (record { 0 = job.serial })) old new a b c slip d
+    (refl, refl) (subst (λ (x : SyncStepped). Made (event.SyncStep m) (sync_stepped (Ok x)) old new a b slip) same made)
+    (ends (step_kind m y job old new a b slip same made is))
+
+-- a step that began none
+pub step_quiet : (name : ℕ) (m : SyncId) (y z : SyncStepped) (old new : HeldSeen) (a b : SeatSeen) (slip : Slip) → y ≡ z
+    → ((x : Kind × ℕ) → IsBegun x (noted (event.SyncStep m) (sync_stepped (Ok z))) (sync_stepped (Ok z)) → ⊥)
+    → Made (event.SyncStep m) (sync_stepped (Ok y)) old new a b slip → Settles name a b
+step_quiet name m y z old new a b slip is never made =
+    settles_by name (event.SyncStep m) (sync_stepped (Ok z)) old new a b slip never
+    (subst (λ (x : SyncStepped). Made (event.SyncStep m) (sync_stepped (Ok x)) old new a b slip) is made)
+
+-- a sync was begun
+pub sync_settles : (name : ℕ) (h : HandleId) (first last : PageIndex) (m : SyncId) (old new : HeldSeen) (a b : SeatSeen)
+    (slip : Slip) → Made (event.SyncBegin h first last) (reply.Sync m) old new a b slip → Settles name a b
+sync_settles name h first last m old new a b slip made =
+    settles_by name (event.SyncBegin h first last) (reply.Sync m) old new a b slip (λ x b. b) made
+
+drop_begins : (m : SyncId) (x : Kind × ℕ) (e : Event) (r : Reply) → e ≡ event.SyncDrop m → IsBegun x e r → ⊥
+drop_begins m x e r is b = subst (λ (y : Event). IsBegun x y r) is b
+
+settles_dropped : (name : ℕ) (m : SyncId) (a b : SeatSeen) → Only (λ e. e.event ≡ event.SyncDrop m) a b → Settles name a b
+settles_dropped name m a b p =
+    pairs_none (λ x e. IsBegun x e.event e.reply) (λ x e. IsEnded name x e.event) (λ e. e.event ≡ event.SyncDrop m) a b
+    (λ x e is b. drop_begins m x e.event e.reply is b) p
+
+-- its turns were refused, and it was dropped
+pub dropped_settles : (name : ℕ) (m : SyncId) (a b c e : SeatSeen) (why d : Denied) (P : Type 0) → Settles name a b
+    → Settles name b c ⊎ LeavesOne name b c why → Only (λ l. l.event ≡ event.SyncDrop m) c e → e.count ≤ c.count + 1
+    → ((d ≡ why) × P) ⊎ (d ≡ record { refusal = Stranger; slip = None })
+    → Settles name a e ⊎ LeavesOneOfSync name a e d
+dropped_settles name m a b c e why d P p (inl q) only few told =
+    inl (settles_on name a b e p (settles_on name b c e q (settles_dropped name m c e only)))
+dropped_settles name m a b c e why d P p (inr q) only few told = inr (record {
+  is = go told;
+  at = c;
+  left = left_on name a b c (record { refusal = TrailFull; slip = None }) p
+      (subst (LeavesOne name b c) q.full q);
+  sync = m;
+  dropped = only;
+  few = few;
+})
+  where
+    go : ((d ≡ why) × P) ⊎ (d ≡ record { refusal = Stranger; slip = None })
+        → (d ≡ record { refusal = TrailFull; slip = None }) ⊎ (d ≡ record { refusal = Stranger; slip = None })
+    go (inl t) = inl (t.0 ∙ q.full)
+    go (inr t) = inr t
+
+-- what is answered once the sync has ended
+pub ended_settles : {R : Type 0} (name : ℕ) (a b : SeatSeen) (result : Result R Denied) → Settles name a b
+    → SettlesSync name a b result
+ended_settles name a b (Ok x) p = p
+ended_settles name a b (Err d) p = inl p

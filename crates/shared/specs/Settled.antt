@@ -1,13 +1,14 @@
 -- What a call leaves behind it: no request of its own, and no page filled that it was not told to be missing.
-use Rattle.std.specs.Prelude.{◌≡◌, ◌⊎◌, ◌+◌, ◌++◌, ℕ, Any, List, None, Result, Ok, Err}
+use Rattle.std.specs.Prelude.{◌≡◌, ◌⊎◌, ◌+◌, ◌++◌, ◌≤◌, ℕ, Any, List, None, Result, Ok, Err}
 use Rattle.machine.specs.declared.event.Event.{Event}
 use Rattle.machine.specs.declared.event.Event.TheVariants as event
 use Rattle.machine.specs.declared.event.Reply.{Reply}
 use Rattle.machine.specs.declared.event.Reply.TheVariants as reply
 use Rattle.pc_types.specs.declared.ids.PageIndex.{PageIndex}
+use Rattle.pc_types.specs.declared.ids.SyncId.{SyncId}
 use Rattle.pc_types.specs.declared.kind.Kind.{Kind}
 use Rattle.pc_types.specs.declared.kind.Kind.TheVariants.{Fill, Flush}
-use Rattle.pc_types.specs.declared.refusal.Refusal.TheVariants.{TrailFull}
+use Rattle.pc_types.specs.declared.refusal.Refusal.TheVariants.{Stranger, TrailFull}
 use Rattle.trail.specs.declared.entry.Entry.{Entry}
 use Rattle.held.specs.Shown.{SeatSeen}
 use Rattle.locked.specs.Called.{Only}
@@ -52,6 +53,20 @@ pub record LeavesOne (name : ℕ) (before after : SeatSeen) (d : Denied) : Type 
 abbrev pub SettlesIn : {A : Type 0} → ℕ → SeatSeen → SeatSeen → Result A Denied → Type 0
 SettlesIn name before after (Ok x) = Settles name before after
 SettlesIn name before after (Err d) = Settles name before after ⊎ LeavesOne name before after d
+
+-- so it did, and a sync was dropped after: the refusal stands, or the sync was in progress no longer
+pub record LeavesOneOfSync (name : ℕ) (before after : SeatSeen) (d : Denied) : Type 0 where
+  pub is : (d ≡ record { refusal = TrailFull; slip = None }) ⊎ (d ≡ record { refusal = Stranger; slip = None })
+  pub at : SeatSeen
+  pub left : LeavesOne name before at (record { refusal = TrailFull; slip = None })
+  pub sync : SyncId
+  pub dropped : Only (λ e. e.event ≡ event.SyncDrop sync) at after
+  pub few : after.count ≤ at.count + 1
+
+-- an fsync settles what it began; it leaves one request only where a turn of its sync was refused by a full trail
+abbrev pub SettlesSync : {A : Type 0} → ℕ → SeatSeen → SeatSeen → Result A Denied → Type 0
+SettlesSync name before after (Ok x) = Settles name before after
+SettlesSync name before after (Err d) = Settles name before after ⊎ LeavesOneOfSync name before after d
 
 -- it made one event, the end of that request
 abbrev pub EndsOne : ℕ → Kind × ℕ → SeatSeen → SeatSeen → Type 0

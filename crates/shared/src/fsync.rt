@@ -12,6 +12,7 @@ ghost use Rattle.shared.specs.Called.{Makes};
 ghost use Rattle.shared.specs.Denials.{IsDenied};
 ghost use Rattle.shared.specs.Polls.{Hears, IsLevelled, Polled};
 ghost use Rattle.shared.specs.Rooms.{IsFinal};
+ghost use Rattle.shared.specs.Settled.{SettlesIn, SettlesSync};
 ghost use Rattle.shared.specs.Synced.{EndsOnce, IsDropped, IsFsyncDenied, IsNotBegun, IsSyncDenied, IsSyncOver, IsTurnOf, IsTurnTry, OneSync, Reports, Syncs, end_reply};
 
 use crate::cache::SharedCache;
@@ -58,6 +59,7 @@ impl<B: Naming, D: BlockDevice, T: Trail> SharedCache<B, D, T> {
         ensures hears { IfOk result (λ slip. Hears B.sizes self.now.name slip seat.new handle.new.pass) }
         ensures denied { seat.old.name ≡ self.now.name → handle.old.cache ≡ self.now.name → IfErr result (IsFsyncDenied B.sizes self.now.name handle.old.number (record { 0 = 0 }) (record { 0 = LAST_PAGE }) seat.old seat.new handle.old.pass handle.new.pass) }
         ensures stands { IfErr result (λ d. IsNotBegun handle.old.number (record { 0 = 0 }) (record { 0 = LAST_PAGE }) seat.old seat.new d ⊎ IsFinal B.sizes self.now.name seat.new d) }
+        ensures settled { SettlesSync self.now.name seat.old seat.new result }
     {
         self.fsync_range(rt, seat, handle, PageIndex(0), PageIndex(LAST_PAGE))
     }
@@ -84,6 +86,7 @@ impl<B: Naming, D: BlockDevice, T: Trail> SharedCache<B, D, T> {
         ensures hears { IfOk result (λ slip. Hears B.sizes self.now.name slip seat.new handle.new.pass) }
         ensures denied { seat.old.name ≡ self.now.name → handle.old.cache ≡ self.now.name → IfErr result (IsFsyncDenied B.sizes self.now.name handle.old.number first last seat.old seat.new handle.old.pass handle.new.pass) }
         ensures stands { IfErr result (λ d. IsNotBegun handle.old.number first last seat.old seat.new d ⊎ IsFinal B.sizes self.now.name seat.new d) }
+        ensures settled { SettlesSync self.now.name seat.old seat.new result }
     {
         if let Err(refusal) = self.admits(seat, handle) {
             return Err(without_slip(refusal));
@@ -151,6 +154,7 @@ impl<B: Naming, D: BlockDevice, T: Trail> SharedCache<B, D, T> {
         ensures ended { IfOk result (λ r. Syncs handle first last r.failed seat.old seat.new r.slip) }
         ensures denied { IfErr result (IsSyncDenied handle first last seat.old seat.new) }
         ensures stands { IfErr result (λ d. IsNotBegun handle first last seat.old seat.new d ⊎ IsFinal B.sizes B.name seat.new d) }
+        ensures settled { SettlesSync B.name seat.old seat.new result }
     {
         let buffer = match Buffer::new(self.alloc, &self.geometry) {
             Ok(buffer) => buffer,
@@ -190,6 +194,7 @@ impl<B: Naming, D: BlockDevice, T: Trail> SharedCache<B, D, T> {
         ensures denied { IfErr result (IsDenied (IsTurnOf sync) seat.old seat.new) }
         ensures full { IfErr result (λ d. d.slip ≡ None → d.refusal ≡ TrailFull) }
         ensures stands { IfErr result (IsFinal B.sizes B.name seat.new) }
+        ensures settled { SettlesIn B.name seat.old seat.new result }
     {
         'turns: for _ in rt.forever() {
             let (ended, back) = match self.sync_turn(rt, seat, pass, sync, buffer) {
@@ -231,6 +236,7 @@ impl<B: Naming, D: BlockDevice, T: Trail> SharedCache<B, D, T> {
         ensures denied { IfErr result (IsDenied (IsTurnOf sync) seat.old seat.new) }
         ensures full { IfErr result (λ d. d.slip ≡ None → d.refusal ≡ TrailFull) }
         ensures stands { IfErr result (IsFinal B.sizes B.name seat.new) }
+        ensures settled { SettlesIn B.name seat.old seat.new result }
     {
         let mut guard = self.state.lock(rt);
         let (stepped, slip) = match guard.sync_step(seat, sync, buffer) {

@@ -1,4 +1,4 @@
-use Rattle.std.proofs.Common.{ap, inr, subst, sym, ◌⊎◌, ◌∙◌}
+use Rattle.std.proofs.Common.{ap, inl, inr, refl, subst, sym, ◌⊎◌, ◌∙◌}
 use Rattle.std.proofs.lemmas.Result.{IfErr-weaker}
 use Rattle.std.specs.Prelude.{None}
 use Rattle.pc_types.specs.declared.ids.HandleId.{HandleId}
@@ -8,9 +8,11 @@ use Rattle.shared.specs.Called.{is_for_now}
 use Rattle.shared.specs.Polls.{Hears}
 use Rattle.shared.specs.Seen.{HandleSeen}
 use Rattle.shared.specs.Rooms.{IsFinal}
+use Rattle.shared.specs.Settled.{LeavesOneOfSync, Settles}
 use Rattle.shared.specs.Synced.{IsNotBegun, IsSyncDenied, Reports}
 use Rattle.shared.proofs.Hearing.{hears_told}
 use Rattle.shared.proofs.Rooming.{admitted_final, final_lasting}
+use Rattle.shared.proofs.Settling.{ended_settles, settles_same}
 use Rattle.shared.proofs.Syncing.{fsync_clean, fsync_denied, fsync_failed, report_final, sync_denied}
 use Rattle.shared.proofs.cache.SharedCache.fsync_range.Goals as goal
 
@@ -89,3 +91,25 @@ pub returns-in-Err-flushed-clause-stands : goal.returns-in-Err-flushed-clause-st
 returns-in-Err-flushed-clause-stands g c =
     inr (final_lasting g.B.Naming.sizes c.args.self.now.name c.sync_pages.new.seat c.without_slip-in-Err-flushed.result
     (ap (λ (x : Denied). is_for_now x.refusal) c.without_slip-in-Err-flushed.ensures))
+
+pub returns-in-Err-sync_pages-clause-settled : goal.returns-in-Err-sync_pages-clause-settled
+returns-in-Err-sync_pages-clause-settled g c =
+    subst (λ n. Settles n c.args.seat.now c.sync_pages.new.seat
+    ⊎ LeavesOneOfSync n c.args.seat.now c.sync_pages.new.seat c.in-Err-sync_pages.denied) (sym c.args.self.now.named)
+    c.in-Err-sync_pages.ensures.settled
+
+pub returns-in-Some-clause-settled : goal.returns-in-Some-clause-settled
+returns-in-Some-clause-settled g c =
+    inl (subst (λ n. Settles n c.args.seat.now c.sync_pages.new.seat) (sym c.args.self.now.named) c.in-Ok.ensures.settled)
+
+pub returns-in-Ok-flushed-clause-settled : goal.returns-in-Ok-flushed-clause-settled
+returns-in-Ok-flushed-clause-settled g c =
+    ended_settles c.args.self.now.name c.args.seat.now c.sync_pages.new.seat c.report.result
+    (subst (λ n. Settles n c.args.seat.now c.sync_pages.new.seat) (sym c.args.self.now.named) c.in-Ok.ensures.settled)
+
+pub returns-in-Err-flushed-clause-settled : goal.returns-in-Err-flushed-clause-settled
+returns-in-Err-flushed-clause-settled g c =
+    inl (subst (λ n. Settles n c.args.seat.now c.sync_pages.new.seat) (sym c.args.self.now.named) c.in-Ok.ensures.settled)
+
+pub returns-in-Err-clause-settled : goal.returns-in-Err-clause-settled
+returns-in-Err-clause-settled g c = inl (settles_same c.args.self.now.name c.args.seat.now c.args.seat.now refl)

@@ -1,5 +1,7 @@
-use Rattle.shared.proofs.Owning.{sync_given_up, sync_not_begun, sync_over, sync_same}
 use Rattle.std.proofs.Common.{inl, inr, refl}
+use Rattle.machine.specs.declared.event.Event.TheVariants as event
+use Rattle.shared.proofs.Owning.{sync_given_up, sync_not_begun, sync_over, sync_same}
+use Rattle.shared.proofs.Settling.{dropped_settles, settles_denied, settles_on, settles_same, sync_settles}
 use Rattle.shared.proofs.Syncing.{begin_denied, gave_up, gave_up_final, memory_denied, syncs_by}
 use Rattle.shared.proofs.cache.SharedCache.sync_pages.Goals as goal
 
@@ -49,3 +51,23 @@ returns-in-Ok-sync_turns-clause-only g c = sync_over c.args.handle c.args.first 
 pub returns-in-Err-sync_turns-clause-only : goal.returns-in-Err-sync_turns-clause-only
 returns-in-Err-sync_turns-clause-only g c = sync_given_up c.args.handle c.args.first c.args.last _ _ _ _ _ _ _ _
     c.in-Ok-begun.ensures.made c.in-Err-sync_turns.ensures.tried c.give_up.ensures.only c.give_up.ensures.few
+
+pub returns-in-Err-clause-settled : goal.returns-in-Err-clause-settled
+returns-in-Err-clause-settled g c = inl (settles_same g.B.Naming.name c.args.seat.now c.args.seat.now refl)
+
+pub returns-in-Err-begun-clause-settled : goal.returns-in-Err-begun-clause-settled
+returns-in-Err-begun-clause-settled g c =
+    inl (settles_denied g.B.Naming.name (event.SyncBegin c.args.handle c.args.first c.args.last) c.deref_mut.result.now
+    c.sync_begin-begun.new.self c.args.seat.now c.sync_begin-begun.new.seat c.in-Err-begun.denied c.in-Err-begun.ensures.denied)
+
+pub returns-in-Ok-sync_turns-clause-settled : goal.returns-in-Ok-sync_turns-clause-settled
+returns-in-Ok-sync_turns-clause-settled g c =
+    settles_on g.B.Naming.name _ _ _
+    (sync_settles g.B.Naming.name c.args.handle c.args.first c.args.last _ _ _ _ _ _ c.in-Ok-begun.ensures.made)
+    c.in-Ok-sync_turns.ensures.settled
+
+pub returns-in-Err-sync_turns-clause-settled : goal.returns-in-Err-sync_turns-clause-settled
+returns-in-Err-sync_turns-clause-settled g c =
+    dropped_settles g.B.Naming.name _ _ _ _ _ c.in-Err-sync_turns.denied c.give_up.result _
+    (sync_settles g.B.Naming.name c.args.handle c.args.first c.args.last _ _ _ _ _ _ c.in-Ok-begun.ensures.made)
+    c.in-Err-sync_turns.ensures.settled c.give_up.ensures.only c.give_up.ensures.few c.give_up.ensures.dropped

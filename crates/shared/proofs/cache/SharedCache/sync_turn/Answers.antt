@@ -1,4 +1,4 @@
-use Rattle.std.proofs.Common.{◌≡◌, ◌∙◌, ap, length, rules, subst, sym}
+use Rattle.std.proofs.Common.{◌≡◌, ◌∙◌, ap, inl, length, rules, subst, sym}
 use Rattle.std.specs.Prelude.{Ok}
 use Rattle.cachecore.specs.Replies.{SyncGivesBack}
 use Rattle.cachecore.specs.declared.answers.SyncStepped.{SyncStepped}
@@ -12,6 +12,7 @@ use Rattle.shared.specs.Synced.{IsTurnOf}
 use Rattle.shared.proofs.Making.{goes_denied}
 use Rattle.shared.proofs.Owning.{once_clean, once_failed, try_denied, try_waits, try_writes}
 use Rattle.shared.proofs.Rooming.{step_final}
+use Rattle.shared.proofs.Settling.{settles_denied, step_quiet, step_settles, write_denied}
 use Rattle.shared.proofs.Syncing.{denied_step, step_full}
 use Rattle.shared.proofs.cache.SharedCache.sync_turn.Goals as goal
 
@@ -108,3 +109,36 @@ returns-in-Failed-clause-hears g c =
     c.deref_mut-in-Failed.result.now c.args.seat.now c.sync_step.new.seat c.in-Ok.made.1
     c.over-in-Failed.new.pass c.in-Ok.ensures.made same c.over-in-Failed.ensures.legal
     c.over-in-Failed.ensures.known)
+
+-- what it began is ended
+pub returns-in-Ok-wait_or-clause-settled : goal.returns-in-Ok-wait_or-clause-settled
+returns-in-Ok-wait_or-clause-settled g c =
+    settles_denied g.B.Naming.name (event.SyncStep c.args.sync) c.deref_mut.result.now c.sync_step.new.self c.args.seat.now
+    c.sync_step.new.seat c.in-Err.denied c.in-Err.ensures.denied
+
+pub returns-in-Err-wait_or-clause-settled : goal.returns-in-Err-wait_or-clause-settled
+returns-in-Err-wait_or-clause-settled g c =
+    inl (settles_denied g.B.Naming.name (event.SyncStep c.args.sync) c.deref_mut.result.now c.sync_step.new.self
+    c.args.seat.now c.sync_step.new.seat c.in-Err.denied c.in-Err.ensures.denied)
+
+pub returns-in-Wait-clause-settled : goal.returns-in-Wait-clause-settled
+returns-in-Wait-clause-settled g c =
+    step_quiet g.B.Naming.name c.args.sync _ _ _ _ _ _ _ c.in-Wait.is (λ x b. b) c.in-Ok.ensures.made
+
+pub returns-in-Clean-clause-settled : goal.returns-in-Clean-clause-settled
+returns-in-Clean-clause-settled g c =
+    step_quiet g.B.Naming.name c.args.sync _ _ _ _ _ _ _ c.in-Clean.is (λ x b. b) c.in-Ok.ensures.made
+
+pub returns-in-Failed-clause-settled : goal.returns-in-Failed-clause-settled
+returns-in-Failed-clause-settled g c =
+    step_quiet g.B.Naming.name c.args.sync _ _ _ _ _ _ _ c.in-Failed.is (λ x b. b) c.in-Ok.ensures.made
+
+pub returns-in-Ok-flush_by-clause-settled : goal.returns-in-Ok-flush_by-clause-settled
+returns-in-Ok-flush_by-clause-settled g c =
+    step_settles g.B.Naming.name c.args.sync _ c.in-Job.job _ _ _ _ _ _ c.in-Job.is c.in-Ok.ensures.made c.in-Ok.ensures.job
+    c.in-Ok-flush_by.ensures.ends
+
+pub returns-in-Err-flush_by-clause-settled : goal.returns-in-Err-flush_by-clause-settled
+returns-in-Err-flush_by-clause-settled g c =
+    write_denied g.B.Naming.name c.args.sync _ c.in-Job.job _ _ _ _ _ _ c.in-Err-flush_by.denied c.in-Job.is
+    c.in-Ok.ensures.made c.in-Ok.ensures.job c.in-Err-flush_by.ensures.ends
