@@ -1,0 +1,72 @@
+#![tactic(auto)]
+//! Runs what many threads ask of one shared cache, and prints one line: how many calls they made, and a digest of all answers.
+//! `workload_threads threads SEED` takes seconds, and `workload_threads small SEED` a fiftieth of it.
+//!
+//! Each caller writes a file of its own and all read a common one, so the line is the same in each run with the same seed, whatever
+//! the threads do in the meantime. `threads` runs them: `caller` is one that makes calls, `crew` the workers, `member` a seat. `files`
+//! makes the files, `desk` has the calls, `steps` which ones there are, `places` where the common file is read, `scale` how large all
+//! is, `numbers` a generator, and `tally` what was answered.
+
+mod caller;
+mod crew;
+mod desk;
+mod files;
+mod member;
+mod numbers;
+mod places;
+mod scale;
+mod steps;
+mod tally;
+mod threads;
+
+use scale::{Plan, Scale};
+use std::env;
+use std::io::Write;
+use std::process::ExitCode;
+use std::sync::Wait;
+use std::thread::Threads;
+use tally::Tally;
+use threads::run_threads;
+
+fn main(rt: HostRuntime) -> ExitCode {
+    ExitCode::from(run_program(&rt, &rt))
+}
+
+/// Does what the arguments ask for, and gives the status.
+fn run_program<W: Wait + Threads + Sync>(rt: &HostRuntime, threads: &W) -> u8 {
+    let Some(plan) = plan_asked(rt) else {
+        let _ = writeln!(
+            rt.stderr(),
+            "workload_threads: usage: workload_threads threads SEED | workload_threads small SEED"
+        );
+        return 2;
+    };
+    match run_threads(threads, rt.alloc(), plan) {
+        Ok(tally) => print_tally(rt, tally),
+        Err(refusal) => {
+            let _ = writeln!(rt.stderr(), "workload_threads: {refusal}");
+            1
+        }
+    }
+}
+
+/// What the arguments ask for, where they are a scale and a seed.
+fn plan_asked(rt: &HostRuntime) -> Option<Plan> {
+    let mut words = env::args(rt).ok()?;
+    let _ = words.next();
+    let scale = Scale::named(words.next()?.as_str())?;
+    let seed = words.next()?.parse().ok()?;
+    if words.next().is_some() {
+        return None;
+    }
+    Some(Plan { scale, seed })
+}
+
+/// Prints the line, and gives the status.
+fn print_tally(rt: &HostRuntime, tally: Tally) -> u8 {
+    let Tally { calls, digest } = tally;
+    match writeln!(rt.stdout(), "{calls} calls, digest {digest:016x}") {
+        Ok(()) => 0,
+        Err(_) => 1,
+    }
+}

@@ -1,0 +1,183 @@
+//! The array alone: entries at dense, sparse and random indexes are stored, loaded, found, found by mark, walked, retagged and erased,
+//! and identifiers are given out and given back.
+
+ghost use Rattle.std.specs.Prelude.{◌<◌};
+
+use crate::digest::Digest;
+use crate::numbers::Numbers;
+use idalloc::IdAlloc;
+use std::alloc::Global;
+use timing::Fault;
+use xarray::{Mark, XArray};
+
+/// How many entries an array gets.
+const ENTRIES: u64 = 1_000_000;
+
+/// Where entries stand.
+#[derive(Clone, Copy)]
+enum Spread {
+    /// Side by side.
+    Dense,
+    /// Each 100th index.
+    Sparse,
+    /// Anywhere below 2^40, by number.
+    Random,
+}
+
+impl Spread {
+    const ALL: [Spread; 3] = [Spread::Dense, Spread::Sparse, Spread::Random];
+
+    /// The index of the entry with a number.
+    #[inline(always)]
+    fn index(self, number: u64, salt: u64) -> u64 {
+        match self {
+            Spread::Dense => number,
+            Spread::Sparse => number.wrapping_mul(100),
+            Spread::Random => Numbers::new(number ^ salt).draw() >> 24,
+        }
+    }
+}
+
+pub fn run(alloc: Global, numbers: &mut Numbers, share: u64) -> Result<Digest, Fault>
+    requires { 0 < share }
+{
+    let mut digest = Digest::new();
+    let entries = ENTRIES / share;
+    for spread in Spread::ALL {
+        run_spread(alloc, numbers, &mut digest, spread, entries)?;
+    }
+    identify(alloc, numbers, &mut digest, entries)?;
+    Ok(digest)
+}
+
+fn run_spread(
+    alloc: Global,
+    numbers: &mut Numbers,
+    digest: &mut Digest,
+    spread: Spread,
+    entries: u64,
+) -> Result<(), Fault> {
+    let salt = numbers.draw() << 20;
+    let few = match spread {
+        Spread::Random => entries / 4,
+        _ => entries,
+    };
+    let mut array = XArray::new(alloc);
+    let done = fill(&mut array, digest, spread, salt, few);
+    look(&array, numbers, digest, spread, salt, few);
+    mark(&mut array, digest, spread, salt, few);
+    walk(&array, digest);
+    erase(&mut array, numbers, digest, spread, salt, few);
+    // by a call, since the check is slow where an array goes out of scope
+    drop(array);
+    done
+}
+
+fn fill(
+    array: &mut XArray,
+    digest: &mut Digest,
+    spread: Spread,
+    salt: u64,
+    entries: u64,
+) -> Result<(), Fault> {
+    for number in 0..entries {
+        let before = array.store(spread.index(number, salt), number)?;
+        digest.add(before.unwrap_or(1));
+    }
+    Ok(())
+}
+
+/// Loads entries at random, and finds the next one behind a random index.
+fn look(
+    array: &XArray,
+    numbers: &mut Numbers,
+    digest: &mut Digest,
+    spread: Spread,
+    salt: u64,
+    entries: u64,
+) {
+    for _ in 0..entries {
+        let index = spread.index(numbers.below(entries.max(1)), salt);
+        digest.add(array.load(index).unwrap_or(2));
+        if let Some(found) = array.find(index.saturating_add(1), u64::MAX) {
+            digest.add(found.first);
+        }
+    }
+}
+
+/// Marks each eighth entry, finds these, and gives them another mark.
+fn mark(array: &mut XArray, digest: &mut Digest, spread: Spread, salt: u64, entries: u64) {
+    for part in 0..entries / 8 {
+        let marked = array.set_mark(spread.index(part.wrapping_mul(8), salt), Mark::M0);
+        digest.add(u64::from(marked.is_ok()));
+    }
+    let mut from = 0;
+    for _ in 0..entries / 8 {
+        let Some(found) = array.find_marked(from, u64::MAX, Mark::M0) else {
+            break;
+        };
+        digest.add(found.first);
+        from = found.first.saturating_add(1);
+    }
+    digest.add(array.retag(0, u64::MAX, Mark::M0, Mark::M1));
+}
+
+/// Walks over all entries, and over those that have the other mark.
+fn walk(array: &XArray, digest: &mut Digest) {
+    for found in array.entries(0, u64::MAX) {
+        digest.add(found.value);
+    }
+    for found in array.entries_marked(0, u64::MAX, Mark::M1) {
+        digest.add(found.first);
+    }
+}
+
+/// Takes entries away, at random first.
+fn erase(
+    array: &mut XArray,
+    numbers: &mut Numbers,
+    digest: &mut Digest,
+    spread: Spread,
+    salt: u64,
+    entries: u64,
+) {
+    for _ in 0..entries / 2 {
+        let index = spread.index(numbers.below(entries.max(1)), salt);
+        digest.add(array.erase(index).unwrap_or(3));
+    }
+    for number in 0..entries {
+        digest.add(array.erase(spread.index(number, salt)).unwrap_or(4));
+    }
+}
+
+/// Gives out identifiers, gives half of them back at random, and gives out some of these again.
+fn identify(
+    alloc: Global,
+    numbers: &mut Numbers,
+    digest: &mut Digest,
+    entries: u64,
+) -> Result<(), Fault> {
+    let mut ids = IdAlloc::new(alloc);
+    let done = use_ids(&mut ids, numbers, digest, entries);
+    drop(ids);
+    done
+}
+
+fn use_ids(
+    ids: &mut IdAlloc,
+    numbers: &mut Numbers,
+    digest: &mut Digest,
+    entries: u64,
+) -> Result<(), Fault> {
+    for _ in 0..entries {
+        digest.add(ids.alloc(0, u64::MAX)?);
+    }
+    for _ in 0..entries / 2 {
+        let freed = ids.free(numbers.below(entries.max(1)));
+        digest.add(u64::from(freed.is_ok()));
+    }
+    for _ in 0..entries / 4 {
+        digest.add(ids.alloc(0, u64::MAX)?);
+    }
+    Ok(())
+}
