@@ -1,10 +1,11 @@
 pub mod AgeLemmas
 pub mod ChainLemmas
-pub mod FreeLemmas
+pub mod LinedLemmas
 pub mod ListLemmas
 pub mod ListedLemmas
+pub mod OrderLemmas
 pub mod RowLemmas
 pub mod ScanLemmas
 pub mod TiedLemmas
-pub mod PassedLemmas
+pub mod SetLemmas
 pub mod SoundLemmas

@@ -1,5 +1,5 @@
 -- Lists of frames without doubles.
-use Rattle.std.proofs.Common.{◌≡◌, ◌≢◌, ◌∙◌, sym, ap, subst, refl, ℕ, ◌+◌, ◌<◌, inl, inr, Bool, true, false, cond, eqb, ◌||◌, List, [], ◌∷◌, length, arith}
+use Rattle.std.proofs.Common.{◌≡◌, ◌≢◌, ◌∙◌, sym, ap, subst, refl, ℕ, zero, suc, ◌+◌, ◌<◌, ◌≤◌, inl, inr, Bool, true, false, cond, eqb, ◌||◌, List, [], ◌∷◌, length, arith}
 use Rattle.std.proofs.lemmas.Bool.{eq-eqb, ne_eqb, false≢true}
 use Rattle.std.proofs.lemmas.Bool.Decides.{eqb_tells}
 use Rattle.frames.specs.Lists.{has, without, IsWithoutDoubles}
@@ -89,3 +89,23 @@ length-without f (x ∷ xs) once yes_f =
 pub some_length : (f : ℕ) (xs : List ℕ) → has f xs ≡ true → 0 < length xs
 some_length f [] yes_f = absurd (false≢true yes_f)
 some_length f (x ∷ xs) yes_f = omega arith
+
+pub in_without : (f g : ℕ) (xs : List ℕ) → has f (without g xs) ≡ true → (f ≢ g) × (has f xs ≡ true)
+in_without f g xs h =
+    let differs : f ≢ g = λ e. false≢true (sym (ap (λ (n : ℕ). has n (without g xs)) e ∙ has-without_same g xs) ∙ h) in
+    (differs, sym (has-without_other g f xs differs) ∙ h)
+
+-- there are no more of them than numbers below the count
+pub few_frames : (n : ℕ) (xs : List ℕ) → IsWithoutDoubles xs → ((f : ℕ) → has f xs ≡ true → f < n) → length xs ≤ n
+few_frames zero [] once below = omega arith
+few_frames zero (x ∷ xs) once below = absurd (omega (arith, below x (has-head x xs)))
+few_frames (suc n) xs once below =
+    elim (has n xs) as (λ b. has n xs ≡ b → length xs ≤ suc n) [
+      | true ↦ λ there.
+          let rest = few_frames n (without n xs) (once-without n xs once)
+          (λ f h. let k = in_without f n xs h in let ne = k.0 in omega (arith, below f k.1)) in
+          omega (arith, length-without n xs once there)
+      | false ↦ λ absent.
+          let rest = few_frames n xs once (λ f h. let ne = apart f n xs h absent in omega (arith, below f h)) in
+          omega arith
+    ] refl

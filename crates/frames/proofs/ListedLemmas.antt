@@ -3,7 +3,7 @@ use Rattle.std.proofs.Common.{◌≡◌, ◌≢◌, ◌∙◌, sym, ap, subst, r
 use Rattle.std.proofs.lemmas.Bool.{cases_eq, cases_lt, false≢true}
 use Rattle.std.proofs.lemmas.List.{get_or_past}
 use Rattle.std.proofs.lemmas.List.Sums.{sum_by-set, count_by-le-length}
-use Rattle.frames.proofs.FreeLemmas.{one_if}
+use Rattle.frames.proofs.SetLemmas.{one_if}
 use Rattle.frames.specs.declared.link.Link.{Link}
 use Rattle.frames.specs.declared.link.Place.{Place}
 use Rattle.frames.specs.declared.link.Place.TheVariants.{Free, Active, Inactive}

@@ -4,8 +4,7 @@ use Rattle.std.proofs.lemmas.Bool.{cases_eq, cases_lt, false≢true}
 use Rattle.std.proofs.lemmas.List.{get_or_past, get_or-map, get_or-replicate, length-replicate, map-set, length-map}
 use Rattle.pc_types.specs.declared.ids.FileId.{FileId}
 use Rattle.pc_types.specs.declared.ids.PageIndex.{PageIndex}
-use Rattle.frames.specs.Free.{is_free}
-use Rattle.frames.specs.Free as free_map
+use Rattle.frames.specs.Sets.{is_in, IsLeast}
 use Rattle.frames.specs.Lists.{Lists, has, without, IsWithoutDoubles}
 use Rattle.frames.specs.Rows.{Grid, zero_rows, with_row}
 use Rattle.frames.specs.Tied.{IsTied}
@@ -57,7 +56,7 @@ tied_new count size lists free referenced owners bytes of_lists of_free of_refer
 
 module _ (lists : Lists) (free referenced : List Bool) (owners : List (Option Owner)) (bytes : Grid) (t : IsTied lists free referenced owners bytes) where
   -- the free map says who has no owner
-  free_is : (f : ℕ) → f < length owners → is_free free f ≡ is_none (get_or owners f None)
+  free_is : (f : ℕ) → f < length owners → is_in free f ≡ is_none (get_or owners f None)
   free_is f h = ap (λ (bs : List Bool). get_or bs f false) t.unowned ∙ get_or-map is_none owners f None false h
 
   none_of_free : (o : Option Owner) → is_none o ≡ true → is_some o ≡ false
@@ -75,13 +74,13 @@ module _ (lists : Lists) (free referenced : List Bool) (owners : List (Option Ow
   pub frames_free : length free ≡ length owners
   frames_free = ap (λ (bs : List Bool). length bs) t.unowned ∙ length-map owners is_none
 
-  pub not_free : (f : ℕ) → f < length owners → is_some (get_or owners f None) ≡ true → is_free free f ≡ false
+  pub not_free : (f : ℕ) → f < length owners → is_some (get_or owners f None) ≡ true → is_in free f ≡ false
   not_free f h e = free_is f h ∙ none_is (get_or owners f None) e
 
   pub within : (f : ℕ) → is_some (get_or owners f None) ≡ true → f < length owners
   within f e = elim (cases_lt f (length owners)) [ inl h ↦ h | inr h ↦ absurd (false≢true (ap is_some (sym (get_or_past owners f None h)) ∙ e)) ]
 
-  pub lowest_untaken : (f : ℕ) → free_map.IsLowestFree free f → (f < length owners) × (is_some (get_or owners f None) ≡ false) × ((g : ℕ) → g < f → is_some (get_or owners g None) ≡ true)
+  pub lowest_untaken : (f : ℕ) → IsLeast free f → (f < length owners) × (is_some (get_or owners f None) ≡ false) × ((g : ℕ) → g < f → is_some (get_or owners g None) ≡ true)
   lowest_untaken f low =
       let here : f < length owners = omega (arith, low.within, frames_free) in (
         here,
@@ -249,3 +248,14 @@ module _ (lists : Lists) (free referenced : List Bool) (owners : List (Option Ow
     inactive_once = t.inactive_once;
     apart = t.apart;
   }
+
+  -- the frames of the lists are below the count
+  pub active_below : (f : ℕ) → has f lists.active ≡ true → f < lists.count
+  active_below f there =
+      let below = within f (t.listed f ∙ ap (λ (b : Bool). b || has f lists.inactive) there) in
+      omega (arith, t.count)
+
+  pub inactive_below : (f : ℕ) → has f lists.inactive ≡ true → f < lists.count
+  inactive_below f there =
+      let below = within f (t.listed f ∙ ap (λ (b : Bool). has f lists.active || b) there ∙ or_true (has f lists.active)) in
+      omega (arith, t.count)

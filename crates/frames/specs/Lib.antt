@@ -1,9 +1,10 @@
 pub mod Bits
-pub mod Free
 pub mod Lists
+pub mod Order
 pub mod Rings
 pub mod Rows
 pub mod RowsLent
+pub mod Sets
 pub mod Table
 pub mod TableLent
 pub mod Tied

@@ -11,23 +11,6 @@ abbrev pub without : ℕ → List ℕ → List ℕ
 without f [] = []
 without f (x ∷ xs) = cond (x == f) (without f xs) (x ∷ without f xs)
 
--- the frames of a list before a frame of it, and all where it is not in the list; those from it on, and none then
-abbrev pub before : ℕ → List ℕ → List ℕ
-before f [] = []
-before f (x ∷ xs) = cond (x == f) [] (x ∷ before f xs)
-
-abbrev pub from : ℕ → List ℕ → List ℕ
-from f [] = []
-from f (x ∷ xs) = cond (x == f) (x ∷ xs) (from f xs)
-
-abbrev pub last_or : ℕ → List ℕ → ℕ
-last_or x [] = x
-last_or x (y ∷ ys) = last_or y ys
-
-abbrev pub last_of : List ℕ → Option ℕ
-last_of [] = None
-last_of (x ∷ xs) = Some (last_or x xs)
-
 -- no frame is in it twice
 abbrev pub IsWithoutDoubles : List ℕ → Type 0
 IsWithoutDoubles [] = Unit {0}

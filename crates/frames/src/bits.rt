@@ -1,6 +1,7 @@
 //! One bit of a word.
 
-ghost use Rattle.std.specs.Prelude.{◌≡◌, ◌<◌, ◌↔◌, IsTrue, if◌then◌else◌};
+ghost use Rattle.std.specs.Prelude.{◌≡◌, ◌==◌, ◌<◌, ◌↔◌, IsTrue, if◌then◌else◌};
+ghost use Rattle.std.specs.Int.{bit_at};
 ghost use Rattle.frames.specs.Bits.{ChangesBit, IsLowest};
 
 /// Sets the bit or clears it, and answers whether the word has any bit now.
@@ -15,6 +16,15 @@ pub(crate) fn put_bit(word: &mut u64, place: usize, is_set: bool) -> bool
         without_bit(*word, place)
     };
     *word != 0
+}
+
+/// Whether the word has the bit.
+#[inline(always)]
+pub(crate) fn has_bit(word: u64, place: usize) -> bool
+    requires { place < 64 }
+    ensures { result ≡ (bit_at word place == 1) }
+{
+    (word >> place) & 1 == 1
 }
 
 fn with_bit(word: u64, place: usize) -> u64

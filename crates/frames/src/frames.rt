@@ -1,12 +1,13 @@
 //! The table of frames.
 
-ghost use Rattle.std.specs.Prelude.{◌≡◌, ◌==◌, ℕ, ◌+◌, ◌<◌, ◌≤◌, true, not, cond, find, length, reverse, option_map, All, IfOk, OnErr, IsOkUnless};
+ghost use Rattle.std.specs.Prelude.{◌≡◌, ℕ, ◌+◌, ◌<◌, ◌≤◌, true, not, find, length, reverse, option_map, All, IfOk, OnErr, IsOkUnless};
 ghost use Rattle.frames.specs.Table.{new_table, IsSound, IsLowestFree, is_taken, is_aside, owner_of, free_frames, taken, given, with_bytes, accessed, aged, kept, scan_order, set_aside, put_back};
 ghost use Rattle.frames.specs.Lists.{IsFirstPassing};
 ghost use Rattle.frames.specs.Rows.{row_at, laid};
 
-use crate::free_map::FreeMap;
+use crate::bit_set::BitSet;
 use crate::lists::PageLists;
+use crate::order::Order;
 use crate::rows::Rows;
 use pc_types::{FileId, FrameId, Geometry, PageIndex, Refusal};
 use std::alloc::Global;
@@ -14,34 +15,29 @@ use std::marker::Model;
 
 /// The bytes of cached pages, and the two lists by which the first to go is found.
 ///
-/// All memory is taken when it is made, in eight pieces; the bytes of all frames are one of them.
+/// All memory is taken when it is made, in fourteen pieces; the bytes of all frames are one of them.
 #[derive(Drop)]
 pub struct Frames {
     lists: PageLists,
-    free: FreeMap,
+    free: BitSet,
     referenced: Vec<bool>,
-    // which frames the search for the oldest one passes over
+    // which frames the search for the oldest one passes over, so that they do not wait in `order`
     aside: Vec<bool>,
-    // The search begins before this frame of each list, and at its tail where the frame is not in it. All frames from it on
-    // are set aside, so that a search does not pass over them again.
-    active_from: u32,
-    inactive_from: u32,
+    order: Order,
     owners: Vec<Option<(FileId, PageIndex)>>,
     bytes: Rows,
 }
 
-/// No frame has this number, so that a search begins at the tail.
-const NOWHERE: u32 = u32::MAX;
-
 impl Model for Frames {
     ghost use Rattle.frames.specs.Table.{Table};
-    ghost use Rattle.frames.specs.Tied.{IsTied, IsPassed};
+    ghost use Rattle.frames.specs.Tied.{IsTied};
+    ghost use Rattle.frames.specs.Order.{IsInOrder};
 
     ghost Value = { Table };
 
     ghost view = { λ t. record { size = t.bytes.size; active = t.lists.active; inactive = t.lists.inactive; referenced = t.referenced.items; aside = t.aside.items; owners = t.owners.items; bytes = t.bytes.rows } };
 
-    ghost invariant = { λ t. IsTied t.lists t.free t.referenced.items t.owners.items t.bytes × IsPassed t.lists t.aside.items t.active_from t.inactive_from };
+    ghost invariant = { λ t. IsTied t.lists t.free t.referenced.items t.owners.items t.bytes × IsInOrder t.lists t.aside.items t.order };
 }
 
 impl Frames {
@@ -55,9 +51,10 @@ impl Frames {
     {
         let count = geometry.frames() as usize;
         let lists = PageLists::empty(alloc, count)?;
-        let free = FreeMap::all(alloc, count)?;
+        let free = BitSet::all(alloc, count)?;
         let referenced = vec![in alloc; false; count]?;
         let aside = vec![in alloc; false; count]?;
+        let order = Order::new(alloc, count)?;
         let owners = vec![in alloc; None; count]?;
         let bytes = Rows::zeros(alloc, geometry.page() as usize, count)?;
         Ok(Frames {
@@ -65,8 +62,7 @@ impl Frames {
             free,
             referenced,
             aside,
-            active_from: NOWHERE,
-            inactive_from: NOWHERE,
+            order,
             owners,
             bytes,
         })
@@ -92,7 +88,8 @@ impl Frames {
         };
         self.free.put(frame, false);
         self.lists.push_inactive(frame as u32);
-        self.inactive_from = unless(self.inactive_from, frame as u32);
+        self.order.come(frame as u32);
+        self.order.mark_inactive(frame as u32, true);
         self.referenced[frame] = false;
         self.aside[frame] = false;
         self.owners[frame] = Some((file, page));
@@ -105,6 +102,7 @@ impl Frames {
         ensures { self.new ≡ given self.old frame.0 }
     {
         self.lists.remove(frame.0);
+        self.order.leave(frame.0);
         self.free.put(frame.0 as usize, true);
         self.referenced[frame.0 as usize] = false;
         self.owners[frame.0 as usize] = None;
@@ -167,7 +165,9 @@ impl Frames {
         } else {
             self.lists.remove_inactive(frame.0);
             self.lists.push_active(frame.0);
-            self.active_from = unless(self.active_from, frame.0);
+            self.order.leave(frame.0);
+            self.order.come(frame.0);
+            self.order.mark_active(frame.0, !self.aside[at]);
             self.referenced[at] = false;
         }
     }
@@ -183,51 +183,34 @@ impl Frames {
             let frame = self.lists.last_active();
             self.lists.remove_active(frame);
             self.lists.push_inactive(frame);
-            self.inactive_from = unless(self.inactive_from, frame);
+            self.order.leave(frame);
+            self.order.come(frame);
+            self.order.mark_inactive(frame, !self.aside[frame as usize]);
             self.referenced[frame as usize] = false;
             moved += 1;
         }
         moved
     }
 
-    /// The first frame that is not set aside, from the inactive tail to its head, then from the active tail to its head. It goes
-    /// on where the last search ended, so that it passes over a frame once.
+    /// The first frame that is not set aside, from the inactive tail to its head, then from the active tail to its head. It reads a
+    /// few words, and passes over no frame.
     pub fn oldest(&mut self) -> Option<FrameId>
         ensures oldest { option_map (λ frame. frame.0) result ≡ find (λ f. not (is_aside self.old f)) (scan_order self.old) }
         ensures same { self.new ≡ self.old }
     {
-        let found = self.oldest_inactive();
-        if found.is_some() {
-            found
-        } else {
-            self.oldest_active()
+        match self.order.oldest_inactive() {
+            Some(frame) => Some(FrameId(frame)),
+            None => self.oldest_active(),
         }
     }
 
-    fn oldest_inactive(&mut self) -> Option<FrameId>
-        ensures oldest { option_map (λ frame. frame.0) result ≡ find (λ f. not (is_aside self.old f)) (reverse self.old.inactive) }
-        ensures same { self.new ≡ self.old }
+    fn oldest_active(&self) -> Option<FrameId>
+        ensures { option_map (λ frame. frame.0) result ≡ find (λ f. not (is_aside self.now f)) (reverse self.now.active) }
     {
-        while let Some(frame) = self.lists.inactive_before(self.inactive_from) {
-            if !self.aside[frame as usize] {
-                return Some(FrameId(frame));
-            }
-            self.inactive_from = frame;
+        match self.order.oldest_active() {
+            Some(frame) => Some(FrameId(frame)),
+            None => None,
         }
-        None
-    }
-
-    fn oldest_active(&mut self) -> Option<FrameId>
-        ensures oldest { option_map (λ frame. frame.0) result ≡ find (λ f. not (is_aside self.old f)) (reverse self.old.active) }
-        ensures same { self.new ≡ self.old }
-    {
-        while let Some(frame) = self.lists.active_before(self.active_from) {
-            if !self.aside[frame as usize] {
-                return Some(FrameId(frame));
-            }
-            self.active_from = frame;
-        }
-        None
     }
 
     /// The search for the oldest frame passes over this one from now on.
@@ -236,6 +219,7 @@ impl Frames {
         ensures { self.new ≡ set_aside self.old frame.0 }
     {
         self.aside[frame.0 as usize] = true;
+        self.order.leave(frame.0);
     }
 
     /// The search for the oldest frame passes over this one no more.
@@ -243,14 +227,11 @@ impl Frames {
         requires { is_taken self.old frame.0 ≡ true }
         ensures { self.new ≡ put_back self.old frame.0 }
     {
-        if !self.aside[frame.0 as usize] {
-            return;
-        }
         self.aside[frame.0 as usize] = false;
         if self.lists.is_active(frame.0) {
-            self.active_from = NOWHERE;
+            self.order.mark_active(frame.0, true);
         } else {
-            self.inactive_from = NOWHERE;
+            self.order.mark_inactive(frame.0, true);
         }
     }
 
@@ -266,11 +247,4 @@ impl Frames {
             self.lists.find_active(&test)
         }
     }
-}
-
-/// Where a search begins, after a frame came to the head of its list: no more at this frame.
-fn unless(from: u32, frame: u32) -> u32
-    ensures { result ≡ cond (from == frame) NOWHERE from }
-{
-    if from == frame { NOWHERE } else { from }
 }

@@ -3,11 +3,10 @@
 //! Each list has a head of its own, past the last frame, so that no step asks whether a list is empty.
 
 ghost use Rattle.std.specs.Prelude.{◌≡◌, ℕ, ◌-◌, ◌<◌, ◌≤◌, ◌||◌, [], ◌∷◌, true, false, length, reverse, take, slice_index, option_map, IfOk, IsOkUnless};
-ghost use Rattle.frames.specs.declared.link.Place.TheVariants.{Active, Inactive};
-ghost use Rattle.frames.specs.Lists.{has, without, before, last_of, IsFirstPassing};
+ghost use Rattle.frames.specs.Lists.{has, without, IsFirstPassing};
 
 use crate::link::{Link, Place};
-use crate::ring::{before, find_back, insert_after, unlink};
+use crate::ring::{find_back, insert_after, unlink};
 use pc_types::{FrameId, Refusal};
 use std::alloc::Global;
 use std::marker::Model;
@@ -153,41 +152,6 @@ impl PageLists {
         unlink(&mut self.links, frame);
         self.places[frame as usize] = Place::Free;
         self.inactive_len -= 1;
-    }
-
-    /// The active frame right before this one, towards the head. Where this one is not active: the last one.
-    pub(crate) fn active_before(&self, frame: u32) -> Option<u32>
-        ensures { result ≡ last_of (before frame self.now.active) }
-    {
-        let head = self.places.len() as u32;
-        let at = if self.is_at(frame, Place::Active) {
-            frame
-        } else {
-            head
-        };
-        before(&self.links, head, at)
-    }
-
-    /// The inactive frame right before this one, towards the head. Where this one is not inactive: the last one.
-    pub(crate) fn inactive_before(&self, frame: u32) -> Option<u32>
-        ensures { result ≡ last_of (before frame self.now.inactive) }
-    {
-        let head = self.places.len() as u32 + 1;
-        let at = if self.is_at(frame, Place::Inactive) {
-            frame
-        } else {
-            head
-        };
-        before(&self.links, head, at)
-    }
-
-    /// Whether there is such a frame, and it is in this list.
-    fn is_at(&self, frame: u32, place: Place) -> bool
-        ensures active { place ≡ Active → result ≡ has frame self.now.active }
-        ensures inactive { place ≡ Inactive → result ≡ has frame self.now.inactive }
-    {
-        let at = frame as usize;
-        at < self.places.len() && self.places[at] == place
     }
 
     /// The first active frame that passes the test, from the tail to the head.

@@ -2,7 +2,7 @@
 
 ghost use Rattle.frames.specs.Rings.{SetsNext, SetsPrev, Inserts, Unlinks, next_of, prev_of, walk_back};
 ghost use Rattle.frames.specs.Lists.{has, IsFirstPassing};
-ghost use Rattle.std.specs.Prelude.{◌≡◌, ◌≢◌, ◌<◌, ℕ, true, length, option_map, IfNone, IfSome};
+ghost use Rattle.std.specs.Prelude.{◌≡◌, ◌≢◌, ◌<◌, ℕ, true, length, option_map};
 
 use crate::link::Link;
 use pc_types::FrameId;
@@ -72,16 +72,6 @@ pub(crate) fn find_back<F: Fn(FrameId) -> bool>(
         at = prev_link(links, at);
     }
     None
-}
-
-/// The place before another one of its ring, but none where that is the head.
-pub(crate) fn before(links: &[Link], head: u32, at: u32) -> Option<u32>
-    requires { at < length links.now }
-    ensures none { IfNone result (prev_of links.now at ≡ head) }
-    ensures some { IfSome result (λ found. (found ≡ prev_of links.now at) × (found ≢ head)) }
-{
-    let found = prev_link(links, at);
-    if found == head { None } else { Some(found) }
 }
 
 fn prev_link(links: &[Link], at: u32) -> u32

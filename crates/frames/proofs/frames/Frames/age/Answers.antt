@@ -1,9 +1,10 @@
-use Rattle.std.proofs.Common.{◌∙◌, sym, ap, ◌-◌, ◌∷◌, length, arith}
+use Rattle.std.proofs.Common.{◌∙◌, sym, ap, ◌-◌, ◌∷◌, ◌<◌, length, not, false, arith}
+use Rattle.std.proofs.lemmas.List.{get_or_read}
 use Rattle.frames.specs.Lists.{Lists, has}
 use Rattle.frames.proofs.ListLemmas.{has-without_same}
 use Rattle.frames.proofs.ListedLemmas.{last_has}
-use Rattle.frames.proofs.TiedLemmas.{tied_deactivated}
-use Rattle.frames.proofs.PassedLemmas.{deactivated_passed}
+use Rattle.frames.proofs.TiedLemmas.{tied_deactivated, active_below, inactive_below}
+use Rattle.frames.proofs.LinedLemmas.{in_order_deactivated}
 use Rattle.frames.proofs.AgeLemmas.{aged_more}
 use Rattle.frames.proofs.SoundLemmas.{sound_by}
 use Rattle.frames.proofs.frames.Frames.age.Goals as goal
@@ -25,6 +26,8 @@ loop-self-preserved c =
     let lists = c.push_inactive.ensures ∙ ap (λ (l : Lists). let m : Lists = record l { inactive = f ∷ l.inactive } in m) c.remove_active.ensures.lists in
     let inv = c.loop-self.invariant in
     let below = c.last_active-frame.ensures.within in
+    let in_flags : f < length i.aside.items = omega (arith, below, inv.order.asides) in
+    let flag = get_or_read i.aside.items f c.index.result.now in_flags c.index.ensures false in
     let aged = aged_more c.args.self.now.active c.args.self.now.inactive c.args.self.now.referenced c.loop-self.moved i.lists.active i.lists.inactive i.referenced.items f c.push_inactive.new.self.active c.push_inactive.new.self.inactive
     (record { counted = inv.moved; border = inv.border; front = inv.active; back = inv.inactive; flags = inv.referenced })
     (omega (arith, c.loop-self-test.true, c.active_len.ensures, c.inactive_len.ensures))
@@ -33,13 +36,11 @@ loop-self-preserved c =
     (ap (λ (l : Lists). l.inactive) lists)
     in
     record {
-      passed = deactivated_passed i.lists i.free i.referenced.items i.owners.items i.bytes inv.tied i.aside.items
-          inv.passed.asides i.active_from i.inactive_from inv.passed f (omega (
-            arith,
-            below,
-            inv.tied.count,
-            inv.tied.bound,
-          )) c.unless-self-inside.result c.push_inactive.new.self lists c.unless-self-inside.ensures;
+      order = in_order_deactivated i.lists i.aside.items i.order inv.order f (omega arith)
+          (active_below i.lists i.free i.referenced.items i.owners.items i.bytes inv.tied)
+          (inactive_below i.lists i.free i.referenced.items i.owners.items i.bytes inv.tied)
+          c.leave.new.self c.leave.ensures c.come.new.self c.come.ensures.last c.come.ensures.active c.come.ensures.inactive
+          _ (ap not flag) c.push_inactive.new.self c.mark_inactive.new.self c.last_active-frame.ensures.alone lists c.mark_inactive.ensures;
       flags = inv.flags;
       tied = tied_deactivated i.lists i.free i.referenced.items i.owners.items i.bytes inv.tied f _ c.push_inactive.new.self there lists;
       moved = aged.counted;
@@ -56,4 +57,4 @@ pub returns-clause-sound : goal.returns-clause-sound
 returns-clause-sound c =
     let i = c.loop-self.self-inside in
     let tied = c.loop-self.invariant.tied in
-    sound_by _ i.lists.count i.free tied (c.loop-self.invariant.passed.asides ∙ tied.count)
+    sound_by _ i.lists.count i.free tied (c.loop-self.invariant.order.asides ∙ tied.count)

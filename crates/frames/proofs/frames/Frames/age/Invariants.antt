@@ -1,12 +1,13 @@
 use Rattle.std.proofs.Common.{◌≡◌, ◌+◌, ◌≤◌, ◌++◌, length, take, drop}
 use Rattle.frames.specs.Table.{kept, cleared}
-use Rattle.frames.specs.Tied.{IsTied, IsPassed}
+use Rattle.frames.specs.Tied.{IsTied}
+use Rattle.frames.specs.Order.{IsInOrder}
 use Rattle.frames.proofs.frames.Frames.age.Given as goal
 
 abbrev pub invariant-loop-self : goal.invariant-loop-self
 invariant-loop-self l = record {
   tied : IsTied l.self-inside.lists l.self-inside.free l.self-inside.referenced.items l.self-inside.owners.items l.self-inside.bytes;
-  passed : IsPassed l.self-inside.lists l.self-inside.aside.items l.self-inside.active_from l.self-inside.inactive_from;
+  order : IsInOrder l.self-inside.lists l.self-inside.aside.items l.self-inside.order;
   flags : l.self-inside.aside.items ≡ l.fn.self.aside;
   moved : l.moved + length l.self-inside.lists.active ≡ length l.fn.self.active;
   border : kept l.fn.self ≤ length l.self-inside.lists.active;

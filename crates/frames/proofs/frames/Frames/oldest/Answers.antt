@@ -1,21 +1,22 @@
-use Rattle.std.proofs.Common.{◌∙◌, sym, ap, not, reverse}
+use Rattle.std.proofs.Common.{◌∙◌, ap, not, reverse}
 use Rattle.std.specs.Prelude.{find}
 use Rattle.frames.specs.Table.{Table, is_aside}
-use Rattle.frames.proofs.PassedLemmas.{found_in_first, found_in_second}
-use Rattle.frames.proofs.ScanLemmas.{is_some_number}
+use Rattle.frames.proofs.LinedLemmas.{found_in_first, found_in_second, found_none, found_some}
 use Rattle.frames.proofs.frames.Frames.oldest.Goals as goal
 
-pub returns-then-is_some-clause-oldest : goal.returns-then-is_some-clause-oldest
-returns-then-is_some-clause-oldest c =
+pub returns-in-Some-clause-oldest : goal.returns-in-Some-clause-oldest
+returns-in-Some-clause-oldest c =
+    let i = c.self.inside in
     let t = c.args.self.now in
-    let some = is_some_number c.oldest_inactive-found.result ∙ (sym c.is_some.ensures ∙ c.if-is_some.true) in
-    found_in_first (λ f. not (is_aside t f)) (reverse t.inactive) (reverse t.active) _ some
-    c.oldest_inactive-found.ensures.oldest
+    found_in_first (λ f. not (is_aside t f)) (reverse t.inactive) (reverse t.active) c.in-Some.frame
+    (found_some i.aside.items i.order.turns i.order.inactive i.lists.inactive c.self.invariant.1.inactives c.in-Some.frame c.in-Some.ensures
+    ∙ ap (λ (t : Table). find (λ f. not (is_aside t f)) (reverse t.inactive)) c.self.view_is)
 
-pub returns-else-is_some-clause-oldest : goal.returns-else-is_some-clause-oldest
-returns-else-is_some-clause-oldest c =
+pub returns-in-None-clause-oldest : goal.returns-in-None-clause-oldest
+returns-in-None-clause-oldest c =
+    let i = c.self.inside in
     let t = c.args.self.now in
-    let none = is_some_number c.oldest_inactive-found.result ∙ (sym c.is_some.ensures ∙ c.if-is_some.false) in
-    found_in_second (λ f. not (is_aside t f)) (reverse t.inactive) (reverse t.active) _ _ none
-    c.oldest_inactive-found.ensures.oldest (c.oldest_active.ensures.oldest
-    ∙ ap (λ (t : Table). find (λ f. not (is_aside t f)) (reverse t.active)) c.oldest_inactive-found.ensures.same)
+    found_in_second (λ f. not (is_aside t f)) (reverse t.inactive) (reverse t.active) _
+    (found_none i.aside.items i.order.turns i.order.inactive i.lists.inactive c.self.invariant.1.inactives c.in-None.ensures
+    ∙ ap (λ (t : Table). find (λ f. not (is_aside t f)) (reverse t.inactive)) c.self.view_is)
+    c.oldest_active.ensures

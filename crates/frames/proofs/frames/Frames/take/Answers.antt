@@ -1,20 +1,28 @@
-use Rattle.std.proofs.Common.{subst, arith}
+use Rattle.std.proofs.Common.{sym, ap, subst, not, false, true, slice_set, arith}
+use Rattle.frames.specs.Lists.{Lists}
+use Rattle.frames.specs.Order.{IsInOrder}
 use Rattle.frames.specs.Table.{Table, IsLowestFree}
-use Rattle.frames.proofs.TiedLemmas.{tied_taken, lowest_untaken, absent_active, absent_inactive}
-use Rattle.frames.proofs.PassedLemmas.{taken_passed}
+use Rattle.frames.proofs.TiedLemmas.{tied_taken, lowest_untaken, absent_active, absent_inactive, active_below, inactive_below}
+use Rattle.frames.proofs.LinedLemmas.{cleared_same, in_order_cleared, in_order_inactive}
 use Rattle.frames.proofs.frames.Frames.take.Goals as goal
 
 pub invariant_of-self : goal.invariant_of-self
 invariant_of-self c =
     let i = c.self.inside in
-    let low = lowest_untaken i.lists i.free i.referenced.items i.owners.items i.bytes c.self.invariant.0 c.in-Some.frame c.in-Some.ensures in (
-      tied_taken i.lists i.free i.referenced.items i.owners.items i.bytes c.self.invariant.0 c.in-Some.frame (c.args.file, c.args.page) c.push_inactive.new.self c.put.new.self low.0 low.1 c.push_inactive.ensures c.put.ensures,
-      taken_passed i.lists i.free i.referenced.items i.owners.items i.bytes c.self.invariant.0 i.aside.items
-          c.self.invariant.1.asides i.active_from i.inactive_from c.self.invariant.1 c.in-Some.frame
-          (omega (arith, low.0, c.self.invariant.0.bound)) c.unless-self-inside.result c.push_inactive.new.self
-          (absent_active i.lists i.free i.referenced.items i.owners.items i.bytes c.self.invariant.0 c.in-Some.frame low.1)
-          (absent_inactive i.lists i.free i.referenced.items i.owners.items i.bytes c.self.invariant.0 c.in-Some.frame low.1)
-          c.push_inactive.ensures c.unless-self-inside.ensures,
+    let f = c.in-Some.frame in
+    let t = c.self.invariant.0 in
+    let low = lowest_untaken i.lists i.free i.referenced.items i.owners.items i.bytes t f c.in-Some.ensures in
+    let no_active = absent_active i.lists i.free i.referenced.items i.owners.items i.bytes t f low.1 in
+    let no_inactive = absent_inactive i.lists i.free i.referenced.items i.owners.items i.bytes t f low.1 in
+    let P : Lists → Type 0 = λ (l : Lists). IsInOrder l (slice_set i.aside.items f false) c.mark_inactive.new.self in (
+      tied_taken i.lists i.free i.referenced.items i.owners.items i.bytes t f (c.args.file, c.args.page) c.push_inactive.new.self c.put.new.self low.0 low.1 c.push_inactive.ensures c.put.ensures,
+      subst P (sym c.push_inactive.ensures) (in_order_inactive i.lists (slice_set i.aside.items f false) i.order
+          (in_order_cleared i.lists i.aside.items i.order c.self.invariant.1 f no_active no_inactive) f (omega (arith, low.0, t.count))
+          c.come.new.self c.come.ensures.last c.come.ensures.active c.come.ensures.inactive true (sym (ap not (cleared_same i.aside.items f)))
+          no_active no_inactive
+          (active_below i.lists i.free i.referenced.items i.owners.items i.bytes t)
+          (inactive_below i.lists i.free i.referenced.items i.owners.items i.bytes t)
+          c.mark_inactive.new.self c.mark_inactive.ensures),
     )
 
 pub returns-clause-lowest : goal.returns-clause-lowest
