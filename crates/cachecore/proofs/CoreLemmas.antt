@@ -10,12 +10,11 @@ use Rattle.std.specs.Cmp.{nat_cmp_total}
 use Rattle.std.specs.FinMap as finmap
 use Rattle.std.specs.FinMap.{FinMap, get-empty, len-empty, len-entries, len-insert}
 use Rattle.std.proofs.lemmas.Bool.{false≢true}
-use Rattle.std.proofs.lemmas.Bool.Decides.{nat_tests}
 use Rattle.std.proofs.lemmas.List.Sums.{sum_by_push, sum_by-le-sum_by, count_by-le-length, length-filter}
 use Rattle.pc_types.specs.Limits.{Sizes}
 use Rattle.pc_types.specs.declared.limits.TheConstants.{MAX_FILES, MAX_FILE_SIZE, MAX_FRAMES}
 use Rattle.pc_types.specs.declared.refusal.Refusal.TheVariants.{DirtyLimit, NoFrame, NoSpace}
-use Rattle.machine.specs.State.{State, Page, File, Request, Sync, no_file, file_at, is_cached, is_filling, tags_of}
+use Rattle.machine.specs.State.{State, Page, File, Request, Sync, no_file, file_at, is_cached, is_filling}
 use Rattle.machine.specs.State.{tags_at, dirty_in, dirty_total, handle_file, fills, filling_total, free_frames}
 use Rattle.machine.specs.State.{free_blocks, without_block, touched, touched_count}
 use Rattle.pc_types.specs.Kinds.{is_fill}
@@ -50,12 +49,6 @@ use Rattle.machine.specs.declared.event.Reply.TheVariants as reply
 use Rattle.cachecore.proofs.WriteLemmas.{WriteParts, parts-file, parts-pages, parts-size, parts_sized}
 use Rattle.cachecore.proofs.WriteLemmas.{sized_insert}
 use Rattle.machine.proofs.changes.WriteLengths.{len-written_pages}
-
-pub is_less : (m n : ℕ) → m < n → nat_lt m n ≡ true
-is_less m n h = grind (arith, nat_tests)
-
-pub is_not_less : (m n : ℕ) → n ≤ m → nat_lt m n ≡ false
-is_not_less m n h = grind (arith, nat_tests)
 
 -- ---- at the start
 
@@ -265,41 +258,37 @@ module _ {s : State} {store : Store} {blocks : Blocks} (c : IsCore s store block
 
     -- ---- whether there is room, as the code tests it
 
-    module _ (f o n P : ℕ) (entry : File) (over : Bool) (absent need left : ℕ) (page : P ≡ s.sizes.page)
-        (entry_is : entry ≡ file_at s f)
-        (over_is : over ≡ (nat_lt 0 (count_by (λ p. not ((tags_of (finmap.get entry.pages p)).dirty))
-        (range_with_len (o / P) (touched_count P o n))) && nat_lt s.sizes.dirty_limit
-        (dirty_total s + count_by (λ p. not ((tags_of (finmap.get entry.pages p)).dirty))
-        (range_with_len (o / P) (touched_count P o n)))))
-        (absent_is : absent ≡ count_by (λ p. not (is_some (finmap.get entry.pages p)))
-        (range_with_len (o / P) (touched_count P o n)))
-        (left_is : left ≡ length (device.free_blocks blocks))
-        (need_is : need ≡ count_by (is_bare blocks f) (range_with_len (o / P) (touched_count P o n))) where
-      over_now : over ≡ (nat_lt 0 (count_by (λ p. not (tags_at s f p).dirty) (touched s.sizes.page o n))
-          && nat_lt s.sizes.dirty_limit (dirty_total s + count_by (λ p. not (tags_at s f p).dirty)
-          (touched s.sizes.page o n)))
-      over_now =
-          over_is ∙ (λ i. nat_lt 0 (count_by (λ p. not ((tags_of (finmap.get (entry_is i).pages p)).dirty))
-          (range_with_len (o / page i) (touched_count (page i) o n))) && nat_lt s.sizes.dirty_limit
-          (dirty_total s + count_by (λ p. not ((tags_of (finmap.get (entry_is i).pages p)).dirty))
-          (range_with_len (o / page i) (touched_count (page i) o n))))
-
-      absent_now : absent ≡ count_by (λ p. not (is_cached s f p)) (touched s.sizes.page o n)
-      absent_now =
-          absent_is ∙ (λ i. count_by (λ p. not (is_some (finmap.get (entry_is i).pages p)))
-          (range_with_len (o / page i) (touched_count (page i) o n)))
-
-      need_now : need ≡ length (without_block s f (touched s.sizes.page o n))
-      need_now = need_is ∙ (λ i. count_by (is_bare blocks f) (range_with_len (o / page i) (touched_count (page i) o n)))
+    module _ (f o n P : ℕ) (over unframed unplaced : Bool) (page : P ≡ s.sizes.page)
+        (over_is : over ≡ (nat_lt 0 (count_by (λ p. not (tags_at s f p).dirty) (touched P o n)) && nat_lt
+        s.sizes.dirty_limit (dirty_total s + count_by (λ p. not (tags_at s f p).dirty) (touched P o n))))
+        (unframed_is : unframed ≡ nat_lt store.free (count_by (λ p. not (is_cached s f p)) (touched P o n)))
+        (unplaced_is : unplaced ≡ nat_lt (length (device.free_blocks blocks))
+        (count_by (is_bare blocks f) (touched P o n))) where
+      need_is : count_by (is_bare blocks f) (touched P o n) ≡ length (without_block s f (touched s.sizes.page o n))
+      need_is = (λ i. count_by (is_bare blocks f) (touched (page i) o n))
           ∙ sym (length-filter (is_bare blocks f) (touched s.sizes.page o n))
           ∙ ap length (sym (bare_are f (touched s.sizes.page o n)))
 
-      pub room_is : room_tests s f o n ≡ cond over (refuse DirtyLimit)
-          (cond (nat_lt store.free absent) (refuse NoFrame) (cond (nat_lt left need) (refuse NoSpace) None))
+      over_now : over ≡ (nat_lt 0 (count_by (λ p. not (tags_at s f p).dirty) (touched s.sizes.page o n))
+          && nat_lt s.sizes.dirty_limit (dirty_total s + count_by (λ p. not (tags_at s f p).dirty)
+          (touched s.sizes.page o n)))
+      over_now = over_is ∙ ap (λ (n : ℕ). nat_lt 0 n && nat_lt s.sizes.dirty_limit (dirty_total s + n))
+          (λ i. count_by (λ p. not (tags_at s f p).dirty) (touched (page i) o n))
+
+      unframed_now : unframed ≡ nat_lt (free_frames s)
+          (count_by (λ p. not (is_cached s f p)) (touched s.sizes.page o n))
+      unframed_now = unframed_is
+          ∙ (λ i. nat_lt (sym free_frames_are i) (count_by (λ p. not (is_cached s f p)) (touched (page i) o n)))
+
+      unplaced_now : unplaced ≡ nat_lt (length (free_blocks s))
+          (length (without_block s f (touched s.sizes.page o n)))
+      unplaced_now = unplaced_is ∙ (λ i. nat_lt (length (sym free_blocks_are i)) (need_is i))
+
+      pub room_is : room_tests s f o n
+          ≡ cond over (refuse DirtyLimit) (cond unframed (refuse NoFrame) (cond unplaced (refuse NoSpace) None))
       room_is =
           λ i. cond (sym over_now i) (refuse DirtyLimit)
-          (cond (nat_lt (free_frames_are i) (sym absent_now i)) (refuse NoFrame)
-          (cond (nat_lt ((ap length free_blocks_are ∙ sym left_is) i) (sym need_now i)) (refuse NoSpace) None))
+          (cond (sym unframed_now i) (refuse NoFrame) (cond (sym unplaced_now i) (refuse NoSpace) None))
 
     -- ---- a write
 

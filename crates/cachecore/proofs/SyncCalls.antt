@@ -17,7 +17,6 @@ use Rattle.pc_types.specs.declared.refusal.Refusal.TheVariants.{TooManyInFlight}
 use Rattle.blockdev.specs.Jobs.{Task}
 use Rattle.mapping.specs.declared.page.FoundPage.{FoundPage}
 use Rattle.writeback.specs.Flights as flights
-use Rattle.writeback.specs.declared.picks.SyncStep.{SyncStep}
 use Rattle.writeback.specs.declared.picks.SyncStep.TheVariants.{Await, Held, Over, Start}
 use Rattle.maps.specs.Maps.{change_at, each_value}
 use Rattle.maps.proofs.Found.{found}

@@ -1,9 +1,10 @@
 //! The cache's state and its calls.
 
-ghost use Rattle.std.specs.Prelude.{◌≡◌, ◌≢◌, ◌+◌, ◌-◌, ◌*◌, ◌/◌, ◌^◌, ◌<◌, ◌≤◌, ℕ, [], Option, IfOk, IfSome, IsOkUnless, OnOk, OnErr, length, drop, true, false, is_some, None, Some, nat_lt, not, ◌&&◌, ◌||◌};
+ghost use Rattle.std.specs.Prelude.{◌≡◌, ◌≢◌, ◌+◌, ◌-◌, ◌*◌, ◌/◌, ◌^◌, ◌<◌, ◌≤◌, ℕ, [], Option, IfOk, IfSome, IsOkUnless, OnOk, OnErr, length, drop, true, false, is_some, None, Some, nat_lt, not, count_by, ◌&&◌, ◌||◌};
 ghost use Rattle.std.specs.FinMap as map;
+ghost use Rattle.std.specs.List.{range_with_len};
 ghost use Rattle.mapping.specs.declared.mapping.TheConstants.{MAX_PAGES};
-ghost use Rattle.machine.specs.State.{dirty_total, handle_file, is_filling, page_count, touched_count};
+ghost use Rattle.machine.specs.State.{dirty_total, handle_file, is_filling, page_count, tags_at, touched_count};
 ghost use Rattle.machine.specs.Tests.{covers, must_fill, room_tests, write_stop, write_tests};
 ghost use Rattle.machine.specs.Changes.{written};
 ghost use Rattle.machine.specs.Step.{Step};
@@ -13,7 +14,7 @@ ghost use Rattle.cachecore.specs.Replies.{created, opened, closed, sized, wrote,
 
 use crate::answers::{PageTags, ReadAnswer, WriteAnswer};
 use crate::handles::Handles;
-use crate::placing::{count_without_block, place};
+use crate::placing::{lacks_blocks, place};
 use blockmap::BlockMap;
 use machine::Event;
 use pagestore::{Layout, Pages, Span};
@@ -293,16 +294,30 @@ impl CacheCore {
         let page_size = self.geometry.page();
         let first = offset / page_size;
         let end = (offset + count - 1) / page_size + 1;
-        if self.passes_dirty_limit(self.pages.clean_pages(file, first, end) as u64) {
+        if self.is_over_limit(file, first, end) {
             return Err(Refusal::DirtyLimit);
         }
-        if self.pages.free_frames() < self.pages.absent_pages(file, first, end) as u64 {
+        if self.pages.lacks_frames(file, first, end) {
             return Err(Refusal::NoFrame);
         }
-        if self.blocks.free_count() < count_without_block(&self.blocks, file, first, end) {
+        if lacks_blocks(&self.blocks, file, first, end) {
             return Err(Refusal::NoSpace);
         }
         Ok(())
+    }
+
+    /// Whether too many pages would be dirty with those from `first` up to `end`. Where all of them may become dirty it looks
+    /// none up.
+    #[inline]
+    pub(crate) fn is_over_limit(&self, file: u64, first: u64, end: u64) -> bool
+        requires here { file < length self.now.state.files }
+        requires order { first ≤ end }
+        requires few { end - first ≤ MAX_TOUCHED }
+        requires bound { end ≤ 2 ^ 63 }
+        ensures { result ≡ (nat_lt 0 (count_by (λ p. not (tags_at self.now.state file p).dirty) (range_with_len first (end - first))) && nat_lt self.now.state.sizes.dirty_limit (dirty_total self.now.state + count_by (λ p. not (tags_at self.now.state file p).dirty) (range_with_len first (end - first)))) }
+    {
+        self.passes_dirty_limit(end - first)
+            && self.passes_dirty_limit(self.pages.clean_pages(file, first, end) as u64)
     }
 
     /// Whether too many pages would be dirty with so many more. A write that makes no page dirty goes through although

@@ -1,6 +1,6 @@
 //! Blocks and frames for the pages of a write.
 
-ghost use Rattle.std.specs.Prelude.{◌≡◌, ◌+◌, ◌-◌, ◌/◌, ◌<◌, ◌≤◌, OnOk, OnErr, length, not, is_some, count_by};
+ghost use Rattle.std.specs.Prelude.{◌≡◌, ◌+◌, ◌-◌, ◌/◌, ◌<◌, ◌≤◌, OnOk, OnErr, length, not, is_some, count_by, nat_lt};
 ghost use Rattle.std.specs.List.{range_with_len};
 ghost use Rattle.mapping.specs.declared.mapping.TheConstants.{MAX_PAGES};
 ghost use Rattle.blockmap.specs.Blocks.{free_blocks};
@@ -28,6 +28,19 @@ pub fn count_without_block(blocks: &BlockMap, file: u64, first: u64, end: u64) -
         }
     }
     count
+}
+
+/// Whether fewer blocks are free than pages from `first` up to `end` have none. Where as many are free as there are pages it
+/// looks none up.
+#[inline]
+pub fn lacks_blocks(blocks: &BlockMap, file: u64, first: u64, end: u64) -> bool
+    requires file { file < MAX_FILES }
+    requires order { first ≤ end }
+    requires below { end ≤ MAX_PAGES }
+    ensures { result ≡ nat_lt (length (free_blocks blocks.now)) (count_by (is_bare blocks.now file) (range_with_len first (end - first))) }
+{
+    let free = blocks.free_count();
+    free < end - first && free < count_without_block(blocks, file, first, end)
 }
 
 /// Gives each page of the span from `next` on that has no block the lowest free one, and then writes the bytes into the span's

@@ -25,7 +25,7 @@ impl CacheCore {
         let Some(Touched { file, first, end }) = self.touched(handle, offset, count) else {
             return false;
         };
-        self.pages.free_frames() < self.pages.absent_pages(file, first, end) as u64
+        self.pages.lacks_frames(file, first, end)
     }
 
     /// How many frames are free.
@@ -56,7 +56,7 @@ impl CacheCore {
         let Some(Touched { file, first, end }) = self.touched(handle, offset, count) else {
             return false;
         };
-        self.passes_dirty_limit(self.pages.clean_pages(file, first, end) as u64)
+        self.is_over_limit(file, first, end)
     }
 
     /// The pages that these bytes of the handle's file touch, where a call may touch them.

@@ -1,6 +1,6 @@
 //! The pages of all files: each in a frame of its own, by its file's mapping.
 
-ghost use Rattle.std.specs.Prelude.{◌≡◌, ℕ, ◌+◌, ◌-◌, ◌<◌, ◌≤◌, ◌^◌, ◌++◌, IfOk, OnOk, OnErr, length, true, false, not, is_some, option_map, find, count_by, slice_index_or, slice_set, slice_range, take, drop, sum_by, [], ◌∷◌, IsOkUnless, Some, None, cond, ◌||◌};
+ghost use Rattle.std.specs.Prelude.{◌≡◌, ℕ, ◌+◌, ◌-◌, ◌<◌, ◌≤◌, ◌^◌, ◌++◌, IfOk, OnOk, OnErr, length, true, false, not, is_some, option_map, find, count_by, nat_lt, slice_index_or, slice_set, slice_range, take, drop, sum_by, [], ◌∷◌, IsOkUnless, Some, None, cond, ◌||◌};
 ghost use Rattle.std.specs.List.{range_with_len};
 ghost use Rattle.std.specs.FinMap as map;
 ghost use Rattle.std.specs.FinSet as set;
@@ -146,6 +146,20 @@ impl Pages {
         ensures { result ≡ count_by (λ p. not (is_some (stored_page self.now file p))) (range_with_len first (end - first)) }
     {
         self.files[file as usize].absent_pages(&self.uptodate, first, end)
+    }
+
+    /// Whether fewer frames are free than pages from `first` up to `end` are not cached. Where as many are free as there are
+    /// pages it looks none up.
+    #[inline]
+    pub fn lacks_frames(&self, file: u64, first: u64, end: u64) -> bool
+        requires here { file < length self.now.files }
+        requires order { first ≤ end }
+        requires few { end - first ≤ MAX_TOUCHED }
+        requires bound { end ≤ 2 ^ 63 }
+        ensures { result ≡ nat_lt self.now.free (count_by (λ p. not (is_some (stored_page self.now file p))) (range_with_len first (end - first))) }
+    {
+        let free = self.free_frames();
+        free < end - first && free < self.absent_pages(file, first, end) as u64
     }
 
     /// How many pages from `first` up to `end` are not DIRTY.

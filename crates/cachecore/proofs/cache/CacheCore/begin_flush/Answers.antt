@@ -8,7 +8,7 @@ use Rattle.machine.specs.State.{State}
 use Rattle.machine.specs.Tests.{is_full}
 use Rattle.cachecore.specs.Starting.{IsStarted, MayStart}
 use Rattle.cachecore.proofs.CoreViews.{state_is}
-use Rattle.cachecore.proofs.FlushCalls.{begun, begun_cache, begun_is, cached_start, held_room, mapped_block}
+use Rattle.cachecore.proofs.FlushCalls.{begun_cache, begun_is, cached_start, held_room, mapped_block}
 use Rattle.cachecore.proofs.FlushCalls.{must_be_told, started_call, unheld_block, written_whole}
 use Rattle.cachecore.proofs.Parts.{IsKept, Parts, parts_of, state_by}
 use Rattle.cachecore.proofs.PlacedBlocks.{told_within}

@@ -1,4 +1,4 @@
-use Rattle.std.proofs.Common.{arith, false, ap, subst, sym, ◌∙◌}
+use Rattle.std.proofs.Common.{arith, ap, subst, sym, ◌∙◌}
 use Rattle.std.specs.Prelude.{is_some, IsTrue}
 use Rattle.pc_types.specs.declared.kind.Kind.TheVariants.{Flush}
 use Rattle.blockdev.specs.declared.job.FinishedParts.{FinishedParts}

@@ -3,7 +3,7 @@ use Rattle.std.specs.FinMap as map
 use Rattle.std.specs.Ordering.{nat_cmp}
 use Rattle.machine.specs.declared.event.Event.TheVariants as event
 use Rattle.machine.specs.declared.event.Reply.TheVariants as reply
-use Rattle.machine.specs.State.{State, Sync}
+use Rattle.machine.specs.State.{Sync}
 use Rattle.machine.specs.Step.{Step}
 use Rattle.writeback.specs.Slots.{sync_of}
 use Rattle.cachecore.proofs.CoreViews.{state_is}

@@ -1,4 +1,4 @@
-use Rattle.std.proofs.Common.{true, false, arith, sym, ap, subst, ◌∙◌, ◌≡◌, ◌+◌, ◌-◌, ◌<◌, ◌≤◌, ◌++◌, ℕ, length}
+use Rattle.std.proofs.Common.{true, false, arith, sym, ap, subst, ◌∙◌, ◌≡◌, ◌<◌, ◌≤◌, ◌++◌, ℕ, length}
 use Rattle.std.proofs.Common.{take, drop}
 use Rattle.std.specs.Prelude.{slice_index_or}
 use Rattle.std.specs.FinMap as map

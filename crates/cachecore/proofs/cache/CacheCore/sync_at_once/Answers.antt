@@ -1,9 +1,7 @@
 use Rattle.std.proofs.Common.{ap, refl, subst, ◌≡◌, ◌∙◌}
 use Rattle.std.specs.FinMap as map
-use Rattle.std.specs.Ordering.{nat_cmp}
 use Rattle.machine.specs.declared.event.Event.TheVariants as event
-use Rattle.machine.specs.State.{State, Sync}
-use Rattle.cachecore.specs.Core.{Core}
+use Rattle.machine.specs.State.{State}
 use Rattle.cachecore.specs.Nexts.{OnStart}
 use Rattle.cachecore.specs.Starting.{IsToStart}
 use Rattle.cachecore.proofs.AtOnceCalls.{carried, noted_first}

@@ -1,4 +1,4 @@
-use Rattle.std.proofs.Common.{arith, ap, false, refl, sym, subst, true, ◌∙◌}
+use Rattle.std.proofs.Common.{arith, ap, refl, sym, subst, ◌∙◌}
 use Rattle.std.specs.Prelude.{None, is_some}
 use Rattle.std.specs.FinMap as map
 use Rattle.pagestore.specs.Store.{Store}
