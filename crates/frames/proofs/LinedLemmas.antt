@@ -10,7 +10,7 @@ use Rattle.std.proofs.lemmas.Grind.{reverse_onto}
 use Rattle.frames.specs.Lists.{Lists, has, without}
 use Rattle.frames.specs.Sets.{is_in}
 use Rattle.frames.specs.Order.{Turns, turn_of, NoneWaits, IsFirst, ComesLast, IsIdle, Falls, IsLined, IsInOrder}
-use Rattle.frames.proofs.OrderLemmas.{none_in}
+use Rattle.frames.proofs.OrderLemmas.{none_in, unset}
 use Rattle.frames.proofs.ListLemmas.{apart, has-head, has-other, has-without_same, has-without_other, in_without, without-absent}
 
 or_true : (s t : Bool) → t ≡ true → (s || t) ≡ true
@@ -63,6 +63,14 @@ module _ (turns : List ℕ) (waits aside : List Bool) (xs : List ℕ) (l : IsLin
           ∙ sym (ap (λ b. b && not (get_or aside g false)) (has-without_other f g xs ne))
     ];
   }
+
+  -- a frame that is not in the list does not wait in it
+  pub idle : has f xs ≡ false → is_in waits f ≡ false
+  idle absent = l.each f ∙ ap (λ b. b && not (get_or aside f false)) absent
+
+  -- and one that is in it waits if it is not set aside
+  pub waits_if : has f xs ≡ true → is_in waits f ≡ not (get_or aside f false)
+  waits_if there = l.each f ∙ ap (λ b. b && not (get_or aside f false)) there
 
   -- a frame came to the head of the list, or of another one
   module _ (new : List ℕ) (last : ComesLast turns f new) (absent : has f xs ≡ false) (within : (g : ℕ) → has g xs ≡ true → g < length turns) where
@@ -206,6 +214,19 @@ module _ (lists : Lists) (aside : List Bool) (o : Turns) (n : IsInOrder lists as
         actives = lined_left o.turns o.active aside lists.active n.actives f;
         inactives = lined_left o.turns o.inactive aside lists.inactive n.inactives f;
       }))
+
+  -- a frame that is in one list alone waits in no other
+  pub left_inactive : (left : Turns) → left ≡ record o { inactive = slice_set o.inactive f false } → has f lists.active ≡ false
+      → left ≡ record o { active = slice_set o.active f false; inactive = slice_set o.inactive f false }
+  left_inactive left of_left absent =
+      of_left ∙ ap (λ (ws : List Bool). let p : Turns = record o { active = ws; inactive = slice_set o.inactive f false } in p)
+      (sym (unset o.active f (idle o.turns o.active aside lists.active n.actives f absent)))
+
+  pub left_active : (left : Turns) → left ≡ record o { active = slice_set o.active f false } → has f lists.inactive ≡ false
+      → left ≡ record o { active = slice_set o.active f false; inactive = slice_set o.inactive f false }
+  left_active left of_left absent =
+      of_left ∙ ap (λ (ws : List Bool). let p : Turns = record o { active = slice_set o.active f false; inactive = ws } in p)
+      (sym (unset o.inactive f (idle o.turns o.inactive aside lists.inactive n.inactives f absent)))
 
   -- the flag of a frame that is in no list
   pub in_order_cleared : has f lists.active ≡ false → has f lists.inactive ≡ false → IsInOrder lists (slice_set aside f false) o

@@ -1,8 +1,8 @@
 -- The turns of frames, as a frame gets another one, and as it waits or waits no more.
-use Rattle.std.proofs.Common.{◌≡◌, ◌≢◌, ◌∙◌, sym, ap, subst, refl, ℕ, zero, suc, ◌+◌, ◌*◌, ◌<◌, ◌≤◌, max, inl, inr, Bool, true, false, List, [], ◌∷◌, length, replicate, get_or, slice_set, arith, get_or-set_same, get_or-set_other, length-set}
+use Rattle.std.proofs.Common.{◌≡◌, ◌≢◌, ◌∙◌, sym, ap, subst, refl, ℕ, zero, suc, ◌+◌, ◌*◌, ◌<◌, ◌≤◌, inl, inr, Bool, true, false, List, [], ◌∷◌, length, replicate, get_or, slice_set, arith, get_or-set_same, get_or-set_other, length-set}
 use Rattle.std.proofs.lemmas.Bool.{cases_eq, cases_lt, false≢true}
 use Rattle.std.proofs.lemmas.Bool.Decides.{eqb_tells}
-use Rattle.std.proofs.lemmas.List.{same_lists, get_or_past, get_or-map, get_or-replicate, length-map, length-replicate}
+use Rattle.std.proofs.lemmas.List.{same_lists, get_or_past, get_or-map, get_or-replicate, length-map, length-replicate, set-get_or}
 use Rattle.frames.specs.Sets.{members, is_in}
 use Rattle.frames.specs.Order.{turn_of, NoneWaits, KeepsOrder, by_frame, IsOfFrames, IsNumbered}
 use Rattle.frames.specs.Lists.{has, IsWithoutDoubles}
@@ -13,6 +13,10 @@ use Rattle.frames.proofs.ListLemmas.{few_frames, has-other}
 pub not_set : (b : Bool) → (b ≡ true → ⊥) → b ≡ false
 not_set true h = absurd (h refl)
 not_set false h = refl
+
+-- a flag that is not set stays so where it is cleared
+pub unset : (set : List Bool) (k : ℕ) → is_in set k ≡ false → slice_set set k false ≡ set
+unset set k e = ap (λ b. slice_set set k b) (sym e) ∙ set-get_or set k false
 
 pub length-by_frame : (set : List Bool) (turns : List ℕ) → length (by_frame set turns) ≡ length turns
 length-by_frame set turns = length-map turns (λ t. is_in set t)
@@ -129,33 +133,33 @@ module _ (turns frames : List ℕ) (next : ℕ) (active inactive : List Bool) (n
           ∙ sym (by_frame_at set turns g d in_g))
 
   -- a frame gets a turn that no other has, in the table and in both sets
-  module _ (f t : ℕ) (in_f : f < length turns) (free : (g : ℕ) → g < length turns → turn_of turns g ≡ t → g ≡ f) (in_t : t < length turns * 2) where
+  module _ (f t : ℕ) (in_f : f < length turns) (free : (g : ℕ) → g < length turns → turn_of turns g ≡ t → g ≡ f) (in_t : t < length turns * 4) where
     pub in_frames : t < length frames
     in_frames = omega (arith, n.room)
 
-    pub renumbered : (next' : ℕ) → next' ≡ max next (t + 1) → (active' inactive' : List Bool)
+    pub renumbered : (next' : ℕ) → t < next' → next' ≤ length frames → ((g : ℕ) → g < length turns → g ≢ f → turn_of turns g < next') → (active' inactive' : List Bool)
         → active' ≡ renamed active n.actives f t in_f free in_frames
         → inactive' ≡ renamed inactive n.inactives f t in_f free in_frames
         → IsNumbered (slice_set turns f t) (slice_set frames t f) next' active' inactive'
-    renumbered next' of_next active' inactive' of_active of_inactive =
+    renumbered next' here fits others active' inactive' of_active of_inactive =
         let size = length-set turns f t in
         let long = length-set frames t f in
         record {
           few = omega (arith, n.few, size);
           room = omega (arith, n.room, size, long);
-          given = omega (arith, n.given, of_next, in_frames, long);
+          given = omega (arith, fits, long);
           of_frame = λ g h.
               let in_g : g < length turns = omega (arith, size) in
               elim (cases_eq g f) [
                 | inl s ↦
                     let turn : turn_of (slice_set turns f t) g ≡ t = ap (turn_of (slice_set turns f t)) s ∙ get_or-set_same turns f t 0 in_f in (
-                      omega (arith, of_next),
+                      omega (arith, here),
                       ap (λ k. get_or (slice_set frames t f) k 0) turn ∙ get_or-set_same frames t f 0 in_frames ∙ sym s,
                     )
                 | inr ne ↦
                     let turn = get_or-set_other turns f g t 0 ne in
                     let was = n.of_frame g in_g in (
-                      omega (arith, of_next, was.0),
+                      omega (arith, others g in_g ne),
                       ap (λ k. get_or (slice_set frames t f) k 0) turn
                           ∙ get_or-set_other frames t (turn_of turns g) f 0 (λ e. ne (free g in_g e))
                           ∙ was.1,
@@ -174,6 +178,29 @@ module _ (turns frames : List ℕ) (next : ℕ) (active inactive : List Bool) (n
           inactives = let P : List Bool → Type 0 = λ (set : List Bool). IsOfFrames (slice_set turns f t) (slice_set frames t f) set in
               subst P (sym of_inactive) (renamed_set inactive n.inactives f t in_f free in_frames);
         }
+
+  -- a frame that does not wait gets a turn after all others
+  module _ (f t : ℕ) (in_f : f < length turns) (later : (g : ℕ) → g < length turns → turn_of turns g < t) (in_t : t < length turns * 4) where
+    pub free_of : (g : ℕ) → g < length turns → turn_of turns g ≡ t → g ≡ f
+    free_of g in_g e = absurd (omega (arith, later g in_g))
+
+    pub not_given : (set : List Bool) → IsOfFrames turns frames set → is_in set t ≡ false
+    not_given set o =
+        not_set (is_in set t) (λ here. let held = o.held t here in omega (arith, held, later (get_or frames t 0) (n.of_turn t (omega (arith, n.room)))))
+
+    pub renamed_nothing : (set : List Bool) (o : IsOfFrames turns frames set) → is_in (by_frame set turns) f ≡ false
+        → set ≡ renamed set o f t in_f free_of (omega (arith, n.room))
+    renamed_nothing set o idle =
+        let was : is_in set (turn_of turns f) ≡ false = sym (by_frame_at set turns f false in_f) ∙ idle in
+        sym (ap (λ b. slice_set (slice_set set (turn_of turns f) false) t b) was
+        ∙ ap (λ (s : List Bool). slice_set s t false) (unset set (turn_of turns f) was)
+        ∙ unset set t (not_given set o))
+
+    pub appended : (set : List Bool) (o : IsOfFrames turns frames set) → is_in (by_frame set turns) f ≡ false
+        → by_frame set (slice_set turns f t) ≡ by_frame set turns
+    appended set o idle =
+        ap (λ (s : List Bool). by_frame s (slice_set turns f t)) (renamed_nothing set o idle)
+        ∙ renamed_same set o f t in_f free_of (omega (arith, n.room))
 
 -- the turns before t were given anew from 0 on, `given` of them. All were before `end`
 pub record IsPacked (old : List ℕ) (t end given : ℕ) (now : List ℕ) : Type 0 where
@@ -291,14 +318,14 @@ waits_none n count set turns e size =
 
 -- each frame has the turn of its own number
 pub numbered_new : (count : ℕ) (turns frames : List ℕ) (active inactive : List Bool) → count ≤ 65536
-    → length turns ≡ count → length frames ≡ count * 2 → ((k : ℕ) → k < count → get_or turns k 0 ≡ k)
+    → length turns ≡ count → length frames ≡ count * 4 → ((k : ℕ) → k < count → get_or turns k 0 ≡ k)
     → ((k : ℕ) → k < count → get_or frames k 0 ≡ k) → ((k : ℕ) → count ≤ k → get_or frames k 0 ≡ 0)
-    → active ≡ replicate (count * 2) false → inactive ≡ replicate (count * 2) false
+    → active ≡ replicate (count * 4) false → inactive ≡ replicate (count * 4) false
     → IsNumbered turns frames count active inactive
 numbered_new count turns frames active inactive few size room turn frame rest of_active of_inactive =
-    let empty : (set : List Bool) → set ≡ replicate (count * 2) false → IsOfFrames turns frames set = λ set e. record {
-      size = ap (λ (s : List Bool). length s) e ∙ length-replicate (count * 2) false ∙ sym room;
-      held = λ t here. absurd (false≢true (sym (ap (λ (s : List Bool). is_in s t) e ∙ none_in (count * 2) t) ∙ here));
+    let empty : (set : List Bool) → set ≡ replicate (count * 4) false → IsOfFrames turns frames set = λ set e. record {
+      size = ap (λ (s : List Bool). length s) e ∙ length-replicate (count * 4) false ∙ sym room;
+      held = λ t here. absurd (false≢true (sym (ap (λ (s : List Bool). is_in s t) e ∙ none_in (count * 4) t) ∙ here));
     } in
     record {
       few = omega arith;

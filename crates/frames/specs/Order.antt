@@ -43,7 +43,7 @@ pub record IsOfFrames (turns frames : List ℕ) (set : List Bool) : Type 0 where
 -- each frame has a turn of its own before `next`
 pub record IsNumbered (turns frames : List ℕ) (next : ℕ) (active inactive : List Bool) : Type 0 where
   pub few : length turns ≤ 65536
-  pub room : length frames ≡ length turns * 2
+  pub room : length frames ≡ length turns * 4
   pub given : next ≤ length frames
   pub of_frame : (f : ℕ) → f < length turns → (turn_of turns f < next) × (slice_index frames (turn_of turns f) ≡ f)
   pub of_turn : (t : ℕ) → t < length frames → slice_index frames t < length turns

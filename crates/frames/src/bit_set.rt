@@ -104,6 +104,20 @@ impl BitSet {
         }
     }
 
+    /// Takes the number out, and answers whether it was a member.
+    #[inline]
+    pub(crate) fn take(&mut self, number: usize) -> bool
+        requires { number < length self.old }
+        ensures was { result ≡ is_in self.old number }
+        ensures out { self.new ≡ slice_set self.old number false }
+    {
+        let was = self.has(number);
+        if was {
+            self.put(number, false);
+        }
+        was
+    }
+
     /// Where the one number is a member, the other is in its place. That was none, or is the same one.
     #[inline]
     pub(crate) fn rename(&mut self, from: usize, to: usize)

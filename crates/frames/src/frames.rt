@@ -1,8 +1,8 @@
 //! The table of frames.
 
-ghost use Rattle.std.specs.Prelude.{◌≡◌, ℕ, ◌+◌, ◌<◌, ◌≤◌, true, not, find, length, reverse, option_map, All, IfOk, OnErr, IsOkUnless};
+ghost use Rattle.std.specs.Prelude.{◌≡◌, ℕ, ◌+◌, ◌<◌, ◌≤◌, ◌∷◌, true, false, not, find, length, reverse, slice_set, option_map, All, IfOk, OnErr, IsOkUnless};
 ghost use Rattle.frames.specs.Table.{new_table, IsSound, IsLowestFree, is_taken, is_aside, owner_of, free_frames, taken, given, with_bytes, accessed, aged, kept, scan_order, set_aside, put_back};
-ghost use Rattle.frames.specs.Lists.{IsFirstPassing};
+ghost use Rattle.frames.specs.Lists.{IsFirstPassing, has, without};
 ghost use Rattle.frames.specs.Rows.{row_at, laid};
 
 use crate::bit_set::BitSet;
@@ -88,7 +88,7 @@ impl Frames {
         };
         self.free.put(frame, false);
         self.lists.push_inactive(frame as u32);
-        self.order.come(frame as u32);
+        self.order.append(frame as u32);
         self.order.mark_inactive(frame as u32, true);
         self.referenced[frame] = false;
         self.aside[frame] = false;
@@ -102,7 +102,7 @@ impl Frames {
         ensures { self.new ≡ given self.old frame.0 }
     {
         self.lists.remove(frame.0);
-        self.order.leave(frame.0);
+        self.order.clear(frame.0);
         self.free.put(frame.0 as usize, true);
         self.referenced[frame.0 as usize] = false;
         self.owners[frame.0 as usize] = None;
@@ -155,21 +155,31 @@ impl Frames {
     /// - inactive, unreferenced -> inactive, referenced
     /// - inactive, referenced -> active, unreferenced
     /// - active, unreferenced -> active, referenced
+    #[inline(always)]
     pub fn accessed(&mut self, frame: FrameId)
         requires { is_taken self.old frame.0 ≡ true }
         ensures { self.new ≡ accessed self.old frame.0 }
     {
-        let at = frame.0 as usize;
-        if self.lists.is_active(frame.0) || !self.referenced[at] {
-            self.referenced[at] = true;
+        if self.referenced[frame.0 as usize] && !self.lists.is_active(frame.0) {
+            self.promote(frame.0);
         } else {
-            self.lists.remove_inactive(frame.0);
-            self.lists.push_active(frame.0);
-            self.order.leave(frame.0);
-            self.order.come(frame.0);
-            self.order.mark_active(frame.0, !self.aside[at]);
-            self.referenced[at] = false;
+            self.referenced[frame.0 as usize] = true;
         }
+    }
+
+    /// Moves an inactive frame to the active head. It stands apart so that `accessed`, of which most calls set a flag, is small enough to
+    /// stand in its callers.
+    #[inline(never)]
+    fn promote(&mut self, frame: u32)
+        requires { has frame self.old.inactive ≡ true }
+        ensures { self.new ≡ record self.old { active = frame ∷ self.old.active; inactive = without frame self.old.inactive; referenced = slice_set self.old.referenced frame false } }
+    {
+        self.lists.remove_inactive(frame);
+        self.lists.push_active(frame);
+        let waits = self.order.leave_inactive(frame);
+        self.order.append(frame);
+        self.order.mark_active(frame, waits);
+        self.referenced[frame as usize] = false;
     }
 
     /// Moves frames from the active tail to the inactive head while the active list is longer, and answers how many.
@@ -183,9 +193,9 @@ impl Frames {
             let frame = self.lists.last_active();
             self.lists.remove_active(frame);
             self.lists.push_inactive(frame);
-            self.order.leave(frame);
-            self.order.come(frame);
-            self.order.mark_inactive(frame, !self.aside[frame as usize]);
+            let waits = self.order.leave_active(frame);
+            self.order.append(frame);
+            self.order.mark_inactive(frame, waits);
             self.referenced[frame as usize] = false;
             moved += 1;
         }
@@ -219,7 +229,7 @@ impl Frames {
         ensures { self.new ≡ set_aside self.old frame.0 }
     {
         self.aside[frame.0 as usize] = true;
-        self.order.leave(frame.0);
+        self.order.clear(frame.0);
     }
 
     /// The search for the oldest frame passes over this one no more.
@@ -227,6 +237,9 @@ impl Frames {
         requires { is_taken self.old frame.0 ≡ true }
         ensures { self.new ≡ put_back self.old frame.0 }
     {
+        if !self.aside[frame.0 as usize] {
+            return;
+        }
         self.aside[frame.0 as usize] = false;
         if self.lists.is_active(frame.0) {
             self.order.mark_active(frame.0, true);

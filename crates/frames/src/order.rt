@@ -4,11 +4,12 @@
 //! to its tail. Each list has a set of turns, those of its frames that wait: that of the oldest one is the least. A search along the
 //! list would pass over every frame that does not wait, and after each write-back again over all that are dirty.
 //!
-//! There are twice as many turns as frames. When the last one is given, the frames get the first turns, in their order. That is a
-//! pass over all turns, once in as many frames that came as there are.
+//! There are four times as many turns as frames. Where none is left, the frames get the first turns, in their order. That is a pass
+//! over all turns, once in three times as many frames that come as there are.
 
 ghost use Rattle.std.specs.Prelude.{◌≡◌, ℕ, ◌*◌, ◌<◌, ◌≤◌, false, length, slice_index, slice_set, MatchOption, IfOk, IsOkUnless};
 ghost use Rattle.frames.specs.Order.{turn_of, ComesLast, IsFirst, IsIdle, KeepsOrder, NoneWaits};
+ghost use Rattle.frames.specs.Sets.{is_in};
 
 use crate::bit_set::BitSet;
 use pc_types::Refusal;
@@ -19,7 +20,7 @@ use std::marker::Model;
 #[derive(Drop)]
 pub(crate) struct Order {
     turns: Vec<u32>,
-    /// The frame of each turn. A turn that no frame has keeps one that had it.
+    /// The frame of each turn. Of a turn that no frame has it is some frame's number, which means nothing.
     frames: Vec<u32>,
     /// Neither this turn nor a later one is given.
     next: u32,
@@ -45,14 +46,15 @@ impl Order {
         ensures refused { IsOkUnless result Refusal.Memory }
     {
         let mut turns = vec![in alloc; 0_u32; count]?;
-        let mut frames = vec![in alloc; 0_u32; count * 2]?;
-        let active = BitSet::none(alloc, count * 2)?;
-        let inactive = BitSet::none(alloc, count * 2)?;
+        let mut frames = vec![in alloc; 0_u32; count * 4]?;
+        let active = BitSet::none(alloc, count * 4)?;
+        let inactive = BitSet::none(alloc, count * 4)?;
         number(&mut turns, count);
         number(&mut frames, count);
         Ok(Order {
             turns,
             frames,
+            // not later, so that the first pass too is paid for by the frames that came
             next: count as u32,
             active,
             inactive,
@@ -101,9 +103,31 @@ impl Order {
         self.inactive.set(turn as usize, waits);
     }
 
+    /// The frame waits in the active list no more. Answers whether it did.
+    #[inline]
+    pub(crate) fn leave_active(&mut self, frame: u32) -> bool
+        requires { frame < length self.old.turns }
+        ensures waited { result ≡ is_in self.old.active frame }
+        ensures left { self.new ≡ record self.old { active = slice_set self.old.active frame false } }
+    {
+        let turn = self.turns[frame as usize];
+        self.active.take(turn as usize)
+    }
+
+    /// The frame waits in the inactive list no more. Answers whether it did.
+    #[inline]
+    pub(crate) fn leave_inactive(&mut self, frame: u32) -> bool
+        requires { frame < length self.old.turns }
+        ensures waited { result ≡ is_in self.old.inactive frame }
+        ensures left { self.new ≡ record self.old { inactive = slice_set self.old.inactive frame false } }
+    {
+        let turn = self.turns[frame as usize];
+        self.inactive.take(turn as usize)
+    }
+
     /// The frame waits in neither list.
     #[inline]
-    pub(crate) fn leave(&mut self, frame: u32)
+    pub(crate) fn clear(&mut self, frame: u32)
         requires { frame < length self.old.turns }
         ensures { self.new ≡ record self.old { active = slice_set self.old.active frame false; inactive = slice_set self.old.inactive frame false } }
     {
@@ -111,23 +135,27 @@ impl Order {
         self.mark_inactive(frame, false);
     }
 
-    /// Gives a frame the turn after all others. Who waits stays.
+    /// Gives a frame that does not wait the turn after all others.
     #[inline]
-    pub(crate) fn come(&mut self, frame: u32)
-        requires { frame < length self.old.turns }
+    pub(crate) fn append(&mut self, frame: u32)
+        requires within { frame < length self.old.turns }
+        requires active { is_in self.old.active frame ≡ false }
+        requires inactive { is_in self.old.inactive frame ≡ false }
         ensures last { ComesLast self.old.turns frame self.new.turns }
         ensures active { self.new.active ≡ self.old.active }
         ensures inactive { self.new.inactive ≡ self.old.inactive }
     {
         let turn = self.free_turn();
-        self.set_turn(frame, turn);
+        self.turns[frame as usize] = turn;
+        self.frames[turn as usize] = frame;
+        self.next = turn + 1;
     }
 
     /// A turn after those of all frames.
     #[inline]
     fn free_turn(&mut self) -> u32
         requires { 0 < length self.old.turns }
-        ensures within { result < length self.old.turns * 2 }
+        ensures within { result < length self.old.turns * 4 }
         ensures later { (f : ℕ) → f < length self.old.turns → turn_of self.new.turns f < result }
         ensures order { KeepsOrder self.old.turns self.new.turns }
         ensures active { self.new.active ≡ self.old.active }
@@ -155,7 +183,7 @@ impl Order {
         for turn in 0..self.next {
             let frame = self.frames[turn as usize];
             if self.turns[frame as usize] == turn {
-                self.set_turn(frame, given);
+                self.advance(frame, given);
                 given += 1;
             }
         }
@@ -163,10 +191,10 @@ impl Order {
         given
     }
 
-    /// Gives a frame a turn that no other frame has. Who waits stays.
-    fn set_turn(&mut self, frame: u32, turn: u32)
+    /// Moves a frame to an earlier turn that no other frame has. Who waits stays.
+    fn advance(&mut self, frame: u32, turn: u32)
         requires frame { frame < length self.old.turns }
-        requires turn { turn < length self.old.turns * 2 }
+        requires earlier { turn ≤ turn_of self.old.turns frame }
         requires free { (f : ℕ) → f < length self.old.turns → turn_of self.old.turns f ≡ turn → f ≡ frame }
         ensures { self.new ≡ record self.old { turns = slice_set self.old.turns frame turn } }
     {
@@ -175,7 +203,6 @@ impl Order {
         self.inactive.rename(old as usize, turn as usize);
         self.turns[frame as usize] = turn;
         self.frames[turn as usize] = frame;
-        self.next = self.next.max(turn + 1);
     }
 }
 

@@ -10,5 +10,5 @@ invariant_of-self c =
     let here = ap (λ (t : Table). is_taken t c.args.frame.0) c.self.view_is ∙ c.requires in
     let below = within i.lists i.free i.referenced.items i.owners.items i.bytes c.self.invariant.0 c.args.frame.0 here in (
       tied_given i.lists i.free i.referenced.items i.owners.items i.bytes c.self.invariant.0 c.args.frame.0 c.remove.new.self c.put.new.self below c.remove.ensures c.put.ensures,
-      in_order_left i.lists i.aside.items i.order c.self.invariant.1 c.args.frame.0 c.remove.new.self c.leave.new.self c.remove.ensures c.leave.ensures,
+      in_order_left i.lists i.aside.items i.order c.self.invariant.1 c.args.frame.0 c.remove.new.self c.clear.new.self c.remove.ensures c.clear.ensures,
     )

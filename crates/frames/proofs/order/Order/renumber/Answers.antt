@@ -27,10 +27,10 @@ loop-turn-preserved c =
     elim c.if-index-turn.branch [
       | then-index-turn w ↦ record {
         end = inv.end;
-        packed = packed_is old (t + 1) end (c.loop-turn.given + 1) _ _ _ w.given-is (ap (λ (o : Turns). o.turns) (w.self-is ∙ w.set_turn.ensures))
+        packed = packed_is old (t + 1) end (c.loop-turn.given + 1) _ _ _ w.given-is (ap (λ (o : Turns). o.turns) (w.self-is ∙ w.advance.ensures))
             (packed_more old t end c.loop-turn.given now f inv.packed (omega (arith, size, inv.packed.order.size)) (sym turn ∙ w.if-index-turn.true) alone);
-        active = ap (λ (o : Turns). o.active) (w.self-is ∙ w.set_turn.ensures) ∙ inv.active;
-        inactive = ap (λ (o : Turns). o.inactive) (w.self-is ∙ w.set_turn.ensures) ∙ inv.inactive;
+        active = ap (λ (o : Turns). o.active) (w.self-is ∙ w.advance.ensures) ∙ inv.active;
+        inactive = ap (λ (o : Turns). o.inactive) (w.self-is ∙ w.advance.ensures) ∙ inv.inactive;
       }
       | else-index-turn w ↦ record {
         end = inv.end;
