@@ -196,16 +196,6 @@ module _ {s : State} {store : Store} {blocks : Blocks} (c : IsCore s store block
 
   -- ---- counts
 
-  pub few_dirty : dirty_total s ≤ MAX_FRAMES
-  few_dirty =
-      let all = sum_by-le-sum_by dirty_in (λ (file : File). finmap.len file.pages) s.files
-      (λ file. omega (
-        arith,
-        count_by-le-length (λ (e : ℕ × Page). e.1.tags.dirty) (finmap.entries file.pages),
-        len-entries file.pages,
-      )) in
-      omega (arith, all, c.counted, c.framed)
-
   pub free_frames_are : free_frames s ≡ store.free
   free_frames_are = omega (arith, c.counted)
 

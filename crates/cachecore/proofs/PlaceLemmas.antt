@@ -11,7 +11,7 @@ use Rattle.std.specs.FinMap as finmap
 use Rattle.std.specs.FinMap.{find}
 use Rattle.std.proofs.lemmas.Bool.{false≢true}
 use Rattle.std.proofs.lemmas.Bool.Decides.{nat_tests}
-use Rattle.std.proofs.lemmas.List.Sums.{length-filter, sum_by-cons}
+use Rattle.std.proofs.lemmas.List.Sums.{length-filter}
 use Rattle.pc_types.specs.Spots.{Spot, place_cmp}
 use Rattle.pc_types.specs.declared.ids.BlockNo.{BlockNo}
 use Rattle.pc_types.specs.declared.refusal.Refusal.{Refusal}
@@ -68,36 +68,6 @@ lowest_first p q x a (suc n) l h t below is =
 
     later : (k : ℕ) → x < k → (p k && not (eqb k x)) ≡ p k
     later k m = let apart : eqb k x ≡ false = grind (arith, nat_tests) in ap (λ b. p k && not b) apart ∙ keeps (p k)
-
--- one number further
-count_next : (keep : ℕ → Bool) (a n : ℕ) → count_by keep (range_with_len a (suc n)) ≡ count_by keep (range_with_len a n)
-    + cond (keep (a + n)) 1 0
-count_next keep a zero =
-    let here : a ≡ a + 0 = omega arith in
-    sum_by-cons (λ k. cond (keep k) 1 0) a []
-    ∙ (let same : ◌≡◌ {A = ℕ} (cond (keep a) 1 0) (cond (keep (a + 0)) 1 0) = ap (λ k. cond (keep k) 1 0) here in
-    omega (arith, same))
-count_next keep a (suc n) =
-    let first = sum_by-cons (λ k. cond (keep k) 1 0) a (range_with_len (a + 1) (suc n)) in
-    let second = sum_by-cons (λ k. cond (keep k) 1 0) a (range_with_len (a + 1) n) in
-    let rest = count_next keep (a + 1) n in
-    let here : a + 1 + n ≡ a + suc n = omega arith in
-    let last : ◌≡◌ {A = ℕ} (cond (keep (a + 1 + n)) 1 0) (cond (keep (a + suc n)) 1 0) =
-    ap (λ k. cond (keep k) 1 0) here in
-    omega (arith, first, second, rest, last)
-
-pub count_on : (keep : ℕ → Bool) (first p count now : ℕ) (b : Bool) → first ≤ p
-    → count ≡ count_by keep (range_with_len first (p - first)) → keep p ≡ b → now ≡ count + cond b 1 0
-    → now ≡ count_by keep (range_with_len first (p + 1 - first))
-count_on keep first p count now b l e k n =
-    let step : p + 1 - first ≡ suc (p - first) = omega arith in
-    let here : first + (p - first) ≡ p = omega arith in
-    let last : ◌≡◌ {A = ℕ} (cond (keep (first + (p - first))) 1 0) (cond b 1 0) = ap (λ q. cond (keep q) 1 0) here
-    ∙ ap (λ t. cond t 1 0) k in
-    let whole : count_by keep (range_with_len first (p + 1 - first))
-    ≡ count_by keep (range_with_len first (suc (p - first))) = ap (λ m. count_by keep (range_with_len first m))
-    step in
-    omega (arith, whole, count_next keep first (p - first), e, last, n)
 
 -- a number below the range is not among them
 none_beside : (keep : ℕ → Bool) (q a n : ℕ) (bs : List ℕ) → q < a

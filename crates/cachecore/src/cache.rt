@@ -250,8 +250,12 @@ impl CacheCore {
         requires below { page < MAX_PAGES }
         ensures { result ≡ must_fill self.now.state file page }
     {
+        // first, since most pages are cached, and a page is found in fewer steps than its block
+        if self.pages.is_cached(file, page) {
+            return false;
+        }
         match self.blocks.map(FileId(file), PageIndex(page)) {
-            Some(placed) => placed.is_written && !self.pages.is_cached(file, page),
+            Some(placed) => placed.is_written,
             None => false,
         }
     }
@@ -280,7 +284,8 @@ impl CacheCore {
         if self.is_filling(file, page) {
             return true;
         }
-        self.must_fill(file, page) && !covers(self.geometry.page(), offset, count, page)
+        // this order, since `covers` looks nothing up
+        !covers(self.geometry.page(), offset, count, page) && self.must_fill(file, page)
     }
 
     /// Whether the pages that a write touches may become dirty, and there are frames and blocks for those that need one.
@@ -306,27 +311,17 @@ impl CacheCore {
         Ok(())
     }
 
-    /// Whether too many pages would be dirty with those from `first` up to `end`. Where all of them may become dirty it looks
-    /// none up.
-    #[inline]
+    /// Whether too many pages would be dirty with those from `first` up to `end`. A write that makes no page dirty goes through
+    /// although the limit is passed, as a truncation or a failed write may pass it. It looks up no more pages than tell.
     pub(crate) fn is_over_limit(&self, file: u64, first: u64, end: u64) -> bool
         requires here { file < length self.now.state.files }
         requires order { first ≤ end }
-        requires few { end - first ≤ MAX_TOUCHED }
-        requires bound { end ≤ 2 ^ 63 }
         ensures { result ≡ (nat_lt 0 (count_by (λ p. not (tags_at self.now.state file p).dirty) (range_with_len first (end - first))) && nat_lt self.now.state.sizes.dirty_limit (dirty_total self.now.state + count_by (λ p. not (tags_at self.now.state file p).dirty) (range_with_len first (end - first)))) }
     {
-        self.passes_dirty_limit(end - first)
-            && self.passes_dirty_limit(self.pages.clean_pages(file, first, end) as u64)
-    }
-
-    /// Whether too many pages would be dirty with so many more. A write that makes no page dirty goes through although
-    /// the limit is passed, as a truncation or a failed write may pass it.
-    pub(crate) fn passes_dirty_limit(&self, dirtied: u64) -> bool
-        requires { dirtied ≤ MAX_TOUCHED }
-        ensures { result ≡ (nat_lt 0 dirtied && nat_lt self.now.state.sizes.dirty_limit (dirty_total self.now.state + dirtied)) }
-    {
-        dirtied > 0 && self.pages.dirty_total() + dirtied > self.geometry.dirty_limit()
+        let dirty = self.pages.dirty_total();
+        // none, where the limit is passed already
+        let room = self.geometry.dirty_limit().saturating_sub(dirty);
+        self.pages.has_more_clean(file, first, end, room)
     }
 
     /// Writes the bytes where they are all of one page that is DIRTY. Such a page has its frame and its block, so no test stops

@@ -9,38 +9,21 @@ ghost use Rattle.pagestore.specs.Ranges.{AreSized, AreWritten};
 ghost use Rattle.pagestore.specs.Store.{stored_at, stored_page, NoneAwaited};
 
 use blockmap::BlockMap;
-use pagestore::{Pages, Span};
+use pagestore::{Pages, Span, has_more};
 use pc_types::limits::{MAX_FILE_SIZE, MAX_FILES, MAX_PAGE_SIZE};
 use pc_types::{FileId, PageIndex};
 use std::alloc::AllocError;
 
-/// How many pages of the file from `first` up to `end` have no block.
-pub fn count_without_block(blocks: &BlockMap, file: u64, first: u64, end: u64) -> u64
-    requires file { file < MAX_FILES }
-    requires order { first ≤ end }
-    requires below { end ≤ MAX_PAGES }
-    ensures { result ≡ count_by (is_bare blocks.now file) (range_with_len first (end - first)) }
-{
-    let mut count = 0;
-    for page in first..end {
-        if blocks.map(FileId(file), PageIndex(page)).is_none() {
-            count += 1;
-        }
-    }
-    count
-}
-
-/// Whether fewer blocks are free than pages from `first` up to `end` have none. Where as many are free as there are pages it
-/// looks none up.
-#[inline]
+/// Whether fewer blocks are free than pages from `first` up to `end` have none. It looks up no more pages than tell.
 pub fn lacks_blocks(blocks: &BlockMap, file: u64, first: u64, end: u64) -> bool
     requires file { file < MAX_FILES }
     requires order { first ≤ end }
     requires below { end ≤ MAX_PAGES }
     ensures { result ≡ nat_lt (length (free_blocks blocks.now)) (count_by (is_bare blocks.now file) (range_with_len first (end - first))) }
 {
-    let free = blocks.free_count();
-    free < end - first && free < count_without_block(blocks, file, first, end)
+    has_more(first, end, blocks.free_count(), |page| {
+        blocks.map(FileId(file), PageIndex(page)).is_none()
+    })
 }
 
 /// Gives each page of the span from `next` on that has no block the lowest free one, and then writes the bytes into the span's

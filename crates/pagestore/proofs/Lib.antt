@@ -1,3 +1,4 @@
+pub mod CountLemmas
 pub mod StoreEntries
 pub mod StoreLaws
 pub mod StoreFacts

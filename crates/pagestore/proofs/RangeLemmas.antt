@@ -66,7 +66,7 @@ count-alike p q a (suc n) h =
     sum_by-cons (λ x. cond (p x) 1 0) a (range_with_len (a + 1) n) ∙ (λ i. cond (h a (omega arith) i) 1 0 + rest i)
     ∙ sym (sum_by-cons (λ x. cond (q x) 1 0) a (range_with_len (a + 1) n))
 
-count-first : (p : ℕ → Bool) (first end : ℕ) → first < end → count_by p (range_with_len first (end - first))
+pub count-first : (p : ℕ → Bool) (first end : ℕ) → first < end → count_by p (range_with_len first (end - first))
     ≡ cond (p first) 1 0 + count_by p (range_with_len (first + 1) (end - (first + 1)))
 count-first p first end h =
     let one : end - first ≡ suc (end - (first + 1)) = omega arith in

@@ -1,8 +1,10 @@
 //! Guesses of the frames that pages have.
 
-ghost use Rattle.std.specs.Prelude.{◌≤◌};
+ghost use Rattle.std.specs.Prelude.{◌≡◌, ◌≤◌, IfSome, Some};
+ghost use Rattle.frames.specs.Table.{owner_of};
 ghost use Rattle.pc_types.specs.declared.limits.TheConstants.{MAX_FRAMES};
 
+use frames::Frames;
 use pc_types::FrameId;
 use std::alloc::{AllocError, Global};
 use std::marker::Model;
@@ -10,8 +12,7 @@ use std::marker::Model;
 /// 2^32 less 2^32 over the golden ratio, as Linux's hashes take it.
 const GOLDEN_RATIO: u64 = 0x61c8_8647;
 
-/// For each page a frame that may be its own, found without a walk. A guess may be wrong, so who takes it asks for the
-/// frame's owner.
+/// For each page a frame that may be its own, found without a walk. A guess may be wrong: the frame's owner tells.
 #[derive(Drop)]
 pub struct Guesses {
     // a power of two of places
@@ -42,8 +43,22 @@ impl Guesses {
     }
 
     #[inline(always)]
-    pub fn of(&self, file: u64, page: u64) -> FrameId {
+    fn of(&self, file: u64, page: u64) -> FrameId {
         self.frames[place(file, page, self.mask)]
+    }
+
+    /// The frame of a page, where the guess is right: that spares a walk of the file's tree.
+    #[inline(always)]
+    pub fn frame(&self, frames: &Frames, file: u64, page: u64) -> Option<FrameId>
+        ensures { IfSome result (λ frame. owner_of frames.now frame.0 ≡ Some (record { 0 = file }, record { 0 = page })) }
+    {
+        let guess = self.of(file, page);
+        let (owner, number) = frames.owner(guess)?;
+        if owner.0 == file && number.0 == page {
+            Some(guess)
+        } else {
+            None
+        }
     }
 
     /// Notes the frame that a page has.

@@ -1,6 +1,6 @@
 //! A file as the pages' store keeps it.
 
-ghost use Rattle.std.specs.Prelude.{◌≡◌, ◌-◌, ◌≤◌, ◌^◌, false, find, not, slice_index_or, count_by};
+ghost use Rattle.std.specs.Prelude.{◌≡◌, ◌-◌, ◌≤◌, ◌^◌, false, nat_lt, not, slice_index_or, count_by};
 ghost use Rattle.std.specs.List.{range_with_len};
 ghost use Rattle.std.specs.FinMap as map;
 ghost use Rattle.pc_types.specs.declared.tags.Tag.TheVariants.{Dirty};
@@ -8,6 +8,7 @@ ghost use Rattle.mapping.specs.Pages.{frame_of, has_at};
 ghost use Rattle.pc_types.specs.TagBits.{tag_set};
 ghost use Rattle.pagestore.specs.Store.{none_kept, has_page, is_untagged, is_idle_entry};
 
+use crate::counts::has_more;
 use frames::Frames;
 use mapping::Mapping;
 use pc_types::limits::MAX_TOUCHED;
@@ -34,16 +35,6 @@ impl KeptFile {
         }
     }
 
-    /// Whether the page has an entry, and its frame has the page's bytes.
-    pub fn is_cached(&self, uptodate: &[bool], page: u64) -> bool
-        ensures { result ≡ has_page uptodate.now (map.get self.now.mapping.pages page) }
-    {
-        match self.mapping.frame(PageIndex(page)) {
-            Some(frame) => is_uptodate(uptodate, frame),
-            None => false,
-        }
-    }
-
     /// Whether the page is cached and has no tag. A page that is filling has none either.
     pub fn is_idle(&self, uptodate: &[bool], page: u64) -> bool
         ensures { result ≡ is_idle_entry uptodate.now (map.get self.now.mapping.pages page) }
@@ -60,25 +51,12 @@ impl KeptFile {
         self.mapping.has_tag(PageIndex(page), Tag::Dirty)
     }
 
-    /// The first page from `first` up to `end` that is not cached.
-    pub fn first_absent(&self, uptodate: &[bool], first: u64, end: u64) -> Option<u64>
-        requires order { first ≤ end }
-        requires bound { end ≤ 2 ^ 63 }
-        ensures { result ≡ find (λ p. not (has_page uptodate.now (map.get self.now.mapping.pages p))) (range_with_len first (end - first)) }
+    /// Whether more than `room` pages from `first` up to `end` are not DIRTY.
+    pub fn has_more_clean(&self, first: u64, end: u64, room: u64) -> bool
+        requires { first ≤ end }
+        ensures { result ≡ nat_lt room (count_by (λ p. not (has_at self.now.mapping.pages p Dirty)) (range_with_len first (end - first))) }
     {
-        (first..end).find(|p| !self.is_cached(uptodate, *p))
-    }
-
-    /// How many pages from `first` up to `end` are not cached.
-    pub fn absent_pages(&self, uptodate: &[bool], first: u64, end: u64) -> usize
-        requires order { first ≤ end }
-        requires few { end - first ≤ MAX_TOUCHED }
-        requires bound { end ≤ 2 ^ 63 }
-        ensures { result ≡ count_by (λ p. not (has_page uptodate.now (map.get self.now.mapping.pages p))) (range_with_len first (end - first)) }
-    {
-        (first..end)
-            .filter(|p| !self.is_cached(uptodate, *p))
-            .count()
+        has_more(first, end, room, |page| !self.is_dirty(page))
     }
 
     /// How many pages from `first` up to `end` are not DIRTY.

@@ -1,6 +1,6 @@
 //! The pages of all files: each in a frame of its own, by its file's mapping.
 
-ghost use Rattle.std.specs.Prelude.{◌≡◌, ℕ, ◌+◌, ◌-◌, ◌<◌, ◌≤◌, ◌^◌, ◌++◌, IfOk, OnOk, OnErr, length, true, false, not, is_some, option_map, find, count_by, nat_lt, slice_index_or, slice_set, slice_range, take, drop, sum_by, [], ◌∷◌, IsOkUnless, Some, None, cond, ◌||◌};
+ghost use Rattle.std.specs.Prelude.{◌≡◌, ℕ, ◌+◌, ◌-◌, ◌<◌, ◌≤◌, ◌^◌, ◌++◌, IfNone, IfOk, IfSome, OnOk, OnErr, length, true, false, not, is_some, option_map, find, count_by, nat_lt, slice_index_or, slice_set, slice_range, take, drop, sum_by, [], ◌∷◌, IsOkUnless, Some, None, cond, ◌||◌};
 ghost use Rattle.std.specs.List.{range_with_len};
 ghost use Rattle.std.specs.FinMap as map;
 ghost use Rattle.std.specs.FinSet as set;
@@ -10,10 +10,13 @@ ghost use Rattle.frames.specs.Table.{is_taken};
 ghost use Rattle.mapping.specs.declared.mapping.TheConstants.{MAX_PAGES};
 ghost use Rattle.pc_types.specs.TagBits.{tag_set};
 ghost use Rattle.machine.specs.State.{no_file, dirty_in, tags_of};
-ghost use Rattle.pagestore.specs.Store.{the_page, blank, stored_at, stored_page, is_awaited, with_pages, with_lists};
+ghost use Rattle.mapping.specs.Pages as mapped;
+ghost use Rattle.pagestore.specs.Store.{the_page, blank, entry_at, stored_at, stored_page, is_awaited, with_pages, with_lists};
+ghost use Rattle.pagestore.specs.Guessing.{IsFrameOf};
 ghost use Rattle.pagestore.specs.Ranges.{dirtied, with_part};
 ghost use Rattle.machine.specs.PageLists.{no_lists, is_listed, entered, left, accessed};
 
+use crate::counts::has_more;
 use crate::guesses::Guesses;
 use crate::kept::{KeptFile, is_uptodate};
 use frames::Frames;
@@ -31,7 +34,7 @@ pub struct Pages {
     pub(crate) files: Vec<KeptFile>,
     // how many pages of all files are DIRTY
     pub(crate) dirty: u64,
-    // of the pages that were read
+    // of the pages that were filled or read
     pub(crate) guesses: Guesses,
 }
 
@@ -124,7 +127,10 @@ impl Pages {
         requires { file < length self.now.files }
         ensures { result ≡ is_some (stored_page self.now file page) }
     {
-        self.files[file as usize].is_cached(&self.uptodate, page)
+        match frame_of(&self.frames, &self.guesses, &self.files, file, page) {
+            Some(frame) => is_uptodate(&self.uptodate, frame),
+            None => false,
+        }
     }
 
     /// The first page from `first` up to `end` that is not cached.
@@ -134,7 +140,7 @@ impl Pages {
         requires bound { end ≤ 2 ^ 63 }
         ensures { result ≡ find (λ p. not (is_some (stored_page self.now file p))) (range_with_len first (end - first)) }
     {
-        self.files[file as usize].first_absent(&self.uptodate, first, end)
+        (first..end).find(|page| !self.is_cached(file, *page))
     }
 
     /// How many pages from `first` up to `end` are not cached.
@@ -145,21 +151,29 @@ impl Pages {
         requires bound { end ≤ 2 ^ 63 }
         ensures { result ≡ count_by (λ p. not (is_some (stored_page self.now file p))) (range_with_len first (end - first)) }
     {
-        self.files[file as usize].absent_pages(&self.uptodate, first, end)
+        (first..end)
+            .filter(|page| !self.is_cached(file, *page))
+            .count()
     }
 
-    /// Whether fewer frames are free than pages from `first` up to `end` are not cached. Where as many are free as there are
-    /// pages it looks none up.
-    #[inline]
+    /// Whether fewer frames are free than pages from `first` up to `end` are not cached. It looks up no more pages than tell.
     pub fn lacks_frames(&self, file: u64, first: u64, end: u64) -> bool
         requires here { file < length self.now.files }
         requires order { first ≤ end }
-        requires few { end - first ≤ MAX_TOUCHED }
-        requires bound { end ≤ 2 ^ 63 }
         ensures { result ≡ nat_lt self.now.free (count_by (λ p. not (is_some (stored_page self.now file p))) (range_with_len first (end - first))) }
     {
-        let free = self.free_frames();
-        free < end - first && free < self.absent_pages(file, first, end) as u64
+        has_more(first, end, self.free_frames(), |page| {
+            !self.is_cached(file, page)
+        })
+    }
+
+    /// Whether more than `room` pages from `first` up to `end` are not DIRTY. It looks up no more pages than tell.
+    pub fn has_more_clean(&self, file: u64, first: u64, end: u64, room: u64) -> bool
+        requires here { file < length self.now.files }
+        requires order { first ≤ end }
+        ensures { result ≡ nat_lt room (count_by (λ p. not ((tags_of (stored_page self.now file p)).dirty)) (range_with_len first (end - first))) }
+    {
+        self.files[file as usize].has_more_clean(first, end, room)
     }
 
     /// How many pages from `first` up to `end` are not DIRTY.
@@ -306,14 +320,10 @@ impl Pages {
         ensures kept { result ≡ false → out.new ≡ out.old }
         ensures same { result ≡ false → self.new ≡ self.old }
     {
-        let guess = self.guesses.of(file, page);
-        if let Some((owner, number)) = self.frames.owner(guess)
-            && owner.0 == file
-            && number.0 == page
-        {
-            return read_frame(&mut self.frames, &self.uptodate, guess, at, out);
+        match self.guesses.frame(&self.frames, file, page) {
+            Some(frame) => read_frame(&mut self.frames, &self.uptodate, frame, at, out),
+            None => self.read_walked(file, page, at, out),
         }
-        self.read_walked(file, page, at, out)
     }
 
     /// The same by a walk, which makes the next guess right.
@@ -353,7 +363,8 @@ impl Pages {
         ensures len { length out.new ≡ length out.old }
         ensures moved { self.new ≡ with_lists self.old (accessed file page self.old.lists) }
     {
-        let Some(frame) = self.files[file as usize].mapping.frame(PageIndex(page)) else {
+        let Some(frame) = noted_frame(&self.frames, &mut self.guesses, &self.files, file, page)
+        else {
             unreachable!()
         };
         let bytes = self.frames.bytes(frame);
@@ -367,10 +378,59 @@ impl Pages {
         requires { file < length self.old.files }
         ensures { self.new ≡ with_lists self.old (accessed file page self.old.lists) }
     {
-        if let Some(frame) = self.files[file as usize].mapping.frame(PageIndex(page)) {
+        if let Some(frame) = noted_frame(&self.frames, &mut self.guesses, &self.files, file, page) {
             self.frames.accessed(frame);
         }
     }
+}
+
+/// The frame of a page that is cached or filling: by the guess, where that is right, and else by a walk.
+#[inline(always)]
+pub(crate) fn frame_of(
+    frames: &Frames,
+    guesses: &Guesses,
+    files: &[KeptFile],
+    file: u64,
+    page: u64,
+) -> Option<FrameId>
+    requires { file < length files.now }
+    ensures some { IfSome result (λ frame. IsFrameOf frames.now files.now file page frame) }
+    ensures none { IfNone result (entry_at files.now file page ≡ None) }
+{
+    match guesses.frame(frames, file, page) {
+        Some(frame) => Some(frame),
+        None => walked_frame(files, file, page),
+    }
+}
+
+/// The same, and the next guess is right.
+#[inline(always)]
+pub(crate) fn noted_frame(
+    frames: &Frames,
+    guesses: &mut Guesses,
+    files: &[KeptFile],
+    file: u64,
+    page: u64,
+) -> Option<FrameId>
+    requires { file < length files.now }
+    ensures some { IfSome result (λ frame. IsFrameOf frames.now files.now file page frame) }
+    ensures none { IfNone result (entry_at files.now file page ≡ None) }
+{
+    if let Some(frame) = guesses.frame(frames, file, page) {
+        return Some(frame);
+    }
+    let frame = walked_frame(files, file, page)?;
+    guesses.note(file, page, frame);
+    Some(frame)
+}
+
+/// The frame of a page that is cached or filling, by a walk.
+#[inline(never)]
+fn walked_frame(files: &[KeptFile], file: u64, page: u64) -> Option<FrameId>
+    requires { file < length files.now }
+    ensures { result ≡ option_map mapped.frame_of (entry_at files.now file page) }
+{
+    files[file as usize].mapping.frame(PageIndex(page))
 }
 
 /// Copies bytes of a frame from `at` on into `out`, and notes that its page was read. Answers whether the frame has its page's bytes;

@@ -1,27 +1,24 @@
-use Rattle.std.proofs.Common.{arith, not, refl, sym, false, ◌≡◌, ◌≤◌, ◌+◌, ◌-◌, ◌&&◌, ◌∙◌, ℕ}
-use Rattle.std.specs.Prelude.{nat_lt}
+use Rattle.std.proofs.Common.{arith, ap, not, ◌≡◌, ◌+◌, ◌-◌, ◌&&◌, ◌∙◌, ℕ}
+use Rattle.std.specs.Prelude.{count_by, nat_lt}
+use Rattle.std.specs.List.{range_with_len}
 use Rattle.std.proofs.lemmas.Bool.Decides.{nat_tests}
-use Rattle.machine.specs.State.{tags_at, tags_of}
+use Rattle.machine.specs.State.{State, dirty_total, tags_at, tags_of}
 use Rattle.pagestore.specs.Store.{stored_page}
-use Rattle.cachecore.proofs.TouchCounts.{count_below}
+use Rattle.cachecore.proofs.CoreViews.{state_is}
 use Rattle.cachecore.proofs.cache.CacheCore.is_over_limit.Goals as goal
 
--- fewer pages pass no limit that more do not
-fewer_within : (most k limit dirty : ℕ) → k ≤ most → (nat_lt 0 most && nat_lt limit (dirty + most)) ≡ false
-    → (nat_lt 0 k && nat_lt limit (dirty + k)) ≡ false
-fewer_within most k limit dirty h e = grind (arith, nat_tests)
+-- none is one too many, as the limit may be passed already
+over_limit : (limit dirty room k : ℕ) → room ≡ limit - dirty → nat_lt room k ≡ (nat_lt 0 k && nat_lt limit (dirty + k))
+over_limit limit dirty room k e = grind (arith, nat_tests)
 
-pub passes_dirty_limit-requires-then-passes_dirty_limit : goal.passes_dirty_limit-requires-then-passes_dirty_limit
-passes_dirty_limit-requires-then-passes_dirty_limit c =
-    let fewer = count_below c.clean_pages.result c.args.first (c.args.end - c.args.first)
-    (λ p. not ((tags_of (stored_page c.self.inside.pages c.args.file p)).dirty)) c.clean_pages.ensures in
-    omega (arith, c.requires.few, fewer)
-
--- all of them may become dirty, and so those of them that are clean
-pub returns-else-passes_dirty_limit : goal.returns-else-passes_dirty_limit
-returns-else-passes_dirty_limit c =
-    let fewer = count_below _ c.args.first (c.args.end - c.args.first)
-    (λ p. not (tags_at c.args.self.now.state c.args.file p).dirty) refl in
-    c.if-passes_dirty_limit.false
-    ∙ sym (fewer_within (c.args.end - c.args.first) _ _ _ fewer
-    (sym c.passes_dirty_limit.ensures ∙ c.if-passes_dirty_limit.false))
+pub returns : goal.returns
+returns c =
+    let i = c.self.inside in
+    let range = range_with_len c.args.first (c.args.end - c.args.first) in
+    let clean = count_by (λ p. not (tags_of (stored_page i.pages c.args.file p)).dirty) range in
+    c.has_more_clean.ensures
+    ∙ over_limit c.dirty_limit.result c.dirty_total-dirty.result c.saturating_sub-room.result clean c.saturating_sub-room.ensures
+    ∙ ap (λ (limit : ℕ). nat_lt 0 clean && nat_lt limit (c.dirty_total-dirty.result + clean)) c.dirty_limit.ensures.value
+    ∙ ap (λ (dirty : ℕ). nat_lt 0 clean && nat_lt i.geometry.dirty_limit (dirty + clean)) c.dirty_total-dirty.ensures
+    ∙ ap (λ (s : State). nat_lt 0 (count_by (λ p. not (tags_at s c.args.file p).dirty) range)
+    && nat_lt s.sizes.dirty_limit (dirty_total s + count_by (λ p. not (tags_at s c.args.file p).dirty) range)) (state_is c.self.view_is)

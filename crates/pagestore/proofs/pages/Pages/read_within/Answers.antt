@@ -22,50 +22,44 @@ at c = record {
 pub read_frame-requires-clause-taken : goal.read_frame-requires-clause-taken
 read_frame-requires-clause-taken c =
     let w = at (goal.at.read_frame-requires-clause-taken c).After-self in
-    let there = owned_entry w c.of-guess.result
-    c.in-Some.owner c.in-Some.number c.in-Some.ensures c.if-owner-file.true c.if-number-page.true in
-    frame_taken w c.of-guess.result there
+    let there = owned_entry w c.in-Some.frame c.in-Some.ensures in
+    frame_taken w c.in-Some.frame there
 
 pub read_frame-requires-clause-flagged : goal.read_frame-requires-clause-flagged
 read_frame-requires-clause-flagged c =
     let w = at (goal.at.read_frame-requires-clause-flagged c).After-self in
-    let there = owned_entry w c.of-guess.result
-    c.in-Some.owner c.in-Some.number c.in-Some.ensures c.if-owner-file.true c.if-number-page.true in
-    subst (λ (u : List Bool). c.of-guess.result.0 < length u) (sym c.deref.ensures.value)
-    (frame_flagged w c.of-guess.result there)
+    let there = owned_entry w c.in-Some.frame c.in-Some.ensures in
+    subst (λ (u : List Bool). c.in-Some.frame.0 < length u) (sym c.deref.ensures.value)
+    (frame_flagged w c.in-Some.frame there)
 
-pub returns-clause-cached : goal.returns-clause-cached
-returns-clause-cached c =
-    let w = at (goal.at.returns-clause-cached c).After-self in
-    let there = owned_entry w c.of-guess.result
-    c.in-Some.owner c.in-Some.number c.in-Some.ensures c.if-owner-file.true c.if-number-page.true in
-    c.read_frame.ensures.flag ∙ ap (λ (u : List Bool). slice_index_or u c.of-guess.result.0 false) c.deref.ensures.value
-    ∙ frame_cached w c.of-guess.result there
+pub returns-in-Some-clause-cached : goal.returns-in-Some-clause-cached
+returns-in-Some-clause-cached c =
+    let w = at (goal.at.returns-in-Some-clause-cached c).After-self in
+    let there = owned_entry w c.in-Some.frame c.in-Some.ensures in
+    c.read_frame.ensures.flag ∙ ap (λ (u : List Bool). slice_index_or u c.in-Some.frame.0 false) c.deref.ensures.value
+    ∙ frame_cached w c.in-Some.frame there
 
-pub returns-clause-read : goal.returns-clause-read
-returns-clause-read c =
-    let w = at (goal.at.returns-clause-read c).After-self in
-    let there = owned_entry w c.of-guess.result
-    c.in-Some.owner c.in-Some.number c.in-Some.ensures c.if-owner-file.true c.if-number-page.true in
+pub returns-in-Some-clause-read : goal.returns-in-Some-clause-read
+returns-in-Some-clause-read c =
+    let w = at (goal.at.returns-in-Some-clause-read c).After-self in
+    let there = owned_entry w c.in-Some.frame c.in-Some.ensures in
     let flag = c.read_frame.ensures.flag
-    ∙ ap (λ (u : List Bool). slice_index_or u c.of-guess.result.0 false) c.deref.ensures.value in
+    ∙ ap (λ (u : List Bool). slice_index_or u c.in-Some.frame.0 false) c.deref.ensures.value in
     λ ready. c.read_frame.ensures.read ready
     ∙ ap (λ (bs : List ℕ). slice_range bs c.args.at (c.args.at + length c.args.out.now))
-    (frame_bytes w c.of-guess.result there
+    (frame_bytes w c.in-Some.frame there
     (sym flag ∙ ready))
 
-pub returns-clause-moved : goal.returns-clause-moved
-returns-clause-moved c =
-    let w = at (goal.at.returns-clause-moved c).After-self in
-    let there = owned_entry w c.of-guess.result
-    c.in-Some.owner c.in-Some.number c.in-Some.ensures c.if-owner-file.true c.if-number-page.true in
+pub returns-in-Some-clause-moved : goal.returns-in-Some-clause-moved
+returns-in-Some-clause-moved c =
+    let w = at (goal.at.returns-in-Some-clause-moved c).After-self in
+    let there = owned_entry w c.in-Some.frame c.in-Some.ensures in
     λ ready. ap (λ (t : Table). store_of t c.self.inside.uptodate.items c.self.inside.files.items)
     (c.read_frame.ensures.moved ready)
-    ∙ read_seen w c.of-guess.result there
+    ∙ read_seen w c.in-Some.frame there
 
 pub invariant_of-self : goal.invariant_of-self
 invariant_of-self c =
     let w = at (goal.at.invariant_of-self c).After-self in
-    let there = owned_entry w c.of-guess.result c.in-Some.owner c.in-Some.number c.in-Some.ensures
-    c.if-owner-file.true c.if-number-page.true in
-    read_store w c.of-guess.result there c.read_frame.new.frames c.read_frame.result c.read_frame.ensures.moved c.read_frame.ensures.same
+    let there = owned_entry w c.in-Some.frame c.in-Some.ensures in
+    read_store w c.in-Some.frame there c.read_frame.new.frames c.read_frame.result c.read_frame.ensures.moved c.read_frame.ensures.same
