@@ -10,9 +10,10 @@ use Rattle.std.proofs.lemmas.List.{get_or_past, get_or-drop, length-take, length
 use Rattle.pc_types.specs.Files.{padded, pread, pwrite, cut}
 use Rattle.pc_types.proofs.FileLaws.{byte-take, byte-padded, byte-pwrite, length-pwrite, length-cut, byte-cut}
 use Rattle.pc_types.proofs.FileLaws.{length-pread, byte-pread}
-use Rattle.std.specs.Prelude.{Some, None, Vec}
+use Rattle.std.specs.Prelude.{Option, Some, None, Vec, is_some, IsSome, IfSome, IfNone}
+use Rattle.std.specs.Map.{lookup}
 use Rattle.std.specs.declared.alloc.Global.{Global}
-use Rattle.std.specs.Ordering.{nat_cmp, is_eq}
+use Rattle.std.specs.Ordering.{nat_cmp, is_eq, is_lt}
 use Rattle.std.specs.BTreeMap as tree
 use Rattle.trail.specs.Sparse.{Chunks, StandsIn, chunk_bytes, byte_at, byte_put, byte_cut, bytes_from}
 
@@ -192,15 +193,11 @@ module _ (g : ℕ → ℕ) (n : ℕ) (past : (i : ℕ) → n ≤ i → g i ≡ 0
 
 -- ---- the map of chunks
 
-pub same_key : (q k : ℕ) → is_eq (nat_cmp q k) ≡ true → q ≡ k
-same_key q k h = grind (arith, nat_tests)
-
 pub other_key : (q k : ℕ) → q ≢ k → is_eq (nat_cmp k q) ≡ false
 other_key q k h = grind (arith, nat_tests)
 
--- whether a key is at most another
-pub kept_key : (last q k : ℕ) → is_eq (nat_cmp q k) ≡ true → leb k last ≡ leb q last
-kept_key last q k h = ap (λ x. leb x last) (sym (same_key q k h))
+at_most : (k q : ℕ) → is_lt (nat_cmp k q) ≡ false → q ≤ k
+at_most k q h = grind (arith, nat_tests)
 
 module _ (m n : Chunks) where
   abbrev before : ℕ → List ℕ
@@ -224,6 +221,46 @@ module _ (m n : Chunks) where
       → (i : ℕ) → byte_at n i ≡ byte_cut m size i
   cut_in_map size below cut past i = cut_byte before after size (λ q l. ap chunk_bytes (below q l)) cut
       (λ q l. ap chunk_bytes (past q l)) i
+
+  -- the last chunk went, if there was one: where one past `last` was there, those up to `last` are as they were
+  pub pop_keeps : (o : Option (ℕ × Vec ℕ Global)) (k last : ℕ) → last < k → IsSome (tree.get nat_cmp m k)
+      → IfSome o (λ p. tree.IsUpperBound nat_cmp m p.0) → IfSome o (λ p. tree.Updates nat_cmp m n p.0 None)
+      → IfNone o (tree.IsUnchanged m n) → (q : ℕ) → q ≤ last → tree.get nat_cmp n q ≡ tree.get nat_cmp m q
+  pop_keeps None k last past there greatest updates same q low = ap (lookup (tree.is_at (nat_cmp q))) same
+  pop_keeps (Some p) k last past there greatest updates same q low =
+      let b = at_most p.0 k (greatest k there) in
+      updates.2 q (other_key q p.0 (omega (arith, b, past, low)))
+
+  -- the chunks up to the last as they were, and none past it
+  pub kept_up_to : (last : ℕ) → ((q : ℕ) → q ≤ last → tree.get nat_cmp n q ≡ tree.get nat_cmp m q)
+      → ((q : ℕ) → last < q → tree.get nat_cmp n q ≡ None) → (q : ℕ)
+      → tree.get nat_cmp n q ≡ cond (leb q last) (tree.get nat_cmp m q) None
+  kept_up_to last low high q = go (cases_lt last q)
+    where
+      go : (last < q) ⊎ (q ≤ last) → tree.get nat_cmp n q ≡ cond (leb q last) (tree.get nat_cmp m q) None
+      go (inl past) =
+          let test : leb q last ≡ false = grind (arith, nat_tests) in
+          high q past ∙ sym (ap (λ t. cond t (tree.get nat_cmp m q) None) test)
+      go (inr kept) =
+          let test : leb q last ≡ true = grind (arith, nat_tests) in
+          low q kept ∙ sym (ap (λ t. cond t (tree.get nat_cmp m q) None) test)
+
+-- no chunk is past the greatest
+pub none_past : (m : Chunks) (k last : ℕ) → k ≤ last → tree.IsUpperBound nat_cmp m k → (q : ℕ) → last < q
+    → tree.get nat_cmp m q ≡ None
+none_past m k last low greatest q past = go (tree.get nat_cmp m q) refl
+  where
+    go : (o : Option (Vec ℕ Global)) → tree.get nat_cmp m q ≡ o → tree.get nat_cmp m q ≡ None
+    go None is = is
+    go (Some v) is = absurd (let b = at_most k q (greatest q (ap is_some is)) in omega (arith, b, low, past))
+
+-- nor is one where there are none
+pub none_in_empty : (m : Chunks) → tree.btree_map_len m ≡ 0 → (q : ℕ) → tree.get nat_cmp m q ≡ None
+none_in_empty m empty q = go m.entries empty
+  where
+    go : (es : List (ℕ × Vec ℕ Global)) → length es ≡ 0 → lookup (tree.is_at (nat_cmp q)) es ≡ None
+    go [] z = refl
+    go (e ∷ es) z = absurd (omega (arith, z))
 
 pub is_below : (k n : ℕ) → k < n → ltb k n ≡ true
 is_below k n l = grind (arith, nat_tests)

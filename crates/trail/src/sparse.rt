@@ -225,9 +225,15 @@ fn forget(chunks: &mut Chunks, size: u64)
     }
 }
 
-// Forgets the chunks past one.
+// Forgets the chunks past one. It takes them from the end, so that it looks at one alone of those which stay: else a
+// replay with many truncations would take quadratic time.
 fn forget_chunks(chunks: &mut Chunks, last: u64)
     ensures { (q : ℕ) → get nat_cmp chunks.new q ≡ (if nat_le q last then get nat_cmp chunks.old q else None) }
 {
-    chunks.retain(|index, _| *index <= last);
+    'chunks: while let Some((index, _)) = chunks.last_key_value() {
+        if *index <= last {
+            break;
+        }
+        chunks.pop_last();
+    }
 }

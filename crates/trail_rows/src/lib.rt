@@ -4,6 +4,8 @@
 #[cfg(test)]
 mod checks;
 #[cfg(test)]
+mod cut_tests;
+#[cfg(test)]
 mod room_tests;
 #[cfg(test)]
 mod tests;

@@ -133,7 +133,7 @@ fn other_trails_do_not(rt: HostRuntime) -> Result<(), Fail> {
     Ok(())
 }
 
-fn wrote(alloc: Global, trail: &mut FullTrail, offset: u64, bytes: &[u8]) {
+pub fn wrote(alloc: Global, trail: &mut FullTrail, offset: u64, bytes: &[u8]) {
     let len = bytes.len() as u64;
     let reply = Reply::Wrote(len, offset.saturating_add(len));
     put(
@@ -144,16 +144,16 @@ fn wrote(alloc: Global, trail: &mut FullTrail, offset: u64, bytes: &[u8]) {
     );
 }
 
-fn read(alloc: Global, trail: &mut FullTrail, offset: u64, count: u64, bytes: &[u8]) {
+pub fn read(alloc: Global, trail: &mut FullTrail, offset: u64, count: u64, bytes: &[u8]) {
     let reply = Reply::Bytes(none(alloc));
     put(trail, Event::Read(HANDLE, offset, count), reply, bytes);
 }
 
-fn truncated(trail: &mut FullTrail, size: u64) {
+pub fn truncated(trail: &mut FullTrail, size: u64) {
     put(trail, Event::Truncate(HANDLE, size), Reply::Done, &[]);
 }
 
-fn opened(trail: &mut FullTrail) {
+pub fn opened(trail: &mut FullTrail) {
     trail.begin(7);
     put(trail, Event::Create, Reply::File(FileId(0)), &[]);
     put(trail, Event::Open(FileId(0)), Reply::Handle(HANDLE), &[]);
