@@ -1,6 +1,6 @@
 -- Which room a call wants: frames for the pages that it lacks, and room for those that it makes dirty. No event asks
 -- for it.
-use Rattle.std.specs.Prelude.{◌≡◌, ◌<◌, ℕ, ◌+◌, Bool, true, not, ◌&&◌, None, is_some, nat_lt, nat_le, count_by}
+use Rattle.std.specs.Prelude.{◌≡◌, ◌<◌, ℕ, ◌+◌, ◌-◌, Bool, true, not, ◌&&◌, if◌then◌else◌, None, is_some, nat_lt, nat_le, count_by}
 use Rattle.pc_types.specs.declared.limits.TheConstants.{MAX_FILE_SIZE, MAX_TOUCHED}
 use Rattle.machine.specs.Changes.{flush_pick}
 use Rattle.machine.specs.State.{State, dirty_total, file_at, handle_file, free_frames, is_cached, is_open, tags_at}
@@ -22,6 +22,10 @@ dirtied s f o n = count_by (λ p. not (tags_at s f p).dirty) (touched s.sizes.pa
 -- whether fewer frames are free than such pages are absent
 abbrev pub lacks_frames : State → ℕ → ℕ → ℕ → Bool
 lacks_frames s h o n = may_touch s h o n && nat_lt (free_frames s) (lacking s (handle_file s h) o n)
+
+-- how many frames fewer are free than such pages are absent
+abbrev pub frames_short : State → ℕ → ℕ → ℕ → ℕ
+frames_short s h o n = if may_touch s h o n then lacking s (handle_file s h) o n - free_frames s else 0
 
 -- whether too many pages would be dirty with them
 abbrev pub passes_limit : State → ℕ → ℕ → ℕ → Bool

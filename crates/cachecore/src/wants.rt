@@ -3,7 +3,7 @@
 ghost use Rattle.std.specs.Prelude.{◌≡◌, ◌+◌, ◌-◌, ◌/◌, ◌<◌, ◌≤◌, IfNone, IfSome, length, true, false};
 ghost use Rattle.pc_types.specs.declared.limits.TheConstants.{MAX_FILE_SIZE, MAX_TOUCHED};
 ghost use Rattle.machine.specs.State.{free_frames, handle_file};
-ghost use Rattle.cachecore.specs.Wants.{IsFirstToWrite, NothingToWrite, lacks_frames, may_touch, passes_limit};
+ghost use Rattle.cachecore.specs.Wants.{IsFirstToWrite, NothingToWrite, frames_short, lacks_frames, may_touch, passes_limit};
 
 use crate::cache::{CacheCore, is_too_long};
 use pc_types::limits::MAX_FILE_SIZE;
@@ -26,6 +26,22 @@ impl CacheCore {
             return false;
         };
         self.pages.lacks_frames(file, first, end)
+    }
+
+    /// How many frames fewer are free than pages are absent which these bytes of the handle's file touch: 0 where as many are free,
+    /// and where no call may touch them. It looks each page up twice at most.
+    pub fn frames_short(&self, handle: HandleId, offset: u64, count: u64) -> u64
+        ensures { result ≡ frames_short self.now.state handle.0 offset count }
+    {
+        let Some(Touched { file, first, end }) = self.touched(handle, offset, count) else {
+            return 0;
+        };
+        // Most often enough are free, which this tells without a look at each page.
+        if !self.pages.lacks_frames(file, first, end) {
+            return 0;
+        }
+        let absent = self.pages.absent_pages(file, first, end) as u64;
+        absent.saturating_sub(self.pages.free_frames())
     }
 
     /// How many frames are free.

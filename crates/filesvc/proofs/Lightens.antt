@@ -18,7 +18,7 @@ use Rattle.machine.specs.declared.event.Outcome.TheVariants as outcome
 use Rattle.machine.specs.declared.event.Reply.TheVariants as reply
 use Rattle.machine.specs.Changes as changes
 use Rattle.machine.specs.Changes.{after_write, change_page, ended, flushed, put_pages, started, under_write}
-use Rattle.machine.specs.State.{State, File, Page, Request, dirty_in, dirty_total, file_at, is_idle, no_file, page_at}
+use Rattle.machine.specs.State.{State, File, Page, Request, cached_total, dirty_in, dirty_total, file_at, is_idle, no_file, page_at}
 use Rattle.machine.specs.Step.{EndReply, Step}
 use Rattle.machine.proofs.sound.Lookups.{change_page_tells, removed_tells}
 use Rattle.machine.proofs.steps.Cases.{Happened, happened}
@@ -40,14 +40,16 @@ use Rattle.filesvc.specs.Rooms.{StaysAbsent, load}
 abbrev is_dirty : Page → Bool
 is_dirty x = x.tags.dirty
 
--- less is cached and DIRTY, or no more
+-- less is cached and DIRTY, or no more; one page at most is cached no longer, or none
 pub record Lighter (s new : State) : Type 0 where
   pub less : load new < load s
   pub absent : StaysAbsent s new
+  pub cached : cached_total s ≤ cached_total new + 1
 
 pub record NoHeavier (s new : State) : Type 0 where
   pub most : load new ≤ load s
   pub absent : StaysAbsent s new
+  pub cached : cached_total s ≤ cached_total new
 
 -- ---- one file changes
 
@@ -93,6 +95,7 @@ evict_less s new f p step =
     (record {
       less = load_less s gone f.0 (record (file_at s f.0) { pages = map.remove m p.0 }) (cached_within s f.0 p.0 (ap is_some page.1)) refl (omega arith);
       absent = removed_absent s f.0 p.0;
+      cached = (let a = cached_set s gone f.0 (record (file_at s f.0) { pages = map.remove m p.0 }) (cached_within s f.0 p.0 (ap is_some page.1)) refl in omega arith);
     })
 
 -- ---- a flush
@@ -137,6 +140,7 @@ begin_less s new f t step =
     (record {
       less = load_less s (started s f.0 p) f.0 (record (file_at s f.0) { pages = change_at p under_write m }) w.2.exists refl (omega arith);
       absent = changed_absent s f.0 p under_write;
+      cached = (let a = cached_set s (started s f.0 p) f.0 (record (file_at s f.0) { pages = change_at p under_write m }) w.2.exists refl in omega arith);
     })
 
 written_outcome : (x : Request) (o : Outcome) → EndReply (Some x) o reply.Written → o ≡ outcome.Written
@@ -161,6 +165,10 @@ end_most s new kind end step = subst (NoHeavier s) (sym is) (record {
         omega arith)
   ];
   absent = changed_absent s x.file x.page (after_write false);
+  cached = elim (within x.file (length s.files)) [
+    | inl here ↦ (let a = cached_set s now x.file file here refl in let b = l in omega arith)
+    | inr past ↦ (let a = ap (sum_by (λ (file : File). map.len file.pages)) (set_past s.files x.file file past) in omega arith)
+  ];
 })
   where
     h : Happened s (event.End kind end) reply.Written new

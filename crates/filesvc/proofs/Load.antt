@@ -1,5 +1,5 @@
 -- Making room ends: an eviction takes a cached page away, and a page that was written back is DIRTY no more.
-use Rattle.std.proofs.Common.{◌≡◌, ℕ, ◌<◌, refl, ap, ◌∙◌, arith, inl, inr}
+use Rattle.std.proofs.Common.{◌≡◌, ℕ, ◌+◌, ◌<◌, ◌≤◌, refl, ap, ◌∙◌, arith, inl, inr}
 use Rattle.std.specs.Prelude.{Option, Some, None}
 use Rattle.std.specs.FinMap as map
 use Rattle.errboard.specs.Shown.{RecorderSeen}
@@ -9,7 +9,8 @@ use Rattle.pc_types.specs.declared.refusal.Refusal.TheVariants.{DirtyLimit, NoFr
 use Rattle.machine.specs.declared.event.Event.TheVariants as event
 use Rattle.machine.specs.declared.event.Outcome.{Outcome}
 use Rattle.machine.specs.declared.event.Reply.TheVariants as reply
-use Rattle.machine.specs.State.{State, Request, is_cached}
+use Rattle.pc_types.specs.Limits.{Sizes}
+use Rattle.machine.specs.State.{State, Request, cached_total, free_frames, is_cached}
 use Rattle.machine.specs.Step.{Step}
 use Rattle.machine.proofs.steps.Cases.{happened}
 use Rattle.runs.specs.World.{Ends, Finish, WorldStep}
@@ -18,6 +19,7 @@ use Rattle.world.specs.Stepping.{WorldSeen, world_of}
 use Rattle.filesvc.specs.Rooms.{MakesRoom, StaysAbsent, WritesBack, load}
 use Rattle.filesvc.specs.Seen.{SoloSeen}
 use Rattle.filesvc.proofs.Lightens.{Lighter, NoHeavier, begin_less, end_most, evict_less}
+use Rattle.filesvc.proofs.Needs.{none_filling}
 use Rattle.filesvc.proofs.WorldLaws.{Carried, Once, Quiet, Whole, flush_begins, once}
 
 -- the end of a flush that went well
@@ -38,6 +40,7 @@ carried_less old new errors after f c =
     record {
       less = (let a = first.less in let z = last.most in omega arith);
       absent = λ g q none. last.absent g q (ap (λ x. is_cached x g q) core ∙ first.absent g q none);
+      cached = (let a = first.cached in let b = ap cached_total core in let c = last.cached in omega arith);
     }
 
 never_written : (s new : State) (f : FileId) → Step s (event.FlushBegin f) reply.Written new → ⊥
@@ -58,6 +61,14 @@ made_lighter s new r e = absurd e
 
 pub room_less : (s new : SoloSeen) (r : Refusal) → MakesRoom s r new → load new.world.core < load s.world.core
 room_less s new r e = (made_lighter s new r e).less
+
+-- one frame at most becomes free, where no request is in flight
+pub room_frees : (s new : SoloSeen) (r : Refusal) → s.world.core.requests ≡ map.empty → new.world.core.sizes ≡ s.world.core.sizes → MakesRoom s r new
+    → free_frames new.world.core ≤ free_frames s.world.core + 1
+room_frees s new r rests sizes e =
+    let a = (made_lighter s new r e).cached in
+    let b = none_filling s.world.core rests in
+    let c : new.world.core.sizes.frames ≡ s.world.core.sizes.frames = ap (λ (z : Sizes). z.frames) sizes in omega arith
 
 pub room_absent : (s new : SoloSeen) (r : Refusal) → MakesRoom s r new → StaysAbsent s.world.core new.world.core
 room_absent s new r e = (made_lighter s new r e).absent

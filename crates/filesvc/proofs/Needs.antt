@@ -10,7 +10,7 @@ use Rattle.pc_types.specs.declared.refusal.Refusal.TheVariants.{DirtyLimit, NoFr
 use Rattle.machine.specs.Changes.{put_page}
 use Rattle.machine.specs.State.{State, Page, dirty_total, file_at, handle_file, filling_total, free_frames, is_cached, tags_at, no_file, page_at, page_count, tags_of, touched, touched_count}
 use Rattle.filesvc.specs.Rooms.{first_page, last_page, IsClean, IsMissed, StaysAbsent, Suffices, need}
-use Rattle.cachecore.specs.Wants.{dirtied, lacking, lacks_frames, may_touch, passes_limit}
+use Rattle.cachecore.specs.Wants.{dirtied, frames_short, lacking, lacks_frames, may_touch, passes_limit}
 use Rattle.cachecore.proofs.TouchCounts.{count_below}
 use Rattle.maps.proofs.Count.{count_of}
 use Rattle.runs.proofs.moments.FrameCounts.{cached_set, filling_is, is_live_fill}
@@ -39,7 +39,7 @@ not_true_of true b h e = absurd cc
 not_true_of false true h e = absurd (let x = h refl in cc)
 not_true_of false false h e = refl
 
-none_filling : (s : State) → s.requests ≡ finmap.empty → filling_total s ≡ 0
+pub none_filling : (s : State) → s.requests ≡ finmap.empty → filling_total s ≡ 0
 none_filling s e = let b = filling_is s in let c = ap (count_of is_live_fill) e in let d = count_empty is_live_fill in omega arith
 
 module _ (s new : State) (f p : ℕ) (here : f < length s.files) (absent : is_cached s f p ≡ false) (w : Fills s new f p) where
@@ -127,6 +127,48 @@ still_none w true F L d D m G K e E h a b c k = by (nat_lt F L) refl h
             left : (x : Bool) → (if x then Some DirtyLimit else None) ≡ None → x ≡ false
             left true e = absurd cc
             left false e = refl
+
+-- ---- how many frames are short
+
+-- so many fewer are free than pages are lacking
+abbrev short_of : Bool → ℕ → ℕ → ℕ
+short_of may L F = if may then L - F else 0
+
+short_lacks : (s : State) (h o n : ℕ) → lacks_frames s h o n ≡ nat_lt 0 (frames_short s h o n)
+short_lacks s h o n = by (may_touch s h o n) (free_frames s) (lacking s (handle_file s h) o n)
+  where
+    by : (may : Bool) (F L : ℕ) → (may && nat_lt F L) ≡ nat_lt 0 (short_of may L F)
+    by false F L = refl
+    by true F L = grind (arith, nat_tests)
+
+-- so a call lacks frames exactly if some are short
+pub short_some : (s : State) (h o n k : ℕ) → k ≡ frames_short s h o n → 0 < k → lacks_frames s h o n ≡ true
+short_some s h o n k is some = short_lacks s h o n ∙ ap (nat_lt 0) (sym is) ∙ grind (arith, nat_tests)
+
+pub short_none : (s : State) (h o n k : ℕ) → k ≡ frames_short s h o n → k ≤ 0 → lacks_frames s h o n ≡ false
+short_none s h o n k is none = short_lacks s h o n ∙ ap (nat_lt 0) (sym is) ∙ grind (arith, nat_tests)
+
+-- where a frame more is free at most, and no page has become cached, one less is short at most
+pub short_after : (s t : SoloSeen) (h o n : ℕ) → Serves s t → StaysAbsent s.world.core t.world.core → free_frames t.world.core ≤ free_frames s.world.core + 1
+    → frames_short s.world.core h o n ≤ frames_short t.world.core h o n + 1
+short_after s t h o n k absent free =
+    let old = s.world.core in
+    let new = t.world.core in
+    let file : handle_file new h ≡ handle_file old h = ap (λ (x : finmap.FinMap _ ℕ). unwrap_or (finmap.get x h) 0) k.keeps.handles in
+    let may : may_touch new h o n ≡ may_touch old h o n = λ i. is_some (finmap.get (k.keeps.handles i) h) && nat_lt 0 n && nat_le (touched_count (k.keeps.sizes i).page o n) MAX_TOUCHED && nat_le (o + n) MAX_FILE_SIZE in
+    let more : lacking old (handle_file old h) o n ≤ lacking new (handle_file old h) o n =
+    subst (λ (z : Sizes). lacking old (handle_file old h) o n ≤ count_by (λ q. not (is_cached new (handle_file old h) q)) (touched z.page o n)) (sym k.keeps.sizes)
+    (count_le (λ q. not (is_cached old (handle_file old h) q)) (λ q. not (is_cached new (handle_file old h) q)) (λ q e. ap not (absent (handle_file old h) q (not_false (is_cached old (handle_file old h) q) e))) (touched old.sizes.page o n)) in
+    let same : frames_short new h o n ≡ short_of (may_touch old h o n) (lacking new (handle_file old h) o n) (free_frames new) = λ i. short_of (may i) (lacking new (file i) o n) (free_frames new) in
+    let less = by (may_touch old h o n) (free_frames old) (free_frames new) (lacking old (handle_file old h) o n) (lacking new (handle_file old h) o n) more free in omega arith
+  where
+    not_false : (b : Bool) → not b ≡ true → b ≡ false
+    not_false true e = absurd cc
+    not_false false e = refl
+
+    by : (may : Bool) (F G L M : ℕ) → L ≤ M → G ≤ F + 1 → short_of may L F ≤ short_of may M G + 1
+    by false F G L M a b = omega arith
+    by true F G L M a b = omega arith
 
 -- ---- which room that is
 

@@ -179,6 +179,11 @@ module _ (old mid new : SoloSeen) (serves : Serves old mid) (d : Bool) (h o n : 
   way_refused want r way (inl x) k frames clean = absurd (let e : r ≡ NoFrame = k ∙ x.0 in cc)
   way_refused want r way (inr x) k frames clean = absurd (let e : r ≡ DirtyLimit = k ∙ x.0 in cc)
 
+pub way_refusal_before : (old mid new : SoloSeen) (want : Option Refusal) (r : Refusal) → Serves old mid → IsWayRefusal mid want r new → IsWayRefusal old want r new
+way_refusal_before old mid new want NoFrame k x = (faulted_before old mid new k x.0, x.1)
+way_refusal_before old mid new want DirtyLimit k x = (faulted_before old mid new k x.0, x.1)
+way_refusal_before old mid new want r k x = absurd x
+
 fails_before : (old mid new : WorldSeen) (h : ℕ) (p : PageIndex) (code : ℕ) → Moves (is_help h (Some p)) old mid → FailsFill mid h p code new → FailsFill old h p code new
 fails_before old mid new h p code m (last, n, t, fill) = (last, moves_trans (is_help h (Some p)) old mid last m n, t, fill)
 
@@ -364,6 +369,13 @@ at_once_flush name s w errors table f r a i = once_flush name s w errors table f
 none_evicted : (s new : State) (r : Option (FileId × PageIndex)) → is_some r ≡ false → Step s event.Evict (evicted r) new → (tests s event.Evict ≡ Some reply.NoneIdle) × (new ≡ s)
 none_evicted s new None e a = elim (answered (tests s event.Evict) s event.Evict reply.NoneIdle new a) [ inl x ↦ x | inr x ↦ absurd x.1 ]
 none_evicted s new (Some x) e a = absurd cc
+
+-- after an age and an eviction that found one there is room for a frame
+pub evicted_for_frame : (s : SoloSeen) (aged new : WorldSeen) (n : ℕ) (r : Option (FileId × PageIndex)) → Made s.world event.Age (reply.Aged n) aged → Made aged event.Evict (evicted r) new → is_some r ≡ true → MakesRoom s NoFrame (record s { world = new })
+evicted_for_frame s aged new n (Some x) a e some =
+    let same = held_same s.world aged event.Age (reply.Aged n) a refl a.0.1.0.1 in
+    inl (x.0, x.1, subst (λ (w : WorldSeen). Step w.core event.Evict (reply.Evicted x.0 x.1) new.core) same e.0.1.0)
+evicted_for_frame s aged new n None a e some = absurd cc
 
 -- after an age and an eviction that found none a flush makes room for a frame
 pub flushed_for_frame : (s new : SoloSeen) (aged mid : WorldSeen) (n : ℕ) (r : Option (FileId × PageIndex)) → Made s.world event.Age (reply.Aged n) aged → Made aged event.Evict (evicted r) mid → is_some r ≡ false → FlushesOne (record s { world = mid }) true new → MakesRoom s NoFrame new

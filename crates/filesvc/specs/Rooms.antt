@@ -1,5 +1,5 @@
 -- Inside this crate: how room is made: an idle page is evicted, or a page written back.
-use Rattle.std.specs.Prelude.{◌≡◌, ℕ, ◌+◌, ◌-◌, ◌/◌, ◌<◌, ◌≤◌, ◌⊎◌, Bool, true, false, if◌then◌else◌, length, Option, Some, is_some}
+use Rattle.std.specs.Prelude.{◌≡◌, ℕ, zero, suc, ◌+◌, ◌-◌, ◌/◌, ◌<◌, ◌≤◌, ◌⊎◌, Bool, true, false, if◌then◌else◌, length, Option, Some, None, is_some}
 use Rattle.pc_types.specs.declared.ids.FileId.{FileId}
 use Rattle.pc_types.specs.declared.ids.HandleId.{HandleId}
 use Rattle.pc_types.specs.declared.ids.PageIndex.{PageIndex}
@@ -12,8 +12,10 @@ use Rattle.machine.specs.declared.event.Reply.TheVariants as reply
 use Rattle.machine.specs.State.{State, cached_total, dirty_total, file_at, handle_file, free_frames, is_cached, is_open, page_count, touched_count}
 use Rattle.machine.specs.Step.{Step}
 use Rattle.machine.specs.Tests.{tests}
-use Rattle.cachecore.specs.Wants.{lacking, lacks_frames, may_touch, passes_limit}
+use Rattle.cachecore.specs.Wants.{frames_short, lacking, lacks_frames, may_touch, passes_limit}
 use Rattle.world.specs.declared.step.Step.TheVariants as step
+use Rattle.filesvc.specs.declared.room.Want.{Want}
+use Rattle.filesvc.specs.declared.room.Want.TheVariants.{Clean, Frames}
 use Rattle.filesvc.specs.Made.{FailsFill, WantsMemory, asked}
 use Rattle.filesvc.specs.Rests.{AtOnce}
 use Rattle.filesvc.specs.Seen.{SoloSeen}
@@ -84,6 +86,23 @@ MakesRoom old DirtyLimit new = FlushesOne old true new
 MakesRoom old r new = ⊥
 
 -- ---- what a call wants
+
+-- the refusal that a call would get which wants this room
+abbrev pub refusal_of : Option Want → Option Refusal
+refusal_of (Some (Frames short)) = Some NoFrame
+refusal_of (Some Clean) = Some DirtyLimit
+refusal_of None = None
+
+-- so many frames are told as a call is short of
+abbrev pub IsShort : State → ℕ → ℕ → ℕ → Want → Type 0
+IsShort s h o n (Frames short) = short ≡ frames_short s h o n
+IsShort s h o n Clean = Unit {0}
+
+-- room for a frame was made so many times, each time for a call that lacked frames
+unfoldable pub MakesRooms : ℕ → ℕ → ℕ → ℕ → SoloSeen → SoloSeen → Type 0
+MakesRooms h o n zero old new = new ≡ old
+MakesRooms h o n (suc times) old new =
+    (mid : SoloSeen) × MakesRooms h o n times old mid × (lacks_frames mid.world.core h o n ≡ true) × MakesRoom mid NoFrame new
 
 -- the first and the last page that n bytes at o touch
 abbrev pub first_page : ℕ → ℕ → ℕ

@@ -1,10 +1,12 @@
 //! What a call does on the way: it fills pages that it missed, and makes room.
 
-ghost use Rattle.std.specs.Prelude.{◌≡◌, ℕ, ◌⊎◌, ◌<◌, Option, Some, None, IfErr, IfOk, IsOkUnless, OnOk};
+ghost use Rattle.std.specs.Prelude.{◌≡◌, ℕ, ◌⊎◌, ◌+◌, ◌<◌, ◌≤◌, Option, Some, None, IfErr, IfOk, IfSome, IsOkUnless, OnOk};
 ghost use Rattle.pc_types.specs.declared.ids.PageIndex.{PageIndex};
 ghost use Rattle.pc_types.specs.declared.refusal.Refusal.TheVariants.{DirtyLimit, NoFrame};
+ghost use Rattle.machine.specs.State.{free_frames};
+ghost use Rattle.cachecore.specs.Wants.{frames_short};
 ghost use Rattle.filesvc.specs.Attempts.{Helps};
-ghost use Rattle.filesvc.specs.Rooms.{FailsFlush, FlushesOne, IsClean, IsFillRefusal, IsFlush, IsMissed, IsWayRefusal, MakesRoom, StaysAbsent, Suffices, need};
+ghost use Rattle.filesvc.specs.Rooms.{FailsFlush, FlushesOne, IsClean, IsFillRefusal, IsFlush, IsMissed, IsShort, IsWayRefusal, MakesRoom, MakesRooms, StaysAbsent, Suffices, load, need, refusal_of};
 ghost use Rattle.filesvc.specs.Service.{wants};
 
 use crate::requests::{fill_page, flush_page};
@@ -22,6 +24,15 @@ pub(crate) struct Span {
     pub(crate) count: u64,
     // whether the call makes these pages dirty
     pub(crate) dirties: bool,
+}
+
+/// Which room a call wants.
+#[derive(Clone, Copy)]
+enum Want {
+    /// So many more free frames.
+    Frames(u64),
+    /// Fewer dirty pages.
+    Clean,
 }
 
 impl<D: BlockDevice> Solo<D> {
@@ -65,29 +76,52 @@ impl<D: BlockDevice> Solo<D> {
         ensures refused { IfErr result (λ r. IsWayRefusal self.old (wants span.dirties self.new.world.core span.handle.0 span.offset span.count) r self.new) }
     {
         'turns: while let Some(want) = self.wants(span) {
-            self.make_room(want)?;
+            match want {
+                Want::Frames(short) => self.free_frames(span, short)?,
+                Want::Clean => self.make_room(Refusal::DirtyLimit)?,
+            }
         }
         Ok(())
     }
 
     /// Which room a call wants: frames, or fewer dirty pages.
-    fn wants(&self, span: Span) -> Option<Refusal>
-        ensures { result ≡ wants span.dirties self.now.world.core span.handle.0 span.offset span.count }
+    fn wants(&self, span: Span) -> Option<Want>
+        ensures wanted { refusal_of result ≡ wants span.dirties self.now.world.core span.handle.0 span.offset span.count }
+        ensures short { IfSome result (IsShort self.now.world.core span.handle.0 span.offset span.count) }
     {
-        if self
+        let short = self
             .world
-            .lacks_frames(span.handle, span.offset, span.count)
-        {
-            return Some(Refusal::NoFrame);
+            .frames_short(span.handle, span.offset, span.count);
+        if short > 0 {
+            return Some(Want::Frames(short));
         }
         if span.dirties
             && self
                 .world
                 .passes_limit(span.handle, span.offset, span.count)
         {
-            return Some(Refusal::DirtyLimit);
+            return Some(Want::Clean);
         }
         None
+    }
+
+    /// Makes room for as many frames as a call is short of.
+    ///
+    /// Each time one frame at most becomes free, and no page becomes cached. So the call is short of frames till the last time, and its
+    /// pages are not looked up between.
+    fn free_frames(&mut self, span: Span, short: u64) -> Result<(), Refusal>
+        requires { short ≡ frames_short self.old.world.core span.handle.0 span.offset span.count }
+        ensures helps { (page : Option PageIndex) → Helps span.handle.0 page self.old self.new }
+        ensures attempts { self.new.attempts ≡ self.old.attempts }
+        ensures rooms { OnOk result (MakesRooms span.handle.0 span.offset span.count short self.old self.new) }
+        ensures less { OnOk result (load self.new.world.core + short ≤ load self.old.world.core) }
+        ensures absent { OnOk result (StaysAbsent self.old.world.core self.new.world.core) }
+        ensures refused { IfErr result (λ r. IsWayRefusal self.old (wants span.dirties self.new.world.core span.handle.0 span.offset span.count) r self.new) }
+    {
+        'frames: for _ in 0..short {
+            self.make_room(Refusal::NoFrame)?;
+        }
+        Ok(())
     }
 
     /// Makes room where a page was refused a frame or would be one dirty page too many. Where that can't be done, and for any
@@ -96,6 +130,7 @@ impl<D: BlockDevice> Solo<D> {
         ensures helps { (k : ℕ) (page : Option PageIndex) → Helps k page self.old self.new }
         ensures attempts { self.new.attempts ≡ self.old.attempts }
         ensures made { OnOk result (MakesRoom self.old refusal self.new) }
+        ensures few { OnOk result (free_frames self.new.world.core ≤ free_frames self.old.world.core + 1) }
         ensures refused { IsOkUnless result refusal }
         ensures frames { refusal ≡ NoFrame → IfErr result (λ r. r ≡ NoFrame → FailsFlush self.old self.new ⊎ Suffices self.old) }
         ensures clean { refusal ≡ DirtyLimit → IfErr result (λ r. r ≡ DirtyLimit → FailsFlush self.old self.new ⊎ IsClean self.old) }

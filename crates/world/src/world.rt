@@ -8,7 +8,7 @@ ghost use Rattle.std.specs.Prelude.{◌≡◌, ◌<◌, IfErr, IfOk, IfSome, IsO
 ghost use Rattle.pc_types.specs.declared.refusal.Refusal.TheVariants.{BadConfig, Memory};
 ghost use Rattle.cachecore.specs.Flushing.{flush_of};
 ghost use Rattle.cachecore.specs.Replies.{TagsAre, answered};
-ghost use Rattle.cachecore.specs.Wants.{lacks_frames, passes_limit};
+ghost use Rattle.cachecore.specs.Wants.{frames_short, lacks_frames, passes_limit};
 ghost use Rattle.world.specs.Answers.{fill_says, flush_says, sync_says};
 ghost use Rattle.world.specs.Flights.{IsSpare};
 ghost use Rattle.runs.specs.Runs.{IsFirst};
@@ -154,6 +154,13 @@ impl<D: BlockDevice> World<D> {
         ensures { result ≡ lacks_frames self.now.core handle.0 offset count }
     {
         self.core.lacks_frames(handle, offset, count)
+    }
+
+    /// How many frames fewer are free than pages are absent which these bytes touch. This is no event.
+    pub fn frames_short(&self, handle: HandleId, offset: u64, count: u64) -> u64
+        ensures { result ≡ frames_short self.now.core handle.0 offset count }
+    {
+        self.core.frames_short(handle, offset, count)
     }
 
     /// Whether too many pages would be dirty with those that these bytes touch. This is no event.

@@ -1,10 +1,12 @@
-use Rattle.std.proofs.Common.{◌≡◌, true, false, refl, sym, ◌∙◌}
+use Rattle.std.proofs.Common.{◌≡◌, true, false, None, refl, sym, subst, ◌∙◌}
+use Rattle.std.specs.FinMap as finmap
 use Rattle.pc_types.specs.declared.refusal.Refusal.TheVariants.{DirtyLimit, NoFrame}
 use Rattle.filesvc.proofs.Enough.{dirty_refused, full_refused}
 use Rattle.filesvc.specs.Rooms.{FlushesOne}
 use Rattle.filesvc.specs.Seen.{SoloSeen}
 use Rattle.filesvc.proofs.Laws.{helps_refl, helps_trans}
-use Rattle.filesvc.proofs.RoomLaws.{evicted_helps, evicted_service, flushed_for_frame, stuck_for_frame}
+use Rattle.filesvc.proofs.Load.{room_frees}
+use Rattle.filesvc.proofs.RoomLaws.{evicted_for_frame, evicted_helps, evicted_service, flushed_for_frame, stuck_for_frame}
 use Rattle.filesvc.proofs.WorldLaws.{service_sound}
 use Rattle.filesvc.proofs.solo.Solo.make_room.Goals as goal
 use Rattle.filesvc.proofs.solo.Solo.make_room.Goals.{in-NoFrame+else-is_some, in-DirtyLimit}
@@ -19,6 +21,7 @@ returns-in_default g c = record {
   helps = λ k page. helps_refl c.args.self.now;
   attempts = refl;
   made = tt;
+  few = tt;
   refused = refl;
   frames = λ e. absurd (c.in_default.not-NoFrame e);
   clean = λ e. absurd (c.in_default.not-DirtyLimit e);
@@ -41,6 +44,19 @@ returns-then-flush_one-clause-made g c =
       | in-NoFrame+else-is_some w ↦ rw (w.in-NoFrame.is, ← c.self.view_is) (flushed_for_frame s c.flush_one.new.self _ _ w.age.result w.evict.result w.age.ensures w.evict.ensures (sym w.is_some.ensures ∙ w.if-is_some.false) (rw w.self-is at f))
       | in-DirtyLimit w ↦ rw w.in-DirtyLimit.is (rw w.self-is at f)
     ]
+
+pub returns-then-is_some-clause-few : goal.returns-then-is_some-clause-few
+returns-then-is_some-clause-few g c =
+    let s : SoloSeen = record { world = c.self.inside.world; errors = c.self.inside.recorder; attempts = c.self.inside.attempts } in
+    rw (← c.self.view_is) (room_frees s (record s { world = c.evict.new.self }) NoFrame c.self.invariant.serving.rests.requests
+    (evicted_helps s _ _ c.age.result c.evict.result c.age.ensures c.evict.ensures {k = 0} {page = None} (service_sound _ _ _ _ c.self.invariant.serving)).serves.keeps.sizes
+    (evicted_for_frame s _ _ c.age.result c.evict.result c.age.ensures c.evict.ensures (sym c.is_some.ensures ∙ c.if-is_some.true)))
+
+pub returns-then-flush_one-clause-few : goal.returns-then-flush_one-clause-few
+returns-then-flush_one-clause-few g c =
+    room_frees c.args.self.now c.flush_one.new.self c.args.refusal
+    (subst (λ (s : SoloSeen). s.world.core.requests ≡ finmap.empty) c.self.view_is c.self.invariant.serving.rests.requests)
+    (returns-then-flush_one-clause-helps g c 0 None).serves.keeps.sizes (returns-then-flush_one-clause-made g c)
 
 pub returns-else-flush_one-clause-frames : goal.returns-else-flush_one-clause-frames
 returns-else-flush_one-clause-frames g c =

@@ -1,0 +1,16 @@
+use Rattle.std.proofs.Common.{◌≡◌, ◌+◌, ◌≤◌, Option}
+use Rattle.pc_types.specs.declared.ids.PageIndex.{PageIndex}
+use Rattle.cachecore.specs.Wants.{frames_short}
+use Rattle.filesvc.specs.Rooms.{MakesRooms, StaysAbsent, load}
+use Rattle.filesvc.specs.Attempts.{Helps}
+use Rattle.filesvc.proofs.solo.Solo.free_frames.Given as goal
+
+abbrev pub invariant-frames : goal.invariant-frames
+invariant-frames g l = record {
+  helps : (page : Option PageIndex) → Helps l.fn.span.handle.0 page l.fn.self l.self;
+  attempts : l.self.attempts ≡ l.fn.self.attempts;
+  rooms : MakesRooms l.fn.span.handle.0 l.fn.span.offset l.fn.span.count l.counter l.fn.self l.self;
+  less : load l.self.world.core + l.counter ≤ load l.fn.self.world.core;
+  absent : StaysAbsent l.fn.self.world.core l.self.world.core;
+  short : l.fn.short ≤ l.counter + frames_short l.self.world.core l.fn.span.handle.0 l.fn.span.offset l.fn.span.count;
+}
