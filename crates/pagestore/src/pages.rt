@@ -34,7 +34,7 @@ pub struct Pages {
     pub(crate) files: Vec<KeptFile>,
     // how many pages of all files are DIRTY
     pub(crate) dirty: u64,
-    // of the pages that were filled or read
+    // of the pages that were filled, read or written
     pub(crate) guesses: Guesses,
 }
 
