@@ -40,6 +40,10 @@ impl CacheCore {
         if !self.pages.lacks_frames(file, first, end) {
             return 0;
         }
+        // A call of one page, as most are, is short of one frame then.
+        if end - first == 1 {
+            return 1;
+        }
         let absent = self.pages.absent_pages(file, first, end) as u64;
         absent.saturating_sub(self.pages.free_frames())
     }
