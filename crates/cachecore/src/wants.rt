@@ -29,23 +29,14 @@ impl CacheCore {
     }
 
     /// How many frames fewer are free than pages are absent which these bytes of the handle's file touch: 0 where as many are free,
-    /// and where no call may touch them. It looks each page up twice at most.
+    /// and where no call may touch them. It looks each page up once at most.
     pub fn frames_short(&self, handle: HandleId, offset: u64, count: u64) -> u64
         ensures { result ≡ frames_short self.now.state handle.0 offset count }
     {
         let Some(Touched { file, first, end }) = self.touched(handle, offset, count) else {
             return 0;
         };
-        // Most often enough are free, which this tells without a look at each page.
-        if !self.pages.lacks_frames(file, first, end) {
-            return 0;
-        }
-        // A call of one page, as most are, is short of one frame then.
-        if end - first == 1 {
-            return 1;
-        }
-        let absent = self.pages.absent_pages(file, first, end) as u64;
-        absent.saturating_sub(self.pages.free_frames())
+        self.pages.frames_short(file, first, end)
     }
 
     /// How many frames are free.

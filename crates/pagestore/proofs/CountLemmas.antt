@@ -1,5 +1,5 @@
 -- A count of a range that ends early.
-use Rattle.std.proofs.Common.{◌≡◌, ◌∙◌, sym, ap, ℕ, ◌+◌, ◌-◌, ◌<◌, ◌≤◌, Bool, true, false, cond, arith}
+use Rattle.std.proofs.Common.{◌≡◌, ◌∙◌, sym, ap, ℕ, ◌+◌, ◌-◌, ◌<◌, ◌≤◌, ◌⊎◌, inl, inr, Bool, true, false, cond, arith}
 use Rattle.std.specs.Prelude.{count_by, nat_lt}
 use Rattle.std.specs.List.{range_with_len}
 use Rattle.std.proofs.lemmas.Bool.Decides.{nat_tests}
@@ -40,3 +40,14 @@ pub one_more : (passes : ℕ → Bool) (first page end room : ℕ) → page < en
 one_more passes first page end room in_end e counted =
     let here = counted_yes passes page end in_end e in
     sym (tells_yes room (passing passes first end) (omega (arith, here, counted)))
+
+-- the pages that are left fit where as many may pass, so those that do not fit are counted
+pub over_counted : (passes : ℕ → Bool) (first page end room over spare : ℕ) → end - page ≤ spare → (over ≡ 0) ⊎ (spare ≡ 0)
+    → room + over + passing passes page end ≡ spare + passing passes first end → over ≡ passing passes first end - room
+over_counted passes first page end room over spare few one counted =
+    let most = count_by-le-length passes (range_with_len page (end - page)) in
+    let len = length-range_with_len page (end - page) in
+    elim one [
+      | inl none ↦ omega (arith, most, len, few, counted, none)
+      | inr full ↦ omega (arith, most, len, few, counted, full)
+    ]

@@ -25,3 +25,27 @@ pub fn has_more<F: Fn(u64) -> bool>(first: u64, end: u64, room: u64, test: F) ->
     }
     false
 }
+
+/// How many more than `room` of the pages from `first` up to `end` pass the test. It tests each once at most, in their order, until as many
+/// may still pass as there are left.
+#[inline]
+pub(crate) fn count_over<F: Fn(u64) -> bool>(first: u64, end: u64, room: u64, test: F) -> u64
+    requires order { first ≤ end }
+    requires callable { (page : ℕ) → first ≤ page → page < end → F.pre test page }
+    ensures { (passes : ℕ → Bool) → Tells (λ page answer. F.post test page answer) first end passes → result ≡ count_by passes (range_with_len first (end - first)) - room }
+{
+    let mut spare = room;
+    let mut over = 0;
+    let mut page = first;
+    while spare < end - page {
+        if test(page) {
+            if spare == 0 {
+                over += 1;
+            } else {
+                spare -= 1;
+            }
+        }
+        page += 1;
+    }
+    over
+}

@@ -16,7 +16,7 @@ ghost use Rattle.pagestore.specs.Guessing.{IsFrameOf};
 ghost use Rattle.pagestore.specs.Ranges.{dirtied, with_part};
 ghost use Rattle.machine.specs.PageLists.{no_lists, is_listed, entered, left, accessed};
 
-use crate::counts::has_more;
+use crate::counts::{count_over, has_more};
 use crate::guesses::Guesses;
 use crate::kept::{KeptFile, is_uptodate};
 use frames::Frames;
@@ -163,6 +163,17 @@ impl Pages {
         ensures { result ≡ nat_lt self.now.free (count_by (λ p. not (is_some (stored_page self.now file p))) (range_with_len first (end - first))) }
     {
         has_more(first, end, self.free_frames(), |page| {
+            !self.is_cached(file, page)
+        })
+    }
+
+    /// How many frames fewer are free than pages from `first` up to `end` are not cached. It looks up no more pages than tell.
+    pub fn frames_short(&self, file: u64, first: u64, end: u64) -> u64
+        requires here { file < length self.now.files }
+        requires order { first ≤ end }
+        ensures { result ≡ count_by (λ p. not (is_some (stored_page self.now file p))) (range_with_len first (end - first)) - self.now.free }
+    {
+        count_over(first, end, self.free_frames(), |page| {
             !self.is_cached(file, page)
         })
     }
