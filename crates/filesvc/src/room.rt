@@ -77,7 +77,7 @@ impl<D: BlockDevice> Solo<D> {
     {
         'turns: while let Some(want) = self.wants(span) {
             match want {
-                Want::Frames(short) => self.free_frames(span, short)?,
+                Want::Frames(short) => self.make_rooms(span, short)?,
                 Want::Clean => self.make_room(Refusal::DirtyLimit)?,
             }
         }
@@ -109,7 +109,7 @@ impl<D: BlockDevice> Solo<D> {
     ///
     /// Each time one frame at most becomes free, and no page becomes cached. So the call is short of frames till the last time, and its
     /// pages are not looked up between.
-    fn free_frames(&mut self, span: Span, short: u64) -> Result<(), Refusal>
+    fn make_rooms(&mut self, span: Span, short: u64) -> Result<(), Refusal>
         requires { short ≡ frames_short self.old.world.core span.handle.0 span.offset span.count }
         ensures helps { (page : Option PageIndex) → Helps span.handle.0 page self.old self.new }
         ensures attempts { self.new.attempts ≡ self.old.attempts }

@@ -20,20 +20,20 @@ pub turns-preserved-in-Continue-1 : goal.turns-preserved-in-Continue-1
 turns-preserved-in-Continue-1 g c =
     let way : wants c.args.span.dirties c.turns.self.world.core c.args.span.handle.0 c.args.span.offset c.args.span.count ≡ Some NoFrame = sym c.in-Some.ensures.wanted ∙ ap (λ (w : Want). refusal_of (Some w)) c.in-Frames.is in
     record {
-      helps = λ page. helps_trans _ _ _ (c.turns.invariant.helps page) (c.free_frames.ensures.helps page);
-      attempts = c.free_frames.ensures.attempts ∙ c.turns.invariant.attempts;
-      absent = λ f p none. c.in_ok-free_frames-in-Frames.ensures.absent f p (c.turns.invariant.absent f p none);
+      helps = λ page. helps_trans _ _ _ (c.turns.invariant.helps page) (c.make_rooms.ensures.helps page);
+      attempts = c.make_rooms.ensures.attempts ∙ c.turns.invariant.attempts;
+      absent = λ f p none. c.in_ok-make_rooms-in-Frames.ensures.absent f p (c.turns.invariant.absent f p none);
       kept = λ none. absurd (let e : None ≡ Some NoFrame = sym (ap (λ (s : SoloSeen). wants c.args.span.dirties s.world.core c.args.span.handle.0 c.args.span.offset c.args.span.count) (c.turns.invariant.kept none) ∙ none) ∙ way in cc);
     }
 
-pub returns-in_err-free_frames-in-Frames-clause-helps : goal.returns-in_err-free_frames-in-Frames-clause-helps
-returns-in_err-free_frames-in-Frames-clause-helps g c = λ page. helps_trans _ _ _ (c.turns.invariant.helps page) (c.free_frames.ensures.helps page)
+pub returns-in_err-make_rooms-in-Frames-clause-helps : goal.returns-in_err-make_rooms-in-Frames-clause-helps
+returns-in_err-make_rooms-in-Frames-clause-helps g c = λ page. helps_trans _ _ _ (c.turns.invariant.helps page) (c.make_rooms.ensures.helps page)
 
-pub returns-in_err-free_frames-in-Frames-clause-refused : goal.returns-in_err-free_frames-in-Frames-clause-refused
-returns-in_err-free_frames-in-Frames-clause-refused g c =
+pub returns-in_err-make_rooms-in-Frames-clause-refused : goal.returns-in_err-make_rooms-in-Frames-clause-refused
+returns-in_err-make_rooms-in-Frames-clause-refused g c =
     let p = err_from_is_err_and c.from_residual.result c.from_residual.ensures.1 in
-    rw (p.1, p.2) (way_refusal_before c.args.self.now c.turns.self c.free_frames.new.self _ c.in_err-free_frames-in-Frames.field-0.0
-    (c.turns.invariant.helps None).serves c.in_err-free_frames-in-Frames.ensures.refused)
+    rw (p.1, p.2) (way_refusal_before c.args.self.now c.turns.self c.make_rooms.new.self _ c.in_err-make_rooms-in-Frames.field-0.0
+    (c.turns.invariant.helps None).serves c.in_err-make_rooms-in-Frames.ensures.refused)
 
 -- ---- too many pages would be dirty
 

@@ -9,7 +9,7 @@ use Rattle.filesvc.proofs.Laws.{helps_refl, helps_trans}
 use Rattle.filesvc.proofs.Load.{room_absent, room_less}
 use Rattle.filesvc.proofs.Needs.{short_after, short_some, wanted_room, wants_frames}
 use Rattle.filesvc.proofs.RoomLaws.{way_refused}
-use Rattle.filesvc.proofs.solo.Solo.free_frames.Goals as goal
+use Rattle.filesvc.proofs.solo.Solo.make_rooms.Goals as goal
 
 one_more : (h o n times : ℕ) (old mid new : SoloSeen) → MakesRooms h o n times old mid → lacks_frames mid.world.core h o n ≡ true → MakesRoom mid NoFrame new
     → MakesRooms h o n (times + 1) old new

@@ -3,7 +3,7 @@ use Rattle.pc_types.specs.declared.ids.PageIndex.{PageIndex}
 use Rattle.cachecore.specs.Wants.{frames_short}
 use Rattle.filesvc.specs.Rooms.{MakesRooms, StaysAbsent, load}
 use Rattle.filesvc.specs.Attempts.{Helps}
-use Rattle.filesvc.proofs.solo.Solo.free_frames.Given as goal
+use Rattle.filesvc.proofs.solo.Solo.make_rooms.Given as goal
 
 abbrev pub invariant-frames : goal.invariant-frames
 invariant-frames g l = record {
