@@ -15,7 +15,9 @@ use crate::thread_rows::{
     Entrance, FIRST_FILL, Turnstile, is_seen_by_all, reads_beside_a_fill, reads_page,
     shares_a_file, tries_again, writes_page,
 };
-use crate::worker_rows::{closes_with_a_full_ring, reads_beside_a_write, stops_with_a_full_ring};
+use crate::worker_rows::{
+    closes_with_a_full_ring, reads_beside_a_write, stops_with_a_full_ring, wakes_each_time,
+};
 use blockdev::{BlockDevice, FaultEffect, GatedDevice, ScriptDevice};
 use faulty::FaultyDevice;
 use filesvc::Seek;
@@ -54,6 +56,7 @@ enum Row {
     TellsOfAFault,
     TellsOfALostFlush,
     TriesAgain,
+    WakesEachTime,
 }
 
 /// Makes a cache of the parts and runs the row over it.
@@ -82,6 +85,7 @@ fn runs_over<B: Naming + Send + Sync, D: BlockDevice + Send, R: Threads + Wait +
         Row::Leaves(story) => return leaves_a_history(rt, alloc, cache, own, seats, story),
         Row::ReadsBesideAWrite => return reads_beside_a_write(rt, &cache, turnstile, own, seats),
         Row::StopsWithAFullRing => return stops_with_a_full_ring(rt, &cache, own, seats),
+        Row::WakesEachTime => return wakes_each_time(rt, &cache, turnstile, own, seats),
         _ => {}
     }
     match two_of::<B>(&mut seats) {
@@ -355,6 +359,7 @@ fn over_a_cache<R: Threads + Wait + Sync>(
     let mut trail = FullTrail::new(alloc, 1000, 20000)?;
     match row {
         Row::Leaves(story) => trail = story.trail(alloc)?,
+        Row::WakesEachTime => trail = FullTrail::new(alloc, 20_000, 1_000_000)?,
         Row::TellsOfAFault => script.fail_next(ErrCode::IO, FaultEffect::Old),
         Row::TellsOfALostFlush => script.fail_next_flush(ErrCode::IO),
         _ => {}
@@ -449,6 +454,12 @@ fn a_cache_closes_with_all_its_seats(rt: HostRuntime) -> Result<(), Fail> {
 #[test]
 fn a_call_that_waited_for_a_fill_that_failed_tries_again(rt: HostRuntime) -> Result<(), Fail> {
     assert!(&rt; over_a_cache(&rt, rt.alloc(), Row::TriesAgain)?);
+    Ok(())
+}
+
+#[test]
+fn workers_who_sleep_are_woken_each_time(rt: HostRuntime) -> Result<(), Fail> {
+    assert!(&rt; over_a_cache(&rt, rt.alloc(), Row::WakesEachTime)?);
     Ok(())
 }
 
