@@ -10,7 +10,8 @@ use std::sync::{Condvar, Mutex, Wait};
 #[derive(Drop)]
 pub(crate) struct Signal {
     count: AtomicU64,
-    sleepers: AtomicU64,
+    // somebody may sleep whom no giver has taken upon itself to wake
+    is_awaited: AtomicBool,
     is_stopped: AtomicBool,
     door: Mutex<u8>,
     given: Condvar,
@@ -20,7 +21,7 @@ impl Signal {
     pub(crate) fn new() -> Signal {
         Signal {
             count: AtomicU64::new(0),
-            sleepers: AtomicU64::new(0),
+            is_awaited: AtomicBool::new(false),
             is_stopped: AtomicBool::new(false),
             door: Mutex::new(0),
             given: Condvar::new(),
@@ -35,11 +36,14 @@ impl Signal {
         self.is_stopped.load(Ordering::SeqCst)
     }
 
-    /// There may be work. It takes a lock only where somebody sleeps.
+    /// There may be work. One giver alone wakes those who may have gone to sleep: others that come before they run take no lock and call
+    /// no kernel, since who is woken looks for work in any case.
     pub(crate) fn give<R: Wait>(&self, rt: &R) {
         self.count.fetch_add(1, Ordering::SeqCst);
-        if self.sleepers.load(Ordering::SeqCst) > 0 {
-            // One that has compared the count keeps the door locked till it sleeps.
+        // Looked at first, since most often nobody sleeps: a look is cheaper than a swap.
+        if self.is_awaited.load(Ordering::SeqCst) && self.is_awaited.swap(false, Ordering::SeqCst) {
+            // Taken before the door is locked: who set it before keeps the door locked till it sleeps, and who sets it after that is woken
+            // by another.
             drop(self.door.lock(rt));
             self.given.notify_all();
         }
@@ -48,11 +52,11 @@ impl Signal {
     /// Sleeps till the signal is given again, where it wasn't since this count was read.
     pub(crate) fn wait<R: Wait>(&self, rt: &R, seen: u64) {
         let door = self.door.lock(rt);
-        self.sleepers.fetch_add(1, Ordering::SeqCst);
+        // Before the count is compared: who raises it after that finds this, or another has taken it, who wakes.
+        self.is_awaited.store(true, Ordering::SeqCst);
         if self.count() == seen {
             drop(self.given.wait(rt, door));
         }
-        self.sleepers.fetch_sub(1, Ordering::SeqCst);
     }
 
     /// Tells all workers to stop, those who sleep too.

@@ -15,7 +15,9 @@ use crate::thread_rows::{
     Entrance, FIRST_FILL, Turnstile, is_seen_by_all, reads_beside_a_fill, reads_page,
     shares_a_file, tries_again, writes_page,
 };
-use crate::worker_rows::{closes_with_a_full_ring, reads_beside_a_write, stops_with_a_full_ring};
+use crate::worker_rows::{
+    closes_with_a_full_ring, reads_beside_a_write, stops_with_a_full_ring, wakes_each_time,
+};
 use blockdev::{BlockDevice, FaultEffect, GatedDevice, ScriptDevice};
 use faulty::FaultyDevice;
 use filesvc::Seek;
@@ -54,6 +56,7 @@ enum Row {
     TellsOfAFault,
     TellsOfALostFlush,
     TriesAgain,
+    WakesEachTime,
 }
 
 /// Makes a cache of the parts and runs the row over it.
@@ -82,6 +85,7 @@ fn runs_over<B: Naming + Send + Sync, D: BlockDevice + Send, R: Threads + Wait +
         Row::Leaves(story) => return leaves_a_history(rt, alloc, cache, own, seats, story),
         Row::ReadsBesideAWrite => return reads_beside_a_write(rt, &cache, turnstile, own, seats),
         Row::StopsWithAFullRing => return stops_with_a_full_ring(rt, &cache, own, seats),
+        Row::WakesEachTime => return wakes_each_time(rt, &cache, turnstile, own, seats),
         _ => {}
     }
     match two_of::<B>(&mut seats) {
@@ -340,6 +344,16 @@ fn syncs_thrice<B: Naming, D: BlockDevice, R: Wait>(
     is_written && first && second && third && reads_page(rt, cache, seat, &handle, 1)
 }
 
+/// A trail with room for all events of a row.
+fn trail_for(alloc: Global, row: Row) -> Result<FullTrail, Refusal> {
+    let trail = match row {
+        Row::Leaves(story) => story.trail(alloc)?,
+        Row::WakesEachTime => FullTrail::new(alloc, 20_000, 1_000_000)?,
+        _ => FullTrail::new(alloc, 1000, 20000)?,
+    };
+    Ok(trail)
+}
+
 /// Runs a row over a new cache.
 fn over_a_cache<R: Threads + Wait + Sync>(
     rt: &R,
@@ -352,9 +366,8 @@ fn over_a_cache<R: Threads + Wait + Sync>(
     };
     let geometry = Geometry::new(16, frames, limit, 64)?;
     let mut script = ScriptDevice::new(alloc, 16, 64)?;
-    let mut trail = FullTrail::new(alloc, 1000, 20000)?;
+    let trail = trail_for(alloc, row)?;
     match row {
-        Row::Leaves(story) => trail = story.trail(alloc)?,
         Row::TellsOfAFault => script.fail_next(ErrCode::IO, FaultEffect::Old),
         Row::TellsOfALostFlush => script.fail_next_flush(ErrCode::IO),
         _ => {}
@@ -449,6 +462,12 @@ fn a_cache_closes_with_all_its_seats(rt: HostRuntime) -> Result<(), Fail> {
 #[test]
 fn a_call_that_waited_for_a_fill_that_failed_tries_again(rt: HostRuntime) -> Result<(), Fail> {
     assert!(&rt; over_a_cache(&rt, rt.alloc(), Row::TriesAgain)?);
+    Ok(())
+}
+
+#[test]
+fn workers_who_sleep_are_woken_each_time(rt: HostRuntime) -> Result<(), Fail> {
+    assert!(&rt; over_a_cache(&rt, rt.alloc(), Row::WakesEachTime)?);
     Ok(())
 }
 

@@ -25,7 +25,7 @@ pub(crate) const FIRST_FILL: u64 = 37;
 /// How often a thread lets others go on before it goes on itself.
 const YIELDS: u64 = 1_000;
 
-/// How often a gate looks whether it may let a call through, at most.
+/// How often a thread that waits for a call looks, and a call that waits to be let through, at most.
 const TURNS: u64 = 1_000_000;
 
 /// It lets every call through.
@@ -44,13 +44,31 @@ const GIVEN_UP: u64 = 3;
 #[derive(Drop)]
 pub(crate) struct Turnstile {
     stage: AtomicU64,
+    calls: AtomicU64,
 }
 
 impl Turnstile {
     pub(crate) fn new() -> Turnstile {
         Turnstile {
             stage: AtomicU64::new(OPEN),
+            calls: AtomicU64::new(0),
         }
+    }
+
+    /// How many calls came.
+    pub(crate) fn calls(&self) -> u64 {
+        self.calls.load(Ordering::SeqCst)
+    }
+
+    /// Waits till another call than these has come. Answers whether one came.
+    pub(crate) fn wait_past(&self, calls: u64) -> bool {
+        for _ in 0..TURNS {
+            if self.calls() != calls {
+                return true;
+            }
+            thread::yield_now();
+        }
+        false
     }
 
     /// Holds the next call.
@@ -80,6 +98,7 @@ impl Turnstile {
 
     /// A call comes: if it is to be held it waits till it may go on, or gives up.
     fn pass(&self) {
+        self.calls.fetch_add(1, Ordering::SeqCst);
         if self.stage.load(Ordering::SeqCst) == SHUT {
             self.stage.store(HOLDS, Ordering::SeqCst);
             if !self.wait_till(OPEN) {

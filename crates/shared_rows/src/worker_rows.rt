@@ -8,14 +8,22 @@ use crate::thread_rows::{Turnstile, reads_meanwhile, writes_page};
 use blockdev::{BlockDevice, Gate};
 use held::log::Seat;
 use locked::naming::Naming;
+use shared::handle::Handle;
 use shared::turns::Flushed;
 use shared::worker::Worker;
+use std::hint::spin_loop;
 use std::sync::Wait;
 use std::thread;
 use std::thread::Threads;
 
 /// As many pages as the ring has places.
 const PLACES: u8 = 64;
+
+/// How often workers who sleep are woken.
+const WAKES: u16 = 200;
+
+/// The pauses in which a worker may fall asleep. They are no yields: beside busy threads a yield takes as long as the scheduler likes.
+const PAUSES: u32 = 2_000;
 
 /// Lets a worker go on.
 #[derive(Drop)]
@@ -81,6 +89,131 @@ fn ends_a_write<B: Naming, D: BlockDevice, R: Wait>(
     match cache.io_turn(rt, &Open, &mut worker) {
         Ok(Some(done)) => done.failed.is_none(),
         _ => false,
+    }
+}
+
+/// A flusher and an I/O worker sleep till a page becomes dirty, over and over, and each time both are woken: the page is written. Where
+/// one is not woken, nor by the stop, this lasts as long as a test may.
+pub(crate) fn wakes_each_time<
+    B: Naming + Send + Sync,
+    D: BlockDevice + Send,
+    R: Threads + Wait + Sync,
+>(
+    rt: &R,
+    cache: &Tested<B, D>,
+    turnstile: &Turnstile,
+    mut own: Worker,
+    mut seats: Vec<Seat>,
+) -> bool
+    requires own { IsWorkerOf cache.now.ring B.name B.table B.sizes own }
+    requires seats { All (λ s. s.table ≡ B.table) seats.items }
+{
+    let Some((mut caller, seat)) = two_of::<B>(&mut seats) else {
+        return false;
+    };
+    let Ok(worker) = cache.worker(&mut own, seat) else {
+        return false;
+    };
+    let Some(handle) = opens(rt, cache, &mut caller) else {
+        return false;
+    };
+    let (is_done, is_written) = thread::join(
+        rt,
+        move ||
+            requires { IsWorkerOf cache.now.ring B.name B.table B.sizes own × IsWorkerOf cache.now.ring B.name B.table B.sizes worker }
+        { work(rt, cache, own, worker) },
+        move ||
+            requires { caller.table ≡ B.table }
+        { writes_and_stops(rt, cache, turnstile, caller, handle) },
+    );
+    is_written && is_done
+}
+
+/// An I/O worker and a flusher, till they are told to stop. Answers whether the first ended well.
+fn work<B: Naming + Send + Sync, D: BlockDevice + Send, R: Threads + Wait + Sync>(
+    rt: &R,
+    cache: &Tested<B, D>,
+    own: Worker,
+    flusher: Worker,
+) -> bool
+    requires own { IsWorkerOf cache.now.ring B.name B.table B.sizes own }
+    requires flusher { IsWorkerOf cache.now.ring B.name B.table B.sizes flusher }
+{
+    let (is_done, _) = thread::join(
+        rt,
+        move ||
+            requires { IsWorkerOf cache.now.ring B.name B.table B.sizes own }
+        { carries_out(rt, cache, own) },
+        move ||
+            requires { IsWorkerOf cache.now.ring B.name B.table B.sizes flusher }
+        { flushes(rt, cache, flusher) },
+    );
+    is_done
+}
+
+/// Carries out what the ring has, by a worker that is given up.
+fn carries_out<B: Naming, D: BlockDevice, R: Wait>(
+    rt: &R,
+    cache: &Tested<B, D>,
+    mut worker: Worker,
+) -> bool
+    requires { IsWorkerOf cache.now.ring B.name B.table B.sizes worker }
+{
+    cache.io_worker(rt, &Open, &mut worker).is_ok()
+}
+
+/// Begins writes, by a worker that is given up.
+fn flushes<B: Naming, D: BlockDevice, R: Wait>(
+    rt: &R,
+    cache: &Tested<B, D>,
+    mut worker: Worker,
+) -> bool
+    requires { IsWorkerOf cache.now.ring B.name B.table B.sizes worker }
+{
+    cache.flusher(rt, &Open, &mut worker);
+    true
+}
+
+/// Writes pages, each once the workers wrote the one before and had a moment to fall asleep, and tells them to stop.
+fn writes_and_stops<B: Naming, D: BlockDevice, R: Wait>(
+    rt: &R,
+    cache: &Tested<B, D>,
+    turnstile: &Turnstile,
+    mut caller: Seat,
+    handle: Handle,
+) -> bool
+    requires { caller.table ≡ B.table }
+{
+    let is_written = writes_each_time(rt, cache, turnstile, &mut caller, &handle);
+    cache.stop(rt);
+    is_written
+}
+
+/// Writes pages, and waits for the device call of each.
+fn writes_each_time<B: Naming, D: BlockDevice, R: Wait>(
+    rt: &R,
+    cache: &Tested<B, D>,
+    turnstile: &Turnstile,
+    caller: &mut Seat,
+    handle: &Handle,
+) -> bool
+    requires { caller.old.table ≡ B.table }
+{
+    for round in 0..WAKES {
+        let calls = turnstile.calls();
+        let page = (round % 8) as u8;
+        if !writes_page(rt, cache, caller, handle, page) || !turnstile.wait_past(calls) {
+            return false;
+        }
+        pause();
+    }
+    true
+}
+
+/// About as long as a worker takes to fall asleep.
+fn pause() {
+    for _ in 0..PAUSES {
+        spin_loop();
     }
 }
 
