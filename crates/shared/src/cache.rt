@@ -49,8 +49,10 @@ pub struct SharedCache<B: Naming, D: BlockDevice, T: Trail> {
     pub(crate) alloc: Global,
     // jobs that a worker is to carry out
     pub(crate) ring: Ring,
-    // there may be work
+    // there may be work for a flusher or an evictor
     pub(crate) work: Signal,
+    // the ring may have a job
+    pub(crate) jobs: Signal,
     ghost named: { name ≡ B.name },
     ghost sized: { geometry ≡ B.sizes },
     ghost boarded: { board ≡ B.board },
@@ -91,16 +93,17 @@ impl<B: Naming, D: BlockDevice, T: Trail> SharedCache<B, D, T> {
             alloc,
             ring,
             work: Signal::new(),
+            jobs: Signal::new(),
         };
         (cache, own)
     }
 
-    /// A page may have become dirty, or a frame have been taken: workers who sleep look again.
+    /// A page may have become dirty, or a frame have been taken: flushers and evictors who sleep look again.
     pub(crate) fn made_work<R: Wait>(&self, rt: &R) {
         self.work.give(rt);
     }
 
-    /// A request has ended: those who wait for that go on, and workers who sleep look again.
+    /// A request has ended: those who wait for that go on, and flushers and evictors who sleep look again.
     pub(crate) fn has_ended<R: Wait>(&self, rt: &R) {
         self.changed.notify_all();
         self.work.give(rt);

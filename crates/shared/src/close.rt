@@ -59,6 +59,7 @@ impl<B: Naming, D: BlockDevice, T: Trail> SharedCache<B, D, T> {
             alloc,
             ring,
             work,
+            jobs,
         } = self;
         let mut locked = state.into_inner();
         let mut device = disk.into_inner();
@@ -77,6 +78,7 @@ impl<B: Naming, D: BlockDevice, T: Trail> SharedCache<B, D, T> {
                     alloc,
                     ring,
                     work,
+                    jobs,
                 };
                 Err((refusal, cache, Worker { seat, pass }, seats))
             }

@@ -90,7 +90,7 @@ impl<B: Naming, D: BlockDevice, T: Trail> SharedCache<B, D, T> {
         };
         let serial = job.serial();
         let Err(job) = self.ring.push(rt, &mut worker.pass, job) else {
-            self.work.give(rt);
+            self.jobs.give(rt);
             return Ok(Flushed::Pushed(serial, slip));
         };
         gate.enter(serial.0);

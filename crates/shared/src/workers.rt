@@ -17,6 +17,7 @@ impl<B: Naming, D: BlockDevice, T: Trail> SharedCache<B, D, T> {
     /// Tells the workers to stop. It waits for none of them.
     pub fn stop<R: Wait>(&self, rt: &R) {
         self.work.stop(rt);
+        self.jobs.stop(rt);
     }
 
     /// Writes pages back while there are any to write, and sleeps where there are none, until it is told to stop. It stops too where
@@ -64,14 +65,14 @@ impl<B: Naming, D: BlockDevice, T: Trail> SharedCache<B, D, T> {
         ensures refused { IfErr result (IsRefusedEnd worker.old worker.new) }
     {
         'turns: for _ in rt.forever() {
-            let seen = self.work.count();
-            let is_stopped = self.work.is_stopped();
+            let seen = self.jobs.count();
+            let is_stopped = self.jobs.is_stopped();
             let is_idle = self.io_turn(rt, gate, worker)?.is_none();
             if is_idle {
                 if is_stopped {
                     return Ok(());
                 }
-                self.work.wait(rt, seen);
+                self.jobs.wait(rt, seen);
             }
         }
         unreachable!()
