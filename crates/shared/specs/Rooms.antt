@@ -1,6 +1,6 @@
 -- Refusals for want of room.
-use Rattle.std.specs.Prelude.{◌≡◌, ◌⊎◌, ◌+◌, ◌<◌, ℕ, Bool, true, false, length, take, Some, None}
-use Rattle.cachecore.specs.Wants.{NothingToWrite}
+use Rattle.std.specs.Prelude.{◌≡◌, ◌⊎◌, ◌+◌, ◌<◌, ◌&&◌, ℕ, Bool, true, false, length, take, Option, Some, None, if◌then◌else◌}
+use Rattle.cachecore.specs.Wants.{NothingToWrite, lacks_frames, passes_limit}
 use Rattle.cachecore.specs.declared.answers.Ended.{Ended}
 use Rattle.cachecore.specs.declared.answers.Ended.TheVariants as ended
 use Rattle.held.specs.declared.log.Slip.{Slip}
@@ -22,12 +22,22 @@ use Rattle.pc_types.specs.declared.refusal.Refusal.TheVariants.{DirtyLimit, Memo
 use Rattle.trail.specs.History.{After}
 use Rattle.shared.specs.Called.{Makes, is_for_now}
 use Rattle.shared.specs.Own.{IsEviction}
+use Rattle.shared.specs.declared.room.Span.{Span}
+use Rattle.shared.specs.declared.room.Want.{Want}
+use Rattle.shared.specs.declared.room.Want.TheVariants.{Clean, Frames}
 
 -- more room might have spared it
 abbrev pub wants_room : Refusal → Bool
 wants_room NoFrame = true
 wants_room DirtyLimit = true
 wants_room _ = false
+
+-- which room a call on this span of bytes wants
+abbrev pub wanted : State → Span → Option Want
+wanted s x =
+    if lacks_frames s x.handle.0 x.offset x.count then Some Frames
+    else if x.dirties && passes_limit s x.handle.0 x.offset x.count then Some Clean
+    else None
 
 -- no request is in flight, whose end could make room, and no page is idle that could give its frame
 abbrev pub IsCrammed : Refusal → State → Type 0

@@ -1,10 +1,11 @@
 //! What a call does on the way: it fills pages that it missed, and makes room.
 
-ghost use Rattle.std.specs.Prelude.{◌≡◌, ◌&&◌, ◌⊎◌, IfErr, IfOk, IsTrue, if◌then◌else◌, false, length, true};
+ghost use Rattle.std.specs.Prelude.{◌≡◌, ◌&&◌, ◌⊎◌, IfErr, IfNone, IfOk, IfSome, IsTrue, None, Some, if◌then◌else◌, false, is_some, length, true};
 ghost use Rattle.std.specs.Sync.Mutex.{mutex_guard_value};
 ghost use Rattle.blockdev.specs.Jobs.{IsJobFor};
 ghost use Rattle.locked.specs.Called.{Goes, Only};
 ghost use Rattle.locked.specs.Flights.{is_busy};
+ghost use Rattle.machine.specs.State.{free_frames};
 ghost use Rattle.machine.specs.Tests.{has_idle};
 ghost use Rattle.pc_types.specs.Limits.{is_geometry};
 ghost use Rattle.pc_types.specs.declared.kind.Kind.TheVariants.{Fill, Flush};
@@ -13,11 +14,12 @@ ghost use Rattle.trail.specs.History.{After};
 ghost use Rattle.shared.specs.Called.{is_for_now};
 ghost use Rattle.shared.specs.Denials.{IsDenied, IsFullIfNoSlip};
 ghost use Rattle.shared.specs.Own.{IsEviction, IsHelp, IsRoomEvent, IsStillDenied};
-ghost use Rattle.shared.specs.Rooms.{FailsToWrite, IsCrammed, IsFinal, IsFinalOr, IsLost, IsUnwritten, is_written, wants_room};
+ghost use Rattle.shared.specs.Rooms.{FailsToWrite, IsCrammed, IsFinal, IsFinalOr, IsLost, IsUnwritten, is_written, wanted, wants_room};
 ghost use Rattle.shared.specs.Settled.{EndsIn, FillsNoOther, SettlesIn};
 ghost use Rattle.shared.specs.Synced.{IsFlushEnd};
 ghost use Rattle.shared.specs.Workers.{LetsGo};
-ghost use Rattle.shared.specs.declared.room.Want.TheVariants.{Frames};
+ghost use Rattle.shared.specs.declared.room.Want.TheVariants.{Clean, Frames};
+ghost use Rattle.shared.specs.declared.room.Way.TheVariants.{Blocked, Clear, Clearer};
 ghost use Rattle.world.specs.Ends.{buffer_of};
 
 use crate::cache::SharedCache;
@@ -61,22 +63,32 @@ impl<B: Naming, D: BlockDevice, T: Trail> SharedCache<B, D, T> {
         ensures settled { SettlesIn B.name seat.old seat.new result }
         ensures page { Only (λ e. FillsNoOther page e.event) seat.old seat.new }
     {
-        if let Err(denied) = self.make_way(rt, seat, span) {
-            return Err(denied);
+        // Before the lock is taken, since its zeros take as long as a hold. Room is made first all the same where none was had.
+        let buffer = Buffer::new(self.alloc, &self.geometry);
+        // The fill begins in the hold that found the room: another would move what lies under the lock to this processor once more.
+        let guard = match self.make_way(rt, seat, span) {
+            Ok(guard) => guard,
+            Err(denied) => return Err(denied),
+        };
+        match buffer {
+            Ok(buffer) => self.fill_once(rt, guard, seat, span.handle, page, buffer),
+            Err(refusal) => Err(without_slip(refusal)),
         }
-        self.fill_once(rt, seat, span.handle, page)
     }
 
-    /// Fills a page. Where it is refused for want of room some is made, or the end of a request waited for.
+    /// Fills a page; the fill begins in this hold. Where it is refused for want of room some is made, or the end of a request waited for.
     #[tactic(auto, using(locked::proofs::Seats::goes_by, locked::proofs::Seats::goes_on, locked::proofs::Seats::goes_same, crate::proofs::Making::goes_denied, crate::proofs::Making::denied_begin, crate::proofs::Making::help_on, locked::proofs::Seats::only_same, crate::proofs::Owning::only_fill_begin, crate::proofs::Owning::only_fill_begin_denied, crate::proofs::Owning::only_begun_on, crate::proofs::Rooming::lost_unwanted, crate::proofs::Making::help_settled, crate::proofs::Owning::only_relieved, crate::proofs::Rooming::final_lasting))]
     fn fill_once<R: Wait>(
         &self,
         rt: &R,
+        mut guard: MutexGuard<'_, Locked<B, T>>,
         seat: &mut Seat,
         handle: HandleId,
         page: PageIndex,
+        buffer: Buffer,
     ) -> Result<(), Denied>
-        requires { seat.old.table ≡ B.table }
+        requires seat { seat.old.table ≡ B.table }
+        requires size { length buffer ≡ B.sizes.page }
         ensures goes { Goes seat.old seat.new }
         ensures only { Only (λ e. IsHelp handle e.event) seat.old seat.new }
         ensures denied { IfErr result (IsDenied (IsHelp handle) seat.old seat.new) }
@@ -85,11 +97,6 @@ impl<B: Naming, D: BlockDevice, T: Trail> SharedCache<B, D, T> {
         ensures settled { SettlesIn B.name seat.old seat.new result }
         ensures page { Only (λ e. FillsNoOther page e.event) seat.old seat.new }
     {
-        let buffer = match Buffer::new(self.alloc, &self.geometry) {
-            Ok(buffer) => buffer,
-            Err(refusal) => return Err(without_slip(refusal)),
-        };
-        let mut guard = self.state.lock(rt);
         let (begun, _) = match guard.fill_begin(seat, handle, page, buffer) {
             Ok(made) => made,
             Err(denied) => return self.relieve(rt, guard, seat, denied),
@@ -133,14 +140,14 @@ impl<B: Naming, D: BlockDevice, T: Trail> SharedCache<B, D, T> {
     }
 
     /// Makes room for a call: until as many frames are free as it lacks pages, and no more pages would be dirty than may be, or none can
-    /// be made.
+    /// be made. Answers the hold in which it was made, or a later one where none can be.
     #[tactic(auto, using(locked::proofs::Seats::goes_by, locked::proofs::Seats::goes_on, locked::proofs::Seats::goes_same, crate::proofs::Making::goes_denied, crate::proofs::Making::room_on, locked::proofs::Seats::only_same, crate::proofs::Owning::only_room_on))]
     pub(crate) fn make_way<R: Wait>(
         &self,
         rt: &R,
         seat: &mut Seat,
         span: Span,
-    ) -> Result<(), Denied>
+    ) -> Result<MutexGuard<'_, Locked<B, T>>, Denied>
         requires { seat.old.table ≡ B.table }
         ensures goes { Goes seat.old seat.new }
         ensures only { Only (λ e. IsRoomEvent e.event) seat.old seat.new }
@@ -149,14 +156,18 @@ impl<B: Naming, D: BlockDevice, T: Trail> SharedCache<B, D, T> {
         ensures stands { IfErr result (IsFinal B.sizes B.name seat.new) }
         ensures settled { SettlesIn B.name seat.old seat.new result }
     {
+        let mut guard = self.state.lock(rt);
         'turns: for _ in rt.forever() {
-            let guard = self.state.lock(rt);
-            let Some(want) = wants(&guard, span) else {
-                return Ok(());
-            };
-            match self.make_room(rt, guard, seat, want) {
-                Ok(true) => {}
-                Ok(false) => return Ok(()),
+            match clear_way(&mut guard, seat, span) {
+                Ok(Way::Clear) => return Ok(guard),
+                // The next page goes in the same hold.
+                Ok(Way::Clearer) => continue 'turns,
+                Ok(Way::Blocked) => {}
+                Err(denied) => return Err(denied),
+            }
+            match self.flush_one(rt, guard, seat) {
+                Ok(true) => guard = self.state.lock(rt),
+                Ok(false) => return Ok(self.state.lock(rt)),
                 Err(denied) => return Err(denied),
             }
         }
@@ -313,17 +324,6 @@ impl<B: Naming, D: BlockDevice, T: Trail> SharedCache<B, D, T> {
         drop(self.changed.wait(rt, guard));
     }
 
-    /// Lets an idle page go. Answers whether there was one.
-    pub(crate) fn evict_one<R: Wait>(&self, rt: &R, seat: &mut Seat) -> Result<bool, Denied>
-        requires { seat.old.table ≡ B.table }
-        ensures goes { Goes seat.old seat.new }
-        ensures only { Only (λ e. IsEviction e.event) seat.old seat.new }
-        ensures gone { IfOk result (λ went. LetsGo (if went then 1 else 0) seat.old seat.new) }
-        ensures denied { IfErr result (IsDenied IsRoomEvent seat.old seat.new) }
-    {
-        evict_idle(&mut self.state.lock(rt), seat)
-    }
-
     /// Waits for the end of a request, where one is in flight and the refusal may pass when it ends; else the refusal stands.
     #[tactic(auto, using(crate::proofs::Rooming::not_passing))]
     pub(crate) fn wait_or<R: Wait>(
@@ -414,6 +414,64 @@ fn evict_idle<B: Naming, T: Trail>(
     }
 }
 
+/// Lets an idle page go. Answers how many frames are free then, where there was one.
+pub(crate) fn evict_and_count<B: Naming, T: Trail>(
+    state: &mut Locked<B, T>,
+    seat: &mut Seat,
+) -> Result<Option<u64>, Denied>
+    requires { seat.old.table ≡ B.table }
+    ensures goes { Goes seat.old seat.new }
+    ensures only { Only (λ e. IsEviction e.event) seat.old seat.new }
+    ensures gone { IfOk result (λ o. LetsGo (if is_some o then 1 else 0) seat.old seat.new) }
+    ensures denied { IfErr result (IsDenied IsRoomEvent seat.old seat.new) }
+    ensures none { IfOk result (λ o. IfNone o (has_idle state.old.core.state ≡ false)) }
+    ensures free { IfOk result (λ o. IfSome o (λ n. n ≡ free_frames state.new.core.state)) }
+{
+    match evict_idle(state, seat) {
+        Ok(true) => Ok(Some(state.free_frames())),
+        Ok(false) => Ok(None),
+        Err(denied) => Err(denied),
+    }
+}
+
+/// What stands in a call's way.
+enum Way {
+    /// It has room.
+    Clear,
+    /// It lacked a frame, and an idle page went.
+    Clearer,
+    /// It lacks a frame, and no page is idle; or too many pages would be dirty.
+    Blocked,
+}
+
+/// Lets an idle page go, where a call lacks a frame.
+fn clear_way<B: Naming, T: Trail>(
+    state: &mut Locked<B, T>,
+    seat: &mut Seat,
+    span: Span,
+) -> Result<Way, Denied>
+    requires { seat.old.table ≡ B.table }
+    ensures goes { Goes seat.old seat.new }
+    ensures only { Only (λ e. IsEviction e.event) seat.old seat.new }
+    ensures denied { IfErr result (IsDenied IsRoomEvent seat.old seat.new) }
+    ensures unwanted { IfErr result (λ d. wants_room d.refusal ≡ false) }
+    ensures stands { IfErr result (IsFinal B.sizes B.name seat.new) }
+    ensures clear { IfOk result (λ way. way ≡ Clear → wanted state.new.core.state span ≡ None) }
+    ensures clearer { IfOk result (λ way. way ≡ Clearer → LetsGo 1 seat.old seat.new) }
+    ensures blocked { IfOk result (λ way. way ≡ Blocked → (wanted state.old.core.state span ≡ Some Clean) ⊎ (has_idle state.old.core.state ≡ false)) }
+{
+    match wants(state, span) {
+        Some(Want::Frames) => {}
+        Some(Want::Clean) => return Ok(Way::Blocked),
+        None => return Ok(Way::Clear),
+    }
+    match evict_idle(state, seat) {
+        Ok(true) => Ok(Way::Clearer),
+        Ok(false) => Ok(Way::Blocked),
+        Err(denied) => Err(denied),
+    }
+}
+
 /// Which room a call wants.
 #[derive(Clone, Copy)]
 pub(crate) enum Want {
@@ -424,7 +482,9 @@ pub(crate) enum Want {
 }
 
 /// Which room a call on this span wants: frames, or fewer dirty pages.
-fn wants<B: Naming, T: Trail>(state: &Locked<B, T>, span: Span) -> Option<Want> {
+fn wants<B: Naming, T: Trail>(state: &Locked<B, T>, span: Span) -> Option<Want>
+    ensures { result ≡ wanted state.now.core.state span }
+{
     if state.lacks_frames(span.handle, span.offset, span.count) {
         return Some(Want::Frames);
     }

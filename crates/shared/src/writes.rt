@@ -270,7 +270,13 @@ impl<B: Naming, D: BlockDevice, T: Trail> SharedCache<B, D, T> {
         if let Err(other) = self.relieve(rt, guard, seat, denied) {
             return Err(other);
         }
-        self.make_way(rt, seat, span)
+        match self.make_way(rt, seat, span) {
+            Ok(guard) => {
+                drop(guard);
+                Ok(())
+            }
+            Err(denied) => Err(denied),
+        }
     }
 }
 
