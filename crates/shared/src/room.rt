@@ -1,6 +1,6 @@
 //! What a call does on the way: it fills pages that it missed, and makes room.
 
-ghost use Rattle.std.specs.Prelude.{◌≡◌, ◌&&◌, ◌⊎◌, IfErr, IfNone, IfOk, IfSome, IsTrue, None, Some, if◌then◌else◌, false, is_some, length, true};
+ghost use Rattle.std.specs.Prelude.{◌≡◌, ◌≢◌, ◌&&◌, ◌⊎◌, IfErr, IfNone, IfOk, IfSome, IsTrue, None, Some, if◌then◌else◌, false, is_some, length, true};
 ghost use Rattle.std.specs.Sync.Mutex.{mutex_guard_value};
 ghost use Rattle.blockdev.specs.Jobs.{IsJobFor};
 ghost use Rattle.locked.specs.Called.{Goes, Only};
@@ -63,7 +63,7 @@ impl<B: Naming, D: BlockDevice, T: Trail> SharedCache<B, D, T> {
         ensures settled { SettlesIn B.name seat.old seat.new result }
         ensures page { Only (λ e. FillsNoOther page e.event) seat.old seat.new }
     {
-        // Before the lock is taken, since its zeros take as long as a hold. Room is made first all the same where none was had.
+        // Before the lock is taken, so that its zeros are not made in a hold. Room is made first all the same where none was had.
         let buffer = Buffer::new(self.alloc, &self.geometry);
         // The fill begins in the hold that found the room: another would move what lies under the lock to this processor once more.
         let guard = match self.make_way(rt, seat, span) {
@@ -140,7 +140,7 @@ impl<B: Naming, D: BlockDevice, T: Trail> SharedCache<B, D, T> {
     }
 
     /// Makes room for a call: until as many frames are free as it lacks pages, and no more pages would be dirty than may be, or none can
-    /// be made. Answers the hold in which it was made, or a later one where none can be.
+    /// be made. Answers the hold in which it was found, or a later one where none can be made.
     #[tactic(auto, using(locked::proofs::Seats::goes_by, locked::proofs::Seats::goes_on, locked::proofs::Seats::goes_same, crate::proofs::Making::goes_denied, crate::proofs::Making::room_on, locked::proofs::Seats::only_same, crate::proofs::Owning::only_room_on))]
     pub(crate) fn make_way<R: Wait>(
         &self,
@@ -457,7 +457,9 @@ fn clear_way<B: Naming, T: Trail>(
     ensures unwanted { IfErr result (λ d. wants_room d.refusal ≡ false) }
     ensures stands { IfErr result (IsFinal B.sizes B.name seat.new) }
     ensures clear { IfOk result (λ way. way ≡ Clear → wanted state.new.core.state span ≡ None) }
+    ensures lacking { IfOk result (λ way. way ≡ Clearer → wanted state.old.core.state span ≡ Some Frames) }
     ensures clearer { IfOk result (λ way. way ≡ Clearer → LetsGo 1 seat.old seat.new) }
+    ensures wanting { IfOk result (λ way. way ≡ Blocked → wanted state.old.core.state span ≢ None) }
     ensures blocked { IfOk result (λ way. way ≡ Blocked → (wanted state.old.core.state span ≡ Some Clean) ⊎ (has_idle state.old.core.state ≡ false)) }
 {
     match wants(state, span) {

@@ -42,8 +42,8 @@ impl Signal {
         self.count.fetch_add(1, Ordering::SeqCst);
         // Looked at first, since most often nobody sleeps: a look is cheaper than a swap.
         if self.is_awaited.load(Ordering::SeqCst) && self.is_awaited.swap(false, Ordering::SeqCst) {
-            // Taken before the door is locked: who set it before keeps the door locked till it sleeps, and who sets it after that is woken
-            // by another.
+            // Taken before the door is locked: who set it before keeps the door locked till it sleeps, and who sets it after that finds the
+            // count raised, if it looked for work before.
             drop(self.door.lock(rt));
             self.given.notify_all();
         }
