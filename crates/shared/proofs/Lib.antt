@@ -14,3 +14,4 @@ pub mod Sparing
 pub mod Wanting
 pub mod Carrying
 pub mod Settling
+pub mod Clearing

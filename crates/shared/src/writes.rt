@@ -270,9 +270,9 @@ impl<B: Naming, D: BlockDevice, T: Trail> SharedCache<B, D, T> {
         if let Err(other) = self.relieve(rt, guard, seat, denied) {
             return Err(other);
         }
-        match self.make_way(rt, seat, span) {
-            Ok(guard) => {
-                drop(guard);
+        match self.make_way(rt, seat, span, &mut None) {
+            Ok(room) => {
+                drop(room);
                 Ok(())
             }
             Err(denied) => Err(denied),

@@ -4,6 +4,8 @@
 #[cfg(test)]
 mod history_rows;
 #[cfg(test)]
+mod long_rows;
+#[cfg(test)]
 mod rows;
 #[cfg(test)]
 mod thread_rows;

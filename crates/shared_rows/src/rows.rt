@@ -11,6 +11,7 @@ ghost use Rattle.shared.specs.Keeps.{IsDisk};
 ghost use Rattle.shared.specs.Workers.{IsWorkerOf};
 
 use crate::history_rows::{Story, leaves_a_history};
+use crate::long_rows::passes_over_a_long_file;
 use crate::thread_rows::{
     Entrance, FIRST_FILL, Turnstile, is_seen_by_all, reads_beside_a_fill, reads_page,
     shares_a_file, tries_again, writes_page,
@@ -47,6 +48,7 @@ enum Row {
     ClosesWithAFullRing,
     IsSeenByAll,
     Leaves(Story),
+    PassesOverALongFile,
     ReadsBack,
     ReadsBesideAFill,
     ReadsBesideAWrite,
@@ -138,6 +140,7 @@ fn runs<B: Naming + Send + Sync, D: BlockDevice + Send, R: Threads + Wait + Sync
     };
     match row {
         Row::IsSeenByAll => is_seen_by_all(rt, cache, first, second, handle),
+        Row::PassesOverALongFile => passes_over_a_long_file(rt, cache, &mut first, &handle),
         Row::ReadsBack => reads_back(rt, cache, &mut first, handle),
         Row::ReadsBesideAFill => {
             reads_beside_a_fill(rt, cache, turnstile, first, second, &handle)
@@ -348,6 +351,7 @@ fn syncs_thrice<B: Naming, D: BlockDevice, R: Wait>(
 fn trail_for(alloc: Global, row: Row) -> Result<FullTrail, Refusal> {
     let trail = match row {
         Row::Leaves(story) => story.trail(alloc)?,
+        Row::PassesOverALongFile => FullTrail::new(alloc, 100_000, 4_000_000)?,
         Row::WakesEachTime => FullTrail::new(alloc, 20_000, 1_000_000)?,
         _ => FullTrail::new(alloc, 1000, 20000)?,
     };
@@ -408,6 +412,12 @@ fn a_read_stands_after_the_write_that_its_seat_saw(rt: HostRuntime) -> Result<()
 #[test]
 fn a_cached_page_is_read_while_its_write_is_held(rt: HostRuntime) -> Result<(), Fail> {
     assert!(&rt; over_a_cache(&rt, rt.alloc(), Row::ReadsBesideAWrite)?);
+    Ok(())
+}
+
+#[test]
+fn a_file_longer_than_the_cache_is_read_and_changed(rt: HostRuntime) -> Result<(), Fail> {
+    assert!(&rt; over_a_cache(&rt, rt.alloc(), Row::PassesOverALongFile)?);
     Ok(())
 }
 

@@ -5,16 +5,6 @@ use Rattle.shared.proofs.Owning.{only_evicted, only_evicted_on, only_room_on}
 use Rattle.shared.proofs.Settling.{denied_on, settles_evicted, settles_on}
 use Rattle.shared.proofs.cache.SharedCache.make_way.Goals as goal
 
--- a page went
-pub turns-preserved-in-Ok-Clearer : goal.turns-preserved-in-Ok-Clearer
-turns-preserved-in-Ok-Clearer g c = record {
-  goes = goes_on c.args.seat.now c.turns.seat c.clear_way.new.seat c.turns.invariant.goes c.clear_way.ensures.goes;
-  only = only_room_on c.args.seat.now c.turns.seat c.clear_way.new.seat c.turns.invariant.only
-      (only_evicted c.turns.seat c.clear_way.new.seat c.clear_way.ensures.only);
-  settled = settles_on g.B.Naming.name c.args.seat.now c.turns.seat c.clear_way.new.seat c.turns.invariant.settled
-      (settles_evicted g.B.Naming.name c.turns.seat c.clear_way.new.seat c.clear_way.ensures.only);
-}
-
 -- a page was written
 pub turns-preserved : goal.turns-preserved
 turns-preserved g c = record {
@@ -26,6 +16,7 @@ turns-preserved g c = record {
       (settles_on g.B.Naming.name c.turns.seat c.clear_way.new.seat c.flush_one.new.seat
       (settles_evicted g.B.Naming.name c.turns.seat c.clear_way.new.seat c.clear_way.ensures.only)
       c.in-Ok-true.ensures.settled);
+  size = c.flush_one.ensures.size;
 }
 
 -- no page is to be written
