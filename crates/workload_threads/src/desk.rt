@@ -48,10 +48,10 @@ impl<B: Naming> Desk<B> {
         let mut seat = member.into_seat();
         match open_both(rt, cache, &mut seat, own, common) {
             Ok((own, common)) => Ok(Desk {
+                tally: opened(&own, &common),
                 seat,
                 own,
                 common,
-                tally: Tally::NONE,
                 of: PhantomData,
             }),
             Err(refusal) => {
@@ -161,28 +161,37 @@ impl<B: Naming> Desk<B> {
         bytes: &[u8],
     ) -> Result<(), Refusal> {
         let (wrote, _) = heard(cache.pwrite(rt, &mut self.seat, &self.own, offset, bytes))?;
-        self.tally.add(wrote.end);
+        self.tally.add_both(wrote.count, wrote.end);
         Ok(())
     }
 
     fn append<R: Wait>(&mut self, rt: &R, cache: &Shared<B>, bytes: &[u8]) -> Result<(), Refusal> {
         let (wrote, _) = heard(cache.write(rt, &mut self.seat, &mut self.own, bytes))?;
-        self.tally.add(wrote.end);
+        self.tally.add_both(wrote.count, wrote.end);
         Ok(())
     }
 
     fn truncate<R: Wait>(&mut self, rt: &R, cache: &Shared<B>, size: u64) -> Result<(), Refusal> {
         heard(cache.truncate(rt, &mut self.seat, &self.own, size))?;
-        self.tally.add(size);
+        self.tally.add_done();
         Ok(())
     }
 
     /// Syncs the own file.
     pub fn fsync<R: Wait>(&mut self, rt: &R, cache: &Shared<B>) -> Result<(), Refusal> {
         heard(cache.fsync(rt, &mut self.seat, &mut self.own))?;
-        self.tally.add(0);
+        self.tally.add_done();
         Ok(())
     }
+}
+
+/// What opening these two has answered.
+fn opened(own: &Handle, common: &Handle) -> Tally {
+    let mut tally = Tally::NONE;
+    for handle in [own, common] {
+        tally.add_both(handle.file().0, handle.cursor());
+    }
+    tally
 }
 
 /// Opens the two files, the first for appending writes.

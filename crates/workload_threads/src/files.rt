@@ -20,13 +20,43 @@ pub fn make_files<R: Wait, B: Naming>(
     steps: &mut Steps,
     scale: Scale,
 ) -> Result<(Member<B>, Tally), Refusal> {
-    if let Err(refusal) = create_files(rt, cache, &mut member) {
+    let mut tally = Tally::NONE;
+    if let Err(refusal) = create_files(rt, cache, &mut member, &mut tally) {
         // by a call, since the check is slow where a seat goes out of scope
         drop(member);
         return Err(refusal);
     }
+    let (member, own) = write_common(rt, cache, member, steps, scale)?;
+    tally.add_all(own);
+    Ok((member, tally))
+}
+
+/// Makes a file for each caller, and the common one.
+fn create_files<R: Wait, B: Naming>(
+    rt: &R,
+    cache: &Shared<B>,
+    member: &mut Member<B>,
+    tally: &mut Tally,
+) -> Result<(), Refusal> {
+    for _ in 0..=CALLERS {
+        match cache.create(rt, &mut member.seat) {
+            Ok((file, _)) => tally.add(file.0),
+            Err(denied) => return Err(denied.refusal),
+        }
+    }
+    Ok(())
+}
+
+/// Writes and syncs the common file, by a desk of its own.
+fn write_common<R: Wait, B: Naming>(
+    rt: &R,
+    cache: &Shared<B>,
+    member: Member<B>,
+    steps: &mut Steps,
+    scale: Scale,
+) -> Result<(Member<B>, Tally), Refusal> {
     let mut desk = Desk::open(rt, cache, member, COMMON, COMMON)?;
-    match write_common(rt, cache, &mut desk, steps, scale) {
+    match fill_common(rt, cache, &mut desk, steps, scale) {
         Ok(()) => desk.close(rt, cache),
         Err(refusal) => {
             drop(desk);
@@ -35,21 +65,7 @@ pub fn make_files<R: Wait, B: Naming>(
     }
 }
 
-/// Makes a file for each caller, and the common one.
-fn create_files<R: Wait, B: Naming>(
-    rt: &R,
-    cache: &Shared<B>,
-    member: &mut Member<B>,
-) -> Result<(), Refusal> {
-    for _ in 0..=CALLERS {
-        if let Err(denied) = cache.create(rt, &mut member.seat) {
-            return Err(denied.refusal);
-        }
-    }
-    Ok(())
-}
-
-fn write_common<R: Wait, B: Naming>(
+fn fill_common<R: Wait, B: Naming>(
     rt: &R,
     cache: &Shared<B>,
     desk: &mut Desk<B>,

@@ -5,6 +5,7 @@ ghost use Rattle.std.specs.Prelude.{◌<◌};
 
 use crate::digest::Digest;
 use crate::numbers::Numbers;
+use crate::places::Places;
 use idalloc::IdAlloc;
 use std::alloc::Global;
 use timing::Fault;
@@ -82,12 +83,12 @@ fn fill(
 ) -> Result<(), Fault> {
     for number in 0..entries {
         let before = array.store(spread.index(number, salt), number)?;
-        digest.add(before.unwrap_or(1));
+        digest.add_value(before);
     }
     Ok(())
 }
 
-/// Loads entries at random, and finds the next one behind a random index.
+/// Loads each entry, in no order, and finds the next one behind it.
 fn look(
     array: &XArray,
     numbers: &mut Numbers,
@@ -96,12 +97,11 @@ fn look(
     salt: u64,
     entries: u64,
 ) {
+    let mut places = Places::below(entries, numbers);
     for _ in 0..entries {
-        let index = spread.index(numbers.below(entries.max(1)), salt);
-        digest.add(array.load(index).unwrap_or(2));
-        if let Some(found) = array.find(index.saturating_add(1), u64::MAX) {
-            digest.add(found.first);
-        }
+        let index = spread.index(places.draw(), salt);
+        digest.add_value(array.load(index));
+        digest.add_found(array.find(index.saturating_add(1), u64::MAX));
     }
 }
 
@@ -109,14 +109,15 @@ fn look(
 fn mark(array: &mut XArray, digest: &mut Digest, spread: Spread, salt: u64, entries: u64) {
     for part in 0..entries / 8 {
         let marked = array.set_mark(spread.index(part.wrapping_mul(8), salt), Mark::M0);
-        digest.add(u64::from(marked.is_ok()));
+        digest.add_done(marked);
     }
     let mut from = 0;
-    for _ in 0..entries / 8 {
-        let Some(found) = array.find_marked(from, u64::MAX, Mark::M0) else {
+    for _ in 0..=entries / 8 {
+        let found = array.find_marked(from, u64::MAX, Mark::M0);
+        digest.add_found(found);
+        let Some(found) = found else {
             break;
         };
-        digest.add(found.first);
         from = found.first.saturating_add(1);
     }
     digest.add(array.retag(0, u64::MAX, Mark::M0, Mark::M1));
@@ -125,14 +126,14 @@ fn mark(array: &mut XArray, digest: &mut Digest, spread: Spread, salt: u64, entr
 /// Walks over all entries, and over those that have the other mark.
 fn walk(array: &XArray, digest: &mut Digest) {
     for found in array.entries(0, u64::MAX) {
-        digest.add(found.value);
+        digest.add_found(Some(found));
     }
     for found in array.entries_marked(0, u64::MAX, Mark::M1) {
-        digest.add(found.first);
+        digest.add_found(Some(found));
     }
 }
 
-/// Takes entries away, at random first.
+/// Takes entries away: half as many as there are, in no order, of which one in five is none, and then all by their numbers.
 fn erase(
     array: &mut XArray,
     numbers: &mut Numbers,
@@ -141,16 +142,22 @@ fn erase(
     salt: u64,
     entries: u64,
 ) {
+    let mut places = Places::below(widened(entries), numbers);
     for _ in 0..entries / 2 {
-        let index = spread.index(numbers.below(entries.max(1)), salt);
-        digest.add(array.erase(index).unwrap_or(3));
+        let index = spread.index(places.draw(), salt);
+        digest.add_value(array.erase(index));
     }
     for number in 0..entries {
-        digest.add(array.erase(spread.index(number, salt)).unwrap_or(4));
+        digest.add_value(array.erase(spread.index(number, salt)));
     }
 }
 
-/// Gives out identifiers, gives half of them back at random, and gives out some of these again.
+/// A fourth more than so many: of the numbers below it one in five is none of theirs.
+fn widened(entries: u64) -> u64 {
+    entries.saturating_add(entries / 4)
+}
+
+/// Gives out identifiers, gives half as many back, in no order, of which one in five is not used, and gives out some again.
 fn identify(
     alloc: Global,
     numbers: &mut Numbers,
@@ -172,9 +179,9 @@ fn use_ids(
     for _ in 0..entries {
         digest.add(ids.alloc(0, u64::MAX)?);
     }
+    let mut places = Places::below(widened(entries), numbers);
     for _ in 0..entries / 2 {
-        let freed = ids.free(numbers.below(entries.max(1)));
-        digest.add(u64::from(freed.is_ok()));
+        digest.add_done(ids.free(places.draw()));
     }
     for _ in 0..entries / 4 {
         digest.add(ids.alloc(0, u64::MAX)?);

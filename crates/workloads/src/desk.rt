@@ -55,11 +55,12 @@ impl<D: BlockDevice> Desk<D> {
     }
 
     fn of(alloc: Global, mut solo: Solo<D>, files: u64, each: u64) -> Result<Desk<D>, Fault> {
-        match open_all(alloc, &mut solo, files, each) {
+        let mut digest = Digest::new();
+        match open_all(alloc, &mut solo, &mut digest, files, each) {
             Ok(handles) => Ok(Desk {
                 solo,
                 handles,
-                digest: Digest::new(),
+                digest,
             }),
             Err(fault) => {
                 // by a call, since the check is slow where a service goes out of scope
@@ -81,7 +82,7 @@ impl<D: BlockDevice> Desk<D> {
         };
         let count = count.min(room.len());
         match self.solo.pread(handle, offset, &mut room[..count]) {
-            Ok(_) => self.digest.add_read(&room[..count]),
+            Ok(count) => self.digest.add_read(&room[..count as usize]),
             Err(refusal) => self.digest.refuse(refusal),
         }
     }
@@ -92,30 +93,22 @@ impl<D: BlockDevice> Desk<D> {
         let Some(handle) = self.handles.get(at) else {
             return;
         };
-        match self.solo.pwrite(handle, offset, bytes) {
-            Ok(count) => self.digest.add(count),
-            Err(refusal) => self.digest.refuse(refusal),
-        }
+        self.digest
+            .add_answer(self.solo.pwrite(handle, offset, bytes));
     }
 
     pub fn truncate(&mut self, at: usize, size: u64) {
         let Some(handle) = self.handles.get(at) else {
             return;
         };
-        match self.solo.truncate(handle, size) {
-            Ok(()) => self.digest.add(1),
-            Err(refusal) => self.digest.refuse(refusal),
-        }
+        self.digest.add_done(self.solo.truncate(handle, size));
     }
 
     pub fn fsync(&mut self, at: usize) {
         if at >= self.handles.len() {
             return;
         }
-        match self.solo.fsync(&mut self.handles[at]) {
-            Ok(()) => self.digest.add(1),
-            Err(refusal) => self.digest.refuse(refusal),
-        }
+        self.digest.add_done(self.solo.fsync(&mut self.handles[at]));
     }
 }
 
@@ -123,18 +116,19 @@ impl<D: BlockDevice> Desk<D> {
 fn open_all<D: BlockDevice>(
     alloc: Global,
     solo: &mut Solo<D>,
+    digest: &mut Digest,
     files: u64,
     each: u64,
 ) -> Result<Vec<Handle>, Fault>
     ensures { IfOk result (λ hs. All (IsOpen solo.new) hs.items) }
 {
     for _ in 0..files {
-        solo.create()?;
+        digest.add(solo.create()?.0);
     }
     let mut handles = Vec::new(alloc);
     for file in 0..files.min(MAX_FILES) {
         for _ in 0..each {
-            open_one(solo, &mut handles, FileId(file))?;
+            open_one(solo, digest, &mut handles, FileId(file))?;
         }
     }
     Ok(handles)
@@ -143,6 +137,7 @@ fn open_all<D: BlockDevice>(
 /// Opens the file once more.
 fn open_one<D: BlockDevice>(
     solo: &mut Solo<D>,
+    digest: &mut Digest,
     handles: &mut Vec<Handle>,
     file: FileId,
 ) -> Result<(), Fault>
@@ -151,6 +146,7 @@ fn open_one<D: BlockDevice>(
     ensures { All (IsOpen solo.new) handles.new.items }
 {
     let handle = solo.open(file, false)?;
+    digest.add_opened(handle.file().0, handle.cursor());
     match handles.push(handle) {
         Ok(()) => Ok(()),
         Err(_) => Err(Fault::Memory),

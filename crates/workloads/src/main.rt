@@ -2,14 +2,17 @@
 //! The jobs that a user of this software waits for, on inputs of real shape and size: what a benchmark times.
 //!
 //! `workloads NAME SEED` runs one of them: `pool`, `streams`, `server`, `scratch` or `array`. It prints a digest of all that its calls
-//! answered, and no times. Each seed gives another input of the same kind and size. `workloads small SEED` runs a fiftieth of each.
+//! answered, and no times. Each seed gives another input of the same kind and size. `workloads small SEED` runs a fiftieth of each,
+//! over a device that fails as much oftener.
 //!
-//! `desk` has the calls of files, `tools` the bytes that are written and read, `numbers` the generator, and `digest` what is printed.
+//! `desk` has the calls of files, `tools` the bytes that are written and read, `numbers` the generator, `places` numbers that come
+//! once each, and `digest` what is printed.
 
 mod array;
 mod desk;
 mod digest;
 mod numbers;
+mod places;
 mod pool;
 mod scratch;
 mod server;

@@ -5,6 +5,8 @@ ghost use Rattle.std.specs.Prelude.{◌<◌};
 
 use crate::desk::Desk;
 use crate::digest::Digest;
+use crate::numbers::Numbers;
+use crate::places::Places;
 use crate::tools::Tools;
 use blockdev::MemDevice;
 use faulty::FaultyDevice;
@@ -24,10 +26,20 @@ const FRAMES: u64 = 16_384;
 /// Blocks of the device.
 const BLOCKS: u64 = 1 << 20;
 
-/// Each so many device calls one fails.
+/// Each so many device calls one fails, and in a share of the job as much oftener, so that some do.
 const FAILS: u64 = 997;
 
-/// A page far behind the others.
+/// The last file has so many heaps of pages, each so many pages behind the one before, and so many pages a heap.
+const HEAPS: u64 = 1 << 12;
+
+const APART: u64 = 1 << 18;
+
+const HEAP: u64 = 8;
+
+/// At so many of the first bytes of a page a call may begin: 40 bytes from each of them on lie within the page, and 100 reach the next.
+const BEGINS: u64 = 25;
+
+/// Below this it is written and read anywhere.
 const FAR: u64 = 1 << 30;
 
 /// How many rounds there are, and how many pages a temporary file has, 8 of them in a call.
@@ -48,35 +60,26 @@ pub fn run(alloc: Global, tools: &mut Tools, share: u64) -> Result<Digest, Fault
     let frames = (FRAMES / share).max(1_024);
     let geometry = Geometry::new(PAGE, frames, frames - CLEAN_FRAMES, BLOCKS / share.min(16))?;
     let device = MemDevice::new(alloc, geometry.page(), geometry.blocks())?;
-    let device = FaultyDevice::new(device, FAILS);
+    let device = FaultyDevice::new(device, (FAILS / share).max(7));
     let mut desk = Desk::new(alloc, &geometry, device, FILES, 1)?;
+    let mut begins = Begins::new(&mut tools.numbers);
     for round in 0..ROUNDS / share.min(ROUNDS) {
-        let file = (round % FILES) as usize;
-        temporary(&mut desk, tools, file, PAGES / share);
-        sparse(&mut desk, tools, SPARSE / share);
+        temporary(&mut desk, tools, round, PAGES / share);
+        sparse(&mut desk, tools, &mut begins, SPARSE / share);
     }
     let digest = desk.digest();
     drop(desk);
     Ok(digest)
 }
 
-/// Writes a file, reads it in calls of 8 pages, and cuts it: each second one to nothing.
-fn temporary(desk: &mut Far, tools: &mut Tools, at: usize, pages: u64) {
-    for page in 0..pages {
-        let bytes = tools.some(PAGE as usize);
-        desk.write(at, page.wrapping_mul(PAGE), bytes);
-    }
-    if tools.numbers.below(2) == 0 {
+/// Writes a file, reads it in calls of 8 pages, and cuts it: each second one to nothing. Of these half are synced, and of the others.
+fn temporary(desk: &mut Far, tools: &mut Tools, round: u64, pages: u64) {
+    let at = (round % FILES) as usize;
+    write_pages(desk, tools, at, pages);
+    if round % 4 < 2 {
         desk.fsync(at);
     }
-    for part in 0..pages / STEP {
-        desk.read(
-            at,
-            part.wrapping_mul(STEP * PAGE),
-            (STEP * PAGE) as usize,
-            &mut tools.room,
-        );
-    }
+    read_pages(desk, tools, at, pages);
     let kept = if at % 2 == 0 {
         0
     } else {
@@ -85,21 +88,60 @@ fn temporary(desk: &mut Far, tools: &mut Tools, at: usize, pages: u64) {
     desk.truncate(at, kept);
 }
 
-/// Writes and reads pages far apart in the last file.
-fn sparse(desk: &mut Far, tools: &mut Tools, calls: u64) {
+fn write_pages(desk: &mut Far, tools: &mut Tools, at: usize, pages: u64) {
+    for page in 0..pages {
+        let bytes = tools.some(PAGE as usize);
+        desk.write(at, page.wrapping_mul(PAGE), bytes);
+    }
+}
+
+fn read_pages(desk: &mut Far, tools: &mut Tools, at: usize, pages: u64) {
+    for part in 0..pages / STEP {
+        desk.read(
+            at,
+            part.wrapping_mul(STEP * PAGE),
+            (STEP * PAGE) as usize,
+            &mut tools.room,
+        );
+    }
+}
+
+/// Where the calls on the last file begin: in pages far apart, and anywhere.
+#[derive(Clone, Copy)]
+struct Begins {
+    apart: Places,
+    any: Places,
+}
+
+impl Begins {
+    fn new(numbers: &mut Numbers) -> Begins {
+        Begins {
+            apart: Places::below(HEAPS * HEAP * BEGINS, numbers),
+            any: Places::below(FAR, numbers),
+        }
+    }
+
+    /// An offset in a page of a heap.
+    fn apart(&mut self) -> u64 {
+        let place = self.apart.draw();
+        let page = place / BEGINS % HEAP;
+        (place / (HEAP * BEGINS))
+            .wrapping_mul(APART)
+            .wrapping_add(page)
+            .wrapping_mul(PAGE)
+            .wrapping_add(place % BEGINS)
+    }
+}
+
+/// Writes and reads the last file: few bytes of pages far apart, and some anywhere.
+fn sparse(desk: &mut Far, tools: &mut Tools, begins: &mut Begins, calls: u64) {
     let at = FILES as usize - 1;
     for call in 0..calls {
-        let page = tools
-            .numbers
-            .below(1 << 12)
-            .wrapping_mul(1 << 18)
-            .wrapping_add(tools.numbers.below(8));
-        let offset = page.wrapping_mul(PAGE);
         match call % 4 {
-            0 => desk.write(at, offset, tools.some(40)),
-            1 => desk.read(at, offset, 100, &mut tools.room),
-            2 => desk.write(at, tools.numbers.below(FAR), tools.some(100)),
-            _ => desk.read(at, tools.numbers.below(FAR), 64, &mut tools.room),
+            0 => desk.write(at, begins.apart(), tools.some(40)),
+            1 => desk.read(at, begins.apart(), 100, &mut tools.room),
+            2 => desk.write(at, begins.any.draw(), tools.some(100)),
+            _ => desk.read(at, begins.any.draw(), 64, &mut tools.room),
         }
     }
     desk.fsync(at);

@@ -5,6 +5,8 @@ ghost use Rattle.std.specs.Prelude.{◌<◌};
 
 use crate::desk::{Desk, MOST};
 use crate::digest::Digest;
+use crate::numbers::Numbers;
+use crate::places::Places;
 use crate::tools::Tools;
 use blockdev::MemDevice;
 use pc_types::Geometry;
@@ -82,40 +84,86 @@ fn fill(desk: &mut Desk<MemDevice>, tools: &mut Tools, at: usize, pages: u64) {
     desk.fsync(at);
 }
 
-/// Scans the last file, with many calls on the others between two parts.
+/// Scans the last file, each time from a page further on, with many calls on the others between two parts.
 fn serve(desk: &mut Desk<MemDevice>, tools: &mut Tools, sizes: Sizes) {
-    let bytes = sizes
-        .pages
-        .wrapping_mul(PAGE)
-        .saturating_sub(MOST as u64)
-        .max(1);
+    let mut begins = Begins::new(sizes, &mut tools.numbers);
     let scanned = (sizes.long / STEP).max(1);
     for part in 0..sizes.parts {
-        for _ in 0..READS {
-            call(desk, tools, bytes);
-        }
-        let offset = (part % scanned).wrapping_mul(STEP * PAGE);
-        desk.read(LONG, offset, MOST, &mut tools.room);
+        call_many(desk, tools, &mut begins);
+        let page = (part % scanned)
+            .wrapping_mul(STEP)
+            .wrapping_add(part / scanned);
+        desk.read(LONG, page.wrapping_mul(PAGE), MOST, &mut tools.room);
     }
 }
 
-/// Reads at a random place below the end by a random handle, or now and then writes a few bytes there.
-fn call(desk: &mut Desk<MemDevice>, tools: &mut Tools, end: u64)
-    requires { 0 < end }
-{
-    let at = tools.numbers.below(HANDLES) as usize;
-    let offset = tools.numbers.below(end);
-    match tools.numbers.below(32) {
-        0 => desk.read(at, offset / PAGE * PAGE, MOST, &mut tools.room),
+/// Places of the other files, by handle and offset: so many bytes apart, and none twice.
+#[derive(Clone, Copy)]
+struct Spots {
+    places: Places,
+    grain: u64,
+}
+
+impl Spots {
+    /// Those of files with so many bytes.
+    fn new(bytes: u64, grain: u64, numbers: &mut Numbers) -> Spots
+        requires { 0 < grain }
+    {
+        let count = (bytes / grain).saturating_mul(HANDLES);
+        Spots {
+            places: Places::below(count, numbers),
+            grain,
+        }
+    }
+
+    /// The next handle and offset.
+    #[inline(always)]
+    fn draw(&mut self) -> (usize, u64) {
+        let place = self.places.draw();
+        let offset = (place / HANDLES).wrapping_mul(self.grain);
+        ((place % HANDLES) as usize, offset)
+    }
+}
+
+/// Where the calls on the other files begin: at a page, at a line of memory, and anywhere.
+#[derive(Clone, Copy)]
+struct Begins {
+    pages: Spots,
+    lines: Spots,
+    bytes: Spots,
+}
+
+impl Begins {
+    fn new(sizes: Sizes, numbers: &mut Numbers) -> Begins {
+        let bytes = sizes.pages.wrapping_mul(PAGE).saturating_sub(MOST as u64);
+        Begins {
+            pages: Spots::new(bytes, PAGE, numbers),
+            lines: Spots::new(bytes, 64, numbers),
+            bytes: Spots::new(bytes, 1, numbers),
+        }
+    }
+}
+
+fn call_many(desk: &mut Desk<MemDevice>, tools: &mut Tools, begins: &mut Begins) {
+    for _ in 0..READS {
+        call(desk, tools, begins);
+    }
+}
+
+/// Reads at a random place by a random handle, or now and then writes a few bytes there.
+fn call(desk: &mut Desk<MemDevice>, tools: &mut Tools, begins: &mut Begins) {
+    let lot = tools.numbers.below(32);
+    let (at, offset) = match lot {
+        0 | 2..=7 => begins.pages.draw(),
+        1 | 8..=15 => begins.bytes.draw(),
+        _ => begins.lines.draw(),
+    };
+    match lot {
+        0 => desk.read(at, offset, MOST, &mut tools.room),
         1 => desk.read(at, offset, 16_384, &mut tools.room),
-        2 | 3 | 4 | 5 | 6 | 7 => desk.read(
-            at,
-            offset / PAGE * PAGE,
-            PAGE as usize,
-            &mut tools.room,
-        ),
+        2..=7 => desk.read(at, offset, PAGE as usize, &mut tools.room),
         8 => desk.write(at, offset, tools.some(64)),
-        9 | 10 | 11 | 12 | 13 | 14 | 15 => desk.read(at, offset, 512, &mut tools.room),
-        _ => desk.read(at, offset / 64 * 64, 64, &mut tools.room),
+        9..=15 => desk.read(at, offset, 512, &mut tools.room),
+        _ => desk.read(at, offset, 64, &mut tools.room),
     }
 }
