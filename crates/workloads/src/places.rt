@@ -31,30 +31,32 @@ impl Places {
         }
     }
 
-    /// The next number. None comes twice before all have come. Fewer numbers up to the mask are past the end than are below it, so
-    /// one is found.
+    /// The next number. None comes twice before all have come: from each turn, mixing again and again leads to one that is below the
+    /// end, and from no other turn to the same one.
     #[inline(always)]
     pub fn draw(&mut self) -> u64
         ensures { result < self.old.end }
     {
         let end = self.end;
+        let mut place = self.mixed(self.turn);
+        let next = self.turn.wrapping_add(1);
+        self.turn = if next < end { next } else { 0 };
         for _ in 0..end {
-            let place = self.next();
             if place < end {
                 return place;
             }
+            place = self.mixed(place);
         }
         0
     }
 
-    /// A number up to the mask. Each step of the mixing takes different numbers to different ones.
+    /// Another number up to the mask. Each step takes different numbers to different ones.
     #[inline(always)]
-    fn next(&mut self) -> u64 {
+    fn mixed(&self, number: u64) -> u64 {
         let mut place = self
             .first
-            .wrapping_add(self.turn.wrapping_mul(0x9e37_79b9_7f4a_7c15))
+            .wrapping_add(number.wrapping_mul(0x9e37_79b9_7f4a_7c15))
             & self.mask;
-        self.turn = self.turn.wrapping_add(1);
         place ^= place >> self.half;
         place = place.wrapping_mul(0x94d0_49bb_1331_11eb) & self.mask;
         place ^= place >> self.half;
