@@ -270,13 +270,10 @@ impl<B: Naming, D: BlockDevice, T: Trail> SharedCache<B, D, T> {
         if let Err(other) = self.relieve(rt, guard, seat, denied) {
             return Err(other);
         }
-        match self.make_way(rt, seat, span, &mut None) {
-            Ok(room) => {
-                drop(room);
-                Ok(())
-            }
-            Err(denied) => Err(denied),
+        if let Err(denied) = self.make_way(rt, seat, span, &mut None) {
+            return Err(denied);
         }
+        Ok(())
     }
 }
 

@@ -67,16 +67,18 @@ returns-in-Ok-false-clause-kept g c other =
 pub returns-in-Ok-false-clause-blocked : goal.returns-in-Ok-false-clause-blocked
 returns-in-Ok-false-clause-blocked g c _ =
     let none = c.in-Ok-false.ensures.none c.in-Ok-false.field-0-test in
-    inr (subst (λ (s : State). wanted s c.args.span ≡ Some Frames) (sym none.1)
-    (sym c.wants.ensures ∙ c.in-Some-Frames.is ∙ ap Some c.in-Some-Frames.field-0-is),
-    subst (λ (s : State). has_idle s ≡ false) (sym none.1) none.0)
+    inr (
+      subst (λ (s : State). wanted s c.args.span ≡ Some Frames) (sym none.1)
+          (sym c.wants.ensures ∙ c.in-Some-Frames.is ∙ ap Some c.in-Some-Frames.field-0-is),
+      subst (λ (s : State). has_idle s ≡ false) (sym none.1) none.0,
+    )
 
 pub returns-in-Ok-false-clause-gone : goal.returns-in-Ok-false-clause-gone
 returns-in-Ok-false-clause-gone g c = (
   c.pages.counter,
   gone_still c.pages.counter c.args.seat.now c.pages.seat c.evict_idle.new.seat c.pages.invariant.goes c.pages.invariant.gone
-  (subst (λ b. LetsGo (if b then 1 else 0) c.pages.seat c.evict_idle.new.seat) c.in-Ok-false.field-0-test
-  c.in-Ok-false.ensures.gone),
+      (subst (λ b. LetsGo (if b then 1 else 0) c.pages.seat c.evict_idle.new.seat) c.in-Ok-false.field-0-test
+      c.in-Ok-false.ensures.gone),
   c.pages.invariant.most,
 )
 

@@ -3,10 +3,10 @@ use Rattle.shared.proofs.Making.{room_on}
 use Rattle.shared.proofs.Settling.{denied_on, settles_on}
 use Rattle.shared.proofs.cache.SharedCache.settle.Goals as goal
 
-pub returns-in-Ok-clause-settled : goal.returns-in-Ok-clause-settled
-returns-in-Ok-clause-settled g c =
+pub returns-clause-settled : goal.returns-clause-settled
+returns-clause-settled g c =
     settles_on g.B.Naming.name c.args.seat.now c.relieve.new.seat c.make_way.new.seat c.in_default.ensures.settled
-    c.in-Ok.ensures.settled
+    c.in_default-make_way.ensures.settled
 
 pub returns-in-Err-make_way-clause-denied : goal.returns-in-Err-make_way-clause-denied
 returns-in-Err-make_way-clause-denied g c =
