@@ -1,12 +1,12 @@
 -- How many pages go for a call that lacks frames: each leaves one, and the call lacks no more than it touches pages.
-use Rattle.std.proofs.Common.{◌≡◌, ◌∙◌, ◌+◌, ◌-◌, ◌*◌, ◌/◌, ◌<◌, ◌≤◌, ltb, ℕ, Bool, true, false, not, cond, List, [], ◌∷◌, map, length, refl, sym, ap, subst, arith, inl, inr, le-div_iff_mul-le}
-use Rattle.std.specs.Prelude.{◌≢◌, ◌&&◌, IsTrue, Option, Some, None, if◌then◌else◌, is_some, nat_le, nat_lt, count_by, option_map, unwrap_or}
+use Rattle.std.proofs.Common.{◌≡◌, ◌∙◌, ◌+◌, ◌-◌, ◌*◌, ◌/◌, ◌<◌, ◌≤◌, ltb, ℕ, Bool, true, false, not, List, [], ◌∷◌, map, length, refl, sym, ap, subst, arith, le-div_iff_mul-le}
+use Rattle.std.specs.Prelude.{◌&&◌, IsTrue, Option, Some, None, if◌then◌else◌, is_some, nat_le, nat_lt, count_by, option_map, unwrap_or}
 use Rattle.std.specs.FinMap as finmap
 use Rattle.std.specs.FinMap.{len-empty}
 use Rattle.std.specs.Ordering.{nat_cmp}
 use Rattle.std.proofs.lemmas.Bool.Decides.{nat_tests}
 use Rattle.std.proofs.lemmas.List.{get_or_past}
-use Rattle.cachecore.specs.Wants.{lacking, lacks_frames, may_touch, passes_limit}
+use Rattle.cachecore.specs.Wants.{lacking, lacks_frames, passes_limit}
 use Rattle.cachecore.proofs.TouchCounts.{count_below}
 use Rattle.filesvc.specs.Rests.{IsOrderly}
 use Rattle.filesvc.specs.Rooms.{StaysAbsent}
@@ -18,7 +18,6 @@ use Rattle.machine.specs.Changes.{put_pages}
 use Rattle.machine.specs.History as machine
 use Rattle.machine.specs.Sound.{Sound}
 use Rattle.machine.specs.State.{State, File, Request, Sync, cached_total, file_at, filling_total, free_frames, handle_file, is_cached, is_idle, is_open, no_file, page_at, page_count, spot_at, touched, touched_count}
-use Rattle.machine.specs.Step.{Step}
 use Rattle.machine.specs.declared.event.Event.{Event}
 use Rattle.machine.specs.declared.event.Event.TheVariants as event
 use Rattle.machine.specs.declared.event.Reply.{Reply}
@@ -29,8 +28,6 @@ use Rattle.machine.proofs.steps.Choices.{mapped_some}
 use Rattle.maps.proofs.Lengths.{count_empty, len_one_gone}
 use Rattle.pc_types.specs.Limits.{Sizes, is_geometry}
 use Rattle.pc_types.specs.Spots.{Spot}
-use Rattle.pc_types.specs.declared.ids.FileId.{FileId}
-use Rattle.pc_types.specs.declared.ids.PageIndex.{PageIndex}
 use Rattle.pc_types.specs.declared.limits.TheConstants.{MAX_FILE_SIZE, MAX_HANDLES, MAX_IN_FLIGHT, MAX_SYNCS, MAX_TOUCHED}
 use Rattle.runs.proofs.events.Lookups.{cached_within}
 use Rattle.runs.proofs.moments.FrameCounts.{cached_set, filling_is, is_live_fill}
