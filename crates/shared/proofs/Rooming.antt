@@ -241,6 +241,20 @@ evicted_one None n x y z a b c first slip m q e = absurd cc
 evicted_one (Some p) n x y z a b c first slip m q e =
     (p.0, p.1, subst (λ (s : State). Step s event.Evict (reply.Evicted p.0 p.1) z.core.state) m.step.1 q.step)
 
+-- an age and an eviction are two events
+pub two_made : (r t : Reply) (x y z w : HeldSeen) (a b c : SeatSeen) (first slip : Slip)
+    → Made event.Age r x y a b first → Made event.Evict t z w b c slip → c.count ≡ a.count + 2
+two_made r t x y z w a b c first slip m q = omega (arith, m.entered.count, q.entered.count)
+
+-- without a slip they are refused by a full trail
+pub age_full : (old new : HeldSeen) (before after : SeatSeen) (d : Denied)
+    → under.IsDenied event.Age old new before after d → d.slip ≡ None → d.refusal ≡ TrailFull
+age_full old new before after d q none = (full_by event.Age old new before after d q none).0
+
+pub evict_full : (old new : HeldSeen) (before after : SeatSeen) (d : Denied)
+    → under.IsDenied event.Evict old new before after d → d.slip ≡ None → d.refusal ≡ TrailFull
+evict_full old new before after d q none = (full_by event.Evict old new before after d q none).0
+
 -- ---- the entry of the refusal
 
 lost_by : (sizes : Sizes) (name : ℕ) (e : Event) (why : Refusal) (old new : HeldSeen) (before at after : SeatSeen) (slip : Slip)

@@ -1,6 +1,6 @@
 //! What a call does on the way: it fills pages that it missed, and makes room.
 
-ghost use Rattle.std.specs.Prelude.{◌≡◌, ◌≢◌, ◌≤◌, ◌&&◌, ◌⊎◌, ℕ, IfErr, IfNone, IfOk, IfSome, IsOk, IsOkUnless, IsTrue, None, Ok, Some, if◌then◌else◌, false, is_some, length, true};
+ghost use Rattle.std.specs.Prelude.{◌≡◌, ◌≢◌, ◌≤◌, ◌+◌, ◌*◌, ◌&&◌, ◌⊎◌, ℕ, IfErr, IfNone, IfOk, IfSome, IsOk, IsOkUnless, IsTrue, None, Ok, Some, if◌then◌else◌, false, is_some, length, true};
 ghost use Rattle.std.specs.Sync.Mutex.{mutex_guard_value};
 ghost use Rattle.blockdev.specs.Jobs.{IsJobFor};
 ghost use Rattle.locked.specs.Called.{Goes, Only};
@@ -15,7 +15,7 @@ ghost use Rattle.trail.specs.History.{After};
 ghost use Rattle.shared.specs.Called.{is_for_now};
 ghost use Rattle.shared.specs.Denials.{IsDenied, IsFullIfNoSlip};
 ghost use Rattle.shared.specs.Own.{IsEviction, IsHelp, IsRoomEvent, IsStillDenied};
-ghost use Rattle.shared.specs.Rooms.{Evicts, FailsToWrite, HasNoMore, IsCrammed, IsFinal, IsFinalOr, IsLost, IsUnwritten, is_written, wanted, wants_room};
+ghost use Rattle.shared.specs.Rooms.{Evicts, FailsToWrite, HasNoMore, IsCrammed, IsFinal, IsFinalOr, IsLost, IsRoomTry, IsUnwritten, is_written, wanted, wants_room};
 ghost use Rattle.shared.specs.Settled.{EndsIn, FillsNoOther, SettlesIn};
 ghost use Rattle.shared.specs.Synced.{IsFlushEnd};
 ghost use Rattle.shared.specs.Workers.{LetsGo};
@@ -77,7 +77,7 @@ impl<B: Naming, D: BlockDevice, T: Trail> SharedCache<B, D, T> {
         }
     }
 
-    /// A hold and a buffer: those at hand, and anew what is missing. A buffer is asked for without the lock.
+    /// A hold and a buffer: those at hand, and anew what is missing. Where a buffer is asked for the hold is given back first.
     fn hold_with<'a, R: Wait>(
         &'a self,
         rt: &R,
@@ -88,7 +88,8 @@ impl<B: Naming, D: BlockDevice, T: Trail> SharedCache<B, D, T> {
         ensures size { IfOk result (λ r. length r.1 ≡ B.sizes.page) }
         ensures spared { IfSome spare (λ b. IfOk result (λ r. r.1 ≡ b)) }
         ensures refused { IsOkUnless result Memory }
-        ensures never { is_some spare ≡ true → IsOk result }
+        ensures had { is_some spare ≡ true → IsOk result }
+        ensures held { is_some spare ≡ true → IfSome room.entry (λ hold. IfOk result (λ r. mutex_guard_value r.0 ≡ mutex_guard_value hold)) }
     {
         match (room, spare) {
             // Another hold would move what lies under the lock to this processor once more.
@@ -296,8 +297,9 @@ impl<B: Naming, D: BlockDevice, T: Trail> SharedCache<B, D, T> {
     /// Writes a page back, of the first file that has one to write; or waits for the end of a request, where there is none to write or
     /// too many are in flight. Answers whether that was done; also where the write failed, if another request was in flight beside it.
     ///
-    /// The page goes out in the spare buffer, or in a new one where there is none, and the buffer of a write that ended is the spare one.
-    #[tactic(auto, using(locked::proofs::Seats::goes_by, locked::proofs::Seats::goes_on, locked::proofs::Seats::goes_same, crate::proofs::Making::goes_denied, crate::proofs::Making::denied_first, crate::proofs::Making::room_on, locked::proofs::Seats::only_same, crate::proofs::Owning::only_first_denied, crate::proofs::Owning::only_written, crate::proofs::Rooming::first_unwanted, crate::proofs::Rooming::none_unwritten, crate::proofs::Rooming::first_final, crate::proofs::Rooming::first_full, crate::proofs::Rooming::final_lasting))]
+    /// The page goes out in the spare buffer, or in a new one where there is none. The buffer of a write that ended is the spare one then;
+    /// where nothing was written there is none.
+    #[tactic(auto, using(locked::proofs::Seats::goes_by, locked::proofs::Seats::goes_on, locked::proofs::Seats::goes_same, crate::proofs::Making::goes_denied, crate::proofs::Making::denied_first, crate::proofs::Making::room_on, locked::proofs::Seats::only_same, crate::proofs::Owning::only_first_denied, crate::proofs::Owning::only_written, crate::proofs::Rooming::first_unwanted, crate::proofs::Rooming::none_unwritten, crate::proofs::Rooming::first_final, crate::proofs::Rooming::first_full, crate::proofs::Owning::first_tried, crate::proofs::Rooming::final_lasting))]
     fn flush_one<R: Wait>(
         &self,
         rt: &R,
@@ -316,6 +318,7 @@ impl<B: Naming, D: BlockDevice, T: Trail> SharedCache<B, D, T> {
         ensures stands { IfErr result (IsFinal B.sizes B.name seat.new) }
         ensures settled { SettlesIn B.name seat.old seat.new result }
         ensures size { IfSome spare.new (λ b. length b ≡ B.sizes.page) }
+        ensures back { IfOk result (λ _. spare.new ≡ None → Only (λ e. IsRoomTry e.event) seat.old seat.new) }
         ensures lent { is_some spare.old ≡ true → IfErr result (λ d. d.slip ≡ None → d.refusal ≡ TrailFull) }
     {
         let was_busy = guard.is_busy();
@@ -441,7 +444,7 @@ fn written(ended: Ended) -> (bool, Buffer)
 }
 
 /// Lets pages age, and then an idle one go. Answers whether there was one.
-#[tactic(auto, using(locked::proofs::Seats::goes_by, locked::proofs::Seats::goes_on, locked::proofs::Seats::goes_same, crate::proofs::Making::goes_denied, crate::proofs::Making::denied_age, crate::proofs::Making::denied_evict, crate::proofs::Owning::only_age_denied, crate::proofs::Owning::only_evicts, crate::proofs::Owning::only_evict_denied, crate::proofs::Letting::evicted_gone, crate::proofs::Rooming::age_unwanted, crate::proofs::Rooming::evict_unwanted, crate::proofs::Rooming::evict_none, crate::proofs::Rooming::evicted_one, crate::proofs::Rooming::age_final, crate::proofs::Rooming::evict_final))]
+#[tactic(auto, using(locked::proofs::Seats::goes_by, locked::proofs::Seats::goes_on, locked::proofs::Seats::goes_same, crate::proofs::Making::goes_denied, crate::proofs::Making::denied_age, crate::proofs::Making::denied_evict, crate::proofs::Owning::only_age_denied, crate::proofs::Owning::only_evicts, crate::proofs::Owning::only_evict_denied, crate::proofs::Letting::evicted_gone, crate::proofs::Rooming::age_unwanted, crate::proofs::Rooming::evict_unwanted, crate::proofs::Rooming::evict_none, crate::proofs::Rooming::evicted_one, crate::proofs::Rooming::two_made, crate::proofs::Rooming::age_full, crate::proofs::Rooming::evict_full, crate::proofs::Rooming::age_final, crate::proofs::Rooming::evict_final))]
 fn evict_idle<B: Naming, T: Trail>(
     state: &mut Locked<B, T>,
     seat: &mut Seat,
@@ -454,6 +457,8 @@ fn evict_idle<B: Naming, T: Trail>(
     ensures unwanted { IfErr result (λ d. wants_room d.refusal ≡ false) }
     ensures none { IfOk result (λ went. went ≡ false → (has_idle state.old.core.state ≡ false) × (state.new.core.state ≡ state.old.core.state)) }
     ensures went { IfOk result (λ went. went ≡ true → Evicts state.old.core.state state.new.core.state) }
+    ensures two { IfOk result (λ _. seat.new.count ≡ seat.old.count + 2) }
+    ensures full { IfErr result (λ d. d.slip ≡ None → d.refusal ≡ TrailFull) }
     ensures stands { IfErr result (IsFinal B.sizes B.name seat.new) }
 {
     if let Err(denied) = state.age(seat) {
@@ -495,8 +500,8 @@ enum Way {
 
 /// Lets idle pages go, while a call lacks a frame.
 ///
-/// Each of them leaves a frame, and no call lacks more than it touches pages. A page that goes may be the call's own: then it lacks one
-/// frame more.
+/// Each of them leaves a frame, and no call lacks more pages than it touches. A page that goes may be the call's own: then it lacks as many
+/// frames as before.
 #[tactic(auto, using(locked::proofs::Seats::goes_on, locked::proofs::Seats::goes_same, locked::proofs::Seats::only_same, crate::proofs::Making::room_on, crate::proofs::Owning::eviction_on))]
 fn clear_way<B: Naming, T: Trail>(
     state: &mut Locked<B, T>,
@@ -510,7 +515,8 @@ fn clear_way<B: Naming, T: Trail>(
     ensures clear { IfOk result (λ way. way ≡ Clear → wanted state.new.core.state span ≡ None) }
     ensures blocked { IfOk result (λ way. way ≡ Blocked → (wanted state.new.core.state span ≡ Some Clean) ⊎ ((wanted state.new.core.state span ≡ Some Frames) × (has_idle state.new.core.state ≡ false))) }
     ensures few { IfOk result (λ _. wanted state.old.core.state span ≡ Some Frames → HasNoMore state.new.core.state span) }
-    ensures gone { IfOk result (λ _. (pages : ℕ) × LetsGo pages seat.old seat.new × (pages ≤ MAX_TOUCHED)) }
+    ensures gone { IfOk result (λ _. (pages : ℕ) × LetsGo pages seat.old seat.new × (pages ≤ MAX_TOUCHED) × (seat.new.count ≤ seat.old.count + 2 * pages + 2)) }
+    ensures full { IfErr result (λ d. d.slip ≡ None → d.refusal ≡ TrailFull) }
     ensures denied { IfErr result (IsDenied IsRoomEvent seat.old seat.new) }
     ensures unwanted { IfErr result (λ d. wants_room d.refusal ≡ false) }
     ensures stands { IfErr result (IsFinal B.sizes B.name seat.new) }
@@ -521,7 +527,7 @@ fn clear_way<B: Naming, T: Trail>(
             Some(Want::Clean) => return Ok(Way::Blocked),
             None => return Ok(Way::Clear),
         }
-        // Lends that the history is legal, and so that each cached or filling page has a frame.
+        // Lend that the history is legal, and the sizes within their limits: so each cached or filling page has a frame.
         let _ = state.core().geometry().page();
         match evict_idle(state, seat) {
             Ok(true) => {}
@@ -529,7 +535,7 @@ fn clear_way<B: Naming, T: Trail>(
             Err(denied) => return Err(denied),
         }
     }
-    // As many frames are free as a call touches pages at most.
+    // More frames would be free than a call touches pages.
     unreachable!()
 }
 

@@ -1,7 +1,8 @@
 //! Worked calls on a shared cache of name 7, with 16-byte pages and 64 blocks: with 48 frames and a dirty limit of 16, or with 128
 //! frames and a limit of 96 if the row fills the ring. Every row is run by one function, since the check is slow where a cache is
 //! dropped. The rows with several threads are those of `thread_rows`, those of workers are those of
-//! `worker_rows`, and those whose history is looked at are those of `history_rows`.
+//! `worker_rows`, those over a file longer than the cache are those of `long_rows`, and those whose history is looked at are those of
+//! `history_rows`.
 
 ghost use Rattle.std.specs.Prelude.{◌≡◌, All, IfSome};
 ghost use Rattle.std.specs.FinMap as map;
@@ -11,7 +12,7 @@ ghost use Rattle.shared.specs.Keeps.{IsDisk};
 ghost use Rattle.shared.specs.Workers.{IsWorkerOf};
 
 use crate::history_rows::{Story, leaves_a_history};
-use crate::long_rows::passes_over_a_long_file;
+use crate::long_rows::{BADLY, SOME, WELL, passes_over_a_long_file};
 use crate::thread_rows::{
     Entrance, FIRST_FILL, Turnstile, is_seen_by_all, reads_beside_a_fill, reads_page,
     shares_a_file, tries_again, writes_page,
@@ -49,6 +50,7 @@ enum Row {
     IsSeenByAll,
     Leaves(Story),
     PassesOverALongFile,
+    PassesOverFaults,
     ReadsBack,
     ReadsBesideAFill,
     ReadsBesideAWrite,
@@ -140,7 +142,12 @@ fn runs<B: Naming + Send + Sync, D: BlockDevice + Send, R: Threads + Wait + Sync
     };
     match row {
         Row::IsSeenByAll => is_seen_by_all(rt, cache, first, second, handle),
-        Row::PassesOverALongFile => passes_over_a_long_file(rt, cache, &mut first, &handle),
+        Row::PassesOverALongFile => {
+            passes_over_a_long_file(rt, cache, turnstile, &mut first, &handle, WELL)
+        }
+        Row::PassesOverFaults => {
+            passes_over_a_long_file(rt, cache, turnstile, &mut first, &handle, BADLY)
+        }
         Row::ReadsBack => reads_back(rt, cache, &mut first, handle),
         Row::ReadsBesideAFill => {
             reads_beside_a_fill(rt, cache, turnstile, first, second, &handle)
@@ -351,7 +358,9 @@ fn syncs_thrice<B: Naming, D: BlockDevice, R: Wait>(
 fn trail_for(alloc: Global, row: Row) -> Result<FullTrail, Refusal> {
     let trail = match row {
         Row::Leaves(story) => story.trail(alloc)?,
-        Row::PassesOverALongFile => FullTrail::new(alloc, 100_000, 4_000_000)?,
+        Row::PassesOverALongFile | Row::PassesOverFaults => {
+            FullTrail::new(alloc, 100_000, 8_000_000)?
+        }
         Row::WakesEachTime => FullTrail::new(alloc, 20_000, 1_000_000)?,
         _ => FullTrail::new(alloc, 1000, 20000)?,
     };
@@ -379,6 +388,7 @@ fn over_a_cache<R: Threads + Wait + Sync>(
     let turnstile = Turnstile::new();
     let turnstile = &turnstile;
     let every = match row {
+        Row::PassesOverFaults => SOME,
         Row::TriesAgain => FIRST_FILL,
         _ => 0,
     };
@@ -418,6 +428,14 @@ fn a_cached_page_is_read_while_its_write_is_held(rt: HostRuntime) -> Result<(), 
 #[test]
 fn a_file_longer_than_the_cache_is_read_and_changed(rt: HostRuntime) -> Result<(), Fail> {
     assert!(&rt; over_a_cache(&rt, rt.alloc(), Row::PassesOverALongFile)?);
+    Ok(())
+}
+
+#[test]
+fn a_file_longer_than_the_cache_is_kept_by_a_device_that_fails(
+    rt: HostRuntime,
+) -> Result<(), Fail> {
+    assert!(&rt; over_a_cache(&rt, rt.alloc(), Row::PassesOverFaults)?);
     Ok(())
 }
 

@@ -29,6 +29,7 @@ pages-init g c = record {
   only = only_same (λ e. IsEviction e.event) c.args.seat.now c.args.seat.now refl;
   gone = gone_none c.args.seat.now;
   most = omega arith;
+  count = omega arith;
   free = omega arith;
   first = λ other. (refl, refl);
   few = λ e. none_more c.args.state.now.core.state c.args.span e;
@@ -53,6 +54,7 @@ pages-preserved g c =
       gone = gone_on c.pages.counter 1 c.args.seat.now c.pages.seat c.evict_idle.new.seat i.goes i.gone
           (subst (λ b. LetsGo (if b then 1 else 0) c.pages.seat c.evict_idle.new.seat) c.in-Ok-true.field-0-test e.gone);
       most = more.1;
+      count = omega (arith, i.count, e.two);
       free = more.0;
       first = λ other. absurd (first_wanted c.args.state.now c.pages.state c.args.span (λ k. (i.first k).0) want other);
       few = λ _. none_more_gone s t c.args.span want went;
@@ -80,6 +82,7 @@ returns-in-Ok-false-clause-gone g c = (
       (subst (λ b. LetsGo (if b then 1 else 0) c.pages.seat c.evict_idle.new.seat) c.in-Ok-false.field-0-test
       c.in-Ok-false.ensures.gone),
   c.pages.invariant.most,
+  omega (arith, c.pages.invariant.count, c.in-Ok-false.ensures.two),
 )
 
 pub returns-in-Err-clause-kept : goal.returns-in-Err-clause-kept

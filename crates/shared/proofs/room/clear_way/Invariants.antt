@@ -1,4 +1,4 @@
-use Rattle.std.proofs.Common.{◌≡◌, ◌≤◌, Some}
+use Rattle.std.proofs.Common.{◌≡◌, ◌≤◌, ◌+◌, ◌*◌, Some}
 use Rattle.std.specs.Prelude.{◌≢◌}
 use Rattle.locked.specs.Called.{Goes, Only}
 use Rattle.machine.specs.State.{free_frames}
@@ -15,6 +15,7 @@ invariant-pages g l = record {
   only : Only (λ e. IsEviction e.event) l.initial.seat l.seat;
   gone : LetsGo l.counter l.initial.seat l.seat;
   most : l.counter ≤ MAX_TOUCHED;
+  count : l.seat.count ≡ l.initial.seat.count + 2 * l.counter;
   free : l.counter ≤ free_frames l.state.core.state;
   first : wanted l.initial.state.core.state l.fn.span ≢ Some Frames → (l.state ≡ l.initial.state) × (l.seat ≡ l.initial.seat);
   few : wanted l.initial.state.core.state l.fn.span ≡ Some Frames → HasNoMore l.state.core.state l.fn.span;
