@@ -1,5 +1,5 @@
 //! A database's buffer pool: random reads and overwrites of the pages of a table that is four times its cache, most of them in a
-//! hot fifth, which are rarely synced.
+//! hot fifth, which are rarely synced. A hot page is read again and again, as whole as before: that is what a pool is for.
 
 ghost use Rattle.std.specs.Prelude.{◌<◌};
 
@@ -47,7 +47,7 @@ const POOLS: [Pool; 3] = [
     },
 ];
 
-/// The first file is the table. By the second handle it is read, and by the first written.
+/// The table's handle.
 const TABLE: usize = 0;
 
 pub fn run(alloc: Global, tools: &mut Tools, share: u64) -> Result<Digest, Fault>

@@ -1,5 +1,5 @@
-//! Temporary and sparse files, the awkward input: small pages, files that are written, read and cut to nothing again, pages far
-//! apart, one dirty file among many that are clean, and a device whose calls fail now and then.
+//! Temporary and sparse files, the awkward input: small pages, files that are written, read and cut again, pages far apart, one dirty
+//! file among many that are clean, and a device whose calls fail now and then.
 
 ghost use Rattle.std.specs.Prelude.{◌<◌};
 

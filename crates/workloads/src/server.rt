@@ -1,5 +1,5 @@
-//! A file server: cached reads of 64 bytes to 64 KiB at random places of files that fit into the cache, by a thousand handles, and
-//! scans of a file that does not, by calls of 16 pages.
+//! A file server: cached reads of 64 bytes to 64 KiB, and a few writes, at random places of 19 files that fit into the cache, by 950
+//! handles, and two scans of a file that does not, by calls of 16 pages. No call comes twice.
 
 ghost use Rattle.std.specs.Prelude.{◌<◌};
 
