@@ -3,8 +3,8 @@
 //!
 //! Each call is an operation on two lists of frames without doubles, on the set of referenced frames, and on an owner and
 //! a page of bytes for each frame (`specs/Table.antt`). All memory is taken when the frames are made. Every other call
-//! takes none, and all but `age` and `scan` take constant time: but once in three times as many frames that come to the head of a
-//! list as there are, the one that comes waits for a pass over four turns a frame.
+//! takes none, and all but `age` and `scan` take constant time: but after three times as many comings to the head of a
+//! list as there are frames, the one that comes waits for a pass over four turns a frame.
 //!
 //! `frames` has the table, `lists` the two lists over `ring`'s links, `order` the oldest frame of each that waits, `bit_set` the
 //! least number of a set over `bits`, and `rows` the bytes.

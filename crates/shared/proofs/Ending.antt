@@ -1,6 +1,6 @@
 -- What the ends of jobs and the turns of workers say of a seat.
 use Rattle.std.proofs.Common.{◌≡◌, ℕ, zero, suc, [], ◌∷◌, ◌++◌, ap, arith, refl, sym, subst, ◌∙◌}
-use Rattle.std.specs.Prelude.{All, Bool, false, IfErr, IfNone, IfSome, Ok, Option, Result, Some, None, is_some, length}
+use Rattle.std.specs.Prelude.{All, Bool, false, IfErr, IfNone, IfOk, IfSome, Ok, Option, Result, Some, None, is_some, length}
 use Rattle.std.proofs.lemmas.List.{append_assoc, append-nil}
 use Rattle.std.proofs.lemmas.List.Elements.{All-append, All-nil, All-weaker}
 use Rattle.std.proofs.lemmas.Result.{IfErr-weaker}

@@ -55,8 +55,7 @@ gone_by b e r old new before after slip is m =
       gone = sym (counted before.number b p.since p.made ∙ ap (λ k. if b then k else 0) one);
     }
 
--- so many were let go, and then so many more
-pub gone_on : (m n : ℕ) (a b c : SeatSeen) → Goes a b → LetsGo m a b → LetsGo n b c → LetsGo (m + n) a c
+gone_on : (m n : ℕ) (a b c : SeatSeen) → Goes a b → LetsGo m a b → LetsGo n b c → LetsGo (m + n) a c
 gone_on m n a b c goes p q =
     let same : n ≡ count_by (went a.number) q.since = q.gone ∙ ap (λ k. count_by (went k) q.since) goes.same.2 in
     record {
@@ -64,9 +63,6 @@ gone_on m n a b c goes p q =
       saw = q.saw ∙ ap (λ l. l ++ q.since) p.saw ∙ append_assoc a.list p.since q.since;
       gone = omega (arith, p.gone, same, sum_by-append (λ (e : Entry). if went a.number e then 1 else 0) p.since q.since);
     }
-
-pub gone_still : (pages : ℕ) (a b c : SeatSeen) → Goes a b → LetsGo pages a b → LetsGo 0 b c → LetsGo pages a c
-gone_still pages a b c goes p q = subst (λ n. LetsGo n a c) (add-zero pages) (gone_on pages 0 a b c goes p q)
 
 -- pages aged, and then one was let go or none was idle
 pub evicted_gone : (n : ℕ) (page : Option (FileId × PageIndex)) (x y z w : HeldSeen) (a b c : SeatSeen) (first slip : Slip)
@@ -83,17 +79,16 @@ evicted_gone n page x y z w a b c first slip m k =
     let_go (Some o) = refl
     let_go None = refl
 
--- none was let go where the seat stayed
-pub gone_none : (before : SeatSeen) → LetsGo 0 before before
-gone_none before = record { since = []; saw = sym (append-nil before.list); gone = refl }
-
 -- ---- the count of a turn
 
 abbrev pub Counts : SeatSeen → SeatSeen → ℕ → Type 0
 Counts before after n = (pages : ℕ) × LetsGo pages before after × (n ≡ min pages (2 ^ 64 - 1))
 
 pub none_gone : (before after : SeatSeen) → after ≡ before → Counts before after 0
-none_gone before after e = (0, subst (LetsGo 0 before) (sym e) (gone_none before), refl)
+none_gone before after e = (0, subst (LetsGo 0 before) (sym e) none, refl)
+  where
+    none : LetsGo 0 before before
+    none = record { since = []; saw = sym (append-nil before.list); gone = refl }
 
 pub last_gone : (a b c : SeatSeen) (n : ℕ) → Goes a b → Counts a b n → LetsGo 0 b c → Counts a c n
 last_gone a b c n goes p q =

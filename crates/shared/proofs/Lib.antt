@@ -14,4 +14,3 @@ pub mod Sparing
 pub mod Wanting
 pub mod Carrying
 pub mod Settling
-pub mod Clearing

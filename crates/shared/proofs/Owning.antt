@@ -31,7 +31,6 @@ use Rattle.shared.specs.Changes.{event_of}
 use Rattle.shared.specs.declared.writes.Change.{Change}
 use Rattle.shared.specs.declared.writes.Change.TheVariants.{Append, Truncate, Write}
 use Rattle.shared.specs.Own.{IsEviction, IsHelp, IsRoomEvent, IsTry, IsUndone}
-use Rattle.shared.specs.Rooms.{IsRoomTry}
 use Rattle.shared.specs.Synced.{EndsOnce, IsFlushEnd, IsSyncOver, IsSyncTry, IsTurnTry, IsUnended, IsVerdict, OneSync}
 use Rattle.shared.specs.Workers.{IsEnd, IsEndOf, IsWriteBack}
 use Rattle.shared.proofs.Making.{room_helps}
@@ -116,11 +115,6 @@ pub only_first_denied : (old new : HeldSeen) (before after : SeatSeen) (d : Deni
     → IsFirstDenied old new before after d → Only (λ x. IsRoomEvent x.event) before after
 only_first_denied old new before after d q =
     only_denied (λ x. IsRoomEvent x.event) (event.FlushBegin q.file) old new before after d (λ why. tt) q.denied
-
-pub first_tried : (old new : HeldSeen) (before after : SeatSeen) (d : Denied) → IsFirstDenied old new before after d
-    → Only (λ e. IsRoomTry e.event) before after
-first_tried old new before after d q =
-    only_denied (λ e. IsRoomTry e.event) (event.FlushBegin q.file) old new before after d (λ why. tt) q.denied
 
 evicts_room : (e : Event) → IsEviction e → IsRoomEvent e
 evicts_room event.Evict x = tt

@@ -28,7 +28,7 @@ use Rattle.pc_types.specs.declared.kind.Kind.{Kind}
 use Rattle.pc_types.specs.declared.kind.Kind.TheVariants.{Flush}
 use Rattle.pc_types.specs.declared.limits.TheConstants.{MAX_TOUCHED}
 use Rattle.pc_types.specs.declared.refusal.Refusal.{Refusal}
-use Rattle.pc_types.specs.declared.refusal.Refusal.TheVariants.{BadHandle, DirtyLimit, NoFrame, NoSuchFile, Stranger, TooLong, TooManyInFlight, TrailFull}
+use Rattle.pc_types.specs.declared.refusal.Refusal.TheVariants.{BadHandle, DirtyLimit, NoFrame, NoSuchFile, Stranger, TooLong, TooManyInFlight}
 use Rattle.trail.specs.declared.entry.Entry.{Entry}
 use Rattle.trail.specs.Entries.{entry_of}
 use Rattle.trail.specs.History.{After}
@@ -44,8 +44,8 @@ use Rattle.locked.proofs.Replied.{end_taken}
 use Rattle.locked.proofs.Seats.{goes_same, only_by, only_on, only_same, only_wider}
 use Rattle.shared.specs.Called.{is_for_now}
 use Rattle.shared.specs.Own.{IsEviction, IsRoomEvent, admitted}
-use Rattle.shared.specs.Rooms.{Evicts, FailsToWrite, IsAtRest, IsCrammed, IsFinal, IsFinalOr, IsLost, IsRoomLost, IsRoomTry, IsUnwritten, is_written, wants_room}
-use Rattle.shared.proofs.Making.{full_by, makes_by}
+use Rattle.shared.specs.Rooms.{FailsToWrite, IsAtRest, IsCrammed, IsFinal, IsFinalOr, IsLost, IsRoomLost, IsRoomTry, IsUnwritten, is_written, wants_room}
+use Rattle.shared.proofs.Making.{makes_by}
 use Rattle.shared.proofs.Sparing.{IsAsked, has_to_write, stops_unrefused}
 
 -- ---- refusals of another kind
@@ -233,28 +233,6 @@ evict_none None n x y z a b c first slip m q e =
     ] in
     (ap has_idle (sym aged) ∙ idle.0, idle.1 ∙ aged)
 
--- or the one that went
-pub evicted_one : (page : Option (FileId × PageIndex)) (n : ℕ) (x y z : HeldSeen) (a b c : SeatSeen) (first slip : Slip)
-    → Made event.Age (reply.Aged n) x y a b first → Made event.Evict (evicted page) y z b c slip → is_some page ≡ true
-    → Evicts x.core.state z.core.state
-evicted_one None n x y z a b c first slip m q e = absurd cc
-evicted_one (Some p) n x y z a b c first slip m q e =
-    (p.0, p.1, subst (λ (s : State). Step s event.Evict (reply.Evicted p.0 p.1) z.core.state) m.step.1 q.step)
-
--- an age and an eviction are two events
-pub two_made : (r t : Reply) (x y z w : HeldSeen) (a b c : SeatSeen) (first slip : Slip)
-    → Made event.Age r x y a b first → Made event.Evict t z w b c slip → c.count ≡ a.count + 2
-two_made r t x y z w a b c first slip m q = omega (arith, m.entered.count, q.entered.count)
-
--- without a slip they are refused by a full trail
-pub age_full : (old new : HeldSeen) (before after : SeatSeen) (d : Denied)
-    → under.IsDenied event.Age old new before after d → d.slip ≡ None → d.refusal ≡ TrailFull
-age_full old new before after d q none = (full_by event.Age old new before after d q none).0
-
-pub evict_full : (old new : HeldSeen) (before after : SeatSeen) (d : Denied)
-    → under.IsDenied event.Evict old new before after d → d.slip ≡ None → d.refusal ≡ TrailFull
-evict_full old new before after d q none = (full_by event.Evict old new before after d q none).0
-
 -- ---- the entry of the refusal
 
 lost_by : (sizes : Sizes) (name : ℕ) (e : Event) (why : Refusal) (old new : HeldSeen) (before at after : SeatSeen) (slip : Slip)
@@ -441,14 +419,6 @@ pub first_final : (sizes : Sizes) (name : ℕ) (old new : HeldSeen) (before at :
     → (is_for_now first.refusal ≡ true → is_busy new.core.state ≡ false) → IsFinal sizes name at d
 first_final sizes name old new before at first d q legal same rests =
     still_final sizes name (event.FlushBegin q.file) old new before at first d q.denied legal same rests
-
--- without a slip that is of a full trail
-pub first_full : (old new : HeldSeen) (before at : SeatSeen) (first d : Denied) → IsFirstDenied old new before at first
-    → d ≡ first → d.slip ≡ None → d.refusal ≡ TrailFull
-first_full old new before at first d q same none =
-    ap (λ (x : Denied). x.refusal) same
-    ∙ (full_by (event.FlushBegin q.file) old new before at first q.denied
-    (ap (λ (x : Denied). x.slip) (sym same) ∙ none)).0
 
 -- and of a sync's step
 pub step_final : (sizes : Sizes) (name : ℕ) (m : SyncId) (old new : HeldSeen) (before at : SeatSeen) (first d : Denied)

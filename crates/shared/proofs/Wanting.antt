@@ -21,7 +21,7 @@ use Rattle.held.specs.Shown.{HeldSeen, SeatSeen}
 use Rattle.locked.specs.Called.{Goes}
 use Rattle.locked.specs.Denials as under
 use Rattle.locked.specs.declared.denied.Denied.{Denied}
-use Rattle.shared.specs.Called.{is_for_now}
+use Rattle.shared.specs.Called.{Makes, is_for_now}
 use Rattle.shared.specs.Changes.{event_of}
 use Rattle.shared.specs.Own.{admitted}
 use Rattle.shared.specs.Rooms.{AsksMore, IsShortFor, wants_room}

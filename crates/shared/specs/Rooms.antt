@@ -1,6 +1,6 @@
 -- Refusals for want of room.
-use Rattle.std.specs.Prelude.{◌≡◌, ◌⊎◌, ◌+◌, ◌<◌, ◌≤◌, ◌&&◌, ℕ, Bool, true, false, length, take, Option, Some, None, if◌then◌else◌}
-use Rattle.cachecore.specs.Wants.{NothingToWrite, lacking, lacks_frames, passes_limit}
+use Rattle.std.specs.Prelude.{◌≡◌, ◌⊎◌, ◌+◌, ◌<◌, ℕ, Bool, true, false, length, take, Some, None}
+use Rattle.cachecore.specs.Wants.{NothingToWrite}
 use Rattle.cachecore.specs.declared.answers.Ended.{Ended}
 use Rattle.cachecore.specs.declared.answers.Ended.TheVariants as ended
 use Rattle.held.specs.declared.log.Slip.{Slip}
@@ -8,8 +8,7 @@ use Rattle.held.specs.Shown.{SeatSeen}
 use Rattle.locked.specs.Called.{Only}
 use Rattle.locked.specs.declared.denied.Denied.{Denied}
 use Rattle.locked.specs.Flights.{is_busy}
-use Rattle.machine.specs.State.{State, free_frames, handle_file}
-use Rattle.machine.specs.Step.{Step}
+use Rattle.machine.specs.State.{State}
 use Rattle.machine.specs.Tests.{has_idle}
 use Rattle.machine.specs.declared.event.End.{End}
 use Rattle.machine.specs.declared.event.Event.{Event}
@@ -17,38 +16,18 @@ use Rattle.machine.specs.declared.event.Event.TheVariants as event
 use Rattle.machine.specs.declared.event.Reply.{Reply}
 use Rattle.machine.specs.declared.event.Reply.TheVariants as reply
 use Rattle.pc_types.specs.Limits.{Sizes}
-use Rattle.pc_types.specs.declared.ids.FileId.{FileId}
-use Rattle.pc_types.specs.declared.ids.PageIndex.{PageIndex}
 use Rattle.pc_types.specs.declared.kind.Kind.TheVariants.{Flush}
 use Rattle.pc_types.specs.declared.refusal.Refusal.{Refusal}
 use Rattle.pc_types.specs.declared.refusal.Refusal.TheVariants.{DirtyLimit, Memory, NoFrame}
 use Rattle.trail.specs.History.{After}
 use Rattle.shared.specs.Called.{Makes, is_for_now}
 use Rattle.shared.specs.Own.{IsEviction}
-use Rattle.shared.specs.declared.room.Span.{Span}
-use Rattle.shared.specs.declared.room.Want.{Want}
-use Rattle.shared.specs.declared.room.Want.TheVariants.{Clean, Frames}
 
 -- more room might have spared it
 abbrev pub wants_room : Refusal → Bool
 wants_room NoFrame = true
 wants_room DirtyLimit = true
 wants_room _ = false
-
--- which room a call on this span of bytes wants
-abbrev pub wanted : State → Span → Option Want
-wanted s x =
-    if lacks_frames s x.handle.0 x.offset x.count then Some Frames
-    else if x.dirties && passes_limit s x.handle.0 x.offset x.count then Some Clean
-    else None
-
--- no more frames are free than the call's pages are absent
-abbrev pub HasNoMore : State → Span → Type 0
-HasNoMore s x = free_frames s ≤ lacking s (handle_file s x.handle.0) x.offset x.count
-
--- an idle page went
-abbrev pub Evicts : State → State → Type 0
-Evicts s new = (f : FileId) × (p : PageIndex) × Step s event.Evict (reply.Evicted f p) new
 
 -- no request is in flight, whose end could make room, and no page is idle that could give its frame
 abbrev pub IsCrammed : Refusal → State → Type 0

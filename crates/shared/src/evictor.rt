@@ -7,7 +7,6 @@ ghost use Rattle.shared.specs.Own.{IsEviction, IsRoomEvent};
 ghost use Rattle.shared.specs.Workers.{IsWorkerOf, LetsGo, popped_by, pushed_by, seat_of};
 
 use crate::cache::SharedCache;
-use crate::room::evict_and_count;
 use crate::worker::Worker;
 use blockdev::{BlockDevice, Gate};
 use locked::denied::Denied;
@@ -37,18 +36,14 @@ impl<B: Naming, D: BlockDevice, T: Trail> SharedCache<B, D, T> {
         ensures denied { IfErr result (IsDenied IsRoomEvent (seat_of worker.old) (seat_of worker.new)) }
     {
         let mut gone = 0u64;
-        let mut free = self.state.lock(rt).free_frames();
         'pages: for _ in rt.forever() {
-            if free >= SPARE_FRAMES {
+            if self.state.lock(rt).free_frames() >= SPARE_FRAMES {
                 break;
             }
             gate.enter(0);
-            match evict_and_count(&mut self.state.lock(rt), &mut worker.seat) {
-                Ok(Some(left)) => {
-                    gone = gone.saturating_add(1);
-                    free = left;
-                }
-                Ok(None) => break,
+            match self.evict_one(rt, &mut worker.seat) {
+                Ok(true) => gone = gone.saturating_add(1),
+                Ok(false) => break,
                 Err(denied) => return Err(denied),
             }
         }

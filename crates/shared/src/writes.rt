@@ -270,10 +270,7 @@ impl<B: Naming, D: BlockDevice, T: Trail> SharedCache<B, D, T> {
         if let Err(other) = self.relieve(rt, guard, seat, denied) {
             return Err(other);
         }
-        if let Err(denied) = self.make_way(rt, seat, span, &mut None) {
-            return Err(denied);
-        }
-        Ok(())
+        self.make_way(rt, seat, span)
     }
 }
 

@@ -1,5 +1,5 @@
-//! A storage server's log and table: two streams of pages side by side in one file, records at the end of another, and a copy of the
-//! one into a third. All of them are longer than the cache, and two thirds of the cache may be dirty or nearly all of it.
+//! A storage server's log and table: two streams of pages side by side in one file, together longer than the cache, records at the end
+//! of another, and a copy of the one into a third. Two thirds of the cache may be dirty, or nearly all of it.
 
 ghost use Rattle.std.specs.Prelude.{◌<◌};
 

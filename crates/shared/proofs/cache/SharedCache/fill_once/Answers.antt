@@ -17,83 +17,83 @@ returns-in-Job-clause-denied g c = IfErr-weaker c.fill_by.result
     (IsDenied (IsHelp c.args.handle) c.fill_begin.new.seat c.fill_by.new.seat)
     (IsDenied (IsHelp c.args.handle) c.args.seat.now c.fill_by.new.seat)
     (λ d q. help_on c.args.handle c.args.seat.now c.fill_begin.new.seat c.fill_by.new.seat d
-    (goes_by _ _ _ _ _ _ _ c.in-Ok.ensures.made) q) c.fill_by.ensures.denied
+    (goes_by _ _ _ _ _ _ _ c.in-Ok-fill_begin.ensures.made) q) c.fill_by.ensures.denied
 
-pub returns-in-Err-clause-goes : goal.returns-in-Err-clause-goes
-returns-in-Err-clause-goes g c =
+pub returns-in-Err-fill_begin-clause-goes : goal.returns-in-Err-fill_begin-clause-goes
+returns-in-Err-fill_begin-clause-goes g c =
     goes_on c.args.seat.now c.fill_begin.new.seat c.relieve.new.seat
     (goes_denied (event.FillBegin c.args.handle c.args.page) c.deref_mut.result.now c.fill_begin.new.self
-    c.args.seat.now c.fill_begin.new.seat c.in-Err.denied c.in-Err.ensures.denied)
+    c.args.seat.now c.fill_begin.new.seat c.in-Err-fill_begin.denied c.in-Err-fill_begin.ensures.denied)
     c.relieve.ensures.goes
 
-pub returns-in-Err-clause-only : goal.returns-in-Err-clause-only
-returns-in-Err-clause-only g c =
+pub returns-in-Err-fill_begin-clause-only : goal.returns-in-Err-fill_begin-clause-only
+returns-in-Err-fill_begin-clause-only g c =
     only_relieved c.args.handle c.args.page c.deref_mut.result.now c.fill_begin.new.self c.args.seat.now
-    c.fill_begin.new.seat c.relieve.new.seat c.in-Err.denied c.in-Err.ensures.denied
+    c.fill_begin.new.seat c.relieve.new.seat c.in-Err-fill_begin.denied c.in-Err-fill_begin.ensures.denied
     c.relieve.ensures.only
 
-pub returns-in-Err-clause-denied : goal.returns-in-Err-clause-denied
-returns-in-Err-clause-denied g c =
-    IfErr-weaker c.relieve.result (IsStillDenied c.in-Err.denied c.fill_begin.new.seat c.relieve.new.seat)
+pub returns-in-Err-fill_begin-clause-denied : goal.returns-in-Err-fill_begin-clause-denied
+returns-in-Err-fill_begin-clause-denied g c =
+    IfErr-weaker c.relieve.result (IsStillDenied c.in-Err-fill_begin.denied c.fill_begin.new.seat c.relieve.new.seat)
     (IsDenied (IsHelp c.args.handle) c.args.seat.now c.relieve.new.seat)
     (λ d q. help_settled c.args.handle c.args.page c.deref_mut.result.now c.fill_begin.new.self c.args.seat.now
-    c.fill_begin.new.seat c.relieve.new.seat c.in-Err.denied d c.in-Err.ensures.denied
+    c.fill_begin.new.seat c.relieve.new.seat c.in-Err-fill_begin.denied d c.in-Err-fill_begin.ensures.denied
     c.relieve.ensures.goes q) c.relieve.ensures.denied
 
-pub returns-in-Err-clause-lost : goal.returns-in-Err-clause-lost
-returns-in-Err-clause-lost g c =
-    IfErr-weaker c.relieve.result (λ d. wants_room d.refusal ≡ true → (d ≡ c.in-Err.denied)
+pub returns-in-Err-fill_begin-clause-lost : goal.returns-in-Err-fill_begin-clause-lost
+returns-in-Err-fill_begin-clause-lost g c =
+    IfErr-weaker c.relieve.result (λ d. wants_room d.refusal ≡ true → (d ≡ c.in-Err-fill_begin.denied)
     × IsCrammed d.refusal c.fill_begin.new.self.core.state
     × IsUnwritten c.fill_begin.new.self.core.state c.fill_begin.new.seat c.relieve.new.seat)
     (IsLost g.B.Naming.sizes g.B.Naming.name c.relieve.new.seat)
     (λ d q. lost_denied g.B.Naming.sizes g.B.Naming.name (event.FillBegin c.args.handle c.args.page) c.deref_mut.result.now
-    c.fill_begin.new.self c.args.seat.now c.fill_begin.new.seat c.relieve.new.seat c.in-Err.denied d
-    c.relieve.ensures.within tt c.in-Err.ensures.denied c.relieve.ensures.legal c.relieve.ensures.goes q) c.relieve.ensures.crammed
+    c.fill_begin.new.self c.args.seat.now c.fill_begin.new.seat c.relieve.new.seat c.in-Err-fill_begin.denied d
+    c.relieve.ensures.within tt c.in-Err-fill_begin.ensures.denied c.relieve.ensures.legal c.relieve.ensures.goes q) c.relieve.ensures.crammed
 
 pub returns-in-Job-clause-only : goal.returns-in-Job-clause-only
 returns-in-Job-clause-only g c =
-    only_begun_on c.args.handle _ _ _ _ _ _ _ _ c.in-Ok.ensures.made c.fill_by.ensures.only
+    only_begun_on c.args.handle _ _ _ _ _ _ _ _ c.in-Ok-fill_begin.ensures.made c.fill_by.ensures.only
 
 pub returns-clause-only : goal.returns-clause-only
-returns-clause-only g c = only_fill_begin c.args.handle _ _ _ _ _ _ _ c.in-Ok.ensures.made
+returns-clause-only g c = only_fill_begin c.args.handle _ _ _ _ _ _ _ c.in-Ok-fill_begin.ensures.made
 
-pub returns-in-Err-clause-stands : goal.returns-in-Err-clause-stands
-returns-in-Err-clause-stands g c =
+pub returns-in-Err-fill_begin-clause-stands : goal.returns-in-Err-fill_begin-clause-stands
+returns-in-Err-fill_begin-clause-stands g c =
     IfErr-weaker c.relieve.result
-    (IsFinalOr c.in-Err.denied g.B.Naming.sizes g.B.Naming.name c.fill_begin.new.self.core.state c.relieve.new.seat)
+    (IsFinalOr c.in-Err-fill_begin.denied g.B.Naming.sizes g.B.Naming.name c.fill_begin.new.self.core.state c.relieve.new.seat)
     (IsFinal g.B.Naming.sizes g.B.Naming.name c.relieve.new.seat)
     (λ d q. final_denied g.B.Naming.sizes g.B.Naming.name (event.FillBegin c.args.handle c.args.page) c.deref_mut.result.now
-    c.fill_begin.new.self c.args.seat.now c.fill_begin.new.seat c.relieve.new.seat c.in-Err.denied d
-    c.in-Err.ensures.denied c.relieve.ensures.legal c.relieve.ensures.goes q) c.relieve.ensures.stands
+    c.fill_begin.new.self c.args.seat.now c.fill_begin.new.seat c.relieve.new.seat c.in-Err-fill_begin.denied d
+    c.in-Err-fill_begin.ensures.denied c.relieve.ensures.legal c.relieve.ensures.goes q) c.relieve.ensures.stands
 
-pub returns-in-Err-clause-settled : goal.returns-in-Err-clause-settled
-returns-in-Err-clause-settled g c =
+pub returns-in-Err-fill_begin-clause-settled : goal.returns-in-Err-fill_begin-clause-settled
+returns-in-Err-fill_begin-clause-settled g c =
     settled_on g.B.Naming.name c.args.seat.now c.fill_begin.new.seat c.relieve.new.seat c.relieve.result
     (settles_denied g.B.Naming.name (event.FillBegin c.args.handle c.args.page) c.deref_mut.result.now c.fill_begin.new.self
-    c.args.seat.now c.fill_begin.new.seat c.in-Err.denied c.in-Err.ensures.denied)
+    c.args.seat.now c.fill_begin.new.seat c.in-Err-fill_begin.denied c.in-Err-fill_begin.ensures.denied)
     c.relieve.ensures.settled
 
-pub returns-in-Err-clause-page : goal.returns-in-Err-clause-page
-returns-in-Err-clause-page g c =
+pub returns-in-Err-fill_begin-clause-page : goal.returns-in-Err-fill_begin-clause-page
+returns-in-Err-fill_begin-clause-page g c =
     other_relieved c.args.handle c.args.page c.deref_mut.result.now c.fill_begin.new.self c.args.seat.now
-    c.fill_begin.new.seat c.relieve.new.seat c.in-Err.denied c.in-Err.ensures.denied
+    c.fill_begin.new.seat c.relieve.new.seat c.in-Err-fill_begin.denied c.in-Err-fill_begin.ensures.denied
     c.relieve.ensures.only
 
 pub returns-in-Job-clause-settled : goal.returns-in-Job-clause-settled
 returns-in-Job-clause-settled g c =
     fill_settles g.B.Naming.name c.args.handle c.args.page _ c.in-Job.job _ _ _ _ _ _ c.fill_by.result c.in-Job.is
-    c.in-Ok.ensures.made c.in-Ok.ensures.job c.fill_by.ensures.ends
+    c.in-Ok-fill_begin.ensures.made c.in-Ok-fill_begin.ensures.job c.fill_by.ensures.ends
 
 pub returns-in-Job-clause-page : goal.returns-in-Job-clause-page
 returns-in-Job-clause-page g c =
     other_filled g.B.Naming.name c.args.handle c.args.page _ c.in-Job.job _ _ _ _ _ _ c.fill_by.result c.in-Job.is
-    c.in-Ok.ensures.made c.in-Ok.ensures.job c.fill_by.ensures.ends
+    c.in-Ok-fill_begin.ensures.made c.in-Ok-fill_begin.ensures.job c.fill_by.ensures.ends
 
 pub returns-clause-settled : goal.returns-clause-settled
 returns-clause-settled g c =
     settles_by g.B.Naming.name _ _ _ _ _ _ _ (λ x b. fill_quiet x c.args.handle c.args.page _ c.in_default.not-Job b)
-    c.in-Ok.ensures.made
+    c.in-Ok-fill_begin.ensures.made
 
 pub returns-clause-page : goal.returns-clause-page
 returns-clause-page g c =
-    other_begun c.args.handle c.args.page _ _ _ _ _ _ c.in-Ok.ensures.made
+    other_begun c.args.handle c.args.page _ _ _ _ _ _ c.in-Ok-fill_begin.ensures.made

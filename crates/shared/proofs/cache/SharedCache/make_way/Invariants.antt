@@ -1,4 +1,3 @@
-use Rattle.std.specs.Prelude.{◌≡◌, IfSome, length}
 use Rattle.locked.specs.Called.{Goes, Only}
 use Rattle.shared.specs.Own.{IsRoomEvent}
 use Rattle.shared.specs.Settled.{Settles}
@@ -9,5 +8,4 @@ invariant-turns g l = record {
   goes : Goes l.initial.seat l.seat;
   only : Only (λ e. IsRoomEvent e.event) l.initial.seat l.seat;
   settled : Settles g.B.Naming.name l.initial.seat l.seat;
-  size : IfSome l.spare (λ b. length b ≡ g.B.Naming.sizes.page);
 }

@@ -1,19 +1,19 @@
 use Rattle.std.proofs.Common.{inr}
+use Rattle.std.proofs.lemmas.Result.{IfErr-weaker}
+use Rattle.shared.specs.Denials.{IsDenied}
+use Rattle.shared.specs.Own.{IsRoomEvent, IsStillDenied}
 use Rattle.shared.proofs.Making.{room_on}
-use Rattle.shared.proofs.Settling.{denied_on, settles_on}
+use Rattle.shared.proofs.Settling.{settled_on}
 use Rattle.shared.proofs.cache.SharedCache.settle.Goals as goal
+
+pub returns-clause-denied : goal.returns-clause-denied
+returns-clause-denied g c =
+    IfErr-weaker c.make_way.result (IsDenied IsRoomEvent c.relieve.new.seat c.make_way.new.seat)
+    (IsStillDenied c.args.denied c.args.seat.now c.make_way.new.seat)
+    (λ d q. inr (room_on c.args.seat.now c.relieve.new.seat c.make_way.new.seat d c.relieve.ensures.goes q))
+    c.make_way.ensures.denied
 
 pub returns-clause-settled : goal.returns-clause-settled
 returns-clause-settled g c =
-    settles_on g.B.Naming.name c.args.seat.now c.relieve.new.seat c.make_way.new.seat c.in_default.ensures.settled
-    c.in_default-make_way.ensures.settled
-
-pub returns-in-Err-make_way-clause-denied : goal.returns-in-Err-make_way-clause-denied
-returns-in-Err-make_way-clause-denied g c =
-    inr (room_on c.args.seat.now c.relieve.new.seat c.make_way.new.seat c.in-Err-make_way.denied c.relieve.ensures.goes
-    c.in-Err-make_way.ensures.denied)
-
-pub returns-in-Err-make_way-clause-settled : goal.returns-in-Err-make_way-clause-settled
-returns-in-Err-make_way-clause-settled g c =
-    denied_on g.B.Naming.name c.args.seat.now c.relieve.new.seat c.make_way.new.seat c.in-Err-make_way.denied
-    c.in_default.ensures.settled c.in-Err-make_way.ensures.settled
+    settled_on g.B.Naming.name c.args.seat.now c.relieve.new.seat c.make_way.new.seat c.make_way.result
+    c.in_default.ensures.settled c.make_way.ensures.settled
