@@ -14,7 +14,7 @@ const MOST_PAUSES: u32 = 1_024;
 
 /// A lock that is held for a call on what lies under it, and never while a device works.
 ///
-/// Such a hold takes less than a microsecond, but to sleep and be woken by the kernel takes ten and more. Once one thread sleeps each
+/// Most such holds take less than a microsecond, but to sleep and be woken by the kernel takes ten and more. Once one thread sleeps each
 /// release goes to the kernel to wake it, and who comes next finds the lock held and sleeps too. So a thread that finds it held looks
 /// again for some tens of microseconds, and sleeps only then. It pauses longer and longer between: a look takes the lock's line from
 /// its holder, and what lies under the lock moves to another processor with each hand-over, which costs as much as a hold.

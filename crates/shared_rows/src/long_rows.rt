@@ -29,7 +29,7 @@ const TRIES: u8 = 3;
 /// The place of the last entry in the history, how many calls were refused, and how many calls the device got.
 type Passed = (u64, u64, u64);
 
-/// Where the device fails no call: as it was where a call took the lock anew for each page that goes.
+/// Where the device fails no call. The counts are those of the code before it was made faster.
 pub(crate) const WELL: Passed = (34_176, 0, 7_448);
 
 /// Where it fails each 97th call: so too.

@@ -1,4 +1,5 @@
-//! Rows with a worker: one whose device call is held, and one that begins so many writes that the ring is full.
+//! Rows with a worker: one whose device call is held, one that begins so many writes that the ring is full, and two that sleep and are
+//! woken again and again.
 
 ghost use Rattle.std.specs.Prelude.{◌≡◌, All};
 ghost use Rattle.shared.specs.Workers.{IsWorkerOf};
