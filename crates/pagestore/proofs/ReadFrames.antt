@@ -1,5 +1,5 @@
 -- A page whose frame is known, as a read finds it: whether it is cached, its bytes, and the store once it was accessed.
-use Rattle.std.proofs.Common.{◌≡◌, ◌<◌, Bool, List, true, false, inl, inr, ap, sym, subst, ◌∙◌, refl, arith}
+use Rattle.std.proofs.Common.{◌≡◌, ◌<◌, Bool, true, false, ap, sym, subst, ◌∙◌, refl, arith}
 use Rattle.std.specs.Prelude.{Some, None, is_some, option_map, slice_index_or, length}
 use Rattle.std.specs.FinMap as finmap
 use Rattle.pc_types.specs.declared.ids.FrameId.{FrameId}
@@ -13,7 +13,6 @@ use Rattle.machine.specs.PageLists.{accessed}
 use Rattle.machine.specs.State.{Page}
 use Rattle.pagestore.specs.Store.{the_page, Store, IsStore, has_page, is_uptodate, store_of, kept_at}
 use Rattle.pagestore.specs.Store.{entry_at, stored_at, stored_page, with_lists}
-use Rattle.pagestore.specs.Guessing.{IsFrameOf}
 use Rattle.pagestore.proofs.StoreLaws.{cached_at, page_seen, none_seen}
 use Rattle.pagestore.proofs.PagePlaces.{FilePage, file_entry, file_here}
 use Rattle.pagestore.proofs.StoreFacts.{page_taken, page_within, the_page_is, accessed_seen, accessed_store}
@@ -35,18 +34,6 @@ module _ (w : FilePage) where
       let its = entry_of t up files dirty s frame.0 f p own in
       framed_entry (entry_at files f p) frame
       ((λ i. Some (record { 0 = sym its.2 i })) ∙ ap (option_map frame_of) (sym its.1))
-
-  -- a look-up found this frame, or none
-  module _ (fs : List KeptFile) (same : fs ≡ files) where
-    pub told_entry : (frame : FrameId) → IsFrameOf t fs f p frame → entry_at files f p ≡ Some (framed (entry_at files f p) frame)
-    told_entry frame (inl own) = owned_entry frame own
-    told_entry frame (inr found) =
-        framed_entry (entry_at files f p) frame (found ∙ ap (λ (fs : List KeptFile). option_map frame_of (entry_at fs f p)) same)
-
-    pub told_none : entry_at fs f p ≡ None → false ≡ is_some (stored_page store f p)
-    told_none none =
-        sym (ap (λ (fs : List KeptFile). has_page up (entry_at fs f p)) (sym same) ∙ ap (has_page up) none)
-        ∙ cached_at t up files f p ∙ ap (λ (s : Store). is_some (stored_page s f p)) is
 
   -- k is file f, and a walk found no frame or this one
   module _ (k : KeptFile) (value : k ≡ slice_index_or files f k) where

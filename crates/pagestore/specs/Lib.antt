@@ -2,6 +2,5 @@ pub mod Store
 pub mod Counts
 pub mod Cuts
 pub mod Filling
-pub mod Guessing
 pub mod Ranges
 pub mod Syncing

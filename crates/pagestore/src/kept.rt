@@ -35,6 +35,16 @@ impl KeptFile {
         }
     }
 
+    /// Whether the page has an entry, and its frame has the page's bytes.
+    pub fn is_cached(&self, uptodate: &[bool], page: u64) -> bool
+        ensures { result ≡ has_page uptodate.now (map.get self.now.mapping.pages page) }
+    {
+        match self.mapping.frame(PageIndex(page)) {
+            Some(frame) => is_uptodate(uptodate, frame),
+            None => false,
+        }
+    }
+
     /// Whether the page is cached and has no tag. A page that is filling has none either.
     pub fn is_idle(&self, uptodate: &[bool], page: u64) -> bool
         ensures { result ≡ is_idle_entry uptodate.now (map.get self.now.mapping.pages page) }

@@ -4,8 +4,8 @@
 //! `pages` has them one by one, `page_fills` those that are being filled, `page_writes` those that are written back,
 //! `page_flushes` the begin and the end of such a write, `page_io` those that the device reads or
 //! writes in place, `page_removal` those that leave, `ranges` several of them, `span` where a
-//! write's bytes go, `kept` one file of theirs, `counts` counts that end early, `guesses` the frames in which pages are
-//! looked for first, and `layout` the sizes.
+//! write's bytes go, `kept` one file of theirs, `counts` counts that end early, `guesses` where pages were found last,
+//! and `layout` the sizes.
 
 mod counts;
 mod guesses;

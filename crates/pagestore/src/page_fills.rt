@@ -9,7 +9,7 @@ ghost use Rattle.frames.specs.Rows.{laid};
 ghost use Rattle.machine.specs.PageLists.{entered, is_listed, left};
 ghost use Rattle.pagestore.specs.Store.{stored_at, stored_page, is_awaited, with_pages};
 
-use crate::pages::{Pages, frame_of};
+use crate::pages::Pages;
 use pc_types::{FileId, PageIndex};
 use std::alloc::AllocError;
 
@@ -35,7 +35,6 @@ impl Pages {
         }
         // the frame has another page's bytes, which nobody reads before it is up to date
         self.uptodate[frame.0 as usize] = false;
-        self.guesses.note(file, page, frame);
         Ok(())
     }
 
@@ -56,7 +55,7 @@ impl Pages {
         requires inside { at + length bytes.now ≤ self.old.page }
         ensures { self.new ≡ record (with_pages self.old file (map.insert (stored_at self.old file).pages page (record { bytes = laid self.old.page at bytes.now; tags = no_tags })) self.old.free) { filling = set.remove self.old.filling (file, page) } }
     {
-        let Some(frame) = frame_of(&self.frames, &self.guesses, &self.files, file, page) else {
+        let Some(frame) = self.files[file as usize].mapping.frame(PageIndex(page)) else {
             unreachable!()
         };
         // the page is idle now, so that an eviction finds it

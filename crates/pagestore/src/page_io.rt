@@ -6,7 +6,7 @@ ghost use Rattle.pagestore.specs.Filling.{FillsBy};
 ghost use Rattle.pagestore.specs.Store.{is_awaited, stored_at, stored_page, the_page, with_pages};
 ghost use Rattle.machine.specs.Changes.{after_write, under_write};
 
-use crate::pages::{Pages, frame_of};
+use crate::pages::Pages;
 use blockdev::{BlockDevice, Watched};
 use pc_types::{BlockNo, ErrCode, PageIndex, Tag};
 
@@ -26,7 +26,7 @@ impl Pages {
         requires size { device.old.device.size ≡ self.old.page }
         ensures { FillsBy self.old file page device.old block.0 result self.new device.new }
     {
-        let Some(frame) = frame_of(&self.frames, &self.guesses, &self.files, file, page) else {
+        let Some(frame) = self.files[file as usize].mapping.frame(PageIndex(page)) else {
             unreachable!()
         };
         device.read(block, self.frames.bytes_mut(frame))?;
@@ -59,7 +59,7 @@ impl Pages {
         ensures bytes { result.now ≡ (the_page (stored_at self.now file).pages page).bytes }
         ensures size { length result.now ≡ self.now.page }
     {
-        let Some(frame) = frame_of(&self.frames, &self.guesses, &self.files, file, page) else {
+        let Some(frame) = self.files[file as usize].mapping.frame(PageIndex(page)) else {
             unreachable!()
         };
         self.frames.bytes(frame)

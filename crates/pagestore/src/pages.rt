@@ -1,6 +1,6 @@
 //! The pages of all files: each in a frame of its own, by its file's mapping.
 
-ghost use Rattle.std.specs.Prelude.{◌≡◌, ℕ, ◌+◌, ◌-◌, ◌<◌, ◌≤◌, ◌^◌, ◌++◌, IfNone, IfOk, IfSome, OnOk, OnErr, length, true, false, not, is_some, option_map, find, count_by, nat_lt, slice_index_or, slice_set, slice_range, take, drop, sum_by, [], ◌∷◌, IsOkUnless, Some, None, cond, ◌||◌};
+ghost use Rattle.std.specs.Prelude.{◌≡◌, ℕ, ◌+◌, ◌-◌, ◌<◌, ◌≤◌, ◌^◌, ◌++◌, IfOk, OnOk, OnErr, length, true, false, not, is_some, option_map, find, count_by, nat_lt, slice_index_or, slice_set, slice_range, take, drop, sum_by, [], ◌∷◌, IsOkUnless, Some, None, cond, ◌||◌};
 ghost use Rattle.std.specs.List.{range_with_len};
 ghost use Rattle.std.specs.FinMap as map;
 ghost use Rattle.std.specs.FinSet as set;
@@ -10,9 +10,7 @@ ghost use Rattle.frames.specs.Table.{is_taken};
 ghost use Rattle.mapping.specs.declared.mapping.TheConstants.{MAX_PAGES};
 ghost use Rattle.pc_types.specs.TagBits.{tag_set};
 ghost use Rattle.machine.specs.State.{no_file, dirty_in, tags_of};
-ghost use Rattle.mapping.specs.Pages as mapped;
-ghost use Rattle.pagestore.specs.Store.{the_page, blank, entry_at, stored_at, stored_page, is_awaited, with_pages, with_lists};
-ghost use Rattle.pagestore.specs.Guessing.{IsFrameOf};
+ghost use Rattle.pagestore.specs.Store.{the_page, blank, stored_at, stored_page, is_awaited, with_pages, with_lists};
 ghost use Rattle.pagestore.specs.Ranges.{dirtied, with_part};
 ghost use Rattle.machine.specs.PageLists.{no_lists, is_listed, entered, left, accessed};
 
@@ -34,7 +32,7 @@ pub struct Pages {
     pub(crate) files: Vec<KeptFile>,
     // how many pages of all files are DIRTY
     pub(crate) dirty: u64,
-    // of the pages that were filled, read or written
+    // of the pages that were read
     pub(crate) guesses: Guesses,
 }
 
@@ -127,10 +125,7 @@ impl Pages {
         requires { file < length self.now.files }
         ensures { result ≡ is_some (stored_page self.now file page) }
     {
-        match frame_of(&self.frames, &self.guesses, &self.files, file, page) {
-            Some(frame) => is_uptodate(&self.uptodate, frame),
-            None => false,
-        }
+        self.files[file as usize].is_cached(&self.uptodate, page)
     }
 
     /// The first page from `first` up to `end` that is not cached.
@@ -374,8 +369,7 @@ impl Pages {
         ensures len { length out.new ≡ length out.old }
         ensures moved { self.new ≡ with_lists self.old (accessed file page self.old.lists) }
     {
-        let Some(frame) = noted_frame(&self.frames, &mut self.guesses, &self.files, file, page)
-        else {
+        let Some(frame) = self.files[file as usize].mapping.frame(PageIndex(page)) else {
             unreachable!()
         };
         let bytes = self.frames.bytes(frame);
@@ -389,59 +383,10 @@ impl Pages {
         requires { file < length self.old.files }
         ensures { self.new ≡ with_lists self.old (accessed file page self.old.lists) }
     {
-        if let Some(frame) = noted_frame(&self.frames, &mut self.guesses, &self.files, file, page) {
+        if let Some(frame) = self.files[file as usize].mapping.frame(PageIndex(page)) {
             self.frames.accessed(frame);
         }
     }
-}
-
-/// The frame of a page that is cached or filling: by the guess, where that is right, and else by a walk.
-#[inline(always)]
-pub(crate) fn frame_of(
-    frames: &Frames,
-    guesses: &Guesses,
-    files: &[KeptFile],
-    file: u64,
-    page: u64,
-) -> Option<FrameId>
-    requires { file < length files.now }
-    ensures some { IfSome result (λ frame. IsFrameOf frames.now files.now file page frame) }
-    ensures none { IfNone result (entry_at files.now file page ≡ None) }
-{
-    match guesses.frame(frames, file, page) {
-        Some(frame) => Some(frame),
-        None => walked_frame(files, file, page),
-    }
-}
-
-/// The same, and the next guess is right.
-#[inline(always)]
-pub(crate) fn noted_frame(
-    frames: &Frames,
-    guesses: &mut Guesses,
-    files: &[KeptFile],
-    file: u64,
-    page: u64,
-) -> Option<FrameId>
-    requires { file < length files.now }
-    ensures some { IfSome result (λ frame. IsFrameOf frames.now files.now file page frame) }
-    ensures none { IfNone result (entry_at files.now file page ≡ None) }
-{
-    if let Some(frame) = guesses.frame(frames, file, page) {
-        return Some(frame);
-    }
-    let frame = walked_frame(files, file, page)?;
-    guesses.note(file, page, frame);
-    Some(frame)
-}
-
-/// The frame of a page that is cached or filling, by a walk.
-#[inline(never)]
-fn walked_frame(files: &[KeptFile], file: u64, page: u64) -> Option<FrameId>
-    requires { file < length files.now }
-    ensures { result ≡ option_map mapped.frame_of (entry_at files.now file page) }
-{
-    files[file as usize].mapping.frame(PageIndex(page))
 }
 
 /// Copies bytes of a frame from `at` on into `out`, and notes that its page was read. Answers whether the frame has its page's bytes;

@@ -1,36 +1,44 @@
 use Rattle.std.proofs.Common.{arith, ap, sym, subst, refl, true, false, ◌∙◌, ◌≡◌, ◌+◌, ◌<◌, ℕ, List, [], length}
-use Rattle.std.specs.Prelude.{Option, Some, None, is_some, slice_index_or, slice_set}
+use Rattle.std.specs.Prelude.{Option, Some, None, is_some, option_map, slice_index_or, slice_set}
+use Rattle.std.specs.FinMap as map
 use Rattle.std.proofs.lemmas.Bool.{false≢true}
 use Rattle.std.proofs.lemmas.List.{set-get_or}
 use Rattle.frames.specs.Table.{Table, free_frames, is_taken, put_back, with_bytes}
 use Rattle.frames.specs.Rows.{row_at, with_row}
 use Rattle.frames.proofs.RowLemmas.{with_row-whole}
-use Rattle.mapping.specs.Pages.{Mapped}
+use Rattle.mapping.specs.Pages.{Mapped, frame_of}
 use Rattle.pc_types.specs.Tags.{TagSet, no_tags}
 use Rattle.pc_types.specs.declared.ids.FrameId.{FrameId}
 use Rattle.pagestore.specs.declared.kept.KeptFile.{KeptFile}
 use Rattle.machine.specs.State.{Page}
 use Rattle.pagestore.specs.Filling.{FillsBy, filled}
 use Rattle.pagestore.specs.Store.{Store, IsStore, awaits, store_of, entry_at, is_awaited, stored_page, with_entry}
-use Rattle.pagestore.proofs.StoreLaws.{waits_at, waiting_entry, waiting_flag, none_seen, kept_same}
-use Rattle.pagestore.proofs.FrameEntries.{framed}
-use Rattle.pagestore.proofs.PagePlaces.{FilePage, file_here}
-use Rattle.pagestore.proofs.ReadFrames.{told_entry}
+use Rattle.pagestore.proofs.StoreLaws.{waits_at, waiting_entry, waiting_flag, none_seen, kept_same, some_mapped}
+use Rattle.pagestore.proofs.FrameEntries.{framed, framed_entry}
+use Rattle.pagestore.proofs.PagePlaces.{FilePage, file_entry, file_here}
 use Rattle.pagestore.proofs.StoreFacts.{page_taken, page_within, dirty_one, back_store, not_aside, changed_store, changed_seen}
 use Rattle.pagestore.proofs.pages.Pages.fill_by.Goals as goal
 use Rattle.pagestore.proofs.pages.Pages.fill_by.Goals.{In-Some}
 use Rattle.pagestore.proofs.pages.Pages.fill_by.Given.{Over as Given}
 use Rattle.mapping.proofs.ArrayLemmas.{err_is}
 
+-- the walk found its frame
+there_in : (w : FilePage) (k : KeptFile) → k ≡ slice_index_or w.pages.files.items w.file k → (frame : FrameId)
+    → Some frame ≡ option_map frame_of (map.get k.mapping.pages w.page)
+    → entry_at w.pages.files.items w.file w.page ≡ Some (framed (entry_at w.pages.files.items w.file w.page) frame)
+there_in w k value frame found = framed_entry (entry_at w.pages.files.items w.file w.page) frame
+    (found ∙ ap (λ (k : KeptFile). option_map frame_of (map.get k.mapping.pages w.page)) (file_entry w k value))
+
 waits : (w : FilePage) → is_awaited w.store w.file w.page ≡ true
     → awaits w.pages.uptodate.items (entry_at w.pages.files.items w.file w.page) ≡ true
 waits w filling = sym (waits_at w.pages.frames w.pages.uptodate.items w.pages.files.items w.file w.page)
     ∙ ap (λ (s : Store). is_awaited s w.file w.page) w.seen ∙ filling
 
-none_there : (w : FilePage) → is_awaited w.store w.file w.page ≡ true → (fs : List KeptFile) → fs ≡ w.pages.files.items
-    → entry_at fs w.file w.page ≡ None → ⊥
-none_there w filling fs same none =
-    false≢true (sym (ap is_some none) ∙ ap (λ (fs : List KeptFile). is_some (entry_at fs w.file w.page)) same
+none_there : (w : FilePage) → is_awaited w.store w.file w.page ≡ true → (k : KeptFile)
+    → k ≡ slice_index_or w.pages.files.items w.file k → None ≡ option_map frame_of (map.get k.mapping.pages w.page) → ⊥
+none_there w filling k value none =
+    false≢true (ap is_some none ∙ some_mapped frame_of (map.get k.mapping.pages w.page)
+    ∙ ap (λ (k : KeptFile). is_some (map.get k.mapping.pages w.page)) (file_entry w k value)
     ∙ waiting_entry w.pages.uptodate.items (entry_at w.pages.files.items w.file w.page) (waits w filling))
 
 module _ (w : FilePage) (filling : is_awaited w.store w.file w.page ≡ true) (frame : FrameId)
@@ -112,7 +120,7 @@ at g c = record {
 found : (g : Given) (c : In-Some g)
     → entry_at c.self.inside.files.items c.args.file c.args.page
     ≡ Some (framed (entry_at c.self.inside.files.items c.args.file c.args.page) c.in-Some.frame)
-found g c = told_entry (at g c) _ c.deref.ensures.value c.in-Some.frame c.in-Some.ensures.some
+found g c = there_in (at g c) c.index.result.now c.index.ensures c.in-Some.frame (sym c.in-Some.is ∙ c.frame.ensures)
 
 pub unreachable-requires : goal.unreachable-requires
 unreachable-requires g c =
@@ -125,7 +133,7 @@ unreachable-requires g c =
       page = c.args.page;
       here = c.requires.here;
     } in
-    none_there w c.requires.filling _ c.deref.ensures.value c.in_default.ensures.none
+    none_there w c.requires.filling c.index.result.now c.index.ensures (sym c.in_default.is ∙ c.frame.ensures)
 
 pub bytes_mut-requires : goal.bytes_mut-requires
 bytes_mut-requires g c =

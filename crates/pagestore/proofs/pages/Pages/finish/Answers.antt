@@ -1,18 +1,20 @@
 use Rattle.std.proofs.Common.{arith, ap, sym, subst, refl, true, false, ◌∙◌, ◌≡◌, ℕ, List, length}
-use Rattle.std.specs.Prelude.{Some, is_some, slice_set}
+use Rattle.std.specs.Prelude.{Some, is_some, option_map, slice_index_or, slice_set}
+use Rattle.std.specs.FinMap as map
 use Rattle.std.proofs.lemmas.Bool.{false≢true}
 use Rattle.frames.specs.Table.{Table, free_frames, is_taken, put_back, with_bytes}
 use Rattle.frames.specs.Rows.{laid}
 use Rattle.frames.proofs.RowLemmas.{length-laid}
+use Rattle.mapping.specs.Pages.{frame_of}
 use Rattle.pc_types.specs.Tags.{TagSet, no_tags}
+use Rattle.pc_types.specs.declared.ids.FrameId.{FrameId}
 use Rattle.pagestore.specs.declared.kept.KeptFile.{KeptFile}
 use Rattle.machine.specs.State.{Page}
 use Rattle.pagestore.specs.Store.{Store, IsStore, awaits, store_of, entry_at, is_awaited, with_entry}
-use Rattle.pagestore.proofs.StoreLaws.{waits_at, waiting_entry, waiting_flag, none_seen, kept_same}
-use Rattle.pagestore.proofs.FrameEntries.{framed}
-use Rattle.pagestore.proofs.PagePlaces.{FilePage, file_here}
-use Rattle.pagestore.proofs.ReadFrames.{frame_taken, told_entry}
-use Rattle.pagestore.proofs.StoreFacts.{page_within, dirty_one, back_store, not_aside, changed_store, changed_seen}
+use Rattle.pagestore.proofs.StoreLaws.{waits_at, waiting_entry, waiting_flag, none_seen, kept_same, some_mapped}
+use Rattle.pagestore.proofs.FrameEntries.{framed, framed_entry}
+use Rattle.pagestore.proofs.PagePlaces.{FilePage, file_entry, file_here}
+use Rattle.pagestore.proofs.StoreFacts.{page_taken, page_within, dirty_one, back_store, not_aside, changed_store, changed_seen}
 use Rattle.pagestore.proofs.pages.Pages.finish.Goals as goal
 use Rattle.pagestore.proofs.pages.Pages.finish.Goals.{After-self}
 
@@ -26,6 +28,13 @@ at c = record {
   page = c.args.page;
   here = c.requires.here;
 }
+
+-- the walk found its frame
+there_in : (w : FilePage) (k : KeptFile) → k ≡ slice_index_or w.pages.files.items w.file k → (frame : FrameId)
+    → Some frame ≡ option_map frame_of (map.get k.mapping.pages w.page)
+    → entry_at w.pages.files.items w.file w.page ≡ Some (framed (entry_at w.pages.files.items w.file w.page) frame)
+there_in w k value frame found = framed_entry (entry_at w.pages.files.items w.file w.page) frame
+    (found ∙ ap (λ (k : KeptFile). option_map frame_of (map.get k.mapping.pages w.page)) (file_entry w k value))
 
 waits : (w : FilePage) → is_awaited w.store w.file w.page ≡ true
     → awaits w.pages.uptodate.items (entry_at w.pages.files.items w.file w.page) ≡ true
@@ -48,19 +57,28 @@ laid_is t u v frame at b back lay = lay ∙ ap (λ (t : Table). with_bytes t fra
 pub unreachable-requires : goal.unreachable-requires
 unreachable-requires c =
     let w = at (goal.at.unreachable-requires c).After-self in
-    false≢true (sym (ap is_some c.in_default.ensures.none) ∙ ap (λ (fs : List KeptFile). is_some (entry_at fs c.args.file c.args.page)) c.deref.ensures.value
+    let k = c.index.result.now in
+    false≢true (ap is_some c.in_default.ensures ∙ some_mapped frame_of (map.get k.mapping.pages c.args.page)
+    ∙ ap (λ (k : KeptFile). is_some (map.get k.mapping.pages c.args.page)) (file_entry w k c.index.ensures)
     ∙ waiting_entry c.self.inside.uptodate.items (entry_at c.self.inside.files.items c.args.file c.args.page)
     (waits w c.requires.filling))
 
+-- its frame is taken
+taken_there : (w : FilePage) (k : KeptFile) → k ≡ slice_index_or w.pages.files.items w.file k → (frame : FrameId)
+    → Some frame ≡ option_map frame_of (map.get k.mapping.pages w.page) → is_taken w.pages.frames frame.0 ≡ true
+taken_there w k value frame found =
+    page_taken w.pages.frames w.pages.uptodate.items w.pages.files.items w.pages.dirty w.kept w.file w.page
+    (framed (entry_at w.pages.files.items w.file w.page) frame) (there_in w k value frame found)
+
 pub put_back-requires : goal.put_back-requires
-put_back-requires c =
-    let w = at (goal.at.put_back-requires c).After-self in
-    frame_taken w c.in-Some.frame (told_entry w _ c.deref.ensures.value c.in-Some.frame c.in-Some.ensures.some)
+put_back-requires c = taken_there (at (goal.at.put_back-requires c).After-self) c.index.result.now c.index.ensures
+    c.in-Some.frame c.in-Some.ensures
 
 pub lay-requires-clause-taken : goal.lay-requires-clause-taken
 lay-requires-clause-taken c =
     ap (λ (t : Table). is_taken t c.in-Some.frame.0) c.put_back.ensures
-    ∙ (let w = at (goal.at.lay-requires-clause-taken c).After-self in frame_taken w c.in-Some.frame (told_entry w _ c.deref.ensures.value c.in-Some.frame c.in-Some.ensures.some))
+    ∙ taken_there (at (goal.at.lay-requires-clause-taken c).After-self) c.index.result.now c.index.ensures
+    c.in-Some.frame c.in-Some.ensures
 
 pub lay-requires-clause-inside : goal.lay-requires-clause-inside
 lay-requires-clause-inside c = omega (
@@ -75,7 +93,7 @@ index_mut-requires c =
     let w = at (goal.at.index_mut-requires c).After-self in
     let i = c.self.inside in
     let x = framed (entry_at i.files.items c.args.file c.args.page) c.in-Some.frame in
-    let there = told_entry w _ c.deref.ensures.value c.in-Some.frame c.in-Some.ensures.some in
+    let there = there_in w c.index.result.now c.index.ensures c.in-Some.frame c.in-Some.ensures in
     let within = page_within i.frames i.uptodate.items i.files.items i.dirty c.self.invariant c.args.file c.args.page x
     there in
     omega (arith, within, c.self.invariant.flags)
@@ -91,7 +109,7 @@ invariant_of-self c =
     let p = c.args.page in
     let w = at (goal.at.invariant_of-self c).After-self in
     let x = framed (entry_at files f p) c.in-Some.frame in
-    let there = told_entry w _ c.deref.ensures.value c.in-Some.frame c.in-Some.ensures.some in
+    let there = there_in w c.index.result.now c.index.ensures c.in-Some.frame c.in-Some.ensures in
     let flag = waiting_flag up (entry_at files f p) (waits w c.requires.filling) x there in
     let bare = s.bare f p x there flag in
     let its_row = row (goal.at.invariant_of-self c).After-self in
@@ -120,7 +138,7 @@ returns c =
     let b = c.args.bytes.now in
     let w = at (goal.at.returns c).After-self in
     let x = framed (entry_at files f p) c.in-Some.frame in
-    let there = told_entry w _ c.deref.ensures.value c.in-Some.frame c.in-Some.ensures.some in
+    let there = there_in w c.index.result.now c.index.ensures c.in-Some.frame c.in-Some.ensures in
     let flag = waiting_flag up (entry_at files f p) (waits w c.requires.filling) x there in
     let bare = s.bare f p x there flag in
     let its_row = row (goal.at.returns c).After-self in

@@ -1,27 +1,20 @@
-use Rattle.std.proofs.Common.{◌∙◌, List, Bool, false, ap}
-use Rattle.std.specs.Prelude.{slice_index_or}
-use Rattle.pagestore.proofs.PagePlaces.{FilePage}
-use Rattle.pagestore.proofs.ReadFrames.{frame_cached, told_entry, told_none}
+use Rattle.std.proofs.Common.{ap, ◌∙◌, ◌≡◌}
+use Rattle.std.specs.Prelude.{is_some}
+use Rattle.std.specs.FinMap as map
+use Rattle.std.proofs.lemmas.List.{get_or_read}
+use Rattle.pagestore.specs.Store.{has_page, none_kept, kept_at, stored_page}
+use Rattle.pagestore.proofs.StoreLaws.{cached_at}
+use Rattle.pagestore.proofs.StoreFacts.{here_kept}
 use Rattle.pagestore.proofs.pages.Pages.is_cached.Goals as goal
-use Rattle.pagestore.proofs.pages.Pages.is_cached.Goals.{After-self}
 
-abbrev at : After-self → FilePage
-at c = record {
-  pages = c.self.inside;
-  kept = c.self.invariant;
-  store = c.args.self.now;
-  seen = c.self.view_is;
-  file = c.args.file;
-  page = c.args.page;
-  here = c.requires;
-}
-
-pub returns-in-Some : goal.returns-in-Some
-returns-in-Some c =
-    let w = at (goal.at.returns-in-Some c).After-self in
-    c.is_uptodate.ensures ∙ ap (λ (up : List Bool). slice_index_or up c.in-Some.frame.0 false) c.deref-in-Some.ensures.value
-    ∙ frame_cached w c.in-Some.frame (told_entry w _ c.deref.ensures.value c.in-Some.frame c.in-Some.ensures.some)
-
-pub returns-in-None : goal.returns-in-None
-returns-in-None c =
-    told_none (at (goal.at.returns-in-None c).After-self) _ c.deref.ensures.value c.in-None.ensures.none
+pub returns : goal.returns
+returns c =
+    let t = c.self.inside.frames in
+    let up = c.self.inside.uptodate.items in
+    let files = c.self.inside.files.items in
+    let f = c.args.file in
+    let here = here_kept t up files f c.args.self.now c.self.view_is c.requires in
+    let entry : c.index.result.now ≡ kept_at files f = get_or_read files f c.index.result.now here c.index.ensures
+    none_kept in
+    c.is_cached.ensures ∙ (λ i. has_page (c.deref.ensures.value i) (map.get (entry i).mapping.pages c.args.page))
+    ∙ cached_at t up files f c.args.page ∙ ap (λ s. is_some (stored_page s f c.args.page)) c.self.view_is

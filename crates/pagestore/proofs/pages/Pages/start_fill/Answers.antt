@@ -79,7 +79,7 @@ returns-then-is_err-clause-err c =
 
 -- ---- where the page is entered
 
-entered_file : (c : goal.After-note) → (let k = c.index_mut.result.now in
+entered_file : (c : goal.After-self-2-1) → (let k = c.index_mut.result.now in
     let now : KeptFile = record k { mapping = c.insert_page.new.self } in
     now ≡ with_kept (kept_at c.self.inside.files.items c.args.file) c.args.page (Some (untagged c.in-Ok.frame.0)))
 entered_file c =
