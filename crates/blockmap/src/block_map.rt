@@ -120,6 +120,7 @@ impl BlockMap {
     }
 
     /// A write of the page on its block has ended well. Nothing, where the page has no block.
+    /// Nothing is stored, where the block was written before.
     pub fn set_written(&mut self, file: FileId, page: PageIndex)
         requires { IsPage file.0 page.0 }
         ensures { self.new ≡ record self.old { spots = with_written (map.get self.old.spots (file.0, page.0)) (file.0, page.0) self.old.spots } }
@@ -127,15 +128,6 @@ impl BlockMap {
         let Some(placed) = self.spots.get(file.0, page.0) else {
             return;
         };
-        self.set_written_at(file, page, placed);
-    }
-
-    /// The same of a page whose block was looked up. Nothing is stored, where the block was written before.
-    pub fn set_written_at(&mut self, file: FileId, page: PageIndex, placed: Placed)
-        requires page { IsPage file.0 page.0 }
-        requires placed { Some placed ≡ option_map told (map.get self.old.spots (file.0, page.0)) }
-        ensures { self.new ≡ record self.old { spots = with_written (map.get self.old.spots (file.0, page.0)) (file.0, page.0) self.old.spots } }
-    {
         if placed.is_written {
             return;
         }

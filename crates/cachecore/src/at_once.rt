@@ -131,7 +131,7 @@ impl CacheCore {
         self.pages.write_through(file.0, page.0, written.is_err());
         match written {
             Ok(()) => {
-                self.blocks.set_written_at(file, page, placed);
+                self.blocks.set_written(file, page);
                 Reply::Written
             }
             Err(code) => {

@@ -49,12 +49,12 @@ write-written-requires-clause-exists g c =
     omega arith
 
 -- how it ended well
-done : (g : Given) (c : goal.After-set_written_at g) → (let b = (goal.at.invariant_of-self g c).In-Some in
+done : (g : Given) (c : goal.After-set_written g) → (let b = (goal.at.invariant_of-self g c).In-Some in
     WriteGoes (parts_of c.self.inside) c.self.invariant c.args.file.0 c.args.page.0 (may g b) (place g b) (here g b) (room g b)
     c.in-Some.placed c.in-Some.ensures c.write-written.result reply.Written
     (record (parts_of c.self.inside) {
       store = c.write_through.new.self;
-      blocks = c.set_written_at.new.self;
+      blocks = c.set_written.new.self;
       flights = c.pass.new.self;
     }))
 done g c =
@@ -62,11 +62,11 @@ done g c =
     let s = c.self.inside.pages in
     let went : c.is_err.result ≡ false = c.is_err.ensures.value ∙ ap is_err c.in-Ok.is in
     write_ends (parts_of c.self.inside) c.self.invariant c.args.file.0 c.args.page.0 (may g b) (place g b) (here g b) (room g b)
-    c.in-Some.placed c.in-Some.ensures c.write-written.result c.in-Ok.is c.write_through.new.self c.set_written_at.new.self
+    c.in-Some.placed c.in-Some.ensures c.write-written.result c.in-Ok.is c.write_through.new.self c.set_written.new.self
     c.pass.new.self
     (c.write_through.ensures ∙ ap (λ failed. with_pages s c.args.file.0 (map.insert (stored_at s c.args.file.0).pages c.args.page.0
     (after_write failed (under_write (the_page (stored_at s c.args.file.0).pages c.args.page.0)))) s.free) went)
-    c.set_written_at.ensures c.pass.ensures
+    c.set_written.ensures c.pass.ensures
 
 pub invariant_of-self : goal.invariant_of-self
 invariant_of-self g c = (done g c).cache
