@@ -89,12 +89,6 @@ uncrowded s new (Truncate z) h bytes step =
       | inr a ↦ absurd a.1
     ]
 
-wants_of : (why : Refusal) → is_for_now why ≡ true → (why ≡ TooManyInFlight → ⊥) → wants_room why ≡ true
-wants_of NoFrame passes never = refl
-wants_of DirtyLimit passes never = refl
-wants_of TooManyInFlight passes never = absurd (never refl)
-wants_of why passes never = absurd cc
-
 -- ---- the refusal is another
 
 -- a seat or a handle of another cache
@@ -125,29 +119,25 @@ short_missed own r old new a b c slip d asks m goes short =
 -- a change was refused, and what came of it
 pub short_settled : (change : Change) (h : HandleId) (bytes : List ℕ) (old new : HeldSeen) (a b c : SeatSeen) (first d : Denied)
     → under.IsDenied (event_of change h bytes) old new a b first → Goes b c
-    → (d ≡ first) ⊎ (is_for_now first.refusal ≡ true) → IsShortFor (event_of change h bytes) a c d
+    → (d ≡ first) ⊎ (wants_room first.refusal ≡ true) → IsShortFor (event_of change h bytes) a c d
 short_settled change h bytes old new a b c first d q goes (inl same) =
     let own = event_of change h bytes in
     subst (IsShortFor own a c) (sym same) (short_denied own own old new a b a c first q)
-short_settled change h bytes old new a b c first d q goes (inr passes) = go first.refusal first.slip passes q
+short_settled change h bytes old new a b c first d q goes (inr wants) = go first.refusal first.slip wants q
   where
-    go : (r : Refusal) (o : Option Slip) → is_for_now r ≡ true → under.DeniedBy (event_of change h bytes) old new a b r o
+    go : (r : Refusal) (o : Option Slip) → wants_room r ≡ true → under.DeniedBy (event_of change h bytes) old new a b r o
         → IsShortFor (event_of change h bytes) a c d
-    go r None passes q =
-        let lasts : is_for_now r ≡ false = subst (λ (x : Refusal). is_for_now x ≡ false) (sym q.0) refl in absurd cc
-    go r (Some slip) passes q =
-        let crowded : r ≡ TooManyInFlight → ⊥ =
-        λ is. uncrowded old.core.state new.core.state change h bytes
-        (subst (λ (x : Refusal). Step old.core.state (event_of change h bytes) (reply.Refused x) new.core.state) is q.step) in
-        short_missed (event_of change h bytes) (reply.Refused r) old new a b c slip d (wants_of r passes crowded) q goes
+    go r None wants q =
+        let other : wants_room r ≡ false = subst (λ (x : Refusal). wants_room x ≡ false) (sym q.0) refl in absurd cc
+    go r (Some slip) wants q = short_missed (event_of change h bytes) (reply.Refused r) old new a b c slip d wants q goes
 
 -- ---- later
 
 pub short_on : (own : Event) (a b c : SeatSeen) (d : Denied) → Goes a b → IsShortFor own b c d → IsShortFor own a c d
 short_on own a b c d goes p short = let k = p short in (k.0, k.1, k.2, makes_on a b c k.0 own k.1 goes k.3)
 
--- the first refusal may pass when a request ends, whatever came of it
-pub passes_anyhow : (result : Result Unit Denied) (first : Denied) → is_for_now first.refusal ≡ true
-    → IfErr result (λ d. (d ≡ first) ⊎ (is_for_now first.refusal ≡ true))
-passes_anyhow (Ok r) first passes = tt
-passes_anyhow (Err d) first passes = inr passes
+-- the first refusal wants room, whatever came of it
+pub wants_anyhow : (result : Result Unit Denied) (first : Denied) → wants_room first.refusal ≡ true
+    → IfErr result (λ d. (d ≡ first) ⊎ (wants_room first.refusal ≡ true))
+wants_anyhow (Ok r) first wants = tt
+wants_anyhow (Err d) first wants = inr wants

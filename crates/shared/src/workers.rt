@@ -11,6 +11,7 @@ use blockdev::{BlockDevice, Gate};
 use locked::denied::Denied;
 use locked::naming::Naming;
 use std::sync::Wait;
+use std::sync::atomic::Ordering;
 use trail::Trail;
 
 impl<B: Naming, D: BlockDevice, T: Trail> SharedCache<B, D, T> {
@@ -31,24 +32,27 @@ impl<B: Naming, D: BlockDevice, T: Trail> SharedCache<B, D, T> {
         ensures popped { popped_by worker.new ≡ popped_by worker.old }
         ensures carried { CarriesAll B.sizes B.name worker.old worker.new }
     {
+        self.flushers.fetch_add(1, Ordering::SeqCst);
         'turns: for _ in rt.forever() {
             let seen = self.work.count();
             if self.work.is_stopped() {
-                return;
+                break;
             }
             let turn = self.flusher_turn(rt, gate, worker);
             if is_unended(&turn) {
-                return;
+                break;
             }
             // A refusal may pass when a request ends, which gives the signal.
             if is_idle(&turn) {
                 self.work.wait(rt, seen);
             }
         }
+        self.flushers.fetch_sub(1, Ordering::SeqCst);
+        self.jobs.give(rt);
     }
 
-    /// Carries out the jobs of the ring, and sleeps where there are none. Told to stop, it goes on till the ring is empty. It stops
-    /// too where an end is refused, which no job gets whose request is in flight.
+    /// Carries out the jobs of the ring, and sleeps where there are none. Told to stop, it goes on till no flusher is in its loop and
+    /// the ring is empty. It stops too where an end is refused, which no job gets whose request is in flight.
     #[tactic(auto, using(locked::proofs::Seats::goes_same, locked::proofs::Seats::goes_on, crate::proofs::Ending::none_ended, locked::proofs::Seats::only_same, crate::proofs::Owning::only_ends_on))]
     pub fn io_worker<R: Wait, G: Gate>(
         &self,
@@ -66,10 +70,11 @@ impl<B: Naming, D: BlockDevice, T: Trail> SharedCache<B, D, T> {
     {
         'turns: for _ in rt.forever() {
             let seen = self.jobs.count();
-            let is_stopped = self.jobs.is_stopped();
+            // In this order: a flusher that counts itself later finds that it is to stop, and begins no write.
+            let is_over = self.jobs.is_stopped() && self.flushers.load(Ordering::SeqCst) == 0;
             let is_idle = self.io_turn(rt, gate, worker)?.is_none();
             if is_idle {
-                if is_stopped {
+                if is_over {
                     return Ok(());
                 }
                 self.jobs.wait(rt, seen);
