@@ -5,7 +5,7 @@ use Rattle.std.proofs.lemmas.List.{length_push, take-append-le, take_all}
 use Rattle.std.specs.FinMap as map
 use Rattle.blockdev.specs.Jobs.{Task}
 use Rattle.cachecore.specs.Replies.{evicted, flush_ended}
-use Rattle.cachecore.specs.Wants.{NothingToWrite, holds_cut}
+use Rattle.cachecore.specs.Wants.{NothingToWrite}
 use Rattle.cachecore.specs.declared.answers.Ended.{Ended}
 use Rattle.cachecore.specs.declared.answers.Ended.TheVariants as ended
 use Rattle.machine.specs.declared.event.End.{End}
@@ -45,6 +45,7 @@ use Rattle.locked.proofs.Seats.{goes_same, only_by, only_on, only_same, only_wid
 use Rattle.shared.specs.Called.{is_for_now, may_pass}
 use Rattle.shared.specs.Own.{IsEviction, IsRoomEvent, admitted}
 use Rattle.shared.specs.Rooms.{FailsToWrite, IsAtRest, IsCrammed, IsFinal, IsFinalOr, IsLost, IsRoomLost, IsRoomTry, IsUnwritten, is_written, wants_room}
+use Rattle.shared.proofs.CutRequests.{cut_busy, none_cut}
 use Rattle.shared.proofs.Making.{makes_by}
 use Rattle.shared.proofs.Sparing.{IsAsked, has_to_write, stops_unrefused}
 
@@ -315,7 +316,7 @@ pub rests_still : (why : Refusal) (s : State) → is_busy s ≡ false → may_pa
 rests_still NoFrame s e = e
 rests_still DirtyLimit s e = e
 rests_still TooManyInFlight s e = e
-rests_still NoSpace s e = not_true (holds_cut s) (λ cut. let x : true ≡ false = sym (cut_busy s cut) ∙ e in cc)
+rests_still NoSpace s e = none_cut s e
 rests_still why s e = refl
 
 -- a refusal for want of room passes by any end
