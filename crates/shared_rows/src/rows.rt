@@ -424,9 +424,11 @@ fn a_read_stands_after_the_write_that_its_seat_saw(rt: HostRuntime) -> Result<()
     Ok(())
 }
 
+/// A cached page is read while a worker's write of it is held, and then while another caller's fill of another page is.
 #[test]
-fn a_cached_page_is_read_while_its_write_is_held(rt: HostRuntime) -> Result<(), Fail> {
+fn gate_overlap(rt: HostRuntime) -> Result<(), Fail> {
     assert!(&rt; over_a_cache(&rt, rt.alloc(), Row::ReadsBesideAWrite)?);
+    assert!(&rt; over_a_cache(&rt, rt.alloc(), Row::ReadsBesideAFill)?);
     Ok(())
 }
 
@@ -445,7 +447,7 @@ fn a_file_longer_than_the_cache_is_kept_by_a_device_that_fails(
 }
 
 #[test]
-fn what_was_written_is_read_back(rt: HostRuntime) -> Result<(), Fail> {
+fn shared_read_back(rt: HostRuntime) -> Result<(), Fail> {
     assert!(&rt; over_a_cache(&rt, rt.alloc(), Row::ReadsBack)?);
     Ok(())
 }
@@ -471,12 +473,6 @@ fn a_failed_write_is_told_once(rt: HostRuntime) -> Result<(), Fail> {
 #[test]
 fn a_failed_flush_of_the_device_is_told_without_a_slip(rt: HostRuntime) -> Result<(), Fail> {
     assert!(&rt; over_a_cache(&rt, rt.alloc(), Row::TellsOfALostFlush)?);
-    Ok(())
-}
-
-#[test]
-fn a_cached_page_is_read_while_a_fill_is_held(rt: HostRuntime) -> Result<(), Fail> {
-    assert!(&rt; over_a_cache(&rt, rt.alloc(), Row::ReadsBesideAFill)?);
     Ok(())
 }
 
