@@ -19,7 +19,8 @@ any_dropped m = list_any (λ (x : Request). x.dropped) (finmap.values m)
 
 pub none_cut : (s : State) → is_busy s ≡ false → holds_cut s ≡ false
 none_cut s rests =
-    let none : finmap.values (finmap.empty nat_cmp) ≡ [] = ap (map (λ (e : ℕ × Request). e.1)) (no_entries nat_cmp) in
+    let none : finmap.values (finmap.empty {K = ℕ} {X = Request} {R = nat_cmp}) ≡ [] =
+    ap (map (λ (e : ℕ × Request). e.1)) (no_entries nat_cmp) in
     ap any_dropped (finmap.empty_of_len s.requests (none_left (finmap.len s.requests) rests))
     ∙ ap (list_any (λ (x : Request). x.dropped)) none
 

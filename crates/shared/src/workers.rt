@@ -23,7 +23,6 @@ impl<B: Naming, D: BlockDevice, T: Trail> SharedCache<B, D, T> {
 
     /// Writes pages back while there are any to write, and sleeps where there are none, until it is told to stop. It stops too where
     /// the end of a write that it began is refused, which no write gets whose request is in flight.
-    #[tactic(auto, using(locked::proofs::Seats::goes_same, locked::proofs::Seats::goes_on, locked::proofs::Seats::only_same, crate::proofs::Owning::only_write_back_on, crate::proofs::Carrying::none_carried, crate::proofs::Carrying::puts_none, crate::proofs::Carrying::carries_all, crate::proofs::Carrying::carries_last))]
     pub fn flusher<R: Wait, G: Gate>(&self, rt: &R, gate: &G, worker: &mut Worker)
         requires worker { IsWorkerOf self.now.ring B.name B.table B.sizes worker.old }
         ensures worker { IsWorkerOf self.now.ring B.name B.table B.sizes worker.new }
@@ -33,22 +32,35 @@ impl<B: Naming, D: BlockDevice, T: Trail> SharedCache<B, D, T> {
         ensures carried { CarriesAll B.sizes B.name worker.old worker.new }
     {
         self.flushers.fetch_add(1, Ordering::SeqCst);
+        self.write_back(rt, gate, worker);
+        self.flushers.fetch_sub(1, Ordering::SeqCst);
+        self.jobs.give(rt);
+    }
+
+    /// The turns of a flusher, which may put a job into the ring until it returns.
+    #[tactic(auto, using(locked::proofs::Seats::goes_same, locked::proofs::Seats::goes_on, locked::proofs::Seats::only_same, crate::proofs::Owning::only_write_back_on, crate::proofs::Carrying::none_carried, crate::proofs::Carrying::puts_none, crate::proofs::Carrying::carries_all, crate::proofs::Carrying::carries_last))]
+    fn write_back<R: Wait, G: Gate>(&self, rt: &R, gate: &G, worker: &mut Worker)
+        requires worker { IsWorkerOf self.now.ring B.name B.table B.sizes worker.old }
+        ensures worker { IsWorkerOf self.now.ring B.name B.table B.sizes worker.new }
+        ensures goes { Goes (seat_of worker.old) (seat_of worker.new) }
+        ensures only { Only (λ e. IsWriteBack e.event) (seat_of worker.old) (seat_of worker.new) }
+        ensures popped { popped_by worker.new ≡ popped_by worker.old }
+        ensures carried { CarriesAll B.sizes B.name worker.old worker.new }
+    {
         'turns: for _ in rt.forever() {
             let seen = self.work.count();
             if self.work.is_stopped() {
-                break;
+                return;
             }
             let turn = self.flusher_turn(rt, gate, worker);
             if is_unended(&turn) {
-                break;
+                return;
             }
             // A refusal may pass when a request ends, which gives the signal.
             if is_idle(&turn) {
                 self.work.wait(rt, seen);
             }
         }
-        self.flushers.fetch_sub(1, Ordering::SeqCst);
-        self.jobs.give(rt);
     }
 
     /// Carries out the jobs of the ring, and sleeps where there are none. Told to stop, it goes on till no flusher is in its loop and
