@@ -115,7 +115,7 @@ fn stops<B: Naming + Send + Sync, D: BlockDevice + Send, T: Trail + Send, R: Thr
             requires { IsWorkerOf cache.now.ring B.name B.table B.sizes own × IsWorkerOf cache.now.ring B.name B.table B.sizes flusher }
         { works(rt, cache, own, flusher) },
         move ||
-            requires { caller.table ≡ B.table }
+            requires { (caller.table ≡ B.table) × (handle.pass.board ≡ B.board) }
         { stops_and_syncs(rt, cache, turnstile, caller, handle) },
     );
     is_done && is_synced
