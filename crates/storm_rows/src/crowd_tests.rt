@@ -4,7 +4,11 @@ use blockdev::MemDevice;
 use machine::{Event, Reply};
 use pc_types::{Bytes, Refusal};
 use std::alloc::{AllocError, Global};
+use std::fs::{File, Files};
+use std::mem::drop;
+use std::sync::Wait;
 use std::test::Fail;
+use std::thread::Threads;
 use storm::{Aftermath, Weather, storm};
 use storm_text::Options;
 use trail::Entry;
@@ -18,41 +22,46 @@ struct Crowd {
 }
 
 /// Plays the history of a storm again, over memory, with each device call at its request's end. Nothing is answered where a refusal
-/// or a serial is not the history's.
-fn crowd_of(alloc: Global, after: &Aftermath) -> Result<Option<Crowd>, Fail> {
+/// or a serial is not the history's. The world is dropped by a call, since the check is slow where one goes out of scope.
+fn crowd_of(alloc: Global, after: &Aftermath) -> Option<Crowd> {
     let geometry = &after.geometry;
-    let device = MemDevice::new(alloc, geometry.page(), geometry.blocks())?;
-    let name = after.trail.cache().unwrap_or(0);
-    let Ok(mut world) = World::new(alloc, geometry, name, device) else {
-        return Ok(None);
-    };
+    let name = after.trail.cache()?;
+    let device = MemDevice::new(alloc, geometry.page(), geometry.blocks()).ok()?;
+    match World::new(alloc, geometry, name, device) {
+        Ok(mut world) => {
+            let crowd = crowd_in(alloc, &mut world, after);
+            drop(world);
+            crowd
+        }
+        Err(refused) => {
+            drop(refused);
+            None
+        }
+    }
+}
+
+fn crowd_in(alloc: Global, world: &mut World<MemDevice>, after: &Aftermath) -> Option<Crowd> {
     let mut crowd = Crowd { refused: 0, cut: 0 };
     for place in 0..after.trail.len() {
-        let Some((entry, bytes)) = after.trail.entry(place) else {
-            return Ok(None);
-        };
-        if !agrees(&play(alloc, &mut world, entry, bytes)?, &entry.reply) {
-            return Ok(None);
+        let (entry, bytes) = after.trail.entry(place)?;
+        if !agrees(&play(alloc, world, entry, bytes)?, &entry.reply) {
+            return None;
         }
         if after.crowded.iter().any(|slip| slip.place == place) {
             crowd.refused += 1;
             crowd.cut += u64::from(world.holds_cut());
         }
     }
-    Ok(Some(crowd))
+    Some(crowd)
 }
 
 /// Makes the entry's event, and before the end of a request its device call.
-fn play(
-    alloc: Global,
-    world: &mut World<MemDevice>,
-    entry: &Entry,
-    bytes: &[u8],
-) -> Result<Reply, AllocError> {
+fn play(alloc: Global, world: &mut World<MemDevice>, entry: &Entry, bytes: &[u8]) -> Option<Reply> {
     if let Event::End(_, end) = &entry.event {
         let _ = world.call(end.serial);
     }
-    Ok(world.step(&step_of(alloc, &entry.event, bytes)?))
+    let step = step_of(alloc, &entry.event, bytes).ok()?;
+    Some(world.step(&step))
 }
 
 fn step_of(alloc: Global, event: &Event, bytes: &[u8]) -> Result<Step, AllocError> {
@@ -92,10 +101,11 @@ fn agrees(one: &Reply, other: &Reply) -> bool {
     }
 }
 
-/// A call is refused for want of a block only by an entry at which no request in flight has one that will be free.
-#[test]
-fn no_call_is_refused_for_a_block_that_will_be_free(rt: HostRuntime) -> Result<(), Fail> {
-    let alloc = rt.alloc();
+/// The crowd of a storm of 1,000 calls by eight callers over 40 blocks.
+fn crowd_of_a_storm<R: Threads + Wait + Files<File = File> + Sync>(
+    rt: &R,
+    alloc: Global,
+) -> Option<Crowd> {
     let options = Options {
         threads: 8,
         steps: 125,
@@ -106,19 +116,27 @@ fn no_call_is_refused_for_a_block_that_will_be_free(rt: HostRuntime) -> Result<(
         faults: 0,
         blocks: 40,
     };
-    let after = storm(&rt, alloc, options, weather).ok();
-    let crowd = match &after {
-        Some(after) => crowd_of(alloc, after)?,
-        None => None,
-    };
-    assert!(&rt;
-        matches!(
-            crowd,
-            Some(Crowd {
-                refused: 1..,
-                cut: 0
-            })
-        )
+    match storm(rt, alloc, options, weather) {
+        Ok(after) => {
+            let crowd = crowd_of(alloc, &after);
+            drop(after);
+            crowd
+        }
+        Err(_) => None,
+    }
+}
+
+/// A call is refused for want of a block only by an entry at which no request in flight has one that will be free.
+#[test]
+fn no_call_is_refused_for_a_block_that_will_be_free(rt: HostRuntime) -> Result<(), Fail> {
+    let crowd = crowd_of_a_storm(&rt, rt.alloc());
+    let is_so = matches!(
+        crowd,
+        Some(Crowd {
+            refused: 1..,
+            cut: 0
+        })
     );
+    assert!(&rt; is_so);
     Ok(())
 }
