@@ -48,8 +48,8 @@ fn crowd_in(alloc: Global, world: &mut World<MemDevice>, after: &Aftermath) -> O
             return None;
         }
         if after.crowded.iter().any(|slip| slip.place == place) {
-            crowd.refused += 1;
-            crowd.cut += u64::from(world.holds_cut());
+            crowd.refused = crowd.refused.saturating_add(1);
+            crowd.cut = crowd.cut.saturating_add(u64::from(world.holds_cut()));
         }
     }
     Some(crowd)
