@@ -1,6 +1,8 @@
 -- Which room a call wants: frames for the pages that it lacks, and room for those that it makes dirty. No event asks
 -- for it.
 use Rattle.std.specs.Prelude.{◌≡◌, ◌<◌, ℕ, ◌+◌, ◌-◌, Bool, true, not, ◌&&◌, if◌then◌else◌, None, is_some, nat_lt, nat_le, count_by}
+use Rattle.std.specs.FinMap as map
+use Rattle.std.specs.List.{list_any}
 use Rattle.pc_types.specs.declared.limits.TheConstants.{MAX_FILE_SIZE, MAX_TOUCHED}
 use Rattle.machine.specs.Changes.{flush_pick}
 use Rattle.machine.specs.State.{State, dirty_total, file_at, handle_file, free_frames, is_cached, is_open, tags_at}
@@ -32,6 +34,10 @@ abbrev pub passes_limit : State → ℕ → ℕ → ℕ → Bool
 passes_limit s h o n =
     let more = dirtied s (handle_file s h) o n in
     may_touch s h o n && (nat_lt 0 more && nat_lt s.sizes.dirty_limit (dirty_total s + more))
+
+-- whether a request in flight is dropped. It holds its block until it ends, though the page is cut off that it was of
+abbrev pub holds_cut : State → Bool
+holds_cut s = list_any (λ x. x.dropped) (map.values s.requests)
 
 -- no file has a page to write; f is the first that has one
 abbrev pub NothingToWrite : State → Type 0

@@ -3,7 +3,7 @@
 ghost use Rattle.std.specs.Prelude.{◌≡◌, ◌+◌, ◌-◌, ◌/◌, ◌<◌, ◌≤◌, IfNone, IfSome, length, true, false};
 ghost use Rattle.pc_types.specs.declared.limits.TheConstants.{MAX_FILE_SIZE, MAX_TOUCHED};
 ghost use Rattle.machine.specs.State.{free_frames, handle_file};
-ghost use Rattle.cachecore.specs.Wants.{IsFirstToWrite, NothingToWrite, frames_short, lacks_frames, may_touch, passes_limit};
+ghost use Rattle.cachecore.specs.Wants.{IsFirstToWrite, NothingToWrite, frames_short, holds_cut, lacks_frames, may_touch, passes_limit};
 
 use crate::cache::{CacheCore, is_too_long};
 use pc_types::limits::MAX_FILE_SIZE;
@@ -44,6 +44,13 @@ impl CacheCore {
         ensures { result ≡ free_frames self.now.state }
     {
         self.pages.free_frames()
+    }
+
+    /// Whether a request in flight is dropped. Its block is free when it ends.
+    pub fn holds_cut(&self) -> bool
+        ensures { result ≡ holds_cut self.now.state }
+    {
+        self.requests.has_dropped()
     }
 
     /// The first file that has a page to write: one that is dirty and has no write in flight.

@@ -2,7 +2,7 @@
 
 ghost use Rattle.std.specs.Prelude.{◌≡◌, Some, length, nat_lt};
 ghost use Rattle.cachecore.specs.Replies.{sized};
-ghost use Rattle.cachecore.specs.Wants.{lacks_frames, passes_limit};
+ghost use Rattle.cachecore.specs.Wants.{holds_cut, lacks_frames, passes_limit};
 ghost use Rattle.machine.specs.State.{free_frames};
 ghost use Rattle.machine.specs.Tests.{tests};
 ghost use Rattle.machine.specs.declared.event.Event.TheVariants as event;
@@ -21,6 +21,13 @@ impl<B: Naming, T: Trail> Locked<B, T> {
         ensures { result ≡ is_busy self.now.core.state }
     {
         self.in_flight > 0
+    }
+
+    /// Whether a request in flight is dropped. Its block is free when it ends.
+    pub fn holds_cut(&self) -> bool
+        ensures { result ≡ holds_cut self.now.core.state }
+    {
+        self.held.core().holds_cut()
     }
 
     /// How many frames are free.

@@ -17,7 +17,7 @@ use std::string::String;
 use std::sync::Wait;
 use std::thread::Threads;
 use std::time::SystemTime;
-use storm::{Weather, run_storm};
+use storm::{BLOCKS, Weather, run_storm};
 use storm_text::say_usage;
 use textline::words::number;
 use textline::{Printer, Stop};
@@ -123,6 +123,7 @@ fn weather(rt: &HostRuntime) -> Weather {
     Weather {
         seed: variable(rt, "PCACHE_SEED").unwrap_or(now(rt)),
         faults: variable(rt, "PCACHE_FAULTS").unwrap_or(0),
+        blocks: BLOCKS,
     }
 }
 

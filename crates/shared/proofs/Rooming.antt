@@ -28,7 +28,7 @@ use Rattle.pc_types.specs.declared.kind.Kind.{Kind}
 use Rattle.pc_types.specs.declared.kind.Kind.TheVariants.{Flush}
 use Rattle.pc_types.specs.declared.limits.TheConstants.{MAX_TOUCHED}
 use Rattle.pc_types.specs.declared.refusal.Refusal.{Refusal}
-use Rattle.pc_types.specs.declared.refusal.Refusal.TheVariants.{BadHandle, DirtyLimit, NoFrame, NoSuchFile, Stranger, TooLong, TooManyInFlight}
+use Rattle.pc_types.specs.declared.refusal.Refusal.TheVariants.{BadHandle, DirtyLimit, NoFrame, NoSpace, NoSuchFile, Stranger, TooLong, TooManyInFlight}
 use Rattle.trail.specs.declared.entry.Entry.{Entry}
 use Rattle.trail.specs.Entries.{entry_of}
 use Rattle.trail.specs.History.{After}
@@ -42,9 +42,10 @@ use Rattle.locked.specs.Firsts.{IsFirstDenied, Writes}
 use Rattle.locked.specs.declared.denied.Denied.{Denied}
 use Rattle.locked.proofs.Replied.{end_taken}
 use Rattle.locked.proofs.Seats.{goes_same, only_by, only_on, only_same, only_wider}
-use Rattle.shared.specs.Called.{is_for_now}
+use Rattle.shared.specs.Called.{is_for_now, may_pass}
 use Rattle.shared.specs.Own.{IsEviction, IsRoomEvent, admitted}
 use Rattle.shared.specs.Rooms.{FailsToWrite, IsAtRest, IsCrammed, IsFinal, IsFinalOr, IsLost, IsRoomLost, IsRoomTry, IsUnwritten, is_written, wants_room}
+use Rattle.shared.proofs.CutRequests.{cut_busy, none_cut}
 use Rattle.shared.proofs.Making.{makes_by}
 use Rattle.shared.proofs.Sparing.{IsAsked, has_to_write, stops_unrefused}
 
@@ -294,9 +295,35 @@ lost_denied sizes name e old new before at after first d geometry asked q legal 
 
 -- ---- no request is in flight at the entry of a refusal that may pass when one ends
 
-pub not_passing : (for_now busy : Bool) → (for_now && busy) ≡ false → for_now ≡ true → busy ≡ false
-not_passing true busy e is = e
-not_passing false busy e is = absurd cc
+-- a refusal for which a request is in flight by whose end it may pass is one of those
+pub passes_now : (why : Refusal) (s : State) → may_pass why s ≡ true → is_for_now why ≡ true
+passes_now NoFrame s e = refl
+passes_now DirtyLimit s e = refl
+passes_now TooManyInFlight s e = refl
+passes_now NoSpace s e = refl
+passes_now why s e = absurd cc
+
+-- and then one is in flight
+pub passes_busy : (why : Refusal) (s : State) → may_pass why s ≡ true → is_busy s ≡ true
+passes_busy NoFrame s e = e
+passes_busy DirtyLimit s e = e
+passes_busy TooManyInFlight s e = e
+passes_busy NoSpace s e = cut_busy s e
+passes_busy why s e = absurd cc
+
+-- where none is in flight no refusal passes
+pub rests_still : (why : Refusal) (s : State) → is_busy s ≡ false → may_pass why s ≡ false
+rests_still NoFrame s e = e
+rests_still DirtyLimit s e = e
+rests_still TooManyInFlight s e = e
+rests_still NoSpace s e = none_cut s e
+rests_still why s e = refl
+
+-- a refusal for want of room passes by any end
+pub wanting_rests : (why : Refusal) (s : State) → wants_room why ≡ true → may_pass why s ≡ false → is_busy s ≡ false
+wanting_rests NoFrame s wants e = e
+wanting_rests DirtyLimit s wants e = e
+wanting_rests why s wants e = absurd cc
 
 pub final_lasting : (sizes : Sizes) (name : ℕ) (after : SeatSeen) (d : Denied) → is_for_now d.refusal ≡ false
     → IsFinal sizes name after d
@@ -369,7 +396,7 @@ read_final sizes name h o n old new before after d q =
 
 at_rest : (sizes : Sizes) (name : ℕ) (e : Event) (why : Refusal) (old new : HeldSeen) (before at after : SeatSeen) (slip : Slip)
     → Made e (reply.Refused why) old new before at slip → After sizes name new.log.history new.core.state
-    → is_busy new.core.state ≡ false → Goes at after → IsAtRest sizes name after slip
+    → may_pass why new.core.state ≡ false → Goes at after → IsAtRest sizes name why after slip
 at_rest sizes name e why old new before at after slip m legal rests goes =
     let entry : Entry = entry_of before.number e (reply.Refused why) in
     let long : length at.list ≡ slip.place + 1 =
@@ -392,11 +419,11 @@ pub final_denied : (sizes : Sizes) (name : ℕ) (e : Event) (old new : HeldSeen)
     → IsFinalOr first sizes name new.core.state after d → IsFinal sizes name after d
 final_denied sizes name e old new before at after first d q legal goes (inr final) = final
 final_denied sizes name e old new before at after first d q legal goes (inl k) = λ passes.
-    let there = go first.refusal first.slip q (subst (λ (x : Denied). is_for_now x.refusal ≡ true) k.0 passes) (k.1 passes) in
-    subst (λ (x : Denied). (slip : Slip) × (x.slip ≡ Some slip) × IsAtRest sizes name after slip) (sym k.0) there
+    let there = go first.refusal first.slip q (subst (λ (x : Denied). is_for_now x.refusal ≡ true) k.0 passes) k.1 in
+    subst (λ (x : Denied). (slip : Slip) × (x.slip ≡ Some slip) × IsAtRest sizes name x.refusal after slip) (sym k.0) there
   where
     go : (r : Refusal) (o : Option Slip) → under.DeniedBy e old new before at r o → is_for_now r ≡ true
-        → is_busy new.core.state ≡ false → (slip : Slip) × (o ≡ Some slip) × IsAtRest sizes name after slip
+        → may_pass r new.core.state ≡ false → (slip : Slip) × (o ≡ Some slip) × IsAtRest sizes name r after slip
     go r None q passes rests =
         let other : is_for_now r ≡ false = subst (λ (x : Refusal). is_for_now x ≡ false) (sym q.0) refl in absurd cc
     go r (Some slip) q passes rests = (
@@ -408,22 +435,22 @@ final_denied sizes name e old new before at after first d q legal goes (inl k) =
 -- an event was refused, in the hold that says whether a request is in flight
 still_final : (sizes : Sizes) (name : ℕ) (e : Event) (old new : HeldSeen) (before at : SeatSeen) (first d : Denied)
     → under.IsDenied e old new before at first → After sizes name new.log.history new.core.state → d ≡ first
-    → (is_for_now first.refusal ≡ true → is_busy new.core.state ≡ false) → IsFinal sizes name at d
+    → may_pass first.refusal new.core.state ≡ false → IsFinal sizes name at d
 still_final sizes name e old new before at first d q legal same rests =
     final_denied sizes name e old new before at at first d q legal (goes_same at at refl)
-    (inl (same, λ passes. rests (subst (λ (x : Denied). is_for_now x.refusal ≡ true) same passes)))
+    (inl (same, rests))
 
 -- of the first file to write
 pub first_final : (sizes : Sizes) (name : ℕ) (old new : HeldSeen) (before at : SeatSeen) (first d : Denied)
     → IsFirstDenied old new before at first → After sizes name new.log.history new.core.state → d ≡ first
-    → (is_for_now first.refusal ≡ true → is_busy new.core.state ≡ false) → IsFinal sizes name at d
+    → may_pass first.refusal new.core.state ≡ false → IsFinal sizes name at d
 first_final sizes name old new before at first d q legal same rests =
     still_final sizes name (event.FlushBegin q.file) old new before at first d q.denied legal same rests
 
 -- and of a sync's step
 pub step_final : (sizes : Sizes) (name : ℕ) (m : SyncId) (old new : HeldSeen) (before at : SeatSeen) (first d : Denied)
     → under.IsDenied (event.SyncStep m) old new before at first → After sizes name new.log.history new.core.state → d ≡ first
-    → (is_for_now first.refusal ≡ true → is_busy new.core.state ≡ false) → IsFinal sizes name at d
+    → may_pass first.refusal new.core.state ≡ false → IsFinal sizes name at d
 step_final sizes name m old new before at first d q legal same rests =
     still_final sizes name (event.SyncStep m) old new before at first d q legal same rests
 
@@ -432,7 +459,7 @@ pub final_on : (sizes : Sizes) (name : ℕ) (at after : SeatSeen) (d : Denied) �
     → IsFinal sizes name after d
 final_on sizes name at after d goes final passes = let k = final passes in (k.0, k.1, rests k.0 k.2)
   where
-    rests : (slip : Slip) → IsAtRest sizes name at slip → IsAtRest sizes name after slip
+    rests : (slip : Slip) → IsAtRest sizes name d.refusal at slip → IsAtRest sizes name d.refusal after slip
     rests slip r =
         let seen : slip.place < length at.list = r.seen in
         let there : take (slip.place + 1) after.list ≡ take (slip.place + 1) at.list =
@@ -446,13 +473,12 @@ final_on sizes name at after d goes final passes = let k = final passes in (k.0,
         }
 
 pub stands_by : (sizes : Sizes) (name : ℕ) (s : State) (after : SeatSeen) (first d : Denied) → d ≡ first
-    → (is_for_now first.refusal ≡ true → is_busy s ≡ false) → IsFinalOr first sizes name s after d
-stands_by sizes name s after first d same rests =
-    inl (same, λ passes. rests (subst (λ (x : Denied). is_for_now x.refusal ≡ true) same passes))
+    → may_pass first.refusal s ≡ false → IsFinalOr first sizes name s after d
+stands_by sizes name s after first d same rests = inl (same, rests)
 
 pub stands_still : (sizes : Sizes) (name : ℕ) (s : State) (after : SeatSeen) (first : Denied) → is_busy s ≡ false
     → IsFinalOr first sizes name s after first
-stands_still sizes name s after first rests = inl (refl, λ passes. rests)
+stands_still sizes name s after first rests = inl (refl, rests_still first.refusal s rests)
 
 pub stands_other : (sizes : Sizes) (name : ℕ) (s : State) (after : SeatSeen) (first d : Denied) → IsFinal sizes name after d
     → IsFinalOr first sizes name s after d

@@ -1,11 +1,14 @@
 -- What a call makes, as its caller's seat has seen it.
-use Rattle.std.specs.Prelude.{◌≡◌, Bool, true, false, ◌++◌, ◌∷◌, [], List, length}
+use Rattle.std.specs.Prelude.{◌≡◌, ◌&&◌, Bool, true, false, ◌++◌, ◌∷◌, [], List, length}
 use mathlib.Core.List.{IsPrefix}
+use Rattle.cachecore.specs.Wants.{holds_cut}
+use Rattle.locked.specs.Flights.{is_busy}
+use Rattle.machine.specs.State.{State}
 use Rattle.machine.specs.declared.event.Event.{Event}
 use Rattle.machine.specs.declared.event.Reply.{Reply}
 use Rattle.machine.specs.declared.event.Reply.TheVariants as reply
 use Rattle.pc_types.specs.declared.refusal.Refusal.{Refusal}
-use Rattle.pc_types.specs.declared.refusal.Refusal.TheVariants.{DirtyLimit, NoFrame, TooManyInFlight}
+use Rattle.pc_types.specs.declared.refusal.Refusal.TheVariants.{DirtyLimit, NoFrame, NoSpace, TooManyInFlight}
 use Rattle.trail.specs.declared.entry.Entry.{Entry}
 use Rattle.trail.specs.Entries.{entry_of}
 use Rattle.held.specs.declared.log.Slip.{Slip}
@@ -24,7 +27,13 @@ abbrev pub is_for_now : Refusal → Bool
 is_for_now NoFrame = true
 is_for_now DirtyLimit = true
 is_for_now TooManyInFlight = true
+is_for_now NoSpace = true
 is_for_now _ = false
+
+-- whether a request is in flight by whose end it may pass: any, but for blocks one that is dropped, whose block is free then
+abbrev pub may_pass : Refusal → State → Bool
+may_pass NoSpace s = holds_cut s
+may_pass why s = is_for_now why && is_busy s
 
 -- a reply after which the call tries again: a page is to be filled, or a request to end
 abbrev pub IsForLater : Reply → Type 0

@@ -20,7 +20,7 @@ use Rattle.pc_types.specs.declared.kind.Kind.TheVariants.{Flush}
 use Rattle.pc_types.specs.declared.refusal.Refusal.{Refusal}
 use Rattle.pc_types.specs.declared.refusal.Refusal.TheVariants.{DirtyLimit, Memory, NoFrame}
 use Rattle.trail.specs.History.{After}
-use Rattle.shared.specs.Called.{Makes, is_for_now}
+use Rattle.shared.specs.Called.{Makes, is_for_now, may_pass}
 use Rattle.shared.specs.Own.{IsEviction}
 
 -- more room might have spared it
@@ -89,19 +89,19 @@ IsShortFor e before after d =
     d ≡ record { refusal = Memory; slip = None }
     → (slip : Slip) × (r : Reply) × AsksMore r × Makes before after slip e r
 
--- the history up to the slip's entry leaves no request in flight
-pub record IsAtRest (sizes : Sizes) (name : ℕ) (after : SeatSeen) (slip : Slip) : Type 0 where
+-- the history up to the slip's entry leaves no request in flight by whose end the refusal may pass
+pub record IsAtRest (sizes : Sizes) (name : ℕ) (why : Refusal) (after : SeatSeen) (slip : Slip) : Type 0 where
   pub state : State
   pub seen : slip.place < length after.list
   pub leaves : After sizes name (take (slip.place + 1) after.list) state
-  pub rests : is_busy state ≡ false
+  pub rests : may_pass why state ≡ false
 
--- a refusal that may pass when a request ends is of an entry at which none was in flight
+-- a refusal that may pass when a request ends is of an entry at which no such request was in flight
 abbrev pub IsFinal : Sizes → ℕ → SeatSeen → Denied → Type 0
 IsFinal sizes name after d =
-    is_for_now d.refusal ≡ true → (slip : Slip) × (d.slip ≡ Some slip) × IsAtRest sizes name after slip
+    is_for_now d.refusal ≡ true → (slip : Slip) × (d.slip ≡ Some slip) × IsAtRest sizes name d.refusal after slip
 
--- the refusal stands, and none is in flight in this state if it may pass when one ends; or making room was refused
+-- the refusal stands, and no request is in flight in this state by whose end it may pass; or making room was refused
 abbrev pub IsFinalOr : Denied → Sizes → ℕ → State → SeatSeen → Denied → Type 0
 IsFinalOr first sizes name s after d =
-    ((d ≡ first) × (is_for_now d.refusal ≡ true → is_busy s ≡ false)) ⊎ IsFinal sizes name after d
+    ((d ≡ first) × (may_pass first.refusal s ≡ false)) ⊎ IsFinal sizes name after d

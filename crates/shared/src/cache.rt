@@ -20,6 +20,7 @@ use locked::state::Locked;
 use pc_types::{Geometry, Refusal};
 use ring::Ring;
 use std::alloc::Global;
+use std::sync::atomic::AtomicU64;
 use std::sync::{Condvar, Mutex, Wait};
 use trail::Trail;
 
@@ -51,8 +52,10 @@ pub struct SharedCache<B: Naming, D: BlockDevice, T: Trail> {
     pub(crate) ring: Ring,
     // there may be work for a flusher or an evictor
     pub(crate) work: Signal,
-    // the ring may have a job
+    // the ring may have a job, or the last flusher have left
     pub(crate) jobs: Signal,
+    // who may still put a job into the ring: the loops of flushers that have not ended
+    pub(crate) flushers: AtomicU64,
     ghost named: { name ≡ B.name },
     ghost sized: { geometry ≡ B.sizes },
     ghost boarded: { board ≡ B.board },
@@ -94,6 +97,7 @@ impl<B: Naming, D: BlockDevice, T: Trail> SharedCache<B, D, T> {
             ring,
             work: Signal::new(),
             jobs: Signal::new(),
+            flushers: AtomicU64::new(0),
         };
         (cache, own)
     }

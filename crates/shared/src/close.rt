@@ -60,6 +60,7 @@ impl<B: Naming, D: BlockDevice, T: Trail> SharedCache<B, D, T> {
             ring,
             work,
             jobs,
+            flushers,
         } = self;
         let mut locked = state.into_inner();
         let mut device = disk.into_inner();
@@ -79,6 +80,7 @@ impl<B: Naming, D: BlockDevice, T: Trail> SharedCache<B, D, T> {
                     ring,
                     work,
                     jobs,
+                    flushers,
                 };
                 Err((refusal, cache, Worker { seat, pass }, seats))
             }

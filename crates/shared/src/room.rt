@@ -10,7 +10,7 @@ ghost use Rattle.pc_types.specs.Limits.{is_geometry};
 ghost use Rattle.pc_types.specs.declared.kind.Kind.TheVariants.{Fill, Flush};
 ghost use Rattle.pc_types.specs.declared.refusal.Refusal.TheVariants.{NoFrame};
 ghost use Rattle.trail.specs.History.{After};
-ghost use Rattle.shared.specs.Called.{is_for_now};
+ghost use Rattle.shared.specs.Called.{is_for_now, may_pass};
 ghost use Rattle.shared.specs.Denials.{IsDenied, IsFullIfNoSlip};
 ghost use Rattle.shared.specs.Own.{IsEviction, IsHelp, IsRoomEvent, IsStillDenied};
 ghost use Rattle.shared.specs.Rooms.{FailsToWrite, IsCrammed, IsFinal, IsFinalOr, IsLost, IsUnwritten, is_written, wants_room};
@@ -178,7 +178,7 @@ impl<B: Naming, D: BlockDevice, T: Trail> SharedCache<B, D, T> {
         ensures only { Only (λ e. IsRoomEvent e.event) seat.old seat.new }
         ensures denied { IfErr result (IsStillDenied denied seat.old seat.new) }
         ensures passing { IfOk result (λ _. is_for_now denied.refusal ≡ true) }
-        ensures other { IfErr result (λ d. (d ≡ denied) ⊎ (is_for_now denied.refusal ≡ true)) }
+        ensures other { IfErr result (λ d. (d ≡ denied) ⊎ (wants_room denied.refusal ≡ true)) }
         ensures crammed { IfErr result (λ d. wants_room d.refusal ≡ true → (d ≡ denied) × IsCrammed d.refusal (mutex_guard_value guard.entry).core.state × IsUnwritten (mutex_guard_value guard.entry).core.state seat.old seat.new) }
         ensures legal { After B.sizes B.name (mutex_guard_value guard.entry).log.history (mutex_guard_value guard.entry).core.state }
         ensures within { IsTrue (is_geometry B.sizes) }
@@ -324,8 +324,8 @@ impl<B: Naming, D: BlockDevice, T: Trail> SharedCache<B, D, T> {
         evict_idle(&mut self.state.lock(rt), seat)
     }
 
-    /// Waits for the end of a request, where one is in flight and the refusal may pass when it ends; else the refusal stands.
-    #[tactic(auto, using(crate::proofs::Rooming::not_passing))]
+    /// Waits for the end of a request, where one is in flight by whose end the refusal may pass; else the refusal stands.
+    #[tactic(auto, using(crate::proofs::Rooming::passes_now, crate::proofs::Rooming::passes_busy))]
     pub(crate) fn wait_or<R: Wait>(
         &self,
         rt: &R,
@@ -334,7 +334,8 @@ impl<B: Naming, D: BlockDevice, T: Trail> SharedCache<B, D, T> {
     ) -> Result<(), Denied>
         ensures denied { IfErr result (λ d. d ≡ denied) }
         ensures passing { IfOk result (λ _. is_for_now denied.refusal ≡ true) }
-        ensures still { IfErr result (λ _. is_for_now denied.refusal ≡ true → is_busy (mutex_guard_value guard.entry).core.state ≡ false) }
+        ensures waited { IfOk result (λ _. may_pass denied.refusal (mutex_guard_value guard.entry).core.state ≡ true) }
+        ensures still { IfErr result (λ _. may_pass denied.refusal (mutex_guard_value guard.entry).core.state ≡ false) }
         ensures legal { After B.sizes B.name (mutex_guard_value guard.entry).log.history (mutex_guard_value guard.entry).core.state }
     {
         // Lends that the history is legal.
@@ -434,11 +435,14 @@ fn wants<B: Naming, T: Trail>(state: &Locked<B, T>, span: Span) -> Option<Want> 
     None
 }
 
-/// Whether a refusal may pass when a request ends, and one is in flight.
+/// Whether a request is in flight by whose end a refusal may pass.
 fn may_pass<B: Naming, T: Trail>(state: &Locked<B, T>, refusal: Refusal) -> bool
-    ensures { result ≡ (is_for_now refusal && is_busy state.now.core.state) }
+    ensures { result ≡ may_pass refusal state.now.core.state }
 {
-    is_for_now(refusal) && state.is_busy()
+    match refusal {
+        Refusal::NoSpace => state.holds_cut(),
+        _ => is_for_now(refusal) && state.is_busy(),
+    }
 }
 
 /// Whether a refusal may pass when a request ends.
@@ -447,12 +451,12 @@ pub(crate) fn is_for_now(refusal: Refusal) -> bool
 {
     matches!(
         refusal,
-        Refusal::NoFrame | Refusal::DirtyLimit | Refusal::TooManyInFlight
+        Refusal::NoFrame | Refusal::DirtyLimit | Refusal::TooManyInFlight | Refusal::NoSpace
     )
 }
 
 /// Whether more room might have spared a refusal.
-fn wants_room(refusal: Refusal) -> bool
+pub(crate) fn wants_room(refusal: Refusal) -> bool
     ensures { result ≡ wants_room refusal }
 {
     matches!(refusal, Refusal::NoFrame | Refusal::DirtyLimit)

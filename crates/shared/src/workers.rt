@@ -11,6 +11,7 @@ use blockdev::{BlockDevice, Gate};
 use locked::denied::Denied;
 use locked::naming::Naming;
 use std::sync::Wait;
+use std::sync::atomic::Ordering;
 use trail::Trail;
 
 impl<B: Naming, D: BlockDevice, T: Trail> SharedCache<B, D, T> {
@@ -22,8 +23,23 @@ impl<B: Naming, D: BlockDevice, T: Trail> SharedCache<B, D, T> {
 
     /// Writes pages back while there are any to write, and sleeps where there are none, until it is told to stop. It stops too where
     /// the end of a write that it began is refused, which no write gets whose request is in flight.
-    #[tactic(auto, using(locked::proofs::Seats::goes_same, locked::proofs::Seats::goes_on, locked::proofs::Seats::only_same, crate::proofs::Owning::only_write_back_on, crate::proofs::Carrying::none_carried, crate::proofs::Carrying::puts_none, crate::proofs::Carrying::carries_all, crate::proofs::Carrying::carries_last))]
     pub fn flusher<R: Wait, G: Gate>(&self, rt: &R, gate: &G, worker: &mut Worker)
+        requires worker { IsWorkerOf self.now.ring B.name B.table B.sizes worker.old }
+        ensures worker { IsWorkerOf self.now.ring B.name B.table B.sizes worker.new }
+        ensures goes { Goes (seat_of worker.old) (seat_of worker.new) }
+        ensures only { Only (λ e. IsWriteBack e.event) (seat_of worker.old) (seat_of worker.new) }
+        ensures popped { popped_by worker.new ≡ popped_by worker.old }
+        ensures carried { CarriesAll B.sizes B.name worker.old worker.new }
+    {
+        self.flushers.fetch_add(1, Ordering::SeqCst);
+        self.write_back(rt, gate, worker);
+        self.flushers.fetch_sub(1, Ordering::SeqCst);
+        self.jobs.give(rt);
+    }
+
+    /// The turns of a flusher, which may put a job into the ring until it returns.
+    #[tactic(auto, using(locked::proofs::Seats::goes_same, locked::proofs::Seats::goes_on, locked::proofs::Seats::only_same, crate::proofs::Owning::only_write_back_on, crate::proofs::Carrying::none_carried, crate::proofs::Carrying::puts_none, crate::proofs::Carrying::carries_all, crate::proofs::Carrying::carries_last))]
+    fn write_back<R: Wait, G: Gate>(&self, rt: &R, gate: &G, worker: &mut Worker)
         requires worker { IsWorkerOf self.now.ring B.name B.table B.sizes worker.old }
         ensures worker { IsWorkerOf self.now.ring B.name B.table B.sizes worker.new }
         ensures goes { Goes (seat_of worker.old) (seat_of worker.new) }
@@ -47,8 +63,8 @@ impl<B: Naming, D: BlockDevice, T: Trail> SharedCache<B, D, T> {
         }
     }
 
-    /// Carries out the jobs of the ring, and sleeps where there are none. Told to stop, it goes on till the ring is empty. It stops
-    /// too where an end is refused, which no job gets whose request is in flight.
+    /// Carries out the jobs of the ring, and sleeps where there are none. Told to stop, it goes on till no flusher is in its loop and
+    /// the ring is empty. It stops too where an end is refused, which no job gets whose request is in flight.
     #[tactic(auto, using(locked::proofs::Seats::goes_same, locked::proofs::Seats::goes_on, crate::proofs::Ending::none_ended, locked::proofs::Seats::only_same, crate::proofs::Owning::only_ends_on))]
     pub fn io_worker<R: Wait, G: Gate>(
         &self,
@@ -66,10 +82,11 @@ impl<B: Naming, D: BlockDevice, T: Trail> SharedCache<B, D, T> {
     {
         'turns: for _ in rt.forever() {
             let seen = self.jobs.count();
-            let is_stopped = self.jobs.is_stopped();
+            // In this order: a flusher that counts itself later finds that it is to stop, and begins no write.
+            let is_over = self.jobs.is_stopped() && self.flushers.load(Ordering::SeqCst) == 0;
             let is_idle = self.io_turn(rt, gate, worker)?.is_none();
             if is_idle {
-                if is_stopped {
+                if is_over {
                     return Ok(());
                 }
                 self.jobs.wait(rt, seen);

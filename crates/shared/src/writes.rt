@@ -21,7 +21,7 @@ ghost use Rattle.shared.specs.declared.writes.Change.TheVariants as change;
 
 use crate::cache::SharedCache;
 use crate::handle::Handle;
-use crate::room::Span;
+use crate::room::{Span, wants_room};
 use blockdev::BlockDevice;
 use cachecore::{TruncateAnswer, WriteAnswer};
 use held::log::{Seat, Slip};
@@ -246,7 +246,7 @@ impl<B: Naming, D: BlockDevice, T: Trail> SharedCache<B, D, T> {
 
     /// What a change comes to that was refused, in the hold that refused it: where it was for want of room, room is made for all that
     /// the call wants, or the end of a request waited for; else the refusal stands.
-    #[tactic(auto, using(locked::proofs::Seats::goes_on, locked::proofs::Seats::goes_same, locked::proofs::Seats::only_same, crate::proofs::Owning::only_room_on, crate::proofs::Making::room_on, crate::proofs::Rooming::stands_other, crate::proofs::Wanting::passes_anyhow))]
+    #[tactic(auto, using(locked::proofs::Seats::goes_on, locked::proofs::Seats::goes_same, locked::proofs::Seats::only_same, crate::proofs::Owning::only_room_on, crate::proofs::Making::room_on, crate::proofs::Rooming::stands_other, crate::proofs::Wanting::wants_anyhow))]
     fn settle<R: Wait>(
         &self,
         rt: &R,
@@ -260,15 +260,19 @@ impl<B: Naming, D: BlockDevice, T: Trail> SharedCache<B, D, T> {
         ensures only { Only (λ e. IsRoomEvent e.event) seat.old seat.new }
         ensures denied { IfErr result (IsStillDenied denied seat.old seat.new) }
         ensures passing { IfOk result (λ _. is_for_now denied.refusal ≡ true) }
-        ensures other { IfErr result (λ d. (d ≡ denied) ⊎ (is_for_now denied.refusal ≡ true)) }
+        ensures other { IfErr result (λ d. (d ≡ denied) ⊎ (wants_room denied.refusal ≡ true)) }
         ensures crammed { IfErr result (λ d. wants_room d.refusal ≡ true → (d ≡ denied) × IsCrammed d.refusal (mutex_guard_value guard.entry).core.state × IsUnwritten (mutex_guard_value guard.entry).core.state seat.old seat.new) }
         ensures legal { After B.sizes B.name (mutex_guard_value guard.entry).log.history (mutex_guard_value guard.entry).core.state }
         ensures within { IsTrue (is_geometry B.sizes) }
         ensures stands { IfErr result (IsFinalOr denied B.sizes B.name (mutex_guard_value guard.entry).core.state seat.new) }
         ensures settled { SettlesIn B.name seat.old seat.new result }
     {
+        let is_roomy = !wants_room(denied.refusal);
         if let Err(other) = self.relieve(rt, guard, seat, denied) {
             return Err(other);
+        }
+        if is_roomy {
+            return Ok(());
         }
         self.make_way(rt, seat, span)
     }

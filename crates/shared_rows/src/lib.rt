@@ -8,6 +8,10 @@ mod long_rows;
 #[cfg(test)]
 mod rows;
 #[cfg(test)]
+mod space_rows;
+#[cfg(test)]
+mod stop_rows;
+#[cfg(test)]
 mod thread_rows;
 #[cfg(test)]
 mod worker_rows;

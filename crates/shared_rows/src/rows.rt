@@ -1,5 +1,5 @@
 //! Worked calls on a shared cache of name 7, with 16-byte pages and 64 blocks: with 48 frames and a dirty limit of 16, or with 128
-//! frames and a limit of 96 if the row fills the ring. Every row is run by one function, since the check is slow where a cache is
+//! frames and a limit of 96 if the row fills the ring or the device. Every row is run by one function, since the check is slow where a cache is
 //! dropped. The rows with several threads are those of `thread_rows`, those of workers are those of
 //! `worker_rows`, those over a file longer than the cache are those of `long_rows`, and those whose history is looked at are those of
 //! `history_rows`.
@@ -13,6 +13,7 @@ ghost use Rattle.shared.specs.Workers.{IsWorkerOf};
 
 use crate::history_rows::{Story, leaves_a_history};
 use crate::long_rows::{BADLY, SOME, WELL, passes_over_a_long_file};
+use crate::space_rows::{Meanwhile, fills_the_device};
 use crate::thread_rows::{
     Entrance, FIRST_FILL, Turnstile, is_seen_by_all, reads_beside_a_fill, reads_page,
     shares_a_file, tries_again, writes_page,
@@ -47,6 +48,7 @@ pub(crate) type Tested<B, D> = SharedCache<B, D, FullTrail>;
 enum Row {
     Closes,
     ClosesWithAFullRing,
+    FillsTheDevice(Meanwhile),
     IsSeenByAll,
     Leaves(Story),
     PassesOverALongFile,
@@ -86,6 +88,9 @@ fn runs_over<B: Naming + Send + Sync, D: BlockDevice + Send, R: Threads + Wait +
     match row {
         Row::Closes => return closes(rt, cache, own, seats),
         Row::ClosesWithAFullRing => return closes_with_a_full_ring(rt, cache, own, seats),
+        Row::FillsTheDevice(meanwhile) => {
+            return fills_the_device(rt, &cache, turnstile, own, seats, meanwhile);
+        }
         Row::Leaves(story) => return leaves_a_history(rt, alloc, cache, own, seats, story),
         Row::ReadsBesideAWrite => return reads_beside_a_write(rt, &cache, turnstile, own, seats),
         Row::StopsWithAFullRing => return stops_with_a_full_ring(rt, &cache, own, seats),
@@ -374,7 +379,7 @@ fn over_a_cache<R: Threads + Wait + Sync>(
     row: Row,
 ) -> Result<bool, Refusal> {
     let (frames, limit) = match row {
-        Row::ClosesWithAFullRing | Row::StopsWithAFullRing => (128, 96),
+        Row::ClosesWithAFullRing | Row::FillsTheDevice(_) | Row::StopsWithAFullRing => (128, 96),
         _ => (48, 16),
     };
     let geometry = Geometry::new(16, frames, limit, 64)?;
@@ -419,9 +424,11 @@ fn a_read_stands_after_the_write_that_its_seat_saw(rt: HostRuntime) -> Result<()
     Ok(())
 }
 
+/// A cached page is read while a worker's write of it is held, and then while another caller's fill of another page is.
 #[test]
-fn a_cached_page_is_read_while_its_write_is_held(rt: HostRuntime) -> Result<(), Fail> {
+fn gate_overlap(rt: HostRuntime) -> Result<(), Fail> {
     assert!(&rt; over_a_cache(&rt, rt.alloc(), Row::ReadsBesideAWrite)?);
+    assert!(&rt; over_a_cache(&rt, rt.alloc(), Row::ReadsBesideAFill)?);
     Ok(())
 }
 
@@ -440,7 +447,7 @@ fn a_file_longer_than_the_cache_is_kept_by_a_device_that_fails(
 }
 
 #[test]
-fn what_was_written_is_read_back(rt: HostRuntime) -> Result<(), Fail> {
+fn shared_read_back(rt: HostRuntime) -> Result<(), Fail> {
     assert!(&rt; over_a_cache(&rt, rt.alloc(), Row::ReadsBack)?);
     Ok(())
 }
@@ -466,12 +473,6 @@ fn a_failed_write_is_told_once(rt: HostRuntime) -> Result<(), Fail> {
 #[test]
 fn a_failed_flush_of_the_device_is_told_without_a_slip(rt: HostRuntime) -> Result<(), Fail> {
     assert!(&rt; over_a_cache(&rt, rt.alloc(), Row::TellsOfALostFlush)?);
-    Ok(())
-}
-
-#[test]
-fn a_cached_page_is_read_while_a_fill_is_held(rt: HostRuntime) -> Result<(), Fail> {
-    assert!(&rt; over_a_cache(&rt, rt.alloc(), Row::ReadsBesideAFill)?);
     Ok(())
 }
 
@@ -508,5 +509,17 @@ fn a_worker_that_is_told_to_stop_ends_what_the_ring_has(rt: HostRuntime) -> Resu
 #[test]
 fn a_cache_ends_what_the_ring_has_as_it_closes(rt: HostRuntime) -> Result<(), Fail> {
     assert!(&rt; over_a_cache(&rt, rt.alloc(), Row::ClosesWithAFullRing)?);
+    Ok(())
+}
+
+#[test]
+fn a_write_waits_for_the_block_of_a_write_that_was_cut_off(rt: HostRuntime) -> Result<(), Fail> {
+    assert!(&rt; over_a_cache(&rt, rt.alloc(), Row::FillsTheDevice(Meanwhile::CutsTheFile))?);
+    Ok(())
+}
+
+#[test]
+fn a_write_past_the_last_block_is_refused_at_once(rt: HostRuntime) -> Result<(), Fail> {
+    assert!(&rt; over_a_cache(&rt, rt.alloc(), Row::FillsTheDevice(Meanwhile::WritesMore))?);
     Ok(())
 }

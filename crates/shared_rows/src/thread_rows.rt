@@ -77,19 +77,19 @@ impl Turnstile {
     }
 
     /// Waits for a call that stands before it. Answers whether one came.
-    fn wait_for_a_call(&self) -> bool {
+    pub(crate) fn wait_for_a_call(&self) -> bool {
         self.wait_till(HOLDS)
     }
 
     /// Lets the call that stands before it go on. Answers whether it still stood there.
-    fn open(&self) -> bool {
+    pub(crate) fn open(&self) -> bool {
         self.stage
             .compare_exchange(HOLDS, OPEN, Ordering::SeqCst, Ordering::SeqCst)
             .is_ok()
     }
 
     /// Opens once the other threads had the time to come to where they wait.
-    fn open_late(&self) -> bool {
+    pub(crate) fn open_late(&self) -> bool {
         for _ in 0..YIELDS {
             thread::yield_now();
         }
@@ -97,7 +97,7 @@ impl Turnstile {
     }
 
     /// A call comes: if it is to be held it waits till it may go on, or gives up.
-    fn pass(&self) {
+    pub(crate) fn pass(&self) {
         self.calls.fetch_add(1, Ordering::SeqCst);
         if self.stage.load(Ordering::SeqCst) == SHUT {
             self.stage.store(HOLDS, Ordering::SeqCst);

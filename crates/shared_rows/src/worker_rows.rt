@@ -28,7 +28,7 @@ const PAUSES: u32 = 2_000;
 
 /// Lets a worker go on.
 #[derive(Drop)]
-struct Open;
+pub(crate) struct Open;
 
 impl Gate for Open {
     ghost use Rattle.std.specs.Prelude.{⊤};
@@ -80,7 +80,7 @@ pub(crate) fn reads_beside_a_write<
 }
 
 /// Whether a turn of the worker, which is given up, ended a write well.
-fn ends_a_write<B: Naming, D: BlockDevice, R: Wait>(
+pub(crate) fn ends_a_write<B: Naming, D: BlockDevice, R: Wait>(
     rt: &R,
     cache: &Tested<B, D>,
     mut worker: Worker,
@@ -295,7 +295,7 @@ fn fills_the_ring<B: Naming, D: BlockDevice, R: Wait>(
 }
 
 /// Whether a turn of the flusher put a job into the ring.
-fn begins_a_write<B: Naming, D: BlockDevice, R: Wait>(
+pub(crate) fn begins_a_write<B: Naming, D: BlockDevice, R: Wait>(
     rt: &R,
     cache: &Tested<B, D>,
     worker: &mut Worker,

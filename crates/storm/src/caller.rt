@@ -5,8 +5,10 @@ ghost use Rattle.std.specs.Prelude.{◌≡◌};
 use crate::member::Member;
 use crate::steps::{FILES, Kind, MAX_COUNT, Step, Steps};
 use blockdev::BlockDevice;
+use held::log::Slip;
+use locked::denied::Denied;
 use locked::naming::Naming;
-use pc_types::FileId;
+use pc_types::{FileId, Refusal};
 use shared::cache::SharedCache;
 use shared::handle::Handle;
 use std::alloc::{AllocError, Global};
@@ -22,40 +24,62 @@ struct Opened<B: Naming> {
     ghost came: { handle.pass.board ≡ B.board },
 }
 
-/// A thread's seat, its open files, and which calls it makes.
+/// A thread's seat, its open files, which calls it makes and how many.
 #[derive(Drop)]
 pub struct Caller<B: Naming> {
     member: Member<B>,
     files: Vec<Opened<B>>,
     steps: Steps,
+    count: u64,
+    // room for an entry of each call
+    crowded: Vec<Slip>,
+}
+
+/// The seat of a caller that is done, and the entries at which its calls were refused for want of a block.
+#[derive(Drop)]
+pub struct Done<B: Naming> {
+    pub member: Member<B>,
+    pub crowded: Vec<Slip>,
 }
 
 impl<B: Naming> Caller<B> {
-    /// A caller with no open file.
-    pub fn new(alloc: Global, member: Member<B>, steps: Steps) -> Result<Caller<B>, AllocError> {
+    /// A caller with no open file, who is to make so many calls.
+    pub fn new(
+        alloc: Global,
+        member: Member<B>,
+        steps: Steps,
+        count: u64,
+    ) -> Result<Caller<B>, AllocError> {
         Ok(Caller {
             files: Vec::with_capacity(alloc, FILES as usize)?,
+            crowded: Vec::with_capacity(alloc, count as usize)?,
             member,
             steps,
+            count,
         })
     }
 
-    /// Opens the files, makes so many calls, closes the files, and gives the seat back. A refused call counts as one that was made.
+    /// Opens the files, makes the calls, closes the files, and gives the seat back. A refused call counts as one that was made.
     pub fn run<R: Wait, D: BlockDevice>(
         self,
         rt: &R,
         cache: &SharedCache<B, D, FullTrail>,
-        count: u64,
-    ) -> Member<B> {
+    ) -> Done<B> {
         let Caller {
             mut member,
             mut files,
             mut steps,
+            count,
+            mut crowded,
         } = self;
         open_files(rt, cache, &mut member, &mut files);
-        make_calls(rt, cache, &mut member, &mut files, &mut steps, count);
+        for number in 0..count {
+            if let Some(slip) = make_call(rt, cache, &mut member, &mut files, &mut steps, number) {
+                let _ = crowded.push(slip);
+            }
+        }
         close_files(rt, cache, &mut member, files);
-        member
+        Done { member, crowded }
     }
 }
 
@@ -76,28 +100,35 @@ fn open_files<R: Wait, B: Naming, D: BlockDevice>(
     }
 }
 
-fn make_calls<R: Wait, B: Naming, D: BlockDevice>(
+/// Makes the call of this number. Answers the entry that refused it for want of a block, if one did.
+fn make_call<R: Wait, B: Naming, D: BlockDevice>(
     rt: &R,
     cache: &SharedCache<B, D, FullTrail>,
     member: &mut Member<B>,
     files: &mut Vec<Opened<B>>,
     steps: &mut Steps,
-    count: u64,
-) {
-    for number in 0..count {
-        let step = steps.step(number);
-        let mut buffer = [0; MAX_COUNT];
-        let bytes = &mut buffer[..step.count];
-        steps.fill(bytes);
-        if let Some(file) = files.get_mut(step.file) {
-            file.make_call(rt, cache, member, &step, bytes);
-        }
+    number: u64,
+) -> Option<Slip> {
+    let step = steps.step(number);
+    let mut buffer = [0; MAX_COUNT];
+    let bytes = &mut buffer[..step.count];
+    steps.fill(bytes);
+    let file = files.get_mut(step.file)?;
+    match file.make_call(rt, cache, member, &step, bytes) {
+        Some(
+            Denied {
+                refusal: Refusal::NoSpace,
+                slip,
+            },
+        ) => slip,
+        _ => None,
     }
 }
 
-// What a call answers is told by the trail. Each kind has a function of its own: the check of one that makes them all takes minutes.
+// What a call answers is told by the trail, but which of its refusals is the last. Each kind has a function of its own: the check of
+// one that makes them all takes minutes.
 impl<B: Naming> Opened<B> {
-    /// Makes a call, with the bytes that are to be written or read over.
+    /// Makes a call, with the bytes that are to be written or read over. Answers by what it was refused.
     fn make_call<R: Wait, D: BlockDevice>(
         &mut self,
         rt: &R,
@@ -105,7 +136,7 @@ impl<B: Naming> Opened<B> {
         member: &mut Member<B>,
         step: &Step,
         bytes: &mut [u8],
-    ) {
+    ) -> Option<Denied> {
         match step.kind {
             Kind::Read => self.read(rt, cache, member, step.offset, bytes),
             Kind::Write => self.write(rt, cache, member, step.offset, bytes),
@@ -122,8 +153,10 @@ impl<B: Naming> Opened<B> {
         member: &mut Member<B>,
         offset: u64,
         bytes: &mut [u8],
-    ) {
-        drop(cache.pread(rt, &mut member.seat, &self.handle, offset, bytes));
+    ) -> Option<Denied> {
+        cache
+            .pread(rt, &mut member.seat, &self.handle, offset, bytes)
+            .err()
     }
 
     fn write<R: Wait, D: BlockDevice>(
@@ -133,8 +166,10 @@ impl<B: Naming> Opened<B> {
         member: &mut Member<B>,
         offset: u64,
         bytes: &[u8],
-    ) {
-        drop(cache.pwrite(rt, &mut member.seat, &self.handle, offset, bytes));
+    ) -> Option<Denied> {
+        cache
+            .pwrite(rt, &mut member.seat, &self.handle, offset, bytes)
+            .err()
     }
 
     fn append<R: Wait, D: BlockDevice>(
@@ -143,8 +178,10 @@ impl<B: Naming> Opened<B> {
         cache: &SharedCache<B, D, FullTrail>,
         member: &mut Member<B>,
         bytes: &[u8],
-    ) {
-        drop(cache.write(rt, &mut member.seat, &mut self.handle, bytes));
+    ) -> Option<Denied> {
+        cache
+            .write(rt, &mut member.seat, &mut self.handle, bytes)
+            .err()
     }
 
     fn truncate<R: Wait, D: BlockDevice>(
@@ -153,8 +190,10 @@ impl<B: Naming> Opened<B> {
         cache: &SharedCache<B, D, FullTrail>,
         member: &mut Member<B>,
         size: u64,
-    ) {
-        drop(cache.truncate(rt, &mut member.seat, &self.handle, size));
+    ) -> Option<Denied> {
+        cache
+            .truncate(rt, &mut member.seat, &self.handle, size)
+            .err()
     }
 
     fn fsync<R: Wait, D: BlockDevice>(
@@ -162,8 +201,8 @@ impl<B: Naming> Opened<B> {
         rt: &R,
         cache: &SharedCache<B, D, FullTrail>,
         member: &mut Member<B>,
-    ) {
-        drop(cache.fsync(rt, &mut member.seat, &mut self.handle));
+    ) -> Option<Denied> {
+        cache.fsync(rt, &mut member.seat, &mut self.handle).err()
     }
 }
 

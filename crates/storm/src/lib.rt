@@ -14,4 +14,4 @@ mod run;
 mod steps;
 
 pub use odd::Odd;
-pub use run::{Weather, run_storm};
+pub use run::{Aftermath, BLOCKS, Weather, run_storm, storm};

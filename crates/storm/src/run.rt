@@ -9,14 +9,14 @@ ghost use Rattle.shared.specs.Workers.{IsWorkerOf};
 ghost use Rattle.storm.specs.Crews.{IsCrewOf};
 ghost use Rattle.storm_text.specs.Told.{StormTells};
 
-use crate::caller::Caller;
+use crate::caller::{Caller, Done};
 use crate::crew::{Crew, Pair, WORKERS, hand_back};
 use crate::member::{Member, members_of, seats_of};
 use crate::odd::Odd;
 use crate::steps::{FILES, Steps};
 use blockdev::{BlockDevice, FileDevice, MemDevice};
 use faulty::FaultyDevice;
-use held::log::Seat;
+use held::log::{Seat, Slip};
 use locked::naming::Naming;
 use pc_types::{Geometry, Refusal};
 use shared::cache::{Parts, SharedCache};
@@ -31,10 +31,11 @@ use storm_text::{Fault, Options, say_usage, tell};
 use textline::Printer;
 use trail::{FullTrail, first_odd};
 
-/// Bytes of a page, and how many blocks the device has.
+/// Bytes of a page.
 const PAGE: u64 = 64;
 
-const BLOCKS: u64 = 256;
+/// How many blocks the device of the program's storms has.
+pub const BLOCKS: u64 = 256;
 
 /// Fewer frames than the files have pages, and a limit that the writes come to.
 const FRAMES: u64 = 64;
@@ -56,6 +57,18 @@ pub struct Weather {
     pub seed: u64,
     /// Each read, write or flush of the device whose number is a multiple of this one fails; none where it is 0.
     pub faults: u64,
+    /// How many blocks of 64 bytes the device has.
+    pub blocks: u64,
+}
+
+/// What a storm leaves.
+#[derive(Drop)]
+pub struct Aftermath {
+    /// What the cache was made with.
+    pub geometry: Geometry,
+    pub trail: FullTrail,
+    /// The entries at which a call was refused for want of a block.
+    pub crowded: Vec<Slip>,
 }
 
 /// Runs a storm, prints how many calls were made and whether the history replays, and gives the status that the program ends with.
@@ -74,11 +87,10 @@ pub fn run_storm<R: Threads + Wait + Files<File = File> + Sync, W: Write, E: Wri
         let _ = say_usage(err);
         return 2;
     };
-    let storm = match options.path {
-        None => in_memory(rt, alloc, options, weather),
-        Some(path) => in_file(rt, alloc, path, options, weather),
+    let replays = match storm(rt, alloc, options, weather) {
+        Ok(after) => odd_in(alloc, after).map(|odd| say_odd(alloc, odd, err)),
+        Err(fault) => Err(fault),
     };
-    let replays = storm.map(|odd| say_odd(alloc, odd, err));
     let calls = options.threads * options.steps;
     tell(out, err, calls, weather.seed, replays)
 }
@@ -94,35 +106,29 @@ fn say_odd<E: Write>(alloc: Global, odd: Option<Odd>, err: &mut E) -> bool {
     false
 }
 
-/// A storm over memory. Answers the entry of its history that is not plain files', if there is one.
-fn in_memory<R: Threads + Wait + Sync>(
+/// Runs a storm over memory, or over the file of the options.
+pub fn storm<R: Threads + Wait + Files<File = File> + Sync>(
     rt: &R,
     alloc: Global,
     options: Options<'_>,
     weather: Weather,
-) -> Result<Option<Odd>, Fault>
+) -> Result<Aftermath, Fault>
     requires { options.threads ≤ 16 }
 {
-    match MemDevice::new(alloc, PAGE, BLOCKS) {
-        Ok(device) => over(rt, alloc, device, options, weather),
-        Err(_) => Err(Fault::Memory),
-    }
+    let blocks = weather.blocks;
+    let Some(path) = options.path else {
+        let device = MemDevice::new(alloc, PAGE, blocks).map_err(fault_of)?;
+        return over(rt, alloc, device, options, weather);
+    };
+    let device = FileDevice::open(rt, alloc, path, PAGE, blocks).map_err(fault_of)?;
+    over(rt, alloc, device, options, weather)
 }
 
-/// A storm over the file at the path.
-fn in_file<R: Threads + Wait + Files<File = File> + Sync>(
-    rt: &R,
-    alloc: Global,
-    path: &str,
-    options: Options<'_>,
-    weather: Weather,
-) -> Result<Option<Odd>, Fault>
-    requires { options.threads ≤ 16 }
-{
-    match FileDevice::open(rt, alloc, path, PAGE, BLOCKS) {
-        Ok(device) => over(rt, alloc, device, options, weather),
-        Err(Refusal::Memory) => Err(Fault::Memory),
-        Err(_) => Err(Fault::Device),
+/// Why there is no storm where a device or a cache was refused so.
+fn fault_of(refusal: Refusal) -> Fault {
+    match refusal {
+        Refusal::Memory => Fault::Memory,
+        _ => Fault::Device,
     }
 }
 
@@ -133,14 +139,11 @@ fn over<R: Threads + Wait + Sync, D: BlockDevice + Send>(
     device: D,
     options: Options<'_>,
     weather: Weather,
-) -> Result<Option<Odd>, Fault>
+) -> Result<Aftermath, Fault>
     requires few { options.threads ≤ 16 }
-    requires device { ((D.told device).size ≡ 64) × ((D.told device).count ≡ 256) }
+    requires device { ((D.told device).size ≡ 64) × ((D.told device).count ≡ weather.blocks) }
 {
-    // These sizes are within the limits.
-    let Ok(geometry) = Geometry::new(PAGE, FRAMES, DIRTY_LIMIT, BLOCKS) else {
-        return Err(Fault::Memory);
-    };
+    let geometry = Geometry::new(PAGE, FRAMES, DIRTY_LIMIT, weather.blocks).map_err(fault_of)?;
     let Ok(trail) = FullTrail::new(alloc, EVENTS, BYTES) else {
         return Err(Fault::Memory);
     };
@@ -152,21 +155,26 @@ fn over<R: Threads + Wait + Sync, D: BlockDevice + Send>(
     let steps = options.steps;
     let seed = weather.seed;
     match history::<Brand, FaultyDevice<D>, R>(rt, alloc, parts, seats, steps, seed) {
-        Some(trail) => odd_in(alloc, trail),
+        Some((trail, crowded)) => Ok(Aftermath {
+            geometry,
+            trail,
+            crowded,
+        }),
         None => Err(Fault::Memory),
     }
 }
 
 /// The first entry of the history that is not plain files', if there is one.
-fn odd_in(alloc: Global, trail: FullTrail) -> Result<Option<Odd>, Fault> {
+fn odd_in(alloc: Global, after: Aftermath) -> Result<Option<Odd>, Fault> {
+    let Aftermath { trail, .. } = after;
     match first_odd(alloc, &trail) {
         Ok(odd) => Ok(odd.map(|place| Odd { trail, place })),
         Err(_) => Err(Fault::Memory),
     }
 }
 
-/// Makes a cache of the parts, has a caller at each seat but the workers' make so many calls, and closes it. Gives its history, or
-/// nothing where memory is wanted.
+/// Makes a cache of the parts, has a caller at each seat but the workers' make so many calls, and closes it. Gives its history and
+/// the entries at which they were refused for want of a block, or nothing where memory is wanted.
 #[tactic(auto, using(crate::proofs::Seating::all_seated))]
 fn history<B: Naming + Send + Sync, D: BlockDevice + Send, R: Threads + Wait + Sync>(
     rt: &R,
@@ -175,7 +183,7 @@ fn history<B: Naming + Send + Sync, D: BlockDevice + Send, R: Threads + Wait + S
     seats: Vec<Seat>,
     steps: u64,
     seed: u64,
-) -> Option<FullTrail>
+) -> Option<(FullTrail, Vec<Slip>)>
     requires named { parts.name ≡ B.name }
     requires sized { parts.geometry ≡ B.sizes }
     requires board { parts.board ≡ B.board }
@@ -187,7 +195,7 @@ fn history<B: Naming + Send + Sync, D: BlockDevice + Send, R: Threads + Wait + S
 {
     let (cache, mut own) = SharedCache::<B, D, FullTrail>::of(alloc, parts);
     let members = members_of(alloc, seats);
-    let Some(seats) = take_part(rt, alloc, &cache, &mut own, members, steps, seed) else {
+    let Some((seats, crowded)) = take_part(rt, alloc, &cache, &mut own, members, steps, seed) else {
         // each by a call, since the check is slow where a cache goes out of scope
         drop(cache);
         drop(own);
@@ -197,7 +205,7 @@ fn history<B: Naming + Send + Sync, D: BlockDevice + Send, R: Threads + Wait + S
         Ok((trail, core, device)) => {
             drop(core);
             drop(device);
-            Some(trail)
+            Some((trail, crowded))
         }
         Err(open) => {
             drop(open);
@@ -206,7 +214,8 @@ fn history<B: Naming + Send + Sync, D: BlockDevice + Send, R: Threads + Wait + S
     }
 }
 
-/// Has a caller at each seat but the workers' make so many calls, and gives the seats back, or nothing where memory is wanted.
+/// Has a caller at each seat but the workers' make so many calls, and gives the seats back with the entries at which these were
+/// refused for want of a block, or nothing where memory is wanted.
 fn take_part<B: Naming + Send + Sync, D: BlockDevice + Send, R: Threads + Wait + Sync>(
     rt: &R,
     alloc: Global,
@@ -215,10 +224,10 @@ fn take_part<B: Naming + Send + Sync, D: BlockDevice + Send, R: Threads + Wait +
     members: Option<Vec<Member<B>>>,
     steps: u64,
     seed: u64,
-) -> Option<Vec<Seat>>
+) -> Option<(Vec<Seat>, Vec<Slip>)>
     requires { IsWorkerOf cache.now.ring B.name B.table B.sizes own.old }
     ensures own { IsWorkerOf cache.now.ring B.name B.table B.sizes own.new }
-    ensures seats { IfSome result (λ seats. All (λ s. s.table ≡ B.table) seats.items) }
+    ensures seats { IfSome result (λ r. All (λ s. s.table ≡ B.table) r.0.items) }
 {
     let mut members = members?;
     let Some(crew) = Crew::of(cache, own, &mut members) else {
@@ -226,8 +235,8 @@ fn take_part<B: Naming + Send + Sync, D: BlockDevice + Send, R: Threads + Wait +
         return None;
     };
     create_files(rt, cache, &mut members);
-    match callers_of(alloc, members, seed) {
-        Some(callers) => all_seats(alloc, rage(rt, cache, crew, callers, steps)),
+    match callers_of(alloc, members, steps, seed) {
+        Some(callers) => all_seats(alloc, rage(rt, cache, crew, callers)),
         None => {
             drop(crew);
             None
@@ -235,25 +244,39 @@ fn take_part<B: Naming + Send + Sync, D: BlockDevice + Send, R: Threads + Wait +
     }
 }
 
-/// The seats of the workers and of the callers.
+/// The seats of the workers and of the callers, and the entries at which calls were refused for want of a block.
 fn all_seats<B: Naming>(
     alloc: Global,
-    back: ((Pair<B>, Pair<B>), Option<Vec<Member<B>>>),
-) -> Option<Vec<Seat>>
-    ensures { IfSome result (λ seats. All (λ s. s.table ≡ B.table) seats.items) }
+    back: ((Pair<B>, Pair<B>), Option<Vec<Done<B>>>),
+) -> Option<(Vec<Seat>, Vec<Slip>)>
+    ensures { IfSome result (λ r. All (λ s. s.table ≡ B.table) r.0.items) }
 {
-    let (workers, members) = back;
-    let Some(mut members) = members else {
+    let (workers, done) = back;
+    let Some((mut members, crowded)) = parted(alloc, done) else {
         drop(workers);
         return None;
     };
     match hand_back(workers, &mut members) {
-        Some(()) => seats_of(alloc, members),
+        Some(()) => Some((seats_of(alloc, members)?, crowded)),
         None => {
             drop(members);
             None
         }
     }
+}
+
+/// The members among callers that are done, and the entries of all.
+fn parted<B: Naming>(
+    alloc: Global,
+    done: Option<Vec<Done<B>>>,
+) -> Option<(Vec<Member<B>>, Vec<Slip>)> {
+    let mut members = Vec::new(alloc);
+    let mut all = Vec::new(alloc);
+    for Done { member, crowded } in done? {
+        members.push(member).ok()?;
+        all.extend_from_slice(&crowded).ok()?;
+    }
+    Some((members, all))
 }
 
 /// Makes the files, by the seat of the first of these members.
@@ -276,8 +299,7 @@ fn rage<R: Threads + Wait + Sync, B: Naming + Send + Sync, D: BlockDevice + Send
     cache: &SharedCache<B, D, FullTrail>,
     crew: Crew,
     callers: Vec<Caller<B>>,
-    steps: u64,
-) -> ((Pair<B>, Pair<B>), Option<Vec<Member<B>>>)
+) -> ((Pair<B>, Pair<B>), Option<Vec<Done<B>>>)
     requires { IsCrewOf cache.now.ring B.name B.table B.sizes crew }
 {
     join(
@@ -285,7 +307,7 @@ fn rage<R: Threads + Wait + Sync, B: Naming + Send + Sync, D: BlockDevice + Send
         move ||
             requires { IsCrewOf cache.now.ring B.name B.table B.sizes crew }
         { crew.run(rt, cache) },
-        move || call_all(rt, cache, callers, steps),
+        move || call_all(rt, cache, callers),
     )
 }
 
@@ -294,27 +316,25 @@ fn call_all<R: Threads + Wait + Sync, B: Naming + Send + Sync, D: BlockDevice + 
     rt: &R,
     cache: &SharedCache<B, D, FullTrail>,
     callers: Vec<Caller<B>>,
-    steps: u64,
-) -> Option<Vec<Member<B>>> {
-    let members = map_vec(
-        rt,
-        callers,
-        &|caller: Caller<B>| caller.run(rt, cache, steps),
-    );
+) -> Option<Vec<Done<B>>> {
+    let done = map_vec(rt, callers, &|caller: Caller<B>| caller.run(rt, cache));
     cache.stop(rt);
-    members.ok()
+    done.ok()
 }
 
-/// A caller of each of these members.
+/// A caller of each of these members, who makes so many calls.
 fn callers_of<B: Naming>(
     alloc: Global,
     members: Vec<Member<B>>,
+    count: u64,
     seed: u64,
 ) -> Option<Vec<Caller<B>>> {
     let mut callers = Vec::new(alloc);
     for (number, member) in members.into_iter().enumerate() {
         let steps = Steps::new(seed, number as u64);
-        callers.push(Caller::new(alloc, member, steps).ok()?).ok()?;
+        callers
+            .push(Caller::new(alloc, member, steps, count).ok()?)
+            .ok()?;
     }
     Some(callers)
 }

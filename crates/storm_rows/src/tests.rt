@@ -9,7 +9,7 @@ use std::process::Abort;
 use std::sync::Wait;
 use std::test::Fail;
 use std::thread::Threads;
-use storm::{Odd, Weather, run_storm};
+use storm::{BLOCKS, Odd, Weather, run_storm};
 use textline::Printer;
 use trail::{Entry, FullTrail, Reserve, Trail, first_odd};
 
@@ -41,6 +41,7 @@ fn check<R: Abort + Threads + Wait + Files<File = File> + Sync>(
     let weather = Weather {
         seed: 1,
         faults: row.faults,
+        blocks: BLOCKS,
     };
     let status = run_storm(rt, alloc, row.words, weather, &mut out, &mut message);
     let output = std::str::from_utf8(out.writer.as_slice())?;

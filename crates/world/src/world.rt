@@ -8,7 +8,7 @@ ghost use Rattle.std.specs.Prelude.{◌≡◌, ◌<◌, IfErr, IfOk, IfSome, IsO
 ghost use Rattle.pc_types.specs.declared.refusal.Refusal.TheVariants.{BadConfig, Memory};
 ghost use Rattle.cachecore.specs.Flushing.{flush_of};
 ghost use Rattle.cachecore.specs.Replies.{TagsAre, answered};
-ghost use Rattle.cachecore.specs.Wants.{frames_short, lacks_frames, passes_limit};
+ghost use Rattle.cachecore.specs.Wants.{frames_short, holds_cut, lacks_frames, passes_limit};
 ghost use Rattle.world.specs.Answers.{fill_says, flush_says, sync_says};
 ghost use Rattle.world.specs.Flights.{IsSpare};
 ghost use Rattle.runs.specs.Runs.{IsFirst};
@@ -168,6 +168,13 @@ impl<D: BlockDevice> World<D> {
         ensures { result ≡ passes_limit self.now.core handle.0 offset count }
     {
         self.core.passes_limit(handle, offset, count)
+    }
+
+    /// Whether a request in flight is dropped, which is no event either.
+    pub fn holds_cut(&self) -> bool
+        ensures { result ≡ holds_cut self.now.core }
+    {
+        self.core.holds_cut()
     }
 
     /// The file of the flush in flight with this serial, which is no event either.

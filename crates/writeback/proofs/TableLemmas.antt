@@ -209,16 +209,15 @@ pub none_above : (next : ℕ) (items : List Entry) (t : ℕ) → next ≤ t → 
     → finmap.get (table next items).requests t ≡ None
 none_above next items t h r = get-lookup (map entry_of items) t ∙ lookup_high t 0 next (map entry_of items) h r
 
--- ---- whether a page is filling
+-- ---- whether a request is so
 
-pub fills_table : (next f p : ℕ) (items : List Entry) → IsTable next items
-    → list_any (λ (e : Entry). fills f p (request_of e.request)) items
-    ≡ list_any (fills f p) (finmap.values (table next items).requests)
-fills_table next f p items r = in_list items
-    ∙ ap (λ (es : List (ℕ × Request)). list_any (fills f p) (map (λ (e : ℕ × Request). e.1) es))
+pub any_table : (passes : Request → Bool) (next : ℕ) (items : List Entry) → IsTable next items
+    → list_any (λ (e : Entry). passes (request_of e.request)) items ≡ list_any passes (finmap.values (table next items).requests)
+any_table passes next items r = in_list items
+    ∙ ap (λ (es : List (ℕ × Request)). list_any passes (map (λ (e : ℕ × Request). e.1) es))
     (sym (entries-rising 0 next (map entry_of items) r))
   where
-    in_list : (es : List Entry) → list_any (λ (e : Entry). fills f p (request_of e.request)) es
-        ≡ list_any (fills f p) (map (λ (e : ℕ × Request). e.1) (map entry_of es))
+    in_list : (es : List Entry) → list_any (λ (e : Entry). passes (request_of e.request)) es
+        ≡ list_any passes (map (λ (e : ℕ × Request). e.1) (map entry_of es))
     in_list [] = refl
-    in_list (e ∷ es) = ap (λ b. fills f p (request_of e.request) || b) (in_list es)
+    in_list (e ∷ es) = ap (λ b. passes (request_of e.request) || b) (in_list es)

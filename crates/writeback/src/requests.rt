@@ -173,6 +173,13 @@ impl Requests {
         fills_in(&self.in_flight, file, page)
     }
 
+    /// Whether one in flight is dropped. It holds its block until it ends.
+    pub fn has_dropped(&self) -> bool
+        ensures { result ≡ list_any (λ x. x.dropped) (map.values self.now.requests) }
+    {
+        dropped_in(&self.in_flight)
+    }
+
     /// Begins a request, which takes the next serial.
     pub fn begin(&mut self, kind: Kind, file: FileId, page: PageIndex, block: BlockNo) -> Serial
         requires { is_full self.old ≡ false }
@@ -250,6 +257,12 @@ fn fills_in(in_flight: &[Entry], file: FileId, page: PageIndex) -> bool
     in_flight
         .iter()
         .any(|entry| entry.request.fills(file, page))
+}
+
+fn dropped_in(in_flight: &[Entry]) -> bool
+    ensures { result ≡ list_any (λ (e : Entry). (request_of e.request).dropped) in_flight.now }
+{
+    in_flight.iter().any(|entry| entry.request.dropped)
 }
 
 fn awaited_in(

@@ -23,3 +23,7 @@ wakes_each_time-requires-clause-seats g c κs within =
 
 pub two_of-requires : goal.two_of-requires
 two_of-requires g c = fresh_seated g.B.Naming.table g.B.Naming.name c.args.seats.items c.requires.seats
+
+pub fills_the_device-requires-clause-seats : goal.fills_the_device-requires-clause-seats
+fills_the_device-requires-clause-seats g c κs within =
+    fresh_seated g.B.Naming.table g.B.Naming.name c.args.seats.items c.requires.seats

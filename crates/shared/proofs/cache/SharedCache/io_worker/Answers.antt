@@ -4,8 +4,8 @@ use Rattle.shared.proofs.Ending.{turn_ended}
 use Rattle.shared.proofs.Owning.{only_ends_on}
 use Rattle.shared.proofs.cache.SharedCache.io_worker.Goals as goal
 
-pub returns-then-is_stopped-clause-ended : goal.returns-then-is_stopped-clause-ended
-returns-then-is_stopped-clause-ended g c =
+pub returns-then-is_over-clause-ended : goal.returns-then-is_over-clause-ended
+returns-then-is_over-clause-ended g c =
     turn_ended c.args.worker.now c.turns.worker c.io_turn.new.worker c.in_ok-io_turn.field-0 c.args.self.now.name
     g.B.Naming.board c.turns.invariant.ended c.turns.invariant.goes c.io_turn.ensures.goes
     c.in_ok-io_turn.ensures.idle c.in_ok-io_turn.ensures.ended

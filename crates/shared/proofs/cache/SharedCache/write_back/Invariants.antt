@@ -2,7 +2,7 @@ use Rattle.std.proofs.Common.{◌≡◌}
 use Rattle.locked.specs.Called.{Goes, Only}
 use Rattle.shared.specs.Workers.{AllCarried, IsWorkerOf, IsWriteBack, popped_by}
 use Rattle.shared.proofs.Carrying.{Puts}
-use Rattle.shared.proofs.cache.SharedCache.flusher.Given as goal
+use Rattle.shared.proofs.cache.SharedCache.write_back.Given as goal
 
 abbrev pub invariant-turns : goal.invariant-turns
 invariant-turns g l = record {

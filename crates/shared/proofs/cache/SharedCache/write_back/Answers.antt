@@ -3,7 +3,7 @@ use Rattle.locked.proofs.Seats.{goes_on, goes_same, only_same}
 use Rattle.shared.specs.Workers.{IsWriteBack}
 use Rattle.shared.proofs.Carrying.{carried_on, carries_last, none_carried, puts_none, puts_on, turn_puts}
 use Rattle.shared.proofs.Owning.{only_write_back_on}
-use Rattle.shared.proofs.cache.SharedCache.flusher.Goals as goal
+use Rattle.shared.proofs.cache.SharedCache.write_back.Goals as goal
 
 pub turns-init : goal.turns-init
 turns-init g c = record {

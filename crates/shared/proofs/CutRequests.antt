@@ -1,0 +1,28 @@
+-- A dropped request is in flight.
+use Rattle.std.proofs.Common.{◌≡◌, ◌∙◌, Bool, [], ℕ, true, false, map, ap, sym, arith}
+use Rattle.std.specs.Prelude.{nat_lt}
+use Rattle.std.specs.FinMap as finmap
+use Rattle.std.specs.List.{list_any}
+use Rattle.std.specs.Ordering.{nat_cmp}
+use Rattle.std.proofs.lemmas.Bool.{false≢true, true_from_ne_false}
+use Rattle.std.proofs.lemmas.Bool.Decides.{nat_tests}
+use Rattle.maps.proofs.MapLaws.{no_entries}
+use Rattle.machine.specs.State.{Request, State}
+use Rattle.cachecore.specs.Wants.{holds_cut}
+use Rattle.locked.specs.Flights.{is_busy}
+
+none_left : (n : ℕ) → nat_lt 0 n ≡ false → n ≡ 0
+none_left n e = grind (arith, nat_tests)
+
+abbrev any_dropped : finmap.FinMap nat_cmp Request → Bool
+any_dropped m = list_any (λ (x : Request). x.dropped) (finmap.values m)
+
+pub none_cut : (s : State) → is_busy s ≡ false → holds_cut s ≡ false
+none_cut s rests =
+    let none : finmap.values (finmap.empty {K = ℕ} {X = Request} {R = nat_cmp}) ≡ [] =
+    ap (map (λ (e : ℕ × Request). e.1)) (no_entries nat_cmp) in
+    ap any_dropped (finmap.empty_of_len s.requests (none_left (finmap.len s.requests) rests))
+    ∙ ap (list_any (λ (x : Request). x.dropped)) none
+
+pub cut_busy : (s : State) → holds_cut s ≡ true → is_busy s ≡ true
+cut_busy s cut = true_from_ne_false (is_busy s) (λ rests. false≢true (sym (none_cut s rests) ∙ cut))
