@@ -1,10 +1,11 @@
-//! Which room a call wants, and which file has a page to write. Asking is no event.
+//! Which room a call wants, what is in flight, and which file has a page to write. Asking is no event.
 
 ghost use Rattle.std.specs.Prelude.{◌≡◌, ◌+◌, ◌-◌, ◌/◌, ◌<◌, ◌≤◌, IfNone, IfSome, length, true, false};
-ghost use Rattle.pc_types.specs.declared.limits.TheConstants.{MAX_FILE_SIZE, MAX_TOUCHED};
+ghost use Rattle.pc_types.specs.declared.limits.TheConstants.{MAX_FILE_SIZE, MAX_IN_FLIGHT, MAX_SYNCS, MAX_TOUCHED};
 ghost use Rattle.machine.specs.State.{free_frames, handle_file};
-ghost use Rattle.cachecore.specs.Wants.{IsFirstToWrite, NothingToWrite, frames_short, holds_cut, lacks_frames, may_touch, passes_limit};
+ghost use Rattle.cachecore.specs.Wants.{IsFirstToWrite, NothingToWrite, frames_short, holds_cut, in_flight, is_busy, lacks_frames, may_touch, passes_limit};
 
+use crate::answers::InFlight;
 use crate::cache::{CacheCore, is_too_long};
 use pc_types::limits::MAX_FILE_SIZE;
 use pc_types::{FileId, HandleId};
@@ -44,6 +45,25 @@ impl CacheCore {
         ensures { result ≡ free_frames self.now.state }
     {
         self.pages.free_frames()
+    }
+
+    /// What is in flight.
+    pub fn in_flight(&self) -> InFlight
+        ensures value { result ≡ in_flight self.now.state }
+        ensures few { (result.flushes ≤ MAX_IN_FLIGHT) × (result.syncs ≤ MAX_SYNCS) }
+    {
+        InFlight {
+            fills: self.requests.fills(),
+            flushes: self.requests.flushes(),
+            syncs: self.syncs.len(),
+        }
+    }
+
+    /// Whether a request is in flight. Only then does waiting for the end of one serve.
+    pub fn is_busy(&self) -> bool
+        ensures { result ≡ is_busy self.now.state }
+    {
+        self.requests.len() > 0
     }
 
     /// Whether a request in flight is dropped. Its block is free when it ends.

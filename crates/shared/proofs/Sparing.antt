@@ -7,7 +7,7 @@ use Rattle.cachecore.specs.Wants.{NothingToWrite, dirtied, lacking, lacks_frames
 use Rattle.filesvc.specs.Rests.{IsOrderly}
 use Rattle.filesvc.proofs.Enough.{clean_enough, enough, enough_dirty, enough_frames, enough_page, some_free}
 use Rattle.filesvc.proofs.Orderly.{first_orderly, orderly_cases}
-use Rattle.locked.specs.Flights.{is_busy}
+use Rattle.cachecore.specs.Wants.{is_busy}
 use Rattle.machine.specs.Changes.{boundary, flush_pick}
 use Rattle.machine.specs.History as machine
 use Rattle.machine.specs.Sound.{Sound}

@@ -8,7 +8,7 @@ use Rattle.machine.specs.declared.event.Reply.TheVariants as reply
 use Rattle.pc_types.specs.declared.refusal.Refusal.{Refusal}
 use Rattle.held.specs.declared.log.Slip.{Slip}
 use Rattle.held.specs.Shown.{SeatSeen}
-use Rattle.locked.specs.declared.denied.Denied.{Denied}
+use Rattle.held.specs.declared.denied.Denied.{Denied}
 use Rattle.shared.specs.Called.{Makes}
 use Rattle.shared.specs.Denials.{IsDenied, IsFullIfNoSlip, MadeOne}
 use Rattle.shared.specs.Seen.{HandleSeen}

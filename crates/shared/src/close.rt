@@ -10,7 +10,7 @@ ghost use Rattle.held.specs.Views.{count_of};
 ghost use Rattle.pc_types.specs.declared.refusal.Refusal.TheVariants.{Stranger};
 ghost use Rattle.trail.specs.History.{After};
 ghost use Rattle.trail.specs.declared.entry.Entry.{Entry};
-ghost use Rattle.locked.specs.Called.{Goes, Only};
+ghost use Rattle.held.specs.Called.{Goes, Only};
 ghost use Rattle.shared.specs.Keeps.{IsDisk};
 ghost use Rattle.shared.specs.Workers.{AllOver, Drained, IsEnd, IsEndOf, IsOver, IsWorkerOf, pushed_by, seat_of};
 
@@ -22,8 +22,8 @@ use crate::worker::Worker;
 use blockdev::{BlockDevice, Job};
 use cachecore::CacheCore;
 use held::log::Seat;
-use locked::naming::Naming;
-use locked::state::Locked;
+use held::naming::Naming;
+use held::state::Held;
 use pc_types::Refusal;
 use ring::Ring;
 use std::sync::{Mutex, Wait};
@@ -89,12 +89,12 @@ impl<B: Naming, D: BlockDevice, T: Trail> SharedCache<B, D, T> {
 }
 
 /// Carries out and ends what the ring has, till it is empty. No other holds the cache, so no lock is taken.
-#[tactic(auto, using(locked::proofs::Seats::goes_same, locked::proofs::Seats::goes_on, locked::proofs::Seats::only_same, crate::proofs::Owning::only_job_on, crate::proofs::Closing::none_taken))]
+#[tactic(auto, using(held::proofs::Seats::goes_same, held::proofs::Seats::goes_on, held::proofs::Seats::only_same, crate::proofs::Owning::only_job_on, crate::proofs::Closing::none_taken))]
 fn drain<B: Naming, D: BlockDevice, T: Trail, R: Wait>(
     rt: &R,
     ring: &Ring,
     disk: &mut Disk<B, D>,
-    state: &mut Locked<B, T>,
+    state: &mut Held<B, T>,
     own: &mut Worker,
 )
     requires worker { IsWorkerOf ring.now B.name B.table B.sizes own.old }
@@ -117,7 +117,7 @@ fn drain<B: Naming, D: BlockDevice, T: Trail, R: Wait>(
 /// Makes a job's device call, and ends its request, if that is in flight.
 fn finish<B: Naming, D: BlockDevice, T: Trail>(
     disk: &mut Disk<B, D>,
-    state: &mut Locked<B, T>,
+    state: &mut Held<B, T>,
     seat: &mut Seat,
     job: Job,
 )

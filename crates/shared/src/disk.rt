@@ -7,7 +7,7 @@ ghost use Rattle.shared.specs.Keeps.{IsDisk};
 
 use blockdev::{BlockDevice, Finished, Job, Watched};
 use held::log::{Seat, Slip};
-use locked::naming::Naming;
+use held::naming::Naming;
 use pc_types::ErrCode;
 use std::marker::{Model, PhantomData};
 

@@ -6,7 +6,7 @@ ghost use Rattle.blockdev.specs.Jobs.{IsJobFor, Task};
 ghost use Rattle.cachecore.specs.Replies.{end_of};
 ghost use Rattle.machine.specs.declared.event.Event.TheVariants as event;
 ghost use Rattle.machine.specs.declared.event.Reply.{Reply};
-ghost use Rattle.locked.specs.Called.{Goes, Only};
+ghost use Rattle.held.specs.Called.{Goes, Only};
 ghost use Rattle.shared.specs.Called.{Makes};
 ghost use Rattle.shared.specs.Denials.{IsDenied, IsFullIfNoSlip, MadeOne};
 ghost use Rattle.shared.specs.Workers.{Ends, IsEndOf, IsEndReply, IsOver, IsOwnFailure, fails_write};
@@ -16,10 +16,10 @@ use crate::disk::Disk;
 use crate::handle::FailedWrite;
 use blockdev::{BlockDevice, Finished, Job};
 use errboard::Receipt;
+use held::denied::Denied;
 use held::log::{Seat, Slip};
-use locked::denied::Denied;
-use locked::naming::Naming;
-use locked::state::Locked;
+use held::naming::Naming;
+use held::state::Held;
 use pc_types::{Kind, Serial};
 use std::sync::{Mutex, Wait};
 use trail::Trail;
@@ -37,7 +37,7 @@ pub struct Done {
 pub(crate) fn carry_through<B: Naming, D: BlockDevice, T: Trail, R: Wait>(
     rt: &R,
     disk: &Mutex<Disk<B, D>>,
-    state: &BriefLock<Locked<B, T>>,
+    state: &BriefLock<Held<B, T>>,
     name: u64,
     seat: &mut Seat,
     job: Job,
@@ -80,9 +80,9 @@ fn failure(name: u64, receipt: Option<Receipt>) -> Option<FailedWrite>
 }
 
 /// Ends a request, by its kind.
-#[tactic(auto, using(locked::proofs::Seats::goes_by, crate::proofs::Making::goes_denied, crate::proofs::Making::makes_by, crate::proofs::Making::denied_event, crate::proofs::Making::full_by, crate::proofs::Making::made_one, crate::proofs::Making::denied_one, crate::proofs::Ending::fill_told, crate::proofs::Ending::flush_told, crate::proofs::Owning::only_end, crate::proofs::Owning::only_end_denied))]
+#[tactic(auto, using(held::proofs::Seats::goes_by, crate::proofs::Making::goes_denied, crate::proofs::Making::makes_by, crate::proofs::Making::denied_event, crate::proofs::Making::full_by, crate::proofs::Making::made_one, crate::proofs::Making::denied_one, crate::proofs::Ending::fill_told, crate::proofs::Ending::flush_told, crate::proofs::Owning::only_end, crate::proofs::Owning::only_end_denied))]
 pub(crate) fn end<B: Naming, T: Trail>(
-    state: &mut Locked<B, T>,
+    state: &mut Held<B, T>,
     seat: &mut Seat,
     finished: Finished,
 ) -> Result<(Slip, Option<Receipt>), Denied>

@@ -3,8 +3,8 @@
 ghost use Rattle.std.specs.Prelude.{◌≡◌, ◌&&◌, ◌⊎◌, IfErr, IfOk, IsTrue, if◌then◌else◌, false, length, true};
 ghost use Rattle.std.specs.Sync.Mutex.{mutex_guard_value};
 ghost use Rattle.blockdev.specs.Jobs.{IsJobFor};
-ghost use Rattle.locked.specs.Called.{Goes, Only};
-ghost use Rattle.locked.specs.Flights.{is_busy};
+ghost use Rattle.held.specs.Called.{Goes, Only};
+ghost use Rattle.cachecore.specs.Wants.{is_busy};
 ghost use Rattle.machine.specs.Tests.{has_idle};
 ghost use Rattle.pc_types.specs.Limits.{is_geometry};
 ghost use Rattle.pc_types.specs.declared.kind.Kind.TheVariants.{Fill, Flush};
@@ -23,10 +23,10 @@ ghost use Rattle.world.specs.Ends.{buffer_of};
 use crate::cache::SharedCache;
 use blockdev::{BlockDevice, Buffer, Job};
 use cachecore::{Ended, FillBegun};
+use held::denied::{Denied, by, without_slip};
 use held::log::Seat;
-use locked::denied::{Denied, by, without_slip};
-use locked::naming::Naming;
-use locked::state::Locked;
+use held::naming::Naming;
+use held::state::Held;
 use pc_types::{HandleId, PageIndex, Refusal};
 use std::sync::{MutexGuard, Wait};
 use trail::Trail;
@@ -44,7 +44,7 @@ pub(crate) struct Span {
 impl<B: Naming, D: BlockDevice, T: Trail> SharedCache<B, D, T> {
     /// Fills a page that a call on this span of bytes lacks. First room is made for all pages that it lacks: made for this one alone
     /// it could cost the call another of its pages.
-    #[tactic(auto, using(locked::proofs::Seats::goes_by, locked::proofs::Seats::goes_on, locked::proofs::Seats::goes_same, crate::proofs::Making::goes_denied, crate::proofs::Making::help_room, crate::proofs::Making::help_on, crate::proofs::Owning::only_room, crate::proofs::Owning::only_filled, crate::proofs::Rooming::lost_unwanted))]
+    #[tactic(auto, using(held::proofs::Seats::goes_by, held::proofs::Seats::goes_on, held::proofs::Seats::goes_same, crate::proofs::Making::goes_denied, crate::proofs::Making::help_room, crate::proofs::Making::help_on, crate::proofs::Owning::only_room, crate::proofs::Owning::only_filled, crate::proofs::Rooming::lost_unwanted))]
     pub(crate) fn fill<R: Wait>(
         &self,
         rt: &R,
@@ -68,7 +68,7 @@ impl<B: Naming, D: BlockDevice, T: Trail> SharedCache<B, D, T> {
     }
 
     /// Fills a page. Where it is refused for want of room some is made, or the end of a request waited for.
-    #[tactic(auto, using(locked::proofs::Seats::goes_by, locked::proofs::Seats::goes_on, locked::proofs::Seats::goes_same, crate::proofs::Making::goes_denied, crate::proofs::Making::denied_begin, crate::proofs::Making::help_on, locked::proofs::Seats::only_same, crate::proofs::Owning::only_fill_begin, crate::proofs::Owning::only_fill_begin_denied, crate::proofs::Owning::only_begun_on, crate::proofs::Rooming::lost_unwanted, crate::proofs::Making::help_settled, crate::proofs::Owning::only_relieved, crate::proofs::Rooming::final_lasting))]
+    #[tactic(auto, using(held::proofs::Seats::goes_by, held::proofs::Seats::goes_on, held::proofs::Seats::goes_same, crate::proofs::Making::goes_denied, crate::proofs::Making::denied_begin, crate::proofs::Making::help_on, held::proofs::Seats::only_same, crate::proofs::Owning::only_fill_begin, crate::proofs::Owning::only_fill_begin_denied, crate::proofs::Owning::only_begun_on, crate::proofs::Rooming::lost_unwanted, crate::proofs::Making::help_settled, crate::proofs::Owning::only_relieved, crate::proofs::Rooming::final_lasting))]
     fn fill_once<R: Wait>(
         &self,
         rt: &R,
@@ -102,7 +102,7 @@ impl<B: Naming, D: BlockDevice, T: Trail> SharedCache<B, D, T> {
     }
 
     /// Makes the device call of a fill, without the state's lock, and ends the fill.
-    #[tactic(auto, using(locked::proofs::Seats::goes_by, locked::proofs::Seats::goes_on, locked::proofs::Seats::goes_same, crate::proofs::Making::goes_denied, crate::proofs::Making::denied_end, crate::proofs::Making::failed_end, crate::proofs::Owning::only_fill_end, crate::proofs::Owning::only_fill_end_denied, crate::proofs::Rooming::end_unwanted, crate::proofs::Rooming::end_final))]
+    #[tactic(auto, using(held::proofs::Seats::goes_by, held::proofs::Seats::goes_on, held::proofs::Seats::goes_same, crate::proofs::Making::goes_denied, crate::proofs::Making::denied_end, crate::proofs::Making::failed_end, crate::proofs::Owning::only_fill_end, crate::proofs::Owning::only_fill_end_denied, crate::proofs::Rooming::end_unwanted, crate::proofs::Rooming::end_final))]
     fn fill_by<R: Wait>(
         &self,
         rt: &R,
@@ -134,7 +134,7 @@ impl<B: Naming, D: BlockDevice, T: Trail> SharedCache<B, D, T> {
 
     /// Makes room for a call: until as many frames are free as it lacks pages, and no more pages would be dirty than may be, or none can
     /// be made.
-    #[tactic(auto, using(locked::proofs::Seats::goes_by, locked::proofs::Seats::goes_on, locked::proofs::Seats::goes_same, crate::proofs::Making::goes_denied, crate::proofs::Making::room_on, locked::proofs::Seats::only_same, crate::proofs::Owning::only_room_on))]
+    #[tactic(auto, using(held::proofs::Seats::goes_by, held::proofs::Seats::goes_on, held::proofs::Seats::goes_same, crate::proofs::Making::goes_denied, crate::proofs::Making::room_on, held::proofs::Seats::only_same, crate::proofs::Owning::only_room_on))]
     pub(crate) fn make_way<R: Wait>(
         &self,
         rt: &R,
@@ -165,11 +165,11 @@ impl<B: Naming, D: BlockDevice, T: Trail> SharedCache<B, D, T> {
 
     /// What comes of an event that was refused, in the hold that refused it: where it wanted room, some is made, or the end of a request
     /// waited for. The refusal stands where none can be made, and where it is of another kind.
-    #[tactic(auto, using(locked::proofs::Seats::goes_same, crate::proofs::Making::goes_denied, locked::proofs::Seats::only_same, crate::proofs::Rooming::wants_pass, crate::proofs::Rooming::stands_by, crate::proofs::Rooming::stands_still, crate::proofs::Rooming::stands_other))]
+    #[tactic(auto, using(held::proofs::Seats::goes_same, crate::proofs::Making::goes_denied, held::proofs::Seats::only_same, crate::proofs::Rooming::wants_pass, crate::proofs::Rooming::stands_by, crate::proofs::Rooming::stands_still, crate::proofs::Rooming::stands_other))]
     pub(crate) fn relieve<R: Wait>(
         &self,
         rt: &R,
-        guard: MutexGuard<'_, Locked<B, T>>,
+        guard: MutexGuard<'_, Held<B, T>>,
         seat: &mut Seat,
         denied: Denied,
     ) -> Result<(), Denied>
@@ -205,7 +205,7 @@ impl<B: Naming, D: BlockDevice, T: Trail> SharedCache<B, D, T> {
     fn make_room<R: Wait>(
         &self,
         rt: &R,
-        guard: MutexGuard<'_, Locked<B, T>>,
+        guard: MutexGuard<'_, Held<B, T>>,
         seat: &mut Seat,
         want: Want,
     ) -> Result<bool, Denied>
@@ -227,11 +227,11 @@ impl<B: Naming, D: BlockDevice, T: Trail> SharedCache<B, D, T> {
     }
 
     /// Lets an idle page go. Where none is idle a page is written back, or the end of a request waited for.
-    #[tactic(auto, using(locked::proofs::Seats::goes_on, crate::proofs::Making::room_on, crate::proofs::Owning::only_evicted, crate::proofs::Owning::only_evicted_on, crate::proofs::Rooming::unwritten_on))]
+    #[tactic(auto, using(held::proofs::Seats::goes_on, crate::proofs::Making::room_on, crate::proofs::Owning::only_evicted, crate::proofs::Owning::only_evicted_on, crate::proofs::Rooming::unwritten_on))]
     fn free_frame<R: Wait>(
         &self,
         rt: &R,
-        mut guard: MutexGuard<'_, Locked<B, T>>,
+        mut guard: MutexGuard<'_, Held<B, T>>,
         seat: &mut Seat,
     ) -> Result<bool, Denied>
         requires { seat.old.table ≡ B.table }
@@ -254,11 +254,11 @@ impl<B: Naming, D: BlockDevice, T: Trail> SharedCache<B, D, T> {
 
     /// Writes a page back, of the first file that has one to write; or waits for the end of a request, where there is none to write or
     /// too many are in flight. Answers whether that was done; also where the write failed, if another request was in flight beside it.
-    #[tactic(auto, using(locked::proofs::Seats::goes_by, locked::proofs::Seats::goes_on, locked::proofs::Seats::goes_same, crate::proofs::Making::goes_denied, crate::proofs::Making::denied_first, crate::proofs::Making::room_on, locked::proofs::Seats::only_same, crate::proofs::Owning::only_first_denied, crate::proofs::Owning::only_written, crate::proofs::Rooming::first_unwanted, crate::proofs::Rooming::none_unwritten, crate::proofs::Rooming::first_final, crate::proofs::Rooming::final_lasting))]
+    #[tactic(auto, using(held::proofs::Seats::goes_by, held::proofs::Seats::goes_on, held::proofs::Seats::goes_same, crate::proofs::Making::goes_denied, crate::proofs::Making::denied_first, crate::proofs::Making::room_on, held::proofs::Seats::only_same, crate::proofs::Owning::only_first_denied, crate::proofs::Owning::only_written, crate::proofs::Rooming::first_unwanted, crate::proofs::Rooming::none_unwritten, crate::proofs::Rooming::first_final, crate::proofs::Rooming::final_lasting))]
     fn flush_one<R: Wait>(
         &self,
         rt: &R,
-        mut guard: MutexGuard<'_, Locked<B, T>>,
+        mut guard: MutexGuard<'_, Held<B, T>>,
         seat: &mut Seat,
     ) -> Result<bool, Denied>
         requires { seat.old.table ≡ B.table }
@@ -271,7 +271,7 @@ impl<B: Naming, D: BlockDevice, T: Trail> SharedCache<B, D, T> {
         ensures stands { IfErr result (IsFinal B.sizes B.name seat.new) }
         ensures settled { SettlesIn B.name seat.old seat.new result }
     {
-        let was_busy = guard.is_busy();
+        let was_busy = guard.core().is_busy();
         let buffer = match Buffer::new(self.alloc, &self.geometry) {
             Ok(buffer) => buffer,
             Err(refusal) => return Err(without_slip(refusal)),
@@ -296,10 +296,10 @@ impl<B: Naming, D: BlockDevice, T: Trail> SharedCache<B, D, T> {
     }
 
     /// Waits for the end of a request, where one is in flight, and answers whether one was.
-    pub(crate) fn waits<R: Wait>(&self, rt: &R, guard: MutexGuard<'_, Locked<B, T>>) -> bool
+    pub(crate) fn waits<R: Wait>(&self, rt: &R, guard: MutexGuard<'_, Held<B, T>>) -> bool
         ensures { result ≡ is_busy (mutex_guard_value guard.entry).core.state }
     {
-        if !guard.is_busy() {
+        if !guard.core().is_busy() {
             return false;
         }
         self.wait_for_end(rt, guard);
@@ -307,7 +307,7 @@ impl<B: Naming, D: BlockDevice, T: Trail> SharedCache<B, D, T> {
     }
 
     /// Waits for the end of a request. One is in flight.
-    fn wait_for_end<R: Wait>(&self, rt: &R, guard: MutexGuard<'_, Locked<B, T>>)
+    fn wait_for_end<R: Wait>(&self, rt: &R, guard: MutexGuard<'_, Held<B, T>>)
         requires { is_busy (mutex_guard_value guard).core.state ≡ true }
     {
         drop(self.changed.wait(rt, guard));
@@ -329,7 +329,7 @@ impl<B: Naming, D: BlockDevice, T: Trail> SharedCache<B, D, T> {
     pub(crate) fn wait_or<R: Wait>(
         &self,
         rt: &R,
-        guard: MutexGuard<'_, Locked<B, T>>,
+        guard: MutexGuard<'_, Held<B, T>>,
         denied: Denied,
     ) -> Result<(), Denied>
         ensures denied { IfErr result (λ d. d ≡ denied) }
@@ -349,7 +349,7 @@ impl<B: Naming, D: BlockDevice, T: Trail> SharedCache<B, D, T> {
 
     /// Makes the device call of a flush, without the state's lock, and ends the flush. Answers whether the page was written, with the
     /// job's buffer.
-    #[tactic(auto, using(locked::proofs::Seats::goes_by, locked::proofs::Seats::goes_on, locked::proofs::Seats::goes_same, crate::proofs::Making::goes_denied, crate::proofs::Making::denied_flush, crate::proofs::Syncing::flush_denied, crate::proofs::Owning::only_flush_end, crate::proofs::Owning::only_flush_end_denied, crate::proofs::Rooming::end_unwanted, crate::proofs::Rooming::failed_by, crate::proofs::Rooming::end_final))]
+    #[tactic(auto, using(held::proofs::Seats::goes_by, held::proofs::Seats::goes_on, held::proofs::Seats::goes_same, crate::proofs::Making::goes_denied, crate::proofs::Making::denied_flush, crate::proofs::Syncing::flush_denied, crate::proofs::Owning::only_flush_end, crate::proofs::Owning::only_flush_end_denied, crate::proofs::Rooming::end_unwanted, crate::proofs::Rooming::failed_by, crate::proofs::Rooming::end_final))]
     pub(crate) fn flush_by<R: Wait>(
         &self,
         rt: &R,
@@ -392,11 +392,8 @@ fn written(ended: Ended) -> (bool, Buffer)
 }
 
 /// Lets pages age, and then an idle one go. Answers whether there was one.
-#[tactic(auto, using(locked::proofs::Seats::goes_by, locked::proofs::Seats::goes_on, locked::proofs::Seats::goes_same, crate::proofs::Making::goes_denied, crate::proofs::Making::denied_age, crate::proofs::Making::denied_evict, crate::proofs::Owning::only_age_denied, crate::proofs::Owning::only_evicts, crate::proofs::Owning::only_evict_denied, crate::proofs::Letting::evicted_gone, crate::proofs::Rooming::age_unwanted, crate::proofs::Rooming::evict_unwanted, crate::proofs::Rooming::evict_none, crate::proofs::Rooming::age_final, crate::proofs::Rooming::evict_final))]
-fn evict_idle<B: Naming, T: Trail>(
-    state: &mut Locked<B, T>,
-    seat: &mut Seat,
-) -> Result<bool, Denied>
+#[tactic(auto, using(held::proofs::Seats::goes_by, held::proofs::Seats::goes_on, held::proofs::Seats::goes_same, crate::proofs::Making::goes_denied, crate::proofs::Making::denied_age, crate::proofs::Making::denied_evict, crate::proofs::Owning::only_age_denied, crate::proofs::Owning::only_evicts, crate::proofs::Owning::only_evict_denied, crate::proofs::Letting::evicted_gone, crate::proofs::Rooming::age_unwanted, crate::proofs::Rooming::evict_unwanted, crate::proofs::Rooming::evict_none, crate::proofs::Rooming::age_final, crate::proofs::Rooming::evict_final))]
+fn evict_idle<B: Naming, T: Trail>(state: &mut Held<B, T>, seat: &mut Seat) -> Result<bool, Denied>
     requires { seat.old.table ≡ B.table }
     ensures goes { Goes seat.old seat.new }
     ensures only { Only (λ e. IsEviction e.event) seat.old seat.new }
@@ -425,23 +422,30 @@ pub(crate) enum Want {
 }
 
 /// Which room a call on this span wants: frames, or fewer dirty pages.
-fn wants<B: Naming, T: Trail>(state: &Locked<B, T>, span: Span) -> Option<Want> {
-    if state.lacks_frames(span.handle, span.offset, span.count) {
+fn wants<B: Naming, T: Trail>(state: &Held<B, T>, span: Span) -> Option<Want> {
+    if state
+        .core()
+        .lacks_frames(span.handle, span.offset, span.count)
+    {
         return Some(Want::Frames);
     }
-    if span.dirties && state.passes_limit(span.handle, span.offset, span.count) {
+    if span.dirties
+        && state
+            .core()
+            .passes_limit(span.handle, span.offset, span.count)
+    {
         return Some(Want::Clean);
     }
     None
 }
 
 /// Whether a request is in flight by whose end a refusal may pass.
-fn may_pass<B: Naming, T: Trail>(state: &Locked<B, T>, refusal: Refusal) -> bool
+fn may_pass<B: Naming, T: Trail>(state: &Held<B, T>, refusal: Refusal) -> bool
     ensures { result ≡ may_pass refusal state.now.core.state }
 {
     match refusal {
-        Refusal::NoSpace => state.holds_cut(),
-        _ => is_for_now(refusal) && state.is_busy(),
+        Refusal::NoSpace => state.core().holds_cut(),
+        _ => is_for_now(refusal) && state.core().is_busy(),
     }
 }
 

@@ -6,8 +6,8 @@ use crate::rows::Tested;
 use crate::thread_rows::Turnstile;
 use blockdev::BlockDevice;
 use held::log::{Seat, Slip};
-use locked::denied::Denied;
-use locked::naming::Naming;
+use held::denied::Denied;
+use held::naming::Naming;
 use shared::handle::Handle;
 use std::sync::Wait;
 

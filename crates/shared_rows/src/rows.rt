@@ -7,7 +7,7 @@
 ghost use Rattle.std.specs.Prelude.{◌≡◌, All, IfSome};
 ghost use Rattle.std.specs.FinMap as map;
 ghost use Rattle.held.specs.Shown.{AreFresh};
-ghost use Rattle.locked.specs.Keeps.{IsLocked};
+ghost use Rattle.held.specs.Keeps.{IsLocked};
 ghost use Rattle.shared.specs.Keeps.{IsDisk};
 ghost use Rattle.shared.specs.Workers.{IsWorkerOf};
 
@@ -25,7 +25,7 @@ use blockdev::{BlockDevice, FaultEffect, GatedDevice, ScriptDevice};
 use faulty::FaultyDevice;
 use filesvc::Seek;
 use held::log::Seat;
-use locked::naming::Naming;
+use held::naming::Naming;
 use pc_types::{ErrCode, Geometry, Refusal};
 use shared::cache::{Parts, SharedCache};
 use shared::handle::Handle;

@@ -7,7 +7,7 @@ use Rattle.std.specs.FinMap as finmap
 use Rattle.std.proofs.lemmas.Bool.{false≢true}
 use Rattle.std.proofs.lemmas.Bool.Decides.{nat_tests}
 use Rattle.std.proofs.lemmas.List.Quantifiers.{position-Some}
-use Rattle.std.proofs.lemmas.List.Sums.{sum_by-cons, prefix_len_passes}
+use Rattle.std.proofs.lemmas.List.Sums.{count_by-le-length, sum_by-cons, prefix_len_passes}
 use Rattle.mapping.proofs.MapLemmas.{same_nat_map, get-insert_nat, get-remove_nat}
 use Rattle.writeback.specs.declared.syncs.Progress.{Progress}
 use Rattle.writeback.specs.Rising.{IsRising}
@@ -145,6 +145,9 @@ get_progress slots n = sym (get_or-states slots n) ∙ sym (get-in_use (map (opt
 
 len_progress : (slots : List (Option Progress)) → finmap.len (in_progress slots) ≡ count_by (λ s. is_some s) slots
 len_progress slots = len-in_use (map (option_map sync_of) slots) ∙ count-states slots
+
+pub slots_few : (slots : List (Option Progress)) → finmap.len (in_progress slots) ≤ length slots
+slots_few slots = omega (arith, len_progress slots, count_by-le-length (λ (s : Option Progress). is_some s) slots)
 
 is_in : (slots : List (Option Progress)) (n : ℕ)
     → is_some (finmap.get (in_progress slots) n) ≡ is_some (get_or slots n None)

@@ -152,7 +152,8 @@ impl Requests {
 
     /// How many requests are in flight.
     pub fn len(&self) -> u64
-        ensures { result ≡ map.len self.now.requests }
+        ensures value { result ≡ map.len self.now.requests }
+        ensures few { result ≤ MAX_IN_FLIGHT }
     {
         self.in_flight.len() as u64
     }
@@ -166,7 +167,8 @@ impl Requests {
 
     /// How many of them are flushes.
     pub fn flushes(&self) -> u64
-        ensures { result ≡ count_by (λ x. is_flush x.kind) (map.values self.now.requests) }
+        ensures value { result ≡ count_by (λ x. is_flush x.kind) (map.values self.now.requests) }
+        ensures few { result ≤ MAX_IN_FLIGHT }
     {
         self.len() - self.fills
     }

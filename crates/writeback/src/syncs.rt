@@ -98,7 +98,8 @@ impl Syncs {
 
     /// How many syncs are in progress.
     pub fn len(&self) -> u64
-        ensures { result ≡ map.len self.now }
+        ensures value { result ≡ map.len self.now }
+        ensures few { result ≤ MAX_SYNCS }
     {
         self.count
     }

@@ -2,7 +2,7 @@ use Rattle.std.proofs.Common.{◌≡◌, Err, ap, inr, subst, sym}
 use Rattle.filesvc.specs.declared.seek.Seek.{Seek}
 use Rattle.machine.specs.declared.event.Event.TheVariants as event
 use Rattle.pc_types.specs.declared.ids.HandleId.{HandleId}
-use Rattle.locked.specs.Called.{Only}
+use Rattle.held.specs.Called.{Only}
 use Rattle.shared.specs.Denials.{IsDenied}
 use Rattle.shared.specs.Seeks.{Seeks}
 use Rattle.shared.specs.Seen.{HandleSeen}

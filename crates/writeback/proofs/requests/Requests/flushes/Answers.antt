@@ -13,8 +13,8 @@ fills_is c = c.self.invariant.1 ∙ fills_table c.self.inside.next c.self.inside
 
 pub overflow_sub-result : goal.overflow_sub-result
 overflow_sub-result c =
-    omega (arith, fills_is c, c.len.ensures, others (map.values c.args.self.now.requests), values_len c.args.self.now.requests)
+    omega (arith, fills_is c, c.len.ensures.value, others (map.values c.args.self.now.requests), values_len c.args.self.now.requests)
 
-pub returns : goal.returns
-returns c =
-    omega (arith, fills_is c, c.len.ensures, others (map.values c.args.self.now.requests), values_len c.args.self.now.requests)
+pub returns-clause-value : goal.returns-clause-value
+returns-clause-value c =
+    omega (arith, fills_is c, c.len.ensures.value, others (map.values c.args.self.now.requests), values_len c.args.self.now.requests)

@@ -13,7 +13,7 @@ use Rattle.held.specs.declared.log.Slip.{Slip}
 use Rattle.held.specs.Entered.{Made}
 use Rattle.held.specs.Shown.{HeldSeen, SeatSeen}
 use Rattle.held.specs.Views.{count_of}
-use Rattle.locked.specs.Called.{Goes, Once, Only}
+use Rattle.held.specs.Called.{Goes, Once, Only}
 
 pub goes_by : (e : Event) (r : Reply) (old new : HeldSeen) (before after : SeatSeen) (slip : Slip)
     → Made e r old new before after slip → Goes before after

@@ -7,8 +7,8 @@ use Rattle.pc_types.specs.declared.ids.FileId.{FileId}
 use Rattle.held.specs.declared.log.Slip.{Slip}
 use Rattle.held.specs.Entered.{Made}
 use Rattle.held.specs.Shown.{HeldSeen, SeatSeen}
-use Rattle.locked.specs.Denials.{IsDenied}
-use Rattle.locked.specs.declared.denied.Denied.{Denied}
+use Rattle.held.specs.Denials.{IsDenied}
+use Rattle.held.specs.declared.denied.Denied.{Denied}
 
 -- the job is a write of the first file that has a page to write
 pub record Writes (job : Task) (slip : Slip) (old new : HeldSeen) (before after : SeatSeen) : Type 0 where

@@ -17,7 +17,7 @@ use Rattle.machine.proofs.steps.Cases.{Cases, IsVerdict, by_cases}
 use Rattle.pc_types.specs.declared.ids.SyncId.{SyncId}
 use Rattle.trail.specs.declared.entry.Entry.{Entry}
 use Rattle.trail.specs.History.{seatless}
-use Rattle.locked.specs.Numbers.{EndsOwn, GivenFree, NumbersStay, ends, gives, has_after}
+use Rattle.held.specs.Numbers.{EndsOwn, GivenFree, NumbersStay, ends, gives, has_after}
 
 -- what one event says of number m
 record Turn (s new : State) (m : ℕ) (e : Event) (r : Reply) : Type 0 where

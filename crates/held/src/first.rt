@@ -5,19 +5,19 @@ ghost use Rattle.blockdev.specs.Jobs.{IsJobFor};
 ghost use Rattle.cachecore.specs.Replies.{IsFlushJob};
 ghost use Rattle.cachecore.specs.Wants.{NothingToWrite};
 ghost use Rattle.cachecore.specs.declared.answers.FlushBegun.TheVariants as flush;
-ghost use Rattle.locked.specs.Called.{Goes};
-ghost use Rattle.locked.specs.Firsts.{IsFirstDenied, Writes};
+ghost use Rattle.held.specs.Called.{Goes};
+ghost use Rattle.held.specs.Firsts.{IsFirstDenied, Writes};
 
 use crate::denied::Denied;
+use crate::log::{Seat, Slip};
 use crate::naming::Naming;
-use crate::state::Locked;
+use crate::state::Held;
 use blockdev::{Buffer, Job};
 use cachecore::FlushBegun;
-use held::log::{Seat, Slip};
 use pc_types::{FileId, PageIndex};
 use trail::Trail;
 
-impl<B: Naming, T: Trail> Locked<B, T> {
+impl<B: Naming, T: Trail> Held<B, T> {
     /// Begins to write the lowest page of the first file that has one to write. Nothing is entered where no file has.
     pub fn flush_first(
         &mut self,
@@ -33,7 +33,7 @@ impl<B: Naming, T: Trail> Locked<B, T> {
         ensures nothing { IfOk result (λ o. IfNone o ((self.new ≡ self.old) × (seat.new ≡ seat.old) × NothingToWrite self.old.core.state)) }
         ensures denied { IfErr result (IsFirstDenied self.old self.new seat.old seat.new) }
     {
-        let Some(file) = self.held.core().first_to_write() else {
+        let Some(file) = self.core.first_to_write() else {
             return Ok(None);
         };
         let (begun, slip) = match self.flush_begin(seat, file, buffer) {

@@ -7,7 +7,7 @@ use Rattle.machine.specs.declared.event.Reply.TheVariants as reply
 use Rattle.held.specs.declared.log.Slip.{Slip}
 use Rattle.held.specs.Entered.{Made, Untouched, has_room_for}
 use Rattle.held.specs.Shown.{HeldSeen, SeatSeen}
-use Rattle.locked.specs.declared.denied.Denied.{Denied}
+use Rattle.held.specs.declared.denied.Denied.{Denied}
 
 -- with a slip the event was made, at the slip's entry, and this refusal was its reply; without one the trail had no
 -- room for the event, and nothing was done

@@ -1,8 +1,8 @@
 //! How a call is refused.
 
-ghost use Rattle.std.specs.Prelude.{◌≡◌, None, Some};
+ghost use Rattle.std.specs.Prelude.{◌≡◌, Err, IfErr, IfOk, None, Ok, Some};
 
-use held::log::Slip;
+use crate::log::Slip;
 use pc_types::Refusal;
 
 /// Why a call was not made, and the slip of the entry that refused it. Without a slip no event was made.
@@ -29,5 +29,16 @@ pub fn by(refusal: Refusal, slip: Slip) -> Denied
     Denied {
         refusal,
         slip: Some(slip),
+    }
+}
+
+/// The answer of an event that was entered at the slip, or its refusal, of which this entry tells.
+pub(crate) fn told<A>(answer: Result<A, Refusal>, slip: Slip) -> Result<(A, Slip), Denied>
+    ensures ok { IfOk result (λ r. (answer ≡ Ok r.0) × (r.1 ≡ slip)) }
+    ensures err { IfErr result (λ d. (answer ≡ Err d.refusal) × (d.slip ≡ Some slip)) }
+{
+    match answer {
+        Ok(answer) => Ok((answer, slip)),
+        Err(refusal) => Err(by(refusal, slip)),
     }
 }

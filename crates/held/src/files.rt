@@ -1,41 +1,39 @@
-//! Files and handles.
+//! Files and handles, and which pages go.
 
-ghost use Rattle.std.specs.Prelude.{◌≡◌, ℕ, IfErr, IfOk, Ok};
+ghost use Rattle.std.specs.Prelude.{◌≡◌, ◌+◌, ℕ, IfErr, IfOk, Ok, find, length, option_map};
 ghost use Rattle.cachecore.specs.Replies.{closed, created, evicted, opened, sized, was_truncated};
 ghost use Rattle.errboard.specs.Views.{recorded_of};
 ghost use Rattle.errseq.specs.Samples.{StandsFor, done_at};
 ghost use Rattle.errseq.specs.Word.{sample_of};
-ghost use Rattle.held.specs.Calls.{ByLists};
-ghost use Rattle.held.specs.declared.call.Answer.TheVariants as answer;
-ghost use Rattle.held.specs.declared.call.Call.TheVariants as call;
-ghost use Rattle.held.specs.Entered.{Made};
+ghost use Rattle.machine.specs.ListChanges.{is_idle_in, numbers};
+ghost use Rattle.machine.specs.PageLists.{active_target, place, scan_order};
 ghost use Rattle.machine.specs.declared.event.Event.TheVariants as event;
 ghost use Rattle.machine.specs.declared.event.Reply.TheVariants as reply;
-ghost use Rattle.locked.specs.Denials.{IsDenied};
-ghost use Rattle.locked.specs.Done.{evict_answer};
+ghost use Rattle.held.specs.Denials.{IsDenied};
+ghost use Rattle.held.specs.Entered.{Made};
 
-use crate::denied::{Denied, by};
+use crate::denied::{Denied, told};
+use crate::log::{Seat, Slip};
 use crate::naming::Naming;
-use crate::state::Locked;
-use cachecore::TruncateAnswer;
+use crate::state::Held;
+use cachecore::replies::{of_close, of_create, of_evict, of_open, of_size, of_truncate};
+use cachecore::{Event, Reply, TruncateAnswer};
 use errboard::Pass;
-use held::call::{Answer, Call};
-use held::log::{Seat, Slip};
 use pc_types::{FileId, HandleId, PageIndex};
 use trail::Trail;
 
-impl<B: Naming, T: Trail> Locked<B, T> {
+impl<B: Naming, T: Trail> Held<B, T> {
     /// Makes a new file.
     pub fn create(&mut self, seat: &mut Seat) -> Result<(FileId, Slip), Denied>
         requires { seat.old.table ≡ B.table }
         ensures made { IfOk result (λ r. Made event.Create (created (Ok r.0)) self.old self.new seat.old seat.new r.1) }
         ensures denied { IfErr result (IsDenied event.Create self.old self.new seat.old seat.new) }
     {
-        match self.act(seat, Call::Create) {
-            Ok((Answer::File(file), slip)) => Ok((file, slip)),
-            Ok(_) => unreachable!(),
-            Err(denied) => Err(denied),
-        }
+        let Held { core, log, .. } = self;
+        log.check_room(core, 1, 0)?;
+        let answer = core.create();
+        let slip = log.enter(seat, Event::Create, of_create(&answer), &[]);
+        told(answer, slip)
     }
 
     /// Opens a file, with a pass of its failed writes.
@@ -46,15 +44,25 @@ impl<B: Naming, T: Trail> Locked<B, T> {
         ensures sampled { IfOk result (λ r. (loaded : ℕ) × StandsFor r.1.start loaded r.1.known × (r.1.since ≡ sample_of loaded) × (r.1.done ≡ done_at r.1.known loaded)) }
         ensures denied { IfErr result (IsDenied (event.Open file) self.old self.new seat.old seat.new) }
     {
-        let (handle, slip) = match self.act(seat, Call::Open(file)) {
-            Ok((Answer::Handle(handle), slip)) => (handle, slip),
-            Ok(_) => unreachable!(),
-            Err(denied) => return Err(denied),
-        };
-        let Ok(pass) = self.held.pass(file) else {
+        let (handle, slip) = self.open_bare(seat, file)?;
+        // A file that was opened has a number below 64.
+        let Ok(pass) = self.pass(file) else {
             unreachable!()
         };
         Ok((handle, pass, slip))
+    }
+
+    /// Opens a file, without a pass.
+    fn open_bare(&mut self, seat: &mut Seat, file: FileId) -> Result<(HandleId, Slip), Denied>
+        requires { seat.old.table ≡ B.table }
+        ensures made { IfOk result (λ r. Made (event.Open file) (opened (Ok r.0)) self.old self.new seat.old seat.new r.1) }
+        ensures denied { IfErr result (IsDenied (event.Open file) self.old self.new seat.old seat.new) }
+    {
+        let Held { core, log, .. } = self;
+        log.check_room(core, 1, 0)?;
+        let answer = core.open(file);
+        let slip = log.enter(seat, Event::Open(file), of_open(&answer), &[]);
+        told(answer, slip)
     }
 
     /// Closes a handle.
@@ -63,11 +71,12 @@ impl<B: Naming, T: Trail> Locked<B, T> {
         ensures made { IfOk result (λ slip. Made (event.Close handle) reply.Closed self.old self.new seat.old seat.new slip) }
         ensures denied { IfErr result (IsDenied (event.Close handle) self.old self.new seat.old seat.new) }
     {
-        match self.act(seat, Call::Close(handle)) {
-            Ok((Answer::Closed, slip)) => Ok(slip),
-            Ok(_) => unreachable!(),
-            Err(denied) => Err(denied),
-        }
+        let Held { core, log, .. } = self;
+        log.check_room(core, 1, 0)?;
+        let answer = core.close(handle);
+        let slip = log.enter(seat, Event::Close(handle), of_close(&answer), &[]);
+        let ((), slip) = told(answer, slip)?;
+        Ok(slip)
     }
 
     /// The size of the handle's file, in bytes.
@@ -76,11 +85,11 @@ impl<B: Naming, T: Trail> Locked<B, T> {
         ensures made { IfOk result (λ r. Made (event.Size handle) (sized (Ok r.0)) self.old self.new seat.old seat.new r.1) }
         ensures denied { IfErr result (IsDenied (event.Size handle) self.old self.new seat.old seat.new) }
     {
-        match self.act(seat, Call::Size(handle)) {
-            Ok((Answer::Size(size), slip)) => Ok((size, slip)),
-            Ok(_) => unreachable!(),
-            Err(denied) => Err(denied),
-        }
+        let Held { core, log, .. } = self;
+        log.check_room(core, 1, 0)?;
+        let answer = core.size(handle);
+        let slip = log.enter(seat, Event::Size(handle), of_size(&answer), &[]);
+        told(answer, slip)
     }
 
     /// Gives the handle's file a size, in bytes.
@@ -94,41 +103,43 @@ impl<B: Naming, T: Trail> Locked<B, T> {
         ensures made { IfOk result (λ r. Made (event.Truncate handle size) (was_truncated (Ok r.0)) self.old self.new seat.old seat.new r.1) }
         ensures denied { IfErr result (IsDenied (event.Truncate handle size) self.old self.new seat.old seat.new) }
     {
-        match self.act(seat, Call::Truncate(handle, size)) {
-            Ok((Answer::Done, slip)) => Ok((TruncateAnswer::Done, slip)),
-            Ok((Answer::Wait(page), slip)) => Ok((TruncateAnswer::Wait(page), slip)),
-            Ok((Answer::Miss(page), slip)) => Ok((TruncateAnswer::Miss(page), slip)),
-            Ok(_) => unreachable!(),
-            Err(denied) => Err(denied),
-        }
+        let Held { core, log, .. } = self;
+        log.check_room(core, 1, 0)?;
+        let answer = core.truncate(handle, size);
+        let slip = log.enter(
+            seat,
+            Event::Truncate(handle, size),
+            of_truncate(&answer),
+            &[],
+        );
+        told(answer, slip)
     }
 
     /// Lets the first idle page of the scan order go, where there is one.
     pub fn evict(&mut self, seat: &mut Seat) -> Result<(Option<(FileId, PageIndex)>, Slip), Denied>
         requires { seat.old.table ≡ B.table }
         ensures made { IfOk result (λ r. Made event.Evict (evicted r.0) self.old self.new seat.old seat.new r.1) }
-        ensures first { IfOk result (λ r. ByLists self.old.core call.Evict (evict_answer r.0)) }
+        ensures first { IfOk result (λ r. option_map numbers r.0 ≡ option_map place (find (is_idle_in self.old.core.state) (scan_order self.old.core.lists))) }
         ensures denied { IfErr result (IsDenied event.Evict self.old self.new seat.old seat.new) }
     {
-        match self.act(seat, Call::Evict) {
-            Ok((Answer::Evicted(file, page), slip)) => Ok((Some((file, page)), slip)),
-            Ok((Answer::NoneIdle, slip)) => Ok((None, slip)),
-            Ok(_) => unreachable!(),
-            Err(denied) => Err(denied),
-        }
+        let Held { core, log, .. } = self;
+        log.check_room(core, 1, 0)?;
+        let answer = core.evict();
+        let slip = log.enter(seat, Event::Evict, of_evict(&answer), &[]);
+        Ok((answer, slip))
     }
 
-    /// Lets pages of the active list age, and answers how many.
+    /// Lets pages of the active list age, and answers how many: until it is no longer than the other.
     pub fn age(&mut self, seat: &mut Seat) -> Result<(u64, Slip), Denied>
         requires { seat.old.table ≡ B.table }
         ensures made { IfOk result (λ r. Made event.Age (reply.Aged r.0) self.old self.new seat.old seat.new r.1) }
-        ensures until { IfOk result (λ r. ByLists self.old.core call.Age (answer.Aged r.0)) }
+        ensures until { IfOk result (λ r. r.0 + active_target self.old.core.lists ≡ length self.old.core.lists.active) }
         ensures denied { IfErr result (IsDenied event.Age self.old self.new seat.old seat.new) }
     {
-        match self.act(seat, Call::Age) {
-            Ok((Answer::Aged(count), slip)) => Ok((count, slip)),
-            Ok(_) => unreachable!(),
-            Err(denied) => Err(denied),
-        }
+        let Held { core, log, .. } = self;
+        log.check_room(core, 1, 0)?;
+        let count = core.age();
+        let slip = log.enter(seat, Event::Age, Reply::Aged(count), &[]);
+        Ok((count, slip))
     }
 }

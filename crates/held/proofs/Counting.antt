@@ -30,7 +30,7 @@ use Rattle.maps.proofs.Lengths.{len_put_new, len_one_gone}
 use Rattle.maps.proofs.MapLaws.{len-each_value}
 use Rattle.trail.specs.declared.entry.Entry.{Entry}
 use Rattle.trail.specs.History.{After, seatless}
-use Rattle.locked.specs.Flights.{IsCounted, flights_after}
+use Rattle.held.specs.Flights.{IsCounted, flights_after}
 
 -- a reply that comes with no change begins and ends nothing
 quiet_flights : (e : Event) (r : Reply) (n : ℕ) → is_quiet r ≡ true → flights_after e r n ≡ n

@@ -21,10 +21,10 @@ use Rattle.held.specs.declared.call.Call.TheVariants as call
 use Rattle.held.specs.declared.log.Slip.{Slip}
 use Rattle.held.specs.Entered.{Made, Records}
 use Rattle.held.specs.Shown.{HeldSeen, SeatSeen}
-use Rattle.locked.specs.Flights.{IsCounted, flights_after}
-use Rattle.locked.specs.Keeps.{IsLocked}
-use Rattle.locked.proofs.Counting.{counted_on}
-use Rattle.locked.proofs.Failures.{told_on}
+use Rattle.held.specs.Flights.{IsCounted, flights_after}
+use Rattle.held.specs.Keeps.{IsLocked}
+use Rattle.held.proofs.Counting.{counted_on}
+use Rattle.held.proofs.Failures.{told_on}
 
 -- what holds under the lock
 abbrev pub Holds : ℕ → TableId → TableId → Sizes → ℕ → ℕ → HeldSeen → Type 0

@@ -10,7 +10,7 @@ use Rattle.errboard.specs.Steps.{with_recording}
 use Rattle.errboard.specs.Views.{files, recorded_of}
 use Rattle.errseq.specs.declared.recording.Recording.{Recording}
 use Rattle.held.specs.Entered.{Records}
-use Rattle.locked.specs.Keeps.{AreTold}
+use Rattle.held.specs.Keeps.{AreTold}
 use Rattle.machine.specs.Changes.{after_write, ended, flush_failed}
 use Rattle.maps.specs.Maps.{change_at}
 use Rattle.machine.specs.Sound.{Sound}

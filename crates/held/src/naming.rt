@@ -20,7 +20,7 @@ pub trait Naming {
 }
 
 impl Naming for Brand {
-    ghost use Rattle.locked.specs.Names.{no_table, no_sizes};
+    ghost use Rattle.held.specs.Names.{no_table, no_sizes};
 
     ghost name = { 0 };
 
