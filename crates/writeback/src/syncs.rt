@@ -1,6 +1,6 @@
 //! The syncs in progress.
 
-ghost use Rattle.std.specs.Prelude.{◌≡◌, ℕ, ◌==◌, ◌<◌, ◌+◌, ◌-◌, ◌^◌, ◌↔◌, true, not, IfOk, IsOk, IsOkUnless, OnErr, Some, None, is_some, if◌then◌else◌, slice_index_or, option_map, position};
+ghost use Rattle.std.specs.Prelude.{◌≡◌, ℕ, ◌==◌, ◌<◌, ◌≤◌, ◌+◌, ◌-◌, ◌^◌, ◌↔◌, true, not, IfOk, IsOk, IsOkUnless, OnErr, Some, None, is_some, if◌then◌else◌, slice_index_or, option_map, position};
 ghost use Rattle.std.specs.List.{list_any};
 ghost use Rattle.std.specs.FinMap as map;
 ghost use Rattle.maps.specs.Maps.{change_at};
