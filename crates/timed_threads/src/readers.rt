@@ -4,8 +4,8 @@ ghost use Rattle.std.specs.Prelude.{◌≡◌, ◌<◌, All, length};
 
 use crate::cached::{PAGE, PAGES, Plain, Reads, Size};
 use blockdev::MemDevice;
-use held::log::Seat;
 use held::denied::Denied;
+use held::log::Seat;
 use held::naming::Naming;
 use pc_types::FileId;
 use shared::cache::SharedCache;
