@@ -15,7 +15,7 @@ use Rattle.trail.specs.declared.entry.Entry.{Entry}
 use Rattle.trail.specs.History.{After, seatless}
 
 module _ (s : State) where
-  Few : Event → Reply → State → Type 0
+  abbrev Few : Event → Reply → State → Type 0
   Few e r new = length s.files ≤ MAX_FILES → length new.files ≤ MAX_FILES
 
   still : (new : State) → length new.files ≡ length s.files → length s.files ≤ MAX_FILES → length new.files ≤ MAX_FILES

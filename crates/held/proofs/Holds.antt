@@ -26,7 +26,7 @@ use Rattle.trail.proofs.HistoryLaws.{after_step}
 use Rattle.trail.proofs.RoomLaws.{reserved_has_room, room_kept}
 use Rattle.held.specs.declared.denied.Denied.{Denied}
 use Rattle.held.specs.declared.log.Slip.{Slip}
-use Rattle.held.specs.Denials.{IsDenied}
+use Rattle.held.specs.Denials.{DeniedBy, IsDenied}
 use Rattle.held.specs.Entered.{Entered, Made, Records, has_room_for}
 use Rattle.held.specs.Keeps.{IsLocked}
 use Rattle.held.specs.Kept.{IsHeld}
@@ -96,20 +96,22 @@ module _ (name : ℕ) (table board : TableId) (sizes : Sizes) (seats : ℕ) (old
           room = room ∙ ap (less old.log.room) count;
           recorded = errors;
         },
-        record {
-          history = subst (λ l. After new.core.state.sizes new.core.state.name l new.core.state) (sym history)
-              (after_step old.log.history before.number old.core.state new.core.state e r i.0.history s);
-          name = h.same.1 ∙ i.0.name ∙ sym same.name;
-          room = ap (λ x. keeps_room x new.core.state.sizes.page (reserved new.core.state)) room ∙ kept;
-        },
-        record {
-          named = h.same.1 ∙ i.1.named;
-          seats = h.same.0 ∙ i.1.seats;
-          errors = records_board old.core.state e r old.errors new.errors errors ∙ i.1.errors;
-          sized = same.sizes ∙ i.1.sized;
-          counted = h.same.2 ∙ i.1.counted;
-          told = told_on old.core.state new.core.state e r old.errors new.errors sound s errors i.1.told;
-        },
+        (
+          record {
+            history = subst (λ l. After new.core.state.sizes new.core.state.name l new.core.state) (sym history)
+                (after_step old.log.history before.number old.core.state new.core.state e r i.0.history s);
+            name = h.same.1 ∙ i.0.name ∙ sym same.name;
+            room = ap (λ x. keeps_room x new.core.state.sizes.page (reserved new.core.state)) room ∙ kept;
+          },
+          record {
+            named = h.same.1 ∙ i.1.named;
+            seats = h.same.0 ∙ i.1.seats;
+            errors = records_board old.core.state e r old.errors new.errors errors ∙ i.1.errors;
+            sized = same.sizes ∙ i.1.sized;
+            counted = h.same.2 ∙ i.1.counted;
+            told = told_on old.core.state new.core.state e r old.errors new.errors sound s errors i.1.told;
+          },
+        ),
       )
 
   -- an event without bytes whose entry is made as it stands
@@ -153,7 +155,7 @@ module _ {A : Type 0} (e : Event) (as_reply : Result A Refusal → Reply) (old n
     where
       denied_by : (d : Denied) → d.slip ≡ Some slip → Made e (reply.Refused d.refusal) now new before after slip
           → IsDenied e now new before after d
-      denied_by d is m = subst (λ o. Rattle.held.specs.Denials.DeniedBy e now new before after d.refusal o) (sym is) m
+      denied_by d is m = subst (λ o. DeniedBy e now new before after d.refusal o) (sym is) m
 
 -- no room: nothing was done
 pub full_denied : (e : Event) (old now : HeldSeen) (seat : SeatSeen) (d : Denied) → old ≡ now

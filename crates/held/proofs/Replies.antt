@@ -1,6 +1,6 @@
 -- Replies that have no bytes.
 use Rattle.std.proofs.Common.{◌≡◌, ℕ, [], refl}
-use Rattle.std.specs.Prelude.{Option, Some, None, Result, Ok, Err, Unit}
+use Rattle.std.specs.Prelude.{Option, Some, None, Result, Ok, Err}
 use Rattle.pc_types.specs.declared.ids.FileId.{FileId}
 use Rattle.pc_types.specs.declared.ids.HandleId.{HandleId}
 use Rattle.pc_types.specs.declared.ids.PageIndex.{PageIndex}

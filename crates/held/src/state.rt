@@ -1,6 +1,6 @@
 //! The state of a shared cache, as it lies under its lock: its core, its history, and the recorder of failed writes.
 
-ghost use Rattle.std.specs.Prelude.{◌≡◌, ◌≢◌, ◌↔◌, ◌⊎◌, ◌+◌, ◌<◌, ◌≤◌, ◌&&◌, nat_lt, nat_le, if◌then◌else◌, [], length, replicate, true, IfOk, IfErr, IsOk, IsErr, IsOkUnless, OnOk, All, Any, Some, vec_len};
+ghost use Rattle.std.specs.Prelude.{◌≡◌, ◌≢◌, ℕ, ◌↔◌, ◌⊎◌, ◌+◌, ◌<◌, ◌≤◌, ◌&&◌, nat_lt, nat_le, if◌then◌else◌, [], length, replicate, true, IfOk, IfErr, IsOk, IsErr, IsOkUnless, OnOk, All, Any, Some, vec_len};
 ghost use mathlib.Core.List.{IsPrefix};
 ghost use Rattle.errboard.specs.Views.{files, recorded_of, start_of};
 ghost use Rattle.errseq.specs.Samples.{StandsFor, Owes, done_at};
