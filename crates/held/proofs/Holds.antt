@@ -90,6 +90,7 @@ module _ (name : ℕ) (table board : TableId) (sizes : Sizes) (seats : ℕ) (old
       histories_are_sound old.core.state.sizes old.core.state.name (map seatless old.log.history) old.core.state i.0.history in
       let kept = (room_kept old.log.room old.core.state new.core.state e r has s c le).1 in (
         record {
+          fitted = has;
           step = s;
           lists = lists;
           entered = subst (λ x. Entered x old.log new.log before after slip) is h;
