@@ -1,11 +1,13 @@
 -- Which room a call wants: frames for the pages that it lacks, and room for those that it makes dirty; and what is in
 -- flight. No event asks for it.
-use Rattle.std.specs.Prelude.{◌≡◌, ◌<◌, ℕ, ◌+◌, ◌-◌, Bool, true, not, ◌&&◌, if◌then◌else◌, None, is_some, nat_lt, nat_le, count_by}
+use Rattle.std.specs.Prelude.{◌≡◌, ◌<◌, ℕ, ◌+◌, ◌-◌, Bool, true, not, ◌&&◌, if◌then◌else◌, Option, Some, None, is_some, nat_lt, nat_le, count_by}
 use Rattle.std.specs.FinMap as map
 use Rattle.std.specs.List.{list_any}
 use Rattle.pc_types.specs.declared.limits.TheConstants.{MAX_FILE_SIZE, MAX_TOUCHED}
 use Rattle.pc_types.specs.Kinds.{is_fill, is_flush}
 use Rattle.cachecore.specs.declared.answers.InFlight.{InFlight}
+use Rattle.cachecore.specs.declared.answers.Want.{Want}
+use Rattle.cachecore.specs.declared.answers.Want.TheVariants.{Clean, Frames}
 use Rattle.machine.specs.Changes.{flush_pick}
 use Rattle.machine.specs.State.{State, dirty_total, file_at, handle_file, free_frames, is_cached, is_open, tags_at}
 use Rattle.machine.specs.State.{touched, touched_count}
@@ -36,6 +38,12 @@ abbrev pub passes_limit : State → ℕ → ℕ → ℕ → Bool
 passes_limit s h o n =
     let more = dirtied s (handle_file s h) o n in
     may_touch s h o n && (nat_lt 0 more && nat_lt s.sizes.dirty_limit (dirty_total s + more))
+
+-- which room a call on n bytes at o wants, that makes their pages dirty or not: so many more free frames, or fewer dirty pages
+abbrev pub wants : Bool → State → ℕ → ℕ → ℕ → Option Want
+wants dirties s h o n =
+    if lacks_frames s h o n then Some (Frames (frames_short s h o n))
+    else if dirties && passes_limit s h o n then Some Clean else None
 
 -- how many requests of each kind are in flight, and how many syncs in progress
 abbrev pub in_flight : State → InFlight

@@ -96,6 +96,15 @@ pub enum TruncateAnswer {
     Miss(PageIndex),
 }
 
+/// Which room a call wants.
+#[derive(Clone, Copy, PartialEq, Eq, Debug)]
+pub enum Want {
+    /// So many more free frames.
+    Frames(u64),
+    /// Fewer dirty pages.
+    Clean,
+}
+
 /// A refusal, with the buffer that was handed in.
 #[derive(Drop, Debug)]
 pub struct Refused {

@@ -8,9 +8,8 @@ pub mod Coming
 pub mod Enough
 pub mod FailedFlush
 pub mod FailedWrites
-pub mod FileSizes
-pub mod FileSteps
 pub mod Fills
+pub mod First
 pub mod Fronts
 pub mod Gains
 pub mod Laws
@@ -18,7 +17,6 @@ pub mod Lightens
 pub mod Load
 pub mod Needs
 pub mod Noted
-pub mod Orderly
 pub mod Polled
 pub mod Ranged
 pub mod RoomLaws

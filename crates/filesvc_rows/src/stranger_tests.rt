@@ -4,7 +4,8 @@ ghost use Rattle.std.specs.Prelude.{◌≡◌, IfOk};
 
 use crate::checks::{check, same};
 use blockdev::MemDevice;
-use filesvc::{Handle, Seek, Solo};
+use cursor::Seek;
+use filesvc::{Handle, Solo};
 use pc_types::{ErrCode, FileId, Geometry, PageIndex, Refusal};
 use std::alloc::Global;
 use std::marker::Model;

@@ -4,10 +4,9 @@ use Rattle.std.specs.Prelude.{◌⊎◌, Result, Ok, Err, is_some, None}
 use Rattle.std.specs.FinMap as finmap
 use Rattle.pc_types.specs.declared.ids.SyncId.{SyncId}
 use Rattle.pc_types.specs.declared.refusal.Refusal.{Refusal}
-use Rattle.pc_types.specs.declared.refusal.Refusal.TheVariants.{Stranger, TrailFull}
+use Rattle.pc_types.specs.declared.refusal.Refusal.TheVariants.{Stranger}
 use Rattle.cachecore.specs.Core.{Core}
 use Rattle.machine.specs.declared.event.Event.TheVariants as event
-use Rattle.machine.specs.declared.event.Reply.{Reply}
 use Rattle.machine.specs.declared.event.Reply.TheVariants as reply
 use Rattle.cachecore.specs.Replies.{sync_dropped}
 use Rattle.machine.specs.State.{State}
@@ -15,8 +14,6 @@ use Rattle.machine.specs.Step.{Step}
 use Rattle.machine.specs.Tests.{tests}
 use Rattle.machine.proofs.steps.Cases.{answered}
 use Rattle.machine.proofs.steps.Choices.{quiet_unless}
-use Rattle.held.specs.declared.log.Slip.{Slip}
-use Rattle.trail.specs.declared.reserve.Reserve.{Reserve}
 use Rattle.held.specs.Kept.{IsHeld}
 use Rattle.trail.specs.Room.{event_need, fits_beside, has_room, need_of_end, reserved}
 use Rattle.held.specs.Shown.{LogSeen}

@@ -3,7 +3,6 @@ use Rattle.std.proofs.Common.{◌≡◌, ℕ, zero, suc, ◌+◌, ◌<◌, ◌�
 use Rattle.std.specs.Prelude.{◌⊎◌, Option, Some, None, is_some, replicate, slice_set}
 use Rattle.std.proofs.Math.ListN.{length-set}
 use Rattle.std.proofs.lemmas.List.{length-replicate, length_push, set_past}
-use Rattle.std.specs.FinMap as map
 use Rattle.cachecore.specs.Flushing.{flush_of, flushed_file}
 use Rattle.errboard.specs.Shown.{RecorderSeen}
 use Rattle.errboard.specs.Steps.{with_recording}
@@ -27,8 +26,7 @@ use Rattle.machine.proofs.steps.Answered.{is_quiet}
 use Rattle.machine.proofs.steps.Cases.{Cases, by_cases}
 use Rattle.machine.proofs.steps.Passed.{MayEnd}
 use Rattle.pc_types.specs.Kinds.{is_flush}
-use Rattle.pc_types.specs.declared.kind.Kind.{Kind}
-use Rattle.pc_types.specs.declared.kind.Kind.TheVariants.{Fill, Flush}
+use Rattle.pc_types.specs.declared.kind.Kind.TheVariants.{Flush}
 use Rattle.runs.proofs.events.Lookups.{cached_within}
 
 abbrev fails : State → ℕ → ℕ

@@ -1,10 +1,9 @@
 -- A cache without files, and its empty history.
-use Rattle.std.proofs.Common.{◌≡◌, ℕ, ◌*◌, ◌+◌, true, List, [], map, refl, ap, sym, subst, ◌∙◌, arith}
+use Rattle.std.proofs.Common.{◌≡◌, ℕ, ◌*◌, ◌+◌, true, [], map, refl, ap, sym, subst, ◌∙◌, arith}
 use Rattle.std.specs.Prelude.{Option, Some, None, count_by, nat_le, ◌&&◌}
 use Rattle.std.proofs.lemmas.Bool.Decides.{nat_tests}
 use Rattle.pc_types.specs.Limits.{Sizes}
 use Rattle.machine.specs.State.{State}
-use Rattle.trail.specs.declared.entry.Entry.{Entry}
 use Rattle.machine.specs.History.{no_files}
 use Rattle.trail.specs.History.{After}
 use Rattle.held.specs.Kept.{IsHeld}

@@ -1,9 +1,7 @@
 -- What replies say of their events.
-use Rattle.std.proofs.Common.{◌≡◌, ℕ, ◌<◌, ◌≤◌, Bool, true, false, cond, not, List, [], ◌∷◌, length, sym, refl, ap, arith, subst, inl, inr, ◌∙◌}
-use Rattle.std.specs.Prelude.{◌&&◌, Option, Some, None, Result, Ok, find, is_some, nat_le, option_map}
-use Rattle.std.specs.Ordering.{nat_cmp}
+use Rattle.std.proofs.Common.{◌≡◌, ℕ, ◌<◌, ◌≤◌, Bool, true, false, cond, not, [], length, refl, arith, subst, inl, inr}
+use Rattle.std.specs.Prelude.{Option, Some, None, Result, Ok, is_some, nat_le}
 use Rattle.std.specs.FinMap as map
-use Rattle.std.proofs.lemmas.List.{get_or_past}
 use Rattle.blockdev.specs.Jobs.{IsJobFor}
 use Rattle.cachecore.specs.Replies.{OnFillJob, OnFlushJob, OnSyncJob}
 use Rattle.cachecore.specs.declared.answers.FillBegun.{FillBegun}
@@ -15,7 +13,7 @@ use Rattle.machine.specs.declared.event.Event.TheVariants as event
 use Rattle.machine.specs.declared.event.Reply.{Reply}
 use Rattle.machine.specs.declared.event.Reply.TheVariants as reply
 use Rattle.machine.specs.Changes.{flush_pick}
-use Rattle.machine.specs.State.{State, Page, file_at, no_file}
+use Rattle.machine.specs.State.{State, file_at}
 use Rattle.machine.specs.Step.{AnswersOr, Step}
 use Rattle.machine.specs.Tests.{is_full, refuse, tests}
 use Rattle.machine.proofs.steps.Cases.{answered, happened}

@@ -34,7 +34,7 @@ use Rattle.shared.specs.Denials.{IsDenied, MadeOne}
 use Rattle.shared.specs.Workers.{AllEnded, Begins, Ends, IsEndOf, IsEndReply, IsFlushBegin, IsOwnFailure, fails_write, popped_by}
 use Rattle.shared.specs.declared.ends.Done.{Done}
 use Rattle.shared.specs.declared.worker.Worker.{Worker}
-use Rattle.world.specs.Ends.{buffer_of}
+use Rattle.cachecore.specs.Replies.{buffer_of}
 use Rattle.shared.proofs.Making.{denied_by, denied_on, denied_one, makes_on, makes_then}
 
 -- ---- one event

@@ -1,10 +1,11 @@
 //! What a call does on the way: it fills pages that it missed, and makes room.
 
-ghost use Rattle.std.specs.Prelude.{◌≡◌, ◌&&◌, ◌⊎◌, IfErr, IfOk, IsTrue, if◌then◌else◌, false, length, true};
+ghost use Rattle.std.specs.Prelude.{◌≡◌, ℕ, ◌&&◌, ◌⊎◌, IfErr, IfOk, IsTrue, if◌then◌else◌, false, length, true};
 ghost use Rattle.std.specs.Sync.Mutex.{mutex_guard_value};
 ghost use Rattle.blockdev.specs.Jobs.{IsJobFor};
 ghost use Rattle.held.specs.Called.{Goes, Only};
 ghost use Rattle.cachecore.specs.Wants.{is_busy};
+ghost use Rattle.cachecore.specs.declared.answers.Want.TheVariants.{Frames};
 ghost use Rattle.machine.specs.Tests.{has_idle};
 ghost use Rattle.pc_types.specs.Limits.{is_geometry};
 ghost use Rattle.pc_types.specs.declared.kind.Kind.TheVariants.{Fill, Flush};
@@ -17,12 +18,11 @@ ghost use Rattle.shared.specs.Rooms.{FailsToWrite, IsCrammed, IsFinal, IsFinalOr
 ghost use Rattle.shared.specs.Settled.{EndsIn, FillsNoOther, SettlesIn};
 ghost use Rattle.shared.specs.Synced.{IsFlushEnd};
 ghost use Rattle.shared.specs.Workers.{LetsGo};
-ghost use Rattle.shared.specs.declared.room.Want.TheVariants.{Frames};
-ghost use Rattle.world.specs.Ends.{buffer_of};
+ghost use Rattle.cachecore.specs.Replies.{buffer_of};
 
 use crate::cache::SharedCache;
 use blockdev::{BlockDevice, Buffer, Job};
-use cachecore::{Ended, FillBegun};
+use cachecore::{Ended, FillBegun, Want};
 use held::denied::{Denied, by, without_slip};
 use held::log::Seat;
 use held::naming::Naming;
@@ -151,7 +151,10 @@ impl<B: Naming, D: BlockDevice, T: Trail> SharedCache<B, D, T> {
     {
         'turns: for _ in rt.forever() {
             let guard = self.state.lock(rt);
-            let Some(want) = wants(&guard, span) else {
+            let Some(want) = guard
+                .core()
+                .wants(span.handle, span.offset, span.count, span.dirties)
+            else {
                 return Ok(());
             };
             match self.make_room(rt, guard, seat, want) {
@@ -216,12 +219,12 @@ impl<B: Naming, D: BlockDevice, T: Trail> SharedCache<B, D, T> {
         ensures unwanted { IfErr result (λ d. wants_room d.refusal ≡ false) }
         ensures still { IfOk result (λ made. made ≡ false → is_busy (mutex_guard_value guard.entry).core.state ≡ false) }
         ensures unwritten { IfOk result (λ made. made ≡ false → IsUnwritten (mutex_guard_value guard.entry).core.state seat.old seat.new) }
-        ensures idle { IfOk result (λ made. made ≡ false → want ≡ Frames → has_idle (mutex_guard_value guard.entry).core.state ≡ false) }
+        ensures idle { IfOk result (λ made. made ≡ false → (n : ℕ) → want ≡ Frames n → has_idle (mutex_guard_value guard.entry).core.state ≡ false) }
         ensures stands { IfErr result (IsFinal B.sizes B.name seat.new) }
         ensures settled { SettlesIn B.name seat.old seat.new result }
     {
         match want {
-            Want::Frames => self.free_frame(rt, guard, seat),
+            Want::Frames(_) => self.free_frame(rt, guard, seat),
             Want::Clean => self.flush_one(rt, guard, seat),
         }
     }
@@ -412,33 +415,6 @@ fn evict_idle<B: Naming, T: Trail>(state: &mut Held<B, T>, seat: &mut Seat) -> R
     }
 }
 
-/// Which room a call wants.
-#[derive(Clone, Copy)]
-pub(crate) enum Want {
-    /// More free frames.
-    Frames,
-    /// Fewer dirty pages.
-    Clean,
-}
-
-/// Which room a call on this span wants: frames, or fewer dirty pages.
-fn wants<B: Naming, T: Trail>(state: &Held<B, T>, span: Span) -> Option<Want> {
-    if state
-        .core()
-        .lacks_frames(span.handle, span.offset, span.count)
-    {
-        return Some(Want::Frames);
-    }
-    if span.dirties
-        && state
-            .core()
-            .passes_limit(span.handle, span.offset, span.count)
-    {
-        return Some(Want::Clean);
-    }
-    None
-}
-
 /// Whether a request is in flight by whose end a refusal may pass.
 fn may_pass<B: Naming, T: Trail>(state: &Held<B, T>, refusal: Refusal) -> bool
     ensures { result ≡ may_pass refusal state.now.core.state }
@@ -468,10 +444,10 @@ pub(crate) fn wants_room(refusal: Refusal) -> bool
 
 /// Which room an event wanted that was refused so.
 fn want_of(refusal: Refusal) -> Want
-    ensures { refusal ≡ NoFrame → result ≡ Frames }
+    ensures { refusal ≡ NoFrame → result ≡ Frames 1 }
 {
     match refusal {
-        Refusal::NoFrame => Want::Frames,
+        Refusal::NoFrame => Want::Frames(1),
         _ => Want::Clean,
     }
 }

@@ -4,13 +4,13 @@ ghost use Rattle.std.specs.Prelude.{◌≡◌, ◌≢◌, Err, None};
 ghost use Rattle.machine.specs.declared.event.Event.TheVariants as event;
 ghost use Rattle.pc_types.specs.declared.refusal.Refusal.TheVariants.{BadHandle, Stranger};
 ghost use Rattle.held.specs.Called.{Goes, Only};
-ghost use Rattle.filesvc.specs.Service.{placed, target};
+ghost use Rattle.cursor.specs.Places.{placed, target};
 ghost use Rattle.shared.specs.Seeks.{Seeks, place_after, with_slip};
 
 use crate::cache::SharedCache;
 use crate::handle::Handle;
 use blockdev::BlockDevice;
-use filesvc::Seek;
+use cursor::Seek;
 use held::denied::{Denied, without_slip};
 use held::log::{Seat, Slip};
 use held::naming::Naming;

@@ -5,7 +5,7 @@ ghost use Rattle.shared.specs.Workers.{IsWorkerOf};
 
 use crate::rows::{Tested, opens, two_of, with_two};
 use blockdev::BlockDevice;
-use filesvc::Seek;
+use cursor::Seek;
 use held::log::{Seat, Slip, confirm};
 use held::denied::Denied;
 use held::naming::Naming;

@@ -23,7 +23,7 @@ use crate::worker_rows::{
 };
 use blockdev::{BlockDevice, FaultEffect, GatedDevice, ScriptDevice};
 use faulty::FaultyDevice;
-use filesvc::Seek;
+use cursor::Seek;
 use held::log::Seat;
 use held::naming::Naming;
 use pc_types::{ErrCode, Geometry, Refusal};

@@ -1,5 +1,5 @@
 use Rattle.std.proofs.Common.{◌≡◌, Err, ap, inr, subst, sym}
-use Rattle.filesvc.specs.declared.seek.Seek.{Seek}
+use Rattle.cursor.specs.declared.seek.Seek.{Seek}
 use Rattle.machine.specs.declared.event.Event.TheVariants as event
 use Rattle.pc_types.specs.declared.ids.HandleId.{HandleId}
 use Rattle.held.specs.Called.{Only}

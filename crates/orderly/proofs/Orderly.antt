@@ -37,8 +37,8 @@ use Rattle.machine.proofs.sound.Lookups.{get_or-default}
 use Rattle.runs.proofs.views.Grow.{page_count_more}
 use Rattle.runs.specs.World.{World, Move, WorldStep}
 use Rattle.runs.proofs.moments.CoreSteps.{core_cases}
-use Rattle.filesvc.specs.Rests.{IsOrderly, IsUnderWrite, write_of}
-use Rattle.filesvc.proofs.FileSteps.{one_same, within}
+use Rattle.orderly.specs.Orderly.{IsOrderly, IsUnderWrite, write_of}
+use Rattle.orderly.proofs.FileSteps.{one_same, within}
 
 abbrev size_in : List File → ℕ → ℕ
 size_in fs f = (get_or fs f no_file).size

@@ -20,7 +20,7 @@ use Rattle.runs.specs.World.{World, Move, Act, Call, Finish, Ends, WorldStep}
 use Rattle.runs.proofs.moments.Histories.{calls}
 use Rattle.machine.proofs.sound.Lookups.{get_or-default}
 use Rattle.runs.proofs.moments.CoreSteps.{core_cases}
-use Rattle.filesvc.proofs.FileSteps.{one_same, within}
+use Rattle.orderly.proofs.FileSteps.{one_same, within}
 
 abbrev size_in : List File → ℕ → ℕ
 size_in fs f = (get_or fs f no_file).size
@@ -90,7 +90,7 @@ one_more : (a b m : ℕ) → a ≡ b + 1 → b < m → a ≤ m
 one_more a b m e h = omega arith
 
 module _ (s : State) (c : AreFew s) where
-  few_cases : Cases s (λ e r t. AreFew t)
+  pub few_cases : Cases s (λ e r t. AreFew t)
   few_cases = record {
     same = λ e r step quiet. c;
     writes_none = λ e h o is step. c;
