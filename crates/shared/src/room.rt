@@ -1,29 +1,25 @@
 //! What a call does on the way: it fills pages that it missed, and makes room.
 
-ghost use Rattle.std.specs.Prelude.{◌≡◌, ℕ, ◌&&◌, ◌⊎◌, IfErr, IfOk, IsTrue, if◌then◌else◌, false, length, true};
+ghost use Rattle.std.specs.Prelude.{◌≡◌, ℕ, ◌⊎◌, IfErr, IfOk, IsTrue, if◌then◌else◌, false, true};
 ghost use Rattle.std.specs.Sync.Mutex.{mutex_guard_value};
-ghost use Rattle.blockdev.specs.Jobs.{IsJobFor};
-ghost use Rattle.held.specs.Called.{Goes, Only};
 ghost use Rattle.cachecore.specs.Wants.{is_busy};
 ghost use Rattle.cachecore.specs.declared.answers.Want.TheVariants.{Frames};
 ghost use Rattle.machine.specs.Tests.{has_idle};
 ghost use Rattle.pc_types.specs.Limits.{is_geometry};
-ghost use Rattle.pc_types.specs.declared.kind.Kind.TheVariants.{Fill, Flush};
 ghost use Rattle.pc_types.specs.declared.refusal.Refusal.TheVariants.{NoFrame};
 ghost use Rattle.trail.specs.History.{After};
-ghost use Rattle.shared.specs.Called.{is_for_now, may_pass};
-ghost use Rattle.shared.specs.Denials.{IsDenied, IsFullIfNoSlip};
+ghost use Rattle.held.specs.Called.{Goes, Only};
+ghost use Rattle.shared.specs.Called.{is_for_now};
+ghost use Rattle.shared.specs.Denials.{IsDenied};
 ghost use Rattle.shared.specs.Own.{IsEviction, IsHelp, IsRoomEvent, IsStillDenied};
-ghost use Rattle.shared.specs.Rooms.{FailsToWrite, IsCrammed, IsFinal, IsFinalOr, IsLost, IsUnwritten, is_written, wants_room};
-ghost use Rattle.shared.specs.Settled.{EndsIn, FillsNoOther, SettlesIn};
-ghost use Rattle.shared.specs.Synced.{IsFlushEnd};
+ghost use Rattle.shared.specs.Rooms.{IsCrammed, IsFinal, IsFinalOr, IsLost, IsUnwritten, wants_room};
+ghost use Rattle.shared.specs.Settled.{FillsNoOther, SettlesIn};
 ghost use Rattle.shared.specs.Workers.{LetsGo};
-ghost use Rattle.cachecore.specs.Replies.{buffer_of};
 
 use crate::cache::SharedCache;
 use blockdev::{BlockDevice, Buffer, Job};
-use cachecore::{Ended, FillBegun, Want};
-use held::denied::{Denied, by, without_slip};
+use cachecore::{FillBegun, Want};
+use held::denied::{Denied, without_slip};
 use held::log::Seat;
 use held::naming::Naming;
 use held::state::Held;
@@ -97,37 +93,6 @@ impl<B: Naming, D: BlockDevice, T: Trail> SharedCache<B, D, T> {
         drop(guard);
         match begun {
             FillBegun::Job(job) => self.fill_by(rt, seat, handle, job),
-            _ => Ok(()),
-        }
-    }
-
-    /// Makes the device call of a fill, without the state's lock, and ends the fill.
-    #[tactic(auto, using(held::proofs::Seats::goes_by, held::proofs::Seats::goes_on, held::proofs::Seats::goes_same, crate::proofs::Making::goes_denied, crate::proofs::Making::denied_end, crate::proofs::Making::failed_end, crate::proofs::Owning::only_fill_end, crate::proofs::Owning::only_fill_end_denied, crate::proofs::Rooming::end_unwanted, crate::proofs::Rooming::end_final))]
-    fn fill_by<R: Wait>(
-        &self,
-        rt: &R,
-        seat: &mut Seat,
-        handle: HandleId,
-        job: Job,
-    ) -> Result<(), Denied>
-        requires seat { seat.old.table ≡ B.table }
-        requires fits { IsJobFor B.name B.sizes.blocks B.sizes.page job }
-        ensures goes { Goes seat.old seat.new }
-        ensures only { Only (λ e. IsHelp handle e.event) seat.old seat.new }
-        ensures denied { IfErr result (IsDenied (IsHelp handle) seat.old seat.new) }
-        ensures unwanted { IfErr result (λ d. wants_room d.refusal ≡ false) }
-        ensures stands { IfErr result (IsFinal B.sizes B.name seat.new) }
-        ensures ends { job.kind ≡ Fill → EndsIn B.name (Fill, job.serial) seat.old seat.new result }
-    {
-        let finished = self.disk.lock(rt).carry_out(job);
-        let ended = self.state.lock(rt).fill_end(seat, finished);
-        self.has_ended(rt);
-        let (ended, slip) = match ended {
-            Ok(ended) => ended,
-            Err(denied) => return Err(denied),
-        };
-        match &ended {
-            Ended::Failed(code, _) => Err(by(Refusal::Io(*code), slip)),
             _ => Ok(()),
         }
     }
@@ -298,24 +263,6 @@ impl<B: Naming, D: BlockDevice, T: Trail> SharedCache<B, D, T> {
         }
     }
 
-    /// Waits for the end of a request, where one is in flight, and answers whether one was.
-    pub(crate) fn waits<R: Wait>(&self, rt: &R, guard: MutexGuard<'_, Held<B, T>>) -> bool
-        ensures { result ≡ is_busy (mutex_guard_value guard.entry).core.state }
-    {
-        if !guard.core().is_busy() {
-            return false;
-        }
-        self.wait_for_end(rt, guard);
-        true
-    }
-
-    /// Waits for the end of a request. One is in flight.
-    fn wait_for_end<R: Wait>(&self, rt: &R, guard: MutexGuard<'_, Held<B, T>>)
-        requires { is_busy (mutex_guard_value guard).core.state ≡ true }
-    {
-        drop(self.changed.wait(rt, guard));
-    }
-
     /// Lets an idle page go. Answers whether there was one.
     pub(crate) fn evict_one<R: Wait>(&self, rt: &R, seat: &mut Seat) -> Result<bool, Denied>
         requires { seat.old.table ≡ B.table }
@@ -325,72 +272,6 @@ impl<B: Naming, D: BlockDevice, T: Trail> SharedCache<B, D, T> {
         ensures denied { IfErr result (IsDenied IsRoomEvent seat.old seat.new) }
     {
         evict_idle(&mut self.state.lock(rt), seat)
-    }
-
-    /// Waits for the end of a request, where one is in flight by whose end the refusal may pass; else the refusal stands.
-    #[tactic(auto, using(crate::proofs::Rooming::passes_now, crate::proofs::Rooming::passes_busy))]
-    pub(crate) fn wait_or<R: Wait>(
-        &self,
-        rt: &R,
-        guard: MutexGuard<'_, Held<B, T>>,
-        denied: Denied,
-    ) -> Result<(), Denied>
-        ensures denied { IfErr result (λ d. d ≡ denied) }
-        ensures passing { IfOk result (λ _. is_for_now denied.refusal ≡ true) }
-        ensures waited { IfOk result (λ _. may_pass denied.refusal (mutex_guard_value guard.entry).core.state ≡ true) }
-        ensures still { IfErr result (λ _. may_pass denied.refusal (mutex_guard_value guard.entry).core.state ≡ false) }
-        ensures legal { After B.sizes B.name (mutex_guard_value guard.entry).log.history (mutex_guard_value guard.entry).core.state }
-    {
-        // Lends that the history is legal.
-        let _ = guard.core();
-        if !may_pass(&guard, denied.refusal) {
-            return Err(denied);
-        }
-        self.wait_for_end(rt, guard);
-        Ok(())
-    }
-
-    /// Makes the device call of a flush, without the state's lock, and ends the flush. Answers whether the page was written, with the
-    /// job's buffer.
-    #[tactic(auto, using(held::proofs::Seats::goes_by, held::proofs::Seats::goes_on, held::proofs::Seats::goes_same, crate::proofs::Making::goes_denied, crate::proofs::Making::denied_flush, crate::proofs::Syncing::flush_denied, crate::proofs::Owning::only_flush_end, crate::proofs::Owning::only_flush_end_denied, crate::proofs::Rooming::end_unwanted, crate::proofs::Rooming::failed_by, crate::proofs::Rooming::end_final))]
-    pub(crate) fn flush_by<R: Wait>(
-        &self,
-        rt: &R,
-        seat: &mut Seat,
-        job: Job,
-    ) -> Result<(bool, Buffer), Denied>
-        requires seat { seat.old.table ≡ B.table }
-        requires fits { IsJobFor B.name B.sizes.blocks B.sizes.page job }
-        ensures goes { Goes seat.old seat.new }
-        ensures only { Only (λ e. IsFlushEnd e.event) seat.old seat.new }
-        ensures denied { IfErr result (IsDenied IsRoomEvent seat.old seat.new) }
-        ensures unwanted { IfErr result (λ d. wants_room d.refusal ≡ false) }
-        ensures ended { IfErr result (IsDenied IsFlushEnd seat.old seat.new) }
-        ensures full { IfErr result (IsFullIfNoSlip seat.old seat.new) }
-        ensures failed { IfOk result (λ r. r.0 ≡ false → FailsToWrite seat.old seat.new) }
-        ensures size { IfOk result (λ r. length r.1 ≡ B.sizes.page) }
-        ensures stands { IfErr result (IsFinal B.sizes B.name seat.new) }
-        ensures ends { job.kind ≡ Flush → EndsIn B.name (Flush, job.serial) seat.old seat.new result }
-    {
-        let finished = self.disk.lock(rt).carry_out(job);
-        let ended = self.state.lock(rt).flush_end(seat, finished);
-        self.has_ended(rt);
-        match ended {
-            Ok((ended, _, _)) => Ok(written(ended)),
-            Err(denied) => Err(denied),
-        }
-    }
-}
-
-/// Whether the write of a flush that ended so did not fail, and its buffer.
-fn written(ended: Ended) -> (bool, Buffer)
-    ensures is { result.0 ≡ is_written ended }
-    ensures back { result.1 ≡ buffer_of ended }
-{
-    match ended {
-        Ended::Failed(_, buffer) => (false, buffer),
-        Ended::Done(buffer) => (true, buffer),
-        Ended::Dropped(buffer) => (true, buffer),
     }
 }
 
@@ -413,26 +294,6 @@ fn evict_idle<B: Naming, T: Trail>(state: &mut Held<B, T>, seat: &mut Seat) -> R
         Ok((page, _)) => Ok(page.is_some()),
         Err(denied) => Err(denied),
     }
-}
-
-/// Whether a request is in flight by whose end a refusal may pass.
-fn may_pass<B: Naming, T: Trail>(state: &Held<B, T>, refusal: Refusal) -> bool
-    ensures { result ≡ may_pass refusal state.now.core.state }
-{
-    match refusal {
-        Refusal::NoSpace => state.core().holds_cut(),
-        _ => is_for_now(refusal) && state.core().is_busy(),
-    }
-}
-
-/// Whether a refusal may pass when a request ends.
-pub(crate) fn is_for_now(refusal: Refusal) -> bool
-    ensures { result ≡ is_for_now refusal }
-{
-    matches!(
-        refusal,
-        Refusal::NoFrame | Refusal::DirtyLimit | Refusal::TooManyInFlight | Refusal::NoSpace
-    )
 }
 
 /// Whether more room might have spared a refusal.
