@@ -19,13 +19,11 @@ use crate::log::{Log, Seat, are_all, are_named};
 use crate::naming::Naming;
 use cachecore::CacheCore;
 use errboard::{Board, Pass, Recorder};
+use pc_types::limits::MAX_SEATS;
 use pc_types::{FileId, Geometry, Refusal};
 use std::alloc::Global;
 use std::marker::{Model, PhantomData};
 use trail::Trail;
-
-/// How many seats a cache has at most, beside its own.
-const MAX_SEATS: u64 = 64;
 
 /// A cache with its history, before a type names it.
 #[derive(Drop)]

@@ -16,14 +16,12 @@ use crate::worker::Worker;
 use blockdev::BlockDevice;
 use held::log::Seat;
 use held::state::Opened;
+pub use pc_types::limits::MAX_SEATS;
 use pc_types::{Geometry, Refusal};
 use ring::{Ring, RingPass};
 use std::alloc::Global;
 use std::sync::Wait;
 use trail::Trail;
-
-/// The most seats of callers and workers.
-pub const MAX_SEATS: u64 = 64;
 
 /// What was to be among the parts of a cache that were not made.
 #[derive(Drop)]
