@@ -27,7 +27,7 @@ pub(crate) struct Span {
 
 impl<D: BlockDevice> Solo<D> {
     /// Fills a page that a call on this span of bytes lacks. First room is made for all pages that it lacks: made for this one alone
-    /// it could cost the call another of its pages.
+    /// it could cost the call another of its pages (decision 111).
     pub(crate) fn fill(&mut self, span: Span, page: PageIndex) -> Result<(), Refusal>
         requires missed { IsMissed self.old span.handle.0 span.offset span.count page.0 }
         ensures helps { Helps span.handle.0 (Some page) self.old self.new }
@@ -86,7 +86,7 @@ impl<D: BlockDevice> Solo<D> {
     /// Makes room for as many frames as a call is short of.
     ///
     /// Each time one frame at most becomes free, and no page becomes cached. So the call is short of frames till the last time, and its
-    /// pages are not looked up between.
+    /// pages are not looked up between (decision 169).
     fn make_rooms(&mut self, span: Span, short: u64) -> Result<(), Refusal>
         requires { short ≡ frames_short self.old.world.core span.handle.0 span.offset span.count }
         ensures helps { (page : Option PageIndex) → Helps span.handle.0 page self.old self.new }

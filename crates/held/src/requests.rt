@@ -71,7 +71,7 @@ impl<B: Naming, T: Trail> Held<B, T> {
         let end = end_without(&finished, *alloc);
         let is_read = is_well(&finished);
         let answer = core.fill_end(finished);
-        // The end of what is in flight has its room. A refusal wants an entry of its own, and changed nothing.
+        // The end of what is in flight has its room. A refusal wants an entry of its own, and changed nothing (decision 122).
         if answer.is_err() && !is_room {
             return Err(without_slip(Refusal::TrailFull));
         }

@@ -62,18 +62,19 @@ impl<B: Naming, D: BlockDevice, T: Trail> SharedCache<B, D, T> {
             jobs,
             flushers,
         } = self;
-        let mut locked = state.into_inner();
+        // first, so that the state has a name while the ends are made (decision 165)
+        let mut held = state.into_inner();
         let mut device = disk.into_inner();
-        drain(rt, &ring, &mut device, &mut locked, &mut own);
+        drain(rt, &ring, &mut device, &mut held, &mut own);
         let Worker { seat, pass } = own;
-        match locked.close(seats, seat) {
+        match held.close(seats, seat) {
             Ok((trail, core)) => Ok((trail, core, device.into_device())),
-            Err((refusal, locked, seats, seat)) => {
+            Err((refusal, held, seats, seat)) => {
                 let cache = SharedCache {
                     name,
                     geometry,
                     board,
-                    state: BriefLock::new(locked),
+                    state: BriefLock::new(held),
                     changed,
                     disk: Mutex::new(device),
                     alloc,

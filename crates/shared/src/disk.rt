@@ -86,7 +86,8 @@ impl<B: Naming, D: BlockDevice> Disk<B, D> {
     }
 }
 
-/// The slip of an entry, since which the device of the cache that B names was flushed, and well. Only `Disk::flush_after` makes one.
+/// The slip of an entry, since which the device of the cache that B names was flushed, and well. Only `Disk::flush_after` makes one
+/// (decision 152).
 #[derive(Drop)]
 pub struct Durable<B: Naming, D: BlockDevice> {
     slip: Slip,

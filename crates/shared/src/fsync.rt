@@ -98,6 +98,7 @@ impl<B: Naming, D: BlockDevice, T: Trail> SharedCache<B, D, T> {
         if let Some(code) = synced.failed {
             return Err(self.report_failed(handle, code, synced.slip));
         }
+        // under the device's lock alone, after the sync (decision 140)
         let flushed = self.disk.lock(rt).flush_after(seat, synced.slip);
         match flushed {
             Ok(durable) => self.report(handle, durable),
@@ -133,7 +134,8 @@ impl<B: Naming, D: BlockDevice, T: Trail> SharedCache<B, D, T> {
         }
     }
 
-    /// Syncs these pages of the handle's file. No sync is left. The one buffer of all its writes is made before it begins.
+    /// Syncs these pages of the handle's file. No sync is left. The one buffer of all its writes is made before it begins
+    /// (decision 162).
     #[tactic(auto, using(held::proofs::Seats::goes_by, held::proofs::Seats::goes_on, held::proofs::Seats::goes_same, crate::proofs::Making::goes_denied, crate::proofs::Syncing::syncs_by, crate::proofs::Syncing::begin_denied, crate::proofs::Syncing::gave_up, crate::proofs::Owning::sync_not_begun, crate::proofs::Owning::sync_over, crate::proofs::Owning::sync_given_up))]
     fn sync_pages<R: Wait>(
         &self,

@@ -169,7 +169,7 @@ impl<B: Naming, D: BlockDevice, T: Trail> SharedCache<B, D, T> {
     /// Makes some room: a page is evicted, or written, or the end of a request waited for. Answers whether that was done: not where no
     /// page is idle or to be written and no request is in flight, nor where only the call's own write was in flight, and failed.
     ///
-    /// All of that is asked in one hold. Between two the end of a write could make a page idle that neither would see.
+    /// All of that is asked in one hold (decision 136). Between two the end of a write could make a page idle that neither would see.
     fn make_room<R: Wait>(
         &self,
         rt: &R,

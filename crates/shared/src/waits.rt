@@ -58,7 +58,7 @@ impl<B: Naming, D: BlockDevice, T: Trail> SharedCache<B, D, T> {
     }
 }
 
-/// Whether a request is in flight by whose end a refusal may pass.
+/// Whether a request is in flight by whose end a refusal may pass (decision 172).
 fn may_pass<B: Naming, T: Trail>(state: &Held<B, T>, refusal: Refusal) -> bool
     ensures { result ≡ may_pass refusal state.now.core.state }
 {

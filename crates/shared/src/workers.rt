@@ -82,7 +82,7 @@ impl<B: Naming, D: BlockDevice, T: Trail> SharedCache<B, D, T> {
     {
         'turns: for _ in rt.forever() {
             let seen = self.jobs.count();
-            // In this order: a flusher that counts itself later finds that it is to stop, and begins no write.
+            // In this order (decision 171): a flusher that counts itself later finds that it is to stop, and begins no write.
             let is_over = self.jobs.is_stopped() && self.flushers.load(Ordering::SeqCst) == 0;
             let is_idle = self.io_turn(rt, gate, worker)?.is_none();
             if is_idle {
