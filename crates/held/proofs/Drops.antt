@@ -1,5 +1,5 @@
 -- A sync that is given up.
-use Rattle.std.proofs.Common.{◌≡◌, ℕ, Bool, true, false, [], refl, ap, sym, ◌∙◌, arith, inl, inr}
+use Rattle.std.proofs.Common.{◌≡◌, ℕ, Bool, true, false, [], refl, ap, sym, subst, ◌∙◌, arith, inl, inr}
 use Rattle.std.specs.Prelude.{◌⊎◌, Result, Ok, Err, is_some, None}
 use Rattle.std.specs.FinMap as finmap
 use Rattle.pc_types.specs.declared.ids.SyncId.{SyncId}
@@ -45,6 +45,12 @@ drop_needs s n (Ok u) new h =
 drop_needs s n (Err e) new h =
     elim (answered (tests s (event.SyncDrop n)) s (event.SyncDrop n) (reply.Refused e) new h)
     [ inl x ↦ inr (ap need_of_end x.0, (e, refl)) | inr x ↦ absurd x.1 ]
+
+pub drop_back : (old new : Core) (n : SyncId) (a : Result Unit Refusal)
+    → Step old.state (event.SyncDrop n) (sync_dropped a) new.state → new.lists ≡ old.lists → (x : Refusal) → a ≡ Err x
+    → new ≡ old
+drop_back old new n a step lists x is =
+    drop_core_back old new n x (subst (λ b. Step old.state (event.SyncDrop n) (sync_dropped b) new.state) is step) lists
 
 module _ (old : LogSeen) (core next : State) (i : IsHeld old core) (n : SyncId) (a : Result Unit Refusal)
     (s : Step core (event.SyncDrop n) (sync_dropped a) next) where

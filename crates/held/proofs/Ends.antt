@@ -1,6 +1,6 @@
 -- The ends of requests: what is known of their steps, their entries without bytes, and what is recorded.
-use Rattle.std.proofs.Common.{◌≡◌, ℕ, cond, Bool, true, false, [], refl, ap, sym, ◌∙◌, arith, inl, inr}
-use Rattle.std.specs.Prelude.{◌⊎◌, Option, Some, None, Result, Ok, Err, is_some}
+use Rattle.std.proofs.Common.{◌≡◌, ℕ, cond, Bool, true, false, [], refl, ap, sym, subst, ◌∙◌, arith, inl, inr}
+use Rattle.std.specs.Prelude.{◌⊎◌, Option, Some, None, Result, Ok, Err, is_err, is_some}
 use Rattle.pc_types.specs.declared.kind.Kind.{Kind}
 use Rattle.pc_types.specs.declared.kind.Kind.TheVariants.{Fill, Flush}
 use Rattle.pc_types.specs.Kinds.{is_flush}
@@ -139,6 +139,32 @@ module _ (old : LogSeen) (core : State) (i : IsHeld old core) (e : Event) (a : R
     | inl n ↦ absurd (n.1 x err)
     | inr n ↦ sym (room_is old core 1 0 e room is n.0 bytes) ∙ none
   ]
+
+-- an end that was refused found room for its entry, or was refused by a full trail
+pub room_if_refused : {A E : Type 0} (a : Result A E) (refused room : Bool) → refused ≡ is_err a
+    → (refused ≡ true → room ≡ true) → (x : E) → a ≡ Err x → room ≡ true
+room_if_refused a refused room is kept x err = kept (is ∙ ap is_err err)
+
+pub refused_by : {A E : Type 0} (a : Result A E) (refused : Bool) → refused ≡ is_err a → refused ≡ true
+    → (x : E) × (a ≡ Err x)
+refused_by (Ok y) refused is yes = absurd (let e : true ≡ false = sym yes ∙ is in cc)
+refused_by (Err x) refused is yes = (x, refl)
+
+-- which leaves the core
+pub fill_back : (old new : Core) (e : End) (a : Result Ended RefusedEnd)
+    → Step old.state (event.End Fill e) (fill_ended a) new.state
+    → new.lists ≡ lists_after old.state (event.End Fill e) (fill_ended a) old.lists → (x : RefusedEnd) → a ≡ Err x
+    → new ≡ old
+fill_back old new e a step lists x is =
+    core_back old new Fill e x.refusal (subst (λ b. Step old.state (event.End Fill e) (fill_ended b) new.state) is step)
+    (subst (λ b. new.lists ≡ lists_after old.state (event.End Fill e) (fill_ended b) old.lists) is lists)
+
+pub flush_back : (old new : Core) (e : End) (a : Result Ended RefusedEnd)
+    → Step old.state (event.End Flush e) (flush_ended a) new.state → new.lists ≡ old.lists → (x : RefusedEnd)
+    → a ≡ Err x → new ≡ old
+flush_back old new e a step lists x is =
+    core_back old new Flush e x.refusal
+    (subst (λ b. Step old.state (event.End Flush e) (flush_ended b) new.state) is step) lists
 
 -- ---- the entry of a flush's end, which has no bytes
 

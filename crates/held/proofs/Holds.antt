@@ -164,3 +164,10 @@ pub full_denied : (e : Event) (old now : HeldSeen) (seat : SeatSeen) (d : Denied
 full_denied e old now seat d same is full =
     subst (λ (x : Denied). IsDenied e now now seat seat x) (sym is)
     (refl, subst (λ x. has_room_for x e ≡ false) same full, (refl, refl))
+
+-- no room for the entry of a refusal, which left the core
+pub full_back : (e : Event) (old new now : HeldSeen) (seat : SeatSeen) (d : Denied) → old ≡ now → new ≡ old
+    → d ≡ record { refusal = TrailFull; slip = None } → has_room_for old e ≡ false → IsDenied e now new seat seat d
+full_back e old new now seat d same back is full =
+    subst (λ (x : Denied). IsDenied e now new seat seat x) (sym is)
+    (refl, subst (λ x. has_room_for x e ≡ false) same full, (back ∙ same, refl))

@@ -1,6 +1,7 @@
 //! How a call is refused.
 
-ghost use Rattle.std.specs.Prelude.{◌≡◌, Err, IfErr, IfOk, None, Ok, Some};
+ghost use Rattle.std.specs.Prelude.{◌≡◌, Err, IfErr, IfOk, None, Ok, OnOk, Some, false, true};
+ghost use Rattle.pc_types.specs.declared.refusal.Refusal.TheVariants.{TrailFull};
 
 use crate::log::Slip;
 use pc_types::Refusal;
@@ -30,6 +31,17 @@ pub fn by(refusal: Refusal, slip: Slip) -> Denied
         refusal,
         slip: Some(slip),
     }
+}
+
+/// An end that is refused wants an entry of its own. Refused by `TrailFull` where there is no room for it (decision 122).
+pub(crate) fn check_entry(is_refused: bool, is_room: bool) -> Result<(), Denied>
+    ensures room { OnOk result (is_refused ≡ true → is_room ≡ true) }
+    ensures full { IfErr result (λ d. (d ≡ record { refusal = TrailFull; slip = None }) × (is_refused ≡ true) × (is_room ≡ false)) }
+{
+    if is_refused && !is_room {
+        return Err(without_slip(Refusal::TrailFull));
+    }
+    Ok(())
 }
 
 /// The answer of an event that was entered at the slip, or its refusal, of which this entry tells.

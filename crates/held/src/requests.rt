@@ -11,7 +11,7 @@ ghost use Rattle.held.specs.Denials.{IsDenied};
 ghost use Rattle.held.specs.Ends.{IsRecorded};
 ghost use Rattle.held.specs.Entered.{Made};
 
-use crate::denied::{Denied, by, without_slip};
+use crate::denied::{Denied, by, check_entry};
 use crate::end::{bytes_of, end_without, is_well, record};
 use crate::log::{Seat, Slip};
 use crate::naming::Naming;
@@ -20,7 +20,7 @@ use blockdev::{Buffer, Finished};
 use cachecore::replies::{of_fill_begin, of_fill_end, of_flush_begin, of_flush_end};
 use cachecore::{Ended, Event, FillBegun, FlushBegun};
 use errboard::Receipt;
-use pc_types::{FileId, HandleId, Kind, PageIndex, Refusal};
+use pc_types::{FileId, HandleId, Kind, PageIndex};
 use trail::Trail;
 
 impl<B: Naming, T: Trail> Held<B, T> {
@@ -71,10 +71,7 @@ impl<B: Naming, T: Trail> Held<B, T> {
         let end = end_without(&finished, *alloc);
         let is_read = is_well(&finished);
         let answer = core.fill_end(finished);
-        // The end of what is in flight has its room. A refusal wants an entry of its own, and changed nothing (decision 122).
-        if answer.is_err() && !is_room {
-            return Err(without_slip(Refusal::TrailFull));
-        }
+        check_entry(answer.is_err(), is_room)?;
         let reply = of_fill_end(&answer);
         let bytes = bytes_of(&answer, is_read);
         let slip = log.enter(seat, Event::End(Kind::Fill, end), reply, bytes);
@@ -135,9 +132,7 @@ impl<B: Naming, T: Trail> Held<B, T> {
         let end = end_without(&finished, *alloc);
         let file = core.flush_of(finished.serial());
         let answer = core.flush_end(finished);
-        if answer.is_err() && !is_room {
-            return Err(without_slip(Refusal::TrailFull));
-        }
+        check_entry(answer.is_err(), is_room)?;
         let reply = of_flush_end(&answer);
         let slip = log.enter(seat, Event::End(Kind::Flush, end), reply, &[]);
         let receipt = record(recorder, file, &answer);

@@ -9,14 +9,14 @@ ghost use Rattle.machine.specs.declared.event.Reply.TheVariants as reply;
 ghost use Rattle.held.specs.Denials.{IsDenied};
 ghost use Rattle.held.specs.Entered.{Made};
 
-use crate::denied::{Denied, by, told, without_slip};
+use crate::denied::{Denied, by, check_entry, told};
 use crate::log::{Seat, Slip};
 use crate::naming::Naming;
 use crate::state::Held;
 use blockdev::Buffer;
 use cachecore::replies::{of_sync_begin, of_sync_drop, of_sync_step};
 use cachecore::{Event, SyncStepped};
-use pc_types::{HandleId, PageIndex, Refusal, SyncId};
+use pc_types::{HandleId, PageIndex, SyncId};
 use trail::Trail;
 
 impl<B: Naming, T: Trail> Held<B, T> {
@@ -78,10 +78,7 @@ impl<B: Naming, T: Trail> Held<B, T> {
         let Held { core, log, .. } = self;
         let is_room = log.has_room(core, 1, 0);
         let answer = core.sync_drop(sync);
-        // The drop of what is in progress has its room.
-        if answer.is_err() && !is_room {
-            return Err(without_slip(Refusal::TrailFull));
-        }
+        check_entry(answer.is_err(), is_room)?;
         let slip = log.enter(seat, Event::SyncDrop(sync), of_sync_drop(&answer), &[]);
         let ((), slip) = told(answer, slip)?;
         Ok(slip)
