@@ -1,11 +1,9 @@
-use Rattle.std.proofs.Common.{◌≡◌, ◌≤◌, true, false, refl, ap, sym, subst, ◌∙◌, length}
+use Rattle.std.proofs.Common.{◌≡◌, true, refl, sym, subst, ◌∙◌}
 use Rattle.cachecore.specs.Core.{Core}
 use Rattle.machine.specs.declared.event.Event.TheVariants as event
-use Rattle.machine.specs.Step.{Step}
-use Rattle.cachecore.specs.Replies.{EndGivesBack, end_of, fill_ended}
+use Rattle.cachecore.specs.Replies.{end_of, fill_ended}
 use Rattle.pc_types.specs.declared.kind.Kind.TheVariants.{Fill}
 use Rattle.trail.specs.Room.{has_room, reserved}
-use Rattle.held.specs.Shown.{HeldSeen}
 use Rattle.held.proofs.Ends.{end_has_room, end_is_full, end_needs, fill_back, refused_by, room_if_refused}
 use Rattle.held.proofs.FillEnds.{fill_end_went, fill_small}
 use Rattle.held.proofs.Holds.{Whole, entry_fits, full_back}
@@ -30,3 +28,43 @@ has_its_room g c =
     c.fill_end-answer.ensures.step) c.has_room-is_room.result c.has_room-is_room.ensures
     (room_if_refused c.fill_end-answer.result c.is_err.result c.has_room-is_room.result c.is_err.ensures.value
     c.in_ok-check_entry.ensures.room)
+
+pub enter-slip-requires-clause-room : goal.enter-slip-requires-clause-room
+enter-slip-requires-clause-room g c =
+    let s = c.self.inside.core.state in
+    entry_fits c.self.inside.log s c.fill_end-answer.new.self.state (event.End Fill (end_of c.args.finished))
+    (fill_ended c.fill_end-answer.result) _
+    (has_its_room g (goal.at.enter-slip-requires-clause-room g c).After-check_entry) c.fill_end-answer.ensures.step
+    (fill_small s c.args.finished c.fill_end-answer.result _ c.is_well-is_read.result c.bytes_of-bytes.result.now
+    c.fill_end-answer.ensures.step c.bytes_of-bytes.ensures c.fill_end-answer.ensures.back
+    (c.requires.size ∙ sym c.self.invariant.1.sized))
+
+pub invariant_of-self-2 : goal.invariant_of-self-2
+invariant_of-self-2 g c =
+    (fill_end_went _ _ _ _ _
+    (record { log = c.self.inside.log; core = c.self.inside.core; errors = c.self.inside.recorder })
+    (record { log = c.enter-slip.new.self; core = c.fill_end-answer.new.self; errors = c.self.inside.recorder })
+    c.args.seat.now c.enter-slip.new.seat c.enter-slip.result c.self.invariant
+    c.args.finished c.end_without-end.result c.fill_end-answer.result c.of_fill_end-reply.result c.is_well-is_read.result
+    c.bytes_of-bytes.result.now c.bytes_of-bytes.ensures c.is_well-is_read.ensures c.fill_end-answer.ensures.back
+    (c.requires.size ∙ sym c.self.invariant.1.sized)
+    (has_its_room g (goal.at.invariant_of-self-2 g c).After-check_entry) c.end_without-end.ensures
+    c.fill_end-answer.ensures.step c.fill_end-answer.ensures.lists c.of_fill_end-reply.ensures
+    c.enter-slip.ensures.entered c.enter-slip.ensures.room refl).1
+
+pub returns-in_err-check_entry-clause-denied : goal.returns-in_err-check_entry-clause-denied
+returns-in_err-check_entry-clause-denied g c =
+    let s = c.self.inside.core.state in
+    let x = refused_by c.fill_end-answer.result c.is_err.result c.is_err.ensures.value c.in_err-check_entry.ensures.full.1 in
+    let back = fill_back c.self.inside.core c.fill_end-answer.new.self (end_of c.args.finished) c.fill_end-answer.result
+    c.fill_end-answer.ensures.step c.fill_end-answer.ensures.lists x.0 x.1 in
+    full_back (event.End Fill (end_of c.args.finished))
+    (record { log = c.self.inside.log; core = c.self.inside.core; errors = c.self.inside.recorder }) _ c.args.self.now
+    c.args.seat.now _ c.self.view_is
+    (λ i. record { log = c.self.inside.log; core = back i; errors = c.self.inside.recorder })
+    c.in_err-check_entry.ensures.full.0
+    (end_is_full c.self.inside.log s c.self.invariant.0 (event.End Fill (end_of c.args.finished)) c.fill_end-answer.result
+    refl
+    (end_needs s Fill (end_of c.args.finished) c.fill_end-answer.result c.fill_end-answer.new.self.state
+    c.fill_end-answer.ensures.step) c.has_room-is_room.result c.has_room-is_room.ensures x.0 x.1
+    c.in_err-check_entry.ensures.full.2)
