@@ -77,9 +77,9 @@ stays_within : (o len n end m : ℕ) → end ≡ o + n → n ≡ len → len ≡
 stays_within o len n end m e f z k = omega arith
 
 -- all of a write was written, at o, and not past the greatest size of a file
-pub record IsWhole (o len count end : ℕ) : Type 0 where
-  pub count : count ≡ len
-  pub ends : end ≡ o + count
+pub record IsWhole (o len n end : ℕ) : Type 0 where
+  pub count : n ≡ len
+  pub ends : end ≡ o + n
   pub small : o ≤ MAX_FILE_SIZE → end ≤ MAX_FILE_SIZE
 
 -- by what its tests say, or its reply where they passed
