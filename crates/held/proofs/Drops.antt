@@ -1,6 +1,6 @@
 -- A sync that is given up.
 use Rattle.std.proofs.Common.{◌≡◌, ℕ, Bool, true, false, [], refl, ap, sym, subst, ◌∙◌, arith, inl, inr}
-use Rattle.std.specs.Prelude.{◌⊎◌, Result, Ok, Err, is_some, None}
+use Rattle.std.specs.Prelude.{◌⊎◌, Result, Ok, Err, is_err, is_some, None}
 use Rattle.std.specs.FinMap as finmap
 use Rattle.pc_types.specs.declared.ids.SyncId.{SyncId}
 use Rattle.pc_types.specs.declared.refusal.Refusal.{Refusal}
@@ -17,6 +17,7 @@ use Rattle.machine.proofs.steps.Choices.{quiet_unless}
 use Rattle.held.specs.Kept.{IsHeld}
 use Rattle.trail.specs.Room.{event_need, fits_beside, has_room, need_of_end, reserved}
 use Rattle.held.specs.Shown.{LogSeen}
+use Rattle.held.proofs.Ends.{room_if_refused}
 use Rattle.held.proofs.Holds.{end_room, room_is}
 
 pub drop_refused : (s : State) (n : SyncId) (why : Refusal) (new : State)
@@ -73,3 +74,10 @@ module _ (old : LogSeen) (core next : State) (i : IsHeld old core) (n : SyncId) 
     | inl k ↦ absurd (k.1 x err)
     | inr k ↦ sym (room_is old core 1 0 (event.SyncDrop n) room is k.0 refl) ∙ none
   ]
+
+pub drop_fits : (old : LogSeen) (core : State) (i : IsHeld old core) (n : SyncId) (a : Result Unit Refusal) (next : State)
+    → Step core (event.SyncDrop n) (sync_dropped a) next → (refused room : Bool)
+    → room ≡ fits_beside old.room core.sizes.page (reserved core) 1 0 → refused ≡ is_err a
+    → (refused ≡ true → room ≡ true) → has_room old.room (reserved core) core (event.SyncDrop n) ≡ true
+drop_fits old core i n a next step refused room is err kept =
+    drop_room old core next i n a step room is (room_if_refused a refused room err kept)

@@ -147,8 +147,17 @@ room_if_refused a refused room is kept x err = kept (is ∙ ap is_err err)
 
 pub refused_by : {A E : Type 0} (a : Result A E) (refused : Bool) → refused ≡ is_err a → refused ≡ true
     → (x : E) × (a ≡ Err x)
-refused_by (Ok y) refused is yes = absurd (let e : true ≡ false = sym yes ∙ is in cc)
-refused_by (Err x) refused is yes = (x, refl)
+refused_by (Ok y) refused is said = absurd (let e : true ≡ false = sym said ∙ is in cc)
+refused_by (Err x) refused is said = (x, refl)
+
+-- so there is room for an end past that test
+pub end_fits : (old : LogSeen) (core : State) (i : IsHeld old core) (kind : Kind) (e : End) (a : Result Ended RefusedEnd)
+    (new : State) → Step core (event.End kind e) (ended_as kind a) new → byte_need core (event.End kind e) ≡ 0
+    → (refused room : Bool) → room ≡ fits_beside old.room core.sizes.page (reserved core) 1 0 → refused ≡ is_err a
+    → (refused ≡ true → room ≡ true) → has_room old.room (reserved core) core (event.End kind e) ≡ true
+end_fits old core i kind e a new step bytes refused room is err kept =
+    end_has_room old core i (event.End kind e) a bytes (end_needs core kind e a new step) room is
+    (room_if_refused a refused room err kept)
 
 -- which leaves the core
 pub fill_back : (old new : Core) (e : End) (a : Result Ended RefusedEnd)

@@ -44,8 +44,9 @@ impl<B: Naming, T: Trail> Held<B, T> {
         ensures sampled { IfOk result (λ r. (loaded : ℕ) × StandsFor r.1.start loaded r.1.known × (r.1.since ≡ sample_of loaded) × (r.1.done ≡ done_at r.1.known loaded)) }
         ensures denied { IfErr result (IsDenied (event.Open file) self.old self.new seat.old seat.new) }
     {
+        // Lends that the history is legal. So a file that can be opened has a number below 64, and a pass.
+        let _ = self.core();
         let (handle, slip) = self.open_bare(seat, file)?;
-        // A file that was opened has a number below 64.
         let Ok(pass) = self.pass(file) else {
             unreachable!()
         };

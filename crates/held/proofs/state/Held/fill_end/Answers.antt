@@ -3,11 +3,9 @@ use Rattle.cachecore.specs.Core.{Core}
 use Rattle.machine.specs.declared.event.Event.TheVariants as event
 use Rattle.cachecore.specs.Replies.{end_of, fill_ended}
 use Rattle.pc_types.specs.declared.kind.Kind.TheVariants.{Fill}
-use Rattle.trail.specs.Room.{has_room, reserved}
-use Rattle.held.proofs.Ends.{end_has_room, end_is_full, end_needs, fill_back, refused_by, room_if_refused}
+use Rattle.held.proofs.Ends.{end_fits, end_is_full, end_needs, fill_back, refused_by}
 use Rattle.held.proofs.FillEnds.{fill_end_went, fill_small}
 use Rattle.held.proofs.Holds.{Whole, entry_fits, full_back}
-use Rattle.held.proofs.state.Held.fill_end.Given.{Over}
 use Rattle.held.proofs.state.Held.fill_end.Goals as goal
 
 pub invariant_of-self : goal.invariant_of-self
@@ -17,24 +15,14 @@ invariant_of-self g c =
     (sym (fill_back c.self.inside.core c.fill_end-answer.new.self (end_of c.args.finished) c.fill_end-answer.result
     c.fill_end-answer.ensures.step c.fill_end-answer.ensures.lists x.0 x.1)) c.self.invariant
 
-has_its_room : (g : Over) (c : goal.After-check_entry g)
-    → has_room c.self.inside.log.room (reserved c.self.inside.core.state) c.self.inside.core.state
-    (event.End Fill (end_of c.args.finished)) ≡ true
-has_its_room g c =
-    let s = c.self.inside.core.state in
-    end_has_room c.self.inside.log s c.self.invariant.0 (event.End Fill (end_of c.args.finished)) c.fill_end-answer.result
-    refl
-    (end_needs s Fill (end_of c.args.finished) c.fill_end-answer.result c.fill_end-answer.new.self.state
-    c.fill_end-answer.ensures.step) c.has_room-is_room.result c.has_room-is_room.ensures
-    (room_if_refused c.fill_end-answer.result c.is_err.result c.has_room-is_room.result c.is_err.ensures.value
-    c.in_ok-check_entry.ensures.room)
-
 pub enter-slip-requires-clause-room : goal.enter-slip-requires-clause-room
 enter-slip-requires-clause-room g c =
     let s = c.self.inside.core.state in
     entry_fits c.self.inside.log s c.fill_end-answer.new.self.state (event.End Fill (end_of c.args.finished))
     (fill_ended c.fill_end-answer.result) _
-    (has_its_room g (goal.at.enter-slip-requires-clause-room g c).After-check_entry) c.fill_end-answer.ensures.step
+    (end_fits c.self.inside.log c.self.inside.core.state c.self.invariant.0 Fill (end_of c.args.finished)
+    c.fill_end-answer.result c.fill_end-answer.new.self.state c.fill_end-answer.ensures.step refl c.is_err.result
+    c.has_room-is_room.result c.has_room-is_room.ensures c.is_err.ensures.value c.in_ok-check_entry.ensures.room) c.fill_end-answer.ensures.step
     (fill_small s c.args.finished c.fill_end-answer.result _ c.is_well-is_read.result c.bytes_of-bytes.result.now
     c.fill_end-answer.ensures.step c.bytes_of-bytes.ensures c.fill_end-answer.ensures.back
     (c.requires.size ∙ sym c.self.invariant.1.sized))
@@ -48,7 +36,9 @@ invariant_of-self-2 g c =
     c.args.finished c.end_without-end.result c.fill_end-answer.result c.of_fill_end-reply.result c.is_well-is_read.result
     c.bytes_of-bytes.result.now c.bytes_of-bytes.ensures c.is_well-is_read.ensures c.fill_end-answer.ensures.back
     (c.requires.size ∙ sym c.self.invariant.1.sized)
-    (has_its_room g (goal.at.invariant_of-self-2 g c).After-check_entry) c.end_without-end.ensures
+    (end_fits c.self.inside.log c.self.inside.core.state c.self.invariant.0 Fill (end_of c.args.finished)
+    c.fill_end-answer.result c.fill_end-answer.new.self.state c.fill_end-answer.ensures.step refl c.is_err.result
+    c.has_room-is_room.result c.has_room-is_room.ensures c.is_err.ensures.value c.in_ok-check_entry.ensures.room) c.end_without-end.ensures
     c.fill_end-answer.ensures.step c.fill_end-answer.ensures.lists c.of_fill_end-reply.ensures
     c.enter-slip.ensures.entered c.enter-slip.ensures.room refl).1
 

@@ -4,11 +4,9 @@ use Rattle.cachecore.specs.Flushing.{flush_of}
 use Rattle.machine.specs.declared.event.Event.TheVariants as event
 use Rattle.cachecore.specs.Replies.{end_of, flush_ended}
 use Rattle.pc_types.specs.declared.kind.Kind.TheVariants.{Flush}
-use Rattle.trail.specs.Room.{has_room, reserved}
 use Rattle.held.specs.Ends.{IsRecorded}
-use Rattle.held.proofs.Ends.{end_has_room, end_is_full, end_needs, flush_back, flush_end_went, records, refused_by, room_if_refused}
+use Rattle.held.proofs.Ends.{end_fits, end_is_full, end_needs, flush_back, flush_end_went, records, refused_by}
 use Rattle.held.proofs.Holds.{Whole, entry_fits, full_back, none_needed}
-use Rattle.held.proofs.state.Held.flush_end.Given.{Over}
 use Rattle.held.proofs.state.Held.flush_end.Goals as goal
 
 pub invariant_of-self : goal.invariant_of-self
@@ -18,23 +16,13 @@ invariant_of-self g c =
     (sym (flush_back c.self.inside.core c.flush_end-answer.new.self (end_of c.args.finished) c.flush_end-answer.result
     c.flush_end-answer.ensures.step c.flush_end-answer.ensures.lists x.0 x.1)) c.self.invariant
 
-has_its_room : (g : Over) (c : goal.After-check_entry g)
-    → has_room c.self.inside.log.room (reserved c.self.inside.core.state) c.self.inside.core.state
-    (event.End Flush (end_of c.args.finished)) ≡ true
-has_its_room g c =
-    let s = c.self.inside.core.state in
-    end_has_room c.self.inside.log s c.self.invariant.0 (event.End Flush (end_of c.args.finished)) c.flush_end-answer.result
-    refl
-    (end_needs s Flush (end_of c.args.finished) c.flush_end-answer.result c.flush_end-answer.new.self.state
-    c.flush_end-answer.ensures.step) c.has_room-is_room.result c.has_room-is_room.ensures
-    (room_if_refused c.flush_end-answer.result c.is_err.result c.has_room-is_room.result c.is_err.ensures.value
-    c.in_ok-check_entry.ensures.room)
-
 pub enter-slip-requires-clause-room : goal.enter-slip-requires-clause-room
 enter-slip-requires-clause-room g c =
     entry_fits c.self.inside.log c.self.inside.core.state c.flush_end-answer.new.self.state
     (event.End Flush (end_of c.args.finished)) (flush_ended c.flush_end-answer.result) 0
-    (has_its_room g (goal.at.enter-slip-requires-clause-room g c).After-check_entry) c.flush_end-answer.ensures.step
+    (end_fits c.self.inside.log c.self.inside.core.state c.self.invariant.0 Flush (end_of c.args.finished)
+    c.flush_end-answer.result c.flush_end-answer.new.self.state c.flush_end-answer.ensures.step refl c.is_err.result
+    c.has_room-is_room.result c.has_room-is_room.ensures c.is_err.ensures.value c.in_ok-check_entry.ensures.room) c.flush_end-answer.ensures.step
     (none_needed _)
 
 pub invariant_of-self-2 : goal.invariant_of-self-2
@@ -45,7 +33,9 @@ invariant_of-self-2 g c =
     (record { log = c.enter-slip.new.self; core = c.flush_end-answer.new.self; errors = c.record-receipt.new.recorder })
     c.args.seat.now c.enter-slip.new.seat c.enter-slip.result c.self.invariant
     (end_of c.args.finished) c.end_without-end.result c.flush_end-answer.result c.of_flush_end-reply.result
-    (has_its_room g (goal.at.invariant_of-self-2 g c).After-check_entry) c.end_without-end.ensures
+    (end_fits c.self.inside.log c.self.inside.core.state c.self.invariant.0 Flush (end_of c.args.finished)
+    c.flush_end-answer.result c.flush_end-answer.new.self.state c.flush_end-answer.ensures.step refl c.is_err.result
+    c.has_room-is_room.result c.has_room-is_room.ensures c.is_err.ensures.value c.in_ok-check_entry.ensures.room) c.end_without-end.ensures
     c.flush_end-answer.ensures.step c.flush_end-answer.ensures.lists c.of_flush_end-reply.ensures
     c.enter-slip.ensures.entered c.enter-slip.ensures.room
     (records s (end_of c.args.finished) c.flush_end-answer.result c.record-receipt.result c.self.inside.recorder

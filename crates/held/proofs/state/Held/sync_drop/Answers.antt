@@ -2,12 +2,10 @@ use Rattle.std.proofs.Common.{◌≡◌, true, refl, sym, subst}
 use Rattle.cachecore.specs.Core.{Core}
 use Rattle.machine.specs.declared.event.Event.TheVariants as event
 use Rattle.cachecore.specs.Replies.{sync_dropped}
-use Rattle.trail.specs.Room.{has_room, reserved}
-use Rattle.held.proofs.Drops.{drop_back, drop_is_full, drop_room}
-use Rattle.held.proofs.Ends.{refused_by, room_if_refused}
+use Rattle.held.proofs.Drops.{drop_back, drop_fits, drop_is_full}
+use Rattle.held.proofs.Ends.{refused_by}
 use Rattle.held.proofs.Holds.{Whole, bare, entry_fits, full_back, none_needed}
 use Rattle.held.proofs.Replies.{bare_drop}
-use Rattle.held.proofs.state.Held.sync_drop.Given.{Over}
 use Rattle.held.proofs.state.Held.sync_drop.Goals as goal
 
 pub invariant_of-self : goal.invariant_of-self
@@ -17,20 +15,13 @@ invariant_of-self g c =
     (sym (drop_back c.self.inside.core c.sync_drop-answer.new.self c.args.sync c.sync_drop-answer.result
     c.sync_drop-answer.ensures.step c.sync_drop-answer.ensures.lists x.0 x.1)) c.self.invariant
 
-has_its_room : (g : Over) (c : goal.After-check_entry g)
-    → has_room c.self.inside.log.room (reserved c.self.inside.core.state) c.self.inside.core.state
-    (event.SyncDrop c.args.sync) ≡ true
-has_its_room g c =
-    drop_room c.self.inside.log c.self.inside.core.state c.sync_drop-answer.new.self.state c.self.invariant.0 c.args.sync
-    c.sync_drop-answer.result c.sync_drop-answer.ensures.step c.has_room-is_room.result c.has_room-is_room.ensures
-    (room_if_refused c.sync_drop-answer.result c.is_err.result c.has_room-is_room.result c.is_err.ensures.value
-    c.in_ok-check_entry.ensures.room)
-
 pub enter-slip-requires-clause-room : goal.enter-slip-requires-clause-room
 enter-slip-requires-clause-room g c =
     entry_fits c.self.inside.log c.self.inside.core.state c.sync_drop-answer.new.self.state (event.SyncDrop c.args.sync)
     (sync_dropped c.sync_drop-answer.result) 0
-    (has_its_room g (goal.at.enter-slip-requires-clause-room g c).After-check_entry) c.sync_drop-answer.ensures.step
+    (drop_fits c.self.inside.log c.self.inside.core.state c.self.invariant.0 c.args.sync c.sync_drop-answer.result
+    c.sync_drop-answer.new.self.state c.sync_drop-answer.ensures.step c.is_err.result c.has_room-is_room.result
+    c.has_room-is_room.ensures c.is_err.ensures.value c.in_ok-check_entry.ensures.room) c.sync_drop-answer.ensures.step
     (none_needed _)
 
 pub invariant_of-self-in_err-slip : goal.invariant_of-self-in_err-slip
@@ -40,7 +31,9 @@ invariant_of-self-in_err-slip g c =
     (record { log = c.enter-slip.new.self; core = c.sync_drop-answer.new.self; errors = c.self.inside.recorder })
     c.args.seat.now c.enter-slip.new.seat c.enter-slip.result c.self.invariant
     (event.SyncDrop c.args.sync) (sync_dropped c.sync_drop-answer.result) c.of_sync_drop.result refl
-    (bare_drop c.sync_drop-answer.result) (has_its_room g (goal.at.invariant_of-self-in_err-slip g c).After-check_entry)
+    (bare_drop c.sync_drop-answer.result) (drop_fits c.self.inside.log c.self.inside.core.state c.self.invariant.0 c.args.sync c.sync_drop-answer.result
+    c.sync_drop-answer.new.self.state c.sync_drop-answer.ensures.step c.is_err.result c.has_room-is_room.result
+    c.has_room-is_room.ensures c.is_err.ensures.value c.in_ok-check_entry.ensures.room)
     c.sync_drop-answer.ensures.step c.sync_drop-answer.ensures.lists c.of_sync_drop.ensures c.enter-slip.ensures.entered
     c.enter-slip.ensures.room refl).1
 
@@ -51,7 +44,9 @@ invariant_of-self-2 g c =
     (record { log = c.enter-slip.new.self; core = c.sync_drop-answer.new.self; errors = c.self.inside.recorder })
     c.args.seat.now c.enter-slip.new.seat c.enter-slip.result c.self.invariant
     (event.SyncDrop c.args.sync) (sync_dropped c.sync_drop-answer.result) c.of_sync_drop.result refl
-    (bare_drop c.sync_drop-answer.result) (has_its_room g (goal.at.invariant_of-self-2 g c).After-check_entry)
+    (bare_drop c.sync_drop-answer.result) (drop_fits c.self.inside.log c.self.inside.core.state c.self.invariant.0 c.args.sync c.sync_drop-answer.result
+    c.sync_drop-answer.new.self.state c.sync_drop-answer.ensures.step c.is_err.result c.has_room-is_room.result
+    c.has_room-is_room.ensures c.is_err.ensures.value c.in_ok-check_entry.ensures.room)
     c.sync_drop-answer.ensures.step c.sync_drop-answer.ensures.lists c.of_sync_drop.ensures c.enter-slip.ensures.entered
     c.enter-slip.ensures.room refl).1
 
