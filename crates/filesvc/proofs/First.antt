@@ -60,13 +60,13 @@ none_below s f first g less =
 -- its flush writes a page back, or fails
 pub first_fails : (old : SoloSeen) (f : FileId) (r : Reply) (new : SoloSeen) → IsFirstToWrite old.world.core f.0
     → (r ≡ reply.Written → ⊥) → IsFlush old f r new → FlushesOne old false new
-first_fails old f reply.Written new first no h = absurd (no refl)
-first_fails old f reply.Nothing new first no h =
+first_fails old f reply.Written new first apart h = absurd (apart refl)
+first_fails old f reply.Nothing new first apart h =
     let c = old.world.core in
     absurd (something (nat_le (length c.files) f.0) (is_full c) (flush_pick (file_at c f.0)) first.0 h.0)
-first_fails old f (reply.Refused NoSuchFile) new first no h =
+first_fails old f (reply.Refused NoSuchFile) new first apart h =
     absurd (let here = within old.world.core f.0 first.0 in let past = h.0 in omega arith)
-first_fails old f _ new first no h = inr h
+first_fails old f _ new first apart h = inr h
 
 -- ---- room
 
