@@ -1,5 +1,7 @@
-use Rattle.std.proofs.Common.{◌≡◌, true, refl, sym, subst, ◌∙◌}
+use Rattle.std.proofs.Common.{ap, refl, sym, subst, ◌∙◌}
+use Rattle.std.proofs.lemmas.Result.{err_from_is_err_and}
 use Rattle.cachecore.specs.Core.{Core}
+use Rattle.pc_types.specs.Limits.{Sizes}
 use Rattle.machine.specs.declared.event.Event.TheVariants as event
 use Rattle.cachecore.specs.Replies.{end_of, fill_ended}
 use Rattle.pc_types.specs.declared.kind.Kind.TheVariants.{Fill}
@@ -25,7 +27,7 @@ enter-slip-requires-clause-room g c =
     c.has_room-is_room.result c.has_room-is_room.ensures c.is_err.ensures.value c.in_ok-check_entry.ensures.room) c.fill_end-answer.ensures.step
     (fill_small s c.args.finished c.fill_end-answer.result _ c.is_well-is_read.result c.bytes_of-bytes.result.now
     c.fill_end-answer.ensures.step c.bytes_of-bytes.ensures c.fill_end-answer.ensures.back
-    (c.requires.size ∙ sym c.self.invariant.1.sized))
+    (c.requires.size ∙ ap (λ (z : Sizes). z.page) (sym c.self.invariant.1.sized)))
 
 pub invariant_of-self-2 : goal.invariant_of-self-2
 invariant_of-self-2 g c =
@@ -35,7 +37,7 @@ invariant_of-self-2 g c =
     c.args.seat.now c.enter-slip.new.seat c.enter-slip.result c.self.invariant
     c.args.finished c.end_without-end.result c.fill_end-answer.result c.of_fill_end-reply.result c.is_well-is_read.result
     c.bytes_of-bytes.result.now c.bytes_of-bytes.ensures c.is_well-is_read.ensures c.fill_end-answer.ensures.back
-    (c.requires.size ∙ sym c.self.invariant.1.sized)
+    (c.requires.size ∙ ap (λ (z : Sizes). z.page) (sym c.self.invariant.1.sized))
     (end_fits c.self.inside.log c.self.inside.core.state c.self.invariant.0 Fill (end_of c.args.finished)
     c.fill_end-answer.result c.fill_end-answer.new.self.state c.fill_end-answer.ensures.step refl c.is_err.result
     c.has_room-is_room.result c.has_room-is_room.ensures c.is_err.ensures.value c.in_ok-check_entry.ensures.room) c.end_without-end.ensures
@@ -48,7 +50,8 @@ returns-in_err-check_entry-clause-denied g c =
     let x = refused_by c.fill_end-answer.result c.is_err.result c.is_err.ensures.value c.in_err-check_entry.ensures.full.1 in
     let back = fill_back c.self.inside.core c.fill_end-answer.new.self (end_of c.args.finished) c.fill_end-answer.result
     c.fill_end-answer.ensures.step c.fill_end-answer.ensures.lists x.0 x.1 in
-    full_back (event.End Fill (end_of c.args.finished))
+    let p = err_from_is_err_and c.from_residual.result c.from_residual.ensures.1 in
+    rw (p.1, p.2) (full_back (event.End Fill (end_of c.args.finished))
     (record { log = c.self.inside.log; core = c.self.inside.core; errors = c.self.inside.recorder }) _ c.args.self.now
     c.args.seat.now _ c.self.view_is
     (λ i. record { log = c.self.inside.log; core = back i; errors = c.self.inside.recorder })
@@ -57,4 +60,4 @@ returns-in_err-check_entry-clause-denied g c =
     refl
     (end_needs s Fill (end_of c.args.finished) c.fill_end-answer.result c.fill_end-answer.new.self.state
     c.fill_end-answer.ensures.step) c.has_room-is_room.result c.has_room-is_room.ensures x.0 x.1
-    c.in_err-check_entry.ensures.full.2)
+    c.in_err-check_entry.ensures.full.2))

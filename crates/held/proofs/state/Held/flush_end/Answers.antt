@@ -1,4 +1,5 @@
-use Rattle.std.proofs.Common.{◌≡◌, true, refl, ap, sym, subst, ◌∙◌}
+use Rattle.std.proofs.Common.{refl, ap, sym, subst, ◌∙◌}
+use Rattle.std.proofs.lemmas.Result.{err_from_is_err_and}
 use Rattle.cachecore.specs.Core.{Core}
 use Rattle.cachecore.specs.Flushing.{flush_of}
 use Rattle.machine.specs.declared.event.Event.TheVariants as event
@@ -49,7 +50,8 @@ returns-in_err-check_entry-clause-denied g c =
     let x = refused_by c.flush_end-answer.result c.is_err.result c.is_err.ensures.value c.in_err-check_entry.ensures.full.1 in
     let back = flush_back c.self.inside.core c.flush_end-answer.new.self (end_of c.args.finished) c.flush_end-answer.result
     c.flush_end-answer.ensures.step c.flush_end-answer.ensures.lists x.0 x.1 in
-    full_back (event.End Flush (end_of c.args.finished))
+    let p = err_from_is_err_and c.from_residual.result c.from_residual.ensures.1 in
+    rw (p.1, p.2) (full_back (event.End Flush (end_of c.args.finished))
     (record { log = c.self.inside.log; core = c.self.inside.core; errors = c.self.inside.recorder }) _ c.args.self.now
     c.args.seat.now _ c.self.view_is
     (λ i. record { log = c.self.inside.log; core = back i; errors = c.self.inside.recorder })
@@ -58,4 +60,4 @@ returns-in_err-check_entry-clause-denied g c =
     refl
     (end_needs s Flush (end_of c.args.finished) c.flush_end-answer.result c.flush_end-answer.new.self.state
     c.flush_end-answer.ensures.step) c.has_room-is_room.result c.has_room-is_room.ensures x.0 x.1
-    c.in_err-check_entry.ensures.full.2)
+    c.in_err-check_entry.ensures.full.2))

@@ -1,4 +1,5 @@
-use Rattle.std.proofs.Common.{◌≡◌, true, refl, sym, subst}
+use Rattle.std.proofs.Common.{refl, sym, subst}
+use Rattle.std.proofs.lemmas.Result.{err_from_is_err_and}
 use Rattle.cachecore.specs.Core.{Core}
 use Rattle.machine.specs.declared.event.Event.TheVariants as event
 use Rattle.cachecore.specs.Replies.{sync_dropped}
@@ -55,11 +56,12 @@ returns-in_err-check_entry-clause-denied g c =
     let x = refused_by c.sync_drop-answer.result c.is_err.result c.is_err.ensures.value c.in_err-check_entry.ensures.full.1 in
     let back = drop_back c.self.inside.core c.sync_drop-answer.new.self c.args.sync c.sync_drop-answer.result
     c.sync_drop-answer.ensures.step c.sync_drop-answer.ensures.lists x.0 x.1 in
-    full_back (event.SyncDrop c.args.sync)
+    let p = err_from_is_err_and c.from_residual.result c.from_residual.ensures.1 in
+    rw (p.1, p.2) (full_back (event.SyncDrop c.args.sync)
     (record { log = c.self.inside.log; core = c.self.inside.core; errors = c.self.inside.recorder }) _ c.args.self.now
     c.args.seat.now _ c.self.view_is
     (λ i. record { log = c.self.inside.log; core = back i; errors = c.self.inside.recorder })
     c.in_err-check_entry.ensures.full.0
     (drop_is_full c.self.inside.log c.self.inside.core.state c.sync_drop-answer.new.self.state c.self.invariant.0
     c.args.sync c.sync_drop-answer.result c.sync_drop-answer.ensures.step c.has_room-is_room.result
-    c.has_room-is_room.ensures x.0 x.1 c.in_err-check_entry.ensures.full.2)
+    c.has_room-is_room.ensures x.0 x.1 c.in_err-check_entry.ensures.full.2))
