@@ -9,7 +9,6 @@ pub mod Enough
 pub mod FailedFlush
 pub mod FailedWrites
 pub mod Fills
-pub mod First
 pub mod Fronts
 pub mod Gains
 pub mod Laws
@@ -27,4 +26,5 @@ pub mod SyncLaws
 pub mod SyncsKept
 pub mod Touched
 pub mod Waiting
+pub mod Wanted
 pub mod WorldLaws

@@ -1,7 +1,7 @@
 use Rattle.std.proofs.Common.{ap, sym, subst, ◌∙◌}
 use Rattle.std.specs.Prelude.{IfSome}
 use Rattle.filesvc.specs.Rooms.{IsShort, refusal_of}
-use Rattle.filesvc.proofs.First.{wanted_is, wanted_short}
+use Rattle.filesvc.proofs.Wanted.{wanted_is, wanted_short}
 use Rattle.filesvc.proofs.solo.Solo.wants.Goals as goal
 
 pub returns-clause-wanted : goal.returns-clause-wanted
