@@ -15,5 +15,6 @@ mod room;
 mod solo;
 mod writes;
 
+pub use cursor::Seek;
 pub use handle::Handle;
 pub use solo::Solo;

@@ -4,8 +4,7 @@ ghost use Rattle.std.specs.Prelude.{◌≡◌, IfOk};
 
 use crate::checks::{check, same};
 use blockdev::MemDevice;
-use cursor::Seek;
-use filesvc::{Handle, Solo};
+use filesvc::{Handle, Seek, Solo};
 use pc_types::{ErrCode, FileId, Geometry, PageIndex, Refusal};
 use std::alloc::Global;
 use std::marker::Model;

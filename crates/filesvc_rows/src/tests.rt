@@ -8,8 +8,7 @@ ghost use Rattle.filesvc.specs.Service.{CameFrom, IsOnDevice, IsOpen, Names, Tel
 
 use crate::checks::{check, same};
 use blockdev::{BlockDevice, FaultEffect, ScriptDevice};
-use cursor::Seek;
-use filesvc::{Handle, Solo};
+use filesvc::{Handle, Seek, Solo};
 use pc_types::{BlockNo, ErrCode, FileId, Geometry, PageIndex, Refusal};
 use std::alloc::Global;
 use std::cell::Cell;
