@@ -1,7 +1,7 @@
 //! The end of a cache.
 
 ghost use Rattle.std.specs.Prelude.{◌≡◌, ◌≢◌, ◌↔◌, ◌⊎◌, ◌+◌, All, Any, IfErr, IfOk, IsErr, List, Some, true, vec_len};
-ghost use Rattle.crossbeam_queue.specs.Fifo.{Held};
+ghost use Rattle.crossbeam_queue.specs.Fifo as fifo;
 ghost use Rattle.crossbeam_queue.specs.Passes.{view};
 ghost use Rattle.ring.specs.Order.{Stands};
 ghost use mathlib.Core.List.{IsPrefix};
@@ -104,7 +104,7 @@ fn drain<B: Naming, D: BlockDevice, T: Trail, R: Wait>(
     ensures only { Only (λ e. IsEnd e.event) (seat_of own.old) (seat_of own.new) }
     ensures taken { AllOver own.old own.new state.new.core.state }
     ensures same { (pushed_by own.new ≡ pushed_by own.old) × ((view own.new.pass).alone ≡ (view own.old.pass).alone) }
-    ensures emptied { Held 0 (Stands (view own.new.pass)) }
+    ensures emptied { fifo.Held 0 (Stands (view own.new.pass)) }
 {
     'jobs: for _ in rt.forever() {
         let Some(job) = ring.pop(rt, &mut own.pass) else {
