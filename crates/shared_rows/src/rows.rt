@@ -22,8 +22,8 @@ use crate::worker_rows::{
     closes_with_a_full_ring, reads_beside_a_write, stops_with_a_full_ring, wakes_each_time,
 };
 use blockdev::{BlockDevice, FaultEffect, GatedDevice, ScriptDevice};
-use faulty::FaultyDevice;
 use cursor::Seek;
+use faulty::FaultyDevice;
 use held::log::Seat;
 use held::naming::Naming;
 use pc_types::{ErrCode, Geometry, Refusal};

@@ -4,8 +4,8 @@ ghost use Rattle.std.specs.Prelude.{◌≡◌};
 
 use crate::rows::Tested;
 use blockdev::{BlockDevice, Gate};
-use held::log::Seat;
 use held::denied::Denied;
+use held::log::Seat;
 use held::naming::Naming;
 use pc_types::{ErrCode, FileId, Refusal};
 use shared::handle::Handle;
