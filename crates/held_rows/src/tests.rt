@@ -77,7 +77,7 @@ pub(crate) fn reads<B: Naming, T: Trail>(
 
 /// A buffer for a page of the cache.
 fn buffer<B: Naming, T: Trail>(rt: &impl Abort, alloc: Global, held: &Held<B, T>) -> Buffer
-    ensures { length result ≡ held.now.core.state.sizes.page }
+    ensures { length result ≡ B.sizes.page }
 {
     Buffer::new(alloc, &held.core().geometry()).expect(rt, "a buffer")
 }
