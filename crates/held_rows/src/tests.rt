@@ -79,7 +79,13 @@ pub(crate) fn reads<B: Naming, T: Trail>(
 fn buffer<B: Naming, T: Trail>(rt: &impl Abort, alloc: Global, held: &Held<B, T>) -> Buffer
     ensures { length result ≡ B.sizes.page }
 {
-    Buffer::new(alloc, &held.core().geometry()).expect(rt, "a buffer")
+    zeros(rt, alloc, held.core())
+}
+
+fn zeros(rt: &impl Abort, alloc: Global, core: &CacheCore) -> Buffer
+    ensures { length result ≡ core.now.state.sizes.page }
+{
+    Buffer::new(alloc, &core.geometry()).expect(rt, "a buffer")
 }
 
 /// Makes the device call of a job, which is one for this device. Macros say so, since `perform` requires it.
