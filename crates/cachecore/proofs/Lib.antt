@@ -37,3 +37,4 @@ pub mod WriteLemmas
 pub mod WriteMoves
 pub mod WriteSteps
 pub mod ToWrite
+pub mod Wanted

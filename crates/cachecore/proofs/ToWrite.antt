@@ -28,7 +28,7 @@ none_on s n before here g less =
     ] refl
 
 -- no file past the last has
-nothing_past : (s : State) (f : ℕ) → length s.files ≤ f → flush_pick (file_at s f) ≡ None
+pub nothing_past : (s : State) (f : ℕ) → length s.files ≤ f → flush_pick (file_at s f) ≡ None
 nothing_past s f past = ap flush_pick (get_or_past s.files f no_file past) ∙ none
   where
     nil : (es : List (ℕ × Page)) → length es ≡ 0 → es ≡ []

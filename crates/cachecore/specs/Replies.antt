@@ -198,6 +198,12 @@ flush_ended (Ok (ended.Failed code _)) = reply.Failed code
 flush_ended (Ok (ended.Done _)) = reply.Written
 flush_ended (Err e) = reply.Refused e.refusal
 
+-- the buffer that comes back with the end of a request
+abbrev pub buffer_of : Ended → List ℕ
+buffer_of (ended.Dropped buffer) = buffer
+buffer_of (ended.Failed code buffer) = buffer
+buffer_of (ended.Done buffer) = buffer
+
 -- the buffer comes back, and where the end is refused all that was handed in
 abbrev pub EndGivesBack : FinishedTask → Result Ended RefusedEnd → Type 0
 EndGivesBack f (Ok (ended.Dropped buffer)) = buffer ≡ f.bytes

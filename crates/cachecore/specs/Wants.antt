@@ -1,9 +1,13 @@
--- Which room a call wants: frames for the pages that it lacks, and room for those that it makes dirty. No event asks
--- for it.
-use Rattle.std.specs.Prelude.{◌≡◌, ◌<◌, ℕ, ◌+◌, ◌-◌, Bool, true, not, ◌&&◌, if◌then◌else◌, None, is_some, nat_lt, nat_le, count_by}
+-- Which room a call wants: frames for the pages that it lacks, and room for those that it makes dirty; and what is in
+-- flight. No event asks for it.
+use Rattle.std.specs.Prelude.{◌≡◌, ◌<◌, ℕ, ◌+◌, ◌-◌, Bool, true, not, ◌&&◌, if◌then◌else◌, Option, Some, None, is_some, nat_lt, nat_le, count_by}
 use Rattle.std.specs.FinMap as map
 use Rattle.std.specs.List.{list_any}
 use Rattle.pc_types.specs.declared.limits.TheConstants.{MAX_FILE_SIZE, MAX_TOUCHED}
+use Rattle.pc_types.specs.Kinds.{is_fill, is_flush}
+use Rattle.cachecore.specs.declared.answers.InFlight.{InFlight}
+use Rattle.cachecore.specs.declared.answers.Want.{Want}
+use Rattle.cachecore.specs.declared.answers.Want.TheVariants.{Clean, Frames}
 use Rattle.machine.specs.Changes.{flush_pick}
 use Rattle.machine.specs.State.{State, dirty_total, file_at, handle_file, free_frames, is_cached, is_open, tags_at}
 use Rattle.machine.specs.State.{touched, touched_count}
@@ -34,6 +38,25 @@ abbrev pub passes_limit : State → ℕ → ℕ → ℕ → Bool
 passes_limit s h o n =
     let more = dirtied s (handle_file s h) o n in
     may_touch s h o n && (nat_lt 0 more && nat_lt s.sizes.dirty_limit (dirty_total s + more))
+
+-- which room a call on n bytes at o wants, that makes their pages dirty or not: so many more free frames, or fewer dirty pages
+abbrev pub wants : Bool → State → ℕ → ℕ → ℕ → Option Want
+wants dirties s h o n =
+    if lacks_frames s h o n then Some (Frames (frames_short s h o n))
+    else if dirties && passes_limit s h o n then Some Clean else None
+
+-- how many requests of each kind are in flight, and how many syncs in progress
+abbrev pub in_flight : State → InFlight
+in_flight s =
+    record {
+      fills = count_by (λ x. is_fill x.kind) (map.values s.requests);
+      flushes = count_by (λ x. is_flush x.kind) (map.values s.requests);
+      syncs = map.len s.syncs;
+    }
+
+-- some request is in flight
+abbrev pub is_busy : State → Bool
+is_busy s = nat_lt 0 (map.len s.requests)
 
 -- whether a request in flight is dropped. It holds its block until it ends, though the page is cut off that it was of
 abbrev pub holds_cut : State → Bool

@@ -3,6 +3,14 @@
 use blockdev::{Buffer, Finished, Job};
 use pc_types::{ErrCode, PageIndex, Refusal, Tags};
 
+/// How many requests of each kind are in flight, and how many syncs are in progress.
+#[derive(Clone, Copy, PartialEq, Eq, Debug)]
+pub struct InFlight {
+    pub fills: u64,
+    pub flushes: u64,
+    pub syncs: u64,
+}
+
 /// What a read answers.
 #[derive(Clone, Copy, PartialEq, Eq, Debug)]
 pub enum ReadAnswer {
@@ -86,6 +94,15 @@ pub enum TruncateAnswer {
     Wait(PageIndex),
     /// The page that is cut into has to be filled first.
     Miss(PageIndex),
+}
+
+/// Which room a call wants.
+#[derive(Clone, Copy, PartialEq, Eq, Debug)]
+pub enum Want {
+    /// So many more free frames.
+    Frames(u64),
+    /// Fewer dirty pages.
+    Clean,
 }
 
 /// A refusal, with the buffer that was handed in.

@@ -1,5 +1,5 @@
 //! Requests that begin, are carried out and end in one call, for a cache that one thread has: the device reads into the page's own
-//! frame and writes from it, so no job has a copy of the bytes.
+//! frame and writes from it, so no job has a copy of the bytes (decision 161).
 
 ghost use Rattle.std.specs.Prelude.{◌≡◌, ℕ};
 ghost use Rattle.std.specs.FinMap as map;

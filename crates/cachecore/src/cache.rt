@@ -250,7 +250,7 @@ impl CacheCore {
         requires below { page < MAX_PAGES }
         ensures { result ≡ must_fill self.now.state file page }
     {
-        // first, since most pages are cached, and a page is found in fewer steps than its block
+        // first, since most pages are cached, and a page is found in fewer steps than its block (decision 168)
         if self.pages.is_cached(file, page) {
             return false;
         }
@@ -325,7 +325,7 @@ impl CacheCore {
     }
 
     /// Writes the bytes where they are all of one page that is DIRTY. Such a page has its frame and its block, so no test stops
-    /// or refuses the write. Answers whether that was done.
+    /// or refuses the write (decision 71). Answers whether that was done.
     fn overwrite(&mut self, file: u64, offset: u64, bytes: &[u8]) -> bool
         requires open { (h : ℕ) × (map.get self.old.state.handles h ≡ Some file) }
         requires some { 0 < length bytes.now }

@@ -28,7 +28,7 @@ pub fn lacks_blocks(blocks: &BlockMap, file: u64, first: u64, end: u64) -> bool
 
 /// Gives each page of the span from `next` on that has no block the lowest free one, and then writes the bytes into the span's
 /// pages. Where memory is refused, what was given is taken back, the last first. It calls itself once a page: at most 16
-/// times in a call of the cache (no clause says so).
+/// times in a call of the cache (no clause says so). Decision 69.
 pub fn place(
     pages: &mut Pages,
     blocks: &mut BlockMap,

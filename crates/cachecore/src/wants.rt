@@ -1,10 +1,11 @@
-//! Which room a call wants, and which file has a page to write. Asking is no event.
+//! Which room a call wants, what is in flight, and which file has a page to write. Asking is no event.
 
 ghost use Rattle.std.specs.Prelude.{◌≡◌, ◌+◌, ◌-◌, ◌/◌, ◌<◌, ◌≤◌, IfNone, IfSome, length, true, false};
-ghost use Rattle.pc_types.specs.declared.limits.TheConstants.{MAX_FILE_SIZE, MAX_TOUCHED};
+ghost use Rattle.pc_types.specs.declared.limits.TheConstants.{MAX_FILE_SIZE, MAX_IN_FLIGHT, MAX_SYNCS, MAX_TOUCHED};
 ghost use Rattle.machine.specs.State.{free_frames, handle_file};
-ghost use Rattle.cachecore.specs.Wants.{IsFirstToWrite, NothingToWrite, frames_short, holds_cut, lacks_frames, may_touch, passes_limit};
+ghost use Rattle.cachecore.specs.Wants.{IsFirstToWrite, NothingToWrite, holds_cut, in_flight, is_busy, may_touch, wants};
 
+use crate::answers::{InFlight, Want};
 use crate::cache::{CacheCore, is_too_long};
 use pc_types::limits::MAX_FILE_SIZE;
 use pc_types::{FileId, HandleId};
@@ -17,26 +18,20 @@ struct Touched {
 }
 
 impl CacheCore {
-    /// Whether fewer frames are free than pages are absent which these bytes of the handle's file touch. `false` where no call
-    /// may touch them.
-    pub fn lacks_frames(&self, handle: HandleId, offset: u64, count: u64) -> bool
-        ensures { result ≡ lacks_frames self.now.state handle.0 offset count }
+    /// Which room a call wants that touches these bytes of the handle's file: frames for the pages that are absent, or, if it makes
+    /// its pages dirty, fewer dirty ones. `None` where no call may touch them. It looks each page up twice at most.
+    pub fn wants(&self, handle: HandleId, offset: u64, count: u64, dirties: bool) -> Option<Want>
+        ensures { result ≡ wants dirties self.now.state handle.0 offset count }
     {
-        let Some(Touched { file, first, end }) = self.touched(handle, offset, count) else {
-            return false;
-        };
-        self.pages.lacks_frames(file, first, end)
-    }
-
-    /// How many frames fewer are free than pages are absent which these bytes of the handle's file touch: 0 where as many are free,
-    /// and where no call may touch them. It looks each page up once at most.
-    pub fn frames_short(&self, handle: HandleId, offset: u64, count: u64) -> u64
-        ensures { result ≡ frames_short self.now.state handle.0 offset count }
-    {
-        let Some(Touched { file, first, end }) = self.touched(handle, offset, count) else {
-            return 0;
-        };
-        self.pages.frames_short(file, first, end)
+        let Touched { file, first, end } = self.touched(handle, offset, count)?;
+        let short = self.pages.frames_short(file, first, end);
+        if short > 0 {
+            return Some(Want::Frames(short));
+        }
+        if dirties && self.is_over_limit(file, first, end) {
+            return Some(Want::Clean);
+        }
+        None
     }
 
     /// How many frames are free.
@@ -44,6 +39,25 @@ impl CacheCore {
         ensures { result ≡ free_frames self.now.state }
     {
         self.pages.free_frames()
+    }
+
+    /// What is in flight.
+    pub fn in_flight(&self) -> InFlight
+        ensures value { result ≡ in_flight self.now.state }
+        ensures few { (result.flushes ≤ MAX_IN_FLIGHT) × (result.syncs ≤ MAX_SYNCS) }
+    {
+        InFlight {
+            fills: self.requests.fills(),
+            flushes: self.requests.flushes(),
+            syncs: self.syncs.len(),
+        }
+    }
+
+    /// Whether a request is in flight. Only then does waiting for the end of one serve.
+    pub fn is_busy(&self) -> bool
+        ensures { result ≡ is_busy self.now.state }
+    {
+        self.requests.len() > 0
     }
 
     /// Whether a request in flight is dropped. Its block is free when it ends.
@@ -64,17 +78,6 @@ impl CacheCore {
             }
         }
         None
-    }
-
-    /// Whether too many pages would be dirty with those that these bytes of the handle's file touch. `false` where no call may
-    /// touch them.
-    pub fn passes_limit(&self, handle: HandleId, offset: u64, count: u64) -> bool
-        ensures { result ≡ passes_limit self.now.state handle.0 offset count }
-    {
-        let Some(Touched { file, first, end }) = self.touched(handle, offset, count) else {
-            return false;
-        };
-        self.is_over_limit(file, first, end)
     }
 
     /// The pages that these bytes of the handle's file touch, where a call may touch them.

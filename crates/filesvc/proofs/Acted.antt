@@ -18,8 +18,8 @@ use Rattle.runs.proofs.moments.KeptRequests.{is_job}
 use Rattle.runs.proofs.moments.Reached.{files_step, reached_step}
 use Rattle.world.proofs.Stays.{stays}
 use Rattle.filesvc.proofs.FailedWrites.{core_sound}
-use Rattle.filesvc.proofs.FileSizes.{bounded_stays, few_stays}
-use Rattle.filesvc.proofs.Orderly.{orderly_stays}
+use Rattle.orderly.proofs.FileSizes.{bounded_stays, few_stays}
+use Rattle.orderly.proofs.Orderly.{orderly_stays}
 use Rattle.filesvc.specs.Rests.{IsResting, IsService, IsServing}
 
 resting : (w : WorldSeen) → IsResting w → NoneInFlight (world_of w)

@@ -39,14 +39,14 @@ use Rattle.filesvc.specs.Service.{FilesAfter, IsOpen, IsRefusal, IsSettledAtOnce
 use Rattle.filesvc.specs.Service.{Refuses, Serves, Tells, files, is_settled, length_after, touched_by, wanted_by, wrote_reply}
 use Rattle.filesvc.proofs.Acted.{service_acted}
 use Rattle.filesvc.proofs.CallSteps.{call_keeps, call_no_sync, comes, is_call, is_own, no_job, own_reply, plain_refused, appended_all, wrote_all}
-use Rattle.filesvc.proofs.FileSizes.{lengths_stay}
+use Rattle.orderly.proofs.FileSizes.{lengths_stay}
 use Rattle.filesvc.proofs.Laws.{helps_refl, tries_again, keeps_counted, keeps_trans, serves_counted, serves_refl, serves_trans}
 use Rattle.filesvc.proofs.Fronts.{closed_refuses, handle_of, kept_refuses}
 use Rattle.filesvc.proofs.RoomLaws.{faulted_before, held_same}
 use Rattle.filesvc.specs.Rooms.{IsFillRefusal, IsHelpRefusal, IsWayRefusal}
 use Rattle.filesvc.proofs.Needs.{need_most}
 use Rattle.filesvc.proofs.CallLengths.{length_kept, quiet_length, step_length}
-use Rattle.filesvc.specs.Rests.{IsOrderly}
+use Rattle.orderly.specs.Orderly.{IsOrderly}
 use Rattle.filesvc.proofs.Stops.{read_few, write_few}
 use Rattle.filesvc.proofs.WorldLaws.{made_keeps}
 

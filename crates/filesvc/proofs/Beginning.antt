@@ -14,8 +14,8 @@ use Rattle.machine.proofs.sound.Steps.{histories_are_sound}
 use Rattle.world.specs.Stepping.{WorldSeen, first_world, world_of}
 use Rattle.pc_types.specs.Limits.{Sizes}
 use Rattle.runs.proofs.moments.Reached.{reached_first}
-use Rattle.filesvc.specs.Rests.{IsOrderly}
-use Rattle.filesvc.proofs.Orderly.{first_orderly}
+use Rattle.orderly.specs.Orderly.{IsOrderly}
+use Rattle.orderly.proofs.Orderly.{first_orderly}
 
 pub reached_at : (w : WorldSeen) (d : Told) → w.device ≡ d → IfSome d.contents (λ _. IsFirst (world_of w)) → is_some w.device.contents ≡ true → IsReached (world_of w)
 reached_at w d same first tells = reached_first (world_of w) (go d.contents first (sym (ap (λ (x : Told). is_some x.contents) same) ∙ tells))

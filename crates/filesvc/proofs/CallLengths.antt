@@ -20,7 +20,7 @@ use Rattle.machine.specs.Step.{Step}
 use Rattle.machine.proofs.changes.StateLaws.{file_at-put}
 use Rattle.machine.proofs.steps.Answered.{IsWrite, is_quiet, stopped_quiet}
 use Rattle.machine.proofs.steps.Cases.{Cases, answered, by_cases}
-use Rattle.filesvc.specs.Rests.{IsOrderly}
+use Rattle.orderly.specs.Orderly.{IsOrderly}
 use Rattle.filesvc.specs.Service.{length_after}
 use Rattle.filesvc.proofs.CallSteps.{is_call}
 

@@ -32,7 +32,7 @@ use Rattle.runs.proofs.moments.Histories.{core_step}
 use Rattle.runs.proofs.events.Lookups.{cached_within}
 use Rattle.machine.proofs.sound.Lookups.{get_or-default}
 use Rattle.cachecore.specs.Flushing.{flush_of, flushed_file}
-use Rattle.filesvc.proofs.FileSteps.{one_same}
+use Rattle.orderly.proofs.FileSteps.{one_same}
 
 abbrev pub failures_in : State → ℕ → ℕ
 failures_in s f = (file_at s f).failures

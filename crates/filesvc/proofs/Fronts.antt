@@ -16,7 +16,8 @@ use Rattle.machine.proofs.steps.Choices.{at_true, quiet_if, quiet_none}
 use Rattle.machine.proofs.steps.Answered.{stopped_quiet}
 use Rattle.filesvc.specs.Seen.{SoloSeen}
 use Rattle.filesvc.specs.Service.{Refuses, Serves}
-use Rattle.filesvc.proofs.CallSteps.{is_call, quiet_first}
+use Rattle.filesvc.proofs.CallSteps.{is_call}
+use Rattle.orderly.proofs.Calls.{quiet_first}
 
 abbrev pub handle_of : Event → ℕ
 handle_of (event.Read h o n) = h.0

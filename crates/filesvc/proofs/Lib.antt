@@ -8,8 +8,6 @@ pub mod Coming
 pub mod Enough
 pub mod FailedFlush
 pub mod FailedWrites
-pub mod FileSizes
-pub mod FileSteps
 pub mod Fills
 pub mod Fronts
 pub mod Gains
@@ -18,7 +16,6 @@ pub mod Lightens
 pub mod Load
 pub mod Needs
 pub mod Noted
-pub mod Orderly
 pub mod Polled
 pub mod Ranged
 pub mod RoomLaws
@@ -29,4 +26,5 @@ pub mod SyncLaws
 pub mod SyncsKept
 pub mod Touched
 pub mod Waiting
+pub mod Wanted
 pub mod WorldLaws

@@ -32,7 +32,7 @@ use Rattle.maps.proofs.Maps.{get_left}
 use Rattle.runs.proofs.events.Lookups.{cached_within}
 use Rattle.runs.proofs.moments.FrameCounts.{cached_set}
 use Rattle.std.proofs.lemmas.List.{set_past}
-use Rattle.filesvc.proofs.FileSteps.{within}
+use Rattle.orderly.proofs.FileSteps.{within}
 use Rattle.filesvc.specs.Rooms.{StaysAbsent, load}
 
 -- no page has become cached

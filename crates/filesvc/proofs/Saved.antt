@@ -18,13 +18,14 @@ use Rattle.runs.specs.World.{World, on_device}
 use Rattle.world.specs.Flushing.{IsFlushedOnce}
 use Rattle.world.specs.Stepping.{WorldSeen, world_of}
 use Rattle.filesvc.specs.Made.{Moves, is_for_sync}
-use Rattle.filesvc.specs.Rests.{IsOrderly, IsService}
+use Rattle.filesvc.specs.Rests.{IsService}
+use Rattle.orderly.specs.Orderly.{IsOrderly}
 use Rattle.filesvc.specs.Saving.{Ends, IsSaveRefusal, IsUnflushed, SaveEnds, answer_of}
 use Rattle.filesvc.specs.Seen.{HandleSeen, SoloSeen}
 use Rattle.filesvc.specs.Service.{AreOnDevice, IsPolled, IsSyncRefusal, IsTallied, Reports, Serves, errors_of}
 use Rattle.filesvc.specs.Service.{is_reported, is_untold, untold_since}
 use Rattle.filesvc.specs.Syncs.{service_of}
-use Rattle.filesvc.proofs.FileSteps.{within}
+use Rattle.orderly.proofs.FileSteps.{within}
 use Rattle.filesvc.proofs.Laws.{keeps_refl, since_same}
 
 -- ---- a flush

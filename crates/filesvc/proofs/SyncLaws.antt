@@ -45,13 +45,14 @@ use Rattle.world.proofs.RangeSync.{IsRangeSynced, SyncsRange, is_of_sync, range_
 use Rattle.world.proofs.SyncStays.{is_over, never_waits, over_leaves_files, sync_stays, syncs_stay}
 use Rattle.runs.proofs.syncs.Track.{move_tracked}
 use Rattle.cachecore.specs.Replies.{is_job}
-use Rattle.filesvc.specs.Rests.{AtOnce, IsOrderly, IsResting, IsService, IsServing}
+use Rattle.filesvc.specs.Rests.{AtOnce, IsResting, IsService, IsServing}
+use Rattle.orderly.specs.Orderly.{IsOrderly}
 use Rattle.filesvc.specs.Seen.{SoloSeen}
 use Rattle.filesvc.specs.Service.{AreOnDevice, IsOnDevice, IsSyncRefusal, IsTallied, Serves, ServesBut, Tells, files}
 use Rattle.filesvc.specs.Syncs.{Drops, SyncTurn, clean_or, is_sync_end, service_of, sync_end_of}
 use Rattle.filesvc.specs.Made.{Moves, Syncs, Writes, is_for_sync, is_sync_write}
 use Rattle.filesvc.proofs.Laws.{moves_also, moves_refl, moves_trans, one_move, three, serves_refl}
-use Rattle.filesvc.proofs.Orderly.{none_under}
+use Rattle.orderly.proofs.Orderly.{none_under}
 use Rattle.filesvc.proofs.RoomLaws.{held_same, no_serial}
 use Rattle.filesvc.proofs.SyncsKept.{OnlySync, begin_refused, dropped_none, finish_none, only_left, over_none, step_none}
 use Rattle.filesvc.proofs.Waiting.{begin_tags, finish_waits, step_takes, waiting}

@@ -38,7 +38,7 @@ use Rattle.runs.specs.Syncing.{dirty_between}
 use Rattle.runs.specs.World.{World, Finish, WorldStep}
 use Rattle.runs.proofs.events.Lookups.{cached_within}
 use Rattle.world.proofs.InFlight.{finish_step}
-use Rattle.filesvc.proofs.FileSteps.{within}
+use Rattle.orderly.proofs.FileSteps.{within}
 use Rattle.filesvc.proofs.Ranged.{Passes, ranged, ranged_dirty, ranged_le, ranged_lt}
 
 abbrev is_waiting : Page → Bool

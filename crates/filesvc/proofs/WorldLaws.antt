@@ -44,16 +44,17 @@ use Rattle.runs.proofs.moments.Reached.{files_step, reached_step}
 use Rattle.world.proofs.Stays.{handles_stay, keeps_handles, stays}
 use Rattle.runs.proofs.views.View.{put1_here}
 use Rattle.cachecore.specs.Replies.{is_job}
-use Rattle.filesvc.specs.Rests.{AtOnce, IsAlone, IsNoted, IsOrderly, IsResting, IsService, IsServing}
+use Rattle.filesvc.specs.Rests.{AtOnce, IsAlone, IsNoted, IsResting, IsService, IsServing}
+use Rattle.orderly.specs.Orderly.{IsOrderly}
 use Rattle.filesvc.specs.Seen.{SoloSeen}
 use Rattle.filesvc.specs.Service.{IsCoded, Keeps, Serves, Tells, files, untold_since}
 use Rattle.filesvc.proofs.FailedWrites.{act_codes, act_failures, core_sound, failures_in, finish_codes, finish_rises}
 use Rattle.filesvc.proofs.Noted.{Notes, change_alike, count_in, noted_codes, noted_rises, noted_untold, notes, rise_alike, untold_in}
-use Rattle.filesvc.proofs.FileSizes.{AreBounded, bounded_stays, leaves_lengths, lengths_stay}
+use Rattle.orderly.proofs.FileSizes.{AreBounded, bounded_stays, leaves_lengths, lengths_stay}
 use Rattle.filesvc.specs.Attempts.{Helps}
 use Rattle.filesvc.specs.Made.{Moves, is_help}
 use Rattle.filesvc.proofs.Laws.{one_move, three, serves_refl, serves_trans, since_same}
-use Rattle.filesvc.proofs.Orderly.{orderly_stays}
+use Rattle.orderly.proofs.Orderly.{orderly_stays}
 
 -- ---- a device call, on the device
 

@@ -7,14 +7,14 @@ use Rattle.errboard.specs.Shown.{RecorderSeen, is_told}
 use Rattle.errboard.specs.Steps.{with_recording}
 use Rattle.errseq.specs.declared.recording.Recording.{Recording}
 use Rattle.pc_types.specs.declared.ids.Serial.{Serial}
-use Rattle.pc_types.specs.declared.kind.Kind.TheVariants.{Flush}
 use Rattle.pc_types.specs.declared.limits.TheConstants.{MAX_FILES, MAX_FILE_SIZE, MIN_DIRTY_LIMIT, MIN_FRAMES, MIN_PAGE_SIZE}
 use Rattle.machine.specs.declared.event.Reply.{Reply}
 use Rattle.machine.specs.declared.event.Reply.TheVariants as reply
 use Rattle.cachecore.specs.Flushing.{flush_of}
 use Rattle.cachecore.specs.Replies.{is_job}
 use Rattle.machine.specs.Sound.{Sound}
-use Rattle.machine.specs.State.{Request, State, file_at, handle_file, has_block, is_open, page_count, tags_at}
+use Rattle.machine.specs.State.{Request, file_at}
+use Rattle.orderly.specs.Orderly.{IsOrderly}
 use Rattle.world.specs.declared.step.Step.{Step}
 use Rattle.world.specs.declared.step.Step.TheVariants as step
 use Rattle.runs.specs.Reached.{IsReached}
@@ -24,24 +24,6 @@ use Rattle.world.specs.Stepping.{WorldSeen, IsMade, Plays, world_of}
 pub record IsResting (w : WorldSeen) : Type 0 where
   pub requests : w.core.requests ≡ finmap.empty
   pub outcomes : w.outcomes ≡ finmap.empty
-
--- a write of page p of file f by way of block k
-abbrev pub write_of : ℕ → ℕ → ℕ → Request
-write_of f p k = record { kind = Flush; file = f; page = p; block = k; dropped = false }
-
--- such a write is in flight
-abbrev pub IsUnderWrite : State → ℕ → ℕ → Type 0
-IsUnderWrite s f p = (t k : ℕ) × (finmap.get s.requests t ≡ Some (write_of f p k))
-
--- what every step of the cache keeps, whatever bytes its device gives
-pub record IsOrderly (s : State) : Type 0 where
-  pub positive : 0 < s.sizes.page
-  -- a page with a block is a page of its file
-  pub within : (f p : ℕ) → has_block s f p ≡ true → p < page_count s.sizes.page (file_at s f).size
-  -- a page under WRITEBACK has its write in flight
-  pub flush : (f p : ℕ) → (tags_at s f p).writeback ≡ true → IsUnderWrite s f p
-  -- an open handle has a file
-  pub handles : (h : ℕ) → is_open s h ≡ true → handle_file s h < length s.files
 
 -- what holds of a service between its calls, and while a call of it syncs a file
 pub record IsServing (name : ℕ) (w : WorldSeen) (table : TableId) (errors : RecorderSeen) : Type 0 where

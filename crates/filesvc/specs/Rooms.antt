@@ -14,8 +14,8 @@ use Rattle.machine.specs.Step.{Step}
 use Rattle.machine.specs.Tests.{tests}
 use Rattle.cachecore.specs.Wants.{frames_short, lacking, lacks_frames, may_touch, passes_limit}
 use Rattle.world.specs.declared.step.Step.TheVariants as step
-use Rattle.filesvc.specs.declared.room.Want.{Want}
-use Rattle.filesvc.specs.declared.room.Want.TheVariants.{Clean, Frames}
+use Rattle.cachecore.specs.declared.answers.Want.{Want}
+use Rattle.cachecore.specs.declared.answers.Want.TheVariants.{Clean, Frames}
 use Rattle.filesvc.specs.Made.{FailsFill, WantsMemory, asked}
 use Rattle.filesvc.specs.Rests.{AtOnce}
 use Rattle.filesvc.specs.Seen.{SoloSeen}

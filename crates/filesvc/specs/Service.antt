@@ -1,5 +1,5 @@
 -- What holds of a service for one thread, in the terms of its callers: plain files, failed writes, and the answers of the cache.
-use Rattle.std.specs.Prelude.{◌≡◌, ◌≢◌, ℕ, ℤ, pos, negsuc, ◌+ℤ◌, ◌+◌, ◌-◌, ◌<◌, ◌≤◌, nat_le, nat_lt, max, not, ◌==◌, ◌&&◌, ◌⊎◌, Bool}
+use Rattle.std.specs.Prelude.{◌≡◌, ◌≢◌, ℕ, ◌+◌, ◌-◌, ◌<◌, ◌≤◌, nat_lt, max, not, ◌==◌, ◌&&◌, ◌⊎◌, Bool}
 use Rattle.std.specs.Prelude.{true, false, if◌then◌else◌, List, length, take, drop, Option, Some, None, is_some, Result}
 use Rattle.std.specs.Prelude.{Ok, Err, IfSome, IfNone}
 use Rattle.std.specs.FinMap as finmap
@@ -7,7 +7,7 @@ use mathlib.Core.List.{IsPrefix}
 use Rattle.blockdev.specs.Device.{max_calls}
 use Rattle.pc_types.specs.Files.{page_of}
 use Rattle.pc_types.specs.declared.ids.PageIndex.{PageIndex}
-use Rattle.pc_types.specs.declared.limits.TheConstants.{MAX_FILE_SIZE, SERIAL_END}
+use Rattle.pc_types.specs.declared.limits.TheConstants.{SERIAL_END}
 use Rattle.pc_types.specs.declared.refusal.Refusal.{Refusal}
 use Rattle.pc_types.specs.declared.refusal.Refusal.TheVariants.{BadHandle, DirtyLimit, Io, Memory, NoFrame, NoSpace}
 use Rattle.pc_types.specs.declared.refusal.Refusal.TheVariants.{TooLarge, TooLong, TooManyInFlight}
@@ -28,8 +28,8 @@ use Rattle.runs.specs.Plain.{Plain, plain_after, plain_file}
 use Rattle.runs.specs.Reached.{files_seen}
 use Rattle.world.specs.Stepping.{world_of}
 use Rattle.runs.specs.World.{on_device}
-use Rattle.filesvc.specs.declared.seek.Seek.{Seek}
-use Rattle.filesvc.specs.declared.seek.Seek.TheVariants.{Set, Cur, End}
+use Rattle.cursor.specs.declared.seek.Seek.{Seek}
+use Rattle.cursor.specs.declared.seek.Seek.TheVariants.{End}
 use Rattle.filesvc.specs.Seen.{HandleSeen, SoloSeen}
 
 -- ---- what is read off a service
@@ -241,19 +241,6 @@ IsCounted s h = IsWithinTurn (raised (drop h.pass.done (errors_of s h.file)))
 -- a write of the file failed during the call
 abbrev pub HasFailed : SoloSeen → SoloSeen → ℕ → Type 0
 HasFailed old new f = failures_of new f ≢ failures_of old f
-
--- ---- a cursor
-
--- where a cursor is to be put
-abbrev pub target : Seek → ℕ → ℕ → ℤ
-target (Set n) cursor size = pos n
-target (Cur d) cursor size = pos cursor +ℤ d
-target (End d) cursor size = pos size +ℤ d
-
--- it may stand from 0 to the greatest size of a file
-abbrev pub placed : ℤ → Result ℕ Refusal
-placed (pos n) = if nat_le n MAX_FILE_SIZE then Ok n else Err TooLarge
-placed (negsuc n) = Err TooLarge
 
 -- ---- handles that come and go
 

@@ -10,13 +10,13 @@ ghost use Rattle.machine.specs.Step.{Step};
 ghost use Rattle.world.specs.Stepping.{Steps};
 ghost use Rattle.world.specs.declared.step.Step.TheVariants as step;
 ghost use Rattle.errseq.specs.Recorded.{last_code};
-ghost use Rattle.filesvc.specs.Service.{CameFrom, FilesAfter, IsAsBefore, close_reply, IsCounted, IsTold, IsUntried, Names, Opened, Owes, errors_of, is_untold, looks_of, open_reply, placed, target};
+ghost use Rattle.filesvc.specs.Service.{CameFrom, FilesAfter, IsAsBefore, close_reply, IsCounted, IsTold, IsUntried, Names, Opened, Owes, errors_of, is_untold, looks_of, open_reply};
+ghost use Rattle.cursor.specs.Places.{placed, target};
 
 use crate::handle::Handle;
-use crate::seek::Seek;
 use crate::solo::Solo;
 use blockdev::BlockDevice;
-use pc_types::limits::MAX_FILE_SIZE;
+use cursor::Seek;
 use pc_types::{ErrCode, FileId, Refusal};
 
 impl<D: BlockDevice> Solo<D> {
@@ -103,14 +103,14 @@ impl<D: BlockDevice> Solo<D> {
         if handle.cache != self.name {
             return Err(Refusal::BadHandle);
         }
-        let at = match place {
-            Seek::Set(at) => within(at),
-            Seek::Cur(by) => moved(handle.cursor, by),
-            Seek::End(by) => {
+        let size = match place {
+            Seek::End(_) => {
                 self.attempts = 1;
-                moved(self.world.size(handle.number)?, by)
+                self.world.size(handle.number)?
             }
-        }?;
+            _ => 0,
+        };
+        let at = place.offset(handle.cursor, size)?;
         handle.cursor = at;
         Ok(at)
     }
@@ -134,28 +134,4 @@ impl<D: BlockDevice> Solo<D> {
         }
         Ok(self.recorder.poll(&mut handle.pass))
     }
-}
-
-/// A place that a cursor may have.
-pub(crate) fn within(at: u64) -> Result<u64, Refusal>
-    ensures { result ≡ placed (pos at) }
-{
-    if at > MAX_FILE_SIZE {
-        return Err(Refusal::TooLarge);
-    }
-    Ok(at)
-}
-
-/// The place that is so far after this one, or before it.
-pub(crate) fn moved(from: u64, by: i64) -> Result<u64, Refusal>
-    ensures { result ≡ placed (pos from +ℤ by) }
-{
-    let far = by.unsigned_abs();
-    if by >= 0 {
-        return within(from.saturating_add(far));
-    }
-    if far > from {
-        return Err(Refusal::TooLarge);
-    }
-    within(from - far)
 }

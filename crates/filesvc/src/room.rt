@@ -12,8 +12,7 @@ ghost use Rattle.filesvc.specs.Service.{wants};
 use crate::requests::{fill_page, flush_page};
 use crate::solo::Solo;
 use blockdev::BlockDevice;
-use cachecore::Reply;
-use pc_types::limits::MAX_FILES;
+use cachecore::{Reply, Want};
 use pc_types::{FileId, HandleId, PageIndex, Refusal};
 
 /// The bytes of a handle's file that a call reads or changes, whose pages it needs.
@@ -26,18 +25,9 @@ pub(crate) struct Span {
     pub(crate) dirties: bool,
 }
 
-/// Which room a call wants.
-#[derive(Clone, Copy)]
-enum Want {
-    /// So many more free frames.
-    Frames(u64),
-    /// Fewer dirty pages.
-    Clean,
-}
-
 impl<D: BlockDevice> Solo<D> {
     /// Fills a page that a call on this span of bytes lacks. First room is made for all pages that it lacks: made for this one alone
-    /// it could cost the call another of its pages.
+    /// it could cost the call another of its pages (decision 111).
     pub(crate) fn fill(&mut self, span: Span, page: PageIndex) -> Result<(), Refusal>
         requires missed { IsMissed self.old span.handle.0 span.offset span.count page.0 }
         ensures helps { Helps span.handle.0 (Some page) self.old self.new }
@@ -89,26 +79,14 @@ impl<D: BlockDevice> Solo<D> {
         ensures wanted { refusal_of result ≡ wants span.dirties self.now.world.core span.handle.0 span.offset span.count }
         ensures short { IfSome result (IsShort self.now.world.core span.handle.0 span.offset span.count) }
     {
-        let short = self
-            .world
-            .frames_short(span.handle, span.offset, span.count);
-        if short > 0 {
-            return Some(Want::Frames(short));
-        }
-        if span.dirties
-            && self
-                .world
-                .passes_limit(span.handle, span.offset, span.count)
-        {
-            return Some(Want::Clean);
-        }
-        None
+        self.world
+            .wants(span.handle, span.offset, span.count, span.dirties)
     }
 
     /// Makes room for as many frames as a call is short of.
     ///
     /// Each time one frame at most becomes free, and no page becomes cached. So the call is short of frames till the last time, and its
-    /// pages are not looked up between.
+    /// pages are not looked up between (decision 169).
     fn make_rooms(&mut self, span: Span, short: u64) -> Result<(), Refusal>
         requires { short ≡ frames_short self.old.world.core span.handle.0 span.offset span.count }
         ensures helps { (page : Option PageIndex) → Helps span.handle.0 page self.old self.new }
@@ -158,16 +136,10 @@ impl<D: BlockDevice> Solo<D> {
         ensures attempts { self.new.attempts ≡ self.old.attempts }
         ensures flushes { FlushesOne self.old result self.new }
     {
-        // Opens `self`: its invariant says that there are `MAX_FILES` files at most, so the loop passes all of them.
-        let _ = &self.world;
-        'files: for file in 0..MAX_FILES {
-            match self.flush_file(FileId(file)) {
-                Reply::Nothing => {}
-                Reply::Written => return true,
-                _ => return false,
-            }
-        }
-        false
+        let Some(file) = self.world.first_to_write() else {
+            return false;
+        };
+        matches!(self.flush_file(file), Reply::Written)
     }
 
     /// Writes the file's lowest dirty page back.

@@ -1,13 +1,12 @@
 -- A sync that is given up.
-use Rattle.std.proofs.Common.{◌≡◌, ℕ, Bool, true, false, [], refl, ap, sym, ◌∙◌, arith, inl, inr}
-use Rattle.std.specs.Prelude.{◌⊎◌, Result, Ok, Err, is_some, None}
+use Rattle.std.proofs.Common.{◌≡◌, ℕ, Bool, true, false, [], refl, ap, sym, subst, ◌∙◌, arith, inl, inr}
+use Rattle.std.specs.Prelude.{◌⊎◌, Result, Ok, Err, is_err, is_some, None}
 use Rattle.std.specs.FinMap as finmap
 use Rattle.pc_types.specs.declared.ids.SyncId.{SyncId}
 use Rattle.pc_types.specs.declared.refusal.Refusal.{Refusal}
-use Rattle.pc_types.specs.declared.refusal.Refusal.TheVariants.{Stranger, TrailFull}
+use Rattle.pc_types.specs.declared.refusal.Refusal.TheVariants.{Stranger}
 use Rattle.cachecore.specs.Core.{Core}
 use Rattle.machine.specs.declared.event.Event.TheVariants as event
-use Rattle.machine.specs.declared.event.Reply.{Reply}
 use Rattle.machine.specs.declared.event.Reply.TheVariants as reply
 use Rattle.cachecore.specs.Replies.{sync_dropped}
 use Rattle.machine.specs.State.{State}
@@ -15,16 +14,11 @@ use Rattle.machine.specs.Step.{Step}
 use Rattle.machine.specs.Tests.{tests}
 use Rattle.machine.proofs.steps.Cases.{answered}
 use Rattle.machine.proofs.steps.Choices.{quiet_unless}
-use Rattle.held.specs.declared.log.Slip.{Slip}
-use Rattle.trail.specs.declared.reserve.Reserve.{Reserve}
-use Rattle.held.specs.Ends.{DropOrFull}
-use Rattle.held.specs.Entered.{Entered}
-use Rattle.trail.specs.Entries.{entry_of, entry_with, reply_with}
 use Rattle.held.specs.Kept.{IsHeld}
-use Rattle.trail.specs.Room.{event_need, fits_beside, has_room, less, need_of_end, reserved, reserved_after}
-use Rattle.held.specs.Shown.{LogSeen, SeatSeen}
-use Rattle.held.proofs.Holds.{Went, went, end_room, none_needed, room_is}
-use Rattle.held.proofs.Sizes.{none_in}
+use Rattle.trail.specs.Room.{event_need, fits_beside, has_room, need_of_end, reserved}
+use Rattle.held.specs.Shown.{LogSeen}
+use Rattle.held.proofs.Ends.{room_if_refused}
+use Rattle.held.proofs.Holds.{end_room, room_is}
 
 pub drop_refused : (s : State) (n : SyncId) (why : Refusal) (new : State)
     → Step s (event.SyncDrop n) (reply.Refused why) new → new ≡ s
@@ -36,22 +30,6 @@ pub drop_core_back : (old new : Core) (n : SyncId) (why : Refusal)
     → Step old.state (event.SyncDrop n) (reply.Refused why) new.state → new.lists ≡ old.lists → new ≡ old
 drop_core_back old new n why h l = let k = drop_refused old.state n why new.state h in
     (λ i. record { state = k i; lists = l i })
-
-pub drop_no_room : (a : Result Unit Refusal) (room : Bool) (x : Refusal) → DropOrFull a room (Err x)
-    → (e : Refusal) × (a ≡ Err e) × (x ≡ TrailFull) × (room ≡ false)
-drop_no_room (Err e) false x h = (e, refl, cc, refl)
-drop_no_room (Err e) true x h = absurd cc
-drop_no_room (Ok e) room x h = absurd cc
-
-pub drop_has_room : (a : Result Unit Refusal) (room : Bool) (b : Result Unit Refusal) → DropOrFull a room (Ok b)
-    → (b ≡ a) × ((x : Refusal) → a ≡ Err x → room ≡ true)
-drop_has_room (Err e) true b h = (cc, λ x k. refl)
-drop_has_room (Err e) false b h = absurd cc
-drop_has_room (Ok e) room b h = let is : b ≡ Ok e = cc in (is, λ x k. absurd cc)
-
-bare_drop : (a : Result Unit Refusal) → reply_with (sync_dropped a) [] ≡ sync_dropped a
-bare_drop (Ok u) = refl
-bare_drop (Err e) = refl
 
 -- what the drop needs: nothing where the sync is in progress, else an entry, and it is refused then
 abbrev DropNeeds : ℕ → Result Unit Refusal → Type 0
@@ -69,11 +47,17 @@ drop_needs s n (Err e) new h =
     elim (answered (tests s (event.SyncDrop n)) s (event.SyncDrop n) (reply.Refused e) new h)
     [ inl x ↦ inr (ap need_of_end x.0, (e, refl)) | inr x ↦ absurd x.1 ]
 
-module _ (old : LogSeen) (core next : State) (v : Reserve) (page : ℕ) (i : IsHeld old core v page) (n : SyncId)
-    (a : Result Unit Refusal) (s : Step core (event.SyncDrop n) (sync_dropped a) next) where
-  pub drop_room : (room : Bool) → room ≡ fits_beside old.room page v 1 0 → ((x : Refusal) → a ≡ Err x → room ≡ true)
-      → has_room old.room (reserved core) core (event.SyncDrop n) ≡ true
-  drop_room room is kept = end_room old core v page (event.SyncDrop n) i refl (elim (drop_needs core n a next s) [
+pub drop_back : (old new : Core) (n : SyncId) (a : Result Unit Refusal)
+    → Step old.state (event.SyncDrop n) (sync_dropped a) new.state → new.lists ≡ old.lists → (x : Refusal) → a ≡ Err x
+    → new ≡ old
+drop_back old new n a step lists x is =
+    drop_core_back old new n x (subst (λ b. Step old.state (event.SyncDrop n) (sync_dropped b) new.state) is step) lists
+
+module _ (old : LogSeen) (core next : State) (i : IsHeld old core) (n : SyncId) (a : Result Unit Refusal)
+    (s : Step core (event.SyncDrop n) (sync_dropped a) next) where
+  pub drop_room : (room : Bool) → room ≡ fits_beside old.room core.sizes.page (reserved core) 1 0
+      → ((x : Refusal) → a ≡ Err x → room ≡ true) → has_room old.room (reserved core) core (event.SyncDrop n) ≡ true
+  drop_room room is kept = end_room old core (event.SyncDrop n) i refl (elim (drop_needs core n a next s) [
     | inl k ↦ inl k.0
     | inr k ↦ inr (k.0, sym is ∙ kept k.1.0 k.1.1)
   ])
@@ -84,29 +68,16 @@ module _ (old : LogSeen) (core next : State) (v : Reserve) (page : ℕ) (i : IsH
     | inr k ↦ absurd (let e : 1 ≡ 0 = sym k.0 ∙ ap need_of_end none in omega arith)
   ]
 
-  pub drop_is_full : (room : Bool) → room ≡ fits_beside old.room page v 1 0 → (x : Refusal) → a ≡ Err x → room ≡ false
-      → has_room old.room (reserved core) core (event.SyncDrop n) ≡ false
+  pub drop_is_full : (room : Bool) → room ≡ fits_beside old.room core.sizes.page (reserved core) 1 0 → (x : Refusal)
+      → a ≡ Err x → room ≡ false → has_room old.room (reserved core) core (event.SyncDrop n) ≡ false
   drop_is_full room is x err none = elim (drop_needs core n a next s) [
     | inl k ↦ absurd (k.1 x err)
-    | inr k ↦ sym (room_is old core v page 1 0 (event.SyncDrop n) room i is k.0 refl) ∙ none
+    | inr k ↦ sym (room_is old core 1 0 (event.SyncDrop n) room is k.0 refl) ∙ none
   ]
 
-module _ (old new : LogSeen) (core next : State) (v w : Reserve) (page : ℕ) (before after : SeatSeen) (slip : Slip)
-    (i : IsHeld old core v page) (room : new.room ≡ less old.room 0) where
-  pub drop_went : (n : SyncId) (a : Result Unit Refusal) (r : Reply)
-      → has_room old.room (reserved core) core (event.SyncDrop n) ≡ true
-      → Step core (event.SyncDrop n) (sync_dropped a) next → r ≡ sync_dropped a
-      → w ≡ reserved_after (event.SyncDrop n) r v
-      → Entered (entry_with (record { seat = before.number; event = event.SyncDrop n; reply = r }) []) old new
-      before after slip → Went old new core next w page before after slip (event.SyncDrop n) (sync_dropped a)
-  drop_went n a r has s is reserve entered =
-      let same : entry_with (record { seat = before.number; event = event.SyncDrop n; reply = r }) []
-      ≡ entry_of before.number (event.SyncDrop n) (sync_dropped a) =
-      (λ j. record {
-        seat = before.number;
-        event = event.SyncDrop n;
-        reply = (ap (λ x. reply_with x []) is ∙ bare_drop a) j;
-      }) in
-      went old new core next v w page before after slip (event.SyncDrop n) (sync_dropped a) _ 0 i has (none_needed _)
-      same (none_in (record { seat = before.number; event = event.SyncDrop n; reply = r }) _ same) s entered room
-      (reserve ∙ ap (λ x. reserved_after (event.SyncDrop n) x v) is)
+pub drop_fits : (old : LogSeen) (core : State) (i : IsHeld old core) (n : SyncId) (a : Result Unit Refusal) (next : State)
+    → Step core (event.SyncDrop n) (sync_dropped a) next → (refused room : Bool)
+    → room ≡ fits_beside old.room core.sizes.page (reserved core) 1 0 → refused ≡ is_err a
+    → (refused ≡ true → room ≡ true) → has_room old.room (reserved core) core (event.SyncDrop n) ≡ true
+drop_fits old core i n a next step refused room is err kept =
+    drop_room old core next i n a step room is (room_if_refused a refused room err kept)

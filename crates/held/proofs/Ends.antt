@@ -1,11 +1,11 @@
 -- The ends of requests: what is known of their steps, their entries without bytes, and what is recorded.
-use Rattle.std.proofs.Common.{◌≡◌, ℕ, cond, Bool, true, false, [], refl, ap, sym, ◌∙◌, arith, inl, inr}
-use Rattle.std.specs.Prelude.{◌⊎◌, Option, Some, None, Result, Ok, Err, is_some}
+use Rattle.std.proofs.Common.{◌≡◌, ℕ, cond, Bool, true, false, [], refl, ap, sym, subst, ◌∙◌, arith, inl, inr}
+use Rattle.std.specs.Prelude.{◌⊎◌, Option, Some, None, Result, Ok, Err, is_err, is_some}
 use Rattle.pc_types.specs.declared.kind.Kind.{Kind}
 use Rattle.pc_types.specs.declared.kind.Kind.TheVariants.{Fill, Flush}
 use Rattle.pc_types.specs.Kinds.{is_flush}
 use Rattle.pc_types.specs.declared.refusal.Refusal.{Refusal}
-use Rattle.pc_types.specs.declared.refusal.Refusal.TheVariants.{Stranger, TrailFull}
+use Rattle.pc_types.specs.declared.refusal.Refusal.TheVariants.{Stranger}
 use Rattle.cachecore.specs.Core.{Core}
 use Rattle.cachecore.specs.Flushing.{flush_of, flushed_file}
 use Rattle.cachecore.specs.Replies.{fill_ended, flush_ended}
@@ -19,22 +19,24 @@ use Rattle.machine.specs.declared.event.Outcome.{Outcome}
 use Rattle.machine.specs.declared.event.Outcome.TheVariants as outcome
 use Rattle.machine.specs.declared.event.Reply.{Reply}
 use Rattle.machine.specs.declared.event.Reply.TheVariants as reply
+use Rattle.machine.specs.ListChanges.{lists_after}
 use Rattle.machine.specs.State.{State}
+use Rattle.atomic_table.specs.Seated.{TableId}
+use Rattle.pc_types.specs.Limits.{Sizes}
 use Rattle.machine.specs.Step.{Step}
 use Rattle.machine.specs.Tests.{fits}
 use Rattle.machine.proofs.steps.Answered.{is_quiet}
 use Rattle.machine.proofs.steps.Ends.{end_loud, of_end}
 use Rattle.errboard.specs.Shown.{RecorderSeen, ReceiptSeen}
 use Rattle.trail.specs.declared.entry.Entry.{Entry}
-use Rattle.trail.specs.declared.reserve.Reserve.{Reserve}
 use Rattle.trail.specs.Entries.{entry_of, entry_with, noted, reply_with, end_with, outcome_with}
-use Rattle.trail.specs.Room.{byte_need, event_need, fits_beside, has_room, less, need_of_end, reserved, reserved_after}
+use Rattle.trail.specs.Room.{byte_need, event_need, fits_beside, has_room, less, need_of_end, reserved}
 use Rattle.held.specs.declared.log.Slip.{Slip}
-use Rattle.held.specs.Ends.{IsRecorded, OrFull, is_failed}
-use Rattle.held.specs.Entered.{Entered, Records}
+use Rattle.held.specs.Ends.{IsRecorded, is_failed}
+use Rattle.held.specs.Entered.{Entered, Made, Records}
 use Rattle.held.specs.Kept.{IsHeld}
-use Rattle.held.specs.Shown.{LogSeen, SeatSeen}
-use Rattle.held.proofs.Holds.{Went, went, end_room, none_needed, room_is}
+use Rattle.held.specs.Shown.{HeldSeen, LogSeen, SeatSeen}
+use Rattle.held.proofs.Holds.{Whole, went, end_room, none_needed, room_is}
 use Rattle.held.proofs.Sizes.{none_in}
 
 -- ---- the step
@@ -96,20 +98,6 @@ failed_file s e (Ok (ended.Dropped b)) new h f = absurd cc
 failed_file s e (Ok (ended.Done b)) new h f = absurd cc
 failed_file s e (Err x) new h f = absurd cc
 
--- ---- a refusal whose entry has no room
-
-pub no_room : (a : Result Ended RefusedEnd) (room : Bool) (x : RefusedEnd) → OrFull a room (Err x)
-    → (e : RefusedEnd) × (a ≡ Err e) × (x ≡ record { refusal = TrailFull; finished = e.finished }) × (room ≡ false)
-no_room (Err e) false x h = (e, refl, cc, refl)
-no_room (Err e) true x h = absurd cc
-no_room (Ok e) room x h = absurd cc
-
-pub has_its_room : (a : Result Ended RefusedEnd) (room : Bool) (b : Result Ended RefusedEnd) → OrFull a room (Ok b)
-    → (b ≡ a) × ((x : RefusedEnd) → a ≡ Err x → room ≡ true)
-has_its_room (Err e) true b h = (cc, λ x k. refl)
-has_its_room (Err e) false b h = absurd cc
-has_its_room (Ok e) room b h = let is : b ≡ Ok e = cc in (is, λ x k. absurd cc)
-
 -- what an end needs: nothing where its request is in flight, else an entry, and it is refused then
 abbrev pub EndNeeds : ℕ → Result Ended RefusedEnd → Type 0
 EndNeeds need a =
@@ -136,21 +124,56 @@ none_refused need a h none x is = elim h [
 ]
 
 -- so there is room for it, but where it is refused without room
-module _ (old : LogSeen) (core : State) (v : Reserve) (page : ℕ) (i : IsHeld old core v page) (e : Event)
-    (a : Result Ended RefusedEnd) (bytes : byte_need core e ≡ 0) (needs : EndNeeds (event_need core e) a) where
-  pub end_has_room : (room : Bool) → room ≡ fits_beside old.room page v 1 0
+module _ (old : LogSeen) (core : State) (i : IsHeld old core) (e : Event) (a : Result Ended RefusedEnd)
+    (bytes : byte_need core e ≡ 0) (needs : EndNeeds (event_need core e) a) where
+  pub end_has_room : (room : Bool) → room ≡ fits_beside old.room core.sizes.page (reserved core) 1 0
       → ((x : RefusedEnd) → a ≡ Err x → room ≡ true) → has_room old.room (reserved core) core e ≡ true
-  end_has_room room is kept = end_room old core v page e i bytes (elim needs [
+  end_has_room room is kept = end_room old core e i bytes (elim needs [
     | inl n ↦ inl n.0
     | inr n ↦ inr (n.0, sym is ∙ kept n.1.0 n.1.1)
   ])
 
-  pub end_is_full : (room : Bool) → room ≡ fits_beside old.room page v 1 0 → (x : RefusedEnd) → a ≡ Err x
-      → room ≡ false → has_room old.room (reserved core) core e ≡ false
+  pub end_is_full : (room : Bool) → room ≡ fits_beside old.room core.sizes.page (reserved core) 1 0 → (x : RefusedEnd)
+      → a ≡ Err x → room ≡ false → has_room old.room (reserved core) core e ≡ false
   end_is_full room is x err none = elim needs [
     | inl n ↦ absurd (n.1 x err)
-    | inr n ↦ sym (room_is old core v page 1 0 e room i is n.0 bytes) ∙ none
+    | inr n ↦ sym (room_is old core 1 0 e room is n.0 bytes) ∙ none
   ]
+
+-- an end that was refused found room for its entry, or was refused by a full trail
+pub room_if_refused : {A E : Type 0} (a : Result A E) (refused room : Bool) → refused ≡ is_err a
+    → (refused ≡ true → room ≡ true) → (x : E) → a ≡ Err x → room ≡ true
+room_if_refused a refused room is kept x err = kept (is ∙ ap is_err err)
+
+pub refused_by : {A E : Type 0} (a : Result A E) (refused : Bool) → refused ≡ is_err a → refused ≡ true
+    → (x : E) × (a ≡ Err x)
+refused_by (Ok y) refused is said = absurd (let e : true ≡ false = sym said ∙ is in cc)
+refused_by (Err x) refused is said = (x, refl)
+
+-- so there is room for an end past that test
+pub end_fits : (old : LogSeen) (core : State) (i : IsHeld old core) (kind : Kind) (e : End) (a : Result Ended RefusedEnd)
+    (new : State) → Step core (event.End kind e) (ended_as kind a) new → byte_need core (event.End kind e) ≡ 0
+    → (refused room : Bool) → room ≡ fits_beside old.room core.sizes.page (reserved core) 1 0 → refused ≡ is_err a
+    → (refused ≡ true → room ≡ true) → has_room old.room (reserved core) core (event.End kind e) ≡ true
+end_fits old core i kind e a new step bytes refused room is err kept =
+    end_has_room old core i (event.End kind e) a bytes (end_needs core kind e a new step) room is
+    (room_if_refused a refused room err kept)
+
+-- which leaves the core
+pub fill_back : (old new : Core) (e : End) (a : Result Ended RefusedEnd)
+    → Step old.state (event.End Fill e) (fill_ended a) new.state
+    → new.lists ≡ lists_after old.state (event.End Fill e) (fill_ended a) old.lists → (x : RefusedEnd) → a ≡ Err x
+    → new ≡ old
+fill_back old new e a step lists x is =
+    core_back old new Fill e x.refusal (subst (λ b. Step old.state (event.End Fill e) (fill_ended b) new.state) is step)
+    (subst (λ b. new.lists ≡ lists_after old.state (event.End Fill e) (fill_ended b) old.lists) is lists)
+
+pub flush_back : (old new : Core) (e : End) (a : Result Ended RefusedEnd)
+    → Step old.state (event.End Flush e) (flush_ended a) new.state → new.lists ≡ old.lists → (x : RefusedEnd)
+    → a ≡ Err x → new ≡ old
+flush_back old new e a step lists x is =
+    core_back old new Flush e x.refusal
+    (subst (λ b. Step old.state (event.End Flush e) (flush_ended b) new.state) is step) lists
 
 -- ---- the entry of a flush's end, which has no bytes
 
@@ -180,24 +203,26 @@ flush_event e (Ok (ended.Done b)) fit i =
     event.End Flush (record e { outcome = written_bare e.outcome (fit (ended.Done b) refl) i })
 flush_event e (Err x) fit i = event.End Flush (record e { outcome = twice e.outcome i })
 
-module _ (old new : LogSeen) (core next : State) (v w : Reserve) (page : ℕ) (before after : SeatSeen) (slip : Slip)
-    (i : IsHeld old core v page) (room : new.room ≡ less old.room 0) where
+module _ (name : ℕ) (table board : TableId) (sizes : Sizes) (seats : ℕ) (old new : HeldSeen) (before after : SeatSeen)
+    (slip : Slip) (i : Whole name table board sizes seats old) where
   pub flush_end_went : (e without : End) (a : Result Ended RefusedEnd) (r : Reply)
-      → has_room old.room (reserved core) core (event.End Flush e) ≡ true → without ≡ end_with e []
-      → Step core (event.End Flush e) (flush_ended a) next → r ≡ flush_ended a
-      → ((d : End) → w ≡ reserved_after (event.End Flush d) r v)
-      → Entered (entry_with (record { seat = before.number; event = event.End Flush without; reply = r }) []) old new
-      before after slip
-      → Went old new core next w page before after slip (event.End Flush e) (flush_ended a)
-  flush_end_went e without a r has none s is reserve entered =
+      → has_room old.log.room (reserved old.core.state) old.core.state (event.End Flush e) ≡ true → without ≡ end_with e []
+      → Step old.core.state (event.End Flush e) (flush_ended a) new.core.state
+      → new.core.lists ≡ lists_after old.core.state (event.End Flush e) (flush_ended a) old.core.lists → r ≡ flush_ended a
+      → Entered (entry_with (record { seat = before.number; event = event.End Flush without; reply = r }) []) old.log new.log
+      before after slip → new.log.room ≡ less old.log.room 0
+      → Records old.core.state (event.End Flush e) (flush_ended a) old.errors new.errors
+      → Made (event.End Flush e) (flush_ended a) old new before after slip × Whole name table board sizes seats new
+  flush_end_went e without a r has none s lists is entered room errors =
       let entry : Entry = record { seat = before.number; event = event.End Flush without; reply = r } in
       let same : entry_with entry [] ≡ entry_of before.number (event.End Flush e) (flush_ended a) = (λ j. record {
         seat = before.number;
-        event = (ap (λ x. event.End Flush (end_with x [])) none ∙ flush_event e a (taken core Flush e a next s)) j;
+        event = (ap (λ x. event.End Flush (end_with x [])) none
+            ∙ flush_event e a (taken old.core.state Flush e a new.core.state s)) j;
         reply = (ap (λ x. reply_with x []) is ∙ bare_reply a) j;
       }) in
-      went old new core next v w page before after slip (event.End Flush e) (flush_ended a) _ 0 i has (none_needed _)
-      same (none_in entry _ same) s entered room (reserve e ∙ ap (λ x. reserved_after (event.End Flush e) x v) is)
+      went name table board sizes seats old new before after slip i (event.End Flush e) (flush_ended a) _ 0 has
+      (none_needed _) same (none_in entry _ same) s lists entered room errors
 
 -- ---- what is recorded
 

@@ -14,19 +14,20 @@ use Rattle.machine.specs.declared.event.End.{End}
 use Rattle.machine.specs.declared.event.Event.TheVariants as event
 use Rattle.machine.specs.declared.event.Outcome.TheVariants as outcome
 use Rattle.machine.specs.declared.event.Reply.{Reply}
+use Rattle.machine.specs.ListChanges.{lists_after}
 use Rattle.machine.specs.State.{State}
+use Rattle.atomic_table.specs.Seated.{TableId}
+use Rattle.pc_types.specs.Limits.{Sizes}
 use Rattle.machine.specs.Step.{Step}
 use Rattle.machine.specs.Tests.{fits, tests}
-use Rattle.trail.specs.declared.reserve.Reserve.{Reserve}
 use Rattle.trail.specs.Entries.{entry_with, reply_with, end_with, outcome_with, noted}
-use Rattle.trail.specs.Room.{entry_room, has_room, less, need_of_end, reserved, reserved_after}
+use Rattle.trail.specs.Room.{entry_room, has_room, less, need_of_end, reserved}
 use Rattle.held.specs.declared.log.Slip.{Slip}
 use Rattle.held.specs.Ends.{bytes_read_in, went_well}
-use Rattle.held.specs.Entered.{Entered}
-use Rattle.held.specs.Kept.{IsHeld}
-use Rattle.held.specs.Shown.{LogSeen, SeatSeen}
+use Rattle.held.specs.Entered.{Entered, Made}
+use Rattle.held.specs.Shown.{HeldSeen, SeatSeen}
 use Rattle.held.proofs.Ends.{end_needs, taken, twice}
-use Rattle.held.proofs.Holds.{Went, went}
+use Rattle.held.proofs.Holds.{Whole, went}
 use Rattle.held.proofs.Sizes.{Fitting, fill_in}
 
 -- ---- the entry
@@ -108,25 +109,26 @@ fill_small s f a new read bytes h got back size =
     least : (n m : ℕ) → n ≤ 0 → n ≤ m
     least n m h = omega arith
 
-module _ (old new : LogSeen) (core next : State) (v w : Reserve) (page : ℕ) (before after : SeatSeen) (slip : Slip)
-    (i : IsHeld old core v page) where
+module _ (name : ℕ) (table board : TableId) (sizes : Sizes) (seats : ℕ) (old new : HeldSeen) (before after : SeatSeen)
+    (slip : Slip) (i : Whole name table board sizes seats old) where
   pub fill_end_went : (f : FinishedTask) (without : End) (a : Result Ended RefusedEnd) (r : Reply) (read : Bool)
       (bytes : List ℕ) → bytes ≡ bytes_read_in a read → read ≡ went_well f.outcome → EndGivesBack f a
-      → length f.bytes ≡ core.sizes.page
-      → has_room old.room (reserved core) core (event.End Fill (end_of f)) ≡ true → without ≡ end_with (end_of f) []
-      → Step core (event.End Fill (end_of f)) (fill_ended a) next → r ≡ fill_ended a
-      → ((d : End) → w ≡ reserved_after (event.End Fill d) r v)
-      → Entered (entry_with (record { seat = before.number; event = event.End Fill without; reply = r }) bytes) old new
-      before after slip
-      → new.room ≡ less old.room (length bytes)
-      → Went old new core next w page before after slip (event.End Fill (end_of f)) (fill_ended a)
-  fill_end_went f without a r read bytes got well back size has none s is reserve entered room =
-      let fit : Fitting f a = taken core Fill (end_of f) a next s in
+      → length f.bytes ≡ old.core.state.sizes.page
+      → has_room old.log.room (reserved old.core.state) old.core.state (event.End Fill (end_of f)) ≡ true
+      → without ≡ end_with (end_of f) []
+      → Step old.core.state (event.End Fill (end_of f)) (fill_ended a) new.core.state
+      → new.core.lists ≡ lists_after old.core.state (event.End Fill (end_of f)) (fill_ended a) old.core.lists
+      → r ≡ fill_ended a
+      → Entered (entry_with (record { seat = before.number; event = event.End Fill without; reply = r }) bytes) old.log
+      new.log before after slip
+      → new.log.room ≡ less old.log.room (length bytes) → new.errors ≡ old.errors
+      → Made (event.End Fill (end_of f)) (fill_ended a) old new before after slip × Whole name table board sizes seats new
+  fill_end_went f without a r read bytes got well back size has none s lists is entered room errors =
+      let fit : Fitting f a = taken old.core.state Fill (end_of f) a new.core.state s in
       let is_event : event.End Fill (end_with without bytes) ≡ noted (event.End Fill (end_of f)) (fill_ended a) =
       (λ j. event.End Fill (end_with (none j) (got j))) ∙ fill_event f a read back well fit in
       let replies : reply_with r bytes ≡ fill_ended a = (λ j. reply_with (is j) bytes) ∙ bare_reply a bytes in
-      went old new core next v w page before after slip (event.End Fill (end_of f)) (fill_ended a) _ (length bytes) i
-      has (fill_small core f a next read bytes s got back size)
+      went name table board sizes seats old new before after slip i (event.End Fill (end_of f)) (fill_ended a) _
+      (length bytes) has (fill_small old.core.state f a new.core.state read bytes s got back size)
       (λ j. record { seat = before.number; event = is_event j; reply = replies j })
-      (fill_in before.number f a read bytes got back well fit) s entered room
-      (reserve (end_of f) ∙ ap (λ x. reserved_after (event.End Fill (end_of f)) x v) is)
+      (fill_in before.number f a read bytes got back well fit) s lists entered room errors

@@ -1,56 +1,55 @@
 -- One event more: what holds of a cache with its history goes on.
-use Rattle.std.proofs.Common.{◌≡◌, ℕ, ◌≤◌, Bool, true, [], ◌∷◌, ◌++◌, map, refl, ap, sym, subst}
-use Rattle.std.proofs.Common.{◌∙◌, arith, inl, inr}
-use Rattle.std.specs.Prelude.{◌⊎◌}
+use Rattle.std.proofs.Common.{◌≡◌, ℕ, ◌≤◌, Bool, true, false, [], ◌∷◌, ◌++◌, map, refl, ap, sym, subst, ◌∙◌, arith}
+use Rattle.std.proofs.Common.{inl, inr}
+use Rattle.std.specs.Prelude.{◌⊎◌, IfErr, IfOk, Result, Ok, Err, None, Some}
+use Rattle.atomic_table.specs.Seated.{TableId}
+use Rattle.errboard.specs.Shown.{RecorderSeen}
 use Rattle.machine.specs.declared.event.Event.{Event}
+use Rattle.machine.specs.declared.event.Event.TheVariants as event
 use Rattle.machine.specs.declared.event.Reply.{Reply}
+use Rattle.machine.specs.declared.event.Reply.TheVariants as reply
 use Rattle.machine.specs.ListChanges.{lists_after}
 use Rattle.machine.specs.Sound.{Sound}
 use Rattle.machine.specs.State.{State}
 use Rattle.machine.specs.Step.{Step}
 use Rattle.machine.proofs.sound.Steps.{histories_are_sound}
 use Rattle.machine.proofs.steps.Steady.{steady}
+use Rattle.pc_types.specs.Limits.{Sizes}
+use Rattle.pc_types.specs.declared.kind.Kind.TheVariants.{Flush}
+use Rattle.pc_types.specs.declared.refusal.Refusal.{Refusal}
+use Rattle.pc_types.specs.declared.refusal.Refusal.TheVariants.{TrailFull}
 use Rattle.trail.specs.declared.entry.Entry.{Entry}
-use Rattle.trail.specs.declared.reserve.Reserve.{Reserve}
-use Rattle.trail.specs.Entries.{entry_of, bytes_in}
+use Rattle.trail.specs.Entries.{bytes_in, entry_of, entry_with, event_with, noted, reply_with}
 use Rattle.trail.specs.History.{After, seatless}
-use Rattle.trail.specs.Room.{fits, fits_beside, has_room, less, keeps_room, event_need, byte_need, entry_room, reserved}
-use Rattle.trail.specs.Room.{reserved_after}
+use Rattle.trail.specs.Room.{byte_need, entry_room, event_need, fits, fits_beside, has_room, less, keeps_room, reserved}
 use Rattle.trail.proofs.HistoryLaws.{after_step}
-use Rattle.trail.proofs.Reserving.{follows}
 use Rattle.trail.proofs.RoomLaws.{reserved_has_room, room_kept}
+use Rattle.held.specs.declared.denied.Denied.{Denied}
 use Rattle.held.specs.declared.log.Slip.{Slip}
-use Rattle.held.specs.Entered.{Entered, Made, Records}
+use Rattle.held.specs.Denials.{DeniedBy, IsDenied}
+use Rattle.held.specs.Entered.{Entered, Made, Records, has_room_for}
+use Rattle.held.specs.Keeps.{IsLocked}
 use Rattle.held.specs.Kept.{IsHeld}
-use Rattle.held.specs.Shown.{LogSeen, HeldSeen, SeatSeen}
+use Rattle.held.specs.Shown.{HeldSeen, LogSeen, SeatSeen}
+use Rattle.held.proofs.Failures.{told_on}
+use Rattle.held.proofs.Sizes.{none_in}
 
 -- ---- the room that the code asks for is that of the rule
 
-pub room_is : (old : LogSeen) (core : State) (v : Reserve) (page n b : ℕ) (e : Event) (answer : Bool)
-    → IsHeld old core v page → answer ≡ fits_beside old.room page v n b → event_need core e ≡ n → byte_need core e ≡ b
+pub room_is : (old : LogSeen) (core : State) (n b : ℕ) (e : Event) (answer : Bool)
+    → answer ≡ fits_beside old.room core.sizes.page (reserved core) n b → event_need core e ≡ n → byte_need core e ≡ b
     → answer ≡ has_room old.room (reserved core) core e
-room_is old core v page n b e answer i is need bytes =
-    is ∙ (λ j. fits_beside old.room (i.size j) (i.counted j) (sym need j) (sym bytes j))
-
-pub room_for : (old : LogSeen) (core : State) (v : Reserve) (page n b : ℕ) (e : Event) → IsHeld old core v page
-    → fits_beside old.room page v n b ≡ true → event_need core e ≡ n → byte_need core e ≡ b
-    → has_room old.room (reserved core) core e ≡ true
-room_for old core v page n b e i fits need bytes =
-    sym (room_is old core v page n b e (fits_beside old.room page v n b) i refl need bytes) ∙ fits
-
--- what is reserved fits
-pub reserved_fits : (old : LogSeen) (core : State) (v : Reserve) (page : ℕ) → IsHeld old core v page
-    → keeps_room old.room core.sizes.page (reserved core) ≡ true
-reserved_fits old core v page i = (λ j. keeps_room old.room (sym i.size j) (sym i.counted j)) ∙ i.room
+room_is old core n b e answer is need bytes =
+    is ∙ (λ j. fits_beside old.room core.sizes.page (reserved core) (sym need j) (sym bytes j))
 
 -- an end needs the room that is reserved for it, or where it is refused an entry
-pub end_room : (old : LogSeen) (core : State) (v : Reserve) (page : ℕ) (e : Event) → IsHeld old core v page
-    → byte_need core e ≡ 0
-    → (event_need core e ≡ 0) ⊎ ((event_need core e ≡ 1) × (fits_beside old.room page v 1 0 ≡ true))
+pub end_room : (old : LogSeen) (core : State) (e : Event) → IsHeld old core → byte_need core e ≡ 0
+    → (event_need core e ≡ 0)
+    ⊎ ((event_need core e ≡ 1) × (fits_beside old.room core.sizes.page (reserved core) 1 0 ≡ true))
     → has_room old.room (reserved core) core e ≡ true
-end_room old core v page e i bytes need = elim need [
-  | inl none ↦ reserved_has_room old.room core e (reserved_fits old core v page i) none bytes
-  | inr one ↦ room_for old core v page 1 0 e i one.1 one.0 bytes
+end_room old core e i bytes need = elim need [
+  | inl none ↦ reserved_has_room old.room core e i.room none bytes
+  | inr one ↦ sym (room_is old core 1 0 e (fits_beside old.room core.sizes.page (reserved core) 1 0) refl one.0 bytes) ∙ one.1
 ]
 
 pub none_needed : (n : ℕ) → 0 ≤ n
@@ -64,55 +63,111 @@ entry_fits old core next e r c has s le = (room_kept old.room core next e r has 
 
 -- ---- the event is entered
 
--- all that one event does
-pub record Went (old new : LogSeen) (core next : State) (w : Reserve) (page : ℕ) (before after : SeatSeen) (slip : Slip)
-    (e : Event) (r : Reply) : Type 0 where
-  pub held : IsHeld new next w page
-  pub step : Step core e r next
-  pub entered : Entered (entry_of before.number e r) old new before after slip
-  pub room : new.room ≡ less old.room (bytes_in (entry_of before.number e r))
+records_board : (s : State) (e : Event) (r : Reply) (old new : RecorderSeen) → Records s e r old new
+    → new.board ≡ old.board
+records_board s (event.End Flush end) (reply.Failed code) old new h = h.3.0
+records_board s e r old new h = ap (λ (x : RecorderSeen). x.board) h
 
--- an event for which there was room, with c bytes in its entry
-pub went : (old new : LogSeen) (core next : State) (v w : Reserve) (page : ℕ) (before after : SeatSeen) (slip : Slip)
-    (e : Event) (r : Reply) (entry : Entry) (c : ℕ)
-    → IsHeld old core v page → has_room old.room (reserved core) core e ≡ true → c ≤ entry_room core e
-    → entry ≡ entry_of before.number e r → c ≡ bytes_in (entry_of before.number e r) → Step core e r next
-    → Entered entry old new before after slip → new.room ≡ less old.room c → w ≡ reserved_after e r v
-    → Went old new core next w page before after slip e r
-went old new core next v w page before after slip e r entry c i has le is count s h room reserve =
-    let same = steady core e r next s in
-    let history : new.history ≡ old.history ++ entry_of before.number e r ∷ [] =
-    h.history ∙ ap (λ x. old.history ++ x ∷ []) is in
-    let sound : Sound core = histories_are_sound core.sizes core.name (map seatless old.history) core i.history in
-    let size : page ≡ next.sizes.page = i.size ∙ sym (ap (λ z. z.page) same.sizes) in
-    let counted : w ≡ reserved next =
-    reserve ∙ ap (reserved_after e r) i.counted ∙ sym (follows core sound e r next s) in
-    let kept = (room_kept old.room core next e r has s c le).1 in
-    record {
-      held = record {
-        history = subst (λ l. After next.sizes next.name l next) (sym history)
-            (after_step old.history before.number core next e r i.history s);
-        name = h.same.1 ∙ i.name ∙ sym same.name;
-        size = size;
-        counted = counted;
-        room = (λ j. keeps_room (room j) (size j) (counted j)) ∙ kept;
-      };
-      step = s;
-      entered = subst (λ x. Entered x old new before after slip) is h;
-      room = room ∙ ap (less old.room) count;
-    }
+-- all that holds under the lock
+abbrev pub Whole : ℕ → TableId → TableId → Sizes → ℕ → HeldSeen → Type 0
+Whole name table board sizes seats h = IsHeld h.log h.core.state × IsLocked name table board sizes seats h
 
--- as callers see it
-pub made : (old now new : HeldSeen) (before after : SeatSeen) (slip : Slip) (e : Event) (r : Reply) (w : Reserve)
-    (page : ℕ) → old ≡ now
-    → Went old.log new.log old.core.state new.core.state w page before after slip e r
-    → new.core.lists ≡ lists_after old.core.state e r old.core.lists → Records old.core.state e r old.errors new.errors
-    → Made e r now new before after slip
-made old now new before after slip e r w page same h lists errors =
-    subst (λ x. Made e r x new before after slip) same (record {
-      step = h.step;
-      lists = lists;
-      entered = h.entered;
-      room = h.room;
-      recorded = errors;
-    })
+module _ (name : ℕ) (table board : TableId) (sizes : Sizes) (seats : ℕ) (old new : HeldSeen) (before after : SeatSeen)
+    (slip : Slip) (i : Whole name table board sizes seats old) where
+  -- an event for which there was room, with c bytes in its entry
+  pub went : (e : Event) (r : Reply) (entry : Entry) (c : ℕ)
+      → has_room old.log.room (reserved old.core.state) old.core.state e ≡ true → c ≤ entry_room old.core.state e
+      → entry ≡ entry_of before.number e r → c ≡ bytes_in (entry_of before.number e r)
+      → Step old.core.state e r new.core.state → new.core.lists ≡ lists_after old.core.state e r old.core.lists
+      → Entered entry old.log new.log before after slip → new.log.room ≡ less old.log.room c
+      → Records old.core.state e r old.errors new.errors
+      → Made e r old new before after slip × Whole name table board sizes seats new
+  went e r entry c has le is count s lists h room errors =
+      let same = steady old.core.state e r new.core.state s in
+      let history : new.log.history ≡ old.log.history ++ entry_of before.number e r ∷ [] =
+      h.history ∙ ap (λ x. old.log.history ++ x ∷ []) is in
+      let sound : Sound old.core.state =
+      histories_are_sound old.core.state.sizes old.core.state.name (map seatless old.log.history) old.core.state i.0.history in
+      let kept = (room_kept old.log.room old.core.state new.core.state e r has s c le).1 in (
+        record {
+          fitted = has;
+          step = s;
+          lists = lists;
+          entered = subst (λ x. Entered x old.log new.log before after slip) is h;
+          room = room ∙ ap (less old.log.room) count;
+          recorded = errors;
+        },
+        (
+          record {
+            history = subst (λ l. After new.core.state.sizes new.core.state.name l new.core.state) (sym history)
+                (after_step old.log.history before.number old.core.state new.core.state e r i.0.history s);
+            name = h.same.1 ∙ i.0.name ∙ sym same.name;
+            room = ap (λ x. keeps_room x new.core.state.sizes.page (reserved new.core.state)) room ∙ kept;
+          },
+          record {
+            named = h.same.1 ∙ i.1.named;
+            seats = h.same.0 ∙ i.1.seats;
+            errors = records_board old.core.state e r old.errors new.errors errors ∙ i.1.errors;
+            sized = same.sizes ∙ i.1.sized;
+            counted = h.same.2 ∙ i.1.counted;
+            told = told_on old.core.state new.core.state e r old.errors new.errors sound s errors i.1.told;
+          },
+        ),
+      )
+
+  -- an event without bytes whose entry is made as it stands
+  pub bare : (e : Event) (a r : Reply) → event_with e [] ≡ noted e a → reply_with a [] ≡ a
+      → has_room old.log.room (reserved old.core.state) old.core.state e ≡ true
+      → Step old.core.state e a new.core.state → new.core.lists ≡ lists_after old.core.state e a old.core.lists → r ≡ a
+      → Entered (entry_with (record { seat = before.number; event = e; reply = r }) []) old.log new.log before after slip
+      → new.log.room ≡ less old.log.room 0 → Records old.core.state e a old.errors new.errors
+      → Made e a old new before after slip × Whole name table board sizes seats new
+  bare e a r is_event is_reply has s lists is entered room errors =
+      let same : entry_with (record { seat = before.number; event = e; reply = r }) [] ≡ entry_of before.number e a =
+      (λ j. record {
+        seat = before.number;
+        event = is_event j;
+        reply = (ap (λ x. reply_with x []) is ∙ is_reply) j;
+      }) in
+      went e a _ 0 has (none_needed _) same (none_in (record { seat = before.number; event = e; reply = r }) _ same) s
+      lists entered room errors
+
+-- ---- as callers see it
+
+module _ {A : Type 0} (e : Event) (as_reply : Result A Refusal → Reply) (old now new : HeldSeen) (before after : SeatSeen)
+    (slip : Slip) (answer : Result A Refusal) (same : old ≡ now) where
+  -- an answer that was told
+  pub told_made : (result : Result (A × Slip) Denied) → IfOk result (λ r. (answer ≡ Ok r.0) × (r.1 ≡ slip))
+      → Made e (as_reply answer) old new before after slip
+      → IfOk result (λ r. Made e (as_reply (Ok r.0)) now new before after r.1)
+  told_made (Err d) told made = tt
+  told_made (Ok r) told made =
+      subst (λ x. Made e (as_reply (Ok r.0)) now new before after x) (sym told.1)
+      (subst (λ x. Made e (as_reply x) now new before after slip) told.0
+      (subst (λ x. Made e (as_reply answer) x new before after slip) same made))
+
+  -- a refusal that was told
+  pub told_denied : (result : Result (A × Slip) Denied) → IfErr result (λ d. (answer ≡ Err d.refusal) × (d.slip ≡ Some slip))
+      → ((why : Refusal) → as_reply (Err why) ≡ reply.Refused why) → Made e (as_reply answer) old new before after slip
+      → IfErr result (IsDenied e now new before after)
+  told_denied (Ok r) told refused made = tt
+  told_denied (Err d) told refused made = denied_by d told.1 (subst (λ x. Made e x now new before after slip)
+      (ap as_reply told.0 ∙ refused d.refusal) (subst (λ x. Made e (as_reply answer) x new before after slip) same made))
+    where
+      denied_by : (d : Denied) → d.slip ≡ Some slip → Made e (reply.Refused d.refusal) now new before after slip
+          → IsDenied e now new before after d
+      denied_by d is m = subst (λ o. DeniedBy e now new before after d.refusal o) (sym is) m
+
+-- no room: nothing was done
+pub full_denied : (e : Event) (old now : HeldSeen) (seat : SeatSeen) (d : Denied) → old ≡ now
+    → d ≡ record { refusal = TrailFull; slip = None } → has_room_for old e ≡ false → IsDenied e now now seat seat d
+full_denied e old now seat d same is full =
+    subst (λ (x : Denied). IsDenied e now now seat seat x) (sym is)
+    (refl, subst (λ x. has_room_for x e ≡ false) same full, (refl, refl))
+
+-- no room for the entry of a refusal, which left the core
+pub full_back : (e : Event) (old new now : HeldSeen) (seat : SeatSeen) (d : Denied) → old ≡ now → new ≡ old
+    → d ≡ record { refusal = TrailFull; slip = None } → has_room_for old e ≡ false → IsDenied e now new seat seat d
+full_back e old new now seat d same back is full =
+    subst (λ (x : Denied). IsDenied e now new seat seat x) (sym is)
+    (refl, subst (λ x. has_room_for x e ≡ false) same full, (back ∙ same, refl))

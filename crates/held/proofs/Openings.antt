@@ -1,10 +1,9 @@
 -- A cache without files, and its empty history.
-use Rattle.std.proofs.Common.{◌≡◌, ℕ, ◌*◌, ◌+◌, true, List, [], map, refl, ap, sym, subst, ◌∙◌, arith}
+use Rattle.std.proofs.Common.{◌≡◌, ℕ, ◌*◌, ◌+◌, true, [], map, refl, ap, sym, subst, ◌∙◌, arith}
 use Rattle.std.specs.Prelude.{Option, Some, None, count_by, nat_le, ◌&&◌}
 use Rattle.std.proofs.lemmas.Bool.Decides.{nat_tests}
 use Rattle.pc_types.specs.Limits.{Sizes}
 use Rattle.machine.specs.State.{State}
-use Rattle.trail.specs.declared.entry.Entry.{Entry}
 use Rattle.machine.specs.History.{no_files}
 use Rattle.trail.specs.History.{After}
 use Rattle.held.specs.Kept.{IsHeld}
@@ -40,13 +39,12 @@ none_counted sizes name =
       others = count_by (λ (r : Request). is_flush r.kind) (sym empty i) + sym none i;
     })
 
-pub opens : (log : LogSeen) (core : State) (sizes : Sizes) (name page : ℕ) → log.history ≡ []
-    → core ≡ no_files sizes name → log.name ≡ name → page ≡ sizes.page → IsHeld log core nothing_reserved page
-opens log core sizes name page empty first named size = record {
-  history = subst (λ (x : List Entry × State). After x.1.sizes x.1.name x.0 x.1) (λ i. (sym empty i, sym first i))
-      (first_after sizes name);
+pub opens : (log : LogSeen) (core : State) (sizes : Sizes) (name : ℕ) → log.history ≡ [] → core ≡ no_files sizes name
+    → log.name ≡ name → IsHeld log core
+opens log core sizes name empty first named = record {
+  history = subst (λ s. After s.sizes s.name log.history s) (sym first)
+      (subst (λ l. After sizes name l (no_files sizes name)) (sym empty) (first_after sizes name));
   name = named ∙ sym (ap (λ (s : State). s.name) first);
-  size = size ∙ sym (ap (λ (s : State). s.sizes.page) first);
-  counted = none_counted sizes name ∙ ap reserved (sym first);
-  room = any_room log.room page;
+  room = ap (λ (s : State). keeps_room log.room s.sizes.page (reserved s)) first
+      ∙ ap (keeps_room log.room sizes.page) (sym (none_counted sizes name)) ∙ any_room log.room sizes.page;
 }

@@ -9,16 +9,16 @@ use Rattle.cachecore.specs.declared.answers.WriteAnswer.TheVariants as write
 use Rattle.machine.specs.declared.event.Event.TheVariants as event
 use Rattle.machine.specs.declared.event.Reply.{Reply}
 use Rattle.cachecore.specs.Replies.{wrote}
-use Rattle.machine.specs.State.{State}
+use Rattle.machine.specs.ListChanges.{lists_after}
+use Rattle.atomic_table.specs.Seated.{TableId}
+use Rattle.pc_types.specs.Limits.{Sizes}
 use Rattle.machine.specs.Step.{Step}
 use Rattle.held.specs.declared.log.Slip.{Slip}
-use Rattle.trail.specs.declared.reserve.Reserve.{Reserve}
-use Rattle.held.specs.Entered.{Entered}
+use Rattle.held.specs.Entered.{Entered, Made}
 use Rattle.trail.specs.Entries.{entry_of, entry_with, reply_bytes, reply_with}
-use Rattle.held.specs.Kept.{IsHeld}
-use Rattle.trail.specs.Room.{fits_beside, less}
-use Rattle.held.specs.Shown.{LogSeen, SeatSeen}
-use Rattle.held.proofs.Holds.{Went, went, room_for}
+use Rattle.trail.specs.Room.{fits_beside, less, reserved}
+use Rattle.held.specs.Shown.{HeldSeen, SeatSeen}
+use Rattle.held.proofs.Holds.{Whole, went}
 use Rattle.held.proofs.Sizes.{append_in, read_in, write_in}
 
 wrote_bare : (a : Result WriteAnswer Refusal) (b : List ℕ) → reply_with (wrote a) b ≡ wrote a
@@ -50,34 +50,40 @@ take_le k xs n h = grind (arith, length-take)
 self_le : (n : ℕ) → n ≤ n
 self_le n = omega arith
 
-module _ (old new : LogSeen) (core next : State) (v : Reserve) (page : ℕ) (before after : SeatSeen) (slip : Slip)
-    (i : IsHeld old core v page) where
+module _ (name : ℕ) (table board : TableId) (sizes : Sizes) (seats : ℕ) (old new : HeldSeen) (before after : SeatSeen)
+    (slip : Slip) (i : Whole name table board sizes seats old) where
   pub write_went : (h : HandleId) (o : ℕ) (none b : List ℕ) (a : Result WriteAnswer Refusal) (r : Reply)
-      → fits_beside old.room page v 1 (length b) ≡ true → Step core (event.Write h o b) (wrote a) next → r ≡ wrote a
-      → Entered (entry_with (record { seat = before.number; event = event.Write h o none; reply = r }) b) old new before
-      after slip → new.room ≡ less old.room (length b)
-      → Went old new core next v page before after slip (event.Write h o b) (wrote a)
-  write_went h o none b a r fits s is entered room =
-      went old new core next v v page before after slip (event.Write h o b) (wrote a) _ (length b) i
-      (room_for old core v page 1 (length b) (event.Write h o b) i fits refl refl) (self_le (length b))
-      (write_entry before.number h o none b a r is) (write_in before.number h o b a) s entered room refl
+      → fits_beside old.log.room old.core.state.sizes.page (reserved old.core.state) 1 (length b) ≡ true
+      → Step old.core.state (event.Write h o b) (wrote a) new.core.state
+      → new.core.lists ≡ lists_after old.core.state (event.Write h o b) (wrote a) old.core.lists → r ≡ wrote a
+      → Entered (entry_with (record { seat = before.number; event = event.Write h o none; reply = r }) b) old.log new.log
+      before after slip → new.log.room ≡ less old.log.room (length b) → new.errors ≡ old.errors
+      → Made (event.Write h o b) (wrote a) old new before after slip × Whole name table board sizes seats new
+  write_went h o none b a r fits s lists is entered room errors =
+      went name table board sizes seats old new before after slip i (event.Write h o b) (wrote a) _ (length b) fits
+      (self_le (length b)) (write_entry before.number h o none b a r is) (write_in before.number h o b a) s lists entered
+      room errors
 
   pub append_went : (h : HandleId) (none b : List ℕ) (a : Result WriteAnswer Refusal) (r : Reply)
-      → fits_beside old.room page v 1 (length b) ≡ true → Step core (event.Append h b) (wrote a) next → r ≡ wrote a
-      → Entered (entry_with (record { seat = before.number; event = event.Append h none; reply = r }) b) old new before
-      after slip → new.room ≡ less old.room (length b)
-      → Went old new core next v page before after slip (event.Append h b) (wrote a)
-  append_went h none b a r fits s is entered room =
-      went old new core next v v page before after slip (event.Append h b) (wrote a) _ (length b) i
-      (room_for old core v page 1 (length b) (event.Append h b) i fits refl refl) (self_le (length b))
-      (append_entry before.number h none b a r is) (append_in before.number h b a) s entered room refl
+      → fits_beside old.log.room old.core.state.sizes.page (reserved old.core.state) 1 (length b) ≡ true
+      → Step old.core.state (event.Append h b) (wrote a) new.core.state
+      → new.core.lists ≡ lists_after old.core.state (event.Append h b) (wrote a) old.core.lists → r ≡ wrote a
+      → Entered (entry_with (record { seat = before.number; event = event.Append h none; reply = r }) b) old.log new.log
+      before after slip → new.log.room ≡ less old.log.room (length b) → new.errors ≡ old.errors
+      → Made (event.Append h b) (wrote a) old new before after slip × Whole name table board sizes seats new
+  append_went h none b a r fits s lists is entered room errors =
+      went name table board sizes seats old new before after slip i (event.Append h b) (wrote a) _ (length b) fits
+      (self_le (length b)) (append_entry before.number h none b a r is) (append_in before.number h b a) s lists entered
+      room errors
 
-  pub read_went : (h : HandleId) (o n : ℕ) (bytes : List ℕ) (r is : Reply) → fits_beside old.room page v 1 n ≡ true
-      → length bytes ≤ n → Step core (event.Read h o n) is next → reply_with r bytes ≡ is → bytes ≡ reply_bytes is
-      → Entered (entry_with (record { seat = before.number; event = event.Read h o n; reply = r }) bytes) old new before
-      after slip → new.room ≡ less old.room (length bytes)
-      → Went old new core next v page before after slip (event.Read h o n) is
-  read_went h o n bytes r is fits le s e got entered room =
-      went old new core next v v page before after slip (event.Read h o n) is _ (length bytes) i
-      (room_for old core v page 1 n (event.Read h o n) i fits refl refl) le
-      (read_entry before.number h o n bytes r is e) (read_in before.number h o n bytes is got) s entered room refl
+  pub read_went : (h : HandleId) (o n : ℕ) (bytes : List ℕ) (r is : Reply)
+      → fits_beside old.log.room old.core.state.sizes.page (reserved old.core.state) 1 n ≡ true → length bytes ≤ n
+      → Step old.core.state (event.Read h o n) is new.core.state
+      → new.core.lists ≡ lists_after old.core.state (event.Read h o n) is old.core.lists → reply_with r bytes ≡ is
+      → bytes ≡ reply_bytes is
+      → Entered (entry_with (record { seat = before.number; event = event.Read h o n; reply = r }) bytes) old.log new.log
+      before after slip → new.log.room ≡ less old.log.room (length bytes) → new.errors ≡ old.errors
+      → Made (event.Read h o n) is old new before after slip × Whole name table board sizes seats new
+  read_went h o n bytes r is fits le s lists e got entered room errors =
+      went name table board sizes seats old new before after slip i (event.Read h o n) is _ (length bytes) fits le
+      (read_entry before.number h o n bytes r is e) (read_in before.number h o n bytes is got) s lists entered room errors

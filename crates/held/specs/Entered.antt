@@ -52,18 +52,19 @@ Records s (event.End Flush end) (reply.Failed code) old new =
     (file : ℕ) × (flush_of s end.serial.0 ≡ Some file) × (file < files) × RecordsOne file code old new
 Records s e r old new = new ≡ old
 
--- one event was entered
+-- whether the trail has room for the event, beside the ends of what is in flight
+abbrev pub has_room_for : HeldSeen → Event → Bool
+has_room_for h e = has_room h.log.room (reserved h.core.state) h.core.state e
+
+-- one event was entered, for which there was room
 pub record Made (event : Event) (reply : Reply) (old new : HeldSeen) (before after : SeatSeen) (slip : Slip)
     : Type 0 where
+  pub fitted : has_room_for old event ≡ true
   pub step : Step old.core.state event reply new.core.state
   pub lists : new.core.lists ≡ lists_after old.core.state event reply old.core.lists
   pub entered : Entered (entry_of before.number event reply) old.log new.log before after slip
   pub room : new.log.room ≡ less old.log.room (bytes_in (entry_of before.number event reply))
   pub recorded : Records old.core.state event reply old.errors new.errors
-
--- whether the trail has room for the event, beside the ends of what is in flight
-abbrev pub has_room_for : HeldSeen → Event → Bool
-has_room_for h e = has_room h.log.room (reserved h.core.state) h.core.state e
 
 -- nothing was done
 abbrev pub Untouched : HeldSeen → HeldSeen → SeatSeen → SeatSeen → Type 0

@@ -3,6 +3,11 @@ pub mod Rules
 pub mod Shown
 pub mod Steps
 pub mod Entered
-pub mod Calls
 pub mod Kept
 pub mod Ends
+pub mod Names
+pub mod Keeps
+pub mod Denials
+pub mod Called
+pub mod Firsts
+pub mod Numbers

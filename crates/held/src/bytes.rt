@@ -1,12 +1,102 @@
-//! Answers as they are entered, where the bytes stand beside the entry.
+//! Reads and writes, whose bytes stand beside their entries.
 
-ghost use Rattle.std.specs.Prelude.{◌≡◌, ℕ, List, [], take};
+ghost use Rattle.std.specs.Prelude.{◌≡◌, ◌≤◌, ℕ, IfErr, IfOk, List, Ok, [], drop, length, take};
 ghost use Rattle.cachecore.specs.Replies.{bytes_read, was_read, wrote};
+ghost use Rattle.machine.specs.declared.event.Event.TheVariants as event;
 ghost use Rattle.trail.specs.Entries.{reply_with};
+ghost use Rattle.held.specs.Denials.{IsDenied};
+ghost use Rattle.held.specs.Entered.{Made};
 
-use cachecore::{ReadAnswer, Reply, WriteAnswer};
-use pc_types::{Bytes, Refusal};
+use crate::denied::{Denied, told};
+use crate::log::{Seat, Slip};
+use crate::naming::Naming;
+use crate::state::Held;
+use cachecore::replies::of_write;
+use cachecore::{Event, ReadAnswer, Reply, WriteAnswer};
+use pc_types::{Bytes, HandleId, Refusal};
 use std::alloc::Global;
+use trail::Trail;
+
+impl<B: Naming, T: Trail> Held<B, T> {
+    /// Reads the bytes from `offset` on into the front of `out`.
+    pub fn read(
+        &mut self,
+        seat: &mut Seat,
+        handle: HandleId,
+        offset: u64,
+        out: &mut [u8],
+    ) -> Result<(ReadAnswer, Slip), Denied>
+        requires { seat.old.table ≡ B.table }
+        ensures made { IfOk result (λ r. Made (event.Read handle offset (length out.old)) (was_read (Ok r.0) out.new) self.old self.new seat.old seat.new r.1) }
+        ensures denied { IfErr result (IsDenied (event.Read handle offset (length out.old)) self.old self.new seat.old seat.new) }
+        ensures count { IfOk result (λ r. bytes_read (Ok r.0) ≤ length out.old) }
+        ensures rest { IfOk result (λ r. drop (bytes_read (Ok r.0)) out.new ≡ drop (bytes_read (Ok r.0)) out.old) }
+        ensures kept { IfErr result (λ _. out.new ≡ out.old) }
+    {
+        let Held {
+            core,
+            log,
+            alloc,
+            ..
+        } = self;
+        let asked = out.len() as u64;
+        log.check_room(core, 1, asked)?;
+        let answer = core.read(handle, offset, out);
+        let event = Event::Read(handle, offset, asked);
+        let (reply, count) = of_read(&answer, *alloc);
+        let slip = log.enter(seat, event, reply, &out[..count as usize]);
+        told(answer, slip)
+    }
+
+    /// Writes the bytes into the file from `offset` on.
+    pub fn write(
+        &mut self,
+        seat: &mut Seat,
+        handle: HandleId,
+        offset: u64,
+        bytes: &[u8],
+    ) -> Result<(WriteAnswer, Slip), Denied>
+        requires { seat.old.table ≡ B.table }
+        ensures made { IfOk result (λ r. Made (event.Write handle offset bytes.now) (wrote (Ok r.0)) self.old self.new seat.old seat.new r.1) }
+        ensures denied { IfErr result (IsDenied (event.Write handle offset bytes.now) self.old self.new seat.old seat.new) }
+    {
+        let Held {
+            core,
+            log,
+            alloc,
+            ..
+        } = self;
+        log.check_room(core, 1, bytes.len() as u64)?;
+        let answer = core.write(handle, offset, bytes);
+        let event = Event::Write(handle, offset, no_bytes(*alloc));
+        let slip = log.enter(seat, event, of_write(&answer), bytes);
+        told(answer, slip)
+    }
+
+    /// Writes the bytes at the end of the file.
+    pub fn append(
+        &mut self,
+        seat: &mut Seat,
+        handle: HandleId,
+        bytes: &[u8],
+    ) -> Result<(WriteAnswer, Slip), Denied>
+        requires { seat.old.table ≡ B.table }
+        ensures made { IfOk result (λ r. Made (event.Append handle bytes.now) (wrote (Ok r.0)) self.old self.new seat.old seat.new r.1) }
+        ensures denied { IfErr result (IsDenied (event.Append handle bytes.now) self.old self.new seat.old seat.new) }
+    {
+        let Held {
+            core,
+            log,
+            alloc,
+            ..
+        } = self;
+        log.check_room(core, 1, bytes.len() as u64)?;
+        let answer = core.append(handle, bytes);
+        let event = Event::Append(handle, no_bytes(*alloc));
+        let slip = log.enter(seat, event, of_write(&answer), bytes);
+        told(answer, slip)
+    }
+}
 
 /// No bytes. They take no memory.
 pub(crate) fn no_bytes(alloc: Global) -> Bytes
@@ -25,16 +115,5 @@ pub(crate) fn of_read(answer: &Result<ReadAnswer, Refusal>, alloc: Global) -> (R
         Ok(ReadAnswer::Wait(page)) => (Reply::Wait(*page), 0),
         Ok(ReadAnswer::Miss(page)) => (Reply::Miss(*page), 0),
         Err(refusal) => (Reply::Refused(*refusal), 0),
-    }
-}
-
-pub(crate) fn of_write(answer: &Result<WriteAnswer, Refusal>) -> Reply
-    ensures { result ≡ wrote answer.now }
-{
-    match answer {
-        Ok(WriteAnswer::Wrote { count, end }) => Reply::Wrote(*count, *end),
-        Ok(WriteAnswer::Wait(page)) => Reply::Wait(*page),
-        Ok(WriteAnswer::Miss(page)) => Reply::Miss(*page),
-        Err(refusal) => Reply::Refused(*refusal),
     }
 }

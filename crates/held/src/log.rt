@@ -1,22 +1,23 @@
 //! The history of a cache with the seats of its callers, and the slips of their entries.
 
-ghost use Rattle.std.specs.Prelude.{◌≡◌, ◌≢◌, ℕ, ◌+◌, ◌^◌, ◌<◌, ◌≤◌, [], ◌∷◌, ◌++◌, length, IfOk, IfErr, OnErr, OnOk, All, Any, vec_len, ◌⊎◌, true, Some};
+ghost use Rattle.std.specs.Prelude.{◌≡◌, ◌≢◌, ℕ, ◌+◌, ◌<◌, ◌≤◌, [], ◌∷◌, ◌++◌, length, IfOk, IfErr, OnOk, All, Any, vec_len, ◌⊎◌, false, true, None, Some};
 ghost use Rattle.std.specs.Arc.{arc_value};
 ghost use Rattle.std.specs.Bool.{OnTrue, OnFalse};
-ghost use Rattle.pc_types.specs.declared.refusal.Refusal.TheVariants.{Stranger};
+ghost use Rattle.pc_types.specs.declared.refusal.Refusal.TheVariants.{Stranger, TrailFull};
 ghost use mathlib.Core.List.{IsPrefix};
 ghost use Rattle.held.specs.declared.views.View.TheVariants.{Keeper};
 ghost use Rattle.held.specs.Entered.{Entered};
 ghost use Rattle.trail.specs.Entries.{entry_with};
-ghost use Rattle.trail.specs.Room.{fits, fits_beside, less};
+ghost use Rattle.trail.specs.Room.{fits, fits_beside, less, reserved};
 ghost use Rattle.held.specs.Shown.{AreFresh, IsFresh, IsKeeper, all_of};
 ghost use Rattle.held.specs.Steps.{IsAt, Stays};
 ghost use Rattle.held.specs.Views.{count_of};
 
+use crate::denied::{Denied, without_slip};
 use crate::steps::{enter, give_seat, look, settle};
 use crate::views::{Count, InOneOrder, Stand, View};
 use atomic_table::Table;
-use cachecore::{Event, Reply};
+use cachecore::{CacheCore, Event, Reply};
 use pc_types::Refusal;
 use std::alloc::{AllocError, Global};
 use std::marker::Model;
@@ -120,12 +121,34 @@ impl<T: Trail> Log<T> {
         }
     }
 
-    /// Whether so many more entries, with so many bytes together, fit beside what is reserved.
-    pub(crate) fn has_room(&self, page: u64, reserved: &Reserve, events: u64, bytes: u64) -> bool
-        ensures fits { result ≡ fits_beside self.now.room page reserved.now events bytes }
-        ensures small { result ≡ true → reserved.now.fills + reserved.now.others + events < 2 ^ 64 }
+    /// Whether so many more entries, with so many bytes together, fit beside the ends of all that is in flight.
+    pub(crate) fn has_room(&self, core: &CacheCore, entries: u64, bytes: u64) -> bool
+        ensures { result ≡ fits_beside self.now.room core.now.state.sizes.page (reserved core.now.state) entries bytes }
     {
-        self.trail.has_room(page, reserved, events, bytes)
+        let in_flight = core.in_flight();
+        let reserved = Reserve {
+            fills: in_flight.fills,
+            others: in_flight.flushes + in_flight.syncs,
+        };
+        let page = core.geometry().page();
+        self.trail.has_room(page, &reserved, entries, bytes)
+    }
+
+    /// Refuses an event by `TrailFull` where there is no such room.
+    pub(crate) fn check_room(
+        &self,
+        core: &CacheCore,
+        entries: u64,
+        bytes: u64,
+    ) -> Result<(), Denied>
+        ensures room { OnOk result (fits_beside self.now.room core.now.state.sizes.page (reserved core.now.state) entries bytes ≡ true) }
+        ensures full { IfErr result (λ d. (d ≡ record { refusal = TrailFull; slip = None }) × (fits_beside self.now.room core.now.state.sizes.page (reserved core.now.state) entries bytes ≡ false)) }
+    {
+        if self.has_room(core, entries, bytes) {
+            Ok(())
+        } else {
+            Err(without_slip(Refusal::TrailFull))
+        }
     }
 
     /// The history of the cache of this name, without entries, its seats, numbered from 0, and one more. All memory is taken before

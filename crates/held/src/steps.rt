@@ -8,7 +8,7 @@ ghost use Rattle.held.specs.Views.{count_of};
 ghost use Rattle.held.specs.declared.views.View.TheVariants.{Spent, Keeper, Holds, Seat};
 
 use crate::views::{
-    Adds, Compares, Count, GivesBack, GivesNote, GivesSeat, Naming, Sees, Stand, TakesBack,
+    Adds, Compares, Count, GivesBack, GivesNote, GivesSeat, NamesEntry, Sees, Stand, TakesBack,
     TakesNote,
 };
 use std::marker::Brand;
@@ -49,7 +49,7 @@ fn take_note(table: &Count, keeper: &mut Stand, seat: &mut Stand)
     table.join_seat::<TakesNote>(keeper, note);
 }
 
-fn add<N: Naming>(table: &Count, keeper: &mut Stand, len: u64, entry: &Entry, bytes: &[u8])
+fn add<N: NamesEntry>(table: &Count, keeper: &mut Stand, len: u64, entry: &Entry, bytes: &[u8])
     requires at { IsAt table.now.table_id keeper.old }
     requires keeper { keeper.old.me ≡ (Holds (all_of keeper.old.me.0) (made_of keeper.old.me.0) (number_in keeper.old.me.0) (list_of keeper.old.me.0) (count_in keeper.old.me.0), []) }
     requires entry { (N.entry ≡ entry_with entry.now bytes.now) × (entry.now.seat ≡ number_in keeper.old.me.0) }

@@ -28,24 +28,24 @@ impl TableRule<u8, View, ()> for InOneOrder {
 }
 
 /// Names an entry, which may be one that no value of the program is. Each call that adds one picks it.
-pub trait Naming {
+pub trait NamesEntry {
     ghost use Rattle.trail.specs.declared.entry.Entry.{Entry};
 
     ghost entry: { Entry };
 }
 
-impl Naming for Brand {
+impl NamesEntry for Brand {
     ghost use Rattle.held.specs.Views.{no_entry};
 
     ghost entry = { no_entry };
 }
 
 /// The trail's side adds the entry, of the seat that it holds.
-pub struct Adds<N: Naming> {
+pub struct Adds<N: NamesEntry> {
     of: PhantomData<N>,
 }
 
-impl<N: Naming> Play<u8, View> for Adds<N> {
+impl<N: NamesEntry> Play<u8, View> for Adds<N> {
     ghost use Rattle.held.specs.Rules.{Added};
 
     ghost then = { λ s before found after. Added N.entry s before found after };

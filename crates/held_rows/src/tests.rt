@@ -2,16 +2,22 @@
 //! with a device run over a trail that keeps nothing, by `over_no_trail`, since the check is slow where a cache is dropped.
 
 ghost use Rattle.std.specs.Prelude.{◌≡◌, length};
+ghost use Rattle.held.specs.Keeps.{IsLocked};
 
 use crate::checks::check;
 use blockdev::{BlockDevice, Buffer, FaultEffect, Finished, Job, ScriptDevice, perform};
-use cachecore::{CacheCore, Ended, FillBegun, FlushBegun, ReadAnswer, SyncStepped, WriteAnswer};
+use cachecore::{
+    CacheCore, Ended, FillBegun, FlushBegun, ReadAnswer, SyncStepped, TruncateAnswer, WriteAnswer,
+};
 use errboard::{Board, Receipt};
-use held::call::{Answer, Call};
+use held::denied::Denied;
 use held::log::{Seat, Slip};
-use held::state::Held;
+use held::naming::Naming;
+use held::state::{Held, Opened};
+use pc_types::limits::LAST_PAGE;
 use pc_types::{ErrCode, FileId, Geometry, HandleId, PageIndex, Refusal, SyncId};
 use std::alloc::Global;
+use std::marker::Brand;
 use std::mem::drop;
 use std::process::Abort;
 use trail::{NoTrail, Trail};
@@ -20,64 +26,66 @@ pub(crate) const FILE: FileId = FileId(0);
 
 pub(crate) const HANDLE: HandleId = HandleId(0);
 
-/// Makes a call without a buffer, for which the trail has room.
-pub(crate) fn acts<T: Trail>(
-    rt: &impl Abort,
-    held: &mut Held<T>,
-    seat: &mut Seat,
-    call: Call,
-) -> (Answer, Slip)
-    requires { seat.old.table ≡ held.old.log.table }
-    ensures { (held.new.log.table ≡ held.old.log.table) × (seat.new.table ≡ seat.old.table) }
-{
-    held.act(seat, call).expect(rt, "room in the trail")
-}
-
 /// Makes the first file, and opens it.
-pub(crate) fn opens<T: Trail>(rt: &impl Abort, held: &mut Held<T>, seat: &mut Seat) -> Slip
-    requires { seat.old.table ≡ held.old.log.table }
-    ensures { (held.new.log.table ≡ held.old.log.table) × (seat.new.table ≡ seat.old.table) }
+pub(crate) fn opens<B: Naming, T: Trail>(
+    rt: &impl Abort,
+    held: &mut Held<B, T>,
+    seat: &mut Seat,
+) -> Slip
+    requires { seat.old.table ≡ B.table }
+    ensures { seat.new.table ≡ seat.old.table }
 {
-    let (file, slip) = acts(rt, held, seat, Call::Create);
-    check(rt, matches!(file, Answer::File(FileId(0))));
-    let (handle, _) = acts(rt, held, seat, Call::Open(FILE));
-    check(rt, matches!(handle, Answer::Handle(HandleId(0))));
+    let (file, slip) = held.create(seat).expect(rt, "a file");
+    check(rt, file == FILE);
+    let (handle, pass, _) = held.open(seat, FILE).expect(rt, "a handle");
+    check(rt, handle == HANDLE);
+    held.retire(pass);
     slip
 }
 
 /// Writes aa at 0.
-pub(crate) fn writes<T: Trail>(rt: &impl Abort, held: &mut Held<T>, seat: &mut Seat) -> Slip
-    requires { seat.old.table ≡ held.old.log.table }
-    ensures { (held.new.log.table ≡ held.old.log.table) × (seat.new.table ≡ seat.old.table) }
+pub(crate) fn writes<B: Naming, T: Trail>(
+    rt: &impl Abort,
+    held: &mut Held<B, T>,
+    seat: &mut Seat,
+) -> Slip
+    requires { seat.old.table ≡ B.table }
+    ensures { seat.new.table ≡ seat.old.table }
 {
     let written = held.write(seat, HANDLE, 0, b"\xaa");
-    let (answer, slip) = written.expect(rt, "room in the trail");
-    check(rt, answer == Ok(WriteAnswer::Wrote { count: 1, end: 1 }));
+    let (answer, slip) = written.expect(rt, "a write");
+    check(rt, answer == WriteAnswer::Wrote { count: 1, end: 1 });
     slip
 }
 
 /// Reads aa at 0, by this handle.
-pub(crate) fn reads<T: Trail>(
+pub(crate) fn reads<B: Naming, T: Trail>(
     rt: &impl Abort,
-    held: &mut Held<T>,
+    held: &mut Held<B, T>,
     seat: &mut Seat,
     handle: HandleId,
-) -> Result<Slip, Refusal>
-    requires { seat.old.table ≡ held.old.log.table }
-    ensures { (held.new.log.table ≡ held.old.log.table) × (seat.new.table ≡ seat.old.table) }
+) -> Result<Slip, Denied>
+    requires { seat.old.table ≡ B.table }
+    ensures { seat.new.table ≡ seat.old.table }
 {
     let mut out = [9];
     let (answer, slip) = held.read(seat, handle, 0, &mut out)?;
-    check(rt, answer == Ok(ReadAnswer::Bytes(1)));
+    check(rt, answer == ReadAnswer::Bytes(1));
     check(rt, out == [0xaa]);
     Ok(slip)
 }
 
 /// A buffer for a page of the cache.
-fn buffer<T: Trail>(rt: &impl Abort, alloc: Global, held: &Held<T>) -> Buffer
-    ensures { length result ≡ held.now.core.state.sizes.page }
+fn buffer<B: Naming, T: Trail>(rt: &impl Abort, alloc: Global, held: &Held<B, T>) -> Buffer
+    ensures { length result ≡ B.sizes.page }
 {
-    Buffer::new(alloc, &held.core().geometry()).expect(rt, "a buffer")
+    zeros(rt, alloc, held.core())
+}
+
+fn zeros(rt: &impl Abort, alloc: Global, core: &CacheCore) -> Buffer
+    ensures { length result ≡ core.now.state.sizes.page }
+{
+    Buffer::new(alloc, &core.geometry()).expect(rt, "a buffer")
 }
 
 /// Makes the device call of a job, which is one for this device. Macros say so, since `perform` requires it.
@@ -92,34 +100,34 @@ fn made(rt: &impl Abort, device: &mut ScriptDevice, core: &CacheCore, job: Job) 
 }
 
 /// Ends a flush. Gives what that answers, and the receipt.
-fn ends_flush<T: Trail>(
+fn ends_flush<B: Naming, T: Trail>(
     rt: &impl Abort,
-    held: &mut Held<T>,
+    held: &mut Held<B, T>,
     seat: &mut Seat,
     finished: Finished,
 ) -> (Ended, Option<Receipt>)
-    requires { seat.old.table ≡ held.old.log.table }
-    ensures { (held.new.log.table ≡ held.old.log.table) × (seat.new.table ≡ seat.old.table) }
+    requires { seat.old.table ≡ B.table }
+    ensures { seat.new.table ≡ seat.old.table }
 {
     let ended = held.flush_end(seat, finished);
-    let (answer, receipt, _) = ended.expect(rt, "room in the trail");
-    (answer.expect(rt, "an end"), receipt)
+    let (answer, receipt, _) = ended.expect(rt, "an end");
+    (answer, receipt)
 }
 
 /// Writes the file's page to the device.
-fn flushes<T: Trail>(
+fn flushes<B: Naming, T: Trail>(
     rt: &impl Abort,
     alloc: Global,
-    held: &mut Held<T>,
+    held: &mut Held<B, T>,
     seat: &mut Seat,
     device: &mut ScriptDevice,
 ) -> (Ended, Option<Receipt>)
-    requires { seat.old.table ≡ held.old.log.table }
-    ensures { (held.new.log.table ≡ held.old.log.table) × (seat.new.table ≡ seat.old.table) }
+    requires { seat.old.table ≡ B.table }
+    ensures { seat.new.table ≡ seat.old.table }
 {
     let buffer = buffer(rt, alloc, held);
     let begun = held.flush_begin(seat, FILE, buffer);
-    let Ok((Ok(FlushBegun::Job(job)), _)) = begun else {
+    let Ok((FlushBegun::Job(job), _)) = begun else {
         panic!(rt; "a job");
     };
     let finished = made(rt, device, held.core(), job);
@@ -127,63 +135,59 @@ fn flushes<T: Trail>(
 }
 
 /// Reads the page from the device.
-fn fills<T: Trail>(
+fn fills<B: Naming, T: Trail>(
     rt: &impl Abort,
     alloc: Global,
-    held: &mut Held<T>,
+    held: &mut Held<B, T>,
     seat: &mut Seat,
     device: &mut ScriptDevice,
 ) -> Ended
-    requires { seat.old.table ≡ held.old.log.table }
-    ensures { (held.new.log.table ≡ held.old.log.table) × (seat.new.table ≡ seat.old.table) }
+    requires { seat.old.table ≡ B.table }
+    ensures { seat.new.table ≡ seat.old.table }
 {
     let buffer = buffer(rt, alloc, held);
     let begun = held.fill_begin(seat, HANDLE, PageIndex(0), buffer);
-    let Ok((Ok(FillBegun::Job(job)), _)) = begun else {
+    let Ok((FillBegun::Job(job), _)) = begun else {
         panic!(rt; "a job");
     };
     let finished = made(rt, device, held.core(), job);
     let ended = held.fill_end(seat, finished);
-    let (answer, _) = ended.expect(rt, "room in the trail");
-    answer.expect(rt, "an end")
+    let (answer, _) = ended.expect(rt, "an end");
+    answer
 }
 
 // A page that was written and evicted is read back from the device.
-fn writes_and_fills(
+fn writes_and_fills<B: Naming>(
     rt: &impl Abort,
     alloc: Global,
-    held: &mut Held<NoTrail>,
+    held: &mut Held<B, NoTrail>,
     seat: &mut Seat,
     device: &mut ScriptDevice,
 )
-    requires { seat.old.table ≡ held.old.log.table }
+    requires { seat.old.table ≡ B.table }
 {
     opens(rt, held, seat);
     writes(rt, held, seat);
     let (written, none) = flushes(rt, alloc, held, seat, device);
     check(rt, matches!(written, Ended::Done(_)) && none.is_none());
-    let (aged, _) = acts(rt, held, seat, Call::Age);
-    check(rt, matches!(aged, Answer::Aged(_)));
-    let (evicted, _) = acts(rt, held, seat, Call::Evict);
-    check(
-        rt,
-        matches!(evicted, Answer::Evicted(FileId(0), PageIndex(0))),
-    );
+    check(rt, held.age(seat).is_ok());
+    let (evicted, _) = held.evict(seat).expect(rt, "room in the trail");
+    check(rt, evicted == Some((FILE, PageIndex(0))));
     let filled = fills(rt, alloc, held, seat, device);
     check(rt, matches!(filled, Ended::Done(_)));
     check(rt, reads(rt, held, seat, HANDLE).is_ok());
 }
 
 // The handle that was open when the write failed is told of it, once.
-fn fails_a_flush(
+fn fails_a_flush<B: Naming>(
     rt: &impl Abort,
     alloc: Global,
-    held: &mut Held<NoTrail>,
+    held: &mut Held<B, NoTrail>,
     board: &Board,
     seat: &mut Seat,
     device: &mut ScriptDevice,
 )
-    requires { (seat.old.table ≡ held.old.log.table) × (held.old.errors.board ≡ board.now) }
+    requires { (seat.old.table ≡ B.table) × (board.now ≡ B.board) }
 {
     let mut pass = held.pass(FILE).expect(rt, "a pass");
     opens(rt, held, seat);
@@ -198,42 +202,41 @@ fn fails_a_flush(
     check(rt, board.poll(&mut pass).is_none());
 }
 
-fn begins_sync(rt: &impl Abort, held: &mut Held<NoTrail>, seat: &mut Seat) -> SyncId
-    requires { seat.old.table ≡ held.old.log.table }
-    ensures { (held.new.log.table ≡ held.old.log.table) × (seat.new.table ≡ seat.old.table) }
+fn begins_sync<B: Naming>(rt: &impl Abort, held: &mut Held<B, NoTrail>, seat: &mut Seat) -> SyncId
+    requires { seat.old.table ≡ B.table }
+    ensures { seat.new.table ≡ seat.old.table }
 {
     let (sync, _) = held
-        .sync_begin(seat, HANDLE)
-        .expect(rt, "room in the trail");
-    sync.expect(rt, "a sync")
+        .sync_begin(seat, HANDLE, PageIndex(0), PageIndex(LAST_PAGE))
+        .expect(rt, "a sync");
+    sync
 }
 
 /// Makes a step of the sync.
-fn steps(
+fn steps<B: Naming>(
     rt: &impl Abort,
     alloc: Global,
-    held: &mut Held<NoTrail>,
+    held: &mut Held<B, NoTrail>,
     seat: &mut Seat,
     sync: SyncId,
 ) -> SyncStepped
-    requires { seat.old.table ≡ held.old.log.table }
-    ensures { (held.new.log.table ≡ held.old.log.table) × (seat.new.table ≡ seat.old.table) }
+    requires { seat.old.table ≡ B.table }
+    ensures { seat.new.table ≡ seat.old.table }
 {
     let buffer = buffer(rt, alloc, held);
-    let stepped = held.sync_step(seat, sync, buffer);
-    let (answer, _) = stepped.expect(rt, "room in the trail");
-    answer.expect(rt, "a step")
+    let (answer, _) = held.sync_step(seat, sync, buffer).expect(rt, "a step");
+    answer
 }
 
 // One sync goes to its end, and the next is given up.
-fn syncs(
+fn syncs<B: Naming>(
     rt: &impl Abort,
     alloc: Global,
-    held: &mut Held<NoTrail>,
+    held: &mut Held<B, NoTrail>,
     seat: &mut Seat,
     device: &mut ScriptDevice,
 )
-    requires { seat.old.table ≡ held.old.log.table }
+    requires { seat.old.table ≡ B.table }
 {
     opens(rt, held, seat);
     writes(rt, held, seat);
@@ -247,32 +250,30 @@ fn syncs(
     let clean = steps(rt, alloc, held, seat, sync);
     check(rt, matches!(clean, SyncStepped::Clean(_)));
     let next = begins_sync(rt, held, seat);
-    let dropped = held.sync_drop(seat, next);
-    check(rt, matches!(dropped, Ok((Ok(()), _))));
+    check(rt, held.sync_drop(seat, next).is_ok());
 }
 
 // The calls without a device, over a trail that keeps nothing.
-fn cuts(rt: &impl Abort, held: &mut Held<NoTrail>, seat: &mut Seat)
-    requires { seat.old.table ≡ held.old.log.table }
+fn cuts<B: Naming>(rt: &impl Abort, held: &mut Held<B, NoTrail>, seat: &mut Seat)
+    requires { seat.old.table ≡ B.table }
 {
     opens(rt, held, seat);
     writes(rt, held, seat);
     let appended = held.append(seat, HANDLE, b"\xbb");
-    let (answer, _) = appended.expect(rt, "room in the trail");
-    check(rt, answer == Ok(WriteAnswer::Wrote { count: 1, end: 2 }));
-    let (cut, _) = acts(rt, held, seat, Call::Truncate(HANDLE, 1));
-    check(rt, matches!(cut, Answer::Done));
-    let (size, _) = acts(rt, held, seat, Call::Size(HANDLE));
-    check(rt, matches!(size, Answer::Size(1)));
+    let (answer, _) = appended.expect(rt, "an append");
+    check(rt, answer == WriteAnswer::Wrote { count: 1, end: 2 });
+    let (cut, _) = held.truncate(seat, HANDLE, 1).expect(rt, "a truncation");
+    check(rt, cut == TruncateAnswer::Done);
+    let (size, _) = held.size(seat, HANDLE).expect(rt, "a size");
+    check(rt, size == 1);
     check(rt, reads(rt, held, seat, HANDLE).is_ok());
-    let (closed, slip) = acts(rt, held, seat, Call::Close(HANDLE));
-    check(rt, matches!(closed, Answer::Closed));
+    let slip = held.close_handle(seat, HANDLE).expect(rt, "a close");
     check(rt, slip.name == 7 && slip.place == 7);
 }
 
 // A pass is levelled and taken back.
-fn passes(rt: &impl Abort, held: &mut Held<NoTrail>, board: &Board)
-    requires { held.old.errors.board ≡ board.now }
+fn passes<B: Naming>(rt: &impl Abort, held: &mut Held<B, NoTrail>, board: &Board)
+    requires { board.now ≡ B.board }
 {
     let mut pass = held.pass(FILE).expect(rt, "a pass");
     check(rt, held.pass(FileId(64)).err() == Some(Refusal::NoSuchFile));
@@ -290,15 +291,15 @@ enum Row {
     Syncs,
 }
 
-fn run(
+fn run<B: Naming>(
     rt: &impl Abort,
     alloc: Global,
-    held: &mut Held<NoTrail>,
+    held: &mut Held<B, NoTrail>,
     board: &Board,
     seat: &mut Seat,
     row: Row,
 )
-    requires { (seat.old.table ≡ held.old.log.table) × (held.old.errors.board ≡ board.now) }
+    requires { (seat.old.table ≡ B.table) × (board.now ≡ B.board) }
 {
     let mut device = ScriptDevice::new(alloc, 16, 64).expect(rt, "a device");
     match row {
@@ -310,18 +311,34 @@ fn run(
     }
 }
 
+/// Runs a row over the cache that B names.
+fn run_named<B: Naming>(
+    rt: &impl Abort,
+    alloc: Global,
+    opened: Opened<NoTrail>,
+    board: &Board,
+    mut own: Seat,
+    row: Row,
+)
+    requires state { IsLocked B.name B.table B.board B.sizes B.seats opened }
+    requires own { (own.table ≡ B.table) × (board.now ≡ B.board) }
+{
+    let mut held = Held::<B, NoTrail>::of(opened);
+    run(rt, alloc, &mut held, board, &mut own, row);
+    drop(held);
+    drop(own);
+}
+
 /// Runs a row over a new cache, by the cache's own seat.
 fn over_no_trail(rt: &impl Abort, alloc: Global, row: Row) {
     let geometry = Geometry::new(16, 48, 16, 64).expect(rt, "sizes");
-    let new = Held::new(alloc, &geometry, 7, NoTrail::new(), 1);
-    let Ok((mut held, board, seats, mut own)) = new else {
+    let new = Opened::new(alloc, &geometry, 7, NoTrail::new(), 1);
+    let Ok((opened, board, seats, own)) = new else {
         panic!(rt; "a cache");
     };
-    run(rt, alloc, &mut held, &board, &mut own, row);
-    drop(held);
+    run_named::<Brand>(rt, alloc, opened, &board, own, row);
     drop(board);
     drop(seats);
-    drop(own);
 }
 
 #[test]

@@ -1,23 +1,31 @@
 //! Worked calls over a trail that keeps every entry, to the close of the cache. Two seats take part: the cache's own, and seat 0.
 
 ghost use Rattle.std.specs.Prelude.{◌≡◌, All};
+ghost use Rattle.held.specs.Keeps.{IsLocked};
 
 use crate::checks::check;
-use crate::tests::{FILE, HANDLE, acts, opens, reads, writes};
+use crate::tests::{FILE, HANDLE, opens, reads, writes};
 use cachecore::ReadAnswer;
-use held::call::{Answer, Call};
+use held::denied::Denied;
 use held::log::{Seat, Slip, confirm};
-use held::state::Held;
-use pc_types::{Geometry, HandleId, Refusal};
+use held::naming::Naming;
+use held::state::{Held, Opened};
+use pc_types::{Geometry, Refusal};
 use std::alloc::Global;
+use std::marker::Brand;
 use std::mem::drop;
 use std::process::Abort;
 use trail::{FullTrail, replay_plain};
 
 /// Closes the cache.
-fn closes(rt: &impl Abort, held: Held<FullTrail>, seats: Vec<Seat>, own: Seat) -> FullTrail
-    requires seats { All (λ s. s.table ≡ held.log.table) seats.items }
-    requires own { own.table ≡ held.log.table }
+fn closes<B: Naming>(
+    rt: &impl Abort,
+    held: Held<B, FullTrail>,
+    seats: Vec<Seat>,
+    own: Seat,
+) -> FullTrail
+    requires seats { All (λ s. s.table ≡ B.table) seats.items }
+    requires own { own.table ≡ B.table }
 {
     let closed = held.close(seats, own);
     let Ok((trail, core)) = closed else {
@@ -28,15 +36,15 @@ fn closes(rt: &impl Abort, held: Held<FullTrail>, seats: Vec<Seat>, own: Seat) -
 }
 
 /// Closes the cache, first without seat 0, then with it.
-fn closes_again(
+fn closes_again<B: Naming>(
     rt: &impl Abort,
-    held: Held<FullTrail>,
+    held: Held<B, FullTrail>,
     none: Vec<Seat>,
     seat: Seat,
     own: Seat,
 ) -> FullTrail
-    requires none { All (λ s. s.table ≡ held.log.table) none.items }
-    requires seats { (seat.table ≡ held.log.table) × (own.table ≡ held.log.table) }
+    requires none { All (λ s. s.table ≡ B.table) none.items }
+    requires seats { (seat.table ≡ B.table) × (own.table ≡ B.table) }
 {
     let refused = held.close(none, own);
     let Err((refusal, held, mut seats, own)) = refused else {
@@ -50,20 +58,33 @@ fn closes_again(
 }
 
 // A trail of four entries and a byte. A read of no bytes needs no room for any, and the size of a file needs an entry.
-fn meets_a_full_trail(rt: &impl Abort, held: &mut Held<FullTrail>, seat: &mut Seat) -> (Slip, Slip)
-    requires { seat.old.table ≡ held.old.log.table }
-    ensures { (held.new.log.table ≡ held.old.log.table) × (seat.new.table ≡ seat.old.table) }
+fn meets_a_full_trail<B: Naming>(
+    rt: &impl Abort,
+    held: &mut Held<B, FullTrail>,
+    seat: &mut Seat,
+) -> (Slip, Slip)
+    requires { seat.old.table ≡ B.table }
+    ensures { seat.new.table ≡ seat.old.table }
 {
     let first = opens(rt, held, seat);
     writes(rt, held, seat);
-    let refused = reads(rt, held, seat, HANDLE).err();
-    check(rt, refused == Some(Refusal::TrailFull));
+    check(rt, is_full(&reads(rt, held, seat, HANDLE)));
     let read = held.read(seat, HANDLE, 0, &mut []);
     let (answer, last) = read.expect(rt, "room for no bytes");
-    check(rt, answer == Ok(ReadAnswer::Bytes(0)));
-    let full = held.act(seat, Call::Size(HANDLE));
-    check(rt, matches!(full, Err(Refusal::TrailFull)));
+    check(rt, answer == ReadAnswer::Bytes(0));
+    check(rt, is_full(&held.size(seat, HANDLE)));
     (first, last)
+}
+
+/// Whether a call was refused since the trail is full, without an entry.
+fn is_full<A>(answer: &Result<A, Denied>) -> bool {
+    matches!(
+        answer,
+        Err(Denied {
+            refusal: Refusal::TrailFull,
+            slip: None
+        })
+    )
 }
 
 // A slip of another cache, or past the history, is refused.
@@ -77,15 +98,14 @@ fn refuses_strangers(rt: &impl Abort, seat: &mut Seat)
 }
 
 // Each seat sees what the other did: the second reads what the first wrote, and the first closes what the second read by.
-fn see_each_other(
+fn see_each_other<B: Naming>(
     rt: &impl Abort,
-    held: &mut Held<FullTrail>,
+    held: &mut Held<B, FullTrail>,
     first: &mut Seat,
     second: &mut Seat,
 ) -> (Slip, Slip)
-    requires { (first.old.table ≡ held.old.log.table) × (second.old.table ≡ held.old.log.table) }
-    ensures held { held.new.log.table ≡ held.old.log.table }
-    ensures seats { (first.new.table ≡ first.old.table) × (second.new.table ≡ second.old.table) }
+    requires { (first.old.table ≡ B.table) × (second.old.table ≡ B.table) }
+    ensures { (first.new.table ≡ first.old.table) × (second.new.table ≡ second.old.table) }
 {
     opens(rt, held, first);
     refuses_strangers(rt, second);
@@ -93,10 +113,10 @@ fn see_each_other(
     check(rt, second.see(&wrote).is_ok());
     let read = reads(rt, held, second, HANDLE).expect(rt, "room in the trail");
     check(rt, first.see(&read).is_ok());
-    let (closed, _) = acts(rt, held, first, Call::Close(HANDLE));
-    check(rt, matches!(closed, Answer::Closed));
-    let (opened, _) = acts(rt, held, second, Call::Open(FILE));
-    check(rt, matches!(opened, Answer::Handle(HandleId(0))));
+    check(rt, held.close_handle(first, HANDLE).is_ok());
+    let (handle, pass, _) = held.open(second, FILE).expect(rt, "a handle");
+    check(rt, handle == HANDLE);
+    held.retire(pass);
     (wrote, read)
 }
 
@@ -106,16 +126,15 @@ enum Row {
     TwoSeats,
 }
 
-fn run(
+fn run<B: Naming>(
     rt: &impl Abort,
-    held: &mut Held<FullTrail>,
+    held: &mut Held<B, FullTrail>,
     own: &mut Seat,
     seat: &mut Seat,
     row: Row,
 ) -> (Slip, Slip)
-    requires { (own.old.table ≡ held.old.log.table) × (seat.old.table ≡ held.old.log.table) }
-    ensures held { held.new.log.table ≡ held.old.log.table }
-    ensures seats { (own.new.table ≡ own.old.table) × (seat.new.table ≡ seat.old.table) }
+    requires { (own.old.table ≡ B.table) × (seat.old.table ≡ B.table) }
+    ensures { (own.new.table ≡ own.old.table) × (seat.new.table ≡ seat.old.table) }
 {
     match row {
         Row::Full => meets_a_full_trail(rt, held, own),
@@ -123,16 +142,18 @@ fn run(
     }
 }
 
-fn by_two_seats(
+fn by_two_seats<B: Naming>(
     rt: &impl Abort,
-    mut held: Held<FullTrail>,
+    opened: Opened<FullTrail>,
     mut seats: Vec<Seat>,
     mut own: Seat,
     row: Row,
 ) -> (FullTrail, (Slip, Slip))
-    requires seats { All (λ s. s.table ≡ held.log.table) seats.items }
-    requires own { own.table ≡ held.log.table }
+    requires state { IsLocked B.name B.table B.board B.sizes B.seats opened }
+    requires seats { All (λ s. s.table ≡ B.table) seats.items }
+    requires own { own.table ≡ B.table }
 {
+    let mut held = Held::<B, FullTrail>::of(opened);
     let Some(mut seat) = seats.pop() else {
         panic!(rt; "seat 0");
     };
@@ -150,12 +171,12 @@ fn over_full_trail(
 ) -> (FullTrail, (Slip, Slip)) {
     let geometry = Geometry::new(16, 48, 16, 64).expect(rt, "sizes");
     let trail = FullTrail::new(alloc, entries, bytes).expect(rt, "a trail");
-    let new = Held::new(alloc, &geometry, 7, trail, 1);
-    let Ok((held, board, seats, own)) = new else {
+    let new = Opened::new(alloc, &geometry, 7, trail, 1);
+    let Ok((opened, board, seats, own)) = new else {
         panic!(rt; "a cache");
     };
     drop(board);
-    by_two_seats(rt, held, seats, own, row)
+    by_two_seats::<Brand>(rt, opened, seats, own, row)
 }
 
 #[test]

@@ -1,4 +1,4 @@
-//! Counts of pages that end as soon as they tell enough.
+//! Counts of pages that end as soon as they tell enough (decision 167).
 
 ghost use Rattle.std.specs.Prelude.{◌≡◌, ℕ, ◌-◌, ◌<◌, ◌≤◌, Bool, count_by, nat_lt};
 ghost use Rattle.std.specs.List.{range_with_len};

@@ -12,7 +12,7 @@ use std::marker::Model;
 /// 2^32 less 2^32 over the golden ratio, as Linux's hashes take it.
 const GOLDEN_RATIO: u64 = 0x61c8_8647;
 
-/// For each page a frame that may be its own, found without a walk. A guess may be wrong: the frame's owner tells.
+/// For each page a frame that may be its own, found without a walk. A guess may be wrong: the frame's owner tells (decision 70).
 #[derive(Drop)]
 pub struct Guesses {
     // a power of two of places

@@ -11,7 +11,6 @@ ghost use Rattle.pagestore.specs.Store.{none_kept, has_page, is_untagged, is_idl
 use crate::counts::has_more;
 use frames::Frames;
 use mapping::Mapping;
-use pc_types::limits::MAX_TOUCHED;
 use pc_types::{FrameId, PageIndex, Tag, Tags};
 use std::alloc::Global;
 
@@ -67,16 +66,6 @@ impl KeptFile {
         ensures { result ≡ nat_lt room (count_by (λ p. not (has_at self.now.mapping.pages p Dirty)) (range_with_len first (end - first))) }
     {
         has_more(first, end, room, |page| !self.is_dirty(page))
-    }
-
-    /// How many pages from `first` up to `end` are not DIRTY.
-    pub fn clean_pages(&self, first: u64, end: u64) -> usize
-        requires order { first ≤ end }
-        requires few { end - first ≤ MAX_TOUCHED }
-        requires bound { end ≤ 2 ^ 63 }
-        ensures { result ≡ count_by (λ p. not (has_at self.now.mapping.pages p Dirty)) (range_with_len first (end - first)) }
-    {
-        (first..end).filter(|p| !self.is_dirty(*p)).count()
     }
 }
 

@@ -53,7 +53,7 @@ impl Pages {
     }
 
     /// Takes one page of the file away, at this page or after it, and answers which. The page at the guess is tried without a
-    /// search, since the pages of a file mostly stand side by side.
+    /// search, since the pages of a file mostly stand side by side (decision 148).
     fn leave_one(&mut self, file: u64, page: u64, guess: u64) -> Option<u64>
         requires { file < length self.old.files }
         ensures found { IfSome result (λ found. (page ≤ found) × ((is_some (stored_page self.old file found) || is_awaited self.old file found) ≡ true)) }
@@ -105,7 +105,7 @@ impl Pages {
 }
 
 /// The first frame in the order of eviction whose page is idle. Those before it are set aside, so that the next search does not
-/// come to them again.
+/// come to them again (decision 64).
 fn first_idle(frames: &mut Frames, uptodate: &[bool], files: &[KeptFile]) -> Option<FrameId>
     requires sound { IsSound frames.old }
     requires busy { AreBusy frames.old uptodate.now files.now }

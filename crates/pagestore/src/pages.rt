@@ -18,7 +18,7 @@ use crate::counts::{count_over, has_more};
 use crate::guesses::Guesses;
 use crate::kept::{KeptFile, is_uptodate};
 use frames::Frames;
-use pc_types::limits::{MAX_FRAMES, MAX_TOUCHED};
+use pc_types::limits::MAX_FRAMES;
 use pc_types::{FileId, FrameId, Geometry, PageIndex, Refusal, Tag, Tags};
 use std::alloc::{AllocError, Global};
 use std::marker::Model;
@@ -138,19 +138,6 @@ impl Pages {
         (first..end).find(|page| !self.is_cached(file, *page))
     }
 
-    /// How many pages from `first` up to `end` are not cached.
-    pub fn absent_pages(&self, file: u64, first: u64, end: u64) -> usize
-        requires here { file < length self.now.files }
-        requires order { first ≤ end }
-        requires few { end - first ≤ MAX_TOUCHED }
-        requires bound { end ≤ 2 ^ 63 }
-        ensures { result ≡ count_by (λ p. not (is_some (stored_page self.now file p))) (range_with_len first (end - first)) }
-    {
-        (first..end)
-            .filter(|page| !self.is_cached(file, *page))
-            .count()
-    }
-
     /// Whether fewer frames are free than pages from `first` up to `end` are not cached. It looks up no more pages than tell.
     pub fn lacks_frames(&self, file: u64, first: u64, end: u64) -> bool
         requires here { file < length self.now.files }
@@ -180,17 +167,6 @@ impl Pages {
         ensures { result ≡ nat_lt room (count_by (λ p. not ((tags_of (stored_page self.now file p)).dirty)) (range_with_len first (end - first))) }
     {
         self.files[file as usize].has_more_clean(first, end, room)
-    }
-
-    /// How many pages from `first` up to `end` are not DIRTY.
-    pub fn clean_pages(&self, file: u64, first: u64, end: u64) -> usize
-        requires here { file < length self.now.files }
-        requires order { first ≤ end }
-        requires few { end - first ≤ MAX_TOUCHED }
-        requires bound { end ≤ 2 ^ 63 }
-        ensures { result ≡ count_by (λ p. not ((tags_of (stored_page self.now file p)).dirty)) (range_with_len first (end - first)) }
-    {
-        self.files[file as usize].clean_pages(first, end)
     }
 
     /// Makes an absent page from zeros.

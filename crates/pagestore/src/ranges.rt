@@ -16,7 +16,7 @@ use std::alloc::AllocError;
 impl Pages {
     /// Writes the bytes into the span's pages from `page` on, and makes those that are absent. Where memory is refused, the pages
     /// made so far are taken away again, the last one first. It calls itself once a page: at most 16 times in a call of the
-    /// cache (no clause says so).
+    /// cache (no clause says so). Decision 67.
     pub fn write(&mut self, span: Span, bytes: &[u8], page: u64) -> Result<(), AllocError>
         requires here { span.file < length self.old.files }
         requires size { span.page_size ≡ self.old.page }

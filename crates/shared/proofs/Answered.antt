@@ -2,8 +2,8 @@
 use Rattle.std.specs.Prelude.{Err, IfErr, IfOk, Ok, Result}
 use Rattle.trail.specs.declared.entry.Entry.{Entry}
 use Rattle.held.specs.Shown.{SeatSeen}
-use Rattle.locked.specs.Called.{Only}
-use Rattle.locked.specs.declared.denied.Denied.{Denied}
+use Rattle.held.specs.Called.{Only}
+use Rattle.held.specs.declared.denied.Denied.{Denied}
 
 pub only_answered : {A : Type 0} (own : Entry → Type 0) (before after : SeatSeen) (made : A → Type 0) (denied : Denied → Type 0)
     (result : Result A Denied) → IfOk result made → IfErr result denied → ((r : A) → made r → Only own before after)

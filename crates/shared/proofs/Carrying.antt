@@ -11,11 +11,11 @@ use Rattle.pc_types.specs.Limits.{Sizes}
 use Rattle.pc_types.specs.declared.refusal.Refusal.{Refusal}
 use Rattle.held.specs.declared.log.Slip.{Slip}
 use Rattle.held.specs.Shown.{HeldSeen, SeatSeen}
-use Rattle.locked.specs.Called.{Goes, Only}
-use Rattle.locked.specs.Denials as under
-use Rattle.locked.specs.Firsts.{IsFirstDenied, Writes}
-use Rattle.locked.specs.declared.denied.Denied.{Denied}
-use Rattle.locked.proofs.Seats.{only_by, only_on, only_same, only_wider}
+use Rattle.held.specs.Called.{Goes, Only}
+use Rattle.held.specs.Denials as under
+use Rattle.held.specs.Firsts.{IsFirstDenied, Writes}
+use Rattle.held.specs.declared.denied.Denied.{Denied}
+use Rattle.held.proofs.Seats.{only_by, only_on, only_same, only_wider}
 use Rattle.shared.specs.Denials.{MadeOne}
 use Rattle.shared.specs.Workers.{AllCarried, CarriesAll, Ends, IsCarried, IsEndAt, IsEndOf, IsFlushed, OnBegun, is_unended, pushed_by}
 use Rattle.shared.specs.declared.turns.Flushed.{Flushed}

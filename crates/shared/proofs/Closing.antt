@@ -35,8 +35,8 @@ use Rattle.trail.specs.History.{After, seatless}
 use Rattle.held.specs.declared.log.Slip.{Slip}
 use Rattle.held.specs.Entered.{Made}
 use Rattle.held.specs.Shown.{HeldSeen, SeatSeen}
-use Rattle.locked.specs.Denials as under
-use Rattle.locked.specs.declared.denied.Denied.{Denied}
+use Rattle.held.specs.Denials as under
+use Rattle.held.specs.declared.denied.Denied.{Denied}
 use Rattle.shared.specs.Workers.{AllOver, IsEndReply, IsOver, popped_by}
 use Rattle.shared.specs.declared.worker.Worker.{Worker}
 

@@ -9,7 +9,7 @@ use Rattle.std.proofs.lemmas.Bool.Decides.{nat_tests}
 use Rattle.maps.proofs.MapLaws.{no_entries}
 use Rattle.machine.specs.State.{Request, State}
 use Rattle.cachecore.specs.Wants.{holds_cut}
-use Rattle.locked.specs.Flights.{is_busy}
+use Rattle.cachecore.specs.Wants.{is_busy}
 
 none_left : (n : ℕ) → nat_lt 0 n ≡ false → n ≡ 0
 none_left n e = grind (arith, nat_tests)

@@ -24,17 +24,17 @@ use Rattle.trail.specs.History.{After}
 use Rattle.held.specs.Ends.{IsRecorded}
 use Rattle.held.specs.declared.log.Slip.{Slip}
 use Rattle.held.specs.Shown.{HeldSeen, SeatSeen}
-use Rattle.locked.specs.Called.{Goes}
-use Rattle.locked.specs.Denials as under
-use Rattle.locked.specs.Firsts.{IsFirstDenied, Writes}
-use Rattle.locked.specs.declared.denied.Denied.{Denied}
-use Rattle.locked.proofs.Seats.{goes_same}
+use Rattle.held.specs.Called.{Goes}
+use Rattle.held.specs.Denials as under
+use Rattle.held.specs.Firsts.{IsFirstDenied, Writes}
+use Rattle.held.specs.declared.denied.Denied.{Denied}
+use Rattle.held.proofs.Seats.{goes_same}
 use Rattle.shared.specs.Called.{Makes}
 use Rattle.shared.specs.Denials.{IsDenied, MadeOne}
 use Rattle.shared.specs.Workers.{AllEnded, Begins, Ends, IsEndOf, IsEndReply, IsFlushBegin, IsOwnFailure, fails_write, popped_by}
 use Rattle.shared.specs.declared.ends.Done.{Done}
 use Rattle.shared.specs.declared.worker.Worker.{Worker}
-use Rattle.world.specs.Ends.{buffer_of}
+use Rattle.cachecore.specs.Replies.{buffer_of}
 use Rattle.shared.proofs.Making.{denied_by, denied_on, denied_one, makes_on, makes_then}
 
 -- ---- one event

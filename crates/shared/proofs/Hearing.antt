@@ -16,7 +16,7 @@ use Rattle.trail.specs.History.{After}
 use Rattle.held.specs.declared.log.Slip.{Slip}
 use Rattle.held.specs.Entered.{Made}
 use Rattle.held.specs.Shown.{HeldSeen, SeatSeen}
-use Rattle.locked.specs.declared.denied.Denied.{Denied}
+use Rattle.held.specs.declared.denied.Denied.{Denied}
 use Rattle.shared.specs.Polls.{Hears, IsLevelled, Polled}
 use Rattle.shared.specs.Synced.{Reports}
 

@@ -16,8 +16,8 @@ use Rattle.held.specs.declared.log.Slip.{Slip}
 use Rattle.held.specs.Entered.{Made}
 use Rattle.held.specs.Shown.{HeldSeen, SeatSeen}
 use Rattle.held.specs.Views.{count_of}
-use Rattle.locked.specs.Called.{Goes, Only}
-use Rattle.locked.proofs.Seats.{goes_by, only_by}
+use Rattle.held.specs.Called.{Goes, Only}
+use Rattle.held.proofs.Seats.{goes_by, only_by}
 use Rattle.shared.specs.Workers.{LetsGo, lets_go}
 
 abbrev went : ℕ → Entry → Bool

@@ -20,11 +20,11 @@ use Rattle.trail.specs.Entries.{entry_of}
 use Rattle.held.specs.declared.log.Slip.{Slip}
 use Rattle.held.specs.Entered.{Made}
 use Rattle.held.specs.Shown.{HeldSeen, SeatSeen}
-use Rattle.locked.specs.Called.{Goes}
-use Rattle.locked.specs.Denials as under
-use Rattle.locked.specs.Firsts.{IsFirstDenied}
-use Rattle.locked.specs.declared.denied.Denied.{Denied}
-use Rattle.locked.proofs.Seats.{goes_by, goes_same}
+use Rattle.held.specs.Called.{Goes}
+use Rattle.held.specs.Denials as under
+use Rattle.held.specs.Firsts.{IsFirstDenied}
+use Rattle.held.specs.declared.denied.Denied.{Denied}
+use Rattle.held.proofs.Seats.{goes_by, goes_same}
 use Rattle.shared.specs.Called.{IsForLater, Makes, Retries, is_for_now}
 use Rattle.shared.specs.Denials.{DeniedBy, IsDenied, IsFullIfNoSlip, MadeOne}
 use Rattle.shared.specs.Own.{IsCallOf, IsHelp, IsRoomEvent, IsStillDenied}

@@ -22,11 +22,11 @@ use Rattle.trail.specs.Entries.{end_with, entry_of, noted}
 use Rattle.held.specs.declared.log.Slip.{Slip}
 use Rattle.held.specs.Entered.{Made}
 use Rattle.held.specs.Shown.{HeldSeen, SeatSeen}
-use Rattle.locked.specs.Called.{Once, Only}
-use Rattle.locked.specs.Denials as under
-use Rattle.locked.specs.Firsts.{IsFirstDenied, Writes}
-use Rattle.locked.specs.declared.denied.Denied.{Denied}
-use Rattle.locked.proofs.Seats.{once_on, only_by, only_on, only_same, only_wider}
+use Rattle.held.specs.Called.{Once, Only}
+use Rattle.held.specs.Denials as under
+use Rattle.held.specs.Firsts.{IsFirstDenied, Writes}
+use Rattle.held.specs.declared.denied.Denied.{Denied}
+use Rattle.held.proofs.Seats.{once_on, only_by, only_on, only_same, only_wider}
 use Rattle.shared.specs.Changes.{event_of}
 use Rattle.shared.specs.declared.writes.Change.{Change}
 use Rattle.shared.specs.declared.writes.Change.TheVariants.{Append, Truncate, Write}

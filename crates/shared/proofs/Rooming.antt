@@ -35,13 +35,13 @@ use Rattle.trail.specs.History.{After}
 use Rattle.held.specs.declared.log.Slip.{Slip}
 use Rattle.held.specs.Entered.{Made}
 use Rattle.held.specs.Shown.{HeldSeen, SeatSeen}
-use Rattle.locked.specs.Called.{Goes, Only}
-use Rattle.locked.specs.Denials as under
-use Rattle.locked.specs.Flights.{is_busy}
-use Rattle.locked.specs.Firsts.{IsFirstDenied, Writes}
-use Rattle.locked.specs.declared.denied.Denied.{Denied}
-use Rattle.locked.proofs.Replied.{end_taken}
-use Rattle.locked.proofs.Seats.{goes_same, only_by, only_on, only_same, only_wider}
+use Rattle.held.specs.Called.{Goes, Only}
+use Rattle.held.specs.Denials as under
+use Rattle.cachecore.specs.Wants.{is_busy}
+use Rattle.held.specs.Firsts.{IsFirstDenied, Writes}
+use Rattle.held.specs.declared.denied.Denied.{Denied}
+use Rattle.held.proofs.Replied.{end_taken}
+use Rattle.held.proofs.Seats.{goes_same, only_by, only_on, only_same, only_wider}
 use Rattle.shared.specs.Called.{is_for_now, may_pass}
 use Rattle.shared.specs.Own.{IsEviction, IsRoomEvent, admitted}
 use Rattle.shared.specs.Rooms.{FailsToWrite, IsAtRest, IsCrammed, IsFinal, IsFinalOr, IsLost, IsRoomLost, IsRoomTry, IsUnwritten, is_written, wants_room}

@@ -39,11 +39,11 @@ use Rattle.held.specs.declared.log.Slip.{Slip}
 use Rattle.held.specs.Entered.{Made}
 use Rattle.held.specs.Shown.{HeldSeen, SeatSeen}
 use Rattle.held.specs.Views.{count_of}
-use Rattle.locked.specs.Called.{Only}
-use Rattle.locked.specs.Denials as under
-use Rattle.locked.specs.Firsts.{IsFirstDenied, Writes}
-use Rattle.locked.specs.declared.denied.Denied.{Denied}
-use Rattle.locked.proofs.Seats.{only_by, only_on, only_same, only_wider}
+use Rattle.held.specs.Called.{Only}
+use Rattle.held.specs.Denials as under
+use Rattle.held.specs.Firsts.{IsFirstDenied, Writes}
+use Rattle.held.specs.declared.denied.Denied.{Denied}
+use Rattle.held.proofs.Seats.{only_by, only_on, only_same, only_wider}
 use Rattle.shared.specs.Changes.{event_of}
 use Rattle.shared.specs.declared.writes.Change.{Change}
 use Rattle.shared.specs.declared.writes.Change.TheVariants.{Append, Truncate, Write}

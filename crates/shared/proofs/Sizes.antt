@@ -1,21 +1,18 @@
 -- How far reads and writes go: no file is longer than the limit.
-use Rattle.std.proofs.Common.{ℕ, ◌+◌, ◌≤◌, List, [], ◌∷◌, length, take, sym, subst, ap, ◌∙◌, arith}
+use Rattle.std.proofs.Common.{ℕ, ◌+◌, ◌≤◌, List, length, take, subst, ap, ◌∙◌}
 use Rattle.std.specs.Prelude.{Ok, map}
 use Rattle.std.proofs.lemmas.List.{length-take-le}
 use Rattle.cachecore.specs.Replies.{wrote}
 use Rattle.cachecore.specs.declared.answers.WriteAnswer.{WriteAnswer}
 use Rattle.cachecore.specs.declared.answers.WriteAnswer.TheVariants as answer
-use Rattle.filesvc.proofs.CallSteps.{appended_all, read_small, wrote_all}
-use Rattle.filesvc.proofs.FileSizes.{AreBounded, bounded_cases}
+use Rattle.orderly.proofs.Calls.{append_whole, read_small, write_whole}
+use Rattle.orderly.proofs.FileSizes.{AreBounded}
+use Rattle.orderly.proofs.Legal.{legal_bounded}
 use Rattle.held.specs.declared.log.Slip.{Slip}
 use Rattle.held.specs.Entered.{Made}
 use Rattle.held.specs.Shown.{HeldSeen, SeatSeen}
-use Rattle.machine.proofs.steps.Cases.{by_cases}
-use Rattle.machine.specs.History as machine
-use Rattle.machine.specs.State.{State, handle_file}
-use Rattle.machine.specs.declared.event.Event.{Event}
+use Rattle.machine.specs.State.{handle_file}
 use Rattle.machine.specs.declared.event.Event.TheVariants as event
-use Rattle.machine.specs.declared.event.Reply.{Reply}
 use Rattle.machine.specs.declared.event.Reply.TheVariants as reply
 use Rattle.pc_types.specs.declared.ids.HandleId.{HandleId}
 use Rattle.pc_types.specs.declared.limits.TheConstants.{MAX_FILE_SIZE}
@@ -23,18 +20,10 @@ use Rattle.trail.specs.History.{After, seatless}
 use Rattle.shared.specs.Changes.{IsWholeIn}
 use Rattle.shared.specs.declared.writes.Change.TheVariants.{Append, Write}
 
-leads_bounded : (old : State) (es : List (Event × Reply)) (new : State) → AreBounded old → machine.Leads old es new
-    → AreBounded new
-leads_bounded old [] new b h = subst AreBounded (sym h) b
-leads_bounded old (e ∷ es) new b h =
-    leads_bounded h.0 es new (by_cases old (λ e r t. AreBounded t) (bounded_cases old b) e.0 e.1 h.0 h.1) h.2
-
 -- no file is longer than the limit where the history is legal
 bounded_after : (s : HeldSeen) → After s.core.state.sizes s.core.state.name s.log.history s.core.state
     → AreBounded s.core.state
-bounded_after s h =
-    leads_bounded (machine.no_files s.core.state.sizes s.core.state.name) (map seatless s.log.history) s.core.state
-    (λ f. omega arith) h
+bounded_after s h = legal_bounded s.core.state.sizes s.core.state.name (map seatless s.log.history) s.core.state h
 
 pub read_within : (h : HandleId) (o n : ℕ) (bytes : List ℕ) (old new : HeldSeen) (before after : SeatSeen) (slip : Slip)
     → After old.core.state.sizes old.core.state.name old.log.history old.core.state
@@ -55,7 +44,7 @@ pub whole_write : (h : HandleId) (at : ℕ) (bytes : List ℕ) (a : WriteAnswer)
     (slip : Slip) → Made (event.Write h at bytes) (wrote (Ok a)) old new before after slip
     → IsWholeIn (Write at) bytes a
 whole_write h at bytes (answer.Wrote count end) old new before after slip m =
-    let w = wrote_all old.core.state new.core.state h at bytes (record { count = count; end = end }) m.step in
+    let w = write_whole old.core.state new.core.state h at bytes count end m.step in
     (w.count, w.ends ∙ ap (λ n. at + n) w.count, w.small)
 whole_write h at bytes (answer.Wait p) old new before after slip m = tt
 whole_write h at bytes (answer.Miss p) old new before after slip m = tt
@@ -64,7 +53,7 @@ pub whole_append : (h : HandleId) (bytes : List ℕ) (a : WriteAnswer) (old new 
     (slip : Slip) → After old.core.state.sizes old.core.state.name old.log.history old.core.state
     → Made (event.Append h bytes) (wrote (Ok a)) old new before after slip → IsWholeIn Append bytes a
 whole_append h bytes (answer.Wrote count end) old new before after slip legal m =
-    let w = appended_all old.core.state new.core.state h bytes (record { count = count; end = end }) m.step in
+    let w = append_whole old.core.state new.core.state h bytes count end m.step in
     (w.count, w.small (bounded_after old legal (handle_file old.core.state h.0)))
 whole_append h bytes (answer.Wait p) old new before after slip legal m = tt
 whole_append h bytes (answer.Miss p) old new before after slip legal m = tt

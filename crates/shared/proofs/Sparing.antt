@@ -1,16 +1,13 @@
 -- A cache at rest that has nothing to write, and no page to let go, has room for what a call asks of it.
-use Rattle.std.proofs.Common.{◌≡◌, ◌⊎◌, ◌∙◌, ◌+◌, ◌<◌, ◌≤◌, ℕ, Bool, true, false, cond, not, eqb, List, [], ◌∷◌, map, length, refl, sym, ap, subst, arith, inl, inr}
+use Rattle.std.proofs.Common.{◌≡◌, ◌⊎◌, ◌∙◌, ◌+◌, ◌<◌, ◌≤◌, ℕ, Bool, true, false, cond, not, eqb, List, [], map, length, refl, sym, ap, subst, arith, inl, inr}
 use Rattle.std.specs.Prelude.{◌&&◌, ◌==◌, IsTrue, Option, Some, None, is_some, nat_le, nat_lt}
 use Rattle.std.specs.FinMap as finmap
 use Rattle.std.proofs.lemmas.Bool.Decides.{nat_tests}
 use Rattle.cachecore.specs.Wants.{NothingToWrite, dirtied, lacking, lacks_frames, may_touch, passes_limit}
-use Rattle.filesvc.specs.Rests.{IsOrderly}
-use Rattle.filesvc.proofs.Enough.{clean_enough, enough, enough_dirty, enough_frames, enough_page, some_free}
-use Rattle.filesvc.proofs.Orderly.{first_orderly, orderly_cases}
-use Rattle.locked.specs.Flights.{is_busy}
+use Rattle.orderly.proofs.Enough.{clean_enough, enough, enough_dirty, enough_frames, some_free}
+use Rattle.orderly.proofs.Legal.{IsKept, legal_kept}
+use Rattle.cachecore.specs.Wants.{is_busy}
 use Rattle.machine.specs.Changes.{boundary, flush_pick}
-use Rattle.machine.specs.History as machine
-use Rattle.machine.specs.Sound.{Sound}
 use Rattle.machine.specs.State.{State, dirty_total, file_at, free_frames, handle_file, is_cached, is_filling, is_open, is_written, page_count, touched_count}
 use Rattle.machine.specs.Step.{MayReply, Step}
 use Rattle.machine.specs.Tests.{first_of, has_idle, is_full, refuse, room_tests, stopped, tests, truncate_stop, write_stop, write_tests}
@@ -18,9 +15,7 @@ use Rattle.machine.specs.declared.event.Event.{Event}
 use Rattle.machine.specs.declared.event.Event.TheVariants as event
 use Rattle.machine.specs.declared.event.Reply.{Reply}
 use Rattle.machine.specs.declared.event.Reply.TheVariants as reply
-use Rattle.machine.proofs.sound.Steps.{histories_are_sound, steps_stay_sound}
-use Rattle.machine.proofs.steps.Cases.{answered, by_cases}
-use Rattle.machine.proofs.steps.Steady.{steady}
+use Rattle.machine.proofs.steps.Cases.{answered}
 use Rattle.pc_types.specs.Limits.{Sizes, is_geometry}
 use Rattle.pc_types.specs.declared.ids.PageIndex.{PageIndex}
 use Rattle.pc_types.specs.declared.limits.TheConstants.{MAX_FILE_SIZE, MAX_TOUCHED, MIN_DIRTY_LIMIT, MIN_FRAMES}
@@ -36,29 +31,9 @@ use Rattle.pc_types.specs.declared.ids.HandleId.{HandleId}
 
 -- ---- what every legal history leaves
 
-record IsKept (sizes : Sizes) (s : State) : Type 0 where
-  pub sound : Sound s
-  pub orderly : IsOrderly s
-  pub sized : s.sizes ≡ sizes
-
-kept_leads : (sizes : Sizes) (old : State) (es : List (Event × Reply)) (new : State) → IsKept sizes old
-    → machine.Leads old es new → IsKept sizes new
-kept_leads sizes old [] new k h = subst (IsKept sizes) (sym h) k
-kept_leads sizes old (e ∷ es) new k h = kept_leads sizes h.0 es new (record {
-  sound = steps_stay_sound old h.0 e.0 e.1 h.1 k.sound;
-  orderly = by_cases old (λ e r t. IsOrderly t) (orderly_cases old k.sound k.orderly) e.0 e.1 h.0 h.1;
-  sized = (steady old e.0 e.1 h.0 h.1).sizes ∙ k.sized;
-}) h.2
-
 kept_after : (sizes : Sizes) (name : ℕ) (history : List Entry) (s : State) → IsTrue (is_geometry sizes)
     → After sizes name history s → IsKept sizes s
-kept_after sizes name history s geometry h =
-    let large = enough_page sizes geometry in
-    kept_leads sizes (machine.no_files sizes name) (map seatless history) s (record {
-      sound = histories_are_sound sizes name [] (machine.no_files sizes name) refl;
-      orderly = first_orderly sizes name (omega arith);
-      sized = refl;
-    }) h
+kept_after sizes name history s geometry h = legal_kept sizes name (map seatless history) s geometry h
 
 -- ---- tests, one after another
 

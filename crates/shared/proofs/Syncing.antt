@@ -27,11 +27,11 @@ use Rattle.trail.specs.Entries.{entry_of}
 use Rattle.held.specs.declared.log.Slip.{Slip}
 use Rattle.held.specs.Entered.{Made}
 use Rattle.held.specs.Shown.{HeldSeen, SeatSeen}
-use Rattle.locked.specs.Called.{Goes}
-use Rattle.locked.specs.Denials as under
-use Rattle.locked.specs.declared.denied.Denied.{Denied}
-use Rattle.locked.proofs.Replied.{drop_taken}
-use Rattle.locked.proofs.Seats.{goes_by}
+use Rattle.held.specs.Called.{Goes}
+use Rattle.held.specs.Denials as under
+use Rattle.held.specs.declared.denied.Denied.{Denied}
+use Rattle.held.proofs.Replied.{drop_taken}
+use Rattle.held.proofs.Seats.{goes_by}
 use Rattle.pc_types.specs.Limits.{Sizes}
 use Rattle.shared.specs.Called.{Makes, is_for_now}
 use Rattle.shared.specs.Denials.{IsDenied}

@@ -14,9 +14,9 @@ use Rattle.pc_types.specs.declared.refusal.Refusal.TheVariants.{BadHandle, Memor
 use Rattle.held.specs.declared.log.Slip.{Slip}
 use Rattle.held.specs.Entered.{Made}
 use Rattle.held.specs.Shown.{HeldSeen, SeatSeen}
-use Rattle.locked.specs.Called.{Goes}
-use Rattle.locked.specs.Denials as under
-use Rattle.locked.specs.declared.denied.Denied.{Denied}
+use Rattle.held.specs.Called.{Goes}
+use Rattle.held.specs.Denials as under
+use Rattle.held.specs.declared.denied.Denied.{Denied}
 use Rattle.shared.specs.Changes.{event_of}
 use Rattle.shared.specs.Own.{admitted}
 use Rattle.shared.specs.Rooms.{AsksMore, IsShortFor, wants_room}

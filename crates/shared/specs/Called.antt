@@ -2,7 +2,7 @@
 use Rattle.std.specs.Prelude.{◌≡◌, ◌&&◌, Bool, true, false, ◌++◌, ◌∷◌, [], List, length}
 use mathlib.Core.List.{IsPrefix}
 use Rattle.cachecore.specs.Wants.{holds_cut}
-use Rattle.locked.specs.Flights.{is_busy}
+use Rattle.cachecore.specs.Wants.{is_busy}
 use Rattle.machine.specs.State.{State}
 use Rattle.machine.specs.declared.event.Event.{Event}
 use Rattle.machine.specs.declared.event.Reply.{Reply}

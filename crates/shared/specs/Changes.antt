@@ -10,7 +10,7 @@ use Rattle.machine.specs.declared.event.Event.TheVariants as event
 use Rattle.machine.specs.declared.event.Reply.{Reply}
 use Rattle.machine.specs.declared.event.Reply.TheVariants as reply
 use Rattle.held.specs.declared.log.Slip.{Slip}
-use Rattle.locked.specs.declared.denied.Denied.{Denied}
+use Rattle.held.specs.declared.denied.Denied.{Denied}
 use Rattle.shared.specs.Seen.{HandleSeen}
 use Rattle.shared.specs.declared.writes.Change.{Change}
 use Rattle.shared.specs.declared.writes.Change.TheVariants.{Append, Truncate, Write}

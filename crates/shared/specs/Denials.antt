@@ -9,7 +9,7 @@ use Rattle.machine.specs.declared.event.Reply.{Reply}
 use Rattle.machine.specs.declared.event.Reply.TheVariants as reply
 use Rattle.held.specs.declared.log.Slip.{Slip}
 use Rattle.held.specs.Shown.{SeatSeen}
-use Rattle.locked.specs.declared.denied.Denied.{Denied}
+use Rattle.held.specs.declared.denied.Denied.{Denied}
 use Rattle.shared.specs.Called.{Makes}
 
 -- the reply to an event says why: the event was refused, or it ended a fill that failed

@@ -10,7 +10,7 @@ use Rattle.machine.specs.declared.event.Reply.TheVariants as reply
 use Rattle.trail.specs.declared.entry.Entry.{Entry}
 use Rattle.held.specs.declared.log.Slip.{Slip}
 use Rattle.held.specs.Shown.{SeatSeen}
-use Rattle.locked.specs.declared.denied.Denied.{Denied}
+use Rattle.held.specs.declared.denied.Denied.{Denied}
 use Rattle.shared.specs.Denials.{IsDenied}
 
 -- what a call by this handle does on the way: it fills pages by it, and makes room

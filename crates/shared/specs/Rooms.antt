@@ -5,9 +5,9 @@ use Rattle.cachecore.specs.declared.answers.Ended.{Ended}
 use Rattle.cachecore.specs.declared.answers.Ended.TheVariants as ended
 use Rattle.held.specs.declared.log.Slip.{Slip}
 use Rattle.held.specs.Shown.{SeatSeen}
-use Rattle.locked.specs.Called.{Only}
-use Rattle.locked.specs.declared.denied.Denied.{Denied}
-use Rattle.locked.specs.Flights.{is_busy}
+use Rattle.held.specs.Called.{Only}
+use Rattle.held.specs.declared.denied.Denied.{Denied}
+use Rattle.cachecore.specs.Wants.{is_busy}
 use Rattle.machine.specs.State.{State}
 use Rattle.machine.specs.Tests.{has_idle}
 use Rattle.machine.specs.declared.event.End.{End}

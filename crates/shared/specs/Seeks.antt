@@ -1,14 +1,14 @@
 -- Where a cursor is put.
 use Rattle.std.specs.Prelude.{◌≡◌, ◌⊎◌, ℕ, Option, Some, None, Result, Ok, Err}
-use Rattle.filesvc.specs.Service.{placed, target}
-use Rattle.filesvc.specs.declared.seek.Seek.{Seek}
-use Rattle.filesvc.specs.declared.seek.Seek.TheVariants.{End}
+use Rattle.cursor.specs.Places.{placed, target}
+use Rattle.cursor.specs.declared.seek.Seek.{Seek}
+use Rattle.cursor.specs.declared.seek.Seek.TheVariants.{End}
 use Rattle.machine.specs.declared.event.Event.TheVariants as event
 use Rattle.machine.specs.declared.event.Reply.TheVariants as reply
 use Rattle.pc_types.specs.declared.refusal.Refusal.{Refusal}
 use Rattle.held.specs.declared.log.Slip.{Slip}
 use Rattle.held.specs.Shown.{SeatSeen}
-use Rattle.locked.specs.declared.denied.Denied.{Denied}
+use Rattle.held.specs.declared.denied.Denied.{Denied}
 use Rattle.shared.specs.Called.{Makes}
 use Rattle.shared.specs.Denials.{IsDenied, IsFullIfNoSlip, MadeOne}
 use Rattle.shared.specs.Seen.{HandleSeen}

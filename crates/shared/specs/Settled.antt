@@ -11,8 +11,8 @@ use Rattle.pc_types.specs.declared.kind.Kind.TheVariants.{Fill, Flush}
 use Rattle.pc_types.specs.declared.refusal.Refusal.TheVariants.{Stranger, TrailFull}
 use Rattle.trail.specs.declared.entry.Entry.{Entry}
 use Rattle.held.specs.Shown.{SeatSeen}
-use Rattle.locked.specs.Called.{Only}
-use Rattle.locked.specs.declared.denied.Denied.{Denied}
+use Rattle.held.specs.Called.{Only}
+use Rattle.held.specs.declared.denied.Denied.{Denied}
 
 -- the seat made an entry of the second kind since, if it made one of the first kind
 pub record Pairs {A : Type 0} (first second : A → Entry → Type 0) (before after : SeatSeen) : Type 0 where

@@ -3,8 +3,8 @@ use Rattle.std.specs.Prelude.{◌≡◌, ◌⊎◌, ◌+◌, ◌≤◌, ℕ, Opt
 use Rattle.errboard.specs.Shown.{PassSeen}
 use Rattle.held.specs.Shown.{SeatSeen}
 use Rattle.held.specs.declared.log.Slip.{Slip}
-use Rattle.locked.specs.Called.{Goes, Only}
-use Rattle.locked.specs.declared.denied.Denied.{Denied}
+use Rattle.held.specs.Called.{Goes, Only}
+use Rattle.held.specs.declared.denied.Denied.{Denied}
 use Rattle.machine.specs.declared.event.Event.{Event}
 use Rattle.machine.specs.declared.event.Event.TheVariants as event
 use Rattle.machine.specs.declared.event.Reply.{Reply}

@@ -27,8 +27,8 @@ use Rattle.trail.specs.History.{After}
 use Rattle.trail.specs.declared.entry.Entry.{Entry}
 use Rattle.held.specs.declared.log.Slip.{Slip}
 use Rattle.held.specs.Shown.{SeatSeen}
-use Rattle.locked.specs.Called.{Only}
-use Rattle.locked.specs.declared.denied.Denied.{Denied}
+use Rattle.held.specs.Called.{Only}
+use Rattle.held.specs.declared.denied.Denied.{Denied}
 use Rattle.shared.specs.Called.{Makes}
 use Rattle.shared.specs.Denials.{IsDenied, IsFullIfNoSlip}
 use Rattle.shared.specs.Seen.{FailedSeen}

@@ -3,7 +3,7 @@
 ghost use Rattle.std.specs.FinMap as map;
 ghost use Rattle.std.specs.Prelude.{◌≡◌, IfOk, IsOkUnless};
 ghost use Rattle.pc_types.specs.declared.refusal.Refusal.TheVariants.{Memory};
-ghost use Rattle.locked.specs.Keeps.{IsLocked};
+ghost use Rattle.held.specs.Keeps.{IsLocked};
 ghost use Rattle.shared.specs.Keeps.{IsDisk};
 ghost use Rattle.shared.specs.Workers.{IsWorkerOf};
 
@@ -14,9 +14,8 @@ use crate::worker::Worker;
 use blockdev::BlockDevice;
 use errboard::Board;
 use held::log::Seat;
-use held::state::Held;
-use locked::naming::Naming;
-use locked::state::Locked;
+use held::naming::Naming;
+use held::state::{Held, Opened};
 use pc_types::{Geometry, Refusal};
 use ring::Ring;
 use std::alloc::Global;
@@ -30,7 +29,7 @@ use trail::Trail;
 pub struct Parts<D: BlockDevice, T: Trail> {
     pub name: u64,
     pub geometry: Geometry,
-    pub held: Held<T>,
+    pub held: Opened<T>,
     pub board: Board,
     pub ring: Ring,
     pub own: Worker,
@@ -43,7 +42,7 @@ pub struct SharedCache<B: Naming, D: BlockDevice, T: Trail> {
     pub(crate) name: u64,
     pub(crate) geometry: Geometry,
     pub(crate) board: Board,
-    pub(crate) state: BriefLock<Locked<B, T>>,
+    pub(crate) state: BriefLock<Held<B, T>>,
     // a request has ended
     pub(crate) changed: Condvar,
     pub(crate) disk: Mutex<Disk<B, D>>,
@@ -84,13 +83,13 @@ impl<B: Naming, D: BlockDevice, T: Trail> SharedCache<B, D, T> {
             own,
             device,
         } = parts;
-        let locked = Locked::of(held);
+        let state = Held::of(held);
         let disk = Disk::of(device);
         let cache = SharedCache {
             name,
             geometry,
             board,
-            state: BriefLock::new(locked),
+            state: BriefLock::new(state),
             changed: Condvar::new(),
             disk: Mutex::new(disk),
             alloc,

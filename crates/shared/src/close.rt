@@ -1,7 +1,7 @@
 //! The end of a cache.
 
 ghost use Rattle.std.specs.Prelude.{◌≡◌, ◌≢◌, ◌↔◌, ◌⊎◌, ◌+◌, All, Any, IfErr, IfOk, IsErr, List, Some, true, vec_len};
-ghost use Rattle.crossbeam_queue.specs.Fifo.{Held};
+ghost use Rattle.crossbeam_queue.specs.Fifo as fifo;
 ghost use Rattle.crossbeam_queue.specs.Passes.{view};
 ghost use Rattle.ring.specs.Order.{Stands};
 ghost use mathlib.Core.List.{IsPrefix};
@@ -10,7 +10,7 @@ ghost use Rattle.held.specs.Views.{count_of};
 ghost use Rattle.pc_types.specs.declared.refusal.Refusal.TheVariants.{Stranger};
 ghost use Rattle.trail.specs.History.{After};
 ghost use Rattle.trail.specs.declared.entry.Entry.{Entry};
-ghost use Rattle.locked.specs.Called.{Goes, Only};
+ghost use Rattle.held.specs.Called.{Goes, Only};
 ghost use Rattle.shared.specs.Keeps.{IsDisk};
 ghost use Rattle.shared.specs.Workers.{AllOver, Drained, IsEnd, IsEndOf, IsOver, IsWorkerOf, pushed_by, seat_of};
 
@@ -22,8 +22,8 @@ use crate::worker::Worker;
 use blockdev::{BlockDevice, Job};
 use cachecore::CacheCore;
 use held::log::Seat;
-use locked::naming::Naming;
-use locked::state::Locked;
+use held::naming::Naming;
+use held::state::Held;
 use pc_types::Refusal;
 use ring::Ring;
 use std::sync::{Mutex, Wait};
@@ -62,18 +62,19 @@ impl<B: Naming, D: BlockDevice, T: Trail> SharedCache<B, D, T> {
             jobs,
             flushers,
         } = self;
-        let mut locked = state.into_inner();
+        // first, so that the state has a name while the ends are made (decision 165)
+        let mut held = state.into_inner();
         let mut device = disk.into_inner();
-        drain(rt, &ring, &mut device, &mut locked, &mut own);
+        drain(rt, &ring, &mut device, &mut held, &mut own);
         let Worker { seat, pass } = own;
-        match locked.close(seats, seat) {
+        match held.close(seats, seat) {
             Ok((trail, core)) => Ok((trail, core, device.into_device())),
-            Err((refusal, locked, seats, seat)) => {
+            Err((refusal, held, seats, seat)) => {
                 let cache = SharedCache {
                     name,
                     geometry,
                     board,
-                    state: BriefLock::new(locked),
+                    state: BriefLock::new(held),
                     changed,
                     disk: Mutex::new(device),
                     alloc,
@@ -89,12 +90,12 @@ impl<B: Naming, D: BlockDevice, T: Trail> SharedCache<B, D, T> {
 }
 
 /// Carries out and ends what the ring has, till it is empty. No other holds the cache, so no lock is taken.
-#[tactic(auto, using(locked::proofs::Seats::goes_same, locked::proofs::Seats::goes_on, locked::proofs::Seats::only_same, crate::proofs::Owning::only_job_on, crate::proofs::Closing::none_taken))]
+#[tactic(auto, using(held::proofs::Seats::goes_same, held::proofs::Seats::goes_on, held::proofs::Seats::only_same, crate::proofs::Owning::only_job_on, crate::proofs::Closing::none_taken))]
 fn drain<B: Naming, D: BlockDevice, T: Trail, R: Wait>(
     rt: &R,
     ring: &Ring,
     disk: &mut Disk<B, D>,
-    state: &mut Locked<B, T>,
+    state: &mut Held<B, T>,
     own: &mut Worker,
 )
     requires worker { IsWorkerOf ring.now B.name B.table B.sizes own.old }
@@ -103,7 +104,7 @@ fn drain<B: Naming, D: BlockDevice, T: Trail, R: Wait>(
     ensures only { Only (λ e. IsEnd e.event) (seat_of own.old) (seat_of own.new) }
     ensures taken { AllOver own.old own.new state.new.core.state }
     ensures same { (pushed_by own.new ≡ pushed_by own.old) × ((view own.new.pass).alone ≡ (view own.old.pass).alone) }
-    ensures emptied { Held 0 (Stands (view own.new.pass)) }
+    ensures emptied { fifo.Held 0 (Stands (view own.new.pass)) }
 {
     'jobs: for _ in rt.forever() {
         let Some(job) = ring.pop(rt, &mut own.pass) else {
@@ -117,7 +118,7 @@ fn drain<B: Naming, D: BlockDevice, T: Trail, R: Wait>(
 /// Makes a job's device call, and ends its request, if that is in flight.
 fn finish<B: Naming, D: BlockDevice, T: Trail>(
     disk: &mut Disk<B, D>,
-    state: &mut Locked<B, T>,
+    state: &mut Held<B, T>,
     seat: &mut Seat,
     job: Job,
 )

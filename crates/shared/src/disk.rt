@@ -7,7 +7,7 @@ ghost use Rattle.shared.specs.Keeps.{IsDisk};
 
 use blockdev::{BlockDevice, Finished, Job, Watched};
 use held::log::{Seat, Slip};
-use locked::naming::Naming;
+use held::naming::Naming;
 use pc_types::ErrCode;
 use std::marker::{Model, PhantomData};
 
@@ -86,7 +86,8 @@ impl<B: Naming, D: BlockDevice> Disk<B, D> {
     }
 }
 
-/// The slip of an entry, since which the device of the cache that B names was flushed, and well. Only `Disk::flush_after` makes one.
+/// The slip of an entry, since which the device of the cache that B names was flushed, and well. Only `Disk::flush_after` makes one
+/// (decision 152).
 #[derive(Drop)]
 pub struct Durable<B: Naming, D: BlockDevice> {
     slip: Slip,

@@ -1,28 +1,111 @@
-//! A job's device call, and the end of its request.
+//! A job's device call, and the end of its request: a caller's own, and a worker's.
 
-ghost use Rattle.std.specs.Prelude.{◌≡◌, IfErr, IfOk, IfSome, Some, is_some, length};
+ghost use Rattle.std.specs.Prelude.{◌≡◌, IfErr, IfOk, IfSome, Some, false, is_some, length};
 ghost use Rattle.atomic_table.specs.Seated.{TableId};
 ghost use Rattle.blockdev.specs.Jobs.{IsJobFor, Task};
-ghost use Rattle.cachecore.specs.Replies.{end_of};
+ghost use Rattle.cachecore.specs.Replies.{buffer_of, end_of};
 ghost use Rattle.machine.specs.declared.event.Event.TheVariants as event;
 ghost use Rattle.machine.specs.declared.event.Reply.{Reply};
-ghost use Rattle.locked.specs.Called.{Goes, Only};
+ghost use Rattle.pc_types.specs.declared.kind.Kind.TheVariants.{Fill, Flush};
+ghost use Rattle.held.specs.Called.{Goes, Only};
 ghost use Rattle.shared.specs.Called.{Makes};
 ghost use Rattle.shared.specs.Denials.{IsDenied, IsFullIfNoSlip, MadeOne};
+ghost use Rattle.shared.specs.Own.{IsHelp, IsRoomEvent};
+ghost use Rattle.shared.specs.Rooms.{FailsToWrite, IsFinal, is_written, wants_room};
+ghost use Rattle.shared.specs.Settled.{EndsIn};
+ghost use Rattle.shared.specs.Synced.{IsFlushEnd};
 ghost use Rattle.shared.specs.Workers.{Ends, IsEndOf, IsEndReply, IsOver, IsOwnFailure, fails_write};
 
 use crate::brief::BriefLock;
+use crate::cache::SharedCache;
 use crate::disk::Disk;
 use crate::handle::FailedWrite;
-use blockdev::{BlockDevice, Finished, Job};
+use blockdev::{BlockDevice, Buffer, Finished, Job};
+use cachecore::Ended;
 use errboard::Receipt;
+use held::denied::{Denied, by};
 use held::log::{Seat, Slip};
-use locked::denied::Denied;
-use locked::naming::Naming;
-use locked::state::Locked;
-use pc_types::{Kind, Serial};
+use held::naming::Naming;
+use held::state::Held;
+use pc_types::{HandleId, Kind, Refusal, Serial};
 use std::sync::{Mutex, Wait};
 use trail::Trail;
+
+impl<B: Naming, D: BlockDevice, T: Trail> SharedCache<B, D, T> {
+    /// Makes the device call of a fill, without the state's lock, and ends the fill.
+    #[tactic(auto, using(held::proofs::Seats::goes_by, held::proofs::Seats::goes_on, held::proofs::Seats::goes_same, crate::proofs::Making::goes_denied, crate::proofs::Making::denied_end, crate::proofs::Making::failed_end, crate::proofs::Owning::only_fill_end, crate::proofs::Owning::only_fill_end_denied, crate::proofs::Rooming::end_unwanted, crate::proofs::Rooming::end_final))]
+    pub(crate) fn fill_by<R: Wait>(
+        &self,
+        rt: &R,
+        seat: &mut Seat,
+        handle: HandleId,
+        job: Job,
+    ) -> Result<(), Denied>
+        requires seat { seat.old.table ≡ B.table }
+        requires fits { IsJobFor B.name B.sizes.blocks B.sizes.page job }
+        ensures goes { Goes seat.old seat.new }
+        ensures only { Only (λ e. IsHelp handle e.event) seat.old seat.new }
+        ensures denied { IfErr result (IsDenied (IsHelp handle) seat.old seat.new) }
+        ensures unwanted { IfErr result (λ d. wants_room d.refusal ≡ false) }
+        ensures stands { IfErr result (IsFinal B.sizes B.name seat.new) }
+        ensures ends { job.kind ≡ Fill → EndsIn B.name (Fill, job.serial) seat.old seat.new result }
+    {
+        let finished = self.disk.lock(rt).carry_out(job);
+        let ended = self.state.lock(rt).fill_end(seat, finished);
+        self.has_ended(rt);
+        let (ended, slip) = match ended {
+            Ok(ended) => ended,
+            Err(denied) => return Err(denied),
+        };
+        match &ended {
+            Ended::Failed(code, _) => Err(by(Refusal::Io(*code), slip)),
+            _ => Ok(()),
+        }
+    }
+
+    /// Makes the device call of a flush, without the state's lock, and ends the flush. Answers whether the page was written, with the
+    /// job's buffer.
+    #[tactic(auto, using(held::proofs::Seats::goes_by, held::proofs::Seats::goes_on, held::proofs::Seats::goes_same, crate::proofs::Making::goes_denied, crate::proofs::Making::denied_flush, crate::proofs::Syncing::flush_denied, crate::proofs::Owning::only_flush_end, crate::proofs::Owning::only_flush_end_denied, crate::proofs::Rooming::end_unwanted, crate::proofs::Rooming::failed_by, crate::proofs::Rooming::end_final))]
+    pub(crate) fn flush_by<R: Wait>(
+        &self,
+        rt: &R,
+        seat: &mut Seat,
+        job: Job,
+    ) -> Result<(bool, Buffer), Denied>
+        requires seat { seat.old.table ≡ B.table }
+        requires fits { IsJobFor B.name B.sizes.blocks B.sizes.page job }
+        ensures goes { Goes seat.old seat.new }
+        ensures only { Only (λ e. IsFlushEnd e.event) seat.old seat.new }
+        ensures denied { IfErr result (IsDenied IsRoomEvent seat.old seat.new) }
+        ensures unwanted { IfErr result (λ d. wants_room d.refusal ≡ false) }
+        ensures ended { IfErr result (IsDenied IsFlushEnd seat.old seat.new) }
+        ensures full { IfErr result (IsFullIfNoSlip seat.old seat.new) }
+        ensures failed { IfOk result (λ r. r.0 ≡ false → FailsToWrite seat.old seat.new) }
+        ensures size { IfOk result (λ r. length r.1 ≡ B.sizes.page) }
+        ensures stands { IfErr result (IsFinal B.sizes B.name seat.new) }
+        ensures ends { job.kind ≡ Flush → EndsIn B.name (Flush, job.serial) seat.old seat.new result }
+    {
+        let finished = self.disk.lock(rt).carry_out(job);
+        let ended = self.state.lock(rt).flush_end(seat, finished);
+        self.has_ended(rt);
+        match ended {
+            Ok((ended, _, _)) => Ok(written(ended)),
+            Err(denied) => Err(denied),
+        }
+    }
+}
+
+/// Whether the write of a flush that ended so did not fail, and its buffer.
+fn written(ended: Ended) -> (bool, Buffer)
+    ensures is { result.0 ≡ is_written ended }
+    ensures back { result.1 ≡ buffer_of ended }
+{
+    match ended {
+        Ended::Failed(_, buffer) => (false, buffer),
+        Ended::Done(buffer) => (true, buffer),
+        Ended::Dropped(buffer) => (true, buffer),
+    }
+}
 
 /// A request that was ended: its serial, the slip of its end, and the failed write, where it was one.
 #[derive(Drop)]
@@ -37,7 +120,7 @@ pub struct Done {
 pub(crate) fn carry_through<B: Naming, D: BlockDevice, T: Trail, R: Wait>(
     rt: &R,
     disk: &Mutex<Disk<B, D>>,
-    state: &BriefLock<Locked<B, T>>,
+    state: &BriefLock<Held<B, T>>,
     name: u64,
     seat: &mut Seat,
     job: Job,
@@ -80,9 +163,9 @@ fn failure(name: u64, receipt: Option<Receipt>) -> Option<FailedWrite>
 }
 
 /// Ends a request, by its kind.
-#[tactic(auto, using(locked::proofs::Seats::goes_by, crate::proofs::Making::goes_denied, crate::proofs::Making::makes_by, crate::proofs::Making::denied_event, crate::proofs::Making::full_by, crate::proofs::Making::made_one, crate::proofs::Making::denied_one, crate::proofs::Ending::fill_told, crate::proofs::Ending::flush_told, crate::proofs::Owning::only_end, crate::proofs::Owning::only_end_denied))]
+#[tactic(auto, using(held::proofs::Seats::goes_by, crate::proofs::Making::goes_denied, crate::proofs::Making::makes_by, crate::proofs::Making::denied_event, crate::proofs::Making::full_by, crate::proofs::Making::made_one, crate::proofs::Making::denied_one, crate::proofs::Ending::fill_told, crate::proofs::Ending::flush_told, crate::proofs::Owning::only_end, crate::proofs::Owning::only_end_denied))]
 pub(crate) fn end<B: Naming, T: Trail>(
-    state: &mut Locked<B, T>,
+    state: &mut Held<B, T>,
     seat: &mut Seat,
     finished: Finished,
 ) -> Result<(Slip, Option<Receipt>), Denied>

@@ -1,7 +1,7 @@
 //! The evictor: frames are free before a caller needs them.
 
 ghost use Rattle.std.specs.Prelude.{◌≡◌, ℕ, IfErr, IfOk, min};
-ghost use Rattle.locked.specs.Called.{Goes, Only};
+ghost use Rattle.held.specs.Called.{Goes, Only};
 ghost use Rattle.shared.specs.Denials.{IsDenied};
 ghost use Rattle.shared.specs.Own.{IsEviction, IsRoomEvent};
 ghost use Rattle.shared.specs.Workers.{IsWorkerOf, LetsGo, popped_by, pushed_by, seat_of};
@@ -9,8 +9,8 @@ ghost use Rattle.shared.specs.Workers.{IsWorkerOf, LetsGo, popped_by, pushed_by,
 use crate::cache::SharedCache;
 use crate::worker::Worker;
 use blockdev::{BlockDevice, Gate};
-use locked::denied::Denied;
-use locked::naming::Naming;
+use held::denied::Denied;
+use held::naming::Naming;
 use std::sync::Wait;
 use trail::Trail;
 
@@ -20,7 +20,7 @@ pub const SPARE_FRAMES: u64 = 16;
 impl<B: Naming, D: BlockDevice, T: Trail> SharedCache<B, D, T> {
     /// One turn of an evictor: while few frames are free, pages of the active list age and the first idle page goes. It ends where
     /// enough are free, or no page is idle, and answers how many pages went. The gate is entered with 0 before each.
-    #[tactic(auto, using(locked::proofs::Seats::goes_same, locked::proofs::Seats::goes_on, crate::proofs::Making::room_on, locked::proofs::Seats::only_same, crate::proofs::Owning::eviction_on, crate::proofs::Letting::none_gone, crate::proofs::Letting::more_gone))]
+    #[tactic(auto, using(held::proofs::Seats::goes_same, held::proofs::Seats::goes_on, crate::proofs::Making::room_on, held::proofs::Seats::only_same, crate::proofs::Owning::eviction_on, crate::proofs::Letting::none_gone, crate::proofs::Letting::more_gone))]
     pub fn evictor_turn<R: Wait, G: Gate>(
         &self,
         rt: &R,
@@ -37,7 +37,7 @@ impl<B: Naming, D: BlockDevice, T: Trail> SharedCache<B, D, T> {
     {
         let mut gone = 0u64;
         'pages: for _ in rt.forever() {
-            if self.state.lock(rt).free_frames() >= SPARE_FRAMES {
+            if self.state.lock(rt).core().free_frames() >= SPARE_FRAMES {
                 break;
             }
             gate.enter(0);
@@ -51,7 +51,7 @@ impl<B: Naming, D: BlockDevice, T: Trail> SharedCache<B, D, T> {
     }
 
     /// Lets pages go while few frames are free, and sleeps where enough are, until it is told to stop.
-    #[tactic(auto, using(locked::proofs::Seats::goes_same, locked::proofs::Seats::goes_on, locked::proofs::Seats::only_same, crate::proofs::Owning::eviction_on))]
+    #[tactic(auto, using(held::proofs::Seats::goes_same, held::proofs::Seats::goes_on, held::proofs::Seats::only_same, crate::proofs::Owning::eviction_on))]
     pub fn evictor<R: Wait, G: Gate>(&self, rt: &R, gate: &G, worker: &mut Worker)
         requires worker { IsWorkerOf self.now.ring B.name B.table B.sizes worker.old }
         ensures worker { IsWorkerOf self.now.ring B.name B.table B.sizes worker.new }

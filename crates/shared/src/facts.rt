@@ -4,7 +4,7 @@ ghost use Rattle.std.specs.Prelude.{◌≡◌};
 
 use crate::cache::SharedCache;
 use blockdev::BlockDevice;
-use locked::naming::Naming;
+use held::naming::Naming;
 use pc_types::Geometry;
 use trail::Trail;
 

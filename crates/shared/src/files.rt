@@ -5,7 +5,7 @@ ghost use Rattle.errboard.specs.Views.{told_of};
 ghost use Rattle.machine.specs.declared.event.Event.TheVariants as event;
 ghost use Rattle.machine.specs.declared.event.Reply.TheVariants as reply;
 ghost use Rattle.pc_types.specs.declared.refusal.Refusal.TheVariants.{BadHandle, Stranger};
-ghost use Rattle.locked.specs.Called.{Goes, Only};
+ghost use Rattle.held.specs.Called.{Goes, Only};
 ghost use Rattle.shared.specs.Called.{Makes};
 ghost use Rattle.shared.specs.Denials.{IsDenied, IsFullIfNoSlip, MadeOne};
 ghost use Rattle.shared.specs.Own.{admitted};
@@ -15,16 +15,16 @@ use crate::cache::SharedCache;
 use crate::handle::{FailedWrite, Handle};
 use blockdev::BlockDevice;
 use errboard::Pass;
+use held::denied::{Denied, without_slip};
 use held::log::{Seat, Slip};
-use locked::denied::{Denied, without_slip};
-use locked::naming::Naming;
+use held::naming::Naming;
 use pc_types::{ErrCode, FileId, Refusal};
 use std::sync::Wait;
 use trail::Trail;
 
 impl<B: Naming, D: BlockDevice, T: Trail> SharedCache<B, D, T> {
     /// Makes a new file.
-    #[tactic(auto, using(locked::proofs::Seats::goes_by, locked::proofs::Seats::goes_on, locked::proofs::Seats::goes_same, crate::proofs::Making::goes_denied, crate::proofs::Making::makes_by, crate::proofs::Making::denied_event, crate::proofs::Making::full_by, crate::proofs::Making::made_one, crate::proofs::Making::denied_one, locked::proofs::Seats::only_same, crate::proofs::Owning::only_event, crate::proofs::Owning::only_event_denied))]
+    #[tactic(auto, using(held::proofs::Seats::goes_by, held::proofs::Seats::goes_on, held::proofs::Seats::goes_same, crate::proofs::Making::goes_denied, crate::proofs::Making::makes_by, crate::proofs::Making::denied_event, crate::proofs::Making::full_by, crate::proofs::Making::made_one, crate::proofs::Making::denied_one, held::proofs::Seats::only_same, crate::proofs::Owning::only_event, crate::proofs::Owning::only_event_denied))]
     pub fn create<R: Wait>(&self, rt: &R, seat: &mut Seat) -> Result<(FileId, Slip), Denied>
         requires seat { seat.old.name ≡ self.now.name → seat.old.table ≡ B.table }
         ensures foreign { seat.old.name ≢ self.now.name → (result ≡ Err (record { refusal = Stranger; slip = None })) × (seat.new ≡ seat.old) }
@@ -43,7 +43,7 @@ impl<B: Naming, D: BlockDevice, T: Trail> SharedCache<B, D, T> {
     }
 
     /// Opens a file. The handle's cursor is at the beginning; with `append` its writes go to the end of the file.
-    #[tactic(auto, using(locked::proofs::Seats::goes_by, locked::proofs::Seats::goes_on, locked::proofs::Seats::goes_same, crate::proofs::Making::goes_denied, crate::proofs::Making::makes_by, crate::proofs::Making::denied_event, crate::proofs::Making::full_by, crate::proofs::Making::made_one, crate::proofs::Making::denied_one, locked::proofs::Seats::only_same, crate::proofs::Owning::only_event, crate::proofs::Owning::only_event_denied))]
+    #[tactic(auto, using(held::proofs::Seats::goes_by, held::proofs::Seats::goes_on, held::proofs::Seats::goes_same, crate::proofs::Making::goes_denied, crate::proofs::Making::makes_by, crate::proofs::Making::denied_event, crate::proofs::Making::full_by, crate::proofs::Making::made_one, crate::proofs::Making::denied_one, held::proofs::Seats::only_same, crate::proofs::Owning::only_event, crate::proofs::Owning::only_event_denied))]
     pub fn open<R: Wait>(
         &self,
         rt: &R,
@@ -82,7 +82,7 @@ impl<B: Naming, D: BlockDevice, T: Trail> SharedCache<B, D, T> {
     }
 
     /// Closes a handle. It comes back where that is refused, as by `Busy` while a sync by it is in progress.
-    #[tactic(auto, using(locked::proofs::Seats::goes_by, locked::proofs::Seats::goes_on, locked::proofs::Seats::goes_same, crate::proofs::Making::goes_denied, crate::proofs::Making::makes_by, crate::proofs::Making::denied_event, crate::proofs::Making::full_by, crate::proofs::Making::made_one, crate::proofs::Making::denied_one, locked::proofs::Seats::only_same, crate::proofs::Owning::only_event, crate::proofs::Owning::only_event_denied))]
+    #[tactic(auto, using(held::proofs::Seats::goes_by, held::proofs::Seats::goes_on, held::proofs::Seats::goes_same, crate::proofs::Making::goes_denied, crate::proofs::Making::makes_by, crate::proofs::Making::denied_event, crate::proofs::Making::full_by, crate::proofs::Making::made_one, crate::proofs::Making::denied_one, held::proofs::Seats::only_same, crate::proofs::Owning::only_event, crate::proofs::Owning::only_event_denied))]
     pub fn close_handle<R: Wait>(
         &self,
         rt: &R,
@@ -116,7 +116,7 @@ impl<B: Naming, D: BlockDevice, T: Trail> SharedCache<B, D, T> {
     }
 
     /// The size of the handle's file, in bytes.
-    #[tactic(auto, using(locked::proofs::Seats::goes_by, locked::proofs::Seats::goes_on, locked::proofs::Seats::goes_same, crate::proofs::Making::goes_denied, crate::proofs::Making::makes_by, crate::proofs::Making::denied_event, crate::proofs::Making::full_by, crate::proofs::Making::made_one, crate::proofs::Making::denied_one, locked::proofs::Seats::only_same, crate::proofs::Owning::only_event, crate::proofs::Owning::only_event_denied))]
+    #[tactic(auto, using(held::proofs::Seats::goes_by, held::proofs::Seats::goes_on, held::proofs::Seats::goes_same, crate::proofs::Making::goes_denied, crate::proofs::Making::makes_by, crate::proofs::Making::denied_event, crate::proofs::Making::full_by, crate::proofs::Making::made_one, crate::proofs::Making::denied_one, held::proofs::Seats::only_same, crate::proofs::Owning::only_event, crate::proofs::Owning::only_event_denied))]
     pub fn size<R: Wait>(
         &self,
         rt: &R,

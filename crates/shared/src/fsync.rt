@@ -7,7 +7,7 @@ ghost use Rattle.machine.specs.declared.event.Event.TheVariants as event;
 ghost use Rattle.pc_types.specs.declared.limits.TheConstants.{LAST_PAGE};
 ghost use Rattle.pc_types.specs.declared.refusal.Refusal.TheVariants.{BadHandle, Stranger, TrailFull};
 ghost use Rattle.trail.specs.History.{After};
-ghost use Rattle.locked.specs.Called.{Goes, Only};
+ghost use Rattle.held.specs.Called.{Goes, Only};
 ghost use Rattle.shared.specs.Called.{Makes};
 ghost use Rattle.shared.specs.Denials.{IsDenied};
 ghost use Rattle.shared.specs.Polls.{Hears, IsLevelled, Polled};
@@ -21,10 +21,10 @@ use crate::handle::Handle;
 use blockdev::{BlockDevice, Buffer};
 use cachecore::SyncStepped;
 use errboard::Pass;
+use held::denied::{Denied, by, without_slip};
 use held::log::{Seat, Slip};
-use locked::denied::{Denied, by, without_slip};
-use locked::naming::Naming;
-use locked::state::Locked;
+use held::naming::Naming;
+use held::state::Held;
 use pc_types::limits::LAST_PAGE;
 use pc_types::{ErrCode, HandleId, PageIndex, Refusal, SyncId};
 use std::sync::Wait;
@@ -66,7 +66,7 @@ impl<B: Naming, D: BlockDevice, T: Trail> SharedCache<B, D, T> {
 
     /// Writes those of the file's pages from `first` to `last` to the device that are dirty. Refused by `BadRange` where `first` is
     /// past `last`, and by `Io` as `fsync` is: also where the write that failed was of a page outside the range.
-    #[tactic(auto, using(locked::proofs::Seats::goes_same, crate::proofs::Syncing::syncs_seen, crate::proofs::Syncing::flush_failed, crate::proofs::Syncing::sync_denied, crate::proofs::Owning::sync_same))]
+    #[tactic(auto, using(held::proofs::Seats::goes_same, crate::proofs::Syncing::syncs_seen, crate::proofs::Syncing::flush_failed, crate::proofs::Syncing::sync_denied, crate::proofs::Owning::sync_same))]
     pub fn fsync_range<R: Wait>(
         &self,
         rt: &R,
@@ -98,6 +98,7 @@ impl<B: Naming, D: BlockDevice, T: Trail> SharedCache<B, D, T> {
         if let Some(code) = synced.failed {
             return Err(self.report_failed(handle, code, synced.slip));
         }
+        // under the device's lock alone, after the sync (decision 140)
         let flushed = self.disk.lock(rt).flush_after(seat, synced.slip);
         match flushed {
             Ok(durable) => self.report(handle, durable),
@@ -133,8 +134,9 @@ impl<B: Naming, D: BlockDevice, T: Trail> SharedCache<B, D, T> {
         }
     }
 
-    /// Syncs these pages of the handle's file. No sync is left. The one buffer of all its writes is made before it begins.
-    #[tactic(auto, using(locked::proofs::Seats::goes_by, locked::proofs::Seats::goes_on, locked::proofs::Seats::goes_same, crate::proofs::Making::goes_denied, crate::proofs::Syncing::syncs_by, crate::proofs::Syncing::begin_denied, crate::proofs::Syncing::gave_up, crate::proofs::Owning::sync_not_begun, crate::proofs::Owning::sync_over, crate::proofs::Owning::sync_given_up))]
+    /// Syncs these pages of the handle's file. No sync is left. The one buffer of all its writes is made before it begins
+    /// (decision 162).
+    #[tactic(auto, using(held::proofs::Seats::goes_by, held::proofs::Seats::goes_on, held::proofs::Seats::goes_same, crate::proofs::Making::goes_denied, crate::proofs::Syncing::syncs_by, crate::proofs::Syncing::begin_denied, crate::proofs::Syncing::gave_up, crate::proofs::Owning::sync_not_begun, crate::proofs::Owning::sync_over, crate::proofs::Owning::sync_given_up))]
     fn sync_pages<R: Wait>(
         &self,
         rt: &R,
@@ -172,7 +174,7 @@ impl<B: Naming, D: BlockDevice, T: Trail> SharedCache<B, D, T> {
     }
 
     /// Makes turns of the sync until one ends it, each with the buffer that the one before gave back.
-    #[tactic(auto, using(locked::proofs::Seats::goes_by, locked::proofs::Seats::goes_on, locked::proofs::Seats::goes_same, crate::proofs::Making::goes_denied, crate::proofs::Making::makes_on, crate::proofs::Syncing::turn_on, crate::proofs::Owning::turn_try_on))]
+    #[tactic(auto, using(held::proofs::Seats::goes_by, held::proofs::Seats::goes_on, held::proofs::Seats::goes_same, crate::proofs::Making::goes_denied, crate::proofs::Making::makes_on, crate::proofs::Syncing::turn_on, crate::proofs::Owning::turn_try_on))]
     fn sync_turns<R: Wait>(
         &self,
         rt: &R,
@@ -211,7 +213,7 @@ impl<B: Naming, D: BlockDevice, T: Trail> SharedCache<B, D, T> {
 
     /// Makes a step of the sync. Where that begins a write it is carried out, where a page is being written or too many requests
     /// are in flight the end of one is waited for, and the buffer alone is answered.
-    #[tactic(auto, using(locked::proofs::Seats::goes_by, locked::proofs::Seats::goes_on, locked::proofs::Seats::goes_same, crate::proofs::Making::goes_denied, crate::proofs::Syncing::clean_ended, crate::proofs::Syncing::failed_ended, crate::proofs::Syncing::denied_step, crate::proofs::Syncing::turn_flush, crate::proofs::Owning::try_denied))]
+    #[tactic(auto, using(held::proofs::Seats::goes_by, held::proofs::Seats::goes_on, held::proofs::Seats::goes_same, crate::proofs::Making::goes_denied, crate::proofs::Syncing::clean_ended, crate::proofs::Syncing::failed_ended, crate::proofs::Syncing::denied_step, crate::proofs::Syncing::turn_flush, crate::proofs::Owning::try_denied))]
     fn sync_turn<R: Wait>(
         &self,
         rt: &R,
@@ -270,7 +272,7 @@ impl<B: Naming, D: BlockDevice, T: Trail> SharedCache<B, D, T> {
 
     /// Drops a sync whose turn was refused, and answers that refusal. The drop has no slip only where the trail is full and the sync in
     /// progress no longer, since room is kept for the drop of each that is: `Stranger` then, as a drop with a slip would have it.
-    #[tactic(auto, using(locked::proofs::Seats::goes_by, locked::proofs::Seats::goes_on, locked::proofs::Seats::goes_same, crate::proofs::Making::goes_denied, crate::proofs::Syncing::dropped_by, crate::proofs::Syncing::dropped_refused, crate::proofs::Owning::only_event, crate::proofs::Owning::only_event_denied, crate::proofs::Owning::event_few, crate::proofs::Owning::event_denied_few))]
+    #[tactic(auto, using(held::proofs::Seats::goes_by, held::proofs::Seats::goes_on, held::proofs::Seats::goes_same, crate::proofs::Making::goes_denied, crate::proofs::Syncing::dropped_by, crate::proofs::Syncing::dropped_refused, crate::proofs::Owning::only_event, crate::proofs::Owning::only_event_denied, crate::proofs::Owning::event_few, crate::proofs::Owning::event_denied_few))]
     fn give_up<R: Wait>(&self, rt: &R, seat: &mut Seat, sync: SyncId, denied: Denied) -> Denied
         requires { seat.old.table ≡ B.table }
         ensures goes { Goes seat.old seat.new }
@@ -292,7 +294,7 @@ impl<B: Naming, D: BlockDevice, T: Trail> SharedCache<B, D, T> {
 
 /// A sync that ended by the entry of this slip. The poll that follows knows all failed writes up to here.
 fn over<B: Naming, T: Trail>(
-    state: &mut Locked<B, T>,
+    state: &mut Held<B, T>,
     pass: &mut Pass,
     failed: Option<ErrCode>,
     slip: Slip,

@@ -7,7 +7,7 @@ ghost use Rattle.pc_types.specs.declared.refusal.Refusal.TheVariants.{BadConfig,
 ghost use Rattle.ring.specs.Serving.{Carries, Serves};
 ghost use Rattle.machine.specs.History.{no_files};
 ghost use Rattle.machine.specs.PageLists.{no_lists};
-ghost use Rattle.locked.specs.Keeps.{IsLocked};
+ghost use Rattle.held.specs.Keeps.{IsLocked};
 ghost use Rattle.shared.specs.Keeps.{IsDisk};
 ghost use Rattle.shared.specs.Workers.{IsWorkerOf};
 
@@ -15,15 +15,13 @@ use crate::cache::Parts;
 use crate::worker::Worker;
 use blockdev::BlockDevice;
 use held::log::Seat;
-use held::state::Held;
+use held::state::Opened;
+pub use pc_types::limits::MAX_SEATS;
 use pc_types::{Geometry, Refusal};
 use ring::{Ring, RingPass};
 use std::alloc::Global;
 use std::sync::Wait;
 use trail::Trail;
-
-/// The most seats of callers and workers.
-pub const MAX_SEATS: u64 = 64;
 
 /// What was to be among the parts of a cache that were not made.
 #[derive(Drop)]
@@ -68,7 +66,7 @@ impl<D: BlockDevice, T: Trail> Parts<D, T> {
                 });
             }
         };
-        match Held::new(alloc, geometry, name, trail, seat_count) {
+        match Opened::new(alloc, geometry, name, trail, seat_count) {
             Ok((held, board, seats, own)) => {
                 let parts = Parts {
                     name,

@@ -5,7 +5,7 @@ ghost use Rattle.machine.specs.declared.event.Event.TheVariants as event;
 ghost use Rattle.machine.specs.declared.event.Reply.TheVariants as reply;
 ghost use Rattle.pc_types.specs.declared.limits.TheConstants.{MAX_FILE_SIZE};
 ghost use Rattle.pc_types.specs.declared.refusal.Refusal.TheVariants.{BadHandle, Stranger};
-ghost use Rattle.locked.specs.Called.{Goes, Once, Only};
+ghost use Rattle.held.specs.Called.{Goes, Once, Only};
 ghost use Rattle.shared.specs.Called.{Makes, Retries};
 ghost use Rattle.shared.specs.Denials.{IsDenied};
 ghost use Rattle.shared.specs.Rooms.{IsFinal, IsLost, IsShortFor};
@@ -17,9 +17,9 @@ use crate::handle::Handle;
 use crate::room::Span;
 use blockdev::BlockDevice;
 use cachecore::ReadAnswer;
+use held::denied::{Denied, without_slip};
 use held::log::{Seat, Slip};
-use locked::denied::{Denied, without_slip};
-use locked::naming::Naming;
+use held::naming::Naming;
 use pc_types::HandleId;
 use std::sync::Wait;
 use trail::Trail;
@@ -61,7 +61,7 @@ impl<B: Naming, D: BlockDevice, T: Trail> SharedCache<B, D, T> {
 
     /// Reads the bytes from `offset` on into the front of `out`, and answers how many: as many as it takes, and none past the end of
     /// the file. A read touches 16 pages at most.
-    #[tactic(auto, using(locked::proofs::Seats::goes_by, locked::proofs::Seats::goes_on, locked::proofs::Seats::goes_same, crate::proofs::Making::goes_denied, crate::proofs::Making::makes_on, crate::proofs::Making::call_on, locked::proofs::Seats::only_same, crate::proofs::Owning::only_try_on, crate::proofs::Owning::once_try_on))]
+    #[tactic(auto, using(held::proofs::Seats::goes_by, held::proofs::Seats::goes_on, held::proofs::Seats::goes_same, crate::proofs::Making::goes_denied, crate::proofs::Making::makes_on, crate::proofs::Making::call_on, held::proofs::Seats::only_same, crate::proofs::Owning::only_try_on, crate::proofs::Owning::once_try_on))]
     pub fn pread<R: Wait>(
         &self,
         rt: &R,
@@ -102,7 +102,7 @@ impl<B: Naming, D: BlockDevice, T: Trail> SharedCache<B, D, T> {
 
     /// One attempt to read. Where a page is missing it is filled, where one is filling the end of a request is waited for, and nothing
     /// is answered.
-    #[tactic(auto, using(locked::proofs::Seats::goes_by, locked::proofs::Seats::goes_on, locked::proofs::Seats::goes_same, crate::proofs::Making::goes_denied, crate::proofs::Making::makes_by, crate::proofs::Making::call_first, crate::proofs::Making::call_help, locked::proofs::Seats::once_by, crate::proofs::Owning::only_try_denied, crate::proofs::Rooming::read_final))]
+    #[tactic(auto, using(held::proofs::Seats::goes_by, held::proofs::Seats::goes_on, held::proofs::Seats::goes_same, crate::proofs::Making::goes_denied, crate::proofs::Making::makes_by, crate::proofs::Making::call_first, crate::proofs::Making::call_help, held::proofs::Seats::once_by, crate::proofs::Owning::only_try_denied, crate::proofs::Rooming::read_final))]
     fn try_read<R: Wait>(
         &self,
         rt: &R,
@@ -146,7 +146,7 @@ impl<B: Naming, D: BlockDevice, T: Trail> SharedCache<B, D, T> {
             }
             ReadAnswer::Miss(page) => page,
         };
-        let size = guard.length_of(handle).unwrap_or(0);
+        let size = guard.core().size(handle).unwrap_or(0);
         drop(guard);
         let span = Span {
             handle,

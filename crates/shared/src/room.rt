@@ -1,32 +1,28 @@
 //! What a call does on the way: it fills pages that it missed, and makes room.
 
-ghost use Rattle.std.specs.Prelude.{◌≡◌, ◌&&◌, ◌⊎◌, IfErr, IfOk, IsTrue, if◌then◌else◌, false, length, true};
+ghost use Rattle.std.specs.Prelude.{◌≡◌, ℕ, ◌⊎◌, IfErr, IfOk, IsTrue, if◌then◌else◌, false, true};
 ghost use Rattle.std.specs.Sync.Mutex.{mutex_guard_value};
-ghost use Rattle.blockdev.specs.Jobs.{IsJobFor};
-ghost use Rattle.locked.specs.Called.{Goes, Only};
-ghost use Rattle.locked.specs.Flights.{is_busy};
+ghost use Rattle.cachecore.specs.Wants.{is_busy};
+ghost use Rattle.cachecore.specs.declared.answers.Want.TheVariants.{Frames};
 ghost use Rattle.machine.specs.Tests.{has_idle};
 ghost use Rattle.pc_types.specs.Limits.{is_geometry};
-ghost use Rattle.pc_types.specs.declared.kind.Kind.TheVariants.{Fill, Flush};
 ghost use Rattle.pc_types.specs.declared.refusal.Refusal.TheVariants.{NoFrame};
 ghost use Rattle.trail.specs.History.{After};
-ghost use Rattle.shared.specs.Called.{is_for_now, may_pass};
-ghost use Rattle.shared.specs.Denials.{IsDenied, IsFullIfNoSlip};
+ghost use Rattle.held.specs.Called.{Goes, Only};
+ghost use Rattle.shared.specs.Called.{is_for_now};
+ghost use Rattle.shared.specs.Denials.{IsDenied};
 ghost use Rattle.shared.specs.Own.{IsEviction, IsHelp, IsRoomEvent, IsStillDenied};
-ghost use Rattle.shared.specs.Rooms.{FailsToWrite, IsCrammed, IsFinal, IsFinalOr, IsLost, IsUnwritten, is_written, wants_room};
-ghost use Rattle.shared.specs.Settled.{EndsIn, FillsNoOther, SettlesIn};
-ghost use Rattle.shared.specs.Synced.{IsFlushEnd};
+ghost use Rattle.shared.specs.Rooms.{IsCrammed, IsFinal, IsFinalOr, IsLost, IsUnwritten, wants_room};
+ghost use Rattle.shared.specs.Settled.{FillsNoOther, SettlesIn};
 ghost use Rattle.shared.specs.Workers.{LetsGo};
-ghost use Rattle.shared.specs.declared.room.Want.TheVariants.{Frames};
-ghost use Rattle.world.specs.Ends.{buffer_of};
 
 use crate::cache::SharedCache;
 use blockdev::{BlockDevice, Buffer, Job};
-use cachecore::{Ended, FillBegun};
+use cachecore::{FillBegun, Want};
+use held::denied::{Denied, without_slip};
 use held::log::Seat;
-use locked::denied::{Denied, by, without_slip};
-use locked::naming::Naming;
-use locked::state::Locked;
+use held::naming::Naming;
+use held::state::Held;
 use pc_types::{HandleId, PageIndex, Refusal};
 use std::sync::{MutexGuard, Wait};
 use trail::Trail;
@@ -44,7 +40,7 @@ pub(crate) struct Span {
 impl<B: Naming, D: BlockDevice, T: Trail> SharedCache<B, D, T> {
     /// Fills a page that a call on this span of bytes lacks. First room is made for all pages that it lacks: made for this one alone
     /// it could cost the call another of its pages.
-    #[tactic(auto, using(locked::proofs::Seats::goes_by, locked::proofs::Seats::goes_on, locked::proofs::Seats::goes_same, crate::proofs::Making::goes_denied, crate::proofs::Making::help_room, crate::proofs::Making::help_on, crate::proofs::Owning::only_room, crate::proofs::Owning::only_filled, crate::proofs::Rooming::lost_unwanted))]
+    #[tactic(auto, using(held::proofs::Seats::goes_by, held::proofs::Seats::goes_on, held::proofs::Seats::goes_same, crate::proofs::Making::goes_denied, crate::proofs::Making::help_room, crate::proofs::Making::help_on, crate::proofs::Owning::only_room, crate::proofs::Owning::only_filled, crate::proofs::Rooming::lost_unwanted))]
     pub(crate) fn fill<R: Wait>(
         &self,
         rt: &R,
@@ -68,7 +64,7 @@ impl<B: Naming, D: BlockDevice, T: Trail> SharedCache<B, D, T> {
     }
 
     /// Fills a page. Where it is refused for want of room some is made, or the end of a request waited for.
-    #[tactic(auto, using(locked::proofs::Seats::goes_by, locked::proofs::Seats::goes_on, locked::proofs::Seats::goes_same, crate::proofs::Making::goes_denied, crate::proofs::Making::denied_begin, crate::proofs::Making::help_on, locked::proofs::Seats::only_same, crate::proofs::Owning::only_fill_begin, crate::proofs::Owning::only_fill_begin_denied, crate::proofs::Owning::only_begun_on, crate::proofs::Rooming::lost_unwanted, crate::proofs::Making::help_settled, crate::proofs::Owning::only_relieved, crate::proofs::Rooming::final_lasting))]
+    #[tactic(auto, using(held::proofs::Seats::goes_by, held::proofs::Seats::goes_on, held::proofs::Seats::goes_same, crate::proofs::Making::goes_denied, crate::proofs::Making::denied_begin, crate::proofs::Making::help_on, held::proofs::Seats::only_same, crate::proofs::Owning::only_fill_begin, crate::proofs::Owning::only_fill_begin_denied, crate::proofs::Owning::only_begun_on, crate::proofs::Rooming::lost_unwanted, crate::proofs::Making::help_settled, crate::proofs::Owning::only_relieved, crate::proofs::Rooming::final_lasting))]
     fn fill_once<R: Wait>(
         &self,
         rt: &R,
@@ -101,40 +97,9 @@ impl<B: Naming, D: BlockDevice, T: Trail> SharedCache<B, D, T> {
         }
     }
 
-    /// Makes the device call of a fill, without the state's lock, and ends the fill.
-    #[tactic(auto, using(locked::proofs::Seats::goes_by, locked::proofs::Seats::goes_on, locked::proofs::Seats::goes_same, crate::proofs::Making::goes_denied, crate::proofs::Making::denied_end, crate::proofs::Making::failed_end, crate::proofs::Owning::only_fill_end, crate::proofs::Owning::only_fill_end_denied, crate::proofs::Rooming::end_unwanted, crate::proofs::Rooming::end_final))]
-    fn fill_by<R: Wait>(
-        &self,
-        rt: &R,
-        seat: &mut Seat,
-        handle: HandleId,
-        job: Job,
-    ) -> Result<(), Denied>
-        requires seat { seat.old.table ≡ B.table }
-        requires fits { IsJobFor B.name B.sizes.blocks B.sizes.page job }
-        ensures goes { Goes seat.old seat.new }
-        ensures only { Only (λ e. IsHelp handle e.event) seat.old seat.new }
-        ensures denied { IfErr result (IsDenied (IsHelp handle) seat.old seat.new) }
-        ensures unwanted { IfErr result (λ d. wants_room d.refusal ≡ false) }
-        ensures stands { IfErr result (IsFinal B.sizes B.name seat.new) }
-        ensures ends { job.kind ≡ Fill → EndsIn B.name (Fill, job.serial) seat.old seat.new result }
-    {
-        let finished = self.disk.lock(rt).carry_out(job);
-        let ended = self.state.lock(rt).fill_end(seat, finished);
-        self.has_ended(rt);
-        let (ended, slip) = match ended {
-            Ok(ended) => ended,
-            Err(denied) => return Err(denied),
-        };
-        match &ended {
-            Ended::Failed(code, _) => Err(by(Refusal::Io(*code), slip)),
-            _ => Ok(()),
-        }
-    }
-
     /// Makes room for a call: until as many frames are free as it lacks pages, and no more pages would be dirty than may be, or none can
     /// be made.
-    #[tactic(auto, using(locked::proofs::Seats::goes_by, locked::proofs::Seats::goes_on, locked::proofs::Seats::goes_same, crate::proofs::Making::goes_denied, crate::proofs::Making::room_on, locked::proofs::Seats::only_same, crate::proofs::Owning::only_room_on))]
+    #[tactic(auto, using(held::proofs::Seats::goes_by, held::proofs::Seats::goes_on, held::proofs::Seats::goes_same, crate::proofs::Making::goes_denied, crate::proofs::Making::room_on, held::proofs::Seats::only_same, crate::proofs::Owning::only_room_on))]
     pub(crate) fn make_way<R: Wait>(
         &self,
         rt: &R,
@@ -151,7 +116,10 @@ impl<B: Naming, D: BlockDevice, T: Trail> SharedCache<B, D, T> {
     {
         'turns: for _ in rt.forever() {
             let guard = self.state.lock(rt);
-            let Some(want) = wants(&guard, span) else {
+            let Some(want) = guard
+                .core()
+                .wants(span.handle, span.offset, span.count, span.dirties)
+            else {
                 return Ok(());
             };
             match self.make_room(rt, guard, seat, want) {
@@ -165,11 +133,11 @@ impl<B: Naming, D: BlockDevice, T: Trail> SharedCache<B, D, T> {
 
     /// What comes of an event that was refused, in the hold that refused it: where it wanted room, some is made, or the end of a request
     /// waited for. The refusal stands where none can be made, and where it is of another kind.
-    #[tactic(auto, using(locked::proofs::Seats::goes_same, crate::proofs::Making::goes_denied, locked::proofs::Seats::only_same, crate::proofs::Rooming::wants_pass, crate::proofs::Rooming::stands_by, crate::proofs::Rooming::stands_still, crate::proofs::Rooming::stands_other))]
+    #[tactic(auto, using(held::proofs::Seats::goes_same, crate::proofs::Making::goes_denied, held::proofs::Seats::only_same, crate::proofs::Rooming::wants_pass, crate::proofs::Rooming::stands_by, crate::proofs::Rooming::stands_still, crate::proofs::Rooming::stands_other))]
     pub(crate) fn relieve<R: Wait>(
         &self,
         rt: &R,
-        guard: MutexGuard<'_, Locked<B, T>>,
+        guard: MutexGuard<'_, Held<B, T>>,
         seat: &mut Seat,
         denied: Denied,
     ) -> Result<(), Denied>
@@ -201,11 +169,11 @@ impl<B: Naming, D: BlockDevice, T: Trail> SharedCache<B, D, T> {
     /// Makes some room: a page is evicted, or written, or the end of a request waited for. Answers whether that was done: not where no
     /// page is idle or to be written and no request is in flight, nor where only the call's own write was in flight, and failed.
     ///
-    /// All of that is asked in one hold. Between two the end of a write could make a page idle that neither would see.
+    /// All of that is asked in one hold (decision 136). Between two the end of a write could make a page idle that neither would see.
     fn make_room<R: Wait>(
         &self,
         rt: &R,
-        guard: MutexGuard<'_, Locked<B, T>>,
+        guard: MutexGuard<'_, Held<B, T>>,
         seat: &mut Seat,
         want: Want,
     ) -> Result<bool, Denied>
@@ -216,22 +184,22 @@ impl<B: Naming, D: BlockDevice, T: Trail> SharedCache<B, D, T> {
         ensures unwanted { IfErr result (λ d. wants_room d.refusal ≡ false) }
         ensures still { IfOk result (λ made. made ≡ false → is_busy (mutex_guard_value guard.entry).core.state ≡ false) }
         ensures unwritten { IfOk result (λ made. made ≡ false → IsUnwritten (mutex_guard_value guard.entry).core.state seat.old seat.new) }
-        ensures idle { IfOk result (λ made. made ≡ false → want ≡ Frames → has_idle (mutex_guard_value guard.entry).core.state ≡ false) }
+        ensures idle { IfOk result (λ made. made ≡ false → (n : ℕ) → want ≡ Frames n → has_idle (mutex_guard_value guard.entry).core.state ≡ false) }
         ensures stands { IfErr result (IsFinal B.sizes B.name seat.new) }
         ensures settled { SettlesIn B.name seat.old seat.new result }
     {
         match want {
-            Want::Frames => self.free_frame(rt, guard, seat),
+            Want::Frames(_) => self.free_frame(rt, guard, seat),
             Want::Clean => self.flush_one(rt, guard, seat),
         }
     }
 
     /// Lets an idle page go. Where none is idle a page is written back, or the end of a request waited for.
-    #[tactic(auto, using(locked::proofs::Seats::goes_on, crate::proofs::Making::room_on, crate::proofs::Owning::only_evicted, crate::proofs::Owning::only_evicted_on, crate::proofs::Rooming::unwritten_on))]
+    #[tactic(auto, using(held::proofs::Seats::goes_on, crate::proofs::Making::room_on, crate::proofs::Owning::only_evicted, crate::proofs::Owning::only_evicted_on, crate::proofs::Rooming::unwritten_on))]
     fn free_frame<R: Wait>(
         &self,
         rt: &R,
-        mut guard: MutexGuard<'_, Locked<B, T>>,
+        mut guard: MutexGuard<'_, Held<B, T>>,
         seat: &mut Seat,
     ) -> Result<bool, Denied>
         requires { seat.old.table ≡ B.table }
@@ -254,11 +222,11 @@ impl<B: Naming, D: BlockDevice, T: Trail> SharedCache<B, D, T> {
 
     /// Writes a page back, of the first file that has one to write; or waits for the end of a request, where there is none to write or
     /// too many are in flight. Answers whether that was done; also where the write failed, if another request was in flight beside it.
-    #[tactic(auto, using(locked::proofs::Seats::goes_by, locked::proofs::Seats::goes_on, locked::proofs::Seats::goes_same, crate::proofs::Making::goes_denied, crate::proofs::Making::denied_first, crate::proofs::Making::room_on, locked::proofs::Seats::only_same, crate::proofs::Owning::only_first_denied, crate::proofs::Owning::only_written, crate::proofs::Rooming::first_unwanted, crate::proofs::Rooming::none_unwritten, crate::proofs::Rooming::first_final, crate::proofs::Rooming::final_lasting))]
+    #[tactic(auto, using(held::proofs::Seats::goes_by, held::proofs::Seats::goes_on, held::proofs::Seats::goes_same, crate::proofs::Making::goes_denied, crate::proofs::Making::denied_first, crate::proofs::Making::room_on, held::proofs::Seats::only_same, crate::proofs::Owning::only_first_denied, crate::proofs::Owning::only_written, crate::proofs::Rooming::first_unwanted, crate::proofs::Rooming::none_unwritten, crate::proofs::Rooming::first_final, crate::proofs::Rooming::final_lasting))]
     fn flush_one<R: Wait>(
         &self,
         rt: &R,
-        mut guard: MutexGuard<'_, Locked<B, T>>,
+        mut guard: MutexGuard<'_, Held<B, T>>,
         seat: &mut Seat,
     ) -> Result<bool, Denied>
         requires { seat.old.table ≡ B.table }
@@ -271,7 +239,7 @@ impl<B: Naming, D: BlockDevice, T: Trail> SharedCache<B, D, T> {
         ensures stands { IfErr result (IsFinal B.sizes B.name seat.new) }
         ensures settled { SettlesIn B.name seat.old seat.new result }
     {
-        let was_busy = guard.is_busy();
+        let was_busy = guard.core().is_busy();
         let buffer = match Buffer::new(self.alloc, &self.geometry) {
             Ok(buffer) => buffer,
             Err(refusal) => return Err(without_slip(refusal)),
@@ -295,24 +263,6 @@ impl<B: Naming, D: BlockDevice, T: Trail> SharedCache<B, D, T> {
         }
     }
 
-    /// Waits for the end of a request, where one is in flight, and answers whether one was.
-    pub(crate) fn waits<R: Wait>(&self, rt: &R, guard: MutexGuard<'_, Locked<B, T>>) -> bool
-        ensures { result ≡ is_busy (mutex_guard_value guard.entry).core.state }
-    {
-        if !guard.is_busy() {
-            return false;
-        }
-        self.wait_for_end(rt, guard);
-        true
-    }
-
-    /// Waits for the end of a request. One is in flight.
-    fn wait_for_end<R: Wait>(&self, rt: &R, guard: MutexGuard<'_, Locked<B, T>>)
-        requires { is_busy (mutex_guard_value guard).core.state ≡ true }
-    {
-        drop(self.changed.wait(rt, guard));
-    }
-
     /// Lets an idle page go. Answers whether there was one.
     pub(crate) fn evict_one<R: Wait>(&self, rt: &R, seat: &mut Seat) -> Result<bool, Denied>
         requires { seat.old.table ≡ B.table }
@@ -323,80 +273,11 @@ impl<B: Naming, D: BlockDevice, T: Trail> SharedCache<B, D, T> {
     {
         evict_idle(&mut self.state.lock(rt), seat)
     }
-
-    /// Waits for the end of a request, where one is in flight by whose end the refusal may pass; else the refusal stands.
-    #[tactic(auto, using(crate::proofs::Rooming::passes_now, crate::proofs::Rooming::passes_busy))]
-    pub(crate) fn wait_or<R: Wait>(
-        &self,
-        rt: &R,
-        guard: MutexGuard<'_, Locked<B, T>>,
-        denied: Denied,
-    ) -> Result<(), Denied>
-        ensures denied { IfErr result (λ d. d ≡ denied) }
-        ensures passing { IfOk result (λ _. is_for_now denied.refusal ≡ true) }
-        ensures waited { IfOk result (λ _. may_pass denied.refusal (mutex_guard_value guard.entry).core.state ≡ true) }
-        ensures still { IfErr result (λ _. may_pass denied.refusal (mutex_guard_value guard.entry).core.state ≡ false) }
-        ensures legal { After B.sizes B.name (mutex_guard_value guard.entry).log.history (mutex_guard_value guard.entry).core.state }
-    {
-        // Lends that the history is legal.
-        let _ = guard.core();
-        if !may_pass(&guard, denied.refusal) {
-            return Err(denied);
-        }
-        self.wait_for_end(rt, guard);
-        Ok(())
-    }
-
-    /// Makes the device call of a flush, without the state's lock, and ends the flush. Answers whether the page was written, with the
-    /// job's buffer.
-    #[tactic(auto, using(locked::proofs::Seats::goes_by, locked::proofs::Seats::goes_on, locked::proofs::Seats::goes_same, crate::proofs::Making::goes_denied, crate::proofs::Making::denied_flush, crate::proofs::Syncing::flush_denied, crate::proofs::Owning::only_flush_end, crate::proofs::Owning::only_flush_end_denied, crate::proofs::Rooming::end_unwanted, crate::proofs::Rooming::failed_by, crate::proofs::Rooming::end_final))]
-    pub(crate) fn flush_by<R: Wait>(
-        &self,
-        rt: &R,
-        seat: &mut Seat,
-        job: Job,
-    ) -> Result<(bool, Buffer), Denied>
-        requires seat { seat.old.table ≡ B.table }
-        requires fits { IsJobFor B.name B.sizes.blocks B.sizes.page job }
-        ensures goes { Goes seat.old seat.new }
-        ensures only { Only (λ e. IsFlushEnd e.event) seat.old seat.new }
-        ensures denied { IfErr result (IsDenied IsRoomEvent seat.old seat.new) }
-        ensures unwanted { IfErr result (λ d. wants_room d.refusal ≡ false) }
-        ensures ended { IfErr result (IsDenied IsFlushEnd seat.old seat.new) }
-        ensures full { IfErr result (IsFullIfNoSlip seat.old seat.new) }
-        ensures failed { IfOk result (λ r. r.0 ≡ false → FailsToWrite seat.old seat.new) }
-        ensures size { IfOk result (λ r. length r.1 ≡ B.sizes.page) }
-        ensures stands { IfErr result (IsFinal B.sizes B.name seat.new) }
-        ensures ends { job.kind ≡ Flush → EndsIn B.name (Flush, job.serial) seat.old seat.new result }
-    {
-        let finished = self.disk.lock(rt).carry_out(job);
-        let ended = self.state.lock(rt).flush_end(seat, finished);
-        self.has_ended(rt);
-        match ended {
-            Ok((ended, _, _)) => Ok(written(ended)),
-            Err(denied) => Err(denied),
-        }
-    }
-}
-
-/// Whether the write of a flush that ended so did not fail, and its buffer.
-fn written(ended: Ended) -> (bool, Buffer)
-    ensures is { result.0 ≡ is_written ended }
-    ensures back { result.1 ≡ buffer_of ended }
-{
-    match ended {
-        Ended::Failed(_, buffer) => (false, buffer),
-        Ended::Done(buffer) => (true, buffer),
-        Ended::Dropped(buffer) => (true, buffer),
-    }
 }
 
 /// Lets pages age, and then an idle one go. Answers whether there was one.
-#[tactic(auto, using(locked::proofs::Seats::goes_by, locked::proofs::Seats::goes_on, locked::proofs::Seats::goes_same, crate::proofs::Making::goes_denied, crate::proofs::Making::denied_age, crate::proofs::Making::denied_evict, crate::proofs::Owning::only_age_denied, crate::proofs::Owning::only_evicts, crate::proofs::Owning::only_evict_denied, crate::proofs::Letting::evicted_gone, crate::proofs::Rooming::age_unwanted, crate::proofs::Rooming::evict_unwanted, crate::proofs::Rooming::evict_none, crate::proofs::Rooming::age_final, crate::proofs::Rooming::evict_final))]
-fn evict_idle<B: Naming, T: Trail>(
-    state: &mut Locked<B, T>,
-    seat: &mut Seat,
-) -> Result<bool, Denied>
+#[tactic(auto, using(held::proofs::Seats::goes_by, held::proofs::Seats::goes_on, held::proofs::Seats::goes_same, crate::proofs::Making::goes_denied, crate::proofs::Making::denied_age, crate::proofs::Making::denied_evict, crate::proofs::Owning::only_age_denied, crate::proofs::Owning::only_evicts, crate::proofs::Owning::only_evict_denied, crate::proofs::Letting::evicted_gone, crate::proofs::Rooming::age_unwanted, crate::proofs::Rooming::evict_unwanted, crate::proofs::Rooming::evict_none, crate::proofs::Rooming::age_final, crate::proofs::Rooming::evict_final))]
+fn evict_idle<B: Naming, T: Trail>(state: &mut Held<B, T>, seat: &mut Seat) -> Result<bool, Denied>
     requires { seat.old.table ≡ B.table }
     ensures goes { Goes seat.old seat.new }
     ensures only { Only (λ e. IsEviction e.event) seat.old seat.new }
@@ -415,46 +296,6 @@ fn evict_idle<B: Naming, T: Trail>(
     }
 }
 
-/// Which room a call wants.
-#[derive(Clone, Copy)]
-pub(crate) enum Want {
-    /// More free frames.
-    Frames,
-    /// Fewer dirty pages.
-    Clean,
-}
-
-/// Which room a call on this span wants: frames, or fewer dirty pages.
-fn wants<B: Naming, T: Trail>(state: &Locked<B, T>, span: Span) -> Option<Want> {
-    if state.lacks_frames(span.handle, span.offset, span.count) {
-        return Some(Want::Frames);
-    }
-    if span.dirties && state.passes_limit(span.handle, span.offset, span.count) {
-        return Some(Want::Clean);
-    }
-    None
-}
-
-/// Whether a request is in flight by whose end a refusal may pass.
-fn may_pass<B: Naming, T: Trail>(state: &Locked<B, T>, refusal: Refusal) -> bool
-    ensures { result ≡ may_pass refusal state.now.core.state }
-{
-    match refusal {
-        Refusal::NoSpace => state.holds_cut(),
-        _ => is_for_now(refusal) && state.is_busy(),
-    }
-}
-
-/// Whether a refusal may pass when a request ends.
-pub(crate) fn is_for_now(refusal: Refusal) -> bool
-    ensures { result ≡ is_for_now refusal }
-{
-    matches!(
-        refusal,
-        Refusal::NoFrame | Refusal::DirtyLimit | Refusal::TooManyInFlight | Refusal::NoSpace
-    )
-}
-
 /// Whether more room might have spared a refusal.
 pub(crate) fn wants_room(refusal: Refusal) -> bool
     ensures { result ≡ wants_room refusal }
@@ -464,10 +305,10 @@ pub(crate) fn wants_room(refusal: Refusal) -> bool
 
 /// Which room an event wanted that was refused so.
 fn want_of(refusal: Refusal) -> Want
-    ensures { refusal ≡ NoFrame → result ≡ Frames }
+    ensures { refusal ≡ NoFrame → result ≡ Frames 1 }
 {
     match refusal {
-        Refusal::NoFrame => Want::Frames,
+        Refusal::NoFrame => Want::Frames(1),
         _ => Want::Clean,
     }
 }

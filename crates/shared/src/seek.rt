@@ -3,24 +3,24 @@
 ghost use Rattle.std.specs.Prelude.{◌≡◌, ◌≢◌, Err, None};
 ghost use Rattle.machine.specs.declared.event.Event.TheVariants as event;
 ghost use Rattle.pc_types.specs.declared.refusal.Refusal.TheVariants.{BadHandle, Stranger};
-ghost use Rattle.locked.specs.Called.{Goes, Only};
-ghost use Rattle.filesvc.specs.Service.{placed, target};
+ghost use Rattle.held.specs.Called.{Goes, Only};
+ghost use Rattle.cursor.specs.Places.{placed, target};
 ghost use Rattle.shared.specs.Seeks.{Seeks, place_after, with_slip};
 
 use crate::cache::SharedCache;
 use crate::handle::Handle;
 use blockdev::BlockDevice;
-use filesvc::Seek;
+use cursor::Seek;
+use held::denied::{Denied, without_slip};
 use held::log::{Seat, Slip};
-use locked::denied::{Denied, without_slip};
-use locked::naming::Naming;
+use held::naming::Naming;
 use std::sync::Wait;
 use trail::Trail;
 
 impl<B: Naming, D: BlockDevice, T: Trail> SharedCache<B, D, T> {
     /// Puts the cursor, and answers where it is now. Refused by `TooLarge` below 0 and past the greatest size of a file. Only a place
     /// that is counted from the end of the file makes an event, which asks for the file's size.
-    #[tactic(auto, using(locked::proofs::Seats::goes_by, locked::proofs::Seats::goes_same, crate::proofs::Making::goes_denied, crate::proofs::Making::makes_by, crate::proofs::Making::denied_event, crate::proofs::Making::full_by, crate::proofs::Making::made_one, crate::proofs::Making::denied_one, locked::proofs::Seats::only_same, crate::proofs::Owning::only_event, crate::proofs::Owning::only_event_denied))]
+    #[tactic(auto, using(held::proofs::Seats::goes_by, held::proofs::Seats::goes_same, crate::proofs::Making::goes_denied, crate::proofs::Making::makes_by, crate::proofs::Making::denied_event, crate::proofs::Making::full_by, crate::proofs::Making::made_one, crate::proofs::Making::denied_one, held::proofs::Seats::only_same, crate::proofs::Owning::only_event, crate::proofs::Owning::only_event_denied))]
     pub fn seek<R: Wait>(
         &self,
         rt: &R,

@@ -6,7 +6,7 @@ use std::sync::{Condvar, Mutex, Wait};
 /// Counts the moments at which there may be work, and wakes those who sleep till the next one.
 ///
 /// Who looks for work reads the count first, and sleeps only where the count is still the same. So work that comes in between is not
-/// missed, whatever it is and whichever lock it lies under.
+/// missed, whatever it is and whichever lock it lies under (decision 137).
 #[derive(Drop)]
 pub(crate) struct Signal {
     count: AtomicU64,

@@ -2,7 +2,7 @@
 
 ghost use Rattle.std.specs.Prelude.{◌≡◌, ◌+◌, ◌++◌, ◌∷◌, [], IfErr, IfNone, IfOk, IfSome, Some, false, is_some};
 ghost use Rattle.blockdev.specs.Jobs.{IsJobFor, Task};
-ghost use Rattle.locked.specs.Called.{Goes, Only};
+ghost use Rattle.held.specs.Called.{Goes, Only};
 ghost use Rattle.shared.specs.Denials.{IsDenied, IsFullIfNoSlip, MadeOne};
 ghost use Rattle.shared.specs.Workers.{AllCarried, Begins, Ends, FailsOwn, IsEnd, IsEndOf, IsFlushBegin, IsFlushed, IsOwnFailure, IsWorkerOf, IsWriteBack, OnBegun, entered_in, is_unended, popped_by, pushed_by, seat_of};
 
@@ -10,9 +10,9 @@ use crate::cache::SharedCache;
 use crate::ends::{Done, carry_through};
 use crate::worker::Worker;
 use blockdev::{BlockDevice, Buffer, Gate, Job};
+use held::denied::{Denied, without_slip};
 use held::log::{Seat, Slip};
-use locked::denied::{Denied, without_slip};
-use locked::naming::Naming;
+use held::naming::Naming;
 use pc_types::Serial;
 use std::sync::Wait;
 use trail::Trail;
@@ -33,7 +33,7 @@ pub enum Flushed {
 impl<B: Naming, D: BlockDevice, T: Trail> SharedCache<B, D, T> {
     /// One turn of an I/O worker: it takes a job from the ring, makes its device call, and ends its request. Answers nothing where it
     /// got no job. The gate is entered with the job's serial, before the device call.
-    #[tactic(auto, using(locked::proofs::Seats::goes_same, locked::proofs::Seats::only_same, crate::proofs::Owning::only_job))]
+    #[tactic(auto, using(held::proofs::Seats::goes_same, held::proofs::Seats::only_same, crate::proofs::Owning::only_job))]
     pub fn io_turn<R: Wait, G: Gate>(
         &self,
         rt: &R,
@@ -64,7 +64,7 @@ impl<B: Naming, D: BlockDevice, T: Trail> SharedCache<B, D, T> {
     /// One turn of a flusher: it begins to write the lowest page of the first file that has one to write, and puts the job into the
     /// ring. Where the ring is full it makes the device call itself, for which the gate is entered with the job's serial. Refused
     /// only where no write was begun.
-    #[tactic(auto, using(locked::proofs::Seats::goes_same, locked::proofs::Seats::goes_on, crate::proofs::Ending::begins_then, crate::proofs::Ending::ends_on, locked::proofs::Seats::only_same, crate::proofs::Owning::only_flushed, crate::proofs::Carrying::none_carried))]
+    #[tactic(auto, using(held::proofs::Seats::goes_same, held::proofs::Seats::goes_on, crate::proofs::Ending::begins_then, crate::proofs::Ending::ends_on, held::proofs::Seats::only_same, crate::proofs::Owning::only_flushed, crate::proofs::Carrying::none_carried))]
     pub fn flusher_turn<R: Wait, G: Gate>(
         &self,
         rt: &R,
@@ -101,7 +101,7 @@ impl<B: Naming, D: BlockDevice, T: Trail> SharedCache<B, D, T> {
     }
 
     /// Begins to write a page, of the first file that has one to write.
-    #[tactic(auto, using(locked::proofs::Seats::goes_same, crate::proofs::Ending::begins_first, crate::proofs::Ending::denied_begun, locked::proofs::Seats::only_same, crate::proofs::Ending::begun_one, crate::proofs::Ending::unbegun, crate::proofs::Owning::only_begun, crate::proofs::Owning::only_begun_denied, crate::proofs::Carrying::begins_one, crate::proofs::Carrying::begins_none))]
+    #[tactic(auto, using(held::proofs::Seats::goes_same, crate::proofs::Ending::begins_first, crate::proofs::Ending::denied_begun, held::proofs::Seats::only_same, crate::proofs::Ending::begun_one, crate::proofs::Ending::unbegun, crate::proofs::Owning::only_begun, crate::proofs::Owning::only_begun_denied, crate::proofs::Carrying::begins_one, crate::proofs::Carrying::begins_none))]
     fn begin_flush<R: Wait>(&self, rt: &R, seat: &mut Seat) -> Result<Option<(Job, Slip)>, Denied>
         requires { seat.old.table ≡ B.table }
         ensures goes { Goes seat.old seat.new }

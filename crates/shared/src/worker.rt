@@ -7,7 +7,7 @@ ghost use Rattle.shared.specs.Workers.{IsWorkerOf, popped_by, pushed_by, seat_of
 use crate::cache::SharedCache;
 use blockdev::BlockDevice;
 use held::log::Seat;
-use locked::naming::Naming;
+use held::naming::Naming;
 use pc_types::Refusal;
 use ring::RingPass;
 use trail::Trail;

@@ -1,15 +1,15 @@
 //! Workers' loops: they go on until the cache tells them to stop.
 
 ghost use Rattle.std.specs.Prelude.{◌≡◌, IfErr, OnOk};
-ghost use Rattle.locked.specs.Called.{Goes, Only};
+ghost use Rattle.held.specs.Called.{Goes, Only};
 ghost use Rattle.shared.specs.Workers.{AllEnded, CarriesAll, IsEnd, IsRefusedEnd, IsWorkerOf, IsWriteBack, is_unended, popped_by, pushed_by, seat_of};
 
 use crate::cache::SharedCache;
 use crate::turns::Flushed;
 use crate::worker::Worker;
 use blockdev::{BlockDevice, Gate};
-use locked::denied::Denied;
-use locked::naming::Naming;
+use held::denied::Denied;
+use held::naming::Naming;
 use std::sync::Wait;
 use std::sync::atomic::Ordering;
 use trail::Trail;
@@ -38,7 +38,7 @@ impl<B: Naming, D: BlockDevice, T: Trail> SharedCache<B, D, T> {
     }
 
     /// The turns of a flusher, which may put a job into the ring until it returns.
-    #[tactic(auto, using(locked::proofs::Seats::goes_same, locked::proofs::Seats::goes_on, locked::proofs::Seats::only_same, crate::proofs::Owning::only_write_back_on, crate::proofs::Carrying::none_carried, crate::proofs::Carrying::puts_none, crate::proofs::Carrying::carries_all, crate::proofs::Carrying::carries_last))]
+    #[tactic(auto, using(held::proofs::Seats::goes_same, held::proofs::Seats::goes_on, held::proofs::Seats::only_same, crate::proofs::Owning::only_write_back_on, crate::proofs::Carrying::none_carried, crate::proofs::Carrying::puts_none, crate::proofs::Carrying::carries_all, crate::proofs::Carrying::carries_last))]
     fn write_back<R: Wait, G: Gate>(&self, rt: &R, gate: &G, worker: &mut Worker)
         requires worker { IsWorkerOf self.now.ring B.name B.table B.sizes worker.old }
         ensures worker { IsWorkerOf self.now.ring B.name B.table B.sizes worker.new }
@@ -65,7 +65,7 @@ impl<B: Naming, D: BlockDevice, T: Trail> SharedCache<B, D, T> {
 
     /// Carries out the jobs of the ring, and sleeps where there are none. Told to stop, it goes on till no flusher is in its loop and
     /// the ring is empty. It stops too where an end is refused, which no job gets whose request is in flight.
-    #[tactic(auto, using(locked::proofs::Seats::goes_same, locked::proofs::Seats::goes_on, crate::proofs::Ending::none_ended, locked::proofs::Seats::only_same, crate::proofs::Owning::only_ends_on))]
+    #[tactic(auto, using(held::proofs::Seats::goes_same, held::proofs::Seats::goes_on, crate::proofs::Ending::none_ended, held::proofs::Seats::only_same, crate::proofs::Owning::only_ends_on))]
     pub fn io_worker<R: Wait, G: Gate>(
         &self,
         rt: &R,
@@ -82,7 +82,7 @@ impl<B: Naming, D: BlockDevice, T: Trail> SharedCache<B, D, T> {
     {
         'turns: for _ in rt.forever() {
             let seen = self.jobs.count();
-            // In this order: a flusher that counts itself later finds that it is to stop, and begins no write.
+            // In this order (decision 171): a flusher that counts itself later finds that it is to stop, and begins no write.
             let is_over = self.jobs.is_stopped() && self.flushers.load(Ordering::SeqCst) == 0;
             let is_idle = self.io_turn(rt, gate, worker)?.is_none();
             if is_idle {

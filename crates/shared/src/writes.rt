@@ -9,8 +9,8 @@ ghost use Rattle.machine.specs.declared.event.Reply.TheVariants as reply;
 ghost use Rattle.pc_types.specs.Limits.{is_geometry};
 ghost use Rattle.pc_types.specs.declared.refusal.Refusal.TheVariants.{BadHandle, Stranger};
 ghost use Rattle.trail.specs.History.{After};
-ghost use Rattle.locked.specs.Called.{Goes, Once, Only};
-ghost use Rattle.locked.specs.Denials as under;
+ghost use Rattle.held.specs.Called.{Goes, Once, Only};
+ghost use Rattle.held.specs.Denials as under;
 ghost use Rattle.shared.specs.Called.{Makes, Retries, is_for_now};
 ghost use Rattle.shared.specs.Changes.{IsWhole, IsWholeIn, cursor_after, event_of, over, reply_of, write_event};
 ghost use Rattle.shared.specs.Denials.{IsDenied};
@@ -24,10 +24,10 @@ use crate::handle::Handle;
 use crate::room::{Span, wants_room};
 use blockdev::BlockDevice;
 use cachecore::{TruncateAnswer, WriteAnswer};
+use held::denied::{Denied, without_slip};
 use held::log::{Seat, Slip};
-use locked::denied::{Denied, without_slip};
-use locked::naming::Naming;
-use locked::state::Locked;
+use held::naming::Naming;
+use held::state::Held;
 use pc_types::HandleId;
 use std::sync::{MutexGuard, Wait};
 use trail::Trail;
@@ -52,7 +52,7 @@ pub(crate) enum Change {
 impl<B: Naming, D: BlockDevice, T: Trail> SharedCache<B, D, T> {
     /// Writes the bytes into the file from `offset` on, all of them, also by an appending handle. A gap before them reads as zeros. A
     /// write touches 16 pages at most.
-    #[tactic(auto, using(locked::proofs::Seats::only_same))]
+    #[tactic(auto, using(held::proofs::Seats::only_same))]
     pub fn pwrite<R: Wait>(
         &self,
         rt: &R,
@@ -83,7 +83,7 @@ impl<B: Naming, D: BlockDevice, T: Trail> SharedCache<B, D, T> {
     }
 
     /// Writes at the cursor, or with an appending handle at the end of the file, all of the bytes, and puts the cursor behind them.
-    #[tactic(auto, using(locked::proofs::Seats::only_same))]
+    #[tactic(auto, using(held::proofs::Seats::only_same))]
     pub fn write<R: Wait>(
         &self,
         rt: &R,
@@ -125,7 +125,7 @@ impl<B: Naming, D: BlockDevice, T: Trail> SharedCache<B, D, T> {
     }
 
     /// Makes the file as long as this, in bytes. A longer one gains zeros. The cursor stays.
-    #[tactic(auto, using(locked::proofs::Seats::only_same))]
+    #[tactic(auto, using(held::proofs::Seats::only_same))]
     pub fn truncate<R: Wait>(
         &self,
         rt: &R,
@@ -157,7 +157,7 @@ impl<B: Naming, D: BlockDevice, T: Trail> SharedCache<B, D, T> {
     }
 
     /// Changes the handle's file, in as many attempts as it takes.
-    #[tactic(auto, using(locked::proofs::Seats::goes_on, locked::proofs::Seats::goes_same, crate::proofs::Making::makes_on, crate::proofs::Making::call_on, locked::proofs::Seats::only_same, crate::proofs::Owning::only_try_on, crate::proofs::Owning::once_try_on))]
+    #[tactic(auto, using(held::proofs::Seats::goes_on, held::proofs::Seats::goes_same, crate::proofs::Making::makes_on, crate::proofs::Making::call_on, held::proofs::Seats::only_same, crate::proofs::Owning::only_try_on, crate::proofs::Owning::once_try_on))]
     fn change<R: Wait>(
         &self,
         rt: &R,
@@ -194,7 +194,7 @@ impl<B: Naming, D: BlockDevice, T: Trail> SharedCache<B, D, T> {
 
     /// One attempt to change the file. Where a page is missing it is filled, where there is no room it is made, and nothing is
     /// answered.
-    #[tactic(auto, using(locked::proofs::Seats::goes_by, locked::proofs::Seats::goes_on, locked::proofs::Seats::goes_same, crate::proofs::Making::goes_denied, crate::proofs::Making::makes_by, crate::proofs::Making::call_help, crate::proofs::Making::call_settled, locked::proofs::Seats::once_by))]
+    #[tactic(auto, using(held::proofs::Seats::goes_by, held::proofs::Seats::goes_on, held::proofs::Seats::goes_same, crate::proofs::Making::goes_denied, crate::proofs::Making::makes_by, crate::proofs::Making::call_help, crate::proofs::Making::call_settled, held::proofs::Seats::once_by))]
     fn try_change<R: Wait>(
         &self,
         rt: &R,
@@ -246,11 +246,11 @@ impl<B: Naming, D: BlockDevice, T: Trail> SharedCache<B, D, T> {
 
     /// What a change comes to that was refused, in the hold that refused it: where it was for want of room, room is made for all that
     /// the call wants, or the end of a request waited for; else the refusal stands.
-    #[tactic(auto, using(locked::proofs::Seats::goes_on, locked::proofs::Seats::goes_same, locked::proofs::Seats::only_same, crate::proofs::Owning::only_room_on, crate::proofs::Making::room_on, crate::proofs::Rooming::stands_other, crate::proofs::Wanting::wants_anyhow))]
+    #[tactic(auto, using(held::proofs::Seats::goes_on, held::proofs::Seats::goes_same, held::proofs::Seats::only_same, crate::proofs::Owning::only_room_on, crate::proofs::Making::room_on, crate::proofs::Rooming::stands_other, crate::proofs::Wanting::wants_anyhow))]
     fn settle<R: Wait>(
         &self,
         rt: &R,
-        guard: MutexGuard<'_, Locked<B, T>>,
+        guard: MutexGuard<'_, Held<B, T>>,
         seat: &mut Seat,
         span: Span,
         denied: Denied,
@@ -281,7 +281,7 @@ impl<B: Naming, D: BlockDevice, T: Trail> SharedCache<B, D, T> {
 /// Makes the event of a change.
 #[tactic(auto, using(crate::proofs::Sizes::whole_write))]
 fn change_by<B: Naming, T: Trail>(
-    state: &mut Locked<B, T>,
+    state: &mut Held<B, T>,
     seat: &mut Seat,
     handle: HandleId,
     change: Change,
@@ -320,7 +320,7 @@ fn as_write(answer: TruncateAnswer, size: u64) -> WriteAnswer
 
 /// The bytes of the file whose pages a change needs.
 fn span_of<B: Naming, T: Trail>(
-    state: &Locked<B, T>,
+    state: &Held<B, T>,
     handle: HandleId,
     change: Change,
     bytes: &[u8],
@@ -329,7 +329,7 @@ fn span_of<B: Naming, T: Trail>(
 {
     let (offset, count) = match change {
         Change::Write(offset) => (offset, bytes.len() as u64),
-        Change::Append => (state.length_of(handle).unwrap_or(0), bytes.len() as u64),
+        Change::Append => (state.core().size(handle).unwrap_or(0), bytes.len() as u64),
         // the byte behind the new end is of the page that is cut into
         Change::Truncate(size) => (size, 1),
     };

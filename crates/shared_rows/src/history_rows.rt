@@ -5,10 +5,10 @@ ghost use Rattle.shared.specs.Workers.{IsWorkerOf};
 
 use crate::rows::{Tested, opens, two_of, with_two};
 use blockdev::BlockDevice;
-use filesvc::Seek;
+use cursor::Seek;
+use held::denied::Denied;
 use held::log::{Seat, Slip, confirm};
-use locked::denied::Denied;
-use locked::naming::Naming;
+use held::naming::Naming;
 use pc_types::Refusal;
 use shared::worker::Worker;
 use std::alloc::Global;

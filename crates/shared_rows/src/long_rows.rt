@@ -5,9 +5,9 @@ ghost use Rattle.std.specs.Prelude.{◌≡◌};
 use crate::rows::Tested;
 use crate::thread_rows::Turnstile;
 use blockdev::BlockDevice;
+use held::denied::Denied;
 use held::log::{Seat, Slip};
-use locked::denied::Denied;
-use locked::naming::Naming;
+use held::naming::Naming;
 use shared::handle::Handle;
 use std::sync::Wait;
 

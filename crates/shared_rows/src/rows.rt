@@ -7,7 +7,7 @@
 ghost use Rattle.std.specs.Prelude.{◌≡◌, All, IfSome};
 ghost use Rattle.std.specs.FinMap as map;
 ghost use Rattle.held.specs.Shown.{AreFresh};
-ghost use Rattle.locked.specs.Keeps.{IsLocked};
+ghost use Rattle.held.specs.Keeps.{IsLocked};
 ghost use Rattle.shared.specs.Keeps.{IsDisk};
 ghost use Rattle.shared.specs.Workers.{IsWorkerOf};
 
@@ -22,10 +22,10 @@ use crate::worker_rows::{
     closes_with_a_full_ring, reads_beside_a_write, stops_with_a_full_ring, wakes_each_time,
 };
 use blockdev::{BlockDevice, FaultEffect, GatedDevice, ScriptDevice};
+use cursor::Seek;
 use faulty::FaultyDevice;
-use filesvc::Seek;
 use held::log::Seat;
-use locked::naming::Naming;
+use held::naming::Naming;
 use pc_types::{ErrCode, Geometry, Refusal};
 use shared::cache::{Parts, SharedCache};
 use shared::handle::Handle;

@@ -3,7 +3,7 @@
 ghost use Rattle.std.specs.FinMap as map;
 ghost use Rattle.std.specs.Prelude.{◌≡◌, IfSome};
 ghost use Rattle.held.specs.Shown.{AreFresh};
-ghost use Rattle.locked.specs.Keeps.{IsLocked};
+ghost use Rattle.held.specs.Keeps.{IsLocked};
 ghost use Rattle.shared.specs.Keeps.{IsDisk};
 ghost use Rattle.shared.specs.Workers.{IsWorkerOf};
 
@@ -12,7 +12,7 @@ use crate::thread_rows::Turnstile;
 use crate::worker_rows::Open;
 use blockdev::{BlockDevice, ScriptDevice};
 use held::log::Seat;
-use locked::naming::Naming;
+use held::naming::Naming;
 use machine::Event;
 use pc_types::{Geometry, Refusal};
 use shared::cache::{Parts, SharedCache};

@@ -4,9 +4,9 @@ ghost use Rattle.std.specs.Prelude.{◌≡◌};
 
 use crate::rows::Tested;
 use blockdev::{BlockDevice, Gate};
+use held::denied::Denied;
 use held::log::Seat;
-use locked::denied::Denied;
-use locked::naming::Naming;
+use held::naming::Naming;
 use pc_types::{ErrCode, FileId, Refusal};
 use shared::handle::Handle;
 use std::sync::Wait;

@@ -8,7 +8,7 @@ use crate::rows::{Tested, opens, two_of, with_two};
 use crate::thread_rows::{Turnstile, reads_meanwhile, writes_page};
 use blockdev::{BlockDevice, Gate};
 use held::log::Seat;
-use locked::naming::Naming;
+use held::naming::Naming;
 use shared::handle::Handle;
 use shared::turns::Flushed;
 use shared::worker::Worker;

@@ -6,7 +6,7 @@ ghost use Rattle.storm.specs.Crews.{IsCrewOf};
 
 use crate::member::Member;
 use blockdev::{BlockDevice, Gate};
-use locked::naming::Naming;
+use held::naming::Naming;
 use shared::cache::SharedCache;
 use shared::worker::Worker;
 use std::sync::Wait;

@@ -3,7 +3,7 @@
 ghost use Rattle.std.specs.Prelude.{◌≡◌, All, IfSome};
 
 use held::log::Seat;
-use locked::naming::Naming;
+use held::naming::Naming;
 use std::alloc::Global;
 use std::marker::PhantomData;
 

@@ -3,7 +3,7 @@
 ghost use Rattle.std.specs.FinMap as map;
 ghost use Rattle.std.specs.Prelude.{◌≡◌, ◌≤◌, All, IfSome};
 ghost use Rattle.held.specs.Shown.{AreFresh};
-ghost use Rattle.locked.specs.Keeps.{IsLocked};
+ghost use Rattle.held.specs.Keeps.{IsLocked};
 ghost use Rattle.shared.specs.Keeps.{IsDisk};
 ghost use Rattle.shared.specs.Workers.{IsWorkerOf};
 ghost use Rattle.storm.specs.Crews.{IsCrewOf};
@@ -17,7 +17,7 @@ use crate::steps::{FILES, Steps};
 use blockdev::{BlockDevice, FileDevice, MemDevice};
 use faulty::FaultyDevice;
 use held::log::{Seat, Slip};
-use locked::naming::Naming;
+use held::naming::Naming;
 use pc_types::{Geometry, Refusal};
 use shared::cache::{Parts, SharedCache};
 use shared::worker::Worker;

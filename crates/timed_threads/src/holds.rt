@@ -1,15 +1,17 @@
 //! The rows of the locked state: a read by the core alone, and the same read as a hold, over a trail that keeps nothing.
 
 ghost use Rattle.std.specs.Prelude.{◌≡◌};
+ghost use Rattle.held.specs.Keeps.{IsLocked};
 
 use crate::rounds::ROUNDS;
 use crate::trails::SMALL;
 use cachecore::{CacheCore, ReadAnswer};
-use held::call::Call;
 use held::log::Seat;
-use held::state::Held;
+use held::naming::Naming;
+use held::state::{Held, Opened};
 use pc_types::{FileId, Geometry, HandleId, Refusal};
 use std::alloc::Global;
+use std::marker::Brand;
 use std::time::{Clock, Instant};
 use timing::{Best, Fault};
 use trail::NoTrail;
@@ -83,23 +85,42 @@ fn read_core(core: &mut CacheCore) -> u64 {
 /// Times the same reads as holds.
 pub fn time_held(clock: &impl Clock, alloc: Global) -> Result<Best, Fault> {
     let geometry = geometry()?;
-    match Held::new(alloc, &geometry, 1, NoTrail::new(), 1) {
-        Ok((mut held, board, seats, mut own)) => {
-            let timed = time_holds(clock, &mut held, &mut own);
-            drop(held);
+    match Opened::new(alloc, &geometry, 1, NoTrail::new(), 1) {
+        Ok((opened, board, seats, own)) => {
             drop(board);
             drop(seats);
-            drop(own);
-            timed
+            time_named::<Brand>(clock, opened, own)
         }
         Err(_) => Err(Fault::Memory),
     }
 }
 
-fn time_holds(clock: &impl Clock, held: &mut Held<NoTrail>, seat: &mut Seat) -> Result<Best, Fault>
-    requires { seat.old.table ≡ held.old.log.table }
+/// Times reads of the cache that B names.
+fn time_named<B: Naming>(
+    clock: &impl Clock,
+    opened: Opened<NoTrail>,
+    mut own: Seat,
+) -> Result<Best, Fault>
+    requires state { IsLocked B.name B.table B.board B.sizes B.seats opened }
+    requires own { own.table ≡ B.table }
 {
-    write_held(held, seat)?;
+    let mut held = Held::<B, NoTrail>::of(opened);
+    let timed = time_holds(clock, &mut held, &mut own);
+    drop(held);
+    drop(own);
+    timed
+}
+
+fn time_holds<B: Naming>(
+    clock: &impl Clock,
+    held: &mut Held<B, NoTrail>,
+    seat: &mut Seat,
+) -> Result<Best, Fault>
+    requires { seat.old.table ≡ B.table }
+{
+    if write_held(held, seat).is_none() {
+        return Err(Fault::Memory);
+    }
     let mut best = Best::NONE;
     for _round in 0..ROUNDS {
         let start = Instant::now(clock)?;
@@ -109,31 +130,30 @@ fn time_holds(clock: &impl Clock, held: &mut Held<NoTrail>, seat: &mut Seat) -> 
     Ok(best)
 }
 
-fn write_held(held: &mut Held<NoTrail>, seat: &mut Seat) -> Result<(), Refusal>
-    requires { seat.old.table ≡ held.old.log.table }
-    ensures { (held.new.log.table ≡ held.old.log.table) × (seat.new.table ≡ seat.old.table) }
+fn write_held<B: Naming>(held: &mut Held<B, NoTrail>, seat: &mut Seat) -> Option<()>
+    requires { seat.old.table ≡ B.table }
+    ensures { seat.new.table ≡ seat.old.table }
 {
-    held.act(seat, Call::Create)?;
-    held.act(seat, Call::Open(FILE))?;
+    held.create(seat).ok()?;
+    held.open(seat, FILE).ok()?;
     let bytes = [7; PAGE as usize];
     for page in 0..PAGES {
-        let (written, _) = held.write(seat, HANDLE, page * PAGE, &bytes)?;
-        written?;
+        held.write(seat, HANDLE, page * PAGE, &bytes).ok()?;
     }
-    Ok(())
+    Some(())
 }
 
 /// The sum of the counts.
 #[inline(never)]
-fn read_held(held: &mut Held<NoTrail>, seat: &mut Seat) -> u64
-    requires { seat.old.table ≡ held.old.log.table }
-    ensures { (held.new.log.table ≡ held.old.log.table) × (seat.new.table ≡ seat.old.table) }
+fn read_held<B: Naming>(held: &mut Held<B, NoTrail>, seat: &mut Seat) -> u64
+    requires { seat.old.table ≡ B.table }
+    ensures { seat.new.table ≡ seat.old.table }
 {
     let mut out = [0; SMALL as usize];
     let mut sum = 0u64;
     for index in 0..READS {
         if let Ok((answer, _)) = held.read(seat, HANDLE, offset_of(index), &mut out) {
-            sum = sum.wrapping_add(count_of(answer));
+            sum = sum.wrapping_add(count_of(Ok(answer)));
         }
     }
     sum

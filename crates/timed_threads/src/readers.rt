@@ -4,9 +4,9 @@ ghost use Rattle.std.specs.Prelude.{◌≡◌, ◌<◌, All, length};
 
 use crate::cached::{PAGE, PAGES, Plain, Reads, Size};
 use blockdev::MemDevice;
+use held::denied::Denied;
 use held::log::Seat;
-use locked::denied::Denied;
-use locked::naming::Naming;
+use held::naming::Naming;
 use pc_types::FileId;
 use shared::cache::SharedCache;
 use shared::handle::Handle;

@@ -3,7 +3,7 @@
 ghost use Rattle.std.specs.FinMap as map;
 ghost use Rattle.std.specs.Prelude.{◌≡◌, ◌<◌, ◌≤◌, All};
 ghost use Rattle.held.specs.Shown.{AreFresh};
-ghost use Rattle.locked.specs.Keeps.{IsLocked};
+ghost use Rattle.held.specs.Keeps.{IsLocked};
 ghost use Rattle.shared.specs.Keeps.{IsDisk};
 ghost use Rattle.shared.specs.Workers.{IsWorkerOf};
 ghost use Rattle.timed_threads.specs.declared.reads.TheConstants.{READS};
@@ -13,7 +13,7 @@ use crate::numbers::Numbers;
 use crate::readers::{Readers, Shared};
 use blockdev::MemDevice;
 use held::log::Seat;
-use locked::naming::Naming;
+use held::naming::Naming;
 use pc_types::Refusal;
 use shared::cache::{Parts, SharedCache};
 use std::alloc::{AllocError, Global};

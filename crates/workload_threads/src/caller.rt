@@ -8,7 +8,7 @@ use crate::member::{Member, Shared};
 use crate::scale::{Plan, Scale};
 use crate::steps::{MAX_COUNT, Steps};
 use crate::tally::Tally;
-use locked::naming::Naming;
+use held::naming::Naming;
 use pc_types::{FileId, Refusal};
 use std::alloc::{AllocError, Global};
 use std::sync::Wait;

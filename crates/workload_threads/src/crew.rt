@@ -6,7 +6,7 @@ ghost use Rattle.workload_threads.specs.Crews.{IsCrewOf};
 
 use crate::member::{Member, Shared};
 use blockdev::Gate;
-use locked::naming::Naming;
+use held::naming::Naming;
 use pc_types::Refusal;
 use shared::worker::Worker;
 use std::sync::Wait;

@@ -5,7 +5,7 @@ use crate::member::{Member, Shared};
 use crate::scale::{CALLERS, Scale};
 use crate::steps::Steps;
 use crate::tally::Tally;
-use locked::naming::Naming;
+use held::naming::Naming;
 use pc_types::{FileId, Refusal};
 use std::sync::Wait;
 

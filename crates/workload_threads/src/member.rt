@@ -4,7 +4,7 @@ ghost use Rattle.std.specs.Prelude.{◌≡◌, All, IfOk};
 
 use blockdev::MemDevice;
 use held::log::Seat;
-use locked::naming::Naming;
+use held::naming::Naming;
 use shared::cache::SharedCache;
 use std::alloc::{AllocError, Global};
 use std::marker::PhantomData;

@@ -3,7 +3,7 @@
 ghost use Rattle.std.specs.FinMap as map;
 ghost use Rattle.std.specs.Prelude.{◌≡◌, All, IfOk};
 ghost use Rattle.held.specs.Shown.{AreFresh};
-ghost use Rattle.locked.specs.Keeps.{IsLocked};
+ghost use Rattle.held.specs.Keeps.{IsLocked};
 ghost use Rattle.shared.specs.Keeps.{IsDisk};
 ghost use Rattle.shared.specs.Workers.{IsWorkerOf};
 ghost use Rattle.workload_threads.specs.Crews.{IsCrewOf};
@@ -17,7 +17,7 @@ use crate::steps::Steps;
 use crate::tally::Tally;
 use blockdev::MemDevice;
 use held::log::Seat;
-use locked::naming::Naming;
+use held::naming::Naming;
 use pc_types::Refusal;
 use shared::cache::{Parts, SharedCache};
 use shared::worker::Worker;

@@ -23,7 +23,7 @@ use Rattle.world.specs.declared.answers.SyncAnswer.{SyncAnswer}
 use Rattle.world.specs.declared.begun.Begun.TheVariants.{Answered}
 use Rattle.world.specs.Begins.{IsFillBegun, IsFlushBegun, IsSyncStepped}
 use Rattle.cachecore.specs.Replies.{is_job}
-use Rattle.world.specs.Ends.{buffer_of}
+use Rattle.cachecore.specs.Replies.{buffer_of}
 use Rattle.world.specs.Flights.{Jobs, HasJob, IsSpare, IsWorld, task_of}
 use Rattle.blockdev.specs.Watching.{Watch}
 

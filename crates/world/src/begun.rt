@@ -3,7 +3,8 @@
 ghost use Rattle.std.specs.Prelude.{◌≡◌, Ok, Err};
 ghost use Rattle.world.specs.Answers.{end_says};
 ghost use Rattle.world.specs.Begins.{IsFillBegun, IsFlushBegun, IsSyncStepped};
-ghost use Rattle.world.specs.Ends.{buffer_of, ended};
+ghost use Rattle.cachecore.specs.Replies.{buffer_of};
+ghost use Rattle.world.specs.Ends.{ended};
 
 use crate::answers::{EndAnswer, FillAnswer, FlushAnswer, SyncAnswer};
 use blockdev::{Buffer, Job};

@@ -4,11 +4,11 @@ mod at_once;
 mod calls;
 mod events;
 
-ghost use Rattle.std.specs.Prelude.{◌≡◌, ◌<◌, IfErr, IfOk, IfSome, IsOkUnless, None, OnErr, length, option_map, true, if◌then◌else◌};
+ghost use Rattle.std.specs.Prelude.{◌≡◌, ◌<◌, IfErr, IfNone, IfOk, IfSome, IsOkUnless, None, OnErr, length, option_map, true, if◌then◌else◌};
 ghost use Rattle.pc_types.specs.declared.refusal.Refusal.TheVariants.{BadConfig, Memory};
 ghost use Rattle.cachecore.specs.Flushing.{flush_of};
 ghost use Rattle.cachecore.specs.Replies.{TagsAre, answered};
-ghost use Rattle.cachecore.specs.Wants.{frames_short, holds_cut, lacks_frames, passes_limit};
+ghost use Rattle.cachecore.specs.Wants.{IsFirstToWrite, NothingToWrite, holds_cut, wants};
 ghost use Rattle.world.specs.Answers.{fill_says, flush_says, sync_says};
 ghost use Rattle.world.specs.Flights.{IsSpare};
 ghost use Rattle.runs.specs.Runs.{IsFirst};
@@ -19,7 +19,7 @@ use crate::begun::{self, Begun};
 use crate::jobs::Jobs;
 use crate::step::Step;
 use blockdev::{BlockDevice, Buffer, Watched};
-use cachecore::{CacheCore, PageTags, ReadAnswer, Reply, replies};
+use cachecore::{CacheCore, PageTags, ReadAnswer, Reply, Want, replies};
 use pc_types::limits::MAX_FILES;
 use pc_types::{Bytes, FileId, Geometry, HandleId, PageIndex, Refusal, Serial, SyncId};
 use std::alloc::{AllocError, Global};
@@ -149,25 +149,19 @@ impl<D: BlockDevice> World<D> {
         self.core.tags(file, page)
     }
 
-    /// Whether fewer frames are free than pages are absent which these bytes touch. This is no event.
-    pub fn lacks_frames(&self, handle: HandleId, offset: u64, count: u64) -> bool
-        ensures { result ≡ lacks_frames self.now.core handle.0 offset count }
+    /// Which room a call wants that touches these bytes, and makes their pages dirty or not. This is no event.
+    pub fn wants(&self, handle: HandleId, offset: u64, count: u64, dirties: bool) -> Option<Want>
+        ensures { result ≡ wants dirties self.now.core handle.0 offset count }
     {
-        self.core.lacks_frames(handle, offset, count)
+        self.core.wants(handle, offset, count, dirties)
     }
 
-    /// How many frames fewer are free than pages are absent which these bytes touch. This is no event.
-    pub fn frames_short(&self, handle: HandleId, offset: u64, count: u64) -> u64
-        ensures { result ≡ frames_short self.now.core handle.0 offset count }
+    /// The first file that has a page to write. This is no event.
+    pub fn first_to_write(&self) -> Option<FileId>
+        ensures some { IfSome result (λ f. IsFirstToWrite self.now.core f.0) }
+        ensures none { IfNone result (NothingToWrite self.now.core) }
     {
-        self.core.frames_short(handle, offset, count)
-    }
-
-    /// Whether too many pages would be dirty with those that these bytes touch. This is no event.
-    pub fn passes_limit(&self, handle: HandleId, offset: u64, count: u64) -> bool
-        ensures { result ≡ passes_limit self.now.core handle.0 offset count }
-    {
-        self.core.passes_limit(handle, offset, count)
+        self.core.first_to_write()
     }
 
     /// Whether a request in flight is dropped, which is no event either.

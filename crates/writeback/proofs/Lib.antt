@@ -1,3 +1,4 @@
+pub mod Counts
 pub mod Each
 pub mod Finds
 pub mod MapLaws

@@ -1,5 +1,5 @@
 -- A table of slots and the finite map that it makes.
-use Rattle.std.proofs.Common.{◌≡◌, ℕ, ◌+◌, ◌<◌, ◌≤◌, zero, suc, Bool, true, false, cond, not, eqb, List, [], ◌∷◌}
+use Rattle.std.proofs.Common.{◌≡◌, ℕ, ◌+◌, ◌<◌, ◌≤◌, zero, suc, Bool, true, false, cond, not, eqb, eqb-true, List, [], ◌∷◌}
 use Rattle.std.proofs.Common.{length, get_or, set, refl, ap, sym, subst, ◌∙◌, arith, map, get_or-set_same}
 use Rattle.std.proofs.Common.{get_or-set_other, ◌||◌, Option, Some, None, is_some, option_map, count_by, position}
 use Rattle.std.specs.List.{prefix_len, list_any}
@@ -7,7 +7,7 @@ use Rattle.std.specs.FinMap as finmap
 use Rattle.std.proofs.lemmas.Bool.{false≢true}
 use Rattle.std.proofs.lemmas.Bool.Decides.{nat_tests}
 use Rattle.std.proofs.lemmas.List.Quantifiers.{position-Some}
-use Rattle.std.proofs.lemmas.List.Sums.{sum_by-cons, prefix_len_passes}
+use Rattle.std.proofs.lemmas.List.Sums.{count_by-le-length, sum_by-cons, prefix_len_passes}
 use Rattle.mapping.proofs.MapLemmas.{same_nat_map, get-insert_nat, get-remove_nat}
 use Rattle.writeback.specs.declared.syncs.Progress.{Progress}
 use Rattle.writeback.specs.Rising.{IsRising}
@@ -146,6 +146,9 @@ get_progress slots n = sym (get_or-states slots n) ∙ sym (get-in_use (map (opt
 len_progress : (slots : List (Option Progress)) → finmap.len (in_progress slots) ≡ count_by (λ s. is_some s) slots
 len_progress slots = len-in_use (map (option_map sync_of) slots) ∙ count-states slots
 
+pub slots_few : (slots : List (Option Progress)) → finmap.len (in_progress slots) ≤ length slots
+slots_few slots = omega (arith, len_progress slots, count_by-le-length (λ (s : Option Progress). is_some s) slots)
+
 is_in : (slots : List (Option Progress)) (n : ℕ)
     → is_some (finmap.get (in_progress slots) n) ≡ is_some (get_or slots n None)
 is_in slots n = ap is_some (sym (get_progress slots n)) ∙ shown_some (get_or slots n None)
@@ -163,6 +166,16 @@ slot_room slots n at =
     let is = position-Some (λ (s : Option Progress). not (is_some s)) slots n None at in
     let less = less_free slots n is.0 is.1 in
     omega (arith, less, len_progress slots)
+
+pub slot_free : (slots : List (Option Progress)) (n : ℕ) → position (λ s. not (is_some s)) slots ≡ Some n
+    → finmap.get (in_progress slots) n ≡ None
+slot_free slots n at =
+    let is = position-Some (λ (s : Option Progress). not (is_some s)) slots n None at in
+    sym (get_progress slots n) ∙ empty (get_or slots n None) (no _ is.1)
+  where
+    empty : (o : Option Progress) → is_some o ≡ false → option_map sync_of o ≡ None
+    empty None e = refl
+    empty (Some p) e = absurd (false≢true (sym e))
 
 pub slot_inside : (slots : List (Option Progress)) (n : ℕ) → position (λ s. not (is_some s)) slots ≡ Some n
     → n < length slots
@@ -215,6 +228,17 @@ slot_taken old new n h =
     shown : (b : Bool) (o : Option Progress) → option_map sync_of (cond b None o) ≡ cond b None (option_map sync_of o)
     shown true o = refl
     shown false o = refl
+
+-- it had none
+pub slot_untaken : (old new : List (Option Progress)) (n : ℕ)
+    → ((k : ℕ) → get_or new k None ≡ cond (eqb k n) None (get_or old k None)) → get_or old n None ≡ None
+    → in_progress new ≡ in_progress old
+slot_untaken old new n h none =
+    same_nat_map _ _ (λ q. sym (get_progress new q) ∙ ap (option_map sync_of) (h q ∙ same q (eqb q n) refl) ∙ get_progress old q)
+  where
+    same : (q : ℕ) (b : Bool) → eqb q n ≡ b → cond b None (get_or old q None) ≡ get_or old q None
+    same q true e = sym (ap (λ k. get_or old k None) (eqb-true q n e) ∙ none)
+    same q false e = refl
 
 -- the slot n changed, which changes what it shows
 pub slot_changed : (old new : List (Option Progress)) (n : ℕ) (f : Progress → Progress) (g : Sync → Sync)

@@ -1,9 +1,10 @@
 //! The requests in flight.
 
-ghost use Rattle.std.specs.Prelude.{◌≡◌, ℕ, ◌+◌, ◌≤◌, ◌==◌, None, ◌&&◌, false, map as map_list, find, position, option_map, nat_lt};
+ghost use Rattle.std.specs.Prelude.{◌≡◌, ℕ, ◌+◌, ◌≤◌, ◌==◌, None, ◌&&◌, false, map as map_list, count_by, find, position, option_map, nat_lt, if◌then◌else◌};
 ghost use Rattle.std.specs.FinMap as map;
 ghost use Rattle.std.specs.List.{list_any};
 ghost use Rattle.machine.specs.Changes.{cut_request};
+ghost use Rattle.pc_types.specs.Kinds.{is_fill, is_flush};
 ghost use Rattle.maps.specs.Maps.{each_value};
 ghost use Rattle.machine.specs.State.{awaits, fills};
 ghost use Rattle.writeback.specs.Flights.{begun, ended, first_awaited, is_full};
@@ -106,13 +107,16 @@ impl Default for Entry {
 #[derive(Drop)]
 pub struct Requests {
     next: u64,
+    // how many of those in flight are fills
+    fills: u64,
     // in rising order of serial
     in_flight: ArrayVec<Entry, PLACES>,
 }
 
 impl Model for Requests {
-    ghost use Rattle.std.specs.Prelude.{map as map_list};
+    ghost use Rattle.std.specs.Prelude.{◌≡◌, count_by, map as map_list};
     ghost use Rattle.std.specs.FinMap as map;
+    ghost use Rattle.pc_types.specs.Kinds.{is_fill};
     ghost use Rattle.writeback.specs.Flights.{Flights, flights_code};
     ghost use Rattle.writeback.specs.Requests.{entry_of};
     ghost use Rattle.writeback.specs.Rising.{IsRising};
@@ -123,7 +127,7 @@ impl Model for Requests {
 
     ghost view = { λ a. record { next = a.next; requests = map.from_entries (map_list entry_of a.in_flight.items) } };
 
-    ghost invariant = { λ a. IsRising 0 (map_list entry_of a.in_flight.items) a.next };
+    ghost invariant = { λ a. IsRising 0 (map_list entry_of a.in_flight.items) a.next × (a.fills ≡ count_by (λ e. is_fill e.request.kind) a.in_flight.items) };
 }
 
 impl Requests {
@@ -133,6 +137,7 @@ impl Requests {
     {
         Requests {
             next: 0,
+            fills: 0,
             in_flight: ArrayVec::new(),
         }
     }
@@ -147,9 +152,25 @@ impl Requests {
 
     /// How many requests are in flight.
     pub fn len(&self) -> u64
-        ensures { result ≡ map.len self.now.requests }
+        ensures value { result ≡ map.len self.now.requests }
+        ensures few { result ≤ MAX_IN_FLIGHT }
     {
         self.in_flight.len() as u64
+    }
+
+    /// How many of them are fills.
+    pub fn fills(&self) -> u64
+        ensures { result ≡ count_by (λ x. is_fill x.kind) (map.values self.now.requests) }
+    {
+        self.fills
+    }
+
+    /// How many of them are flushes.
+    pub fn flushes(&self) -> u64
+        ensures value { result ≡ count_by (λ x. is_flush x.kind) (map.values self.now.requests) }
+        ensures few { result ≤ MAX_IN_FLIGHT }
+    {
+        self.len() - self.fills
     }
 
     /// Whether no request may begin.
@@ -195,6 +216,7 @@ impl Requests {
             dropped: false,
         };
         self.in_flight.push(Entry { serial, request });
+        self.fills += fills_of(kind);
         self.next += 1;
         serial
     }
@@ -214,6 +236,7 @@ impl Requests {
     {
         let at = position_of(&self.in_flight, serial)?;
         let entry = self.in_flight.remove(at);
+        self.fills -= fills_of(entry.request.kind);
         Some(entry.request)
     }
 
@@ -235,6 +258,16 @@ impl Requests {
     {
         let entry = awaited_in(&self.in_flight, file, progress, bound)?;
         Some((entry.serial, entry.request.page))
+    }
+}
+
+/// How many fills one request of this kind is.
+fn fills_of(kind: Kind) -> u64
+    ensures { result ≡ (if is_fill kind then 1 else 0) }
+{
+    match kind {
+        Kind::Fill => 1,
+        Kind::Flush => 0,
     }
 }
 

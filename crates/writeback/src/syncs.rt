@@ -1,6 +1,6 @@
 //! The syncs in progress.
 
-ghost use Rattle.std.specs.Prelude.{◌≡◌, ℕ, ◌==◌, ◌<◌, ◌+◌, ◌-◌, ◌^◌, ◌↔◌, true, not, IfOk, IsOk, IsOkUnless, OnErr, Some, None, is_some, if◌then◌else◌, slice_index_or, option_map, position};
+ghost use Rattle.std.specs.Prelude.{◌≡◌, ℕ, ◌==◌, ◌<◌, ◌≤◌, ◌+◌, ◌-◌, ◌^◌, ◌↔◌, true, not, IfOk, IsOk, IsOkUnless, OnErr, Some, None, is_some, if◌then◌else◌, slice_index_or, option_map, position};
 ghost use Rattle.std.specs.List.{list_any};
 ghost use Rattle.std.specs.FinMap as map;
 ghost use Rattle.maps.specs.Maps.{change_at};
@@ -62,6 +62,8 @@ impl Progress {
 #[derive(Drop)]
 pub struct Syncs {
     slots: [Option<Progress>; PLACES],
+    // how many slots have one
+    count: u64,
 }
 
 impl Model for Syncs {
@@ -80,7 +82,7 @@ impl Model for Syncs {
 
     ghost view = { λ a. in_progress a.slots };
 
-    ghost invariant = { λ a. length a.slots ≡ MAX_SYNCS };
+    ghost invariant = { λ a. (length a.slots ≡ MAX_SYNCS) × (a.count ≡ map.len (in_progress a.slots)) };
 }
 
 impl Syncs {
@@ -90,7 +92,16 @@ impl Syncs {
     {
         Syncs {
             slots: [None; PLACES],
+            count: 0,
         }
+    }
+
+    /// How many syncs are in progress.
+    pub fn len(&self) -> u64
+        ensures value { result ≡ map.len self.now }
+        ensures few { result ≤ MAX_SYNCS }
+    {
+        self.count
     }
 
     /// The sync with this number.
@@ -135,6 +146,7 @@ impl Syncs {
             bound: None,
         };
         self.slots[at] = Some(progress);
+        self.count += 1;
         Ok(SyncId(at as u64))
     }
 
@@ -143,7 +155,9 @@ impl Syncs {
         ensures progress { option_map sync_of result ≡ map.get self.old sync.0 }
         ensures removed { self.new ≡ map.remove self.old sync.0 }
     {
-        take_in(&mut self.slots, sync)
+        let progress = take_in(&mut self.slots, sync)?;
+        self.count -= 1;
+        Some(progress)
     }
 
     /// Notes that a sync started `page`.

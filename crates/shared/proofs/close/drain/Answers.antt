@@ -1,6 +1,6 @@
 use Rattle.std.proofs.Common.{◌∙◌, ap, rules}
 use Rattle.ring.specs.declared.log.Log.{Log}
-use Rattle.locked.proofs.Seats.{goes_on}
+use Rattle.held.proofs.Seats.{goes_on}
 use Rattle.shared.proofs.Closing.{one_more_over}
 use Rattle.shared.proofs.Owning.{only_job_on}
 use Rattle.shared.proofs.close.drain.Goals as goal

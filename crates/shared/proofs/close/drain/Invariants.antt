@@ -1,6 +1,6 @@
 use Rattle.std.proofs.Common.{◌≡◌}
 use Rattle.crossbeam_queue.specs.Passes.{view}
-use Rattle.locked.specs.Called.{Goes, Only}
+use Rattle.held.specs.Called.{Goes, Only}
 use Rattle.shared.specs.Workers.{AllOver, IsEnd, IsWorkerOf, pushed_by}
 use Rattle.shared.proofs.close.drain.Given as goal
 

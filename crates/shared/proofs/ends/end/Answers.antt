@@ -5,7 +5,7 @@ use Rattle.machine.specs.declared.event.Event.TheVariants as event
 use Rattle.machine.specs.declared.event.Reply.{Reply}
 use Rattle.pc_types.specs.declared.kind.Kind.{Kind}
 use Rattle.pc_types.specs.declared.kind.Kind.TheVariants.{Fill, Flush}
-use Rattle.locked.proofs.Seats.{goes_by}
+use Rattle.held.proofs.Seats.{goes_by}
 use Rattle.shared.specs.Called.{Makes}
 use Rattle.shared.specs.Denials.{IsDenied}
 use Rattle.shared.specs.Workers.{IsEndReply, fails_write}

@@ -1,7 +1,7 @@
 use Rattle.std.proofs.Common.{subst, sym}
 use Rattle.std.specs.Prelude.{if◌then◌else◌}
 use Rattle.machine.specs.declared.event.Event.TheVariants as event
-use Rattle.locked.proofs.Seats.{goes_by, goes_on}
+use Rattle.held.proofs.Seats.{goes_by, goes_on}
 use Rattle.shared.specs.Workers.{LetsGo}
 use Rattle.shared.proofs.Letting.{evicted_gone}
 use Rattle.shared.proofs.Making.{goes_denied}

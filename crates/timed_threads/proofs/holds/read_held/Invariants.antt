@@ -2,8 +2,4 @@ use Rattle.std.proofs.Common.{◌≡◌}
 use Rattle.timed_threads.proofs.holds.read_held.Given as goal
 
 abbrev pub invariant-loop-index : goal.invariant-loop-index
-invariant-loop-index l = record {
-  held : l.held.log.table ≡ l.initial.held.log.table;
-  seat : l.seat.table ≡ l.initial.seat.table;
-  tables : l.seat.table ≡ l.held.log.table;
-}
+invariant-loop-index g l = record { seat : l.seat.table ≡ l.fn.seat.table }

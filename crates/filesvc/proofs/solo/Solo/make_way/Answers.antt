@@ -1,7 +1,7 @@
 use Rattle.std.proofs.Common.{◌≡◌, Some, None, refl, ap, sym, ◌∙◌}
 use Rattle.std.proofs.lemmas.Result.{err_from_is_err_and}
 use Rattle.pc_types.specs.declared.refusal.Refusal.TheVariants.{DirtyLimit, NoFrame}
-use Rattle.filesvc.specs.declared.room.Want.{Want}
+use Rattle.cachecore.specs.declared.answers.Want.{Want}
 use Rattle.filesvc.specs.Rooms.{refusal_of}
 use Rattle.filesvc.specs.Service.{wants}
 use Rattle.filesvc.specs.Seen.{SoloSeen}

@@ -1,4 +1,4 @@
-use Rattle.filesvc.proofs.Enough.{enough_dirty, enough_frames, enough_page}
+use Rattle.orderly.proofs.Enough.{enough_dirty, enough_frames, enough_page}
 use Rattle.std.proofs.Common.{◌≡◌, ◌≤◌, ◌∙◌, refl, length, ap, sym, subst, arith}
 use Rattle.pc_types.specs.declared.limits.TheConstants.{MAX_FILES, MAX_FILE_SIZE, MIN_DIRTY_LIMIT, MIN_FRAMES, MIN_PAGE_SIZE}
 use Rattle.machine.specs.State.{file_at}

@@ -7,7 +7,8 @@ use Rattle.filesvc.specs.Seen.{SoloSeen}
 use Rattle.runs.proofs.moments.Reached.{reached_read}
 use Rattle.filesvc.proofs.Attempts.{attempt_follows, attempt_over, follows_again, follows_refused, read_asks, read_serves, read_unsettled, service_kept}
 use Rattle.filesvc.proofs.CallLengths.{read_all}
-use Rattle.filesvc.proofs.CallSteps.{read_settled, read_small}
+use Rattle.filesvc.proofs.CallSteps.{read_settled}
+use Rattle.orderly.proofs.Calls.{read_small}
 use Rattle.filesvc.proofs.Fills.{is_open_of}
 use Rattle.filesvc.proofs.Gains.{read_gains, read_missed, read_wants}
 use Rattle.filesvc.proofs.Laws.{serves_trans}

@@ -1,93 +1,67 @@
-use Rattle.std.proofs.Common.{◌≡◌, false, refl, ap, sym, subst, ◌∙◌}
+use Rattle.std.proofs.Common.{refl, sym, subst}
+use Rattle.std.proofs.lemmas.Result.{err_from_is_err_and}
+use Rattle.cachecore.specs.Core.{Core}
 use Rattle.machine.specs.declared.event.Event.TheVariants as event
 use Rattle.cachecore.specs.Replies.{sync_dropped}
-use Rattle.machine.specs.State.{State}
-use Rattle.machine.specs.Step.{Step}
-use Rattle.machine.specs.Tests.{tests}
-use Rattle.held.specs.Entered.{has_room_for}
-use Rattle.held.specs.Kept.{IsHeld}
-use Rattle.held.specs.Shown.{HeldSeen}
-use Rattle.held.proofs.Drops.{drop_core_back, drop_goes_on, drop_has_room, drop_is_full, drop_no_room, drop_refused}
-use Rattle.held.proofs.Drops.{drop_room, drop_went}
-use Rattle.held.proofs.Holds.{Went, entry_fits, made, none_needed}
-use Rattle.held.proofs.state.Held.sync_drop.Given.{Over}
+use Rattle.held.proofs.Drops.{drop_back, drop_fits, drop_is_full}
+use Rattle.held.proofs.Ends.{refused_by}
+use Rattle.held.proofs.Holds.{Whole, bare, entry_fits, full_back, none_needed}
+use Rattle.held.proofs.Replies.{bare_drop}
 use Rattle.held.proofs.state.Held.sync_drop.Goals as goal
 
 pub invariant_of-self : goal.invariant_of-self
 invariant_of-self g c =
-    let s = c.self.inside.core.state in
-    let n = drop_no_room _ _ _ c.in-Err.ensures in
-    let step = subst (λ a. Step s (event.SyncDrop c.args.sync) (sync_dropped a) c.sync_drop-answer.new.self.state) n.1
-    c.sync_drop-answer.ensures.step in
-    subst (λ (x : State). IsHeld c.self.inside.log x c.self.inside.reserved c.self.inside.page)
-    (sym (drop_refused s c.args.sync n.0 _ step)) c.self.invariant
-
-pub returns-in-Err-clause-err : goal.returns-in-Err-clause-err
-returns-in-Err-clause-err g c =
-    let s = c.self.inside.core.state in
-    let n = drop_no_room _ _ _ c.in-Err.ensures in
-    let step = subst (λ a. Step s (event.SyncDrop c.args.sync) (sync_dropped a) c.sync_drop-answer.new.self.state) n.1
-    c.sync_drop-answer.ensures.step in
-    let same = drop_core_back c.self.inside.core c.sync_drop-answer.new.self c.args.sync n.0 step
-    c.sync_drop-answer.ensures.lists in (
-      n.2,
-      (
-        (λ i. record { log = c.self.inside.log; core = same i; errors = c.self.inside.recorder })
-            ∙ c.self.view_is,
-        refl,
-      ),
-    )
-
-pub returns-in-Err-clause-full : goal.returns-in-Err-clause-full
-returns-in-Err-clause-full g c =
-    let s = c.self.inside.core.state in
-    let n = drop_no_room _ _ _ c.in-Err.ensures in (
-      λ _. subst (λ (h : HeldSeen). has_room_for h (event.SyncDrop c.args.sync) ≡ false) c.self.view_is
-          (drop_is_full c.self.inside.log s _ c.self.inside.reserved c.self.inside.page c.self.invariant c.args.sync
-          c.sync_drop-answer.result c.sync_drop-answer.ensures.step c.has_room-is_room.result
-          c.has_room-is_room.ensures.fits n.0 n.1 n.3),
-      λ _. refl,
-    )
-
-goes : (g : Over) (c : goal.After-enter-slip g)
-    → Went c.self.inside.log c.enter-slip.new.self c.self.inside.core.state c.sync_drop-answer.new.self.state
-    c.use_sync.new.reserved c.self.inside.page c.args.seat.now c.enter-slip.new.seat c.enter-slip.result
-    (event.SyncDrop c.args.sync) (sync_dropped c.in-Ok.answer)
-goes g c =
-    let s = c.self.inside.core.state in
-    let k = drop_has_room _ _ _ c.in-Ok.ensures in
-    let has = drop_room c.self.inside.log s _ c.self.inside.reserved c.self.inside.page c.self.invariant c.args.sync
-    c.sync_drop-answer.result c.sync_drop-answer.ensures.step c.has_room-is_room.result
-    c.has_room-is_room.ensures.fits k.1 in
-    let step = subst (λ a. Step s (event.SyncDrop c.args.sync) (sync_dropped a) c.sync_drop-answer.new.self.state)
-    (sym k.0) c.sync_drop-answer.ensures.step in
-    drop_went c.self.inside.log c.enter-slip.new.self s c.sync_drop-answer.new.self.state c.self.inside.reserved
-    c.use_sync.new.reserved c.self.inside.page c.args.seat.now c.enter-slip.new.seat c.enter-slip.result
-    c.self.invariant c.enter-slip.ensures.room
-    c.args.sync c.in-Ok.answer c.of_sync_drop-reply.result has step c.of_sync_drop-reply.ensures
-    (c.use_sync.ensures c.args.sync) c.enter-slip.ensures.entered
-
-pub invariant_of-self-2 : goal.invariant_of-self-2
-invariant_of-self-2 g c = (goes g c).held
-
-pub returns-clause-made : goal.returns-clause-made
-returns-clause-made g c = made _ _ _ _ _ _ _ _ c.use_sync.new.reserved c.self.inside.page c.self.view_is (goes g c)
-    c.sync_drop-answer.ensures.lists refl
+    let x = refused_by c.sync_drop-answer.result c.is_err.result c.is_err.ensures.value c.in_err-check_entry.ensures.full.1 in
+    subst (λ (core : Core). Whole _ _ _ _ _ (record { log = c.self.inside.log; core = core; errors = c.self.inside.recorder }))
+    (sym (drop_back c.self.inside.core c.sync_drop-answer.new.self c.args.sync c.sync_drop-answer.result
+    c.sync_drop-answer.ensures.step c.sync_drop-answer.ensures.lists x.0 x.1)) c.self.invariant
 
 pub enter-slip-requires-clause-room : goal.enter-slip-requires-clause-room
 enter-slip-requires-clause-room g c =
-    let s = c.self.inside.core.state in
-    let k = drop_has_room _ _ _ c.in-Ok.ensures in
-    let step = c.sync_drop-answer.ensures.step in
-    let has = drop_room c.self.inside.log s _ c.self.inside.reserved c.self.inside.page c.self.invariant c.args.sync
-    c.sync_drop-answer.result step c.has_room-is_room.result c.has_room-is_room.ensures.fits k.1 in
-    entry_fits c.self.inside.log s c.sync_drop-answer.new.self.state (event.SyncDrop c.args.sync)
-    (sync_dropped c.sync_drop-answer.result) 0 has step (none_needed _)
+    entry_fits c.self.inside.log c.self.inside.core.state c.sync_drop-answer.new.self.state (event.SyncDrop c.args.sync)
+    (sync_dropped c.sync_drop-answer.result) 0
+    (drop_fits c.self.inside.log c.self.inside.core.state c.self.invariant.0 c.args.sync c.sync_drop-answer.result
+    c.sync_drop-answer.new.self.state c.sync_drop-answer.ensures.step c.is_err.result c.has_room-is_room.result
+    c.has_room-is_room.ensures c.is_err.ensures.value c.in_ok-check_entry.ensures.room) c.sync_drop-answer.ensures.step
+    (none_needed _)
 
-pub returns-in-Err-clause-in_progress : goal.returns-in-Err-clause-in_progress
-returns-in-Err-clause-in_progress g c =
-    let s = c.self.inside.core.state in
-    let n = drop_no_room _ _ _ c.in-Err.ensures in
-    λ none. absurd (drop_goes_on c.self.inside.log s _ c.self.inside.reserved c.self.inside.page c.self.invariant
-    c.args.sync c.sync_drop-answer.result c.sync_drop-answer.ensures.step
-    (ap (λ (h : HeldSeen). tests h.core.state (event.SyncDrop c.args.sync)) c.self.view_is ∙ none) n.0 n.1)
+pub invariant_of-self-in_err-slip : goal.invariant_of-self-in_err-slip
+invariant_of-self-in_err-slip g c =
+    (bare _ _ _ _ _
+    (record { log = c.self.inside.log; core = c.self.inside.core; errors = c.self.inside.recorder })
+    (record { log = c.enter-slip.new.self; core = c.sync_drop-answer.new.self; errors = c.self.inside.recorder })
+    c.args.seat.now c.enter-slip.new.seat c.enter-slip.result c.self.invariant
+    (event.SyncDrop c.args.sync) (sync_dropped c.sync_drop-answer.result) c.of_sync_drop.result refl
+    (bare_drop c.sync_drop-answer.result) (drop_fits c.self.inside.log c.self.inside.core.state c.self.invariant.0 c.args.sync c.sync_drop-answer.result
+    c.sync_drop-answer.new.self.state c.sync_drop-answer.ensures.step c.is_err.result c.has_room-is_room.result
+    c.has_room-is_room.ensures c.is_err.ensures.value c.in_ok-check_entry.ensures.room)
+    c.sync_drop-answer.ensures.step c.sync_drop-answer.ensures.lists c.of_sync_drop.ensures c.enter-slip.ensures.entered
+    c.enter-slip.ensures.room refl).1
+
+pub invariant_of-self-2 : goal.invariant_of-self-2
+invariant_of-self-2 g c =
+    (bare _ _ _ _ _
+    (record { log = c.self.inside.log; core = c.self.inside.core; errors = c.self.inside.recorder })
+    (record { log = c.enter-slip.new.self; core = c.sync_drop-answer.new.self; errors = c.self.inside.recorder })
+    c.args.seat.now c.enter-slip.new.seat c.enter-slip.result c.self.invariant
+    (event.SyncDrop c.args.sync) (sync_dropped c.sync_drop-answer.result) c.of_sync_drop.result refl
+    (bare_drop c.sync_drop-answer.result) (drop_fits c.self.inside.log c.self.inside.core.state c.self.invariant.0 c.args.sync c.sync_drop-answer.result
+    c.sync_drop-answer.new.self.state c.sync_drop-answer.ensures.step c.is_err.result c.has_room-is_room.result
+    c.has_room-is_room.ensures c.is_err.ensures.value c.in_ok-check_entry.ensures.room)
+    c.sync_drop-answer.ensures.step c.sync_drop-answer.ensures.lists c.of_sync_drop.ensures c.enter-slip.ensures.entered
+    c.enter-slip.ensures.room refl).1
+
+pub returns-in_err-check_entry-clause-denied : goal.returns-in_err-check_entry-clause-denied
+returns-in_err-check_entry-clause-denied g c =
+    let x = refused_by c.sync_drop-answer.result c.is_err.result c.is_err.ensures.value c.in_err-check_entry.ensures.full.1 in
+    let back = drop_back c.self.inside.core c.sync_drop-answer.new.self c.args.sync c.sync_drop-answer.result
+    c.sync_drop-answer.ensures.step c.sync_drop-answer.ensures.lists x.0 x.1 in
+    let p = err_from_is_err_and c.from_residual.result c.from_residual.ensures.1 in
+    rw (p.1, p.2) (full_back (event.SyncDrop c.args.sync)
+    (record { log = c.self.inside.log; core = c.self.inside.core; errors = c.self.inside.recorder }) _ c.args.self.now
+    c.args.seat.now _ c.self.view_is
+    (λ i. record { log = c.self.inside.log; core = back i; errors = c.self.inside.recorder })
+    c.in_err-check_entry.ensures.full.0
+    (drop_is_full c.self.inside.log c.self.inside.core.state c.sync_drop-answer.new.self.state c.self.invariant.0
+    c.args.sync c.sync_drop-answer.result c.sync_drop-answer.ensures.step c.has_room-is_room.result
+    c.has_room-is_room.ensures x.0 x.1 c.in_err-check_entry.ensures.full.2))

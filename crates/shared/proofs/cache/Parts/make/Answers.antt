@@ -1,6 +1,6 @@
 use Rattle.std.proofs.Common.{ap, rules}
 use Rattle.cachecore.specs.Core.{Core}
-use Rattle.locked.proofs.Failures.{none_told}
+use Rattle.held.proofs.Failures.{none_told}
 use Rattle.shared.proofs.Serving.{idle_first}
 use Rattle.shared.proofs.cache.Parts.make.Goals as goal
 

@@ -1,5 +1,5 @@
 use Rattle.std.proofs.Common.{refl}
-use Rattle.locked.proofs.Seats.{goes_on, goes_same, only_same}
+use Rattle.held.proofs.Seats.{goes_on, goes_same, only_same}
 use Rattle.shared.specs.Changes.{event_of}
 use Rattle.shared.specs.Own.{IsTry}
 use Rattle.shared.proofs.Owning.{once_try_on, only_try_on}

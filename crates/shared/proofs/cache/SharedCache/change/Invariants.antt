@@ -1,4 +1,4 @@
-use Rattle.locked.specs.Called.{Goes, Only}
+use Rattle.held.specs.Called.{Goes, Only}
 use Rattle.shared.specs.Changes.{event_of}
 use Rattle.shared.specs.Own.{IsTry}
 use Rattle.shared.specs.Settled.{FillsMissed, Settles}

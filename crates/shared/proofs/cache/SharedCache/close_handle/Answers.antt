@@ -1,7 +1,7 @@
 use Rattle.std.proofs.Common.{◌≡◌, ap, subst}
 use Rattle.machine.specs.declared.event.Event.TheVariants as event
 use Rattle.pc_types.specs.declared.ids.HandleId.{HandleId}
-use Rattle.locked.specs.Called.{Only}
+use Rattle.held.specs.Called.{Only}
 use Rattle.shared.specs.Seen.{HandleSeen}
 use Rattle.shared.proofs.Owning.{only_event}
 use Rattle.shared.proofs.cache.SharedCache.close_handle.Goals as goal

@@ -1,5 +1,5 @@
 use Rattle.std.proofs.Common.{◌∙◌}
-use Rattle.locked.proofs.Seats.{goes_on}
+use Rattle.held.proofs.Seats.{goes_on}
 use Rattle.shared.proofs.Owning.{eviction_on}
 use Rattle.shared.proofs.cache.SharedCache.evictor.Goals as goal
 

@@ -1,5 +1,5 @@
 use Rattle.std.proofs.Common.{◌≡◌}
-use Rattle.locked.specs.Called.{Goes, Only}
+use Rattle.held.specs.Called.{Goes, Only}
 use Rattle.shared.specs.Own.{IsEviction}
 use Rattle.shared.specs.Workers.{IsWorkerOf, popped_by, pushed_by}
 use Rattle.shared.proofs.cache.SharedCache.evictor.Given as goal

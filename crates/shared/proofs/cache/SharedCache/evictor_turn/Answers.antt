@@ -1,6 +1,6 @@
 use Rattle.std.proofs.Common.{◌∙◌, subst, sym}
 use Rattle.std.specs.Prelude.{if◌then◌else◌}
-use Rattle.locked.proofs.Seats.{goes_on}
+use Rattle.held.proofs.Seats.{goes_on}
 use Rattle.shared.specs.Workers.{LetsGo}
 use Rattle.shared.specs.declared.worker.Worker.{Worker}
 use Rattle.shared.proofs.Letting.{Counts, last_gone, more_gone}

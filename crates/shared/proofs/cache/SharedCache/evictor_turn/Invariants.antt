@@ -1,6 +1,6 @@
 use Rattle.std.proofs.Common.{◌≡◌, ℕ, ◌-◌, ◌^◌}
 use Rattle.std.specs.Prelude.{min}
-use Rattle.locked.specs.Called.{Goes, Only}
+use Rattle.held.specs.Called.{Goes, Only}
 use Rattle.shared.specs.Own.{IsEviction}
 use Rattle.shared.specs.Workers.{IsWorkerOf, LetsGo, popped_by, pushed_by}
 use Rattle.shared.proofs.cache.SharedCache.evictor_turn.Given as goal

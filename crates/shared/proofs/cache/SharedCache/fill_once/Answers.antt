@@ -1,7 +1,7 @@
 use Rattle.std.proofs.Common.{◌≡◌, true}
 use Rattle.std.proofs.lemmas.Result.{IfErr-weaker}
 use Rattle.machine.specs.declared.event.Event.TheVariants as event
-use Rattle.locked.proofs.Seats.{goes_by, goes_on}
+use Rattle.held.proofs.Seats.{goes_by, goes_on}
 use Rattle.shared.specs.Denials.{IsDenied}
 use Rattle.shared.specs.Own.{IsHelp, IsStillDenied}
 use Rattle.shared.specs.Rooms.{IsCrammed, IsFinal, IsFinalOr, IsLost, IsUnwritten, wants_room}

@@ -2,7 +2,7 @@ use Rattle.std.proofs.Common.{◌≡◌, ap, rules, subst, sym}
 use Rattle.std.specs.Prelude.{is_some}
 use Rattle.blockdev.specs.Jobs.{IsJobFor, Task}
 use Rattle.ring.specs.declared.log.Log.{Log}
-use Rattle.locked.specs.Called.{Only}
+use Rattle.held.specs.Called.{Only}
 use Rattle.shared.specs.Workers.{Begins, IsEndOf, OnBegun}
 use Rattle.shared.proofs.Carrying.{ended_carried, pushed_carried, two_made, unended_count}
 use Rattle.shared.proofs.Making.{denied_on}

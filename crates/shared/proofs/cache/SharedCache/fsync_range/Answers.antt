@@ -3,7 +3,7 @@ use Rattle.std.proofs.lemmas.Result.{IfErr-weaker}
 use Rattle.std.specs.Prelude.{None}
 use Rattle.pc_types.specs.declared.ids.HandleId.{HandleId}
 use Rattle.held.specs.declared.log.Slip.{Slip}
-use Rattle.locked.specs.declared.denied.Denied.{Denied}
+use Rattle.held.specs.declared.denied.Denied.{Denied}
 use Rattle.shared.specs.Called.{is_for_now}
 use Rattle.shared.specs.Polls.{Hears}
 use Rattle.shared.specs.Seen.{HandleSeen}

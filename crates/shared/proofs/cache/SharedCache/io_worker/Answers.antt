@@ -1,5 +1,5 @@
 use Rattle.std.proofs.Common.{◌∙◌}
-use Rattle.locked.proofs.Seats.{goes_on}
+use Rattle.held.proofs.Seats.{goes_on}
 use Rattle.shared.proofs.Ending.{turn_ended}
 use Rattle.shared.proofs.Owning.{only_ends_on}
 use Rattle.shared.proofs.cache.SharedCache.io_worker.Goals as goal

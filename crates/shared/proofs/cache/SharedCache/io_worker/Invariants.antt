@@ -1,5 +1,5 @@
 use Rattle.std.proofs.Common.{◌≡◌}
-use Rattle.locked.specs.Called.{Goes, Only}
+use Rattle.held.specs.Called.{Goes, Only}
 use Rattle.shared.specs.Workers.{AllEnded, IsEnd, IsWorkerOf, pushed_by}
 use Rattle.shared.proofs.cache.SharedCache.io_worker.Given as goal
 

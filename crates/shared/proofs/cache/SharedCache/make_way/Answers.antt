@@ -1,4 +1,4 @@
-use Rattle.locked.proofs.Seats.{goes_on}
+use Rattle.held.proofs.Seats.{goes_on}
 use Rattle.shared.proofs.Owning.{only_room_on}
 use Rattle.shared.proofs.Settling.{denied_on, settles_on}
 use Rattle.shared.proofs.cache.SharedCache.make_way.Goals as goal

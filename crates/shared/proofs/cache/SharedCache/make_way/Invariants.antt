@@ -1,4 +1,4 @@
-use Rattle.locked.specs.Called.{Goes, Only}
+use Rattle.held.specs.Called.{Goes, Only}
 use Rattle.shared.specs.Own.{IsRoomEvent}
 use Rattle.shared.specs.Settled.{Settles}
 use Rattle.shared.proofs.cache.SharedCache.make_way.Given as goal

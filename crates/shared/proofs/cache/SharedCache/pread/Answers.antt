@@ -2,8 +2,8 @@ use Rattle.std.proofs.Common.{ℕ, ◌∙◌, List, ap, length, subst, sym}
 use Rattle.std.specs.Prelude.{◌⊎◌}
 use Rattle.machine.specs.declared.event.Event.TheVariants as event
 use Rattle.pc_types.specs.declared.ids.HandleId.{HandleId}
-use Rattle.locked.specs.Called.{Once, Only}
-use Rattle.locked.proofs.Seats.{goes_on}
+use Rattle.held.specs.Called.{Once, Only}
+use Rattle.held.proofs.Seats.{goes_on}
 use Rattle.shared.specs.Own.{IsTry}
 use Rattle.shared.specs.Rooms.{IsShortFor}
 use Rattle.shared.specs.Seen.{HandleSeen}

@@ -1,6 +1,6 @@
 use Rattle.std.proofs.Common.{◌≡◌, length}
 use Rattle.machine.specs.declared.event.Event.TheVariants as event
-use Rattle.locked.specs.Called.{Goes, Only}
+use Rattle.held.specs.Called.{Goes, Only}
 use Rattle.shared.specs.Own.{IsTry}
 use Rattle.shared.specs.Settled.{FillsMissed, Settles}
 use Rattle.shared.proofs.cache.SharedCache.pread.Given as goal

@@ -2,7 +2,7 @@ use Rattle.std.proofs.Common.{◌≡◌, ap, subst}
 use Rattle.std.specs.Prelude.{IfErr}
 use Rattle.machine.specs.declared.event.Event.TheVariants as event
 use Rattle.pc_types.specs.declared.ids.HandleId.{HandleId}
-use Rattle.locked.specs.Called.{Only}
+use Rattle.held.specs.Called.{Only}
 use Rattle.shared.specs.Denials.{IsDenied}
 use Rattle.shared.specs.Seen.{HandleSeen}
 use Rattle.shared.proofs.Owning.{only_event, only_event_denied}

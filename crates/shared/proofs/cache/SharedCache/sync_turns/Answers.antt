@@ -1,5 +1,5 @@
 use Rattle.std.proofs.Common.{◌∙◌}
-use Rattle.locked.proofs.Seats.{goes_on}
+use Rattle.held.proofs.Seats.{goes_on}
 use Rattle.shared.proofs.Owning.{once_turn_on, turn_try_on}
 use Rattle.shared.proofs.Settling.{denied_on, settles_on}
 use Rattle.shared.proofs.Syncing.{turn_on}

@@ -1,5 +1,5 @@
 use Rattle.std.proofs.Common.{◌≡◌, length}
-use Rattle.locked.specs.Called.{Goes, Only}
+use Rattle.held.specs.Called.{Goes, Only}
 use Rattle.shared.specs.Settled.{Settles}
 use Rattle.shared.specs.Synced.{IsTurnTry}
 use Rattle.shared.proofs.cache.SharedCache.sync_turns.Given as goal

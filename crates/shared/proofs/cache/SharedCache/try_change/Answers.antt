@@ -3,7 +3,7 @@ use Rattle.cachecore.specs.declared.answers.WriteAnswer.{WriteAnswer}
 use Rattle.pc_types.specs.declared.ids.HandleId.{HandleId}
 use Rattle.held.specs.Entered.{Made}
 use Rattle.machine.specs.declared.event.Reply.TheVariants as reply
-use Rattle.locked.proofs.Seats.{goes_by, goes_on, goes_same, once_by}
+use Rattle.held.proofs.Seats.{goes_by, goes_on, goes_same, once_by}
 use Rattle.shared.specs.Called.{Makes}
 use Rattle.shared.specs.Changes.{IsWholeIn, event_of, reply_of}
 use Rattle.shared.specs.Denials.{IsDenied}

@@ -7,7 +7,7 @@ use Rattle.held.specs.Entered.{Made}
 use Rattle.held.specs.Shown.{HeldSeen}
 use Rattle.trail.specs.History.{After}
 use Rattle.machine.specs.declared.event.Reply.TheVariants as reply
-use Rattle.locked.proofs.Seats.{goes_by, goes_same, once_by}
+use Rattle.held.proofs.Seats.{goes_by, goes_same, once_by}
 use Rattle.shared.specs.Called.{Makes}
 use Rattle.shared.proofs.Making.{call_first, call_help, makes_by, retries_by}
 use Rattle.shared.specs.Own.{IsUndone}

@@ -1,5 +1,5 @@
 use Rattle.std.proofs.Common.{◌∙◌, refl, sym}
-use Rattle.locked.proofs.Seats.{goes_on, goes_same, only_same}
+use Rattle.held.proofs.Seats.{goes_on, goes_same, only_same}
 use Rattle.shared.specs.Workers.{IsWriteBack}
 use Rattle.shared.proofs.Carrying.{carried_on, carries_last, none_carried, puts_none, puts_on, turn_puts}
 use Rattle.shared.proofs.Owning.{only_write_back_on}

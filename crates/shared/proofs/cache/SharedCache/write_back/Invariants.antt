@@ -1,5 +1,5 @@
 use Rattle.std.proofs.Common.{◌≡◌}
-use Rattle.locked.specs.Called.{Goes, Only}
+use Rattle.held.specs.Called.{Goes, Only}
 use Rattle.shared.specs.Workers.{AllCarried, IsWorkerOf, IsWriteBack, popped_by}
 use Rattle.shared.proofs.Carrying.{Puts}
 use Rattle.shared.proofs.cache.SharedCache.write_back.Given as goal

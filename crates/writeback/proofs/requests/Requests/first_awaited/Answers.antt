@@ -17,7 +17,7 @@ returns-in_err-entry c =
     ap (option_map {U = ℕ × ℕ} (λ e. (e.0.0, e.1.0))) c.from_residual.ensures
     ∙ ap (option_map {U = ℕ × ℕ} (λ (e : Entry). (e.serial.0, e.request.page.0))) (sym none)
     ∙ first_table c.self.inside.next c.args.file.0 c.args.bound.0 (sync_of c.args.progress.now)
-    c.self.inside.in_flight.items c.self.invariant
+    c.self.inside.in_flight.items c.self.invariant.0
     ∙ ap (λ (t : Flights). option_map {U = ℕ × ℕ} (λ (e : ℕ × Request). (e.0, e.1.page))
     (first_awaited c.args.file.0 (sync_of c.args.progress.now) c.args.bound.0 t.requests)) c.self.view_is
 
@@ -30,6 +30,6 @@ returns c =
     c.deref.ensures.0) ∙ c.in_ok-entry.was in
     ap (option_map {U = ℕ × ℕ} (λ (e : Entry). (e.serial.0, e.request.page.0))) (sym some)
     ∙ first_table c.self.inside.next c.args.file.0 c.args.bound.0 (sync_of c.args.progress.now)
-    c.self.inside.in_flight.items c.self.invariant
+    c.self.inside.in_flight.items c.self.invariant.0
     ∙ ap (λ (t : Flights). option_map {U = ℕ × ℕ} (λ (e : ℕ × Request). (e.0, e.1.page))
     (first_awaited c.args.file.0 (sync_of c.args.progress.now) c.args.bound.0 t.requests)) c.self.view_is

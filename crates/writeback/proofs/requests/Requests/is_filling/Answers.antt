@@ -12,5 +12,5 @@ pub returns : goal.returns
 returns c =
     c.fills_in.ensures ∙ ap (list_any (λ (e : Entry). fills c.args.file.0 c.args.page.0 (request_of e.request)))
     c.deref.ensures.0
-    ∙ any_table (fills c.args.file.0 c.args.page.0) c.self.inside.next c.self.inside.in_flight.items c.self.invariant
+    ∙ any_table (fills c.args.file.0 c.args.page.0) c.self.inside.next c.self.inside.in_flight.items c.self.invariant.0
     ∙ ap (λ (t : Flights). list_any (fills c.args.file.0 c.args.page.0) (map.values t.requests)) c.self.view_is

@@ -1,0 +1,56 @@
+//! How a call is refused.
+
+ghost use Rattle.std.specs.Prelude.{◌≡◌, Err, IfErr, IfOk, None, Ok, OnOk, Some, false, true};
+ghost use Rattle.pc_types.specs.declared.refusal.Refusal.TheVariants.{TrailFull};
+
+use crate::log::Slip;
+use pc_types::Refusal;
+
+/// Why a call was not made, and the slip of the entry that refused it. Without a slip no event was made.
+#[derive(Clone, Copy, Debug)]
+pub struct Denied {
+    pub refusal: Refusal,
+    pub slip: Option<Slip>,
+}
+
+/// A refusal that no entry tells of.
+pub fn without_slip(refusal: Refusal) -> Denied
+    ensures { result ≡ record { refusal = refusal; slip = None } }
+{
+    Denied {
+        refusal,
+        slip: None,
+    }
+}
+
+/// A refusal that the slip's entry tells of.
+pub fn by(refusal: Refusal, slip: Slip) -> Denied
+    ensures { result ≡ record { refusal = refusal; slip = Some slip } }
+{
+    Denied {
+        refusal,
+        slip: Some(slip),
+    }
+}
+
+/// An end that is refused wants an entry of its own. Refused by `TrailFull` where there is no room for it (decision 122).
+pub(crate) fn check_entry(is_refused: bool, is_room: bool) -> Result<(), Denied>
+    ensures room { OnOk result (is_refused ≡ true → is_room ≡ true) }
+    ensures full { IfErr result (λ d. (d ≡ record { refusal = TrailFull; slip = None }) × (is_refused ≡ true) × (is_room ≡ false)) }
+{
+    if is_refused && !is_room {
+        return Err(without_slip(Refusal::TrailFull));
+    }
+    Ok(())
+}
+
+/// The answer of an event that was entered at the slip, or its refusal, of which this entry tells.
+pub(crate) fn told<A>(answer: Result<A, Refusal>, slip: Slip) -> Result<(A, Slip), Denied>
+    ensures ok { IfOk result (λ r. (answer ≡ Ok r.0) × (r.1 ≡ slip)) }
+    ensures err { IfErr result (λ d. (answer ≡ Err d.refusal) × (d.slip ≡ Some slip)) }
+{
+    match answer {
+        Ok(answer) => Ok((answer, slip)),
+        Err(refusal) => Err(by(refusal, slip)),
+    }
+}
