@@ -3,7 +3,8 @@
 ghost use Rattle.std.specs.Prelude.{◌≡◌, ◌+◌, ◌≤◌, ◌<◌, ◌^◌, ◌↔◌, true, false, nat_le, Some, None, Err, IfErr, IfSome, OnOk, OnErr, IsOk, IsOkUnless, IsSome, option_map};
 ghost use Rattle.std.specs.FinMap as map;
 ghost use Rattle.pc_types.specs.TagBits.{tag_set};
-ghost use Rattle.mapping.specs.Pages.{IsNumbered, seen, frame_of, has_at, untagged, with_tag, with_tags, with_tags_after, change_at, is_tagged, lowest, count, totals_of, tag_each};
+ghost use Rattle.maps.specs.Maps.{change_at};
+ghost use Rattle.mapping.specs.Pages.{IsNumbered, seen, frame_of, has_at, untagged, with_tag, with_tags, with_tags_after, is_tagged, lowest, count, totals_of, tag_each};
 
 use crate::entry::{found_page, mapped_page, mark_of, marks_from, tags_from};
 use crate::page::{FoundPage, MappedPage};

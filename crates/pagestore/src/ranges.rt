@@ -46,7 +46,7 @@ impl Pages {
         self.make_with(span.file, page, at, part)?;
         let rest = self.write(span, bytes, page + 1);
         if rest.is_err() {
-            self.remove(span.file, page);
+            self.leave(span.file, page);
         }
         rest
     }
