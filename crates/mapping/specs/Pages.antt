@@ -1,6 +1,6 @@
 -- A file's cached pages: a finite map from page numbers to frames and tags. A page's frame holds its bytes. The tags are
 -- those of Linux's page cache (PAGECACHE_TAG_DIRTY, _WRITEBACK, _TOWRITE).
-use Rattle.std.specs.Prelude.{◌≡◌, ℕ, ◌<◌, Bool, true, false, not, unwrap_or, ◌&&◌, ◌||◌, nat_le, if◌then◌else◌, map, find, count_by, Option, option_map, refl}
+use Rattle.std.specs.Prelude.{◌≡◌, ℕ, ◌<◌, Bool, true, false, not, unwrap_or, ◌&&◌, ◌||◌, nat_le, if◌then◌else◌, map, find, count_by, Option, Some, option_map, refl}
 use Rattle.std.specs.Ordering.{nat_cmp}
 use Rattle.std.specs.Coded.{Coded, coded_ℕ, coded_bool, coded×, code_by}
 use Rattle.std.specs.FinMap as map
