@@ -3,6 +3,8 @@
 //! `12.34 ns  load, random`.
 //!
 //! The rows are those of `timed_calls` and `timed_files`, and `report` prints them.
+//!
+//! Floor: outside.
 
 mod report;
 

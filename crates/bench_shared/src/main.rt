@@ -3,6 +3,8 @@
 //! The rows of a device and those of syncs stand over files that are made at PATH and beside it, and are left out without one.
 //!
 //! The rows are those of `timed_threads`, and `report` prints them.
+//!
+//! Floor: outside.
 
 mod report;
 

@@ -11,6 +11,8 @@
 //! `script` one that fails when it is told to, `file` one over a file of the system, `gated` any of them behind a gate,
 //! `buffer` the bytes of one page on their way, `job` a request's call, and `watched` a device with a note whether
 //! anything was written to it since it was last flushed well.
+//!
+//! Floor: ground.
 
 mod blocks;
 pub mod buffer;

@@ -6,6 +6,8 @@
 //! refused, and `state` the state. Its events stand in `files`, `bytes`, `requests` and `syncs`; `first` begins a write of the first file
 //! that has a page to write, `end` says how ends are entered, and `numbers` what holds of the
 //! numbers of syncs.
+//!
+//! Floor: driven.
 
 mod bytes;
 pub mod denied;

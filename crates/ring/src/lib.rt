@@ -6,6 +6,8 @@
 //! it is one of its cache, with what the device call needs, so that no worker tests it (`IsJobFor` of `blockdev`).
 //!
 //! `log` has what a pass knows and what each step tells, `ring` the calls.
+//!
+//! Floor: driven.
 
 mod log;
 pub mod ring;

@@ -4,6 +4,8 @@
 //! `form` has the two forms in which a call is timed, and what a call and a row are. `row` has the rows of the array, `calls` its
 //! calls, `ids` and `words` the rows and calls of their own, `loops` what the clock runs over, `order` the random order, and `rounds` the
 //! rounds of a row.
+//!
+//! Floor: outside.
 
 mod calls;
 pub mod form;

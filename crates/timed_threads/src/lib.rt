@@ -4,6 +4,8 @@
 //! `trails` has the rows of the trail, `holds` those of the locked state, `jobs` those of the ring, `reads` those of cached reads, `blocks`
 //! those of a device over a file, and `syncs` those of syncs. `cached` has what the reads of a shared cache are compared with, `readers`
 //! the threads that read, `numbers` a cheap generator, and `rounds` the rounds of a row.
+//!
+//! Floor: outside.
 
 pub mod blocks;
 mod cached;

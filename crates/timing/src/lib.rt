@@ -1,6 +1,8 @@
 #![tactic(auto)]
 //! What the benches have in common: `best` has the best time of several rounds, `fault` why a bench ends before its last row, and
 //! `line` the line of a row.
+//!
+//! Floor: outside.
 
 mod best;
 mod fault;

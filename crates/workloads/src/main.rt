@@ -7,6 +7,8 @@
 //!
 //! `desk` has the calls of files, `tools` the bytes that are written and read, `numbers` the generator, `places` numbers that come
 //! once each, and `digest` what is printed.
+//!
+//! Floor: outside.
 
 mod array;
 mod desk;

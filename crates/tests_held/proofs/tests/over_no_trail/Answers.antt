@@ -1,0 +1,18 @@
+use Rattle.std.proofs.Common.{ap, refl, sym}
+use Rattle.cachecore.specs.Core.{Core}
+use Rattle.held.proofs.Failures.{none_told}
+use Rattle.tests_held.proofs.tests.over_no_trail.Goals as goal
+
+pub run_named-requires-clause-state : goal.run_named-requires-clause-state
+run_named-requires-clause-state g c = record {
+  named = refl;
+  seats = refl;
+  errors = refl;
+  sized = refl;
+  counted = refl;
+  told = none_told c.in-Ok.opened.core.state c.in-Ok.opened.errors (ap (λ (x : Core). x.state.files) c.in-Ok.ensures.core)
+      c.in-Ok.ensures.board.1;
+}
+
+pub run_named-requires-clause-own : goal.run_named-requires-clause-own
+run_named-requires-clause-own g c = (c.in-Ok.ensures.own.0, sym c.in-Ok.ensures.board.0)

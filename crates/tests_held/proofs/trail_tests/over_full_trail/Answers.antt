@@ -1,0 +1,18 @@
+use Rattle.std.proofs.Common.{ap, refl}
+use Rattle.cachecore.specs.Core.{Core}
+use Rattle.held.proofs.Failures.{none_told}
+use Rattle.tests_held.proofs.trail_tests.over_full_trail.Goals as goal
+
+pub by_two_seats-requires-clause-seats : goal.by_two_seats-requires-clause-seats
+by_two_seats-requires-clause-seats g c = λ k d lt. (c.in-Ok.ensures.seats.1 k d lt).0
+
+pub by_two_seats-requires-clause-state : goal.by_two_seats-requires-clause-state
+by_two_seats-requires-clause-state g c = record {
+  named = refl;
+  seats = refl;
+  errors = refl;
+  sized = refl;
+  counted = refl;
+  told = none_told c.in-Ok.opened.core.state c.in-Ok.opened.errors (ap (λ (x : Core). x.state.files) c.in-Ok.ensures.core)
+      c.in-Ok.ensures.board.1;
+}

@@ -1,0 +1,12 @@
+use Rattle.std.specs.Prelude.{◌+◌, vec_len}
+use Rattle.tests_shared.proofs.rows.over_a_cache.Given as goal
+
+-- the parts that were just made
+abbrev pub ghosts-runs_over : goal.ghosts-runs_over
+ghosts-runs_over g a = record {
+  name = a.parts.name;
+  table = a.parts.held.log.table;
+  board = a.parts.board;
+  sizes = a.parts.geometry;
+  seats = vec_len a.seats + 1;
+}

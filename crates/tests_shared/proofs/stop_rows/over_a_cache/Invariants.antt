@@ -1,0 +1,12 @@
+use Rattle.std.specs.Prelude.{◌+◌, vec_len}
+use Rattle.tests_shared.proofs.stop_rows.over_a_cache.Given as goal
+
+-- the parts that were just made
+abbrev pub ghosts-stops_over : goal.ghosts-stops_over
+ghosts-stops_over g a = record {
+  name = a.parts.name;
+  table = a.parts.held.log.table;
+  board = a.parts.board;
+  sizes = a.parts.geometry;
+  seats = vec_len a.seats + 1;
+}
