@@ -25,11 +25,11 @@ ghost use Rattle.std.specs.Prelude.{◌<◌};
 
 use crate::digest::Digest;
 use crate::tools::Tools;
+use bench_timing::Fault;
 use std::alloc::Global;
 use std::env;
 use std::io::Write;
 use std::process::ExitCode;
-use timing::Fault;
 
 fn main(rt: HostRuntime) -> ExitCode {
     ExitCode::from(run_program(&rt))

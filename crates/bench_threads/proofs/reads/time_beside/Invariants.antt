@@ -1,0 +1,12 @@
+use Rattle.std.specs.Prelude.{◌+◌, vec_len}
+use Rattle.bench_threads.proofs.reads.time_beside.Given as goal
+
+-- the parts that were just made
+abbrev pub ghosts-time_over : goal.ghosts-time_over
+ghosts-time_over g a = record {
+  name = a.parts.name;
+  table = a.parts.held.log.table;
+  board = a.parts.board;
+  sizes = a.parts.geometry;
+  seats = vec_len a.seats + 1;
+}
