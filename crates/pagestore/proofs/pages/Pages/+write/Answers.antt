@@ -1,4 +1,5 @@
-use Rattle.std.proofs.Common.{arith, ap, sym, refl, ◌∙◌, ◌≡◌, ◌+◌, ◌-◌, ◌*◌, ◌<◌, [], length}
+use Rattle.std.proofs.Common.{arith, ap, sym, refl, true, ◌∙◌, ◌≡◌, ◌+◌, ◌-◌, ◌*◌, ◌<◌, [], length}
+use Rattle.std.proofs.lemmas.Bool.{or_left}
 use Rattle.std.specs.Prelude.{is_some, Some, None}
 use Rattle.std.specs.FinMap as map
 use Rattle.pc_types.proofs.FileLaws.{length-cut}
@@ -8,7 +9,7 @@ use Rattle.machine.specs.PageLists.{left}
 use Rattle.machine.specs.State.{Page}
 use Rattle.machine.proofs.changes.WriteLengths.{length-overlay}
 use Rattle.pagestore.specs.Ranges.{with_part}
-use Rattle.pagestore.specs.Store.{Store, blank, stored_at, stored_page, the_page, with_lists, with_pages}
+use Rattle.pagestore.specs.Store.{Store, blank, is_awaited, stored_at, stored_page, the_page, with_lists, with_pages}
 use Rattle.pagestore.proofs.Overlay.{touched_above, touched_below}
 use Rattle.pagestore.proofs.PairLemmas.{on_ok, when_err, when_ok, written_part}
 use Rattle.pagestore.proofs.RangeLemmas.{ne_less, none_of, room_some, on_err_of, mid_cached, mid_here, mid_idle, mid_room}
@@ -131,8 +132,8 @@ write-rest-requires t c =
       ),
     )
 
-pub remove-requires-clause-cached : goal.remove-requires-clause-cached
-remove-requires-clause-cached t c =
+pub leave-requires-clause-there : goal.leave-requires-clause-there
+leave-requires-clause-there t c =
     let P = c.args.span.page_size in
     let f = c.args.span.file in
     let o = c.args.span.offset in
@@ -150,8 +151,9 @@ remove-requires-clause-cached t c =
     let is = c.in_ok-make_with.ensures.ok in
     let same : c.write-rest.new.self ≡ mid = when_err c.write-rest.result _ c.if-is_err.ensures.value
     c.write-rest.ensures.err in
-    ap (λ (s : Store). is_some (stored_page s f p)) same
-    ∙ mid_cached P f o b p end old less c.requires.here gone room page mid is
+    or_left (is_some (stored_page c.write-rest.new.self f p)) (is_awaited c.write-rest.new.self f p)
+    (ap (λ (s : Store). is_some (stored_page s f p)) same
+    ∙ mid_cached P f o b p end old less c.requires.here gone room page mid is)
 
 pub returns-then-is_err-clause-err : goal.returns-then-is_err-clause-err
 returns-then-is_err-clause-err t c =
@@ -172,9 +174,12 @@ returns-then-is_err-clause-err t c =
     let is = c.in_ok-make_with.ensures.ok in
     let same : c.write-rest.new.self ≡ mid = when_err c.write-rest.result _ c.if-is_err.ensures.value
     c.write-rest.ensures.err in
+    let there : is_some (stored_page c.write-rest.new.self f p) ≡ true =
+    ap (λ (s : Store). is_some (stored_page s f p)) same
+    ∙ mid_cached P f o b p end old less c.requires.here gone room page mid is in
     on_err_of c.write-rest.result _
-    (unmade P f o b p end old less c.requires.here gone room page mid is c.make_with.ensures.unlisted c.remove.new.self
-    (c.remove.ensures ∙ ap (λ (s : Store). with_lists
+    (unmade P f o b p end old less c.requires.here gone room page mid is c.make_with.ensures.unlisted c.leave.new.self
+    (c.leave.ensures.page there ∙ ap (λ (s : Store). with_lists
     (with_pages s f (map.remove (stored_at s f).pages p) (s.free + 1)) (left f p s.lists)) same))
 
 pub returns-else-is_err-clause-written : goal.returns-else-is_err-clause-written
