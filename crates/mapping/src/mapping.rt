@@ -177,7 +177,7 @@ impl Mapping {
         Ok(())
     }
 
-    /// Takes the tags `clear` off a page and gives it the tags `set`, and answers it as it was: one walk. Takes no memory.
+    /// Takes the tags `clear` off a page and gives it the tags `set`, and answers it as it was: one walk. Takes no memory (decision 48).
     pub fn change_tags(&mut self, index: PageIndex, clear: Tags, set: Tags) -> Option<MappedPage>
         ensures page { option_map seen result ≡ map.get self.old.pages index.0 }
         ensures tagged { self.new ≡ record self.old { pages = change_at index.0 (with_tags_after (tag_set clear) (tag_set set)) self.old.pages } }
@@ -232,7 +232,7 @@ impl Mapping {
 
     /// Tags each page that has `tag` from `from` to `to` with `other` too, and answers how many pages these are.
     ///
-    /// The array's own `retag` would not tell how many of them are new, and the total of `other` rises by those alone.
+    /// The array's own `retag` would not tell how many of them are new, and the total of `other` rises by those alone (decision 50).
     pub fn retag(&mut self, from: PageIndex, to: PageIndex, tag: Tag, other: Tag) -> u64
         ensures count { result ≡ count (is_tagged tag from.0 to.0) self.old.pages }
         ensures retagged { self.new ≡ record self.old { pages = tag_each (is_tagged tag from.0 to.0) other self.old.pages } }
