@@ -78,7 +78,7 @@ over_refused sizes name h done job of legal cache kind serial is refused x there
     let call : Outcome = outcome_of done.kind done.outcome done.bytes in
     let fit : fits x.kind call ≡ true =
     subst (λ (n : Kind). fits n call ≡ true) (sym k) (fit_outcome done.kind done.outcome done.bytes) in
-    let passes : tests s (event.End x.kind (record { cache = s.name; kind = x.kind; serial = record { 0 = done.serial }; outcome = call })) ≡ None =
+    let passes : tests s (event.End x.kind (record { cache = s.name; kind = x.kind; serial = record { 0 = done.serial }; block = record { 0 = x.block }; outcome = call })) ≡ None =
     own_end_passes s done.serial x call (subst (λ t. map.get s.requests t ≡ Some x) (sym serial) there) fit in
     absurd (let b : false ≡ true = refused (subst (λ (n : Kind). tests s (event.End n (end_of done)) ≡ None) is
     (subst (λ (n : ℕ). tests s (event.End done.kind (record { cache = n; kind = done.kind; serial = record { 0 = done.serial }; outcome = call })) ≡ None)
