@@ -26,6 +26,7 @@ pub(crate) fn end_without(finished: &Finished, alloc: Global) -> Ending
         cache: finished.cache(),
         kind: finished.kind(),
         serial: finished.serial(),
+        block: finished.block(),
         outcome,
     }
 }

@@ -56,7 +56,8 @@ pushed_by w = (view w.pass).pushed
 
 -- the event is the end of this job's request
 abbrev pub IsEndOf : Task → Event → Type 0
-IsEndOf job (event.End kind end) = (kind ≡ job.kind) × (end.serial.0 ≡ job.serial) × (end.cache ≡ job.cache)
+IsEndOf job (event.End kind end) =
+    (kind ≡ job.kind) × (end.serial.0 ≡ job.serial) × (end.cache ≡ job.cache) × (end.block.0 ≡ job.block)
 IsEndOf job e = ⊥
 
 -- the request was a write, and it failed
@@ -177,7 +178,8 @@ AllEnded old new =
 
 -- no request is in flight that the job's end would end
 abbrev pub IsOver : State → Task → Type 0
-IsOver s job = (x : Request) → map.get s.requests job.serial ≡ Some x → x.kind ≢ job.kind
+IsOver s job =
+    (x : Request) → map.get s.requests job.serial ≡ Some x → x.kind ≡ job.kind → x.block ≢ job.block
 
 -- so it is in this state with each job that the worker took from the ring in between
 abbrev pub AllOver : Worker → Worker → State → Type 0

@@ -54,6 +54,7 @@ impl<B: Naming, D: BlockDevice> Disk<B, D> {
         requires { IsJobFor B.name B.sizes.blocks B.sizes.page job }
         ensures made { Makes self.old job result self.new }
         ensures same { (result.serial ≡ job.serial) × (result.kind ≡ job.kind) × (result.cache ≡ job.cache) }
+        ensures block { result.block ≡ job.block }
         ensures size { length result.bytes ≡ B.sizes.page }
     {
         self.device.perform(job)

@@ -173,9 +173,9 @@ pub(crate) fn end<B: Naming, T: Trail>(
     requires size { length finished.bytes ≡ B.sizes.page }
     requires cache { finished.cache ≡ B.name }
     ensures goes { Goes seat.old seat.new }
-    ensures over { (job : Task) → finished.kind ≡ job.kind → finished.serial ≡ job.serial → IsOver state.new.core.state job }
+    ensures over { (job : Task) → finished.kind ≡ job.kind → finished.serial ≡ job.serial → finished.block ≡ job.block → IsOver state.new.core.state job }
     ensures others { (job : Task) → IsOver state.old.core.state job → IsOver state.new.core.state job }
-    ensures only { (job : Task) → finished.kind ≡ job.kind → finished.serial ≡ job.serial → finished.cache ≡ job.cache → Only (λ e. IsEndOf job e.event) seat.old seat.new }
+    ensures only { (job : Task) → finished.kind ≡ job.kind → finished.serial ≡ job.serial → finished.cache ≡ job.cache → finished.block ≡ job.block → Only (λ e. IsEndOf job e.event) seat.old seat.new }
     ensures made { IfOk result (λ r. (reply : Reply) × Makes seat.old seat.new r.0 (event.End finished.kind (end_of finished)) reply × IsEndReply reply × (is_some r.1 ≡ fails_write finished.kind reply)) }
     ensures one { IfOk result (λ r. MadeOne (Some r.0) seat.old seat.new) }
     ensures own { IfOk result (λ r. IfSome r.1 (λ receipt. receipt.board ≡ B.board)) }

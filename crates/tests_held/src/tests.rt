@@ -15,7 +15,7 @@ use held::log::{Seat, Slip};
 use held::naming::Naming;
 use held::state::{Held, Opened};
 use pc_types::limits::LAST_PAGE;
-use pc_types::{ErrCode, FileId, Geometry, HandleId, PageIndex, Refusal, SyncId};
+use pc_types::{BlockNo, ErrCode, FileId, Geometry, HandleId, PageIndex, Refusal, SyncId};
 use std::alloc::Global;
 use std::marker::Brand;
 use std::mem::drop;
@@ -202,6 +202,36 @@ fn fails_a_flush<B: Naming>(
     check(rt, board.poll(&mut pass).is_none());
 }
 
+// What came of another block's device call ends no request, and the request stays in flight.
+fn keeps_to_its_block<B: Naming>(
+    rt: &impl Abort,
+    alloc: Global,
+    held: &mut Held<B, NoTrail>,
+    seat: &mut Seat,
+    device: &mut ScriptDevice,
+)
+    requires { seat.old.table ≡ B.table }
+{
+    opens(rt, held, seat);
+    writes(rt, held, seat);
+    let page = buffer(rt, alloc, held);
+    let begun = held.flush_begin(seat, FILE, page);
+    let Ok((FlushBegun::Job(job), _)) = begun else {
+        panic!(rt; "a job");
+    };
+    check(rt, job.block() == BlockNo(0));
+    let page = buffer(rt, alloc, held);
+    let other = Job::new(job.cache(), job.serial(), job.kind(), BlockNo(1), page);
+    let foreign = made(rt, device, held.core(), other);
+    let Err(denied) = held.flush_end(seat, foreign) else {
+        panic!(rt; "a stranger");
+    };
+    check(rt, denied.refusal == Refusal::Stranger);
+    let finished = made(rt, device, held.core(), job);
+    let (written, _) = ends_flush(rt, held, seat, finished);
+    check(rt, matches!(written, Ended::Done(_)));
+}
+
 fn begins_sync<B: Naming>(rt: &impl Abort, held: &mut Held<B, NoTrail>, seat: &mut Seat) -> SyncId
     requires { seat.old.table ≡ B.table }
     ensures { seat.new.table ≡ seat.old.table }
@@ -288,6 +318,7 @@ enum Row {
     Cuts,
     WritesAndFills,
     FailsAFlush,
+    KeepsToItsBlock,
     Syncs,
 }
 
@@ -307,6 +338,7 @@ fn run<B: Naming>(
         Row::Cuts => cuts(rt, held, seat),
         Row::WritesAndFills => writes_and_fills(rt, alloc, held, seat, &mut device),
         Row::FailsAFlush => fails_a_flush(rt, alloc, held, board, seat, &mut device),
+        Row::KeepsToItsBlock => keeps_to_its_block(rt, alloc, held, seat, &mut device),
         Row::Syncs => syncs(rt, alloc, held, seat, &mut device),
     }
 }
@@ -354,6 +386,11 @@ fn an_evicted_page_is_read_back(rt: HostRuntime) {
 #[test]
 fn a_failed_flush_is_told_once(rt: HostRuntime) {
     over_no_trail(&rt, rt.alloc(), Row::FailsAFlush);
+}
+
+#[test]
+fn an_end_of_another_block_is_refused(rt: HostRuntime) {
+    over_no_trail(&rt, rt.alloc(), Row::KeepsToItsBlock);
 }
 
 #[test]

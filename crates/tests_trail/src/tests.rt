@@ -2,7 +2,7 @@
 
 use crate::checks::{check, same};
 use machine::{End, Event, Outcome, Reply};
-use pc_types::{Bytes, FileId, HandleId, Kind, PageIndex, Refusal, Serial};
+use pc_types::{BlockNo, Bytes, FileId, HandleId, Kind, PageIndex, Refusal, Serial};
 use std::alloc::Global;
 use std::process::Abort;
 use std::test::Fail;
@@ -80,6 +80,7 @@ fn written(alloc: Global, trail: &mut FullTrail, change: Change) {
             cache: 9,
             kind: Kind::Fill,
             serial: Serial(3),
+            block: BlockNo(0),
             outcome: Outcome::Read(none(alloc)),
         };
         put(

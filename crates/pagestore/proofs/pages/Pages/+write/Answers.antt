@@ -212,3 +212,37 @@ returns-else-is_err-clause-written t c =
     (length-cut [] P) above below c.requires.some c.requires.positive in
     on_ok c.write-rest.result _ (λ _. written_more P f o b p end old less c.requires.here gone room page mid is page_is
     c.write-rest.new.self (when_ok c.write-rest.result _ c.if-is_err.ensures.value c.write-rest.ensures.written))
+
+-- ---- a write that is refused
+
+pub returns-in_err-write-clause-absent : goal.returns-in_err-write-clause-absent
+returns-in_err-write-clause-absent t c =
+    let h = c.in_err-write.ensures.absent in
+    on_err_of _ _ (record { page = h.page; from = omega (arith, h.from); before = h.before; absent = h.absent })
+
+pub returns-in_err-make_with-clause-absent : goal.returns-in_err-make_with-clause-absent
+returns-in_err-make_with-clause-absent t c =
+    on_err_of _ _ (record {
+      page = c.args.page;
+      from = omega arith;
+      before = ne_less c.args.page c.args.span.end c.requires.order c.if-page-span.false;
+      absent = sym c.if-is_cached.ensures;
+    })
+
+pub returns-then-is_err-clause-absent : goal.returns-then-is_err-clause-absent
+returns-then-is_err-clause-absent t c =
+    on_err_of c.write-rest.result _ (record {
+      page = c.args.page;
+      from = omega arith;
+      before = ne_less c.args.page c.args.span.end c.requires.order c.if-page-span.false;
+      absent = sym c.if-is_cached.ensures;
+    })
+
+pub returns-else-is_err-clause-absent : goal.returns-else-is_err-clause-absent
+returns-else-is_err-clause-absent t c =
+    on_err_of c.write-rest.result _ (record {
+      page = c.args.page;
+      from = omega arith;
+      before = ne_less c.args.page c.args.span.end c.requires.order c.if-page-span.false;
+      absent = sym c.if-is_cached.ensures;
+    })
