@@ -2,6 +2,7 @@
 
 ghost use Rattle.std.specs.Prelude.{◌≡◌, IfErr, OnOk};
 ghost use Rattle.held.specs.Called.{Goes, Only};
+ghost use Rattle.shared.specs.Settled.{EndsOwn};
 ghost use Rattle.shared.specs.Workers.{AllEnded, CarriesAll, IsEnd, IsRefusedEnd, IsWorkerOf, IsWriteBack, is_unended, popped_by, pushed_by, seat_of};
 
 use crate::cache::SharedCache;
@@ -28,6 +29,7 @@ impl<B: Naming, D: BlockDevice, T: Trail> SharedCache<B, D, T> {
         ensures worker { IsWorkerOf self.now.ring B.name B.table B.sizes worker.new }
         ensures goes { Goes (seat_of worker.old) (seat_of worker.new) }
         ensures only { Only (λ e. IsWriteBack e.event) (seat_of worker.old) (seat_of worker.new) }
+        ensures own { EndsOwn B.name (seat_of worker.old) (seat_of worker.new) }
         ensures popped { popped_by worker.new ≡ popped_by worker.old }
         ensures carried { CarriesAll B.sizes B.name worker.old worker.new }
     {
@@ -44,6 +46,7 @@ impl<B: Naming, D: BlockDevice, T: Trail> SharedCache<B, D, T> {
         ensures worker { IsWorkerOf self.now.ring B.name B.table B.sizes worker.new }
         ensures goes { Goes (seat_of worker.old) (seat_of worker.new) }
         ensures only { Only (λ e. IsWriteBack e.event) (seat_of worker.old) (seat_of worker.new) }
+        ensures own { EndsOwn B.name (seat_of worker.old) (seat_of worker.new) }
         ensures popped { popped_by worker.new ≡ popped_by worker.old }
         ensures carried { CarriesAll B.sizes B.name worker.old worker.new }
     {
