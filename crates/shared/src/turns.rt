@@ -2,7 +2,10 @@
 
 ghost use Rattle.std.specs.Prelude.{◌≡◌, ◌+◌, ◌++◌, ◌∷◌, [], IfErr, IfNone, IfOk, IfSome, Some, false, is_some};
 ghost use Rattle.blockdev.specs.Jobs.{IsJobFor, Task};
+ghost use Rattle.crossbeam_queue.specs.Fifo as fifo;
+ghost use Rattle.crossbeam_queue.specs.Passes.{view};
 ghost use Rattle.held.specs.Called.{Goes, Only};
+ghost use Rattle.ring.specs.Order.{Stands};
 ghost use Rattle.shared.specs.Denials.{IsDenied, IsFullIfNoSlip, MadeOne};
 ghost use Rattle.shared.specs.Settled.{EndsOwn, IsBegun, IsEnded};
 ghost use Rattle.shared.specs.Workers.{AllCarried, Begins, Ends, FailsOwn, IsEnd, IsEndOf, IsFlushBegin, IsFlushed, IsOwnFailure, IsWorkerOf, IsWriteBack, OnBegun, entered_in, is_unended, popped_by, pushed_by, seat_of};
@@ -32,8 +35,8 @@ pub enum Flushed {
 }
 
 impl<B: Naming, D: BlockDevice, T: Trail> SharedCache<B, D, T> {
-    /// One turn of an I/O worker: it takes a job from the ring, makes its device call, and ends its request. Answers nothing where it
-    /// got no job. The gate is entered with the job's serial, before the device call.
+    /// One turn of an I/O worker: it takes a job from the ring, makes its device call, and ends its request. Answers nothing only where
+    /// the ring was empty at one moment of the turn. The gate is entered with the job's serial, before the device call.
     #[tactic(auto, using(held::proofs::Seats::goes_same, held::proofs::Seats::only_same, crate::proofs::Owning::only_job))]
     pub fn io_turn<R: Wait, G: Gate>(
         &self,
@@ -47,6 +50,7 @@ impl<B: Naming, D: BlockDevice, T: Trail> SharedCache<B, D, T> {
         ensures only { Only (λ e. IsEnd e.event) (seat_of worker.old) (seat_of worker.new) }
         ensures pushed { pushed_by worker.new ≡ pushed_by worker.old }
         ensures idle { IfOk result (λ o. IfNone o ((seat_of worker.new ≡ seat_of worker.old) × (popped_by worker.new ≡ popped_by worker.old))) }
+        ensures emptied { IfOk result (λ o. IfNone o (fifo.Held 0 (Stands (view worker.new.pass)))) }
         ensures ended { IfOk result (λ o. IfSome o (λ d. (job : Task) × (popped_by worker.new ≡ popped_by worker.old ++ job ∷ []) × (d.serial.0 ≡ job.serial) × Ends job (seat_of worker.old) (seat_of worker.new) d.slip (is_some d.failed) × IfSome d.failed (IsOwnFailure self.now.name B.board))) }
         ensures one { IfOk result (λ o. IfSome o (λ d. MadeOne (Some d.slip) (seat_of worker.old) (seat_of worker.new))) }
         ensures denied { IfErr result (λ d. (job : Task) × (popped_by worker.new ≡ popped_by worker.old ++ job ∷ []) × IsDenied (IsEndOf job) (seat_of worker.old) (seat_of worker.new) d × IsFullIfNoSlip (seat_of worker.old) (seat_of worker.new) d) }
