@@ -1,11 +1,14 @@
 -- What the ends of jobs and the turns of workers say of a seat.
 use Rattle.std.proofs.Common.{◌≡◌, ℕ, zero, suc, [], ◌∷◌, ◌++◌, ap, arith, refl, sym, subst, ◌∙◌}
-use Rattle.std.specs.Prelude.{All, Bool, false, IfErr, IfNone, IfOk, IfSome, Ok, Option, Result, Some, None, is_some, length}
+use Rattle.std.specs.Prelude.{All, Bool, false, true, IfErr, IfNone, IfOk, IfSome, Ok, Option, Result, Some, None, is_none, is_some, length}
 use Rattle.std.proofs.lemmas.List.{append_assoc, append-nil}
 use Rattle.std.proofs.lemmas.List.Elements.{All-append, All-nil, All-weaker}
 use Rattle.std.proofs.lemmas.Result.{IfErr-weaker}
 use Rattle.atomic_table.specs.Seated.{TableId}
 use Rattle.blockdev.specs.Jobs.{FinishedTask, Task}
+use Rattle.crossbeam_queue.specs.Fifo.{Held}
+use Rattle.crossbeam_queue.specs.Passes.{view}
+use Rattle.ring.specs.Order.{Stands}
 use Rattle.cachecore.specs.Replies.{EndGivesBack, IsFlushJob, end_of, fill_ended, flush_ended}
 use Rattle.cachecore.specs.declared.answers.Ended.{Ended}
 use Rattle.cachecore.specs.declared.answers.Ended.TheVariants as ended
@@ -220,3 +223,9 @@ pub turn_ended : (a b c : Worker) (turn : Option Done) (name : ℕ) (board : Tab
 turn_ended a b c None name board p before goes idle end = still_ended a b c p idle.1 goes
 turn_ended a b c (Some d) name board p before goes idle end =
     one_more_ended a b c end.0 d.slip (is_some d.failed) p end.1 before goes end.3
+
+-- a turn that took no job found the ring empty
+pub was_idle : (turn : Option Done) (w : Worker) → is_none turn ≡ true → IfNone turn (Held 0 (Stands (view w.pass)))
+    → Held 0 (Stands (view w.pass))
+was_idle None w e p = p
+was_idle (Some d) w e p = absurd (let x : false ≡ true = e in cc)

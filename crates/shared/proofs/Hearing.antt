@@ -4,7 +4,8 @@ use Rattle.std.specs.Prelude.{IfOk, None, Option, Result}
 use Rattle.std.proofs.lemmas.List.{length_push, take_all}
 use Rattle.std.proofs.lemmas.Result.{IfOk-weaker}
 use mathlib.Core.List.{IsPrefix}
-use Rattle.errboard.specs.Shown.{PassSeen}
+use Rattle.errboard.specs.Shown.{PassSeen, RecorderSeen}
+use Rattle.errboard.specs.Views.{recorded_of}
 use Rattle.errseq.specs.declared.recording.Recording.{Recording}
 use Rattle.errseq.proofs.Prefixes.{prefix_length, prefix_self, prefix_trans}
 use Rattle.machine.specs.State.{file_at}
@@ -78,6 +79,18 @@ reports_from failed slip old at new d level r = record {
 
 pub level_same : (old new : PassSeen) → new ≡ old → IsLevelled old new
 level_same old new e = subst (IsLevelled old) (sym e) (refl, prefix_self old.known)
+
+-- a pass that knows all that was recorded is levelled already
+pub level_new : (old new : RecorderSeen) (file : ℕ) (p q : PassSeen) → new ≡ old → p.file ≡ file
+    → p.known ≡ recorded_of old.all file → q ≡ record p { known = q.known } → q.known ≡ recorded_of new.all p.file → q ≡ p
+level_new old new file p q same of knew is knows =
+    let known : q.known ≡ p.known =
+    knows ∙ ap (recorded_of new.all) of ∙ ap (λ (r : RecorderSeen). recorded_of r.all file) same ∙ sym knew in
+    is ∙ ap (λ (l : List Recording). record p { known = l }) known
+
+pub hears_named : (sizes : Sizes) (name called : ℕ) (slip : Slip) (seat : SeatSeen) (p : PassSeen) → called ≡ name
+    → Hears sizes name slip seat p → Hears sizes called slip seat p
+hears_named sizes name called slip seat p is h = subst (λ n. Hears sizes n slip seat p) (sym is) h
 
 -- what an fsync tells knows what its sync heard
 pub hears_told : (result : Result Slip Denied) (sizes : Sizes) (name : ℕ) (at : Slip) (seat : SeatSeen) (mid new : PassSeen)

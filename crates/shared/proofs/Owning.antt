@@ -33,7 +33,7 @@ use Rattle.shared.specs.declared.writes.Change.{Change}
 use Rattle.shared.specs.declared.writes.Change.TheVariants.{Append, Truncate, Write}
 use Rattle.shared.specs.Own.{IsEviction, IsHelp, IsRoomEvent, IsTry, IsUndone}
 use Rattle.shared.specs.Synced.{EndsOnce, IsFlushEnd, IsSyncOver, IsSyncTry, IsTurnTry, IsUnended, IsVerdict, OneSync}
-use Rattle.shared.specs.Workers.{IsEnd, IsEndOf, IsWriteBack}
+use Rattle.shared.specs.Workers.{IsEnd, IsEndOf, IsFlushBegin, IsWriteBack}
 use Rattle.shared.proofs.Making.{room_helps}
 
 -- ---- events as a history keeps them
@@ -419,11 +419,19 @@ ends_write_back : (e : Event) → IsEnd e → IsWriteBack e
 ends_write_back (event.End kind end) x = tt
 ends_write_back e x = absurd x
 
+begins_write_back : (e : Event) → IsFlushBegin e → IsWriteBack e
+begins_write_back (event.FlushBegin file) x = tt
+begins_write_back e x = absurd x
+
+pub only_begins : (a b : SeatSeen) → Only (λ x. IsFlushBegin x.event) a b → Only (λ x. IsWriteBack x.event) a b
+only_begins a b p =
+    only_wider (λ x. IsFlushBegin x.event) (λ x. IsWriteBack x.event) a b (λ e. begins_write_back e.event) p
+
 -- a write was begun and ended
-pub only_flushed : (job : Task) (a b c : SeatSeen) → Only (λ x. IsWriteBack x.event) a b → Only (λ x. IsEndOf job x.event) b c
+pub only_flushed : (job : Task) (a b c : SeatSeen) → Only (λ x. IsFlushBegin x.event) a b → Only (λ x. IsEndOf job x.event) b c
     → Only (λ x. IsWriteBack x.event) a c
 only_flushed job a b c p q =
-    only_on (λ x. IsWriteBack x.event) a b c p
+    only_on (λ x. IsWriteBack x.event) a b c (only_begins a b p)
     (only_wider (λ x. IsEnd x.event) (λ x. IsWriteBack x.event) b c (λ e. ends_write_back e.event) (only_job job b c q))
 
 pub only_write_back_on : (a b c : SeatSeen) → Only (λ x. IsWriteBack x.event) a b → Only (λ x. IsWriteBack x.event) b c
@@ -431,12 +439,12 @@ pub only_write_back_on : (a b c : SeatSeen) → Only (λ x. IsWriteBack x.event)
 only_write_back_on a b c p q = only_on (λ x. IsWriteBack x.event) a b c p q
 
 pub only_begun : (job : Task) (slip : Slip) (old new : HeldSeen) (before after : SeatSeen)
-    → Writes job slip old new before after → Only (λ x. IsWriteBack x.event) before after
+    → Writes job slip old new before after → Only (λ x. IsFlushBegin x.event) before after
 only_begun job slip old new before after w =
-    only_by (λ x. IsWriteBack x.event) (event.FlushBegin w.file) (reply.Job (record { 0 = job.serial })) old new before after
+    only_by (λ x. IsFlushBegin x.event) (event.FlushBegin w.file) (reply.Job (record { 0 = job.serial })) old new before after
     slip tt w.made
 
 pub only_begun_denied : (old new : HeldSeen) (before after : SeatSeen) (d : Denied)
-    → IsFirstDenied old new before after d → Only (λ x. IsWriteBack x.event) before after
+    → IsFirstDenied old new before after d → Only (λ x. IsFlushBegin x.event) before after
 only_begun_denied old new before after d q =
-    only_denied (λ x. IsWriteBack x.event) (event.FlushBegin q.file) old new before after d (λ why. tt) q.denied
+    only_denied (λ x. IsFlushBegin x.event) (event.FlushBegin q.file) old new before after d (λ why. tt) q.denied

@@ -48,7 +48,8 @@ use Rattle.shared.specs.Changes.{event_of}
 use Rattle.shared.specs.declared.writes.Change.{Change}
 use Rattle.shared.specs.declared.writes.Change.TheVariants.{Append, Truncate, Write}
 use Rattle.shared.specs.Own.{IsEviction, IsRoomEvent}
-use Rattle.shared.specs.Settled.{IsBegun, IsEnded, EndsIn, EndsOne, Fills, FillsMissed, FillsNoOther, LeavesOne, LeavesOneOfSync, Pairs, Settles, SettlesIn, SettlesSync}
+use Rattle.shared.specs.Settled.{BeganFor, IsBegun, IsEnded, EndsIn, EndsOne, EndsOwn, Fills, FillsMissed, FillsNoOther, IsThisEnd, LeavesOne, LeavesOneOfSync, Pairs, Settles, SettlesIn, SettlesSync}
+use Rattle.shared.specs.Workers.{IsEnd, IsFlushBegin}
 
 -- ---- some element of two lists
 
@@ -212,36 +213,94 @@ eviction_begins x event.Evict r is b = b
 eviction_begins x event.Age r is b = b
 eviction_begins x e r is b = absurd is
 
+-- ---- ends
+
+noted_end : (e : Event) (r : Reply) → IsEnd (noted e r) → IsEnd e
+noted_end (event.End kind end) r is = tt
+noted_end e r is = is
+
+begun_no_end : (x : Kind × ℕ) (e : Event) (r : Reply) → IsBegun x e r → IsEnd e → ⊥
+begun_no_end x (event.End kind end) r begins is = begins
+begun_no_end x e r begins is = absurd is
+
+eviction_no_end : (e : Event) → IsEviction e → IsEnd e → ⊥
+eviction_no_end (event.End kind end) evicts is = evicts
+eviction_no_end e evicts is = absurd is
+
+flush_no_end : (e : Event) → IsFlushBegin e → IsEnd e → ⊥
+flush_no_end (event.End kind end) begins is = begins
+flush_no_end e begins is = absurd is
+
+pub own_same : (name : ℕ) (a b : SeatSeen) → b ≡ a → EndsOwn name a b
+own_same name a b e = pairs_same IsThisEnd (BeganFor name) a b e
+
+pub own_on : (name : ℕ) (a b c : SeatSeen) → EndsOwn name a b → EndsOwn name b c → EndsOwn name a c
+own_on name a b c p q = pairs_on IsThisEnd (BeganFor name) a b c p q
+
+own_none : (name : ℕ) (own : Entry → Type 0) (a b : SeatSeen) → ((e : Entry) → own e → IsEnd e.event → ⊥) → Only own a b
+    → EndsOwn name a b
+own_none name own a b never p =
+    pairs_none IsThisEnd (BeganFor name) own a b (λ end e is same. never e is (subst IsEnd (sym same.0) same.1)) p
+
+pub own_begins : (name : ℕ) (a b : SeatSeen) → Only (λ e. IsFlushBegin e.event) a b → EndsOwn name a b
+own_begins name a b p = own_none name (λ e. IsFlushBegin e.event) a b (λ e. flush_no_end e.event) p
+
+-- a request was begun, and then come ends of it alone
+pub own_ended : (name : ℕ) (x : Kind × ℕ) (a b c : SeatSeen) → Only (λ l. IsBegun x l.event l.reply) a b
+    → b.count ≡ a.count + 1 → Only (λ l. IsEnded name x l.event) b c → EndsOwn name a c
+own_ended name x a b c p one q =
+    pairs_asked IsThisEnd (BeganFor name) (λ l. IsBegun x l.event l.reply) (λ l. IsEnded name x l.event) a b c
+    (λ end e l begins ends same. (x, subst (IsEnded name x) same.0 ends, begins))
+    (λ end e begins same. begun_no_end x e.event e.reply begins (subst IsEnd (sym same.0) same.1)) p one q
+
+-- ---- both
+
 pub settles_same : (name : ℕ) (a b : SeatSeen) → b ≡ a → Settles name a b
-settles_same name a b e = pairs_same (λ x e. IsBegun x e.event e.reply) (λ x e. IsEnded name x e.event) a b e
+settles_same name a b e = record {
+  ended = pairs_same (λ x e. IsBegun x e.event e.reply) (λ x e. IsEnded name x e.event) a b e;
+  own = own_same name a b e;
+}
 
 pub settles_on : (name : ℕ) (a b c : SeatSeen) → Settles name a b → Settles name b c → Settles name a c
-settles_on name a b c p q = pairs_on (λ x e. IsBegun x e.event e.reply) (λ x e. IsEnded name x e.event) a b c p q
+settles_on name a b c p q = record {
+  ended = pairs_on (λ x e. IsBegun x e.event e.reply) (λ x e. IsEnded name x e.event) a b c p.ended q.ended;
+  own = own_on name a b c p.own q.own;
+}
 
--- one event that begins nothing
+-- entries that begin nothing and end nothing
+settles_none : (name : ℕ) (own : Entry → Type 0) (a b : SeatSeen)
+    → ((x : Kind × ℕ) (e : Entry) → own e → IsBegun x e.event e.reply → ⊥) → ((e : Entry) → own e → IsEnd e.event → ⊥)
+    → Only own a b → Settles name a b
+settles_none name own a b begins ends p = record {
+  ended = pairs_none (λ x e. IsBegun x e.event e.reply) (λ x e. IsEnded name x e.event) own a b begins p;
+  own = own_none name own a b ends p;
+}
+
+-- one event that begins nothing and ends nothing
 pub settles_by : (name : ℕ) (e : Event) (r : Reply) (old new : HeldSeen) (a b : SeatSeen) (slip : Slip)
-    → ((x : Kind × ℕ) → IsBegun x (noted e r) r → ⊥) → Made e r old new a b slip → Settles name a b
-settles_by name e r old new a b slip never m =
-    pairs_none (λ x e. IsBegun x e.event e.reply) (λ x e. IsEnded name x e.event) (λ l. l ≡ entry_of a.number e r) a b
-    (λ x l is b. never x (subst (λ (y : Entry). IsBegun x y.event y.reply) is b))
+    → ((x : Kind × ℕ) → IsBegun x (noted e r) r → ⊥) → (IsEnd e → ⊥) → Made e r old new a b slip → Settles name a b
+settles_by name e r old new a b slip begins ends m =
+    settles_none name (λ l. l ≡ entry_of a.number e r) a b
+    (λ x l is b. begins x (subst (λ (y : Entry). IsBegun x y.event y.reply) is b))
+    (λ l is b. ends (noted_end e r (subst (λ (y : Entry). IsEnd y.event) is b)))
     (only_by (λ l. l ≡ entry_of a.number e r) e r old new a b slip refl m)
 
-pub settles_denied : (name : ℕ) (e : Event) (old new : HeldSeen) (a b : SeatSeen) (d : Denied)
+pub settles_denied : (name : ℕ) (e : Event) (old new : HeldSeen) (a b : SeatSeen) (d : Denied) → (IsEnd e → ⊥)
     → under.IsDenied e old new a b d → Settles name a b
-settles_denied name e old new a b d q = go d.refusal d.slip q
+settles_denied name e old new a b d ends q = go d.refusal d.slip q
   where
     go : (r : Refusal) (o : Option Slip) → under.DeniedBy e old new a b r o → Settles name a b
     go r None q = settles_same name a b q.2.1
-    go r (Some slip) q = settles_by name e (reply.Refused r) old new a b slip (λ x b. refused_begins x e r b) q
+    go r (Some slip) q = settles_by name e (reply.Refused r) old new a b slip (λ x b. refused_begins x e r b) ends q
 
 pub settles_first_denied : (name : ℕ) (old new : HeldSeen) (a b : SeatSeen) (d : Denied) → IsFirstDenied old new a b d
     → Settles name a b
-settles_first_denied name old new a b d q = settles_denied name (event.FlushBegin q.file) old new a b d q.denied
+settles_first_denied name old new a b d q =
+    settles_denied name (event.FlushBegin q.file) old new a b d (λ is. is) q.denied
 
 pub settles_evicted : (name : ℕ) (a b : SeatSeen) → Only (λ e. IsEviction e.event) a b → Settles name a b
 settles_evicted name a b p =
-    pairs_none (λ x e. IsBegun x e.event e.reply) (λ x e. IsEnded name x e.event) (λ e. IsEviction e.event) a b
-    (λ x e is b. eviction_begins x e.event e.reply is b) p
+    settles_none name (λ e. IsEviction e.event) a b (λ x e. eviction_begins x e.event e.reply) (λ e. eviction_no_end e.event) p
 
 -- a call after what is settled
 left_on : (name : ℕ) (a b c : SeatSeen) (d : Denied) → Settles name a b → LeavesOne name b c d → LeavesOne name a c d
@@ -290,6 +349,22 @@ ends_denied name x kind end old new a b d is q = go d.refusal d.slip refl q
     go r None same q = inr (same ∙ ap (λ (why : Refusal). record { refusal = why; slip = None }) q.0, q.2.1)
     go r (Some slip) same q = inl (ends_by name x kind end (reply.Refused r) old new a b slip is q)
 
+-- whatever was finished is ended
+pub only_ended : (name : ℕ) (kind : Kind) (done : FinishedTask) (r : Reply) (old new : HeldSeen) (a b : SeatSeen) (slip : Slip)
+    → done.kind ≡ kind → done.cache ≡ name → Made (event.End kind (end_of done)) r old new a b slip
+    → Only (λ e. IsEnded name (done.kind, done.serial) e.event) a b
+only_ended name kind done r old new a b slip is here m =
+    (ends_by name (done.kind, done.serial) kind (end_of done) r old new a b slip (sym is, refl, refl, here) m).0
+
+pub only_ended_denied : (name : ℕ) (kind : Kind) (done : FinishedTask) (old new : HeldSeen) (a b : SeatSeen) (d : Denied)
+    → done.kind ≡ kind → done.cache ≡ name → under.IsDenied (event.End kind (end_of done)) old new a b d
+    → Only (λ e. IsEnded name (done.kind, done.serial) e.event) a b
+only_ended_denied name kind done old new a b d is here q =
+    elim (ends_denied name (done.kind, done.serial) kind (end_of done) old new a b d (sym is, refl, refl, here) q) [
+      | inl ends ↦ ends.0
+      | inr none ↦ only_same (λ e. IsEnded name (done.kind, done.serial) e.event) a b none.1
+    ]
+
 -- what came of a job ends its request
 pub done_ends : (name : ℕ) (kind : Kind) (job : Task) (done : FinishedTask) → job.kind ≡ kind → job.cache ≡ name
     → (done.serial ≡ job.serial) × (done.kind ≡ job.kind) × (done.cache ≡ job.cache)
@@ -302,6 +377,14 @@ both : (x y : Kind × ℕ) → x.0 ≡ y.0 → x.1 ≡ y.1 → x ≡ y
 both x y p q =
     subst (λ (k : Kind). x ≡ (k, y.1)) p (subst (λ n. x ≡ (x.0, n)) q refl)
 
+pub job_ended : (name : ℕ) (job : Task) (done : FinishedTask) (a b : SeatSeen)
+    → (done.serial ≡ job.serial) × (done.kind ≡ job.kind) × (done.cache ≡ job.cache)
+    → Only (λ e. IsEnded name (done.kind, done.serial) e.event) a b
+    → Only (λ e. IsEnded name (job.kind, job.serial) e.event) a b
+job_ended name job done a b same p =
+    subst (λ (x : Kind × ℕ). Only (λ e. IsEnded name x e.event) a b)
+    (both (done.kind, done.serial) (job.kind, job.serial) same.1 same.0) p
+
 begun_is : (e : Event) (r : Reply) (x y : Kind × ℕ) → IsBegun x e r → IsBegun y e r → x ≡ y
 begun_is (event.FillBegin h p) (reply.Job t) x y b c = both x y (b.0 ∙ sym c.0) (sym b.1 ∙ c.1)
 begun_is (event.FlushBegin f) (reply.Job t) x y b c = both x y (b.0 ∙ sym c.0) (sym b.1 ∙ c.1)
@@ -310,13 +393,15 @@ begun_is e r x y b c = absurd b
 
 pub settles_begun : (name : ℕ) (x : Kind × ℕ) (e : Event) (r : Reply) (old new : HeldSeen) (a b c : SeatSeen) (slip : Slip)
     → IsBegun x (noted e r) r → Made e r old new a b slip → EndsOne name x b c → Settles name a c
-settles_begun name x e r old new a b c slip is m q =
-    pairs_ended (λ y l. IsBegun y l.event l.reply) (λ y l. IsEnded name y l.event) (λ l. l ≡ entry_of a.number e r)
-    (λ l. IsEnded name x l.event) a b c
-    (λ y l k own begins ends. subst (λ (z : Kind × ℕ). IsEnded name z k.event)
-    (begun_is (noted e r) r x y is (subst (λ (z : Entry). IsBegun y z.event z.reply) own begins)) ends)
-    (λ y l ends begins. end_begins y name x l.event l.reply ends begins)
-    (only_by (λ l. l ≡ entry_of a.number e r) e r old new a b slip refl m) q.0 q.1
+settles_begun name x e r old new a b c slip is m q = record {
+  ended = pairs_ended (λ y l. IsBegun y l.event l.reply) (λ y l. IsEnded name y l.event) (λ l. l ≡ entry_of a.number e r)
+      (λ l. IsEnded name x l.event) a b c
+      (λ y l k own begins ends. subst (λ (z : Kind × ℕ). IsEnded name z k.event)
+      (begun_is (noted e r) r x y is (subst (λ (z : Entry). IsBegun y z.event z.reply) own begins)) ends)
+      (λ y l ends begins. end_begins y name x l.event l.reply ends begins)
+      (only_by (λ l. l ≡ entry_of a.number e r) e r old new a b slip refl m) q.0 q.1;
+  own = own_ended name x a b c (only_by (λ l. IsBegun x l.event l.reply) e r old new a b slip is m) m.entered.count q.0;
+}
 
 -- its end was refused, and it alone is left
 begun_left : (name : ℕ) (x : Kind × ℕ) (e : Event) (r : Reply) (old new : HeldSeen) (a b : SeatSeen) (slip : Slip) (d : Denied)
@@ -430,6 +515,15 @@ step_kind m y job old new a b slip same made is =
     (subst (λ (x : SyncStepped). Made (event.SyncStep m) (sync_stepped (Ok x)) old new a b slip) same made)
     (subst (λ (x : SyncStepped). IsSyncJob new.core.state (Ok x)) same is)
 
+-- ---- a flusher's turn
+
+-- the seat began this job's request alone
+pub writes_begun : (job : Task) (slip : Slip) (old new : HeldSeen) (a b : SeatSeen) → Writes job slip old new a b
+    → IsFlushJob new.core.state (Ok (flush.Job job)) → Only (λ e. IsBegun (job.kind, job.serial) e.event e.reply) a b
+writes_begun job slip old new a b w is =
+    only_by (λ e. IsBegun (job.kind, job.serial) e.event e.reply) (event.FlushBegin w.file)
+    (reply.Job (record { 0 = job.serial })) old new a b slip (first_kind job slip old new a b w is, refl) w.made
+
 -- ---- whole calls
 
 -- nothing was made
@@ -479,6 +573,11 @@ pub change_begins : (x : Kind × ℕ) (change : Change) (h : HandleId) (bytes : 
 change_begins x (Write at) h bytes r b = b
 change_begins x Append h bytes r b = b
 change_begins x (Truncate size) h bytes r b = b
+
+pub change_ends : (change : Change) (h : HandleId) (bytes : List ℕ) → IsEnd (event_of change h bytes) → ⊥
+change_ends (Write at) h bytes is = is
+change_ends Append h bytes is = is
+change_ends (Truncate size) h bytes is = is
 
 -- ---- pages
 
@@ -638,22 +737,22 @@ pub step_quiet : (name : ℕ) (m : SyncId) (y z : SyncStepped) (old new : HeldSe
     → ((x : Kind × ℕ) → IsBegun x (noted (event.SyncStep m) (sync_stepped (Ok z))) (sync_stepped (Ok z)) → ⊥)
     → Made (event.SyncStep m) (sync_stepped (Ok y)) old new a b slip → Settles name a b
 step_quiet name m y z old new a b slip is never made =
-    settles_by name (event.SyncStep m) (sync_stepped (Ok z)) old new a b slip never
+    settles_by name (event.SyncStep m) (sync_stepped (Ok z)) old new a b slip never (λ is. is)
     (subst (λ (x : SyncStepped). Made (event.SyncStep m) (sync_stepped (Ok x)) old new a b slip) is made)
 
 -- a sync was begun
 pub sync_settles : (name : ℕ) (h : HandleId) (first last : PageIndex) (m : SyncId) (old new : HeldSeen) (a b : SeatSeen)
     (slip : Slip) → Made (event.SyncBegin h first last) (reply.Sync m) old new a b slip → Settles name a b
 sync_settles name h first last m old new a b slip made =
-    settles_by name (event.SyncBegin h first last) (reply.Sync m) old new a b slip (λ x b. b) made
+    settles_by name (event.SyncBegin h first last) (reply.Sync m) old new a b slip (λ x b. b) (λ is. is) made
 
 drop_begins : (m : SyncId) (x : Kind × ℕ) (e : Event) (r : Reply) → e ≡ event.SyncDrop m → IsBegun x e r → ⊥
 drop_begins m x e r is b = subst (λ (y : Event). IsBegun x y r) is b
 
 settles_dropped : (name : ℕ) (m : SyncId) (a b : SeatSeen) → Only (λ e. e.event ≡ event.SyncDrop m) a b → Settles name a b
 settles_dropped name m a b p =
-    pairs_none (λ x e. IsBegun x e.event e.reply) (λ x e. IsEnded name x e.event) (λ e. e.event ≡ event.SyncDrop m) a b
-    (λ x e is b. drop_begins m x e.event e.reply is b) p
+    settles_none name (λ e. e.event ≡ event.SyncDrop m) a b (λ x e. drop_begins m x e.event e.reply)
+    (λ e is ends. subst IsEnd is ends) p
 
 -- its turns were refused, and it was dropped
 pub dropped_settles : (name : ℕ) (m : SyncId) (a b c e : SeatSeen) (why d : Denied) (P : Type 0) → Settles name a b

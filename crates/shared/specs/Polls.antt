@@ -3,8 +3,8 @@ use Rattle.std.specs.Prelude.{◌≡◌, ◌⊎◌, ◌+◌, ◌<◌, ◌≤◌,
 use mathlib.Core.List.{IsPrefix}
 use Rattle.errboard.specs.Shown.{PassSeen}
 use Rattle.errseq.specs.Recorded.{last_code, raised, word_of}
-use Rattle.errseq.specs.Samples.{StandsFor}
-use Rattle.errseq.specs.Word.{IsWithinTurn, checked}
+use Rattle.errseq.specs.Samples.{StandsFor, done_at}
+use Rattle.errseq.specs.Word.{IsWithinTurn, checked, sample_of}
 use Rattle.held.specs.Shown.{SeatSeen}
 use Rattle.held.specs.declared.log.Slip.{Slip}
 use Rattle.machine.specs.State.{State, file_at}
@@ -24,6 +24,11 @@ pub record Polled (before after : PassSeen) (told : Option ℕ) : Type 0 where
   pub owed : IsWithinTurn (raised (drop before.done after.known)) → before.done < length before.known → IsSome told
   pub kept : IfNone told (after.since ≡ before.since)
   pub seen : IfSome told (λ _. (after.since ≡ word_of after.start after.known true) ⊎ (after.since ≡ 0))
+
+-- a new pass: it loaded a word that stands for what it knows. By that word go its sample, and what it takes as told
+abbrev pub IsSampled : PassSeen → Type 0
+IsSampled p =
+    (loaded : ℕ) × StandsFor p.start loaded p.known × (p.since ≡ sample_of loaded) × (p.done ≡ done_at p.known loaded)
 
 -- what is known is as much or more, and nothing was polled
 abbrev pub IsLevelled : PassSeen → PassSeen → Type 0

@@ -1,4 +1,4 @@
--- What a call leaves behind it: no request of its own, and no page filled that it was not told to be missing.
+-- What a call leaves behind it: no request of its own and no end of another's, and no page filled that it was not told to be missing.
 use Rattle.std.specs.Prelude.{◌≡◌, ◌⊎◌, ◌+◌, ◌++◌, ◌≤◌, ℕ, Any, List, None, Result, Ok, Err}
 use Rattle.machine.specs.declared.event.Event.{Event}
 use Rattle.machine.specs.declared.event.Event.TheVariants as event
@@ -13,6 +13,7 @@ use Rattle.trail.specs.declared.entry.Entry.{Entry}
 use Rattle.held.specs.Shown.{SeatSeen}
 use Rattle.held.specs.Called.{Only}
 use Rattle.held.specs.declared.denied.Denied.{Denied}
+use Rattle.shared.specs.Workers.{IsEnd}
 
 -- the seat made an entry of the second kind since, if it made one of the first kind
 pub record Pairs {A : Type 0} (first second : A → Entry → Type 0) (before after : SeatSeen) : Type 0 where
@@ -36,9 +37,22 @@ abbrev pub IsEnded : ℕ → Kind × ℕ → Event → Type 0
 IsEnded name x (event.End kind end) = (kind ≡ x.0) × (end.kind ≡ x.0) × (end.serial.0 ≡ x.1) × (end.cache ≡ name)
 IsEnded name x e = ⊥
 
--- the seat made the end of each request that it began since
-abbrev pub Settles : ℕ → SeatSeen → SeatSeen → Type 0
-Settles name before after = Pairs (λ x e. IsBegun x e.event e.reply) (λ x e. IsEnded name x e.event) before after
+-- it is this end
+abbrev pub IsThisEnd : Event → Entry → Type 0
+IsThisEnd end e = (e.event ≡ end) × IsEnd end
+
+-- the entry began the request that this end is of
+abbrev pub BeganFor : ℕ → Event → Entry → Type 0
+BeganFor name end e = (x : Kind × ℕ) × IsEnded name x end × IsBegun x e.event e.reply
+
+-- each end that the seat made since, also one that was refused, is of a request that it began since
+abbrev pub EndsOwn : ℕ → SeatSeen → SeatSeen → Type 0
+EndsOwn name before after = Pairs IsThisEnd (BeganFor name) before after
+
+-- the seat made the end of each request that it began since, and no other end
+pub record Settles (name : ℕ) (before after : SeatSeen) : Type 0 where
+  pub ended : Pairs (λ x e. IsBegun x e.event e.reply) (λ x e. IsEnded name x e.event) before after
+  pub own : EndsOwn name before after
 
 -- so it did, but that the last event that it made began one more, whose end a full trail refused
 pub record LeavesOne (name : ℕ) (before after : SeatSeen) (d : Denied) : Type 0 where

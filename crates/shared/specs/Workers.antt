@@ -28,6 +28,7 @@ use Rattle.trail.specs.declared.entry.Entry.{Entry}
 use Rattle.held.specs.declared.log.Slip.{Slip}
 use Rattle.held.specs.Shown.{SeatSeen}
 use Rattle.held.specs.Called.{Only}
+use Rattle.held.specs.Views.{count_of}
 use Rattle.held.specs.declared.denied.Denied.{Denied}
 use Rattle.shared.specs.Called.{Makes}
 use Rattle.shared.specs.Denials.{IsDenied, IsFullIfNoSlip}
@@ -186,7 +187,7 @@ abbrev pub AllOver : Worker → Worker → State → Type 0
 AllOver old new s = (jobs : List Task) × (popped_by new ≡ popped_by old ++ jobs) × All (IsOver s) jobs
 
 -- the worker emptied the ring: it took jobs till there was a moment at which the ring had none, and of none of them a request is
--- left in this state. It entered ends alone, and put no job in. The history has all that its seat had seen then
+-- left in this state. It entered ends alone, and put no job in. The history has all that its seat had seen then, and no more by it
 pub record Drained (own : Worker) (history : List Entry) (state : State) : Type 0 where
   pub at : Worker
   pub taken : AllOver own at state
@@ -195,6 +196,7 @@ pub record Drained (own : Worker) (history : List Entry) (state : State) : Type 
   pub alone : (view at.pass).alone ≡ (view own.pass).alone
   pub emptied : Held 0 (Stands (view at.pass))
   pub seen : IsPrefix at.seat.list history
+  pub counted : at.seat.count ≡ count_of at.seat.number history
 
 -- each of them was ended but for the last, whose end was refused
 pub record IsRefusedEnd (old new : Worker) (d : Denied) : Type 0 where

@@ -5,7 +5,7 @@ ghost use Rattle.std.specs.Prelude.{◌≡◌, IfOk, IsOkUnless};
 ghost use Rattle.pc_types.specs.declared.refusal.Refusal.TheVariants.{Memory};
 ghost use Rattle.held.specs.Keeps.{IsLocked};
 ghost use Rattle.shared.specs.Keeps.{IsDisk};
-ghost use Rattle.shared.specs.Workers.{IsWorkerOf};
+ghost use Rattle.shared.specs.Workers.{IsWorkerOf, seat_of};
 
 use crate::brief::BriefLock;
 use crate::disk::Disk;
@@ -73,6 +73,7 @@ impl<B: Naming, D: BlockDevice, T: Trail> SharedCache<B, D, T> {
         requires device { IsDisk B.sizes (D.told parts.device) }
         ensures named { result.0.name ≡ parts.name }
         ensures own { IsWorkerOf result.0.ring B.name B.table B.sizes result.1 }
+        ensures untouched { seat_of result.1 ≡ seat_of parts.own }
     {
         let Parts {
             name,

@@ -1,9 +1,9 @@
 //! The device of a shared cache, as it lies under its lock.
 
-ghost use Rattle.std.specs.Prelude.{◌≡◌, ◌<◌, IfOk, Ok, OnOk, false, length, true};
+ghost use Rattle.std.specs.Prelude.{◌≡◌, ◌<◌, IfOk, IsOk, Ok, OnOk, false, length, true};
 ghost use Rattle.blockdev.specs.Jobs.{IsJobFor};
 ghost use Rattle.blockdev.specs.Watching.{Clears, Makes, first_watch};
-ghost use Rattle.shared.specs.Keeps.{IsDisk};
+ghost use Rattle.shared.specs.Keeps.{IsDisk, answer_of};
 
 use blockdev::{BlockDevice, Finished, Job, Watched};
 use held::log::{Seat, Slip};
@@ -60,10 +60,12 @@ impl<B: Naming, D: BlockDevice> Disk<B, D> {
         self.device.perform(job)
     }
 
-    /// Makes what was written durable, after the entry of a slip that the seat has seen.
+    /// Makes what was written durable, by one flush where anything was, after the entry of a slip that the seat has seen.
     pub(crate) fn flush_after(&mut self, seat: &Seat, slip: Slip) -> Result<Durable<B, D>, ErrCode>
         requires seen { (slip.name ≡ seat.now.name) × (slip.place < length seat.now.list) }
         ensures slip { IfOk result (λ d. d ≡ slip) }
+        ensures written { self.old.unflushed ≡ true → Clears self.old (answer_of result) self.new }
+        ensures unwritten { self.old.unflushed ≡ false → IsOk result × (self.new ≡ self.old) }
         ensures flushed { OnOk result (self.new.unflushed ≡ false) }
         ensures durable { OnOk result (self.new.device.durable ≡ self.new.device.contents) }
     {

@@ -12,7 +12,7 @@ ghost use Rattle.shared.specs.Called.{Makes};
 ghost use Rattle.shared.specs.Denials.{IsDenied, IsFullIfNoSlip, MadeOne};
 ghost use Rattle.shared.specs.Own.{IsHelp, IsRoomEvent};
 ghost use Rattle.shared.specs.Rooms.{FailsToWrite, IsFinal, is_written, wants_room};
-ghost use Rattle.shared.specs.Settled.{EndsIn};
+ghost use Rattle.shared.specs.Settled.{EndsIn, IsEnded};
 ghost use Rattle.shared.specs.Synced.{IsFlushEnd};
 ghost use Rattle.shared.specs.Workers.{Ends, IsEndOf, IsEndReply, IsOver, IsOwnFailure, fails_write};
 
@@ -129,6 +129,7 @@ pub(crate) fn carry_through<B: Naming, D: BlockDevice, T: Trail, R: Wait>(
     requires fits { IsJobFor B.name B.sizes.blocks B.sizes.page job }
     ensures goes { Goes seat.old seat.new }
     ensures only { Only (λ e. IsEndOf job e.event) seat.old seat.new }
+    ensures ends { Only (λ e. IsEnded B.name (job.kind, job.serial) e.event) seat.old seat.new }
     ensures ended { IfOk result (λ d. (d.serial.0 ≡ job.serial) × Ends job seat.old seat.new d.slip (is_some d.failed)) }
     ensures one { IfOk result (λ d. MadeOne (Some d.slip) seat.old seat.new) }
     ensures failed { IfOk result (λ d. IfSome d.failed (IsOwnFailure name B.board)) }
@@ -176,6 +177,7 @@ pub(crate) fn end<B: Naming, T: Trail>(
     ensures over { (job : Task) → finished.kind ≡ job.kind → finished.serial ≡ job.serial → finished.block ≡ job.block → IsOver state.new.core.state job }
     ensures others { (job : Task) → IsOver state.old.core.state job → IsOver state.new.core.state job }
     ensures only { (job : Task) → finished.kind ≡ job.kind → finished.serial ≡ job.serial → finished.cache ≡ job.cache → finished.block ≡ job.block → Only (λ e. IsEndOf job e.event) seat.old seat.new }
+    ensures ends { Only (λ e. IsEnded B.name (finished.kind, finished.serial) e.event) seat.old seat.new }
     ensures made { IfOk result (λ r. (reply : Reply) × Makes seat.old seat.new r.0 (event.End finished.kind (end_of finished)) reply × IsEndReply reply × (is_some r.1 ≡ fails_write finished.kind reply)) }
     ensures one { IfOk result (λ r. MadeOne (Some r.0) seat.old seat.new) }
     ensures own { IfOk result (λ r. IfSome r.1 (λ receipt. receipt.board ≡ B.board)) }

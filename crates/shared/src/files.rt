@@ -1,15 +1,18 @@
 //! Files and handles, and what they are told.
 
 ghost use Rattle.std.specs.Prelude.{◌≡◌, ◌≢◌, ◌≤◌, Err, IfErr, IfOk, None, Ok, Some, length};
+ghost use Rattle.cachecore.specs.Replies.{opened};
 ghost use Rattle.errboard.specs.Views.{told_of};
 ghost use Rattle.machine.specs.declared.event.Event.TheVariants as event;
 ghost use Rattle.machine.specs.declared.event.Reply.TheVariants as reply;
 ghost use Rattle.pc_types.specs.declared.refusal.Refusal.TheVariants.{BadHandle, Stranger};
 ghost use Rattle.held.specs.Called.{Goes, Only};
+ghost use Rattle.held.specs.Denials as under;
+ghost use Rattle.held.specs.Entered.{Made};
 ghost use Rattle.shared.specs.Called.{Makes};
 ghost use Rattle.shared.specs.Denials.{IsDenied, IsFullIfNoSlip, MadeOne};
 ghost use Rattle.shared.specs.Own.{admitted};
-ghost use Rattle.shared.specs.Polls.{Polled};
+ghost use Rattle.shared.specs.Polls.{Hears, IsSampled, Polled};
 
 use crate::cache::SharedCache;
 use crate::handle::{FailedWrite, Handle};
@@ -18,7 +21,8 @@ use errboard::Pass;
 use held::denied::{Denied, without_slip};
 use held::log::{Seat, Slip};
 use held::naming::Naming;
-use pc_types::{ErrCode, FileId, Refusal};
+use held::state::Held;
+use pc_types::{ErrCode, FileId, HandleId, Refusal};
 use std::sync::Wait;
 use trail::Trail;
 
@@ -43,7 +47,7 @@ impl<B: Naming, D: BlockDevice, T: Trail> SharedCache<B, D, T> {
     }
 
     /// Opens a file. The handle's cursor is at the beginning; with `append` its writes go to the end of the file.
-    #[tactic(auto, using(held::proofs::Seats::goes_by, held::proofs::Seats::goes_on, held::proofs::Seats::goes_same, crate::proofs::Making::goes_denied, crate::proofs::Making::makes_by, crate::proofs::Making::denied_event, crate::proofs::Making::full_by, crate::proofs::Making::made_one, crate::proofs::Making::denied_one, held::proofs::Seats::only_same, crate::proofs::Owning::only_event, crate::proofs::Owning::only_event_denied))]
+    #[tactic(auto, using(held::proofs::Seats::goes_by, held::proofs::Seats::goes_on, held::proofs::Seats::goes_same, crate::proofs::Making::goes_denied, crate::proofs::Making::makes_by, crate::proofs::Making::denied_event, crate::proofs::Making::full_by, crate::proofs::Making::made_one, crate::proofs::Making::denied_one, held::proofs::Seats::only_same, crate::proofs::Owning::only_event, crate::proofs::Owning::only_event_denied, crate::proofs::Hearing::hears_named))]
     pub fn open<R: Wait>(
         &self,
         rt: &R,
@@ -60,13 +64,15 @@ impl<B: Naming, D: BlockDevice, T: Trail> SharedCache<B, D, T> {
         ensures refused_once { IfErr result (λ d. MadeOne d.slip seat.old seat.new) }
         ensures handle { IfOk result (λ r. (r.0.cache ≡ self.now.name) × (r.0.file ≡ file) × (r.0.pass.board ≡ B.board)) }
         ensures begins { IfOk result (λ r. (r.0.cursor ≡ 0) × (r.0.append ≡ append)) }
+        ensures hears { IfOk result (λ r. Hears B.sizes self.now.name r.1 seat.new r.0.pass) }
+        ensures sampled { IfOk result (λ r. IsSampled r.0.pass) }
         ensures denied { seat.old.name ≡ self.now.name → IfErr result (IsDenied (λ e. e ≡ event.Open file) seat.old seat.new) }
         ensures full { seat.old.name ≡ self.now.name → IfErr result (IsFullIfNoSlip seat.old seat.new) }
     {
         if seat.name() != self.name {
             return Err(without_slip(Refusal::Stranger));
         }
-        let (number, pass, slip) = match self.state.lock(rt).open(seat, file) {
+        let (number, pass, slip) = match open_heard(&mut self.state.lock(rt), seat, file) {
             Ok(opened) => opened,
             Err(denied) => return Err(denied),
         };
@@ -195,4 +201,26 @@ impl<B: Naming, D: BlockDevice, T: Trail> SharedCache<B, D, T> {
         }
         Ok(())
     }
+}
+
+/// Opens a file, with a pass that knows all its failed writes up to the slip's entry.
+fn open_heard<B: Naming, T: Trail>(
+    state: &mut Held<B, T>,
+    seat: &mut Seat,
+    file: FileId,
+) -> Result<(HandleId, Pass, Slip), Denied>
+    requires { seat.old.table ≡ B.table }
+    ensures made { IfOk result (λ r. Made (event.Open file) (opened (Ok r.0)) state.old state.new seat.old seat.new r.2) }
+    ensures pass { IfOk result (λ r. (r.1.board ≡ B.board) × (r.1.file ≡ file.0)) }
+    ensures hears { IfOk result (λ r. Hears B.sizes B.name r.2 seat.new r.1) }
+    ensures sampled { IfOk result (λ r. IsSampled r.1) }
+    ensures denied { IfErr result (under.IsDenied (event.Open file) state.old state.new seat.old seat.new) }
+{
+    let (number, mut pass, slip) = match state.open(seat, file) {
+        Ok(opened) => opened,
+        Err(denied) => return Err(denied),
+    };
+    // It knows them already. Lends that it does, and that the history is legal.
+    state.level(&mut pass);
+    Ok((number, pass, slip))
 }

@@ -61,7 +61,7 @@ impl<B: Naming, D: BlockDevice, T: Trail> SharedCache<B, D, T> {
 
     /// Reads the bytes from `offset` on into the front of `out`, and answers how many: as many as it takes, and none past the end of
     /// the file. A read touches 16 pages at most.
-    #[tactic(auto, using(held::proofs::Seats::goes_by, held::proofs::Seats::goes_on, held::proofs::Seats::goes_same, crate::proofs::Making::goes_denied, crate::proofs::Making::makes_on, crate::proofs::Making::call_on, held::proofs::Seats::only_same, crate::proofs::Owning::only_try_on, crate::proofs::Owning::once_try_on))]
+    #[tactic(auto, using(held::proofs::Seats::goes_by, held::proofs::Seats::goes_on, held::proofs::Seats::goes_same, crate::proofs::Making::goes_denied, crate::proofs::Making::makes_on, crate::proofs::Making::call_on, held::proofs::Seats::only_same, crate::proofs::Owning::only_try_on, crate::proofs::Owning::once_try_on, crate::proofs::Settling::settles_same))]
     pub fn pread<R: Wait>(
         &self,
         rt: &R,

@@ -64,7 +64,7 @@ impl<B: Naming, D: BlockDevice, T: Trail> SharedCache<B, D, T> {
     }
 
     /// Fills a page. Where it is refused for want of room some is made, or the end of a request waited for.
-    #[tactic(auto, using(held::proofs::Seats::goes_by, held::proofs::Seats::goes_on, held::proofs::Seats::goes_same, crate::proofs::Making::goes_denied, crate::proofs::Making::denied_begin, crate::proofs::Making::help_on, held::proofs::Seats::only_same, crate::proofs::Owning::only_fill_begin, crate::proofs::Owning::only_fill_begin_denied, crate::proofs::Owning::only_begun_on, crate::proofs::Rooming::lost_unwanted, crate::proofs::Making::help_settled, crate::proofs::Owning::only_relieved, crate::proofs::Rooming::final_lasting))]
+    #[tactic(auto, using(held::proofs::Seats::goes_by, held::proofs::Seats::goes_on, held::proofs::Seats::goes_same, crate::proofs::Making::goes_denied, crate::proofs::Making::denied_begin, crate::proofs::Making::help_on, held::proofs::Seats::only_same, crate::proofs::Owning::only_fill_begin, crate::proofs::Owning::only_fill_begin_denied, crate::proofs::Owning::only_begun_on, crate::proofs::Rooming::lost_unwanted, crate::proofs::Making::help_settled, crate::proofs::Owning::only_relieved, crate::proofs::Rooming::final_lasting, crate::proofs::Settling::settles_same))]
     fn fill_once<R: Wait>(
         &self,
         rt: &R,
@@ -99,7 +99,7 @@ impl<B: Naming, D: BlockDevice, T: Trail> SharedCache<B, D, T> {
 
     /// Makes room for a call: until as many frames are free as it lacks pages, and no more pages would be dirty than may be, or none can
     /// be made.
-    #[tactic(auto, using(held::proofs::Seats::goes_by, held::proofs::Seats::goes_on, held::proofs::Seats::goes_same, crate::proofs::Making::goes_denied, crate::proofs::Making::room_on, held::proofs::Seats::only_same, crate::proofs::Owning::only_room_on))]
+    #[tactic(auto, using(held::proofs::Seats::goes_by, held::proofs::Seats::goes_on, held::proofs::Seats::goes_same, crate::proofs::Making::goes_denied, crate::proofs::Making::room_on, held::proofs::Seats::only_same, crate::proofs::Owning::only_room_on, crate::proofs::Settling::settles_same))]
     pub(crate) fn make_way<R: Wait>(
         &self,
         rt: &R,
@@ -133,7 +133,7 @@ impl<B: Naming, D: BlockDevice, T: Trail> SharedCache<B, D, T> {
 
     /// What comes of an event that was refused, in the hold that refused it: where it wanted room, some is made, or the end of a request
     /// waited for. The refusal stands where none can be made, and where it is of another kind.
-    #[tactic(auto, using(held::proofs::Seats::goes_same, crate::proofs::Making::goes_denied, held::proofs::Seats::only_same, crate::proofs::Rooming::wants_pass, crate::proofs::Rooming::stands_by, crate::proofs::Rooming::stands_still, crate::proofs::Rooming::stands_other))]
+    #[tactic(auto, using(held::proofs::Seats::goes_same, crate::proofs::Making::goes_denied, held::proofs::Seats::only_same, crate::proofs::Rooming::wants_pass, crate::proofs::Rooming::stands_by, crate::proofs::Rooming::stands_still, crate::proofs::Rooming::stands_other, crate::proofs::Settling::settles_same))]
     pub(crate) fn relieve<R: Wait>(
         &self,
         rt: &R,
@@ -195,7 +195,7 @@ impl<B: Naming, D: BlockDevice, T: Trail> SharedCache<B, D, T> {
     }
 
     /// Lets an idle page go. Where none is idle a page is written back, or the end of a request waited for.
-    #[tactic(auto, using(held::proofs::Seats::goes_on, crate::proofs::Making::room_on, crate::proofs::Owning::only_evicted, crate::proofs::Owning::only_evicted_on, crate::proofs::Rooming::unwritten_on))]
+    #[tactic(auto, using(held::proofs::Seats::goes_on, crate::proofs::Making::room_on, crate::proofs::Owning::only_evicted, crate::proofs::Owning::only_evicted_on, crate::proofs::Rooming::unwritten_on, crate::proofs::Settling::settles_evicted))]
     fn free_frame<R: Wait>(
         &self,
         rt: &R,
@@ -222,7 +222,7 @@ impl<B: Naming, D: BlockDevice, T: Trail> SharedCache<B, D, T> {
 
     /// Writes a page back, of the first file that has one to write; or waits for the end of a request, where there is none to write or
     /// too many are in flight. Answers whether that was done; also where the write failed, if another request was in flight beside it.
-    #[tactic(auto, using(held::proofs::Seats::goes_by, held::proofs::Seats::goes_on, held::proofs::Seats::goes_same, crate::proofs::Making::goes_denied, crate::proofs::Making::denied_first, crate::proofs::Making::room_on, held::proofs::Seats::only_same, crate::proofs::Owning::only_first_denied, crate::proofs::Owning::only_written, crate::proofs::Rooming::first_unwanted, crate::proofs::Rooming::none_unwritten, crate::proofs::Rooming::first_final, crate::proofs::Rooming::final_lasting))]
+    #[tactic(auto, using(held::proofs::Seats::goes_by, held::proofs::Seats::goes_on, held::proofs::Seats::goes_same, crate::proofs::Making::goes_denied, crate::proofs::Making::denied_first, crate::proofs::Making::room_on, held::proofs::Seats::only_same, crate::proofs::Owning::only_first_denied, crate::proofs::Owning::only_written, crate::proofs::Rooming::first_unwanted, crate::proofs::Rooming::none_unwritten, crate::proofs::Rooming::first_final, crate::proofs::Rooming::final_lasting, crate::proofs::Settling::settles_same))]
     fn flush_one<R: Wait>(
         &self,
         rt: &R,

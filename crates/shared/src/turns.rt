@@ -2,8 +2,12 @@
 
 ghost use Rattle.std.specs.Prelude.{◌≡◌, ◌+◌, ◌++◌, ◌∷◌, [], IfErr, IfNone, IfOk, IfSome, Some, false, is_some};
 ghost use Rattle.blockdev.specs.Jobs.{IsJobFor, Task};
+ghost use Rattle.crossbeam_queue.specs.Fifo as fifo;
+ghost use Rattle.crossbeam_queue.specs.Passes.{view};
 ghost use Rattle.held.specs.Called.{Goes, Only};
+ghost use Rattle.ring.specs.Order.{Stands};
 ghost use Rattle.shared.specs.Denials.{IsDenied, IsFullIfNoSlip, MadeOne};
+ghost use Rattle.shared.specs.Settled.{EndsOwn, IsBegun, IsEnded};
 ghost use Rattle.shared.specs.Workers.{AllCarried, Begins, Ends, FailsOwn, IsEnd, IsEndOf, IsFlushBegin, IsFlushed, IsOwnFailure, IsWorkerOf, IsWriteBack, OnBegun, entered_in, is_unended, popped_by, pushed_by, seat_of};
 
 use crate::cache::SharedCache;
@@ -31,8 +35,8 @@ pub enum Flushed {
 }
 
 impl<B: Naming, D: BlockDevice, T: Trail> SharedCache<B, D, T> {
-    /// One turn of an I/O worker: it takes a job from the ring, makes its device call, and ends its request. Answers nothing where it
-    /// got no job. The gate is entered with the job's serial, before the device call.
+    /// One turn of an I/O worker: it takes a job from the ring, makes its device call, and ends its request. Answers nothing only where
+    /// the ring was empty at one moment of the turn. The gate is entered with the job's serial, before the device call.
     #[tactic(auto, using(held::proofs::Seats::goes_same, held::proofs::Seats::only_same, crate::proofs::Owning::only_job))]
     pub fn io_turn<R: Wait, G: Gate>(
         &self,
@@ -46,6 +50,7 @@ impl<B: Naming, D: BlockDevice, T: Trail> SharedCache<B, D, T> {
         ensures only { Only (λ e. IsEnd e.event) (seat_of worker.old) (seat_of worker.new) }
         ensures pushed { pushed_by worker.new ≡ pushed_by worker.old }
         ensures idle { IfOk result (λ o. IfNone o ((seat_of worker.new ≡ seat_of worker.old) × (popped_by worker.new ≡ popped_by worker.old))) }
+        ensures emptied { IfOk result (λ o. IfNone o (fifo.Held 0 (Stands (view worker.new.pass)))) }
         ensures ended { IfOk result (λ o. IfSome o (λ d. (job : Task) × (popped_by worker.new ≡ popped_by worker.old ++ job ∷ []) × (d.serial.0 ≡ job.serial) × Ends job (seat_of worker.old) (seat_of worker.new) d.slip (is_some d.failed) × IfSome d.failed (IsOwnFailure self.now.name B.board))) }
         ensures one { IfOk result (λ o. IfSome o (λ d. MadeOne (Some d.slip) (seat_of worker.old) (seat_of worker.new))) }
         ensures denied { IfErr result (λ d. (job : Task) × (popped_by worker.new ≡ popped_by worker.old ++ job ∷ []) × IsDenied (IsEndOf job) (seat_of worker.old) (seat_of worker.new) d × IsFullIfNoSlip (seat_of worker.old) (seat_of worker.new) d) }
@@ -64,7 +69,7 @@ impl<B: Naming, D: BlockDevice, T: Trail> SharedCache<B, D, T> {
     /// One turn of a flusher: it begins to write the lowest page of the first file that has one to write, and puts the job into the
     /// ring. Where the ring is full it makes the device call itself, for which the gate is entered with the job's serial. Refused
     /// only where no write was begun.
-    #[tactic(auto, using(held::proofs::Seats::goes_same, held::proofs::Seats::goes_on, crate::proofs::Ending::begins_then, crate::proofs::Ending::ends_on, held::proofs::Seats::only_same, crate::proofs::Owning::only_flushed, crate::proofs::Carrying::none_carried))]
+    #[tactic(auto, using(held::proofs::Seats::goes_same, held::proofs::Seats::goes_on, crate::proofs::Ending::begins_then, crate::proofs::Ending::ends_on, held::proofs::Seats::only_same, crate::proofs::Owning::only_flushed, crate::proofs::Owning::only_begins, crate::proofs::Carrying::none_carried, crate::proofs::Settling::own_begins))]
     pub fn flusher_turn<R: Wait, G: Gate>(
         &self,
         rt: &R,
@@ -75,6 +80,7 @@ impl<B: Naming, D: BlockDevice, T: Trail> SharedCache<B, D, T> {
         ensures worker { IsWorkerOf self.now.ring B.name B.table B.sizes worker.new }
         ensures goes { Goes (seat_of worker.old) (seat_of worker.new) }
         ensures only { Only (λ e. IsWriteBack e.event) (seat_of worker.old) (seat_of worker.new) }
+        ensures own { EndsOwn B.name (seat_of worker.old) (seat_of worker.new) }
         ensures popped { popped_by worker.new ≡ popped_by worker.old }
         ensures done { IfOk result (IsFlushed B.sizes B.name worker.old worker.new) }
         ensures carried { is_unended result ≡ false → AllCarried worker.old worker.new }
@@ -101,15 +107,16 @@ impl<B: Naming, D: BlockDevice, T: Trail> SharedCache<B, D, T> {
     }
 
     /// Begins to write a page, of the first file that has one to write.
-    #[tactic(auto, using(held::proofs::Seats::goes_same, crate::proofs::Ending::begins_first, crate::proofs::Ending::denied_begun, held::proofs::Seats::only_same, crate::proofs::Ending::begun_one, crate::proofs::Ending::unbegun, crate::proofs::Owning::only_begun, crate::proofs::Owning::only_begun_denied, crate::proofs::Carrying::begins_one, crate::proofs::Carrying::begins_none))]
+    #[tactic(auto, using(held::proofs::Seats::goes_same, crate::proofs::Ending::begins_first, crate::proofs::Ending::denied_begun, held::proofs::Seats::only_same, crate::proofs::Ending::begun_one, crate::proofs::Ending::unbegun, crate::proofs::Owning::only_begun, crate::proofs::Owning::only_begun_denied, crate::proofs::Carrying::begins_one, crate::proofs::Carrying::begins_none, crate::proofs::Settling::writes_begun))]
     fn begin_flush<R: Wait>(&self, rt: &R, seat: &mut Seat) -> Result<Option<(Job, Slip)>, Denied>
         requires { seat.old.table ≡ B.table }
         ensures goes { Goes seat.old seat.new }
-        ensures only { Only (λ e. IsWriteBack e.event) seat.old seat.new }
+        ensures only { Only (λ e. IsFlushBegin e.event) seat.old seat.new }
         ensures idle { IfOk result (λ o. IfNone o (seat.new ≡ seat.old)) }
         ensures one { IfOk result (λ o. IfSome o (λ r. MadeOne (Some r.1) seat.old seat.new)) }
         ensures begun { IfOk result (λ o. IfSome o (λ r. Begins B.sizes B.name r.0 seat.old seat.new r.1)) }
         ensures alone { IfOk result (λ o. IfSome o (λ r. Only (λ e. OnBegun (λ t. t ≡ r.0.serial) e.event e.reply) seat.old seat.new)) }
+        ensures write { IfOk result (λ o. IfSome o (λ r. Only (λ e. IsBegun (r.0.kind, r.0.serial) e.event e.reply) seat.old seat.new)) }
         ensures fits { IfOk result (λ o. IfSome o (λ r. IsJobFor B.name B.sizes.blocks B.sizes.page r.0)) }
         ensures denied { IfErr result (IsDenied IsFlushBegin seat.old seat.new) }
         ensures unbegun { IfErr result (λ d. MadeOne d.slip seat.old seat.new × Only (λ e. OnBegun (λ _. ⊥) e.event e.reply) seat.old seat.new) }
@@ -130,6 +137,7 @@ impl<B: Naming, D: BlockDevice, T: Trail> SharedCache<B, D, T> {
         requires fits { IsJobFor B.name B.sizes.blocks B.sizes.page job }
         ensures goes { Goes seat.old seat.new }
         ensures only { Only (λ e. IsEndOf job e.event) seat.old seat.new }
+        ensures ends { Only (λ e. IsEnded B.name (job.kind, job.serial) e.event) seat.old seat.new }
         ensures ended { IfOk result (λ d. (d.serial.0 ≡ job.serial) × Ends job seat.old seat.new d.slip (is_some d.failed)) }
         ensures one { IfOk result (λ d. MadeOne (Some d.slip) seat.old seat.new) }
         ensures failed { IfOk result (λ d. IfSome d.failed (IsOwnFailure self.now.name B.board)) }

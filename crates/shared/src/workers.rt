@@ -1,7 +1,11 @@
 //! Workers' loops: they go on until the cache tells them to stop.
 
 ghost use Rattle.std.specs.Prelude.{◌≡◌, IfErr, OnOk};
+ghost use Rattle.crossbeam_queue.specs.Fifo as fifo;
+ghost use Rattle.crossbeam_queue.specs.Passes.{view};
 ghost use Rattle.held.specs.Called.{Goes, Only};
+ghost use Rattle.ring.specs.Order.{Stands};
+ghost use Rattle.shared.specs.Settled.{EndsOwn};
 ghost use Rattle.shared.specs.Workers.{AllEnded, CarriesAll, IsEnd, IsRefusedEnd, IsWorkerOf, IsWriteBack, is_unended, popped_by, pushed_by, seat_of};
 
 use crate::cache::SharedCache;
@@ -28,6 +32,7 @@ impl<B: Naming, D: BlockDevice, T: Trail> SharedCache<B, D, T> {
         ensures worker { IsWorkerOf self.now.ring B.name B.table B.sizes worker.new }
         ensures goes { Goes (seat_of worker.old) (seat_of worker.new) }
         ensures only { Only (λ e. IsWriteBack e.event) (seat_of worker.old) (seat_of worker.new) }
+        ensures own { EndsOwn B.name (seat_of worker.old) (seat_of worker.new) }
         ensures popped { popped_by worker.new ≡ popped_by worker.old }
         ensures carried { CarriesAll B.sizes B.name worker.old worker.new }
     {
@@ -44,6 +49,7 @@ impl<B: Naming, D: BlockDevice, T: Trail> SharedCache<B, D, T> {
         ensures worker { IsWorkerOf self.now.ring B.name B.table B.sizes worker.new }
         ensures goes { Goes (seat_of worker.old) (seat_of worker.new) }
         ensures only { Only (λ e. IsWriteBack e.event) (seat_of worker.old) (seat_of worker.new) }
+        ensures own { EndsOwn B.name (seat_of worker.old) (seat_of worker.new) }
         ensures popped { popped_by worker.new ≡ popped_by worker.old }
         ensures carried { CarriesAll B.sizes B.name worker.old worker.new }
     {
@@ -78,6 +84,7 @@ impl<B: Naming, D: BlockDevice, T: Trail> SharedCache<B, D, T> {
         ensures only { Only (λ e. IsEnd e.event) (seat_of worker.old) (seat_of worker.new) }
         ensures pushed { pushed_by worker.new ≡ pushed_by worker.old }
         ensures ended { OnOk result (AllEnded worker.old worker.new) }
+        ensures emptied { OnOk result (fifo.Held 0 (Stands (view worker.new.pass))) }
         ensures refused { IfErr result (IsRefusedEnd worker.old worker.new) }
     {
         'turns: for _ in rt.forever() {

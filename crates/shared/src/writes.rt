@@ -52,7 +52,7 @@ pub(crate) enum Change {
 impl<B: Naming, D: BlockDevice, T: Trail> SharedCache<B, D, T> {
     /// Writes the bytes into the file from `offset` on, all of them, also by an appending handle. A gap before them reads as zeros. A
     /// write touches 16 pages at most.
-    #[tactic(auto, using(held::proofs::Seats::only_same))]
+    #[tactic(auto, using(held::proofs::Seats::only_same, crate::proofs::Settling::settles_same))]
     pub fn pwrite<R: Wait>(
         &self,
         rt: &R,
@@ -83,7 +83,7 @@ impl<B: Naming, D: BlockDevice, T: Trail> SharedCache<B, D, T> {
     }
 
     /// Writes at the cursor, or with an appending handle at the end of the file, all of the bytes, and puts the cursor behind them.
-    #[tactic(auto, using(held::proofs::Seats::only_same))]
+    #[tactic(auto, using(held::proofs::Seats::only_same, crate::proofs::Settling::settles_same))]
     pub fn write<R: Wait>(
         &self,
         rt: &R,
@@ -125,7 +125,7 @@ impl<B: Naming, D: BlockDevice, T: Trail> SharedCache<B, D, T> {
     }
 
     /// Makes the file as long as this, in bytes. A longer one gains zeros. The cursor stays.
-    #[tactic(auto, using(held::proofs::Seats::only_same))]
+    #[tactic(auto, using(held::proofs::Seats::only_same, crate::proofs::Settling::settles_same))]
     pub fn truncate<R: Wait>(
         &self,
         rt: &R,

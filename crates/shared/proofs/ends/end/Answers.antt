@@ -13,6 +13,7 @@ use Rattle.shared.proofs.Ending.{fill_replies, fill_told, flush_replies, flush_t
 use Rattle.shared.proofs.Closing.{others_denied, others_made, over_made, over_refused}
 use Rattle.shared.proofs.Making.{denied_event, goes_denied, makes_by}
 use Rattle.shared.proofs.Owning.{only_end, only_end_denied}
+use Rattle.shared.proofs.Settling.{only_ended, only_ended_denied}
 use Rattle.shared.proofs.ends.end.Goals as goal
 
 pub returns-in-Ok-clause-goes : goal.returns-in-Ok-clause-goes
@@ -80,6 +81,28 @@ pub returns-clause-only : goal.returns-clause-only
 returns-clause-only g c job kind serial cache block =
     only_end_denied job Flush (end_of c.args.finished) c.args.state.now c.flush_end.new.self c.args.seat.now
     c.flush_end.new.seat c.in-Err-flush_end.denied (sym (sym c.kind.ensures ∙ c.in-Flush.is) ∙ kind) serial cache block
+    c.in-Err-flush_end.ensures.denied
+
+-- and of the request that was
+pub returns-in-Ok-clause-ends : goal.returns-in-Ok-clause-ends
+returns-in-Ok-clause-ends g c =
+    only_ended g.B.Naming.name Fill c.args.finished _ _ _ _ _ _ (sym c.kind.ensures ∙ c.in-Fill.is) c.requires.cache
+    c.in-Ok.ensures.made
+
+pub returns-in-Fill-clause-ends : goal.returns-in-Fill-clause-ends
+returns-in-Fill-clause-ends g c =
+    only_ended_denied g.B.Naming.name Fill c.args.finished c.args.state.now c.fill_end.new.self c.args.seat.now
+    c.fill_end.new.seat c.in-Err.denied (sym c.kind.ensures ∙ c.in-Fill.is) c.requires.cache c.in-Err.ensures.denied
+
+pub returns-in-Ok-flush_end-clause-ends : goal.returns-in-Ok-flush_end-clause-ends
+returns-in-Ok-flush_end-clause-ends g c =
+    only_ended g.B.Naming.name Flush c.args.finished _ _ _ _ _ _ (sym c.kind.ensures ∙ c.in-Flush.is) c.requires.cache
+    c.in-Ok-flush_end.ensures.made
+
+pub returns-clause-ends : goal.returns-clause-ends
+returns-clause-ends g c =
+    only_ended_denied g.B.Naming.name Flush c.args.finished c.args.state.now c.flush_end.new.self c.args.seat.now
+    c.flush_end.new.seat c.in-Err-flush_end.denied (sym c.kind.ensures ∙ c.in-Flush.is) c.requires.cache
     c.in-Err-flush_end.ensures.denied
 
 -- no request of whatever job was finished is left, and none came back

@@ -32,6 +32,7 @@ returns-in-Ok-clause-closed g c = (
     alone = c.drain.ensures.same.1;
     emptied = c.drain.ensures.emptied;
     seen = c.in-Ok.ensures.own.0;
+    counted = c.in-Ok.ensures.own.1;
   },
   c.in-Ok.ensures.seats,
 )

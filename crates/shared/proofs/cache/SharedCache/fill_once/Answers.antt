@@ -70,7 +70,7 @@ pub returns-in-Err-fill_begin-clause-settled : goal.returns-in-Err-fill_begin-cl
 returns-in-Err-fill_begin-clause-settled g c =
     settled_on g.B.Naming.name c.args.seat.now c.fill_begin.new.seat c.relieve.new.seat c.relieve.result
     (settles_denied g.B.Naming.name (event.FillBegin c.args.handle c.args.page) c.deref_mut.result.now c.fill_begin.new.self
-    c.args.seat.now c.fill_begin.new.seat c.in-Err-fill_begin.denied c.in-Err-fill_begin.ensures.denied)
+    c.args.seat.now c.fill_begin.new.seat c.in-Err-fill_begin.denied (λ is. is) c.in-Err-fill_begin.ensures.denied)
     c.relieve.ensures.settled
 
 pub returns-in-Err-fill_begin-clause-page : goal.returns-in-Err-fill_begin-clause-page
@@ -92,7 +92,7 @@ returns-in-Job-clause-page g c =
 pub returns-clause-settled : goal.returns-clause-settled
 returns-clause-settled g c =
     settles_by g.B.Naming.name _ _ _ _ _ _ _ (λ x b. fill_quiet x c.args.handle c.args.page _ c.in_default.not-Job b)
-    c.in-Ok-fill_begin.ensures.made
+    (λ is. is) c.in-Ok-fill_begin.ensures.made
 
 pub returns-clause-page : goal.returns-clause-page
 returns-clause-page g c =

@@ -3,11 +3,13 @@ use Rattle.std.specs.Prelude.{is_some}
 use Rattle.blockdev.specs.Jobs.{IsJobFor, Task}
 use Rattle.ring.specs.declared.log.Log.{Log}
 use Rattle.held.specs.Called.{Only}
+use Rattle.shared.specs.Settled.{IsBegun}
 use Rattle.shared.specs.Workers.{Begins, IsEndOf, OnBegun}
 use Rattle.shared.proofs.Carrying.{ended_carried, pushed_carried, two_made, unended_count}
 use Rattle.shared.proofs.Making.{denied_on}
 use Rattle.shared.proofs.Ending.{begins_then, ends_on}
 use Rattle.shared.proofs.Owning.{only_flushed}
+use Rattle.shared.proofs.Settling.{own_begins, own_ended}
 use Rattle.shared.proofs.cache.SharedCache.flusher_turn.Goals as goal
 
 pub end_job-requires-clause-fits : goal.end_job-requires-clause-fits
@@ -37,6 +39,23 @@ pub returns-in-Err-end_job-clause-only : goal.returns-in-Err-end_job-clause-only
 returns-in-Err-end_job-clause-only g c =
     only_flushed c.in-Err-push.job c.args.worker.now.seat c.begin_flush.new.seat c.end_job.new.seat c.begin_flush.ensures.only
     c.end_job.ensures.only
+
+-- the request that it began is the one that it ended
+pub returns-in-Ok-clause-own : goal.returns-in-Ok-clause-own
+returns-in-Ok-clause-own g c =
+    let job = c.in-Err-push.job in
+    own_ended g.B.Naming.name (job.kind, job.serial) c.args.worker.now.seat c.begin_flush.new.seat c.end_job.new.seat
+    (subst (λ (j : Task). Only (λ e. IsBegun (j.kind, j.serial) e.event e.reply) c.args.worker.now.seat c.begin_flush.new.seat)
+    (sym c.in-Err-push.ensures.answer.0) (rw c.in-Ok-Some.field-0-is at c.in-Ok-Some.ensures.write))
+    (rw c.in-Ok-Some.field-0-is at c.in-Ok-Some.ensures.one) c.end_job.ensures.ends
+
+pub returns-in-Err-end_job-clause-own : goal.returns-in-Err-end_job-clause-own
+returns-in-Err-end_job-clause-own g c =
+    let job = c.in-Err-push.job in
+    own_ended g.B.Naming.name (job.kind, job.serial) c.args.worker.now.seat c.begin_flush.new.seat c.end_job.new.seat
+    (subst (λ (j : Task). Only (λ e. IsBegun (j.kind, j.serial) e.event e.reply) c.args.worker.now.seat c.begin_flush.new.seat)
+    (sym c.in-Err-push.ensures.answer.0) (rw c.in-Ok-Some.field-0-is at c.in-Ok-Some.ensures.write))
+    (rw c.in-Ok-Some.field-0-is at c.in-Ok-Some.ensures.one) c.end_job.ensures.ends
 
 -- the job was put into the ring
 pub returns-in_default-clause-carried : goal.returns-in_default-clause-carried
@@ -76,3 +95,8 @@ pub returns-in-Err-end_job-clause-count : goal.returns-in-Err-end_job-clause-cou
 returns-in-Err-end_job-clause-count g c =
     unended_count c.in-Ok-Some.begun.1 c.in-Err-end_job.denied.slip c.args.worker.now.seat c.begin_flush.new.seat
     c.end_job.new.seat (rw c.in-Ok-Some.field-0-is at c.in-Ok-Some.ensures.one) c.in-Err-end_job.ensures.refused_once
+
+-- a write was begun at most
+pub returns-in_default-clause-own : goal.returns-in_default-clause-own
+returns-in_default-clause-own g c =
+    own_begins g.B.Naming.name c.args.worker.now.seat c.begin_flush.new.seat c.begin_flush.ensures.only

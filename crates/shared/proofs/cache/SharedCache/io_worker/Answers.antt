@@ -1,6 +1,6 @@
-use Rattle.std.proofs.Common.{◌∙◌}
+use Rattle.std.proofs.Common.{◌∙◌, rules}
 use Rattle.held.proofs.Seats.{goes_on}
-use Rattle.shared.proofs.Ending.{turn_ended}
+use Rattle.shared.proofs.Ending.{turn_ended, was_idle}
 use Rattle.shared.proofs.Owning.{only_ends_on}
 use Rattle.shared.proofs.cache.SharedCache.io_worker.Goals as goal
 
@@ -9,6 +9,10 @@ returns-then-is_over-clause-ended g c =
     turn_ended c.args.worker.now c.turns.worker c.io_turn.new.worker c.in_ok-io_turn.field-0 c.args.self.now.name
     g.B.Naming.board c.turns.invariant.ended c.turns.invariant.goes c.io_turn.ensures.goes
     c.in_ok-io_turn.ensures.idle c.in_ok-io_turn.ensures.ended
+
+pub returns-then-is_over-clause-emptied : goal.returns-then-is_over-clause-emptied
+returns-then-is_over-clause-emptied g c =
+    was_idle c.in_ok-io_turn.field-0 c.io_turn.new.worker (search rules) c.in_ok-io_turn.ensures.emptied
 
 pub turns-preserved-then-is_idle : goal.turns-preserved-then-is_idle
 turns-preserved-then-is_idle g c = record {

@@ -58,7 +58,8 @@ returns-in-Err-clause-settled g c = inl (settles_same g.B.Naming.name c.args.sea
 pub returns-in-Err-begun-clause-settled : goal.returns-in-Err-begun-clause-settled
 returns-in-Err-begun-clause-settled g c =
     inl (settles_denied g.B.Naming.name (event.SyncBegin c.args.handle c.args.first c.args.last) c.deref_mut.result.now
-    c.sync_begin-begun.new.self c.args.seat.now c.sync_begin-begun.new.seat c.in-Err-begun.denied c.in-Err-begun.ensures.denied)
+    c.sync_begin-begun.new.self c.args.seat.now c.sync_begin-begun.new.seat c.in-Err-begun.denied (λ is. is)
+    c.in-Err-begun.ensures.denied)
 
 pub returns-in-Ok-sync_turns-clause-settled : goal.returns-in-Ok-sync_turns-clause-settled
 returns-in-Ok-sync_turns-clause-settled g c =

@@ -114,12 +114,12 @@ returns-in-Failed-clause-hears g c =
 pub returns-in-Ok-wait_or-clause-settled : goal.returns-in-Ok-wait_or-clause-settled
 returns-in-Ok-wait_or-clause-settled g c =
     settles_denied g.B.Naming.name (event.SyncStep c.args.sync) c.deref_mut.result.now c.sync_step.new.self c.args.seat.now
-    c.sync_step.new.seat c.in-Err.denied c.in-Err.ensures.denied
+    c.sync_step.new.seat c.in-Err.denied (λ is. is) c.in-Err.ensures.denied
 
 pub returns-in-Err-wait_or-clause-settled : goal.returns-in-Err-wait_or-clause-settled
 returns-in-Err-wait_or-clause-settled g c =
     inl (settles_denied g.B.Naming.name (event.SyncStep c.args.sync) c.deref_mut.result.now c.sync_step.new.self
-    c.args.seat.now c.sync_step.new.seat c.in-Err.denied c.in-Err.ensures.denied)
+    c.args.seat.now c.sync_step.new.seat c.in-Err.denied (λ is. is) c.in-Err.ensures.denied)
 
 pub returns-in-Wait-clause-settled : goal.returns-in-Wait-clause-settled
 returns-in-Wait-clause-settled g c =

@@ -13,7 +13,7 @@ use Rattle.shared.proofs.Owning.{change_plain, only_missed, only_settled, only_t
 use Rattle.shared.proofs.Rooming.{final_denied, lost_denied}
 use Rattle.shared.proofs.Sparing.{change_asked}
 use Rattle.shared.proofs.Wanting.{short_missed, short_settled}
-use Rattle.shared.proofs.Settling.{change_begins, change_fills, change_noted, denied_on, missed_by, missed_denied, missed_filled, missed_on, missed_room, settles_by, settles_denied, settles_on}
+use Rattle.shared.proofs.Settling.{change_begins, change_ends, change_fills, change_noted, denied_on, missed_by, missed_denied, missed_filled, missed_on, missed_room, settles_by, settles_denied, settles_on}
 use Rattle.shared.proofs.cache.SharedCache.try_change.Goals as goal
 
 pub returns-in-Err-settle-clause-denied : goal.returns-in-Err-settle-clause-denied
@@ -134,36 +134,38 @@ returns-in-Err-fill-clause-wanting g c =
 pub returns-in-Wrote-clause-settled : goal.returns-in-Wrote-clause-settled
 returns-in-Wrote-clause-settled g c =
     settles_by g.B.Naming.name _ _ _ _ _ _ _ (λ x b. change_begins x c.args.change c.args.handle c.args.bytes.now _ b)
-    c.in-Ok.ensures.made
+    (change_ends c.args.change c.args.handle c.args.bytes.now) c.in-Ok.ensures.made
 
 pub returns-in-Wait-clause-settled : goal.returns-in-Wait-clause-settled
 returns-in-Wait-clause-settled g c =
     settles_by g.B.Naming.name _ _ _ _ _ _ _ (λ x b. change_begins x c.args.change c.args.handle c.args.bytes.now _ b)
-    c.in-Ok.ensures.made
+    (change_ends c.args.change c.args.handle c.args.bytes.now) c.in-Ok.ensures.made
 
 pub returns-in-Ok-fill-clause-settled : goal.returns-in-Ok-fill-clause-settled
 returns-in-Ok-fill-clause-settled g c =
     settles_on g.B.Naming.name c.args.seat.now c.change_by.new.seat c.fill.new.seat
     (settles_by g.B.Naming.name _ _ _ _ _ _ _ (λ x b. change_begins x c.args.change c.args.handle c.args.bytes.now _ b)
-    c.in-Ok.ensures.made) c.in-Ok-fill.ensures.settled
+    (change_ends c.args.change c.args.handle c.args.bytes.now) c.in-Ok.ensures.made) c.in-Ok-fill.ensures.settled
 
 pub returns-in-Err-fill-clause-settled : goal.returns-in-Err-fill-clause-settled
 returns-in-Err-fill-clause-settled g c =
     denied_on g.B.Naming.name c.args.seat.now c.change_by.new.seat c.fill.new.seat c.in-Err-fill.denied
     (settles_by g.B.Naming.name _ _ _ _ _ _ _ (λ x b. change_begins x c.args.change c.args.handle c.args.bytes.now _ b)
-    c.in-Ok.ensures.made) c.in-Err-fill.ensures.settled
+    (change_ends c.args.change c.args.handle c.args.bytes.now) c.in-Ok.ensures.made) c.in-Err-fill.ensures.settled
 
 pub returns-in-Ok-settle-clause-settled : goal.returns-in-Ok-settle-clause-settled
 returns-in-Ok-settle-clause-settled g c =
     settles_on g.B.Naming.name c.args.seat.now c.change_by.new.seat c.settle.new.seat
     (settles_denied g.B.Naming.name (event_of c.args.change c.args.handle c.args.bytes.now) c.deref_mut.result.now
-    c.change_by.new.state c.args.seat.now c.change_by.new.seat c.in-Err.denied c.in-Err.ensures.denied) c.in-Ok-settle.ensures.settled
+    c.change_by.new.state c.args.seat.now c.change_by.new.seat c.in-Err.denied
+    (change_ends c.args.change c.args.handle c.args.bytes.now) c.in-Err.ensures.denied) c.in-Ok-settle.ensures.settled
 
 pub returns-in-Err-settle-clause-settled : goal.returns-in-Err-settle-clause-settled
 returns-in-Err-settle-clause-settled g c =
     denied_on g.B.Naming.name c.args.seat.now c.change_by.new.seat c.settle.new.seat c.in-Err-settle.denied
     (settles_denied g.B.Naming.name (event_of c.args.change c.args.handle c.args.bytes.now) c.deref_mut.result.now
-    c.change_by.new.state c.args.seat.now c.change_by.new.seat c.in-Err.denied c.in-Err.ensures.denied) c.in-Err-settle.ensures.settled
+    c.change_by.new.state c.args.seat.now c.change_by.new.seat c.in-Err.denied
+    (change_ends c.args.change c.args.handle c.args.bytes.now) c.in-Err.ensures.denied) c.in-Err-settle.ensures.settled
 
 pub returns-in-Wrote-clause-missed : goal.returns-in-Wrote-clause-missed
 returns-in-Wrote-clause-missed g c =

@@ -114,25 +114,25 @@ returns-in-Err-fill-clause-wanting g c =
 pub returns-in-Err-clause-settled : goal.returns-in-Err-clause-settled
 returns-in-Err-clause-settled g c =
     inl (settles_denied g.B.Naming.name (event.Read c.args.handle c.args.offset (length c.args.out.now)) c.deref_mut.result.now
-    c.read.new.self c.args.seat.now c.read.new.seat c.in-Err.denied c.in-Err.ensures.denied)
+    c.read.new.self c.args.seat.now c.read.new.seat c.in-Err.denied (λ is. is) c.in-Err.ensures.denied)
 
 pub returns-in-Bytes-clause-settled : goal.returns-in-Bytes-clause-settled
 returns-in-Bytes-clause-settled g c =
-    settles_by g.B.Naming.name _ _ _ _ _ _ _ (λ x b. b) c.in-Ok.ensures.made
+    settles_by g.B.Naming.name _ _ _ _ _ _ _ (λ x b. b) (λ is. is) c.in-Ok.ensures.made
 
 pub returns-in-Wait-clause-settled : goal.returns-in-Wait-clause-settled
 returns-in-Wait-clause-settled g c =
-    settles_by g.B.Naming.name _ _ _ _ _ _ _ (λ x b. b) c.in-Ok.ensures.made
+    settles_by g.B.Naming.name _ _ _ _ _ _ _ (λ x b. b) (λ is. is) c.in-Ok.ensures.made
 
 pub returns-in-Ok-fill-clause-settled : goal.returns-in-Ok-fill-clause-settled
 returns-in-Ok-fill-clause-settled g c =
     settles_on g.B.Naming.name c.args.seat.now c.read.new.seat c.fill.new.seat
-    (settles_by g.B.Naming.name _ _ _ _ _ _ _ (λ x b. b) c.in-Ok.ensures.made) c.in-Ok-fill.ensures.settled
+    (settles_by g.B.Naming.name _ _ _ _ _ _ _ (λ x b. b) (λ is. is) c.in-Ok.ensures.made) c.in-Ok-fill.ensures.settled
 
 pub returns-in-Err-fill-clause-settled : goal.returns-in-Err-fill-clause-settled
 returns-in-Err-fill-clause-settled g c =
     denied_on g.B.Naming.name c.args.seat.now c.read.new.seat c.fill.new.seat c.in-Err-fill.denied
-    (settles_by g.B.Naming.name _ _ _ _ _ _ _ (λ x b. b) c.in-Ok.ensures.made) c.in-Err-fill.ensures.settled
+    (settles_by g.B.Naming.name _ _ _ _ _ _ _ (λ x b. b) (λ is. is) c.in-Ok.ensures.made) c.in-Err-fill.ensures.settled
 
 pub returns-in-Err-clause-missed : goal.returns-in-Err-clause-missed
 returns-in-Err-clause-missed g c =

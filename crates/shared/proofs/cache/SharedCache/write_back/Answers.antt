@@ -3,6 +3,7 @@ use Rattle.held.proofs.Seats.{goes_on, goes_same, only_same}
 use Rattle.shared.specs.Workers.{IsWriteBack}
 use Rattle.shared.proofs.Carrying.{carried_on, carries_last, none_carried, puts_none, puts_on, turn_puts}
 use Rattle.shared.proofs.Owning.{only_write_back_on}
+use Rattle.shared.proofs.Settling.{own_on, own_same}
 use Rattle.shared.proofs.cache.SharedCache.write_back.Goals as goal
 
 pub turns-init : goal.turns-init
@@ -10,6 +11,7 @@ turns-init g c = record {
   worker = c.requires.worker;
   goes = goes_same c.args.worker.now.seat c.args.worker.now.seat refl;
   only = only_same (λ e. IsWriteBack e.event) c.args.worker.now.seat c.args.worker.now.seat refl;
+  own = own_same g.B.Naming.name c.args.worker.now.seat c.args.worker.now.seat refl;
   popped = refl;
   puts = puts_none c.args.worker.now;
   carried = none_carried c.args.worker.now;
@@ -22,6 +24,8 @@ turns-preserved g c = record {
       c.flusher_turn-turn.ensures.goes;
   only = only_write_back_on c.args.worker.now.seat c.turns.worker.seat c.flusher_turn-turn.new.worker.seat
       c.turns.invariant.only c.flusher_turn-turn.ensures.only;
+  own = own_on g.B.Naming.name c.args.worker.now.seat c.turns.worker.seat c.flusher_turn-turn.new.worker.seat
+      c.turns.invariant.own c.flusher_turn-turn.ensures.own;
   popped = c.flusher_turn-turn.ensures.popped ∙ c.turns.invariant.popped;
   puts = puts_on c.args.worker.now c.turns.worker c.flusher_turn-turn.new.worker c.turns.invariant.puts
       (turn_puts g.B.Naming.sizes g.B.Naming.name c.turns.worker c.flusher_turn-turn.new.worker c.flusher_turn-turn.result
@@ -40,6 +44,8 @@ turns-preserved-after-is_idle g c = record {
       c.flusher_turn-turn.ensures.goes;
   only = only_write_back_on c.args.worker.now.seat c.turns.worker.seat c.flusher_turn-turn.new.worker.seat
       c.turns.invariant.only c.flusher_turn-turn.ensures.only;
+  own = own_on g.B.Naming.name c.args.worker.now.seat c.turns.worker.seat c.flusher_turn-turn.new.worker.seat
+      c.turns.invariant.own c.flusher_turn-turn.ensures.own;
   popped = c.flusher_turn-turn.ensures.popped ∙ c.turns.invariant.popped;
   puts = puts_on c.args.worker.now c.turns.worker c.flusher_turn-turn.new.worker c.turns.invariant.puts
       (turn_puts g.B.Naming.sizes g.B.Naming.name c.turns.worker c.flusher_turn-turn.new.worker c.flusher_turn-turn.result
@@ -58,6 +64,8 @@ turns-preserved-after-is_idle-2 g c = record {
       c.flusher_turn-turn.ensures.goes;
   only = only_write_back_on c.args.worker.now.seat c.turns.worker.seat c.flusher_turn-turn.new.worker.seat
       c.turns.invariant.only c.flusher_turn-turn.ensures.only;
+  own = own_on g.B.Naming.name c.args.worker.now.seat c.turns.worker.seat c.flusher_turn-turn.new.worker.seat
+      c.turns.invariant.own c.flusher_turn-turn.ensures.own;
   popped = c.flusher_turn-turn.ensures.popped ∙ c.turns.invariant.popped;
   puts = puts_on c.args.worker.now c.turns.worker c.flusher_turn-turn.new.worker c.turns.invariant.puts
       (turn_puts g.B.Naming.sizes g.B.Naming.name c.turns.worker c.flusher_turn-turn.new.worker c.flusher_turn-turn.result
@@ -76,6 +84,8 @@ turns-preserved-after-is_idle-3 g c = record {
       c.flusher_turn-turn.ensures.goes;
   only = only_write_back_on c.args.worker.now.seat c.turns.worker.seat c.flusher_turn-turn.new.worker.seat
       c.turns.invariant.only c.flusher_turn-turn.ensures.only;
+  own = own_on g.B.Naming.name c.args.worker.now.seat c.turns.worker.seat c.flusher_turn-turn.new.worker.seat
+      c.turns.invariant.own c.flusher_turn-turn.ensures.own;
   popped = c.flusher_turn-turn.ensures.popped ∙ c.turns.invariant.popped;
   puts = puts_on c.args.worker.now c.turns.worker c.flusher_turn-turn.new.worker c.turns.invariant.puts
       (turn_puts g.B.Naming.sizes g.B.Naming.name c.turns.worker c.flusher_turn-turn.new.worker c.flusher_turn-turn.result
@@ -92,3 +102,8 @@ returns-then-is_unended-clause-carried g c =
     carries_last g.B.Naming.sizes g.B.Naming.name c.args.worker.now c.turns.worker c.flusher_turn-turn.new.worker
     c.flusher_turn-turn.result c.turns.invariant.carried c.flusher_turn-turn.ensures.done
     (sym c.is_unended.ensures ∙ c.if-is_unended.true)
+
+pub returns-then-is_unended-clause-own : goal.returns-then-is_unended-clause-own
+returns-then-is_unended-clause-own g c =
+    own_on g.B.Naming.name c.args.worker.now.seat c.turns.worker.seat c.flusher_turn-turn.new.worker.seat
+    c.turns.invariant.own c.flusher_turn-turn.ensures.own
