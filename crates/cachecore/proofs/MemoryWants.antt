@@ -45,14 +45,8 @@ module _ (s : State) (f o n P : ℕ) (page : P ≡ s.sizes.page) where
       → HasAbsent f (o / P) ((o + n - 1) / P + 1) store ⊎ HasBare f (o / P) ((o + n - 1) / P + 1) blocks
       → wants_memory s f o n ≡ true
   wants_of store blocks files spots h = elim h [
-    | inl a ↦ wants_for a.page a.from a.before (ap (λ b. b && has_block s f a.page) (absent_page store files a))
-    | inr a ↦ wants_for a.page a.from a.before (and_second (is_cached s f a.page) _ (bare_page blocks spots a))
+    | inl a ↦ wants_for a.page a.from a.before (ap (λ b. b && has_block s f a.page)
+        (ap (λ x. is_some (map.get (slice_index_or x f no_file).pages a.page)) files ∙ a.absent))
+    | inr a ↦ wants_for a.page a.from a.before (and_second (is_cached s f a.page) _
+        (ap (λ x. is_some (map.get x (f, a.page))) spots ∙ not_true _ a.bare))
   ]
-    where
-      absent_page : (store : Store) → s.files ≡ store.files
-          → (a : HasAbsent f (o / P) ((o + n - 1) / P + 1) store) → is_cached s f a.page ≡ false
-      absent_page store files a = ap (λ x. is_some (map.get (slice_index_or x f no_file).pages a.page)) files ∙ a.absent
-
-      bare_page : (blocks : Blocks) → s.spots ≡ blocks.spots
-          → (a : HasBare f (o / P) ((o + n - 1) / P + 1) blocks) → has_block s f a.page ≡ false
-      bare_page blocks spots a = ap (λ x. is_some (map.get x (f, a.page))) spots ∙ not_true _ a.bare

@@ -1,5 +1,5 @@
 use Rattle.std.proofs.Common.{arith, inl, inr, ap, sym, subst, ◌∙◌, ◌≡◌, ◌-◌, ◌≤◌, ℕ, not, length, false}
-use Rattle.std.specs.Prelude.{is_some, IfSome, None}
+use Rattle.std.specs.Prelude.{is_some, option_map, IfSome, None}
 use Rattle.std.specs.List.{range_with_len}
 use Rattle.std.specs.FinMap as map
 use Rattle.blockmap.specs.Blocks.{Blocks, free_blocks}
@@ -100,9 +100,14 @@ returns-else-is_err-2-clause-placed t c =
 -- ---- a write that is refused
 
 -- the page has no block
-bare_next : (b : Blocks) (f next end : ℕ) → next < end → map.get b.spots (f, next) ≡ None → HasBare f next end b
-bare_next b f next end less none =
-    record { page = next; from = omega arith; before = less; bare = ap (λ o. not (is_some o)) none }
+bare_next : (b : Blocks) (f next end : ℕ) → next ≤ end → (next ≡ end → ⊥)
+    → false ≡ is_some (option_map told (map.get b.spots (f, next))) → HasBare f next end b
+bare_next b f next end order other none = record {
+  page = next;
+  from = omega arith;
+  before = ne_less next end order other;
+  bare = ap not (sym (none ∙ some_mapped told (map.get b.spots (f, next))));
+}
 
 pub returns-then-next-span-clause-wanting : goal.returns-then-next-span-clause-wanting
 returns-then-next-span-clause-wanting t c = err_map c.write.result _ _ c.write.ensures.absent (λ h. inl h)
@@ -116,21 +121,17 @@ returns-then-is_some-clause-wanting t c =
 
 pub returns-then-is_err-clause-wanting : goal.returns-then-is_err-clause-wanting
 returns-then-is_err-clause-wanting t c =
-    let none = none_of (map.get c.args.blocks.now.spots (c.args.span.file, c.args.next)) (c.if-is_some.ensures
-    ∙ ap is_some c.map.ensures ∙ some_mapped told (map.get c.args.blocks.now.spots (c.args.span.file, c.args.next))) in
-    on_err_of _ _ (inr (bare_next c.args.blocks.now c.args.span.file c.args.next c.args.span.end
-    (ne_less c.args.next c.args.span.end c.requires.order c.if-next-span.false) none))
+    inr (bare_next c.args.blocks.now c.args.span.file c.args.next c.args.span.end c.requires.order c.if-next-span.false
+    (c.if-is_some.ensures ∙ ap is_some c.map.ensures))
 
 pub returns-then-is_err-2-clause-wanting : goal.returns-then-is_err-2-clause-wanting
 returns-then-is_err-2-clause-wanting t c =
-    let none = none_of (map.get c.args.blocks.now.spots (c.args.span.file, c.args.next)) (c.if-is_some.ensures
-    ∙ ap is_some c.map.ensures ∙ some_mapped told (map.get c.args.blocks.now.spots (c.args.span.file, c.args.next))) in
-    on_err_of c.place-rest.result _ (inr (bare_next c.args.blocks.now c.args.span.file c.args.next c.args.span.end
-    (ne_less c.args.next c.args.span.end c.requires.order c.if-next-span.false) none))
+    on_err_of c.place-rest.result _
+    (inr (bare_next c.args.blocks.now c.args.span.file c.args.next c.args.span.end c.requires.order c.if-next-span.false
+    (c.if-is_some.ensures ∙ ap is_some c.map.ensures)))
 
 pub returns-else-is_err-2-clause-wanting : goal.returns-else-is_err-2-clause-wanting
 returns-else-is_err-2-clause-wanting t c =
-    let none = none_of (map.get c.args.blocks.now.spots (c.args.span.file, c.args.next)) (c.if-is_some.ensures
-    ∙ ap is_some c.map.ensures ∙ some_mapped told (map.get c.args.blocks.now.spots (c.args.span.file, c.args.next))) in
-    on_err_of c.place-rest.result _ (inr (bare_next c.args.blocks.now c.args.span.file c.args.next c.args.span.end
-    (ne_less c.args.next c.args.span.end c.requires.order c.if-next-span.false) none))
+    on_err_of c.place-rest.result _
+    (inr (bare_next c.args.blocks.now c.args.span.file c.args.next c.args.span.end c.requires.order c.if-next-span.false
+    (c.if-is_some.ensures ∙ ap is_some c.map.ensures)))

@@ -154,6 +154,6 @@ returns-in_err-place-clause-wanting c =
     let f = c.args.file in
     let o = c.args.offset in
     let n = length c.args.bytes.now in
-    on_err_of _ _ (subst (λ s. wants_memory s f o n ≡ true) (state_is c.self.view_is)
+    on_err_of c.from_residual.result _ (subst (λ s. wants_memory s f o n ≡ true) (state_is c.self.view_is)
     (wants_of (state_of a.geometry a.name a.pages.files a.handles a.blocks a.requests a.syncs) f o n c.page-page_size.result
     c.page-page_size.ensures.value a.pages a.blocks refl refl c.in_err-place.ensures.wanting))

@@ -1,4 +1,4 @@
-use Rattle.std.proofs.Common.{arith, ap, sym, refl, true, ◌∙◌, ◌≡◌, ◌+◌, ◌-◌, ◌*◌, ◌<◌, [], length}
+use Rattle.std.proofs.Common.{arith, ap, sym, refl, ℕ, ◌∙◌, ◌≡◌, ◌+◌, ◌-◌, ◌*◌, ◌<◌, ◌≤◌, [], length, false, true}
 use Rattle.std.proofs.lemmas.Bool.{or_left}
 use Rattle.std.specs.Prelude.{is_some, Some, None}
 use Rattle.std.specs.FinMap as map
@@ -8,7 +8,7 @@ use Rattle.machine.specs.Changes.{written_page}
 use Rattle.machine.specs.PageLists.{left}
 use Rattle.machine.specs.State.{Page}
 use Rattle.machine.proofs.changes.WriteLengths.{length-overlay}
-use Rattle.pagestore.specs.Ranges.{with_part}
+use Rattle.pagestore.specs.Ranges.{HasAbsent, with_part}
 use Rattle.pagestore.specs.Store.{Store, blank, is_awaited, stored_at, stored_page, the_page, with_lists, with_pages}
 use Rattle.pagestore.proofs.Overlay.{touched_above, touched_below}
 use Rattle.pagestore.proofs.PairLemmas.{on_ok, when_err, when_ok, written_part}
@@ -215,34 +215,33 @@ returns-else-is_err-clause-written t c =
 
 -- ---- a write that is refused
 
+absent_here : (s : Store) (f p end : ℕ) → p ≤ end → (p ≡ end → ⊥) → false ≡ is_some (stored_page s f p) → HasAbsent f p end s
+absent_here s f p end order other gone =
+    record { page = p; from = omega arith; before = ne_less p end order other; absent = sym gone }
+
+absent_later : (s : Store) (f p end : ℕ) → HasAbsent f (p + 1) end s → HasAbsent f p end s
+absent_later s f p end h =
+    let from = h.from in record { page = h.page; from = omega (arith, from); before = h.before; absent = h.absent }
+
 pub returns-in_err-write-clause-absent : goal.returns-in_err-write-clause-absent
 returns-in_err-write-clause-absent t c =
-    let h = c.in_err-write.ensures.absent in
-    on_err_of _ _ (record { page = h.page; from = omega (arith, h.from); before = h.before; absent = h.absent })
+    on_err_of c.from_residual.result _
+    (absent_later c.args.self.now c.args.span.file c.args.page c.args.span.end c.in_err-write.ensures.absent)
 
 pub returns-in_err-make_with-clause-absent : goal.returns-in_err-make_with-clause-absent
 returns-in_err-make_with-clause-absent t c =
-    on_err_of _ _ (record {
-      page = c.args.page;
-      from = omega arith;
-      before = ne_less c.args.page c.args.span.end c.requires.order c.if-page-span.false;
-      absent = sym c.if-is_cached.ensures;
-    })
+    on_err_of c.from_residual-in_err-make_with.result _
+    (absent_here c.args.self.now c.args.span.file c.args.page c.args.span.end c.requires.order c.if-page-span.false
+    c.if-is_cached.ensures)
 
 pub returns-then-is_err-clause-absent : goal.returns-then-is_err-clause-absent
 returns-then-is_err-clause-absent t c =
-    on_err_of c.write-rest.result _ (record {
-      page = c.args.page;
-      from = omega arith;
-      before = ne_less c.args.page c.args.span.end c.requires.order c.if-page-span.false;
-      absent = sym c.if-is_cached.ensures;
-    })
+    on_err_of c.write-rest.result _
+    (absent_here c.args.self.now c.args.span.file c.args.page c.args.span.end c.requires.order c.if-page-span.false
+    c.if-is_cached.ensures)
 
 pub returns-else-is_err-clause-absent : goal.returns-else-is_err-clause-absent
 returns-else-is_err-clause-absent t c =
-    on_err_of c.write-rest.result _ (record {
-      page = c.args.page;
-      from = omega arith;
-      before = ne_less c.args.page c.args.span.end c.requires.order c.if-page-span.false;
-      absent = sym c.if-is_cached.ensures;
-    })
+    on_err_of c.write-rest.result _
+    (absent_here c.args.self.now c.args.span.file c.args.page c.args.span.end c.requires.order c.if-page-span.false
+    c.if-is_cached.ensures)
