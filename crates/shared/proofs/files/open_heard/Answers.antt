@@ -1,8 +1,5 @@
 use Rattle.std.proofs.Common.{◌≡◌, refl, subst, sym}
-use Rattle.errboard.specs.Shown.{PassSeen}
 use Rattle.machine.specs.declared.event.Event.TheVariants as event
-use Rattle.held.specs.Entered.{Made}
-use Rattle.held.specs.Shown.{HeldSeen}
 use Rattle.shared.specs.Polls.{IsSampled}
 use Rattle.shared.proofs.Hearing.{hears_by, level_new}
 use Rattle.shared.proofs.files.open_heard.Goals as goal

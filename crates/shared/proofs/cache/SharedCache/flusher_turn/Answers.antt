@@ -3,12 +3,13 @@ use Rattle.std.specs.Prelude.{is_some}
 use Rattle.blockdev.specs.Jobs.{IsJobFor, Task}
 use Rattle.ring.specs.declared.log.Log.{Log}
 use Rattle.held.specs.Called.{Only}
+use Rattle.held.proofs.Seats.{goes_on}
 use Rattle.shared.specs.Settled.{IsBegun}
 use Rattle.shared.specs.Workers.{Begins, IsEndOf, OnBegun}
 use Rattle.shared.proofs.Carrying.{ended_carried, pushed_carried, two_made, unended_count}
 use Rattle.shared.proofs.Making.{denied_on}
 use Rattle.shared.proofs.Ending.{begins_then, ends_on}
-use Rattle.shared.proofs.Owning.{only_flushed}
+use Rattle.shared.proofs.Owning.{only_begins, only_flushed}
 use Rattle.shared.proofs.Settling.{own_begins, own_ended}
 use Rattle.shared.proofs.cache.SharedCache.flusher_turn.Goals as goal
 
@@ -100,3 +101,15 @@ returns-in-Err-end_job-clause-count g c =
 pub returns-in_default-clause-own : goal.returns-in_default-clause-own
 returns-in_default-clause-own g c =
     own_begins g.B.Naming.name c.args.worker.now.seat c.begin_flush.new.seat c.begin_flush.ensures.only
+
+pub returns-in_default-clause-only : goal.returns-in_default-clause-only
+returns-in_default-clause-only g c =
+    only_begins c.args.worker.now.seat c.begin_flush.new.seat c.begin_flush.ensures.only
+
+pub returns-in-Ok-clause-goes : goal.returns-in-Ok-clause-goes
+returns-in-Ok-clause-goes g c =
+    goes_on c.args.worker.now.seat c.begin_flush.new.seat c.end_job.new.seat c.begin_flush.ensures.goes c.end_job.ensures.goes
+
+pub returns-in-Err-end_job-clause-goes : goal.returns-in-Err-end_job-clause-goes
+returns-in-Err-end_job-clause-goes g c =
+    goes_on c.args.worker.now.seat c.begin_flush.new.seat c.end_job.new.seat c.begin_flush.ensures.goes c.end_job.ensures.goes
