@@ -1,5 +1,5 @@
 -- What the events of a call say of its seat, from its begin to its end.
-use Rattle.std.proofs.Common.{◌≡◌, true, ℕ, List, [], ◌∷◌, ◌++◌, refl, sym, subst, ◌∙◌, inl, inr}
+use Rattle.std.proofs.Common.{◌≡◌, ◌⊎◌, Bool, true, false, ℕ, List, [], ◌∷◌, ◌++◌, refl, ap, sym, subst, ◌∙◌, inl, inr}
 use Rattle.std.specs.Prelude.{IfErr, Ok, Option, Result, Some, None}
 use Rattle.std.proofs.lemmas.Result.{IfErr-weaker}
 use mathlib.Core.List.{IsPrefix}
@@ -16,7 +16,7 @@ use Rattle.pc_types.specs.declared.ids.PageIndex.{PageIndex}
 use Rattle.pc_types.specs.declared.kind.Kind.TheVariants.{Fill, Flush}
 use Rattle.pc_types.specs.declared.refusal.Refusal.{Refusal}
 use Rattle.pc_types.specs.declared.refusal.Refusal.TheVariants.{Io, TrailFull}
-use Rattle.trail.specs.Entries.{entry_of}
+use Rattle.trail.specs.Entries.{entry_of, noted}
 use Rattle.held.specs.declared.log.Slip.{Slip}
 use Rattle.held.specs.Entered.{Made}
 use Rattle.held.specs.Shown.{HeldSeen, SeatSeen}
@@ -24,10 +24,11 @@ use Rattle.held.specs.Called.{Goes}
 use Rattle.held.specs.Denials as under
 use Rattle.held.specs.Firsts.{IsFirstDenied}
 use Rattle.held.specs.declared.denied.Denied.{Denied}
-use Rattle.held.proofs.Seats.{goes_by, goes_same}
-use Rattle.shared.specs.Called.{IsForLater, Makes, Retries, is_for_now}
+use Rattle.held.proofs.Seats.{goes_by, goes_on, goes_same, only_by}
+use Rattle.shared.specs.Called.{IsForLater, Leads, Makes, OwnFirst, Retries, is_for_now}
 use Rattle.shared.specs.Denials.{DeniedBy, IsDenied, IsFullIfNoSlip, MadeOne}
 use Rattle.shared.specs.Own.{IsCallOf, IsHelp, IsRoomEvent, IsStillDenied}
+use Rattle.shared.specs.Rooms.{wants_room}
 
 -- ---- what was made
 
@@ -184,21 +185,78 @@ help_settled h p old new a b c first d q goes (inr room) =
 
 -- ---- an attempt that is to be made again
 
-pub retries_by : (e : Event) (r : Reply) (old new : HeldSeen) (a b c : SeatSeen) (slip : Slip) → IsForLater r
-    → Made e r old new a b slip → Goes b c → Retries a c e
-retries_by e r old new a b c slip later m goes =
-    (slip, r, later, makes_then a b c slip e r (makes_by e r old new a b slip m) goes)
+-- the event is entered as it is
+abbrev pub IsPlain : Event → Type 0
+IsPlain e = (r : Reply) → noted e r ≡ e
 
-pub retries_denied : (e : Event) (old new : HeldSeen) (a b c : SeatSeen) (d : Denied) → is_for_now d.refusal ≡ true
+leads_by : (e : Event) (r : Reply) (old new : HeldSeen) (a b c : SeatSeen) (slip : Slip) → IsPlain e
+    → Made e r old new a b slip → Goes b c → Leads e r a c
+leads_by e r old new a b c slip plain m goes = record {
+  at = b;
+  made = only_by (λ l. (l.event ≡ e) × (l.reply ≡ r)) e r old new a b slip (plain r, refl) m;
+  one = m.entered.count;
+  goes = goes;
+}
+
+leads_then : (e : Event) (r : Reply) (a b c : SeatSeen) → Leads e r a b → Goes b c → Leads e r a c
+leads_then e r a b c p goes = record { at = p.at; made = p.made; one = p.one; goes = goes_on p.at b c p.goes goes }
+
+pub retries_by : (e : Event) (r : Reply) (old new : HeldSeen) (a b c : SeatSeen) (slip : Slip) → IsPlain e → IsForLater r
+    → Made e r old new a b slip → Goes b c → Retries a c e
+retries_by e r old new a b c slip plain later m goes = (r, later, leads_by e r old new a b c slip plain m goes)
+
+pub retries_denied : (e : Event) (old new : HeldSeen) (a b c : SeatSeen) (d : Denied) → IsPlain e → is_for_now d.refusal ≡ true
     → under.IsDenied e old new a b d → Goes b c → Retries a c e
-retries_denied e old new a b c d later q goes = go d.refusal d.slip later q
+retries_denied e old new a b c d plain later q goes = go d.refusal d.slip later q
   where
     never : is_for_now TrailFull ≡ true → Retries a c e
     never x = absurd cc
 
     go : (r : Refusal) (o : Option Slip) → is_for_now r ≡ true → under.DeniedBy e old new a b r o → Retries a c e
     go r None later q = never (subst (λ (x : Refusal). is_for_now x ≡ true) q.0 later)
-    go r (Some slip) later q = retries_by e (reply.Refused r) old new a b c slip later q goes
+    go r (Some slip) later q = retries_by e (reply.Refused r) old new a b c slip plain later q goes
+
+-- no try before, or such as have to be made again
+pub retries_on : (e : Event) (a b c : SeatSeen) → (b ≡ a) ⊎ Retries a b e → Retries b c e → Goes b c → (c ≡ a) ⊎ Retries a c e
+retries_on e a b c (inl same) q goes = inr (subst (λ (s : SeatSeen). Retries s c e) same q)
+retries_on e a b c (inr p) q goes = inr (p.0, p.1, leads_then e p.0 a b c p.2 goes)
+
+-- ---- the first event of a call
+
+pub first_same : (e : Event) (a b : SeatSeen) → b ≡ a → OwnFirst e a b
+first_same e a b same = record { is = inl (ap (λ (s : SeatSeen). s.count) same) }
+
+-- the event, and no other
+pub first_made : (e : Event) (r : Reply) (old new : HeldSeen) (a b : SeatSeen) (slip : Slip) → IsPlain e
+    → Made e r old new a b slip → OwnFirst e a b
+first_made e r old new a b slip plain m =
+    record { is = inr (r, leads_by e r old new a b b slip plain m (goes_same b b refl), inr m.entered.count) }
+
+pub first_again : (e : Event) (a b : SeatSeen) → Retries a b e → OwnFirst e a b
+first_again e a b p = record { is = inr (p.0, p.2, inl p.1) }
+
+pub first_denied : (e : Event) (old new : HeldSeen) (a b : SeatSeen) (d : Denied) → IsPlain e → under.IsDenied e old new a b d
+    → OwnFirst e a b
+first_denied e old new a b d plain q = go d.refusal d.slip q
+  where
+    go : (r : Refusal) (o : Option Slip) → under.DeniedBy e old new a b r o → OwnFirst e a b
+    go r None q = first_same e a b q.2.1
+    go r (Some slip) q = first_made e (reply.Refused r) old new a b slip plain q
+
+-- a refusal, and what came of it: nothing more, but where room might have spared it
+pub first_settled : (e : Event) (old new : HeldSeen) (a b c : SeatSeen) (d : Denied) → IsPlain e
+    → (wants_room d.refusal ≡ true → is_for_now d.refusal ≡ true) → (wants_room d.refusal ≡ false → c ≡ b)
+    → under.IsDenied e old new a b d → Goes b c → OwnFirst e a c
+first_settled e old new a b c d plain passes quiet q goes = go (wants_room d.refusal) refl
+  where
+    go : (w : Bool) → wants_room d.refusal ≡ w → OwnFirst e a c
+    go true is = first_again e a c (retries_denied e old new a b c d plain (passes is) q goes)
+    go false is = subst (OwnFirst e a) (sym (quiet is)) (first_denied e old new a b d plain q)
+
+-- after tries that have to be made again
+pub first_on : (e : Event) (a b c : SeatSeen) → (b ≡ a) ⊎ Retries a b e → OwnFirst e b c → Goes b c → OwnFirst e a c
+first_on e a b c (inl same) q goes = subst (λ (s : SeatSeen). OwnFirst e s c) same q
+first_on e a b c (inr p) q goes = record { is = inr (p.0, leads_then e p.0 a b c p.2 goes, inl p.1) }
 
 -- what is answered was answered by the event, refusals too
 pub event_denied : {A : Type 0} (result : Result A Denied) (e : Event) (old new : HeldSeen) (before after : SeatSeen)

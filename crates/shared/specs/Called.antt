@@ -1,5 +1,5 @@
 -- What a call makes, as its caller's seat has seen it.
-use Rattle.std.specs.Prelude.{◌≡◌, ◌&&◌, Bool, true, false, ◌++◌, ◌∷◌, [], List, length}
+use Rattle.std.specs.Prelude.{◌≡◌, ◌⊎◌, ◌+◌, ◌&&◌, Bool, true, false, ◌++◌, ◌∷◌, [], List, length}
 use mathlib.Core.List.{IsPrefix}
 use Rattle.cachecore.specs.Wants.{holds_cut}
 use Rattle.cachecore.specs.Wants.{is_busy}
@@ -13,6 +13,7 @@ use Rattle.trail.specs.declared.entry.Entry.{Entry}
 use Rattle.trail.specs.Entries.{entry_of}
 use Rattle.held.specs.declared.log.Slip.{Slip}
 use Rattle.held.specs.Shown.{SeatSeen}
+use Rattle.held.specs.Called.{Goes, Only}
 
 -- the seat has seen the slip's entry. It is the seat's own, of this event and this reply, and stands past all that the
 -- seat had seen before the call
@@ -42,6 +43,19 @@ IsForLater (reply.Wait p) = Unit {0}
 IsForLater (reply.Refused why) = is_for_now why ≡ true
 IsForLater r = ⊥
 
--- the event was made by the seat, and has to be tried again
+-- the first event that the seat made since is this one, with this reply
+pub record Leads (e : Event) (r : Reply) (before after : SeatSeen) : Type 0 where
+  pub at : SeatSeen
+  pub made : Only (λ l. (l.event ≡ e) × (l.reply ≡ r)) before at
+  pub one : at.count ≡ before.count + 1
+  pub goes : Goes at after
+
+-- it is, and it has to be tried again
 abbrev pub Retries : SeatSeen → SeatSeen → Event → Type 0
-Retries before after e = (slip : Slip) × (r : Reply) × IsForLater r × Makes before after slip e r
+Retries before after e = (r : Reply) × IsForLater r × Leads e r before after
+
+-- the seat made no event, or this one first; and where that needed no other try, no other event
+pub record OwnFirst (e : Event) (before after : SeatSeen) : Type 0 where
+  pub is :
+      (after.count ≡ before.count)
+      ⊎ ((r : Reply) × Leads e r before after × (IsForLater r ⊎ (after.count ≡ before.count + 1)))

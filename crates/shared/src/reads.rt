@@ -6,7 +6,7 @@ ghost use Rattle.machine.specs.declared.event.Reply.TheVariants as reply;
 ghost use Rattle.pc_types.specs.declared.limits.TheConstants.{MAX_FILE_SIZE};
 ghost use Rattle.pc_types.specs.declared.refusal.Refusal.TheVariants.{BadHandle, Stranger};
 ghost use Rattle.held.specs.Called.{Goes, Once, Only};
-ghost use Rattle.shared.specs.Called.{Makes, Retries};
+ghost use Rattle.shared.specs.Called.{Makes, OwnFirst, Retries};
 ghost use Rattle.shared.specs.Denials.{IsDenied};
 ghost use Rattle.shared.specs.Rooms.{IsFinal, IsLost, IsShortFor};
 ghost use Rattle.shared.specs.Own.{IsCallOf, IsTry, count_in};
@@ -49,6 +49,7 @@ impl<B: Naming, D: BlockDevice, T: Trail> SharedCache<B, D, T> {
         ensures wanting { IfErr result (IsShortFor (event.Read handle.old.number handle.old.cursor (length out.old)) seat.old seat.new) }
         ensures settled { SettlesIn self.now.name seat.old seat.new result }
         ensures missed { FillsMissed (event.Read handle.old.number handle.old.cursor (length out.old)) seat.old seat.new }
+        ensures first { OwnFirst (event.Read handle.old.number handle.old.cursor (length out.old)) seat.old seat.new }
     {
         match self.pread(rt, seat, handle, handle.cursor, out) {
             Ok((count, slip)) => {
@@ -61,7 +62,7 @@ impl<B: Naming, D: BlockDevice, T: Trail> SharedCache<B, D, T> {
 
     /// Reads the bytes from `offset` on into the front of `out`, and answers how many: as many as it takes, and none past the end of
     /// the file. A read touches 16 pages at most.
-    #[tactic(auto, using(held::proofs::Seats::goes_by, held::proofs::Seats::goes_on, held::proofs::Seats::goes_same, crate::proofs::Making::goes_denied, crate::proofs::Making::makes_on, crate::proofs::Making::call_on, held::proofs::Seats::only_same, crate::proofs::Owning::only_try_on, crate::proofs::Owning::once_try_on, crate::proofs::Settling::settles_same))]
+    #[tactic(auto, using(held::proofs::Seats::goes_by, held::proofs::Seats::goes_on, held::proofs::Seats::goes_same, crate::proofs::Making::goes_denied, crate::proofs::Making::makes_on, crate::proofs::Making::call_on, held::proofs::Seats::only_same, crate::proofs::Owning::only_try_on, crate::proofs::Owning::once_try_on, crate::proofs::Settling::settles_same, crate::proofs::Making::first_same))]
     pub fn pread<R: Wait>(
         &self,
         rt: &R,
@@ -86,6 +87,7 @@ impl<B: Naming, D: BlockDevice, T: Trail> SharedCache<B, D, T> {
         ensures wanting { IfErr result (IsShortFor (event.Read handle.now.number offset (length out.old)) seat.old seat.new) }
         ensures settled { SettlesIn self.now.name seat.old seat.new result }
         ensures missed { FillsMissed (event.Read handle.now.number offset (length out.old)) seat.old seat.new }
+        ensures first { OwnFirst (event.Read handle.now.number offset (length out.old)) seat.old seat.new }
     {
         if let Err(refusal) = self.admits(seat, handle) {
             return Err(without_slip(refusal));
@@ -129,6 +131,7 @@ impl<B: Naming, D: BlockDevice, T: Trail> SharedCache<B, D, T> {
         ensures wanting { IfErr result (IsShortFor (event.Read handle offset (length out.old)) seat.old seat.new) }
         ensures settled { SettlesIn B.name seat.old seat.new result }
         ensures missed { FillsMissed (event.Read handle offset (length out.old)) seat.old seat.new }
+        ensures first { OwnFirst (event.Read handle offset (length out.old)) seat.old seat.new }
     {
         let most = out.len() as u64;
         let mut guard = self.state.lock(rt);

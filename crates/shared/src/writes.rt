@@ -1,6 +1,6 @@
 //! Writes and truncations.
 
-ghost use Rattle.std.specs.Prelude.{◌≡◌, ◌≢◌, ◌⊎◌, ◌+◌, Err, IfErr, IfNone, IfOk, IfSome, IsTrue, None, Ok, length, true};
+ghost use Rattle.std.specs.Prelude.{◌≡◌, ◌≢◌, ◌⊎◌, ◌+◌, Err, IfErr, IfNone, IfOk, IfSome, IsTrue, None, Ok, false, length, true};
 ghost use Rattle.std.specs.Sync.Mutex.{mutex_guard_value};
 ghost use Rattle.cachecore.specs.Replies.{was_truncated};
 ghost use Rattle.held.specs.Entered.{Made};
@@ -11,7 +11,7 @@ ghost use Rattle.pc_types.specs.declared.refusal.Refusal.TheVariants.{BadHandle,
 ghost use Rattle.trail.specs.History.{After};
 ghost use Rattle.held.specs.Called.{Goes, Once, Only};
 ghost use Rattle.held.specs.Denials as under;
-ghost use Rattle.shared.specs.Called.{Makes, Retries, is_for_now};
+ghost use Rattle.shared.specs.Called.{Makes, OwnFirst, Retries, is_for_now};
 ghost use Rattle.shared.specs.Changes.{IsWhole, IsWholeIn, cursor_after, event_of, over, reply_of, write_event};
 ghost use Rattle.shared.specs.Denials.{IsDenied};
 ghost use Rattle.shared.specs.Rooms.{IsCrammed, IsFinal, IsFinalOr, IsLost, IsShortFor, IsUnwritten, wants_room};
@@ -52,7 +52,7 @@ pub(crate) enum Change {
 impl<B: Naming, D: BlockDevice, T: Trail> SharedCache<B, D, T> {
     /// Writes the bytes into the file from `offset` on, all of them, also by an appending handle. A gap before them reads as zeros. A
     /// write touches 16 pages at most.
-    #[tactic(auto, using(held::proofs::Seats::only_same, crate::proofs::Settling::settles_same))]
+    #[tactic(auto, using(held::proofs::Seats::only_same, crate::proofs::Settling::settles_same, crate::proofs::Making::first_same))]
     pub fn pwrite<R: Wait>(
         &self,
         rt: &R,
@@ -75,6 +75,7 @@ impl<B: Naming, D: BlockDevice, T: Trail> SharedCache<B, D, T> {
         ensures wanting { IfErr result (IsShortFor (event.Write handle.now.number offset bytes.now) seat.old seat.new) }
         ensures settled { SettlesIn self.now.name seat.old seat.new result }
         ensures missed { FillsMissed (event.Write handle.now.number offset bytes.now) seat.old seat.new }
+        ensures first { OwnFirst (event.Write handle.now.number offset bytes.now) seat.old seat.new }
     {
         if let Err(refusal) = self.admits(seat, handle) {
             return Err(without_slip(refusal));
@@ -83,7 +84,7 @@ impl<B: Naming, D: BlockDevice, T: Trail> SharedCache<B, D, T> {
     }
 
     /// Writes at the cursor, or with an appending handle at the end of the file, all of the bytes, and puts the cursor behind them.
-    #[tactic(auto, using(held::proofs::Seats::only_same, crate::proofs::Settling::settles_same))]
+    #[tactic(auto, using(held::proofs::Seats::only_same, crate::proofs::Settling::settles_same, crate::proofs::Making::first_same))]
     pub fn write<R: Wait>(
         &self,
         rt: &R,
@@ -106,6 +107,7 @@ impl<B: Naming, D: BlockDevice, T: Trail> SharedCache<B, D, T> {
         ensures wanting { IfErr result (IsShortFor (write_event handle.old bytes.now) seat.old seat.new) }
         ensures settled { SettlesIn self.now.name seat.old seat.new result }
         ensures missed { FillsMissed (write_event handle.old bytes.now) seat.old seat.new }
+        ensures first { OwnFirst (write_event handle.old bytes.now) seat.old seat.new }
     {
         if let Err(refusal) = self.admits(seat, handle) {
             return Err(without_slip(refusal));
@@ -125,7 +127,7 @@ impl<B: Naming, D: BlockDevice, T: Trail> SharedCache<B, D, T> {
     }
 
     /// Makes the file as long as this, in bytes. A longer one gains zeros. The cursor stays.
-    #[tactic(auto, using(held::proofs::Seats::only_same, crate::proofs::Settling::settles_same))]
+    #[tactic(auto, using(held::proofs::Seats::only_same, crate::proofs::Settling::settles_same, crate::proofs::Making::first_same))]
     pub fn truncate<R: Wait>(
         &self,
         rt: &R,
@@ -146,6 +148,7 @@ impl<B: Naming, D: BlockDevice, T: Trail> SharedCache<B, D, T> {
         ensures wanting { IfErr result (IsShortFor (event.Truncate handle.now.number size) seat.old seat.new) }
         ensures settled { SettlesIn self.now.name seat.old seat.new result }
         ensures missed { FillsMissed (event.Truncate handle.now.number size) seat.old seat.new }
+        ensures first { OwnFirst (event.Truncate handle.now.number size) seat.old seat.new }
     {
         if let Err(refusal) = self.admits(seat, handle) {
             return Err(without_slip(refusal));
@@ -178,6 +181,7 @@ impl<B: Naming, D: BlockDevice, T: Trail> SharedCache<B, D, T> {
         ensures wanting { IfErr result (IsShortFor (event_of change handle bytes.now) seat.old seat.new) }
         ensures settled { SettlesIn B.name seat.old seat.new result }
         ensures missed { FillsMissed (event_of change handle bytes.now) seat.old seat.new }
+        ensures first { OwnFirst (event_of change handle bytes.now) seat.old seat.new }
     {
         'attempts: for _ in rt.forever() {
             match self.try_change(rt, seat, handle, change, bytes) {
@@ -217,6 +221,7 @@ impl<B: Naming, D: BlockDevice, T: Trail> SharedCache<B, D, T> {
         ensures wanting { IfErr result (IsShortFor (event_of change handle bytes.now) seat.old seat.new) }
         ensures settled { SettlesIn B.name seat.old seat.new result }
         ensures missed { FillsMissed (event_of change handle bytes.now) seat.old seat.new }
+        ensures first { OwnFirst (event_of change handle bytes.now) seat.old seat.new }
     {
         let mut guard = self.state.lock(rt);
         let span = span_of(&guard, handle, change, bytes);
@@ -261,6 +266,7 @@ impl<B: Naming, D: BlockDevice, T: Trail> SharedCache<B, D, T> {
         ensures denied { IfErr result (IsStillDenied denied seat.old seat.new) }
         ensures passing { IfOk result (λ _. is_for_now denied.refusal ≡ true) }
         ensures other { IfErr result (λ d. (d ≡ denied) ⊎ (wants_room denied.refusal ≡ true)) }
+        ensures quiet { wants_room denied.refusal ≡ false → seat.new ≡ seat.old }
         ensures crammed { IfErr result (λ d. wants_room d.refusal ≡ true → (d ≡ denied) × IsCrammed d.refusal (mutex_guard_value guard.entry).core.state × IsUnwritten (mutex_guard_value guard.entry).core.state seat.old seat.new) }
         ensures legal { After B.sizes B.name (mutex_guard_value guard.entry).log.history (mutex_guard_value guard.entry).core.state }
         ensures within { IsTrue (is_geometry B.sizes) }

@@ -1,11 +1,11 @@
-use Rattle.std.proofs.Common.{refl}
+use Rattle.std.proofs.Common.{inl, refl}
 use Rattle.held.proofs.Seats.{goes_on, goes_same, only_same}
 use Rattle.shared.specs.Changes.{event_of}
 use Rattle.shared.specs.Own.{IsTry}
 use Rattle.shared.proofs.Owning.{once_try_on, only_try_on}
 use Rattle.shared.proofs.Wanting.{short_on}
 use Rattle.shared.proofs.Settling.{denied_on, missed_on, missed_same, settles_on, settles_same}
-use Rattle.shared.proofs.Making.{call_on}
+use Rattle.shared.proofs.Making.{call_on, first_on, retries_on}
 use Rattle.shared.proofs.cache.SharedCache.change.Goals as goal
 
 pub attempts-init : goal.attempts-init
@@ -13,6 +13,7 @@ attempts-init g c = record {
   goes = goes_same c.args.seat.now c.args.seat.now refl;
   tried = only_same (IsTry c.args.handle (event_of c.args.change c.args.handle c.args.bytes.now)) c.args.seat.now c.args.seat.now
       refl;
+  first = inl refl;
   settled = settles_same g.B.Naming.name c.args.seat.now c.args.seat.now refl;
   missed = missed_same (event_of c.args.change c.args.handle c.args.bytes.now) c.args.seat.now c.args.seat.now refl;
 }
@@ -27,6 +28,8 @@ attempts-preserved g c = record {
   goes = goes_on c.args.seat.now c.attempts.seat c.try_change.new.seat c.attempts.invariant.goes c.try_change.ensures.goes;
   tried = only_try_on c.args.handle (event_of c.args.change c.args.handle c.args.bytes.now) c.args.seat.now c.attempts.seat
       c.try_change.new.seat c.attempts.invariant.tried (rw c.in-Ok-None.field-0-is at c.in-Ok-None.ensures.tried);
+  first = retries_on (event_of c.args.change c.args.handle c.args.bytes.now) c.args.seat.now c.attempts.seat c.try_change.new.seat
+      c.attempts.invariant.first (rw c.in-Ok-None.field-0-is at c.in-Ok-None.ensures.again) c.try_change.ensures.goes;
   settled = settles_on g.B.Naming.name c.args.seat.now c.attempts.seat c.try_change.new.seat c.attempts.invariant.settled
       c.in-Ok-None.ensures.settled;
   missed = missed_on (event_of c.args.change c.args.handle c.args.bytes.now) c.args.seat.now c.attempts.seat
@@ -62,3 +65,13 @@ pub returns-in-Err-clause-denied : goal.returns-in-Err-clause-denied
 returns-in-Err-clause-denied g c =
     call_on c.args.handle (event_of c.args.change c.args.handle c.args.bytes.now) c.args.seat.now c.attempts.seat
     c.try_change.new.seat c.in-Err.denied c.attempts.invariant.goes c.in-Err.ensures.denied
+
+pub returns-in-Ok-Some-clause-first : goal.returns-in-Ok-Some-clause-first
+returns-in-Ok-Some-clause-first g c =
+    first_on (event_of c.args.change c.args.handle c.args.bytes.now) c.args.seat.now c.attempts.seat c.try_change.new.seat
+    c.attempts.invariant.first c.try_change.ensures.first c.try_change.ensures.goes
+
+pub returns-in-Err-clause-first : goal.returns-in-Err-clause-first
+returns-in-Err-clause-first g c =
+    first_on (event_of c.args.change c.args.handle c.args.bytes.now) c.args.seat.now c.attempts.seat c.try_change.new.seat
+    c.attempts.invariant.first c.try_change.ensures.first c.try_change.ensures.goes

@@ -13,7 +13,8 @@ use Rattle.shared.specs.Settled.{FillsMissed, LeavesOne, Settles}
 use Rattle.shared.proofs.Settling.{denied_on, missed_on, settles_on}
 use Rattle.shared.specs.Denials.{IsDenied}
 use Rattle.shared.specs.Own.{IsCallOf}
-use Rattle.shared.proofs.Making.{call_on}
+use Rattle.shared.specs.Called.{OwnFirst, Retries}
+use Rattle.shared.proofs.Making.{call_on, first_on, retries_on}
 use Rattle.shared.proofs.cache.SharedCache.pread.Goals as goal
 
 pub returns-in-Ok-Some-clause-once : goal.returns-in-Ok-Some-clause-once
@@ -38,6 +39,14 @@ attempts-preserved g c =
           c.try_read.new.seat) (ap (λ (x : HandleSeen). x.number) c.handle.view_is)
           (subst (λ (l : List ℕ). Only (IsTry c.handle.inside.number (event.Read c.handle.inside.number c.args.offset (length l)))
           c.attempts.seat c.try_read.new.seat) c.attempts.invariant.out (rw c.in-Ok-None.field-0-is at c.in-Ok-None.ensures.tried)));
+      first =
+          retries_on (event.Read h c.args.offset (length c.args.out.now)) c.args.seat.now c.attempts.seat c.try_read.new.seat
+          c.attempts.invariant.first
+          (subst (λ (n : HandleId). Retries c.attempts.seat c.try_read.new.seat (event.Read n c.args.offset (length c.args.out.now)))
+          (ap (λ (x : HandleSeen). x.number) c.handle.view_is)
+          (subst (λ (l : List ℕ). Retries c.attempts.seat c.try_read.new.seat (event.Read c.handle.inside.number c.args.offset (length l)))
+          c.attempts.invariant.out (rw c.in-Ok-None.field-0-is at c.in-Ok-None.ensures.again)))
+          c.try_read.ensures.goes;
       settled = settles_on g.B.Naming.name c.args.seat.now c.attempts.seat c.try_read.new.seat c.attempts.invariant.settled
           c.in-Ok-None.ensures.settled;
       missed =
@@ -108,3 +117,23 @@ returns-in-Err-try_read-clause-denied g c own here =
     c.try_read.new.seat c.in-Err-try_read.denied) (ap (λ (x : HandleSeen). x.number) c.handle.view_is)
     (subst (λ (l : List ℕ). IsDenied (IsCallOf c.handle.inside.number (event.Read c.handle.inside.number c.args.offset (length l)))
     c.attempts.seat c.try_read.new.seat c.in-Err-try_read.denied) c.attempts.invariant.out c.in-Err-try_read.ensures.denied))
+
+pub returns-in-Ok-Some-clause-first : goal.returns-in-Ok-Some-clause-first
+returns-in-Ok-Some-clause-first g c =
+    let h = c.args.handle.now.number in
+    first_on (event.Read h c.args.offset (length c.args.out.now)) c.args.seat.now c.attempts.seat c.try_read.new.seat
+    c.attempts.invariant.first
+    (subst (λ (n : HandleId). OwnFirst (event.Read n c.args.offset (length c.args.out.now)) c.attempts.seat c.try_read.new.seat)
+    (ap (λ (x : HandleSeen). x.number) c.handle.view_is)
+    (subst (λ (l : List ℕ). OwnFirst (event.Read c.handle.inside.number c.args.offset (length l)) c.attempts.seat
+    c.try_read.new.seat) c.attempts.invariant.out c.try_read.ensures.first)) c.try_read.ensures.goes
+
+pub returns-in-Err-try_read-clause-first : goal.returns-in-Err-try_read-clause-first
+returns-in-Err-try_read-clause-first g c =
+    let h = c.args.handle.now.number in
+    first_on (event.Read h c.args.offset (length c.args.out.now)) c.args.seat.now c.attempts.seat c.try_read.new.seat
+    c.attempts.invariant.first
+    (subst (λ (n : HandleId). OwnFirst (event.Read n c.args.offset (length c.args.out.now)) c.attempts.seat c.try_read.new.seat)
+    (ap (λ (x : HandleSeen). x.number) c.handle.view_is)
+    (subst (λ (l : List ℕ). OwnFirst (event.Read c.handle.inside.number c.args.offset (length l)) c.attempts.seat
+    c.try_read.new.seat) c.attempts.invariant.out c.try_read.ensures.first)) c.try_read.ensures.goes

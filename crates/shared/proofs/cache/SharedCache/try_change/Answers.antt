@@ -8,9 +8,9 @@ use Rattle.shared.specs.Called.{Makes}
 use Rattle.shared.specs.Changes.{IsWholeIn, event_of, reply_of}
 use Rattle.shared.specs.Denials.{IsDenied}
 use Rattle.shared.specs.Own.{IsHelp, IsUndone}
-use Rattle.shared.proofs.Making.{call_help, call_settled, goes_denied, makes_by, retries_by}
+use Rattle.shared.proofs.Making.{call_help, call_settled, first_again, first_made, first_settled, goes_denied, makes_by, retries_by, retries_denied}
 use Rattle.shared.proofs.Owning.{change_plain, only_missed, only_settled, only_try}
-use Rattle.shared.proofs.Rooming.{final_denied, lost_denied}
+use Rattle.shared.proofs.Rooming.{final_denied, lost_denied, wants_pass}
 use Rattle.shared.proofs.Sparing.{change_asked}
 use Rattle.shared.proofs.Wanting.{short_missed, short_settled}
 use Rattle.shared.proofs.Settling.{change_begins, change_ends, change_fills, change_noted, denied_on, missed_by, missed_denied, missed_filled, missed_on, missed_room, settles_by, settles_denied, settles_on}
@@ -55,7 +55,7 @@ pub returns-in-Wait-clause-again : goal.returns-in-Wait-clause-again
 returns-in-Wait-clause-again g c =
     retries_by (event_of c.args.change c.args.handle c.args.bytes.now) (reply.Wait c.in-Wait.field-0)
     c.deref_mut.result.now c.change_by.new.state c.args.seat.now c.change_by.new.seat c.change_by.new.seat
-    c.in-Ok.made.1 tt
+    c.in-Ok.made.1 (change_noted c.args.change c.args.handle c.args.bytes.now) tt
     (subst (λ (x : WriteAnswer). Made (event_of c.args.change c.args.handle c.args.bytes.now) (reply_of c.args.change x)
     c.deref_mut.result.now c.change_by.new.state c.args.seat.now c.change_by.new.seat c.in-Ok.made.1) c.in-Wait.is
     c.in-Ok.ensures.made) (goes_same c.change_by.new.seat c.change_by.new.seat refl)
@@ -64,7 +64,7 @@ pub returns-in-Ok-fill-clause-again : goal.returns-in-Ok-fill-clause-again
 returns-in-Ok-fill-clause-again g c =
     retries_by (event_of c.args.change c.args.handle c.args.bytes.now) (reply.Miss c.in-Miss.page)
     c.deref_mut.result.now c.change_by.new.state c.args.seat.now c.change_by.new.seat c.fill.new.seat
-    c.in-Ok.made.1 tt
+    c.in-Ok.made.1 (change_noted c.args.change c.args.handle c.args.bytes.now) tt
     (subst (λ (x : WriteAnswer). Made (event_of c.args.change c.args.handle c.args.bytes.now) (reply_of c.args.change x)
     c.deref_mut.result.now c.change_by.new.state c.args.seat.now c.change_by.new.seat c.in-Ok.made.1) c.in-Miss.is
     c.in-Ok.ensures.made) c.fill.ensures.goes
@@ -210,3 +210,53 @@ returns-in-Err-settle-clause-missed g c =
     (missed_denied own own c.deref_mut.result.now c.change_by.new.state c.args.seat.now c.change_by.new.seat c.in-Err.denied
     (λ p r f. change_fills p c.args.change c.args.handle c.args.bytes.now r f) c.in-Err.ensures.denied)
     (missed_room own c.change_by.new.seat c.settle.new.seat c.settle.ensures.only)
+
+pub returns-in-Ok-settle-clause-again : goal.returns-in-Ok-settle-clause-again
+returns-in-Ok-settle-clause-again g c =
+    retries_denied (event_of c.args.change c.args.handle c.args.bytes.now) c.deref_mut.result.now c.change_by.new.state
+    c.args.seat.now c.change_by.new.seat c.settle.new.seat c.in-Err.denied
+    (change_noted c.args.change c.args.handle c.args.bytes.now) c.in-Ok-settle.ensures.passing c.in-Err.ensures.denied
+    c.settle.ensures.goes
+
+-- its own event came first
+pub returns-in-Wrote-clause-first : goal.returns-in-Wrote-clause-first
+returns-in-Wrote-clause-first g c =
+    first_made _ _ _ _ _ _ _ (change_noted c.args.change c.args.handle c.args.bytes.now) c.in-Ok.ensures.made
+
+pub returns-in-Wait-clause-first : goal.returns-in-Wait-clause-first
+returns-in-Wait-clause-first g c =
+    first_made _ _ _ _ _ _ _ (change_noted c.args.change c.args.handle c.args.bytes.now) c.in-Ok.ensures.made
+
+pub returns-in-Ok-fill-clause-first : goal.returns-in-Ok-fill-clause-first
+returns-in-Ok-fill-clause-first g c =
+    first_again (event_of c.args.change c.args.handle c.args.bytes.now) c.args.seat.now c.fill.new.seat
+    (retries_by (event_of c.args.change c.args.handle c.args.bytes.now) (reply.Miss c.in-Miss.page)
+    c.deref_mut.result.now c.change_by.new.state c.args.seat.now c.change_by.new.seat c.fill.new.seat
+    c.in-Ok.made.1 (change_noted c.args.change c.args.handle c.args.bytes.now) tt
+    (subst (λ (x : WriteAnswer). Made (event_of c.args.change c.args.handle c.args.bytes.now) (reply_of c.args.change x)
+    c.deref_mut.result.now c.change_by.new.state c.args.seat.now c.change_by.new.seat c.in-Ok.made.1) c.in-Miss.is
+    c.in-Ok.ensures.made) c.fill.ensures.goes)
+
+pub returns-in-Ok-settle-clause-first : goal.returns-in-Ok-settle-clause-first
+returns-in-Ok-settle-clause-first g c =
+    first_settled (event_of c.args.change c.args.handle c.args.bytes.now) c.deref_mut.result.now c.change_by.new.state
+    c.args.seat.now c.change_by.new.seat c.settle.new.seat c.in-Err.denied
+    (change_noted c.args.change c.args.handle c.args.bytes.now) (wants_pass c.in-Err.denied.refusal) c.settle.ensures.quiet
+    c.in-Err.ensures.denied c.settle.ensures.goes
+
+pub returns-in-Err-fill-clause-first : goal.returns-in-Err-fill-clause-first
+returns-in-Err-fill-clause-first g c =
+    first_again (event_of c.args.change c.args.handle c.args.bytes.now) c.args.seat.now c.fill.new.seat
+    (retries_by (event_of c.args.change c.args.handle c.args.bytes.now) (reply.Miss c.in-Miss.page)
+    c.deref_mut.result.now c.change_by.new.state c.args.seat.now c.change_by.new.seat c.fill.new.seat
+    c.in-Ok.made.1 (change_noted c.args.change c.args.handle c.args.bytes.now) tt
+    (subst (λ (x : WriteAnswer). Made (event_of c.args.change c.args.handle c.args.bytes.now) (reply_of c.args.change x)
+    c.deref_mut.result.now c.change_by.new.state c.args.seat.now c.change_by.new.seat c.in-Ok.made.1) c.in-Miss.is
+    c.in-Ok.ensures.made) c.fill.ensures.goes)
+
+pub returns-in-Err-settle-clause-first : goal.returns-in-Err-settle-clause-first
+returns-in-Err-settle-clause-first g c =
+    first_settled (event_of c.args.change c.args.handle c.args.bytes.now) c.deref_mut.result.now c.change_by.new.state
+    c.args.seat.now c.change_by.new.seat c.settle.new.seat c.in-Err.denied
+    (change_noted c.args.change c.args.handle c.args.bytes.now) (wants_pass c.in-Err.denied.refusal) c.settle.ensures.quiet
+    c.in-Err.ensures.denied c.settle.ensures.goes

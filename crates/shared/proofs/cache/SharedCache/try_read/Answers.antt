@@ -9,7 +9,7 @@ use Rattle.trail.specs.History.{After}
 use Rattle.machine.specs.declared.event.Reply.TheVariants as reply
 use Rattle.held.proofs.Seats.{goes_by, goes_same, once_by}
 use Rattle.shared.specs.Called.{Makes}
-use Rattle.shared.proofs.Making.{call_first, call_help, makes_by, retries_by}
+use Rattle.shared.proofs.Making.{call_first, call_help, first_again, first_denied, first_made, makes_by, retries_by}
 use Rattle.shared.specs.Own.{IsUndone}
 use Rattle.shared.proofs.Owning.{only_missed, only_try, only_try_denied}
 use Rattle.shared.proofs.Sizes.{read_counted}
@@ -38,7 +38,7 @@ returns-in-Err-clause-denied g c =
 pub returns-in-Wait-clause-again : goal.returns-in-Wait-clause-again
 returns-in-Wait-clause-again g c =
     retries_by (event.Read c.args.handle c.args.offset (length c.args.out.now)) (reply.Wait c.in-Wait.field-0)
-    c.deref_mut.result.now c.read.new.self c.args.seat.now c.read.new.seat c.read.new.seat c.in-Ok.made.1 tt
+    c.deref_mut.result.now c.read.new.self c.args.seat.now c.read.new.seat c.read.new.seat c.in-Ok.made.1 (λ r. refl) tt
     (subst (λ (x : ReadAnswer). Made (event.Read c.args.handle c.args.offset (length c.args.out.now))
     (was_read (Ok x) c.read.new.out) c.deref_mut.result.now c.read.new.self c.args.seat.now c.read.new.seat
     c.in-Ok.made.1) c.in-Wait.is c.in-Ok.ensures.made) (goes_same c.read.new.seat c.read.new.seat refl)
@@ -46,7 +46,7 @@ returns-in-Wait-clause-again g c =
 pub returns-in-Ok-fill-clause-again : goal.returns-in-Ok-fill-clause-again
 returns-in-Ok-fill-clause-again g c =
     retries_by (event.Read c.args.handle c.args.offset (length c.args.out.now)) (reply.Miss c.in-Miss.page)
-    c.deref_mut.result.now c.read.new.self c.args.seat.now c.read.new.seat c.fill.new.seat c.in-Ok.made.1 tt
+    c.deref_mut.result.now c.read.new.self c.args.seat.now c.read.new.seat c.fill.new.seat c.in-Ok.made.1 (λ r. refl) tt
     (subst (λ (x : ReadAnswer). Made (event.Read c.args.handle c.args.offset (length c.args.out.now))
     (was_read (Ok x) c.read.new.out) c.deref_mut.result.now c.read.new.self c.args.seat.now c.read.new.seat
     c.in-Ok.made.1) c.in-Miss.is c.in-Ok.ensures.made) c.fill.ensures.goes
@@ -161,3 +161,33 @@ returns-in-Err-fill-clause-missed g c =
     c.in-Ok.made.1 (λ q r f. f) (λ r. refl)
     (subst (λ (x : ReadAnswer). Made own (was_read (Ok x) c.read.new.out) c.deref_mut.result.now c.read.new.self c.args.seat.now
     c.read.new.seat c.in-Ok.made.1) c.in-Miss.is c.in-Ok.ensures.made) c.fill.ensures.page
+
+-- its own event came first
+pub returns-in-Err-clause-first : goal.returns-in-Err-clause-first
+returns-in-Err-clause-first g c =
+    first_denied (event.Read c.args.handle c.args.offset (length c.args.out.now)) c.deref_mut.result.now c.read.new.self
+    c.args.seat.now c.read.new.seat c.in-Err.denied (λ r. refl) c.in-Err.ensures.denied
+
+pub returns-in-Bytes-clause-first : goal.returns-in-Bytes-clause-first
+returns-in-Bytes-clause-first g c = first_made _ _ _ _ _ _ _ (λ r. refl) c.in-Ok.ensures.made
+
+pub returns-in-Wait-clause-first : goal.returns-in-Wait-clause-first
+returns-in-Wait-clause-first g c = first_made _ _ _ _ _ _ _ (λ r. refl) c.in-Ok.ensures.made
+
+pub returns-in-Ok-fill-clause-first : goal.returns-in-Ok-fill-clause-first
+returns-in-Ok-fill-clause-first g c =
+    first_again (event.Read c.args.handle c.args.offset (length c.args.out.now)) c.args.seat.now c.fill.new.seat
+    (retries_by (event.Read c.args.handle c.args.offset (length c.args.out.now)) (reply.Miss c.in-Miss.page)
+    c.deref_mut.result.now c.read.new.self c.args.seat.now c.read.new.seat c.fill.new.seat c.in-Ok.made.1 (λ r. refl) tt
+    (subst (λ (x : ReadAnswer). Made (event.Read c.args.handle c.args.offset (length c.args.out.now))
+    (was_read (Ok x) c.read.new.out) c.deref_mut.result.now c.read.new.self c.args.seat.now c.read.new.seat
+    c.in-Ok.made.1) c.in-Miss.is c.in-Ok.ensures.made) c.fill.ensures.goes)
+
+pub returns-in-Err-fill-clause-first : goal.returns-in-Err-fill-clause-first
+returns-in-Err-fill-clause-first g c =
+    first_again (event.Read c.args.handle c.args.offset (length c.args.out.now)) c.args.seat.now c.fill.new.seat
+    (retries_by (event.Read c.args.handle c.args.offset (length c.args.out.now)) (reply.Miss c.in-Miss.page)
+    c.deref_mut.result.now c.read.new.self c.args.seat.now c.read.new.seat c.fill.new.seat c.in-Ok.made.1 (λ r. refl) tt
+    (subst (λ (x : ReadAnswer). Made (event.Read c.args.handle c.args.offset (length c.args.out.now))
+    (was_read (Ok x) c.read.new.out) c.deref_mut.result.now c.read.new.self c.args.seat.now c.read.new.seat
+    c.in-Ok.made.1) c.in-Miss.is c.in-Ok.ensures.made) c.fill.ensures.goes)
