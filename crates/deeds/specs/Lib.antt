@@ -1,0 +1,4 @@
+pub mod Comes
+pub mod Views
+pub mod Rules
+pub mod Steps
