@@ -1,11 +1,10 @@
 -- Each step keeps the rule.
-use Rattle.std.proofs.Common.{◌≡◌, ◌≢◌, ℕ, zero, suc, ◌⊎◌, Bool, true, false, List, [], ◌∷◌, ◌++◌, map, length, set, inl, inr, refl, sym, ap, ◌∙◌, subst, ⊎_elim, true≢false, length-set}
+use Rattle.std.proofs.Common.{◌≡◌, ◌≢◌, ℕ, zero, suc, ◌⊎◌, Bool, true, false, List, [], ◌∷◌, ◌++◌, map, length, set, inl, inr, refl, sym, ap, ◌∙◌, subst, ⊎_elim, true≢false, length-set, arith}
 use Rattle.std.specs.Prelude.{slice_get, slice_set, Option, Some, None, option_map, is_some, IfSome}
 use Rattle.std.proofs.lemmas.Option.{none-some, same_Some}
 use mathlib.Core.Option.{some, some-injective, some-ne-none}
 use lib.ListN.{get_elem?}
 use Rattle.atomic_table.specs.Table.{State, Me, step, keeps, stepped, Allows, Splits, Joins, opening}
-use Rattle.blockdev.specs.Blocks.{block_at}
 use Rattle.deeds.specs.declared.views.Given.{Given}
 use Rattle.deeds.specs.declared.views.Done.{Done}
 use Rattle.deeds.specs.declared.views.Deed.{Deed}
@@ -14,7 +13,7 @@ use Rattle.deeds.specs.declared.views.Place.TheVariants.{Home, Out}
 use Rattle.deeds.specs.declared.views.View.{View}
 use Rattle.deeds.specs.Comes.{Comes}
 use Rattle.deeds.specs.Views.{block_of, undone, carried, spent, opening_view, device_view, desk_view, deed_view, both_view, device_with, desk_with, first_of, together, without_device, device_alone, without_deed, deed_alone}
-use Rattle.deeds.specs.Rules.{FitsDeed, Fits, Part, the_device, the_desk, the_deed, Has, IsKept, Opened, GivenOut, Carried, TakenBack, Compared, Knows}
+use Rattle.deeds.specs.Rules.{FitsDeed, Fits, Part, the_device, the_desk, the_deed, Has, IsKept, Opened, GivenOut, Carried, TakenBack, Compared, Knows, NoneOut}
 use Rattle.deeds.proofs.Alone.{Alone, Each, Nobody, each_set, each_push, alone_set, alone_cut, alone_join, there_before}
 use Rattle.deeds.proofs.Lists.{get_set, set_here, set_else, index_of, mapped_at}
 
@@ -237,7 +236,7 @@ own_carried told blocks blocks' g x vs the_desk h = inl h
 own_carried told blocks blocks' g x vs (the_deed k) h = inl h
 
 pub carries : (slots id : ℕ) (told : Bool) (blocks : Blocks) (g : Given) (x : Done) (c : List (ℕ × ℕ))
-    → (told ≡ true → Comes g.task (block_at blocks g.task.block) x.finished x.left)
+    → (slice_get blocks g.task.block ≡ Some g.before → Comes told g.task g.before x.finished x.left)
     → Allows IsKept slots id (device_with told blocks (undone g), c) 0 (λ n. n)
     (λ n. Carried x (device_with told blocks (undone g), c))
 carries slots id told blocks g x c comes s r _ at _ =
@@ -267,8 +266,7 @@ carries slots id told blocks g x c comes s r _ at _ =
           (
             out,
             set_here r.blocks k x.left g.before was,
-            λ is. subst (λ b. Comes g.task b x.finished x.left) (index_of blocks k g.before [] here)
-                (comes (t ∙ is)),
+            subst (λ b. Comes b g.task g.before x.finished x.left) t (comes here),
           ),
         )
             (λ j u n e. still r.told r.blocks blocks' r.places r.places u (r.each j u e)
@@ -324,7 +322,7 @@ takes_back slots id told places g x c s r _ at _ =
         alone = alone_set s.views id old w at
             (own_taken told places (slice_set places k (Home x.left)) (carried g x) s.views) r.alone;
       },
-      (refl, (ap (λ ps. slice_get ps k) same ∙ out, (λ is. mine.2.2 (sym t ∙ is)), refl)),
+      (refl, (ap (λ ps. slice_get ps k) same ∙ out, subst (λ b. Comes b g.task g.before x.finished x.left) (sym t) mine.2.2, refl)),
     )
 
 -- ---- the desk and the device's side in one view
@@ -438,7 +436,7 @@ gives_as slots id me told places g c is home =
 
 pub carries_as : (slots id : ℕ) (me : Me ℕ View) (told : Bool) (blocks : Blocks) (g : Given) (x : Done)
     (c : List (ℕ × ℕ)) → me ≡ (device_with told blocks (undone g), c)
-    → (told ≡ true → Comes g.task (block_at blocks g.task.block) x.finished x.left)
+    → (slice_get blocks g.task.block ≡ Some g.before → Comes told g.task g.before x.finished x.left)
     → Allows IsKept slots id me 0 (λ n. n) (λ n. Carried x me)
 carries_as slots id me told blocks g x c is comes =
     subst (λ (m : Me ℕ View). Allows IsKept slots id m 0 (λ n. n) (λ n. Carried x m)) (sym is)
@@ -456,3 +454,15 @@ pub compares_as : (slots id : ℕ) (me : Me ℕ View) (d : Bool × Blocks) (p : 
 compares_as slots id me d p c is =
     subst (λ (m : Me ℕ View). Allows IsKept slots id m 0 (λ n. n) (λ n. Compared m)) (sym is)
     (compares slots id d p c)
+
+-- ---- where nothing is out, the desk has the whole device
+
+pub all_home : (blocks : Blocks) (places : List Place) → Knows blocks places → NoneOut places → places ≡ map Home blocks
+all_home [] [] k n = refl
+all_home [] (p ∷ ps) k n = absurd (let e = k.0 in omega arith)
+all_home (b ∷ bs) [] k n = absurd (let e = k.0 in omega arith)
+all_home (b ∷ bs) (Out g ∷ ps) k n = absurd (n 0 g refl)
+all_home (b ∷ bs) (Home bytes ∷ ps) k n =
+    let more : length ps ≡ length bs = let e = k.0 in omega arith in
+    let rest = all_home bs ps (more, (λ block bytes' h. k.1 (suc block) bytes' h)) (λ block g h. n (suc block) g h) in
+    λ i. Home (same_Some bytes b (sym (k.1 0 bytes refl)) i) ∷ rest i

@@ -1,5 +1,5 @@
 -- What may come of the device call of a task, told by the bytes of its one block.
-use Rattle.std.specs.Prelude.{◌≡◌, ◌⊎◌, ℕ, List, length, OnOk, OnErr}
+use Rattle.std.specs.Prelude.{◌≡◌, ◌⊎◌, ℕ, Bool, true, List, length, OnOk, OnErr}
 use Rattle.pc_types.specs.declared.kind.Kind.{Kind}
 use Rattle.pc_types.specs.declared.kind.Kind.TheVariants.{Fill, Flush}
 use Rattle.blockdev.specs.Device.{Outcome}
@@ -12,10 +12,11 @@ Leaves Fill before bytes r after left = (left ≡ before) × OnOk r (after ≡ b
 Leaves Flush before bytes r after left =
     (after ≡ bytes) × OnOk r (left ≡ bytes) × OnErr r ((left ≡ before) ⊎ (left ≡ bytes))
 
-pub record Comes (task : Task) (before : List ℕ) (finished : FinishedTask) (left : List ℕ) : Type 0 where
+-- the same request, and where the device tells its contents, what the call may leave
+pub record Comes (told : Bool) (task : Task) (before : List ℕ) (finished : FinishedTask) (left : List ℕ) : Type 0 where
   pub cache : finished.cache ≡ task.cache
   pub serial : finished.serial ≡ task.serial
   pub kind : finished.kind ≡ task.kind
   pub block : finished.block ≡ task.block
   pub length : length finished.bytes ≡ length task.bytes
-  pub leaves : Leaves task.kind before task.bytes finished.outcome finished.bytes left
+  pub leaves : told ≡ true → Leaves task.kind before task.bytes finished.outcome finished.bytes left

@@ -2,3 +2,4 @@ pub mod Comes
 pub mod Views
 pub mod Rules
 pub mod Steps
+pub mod Shown

@@ -1,5 +1,5 @@
 -- The rule of deeds: what is true of the device, of the desk and of each deed that is out. And what each step tells.
-use Rattle.std.specs.Prelude.{◌≡◌, ℕ, Bool, true, List, [], map, length, slice_get, slice_set}
+use Rattle.std.specs.Prelude.{◌≡◌, ◌≢◌, ℕ, Bool, true, List, [], map, length, slice_get, slice_set}
 use Rattle.std.specs.Prelude.{Option, Some, None, option_map, is_some, IfSome}
 use mathlib.Core.Option.{some}
 use lib.ListN.{get_elem?}
@@ -18,13 +18,12 @@ abbrev pub bytes_now : Given → Option Done → List ℕ
 bytes_now g None = g.before
 bytes_now g (Some x) = x.left
 
--- the deed is out at the desk, for this; its block has these bytes; and where the device tells its contents, what came
--- of a call may come of it
+-- the deed is out at the desk, for this; its block has these bytes; and what came of its call may come of it
 abbrev pub FitsDeed : Bool → List (List ℕ) → List Place → Deed → Type 0
 FitsDeed told blocks places d =
     (slice_get places (block_of d) ≡ Some (Out d.given))
     × (slice_get blocks (block_of d) ≡ Some (bytes_now d.given d.done))
-    × IfSome d.done (λ x. told ≡ true → Comes d.given.task d.given.before x.finished x.left)
+    × IfSome d.done (λ x. Comes told d.given.task d.given.before x.finished x.left)
 
 abbrev pub Fits : Bool → List (List ℕ) → List Place → View → Type 0
 Fits told blocks places v =
@@ -87,7 +86,7 @@ Carried x before after = (after.1 ≡ before.1) × CarriedFrom x before.0 before
 abbrev pub TakenWith : View → Bool → List Place → Given → Option Done → View → Type 0
 TakenWith before told places g (Some x) after =
     (slice_get places g.task.block ≡ Some (Out g))
-    × (told ≡ true → Comes g.task g.before x.finished x.left)
+    × Comes told g.task g.before x.finished x.left
     × (after ≡ record before { desk = Some (told, slice_set places g.task.block (Home x.left)); deed = None })
 TakenWith before told places g None after = Unit {0}
 
@@ -104,6 +103,10 @@ Knows blocks places =
     (length places ≡ length blocks)
     × ((block : ℕ) (bytes : List ℕ) → slice_get places block ≡ Some (Home bytes)
     → slice_get blocks block ≡ Some bytes)
+
+-- each deed is at home
+abbrev pub NoneOut : List Place → Type 0
+NoneOut places = (block : ℕ) (g : Given) → slice_get places block ≢ Some (Out g)
 
 abbrev pub ComparedFrom : Option (Bool × List (List ℕ)) → Option (Bool × List Place) → Type 0
 ComparedFrom (Some device) (Some desk) = Knows device.1 desk.1

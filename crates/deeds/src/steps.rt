@@ -1,8 +1,7 @@
 //! The steps, at a table and its passes. Each is one to three loads of a word that never changes.
-ghost use Rattle.std.specs.Prelude.{◌≡◌, ℕ, Bool, true, false, List, [], map, slice_get, slice_set, IfOk, Some};
-ghost use Rattle.blockdev.specs.Blocks.{block_at};
+ghost use Rattle.std.specs.Prelude.{◌≡◌, ℕ, Bool, false, List, [], map, slice_get, slice_set, IfOk, Some};
 ghost use Rattle.deeds.specs.Comes.{Comes};
-ghost use Rattle.deeds.specs.Rules.{Knows};
+ghost use Rattle.deeds.specs.Rules.{Knows, NoneOut};
 ghost use Rattle.deeds.specs.Steps.{IsAt, Stays, IsDevice, IsDesk, IsUndone, IsCarried, IsBoth, IsDeviceWith, IsDeskWith};
 ghost use Rattle.deeds.specs.Views.{device_in, desk_in, given_in, done_in, home_in, undone, carried};
 ghost use Rattle.deeds.specs.declared.views.Place.TheVariants.{Home, Out};
@@ -68,13 +67,14 @@ fn mark_out<N: NamesGiven>(table: &Deeds, desk: &mut Pass, job: &Job)
     table.load::<Gives<N>>(desk, 0);
 }
 
-/// Carries the deed out: its device call was made, `left` is what its block was left with. No second call can be made by it.
+/// Carries the deed out: its device call was made, and `left` is what its block was left with. The block had the bytes that it had when
+/// the deed was given; who shows what may come of the call may count on that.
 pub fn carry(table: &Deeds, device: &mut Pass, deed: Pass, finished: &Finished) -> Pass
     ghost left: { List ℕ }
     requires at { IsAt table.now.table_id device.old × IsAt table.now.table_id deed }
     requires device { IsDevice device.old.me (device_in device.old.me.0).0 (device_in device.old.me.0).1 }
     requires deed { IsUndone deed.me (given_in deed.me.0) }
-    requires comes { (device_in device.old.me.0).0 ≡ true → Comes (given_in deed.me.0).task (block_at (device_in device.old.me.0).1 (given_in deed.me.0).task.block) finished.now left }
+    requires comes { slice_get (device_in device.old.me.0).1 (given_in deed.me.0).task.block ≡ Some (given_in deed.me.0).before → Comes (device_in device.old.me.0).0 (given_in deed.me.0).task (given_in deed.me.0).before finished.now left }
     ensures at { Stays device.old device.new × IsAt table.now.table_id result }
     ensures agreed { slice_get (device_in device.old.me.0).1 (given_in deed.me.0).task.block ≡ Some (given_in deed.me.0).before }
     ensures device { IsDevice device.new.me (device_in device.old.me.0).0 (slice_set (device_in device.old.me.0).1 (given_in deed.me.0).task.block left) }
@@ -90,7 +90,7 @@ fn mark_done<N: NamesDone>(table: &Deeds, device: &mut Pass, finished: &Finished
     requires at { IsAt table.now.table_id device.old }
     requires device { IsDeviceWith device.old.me (device_in device.old.me.0).0 (device_in device.old.me.0).1 (undone (given_in device.old.me.0)) }
     requires finished { N.done.finished ≡ finished.now }
-    requires comes { (device_in device.old.me.0).0 ≡ true → Comes (given_in device.old.me.0).task (block_at (device_in device.old.me.0).1 (given_in device.old.me.0).task.block) N.done.finished N.done.left }
+    requires comes { slice_get (device_in device.old.me.0).1 (given_in device.old.me.0).task.block ≡ Some (given_in device.old.me.0).before → Comes (device_in device.old.me.0).0 (given_in device.old.me.0).task (given_in device.old.me.0).before N.done.finished N.done.left }
     ensures at { Stays device.old device.new }
     ensures agreed { slice_get (device_in device.old.me.0).1 (given_in device.old.me.0).task.block ≡ Some (given_in device.old.me.0).before }
     ensures device { IsDeviceWith device.new.me (device_in device.old.me.0).0 (slice_set (device_in device.old.me.0).1 (given_in device.old.me.0).task.block N.done.left) (carried (given_in device.old.me.0) N.done) }
@@ -105,7 +105,7 @@ pub fn take_back(table: &Deeds, desk: &mut Pass, deed: Pass)
     requires deed { IsCarried deed.me (given_in deed.me.0) (done_in deed.me.0) }
     ensures at { Stays desk.old desk.new }
     ensures out { slice_get (desk_in desk.old.me.0).1 (given_in deed.me.0).task.block ≡ Some (Out (given_in deed.me.0)) }
-    ensures comes { (desk_in desk.old.me.0).0 ≡ true → Comes (given_in deed.me.0).task (given_in deed.me.0).before (done_in deed.me.0).finished (done_in deed.me.0).left }
+    ensures comes { Comes (desk_in desk.old.me.0).0 (given_in deed.me.0).task (given_in deed.me.0).before (done_in deed.me.0).finished (done_in deed.me.0).left }
     ensures desk { IsDesk desk.new.me (desk_in desk.old.me.0).0 (slice_set (desk_in desk.old.me.0).1 (given_in deed.me.0).task.block (Home (done_in deed.me.0).left)) }
 {
     table.join_seat::<TakesIn>(desk, deed);
@@ -117,7 +117,8 @@ pub fn close(table: &Deeds, mut desk: Pass, device: Pass)
     requires at { IsAt table.now.table_id desk × IsAt table.now.table_id device }
     requires desk { IsDesk desk.me (desk_in desk.me.0).0 (desk_in desk.me.0).1 }
     requires device { IsDevice device.me (device_in device.me.0).0 (device_in device.me.0).1 }
-    ensures { Knows (device_in device.me.0).1 (desk_in desk.me.0).1 }
+    ensures knows { Knows (device_in device.me.0).1 (desk_in desk.me.0).1 }
+    ensures whole { NoneOut (desk_in desk.me.0).1 → (desk_in desk.me.0).1 ≡ map Home (device_in device.me.0).1 }
 {
     table.join_seat::<TakesIn>(&mut desk, device);
     table.load::<Compares>(&mut desk, 0);

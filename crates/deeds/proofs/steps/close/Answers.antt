@@ -1,6 +1,9 @@
-use Rattle.std.proofs.Common.{rules, ◌∙◌}
+use Rattle.std.proofs.Common.{rules, ℕ, ap, subst, ◌∙◌}
+use Rattle.atomic_table.specs.Table.{Me}
+use Rattle.deeds.specs.Rules.{ComparedFrom}
 use Rattle.deeds.specs.Views.{together}
-use Rattle.deeds.proofs.Keeps.{takes_in, compares_as}
+use Rattle.deeds.specs.declared.views.View.{View}
+use Rattle.deeds.proofs.Keeps.{takes_in, compares_as, all_home}
 use Rattle.deeds.proofs.steps.close.Goals as goal
 
 pub join_seat-requires : goal.join_seat-requires
@@ -14,3 +17,11 @@ load-requires c = (
       (c.join_seat.ensures.2
       ∙ (λ i. (together (c.requires.desk i).0 (c.requires.device i).0, (c.requires.desk i).1))),
 )
+
+pub returns-clause-whole : goal.returns-clause-whole
+returns-clause-whole c =
+    let is = ap (λ (m : Me ℕ View). m.0)
+    (c.join_seat.ensures.2
+    ∙ (λ i. (together (c.requires.desk i).0 (c.requires.device i).0, (c.requires.desk i).1))) in
+    let knows = subst (λ (v : View). ComparedFrom v.device v.desk) is c.load.ensures.2.1 in
+    λ none. all_home _ _ knows none
