@@ -1,5 +1,5 @@
 -- What contracts see of the sides, and of a request whose device call was made.
-use Rattle.std.specs.Prelude.{◌≡◌, ℕ, Bool, true, List, [], Option, Some, None}
+use Rattle.std.specs.Prelude.{◌≡◌, ℕ, Bool, true, List, [], replicate, Option, Some, None}
 use Rattle.atomic_table.specs.Seated.{TableId}
 use Rattle.blockdev.specs.Blocks.{block_at}
 use Rattle.blockdev.specs.Device.{Told}
@@ -28,3 +28,8 @@ told_at (Some blocks) block = block_at blocks block
 -- where the device tells its contents, they are these
 abbrev pub AreTold : Bool → Told → List (List ℕ) → Type 0
 AreTold told device blocks = told ≡ true → device.contents ≡ Some blocks
+
+-- the blocks that a device tells, and of one that tells none as many without bytes
+abbrev pub found_in : Option (List (List ℕ)) → ℕ → List (List ℕ)
+found_in None count = replicate count []
+found_in (Some blocks) count = blocks

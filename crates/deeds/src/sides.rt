@@ -1,6 +1,6 @@
 //! The state's side and the device's side, for the two locks, and what goes between them.
 
-ghost use Rattle.std.specs.Prelude.{◌≡◌, ◌<◌, ℕ, Bool, List, map, length, slice_get, slice_set, IfOk, Some};
+ghost use Rattle.std.specs.Prelude.{◌≡◌, ◌<◌, ℕ, Bool, List, map, length, slice_get, slice_set, is_some, IfOk, Some};
 ghost use Rattle.std.specs.Arc.{arc_value};
 ghost use Rattle.blockdev.specs.Watching.{Makes};
 ghost use Rattle.deeds.specs.Comes.{Comes};
@@ -154,6 +154,25 @@ impl Opened {
             device,
             desk,
         })
+    }
+
+    /// Over a device as it is. Where it does not tell its contents, no bytes are known, and the deeds only say in whose hand each block is.
+    pub fn over<D: BlockDevice>(alloc: Global, device: &D) -> Result<Opened, AllocError>
+        ensures told { IfOk result (λ o. o.told ≡ is_some (D.told device.now).contents) }
+        ensures contents { IfOk result (λ o. AreTold o.told (D.told device.now) o.blocks) }
+        ensures count { IfOk result (λ o. length o.blocks ≡ (D.told device.now).count) }
+    {
+        // `blocks` says that the contents that are told are as many blocks.
+        let count = device.blocks();
+        Opened::found(alloc, device, count)
+    }
+
+    // The device and the count are there for the proof to name what was found.
+    fn found<D: BlockDevice>(alloc: Global, device: &D, count: u64) -> Result<Opened, AllocError>
+        ghost found: { Bool × List (List ℕ) }
+        ensures { IfOk result (λ o. (o.told ≡ found.0) × (o.blocks ≡ found.1)) }
+    {
+        Opened::new(alloc)
     }
 
     /// Both sides under their name.
