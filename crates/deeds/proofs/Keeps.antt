@@ -4,7 +4,7 @@ use Rattle.std.specs.Prelude.{slice_get, slice_set, Option, Some, None, option_m
 use Rattle.std.proofs.lemmas.Option.{none-some, same_Some}
 use mathlib.Core.Option.{some, some-injective, some-ne-none}
 use lib.ListN.{get_elem?}
-use Rattle.atomic_table.specs.Table.{State, Me, step, keeps, stepped, Allows, Splits, Joins, opening}
+use Rattle.atomic_table.specs.Table.{State, Me, keeps, Allows, Splits, Joins, opening}
 use Rattle.deeds.specs.declared.views.Given.{Given}
 use Rattle.deeds.specs.declared.views.Done.{Done}
 use Rattle.deeds.specs.declared.views.Deed.{Deed}
@@ -12,10 +12,10 @@ use Rattle.deeds.specs.declared.views.Place.{Place}
 use Rattle.deeds.specs.declared.views.Place.TheVariants.{Home, Out}
 use Rattle.deeds.specs.declared.views.View.{View}
 use Rattle.deeds.specs.Comes.{Comes}
-use Rattle.deeds.specs.Views.{block_of, undone, carried, spent, opening_view, device_view, desk_view, deed_view, both_view, device_with, desk_with, first_of, together, without_device, device_alone, without_deed, deed_alone}
+use Rattle.deeds.specs.Views.{block_of, undone, carried, spent, opening_view, desk_view, both_view, device_with, desk_with, first_of, together, without_device, device_alone, without_deed, deed_alone}
 use Rattle.deeds.specs.Rules.{FitsDeed, Fits, Part, the_device, the_desk, the_deed, Has, IsKept, Opened, GivenOut, Carried, TakenBack, Compared, Knows, NoneOut}
-use Rattle.deeds.proofs.Alone.{Alone, Each, Nobody, each_set, each_push, alone_set, alone_cut, alone_join, there_before}
-use Rattle.deeds.proofs.Lists.{get_set, set_here, set_else, index_of, mapped_at}
+use Rattle.deeds.proofs.Alone.{Each, Nobody, each_set, each_push, alone_set, alone_cut, alone_join, there_before}
+use Rattle.deeds.proofs.Lists.{get_set, set_here, set_else, mapped_at}
 
 abbrev Blocks : Type 0
 Blocks = List (List ℕ)

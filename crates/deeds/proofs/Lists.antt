@@ -1,6 +1,6 @@
 -- Lists read by `slice_get`, after one element was set.
-use Rattle.std.proofs.Common.{◌≡◌, ◌≢◌, ℕ, zero, suc, ◌⊎◌, List, [], ◌∷◌, map, length, refl, ap, sym, inl, inr, arith, ⊎_elim}
-use Rattle.std.specs.Prelude.{slice_get, slice_set, slice_index_or, Some, None}
+use Rattle.std.proofs.Common.{◌≡◌, ◌≢◌, ℕ, zero, suc, ◌⊎◌, List, [], ◌∷◌, map, refl, ap, inl, inr, arith, ⊎_elim}
+use Rattle.std.specs.Prelude.{slice_get, slice_set, slice_index_or, Some}
 use Rattle.std.proofs.lemmas.Option.{none-some, same_Some}
 
 module _ {A : Type 0} where

@@ -1,5 +1,5 @@
 -- The rule of deeds: what is true of the device, of the desk and of each deed that is out. And what each step tells.
-use Rattle.std.specs.Prelude.{◌≡◌, ◌≢◌, ℕ, Bool, true, List, [], map, length, slice_get, slice_set}
+use Rattle.std.specs.Prelude.{◌≡◌, ◌≢◌, ℕ, Bool, true, List, map, length, slice_get, slice_set}
 use Rattle.std.specs.Prelude.{Option, Some, None, option_map, is_some, IfSome}
 use mathlib.Core.Option.{some}
 use lib.ListN.{get_elem?}

@@ -1,10 +1,13 @@
 -- What contracts see of the sides, and of a request whose device call was made.
-use Rattle.std.specs.Prelude.{◌≡◌, ℕ, Bool, true, List, [], replicate, Option, Some, None}
+use Rattle.std.specs.Prelude.{◌≡◌, ℕ, Bool, true, List, [], map, replicate, slice_get, slice_set, Option, Some, None}
 use Rattle.atomic_table.specs.Seated.{TableId}
 use Rattle.blockdev.specs.Blocks.{block_at}
 use Rattle.blockdev.specs.Device.{Told}
+use Rattle.blockdev.specs.Jobs.{FinishedTask}
 use Rattle.deeds.specs.declared.views.Given.{Given}
-use Rattle.deeds.specs.declared.views.Done.{Done}
+use Rattle.deeds.specs.declared.views.Place.{Place}
+use Rattle.deeds.specs.declared.views.Place.TheVariants.{Home, Out}
+use Rattle.deeds.specs.Comes.{Comes}
 
 abbrev pub no_table : TableId
 no_table = record { words = 0; slots = 0; views_name = 0; atom = 0; block = 0; offset = 0; slot_names = [] }
@@ -15,10 +18,14 @@ pub record OpenedSeen : Type 0 where
   pub told : Bool
   pub blocks : List (List ℕ)
 
--- what a deed was given for, and what came of its call
-pub record ReportSeen : Type 0 where
+-- a deed comes home: it was out for what the desk says, what came of its call may come of that, and the desk has the
+-- bytes that the block was left with
+pub record Settles (told : Bool) (before : List Place) (finished : FinishedTask) (after : List Place) : Type 0 where
   pub given : Given
-  pub done : Done
+  pub left : List ℕ
+  pub out : slice_get before finished.block ≡ Some (Out given)
+  pub comes : Comes told given.task given.before finished left
+  pub home : after ≡ slice_set before finished.block (Home left)
 
 -- the bytes of a block, where they are told
 abbrev pub told_at : Option (List (List ℕ)) → ℕ → List ℕ
@@ -33,3 +40,11 @@ AreTold told device blocks = told ≡ true → device.contents ≡ Some blocks
 abbrev pub found_in : Option (List (List ℕ)) → ℕ → List (List ℕ)
 found_in None count = replicate count []
 found_in (Some blocks) count = blocks
+
+-- the bytes that the desk knows of each block: those that it has, or had when its deed was given
+abbrev pub bytes_of : Place → List ℕ
+bytes_of (Home bytes) = bytes
+bytes_of (Out g) = g.before
+
+abbrev pub known : List Place → List (List ℕ)
+known places = map bytes_of places

@@ -10,5 +10,5 @@
 
 pub mod naming;
 pub mod sides;
-pub mod steps;
+mod steps;
 pub mod views;

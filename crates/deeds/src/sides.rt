@@ -5,7 +5,7 @@ ghost use Rattle.std.specs.Arc.{arc_value};
 ghost use Rattle.blockdev.specs.Watching.{Makes};
 ghost use Rattle.deeds.specs.Comes.{Comes};
 ghost use Rattle.deeds.specs.Rules.{Knows, NoneOut};
-ghost use Rattle.deeds.specs.Shown.{AreTold};
+ghost use Rattle.deeds.specs.Shown.{AreTold, Settles};
 ghost use Rattle.deeds.specs.Steps.{IsAt, Stays, IsDevice, IsUndone, IsCarried};
 ghost use Rattle.deeds.specs.Views.{device_in, given_in, home_in};
 ghost use Rattle.deeds.specs.declared.views.Place.TheVariants.{Home, Out};
@@ -93,7 +93,7 @@ impl<B: NamesDeeds> Model for DeviceSide<B> {
     ghost invariant = { λ d. ((arc_value d.table).shared.table_id ≡ B.deeds) × IsAt B.deeds d.pass × IsDevice d.pass.me B.told (device_in d.pass.me.0).1 };
 }
 
-/// A job with the deed of its block. Contracts see what the deed was given for.
+/// A job with the deed of its block. Contracts see the job.
 ///
 /// One that is dropped leaves its block's deed out for good.
 #[derive(Drop)]
@@ -105,18 +105,18 @@ pub struct Errand<B: NamesDeeds> {
 
 impl<B: NamesDeeds> Model for Errand<B> {
     ghost use Rattle.std.specs.Prelude.{◌≡◌};
+    ghost use Rattle.blockdev.specs.Jobs.{Task};
     ghost use Rattle.deeds.specs.Steps.{IsAt, IsUndone};
     ghost use Rattle.deeds.specs.Views.{given_in};
-    ghost use Rattle.deeds.specs.declared.views.Given.{Given};
 
-    ghost Value = { Given };
+    ghost Value = { Task };
 
-    ghost view = { λ e. given_in e.deed.me.0 };
+    ghost view = { λ e. e.job };
 
-    ghost invariant = { λ e. IsAt B.deeds e.deed × IsUndone e.deed.me (given_in e.deed.me.0) × (e.job ≡ (given_in e.deed.me.0).task) };
+    ghost invariant = { λ e. IsAt B.deeds e.deed × IsUndone e.deed.me (given_in e.deed.me.0) × ((given_in e.deed.me.0).task ≡ e.job) };
 }
 
-/// A job whose device call was made, with the deed of its block.
+/// An errand whose device call was made, with the deed of its block. Contracts see the finished job.
 #[derive(Drop)]
 pub struct Report<B: NamesDeeds> {
     finished: Finished,
@@ -126,15 +126,15 @@ pub struct Report<B: NamesDeeds> {
 
 impl<B: NamesDeeds> Model for Report<B> {
     ghost use Rattle.std.specs.Prelude.{◌≡◌};
-    ghost use Rattle.deeds.specs.Shown.{ReportSeen};
+    ghost use Rattle.blockdev.specs.Jobs.{FinishedTask};
     ghost use Rattle.deeds.specs.Steps.{IsAt, IsCarried};
     ghost use Rattle.deeds.specs.Views.{given_in, done_in};
 
-    ghost Value = { ReportSeen };
+    ghost Value = { FinishedTask };
 
-    ghost view = { λ r. record { given = given_in r.deed.me.0; done = done_in r.deed.me.0 } };
+    ghost view = { λ r. r.finished };
 
-    ghost invariant = { λ r. IsAt B.deeds r.deed × IsCarried r.deed.me (given_in r.deed.me.0) (done_in r.deed.me.0) × (r.finished ≡ (done_in r.deed.me.0).finished) };
+    ghost invariant = { λ r. IsAt B.deeds r.deed × IsCarried r.deed.me (given_in r.deed.me.0) (done_in r.deed.me.0) × ((done_in r.deed.me.0).finished ≡ r.finished) };
 }
 
 impl Opened {
@@ -205,8 +205,8 @@ impl<B: NamesDeeds> Desk<B> {
     /// Gives the deed of the job's block, which is at home.
     pub fn give(&mut self, job: Job) -> Errand<B>
         requires home { slice_get self.old job.block ≡ Some (Home (home_in self.old job.block)) }
-        ensures errand { result ≡ record { task = job; before = home_in self.old job.block } }
-        ensures desk { self.new ≡ slice_set self.old job.block (Out result) }
+        ensures errand { result ≡ job }
+        ensures desk { self.new ≡ slice_set self.old job.block (Out record { task = job; before = home_in self.old job.block }) }
     {
         let Desk { table, pass, .. } = self;
         let deed = give(&table.shared, pass, &job);
@@ -217,12 +217,10 @@ impl<B: NamesDeeds> Desk<B> {
         }
     }
 
-    /// Takes the deed back. It was out for just what the report says, and what came of its call may come of it.
+    /// Takes the deed back. The desk has what it was given for, and what came of its call may come of that.
     pub fn take_back(&mut self, report: Report<B>) -> Finished
-        ensures finished { result ≡ report.done.finished }
-        ensures out { slice_get self.old report.given.task.block ≡ Some (Out report.given) }
-        ensures comes { Comes B.told report.given.task report.given.before report.done.finished report.done.left }
-        ensures desk { self.new ≡ slice_set self.old report.given.task.block (Home report.done.left) }
+        ensures finished { result ≡ report }
+        ensures settled { Settles B.told self.old report self.new }
     {
         let Report { finished, deed, .. } = report;
         let Desk { table, pass, .. } = self;
@@ -242,7 +240,7 @@ impl<B: NamesDeeds> Desk<B> {
 
 impl<B: NamesDeeds> Errand<B> {
     pub fn job(&self) -> &Job
-        ensures { result.now ≡ self.now.task }
+        ensures { result.now ≡ self.now }
     {
         &self.job
     }
@@ -250,26 +248,23 @@ impl<B: NamesDeeds> Errand<B> {
 
 impl<B: NamesDeeds> Report<B> {
     pub fn finished(&self) -> &Finished
-        ensures { result.now ≡ self.now.done.finished }
+        ensures { result.now ≡ self.now }
     {
         &self.finished
     }
 }
 
 impl<B: NamesDeeds> DeviceSide<B> {
-    /// Makes the device call of the errand. The block had the bytes that it had when the deed was given.
+    /// Makes the device call of the errand.
     pub fn carry_out<D: BlockDevice>(
         &mut self,
         device: &mut Watched<D>,
         errand: Errand<B>,
     ) -> Report<B>
-        requires exists { errand.task.block < device.old.device.count }
-        requires size { length errand.task.bytes ≡ device.old.device.size }
+        requires exists { errand.block < device.old.device.count }
+        requires size { length errand.bytes ≡ device.old.device.size }
         requires contents { AreTold B.told device.old.device self.old }
-        ensures made { Makes device.old errand.task result.done.finished device.new }
-        ensures given { result.given ≡ errand }
-        ensures before { slice_get self.old errand.task.block ≡ Some errand.before }
-        ensures after { self.new ≡ slice_set self.old errand.task.block result.done.left }
+        ensures made { Makes device.old errand result device.new }
         ensures contents { AreTold B.told device.new.device self.new }
     {
         let Errand { job, deed, .. } = errand;

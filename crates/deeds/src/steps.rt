@@ -15,11 +15,11 @@ use blockdev::{Finished, Job};
 use std::alloc::{AllocError, Global};
 use std::marker::Brand;
 
-pub type Owned = Table<u8, View, (), InOneHand, Global>;
+pub(crate) type Owned = Table<u8, View, (), InOneHand, Global>;
 
 /// The table, the device's side, and the desk, where all deeds are at home. `found` is whether the device tells its contents, and the
 /// bytes of its blocks.
-pub fn open(alloc: Global) -> Result<(Owned, Pass, Pass), AllocError>
+pub(crate) fn open(alloc: Global) -> Result<(Owned, Pass, Pass), AllocError>
     ghost found: { Bool × List (List ℕ) }
     ensures at { IfOk result (λ r. IsAt r.0.shared.table_id r.1 × IsAt r.0.shared.table_id r.2) }
     ensures device { IfOk result (λ r. IsDevice r.1.me found.0 found.1) }
@@ -43,7 +43,7 @@ fn learn<N: NamesDevice>(table: &Deeds, desk: &mut Pass) -> Pass
 }
 
 /// Gives the deed of a block that is at home, for a job of that block.
-pub fn give(table: &Deeds, desk: &mut Pass, job: &Job) -> Pass
+pub(crate) fn give(table: &Deeds, desk: &mut Pass, job: &Job) -> Pass
     requires at { IsAt table.now.table_id desk.old }
     requires desk { IsDesk desk.old.me (desk_in desk.old.me.0).0 (desk_in desk.old.me.0).1 }
     requires home { slice_get (desk_in desk.old.me.0).1 job.now.block ≡ Some (Home (home_in (desk_in desk.old.me.0).1 job.now.block)) }
@@ -69,7 +69,7 @@ fn mark_out<N: NamesGiven>(table: &Deeds, desk: &mut Pass, job: &Job)
 
 /// Carries the deed out: its device call was made, and `left` is what its block was left with. The block had the bytes that it had when
 /// the deed was given; who shows what may come of the call may count on that.
-pub fn carry(table: &Deeds, device: &mut Pass, deed: Pass, finished: &Finished) -> Pass
+pub(crate) fn carry(table: &Deeds, device: &mut Pass, deed: Pass, finished: &Finished) -> Pass
     ghost left: { List ℕ }
     requires at { IsAt table.now.table_id device.old × IsAt table.now.table_id deed }
     requires device { IsDevice device.old.me (device_in device.old.me.0).0 (device_in device.old.me.0).1 }
@@ -99,7 +99,7 @@ fn mark_done<N: NamesDone>(table: &Deeds, device: &mut Pass, finished: &Finished
 }
 
 /// Takes back a deed that was carried out. It was out for just what it says, and what came of its call may come of it.
-pub fn take_back(table: &Deeds, desk: &mut Pass, deed: Pass)
+pub(crate) fn take_back(table: &Deeds, desk: &mut Pass, deed: Pass)
     requires at { IsAt table.now.table_id desk.old × IsAt table.now.table_id deed }
     requires desk { IsDesk desk.old.me (desk_in desk.old.me.0).0 (desk_in desk.old.me.0).1 }
     requires deed { IsCarried deed.me (given_in deed.me.0) (done_in deed.me.0) }
@@ -113,7 +113,7 @@ pub fn take_back(table: &Deeds, desk: &mut Pass, deed: Pass)
 }
 
 /// Compares the desk with the device's side: each block whose deed is at home has the bytes that the desk knows.
-pub fn close(table: &Deeds, mut desk: Pass, device: Pass)
+pub(crate) fn close(table: &Deeds, mut desk: Pass, device: Pass)
     requires at { IsAt table.now.table_id desk × IsAt table.now.table_id device }
     requires desk { IsDesk desk.me (desk_in desk.me.0).0 (desk_in desk.me.0).1 }
     requires device { IsDevice device.me (device_in device.me.0).0 (device_in device.me.0).1 }

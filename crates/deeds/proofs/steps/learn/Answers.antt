@@ -1,4 +1,4 @@
-use Rattle.std.proofs.Common.{rules, refl, false, [], subst, sym, ap}
+use Rattle.std.proofs.Common.{rules}
 use Rattle.deeds.proofs.Keeps.{opens_as, parts_device}
 use Rattle.deeds.proofs.steps.learn.Goals as goal
 
