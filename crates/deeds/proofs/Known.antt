@@ -7,7 +7,8 @@ use Rattle.deeds.specs.declared.views.Given.{Given}
 use Rattle.deeds.specs.declared.views.Place.{Place}
 use Rattle.deeds.specs.declared.views.Place.TheVariants.{Home, Out}
 use Rattle.deeds.specs.Shown.{Settles, bytes_of, known}
-use Rattle.deeds.specs.Views.{home_in}
+use Rattle.deeds.specs.Views.{home_in, no_given}
+use Rattle.deeds.proofs.Lists.{set_here}
 
 -- a block whose deed is not out has it at home
 pub home_unless_out : (places : List Place) (k : ℕ) → k < length places
@@ -52,3 +53,16 @@ known_settled told before after done s = (
   ap known s.home ∙ known_set before done.block (Home s.left),
   known_at before done.block (Out s.given) s.out,
 )
+
+abbrev given_in : Place → Given
+given_in (Out g) = g
+given_in (Home bytes) = no_given
+
+-- the deed that comes home is the one that was given
+pub given_back : (told : Bool) (places after : List Place) (k : ℕ) (p : Place) (g : Given) (done : FinishedTask)
+    → slice_get places k ≡ Some p → done.block ≡ k → (s : Settles told (slice_set places k (Out g)) done after)
+    → s.given ≡ g
+given_back told places after k p g done here at s =
+    let there = set_here places k (Out g) p here in
+    let out = ap (λ j. slice_get (slice_set places k (Out g)) j) (sym at) ∙ s.out in
+    ap given_in (same_Some _ _ (sym out ∙ there))
