@@ -1,6 +1,6 @@
 -- Lists read by `slice_get`, after one element was set.
 use Rattle.std.proofs.Common.{◌≡◌, ◌≢◌, ℕ, zero, suc, ◌⊎◌, List, [], ◌∷◌, map, refl, ap, inl, inr, arith, ⊎_elim}
-use Rattle.std.specs.Prelude.{slice_get, slice_set, slice_index_or, Some}
+use Rattle.std.specs.Prelude.{slice_get, slice_set, Some}
 use Rattle.std.proofs.lemmas.Option.{none-some, same_Some}
 
 module _ {A : Type 0} where
@@ -25,11 +25,6 @@ module _ {A : Type 0} where
   set_else (x ∷ xs) zero (suc j) a b n e = e
   set_else (x ∷ xs) (suc i) zero a b n e = e
   set_else (x ∷ xs) (suc i) (suc j) a b n e = set_else xs i j a b (λ h. n (ap suc h)) e
-
-  pub index_of : (l : List A) (i : ℕ) (a d : A) → slice_get l i ≡ Some a → slice_index_or l i d ≡ a
-  index_of [] i a d e = absurd (none-some a e)
-  index_of (x ∷ xs) zero a d e = same_Some x a e
-  index_of (x ∷ xs) (suc i) a d e = index_of xs i a d e
 
   pub mapped_at : {B : Type 0} (f : A → B) (l : List A) (i : ℕ) (b : B) → slice_get (map f l) i ≡ Some b
       → (a : A) × (slice_get l i ≡ Some a) × (f a ≡ b)

@@ -1,6 +1,6 @@
 -- A flush that went well leaves its bytes on the device, and the desk has them.
 use Rattle.std.proofs.Common.{◌≡◌, ℕ, Bool, true, List, ap, sym, ◌∙◌, subst}
-use Rattle.std.specs.Prelude.{slice_get, slice_set, Some, Result, Ok, Err, OnOk}
+use Rattle.std.specs.Prelude.{slice_get, slice_set, Some, Ok, Err, OnOk}
 use Rattle.pc_types.specs.declared.kind.Kind.{Kind}
 use Rattle.pc_types.specs.declared.kind.Kind.TheVariants.{Flush}
 use Rattle.blockdev.specs.Device.{Outcome}

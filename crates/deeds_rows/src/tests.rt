@@ -69,8 +69,11 @@ fn crossed<B: NamesDeeds>(
     );
 }
 
+/// What goes from thread to thread.
+fn may_be_sent<T: Send>(_value: &T) {}
+
 /// A flush to its end. Where it went well the desk has the bytes that it wrote, whoever else had deeds meanwhile.
-fn flushes<B: NamesDeeds>(
+fn flushes<B: NamesDeeds + Send>(
     desk: &mut Desk<B>,
     side: &mut DeviceSide<B>,
     device: &mut Watched<ScriptDevice>,
@@ -83,13 +86,17 @@ fn flushes<B: NamesDeeds>(
     ensures fits { Fits B.told device.new side.new }
     ensures well { OnOk result.outcome (slice_get desk.new job.block ≡ Some (Home job.bytes)) }
 {
+    may_be_sent(desk);
+    may_be_sent(side);
     let errand = desk.give(job);
+    may_be_sent(&errand);
     let report = made(side, device, errand);
+    may_be_sent(&report);
     desk.take_back(report)
 }
 
 /// A flush fails, and its block has the new bytes all the same.
-fn fails<B: NamesDeeds>(
+fn fails<B: NamesDeeds + Send>(
     rt: &impl Abort,
     alloc: Global,
     desk: &mut Desk<B>,
@@ -114,7 +121,7 @@ enum Row {
 }
 
 /// Opens over a device, and plays the row.
-fn plays<B: NamesDeeds>(
+fn plays<B: NamesDeeds + Send>(
     rt: &impl Abort,
     alloc: Global,
     opened: Opened,
