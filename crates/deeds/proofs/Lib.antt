@@ -1,0 +1,4 @@
+pub mod Lists
+pub mod Alone
+pub mod Keeps
+pub mod Known

@@ -1,0 +1,20 @@
+use Rattle.std.proofs.Common.{◌≡◌, List, ap, subst, sym, ◌∙◌}
+use Rattle.std.specs.Prelude.{slice_get, Some, OnOk}
+use Rattle.blockdev.specs.Jobs.{FinishedTask, Task}
+use Rattle.deeds.specs.Shown.{Settles}
+use Rattle.deeds.specs.Views.{home_in}
+use Rattle.deeds.specs.declared.views.Place.{Place}
+use Rattle.deeds.specs.declared.views.Place.TheVariants.{Home}
+use Rattle.deeds_rows.proofs.Flushed.{flush_home}
+use Rattle.deeds_rows.proofs.tests.flushes.Goals as goal
+
+pub returns-clause-well : goal.returns-clause-well
+returns-clause-well g c =
+    let job : Task = c.args.job in
+    let at = c.made-report.ensures.block ∙ ap (λ (t : Task). t.block) c.give-errand.ensures.errand in
+    let s = subst (λ (ps : List Place). Settles g.B.NamesDeeds.told ps c.made-report.result c.take_back.new.self)
+    c.give-errand.ensures.desk c.take_back.ensures.settled in
+    let well = flush_home g.B.NamesDeeds.told c.args.desk.now c.take_back.new.self job
+    (home_in c.args.desk.now job.block) c.made-report.result c.requires.told c.requires.job.0 c.requires.home at s in
+    subst (λ (f : FinishedTask). OnOk f.outcome (slice_get c.take_back.new.self job.block ≡ Some (Home job.bytes)))
+    (sym c.take_back.ensures.finished) well
