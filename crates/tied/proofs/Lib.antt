@@ -1,2 +1,4 @@
 pub mod Told
 pub mod Along
+pub mod Calls
+pub mod Tied

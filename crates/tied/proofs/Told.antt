@@ -51,7 +51,7 @@ MayEnd s t = t < s.next → is_some (finmap.get s.requests t) ≡ true
 abbrev Passes : State → State → Type 0
 Passes s new = (t : ℕ) → MayEnd new t → MayEnd s t
 
-kept_some : (s new : State) → Kept s new → (t : ℕ) → is_some (finmap.get new.requests t) ≡ true
+pub kept_some : (s new : State) → Kept s new → (t : ℕ) → is_some (finmap.get new.requests t) ≡ true
     → is_some (finmap.get s.requests t) ≡ true
 kept_some s new k t h =
     let x = some_of (finmap.get new.requests t) h in

@@ -64,14 +64,18 @@ deed_at held k = slice_index_or held k None
 
 -- ---- what is kept
 
--- the task is the device call of request t, which begins
+-- the device call of request t of the cache with this name
+abbrev pub task_of : ℕ → ℕ → Request → List ℕ → Task
+task_of name t x bytes = record { cache = name; serial = t; kind = x.kind; block = x.block; bytes = bytes }
+
+-- that of a request which has just begun: a flush has the bytes of its page
 pub record IsTaskOf (core : State) (t : ℕ) (x : Request) (task : Task) : Type 0 where
-  pub is : task ≡ record { cache = core.name; serial = t; kind = x.kind; block = x.block; bytes = task.bytes }
+  pub is : task ≡ task_of core.name t x task.bytes
   pub writes : x.kind ≡ Flush → task.bytes ≡ page_bytes core x.file x.page
 
 -- a deed was given for request t, in flight in this world
 pub record IsGiven (name : ℕ) (w : World) (t : ℕ) (x : Request) (given : Given) : Type 0 where
-  pub task : given.task ≡ record { cache = name; serial = t; kind = x.kind; block = x.block; bytes = given.task.bytes }
+  pub task : given.task ≡ task_of name t x given.task.bytes
   pub writes : x.kind ≡ Flush → map.get w.writing t ≡ Some given.task.bytes
   pub before : given.before ≡ block_bytes w x.block
 
