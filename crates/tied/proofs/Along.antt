@@ -1,5 +1,5 @@
 -- The worlds that such a history leads to are those of runs, with each device call right before its request's end.
-use Rattle.std.proofs.Common.{◌≡◌, ◌≢◌, ℕ, cond, eqb, List, [], ◌∷◌, refl, ap, sym, subst, ◌∙◌, inl, inr}
+use Rattle.std.proofs.Common.{◌≡◌, ℕ, List, [], ◌∷◌, refl, ap, sym, subst, ◌∙◌, inl, inr}
 use Rattle.std.specs.Prelude.{Option, Some, None}
 use Rattle.std.specs.FinMap as finmap
 use Rattle.std.specs.FinMap.{get-empty}
@@ -17,7 +17,7 @@ use Rattle.runs.proofs.events.Lookups.{get-insert1, get-remove1}
 use Rattle.runs.proofs.moments.Reached.{reached_always, reached_first, reached_step}
 use Rattle.runs.proofs.views.View.{put1_else, put1_here, put1_tells}
 use Rattle.trail.specs.declared.entry.Entry.{Entry}
-use Rattle.trail.specs.Honest.{Fate, end_made, world_over}
+use Rattle.trail.specs.Honest.{end_made, world_over}
 use Rattle.trail.proofs.TrailMoves.{acted, act_moves, called, call_moves, end_moves, finished}
 use Rattle.tied.specs.Tied.{IsToldOnce, GoesTo}
 

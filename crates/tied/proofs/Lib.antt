@@ -1,4 +1,5 @@
 pub mod Told
 pub mod Along
 pub mod Calls
+pub mod Tasks
 pub mod Tied

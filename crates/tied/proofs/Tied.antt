@@ -1,11 +1,12 @@
 -- Each step of the cache keeps its history tied to the device.
-use Rattle.std.proofs.Common.{◌≡◌, ◌≢◌, ℕ, ◌<◌, Bool, true, false, cond, List, [], ◌∷◌, ◌++◌, length, map, refl, ap, sym}
+use Rattle.std.proofs.Common.{◌≡◌, ◌≢◌, ℕ, ◌<◌, true, false, cond, List, [], ◌∷◌, ◌++◌, length, map, refl, ap, sym}
 use Rattle.std.proofs.Common.{subst, ◌∙◌, arith, inl, inr}
 use Rattle.std.specs.Prelude.{◌⊎◌, Option, Some, None, is_some, slice_set}
 use Rattle.std.specs.FinMap as finmap
 use Rattle.std.specs.FinMap.{get-empty}
 use Rattle.std.specs.Ordering.{nat_cmp}
-use Rattle.std.proofs.lemmas.List.{length-set}
+use Rattle.std.proofs.lemmas.Bool.{cases_lt}
+use Rattle.std.proofs.lemmas.List.{get_or_past, length-set}
 use Rattle.pc_types.specs.Kinds.{is_flush}
 use Rattle.pc_types.specs.Limits.{Sizes}
 use Rattle.pc_types.specs.declared.ids.Serial.{Serial}
@@ -39,10 +40,10 @@ use Rattle.trail.specs.Honest.{Fate, end_made, world_over}
 use Rattle.trail.proofs.HistoryLaws.{noted_step}
 use Rattle.trail.proofs.RunLaws.{at_call, bytes_in, else_call}
 use Rattle.trail.proofs.TrailMoves.{acted, no_end, no_job, over_of}
-use Rattle.tied.specs.Tied.{Comes, Given, GoesTo, IsGiven, IsTaskOf, IsToldOnce, Tied, deed_at, task_of}
+use Rattle.tied.specs.Tied.{Comes, Given, GoesTo, IsGiven, IsHonest, IsTaskOf, IsToldOnce, Tied, deed_at, task_of}
 use Rattle.tied.proofs.Along.{IsAlong, along, always_along}
 use Rattle.tied.proofs.Calls.{Fated, all_home, count_some, deed_some, fated, has_deed, set_tells, still_writing}
-use Rattle.tied.proofs.Told.{IsHonest, goes_on, honest_of, kept_some}
+use Rattle.tied.proofs.Told.{goes_on, honest_of, kept_some}
 
 -- ---- which end an entry makes
 
@@ -120,6 +121,45 @@ module _ (sizes : Sizes) (name : ℕ) (blocks : List (List ℕ)) (history : List
 
   blocks_are : w.core.sizes.blocks ≡ sizes.blocks
   blocks_are = ap (λ (s : Sizes). s.blocks) is_along.sizes_are
+
+  -- ---- what is told of a deed that is out, and of one at home
+
+  asked_is : (u : ℕ) (given : Given) → finmap.get out u ≡ Some given
+      → (x : Request) × (finmap.get core.requests u ≡ Some x) × IsGiven name w u x given
+  asked_is u given had =
+      let x = some_of (finmap.get core.requests u) (t.owned u given had) in
+      let a = t.asked u x.0 x.1 in
+      (x.0, x.1, subst (IsGiven name w u x.0) (same_value (finmap.get out u) a.0 given a.1 had) a.2)
+
+  -- the request that it was given for
+  pub given_for : (u : ℕ) (given : Given) → finmap.get out u ≡ Some given
+      → (x : Request) × (finmap.get core.requests u ≡ Some x) × (given.task ≡ task_of name u x given.task.bytes)
+  given_for u given had = let a = asked_is u given had in (a.0, a.1, a.2.task)
+
+  sized : (k : ℕ) → k < sizes.blocks → length (block_bytes w k) ≡ sizes.page
+  sized k low = always.block_sizes k (let a = blocks_are in omega (arith, a, low))
+      ∙ ap (λ (s : Sizes). s.page) is_along.sizes_are
+
+  -- its block is one of the device's, and had the size of one
+  pub given_fits : (u : ℕ) (given : Given) → finmap.get out u ≡ Some given
+      → (given.task.block < sizes.blocks) × (length given.before ≡ sizes.page)
+  given_fits u given had =
+      let a = asked_is u given had in
+      let is : finmap.get w.core.requests u ≡ Some a.0 =
+      ap (λ (s : State). finmap.get s.requests u) t.core_is ∙ a.1 in
+      let block : given.task.block ≡ a.0.block = ap (λ (z : Task). z.block) a.2.task in
+      let low : a.0.block < sizes.blocks =
+      (let b = (always.requests u a.0 is).block in let c = blocks_are in omega (arith, b, c)) in
+      (omega (arith, low, block), ap length a.2.before ∙ sized a.0.block low)
+
+  pub home_fits : (k : ℕ) (bytes : List ℕ) → deed_at held k ≡ Some bytes
+      → (k < sizes.blocks) × (length bytes ≡ sizes.page)
+  home_fits k bytes at =
+      let low = elim (cases_lt k (length held)) as (λ c. k < sizes.blocks) [
+        | inl a ↦ (let b = t.count in omega (arith, a, b))
+        | inr a ↦ absurd (let j : Some bytes ≡ None = sym at ∙ get_or_past held k None a in cc)
+      ] in
+      (low, sym (ap length (t.home k bytes at)) ∙ sized k low)
 
   -- ---- events that end no request
 
@@ -299,7 +339,8 @@ module _ (sizes : Sizes) (name : ℕ) (blocks : List (List ℕ)) (history : List
 
     -- the deed of its block is at home, and goes out with its task
     pub tied_begun : (bytes : List ℕ) × (deed_at held x.block ≡ Some bytes)
-        × ((task : Task) → IsTaskOf next u.0 x task → Tied sizes name blocks longer next (slice_set held x.block None)
+        × ((task : Task) → IsTaskOf next u.0 x task
+        → Tied sizes name blocks (history ++ entry_of seat e (reply.Job u) ∷ []) next (slice_set held x.block None)
         (finmap.insert out u.0 (record { task = task; before = bytes })))
     tied_begun = (deed.0, deed.1, taken_tied)
 
@@ -318,8 +359,8 @@ module _ (sizes : Sizes) (name : ℕ) (blocks : List (List ℕ)) (history : List
 
     is_given : IsGiven name w u x given
     is_given =
-        let a = t.asked u x is in
-        subst (IsGiven name w u x) (same_value (finmap.get out u) a.0 given a.1 had) a.2
+        let a = asked_is u given had in
+        subst (λ z. IsGiven name w u z given) (same_value (finmap.get core.requests u) a.0 x a.1 is) a.2
 
     is_here : finmap.get w.core.requests u ≡ Some x
     is_here = ap (λ (s : State). finmap.get s.requests u) t.core_is ∙ is

@@ -1,9 +1,9 @@
 -- A history that goes on by an entry; and one fate for each serial: a serial that has ended never comes back.
-use Rattle.std.proofs.Common.{◌≡◌, ◌≢◌, ℕ, ◌+◌, ◌<◌, ◌≤◌, Bool, true, false, cond, eqb, eq-eqb, List, [], ◌∷◌, ◌++◌}
+use Rattle.std.proofs.Common.{◌≡◌, ◌≢◌, ℕ, ◌<◌, true, false, cond, eqb, eq-eqb, List, [], ◌∷◌, ◌++◌}
 use Rattle.std.proofs.Common.{refl, ap, sym, subst, ◌∙◌, arith, inl, inr}
-use Rattle.std.specs.Prelude.{Option, Some, None, is_some, option_map}
+use Rattle.std.specs.Prelude.{Option, Some, None, is_some}
 use Rattle.std.specs.FinMap as finmap
-use Rattle.std.proofs.lemmas.Bool.{false≢true, ne_eqb}
+use Rattle.std.proofs.lemmas.Bool.{ne_eqb}
 use Rattle.pc_types.specs.Limits.{Sizes}
 use Rattle.machine.specs.declared.event.End.{End}
 use Rattle.machine.specs.declared.event.Event.{Event}
@@ -17,11 +17,11 @@ use Rattle.machine.proofs.steps.Choices.{some_of}
 use Rattle.maps.proofs.Maps.{get_left, get_inserted}
 use Rattle.runs.specs.Runs.{IsFirst}
 use Rattle.runs.specs.World.{World}
-use Rattle.runs.proofs.moments.KeptRequests.{Begun, Kept, Over, of_requests, stood, undropped}
+use Rattle.runs.proofs.moments.KeptRequests.{Begun, Kept, Over, of_requests, stood}
 use Rattle.trail.specs.declared.entry.Entry.{Entry}
-use Rattle.trail.specs.Honest.{EndTells, Fate, GoesHonestly, Honest, IsTold, end_made, world_over}
+use Rattle.trail.specs.Honest.{EndTells, Fate, GoesHonestly, IsTold, end_made, world_over}
 use Rattle.trail.proofs.TrailMoves.{no_end, over_of}
-use Rattle.tied.specs.Tied.{IsToldOnce, GoesTo, LeadsHonestly}
+use Rattle.tied.specs.Tied.{IsHonest, IsToldOnce, GoesTo, LeadsHonestly}
 
 pub goes_on : (w : World) (es : List Entry) (e : Entry) (mid new : World) → GoesTo w es mid
     → IsToldOnce mid e (end_made e.event e.reply) new → GoesTo w (es ++ e ∷ []) new
@@ -144,12 +144,6 @@ goes_honestly : (fates : ℕ → Fate) (w : World) (es : List Entry) (new : Worl
     → GoesHonestly fates w es
 goes_honestly fates w [] new h = tt
 goes_honestly fates w (e ∷ es) new h = (h.0, h.1, goes_honestly fates h.0 es new h.2)
-
--- what is told of an honest history: its first device, and its last world
-pub record IsHonest (sizes : Sizes) (name : ℕ) (blocks : List (List ℕ)) (es : List Entry) (new : World) : Type 0 where
-  pub honest : Honest sizes name es
-  pub device : honest.device ≡ blocks
-  pub leads : LeadsHonestly honest.fates (world_over sizes name honest.device) es new
 
 pub honest_of : (sizes : Sizes) (name : ℕ) (blocks : List (List ℕ)) (es : List Entry) (new : World)
     → IsFirst (world_over sizes name blocks) → GoesTo (world_over sizes name blocks) es new

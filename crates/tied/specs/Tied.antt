@@ -16,7 +16,7 @@ use Rattle.machine.specs.State.{State, Request, page_bytes}
 use Rattle.runs.specs.Runs.{IsFirst}
 use Rattle.runs.specs.World.{World, Acts, block_bytes}
 use Rattle.trail.specs.declared.entry.Entry.{Entry}
-use Rattle.trail.specs.Honest.{Fate, IsTold, EndTells, end_made, world_over}
+use Rattle.trail.specs.Honest.{Fate, Honest, IsTold, EndTells, end_made, world_over}
 
 -- ---- histories that go on
 
@@ -36,6 +36,12 @@ abbrev pub LeadsHonestly : (ℕ → Fate) → World → List Entry → World →
 LeadsHonestly fates w [] new = new ≡ w
 LeadsHonestly fates w (e ∷ es) new =
     (mid : World) × IsTold fates w e (end_made e.event e.reply) mid × LeadsHonestly fates mid es new
+
+-- the history is honest over these first blocks, and leads to this world
+pub record IsHonest (sizes : Sizes) (name : ℕ) (blocks : List (List ℕ)) (history : List Entry) (new : World) : Type 0 where
+  pub honest : Honest sizes name history
+  pub device : honest.device ≡ blocks
+  pub leads : LeadsHonestly honest.fates (world_over sizes name blocks) history new
 
 -- ---- deeds
 
