@@ -344,6 +344,18 @@ module _ (sizes : Sizes) (name : ℕ) (blocks : List (List ℕ)) (history : List
         (finmap.insert out u.0 (record { task = task; before = bytes })))
     tied_begun = (deed.0, deed.1, taken_tied)
 
+    -- the same by the task
+    pub tied_given : (task : Task) → IsTaskOf next u.0 x task → (bytes : List ℕ) × (deed_at held task.block ≡ Some bytes)
+        × Tied sizes name blocks (history ++ entry_of seat e (reply.Job u) ∷ []) next (slice_set held task.block None)
+        (finmap.insert out u.0 (record { task = task; before = bytes }))
+    tied_given task job =
+        let block : task.block ≡ x.block = ap (λ (z : Task). z.block) job.is in (
+          deed.0,
+          ap (deed_at held) block ∙ deed.1,
+          subst (λ k. Tied sizes name blocks longer next (slice_set held k None)
+              (finmap.insert out u.0 (record { task = task; before = deed.0 }))) (sym block) (taken_tied task job),
+        )
+
   -- ---- the end of a request
 
   module _ (seat : ℕ) (kind : Kind) (end : End) (r : Reply) (next : State)
@@ -471,6 +483,20 @@ module _ (sizes : Sizes) (name : ℕ) (blocks : List (List ℕ)) (history : List
             ])
       ];
     }
+
+  -- the same by the task
+  pub tied_back : (seat : ℕ) (kind : Kind) (end : End) (r : Reply) (next : State)
+      → end_made (event.End kind end) r ≡ Some end → Step core (event.End kind end) r next → (given : Given)
+      → finmap.get out end.serial.0 ≡ Some given → (finished : FinishedTask) (left : List ℕ)
+      → Comes given.task given.before finished left → end ≡ end_of finished
+      → Tied sizes name blocks (history ++ entry_of seat (event.End kind end) r ∷ []) next
+      (slice_set held given.task.block (Some left)) (finmap.remove out end.serial.0)
+  tied_back seat kind end r next made step given had finished left comes of =
+      let a = given_for end.serial.0 given had in
+      let block : given.task.block ≡ a.0.block = ap (λ (z : Task). z.block) a.2 in
+      subst (λ k. Tied sizes name blocks (history ++ entry_of seat (event.End kind end) r ∷ []) next
+      (slice_set held k (Some left)) (finmap.remove out end.serial.0)) (sym block)
+      (tied_ended seat kind end r next made step a.0 a.1 given had finished left comes of)
 
   -- ---- a cache at rest
 

@@ -60,8 +60,10 @@ Leaves Flush (Err code) before bytes after left = (left ≡ before) ⊎ (left �
 
 -- the call that a deed was given for was made: what came of it, and the bytes that its block was left with
 pub record Comes (task : Task) (before : List ℕ) (finished : FinishedTask) (left : List ℕ) : Type 0 where
+  pub cache : finished.cache ≡ task.cache
   pub serial : finished.serial ≡ task.serial
   pub kind : finished.kind ≡ task.kind
+  pub block : finished.block ≡ task.block
   pub call : Leaves task.kind finished.outcome before task.bytes finished.bytes left
 
 -- the deed of a block, where it is at home: the block's bytes
