@@ -25,6 +25,7 @@ use Rattle.machine.specs.State.{State, Request, page_bytes}
 use Rattle.machine.specs.Step.{Step}
 use Rattle.machine.proofs.steps.Choices.{some_of}
 use Rattle.maps.specs.Maps.{put_some}
+use Rattle.maps.proofs.MapLaws.{same_nat_map}
 use Rattle.maps.proofs.Maps.{get_left}
 use Rattle.runs.specs.Always.{Always}
 use Rattle.runs.specs.Runs.{IsFirst}
@@ -337,6 +338,14 @@ module _ (sizes : Sizes) (name : ℕ) (blocks : List (List ℕ)) (history : List
         ];
       }
 
+    -- no deed is out for its serial yet
+    pub tied_fresh : finmap.get out u.0 ≡ None
+    tied_fresh = elim (finmap.get out u.0) as (λ o. finmap.get out u.0 ≡ o → o ≡ None) [
+      | None ↦ λ _. refl
+      | Some g ↦ λ had.
+          let y = some_of (finmap.get core.requests u.0) (t.owned u.0 g had) in absurd (older u.0 y.0 y.1 refl)
+    ] refl
+
     -- the deed of its block is at home, and goes out with its task
     pub tied_begun : (bytes : List ℕ) × (deed_at held x.block ≡ Some bytes)
         × ((task : Task) → IsTaskOf next u.0 x task
@@ -512,3 +521,15 @@ module _ (sizes : Sizes) (name : ℕ) (blocks : List (List ℕ)) (history : List
       let a = some_of (deed_at held k) (t.rest k (let b = t.count in omega (arith, b, low)) (λ i y was. absurd (
       let j : None ≡ Some y = sym (get-empty nat_cmp i) ∙ ap (λ m. finmap.get m i) (sym resting) ∙ was in cc))) in
       a.1 ∙ ap Some (sym (t.home k a.0 a.1)))
+
+  -- and none is out
+  pub tied_none_out : core.requests ≡ finmap.empty → out ≡ finmap.empty
+  tied_none_out resting = same_nat_map out finmap.empty (λ u.
+      elim (finmap.get out u) as (λ o. finmap.get out u ≡ o → o ≡ None) [
+        | None ↦ λ _. refl
+        | Some g ↦ λ had. absurd (
+            let j : false ≡ true = ap is_some (sym (get-empty {X = Request} nat_cmp u))
+            ∙ ap (λ m. is_some (finmap.get m u)) (sym resting) ∙ t.owned u g had in
+            cc
+            )
+      ] refl ∙ sym (get-empty nat_cmp u))
