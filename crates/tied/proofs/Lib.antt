@@ -1,0 +1,6 @@
+pub mod Told
+pub mod Along
+pub mod Calls
+pub mod Tasks
+pub mod Performed
+pub mod Tied
