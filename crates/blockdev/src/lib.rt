@@ -19,7 +19,9 @@ pub mod fault;
 pub mod file;
 pub mod gated;
 pub mod job;
+pub mod mem_file;
 pub mod memory;
+pub mod raw;
 pub mod script;
 pub mod watched;
 
@@ -29,6 +31,8 @@ pub use fault::{Fault, FaultEffect};
 pub use file::FileDevice;
 pub use gated::{Gate, GatedDevice};
 pub use job::{Finished, FinishedParts, Job, perform};
+pub use mem_file::MemFile;
 pub use memory::MemDevice;
+pub use raw::RawFile;
 pub use script::ScriptDevice;
 pub use watched::Watched;
