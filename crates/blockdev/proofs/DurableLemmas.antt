@@ -4,10 +4,10 @@ use Rattle.std.proofs.lemmas.Option.{none-some, same_Some}
 use Rattle.blockdev.specs.Device.{Told, Settles, told_at}
 
 pub settles_kept : (old new : Told) → new.durable ≡ old.durable → Settles old new
-settles_kept old new e = record { block = λ b. inl (ap (λ (d : Option (List (List ℕ))). told_at d b) e) }
+settles_kept old new e = λ b. inl (ap (λ (d : Option (List (List ℕ))). told_at d b) e)
 
 pub settles_held : (old new : Told) → new.durable ≡ new.contents → Settles old new
-settles_held old new e = record { block = λ b. inr (inr (ap (λ (d : Option (List (List ℕ))). told_at d b) e)) }
+settles_held old new e = λ b. inr (inr (ap (λ (d : Option (List (List ℕ))). told_at d b) e))
 
 -- lists with the same elements
 same_list : (xs ys : List (List ℕ)) → ((b : ℕ) → slice_get xs b ≡ slice_get ys b) → xs ≡ ys
@@ -28,7 +28,7 @@ pub stays_durable : (old new : Told) → Settles old new → new.contents ≡ ol
 stays_durable old new s same all =
     same_told new.durable new.contents (λ b.
     let at : Option (List (List ℕ)) → Option (Option (List ℕ)) = λ (d : Option (List (List ℕ))). told_at d b in
-    elim (s.block b) [
+    elim (s b) [
       | inl was ↦ was ∙ ap at (all ∙ sym same)
       | inr held ↦ elim held [ inl had ↦ had ∙ ap at (sym same) | inr has ↦ has ]
     ])

@@ -57,8 +57,8 @@ shown s n bytes synced calls flushes faults =
 settles_whole : (s n : ℕ) (bytes synced bytes2 synced2 : Option (List ℕ)) (c c2 l l2 f f2 : ℕ) → (synced2 ≡ synced) ⊎ (synced2 ≡ bytes2)
     → Settles (shown s n bytes synced c l f) (shown s n bytes2 synced2 c2 l2 f2)
 settles_whole s n bytes synced bytes2 synced2 c c2 l l2 f f2 h = elim h [
-  | inl kept ↦ settles_kept _ _ (ap (told_blocks s n) kept)
-  | inr held ↦ settles_held _ _ (ap (told_blocks s n) held)
+  | inl kept ↦ settles_kept (shown s n bytes synced c l f) (shown s n bytes2 synced2 c2 l2 f2) (ap (told_blocks s n) kept)
+  | inr held ↦ settles_held (shown s n bytes synced c l f) (shown s n bytes2 synced2 c2 l2 f2) (ap (told_blocks s n) held)
 ]
 
 module _ (s n b o : ℕ) (these : List ℕ) (bytes synced bytes2 synced2 : Option (List ℕ)) (calls flushes faults : ℕ)
@@ -138,7 +138,7 @@ file_read s n b o k bytes synced calls flushes faults before after below at size
       call = record {
         size = refl;
         count = refl;
-        durable = settles_kept _ _ refl;
+        durable = λ b. inl refl;
         flush_plan = refl;
         flushes = refl;
         calls = λ _. refl;

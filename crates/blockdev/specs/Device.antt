@@ -73,9 +73,9 @@ told_at told b = option_map (λ (blocks : List (List ℕ)). slice_get blocks b) 
 
 -- what is durable of each block after a call: what was, or what the device held of it before the call or after it. A device may
 -- make a write durable at any time
-pub record Settles (old new : Told) : Type 0 where
-  pub block : (b : ℕ) → (told_at new.durable b ≡ told_at old.durable b)
-      ⊎ ((told_at new.durable b ≡ told_at old.contents b) ⊎ (told_at new.durable b ≡ told_at new.contents b))
+abbrev pub Settles : Told → Told → Type 0
+Settles old new = (b : ℕ) → (told_at new.durable b ≡ told_at old.durable b)
+    ⊎ ((told_at new.durable b ≡ told_at old.contents b) ⊎ (told_at new.durable b ≡ told_at new.contents b))
 
 -- what every call does: the device before it, the answer, the device after it
 pub record Calls (old : Told) (r : Outcome) (new : Told) : Type 0 where

@@ -1,4 +1,4 @@
--- What of the device is durable: a flush that ends well makes all of it so, and no other step makes anything so.
+-- A flush of the device.
 use Rattle.std.proofs.Common.{◌≡◌, List, [], ◌∷◌, refl, ap, subst, ◌∙◌, inl, inr}
 use Rattle.std.specs.Prelude.{ℕ, unwrap_or}
 use Rattle.pc_types.specs.declared.kind.Kind.{Kind}
@@ -13,8 +13,6 @@ use Rattle.world.specs.Flushing.{IsFlushed}
 use Rattle.blockdev.specs.Watching.{Watch, Clears}
 use Rattle.world.proofs.StepKinds.{comes_to}
 use Rattle.world.specs.Stepping.{Plays, Steps, WorldSeen, world_of}
-
--- ---- a flush
 
 module _ (core : State) (jobs : Jobs) (dev new : Watch) (r : Outcome) (f : Clears dev r new) where
   pub flush_keeps : IsWorld core jobs dev → IsWorld core jobs new
@@ -36,32 +34,3 @@ module _ (core : State) (jobs : Jobs) (dev new : Watch) (r : Outcome) (f : Clear
       device = unwrap_or ((ap (λ (d : Told). d.contents) f.flushes.same) i) [];
     };
   })
-
--- ---- every other step
-
-by_call : (k : Kind) (old new : Told) (b : ℕ) (before after : List ℕ) (o : Outcome)
-    → Transfers k old b before o after new → new.durable ≡ old.durable
-by_call Fill old new b before after o h = h.call.durable
-by_call Flush old new b before after o h = h.0.call.durable
-
-same_seen : (old new : WorldSeen) → new ≡ old → new.device.durable ≡ old.device.durable
-same_seen old new d = ap (λ (x : WorldSeen). x.device.durable) d
-
-pub step_durable : (s : Step) (r : Reply) (old new : WorldSeen) → Steps old s r new
-    → new.device.durable ≡ old.device.durable
-step_durable s r old new m = elim (comes_to s r old new m) [
-  | inl a ↦ ap (λ (x : Told). x.durable) a.1
-  | inr b ↦ elim b [
-    | inl c ↦ same_seen old new c.0
-    | inr d ↦ (let h = d.called in by_call h.job.kind old.device new.device h.job.block h.job.bytes h.done.bytes
-        h.done.outcome h.performs.call)
-  ]
-]
-
-pub plays_durable : (ss : List Step) (rs : List Reply) (old new : WorldSeen) → Plays old ss rs new
-    → new.device.durable ≡ old.device.durable
-plays_durable [] [] old new p = same_seen old new p
-plays_durable [] (r ∷ rs) old new p = absurd p
-plays_durable (s ∷ ss) [] old new p = absurd p
-plays_durable (s ∷ ss) (r ∷ rs) old new p =
-    plays_durable ss rs p.0 new p.2 ∙ step_durable s r old p.0 p.1
