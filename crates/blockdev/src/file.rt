@@ -1,14 +1,14 @@
 //! A device over a file of the system: a regular file, a partition, or a network block device that the system shows as one.
 //!
-//! What it holds is the file's bytes, cut into blocks, where the file tells them. A file of the system tells none (`raw`), so of a
-//! device over one it is a premise that it returns what was written to it.
+//! What it holds is the file's bytes, cut into blocks, where the file tells them. A file of the system tells none (`raw`), so that
+//! a device over one returns what was written to it is a premise.
 
 ghost use Rattle.std.specs.Prelude.{◌≡◌, ◌<◌, ◌≤◌, ◌*◌, ◌^◌, ◌⊎◌, None, Err, true, false, IfErr, IfOk, IfSome, OnErr, OnOk, length, vec_len};
 ghost use Rattle.blockdev.specs.Device.{Reads, Writes, Flushes};
 ghost use Rattle.blockdev.specs.Files.{over_file};
 
 use crate::device::BlockDevice;
-use crate::raw::RawFile;
+use crate::raw::{RawFile, SystemFile};
 use pc_types::{BlockNo, ErrCode, Refusal};
 use std::alloc::Global;
 use std::fs::{File, Files, OpenOptions};
@@ -22,7 +22,7 @@ const MAX_BYTES: u64 = i64::MAX as u64;
 
 /// Blocks one after another in a file, from its beginning. Every fault has code 5.
 #[derive(Drop)]
-pub struct FileDevice<F: RawFile = File> {
+pub struct FileDevice<F: RawFile = SystemFile> {
     file: F,
     size: u64,
     count: u64,
@@ -74,7 +74,7 @@ impl FileDevice {
         let Ok(file) = open_long(files, path, bytes) else {
             return Err(Refusal::Io(ErrCode::IO));
         };
-        Ok(FileDevice::new(file, block_size, blocks, spare))
+        Ok(FileDevice::new(SystemFile::new(file), block_size, blocks, spare))
     }
 }
 

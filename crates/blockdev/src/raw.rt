@@ -3,14 +3,15 @@
 ghost use Rattle.std.specs.Prelude.{◌≡◌, ◌≤◌, ◌+◌, ◌⊎◌, Option, List, ℕ, true, false, None, IfSome, length};
 ghost use Rattle.blockdev.specs.Files.{bytes_at, put_at};
 
-use std::fs::OpenFile;
+use std::fs::{File, OpenFile};
 use std::io;
 use std::os::unix::fs::FileExt;
 
 /// A file of bytes, read and written from an offset on. It may tell its bytes, and those that would be left if the power went.
 ///
-/// A call that is cut short is gone on with inside of these, so each is told as a whole. That a write which fails, and a sync
-/// which fails, takes effect whole or not at all is a premise on a file that tells its bytes: `BlockDevice` asks it of blocks.
+/// A call that the system cuts short is gone on with in here. Of a file that tells its bytes it is a premise that a write that
+/// fails took effect whole or not at all, and that the file becomes durable whole or not at all: `BlockDevice` asks it block by
+/// block.
 pub trait RawFile: Drop {
     ghost bytes: { Self → Option (List ℕ) };
 
@@ -35,22 +36,35 @@ pub trait RawFile: Drop {
 }
 
 /// A file of the system. Which bytes a system call moves is told by no clause, so it tells none.
-impl<F: FileExt + OpenFile + Drop> RawFile for F {
+#[derive(Drop)]
+pub struct SystemFile<F: FileExt + OpenFile + Drop = File> {
+    file: F,
+}
+
+impl<F: FileExt + OpenFile + Drop> SystemFile<F> {
+    pub fn new(file: F) -> SystemFile<F>
+        ensures { result.file ≡ file }
+    {
+        SystemFile { file }
+    }
+}
+
+impl<F: FileExt + OpenFile + Drop> RawFile for SystemFile<F> {
     ghost bytes = { λ _. None };
 
     ghost synced = { λ _. None };
 
     #[inline(always)]
     fn read_at(&self, out: &mut [u8], offset: u64) -> bool {
-        read_whole(self, out, offset)
+        read_whole(&self.file, out, offset)
     }
 
     fn write_at(&mut self, these: &[u8], offset: u64) -> bool {
-        self.write_all_at(these, offset).is_ok()
+        self.file.write_all_at(these, offset).is_ok()
     }
 
     fn sync(&mut self) -> bool {
-        self.sync_data().is_ok()
+        self.file.sync_data().is_ok()
     }
 }
 

@@ -3,7 +3,7 @@
 ghost use Rattle.std.specs.Prelude.{◌≡◌, ◌<◌, IfOk};
 
 use crate::checks::{check, same};
-use blockdev::{BlockDevice, FileDevice, MemFile};
+use blockdev::{BlockDevice, FileDevice, MemFile, SystemFile};
 use pc_types::{BlockNo, ErrCode, Refusal};
 use std::cell::Cell;
 use std::fs::{Metadata, OpenFile, OpenOptions};
@@ -186,7 +186,12 @@ impl OpenFile for Slow {
 
 #[test]
 fn a_call_that_is_cut_short_is_gone_on_with(rt: HostRuntime) -> Result<(), Fail> {
-    let mut device = FileDevice::new(Slow::new(), 16, 4, vec![in rt.alloc(); 9; 16]?);
+    let mut device = FileDevice::new(
+        SystemFile::new(Slow::new()),
+        16,
+        4,
+        vec![in rt.alloc(); 9; 16]?,
+    );
     let mut out = [9; 16];
     check(&rt, device.read(BlockNo(2), &mut out).is_ok());
     same(&rt, out, [0; 16]);
@@ -197,7 +202,12 @@ fn a_call_that_is_cut_short_is_gone_on_with(rt: HostRuntime) -> Result<(), Fail>
 // Its third sync would succeed, and says nothing of what was written before the second.
 #[test]
 fn a_flush_that_failed_is_not_forgotten(rt: HostRuntime) -> Result<(), Fail> {
-    let mut device = FileDevice::new(Slow::new(), 16, 4, vec![in rt.alloc(); 9; 16]?);
+    let mut device = FileDevice::new(
+        SystemFile::new(Slow::new()),
+        16,
+        4,
+        vec![in rt.alloc(); 9; 16]?,
+    );
     check(&rt, device.flush().is_ok());
     for failed in 1..4 {
         same(&rt, device.flush(), Err(ErrCode::IO));
@@ -256,7 +266,7 @@ fn a_read_that_is_refused_is_made_once(rt: HostRuntime) -> Result<(), Fail> {
     let shy = Shy {
         reads: Cell::new(0),
     };
-    let mut device = FileDevice::new(shy, 16, 4, vec![in rt.alloc(); 9; 16]?);
+    let mut device = FileDevice::new(SystemFile::new(shy), 16, 4, vec![in rt.alloc(); 9; 16]?);
     let mut out = [9; 16];
     same(&rt, device.read(BlockNo(2), &mut out), Ok(()));
     same(&rt, out, [7; 16]);

@@ -1,5 +1,5 @@
 use Rattle.std.proofs.Common.{arith, ◌+◌, length, take, ◌<◌, ◌≡◌, ◌∷◌, ◌++◌, [], List, ap, sym, ◌∙◌, subst}
-use Rattle.std.proofs.lemmas.List.{take_all, take_more}
+use Rattle.std.proofs.lemmas.List.{take_more}
 use Rattle.world.specs.declared.step.Step.{Step}
 use Rattle.world.specs.Stepping.{Plays}
 use Rattle.world.proofs.PlayLemmas.{plays-snoc}

@@ -1,18 +1,12 @@
 -- A flush of the device.
-use Rattle.std.proofs.Common.{◌≡◌, List, [], ◌∷◌, refl, ap, subst, ◌∙◌, inl, inr}
-use Rattle.std.specs.Prelude.{ℕ, unwrap_or}
-use Rattle.pc_types.specs.declared.kind.Kind.{Kind}
-use Rattle.pc_types.specs.declared.kind.Kind.TheVariants.{Fill, Flush}
+use Rattle.std.proofs.Common.{◌≡◌, [], refl, ap, subst, ◌∙◌}
+use Rattle.std.specs.Prelude.{unwrap_or}
 use Rattle.blockdev.specs.Device.{Outcome, Told}
-use Rattle.blockdev.specs.Jobs.{Transfers}
-use Rattle.machine.specs.declared.event.Reply.{Reply}
+use Rattle.blockdev.specs.Watching.{Watch, Clears}
 use Rattle.machine.specs.State.{State}
-use Rattle.world.specs.declared.step.Step.{Step}
 use Rattle.world.specs.Flights.{Jobs, IsWorld, seen_of}
 use Rattle.world.specs.Flushing.{IsFlushed}
-use Rattle.blockdev.specs.Watching.{Watch, Clears}
-use Rattle.world.proofs.StepKinds.{comes_to}
-use Rattle.world.specs.Stepping.{Plays, Steps, WorldSeen, world_of}
+use Rattle.world.specs.Stepping.{WorldSeen, world_of}
 
 module _ (core : State) (jobs : Jobs) (dev new : Watch) (r : Outcome) (f : Clears dev r new) where
   pub flush_keeps : IsWorld core jobs dev → IsWorld core jobs new
