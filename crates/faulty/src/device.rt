@@ -74,6 +74,7 @@ impl<D: BlockDevice> BlockDevice for FaultyDevice<D> {
         self.flushes
     }
 
+    #[tactic(auto, using(blockdev::proofs::DurableLemmas::settles_kept))]
     fn read(&mut self, block: BlockNo, out: &mut [u8]) -> Result<(), ErrCode> {
         if self.calls == u64::MAX {
             return Err(ErrCode::IO);
@@ -90,6 +91,7 @@ impl<D: BlockDevice> BlockDevice for FaultyDevice<D> {
         read
     }
 
+    #[tactic(auto, using(blockdev::proofs::DurableLemmas::settles_kept))]
     fn write(&mut self, block: BlockNo, bytes: &[u8]) -> Result<(), ErrCode> {
         if self.calls == u64::MAX {
             return Err(ErrCode::IO);
@@ -109,6 +111,7 @@ impl<D: BlockDevice> BlockDevice for FaultyDevice<D> {
         Ok(())
     }
 
+    #[tactic(auto, using(blockdev::proofs::DurableLemmas::settles_kept))]
     fn flush(&mut self) -> Result<(), ErrCode> {
         if self.flushes == u64::MAX {
             return Err(ErrCode::IO);

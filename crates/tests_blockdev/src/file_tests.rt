@@ -1,9 +1,9 @@
 //! A device over a file: what it takes, what it refuses, what a system call cut short means, and a flush that failed.
 
-ghost use Rattle.std.specs.Prelude.{◌≡◌, ◌<◌};
+ghost use Rattle.std.specs.Prelude.{◌≡◌, ◌<◌, IfOk};
 
 use crate::checks::{check, same};
-use blockdev::{BlockDevice, FileDevice};
+use blockdev::{BlockDevice, FileDevice, MemFile, SystemFile};
 use pc_types::{BlockNo, ErrCode, Refusal};
 use std::cell::Cell;
 use std::fs::{Metadata, OpenFile, OpenOptions};
@@ -34,7 +34,7 @@ fn has_len(rt: &HostRuntime, path: Path, len: u64) -> bool {
 }
 
 fn writes_and_reads(rt: &impl Abort, device: &mut FileDevice)
-    requires { (device.old.size ≡ 16) × (3 < device.old.count) }
+    requires { (device.old.told.size ≡ 16) × (3 < device.old.told.count) }
 {
     let mut out = [9; 16];
     let written = device.write(BlockNo(3), b"sixteen bytes...");
@@ -108,7 +108,7 @@ fn cut(rt: &HostRuntime, path: Path) -> io::Result<()> {
 }
 
 fn reads_what_is_left(rt: &impl Abort, device: &mut FileDevice)
-    requires { (device.old.size ≡ 16) × (3 < device.old.count) }
+    requires { (device.old.told.size ≡ 16) × (3 < device.old.told.count) }
 {
     let mut out = [9; 16];
     same(rt, device.read(BlockNo(0), &mut out), Ok(()));
@@ -186,7 +186,12 @@ impl OpenFile for Slow {
 
 #[test]
 fn a_call_that_is_cut_short_is_gone_on_with(rt: HostRuntime) -> Result<(), Fail> {
-    let mut device = FileDevice::new(Slow::new(), 16, 4, vec![in rt.alloc(); 9; 16]?);
+    let mut device = FileDevice::new(
+        SystemFile::new(Slow::new()),
+        16,
+        4,
+        vec![in rt.alloc(); 9; 16]?,
+    );
     let mut out = [9; 16];
     check(&rt, device.read(BlockNo(2), &mut out).is_ok());
     same(&rt, out, [0; 16]);
@@ -197,7 +202,12 @@ fn a_call_that_is_cut_short_is_gone_on_with(rt: HostRuntime) -> Result<(), Fail>
 // Its third sync would succeed, and says nothing of what was written before the second.
 #[test]
 fn a_flush_that_failed_is_not_forgotten(rt: HostRuntime) -> Result<(), Fail> {
-    let mut device = FileDevice::new(Slow::new(), 16, 4, vec![in rt.alloc(); 9; 16]?);
+    let mut device = FileDevice::new(
+        SystemFile::new(Slow::new()),
+        16,
+        4,
+        vec![in rt.alloc(); 9; 16]?,
+    );
     check(&rt, device.flush().is_ok());
     for failed in 1..4 {
         same(&rt, device.flush(), Err(ErrCode::IO));
@@ -256,11 +266,45 @@ fn a_read_that_is_refused_is_made_once(rt: HostRuntime) -> Result<(), Fail> {
     let shy = Shy {
         reads: Cell::new(0),
     };
-    let mut device = FileDevice::new(shy, 16, 4, vec![in rt.alloc(); 9; 16]?);
+    let mut device = FileDevice::new(SystemFile::new(shy), 16, 4, vec![in rt.alloc(); 9; 16]?);
     let mut out = [9; 16];
     same(&rt, device.read(BlockNo(2), &mut out), Ok(()));
     same(&rt, out, [7; 16]);
     same(&rt, device.read(BlockNo(2), &mut out), Err(ErrCode::IO));
     same(&rt, (device.calls(), device.faults()), (2, 1));
+    Ok(())
+}
+
+/// A device over a file in memory, whose first sync fails and whose second would go well.
+fn over_memory(rt: &HostRuntime) -> Result<FileDevice<MemFile>, Fail>
+    ensures { IfOk result (λ d. (d.told.size ≡ 16) × (d.told.count ≡ 4)) }
+{
+    let mut file = MemFile::zeros(rt.alloc(), 70)?;
+    file.fail_next_sync();
+    Ok(FileDevice::new(file, 16, 4, vec![in rt.alloc(); 9; 16]?))
+}
+
+/// Reads the block.
+fn reads_as(rt: &impl Abort, device: &mut FileDevice<MemFile>, block: u32, wanted: &[u8; 16])
+    requires { (device.old.told.size ≡ 16) × (block < device.old.told.count) }
+    ensures { (device.new.told.size ≡ 16) × (device.new.told.count ≡ device.old.told.count) }
+{
+    let mut out = [9; 16];
+    same(rt, device.read(BlockNo(block), &mut out), Ok(()));
+    check(rt, out == *wanted);
+}
+
+#[test]
+fn over_a_file_in_memory_one_block_is_written(rt: HostRuntime) -> Result<(), Fail> {
+    let mut device = over_memory(&rt)?;
+    same(&rt, device.write(BlockNo(2), b"sixteen bytes..."), Ok(()));
+    reads_as(&rt, &mut device, 1, &[0; 16]);
+    reads_as(&rt, &mut device, 2, b"sixteen bytes...");
+    reads_as(&rt, &mut device, 3, &[0; 16]);
+    for faults in 1..3 {
+        same(&rt, device.flush(), Err(ErrCode::IO));
+        same(&rt, device.faults(), faults);
+    }
+    same(&rt, (device.calls(), device.flushes()), (4, 2));
     Ok(())
 }
