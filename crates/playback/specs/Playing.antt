@@ -5,14 +5,17 @@ use Rattle.std.specs.FinMap as finmap
 use Rattle.blockdev.specs.Device.{Told}
 use Rattle.pc_types.specs.Limits.{Sizes}
 use Rattle.pc_types.specs.declared.kind.Kind.{Kind}
-use Rattle.pc_types.specs.declared.refusal.Refusal.TheVariants.{Memory}
+use Rattle.pc_types.specs.declared.refusal.Refusal.TheVariants.{Memory, Stranger}
 use Rattle.machine.specs.declared.event.End.{End}
 use Rattle.machine.specs.declared.event.Event.{Event}
 use Rattle.machine.specs.declared.event.Event.TheVariants as event
 use Rattle.machine.specs.declared.event.Reply.{Reply}
 use Rattle.machine.specs.declared.event.Reply.TheVariants as reply
+use Rattle.machine.specs.State.{Request}
+use Rattle.machine.specs.Tests.{refuse, tests}
 use Rattle.runs.specs.World.{World, Act, WorldStep}
 use Rattle.trail.specs.declared.entry.Entry.{Entry}
+use Rattle.trail.specs.Entries.{end_with}
 use Rattle.trail.specs.Honest.{Fate, Honest, EndTells, IsTold, end_made, world_over}
 use Rattle.world.specs.declared.step.Step.{Step}
 use Rattle.world.specs.declared.step.Step.TheVariants as step
@@ -67,19 +70,45 @@ pub record IsReady (name : ℕ) (w : WorldSeen) : Type 0 where
 abbrev pub IsCalled : WorldSeen → ℕ → WorldSeen → Type 0
 IsCalled old t new = MovesByCall old t new × (is_some new.device.contents ≡ true)
 
--- an entry agrees
-abbrev pub IsEntry : WorldSeen → Entry → WorldSeen → Type 0
-IsEntry old e new =
-    (fate : Fate) × IsTold (λ _. fate) (world_of old) e (end_made e.event e.reply) (world_of new)
+-- an event with its reply
+abbrev pub entry : Event → Reply → Entry
+entry e r = record { seat = 0; event = e; reply = r }
+
+-- an entry agrees: the world goes on as it tells
+abbrev pub IsAgreed : ℕ → WorldSeen → Entry → WorldSeen → Type 0
+IsAgreed name old e new =
+    ((fate : Fate) × IsTold (λ _. fate) (world_of old) e (end_made e.event e.reply) (world_of new)) × IsReady name new
+
+-- the entries lead from the first world to this one, and so they do by other fates of what has not ended
+pub record Went (first : World) (history : List Entry) (w : World) : Type 0 where
+  pub fates : ℕ → Fate
+  pub leads : (other : ℕ → Fate)
+      → ((t : ℕ) → t < w.core.next → finmap.get w.core.requests t ≡ None → other t ≡ fates t)
+      → LeadsTo other first history w
+  pub given : (t : ℕ) (x : Request) → finmap.get w.core.requests t ≡ Some x → t < w.core.next
+
+-- so do the entries before this place
+abbrev pub Stands : World → List Entry → ℕ → Type 0
+Stands first history place =
+    (place < length history) × (w : World) × Went first (played (take place history)) w
 
 -- or is passed over
 abbrev pub IsPlayed : ℕ → WorldSeen → Entry → WorldSeen → Type 0
 IsPlayed name old e new =
-    (wants_no_memory e.reply ≡ true → IsEntry old e new) × (wants_no_memory e.reply ≡ false → new ≡ old) × IsReady name new
+    (wants_no_memory e.reply ≡ true → IsAgreed name old e new) × (wants_no_memory e.reply ≡ false → new ≡ old)
 
--- an event that is no end, and is answered so
+-- the end is refused, whatever it tells, and nothing is made
+abbrev pub RefusesEnd : WorldSeen → End → WorldSeen → Type 0
+RefusesEnd old end new =
+    ((kind : Kind) (bytes : List ℕ) → tests old.core (event.End kind (end_with end bytes)) ≡ refuse Stranger)
+    × (new ≡ old)
+
+abbrev pub is_ending : Event → Bool
+is_ending (event.End kind end) = true
+is_ending e = false
+
+-- the event is made with this reply, unless that is want of memory
 abbrev pub IsActed : WorldSeen → Event → Reply → WorldSeen → Type 0
-IsActed old (event.End kind end) r new = Unit {0}
 IsActed old e r new =
     wants_no_memory r ≡ true → WorldStep (world_of old) (Act e r) (world_of new) × (new.device ≡ old.device)
 
@@ -88,8 +117,13 @@ is_plain (step.Call t) = false
 is_plain (step.End t) = false
 is_plain s = true
 
+-- the step makes an event that carries no bytes
 abbrev pub IsStepOf : Event → Step → Type 0
 IsStepOf (event.End kind end) s = Unit {0}
 IsStepOf (event.Write h o b) s = Unit {0}
 IsStepOf (event.Append h b) s = Unit {0}
 IsStepOf e s = (is_plain s ≡ true) × ((r : Reply) → move_of s r None true ≡ Act e r)
+
+-- the device has the blocks of another
+abbrev pub IsCopy : Told → Told → Type 0
+IsCopy d copy = (copy.size ≡ d.size) × (copy.count ≡ d.count) × (is_some copy.contents ≡ true)

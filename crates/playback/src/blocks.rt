@@ -1,5 +1,8 @@
 //! The blocks of devices.
 
+ghost use Rattle.std.specs.Prelude.{◌≡◌, ◌<◌, ◌×◌, IfOk, IsOkUnless, length};
+ghost use Rattle.playback.specs.Playing.{IsCopy};
+
 use blockdev::{BlockDevice, ScriptDevice};
 use pc_types::{BlockNo, ErrCode, Refusal};
 use std::alloc::Global;
@@ -11,7 +14,10 @@ const NUMBERS: u64 = 1 << 32;
 pub fn copy_of<D: BlockDevice>(
     alloc: Global,
     device: &mut D,
-) -> Result<Result<ScriptDevice, ErrCode>, Refusal> {
+) -> Result<Result<ScriptDevice, ErrCode>, Refusal>
+    ensures copied { IfOk result (λ read. IfOk read (IsCopy (D.told device.old))) }
+    ensures refused { IsOkUnless result Refusal.Memory }
+{
     let size = device.block_size();
     let count = device.blocks();
     let mut copy = ScriptDevice::new(alloc, size, count)?;
@@ -35,7 +41,14 @@ fn copy_block<D: BlockDevice>(
     copy: &mut ScriptDevice,
     block: BlockNo,
     buffer: &mut [u8],
-) -> Result<(), ErrCode> {
+) -> Result<(), ErrCode>
+    requires block { block.0 < (D.told device.old).count }
+    requires size { (D.told device.old).size ≡ length buffer.old }
+    requires copy { IsCopy (D.told device.old) copy.old }
+    ensures device { ((D.told device.new).size ≡ (D.told device.old).size) × ((D.told device.new).count ≡ (D.told device.old).count) }
+    ensures copy { IsCopy (D.told device.old) copy.new }
+    ensures buffer { length buffer.new ≡ length buffer.old }
+{
     device.read(block, buffer)?;
     copy.write(block, buffer)
 }
@@ -47,7 +60,11 @@ pub fn first_unlike<D: BlockDevice>(
     device: &mut D,
     one: &ScriptDevice,
     other: &ScriptDevice,
-) -> Result<Option<u64>, Refusal> {
+) -> Result<Option<u64>, Refusal>
+    requires one { (one.now.size ≡ (D.told device.old).size) × (one.now.count ≡ (D.told device.old).count) }
+    requires other { (other.now.size ≡ (D.told device.old).size) × (other.now.count ≡ (D.told device.old).count) }
+    ensures refused { IsOkUnless result Refusal.Memory }
+{
     let count = device.blocks();
     let mut buffer = vec![in alloc; 0; device.block_size() as usize]?;
     for number in 0..count.min(NUMBERS) {

@@ -1,19 +1,19 @@
 //! The end of a request.
 
 ghost use Rattle.std.specs.Bool.{OnTrue};
-ghost use Rattle.std.specs.Prelude.{◌≡◌, OnOk, is_some, true, None};
-ghost use Rattle.std.specs.FinMap as map;
+ghost use Rattle.std.specs.Prelude.{◌≡◌, ◌×◌, OnOk, is_some, true};
+ghost use Rattle.cachecore.specs.Replies.{outcome_of};
 ghost use Rattle.machine.specs.declared.event.Event.TheVariants as event;
-ghost use Rattle.machine.specs.declared.event.Reply.TheVariants as reply;
-ghost use Rattle.trail.specs.Entries.{end_with};
-ghost use Rattle.playback.specs.Playing.{IsCalled, IsEnded, IsReady};
+ghost use Rattle.trail.specs.Entries.{end_with, outcome_with, reply_with};
+ghost use Rattle.world.specs.Answers.{end_says};
+ghost use Rattle.playback.specs.Playing.{IsAgreed, IsCalled, IsReady, RefusesEnd, entry};
 
 use crate::replies::{came_to, is_told};
 use blockdev::{FaultEffect, ScriptDevice};
 use cachecore::{End, Kind, Outcome, Reply};
 use pc_types::{Refusal, Serial};
 use world::World;
-use world::answers::{EndAnswer, EndTold, end_reply};
+use world::answers::{EndTold, end_reply};
 
 /// The end of a request of a kind, as an entry has it, with its reply and its bytes beside it.
 #[derive(Clone, Copy)]
@@ -30,23 +30,41 @@ impl<'a> Ending<'a> {
     /// the old or the new bytes on its block.
     pub fn play(self, world: &mut World<ScriptDevice>, name: u64, effect: FaultEffect) -> bool
         requires ready { IsReady name world.old }
-        ensures { OnTrue result (IsEnded name world.old self.kind (end_with self.end.now self.bytes.now) self.reply.now world.new) }
+        ensures { OnTrue result (IsAgreed name world.old (entry (event.End self.kind (end_with self.end.now self.bytes.now)) (reply_with self.reply.now self.bytes.now)) world.new) }
+    {
+        match self.reply {
+            Reply::Refused(why) => { *why == Refusal::Stranger && ends_none(world, name, self.end) }
+            _ => self.end(world, name, effect),
+        }
+    }
+
+    // An end that is not refused.
+    fn end(self, world: &mut World<ScriptDevice>, name: u64, effect: FaultEffect) -> bool
+        requires ready { IsReady name world.old }
+        ensures { OnTrue result (IsAgreed name world.old (entry (event.End self.kind (end_with self.end.now self.bytes.now)) (reply_with self.reply.now self.bytes.now)) world.new) }
     {
         if self.end.cache != name || self.end.kind != self.kind {
             return false;
         }
-        if make_call(world, self.end.serial, &self.end.outcome, effect).is_err() {
+        let serial = self.end.serial;
+        if make_call(world, serial, &self.end.outcome, effect).is_err() {
             return false;
         }
-        match world.end_told(self.end.serial) {
-            Ok(ended) => ended.kind == self.kind && self.is_told(&ended),
+        match world.end_told(serial) {
+            Ok(ended) => self.is_told(&ended),
             Err(_) => false,
         }
     }
 
-    fn is_told(&self, ended: &EndTold) -> bool {
-        came_to(ended, &self.end.outcome, self.bytes)
-            && is_told(&end_reply(&Ok(ended.answer)), self.reply, &[])
+    // Whether the request ended as the entry tells.
+    fn is_told(&self, ended: &EndTold) -> bool
+        ensures kind { OnTrue result (ended.now.kind ≡ self.now.kind) }
+        ensures call { OnTrue result (outcome_of ended.now.kind ended.now.outcome ended.now.buffer ≡ outcome_with self.now.end.now.outcome self.now.bytes.now) }
+        ensures reply { OnTrue result (end_says ended.now.answer ≡ reply_with self.now.reply.now self.now.bytes.now) }
+    {
+        ended.kind == self.kind
+            && came_to(ended, &self.end.outcome, self.bytes)
+            && is_told(&end_reply(&Ok(ended.answer)), self.reply, self.bytes)
     }
 }
 
@@ -57,7 +75,7 @@ fn make_call(
     told: &Outcome,
     effect: FaultEffect,
 ) -> Result<(), Refusal>
-    requires ready { is_some world.old.device.contents ≡ true }
+    requires told { is_some world.old.device.contents ≡ true }
     ensures { OnOk result (IsCalled world.old serial.0 world.new) }
 {
     match told {
@@ -67,6 +85,9 @@ fn make_call(
 }
 
 /// Whether no request of this cache is in flight that the end could be of.
-pub fn ends_none(world: &mut World<ScriptDevice>, name: u64, end: &End) -> bool {
+fn ends_none(world: &mut World<ScriptDevice>, name: u64, end: &End) -> bool
+    requires ready { IsReady name world.old }
+    ensures { OnTrue result (RefusesEnd world.old end.now world.new) }
+{
     end.cache != name || world.call(end.serial).is_err()
 }

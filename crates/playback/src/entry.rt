@@ -1,6 +1,11 @@
 //! One entry, played again.
 
-use crate::end::{Ending, ends_none};
+ghost use Rattle.std.specs.Bool.{OnTrue};
+ghost use Rattle.std.specs.Prelude.{◌≡◌, ℕ, IfOk, IsOkUnless, false};
+ghost use Rattle.trail.specs.Entries.{entry_with, event_with, reply_with};
+ghost use Rattle.playback.specs.Playing.{IsActed, IsAgreed, IsPlayed, IsReady, IsStepOf, entry as made, is_ending, wants_no_memory};
+
+use crate::end::Ending;
 use crate::replies::is_told;
 use blockdev::{FaultEffect, ScriptDevice};
 use cachecore::{Event, Reply, replies};
@@ -16,23 +21,32 @@ pub fn play_entry(
     effect: FaultEffect,
     entry: &Entry,
     bytes: &[u8],
-) -> Result<bool, Refusal> {
-    match (&entry.event, &entry.reply) {
-        (_, Reply::Refused(Refusal::Memory)) => Ok(true),
-        (Event::End(_, end), Reply::Refused(why)) => {
-            Ok(*why == Refusal::Stranger && ends_none(world, name, end))
-        }
-        (Event::End(kind, end), reply) => {
+) -> Result<bool, Refusal>
+    requires ready { IsReady name world.old }
+    ensures played { IfOk result (λ agrees. OnTrue agrees (IsPlayed name world.old (entry_with entry.now bytes.now) world.new)) }
+    ensures refused { IsOkUnless result Refusal.Memory }
+{
+    if !wants_no_memory(&entry.reply) {
+        return Ok(true);
+    }
+    match &entry.event {
+        Event::End(kind, end) => {
             let ending = Ending {
                 kind: *kind,
                 end,
-                reply,
+                reply: &entry.reply,
                 bytes,
             };
             Ok(ending.play(world, name, effect))
         }
-        (event, reply) => play_event(world, event, reply, bytes),
+        event => play_event(world, event, &entry.reply, bytes),
     }
+}
+
+fn wants_no_memory(reply: &Reply) -> bool
+    ensures { result ≡ wants_no_memory reply.now }
+{
+    !matches!(reply, Reply::Refused(Refusal::Memory))
 }
 
 /// Makes an event that is no end. Whether it is answered so.
@@ -41,16 +55,23 @@ fn play_event(
     event: &Event,
     reply: &Reply,
     bytes: &[u8],
-) -> Result<bool, Refusal> {
+) -> Result<bool, Refusal>
+    requires no_end { is_ending event.now ≡ false }
+    ensures agrees { IfOk result (λ agrees. OnTrue agrees ((name : ℕ) → IsReady name world.old → IsAgreed name world.old (made (event_with event.now bytes.now) (reply_with reply.now bytes.now)) world.new)) }
+    ensures refused { IsOkUnless result Refusal.Memory }
+{
     let answer = act(world, event, bytes);
-    if matches!(answer, Reply::Refused(Refusal::Memory)) {
+    if !wants_no_memory(&answer) {
         return Err(Refusal::Memory);
     }
     Ok(is_told(&answer, reply, bytes))
 }
 
 /// Makes an event that is no end, with these bytes.
-fn act(world: &mut World<ScriptDevice>, event: &Event, bytes: &[u8]) -> Reply {
+fn act(world: &mut World<ScriptDevice>, event: &Event, bytes: &[u8]) -> Reply
+    requires no_end { is_ending event.now ≡ false }
+    ensures { IsActed world.old (event_with event.now bytes.now) result world.new }
+{
     match event {
         Event::Write(handle, offset, _) => {
             replies::of_write(&world.write(*handle, *offset, bytes))
@@ -61,7 +82,9 @@ fn act(world: &mut World<ScriptDevice>, event: &Event, bytes: &[u8]) -> Reply {
 }
 
 /// The step that makes an event which carries no bytes.
-fn step_of(event: &Event) -> Step {
+fn step_of(event: &Event) -> Step
+    ensures { IsStepOf event.now result }
+{
     match event {
         Event::Create => Step::Create,
         Event::Open(file) => Step::Open(*file),

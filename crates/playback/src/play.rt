@@ -1,5 +1,10 @@
 //! A full trail, played again.
 
+ghost use Rattle.std.specs.Prelude.{◌≡◌, ◌<◌, IfNone, IfOk, IfSome, IsOkUnless, length, take, true};
+ghost use Rattle.runs.specs.Runs.{IsFirst};
+ghost use Rattle.world.specs.Stepping.{fits, world_of};
+ghost use Rattle.playback.specs.Playing.{IsReady, Plays, Stands, Went, played};
+
 use crate::entry::play_entry;
 use blockdev::{FaultEffect, ScriptDevice};
 use pc_types::{Geometry, Refusal};
@@ -68,7 +73,10 @@ fn first_odd(
     effect: FaultEffect,
 ) -> Result<Option<u64>, Refusal> {
     let mut place = 0;
-    while let Some((entry, bytes)) = trail.entry(place) {
+    while place < trail.len() {
+        let Some((entry, bytes)) = trail.entry(place) else {
+            return Ok(None);
+        };
         if !play_entry(world, name, effect, entry, bytes)? {
             return Ok(Some(place));
         }

@@ -90,7 +90,7 @@ fn synced(alloc: Global, trail: &mut FullTrail, change: Change) {
 
 /// It is evicted, filled, and read.
 fn filled(alloc: Global, trail: &mut FullTrail, change: Change) {
-    put(trail, Event::Age, Reply::Aged(1), &[]);
+    put(trail, Event::Age, Reply::Aged(0), &[]);
     let evicted = Reply::Evicted(FileId(0), PageIndex(0));
     put(trail, Event::Evict, evicted, &[]);
     let stranger = if change == Change::Stranger { 1 } else { 9 };
