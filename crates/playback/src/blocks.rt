@@ -1,6 +1,6 @@
 //! The blocks of devices.
 
-ghost use Rattle.std.specs.Prelude.{◌≡◌, ◌<◌, ◌×◌, IfOk, IsOkUnless, length};
+ghost use Rattle.std.specs.Prelude.{◌≡◌, ◌<◌, IfOk, IsOkUnless, length};
 ghost use Rattle.playback.specs.Playing.{IsCopy};
 
 use blockdev::{BlockDevice, ScriptDevice};

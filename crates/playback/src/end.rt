@@ -1,7 +1,7 @@
 //! The end of a request.
 
 ghost use Rattle.std.specs.Bool.{OnTrue};
-ghost use Rattle.std.specs.Prelude.{◌≡◌, ◌×◌, OnOk, is_some, true};
+ghost use Rattle.std.specs.Prelude.{◌≡◌, OnOk, is_some, true};
 ghost use Rattle.cachecore.specs.Replies.{outcome_of};
 ghost use Rattle.machine.specs.declared.event.Event.TheVariants as event;
 ghost use Rattle.trail.specs.Entries.{end_with, outcome_with, reply_with};
