@@ -60,8 +60,8 @@ if_some (Some x) Q s h = h
 by_reply : (old new : WorldSeen) (t : ℕ) (q : Option Request) (o : Option Outcome) → is_some old.device.contents ≡ true
     → CallReply old t q o reply.Done new → IsCalled old t new
 by_reply old new t (Some x) None s h =
-    let c = h.1.0 in (
-      if_some old.device.contents (MovesByCall old t new) s h.1.1,
+    let c = h.1 in (
+      if_some old.device.contents (MovesByCall old t new) s h.2,
       told_still c.job.kind old.device new.device c.job.block c.job.bytes c.done.bytes c.done.outcome c.performs.call s,
     )
 by_reply old new t (Some x) (Some y) s h = absurd (let e = h.0 in cc)
@@ -126,7 +126,7 @@ module _ (name : ℕ) (old mid new : WorldSeen) (ready : IsReady name old) (t : 
 
   end_is_made : (q : Option Outcome) → q ≡ Some o → EndReply mid (step.End (record { 0 = t })) q r new
       → WorldStep (world_of mid) (Finish t r) (world_of new) × (new.device ≡ mid.device)
-  end_is_made (Some p) e h = (h.0.0, h.0.1.0)
+  end_is_made (Some p) e h = (h.0.0, h.0.1)
   end_is_made None e h = absurd cc
 
   finishes : WorldStep (world_of mid) (Finish t r) (world_of new) × (new.device ≡ mid.device)

@@ -2,6 +2,7 @@
 use Rattle.std.proofs.Common.{◌≡◌, ◌≢◌, ℕ, Bool, true, false, List, refl, ap, sym, subst, ◌∙◌, inl, inr}
 use Rattle.std.specs.Prelude.{◌⊎◌, Some, None, is_some}
 use Rattle.std.specs.FinMap as finmap
+use Rattle.pc_types.specs.declared.ids.HandleId.{HandleId}
 use Rattle.pc_types.specs.declared.refusal.Refusal.TheVariants.{Memory}
 use Rattle.machine.specs.declared.event.Event.{Event}
 use Rattle.machine.specs.declared.event.Event.TheVariants as event
@@ -47,9 +48,9 @@ acted : (old new : WorldSeen) (e : Event) (s : Step) (r : Reply)
     → (is_plain s ≡ true) × ((x : Reply) → move_of s x None true ≡ Act e x) → Steps old s r new → IsActed old e r new
 acted old new e s r of h w =
     let m = made old new s r of.0 w h in
-    (subst (λ v. WorldStep (world_of old) v (world_of new)) (of.1 r) m.0, m.1.0)
+    (subst (λ v. WorldStep (world_of old) v (world_of new)) (of.1 r) m.0, m.1)
 
-bare : Event → Bool
+abbrev pub bare : Event → Bool
 bare (event.Write h o b) = false
 bare (event.Append h b) = false
 bare (event.End kind end) = false
@@ -127,3 +128,18 @@ agreed old new e bytes r told n w same h name ready =
         contents = ap (λ d. is_some d.contents) m.1 ∙ ready.contents;
       },
     )
+
+-- ---- events that carry bytes
+
+pub acted_write : (old new : WorldSeen) (e : Event) (h : HandleId) (o : ℕ) (b bytes : List ℕ) (r w : Reply)
+    → e ≡ event.Write h o b → r ≡ w → IsMade old (step.Write h o bytes) w new
+    → IsActed old (event_with e bytes) r new
+acted_write old new e h o b bytes r w is same m =
+    subst (λ x. IsActed old (event_with x bytes) r new) (sym is)
+    (λ _. (subst (λ x. WorldStep (world_of old) (Act (event.Write h o bytes) x) (world_of new)) (sym same) m.0, m.1))
+
+pub acted_append : (old new : WorldSeen) (e : Event) (h : HandleId) (b bytes : List ℕ) (r w : Reply)
+    → e ≡ event.Append h b → r ≡ w → IsMade old (step.Append h bytes) w new → IsActed old (event_with e bytes) r new
+acted_append old new e h b bytes r w is same m =
+    subst (λ x. IsActed old (event_with x bytes) r new) (sym is)
+    (λ _. (subst (λ x. WorldStep (world_of old) (Act (event.Append h bytes) x) (world_of new)) (sym same) m.0, m.1))

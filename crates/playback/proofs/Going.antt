@@ -1,5 +1,5 @@
 -- A history, entry by entry: where it has led to, it leads on.
-use Rattle.std.proofs.Common.{◌≡◌, ◌≢◌, ℕ, ◌+◌, ◌<◌, ◌≤◌, ◌++◌, Bool, true, false, cond, eqb, eqb-true, eq-eqb, List}
+use Rattle.std.proofs.Common.{◌≡◌, ◌≢◌, ℕ, zero, suc, ◌+◌, ◌<◌, ◌≤◌, ◌++◌, Bool, true, false, cond, eqb, eqb-true, eq-eqb, List}
 use Rattle.std.proofs.Common.{[], ◌∷◌, length, take, get_or, refl, ap, sym, subst, ◌∙◌, arith, inl, inr}
 use Rattle.std.proofs.lemmas.Bool.{false≢true, ne_eqb}
 use Rattle.std.proofs.lemmas.List.{take_all}
@@ -22,7 +22,14 @@ use Rattle.runs.proofs.moments.KeptRequests.{Kept, Begun, Over, is_job, of_reque
 use Rattle.trail.specs.declared.entry.Entry.{Entry}
 use Rattle.trail.specs.Honest.{Fate, GoesHonestly, Honest, IsTold, end_made, world_over}
 use Rattle.trail.proofs.TrailMoves.{no_end, over_of}
-use Rattle.playback.specs.Playing.{IsHonestOver, LeadsTo, Stands, Went, played, wants_no_memory}
+use Rattle.std.specs.Bool.{OnTrue}
+use Rattle.std.specs.Prelude.{is_some}
+use Rattle.blockdev.specs.Device.{Told}
+use Rattle.world.specs.Stepping.{WorldSeen, first_world, world_of}
+use Rattle.playback.specs.declared.play.Playback.{Playback}
+use Rattle.playback.specs.declared.play.Playback.TheVariants.{Agrees, Odd}
+use Rattle.playback.specs.Playing.{IsHonestOver, IsPlayed, IsReady, LeadsTo, Plays, Stands, Went, blocks_of, played}
+use Rattle.playback.specs.Playing.{wants_no_memory}
 
 -- ---- the requests after an entry
 
@@ -71,16 +78,16 @@ of_over s new t o = record {
   gone = λ u l n. (
     subst (λ m. u < m) (sym o.next) l,
     ap (λ m. finmap.get m u) o.requests ∙ get-remove_nat s.requests t u
-        ∙ ap (cond (eqb u t) None) n ∙ both (eqb u t),
+        ∙ both (eqb u t) (finmap.get s.requests u) n,
   );
   given = λ g u x is.
       subst (λ m. u < m) (sym o.next)
       (g u x (get_left s.requests t u x (sym (ap (λ m. finmap.get m u) o.requests) ∙ is)).1);
 }
   where
-    both : (b : Bool) → cond b None (None {X = Request}) ≡ None
-    both true = refl
-    both false = refl
+    both : (b : Bool) (o : Option Request) → o ≡ None → cond b None o ≡ None
+    both true o e = refl
+    both false o e = e
 
 job_is : (r : Reply) → is_job r ≡ true → (t : Rattle.pc_types.specs.declared.ids.Serial.Serial) × (r ≡ reply.Job t)
 job_is (reply.Job t) e = (t, refl)
@@ -89,8 +96,8 @@ job_is _ e = absurd cc
 of_event : (s new : State) (e : Event) (r : Reply) → end_made e r ≡ None → Step s e r new → Given s new
 of_event s new e r none h =
     elim (is_job r) as (λ b. is_job r ≡ b → Given s new) [
-      | true ↦ λ j. (let a = job_is r j in of_begun s new a.0.0 ((of_requests s e r new h).begun a.0 a.1))
-      | false ↦ λ j. of_kept s new ((of_requests s e r new h).kept j (no_end e r none))
+      | true ↦ λ j. (let a = job_is r j in of_begun s new a.0.0 ((of_requests s new e r h).begun a.0 a.1))
+      | false ↦ λ j. of_kept s new ((of_requests s new e r h).kept j (no_end e r none))
     ] refl
 
 -- ---- one entry more
@@ -99,7 +106,7 @@ leads-snoc : (fates : ℕ → Fate) (first mid new : World) (es : List Entry) (e
     → IsTold fates mid e (end_made e.event e.reply) new → LeadsTo fates first (es ++ e ∷ []) new
 leads-snoc fates first mid new [] e l h =
     (new, subst (λ v. IsTold fates v e (end_made e.event e.reply) new) l h, refl)
-leads-snoc fates first mid new (x ∷ es) e l h = (l.0, l.1.0, leads-snoc fates l.0 mid new es e l.1.1 h)
+leads-snoc fates first mid new (x ∷ es) e l h = (l.0, l.1, leads-snoc fates l.0 mid new es e l.2 h)
 
 module _ (first w new : World) (es : List Entry) (went : Went first es w) (e : Entry) (fate : Fate) where
   -- by an event
@@ -161,7 +168,7 @@ begins w first = record {
 
 goes : (fates : ℕ → Fate) (es : List Entry) (w last : World) → LeadsTo fates w es last → GoesHonestly fates w es
 goes fates [] w last l = tt
-goes fates (e ∷ es) w last l = (l.0, l.1.0, goes fates es l.0 last l.1.1)
+goes fates (e ∷ es) w last l = (l.0, l.1, goes fates es l.0 last l.2)
 
 -- a first world is a cache without files over its own device
 first_is : (w : World) → IsFirst w → w ≡ world_over w.core.sizes w.core.name w.device
@@ -193,8 +200,8 @@ honest_over first last is es went =
 
 at_place : (es : List Entry) (k : ℕ) (e : Entry) → slice_get es k ≡ Some e → (k < length es) × (get_or es k e ≡ e)
 at_place [] k e h = absurd cc
-at_place (x ∷ es) 0 e h = (omega arith, (let i : x ≡ e = cc in i))
-at_place (x ∷ es) (Rattle.std.specs.Prelude.suc k) e h =
+at_place (x ∷ es) zero e h = (omega arith, (let i : x ≡ e = cc in i))
+at_place (x ∷ es) (suc k) e h =
     let a = at_place es k e h in (omega (arith, a.0), a.1)
 
 one_more : (es : List Entry) (k : ℕ) (e : Entry) → slice_get es k ≡ Some e
@@ -203,3 +210,71 @@ one_more es k e is =
     let a = at_place es k e is in
     filter_more (λ (x : Entry). wants_no_memory x.reply) es k e a.0
     ∙ ap (λ (x : Entry). played (take k es) ++ cond (wants_no_memory x.reply) (x ∷ []) []) a.1
+
+nil_right : (es : List Entry) → es ++ [] ≡ es
+nil_right [] = refl
+nil_right (x ∷ es) = ap (λ ys. x ∷ ys) (nil_right es)
+
+-- what a world between two entries is known by
+abbrev pub Far : ℕ → World → List Entry → ℕ → WorldSeen → Type 0
+Far name first es k w = Went first (played (take k es)) (world_of w) × IsReady name w
+
+pub next : (name : ℕ) (first : World) (es : List Entry) (k : ℕ) (e : Entry) (old new : WorldSeen) (b : Bool) → b ≡ true
+    → slice_get es k ≡ Some e → OnTrue b (IsPlayed name old e new) → Far name first es k old
+    → Far name first es (k + 1) new
+next name first es k e old new false yes is h far = absurd cc
+next name first es k e old new true yes is h far =
+    elim (wants_no_memory e.reply) as (λ c. wants_no_memory e.reply ≡ c → Far name first es (k + 1) new) [
+      | true ↦ λ w. (let a = h.0 w in (
+        subst (λ x. Went first x (world_of new))
+            (sym (one_more es k e is ∙ ap (λ c. played (take k es) ++ cond c (e ∷ []) []) w))
+            (goes_on first (world_of old) (world_of new) (played (take k es)) far.0 e a.0.0 a.0.1),
+        a.1,
+      ))
+      | false ↦ λ w. (
+        subst (λ x. Went first x (world_of new))
+            (sym (one_more es k e is ∙ ap (λ c. played (take k es) ++ cond c (e ∷ []) []) w
+            ∙ nil_right (played (take k es))))
+            (subst (λ v. Went first (played (take k es)) (world_of v)) (sym (h.1 w)) far.0),
+        subst (IsReady name) (sym (h.1 w)) far.1,
+      )
+    ] refl
+
+pub far_first : (name : ℕ) (w : WorldSeen) (es : List Entry) → IsFirst (world_of w) → IsReady name w
+    → Far name (world_of w) es 0 w
+far_first name w es first ready = (begins (world_of w) first, ready)
+
+pub far_all : (name : ℕ) (first : World) (es : List Entry) (k : ℕ) (w : WorldSeen) → Far name first es k w
+    → length es ≤ k → Went first (played es) (world_of w)
+far_all name first es k w far past =
+    subst (λ x. Went first (played x) (world_of w)) (take_all k es past) far.0
+
+pub far_odd : (name : ℕ) (first : World) (es : List Entry) (k : ℕ) (w : WorldSeen) → Far name first es k w
+    → k < length es → Stands first es k
+far_odd name first es k w far l = (l, world_of w, far.0)
+
+-- ---- what is told of the whole
+
+pub all_agree : (name : ℕ) (old new : WorldSeen) (left : Told) (es : List Entry) → IsReady name old
+    → IsFirst (world_of old) → Went (world_of old) (played es) (world_of new) → left ≡ new.device
+    → Plays old.core.sizes name es old.device (Agrees left)
+all_agree name old new left es ready first went same =
+    subst (λ n. IsHonestOver old.core.sizes n (played es) (blocks_of old.device) (blocks_of left)) ready.name
+    (subst (λ d. IsHonestOver old.core.sizes old.core.name (played es) (blocks_of old.device) (blocks_of d)) (sym same)
+    (honest_over (world_of old) (world_of new) first (played es) went))
+
+pub one_odd : (name : ℕ) (old : WorldSeen) (es : List Entry) (place : ℕ) → IsReady name old
+    → IsFirst (world_of old) → Stands (world_of old) es place → Plays old.core.sizes name es old.device (Odd place)
+one_odd name old es place ready first h = (
+  h.0,
+  subst (λ n. Honest old.core.sizes n (played (take place es))) ready.name
+      (honest_over (world_of old) h.1 first (played (take place es)) h.2).honest,
+)
+
+pub ready_first : (g : Sizes) (name : ℕ) (d : Told) (w : WorldSeen) → w ≡ first_world g name d
+    → is_some d.contents ≡ true → IsReady name w
+ready_first g name d w is s = subst (IsReady name) (sym is) (record { name = refl; outcomes = refl; contents = s })
+
+pub plays_first : (g : Sizes) (name : ℕ) (d : Told) (w : WorldSeen) (es : List Entry) (p : Playback)
+    → w ≡ first_world g name d → Plays w.core.sizes name es w.device p → Plays g name es d p
+plays_first g name d w es p is h = subst (λ (v : WorldSeen). Plays v.core.sizes name es v.device p) is h

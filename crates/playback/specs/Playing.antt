@@ -61,8 +61,8 @@ Plays sizes name history device (Odd place) =
 -- ---- inside this crate
 
 -- a world between two entries: no call is made whose request has not ended, and the device tells its contents
-pub record IsReady (name : ℕ) (w : WorldSeen) : Type 0 where
-  pub name : w.core.name ≡ name
+pub record IsReady (own : ℕ) (w : WorldSeen) : Type 0 where
+  pub name : w.core.name ≡ own
   pub outcomes : w.outcomes ≡ finmap.empty
   pub contents : is_some w.device.contents ≡ true
 

@@ -69,6 +69,7 @@ impl<'a> Ending<'a> {
 }
 
 /// Makes the device call of a request, which fails where it is told so.
+#[tactic(auto, using(crate::proofs::Ends::by_call, crate::proofs::Ends::by_fail))]
 fn make_call(
     world: &mut World<ScriptDevice>,
     serial: Serial,
@@ -85,6 +86,7 @@ fn make_call(
 }
 
 /// Whether no request of this cache is in flight that the end could be of.
+#[tactic(auto, using(crate::proofs::Ends::other_cache, crate::proofs::Ends::not_called))]
 fn ends_none(world: &mut World<ScriptDevice>, name: u64, end: &End) -> bool
     requires ready { IsReady name world.old }
     ensures { OnTrue result (RefusesEnd world.old end.now world.new) }

@@ -15,6 +15,7 @@ use world::{Step, World};
 
 /// Plays an entry, whose bytes are beside it: makes its event, and before the end of a request its device call. Whether
 /// the world did as the entry tells. One that is refused for want of memory is passed over.
+#[tactic(auto, using(crate::proofs::Events::memory_with))]
 pub fn play_entry(
     world: &mut World<ScriptDevice>,
     name: u64,
@@ -50,6 +51,7 @@ fn wants_no_memory(reply: &Reply) -> bool
 }
 
 /// Makes an event that is no end. Whether it is answered so.
+#[tactic(auto, using(crate::proofs::Events::agreed))]
 fn play_event(
     world: &mut World<ScriptDevice>,
     event: &Event,

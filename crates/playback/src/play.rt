@@ -1,6 +1,6 @@
 //! A full trail, played again.
 
-ghost use Rattle.std.specs.Prelude.{◌≡◌, ◌<◌, IfNone, IfOk, IfSome, IsOkUnless, length, take, true};
+ghost use Rattle.std.specs.Prelude.{◌≡◌, ◌<◌, IfNone, IfOk, IfSome, IsOkUnless, is_some, length, take, true};
 ghost use Rattle.runs.specs.Runs.{IsFirst};
 ghost use Rattle.world.specs.Stepping.{fits, world_of};
 ghost use Rattle.playback.specs.Playing.{IsReady, Plays, Stands, Went, played};
@@ -28,6 +28,7 @@ pub enum Playback {
 /// An entry agrees where the world gives the same reply, with all its numbers and bytes, and where it ends a request if the
 /// device call came to what the entry tells. Whether memory is wanted can't be played: an entry that is refused for want
 /// of it has changed nothing, and is passed over. It is refused by `Memory` alone.
+#[tactic(auto, using(crate::proofs::Going::ready_first, crate::proofs::Going::plays_first))]
 pub fn play_again(
     alloc: Global,
     geometry: &Geometry,
@@ -45,6 +46,7 @@ pub fn play_again(
     }
 }
 
+#[tactic(auto, using(crate::proofs::Going::all_agree, crate::proofs::Going::one_odd))]
 fn play_all(
     mut world: World<ScriptDevice>,
     name: u64,
@@ -66,6 +68,7 @@ fn play_all(
 }
 
 /// The place of the first entry at which the world does otherwise.
+#[tactic(auto, using(crate::proofs::Going::next, crate::proofs::Going::far_first, crate::proofs::Going::far_all, crate::proofs::Going::far_odd))]
 fn first_odd(
     world: &mut World<ScriptDevice>,
     name: u64,
