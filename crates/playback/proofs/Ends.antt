@@ -29,13 +29,19 @@ use Rattle.maps.proofs.MapLaws.{same_nat_map}
 use Rattle.maps.proofs.Maps.{get-insert_nat, get-remove_nat}
 use Rattle.runs.specs.World.{World, Calls, Ends, Finish, WorldStep, device_after, outcome_of}
 use Rattle.cachecore.specs.Replies.{answered}
-use Rattle.trail.specs.Entries.{end_with}
+use Rattle.trail.specs.Entries.{end_with, outcome_with}
 use Rattle.trail.specs.Honest.{Fate, IsTold, end_made}
 use Rattle.trail.proofs.TrailMoves.{called}
 use Rattle.world.specs.declared.step.Step.TheVariants as step
 use Rattle.world.specs.Stepping.{WorldSeen, CallReply, EndReply, Fails, IsCalled as IsMadeCall, MovesByCall, Steps}
 use Rattle.world.specs.Stepping.{failing, world_of}
-use Rattle.playback.specs.Playing.{IsAgreed, IsCalled, IsReady, RefusesEnd, entry}
+use Rattle.std.specs.Bool.{OnTrue}
+use Rattle.cachecore.specs.Replies.{outcome_of as call_of}
+use Rattle.world.specs.Answers.{CameTo, end_says}
+use Rattle.world.specs.declared.answers.EndAnswer.{EndAnswer}
+use Rattle.world.specs.declared.answers.EndAnswer.TheVariants as answer
+use Rattle.world.specs.declared.answers.EndTold.{EndTold}
+use Rattle.playback.specs.Playing.{Finishes, IsAgreed, IsCalled, IsReady, RefusesEnd, entry}
 
 -- ---- the device call
 
@@ -193,6 +199,35 @@ module _ (name : ℕ) (old mid new : WorldSeen) (ready : IsReady name old) (t : 
       contents = ap (λ (d : Told). is_some d.contents) finishes.1 ∙ made.1;
     },
   )
+
+said : (k : Kind) (end : End) (a : EndAnswer) → end_made (event.End k end) (end_says a) ≡ Some end
+said k end answer.Dropped = refl
+said k end (answer.Failed code) = refl
+said k end answer.Filled = refl
+said k end answer.Written = refl
+
+pub finishes_so : (mid new : WorldSeen) (k : Kind) (end : End) (bytes : List ℕ) (told : Reply) (x : EndTold) (b : Bool)
+    → EndReply mid (step.End end.serial) (finmap.get mid.outcomes end.serial.0) (end_says x.answer) new
+    → CameTo mid end.serial.0 x → OnTrue b (x.kind ≡ k)
+    → OnTrue b (call_of x.kind x.outcome x.buffer ≡ outcome_with end.outcome bytes)
+    → OnTrue b (end_says x.answer ≡ told) → OnTrue b (Finishes mid k end bytes told new)
+finishes_so mid new k end bytes told x false ended came kind call said_so = tt
+finishes_so mid new k end bytes told x true ended came kind call said_so name old ready made cache own =
+    let o = call_of x.kind x.outcome x.buffer in
+    let its : End = record { cache = name; kind = x.kind; serial = end.serial; outcome = o } in
+    let a = ended_told name old mid new ready end.serial.0 made x.kind o (end_says x.answer) came.0 came.1 ended
+    (said x.kind its x.answer) in
+    subst (λ e. IsAgreed name old e new)
+    (λ i. entry (event.End (kind i) (record {
+      cache = sym cache i;
+      kind = (kind ∙ sym own) i;
+      serial = end.serial;
+      outcome = call i;
+    })) (said_so i)) a
+
+pub lifted : {A B : Type 0} (b : Bool) → (A → B) → OnTrue b A → OnTrue b B
+lifted false f a = tt
+lifted true f a = f a
 
 -- ---- an end that is refused
 

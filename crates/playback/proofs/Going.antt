@@ -222,8 +222,8 @@ Far name first es k w = Went first (played (take k es)) (world_of w) × IsReady 
 pub next : (name : ℕ) (first : World) (es : List Entry) (k : ℕ) (e : Entry) (old new : WorldSeen) (b : Bool) → b ≡ true
     → slice_get es k ≡ Some e → OnTrue b (IsPlayed name old e new) → Far name first es k old
     → Far name first es (k + 1) new
-next name first es k e old new false yes is h far = absurd cc
-next name first es k e old new true yes is h far =
+next name first es k e old new false sure is h far = absurd cc
+next name first es k e old new true sure is h far =
     elim (wants_no_memory e.reply) as (λ c. wants_no_memory e.reply ≡ c → Far name first es (k + 1) new) [
       | true ↦ λ w. (let a = h.0 w in (
         subst (λ x. Went first x (world_of new))

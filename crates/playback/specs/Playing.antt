@@ -103,6 +103,12 @@ RefusesEnd old end new =
     ((kind : Kind) (bytes : List ℕ) → tests old.core (event.End kind (end_with end bytes)) ≡ refuse Stranger)
     × (new ≡ old)
 
+-- the request ends, whose call was made in this world
+abbrev pub Finishes : WorldSeen → Kind → End → List ℕ → Reply → WorldSeen → Type 0
+Finishes mid kind end bytes r new =
+    (name : ℕ) (old : WorldSeen) → IsReady name old → IsCalled old end.serial.0 mid → end.cache ≡ name
+    → end.kind ≡ kind → IsAgreed name old (entry (event.End kind (end_with end bytes)) r) new
+
 abbrev pub is_ending : Event → Bool
 is_ending (event.End kind end) = true
 is_ending e = false

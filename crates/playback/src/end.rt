@@ -6,7 +6,7 @@ ghost use Rattle.cachecore.specs.Replies.{outcome_of};
 ghost use Rattle.machine.specs.declared.event.Event.TheVariants as event;
 ghost use Rattle.trail.specs.Entries.{end_with, outcome_with, reply_with};
 ghost use Rattle.world.specs.Answers.{end_says};
-ghost use Rattle.playback.specs.Playing.{IsAgreed, IsCalled, IsReady, RefusesEnd, entry};
+ghost use Rattle.playback.specs.Playing.{Finishes, IsAgreed, IsCalled, IsReady, RefusesEnd, entry};
 
 use crate::replies::{came_to, is_told};
 use blockdev::{FaultEffect, ScriptDevice};
@@ -28,30 +28,38 @@ impl<'a> Ending<'a> {
     /// Makes the device call of the request, and ends it. Whether the call came to what the entry tells, and the end is
     /// answered so. Where the entry tells a fault the call is made to fail with its code, and by `effect` a flush leaves
     /// the old or the new bytes on its block.
-    pub fn play(self, world: &mut World<ScriptDevice>, name: u64, effect: FaultEffect) -> bool
+    #[tactic(auto, using(crate::proofs::Ends::refused_told))]
+    pub fn play(&self, world: &mut World<ScriptDevice>, name: u64, effect: FaultEffect) -> bool
         requires ready { IsReady name world.old }
-        ensures { OnTrue result (IsAgreed name world.old (entry (event.End self.kind (end_with self.end.now self.bytes.now)) (reply_with self.reply.now self.bytes.now)) world.new) }
+        ensures { OnTrue result (IsAgreed name world.old (entry (event.End self.now.kind (end_with self.now.end.now self.now.bytes.now)) (reply_with self.now.reply.now self.now.bytes.now)) world.new) }
     {
         match self.reply {
-            Reply::Refused(why) => { *why == Refusal::Stranger && ends_none(world, name, self.end) }
+            Reply::Refused(Refusal::Stranger) => ends_none(world, name, self.end),
+            Reply::Refused(_) => false,
             _ => self.end(world, name, effect),
         }
     }
 
     // An end that is not refused.
-    fn end(self, world: &mut World<ScriptDevice>, name: u64, effect: FaultEffect) -> bool
+    fn end(&self, world: &mut World<ScriptDevice>, name: u64, effect: FaultEffect) -> bool
         requires ready { IsReady name world.old }
-        ensures { OnTrue result (IsAgreed name world.old (entry (event.End self.kind (end_with self.end.now self.bytes.now)) (reply_with self.reply.now self.bytes.now)) world.new) }
+        ensures { OnTrue result (IsAgreed name world.old (entry (event.End self.now.kind (end_with self.now.end.now self.now.bytes.now)) (reply_with self.now.reply.now self.now.bytes.now)) world.new) }
     {
         if self.end.cache != name || self.end.kind != self.kind {
             return false;
         }
-        let serial = self.end.serial;
-        if make_call(world, serial, &self.end.outcome, effect).is_err() {
-            return false;
+        match make_call(world, self.end.serial, &self.end.outcome, effect) {
+            Ok(()) => self.finish(world),
+            Err(_) => false,
         }
-        match world.end_told(serial) {
-            Ok(ended) => self.is_told(&ended),
+    }
+
+    // Ends the request, whose call was made.
+    fn finish(&self, world: &mut World<ScriptDevice>) -> bool
+        ensures { OnTrue result (Finishes world.old self.now.kind self.now.end.now self.now.bytes.now (reply_with self.now.reply.now self.now.bytes.now) world.new) }
+    {
+        match world.end_told(self.end.serial) {
+            Ok(told) => self.is_told(&told),
             Err(_) => false,
         }
     }

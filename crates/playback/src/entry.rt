@@ -51,7 +51,6 @@ fn wants_no_memory(reply: &Reply) -> bool
 }
 
 /// Makes an event that is no end. Whether it is answered so.
-#[tactic(auto, using(crate::proofs::Events::agreed))]
 fn play_event(
     world: &mut World<ScriptDevice>,
     event: &Event,
