@@ -212,7 +212,7 @@ pub finishes_so : (mid new : WorldSeen) (k : Kind) (end : End) (bytes : List ℕ
     → OnTrue b (call_of x.kind x.outcome x.buffer ≡ outcome_with end.outcome bytes)
     → OnTrue b (end_says x.answer ≡ told) → OnTrue b (Finishes mid k end bytes told new)
 finishes_so mid new k end bytes told x false ended came kind call said_so = tt
-finishes_so mid new k end bytes told x true ended came kind call said_so name old ready made cache own =
+finishes_so mid new k end bytes told x true ended came kind call said_so = λ name old ready made cache own.
     let o = call_of x.kind x.outcome x.buffer in
     let its : End = record { cache = name; kind = x.kind; serial = end.serial; outcome = o } in
     let a = ended_told name old mid new ready end.serial.0 made x.kind o (end_says x.answer) came.0 came.1 ended
