@@ -36,7 +36,12 @@ pub fn play_again(
     trail: &FullTrail,
     device: ScriptDevice,
     effect: FaultEffect,
-) -> Result<Playback, Refusal> {
+) -> Result<Playback, Refusal>
+    requires sized { fits geometry.now device ≡ true }
+    requires contents { is_some device.contents ≡ true }
+    ensures played { IfOk result (Plays geometry.now name trail.now.entries device) }
+    ensures refused { IsOkUnless result Refusal.Memory }
+{
     match World::new(alloc, geometry, name, device) {
         Ok(world) => play_all(world, name, trail, effect),
         Err((_, device)) => {
@@ -52,7 +57,12 @@ fn play_all(
     name: u64,
     trail: &FullTrail,
     effect: FaultEffect,
-) -> Result<Playback, Refusal> {
+) -> Result<Playback, Refusal>
+    requires ready { IsReady name world }
+    requires first { IsFirst (world_of world) }
+    ensures played { IfOk result (Plays world.core.sizes name trail.now.entries world.device) }
+    ensures refused { IsOkUnless result Refusal.Memory }
+{
     // each by a call, since the check is slow where a world goes out of scope
     match first_odd(&mut world, name, trail, effect) {
         Ok(None) => Ok(Playback::Agrees(world.into_device())),
@@ -74,7 +84,13 @@ fn first_odd(
     name: u64,
     trail: &FullTrail,
     effect: FaultEffect,
-) -> Result<Option<u64>, Refusal> {
+) -> Result<Option<u64>, Refusal>
+    requires ready { IsReady name world.old }
+    requires first { IsFirst (world_of world.old) }
+    ensures all { IfOk result (λ o. IfNone o (Went (world_of world.old) (played trail.now.entries) (world_of world.new))) }
+    ensures odd { IfOk result (λ o. IfSome o (Stands (world_of world.old) trail.now.entries)) }
+    ensures refused { IsOkUnless result Refusal.Memory }
+{
     let mut place = 0;
     while place < trail.len() {
         let Some((entry, bytes)) = trail.entry(place) else {
