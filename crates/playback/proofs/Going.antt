@@ -23,7 +23,7 @@ use Rattle.trail.specs.declared.entry.Entry.{Entry}
 use Rattle.trail.specs.Honest.{Fate, GoesHonestly, Honest, IsTold, end_made, world_over}
 use Rattle.trail.proofs.TrailMoves.{no_end, over_of}
 use Rattle.std.specs.Bool.{OnTrue}
-use Rattle.std.specs.Prelude.{is_some}
+use Rattle.std.specs.Prelude.{IfNone, is_some}
 use Rattle.blockdev.specs.Device.{Told}
 use Rattle.world.specs.Stepping.{WorldSeen, first_world, world_of}
 use Rattle.playback.specs.declared.play.Playback.{Playback}
@@ -278,3 +278,7 @@ ready_first g name d w is s = subst (IsReady name) (sym is) (record { name = ref
 pub plays_first : (g : Sizes) (name : ℕ) (d : Told) (w : WorldSeen) (es : List Entry) (p : Playback)
     → w ≡ first_world g name d → Plays w.core.sizes name es w.device p → Plays g name es d p
 plays_first g name d w es p is h = subst (λ (v : WorldSeen). Plays v.core.sizes name es v.device p) is h
+
+pub if_none : (o : Option ℕ) (P : Type 0) → o ≡ None → IfNone o P → P
+if_none None P e h = h
+if_none (Some x) P e h = absurd cc
