@@ -7,6 +7,8 @@
 //!
 //! `views` has what the passes know, under one rule, and `steps` what is done with them. `sides` has the two sides for the two locks
 //! and what goes between them, and `naming` says which deeds they are.
+//!
+//! Floor: driven.
 
 pub mod naming;
 pub mod sides;

@@ -3,6 +3,8 @@
 //!
 //! `play` plays a full trail, `entry` one entry of it, `end` the end of a request, `replies` compares what is answered, and
 //! `blocks` copies a device and compares two. specs/Playing.antt says what an honest history over a device is.
+//!
+//! Floor: driven.
 
 mod blocks;
 mod end;

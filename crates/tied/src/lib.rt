@@ -5,3 +5,5 @@
 //! `specs/Tied.antt` has what is kept. In `proofs`, `Tied` says that each step of the cache keeps it, `Told` that such a
 //! history is honest, `Along` that its worlds are those of runs, `Calls` what a device call leaves as a fate of its request,
 //! `Tasks` which task a job of the cache is, and `Performed` that its one device call is what its deed was given for.
+//!
+//! Floor: driven.

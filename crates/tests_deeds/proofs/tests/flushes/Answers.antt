@@ -5,8 +5,8 @@ use Rattle.deeds.specs.Shown.{Settles}
 use Rattle.deeds.specs.Views.{home_in}
 use Rattle.deeds.specs.declared.views.Place.{Place}
 use Rattle.deeds.specs.declared.views.Place.TheVariants.{Home}
-use Rattle.deeds_rows.proofs.Flushed.{flush_home}
-use Rattle.deeds_rows.proofs.tests.flushes.Goals as goal
+use Rattle.tests_deeds.proofs.Flushed.{flush_home}
+use Rattle.tests_deeds.proofs.tests.flushes.Goals as goal
 
 pub returns-clause-well : goal.returns-clause-well
 returns-clause-well g c =

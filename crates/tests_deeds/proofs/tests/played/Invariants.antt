@@ -1,4 +1,4 @@
-use Rattle.deeds_rows.proofs.tests.played.Given as goal
+use Rattle.tests_deeds.proofs.tests.played.Given as goal
 
 -- the deeds that were just opened
 abbrev pub ghosts-plays : goal.ghosts-plays

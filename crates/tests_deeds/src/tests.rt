@@ -6,7 +6,7 @@ ghost use Rattle.blockdev.specs.Blocks.{zero_blocks};
 ghost use Rattle.deeds.specs.Shown.{AreTold, Settles};
 ghost use Rattle.deeds.specs.Views.{home_in};
 ghost use Rattle.deeds.specs.declared.views.Place.TheVariants.{Home, Out};
-ghost use Rattle.deeds_rows.specs.Rows.{Fits};
+ghost use Rattle.tests_deeds.specs.Rows.{Fits};
 
 use crate::checks::check;
 use blockdev::{Buffer, FaultEffect, Finished, Job, ScriptDevice, Watched};
