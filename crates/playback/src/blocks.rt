@@ -54,32 +54,20 @@ fn copy_block<D: BlockDevice>(
 }
 
 /// The first block of the device that is not as in both of the others. A block in which these differ is passed over, since
-<<<<<<< HEAD
-/// it may be as in neither; one that can't be read is not as in them.
-=======
 /// it may be as in neither; one that can't be read is not as in them. Where a device has more blocks than another, no block
 /// is as in both, and so it is the first.
->>>>>>> 780a82774fc6a1dfdde19e1ef1a4f22561a37773
 pub fn first_unlike<D: BlockDevice>(
     alloc: Global,
     device: &mut D,
     one: &ScriptDevice,
     other: &ScriptDevice,
 ) -> Result<Option<u64>, Refusal>
-<<<<<<< HEAD
-    requires one { (one.now.size ≡ (D.told device.old).size) × (one.now.count ≡ (D.told device.old).count) }
-    requires other { (other.now.size ≡ (D.told device.old).size) × (other.now.count ≡ (D.told device.old).count) }
-    ensures refused { IsOkUnless result Refusal.Memory }
-{
-    let count = device.blocks();
-=======
     ensures refused { IsOkUnless result Refusal.Memory }
 {
     let count = device.blocks();
     if one.blocks() != count || other.blocks() != count {
         return Ok(Some(0));
     }
->>>>>>> 780a82774fc6a1dfdde19e1ef1a4f22561a37773
     let mut buffer = vec![in alloc; 0; device.block_size() as usize]?;
     for number in 0..count.min(NUMBERS) {
         let block = BlockNo(number as u32);

@@ -3,11 +3,8 @@
 //!
 //! `play` plays a full trail, `entry` one entry of it, `end` the end of a request, `replies` compares what is answered, and
 //! `blocks` copies a device and compares two. specs/Playing.antt says what an honest history over a device is.
-<<<<<<< HEAD
 //!
 //! Floor: driven.
-=======
->>>>>>> 780a82774fc6a1dfdde19e1ef1a4f22561a37773
 
 mod blocks;
 mod end;

@@ -171,7 +171,9 @@ fn an_entry_that_is_not_the_worlds_is_told(rt: HostRuntime) -> Result<(), Fail> 
 /// The first block of a device that is unlike what the history leaves, by both effects. In the device a write was made.
 fn unlike(alloc: Global, trail: &FullTrail, written: u32) -> Result<Option<u64>, Refusal> {
     let mut device = MemDevice::new(alloc, PAGE, 4)?;
-    let _ = device.write(BlockNo(written), &WRITTEN);
+    if written < 4 {
+        let _ = device.write(BlockNo(written), &WRITTEN);
+    }
     let old = play(alloc, trail, FaultEffect::Old)?;
     let new = play(alloc, trail, FaultEffect::New)?;
     match (old, new) {

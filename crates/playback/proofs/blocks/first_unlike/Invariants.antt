@@ -6,9 +6,5 @@ invariant-loop-number g l =
     let first = g.D.BlockDevice.told l.fn.device in
     let now = g.D.BlockDevice.told l.device in
     (now.size ≡ first.size) × (now.count ≡ first.count) × (first.size ≡ length l.buffer.items)
-<<<<<<< HEAD
-    × (l.number-end ≤ first.count)
-=======
     × (l.number-end ≤ first.count) × (l.number-end ≤ l.one.count)
     × (l.number-end ≤ l.other.count)
->>>>>>> 780a82774fc6a1dfdde19e1ef1a4f22561a37773

@@ -1,5 +1,0 @@
-#![tactic(auto)]
-//! The tests of `playback`. They are a crate of their own, since a crate with tests is proved once more beside them.
-
-#[cfg(test)]
-mod tests;
