@@ -8,6 +8,8 @@
 //! numbers of syncs.
 
 mod bytes;
+pub mod call;
+pub mod calls;
 pub mod denied;
 mod end;
 mod files;
