@@ -5,7 +5,7 @@ pub mod Failures
 pub mod Holds
 pub mod Replies
 pub mod Writes
-pub mod Calls
+pub mod Makes
 pub mod Openings
 pub mod Closes
 pub mod Counting

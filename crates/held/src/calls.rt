@@ -79,7 +79,7 @@ impl<'a> Call<'a> for Write<'a> {
     ghost use Rattle.std.proofs.Common.{refl};
     ghost use Rattle.cachecore.specs.Replies.{wrote};
     ghost use Rattle.machine.specs.declared.event.Event.TheVariants as event;
-    ghost use Rattle.held.specs.Calls.{bare_write};
+    ghost use Rattle.held.specs.Plain.{bare_write};
 
     type Answer = WriteAnswer;
 
@@ -135,7 +135,7 @@ impl<'a> Call<'a> for Fill {
     ghost use Rattle.blockdev.specs.Jobs.{IsJobFor};
     ghost use Rattle.cachecore.specs.Replies.{GivesBack, IsFillJob, OnFillJob};
     ghost use Rattle.machine.specs.declared.event.Event.TheVariants as event;
-    ghost use Rattle.held.specs.Calls.{bare_begun, fill_says};
+    ghost use Rattle.held.specs.Plain.{bare_begun, fill_says};
 
     type Answer = FillBegun;
 

@@ -13,7 +13,7 @@ use Rattle.pc_types.specs.Limits.{Sizes}
 use Rattle.trail.specs.Entries.{bytes_in, entry_of, entry_with, event_bytes, event_with, noted, reply_bytes, reply_with}
 use Rattle.trail.specs.Room.{byte_need, entry_room, event_need, fits_beside, has_room, less, reserved}
 use Rattle.held.specs.declared.log.Slip.{Slip}
-use Rattle.held.specs.Calls.{is_bare, is_plain}
+use Rattle.held.specs.Plain.{is_bare, is_plain}
 use Rattle.held.specs.Entered.{Entered, Made, Records}
 use Rattle.held.specs.Shown.{HeldSeen, SeatSeen}
 use Rattle.held.proofs.Holds.{Whole, none_needed, room_is, went}
