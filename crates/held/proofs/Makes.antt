@@ -11,12 +11,12 @@ use Rattle.machine.specs.State.{State}
 use Rattle.machine.specs.Step.{Step}
 use Rattle.pc_types.specs.Limits.{Sizes}
 use Rattle.trail.specs.Entries.{bytes_in, entry_of, entry_with, event_bytes, event_with, noted, reply_bytes, reply_with}
-use Rattle.trail.specs.Room.{byte_need, entry_room, event_need, fits_beside, has_room, less, reserved}
+use Rattle.trail.specs.Room.{byte_need, entry_room, event_need, fits, fits_beside, has_room, less, reserved}
 use Rattle.held.specs.declared.log.Slip.{Slip}
 use Rattle.held.specs.Plain.{is_bare, is_plain}
 use Rattle.held.specs.Entered.{Entered, Made, Records}
 use Rattle.held.specs.Shown.{HeldSeen, SeatSeen}
-use Rattle.held.proofs.Holds.{Whole, none_needed, room_is, went}
+use Rattle.held.proofs.Holds.{Whole, entry_fits, none_needed, room_is, went}
 
 self_le : (n : ℕ) → n ≤ n
 self_le n = omega arith
@@ -57,7 +57,7 @@ noted_as (event.SyncBegin x y z) r p = refl
 noted_as (event.SyncStep x) r p = refl
 noted_as (event.SyncDrop x) r p = refl
 
-pub small : (s : State) (e : Event) → is_plain e ≡ true → length (event_bytes e) ≤ entry_room s e
+small : (s : State) (e : Event) → is_plain e ≡ true → length (event_bytes e) ≤ entry_room s e
 small s event.Create p = none_needed _
 small s (event.Open x) p = none_needed _
 small s (event.Close x) p = none_needed _
@@ -151,11 +151,23 @@ counted seat e r p q =
     let n : length (reply_bytes r) ≡ 0 = bare_none r q in omega arith
 
 -- the room that was asked for is that of the event
-pub asked : (old : HeldSeen) (e : Event) (n b : ℕ) (answer : Bool)
-    → answer ≡ fits_beside old.log.room old.core.state.sizes.page (reserved old.core.state) n b
+pub room_for : (old : HeldSeen) (e : Event) (n b : ℕ)
+    → fits_beside old.log.room old.core.state.sizes.page (reserved old.core.state) n b ≡ true
     → n ≡ event_need old.core.state e → b ≡ byte_need old.core.state e
-    → answer ≡ has_room old.log.room (reserved old.core.state) old.core.state e
-asked old e n b answer is need bytes = room_is old.log old.core.state n b e answer is (sym need) (sym bytes)
+    → has_room old.log.room (reserved old.core.state) old.core.state e ≡ true
+room_for old e n b is need bytes =
+    sym (room_is old.log old.core.state n b e true (sym is) (sym need) (sym bytes))
+
+little : (s : State) (e : Event) (b : List ℕ) → is_plain e ≡ true → b ≡ event_bytes e → length b ≤ entry_room s e
+little s e b plain beside =
+    let count : length b ≡ length (event_bytes e) = ap length beside in
+    subst (λ n. n ≤ entry_room s e) (sym count) (small s e plain)
+
+pub call_fits : (old : HeldSeen) (next : State) (e : Event) (r : Reply) (b : List ℕ) → is_plain e ≡ true
+    → has_room old.log.room (reserved old.core.state) old.core.state e ≡ true → b ≡ event_bytes e
+    → Step old.core.state e r next → fits old.log.room 1 (length b) ≡ true
+call_fits old next e r b plain has beside step =
+    entry_fits old.log old.core.state next e r (length b) has step (little old.core.state e b plain beside)
 
 module _ (name : ℕ) (table board : TableId) (sizes : Sizes) (seats : ℕ) (old new : HeldSeen) (before after : SeatSeen)
     (slip : Slip) (i : Whole name table board sizes seats old) where
@@ -169,7 +181,7 @@ module _ (name : ℕ) (table board : TableId) (sizes : Sizes) (seats : ℕ) (old
   call_went e without a r b plain bare has none beside is s lists entered room errors =
       let count : length b ≡ length (event_bytes e) = ap length beside in
       went name table board sizes seats old new before after slip i e a _ (length b) has
-      (subst (λ n. n ≤ entry_room old.core.state e) (sym count) (small old.core.state e plain))
+      (little old.core.state e b plain beside)
       (λ j. record {
         seat = before.number;
         event = ((λ k. event_with (none k) (beside k)) ∙ restored e a plain) j;
