@@ -6,6 +6,7 @@ pub mod Holds
 pub mod Replies
 pub mod Writes
 pub mod Makes
+pub mod Endings
 pub mod Openings
 pub mod Closes
 pub mod Counting

@@ -12,6 +12,7 @@ pub mod call;
 pub mod calls;
 pub mod denied;
 mod end;
+pub mod ending;
 mod files;
 mod first;
 pub mod log;
