@@ -20,7 +20,7 @@ invariant_of-self-2 g c =
     (record { log = c.enter-slip.new.self; core = c.run-answer.new.core; errors = c.self.inside.recorder })
     c.args.seat.now c.enter-slip.new.seat c.enter-slip.result c.self.invariant
     (g.C.Call.event c.args.call) c.without-event.result (g.C.Call.says c.run-answer.result) c.reply.result c.bytes-beside.result.now
-    ((g.met.C.Call c.lifetimes c.well_formed).plain c.args.call) (g.met.C.Call.bare c.run-answer.result)
+    ((g.met.C.Call c.lifetimes c.well_formed).plain c.args.call) ((g.met.C.Call c.lifetimes c.well_formed).bare c.run-answer.result)
     (room_for (record { log = c.self.inside.log; core = c.self.inside.core; errors = c.self.inside.recorder })
     (g.C.Call.event c.args.call) c.need-wanted.result.0 c.need-wanted.result.1 c.in_ok-check_room.ensures.room
     c.need-wanted.ensures.entries c.need-wanted.ensures.bytes)
@@ -36,7 +36,7 @@ returns-clause-made g c =
     (record { log = c.enter-slip.new.self; core = c.run-answer.new.core; errors = c.self.inside.recorder })
     c.args.seat.now c.enter-slip.new.seat c.enter-slip.result c.self.invariant
     (g.C.Call.event c.args.call) c.without-event.result (g.C.Call.says c.run-answer.result) c.reply.result c.bytes-beside.result.now
-    ((g.met.C.Call c.lifetimes c.well_formed).plain c.args.call) (g.met.C.Call.bare c.run-answer.result)
+    ((g.met.C.Call c.lifetimes c.well_formed).plain c.args.call) ((g.met.C.Call c.lifetimes c.well_formed).bare c.run-answer.result)
     (room_for (record { log = c.self.inside.log; core = c.self.inside.core; errors = c.self.inside.recorder })
     (g.C.Call.event c.args.call) c.need-wanted.result.0 c.need-wanted.result.1 c.in_ok-check_room.ensures.room
     c.need-wanted.ensures.entries c.need-wanted.ensures.bytes)
