@@ -5,6 +5,7 @@ pub mod Failures
 pub mod Holds
 pub mod Replies
 pub mod Writes
+pub mod Bare
 pub mod Makes
 pub mod Endings
 pub mod Openings

@@ -25,7 +25,6 @@ use trail::Trail;
 pub struct Size(pub HandleId);
 
 impl<'a> Call<'a> for Size {
-    ghost use Rattle.std.specs.Prelude.{Ok, Err};
     ghost use Rattle.std.proofs.Common.{refl};
     ghost use Rattle.cachecore.specs.Replies.{sized};
     ghost use Rattle.machine.specs.declared.event.Event.TheVariants as event;
@@ -60,10 +59,6 @@ impl<'a> Call<'a> for Size {
         of_size(answer)
     }
 
-    ghost plain = { λ c. refl };
-
-    ghost bare = { elim [ Ok n ↦ refl | Err why ↦ refl ] };
-
     ghost refused = { λ why. refl };
 }
 
@@ -76,10 +71,11 @@ pub struct Write<'a> {
 }
 
 impl<'a> Call<'a> for Write<'a> {
+    ghost use Rattle.std.specs.Prelude.{◌≡◌, true};
     ghost use Rattle.std.proofs.Common.{refl};
     ghost use Rattle.cachecore.specs.Replies.{wrote};
     ghost use Rattle.machine.specs.declared.event.Event.TheVariants as event;
-    ghost use Rattle.held.specs.Plain.{bare_write};
+    ghost use Rattle.held.specs.Plain.{is_bare};
 
     type Answer = WriteAnswer;
 
@@ -109,14 +105,11 @@ impl<'a> Call<'a> for Write<'a> {
 
     // The checker asks for this clause again: `rattle check` cannot give this method the clauses of its trait yet.
     fn reply(answer: &Result<WriteAnswer, Refusal>) -> Reply
-        ensures { result ≡ wrote answer.now }
+        ensures reply { result ≡ wrote answer.now }
+        ensures bare { is_bare (wrote answer.now) ≡ true }
     {
         of_write(answer)
     }
-
-    ghost plain = { λ c. refl };
-
-    ghost bare = { bare_write };
 
     ghost refused = { λ why. refl };
 }
@@ -135,7 +128,7 @@ impl<'a> Call<'a> for Fill {
     ghost use Rattle.blockdev.specs.Jobs.{IsJobFor};
     ghost use Rattle.cachecore.specs.Replies.{GivesBack, IsFillJob, OnFillJob};
     ghost use Rattle.machine.specs.declared.event.Event.TheVariants as event;
-    ghost use Rattle.held.specs.Plain.{bare_begun, fill_says};
+    ghost use Rattle.held.specs.Plain.{fill_says};
 
     type Answer = FillBegun;
 
@@ -179,10 +172,6 @@ impl<'a> Call<'a> for Fill {
             Err(refusal) => Reply::Refused(*refusal),
         }
     }
-
-    ghost plain = { λ c. refl };
-
-    ghost bare = { bare_begun };
 
     ghost refused = { λ why. refl };
 }

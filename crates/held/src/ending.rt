@@ -24,7 +24,7 @@ use trail::Trail;
 
 /// An end whose entry has no bytes.
 pub trait Ending {
-    ghost use Rattle.std.specs.Prelude.{◌≡◌, ℕ, [], Result, Err, IfErr, IfOk, is_err, if◌then◌else◌};
+    ghost use Rattle.std.specs.Prelude.{◌≡◌, ℕ, [], None, Result, Err, IfErr, IfOk, IsOk, is_err, if◌then◌else◌};
     ghost use Rattle.errboard.specs.Shown.{RecorderSeen};
     ghost use Rattle.pc_types.specs.declared.refusal.Refusal.{Refusal};
     ghost use Rattle.machine.specs.declared.event.Event.{Event};
@@ -33,6 +33,7 @@ pub trait Ending {
     ghost use Rattle.machine.specs.ListChanges.{lists_after};
     ghost use Rattle.machine.specs.State.{State};
     ghost use Rattle.machine.specs.Step.{Step};
+    ghost use Rattle.machine.specs.Tests.{tests};
     ghost use Rattle.cachecore.specs.Core.{Core};
     ghost use Rattle.trail.specs.Entries.{entry_of, entry_with, event_with};
     ghost use Rattle.trail.specs.Room.{byte_need, event_need};
@@ -56,6 +57,7 @@ pub trait Ending {
         ensures recorded { Records core.old.state (event self) (says result) recorder.old recorder.new }
         ensures gives { IfOk result (λ a. gives self core.old recorder.old a recorder.new) }
         ensures back { IfErr result (λ _. (core.new ≡ core.old) × (recorder.new ≡ recorder.old)) }
+        ensures goes_on { tests core.old.state (event self) ≡ None → IsOk result }
 
         // It wants an entry where it is refused, and else what is reserved for it.
         ensures need { event_need core.old.state (event self) ≡ (if is_err result then 1 else 0) }
@@ -79,6 +81,7 @@ impl<B: Naming, T: Trail> Held<B, T> {
         requires { seat.old.table ≡ B.table }
         ensures made { IfOk result (λ r. Made (C.event end) (C.says (Ok r.0)) self.old self.new seat.old seat.new r.1) }
         ensures gives { IfOk result (λ r. C.gives end self.old.core self.old.errors r.0 self.new.errors) }
+        ensures in_flight { tests self.old.core.state (C.event end) ≡ None → IsOk result }
         ensures board { self.old.errors.board ≡ B.board }
         ensures denied { IfErr result (IsDenied (C.event end) self.old self.new seat.old seat.new) }
     {

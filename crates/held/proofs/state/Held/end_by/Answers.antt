@@ -2,14 +2,14 @@ use Rattle.std.proofs.Common.{ap, sym, subst, ◌∙◌}
 use Rattle.std.proofs.lemmas.Result.{err_from_is_err_and}
 use Rattle.held.specs.Shown.{HeldSeen}
 use Rattle.held.proofs.Endings.{ending_fits, ending_full, ending_room, ending_went, err_gives, need_as}
-use Rattle.held.proofs.Holds.{Whole, full_back, told_made}
+use Rattle.held.proofs.Holds.{Whole, full_back, told_denied, told_made}
 use Rattle.held.proofs.state.Held.end_by.Goals as goal
 
 pub invariant_of-self : goal.invariant_of-self
 invariant_of-self g c =
     let back = err_gives c.run-answer.result c.run-answer.ensures.back
     (sym c.is_err.ensures.value ∙ c.in_err-check_entry.ensures.full.1) in
-    subst (λ (h : HeldSeen). Whole _ _ _ _ _ h)
+    subst (λ (h : HeldSeen). Whole g.B.Naming.name g.B.Naming.table g.B.Naming.board g.B.Naming.sizes g.B.Naming.seats h)
     (λ i. record { log = c.self.inside.log; core = sym back.0 i; errors = sym back.1 i }) c.self.invariant
 
 pub enter-slip-requires-clause-room : goal.enter-slip-requires-clause-room
@@ -38,6 +38,21 @@ pub returns-clause-made : goal.returns-clause-made
 returns-clause-made g c =
     told_made (g.C.Ending.event c.args.end) g.C.Ending.says _ _ _ _ _ _ c.run-answer.result c.self.view_is c.told.result
     c.told.ensures.ok
+    (ending_went _ _ _ _ _
+    (record { log = c.self.inside.log; core = c.self.inside.core; errors = c.self.inside.recorder })
+    (record { log = c.enter-slip.new.self; core = c.run-answer.new.core; errors = c.run-answer.new.recorder })
+    c.args.seat.now c.enter-slip.new.seat c.enter-slip.result c.self.invariant
+    (g.C.Ending.event c.args.end) c.without-event.result (g.C.Ending.says c.run-answer.result) c.reply.result
+    (ending_room c.self.inside.log c.self.inside.core.state c.self.invariant.0 (g.C.Ending.event c.args.end)
+    (g.met.C.Ending.no_bytes c.self.inside.core.state c.args.end) c.has_room-is_room.result c.has_room-is_room.ensures
+    c.is_err.result (need_as _ _ _ c.is_err.ensures.value c.run-answer.ensures.need) c.in_ok-check_entry.ensures.room)
+    c.without-event.ensures c.reply.ensures c.run-answer.ensures.entry c.run-answer.ensures.step
+    c.run-answer.ensures.lists c.enter-slip.ensures.entered c.enter-slip.ensures.room c.run-answer.ensures.recorded).0
+
+pub returns-clause-denied : goal.returns-clause-denied
+returns-clause-denied g c =
+    told_denied (g.C.Ending.event c.args.end) g.C.Ending.says _ _ _ _ _ _ c.run-answer.result c.self.view_is c.told.result
+    c.told.ensures.err g.met.C.Ending.refused
     (ending_went _ _ _ _ _
     (record { log = c.self.inside.log; core = c.self.inside.core; errors = c.self.inside.recorder })
     (record { log = c.enter-slip.new.self; core = c.run-answer.new.core; errors = c.run-answer.new.recorder })

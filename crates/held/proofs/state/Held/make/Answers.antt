@@ -7,7 +7,7 @@ pub enter-slip-requires-clause-room : goal.enter-slip-requires-clause-room
 enter-slip-requires-clause-room g c =
     call_fits (record { log = c.self.inside.log; core = c.self.inside.core; errors = c.self.inside.recorder })
     c.run-answer.new.core.state (g.C.Call.event c.args.call) (g.C.Call.says c.run-answer.result) c.bytes-beside.result.now
-    ((g.met.C.Call c.lifetimes c.well_formed).plain c.args.call)
+    c.without-event.ensures.plain
     (room_for (record { log = c.self.inside.log; core = c.self.inside.core; errors = c.self.inside.recorder })
     (g.C.Call.event c.args.call) c.need-wanted.result.0 c.need-wanted.result.1 c.in_ok-check_room.ensures.room
     c.need-wanted.ensures.entries c.need-wanted.ensures.bytes)
@@ -20,11 +20,11 @@ invariant_of-self-2 g c =
     (record { log = c.enter-slip.new.self; core = c.run-answer.new.core; errors = c.self.inside.recorder })
     c.args.seat.now c.enter-slip.new.seat c.enter-slip.result c.self.invariant
     (g.C.Call.event c.args.call) c.without-event.result (g.C.Call.says c.run-answer.result) c.reply.result c.bytes-beside.result.now
-    ((g.met.C.Call c.lifetimes c.well_formed).plain c.args.call) ((g.met.C.Call c.lifetimes c.well_formed).bare c.run-answer.result)
+    c.without-event.ensures.plain c.reply.ensures.bare
     (room_for (record { log = c.self.inside.log; core = c.self.inside.core; errors = c.self.inside.recorder })
     (g.C.Call.event c.args.call) c.need-wanted.result.0 c.need-wanted.result.1 c.in_ok-check_room.ensures.room
     c.need-wanted.ensures.entries c.need-wanted.ensures.bytes)
-    c.without-event.ensures c.bytes-beside.ensures c.reply.ensures c.run-answer.ensures.step c.run-answer.ensures.lists
+    c.without-event.ensures.event c.bytes-beside.ensures c.reply.ensures.reply c.run-answer.ensures.step c.run-answer.ensures.lists
     c.enter-slip.ensures.entered c.enter-slip.ensures.room refl).1
 
 pub returns-clause-made : goal.returns-clause-made
@@ -36,9 +36,9 @@ returns-clause-made g c =
     (record { log = c.enter-slip.new.self; core = c.run-answer.new.core; errors = c.self.inside.recorder })
     c.args.seat.now c.enter-slip.new.seat c.enter-slip.result c.self.invariant
     (g.C.Call.event c.args.call) c.without-event.result (g.C.Call.says c.run-answer.result) c.reply.result c.bytes-beside.result.now
-    ((g.met.C.Call c.lifetimes c.well_formed).plain c.args.call) ((g.met.C.Call c.lifetimes c.well_formed).bare c.run-answer.result)
+    c.without-event.ensures.plain c.reply.ensures.bare
     (room_for (record { log = c.self.inside.log; core = c.self.inside.core; errors = c.self.inside.recorder })
     (g.C.Call.event c.args.call) c.need-wanted.result.0 c.need-wanted.result.1 c.in_ok-check_room.ensures.room
     c.need-wanted.ensures.entries c.need-wanted.ensures.bytes)
-    c.without-event.ensures c.bytes-beside.ensures c.reply.ensures c.run-answer.ensures.step c.run-answer.ensures.lists
+    c.without-event.ensures.event c.bytes-beside.ensures c.reply.ensures.reply c.run-answer.ensures.step c.run-answer.ensures.lists
     c.enter-slip.ensures.entered c.enter-slip.ensures.room refl).0
