@@ -1,8 +1,9 @@
 -- SPIKE. The end of what is in flight, whose entry has no bytes.
 use Rattle.std.proofs.Common.{◌≡◌, ℕ, Bool, true, false, [], refl, ap, sym, subst, ◌∙◌, inl, inr}
-use Rattle.std.specs.Prelude.{IfErr, Result, Ok, Err, is_err, if◌then◌else◌}
+use Rattle.std.specs.Prelude.{IfErr, IsOk, Result, Ok, Err, Some, is_err, is_ok, if◌then◌else◌}
 use Rattle.atomic_table.specs.Seated.{TableId}
 use Rattle.pc_types.specs.Limits.{Sizes}
+use Rattle.pc_types.specs.declared.refusal.Refusal.{Refusal}
 use Rattle.machine.specs.declared.event.Event.{Event}
 use Rattle.machine.specs.declared.event.Reply.{Reply}
 use Rattle.machine.specs.ListChanges.{lists_after}
@@ -11,6 +12,7 @@ use Rattle.machine.specs.Step.{Step}
 use Rattle.trail.specs.declared.entry.Entry.{Entry}
 use Rattle.trail.specs.Entries.{entry_of, entry_with, event_with}
 use Rattle.trail.specs.Room.{byte_need, event_need, fits, fits_beside, has_room, less, reserved}
+use Rattle.held.specs.declared.denied.Denied.{Denied}
 use Rattle.held.specs.declared.log.Slip.{Slip}
 use Rattle.held.specs.Entered.{Entered, Made, Records}
 use Rattle.held.specs.Kept.{IsHeld}
@@ -21,6 +23,12 @@ use Rattle.held.proofs.Sizes.{none_in}
 pub err_gives : {A E P : Type 0} (a : Result A E) → IfErr a (λ _. P) → is_err a ≡ true → P
 err_gives (Ok y) h e = absurd cc
 err_gives (Err x) h e = h
+
+-- a refusal that was told had been the answer
+pub told_through : {A : Type 0} (slip : Slip) (a : Result A Refusal) (result : Result (A × Slip) Denied)
+    → IfErr result (λ d. (a ≡ Err d.refusal) × (d.slip ≡ Some slip)) → IsOk a → IsOk result
+told_through slip a (Ok r) told ok = refl
+told_through slip a (Err d) told ok = absurd (let e : true ≡ false = sym ok ∙ ap is_ok told.0 in cc)
 
 pub need_as : (n : ℕ) (said is : Bool) → said ≡ is → n ≡ (if is then 1 else 0) → n ≡ (if said then 1 else 0)
 need_as n said is same need = subst (λ b. n ≡ (if b then 1 else 0)) (sym same) need

@@ -1,7 +1,7 @@
 use Rattle.std.proofs.Common.{ap, sym, subst, ◌∙◌}
 use Rattle.std.proofs.lemmas.Result.{err_from_is_err_and}
 use Rattle.held.specs.Shown.{HeldSeen}
-use Rattle.held.proofs.Endings.{ending_fits, ending_full, ending_room, ending_went, err_gives, need_as}
+use Rattle.held.proofs.Endings.{ending_fits, ending_full, ending_room, ending_went, err_gives, need_as, told_through}
 use Rattle.held.proofs.Holds.{Whole, full_back, told_denied, told_made}
 use Rattle.held.proofs.state.Held.end_by.Goals as goal
 
@@ -78,3 +78,7 @@ returns-in_err-check_entry-clause-denied g c =
     (g.met.C.Ending.no_bytes c.self.inside.core.state c.args.end) c.has_room-is_room.result c.has_room-is_room.ensures
     c.is_err.result (need_as _ _ _ c.is_err.ensures.value c.run-answer.ensures.need) c.in_err-check_entry.ensures.full.1
     c.in_err-check_entry.ensures.full.2))
+
+pub returns-clause-in_flight : goal.returns-clause-in_flight
+returns-clause-in_flight g c none =
+    told_through c.enter-slip.result c.run-answer.result c.told.result c.told.ensures.err (c.run-answer.ensures.goes_on none)
