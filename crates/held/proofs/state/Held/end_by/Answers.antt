@@ -1,5 +1,6 @@
 use Rattle.std.proofs.Common.{ap, sym, subst, ◌∙◌}
 use Rattle.std.proofs.lemmas.Result.{err_from_is_err_and}
+use Rattle.machine.specs.Tests.{tests}
 use Rattle.held.specs.Shown.{HeldSeen}
 use Rattle.held.proofs.Endings.{ending_fits, ending_full, ending_room, ending_went, err_gives, need_as, told_through}
 use Rattle.held.proofs.Holds.{Whole, full_back, told_denied, told_made}
@@ -81,4 +82,6 @@ returns-in_err-check_entry-clause-denied g c =
 
 pub returns-clause-in_flight : goal.returns-clause-in_flight
 returns-clause-in_flight g c none =
-    told_through c.enter-slip.result c.run-answer.result c.told.result c.told.ensures.err (c.run-answer.ensures.goes_on none)
+    told_through c.enter-slip.result c.run-answer.result c.told.result c.told.ensures.err
+    (c.run-answer.ensures.goes_on
+    (ap (λ (h : HeldSeen). tests h.core.state (g.C.Ending.event c.args.end)) c.self.view_is ∙ none))
