@@ -311,7 +311,7 @@ fn time_over<B: Naming + Send + Sync, R: Threads + Wait + Clock + Sync>(
     requires board { parts.board ≡ B.board }
     requires state { IsLocked B.name B.table B.board B.sizes B.seats parts.held }
     requires idle { map.len parts.held.core.state.requests ≡ 0 }
-    requires own { IsWorkerOf parts.ring B.name B.table B.sizes parts.own }
+    requires own { IsWorkerOf parts.ring B.name B.table B.deeds B.sizes parts.own }
     requires device { IsDisk B.sizes parts.device }
     requires seats { AreFresh B.table B.name seats.items }
 {

@@ -38,9 +38,9 @@ use Rattle.shared.specs.declared.turns.Flushed.TheVariants as flushed
 use Rattle.shared.specs.declared.worker.Worker.{Worker}
 
 -- its seat is of the cache of this name and this table, and its pass is one of the cache's ring, for a device of these sizes
-pub record IsWorkerOf (ring : Ring) (name : ℕ) (table : TableId) (sizes : Sizes) (w : Worker) : Type 0 where
+pub record IsWorkerOf (ring : Ring) (name : ℕ) (table deeds : TableId) (sizes : Sizes) (w : Worker) : Type 0 where
   pub serves : Serves ring w.pass
-  pub carries : Carries name sizes.blocks sizes.page w.pass
+  pub carries : Carries name sizes.blocks sizes.page deeds w.pass
   pub named : w.seat.name ≡ name
   pub seated : w.seat.table ≡ table
 
@@ -49,11 +49,11 @@ seat_of w = w.seat
 
 -- the jobs that it took from the ring, in order
 abbrev pub popped_by : Worker → List Task
-popped_by w = (view w.pass).popped
+popped_by w = map_list (λ p. p.task) (view w.pass).popped
 
 -- the jobs that it put into the ring, in order
 abbrev pub pushed_by : Worker → List Task
-pushed_by w = (view w.pass).pushed
+pushed_by w = map_list (λ p. p.task) (view w.pass).pushed
 
 -- the event is the end of this job's request
 abbrev pub IsEndOf : Task → Event → Type 0

@@ -20,8 +20,9 @@ use crate::brief::BriefLock;
 use crate::cache::SharedCache;
 use crate::disk::Disk;
 use crate::handle::FailedWrite;
-use blockdev::{BlockDevice, Buffer, Finished, Job};
+use blockdev::{BlockDevice, Buffer};
 use cachecore::Ended;
+use deeds::sides::{Errand, Report};
 use errboard::Receipt;
 use held::denied::{Denied, by};
 use held::log::{Seat, Slip};
@@ -39,7 +40,7 @@ impl<B: Naming, D: BlockDevice, T: Trail> SharedCache<B, D, T> {
         rt: &R,
         seat: &mut Seat,
         handle: HandleId,
-        job: Job,
+        job: Errand<B>,
     ) -> Result<(), Denied>
         requires seat { seat.old.table ≡ B.table }
         requires fits { IsJobFor B.name B.sizes.blocks B.sizes.page job }
@@ -70,7 +71,7 @@ impl<B: Naming, D: BlockDevice, T: Trail> SharedCache<B, D, T> {
         &self,
         rt: &R,
         seat: &mut Seat,
-        job: Job,
+        job: Errand<B>,
     ) -> Result<(bool, Buffer), Denied>
         requires seat { seat.old.table ≡ B.table }
         requires fits { IsJobFor B.name B.sizes.blocks B.sizes.page job }
@@ -123,7 +124,7 @@ pub(crate) fn carry_through<B: Naming, D: BlockDevice, T: Trail, R: Wait>(
     state: &BriefLock<Held<B, T>>,
     name: u64,
     seat: &mut Seat,
-    job: Job,
+    job: Errand<B>,
 ) -> Result<Done, Denied>
     requires seat { seat.old.table ≡ B.table }
     requires fits { IsJobFor B.name B.sizes.blocks B.sizes.page job }
@@ -137,7 +138,7 @@ pub(crate) fn carry_through<B: Naming, D: BlockDevice, T: Trail, R: Wait>(
     ensures refused_once { IfErr result (λ d. MadeOne d.slip seat.old seat.new) }
     ensures full { IfErr result (IsFullIfNoSlip seat.old seat.new) }
 {
-    let serial = job.serial();
+    let serial = job.job().serial();
     let finished = disk.lock(rt).carry_out(job);
     match end(&mut state.lock(rt), seat, finished) {
         Ok((slip, receipt)) => Ok(Done {
@@ -168,7 +169,7 @@ fn failure(name: u64, receipt: Option<Receipt>) -> Option<FailedWrite>
 pub(crate) fn end<B: Naming, T: Trail>(
     state: &mut Held<B, T>,
     seat: &mut Seat,
-    finished: Finished,
+    finished: Report<B>,
 ) -> Result<(Slip, Option<Receipt>), Denied>
     requires seat { seat.old.table ≡ B.table }
     requires size { length finished.bytes ≡ B.sizes.page }
@@ -187,7 +188,7 @@ pub(crate) fn end<B: Naming, T: Trail>(
 {
     // Lends that the history is legal, and so the state's name.
     let _ = state.core();
-    match finished.kind() {
+    match finished.finished().kind() {
         Kind::Fill => match state.fill_end(seat, finished) {
             Ok((_, slip)) => Ok((slip, None)),
             Err(denied) => Err(denied),

@@ -27,8 +27,8 @@ impl<B: Naming, D: BlockDevice, T: Trail> SharedCache<B, D, T> {
         gate: &G,
         worker: &mut Worker,
     ) -> Result<u64, Denied>
-        requires worker { IsWorkerOf self.now.ring B.name B.table B.sizes worker.old }
-        ensures worker { IsWorkerOf self.now.ring B.name B.table B.sizes worker.new }
+        requires worker { IsWorkerOf self.now.ring B.name B.table B.deeds B.sizes worker.old }
+        ensures worker { IsWorkerOf self.now.ring B.name B.table B.deeds B.sizes worker.new }
         ensures goes { Goes (seat_of worker.old) (seat_of worker.new) }
         ensures only { Only (λ e. IsEviction e.event) (seat_of worker.old) (seat_of worker.new) }
         ensures gone { IfOk result (λ n. (pages : ℕ) × LetsGo pages (seat_of worker.old) (seat_of worker.new) × (n ≡ min pages u64.MAX)) }
@@ -53,8 +53,8 @@ impl<B: Naming, D: BlockDevice, T: Trail> SharedCache<B, D, T> {
     /// Lets pages go while few frames are free, and sleeps where enough are, until it is told to stop.
     #[tactic(auto, using(held::proofs::Seats::goes_same, held::proofs::Seats::goes_on, held::proofs::Seats::only_same, crate::proofs::Owning::eviction_on))]
     pub fn evictor<R: Wait, G: Gate>(&self, rt: &R, gate: &G, worker: &mut Worker)
-        requires worker { IsWorkerOf self.now.ring B.name B.table B.sizes worker.old }
-        ensures worker { IsWorkerOf self.now.ring B.name B.table B.sizes worker.new }
+        requires worker { IsWorkerOf self.now.ring B.name B.table B.deeds B.sizes worker.old }
+        ensures worker { IsWorkerOf self.now.ring B.name B.table B.deeds B.sizes worker.new }
         ensures goes { Goes (seat_of worker.old) (seat_of worker.new) }
         ensures only { Only (λ e. IsEviction e.event) (seat_of worker.old) (seat_of worker.new) }
         ensures ring { (popped_by worker.new ≡ popped_by worker.old) × (pushed_by worker.new ≡ pushed_by worker.old) }

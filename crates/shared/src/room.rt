@@ -17,11 +17,12 @@ ghost use Rattle.shared.specs.Settled.{FillsNoOther, SettlesIn};
 ghost use Rattle.shared.specs.Workers.{LetsGo};
 
 use crate::cache::SharedCache;
-use blockdev::{BlockDevice, Buffer, Job};
-use cachecore::{FillBegun, Want};
+use blockdev::{BlockDevice, Buffer};
+use cachecore::Want;
 use held::denied::{Denied, without_slip};
 use held::log::Seat;
 use held::naming::Naming;
+use held::started::FillStarted;
 use held::state::Held;
 use pc_types::{HandleId, PageIndex, Refusal};
 use std::sync::{MutexGuard, Wait};
@@ -92,7 +93,7 @@ impl<B: Naming, D: BlockDevice, T: Trail> SharedCache<B, D, T> {
         };
         drop(guard);
         match begun {
-            FillBegun::Job(job) => self.fill_by(rt, seat, handle, job),
+            FillStarted::Job(job) => self.fill_by(rt, seat, handle, job),
             _ => Ok(()),
         }
     }

@@ -13,7 +13,8 @@ ghost use Rattle.shared.specs.Workers.{AllCarried, Begins, Ends, FailsOwn, IsEnd
 use crate::cache::SharedCache;
 use crate::ends::{Done, carry_through};
 use crate::worker::Worker;
-use blockdev::{BlockDevice, Buffer, Gate, Job};
+use blockdev::{BlockDevice, Buffer, Gate};
+use deeds::sides::Errand;
 use held::denied::{Denied, without_slip};
 use held::log::{Seat, Slip};
 use held::naming::Naming;
@@ -44,8 +45,8 @@ impl<B: Naming, D: BlockDevice, T: Trail> SharedCache<B, D, T> {
         gate: &G,
         worker: &mut Worker,
     ) -> Result<Option<Done>, Denied>
-        requires worker { IsWorkerOf self.now.ring B.name B.table B.sizes worker.old }
-        ensures worker { IsWorkerOf self.now.ring B.name B.table B.sizes worker.new }
+        requires worker { IsWorkerOf self.now.ring B.name B.table B.deeds B.sizes worker.old }
+        ensures worker { IsWorkerOf self.now.ring B.name B.table B.deeds B.sizes worker.new }
         ensures goes { Goes (seat_of worker.old) (seat_of worker.new) }
         ensures only { Only (λ e. IsEnd e.event) (seat_of worker.old) (seat_of worker.new) }
         ensures pushed { pushed_by worker.new ≡ pushed_by worker.old }
@@ -56,10 +57,11 @@ impl<B: Naming, D: BlockDevice, T: Trail> SharedCache<B, D, T> {
         ensures denied { IfErr result (λ d. (job : Task) × (popped_by worker.new ≡ popped_by worker.old ++ job ∷ []) × IsDenied (IsEndOf job) (seat_of worker.old) (seat_of worker.new) d × IsFullIfNoSlip (seat_of worker.old) (seat_of worker.new) d) }
         ensures passed { IfOk result (λ o. IfSome o (λ d. G.passed gate.now d.serial.0)) }
     {
-        let Some(job) = self.ring.pop(rt, &mut worker.pass) else {
+        let Some(parcel) = self.ring.pop(rt, &mut worker.pass) else {
             return Ok(None);
         };
-        gate.enter(job.serial().0);
+        let job = parcel.named();
+        gate.enter(job.job().serial().0);
         match self.end_job(rt, &mut worker.seat, job) {
             Ok(done) => Ok(Some(done)),
             Err(denied) => Err(denied),
@@ -76,8 +78,8 @@ impl<B: Naming, D: BlockDevice, T: Trail> SharedCache<B, D, T> {
         gate: &G,
         worker: &mut Worker,
     ) -> Result<Flushed, Denied>
-        requires worker { IsWorkerOf self.now.ring B.name B.table B.sizes worker.old }
-        ensures worker { IsWorkerOf self.now.ring B.name B.table B.sizes worker.new }
+        requires worker { IsWorkerOf self.now.ring B.name B.table B.deeds B.sizes worker.old }
+        ensures worker { IsWorkerOf self.now.ring B.name B.table B.deeds B.sizes worker.new }
         ensures goes { Goes (seat_of worker.old) (seat_of worker.new) }
         ensures only { Only (λ e. IsWriteBack e.event) (seat_of worker.old) (seat_of worker.new) }
         ensures own { EndsOwn B.name (seat_of worker.old) (seat_of worker.new) }
@@ -94,13 +96,13 @@ impl<B: Naming, D: BlockDevice, T: Trail> SharedCache<B, D, T> {
             Ok(None) => return Ok(Flushed::Nothing),
             Err(denied) => return Err(denied),
         };
-        let serial = job.serial();
-        let Err(job) = self.ring.push(rt, &mut worker.pass, job) else {
+        let serial = job.job().serial();
+        let Err(parcel) = self.ring.push(rt, &mut worker.pass, job.unnamed()) else {
             self.jobs.give(rt);
             return Ok(Flushed::Pushed(serial, slip));
         };
         gate.enter(serial.0);
-        match self.end_job(rt, &mut worker.seat, job) {
+        match self.end_job(rt, &mut worker.seat, parcel.named()) {
             Ok(done) => Ok(Flushed::Ended(slip, done)),
             Err(denied) => Ok(Flushed::Unended(slip, denied)),
         }
@@ -108,7 +110,7 @@ impl<B: Naming, D: BlockDevice, T: Trail> SharedCache<B, D, T> {
 
     /// Begins to write a page, of the first file that has one to write.
     #[tactic(auto, using(held::proofs::Seats::goes_same, crate::proofs::Ending::begins_first, crate::proofs::Ending::denied_begun, held::proofs::Seats::only_same, crate::proofs::Ending::begun_one, crate::proofs::Ending::unbegun, crate::proofs::Owning::only_begun, crate::proofs::Owning::only_begun_denied, crate::proofs::Carrying::begins_one, crate::proofs::Carrying::begins_none, crate::proofs::Settling::writes_begun))]
-    fn begin_flush<R: Wait>(&self, rt: &R, seat: &mut Seat) -> Result<Option<(Job, Slip)>, Denied>
+    fn begin_flush<R: Wait>(&self, rt: &R, seat: &mut Seat) -> Result<Option<(Errand<B>, Slip)>, Denied>
         requires { seat.old.table ≡ B.table }
         ensures goes { Goes seat.old seat.new }
         ensures only { Only (λ e. IsFlushBegin e.event) seat.old seat.new }
@@ -132,7 +134,7 @@ impl<B: Naming, D: BlockDevice, T: Trail> SharedCache<B, D, T> {
     }
 
     /// Makes a job's device call, ends its request, and wakes those who wait for an end.
-    pub(crate) fn end_job<R: Wait>(&self, rt: &R, seat: &mut Seat, job: Job) -> Result<Done, Denied>
+    pub(crate) fn end_job<R: Wait>(&self, rt: &R, seat: &mut Seat, job: Errand<B>) -> Result<Done, Denied>
         requires seat { seat.old.table ≡ B.table }
         requires fits { IsJobFor B.name B.sizes.blocks B.sizes.page job }
         ensures goes { Goes seat.old seat.new }

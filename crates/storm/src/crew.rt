@@ -47,9 +47,9 @@ impl Crew {
         own: &mut Worker,
         members: &mut Vec<Member<B>>,
     ) -> Option<Crew>
-        requires { IsWorkerOf cache.now.ring B.name B.table B.sizes own.old }
+        requires { IsWorkerOf cache.now.ring B.name B.table B.deeds B.sizes own.old }
         ensures crew { IfSome result (IsCrewOf cache.now.ring B.name B.table B.sizes) }
-        ensures own { IsWorkerOf cache.now.ring B.name B.table B.sizes own.new }
+        ensures own { IsWorkerOf cache.now.ring B.name B.table B.deeds B.sizes own.new }
     {
         let (flusher, evictor) = two_workers(cache, own, members)?;
         match two_workers(cache, own, members) {
@@ -85,10 +85,10 @@ impl Crew {
         join(
             rt,
             move ||
-                requires { IsWorkerOf cache.now.ring B.name B.table B.sizes first × IsWorkerOf cache.now.ring B.name B.table B.sizes second }
+                requires { IsWorkerOf cache.now.ring B.name B.table B.deeds B.sizes first × IsWorkerOf cache.now.ring B.name B.table B.deeds B.sizes second }
             { carry_out(rt, cache, first, second) },
             move ||
-                requires { IsWorkerOf cache.now.ring B.name B.table B.sizes flusher × IsWorkerOf cache.now.ring B.name B.table B.sizes evictor }
+                requires { IsWorkerOf cache.now.ring B.name B.table B.deeds B.sizes flusher × IsWorkerOf cache.now.ring B.name B.table B.deeds B.sizes evictor }
             { make_room(rt, cache, flusher, evictor) },
         )
     }
@@ -101,16 +101,16 @@ fn carry_out<R: Threads + Wait + Sync, B: Naming + Send + Sync, D: BlockDevice +
     first: Worker,
     second: Worker,
 ) -> Pair<B>
-    requires first { IsWorkerOf cache.now.ring B.name B.table B.sizes first }
-    requires second { IsWorkerOf cache.now.ring B.name B.table B.sizes second }
+    requires first { IsWorkerOf cache.now.ring B.name B.table B.deeds B.sizes first }
+    requires second { IsWorkerOf cache.now.ring B.name B.table B.deeds B.sizes second }
 {
     join(
         rt,
         move ||
-            requires { IsWorkerOf cache.now.ring B.name B.table B.sizes first }
+            requires { IsWorkerOf cache.now.ring B.name B.table B.deeds B.sizes first }
         { carry_out_jobs(rt, cache, first) },
         move ||
-            requires { IsWorkerOf cache.now.ring B.name B.table B.sizes second }
+            requires { IsWorkerOf cache.now.ring B.name B.table B.deeds B.sizes second }
         { carry_out_jobs(rt, cache, second) },
     )
 }
@@ -122,16 +122,16 @@ fn make_room<R: Threads + Wait + Sync, B: Naming + Send + Sync, D: BlockDevice +
     flusher: Worker,
     evictor: Worker,
 ) -> Pair<B>
-    requires flusher { IsWorkerOf cache.now.ring B.name B.table B.sizes flusher }
-    requires evictor { IsWorkerOf cache.now.ring B.name B.table B.sizes evictor }
+    requires flusher { IsWorkerOf cache.now.ring B.name B.table B.deeds B.sizes flusher }
+    requires evictor { IsWorkerOf cache.now.ring B.name B.table B.deeds B.sizes evictor }
 {
     join(
         rt,
         move ||
-            requires { IsWorkerOf cache.now.ring B.name B.table B.sizes flusher }
+            requires { IsWorkerOf cache.now.ring B.name B.table B.deeds B.sizes flusher }
         { write_back(rt, cache, flusher) },
         move ||
-            requires { IsWorkerOf cache.now.ring B.name B.table B.sizes evictor }
+            requires { IsWorkerOf cache.now.ring B.name B.table B.deeds B.sizes evictor }
         { evict(rt, cache, evictor) },
     )
 }
@@ -141,7 +141,7 @@ fn carry_out_jobs<R: Wait, B: Naming, D: BlockDevice>(
     cache: &SharedCache<B, D, FullTrail>,
     mut worker: Worker,
 ) -> Member<B>
-    requires { IsWorkerOf cache.now.ring B.name B.table B.sizes worker }
+    requires { IsWorkerOf cache.now.ring B.name B.table B.deeds B.sizes worker }
 {
     let _ = cache.io_worker(rt, &Open, &mut worker);
     Member::of(worker.into_seat())
@@ -152,7 +152,7 @@ fn write_back<R: Wait, B: Naming, D: BlockDevice>(
     cache: &SharedCache<B, D, FullTrail>,
     mut worker: Worker,
 ) -> Member<B>
-    requires { IsWorkerOf cache.now.ring B.name B.table B.sizes worker }
+    requires { IsWorkerOf cache.now.ring B.name B.table B.deeds B.sizes worker }
 {
     cache.flusher(rt, &Open, &mut worker);
     Member::of(worker.into_seat())
@@ -163,7 +163,7 @@ fn evict<R: Wait, B: Naming, D: BlockDevice>(
     cache: &SharedCache<B, D, FullTrail>,
     mut worker: Worker,
 ) -> Member<B>
-    requires { IsWorkerOf cache.now.ring B.name B.table B.sizes worker }
+    requires { IsWorkerOf cache.now.ring B.name B.table B.deeds B.sizes worker }
 {
     cache.evictor(rt, &Open, &mut worker);
     Member::of(worker.into_seat())
@@ -192,9 +192,9 @@ fn two_workers<B: Naming, D: BlockDevice>(
     own: &mut Worker,
     members: &mut Vec<Member<B>>,
 ) -> Option<(Worker, Worker)>
-    requires { IsWorkerOf cache.now.ring B.name B.table B.sizes own.old }
-    ensures workers { IfSome result (λ r. IsWorkerOf cache.now.ring B.name B.table B.sizes r.0 × IsWorkerOf cache.now.ring B.name B.table B.sizes r.1) }
-    ensures own { IsWorkerOf cache.now.ring B.name B.table B.sizes own.new }
+    requires { IsWorkerOf cache.now.ring B.name B.table B.deeds B.sizes own.old }
+    ensures workers { IfSome result (λ r. IsWorkerOf cache.now.ring B.name B.table B.deeds B.sizes r.0 × IsWorkerOf cache.now.ring B.name B.table B.deeds B.sizes r.1) }
+    ensures own { IsWorkerOf cache.now.ring B.name B.table B.deeds B.sizes own.new }
 {
     let one = worker_of(cache, own, members)?;
     match worker_of(cache, own, members) {
@@ -212,9 +212,9 @@ fn worker_of<B: Naming, D: BlockDevice>(
     own: &mut Worker,
     members: &mut Vec<Member<B>>,
 ) -> Option<Worker>
-    requires { IsWorkerOf cache.now.ring B.name B.table B.sizes own.old }
-    ensures worker { IfSome result (IsWorkerOf cache.now.ring B.name B.table B.sizes) }
-    ensures own { IsWorkerOf cache.now.ring B.name B.table B.sizes own.new }
+    requires { IsWorkerOf cache.now.ring B.name B.table B.deeds B.sizes own.old }
+    ensures worker { IfSome result (IsWorkerOf cache.now.ring B.name B.table B.deeds B.sizes) }
+    ensures own { IsWorkerOf cache.now.ring B.name B.table B.deeds B.sizes own.new }
 {
     cache.worker(own, members.pop()?.seat).ok()
 }

@@ -189,7 +189,7 @@ fn history<B: Naming + Send + Sync, D: BlockDevice + Send, R: Threads + Wait + S
     requires board { parts.board ≡ B.board }
     requires state { IsLocked B.name B.table B.board B.sizes B.seats parts.held }
     requires idle { map.len parts.held.core.state.requests ≡ 0 }
-    requires own { IsWorkerOf parts.ring B.name B.table B.sizes parts.own }
+    requires own { IsWorkerOf parts.ring B.name B.table B.deeds B.sizes parts.own }
     requires device { IsDisk B.sizes (D.told parts.device) }
     requires seats { AreFresh B.table B.name seats.items }
 {
@@ -225,8 +225,8 @@ fn take_part<B: Naming + Send + Sync, D: BlockDevice + Send, R: Threads + Wait +
     steps: u64,
     seed: u64,
 ) -> Option<(Vec<Seat>, Vec<Slip>)>
-    requires { IsWorkerOf cache.now.ring B.name B.table B.sizes own.old }
-    ensures own { IsWorkerOf cache.now.ring B.name B.table B.sizes own.new }
+    requires { IsWorkerOf cache.now.ring B.name B.table B.deeds B.sizes own.old }
+    ensures own { IsWorkerOf cache.now.ring B.name B.table B.deeds B.sizes own.new }
     ensures seats { IfSome result (λ r. All (λ s. s.table ≡ B.table) r.0.items) }
 {
     let mut members = members?;

@@ -56,7 +56,7 @@ pub(crate) fn leaves_a_history<B: Naming, D: BlockDevice, R: Wait>(
     seats: Vec<Seat>,
     story: Story,
 ) -> bool
-    requires own { IsWorkerOf cache.ring B.name B.table B.sizes own }
+    requires own { IsWorkerOf cache.ring B.name B.table B.deeds B.sizes own }
     requires seats { All (λ s. s.table ≡ B.table) seats.items }
 {
     let Some((seats, slips)) = by_two(rt, &cache, seats, story) else {

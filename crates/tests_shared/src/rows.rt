@@ -80,7 +80,7 @@ fn runs_over<B: Naming + Send + Sync, D: BlockDevice + Send, R: Threads + Wait +
     requires board { parts.board ≡ B.board }
     requires state { IsLocked B.name B.table B.board B.sizes B.seats parts.held }
     requires idle { map.len parts.held.core.state.requests ≡ 0 }
-    requires own { IsWorkerOf parts.ring B.name B.table B.sizes parts.own }
+    requires own { IsWorkerOf parts.ring B.name B.table B.deeds B.sizes parts.own }
     requires device { IsDisk B.sizes (D.told parts.device) }
     requires seats { AreFresh B.table B.name seats.items }
 {
@@ -285,7 +285,7 @@ fn closes<B: Naming, D: BlockDevice, R: Wait>(
     own: Worker,
     mut seats: Vec<Seat>,
 ) -> bool
-    requires own { IsWorkerOf cache.ring B.name B.table B.sizes own }
+    requires own { IsWorkerOf cache.ring B.name B.table B.deeds B.sizes own }
     requires seats { All (λ s. s.table ≡ B.table) seats.items }
 {
     let Some(mut missing) = seats.pop() else {
@@ -320,7 +320,7 @@ fn closes_well<B: Naming, D: BlockDevice, R: Wait>(
     own: Worker,
     seats: Vec<Seat>,
 ) -> bool
-    requires own { IsWorkerOf cache.ring B.name B.table B.sizes own }
+    requires own { IsWorkerOf cache.ring B.name B.table B.deeds B.sizes own }
     requires seats { All (λ s. s.table ≡ B.table) seats.items }
 {
     match cache.close(rt, own, seats) {

@@ -42,7 +42,7 @@ pub(crate) fn fills_the_device<
     mut seats: Vec<Seat>,
     meanwhile: Meanwhile,
 ) -> bool
-    requires own { IsWorkerOf cache.now.ring B.name B.table B.sizes own }
+    requires own { IsWorkerOf cache.now.ring B.name B.table B.deeds B.sizes own }
     requires seats { All (λ s. s.table ≡ B.table) seats.items }
 {
     let Some((mut caller, seat)) = two_of::<B>(&mut seats) else {
@@ -62,7 +62,7 @@ pub(crate) fn fills_the_device<
     let (is_ended, is_done) = thread::join(
         rt,
         move ||
-            requires { IsWorkerOf cache.now.ring B.name B.table B.sizes worker }
+            requires { IsWorkerOf cache.now.ring B.name B.table B.deeds B.sizes worker }
         { ends_a_write(rt, cache, worker) },
         move ||
             requires { caller.table ≡ B.table }

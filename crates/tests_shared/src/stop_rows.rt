@@ -78,7 +78,7 @@ fn stops_over<
     requires board { parts.board ≡ B.board }
     requires state { IsLocked B.name B.table B.board B.sizes B.seats parts.held }
     requires idle { map.len parts.held.core.state.requests ≡ 0 }
-    requires own { IsWorkerOf parts.ring B.name B.table B.sizes parts.own }
+    requires own { IsWorkerOf parts.ring B.name B.table B.deeds B.sizes parts.own }
     requires device { IsDisk B.sizes (D.told parts.device) }
     requires seats { AreFresh B.table B.name seats.items }
 {
@@ -102,8 +102,8 @@ fn stops<B: Naming + Send + Sync, D: BlockDevice + Send, T: Trail + Send, R: Thr
     flusher: Worker,
 ) -> bool
     requires caller { caller.table ≡ B.table }
-    requires own { IsWorkerOf cache.now.ring B.name B.table B.sizes own }
-    requires flusher { IsWorkerOf cache.now.ring B.name B.table B.sizes flusher }
+    requires own { IsWorkerOf cache.now.ring B.name B.table B.deeds B.sizes own }
+    requires flusher { IsWorkerOf cache.now.ring B.name B.table B.deeds B.sizes flusher }
 {
     let Some(handle) = dirties_a_page(rt, cache, &mut caller) else {
         return false;
@@ -112,7 +112,7 @@ fn stops<B: Naming + Send + Sync, D: BlockDevice + Send, T: Trail + Send, R: Thr
     let (is_done, is_synced) = thread::join(
         rt,
         move ||
-            requires { IsWorkerOf cache.now.ring B.name B.table B.sizes own × IsWorkerOf cache.now.ring B.name B.table B.sizes flusher }
+            requires { IsWorkerOf cache.now.ring B.name B.table B.deeds B.sizes own × IsWorkerOf cache.now.ring B.name B.table B.deeds B.sizes flusher }
         { works(rt, cache, own, flusher) },
         move ||
             requires { (caller.table ≡ B.table) × (handle.pass.board ≡ B.board) }
@@ -144,16 +144,16 @@ fn works<B: Naming + Send + Sync, D: BlockDevice + Send, T: Trail + Send, R: Thr
     mut own: Worker,
     mut flusher: Worker,
 ) -> bool
-    requires own { IsWorkerOf cache.now.ring B.name B.table B.sizes own }
-    requires flusher { IsWorkerOf cache.now.ring B.name B.table B.sizes flusher }
+    requires own { IsWorkerOf cache.now.ring B.name B.table B.deeds B.sizes own }
+    requires flusher { IsWorkerOf cache.now.ring B.name B.table B.deeds B.sizes flusher }
 {
     let (is_done, _) = thread::join(
         rt,
         move ||
-            requires { IsWorkerOf cache.now.ring B.name B.table B.sizes own }
+            requires { IsWorkerOf cache.now.ring B.name B.table B.deeds B.sizes own }
         { cache.io_worker(rt, &Open, &mut own).is_ok() },
         move ||
-            requires { IsWorkerOf cache.now.ring B.name B.table B.sizes flusher }
+            requires { IsWorkerOf cache.now.ring B.name B.table B.deeds B.sizes flusher }
         { cache.flusher(rt, &Open, &mut flusher) },
     );
     is_done

@@ -50,7 +50,7 @@ pub(crate) fn reads_beside_a_write<
     mut own: Worker,
     mut seats: Vec<Seat>,
 ) -> bool
-    requires own { IsWorkerOf cache.now.ring B.name B.table B.sizes own }
+    requires own { IsWorkerOf cache.now.ring B.name B.table B.deeds B.sizes own }
     requires seats { All (λ s. s.table ≡ B.table) seats.items }
 {
     let Some((mut caller, seat)) = two_of::<B>(&mut seats) else {
@@ -70,7 +70,7 @@ pub(crate) fn reads_beside_a_write<
     let (is_written, is_read) = thread::join(
         rt,
         move ||
-            requires { IsWorkerOf cache.now.ring B.name B.table B.sizes worker }
+            requires { IsWorkerOf cache.now.ring B.name B.table B.deeds B.sizes worker }
         { ends_a_write(rt, cache, worker) },
         move ||
             requires { caller.table ≡ B.table }
@@ -85,7 +85,7 @@ pub(crate) fn ends_a_write<B: Naming, D: BlockDevice, R: Wait>(
     cache: &Tested<B, D>,
     mut worker: Worker,
 ) -> bool
-    requires { IsWorkerOf cache.now.ring B.name B.table B.sizes worker }
+    requires { IsWorkerOf cache.now.ring B.name B.table B.deeds B.sizes worker }
 {
     match cache.io_turn(rt, &Open, &mut worker) {
         Ok(Some(done)) => done.failed.is_none(),
@@ -106,7 +106,7 @@ pub(crate) fn wakes_each_time<
     mut own: Worker,
     mut seats: Vec<Seat>,
 ) -> bool
-    requires own { IsWorkerOf cache.now.ring B.name B.table B.sizes own }
+    requires own { IsWorkerOf cache.now.ring B.name B.table B.deeds B.sizes own }
     requires seats { All (λ s. s.table ≡ B.table) seats.items }
 {
     let Some((mut caller, seat)) = two_of::<B>(&mut seats) else {
@@ -121,7 +121,7 @@ pub(crate) fn wakes_each_time<
     let (is_done, is_written) = thread::join(
         rt,
         move ||
-            requires { IsWorkerOf cache.now.ring B.name B.table B.sizes own × IsWorkerOf cache.now.ring B.name B.table B.sizes worker }
+            requires { IsWorkerOf cache.now.ring B.name B.table B.deeds B.sizes own × IsWorkerOf cache.now.ring B.name B.table B.deeds B.sizes worker }
         { work(rt, cache, own, worker) },
         move ||
             requires { caller.table ≡ B.table }
@@ -137,16 +137,16 @@ fn work<B: Naming + Send + Sync, D: BlockDevice + Send, R: Threads + Wait + Sync
     own: Worker,
     flusher: Worker,
 ) -> bool
-    requires own { IsWorkerOf cache.now.ring B.name B.table B.sizes own }
-    requires flusher { IsWorkerOf cache.now.ring B.name B.table B.sizes flusher }
+    requires own { IsWorkerOf cache.now.ring B.name B.table B.deeds B.sizes own }
+    requires flusher { IsWorkerOf cache.now.ring B.name B.table B.deeds B.sizes flusher }
 {
     let (is_done, _) = thread::join(
         rt,
         move ||
-            requires { IsWorkerOf cache.now.ring B.name B.table B.sizes own }
+            requires { IsWorkerOf cache.now.ring B.name B.table B.deeds B.sizes own }
         { carries_out(rt, cache, own) },
         move ||
-            requires { IsWorkerOf cache.now.ring B.name B.table B.sizes flusher }
+            requires { IsWorkerOf cache.now.ring B.name B.table B.deeds B.sizes flusher }
         { flushes(rt, cache, flusher) },
     );
     is_done
@@ -158,7 +158,7 @@ fn carries_out<B: Naming, D: BlockDevice, R: Wait>(
     cache: &Tested<B, D>,
     mut worker: Worker,
 ) -> bool
-    requires { IsWorkerOf cache.now.ring B.name B.table B.sizes worker }
+    requires { IsWorkerOf cache.now.ring B.name B.table B.deeds B.sizes worker }
 {
     cache.io_worker(rt, &Open, &mut worker).is_ok()
 }
@@ -169,7 +169,7 @@ fn flushes<B: Naming, D: BlockDevice, R: Wait>(
     cache: &Tested<B, D>,
     mut worker: Worker,
 ) -> bool
-    requires { IsWorkerOf cache.now.ring B.name B.table B.sizes worker }
+    requires { IsWorkerOf cache.now.ring B.name B.table B.deeds B.sizes worker }
 {
     cache.flusher(rt, &Open, &mut worker);
     true
@@ -225,7 +225,7 @@ pub(crate) fn stops_with_a_full_ring<B: Naming, D: BlockDevice, R: Wait>(
     mut own: Worker,
     mut seats: Vec<Seat>,
 ) -> bool
-    requires own { IsWorkerOf cache.now.ring B.name B.table B.sizes own }
+    requires own { IsWorkerOf cache.now.ring B.name B.table B.deeds B.sizes own }
     requires seats { All (λ s. s.table ≡ B.table) seats.items }
 {
     let Some((mut caller, seat)) = two_of::<B>(&mut seats) else {
@@ -251,7 +251,7 @@ pub(crate) fn closes_with_a_full_ring<B: Naming, D: BlockDevice, R: Wait>(
     mut own: Worker,
     mut seats: Vec<Seat>,
 ) -> bool
-    requires own { IsWorkerOf cache.ring B.name B.table B.sizes own }
+    requires own { IsWorkerOf cache.ring B.name B.table B.deeds B.sizes own }
     requires seats { All (λ s. s.table ≡ B.table) seats.items }
 {
     let Some((mut caller, seat)) = two_of::<B>(&mut seats) else {
@@ -278,9 +278,9 @@ fn fills_the_ring<B: Naming, D: BlockDevice, R: Wait>(
     worker: &mut Worker,
 ) -> bool
     requires caller { caller.old.table ≡ B.table }
-    requires worker { IsWorkerOf cache.now.ring B.name B.table B.sizes worker.old }
+    requires worker { IsWorkerOf cache.now.ring B.name B.table B.deeds B.sizes worker.old }
     ensures caller { caller.new.table ≡ caller.old.table }
-    ensures worker { IsWorkerOf cache.now.ring B.name B.table B.sizes worker.new }
+    ensures worker { IsWorkerOf cache.now.ring B.name B.table B.deeds B.sizes worker.new }
 {
     let Some(handle) = opens(rt, cache, caller) else {
         return false;
@@ -300,8 +300,8 @@ pub(crate) fn begins_a_write<B: Naming, D: BlockDevice, R: Wait>(
     cache: &Tested<B, D>,
     worker: &mut Worker,
 ) -> bool
-    requires { IsWorkerOf cache.now.ring B.name B.table B.sizes worker.old }
-    ensures { IsWorkerOf cache.now.ring B.name B.table B.sizes worker.new }
+    requires { IsWorkerOf cache.now.ring B.name B.table B.deeds B.sizes worker.old }
+    ensures { IsWorkerOf cache.now.ring B.name B.table B.deeds B.sizes worker.new }
 {
     matches!(
         cache.flusher_turn(rt, &Open, worker),

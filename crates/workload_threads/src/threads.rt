@@ -67,7 +67,7 @@ fn run_over<B: Naming + Send + Sync, R: Threads + Wait + Sync>(
     requires board { parts.board ≡ B.board }
     requires state { IsLocked B.name B.table B.board B.sizes B.seats parts.held }
     requires idle { map.len parts.held.core.state.requests ≡ 0 }
-    requires own { IsWorkerOf parts.ring B.name B.table B.sizes parts.own }
+    requires own { IsWorkerOf parts.ring B.name B.table B.deeds B.sizes parts.own }
     requires device { IsDisk B.sizes parts.device }
     requires seats { AreFresh B.table B.name seats.items }
 {
@@ -93,7 +93,7 @@ fn close<B: Naming, R: Wait>(
     own: Worker,
     seats: Vec<Seat>,
 ) -> Result<(), Refusal>
-    requires own { IsWorkerOf cache.ring B.name B.table B.sizes own }
+    requires own { IsWorkerOf cache.ring B.name B.table B.deeds B.sizes own }
     requires seats { All (λ s. s.table ≡ B.table) seats.items }
 {
     match cache.close(rt, own, seats) {
@@ -119,8 +119,8 @@ fn take_part<B: Naming + Send + Sync, R: Threads + Wait + Sync>(
     members: Result<Vec<Member<B>>, AllocError>,
     plan: Plan,
 ) -> Result<(Vec<Seat>, Tally), Refusal>
-    requires { IsWorkerOf cache.now.ring B.name B.table B.sizes own.old }
-    ensures own { IsWorkerOf cache.now.ring B.name B.table B.sizes own.new }
+    requires { IsWorkerOf cache.now.ring B.name B.table B.deeds B.sizes own.old }
+    ensures own { IsWorkerOf cache.now.ring B.name B.table B.deeds B.sizes own.new }
     ensures seats { IfOk result (λ r. All (λ s. s.table ≡ B.table) r.0.items) }
 {
     let mut members = members?;

@@ -23,7 +23,7 @@ closes_well-is_closed-requires g c =
     let same : c.in-Err.seats.items ≡ c.pop.new.self.items = cc (c.in-Err.ensures.err.3) in
     let its : c.syncs_thrice-is_synced.new.seat.table ≡ g.B.Naming.table = cc (c.syncs_thrice-is_synced.ensures, mine) in
     record {
-      own = subst (λ (r : Ring). IsWorkerOf r g.B.Naming.name g.B.Naming.table g.B.Naming.sizes c.in-Err.own)
+      own = subst (λ (r : Ring). IsWorkerOf r g.B.Naming.name g.B.Naming.table g.B.NamesDeeds.deeds g.B.Naming.sizes c.in-Err.own)
           (sym c.in-Err.ensures.err.2) c.in-Err.ensures.again.0;
       seats = put_back g.B.Naming.table c.in-Err.seats.items c.push.new.self.items
           c.syncs_thrice-is_synced.new.seat _ c.push.ensures.items
