@@ -1,5 +1,6 @@
 -- Workers, and what their turns make.
 use Rattle.std.specs.FinMap as map
+use Rattle.std.specs.Prelude.{map as each}
 use Rattle.std.specs.Prelude.{◌≡◌, ◌≢◌, ◌⊎◌, ◌==◌, ◌&&◌, ◌++◌, ◌∷◌, [], All, Any, ℕ, Bool, true, false, List, IfSome, Ok, Result, None, Some, count_by, if◌then◌else◌, is_some}
 use mathlib.Core.List.{IsPrefix}
 use Rattle.atomic_table.specs.Seated.{TableId}
@@ -49,11 +50,11 @@ seat_of w = w.seat
 
 -- the jobs that it took from the ring, in order
 abbrev pub popped_by : Worker → List Task
-popped_by w = map_list (λ p. p.task) (view w.pass).popped
+popped_by w = each (λ p. p.task) (view w.pass).popped
 
 -- the jobs that it put into the ring, in order
 abbrev pub pushed_by : Worker → List Task
-pushed_by w = map_list (λ p. p.task) (view w.pass).pushed
+pushed_by w = each (λ p. p.task) (view w.pass).pushed
 
 -- the event is the end of this job's request
 abbrev pub IsEndOf : Task → Event → Type 0
