@@ -48,7 +48,7 @@ impl Crew {
         members: &mut Vec<Member<B>>,
     ) -> Option<Crew>
         requires { IsWorkerOf cache.now.ring B.name B.table B.deeds B.sizes own.old }
-        ensures crew { IfSome result (IsCrewOf cache.now.ring B.name B.table B.sizes) }
+        ensures crew { IfSome result (IsCrewOf cache.now.ring B.name B.table B.deeds B.sizes) }
         ensures own { IsWorkerOf cache.now.ring B.name B.table B.deeds B.sizes own.new }
     {
         let (flusher, evictor) = two_workers(cache, own, members)?;
@@ -74,7 +74,7 @@ impl Crew {
         rt: &R,
         cache: &SharedCache<B, D, FullTrail>,
     ) -> (Pair<B>, Pair<B>)
-        requires { IsCrewOf cache.now.ring B.name B.table B.sizes self }
+        requires { IsCrewOf cache.now.ring B.name B.table B.deeds B.sizes self }
     {
         let Crew {
             flusher,

@@ -1,10 +1,11 @@
 //! A storm: many callers and the workers of one cache at once, and whether its history is that of plain files.
 
 ghost use Rattle.std.specs.FinMap as map;
-ghost use Rattle.std.specs.Prelude.{◌≡◌, ◌≤◌, All, IfSome};
+ghost use Rattle.std.specs.Prelude.{◌≡◌, [], ◌≤◌, All, IfSome};
 ghost use Rattle.held.specs.Shown.{AreFresh};
 ghost use Rattle.held.specs.Keeps.{IsLocked};
-ghost use Rattle.shared.specs.Keeps.{IsDisk};
+ghost use Rattle.machine.specs.History.{no_files};
+ghost use Rattle.shared.specs.Keeps.{AreBlocksOf, IsDisk};
 ghost use Rattle.shared.specs.Workers.{IsWorkerOf};
 ghost use Rattle.storm.specs.Crews.{IsCrewOf};
 ghost use Rattle.storm_text.specs.Told.{StormTells};
@@ -189,8 +190,11 @@ fn history<B: Naming + Send + Sync, D: BlockDevice + Send, R: Threads + Wait + S
     requires board { parts.board ≡ B.board }
     requires state { IsLocked B.name B.table B.board B.sizes B.seats parts.held }
     requires idle { map.len parts.held.core.state.requests ≡ 0 }
+    requires fresh { (parts.held.log.history ≡ []) × (parts.held.core.state ≡ no_files B.sizes B.name) }
     requires own { IsWorkerOf parts.ring B.name B.table B.deeds B.sizes parts.own }
     requires device { IsDisk B.sizes (D.told parts.device) }
+    requires deeds { (parts.deeds.table ≡ B.deeds) × (parts.deeds.told ≡ B.told) × (parts.deeds.blocks ≡ B.blocks) }
+    requires blocks { AreBlocksOf B.told B.blocks (D.told parts.device) }
     requires seats { AreFresh B.table B.name seats.items }
 {
     let (cache, mut own) = SharedCache::<B, D, FullTrail>::of(alloc, parts);
@@ -300,12 +304,12 @@ fn rage<R: Threads + Wait + Sync, B: Naming + Send + Sync, D: BlockDevice + Send
     crew: Crew,
     callers: Vec<Caller<B>>,
 ) -> ((Pair<B>, Pair<B>), Option<Vec<Done<B>>>)
-    requires { IsCrewOf cache.now.ring B.name B.table B.sizes crew }
+    requires { IsCrewOf cache.now.ring B.name B.table B.deeds B.sizes crew }
 {
     join(
         rt,
         move ||
-            requires { IsCrewOf cache.now.ring B.name B.table B.sizes crew }
+            requires { IsCrewOf cache.now.ring B.name B.table B.deeds B.sizes crew }
         { crew.run(rt, cache) },
         move || call_all(rt, cache, callers),
     )

@@ -1,10 +1,11 @@
 //! A stop that comes while a flusher begins a write. A trail holds it there, so the order is the same each time.
 
 ghost use Rattle.std.specs.FinMap as map;
-ghost use Rattle.std.specs.Prelude.{◌≡◌, IfSome};
+ghost use Rattle.std.specs.Prelude.{◌≡◌, [], IfSome};
 ghost use Rattle.held.specs.Shown.{AreFresh};
 ghost use Rattle.held.specs.Keeps.{IsLocked};
-ghost use Rattle.shared.specs.Keeps.{IsDisk};
+ghost use Rattle.machine.specs.History.{no_files};
+ghost use Rattle.shared.specs.Keeps.{AreBlocksOf, IsDisk};
 ghost use Rattle.shared.specs.Workers.{IsWorkerOf};
 
 use crate::rows::two_of;
@@ -78,8 +79,11 @@ fn stops_over<
     requires board { parts.board ≡ B.board }
     requires state { IsLocked B.name B.table B.board B.sizes B.seats parts.held }
     requires idle { map.len parts.held.core.state.requests ≡ 0 }
+    requires fresh { (parts.held.log.history ≡ []) × (parts.held.core.state ≡ no_files B.sizes B.name) }
     requires own { IsWorkerOf parts.ring B.name B.table B.deeds B.sizes parts.own }
     requires device { IsDisk B.sizes (D.told parts.device) }
+    requires deeds { (parts.deeds.table ≡ B.deeds) × (parts.deeds.told ≡ B.told) × (parts.deeds.blocks ≡ B.blocks) }
+    requires blocks { AreBlocksOf B.told B.blocks (D.told parts.device) }
     requires seats { AreFresh B.table B.name seats.items }
 {
     let (cache, mut own) = SharedCache::<B, D, T>::of(alloc, parts);

@@ -46,7 +46,7 @@ impl Crew {
         members: &mut Vec<Member<B>>,
     ) -> Result<Crew, Refusal>
         requires { IsWorkerOf cache.now.ring B.name B.table B.deeds B.sizes own.old }
-        ensures crew { IfOk result (IsCrewOf cache.now.ring B.name B.table B.sizes) }
+        ensures crew { IfOk result (IsCrewOf cache.now.ring B.name B.table B.deeds B.sizes) }
         ensures own { IsWorkerOf cache.now.ring B.name B.table B.deeds B.sizes own.new }
     {
         let (flusher, evictor) = two_workers(cache, own, members)?;
@@ -71,7 +71,7 @@ impl Crew {
         rt: &R,
         cache: &Shared<B>,
     ) -> Back<B>
-        requires { IsCrewOf cache.now.ring B.name B.table B.sizes self }
+        requires { IsCrewOf cache.now.ring B.name B.table B.deeds B.sizes self }
     {
         let Crew {
             flusher,
