@@ -13,7 +13,7 @@ use Rattle.deeds.specs.declared.views.Place.TheVariants.{Home, Out}
 use Rattle.deeds.specs.declared.views.View.{View}
 use Rattle.deeds.specs.Comes.{Comes}
 use Rattle.deeds.specs.Views.{block_of, undone, carried, spent, opening_view, desk_view, both_view, device_with, desk_with, first_of, together, without_device, device_alone, without_deed, deed_alone}
-use Rattle.deeds.specs.Rules.{FitsDeed, Fits, Part, the_device, the_desk, the_deed, Has, IsKept, Opened, GivenOut, Carried, TakenBack, Compared, Knows, NoneOut}
+use Rattle.deeds.specs.Rules.{bytes_now, FitsDeed, Fits, Part, the_device, the_desk, the_deed, Has, IsKept, Opened, GivenOut, Carried, TakenBack, Compared, Knows, NoneOut}
 use Rattle.deeds.proofs.Alone.{Each, Nobody, each_set, each_push, alone_set, alone_cut, alone_join, there_before}
 use Rattle.deeds.proofs.Lists.{get_set, set_here, set_else, mapped_at}
 
@@ -287,19 +287,17 @@ own_taken told places places' d vs the_device h = inl h
 own_taken told places places' d vs the_desk h = inl refl
 own_taken told places places' d vs (the_deed k) h = absurd (none-some k h)
 
-pub takes_back : (slots id : ℕ) (told : Bool) (places : List Place) (g : Given) (x : Done) (c : List (ℕ × ℕ))
-    → Allows IsKept slots id (desk_with told places (carried g x), c) 0 (λ n. n)
-    (λ n. TakenBack (desk_with told places (carried g x), c))
-takes_back slots id told places g x c s r _ at _ =
-    let k : ℕ = g.task.block in
-    let old : View = desk_with told places (carried g x) in
+pub takes_back : (slots id : ℕ) (told : Bool) (places : List Place) (d : Deed) (c : List (ℕ × ℕ))
+    → Allows IsKept slots id (desk_with told places d, c) 0 (λ n. n) (λ n. TakenBack (desk_with told places d, c))
+takes_back slots id told places d c s r _ at _ =
+    let k : ℕ = block_of d in
+    let bytes : List ℕ = bytes_now d.given d.done in
+    let old : View = desk_with told places d in
     let mine = r.each id old at in
-    let t : told ≡ r.told = ap (λ (d : Bool × List Place). d.0) mine.1 in
-    let same : places ≡ r.places = ap (λ (d : Bool × List Place). d.1) mine.1 in
-    let out : slice_get r.places k ≡ Some (Out g) = mine.2.0 in
-    let is_left : slice_get r.blocks k ≡ Some x.left = mine.2.1 in
-    let places' : List Place = slice_set r.places k (Home x.left) in
-    let w : View = desk_view told (slice_set places k (Home x.left)) in (
+    let t : told ≡ r.told = ap (λ (x : Bool × List Place). x.0) mine.1 in
+    let same : places ≡ r.places = ap (λ (x : Bool × List Place). x.1) mine.1 in
+    let places' : List Place = slice_set r.places k (Home bytes) in
+    let w : View = desk_view told (slice_set places k (Home bytes)) in (
       w,
       keeps,
       tt,
@@ -307,22 +305,29 @@ takes_back slots id told places g x c s r _ at _ =
         told = r.told;
         blocks = r.blocks;
         places = places';
-        count = length-set r.places k (Home x.left) ∙ r.count;
-        home = λ block bytes h. ⊎_elim
-            (λ (e : (block ≡ k) × (Home x.left ≡ Home bytes)).
-            ap (λ j. slice_get r.blocks j) e.0 ∙ is_left ∙ ap (λ p. Some (bytes_in p)) e.1)
-            (λ (e : (block ≢ k) × (slice_get r.places block ≡ Some (Home bytes))). r.home block bytes e.1)
-            (get_set r.places k block (Home x.left) (Home bytes) h);
+        count = length-set r.places k (Home bytes) ∙ r.count;
+        home = λ block there h. ⊎_elim
+            (λ (e : (block ≡ k) × (Home bytes ≡ Home there)).
+            ap (λ j. slice_get r.blocks j) e.0 ∙ mine.2.1 ∙ ap (λ p. Some (bytes_in p)) e.1)
+            (λ (e : (block ≢ k) × (slice_get r.places block ≡ Some (Home there))). r.home block there e.1)
+            (get_set r.places k block (Home bytes) (Home there) h);
         each = each_set (Fits r.told r.blocks places') s.views id w
-            (tt, (λ i. (t i, slice_set (same i) k (Home x.left))), tt)
+            (tt, (λ i. (t i, slice_set (same i) k (Home bytes))), tt)
             (λ j u n e. still r.told r.blocks r.blocks r.places places' u (r.each j u e) (λ _. refl)
             (λ h. absurd (n (r.alone the_desk j id u old e at h refl)))
-            (λ d h f. other_place r.told r.blocks r.places k (Home x.left) d
+            (λ other h f. other_place r.told r.blocks r.places k (Home bytes) other
             (λ is. n (r.alone (the_deed k) j id u old e at (subst (λ b. Has (the_deed b) u) is h) refl)) f));
         alone = alone_set s.views id old w at
-            (own_taken told places (slice_set places k (Home x.left)) (carried g x) s.views) r.alone;
+            (own_taken told places (slice_set places k (Home bytes)) d s.views) r.alone;
       },
-      (refl, (ap (λ ps. slice_get ps k) same ∙ out, subst (λ b. Comes b g.task g.before x.finished x.left) (sym t) mine.2.2, refl)),
+      (
+        refl,
+        (
+          ap (λ ps. slice_get ps k) same ∙ mine.2.0,
+          subst (λ b. IfSome d.done (λ x. Comes b d.given.task d.given.before x.finished x.left)) (sym t) mine.2.2,
+          refl,
+        ),
+      ),
     )
 
 -- ---- the desk and the device's side in one view
@@ -442,12 +447,11 @@ carries_as slots id me told blocks g x c is comes =
     subst (λ (m : Me ℕ View). Allows IsKept slots id m 0 (λ n. n) (λ n. Carried x m)) (sym is)
     (carries slots id told blocks g x c comes)
 
-pub takes_back_as : (slots id : ℕ) (me : Me ℕ View) (told : Bool) (places : List Place) (g : Given) (x : Done)
-    (c : List (ℕ × ℕ)) → me ≡ (desk_with told places (carried g x), c)
-    → Allows IsKept slots id me 0 (λ n. n) (λ n. TakenBack me)
-takes_back_as slots id me told places g x c is =
+pub takes_back_as : (slots id : ℕ) (me : Me ℕ View) (told : Bool) (places : List Place) (d : Deed) (c : List (ℕ × ℕ))
+    → me ≡ (desk_with told places d, c) → Allows IsKept slots id me 0 (λ n. n) (λ n. TakenBack me)
+takes_back_as slots id me told places d c is =
     subst (λ (m : Me ℕ View). Allows IsKept slots id m 0 (λ n. n) (λ n. TakenBack m)) (sym is)
-    (takes_back slots id told places g x c)
+    (takes_back slots id told places d c)
 
 pub compares_as : (slots id : ℕ) (me : Me ℕ View) (d : Bool × Blocks) (p : Bool × List Place) (c : List (ℕ × ℕ))
     → me ≡ (both_view d p, c) → Allows IsKept slots id me 0 (λ n. n) (λ n. Compared me)

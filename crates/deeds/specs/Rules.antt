@@ -82,16 +82,15 @@ CarriedFrom x before bs d after = Unit {0}
 abbrev pub Carried : Done → Me ℕ View → Me ℕ View → Type 0
 Carried x before after = (after.1 ≡ before.1) × CarriedFrom x before.0 before.0.device before.0.deed after.0
 
--- the deed was out for what it says, what came of its call may come of it, and it is at home again
-abbrev pub TakenWith : View → Bool → List Place → Given → Option Done → View → Type 0
-TakenWith before told places g (Some x) after =
-    (slice_get places g.task.block ≡ Some (Out g))
-    × Comes told g.task g.before x.finished x.left
-    × (after ≡ record before { desk = Some (told, slice_set places g.task.block (Home x.left)); deed = None })
-TakenWith before told places g None after = Unit {0}
-
+-- the deed was out for what it says, what came of its call, if it was made, may come of it, and it is at home again
 abbrev pub TakenFrom : View → Option (Bool × List Place) → Option Deed → View → Type 0
-TakenFrom before (Some (told, places)) (Some d) after = TakenWith before told places d.given d.done after
+TakenFrom before (Some (told, places)) (Some d) after =
+    (slice_get places (block_of d) ≡ Some (Out d.given))
+    × IfSome d.done (λ x. Comes told d.given.task d.given.before x.finished x.left)
+    × (after ≡ record before {
+      desk = Some (told, slice_set places (block_of d) (Home (bytes_now d.given d.done)));
+      deed = None;
+    })
 TakenFrom before ps d after = Unit {0}
 
 abbrev pub TakenBack : Me ℕ View → Me ℕ View → Type 0

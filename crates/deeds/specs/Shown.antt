@@ -3,7 +3,7 @@ use Rattle.std.specs.Prelude.{◌≡◌, ℕ, Bool, true, List, [], map, replica
 use Rattle.atomic_table.specs.Seated.{TableId}
 use Rattle.blockdev.specs.Blocks.{block_at}
 use Rattle.blockdev.specs.Device.{Told}
-use Rattle.blockdev.specs.Jobs.{FinishedTask}
+use Rattle.blockdev.specs.Jobs.{Task, FinishedTask}
 use Rattle.deeds.specs.declared.views.Given.{Given}
 use Rattle.deeds.specs.declared.views.Place.{Place}
 use Rattle.deeds.specs.declared.views.Place.TheVariants.{Home, Out}
@@ -17,6 +17,17 @@ pub record OpenedSeen : Type 0 where
   pub table : TableId
   pub told : Bool
   pub blocks : List (List ℕ)
+
+-- a job with a deed, before a type names it: the job, and the table behind the deed
+pub record ParcelSeen : Type 0 where
+  pub task : Task
+  pub table : TableId
+
+-- all deeds are at home but one, which is lent
+pub record OneOut (blocks : List (List ℕ)) (places : List Place) : Type 0 where
+  pub given : Given
+  pub was : slice_get blocks given.task.block ≡ Some given.before
+  pub out : places ≡ slice_set (map Home blocks) given.task.block (Out given)
 
 -- a deed comes home: it was out for what the desk says, what came of its call may come of that, and the desk has the
 -- bytes that the block was left with

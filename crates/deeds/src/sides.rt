@@ -11,7 +11,7 @@ ghost use Rattle.deeds.specs.Views.{device_in, given_in, home_in};
 ghost use Rattle.deeds.specs.declared.views.Place.TheVariants.{Home, Out};
 
 use crate::naming::NamesDeeds;
-use crate::steps::{Owned, carry, close, give, open, take_back};
+use crate::steps::{Owned, carry, close, give, open, take_back, take_undone};
 use crate::views::{Deeds, Pass};
 use blockdev::{BlockDevice, Finished, Job, Watched};
 use std::alloc::{AllocError, Global};
@@ -48,6 +48,38 @@ impl Model for Opened {
         × IsAt o.device.table_id o.desk
         × IsDevice o.device.me (device_in o.device.me.0).0 (device_in o.device.me.0).1
         × IsDesk o.desk.me (device_in o.device.me.0).0 (map Home (device_in o.device.me.0).1) };
+}
+
+/// Both sides while the deed of one block is lent. Contracts see what they see before and after.
+#[derive(Drop)]
+pub struct Lent {
+    table: Arc<Owned, Global>,
+    again: Arc<Owned, Global>,
+    device: Pass,
+    desk: Pass,
+}
+
+impl Model for Lent {
+    ghost use Rattle.std.specs.Prelude.{◌≡◌};
+    ghost use Rattle.std.specs.Arc.{arc_value};
+    ghost use Rattle.deeds.specs.Shown.{OpenedSeen, OneOut};
+    ghost use Rattle.deeds.specs.Steps.{IsAt, IsDevice, IsDesk};
+    ghost use Rattle.deeds.specs.Views.{device_in, desk_in};
+    ghost use Rattle.std.specs.Coded.{codes};
+    ghost use Rattle.atomic_table.specs.Seated.{table_id_coded};
+
+    ghost Value = { OpenedSeen };
+
+    ghost coded = { Prim.hlevel (codes, table_id_coded) };
+
+    ghost view = { λ o. record { table = o.device.table_id; told = (device_in o.device.me.0).0; blocks = (device_in o.device.me.0).1 } };
+
+    ghost invariant = { λ o.
+        ((arc_value o.table).shared.table_id ≡ o.device.table_id) × ((arc_value o.again).shared.table_id ≡ o.device.table_id)
+        × IsAt o.device.table_id o.desk
+        × IsDevice o.device.me (device_in o.device.me.0).0 (device_in o.device.me.0).1
+        × IsDesk o.desk.me (device_in o.device.me.0).0 (desk_in o.desk.me.0).1
+        × OneOut (device_in o.device.me.0).1 (desk_in o.desk.me.0).1 };
 }
 
 /// The state's side: where the deed of each block is. It knows what each block has whose deed is at home.
@@ -116,6 +148,30 @@ impl<B: NamesDeeds> Model for Errand<B> {
     ghost invariant = { λ e. IsAt B.deeds e.deed × IsUndone e.deed.me (given_in e.deed.me.0) × ((given_in e.deed.me.0).task ≡ e.job) };
 }
 
+/// A job with the deed of its block, before a type names the deeds. Contracts see the job, and the table behind the deed.
+#[derive(Drop)]
+pub struct Parcel {
+    job: Job,
+    deed: Pass,
+}
+
+impl Model for Parcel {
+    ghost use Rattle.std.specs.Prelude.{◌≡◌};
+    ghost use Rattle.deeds.specs.Shown.{ParcelSeen};
+    ghost use Rattle.deeds.specs.Steps.{IsAt, IsUndone};
+    ghost use Rattle.deeds.specs.Views.{given_in};
+    ghost use Rattle.std.specs.Coded.{codes};
+    ghost use Rattle.atomic_table.specs.Seated.{table_id_coded};
+
+    ghost Value = { ParcelSeen };
+
+    ghost coded = { Prim.hlevel (codes, table_id_coded) };
+
+    ghost view = { λ p. record { task = p.job; table = p.deed.table_id } };
+
+    ghost invariant = { λ p. IsAt p.deed.table_id p.deed × IsUndone p.deed.me (given_in p.deed.me.0) × ((given_in p.deed.me.0).task ≡ p.job) };
+}
+
 /// An errand whose device call was made, with the deed of its block. Contracts see the finished job.
 #[derive(Drop)]
 pub struct Report<B: NamesDeeds> {
@@ -135,6 +191,26 @@ impl<B: NamesDeeds> Model for Report<B> {
     ghost view = { λ r. r.finished };
 
     ghost invariant = { λ r. IsAt B.deeds r.deed × IsCarried r.deed.me (given_in r.deed.me.0) (done_in r.deed.me.0) × ((done_in r.deed.me.0).finished ≡ r.finished) };
+}
+
+/// The deed of a report without its finished job, for those who take these apart. Contracts see the finished job still.
+#[derive(Drop)]
+pub struct Stub<B: NamesDeeds> {
+    deed: Pass,
+    of: PhantomData<B>,
+}
+
+impl<B: NamesDeeds> Model for Stub<B> {
+    ghost use Rattle.std.specs.Prelude.{◌≡◌};
+    ghost use Rattle.blockdev.specs.Jobs.{FinishedTask};
+    ghost use Rattle.deeds.specs.Steps.{IsAt, IsCarried};
+    ghost use Rattle.deeds.specs.Views.{given_in, done_in};
+
+    ghost Value = { FinishedTask };
+
+    ghost view = { λ s. (done_in s.deed.me.0).finished };
+
+    ghost invariant = { λ s. IsAt B.deeds s.deed × IsCarried s.deed.me (given_in s.deed.me.0) (done_in s.deed.me.0) };
 }
 
 impl Opened {
@@ -175,6 +251,28 @@ impl Opened {
         Opened::new(alloc)
     }
 
+    /// Lends the deed of a block, for what wants a parcel before there is a name.
+    pub fn lend(self, job: Job) -> (Lent, Parcel)
+        requires { job.block < length self.blocks }
+        ensures sides { result.0 ≡ self }
+        ensures parcel { result.1 ≡ record { task = job; table = self.table } }
+    {
+        let Opened {
+            table,
+            again,
+            device,
+            mut desk,
+        } = self;
+        let deed = give(&table.shared, &mut desk, &job);
+        let lent = Lent {
+            table,
+            again,
+            device,
+            desk,
+        };
+        (lent, Parcel { job, deed })
+    }
+
     /// Both sides under their name.
     pub fn named<B: NamesDeeds>(self) -> (Desk<B>, DeviceSide<B>)
         requires { (self.table ≡ B.deeds) × (self.told ≡ B.told) }
@@ -201,6 +299,49 @@ impl Opened {
     }
 }
 
+impl Lent {
+    /// Takes the lent deed back. No call was made, so all is as it was.
+    pub fn restore(self, parcel: Parcel) -> Opened
+        requires { parcel.table ≡ self.table }
+        ensures { result ≡ self }
+    {
+        let Lent {
+            table,
+            again,
+            device,
+            mut desk,
+        } = self;
+        take_undone(&table.shared, &mut desk, parcel.deed);
+        Opened {
+            table,
+            again,
+            device,
+            desk,
+        }
+    }
+}
+
+impl Parcel {
+    pub fn job(&self) -> &Job
+        ensures { result.now ≡ self.now.task }
+    {
+        &self.job
+    }
+
+    /// The errand, under the name of its deeds.
+    pub fn named<B: NamesDeeds>(self) -> Errand<B>
+        requires { self.table ≡ B.deeds }
+        ensures { result ≡ self.task }
+    {
+        let Parcel { job, deed } = self;
+        Errand {
+            job,
+            deed,
+            of: PhantomData,
+        }
+    }
+}
+
 impl<B: NamesDeeds> Desk<B> {
     /// Gives the deed of the job's block, which is at home.
     pub fn give(&mut self, job: Job) -> Errand<B>
@@ -218,14 +359,11 @@ impl<B: NamesDeeds> Desk<B> {
     }
 
     /// Takes the deed back. The desk has what it was given for, and what came of its call may come of that.
-    pub fn take_back(&mut self, report: Report<B>) -> Finished
-        ensures finished { result ≡ report }
-        ensures settled { Settles B.told self.old report self.new }
+    pub fn take_back(&mut self, stub: Stub<B>)
+        ensures settled { Settles B.told self.old stub self.new }
     {
-        let Report { finished, deed, .. } = report;
         let Desk { table, pass, .. } = self;
-        take_back(&table.shared, pass, deed);
-        finished
+        take_back(&table.shared, pass, stub.deed);
     }
 
     /// Compares the sides: each block whose deed is at home has on the device what the desk knows.
@@ -244,6 +382,14 @@ impl<B: NamesDeeds> Errand<B> {
     {
         &self.job
     }
+
+    /// The parcel, for where no type names the deeds.
+    pub fn unnamed(self) -> Parcel
+        ensures { result ≡ record { task = self; table = B.deeds } }
+    {
+        let Errand { job, deed, .. } = self;
+        Parcel { job, deed }
+    }
 }
 
 impl<B: NamesDeeds> Report<B> {
@@ -251,6 +397,15 @@ impl<B: NamesDeeds> Report<B> {
         ensures { result.now ≡ self.now }
     {
         &self.finished
+    }
+
+    /// The finished job, and apart from it the deed that the desk takes back.
+    pub fn parts(self) -> (Finished, Stub<B>)
+        ensures finished { result.0 ≡ self }
+        ensures stub { result.1 ≡ self }
+    {
+        let Report { finished, deed, of } = self;
+        (finished, Stub { deed, of })
     }
 }
 

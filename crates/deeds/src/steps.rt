@@ -112,6 +112,19 @@ pub(crate) fn take_back(table: &Deeds, desk: &mut Pass, deed: Pass)
     table.load::<TakesBack>(desk, 0);
 }
 
+/// Takes back a deed whose call was not made. It was out for just what it says, and its block has what it had.
+pub(crate) fn take_undone(table: &Deeds, desk: &mut Pass, deed: Pass)
+    requires at { IsAt table.now.table_id desk.old × IsAt table.now.table_id deed }
+    requires desk { IsDesk desk.old.me (desk_in desk.old.me.0).0 (desk_in desk.old.me.0).1 }
+    requires deed { IsUndone deed.me (given_in deed.me.0) }
+    ensures at { Stays desk.old desk.new }
+    ensures out { slice_get (desk_in desk.old.me.0).1 (given_in deed.me.0).task.block ≡ Some (Out (given_in deed.me.0)) }
+    ensures desk { IsDesk desk.new.me (desk_in desk.old.me.0).0 (slice_set (desk_in desk.old.me.0).1 (given_in deed.me.0).task.block (Home (given_in deed.me.0).before)) }
+{
+    table.join_seat::<TakesIn>(desk, deed);
+    table.load::<TakesBack>(desk, 0);
+}
+
 /// Compares the desk with the device's side: each block whose deed is at home has the bytes that the desk knows.
 pub(crate) fn close(table: &Deeds, mut desk: Pass, device: Pass)
     requires at { IsAt table.now.table_id desk × IsAt table.now.table_id device }

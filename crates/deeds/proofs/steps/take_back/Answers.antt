@@ -10,7 +10,7 @@ pub load-requires : goal.load-requires
 load-requires c = (
   search rules,
   search rules,
-  takes_back_as _ _ _ _ _ _ _ _
+  takes_back_as _ _ _ _ _ _ _
       (c.join_seat.ensures.2
       ∙ (λ i. (together (c.requires.desk i).0 (c.requires.deed i).0, (c.requires.desk i).1))),
 )
