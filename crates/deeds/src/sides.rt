@@ -137,6 +137,26 @@ impl<B: NamesDeeds> Model for Report<B> {
     ghost invariant = { λ r. IsAt B.deeds r.deed × IsCarried r.deed.me (given_in r.deed.me.0) (done_in r.deed.me.0) × ((done_in r.deed.me.0).finished ≡ r.finished) };
 }
 
+/// The deed of a report without its finished job, for those who take these apart. Contracts see the finished job still.
+#[derive(Drop)]
+pub struct Stub<B: NamesDeeds> {
+    deed: Pass,
+    of: PhantomData<B>,
+}
+
+impl<B: NamesDeeds> Model for Stub<B> {
+    ghost use Rattle.std.specs.Prelude.{◌≡◌};
+    ghost use Rattle.blockdev.specs.Jobs.{FinishedTask};
+    ghost use Rattle.deeds.specs.Steps.{IsAt, IsCarried};
+    ghost use Rattle.deeds.specs.Views.{given_in, done_in};
+
+    ghost Value = { FinishedTask };
+
+    ghost view = { λ s. (done_in s.deed.me.0).finished };
+
+    ghost invariant = { λ s. IsAt B.deeds s.deed × IsCarried s.deed.me (given_in s.deed.me.0) (done_in s.deed.me.0) };
+}
+
 impl Opened {
     /// `found` is whether the device tells its contents, and the bytes of its blocks.
     pub fn new(alloc: Global) -> Result<Opened, AllocError>
@@ -218,14 +238,11 @@ impl<B: NamesDeeds> Desk<B> {
     }
 
     /// Takes the deed back. The desk has what it was given for, and what came of its call may come of that.
-    pub fn take_back(&mut self, report: Report<B>) -> Finished
-        ensures finished { result ≡ report }
-        ensures settled { Settles B.told self.old report self.new }
+    pub fn take_back(&mut self, stub: Stub<B>)
+        ensures settled { Settles B.told self.old stub self.new }
     {
-        let Report { finished, deed, .. } = report;
         let Desk { table, pass, .. } = self;
-        take_back(&table.shared, pass, deed);
-        finished
+        take_back(&table.shared, pass, stub.deed);
     }
 
     /// Compares the sides: each block whose deed is at home has on the device what the desk knows.
@@ -251,6 +268,15 @@ impl<B: NamesDeeds> Report<B> {
         ensures { result.now ≡ self.now }
     {
         &self.finished
+    }
+
+    /// The finished job, and apart from it the deed that the desk takes back.
+    pub fn parts(self) -> (Finished, Stub<B>)
+        ensures finished { result.0 ≡ self }
+        ensures stub { result.1 ≡ self }
+    {
+        let Report { finished, deed, of } = self;
+        (finished, Stub { deed, of })
     }
 }
 

@@ -59,8 +59,10 @@ fn crossed<B: NamesDeeds>(
     let fill = desk.give(job(rt, alloc, Kind::Fill, 1, 9));
     let filled = made(side, device, fill);
     let flushed = made(side, device, flush);
-    let flushed = desk.take_back(flushed);
-    let filled = desk.take_back(filled);
+    let (flushed, flushed_deed) = flushed.parts();
+    let (filled, filled_deed) = filled.parts();
+    desk.take_back(flushed_deed);
+    desk.take_back(filled_deed);
     check(rt, flushed.outcome().is_ok());
     check(rt, filled.outcome().is_ok());
     check(
@@ -92,7 +94,10 @@ fn flushes<B: NamesDeeds + Send>(
     may_be_sent(&errand);
     let report = made(side, device, errand);
     may_be_sent(&report);
-    desk.take_back(report)
+    let (finished, stub) = report.parts();
+    may_be_sent(&stub);
+    desk.take_back(stub);
+    finished
 }
 
 /// A flush fails, and its block has the new bytes all the same.
