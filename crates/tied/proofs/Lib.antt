@@ -4,3 +4,4 @@ pub mod Calls
 pub mod Tasks
 pub mod Covered
 pub mod Tied
+pub mod Kept
