@@ -18,10 +18,10 @@ use crate::log::{Seat, Slip};
 use crate::naming::Naming;
 use crate::started::{FillStarted, FlushStarted, fill_started, flush_started};
 use crate::state::Held;
-use blockdev::Buffer;
+use blockdev::{Buffer, Finished};
 use cachecore::replies::{of_fill_begin, of_fill_end, of_flush_begin, of_flush_end};
 use cachecore::{Ended, Event};
-use deeds::sides::Report;
+use deeds::sides::{Report, Stub};
 use errboard::Receipt;
 use pc_types::{FileId, HandleId, Kind, PageIndex};
 use trail::Trail;
@@ -73,6 +73,25 @@ impl<B: Naming, T: Trail> Held<B, T> {
         ensures back { IfOk result (λ r. EndGivesBack report (Ok r.0)) }
         ensures denied { IfErr result (IsDenied (event.End Fill (end_of report)) self.old self.new seat.old seat.new) }
     {
+        let (finished, stub) = report.parts();
+        self.end_fill(seat, finished, stub)
+    }
+
+    /// Ends a fill, whose deed comes back where the end goes through.
+    fn end_fill(
+        &mut self,
+        seat: &mut Seat,
+        finished: Finished,
+        stub: Stub<B>,
+    ) -> Result<(Ended, Slip), Denied>
+        requires seat { seat.old.table ≡ B.table }
+        requires stub { stub ≡ finished }
+        requires size { length finished.bytes ≡ B.sizes.page }
+        ensures made { IfOk result (λ r. Made (event.End Fill (end_of finished)) (fill_ended (Ok r.0)) self.old self.new seat.old seat.new r.1) }
+        ensures in_flight { tests self.old.core.state (event.End Fill (end_of finished)) ≡ None → IsOk result }
+        ensures back { IfOk result (λ r. EndGivesBack finished (Ok r.0)) }
+        ensures denied { IfErr result (IsDenied (event.End Fill (end_of finished)) self.old self.new seat.old seat.new) }
+    {
         let Held {
             core,
             log,
@@ -80,7 +99,6 @@ impl<B: Naming, T: Trail> Held<B, T> {
             desk,
             ..
         } = self;
-        let (finished, stub) = report.parts();
         let is_room = log.has_room(core, 1, 0);
         let end = end_without(&finished, *alloc);
         let is_read = is_well(&finished);
@@ -141,6 +159,26 @@ impl<B: Naming, T: Trail> Held<B, T> {
         ensures back { IfOk result (λ r. EndGivesBack report (Ok r.0)) }
         ensures denied { IfErr result (IsDenied (event.End Flush (end_of report)) self.old self.new seat.old seat.new) }
     {
+        let (finished, stub) = report.parts();
+        self.end_flush(seat, finished, stub)
+    }
+
+    /// Ends a flush, whose deed comes back where the end goes through.
+    fn end_flush(
+        &mut self,
+        seat: &mut Seat,
+        finished: Finished,
+        stub: Stub<B>,
+    ) -> Result<(Ended, Option<Receipt>, Slip), Denied>
+        requires seat { seat.old.table ≡ B.table }
+        requires stub { stub ≡ finished }
+        ensures made { IfOk result (λ r. Made (event.End Flush (end_of finished)) (flush_ended (Ok r.0)) self.old self.new seat.old seat.new r.2) }
+        ensures in_flight { tests self.old.core.state (event.End Flush (end_of finished)) ≡ None → IsOk result }
+        ensures receipt { IfOk result (λ r. IsRecorded self.old.errors (flush_of self.old.core.state finished.serial) (Ok r.0) r.1 self.new.errors) }
+        ensures own { IfOk result (λ r. IfSome r.1 (λ receipt. receipt.board ≡ B.board)) }
+        ensures back { IfOk result (λ r. EndGivesBack finished (Ok r.0)) }
+        ensures denied { IfErr result (IsDenied (event.End Flush (end_of finished)) self.old self.new seat.old seat.new) }
+    {
         let Held {
             core,
             log,
@@ -149,7 +187,6 @@ impl<B: Naming, T: Trail> Held<B, T> {
             desk,
             ..
         } = self;
-        let (finished, stub) = report.parts();
         let is_room = log.has_room(core, 1, 0);
         let end = end_without(&finished, *alloc);
         let file = core.flush_of(finished.serial());
