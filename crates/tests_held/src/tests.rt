@@ -1,23 +1,28 @@
 //! Worked calls on the locked state of a cache of name 7, with 16-byte pages, 48 frames, a dirty limit of 16 and 64 blocks. The rows
 //! with a device run over a trail that keeps nothing, by `over_no_trail`, since the check is slow where a cache is dropped.
 
-ghost use Rattle.std.specs.Prelude.{◌≡◌, length};
+ghost use Rattle.std.specs.Prelude.{◌≡◌, [], length, true};
+ghost use Rattle.blockdev.specs.Blocks.{zero_blocks};
+ghost use Rattle.deeds.specs.Shown.{AreTold};
 ghost use Rattle.held.specs.Keeps.{IsLocked};
+ghost use Rattle.machine.specs.History.{no_files};
+ghost use Rattle.runs.specs.Runs.{IsFirst};
+ghost use Rattle.trail.specs.Honest.{world_over};
 
 use crate::checks::check;
-use blockdev::{BlockDevice, Buffer, FaultEffect, Finished, Job, ScriptDevice, perform};
-use cachecore::{
-    CacheCore, Ended, FillBegun, FlushBegun, ReadAnswer, SyncStepped, TruncateAnswer, WriteAnswer,
-};
+use blockdev::{Buffer, FaultEffect, ScriptDevice, Watched};
+use cachecore::{CacheCore, Ended, ReadAnswer, TruncateAnswer, WriteAnswer};
+use deeds::sides::{DeviceSide, Errand, Opened as Deeds, Report};
 use errboard::{Board, Receipt};
 use held::denied::Denied;
 use held::log::{Seat, Slip};
 use held::naming::Naming;
+use held::started::{FillStarted, FlushStarted, SyncMoved};
 use held::state::{Held, Opened};
 use pc_types::limits::LAST_PAGE;
-use pc_types::{BlockNo, ErrCode, FileId, Geometry, HandleId, PageIndex, Refusal, SyncId};
+use pc_types::{ErrCode, FileId, Geometry, HandleId, PageIndex, Refusal, SyncId};
 use std::alloc::Global;
-use std::marker::Brand;
+use std::marker::{Brand, Model};
 use std::mem::drop;
 use std::process::Abort;
 use trail::{NoTrail, Trail};
@@ -88,15 +93,40 @@ fn zeros(rt: &impl Abort, alloc: Global, core: &CacheCore) -> Buffer
     Buffer::new(alloc, &core.geometry()).expect(rt, "a buffer")
 }
 
-/// Makes the device call of a job, which is one for this device. Macros say so, since `perform` requires it.
-fn made(rt: &impl Abort, device: &mut ScriptDevice, core: &CacheCore, job: Job) -> Finished
+/// A device of 64 blocks of 16 bytes, with its side of the deeds.
+#[derive(Drop)]
+struct Disk<B: Naming> {
+    device: Watched<ScriptDevice>,
+    side: DeviceSide<B>,
+}
+
+impl<B: Naming> Model for Disk<B> {
+    ghost use Rattle.std.specs.Prelude.{◌≡◌};
+    ghost use Rattle.blockdev.specs.Watching.{Watch};
+    ghost use Rattle.deeds.specs.Shown.{AreTold};
+
+    ghost Value = { Watch };
+
+    ghost view = { λ d. d.device };
+
+    ghost invariant = { λ d. AreTold B.told d.device.device d.side × (d.device.device.count ≡ 64) × (d.device.device.size ≡ 16) };
+}
+
+/// Makes the device call of an errand, which is one for this device. Macros say so, since the call requires it.
+fn made<B: Naming>(
+    rt: &impl Abort,
+    disk: &mut Disk<B>,
+    core: &CacheCore,
+    errand: Errand<B>,
+) -> Report<B>
     ensures { length result.bytes ≡ core.now.state.sizes.page }
 {
     let page = core.geometry().page();
-    assert!(rt; (job.block().0 as u64) < device.blocks());
-    assert!(rt; job.bytes().len() as u64 == page);
-    assert!(rt; device.block_size() == page);
-    perform(device, job)
+    assert!(rt; page == 16);
+    assert!(rt; errand.job().block().0 < 64);
+    assert!(rt; errand.job().bytes().len() == 16);
+    let Disk { device, side } = disk;
+    side.carry_out(device, errand)
 }
 
 /// Ends a flush. Gives what that answers, and the receipt.
@@ -104,12 +134,12 @@ fn ends_flush<B: Naming, T: Trail>(
     rt: &impl Abort,
     held: &mut Held<B, T>,
     seat: &mut Seat,
-    finished: Finished,
+    report: Report<B>,
 ) -> (Ended, Option<Receipt>)
     requires { seat.old.table ≡ B.table }
     ensures { seat.new.table ≡ seat.old.table }
 {
-    let ended = held.flush_end(seat, finished);
+    let ended = held.flush_end(seat, report);
     let (answer, receipt, _) = ended.expect(rt, "an end");
     (answer, receipt)
 }
@@ -120,18 +150,18 @@ fn flushes<B: Naming, T: Trail>(
     alloc: Global,
     held: &mut Held<B, T>,
     seat: &mut Seat,
-    device: &mut ScriptDevice,
+    disk: &mut Disk<B>,
 ) -> (Ended, Option<Receipt>)
     requires { seat.old.table ≡ B.table }
     ensures { seat.new.table ≡ seat.old.table }
 {
     let buffer = buffer(rt, alloc, held);
     let begun = held.flush_begin(seat, FILE, buffer);
-    let Ok((FlushBegun::Job(job), _)) = begun else {
+    let Ok((FlushStarted::Job(errand), _)) = begun else {
         panic!(rt; "a job");
     };
-    let finished = made(rt, device, held.core(), job);
-    ends_flush(rt, held, seat, finished)
+    let report = made(rt, disk, held.core(), errand);
+    ends_flush(rt, held, seat, report)
 }
 
 /// Reads the page from the device.
@@ -140,18 +170,18 @@ fn fills<B: Naming, T: Trail>(
     alloc: Global,
     held: &mut Held<B, T>,
     seat: &mut Seat,
-    device: &mut ScriptDevice,
+    disk: &mut Disk<B>,
 ) -> Ended
     requires { seat.old.table ≡ B.table }
     ensures { seat.new.table ≡ seat.old.table }
 {
     let buffer = buffer(rt, alloc, held);
     let begun = held.fill_begin(seat, HANDLE, PageIndex(0), buffer);
-    let Ok((FillBegun::Job(job), _)) = begun else {
+    let Ok((FillStarted::Job(errand), _)) = begun else {
         panic!(rt; "a job");
     };
-    let finished = made(rt, device, held.core(), job);
-    let ended = held.fill_end(seat, finished);
+    let report = made(rt, disk, held.core(), errand);
+    let ended = held.fill_end(seat, report);
     let (answer, _) = ended.expect(rt, "an end");
     answer
 }
@@ -162,18 +192,18 @@ fn writes_and_fills<B: Naming>(
     alloc: Global,
     held: &mut Held<B, NoTrail>,
     seat: &mut Seat,
-    device: &mut ScriptDevice,
+    disk: &mut Disk<B>,
 )
     requires { seat.old.table ≡ B.table }
 {
     opens(rt, held, seat);
     writes(rt, held, seat);
-    let (written, none) = flushes(rt, alloc, held, seat, device);
+    let (written, none) = flushes(rt, alloc, held, seat, disk);
     check(rt, matches!(written, Ended::Done(_)) && none.is_none());
     check(rt, held.age(seat).is_ok());
     let (evicted, _) = held.evict(seat).expect(rt, "room in the trail");
     check(rt, evicted == Some((FILE, PageIndex(0))));
-    let filled = fills(rt, alloc, held, seat, device);
+    let filled = fills(rt, alloc, held, seat, disk);
     check(rt, matches!(filled, Ended::Done(_)));
     check(rt, reads(rt, held, seat, HANDLE).is_ok());
 }
@@ -185,15 +215,15 @@ fn fails_a_flush<B: Naming>(
     held: &mut Held<B, NoTrail>,
     board: &Board,
     seat: &mut Seat,
-    device: &mut ScriptDevice,
+    disk: &mut Disk<B>,
 )
     requires { (seat.old.table ≡ B.table) × (board.now ≡ B.board) }
 {
     let mut pass = held.pass(FILE).expect(rt, "a pass");
     opens(rt, held, seat);
     writes(rt, held, seat);
-    device.fail_next(ErrCode::IO, FaultEffect::Old);
-    let (failed, receipt) = flushes(rt, alloc, held, seat, device);
+    disk.device.fail_next(ErrCode::IO, FaultEffect::Old);
+    let (failed, receipt) = flushes(rt, alloc, held, seat, disk);
     check(
         rt,
         matches!(failed, Ended::Failed(_, _)) && receipt.is_some(),
@@ -202,13 +232,13 @@ fn fails_a_flush<B: Naming>(
     check(rt, board.poll(&mut pass).is_none());
 }
 
-// What came of another block's device call ends no request, and the request stays in flight.
-fn keeps_to_its_block<B: Naming>(
+// What came of a flush ends no fill, and the request stays in flight.
+fn keeps_to_its_kind<B: Naming>(
     rt: &impl Abort,
     alloc: Global,
     held: &mut Held<B, NoTrail>,
     seat: &mut Seat,
-    device: &mut ScriptDevice,
+    disk: &mut Disk<B>,
 )
     requires { seat.old.table ≡ B.table }
 {
@@ -216,20 +246,15 @@ fn keeps_to_its_block<B: Naming>(
     writes(rt, held, seat);
     let page = buffer(rt, alloc, held);
     let begun = held.flush_begin(seat, FILE, page);
-    let Ok((FlushBegun::Job(job), _)) = begun else {
+    let Ok((FlushStarted::Job(errand), _)) = begun else {
         panic!(rt; "a job");
     };
-    check(rt, job.block() == BlockNo(0));
-    let page = buffer(rt, alloc, held);
-    let other = Job::new(job.cache(), job.serial(), job.kind(), BlockNo(1), page);
-    let foreign = made(rt, device, held.core(), other);
-    let Err(denied) = held.flush_end(seat, foreign) else {
+    let report = made(rt, disk, held.core(), errand);
+    let Err(denied) = held.fill_end(seat, report) else {
         panic!(rt; "a stranger");
     };
     check(rt, denied.refusal == Refusal::Stranger);
-    let finished = made(rt, device, held.core(), job);
-    let (written, _) = ends_flush(rt, held, seat, finished);
-    check(rt, matches!(written, Ended::Done(_)));
+    check(rt, held.core().in_flight().flushes == 1);
 }
 
 fn begins_sync<B: Naming>(rt: &impl Abort, held: &mut Held<B, NoTrail>, seat: &mut Seat) -> SyncId
@@ -249,7 +274,7 @@ fn steps<B: Naming>(
     held: &mut Held<B, NoTrail>,
     seat: &mut Seat,
     sync: SyncId,
-) -> SyncStepped
+) -> SyncMoved<B>
     requires { seat.old.table ≡ B.table }
     ensures { seat.new.table ≡ seat.old.table }
 {
@@ -264,21 +289,21 @@ fn syncs<B: Naming>(
     alloc: Global,
     held: &mut Held<B, NoTrail>,
     seat: &mut Seat,
-    device: &mut ScriptDevice,
+    disk: &mut Disk<B>,
 )
     requires { seat.old.table ≡ B.table }
 {
     opens(rt, held, seat);
     writes(rt, held, seat);
     let sync = begins_sync(rt, held, seat);
-    let SyncStepped::Job(job) = steps(rt, alloc, held, seat, sync) else {
+    let SyncMoved::Job(errand) = steps(rt, alloc, held, seat, sync) else {
         panic!(rt; "a job");
     };
-    let finished = made(rt, device, held.core(), job);
-    let (written, _) = ends_flush(rt, held, seat, finished);
+    let report = made(rt, disk, held.core(), errand);
+    let (written, _) = ends_flush(rt, held, seat, report);
     check(rt, matches!(written, Ended::Done(_)));
     let clean = steps(rt, alloc, held, seat, sync);
-    check(rt, matches!(clean, SyncStepped::Clean(_)));
+    check(rt, matches!(clean, SyncMoved::Clean(_)));
     let next = begins_sync(rt, held, seat);
     check(rt, held.sync_drop(seat, next).is_ok());
 }
@@ -318,7 +343,7 @@ enum Row {
     Cuts,
     WritesAndFills,
     FailsAFlush,
-    KeepsToItsBlock,
+    KeepsToItsKind,
     Syncs,
 }
 
@@ -328,18 +353,18 @@ fn run<B: Naming>(
     held: &mut Held<B, NoTrail>,
     board: &Board,
     seat: &mut Seat,
+    disk: &mut Disk<B>,
     row: Row,
 )
     requires { (seat.old.table ≡ B.table) × (board.now ≡ B.board) }
 {
-    let mut device = ScriptDevice::new(alloc, 16, 64).expect(rt, "a device");
     match row {
         Row::Passes => passes(rt, held, board),
         Row::Cuts => cuts(rt, held, seat),
-        Row::WritesAndFills => writes_and_fills(rt, alloc, held, seat, &mut device),
-        Row::FailsAFlush => fails_a_flush(rt, alloc, held, board, seat, &mut device),
-        Row::KeepsToItsBlock => keeps_to_its_block(rt, alloc, held, seat, &mut device),
-        Row::Syncs => syncs(rt, alloc, held, seat, &mut device),
+        Row::WritesAndFills => writes_and_fills(rt, alloc, held, seat, disk),
+        Row::FailsAFlush => fails_a_flush(rt, alloc, held, board, seat, disk),
+        Row::KeepsToItsKind => keeps_to_its_kind(rt, alloc, held, seat, disk),
+        Row::Syncs => syncs(rt, alloc, held, seat, disk),
     }
 }
 
@@ -348,17 +373,37 @@ fn run_named<B: Naming>(
     rt: &impl Abort,
     alloc: Global,
     opened: Opened<NoTrail>,
+    deeds: Deeds,
+    device: Watched<ScriptDevice>,
     board: &Board,
     mut own: Seat,
     row: Row,
 )
     requires state { IsLocked B.name B.table B.board B.sizes B.seats opened }
+    requires fresh { (opened.log.history ≡ []) × (opened.core.state ≡ no_files B.sizes B.name) }
+    requires named { (deeds.table ≡ B.deeds) × (deeds.told ≡ B.told) × (deeds.blocks ≡ B.blocks) }
+    requires count { length B.blocks ≡ B.sizes.blocks }
+    requires first { B.told ≡ true → IsFirst (world_over B.sizes B.name B.blocks) }
+    requires device { AreTold B.told device.device B.blocks × (device.device.count ≡ 64) × (device.device.size ≡ 16) }
     requires own { (own.table ≡ B.table) × (board.now ≡ B.board) }
 {
-    let mut held = Held::<B, NoTrail>::of(opened);
-    run(rt, alloc, &mut held, board, &mut own, row);
+    let (desk, side) = deeds.named::<B>();
+    let mut disk = Disk { device, side };
+    let mut held = Held::<B, NoTrail>::of(opened, desk);
+    run(rt, alloc, &mut held, board, &mut own, &mut disk, row);
     drop(held);
     drop(own);
+}
+
+/// The deeds of a device of zeros, and the device.
+pub(crate) fn opened_deeds(rt: &impl Abort, alloc: Global) -> (Deeds, Watched<ScriptDevice>)
+    ensures zeros { result.0.blocks ≡ zero_blocks 16 64 }
+    ensures told { AreTold result.0.told result.1.device result.0.blocks }
+    ensures device { (result.1.device.count ≡ 64) × (result.1.device.size ≡ 16) }
+{
+    let device = ScriptDevice::new(alloc, 16, 64).expect(rt, "a device");
+    let deeds = Deeds::over(alloc, &device).expect(rt, "memory");
+    (deeds, Watched::over(device))
 }
 
 /// Runs a row over a new cache, by the cache's own seat.
@@ -368,7 +413,8 @@ fn over_no_trail(rt: &impl Abort, alloc: Global, row: Row) {
     let Ok((opened, board, seats, own)) = new else {
         panic!(rt; "a cache");
     };
-    run_named::<Brand>(rt, alloc, opened, &board, own, row);
+    let (deeds, device) = opened_deeds(rt, alloc);
+    run_named::<Brand>(rt, alloc, opened, deeds, device, &board, own, row);
     drop(board);
     drop(seats);
 }
@@ -389,8 +435,8 @@ fn a_failed_flush_is_told_once(rt: HostRuntime) {
 }
 
 #[test]
-fn an_end_of_another_block_is_refused(rt: HostRuntime) {
-    over_no_trail(&rt, rt.alloc(), Row::KeepsToItsBlock);
+fn an_end_of_another_kind_is_refused(rt: HostRuntime) {
+    over_no_trail(&rt, rt.alloc(), Row::KeepsToItsKind);
 }
 
 #[test]

@@ -1,11 +1,15 @@
 //! Worked calls over a trail that keeps every entry, to the close of the cache. Two seats take part: the cache's own, and seat 0.
 
-ghost use Rattle.std.specs.Prelude.{◌≡◌, All};
+ghost use Rattle.std.specs.Prelude.{◌≡◌, [], All, length, true};
 ghost use Rattle.held.specs.Keeps.{IsLocked};
+ghost use Rattle.machine.specs.History.{no_files};
+ghost use Rattle.runs.specs.Runs.{IsFirst};
+ghost use Rattle.trail.specs.Honest.{world_over};
 
 use crate::checks::check;
-use crate::tests::{FILE, HANDLE, opens, reads, writes};
+use crate::tests::{FILE, HANDLE, opened_deeds, opens, reads, writes};
 use cachecore::ReadAnswer;
+use deeds::sides::Opened as Deeds;
 use held::denied::Denied;
 use held::log::{Seat, Slip, confirm};
 use held::naming::Naming;
@@ -28,10 +32,11 @@ fn closes<B: Naming>(
     requires own { own.table ≡ B.table }
 {
     let closed = held.close(seats, own);
-    let Ok((trail, core)) = closed else {
+    let Ok((trail, core, desk)) = closed else {
         panic!(rt; "all seats came back");
     };
     drop(core);
+    drop(desk);
     trail
 }
 
@@ -145,15 +150,22 @@ fn run<B: Naming>(
 fn by_two_seats<B: Naming>(
     rt: &impl Abort,
     opened: Opened<FullTrail>,
+    deeds: Deeds,
     mut seats: Vec<Seat>,
     mut own: Seat,
     row: Row,
 ) -> (FullTrail, (Slip, Slip))
     requires state { IsLocked B.name B.table B.board B.sizes B.seats opened }
+    requires fresh { (opened.log.history ≡ []) × (opened.core.state ≡ no_files B.sizes B.name) }
+    requires named { (deeds.table ≡ B.deeds) × (deeds.told ≡ B.told) × (deeds.blocks ≡ B.blocks) }
+    requires count { length B.blocks ≡ B.sizes.blocks }
+    requires first { B.told ≡ true → IsFirst (world_over B.sizes B.name B.blocks) }
     requires seats { All (λ s. s.table ≡ B.table) seats.items }
     requires own { own.table ≡ B.table }
 {
-    let mut held = Held::<B, FullTrail>::of(opened);
+    let (desk, side) = deeds.named::<B>();
+    drop(side);
+    let mut held = Held::<B, FullTrail>::of(opened, desk);
     let Some(mut seat) = seats.pop() else {
         panic!(rt; "seat 0");
     };
@@ -176,7 +188,9 @@ fn over_full_trail(
         panic!(rt; "a cache");
     };
     drop(board);
-    by_two_seats::<Brand>(rt, opened, seats, own, row)
+    let (deeds, device) = opened_deeds(rt, alloc);
+    drop(device);
+    by_two_seats::<Brand>(rt, opened, deeds, seats, own, row)
 }
 
 #[test]

@@ -2,5 +2,6 @@ pub mod Told
 pub mod Along
 pub mod Calls
 pub mod Tasks
-pub mod Performed
+pub mod Covered
 pub mod Tied
+pub mod Kept

@@ -8,12 +8,12 @@ use Rattle.held.proofs.state.Held.close.Goals as goal
 
 pub close-trail-requires-clause-came : goal.close-trail-requires-clause-came
 close-trail-requires-clause-came g c = λ k d less.
-    let i = c.self.invariant.1 in
+    let i = c.self.invariant.0.1 in
     c.requires.came k d less (c.if-not-are_named.ensures.yes k d less ∙ c.name-name.ensures ∙ i.named) ∙ sym i.seats
 
 pub returns-clause-refused : goal.returns-clause-refused
 returns-clause-refused g c =
-    let i = c.self.invariant.1 in
+    let i = c.self.invariant.0.1 in
     let own : c.args.own.name ≡ c.self.inside.log.name = search rules in
     let count : vec_len c.args.seats + 1 ≡ c.made.result = search rules in (
       λ e. absurd (true≢false (sym e)),
