@@ -19,7 +19,6 @@ use std::marker::{Model, PhantomData};
 pub struct Disk<B: Naming, D: BlockDevice> {
     device: Watched<D>,
     side: DeviceSide<B>,
-    of: PhantomData<B>,
 }
 
 impl<B: Naming, D: BlockDevice> Model for Disk<B, D> {
