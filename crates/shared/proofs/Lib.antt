@@ -7,6 +7,7 @@ pub mod Closing
 pub mod Hearing
 pub mod Seating
 pub mod Owning
+pub mod Parcels
 pub mod CutRequests
 pub mod Rooming
 pub mod Answered

@@ -9,7 +9,8 @@ use Rattle.cachecore.specs.Replies.{IsFlushJob}
 use Rattle.cachecore.specs.Wants.{IsFirstToWrite}
 use Rattle.cachecore.specs.declared.answers.FlushBegun.TheVariants as flush
 use Rattle.crossbeam_queue.specs.Fifo.{Held}
-use Rattle.crossbeam_queue.specs.Passes.{view}
+use Rattle.crossbeam_queue.specs.Passes.{Pass, view}
+use Rattle.deeds.specs.Shown.{ParcelSeen}
 use Rattle.machine.specs.declared.event.Event.{Event}
 use Rattle.machine.specs.declared.event.Event.TheVariants as event
 use Rattle.machine.specs.declared.event.Reply.{Reply}
@@ -23,6 +24,7 @@ use Rattle.pc_types.specs.declared.kind.Kind.TheVariants.{Flush}
 use Rattle.pc_types.specs.declared.refusal.Refusal.TheVariants.{TrailFull}
 use Rattle.ring.specs.Order.{Stands}
 use Rattle.ring.specs.Serving.{Carries, Serves}
+use Rattle.ring.specs.declared.log.Log.{Log}
 use Rattle.ring.specs.declared.ring.Ring.{Ring}
 use Rattle.trail.specs.History.{After}
 use Rattle.trail.specs.declared.entry.Entry.{Entry}
@@ -38,23 +40,34 @@ use Rattle.shared.specs.declared.turns.Flushed.{Flushed}
 use Rattle.shared.specs.declared.turns.Flushed.TheVariants as flushed
 use Rattle.shared.specs.declared.worker.Worker.{Worker}
 
+-- it is a pass of this ring, which is for the jobs of the cache of this name and these sizes, with deeds of this table
+pub record IsPassFor (ring : Ring) (name : ℕ) (deeds : TableId) (sizes : Sizes) (pass : Pass ParcelSeen Log) : Type 0 where
+  pub serves : Serves ring pass
+  pub carries : Carries name sizes.blocks sizes.page deeds pass
+
 -- its seat is of the cache of this name and this table, and its pass is one of the cache's ring, for a device of these sizes
 pub record IsWorkerOf (ring : Ring) (name : ℕ) (table deeds : TableId) (sizes : Sizes) (w : Worker) : Type 0 where
-  pub serves : Serves ring w.pass
-  pub carries : Carries name sizes.blocks sizes.page deeds w.pass
+  pub passes : IsPassFor ring name deeds sizes w.pass
   pub named : w.seat.name ≡ name
   pub seated : w.seat.table ≡ table
 
 abbrev pub seat_of : Worker → SeatSeen
 seat_of w = w.seat
 
+-- the jobs that a pass took from the ring, in order, and those that it put in
+abbrev pub popped_in : Pass ParcelSeen Log → List Task
+popped_in pass = each (λ (p : ParcelSeen). p.task) (view pass).popped
+
+abbrev pub pushed_in : Pass ParcelSeen Log → List Task
+pushed_in pass = each (λ (p : ParcelSeen). p.task) (view pass).pushed
+
 -- the jobs that it took from the ring, in order
 abbrev pub popped_by : Worker → List Task
-popped_by w = each (λ p. p.task) (view w.pass).popped
+popped_by w = popped_in w.pass
 
 -- the jobs that it put into the ring, in order
 abbrev pub pushed_by : Worker → List Task
-pushed_by w = each (λ p. p.task) (view w.pass).pushed
+pushed_by w = pushed_in w.pass
 
 -- the event is the end of this job's request
 abbrev pub IsEndOf : Task → Event → Type 0

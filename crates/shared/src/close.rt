@@ -18,6 +18,7 @@ use crate::brief::BriefLock;
 use crate::cache::SharedCache;
 use crate::disk::Disk;
 use crate::ends::end;
+use crate::jobs::take;
 use crate::worker::Worker;
 use blockdev::BlockDevice;
 use cachecore::CacheCore;
@@ -113,10 +114,10 @@ fn drain<B: Naming, D: BlockDevice, T: Trail, R: Wait>(
     ensures emptied { fifo.Held 0 (Stands (view own.new.pass)) }
 {
     'jobs: for _ in rt.forever() {
-        let Some(parcel) = ring.pop(rt, &mut own.pass) else {
+        let Some(job) = take(rt, ring, &mut own.pass) else {
             return;
         };
-        finish(disk, state, &mut own.seat, parcel.named());
+        finish(disk, state, &mut own.seat, job);
     }
     unreachable!()
 }

@@ -19,6 +19,7 @@ mod facts;
 mod files;
 mod fsync;
 pub mod handle;
+mod jobs;
 pub mod parts;
 mod reads;
 mod room;

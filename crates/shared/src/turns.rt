@@ -12,6 +12,7 @@ ghost use Rattle.shared.specs.Workers.{AllCarried, Begins, Ends, FailsOwn, IsEnd
 
 use crate::cache::SharedCache;
 use crate::ends::{Done, carry_through};
+use crate::jobs::{put, take};
 use crate::worker::Worker;
 use blockdev::{BlockDevice, Buffer, Gate};
 use deeds::sides::Errand;
@@ -57,10 +58,9 @@ impl<B: Naming, D: BlockDevice, T: Trail> SharedCache<B, D, T> {
         ensures denied { IfErr result (λ d. (job : Task) × (popped_by worker.new ≡ popped_by worker.old ++ job ∷ []) × IsDenied (IsEndOf job) (seat_of worker.old) (seat_of worker.new) d × IsFullIfNoSlip (seat_of worker.old) (seat_of worker.new) d) }
         ensures passed { IfOk result (λ o. IfSome o (λ d. G.passed gate.now d.serial.0)) }
     {
-        let Some(parcel) = self.ring.pop(rt, &mut worker.pass) else {
+        let Some(job) = take(rt, &self.ring, &mut worker.pass) else {
             return Ok(None);
         };
-        let job = parcel.named();
         gate.enter(job.job().serial().0);
         match self.end_job(rt, &mut worker.seat, job) {
             Ok(done) => Ok(Some(done)),
@@ -97,12 +97,12 @@ impl<B: Naming, D: BlockDevice, T: Trail> SharedCache<B, D, T> {
             Err(denied) => return Err(denied),
         };
         let serial = job.job().serial();
-        let Err(parcel) = self.ring.push(rt, &mut worker.pass, job.unnamed()) else {
+        let Err(job) = put(rt, &self.ring, &mut worker.pass, job) else {
             self.jobs.give(rt);
             return Ok(Flushed::Pushed(serial, slip));
         };
         gate.enter(serial.0);
-        match self.end_job(rt, &mut worker.seat, parcel.named()) {
+        match self.end_job(rt, &mut worker.seat, job) {
             Ok(done) => Ok(Flushed::Ended(slip, done)),
             Err(denied) => Ok(Flushed::Unended(slip, denied)),
         }
