@@ -10,6 +10,7 @@ use Rattle.blockdev.specs.declared.fault.FaultEffect.{FaultEffect}
 use Rattle.blockdev.specs.Device as device
 use Rattle.blockdev.specs.Device.{Told, with_block}
 use Rattle.blockdev.specs.Jobs.{Transfers}
+use Rattle.pc_types.specs.declared.ids.BlockNo.{BlockNo}
 use Rattle.pc_types.specs.declared.kind.Kind.{Kind}
 use Rattle.pc_types.specs.declared.kind.Kind.TheVariants.{Fill, Flush}
 use Rattle.pc_types.specs.declared.refusal.Refusal.{Refusal}
@@ -114,8 +115,9 @@ here : (m : finmap.FinMap nat_cmp Outcome) (t : ℕ) (o : Outcome) → finmap.ge
 here m t o = get-insert_nat m t o t ∙ ap (λ b. cond b (Some o) (finmap.get m t)) (eq-eqb t t refl)
 
 module _ (name : ℕ) (old mid new : WorldSeen) (ready : IsReady name old) (t : ℕ) (made : IsCalled old t mid)
-    (k : Kind) (o : Outcome) (r : Reply)
+    (k : Kind) (block : BlockNo) (o : Outcome) (r : Reply)
     (kind : option_map (λ (x : Request). x.kind) (finmap.get mid.core.requests t) ≡ Some k)
+    (at : option_map (λ (x : Request). x.block) (finmap.get mid.core.requests t) ≡ Some block.0)
     (call : finmap.get mid.outcomes t ≡ Some o)
     (ended : EndReply mid (step.End (record { 0 = t })) (finmap.get mid.outcomes t) r new) where
   abbrev w : World
@@ -154,19 +156,27 @@ module _ (name : ℕ) (old mid new : WorldSeen) (ready : IsReady name old) (t : 
       ∙ ap (λ (v : World). option_map (λ (x : Request). x.kind) (finmap.get v.core.requests t)) (sym c.new_is) ∙ kind in
       cc
 
+  block_is : c.x.block ≡ block.0
+  block_is =
+      let e : Some c.x.block ≡ Some block.0 = ap (option_map (λ (x : Request). x.block)) (sym c.is)
+      ∙ ap (λ (v : World). option_map (λ (x : Request). x.block) (finmap.get v.core.requests t)) (sym c.new_is) ∙ at in
+      cc
+
   abbrev end : End
-  end = record { cache = name; kind = k; serial = record { 0 = t }; outcome = o }
+  end = record { cache = name; kind = k; serial = record { 0 = t }; block = block; outcome = o }
 
   same_event : event.End c.x.kind (record {
     cache = w.core.name;
     kind = c.x.kind;
     serial = record { 0 = t };
+    block = record { 0 = c.x.block };
     outcome = noted;
   }) ≡ event.End k end
   same_event = λ i. event.End (kind_is i) (record {
     cache = ready.name i;
     kind = kind_is i;
     serial = record { 0 = t };
+    block = record { 0 = block_is i };
     outcome = sym outcome i;
   })
 
@@ -208,20 +218,21 @@ said k end answer.Written = refl
 
 pub finishes_so : (mid new : WorldSeen) (k : Kind) (end : End) (bytes : List ℕ) (told : Reply) (x : EndTold) (b : Bool)
     → EndReply mid (step.End end.serial) (finmap.get mid.outcomes end.serial.0) (end_says x.answer) new
-    → CameTo mid end.serial.0 x → OnTrue b (x.kind ≡ k)
+    → CameTo mid end.serial.0 x → OnTrue b (x.kind ≡ k) → OnTrue b (x.block ≡ end.block)
     → OnTrue b (call_of x.kind x.outcome x.buffer ≡ outcome_with end.outcome bytes)
     → OnTrue b (end_says x.answer ≡ told) → OnTrue b (Finishes mid k end bytes told new)
-finishes_so mid new k end bytes told x false ended came kind call said_so = tt
-finishes_so mid new k end bytes told x true ended came kind call said_so = λ name old ready made cache own.
+finishes_so mid new k end bytes told x false ended came kind at call said_so = tt
+finishes_so mid new k end bytes told x true ended came kind at call said_so = λ name old ready made cache own.
     let o = call_of x.kind x.outcome x.buffer in
-    let its : End = record { cache = name; kind = x.kind; serial = end.serial; outcome = o } in
-    let a = ended_told name old mid new ready end.serial.0 made x.kind o (end_says x.answer) came.0 came.1 ended
+    let its : End = record { cache = name; kind = x.kind; serial = end.serial; block = x.block; outcome = o } in
+    let a = ended_told name old mid new ready end.serial.0 made x.kind x.block o (end_says x.answer) came.0 came.1 came.2 ended
     (said x.kind its x.answer) in
     subst (λ e. IsAgreed name old e new)
     (λ i. entry (event.End (kind i) (record {
       cache = sym cache i;
       kind = (kind ∙ sym own) i;
       serial = end.serial;
+      block = at i;
       outcome = call i;
     })) (said_so i)) a
 

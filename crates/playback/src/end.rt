@@ -67,10 +67,12 @@ impl<'a> Ending<'a> {
     // Whether the request ended as the entry tells.
     fn is_told(&self, ended: &EndTold) -> bool
         ensures kind { OnTrue result (ended.now.kind ≡ self.now.kind) }
+        ensures block { OnTrue result (ended.now.block ≡ self.now.end.now.block) }
         ensures call { OnTrue result (outcome_of ended.now.kind ended.now.outcome ended.now.buffer ≡ outcome_with self.now.end.now.outcome self.now.bytes.now) }
         ensures reply { OnTrue result (end_says ended.now.answer ≡ reply_with self.now.reply.now self.now.bytes.now) }
     {
         ended.kind == self.kind
+            && ended.block == self.end.block
             && came_to(ended, &self.end.outcome, self.bytes)
             && is_told(&end_reply(&Ok(ended.answer)), self.reply, self.bytes)
     }

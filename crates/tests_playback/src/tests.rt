@@ -42,11 +42,17 @@ fn put(trail: &mut FullTrail, event: Event, reply: Reply, bytes: &[u8]) {
     }
 }
 
+/// The end of a request of the first block.
 fn end(kind: Kind, serial: u64, outcome: Outcome) -> Event {
+    end_of(kind, serial, BlockNo(0), outcome)
+}
+
+fn end_of(kind: Kind, serial: u64, block: BlockNo, outcome: Outcome) -> Event {
     let end = End {
         cache: NAME,
         kind,
         serial: Serial(serial),
+        block,
         outcome,
     };
     Event::End(kind, end)
@@ -57,6 +63,7 @@ fn end(kind: Kind, serial: u64, outcome: Outcome) -> Event {
 enum Change {
     Nothing,
     Serial,
+    Block,
     Outcome,
     FilledByte,
     ReadByte,
@@ -84,7 +91,9 @@ fn synced(alloc: Global, trail: &mut FullTrail, change: Change) {
     } else {
         Outcome::Written
     };
-    put(trail, end(Kind::Flush, 0, outcome), Reply::Written, &[]);
+    let block = BlockNo(u32::from(change == Change::Block));
+    let written = end_of(Kind::Flush, 0, block, outcome);
+    put(trail, written, Reply::Written, &[]);
     put(trail, Event::SyncStep(SYNC), Reply::Clean, &[]);
 }
 
@@ -161,6 +170,7 @@ fn an_entry_that_is_not_the_worlds_is_told(rt: HostRuntime) -> Result<(), Fail> 
     let alloc = rt.alloc();
     assert_eq!(&rt; odd_by(alloc, Change::Nothing)?, None);
     assert_eq!(&rt; odd_by(alloc, Change::Serial)?, Some(5));
+    assert_eq!(&rt; odd_by(alloc, Change::Block)?, Some(6));
     assert_eq!(&rt; odd_by(alloc, Change::Outcome)?, Some(6));
     assert_eq!(&rt; odd_by(alloc, Change::Stranger)?, Some(11));
     assert_eq!(&rt; odd_by(alloc, Change::FilledByte)?, Some(12));

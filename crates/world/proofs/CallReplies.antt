@@ -185,15 +185,18 @@ module _ (core : State) (jobs : Jobs) (dev : Watch) (w : IsWorld core jobs dev) 
   loud_answer : (r : Reply) → is_quiet r ≡ false → r ≢ reply.Refused Stranger
   loud_answer r loud e = let a : true ≡ false = sym (ap is_quiet e) ∙ loud in cc
 
-  -- its request is of this kind, and this is what the call came to
-  pub came_to : (old : WorldSeen) → seen_of core jobs dev ≡ old → (o : device.Outcome) → o ≡ f.outcome
-      → (bytes : List ℕ) → bytes ≡ f.bytes
+  -- its request is of this kind and this block, and this is what the call came to
+  pub came_to : (old : WorldSeen) → seen_of core jobs dev ≡ old → (block : ℕ) → block ≡ f.block
+      → (o : device.Outcome) → o ≡ f.outcome → (bytes : List ℕ) → bytes ≡ f.bytes
       → (option_map (λ (x : Request). x.kind) (finmap.get old.core.requests t) ≡ Some k)
+      × (option_map (λ (x : Request). x.block) (finmap.get old.core.requests t) ≡ Some block)
       × (finmap.get old.outcomes t ≡ Some (outcome_of k o bytes))
-  came_to old is_old o outcome bytes buffer =
+  came_to old is_old block its o outcome bytes buffer =
       let q = request_of core t (finmap.get core.requests t) (finmap.get jobs t) (Made f) (w.each_job t) (sym is) in (
         ap (λ (v : WorldSeen). option_map (λ (x : Request). x.kind) (finmap.get v.core.requests t)) (sym is_old)
             ∙ ap (option_map (λ (x : Request). x.kind)) q.1 ∙ ap Some (sym q.2.kind) ∙ ap Some (sym same),
+        ap (λ (v : WorldSeen). option_map (λ (x : Request). x.block) (finmap.get v.core.requests t)) (sym is_old)
+            ∙ ap (option_map (λ (x : Request). x.block)) q.1 ∙ ap Some (sym q.2.block) ∙ ap Some (sym its),
         out core jobs dev w t old is_old (Some (outcome_of f.kind f.outcome f.bytes))
             (ap (option_and_then outcome_in) (sym is))
             ∙ (λ i. Some (outcome_of (sym same i) (sym outcome i) (sym buffer i))),

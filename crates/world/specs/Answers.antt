@@ -38,8 +38,9 @@ end_says (end.Failed code) = reply.Failed code
 end_says end.Filled = reply.Filled
 end_says end.Written = reply.Written
 
--- of a request that ended: its kind, and what its device call came to
+-- of a request that ended: its kind, its block, and what its device call came to
 abbrev pub CameTo : WorldSeen → ℕ → EndTold → Type 0
 CameTo old t e =
     (option_map (λ x. x.kind) (finmap.get old.core.requests t) ≡ Some e.kind)
+    × (option_map (λ x. x.block) (finmap.get old.core.requests t) ≡ Some e.block.0)
     × (finmap.get old.outcomes t ≡ Some (outcome_of e.kind e.outcome e.buffer))

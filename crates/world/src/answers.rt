@@ -6,7 +6,7 @@ ghost use Rattle.world.specs.Answers.{end_says, fill_says, flush_says, sync_says
 
 use blockdev::Buffer;
 use cachecore::{Kind, Reply};
-use pc_types::{ErrCode, PageIndex, Refusal, Serial};
+use pc_types::{BlockNo, ErrCode, PageIndex, Refusal, Serial};
 
 /// What the begin of a fill answers.
 #[derive(Clone, Copy, PartialEq, Eq, Debug)]
@@ -61,6 +61,8 @@ pub enum EndAnswer {
 pub struct EndTold {
     pub answer: EndAnswer,
     pub kind: Kind,
+    /// The block that its device call was of.
+    pub block: BlockNo,
     pub outcome: Result<(), ErrCode>,
     /// The bytes that were read or written, where the call went well.
     pub buffer: Buffer,

@@ -61,6 +61,7 @@ impl<D: BlockDevice> World<D> {
         match self.jobs.take(serial) {
             Some(Flight::Made(finished)) => {
                 let kind = finished.kind();
+                let block = finished.block();
                 let outcome = finished.outcome();
                 match hand_in(&mut self.core, kind, finished) {
                     Ok(end) => {
@@ -68,6 +69,7 @@ impl<D: BlockDevice> World<D> {
                         Ok(EndTold {
                             answer,
                             kind,
+                            block,
                             outcome,
                             buffer,
                         })

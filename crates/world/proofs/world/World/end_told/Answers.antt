@@ -27,7 +27,7 @@ pub returns-in-Ok-clause-told : goal.returns-in-Ok-clause-told
 returns-in-Ok-clause-told g c =
     came_to c.self.inside.core.state c.self.inside.jobs _ c.self.invariant.0 c.args.serial.0 c.in-Some-Made.finished
     (ap Some (sym c.in-Some-Made.field-0-is) ∙ c.in-Some-Made.ensures.job) c.kind-kind.result c.kind-kind.ensures
-    c.args.self.now c.self.view_is c.outcome-outcome.result c.outcome-outcome.ensures c.of_end-answer.result.1
+    c.args.self.now c.self.view_is c.block-block.result.0 c.block-block.ensures c.outcome-outcome.result c.outcome-outcome.ensures c.of_end-answer.result.1
     (same_buffer c.in-Some-Made.finished c.in-Ok.end c.of_end-answer.result.1 c.in-Ok.ensures.back
     c.of_end-answer.ensures.buffer)
 
