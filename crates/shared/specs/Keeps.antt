@@ -1,5 +1,5 @@
 -- What holds of the device under its lock, and of the device at the end.
-use Rattle.std.specs.Prelude.{◌≡◌, ◌≢◌, ℕ, Bool, Err, List, Ok, Result, Some, length, slice_get}
+use Rattle.std.specs.Prelude.{◌≡◌, ◌≢◌, ◌<◌, ℕ, Bool, Err, List, Ok, Result, Some, length, slice_get}
 use Rattle.std.specs.FinMap as map
 use Rattle.blockdev.specs.Device.{Outcome, Told}
 use Rattle.deeds.specs.Shown.{AreTold}
@@ -31,5 +31,5 @@ pub record IsLeftBy (sizes : Sizes) (name : ℕ) (blocks : List (List ℕ)) (his
   pub core_is : world.core ≡ core
   pub left : List (List ℕ)
   pub told : device.contents ≡ Some left
-  pub each : (k : ℕ) → ((t : ℕ) (x : Request) → map.get core.requests t ≡ Some x → x.block ≢ k)
+  pub each : (k : ℕ) → k < sizes.blocks → ((t : ℕ) (x : Request) → map.get core.requests t ≡ Some x → x.block ≢ k)
       → slice_get left k ≡ slice_get world.device k

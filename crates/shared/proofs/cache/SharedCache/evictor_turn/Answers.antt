@@ -11,8 +11,7 @@ use Rattle.shared.proofs.cache.SharedCache.evictor_turn.Goals as goal
 pub pages-preserved : goal.pages-preserved
 pages-preserved g c = record {
   worker = record {
-    serves = c.pages.invariant.worker.serves;
-    carries = c.pages.invariant.worker.carries;
+    passes = c.pages.invariant.worker.passes;
     named = c.evict_one.ensures.goes.same.1 ∙ c.pages.invariant.worker.named;
     seated = c.evict_one.ensures.goes.same.0 ∙ c.pages.invariant.worker.seated;
   };
