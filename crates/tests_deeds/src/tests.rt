@@ -56,8 +56,8 @@ fn crossed<B: NamesDeeds>(
     ensures { Fits B.told device.new side.new }
 {
     let flush = desk.give(job(rt, alloc, Kind::Flush, 0, 0xaa));
-    let fill = desk.give(job(rt, alloc, Kind::Fill, 1, 9));
-    let filled = made(side, device, fill);
+    let fill = desk.give(job(rt, alloc, Kind::Fill, 1, 9)).unnamed();
+    let filled = made(side, device, fill.named::<B>());
     let flushed = made(side, device, flush);
     let (flushed, flushed_deed) = flushed.parts();
     let (filled, filled_deed) = filled.parts();
@@ -150,7 +150,11 @@ fn plays<B: NamesDeeds + Send>(
 /// What the two blocks have after the row, each by its first byte.
 fn played(rt: &impl Abort, alloc: Global, row: Row) -> (u8, u8) {
     let device = ScriptDevice::new(alloc, 16, 2).expect(rt, "a device");
-    let opened = Opened::over(alloc, &device).expect(rt, "memory");
+    let found = Opened::over(alloc, &device).expect(rt, "memory");
+    // A deed that is lent before there is a name comes back, and all is as it was.
+    let (lent, parcel) = found.lend(job(rt, alloc, Kind::Flush, 1, 0xcc));
+    check(rt, parcel.job().block() == BlockNo(1));
+    let opened = lent.restore(parcel);
     let mut device = Watched::over(device);
     plays::<Brand>(rt, alloc, opened, &mut device, row);
     let mut first = [9; 16];
