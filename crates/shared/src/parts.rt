@@ -112,8 +112,5 @@ fn ring_over<R: Wait, D: BlockDevice>(
         return Err(Refusal::BadConfig);
     }
     let deeds = sides::Opened::over(alloc, device)?;
-    let job = Ring::sample_job(alloc, name, geometry)?;
-    let (lent, sample) = deeds.lend(job);
-    let (ring, pass, sample) = Ring::new(rt, alloc, sample)?;
-    Ok((ring, pass, lent.restore(sample)))
+    Ring::over(rt, alloc, name, geometry, deeds)
 }
