@@ -15,6 +15,7 @@ ghost use Rattle.tied.specs.Tied.{IsCovered, IsHonest, Tied};
 ghost use Rattle.trail.specs.Honest.{world_over};
 ghost use Rattle.trail.specs.History.{After};
 ghost use Rattle.trail.specs.Room.{keeps_room, reserved};
+ghost use Rattle.held.specs.Called.{Only};
 ghost use Rattle.held.specs.Keeps.{IsLocked};
 ghost use Rattle.held.specs.Shown.{AreFresh, IsFresh};
 ghost use Rattle.held.specs.Views.{count_of};
@@ -192,6 +193,19 @@ impl<B: Naming, T: Trail> Held<B, T> {
         ensures legal { After B.sizes B.name self.old.log.history self.old.core.state }
     {
         self.recorder.level(pass)
+    }
+
+    /// Lets a seat see the history as it is. No event is made.
+    pub fn show(&mut self, seat: &mut Seat)
+        requires { seat.old.table ≡ B.table }
+        ensures same { self.new ≡ self.old }
+        ensures seen { seat.new ≡ record seat.old { list = self.old.log.history } }
+        ensures only { Only (λ _. ⊥) seat.old seat.new }
+        ensures legal { After B.sizes B.name seat.new.list self.old.core.state }
+    {
+        // Lends that the history is legal.
+        let _ = self.core();
+        self.log.show(seat);
     }
 
     /// Takes a pass back. What it knew begins what was recorded.

@@ -110,7 +110,11 @@ impl<B: Naming, D: BlockDevice, T: Trail> SharedCache<B, D, T> {
 
     /// Begins to write a page, of the first file that has one to write.
     #[tactic(auto, using(held::proofs::Seats::goes_same, crate::proofs::Ending::begins_first, crate::proofs::Ending::denied_begun, held::proofs::Seats::only_same, crate::proofs::Ending::begun_one, crate::proofs::Ending::unbegun, crate::proofs::Owning::only_begun, crate::proofs::Owning::only_begun_denied, crate::proofs::Carrying::begins_one, crate::proofs::Carrying::begins_none, crate::proofs::Settling::writes_begun))]
-    fn begin_flush<R: Wait>(&self, rt: &R, seat: &mut Seat) -> Result<Option<(Errand<B>, Slip)>, Denied>
+    fn begin_flush<R: Wait>(
+        &self,
+        rt: &R,
+        seat: &mut Seat,
+    ) -> Result<Option<(Errand<B>, Slip)>, Denied>
         requires { seat.old.table ≡ B.table }
         ensures goes { Goes seat.old seat.new }
         ensures only { Only (λ e. IsFlushBegin e.event) seat.old seat.new }
@@ -134,7 +138,12 @@ impl<B: Naming, D: BlockDevice, T: Trail> SharedCache<B, D, T> {
     }
 
     /// Makes a job's device call, ends its request, and wakes those who wait for an end.
-    pub(crate) fn end_job<R: Wait>(&self, rt: &R, seat: &mut Seat, job: Errand<B>) -> Result<Done, Denied>
+    pub(crate) fn end_job<R: Wait>(
+        &self,
+        rt: &R,
+        seat: &mut Seat,
+        job: Errand<B>,
+    ) -> Result<Done, Denied>
         requires seat { seat.old.table ≡ B.table }
         requires fits { IsJobFor B.name B.sizes.blocks B.sizes.page job }
         ensures goes { Goes seat.old seat.new }

@@ -164,10 +164,12 @@ module _ (sizes : Sizes) (name : ℕ) (blocks : List (List ℕ)) (history : List
     Writes g = g.task.kind ≡ Flush → finmap.get v.writing g.task.serial ≡ Some g.task.bytes
 
     unfolding Writes
+
     writes_now : Writes given
     writes_now flush = ap (finmap.get v.writing) serial_is ∙ written (sym kind_is ∙ flush)
 
     unfolding Writes
+
     writes_still : (k : ℕ) (g : Given) → slice_get places k ≡ Some (Out g) → Writes g
     writes_still k g at flush =
         let o = c.owned k g at in
@@ -176,6 +178,7 @@ module _ (sizes : Sizes) (name : ℕ) (blocks : List (List ℕ)) (history : List
 
     -- the deed of its block goes out with its task
     unfolding Writes
+
     pub tied_begun : Tied sizes name blocks (history ++ entry_of seat e (reply.Job u) ∷ []) next
         (slice_set places task.block (Out (record { task = task; before = home_in places task.block })))
     tied_begun = record {
