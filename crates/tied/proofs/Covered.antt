@@ -1,6 +1,6 @@
 -- Each step of the cache keeps its desk: the deed of a block is out while a request of it is in flight.
 use Rattle.std.proofs.Common.{◌≡◌, ◌≢◌, ℕ, ◌<◌, Bool, true, false, List, length, map, refl, ap, sym, subst, ◌∙◌, arith}
-use Rattle.std.proofs.Common.{inl, inr}
+use Rattle.std.proofs.Common.{[], ◌∷◌, suc, inl, inr}
 use Rattle.std.specs.Prelude.{◌⊎◌, Option, Some, None, slice_get, slice_set}
 use Rattle.std.specs.FinMap as finmap
 use Rattle.std.specs.FinMap.{get-empty}
@@ -233,7 +233,7 @@ module _ (core : State) (places : List Place) (c : IsCovered core places) where
       ends : Over core next u
       ends = over_of core next (event.End kind end) r end made step
 
-      owner : IsOwned core finished.block s.given
+      abbrev pub owner : IsOwned core finished.block s.given
       owner = c.owned finished.block s.given s.out
 
       given_serial : s.given.task.serial ≡ u

@@ -160,15 +160,11 @@ module _ (sizes : Sizes) (name : ℕ) (blocks : List (List ℕ)) (history : List
     written k = ap (λ o. finmap.get (put_some u.0 o w.writing) u.0) (to_write_is k)
         ∙ get-insert1 w.writing u.0 task.bytes u.0 ∙ put1_here (finmap.get w.writing) u.0 (Some task.bytes)
 
-    Writes : Given → Type 0
+    abbrev Writes : Given → Type 0
     Writes g = g.task.kind ≡ Flush → finmap.get v.writing g.task.serial ≡ Some g.task.bytes
-
-    unfolding Writes
 
     writes_now : Writes given
     writes_now flush = ap (finmap.get v.writing) serial_is ∙ written (sym kind_is ∙ flush)
-
-    unfolding Writes
 
     writes_still : (k : ℕ) (g : Given) → slice_get places k ≡ Some (Out g) → Writes g
     writes_still k g at flush =
@@ -177,8 +173,6 @@ module _ (sizes : Sizes) (name : ℕ) (blocks : List (List ℕ)) (history : List
         (older core places c sound e u next step x is g.task.serial o.x o.is) ∙ t.writes k g at flush
 
     -- the deed of its block goes out with its task
-    unfolding Writes
-
     pub tied_begun : Tied sizes name blocks (history ++ entry_of seat e (reply.Job u) ∷ []) next
         (slice_set places task.block (Out (record { task = task; before = home_in places task.block })))
     tied_begun = record {
@@ -214,8 +208,8 @@ module _ (sizes : Sizes) (name : ℕ) (blocks : List (List ℕ)) (history : List
     is_here : finmap.get w.core.requests u ≡ Some x
     is_here = ap (λ (z : State). finmap.get z.requests u) t.core_is ∙ asked
 
-    serial_is : s.given.task.serial ≡ u
-    serial_is = sym s.comes.serial ∙ ap (λ (z : End). z.serial.0) (sym of)
+    its_serial : s.given.task.serial ≡ u
+    its_serial = sym s.comes.serial ∙ ap (λ (z : End). z.serial.0) (sym of)
 
     task_kind : s.given.task.kind ≡ x.kind
     task_kind = ap (λ (a : Task). a.kind) own.task
@@ -227,7 +221,7 @@ module _ (sizes : Sizes) (name : ℕ) (blocks : List (List ℕ)) (history : List
         ∙ known_at places finished.block (Out s.given) s.out))
 
     writing_is : x.kind ≡ Flush → bytes_in (finmap.get w.writing u) ≡ s.given.task.bytes
-    writing_is k = ap (λ i. bytes_in (finmap.get w.writing i)) (sym serial_is)
+    writing_is k = ap (λ i. bytes_in (finmap.get w.writing i)) (sym its_serial)
         ∙ ap bytes_in (t.writes finished.block s.given s.out (task_kind ∙ k))
 
     fate_is : Fated w u x (outcome_of s.given.task.kind finished.outcome finished.bytes) s.left
