@@ -196,7 +196,7 @@ module _ (sizes : Sizes) (name : ℕ) (blocks : List (List ℕ)) (history : List
     abbrev u : ℕ
     u = end.serial.0
 
-    own : IsOwned core finished.block s.given
+    abbrev own : IsOwned core finished.block s.given
     own = owner core places c sound kind end r next made step told finished after s of
 
     abbrev x : Request
