@@ -160,14 +160,12 @@ module _ (sizes : Sizes) (name : ℕ) (blocks : List (List ℕ)) (history : List
     written k = ap (λ o. finmap.get (put_some u.0 o w.writing) u.0) (to_write_is k)
         ∙ get-insert1 w.writing u.0 task.bytes u.0 ∙ put1_here (finmap.get w.writing) u.0 (Some task.bytes)
 
-    Writes : Given → Type 0
+    abbrev Writes : Given → Type 0
     Writes g = g.task.kind ≡ Flush → finmap.get v.writing g.task.serial ≡ Some g.task.bytes
 
-    unfolding Writes
     writes_now : Writes given
     writes_now flush = ap (finmap.get v.writing) serial_is ∙ written (sym kind_is ∙ flush)
 
-    unfolding Writes
     writes_still : (k : ℕ) (g : Given) → slice_get places k ≡ Some (Out g) → Writes g
     writes_still k g at flush =
         let o = c.owned k g at in
@@ -175,7 +173,6 @@ module _ (sizes : Sizes) (name : ℕ) (blocks : List (List ℕ)) (history : List
         (older core places c sound e u next step x is g.task.serial o.x o.is) ∙ t.writes k g at flush
 
     -- the deed of its block goes out with its task
-    unfolding Writes
     pub tied_begun : Tied sizes name blocks (history ++ entry_of seat e (reply.Job u) ∷ []) next
         (slice_set places task.block (Out (record { task = task; before = home_in places task.block })))
     tied_begun = record {
