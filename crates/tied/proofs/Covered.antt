@@ -1,6 +1,6 @@
 -- Each step of the cache keeps its desk: the deed of a block is out while a request of it is in flight.
 use Rattle.std.proofs.Common.{◌≡◌, ◌≢◌, ℕ, ◌<◌, Bool, true, false, List, length, map, refl, ap, sym, subst, ◌∙◌, arith}
-use Rattle.std.proofs.Common.{inl, inr}
+use Rattle.std.proofs.Common.{[], ◌∷◌, suc, inl, inr}
 use Rattle.std.specs.Prelude.{◌⊎◌, Option, Some, None, slice_get, slice_set}
 use Rattle.std.specs.FinMap as finmap
 use Rattle.std.specs.FinMap.{get-empty}
@@ -227,73 +227,73 @@ module _ (core : State) (places : List Place) (c : IsCovered core places) where
       (made : end_made (event.End kind end) r ≡ Some end) (step : Step core (event.End kind end) r next) (told : Bool)
       (finished : FinishedTask) (after : List Place) (s : Settles told places finished after) (of : end ≡ end_of finished)
     where
-    abbrev u : ℕ
-    u = end.serial.0
+      abbrev u : ℕ
+      u = end.serial.0
 
-    ends : Over core next u
-    ends = over_of core next (event.End kind end) r end made step
+      ends : Over core next u
+      ends = over_of core next (event.End kind end) r end made step
 
-    owner : IsOwned core finished.block s.given
-    owner = c.owned finished.block s.given s.out
+      abbrev pub owner : IsOwned core finished.block s.given
+      owner = c.owned finished.block s.given s.out
 
-    given_serial : s.given.task.serial ≡ u
-    given_serial = sym s.comes.serial ∙ ap (λ (z : End). z.serial.0) (sym of)
+      given_serial : s.given.task.serial ≡ u
+      given_serial = sym s.comes.serial ∙ ap (λ (z : End). z.serial.0) (sym of)
 
-    -- it is the request that the deed was given for
-    pub ends_own : finmap.get core.requests u ≡ Some owner.x
-    ends_own = ap (finmap.get core.requests) (sym given_serial) ∙ owner.is
+      -- it is the request that the deed was given for
+      pub ends_own : finmap.get core.requests u ≡ Some owner.x
+      ends_own = ap (finmap.get core.requests) (sym given_serial) ∙ owner.is
 
-    request_at : (i : ℕ) → finmap.get next.requests i ≡ put1 (finmap.get core.requests) u None i
-    request_at i = ap (λ m. finmap.get m i) ends.requests ∙ get-remove1 core.requests u i
+      request_at : (i : ℕ) → finmap.get next.requests i ≡ put1 (finmap.get core.requests) u None i
+      request_at i = ap (λ m. finmap.get m i) ends.requests ∙ get-remove1 core.requests u i
 
-    stays : (i : ℕ) (y : Request) → i ≢ u → finmap.get core.requests i ≡ Some y → finmap.get next.requests i ≡ Some y
-    stays i y other was = request_at i ∙ put1_else (finmap.get core.requests) u None i other ∙ was
+      stays : (i : ℕ) (y : Request) → i ≢ u → finmap.get core.requests i ≡ Some y → finmap.get next.requests i ≡ Some y
+      stays i y other was = request_at i ∙ put1_else (finmap.get core.requests) u None i other ∙ was
 
-    apart : (i : ℕ) (y : Request) → i ≢ u → finmap.get core.requests i ≡ Some y → y.block ≢ finished.block
-    apart i y other was same = other (sound.requests_apart i u y owner.x was ends_own (same ∙ sym owner.block_is))
+      apart : (i : ℕ) (y : Request) → i ≢ u → finmap.get core.requests i ≡ Some y → y.block ≢ finished.block
+      apart i y other was same = other (sound.requests_apart i u y owner.x was ends_own (same ∙ sym owner.block_is))
 
-    asked_left : (i : ℕ) (y : Request) → i ≢ u → finmap.get core.requests i ≡ Some y → IsGiven next after y.block i y
-    asked_left i y other was =
-        let g = c.asked i y was in record {
-          given = g.given;
-          out = ap (λ l. slice_get l y.block) s.home
-              ∙ set_else places finished.block y.block (Home s.left) (Out g.given) (apart i y other was) g.out;
-          task = g.task ∙ ap (λ n. task_of n i y g.given.task.bytes) (sym ends.name);
-        }
+      asked_left : (i : ℕ) (y : Request) → i ≢ u → finmap.get core.requests i ≡ Some y → IsGiven next after y.block i y
+      asked_left i y other was =
+          let g = c.asked i y was in record {
+            given = g.given;
+            out = ap (λ l. slice_get l y.block) s.home
+                ∙ set_else places finished.block y.block (Home s.left) (Out g.given) (apart i y other was) g.out;
+            task = g.task ∙ ap (λ n. task_of n i y g.given.task.bytes) (sym ends.name);
+          }
 
-    -- the serials of other deeds are others
-    pub other_serial : (k : ℕ) (g : Given) → k ≢ finished.block → slice_get places k ≡ Some (Out g) → g.task.serial ≢ u
-    other_serial k g other at same =
-        let o = c.owned k g at in
-        let x_is : o.x ≡ owner.x = same_value (finmap.get core.requests u) o.x owner.x
-        (ap (finmap.get core.requests) (sym same) ∙ o.is) ends_own in
-        other (sym o.block_is ∙ ap (λ (z : Request). z.block) x_is ∙ owner.block_is)
+      -- the serials of other deeds are others
+      pub other_serial : (k : ℕ) (g : Given) → k ≢ finished.block → slice_get places k ≡ Some (Out g) → g.task.serial ≢ u
+      other_serial k g other at same =
+          let o = c.owned k g at in
+          let x_is : o.x ≡ owner.x = same_value (finmap.get core.requests u) o.x owner.x
+          (ap (finmap.get core.requests) (sym same) ∙ o.is) ends_own in
+          other (sym o.block_is ∙ ap (λ (z : Request). z.block) x_is ∙ owner.block_is)
 
-    owned_left : (k : ℕ) (g : Given) → k ≢ finished.block → slice_get places k ≡ Some (Out g) → IsOwned next k g
-    owned_left k g other at =
-        let o = c.owned k g at in record {
-          x = o.x;
-          is = stays g.task.serial o.x (other_serial k g other at) o.is;
-          block_is = o.block_is;
-          task = o.task ∙ ap (λ n. task_of n g.task.serial o.x g.task.bytes) (sym ends.name);
-        }
+      owned_left : (k : ℕ) (g : Given) → k ≢ finished.block → slice_get places k ≡ Some (Out g) → IsOwned next k g
+      owned_left k g other at =
+          let o = c.owned k g at in record {
+            x = o.x;
+            is = stays g.task.serial o.x (other_serial k g other at) o.is;
+            block_is = o.block_is;
+            task = o.task ∙ ap (λ n. task_of n g.task.serial o.x g.task.bytes) (sym ends.name);
+          }
 
-    -- a deed that is still out was out before, of another block
-    pub still_out : (k : ℕ) (g : Given) → slice_get after k ≡ Some (Out g)
-        → (k ≢ finished.block) × (slice_get places k ≡ Some (Out g))
-    still_out k g at =
-        elim (get_set places finished.block k (Home s.left) (Out g) (ap (λ l. slice_get l k) (sym s.home) ∙ at)) [
-          | inl a ↦ absurd (home_not_out s.left g a.1)
-          | inr a ↦ a
-        ]
+      -- a deed that is still out was out before, of another block
+      pub still_out : (k : ℕ) (g : Given) → slice_get after k ≡ Some (Out g)
+          → (k ≢ finished.block) × (slice_get places k ≡ Some (Out g))
+      still_out k g at =
+          elim (get_set places finished.block k (Home s.left) (Out g) (ap (λ l. slice_get l k) (sym s.home) ∙ at)) [
+            | inl a ↦ absurd (home_not_out s.left g a.1)
+            | inr a ↦ a
+          ]
 
-    pub covered_back : IsCovered next after
-    covered_back = record {
-      count = ap length s.home ∙ length-set places finished.block (Home s.left) ∙ c.count
-          ∙ ap (λ (z : Sizes). z.blocks) (sym ends.sizes);
-      asked = λ i y at. elim (put1_tells (finmap.get core.requests) u None i) [
-        | inl a ↦ absurd (let j : None ≡ Some y = sym a.1 ∙ sym (request_at i) ∙ at in cc)
-        | inr a ↦ asked_left i y a.0 (sym a.1 ∙ sym (request_at i) ∙ at)
-      ];
-      owned = λ k g at. let a = still_out k g at in owned_left k g a.0 a.1;
-    }
+      pub covered_back : IsCovered next after
+      covered_back = record {
+        count = ap length s.home ∙ length-set places finished.block (Home s.left) ∙ c.count
+            ∙ ap (λ (z : Sizes). z.blocks) (sym ends.sizes);
+        asked = λ i y at. elim (put1_tells (finmap.get core.requests) u None i) [
+          | inl a ↦ absurd (let j : None ≡ Some y = sym a.1 ∙ sym (request_at i) ∙ at in cc)
+          | inr a ↦ asked_left i y a.0 (sym a.1 ∙ sym (request_at i) ∙ at)
+        ];
+        owned = λ k g at. let a = still_out k g at in owned_left k g a.0 a.1;
+      }

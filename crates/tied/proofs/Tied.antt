@@ -196,7 +196,7 @@ module _ (sizes : Sizes) (name : ℕ) (blocks : List (List ℕ)) (history : List
     abbrev u : ℕ
     u = end.serial.0
 
-    own : IsOwned core finished.block s.given
+    abbrev own : IsOwned core finished.block s.given
     own = owner core places c sound kind end r next made step told finished after s of
 
     abbrev x : Request
@@ -208,8 +208,8 @@ module _ (sizes : Sizes) (name : ℕ) (blocks : List (List ℕ)) (history : List
     is_here : finmap.get w.core.requests u ≡ Some x
     is_here = ap (λ (z : State). finmap.get z.requests u) t.core_is ∙ asked
 
-    serial_is : s.given.task.serial ≡ u
-    serial_is = sym s.comes.serial ∙ ap (λ (z : End). z.serial.0) (sym of)
+    its_serial : s.given.task.serial ≡ u
+    its_serial = sym s.comes.serial ∙ ap (λ (z : End). z.serial.0) (sym of)
 
     task_kind : s.given.task.kind ≡ x.kind
     task_kind = ap (λ (a : Task). a.kind) own.task
@@ -221,7 +221,7 @@ module _ (sizes : Sizes) (name : ℕ) (blocks : List (List ℕ)) (history : List
         ∙ known_at places finished.block (Out s.given) s.out))
 
     writing_is : x.kind ≡ Flush → bytes_in (finmap.get w.writing u) ≡ s.given.task.bytes
-    writing_is k = ap (λ i. bytes_in (finmap.get w.writing i)) (sym serial_is)
+    writing_is k = ap (λ i. bytes_in (finmap.get w.writing i)) (sym its_serial)
         ∙ ap bytes_in (t.writes finished.block s.given s.out (task_kind ∙ k))
 
     fate_is : Fated w u x (outcome_of s.given.task.kind finished.outcome finished.bytes) s.left
