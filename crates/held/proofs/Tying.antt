@@ -1,8 +1,7 @@
 -- One event more keeps the history tied to the device.
-use Rattle.std.proofs.Common.{◌≡◌, ◌≢◌, ℕ, ◌<◌, Bool, true, false, List, [], ◌∷◌, ◌++◌, map, refl, ap, sym, subst, ◌∙◌}
+use Rattle.std.proofs.Common.{◌≡◌, ◌≢◌, ℕ, ◌<◌, Bool, true, false, List, [], ◌∷◌, ◌++◌, length, map, refl, ap, sym, subst, ◌∙◌}
 use Rattle.std.specs.Prelude.{Option, Some, None, Result, Ok, Err}
 use Rattle.std.specs.FinMap as finmap
-use Rattle.atomic_table.specs.Seated.{TableId}
 use Rattle.blockdev.specs.Jobs.{Task, FinishedTask, IsJobFor}
 use Rattle.cachecore.specs.declared.answers.Ended.{Ended}
 use Rattle.cachecore.specs.declared.answers.Ended.TheVariants as ended
@@ -17,11 +16,13 @@ use Rattle.cachecore.specs.declared.answers.SyncStepped.TheVariants as sync
 use Rattle.cachecore.specs.Replies.{IsFillJob, IsFlushJob, IsSyncJob, OnFillJob, OnFlushJob, OnSyncJob}
 use Rattle.cachecore.specs.Replies.{end_of, fill_begun, flush_begun, sync_stepped}
 use Rattle.deeds.specs.declared.views.Place.{Place}
+use Rattle.deeds.specs.declared.views.Place.TheVariants.{Home}
 use Rattle.machine.specs.declared.event.End.{End}
 use Rattle.machine.specs.declared.event.Event.{Event}
 use Rattle.machine.specs.declared.event.Event.TheVariants as event
 use Rattle.machine.specs.declared.event.Reply.{Reply}
 use Rattle.machine.specs.declared.event.Reply.TheVariants as reply
+use Rattle.machine.specs.History.{no_files}
 use Rattle.machine.specs.Sound.{Sound}
 use Rattle.machine.specs.State.{State, Request}
 use Rattle.machine.specs.Step.{Step}
@@ -31,15 +32,16 @@ use Rattle.pc_types.specs.declared.ids.HandleId.{HandleId}
 use Rattle.pc_types.specs.declared.ids.PageIndex.{PageIndex}
 use Rattle.pc_types.specs.declared.kind.Kind.{Kind}
 use Rattle.pc_types.specs.declared.kind.Kind.TheVariants.{Fill, Flush}
+use Rattle.runs.specs.Runs.{IsFirst}
 use Rattle.runs.proofs.moments.KeptRequests.{is_job}
 use Rattle.tied.specs.Tied.{IsTaskOf, IsTied}
-use Rattle.tied.proofs.Kept.{kept_back, kept_begun, kept_home, kept_plain, kept_refused}
+use Rattle.tied.proofs.Kept.{kept_back, kept_begun, kept_first, kept_home, kept_plain, kept_refused}
 use Rattle.tied.proofs.Tasks.{fill_task, flush_task}
 use Rattle.tied.proofs.Tied.{none_made}
 use Rattle.trail.specs.declared.entry.Entry.{Entry}
 use Rattle.trail.specs.Entries.{entry_of}
 use Rattle.trail.specs.History.{seatless}
-use Rattle.trail.specs.Honest.{end_made}
+use Rattle.trail.specs.Honest.{end_made, world_over}
 use Rattle.held.specs.declared.log.Slip.{Slip}
 use Rattle.held.specs.Entered.{Made}
 use Rattle.held.specs.Kept.{IsHeld}
@@ -208,3 +210,13 @@ pub on_ended : {old new : HeldSeen} {before after : SeatSeen} {slip : Slip} {tol
 on_ended {old} {new} {before} {after} {slip} {told} {sizes} {name} {blocks} {places} kind a finished stub desk m held i is s =
     tied_ended told sizes name blocks old new places held i before after slip kind a finished desk
     (subst (λ f. Returns told places f a desk) is s) m
+
+-- ---- a cache without files
+
+pub opens_tied : (told : Bool) (sizes : Sizes) (name : ℕ) (blocks : List (List ℕ)) (history : List Entry) (core : State)
+    (places : List Place) → history ≡ [] → core ≡ no_files sizes name → places ≡ map Home blocks
+    → length blocks ≡ sizes.blocks → (told ≡ true → IsFirst (world_over sizes name blocks))
+    → IsTied told sizes name blocks history core places
+opens_tied told sizes name blocks history core places empty first home count tells =
+    subst (λ (x : List Entry × State × List Place). IsTied told sizes name blocks x.0 x.1 x.2)
+    (λ j. (sym empty j, sym first j, sym home j)) (kept_first told sizes name blocks count tells)

@@ -6,5 +6,5 @@ use Rattle.tests_held.proofs.tests.fills.Goals as goal
 
 pub fill_end-ended-requires-clause-size : goal.fill_end-ended-requires-clause-size
 fill_end-ended-requires-clause-size g c =
-    c.made-finished.ensures ∙ ap (λ (x : Core). x.state.sizes.page) c.core.ensures.core
+    c.made-report.ensures ∙ ap (λ (x : Core). x.state.sizes.page) c.core.ensures.core
     ∙ ap (λ (z : Sizes). z.page) (after_sized _ _ _ _ c.core.ensures.named)

@@ -8,4 +8,7 @@ ghosts-by_two_seats g a = record {
   board = a.opened.errors.board;
   sizes = a.opened.core.state.sizes;
   seats = a.opened.log.made;
+  blocks = a.deeds.blocks;
+  deeds = a.deeds.table;
+  told = a.deeds.told;
 }
