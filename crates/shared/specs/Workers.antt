@@ -1,12 +1,12 @@
 -- Workers, and what their turns make.
 use Rattle.std.specs.FinMap as map
 use Rattle.std.specs.Prelude.{map as each}
-use Rattle.std.specs.Prelude.{◌≡◌, ◌≢◌, ◌⊎◌, ◌==◌, ◌&&◌, ◌++◌, ◌∷◌, [], All, Any, ℕ, Bool, true, false, List, IfSome, Ok, Result, None, Some, count_by, if◌then◌else◌, is_some}
+use Rattle.std.specs.Prelude.{◌≡◌, ◌≢◌, ◌⊎◌, ◌≤◌, ◌==◌, ◌&&◌, ◌++◌, ◌∷◌, [], All, Any, ℕ, Bool, true, false, List, IfSome, Ok, Result, None, Some, count_by, if◌then◌else◌, is_some}
 use mathlib.Core.List.{IsPrefix}
 use Rattle.atomic_table.specs.Seated.{TableId}
 use Rattle.blockdev.specs.Jobs.{Task}
 use Rattle.cachecore.specs.Replies.{IsFlushJob}
-use Rattle.cachecore.specs.Wants.{IsFirstToWrite}
+use Rattle.cachecore.specs.Wants.{IsFirstToWrite, NothingToWrite}
 use Rattle.cachecore.specs.declared.answers.FlushBegun.TheVariants as flush
 use Rattle.crossbeam_queue.specs.Fifo.{Held}
 use Rattle.crossbeam_queue.specs.Passes.{Pass, view}
@@ -15,8 +15,9 @@ use Rattle.machine.specs.declared.event.Event.{Event}
 use Rattle.machine.specs.declared.event.Event.TheVariants as event
 use Rattle.machine.specs.declared.event.Reply.{Reply}
 use Rattle.machine.specs.declared.event.Reply.TheVariants as reply
-use Rattle.machine.specs.State.{Request, State}
+use Rattle.machine.specs.State.{Request, State, free_frames}
 use Rattle.machine.specs.Step.{Step}
+use Rattle.machine.specs.Tests.{has_idle}
 use Rattle.pc_types.specs.Limits.{Sizes}
 use Rattle.pc_types.specs.declared.ids.FileId.{FileId}
 use Rattle.pc_types.specs.declared.kind.Kind.{Kind}
@@ -129,9 +130,23 @@ abbrev pub IsFlushBegin : Event → Type 0
 IsFlushBegin (event.FlushBegin file) = Unit {0}
 IsFlushBegin e = ⊥
 
+-- the seat saw a history after which no file has a page to write, and made no event
+pub record FindsNothing (sizes : Sizes) (name : ℕ) (before after : SeatSeen) : Type 0 where
+  pub same : after ≡ record before { list = after.list }
+  pub only : Only (λ _. ⊥) before after
+  pub state : State
+  pub leaves : After sizes name after.list state
+  pub nothing : NothingToWrite state
+
+-- the seat saw a history after which so many frames are free, or no page is idle
+pub record FindsEnough (frames : ℕ) (sizes : Sizes) (name : ℕ) (seat : SeatSeen) : Type 0 where
+  pub state : State
+  pub leaves : After sizes name seat.list state
+  pub enough : (frames ≤ free_frames state) ⊎ (has_idle state ≡ false)
+
 -- what a turn of a flusher did. The job of the write that it began lies in the ring, or its end was made, or refused
 abbrev pub IsFlushed : Sizes → ℕ → Worker → Worker → Flushed → Type 0
-IsFlushed sizes name old new flushed.Nothing = (new.seat ≡ old.seat) × (pushed_by new ≡ pushed_by old)
+IsFlushed sizes name old new flushed.Nothing = FindsNothing sizes name old.seat new.seat × (pushed_by new ≡ pushed_by old)
 IsFlushed sizes name old new (flushed.Pushed serial slip) =
     (job : Task) × (job.serial ≡ serial.0) × Begins sizes name job old.seat new.seat slip
     × (pushed_by new ≡ pushed_by old ++ job ∷ [])

@@ -8,7 +8,7 @@ ghost use Rattle.held.specs.Called.{Goes, Only};
 ghost use Rattle.ring.specs.Order.{Stands};
 ghost use Rattle.shared.specs.Denials.{IsDenied, IsFullIfNoSlip, MadeOne};
 ghost use Rattle.shared.specs.Settled.{EndsOwn, IsBegun, IsEnded};
-ghost use Rattle.shared.specs.Workers.{AllCarried, Begins, Ends, FailsOwn, IsEnd, IsEndOf, IsFlushBegin, IsFlushed, IsOwnFailure, IsWorkerOf, IsWriteBack, OnBegun, entered_in, is_unended, popped_by, pushed_by, seat_of};
+ghost use Rattle.shared.specs.Workers.{AllCarried, Begins, Ends, FailsOwn, FindsNothing, IsEnd, IsEndOf, IsFlushBegin, IsFlushed, IsOwnFailure, IsWorkerOf, IsWriteBack, OnBegun, entered_in, is_unended, popped_by, pushed_by, seat_of};
 
 use crate::cache::SharedCache;
 use crate::ends::{Done, carry_through};
@@ -71,7 +71,7 @@ impl<B: Naming, D: BlockDevice, T: Trail> SharedCache<B, D, T> {
     /// One turn of a flusher: it begins to write the lowest page of the first file that has one to write, and puts the job into the
     /// ring. Where the ring is full it makes the device call itself, for which the gate is entered with the job's serial. Refused
     /// only where no write was begun.
-    #[tactic(auto, using(held::proofs::Seats::goes_same, held::proofs::Seats::goes_on, crate::proofs::Ending::begins_then, crate::proofs::Ending::ends_on, held::proofs::Seats::only_same, crate::proofs::Owning::only_flushed, crate::proofs::Owning::only_begins, crate::proofs::Carrying::none_carried, crate::proofs::Settling::own_begins))]
+    #[tactic(auto, using(held::proofs::Seats::goes_same, crate::proofs::Finding::nothing_carried, crate::proofs::Finding::none_counted, held::proofs::Seats::goes_on, crate::proofs::Ending::begins_then, crate::proofs::Ending::ends_on, held::proofs::Seats::only_same, crate::proofs::Owning::only_flushed, crate::proofs::Owning::only_begins, crate::proofs::Carrying::none_carried, crate::proofs::Settling::own_begins))]
     pub fn flusher_turn<R: Wait, G: Gate>(
         &self,
         rt: &R,
@@ -109,7 +109,7 @@ impl<B: Naming, D: BlockDevice, T: Trail> SharedCache<B, D, T> {
     }
 
     /// Begins to write a page, of the first file that has one to write.
-    #[tactic(auto, using(held::proofs::Seats::goes_same, crate::proofs::Ending::begins_first, crate::proofs::Ending::denied_begun, held::proofs::Seats::only_same, crate::proofs::Ending::begun_one, crate::proofs::Ending::unbegun, crate::proofs::Owning::only_begun, crate::proofs::Owning::only_begun_denied, crate::proofs::Carrying::begins_one, crate::proofs::Carrying::begins_none, crate::proofs::Settling::writes_begun))]
+    #[tactic(auto, using(held::proofs::Seats::goes_same, held::proofs::Seats::goes_on, held::proofs::Seats::goes_shown, held::proofs::Seats::only_any, crate::proofs::Finding::finds_nothing, crate::proofs::Ending::begins_first, crate::proofs::Ending::denied_begun, held::proofs::Seats::only_same, crate::proofs::Ending::begun_one, crate::proofs::Ending::unbegun, crate::proofs::Owning::only_begun, crate::proofs::Owning::only_begun_denied, crate::proofs::Carrying::begins_one, crate::proofs::Carrying::begins_none, crate::proofs::Settling::writes_begun))]
     fn begin_flush<R: Wait>(
         &self,
         rt: &R,
@@ -118,7 +118,7 @@ impl<B: Naming, D: BlockDevice, T: Trail> SharedCache<B, D, T> {
         requires { seat.old.table ≡ B.table }
         ensures goes { Goes seat.old seat.new }
         ensures only { Only (λ e. IsFlushBegin e.event) seat.old seat.new }
-        ensures idle { IfOk result (λ o. IfNone o (seat.new ≡ seat.old)) }
+        ensures idle { IfOk result (λ o. IfNone o (FindsNothing B.sizes B.name seat.old seat.new)) }
         ensures one { IfOk result (λ o. IfSome o (λ r. MadeOne (Some r.1) seat.old seat.new)) }
         ensures begun { IfOk result (λ o. IfSome o (λ r. Begins B.sizes B.name r.0 seat.old seat.new r.1)) }
         ensures alone { IfOk result (λ o. IfSome o (λ r. Only (λ e. OnBegun (λ t. t ≡ r.0.serial) e.event e.reply) seat.old seat.new)) }
@@ -134,7 +134,14 @@ impl<B: Naming, D: BlockDevice, T: Trail> SharedCache<B, D, T> {
         let mut guard = self.state.lock(rt);
         // Lends that the history is legal.
         let _ = guard.core();
-        guard.flush_first(seat, buffer)
+        match guard.flush_first(seat, buffer) {
+            Ok(Some(begun)) => Ok(Some(begun)),
+            Ok(None) => {
+                guard.show(seat);
+                Ok(None)
+            }
+            Err(denied) => Err(denied),
+        }
     }
 
     /// Makes a job's device call, ends its request, and wakes those who wait for an end.
