@@ -77,8 +77,14 @@ impl<B: Naming> Caller<B> {
         let mut refused = Refused::none();
         open_files(rt, cache, &mut member, &mut files, &mut refused);
         for number in 0..count {
-            if let Some(denied) = make_call(rt, cache, &mut member, &mut files, &mut steps, number)
-            {
+            if let Some(denied) = make_call(
+                rt,
+                cache,
+                &mut member,
+                &mut files,
+                &mut steps,
+                number,
+            ) {
                 refused.count(denied.refusal);
                 if let Some(slip) = crowded_by(&denied) {
                     let _ = crowded.push(slip);

@@ -45,10 +45,10 @@ const FRAMES: u64 = 64;
 
 const DIRTY_LIMIT: u64 = 24;
 
-/// The most events of the trail, and bytes of all of them.
-const EVENTS: u64 = 65_536;
+/// The most events of the trail, and bytes of all of them. The greatest storm has some 86,000 events, and 1.9 million bytes.
+const EVENTS: u64 = 262_144;
 
-const BYTES: u64 = 4_194_304;
+const BYTES: u64 = 8_388_608;
 
 /// The cache's name.
 const NAME: u64 = 1;
@@ -126,11 +126,7 @@ pub fn run_storm<R: Threads + Wait + Files<File = File> + Sync, W: Write, E: Wri
 }
 
 /// What is found of a storm. Which entry is odd, if one is, is said on `err`.
-fn findings_of<E: Write>(
-    alloc: Global,
-    after: Aftermath,
-    err: &mut E,
-) -> Result<Findings, Fault> {
+fn findings_of<E: Write>(alloc: Global, after: Aftermath, err: &mut E) -> Result<Findings, Fault> {
     let refused = after.refused;
     let device = after.device;
     match odd_in(alloc, after) {
@@ -259,11 +255,7 @@ fn unplayed<D: BlockDevice>(left: Left<D>) -> Aftermath {
 }
 
 /// A storm whose history is played again, over copies of its device as that was before.
-fn played<D: BlockDevice>(
-    alloc: Global,
-    left: Left<D>,
-    copies: Copies,
-) -> Result<Aftermath, Fault>
+fn played<D: BlockDevice>(alloc: Global, left: Left<D>, copies: Copies) -> Result<Aftermath, Fault>
     requires sized { (fits left.geometry copies.one ≡ true) × (fits left.geometry copies.other ≡ true) }
     requires told { (is_some copies.one.contents ≡ true) × (is_some copies.other.contents ≡ true) }
 {
@@ -307,13 +299,15 @@ fn keeping_of(trail: &FullTrail, verdict: Verdict) -> Keeping {
         Verdict::AllAlike => Keeping::Kept,
         Verdict::Unlike(block) => Keeping::Lost(block),
         Verdict::OddEntry(place) => match trail.entry(place) {
-            Some((
-                Entry {
-                    event: Event::End(_, end),
-                    ..
-                },
-                _,
-            )) => Keeping::Lost(u64::from(end.block.0)),
+            Some(
+                (
+                    Entry {
+                        event: Event::End(_, end),
+                        ..
+                    },
+                    _,
+                ),
+            ) => Keeping::Lost(u64::from(end.block.0)),
             _ => Keeping::Odd(place),
         },
     }
@@ -351,7 +345,8 @@ fn history<B: Naming + Send + Sync, D: BlockDevice + Send, R: Threads + Wait + S
     let callers = (seats.len() as u64).saturating_sub(WORKERS);
     let (cache, mut own) = SharedCache::<B, D, FullTrail>::of(alloc, parts);
     let members = members_of(alloc, seats);
-    let Some((seats, mut denials)) = take_part(rt, alloc, &cache, &mut own, members, steps, seed) else {
+    let Some((seats, mut denials)) = take_part(rt, alloc, &cache, &mut own, members, steps, seed)
+    else {
         // each by a call, since the check is slow where a cache goes out of scope
         drop(cache);
         drop(own);
@@ -379,14 +374,16 @@ fn history<B: Naming + Send + Sync, D: BlockDevice + Send, R: Threads + Wait + S
 /// Counts the refusals of workers, whose seats come after those of so many callers.
 fn count_workers(trail: &FullTrail, callers: u64, refused: &mut Refused) {
     for place in 0..trail.len() {
-        if let Some((
-            Entry {
-                seat,
-                reply: Reply::Refused(refusal),
-                ..
-            },
-            _,
-        )) = trail.entry(place)
+        if let Some(
+            (
+                Entry {
+                    seat,
+                    reply: Reply::Refused(refusal),
+                    ..
+                },
+                _,
+            ),
+        ) = trail.entry(place)
         {
             if *seat >= callers {
                 refused.count(*refusal);
@@ -460,8 +457,7 @@ fn parted<B: Naming>(
         member,
         crowded,
         refused: more,
-    } in done?
-    {
+    } in done? {
         members.push(member).ok()?;
         all.extend_from_slice(&crowded).ok()?;
         refused.add(&more);

@@ -36,14 +36,6 @@ impl Refused {
         self.times[place] = self.times[place].saturating_add(1);
     }
 
-    /// How often calls were refused by this number.
-    pub fn of(&self, number: u64) -> u64 {
-        match (number as usize).checked_sub(1) {
-            Some(place) => self.times.get(place).copied().unwrap_or(0),
-            None => 0,
-        }
-    }
-
     /// Counts what another one counted.
     pub fn add(&mut self, other: &Refused) {
         for (place, times) in other.times.iter().enumerate() {

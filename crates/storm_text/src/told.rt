@@ -102,11 +102,7 @@ fn tell_findings<W: Write, E: Write>(
     }
 }
 
-fn print_lines<W: Write>(
-    out: &mut Printer<W>,
-    calls: u64,
-    findings: &Findings,
-) -> Result<(), Stop>
+fn print_lines<W: Write>(out: &mut Printer<W>, calls: u64, findings: &Findings) -> Result<(), Stop>
     ensures fault { IfErr result IsPrintFault }
     ensures printed { OnOk result (Appends (W.contents out.old.writer) (W.contents out.new.writer) (lines_told calls findings.now)) }
     ensures begun { OnErr result (AppendsPart (W.contents out.old.writer) (W.contents out.new.writer) (lines_told calls findings.now)) }
