@@ -172,6 +172,7 @@ pub fn storm<R: Threads + Wait + Files<File = File> + Sync>(
 }
 
 /// Runs a storm over a device of blocks of 64 bytes. The history is played again over copies of it.
+#[tactic(auto, using(crate::proofs::Copying::copies_fit))]
 pub fn storm_over<R: Threads + Wait + Sync, D: BlockDevice + Send>(
     rt: &R,
     alloc: Global,

@@ -1,1 +1,4 @@
 mod OneNumber
+mod Numbers
+mod Counting
+mod Parts
