@@ -1,5 +1,5 @@
 -- Copies of the device of a storm.
-use Rattle.std.proofs.Common.{◌≡◌, ℕ, Bool, true, ◌∙◌, sym, eqb, eq-eqb}
+use Rattle.std.proofs.Common.{◌≡◌, ℕ, Bool, true, false, ◌∙◌, sym, eqb, eq-eqb}
 use Rattle.std.specs.Prelude.{◌&&◌}
 use Rattle.blockdev.specs.Device.{Told}
 use Rattle.pc_types.specs.Limits.{Sizes}

@@ -16,8 +16,8 @@ pub counted_more : (times : List ℕ) (k d : ℕ) → k < length times
     → counted_from 1 (take k times) ++ counted (k + 1) (get_or times k d) ≡ counted_from 1 (take (k + 1) times)
 counted_more times k d below =
     sym (
-      ap (counted_from 1) (take_more times k d below)
-      ∙ counted_last (take k times) 1 (get_or times k d)
-      ∙ ap (λ m. counted_from 1 (take k times) ++ counted m (get_or times k d))
-          (let e = length-take-le k times (omega (arith, below)) in omega (arith, e))
+    ap (counted_from 1) (take_more times k d below)
+    ∙ counted_last (take k times) 1 (get_or times k d)
+    ∙ ap (λ m. counted_from 1 (take k times) ++ counted m (get_or times k d))
+    (let e = length-take-le k times (omega (arith, below)) in omega (arith, e))
     )

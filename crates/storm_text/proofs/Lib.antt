@@ -2,3 +2,4 @@ mod OneNumber
 mod Numbers
 mod Counting
 mod Parts
+mod Adding

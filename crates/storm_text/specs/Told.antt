@@ -1,6 +1,6 @@
 -- What a storm prints, and the status that it ends with.
 use Rattle.std.specs.Prelude.{◌≡◌, ◌⊎◌, ◌*◌, ◌+◌, ◌++◌, ◌==◌, ◌&&◌, ℕ, Bool, true, false, List, [], ◌∷◌, Option, Result, Ok, Err}
-use Rattle.std.specs.Prelude.{codes, decimal, if◌then◌else◌}
+use Rattle.std.specs.Prelude.{codes, decimal, if◌then◌else◌, ◌<◌, ◌-◌, ◌^◌, min, slice_index_or}
 use Rattle.std.specs.List.{list_all}
 use Rattle.std.specs.Io.KnownBytes.{Appends, Keeps}
 use denote.Ref.{Bor}
@@ -24,6 +24,12 @@ abbrev pub replay_text : Bool → List ℕ
 replay_text replays = if replays then codes "replay yes" else codes "replay no"
 
 -- ---- the refusals
+
+-- how often by each number of two counts together, up to the greatest number of 64 bits
+abbrev pub AreAdded : List ℕ → List ℕ → List ℕ → Type 0
+AreAdded one other both =
+    (place : ℕ) → place < 24
+    → slice_index_or both place 0 ≡ min (slice_index_or one place 0 + slice_index_or other place 0) (2 ^ 64 - 1)
 
 -- a refusal that occurred, by its number, and how often
 abbrev pub counted : ℕ → ℕ → List ℕ

@@ -2,7 +2,7 @@
 
 ghost use Rattle.std.specs.Prelude.{◌≡◌, ◌-◌, ◌+◌, ◌<◌, Some, min, replicate, slice_index_or, slice_set};
 ghost use Rattle.pc_types.specs.Refusals.{refusal_number};
-ghost use Rattle.storm_text.specs.Told.{are_well, counted, is_kept, no_times, refused_text};
+ghost use Rattle.storm_text.specs.Told.{AreAdded, are_well, counted, is_kept, no_times, refused_text};
 
 use pc_types::Refusal;
 use std::fmt;
@@ -36,10 +36,13 @@ impl Refused {
         self.times[place] = self.times[place].saturating_add(1);
     }
 
-    /// Counts what another one counted.
-    pub fn add(&mut self, other: &Refused) {
-        for (place, times) in other.times.iter().enumerate() {
-            self.times[place] = self.times[place].saturating_add(*times);
+    /// Counts what another one counted, up to the greatest number of 64 bits.
+    #[tactic(auto, using(crate::proofs::Adding::none_added, crate::proofs::Adding::added_next, crate::proofs::Adding::all_added))]
+    pub fn add(&mut self, other: &Refused)
+        ensures { AreAdded self.old.times other.now.times self.new.times }
+    {
+        for place in 0..NUMBERS {
+            self.times[place] = self.times[place].saturating_add(other.times[place]);
         }
     }
 

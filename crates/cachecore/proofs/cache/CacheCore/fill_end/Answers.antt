@@ -11,8 +11,10 @@ use Rattle.writeback.specs.Flights as flights
 use Rattle.writeback.specs.Requests.{request_of}
 use Rattle.machine.specs.declared.event.Reply.TheVariants as reply
 use Rattle.machine.specs.declared.event.Reply.{Reply}
+use Rattle.machine.specs.ListChanges.{lists_unfilled}
+use Rattle.machine.specs.PageLists.{left}
 use Rattle.machine.specs.State.{State}
-use Rattle.cachecore.proofs.CoreViews.{state_is}
+use Rattle.cachecore.proofs.CoreViews.{lists_are, state_is}
 use Rattle.cachecore.proofs.EndSteps.{Ends, known, stranger_step}
 use Rattle.cachecore.proofs.Parts.{Parts, parts_of, state_by}
 use Rattle.cachecore.proofs.EndCalls.{Seen, awaited_here, fill_done, fill_dropped, fill_fails}
@@ -122,3 +124,18 @@ invariant_of-self-in-Err c = (failed c).cache
 
 pub returns-in-Err-clause-step : goal.returns-in-Err-clause-step
 returns-in-Err-clause-step c = (failed c).step
+
+-- the page that was filling leaves its list
+lists_left : (c : goal.After-leave)
+    → c.leave.new.self.lists ≡ lists_unfilled (map.get c.args.self.now.state.requests c.args.finished.serial) c.args.self.now.lists
+lists_left c =
+    let b = (goal.at.invariant_of-self-in-Err c).In-Some in
+    let x = request_of c.in-Some.request in
+    ap (λ (s : Store). s.lists)
+    (c.leave.ensures.fill (awaited_here (parts_of c.self.inside) c.self.invariant c.args.finished x c.args.self.now.state
+    (state_is c.self.view_is) (ends b) c.if-request.false)) ∙ ap (left x.file x.page) (lists_are c.self.view_is)
+    ∙ ap (λ o. lists_unfilled o c.args.self.now.lists)
+    (sym (ap (λ (s : State). map.get s.requests c.args.finished.serial) (sym (state_is c.self.view_is)) ∙ (ends b).found))
+
+pub returns-in-Err-clause-lists : goal.returns-in-Err-clause-lists
+returns-in-Err-clause-lists c = lists_left c
