@@ -45,6 +45,13 @@ impl<D: BlockDevice> FaultyDevice<D> {
         }
     }
 
+    /// The device below, with which nothing more is done here.
+    pub fn into_device(self) -> D
+        ensures { ((D.told result).size ≡ self.size) × ((D.told result).count ≡ self.count) × ((D.told result).contents ≡ self.contents) }
+    {
+        self.device
+    }
+
     /// Whether the call that was counted last is to fail.
     fn is_chosen(&self) -> bool {
         self.every > 0 && self.calls.wrapping_add(self.flushes) % self.every == 0

@@ -249,6 +249,10 @@ pub far_all : (name : ℕ) (first : World) (es : List Entry) (k : ℕ) (w : Worl
 far_all name first es k w far past =
     subst (λ x. Went first (played x) (world_of w)) (take_all k es past) far.0
 
+pub far_told : (name : ℕ) (first : World) (es : List Entry) (k : ℕ) (w : WorldSeen) → Far name first es k w
+    → is_some w.device.contents ≡ true
+far_told name first es k w far = far.1.contents
+
 pub far_odd : (name : ℕ) (first : World) (es : List Entry) (k : ℕ) (w : WorldSeen) → Far name first es k w
     → k < length es → Stands first es k
 far_odd name first es k w far l = (l, world_of w, far.0)
@@ -256,12 +260,14 @@ far_odd name first es k w far l = (l, world_of w, far.0)
 -- ---- what is told of the whole
 
 pub all_agree : (name : ℕ) (old new : WorldSeen) (left : Told) (es : List Entry) → IsReady name old
-    → IsFirst (world_of old) → Went (world_of old) (played es) (world_of new) → left ≡ new.device
-    → Plays old.core.sizes name es old.device (Agrees left)
-all_agree name old new left es ready first went same =
-    subst (λ n. IsHonestOver old.core.sizes n (played es) (blocks_of old.device) (blocks_of left)) ready.name
-    (subst (λ d. IsHonestOver old.core.sizes old.core.name (played es) (blocks_of old.device) (blocks_of d)) (sym same)
-    (honest_over (world_of old) (world_of new) first (played es) went))
+    → IsFirst (world_of old) → Went (world_of old) (played es) (world_of new) → is_some new.device.contents ≡ true
+    → left ≡ new.device → Plays old.core.sizes name es old.device (Agrees left)
+all_agree name old new left es ready first went told same = (
+  subst (λ n. IsHonestOver old.core.sizes n (played es) (blocks_of old.device) (blocks_of left)) ready.name
+      (subst (λ d. IsHonestOver old.core.sizes old.core.name (played es) (blocks_of old.device) (blocks_of d)) (sym same)
+      (honest_over (world_of old) (world_of new) first (played es) went)),
+  ap (λ (d : Told). is_some d.contents) same ∙ told,
+)
 
 pub one_odd : (name : ℕ) (old : WorldSeen) (es : List Entry) (place : ℕ) → IsReady name old
     → IsFirst (world_of old) → Stands (world_of old) es place → Plays old.core.sizes name es old.device (Odd place)

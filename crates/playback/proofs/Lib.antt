@@ -1,3 +1,4 @@
 mod Events
 mod Ends
 mod Going
+mod Alike

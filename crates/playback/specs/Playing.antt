@@ -1,7 +1,8 @@
 -- A history that is played again over a device: honest ones, with what they leave on it.
 use Rattle.std.specs.Prelude.{◌≡◌, ℕ, ◌<◌, Bool, true, false, List, [], ◌∷◌, filter, length, take, Option, Some, None}
-use Rattle.std.specs.Prelude.{is_some, unwrap_or}
+use Rattle.std.specs.Prelude.{◌^◌, IfSome, is_some, unwrap_or}
 use Rattle.std.specs.FinMap as finmap
+use Rattle.blockdev.specs.Blocks.{block_at}
 use Rattle.blockdev.specs.Device.{Told}
 use Rattle.pc_types.specs.Limits.{Sizes}
 use Rattle.pc_types.specs.declared.kind.Kind.{Kind}
@@ -22,6 +23,9 @@ use Rattle.world.specs.declared.step.Step.TheVariants as step
 use Rattle.world.specs.Stepping.{WorldSeen, MovesByCall, move_of, world_of}
 use Rattle.playback.specs.declared.play.Playback.{Playback}
 use Rattle.playback.specs.declared.play.Playback.TheVariants.{Agrees, Odd}
+use Rattle.playback.specs.declared.verdict.Copies.{Copies}
+use Rattle.playback.specs.declared.verdict.Verdict.{Verdict}
+use Rattle.playback.specs.declared.verdict.Verdict.TheVariants.{AllAlike, Unlike, OddEntry}
 
 -- ---- the history without the entries that are refused for want of memory, which changed nothing
 
@@ -54,9 +58,37 @@ blocks_of d = unwrap_or d.contents []
 -- the whole history is honest over the device, which it leaves so; or the entries before this place are
 abbrev pub Plays : Sizes → ℕ → List Entry → Told → Playback → Type 0
 Plays sizes name history device (Agrees left) =
-    IsHonestOver sizes name (played history) (blocks_of device) (blocks_of left)
+    IsHonestOver sizes name (played history) (blocks_of device) (blocks_of left) × (is_some left.contents ≡ true)
 Plays sizes name history device (Odd place) =
     (place < length history) × Honest sizes name (played (take place history))
+
+-- ---- whether a device was honest
+
+-- a block of a device that tells its contents is as in both others, where these agree on it
+abbrev pub IsAlike : Told → Told → Told → ℕ → Type 0
+IsAlike d one other b =
+    block_at (blocks_of one) b ≡ block_at (blocks_of other) b
+    → IfSome d.contents (λ blocks. block_at blocks b ≡ block_at (blocks_of one) b)
+
+-- all blocks are, or those before this one. A block is named by 32 bits
+abbrev pub AreAlike : Told → Told → Told → Option ℕ → Type 0
+AreAlike d one other None = (b : ℕ) → b < d.count → b < 2 ^ 32 → IsAlike d one other b
+AreAlike d one other (Some first) = (b : ℕ) → b < first → IsAlike d one other b
+
+-- what is said of a device beside two others
+abbrev pub Compares : Told → Told → Told → Verdict → Type 0
+Compares d one other AllAlike = AreAlike d one other None
+Compares d one other (Unlike first) = AreAlike d one other (Some first)
+Compares d one other (OddEntry place) = ⊥
+
+-- by what a history says of its device: the history is honest, by both of what a write that failed leaves, and the device
+-- is as it leaves it; or the blocks before this one are; or the entries before this place are honest
+abbrev pub Judges : Sizes → ℕ → List Entry → Copies → Told → Verdict → Type 0
+Judges sizes name history copies device (OddEntry place) =
+    (place < length history) × Honest sizes name (played (take place history))
+Judges sizes name history copies device verdict =
+    (one : Told) × (other : Told) × Plays sizes name history copies.one (Agrees one)
+    × Plays sizes name history copies.other (Agrees other) × Compares device one other verdict
 
 -- ---- inside this crate
 
@@ -133,3 +165,10 @@ IsStepOf e s = (is_plain s ≡ true) × ((r : Reply) → move_of s r None true �
 -- the device has the blocks of another
 abbrev pub IsCopy : Told → Told → Type 0
 IsCopy d copy = (copy.size ≡ d.size) × (copy.count ≡ d.count) × (is_some copy.contents ≡ true)
+
+abbrev pub AreCopies : Told → Copies → Type 0
+AreCopies d copies = IsCopy d copies.one × IsCopy d copies.other
+
+-- it has as many blocks as before, of the same size
+abbrev pub IsSameSize : Told → Told → Type 0
+IsSameSize old new = (new.size ≡ old.size) × (new.count ≡ old.count)

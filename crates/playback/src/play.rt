@@ -78,7 +78,7 @@ fn play_all(
 }
 
 /// The place of the first entry at which the world does otherwise.
-#[tactic(auto, using(crate::proofs::Going::next, crate::proofs::Going::far_first, crate::proofs::Going::far_all, crate::proofs::Going::far_odd))]
+#[tactic(auto, using(crate::proofs::Going::next, crate::proofs::Going::far_first, crate::proofs::Going::far_all, crate::proofs::Going::far_told, crate::proofs::Going::far_odd))]
 fn first_odd(
     world: &mut World<ScriptDevice>,
     name: u64,
@@ -88,6 +88,7 @@ fn first_odd(
     requires ready { IsReady name world.old }
     requires first { IsFirst (world_of world.old) }
     ensures all { IfOk result (λ o. IfNone o (Went (world_of world.old) (played trail.now.entries) (world_of world.new))) }
+    ensures told { IfOk result (λ o. IfNone o (is_some world.new.device.contents ≡ true)) }
     ensures odd { IfOk result (λ o. IfSome o (Stands (world_of world.old) trail.now.entries)) }
     ensures refused { IsOkUnless result Refusal.Memory }
 {

@@ -6,11 +6,14 @@ ghost use Rattle.storm.specs.Crews.{IsCrewOf};
 
 use crate::member::Member;
 use blockdev::{BlockDevice, Gate};
+use held::denied::Denied;
 use held::naming::Naming;
+use pc_types::Refusal;
 use shared::cache::SharedCache;
 use shared::worker::Worker;
 use std::sync::Wait;
 use std::thread::{Threads, join};
+use storm_text::Refused;
 use trail::FullTrail;
 
 /// The flusher, two I/O workers and the evictor.
@@ -28,8 +31,15 @@ impl Gate for Open {
     fn enter(&self, _number: u64) {}
 }
 
-/// Seats of two workers.
-pub type Pair<B> = (Member<B>, Member<B>);
+/// The seat of a worker that is done, and by what it was refused without an entry, if it was.
+#[derive(Drop)]
+pub struct Served<B: Naming> {
+    member: Member<B>,
+    refused: Option<Refusal>,
+}
+
+/// Two workers that are done.
+pub type Pair<B> = (Served<B>, Served<B>);
 
 /// The workers of a cache.
 #[derive(Drop)]
@@ -140,50 +150,86 @@ fn carry_out_jobs<R: Wait, B: Naming, D: BlockDevice>(
     rt: &R,
     cache: &SharedCache<B, D, FullTrail>,
     mut worker: Worker,
-) -> Member<B>
+) -> Served<B>
     requires { IsWorkerOf cache.now.ring B.name B.table B.deeds B.sizes worker }
 {
-    let _ = cache.io_worker(rt, &Open, &mut worker);
-    Member::of(worker.into_seat())
+    let refused = match cache.io_worker(rt, &Open, &mut worker) {
+        Err(
+            Denied {
+                refusal,
+                slip: None,
+            },
+        ) => Some(refusal),
+        _ => None,
+    };
+    Served {
+        member: Member::of(worker.into_seat()),
+        refused,
+    }
 }
 
 fn write_back<R: Wait, B: Naming, D: BlockDevice>(
     rt: &R,
     cache: &SharedCache<B, D, FullTrail>,
     mut worker: Worker,
-) -> Member<B>
+) -> Served<B>
     requires { IsWorkerOf cache.now.ring B.name B.table B.deeds B.sizes worker }
 {
     cache.flusher(rt, &Open, &mut worker);
-    Member::of(worker.into_seat())
+    Served {
+        member: Member::of(worker.into_seat()),
+        refused: None,
+    }
 }
 
 fn evict<R: Wait, B: Naming, D: BlockDevice>(
     rt: &R,
     cache: &SharedCache<B, D, FullTrail>,
     mut worker: Worker,
-) -> Member<B>
+) -> Served<B>
     requires { IsWorkerOf cache.now.ring B.name B.table B.deeds B.sizes worker }
 {
     cache.evictor(rt, &Open, &mut worker);
-    Member::of(worker.into_seat())
+    Served {
+        member: Member::of(worker.into_seat()),
+        refused: None,
+    }
 }
 
-/// Puts the members of these pairs to the others. Nothing is answered where memory is wanted.
-pub fn hand_back<B: Naming>(pairs: (Pair<B>, Pair<B>), members: &mut Vec<Member<B>>) -> Option<()> {
+/// Puts the members of these pairs to the others, and counts their refusals. Nothing is answered where memory is wanted.
+pub fn hand_back<B: Naming>(
+    pairs: (Pair<B>, Pair<B>),
+    members: &mut Vec<Member<B>>,
+    refused: &mut Refused,
+) -> Option<()> {
     let (front, back) = pairs;
-    let first = push_both(front, members);
-    let second = push_both(back, members);
+    let first = push_both(front, members, refused);
+    let second = push_both(back, members, refused);
     first?;
     second
 }
 
-fn push_both<B: Naming>(pair: Pair<B>, members: &mut Vec<Member<B>>) -> Option<()> {
+fn push_both<B: Naming>(
+    pair: Pair<B>,
+    members: &mut Vec<Member<B>>,
+    refused: &mut Refused,
+) -> Option<()> {
     let (one, other) = pair;
-    let first = members.push(one).ok();
-    let second = members.push(other).ok();
+    let first = push_member(one, members, refused);
+    let second = push_member(other, members, refused);
     first?;
     second
+}
+
+fn push_member<B: Naming>(
+    served: Served<B>,
+    members: &mut Vec<Member<B>>,
+    refused: &mut Refused,
+) -> Option<()> {
+    if let Some(refusal) = served.refused {
+        refused.count(refusal);
+    }
+    members.push(served.member).ok()
 }
 
 /// Workers with the seats of the last two of these members.

@@ -16,4 +16,4 @@ mod run;
 mod steps;
 
 pub use odd::Odd;
-pub use run::{Aftermath, BLOCKS, Weather, run_storm, storm};
+pub use run::{Aftermath, BLOCKS, Weather, run_storm, storm, storm_over};

@@ -6,7 +6,7 @@ use machine::{End, Event, Outcome, Reply};
 use pc_types::{
     BlockNo, Bytes, ErrCode, FileId, Geometry, HandleId, Kind, PageIndex, Refusal, Serial, SyncId,
 };
-use playback::{Playback, copy_of, first_unlike, play_again};
+use playback::{Playback, Verdict, copies_of, copy_of, first_unlike, judge, play_again};
 use std::alloc::Global;
 use std::process::Abort;
 use std::test::Fail;
@@ -203,6 +203,35 @@ fn a_device_with_another_block_is_told(rt: HostRuntime) -> Result<(), Fail> {
     filled(alloc, &mut trail, Change::Nothing);
     assert_eq!(&rt; unlike(alloc, &trail, 0)?, None);
     assert_eq!(&rt; unlike(alloc, &trail, 1)?, Some(0));
+    Ok(())
+}
+
+/// What the history says of a device that is zeros first, and has one block written then.
+fn judged(alloc: Global, trail: &FullTrail, written: u32) -> Result<Option<Verdict>, Refusal> {
+    let geometry = Geometry::new(PAGE, 48, 16, 4)?;
+    let mut device = MemDevice::new(alloc, PAGE, 4)?;
+    let Ok(copies) = copies_of(alloc, &mut device)? else {
+        return Ok(None);
+    };
+    let _ = device.write(BlockNo(written), &WRITTEN);
+    let verdict = judge(alloc, &geometry, NAME, trail, copies, &mut device)?;
+    Ok(Some(verdict))
+}
+
+#[test]
+fn a_device_is_judged(rt: HostRuntime) -> Result<(), Fail> {
+    let alloc = rt.alloc();
+    let mut trail = FullTrail::new(alloc, 32, 100)?;
+    trail.begin(NAME);
+    synced(alloc, &mut trail, Change::Nothing);
+    filled(alloc, &mut trail, Change::Nothing);
+    assert_eq!(&rt; judged(alloc, &trail, 0)?, Some(Verdict::AllAlike));
+    assert_eq!(&rt; judged(alloc, &trail, 3)?, Some(Verdict::Unlike(0)));
+    let mut odd = FullTrail::new(alloc, 32, 100)?;
+    odd.begin(NAME);
+    synced(alloc, &mut odd, Change::Nothing);
+    filled(alloc, &mut odd, Change::FilledByte);
+    assert_eq!(&rt; judged(alloc, &odd, 0)?, Some(Verdict::OddEntry(12)));
     Ok(())
 }
 

@@ -10,9 +10,12 @@ use std::sync::Wait;
 use std::test::Fail;
 use std::thread::Threads;
 use storm::{Aftermath, Weather, storm};
-use storm_text::Options;
+use storm_text::{Keeping, Options};
 use trail::Entry;
 use world::{Step, World};
+
+/// The place of the refusal for want of a block, whose number is 9.
+const NO_SPACE: usize = 8;
 
 /// How many calls were refused for want of a block, and how many of these while a dropped request had one.
 #[derive(Clone, Copy)]
@@ -101,7 +104,8 @@ fn agrees(one: &Reply, other: &Reply) -> bool {
     }
 }
 
-/// The crowd of a storm of 1,000 calls by eight callers over 40 blocks.
+/// The crowd of a storm of 1,000 calls by eight callers over 40 blocks. Nothing is answered where as many were not counted as refused
+/// for want of a block, or the device did not keep one.
 fn crowd_of_a_storm<R: Threads + Wait + Files<File = File> + Sync>(
     rt: &R,
     alloc: Global,
@@ -118,9 +122,14 @@ fn crowd_of_a_storm<R: Threads + Wait + Files<File = File> + Sync>(
     };
     match storm(rt, alloc, options, weather) {
         Ok(after) => {
+            let counted = after.refused.times[NO_SPACE];
+            let device = after.device;
             let crowd = crowd_of(alloc, &after);
             drop(after);
-            crowd
+            match crowd {
+                Some(crowd) if crowd.refused == counted && device == Keeping::Kept => Some(crowd),
+                _ => None,
+            }
         }
         Err(_) => None,
     }

@@ -6,4 +6,6 @@
 #[cfg(test)]
 mod crowd_tests;
 #[cfg(test)]
+mod device_tests;
+#[cfg(test)]
 mod tests;

@@ -2,10 +2,11 @@
 
 use machine::{Event, Reply};
 use pc_types::{Bytes, FileId, HandleId};
-use std::alloc::Global;
+use std::alloc::{AllocError, Global};
 use std::fs;
 use std::fs::{File, Files};
 use std::process::Abort;
+use std::string::String;
 use std::sync::Wait;
 use std::test::Fail;
 use std::thread::Threads;
@@ -21,6 +22,13 @@ const NOTHING: Reserve = Reserve {
 
 const USAGE: &str = "pcache: usage: pcache run | pcache storm THREADS STEPS [PATH]\n";
 
+/// The refusals that may come of a storm whose device is honest: no frame, no block, too many dirty pages, too many requests in flight,
+/// and no turn. So memory is not wanted, the trail is not full, and no number is a stranger's.
+const DUE: [u64; 5] = [8, 9, 10, 11, 22];
+
+/// What a call answers whose device call failed.
+const FAILED: u64 = 14;
+
 /// What a storm of these words is to give.
 #[derive(Clone, Copy)]
 struct Row<'a> {
@@ -29,6 +37,35 @@ struct Row<'a> {
     output: &'a str,
     message: &'a str,
     status: u8,
+}
+
+/// The output of a storm, whose refusals are `some` in the line of them if there are and may be.
+fn with_due(alloc: Global, output: &str, faults: u64) -> Result<String, AllocError> {
+    let mut text = String::new(alloc);
+    for line in output.split_inclusive('\n') {
+        match line.strip_prefix("refused ") {
+            Some(refused) if are_due(refused.trim_end(), faults) => {
+                text.push_str("refused as due\n")?;
+            }
+            _ => text.push_str(line)?,
+        }
+    }
+    Ok(text)
+}
+
+/// Whether each of the refusals, as `NUMBER:TIMES` or `none`, may come of a storm with such faults.
+fn are_due(refused: &str, faults: u64) -> bool {
+    refused == "none" || refused.split(' ').all(|word| is_due(word, faults))
+}
+
+fn is_due(word: &str, faults: u64) -> bool {
+    let Some((number, _)) = word.split_once(':') else {
+        return false;
+    };
+    match number.parse::<u64>() {
+        Ok(number) => DUE.contains(&number) || (faults > 0 && number == FAILED),
+        Err(_) => false,
+    }
 }
 
 fn check<R: Abort + Threads + Wait + Files<File = File> + Sync>(
@@ -44,8 +81,12 @@ fn check<R: Abort + Threads + Wait + Files<File = File> + Sync>(
         blocks: BLOCKS,
     };
     let status = run_storm(rt, alloc, row.words, weather, &mut out, &mut message);
-    let output = std::str::from_utf8(out.writer.as_slice())?;
-    assert_eq!(rt; output, row.output);
+    let output = with_due(
+        alloc,
+        std::str::from_utf8(out.writer.as_slice())?,
+        row.faults,
+    )?;
+    assert_eq!(rt; output.as_str(), row.output);
     assert_eq!(rt; std::str::from_utf8(message.as_slice())?, row.message);
     assert_eq!(rt; status, row.status);
     Ok(())
@@ -72,15 +113,16 @@ fn check_replays<R: Abort + Threads + Wait + Files<File = File> + Sync>(
 #[test]
 fn storms_over_memory_replay(rt: HostRuntime) -> Result<(), Fail> {
     let alloc = rt.alloc();
-    let output = "calls 400\nreplay yes\n";
+    let output = "calls 400\nreplay yes\nrefused as due\ndevice yes\n";
     check_replays(&rt, alloc, &["4", "100"], 0, output)?;
     check_replays(&rt, alloc, &["4", "100"], 5, output)?;
-    check_replays(&rt, alloc, &["1", "1"], 0, "calls 1\nreplay yes\n")
+    let one = "calls 1\nreplay yes\nrefused as due\ndevice yes\n";
+    check_replays(&rt, alloc, &["1", "1"], 0, one)
 }
 
 #[test]
 fn the_greatest_storm_replays(rt: HostRuntime) -> Result<(), Fail> {
-    let output = "calls 16000\nreplay yes\n";
+    let output = "calls 16000\nreplay yes\nrefused as due\ndevice yes\n";
     check_replays(&rt, rt.alloc(), &["16", "1000"], 0, output)
 }
 
@@ -90,7 +132,7 @@ fn storms_over_a_file_replay(rt: HostRuntime) -> Result<(), Fail> {
     let alloc = rt.alloc();
     let path = "/tmp/pcache_storm_test";
     fs::write(&rt, path, "")?;
-    let output = "calls 400\nreplay yes\n";
+    let output = "calls 400\nreplay yes\nrefused as due\ndevice unplayed\n";
     check_replays(&rt, alloc, &["4", "100", path], 0, output)?;
     check_replays(&rt, alloc, &["4", "100", path], 7, output)?;
     fs::remove_file(&rt, path)?;
