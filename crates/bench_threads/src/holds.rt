@@ -1,12 +1,16 @@
 //! The rows of the locked state: a read by the core alone, and the same read as a hold, over a trail that keeps nothing.
 
-ghost use Rattle.std.specs.Prelude.{◌≡◌};
+ghost use Rattle.std.specs.Prelude.{◌≡◌, [], length, true};
 ghost use Rattle.held.specs.Keeps.{IsLocked};
+ghost use Rattle.machine.specs.History.{no_files};
+ghost use Rattle.runs.specs.Runs.{IsFirst};
+ghost use Rattle.trail.specs.Honest.{world_over};
 
 use crate::rounds::ROUNDS;
 use crate::trails::SMALL;
 use bench_timing::{Best, Fault};
 use cachecore::{CacheCore, ReadAnswer};
+use deeds::sides;
 use held::log::Seat;
 use held::naming::Naming;
 use held::state::{Held, Opened};
@@ -85,11 +89,15 @@ fn read_core(core: &mut CacheCore) -> u64 {
 /// Times the same reads as holds.
 pub fn time_held(clock: &impl Clock, alloc: Global) -> Result<Best, Fault> {
     let geometry = geometry()?;
+    // No device call is made, so the deeds are of a device that tells nothing.
+    let Ok(deeds) = sides::Opened::new(alloc) else {
+        return Err(Fault::Memory);
+    };
     match Opened::new(alloc, &geometry, 1, NoTrail::new(), 1) {
         Ok((opened, board, seats, own)) => {
             drop(board);
             drop(seats);
-            time_named::<Brand>(clock, opened, own)
+            time_named::<Brand>(clock, opened, deeds, own)
         }
         Err(_) => Err(Fault::Memory),
     }
@@ -99,12 +107,19 @@ pub fn time_held(clock: &impl Clock, alloc: Global) -> Result<Best, Fault> {
 fn time_named<B: Naming>(
     clock: &impl Clock,
     opened: Opened<NoTrail>,
+    deeds: sides::Opened,
     mut own: Seat,
 ) -> Result<Best, Fault>
     requires state { IsLocked B.name B.table B.board B.sizes B.seats opened }
+    requires fresh { (opened.log.history ≡ []) × (opened.core.state ≡ no_files B.sizes B.name) }
+    requires deeds { (deeds.table ≡ B.deeds) × (deeds.told ≡ B.told) × (deeds.blocks ≡ B.blocks) }
+    requires count { length B.blocks ≡ B.sizes.blocks }
+    requires first { B.told ≡ true → IsFirst (world_over B.sizes B.name B.blocks) }
     requires own { own.table ≡ B.table }
 {
-    let mut held = Held::<B, NoTrail>::of(opened);
+    let (desk, side) = deeds.named::<B>();
+    drop(side);
+    let mut held = Held::<B, NoTrail>::of(opened, desk);
     let timed = time_holds(clock, &mut held, &mut own);
     drop(held);
     drop(own);

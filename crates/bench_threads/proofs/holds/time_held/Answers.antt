@@ -1,4 +1,5 @@
-use Rattle.std.proofs.Common.{ap, refl}
+use Rattle.std.proofs.Common.{◌≡◌, Bool, true, false, length, ap, refl, sym, ◌∙◌}
+use Rattle.std.proofs.lemmas.List.{length-replicate}
 use Rattle.cachecore.specs.Core.{Core}
 use Rattle.held.proofs.Failures.{none_told}
 use Rattle.bench_threads.proofs.holds.time_held.Goals as goal
@@ -13,3 +14,9 @@ time_named-requires-clause-state g c = record {
   told = none_told c.in-Ok.opened.core.state c.in-Ok.opened.errors (ap (λ (x : Core). x.state.files) c.in-Ok.ensures.core)
       c.in-Ok.ensures.board.1;
 }
+
+pub time_named-requires-clause-count : goal.time_named-requires-clause-count
+time_named-requires-clause-count g c = ap length c.new-deeds.ensures.1 ∙ length-replicate _ _
+
+pub time_named-requires-clause-first : goal.time_named-requires-clause-first
+time_named-requires-clause-first g c tells = absurd (let k : false ≡ true = sym c.new-deeds.ensures.0 ∙ tells in cc)

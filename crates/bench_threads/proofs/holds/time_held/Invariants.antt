@@ -1,4 +1,9 @@
+use Rattle.std.specs.Prelude.{[], false, replicate}
 use Rattle.bench_threads.proofs.holds.time_held.Given as goal
+
+-- a device that tells nothing
+abbrev pub ghost-new : goal.ghost-new
+ghost-new g a = (false, replicate a.geometry.blocks [])
 
 -- the cache that was just made
 abbrev pub ghosts-time_named : goal.ghosts-time_named
@@ -8,4 +13,7 @@ ghosts-time_named g a = record {
   board = a.opened.errors.board;
   sizes = a.opened.core.state.sizes;
   seats = a.opened.log.made;
+  blocks = a.deeds.blocks;
+  deeds = a.deeds.table;
+  told = a.deeds.told;
 }

@@ -9,4 +9,7 @@ ghosts-runs_over g a = record {
   board = a.parts.board;
   sizes = a.parts.geometry;
   seats = vec_len a.seats + 1;
+  blocks = a.parts.deeds.blocks;
+  deeds = a.parts.deeds.table;
+  told = a.parts.deeds.told;
 }
