@@ -16,4 +16,4 @@ pub mod Replied
 pub mod Receipts
 pub mod Numbering
 pub mod Tying
-pub mod Starts
+pub mod Begins

@@ -144,13 +144,13 @@ module _ (told : Bool) (sizes : Sizes) (name : ℕ) (blocks : List (List ℕ)) (
       (kept_begun told sizes name blocks old.log.history core places sound i seat e (record { 0 = job.serial }) next
       (subst (λ x. Step core e x next) b.0 step) b.2.0 b.2.1 job b.2.2 b.1)
 
-  ended : (seat : ℕ) (kind : Kind) (a : Result Ended RefusedEnd) (finished : FinishedTask) (after : List Place)
+  went_over : (seat : ℕ) (kind : Kind) (a : Result Ended RefusedEnd) (finished : FinishedTask) (after : List Place)
       → Step core (event.End kind (end_of finished)) (ended_as kind a) next → Returns told places finished a after
       → Tied (old.log.history ++ entry_of seat (event.End kind (end_of finished)) (ended_as kind a) ∷ []) after
-  ended seat kind (Ok b) finished after step s =
+  went_over seat kind (Ok b) finished after step s =
       kept_back told sizes name blocks old.log.history core places sound i seat kind (end_of finished)
       (ended_as kind (Ok b)) next (made_by kind (end_of finished) b) step finished after s refl
-  ended seat kind (Err x) finished after step s =
+  went_over seat kind (Err x) finished after step s =
       let end = end_of finished in
       subst (Tied (old.log.history ++ entry_of seat (event.End kind end) (ended_as kind (Err x)) ∷ [])) (sym s)
       (subst (λ r. Tied (old.log.history ++ entry_of seat (event.End kind end) r ∷ []) places) (refused_as kind x)
@@ -183,7 +183,7 @@ module _ (told : Bool) (sizes : Sizes) (name : ℕ) (blocks : List (List ℕ)) (
         → Tied new.log.history desk
     tied_ended kind a finished desk s m =
         on_history (event.End kind (end_of finished)) (ended_as kind a) desk m
-        (ended before.number kind a finished desk m.step s)
+        (went_over before.number kind a finished desk m.step s)
 
 -- ---- the same, with what was made first
 

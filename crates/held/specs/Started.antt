@@ -23,18 +23,18 @@ use Rattle.held.specs.declared.started.SyncMoved.TheVariants as sync_moved
 
 -- ---- answers without their deeds
 
-abbrev pub as_fill : FillStarted → FillBegun
+abbrev pub as_fill : {B : Type 0} → FillStarted B → FillBegun
 as_fill (fill_started.Gone b) = fill.Gone b
 as_fill (fill_started.Wait p b) = fill.Wait p b
 as_fill (fill_started.Present b) = fill.Present b
 as_fill (fill_started.Filled b) = fill.Filled b
 as_fill (fill_started.Job errand) = fill.Job errand
 
-abbrev pub as_flush : FlushStarted → FlushBegun
+abbrev pub as_flush : {B : Type 0} → FlushStarted B → FlushBegun
 as_flush (flush_started.Nothing b) = flush.Nothing b
 as_flush (flush_started.Job errand) = flush.Job errand
 
-abbrev pub as_sync : SyncMoved → SyncStepped
+abbrev pub as_sync : {B : Type 0} → SyncMoved B → SyncStepped
 as_sync (sync_moved.Job errand) = sync.Job errand
 as_sync (sync_moved.Wait p b) = sync.Wait p b
 as_sync (sync_moved.Clean b) = sync.Clean b

@@ -1,6 +1,7 @@
 //! Requests that have begun: the answers of the cache, with an errand where it begins a job.
 
 ghost use Rattle.std.specs.Prelude.{◌≡◌, Err, IfErr, IfOk, Ok};
+ghost use Rattle.held.specs.declared.started.SyncMoved.TheVariants as sync_moved;
 ghost use Rattle.held.specs.Started.{IsAtHome, as_fill, as_flush, as_sync, fill_job, flush_job, given_out, sync_job};
 
 use blockdev::Buffer;
@@ -97,7 +98,14 @@ pub(crate) fn sync_moved<B: NamesDeeds>(
         Ok(SyncStepped::Job(job)) => Ok(SyncMoved::Job(desk.give(job))),
         Ok(SyncStepped::Wait(page, buffer)) => Ok(SyncMoved::Wait(page, buffer)),
         Ok(SyncStepped::Clean(buffer)) => Ok(SyncMoved::Clean(buffer)),
-        Ok(SyncStepped::Failed(code, buffer)) => Ok(SyncMoved::Failed(code, buffer)),
+        Ok(SyncStepped::Failed(code, buffer)) => Ok(failed(code, buffer)),
         Err(refused) => Err(refused),
     }
+}
+
+// A sync that is over, and failed.
+fn failed<B: NamesDeeds>(code: ErrCode, buffer: Buffer) -> SyncMoved<B>
+    ensures { result ≡ sync_moved.Failed code buffer }
+{
+    SyncMoved::Failed(code, buffer)
 }

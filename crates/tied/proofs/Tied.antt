@@ -211,8 +211,8 @@ module _ (sizes : Sizes) (name : ℕ) (blocks : List (List ℕ)) (history : List
     its_serial : s.given.task.serial ≡ u
     its_serial = sym s.comes.serial ∙ ap (λ (z : End). z.serial.0) (sym of)
 
-    task_kind : s.given.task.kind ≡ x.kind
-    task_kind = ap (λ (a : Task). a.kind) own.task
+    given_kind : s.given.task.kind ≡ x.kind
+    given_kind = ap (λ (a : Task). a.kind) own.task
 
     -- the block had the bytes that it had when the deed was given
     before_is : s.given.before ≡ block_bytes w x.block
@@ -222,11 +222,11 @@ module _ (sizes : Sizes) (name : ℕ) (blocks : List (List ℕ)) (history : List
 
     writing_is : x.kind ≡ Flush → bytes_in (finmap.get w.writing u) ≡ s.given.task.bytes
     writing_is k = ap (λ i. bytes_in (finmap.get w.writing i)) (sym its_serial)
-        ∙ ap bytes_in (t.writes finished.block s.given s.out (task_kind ∙ k))
+        ∙ ap bytes_in (t.writes finished.block s.given s.out (given_kind ∙ k))
 
     fate_is : Fated w u x (outcome_of s.given.task.kind finished.outcome finished.bytes) s.left
-    fate_is = fated w u x s.given.task.kind (sym task_kind) finished.outcome s.given.before s.given.task.bytes
-        finished.bytes s.left before_is (λ k. writing_is (sym task_kind ∙ k)) (s.comes.leaves tells)
+    fate_is = fated w u x s.given.task.kind (sym given_kind) finished.outcome s.given.before s.given.task.bytes
+        finished.bytes s.left before_is (λ k. writing_is (sym given_kind ∙ k)) (s.comes.leaves tells)
 
     abbrev fate : Fate
     fate = fate_is.fate

@@ -1,6 +1,9 @@
-use Rattle.std.proofs.Common.{ap, refl, sym}
+use Rattle.std.proofs.Common.{ap, refl, subst, sym, true, ◌≡◌, ◌∙◌}
 use Rattle.cachecore.specs.Core.{Core}
+use Rattle.pc_types.specs.Limits.{Sizes}
+use Rattle.deeds.specs.Shown.{AreTold}
 use Rattle.held.proofs.Failures.{none_told}
+use Rattle.tests_held.proofs.Firsts.{first_zeros, fresh_as, zeros_count}
 use Rattle.tests_held.proofs.tests.over_no_trail.Goals as goal
 
 pub run_named-requires-clause-state : goal.run_named-requires-clause-state
@@ -13,6 +16,12 @@ run_named-requires-clause-state g c = record {
   told = none_told c.in-Ok.opened.core.state c.in-Ok.opened.errors (ap (λ (x : Core). x.state.files) c.in-Ok.ensures.core)
       c.in-Ok.ensures.board.1;
 }
+
+pub run_named-requires-clause-fresh : goal.run_named-requires-clause-fresh
+run_named-requires-clause-fresh g c = (
+  c.in-Ok.ensures.log.1,
+  fresh_as _ _ _ _ (ap (λ (x : Core). x.state) c.in-Ok.ensures.core) c.in-Ok.ensures.log.0,
+)
 
 pub run_named-requires-clause-own : goal.run_named-requires-clause-own
 run_named-requires-clause-own g c = (c.in-Ok.ensures.own.0, sym c.in-Ok.ensures.board.0)

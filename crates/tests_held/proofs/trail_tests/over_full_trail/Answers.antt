@@ -1,6 +1,7 @@
 use Rattle.std.proofs.Common.{ap, refl}
 use Rattle.cachecore.specs.Core.{Core}
 use Rattle.held.proofs.Failures.{none_told}
+use Rattle.tests_held.proofs.Firsts.{first_zeros, fresh_as, zeros_count}
 use Rattle.tests_held.proofs.trail_tests.over_full_trail.Goals as goal
 
 pub by_two_seats-requires-clause-seats : goal.by_two_seats-requires-clause-seats
@@ -16,3 +17,9 @@ by_two_seats-requires-clause-state g c = record {
   told = none_told c.in-Ok.opened.core.state c.in-Ok.opened.errors (ap (λ (x : Core). x.state.files) c.in-Ok.ensures.core)
       c.in-Ok.ensures.board.1;
 }
+
+pub by_two_seats-requires-clause-fresh : goal.by_two_seats-requires-clause-fresh
+by_two_seats-requires-clause-fresh g c = (
+  c.in-Ok.ensures.log.1,
+  fresh_as _ _ _ _ (ap (λ (x : Core). x.state) c.in-Ok.ensures.core) c.in-Ok.ensures.log.0,
+)

@@ -16,7 +16,8 @@ pub invariant_of-self : goal.invariant_of-self
 invariant_of-self g c =
     let x = refused_by c.fill_end-answer.result c.is_err.result c.is_err.ensures.value c.in_err-check_entry.ensures.full.1 in
     subst (λ (core : Core). Whole _ _ _ _ _ (record { log = c.self.inside.log; core = core; errors = c.self.inside.recorder })
-    × IsTied _ _ _ _ c.self.inside.log.history core.state c.self.inside.desk)
+    × IsTied g.B.NamesDeeds.told g.B.Naming.sizes g.B.Naming.name g.B.Naming.blocks c.self.inside.log.history core.state
+    c.self.inside.desk)
     (sym (fill_back c.self.inside.core c.fill_end-answer.new.self (end_of c.args.finished) c.fill_end-answer.result
     c.fill_end-answer.ensures.step c.fill_end-answer.ensures.lists x.0 x.1)) c.self.invariant
 

@@ -11,7 +11,7 @@ use Rattle.held.specs.Denials.{DeniedBy, IsDenied}
 use Rattle.held.specs.Entered.{Made}
 use Rattle.held.specs.Shown.{HeldSeen, SeatSeen}
 
-module _ {A : Type 0} {e : Event} {as_reply : Result A Refused → Reply} {old now new : HeldSeen}
+module _ {A : Type 0} {e : Event} (as_reply : Result A Refused → Reply) {old now new : HeldSeen}
     {before after : SeatSeen} {slip : Slip} {answer : Result A Refused} (same : old ≡ now)
     (m : Made e (as_reply answer) old new before after slip) where
   pub started_made : (a : A) → answer ≡ Ok a → Made e (as_reply (Ok a)) now new before after slip
