@@ -61,11 +61,7 @@ impl<B: Naming, T: Trail> Held<B, T> {
     }
 
     /// Ends a fill. An end whose request is in flight is always made.
-    pub fn fill_end(
-        &mut self,
-        seat: &mut Seat,
-        report: Report<B>,
-    ) -> Result<(Ended, Slip), Denied>
+    pub fn fill_end(&mut self, seat: &mut Seat, report: Report<B>) -> Result<(Ended, Slip), Denied>
         requires seat { seat.old.table ≡ B.table }
         requires size { length report.bytes ≡ B.sizes.page }
         ensures made { IfOk result (λ r. Made (event.End Fill (end_of report)) (fill_ended (Ok r.0)) self.old self.new seat.old seat.new r.1) }

@@ -16,8 +16,8 @@ use crate::naming::Naming;
 use crate::started::{SyncMoved, sync_moved};
 use crate::state::Held;
 use blockdev::Buffer;
-use cachecore::replies::{of_sync_begin, of_sync_drop, of_sync_step};
 use cachecore::Event;
+use cachecore::replies::{of_sync_begin, of_sync_drop, of_sync_step};
 use pc_types::{HandleId, PageIndex, SyncId};
 use trail::Trail;
 

@@ -47,9 +47,11 @@ invariant_of-self-2 g c =
     c.fill_end-answer.result c.fill_end-answer.new.self.state c.fill_end-answer.ensures.step refl c.is_err.result
     c.has_room-is_room.result c.has_room-is_room.ensures c.is_err.ensures.value c.in_ok-check_entry.ensures.room) c.end_without-end.ensures
     c.fill_end-answer.ensures.step c.fill_end-answer.ensures.lists c.of_fill_end-reply.ensures
-    c.enter-slip.ensures.entered c.enter-slip.ensures.room refl) in
-    (m.1, on_ended Fill c.fill_end-answer.result c.args.finished c.args.stub c.take_back.new.desk m.0 c.self.invariant.0.0
-    c.self.invariant.1 c.requires.stub c.take_back.ensures)
+    c.enter-slip.ensures.entered c.enter-slip.ensures.room refl) in (
+      m.1,
+      on_ended Fill c.fill_end-answer.result c.args.finished c.args.stub c.take_back.new.desk m.0 c.self.invariant.0.0
+          c.self.invariant.1 c.requires.stub c.take_back.ensures,
+    )
 
 pub returns-in_err-check_entry-clause-denied : goal.returns-in_err-check_entry-clause-denied
 returns-in_err-check_entry-clause-denied g c =

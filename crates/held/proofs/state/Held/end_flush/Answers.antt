@@ -47,9 +47,11 @@ invariant_of-self-2 g c =
     (records s (end_of c.args.finished) c.flush_end-answer.result c.record-receipt.result c.self.inside.recorder
     c.record-receipt.new.recorder (subst (λ o. IsRecorded c.self.inside.recorder o c.flush_end-answer.result
     c.record-receipt.result c.record-receipt.new.recorder) (c.flush_of-file.ensures.file ∙ ap (flush_of s) c.serial.ensures)
-    c.record-receipt.ensures))) in
-    (m.1, on_ended Flush c.flush_end-answer.result c.args.finished c.args.stub c.take_back.new.desk m.0 c.self.invariant.0.0
-    c.self.invariant.1 c.requires.stub c.take_back.ensures)
+    c.record-receipt.ensures))) in (
+      m.1,
+      on_ended Flush c.flush_end-answer.result c.args.finished c.args.stub c.take_back.new.desk m.0 c.self.invariant.0.0
+          c.self.invariant.1 c.requires.stub c.take_back.ensures,
+    )
 
 pub returns-in_err-check_entry-clause-denied : goal.returns-in_err-check_entry-clause-denied
 returns-in_err-check_entry-clause-denied g c =
