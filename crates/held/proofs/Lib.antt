@@ -16,4 +16,3 @@ pub mod Replied
 pub mod Receipts
 pub mod Numbering
 pub mod Tying
-pub mod Begins

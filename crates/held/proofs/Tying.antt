@@ -1,5 +1,5 @@
 -- One event more keeps the history tied to the device.
-use Rattle.std.proofs.Common.{◌≡◌, ◌≢◌, ℕ, ◌<◌, Bool, true, false, List, [], ◌∷◌, ◌++◌, length, map, refl, ap, sym, subst, ◌∙◌}
+use Rattle.std.proofs.Common.{◌≡◌, ◌≢◌, ℕ, ◌<◌, Bool, true, false, List, [], ◌∷◌, ◌++◌, length, map, refl, sym, subst}
 use Rattle.std.specs.Prelude.{Option, Some, None, Result, Ok, Err}
 use Rattle.std.specs.FinMap as finmap
 use Rattle.blockdev.specs.Jobs.{Task, FinishedTask, IsJobFor}
@@ -213,10 +213,10 @@ on_ended {old} {new} {before} {after} {slip} {told} {sizes} {name} {blocks} {pla
 
 -- ---- a cache without files
 
-pub opens_tied : (told : Bool) (sizes : Sizes) (name : ℕ) (blocks : List (List ℕ)) (history : List Entry) (core : State)
-    (places : List Place) → history ≡ [] → core ≡ no_files sizes name → places ≡ map Home blocks
+pub opens_tied : (told : Bool) (sizes : Sizes) (name : ℕ) (blocks : List (List ℕ)) (history : List Entry) (state : State)
+    (places : List Place) → history ≡ [] → state ≡ no_files sizes name → places ≡ map Home blocks
     → length blocks ≡ sizes.blocks → (told ≡ true → IsFirst (world_over sizes name blocks))
-    → IsTied told sizes name blocks history core places
-opens_tied told sizes name blocks history core places empty first home count tells =
+    → IsTied told sizes name blocks history state places
+opens_tied told sizes name blocks history state places empty first home count tells =
     subst (λ (x : List Entry × State × List Place). IsTied told sizes name blocks x.0 x.1 x.2)
     (λ j. (sym empty j, sym first j, sym home j)) (kept_first told sizes name blocks count tells)

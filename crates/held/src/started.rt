@@ -1,10 +1,10 @@
 //! Requests that have begun: the answers of the cache, with an errand where it begins a job.
 
-ghost use Rattle.std.specs.Prelude.{◌≡◌, Err, IfErr, IfOk, Ok};
-ghost use Rattle.held.specs.declared.started.SyncMoved.TheVariants as sync_moved;
+ghost use Rattle.std.specs.Prelude.{◌≡◌, Err, IfErr, IfOk, None, Ok};
+ghost use Rattle.cachecore.specs.declared.answers.SyncStepped.TheVariants as sync;
 ghost use Rattle.held.specs.Started.{IsAtHome, as_fill, as_flush, as_sync, fill_job, flush_job, given_out, sync_job};
 
-use blockdev::Buffer;
+use blockdev::{Buffer, Job};
 use cachecore::{FillBegun, FlushBegun, Refused, SyncStepped};
 use deeds::naming::NamesDeeds;
 use deeds::sides::{Desk, Errand};
@@ -95,17 +95,23 @@ pub(crate) fn sync_moved<B: NamesDeeds>(
     ensures err { IfErr result (λ e. answer ≡ Err e) }
 {
     match answer {
-        Ok(SyncStepped::Job(job)) => Ok(SyncMoved::Job(desk.give(job))),
-        Ok(SyncStepped::Wait(page, buffer)) => Ok(SyncMoved::Wait(page, buffer)),
-        Ok(SyncStepped::Clean(buffer)) => Ok(SyncMoved::Clean(buffer)),
-        Ok(SyncStepped::Failed(code, buffer)) => Ok(failed(code, buffer)),
+        Ok(stepped) => match without_job(stepped) {
+            Ok(moved) => Ok(moved),
+            Err(job) => Ok(SyncMoved::Job(desk.give(job))),
+        },
         Err(refused) => Err(refused),
     }
 }
 
-// A sync that is over, and failed.
-fn failed<B: NamesDeeds>(code: ErrCode, buffer: Buffer) -> SyncMoved<B>
-    ensures { result ≡ sync_moved.Failed code buffer }
+// The step that begins no job, or the job.
+fn without_job<B: NamesDeeds>(stepped: SyncStepped) -> Result<SyncMoved<B>, Job>
+    ensures ok { IfOk result (λ s. (stepped ≡ as_sync s) × (sync_job (Ok stepped) ≡ None)) }
+    ensures err { IfErr result (λ job. stepped ≡ sync.Job job) }
 {
-    SyncMoved::Failed(code, buffer)
+    match stepped {
+        SyncStepped::Job(job) => Err(job),
+        SyncStepped::Wait(page, buffer) => Ok(SyncMoved::Wait(page, buffer)),
+        SyncStepped::Clean(buffer) => Ok(SyncMoved::Clean(buffer)),
+        SyncStepped::Failed(code, buffer) => Ok(SyncMoved::Failed(code, buffer)),
+    }
 }
