@@ -213,7 +213,9 @@ fn judged(alloc: Global, trail: &FullTrail, written: u32) -> Result<Option<Verdi
     let Ok(copies) = copies_of(alloc, &mut device)? else {
         return Ok(None);
     };
-    let _ = device.write(BlockNo(written), &WRITTEN);
+    if u64::from(written) < device.blocks() {
+        let _ = device.write(BlockNo(written), &WRITTEN);
+    }
     let verdict = judge(alloc, &geometry, NAME, trail, copies, &mut device)?;
     Ok(Some(verdict))
 }
