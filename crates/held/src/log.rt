@@ -181,6 +181,7 @@ impl<T: Trail> Log<T> {
     }
 
     /// Lets a seat see the history as it is.
+    #[tactic(auto, using(crate::proofs::Seats::only_shown))]
     pub(crate) fn show(&mut self, seat: &mut Seat)
         requires { seat.old.table ≡ self.old.table }
         ensures same { self.new ≡ self.old }
