@@ -1,6 +1,6 @@
 //! The rows of the locked state: a read by the core alone, and the same read as a hold, over a trail that keeps nothing.
 
-ghost use Rattle.std.specs.Prelude.{◌≡◌, [], length, true};
+ghost use Rattle.std.specs.Prelude.{◌≡◌, [], IfOk, false, length, replicate, true};
 ghost use Rattle.held.specs.Keeps.{IsLocked};
 ghost use Rattle.machine.specs.History.{no_files};
 ghost use Rattle.runs.specs.Runs.{IsFirst};
@@ -15,7 +15,7 @@ use held::log::Seat;
 use held::naming::Naming;
 use held::state::{Held, Opened};
 use pc_types::{FileId, Geometry, HandleId, Refusal};
-use std::alloc::Global;
+use std::alloc::{AllocError, Global};
 use std::marker::Brand;
 use std::time::{Clock, Instant};
 use trail::NoTrail;
@@ -37,8 +37,17 @@ fn offset_of(index: u64) -> u64 {
     index % READS * (PAGE + SMALL) % (PAGE * PAGES - SMALL)
 }
 
-fn geometry() -> Result<Geometry, Refusal> {
+fn geometry() -> Result<Geometry, Refusal>
+    ensures { IfOk result (λ g. g.blocks ≡ 1024) }
+{
     Geometry::new(PAGE, 256, 128, 1_024)
+}
+
+/// The sides of the deeds. No device call is made, so they are of a device that tells nothing.
+fn deeds_of(alloc: Global) -> Result<sides::Opened, AllocError>
+    ensures { IfOk result (λ o. (o.told ≡ false) × (o.blocks ≡ replicate 1024 [])) }
+{
+    sides::Opened::new(alloc)
 }
 
 /// How many bytes a read answered.
@@ -89,10 +98,7 @@ fn read_core(core: &mut CacheCore) -> u64 {
 /// Times the same reads as holds.
 pub fn time_held(clock: &impl Clock, alloc: Global) -> Result<Best, Fault> {
     let geometry = geometry()?;
-    // No device call is made, so the deeds are of a device that tells nothing.
-    let Ok(deeds) = sides::Opened::new(alloc) else {
-        return Err(Fault::Memory);
-    };
+    let deeds = deeds_of(alloc)?;
     match Opened::new(alloc, &geometry, 1, NoTrail::new(), 1) {
         Ok((opened, board, seats, own)) => {
             drop(board);

@@ -1,4 +1,4 @@
-use Rattle.std.proofs.Common.{◌≡◌, Bool, true, false, length, ap, refl, sym, ◌∙◌}
+use Rattle.std.proofs.Common.{◌≡◌, true, false, ℕ, List, [], length, ap, refl, sym, ◌∙◌}
 use Rattle.std.proofs.lemmas.List.{length-replicate}
 use Rattle.cachecore.specs.Core.{Core}
 use Rattle.held.proofs.Failures.{none_told}
@@ -16,7 +16,10 @@ time_named-requires-clause-state g c = record {
 }
 
 pub time_named-requires-clause-count : goal.time_named-requires-clause-count
-time_named-requires-clause-count g c = ap length c.new-deeds.ensures.1 ∙ length-replicate _ _
+time_named-requires-clause-count g c =
+    let many = length-replicate {A = List ℕ} 1024 [] in
+    ap length c.in_ok-deeds.ensures.1 ∙ many ∙ sym c.in_ok-geometry.ensures
+    ∙ sym (ap (λ (x : Core). x.state.sizes.blocks) c.in-Ok.ensures.core)
 
 pub time_named-requires-clause-first : goal.time_named-requires-clause-first
-time_named-requires-clause-first g c tells = absurd (let k : false ≡ true = sym c.new-deeds.ensures.0 ∙ tells in cc)
+time_named-requires-clause-first g c tells = absurd (let k : false ≡ true = sym c.in_ok-deeds.ensures.0 ∙ tells in cc)
