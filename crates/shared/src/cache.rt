@@ -91,8 +91,8 @@ impl<B: Naming, D: BlockDevice, T: Trail> SharedCache<B, D, T> {
             device,
             deeds,
         } = parts;
-        // Lends that the blocks that are told are of the device's size.
-        let _ = device.blocks();
+        // Lend that a page has bytes, and that the blocks that are told are of the device's size.
+        let _ = (geometry.page(), device.blocks());
         let (desk, side) = deeds.named();
         let state = Held::of(held, desk);
         let disk = Disk::of(device, side);

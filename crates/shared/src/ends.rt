@@ -164,6 +164,13 @@ fn failure(name: u64, receipt: Option<Receipt>) -> Option<FailedWrite>
     }
 }
 
+/// The kind of the request that a report is of.
+fn kind_of<B: Naming>(finished: &Report<B>) -> Kind
+    ensures { result ≡ finished.now.kind }
+{
+    finished.finished().kind()
+}
+
 /// Ends a request, by its kind.
 #[tactic(auto, using(held::proofs::Seats::goes_by, crate::proofs::Making::goes_denied, crate::proofs::Making::makes_by, crate::proofs::Making::denied_event, crate::proofs::Making::full_by, crate::proofs::Making::made_one, crate::proofs::Making::denied_one, crate::proofs::Ending::fill_told, crate::proofs::Ending::flush_told, crate::proofs::Owning::only_end, crate::proofs::Owning::only_end_denied))]
 pub(crate) fn end<B: Naming, T: Trail>(
@@ -188,7 +195,7 @@ pub(crate) fn end<B: Naming, T: Trail>(
 {
     // Lends that the history is legal, and so the state's name.
     let _ = state.core();
-    match finished.finished().kind() {
+    match kind_of(&finished) {
         Kind::Fill => match state.fill_end(seat, finished) {
             Ok((_, slip)) => Ok((slip, None)),
             Err(denied) => Err(denied),

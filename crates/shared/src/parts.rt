@@ -111,6 +111,8 @@ fn ring_over<R: Wait, D: BlockDevice>(
     if seat_count == 0 || seat_count > MAX_SEATS {
         return Err(Refusal::BadConfig);
     }
+    // Lends that the device has a block.
+    let _ = geometry.blocks();
     let deeds = sides::Opened::over(alloc, device)?;
     Ring::over(rt, alloc, name, geometry, deeds)
 }

@@ -294,11 +294,12 @@ fn evict_idle<B: Naming, T: Trail>(state: &mut Held<B, T>, seat: &mut Seat) -> R
     if let Err(denied) = state.age(seat) {
         return Err(denied);
     }
-    let evicted = state.evict(seat);
-    // Lends that the history is legal.
-    let _ = state.core();
-    match evicted {
-        Ok((page, _)) => Ok(page.is_some()),
+    match state.evict(seat) {
+        Ok((page, _)) => {
+            // Lends that the history is legal.
+            let _ = state.core();
+            Ok(page.is_some())
+        }
         Err(denied) => Err(denied),
     }
 }
