@@ -8,7 +8,7 @@ use Rattle.trail.specs.History.{After}
 use Rattle.trail.specs.declared.entry.Entry.{Entry}
 use Rattle.std.specs.Prelude.{List}
 use Rattle.held.specs.Called.{Only}
-use Rattle.held.specs.Shown.{SeatSeen}
+use Rattle.held.specs.Shown.{HeldSeen, SeatSeen}
 use Rattle.held.proofs.Seats.{only_any}
 use Rattle.shared.specs.Workers.{AllCarried, FindsEnough, FindsNothing, IsCarried, OnBegun}
 use Rattle.shared.specs.declared.worker.Worker.{Worker}
@@ -18,6 +18,19 @@ pub finds_nothing : (sizes : Sizes) (name : ℕ) (before after : SeatSeen) (stat
     → NothingToWrite state → FindsNothing sizes name before after
 finds_nothing sizes name before after state same only leaves nothing =
     record { same = same; only = only; state = state; leaves = leaves; nothing = nothing }
+
+-- the state that the seat was shown is that in which nothing was found
+pub finds_shown : (sizes : Sizes) (name : ℕ) (before at after : SeatSeen) (held old : HeldSeen) → held ≡ old → at ≡ before
+    → after ≡ record at { list = held.log.history } → Only (λ _. ⊥) at after → After sizes name after.list held.core.state
+    → NothingToWrite old.core.state → FindsNothing sizes name before after
+finds_shown sizes name before at after held old is same seen only leaves nothing =
+    subst (λ s. FindsNothing sizes name s after) same (record {
+      same = seen ∙ ap (λ l. let k : SeatSeen = record at { list = l } in k) (sym (ap (λ (s : SeatSeen). s.list) seen));
+      only = only;
+      state = held.core.state;
+      leaves = leaves;
+      nothing = subst (λ (h : HeldSeen). NothingToWrite h.core.state) (sym is) nothing;
+    })
 
 pub nothing_carried : (a b : Worker) (sizes : Sizes) (name : ℕ) → FindsNothing sizes name a.seat b.seat → AllCarried a b
 nothing_carried a b sizes name f = only_any (λ e. OnBegun (IsCarried a b) e.event e.reply) a.seat b.seat f.only
