@@ -1,6 +1,6 @@
 -- A cache without files over a device of zeros.
 use Rattle.std.proofs.Common.{◌≡◌, ℕ, List, refl, ap, sym, subst, ◌∙◌, arith}
-use Rattle.std.specs.Prelude.{All, Bool, Option, Some, is_some, length, replicate, true}
+use Rattle.std.specs.Prelude.{All, IfOk, Ok, Result, Bool, Option, Some, is_some, length, replicate, true}
 use Rattle.std.proofs.lemmas.List.Elements.{All-replicate}
 use Rattle.std.proofs.lemmas.Option.{same_Some}
 use Rattle.blockdev.specs.Blocks.{zero_blocks}
@@ -9,6 +9,7 @@ use Rattle.blockdev.specs.Device.{Told, fresh}
 use Rattle.machine.specs.History.{no_files}
 use Rattle.machine.specs.State.{State}
 use Rattle.pc_types.specs.Limits.{Sizes}
+use Rattle.pc_types.specs.declared.refusal.Refusal.{Refusal}
 use Rattle.runs.specs.Runs.{IsFirst}
 use Rattle.trail.specs.Honest.{world_over}
 
@@ -37,3 +38,8 @@ pub found_zeros : (told : Bool) (device : Told) (blocks : List (List ℕ)) → d
 found_zeros told device blocks is tells are =
     let yes : told ≡ true = tells ∙ ap (λ (d : Told). is_some d.contents) is in
     same_Some blocks (zero_blocks 16 64) (sym (are yes) ∙ ap (λ (d : Told). d.contents) is)
+
+-- the sizes that were asked for
+pub sizes_of : (made : Result Sizes Refusal) (sizes want : Sizes) → made ≡ Ok sizes → IfOk made (λ z. z ≡ want)
+    → sizes ≡ want
+sizes_of made sizes want is h = subst (λ o. IfOk o (λ z. z ≡ want)) is h

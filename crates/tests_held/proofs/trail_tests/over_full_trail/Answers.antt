@@ -1,7 +1,8 @@
-use Rattle.std.proofs.Common.{ap, refl}
+use Rattle.std.proofs.Common.{ap, refl, sym, ◌∙◌}
 use Rattle.cachecore.specs.Core.{Core}
+use Rattle.pc_types.specs.Limits.{Sizes}
 use Rattle.held.proofs.Failures.{none_told}
-use Rattle.tests_held.proofs.Firsts.{first_zeros, fresh_as, zeros_count}
+use Rattle.tests_held.proofs.Firsts.{first_zeros, fresh_as, sizes_of}
 use Rattle.tests_held.proofs.trail_tests.over_full_trail.Goals as goal
 
 pub by_two_seats-requires-clause-seats : goal.by_two_seats-requires-clause-seats
@@ -23,3 +24,10 @@ by_two_seats-requires-clause-fresh g c = (
   c.in-Ok.ensures.log.1,
   fresh_as _ _ _ _ (ap (λ (x : Core). x.state) c.in-Ok.ensures.core) c.in-Ok.ensures.log.0,
 )
+
+pub by_two_seats-requires-clause-first : goal.by_two_seats-requires-clause-first
+by_two_seats-requires-clause-first g c = λ tells.
+    let asked = sizes_of c.new.result c.expect-geometry.result _ c.expect-geometry.ensures c.new.ensures.sizes in
+    let sizes = ap (λ (x : Core). x.state.sizes) c.in-Ok.ensures.core ∙ asked in
+    first_zeros _ _ _ (ap (λ (z : Sizes). z.page) sizes) (ap (λ (z : Sizes). z.blocks) sizes)
+    c.opened_deeds-deeds.ensures.zeros
