@@ -1,0 +1,3 @@
+pub mod Outsides
+pub mod Slices
+pub mod WindowCalls
