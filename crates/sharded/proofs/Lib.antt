@@ -1,3 +1,4 @@
+mod Free
 mod Kept
 mod Parts
 mod ShardRuns

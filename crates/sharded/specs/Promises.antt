@@ -10,8 +10,8 @@ use Rattle.runs.specs.Reached.{files_seen}
 use Rattle.runs.specs.Reading.{HoldsFiles}
 use Rattle.runs.specs.Runs.{Run, world_at, plain_at}
 use Rattle.runs.specs.Syncing.{Begin, IsSync, Synced}
-use Rattle.runs.specs.World.{World, Act, WorldStep}
-use Rattle.sharded.specs.Shards.{Sharded, Shift, ShardedRun, EveryShard, left, sharded_at, world_of, steps_of, moment_of}
+use Rattle.runs.specs.World.{World, Move, Act, WorldStep}
+use Rattle.sharded.specs.Shards.{Sharded, Shift, ShardStep, ShardedRun, EveryShard, left, sharded_at, world_of, steps_of, moment_of}
 
 -- the steps of shard k are a run over its part of the device, and at each moment of all shards its world is the one that its own
 -- run has come to
@@ -22,6 +22,11 @@ pub record IsRunOfShard (s : Sharded) (steps : List Shift) (k : ℕ) : Type 0 wh
 -- of every shard, in every run of all shards from any world. How the steps of two shards lie in it is not said
 abbrev pub ShardsAreRuns : Type 0
 ShardsAreRuns = (s : Sharded) (steps : List Shift) (k : ℕ) → ShardedRun s steps → IsRunOfShard s steps k
+
+-- whatever a shard's world may do that has the device alone, the shard may do among the others, at any moment
+abbrev pub ShardsAreFree : Type 0
+ShardsAreFree = (s : Sharded) (k : ℕ) (move : Move) (w : World) → WorldStep (world_of s k) move w
+    → (new : Sharded) × ShardStep s k move new × (world_of new k ≡ w)
 
 -- the plain files that the shard's calls leave
 abbrev pub plain_of : ℕ → List Shift → Plain
