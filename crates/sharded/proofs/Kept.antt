@@ -9,12 +9,14 @@ use Rattle.runs.specs.Runs.{Steps, EveryRun, last}
 use Rattle.runs.specs.World.{World, Act, WorldStep}
 use Rattle.machine.specs.declared.event.Event.TheVariants as event
 use Rattle.machine.specs.declared.event.Reply.TheVariants as reply
+use Rattle.runs.specs.Always.{Always}
+use Rattle.runs.proofs.moments.AlwaysHold.{holds_always}
 use Rattle.runs.proofs.moments.FilesHeld.{files_are_held}
 use Rattle.runs.proofs.moments.FilesSeen.{files_are_those}
 use Rattle.runs.proofs.moments.ReadsRight.{reads_are_right}
 use Rattle.runs.proofs.syncs.SyncRuns.{syncs_are_synced}
 use Rattle.sharded.specs.Shards.{EveryShard, world_of, steps_of, moment_of}
-use Rattle.sharded.specs.Promises.{ShardFilesAreThose, ShardReadsAreRight, ShardSyncsAreDurable, ShardSyncsAreSynced, ShardsHoldFiles, plain_of}
+use Rattle.sharded.specs.Promises.{ShardFilesAreThose, ShardReadsAreRight, ShardSyncsAreDurable, ShardSyncsAreSynced, ShardsHoldAlways, ShardsHoldFiles, plain_of}
 use Rattle.sharded.proofs.ShardRuns.{shards_are_runs, leads, moments_rise, moment_end}
 
 -- what holds of every run holds of each shard's
@@ -34,6 +36,14 @@ shards_hold_files s steps k r first =
     let Q : Steps → Type 0 = λ own. HoldsFiles (last (world_of s k) own) (plain_of k steps) in
     let held = of_shard _ files_are_held s steps k r first (length (steps_of k steps)) in
     subst P (sym (leads s steps k r)) (subst Q all held)
+
+pub shards_hold_always : ShardsHoldAlways
+shards_hold_always s steps k r first =
+    let own = steps_of k steps in
+    let all : take (length own) own ≡ own = take_all (length own) own (omega arith) in
+    let P : Steps → Type 0 = λ own. Always (last (world_of s k) own) in
+    let Q : World → Type 0 = λ w. Always w in
+    subst Q (sym (leads s steps k r)) (subst P all (of_shard _ holds_always s steps k r first (length own)))
 
 pub shard_files_are_those : ShardFilesAreThose
 shard_files_are_those s steps k r first =

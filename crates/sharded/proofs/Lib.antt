@@ -1,3 +1,4 @@
+mod Begins
 mod Free
 mod Kept
 mod Parts

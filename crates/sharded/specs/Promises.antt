@@ -1,14 +1,18 @@
 -- What each shard keeps of what a cache keeps that has the device alone.
-use Rattle.std.specs.Prelude.{◌≡◌, ℕ, ◌≤◌, Bool, true, List, length}
+use Rattle.std.specs.Prelude.{◌≡◌, ℕ, ◌*◌, ◌<◌, ◌≤◌, Bool, true, List, length, All}
+use Rattle.std.specs.FinMap as map
 use Rattle.pc_types.specs.Files.{pread}
 use Rattle.pc_types.specs.declared.ids.HandleId.{HandleId}
 use Rattle.machine.specs.declared.event.Event.TheVariants as event
 use Rattle.machine.specs.declared.event.Reply.TheVariants as reply
+use Rattle.machine.specs.History.{no_files}
+use Rattle.pc_types.specs.Limits.{Sizes}
+use Rattle.runs.specs.Always.{Always}
 use Rattle.runs.specs.Durable.{last_flush}
 use Rattle.runs.specs.Plain.{Plain, plain_file, named}
 use Rattle.runs.specs.Reached.{files_seen}
 use Rattle.runs.specs.Reading.{HoldsFiles}
-use Rattle.runs.specs.Runs.{Run, world_at, plain_at}
+use Rattle.runs.specs.Runs.{IsFirst, Run, world_at, plain_at}
 use Rattle.runs.specs.Syncing.{Begin, IsSync, Synced}
 use Rattle.runs.specs.World.{World, Move, Act, WorldStep}
 use Rattle.sharded.specs.Shards.{Sharded, Shift, ShardStep, ShardedRun, EveryShard, left, sharded_at, world_of, steps_of, moment_of}
@@ -27,6 +31,24 @@ ShardsAreRuns = (s : Sharded) (steps : List Shift) (k : ℕ) → ShardedRun s st
 abbrev pub ShardsAreFree : Type 0
 ShardsAreFree = (s : Sharded) (k : ℕ) (move : Move) (w : World) → WorldStep (world_of s k) move w
     → (new : Sharded) × ShardStep s k move new × (world_of new k ≡ w)
+
+-- caches without files over a device of any bytes, with room for each
+abbrev pub begun : Sizes → (ℕ → ℕ) → List (List ℕ) → Sharded
+begun sizes name device = record {
+  shard = λ k. record { core = no_files sizes (name k); outcomes = map.empty; writing = map.empty };
+  device = device;
+  blocks = sizes.blocks;
+}
+
+-- all of their worlds are first ones
+abbrev pub ShardsMayBegin : Type 0
+ShardsMayBegin = (sizes : Sizes) (name : ℕ → ℕ) (device : List (List ℕ)) (count k : ℕ)
+    → 0 < sizes.page → count * sizes.blocks ≤ length device → All (λ block. length block ≡ sizes.page) device
+    → k < count → IsFirst (world_of (begun sizes name device) k)
+
+-- what holds of every world that a run leads to holds of a shard's
+abbrev pub ShardsHoldAlways : Type 0
+ShardsHoldAlways = EveryShard (λ s steps k. Always (world_of (left s steps) k))
 
 -- the plain files that the shard's calls leave
 abbrev pub plain_of : ℕ → List Shift → Plain
