@@ -15,17 +15,17 @@ use Rattle.runs.specs.Reading.{HoldsFiles}
 use Rattle.runs.specs.Runs.{IsFirst, Run, world_at, plain_at}
 use Rattle.runs.specs.Syncing.{Begin, IsSync, Synced}
 use Rattle.runs.specs.World.{World, Move, Act, WorldStep}
-use Rattle.sharded.specs.Shards.{Sharded, Shift, ShardStep, ShardedRun, EveryShard, left, sharded_at, world_of, steps_of, moment_of}
+use Rattle.sharded.specs.Shards.{Sharded, Turn, ShardStep, ShardedRun, EveryShard, left, sharded_at, world_of, steps_of, moment_of}
 
 -- the steps of shard k are a run over its part of the device, and at each moment of all shards its world is the one that its own
 -- run has come to
-pub record IsRunOfShard (s : Sharded) (steps : List Shift) (k : ℕ) : Type 0 where
+pub record IsRunOfShard (s : Sharded) (steps : List Turn) (k : ℕ) : Type 0 where
   pub run : Run (world_of s k) (steps_of k steps)
   pub worlds : (n : ℕ) → world_of (sharded_at s steps n) k ≡ world_at (world_of s k) (steps_of k steps) (moment_of k steps n)
 
 -- of every shard, in every run of all shards from any world. How the steps of two shards lie in it is not said
 abbrev pub ShardsAreRuns : Type 0
-ShardsAreRuns = (s : Sharded) (steps : List Shift) (k : ℕ) → ShardedRun s steps → IsRunOfShard s steps k
+ShardsAreRuns = (s : Sharded) (steps : List Turn) (k : ℕ) → ShardedRun s steps → IsRunOfShard s steps k
 
 -- whatever a shard's world may do that has the device alone, the shard may do among the others, at any moment
 abbrev pub ShardsAreFree : Type 0
@@ -51,7 +51,7 @@ abbrev pub ShardsHoldAlways : Type 0
 ShardsHoldAlways = EveryShard (λ s steps k. Always (world_of (left s steps) k))
 
 -- the plain files that the shard's calls leave
-abbrev pub plain_of : ℕ → List Shift → Plain
+abbrev pub plain_of : ℕ → List Turn → Plain
 plain_of k steps = plain_at (steps_of k steps) (length (steps_of k steps))
 
 -- after any run each successful read of a shard answers what the shard's plain file holds

@@ -47,38 +47,38 @@ pub record ShardStep (old : Sharded) (k : ℕ) (move : Move) (new : Sharded) : T
 
 -- ---- runs of all shards
 
--- a step: the shard that makes it, its move, and what it leaves
-pub record Shift : Type 0 where
+-- a turn: the shard that makes a step, its move, and what it leaves
+pub record Turn : Type 0 where
   pub shard : ℕ
   pub move : Move
   pub after : Sharded
 
-abbrev pub ShardedRun : Sharded → List Shift → Type 0
+abbrev pub ShardedRun : Sharded → List Turn → Type 0
 ShardedRun s [] = Unit {0}
 ShardedRun s (step ∷ steps) = ShardStep s step.shard step.move step.after × ShardedRun step.after steps
 
 -- what is left at the end
-abbrev pub left : Sharded → List Shift → Sharded
+abbrev pub left : Sharded → List Turn → Sharded
 left s [] = s
 left s (step ∷ steps) = left step.after steps
 
 -- and after n steps
-abbrev pub sharded_at : Sharded → List Shift → ℕ → Sharded
+abbrev pub sharded_at : Sharded → List Turn → ℕ → Sharded
 sharded_at s steps n = left s (take n steps)
 
 -- ---- the run of one shard
 
 -- the steps of shard k, in their order, each with the shard's world after it
-abbrev pub steps_of : ℕ → List Shift → Steps
+abbrev pub steps_of : ℕ → List Turn → Steps
 steps_of k [] = []
 steps_of k (step ∷ steps) =
     if step.shard == k then (step.move, world_of step.after k) ∷ steps_of k steps else steps_of k steps
 
 -- how many of the first n steps are shard k's: the moment of its own run
-abbrev pub moment_of : ℕ → List Shift → ℕ → ℕ
+abbrev pub moment_of : ℕ → List Turn → ℕ → ℕ
 moment_of k steps n = length (steps_of k (take n steps))
 
 -- what holds of every shard, in every run of all shards, whose world was a first one. Of the other shards nothing is asked
-abbrev pub EveryShard : (Sharded → List Shift → ℕ → Type 0) → Type 0
+abbrev pub EveryShard : (Sharded → List Turn → ℕ → Type 0) → Type 0
 EveryShard Holds =
-    (s : Sharded) (steps : List Shift) (k : ℕ) → ShardedRun s steps → IsFirst (world_of s k) → Holds s steps k
+    (s : Sharded) (steps : List Turn) (k : ℕ) → ShardedRun s steps → IsFirst (world_of s k) → Holds s steps k
