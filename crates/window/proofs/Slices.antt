@@ -43,6 +43,11 @@ pub told_past : (f c : ℕ) (d : Option (List (List ℕ))) (b : ℕ) → c ≤ b
 told_past f c None b h = refl
 told_past f c (Some xs) b h = ap Some (past-take c (drop f xs) b h)
 
+-- which is told as any block is, where blocks are told
+pub told_past_at : (f c : ℕ) (d : Option (List (List ℕ))) (b i : ℕ) → c ≤ b → told_at (option_map (slice_of f c) d) b ≡ option_map (λ (x : Option (List ℕ)). None) (told_at d i)
+told_past_at f c None b i h = refl
+told_past_at f c (Some xs) b i h = told_past f c (Some xs) b h
+
 -- a block that is not the one written
 pub told_other : (d : Option (List (List ℕ))) (i b : ℕ) (bytes : List ℕ) → b ≢ i → told_at (with_block d i bytes) b ≡ told_at d b
 told_other None i b bytes h = refl
