@@ -43,7 +43,7 @@ turns-preserved g c = record {
 
 pub turns-init : goal.turns-init
 turns-init g c = record {
-  worker = c.requires;
+  worker = c.requires.worker;
   goes = goes_same c.args.worker.now.seat c.args.worker.now.seat refl;
   only = only_same (λ e. IsEnd e.event) c.args.worker.now.seat c.args.worker.now.seat refl;
   pushed = refl;
