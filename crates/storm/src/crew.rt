@@ -226,10 +226,18 @@ fn push_member<B: Naming>(
     members: &mut Vec<Member<B>>,
     refused: &mut Refused,
 ) -> Option<()> {
-    if let Some(refusal) = served.refused {
+    let Served {
+        member,
+        refused: refusal,
+    } = served;
+    note(refusal, refused);
+    members.push(member).ok()
+}
+
+fn note(refusal: Option<Refusal>, refused: &mut Refused) {
+    if let Some(refusal) = refusal {
         refused.count(refusal);
     }
-    members.push(served.member).ok()
 }
 
 /// Workers with the seats of the last two of these members.
