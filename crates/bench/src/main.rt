@@ -2,7 +2,9 @@
 //! Times the calls of the marked array, of the identifiers, of the error word and of the files: `bench time` prints a row a call, as
 //! `12.34 ns  load, random`.
 //!
-//! The rows are those of `timed_calls` and `timed_files`, and `report` prints them.
+//! The rows are those of `bench_calls` and `bench_files`, and `report` prints them.
+//!
+//! Floor: outside.
 
 mod report;
 

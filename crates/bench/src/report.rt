@@ -1,19 +1,19 @@
 //! What is printed: a row a line, first of the calls that may be inlined, then of those that may not, then of the files, and last of the
 //! paths.
 
+use bench_calls::form::{Form, Inlined, Outlined, Timed};
+use bench_calls::ids::IdRow;
+use bench_calls::order::random_order;
+use bench_calls::row::Row;
+use bench_calls::time_row;
+use bench_calls::words::WordRow;
+use bench_files::bare::Bare;
+use bench_files::files::{Cached, FileRow};
+use bench_files::larger::Larger;
+use bench_files::paths::{BarePath, CachedPath, LargerPath, Path};
+use bench_files::{time_file_row, time_path};
+use bench_timing::{Fault, write_row};
 use std::io::Write;
-use timed_calls::form::{Form, Inlined, Outlined, Timed};
-use timed_calls::ids::IdRow;
-use timed_calls::order::random_order;
-use timed_calls::row::Row;
-use timed_calls::time_row;
-use timed_calls::words::WordRow;
-use timed_files::bare::Bare;
-use timed_files::files::{Cached, FileRow};
-use timed_files::larger::Larger;
-use timed_files::paths::{BarePath, CachedPath, LargerPath, Path};
-use timed_files::{time_file_row, time_path};
-use timing::{Fault, write_row};
 
 /// What a label ends with where each call goes through a function that is not inlined.
 const OUTLINED: &str = ", not inlined";

@@ -2,7 +2,9 @@
 //! Times what several threads share: `bench_shared time [PATH]` prints a row a call, as `12.34 ns  append of a read of 64 bytes`.
 //! The rows of a device and those of syncs stand over files that are made at PATH and beside it, and are left out without one.
 //!
-//! The rows are those of `timed_threads`, and `report` prints them.
+//! The rows are those of `bench_threads`, and `report` prints them.
+//!
+//! Floor: outside.
 
 mod report;
 

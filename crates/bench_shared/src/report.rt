@@ -2,16 +2,16 @@
 
 ghost use Rattle.std.specs.Prelude.{◌<◌};
 
+use bench_threads::blocks::{BLOCKS, Disk, DiskRow};
+use bench_threads::holds::READS;
+use bench_threads::jobs::TURNS;
+use bench_threads::trails::{Recorded, TrailRow};
+use bench_threads::{ROUNDS, holds, jobs, reads, syncs, time_disk_row, time_trail_row};
+use bench_timing::{Best, Fault, write_row};
 use std::io::Write;
 use std::sync::Wait;
 use std::thread::Threads;
 use std::time::Clock;
-use timed_threads::blocks::{BLOCKS, Disk, DiskRow};
-use timed_threads::holds::READS;
-use timed_threads::jobs::TURNS;
-use timed_threads::trails::{Recorded, TrailRow};
-use timed_threads::{ROUNDS, holds, jobs, reads, syncs, time_disk_row, time_trail_row};
-use timing::{Best, Fault, write_row};
 
 /// Prints all rows. Those of a device and of syncs stand over files that are made at the path and beside it, and are left out if there
 /// is none.

@@ -10,7 +10,7 @@ pub length-blocks_of : (s n : ℕ) (bytes : List ℕ) → length (blocks_of s n 
 length-blocks_of s zero bytes = refl
 length-blocks_of s (suc n) bytes = ap suc (length-blocks_of s n (drop s bytes))
 
-pub All-blocks_of : (s n : ℕ) (bytes : List ℕ) → length bytes ≡ n * s → All (λ x. length x ≡ s) (blocks_of s n bytes)
+pub All-blocks_of : (s n : ℕ) (bytes : List ℕ) → n * s ≤ length bytes → All (λ x. length x ≡ s) (blocks_of s n bytes)
 All-blocks_of s zero bytes e k d h = absurd (omega arith)
 All-blocks_of s (suc n) bytes e zero d h =
     let more : suc n * s ≡ s + n * s = omega arith in
@@ -28,7 +28,7 @@ block_at-blocks_of s (suc n) bytes (suc b) h =
     rest ∙ ap (take s) (drop-drop (b * s) s bytes ∙ ap (λ (k : ℕ). drop k bytes) here)
 
 -- the bytes with others in place from k on
-abbrev placed : List ℕ → ℕ → List ℕ → ℕ → List ℕ
+abbrev pub placed : List ℕ → ℕ → List ℕ → ℕ → List ℕ
 placed bytes k these s = take k bytes ++ (these ++ drop (k + s) bytes)
 
 take-placed : (s k : ℕ) (bytes these : List ℕ) → s + k ≤ length bytes → take s (placed bytes (s + k) these s) ≡ take s bytes
@@ -50,7 +50,7 @@ drop-placed_first : (s : ℕ) (bytes these : List ℕ) → length these ≡ s �
 drop-placed_first s bytes these e = drop_at these (drop (0 + s) bytes) s e ∙ ap (λ (n : ℕ). drop n bytes) (omega arith)
 
 -- a block's bytes written over are that block changed
-pub blocks_of-placed : (s n : ℕ) (bytes : List ℕ) (b : ℕ) (these : List ℕ) → b < n → length bytes ≡ n * s → length these ≡ s → blocks_of s n (placed bytes (b * s) these s) ≡ slice_set (blocks_of s n bytes) b these
+pub blocks_of-placed : (s n : ℕ) (bytes : List ℕ) (b : ℕ) (these : List ℕ) → b < n → n * s ≤ length bytes → length these ≡ s → blocks_of s n (placed bytes (b * s) these s) ≡ slice_set (blocks_of s n bytes) b these
 blocks_of-placed s zero bytes b these h len size = absurd (omega arith)
 blocks_of-placed s (suc n) bytes zero these h len size =
     let first : zero * s ≡ 0 = omega arith in
@@ -60,7 +60,7 @@ blocks_of-placed s (suc n) bytes zero these h len size =
 blocks_of-placed s (suc n) bytes (suc b) these h len size =
     let next : suc b * s ≡ s + b * s = omega arith in
     let within : s + b * s ≤ length bytes = (let below : b < n = omega arith in let fits = row_fits b s n s below (omega arith) in omega arith) in
-    let rest : length (drop s bytes) ≡ n * s = omega (arith, length-drop s bytes) in
+    let rest : n * s ≤ length (drop s bytes) = omega (arith, length-drop s bytes) in
     ap (λ (k : ℕ). blocks_of s (suc n) (placed bytes k these s)) next
     ∙ ap (λ (x : List ℕ). x ∷ blocks_of s n (drop s (placed bytes (s + b * s) these s))) (take-placed s (b * s) bytes these within)
     ∙ ap (λ (xs : List ℕ). take s bytes ∷ blocks_of s n xs) (drop-placed s (b * s) bytes these within)
@@ -83,7 +83,7 @@ block_end s n b bytes h len =
     let fits = row_fits b s n s below (omega arith) in
     omega arith
 
-length-placed : (s k : ℕ) (bytes these : List ℕ) → k + s ≤ length bytes → length these ≡ s → length (placed bytes k these s) ≡ length bytes
+pub length-placed : (s k : ℕ) (bytes these : List ℕ) → k + s ≤ length bytes → length these ≡ s → length (placed bytes k these s) ≡ length bytes
 length-placed s k bytes these h e =
     let front : length (take k bytes) ≡ k = length-take-le k bytes (omega arith) in
     simp length-append (omega (arith, length-drop (k + s) bytes, front))
@@ -99,4 +99,4 @@ blocks_of-put s n b k len bytes now these h total size same_now same_k same_len 
     in
     let whole = ap (λ (xs : List ℕ). length xs) as_placed ∙ length-placed s (b * s) bytes these (omega arith) size ∙ sym same_len in
     ap (blocks_of s n) (take_at (put_mid (b * s) k now these) (drop (length (put_mid (b * s) k now these)) bytes) len whole ∙ as_placed)
-    ∙ blocks_of-placed s n bytes b these h total size
+    ∙ blocks_of-placed s n bytes b these h (omega arith) size

@@ -1,5 +1,5 @@
 -- What a device tells of itself, and what a read or a write does to it.
-use Rattle.std.specs.Prelude.{◌≡◌, ℕ, ◌+◌, ◌<◌, ◌⊎◌, List, [], ◌∷◌, length, drop, slice_set, All, Option, Some, None, option_map, IfSome, Result, Ok, Err, OnOk, OnErr}
+use Rattle.std.specs.Prelude.{◌≡◌, ℕ, ◌+◌, ◌<◌, ◌⊎◌, List, [], ◌∷◌, length, drop, slice_get, slice_set, All, Option, Some, None, option_map, IfSome, Result, Ok, Err, OnOk, OnErr}
 use Rattle.blockdev.specs.declared.fault.Fault.{Fault}
 use Rattle.blockdev.specs.declared.fault.FaultEffect.{FaultEffect}
 use Rattle.blockdev.specs.declared.fault.FaultEffect.TheVariants.{Old, New}
@@ -15,7 +15,7 @@ pub record Told : Type 0 where
   pub contents : Option (List (List ℕ))
   -- the fault of each call to come, if it is to fail; calls past the end succeed. Nothing where the device does not tell
   pub plan : Option (List (Option Fault))
-  -- the contents at the last flush that ended well, or at the device's beginning; or nothing where the device does not tell them
+  -- the bytes of each block that would be left if the power went, or nothing where the device does not tell them
   pub durable : Option (List (List ℕ))
   -- the code with which the next flush is to fail, if it is to; those after it succeed. Nothing where the device does not tell
   pub flush_plan : Option (Option ℕ)
@@ -34,10 +34,6 @@ IsSized d = IfSome d.contents (λ blocks. (length blocks ≡ d.count) × All (λ
 abbrev pub fresh : ℕ → ℕ → Told
 fresh size count =
     record { size = size; count = count; contents = Some (zero_blocks size count); plan = Some []; durable = Some (zero_blocks size count); flush_plan = Some None; calls = 0; flushes = 0; faults = 0 }
-
--- nothing told of the contents nor of the faults to come, and no call made
-abbrev pub silent : ℕ → ℕ → Told
-silent size count = record { size = size; count = count; contents = None; plan = None; durable = None; flush_plan = None; calls = 0; flushes = 0; faults = 0 }
 
 -- the most calls that are counted, and the most flushes
 abbrev pub max_calls : ℕ
@@ -71,12 +67,22 @@ abbrev pub left_by : Option Fault → Option (List (List ℕ)) → Option (List 
 left_by None old written = written
 left_by (Some fault) old written = kept fault.effect old written
 
+-- a block of what is told
+abbrev pub told_at : Option (List (List ℕ)) → ℕ → Option (Option (List ℕ))
+told_at told b = option_map (λ (blocks : List (List ℕ)). slice_get blocks b) told
+
+-- what is durable of each block after a call: what was, or what the device held of it before the call or after it. A device may
+-- make a write durable at any time
+abbrev pub Settles : Told → Told → Type 0
+Settles old new = (b : ℕ) → (told_at new.durable b ≡ told_at old.durable b)
+    ⊎ ((told_at new.durable b ≡ told_at old.contents b) ⊎ (told_at new.durable b ≡ told_at new.contents b))
+
 -- what every call does: the device before it, the answer, the device after it
 pub record Calls (old : Told) (r : Outcome) (new : Told) : Type 0 where
   pub size : new.size ≡ old.size
   pub count : new.count ≡ old.count
-  -- it makes nothing durable, and is no flush
-  pub durable : new.durable ≡ old.durable
+  pub durable : Settles old new
+  -- it is no flush
   pub flush_plan : new.flush_plan ≡ old.flush_plan
   pub flushes : new.flushes ≡ old.flushes
   -- each call is counted
@@ -116,7 +122,7 @@ pub record Flushes (old : Told) (r : Outcome) (new : Told) : Type 0 where
   -- it is no read and no write
   pub same : new ≡ record old { durable = new.durable; flush_plan = new.flush_plan; flushes = new.flushes; faults = new.faults }
   pub durable : OnOk r (new.durable ≡ old.contents)
-  pub kept : OnErr r (new.durable ≡ old.durable)
+  pub failed : OnErr r (Settles old new)
   -- each flush is counted
   pub flushes : old.flushes < max_calls → new.flushes ≡ old.flushes + 1
   -- a fault is counted exactly where one is answered

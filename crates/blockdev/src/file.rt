@@ -1,18 +1,20 @@
 //! A device over a file of the system: a regular file, a partition, or a network block device that the system shows as one.
 //!
-//! Which bytes a system call moves is told by no clause. So what such a device holds is not told, and that it returns what
-//! was written to it is a premise.
+//! What it holds is the file's bytes, cut into blocks, where the file tells them. A file of the system tells none (`raw`), so that
+//! a device over one returns what was written to it is a premise.
 
-ghost use Rattle.std.specs.Prelude.{◌≡◌, ◌<◌, ◌*◌, ◌^◌, ◌⊎◌, IfErr, IfOk, length, vec_len};
-ghost use Rattle.blockdev.specs.Device.{Reads, Writes, Flushes, silent};
+ghost use Rattle.std.specs.Prelude.{◌≡◌, ◌<◌, ◌≤◌, ◌*◌, ◌^◌, ◌⊎◌, None, Err, true, false, IfErr, IfOk, IfSome, OnErr, OnOk, length, vec_len};
+ghost use Rattle.blockdev.specs.Device.{Reads, Writes, Flushes};
+ghost use Rattle.blockdev.specs.Files.{over_file};
 
 use crate::device::BlockDevice;
+use crate::raw::{RawFile, SystemFile};
 use pc_types::{BlockNo, ErrCode, Refusal};
 use std::alloc::Global;
-use std::fs::{File, Files, OpenFile, OpenOptions};
+use std::fs::{File, Files, OpenOptions};
 use std::io::{self, Seek, SeekFrom};
 use std::marker::Model;
-use std::os::unix::fs::{FileExt, FileTypeExt};
+use std::os::unix::fs::FileTypeExt;
 use std::path::AsPath;
 
 /// The most bytes that the system counts in a file.
@@ -20,7 +22,7 @@ const MAX_BYTES: u64 = i64::MAX as u64;
 
 /// Blocks one after another in a file, from its beginning. Every fault has code 5.
 #[derive(Drop)]
-pub struct FileDevice<F: FileExt + OpenFile + Drop = File> {
+pub struct FileDevice<F: RawFile = SystemFile> {
     file: F,
     size: u64,
     count: u64,
@@ -36,15 +38,15 @@ pub struct FileDevice<F: FileExt + OpenFile + Drop = File> {
     spare: Vec<u8>,
 }
 
-impl<F: FileExt + OpenFile + Drop> Model for FileDevice<F> {
-    ghost use Rattle.std.specs.Prelude.{◌≡◌, ◌≤◌, ◌<◌, ◌+◌, ◌*◌, ◌^◌, None, length};
-    ghost use Rattle.blockdev.specs.Device.{Told};
+impl<F: RawFile> Model for FileDevice<F> {
+    ghost use Rattle.std.specs.Prelude.{◌≡◌, ◌≤◌, ◌<◌, ◌+◌, ◌*◌, ◌^◌, None, IfSome, length};
+    ghost use Rattle.blockdev.specs.Files.{FileSeen, told_blocks};
 
-    ghost Value = { Told };
+    ghost Value = { FileSeen };
 
-    ghost view = { λ d. record { size = d.size; count = d.count; contents = None; plan = None; durable = None; flush_plan = None; calls = d.calls; flushes = d.flushes; faults = d.faults + d.flush_faults } };
+    ghost view = { λ d. record { told = record { size = d.size; count = d.count; contents = told_blocks d.size d.count (F.bytes d.file); plan = None; durable = told_blocks d.size d.count (F.synced d.file); flush_plan = None; calls = d.calls; flushes = d.flushes; faults = d.faults + d.flush_faults }; is_broken = d.is_broken } };
 
-    ghost invariant = { λ d. (d.faults ≤ d.calls) × (d.flush_faults ≤ d.flushes) × (length d.spare.items ≡ d.size) × (d.count * d.size < 2 ^ 63) };
+    ghost invariant = { λ d. (d.faults ≤ d.calls) × (d.flush_faults ≤ d.flushes) × (length d.spare.items ≡ d.size) × (d.count * d.size < 2 ^ 63) × IfSome (F.bytes d.file) (λ all. d.count * d.size ≤ length all) };
 }
 
 impl FileDevice {
@@ -60,7 +62,7 @@ impl FileDevice {
         block_size: u64,
         blocks: u64,
     ) -> Result<FileDevice, Refusal>
-        ensures opened { IfOk result (λ d. d ≡ silent block_size blocks) }
+        ensures opened { IfOk result (λ d. d ≡ over_file block_size blocks None None) }
         ensures sized { IfOk result (λ d. (0 < block_size) × (block_size * blocks < 2 ^ 63)) }
         ensures refused { IfErr result (λ r. (r ≡ Refusal.Memory) ⊎ (r ≡ Refusal.Io 5)) }
     {
@@ -72,7 +74,7 @@ impl FileDevice {
         let Ok(file) = open_long(files, path, bytes) else {
             return Err(Refusal::Io(ErrCode::IO));
         };
-        Ok(FileDevice::new(file, block_size, blocks, spare))
+        Ok(FileDevice::new(SystemFile::new(file), block_size, blocks, spare))
     }
 }
 
@@ -94,29 +96,13 @@ fn open_long<R: Files<File = File>, P: AsPath>(files: &R, path: P, bytes: u64) -
     Err(io::Error::from(io::ErrorKind::InvalidInput))
 }
 
-/// Fills the bytes from an offset of the file on, and answers whether it could. The system gives all of a block at once, unless
-/// it was interrupted, or gives a part. A read that it refuses is not made again.
-#[inline(always)]
-fn read_whole<F: FileExt>(file: &F, bytes: &mut [u8], offset: u64) -> bool {
-    match file.read_at(bytes, offset) {
-        Ok(count) if count == bytes.len() => true,
-        Err(error) if error.kind() != io::ErrorKind::Interrupted => false,
-        _ => read_in_parts(file, bytes, offset),
-    }
-}
-
-/// The same by as many reads as it takes.
-#[inline(never)]
-fn read_in_parts<F: FileExt>(file: &F, bytes: &mut [u8], offset: u64) -> bool {
-    file.read_exact_at(bytes, offset).is_ok()
-}
-
-impl<F: FileExt + OpenFile + Drop> FileDevice<F> {
+impl<F: RawFile> FileDevice<F> {
     /// A device over an open file which is long enough. `spare` is for the bytes of a block.
     pub fn new(file: F, size: u64, count: u64, spare: Vec<u8>) -> FileDevice<F>
         requires spare { vec_len spare ≡ size }
         requires within { count * size < 2 ^ 63 }
-        ensures { result ≡ silent size count }
+        requires long { IfSome (F.bytes file) (λ all. count * size ≤ length all) }
+        ensures { result ≡ over_file size count (F.bytes file) (F.synced file) }
     {
         FileDevice {
             file,
@@ -133,15 +119,15 @@ impl<F: FileExt + OpenFile + Drop> FileDevice<F> {
 
     /// Bytes of the file before a block.
     fn offset(&self, block: BlockNo) -> u64
-        requires { block.0 < self.now.count }
-        ensures { result ≡ block.0 * self.now.size }
+        requires { block.0 < self.now.told.count }
+        ensures { result ≡ block.0 * self.now.told.size }
     {
         u64::from(block.0) * self.size
     }
 }
 
-impl<F: FileExt + OpenFile + Drop> BlockDevice for FileDevice<F> {
-    ghost told = { λ d. d };
+impl<F: RawFile> BlockDevice for FileDevice<F> {
+    ghost told = { λ d. d.told };
 
     fn block_size(&self) -> u64 {
         self.size
@@ -164,17 +150,18 @@ impl<F: FileExt + OpenFile + Drop> BlockDevice for FileDevice<F> {
     }
 
     fn read(&mut self, block: BlockNo, out: &mut [u8]) -> Result<(), ErrCode>
-        requires exists { block.0 < self.old.count }
-        requires size { length out.old ≡ self.old.size }
-        ensures read { Reads self.old block.0 out.old result out.new self.new }
+        requires exists { block.0 < self.old.told.count }
+        requires size { length out.old ≡ self.old.told.size }
+        ensures read { Reads self.old.told block.0 out.old result out.new self.new.told }
         ensures code { IfErr result (λ code. code ≡ 5) }
+        ensures broken { self.new.is_broken ≡ self.old.is_broken }
     {
         if self.calls == u64::MAX {
             return Err(ErrCode::IO);
         }
         self.calls += 1;
         let offset = self.offset(block);
-        if read_whole(&self.file, &mut self.spare, offset) {
+        if self.file.read_at(&mut self.spare, offset) {
             out.copy_from_slice(&self.spare);
             return Ok(());
         }
@@ -183,36 +170,39 @@ impl<F: FileExt + OpenFile + Drop> BlockDevice for FileDevice<F> {
     }
 
     fn write(&mut self, block: BlockNo, bytes: &[u8]) -> Result<(), ErrCode>
-        requires exists { block.0 < self.old.count }
-        requires size { length bytes.now ≡ self.old.size }
-        ensures write { Writes self.old block.0 bytes.now result self.new }
+        requires exists { block.0 < self.old.told.count }
+        requires size { length bytes.now ≡ self.old.told.size }
+        ensures write { Writes self.old.told block.0 bytes.now result self.new.told }
         ensures code { IfErr result (λ code. code ≡ 5) }
+        ensures broken { self.new.is_broken ≡ self.old.is_broken }
     {
         if self.calls == u64::MAX {
             return Err(ErrCode::IO);
         }
         self.calls += 1;
         let offset = self.offset(block);
-        match self.file.write_all_at(bytes, offset) {
-            Ok(()) => Ok(()),
-            Err(_) => {
-                self.faults += 1;
-                Err(ErrCode::IO)
-            }
+        if self.file.write_at(bytes, offset) {
+            return Ok(());
         }
+        self.faults += 1;
+        Err(ErrCode::IO)
     }
 
     /// After one failure it answers that for ever: the system may have dropped the pages that it could not write, and would
-    /// call a later flush a success.
+    /// call a later flush a success (decision 108).
     fn flush(&mut self) -> Result<(), ErrCode>
-        ensures flush { Flushes self.old result self.new }
+        ensures flush { Flushes self.old.told result self.new.told }
         ensures code { IfErr result (λ code. code ≡ 5) }
+        ensures stays_broken { self.old.is_broken ≡ true → result ≡ Err 5 }
+        ensures broken { OnErr result (self.new.is_broken ≡ true) }
+        ensures well { OnOk result (self.new.is_broken ≡ false) }
     {
         if self.flushes == u64::MAX {
+            self.is_broken = true;
             return Err(ErrCode::IO);
         }
         self.flushes += 1;
-        if !self.is_broken && self.file.sync_data().is_ok() {
+        if !self.is_broken && self.file.sync() {
             return Ok(());
         }
         self.is_broken = true;

@@ -122,6 +122,12 @@ impl Finished {
         self.job.kind()
     }
 
+    pub fn block(&self) -> BlockNo
+        ensures { result.0 ≡ self.now.block }
+    {
+        self.job.block()
+    }
+
     /// How the device call went.
     pub fn outcome(&self) -> Result<(), ErrCode>
         ensures { result ≡ self.now.outcome }

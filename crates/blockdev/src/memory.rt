@@ -1,7 +1,7 @@
 //! A device in memory that never fails.
 
-ghost use Rattle.std.specs.Prelude.{◌≡◌, IfOk, IsOkUnless};
-ghost use Rattle.blockdev.specs.Device.{fresh};
+ghost use Rattle.std.specs.Prelude.{◌≡◌, ◌<◌, IfOk, IsOkUnless, length};
+ghost use Rattle.blockdev.specs.Device.{Reads, Writes, fresh};
 
 use crate::blocks::Blocks;
 use crate::device::BlockDevice;
@@ -73,7 +73,13 @@ impl BlockDevice for MemDevice {
         self.flushes
     }
 
-    fn read(&mut self, block: BlockNo, out: &mut [u8]) -> Result<(), ErrCode> {
+    #[tactic(auto, using(crate::proofs::DurableLemmas::settles_kept))]
+    fn read(&mut self, block: BlockNo, out: &mut [u8]) -> Result<(), ErrCode>
+        requires exists { block.0 < self.old.count }
+        requires size { length out.old ≡ self.old.size }
+        ensures read { Reads self.old block.0 out.old result out.new self.new }
+        ensures durable { self.new.durable ≡ self.old.durable }
+    {
         if self.calls == u64::MAX {
             return Err(ErrCode::IO);
         }
@@ -82,7 +88,13 @@ impl BlockDevice for MemDevice {
         Ok(())
     }
 
-    fn write(&mut self, block: BlockNo, bytes: &[u8]) -> Result<(), ErrCode> {
+    #[tactic(auto, using(crate::proofs::DurableLemmas::settles_kept))]
+    fn write(&mut self, block: BlockNo, bytes: &[u8]) -> Result<(), ErrCode>
+        requires exists { block.0 < self.old.count }
+        requires size { length bytes.now ≡ self.old.size }
+        ensures write { Writes self.old block.0 bytes.now result self.new }
+        ensures durable { self.new.durable ≡ self.old.durable }
+    {
         if self.calls == u64::MAX {
             return Err(ErrCode::IO);
         }

@@ -1,7 +1,7 @@
 //! A device in memory that fails when it is told to.
 
-ghost use Rattle.std.specs.Prelude.{◌≡◌, ◌<◌, ◌∷◌, [], IfOk, IfSome, OnErr, IsOkUnless};
-ghost use Rattle.blockdev.specs.Device.{fresh, max_calls};
+ghost use Rattle.std.specs.Prelude.{◌≡◌, ◌<◌, ◌∷◌, [], IfOk, IfSome, OnErr, IsOkUnless, length};
+ghost use Rattle.blockdev.specs.Device.{Reads, Writes, Flushes, fresh, max_calls};
 ghost use Rattle.blockdev.specs.Script.{Begins};
 ghost use Rattle.blockdev.specs.Blocks.{block_at};
 
@@ -124,7 +124,13 @@ impl BlockDevice for ScriptDevice {
         self.flushes
     }
 
-    fn read(&mut self, block: BlockNo, out: &mut [u8]) -> Result<(), ErrCode> {
+    #[tactic(auto, using(crate::proofs::DurableLemmas::settles_kept))]
+    fn read(&mut self, block: BlockNo, out: &mut [u8]) -> Result<(), ErrCode>
+        requires exists { block.0 < self.old.count }
+        requires size { length out.old ≡ self.old.size }
+        ensures read { Reads self.old block.0 out.old result out.new self.new }
+        ensures durable { self.new.durable ≡ self.old.durable }
+    {
         match self.begin_call()? {
             None => {
                 out.copy_from_slice(self.blocks.get(block.0));
@@ -134,7 +140,13 @@ impl BlockDevice for ScriptDevice {
         }
     }
 
-    fn write(&mut self, block: BlockNo, bytes: &[u8]) -> Result<(), ErrCode> {
+    #[tactic(auto, using(crate::proofs::DurableLemmas::settles_kept))]
+    fn write(&mut self, block: BlockNo, bytes: &[u8]) -> Result<(), ErrCode>
+        requires exists { block.0 < self.old.count }
+        requires size { length bytes.now ≡ self.old.size }
+        ensures write { Writes self.old block.0 bytes.now result self.new }
+        ensures durable { self.new.durable ≡ self.old.durable }
+    {
         match self.begin_call()? {
             None => {
                 self.blocks.set(block.0, bytes);
@@ -149,7 +161,11 @@ impl BlockDevice for ScriptDevice {
         }
     }
 
-    fn flush(&mut self) -> Result<(), ErrCode> {
+    #[tactic(auto, using(crate::proofs::DurableLemmas::settles_kept))]
+    fn flush(&mut self) -> Result<(), ErrCode>
+        ensures flush { Flushes self.old result self.new }
+        ensures kept { OnErr result (self.new.durable ≡ self.old.durable) }
+    {
         if self.flushes == u64::MAX {
             return Err(ErrCode::IO);
         }

@@ -32,7 +32,7 @@ impl<D: BlockDevice> Model for Watched<D> {
 }
 
 impl<D: BlockDevice> Watched<D> {
-    /// A device that may have been written to before.
+    /// A device that may have been written to before (decision 132).
     pub fn over(device: D) -> Watched<D>
         ensures { result ≡ first_watch (D.told device) }
     {
@@ -50,6 +50,7 @@ impl<D: BlockDevice> Watched<D> {
     }
 
     /// Makes the job's device call. A write is noted, since one that fails may have taken effect.
+    #[tactic(auto, using(crate::proofs::DurableLemmas::stays_durable))]
     pub fn perform(&mut self, job: Job) -> Finished
         requires exists { job.block < self.old.device.count }
         requires size { length job.bytes ≡ self.old.device.size }
@@ -62,6 +63,7 @@ impl<D: BlockDevice> Watched<D> {
     }
 
     /// Reads a block, for a caller that has a place for its bytes and wants no job.
+    #[tactic(auto, using(crate::proofs::DurableLemmas::stays_durable))]
     pub fn read(&mut self, block: BlockNo, out: &mut [u8]) -> Result<(), ErrCode>
         requires exists { block.0 < self.old.device.count }
         requires size { length out.old ≡ self.old.device.size }
@@ -83,6 +85,7 @@ impl<D: BlockDevice> Watched<D> {
     }
 
     /// Flushes the device.
+    #[tactic(auto, using(crate::proofs::DurableLemmas::stays_durable))]
     pub fn flush(&mut self) -> Result<(), ErrCode>
         ensures cleared { Clears self.old result self.new }
         ensures durable { OnOk result (self.new.device.durable ≡ self.new.device.contents) }

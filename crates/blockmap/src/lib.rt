@@ -7,6 +7,8 @@
 //!
 //! `block_map` is the map as its caller sees it. `spots` keeps the pages' blocks in a marked array, `held` the held ones in
 //! a table of 64 that `table` looks up; the numbers of the blocks in use are an `IdAlloc`'s.
+//!
+//! Floor: tables.
 
 mod block_map;
 mod held;

@@ -165,7 +165,13 @@ module _ (p : Parts) (w : IsKept p) (f q : ℕ) (start : MayStart (state_by p) f
       (ap (λ (x : Request). x.file) same, ap (λ (x : Request). x.kind) same)
 
   ends : Ends (state_by writing) Flush written_done request
-  ends = record { cache = refl; job = refl; found = there; kind_is = refl }
+  ends = record {
+    cache = refl;
+    job = refl;
+    found = there;
+    kind_is = refl;
+    block = same_block p w f q start placed placed_is;
+  }
 
   abbrev pub WriteGoes : Reply → Parts → Type 0
   WriteGoes r new = Goes (state_by writing) (event.End Flush (end_of written_done)) r new
@@ -325,7 +331,13 @@ module _ (p : Parts) (w : IsKept p) (f q : ℕ) (absent : is_cached (state_by p)
       (ap (λ (x : Request). x.file) same, ap (λ (x : Request). x.kind) same)
 
   read_ends_it : Ends (state_by being_read) Fill read_done wanted
-  read_ends_it = record { cache = refl; job = refl; found = wanted_there; kind_is = refl }
+  read_ends_it = record {
+    cache = refl;
+    job = refl;
+    found = wanted_there;
+    kind_is = refl;
+    block = sym (block_is w.core f q absent idle spot at);
+  }
 
   abbrev pub ReadGoes : Reply → Parts → Type 0
   ReadGoes r new = Goes (state_by being_read) (event.End Fill (end_of read_done)) r new

@@ -19,7 +19,7 @@ use Rattle.machine.specs.Changes.{ended}
 use Rattle.machine.specs.Tests.{fits, is_of, refuse, tests}
 use Rattle.machine.specs.Step.{EndReply, Step}
 use Rattle.machine.proofs.steps.Choices.{and_true}
-use Rattle.cachecore.specs.Ending.{of_kind, request_ended}
+use Rattle.cachecore.specs.Ending.{of_call, request_ended}
 use Rattle.cachecore.specs.Replies.{end_of, outcome_of}
 use Rattle.cachecore.proofs.StepLemmas.{by_change, by_test}
 
@@ -37,27 +37,30 @@ pub record Ends (s : State) (kind : Kind) (f : FinishedTask) (x : Request) : Typ
   pub job : f.kind ≡ kind
   pub found : finmap.get s.requests f.serial ≡ Some x
   pub kind_is : x.kind ≡ kind
+  pub block : f.block ≡ x.block
 
 module _ (s : State) (kind : Kind) (f : FinishedTask) where
   abbrev ours : Bool
   ours = eqb f.cache s.name && same_kind kind f.kind
 
   ends_by : (b : Bool) → ours ≡ b → (o : Option Request) → finmap.get s.requests f.serial ≡ o → (x : Request)
-      → cond b (of_kind kind o) None ≡ Some x → Ends s kind f x
+      → cond b (of_call kind f.block o) None ≡ Some x → Ends s kind f x
   ends_by false e o found x is = absurd cc
   ends_by true e None found x is = absurd cc
-  ends_by true e (Some y) found x is = go (same_kind kind y.kind) refl is
+  ends_by true e (Some y) found x is = go (same_kind kind y.kind && eqb f.block y.block) refl is
     where
-      go : (b : Bool) → same_kind kind y.kind ≡ b → cond b (Some y) None ≡ Some x → Ends s kind f x
+      go : (b : Bool) → (same_kind kind y.kind && eqb f.block y.block) ≡ b → cond b (Some y) None ≡ Some x → Ends s kind f x
       go false k h = absurd cc
       go true k h =
           let parts = and_true (eqb f.cache s.name) (same_kind kind f.kind) e in
+          let call = and_true (same_kind kind y.kind) (eqb f.block y.block) k in
           let same : y ≡ x = cc in
           record {
             cache = eqb-true f.cache s.name parts.0;
             job = kind_is kind f.kind parts.1;
             found = found ∙ ap Some same;
-            kind_is = ap (λ (r : Request). r.kind) (sym same) ∙ kind_is kind y.kind k;
+            kind_is = ap (λ (r : Request). r.kind) (sym same) ∙ kind_is kind y.kind call.0;
+            block = eqb-true f.block y.block call.1 ∙ ap (λ (r : Request). r.block) same;
           }
 
   -- of the request that the code found, in a state that is this one
@@ -68,7 +71,7 @@ module _ (s : State) (kind : Kind) (f : FinishedTask) where
   -- ---- where there is none
 
   -- what is of the machine's test is of the code's
-  ends_none : (b : Bool) (o : Option Request) → cond b (of_kind kind o) None ≡ None → (a : Bool)
+  ends_none : (b : Bool) (o : Option Request) → cond b (of_call kind f.block o) None ≡ None → (a : Bool)
       → (a && is_of kind (end_of f) o) ≡ true → b ≡ (a && same_kind kind f.kind) → ⊥
   ends_none b None is a t same = go a t
     where
@@ -76,11 +79,13 @@ module _ (s : State) (kind : Kind) (f : FinishedTask) where
       go true e = cc
       go false e = cc
   ends_none b (Some x) is a t same =
-      let w = and_true a (same_kind kind f.kind && same_kind kind x.kind && fits kind (end_of f).outcome) t in
-      let v = and_true (same_kind kind f.kind && same_kind kind x.kind) (fits kind (end_of f).outcome) w.1 in
-      let u = and_true (same_kind kind f.kind) (same_kind kind x.kind) v.0 in
+      let kinds = same_kind kind f.kind && same_kind kind x.kind in
+      let w = and_true a (kinds && eqb f.block x.block && fits kind (end_of f).outcome) t in
+      let v = and_true (kinds && eqb f.block x.block) (fits kind (end_of f).outcome) w.1 in
+      let z = and_true kinds (eqb f.block x.block) v.0 in
+      let u = and_true (same_kind kind f.kind) (same_kind kind x.kind) z.0 in
       let on : b ≡ true = same ∙ (λ i. w.0 i && u.0 i) in
-      let clash : Some x ≡ None = sym (λ i. cond (on i) (cond (u.1 i) (Some x) None) None) ∙ is in
+      let clash : Some x ≡ None = sym (λ i. cond (on i) (cond (u.1 i && z.1 i) (Some x) None) None) ∙ is in
       cc
 
   pub stranger_step : None ≡ request_ended s kind f → Step s (event.End kind (end_of f)) (reply.Refused Stranger) s
@@ -99,14 +104,17 @@ module _ (s : State) (kind : Kind) (f : FinishedTask) (x : Request) (e : Ends s 
   no_test : tests s (event.End kind (end_of f)) ≡ None
   no_test =
       (λ i. cond (eq-eqb f.cache s.name e.cache i
-      && is_of kind (record (end_of f) { kind = e.job i; outcome = outcome_of (e.job i) f.outcome f.bytes })
-      (e.found i)) None (refuse Stranger))
-      ∙ ap (λ k. cond (same_kind kind kind && same_kind kind k && fits kind (outcome_of kind f.outcome f.bytes)) None
-      (refuse Stranger)) e.kind_is
+      && is_of kind (record (end_of f) {
+        kind = e.job i;
+        block = record { 0 = e.block i };
+        outcome = outcome_of (e.job i) f.outcome f.bytes;
+      }) (e.found i)) None (refuse Stranger))
+      ∙ (λ i. cond (same_kind kind kind && same_kind kind (e.kind_is i) && eq-eqb x.block x.block refl i
+      && fits kind (outcome_of kind f.outcome f.bytes)) None (refuse Stranger))
       ∙ passes kind f.outcome
     where
       passes : (k : Kind) (o : device.Outcome)
-          → cond (same_kind k k && same_kind k k && fits k (outcome_of k o f.bytes)) None (refuse Stranger) ≡ None
+          → cond (same_kind k k && same_kind k k && true && fits k (outcome_of k o f.bytes)) None (refuse Stranger) ≡ None
       passes Fill (Ok u) = refl
       passes Fill (Err c) = refl
       passes Flush (Ok u) = refl

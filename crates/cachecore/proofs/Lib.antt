@@ -20,6 +20,7 @@ pub mod HandleLemmas
 pub mod HoldCuts
 pub mod HoldLaws
 pub mod Holdings
+pub mod MemoryWants
 pub mod Overwrites
 pub mod Parts
 pub mod PlaceLemmas

@@ -26,7 +26,7 @@ use Rattle.machine.specs.State.{touched_count, bytes_at, page_count, free_frames
 use Rattle.machine.specs.Changes.{boundary, changed, truncated, written}
 use Rattle.machine.specs.Tests.{tests, read_count, read_stop, write_stop, truncate_stop, must_fill, stopped, first_of}
 use Rattle.machine.specs.Tests.{refuse, room_tests, write_tests, is_full}
-use Rattle.machine.specs.Step.{IsLowest, Step, AnswersOr, MayReply}
+use Rattle.machine.specs.Step.{IsLowest, Step, AnswersOr, MayReply, wants_memory}
 use Rattle.machine.proofs.changes.ChangeLaws.{byte-bytes_at, length-bytes_at}
 use Rattle.machine.proofs.steps.Choices.{at_true, at_false}
 use Rattle.pagestore.specs.Ranges.{AreRead, page_byte}
@@ -209,10 +209,10 @@ module _ (s : State) (h : HandleId) (o f : ℕ) (b : List ℕ) (found : Some f �
         → Step s (event.Write h o b) (reply.Refused why) s
     write_no_room why is = by_test s writing (reply.Refused why) (writing_room_left ∙ sym is)
 
-    pub write_no_memory : (new : State) → None ≡ room_tests s f o (length b) → new ≡ s
-        → Step s (event.Write h o b) (reply.Refused Memory) new
-    write_no_memory new room same = by_change s writing (reply.Refused Memory) new (writing_room_left ∙ sym room) tt
-        same
+    pub write_no_memory : (new : State) → None ≡ room_tests s f o (length b) → wants_memory s f o (length b) ≡ true
+        → new ≡ s → Step s (event.Write h o b) (reply.Refused Memory) new
+    write_no_memory new room wants same = by_change s writing (reply.Refused Memory) new (writing_room_left ∙ sym room)
+        (ap (λ g. wants_memory s g o (length b)) (file_is s h f found) ∙ wants) same
 
     pub write_step : (n end : ℕ) (new : State) → None ≡ room_tests s f o (length b) → n ≡ length b
         → end ≡ o + length b → new ≡ written s f o b → Step s (event.Write h o b) (reply.Wrote n end) new

@@ -1,5 +1,5 @@
 -- Inside this crate: the blocks that the pages of a write take.
-use Rattle.std.specs.Prelude.{ℕ, Bool, false, not, List, map, filter, is_some}
+use Rattle.std.specs.Prelude.{◌≡◌, ◌<◌, ◌≤◌, ℕ, Bool, true, false, not, List, map, filter, is_some}
 use Rattle.std.specs.List.{zip}
 use Rattle.std.specs.FinMap.{get}
 use Rattle.maps.specs.Maps.{overwrite}
@@ -8,6 +8,13 @@ use Rattle.blockmap.specs.Blocks.{Blocks, Spots, free_blocks}
 -- whether page p of file f has no block
 abbrev pub is_bare : Blocks → ℕ → ℕ → Bool
 is_bare b f p = not (is_some (get b.spots (f, p)))
+
+-- a page from `first` up to `end` has no block
+pub record HasBare (f first end : ℕ) (b : Blocks) : Type 0 where
+  pub page : ℕ
+  pub from : first ≤ page
+  pub before : page < end
+  pub bare : is_bare b f page ≡ true
 
 -- the k-th of these pages that has no block takes the k-th free block, which is not yet written
 abbrev pub placed_on : Blocks → ℕ → List ℕ → Spots

@@ -183,6 +183,7 @@ end_of f =
       cache = f.cache;
       kind = f.kind;
       serial = record { 0 = f.serial };
+      block = record { 0 = f.block };
       outcome = outcome_of f.kind f.outcome f.bytes;
     }
 

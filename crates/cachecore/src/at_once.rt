@@ -103,7 +103,7 @@ impl CacheCore {
         match self.pages.fill_by(device, block, file.0, page.0) {
             Ok(()) => AtOnce::Ended(file, Reply::Filled),
             Err(code) => {
-                self.pages.abandon_fill(file.0, page.0);
+                self.pages.leave(file.0, page.0);
                 AtOnce::Ended(file, Reply::Failed(code))
             }
         }

@@ -7,7 +7,7 @@ ghost use Rattle.mapping.specs.declared.mapping.TheConstants.{MAX_PAGES};
 ghost use Rattle.machine.specs.State.{dirty_total, handle_file, is_filling, page_count, tags_at, touched_count};
 ghost use Rattle.machine.specs.Tests.{covers, must_fill, room_tests, write_stop, write_tests};
 ghost use Rattle.machine.specs.Changes.{written};
-ghost use Rattle.machine.specs.Step.{Step};
+ghost use Rattle.machine.specs.Step.{Step, wants_memory};
 ghost use Rattle.machine.specs.PageLists.{no_lists};
 ghost use Rattle.machine.specs.ListChanges.{lists_after, lists_written};
 ghost use Rattle.cachecore.specs.Replies.{created, opened, closed, sized, wrote, was_read, bytes_read, test_of, TagsAre};
@@ -361,6 +361,7 @@ impl CacheCore {
         ensures ok { OnOk result (self.new.state ≡ written self.old.state file offset bytes.now) }
         ensures lists { OnOk result (self.new.lists ≡ lists_written self.old.state file offset (length bytes.now) self.old.lists) }
         ensures err { OnErr result (self.new ≡ self.old) }
+        ensures wanting { OnErr result (wants_memory self.old.state file offset (length bytes.now) ≡ true) }
     {
         let page_size = self.geometry.page();
         let end = offset + bytes.len() as u64;

@@ -10,8 +10,8 @@ use pc_types::Kind;
 use writeback::Request;
 
 impl CacheCore {
-    /// The request that a finished job ends. None where no request of this cache and of this kind is in flight with the job's
-    /// serial.
+    /// The request that a finished job ends. None where no request of this cache, of this kind and of the job's block is in
+    /// flight with the job's serial.
     pub(crate) fn request_ended(&self, kind: Kind, finished: &Finished) -> Option<Request>
         ensures { option_map request_of result ≡ request_ended self.now.state kind finished.now }
     {
@@ -19,7 +19,7 @@ impl CacheCore {
             return None;
         }
         let request = self.requests.get(finished.serial())?;
-        if request.kind != kind {
+        if request.kind != kind || request.block.0 != finished.block().0 {
             return None;
         }
         Some(request)

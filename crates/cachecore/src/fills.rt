@@ -165,7 +165,7 @@ impl CacheCore {
                 Ok(Ended::Done(buffer))
             }
             Err(code) => {
-                self.pages.abandon_fill(request.file.0, request.page.0);
+                self.pages.leave(request.file.0, request.page.0);
                 Ok(Ended::Failed(code, buffer))
             }
         }

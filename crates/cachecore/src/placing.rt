@@ -1,11 +1,11 @@
 //! Blocks and frames for the pages of a write.
 
-ghost use Rattle.std.specs.Prelude.{◌≡◌, ◌+◌, ◌-◌, ◌/◌, ◌<◌, ◌≤◌, OnOk, OnErr, length, not, is_some, count_by, nat_lt};
+ghost use Rattle.std.specs.Prelude.{◌≡◌, ◌+◌, ◌-◌, ◌/◌, ◌<◌, ◌≤◌, ◌⊎◌, OnOk, OnErr, length, not, is_some, count_by, nat_lt};
 ghost use Rattle.std.specs.List.{range_with_len};
 ghost use Rattle.mapping.specs.declared.mapping.TheConstants.{MAX_PAGES};
 ghost use Rattle.blockmap.specs.Blocks.{free_blocks};
-ghost use Rattle.cachecore.specs.Placing.{is_bare, with_placed};
-ghost use Rattle.pagestore.specs.Ranges.{AreSized, AreWritten};
+ghost use Rattle.cachecore.specs.Placing.{HasBare, is_bare, with_placed};
+ghost use Rattle.pagestore.specs.Ranges.{AreSized, AreWritten, HasAbsent};
 ghost use Rattle.pagestore.specs.Store.{stored_at, stored_page, NoneAwaited};
 
 use blockmap::BlockMap;
@@ -56,6 +56,7 @@ pub fn place(
     ensures written { OnOk result (AreWritten span.page_size span.file span.offset bytes.now span.first span.end pages.old pages.new) }
     ensures not_placed { OnErr result (blocks.new ≡ blocks.old) }
     ensures not_written { OnErr result (pages.new ≡ pages.old) }
+    ensures wanting { OnErr result (HasAbsent span.file span.first span.end pages.old ⊎ HasBare span.file next span.end blocks.old) }
 {
     if next == span.end {
         return pages.write(span, bytes, span.first);

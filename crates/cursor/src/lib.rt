@@ -1,5 +1,7 @@
 #![tactic(auto)]
 //! Where the cursor of an open file may be put.
+//!
+//! Floor: driven.
 
 mod seek;
 

@@ -8,6 +8,8 @@
 //! `board` has the board and its calls, `recorder` what alone records, `tokens` the pass of a handle and the receipt of
 //! a recording. `views` says what each seat of the table knows, with the rule over all of them (`specs/Rules.antt`),
 //! and `steps` makes the atomic steps.
+//!
+//! Floor: core.
 
 pub mod board;
 pub mod recorder;

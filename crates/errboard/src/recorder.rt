@@ -82,7 +82,7 @@ impl Recorder {
     }
 
     /// A pass that knows all that was recorded of the file. The last recording is done exactly where the recorder
-    /// remembers that somebody was told of it.
+    /// remembers that somebody was told of it (decision 146).
     pub fn pass_remembered(&mut self, file: FileId) -> Result<Pass, Refusal>
         ensures same { self.new ≡ self.old }
         ensures made { IsOk result ↔ (file.0 < files) }

@@ -7,6 +7,8 @@
 //! `word` has the word and its calls (`specs/Word.antt`: its bits), `recording` what a proof keeps of one recording
 //! (`specs/Recorded.antt`: the word that stands for a list of them), `law` the law (`specs/Events.antt`: the record of
 //! events). `specs/Samples.antt` says what a handle's sample knows; a structure over many words builds on it.
+//!
+//! Floor: core.
 
 pub mod law;
 pub mod recording;

@@ -45,6 +45,13 @@ impl<D: BlockDevice> FaultyDevice<D> {
         }
     }
 
+    /// The device below, with which nothing more is done here.
+    pub fn into_device(self) -> D
+        ensures { ((D.told result).size ≡ self.size) × ((D.told result).count ≡ self.count) × ((D.told result).contents ≡ self.contents) }
+    {
+        self.device
+    }
+
     /// Whether the call that was counted last is to fail.
     fn is_chosen(&self) -> bool {
         self.every > 0 && self.calls.wrapping_add(self.flushes) % self.every == 0
@@ -74,6 +81,7 @@ impl<D: BlockDevice> BlockDevice for FaultyDevice<D> {
         self.flushes
     }
 
+    #[tactic(auto, using(blockdev::proofs::DurableLemmas::settles_kept))]
     fn read(&mut self, block: BlockNo, out: &mut [u8]) -> Result<(), ErrCode> {
         if self.calls == u64::MAX {
             return Err(ErrCode::IO);
@@ -90,6 +98,7 @@ impl<D: BlockDevice> BlockDevice for FaultyDevice<D> {
         read
     }
 
+    #[tactic(auto, using(blockdev::proofs::DurableLemmas::settles_kept))]
     fn write(&mut self, block: BlockNo, bytes: &[u8]) -> Result<(), ErrCode> {
         if self.calls == u64::MAX {
             return Err(ErrCode::IO);
@@ -109,6 +118,7 @@ impl<D: BlockDevice> BlockDevice for FaultyDevice<D> {
         Ok(())
     }
 
+    #[tactic(auto, using(blockdev::proofs::DurableLemmas::settles_kept))]
     fn flush(&mut self) -> Result<(), ErrCode> {
         if self.flushes == u64::MAX {
             return Err(ErrCode::IO);

@@ -151,7 +151,7 @@ end_fails w new t x code is kind m = by (finmap.get w.outcomes t) (subst (λ q. 
     by : (o : Option Outcome) → Ends (world_of w) t (Some x) o (reply.Failed code) (world_of new) → (c : ℕ) × (new.core ≡ flush_failed (ended w.core t) x c)
     by None h = absurd h
     by (Some o) h =
-        let a = happened w.core (event.End x.kind (record { cache = w.core.name; kind = x.kind; serial = record { 0 = t }; outcome = o })) (reply.Failed code) new.core h.0 refl (λ n o k. cc) in
+        let a = happened w.core (event.End x.kind (record { cache = w.core.name; kind = x.kind; serial = record { 0 = t }; block = record { 0 = x.block }; outcome = o })) (reply.Failed code) new.core h.0 refl (λ n o k. cc) in
         let fault = fault_is x o code (subst (λ q. EndReply q o (reply.Failed code)) is a.may) in
         (fault.0, a.is ∙ (λ i. request_ended w.core t (is i) (fault.1 i) (reply.Failed code)) ∙ ap (λ k. if is_flush k then flush_failed (ended w.core t) x fault.0 else ended w.core t) kind)
 

@@ -150,7 +150,7 @@ module _ (of : File → ℕ) (plain : (file : File) (z : ℕ) (pages : map.FinMa
   finish_changes w new t r ok m = by (map.get w.core.requests t) (map.get w.outcomes t) m
     where
       by : (q : Option Request) (o : Option Outcome) → Ends w t q o r new → Changes change (flush_of w.core t) r (λ g. of (file_at w.core g)) (λ g. of (file_at new.core g))
-      by (Some x) (Some call) h = step_counts w.core new.core (event.End x.kind (record { cache = w.core.name; kind = x.kind; serial = record { 0 = t }; outcome = call })) r ok h.0
+      by (Some x) (Some call) h = step_counts w.core new.core (event.End x.kind (record { cache = w.core.name; kind = x.kind; serial = record { 0 = t }; block = record { 0 = x.block }; outcome = call })) r ok h.0
       by (Some x) None h = absurd h
       by None o h = absurd h
 

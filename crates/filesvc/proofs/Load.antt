@@ -27,7 +27,7 @@ flush_end_most : (w new : WorldSeen) (t : ℕ) → WorldStep (world_of w) (Finis
 flush_end_most w new t m = by (map.get w.core.requests t) (map.get w.outcomes t) m
   where
     by : (q : Option Request) (o : Option Outcome) → Ends (world_of w) t q o reply.Written (world_of new) → NoHeavier w.core new.core
-    by (Some x) (Some call) h = end_most w.core new.core x.kind (record { cache = w.core.name; kind = x.kind; serial = record { 0 = t }; outcome = call }) h.0
+    by (Some x) (Some call) h = end_most w.core new.core x.kind (record { cache = w.core.name; kind = x.kind; serial = record { 0 = t }; block = record { 0 = x.block }; outcome = call }) h.0
     by (Some x) None h = absurd h
     by None o h = absurd h
 

@@ -93,7 +93,7 @@ pub finish_none : (w new : World) (t : ℕ) (r : Reply) → WorldStep w (Finish 
 finish_none w new t r m = by (finmap.get w.core.requests t) (finmap.get w.outcomes t) m
   where
     by : (q : Option Request) (o : Option Outcome) → Ends w t q o r new → NoneNew w.core new.core
-    by (Some x) (Some call) h = step_none w.core new.core (event.End x.kind (record { cache = w.core.name; kind = x.kind; serial = record { 0 = t }; outcome = call })) r refl h.0
+    by (Some x) (Some call) h = step_none w.core new.core (event.End x.kind (record { cache = w.core.name; kind = x.kind; serial = record { 0 = t }; block = record { 0 = x.block }; outcome = call })) r refl h.0
     by (Some x) None h = absurd h
     by None o h = absurd h
 

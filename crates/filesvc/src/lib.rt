@@ -5,6 +5,8 @@
 //! `handle` has the handle of an open file. `solo` has the service, with its calls in `handles`, `reads`, `writes` and `fsync`; `room`
 //! is what they do on the way, and `requests` makes a request with its device call and its end in one. specs/Service.antt says what
 //! holds of every call.
+//!
+//! Floor: services.
 
 mod fsync;
 mod handle;

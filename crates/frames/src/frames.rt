@@ -75,7 +75,7 @@ impl Frames {
         self.free.len() as u64
     }
 
-    /// Takes the lowest free frame for a page: at the inactive head, unreferenced, with the bytes that it had.
+    /// Takes the lowest free frame for a page: at the inactive head, unreferenced, with the bytes that it had (decision 75).
     pub fn take(&mut self, file: FileId, page: PageIndex) -> Result<FrameId, Refusal>
         ensures lowest { IfOk result (λ frame. IsLowestFree self.old frame.0) }
         ensures taken { IfOk result (λ frame. self.new ≡ taken self.old frame.0 (file, page)) }

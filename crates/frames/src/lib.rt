@@ -8,6 +8,8 @@
 //!
 //! `frames` has the table, `lists` the two lists over `ring`'s links, `order` the oldest frame of each that waits, `bit_set` the
 //! least number of a set over `bits`, and `rows` the bytes.
+//!
+//! Floor: tables.
 
 mod bit_set;
 mod bits;

@@ -5,7 +5,7 @@
 //! list would pass over every frame that does not wait, and after each write-back again over all that are dirty.
 //!
 //! There are four times as many turns as frames. Where none is left, the frames get the first turns, in their order. That is a pass
-//! over all turns, after three times as many comings as there are frames.
+//! over all turns, after three times as many comings as there are frames (decision 166).
 
 ghost use Rattle.std.specs.Prelude.{◌≡◌, ℕ, ◌*◌, ◌<◌, ◌≤◌, false, length, slice_index, slice_set, MatchOption, IfOk, IsOkUnless};
 ghost use Rattle.frames.specs.Order.{turn_of, ComesLast, IsFirst, IsIdle, KeepsOrder, NoneWaits};

@@ -1,5 +1,5 @@
 -- A sync that is given up.
-use Rattle.std.proofs.Common.{◌≡◌, ℕ, Bool, true, false, [], refl, ap, sym, subst, ◌∙◌, arith, inl, inr}
+use Rattle.std.proofs.Common.{◌≡◌, ℕ, Bool, true, false, refl, ap, sym, subst, ◌∙◌, arith, inl, inr}
 use Rattle.std.specs.Prelude.{◌⊎◌, Result, Ok, Err, is_err, is_some, None}
 use Rattle.std.specs.FinMap as finmap
 use Rattle.pc_types.specs.declared.ids.SyncId.{SyncId}

@@ -146,12 +146,11 @@ pub compares : (slots id : ℕ) (all : Log) (made number : ℕ) (list : Log) (co
     (Compared (step slots 0 0 0 none) (Holds all made number list count, c))
 compares slots id all made number list count c s r _ at _ =
     let mine = r.each_seat id (Holds all made number list count) at in
-    let w = Keeper all made in (
+    let w = Holds all made number list count in (
       w,
       keeps,
       tt,
-      unmoved s r 0 id c (Holds all made number list count) w at (λ n e. absurd (some-ne-none n (sym e)))
-          (mine.0, mine.1, mine.2),
+      unmoved s r 0 id c (Holds all made number list count) w at (λ n e. e) mine,
       (
         refl,
         (

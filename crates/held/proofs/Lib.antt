@@ -15,3 +15,4 @@ pub mod Seats
 pub mod Replied
 pub mod Receipts
 pub mod Numbering
+pub mod Tying

@@ -1,5 +1,5 @@
 -- What replies say of their events.
-use Rattle.std.proofs.Common.{◌≡◌, ℕ, ◌<◌, ◌≤◌, Bool, true, false, cond, not, [], length, refl, arith, subst, inl, inr}
+use Rattle.std.proofs.Common.{◌≡◌, ℕ, ◌<◌, ◌≤◌, Bool, true, false, cond, not, length, refl, arith, subst, inl, inr}
 use Rattle.std.specs.Prelude.{Option, Some, None, Result, Ok, is_some, nat_le}
 use Rattle.std.specs.FinMap as map
 use Rattle.blockdev.specs.Jobs.{IsJobFor}

@@ -1,5 +1,5 @@
--- Replies that have no bytes.
-use Rattle.std.proofs.Common.{◌≡◌, ℕ, [], refl}
+-- Replies that have no bytes, and those that are no job.
+use Rattle.std.proofs.Common.{◌≡◌, ℕ, false, List, [], refl}
 use Rattle.std.specs.Prelude.{Option, Some, None, Result, Ok, Err}
 use Rattle.pc_types.specs.declared.ids.FileId.{FileId}
 use Rattle.pc_types.specs.declared.ids.HandleId.{HandleId}
@@ -10,12 +10,17 @@ use Rattle.cachecore.specs.declared.answers.FillBegun.{FillBegun}
 use Rattle.cachecore.specs.declared.answers.FillBegun.TheVariants as fill
 use Rattle.cachecore.specs.declared.answers.FlushBegun.{FlushBegun}
 use Rattle.cachecore.specs.declared.answers.FlushBegun.TheVariants as flush
+use Rattle.cachecore.specs.declared.answers.ReadAnswer.{ReadAnswer}
+use Rattle.cachecore.specs.declared.answers.ReadAnswer.TheVariants as read
 use Rattle.cachecore.specs.declared.answers.Refused.{Refused}
 use Rattle.cachecore.specs.declared.answers.SyncStepped.{SyncStepped}
 use Rattle.cachecore.specs.declared.answers.SyncStepped.TheVariants as sync
 use Rattle.cachecore.specs.declared.answers.TruncateAnswer.{TruncateAnswer}
 use Rattle.cachecore.specs.declared.answers.TruncateAnswer.TheVariants as truncate
-use Rattle.cachecore.specs.Replies.{closed, created, evicted, fill_begun, flush_begun, opened, sized, sync_begun, sync_dropped, sync_stepped, was_truncated}
+use Rattle.cachecore.specs.declared.answers.WriteAnswer.{WriteAnswer}
+use Rattle.cachecore.specs.declared.answers.WriteAnswer.TheVariants as write
+use Rattle.cachecore.specs.Replies.{closed, created, evicted, fill_begun, flush_begun, opened, sized, sync_begun, sync_dropped, sync_stepped, was_read, was_truncated, wrote}
+use Rattle.runs.proofs.moments.KeptRequests.{is_job}
 use Rattle.trail.specs.Entries.{reply_with}
 
 pub bare_created : (a : Result FileId Refusal) → reply_with (created a) [] ≡ created a
@@ -71,3 +76,51 @@ bare_begun (Err e) = refl
 pub bare_drop : (a : Result Unit Refusal) → reply_with (sync_dropped a) [] ≡ sync_dropped a
 bare_drop (Ok u) = refl
 bare_drop (Err e) = refl
+
+-- ---- replies that are no job
+
+pub quiet_created : (a : Result FileId Refusal) → is_job (created a) ≡ false
+quiet_created (Ok f) = refl
+quiet_created (Err e) = refl
+
+pub quiet_opened : (a : Result HandleId Refusal) → is_job (opened a) ≡ false
+quiet_opened (Ok h) = refl
+quiet_opened (Err e) = refl
+
+pub quiet_closed : (a : Result Unit Refusal) → is_job (closed a) ≡ false
+quiet_closed (Ok u) = refl
+quiet_closed (Err e) = refl
+
+pub quiet_sized : (a : Result ℕ Refusal) → is_job (sized a) ≡ false
+quiet_sized (Ok n) = refl
+quiet_sized (Err e) = refl
+
+pub quiet_cut : (a : Result TruncateAnswer Refusal) → is_job (was_truncated a) ≡ false
+quiet_cut (Ok truncate.Done) = refl
+quiet_cut (Ok (truncate.Wait p)) = refl
+quiet_cut (Ok (truncate.Miss p)) = refl
+quiet_cut (Err e) = refl
+
+pub quiet_evicted : (a : Option (FileId × PageIndex)) → is_job (evicted a) ≡ false
+quiet_evicted (Some e) = refl
+quiet_evicted None = refl
+
+pub quiet_begun : (a : Result SyncId Refusal) → is_job (sync_begun a) ≡ false
+quiet_begun (Ok n) = refl
+quiet_begun (Err e) = refl
+
+pub quiet_drop : (a : Result Unit Refusal) → is_job (sync_dropped a) ≡ false
+quiet_drop (Ok u) = refl
+quiet_drop (Err e) = refl
+
+pub quiet_wrote : (a : Result WriteAnswer Refusal) → is_job (wrote a) ≡ false
+quiet_wrote (Ok (write.Wrote n end)) = refl
+quiet_wrote (Ok (write.Wait p)) = refl
+quiet_wrote (Ok (write.Miss p)) = refl
+quiet_wrote (Err e) = refl
+
+pub quiet_read : (a : Result ReadAnswer Refusal) (out : List ℕ) → is_job (was_read a out) ≡ false
+quiet_read (Ok (read.Bytes n)) out = refl
+quiet_read (Ok (read.Wait p)) out = refl
+quiet_read (Ok (read.Miss p)) out = refl
+quiet_read (Err e) out = refl

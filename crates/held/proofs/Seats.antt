@@ -79,6 +79,42 @@ only_by own e r old new before after slip is m =
       count = omega (arith, m.entered.count, count_both before.number others (entry ∷ []), here, none);
     }
 
+-- one that sees the history as it is made nothing meanwhile
+pub only_shown : (before after : SeatSeen) (history : List Entry) → after.number ≡ before.number → after.list ≡ history
+    → after.count ≡ before.count → IsPrefix before.list history → before.count ≡ count_of before.number history
+    → before.count ≡ count_of before.number before.list → Only (λ _. ⊥) before after
+only_shown before after history number list count begins counted own =
+    let others : List Entry = begins.0 in
+    let there : before.list ++ others ≡ history = begins.1 in
+    let none : count_of before.number others ≡ 0 =
+    omega (arith, sym (count_both before.number before.list others) ∙ ap (count_of before.number) there, counted, own) in
+    record {
+      same = number;
+      since = others;
+      saw = list ∙ sym there;
+      made = none_made (λ _. ⊥) before.number others none;
+      count = omega (arith, count, none);
+    }
+
+pub goes_shown : (before after : SeatSeen) (history : List Entry) → after ≡ record before { list = history }
+    → Only (λ _. ⊥) before after → Goes before after
+goes_shown before after history is p = record {
+  same = (ap (λ (s : SeatSeen). s.table) is, ap (λ (s : SeatSeen). s.name) is, ap (λ (s : SeatSeen). s.number) is);
+  grows = (p.since, sym p.saw);
+  count = let c = ap (λ (s : SeatSeen). s.count) is in omega (arith, c);
+}
+
+-- whatever its own entries are asked to be
+pub only_any : (own : Entry → Type 0) (before after : SeatSeen) → Only (λ _. ⊥) before after → Only own before after
+only_any own before after p = record {
+  same = p.same;
+  since = p.since;
+  saw = p.saw;
+  made = All-weaker (λ (x : Entry). x.seat ≡ before.number → ⊥)
+      (λ (x : Entry). x.seat ≡ before.number → own x) (λ x none same. absurd (none same)) p.since p.made;
+  count = p.count;
+}
+
 pub only_same : (own : Entry → Type 0) (before after : SeatSeen) → after ≡ before → Only own before after
 only_same own before after e = subst (Only own before) (sym e) (record {
   same = refl;

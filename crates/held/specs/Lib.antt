@@ -11,3 +11,4 @@ pub mod Denials
 pub mod Called
 pub mod Firsts
 pub mod Numbers
+pub mod Started

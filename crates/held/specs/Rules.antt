@@ -60,7 +60,7 @@ Seen s before found after = (after.1 ≡ before.1) × SeenFrom before.0 found af
 -- the seat's list begins the trail, and its count is the number of its entries
 abbrev pub ComparedFrom : View → View → Type 0
 ComparedFrom (Holds all made number list count) after =
-    (after ≡ Keeper all made) × IsPrefix list all × (count ≡ count_of number all) × (number < made)
+    (after ≡ Holds all made number list count) × IsPrefix list all × (count ≡ count_of number all) × (number < made)
 ComparedFrom v after = Unit {0}
 
 abbrev pub Compared : Step ℕ → Me ℕ View → ℕ → Me ℕ View → Type 0

@@ -11,9 +11,10 @@ ghost use Rattle.held.specs.Firsts.{IsFirstDenied, Writes};
 use crate::denied::Denied;
 use crate::log::{Seat, Slip};
 use crate::naming::Naming;
+use crate::started::FlushStarted;
 use crate::state::Held;
-use blockdev::{Buffer, Job};
-use cachecore::FlushBegun;
+use blockdev::Buffer;
+use deeds::sides::Errand;
 use pc_types::{FileId, PageIndex};
 use trail::Trail;
 
@@ -23,7 +24,7 @@ impl<B: Naming, T: Trail> Held<B, T> {
         &mut self,
         seat: &mut Seat,
         buffer: Buffer,
-    ) -> Result<Option<(Job, Slip)>, Denied>
+    ) -> Result<Option<(Errand<B>, Slip)>, Denied>
         requires seat { seat.old.table ≡ B.table }
         requires size { length buffer ≡ B.sizes.page }
         ensures goes { Goes seat.old seat.new }
@@ -41,9 +42,9 @@ impl<B: Naming, T: Trail> Held<B, T> {
             Err(denied) => return Err(denied),
         };
         match begun {
-            FlushBegun::Job(job) => Ok(Some((job, slip))),
+            FlushStarted::Job(errand) => Ok(Some((errand, slip))),
             // The file has a page to write.
-            FlushBegun::Nothing(_) => unreachable!(),
+            FlushStarted::Nothing(_) => unreachable!(),
         }
     }
 }

@@ -6,6 +6,7 @@ ghost use Rattle.std.specs.Bool.{OnTrue, OnFalse};
 ghost use Rattle.pc_types.specs.declared.refusal.Refusal.TheVariants.{Stranger, TrailFull};
 ghost use mathlib.Core.List.{IsPrefix};
 ghost use Rattle.held.specs.declared.views.View.TheVariants.{Keeper};
+ghost use Rattle.held.specs.Called.{Only};
 ghost use Rattle.held.specs.Entered.{Entered};
 ghost use Rattle.trail.specs.Entries.{entry_with};
 ghost use Rattle.trail.specs.Room.{fits, fits_beside, less, reserved};
@@ -14,7 +15,7 @@ ghost use Rattle.held.specs.Steps.{IsAt, Stays};
 ghost use Rattle.held.specs.Views.{count_of};
 
 use crate::denied::{Denied, without_slip};
-use crate::steps::{enter, give_seat, look, settle};
+use crate::steps::{enter, give_seat, look, settle, show};
 use crate::views::{Count, InOneOrder, Stand, View};
 use atomic_table::Table;
 use cachecore::{CacheCore, Event, Reply};
@@ -177,6 +178,18 @@ impl<T: Trail> Log<T> {
             trail,
         };
         Ok((log, all, own))
+    }
+
+    /// Lets a seat see the history as it is.
+    #[tactic(auto, using(crate::proofs::Seats::only_shown))]
+    pub(crate) fn show(&mut self, seat: &mut Seat)
+        requires { seat.old.table ≡ self.old.table }
+        ensures same { self.new ≡ self.old }
+        ensures seen { seat.new ≡ record seat.old { list = self.old.history } }
+        ensures only { Only (λ _. ⊥) seat.old seat.new }
+    {
+        let Log { count, keeper, .. } = self;
+        show(&count.shared, keeper, &mut seat.stand);
     }
 
     pub(crate) fn name(&self) -> u64

@@ -10,15 +10,18 @@ ghost use Rattle.pc_types.specs.declared.kind.Kind.TheVariants.{Fill, Flush};
 ghost use Rattle.held.specs.Denials.{IsDenied};
 ghost use Rattle.held.specs.Ends.{IsRecorded};
 ghost use Rattle.held.specs.Entered.{Made};
+ghost use Rattle.held.specs.Started.{as_fill, as_flush};
 
 use crate::denied::{Denied, by, check_entry};
-use crate::end::{bytes_of, end_without, is_well, record};
+use crate::end::{bytes_of, end_without, is_well, record, take_back};
 use crate::log::{Seat, Slip};
 use crate::naming::Naming;
+use crate::started::{FillStarted, FlushStarted, fill_started, flush_started};
 use crate::state::Held;
 use blockdev::{Buffer, Finished};
 use cachecore::replies::{of_fill_begin, of_fill_end, of_flush_begin, of_flush_end};
-use cachecore::{Ended, Event, FillBegun, FlushBegun};
+use cachecore::{Ended, Event};
+use deeds::sides::{Report, Stub};
 use errboard::Receipt;
 use pc_types::{FileId, HandleId, Kind, PageIndex};
 use trail::Trail;
@@ -31,30 +34,54 @@ impl<B: Naming, T: Trail> Held<B, T> {
         handle: HandleId,
         page: PageIndex,
         buffer: Buffer,
-    ) -> Result<(FillBegun, Slip), Denied>
+    ) -> Result<(FillStarted<B>, Slip), Denied>
         requires seat { seat.old.table ≡ B.table }
         requires size { length buffer ≡ B.sizes.page }
-        ensures made { IfOk result (λ r. Made (event.FillBegin handle page) (fill_begun (Ok r.0)) self.old self.new seat.old seat.new r.1) }
-        ensures job { IfOk result (λ r. IsFillJob self.new.core.state (Ok r.0)) }
-        ensures fits { IfOk result (λ r. OnFillJob (Ok r.0) (IsJobFor B.name B.sizes.blocks B.sizes.page)) }
-        ensures back { IfOk result (λ r. GivesBack buffer (Ok r.0)) }
+        ensures made { IfOk result (λ r. Made (event.FillBegin handle page) (fill_begun (Ok (as_fill r.0))) self.old self.new seat.old seat.new r.1) }
+        ensures job { IfOk result (λ r. IsFillJob self.new.core.state (Ok (as_fill r.0))) }
+        ensures fits { IfOk result (λ r. OnFillJob (Ok (as_fill r.0)) (IsJobFor B.name B.sizes.blocks B.sizes.page)) }
+        ensures back { IfOk result (λ r. GivesBack buffer (Ok (as_fill r.0))) }
         ensures denied { IfErr result (IsDenied (event.FillBegin handle page) self.old self.new seat.old seat.new) }
     {
-        let Held { core, log, .. } = self;
+        let Held {
+            core,
+            log,
+            desk,
+            ..
+        } = self;
         // The end of a fill may have the bytes of a page.
         log.check_room(core, 2, core.geometry().page())?;
         let answer = core.fill_begin(handle, page, buffer);
         let event = Event::FillBegin(handle, page);
         let slip = log.enter(seat, event, of_fill_begin(&answer), &[]);
-        match answer {
+        match fill_started(desk, answer) {
             Ok(begun) => Ok((begun, slip)),
             Err(refused) => Err(by(refused.refusal, slip)),
         }
     }
 
     /// Ends a fill. An end whose request is in flight is always made.
-    pub fn fill_end(&mut self, seat: &mut Seat, finished: Finished) -> Result<(Ended, Slip), Denied>
+    pub fn fill_end(&mut self, seat: &mut Seat, report: Report<B>) -> Result<(Ended, Slip), Denied>
         requires seat { seat.old.table ≡ B.table }
+        requires size { length report.bytes ≡ B.sizes.page }
+        ensures made { IfOk result (λ r. Made (event.End Fill (end_of report)) (fill_ended (Ok r.0)) self.old self.new seat.old seat.new r.1) }
+        ensures in_flight { tests self.old.core.state (event.End Fill (end_of report)) ≡ None → IsOk result }
+        ensures back { IfOk result (λ r. EndGivesBack report (Ok r.0)) }
+        ensures denied { IfErr result (IsDenied (event.End Fill (end_of report)) self.old self.new seat.old seat.new) }
+    {
+        let (finished, stub) = report.parts();
+        self.end_fill(seat, finished, stub)
+    }
+
+    /// Ends a fill, whose deed comes back where the end goes through.
+    fn end_fill(
+        &mut self,
+        seat: &mut Seat,
+        finished: Finished,
+        stub: Stub<B>,
+    ) -> Result<(Ended, Slip), Denied>
+        requires seat { seat.old.table ≡ B.table }
+        requires stub { stub ≡ finished }
         requires size { length finished.bytes ≡ B.sizes.page }
         ensures made { IfOk result (λ r. Made (event.End Fill (end_of finished)) (fill_ended (Ok r.0)) self.old self.new seat.old seat.new r.1) }
         ensures in_flight { tests self.old.core.state (event.End Fill (end_of finished)) ≡ None → IsOk result }
@@ -65,6 +92,7 @@ impl<B: Naming, T: Trail> Held<B, T> {
             core,
             log,
             alloc,
+            desk,
             ..
         } = self;
         let is_room = log.has_room(core, 1, 0);
@@ -75,6 +103,7 @@ impl<B: Naming, T: Trail> Held<B, T> {
         let reply = of_fill_end(&answer);
         let bytes = bytes_of(&answer, is_read);
         let slip = log.enter(seat, Event::End(Kind::Fill, end), reply, bytes);
+        take_back(desk, stub, &answer);
         match answer {
             Ok(ended) => Ok((ended, slip)),
             Err(refused) => Err(by(refused.refusal, slip)),
@@ -87,20 +116,25 @@ impl<B: Naming, T: Trail> Held<B, T> {
         seat: &mut Seat,
         file: FileId,
         buffer: Buffer,
-    ) -> Result<(FlushBegun, Slip), Denied>
+    ) -> Result<(FlushStarted<B>, Slip), Denied>
         requires seat { seat.old.table ≡ B.table }
         requires size { length buffer ≡ B.sizes.page }
-        ensures made { IfOk result (λ r. Made (event.FlushBegin file) (flush_begun (Ok r.0)) self.old self.new seat.old seat.new r.1) }
-        ensures job { IfOk result (λ r. IsFlushJob self.new.core.state (Ok r.0)) }
-        ensures fits { IfOk result (λ r. OnFlushJob (Ok r.0) (IsJobFor B.name B.sizes.blocks B.sizes.page)) }
-        ensures back { IfOk result (λ r. FlushGivesBack buffer (Ok r.0)) }
+        ensures made { IfOk result (λ r. Made (event.FlushBegin file) (flush_begun (Ok (as_flush r.0))) self.old self.new seat.old seat.new r.1) }
+        ensures job { IfOk result (λ r. IsFlushJob self.new.core.state (Ok (as_flush r.0))) }
+        ensures fits { IfOk result (λ r. OnFlushJob (Ok (as_flush r.0)) (IsJobFor B.name B.sizes.blocks B.sizes.page)) }
+        ensures back { IfOk result (λ r. FlushGivesBack buffer (Ok (as_flush r.0))) }
         ensures denied { IfErr result (IsDenied (event.FlushBegin file) self.old self.new seat.old seat.new) }
     {
-        let Held { core, log, .. } = self;
+        let Held {
+            core,
+            log,
+            desk,
+            ..
+        } = self;
         log.check_room(core, 2, 0)?;
         let answer = core.flush_begin(file, buffer);
         let slip = log.enter(seat, Event::FlushBegin(file), of_flush_begin(&answer), &[]);
-        match answer {
+        match flush_started(desk, answer) {
             Ok(begun) => Ok((begun, slip)),
             Err(refused) => Err(by(refused.refusal, slip)),
         }
@@ -111,9 +145,29 @@ impl<B: Naming, T: Trail> Held<B, T> {
     pub fn flush_end(
         &mut self,
         seat: &mut Seat,
-        finished: Finished,
+        report: Report<B>,
     ) -> Result<(Ended, Option<Receipt>, Slip), Denied>
         requires { seat.old.table ≡ B.table }
+        ensures made { IfOk result (λ r. Made (event.End Flush (end_of report)) (flush_ended (Ok r.0)) self.old self.new seat.old seat.new r.2) }
+        ensures in_flight { tests self.old.core.state (event.End Flush (end_of report)) ≡ None → IsOk result }
+        ensures receipt { IfOk result (λ r. IsRecorded self.old.errors (flush_of self.old.core.state report.serial) (Ok r.0) r.1 self.new.errors) }
+        ensures own { IfOk result (λ r. IfSome r.1 (λ receipt. receipt.board ≡ B.board)) }
+        ensures back { IfOk result (λ r. EndGivesBack report (Ok r.0)) }
+        ensures denied { IfErr result (IsDenied (event.End Flush (end_of report)) self.old self.new seat.old seat.new) }
+    {
+        let (finished, stub) = report.parts();
+        self.end_flush(seat, finished, stub)
+    }
+
+    /// Ends a flush, whose deed comes back where the end goes through.
+    fn end_flush(
+        &mut self,
+        seat: &mut Seat,
+        finished: Finished,
+        stub: Stub<B>,
+    ) -> Result<(Ended, Option<Receipt>, Slip), Denied>
+        requires seat { seat.old.table ≡ B.table }
+        requires stub { stub ≡ finished }
         ensures made { IfOk result (λ r. Made (event.End Flush (end_of finished)) (flush_ended (Ok r.0)) self.old self.new seat.old seat.new r.2) }
         ensures in_flight { tests self.old.core.state (event.End Flush (end_of finished)) ≡ None → IsOk result }
         ensures receipt { IfOk result (λ r. IsRecorded self.old.errors (flush_of self.old.core.state finished.serial) (Ok r.0) r.1 self.new.errors) }
@@ -126,6 +180,7 @@ impl<B: Naming, T: Trail> Held<B, T> {
             log,
             recorder,
             alloc,
+            desk,
             ..
         } = self;
         let is_room = log.has_room(core, 1, 0);
@@ -136,6 +191,7 @@ impl<B: Naming, T: Trail> Held<B, T> {
         let reply = of_flush_end(&answer);
         let slip = log.enter(seat, Event::End(Kind::Flush, end), reply, &[]);
         let receipt = record(recorder, file, &answer);
+        take_back(desk, stub, &answer);
         match answer {
             Ok(ended) => Ok((ended, receipt, slip)),
             Err(refused) => Err(by(refused.refusal, slip)),

@@ -1,6 +1,6 @@
 //! The state of a shared cache, as it lies under its lock: its core, its history, and the recorder of failed writes.
 
-ghost use Rattle.std.specs.Prelude.{◌≡◌, ◌≢◌, ℕ, ◌↔◌, ◌⊎◌, ◌+◌, ◌<◌, ◌≤◌, ◌&&◌, nat_lt, nat_le, if◌then◌else◌, [], length, replicate, true, IfOk, IfErr, IsOk, IsErr, IsOkUnless, OnOk, All, Any, Some, vec_len};
+ghost use Rattle.std.specs.Prelude.{◌≡◌, ◌≢◌, ℕ, ◌↔◌, ◌⊎◌, ◌+◌, ◌<◌, ◌≤◌, ◌&&◌, nat_lt, nat_le, if◌then◌else◌, [], length, replicate, true, IfOk, IfErr, IsOk, IsErr, IsOkUnless, OnOk, All, Any, Some, vec_len, map};
 ghost use mathlib.Core.List.{IsPrefix};
 ghost use Rattle.errboard.specs.Views.{files, recorded_of, start_of};
 ghost use Rattle.errseq.specs.Samples.{StandsFor, Owes, done_at};
@@ -8,8 +8,14 @@ ghost use Rattle.errseq.specs.Word.{sample_of};
 ghost use Rattle.machine.specs.History.{no_files};
 ghost use Rattle.machine.specs.PageLists.{no_lists};
 ghost use Rattle.machine.specs.State.{file_at};
+ghost use Rattle.deeds.specs.declared.views.Place.TheVariants.{Home};
+ghost use Rattle.runs.specs.Runs.{IsFirst};
+ghost use Rattle.runs.specs.World.{World};
+ghost use Rattle.tied.specs.Tied.{IsCovered, IsHonest, Tied};
+ghost use Rattle.trail.specs.Honest.{world_over};
 ghost use Rattle.trail.specs.History.{After};
 ghost use Rattle.trail.specs.Room.{keeps_room, reserved};
+ghost use Rattle.held.specs.Called.{Only};
 ghost use Rattle.held.specs.Keeps.{IsLocked};
 ghost use Rattle.held.specs.Shown.{AreFresh, IsFresh};
 ghost use Rattle.held.specs.Views.{count_of};
@@ -18,11 +24,12 @@ ghost use Rattle.pc_types.specs.declared.refusal.Refusal.TheVariants.{BadConfig,
 use crate::log::{Log, Seat, are_all, are_named};
 use crate::naming::Naming;
 use cachecore::CacheCore;
+use deeds::sides::Desk;
 use errboard::{Board, Pass, Recorder};
 use pc_types::limits::MAX_SEATS;
 use pc_types::{FileId, Geometry, Refusal};
 use std::alloc::Global;
-use std::marker::{Model, PhantomData};
+use std::marker::Model;
 use trail::Trail;
 
 /// A cache with its history, before a type names it.
@@ -100,7 +107,7 @@ pub struct Held<B: Naming, T: Trail> {
     pub(crate) log: Log<T>,
     pub(crate) recorder: Recorder,
     pub(crate) alloc: Global,
-    of: PhantomData<B>,
+    pub(crate) desk: Desk<B>,
 }
 
 impl<B: Naming, T: Trail> Model for Held<B, T> {
@@ -110,6 +117,7 @@ impl<B: Naming, T: Trail> Model for Held<B, T> {
     ghost use Rattle.held.specs.Shown.{HeldSeen};
     ghost use Rattle.held.specs.Keeps.{IsLocked};
     ghost use Rattle.held.specs.Kept.{IsHeld};
+    ghost use Rattle.tied.specs.Tied.{IsTied};
 
     ghost Value = { HeldSeen };
 
@@ -117,13 +125,19 @@ impl<B: Naming, T: Trail> Model for Held<B, T> {
 
     ghost view = { λ h. record { log = h.log; core = h.core; errors = h.recorder } };
 
-    ghost invariant = { λ h. IsHeld h.log h.core.state × IsLocked B.name B.table B.board B.sizes B.seats (record { log = h.log; core = h.core; errors = h.recorder }) };
+    ghost invariant = { λ h.
+        (IsHeld h.log h.core.state × IsLocked B.name B.table B.board B.sizes B.seats (record { log = h.log; core = h.core; errors = h.recorder }))
+        × IsTied B.told B.sizes B.name B.blocks h.log.history h.core.state h.desk };
 }
 
 impl<B: Naming, T: Trail> Held<B, T> {
-    /// The cache under its name.
-    pub fn of(opened: Opened<T>) -> Held<B, T>
-        requires { IsLocked B.name B.table B.board B.sizes B.seats opened }
+    /// The cache under its name, with the desk of its device's deeds. It has no files yet, and all deeds are at home.
+    pub fn of(opened: Opened<T>, desk: Desk<B>) -> Held<B, T>
+        requires locked { IsLocked B.name B.table B.board B.sizes B.seats opened }
+        requires fresh { (opened.log.history ≡ []) × (opened.core.state ≡ no_files B.sizes B.name) }
+        requires desk { desk ≡ map Home B.blocks }
+        requires count { length B.blocks ≡ B.sizes.blocks }
+        requires first { B.told ≡ true → IsFirst (world_over B.sizes B.name B.blocks) }
         ensures { result ≡ opened }
     {
         let Opened {
@@ -137,7 +151,7 @@ impl<B: Naming, T: Trail> Held<B, T> {
             log,
             recorder,
             alloc,
-            of: PhantomData,
+            desk,
         }
     }
 
@@ -146,6 +160,9 @@ impl<B: Naming, T: Trail> Held<B, T> {
         ensures core { result.now ≡ self.now.core }
         ensures legal { After self.now.core.state.sizes self.now.core.state.name self.now.log.history self.now.core.state }
         ensures named { After B.sizes B.name self.now.log.history self.now.core.state }
+
+        // What a device did whose blocks are told.
+        ensures honest { B.told ≡ true → (w : World) × IsHonest B.sizes B.name B.blocks self.now.log.history w × (w.core ≡ self.now.core.state) }
 
         // The trail has room for the end of all that is in flight.
         ensures room { keeps_room self.now.log.room self.now.core.state.sizes.page (reserved self.now.core.state) ≡ true }
@@ -178,6 +195,19 @@ impl<B: Naming, T: Trail> Held<B, T> {
         self.recorder.level(pass)
     }
 
+    /// Lets a seat see the history as it is. No event is made.
+    pub fn show(&mut self, seat: &mut Seat)
+        requires { seat.old.table ≡ B.table }
+        ensures same { self.new ≡ self.old }
+        ensures seen { seat.new ≡ record seat.old { list = self.old.log.history } }
+        ensures only { Only (λ _. ⊥) seat.old seat.new }
+        ensures legal { After B.sizes B.name seat.new.list self.old.core.state }
+    {
+        // Lends that the history is legal.
+        let _ = self.core();
+        self.log.show(seat);
+    }
+
     /// Takes a pass back. What it knew begins what was recorded.
     pub fn retire(&mut self, pass: Pass)
         requires { pass.board ≡ B.board }
@@ -188,13 +218,13 @@ impl<B: Naming, T: Trail> Held<B, T> {
         self.recorder.retire(pass)
     }
 
-    /// The trail and the core, if all seats come back, the cache's own beside the others. Refused by `Stranger` if one is missing
+    /// The trail, the core and the desk, if all seats come back, the cache's own beside the others. Refused by `Stranger` if one is missing
     /// or of a cache of another name; all come back then, as they were.
     pub fn close(
         self,
         seats: Vec<Seat>,
         own: Seat,
-    ) -> Result<(T, CacheCore), (Refusal, Held<B, T>, Vec<Seat>, Seat)>
+    ) -> Result<(T, CacheCore, Desk<B>), (Refusal, Held<B, T>, Vec<Seat>, Seat)>
         requires came { All (λ s. s.name ≡ B.name → s.table ≡ B.table) seats.items }
         requires own { own.name ≡ B.name → own.table ≡ B.table }
         ensures refused { IsErr result ↔ ((vec_len seats + 1 ≢ B.seats) ⊎ Any (λ s. s.name ≢ B.name) seats.items ⊎ (own.name ≢ B.name)) }
@@ -202,6 +232,8 @@ impl<B: Naming, T: Trail> Held<B, T> {
         ensures trail { IfOk result (λ r. T.records r.0 self.log.history × (r.1 ≡ self.core) × After r.1.state.sizes r.1.state.name self.log.history r.1.state) }
         ensures cache { IfOk result (λ r. T.cache r.0 ≡ Some B.name) }
         ensures core { IfOk result (λ r. (r.1.state.name ≡ B.name) × (r.1.state.sizes ≡ B.sizes)) }
+        ensures desk { IfOk result (λ r. IsCovered r.1.state r.2) }
+        ensures tied { B.told ≡ true → IfOk result (λ r. Tied B.sizes B.name B.blocks self.log.history r.1.state r.2) }
         ensures seats { OnOk result (All (λ s. IsPrefix s.list self.log.history × (s.count ≡ count_of s.number self.log.history)) seats.items) }
         ensures own { OnOk result (IsPrefix own.list self.log.history × (own.count ≡ count_of own.number self.log.history)) }
     {
@@ -212,8 +244,13 @@ impl<B: Naming, T: Trail> Held<B, T> {
         {
             return Err((Refusal::Stranger, self, seats, own));
         }
-        let Held { core, log, .. } = self;
+        let Held {
+            core,
+            log,
+            desk,
+            ..
+        } = self;
         let trail = log.close(seats, own);
-        Ok((trail, core))
+        Ok((trail, core, desk))
     }
 }

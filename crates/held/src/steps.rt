@@ -95,13 +95,40 @@ pub(crate) fn look(table: &Count, seat: &mut Stand) -> u64
 }
 
 // The trail's side takes a seat in for good, and compares it with the trail.
-pub(crate) fn settle(table: &Count, keeper: &mut Stand, seat: Stand)
+pub(crate) fn settle(table: &Count, keeper: &mut Stand, mut seat: Stand)
     requires at { IsAt table.now.table_id keeper.old × IsAt table.now.table_id seat }
     requires keeper { IsKeeper keeper.old.me }
     requires seat { IsSeat seat.me }
     ensures keeper { Stays keeper.old keeper.new × (keeper.new.me ≡ keeper.old.me) }
     ensures settled { IsPrefix (list_of seat.me.0) (all_of keeper.old.me.0) × (count_in seat.me.0 ≡ count_of (number_in seat.me.0) (all_of keeper.old.me.0)) × (number_in seat.me.0 < made_of keeper.old.me.0) }
 {
-    table.join_seat::<TakesNote>(keeper, seat);
+    show(table, keeper, &mut seat);
+}
+
+// The seat sees the trail as its side has it.
+pub(crate) fn show(table: &Count, keeper: &mut Stand, seat: &mut Stand)
+    requires at { IsAt table.now.table_id keeper.old × IsAt table.now.table_id seat.old }
+    requires keeper { IsKeeper keeper.old.me }
+    requires seat { IsSeat seat.old.me }
+    ensures keeper { Stays keeper.old keeper.new × (keeper.new.me ≡ keeper.old.me) }
+    ensures seat { Stays seat.old seat.new × (seat.new.me ≡ (Seat (number_in seat.old.me.0) (all_of keeper.old.me.0) (count_in seat.old.me.0), [])) }
+    ensures begins { IsPrefix (list_of seat.old.me.0) (all_of keeper.old.me.0) }
+    ensures counted { count_in seat.old.me.0 ≡ count_of (number_in seat.old.me.0) (all_of keeper.old.me.0) }
+    ensures made { number_in seat.old.me.0 < made_of keeper.old.me.0 }
+{
+    take_note(table, keeper, seat);
+    compare(table, keeper);
+    give_back(table, keeper, seat);
+}
+
+// The trail's side compares the seat that it has a note of with the trail.
+fn compare(table: &Count, keeper: &mut Stand)
+    requires at { IsAt table.now.table_id keeper.old }
+    requires keeper { keeper.old.me ≡ (Holds (all_of keeper.old.me.0) (made_of keeper.old.me.0) (number_in keeper.old.me.0) (list_of keeper.old.me.0) (count_in keeper.old.me.0), []) }
+    ensures keeper { Stays keeper.old keeper.new × (keeper.new.me ≡ keeper.old.me) }
+    ensures begins { IsPrefix (list_of keeper.old.me.0) (all_of keeper.old.me.0) }
+    ensures counted { count_in keeper.old.me.0 ≡ count_of (number_in keeper.old.me.0) (all_of keeper.old.me.0) }
+    ensures made { number_in keeper.old.me.0 < made_of keeper.old.me.0 }
+{
     table.load::<Compares>(keeper, 0);
 }

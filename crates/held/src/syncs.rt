@@ -8,14 +8,16 @@ ghost use Rattle.machine.specs.declared.event.Event.TheVariants as event;
 ghost use Rattle.machine.specs.declared.event.Reply.TheVariants as reply;
 ghost use Rattle.held.specs.Denials.{IsDenied};
 ghost use Rattle.held.specs.Entered.{Made};
+ghost use Rattle.held.specs.Started.{as_sync};
 
 use crate::denied::{Denied, by, check_entry, told};
 use crate::log::{Seat, Slip};
 use crate::naming::Naming;
+use crate::started::{SyncMoved, sync_moved};
 use crate::state::Held;
 use blockdev::Buffer;
+use cachecore::Event;
 use cachecore::replies::{of_sync_begin, of_sync_drop, of_sync_step};
-use cachecore::{Event, SyncStepped};
 use pc_types::{HandleId, PageIndex, SyncId};
 use trail::Trail;
 
@@ -46,23 +48,28 @@ impl<B: Naming, T: Trail> Held<B, T> {
         seat: &mut Seat,
         sync: SyncId,
         buffer: Buffer,
-    ) -> Result<(SyncStepped, Slip), (Denied, Buffer)>
+    ) -> Result<(SyncMoved<B>, Slip), (Denied, Buffer)>
         requires seat { seat.old.table ≡ B.table }
         requires size { length buffer ≡ B.sizes.page }
-        ensures made { IfOk result (λ r. Made (event.SyncStep sync) (sync_stepped (Ok r.0)) self.old self.new seat.old seat.new r.1) }
-        ensures job { IfOk result (λ r. IsSyncJob self.new.core.state (Ok r.0)) }
-        ensures fits { IfOk result (λ r. OnSyncJob (Ok r.0) (IsJobFor B.name B.sizes.blocks B.sizes.page)) }
-        ensures back { IfOk result (λ r. SyncGivesBack buffer (Ok r.0)) }
+        ensures made { IfOk result (λ r. Made (event.SyncStep sync) (sync_stepped (Ok (as_sync r.0))) self.old self.new seat.old seat.new r.1) }
+        ensures job { IfOk result (λ r. IsSyncJob self.new.core.state (Ok (as_sync r.0))) }
+        ensures fits { IfOk result (λ r. OnSyncJob (Ok (as_sync r.0)) (IsJobFor B.name B.sizes.blocks B.sizes.page)) }
+        ensures back { IfOk result (λ r. SyncGivesBack buffer (Ok (as_sync r.0))) }
         ensures kept { IfErr result (λ e. e.1 ≡ buffer) }
         ensures denied { IfErr result (λ e. IsDenied (event.SyncStep sync) self.old self.new seat.old seat.new e.0) }
     {
-        let Held { core, log, .. } = self;
+        let Held {
+            core,
+            log,
+            desk,
+            ..
+        } = self;
         if let Err(denied) = log.check_room(core, 2, 0) {
             return Err((denied, buffer));
         }
         let answer = core.sync_step(sync, buffer);
         let slip = log.enter(seat, Event::SyncStep(sync), of_sync_step(&answer), &[]);
-        match answer {
+        match sync_moved(desk, answer) {
             Ok(stepped) => Ok((stepped, slip)),
             Err(refused) => Err((by(refused.refusal, slip), refused.buffer)),
         }

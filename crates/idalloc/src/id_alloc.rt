@@ -17,7 +17,7 @@ use std::marker::Model;
 pub struct IdAlloc {
     bitmaps: Bitmaps,
     next: u64,
-    // Every number below it is used.
+    // Every number below it is used (decision 36).
     floor: u64,
 }
 

@@ -10,6 +10,8 @@
 //! `id_alloc` is the allocator as its caller sees it. `search` finds numbers, `floor` keeps where the used numbers at the
 //! bottom end, `changes` uses numbers and gives them back, `bitmaps` keeps the bitmaps in an array, and `bits` has single
 //! bits.
+//!
+//! Floor: tables.
 
 mod bitmaps;
 mod bits;

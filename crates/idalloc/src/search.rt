@@ -8,7 +8,7 @@ ghost use Rattle.idalloc.specs.Search.{IsFirstClear, NoneClear};
 use crate::bitmaps::Bitmaps;
 use crate::bits::{FULL, has_bit, lowest_zero, lowest_zero_from};
 
-/// Numbers a bitmap.
+/// Numbers a bitmap (decision 35).
 pub(crate) const NUMBERS: u64 = 32;
 
 /// An unused number, and the bitmap that it stands in, if there is one.

@@ -17,9 +17,10 @@ use Rattle.xarray.specs.declared.entry.Marked.{Marked}
 use Rattle.xarray.specs.declared.entry.Marks.{Marks}
 use Rattle.xarray.specs.MarkedArray.{Range, Ranges, changed, marks_after, has_mark, with_mark, with_marks, marks_of, marked_of, meets, entry_at, lowest, erased, given, remarked, is_any, is_marked, found_of}
 use Rattle.xarray.proofs.Singles.{AllSingle, changed-given, changed-none, entry_at-get, erased-remove, given-some, given-none, remarked-some, remarked-none}
+use Rattle.maps.specs.Maps.{change_at, put_some}
 use Rattle.mapping.specs.declared.mapping.TheConstants.{MAX_PAGES}
 use Rattle.mapping.specs.declared.page.FoundPage.{FoundPage}
-use Rattle.mapping.specs.Pages.{IsNumbered, Mapped, Pages, frame_of, with_tag, with_tags, with_tags_after, put_some, change_at, within, is_tagged, found, untagged}
+use Rattle.mapping.specs.Pages.{IsNumbered, Mapped, Pages, frame_of, with_tag, with_tags, with_tags_after, within, is_tagged, found, untagged}
 use Rattle.mapping.specs.Pages as pages
 use Rattle.mapping.specs.View.{tag_mark, tags_of, page_from, page_of, pages_of, IsPage}
 use Rattle.mapping.proofs.MapLemmas.{same_nat_map, get-insert_here, get-insert_there, get-remove_here, get-remove_there, remove_absent, find_same, find_key, get-each, find_each, len-le}

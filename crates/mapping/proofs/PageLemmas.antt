@@ -7,7 +7,8 @@ use Rattle.std.proofs.lemmas.Option.{none-some}
 use Rattle.pc_types.specs.declared.tags.Tag.{Tag}
 use Rattle.pc_types.specs.declared.tags.Tag.TheVariants.{Dirty, Writeback, Towrite}
 use Rattle.pc_types.specs.Tags.{TagSet, no_tags, has, put}
-use Rattle.mapping.specs.Pages.{Mapped, Pages, frame_of, with_tag, with_tags_after, tags_after, put_some, change_at, count, has_at}
+use Rattle.maps.specs.Maps.{change_at, put_some}
+use Rattle.mapping.specs.Pages.{Mapped, Pages, frame_of, with_tag, with_tags_after, tags_after, count, has_at}
 use Rattle.mapping.proofs.MapLemmas.{same_nat_map, get-insert_here, get-insert_there, insert_same, len_insert_old, count_insert, taken, bit}
 
 module _ (index : ℕ) (change : Mapped → Mapped) (pages : Pages) where

@@ -7,8 +7,9 @@ use Rattle.std.proofs.lemmas.Bool.Decides.{nat_tests}
 use Rattle.std.proofs.lemmas.Option.{none-some, same_Some}
 use Rattle.pc_types.specs.declared.tags.Tag.{Tag}
 use Rattle.pc_types.specs.Tags.{has}
+use Rattle.maps.specs.Maps.{change_at}
 use Rattle.mapping.specs.declared.page.FoundPage.{FoundPage}
-use Rattle.mapping.specs.Pages.{IsNumbered, Mapped, Pages, FilePages, with_tag, change_at, is_tagged, lowest, count, tag_if, tag_each}
+use Rattle.mapping.specs.Pages.{IsNumbered, Mapped, Pages, FilePages, with_tag, is_tagged, lowest, count, tag_if, tag_each}
 use Rattle.mapping.specs.Pages.{found as found_page}
 use Rattle.mapping.proofs.MapLemmas.{same_nat_map, get-each, count_same, count_none, count_one_more, found, found_lowest, found_none}
 use Rattle.mapping.proofs.PageLemmas.{change_here, change_there}

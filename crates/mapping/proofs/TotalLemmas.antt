@@ -8,8 +8,9 @@ use Rattle.std.specs.Ordering.{nat_cmp}
 use Rattle.pc_types.specs.declared.tags.Tag.{Tag}
 use Rattle.pc_types.specs.declared.tags.Tag.TheVariants.{Dirty, Writeback, Towrite}
 use Rattle.pc_types.specs.Tags.{TagSet, no_tags, has}
+use Rattle.maps.specs.Maps.{change_at}
 use Rattle.mapping.specs.declared.totals.Totals.{Totals}
-use Rattle.mapping.specs.Pages.{Mapped, Pages, with_tag, with_tags, change_at, tagged_count, totals_of, untagged}
+use Rattle.mapping.specs.Pages.{Mapped, Pages, with_tag, with_tags, tagged_count, totals_of, untagged}
 use Rattle.mapping.specs.Totals.{total, with_total, one, with_page, without_page}
 use Rattle.mapping.proofs.MapLemmas.{bit, taken, count_insert, count_remove, count_none, count-le-len}
 use Rattle.mapping.proofs.PageLemmas.{count_changed}

@@ -1,6 +1,6 @@
 -- A file's cached pages: a finite map from page numbers to frames and tags. A page's frame holds its bytes. The tags are
 -- those of Linux's page cache (PAGECACHE_TAG_DIRTY, _WRITEBACK, _TOWRITE).
-use Rattle.std.specs.Prelude.{◌≡◌, ℕ, ◌<◌, Bool, true, false, not, unwrap_or, ◌&&◌, ◌||◌, nat_le, if◌then◌else◌, map, find, count_by, Option, Some, None, option_map, refl}
+use Rattle.std.specs.Prelude.{◌≡◌, ℕ, ◌<◌, Bool, true, false, not, unwrap_or, ◌&&◌, ◌||◌, nat_le, if◌then◌else◌, map, find, count_by, Option, Some, option_map, refl}
 use Rattle.std.specs.Ordering.{nat_cmp}
 use Rattle.std.specs.Coded.{Coded, coded_ℕ, coded_bool, coded×, code_by}
 use Rattle.std.specs.FinMap as map
@@ -73,15 +73,6 @@ frame_of page = record { 0 = page.frame }
 -- whether a page is cached at an index and has the tag
 abbrev pub has_at : Pages → ℕ → Tag → Bool
 has_at pages index tag = unwrap_or (option_map (λ page. has page.tags tag) (map.get pages index)) false
-
--- the pages with this one at an index, where one is given
-abbrev pub put_some : ℕ → Option Mapped → Pages → Pages
-put_some index None pages = pages
-put_some index (Some page) pages = map.insert pages index page
-
--- the page at an index changed, where one is cached there
-abbrev pub change_at : ℕ → (Mapped → Mapped) → Pages → Pages
-change_at index change pages = put_some index (option_map change (map.get pages index)) pages
 
 abbrev pub within : ℕ → ℕ → ℕ → Bool
 within from to index = nat_le from index && nat_le index to

@@ -6,6 +6,8 @@
 //!
 //! `mapping` has the map over a marked array, `entry` a page as the array's entry, `page` what a call tells of a page, `totals`
 //! the counters.
+//!
+//! Floor: tables.
 
 mod entry;
 mod mapping;

@@ -3,7 +3,8 @@
 ghost use Rattle.std.specs.Prelude.{◌≡◌, ◌+◌, ◌≤◌, ◌<◌, ◌^◌, ◌↔◌, true, false, nat_le, Some, None, Err, IfErr, IfSome, OnOk, OnErr, IsOk, IsOkUnless, IsSome, option_map};
 ghost use Rattle.std.specs.FinMap as map;
 ghost use Rattle.pc_types.specs.TagBits.{tag_set};
-ghost use Rattle.mapping.specs.Pages.{IsNumbered, seen, frame_of, has_at, untagged, with_tag, with_tags, with_tags_after, change_at, is_tagged, lowest, count, totals_of, tag_each};
+ghost use Rattle.maps.specs.Maps.{change_at};
+ghost use Rattle.mapping.specs.Pages.{IsNumbered, seen, frame_of, has_at, untagged, with_tag, with_tags, with_tags_after, is_tagged, lowest, count, totals_of, tag_each};
 
 use crate::entry::{found_page, mapped_page, mark_of, marks_from, tags_from};
 use crate::page::{FoundPage, MappedPage};
@@ -176,7 +177,7 @@ impl Mapping {
         Ok(())
     }
 
-    /// Takes the tags `clear` off a page and gives it the tags `set`, and answers it as it was: one walk. Takes no memory.
+    /// Takes the tags `clear` off a page and gives it the tags `set`, and answers it as it was: one walk. Takes no memory (decision 48).
     pub fn change_tags(&mut self, index: PageIndex, clear: Tags, set: Tags) -> Option<MappedPage>
         ensures page { option_map seen result ≡ map.get self.old.pages index.0 }
         ensures tagged { self.new ≡ record self.old { pages = change_at index.0 (with_tags_after (tag_set clear) (tag_set set)) self.old.pages } }
@@ -231,7 +232,7 @@ impl Mapping {
 
     /// Tags each page that has `tag` from `from` to `to` with `other` too, and answers how many pages these are.
     ///
-    /// The array's own `retag` would not tell how many of them are new, and the total of `other` rises by those alone.
+    /// The array's own `retag` would not tell how many of them are new, and the total of `other` rises by those alone (decision 50).
     pub fn retag(&mut self, from: PageIndex, to: PageIndex, tag: Tag, other: Tag) -> u64
         ensures count { result ≡ count (is_tagged tag from.0 to.0) self.old.pages }
         ensures retagged { self.new ≡ record self.old { pages = tag_each (is_tagged tag from.0 to.0) other self.old.pages } }

@@ -4,3 +4,5 @@
 //! `specs/Maps.antt` has what is said of many values of a map at once. In `proofs`, `Maps` and `MapLaws` say what is found in a
 //! map after a change, `Found` what a search by a test finds, `Count` and `Lengths` how many entries there are, and `Kept`
 //! which numbers of a range pass a test.
+//!
+//! Floor: ground.

@@ -186,7 +186,7 @@ same_leaves (event.Truncate h z) r k = absurd cc
 same_leaves _ r k = refl
 
 end_lengths : (w new : World) (t : ℕ) (q : Option Request) (o : Option Outcome) (r : Reply) → Ends w t q o r new → SameLengths w.core new.core
-end_lengths w new t (Some x) (Some call) r h = step_lengths w.core new.core (event.End x.kind (record { cache = w.core.name; kind = x.kind; serial = record { 0 = t }; outcome = call })) r refl h.0
+end_lengths w new t (Some x) (Some call) r h = step_lengths w.core new.core (event.End x.kind (record { cache = w.core.name; kind = x.kind; serial = record { 0 = t }; block = record { 0 = x.block }; outcome = call })) r refl h.0
 end_lengths w new t (Some x) None r h = absurd h
 end_lengths w new t None o r h = absurd h
 

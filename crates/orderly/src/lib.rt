@@ -5,3 +5,5 @@
 //! `specs/Orderly.antt` has the order of pages, blocks and handles. In `proofs`, `Orderly` says that every step keeps it, `FileSizes` how
 //! long and how many files get, `Calls` how far reads and writes go, `Enough` that a cache at rest has room, and `Legal` all of it after a
 //! legal history.
+//!
+//! Floor: driven.

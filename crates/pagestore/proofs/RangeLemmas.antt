@@ -366,6 +366,10 @@ pub on_err_of : {A E : Type 0} (r : Result A E) (P : Type 0) → P → OnErr r P
 on_err_of (Ok x) P h = tt
 on_err_of (Err x) P h = h
 
+pub err_map : {A E : Type 0} (r : Result A E) (P Q : Type 0) → OnErr r P → (P → Q) → OnErr r Q
+err_map (Ok x) P Q h g = tt
+err_map (Err x) P Q h g = g h
+
 pub ok_map : {A E : Type 0} (r : Result A E) (P Q : Type 0) → OnOk r P → (P → Q) → OnOk r Q
 ok_map (Ok x) P Q h g = g h
 ok_map (Err x) P Q h g = tt

@@ -25,7 +25,8 @@ use Rattle.frames.specs.Table.{Table, IsSound, owner_of, is_taken, is_aside, tak
 use Rattle.frames.specs.Table.{new_table, put_back}
 use Rattle.frames.proofs.SoundLemmas.{sound_accessed, sound_aside, sound_given, sound_laid, sound_new, sound_taken}
 use Rattle.frames.specs.Rows.{row_at}
-use Rattle.mapping.specs.Pages.{Mapped, untagged, change_at, put_some}
+use Rattle.maps.specs.Maps.{change_at, put_some}
+use Rattle.mapping.specs.Pages.{Mapped, untagged}
 use Rattle.mapping.proofs.MapLemmas as entries
 use Rattle.mapping.proofs.MapLemmas.{count_insert, count_remove, count-le-len, remove_absent, len_insert_new}
 use Rattle.mapping.proofs.MapLemmas.{len_insert_old, len_remove_old}

@@ -11,7 +11,8 @@ use Rattle.frames.specs.Table.{free_frames, is_aside, is_taken}
 use Rattle.frames.specs.Rows.{row_at, with_row}
 use Rattle.frames.proofs.RowLemmas.{with_row-whole}
 use Rattle.pc_types.specs.declared.tags.Tag.TheVariants.{Dirty}
-use Rattle.mapping.specs.Pages.{FilePages, Mapped, Pages, change_at, with_tag}
+use Rattle.maps.specs.Maps.{change_at}
+use Rattle.mapping.specs.Pages.{FilePages, Mapped, Pages, with_tag}
 use Rattle.pagestore.specs.declared.kept.KeptFile.{KeptFile}
 use Rattle.pagestore.specs.declared.pages.Pages.TheInside.{Inside}
 use Rattle.machine.specs.State.{Page}

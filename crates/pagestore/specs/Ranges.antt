@@ -1,5 +1,5 @@
 -- Words of the contracts: pages read and written one after the other.
-use Rattle.std.specs.Prelude.{◌≡◌, ◌+◌, ◌-◌, ◌/◌, ◌%◌, ◌<◌, ◌≤◌, slice_index, true, length, take, drop, ◌++◌, ℕ, List, []}
+use Rattle.std.specs.Prelude.{◌≡◌, ◌+◌, ◌-◌, ◌/◌, ◌%◌, ◌<◌, ◌≤◌, slice_index, true, false, length, take, drop, ◌++◌, ℕ, List, []}
 use Rattle.std.specs.Prelude.{Option, Some, option_map, unwrap_or, if◌then◌else◌, nat_le, nat_lt, ◌&&◌, is_some, not, count_by}
 use Rattle.std.specs.List.{range_with_len}
 use Rattle.std.specs.Ordering.{nat_cmp}
@@ -16,6 +16,13 @@ page_byte page k = slice_index (unwrap_or (option_map (λ page. page.bytes) page
 -- each page from `first` up to `end` is cached
 pub record AreCached (first end : ℕ) (pages : FinMap nat_cmp Page) : Type 0 where
   pub each : (q : ℕ) → first ≤ q → q < end → is_some (get pages q) ≡ true
+
+-- a page from `first` up to `end` is absent
+pub record HasAbsent (f first end : ℕ) (s : Store) : Type 0 where
+  pub page : ℕ
+  pub from : first ≤ page
+  pub before : page < end
+  pub absent : is_some (stored_page s f page) ≡ false
 
 -- each cached page has P bytes
 pub record AreSized (P : ℕ) (pages : FinMap nat_cmp Page) : Type 0 where

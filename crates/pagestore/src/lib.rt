@@ -6,6 +6,8 @@
 //! writes in place, `page_removal` those that leave, `ranges` several of them, `span` where a
 //! write's bytes go, `kept` one file of theirs, `counts` counts that end early, `guesses` where pages were found last,
 //! and `layout` the sizes.
+//!
+//! Floor: core.
 
 mod counts;
 mod guesses;

@@ -63,13 +63,4 @@ impl Pages {
         self.frames.lay(frame, at, bytes);
         self.uptodate[frame.0 as usize] = true;
     }
-
-    /// A page that was filling is absent again.
-    pub fn abandon_fill(&mut self, file: u64, page: u64)
-        requires here { file < length self.old.files }
-        requires filling { is_awaited self.old file page ≡ true }
-        ensures { self.new ≡ record self.old { filling = set.remove self.old.filling (file, page); free = self.old.free + 1; lists = left file page self.old.lists } }
-    {
-        self.leave(file, page);
-    }
 }

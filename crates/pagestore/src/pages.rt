@@ -222,15 +222,6 @@ impl Pages {
         self.dirty += u64::from(!mapped.tags.has(Tag::Dirty));
     }
 
-    /// Takes a cached page away.
-    pub fn remove(&mut self, file: u64, page: u64)
-        requires here { file < length self.old.files }
-        requires cached { is_some (stored_page self.old file page) ≡ true }
-        ensures { self.new ≡ with_lists (with_pages self.old file (map.remove (stored_at self.old file).pages page) (self.old.free + 1)) (left file page self.old.lists) }
-    {
-        self.leave(file, page);
-    }
-
     /// Takes the entry of a page that is cached or filling away, and frees its frame.
     pub fn leave(&mut self, file: u64, page: u64)
         requires here { file < length self.old.files }

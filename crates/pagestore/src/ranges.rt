@@ -3,7 +3,7 @@
 ghost use Rattle.std.specs.Prelude.{◌≡◌, ◌+◌, ◌-◌, ◌/◌, ◌<◌, ◌≤◌, IfNone, IfSome, OnOk, OnErr, length, find, not, is_some, count_by, filter};
 ghost use Rattle.std.specs.List.{range_with_len};
 ghost use Rattle.mapping.specs.declared.mapping.TheConstants.{MAX_PAGES};
-ghost use Rattle.pagestore.specs.Ranges.{AreCached, AreRead, AreSized, AreWritten};
+ghost use Rattle.pagestore.specs.Ranges.{AreCached, AreRead, AreSized, AreWritten, HasAbsent};
 ghost use Rattle.machine.specs.PageLists.{each_accessed, flagged};
 ghost use Rattle.machine.specs.State.{touched};
 ghost use Rattle.pagestore.specs.Store.{stored_at, stored_page, with_lists, NoneAwaited};
@@ -33,6 +33,7 @@ impl Pages {
         requires room { count_by (λ p. not (is_some (stored_page self.old span.file p))) (range_with_len page (span.end - page)) ≤ self.old.free }
         ensures written { OnOk result (AreWritten span.page_size span.file span.offset bytes.now page span.end self.old self.new) }
         ensures err { OnErr result (self.new ≡ self.old) }
+        ensures absent { OnErr result (HasAbsent span.file page span.end self.old) }
     {
         if page == span.end {
             return Ok(());
@@ -46,7 +47,7 @@ impl Pages {
         self.make_with(span.file, page, at, part)?;
         let rest = self.write(span, bytes, page + 1);
         if rest.is_err() {
-            self.remove(span.file, page);
+            self.leave(span.file, page);
         }
         rest
     }

@@ -6,6 +6,8 @@
 //!
 //! `limits` has every limit once, `ids` the named numbers, `geometry` the sizes, `kind` what a request does, `tags` the tag
 //! sets, `refusal` and `error_code` what a call answers where it does nothing, `bytes` the bytes that events carry.
+//!
+//! Floor: ground.
 
 pub mod bytes;
 pub mod error_code;

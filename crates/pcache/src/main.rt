@@ -3,6 +3,8 @@
 //! calls from many threads at once, and replays their history.
 //!
 //! The crate `script` does the first, and `storm` the second.
+//!
+//! Floor: programs.
 
 ghost use Rattle.std.specs.Prelude.{◌≡◌, IsOkUnless};
 ghost use Rattle.textline.specs.Stops.{IsStatus, status_of};

@@ -8,6 +8,8 @@
 //! entries, `parts` makes several entries of one, `removal` takes them away, `marks` and `next` keep the bits and search
 //! by them. `node`, `slot` and `bitmap` are the layout. The words of the contracts are in `specs/Entries.antt` and
 //! `specs/Parts.antt`; `specs/Tree.antt` is for the proofs alone.
+//!
+//! Floor: tables.
 
 mod bitmap;
 mod entry;

@@ -6,7 +6,7 @@ ghost use Rattle.radix.specs.Words.{FitsLink};
 use crate::bitmap::has_bit;
 use crate::slot::{Link, Slot, Word};
 
-/// The mark that every entry has, on its first slot, after the three of the caller's.
+/// The mark that every entry has, on its first slot, after the three of the caller's (decision 30).
 pub const ENTRY: usize = 3;
 
 /// 64 slots at a level of the tree. Fields that a search reads together stand together; the order is the layout. A large slab begins
@@ -20,7 +20,7 @@ pub struct Node {
     /// How many slots are not empty, siblings and children included.
     pub count: u32,
     /// The node's index among those of its level. Its last six bits are the offset in the parent. That a node carries its
-    /// own place makes every fact of the tree one of a node and its child.
+    /// own place makes every fact of the tree one of a node and its child (decision 29).
     pub prefix: u64,
     /// The node above, or none at the head.
     pub parent: Link,

@@ -4,20 +4,20 @@ ghost use Rattle.std.specs.Prelude.{◌≡◌};
 ghost use Rattle.crossbeam_queue.specs.Passes.{ruled_capacity};
 
 use crate::log::{InOrder, Log};
-use blockdev::Job;
 use crossbeam_queue::{Pass, RuledArrayQueue};
+use deeds::sides::Parcel;
 
 mod calls;
 
-/// The number of jobs that a ring has room for.
+/// The number of parcels that a ring has room for.
 pub const PLACES: usize = 64;
 
 /// What one thread did at a ring. It has no bytes.
-pub type RingPass = Pass<Job, Log>;
+pub type RingPass = Pass<Parcel, Log>;
 
-/// Jobs on their way to workers, first in first out.
+/// Parcels on their way to workers, first in first out.
 #[derive(Drop)]
 pub struct Ring {
-    queue: RuledArrayQueue<Job, Log, InOrder>,
+    queue: RuledArrayQueue<Parcel, Log, InOrder>,
     ghost places: { ruled_capacity queue ≡ 64 },
 }

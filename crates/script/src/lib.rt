@@ -4,6 +4,8 @@
 //! `run` runs a script line by line, which the crate `textline` fetches and takes apart. `keyword` has the names of the commands,
 //! `command` says what a line asks for, `session` has the cache with the board of its failed writes (`passes`: one a handle), and
 //! `answer` prints what came of a command.
+//!
+//! Floor: programs.
 
 mod answer;
 mod command;

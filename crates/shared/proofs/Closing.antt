@@ -71,20 +71,22 @@ fit_outcome Flush (Err code) b = refl
 -- the end of a request in flight is made, so where it is refused there is none
 pub over_refused : (sizes : Sizes) (name : ℕ) (h : HeldSeen) (done : FinishedTask) (job : Task) (of : Kind)
     → After sizes name h.log.history h.core.state → done.cache ≡ name → done.kind ≡ job.kind → done.serial ≡ job.serial
-    → done.kind ≡ of → (tests h.core.state (event.End of (end_of done)) ≡ None → false ≡ true) → IsOver h.core.state job
-over_refused sizes name h done job of legal cache kind serial is refused x there same =
+    → done.block ≡ job.block → done.kind ≡ of → (tests h.core.state (event.End of (end_of done)) ≡ None → false ≡ true) → IsOver h.core.state job
+over_refused sizes name h done job of legal cache kind serial block is refused x there same at =
     let s : State = h.core.state in
     let k : x.kind ≡ done.kind = same ∙ sym kind in
     let call : Outcome = outcome_of done.kind done.outcome done.bytes in
     let fit : fits x.kind call ≡ true =
     subst (λ (n : Kind). fits n call ≡ true) (sym k) (fit_outcome done.kind done.outcome done.bytes) in
-    let passes : tests s (event.End x.kind (record { cache = s.name; kind = x.kind; serial = record { 0 = done.serial }; outcome = call })) ≡ None =
+    let passes : tests s (event.End x.kind (record { cache = s.name; kind = x.kind; serial = record { 0 = done.serial }; block = record { 0 = x.block }; outcome = call })) ≡ None =
     own_end_passes s done.serial x call (subst (λ t. map.get s.requests t ≡ Some x) (sym serial) there) fit in
     absurd (let b : false ≡ true = refused (subst (λ (n : Kind). tests s (event.End n (end_of done)) ≡ None) is
-    (subst (λ (n : ℕ). tests s (event.End done.kind (record { cache = n; kind = done.kind; serial = record { 0 = done.serial }; outcome = call })) ≡ None)
+    (subst (λ (n : ℕ). tests s (event.End done.kind (record { cache = n; kind = done.kind; serial = record { 0 = done.serial }; block = record { 0 = done.block }; outcome = call })) ≡ None)
     (named_after sizes name h.log.history s legal ∙ sym cache)
-    (subst (λ (n : Kind). tests s (event.End n (record { cache = s.name; kind = n; serial = record { 0 = done.serial }; outcome = call })) ≡ None)
-    k passes))) in cc)
+    (subst (λ (n : ℕ). tests s (event.End done.kind (record { cache = s.name; kind = done.kind; serial = record { 0 = done.serial }; block = record { 0 = n }; outcome = call })) ≡ None)
+    (at ∙ sym block)
+    (subst (λ (n : Kind). tests s (event.End n (record { cache = s.name; kind = n; serial = record { 0 = done.serial }; block = record { 0 = x.block }; outcome = call })) ≡ None)
+    k passes)))) in cc)
 
 -- ---- ends take requests away
 
@@ -120,7 +122,7 @@ unrefused r ended e = subst IsEndReply e ended
 pub over_made : (job : Task) (kind : Kind) (end : End) (r : Reply) (old new : HeldSeen) (before after : SeatSeen) (slip : Slip)
     → IsEndReply r → end.serial.0 ≡ job.serial → Made (event.End kind end) r old new before after slip
     → IsOver new.core.state job
-over_made job kind end r old new before after slip ended serial m x there same =
+over_made job kind end r old new before after slip ended serial m x there same at =
     elim (of_end old.core.state kind end r new.core.state m.step) [
       | inl a ↦ unrefused r ended a.1
       | inr a ↦ never (map.get new.core.state.requests job.serial) (

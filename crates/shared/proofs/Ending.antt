@@ -53,25 +53,25 @@ event_once result e old new before after q =
 
 -- the end of what came of a job is the job's
 pub ends_by : (job : Task) (done : FinishedTask) (before after : SeatSeen) (slip : Slip) (told : Bool)
-    → done.serial ≡ job.serial → done.kind ≡ job.kind → done.cache ≡ job.cache
+    → done.serial ≡ job.serial → done.kind ≡ job.kind → done.cache ≡ job.cache → done.block ≡ job.block
     → (r : Reply) × Makes before after slip (event.End done.kind (end_of done)) r × IsEndReply r
     × (told ≡ fails_write done.kind r)
     → Ends job before after slip told
-ends_by job done before after slip told serial kind cache p = record {
+ends_by job done before after slip told serial kind cache block p = record {
   event = event.End done.kind (end_of done);
   reply = p.0;
-  is_end = (kind, serial, cache);
+  is_end = (kind, serial, cache, block);
   ended = p.2;
   made = p.1;
   failed = subst (λ k. told ≡ fails_write k p.0) kind p.3;
 }
 
 pub denied_job : (job : Task) (done : FinishedTask) (before after : SeatSeen) (d : Denied) → done.serial ≡ job.serial
-    → done.kind ≡ job.kind → done.cache ≡ job.cache
+    → done.kind ≡ job.kind → done.cache ≡ job.cache → done.block ≡ job.block
     → IsDenied (λ e. e ≡ event.End done.kind (end_of done)) before after d → IsDenied (IsEndOf job) before after d
-denied_job job done before after d serial kind cache q =
+denied_job job done before after d serial kind cache block q =
     denied_on (λ e. e ≡ event.End done.kind (end_of done)) (IsEndOf job) before before after d
-    (λ e same. subst (IsEndOf job) (sym same) (kind, serial, cache)) (goes_same before before refl) q
+    (λ e same. subst (IsEndOf job) (sym same) (kind, serial, cache, block)) (goes_same before before refl) q
 
 pub fill_replies : (a : Ended) → IsEndReply (fill_ended (Ok a))
 fill_replies (ended.Dropped b) = tt

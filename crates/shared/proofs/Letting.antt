@@ -17,7 +17,7 @@ use Rattle.held.specs.Entered.{Made}
 use Rattle.held.specs.Shown.{HeldSeen, SeatSeen}
 use Rattle.held.specs.Views.{count_of}
 use Rattle.held.specs.Called.{Goes, Only}
-use Rattle.held.proofs.Seats.{goes_by, only_by}
+use Rattle.held.proofs.Seats.{goes_by, only_any, only_by}
 use Rattle.shared.specs.Workers.{LetsGo, lets_go}
 
 abbrev went : ℕ → Entry → Bool
@@ -78,6 +78,12 @@ evicted_gone n page x y z w a b c first slip m k =
     let_go : (o : Option (FileId × PageIndex)) → lets_go (evicted o) ≡ is_some o
     let_go (Some o) = refl
     let_go None = refl
+
+-- a seat that only saw more let none go
+pub shown_gone : (before after : SeatSeen) → Only (λ _. ⊥) before after → LetsGo 0 before after
+shown_gone before after p =
+    let q = only_any (λ x. lets_go x.reply ≡ false) before after p in
+    record { since = q.since; saw = q.saw; gone = sym (counted before.number false q.since q.made) }
 
 -- ---- the count of a turn
 

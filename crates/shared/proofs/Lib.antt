@@ -7,6 +7,8 @@ pub mod Closing
 pub mod Hearing
 pub mod Seating
 pub mod Owning
+pub mod Parcels
+pub mod Finding
 pub mod CutRequests
 pub mod Rooming
 pub mod Answered

@@ -1,7 +1,7 @@
 -- What the events of a call say of its seat, from its begin to its end.
 use Rattle.std.proofs.Common.{◌≡◌, ◌⊎◌, Bool, true, false, ℕ, List, [], ◌∷◌, ◌++◌, refl, ap, sym, subst, ◌∙◌, inl, inr}
-use Rattle.std.specs.Prelude.{IfErr, Ok, Option, Result, Some, None}
-use Rattle.std.proofs.lemmas.Result.{IfErr-weaker}
+use Rattle.std.specs.Prelude.{IfErr, IfOk, Ok, Option, Result, Some, None}
+use Rattle.std.proofs.lemmas.Result.{IfErr-weaker, IfOk-weaker}
 use mathlib.Core.List.{IsPrefix}
 use Rattle.errseq.proofs.Prefixes.{prefix_self, prefix_trans}
 use Rattle.cachecore.specs.Replies.{fill_ended}
@@ -41,6 +41,14 @@ makes_by e r old new before after slip m = record {
       (sym (m.entered.sees ∙ m.entered.history)) (prefix_self _);
   placed = m.entered.placed;
 }
+
+-- so is what an answer comes with
+pub answer_made : {A : Type 0} (result : Result (A × Slip) Denied) (e : Event) (says : A → Reply) (old new : HeldSeen)
+    (before after : SeatSeen) → IfOk result (λ r. Made e (says r.0) old new before after r.1)
+    → IfOk result (λ r. Makes before after r.1 e (says r.0))
+answer_made result e says old new before after m =
+    IfOk-weaker result (λ r. Made e (says r.0) old new before after r.1) (λ r. Makes before after r.1 e (says r.0))
+    (λ r k. makes_by e (says r.0) old new before after r.1 k) m
 
 pub makes_on : (a b c : SeatSeen) (slip : Slip) (e : Event) (r : Reply) → Goes a b → Makes b c slip e r → Makes a c slip e r
 makes_on a b c slip e r p q = record {

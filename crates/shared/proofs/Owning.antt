@@ -10,6 +10,7 @@ use Rattle.machine.specs.declared.event.Event.{Event}
 use Rattle.machine.specs.declared.event.Event.TheVariants as event
 use Rattle.machine.specs.declared.event.Reply.{Reply}
 use Rattle.machine.specs.declared.event.Reply.TheVariants as reply
+use Rattle.pc_types.specs.declared.ids.BlockNo.{BlockNo}
 use Rattle.pc_types.specs.declared.ids.HandleId.{HandleId}
 use Rattle.pc_types.specs.declared.ids.PageIndex.{PageIndex}
 use Rattle.pc_types.specs.declared.ids.Serial.{Serial}
@@ -39,9 +40,9 @@ use Rattle.shared.proofs.Making.{room_helps}
 
 -- an end loses its bytes at most
 noted_end : (P : Event → Type 0) (kind : Kind) (end : End) (r : Reply)
-    → ((x : End) → x.serial ≡ end.serial → x.cache ≡ end.cache → P (event.End kind x)) → P (noted (event.End kind end) r)
-noted_end P kind end (reply.Refused why) f = f (end_with end []) refl refl
-noted_end P kind end r f = f end refl refl
+    → ((x : End) → x.serial ≡ end.serial → x.cache ≡ end.cache → x.block ≡ end.block → P (event.End kind x)) → P (noted (event.End kind end) r)
+noted_end P kind end (reply.Refused why) f = f (end_with end []) refl refl refl
+noted_end P kind end r f = f end refl refl refl
 
 abbrev IsPlain : Event → Type 0
 IsPlain (event.End kind end) = ⊥
@@ -104,7 +105,7 @@ pub only_flush_end : (end : End) (r : Reply) (old new : HeldSeen) (before after 
     → Made (event.End Flush end) r old new before after slip → Only (λ x. IsFlushEnd x.event) before after
 only_flush_end end r old new before after slip m =
     only_by (λ x. IsFlushEnd x.event) (event.End Flush end) r old new before after slip
-    (noted_end IsFlushEnd Flush end r (λ x a b. tt)) m
+    (noted_end IsFlushEnd Flush end r (λ x a b c. tt)) m
 
 pub only_flush_end_denied : (end : End) (old new : HeldSeen) (before after : SeatSeen) (d : Denied)
     → under.IsDenied (event.End Flush end) old new before after d → Only (λ x. IsFlushEnd x.event) before after
@@ -168,7 +169,7 @@ pub only_fill_end : (h : HandleId) (end : End) (r : Reply) (old new : HeldSeen) 
     → Made (event.End Fill end) r old new before after slip → Only (λ x. IsHelp h x.event) before after
 only_fill_end h end r old new before after slip m =
     only_by (λ x. IsHelp h x.event) (event.End Fill end) r old new before after slip
-    (noted_end (IsHelp h) Fill end r (λ x a b. tt)) m
+    (noted_end (IsHelp h) Fill end r (λ x a b c. tt)) m
 
 pub only_fill_end_denied : (h : HandleId) (end : End) (old new : HeldSeen) (before after : SeatSeen) (d : Denied)
     → under.IsDenied (event.End Fill end) old new before after d → Only (λ x. IsHelp h x.event) before after
@@ -381,17 +382,22 @@ sync_given_up h first last m old new a b c d slip q p last_one few = record {
 -- ---- workers
 
 pub only_end : (job : Task) (kind : Kind) (end : End) (r : Reply) (old new : HeldSeen) (before after : SeatSeen) (slip : Slip)
-    → kind ≡ job.kind → end.serial.0 ≡ job.serial → end.cache ≡ job.cache
+    → kind ≡ job.kind → end.serial.0 ≡ job.serial → end.cache ≡ job.cache → end.block.0 ≡ job.block
     → Made (event.End kind end) r old new before after slip → Only (λ x. IsEndOf job x.event) before after
-only_end job kind end r old new before after slip same serial cache m =
+only_end job kind end r old new before after slip same serial cache block m =
     only_by (λ x. IsEndOf job x.event) (event.End kind end) r old new before after slip
-    (noted_end (IsEndOf job) kind end r (λ x a b. (same, ap (λ (n : Serial). n.0) a ∙ serial, b ∙ cache))) m
+    (noted_end (IsEndOf job) kind end r (λ x a b c. (
+      same,
+      ap (λ (n : Serial). n.0) a ∙ serial,
+      b ∙ cache,
+      ap (λ (n : BlockNo). n.0) c ∙ block,
+    ))) m
 
 pub only_end_denied : (job : Task) (kind : Kind) (end : End) (old new : HeldSeen) (before after : SeatSeen) (d : Denied)
-    → kind ≡ job.kind → end.serial.0 ≡ job.serial → end.cache ≡ job.cache
+    → kind ≡ job.kind → end.serial.0 ≡ job.serial → end.cache ≡ job.cache → end.block.0 ≡ job.block
     → under.IsDenied (event.End kind end) old new before after d → Only (λ x. IsEndOf job x.event) before after
-only_end_denied job kind end old new before after d same serial cache q =
-    only_denied (λ x. IsEndOf job x.event) (event.End kind end) old new before after d (λ why. (same, serial, cache)) q
+only_end_denied job kind end old new before after d same serial cache block q =
+    only_denied (λ x. IsEndOf job x.event) (event.End kind end) old new before after d (λ why. (same, serial, cache, block)) q
 
 ends_job : (job : Task) (e : Event) → IsEndOf job e → IsEnd e
 ends_job job (event.End kind end) x = tt

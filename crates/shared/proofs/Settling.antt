@@ -35,6 +35,9 @@ use Rattle.pc_types.specs.declared.refusal.Refusal.{Refusal}
 use Rattle.pc_types.specs.declared.refusal.Refusal.TheVariants.{Stranger, TrailFull}
 use Rattle.trail.specs.declared.entry.Entry.{Entry}
 use Rattle.trail.specs.Entries.{end_with, entry_of, noted}
+use Rattle.held.specs.Started.{as_fill}
+use Rattle.held.specs.declared.started.FillStarted.{FillStarted}
+use Rattle.held.specs.declared.started.FillStarted.TheVariants as started
 use Rattle.held.specs.declared.log.Slip.{Slip}
 use Rattle.held.specs.Entered.{Made}
 use Rattle.held.specs.Shown.{HeldSeen, SeatSeen}
@@ -560,13 +563,13 @@ fill_settles name h p begun job old new a b c slip result same m is ends =
     (ends (fill_kind h p job old new a b slip made (subst (λ (x : FillBegun). IsFillJob new.core.state (Ok x)) same is)))
 
 -- one that begins no request
-pub fill_quiet : (x : Kind × ℕ) (h : HandleId) (p : PageIndex) (begun : FillBegun) → ((job : Task) → begun ≡ fill.Job job → ⊥)
-    → IsBegun x (event.FillBegin h p) (fill_begun (Ok begun)) → ⊥
-fill_quiet x h p (fill.Job job) never b = never job refl
-fill_quiet x h p (fill.Gone buffer) never b = b
-fill_quiet x h p (fill.Wait q buffer) never b = b
-fill_quiet x h p (fill.Present buffer) never b = b
-fill_quiet x h p (fill.Filled buffer) never b = b
+pub fill_quiet : {B : Type 0} (x : Kind × ℕ) (h : HandleId) (p : PageIndex) (begun : FillStarted B)
+    → ((job : Task) → begun ≡ started.Job job → ⊥) → IsBegun x (event.FillBegin h p) (fill_begun (Ok (as_fill begun))) → ⊥
+fill_quiet x h p (started.Job job) never b = never job refl
+fill_quiet x h p (started.Gone buffer) never b = b
+fill_quiet x h p (started.Wait q buffer) never b = b
+fill_quiet x h p (started.Present buffer) never b = b
+fill_quiet x h p (started.Filled buffer) never b = b
 
 pub change_begins : (x : Kind × ℕ) (change : Change) (h : HandleId) (bytes : List ℕ) (r : Reply)
     → IsBegun x (noted (event_of change h bytes) r) r → ⊥

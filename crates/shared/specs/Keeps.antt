@@ -1,7 +1,13 @@
--- What holds of the device under its lock.
-use Rattle.std.specs.Prelude.{◌≡◌, ℕ, Err, Ok, Result}
+-- What holds of the device under its lock, and of the device at the end.
+use Rattle.std.specs.Prelude.{◌≡◌, ◌≢◌, ◌<◌, ℕ, Bool, Err, List, Ok, Result, Some, length, slice_get}
+use Rattle.std.specs.FinMap as map
 use Rattle.blockdev.specs.Device.{Outcome, Told}
+use Rattle.deeds.specs.Shown.{AreTold}
+use Rattle.machine.specs.State.{Request, State}
 use Rattle.pc_types.specs.Limits.{Sizes}
+use Rattle.runs.specs.World.{World}
+use Rattle.tied.specs.Tied.{IsHonest}
+use Rattle.trail.specs.declared.entry.Entry.{Entry}
 
 -- it has blocks of a page, as many as the cache
 abbrev pub IsDisk : Sizes → Told → Type 0
@@ -11,3 +17,19 @@ IsDisk sizes device = (device.size ≡ sizes.page) × (device.count ≡ sizes.bl
 abbrev pub answer_of : {A : Type 0} → Result A ℕ → Outcome
 answer_of (Ok x) = Ok tt
 answer_of (Err code) = Err code
+
+-- the blocks of a device, where it tells them
+abbrev pub AreBlocksOf : Bool → List (List ℕ) → Told → Type 0
+AreBlocksOf told blocks device = AreTold told device blocks × (length blocks ≡ device.count)
+
+-- the device is what the history makes of one with these first blocks: the history is honest over them, with this core at its
+-- end, and the device has each block as the world then has it, but for those of requests that are still in flight
+pub record IsLeftBy (sizes : Sizes) (name : ℕ) (blocks : List (List ℕ)) (history : List Entry) (core : State) (device : Told)
+    : Type 0 where
+  pub world : World
+  pub honest : IsHonest sizes name blocks history world
+  pub core_is : world.core ≡ core
+  pub left : List (List ℕ)
+  pub told : device.contents ≡ Some left
+  pub each : (k : ℕ) → k < sizes.blocks → ((t : ℕ) (x : Request) → map.get core.requests t ≡ Some x → x.block ≢ k)
+      → slice_get left k ≡ slice_get world.device k

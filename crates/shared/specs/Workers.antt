@@ -1,20 +1,23 @@
 -- Workers, and what their turns make.
 use Rattle.std.specs.FinMap as map
-use Rattle.std.specs.Prelude.{◌≡◌, ◌≢◌, ◌⊎◌, ◌==◌, ◌&&◌, ◌++◌, ◌∷◌, [], All, Any, ℕ, Bool, true, false, List, IfSome, Ok, Result, None, Some, count_by, if◌then◌else◌, is_some}
+use Rattle.std.specs.Prelude.{map as each}
+use Rattle.std.specs.Prelude.{◌≡◌, ◌≢◌, ◌⊎◌, ◌≤◌, ◌==◌, ◌&&◌, ◌++◌, ◌∷◌, [], All, Any, ℕ, Bool, true, false, List, IfSome, Ok, Result, None, Some, count_by, if◌then◌else◌, is_some}
 use mathlib.Core.List.{IsPrefix}
 use Rattle.atomic_table.specs.Seated.{TableId}
 use Rattle.blockdev.specs.Jobs.{Task}
 use Rattle.cachecore.specs.Replies.{IsFlushJob}
-use Rattle.cachecore.specs.Wants.{IsFirstToWrite}
+use Rattle.cachecore.specs.Wants.{IsFirstToWrite, NothingToWrite}
 use Rattle.cachecore.specs.declared.answers.FlushBegun.TheVariants as flush
 use Rattle.crossbeam_queue.specs.Fifo.{Held}
-use Rattle.crossbeam_queue.specs.Passes.{view}
+use Rattle.crossbeam_queue.specs.Passes.{Pass, view}
+use Rattle.deeds.specs.Shown.{ParcelSeen}
 use Rattle.machine.specs.declared.event.Event.{Event}
 use Rattle.machine.specs.declared.event.Event.TheVariants as event
 use Rattle.machine.specs.declared.event.Reply.{Reply}
 use Rattle.machine.specs.declared.event.Reply.TheVariants as reply
-use Rattle.machine.specs.State.{Request, State}
+use Rattle.machine.specs.State.{Request, State, free_frames}
 use Rattle.machine.specs.Step.{Step}
+use Rattle.machine.specs.Tests.{has_idle}
 use Rattle.pc_types.specs.Limits.{Sizes}
 use Rattle.pc_types.specs.declared.ids.FileId.{FileId}
 use Rattle.pc_types.specs.declared.kind.Kind.{Kind}
@@ -22,6 +25,7 @@ use Rattle.pc_types.specs.declared.kind.Kind.TheVariants.{Flush}
 use Rattle.pc_types.specs.declared.refusal.Refusal.TheVariants.{TrailFull}
 use Rattle.ring.specs.Order.{Stands}
 use Rattle.ring.specs.Serving.{Carries, Serves}
+use Rattle.ring.specs.declared.log.Log.{Log}
 use Rattle.ring.specs.declared.ring.Ring.{Ring}
 use Rattle.trail.specs.History.{After}
 use Rattle.trail.specs.declared.entry.Entry.{Entry}
@@ -37,27 +41,39 @@ use Rattle.shared.specs.declared.turns.Flushed.{Flushed}
 use Rattle.shared.specs.declared.turns.Flushed.TheVariants as flushed
 use Rattle.shared.specs.declared.worker.Worker.{Worker}
 
+-- it is a pass of this ring, which is for the jobs of the cache of this name and these sizes, with deeds of this table
+pub record IsPassFor (ring : Ring) (name : ℕ) (deeds : TableId) (sizes : Sizes) (pass : Pass ParcelSeen Log) : Type 0 where
+  pub serves : Serves ring pass
+  pub carries : Carries name sizes.blocks sizes.page deeds pass
+
 -- its seat is of the cache of this name and this table, and its pass is one of the cache's ring, for a device of these sizes
-pub record IsWorkerOf (ring : Ring) (name : ℕ) (table : TableId) (sizes : Sizes) (w : Worker) : Type 0 where
-  pub serves : Serves ring w.pass
-  pub carries : Carries name sizes.blocks sizes.page w.pass
+pub record IsWorkerOf (ring : Ring) (name : ℕ) (table deeds : TableId) (sizes : Sizes) (w : Worker) : Type 0 where
+  pub passes : IsPassFor ring name deeds sizes w.pass
   pub named : w.seat.name ≡ name
   pub seated : w.seat.table ≡ table
 
 abbrev pub seat_of : Worker → SeatSeen
 seat_of w = w.seat
 
+-- the jobs that a pass took from the ring, in order, and those that it put in
+abbrev pub popped_in : Pass ParcelSeen Log → List Task
+popped_in pass = each (λ (p : ParcelSeen). p.task) (view pass).popped
+
+abbrev pub pushed_in : Pass ParcelSeen Log → List Task
+pushed_in pass = each (λ (p : ParcelSeen). p.task) (view pass).pushed
+
 -- the jobs that it took from the ring, in order
 abbrev pub popped_by : Worker → List Task
-popped_by w = (view w.pass).popped
+popped_by w = popped_in w.pass
 
 -- the jobs that it put into the ring, in order
 abbrev pub pushed_by : Worker → List Task
-pushed_by w = (view w.pass).pushed
+pushed_by w = pushed_in w.pass
 
 -- the event is the end of this job's request
 abbrev pub IsEndOf : Task → Event → Type 0
-IsEndOf job (event.End kind end) = (kind ≡ job.kind) × (end.serial.0 ≡ job.serial) × (end.cache ≡ job.cache)
+IsEndOf job (event.End kind end) =
+    (kind ≡ job.kind) × (end.serial.0 ≡ job.serial) × (end.cache ≡ job.cache) × (end.block.0 ≡ job.block)
 IsEndOf job e = ⊥
 
 -- the request was a write, and it failed
@@ -114,9 +130,23 @@ abbrev pub IsFlushBegin : Event → Type 0
 IsFlushBegin (event.FlushBegin file) = Unit {0}
 IsFlushBegin e = ⊥
 
+-- the seat saw a history after which no file has a page to write, and made no event
+pub record FindsNothing (sizes : Sizes) (name : ℕ) (before after : SeatSeen) : Type 0 where
+  pub same : after ≡ record before { list = after.list }
+  pub only : Only (λ _. ⊥) before after
+  pub state : State
+  pub leaves : After sizes name after.list state
+  pub nothing : NothingToWrite state
+
+-- the seat saw a history after which so many frames are free, or no page is idle
+pub record FindsEnough (frames : ℕ) (sizes : Sizes) (name : ℕ) (seat : SeatSeen) : Type 0 where
+  pub state : State
+  pub leaves : After sizes name seat.list state
+  pub enough : (frames ≤ free_frames state) ⊎ (has_idle state ≡ false)
+
 -- what a turn of a flusher did. The job of the write that it began lies in the ring, or its end was made, or refused
 abbrev pub IsFlushed : Sizes → ℕ → Worker → Worker → Flushed → Type 0
-IsFlushed sizes name old new flushed.Nothing = (new.seat ≡ old.seat) × (pushed_by new ≡ pushed_by old)
+IsFlushed sizes name old new flushed.Nothing = FindsNothing sizes name old.seat new.seat × (pushed_by new ≡ pushed_by old)
 IsFlushed sizes name old new (flushed.Pushed serial slip) =
     (job : Task) × (job.serial ≡ serial.0) × Begins sizes name job old.seat new.seat slip
     × (pushed_by new ≡ pushed_by old ++ job ∷ [])
@@ -178,7 +208,8 @@ AllEnded old new =
 
 -- no request is in flight that the job's end would end
 abbrev pub IsOver : State → Task → Type 0
-IsOver s job = (x : Request) → map.get s.requests job.serial ≡ Some x → x.kind ≢ job.kind
+IsOver s job =
+    (x : Request) → map.get s.requests job.serial ≡ Some x → x.kind ≡ job.kind → x.block ≢ job.block
 
 -- so it is in this state with each job that the worker took from the ring in between
 abbrev pub AllOver : Worker → Worker → State → Type 0

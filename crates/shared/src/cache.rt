@@ -1,10 +1,11 @@
 //! A cache that threads share.
 
 ghost use Rattle.std.specs.FinMap as map;
-ghost use Rattle.std.specs.Prelude.{◌≡◌, IfOk, IsOkUnless};
+ghost use Rattle.std.specs.Prelude.{◌≡◌, [], IfOk, IsOkUnless};
 ghost use Rattle.pc_types.specs.declared.refusal.Refusal.TheVariants.{Memory};
 ghost use Rattle.held.specs.Keeps.{IsLocked};
-ghost use Rattle.shared.specs.Keeps.{IsDisk};
+ghost use Rattle.machine.specs.History.{no_files};
+ghost use Rattle.shared.specs.Keeps.{AreBlocksOf, IsDisk};
 ghost use Rattle.shared.specs.Workers.{IsWorkerOf, seat_of};
 
 use crate::brief::BriefLock;
@@ -12,6 +13,7 @@ use crate::disk::Disk;
 use crate::signal::Signal;
 use crate::worker::Worker;
 use blockdev::BlockDevice;
+use deeds::sides;
 use errboard::Board;
 use held::log::Seat;
 use held::naming::Naming;
@@ -23,8 +25,8 @@ use std::sync::atomic::AtomicU64;
 use std::sync::{Condvar, Mutex, Wait};
 use trail::Trail;
 
-/// What a cache is made of: its state and its board, its own seat at the state, the ring of jobs with the seat's pass of it, and the
-/// device.
+/// What a cache is made of: its state and its board, its own seat at the state, the ring of jobs with the seat's pass of it, the
+/// device, and the deeds of its blocks.
 #[derive(Drop)]
 pub struct Parts<D: BlockDevice, T: Trail> {
     pub name: u64,
@@ -34,6 +36,7 @@ pub struct Parts<D: BlockDevice, T: Trail> {
     pub ring: Ring,
     pub own: Worker,
     pub device: D,
+    pub deeds: sides::Opened,
 }
 
 /// A cache that threads share.
@@ -69,10 +72,13 @@ impl<B: Naming, D: BlockDevice, T: Trail> SharedCache<B, D, T> {
         requires board { parts.board ≡ B.board }
         requires state { IsLocked B.name B.table B.board B.sizes B.seats parts.held }
         requires idle { map.len parts.held.core.state.requests ≡ 0 }
-        requires own { IsWorkerOf parts.ring B.name B.table B.sizes parts.own }
+        requires fresh { (parts.held.log.history ≡ []) × (parts.held.core.state ≡ no_files B.sizes B.name) }
+        requires own { IsWorkerOf parts.ring B.name B.table B.deeds B.sizes parts.own }
         requires device { IsDisk B.sizes (D.told parts.device) }
+        requires deeds { (parts.deeds.table ≡ B.deeds) × (parts.deeds.told ≡ B.told) × (parts.deeds.blocks ≡ B.blocks) }
+        requires blocks { AreBlocksOf B.told B.blocks (D.told parts.device) }
         ensures named { result.0.name ≡ parts.name }
-        ensures own { IsWorkerOf result.0.ring B.name B.table B.sizes result.1 }
+        ensures own { IsWorkerOf result.0.ring B.name B.table B.deeds B.sizes result.1 }
         ensures untouched { seat_of result.1 ≡ seat_of parts.own }
     {
         let Parts {
@@ -83,9 +89,13 @@ impl<B: Naming, D: BlockDevice, T: Trail> SharedCache<B, D, T> {
             ring,
             own,
             device,
+            deeds,
         } = parts;
-        let state = Held::of(held);
-        let disk = Disk::of(device);
+        // Lend that a page has bytes, and that the blocks that are told are of the device's size.
+        let _ = (geometry.page(), device.blocks());
+        let (desk, side) = deeds.named();
+        let state = Held::of(held, desk);
+        let disk = Disk::of(device, side);
         let cache = SharedCache {
             name,
             geometry,

@@ -11,16 +11,18 @@ ghost use Rattle.pc_types.specs.declared.refusal.Refusal.TheVariants.{Stranger};
 ghost use Rattle.trail.specs.History.{After};
 ghost use Rattle.trail.specs.declared.entry.Entry.{Entry};
 ghost use Rattle.held.specs.Called.{Goes, Only};
-ghost use Rattle.shared.specs.Keeps.{IsDisk};
+ghost use Rattle.shared.specs.Keeps.{IsDisk, IsLeftBy};
 ghost use Rattle.shared.specs.Workers.{AllOver, Drained, IsEnd, IsEndOf, IsOver, IsWorkerOf, pushed_by, seat_of};
 
 use crate::brief::BriefLock;
 use crate::cache::SharedCache;
 use crate::disk::Disk;
 use crate::ends::end;
+use crate::jobs::take;
 use crate::worker::Worker;
-use blockdev::{BlockDevice, Job};
+use blockdev::BlockDevice;
 use cachecore::CacheCore;
+use deeds::sides::Errand;
 use held::log::Seat;
 use held::naming::Naming;
 use held::state::Held;
@@ -39,15 +41,15 @@ impl<B: Naming, D: BlockDevice, T: Trail> SharedCache<B, D, T> {
         mut own: Worker,
         seats: Vec<Seat>,
     ) -> Result<(T, CacheCore, D), (Refusal, SharedCache<B, D, T>, Worker, Vec<Seat>)>
-        requires own { IsWorkerOf self.ring B.name B.table B.sizes own }
+        requires own { IsWorkerOf self.ring B.name B.table B.deeds B.sizes own }
         requires came { All (λ s. s.name ≡ self.name → s.table ≡ B.table) seats.items }
         ensures refused { IsErr result ↔ ((vec_len seats + 1 ≢ B.seats) ⊎ Any (λ s. s.name ≢ self.name) seats.items) }
         ensures err { IfErr result (λ e. (e.0 ≡ Stranger) × (e.1.name ≡ self.name) × (e.1.ring ≡ self.ring) × (e.3 ≡ seats)) }
-        ensures again { IfErr result (λ e. IsWorkerOf self.ring B.name B.table B.sizes e.2 × Goes (seat_of own) (seat_of e.2)) }
+        ensures again { IfErr result (λ e. IsWorkerOf self.ring B.name B.table B.deeds B.sizes e.2 × Goes (seat_of own) (seat_of e.2)) }
         ensures only { IfErr result (λ e. Only (λ x. IsEnd x.event) (seat_of own) (seat_of e.2)) }
         ensures device { IfOk result (λ r. IsDisk B.sizes (D.told r.2)) }
         ensures core { IfOk result (λ r. (r.1.state.name ≡ self.name) × (r.1.state.sizes ≡ B.sizes)) }
-        ensures closed { IfOk result (λ r. (history : List Entry) × T.records r.0 history × (T.cache r.0 ≡ Some self.name) × After r.1.state.sizes r.1.state.name history r.1.state × Drained own history r.1.state × All (λ s. IsPrefix s.list history × (s.count ≡ count_of s.number history)) seats.items) }
+        ensures closed { IfOk result (λ r. (history : List Entry) × T.records r.0 history × (T.cache r.0 ≡ Some self.name) × After r.1.state.sizes r.1.state.name history r.1.state × Drained own history r.1.state × All (λ s. IsPrefix s.list history × (s.count ≡ count_of s.number history)) seats.items × (B.told ≡ true → IsLeftBy B.sizes B.name B.blocks history r.1.state (D.told r.2))) }
     {
         let SharedCache {
             name,
@@ -68,7 +70,12 @@ impl<B: Naming, D: BlockDevice, T: Trail> SharedCache<B, D, T> {
         drain(rt, &ring, &mut device, &mut held, &mut own);
         let Worker { seat, pass } = own;
         match held.close(seats, seat) {
-            Ok((trail, core)) => Ok((trail, core, device.into_device())),
+            Ok((trail, core, desk)) => {
+                let (device, side) = device.into_parts();
+                // Tells that the device has what the history leaves of each block.
+                desk.close(side);
+                Ok((trail, core, device))
+            }
             Err((refusal, held, seats, seat)) => {
                 let cache = SharedCache {
                     name,
@@ -98,8 +105,8 @@ fn drain<B: Naming, D: BlockDevice, T: Trail, R: Wait>(
     state: &mut Held<B, T>,
     own: &mut Worker,
 )
-    requires worker { IsWorkerOf ring.now B.name B.table B.sizes own.old }
-    ensures worker { IsWorkerOf ring.now B.name B.table B.sizes own.new }
+    requires worker { IsWorkerOf ring.now B.name B.table B.deeds B.sizes own.old }
+    ensures worker { IsWorkerOf ring.now B.name B.table B.deeds B.sizes own.new }
     ensures goes { Goes (seat_of own.old) (seat_of own.new) }
     ensures only { Only (λ e. IsEnd e.event) (seat_of own.old) (seat_of own.new) }
     ensures taken { AllOver own.old own.new state.new.core.state }
@@ -107,7 +114,7 @@ fn drain<B: Naming, D: BlockDevice, T: Trail, R: Wait>(
     ensures emptied { fifo.Held 0 (Stands (view own.new.pass)) }
 {
     'jobs: for _ in rt.forever() {
-        let Some(job) = ring.pop(rt, &mut own.pass) else {
+        let Some(job) = take(rt, ring, &mut own.pass) else {
             return;
         };
         finish(disk, state, &mut own.seat, job);
@@ -120,7 +127,7 @@ fn finish<B: Naming, D: BlockDevice, T: Trail>(
     disk: &mut Disk<B, D>,
     state: &mut Held<B, T>,
     seat: &mut Seat,
-    job: Job,
+    job: Errand<B>,
 )
     requires seat { seat.old.table ≡ B.table }
     requires fits { IsJobFor B.name B.sizes.blocks B.sizes.page job }

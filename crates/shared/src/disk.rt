@@ -3,60 +3,68 @@
 ghost use Rattle.std.specs.Prelude.{◌≡◌, ◌<◌, IfOk, IsOk, Ok, OnOk, false, length, true};
 ghost use Rattle.blockdev.specs.Jobs.{IsJobFor};
 ghost use Rattle.blockdev.specs.Watching.{Clears, Makes, first_watch};
+ghost use Rattle.deeds.specs.Shown.{AreTold};
 ghost use Rattle.shared.specs.Keeps.{IsDisk, answer_of};
 
-use blockdev::{BlockDevice, Finished, Job, Watched};
+use blockdev::{BlockDevice, Watched};
+use deeds::sides::{DeviceSide, Errand, Report};
 use held::log::{Seat, Slip};
 use held::naming::Naming;
 use pc_types::ErrCode;
 use std::marker::{Model, PhantomData};
 
-/// The device of the cache that B names, with a note whether anything was written to it since it was last flushed well.
+/// The device of the cache that B names, with a note whether anything was written to it since it was last flushed well. No call of
+/// a block is made but with the block's deed.
 #[derive(Drop)]
 pub struct Disk<B: Naming, D: BlockDevice> {
     device: Watched<D>,
-    of: PhantomData<B>,
+    side: DeviceSide<B>,
 }
 
 impl<B: Naming, D: BlockDevice> Model for Disk<B, D> {
     ghost use Rattle.blockdev.specs.Watching.{Watch};
+    ghost use Rattle.deeds.specs.Shown.{AreTold};
     ghost use Rattle.shared.specs.Keeps.{IsDisk};
 
     ghost Value = { Watch };
 
     ghost view = { λ d. d.device };
 
-    ghost invariant = { λ d. IsDisk B.sizes d.device.device };
+    ghost invariant = { λ d. IsDisk B.sizes d.device.device × AreTold B.told d.device.device d.side };
 }
 
 impl<B: Naming, D: BlockDevice> Disk<B, D> {
     /// A device that may have been written to before.
-    pub(crate) fn of(device: D) -> Disk<B, D>
-        requires { IsDisk B.sizes (D.told device) }
+    pub(crate) fn of(device: D, side: DeviceSide<B>) -> Disk<B, D>
+        requires fits { IsDisk B.sizes (D.told device) }
+        requires told { AreTold B.told (D.told device) side }
         ensures { result ≡ first_watch (D.told device) }
     {
         Disk {
             device: Watched::over(device),
-            of: PhantomData,
+            side,
         }
     }
 
-    /// The device, without its lock.
-    pub(crate) fn into_device(self) -> D
-        ensures told { D.told result ≡ self.device }
-        ensures fits { IsDisk B.sizes (D.told result) }
+    /// The device and its side of the deeds, without their lock.
+    pub(crate) fn into_parts(self) -> (D, DeviceSide<B>)
+        ensures told { D.told result.0 ≡ self.device }
+        ensures fits { IsDisk B.sizes (D.told result.0) }
+        ensures contents { AreTold B.told (D.told result.0) result.1 }
     {
-        self.device.into_device()
+        (self.device.into_device(), self.side)
     }
 
     /// Makes the device call of a job. A write is noted.
-    pub(crate) fn carry_out(&mut self, job: Job) -> Finished
+    pub(crate) fn carry_out(&mut self, job: Errand<B>) -> Report<B>
         requires { IsJobFor B.name B.sizes.blocks B.sizes.page job }
         ensures made { Makes self.old job result self.new }
         ensures same { (result.serial ≡ job.serial) × (result.kind ≡ job.kind) × (result.cache ≡ job.cache) }
+        ensures block { result.block ≡ job.block }
         ensures size { length result.bytes ≡ B.sizes.page }
     {
-        self.device.perform(job)
+        let Disk { device, side } = self;
+        side.carry_out(device, job)
     }
 
     /// Makes what was written durable, by one flush where anything was, after the entry of a slip that the seat has seen.

@@ -20,8 +20,9 @@ use crate::brief::BriefLock;
 use crate::cache::SharedCache;
 use crate::disk::Disk;
 use crate::handle::FailedWrite;
-use blockdev::{BlockDevice, Buffer, Finished, Job};
+use blockdev::{BlockDevice, Buffer};
 use cachecore::Ended;
+use deeds::sides::{Errand, Report};
 use errboard::Receipt;
 use held::denied::{Denied, by};
 use held::log::{Seat, Slip};
@@ -39,7 +40,7 @@ impl<B: Naming, D: BlockDevice, T: Trail> SharedCache<B, D, T> {
         rt: &R,
         seat: &mut Seat,
         handle: HandleId,
-        job: Job,
+        job: Errand<B>,
     ) -> Result<(), Denied>
         requires seat { seat.old.table ≡ B.table }
         requires fits { IsJobFor B.name B.sizes.blocks B.sizes.page job }
@@ -70,7 +71,7 @@ impl<B: Naming, D: BlockDevice, T: Trail> SharedCache<B, D, T> {
         &self,
         rt: &R,
         seat: &mut Seat,
-        job: Job,
+        job: Errand<B>,
     ) -> Result<(bool, Buffer), Denied>
         requires seat { seat.old.table ≡ B.table }
         requires fits { IsJobFor B.name B.sizes.blocks B.sizes.page job }
@@ -123,7 +124,7 @@ pub(crate) fn carry_through<B: Naming, D: BlockDevice, T: Trail, R: Wait>(
     state: &BriefLock<Held<B, T>>,
     name: u64,
     seat: &mut Seat,
-    job: Job,
+    job: Errand<B>,
 ) -> Result<Done, Denied>
     requires seat { seat.old.table ≡ B.table }
     requires fits { IsJobFor B.name B.sizes.blocks B.sizes.page job }
@@ -137,7 +138,7 @@ pub(crate) fn carry_through<B: Naming, D: BlockDevice, T: Trail, R: Wait>(
     ensures refused_once { IfErr result (λ d. MadeOne d.slip seat.old seat.new) }
     ensures full { IfErr result (IsFullIfNoSlip seat.old seat.new) }
 {
-    let serial = job.serial();
+    let serial = job.job().serial();
     let finished = disk.lock(rt).carry_out(job);
     match end(&mut state.lock(rt), seat, finished) {
         Ok((slip, receipt)) => Ok(Done {
@@ -163,20 +164,27 @@ fn failure(name: u64, receipt: Option<Receipt>) -> Option<FailedWrite>
     }
 }
 
+/// The kind of the request that a report is of.
+fn kind_of<B: Naming>(finished: &Report<B>) -> Kind
+    ensures { result ≡ finished.now.kind }
+{
+    finished.finished().kind()
+}
+
 /// Ends a request, by its kind.
 #[tactic(auto, using(held::proofs::Seats::goes_by, crate::proofs::Making::goes_denied, crate::proofs::Making::makes_by, crate::proofs::Making::denied_event, crate::proofs::Making::full_by, crate::proofs::Making::made_one, crate::proofs::Making::denied_one, crate::proofs::Ending::fill_told, crate::proofs::Ending::flush_told, crate::proofs::Owning::only_end, crate::proofs::Owning::only_end_denied))]
 pub(crate) fn end<B: Naming, T: Trail>(
     state: &mut Held<B, T>,
     seat: &mut Seat,
-    finished: Finished,
+    finished: Report<B>,
 ) -> Result<(Slip, Option<Receipt>), Denied>
     requires seat { seat.old.table ≡ B.table }
     requires size { length finished.bytes ≡ B.sizes.page }
     requires cache { finished.cache ≡ B.name }
     ensures goes { Goes seat.old seat.new }
-    ensures over { (job : Task) → finished.kind ≡ job.kind → finished.serial ≡ job.serial → IsOver state.new.core.state job }
+    ensures over { (job : Task) → finished.kind ≡ job.kind → finished.serial ≡ job.serial → finished.block ≡ job.block → IsOver state.new.core.state job }
     ensures others { (job : Task) → IsOver state.old.core.state job → IsOver state.new.core.state job }
-    ensures only { (job : Task) → finished.kind ≡ job.kind → finished.serial ≡ job.serial → finished.cache ≡ job.cache → Only (λ e. IsEndOf job e.event) seat.old seat.new }
+    ensures only { (job : Task) → finished.kind ≡ job.kind → finished.serial ≡ job.serial → finished.cache ≡ job.cache → finished.block ≡ job.block → Only (λ e. IsEndOf job e.event) seat.old seat.new }
     ensures ends { Only (λ e. IsEnded B.name (finished.kind, finished.serial) e.event) seat.old seat.new }
     ensures made { IfOk result (λ r. (reply : Reply) × Makes seat.old seat.new r.0 (event.End finished.kind (end_of finished)) reply × IsEndReply reply × (is_some r.1 ≡ fails_write finished.kind reply)) }
     ensures one { IfOk result (λ r. MadeOne (Some r.0) seat.old seat.new) }
@@ -187,7 +195,7 @@ pub(crate) fn end<B: Naming, T: Trail>(
 {
     // Lends that the history is legal, and so the state's name.
     let _ = state.core();
-    match finished.kind() {
+    match kind_of(&finished) {
         Kind::Fill => match state.fill_end(seat, finished) {
             Ok((_, slip)) => Ok((slip, None)),
             Err(denied) => Err(denied),

@@ -19,11 +19,11 @@ use crate::cache::SharedCache;
 use crate::disk::Durable;
 use crate::handle::Handle;
 use blockdev::{BlockDevice, Buffer};
-use cachecore::SyncStepped;
 use errboard::Pass;
 use held::denied::{Denied, by, without_slip};
 use held::log::{Seat, Slip};
 use held::naming::Naming;
+use held::started::SyncMoved;
 use held::state::Held;
 use pc_types::limits::LAST_PAGE;
 use pc_types::{ErrCode, HandleId, PageIndex, Refusal, SyncId};
@@ -251,15 +251,15 @@ impl<B: Naming, D: BlockDevice, T: Trail> SharedCache<B, D, T> {
             }
         };
         let job = match stepped {
-            SyncStepped::Job(job) => job,
-            SyncStepped::Wait(_, buffer) => {
+            SyncMoved::Job(job) => job,
+            SyncMoved::Wait(_, buffer) => {
                 self.waits(rt, guard);
                 return Ok((None, buffer));
             }
-            SyncStepped::Clean(buffer) => {
+            SyncMoved::Clean(buffer) => {
                 return Ok((Some(over(&mut guard, pass, None, slip)), buffer));
             }
-            SyncStepped::Failed(code, buffer) => {
+            SyncMoved::Failed(code, buffer) => {
                 return Ok((Some(over(&mut guard, pass, Some(code), slip)), buffer));
             }
         };

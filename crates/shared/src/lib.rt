@@ -6,6 +6,8 @@
 //! what they wait for. `worker` is who works beside the callers: `turns` has what one does in a turn, `workers` its loop, `evictor` the one that frees
 //! frames, `ends` the end of a job, and `signal` what wakes one. `facts` is what the cache tells of itself, and `disk` the device under
 //! its lock.
+//!
+//! Floor: services.
 
 mod brief;
 pub mod cache;
@@ -17,6 +19,7 @@ mod facts;
 mod files;
 mod fsync;
 pub mod handle;
+mod jobs;
 pub mod parts;
 mod reads;
 mod room;

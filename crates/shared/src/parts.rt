@@ -1,19 +1,20 @@
 //! The parts of a cache, made at once.
 
 ghost use Rattle.std.specs.FinMap as map;
-ghost use Rattle.std.specs.Prelude.{◌≡◌, [], ◌+◌, ◌<◌, ◌≤◌, ◌&&◌, IfErr, IfOk, OnOk, if◌then◌else◌, nat_le, nat_lt, vec_len};
+ghost use Rattle.std.specs.Prelude.{◌≡◌, [], ◌+◌, ◌<◌, ◌≤◌, ◌&&◌, IfErr, IfOk, OnOk, if◌then◌else◌, is_some, nat_le, nat_lt, vec_len};
 ghost use Rattle.held.specs.Shown.{AreFresh};
 ghost use Rattle.pc_types.specs.declared.refusal.Refusal.TheVariants.{BadConfig, Memory};
 ghost use Rattle.ring.specs.Serving.{Carries, Serves};
 ghost use Rattle.machine.specs.History.{no_files};
 ghost use Rattle.machine.specs.PageLists.{no_lists};
 ghost use Rattle.held.specs.Keeps.{IsLocked};
-ghost use Rattle.shared.specs.Keeps.{IsDisk};
+ghost use Rattle.shared.specs.Keeps.{AreBlocksOf, IsDisk};
 ghost use Rattle.shared.specs.Workers.{IsWorkerOf};
 
 use crate::cache::Parts;
 use crate::worker::Worker;
 use blockdev::BlockDevice;
+use deeds::sides;
 use held::log::Seat;
 use held::state::Opened;
 pub use pc_types::limits::MAX_SEATS;
@@ -50,13 +51,15 @@ impl<D: BlockDevice, T: Trail> Parts<D, T> {
         ensures state { IfOk result (λ r. IsLocked r.0.name r.0.held.log.table r.0.board r.0.geometry (vec_len r.1 + 1) r.0.held) }
         ensures empty { IfOk result (λ r. (r.0.held.log.history ≡ []) × (r.0.held.core ≡ record { state = no_files geometry.now name; lists = no_lists })) }
         ensures idle { IfOk result (λ r. map.len r.0.held.core.state.requests ≡ 0) }
-        ensures own { IfOk result (λ r. IsWorkerOf r.0.ring r.0.name r.0.held.log.table r.0.geometry r.0.own) }
+        ensures own { IfOk result (λ r. IsWorkerOf r.0.ring r.0.name r.0.held.log.table r.0.deeds.table r.0.geometry r.0.own) }
+        ensures told { IfOk result (λ r. r.0.deeds.told ≡ is_some (D.told device).contents) }
+        ensures blocks { IfOk result (λ r. AreBlocksOf r.0.deeds.told r.0.deeds.blocks (D.told device)) }
         ensures device { IfOk result (λ r. r.0.device ≡ device) }
         ensures seats { IfOk result (λ r. (vec_len r.1 ≡ seat_count) × AreFresh r.0.held.log.table r.0.name r.1.items) }
         ensures refused { IfErr result (λ e. e.refusal ≡ (if nat_lt 0 seat_count && nat_le seat_count 64 then Memory else BadConfig)) }
         ensures back { IfErr result (λ e. (e.device ≡ device) × (e.trail ≡ trail)) }
     {
-        let (ring, pass) = match ring_for(rt, alloc, name, geometry, seat_count) {
+        let (ring, pass, deeds) = match ring_over(rt, alloc, &device, name, geometry, seat_count) {
             Ok(made) => made,
             Err(refusal) => {
                 return Err(Unmade {
@@ -76,6 +79,7 @@ impl<D: BlockDevice, T: Trail> Parts<D, T> {
                     ring,
                     own: Worker::new(own, pass),
                     device,
+                    deeds,
                 };
                 Ok((parts, seats))
             }
@@ -88,20 +92,27 @@ impl<D: BlockDevice, T: Trail> Parts<D, T> {
     }
 }
 
-/// The ring of a cache that so many may share.
-fn ring_for<R: Wait>(
+/// The deeds of a device's blocks, and the ring of a cache over it that so many may share.
+fn ring_over<R: Wait, D: BlockDevice>(
     rt: &R,
     alloc: Global,
+    device: &D,
     name: u64,
     geometry: &Geometry,
     seat_count: u64,
-) -> Result<(Ring, RingPass), Refusal>
+) -> Result<(Ring, RingPass, sides::Opened), Refusal>
+    requires { IsDisk geometry.now (D.told device.now) }
     ensures few { OnOk result ((0 < seat_count) × (seat_count ≤ 64)) }
-    ensures pass { IfOk result (λ r. Serves r.0 r.1 × Carries name geometry.now.blocks geometry.now.page r.1) }
+    ensures pass { IfOk result (λ r. Serves r.0 r.1 × Carries name geometry.now.blocks geometry.now.page r.2.table r.1) }
+    ensures told { IfOk result (λ r. r.2.told ≡ is_some (D.told device.now).contents) }
+    ensures blocks { IfOk result (λ r. AreBlocksOf r.2.told r.2.blocks (D.told device.now)) }
     ensures refused { IfErr result (λ e. e ≡ (if nat_lt 0 seat_count && nat_le seat_count 64 then Memory else BadConfig)) }
 {
     if seat_count == 0 || seat_count > MAX_SEATS {
         return Err(Refusal::BadConfig);
     }
-    Ring::new(rt, alloc, name, geometry)
+    // Lends that the device has a block.
+    let _ = geometry.blocks();
+    let deeds = sides::Opened::over(alloc, device)?;
+    Ring::over(rt, alloc, name, geometry, deeds)
 }

@@ -14,14 +14,15 @@ ghost use Rattle.shared.specs.Denials.{IsDenied};
 ghost use Rattle.shared.specs.Own.{IsEviction, IsHelp, IsRoomEvent, IsStillDenied};
 ghost use Rattle.shared.specs.Rooms.{IsCrammed, IsFinal, IsFinalOr, IsLost, IsUnwritten, wants_room};
 ghost use Rattle.shared.specs.Settled.{FillsNoOther, SettlesIn};
-ghost use Rattle.shared.specs.Workers.{LetsGo};
+ghost use Rattle.shared.specs.Workers.{FindsEnough, LetsGo};
 
 use crate::cache::SharedCache;
-use blockdev::{BlockDevice, Buffer, Job};
-use cachecore::{FillBegun, Want};
+use blockdev::{BlockDevice, Buffer};
+use cachecore::Want;
 use held::denied::{Denied, without_slip};
 use held::log::Seat;
 use held::naming::Naming;
+use held::started::FillStarted;
 use held::state::Held;
 use pc_types::{HandleId, PageIndex, Refusal};
 use std::sync::{MutexGuard, Wait};
@@ -92,7 +93,7 @@ impl<B: Naming, D: BlockDevice, T: Trail> SharedCache<B, D, T> {
         };
         drop(guard);
         match begun {
-            FillBegun::Job(job) => self.fill_by(rt, seat, handle, job),
+            FillStarted::Job(job) => self.fill_by(rt, seat, handle, job),
             _ => Ok(()),
         }
     }
@@ -270,6 +271,7 @@ impl<B: Naming, D: BlockDevice, T: Trail> SharedCache<B, D, T> {
         ensures goes { Goes seat.old seat.new }
         ensures only { Only (λ e. IsEviction e.event) seat.old seat.new }
         ensures gone { IfOk result (λ went. LetsGo (if went then 1 else 0) seat.old seat.new) }
+        ensures none { IfOk result (λ went. went ≡ false → FindsEnough 16 B.sizes B.name seat.new) }
         ensures denied { IfErr result (IsDenied IsRoomEvent seat.old seat.new) }
     {
         evict_idle(&mut self.state.lock(rt), seat)
@@ -277,7 +279,7 @@ impl<B: Naming, D: BlockDevice, T: Trail> SharedCache<B, D, T> {
 }
 
 /// Lets pages age, and then an idle one go. Answers whether there was one.
-#[tactic(auto, using(held::proofs::Seats::goes_by, held::proofs::Seats::goes_on, held::proofs::Seats::goes_same, crate::proofs::Making::goes_denied, crate::proofs::Making::denied_age, crate::proofs::Making::denied_evict, crate::proofs::Owning::only_age_denied, crate::proofs::Owning::only_evicts, crate::proofs::Owning::only_evict_denied, crate::proofs::Letting::evicted_gone, crate::proofs::Rooming::age_unwanted, crate::proofs::Rooming::evict_unwanted, crate::proofs::Rooming::evict_none, crate::proofs::Rooming::age_final, crate::proofs::Rooming::evict_final))]
+#[tactic(auto, using(held::proofs::Seats::goes_by, held::proofs::Seats::goes_on, held::proofs::Seats::goes_same, crate::proofs::Making::goes_denied, crate::proofs::Making::denied_age, crate::proofs::Making::denied_evict, crate::proofs::Owning::only_age_denied, crate::proofs::Owning::only_evicts, crate::proofs::Owning::only_evict_denied, crate::proofs::Letting::evicted_gone, crate::proofs::Finding::finds_none_idle, crate::proofs::Rooming::age_unwanted, crate::proofs::Rooming::evict_unwanted, crate::proofs::Rooming::evict_none, crate::proofs::Rooming::age_final, crate::proofs::Rooming::evict_final))]
 fn evict_idle<B: Naming, T: Trail>(state: &mut Held<B, T>, seat: &mut Seat) -> Result<bool, Denied>
     requires { seat.old.table ≡ B.table }
     ensures goes { Goes seat.old seat.new }
@@ -285,6 +287,7 @@ fn evict_idle<B: Naming, T: Trail>(state: &mut Held<B, T>, seat: &mut Seat) -> R
     ensures gone { IfOk result (λ went. LetsGo (if went then 1 else 0) seat.old seat.new) }
     ensures denied { IfErr result (IsDenied IsRoomEvent seat.old seat.new) }
     ensures unwanted { IfErr result (λ d. wants_room d.refusal ≡ false) }
+    ensures found { IfOk result (λ went. went ≡ false → FindsEnough 16 B.sizes B.name seat.new) }
     ensures none { IfOk result (λ went. went ≡ false → (has_idle state.old.core.state ≡ false) × (state.new.core.state ≡ state.old.core.state)) }
     ensures stands { IfErr result (IsFinal B.sizes B.name seat.new) }
 {
@@ -292,7 +295,11 @@ fn evict_idle<B: Naming, T: Trail>(state: &mut Held<B, T>, seat: &mut Seat) -> R
         return Err(denied);
     }
     match state.evict(seat) {
-        Ok((page, _)) => Ok(page.is_some()),
+        Ok((page, _)) => {
+            // Lends that the history is legal.
+            let _ = state.core();
+            Ok(page.is_some())
+        }
         Err(denied) => Err(denied),
     }
 }

@@ -8,12 +8,14 @@ ghost use Rattle.held.specs.Called.{Goes, Only};
 ghost use Rattle.ring.specs.Order.{Stands};
 ghost use Rattle.shared.specs.Denials.{IsDenied, IsFullIfNoSlip, MadeOne};
 ghost use Rattle.shared.specs.Settled.{EndsOwn, IsBegun, IsEnded};
-ghost use Rattle.shared.specs.Workers.{AllCarried, Begins, Ends, FailsOwn, IsEnd, IsEndOf, IsFlushBegin, IsFlushed, IsOwnFailure, IsWorkerOf, IsWriteBack, OnBegun, entered_in, is_unended, popped_by, pushed_by, seat_of};
+ghost use Rattle.shared.specs.Workers.{AllCarried, Begins, Ends, FailsOwn, FindsNothing, IsEnd, IsEndOf, IsFlushBegin, IsFlushed, IsOwnFailure, IsWorkerOf, IsWriteBack, OnBegun, entered_in, is_unended, popped_by, pushed_by, seat_of};
 
 use crate::cache::SharedCache;
 use crate::ends::{Done, carry_through};
+use crate::jobs::{put, take};
 use crate::worker::Worker;
-use blockdev::{BlockDevice, Buffer, Gate, Job};
+use blockdev::{BlockDevice, Buffer, Gate};
+use deeds::sides::Errand;
 use held::denied::{Denied, without_slip};
 use held::log::{Seat, Slip};
 use held::naming::Naming;
@@ -44,8 +46,8 @@ impl<B: Naming, D: BlockDevice, T: Trail> SharedCache<B, D, T> {
         gate: &G,
         worker: &mut Worker,
     ) -> Result<Option<Done>, Denied>
-        requires worker { IsWorkerOf self.now.ring B.name B.table B.sizes worker.old }
-        ensures worker { IsWorkerOf self.now.ring B.name B.table B.sizes worker.new }
+        requires worker { IsWorkerOf self.now.ring B.name B.table B.deeds B.sizes worker.old }
+        ensures worker { IsWorkerOf self.now.ring B.name B.table B.deeds B.sizes worker.new }
         ensures goes { Goes (seat_of worker.old) (seat_of worker.new) }
         ensures only { Only (λ e. IsEnd e.event) (seat_of worker.old) (seat_of worker.new) }
         ensures pushed { pushed_by worker.new ≡ pushed_by worker.old }
@@ -56,10 +58,10 @@ impl<B: Naming, D: BlockDevice, T: Trail> SharedCache<B, D, T> {
         ensures denied { IfErr result (λ d. (job : Task) × (popped_by worker.new ≡ popped_by worker.old ++ job ∷ []) × IsDenied (IsEndOf job) (seat_of worker.old) (seat_of worker.new) d × IsFullIfNoSlip (seat_of worker.old) (seat_of worker.new) d) }
         ensures passed { IfOk result (λ o. IfSome o (λ d. G.passed gate.now d.serial.0)) }
     {
-        let Some(job) = self.ring.pop(rt, &mut worker.pass) else {
+        let Some(job) = take(rt, &self.ring, &mut worker.pass) else {
             return Ok(None);
         };
-        gate.enter(job.serial().0);
+        gate.enter(job.job().serial().0);
         match self.end_job(rt, &mut worker.seat, job) {
             Ok(done) => Ok(Some(done)),
             Err(denied) => Err(denied),
@@ -69,15 +71,15 @@ impl<B: Naming, D: BlockDevice, T: Trail> SharedCache<B, D, T> {
     /// One turn of a flusher: it begins to write the lowest page of the first file that has one to write, and puts the job into the
     /// ring. Where the ring is full it makes the device call itself, for which the gate is entered with the job's serial. Refused
     /// only where no write was begun.
-    #[tactic(auto, using(held::proofs::Seats::goes_same, held::proofs::Seats::goes_on, crate::proofs::Ending::begins_then, crate::proofs::Ending::ends_on, held::proofs::Seats::only_same, crate::proofs::Owning::only_flushed, crate::proofs::Owning::only_begins, crate::proofs::Carrying::none_carried, crate::proofs::Settling::own_begins))]
+    #[tactic(auto, using(held::proofs::Seats::goes_same, crate::proofs::Finding::nothing_carried, crate::proofs::Finding::none_counted, held::proofs::Seats::goes_on, crate::proofs::Ending::begins_then, crate::proofs::Ending::ends_on, held::proofs::Seats::only_same, crate::proofs::Owning::only_flushed, crate::proofs::Owning::only_begins, crate::proofs::Carrying::none_carried, crate::proofs::Settling::own_begins))]
     pub fn flusher_turn<R: Wait, G: Gate>(
         &self,
         rt: &R,
         gate: &G,
         worker: &mut Worker,
     ) -> Result<Flushed, Denied>
-        requires worker { IsWorkerOf self.now.ring B.name B.table B.sizes worker.old }
-        ensures worker { IsWorkerOf self.now.ring B.name B.table B.sizes worker.new }
+        requires worker { IsWorkerOf self.now.ring B.name B.table B.deeds B.sizes worker.old }
+        ensures worker { IsWorkerOf self.now.ring B.name B.table B.deeds B.sizes worker.new }
         ensures goes { Goes (seat_of worker.old) (seat_of worker.new) }
         ensures only { Only (λ e. IsWriteBack e.event) (seat_of worker.old) (seat_of worker.new) }
         ensures own { EndsOwn B.name (seat_of worker.old) (seat_of worker.new) }
@@ -94,8 +96,8 @@ impl<B: Naming, D: BlockDevice, T: Trail> SharedCache<B, D, T> {
             Ok(None) => return Ok(Flushed::Nothing),
             Err(denied) => return Err(denied),
         };
-        let serial = job.serial();
-        let Err(job) = self.ring.push(rt, &mut worker.pass, job) else {
+        let serial = job.job().serial();
+        let Err(job) = put(rt, &self.ring, &mut worker.pass, job) else {
             self.jobs.give(rt);
             return Ok(Flushed::Pushed(serial, slip));
         };
@@ -107,12 +109,16 @@ impl<B: Naming, D: BlockDevice, T: Trail> SharedCache<B, D, T> {
     }
 
     /// Begins to write a page, of the first file that has one to write.
-    #[tactic(auto, using(held::proofs::Seats::goes_same, crate::proofs::Ending::begins_first, crate::proofs::Ending::denied_begun, held::proofs::Seats::only_same, crate::proofs::Ending::begun_one, crate::proofs::Ending::unbegun, crate::proofs::Owning::only_begun, crate::proofs::Owning::only_begun_denied, crate::proofs::Carrying::begins_one, crate::proofs::Carrying::begins_none, crate::proofs::Settling::writes_begun))]
-    fn begin_flush<R: Wait>(&self, rt: &R, seat: &mut Seat) -> Result<Option<(Job, Slip)>, Denied>
+    #[tactic(auto, using(held::proofs::Seats::goes_same, held::proofs::Seats::goes_on, held::proofs::Seats::goes_shown, held::proofs::Seats::only_any, crate::proofs::Finding::finds_nothing, crate::proofs::Ending::begins_first, crate::proofs::Ending::denied_begun, held::proofs::Seats::only_same, crate::proofs::Ending::begun_one, crate::proofs::Ending::unbegun, crate::proofs::Owning::only_begun, crate::proofs::Owning::only_begun_denied, crate::proofs::Carrying::begins_one, crate::proofs::Carrying::begins_none, crate::proofs::Settling::writes_begun))]
+    fn begin_flush<R: Wait>(
+        &self,
+        rt: &R,
+        seat: &mut Seat,
+    ) -> Result<Option<(Errand<B>, Slip)>, Denied>
         requires { seat.old.table ≡ B.table }
         ensures goes { Goes seat.old seat.new }
         ensures only { Only (λ e. IsFlushBegin e.event) seat.old seat.new }
-        ensures idle { IfOk result (λ o. IfNone o (seat.new ≡ seat.old)) }
+        ensures idle { IfOk result (λ o. IfNone o (FindsNothing B.sizes B.name seat.old seat.new)) }
         ensures one { IfOk result (λ o. IfSome o (λ r. MadeOne (Some r.1) seat.old seat.new)) }
         ensures begun { IfOk result (λ o. IfSome o (λ r. Begins B.sizes B.name r.0 seat.old seat.new r.1)) }
         ensures alone { IfOk result (λ o. IfSome o (λ r. Only (λ e. OnBegun (λ t. t ≡ r.0.serial) e.event e.reply) seat.old seat.new)) }
@@ -128,11 +134,23 @@ impl<B: Naming, D: BlockDevice, T: Trail> SharedCache<B, D, T> {
         let mut guard = self.state.lock(rt);
         // Lends that the history is legal.
         let _ = guard.core();
-        guard.flush_first(seat, buffer)
+        match guard.flush_first(seat, buffer) {
+            Ok(Some(begun)) => Ok(Some(begun)),
+            Ok(None) => {
+                guard.show(seat);
+                Ok(None)
+            }
+            Err(denied) => Err(denied),
+        }
     }
 
     /// Makes a job's device call, ends its request, and wakes those who wait for an end.
-    pub(crate) fn end_job<R: Wait>(&self, rt: &R, seat: &mut Seat, job: Job) -> Result<Done, Denied>
+    pub(crate) fn end_job<R: Wait>(
+        &self,
+        rt: &R,
+        seat: &mut Seat,
+        job: Errand<B>,
+    ) -> Result<Done, Denied>
         requires seat { seat.old.table ≡ B.table }
         requires fits { IsJobFor B.name B.sizes.blocks B.sizes.page job }
         ensures goes { Goes seat.old seat.new }

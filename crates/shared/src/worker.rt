@@ -38,14 +38,14 @@ impl Worker {
 impl<B: Naming, D: BlockDevice, T: Trail> SharedCache<B, D, T> {
     /// A worker, whose events are entered by this seat.
     pub fn worker(&self, own: &mut Worker, seat: Seat) -> Result<Worker, (Refusal, Seat)>
-        requires own { IsWorkerOf self.now.ring B.name B.table B.sizes own.old }
+        requires own { IsWorkerOf self.now.ring B.name B.table B.deeds B.sizes own.old }
         requires seat { seat.name ≡ self.now.name → seat.table ≡ B.table }
         ensures foreign { IsErr result ↔ (seat.name ≢ self.now.name) }
         ensures err { IfErr result (λ e. (e.0 ≡ Stranger) × (e.1 ≡ seat)) }
-        ensures worker { IfOk result (IsWorkerOf self.now.ring B.name B.table B.sizes) }
+        ensures worker { IfOk result (IsWorkerOf self.now.ring B.name B.table B.deeds B.sizes) }
         ensures seat { IfOk result (λ w. seat_of w ≡ seat) }
         ensures new { IfOk result (λ w. (popped_by w ≡ []) × (pushed_by w ≡ [])) }
-        ensures own { IsWorkerOf self.now.ring B.name B.table B.sizes own.new }
+        ensures own { IsWorkerOf self.now.ring B.name B.table B.deeds B.sizes own.new }
     {
         if seat.name() != self.name {
             return Err((Refusal::Stranger, seat));

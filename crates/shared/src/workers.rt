@@ -28,8 +28,8 @@ impl<B: Naming, D: BlockDevice, T: Trail> SharedCache<B, D, T> {
     /// Writes pages back while there are any to write, and sleeps where there are none, until it is told to stop. It stops too where
     /// the end of a write that it began is refused, which no write gets whose request is in flight.
     pub fn flusher<R: Wait, G: Gate>(&self, rt: &R, gate: &G, worker: &mut Worker)
-        requires worker { IsWorkerOf self.now.ring B.name B.table B.sizes worker.old }
-        ensures worker { IsWorkerOf self.now.ring B.name B.table B.sizes worker.new }
+        requires worker { IsWorkerOf self.now.ring B.name B.table B.deeds B.sizes worker.old }
+        ensures worker { IsWorkerOf self.now.ring B.name B.table B.deeds B.sizes worker.new }
         ensures goes { Goes (seat_of worker.old) (seat_of worker.new) }
         ensures only { Only (λ e. IsWriteBack e.event) (seat_of worker.old) (seat_of worker.new) }
         ensures own { EndsOwn B.name (seat_of worker.old) (seat_of worker.new) }
@@ -45,8 +45,8 @@ impl<B: Naming, D: BlockDevice, T: Trail> SharedCache<B, D, T> {
     /// The turns of a flusher, which may put a job into the ring until it returns.
     #[tactic(auto, using(held::proofs::Seats::goes_same, held::proofs::Seats::goes_on, held::proofs::Seats::only_same, crate::proofs::Owning::only_write_back_on, crate::proofs::Carrying::none_carried, crate::proofs::Carrying::puts_none, crate::proofs::Carrying::carries_all, crate::proofs::Carrying::carries_last))]
     fn write_back<R: Wait, G: Gate>(&self, rt: &R, gate: &G, worker: &mut Worker)
-        requires worker { IsWorkerOf self.now.ring B.name B.table B.sizes worker.old }
-        ensures worker { IsWorkerOf self.now.ring B.name B.table B.sizes worker.new }
+        requires worker { IsWorkerOf self.now.ring B.name B.table B.deeds B.sizes worker.old }
+        ensures worker { IsWorkerOf self.now.ring B.name B.table B.deeds B.sizes worker.new }
         ensures goes { Goes (seat_of worker.old) (seat_of worker.new) }
         ensures only { Only (λ e. IsWriteBack e.event) (seat_of worker.old) (seat_of worker.new) }
         ensures own { EndsOwn B.name (seat_of worker.old) (seat_of worker.new) }
@@ -78,8 +78,8 @@ impl<B: Naming, D: BlockDevice, T: Trail> SharedCache<B, D, T> {
         gate: &G,
         worker: &mut Worker,
     ) -> Result<(), Denied>
-        requires worker { IsWorkerOf self.now.ring B.name B.table B.sizes worker.old }
-        ensures worker { IsWorkerOf self.now.ring B.name B.table B.sizes worker.new }
+        requires worker { IsWorkerOf self.now.ring B.name B.table B.deeds B.sizes worker.old }
+        ensures worker { IsWorkerOf self.now.ring B.name B.table B.deeds B.sizes worker.new }
         ensures goes { Goes (seat_of worker.old) (seat_of worker.new) }
         ensures only { Only (λ e. IsEnd e.event) (seat_of worker.old) (seat_of worker.new) }
         ensures pushed { pushed_by worker.new ≡ pushed_by worker.old }

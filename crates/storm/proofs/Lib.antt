@@ -1,1 +1,2 @@
 mod Seating
+mod Copying

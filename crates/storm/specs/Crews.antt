@@ -7,8 +7,8 @@ use Rattle.shared.specs.Workers.{IsWorkerOf}
 use Rattle.storm.specs.declared.crew.Crew.{Crew}
 
 -- each is a worker of the cache of this ring, name, table and sizes
-pub record IsCrewOf (ring : Ring) (name : ℕ) (table : TableId) (sizes : Sizes) (c : Crew) : Type 0 where
-  pub flusher : IsWorkerOf ring name table sizes c.flusher
-  pub first : IsWorkerOf ring name table sizes c.first
-  pub second : IsWorkerOf ring name table sizes c.second
-  pub evictor : IsWorkerOf ring name table sizes c.evictor
+pub record IsCrewOf (ring : Ring) (name : ℕ) (table deeds : TableId) (sizes : Sizes) (c : Crew) : Type 0 where
+  pub flusher : IsWorkerOf ring name table deeds sizes c.flusher
+  pub first : IsWorkerOf ring name table deeds sizes c.first
+  pub second : IsWorkerOf ring name table deeds sizes c.second
+  pub evictor : IsWorkerOf ring name table deeds sizes c.evictor

@@ -14,6 +14,7 @@ use shared::handle::Handle;
 use std::alloc::{AllocError, Global};
 use std::marker::PhantomData;
 use std::sync::Wait;
+use storm_text::Refused;
 use trail::FullTrail;
 
 /// An open file of the cache that B names.
@@ -35,11 +36,12 @@ pub struct Caller<B: Naming> {
     crowded: Vec<Slip>,
 }
 
-/// The seat of a caller that is done, and the entries at which its calls were refused for want of a block.
+/// The seat of a caller that is done, the entries at which its calls were refused for want of a block, and by what calls were refused.
 #[derive(Drop)]
 pub struct Done<B: Naming> {
     pub member: Member<B>,
     pub crowded: Vec<Slip>,
+    pub refused: Refused,
 }
 
 impl<B: Naming> Caller<B> {
@@ -72,14 +74,29 @@ impl<B: Naming> Caller<B> {
             count,
             mut crowded,
         } = self;
-        open_files(rt, cache, &mut member, &mut files);
+        let mut refused = Refused::none();
+        open_files(rt, cache, &mut member, &mut files, &mut refused);
         for number in 0..count {
-            if let Some(slip) = make_call(rt, cache, &mut member, &mut files, &mut steps, number) {
-                let _ = crowded.push(slip);
+            if let Some(denied) = make_call(
+                rt,
+                cache,
+                &mut member,
+                &mut files,
+                &mut steps,
+                number,
+            ) {
+                refused.count(denied.refusal);
+                if let Some(slip) = crowded_by(&denied) {
+                    let _ = crowded.push(slip);
+                }
             }
         }
-        close_files(rt, cache, &mut member, files);
-        Done { member, crowded }
+        close_files(rt, cache, &mut member, files, &mut refused);
+        Done {
+            member,
+            crowded,
+            refused,
+        }
     }
 }
 
@@ -89,18 +106,22 @@ fn open_files<R: Wait, B: Naming, D: BlockDevice>(
     cache: &SharedCache<B, D, FullTrail>,
     member: &mut Member<B>,
     files: &mut Vec<Opened<B>>,
+    refused: &mut Refused,
 ) {
     for file in 0..FILES {
-        if let Ok((handle, _)) = cache.open(rt, &mut member.seat, FileId(file), true) {
-            let _ = files.push(Opened {
-                handle,
-                of: PhantomData,
-            });
+        match cache.open(rt, &mut member.seat, FileId(file), true) {
+            Ok((handle, _)) => {
+                let _ = files.push(Opened {
+                    handle,
+                    of: PhantomData,
+                });
+            }
+            Err(denied) => refused.count(denied.refusal),
         }
     }
 }
 
-/// Makes the call of this number. Answers the entry that refused it for want of a block, if one did.
+/// Makes the call of this number. Answers by what it was refused.
 fn make_call<R: Wait, B: Naming, D: BlockDevice>(
     rt: &R,
     cache: &SharedCache<B, D, FullTrail>,
@@ -108,19 +129,19 @@ fn make_call<R: Wait, B: Naming, D: BlockDevice>(
     files: &mut Vec<Opened<B>>,
     steps: &mut Steps,
     number: u64,
-) -> Option<Slip> {
+) -> Option<Denied> {
     let step = steps.step(number);
     let mut buffer = [0; MAX_COUNT];
     let bytes = &mut buffer[..step.count];
     steps.fill(bytes);
     let file = files.get_mut(step.file)?;
-    match file.make_call(rt, cache, member, &step, bytes) {
-        Some(
-            Denied {
-                refusal: Refusal::NoSpace,
-                slip,
-            },
-        ) => slip,
+    file.make_call(rt, cache, member, &step, bytes)
+}
+
+/// The entry that refused a call for want of a block.
+fn crowded_by(denied: &Denied) -> Option<Slip> {
+    match denied.refusal {
+        Refusal::NoSpace => denied.slip,
         _ => None,
     }
 }
@@ -211,8 +232,12 @@ fn close_files<R: Wait, B: Naming, D: BlockDevice>(
     cache: &SharedCache<B, D, FullTrail>,
     member: &mut Member<B>,
     files: Vec<Opened<B>>,
+    refused: &mut Refused,
 ) {
     for file in files {
-        drop(cache.close_handle(rt, &mut member.seat, file.handle));
+        if let Err((denied, handle)) = cache.close_handle(rt, &mut member.seat, file.handle) {
+            drop(handle);
+            refused.count(denied.refusal);
+        }
     }
 }

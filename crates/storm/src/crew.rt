@@ -6,11 +6,14 @@ ghost use Rattle.storm.specs.Crews.{IsCrewOf};
 
 use crate::member::Member;
 use blockdev::{BlockDevice, Gate};
+use held::denied::Denied;
 use held::naming::Naming;
+use pc_types::Refusal;
 use shared::cache::SharedCache;
 use shared::worker::Worker;
 use std::sync::Wait;
 use std::thread::{Threads, join};
+use storm_text::Refused;
 use trail::FullTrail;
 
 /// The flusher, two I/O workers and the evictor.
@@ -28,8 +31,15 @@ impl Gate for Open {
     fn enter(&self, _number: u64) {}
 }
 
-/// Seats of two workers.
-pub type Pair<B> = (Member<B>, Member<B>);
+/// The seat of a worker that is done, and by what it was refused without an entry, if it was.
+#[derive(Drop)]
+pub struct Served<B: Naming> {
+    member: Member<B>,
+    refused: Option<Refusal>,
+}
+
+/// Two workers that are done.
+pub type Pair<B> = (Served<B>, Served<B>);
 
 /// The workers of a cache.
 #[derive(Drop)]
@@ -47,9 +57,9 @@ impl Crew {
         own: &mut Worker,
         members: &mut Vec<Member<B>>,
     ) -> Option<Crew>
-        requires { IsWorkerOf cache.now.ring B.name B.table B.sizes own.old }
-        ensures crew { IfSome result (IsCrewOf cache.now.ring B.name B.table B.sizes) }
-        ensures own { IsWorkerOf cache.now.ring B.name B.table B.sizes own.new }
+        requires { IsWorkerOf cache.now.ring B.name B.table B.deeds B.sizes own.old }
+        ensures crew { IfSome result (IsCrewOf cache.now.ring B.name B.table B.deeds B.sizes) }
+        ensures own { IsWorkerOf cache.now.ring B.name B.table B.deeds B.sizes own.new }
     {
         let (flusher, evictor) = two_workers(cache, own, members)?;
         match two_workers(cache, own, members) {
@@ -74,7 +84,7 @@ impl Crew {
         rt: &R,
         cache: &SharedCache<B, D, FullTrail>,
     ) -> (Pair<B>, Pair<B>)
-        requires { IsCrewOf cache.now.ring B.name B.table B.sizes self }
+        requires { IsCrewOf cache.now.ring B.name B.table B.deeds B.sizes self }
     {
         let Crew {
             flusher,
@@ -85,10 +95,10 @@ impl Crew {
         join(
             rt,
             move ||
-                requires { IsWorkerOf cache.now.ring B.name B.table B.sizes first × IsWorkerOf cache.now.ring B.name B.table B.sizes second }
+                requires { IsWorkerOf cache.now.ring B.name B.table B.deeds B.sizes first × IsWorkerOf cache.now.ring B.name B.table B.deeds B.sizes second }
             { carry_out(rt, cache, first, second) },
             move ||
-                requires { IsWorkerOf cache.now.ring B.name B.table B.sizes flusher × IsWorkerOf cache.now.ring B.name B.table B.sizes evictor }
+                requires { IsWorkerOf cache.now.ring B.name B.table B.deeds B.sizes flusher × IsWorkerOf cache.now.ring B.name B.table B.deeds B.sizes evictor }
             { make_room(rt, cache, flusher, evictor) },
         )
     }
@@ -101,16 +111,16 @@ fn carry_out<R: Threads + Wait + Sync, B: Naming + Send + Sync, D: BlockDevice +
     first: Worker,
     second: Worker,
 ) -> Pair<B>
-    requires first { IsWorkerOf cache.now.ring B.name B.table B.sizes first }
-    requires second { IsWorkerOf cache.now.ring B.name B.table B.sizes second }
+    requires first { IsWorkerOf cache.now.ring B.name B.table B.deeds B.sizes first }
+    requires second { IsWorkerOf cache.now.ring B.name B.table B.deeds B.sizes second }
 {
     join(
         rt,
         move ||
-            requires { IsWorkerOf cache.now.ring B.name B.table B.sizes first }
+            requires { IsWorkerOf cache.now.ring B.name B.table B.deeds B.sizes first }
         { carry_out_jobs(rt, cache, first) },
         move ||
-            requires { IsWorkerOf cache.now.ring B.name B.table B.sizes second }
+            requires { IsWorkerOf cache.now.ring B.name B.table B.deeds B.sizes second }
         { carry_out_jobs(rt, cache, second) },
     )
 }
@@ -122,16 +132,16 @@ fn make_room<R: Threads + Wait + Sync, B: Naming + Send + Sync, D: BlockDevice +
     flusher: Worker,
     evictor: Worker,
 ) -> Pair<B>
-    requires flusher { IsWorkerOf cache.now.ring B.name B.table B.sizes flusher }
-    requires evictor { IsWorkerOf cache.now.ring B.name B.table B.sizes evictor }
+    requires flusher { IsWorkerOf cache.now.ring B.name B.table B.deeds B.sizes flusher }
+    requires evictor { IsWorkerOf cache.now.ring B.name B.table B.deeds B.sizes evictor }
 {
     join(
         rt,
         move ||
-            requires { IsWorkerOf cache.now.ring B.name B.table B.sizes flusher }
+            requires { IsWorkerOf cache.now.ring B.name B.table B.deeds B.sizes flusher }
         { write_back(rt, cache, flusher) },
         move ||
-            requires { IsWorkerOf cache.now.ring B.name B.table B.sizes evictor }
+            requires { IsWorkerOf cache.now.ring B.name B.table B.deeds B.sizes evictor }
         { evict(rt, cache, evictor) },
     )
 }
@@ -140,50 +150,94 @@ fn carry_out_jobs<R: Wait, B: Naming, D: BlockDevice>(
     rt: &R,
     cache: &SharedCache<B, D, FullTrail>,
     mut worker: Worker,
-) -> Member<B>
-    requires { IsWorkerOf cache.now.ring B.name B.table B.sizes worker }
+) -> Served<B>
+    requires { IsWorkerOf cache.now.ring B.name B.table B.deeds B.sizes worker }
 {
-    let _ = cache.io_worker(rt, &Open, &mut worker);
-    Member::of(worker.into_seat())
+    let refused = match cache.io_worker(rt, &Open, &mut worker) {
+        Err(
+            Denied {
+                refusal,
+                slip: None,
+            },
+        ) => Some(refusal),
+        _ => None,
+    };
+    Served {
+        member: Member::of(worker.into_seat()),
+        refused,
+    }
 }
 
 fn write_back<R: Wait, B: Naming, D: BlockDevice>(
     rt: &R,
     cache: &SharedCache<B, D, FullTrail>,
     mut worker: Worker,
-) -> Member<B>
-    requires { IsWorkerOf cache.now.ring B.name B.table B.sizes worker }
+) -> Served<B>
+    requires { IsWorkerOf cache.now.ring B.name B.table B.deeds B.sizes worker }
 {
     cache.flusher(rt, &Open, &mut worker);
-    Member::of(worker.into_seat())
+    Served {
+        member: Member::of(worker.into_seat()),
+        refused: None,
+    }
 }
 
 fn evict<R: Wait, B: Naming, D: BlockDevice>(
     rt: &R,
     cache: &SharedCache<B, D, FullTrail>,
     mut worker: Worker,
-) -> Member<B>
-    requires { IsWorkerOf cache.now.ring B.name B.table B.sizes worker }
+) -> Served<B>
+    requires { IsWorkerOf cache.now.ring B.name B.table B.deeds B.sizes worker }
 {
     cache.evictor(rt, &Open, &mut worker);
-    Member::of(worker.into_seat())
+    Served {
+        member: Member::of(worker.into_seat()),
+        refused: None,
+    }
 }
 
-/// Puts the members of these pairs to the others. Nothing is answered where memory is wanted.
-pub fn hand_back<B: Naming>(pairs: (Pair<B>, Pair<B>), members: &mut Vec<Member<B>>) -> Option<()> {
+/// Puts the members of these pairs to the others, and counts their refusals. Nothing is answered where memory is wanted.
+pub fn hand_back<B: Naming>(
+    pairs: (Pair<B>, Pair<B>),
+    members: &mut Vec<Member<B>>,
+    refused: &mut Refused,
+) -> Option<()> {
     let (front, back) = pairs;
-    let first = push_both(front, members);
-    let second = push_both(back, members);
+    let first = push_both(front, members, refused);
+    let second = push_both(back, members, refused);
     first?;
     second
 }
 
-fn push_both<B: Naming>(pair: Pair<B>, members: &mut Vec<Member<B>>) -> Option<()> {
+fn push_both<B: Naming>(
+    pair: Pair<B>,
+    members: &mut Vec<Member<B>>,
+    refused: &mut Refused,
+) -> Option<()> {
     let (one, other) = pair;
-    let first = members.push(one).ok();
-    let second = members.push(other).ok();
+    let first = push_member(one, members, refused);
+    let second = push_member(other, members, refused);
     first?;
     second
+}
+
+fn push_member<B: Naming>(
+    served: Served<B>,
+    members: &mut Vec<Member<B>>,
+    refused: &mut Refused,
+) -> Option<()> {
+    let Served {
+        member,
+        refused: refusal,
+    } = served;
+    note(refusal, refused);
+    members.push(member).ok()
+}
+
+fn note(refusal: Option<Refusal>, refused: &mut Refused) {
+    if let Some(refusal) = refusal {
+        refused.count(refusal);
+    }
 }
 
 /// Workers with the seats of the last two of these members.
@@ -192,9 +246,9 @@ fn two_workers<B: Naming, D: BlockDevice>(
     own: &mut Worker,
     members: &mut Vec<Member<B>>,
 ) -> Option<(Worker, Worker)>
-    requires { IsWorkerOf cache.now.ring B.name B.table B.sizes own.old }
-    ensures workers { IfSome result (λ r. IsWorkerOf cache.now.ring B.name B.table B.sizes r.0 × IsWorkerOf cache.now.ring B.name B.table B.sizes r.1) }
-    ensures own { IsWorkerOf cache.now.ring B.name B.table B.sizes own.new }
+    requires { IsWorkerOf cache.now.ring B.name B.table B.deeds B.sizes own.old }
+    ensures workers { IfSome result (λ r. IsWorkerOf cache.now.ring B.name B.table B.deeds B.sizes r.0 × IsWorkerOf cache.now.ring B.name B.table B.deeds B.sizes r.1) }
+    ensures own { IsWorkerOf cache.now.ring B.name B.table B.deeds B.sizes own.new }
 {
     let one = worker_of(cache, own, members)?;
     match worker_of(cache, own, members) {
@@ -212,9 +266,9 @@ fn worker_of<B: Naming, D: BlockDevice>(
     own: &mut Worker,
     members: &mut Vec<Member<B>>,
 ) -> Option<Worker>
-    requires { IsWorkerOf cache.now.ring B.name B.table B.sizes own.old }
-    ensures worker { IfSome result (IsWorkerOf cache.now.ring B.name B.table B.sizes) }
-    ensures own { IsWorkerOf cache.now.ring B.name B.table B.sizes own.new }
+    requires { IsWorkerOf cache.now.ring B.name B.table B.deeds B.sizes own.old }
+    ensures worker { IfSome result (IsWorkerOf cache.now.ring B.name B.table B.deeds B.sizes) }
+    ensures own { IsWorkerOf cache.now.ring B.name B.table B.deeds B.sizes own.new }
 {
     cache.worker(own, members.pop()?.seat).ok()
 }

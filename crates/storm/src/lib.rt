@@ -4,6 +4,8 @@
 //! `run` runs a storm, which the crate `storm_text` has in words: `caller` has a thread that makes calls, `member` its seat, `steps`
 //! which calls these are, and `crew` the workers. `odd` says which entry of a history is not as plain files answer, which are those of
 //! `plain`.
+//!
+//! Floor: programs.
 
 mod caller;
 mod crew;
@@ -14,4 +16,4 @@ mod run;
 mod steps;
 
 pub use odd::Odd;
-pub use run::{Aftermath, BLOCKS, Weather, run_storm, storm};
+pub use run::{Aftermath, BLOCKS, Weather, run_storm, storm, storm_over};

@@ -1,13 +1,15 @@
 //! A storm: many callers and the workers of one cache at once, and whether its history is that of plain files.
 
 ghost use Rattle.std.specs.FinMap as map;
-ghost use Rattle.std.specs.Prelude.{◌≡◌, ◌≤◌, All, IfSome};
+ghost use Rattle.std.specs.Prelude.{◌≡◌, [], ◌≤◌, All, IfOk, IfSome, is_some, true};
 ghost use Rattle.held.specs.Shown.{AreFresh};
 ghost use Rattle.held.specs.Keeps.{IsLocked};
-ghost use Rattle.shared.specs.Keeps.{IsDisk};
+ghost use Rattle.machine.specs.History.{no_files};
+ghost use Rattle.shared.specs.Keeps.{AreBlocksOf, IsDisk};
 ghost use Rattle.shared.specs.Workers.{IsWorkerOf};
 ghost use Rattle.storm.specs.Crews.{IsCrewOf};
 ghost use Rattle.storm_text.specs.Told.{StormTells};
+ghost use Rattle.world.specs.Stepping.{fits};
 
 use crate::caller::{Caller, Done};
 use crate::crew::{Crew, Pair, WORKERS, hand_back};
@@ -18,7 +20,9 @@ use blockdev::{BlockDevice, FileDevice, MemDevice};
 use faulty::FaultyDevice;
 use held::log::{Seat, Slip};
 use held::naming::Naming;
+use machine::{Event, Reply};
 use pc_types::{Geometry, Refusal};
+use playback::{Copies, Verdict, copies_of, judge};
 use shared::cache::{Parts, SharedCache};
 use shared::worker::Worker;
 use std::alloc::Global;
@@ -27,9 +31,9 @@ use std::io::Write;
 use std::marker::Brand;
 use std::sync::Wait;
 use std::thread::{Threads, join, map_vec};
-use storm_text::{Fault, Options, say_usage, tell};
+use storm_text::{Fault, Findings, Keeping, Options, Refused, say_usage, tell};
 use textline::Printer;
-use trail::{FullTrail, first_odd};
+use trail::{Entry, FullTrail, first_odd};
 
 /// Bytes of a page.
 const PAGE: u64 = 64;
@@ -42,10 +46,10 @@ const FRAMES: u64 = 64;
 
 const DIRTY_LIMIT: u64 = 24;
 
-/// The most events of the trail, and bytes of all of them.
-const EVENTS: u64 = 65_536;
+/// The most events of the trail, and bytes of all of them. The greatest storm has some 86,000 events, and 1.9 million bytes.
+const EVENTS: u64 = 262_144;
 
-const BYTES: u64 = 4_194_304;
+const BYTES: u64 = 8_388_608;
 
 /// The cache's name.
 const NAME: u64 = 1;
@@ -69,10 +73,37 @@ pub struct Aftermath {
     pub trail: FullTrail,
     /// The entries at which a call was refused for want of a block.
     pub crowded: Vec<Slip>,
+    /// By what calls were refused, and events of the workers.
+    pub refused: Refused,
+    /// Whether the device kept what was written to it.
+    pub device: Keeping,
 }
 
-/// Runs a storm, prints how many calls were made and whether the history replays, and gives the status that the program ends with.
-/// What went wrong is said on `err`.
+/// The entries at which calls were refused for want of a block, and by what calls were refused.
+#[derive(Drop)]
+struct Denials {
+    crowded: Vec<Slip>,
+    refused: Refused,
+}
+
+/// The history of a storm, with its refusals.
+#[derive(Drop)]
+struct Past {
+    trail: FullTrail,
+    crowded: Vec<Slip>,
+    refused: Refused,
+}
+
+/// What a storm over a device leaves, with the device.
+#[derive(Drop)]
+struct Left<D: BlockDevice> {
+    geometry: Geometry,
+    past: Past,
+    device: D,
+}
+
+/// Runs a storm, prints how many calls were made, whether the history replays, by what calls were refused and whether the device kept
+/// what was written to it, and gives the status that the program ends with. What went wrong is said on `err`.
 pub fn run_storm<R: Threads + Wait + Files<File = File> + Sync, W: Write, E: Write>(
     rt: &R,
     alloc: Global,
@@ -87,12 +118,26 @@ pub fn run_storm<R: Threads + Wait + Files<File = File> + Sync, W: Write, E: Wri
         let _ = say_usage(err);
         return 2;
     };
-    let replays = match storm(rt, alloc, options, weather) {
-        Ok(after) => odd_in(alloc, after).map(|odd| say_odd(alloc, odd, err)),
+    let findings = match storm(rt, alloc, options, weather) {
+        Ok(after) => findings_of(alloc, after, err),
         Err(fault) => Err(fault),
     };
     let calls = options.threads * options.steps;
-    tell(out, err, calls, weather.seed, replays)
+    tell(out, err, calls, weather.seed, findings)
+}
+
+/// What is found of a storm. Which entry is odd, if one is, is said on `err`.
+fn findings_of<E: Write>(alloc: Global, after: Aftermath, err: &mut E) -> Result<Findings, Fault> {
+    let refused = after.refused;
+    let device = after.device;
+    match odd_in(alloc, after) {
+        Ok(odd) => Ok(Findings {
+            replays: say_odd(alloc, odd, err),
+            refused,
+            device,
+        }),
+        Err(fault) => Err(fault),
+    }
 }
 
 /// Says which entry is odd, if one is, and answers whether none is.
@@ -106,7 +151,7 @@ fn say_odd<E: Write>(alloc: Global, odd: Option<Odd>, err: &mut E) -> bool {
     false
 }
 
-/// Runs a storm over memory, or over the file of the options.
+/// Runs a storm over memory, or over the file of the options. Over a file the history is not played again.
 pub fn storm<R: Threads + Wait + Files<File = File> + Sync>(
     rt: &R,
     alloc: Global,
@@ -118,10 +163,45 @@ pub fn storm<R: Threads + Wait + Files<File = File> + Sync>(
     let blocks = weather.blocks;
     let Some(path) = options.path else {
         let device = MemDevice::new(alloc, PAGE, blocks).map_err(fault_of)?;
-        return over(rt, alloc, device, options, weather);
+        return storm_over(rt, alloc, device, options, weather);
     };
     let device = FileDevice::open(rt, alloc, path, PAGE, blocks).map_err(fault_of)?;
-    over(rt, alloc, device, options, weather)
+    match over(rt, alloc, device, options, weather) {
+        Ok(left) => Ok(unplayed(left)),
+        Err(fault) => Err(fault),
+    }
+}
+
+/// Runs a storm over a device of blocks of 64 bytes. The history is played again over copies of it.
+#[tactic(auto, using(crate::proofs::Copying::copies_fit))]
+pub fn storm_over<R: Threads + Wait + Sync, D: BlockDevice + Send>(
+    rt: &R,
+    alloc: Global,
+    mut device: D,
+    options: Options<'_>,
+    weather: Weather,
+) -> Result<Aftermath, Fault>
+    requires few { options.threads ≤ 16 }
+    requires device { ((D.told device).size ≡ 64) × ((D.told device).count ≡ weather.blocks) }
+{
+    // each by a call, since the check is slow where a device goes out of scope
+    match copies_of(alloc, &mut device) {
+        Ok(Ok(copies)) => match over(rt, alloc, device, options, weather) {
+            Ok(left) => played(alloc, left, copies),
+            Err(fault) => {
+                drop(copies);
+                Err(fault)
+            }
+        },
+        Ok(Err(_)) => {
+            drop(device);
+            Err(Fault::Device)
+        }
+        Err(_) => {
+            drop(device);
+            Err(Fault::Memory)
+        }
+    }
 }
 
 /// Why there is no storm where a device or a cache was refused so.
@@ -139,9 +219,10 @@ fn over<R: Threads + Wait + Sync, D: BlockDevice + Send>(
     device: D,
     options: Options<'_>,
     weather: Weather,
-) -> Result<Aftermath, Fault>
+) -> Result<Left<D>, Fault>
     requires few { options.threads ≤ 16 }
     requires device { ((D.told device).size ≡ 64) × ((D.told device).count ≡ weather.blocks) }
+    ensures sizes { IfOk result (λ l. (l.geometry.page ≡ 64) × (l.geometry.blocks ≡ weather.blocks)) }
 {
     let geometry = Geometry::new(PAGE, FRAMES, DIRTY_LIMIT, weather.blocks).map_err(fault_of)?;
     let Ok(trail) = FullTrail::new(alloc, EVENTS, BYTES) else {
@@ -155,12 +236,82 @@ fn over<R: Threads + Wait + Sync, D: BlockDevice + Send>(
     let steps = options.steps;
     let seed = weather.seed;
     match history::<Brand, FaultyDevice<D>, R>(rt, alloc, parts, seats, steps, seed) {
-        Some((trail, crowded)) => Ok(Aftermath {
+        Some((past, device)) => Ok(Left {
             geometry,
-            trail,
-            crowded,
+            past,
+            device: device.into_device(),
         }),
         None => Err(Fault::Memory),
+    }
+}
+
+/// A storm whose history is not played again.
+fn unplayed<D: BlockDevice>(left: Left<D>) -> Aftermath {
+    let Left {
+        geometry,
+        past,
+        device,
+    } = left;
+    drop(device);
+    aftermath_of(geometry, past, Keeping::Unplayed)
+}
+
+/// A storm whose history is played again, over copies of its device as that was before.
+fn played<D: BlockDevice>(alloc: Global, left: Left<D>, copies: Copies) -> Result<Aftermath, Fault>
+    requires sized { (fits left.geometry copies.one ≡ true) × (fits left.geometry copies.other ≡ true) }
+    requires told { (is_some copies.one.contents ≡ true) × (is_some copies.other.contents ≡ true) }
+{
+    let Left {
+        geometry,
+        past,
+        mut device,
+    } = left;
+    let verdict = judge(alloc, &geometry, NAME, &past.trail, copies, &mut device);
+    drop(device);
+    match verdict {
+        Ok(verdict) => {
+            let device = keeping_of(&past.trail, verdict);
+            Ok(aftermath_of(geometry, past, device))
+        }
+        Err(_) => {
+            drop(past);
+            Err(Fault::Memory)
+        }
+    }
+}
+
+fn aftermath_of(geometry: Geometry, past: Past, device: Keeping) -> Aftermath {
+    let Past {
+        trail,
+        crowded,
+        refused,
+    } = past;
+    Aftermath {
+        geometry,
+        trail,
+        crowded,
+        refused,
+        device,
+    }
+}
+
+/// What a history says of its device. An odd end tells which block was read otherwise than it was written.
+fn keeping_of(trail: &FullTrail, verdict: Verdict) -> Keeping {
+    match verdict {
+        Verdict::AllAlike => Keeping::Kept,
+        Verdict::Unlike(block) => Keeping::Lost(block),
+        Verdict::OddEntry(place) => match trail.entry(place) {
+            Some(
+                (
+                    Entry {
+                        event: Event::End(_, end),
+                        ..
+                    },
+                    _,
+                ),
+            ) => Keeping::Lost(u64::from(end.block.0)),
+            _ => Keeping::Odd(place),
+        },
     }
 }
 
@@ -173,8 +324,8 @@ fn odd_in(alloc: Global, after: Aftermath) -> Result<Option<Odd>, Fault> {
     }
 }
 
-/// Makes a cache of the parts, has a caller at each seat but the workers' make so many calls, and closes it. Gives its history and
-/// the entries at which they were refused for want of a block, or nothing where memory is wanted.
+/// Makes a cache of the parts, has a caller at each seat but the workers' make so many calls, and closes it. Gives its history with
+/// their refusals, and the device, or nothing where memory is wanted.
 #[tactic(auto, using(crate::proofs::Seating::all_seated))]
 fn history<B: Naming + Send + Sync, D: BlockDevice + Send, R: Threads + Wait + Sync>(
     rt: &R,
@@ -183,19 +334,24 @@ fn history<B: Naming + Send + Sync, D: BlockDevice + Send, R: Threads + Wait + S
     seats: Vec<Seat>,
     steps: u64,
     seed: u64,
-) -> Option<(FullTrail, Vec<Slip>)>
+) -> Option<(Past, D)>
     requires named { parts.name ≡ B.name }
     requires sized { parts.geometry ≡ B.sizes }
     requires board { parts.board ≡ B.board }
     requires state { IsLocked B.name B.table B.board B.sizes B.seats parts.held }
     requires idle { map.len parts.held.core.state.requests ≡ 0 }
-    requires own { IsWorkerOf parts.ring B.name B.table B.sizes parts.own }
+    requires fresh { (parts.held.log.history ≡ []) × (parts.held.core.state ≡ no_files B.sizes B.name) }
+    requires own { IsWorkerOf parts.ring B.name B.table B.deeds B.sizes parts.own }
     requires device { IsDisk B.sizes (D.told parts.device) }
+    requires deeds { (parts.deeds.table ≡ B.deeds) × (parts.deeds.told ≡ B.told) × (parts.deeds.blocks ≡ B.blocks) }
+    requires blocks { AreBlocksOf B.told B.blocks (D.told parts.device) }
     requires seats { AreFresh B.table B.name seats.items }
 {
+    let callers = (seats.len() as u64).saturating_sub(WORKERS);
     let (cache, mut own) = SharedCache::<B, D, FullTrail>::of(alloc, parts);
     let members = members_of(alloc, seats);
-    let Some((seats, crowded)) = take_part(rt, alloc, &cache, &mut own, members, steps, seed) else {
+    let Some((seats, mut denials)) = take_part(rt, alloc, &cache, &mut own, members, steps, seed)
+    else {
         // each by a call, since the check is slow where a cache goes out of scope
         drop(cache);
         drop(own);
@@ -204,8 +360,14 @@ fn history<B: Naming + Send + Sync, D: BlockDevice + Send, R: Threads + Wait + S
     match cache.close(rt, own, seats) {
         Ok((trail, core, device)) => {
             drop(core);
-            drop(device);
-            Some((trail, crowded))
+            count_workers(&trail, callers, &mut denials.refused);
+            let Denials { crowded, refused } = denials;
+            let past = Past {
+                trail,
+                crowded,
+                refused,
+            };
+            Some((past, device))
         }
         Err(open) => {
             drop(open);
@@ -214,8 +376,29 @@ fn history<B: Naming + Send + Sync, D: BlockDevice + Send, R: Threads + Wait + S
     }
 }
 
-/// Has a caller at each seat but the workers' make so many calls, and gives the seats back with the entries at which these were
-/// refused for want of a block, or nothing where memory is wanted.
+/// Counts the refusals of workers, whose seats come after those of so many callers.
+fn count_workers(trail: &FullTrail, callers: u64, refused: &mut Refused) {
+    for place in 0..trail.len() {
+        if let Some(
+            (
+                Entry {
+                    seat,
+                    reply: Reply::Refused(refusal),
+                    ..
+                },
+                _,
+            ),
+        ) = trail.entry(place)
+        {
+            if *seat >= callers {
+                refused.count(*refusal);
+            }
+        }
+    }
+}
+
+/// Has a caller at each seat but the workers' make so many calls, and gives the seats back with the refusals, or nothing where memory
+/// is wanted.
 fn take_part<B: Naming + Send + Sync, D: BlockDevice + Send, R: Threads + Wait + Sync>(
     rt: &R,
     alloc: Global,
@@ -224,9 +407,9 @@ fn take_part<B: Naming + Send + Sync, D: BlockDevice + Send, R: Threads + Wait +
     members: Option<Vec<Member<B>>>,
     steps: u64,
     seed: u64,
-) -> Option<(Vec<Seat>, Vec<Slip>)>
-    requires { IsWorkerOf cache.now.ring B.name B.table B.sizes own.old }
-    ensures own { IsWorkerOf cache.now.ring B.name B.table B.sizes own.new }
+) -> Option<(Vec<Seat>, Denials)>
+    requires { IsWorkerOf cache.now.ring B.name B.table B.deeds B.sizes own.old }
+    ensures own { IsWorkerOf cache.now.ring B.name B.table B.deeds B.sizes own.new }
     ensures seats { IfSome result (λ r. All (λ s. s.table ≡ B.table) r.0.items) }
 {
     let mut members = members?;
@@ -234,9 +417,10 @@ fn take_part<B: Naming + Send + Sync, D: BlockDevice + Send, R: Threads + Wait +
         drop(members);
         return None;
     };
-    create_files(rt, cache, &mut members);
+    let mut refused = Refused::none();
+    create_files(rt, cache, &mut members, &mut refused);
     match callers_of(alloc, members, steps, seed) {
-        Some(callers) => all_seats(alloc, rage(rt, cache, crew, callers)),
+        Some(callers) => all_seats(alloc, rage(rt, cache, crew, callers), refused),
         None => {
             drop(crew);
             None
@@ -244,20 +428,21 @@ fn take_part<B: Naming + Send + Sync, D: BlockDevice + Send, R: Threads + Wait +
     }
 }
 
-/// The seats of the workers and of the callers, and the entries at which calls were refused for want of a block.
+/// The seats of the workers and of the callers, and the refusals of all, with those that were counted before.
 fn all_seats<B: Naming>(
     alloc: Global,
     back: ((Pair<B>, Pair<B>), Option<Vec<Done<B>>>),
-) -> Option<(Vec<Seat>, Vec<Slip>)>
+    refused: Refused,
+) -> Option<(Vec<Seat>, Denials)>
     ensures { IfSome result (λ r. All (λ s. s.table ≡ B.table) r.0.items) }
 {
     let (workers, done) = back;
-    let Some((mut members, crowded)) = parted(alloc, done) else {
+    let Some((mut members, mut denials)) = parted(alloc, done, refused) else {
         drop(workers);
         return None;
     };
-    match hand_back(workers, &mut members) {
-        Some(()) => Some((seats_of(alloc, members)?, crowded)),
+    match hand_back(workers, &mut members, &mut denials.refused) {
+        Some(()) => Some((seats_of(alloc, members)?, denials)),
         None => {
             drop(members);
             None
@@ -265,18 +450,30 @@ fn all_seats<B: Naming>(
     }
 }
 
-/// The members among callers that are done, and the entries of all.
+/// The members among callers that are done, and the refusals of all, with those that were counted before.
 fn parted<B: Naming>(
     alloc: Global,
     done: Option<Vec<Done<B>>>,
-) -> Option<(Vec<Member<B>>, Vec<Slip>)> {
+    mut refused: Refused,
+) -> Option<(Vec<Member<B>>, Denials)> {
     let mut members = Vec::new(alloc);
     let mut all = Vec::new(alloc);
-    for Done { member, crowded } in done? {
+    for Done {
+        member,
+        crowded,
+        refused: more,
+    } in done? {
         members.push(member).ok()?;
         all.extend_from_slice(&crowded).ok()?;
+        refused.add(&more);
     }
-    Some((members, all))
+    Some((
+        members,
+        Denials {
+            crowded: all,
+            refused,
+        },
+    ))
 }
 
 /// Makes the files, by the seat of the first of these members.
@@ -284,10 +481,13 @@ fn create_files<R: Wait, B: Naming, D: BlockDevice>(
     rt: &R,
     cache: &SharedCache<B, D, FullTrail>,
     members: &mut Vec<Member<B>>,
+    refused: &mut Refused,
 ) {
     if let Some(member) = members.first_mut() {
         for _ in 0..FILES {
-            let _ = cache.create(rt, &mut member.seat);
+            if let Err(denied) = cache.create(rt, &mut member.seat) {
+                refused.count(denied.refusal);
+            }
         }
     }
 }
@@ -300,12 +500,12 @@ fn rage<R: Threads + Wait + Sync, B: Naming + Send + Sync, D: BlockDevice + Send
     crew: Crew,
     callers: Vec<Caller<B>>,
 ) -> ((Pair<B>, Pair<B>), Option<Vec<Done<B>>>)
-    requires { IsCrewOf cache.now.ring B.name B.table B.sizes crew }
+    requires { IsCrewOf cache.now.ring B.name B.table B.deeds B.sizes crew }
 {
     join(
         rt,
         move ||
-            requires { IsCrewOf cache.now.ring B.name B.table B.sizes crew }
+            requires { IsCrewOf cache.now.ring B.name B.table B.deeds B.sizes crew }
         { crew.run(rt, cache) },
         move || call_all(rt, cache, callers),
     )

@@ -1,1 +1,5 @@
 mod OneNumber
+mod Numbers
+mod Counting
+mod Parts
+mod Adding

@@ -7,6 +7,8 @@
 //!
 //! A clause says of each line and each word which one it is, and of a word that is refused that it is no number or no bytes; and
 //! of a line whose printing failed that a beginning of it was written.
+//!
+//! Floor: programs.
 
 pub mod find;
 pub mod lines;

@@ -42,7 +42,8 @@ fits_still kind outcome.Written = refl
 still_of : (kind : Kind) (end : End) (o : Option Request) → is_of kind (end_with end []) o ≡ is_of kind end o
 still_of kind end None = refl
 still_of kind end (Some x) =
-    ap (λ b. same_kind kind end.kind && same_kind kind x.kind && b) (fits_still kind end.outcome)
+    ap (λ b. same_kind kind end.kind && same_kind kind x.kind && eqb end.block.0 x.block && b)
+    (fits_still kind end.outcome)
 
 still_tested : (s : State) (kind : Kind) (end : End)
     → tests s (event.End kind (end_with end [])) ≡ tests s (event.End kind end)

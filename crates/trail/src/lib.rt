@@ -5,6 +5,8 @@
 //! with its bytes, `none` one that counts them, `replay` the check of a history against plain files, and `promises`
 //! what holds of every honest history. specs/History.antt says which histories are legal, specs/Room.antt how much room
 //! an event needs, and specs/Honest.antt what is asked of the device.
+//!
+//! Floor: driven.
 
 pub mod entry;
 pub mod full;

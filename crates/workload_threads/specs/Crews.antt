@@ -7,7 +7,7 @@ use Rattle.shared.specs.Workers.{IsWorkerOf}
 use Rattle.workload_threads.specs.declared.crew.Crew.{Crew}
 
 -- each is a worker of the cache of this ring, name, table and sizes
-pub record IsCrewOf (ring : Ring) (name : ℕ) (table : TableId) (sizes : Sizes) (c : Crew) : Type 0 where
-  pub flusher : IsWorkerOf ring name table sizes c.flusher
-  pub io : IsWorkerOf ring name table sizes c.io
-  pub evictor : IsWorkerOf ring name table sizes c.evictor
+pub record IsCrewOf (ring : Ring) (name : ℕ) (table deeds : TableId) (sizes : Sizes) (c : Crew) : Type 0 where
+  pub flusher : IsWorkerOf ring name table deeds sizes c.flusher
+  pub io : IsWorkerOf ring name table deeds sizes c.io
+  pub evictor : IsWorkerOf ring name table deeds sizes c.evictor

@@ -45,9 +45,9 @@ impl Crew {
         own: &mut Worker,
         members: &mut Vec<Member<B>>,
     ) -> Result<Crew, Refusal>
-        requires { IsWorkerOf cache.now.ring B.name B.table B.sizes own.old }
-        ensures crew { IfOk result (IsCrewOf cache.now.ring B.name B.table B.sizes) }
-        ensures own { IsWorkerOf cache.now.ring B.name B.table B.sizes own.new }
+        requires { IsWorkerOf cache.now.ring B.name B.table B.deeds B.sizes own.old }
+        ensures crew { IfOk result (IsCrewOf cache.now.ring B.name B.table B.deeds B.sizes) }
+        ensures own { IsWorkerOf cache.now.ring B.name B.table B.deeds B.sizes own.new }
     {
         let (flusher, evictor) = two_workers(cache, own, members)?;
         match worker_of(cache, own, members) {
@@ -71,7 +71,7 @@ impl Crew {
         rt: &R,
         cache: &Shared<B>,
     ) -> Back<B>
-        requires { IsCrewOf cache.now.ring B.name B.table B.sizes self }
+        requires { IsCrewOf cache.now.ring B.name B.table B.deeds B.sizes self }
     {
         let Crew {
             flusher,
@@ -81,10 +81,10 @@ impl Crew {
         join(
             rt,
             move ||
-                requires { IsWorkerOf cache.now.ring B.name B.table B.sizes io }
+                requires { IsWorkerOf cache.now.ring B.name B.table B.deeds B.sizes io }
             { carry_out_jobs(rt, cache, io) },
             move ||
-                requires { IsWorkerOf cache.now.ring B.name B.table B.sizes flusher × IsWorkerOf cache.now.ring B.name B.table B.sizes evictor }
+                requires { IsWorkerOf cache.now.ring B.name B.table B.deeds B.sizes flusher × IsWorkerOf cache.now.ring B.name B.table B.deeds B.sizes evictor }
             { make_room(rt, cache, flusher, evictor) },
         )
     }
@@ -97,36 +97,36 @@ fn make_room<R: Threads + Wait + Sync, B: Naming + Send + Sync>(
     flusher: Worker,
     evictor: Worker,
 ) -> (Member<B>, Member<B>)
-    requires flusher { IsWorkerOf cache.now.ring B.name B.table B.sizes flusher }
-    requires evictor { IsWorkerOf cache.now.ring B.name B.table B.sizes evictor }
+    requires flusher { IsWorkerOf cache.now.ring B.name B.table B.deeds B.sizes flusher }
+    requires evictor { IsWorkerOf cache.now.ring B.name B.table B.deeds B.sizes evictor }
 {
     join(
         rt,
         move ||
-            requires { IsWorkerOf cache.now.ring B.name B.table B.sizes flusher }
+            requires { IsWorkerOf cache.now.ring B.name B.table B.deeds B.sizes flusher }
         { write_back(rt, cache, flusher) },
         move ||
-            requires { IsWorkerOf cache.now.ring B.name B.table B.sizes evictor }
+            requires { IsWorkerOf cache.now.ring B.name B.table B.deeds B.sizes evictor }
         { evict(rt, cache, evictor) },
     )
 }
 
 fn carry_out_jobs<R: Wait, B: Naming>(rt: &R, cache: &Shared<B>, mut worker: Worker) -> Member<B>
-    requires { IsWorkerOf cache.now.ring B.name B.table B.sizes worker }
+    requires { IsWorkerOf cache.now.ring B.name B.table B.deeds B.sizes worker }
 {
     let _ = cache.io_worker(rt, &Open, &mut worker);
     Member::of(worker.into_seat())
 }
 
 fn write_back<R: Wait, B: Naming>(rt: &R, cache: &Shared<B>, mut worker: Worker) -> Member<B>
-    requires { IsWorkerOf cache.now.ring B.name B.table B.sizes worker }
+    requires { IsWorkerOf cache.now.ring B.name B.table B.deeds B.sizes worker }
 {
     cache.flusher(rt, &Open, &mut worker);
     Member::of(worker.into_seat())
 }
 
 fn evict<R: Wait, B: Naming>(rt: &R, cache: &Shared<B>, mut worker: Worker) -> Member<B>
-    requires { IsWorkerOf cache.now.ring B.name B.table B.sizes worker }
+    requires { IsWorkerOf cache.now.ring B.name B.table B.deeds B.sizes worker }
 {
     cache.evictor(rt, &Open, &mut worker);
     Member::of(worker.into_seat())
@@ -138,9 +138,9 @@ fn two_workers<B: Naming>(
     own: &mut Worker,
     members: &mut Vec<Member<B>>,
 ) -> Result<(Worker, Worker), Refusal>
-    requires { IsWorkerOf cache.now.ring B.name B.table B.sizes own.old }
-    ensures workers { IfOk result (λ r. IsWorkerOf cache.now.ring B.name B.table B.sizes r.0 × IsWorkerOf cache.now.ring B.name B.table B.sizes r.1) }
-    ensures own { IsWorkerOf cache.now.ring B.name B.table B.sizes own.new }
+    requires { IsWorkerOf cache.now.ring B.name B.table B.deeds B.sizes own.old }
+    ensures workers { IfOk result (λ r. IsWorkerOf cache.now.ring B.name B.table B.deeds B.sizes r.0 × IsWorkerOf cache.now.ring B.name B.table B.deeds B.sizes r.1) }
+    ensures own { IsWorkerOf cache.now.ring B.name B.table B.deeds B.sizes own.new }
 {
     let one = worker_of(cache, own, members)?;
     match worker_of(cache, own, members) {
@@ -158,9 +158,9 @@ fn worker_of<B: Naming>(
     own: &mut Worker,
     members: &mut Vec<Member<B>>,
 ) -> Result<Worker, Refusal>
-    requires { IsWorkerOf cache.now.ring B.name B.table B.sizes own.old }
-    ensures worker { IfOk result (IsWorkerOf cache.now.ring B.name B.table B.sizes) }
-    ensures own { IsWorkerOf cache.now.ring B.name B.table B.sizes own.new }
+    requires { IsWorkerOf cache.now.ring B.name B.table B.deeds B.sizes own.old }
+    ensures worker { IfOk result (IsWorkerOf cache.now.ring B.name B.table B.deeds B.sizes) }
+    ensures own { IsWorkerOf cache.now.ring B.name B.table B.deeds B.sizes own.new }
 {
     let Some(member) = members.pop() else {
         return Err(Refusal::Stranger);

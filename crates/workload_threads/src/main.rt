@@ -6,6 +6,8 @@
 //! the threads do in the meantime. `threads` runs them: `caller` is one that makes calls, `crew` the workers, `member` a seat. `files`
 //! makes the files, `desk` has the calls, `steps` which ones there are, `places` where the common file is read, `scale` how large all
 //! is, `numbers` a generator, and `tally` what was answered.
+//!
+//! Floor: outside.
 
 mod caller;
 mod crew;

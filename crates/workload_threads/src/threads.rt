@@ -1,10 +1,11 @@
 //! The threads of one cache, from its making to its close.
 
 ghost use Rattle.std.specs.FinMap as map;
-ghost use Rattle.std.specs.Prelude.{◌≡◌, All, IfOk};
+ghost use Rattle.std.specs.Prelude.{◌≡◌, [], All, IfOk};
 ghost use Rattle.held.specs.Shown.{AreFresh};
 ghost use Rattle.held.specs.Keeps.{IsLocked};
-ghost use Rattle.shared.specs.Keeps.{IsDisk};
+ghost use Rattle.machine.specs.History.{no_files};
+ghost use Rattle.shared.specs.Keeps.{AreBlocksOf, IsDisk};
 ghost use Rattle.shared.specs.Workers.{IsWorkerOf};
 ghost use Rattle.workload_threads.specs.Crews.{IsCrewOf};
 
@@ -67,8 +68,11 @@ fn run_over<B: Naming + Send + Sync, R: Threads + Wait + Sync>(
     requires board { parts.board ≡ B.board }
     requires state { IsLocked B.name B.table B.board B.sizes B.seats parts.held }
     requires idle { map.len parts.held.core.state.requests ≡ 0 }
-    requires own { IsWorkerOf parts.ring B.name B.table B.sizes parts.own }
+    requires fresh { (parts.held.log.history ≡ []) × (parts.held.core.state ≡ no_files B.sizes B.name) }
+    requires own { IsWorkerOf parts.ring B.name B.table B.deeds B.sizes parts.own }
     requires device { IsDisk B.sizes parts.device }
+    requires deeds { (parts.deeds.table ≡ B.deeds) × (parts.deeds.told ≡ B.told) × (parts.deeds.blocks ≡ B.blocks) }
+    requires blocks { AreBlocksOf B.told B.blocks parts.device }
     requires seats { AreFresh B.table B.name seats.items }
 {
     let (cache, mut own) = SharedCache::<B, MemDevice, NoTrail>::of(alloc, parts);
@@ -93,7 +97,7 @@ fn close<B: Naming, R: Wait>(
     own: Worker,
     seats: Vec<Seat>,
 ) -> Result<(), Refusal>
-    requires own { IsWorkerOf cache.ring B.name B.table B.sizes own }
+    requires own { IsWorkerOf cache.ring B.name B.table B.deeds B.sizes own }
     requires seats { All (λ s. s.table ≡ B.table) seats.items }
 {
     match cache.close(rt, own, seats) {
@@ -119,8 +123,8 @@ fn take_part<B: Naming + Send + Sync, R: Threads + Wait + Sync>(
     members: Result<Vec<Member<B>>, AllocError>,
     plan: Plan,
 ) -> Result<(Vec<Seat>, Tally), Refusal>
-    requires { IsWorkerOf cache.now.ring B.name B.table B.sizes own.old }
-    ensures own { IsWorkerOf cache.now.ring B.name B.table B.sizes own.new }
+    requires { IsWorkerOf cache.now.ring B.name B.table B.deeds B.sizes own.old }
+    ensures own { IsWorkerOf cache.now.ring B.name B.table B.deeds B.sizes own.new }
     ensures seats { IfOk result (λ r. All (λ s. s.table ≡ B.table) r.0.items) }
 {
     let mut members = members?;
@@ -168,7 +172,7 @@ fn call_all<B: Naming + Send + Sync, R: Threads + Wait + Sync>(
     plan: Plan,
     tally: Tally,
 ) -> Result<(Vec<Seat>, Tally), Refusal>
-    requires { IsCrewOf cache.now.ring B.name B.table B.sizes crew }
+    requires { IsCrewOf cache.now.ring B.name B.table B.deeds B.sizes crew }
     ensures { IfOk result (λ r. All (λ s. s.table ≡ B.table) r.0.items) }
 {
     match callers_of(alloc, members, plan) {
@@ -204,12 +208,12 @@ fn run_all<B: Naming + Send + Sync, R: Threads + Wait + Sync>(
     crew: Crew,
     callers: Vec<Caller<B>>,
 ) -> (Back<B>, Result<Vec<Called<B>>, AllocError>)
-    requires { IsCrewOf cache.now.ring B.name B.table B.sizes crew }
+    requires { IsCrewOf cache.now.ring B.name B.table B.deeds B.sizes crew }
 {
     join(
         rt,
         move ||
-            requires { IsCrewOf cache.now.ring B.name B.table B.sizes crew }
+            requires { IsCrewOf cache.now.ring B.name B.table B.deeds B.sizes crew }
         { crew.run(rt, cache) },
         move || run_callers(rt, cache, callers),
     )

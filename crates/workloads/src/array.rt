@@ -6,9 +6,9 @@ ghost use Rattle.std.specs.Prelude.{◌<◌};
 use crate::digest::Digest;
 use crate::numbers::Numbers;
 use crate::places::Places;
+use bench_timing::Fault;
 use idalloc::IdAlloc;
 use std::alloc::Global;
-use timing::Fault;
 use xarray::{Mark, XArray};
 
 /// How many entries an array gets.

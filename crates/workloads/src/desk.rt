@@ -5,13 +5,13 @@ ghost use Rattle.pc_types.specs.declared.limits.TheConstants.{MAX_FILES};
 ghost use Rattle.filesvc.specs.Service.{IsOpen};
 
 use crate::digest::Digest;
+use bench_timing::Fault;
 use blockdev::BlockDevice;
 use filesvc::{Handle, Solo};
 use pc_types::limits::MAX_FILES;
 use pc_types::{FileId, Geometry, Refusal};
 use std::alloc::Global;
 use std::marker::Model;
-use timing::Fault;
 
 /// How many bytes a call reads or writes at most: 16 pages of 4,096.
 pub const MOST: usize = 65_536;

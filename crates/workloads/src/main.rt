@@ -7,6 +7,8 @@
 //!
 //! `desk` has the calls of files, `tools` the bytes that are written and read, `numbers` the generator, `places` numbers that come
 //! once each, and `digest` what is printed.
+//!
+//! Floor: outside.
 
 mod array;
 mod desk;
@@ -23,11 +25,11 @@ ghost use Rattle.std.specs.Prelude.{◌<◌};
 
 use crate::digest::Digest;
 use crate::tools::Tools;
+use bench_timing::Fault;
 use std::alloc::Global;
 use std::env;
 use std::io::Write;
 use std::process::ExitCode;
-use timing::Fault;
 
 fn main(rt: HostRuntime) -> ExitCode {
     ExitCode::from(run_program(&rt))

@@ -6,11 +6,11 @@ ghost use Rattle.std.specs.Prelude.{◌<◌};
 use crate::desk::Desk;
 use crate::digest::Digest;
 use crate::tools::Tools;
+use bench_timing::Fault;
 use blockdev::MemDevice;
 use pc_types::Geometry;
 use pc_types::limits::CLEAN_FRAMES;
 use std::alloc::Global;
-use timing::Fault;
 
 /// A table and its pool.
 #[derive(Clone, Copy)]

@@ -8,12 +8,12 @@ use crate::digest::Digest;
 use crate::numbers::Numbers;
 use crate::places::Places;
 use crate::tools::Tools;
+use bench_timing::Fault;
 use blockdev::MemDevice;
 use faulty::FaultyDevice;
 use pc_types::Geometry;
 use pc_types::limits::CLEAN_FRAMES;
 use std::alloc::Global;
-use timing::Fault;
 
 /// Files, and bytes of a page.
 const FILES: u64 = 64;

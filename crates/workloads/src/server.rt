@@ -8,10 +8,10 @@ use crate::digest::Digest;
 use crate::numbers::Numbers;
 use crate::places::Places;
 use crate::tools::Tools;
+use bench_timing::Fault;
 use blockdev::MemDevice;
 use pc_types::Geometry;
 use std::alloc::Global;
-use timing::Fault;
 
 /// Files, handles that each is opened by, and bytes of a page.
 const FILES: u64 = 20;

@@ -1,12 +1,13 @@
 -- What a device call and an end answer, by the job that is in the table.
 use Rattle.std.proofs.Common.{◌≡◌, ◌≢◌, ℕ, Bool, true, false, cond, eqb, eqb-true, eq-eqb, refl, ap, sym, subst, ◌∙◌}
-use Rattle.std.specs.Prelude.{Option, Some, None, option_and_then, Result, Ok, Err}
+use Rattle.std.specs.Prelude.{List, Option, Some, None, option_and_then, option_map, Result, Ok, Err}
 use Rattle.std.specs.FinMap as finmap
 use Rattle.pc_types.specs.declared.refusal.Refusal.{Refusal}
 use Rattle.pc_types.specs.declared.refusal.Refusal.TheVariants.{Stranger}
 use Rattle.pc_types.specs.declared.kind.Kind.{Kind}
 use Rattle.pc_types.specs.declared.kind.Kind.TheVariants.{Fill, Flush}
 use Rattle.blockdev.specs.declared.fault.FaultEffect.{FaultEffect}
+use Rattle.blockdev.specs.Device as device
 use Rattle.blockdev.specs.Jobs.{Task, FinishedTask}
 use Rattle.maps.proofs.Filtered.{get-filter_map_values}
 use Rattle.maps.proofs.MapLaws.{same_nat_map}
@@ -183,6 +184,23 @@ module _ (core : State) (jobs : Jobs) (dev : Watch) (w : IsWorld core jobs dev) 
 
   loud_answer : (r : Reply) → is_quiet r ≡ false → r ≢ reply.Refused Stranger
   loud_answer r loud e = let a : true ≡ false = sym (ap is_quiet e) ∙ loud in cc
+
+  -- its request is of this kind and this block, and this is what the call came to
+  pub came_to : (old : WorldSeen) → seen_of core jobs dev ≡ old → (block : ℕ) → block ≡ f.block
+      → (o : device.Outcome) → o ≡ f.outcome → (bytes : List ℕ) → bytes ≡ f.bytes
+      → (option_map (λ (x : Request). x.kind) (finmap.get old.core.requests t) ≡ Some k)
+      × (option_map (λ (x : Request). x.block) (finmap.get old.core.requests t) ≡ Some block)
+      × (finmap.get old.outcomes t ≡ Some (outcome_of k o bytes))
+  came_to old is_old block its o outcome bytes buffer =
+      let q = request_of core t (finmap.get core.requests t) (finmap.get jobs t) (Made f) (w.each_job t) (sym is) in (
+        ap (λ (v : WorldSeen). option_map (λ (x : Request). x.kind) (finmap.get v.core.requests t)) (sym is_old)
+            ∙ ap (option_map (λ (x : Request). x.kind)) q.1 ∙ ap Some (sym q.2.kind) ∙ ap Some (sym same),
+        ap (λ (v : WorldSeen). option_map (λ (x : Request). x.block) (finmap.get v.core.requests t)) (sym is_old)
+            ∙ ap (option_map (λ (x : Request). x.block)) q.1 ∙ ap Some (sym q.2.block) ∙ ap Some (sym its),
+        out core jobs dev w t old is_old (Some (outcome_of f.kind f.outcome f.bytes))
+            (ap (option_and_then outcome_in) (sym is))
+            ∙ (λ i. Some (outcome_of (sym same i) (sym outcome i) (sym buffer i))),
+      )
 
   pub end_made : (old : WorldSeen) → seen_of core jobs dev ≡ old → (new : State) (r : Reply)
       → Step core (event.End k (end_of f)) r new → (table : Jobs) → table ≡ finmap.remove jobs t

@@ -84,6 +84,7 @@ module _ (core : State) (jobs : Jobs) (dev : Watch) (w : IsWorld core jobs dev) 
           cache = request.2.fits.cache i;
           kind = request.2.kind i;
           serial = record { 0 = request.2.serial i };
+          block = record { 0 = request.2.block i };
           outcome = call;
         })) step
 

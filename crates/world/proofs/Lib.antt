@@ -10,7 +10,7 @@ pub mod FirstWorld
 pub mod CallReplies
 pub mod EventReplies
 pub mod PlayLemmas
-pub mod Durably
+pub mod DeviceFlush
 pub mod InFlight
 pub mod Stays
 pub mod StepKinds

@@ -73,18 +73,28 @@ sync_back answer r given buffer page a back size = ap length (same answer (sym (
     same (Ok (sync.Failed code b)) n h g = sym h ∙ g
     same (Err e) n h g = sym h ∙ g
 
--- the buffer of a request that ends is as long as that of its job
+-- over the same device pages are as long as before
+pub same_page : {core new : State} {jobs after : Jobs} {dev : Watch} → IsWorld core jobs dev → IsWorld new after dev
+    → core.sizes.page ≡ new.sizes.page
+same_page old now = sym old.block_size ∙ now.block_size
+
+-- the buffer of a request that ends is its job's
+pub same_buffer : (f : FinishedTask) (end : Ended) (buffer : List ℕ) → EndGivesBack f (Ok end)
+    → buffer ≡ buffer_of end → buffer ≡ f.bytes
+same_buffer f end buffer back same = same ∙ go end back
+  where
+    go : (x : Ended) → EndGivesBack f (Ok x) → buffer_of x ≡ f.bytes
+    go (ended.Dropped b) g = g
+    go (ended.Failed code b) g = g
+    go (ended.Done b) g = g
+
+-- as long as a page
 pub end_back : {core : State} {jobs : Jobs} {dev : Watch} → IsWorld core jobs dev → (t : ℕ) (f : FinishedTask)
     → Some (Made f) ≡ finmap.get jobs t → (end : Ended) (buffer : List ℕ) → EndGivesBack f (Ok end)
     → buffer ≡ buffer_of end → length buffer ≡ core.sizes.page
-end_back {core} {jobs} w t f is end buffer back same = ap length (same ∙ same_bytes end back)
+end_back {core} {jobs} w t f is end buffer back same = ap length (same_buffer f end buffer back same)
     ∙ of_job (finmap.get core.requests t) (finmap.get jobs t) (sym is) (w.each_job t)
   where
-    same_bytes : (x : Ended) → EndGivesBack f (Ok x) → buffer_of x ≡ f.bytes
-    same_bytes (ended.Dropped b) g = g
-    same_bytes (ended.Failed code b) g = g
-    same_bytes (ended.Done b) g = g
-
     of_job : (q : Option Request) (o : Option Flight) → o ≡ Some (Made f) → HasJob core t q o
         → length f.bytes ≡ core.sizes.page
     of_job (Some r) (Some x) e h = ap (λ y. length (task_of y).bytes) (let same : Made f ≡ x = cc in same) ∙ h.fits.size

@@ -1,14 +1,19 @@
 -- What the calls answer that begin a request, or end one, as replies of the machine.
+use Rattle.std.specs.Prelude.{◌≡◌, ℕ, Some, option_map}
+use Rattle.std.specs.FinMap as finmap
+use Rattle.cachecore.specs.Replies.{outcome_of}
 use Rattle.machine.specs.declared.event.Reply.{Reply}
 use Rattle.machine.specs.declared.event.Reply.TheVariants as reply
 use Rattle.world.specs.declared.answers.EndAnswer.{EndAnswer}
 use Rattle.world.specs.declared.answers.EndAnswer.TheVariants as end
+use Rattle.world.specs.declared.answers.EndTold.{EndTold}
 use Rattle.world.specs.declared.answers.FillAnswer.{FillAnswer}
 use Rattle.world.specs.declared.answers.FillAnswer.TheVariants as fill
 use Rattle.world.specs.declared.answers.FlushAnswer.{FlushAnswer}
 use Rattle.world.specs.declared.answers.FlushAnswer.TheVariants as flush
 use Rattle.world.specs.declared.answers.SyncAnswer.{SyncAnswer}
 use Rattle.world.specs.declared.answers.SyncAnswer.TheVariants as sync
+use Rattle.world.specs.Stepping.{WorldSeen}
 
 abbrev pub fill_says : FillAnswer → Reply
 fill_says fill.Gone = reply.Gone
@@ -32,3 +37,10 @@ end_says end.Dropped = reply.Dropped
 end_says (end.Failed code) = reply.Failed code
 end_says end.Filled = reply.Filled
 end_says end.Written = reply.Written
+
+-- of a request that ended: its kind, its block, and what its device call came to
+abbrev pub CameTo : WorldSeen → ℕ → EndTold → Type 0
+CameTo old t e =
+    (option_map (λ x. x.kind) (finmap.get old.core.requests t) ≡ Some e.kind)
+    × (option_map (λ x. x.block) (finmap.get old.core.requests t) ≡ Some e.block.0)
+    × (finmap.get old.outcomes t ≡ Some (outcome_of e.kind e.outcome e.buffer))

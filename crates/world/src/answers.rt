@@ -4,8 +4,9 @@ ghost use Rattle.std.specs.Prelude.{◌≡◌};
 ghost use Rattle.cachecore.specs.Replies.{answered};
 ghost use Rattle.world.specs.Answers.{end_says, fill_says, flush_says, sync_says};
 
-use cachecore::Reply;
-use pc_types::{ErrCode, PageIndex, Refusal, Serial};
+use blockdev::Buffer;
+use cachecore::{Kind, Reply};
+use pc_types::{BlockNo, ErrCode, PageIndex, Refusal, Serial};
 
 /// What the begin of a fill answers.
 #[derive(Clone, Copy, PartialEq, Eq, Debug)]
@@ -53,6 +54,18 @@ pub enum EndAnswer {
     Failed(ErrCode),
     Filled,
     Written,
+}
+
+/// A request that has ended, and what its device call came to.
+#[derive(Drop, Debug)]
+pub struct EndTold {
+    pub answer: EndAnswer,
+    pub kind: Kind,
+    /// The block that its device call was of.
+    pub block: BlockNo,
+    pub outcome: Result<(), ErrCode>,
+    /// The bytes that were read or written, where the call went well.
+    pub buffer: Buffer,
 }
 
 pub fn fill_reply(answer: &Result<FillAnswer, Refusal>) -> Reply

@@ -6,6 +6,8 @@
 //!
 //! `world` has the cache with its device, `step` what may be asked of it, `answers` what it answers, `jobs` the jobs in
 //! flight, and `begun` what comes of the cache's calls that begin or end a request.
+//!
+//! Floor: driven.
 
 pub mod answers;
 mod begun;

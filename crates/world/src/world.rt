@@ -131,7 +131,6 @@ impl<D: BlockDevice> World<D> {
     /// is no room for the replies.
     pub fn play(&mut self, steps: &[Step]) -> Result<Vec<Reply>, Refusal>
         ensures played { IfOk result (λ replies. Plays self.old steps.now replies.items self.new) }
-        ensures durable { self.new.device.durable ≡ self.old.device.durable }
         ensures refused { IsOkUnless result Refusal.Memory }
         ensures err { OnErr result (self.new ≡ self.old) }
     {

@@ -11,12 +11,12 @@ use Rattle.pc_types.specs.Tags.{TagSet}
 use Rattle.pc_types.specs.declared.tags.Tag.TheVariants.{Dirty, Writeback, Towrite}
 use Rattle.mapping.specs.declared.mapping.TheConstants.{MAX_PAGES}
 use Rattle.mapping.specs.declared.page.FoundPage.{FoundPage}
-use Rattle.mapping.specs.Pages.{FilePages, IsNumbered, Mapped, Pages, change_at, found, has_at, is_tagged, lowest}
+use Rattle.mapping.specs.Pages.{FilePages, IsNumbered, Mapped, Pages, found, has_at, is_tagged, lowest}
 use Rattle.mapping.specs.Pages.{tag_each, tag_if, with_tag, with_tags_after, within}
 use Rattle.mapping.proofs.MapLemmas.{find_same, both_true}
 use Rattle.mapping.proofs.PageLemmas.{tag_of}
 use Rattle.writeback.specs.declared.picks.SyncStep.TheVariants.{Held, Start}
-use Rattle.maps.specs.Maps.{each_value}
+use Rattle.maps.specs.Maps.{change_at, each_value}
 use Rattle.machine.specs.State.{Sync, in_range}
 use Rattle.writeback.specs.Flights.{Flights}
 use Rattle.writeback.specs.Picks.{after_write, flush_pick, is_flushable, is_left, picked, sync_pick, to_write, written_through}

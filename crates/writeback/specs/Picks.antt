@@ -1,28 +1,27 @@
 -- Which page is written next, and what becomes of its tags. A sync first tags each DIRTY page with TOWRITE, so that
 -- callers who keep dirtying pages cannot prolong it (Linux: tag_pages_for_writeback and write_cache_pages).
-use Rattle.std.specs.Prelude.{ℕ, ◌<◌, Bool, true, false, not, ◌&&◌, ◌||◌, nat_lt, if◌then◌else◌, Option, Some}
-use Rattle.std.specs.Prelude.{None, find, option_map, unwrap_or}
+use Rattle.std.specs.Prelude.{ℕ, ◌<◌, Bool, if◌then◌else◌, Option, Some, None, find}
 use Rattle.std.specs.FinMap as map
-use Rattle.pc_types.specs.Tags.{TagSet}
 use Rattle.mapping.specs.Pages.{Mapped, Pages, found, with_tags, within}
 use Rattle.writeback.specs.declared.picks.SyncStep.{SyncStep}
 use Rattle.writeback.specs.declared.picks.SyncStep.TheVariants.{Await, Held, Over, Start}
-use Rattle.machine.specs.State.{Request, Sync, in_range}
+use Rattle.machine.specs.PageTags as tags
+use Rattle.machine.specs.State.{Request, Sync}
 use Rattle.writeback.specs.Flights.{Flights, first_awaited}
 
 -- ---- picking
 
--- a page to flush: DIRTY, and no write of it in flight. Memory-cleaning writeback skips a page under WRITEBACK
+-- a page to flush
 abbrev pub is_flushable : ℕ × Mapped → Bool
-is_flushable e = e.1.tags.dirty && not e.1.tags.writeback
+is_flushable e = tags.is_flushable e.1.tags
 
 -- the lowest of them
 abbrev pub flush_pick : Pages → Option (ℕ × Mapped)
 flush_pick pages = find is_flushable (map.entries pages)
 
--- a page that a sync has left to start: TOWRITE, in its range, and past the last page that it started
+-- a page that a sync has left to start
 abbrev pub is_left : Sync → ℕ × Mapped → Bool
-is_left y e = e.1.tags.towrite && in_range y e.0 && unwrap_or (option_map (λ p. nat_lt p e.0) y.started) true
+is_left y e = tags.is_left y e.0 e.1.tags
 
 -- the lowest of them
 abbrev pub sync_pick : Pages → Sync → Option (ℕ × Mapped)
@@ -30,24 +29,17 @@ sync_pick pages y = find (is_left y) (map.entries pages)
 
 -- ---- tags
 
--- a DIRTY page from `first` to `last` becomes TOWRITE
+-- a sync of the pages from `first` to `last` began
 abbrev pub to_write : ℕ → ℕ → ℕ → Mapped → Mapped
-to_write first last p page =
-    record page { tags = record page.tags { towrite = page.tags.towrite || page.tags.dirty && within first last p } }
+to_write first last p page = record page { tags = tags.to_write (within first last p) page.tags }
 
--- a page whose write begins loses DIRTY and TOWRITE and gets WRITEBACK
-abbrev pub under_write : TagSet
-under_write = record { dirty = false; writeback = true; towrite = false }
-
--- a page whose write ended: WRITEBACK is cleared, and DIRTY is set where the write failed. A DIRTY that was set
--- meanwhile stays
+-- a page whose write ended, well or not
 abbrev pub after_write : Bool → Mapped → Mapped
-after_write failed page =
-    record page { tags = record page.tags { dirty = page.tags.dirty || failed; writeback = false } }
+after_write failed page = record page { tags = tags.after_write failed page.tags }
 
 -- a page whose write began and ended in one
 abbrev pub written_through : Bool → Mapped → Mapped
-written_through failed page = after_write failed (with_tags under_write page)
+written_through failed page = after_write failed (with_tags tags.under_write page)
 
 -- ---- a step of a sync y of file f
 

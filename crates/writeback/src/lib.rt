@@ -6,6 +6,8 @@
 //! map. The picks read and tag a `Mapping` (`specs/Picks.antt`).
 //!
 //! `requests` has the table of requests, `syncs` that of the syncs, `picks` what is written next.
+//!
+//! Floor: tables.
 
 mod picks;
 mod requests;

@@ -3,9 +3,10 @@
 ghost use Rattle.std.specs.Prelude.{◌≡◌, ◌<◌, IfSome, false, option_map};
 ghost use Rattle.std.specs.FinMap as map;
 ghost use Rattle.pc_types.specs.TagBits.{tag_set};
-ghost use Rattle.mapping.specs.Pages.{change_at, found, seen, with_tags};
-ghost use Rattle.maps.specs.Maps.{each_value};
-ghost use Rattle.writeback.specs.Picks.{StartsBelow, after_write, flush_pick, picked, sync_pick, sync_step, to_write, under_write, waits, written_through};
+ghost use Rattle.mapping.specs.Pages.{found, seen, with_tags};
+ghost use Rattle.maps.specs.Maps.{change_at, each_value};
+ghost use Rattle.machine.specs.PageTags.{under_write};
+ghost use Rattle.writeback.specs.Picks.{StartsBelow, after_write, flush_pick, picked, sync_pick, sync_step, to_write, waits, written_through};
 ghost use Rattle.writeback.specs.Slots.{sync_of};
 
 use crate::requests::Requests;

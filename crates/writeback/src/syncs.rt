@@ -28,7 +28,7 @@ pub struct Progress {
     pub started: Option<PageIndex>,
     /// The failure count of its file as it began.
     pub failures: u64,
-    /// Set once it has nothing to start any more: it awaits the flushes of its file and range with a serial below this.
+    /// Set once it has nothing to start any more: it awaits the flushes of its file and range with a serial below this (decision 53).
     pub bound: Option<Serial>,
 }
 

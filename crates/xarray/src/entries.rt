@@ -1,5 +1,5 @@
 //! The entries of a range of indexes, one after another in rising order. The walk keeps its slot and the node above, so most of its
-//! steps read that node alone, and the others go up from it (xas_for_each and xas_for_each_marked of Linux).
+//! steps read that node alone, and the others go up from it (xas_for_each and xas_for_each_marked of Linux; decision 128).
 ghost use Rattle.std.specs.Prelude.{◌≡◌, map as map_list};
 ghost use Rattle.std.specs.Iterator.{YieldsFirst, item_count};
 ghost use Rattle.xarray.specs.MarkedArray.{found_of, entries_in};

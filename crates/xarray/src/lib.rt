@@ -7,6 +7,8 @@
 //! same over the nodes, where an entry is a leaf and its siblings: `ranged/walks` has the searches, `ranged/changes` what puts
 //! and marks, and `ranged/split` makes one into parts.
 //! `proofs/Singles.antt` is for callers whose entries have one index each.
+//!
+//! Floor: tables.
 
 mod array;
 mod entries;

@@ -189,7 +189,7 @@ impl Ranged {
         at < 64
     }
 
-    // The order of an entry, which its siblings tell.
+    // The order of an entry, which its siblings tell (decision 43).
     #[inline(always)]
     fn order_of(&self, cursor: Cursor, level: u32, first: u64) -> u32
         requires there { IsFirstSlot (ranges_of self.now) first level }

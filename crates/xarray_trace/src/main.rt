@@ -9,6 +9,8 @@
 //! An error word has a counter of 51 bits and Linux's one of 19, so the two are one number until the counter rises past 2^19 - 1.
 //! Words below 2^32 print 8 digits, as Linux's do: a trace is compared with Linux line by line as long as it has no wider one. A
 //! wider word prints 16 digits, and Linux has no such line.
+//!
+//! Floor: programs.
 
 mod answer;
 mod array_call;

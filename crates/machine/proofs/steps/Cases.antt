@@ -9,6 +9,7 @@ use Rattle.std.specs.FinMap as map
 use Rattle.std.proofs.lemmas.Bool.Decides.{nat_tests}
 use Rattle.pc_types.specs.Tags.{no_tags}
 use Rattle.pc_types.specs.Files.{cut}
+use Rattle.pc_types.specs.declared.ids.BlockNo.{BlockNo}
 use Rattle.pc_types.specs.declared.ids.FileId.{FileId}
 use Rattle.pc_types.specs.declared.ids.HandleId.{HandleId}
 use Rattle.pc_types.specs.declared.ids.PageIndex.{PageIndex}
@@ -140,38 +141,38 @@ module _ (s : State) (Q : Event → Reply → State → Type 0) (c : Cases s Q) 
       (c.flushes f a.0 a.1 t a.2 is)
 
   -- the ends of request x
-  ends : (kind : Kind) (cache : ℕ) (of : Kind) (t : Serial) (o : Outcome) (x : Request) (r : Reply)
-      → let end : End = record { cache = cache; kind = of; serial = t; outcome = o } in MayEnd s kind end x
+  ends : (kind : Kind) (cache : ℕ) (of : Kind) (t : Serial) (b : BlockNo) (o : Outcome) (x : Request) (r : Reply)
+      → let end : End = record { cache = cache; kind = of; serial = t; block = b; outcome = o } in MayEnd s kind end x
       → EndReply (Some x) o r → Q (event.End kind end) r (request_ended s t.0 (Some x) o r)
-  ends kind cache of t o x reply.Dropped may h =
-      c.drops kind (record { cache = cache; kind = of; serial = t; outcome = o }) x may h
-  ends Fill cache of t (outcome.Fault d) x (reply.Failed k) may h = failed x.kind may.kind_is
+  ends kind cache of t b o x reply.Dropped may h =
+      c.drops kind (record { cache = cache; kind = of; serial = t; block = b; outcome = o }) x may h
+  ends Fill cache of t b (outcome.Fault d) x (reply.Failed k) may h = failed x.kind may.kind_is
     where
       failed : (kind : Kind) → kind ≡ Fill
-          → Q (event.End Fill (record { cache = cache; kind = of; serial = t; outcome = outcome.Fault d }))
+          → Q (event.End Fill (record { cache = cache; kind = of; serial = t; block = b; outcome = outcome.Fault d }))
           (reply.Failed k) (cond (is_flush kind) (flush_failed (ended s t.0) x d)
           (ended s t.0))
-      failed Fill e = c.fill_fails (record { cache = cache; kind = of; serial = t; outcome = outcome.Fault d }) x k may
+      failed Fill e = c.fill_fails (record { cache = cache; kind = of; serial = t; block = b; outcome = outcome.Fault d }) x k may
           h.0 (ap outcome.Fault (sym h.1))
       failed Flush e = absurd cc
-  ends Flush cache of t (outcome.Fault d) x (reply.Failed k) may h = failed x.kind may.kind_is
+  ends Flush cache of t b (outcome.Fault d) x (reply.Failed k) may h = failed x.kind may.kind_is
     where
       failed : (kind : Kind) → kind ≡ Flush
-          → Q (event.End Flush (record { cache = cache; kind = of; serial = t; outcome = outcome.Fault d }))
+          → Q (event.End Flush (record { cache = cache; kind = of; serial = t; block = b; outcome = outcome.Fault d }))
           (reply.Failed k) (cond (is_flush kind) (flush_failed (ended s t.0) x d)
           (ended s t.0))
       failed Fill e = absurd cc
       failed Flush e =
-          subst (λ k. Q (event.End Flush (record { cache = cache; kind = of; serial = t; outcome = outcome.Fault d }))
+          subst (λ k. Q (event.End Flush (record { cache = cache; kind = of; serial = t; block = b; outcome = outcome.Fault d }))
           (reply.Failed k) (flush_failed (ended s t.0) x d)) (sym h.1)
-          (c.flush_fails (record { cache = cache; kind = of; serial = t; outcome = outcome.Fault d }) x d may h.0 refl)
-  ends Fill cache of t (outcome.Read b) x reply.Filled may h =
-      c.fill_ends (record { cache = cache; kind = of; serial = t; outcome = outcome.Read b }) x b may h refl
-  ends Flush cache of t (outcome.Read b) x reply.Filled may h = absurd (let e = may.fitting in cc)
-  ends Fill cache of t outcome.Written x reply.Written may h = absurd (let e = may.fitting in cc)
-  ends Flush cache of t outcome.Written x reply.Written may h =
-      c.flush_ends (record { cache = cache; kind = of; serial = t; outcome = outcome.Written }) x may h refl
-  ends kind cache of t o x _ may h = absurd h
+          (c.flush_fails (record { cache = cache; kind = of; serial = t; block = b; outcome = outcome.Fault d }) x d may h.0 refl)
+  ends Fill cache of t b (outcome.Read bytes) x reply.Filled may h =
+      c.fill_ends (record { cache = cache; kind = of; serial = t; block = b; outcome = outcome.Read bytes }) x bytes may h refl
+  ends Flush cache of t b (outcome.Read bytes) x reply.Filled may h = absurd (let e = may.fitting in cc)
+  ends Fill cache of t b outcome.Written x reply.Written may h = absurd (let e = may.fitting in cc)
+  ends Flush cache of t b outcome.Written x reply.Written may h =
+      c.flush_ends (record { cache = cache; kind = of; serial = t; block = b; outcome = outcome.Written }) x may h refl
+  ends kind cache of t b o x _ may h = absurd h
 
   ends_of : (kind : Kind) (end : End) (r : Reply) → tests s (event.End kind end) ≡ None
       → EndReply (map.get s.requests end.serial.0) end.outcome r
@@ -180,7 +181,7 @@ module _ (s : State) (Q : Event → Reply → State → Type 0) (c : Cases s Q) 
       let a = may_end s kind end none in
       let is = a.1.is in
       subst (λ o. Q (event.End kind end) r (request_ended s end.serial.0 o end.outcome r)) (sym is)
-      (ends kind end.cache end.kind end.serial end.outcome a.0 r a.1 (subst (λ o. EndReply o end.outcome r) is h))
+      (ends kind end.cache end.kind end.serial end.block end.outcome a.0 r a.1 (subst (λ o. EndReply o end.outcome r) is h))
 
   sync_steps : (m : SyncId) (y : Sync) (pick : Option ℕ) (e : Option (ℕ × Request)) (r : Reply)
       → map.get s.syncs m.0 ≡ Some y → sync_pick s y ≡ pick → first_awaited s y ≡ e

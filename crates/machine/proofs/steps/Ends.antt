@@ -31,7 +31,7 @@ end_loud _ _ _ h = absurd h
 
 -- the end of request t, which the cache itself hands in
 abbrev pub own_end : State → ℕ → Request → Outcome → End
-own_end s t x call = record { cache = s.name; kind = x.kind; serial = record { 0 = t }; outcome = call }
+own_end s t x call = record { cache = s.name; kind = x.kind; serial = record { 0 = t }; block = record { 0 = x.block }; outcome = call }
 
 same_self : (k : Kind) → same_kind k k ≡ true
 same_self Fill = refl
@@ -42,7 +42,8 @@ pub own_end_passes : (s : State) (t : ℕ) (x : Request) (call : Outcome) → ma
     → fits x.kind call ≡ true → tests s (event.End x.kind (own_end s t x call)) ≡ None
 own_end_passes s t x call is fit =
     λ i. cond (eq-eqb s.name s.name refl i
-    && (ap (is_of x.kind (own_end s t x call)) is ∙ (λ j. same_self x.kind j && same_self x.kind j && fit j)) i)
+    && (ap (is_of x.kind (own_end s t x call)) is ∙ (λ j. same_self x.kind j && same_self x.kind j
+    && eq-eqb x.block x.block refl j && fit j)) i)
     None (refuse Stranger)
 
 -- the end of request x went through

@@ -116,6 +116,7 @@ pub record MayEnd (s : State) (kind : Kind) (end : End) (x : Request) : Type 0 w
   pub cache : end.cache ≡ s.name
   pub is : map.get s.requests end.serial.0 ≡ Some x
   pub kind_is : x.kind ≡ kind
+  pub block : end.block.0 ≡ x.block
   pub fitting : fits kind end.outcome ≡ true
 
 same : (k l : Kind) → same_kind k l ≡ true → l ≡ k
@@ -134,14 +135,17 @@ may_end s kind end t =
         → (((end.cache == s.name) ≡ true) × (is_of kind end o ≡ true)) → (x : Request) × MayEnd s kind end x
     go None is b = absurd (let e = b.1 in cc)
     go (Some x) is b =
-        let three = and_true (same_kind kind end.kind && same_kind kind x.kind) (fits kind end.outcome) b.1 in
+        let kinds = same_kind kind end.kind && same_kind kind x.kind in
+        let four = and_true (kinds && end.block.0 == x.block) (fits kind end.outcome) b.1 in
+        let three = and_true kinds (end.block.0 == x.block) four.0 in
         let two = and_true (same_kind kind end.kind) (same_kind kind x.kind) three.0 in (
           x,
           record {
             cache = eqb-true end.cache s.name b.0;
             is = is;
             kind_is = same kind x.kind two.1;
-            fitting = three.1;
+            block = eqb-true end.block.0 x.block three.1;
+            fitting = four.1;
           },
         )
 

@@ -25,15 +25,15 @@ use Rattle.maps.proofs.Found.{found}
 use Rattle.machine.proofs.steps.Lowest.{lowest_free}
 use Rattle.machine.proofs.steps.Passed.{may_end}
 
-abbrev wants_memory : Reply → Bool
-wants_memory (reply.Refused Memory) = true
-wants_memory _ = false
+abbrev is_memory : Reply → Bool
+is_memory (reply.Refused Memory) = true
+is_memory _ = false
 
 abbrev Fine : Reply → Type 0
-Fine r = wants_memory r ≡ false
+Fine r = is_memory r ≡ false
 
 fine_reply : (r : Reply) → Fine r → r ≢ reply.Refused Memory
-fine_reply r e k = let a = ap wants_memory k in cc
+fine_reply r e k = let a = ap is_memory k in cc
 
 -- ---- what happens where no test holds
 

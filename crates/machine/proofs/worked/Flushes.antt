@@ -11,7 +11,7 @@ use Rattle.machine.specs.State.{State, Page}
 use Rattle.machine.specs.Tests.{tests, refuse, fits}
 use Rattle.machine.specs.Step.{Step}
 use Rattle.machine.specs.Changes.{after_write}
-use Rattle.machine.proofs.worked.States.{Parts, opened, state_of, page, file, serial, none, D, W, DW, page_get}
+use Rattle.machine.proofs.worked.States.{Parts, block, opened, state_of, page, file, serial, none, D, W, DW, page_get}
 use Rattle.machine.proofs.worked.States.{page_entries, request_get, request_len, happens}
 
 -- one dirty byte
@@ -51,22 +51,27 @@ nothing_to_flush : tests (state_of changed_meanwhile) (event.FlushBegin (file 0)
 nothing_to_flush = simp (page_entries changed_meanwhile tt) refl
 
 abbrev ends_well : End
-ends_well = record { cache = 0; kind = Flush; serial = serial 0; outcome = outcome.Written }
+ends_well = record { cache = 0; kind = Flush; serial = serial 0; block = block 0; outcome = outcome.Written }
 
 abbrev ends_badly : End
-ends_badly = record { cache = 0; kind = Flush; serial = serial 0; outcome = outcome.Fault 5 }
+ends_badly = record { cache = 0; kind = Flush; serial = serial 0; block = block 0; outcome = outcome.Fault 5 }
 
 flush_end_passes : (o : Outcome) → fits Flush o ≡ true
     → tests (state_of changed_meanwhile)
-    (event.End Flush (record { cache = 0; kind = Flush; serial = serial 0; outcome = o })) ≡ None
+    (event.End Flush (record { cache = 0; kind = Flush; serial = serial 0; block = block 0; outcome = o })) ≡ None
 flush_end_passes o e = simp (request_get changed_meanwhile tt, e) refl
 
 -- a fill's bytes are not what comes of a write
 bytes_do_not_fit : (b : List ℕ)
     → tests (state_of changed_meanwhile)
-    (event.End Flush (record { cache = 0; kind = Flush; serial = serial 0; outcome = outcome.Read b }))
+    (event.End Flush (record { cache = 0; kind = Flush; serial = serial 0; block = block 0; outcome = outcome.Read b }))
     ≡ refuse Stranger
 bytes_do_not_fit b = simp (request_get changed_meanwhile tt) refl
+
+-- the call was of another block than the request's
+other_block_is_refused : tests (state_of changed_meanwhile) (event.End Flush (record ends_well { block = block 1 }))
+    ≡ refuse Stranger
+other_block_is_refused = simp (request_get changed_meanwhile tt) refl
 
 -- the end of a flush is not one of a fill
 other_kind_is_refused : tests (state_of changed_meanwhile) (event.End Fill ends_well) ≡ refuse Stranger

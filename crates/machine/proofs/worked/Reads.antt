@@ -7,7 +7,7 @@ use Rattle.machine.specs.declared.event.Reply.TheVariants as reply
 use Rattle.machine.specs.State.{State}
 use Rattle.machine.specs.Tests.{tests}
 use Rattle.machine.specs.Step.{Step}
-use Rattle.machine.proofs.worked.States.{Parts, opened, state_of, handle, page, serial, none, D, handle_0, page_get}
+use Rattle.machine.proofs.worked.States.{Parts, block, opened, state_of, handle, page, serial, none, D, handle_0, page_get}
 use Rattle.machine.proofs.worked.States.{page_len, spot_get, request_get, request_entries, request_len, happens, only}
 
 -- a read of an empty file answers no bytes, and its size is 0
@@ -90,7 +90,7 @@ dropped = record filling {
 
 dropped_fill_installs_nothing : (new : State)
     → Step (state_of dropped) (event.End Fill
-    (record { cache = 0; kind = Fill; serial = serial 1; outcome = outcome.Read (replicate 16 17) })) reply.Filled new
+    (record { cache = 0; kind = Fill; serial = serial 1; block = block 0; outcome = outcome.Read (replicate 16 17) })) reply.Filled new
     → ⊥
 dropped_fill_installs_nothing new step =
     let passes : tests (state_of dropped)
@@ -98,6 +98,7 @@ dropped_fill_installs_nothing new step =
       cache = 0;
       kind = Fill;
       serial = serial 1;
+      block = block 0;
       outcome = outcome.Read (replicate 16 17);
     })) ≡ None = simp (request_get dropped tt) refl in
     let h = happens (state_of dropped) new
@@ -105,6 +106,7 @@ dropped_fill_installs_nothing new step =
       cache = 0;
       kind = Fill;
       serial = serial 1;
+      block = block 0;
       outcome = outcome.Read (replicate 16 17);
     })) reply.Filled passes step in
     absurd (let k = simp (request_get dropped tt) at h in let clash : true ≡ false = k in cc)

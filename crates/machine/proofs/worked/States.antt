@@ -6,6 +6,7 @@ use Rattle.std.specs.FinMap as map
 use Rattle.std.specs.FinMap.{from_sorted, entries-from_sorted, get-from_sorted, len-entries, is_sorted, find}
 use Rattle.machine.specs.declared.event.Event.{Event}
 use Rattle.machine.specs.declared.event.Reply.{Reply}
+use Rattle.pc_types.specs.declared.ids.BlockNo.{BlockNo}
 use Rattle.pc_types.specs.declared.ids.HandleId.{HandleId}
 use Rattle.pc_types.specs.declared.ids.PageIndex.{PageIndex}
 use Rattle.pc_types.specs.declared.ids.FileId.{FileId}
@@ -69,6 +70,9 @@ sync n = record { 0 = n }
 
 abbrev pub serial : ℕ → Serial
 serial n = record { 0 = n }
+
+abbrev pub block : ℕ → BlockNo
+block n = record { 0 = n }
 
 -- tags, by their letters
 abbrev pub none : TagSet

@@ -11,7 +11,7 @@ use Rattle.machine.specs.Tests.{tests, refuse}
 use Rattle.machine.specs.Step.{Step}
 use Rattle.machine.specs.Changes.{cut_page, cut_request}
 use Rattle.pc_types.specs.Files.{cut}
-use Rattle.machine.proofs.worked.States.{Parts, opened, state_of, handle, page, serial, none, D, handle_0, page_get}
+use Rattle.machine.proofs.worked.States.{Parts, block, opened, state_of, handle, page, serial, none, D, handle_0, page_get}
 use Rattle.machine.proofs.worked.States.{spot_get, request_get, request_entries, happens, only}
 
 -- sixteen bytes were written back, and their page was evicted
@@ -81,7 +81,7 @@ cut_in_flight =
     }
 
 abbrev the_end : End
-the_end = record { cache = 0; kind = Flush; serial = serial 0; outcome = outcome.Written }
+the_end = record { cache = 0; kind = Flush; serial = serial 0; block = block 0; outcome = outcome.Written }
 
 end_passes : tests (state_of cut_in_flight) (event.End Flush the_end) ≡ None
 end_passes = simp (request_get cut_in_flight tt) refl

@@ -1,6 +1,6 @@
 -- Worked examples of writes.
 use Rattle.std.proofs.Common.{◌≡◌, ℕ, [], ◌∷◌, ◌++◌, refl, Some, None, replicate, true, false}
-use Rattle.pc_types.specs.declared.refusal.Refusal.TheVariants.{DirtyLimit, NoSpace, TooLarge, TooLong}
+use Rattle.pc_types.specs.declared.refusal.Refusal.TheVariants.{DirtyLimit, Memory, NoSpace, TooLarge, TooLong}
 use Rattle.pc_types.specs.declared.kind.Kind.TheVariants.{Flush}
 use Rattle.machine.specs.declared.event.Event.TheVariants as event
 use Rattle.machine.specs.declared.event.Reply.TheVariants as reply
@@ -126,6 +126,15 @@ dirty_again_passes =
       spot_entries sixteen_dirty tt,
       request_entries sixteen_dirty tt,
     ) refl
+
+-- they are cached and have blocks, so the write wants no memory
+dirty_again_wants_no_memory : (new : State)
+    → Step (state_of sixteen_dirty) (event.Write (handle 0) 0 (255 ∷ [])) (reply.Refused Memory) new → ⊥
+dirty_again_wants_no_memory new step =
+    absurd (let h = happens (state_of sixteen_dirty) new (event.Write (handle 0) 0 (255 ∷ [])) (reply.Refused Memory)
+    dirty_again_passes step in
+    let k = simp (handle_0 sixteen_dirty, page_get sixteen_dirty tt, spot_get sixteen_dirty tt) at h in
+    let clash : false ≡ true = k in cc)
 
 -- ---- a device of one block
 

@@ -199,6 +199,6 @@ module _ (w : World) (plain : Plain) (c : Coupled w plain) (t : ℕ) (x : Reques
 
   -- no test of the end holds
   pub known : (o : Outcome) → finmap.get w.outcomes t ≡ Some o
-      → tests s (event.End x.kind (record { cache = s.name; kind = x.kind; serial = record { 0 = t }; outcome = o }))
+      → tests s (event.End x.kind (record { cache = s.name; kind = x.kind; serial = record { 0 = t }; block = record { 0 = x.block }; outcome = o }))
       ≡ None
   known o noted = own_end_passes s t x o there (sym (λ i. fit (there i) (noted i)) ∙ c.tables.fit t)

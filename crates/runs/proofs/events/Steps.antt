@@ -248,7 +248,7 @@ module _ (w : World) (plain : Plain) (c : Coupled w plain) where
       go : (q : Option Request) → finmap.get s.requests t ≡ q → (o : Option Outcome) → finmap.get w.outcomes t ≡ o
           → Ends w t q o r new → After w plain no_gone new plain
       go (Some x) is (Some call) noted h =
-          let end : End = record { cache = s.name; kind = x.kind; serial = record { 0 = t }; outcome = call } in
+          let end : End = record { cache = s.name; kind = x.kind; serial = record { 0 = t }; block = record { 0 = x.block }; outcome = call } in
           let may : AnswersOr None s (event.End x.kind end) r new.core =
           subst (λ o. AnswersOr o s (event.End x.kind end) r new.core) (known w plain c t x is call noted) h.0 in
           subst (λ v. After w plain no_gone v plain) (sym h.1)

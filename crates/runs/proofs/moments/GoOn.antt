@@ -24,7 +24,7 @@ end_on w t None o e k = absurd cc
 end_on w t (Some x) None e k = absurd cc
 end_on w t (Some x) (Some o) e k =
     let a = no_event_is_stuck w.core
-    (event.End x.kind (record { cache = w.core.name; kind = x.kind; serial = record { 0 = t }; outcome = o })) in (
+    (event.End x.kind (record { cache = w.core.name; kind = x.kind; serial = record { 0 = t }; block = record { 0 = x.block }; outcome = o })) in (
       a.0,
       record w { core = a.1; outcomes = finmap.remove w.outcomes t; writing = finmap.remove w.writing t },
       (a.3, refl),

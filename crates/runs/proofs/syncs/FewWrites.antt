@@ -338,7 +338,7 @@ module _ (w : World) (plain : Plain) (k : Coupled w plain) (f : ℕ) where
       finished : (q : Option Request) (o : Option Outcome)
           → Ends w t q o r new → 0 + waiting new.core f ≤ waiting w.core f + 0
       finished (Some x) (Some call) h = let end : End =
-          record { cache = w.core.name; kind = x.kind; serial = record { 0 = t }; outcome = call } in
+          record { cache = w.core.name; kind = x.kind; serial = record { 0 = t }; block = record { 0 = x.block }; outcome = call } in
           few (event.End x.kind end) r new.core h.0
       finished (Some x) None h = absurd h
       finished None o h = absurd h

@@ -1,17 +1,17 @@
 //! The device calls of requests in flight, and their ends.
 
-ghost use Rattle.std.specs.Prelude.{◌≡◌, ◌≤◌, OnOk, length};
+ghost use Rattle.std.specs.Prelude.{◌≡◌, ◌≤◌, IfOk, OnOk, length};
 ghost use Rattle.machine.specs.declared.event.Event.TheVariants as event;
 ghost use Rattle.machine.specs.Step.{Step as MachineStep};
 ghost use Rattle.machine.specs.declared.event.Reply.TheVariants as reply;
 ghost use Rattle.cachecore.specs.Replies.{EndGivesBack, answered, end_of};
-ghost use Rattle.world.specs.Answers.{end_says};
+ghost use Rattle.world.specs.Answers.{CameTo, end_says};
 ghost use Rattle.world.specs.Ends.{ended};
 ghost use Rattle.world.specs.Flushing.{IsFlushed, IsFlushedOnce};
 ghost use Rattle.world.specs.Stepping.{Fails, Steps};
 
 use super::World;
-use crate::answers::EndAnswer;
+use crate::answers::{EndAnswer, EndTold};
 use crate::begun;
 use crate::jobs::Flight;
 use crate::step::Step;
@@ -42,14 +42,37 @@ impl<D: BlockDevice> World<D> {
     pub fn end(&mut self, serial: Serial) -> Result<EndAnswer, Refusal>
         ensures { Steps self.old (Step.End serial) (answered end_says result) self.new }
     {
+        match self.end_told(serial) {
+            Ok(told) => {
+                self.spare = Some(told.buffer);
+                Ok(told.answer)
+            }
+            Err(refusal) => Err(refusal),
+        }
+    }
+
+    /// Ends the request as `end` does, and tells what its device call came to. Its buffer goes to the caller, who may
+    /// look at what was read.
+    pub fn end_told(&mut self, serial: Serial) -> Result<EndTold, Refusal>
+        ensures ended { Steps self.old (Step.End serial) (answered (λ e. end_says e.answer) result) self.new }
+        ensures told { IfOk result (CameTo self.old serial.0) }
+        ensures size { IfOk result (λ e. length e.buffer ≡ self.new.core.sizes.page) }
+    {
         match self.jobs.take(serial) {
             Some(Flight::Made(finished)) => {
                 let kind = finished.kind();
+                let block = finished.block();
+                let outcome = finished.outcome();
                 match hand_in(&mut self.core, kind, finished) {
                     Ok(end) => {
                         let (answer, buffer) = begun::of_end(kind, end);
-                        self.spare = Some(buffer);
-                        Ok(answer)
+                        Ok(EndTold {
+                            answer,
+                            kind,
+                            block,
+                            outcome,
+                            buffer,
+                        })
                     }
                     Err(refused) => {
                         self.jobs.put(Flight::Made(refused.finished));
@@ -63,6 +86,13 @@ impl<D: BlockDevice> World<D> {
             }
             None => Err(Refusal::Stranger),
         }
+    }
+
+    /// The device, with which nothing more is done.
+    pub fn into_device(self) -> D
+        ensures { D.told result ≡ self.device }
+    {
+        self.device.into_device()
     }
 }
 

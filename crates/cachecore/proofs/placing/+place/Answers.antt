@@ -1,13 +1,13 @@
-use Rattle.std.proofs.Common.{arith, ap, sym, subst, ◌∙◌, ◌≡◌, ◌-◌, ◌≤◌, ℕ, not, length, false}
-use Rattle.std.specs.Prelude.{is_some, IfSome, None}
+use Rattle.std.proofs.Common.{arith, inl, inr, ap, sym, subst, ◌∙◌, ◌≡◌, ◌-◌, ◌≤◌, ℕ, not, length, false}
+use Rattle.std.specs.Prelude.{is_some, option_map, IfSome, None}
 use Rattle.std.specs.List.{range_with_len}
 use Rattle.std.specs.FinMap as map
 use Rattle.blockmap.specs.Blocks.{Blocks, free_blocks}
 use Rattle.blockmap.specs.Told.{told}
-use Rattle.cachecore.specs.Placing.{with_placed}
+use Rattle.cachecore.specs.Placing.{HasBare, with_placed}
 use Rattle.pagestore.proofs.PairLemmas.{on_ok, when_err, when_ok}
 use Rattle.pagestore.proofs.StoreLaws.{some_mapped}
-use Rattle.pagestore.proofs.RangeLemmas.{ne_less, none_of, on_err_of, ok_map}
+use Rattle.pagestore.proofs.RangeLemmas.{err_map, ne_less, none_of, on_err_of, ok_map}
 use Rattle.cachecore.proofs.PlaceLemmas.{IsGiven, is_given, count_past, placed_past, placed_none, room_given}
 use Rattle.cachecore.proofs.PlaceLemmas.{placed_given, given_unwritten, given_unheld, undone}
 use Rattle.cachecore.proofs.placing.+place.Goals as goal
@@ -96,3 +96,42 @@ returns-else-is_err-2-clause-placed t c =
     let given = block_given t (goal.at.returns-else-is_err-2-clause-placed t c).Else-is_err in
     on_ok c.place-rest.result _ (λ _. placed_given b c.assign.new.self c.args.span.file c.args.next c.args.span.end less given
     c.place-rest.new.blocks (when_ok c.place-rest.result _ c.if-is_err-2.ensures.value c.place-rest.ensures.placed))
+
+-- ---- a write that is refused
+
+-- the page has no block
+bare_next : (b : Blocks) (f next end : ℕ) → next ≤ end → (next ≡ end → ⊥)
+    → false ≡ is_some (option_map told (map.get b.spots (f, next))) → HasBare f next end b
+bare_next b f next end order other none = record {
+  page = next;
+  from = omega arith;
+  before = ne_less next end order other;
+  bare = ap not (sym (none ∙ some_mapped told (map.get b.spots (f, next))));
+}
+
+pub returns-then-next-span-clause-wanting : goal.returns-then-next-span-clause-wanting
+returns-then-next-span-clause-wanting t c = err_map c.write.result _ _ c.write.ensures.absent (λ h. inl h)
+
+pub returns-then-is_some-clause-wanting : goal.returns-then-is_some-clause-wanting
+returns-then-is_some-clause-wanting t c =
+    err_map c.place.result _ _ c.place.ensures.wanting (λ h. elim h [
+      | inl a ↦ inl a
+      | inr a ↦ inr (record { page = a.page; from = omega (arith, a.from); before = a.before; bare = a.bare })
+    ])
+
+pub returns-then-is_err-clause-wanting : goal.returns-then-is_err-clause-wanting
+returns-then-is_err-clause-wanting t c =
+    inr (bare_next c.args.blocks.now c.args.span.file c.args.next c.args.span.end c.requires.order c.if-next-span.false
+    (c.if-is_some.ensures ∙ ap is_some c.map.ensures))
+
+pub returns-then-is_err-2-clause-wanting : goal.returns-then-is_err-2-clause-wanting
+returns-then-is_err-2-clause-wanting t c =
+    on_err_of c.place-rest.result _
+    (inr (bare_next c.args.blocks.now c.args.span.file c.args.next c.args.span.end c.requires.order c.if-next-span.false
+    (c.if-is_some.ensures ∙ ap is_some c.map.ensures)))
+
+pub returns-else-is_err-2-clause-wanting : goal.returns-else-is_err-2-clause-wanting
+returns-else-is_err-2-clause-wanting t c =
+    on_err_of c.place-rest.result _
+    (inr (bare_next c.args.blocks.now c.args.span.file c.args.next c.args.span.end c.requires.order c.if-next-span.false
+    (c.if-is_some.ensures ∙ ap is_some c.map.ensures)))

@@ -6,7 +6,7 @@ use Rattle.shared.proofs.close.drain.Given as goal
 
 abbrev pub invariant-jobs : goal.invariant-jobs
 invariant-jobs g l = record {
-  worker : IsWorkerOf l.ring g.B.Naming.name g.B.Naming.table g.B.Naming.sizes l.own;
+  worker : IsWorkerOf l.ring g.B.Naming.name g.B.Naming.table g.B.NamesDeeds.deeds g.B.Naming.sizes l.own;
   goes : Goes l.initial.own.seat l.own.seat;
   only : Only (λ e. IsEnd e.event) l.initial.own.seat l.own.seat;
   taken : AllOver l.initial.own l.own l.state.core.state;

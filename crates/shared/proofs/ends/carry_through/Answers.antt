@@ -3,11 +3,11 @@ use Rattle.shared.proofs.ends.carry_through.Goals as goal
 
 pub returns-in-Ok-clause-only : goal.returns-in-Ok-clause-only
 returns-in-Ok-clause-only g c = c.end.ensures.only c.args.job c.carry_out-finished.ensures.same.1
-    c.carry_out-finished.ensures.same.0 c.carry_out-finished.ensures.same.2
+    c.carry_out-finished.ensures.same.0 c.carry_out-finished.ensures.same.2 c.carry_out-finished.ensures.block
 
 pub returns-clause-only : goal.returns-clause-only
 returns-clause-only g c = c.end.ensures.only c.args.job c.carry_out-finished.ensures.same.1
-    c.carry_out-finished.ensures.same.0 c.carry_out-finished.ensures.same.2
+    c.carry_out-finished.ensures.same.0 c.carry_out-finished.ensures.same.2 c.carry_out-finished.ensures.block
 
 pub returns-in-Ok-clause-ends : goal.returns-in-Ok-clause-ends
 returns-in-Ok-clause-ends g c =

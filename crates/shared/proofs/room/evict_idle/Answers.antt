@@ -1,11 +1,14 @@
-use Rattle.std.proofs.Common.{subst, sym}
+use Rattle.std.proofs.Common.{ap, subst, sym, ◌∙◌}
 use Rattle.std.specs.Prelude.{if◌then◌else◌}
+use Rattle.machine.specs.Tests.{has_idle}
 use Rattle.machine.specs.declared.event.Event.TheVariants as event
 use Rattle.held.proofs.Seats.{goes_by, goes_on}
 use Rattle.shared.specs.Workers.{LetsGo}
+use Rattle.shared.proofs.Finding.{finds_none_idle}
 use Rattle.shared.proofs.Letting.{evicted_gone}
 use Rattle.shared.proofs.Making.{goes_denied}
 use Rattle.shared.proofs.Owning.{only_evict_denied, only_evicts}
+use Rattle.shared.proofs.Rooming.{evict_none}
 use Rattle.shared.proofs.room.evict_idle.Goals as goal
 
 pub returns-in-Ok-clause-goes : goal.returns-in-Ok-clause-goes
@@ -31,3 +34,11 @@ returns-in-Ok-clause-only g c =
 pub returns-in-Err-evict-clause-only : goal.returns-in-Err-evict-clause-only
 returns-in-Err-evict-clause-only g c =
     only_evict_denied _ _ _ _ _ _ _ _ _ _ c.in_default.ensures.made c.in-Err-evict.ensures.denied
+
+-- no page was idle, and none is after it
+pub returns-in-Ok-clause-found : goal.returns-in-Ok-clause-found
+returns-in-Ok-clause-found g c = λ gave.
+    let none = evict_none c.in-Ok.page _ _ _ _ _ _ _ _ _ c.in_default.ensures.made c.in-Ok.ensures.made
+    (sym c.is_some.ensures ∙ gave) in
+    finds_none_idle g.B.Naming.sizes g.B.Naming.name c.evict.new.seat c.evict.new.self.log.history
+    c.evict.new.self.core.state c.in-Ok.ensures.made.entered.sees c.core.ensures.named (ap has_idle none.1 ∙ none.0)

@@ -2,11 +2,16 @@ use Rattle.std.specs.Prelude.{◌+◌, vec_len}
 use Rattle.storm.proofs.run.over.Given as goal
 
 -- the parts that were just made
-abbrev pub ghosts-history : goal.ghosts-history
-ghosts-history g a = record {
+abbrev pub ghosts-history-B-Naming : goal.ghosts-history-B-Naming
+ghosts-history-B-Naming g a = record {
   name = a.parts.name;
   table = a.parts.held.log.table;
   board = a.parts.board;
   sizes = a.parts.geometry;
   seats = vec_len a.seats + 1;
+  blocks = a.parts.deeds.blocks;
 }
+
+-- and their deeds
+abbrev pub ghosts-history-B-NamesDeeds : goal.ghosts-history-B-NamesDeeds
+ghosts-history-B-NamesDeeds g a = record { deeds = a.parts.deeds.table; told = a.parts.deeds.told }

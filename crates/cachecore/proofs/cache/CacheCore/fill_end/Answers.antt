@@ -1,17 +1,20 @@
 use Rattle.std.proofs.Common.{ap, length, sym, ◌∙◌, ◌≡◌}
+use Rattle.std.proofs.lemmas.Bool.{or_right}
 use Rattle.std.specs.Prelude.{is_some}
 use Rattle.std.specs.FinMap as map
 use Rattle.std.specs.FinSet as set
 use Rattle.pc_types.specs.Tags.{no_tags}
 use Rattle.pc_types.specs.declared.kind.Kind.TheVariants.{Fill}
 use Rattle.blockdev.specs.declared.job.FinishedParts.{FinishedParts}
-use Rattle.pagestore.specs.Store.{Store, stored_at, with_pages}
+use Rattle.pagestore.specs.Store.{Store, is_awaited, stored_at, stored_page, with_pages}
 use Rattle.writeback.specs.Flights as flights
 use Rattle.writeback.specs.Requests.{request_of}
 use Rattle.machine.specs.declared.event.Reply.TheVariants as reply
 use Rattle.machine.specs.declared.event.Reply.{Reply}
+use Rattle.machine.specs.ListChanges.{lists_unfilled}
+use Rattle.machine.specs.PageLists.{left}
 use Rattle.machine.specs.State.{State}
-use Rattle.cachecore.proofs.CoreViews.{state_is}
+use Rattle.cachecore.proofs.CoreViews.{lists_are, state_is}
 use Rattle.cachecore.proofs.EndSteps.{Ends, known, stranger_step}
 use Rattle.cachecore.proofs.Parts.{Parts, parts_of, state_by}
 use Rattle.cachecore.proofs.EndCalls.{Seen, awaited_here, fill_done, fill_dropped, fill_fails}
@@ -57,11 +60,13 @@ finish_fill-requires-clause-filling c =
     awaited_here (parts_of c.self.inside) c.self.invariant c.args.finished (request_of c.in-Some.request) c.args.self.now.state (state_is c.self.view_is) (ends b)
     c.if-request.false
 
-pub abandon_fill-requires-clause-filling : goal.abandon_fill-requires-clause-filling
-abandon_fill-requires-clause-filling c =
-    let b = (goal.at.abandon_fill-requires-clause-filling c).In-Some in
-    awaited_here (parts_of c.self.inside) c.self.invariant c.args.finished (request_of c.in-Some.request) c.args.self.now.state (state_is c.self.view_is) (ends b)
-    c.if-request.false
+pub leave-requires-clause-there : goal.leave-requires-clause-there
+leave-requires-clause-there c =
+    let b = (goal.at.leave-requires-clause-there c).In-Some in
+    let x = request_of c.in-Some.request in
+    or_right (is_some (stored_page c.self.inside.pages x.file x.page)) (is_awaited c.self.inside.pages x.file x.page)
+    (awaited_here (parts_of c.self.inside) c.self.invariant c.args.finished x c.args.self.now.state (state_is c.self.view_is) (ends b)
+    c.if-request.false)
 
 -- as many bytes as a page
 sized : (c : In-Some) → length c.args.finished.bytes ≡ c.self.inside.geometry.page
@@ -99,9 +104,9 @@ invariant_of-self-in-Ok c = (done c).cache
 pub returns-in-Ok-clause-step : goal.returns-in-Ok-clause-step
 returns-in-Ok-clause-step c = (done c).step
 
-failed : (c : goal.After-abandon_fill) → Goes (goal.at.invariant_of-self-in-Err c).In-Some (reply.Failed c.in-Err.code)
+failed : (c : goal.After-leave) → Goes (goal.at.invariant_of-self-in-Err c).In-Some (reply.Failed c.in-Err.code)
     (record (parts_of c.self.inside) {
-      store = c.abandon_fill.new.self;
+      store = c.leave.new.self;
       blocks = c.release.new.self;
       flights = c.end.new.self;
     })
@@ -109,7 +114,8 @@ failed c =
     let b = (goal.at.invariant_of-self-in-Err c).In-Some in
     fill_fails (parts_of c.self.inside) c.self.invariant c.args.finished (request_of c.in-Some.request) c.args.self.now.state (state_is c.self.view_is) (ends b)
     c.if-request.false c.in-Err.code (sym (ap (λ (k : FinishedParts). k.outcome) c.into_parts-buffer.ensures) ∙ c.in-Err.is) _ _ _
-    c.abandon_fill.ensures c.release.ensures
+    (c.leave.ensures.fill (awaited_here (parts_of c.self.inside) c.self.invariant c.args.finished (request_of c.in-Some.request)
+    c.args.self.now.state (state_is c.self.view_is) (ends b) c.if-request.false)) c.release.ensures
     (c.end.ensures.ended
     ∙ ap (λ (k : FinishedParts). flights.ended c.self.inside.requests k.serial.0) c.into_parts-buffer.ensures)
 
@@ -118,3 +124,18 @@ invariant_of-self-in-Err c = (failed c).cache
 
 pub returns-in-Err-clause-step : goal.returns-in-Err-clause-step
 returns-in-Err-clause-step c = (failed c).step
+
+-- the page that was filling leaves its list
+lists_left : (c : goal.After-leave)
+    → c.leave.new.self.lists ≡ lists_unfilled (map.get c.args.self.now.state.requests c.args.finished.serial) c.args.self.now.lists
+lists_left c =
+    let b = (goal.at.invariant_of-self-in-Err c).In-Some in
+    let x = request_of c.in-Some.request in
+    ap (λ (s : Store). s.lists)
+    (c.leave.ensures.fill (awaited_here (parts_of c.self.inside) c.self.invariant c.args.finished x c.args.self.now.state
+    (state_is c.self.view_is) (ends b) c.if-request.false)) ∙ ap (left x.file x.page) (lists_are c.self.view_is)
+    ∙ ap (λ o. lists_unfilled o c.args.self.now.lists)
+    (sym (ap (λ (s : State). map.get s.requests c.args.finished.serial) (sym (state_is c.self.view_is)) ∙ (ends b).found))
+
+pub returns-in-Err-clause-lists : goal.returns-in-Err-clause-lists
+returns-in-Err-clause-lists c = lists_left c

@@ -1,5 +1,6 @@
-use Rattle.std.proofs.Common.{arith, ap, refl, sym, subst, ◌≡◌, ℕ, ◌-◌, ◌<◌, ◌∙◌, false, true, List, [], length}
-use Rattle.std.specs.Prelude.{Ok, Some, option_map, unwrap_or}
+use Rattle.std.proofs.Common.{arith, ap, refl, sym, subst, ◌≡◌, ℕ, ◌+◌, ◌-◌, ◌<◌, ◌∙◌, false, true, List, [], length}
+use Rattle.std.proofs.lemmas.Bool.{or_right}
+use Rattle.std.specs.Prelude.{Ok, Some, is_some, option_map, unwrap_or}
 use Rattle.std.specs.FinSet as set
 use Rattle.std.specs.FinMap as map
 use Rattle.blockdev.specs.Device as device
@@ -18,7 +19,7 @@ use Rattle.machine.specs.PageLists as lists
 use Rattle.machine.specs.State.{State, free_frames, is_cached, is_filling, spot_at}
 use Rattle.machine.specs.Tests.{is_full}
 use Rattle.machine.specs.Step.{Step}
-use Rattle.pagestore.specs.Store.{Store, is_awaited}
+use Rattle.pagestore.specs.Store.{Store, is_awaited, stored_page}
 use Rattle.pagestore.proofs.PairLemmas.{when_ok}
 use Rattle.cachecore.proofs.AtOnceCalls.{ReadGoes, awaits_it, being_read, read_done, read_ends, read_fails, read_file, read_its}
 use Rattle.cachecore.proofs.AtOnceCalls.{read_job, read_step, unfilled_lists}
@@ -73,19 +74,26 @@ began : (g : Given) (c : After-pass g) → c.start_fill.new.self ≡ record c.se
 }
 began g c = when_ok c.start_fill.result _ c.if-is_err.ensures.value c.start_fill.ensures.ok
 
+-- the page is awaited, as long as the store is that of its begin
+awaits : (g : Given) (c : After-pass g) (x : Store) → x ≡ record c.self.inside.pages {
+  filling = set.insert c.self.inside.pages.filling (c.args.file.0, c.args.page.0);
+  free = c.self.inside.pages.free - 1;
+  lists = lists.entered c.args.file.0 c.args.page.0 c.self.inside.pages.lists;
+} → is_awaited x c.args.file.0 c.args.page.0 ≡ true
+awaits g c x is = ap (λ (x : Store). is_awaited x c.args.file.0 c.args.page.0) is
+    ∙ awaits_it (parts_of c.self.inside) c.self.invariant c.args.file.0 c.args.page.0 (absent g c) (idle g c) c.args.block.0
+    (placed g c) (place g c) (here g c) (frames g c) (serials g c) [] [] (Ok tt)
+
 pub fill_by-requires-clause-filling : goal.fill_by-requires-clause-filling
 fill_by-requires-clause-filling g c =
     let b = (goal.at.fill_by-requires-clause-filling g c).After-pass in
-    ap (λ (x : Store). is_awaited x c.args.file.0 c.args.page.0) (began g b)
-    ∙ awaits_it (parts_of c.self.inside) c.self.invariant c.args.file.0 c.args.page.0 (absent g b) (idle g b) c.args.block.0
-    (placed g b) (place g b) (here g b) (frames g b) (serials g b) [] [] (Ok tt)
+    awaits g b c.start_fill.new.self (began g b)
 
-pub abandon_fill-requires-clause-filling : goal.abandon_fill-requires-clause-filling
-abandon_fill-requires-clause-filling g c =
-    let b = (goal.at.abandon_fill-requires-clause-filling g c).After-pass in
-    ap (λ (x : Store). is_awaited x c.args.file.0 c.args.page.0) (c.in-Err.ensures.failed ∙ began g b)
-    ∙ awaits_it (parts_of c.self.inside) c.self.invariant c.args.file.0 c.args.page.0 (absent g b) (idle g b) c.args.block.0
-    (placed g b) (place g b) (here g b) (frames g b) (serials g b) [] [] (Ok tt)
+pub leave-requires-clause-there : goal.leave-requires-clause-there
+leave-requires-clause-there g c =
+    let b = (goal.at.leave-requires-clause-there g c).After-pass in
+    or_right (is_some (stored_page c.fill_by.new.self c.args.file.0 c.args.page.0)) (is_awaited c.fill_by.new.self c.args.file.0 c.args.page.0)
+    (awaits g b c.fill_by.new.self (c.in-Err.ensures.failed ∙ began g b))
 
 -- how it ended well
 done : (g : Given) (c : goal.In-Ok g) → (let b = (goal.at.invariant_of-self-in-Ok g c).After-pass in
@@ -102,16 +110,26 @@ done g c =
 pub invariant_of-self-in-Ok : goal.invariant_of-self-in-Ok
 invariant_of-self-in-Ok g c = (done g c).cache
 
+-- the page is absent again
+left : (g : Given) (c : goal.After-leave g) → c.leave.new.self ≡ record c.fill_by.new.self {
+  filling = set.remove c.fill_by.new.self.filling (c.args.file.0, c.args.page.0);
+  free = c.fill_by.new.self.free + 1;
+  lists = lists.left c.args.file.0 c.args.page.0 c.fill_by.new.self.lists;
+}
+left g c =
+    let b = (goal.at.invariant_of-self-in-Err g c).After-pass in
+    c.leave.ensures.fill (awaits g b c.fill_by.new.self (c.in-Err.ensures.failed ∙ began g b))
+
 -- how it failed
-failed : (g : Given) (c : goal.After-abandon_fill g) → (let b = (goal.at.invariant_of-self-in-Err g c).After-pass in
+failed : (g : Given) (c : goal.After-leave g) → (let b = (goal.at.invariant_of-self-in-Err g c).After-pass in
     ReadGoes (parts_of c.self.inside) c.self.invariant c.args.file.0 c.args.page.0 (absent g b) (idle g b) c.args.block.0
     (placed g b) (place g b) (here g b) (frames g b) (serials g b) c.in-Err.ensures.before c.in-Err.ensures.after c.fill_by.result (reply.Failed c.in-Err.code)
-    (record (parts_of c.self.inside) { store = c.abandon_fill.new.self; flights = c.pass.new.self }))
+    (record (parts_of c.self.inside) { store = c.leave.new.self; flights = c.pass.new.self }))
 failed g c =
     let b = (goal.at.invariant_of-self-in-Err g c).After-pass in
     read_fails (parts_of c.self.inside) c.self.invariant c.args.file.0 c.args.page.0 (absent g b) (idle g b) c.args.block.0
     (placed g b) (place g b) (here g b) (frames g b) (serials g b) c.in-Err.ensures.before c.in-Err.ensures.after c.fill_by.result c.in-Err.code c.in-Err.is
-    c.fill_by.new.self c.abandon_fill.new.self c.pass.new.self (c.in-Err.ensures.failed ∙ began g b) c.abandon_fill.ensures
+    c.fill_by.new.self c.leave.new.self c.pass.new.self (c.in-Err.ensures.failed ∙ began g b) (left g c)
     c.pass.ensures
 
 pub invariant_of-self-in-Err : goal.invariant_of-self-in-Err
@@ -224,7 +242,7 @@ returns-in-Err g c = λ h found.
         unflushed = e.unflushed;
       };
       ends = (failed g c).step;
-      lists = ap (λ (x : Store). x.lists) c.abandon_fill.ensures
+      lists = ap (λ (x : Store). x.lists) (left g c)
           ∙ ap (lists.left c.args.file.0 c.args.page.0) (ap (λ (x : Store). x.lists) e.failed ∙ start)
           ∙ sym (unfilled_lists (parts_of c.self.inside) c.self.invariant c.args.file.0 c.args.page.0 (absent g b) (idle g b) c.args.block.0
           (placed g b) (place g b) (here g b) (frames g b) (serials g b) e.before e.after c.fill_by.result _);

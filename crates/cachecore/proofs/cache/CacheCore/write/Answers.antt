@@ -103,7 +103,7 @@ returns-in_err-write_pages-clause-step c =
     (err_is c.from_residual-in_err-write_pages.result Memory c.from_residual-in_err-write_pages.ensures.1))
     (write_no_memory s c.args.handle c.args.offset c.in-Some.file c.args.bytes.now w.found w.some w.short w.small
     c.in_default-write_stop.ensures c.write_pages.new.self.state c.in_ok-check_room.ensures
-    (state_is c.in_err-write_pages.ensures.err)))
+    c.in_err-write_pages.ensures.wanting (state_is c.in_err-write_pages.ensures.err)))
 
 pub returns-clause-step : goal.returns-clause-step
 returns-clause-step c =

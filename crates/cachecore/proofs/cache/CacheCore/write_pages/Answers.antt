@@ -1,15 +1,18 @@
-use Rattle.std.proofs.Common.{arith, sym, ap, subst, refl, max, ◌∙◌, ◌≡◌, ◌+◌, ◌-◌, ◌/◌, ◌<◌, ℕ, length}
+use Rattle.std.proofs.Common.{arith, sym, ap, subst, refl, max, ◌∙◌, ◌≡◌, ◌+◌, ◌-◌, ◌/◌, ◌<◌, ℕ, length, true}
 use Rattle.std.specs.Prelude.{None}
 use Rattle.blockmap.specs.Blocks.{Blocks}
 use Rattle.machine.specs.State.{State, handle_file}
 use Rattle.cachecore.specs.Core.{Core}
 use Rattle.machine.specs.Changes.{put_file, written}
 use Rattle.machine.specs.ListChanges.{lists_written}
+use Rattle.machine.specs.Step.{wants_memory}
 use Rattle.machine.specs.Tests.{write_tests}
 use Rattle.pagestore.specs.Ranges.{AreSized, IsLaid}
+use Rattle.pagestore.proofs.RangeLemmas.{on_err_of}
 use Rattle.pagestore.specs.Store.{Store, stored_at, with_lists, with_pages}
 use Rattle.pagestore.specs.Syncing.{failed_of}
 use Rattle.cachecore.specs.Tables.{IsCache, IsCore, state_of}
+use Rattle.cachecore.proofs.MemoryWants.{wants_of}
 use Rattle.cachecore.proofs.WriteMoves.{written_lists}
 use Rattle.cachecore.proofs.WriteSteps.{WriteSteps, laid_noted, parts, final_files, final_free, final_page, final_idle}
 use Rattle.cachecore.proofs.CoreLemmas.{frames_enough, blocks_enough, none_awaited, write_state, core-written, taken}
@@ -144,3 +147,13 @@ returns-clause-lists c =
     c.which_cached-cached.ensures (ap lists c.in_ok-place.ensures.written.rest)
     (ap lists c.set_size.ensures ∙ ap lists c.access_cached.ensures)
     ∙ ap (λ (k : Core). lists_written k.state f o n k.lists) c.self.view_is
+
+pub returns-in_err-place-clause-wanting : goal.returns-in_err-place-clause-wanting
+returns-in_err-place-clause-wanting c =
+    let a = c.self.inside in
+    let f = c.args.file in
+    let o = c.args.offset in
+    let n = length c.args.bytes.now in
+    on_err_of c.from_residual.result _ (subst (λ s. wants_memory s f o n ≡ true) (state_is c.self.view_is)
+    (wants_of (state_of a.geometry a.name a.pages.files a.handles a.blocks a.requests a.syncs) f o n c.page-page_size.result
+    c.page-page_size.ensures.value a.pages a.blocks refl refl c.in_err-place.ensures.wanting))

@@ -3,8 +3,9 @@ use Rattle.std.specs.Prelude.{option_map}
 use Rattle.std.specs.FinMap as finmap
 use Rattle.pc_types.specs.TagBits.{tag_set}
 use Rattle.xarray.specs.MarkedArray.{Array}
+use Rattle.maps.specs.Maps.{change_at}
 use Rattle.mapping.specs.declared.totals.Totals.{Totals}
-use Rattle.mapping.specs.Pages.{FilePages, Mapped, Pages, change_at, seen, tags_after, with_tags_after}
+use Rattle.mapping.specs.Pages.{FilePages, Mapped, Pages, seen, tags_after, with_tags_after}
 use Rattle.mapping.specs.Totals.{with_page}
 use Rattle.mapping.specs.View.{pages_of, tags_of, IsCounted}
 use Rattle.mapping.proofs.ArrayLemmas.{few_pages, marked_frame, marked_none, marked_there, pages_of-changed}

@@ -4,8 +4,9 @@ use Rattle.std.specs.FinMap as finmap
 use Rattle.std.proofs.lemmas.Bool.{false≢true}
 use Rattle.pc_types.specs.Tags.{TagSet, has}
 use Rattle.xarray.specs.MarkedArray.{Array, marks_of}
+use Rattle.maps.specs.Maps.{change_at}
 use Rattle.mapping.specs.declared.totals.Totals.{Totals}
-use Rattle.mapping.specs.Pages.{FilePages, Pages, change_at, with_tags}
+use Rattle.mapping.specs.Pages.{FilePages, Pages, with_tags}
 use Rattle.mapping.specs.Totals.{one, with_page}
 use Rattle.mapping.specs.View.{pages_of, tags_of, IsCounted}
 use Rattle.mapping.proofs.ArrayLemmas.{few_pages, marks_there, pages_of-given, told_none}

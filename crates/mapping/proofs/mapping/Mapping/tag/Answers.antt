@@ -3,8 +3,9 @@ use Rattle.std.specs.Prelude.{is_some}
 use Rattle.std.specs.FinMap as finmap
 use Rattle.std.proofs.lemmas.Bool.{false≢true}
 use Rattle.xarray.specs.MarkedArray.{Array, Ranges, has_mark, remarked}
+use Rattle.maps.specs.Maps.{change_at}
 use Rattle.mapping.specs.declared.totals.Totals.{Totals}
-use Rattle.mapping.specs.Pages.{FilePages, Pages, with_tag, change_at}
+use Rattle.mapping.specs.Pages.{FilePages, Pages, with_tag}
 use Rattle.mapping.specs.Totals.{total, with_total}
 use Rattle.mapping.specs.View.{pages_of, IsCounted}
 use Rattle.mapping.proofs.ArrayLemmas.{few_pages, mark_there, pages_of-remarked, told_none}

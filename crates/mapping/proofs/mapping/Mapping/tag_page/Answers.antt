@@ -1,7 +1,8 @@
 use Rattle.std.proofs.Common.{◌≡◌, ap, ◌∙◌, true}
 use Rattle.pc_types.specs.TagBits.{tag_set}
 use Rattle.pc_types.specs.Tags.{TagSet, no_tags, put}
-use Rattle.mapping.specs.Pages.{FilePages, Mapped, change_at, with_tags_after}
+use Rattle.maps.specs.Maps.{change_at}
+use Rattle.mapping.specs.Pages.{FilePages, Mapped, with_tags_after}
 use Rattle.mapping.proofs.PageLemmas.{tagging}
 use Rattle.mapping.proofs.mapping.Mapping.tag_page.Goals as goal
 

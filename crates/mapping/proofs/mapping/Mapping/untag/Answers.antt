@@ -1,7 +1,8 @@
 use Rattle.std.proofs.Common.{◌-◌, false, ap, sym, subst, ◌∙◌, arith}
 use Rattle.xarray.specs.MarkedArray.{Array, Ranges, remarked}
+use Rattle.maps.specs.Maps.{change_at}
 use Rattle.mapping.specs.declared.totals.Totals.{Totals}
-use Rattle.mapping.specs.Pages.{FilePages, Pages, with_tag, change_at}
+use Rattle.mapping.specs.Pages.{FilePages, Pages, with_tag}
 use Rattle.mapping.specs.Totals.{total, with_total}
 use Rattle.mapping.specs.View.{pages_of, IsCounted}
 use Rattle.mapping.proofs.ArrayLemmas.{had_mark, pages_of-remarked}

@@ -1,4 +1,5 @@
-use Rattle.std.proofs.Common.{arith, ap, sym, refl, ◌∙◌, ◌≡◌, ◌+◌, ◌-◌, ◌*◌, ◌<◌, [], length}
+use Rattle.std.proofs.Common.{arith, ap, sym, refl, ℕ, ◌∙◌, ◌≡◌, ◌+◌, ◌-◌, ◌*◌, ◌<◌, ◌≤◌, [], length, false, true}
+use Rattle.std.proofs.lemmas.Bool.{or_left}
 use Rattle.std.specs.Prelude.{is_some, Some, None}
 use Rattle.std.specs.FinMap as map
 use Rattle.pc_types.proofs.FileLaws.{length-cut}
@@ -7,8 +8,8 @@ use Rattle.machine.specs.Changes.{written_page}
 use Rattle.machine.specs.PageLists.{left}
 use Rattle.machine.specs.State.{Page}
 use Rattle.machine.proofs.changes.WriteLengths.{length-overlay}
-use Rattle.pagestore.specs.Ranges.{with_part}
-use Rattle.pagestore.specs.Store.{Store, blank, stored_at, stored_page, the_page, with_lists, with_pages}
+use Rattle.pagestore.specs.Ranges.{HasAbsent, with_part}
+use Rattle.pagestore.specs.Store.{Store, blank, is_awaited, stored_at, stored_page, the_page, with_lists, with_pages}
 use Rattle.pagestore.proofs.Overlay.{touched_above, touched_below}
 use Rattle.pagestore.proofs.PairLemmas.{on_ok, when_err, when_ok, written_part}
 use Rattle.pagestore.proofs.RangeLemmas.{ne_less, none_of, room_some, on_err_of, mid_cached, mid_here, mid_idle, mid_room}
@@ -131,8 +132,8 @@ write-rest-requires t c =
       ),
     )
 
-pub remove-requires-clause-cached : goal.remove-requires-clause-cached
-remove-requires-clause-cached t c =
+pub leave-requires-clause-there : goal.leave-requires-clause-there
+leave-requires-clause-there t c =
     let P = c.args.span.page_size in
     let f = c.args.span.file in
     let o = c.args.span.offset in
@@ -150,8 +151,9 @@ remove-requires-clause-cached t c =
     let is = c.in_ok-make_with.ensures.ok in
     let same : c.write-rest.new.self ≡ mid = when_err c.write-rest.result _ c.if-is_err.ensures.value
     c.write-rest.ensures.err in
-    ap (λ (s : Store). is_some (stored_page s f p)) same
-    ∙ mid_cached P f o b p end old less c.requires.here gone room page mid is
+    or_left (is_some (stored_page c.write-rest.new.self f p)) (is_awaited c.write-rest.new.self f p)
+    (ap (λ (s : Store). is_some (stored_page s f p)) same
+    ∙ mid_cached P f o b p end old less c.requires.here gone room page mid is)
 
 pub returns-then-is_err-clause-err : goal.returns-then-is_err-clause-err
 returns-then-is_err-clause-err t c =
@@ -172,9 +174,12 @@ returns-then-is_err-clause-err t c =
     let is = c.in_ok-make_with.ensures.ok in
     let same : c.write-rest.new.self ≡ mid = when_err c.write-rest.result _ c.if-is_err.ensures.value
     c.write-rest.ensures.err in
+    let there : is_some (stored_page c.write-rest.new.self f p) ≡ true =
+    ap (λ (s : Store). is_some (stored_page s f p)) same
+    ∙ mid_cached P f o b p end old less c.requires.here gone room page mid is in
     on_err_of c.write-rest.result _
-    (unmade P f o b p end old less c.requires.here gone room page mid is c.make_with.ensures.unlisted c.remove.new.self
-    (c.remove.ensures ∙ ap (λ (s : Store). with_lists
+    (unmade P f o b p end old less c.requires.here gone room page mid is c.make_with.ensures.unlisted c.leave.new.self
+    (c.leave.ensures.page there ∙ ap (λ (s : Store). with_lists
     (with_pages s f (map.remove (stored_at s f).pages p) (s.free + 1)) (left f p s.lists)) same))
 
 pub returns-else-is_err-clause-written : goal.returns-else-is_err-clause-written
@@ -207,3 +212,36 @@ returns-else-is_err-clause-written t c =
     (length-cut [] P) above below c.requires.some c.requires.positive in
     on_ok c.write-rest.result _ (λ _. written_more P f o b p end old less c.requires.here gone room page mid is page_is
     c.write-rest.new.self (when_ok c.write-rest.result _ c.if-is_err.ensures.value c.write-rest.ensures.written))
+
+-- ---- a write that is refused
+
+absent_here : (s : Store) (f p end : ℕ) → p ≤ end → (p ≡ end → ⊥) → false ≡ is_some (stored_page s f p) → HasAbsent f p end s
+absent_here s f p end order other gone =
+    record { page = p; from = omega arith; before = ne_less p end order other; absent = sym gone }
+
+absent_later : (s : Store) (f p end : ℕ) → HasAbsent f (p + 1) end s → HasAbsent f p end s
+absent_later s f p end h =
+    let from = h.from in record { page = h.page; from = omega (arith, from); before = h.before; absent = h.absent }
+
+pub returns-in_err-write-clause-absent : goal.returns-in_err-write-clause-absent
+returns-in_err-write-clause-absent t c =
+    on_err_of c.from_residual.result _
+    (absent_later c.args.self.now c.args.span.file c.args.page c.args.span.end c.in_err-write.ensures.absent)
+
+pub returns-in_err-make_with-clause-absent : goal.returns-in_err-make_with-clause-absent
+returns-in_err-make_with-clause-absent t c =
+    on_err_of c.from_residual-in_err-make_with.result _
+    (absent_here c.args.self.now c.args.span.file c.args.page c.args.span.end c.requires.order c.if-page-span.false
+    c.if-is_cached.ensures)
+
+pub returns-then-is_err-clause-absent : goal.returns-then-is_err-clause-absent
+returns-then-is_err-clause-absent t c =
+    on_err_of c.write-rest.result _
+    (absent_here c.args.self.now c.args.span.file c.args.page c.args.span.end c.requires.order c.if-page-span.false
+    c.if-is_cached.ensures)
+
+pub returns-else-is_err-clause-absent : goal.returns-else-is_err-clause-absent
+returns-else-is_err-clause-absent t c =
+    on_err_of c.write-rest.result _
+    (absent_here c.args.self.now c.args.span.file c.args.page c.args.span.end c.requires.order c.if-page-span.false
+    c.if-is_cached.ensures)

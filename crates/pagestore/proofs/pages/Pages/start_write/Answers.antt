@@ -1,7 +1,7 @@
 use Rattle.std.proofs.Common.{arith, ap, sym, refl, ◌∙◌, ◌-◌}
 use Rattle.std.specs.Int.{from_bool}
 use Rattle.mapping.specs.Pages.{seen, with_tags}
-use Rattle.writeback.specs.Picks as picks
+use Rattle.machine.specs.PageTags as tags
 use Rattle.machine.specs.State.{Page}
 use Rattle.machine.specs.Changes.{under_write}
 use Rattle.pagestore.proofs.StoreFacts.{byte_is}
@@ -47,7 +47,7 @@ invariant_of-self c =
     let x = seen c.in-Some.mapped in
     let one = c.from.ensures ∙ ap from_bool c.has.ensures ∙ byte_is x.tags.dirty in
     let least = counts_dirty w x c.in-Some.ensures.before in
-    tagged_store w x c.in-Some.ensures.before (with_tags picks.under_write) refl
+    tagged_store w x c.in-Some.ensures.before (with_tags tags.under_write) refl
     c.begin_write.new.mapping c.begin_write.ensures.tags (c.self.inside.dirty - c.from.result)
     (λ aside. refl)
     (omega (arith, one, least))
@@ -55,7 +55,7 @@ invariant_of-self c =
 pub returns-clause-begun : goal.returns-clause-begun
 returns-clause-begun c =
     let w = at (goal.at.returns-clause-begun c).After-index_mut in
-    tagged_seen w (seen c.in-Some.mapped) c.in-Some.ensures.before (with_tags picks.under_write) refl
+    tagged_seen w (seen c.in-Some.mapped) c.in-Some.ensures.before (with_tags tags.under_write) refl
     c.begin_write.new.mapping c.begin_write.ensures.tags under_write refl
 
 pub returns-clause-copy : goal.returns-clause-copy

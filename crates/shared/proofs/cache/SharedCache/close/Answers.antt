@@ -1,7 +1,9 @@
-use Rattle.std.proofs.Common.{◌≢◌, ◌+◌, ap, refl, subst, sym, ◌∙◌}
-use Rattle.std.specs.Prelude.{Some, is_err, vec_len}
+use Rattle.std.proofs.Common.{◌≡◌, ◌≢◌, ◌+◌, ◌<◌, true, false, ap, inl, inr, refl, subst, sym, ◌∙◌}
+use Rattle.std.specs.Prelude.{Any, Some, is_err, vec_len}
 use Rattle.cachecore.specs.Core.{Core}
+use Rattle.pc_types.specs.Limits.{Sizes}
 use Rattle.held.specs.declared.log.Seat.{Seat}
+use Rattle.tied.proofs.Tied.{tied_at, tied_honest}
 use Rattle.shared.specs.Workers.{AllOver}
 use Rattle.shared.proofs.Closing.{not_by_its_own}
 use Rattle.shared.proofs.cache.SharedCache.close.Goals as goal
@@ -15,6 +17,15 @@ returns-in-Err-clause-refused g c = (
       c.args.self.name g.B.Naming.name c.drain.new.own.seat.name c.args.self.named c.drain.ensures.worker.named
       (c.close.ensures.refused.0 (ap is_err c.in-Err.is)),
   λ _. refl,
+)
+
+pub returns-in-Ok-clause-refused : goal.returns-in-Ok-clause-refused
+returns-in-Ok-clause-refused g c = (
+  λ e. absurd (let k : false ≡ true = e in cc),
+  λ bad. sym (ap is_err c.in-Ok.is) ∙ c.close.ensures.refused.1 (elim bad [
+    | inl a ↦ inl a
+    | inr a ↦ inr (inl (subst (λ n. Any (λ (s : Seat). s.name ≢ n) c.args.seats.items) c.args.self.named a))
+  ]),
 )
 
 -- the core that comes back is the one that the ring was emptied into
@@ -35,4 +46,13 @@ returns-in-Ok-clause-closed g c = (
     counted = c.in-Ok.ensures.own.1;
   },
   c.in-Ok.ensures.seats,
+  λ tells. let t = c.in-Ok.ensures.tied tells in record {
+    world = t.world;
+    honest = tied_honest _ _ _ _ _ _ t;
+    core_is = t.core_is;
+    left = c.into_parts-device.result.1;
+    told = c.into_parts-device.ensures.contents tells;
+    each = λ k low free. tied_at _ _ _ _ _ _ t c.in-Ok.ensures.desk c.into_parts-device.result.1 c.close-in-Ok.ensures.knows k
+        (subst (λ (s : Sizes). k < s.blocks) (sym c.in-Ok.ensures.core.1) low) free;
+  },
 )

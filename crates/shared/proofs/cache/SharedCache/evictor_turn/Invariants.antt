@@ -7,7 +7,7 @@ use Rattle.shared.proofs.cache.SharedCache.evictor_turn.Given as goal
 
 abbrev pub invariant-pages : goal.invariant-pages
 invariant-pages g l = record {
-  worker : IsWorkerOf l.self.ring g.B.Naming.name g.B.Naming.table g.B.Naming.sizes l.worker;
+  worker : IsWorkerOf l.self.ring g.B.Naming.name g.B.Naming.table g.B.NamesDeeds.deeds g.B.Naming.sizes l.worker;
   goes : Goes l.initial.worker.seat l.worker.seat;
   only : Only (λ e. IsEviction e.event) l.initial.worker.seat l.worker.seat;
   gone : (pages : ℕ) × LetsGo pages l.initial.worker.seat l.worker.seat × (l.gone ≡ min pages (2 ^ 64 - 1));

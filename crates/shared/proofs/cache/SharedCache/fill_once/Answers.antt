@@ -1,7 +1,8 @@
-use Rattle.std.proofs.Common.{◌≡◌, true}
+use Rattle.std.proofs.Common.{◌≡◌, ap, true}
 use Rattle.std.proofs.lemmas.Result.{IfErr-weaker}
 use Rattle.machine.specs.declared.event.Event.TheVariants as event
 use Rattle.held.proofs.Seats.{goes_by, goes_on}
+use Rattle.held.specs.Started.{as_fill}
 use Rattle.shared.specs.Denials.{IsDenied}
 use Rattle.shared.specs.Own.{IsHelp, IsStillDenied}
 use Rattle.shared.specs.Rooms.{IsCrammed, IsFinal, IsFinalOr, IsLost, IsUnwritten, wants_room}
@@ -81,12 +82,12 @@ returns-in-Err-fill_begin-clause-page g c =
 
 pub returns-in-Job-clause-settled : goal.returns-in-Job-clause-settled
 returns-in-Job-clause-settled g c =
-    fill_settles g.B.Naming.name c.args.handle c.args.page _ c.in-Job.job _ _ _ _ _ _ c.fill_by.result c.in-Job.is
+    fill_settles g.B.Naming.name c.args.handle c.args.page _ c.in-Job.job _ _ _ _ _ _ c.fill_by.result (ap as_fill c.in-Job.is)
     c.in-Ok-fill_begin.ensures.made c.in-Ok-fill_begin.ensures.job c.fill_by.ensures.ends
 
 pub returns-in-Job-clause-page : goal.returns-in-Job-clause-page
 returns-in-Job-clause-page g c =
-    other_filled g.B.Naming.name c.args.handle c.args.page _ c.in-Job.job _ _ _ _ _ _ c.fill_by.result c.in-Job.is
+    other_filled g.B.Naming.name c.args.handle c.args.page _ c.in-Job.job _ _ _ _ _ _ c.fill_by.result (ap as_fill c.in-Job.is)
     c.in-Ok-fill_begin.ensures.made c.in-Ok-fill_begin.ensures.job c.fill_by.ensures.ends
 
 pub returns-clause-settled : goal.returns-clause-settled

@@ -1,7 +1,6 @@
-use Rattle.std.proofs.Common.{◌≡◌, ap, rules, subst, sym}
+use Rattle.std.proofs.Common.{◌≡◌, rules, subst, sym}
 use Rattle.std.specs.Prelude.{is_some}
 use Rattle.blockdev.specs.Jobs.{IsJobFor, Task}
-use Rattle.ring.specs.declared.log.Log.{Log}
 use Rattle.held.specs.Called.{Only}
 use Rattle.held.proofs.Seats.{goes_on}
 use Rattle.shared.specs.Settled.{IsBegun}
@@ -15,62 +14,62 @@ use Rattle.shared.proofs.cache.SharedCache.flusher_turn.Goals as goal
 
 pub end_job-requires-clause-fits : goal.end_job-requires-clause-fits
 end_job-requires-clause-fits g c =
-    subst (IsJobFor g.B.Naming.name g.B.Naming.sizes.blocks g.B.Naming.sizes.page) (sym c.in-Err-push.ensures.answer.0)
+    subst (IsJobFor g.B.Naming.name g.B.Naming.sizes.blocks g.B.Naming.sizes.page) (sym c.in-Err-put.ensures.answer.0)
     (rw c.in-Ok-Some.field-0-is at c.in-Ok-Some.ensures.fits)
 
 pub returns-in-Ok-clause-done : goal.returns-in-Ok-clause-done
 returns-in-Ok-clause-done g c = (
-  c.in-Err-push.job,
+  c.in-Err-put.job,
   sym c.in-Ok.ensures.ended.0,
   subst (λ (j : Task). Begins g.B.Naming.sizes g.B.Naming.name j c.args.worker.now.seat c.end_job.new.seat c.in-Ok-Some.begun.1)
-      (sym c.in-Err-push.ensures.answer.0)
+      (sym c.in-Err-put.ensures.answer.0)
       (begins_then g.B.Naming.sizes g.B.Naming.name c.in-Ok-Some.begun.0 c.args.worker.now.seat c.begin_flush.new.seat
       c.end_job.new.seat c.in-Ok-Some.begun.1 (rw c.in-Ok-Some.field-0-is at c.in-Ok-Some.ensures.begun) c.end_job.ensures.goes),
-  ends_on c.in-Err-push.job c.args.worker.now.seat c.begin_flush.new.seat c.end_job.new.seat c.in-Ok.done.slip
+  ends_on c.in-Err-put.job c.args.worker.now.seat c.begin_flush.new.seat c.end_job.new.seat c.in-Ok.done.slip
       (is_some c.in-Ok.done.failed) c.begin_flush.ensures.goes c.in-Ok.ensures.ended.1,
-  ap (λ (v : Log). v.pushed) c.in-Err-push.ensures.answer.1,
+  c.in-Err-put.ensures.answer.1,
 )
 
 pub returns-in-Ok-clause-only : goal.returns-in-Ok-clause-only
 returns-in-Ok-clause-only g c =
-    only_flushed c.in-Err-push.job c.args.worker.now.seat c.begin_flush.new.seat c.end_job.new.seat c.begin_flush.ensures.only
+    only_flushed c.in-Err-put.job c.args.worker.now.seat c.begin_flush.new.seat c.end_job.new.seat c.begin_flush.ensures.only
     c.end_job.ensures.only
 
 pub returns-in-Err-end_job-clause-only : goal.returns-in-Err-end_job-clause-only
 returns-in-Err-end_job-clause-only g c =
-    only_flushed c.in-Err-push.job c.args.worker.now.seat c.begin_flush.new.seat c.end_job.new.seat c.begin_flush.ensures.only
+    only_flushed c.in-Err-put.job c.args.worker.now.seat c.begin_flush.new.seat c.end_job.new.seat c.begin_flush.ensures.only
     c.end_job.ensures.only
 
 -- the request that it began is the one that it ended
 pub returns-in-Ok-clause-own : goal.returns-in-Ok-clause-own
 returns-in-Ok-clause-own g c =
-    let job = c.in-Err-push.job in
+    let job = c.in-Err-put.job in
     own_ended g.B.Naming.name (job.kind, job.serial) c.args.worker.now.seat c.begin_flush.new.seat c.end_job.new.seat
     (subst (λ (j : Task). Only (λ e. IsBegun (j.kind, j.serial) e.event e.reply) c.args.worker.now.seat c.begin_flush.new.seat)
-    (sym c.in-Err-push.ensures.answer.0) (rw c.in-Ok-Some.field-0-is at c.in-Ok-Some.ensures.write))
+    (sym c.in-Err-put.ensures.answer.0) (rw c.in-Ok-Some.field-0-is at c.in-Ok-Some.ensures.write))
     (rw c.in-Ok-Some.field-0-is at c.in-Ok-Some.ensures.one) c.end_job.ensures.ends
 
 pub returns-in-Err-end_job-clause-own : goal.returns-in-Err-end_job-clause-own
 returns-in-Err-end_job-clause-own g c =
-    let job = c.in-Err-push.job in
+    let job = c.in-Err-put.job in
     own_ended g.B.Naming.name (job.kind, job.serial) c.args.worker.now.seat c.begin_flush.new.seat c.end_job.new.seat
     (subst (λ (j : Task). Only (λ e. IsBegun (j.kind, j.serial) e.event e.reply) c.args.worker.now.seat c.begin_flush.new.seat)
-    (sym c.in-Err-push.ensures.answer.0) (rw c.in-Ok-Some.field-0-is at c.in-Ok-Some.ensures.write))
+    (sym c.in-Err-put.ensures.answer.0) (rw c.in-Ok-Some.field-0-is at c.in-Ok-Some.ensures.write))
     (rw c.in-Ok-Some.field-0-is at c.in-Ok-Some.ensures.one) c.end_job.ensures.ends
 
 -- the job was put into the ring
 pub returns-in_default-clause-carried : goal.returns-in_default-clause-carried
 returns-in_default-clause-carried g c = λ _.
-    pushed_carried c.args.worker.now (record { seat = c.begin_flush.new.seat; pass = c.push.new.pass }) c.in-Ok-Some.begun.0
+    pushed_carried c.args.worker.now (record { seat = c.begin_flush.new.seat; pass = c.put.new.pass }) c.in-Ok-Some.begun.0
     (rw c.in-Ok-Some.field-0-is at c.in-Ok-Some.ensures.alone) (search rules)
 
 pub returns-in-Ok-clause-carried : goal.returns-in-Ok-clause-carried
 returns-in-Ok-clause-carried g c = λ _.
-    ended_carried c.args.worker.now (record { seat = c.end_job.new.seat; pass = c.push.new.pass }) c.begin_flush.new.seat
-    c.in-Err-push.job c.in-Ok.done.slip (is_some c.in-Ok.done.failed)
+    ended_carried c.args.worker.now (record { seat = c.end_job.new.seat; pass = c.put.new.pass }) c.begin_flush.new.seat
+    c.in-Err-put.job c.in-Ok.done.slip (is_some c.in-Ok.done.failed)
     (subst (λ (j : Task). Only (λ e. OnBegun (λ t. t ≡ j.serial) e.event e.reply) c.args.worker.now.seat c.begin_flush.new.seat)
-    (sym c.in-Err-push.ensures.answer.0) (rw c.in-Ok-Some.field-0-is at c.in-Ok-Some.ensures.alone)) c.end_job.ensures.only
-    (ends_on c.in-Err-push.job c.args.worker.now.seat c.begin_flush.new.seat c.end_job.new.seat c.in-Ok.done.slip
+    (sym c.in-Err-put.ensures.answer.0) (rw c.in-Ok-Some.field-0-is at c.in-Ok-Some.ensures.alone)) c.end_job.ensures.only
+    (ends_on c.in-Err-put.job c.args.worker.now.seat c.begin_flush.new.seat c.end_job.new.seat c.in-Ok.done.slip
     (is_some c.in-Ok.done.failed) c.begin_flush.ensures.goes c.in-Ok.ensures.ended.1)
 
 pub returns-in-Ok-clause-count : goal.returns-in-Ok-clause-count
@@ -81,15 +80,15 @@ returns-in-Ok-clause-count g c =
 -- its end was refused
 pub returns-in-Err-end_job-clause-done : goal.returns-in-Err-end_job-clause-done
 returns-in-Err-end_job-clause-done g c = (
-  c.in-Err-push.job,
+  c.in-Err-put.job,
   subst (λ (j : Task). Begins g.B.Naming.sizes g.B.Naming.name j c.args.worker.now.seat c.end_job.new.seat c.in-Ok-Some.begun.1)
-      (sym c.in-Err-push.ensures.answer.0)
+      (sym c.in-Err-put.ensures.answer.0)
       (begins_then g.B.Naming.sizes g.B.Naming.name c.in-Ok-Some.begun.0 c.args.worker.now.seat c.begin_flush.new.seat
       c.end_job.new.seat c.in-Ok-Some.begun.1 (rw c.in-Ok-Some.field-0-is at c.in-Ok-Some.ensures.begun) c.end_job.ensures.goes),
-  denied_on (IsEndOf c.in-Err-push.job) (IsEndOf c.in-Err-push.job) c.args.worker.now.seat c.begin_flush.new.seat
+  denied_on (IsEndOf c.in-Err-put.job) (IsEndOf c.in-Err-put.job) c.args.worker.now.seat c.begin_flush.new.seat
       c.end_job.new.seat c.in-Err-end_job.denied (λ e x. x) c.begin_flush.ensures.goes c.in-Err-end_job.ensures.denied,
   λ none. (c.in-Err-end_job.ensures.full none).0,
-  ap (λ (v : Log). v.pushed) c.in-Err-push.ensures.answer.1,
+  c.in-Err-put.ensures.answer.1,
 )
 
 pub returns-in-Err-end_job-clause-count : goal.returns-in-Err-end_job-clause-count

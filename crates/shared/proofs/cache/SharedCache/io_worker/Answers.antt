@@ -1,6 +1,7 @@
-use Rattle.std.proofs.Common.{◌∙◌, rules}
-use Rattle.held.proofs.Seats.{goes_on}
-use Rattle.shared.proofs.Ending.{turn_ended, was_idle}
+use Rattle.std.proofs.Common.{◌∙◌, refl, rules}
+use Rattle.held.proofs.Seats.{goes_on, goes_same, only_same}
+use Rattle.shared.specs.Workers.{IsEnd}
+use Rattle.shared.proofs.Ending.{none_ended, turn_ended, was_idle}
 use Rattle.shared.proofs.Owning.{only_ends_on}
 use Rattle.shared.proofs.cache.SharedCache.io_worker.Goals as goal
 
@@ -38,4 +39,13 @@ turns-preserved g c = record {
   ended = turn_ended c.args.worker.now c.turns.worker c.io_turn.new.worker c.in_ok-io_turn.field-0 c.args.self.now.name
       g.B.Naming.board c.turns.invariant.ended c.turns.invariant.goes c.io_turn.ensures.goes
       c.in_ok-io_turn.ensures.idle c.in_ok-io_turn.ensures.ended;
+}
+
+pub turns-init : goal.turns-init
+turns-init g c = record {
+  worker = c.requires.worker;
+  goes = goes_same c.args.worker.now.seat c.args.worker.now.seat refl;
+  only = only_same (λ e. IsEnd e.event) c.args.worker.now.seat c.args.worker.now.seat refl;
+  pushed = refl;
+  ended = none_ended c.args.worker.now;
 }

@@ -5,7 +5,7 @@ use Rattle.shared.proofs.cache.SharedCache.io_worker.Given as goal
 
 abbrev pub invariant-turns : goal.invariant-turns
 invariant-turns g l = record {
-  worker : IsWorkerOf l.self.ring g.B.Naming.name g.B.Naming.table g.B.Naming.sizes l.worker;
+  worker : IsWorkerOf l.self.ring g.B.Naming.name g.B.Naming.table g.B.NamesDeeds.deeds g.B.Naming.sizes l.worker;
   goes : Goes l.initial.worker.seat l.worker.seat;
   only : Only (λ e. IsEnd e.event) l.initial.worker.seat l.worker.seat;
   pushed : pushed_by l.worker ≡ pushed_by l.initial.worker;

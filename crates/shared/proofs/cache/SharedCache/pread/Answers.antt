@@ -1,21 +1,33 @@
-use Rattle.std.proofs.Common.{ℕ, ◌∙◌, List, ap, length, subst, sym}
+use Rattle.std.proofs.Common.{ℕ, ◌∙◌, List, ap, inl, length, refl, subst, sym}
 use Rattle.std.specs.Prelude.{◌⊎◌}
 use Rattle.machine.specs.declared.event.Event.TheVariants as event
 use Rattle.pc_types.specs.declared.ids.HandleId.{HandleId}
 use Rattle.held.specs.Called.{Once, Only}
-use Rattle.held.proofs.Seats.{goes_on}
+use Rattle.held.proofs.Seats.{goes_on, goes_same, only_same}
 use Rattle.shared.specs.Own.{IsTry}
 use Rattle.shared.specs.Rooms.{IsShortFor}
 use Rattle.shared.specs.Seen.{HandleSeen}
 use Rattle.shared.proofs.Owning.{once_try_on, only_try_on}
 use Rattle.shared.proofs.Wanting.{short_admitted, short_on}
 use Rattle.shared.specs.Settled.{FillsMissed, LeavesOne, Settles}
-use Rattle.shared.proofs.Settling.{denied_on, missed_on, settles_on}
+use Rattle.shared.proofs.Settling.{denied_on, missed_on, missed_same, settles_on, settles_same}
 use Rattle.shared.specs.Denials.{IsDenied}
 use Rattle.shared.specs.Own.{IsCallOf}
 use Rattle.shared.specs.Called.{OwnFirst, Retries}
 use Rattle.shared.proofs.Making.{call_on, first_on, retries_on}
 use Rattle.shared.proofs.cache.SharedCache.pread.Goals as goal
+
+pub attempts-init : goal.attempts-init
+attempts-init g c =
+    let seat = c.args.seat.now in
+    let own = event.Read c.args.handle.now.number c.args.offset (length c.args.out.now) in record {
+      goes = goes_same seat seat refl;
+      tried = only_same (IsTry c.args.handle.now.number own) seat seat refl;
+      first = inl refl;
+      settled = settles_same g.B.Naming.name seat seat refl;
+      missed = missed_same own seat seat refl;
+      out = refl;
+    }
 
 pub returns-in-Ok-Some-clause-once : goal.returns-in-Ok-Some-clause-once
 returns-in-Ok-Some-clause-once g c =

@@ -1,12 +1,14 @@
 use Rattle.std.proofs.Common.{◌≡◌, ap, subst}
-use Rattle.std.specs.Prelude.{IfErr}
+use Rattle.std.specs.Prelude.{IfErr, IfOk}
 use Rattle.machine.specs.declared.event.Event.TheVariants as event
+use Rattle.machine.specs.declared.event.Reply.TheVariants as reply
 use Rattle.pc_types.specs.declared.ids.HandleId.{HandleId}
 use Rattle.held.specs.Called.{Only}
 use Rattle.shared.specs.Denials.{IsDenied}
 use Rattle.shared.specs.Seen.{HandleSeen}
 use Rattle.shared.proofs.Owning.{only_event, only_event_denied}
-use Rattle.shared.proofs.Making.{event_denied, event_full}
+use Rattle.shared.specs.Called.{Makes}
+use Rattle.shared.proofs.Making.{answer_made, event_denied, event_full}
 use Rattle.shared.proofs.Answered.{only_answered}
 use Rattle.shared.proofs.Ending.{event_once}
 use Rattle.shared.proofs.cache.SharedCache.size.Goals as goal
@@ -35,3 +37,10 @@ returns-clause-only g c =
 pub returns-clause-refused_once : goal.returns-clause-refused_once
 returns-clause-refused_once g c = event_once c.size.result (event.Size c.handle.inside.number) c.deref_mut.result.now c.size.new.self c.args.seat.now c.size.new.seat
     c.size.ensures.denied
+
+pub returns-clause-answer : goal.returns-clause-answer
+returns-clause-answer g c =
+    subst (λ (n : HandleId). IfOk c.size.result (λ r. Makes c.args.seat.now c.size.new.seat r.1 (event.Size n) (reply.Size r.0)))
+    (ap (λ (h : HandleSeen). h.number) c.handle.view_is)
+    (answer_made c.size.result (event.Size c.handle.inside.number) reply.Size c.deref_mut.result.now c.size.new.self
+    c.args.seat.now c.size.new.seat c.size.ensures.made)

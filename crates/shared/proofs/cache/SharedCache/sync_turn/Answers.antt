@@ -4,6 +4,7 @@ use Rattle.cachecore.specs.Replies.{SyncGivesBack}
 use Rattle.cachecore.specs.declared.answers.SyncStepped.{SyncStepped}
 use Rattle.machine.specs.declared.event.Event.TheVariants as event
 use Rattle.held.specs.declared.log.Slip.{Slip}
+use Rattle.held.specs.Started.{as_sync}
 use Rattle.shared.specs.Denials.{IsDenied}
 use Rattle.shared.specs.Polls.{Hears}
 use Rattle.shared.specs.declared.fsync.Synced.{Synced}
@@ -38,21 +39,21 @@ returns-in-Err-wait_or-clause-tried g c =
     c.in-Err.denied c.in-Err.ensures.denied
 
 pub returns-in-Wait-clause-goes_on : goal.returns-in-Wait-clause-goes_on
-returns-in-Wait-clause-goes_on g c = try_waits c.args.sync _ _ _ _ _ _ _ _ c.in-Wait.is c.in-Ok.ensures.made
+returns-in-Wait-clause-goes_on g c = try_waits c.args.sync _ _ _ _ _ _ _ _ (ap as_sync c.in-Wait.is) c.in-Ok.ensures.made
 
 pub returns-in-Clean-clause-once : goal.returns-in-Clean-clause-once
-returns-in-Clean-clause-once g c = once_clean c.args.sync _ _ _ _ _ _ _ c.in-Clean.is c.in-Ok.ensures.made
+returns-in-Clean-clause-once g c = once_clean c.args.sync _ _ _ _ _ _ _ (ap as_sync c.in-Clean.is) c.in-Ok.ensures.made
 
 pub returns-in-Failed-clause-once : goal.returns-in-Failed-clause-once
-returns-in-Failed-clause-once g c = once_failed c.args.sync _ _ _ _ _ _ _ _ c.in-Failed.is c.in-Ok.ensures.made
+returns-in-Failed-clause-once g c = once_failed c.args.sync _ _ _ _ _ _ _ _ (ap as_sync c.in-Failed.is) c.in-Ok.ensures.made
 
 pub returns-in-Ok-flush_by-clause-goes_on : goal.returns-in-Ok-flush_by-clause-goes_on
 returns-in-Ok-flush_by-clause-goes_on g c =
-    try_writes c.args.sync _ _ _ _ _ _ _ _ c.in-Job.is c.in-Ok.ensures.made c.flush_by.ensures.only
+    try_writes c.args.sync _ _ _ _ _ _ _ _ (ap as_sync c.in-Job.is) c.in-Ok.ensures.made c.flush_by.ensures.only
 
 pub returns-in-Err-flush_by-clause-tried : goal.returns-in-Err-flush_by-clause-tried
 returns-in-Err-flush_by-clause-tried g c =
-    try_writes c.args.sync _ _ _ _ _ _ _ _ c.in-Job.is c.in-Ok.ensures.made c.flush_by.ensures.only
+    try_writes c.args.sync _ _ _ _ _ _ _ _ (ap as_sync c.in-Job.is) c.in-Ok.ensures.made c.flush_by.ensures.only
 
 -- the refusal stands, in the hold that says whether a request is in flight
 pub returns-in-Err-wait_or-clause-stands : goal.returns-in-Err-wait_or-clause-stands
@@ -75,17 +76,17 @@ returns-in-Ok-wait_or-clause-back g c = ap length c.in-Err.ensures.kept ∙ c.re
 
 pub returns-in-Wait-clause-back : goal.returns-in-Wait-clause-back
 returns-in-Wait-clause-back g c =
-    ap length (subst (λ (x : SyncStepped). SyncGivesBack c.args.buffer (Ok x)) c.in-Wait.is c.in-Ok.ensures.back)
+    ap length (subst (λ (x : SyncStepped). SyncGivesBack c.args.buffer (Ok x)) (ap as_sync c.in-Wait.is) c.in-Ok.ensures.back)
     ∙ c.requires.size
 
 pub returns-in-Clean-clause-back : goal.returns-in-Clean-clause-back
 returns-in-Clean-clause-back g c =
-    ap length (subst (λ (x : SyncStepped). SyncGivesBack c.args.buffer (Ok x)) c.in-Clean.is c.in-Ok.ensures.back)
+    ap length (subst (λ (x : SyncStepped). SyncGivesBack c.args.buffer (Ok x)) (ap as_sync c.in-Clean.is) c.in-Ok.ensures.back)
     ∙ c.requires.size
 
 pub returns-in-Failed-clause-back : goal.returns-in-Failed-clause-back
 returns-in-Failed-clause-back g c =
-    ap length (subst (λ (x : SyncStepped). SyncGivesBack c.args.buffer (Ok x)) c.in-Failed.is c.in-Ok.ensures.back)
+    ap length (subst (λ (x : SyncStepped). SyncGivesBack c.args.buffer (Ok x)) (ap as_sync c.in-Failed.is) c.in-Ok.ensures.back)
     ∙ c.requires.size
 
 -- the pass was levelled in the hold that ended the sync
@@ -123,22 +124,22 @@ returns-in-Err-wait_or-clause-settled g c =
 
 pub returns-in-Wait-clause-settled : goal.returns-in-Wait-clause-settled
 returns-in-Wait-clause-settled g c =
-    step_quiet g.B.Naming.name c.args.sync _ _ _ _ _ _ _ c.in-Wait.is (λ x b. b) c.in-Ok.ensures.made
+    step_quiet g.B.Naming.name c.args.sync _ _ _ _ _ _ _ (ap as_sync c.in-Wait.is) (λ x b. b) c.in-Ok.ensures.made
 
 pub returns-in-Clean-clause-settled : goal.returns-in-Clean-clause-settled
 returns-in-Clean-clause-settled g c =
-    step_quiet g.B.Naming.name c.args.sync _ _ _ _ _ _ _ c.in-Clean.is (λ x b. b) c.in-Ok.ensures.made
+    step_quiet g.B.Naming.name c.args.sync _ _ _ _ _ _ _ (ap as_sync c.in-Clean.is) (λ x b. b) c.in-Ok.ensures.made
 
 pub returns-in-Failed-clause-settled : goal.returns-in-Failed-clause-settled
 returns-in-Failed-clause-settled g c =
-    step_quiet g.B.Naming.name c.args.sync _ _ _ _ _ _ _ c.in-Failed.is (λ x b. b) c.in-Ok.ensures.made
+    step_quiet g.B.Naming.name c.args.sync _ _ _ _ _ _ _ (ap as_sync c.in-Failed.is) (λ x b. b) c.in-Ok.ensures.made
 
 pub returns-in-Ok-flush_by-clause-settled : goal.returns-in-Ok-flush_by-clause-settled
 returns-in-Ok-flush_by-clause-settled g c =
-    step_settles g.B.Naming.name c.args.sync _ c.in-Job.job _ _ _ _ _ _ c.in-Job.is c.in-Ok.ensures.made c.in-Ok.ensures.job
+    step_settles g.B.Naming.name c.args.sync _ c.in-Job.job _ _ _ _ _ _ (ap as_sync c.in-Job.is) c.in-Ok.ensures.made c.in-Ok.ensures.job
     c.in-Ok-flush_by.ensures.ends
 
 pub returns-in-Err-flush_by-clause-settled : goal.returns-in-Err-flush_by-clause-settled
 returns-in-Err-flush_by-clause-settled g c =
-    write_denied g.B.Naming.name c.args.sync _ c.in-Job.job _ _ _ _ _ _ c.in-Err-flush_by.denied c.in-Job.is
+    write_denied g.B.Naming.name c.args.sync _ c.in-Job.job _ _ _ _ _ _ c.in-Err-flush_by.denied (ap as_sync c.in-Job.is)
     c.in-Ok.ensures.made c.in-Ok.ensures.job c.in-Err-flush_by.ensures.ends

@@ -7,7 +7,7 @@ use Rattle.shared.proofs.cache.SharedCache.write_back.Given as goal
 
 abbrev pub invariant-turns : goal.invariant-turns
 invariant-turns g l = record {
-  worker : IsWorkerOf l.self.ring g.B.Naming.name g.B.Naming.table g.B.Naming.sizes l.worker;
+  worker : IsWorkerOf l.self.ring g.B.Naming.name g.B.Naming.table g.B.NamesDeeds.deeds g.B.Naming.sizes l.worker;
   goes : Goes l.initial.worker.seat l.worker.seat;
   only : Only (λ e. IsWriteBack e.event) l.initial.worker.seat l.worker.seat;
   own : EndsOwn g.B.Naming.name l.initial.worker.seat l.worker.seat;

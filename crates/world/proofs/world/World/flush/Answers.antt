@@ -1,4 +1,4 @@
-use Rattle.world.proofs.Durably.{flush_keeps, is_flushed}
+use Rattle.world.proofs.DeviceFlush.{flush_keeps, is_flushed}
 use Rattle.world.proofs.world.World.flush.Goals as goal
 
 pub invariant_of-self : goal.invariant_of-self

@@ -1,8 +1,7 @@
 use Rattle.std.proofs.Common.{arith, ◌+◌, length, take, ◌<◌, ◌≡◌, ◌∷◌, ◌++◌, [], List, ap, sym, ◌∙◌, subst}
-use Rattle.std.proofs.lemmas.List.{take_all, take_more}
+use Rattle.std.proofs.lemmas.List.{take_more}
 use Rattle.world.specs.declared.step.Step.{Step}
 use Rattle.world.specs.Stepping.{Plays}
-use Rattle.world.proofs.Durably.{plays_durable}
 use Rattle.world.proofs.PlayLemmas.{plays-snoc}
 use Rattle.world.proofs.world.World.play.Goals as goal
 
@@ -23,8 +22,3 @@ loop-step-preserved g c =
           c.step.result c.loop-step.invariant.played c.step.ensures));
       room = omega (arith, c.push_reserved.ensures.len, c.push_reserved.ensures.capacity);
     }
-
-pub returns-clause-durable : goal.returns-clause-durable
-returns-clause-durable g c = plays_durable c.args.steps.now c.loop-step.replies.items c.args.self.now c.loop-step.self
-    (subst (λ (ss : List Step). Plays c.args.self.now ss c.loop-step.replies.items c.loop-step.self)
-    (take_all c.loop-step.step-index c.args.steps.now c.loop-step-test.false) c.loop-step.invariant.played)

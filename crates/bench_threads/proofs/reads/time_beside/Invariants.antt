@@ -1,0 +1,17 @@
+use Rattle.std.specs.Prelude.{◌+◌, vec_len}
+use Rattle.bench_threads.proofs.reads.time_beside.Given as goal
+
+-- the parts that were just made
+abbrev pub ghosts-time_over-B-Naming : goal.ghosts-time_over-B-Naming
+ghosts-time_over-B-Naming g a = record {
+  name = a.parts.name;
+  table = a.parts.held.log.table;
+  board = a.parts.board;
+  sizes = a.parts.geometry;
+  seats = vec_len a.seats + 1;
+  blocks = a.parts.deeds.blocks;
+}
+
+-- the deeds of their device
+abbrev pub ghosts-time_over-B-NamesDeeds : goal.ghosts-time_over-B-NamesDeeds
+ghosts-time_over-B-NamesDeeds g a = record { deeds = a.parts.deeds.table; told = a.parts.deeds.told }

@@ -1,0 +1,4 @@
+mod Events
+mod Ends
+mod Going
+mod Alike

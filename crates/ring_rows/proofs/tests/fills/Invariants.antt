@@ -1,5 +1,0 @@
-use Rattle.ring.specs.Serving.{Serves, Carries}
-use Rattle.ring_rows.proofs.tests.fills.Given as goal
-
-abbrev pub invariant-loop-serial : goal.invariant-loop-serial
-invariant-loop-serial g l = Serves l.ring l.pass × Carries 7 64 l.geometry.page l.pass

@@ -1,0 +1,5 @@
+mod Begins
+mod Free
+mod Kept
+mod Parts
+mod ShardRuns

@@ -1,5 +1,0 @@
-use Rattle.std.proofs.Common.{◌≡◌}
-use Rattle.shared_rows.proofs.long_rows.reads.Given as goal
-
-abbrev pub invariant-tries : goal.invariant-tries
-invariant-tries g l = l.seat.table ≡ l.fn.seat.table

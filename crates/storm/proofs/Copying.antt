@@ -1,0 +1,25 @@
+-- Copies of the device of a storm.
+use Rattle.std.proofs.Common.{◌≡◌, ℕ, Bool, true, false, ◌∙◌, sym, eqb, eq-eqb}
+use Rattle.std.specs.Prelude.{◌&&◌}
+use Rattle.blockdev.specs.Device.{Told}
+use Rattle.pc_types.specs.Limits.{Sizes}
+use Rattle.playback.specs.Playing.{AreCopies, IsCopy}
+use Rattle.playback.specs.declared.verdict.Copies.{Copies}
+use Rattle.world.specs.Stepping.{fits}
+
+both : (a b : Bool) → a ≡ true → b ≡ true → (a && b) ≡ true
+both true b e h = h
+both false b e h = absurd cc
+
+copy_fits : (g : Sizes) (d copy : Told) → IsCopy d copy → d.size ≡ g.page → d.count ≡ g.blocks → fits g copy ≡ true
+copy_fits g d copy c size count = both (eqb copy.size g.page) (eqb copy.count g.blocks)
+    (eq-eqb copy.size g.page (c.0 ∙ size)) (eq-eqb copy.count g.blocks (c.1 ∙ count))
+
+-- they have the sizes of a cache that its device has
+pub copies_fit : (g : Sizes) (d : Told) (copies : Copies) (page blocks : ℕ) → AreCopies d copies → d.size ≡ page
+    → d.count ≡ blocks → g.page ≡ page → g.blocks ≡ blocks
+    → (fits g copies.one ≡ true) × (fits g copies.other ≡ true)
+copies_fit g d copies page blocks c size count same many = (
+  copy_fits g d copies.one c.0 (size ∙ sym same) (count ∙ sym many),
+  copy_fits g d copies.other c.1 (size ∙ sym same) (count ∙ sym many),
+)

@@ -1,0 +1,11 @@
+#![tactic(auto)]
+//! The tests of `blockdev`. They are a crate of their own, since a crate with tests is proved once more beside them.
+//!
+//! Floor: outside.
+
+#[cfg(test)]
+mod checks;
+#[cfg(test)]
+mod file_tests;
+#[cfg(test)]
+mod tests;

@@ -1,0 +1,10 @@
+use Rattle.std.proofs.Common.{ap, ◌∙◌}
+use Rattle.cachecore.specs.Core.{Core}
+use Rattle.pc_types.specs.Limits.{Sizes}
+use Rattle.tests_held.proofs.Sized.{after_sized}
+use Rattle.tests_held.proofs.tests.keeps_to_its_kind.Goals as goal
+
+pub fill_end-requires-clause-size : goal.fill_end-requires-clause-size
+fill_end-requires-clause-size g c =
+    c.made-report.ensures ∙ ap (λ (x : Core). x.state.sizes.page) c.core.ensures.core
+    ∙ ap (λ (z : Sizes). z.page) (after_sized _ _ _ _ c.core.ensures.named)

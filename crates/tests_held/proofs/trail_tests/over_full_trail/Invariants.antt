@@ -1,0 +1,15 @@
+use Rattle.tests_held.proofs.trail_tests.over_full_trail.Given as goal
+
+-- the cache that was just made, and its device
+abbrev pub ghosts-by_two_seats-B-Naming : goal.ghosts-by_two_seats-B-Naming
+ghosts-by_two_seats-B-Naming g a = record {
+  name = a.opened.log.name;
+  table = a.opened.log.table;
+  board = a.opened.errors.board;
+  sizes = a.opened.core.state.sizes;
+  seats = a.opened.log.made;
+  blocks = a.deeds.blocks;
+}
+
+abbrev pub ghosts-by_two_seats-B-NamesDeeds : goal.ghosts-by_two_seats-B-NamesDeeds
+ghosts-by_two_seats-B-NamesDeeds g a = record { deeds = a.deeds.table; told = a.deeds.told }

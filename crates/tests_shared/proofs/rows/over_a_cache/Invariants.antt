@@ -1,0 +1,17 @@
+use Rattle.std.specs.Prelude.{◌+◌, vec_len}
+use Rattle.tests_shared.proofs.rows.over_a_cache.Given as goal
+
+-- the parts that were just made
+abbrev pub ghosts-runs_over-B-Naming : goal.ghosts-runs_over-B-Naming
+ghosts-runs_over-B-Naming g a = record {
+  name = a.parts.name;
+  table = a.parts.held.log.table;
+  board = a.parts.board;
+  sizes = a.parts.geometry;
+  seats = vec_len a.seats + 1;
+  blocks = a.parts.deeds.blocks;
+}
+
+-- and their deeds
+abbrev pub ghosts-runs_over-B-NamesDeeds : goal.ghosts-runs_over-B-NamesDeeds
+ghosts-runs_over-B-NamesDeeds g a = record { deeds = a.parts.deeds.table; told = a.parts.deeds.told }

@@ -1,0 +1,9 @@
+#![tactic(auto)]
+//! The tests of `xarray`. They are a crate of their own, since a crate with tests is proved once more beside them.
+//!
+//! Floor: outside.
+
+#[cfg(test)]
+mod checks;
+#[cfg(test)]
+mod tests;

@@ -1,0 +1,94 @@
+-- How the history of a shared cache is tied to its device. The two lie under different locks, so that a call of the device
+-- and the end of its request are two holds. A *deed* of each block ties them: who begins a request takes the deed of its
+-- block; who has the deed, and nobody else, makes the device call; and the end brings the deed back, with the bytes that
+-- the block was left with. The lock of the cache keeps the desk: where the deed of each block is.
+use Rattle.std.specs.Prelude.{◌≡◌, ℕ, Bool, true, List, [], ◌∷◌, length, Option, Some, None, slice_get}
+use Rattle.std.specs.FinMap as map
+use Rattle.pc_types.specs.Limits.{Sizes}
+use Rattle.pc_types.specs.declared.kind.Kind.TheVariants.{Flush}
+use Rattle.blockdev.specs.Jobs.{Task}
+use Rattle.deeds.specs.Shown.{known}
+use Rattle.deeds.specs.declared.views.Given.{Given}
+use Rattle.deeds.specs.declared.views.Place.{Place}
+use Rattle.deeds.specs.declared.views.Place.TheVariants.{Out}
+use Rattle.machine.specs.declared.event.End.{End}
+use Rattle.machine.specs.State.{State, Request, page_bytes}
+use Rattle.runs.specs.Runs.{IsFirst}
+use Rattle.runs.specs.World.{World, Acts}
+use Rattle.trail.specs.declared.entry.Entry.{Entry}
+use Rattle.trail.specs.Honest.{Fate, Honest, IsTold, EndTells, end_made, world_over}
+
+-- ---- histories that go on
+
+-- an entry, by the end that it makes, in some fate of its request's call
+abbrev pub IsToldOnce : World → Entry → Option End → World → Type 0
+IsToldOnce w e None new = Acts w e.event e.reply new
+IsToldOnce w e (Some end) new =
+    (fate : Fate) × (x : Request) × (map.get w.core.requests end.serial.0 ≡ Some x) × EndTells fate w e end x new
+
+-- the entries lead from a world to a world
+abbrev pub GoesTo : World → List Entry → World → Type 0
+GoesTo w [] new = new ≡ w
+GoesTo w (e ∷ es) new = (mid : World) × IsToldOnce w e (end_made e.event e.reply) mid × GoesTo mid es new
+
+-- they do so with these fates
+abbrev pub LeadsHonestly : (ℕ → Fate) → World → List Entry → World → Type 0
+LeadsHonestly fates w [] new = new ≡ w
+LeadsHonestly fates w (e ∷ es) new =
+    (mid : World) × IsTold fates w e (end_made e.event e.reply) mid × LeadsHonestly fates mid es new
+
+-- the history is honest over these first blocks, and leads to this world
+pub record IsHonest (sizes : Sizes) (name : ℕ) (blocks : List (List ℕ)) (history : List Entry) (new : World) : Type 0 where
+  pub honest : Honest sizes name history
+  pub device : honest.device ≡ blocks
+  pub leads : LeadsHonestly honest.fates (world_over sizes name blocks) history new
+
+-- ---- tasks
+
+-- the device call of request t of the cache with this name
+abbrev pub task_of : ℕ → ℕ → Request → List ℕ → Task
+task_of name t x bytes = record { cache = name; serial = t; kind = x.kind; block = x.block; bytes = bytes }
+
+-- that of a request which has just begun: a flush has the bytes of its page
+pub record IsTaskOf (core : State) (t : ℕ) (x : Request) (task : Task) : Type 0 where
+  pub is : task ≡ task_of core.name t x task.bytes
+  pub writes : x.kind ≡ Flush → task.bytes ≡ page_bytes core x.file x.page
+
+-- ---- what is kept
+
+-- the deed of this block is out for the device call of request t
+pub record IsGiven (core : State) (places : List Place) (block t : ℕ) (x : Request) : Type 0 where
+  pub given : Given
+  pub out : slice_get places block ≡ Some (Out given)
+  pub task : given.task ≡ task_of core.name t x given.task.bytes
+
+-- the deed of this block is out for a request of it that is in flight
+pub record IsOwned (core : State) (block : ℕ) (given : Given) : Type 0 where
+  pub x : Request
+  pub is : map.get core.requests given.task.serial ≡ Some x
+  pub block_is : x.block ≡ block
+  pub task : given.task ≡ task_of core.name given.task.serial x given.task.bytes
+
+-- the deed of a block is out while a request of it is in flight, and then alone
+pub record IsCovered (core : State) (places : List Place) : Type 0 where
+  pub count : length places ≡ core.sizes.blocks
+  pub asked : (t : ℕ) (x : Request) → map.get core.requests t ≡ Some x → IsGiven core places x.block t x
+  pub owned : (block : ℕ) (given : Given) → slice_get places block ≡ Some (Out given) → IsOwned core block given
+
+-- the history leads from a cache without files over these blocks to a world whose device is what the desk knows
+pub record Tied (sizes : Sizes) (name : ℕ) (blocks : List (List ℕ)) (history : List Entry) (core : State)
+    (places : List Place) : Type 0 where
+  pub world : World
+  pub first : IsFirst (world_over sizes name blocks)
+  pub goes : GoesTo (world_over sizes name blocks) history world
+  pub core_is : world.core ≡ core
+  pub device : world.device ≡ known places
+  -- a write in flight has the bytes of its task
+  pub writes : (block : ℕ) (given : Given) → slice_get places block ≡ Some (Out given) → given.task.kind ≡ Flush
+      → map.get world.writing given.task.serial ≡ Some given.task.bytes
+
+-- both, the second over a device that tells its blocks
+pub record IsTied (told : Bool) (sizes : Sizes) (name : ℕ) (blocks : List (List ℕ)) (history : List Entry) (core : State)
+    (places : List Place) : Type 0 where
+  pub covered : IsCovered core places
+  pub tied : told ≡ true → Tied sizes name blocks history core places

@@ -1,8 +1,0 @@
-use Rattle.std.proofs.Common.{◌≤◌}
-use Rattle.ring.specs.Serving.{Carries, Serves}
-use Rattle.timed_threads.proofs.jobs.hand_on.Given as goal
-
-abbrev pub invariant-loop : goal.invariant-loop
-invariant-loop g l =
-    Serves l.from l.taking × Carries 7 64 l.page l.taking × Serves l.to l.giving × Carries 7 64 l.page l.giving
-    × (l.handed ≤ 65536)

@@ -1,0 +1,4 @@
+pub mod Outsides
+pub mod Slices
+pub mod TwoWindows
+pub mod WindowCalls
