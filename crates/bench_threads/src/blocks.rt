@@ -21,7 +21,7 @@ pub struct Disk {
     device: FileDevice,
     file: File,
     bytes: Vec<u8>,
-    ghost sized: { (device.size ≡ 4096) × (device.count ≡ 16384) },
+    ghost sized: { (device.told.size ≡ 4096) × (device.told.count ≡ 16384) },
     ghost one: { length bytes.items ≡ 4096 },
 }
 
