@@ -139,8 +139,7 @@ fn ends_flush<B: Naming, T: Trail>(
     requires { seat.old.table ≡ B.table }
     ensures { seat.new.table ≡ seat.old.table }
 {
-    let ended = held.flush_end(seat, report);
-    let (answer, receipt, _) = ended.expect(rt, "an end");
+    let (answer, receipt, _) = held.end(seat, report);
     (answer, receipt)
 }
 
@@ -181,8 +180,8 @@ fn fills<B: Naming, T: Trail>(
         panic!(rt; "a job");
     };
     let report = made(rt, disk, held.core(), errand);
-    let ended = held.fill_end(seat, report);
-    let (answer, _) = ended.expect(rt, "an end");
+    let (answer, receipt, _) = held.end(seat, report);
+    check(rt, receipt.is_none());
     answer
 }
 
@@ -230,31 +229,6 @@ fn fails_a_flush<B: Naming>(
     );
     check(rt, board.poll(&mut pass) == Some(ErrCode::IO));
     check(rt, board.poll(&mut pass).is_none());
-}
-
-// What came of a flush ends no fill, and the request stays in flight.
-fn keeps_to_its_kind<B: Naming>(
-    rt: &impl Abort,
-    alloc: Global,
-    held: &mut Held<B, NoTrail>,
-    seat: &mut Seat,
-    disk: &mut Disk<B>,
-)
-    requires { seat.old.table ≡ B.table }
-{
-    opens(rt, held, seat);
-    writes(rt, held, seat);
-    let page = buffer(rt, alloc, held);
-    let begun = held.flush_begin(seat, FILE, page);
-    let Ok((FlushStarted::Job(errand), _)) = begun else {
-        panic!(rt; "a job");
-    };
-    let report = made(rt, disk, held.core(), errand);
-    let Err(denied) = held.fill_end(seat, report) else {
-        panic!(rt; "a stranger");
-    };
-    check(rt, denied.refusal == Refusal::Stranger);
-    check(rt, held.core().in_flight().flushes == 1);
 }
 
 fn begins_sync<B: Naming>(rt: &impl Abort, held: &mut Held<B, NoTrail>, seat: &mut Seat) -> SyncId
@@ -343,7 +317,6 @@ enum Row {
     Cuts,
     WritesAndFills,
     FailsAFlush,
-    KeepsToItsKind,
     Syncs,
 }
 
@@ -363,7 +336,6 @@ fn run<B: Naming>(
         Row::Cuts => cuts(rt, held, seat),
         Row::WritesAndFills => writes_and_fills(rt, alloc, held, seat, disk),
         Row::FailsAFlush => fails_a_flush(rt, alloc, held, board, seat, disk),
-        Row::KeepsToItsKind => keeps_to_its_kind(rt, alloc, held, seat, disk),
         Row::Syncs => syncs(rt, alloc, held, seat, disk),
     }
 }
@@ -432,11 +404,6 @@ fn an_evicted_page_is_read_back(rt: HostRuntime) {
 #[test]
 fn a_failed_flush_is_told_once(rt: HostRuntime) {
     over_no_trail(&rt, rt.alloc(), Row::FailsAFlush);
-}
-
-#[test]
-fn an_end_of_another_kind_is_refused(rt: HostRuntime) {
-    over_no_trail(&rt, rt.alloc(), Row::KeepsToItsKind);
 }
 
 #[test]

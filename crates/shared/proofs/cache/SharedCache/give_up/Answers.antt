@@ -5,12 +5,12 @@ use Rattle.shared.proofs.Syncing.{dropped_by, dropped_refused}
 use Rattle.shared.proofs.cache.SharedCache.give_up.Goals as goal
 
 pub returns-in-Ok-clause-dropped : goal.returns-in-Ok-clause-dropped
-returns-in-Ok-clause-dropped g c = dropped_by c.args.sync _ _ _ _ _ c.args.denied c.in-Ok.ensures.made
+returns-in-Ok-clause-dropped g c = dropped_by g.B.Naming.sizes g.B.Naming.name c.args.sync _ _ _ _ _ c.args.denied c.in-Ok.ensures.made
 
 pub returns-then-is_some-clause-dropped : goal.returns-then-is_some-clause-dropped
 returns-then-is_some-clause-dropped g c =
     let is : is_some c.in-Err.other.slip ≡ true = search rules in
-    dropped_refused c.args.sync c.deref_mut.result.now c.sync_drop.new.self c.args.seat.now c.sync_drop.new.seat
+    dropped_refused g.B.Naming.sizes g.B.Naming.name c.args.sync c.deref_mut.result.now c.sync_drop.new.self c.args.seat.now c.sync_drop.new.seat
     c.in-Err.other c.args.denied c.in-Err.ensures.denied is
 
 pub returns-in-Ok-clause-only : goal.returns-in-Ok-clause-only

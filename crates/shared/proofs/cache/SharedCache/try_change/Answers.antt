@@ -149,7 +149,7 @@ returns-in-Ok-fill-clause-settled g c =
 
 pub returns-in-Err-fill-clause-settled : goal.returns-in-Err-fill-clause-settled
 returns-in-Err-fill-clause-settled g c =
-    denied_on g.B.Naming.name c.args.seat.now c.change_by.new.seat c.fill.new.seat c.in-Err-fill.denied
+    settles_on g.B.Naming.name c.args.seat.now c.change_by.new.seat c.fill.new.seat
     (settles_by g.B.Naming.name _ _ _ _ _ _ _ (λ x b. change_begins x c.args.change c.args.handle c.args.bytes.now _ b)
     (change_ends c.args.change c.args.handle c.args.bytes.now) c.in-Ok.ensures.made) c.in-Err-fill.ensures.settled
 
@@ -162,7 +162,7 @@ returns-in-Ok-settle-clause-settled g c =
 
 pub returns-in-Err-settle-clause-settled : goal.returns-in-Err-settle-clause-settled
 returns-in-Err-settle-clause-settled g c =
-    denied_on g.B.Naming.name c.args.seat.now c.change_by.new.seat c.settle.new.seat c.in-Err-settle.denied
+    settles_on g.B.Naming.name c.args.seat.now c.change_by.new.seat c.settle.new.seat
     (settles_denied g.B.Naming.name (event_of c.args.change c.args.handle c.args.bytes.now) c.deref_mut.result.now
     c.change_by.new.state c.args.seat.now c.change_by.new.seat c.in-Err.denied
     (change_ends c.args.change c.args.handle c.args.bytes.now) c.in-Err.ensures.denied) c.in-Err-settle.ensures.settled

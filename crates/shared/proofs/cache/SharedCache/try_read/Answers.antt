@@ -113,7 +113,7 @@ returns-in-Err-fill-clause-wanting g c =
 -- a read begins no request, and fills no page by itself
 pub returns-in-Err-clause-settled : goal.returns-in-Err-clause-settled
 returns-in-Err-clause-settled g c =
-    inl (settles_denied g.B.Naming.name (event.Read c.args.handle c.args.offset (length c.args.out.now)) c.deref_mut.result.now
+    (settles_denied g.B.Naming.name (event.Read c.args.handle c.args.offset (length c.args.out.now)) c.deref_mut.result.now
     c.read.new.self c.args.seat.now c.read.new.seat c.in-Err.denied (λ is. is) c.in-Err.ensures.denied)
 
 pub returns-in-Bytes-clause-settled : goal.returns-in-Bytes-clause-settled
@@ -131,7 +131,7 @@ returns-in-Ok-fill-clause-settled g c =
 
 pub returns-in-Err-fill-clause-settled : goal.returns-in-Err-fill-clause-settled
 returns-in-Err-fill-clause-settled g c =
-    denied_on g.B.Naming.name c.args.seat.now c.read.new.seat c.fill.new.seat c.in-Err-fill.denied
+    settles_on g.B.Naming.name c.args.seat.now c.read.new.seat c.fill.new.seat
     (settles_by g.B.Naming.name _ _ _ _ _ _ _ (λ x b. b) (λ is. is) c.in-Ok.ensures.made) c.in-Err-fill.ensures.settled
 
 pub returns-in-Err-clause-missed : goal.returns-in-Err-clause-missed
