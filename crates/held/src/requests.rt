@@ -142,10 +142,10 @@ impl<B: Naming, T: Trail> Held<B, T> {
         &mut self,
         seat: &mut Seat,
         finished: Finished,
-        stub: Stub<B>,
+        deed: Stub<B>,
     ) -> (Ended, Option<Receipt>, Slip)
         requires seat { seat.old.table ≡ B.table }
-        requires stub { stub ≡ finished }
+        requires deed { deed ≡ finished }
         requires kind { finished.kind ≡ Flush }
         ensures made { Made (event.End Flush (end_of finished)) (flush_ended (Ok result.0)) self.old self.new seat.old seat.new result.2 }
         ensures receipt { IsRecorded self.old.errors (flush_of self.old.core.state finished.serial) (Ok result.0) result.1 self.new.errors }
@@ -160,7 +160,7 @@ impl<B: Naming, T: Trail> Held<B, T> {
             desk,
             ..
         } = self;
-        desk.take_back(stub);
+        desk.take_back(deed);
         let end = end_without(&finished, *alloc);
         let file = core.flush_of(finished.serial());
         let answer = core.flush_end(finished);

@@ -129,6 +129,18 @@ fn made<B: Naming>(
     side.carry_out(device, errand)
 }
 
+/// Makes the device call of an errand of this cache. Its pages have 16 bytes.
+fn carried<B: Naming, T: Trail>(
+    rt: &impl Abort,
+    disk: &mut Disk<B>,
+    held: &Held<B, T>,
+    errand: Errand<B>,
+) -> Report<B>
+    ensures { length result.bytes ≡ B.sizes.page }
+{
+    made(rt, disk, held.core(), errand)
+}
+
 /// Ends a flush. Gives what that answers, and the receipt.
 fn ends_flush<B: Naming, T: Trail>(
     rt: &impl Abort,
@@ -136,7 +148,8 @@ fn ends_flush<B: Naming, T: Trail>(
     seat: &mut Seat,
     report: Report<B>,
 ) -> (Ended, Option<Receipt>)
-    requires { seat.old.table ≡ B.table }
+    requires seat { seat.old.table ≡ B.table }
+    requires size { length report.bytes ≡ B.sizes.page }
     ensures { seat.new.table ≡ seat.old.table }
 {
     let (answer, receipt, _) = held.end(seat, report);
@@ -159,7 +172,7 @@ fn flushes<B: Naming, T: Trail>(
     let Ok((FlushStarted::Job(errand), _)) = begun else {
         panic!(rt; "a job");
     };
-    let report = made(rt, disk, held.core(), errand);
+    let report = carried(rt, disk, held, errand);
     ends_flush(rt, held, seat, report)
 }
 
@@ -179,7 +192,7 @@ fn fills<B: Naming, T: Trail>(
     let Ok((FillStarted::Job(errand), _)) = begun else {
         panic!(rt; "a job");
     };
-    let report = made(rt, disk, held.core(), errand);
+    let report = carried(rt, disk, held, errand);
     let (answer, receipt, _) = held.end(seat, report);
     check(rt, receipt.is_none());
     answer
@@ -273,7 +286,7 @@ fn syncs<B: Naming>(
     let SyncMoved::Job(errand) = steps(rt, alloc, held, seat, sync) else {
         panic!(rt; "a job");
     };
-    let report = made(rt, disk, held.core(), errand);
+    let report = carried(rt, disk, held, errand);
     let (written, _) = ends_flush(rt, held, seat, report);
     check(rt, matches!(written, Ended::Done(_)));
     let clean = steps(rt, alloc, held, seat, sync);
