@@ -297,9 +297,11 @@ carries slots id told blocks g x c comes s r _ at _ =
             (λ is. apart r.places k g bytes out (ap (λ j. slice_get r.places j) (sym is) ∙ h)) (r.home block bytes h);
         out = λ block y h. ⊎_elim
             (λ (is : block ≡ k). subst (λ (z : Given). HasOut r.told blocks' block z)
-            (same_given g y (same_Some _ _ (sym out ∙ ap (λ j. slice_get r.places j) (sym is) ∙ h)))
-            (x.left, ap (λ j. slice_get blocks' j) is ∙ set_here r.blocks k x.left g.before was,
-            comes_had r.told g x (subst (λ b. Comes b g.task g.before x.finished x.left) t (comes here))))
+            (same_given g y (same_Some _ _ (sym out ∙ ap (λ j. slice_get r.places j) (sym is) ∙ h))) (
+              x.left,
+              ap (λ j. slice_get blocks' j) is ∙ set_here r.blocks k x.left g.before was,
+              comes_had r.told g x (subst (λ b. Comes b g.task g.before x.finished x.left) t (comes here)),
+            ))
             (λ (n : block ≢ k). let o = r.out block y h in
             (o.0, set_else r.blocks k block x.left o.0 n o.1, o.2))
             (same_or_else block k);

@@ -38,12 +38,7 @@ impl<B: Naming, D: BlockDevice, T: Trail> SharedCache<B, D, T> {
     /// One turn of an I/O worker: it takes a job from the ring, makes its device call, and ends its request. Answers nothing only where
     /// the ring was empty at one moment of the turn. The gate is entered with the job's serial, before the device call.
     #[tactic(auto, using(held::proofs::Seats::goes_same, held::proofs::Seats::only_same, crate::proofs::Owning::only_job))]
-    pub fn io_turn<R: Wait, G: Gate>(
-        &self,
-        rt: &R,
-        gate: &G,
-        worker: &mut Worker,
-    ) -> Option<Done>
+    pub fn io_turn<R: Wait, G: Gate>(&self, rt: &R, gate: &G, worker: &mut Worker) -> Option<Done>
         requires worker { IsWorkerOf self.now.ring B.name B.table B.deeds B.sizes worker.old }
         ensures worker { IsWorkerOf self.now.ring B.name B.table B.deeds B.sizes worker.new }
         ensures goes { Goes (seat_of worker.old) (seat_of worker.new) }

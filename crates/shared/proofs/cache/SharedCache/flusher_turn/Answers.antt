@@ -75,4 +75,3 @@ returns-in_default-clause-only g c =
 pub returns-clause-goes : goal.returns-clause-goes
 returns-clause-goes g c =
     goes_on c.args.worker.now.seat c.begin_flush.new.seat c.end_job.new.seat c.begin_flush.ensures.goes c.end_job.ensures.goes
-

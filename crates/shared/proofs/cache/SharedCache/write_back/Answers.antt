@@ -101,4 +101,3 @@ turns-preserved-after-is_idle-3 g c = record {
       c.flusher_turn-turn.ensures.done c.flusher_turn-turn.ensures.unbegun)
       c.turns.invariant.carried c.flusher_turn-turn.ensures.carried;
 }
-
