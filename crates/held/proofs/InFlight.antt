@@ -1,6 +1,6 @@
 -- An end is of a request in flight: the deed of its block was out for it. So no test of it holds, and it has its room.
 use Rattle.std.proofs.Common.{◌≡◌, ℕ, true, List, refl, ap, sym, subst, ◌∙◌}
-use Rattle.std.specs.Prelude.{Bool, Option, Some, None, Result, Ok, Err}
+use Rattle.std.specs.Prelude.{Bool, IsOk, Option, Some, None, Result, Ok, Err}
 use Rattle.std.specs.FinMap as map
 use Rattle.blockdev.specs.Device as device
 use Rattle.blockdev.specs.Jobs.{FinishedTask}
@@ -78,3 +78,8 @@ module _ (core : State) (places after : List Place) (told : Bool) (f : FinishedT
   goes a next step x is =
       end_taken core kind (end_of f) x.refusal next
       (subst (λ r. Step core (event.End kind (end_of f)) r next) (ap (ended_as kind) is ∙ refused_reply kind x) step) untested
+
+  pub goes_well : (a : Result Ended RefusedEnd) (next : State)
+      → Step core (event.End kind (end_of f)) (ended_as kind a) next → IsOk a
+  goes_well (Ok b) next step = refl
+  goes_well (Err x) next step = absurd (goes (Err x) next step x refl)

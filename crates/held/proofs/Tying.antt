@@ -196,9 +196,9 @@ pub on_ended : {old new : HeldSeen} {before after : SeatSeen} {slip : Slip} {tol
     → IsHeld old.log old.core.state → IsTied told sizes name blocks old.log.history old.core.state places
     → finished.kind ≡ kind → stub ≡ finished → Settles told places stub desk
     → IsTied told sizes name blocks new.log.history new.core.state desk
-on_ended {old} {new} {before} {after} {slip} {told} {sizes} {name} {blocks} {places} kind a finished stub desk m held i is s =
-    tied_ended told sizes name blocks old new places held i before after slip kind a finished desk
-    (subst (λ f. Returns told places f a desk) is s) m
+on_ended {old} {new} {before} {after} {slip} {told} {sizes} {name} {blocks} {places} kind a finished stub desk m held i of_kind is s =
+    tied_ended told sizes name blocks old new places held i before after slip kind a finished desk of_kind
+    (subst (λ f. Settles told places f desk) is s) m
 
 -- ---- a cache without files
 

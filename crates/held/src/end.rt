@@ -1,6 +1,6 @@
 //! The ends of requests, as they are entered, and the recording of a write that failed.
 
-ghost use Rattle.std.specs.Prelude.{◌≡◌, ◌<◌, [], true, is_some, IfSome, Result, Err, option_map};
+ghost use Rattle.std.specs.Prelude.{◌≡◌, ◌<◌, [], true, is_some, IfSome, IsOk, Ok, option_map};
 ghost use Rattle.pc_types.specs.declared.limits.TheConstants.{MAX_FILES};
 ghost use Rattle.cachecore.specs.Replies.{end_of};
 ghost use Rattle.held.specs.Ends.{IsRecorded, bytes_read_in, is_failed, went_well};
@@ -46,6 +46,17 @@ pub(crate) fn record(
     };
     let Some(file) = file else { unreachable!() };
     Some(recorder.record(file, *code))
+}
+
+/// What an end answers that went through.
+pub(crate) fn gone_through(answer: Result<Ended, RefusedEnd>) -> Ended
+    requires { IsOk answer }
+    ensures { answer ≡ Ok result }
+{
+    match answer {
+        Ok(ended) => ended,
+        Err(_) => unreachable!(),
+    }
 }
 
 /// Whether the device call went well.

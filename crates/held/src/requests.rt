@@ -12,7 +12,7 @@ ghost use Rattle.held.specs.Entered.{Made};
 ghost use Rattle.held.specs.Started.{as_fill, as_flush};
 
 use crate::denied::{Denied, by};
-use crate::end::{bytes_of, end_without, is_well, record};
+use crate::end::{bytes_of, end_without, gone_through, is_well, record};
 use crate::log::{Seat, Slip};
 use crate::naming::Naming;
 use crate::started::{FillStarted, FlushStarted, fill_started, flush_started};
@@ -133,8 +133,7 @@ impl<B: Naming, T: Trail> Held<B, T> {
         let reply = of_fill_end(&answer);
         let bytes = bytes_of(&answer, is_read);
         let slip = log.enter(seat, Event::End(Kind::Fill, end), reply, bytes);
-        let Ok(ended) = answer else { unreachable!() };
-        (ended, slip)
+        (gone_through(answer), slip)
     }
 
     /// Ends a flush, whose deed comes back first.
@@ -167,7 +166,6 @@ impl<B: Naming, T: Trail> Held<B, T> {
         let reply = of_flush_end(&answer);
         let slip = log.enter(seat, Event::End(Kind::Flush, end), reply, &[]);
         let receipt = record(recorder, file, &answer);
-        let Ok(ended) = answer else { unreachable!() };
-        (ended, receipt, slip)
+        (gone_through(answer), receipt, slip)
     }
 }
