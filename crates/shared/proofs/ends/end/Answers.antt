@@ -10,31 +10,31 @@ use Rattle.shared.proofs.Settling.{only_ended}
 use Rattle.shared.proofs.ends.end.Goals as goal
 
 pub returns-clause-goes : goal.returns-clause-goes
-returns-clause-goes g c = goes_by _ _ _ _ _ _ _ c.end.ensures.made
+returns-clause-goes g c = goes_by _ _ _ _ _ _ _ c.end-receipt.ensures.made
 
 pub returns-clause-made : goal.returns-clause-made
 returns-clause-made g c = (
-  ended_as c.args.report.kind (Ok c.end.result.0),
-  makes_by _ _ _ _ _ _ _ c.end.ensures.made,
-  replies c.args.report.kind c.end.result.0,
-  ends_told c.args.report.kind _ _ _ c.end.result.0 c.end.result.1 c.end.ensures.receipt,
+  ended_as c.args.report.kind (Ok c.end-receipt.result.0),
+  makes_by _ _ _ _ _ _ _ c.end-receipt.ensures.made,
+  replies c.args.report.kind c.end-receipt.result.0,
+  ends_told c.args.report.kind _ _ _ c.end-receipt.result.0 c.end-receipt.result.1 c.end-receipt.ensures.receipt,
 )
 
 -- the event is the end of whatever job was finished
 pub returns-clause-only : goal.returns-clause-only
 returns-clause-only g c job kind serial cache block =
-    only_end job c.args.report.kind (end_of c.args.report) _ _ _ _ _ _ kind serial cache block c.end.ensures.made
+    only_end job c.args.report.kind (end_of c.args.report) _ _ _ _ _ _ kind serial cache block c.end-receipt.ensures.made
 
 -- and of the request that was
 pub returns-clause-ends : goal.returns-clause-ends
-returns-clause-ends g c = only_ended g.B.Naming.name c.args.report _ _ _ _ _ _ c.requires.cache c.end.ensures.made
+returns-clause-ends g c = only_ended g.B.Naming.name c.args.report _ _ _ _ _ _ c.requires.cache c.end-receipt.ensures.made
 
 -- no request of whatever job was finished is left, and none came back
 pub returns-clause-over : goal.returns-clause-over
 returns-clause-over g c job serial =
-    over_made job c.args.report.kind (end_of c.args.report) _ _ _ _ _ _ (replies c.args.report.kind c.end.result.0) serial
-    c.end.ensures.made
+    over_made job c.args.report.kind (end_of c.args.report) _ _ _ _ _ _ (replies c.args.report.kind c.end-receipt.result.0) serial
+    c.end-receipt.ensures.made
 
 pub returns-clause-others : goal.returns-clause-others
 returns-clause-others g c job over =
-    others_made job c.args.report.kind (end_of c.args.report) _ _ _ _ _ _ c.end.ensures.made over
+    others_made job c.args.report.kind (end_of c.args.report) _ _ _ _ _ _ c.end-receipt.ensures.made over
