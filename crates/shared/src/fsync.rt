@@ -213,7 +213,7 @@ impl<B: Naming, D: BlockDevice, T: Trail> SharedCache<B, D, T> {
 
     /// Makes a step of the sync. Where that begins a write it is carried out, where a page is being written or too many requests
     /// are in flight the end of one is waited for, and the buffer alone is answered.
-    #[tactic(auto, using(held::proofs::Seats::goes_by, held::proofs::Seats::goes_on, held::proofs::Seats::goes_same, crate::proofs::Making::goes_denied, crate::proofs::Syncing::clean_ended, crate::proofs::Syncing::failed_ended, crate::proofs::Syncing::denied_step, crate::proofs::Syncing::turn_flush, crate::proofs::Owning::try_denied))]
+    #[tactic(auto, using(held::proofs::Seats::goes_by, held::proofs::Seats::goes_on, held::proofs::Seats::goes_same, crate::proofs::Making::goes_denied, crate::proofs::Syncing::clean_ended, crate::proofs::Syncing::failed_ended, crate::proofs::Making::denied_event, crate::proofs::Owning::try_denied))]
     fn sync_turn<R: Wait>(
         &self,
         rt: &R,

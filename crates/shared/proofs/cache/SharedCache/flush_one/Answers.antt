@@ -11,18 +11,18 @@ returns-after-is_written-clause-unwritten g c e =
     elim c.if-is_written.branch [
       | then-is_written w ↦ absurd (let x : true ≡ false = sym w.if-is_written.true ∙ (sym w.result-is ∙ e) in cc)
       | else-is_written w ↦ write_unwritten c.in-Ok-Some.job c.in-Ok-Some.field-0-0-1 _ _
-          (mutex_guard_value c.args.guard).core.state c.args.seat.now c.flush_first.new.seat c.flush_by.new.seat
-          (rw c.in-Ok-Some.field-0-is at c.in-Ok-Some.ensures.writes) (c.flush_by.ensures.failed w.if-is_written.false)
+          (mutex_guard_value c.args.guard).core.state c.args.seat.now c.flush_first.new.seat c.flush_by-is_written.new.seat
+          (rw c.in-Ok-Some.field-0-is at c.in-Ok-Some.ensures.writes) (c.flush_by-is_written.ensures.failed w.if-is_written.false)
     ]
 
 pub returns-after-is_written-clause-settled : goal.returns-after-is_written-clause-settled
 returns-after-is_written-clause-settled g c =
     first_settles g.B.Naming.name c.in-Ok-Some.job c.in-Ok-Some.field-0-0-1 _ _ c.args.seat.now c.flush_first.new.seat
-    c.flush_by.new.seat
-    (rw c.in-Ok-Some.field-0-is at c.in-Ok-Some.ensures.writes) c.flush_by.ensures.ends
+    c.flush_by-is_written.new.seat
+    (rw c.in-Ok-Some.field-0-is at c.in-Ok-Some.ensures.writes) c.flush_by-is_written.ensures.ends
 
-pub flush_by-requires-clause-kind : goal.flush_by-requires-clause-kind
-flush_by-requires-clause-kind g c =
+pub flush_by-is_written-requires-clause-kind : goal.flush_by-is_written-requires-clause-kind
+flush_by-is_written-requires-clause-kind g c =
     first_kind c.in-Ok-Some.job c.in-Ok-Some.field-0-0-1 _ _ c.args.seat.now c.flush_first.new.seat
     (rw c.in-Ok-Some.field-0-is at c.in-Ok-Some.ensures.writes) (rw c.in-Ok-Some.field-0-is at c.in-Ok-Some.ensures.job)
 

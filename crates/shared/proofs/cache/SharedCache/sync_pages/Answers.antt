@@ -69,6 +69,6 @@ returns-in-Ok-sync_turns-clause-settled g c =
 
 pub returns-in-Err-sync_turns-clause-settled : goal.returns-in-Err-sync_turns-clause-settled
 returns-in-Err-sync_turns-clause-settled g c =
-    dropped_settles g.B.Naming.name c.args.sync _ _ _ _
+    dropped_settles g.B.Naming.name _ _ _ _ _
     (sync_settles g.B.Naming.name c.args.handle c.args.first c.args.last _ _ _ _ _ _ c.in-Ok-begun.ensures.made)
     c.in-Err-sync_turns.ensures.settled c.give_up.ensures.only

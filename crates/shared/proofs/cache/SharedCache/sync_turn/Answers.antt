@@ -48,7 +48,7 @@ returns-in-Failed-clause-once g c = once_failed c.args.sync _ _ _ _ _ _ _ _ (ap 
 
 pub returns-clause-goes_on : goal.returns-clause-goes_on
 returns-clause-goes_on g c =
-    try_writes c.args.sync _ _ _ _ _ _ _ _ (ap as_sync c.in-Job.is) c.in-Ok.ensures.made c.flush_by.ensures.only
+    try_writes c.args.sync _ _ _ _ _ _ _ _ (ap as_sync c.in-Job.is) c.in-Ok.ensures.made c.flush_by-buffer.ensures.only
 
 -- the refusal stands, in the hold that says whether a request is in flight
 pub returns-in-Err-wait_or-clause-stands : goal.returns-in-Err-wait_or-clause-stands
@@ -129,8 +129,8 @@ returns-in-Failed-clause-settled g c =
 pub returns-clause-settled : goal.returns-clause-settled
 returns-clause-settled g c =
     step_settles g.B.Naming.name c.args.sync _ c.in-Job.job _ _ _ _ _ _ (ap as_sync c.in-Job.is) c.in-Ok.ensures.made
-    c.flush_by.ensures.ends
+    c.flush_by-buffer.ensures.ends
 
-pub flush_by-requires-clause-kind : goal.flush_by-requires-clause-kind
-flush_by-requires-clause-kind g c =
+pub flush_by-buffer-requires-clause-kind : goal.flush_by-buffer-requires-clause-kind
+flush_by-buffer-requires-clause-kind g c =
     step_kind c.args.sync _ c.in-Job.job _ _ _ _ _ (ap as_sync c.in-Job.is) c.in-Ok.ensures.made c.in-Ok.ensures.job
