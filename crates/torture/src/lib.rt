@@ -23,4 +23,4 @@ mod window;
 pub use halves::{Trial, fewest};
 pub use plan::Plan;
 pub use run::{Played, Room, play, run_torture, torture};
-pub use told::{Difference, Fault, Findings, Options, Wrong};
+pub use told::{Difference, Fault, Findings, Options, Wrong, tell};

@@ -71,9 +71,7 @@ fn frames(chance: &mut Chance) -> u64 {
 
 /// A dirty limit: the least, the most, or any between.
 fn dirty_limit(chance: &mut Chance, frames: u64) -> u64 {
-    let most = frames
-        .saturating_sub(CLEAN_FRAMES)
-        .max(MIN_DIRTY_LIMIT);
+    let most = frames.saturating_sub(CLEAN_FRAMES).max(MIN_DIRTY_LIMIT);
     match chance.below(4) {
         0 => MIN_DIRTY_LIMIT,
         1 => most,

@@ -170,7 +170,10 @@ impl Steps {
         let number = match lot % 16 {
             0 => u64::MAX,
             1 => 64,
-            _ => self.chance.below(self.files.saturating_add(1)).saturating_add(1),
+            _ => self
+                .chance
+                .below(self.files.saturating_add(1))
+                .saturating_add(1),
         };
         Call::Open(number, lot >= 1 << 63)
     }
