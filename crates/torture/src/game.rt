@@ -28,9 +28,18 @@ const SYNCS: u64 = 4;
 
 /// A call that was made, and the handle.
 #[derive(Clone, Copy, Debug)]
-pub(crate) struct Made {
-    at: usize,
-    call: Call,
+pub struct Made {
+    /// The handle of file f is at 2 f - 1, and one that appends behind it.
+    pub at: usize,
+    pub call: Call,
+}
+
+/// The calls of a round.
+#[derive(Clone, Copy)]
+pub enum Calls<'a> {
+    /// So many of those that are drawn.
+    Drawn(u64),
+    Given(&'a [Made]),
 }
 
 impl Display for Made {
@@ -110,6 +119,9 @@ pub(crate) struct Game<D: BlockDevice> {
     base: usize,
     // whether the plain files leave the call out
     forgets: bool,
+    // whether the last fsync succeeded, and whether the last of the calls did
+    is_synced: bool,
+    pub(crate) was_synced: bool,
 }
 
 impl<D: BlockDevice> Game<D> {
@@ -124,24 +136,47 @@ impl<D: BlockDevice> Game<D> {
             reach: page.saturating_mul(plan.pages),
             base: (plan.files as usize).saturating_mul(2).saturating_add(1),
             forgets: false,
+            is_synced: false,
+            was_synced: false,
         }
     }
 
-    /// How many device calls failed.
-    pub(crate) fn faults(&self) -> u64 {
-        self.log.get().faults()
+    /// What became of the device's calls.
+    pub(crate) fn log(&self) -> Log {
+        self.log.get()
     }
 
-    /// Plays so many calls, and then looks at all files.
-    pub(crate) fn play(&mut self, room: &mut Room, plan: &Plan, calls: u64) -> Result<(), Odd> {
+    /// Plays the calls, and then looks at all files.
+    pub(crate) fn play(
+        &mut self,
+        room: &mut Room,
+        plan: &Plan,
+        calls: Calls<'_>,
+    ) -> Result<(), Odd> {
         self.begin(room)?;
+        match calls {
+            Calls::Drawn(count) => self.play_drawn(room, plan, count)?,
+            Calls::Given(all) => self.play_given(room, all)?,
+        }
+        self.was_synced = self.is_synced;
+        self.finish(room)
+    }
+
+    fn play_drawn(&mut self, room: &mut Room, plan: &Plan, count: u64) -> Result<(), Odd> {
         let mut steps = Steps::new(plan);
-        for number in 0..calls.min(plan.calls) {
+        for number in 0..count.min(plan.calls) {
             self.forgets = plan.forgets == Some(number);
             self.step(room, steps.step())?;
         }
         self.forgets = false;
-        self.finish(room)
+        Ok(())
+    }
+
+    fn play_given(&mut self, room: &mut Room, all: &[Made]) -> Result<(), Odd> {
+        for made in all.iter() {
+            self.note_made(room, *made)?;
+        }
+        Ok(())
     }
 
     /// Opens the first file, which is long and is not written, and each other one twice.
@@ -159,8 +194,13 @@ impl<D: BlockDevice> Game<D> {
         let handles = room.book.handles().saturating_sub(1).max(1);
         let at = (step.lot % handles as u64).saturating_add(1) as usize;
         let call = self.possible(room, at, step.call);
-        match room.made.push(Made { at, call }) {
-            Ok(()) => self.make(room, at, call),
+        self.note_made(room, Made { at, call })
+    }
+
+    /// Makes a call, and notes it.
+    fn note_made(&mut self, room: &mut Room, made: Made) -> Result<(), Odd> {
+        match room.made.push(made) {
+            Ok(()) => self.make(room, made.at, made.call),
             Err(_) => Err(Odd::Memory),
         }
     }
@@ -363,7 +403,8 @@ impl<D: BlockDevice> Game<D> {
         let told = judge_sync(answer, &faults, &owing)?;
         room.book.tell(at, told);
         self.count_told(told);
-        Ok(told == Told::AllWell)
+        self.is_synced = told == Told::AllWell;
+        Ok(self.is_synced)
     }
 
     fn poll(&mut self, room: &mut Room, at: usize) -> Result<(), Odd> {
@@ -439,8 +480,9 @@ impl<D: BlockDevice> Game<D> {
         Ok(())
     }
 
-    /// Reads both ends of a file.
+    /// Looks at the size of a file, and reads both its ends.
     fn read_all(&mut self, room: &mut Room, at: usize) -> Result<(), Odd> {
+        self.seek(room, at, Seek::End(0))?;
         let size = room.book.size(at);
         self.read_part(room, at, 0, size.min(self.reach))?;
         self.read_part(room, at, MAX_FILE_SIZE.saturating_sub(self.reach), size)

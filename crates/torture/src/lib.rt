@@ -20,7 +20,9 @@ mod step;
 mod told;
 mod window;
 
+pub use game::{Calls, Made};
 pub use halves::{Trial, fewest};
-pub use plan::Plan;
+pub use plan::{Failing, Plan};
 pub use run::{Played, Room, play, run_torture, torture};
+pub use step::{Call, Span};
 pub use told::{Difference, Fault, Findings, Options, Wrong, tell};

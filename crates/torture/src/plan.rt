@@ -3,6 +3,7 @@
 ghost use Rattle.std.specs.Prelude.{◌<◌, ◌≤◌};
 
 use crate::chance::Chance;
+use blockdev::Fault;
 use pc_types::limits::{CLEAN_FRAMES, MIN_DIRTY_LIMIT, MIN_FRAMES, MIN_PAGE_SIZE};
 use pc_types::{Geometry, Refusal};
 
@@ -11,6 +12,15 @@ const MOST_PAGES: u64 = 96;
 
 /// The most files that are written.
 const MOST_FILES: u64 = 4;
+
+/// Which device calls fail.
+#[derive(Clone, Copy, Debug)]
+pub enum Failing {
+    /// One of so many, by chance, and none where this is 0.
+    OneOf(u64),
+    /// The one of this number, counted from 0.
+    At(u64, Fault),
+}
 
 /// What a round is played with.
 #[derive(Clone, Copy, Debug)]
@@ -22,8 +32,7 @@ pub struct Plan {
     /// How many files are written, and how many pages at each end of them.
     pub files: u64,
     pub pages: u64,
-    /// One device call of so many fails, and none where this is 0.
-    pub faults: u64,
+    pub failing: Failing,
     /// How many calls are made.
     pub calls: u64,
     /// The call whose write or truncation the plain files leave out, if there is one: a difference that is to be found.
@@ -46,7 +55,7 @@ impl Plan {
             geometry: Geometry::new(page, frames, dirty_limit, blocks)?,
             files,
             pages,
-            faults: faults(&mut chance),
+            failing: Failing::OneOf(one_of(&mut chance)),
             calls: chance.below(201).saturating_add(100),
             forgets: None,
         })
@@ -89,8 +98,8 @@ fn blocks(chance: &mut Chance, files: u64, pages: u64) -> u64 {
     }
 }
 
-/// Faults: none, few or many.
-fn faults(chance: &mut Chance) -> u64 {
+/// Of how many device calls one fails: of two, of many, or none.
+fn one_of(chance: &mut Chance) -> u64 {
     match chance.below(6) {
         0 | 1 => 0,
         2 => 2,

@@ -5,10 +5,10 @@ ghost use Rattle.torture.specs.Told.{TortureTells};
 
 use crate::desk::Desk;
 use crate::due::{Odd, Wrong};
-use crate::game::Game;
 pub use crate::game::Room;
+use crate::game::{Calls, Game};
 use crate::halves::{Trial, fewest};
-use crate::plan::Plan;
+use crate::plan::{Failing, Plan};
 use crate::told::{Difference, Fault, Findings, Options, tell};
 use blockdev::{BlockDevice, MemDevice};
 use faulty::{FailingDevice, Log};
@@ -30,6 +30,10 @@ pub struct Played {
     pub calls: u64,
     pub refused: Refused,
     pub faults: u64,
+    /// How many calls of the device were made.
+    pub device_calls: u64,
+    /// Whether the last fsync of the calls succeeded.
+    pub synced: bool,
     pub wrong: Option<Wrong>,
 }
 
@@ -40,13 +44,20 @@ impl Played {
             calls: 0,
             refused: Refused::none(),
             faults: 0,
+            device_calls: 0,
+            synced: false,
             wrong: Some(wrong),
         }
     }
 }
 
-/// Plays so many calls of a round.
-pub fn play(alloc: Global, room: &mut Room, plan: &Plan, calls: u64) -> Result<Played, Fault> {
+/// Plays these calls of a round.
+pub fn play(
+    alloc: Global,
+    room: &mut Room,
+    plan: &Plan,
+    calls: Calls<'_>,
+) -> Result<Played, Fault> {
     if room.reset(alloc, plan).is_err() {
         return Err(Fault::Memory);
     }
@@ -58,20 +69,29 @@ pub fn play(alloc: Global, room: &mut Room, plan: &Plan, calls: u64) -> Result<P
     };
     match MemDevice::new(alloc, plan.geometry.page(), plan.geometry.blocks()) {
         Ok(device) => {
-            let seed = plan.seed ^ plan.round;
-            let device = FailingDevice::by_chance(device, seed, plan.faults, lent);
+            let device = failing(device, plan, lent);
             play_over(alloc, room, plan, calls, device, log)
         }
         Err(_) => Err(Fault::Memory),
     }
 }
 
-/// Plays so many calls of a round over a device with this log.
+/// The device, as it fails in this round.
+fn failing(device: MemDevice, plan: &Plan, log: Rc<Cell<Log>>) -> FailingDevice<MemDevice> {
+    match plan.failing {
+        Failing::OneOf(many) => {
+            FailingDevice::by_chance(device, plan.seed ^ plan.round, many, log)
+        }
+        Failing::At(number, fault) => FailingDevice::at(device, number, fault, log),
+    }
+}
+
+/// Plays these calls of a round over a device with this log.
 fn play_over<D: BlockDevice>(
     alloc: Global,
     room: &mut Room,
     plan: &Plan,
-    calls: u64,
+    calls: Calls<'_>,
     device: D,
     log: Rc<Cell<Log>>,
 ) -> Result<Played, Fault> {
@@ -103,10 +123,13 @@ impl<D: BlockDevice> Game<D> {
             Err(Odd::Wrong(wrong)) => Some(wrong),
             Err(Odd::Memory) => return Err(Fault::Memory),
         };
+        let log = self.log();
         Ok(Played {
             calls: room.made.len() as u64,
             refused: self.refused,
-            faults: self.faults(),
+            faults: log.faults(),
+            device_calls: log.calls,
+            synced: self.was_synced,
             wrong,
         })
     }
@@ -122,7 +145,7 @@ struct Replay {
 
 impl Trial for Replay {
     fn shows(&mut self, calls: u64) -> Result<bool, Fault> {
-        let played = play(self.alloc, &mut self.room, &self.plan, calls)?;
+        let played = play(self.alloc, &mut self.room, &self.plan, Calls::Drawn(calls))?;
         Ok(played.wrong.is_some())
     }
 }
@@ -175,7 +198,7 @@ pub fn torture<E: Write>(
             });
             break;
         };
-        let played = play(alloc, &mut room, &plan, plan.calls)?;
+        let played = play(alloc, &mut room, &plan, Calls::Drawn(plan.calls))?;
         findings.add(&played);
         if let Some(wrong) = played.wrong {
             clear(watched, err);
@@ -205,7 +228,7 @@ fn search<E: Write>(
 ) -> Result<Difference, Fault> {
     let mut replay = Replay { alloc, room, plan };
     let calls = fewest(&mut replay, calls)?;
-    let played = play(alloc, &mut replay.room, &plan, calls)?;
+    let played = play(alloc, &mut replay.room, &plan, Calls::Drawn(calls))?;
     let _ = say(err, &replay, played.wrong.unwrap_or(wrong));
     Ok(Difference {
         seed: plan.seed,

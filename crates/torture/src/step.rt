@@ -11,14 +11,14 @@ use std::fmt::Display;
 
 /// The bytes of a write: so many of the pool, from this place on.
 #[derive(Clone, Copy, Debug)]
-pub(crate) struct Span {
-    pub(crate) from: usize,
-    pub(crate) count: usize,
+pub struct Span {
+    pub from: usize,
+    pub count: usize,
 }
 
 /// A call on an open file, or on none.
 #[derive(Clone, Copy, Debug)]
-pub(crate) enum Call {
+pub enum Call {
     Pread(u64, usize),
     Read(usize),
     Pwrite(u64, Span),
