@@ -112,11 +112,6 @@ impl Book {
         self.files.get(self.places.get(at)?.file)
     }
 
-    fn file_mut(&mut self, at: usize) -> Option<&mut File> {
-        let place = self.places.get(at)?;
-        self.files.get_mut(place.file)
-    }
-
     /// How long the handle's file is.
     pub(crate) fn size(&self, at: usize) -> u64 {
         match self.file(at) {
@@ -230,7 +225,7 @@ impl Book {
         if bytes.is_empty() {
             return Ok(());
         }
-        match self.file_mut(at) {
+        match file_of(&self.places, &mut self.files, at) {
             Some(file) => file.plain.write(offset, bytes),
             None => Ok(()),
         }
@@ -249,7 +244,7 @@ impl Book {
     }
 
     pub(crate) fn cut(&mut self, at: usize, size: u64) {
-        if let Some(file) = self.file_mut(at) {
+        if let Some(file) = file_of(&self.places, &mut self.files, at) {
             file.plain.cut(size);
         }
     }
@@ -292,7 +287,7 @@ impl Book {
 
     /// So many writes of the handle's file failed in an fsync.
     pub(crate) fn fail_own(&mut self, at: usize, count: u64) {
-        if let Some(file) = self.file_mut(at) {
+        if let Some(file) = file_of(&self.places, &mut self.files, at) {
             file.failed = file.failed.saturating_add(count);
         }
     }
@@ -308,7 +303,7 @@ impl Book {
             return;
         }
         let others = self.others;
-        let Some(file) = self.file_mut(at) else {
+        let Some(file) = file_of(&self.places, &mut self.files, at) else {
             return;
         };
         let known = Known {
@@ -322,6 +317,12 @@ impl Book {
             place.known = known;
         }
     }
+}
+
+/// The file of a handle.
+fn file_of<'a>(places: &[Place], files: &'a mut [File], at: usize) -> Option<&'a mut File> {
+    let place = places.get(at)?;
+    files.get_mut(place.file)
 }
 
 impl File {

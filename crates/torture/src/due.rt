@@ -99,15 +99,15 @@ impl Faults {
 /// Compares the answer of a read, a write or a truncation with the one that is due. Gives it, or the refusal that was due.
 pub(crate) fn judge(
     answer: Result<u64, Refusal>,
-    due: Due,
+    due: &Due,
     faults: &Faults,
     dirties: bool,
 ) -> Result<Result<u64, Refusal>, Odd> {
     match answer {
         Ok(is) => match due {
-            Due::Number(number) if number == is => Ok(Ok(is)),
-            Due::Number(number) => Err(Odd::Wrong(Wrong::Number(is, number))),
-            Due::Refusal(refusal) => Err(Odd::not_refused(refusal)),
+            Due::Number(number) if *number == is => Ok(Ok(is)),
+            Due::Number(number) => Err(Odd::Wrong(Wrong::Number(is, *number))),
+            Due::Refusal(refusal) => Err(Odd::not_refused(*refusal)),
         },
         Err(refusal) => {
             if may_refuse(refusal, due, faults, dirties) {
@@ -120,13 +120,13 @@ pub(crate) fn judge(
 }
 
 /// Whether a call may be refused so. Before it is known that a block is wanted pages are filled and room is made, which may fail.
-fn may_refuse(refusal: Refusal, due: Due, faults: &Faults, dirties: bool) -> bool {
+fn may_refuse(refusal: Refusal, due: &Due, faults: &Faults, dirties: bool) -> bool {
     match due {
         Due::Number(_) => faults.excuse(refusal, dirties),
         Due::Refusal(Refusal::NoSpace) => {
             refusal == Refusal::NoSpace || faults.excuse(refusal, dirties)
         }
-        Due::Refusal(due) => refusal == due,
+        Due::Refusal(due) => refusal == *due,
     }
 }
 

@@ -248,7 +248,7 @@ impl<D: BlockDevice> Game<D> {
     ) -> Result<Option<u64>, Odd> {
         let faults = Faults::between(before, &self.log.get());
         room.book.fail_others(faults.writes);
-        match judge(answer, due, &faults, dirties)? {
+        match judge(answer, &due, &faults, dirties)? {
             Ok(number) => Ok(Some(number)),
             Err(refusal) => {
                 self.refused.count(refusal);
