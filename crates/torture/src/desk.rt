@@ -26,12 +26,13 @@ pub(crate) struct Desk<D: BlockDevice> {
 impl<D: BlockDevice> Model for Desk<D> {
     ghost use Rattle.std.specs.Prelude.{◌≡◌, All};
     ghost use Rattle.filesvc.specs.Service.{IsOpen};
+    ghost use Rattle.torture.specs.Handles.{AreApart};
 
     ghost Value = { Unit };
 
     ghost view = { λ d. tt };
 
-    ghost invariant = { λ d. All (IsOpen d.solo) d.handles.items × (d.solo.world.core.name ≡ 7) × (d.stray.cache ≡ 8) };
+    ghost invariant = { λ d. All (IsOpen d.solo) d.handles.items × AreApart d.handles.items × (d.solo.world.core.name ≡ 7) × (d.stray.cache ≡ 8) };
 }
 
 impl<D: BlockDevice> Desk<D> {
