@@ -6,6 +6,9 @@ use std::alloc::AllocError;
 use std::fmt;
 use std::fmt::Display;
 
+/// The number of a refusal by `Io`.
+const FAILED: u64 = 14;
+
 /// How an answer differs from that of plain files.
 #[derive(Clone, Copy, PartialEq, Eq, Debug)]
 pub enum Wrong {
@@ -86,9 +89,9 @@ impl Faults {
 
     /// Whether a read, a write or a truncation may be refused so: because a page can't be read, or because no room could be made, since a
     /// write failed. Only a write that makes pages dirty lacks room for these.
-    fn excuse(&self, refusal: Refusal, dirties: bool) -> bool {
+    fn excuse(&self, refusal: &Refusal, dirties: bool) -> bool {
         match refusal {
-            Refusal::Io(code) => self.read == Some(code),
+            Refusal::Io(code) => self.read == Some(*code),
             Refusal::NoFrame => self.writes > 0,
             Refusal::DirtyLimit => dirties && self.writes > 0,
             _ => false,
@@ -110,7 +113,7 @@ pub(crate) fn judge(
             Due::Refusal(refusal) => Err(Odd::not_refused(*refusal)),
         },
         Err(refusal) => {
-            if may_refuse(refusal, due, faults, dirties) {
+            if may_refuse(&refusal, due, faults, dirties) {
                 Ok(Err(refusal))
             } else {
                 Err(Odd::refused(refusal))
@@ -120,13 +123,13 @@ pub(crate) fn judge(
 }
 
 /// Whether a call may be refused so. Before it is known that a block is wanted pages are filled and room is made, which may fail.
-fn may_refuse(refusal: Refusal, due: &Due, faults: &Faults, dirties: bool) -> bool {
+fn may_refuse(refusal: &Refusal, due: &Due, faults: &Faults, dirties: bool) -> bool {
     match due {
         Due::Number(_) => faults.excuse(refusal, dirties),
         Due::Refusal(Refusal::NoSpace) => {
-            refusal == Refusal::NoSpace || faults.excuse(refusal, dirties)
+            *refusal == Refusal::NoSpace || faults.excuse(refusal, dirties)
         }
-        Due::Refusal(due) => refusal == *due,
+        Due::Refusal(due) => *refusal == *due,
     }
 }
 
@@ -161,18 +164,31 @@ pub(crate) enum Told {
 /// Compares the answer of an fsync with what is due: the code of a write that failed meanwhile, that of the flush, or what the handle is
 /// owed.
 pub(crate) fn judge_sync(
-    answer: Result<(), Refusal>,
+    answer: &Result<(), Refusal>,
     faults: &Faults,
     owing: &Owing,
 ) -> Result<Told, Odd> {
     match answer {
-        Ok(()) => match (faults.write.or(faults.flush), owing) {
-            (Some(code), _) => Err(Odd::not_refused(Refusal::Io(code))),
-            (None, Owing::Yes(_)) => Err(Odd::not_refused(Refusal::Io(ErrCode::IO))),
-            (None, _) => Ok(Told::AllWell),
-        },
-        Err(Refusal::Io(code)) => judge_code(code, faults, owing),
-        Err(refusal) => Err(Odd::refused(refusal)),
+        Ok(()) => judge_success(faults, owing),
+        Err(refusal) => judge_failure(refusal, faults, owing),
+    }
+}
+
+fn judge_failure(refusal: &Refusal, faults: &Faults, owing: &Owing) -> Result<Told, Odd> {
+    match refusal {
+        Refusal::Io(code) => judge_code(*code, faults, owing),
+        other => Err(Odd::refused(*other)),
+    }
+}
+
+/// A success is due where no write failed, nor the flush, and the handle is owed nothing.
+fn judge_success(faults: &Faults, owing: &Owing) -> Result<Told, Odd> {
+    if faults.write.is_some() || faults.flush.is_some() {
+        return Err(Odd::Wrong(Wrong::NotRefused(FAILED)));
+    }
+    match owing {
+        Owing::Yes(_) => Err(Odd::Wrong(Wrong::NotRefused(FAILED))),
+        _ => Ok(Told::AllWell),
     }
 }
 
@@ -197,7 +213,7 @@ pub(crate) fn judge_poll(
         Ok(Some(code)) if owing.fits(code) => Ok(Told::Code(code)),
         Ok(Some(code)) => Err(Odd::refused(Refusal::Io(code))),
         Ok(None) => match owing {
-            Owing::Yes(_) => Err(Odd::not_refused(Refusal::Io(ErrCode::IO))),
+            Owing::Yes(_) => Err(Odd::Wrong(Wrong::NotRefused(FAILED))),
             _ => Ok(Told::AllWell),
         },
         Err(refusal) => Err(Odd::refused(refusal)),

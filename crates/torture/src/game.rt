@@ -82,11 +82,16 @@ impl Room {
     fn compare(&mut self, at: usize, offset: u64, count: u64) -> Result<(), Odd> {
         let count = (count as usize).min(self.read.len()).min(self.due.len());
         self.book.read(at, offset, &mut self.due[..count]);
-        match first_unlike(&self.read[..count], &self.due[..count]) {
+        match first_unlike(front(&self.read, count), front(&self.due, count)) {
             Some(place) => Err(Odd::Wrong(Wrong::Byte(offset.saturating_add(place)))),
             None => Ok(()),
         }
     }
+}
+
+/// The first bytes, so many at most.
+fn front(bytes: &[u8], count: usize) -> &[u8] {
+    &bytes[..count.min(bytes.len())]
 }
 
 /// The first place at which the bytes differ.
@@ -400,7 +405,7 @@ impl<D: BlockDevice> Game<D> {
         let owing = room.book.owing(at, before.writes.code);
         let faults = Faults::between(before, &self.log.get());
         room.book.fail_own(at, faults.writes);
-        let told = judge_sync(answer, &faults, &owing)?;
+        let told = judge_sync(&answer, &faults, &owing)?;
         room.book.tell(at, told);
         self.count_told(told);
         self.is_synced = told == Told::AllWell;
@@ -447,9 +452,9 @@ impl<D: BlockDevice> Game<D> {
         }
     }
 
-    /// Makes each call by the handle of another service.
+    /// Makes four calls by the handle of another service.
     fn stray(&mut self) -> Result<(), Odd> {
-        for number in 0..8 {
+        for number in 0..4 {
             match self.desk.call_astray(number) {
                 Err(Refusal::BadHandle) => self.refused.count(Refusal::BadHandle),
                 Err(refusal) => return Err(Odd::refused(refusal)),

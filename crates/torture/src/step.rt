@@ -34,7 +34,7 @@ pub enum Call {
     Open(u64, bool),
     /// Closes the handle that was opened last.
     Close,
-    /// Each call by a handle of another service.
+    /// Four calls by a handle of another service.
     Stray,
 }
 
@@ -53,7 +53,7 @@ pub(crate) struct Steps {
     // bytes at each end of a file that are written
     reach: u64,
     files: u64,
-    ghost sized: { 0 < page },
+    ghost sized: { (0 < page) × (0 < reach) },
 }
 
 /// How many bytes the pool of a round has, from which writes take theirs.

@@ -1,8 +1,11 @@
 //! What was found of rounds, as it is told.
 
-ghost use Rattle.std.specs.Prelude.{◌≡◌, ◌<◌, ◌≤◌, ℕ, IfNone, IfSome};
-ghost use Rattle.textline.specs.Prints.{Writes};
-ghost use Rattle.torture.specs.Told.{AsksFor, Tells, difference_text, findings_text};
+ghost use Rattle.std.specs.Prelude.{◌≡◌, ◌<◌, ◌≤◌, ℕ, Ok, IfErr, IfNone, IfSome, OnErr, OnOk};
+ghost use Rattle.std.specs.Io.KnownBytes.{Appends};
+ghost use Rattle.textline.specs.Prints.{AppendsPart, IsPrintFault, ended};
+ghost use Rattle.textline.specs.Words.{IsNumber};
+ghost use Rattle.storm_text.specs.Asked.{IsNumberUpTo};
+ghost use Rattle.torture.specs.Told.{AsksFor, Tells, findings_text};
 
 pub use crate::due::Wrong;
 use std::fmt;
@@ -38,12 +41,22 @@ impl Options {
             return None;
         }
         let seed = number(words[0].as_bytes())?;
-        let rounds = number(words[1].as_bytes())?;
-        if rounds == 0 || rounds > MOST_ROUNDS {
-            return None;
-        }
+        let rounds = number_up_to(words[1], MOST_ROUNDS)?;
         Some(Options { seed, rounds })
     }
+}
+
+/// The number that a word is, where it is one from 1 to `most`.
+#[tactic(auto, using(crate::proofs::Prints::one_number))]
+fn number_up_to(word: &str, most: u64) -> Option<u64>
+    ensures value { IfSome result (IsNumberUpTo most word.now) }
+    ensures none { IfNone result ((n : ℕ) → ¬ (IsNumberUpTo most word.now n)) }
+{
+    let number = number(word.as_bytes())?;
+    if number == 0 || number > most {
+        return None;
+    }
+    Some(number)
 }
 
 /// A difference: the fewest calls of a round that show it.
@@ -97,6 +110,44 @@ impl Display for Agreement {
     }
 }
 
+/// How many rounds were played, and calls made.
+#[derive(Clone, Copy)]
+struct Counts {
+    rounds: u64,
+    calls: u64,
+}
+
+impl Display for Counts {
+    ghost use Rattle.std.specs.Prelude.{Some};
+    ghost use Rattle.torture.specs.Told.{counts_text};
+
+    ghost output = { λ c. Some (counts_text c.rounds c.calls) };
+
+    fn fmt<W: fmt::Write>(&self, f: &mut fmt::Formatter<W>) -> fmt::Result {
+        write!(f, "rounds {}\ncalls {}", self.rounds, self.calls)
+    }
+}
+
+/// By what calls were refused, and how many device calls failed.
+#[derive(Clone, Copy)]
+struct Trouble {
+    refused: Refused,
+    faults: u64,
+}
+
+impl Display for Trouble {
+    ghost use Rattle.std.specs.Prelude.{Some};
+    ghost use Rattle.torture.specs.Told.{trouble_text};
+
+    ghost output = { λ t. Some (trouble_text t.refused.times t.faults) };
+
+    fn fmt<W: fmt::Write>(&self, f: &mut fmt::Formatter<W>) -> fmt::Result {
+        let refused = self.refused;
+        let faults = self.faults;
+        write!(f, "{refused}\nfaults {faults}")
+    }
+}
+
 impl Display for Findings {
     ghost use Rattle.std.specs.Prelude.{Some};
     ghost use Rattle.torture.specs.Told.{findings_text};
@@ -104,15 +155,16 @@ impl Display for Findings {
     ghost output = { λ f. Some (findings_text f) };
 
     fn fmt<W: fmt::Write>(&self, f: &mut fmt::Formatter<W>) -> fmt::Result {
-        let rounds = self.rounds;
-        let calls = self.calls;
-        let refused = self.refused;
-        let faults = self.faults;
+        let counts = Counts {
+            rounds: self.rounds,
+            calls: self.calls,
+        };
+        let trouble = Trouble {
+            refused: self.refused,
+            faults: self.faults,
+        };
         let agreement = Agreement(self.difference);
-        write!(
-            f,
-            "rounds {rounds}\ncalls {calls}\n{refused}\nfaults {faults}\n{agreement}"
-        )
+        write!(f, "{counts}\n{trouble}\n{agreement}")
     }
 }
 
@@ -124,11 +176,19 @@ pub fn tell<W: Write, E: Write>(
 ) -> u8
     ensures { Tells findings result (W.contents out.old.writer) (W.contents out.new.writer) }
 {
-    let Ok(findings) = findings else {
-        let _ = writeln!(err, "pcache: out of memory");
-        return 4;
-    };
-    match print(out, findings) {
+    match findings {
+        Ok(findings) => tell_findings(out, err, &findings),
+        Err(Fault::Memory) => {
+            let _ = writeln!(err, "pcache: out of memory");
+            4
+        }
+    }
+}
+
+fn tell_findings<W: Write, E: Write>(out: &mut Printer<W>, err: &mut E, findings: &Findings) -> u8
+    ensures { Tells (Ok findings.now) result (W.contents out.old.writer) (W.contents out.new.writer) }
+{
+    match print(out, *findings) {
         Ok(()) => u8::from(findings.difference.is_some()),
         Err(stop) => {
             let _ = writeln!(err, "pcache: {stop}");
@@ -137,7 +197,11 @@ pub fn tell<W: Write, E: Write>(
     }
 }
 
-fn print<W: Write>(out: &mut Printer<W>, findings: Findings) -> Result<(), Stop> {
+fn print<W: Write>(out: &mut Printer<W>, findings: Findings) -> Result<(), Stop>
+    ensures fault { IfErr result IsPrintFault }
+    ensures printed { OnOk result (Appends (W.contents out.old.writer) (W.contents out.new.writer) (ended (findings_text findings))) }
+    ensures begun { OnErr result (AppendsPart (W.contents out.old.writer) (W.contents out.new.writer) (ended (findings_text findings))) }
+{
     print_line(out, findings)?;
     flush(&mut out.writer)
 }
