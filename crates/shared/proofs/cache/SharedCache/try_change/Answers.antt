@@ -13,7 +13,7 @@ use Rattle.shared.proofs.Owning.{change_plain, only_missed, only_settled, only_t
 use Rattle.shared.proofs.Rooming.{final_denied, lost_denied, wants_pass}
 use Rattle.shared.proofs.Sparing.{change_asked}
 use Rattle.shared.proofs.Wanting.{short_missed, short_settled}
-use Rattle.shared.proofs.Settling.{change_begins, change_ends, change_fills, change_noted, denied_on, missed_by, missed_denied, missed_filled, missed_on, missed_room, settles_by, settles_denied, settles_on}
+use Rattle.shared.proofs.Settling.{change_begins, change_ends, change_fills, change_noted, missed_by, missed_denied, missed_filled, missed_on, missed_room, settles_by, settles_denied, settles_on}
 use Rattle.shared.proofs.cache.SharedCache.try_change.Goals as goal
 
 pub returns-in-Err-settle-clause-denied : goal.returns-in-Err-settle-clause-denied

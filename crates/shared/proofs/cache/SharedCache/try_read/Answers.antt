@@ -15,7 +15,7 @@ use Rattle.shared.proofs.Owning.{only_missed, only_try, only_try_denied}
 use Rattle.shared.proofs.Sizes.{read_counted}
 use Rattle.shared.proofs.Rooming.{lost_unwanted, read_unwanted}
 use Rattle.shared.proofs.Wanting.{short_denied, short_missed}
-use Rattle.shared.proofs.Settling.{denied_on, missed_by, missed_denied, missed_filled, settles_by, settles_denied, settles_on}
+use Rattle.shared.proofs.Settling.{missed_by, missed_denied, missed_filled, settles_by, settles_denied, settles_on}
 use Rattle.shared.proofs.cache.SharedCache.try_read.Goals as goal
 
 pub returns-in-Bytes-clause-answer : goal.returns-in-Bytes-clause-answer
