@@ -32,14 +32,7 @@ view w plain = record {
 
 -- what the device has of a page, by the view
 pub held_is : (w : World) (plain : Plain) (f p : ℕ) → on_device w f p ≡ held (view w plain) f p
-held_is w plain f p = go (spot_at w.core f p)
-  where
-    go : (o : Option Spot) → cond (unwrap_or (option_map (λ (x : Spot). x.written) o) false)
-        (block_bytes w (unwrap_or (option_map (λ (x : Spot). x.block) o) 0))
-        (cut [] w.core.sizes.page)
-        ≡ held_by (block_bytes w) w.core.sizes.page o
-    go None = refl
-    go (Some x) = refl
+held_is w plain f p = refl
 
 pub record Coupled (w : World) (plain : Plain) : Type 0 where
   pub good : Good (view w plain)

@@ -21,11 +21,12 @@ use Rattle.machine.proofs.changes.ChangeLaws.{BeginsSync}
 use Rattle.machine.proofs.steps.Choices.{some_of}
 use Rattle.maps.proofs.Found.{found_none}
 use Rattle.machine.proofs.steps.Picks.{past, pick_lowest, pick_none}
-use Rattle.runs.specs.Plain.{Plain, plain_file, no_files}
-use Rattle.runs.specs.World.{World, Move, WorldStep}
+use Rattle.runs.specs.Plain.{Plain, plain_file}
+use Rattle.runs.specs.Seen.{files_seen}
+use Rattle.runs.specs.World.{World, Move, WorldStep, DeviceHolds}
 use Rattle.runs.specs.Runs.{Steps, IsFirst, Run, world_at, plain_at}
 use Rattle.runs.specs.Syncing.{cuts_off, CutOff, IsOnDevice, Begin, InRange, its_file}
-use Rattle.runs.proofs.events.Coupled.{view, held_is}
+use Rattle.runs.proofs.events.Coupled.{view}
 use Rattle.runs.proofs.events.Lookups.{get-insert1}
 use Rattle.runs.proofs.views.Fresh.{IsFresh, IsUnder, fresh_next, under_next, waiting_next}
 use Rattle.runs.proofs.moments.Moments.{climb, coupled_at}
@@ -42,16 +43,16 @@ module _ (w : World) (run : Steps) (first : IsFirst w) (r : Run w run) where
   W k = world_at w run k
 
   abbrev L : ℕ → Plain
-  L k = plain_at run k
+  L k = plain_at w run k
 
   abbrev V : ℕ → View
   V k = view (W k) (L k)
 
   abbrev At : ℕ → Type 0
-  At k = StepAt w no_files run k
+  At k = StepAt w (files_seen w) run k
 
   pub at : (k : ℕ) → k < length run → At k
-  at k h = step_at run w no_files k r h
+  at k h = step_at run w (files_seen w) k r h
 
   pub moves_at : (k : ℕ) (s : At k) → WorldStep (W k) s.move (W (suc k))
   moves_at k s = subst (λ x. WorldStep (W k) s.move x) (sym s.next) s.moves
@@ -80,11 +81,11 @@ module _ (w : World) (run : Steps) (first : IsFirst w) (r : Run w run) where
     seen_now : (k p : ℕ) → i ≤ k → k ≤ length run → Seen (suc k) p ((V k).content f p)
     seen_now k p h l = (k, h, omega arith, ap (λ x. page_of x (plain_file (L k) f) p) (size_at k l))
 
-    pub off_more : (k p : ℕ) → CutOff P run i k f p → CutOff P run i (suc k) f p
+    pub off_more : (k p : ℕ) → CutOff w run i k f p → CutOff w run i (suc k) f p
     off_more k p h =
         record { moment = h.moment; after = h.after; before = let a = h.before in omega arith; cuts = h.cuts }
 
-    pub off_now : (k p : ℕ) (s : At k) → i ≤ k → k ≤ length run → gone_at k s f p ≡ true → CutOff P run i (suc k) f p
+    pub off_now : (k p : ℕ) (s : At k) → i ≤ k → k ≤ length run → gone_at k s f p ≡ true → CutOff w run i (suc k) f p
     off_now k p s h l e =
         record {
           moment = k;
@@ -100,7 +101,7 @@ module _ (w : World) (run : Steps) (first : IsFirst w) (r : Run w run) where
     Fresh k p = IsFresh (V k) (Seen k p) f p
 
     abbrev pub Done : ℕ → ℕ → Type 0
-    Done k p = CutOff P run i k f p ⊎ Fresh k p
+    Done k p = CutOff w run i k f p ⊎ Fresh k p
 
     good_at : (k : ℕ) → Good (V k)
     good_at k = (coupled_at w run first r k).good
@@ -119,11 +120,15 @@ module _ (w : World) (run : Steps) (first : IsFirst w) (r : Run w run) where
     done_on k m p h l short d =
         climb (λ x. Done x p) k m l (λ x a b. done_next x p (omega arith) (omega arith)) d
 
-    pub done_synced : (m p : ℕ) → Done m p → CutOff P run i m f p ⊎ IsOnDevice w run i m f p
+    pub done_synced : (m p : ℕ) → Done m p → CutOff w run i m f p ⊎ IsOnDevice w run i m f p
     done_synced m p d = elim d [
       | inl o ↦ inl o
-      | inr x ↦ (let s = x.on_device in
-          inr (record { moment = s.0; after = s.1; before = s.2; bytes = held_is (W m) (L m) f p ∙ s.3 }))
+      | inr x ↦ (let s = x.seen in inr (record {
+        moment = s.0;
+        after = s.1;
+        before = s.2;
+        bytes = subst (DeviceHolds (W m) f p) s.3 x.on_device;
+      }))
     ]
 
   -- ---- a page while the sync is in progress
@@ -133,7 +138,7 @@ module _ (w : World) (run : Steps) (first : IsFirst w) (r : Run w run) where
     i = a.step
 
     abbrev f : ℕ
-    f = its_file run a
+    f = its_file w run a
 
     -- a write of bytes that the page had is in flight, and is awaited
     abbrev Under : ℕ → Sync → ℕ → Type 0
@@ -144,7 +149,7 @@ module _ (w : World) (run : Steps) (first : IsFirst w) (r : Run w run) where
     Waiting k y p = (y.bound ≡ None) × (towrite (page_at (W k).core f p) ≡ true) × (past y.started p ≡ true)
 
     abbrev Open : ℕ → Sync → ℕ → Type 0
-    Open k y p = CutOff P run i k f p ⊎ (Waiting k y p ⊎ (Under k y p ⊎ Fresh i f k p))
+    Open k y p = CutOff w run i k f p ⊎ (Waiting k y p ⊎ (Under k y p ⊎ Fresh i f k p))
 
     pub record InProgress (k : ℕ) : Type 0 where
       pub sync : Sync
@@ -414,7 +419,9 @@ module _ (w : World) (run : Steps) (first : IsFirst w) (r : Run w run) where
               ]
           clean_page e d false b =
               let fresh : IsFresh (V i) (Seen i f i p) f p = record {
-                on_device = subst (Seen i f i p) (sym ((good0.pages f p).clean d b)) seen0;
+                bytes = (V i).content f p;
+                on_device = inl ((good0.pages f p).clean d b);
+                seen = seen0;
                 flushes =
                     λ t r is k live g q. absurd (let a = ((good0.requests t r is).flush live k).writeback in
                     let c : writeback (page_at (W i).core f p) ≡ true =

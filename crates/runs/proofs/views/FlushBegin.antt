@@ -94,7 +94,7 @@ module _ (v : View) (ok : Good v) (f p b : ℕ) (old_page : Page) (cached : v.pa
 
   evolves : Evolves no_gone v after
   evolves = record {
-    on_device = λ g q _. inl refl;
+    on_device = λ g q _ b h. inl h;
     from = λ u r e k d. elim (put1_tells v.request v.next (Some new) u) [
       | inl h ↦ inr (let a : Some new ≡ Some r = sym h.1 ∙ e in let b : new ≡ r = cc in
           ap (λ (x : Flight). x.bytes) (sym b) ∙ (ok.pages f p).bytes old_page cached
