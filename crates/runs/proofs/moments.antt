@@ -13,7 +13,7 @@ pub mod FilesSeen
 pub mod ReadsRight
 pub mod Reached
 pub mod KeptRequests
-pub mod SpotsKnown
+pub mod ValidBytes
 pub mod Blank
 pub mod Untold
 pub mod Restarts

@@ -11,7 +11,7 @@ use Rattle.runs.specs.Runs.{IsBlank, IsFirst, Run, Steps, world_at}
 use Rattle.runs.specs.Seen.{file_seen, files_seen}
 use Rattle.runs.specs.World.{World, DeviceHolds, on_device}
 use Rattle.runs.proofs.views.View.{valid_of}
-use Rattle.runs.proofs.moments.SpotsKnown.{run_known}
+use Rattle.runs.proofs.moments.ValidBytes.{run_known}
 
 pub blank_first : (w : World) → IsBlank w → IsFirst w
 blank_first w blank = record { catalog = no_catalog; is_catalog = no_catalog_is w.core.sizes; adopts = blank }

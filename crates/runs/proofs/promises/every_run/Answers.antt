@@ -10,7 +10,7 @@ use Rattle.runs.proofs.moments.FilesHeld.{files_are_held}
 use Rattle.runs.proofs.moments.FilesSeen.{files_are_those}
 use Rattle.runs.proofs.moments.ReadsRight.{reads_are_right}
 use Rattle.runs.proofs.moments.Restarts.{runs_may_restart}
-use Rattle.runs.proofs.moments.SpotsKnown.{spots_are_whole_or_first}
+use Rattle.runs.proofs.moments.ValidBytes.{spots_are_whole_or_first}
 use Rattle.runs.proofs.moments.Untold.{other_bytes_are_untold}
 use Rattle.runs.proofs.promises.every_run.Goals as goal
 

@@ -11,7 +11,7 @@ use Rattle.maps.proofs.MapLaws.{get-insert_place}
 use Rattle.runs.specs.Plain.{Plain}
 use Rattle.runs.specs.Runs.{Run, Steps, IsFirst, last}
 use Rattle.runs.specs.Seen.{files_seen}
-use Rattle.runs.specs.Spotted.{SpotsAreWholeOrFirst}
+use Rattle.runs.specs.Valid.{SpotsAreWholeOrFirst}
 use Rattle.runs.specs.World.{World, Move, WorldStep}
 use Rattle.runs.proofs.events.Coupled.{Coupled}
 use Rattle.runs.proofs.moments.CoreSteps.{core_cases}
