@@ -44,6 +44,6 @@ module _ (w : World) (run : Steps) (blank : IsBlank w) (r : Run w run) (k f p : 
   pub blank_holds : (bytes : List ℕ) → DeviceHolds v f p bytes → on_device v f p ≡ bytes
   blank_holds bytes holds = elim holds [
     | inl shows ↦ shows
-    | inr part ↦ absurd (let a = part.0 in let b = part.1 in
+    | inr part ↦ absurd (let a = part.some in let b = part.part in
         elim (whole (spot_at v.core f p) refl) [ inl none ↦ omega arith | inr all ↦ omega arith ])
   ]

@@ -1,5 +1,5 @@
 -- A sync in progress, at each moment of a run: where each page of its range stands that its file had as it began.
-use Rattle.runs.proofs.views.View.{Flight, View, Good, Evolves, put1_here, dirty, writeback, towrite}
+use Rattle.runs.proofs.views.View.{Flight, View, Good, Evolves, Holds, put1_here, dirty, writeback, towrite}
 use Rattle.machine.proofs.steps.Answered.{is_quiet}
 use Rattle.std.proofs.Common.{◌≡◌, ◌≢◌, ℕ, zero, suc, ◌<◌, ◌≤◌, Bool, true, false, not, eqb, eq-eqb, List, length}
 use Rattle.std.proofs.Common.{refl, ap, sym, subst, ◌∙◌, arith, inl, inr}
@@ -18,7 +18,7 @@ use Rattle.machine.specs.Changes.{sync_pick, is_left, to_write, new_sync}
 use Rattle.machine.specs.Step.{Step, SyncReply, SyncStepReply}
 use Rattle.machine.proofs.steps.Cases.{happened}
 use Rattle.machine.proofs.changes.ChangeLaws.{BeginsSync}
-use Rattle.machine.proofs.steps.Choices.{some_of}
+use Rattle.machine.proofs.steps.Choices.{neither, some_of}
 use Rattle.maps.proofs.Found.{found_none}
 use Rattle.machine.proofs.steps.Picks.{past, pick_lowest, pick_none}
 use Rattle.runs.specs.Plain.{Plain, plain_file}
@@ -120,15 +120,40 @@ module _ (w : World) (run : Steps) (first : IsFirst w) (r : Run w run) where
     done_on k m p h l short d =
         climb (λ x. Done x p) k m l (λ x a b. done_next x p (omega arith) (omega arith)) d
 
-    pub done_synced : (m p : ℕ) → Done m p → CutOff w run i m f p ⊎ IsOnDevice w run i m f p
-    done_synced m p d = elim d [
+    -- what the device holds, by the view
+    holds_of : (m p : ℕ) (bytes : List ℕ) → Holds (V m) f p bytes
+        → (dirty (page_at (W m).core f p) || writeback (page_at (W m).core f p)) ≡ true → DeviceHolds (W m) f p bytes
+    holds_of m p bytes h unclean = elim h [
+      | inl shows ↦ inl shows
+      | inr part ↦ inr (record { some = part.0; part = part.1; unclean = unclean; whole = part.2 })
+    ]
+
+    -- a clean page is on the device as it is now, and any other as it was at some moment
+    on_device_by : (m p : ℕ) → i ≤ m → m ≤ length run → Fresh m p → (b : Bool)
+        → (dirty (page_at (W m).core f p) || writeback (page_at (W m).core f p)) ≡ b → IsOnDevice w run i m f p
+    on_device_by m p h short x true unclean =
+        let s = x.seen in
+        record {
+          moment = s.0;
+          after = s.1;
+          before = s.2;
+          bytes = subst (DeviceHolds (W m) f p) s.3 (holds_of m p x.bytes x.on_device unclean);
+        }
+    on_device_by m p h short x false clean =
+        let tags = neither (dirty (page_at (W m).core f p)) (writeback (page_at (W m).core f p)) clean in
+        record {
+          moment = m;
+          after = h;
+          before = omega arith;
+          bytes = inl (((good_at m).pages f p).clean tags.0 tags.1
+              ∙ ap (λ z. page_of z (plain_file (L m) f) p) (size_at m short));
+        }
+
+    pub done_synced : (m p : ℕ) → i ≤ m → m ≤ length run → Done m p → CutOff w run i m f p ⊎ IsOnDevice w run i m f p
+    done_synced m p h short d = elim d [
       | inl o ↦ inl o
-      | inr x ↦ (let s = x.seen in inr (record {
-        moment = s.0;
-        after = s.1;
-        before = s.2;
-        bytes = subst (DeviceHolds (W m) f p) s.3 x.on_device;
-      }))
+      | inr x ↦ inr (on_device_by m p h short x
+          (dirty (page_at (W m).core f p) || writeback (page_at (W m).core f p)) refl)
     ]
 
   -- ---- a page while the sync is in progress

@@ -161,7 +161,7 @@ syncs_are_synced w run first r a j k c late short p within small =
     let over = clean_step w run first r a j q.sync (world_at w run (suc j)).core q.is
     (core_j w run first r a j reply.Clean c) in
     let done_j = ended_pages w run first r a j q over p within in
-    done_synced w run first r a.step (its_file w run a) k p
+    done_synced w run first r a.step (its_file w run a) k p (let b = c.before in omega arith) short
     (done_on w run first r a.step (its_file w run a) j k p (let b = c.before in omega arith) late short done_j)
 
 pub syncs_tell : SyncsTell
