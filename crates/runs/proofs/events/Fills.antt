@@ -1,5 +1,5 @@
 -- A fill begins, or a page without a block is cached at once.
-use Rattle.std.proofs.Common.{◌≡◌, ℕ, ◌+◌, ◌<◌, Bool, true, false, cond, not, eqb, eq-eqb, List, [], length, refl, ap}
+use Rattle.std.proofs.Common.{◌≡◌, ℕ, ◌+◌, ◌<◌, true, false, cond, not, eqb, eq-eqb, List, [], length, refl, ap}
 use Rattle.std.proofs.Common.{sym, subst, ◌∙◌, ◌&&◌, Option, Some, None, is_some, option_map, nat_cmp}
 use Rattle.std.specs.Prelude.{unwrap_or}
 use Rattle.std.specs.FinMap as finmap

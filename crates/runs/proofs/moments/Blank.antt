@@ -1,5 +1,5 @@
 -- Runs from a cache without files: no page stands on a part of a block.
-use Rattle.std.proofs.Common.{◌≡◌, ℕ, ◌≤◌, ◌⊎◌, List, length, refl, ap, sym, ◌∙◌, arith, inl, inr, Option, Some, None, map}
+use Rattle.std.proofs.Common.{◌≡◌, ℕ, ◌≤◌, ◌⊎◌, List, length, refl, ap, ◌∙◌, arith, inl, inr, Option, Some, None, map}
 use Rattle.std.specs.FinMap as finmap
 use Rattle.std.specs.List.{range_with_len}
 use Rattle.pc_types.specs.Spots.{Spot, place_cmp}

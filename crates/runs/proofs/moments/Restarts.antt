@@ -1,5 +1,5 @@
 -- Where a run ends clean, another begins with its files.
-use Rattle.std.proofs.Common.{◌≡◌, ℕ, zero, suc, ◌+◌, ◌-◌, ◌*◌, ◌/◌, ◌%◌, ◌<◌, ◌≤◌, cond, ltb, min, List, [], ◌∷◌, length, get_or}
+use Rattle.std.proofs.Common.{◌≡◌, ℕ, zero, suc, ◌+◌, ◌-◌, ◌*◌, ◌/◌, ◌%◌, ◌<◌, ◌≤◌, min, List, [], ◌∷◌, length, get_or}
 use Rattle.std.proofs.Common.{refl, ap, sym, subst, ◌∙◌, arith, map, Option, Some, None, is_some, option_map, take_all}
 use Rattle.std.specs.FinMap as finmap
 use Rattle.std.proofs.lemmas.Bool.Decides.{nat_tests}
@@ -12,7 +12,7 @@ use Rattle.pc_types.proofs.FileLaws.{byte-page}
 use Rattle.pc_types.proofs.SpotLaws.{byte-shown, length-shown}
 use Rattle.maps.proofs.MapLaws.{get-each_place}
 use Rattle.machine.specs.Catalogs.{Catalog, IsCatalog, IsAdoptable, size_in, catalog_of}
-use Rattle.machine.specs.State.{State, File, no_file, file_at, page_at, spot_at}
+use Rattle.machine.specs.State.{State, File, no_file, file_at, spot_at}
 use Rattle.machine.proofs.changes.Adopted.{adopted_file, none_cached, same_count}
 use Rattle.machine.proofs.steps.Choices.{mapped_some}
 use Rattle.runs.specs.Plain.{Plain, plain_file}

@@ -1,5 +1,5 @@
 -- Bytes of blocks that are not valid are never told.
-use Rattle.std.proofs.Common.{◌≡◌, ℕ, ◌/◌, ◌%◌, List, [], ◌∷◌, length, get_or, refl, ap, sym, ◌∙◌, arith, take, map, Option, Some}
+use Rattle.std.proofs.Common.{◌≡◌, ℕ, ◌/◌, ◌%◌, List, [], ◌∷◌, length, get_or, refl, ap, sym, ◌∙◌, arith, map, Option, Some}
 use Rattle.std.proofs.Common.{None}
 use Rattle.std.specs.FinMap as finmap
 use Rattle.std.specs.List.{range_with_len}

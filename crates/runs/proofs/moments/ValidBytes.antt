@@ -1,5 +1,5 @@
 -- How many bytes of a page's block are valid: none, all, or those that the run began with.
-use Rattle.std.proofs.Common.{◌≡◌, ℕ, ◌+◌, ◌/◌, ◌<◌, ◌≤◌, Bool, true, false, cond, eqb, List, length, refl, ap, sym, ◌∙◌, subst}
+use Rattle.std.proofs.Common.{◌≡◌, ℕ, ◌/◌, ◌<◌, Bool, true, false, cond, eqb, List, length, refl, ap, sym, ◌∙◌}
 use Rattle.std.proofs.Common.{inl, inr, ◌&&◌, ◌⊎◌, Option, Some, None, nat_le, take}
 use Rattle.std.specs.FinMap as finmap
 use Rattle.pc_types.specs.Spots.{Spot}

@@ -103,7 +103,7 @@ module _ (w : World) (run : Steps) (first : IsFirst w) (r : Run w run) where
     abbrev pub Done : ℕ → ℕ → Type 0
     Done k p = CutOff w run i k f p ⊎ Fresh k p
 
-    good_at : (k : ℕ) → Good (V k)
+    pub good_at : (k : ℕ) → Good (V k)
     good_at k = (coupled_at w run first r k).good
 
     done_next : (k p : ℕ) → i ≤ k → k < length run → Done k p → Done (suc k) p
@@ -170,7 +170,7 @@ module _ (w : World) (run : Steps) (first : IsFirst w) (r : Run w run) where
     Under k y p = (t : ℕ) × IsUnder (V k) (Seen i f k p) f p t × ((b : ℕ) → y.bound ≡ Some b → t < b)
 
     -- the page is still to be started
-    abbrev Waiting : ℕ → Sync → ℕ → Type 0
+    abbrev pub Waiting : ℕ → Sync → ℕ → Type 0
     Waiting k y p = (y.bound ≡ None) × (towrite (page_at (W k).core f p) ≡ true) × (past y.started p ≡ true)
 
     abbrev Open : ℕ → Sync → ℕ → Type 0
@@ -187,14 +187,14 @@ module _ (w : World) (run : Steps) (first : IsFirst w) (r : Run w run) where
       pub least : sync.failures ≤ (file_at (W k).core f).failures
       pub pages : (file_at (W k).core f).failures ≡ sync.failures → (p : ℕ) → InRange a p → Open k sync p
 
-    none_some : {A : Type 0} (o : Option A) (x : A) → o ≡ None → o ≡ Some x → ⊥
+    pub none_some : {A : Type 0} (o : Option A) (x : A) → o ≡ None → o ≡ Some x → ⊥
     none_some o x a b = cc
 
     -- the file that the sync's handle names
     pub file_is : (k : ℕ) (q : InProgress k) → handle_file (W k).core q.sync.handle ≡ f
     file_is k q = ap (λ x. handle_file (W k).core x) q.handle ∙ ap (λ o. unwrap_or o 0) q.file
 
-    range_is : (k : ℕ) (q : InProgress k) (p : ℕ) → InRange a p → in_range q.sync p ≡ true
+    pub range_is : (k : ℕ) (q : InProgress k) (p : ℕ) → InRange a p → in_range q.sync p ≡ true
     range_is k q p within = let b = q.low in let c = q.high in let d = within.0 in let e = within.1 in
         grind (arith, nat_tests)
 
@@ -202,7 +202,7 @@ module _ (w : World) (run : Steps) (first : IsFirst w) (r : Run w run) where
     opened_at k q = ap (λ x. is_open (W k).core x) q.handle ∙ ap is_some q.file
 
     -- a page that waits is left to be started
-    to_start : (k : ℕ) (q : InProgress k) (p : ℕ) → InRange a p → Waiting k q.sync p
+    pub to_start : (k : ℕ) (q : InProgress k) (p : ℕ) → InRange a p → Waiting k q.sync p
         → (x : Page) × (page_at (W k).core (handle_file (W k).core q.sync.handle) p ≡ Some x)
         × (is_left q.sync (p, x) ≡ true)
     to_start k q p within waits = go (page_at (W k).core f p) refl waits.1
@@ -242,7 +242,7 @@ module _ (w : World) (run : Steps) (first : IsFirst w) (r : Run w run) where
       past_more : (e p : ℕ) → e ≤ p → e ≢ p → past (Some e) p ≡ true
       past_more e p l n = grind (arith, nat_tests)
 
-      waiting_on : (p : ℕ) → InRange a p → Waiting k q.sync p → towrite (page_at (W (suc k)).core f p) ≡ true
+      pub waiting_on : (p : ℕ) → InRange a p → Waiting k q.sync p → towrite (page_at (W (suc k)).core f p) ≡ true
           → Waiting (suc k) tr.now p
       waiting_on p within waits tag = elim tr.how [
         | inl x ↦ (x.bound ∙ waits.0, tag, ap (λ l. past l p) x.started ∙ waits.2)
@@ -328,7 +328,7 @@ module _ (w : World) (run : Steps) (first : IsFirst w) (r : Run w run) where
     abbrev failures_of : ℕ → Sync → ℕ
     failures_of k y = (file_at (W k).core (handle_file (W k).core y.handle)).failures
 
-    abbrev Ended : ℕ → Sync → Type 0
+    abbrev pub Ended : ℕ → Sync → Type 0
     Ended k y = (failures_of k y ≡ y.failures) × ((sync_pick (W k).core y ≡ None) × (first_awaited (W k).core y ≡ None))
 
     pub clean_step : (k : ℕ) (y : Sync) (new : State) → finmap.get (W k).core.syncs a.number.0 ≡ Some y

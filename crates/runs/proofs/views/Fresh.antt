@@ -26,7 +26,7 @@ module _ (v w : View) (ok : Good v) (gone : ℕ → ℕ → Bool) (ev : Evolves 
   from_now : (t : ℕ) (r : Flight) → w.request t ≡ Some r → r.kind ≡ Flush → r.dropped ≡ false → r.file ≡ f → r.page ≡ p
       → (v.request t ≡ Some r → Later r.bytes) → Later r.bytes
   from_now t r e k d g q old =
-      elim (ev.from t r e k d) [ inl h ↦ old h | inr h ↦ subst Later (sym (h ∙ (λ i. v.content (g i) (q i)))) now ]
+      elim (ev.from t r e k d) [ inl h ↦ old h | inr h ↦ subst Later (sym (h.bytes ∙ (λ i. v.content (g i) (q i)))) now ]
 
   flushes_next : IsFresh v Seen f p → (t : ℕ) (r : Flight) → w.request t ≡ Some r → r.kind ≡ Flush
       → r.dropped ≡ false → r.file ≡ f → r.page ≡ p → Later r.bytes

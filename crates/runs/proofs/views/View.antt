@@ -1,5 +1,5 @@
 -- A world and its plain files, as look-ups alone, and what holds of them always.
-use Rattle.std.proofs.Common.{◌≡◌, ℕ, ◌+◌, ◌<◌, ◌≤◌, ◌≢◌, Bool, true, false, cond, eqb, eqb-true, eq-eqb, List, []}
+use Rattle.std.proofs.Common.{◌≡◌, ℕ, ◌+◌, ◌<◌, ◌≤◌, ◌≢◌, Bool, true, false, cond, eqb, eqb-true, eq-eqb, List}
 use Rattle.std.proofs.Common.{length, refl, ap, sym, ◌∙◌, arith, inl, inr, subst}
 use Rattle.std.specs.Prelude.{◌&&◌, ◌⊎◌, Option, Some, None, is_some, option_map, unwrap_or, nat_lt}
 use Rattle.std.proofs.lemmas.Bool.{false≢true}
@@ -243,11 +243,17 @@ pub record IsStarted (v w : View) (f p : ℕ) : Type 0 where
   pub page : request.page ≡ p
   pub bytes : request.bytes ≡ v.content f p
 
+-- a write of a DIRTY page begins, with its bytes
+pub record Begins (v : View) (t : ℕ) (r : Flight) : Type 0 where
+  pub fresh_serial : v.request t ≡ None
+  pub was_dirty : dirty (v.page r.file r.page) ≡ true
+  pub bytes : r.bytes ≡ v.content r.file r.page
+
 pub record Evolves (gone : ℕ → ℕ → Bool) (v w : View) : Type 0 where
   pub on_device : (f p : ℕ) → gone f p ≡ false → (bytes : List ℕ) → Holds v f p bytes
       → Holds w f p bytes ⊎ WasFlushed v w f p
   pub from : (t : ℕ) (r : Flight) → w.request t ≡ Some r → r.kind ≡ Flush → r.dropped ≡ false → (v.request t ≡ Some r)
-      ⊎ (r.bytes ≡ v.content r.file r.page)
+      ⊎ Begins v t r
   pub flush : (t : ℕ) (r : Flight) → v.request t ≡ Some r → r.kind ≡ Flush → r.dropped ≡ false
       → gone r.file r.page ≡ false → (w.request t ≡ Some r)
       ⊎ ((w.failures r.file ≡ v.failures r.file + 1) ⊎ ((w.request t ≡ None) × (held w r.file r.page ≡ r.bytes)))

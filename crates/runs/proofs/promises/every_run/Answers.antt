@@ -11,6 +11,7 @@ use Rattle.runs.proofs.moments.FilesSeen.{files_are_those}
 use Rattle.runs.proofs.moments.ReadsRight.{reads_are_right}
 use Rattle.runs.proofs.moments.Restarts.{runs_may_restart}
 use Rattle.runs.proofs.moments.ValidBytes.{spots_are_whole_or_first}
+use Rattle.runs.proofs.syncs.EndsClean.{syncs_leave_clean}
 use Rattle.runs.proofs.moments.Untold.{other_bytes_are_untold}
 use Rattle.runs.proofs.promises.every_run.Goals as goal
 
@@ -64,3 +65,6 @@ returns-clause-untold c = other_bytes_are_untold
 
 pub returns-clause-restart : goal.returns-clause-restart
 returns-clause-restart c = runs_may_restart
+
+pub returns-clause-clean : goal.returns-clause-clean
+returns-clause-clean c = syncs_leave_clean
