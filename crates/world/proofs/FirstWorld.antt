@@ -11,6 +11,7 @@ use Rattle.maps.proofs.Filtered.{filter_map_values-empty}
 use Rattle.machine.specs.State.{State, Request}
 use Rattle.machine.specs.History.{no_files}
 use Rattle.runs.specs.Runs.{IsFirst}
+use Rattle.runs.proofs.moments.Blank.{blank_first}
 use Rattle.world.specs.Stepping.{first_world, world_of}
 use Rattle.world.specs.Flights.{Jobs, outcome_in, written_by, seen_of, HasJob, IsWorld}
 use Rattle.blockdev.specs.Watching.{first_watch}
@@ -40,14 +41,14 @@ told_first g name dev some size count = by_contents dev.contents refl
     by_contents None e sized = tt
     by_contents (Some blocks) e sized =
         let same : unwrap_or dev.contents [] ≡ blocks = ap (λ o. unwrap_or o []) e in
-        record {
+        blank_first _ (record {
           page_size = some;
           core = refl;
           outcomes = refl;
           writing = refl;
           blocks = ap length same ∙ sized.0 ∙ count;
           block_sizes = subst (All (λ block. length block ≡ g.page)) (sym same) (λ k d l. sized.1 k d l ∙ size);
-        }
+        })
 
 pub is_first : (g : Sizes) (name : ℕ) (core : State) (jobs : Jobs) (dev : Told) → core ≡ no_files g name
     → jobs ≡ finmap.empty → 0 < g.page → dev.size ≡ g.page → dev.count ≡ g.blocks → IsSized dev
