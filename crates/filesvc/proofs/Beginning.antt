@@ -10,7 +10,7 @@ use Rattle.runs.specs.Reached.{IsReached}
 use Rattle.runs.specs.Runs.{IsFirst}
 use Rattle.machine.specs.History.{no_files}
 use Rattle.machine.specs.Sound.{Sound}
-use Rattle.machine.proofs.sound.Steps.{histories_are_sound}
+use Rattle.machine.proofs.sound.Steps.{blank_sound}
 use Rattle.world.specs.Stepping.{WorldSeen, first_world, world_of}
 use Rattle.pc_types.specs.Limits.{Sizes}
 use Rattle.runs.proofs.moments.Reached.{reached_first}
@@ -36,7 +36,7 @@ pub lists_in : (all : List (List Recording)) → all ≡ replicate files [] → 
 lists_in all e = ap length e ∙ length-replicate {A = List Recording} files []
 
 pub sound_at : (g : Sizes) (name : ℕ) (d : Told) (w : WorldSeen) → w ≡ first_world g name d → Sound w.core
-sound_at g name d w e = subst (λ (x : WorldSeen). Sound x.core) (sym e) (histories_are_sound g name [] (no_files g name) refl)
+sound_at g name d w e = subst (λ (x : WorldSeen). Sound x.core) (sym e) (blank_sound g name [] (no_files g name) refl)
 
 pub orderly_at : (g : Sizes) (name : ℕ) (d : Told) (w : WorldSeen) → MIN_PAGE_SIZE ≤ g.page → w ≡ first_world g name d
     → IsOrderly w.core

@@ -26,7 +26,7 @@ use Rattle.machine.specs.History.{no_files}
 use Rattle.machine.specs.Sound.{Sound}
 use Rattle.machine.specs.State.{State, Request}
 use Rattle.machine.specs.Step.{Step}
-use Rattle.machine.proofs.sound.Steps.{histories_are_sound}
+use Rattle.machine.proofs.sound.Steps.{blank_sound}
 use Rattle.pc_types.specs.Limits.{Sizes}
 use Rattle.pc_types.specs.declared.ids.HandleId.{HandleId}
 use Rattle.pc_types.specs.declared.ids.PageIndex.{PageIndex}
@@ -50,7 +50,7 @@ use Rattle.held.specs.Started.{IsAtHome, Returns, fill_job, flush_job, given_out
 use Rattle.held.proofs.Ends.{ended_as}
 
 pub sound_in : (log : LogSeen) (core : State) → IsHeld log core → Sound core
-sound_in log core i = histories_are_sound core.sizes core.name (map seatless log.history) core i.history
+sound_in log core i = blank_sound core.sizes core.name (map seatless log.history) core i.history
 
 -- ---- what begins
 

@@ -10,14 +10,14 @@ use Rattle.machine.specs.declared.event.Reply.{Reply}
 use Rattle.machine.specs.State.{State, Page, Request, Sync, file_at, handle_file, page_at, block_at, tags_of, in_range}
 use Rattle.machine.specs.Changes.{to_write, new_sync, sync_begun, is_left}
 use Rattle.maps.specs.Maps.{each_value}
-use Rattle.machine.specs.Catalogs.{Catalog, IsCatalog, adopted}
+use Rattle.machine.specs.Catalogs.{Catalog, IsCatalog, adopted, no_catalog}
 use Rattle.machine.specs.History as history
 use Rattle.machine.specs.Step.{Step}
 use Rattle.machine.specs.Sound.{Sound, StepsStaySound, HistoriesAreSound}
 use Rattle.machine.proofs.steps.Cases.{Cases, by_cases}
 use Rattle.machine.proofs.steps.Choices.{and_true, mapped_some}
 use Rattle.maps.proofs.Maps.{get-each_value}
-use Rattle.machine.proofs.changes.Adopted.{none_cached}
+use Rattle.machine.proofs.changes.Adopted.{no_catalog_is, none_cached}
 use Rattle.machine.proofs.sound.Changes.{lookups, TagsFit, IsRetagged, dirty, towrite, tags_fit, not_retagged}
 use Rattle.machine.proofs.sound.Changes.{pages_retagged, same_lookups}
 use Rattle.machine.proofs.sound.Cuts.{shrunk_sound}
@@ -140,3 +140,8 @@ leads_sound old (e ∷ es) new ok h = leads_sound h.0 es new (steps_stay_sound o
 pub histories_are_sound : HistoriesAreSound
 histories_are_sound catalog sizes name es new ok h =
     leads_sound (adopted sizes name catalog) es new (first_sound catalog sizes name ok) h
+
+-- and so does one from a cache without files
+pub blank_sound : (sizes : Sizes) (name : ℕ) (es : List (Event × Reply)) (new : State) → history.After sizes name es new
+    → Sound new
+blank_sound sizes name es new h = histories_are_sound no_catalog sizes name es new (no_catalog_is sizes) h
