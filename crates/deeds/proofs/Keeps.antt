@@ -1,6 +1,6 @@
 -- Each step keeps the rule.
 use Rattle.std.proofs.Common.{◌≡◌, ◌≢◌, ℕ, zero, suc, ◌⊎◌, Bool, true, false, List, [], ◌∷◌, ◌++◌, map, length, set, inl, inr, refl, sym, ap, ◌∙◌, subst, ⊎_elim, true≢false, length-set, arith}
-use Rattle.std.specs.Prelude.{slice_get, slice_set, Option, Some, None, option_map, is_some, IfSome}
+use Rattle.std.specs.Prelude.{slice_get, slice_set, Option, Some, None, Ok, Err, option_map, is_some, IfSome}
 use Rattle.std.proofs.lemmas.Option.{none-some, same_Some}
 use mathlib.Core.Option.{some, some-injective, some-ne-none}
 use lib.ListN.{get_elem?}
@@ -11,9 +11,12 @@ use Rattle.deeds.specs.declared.views.Deed.{Deed}
 use Rattle.deeds.specs.declared.views.Place.{Place}
 use Rattle.deeds.specs.declared.views.Place.TheVariants.{Home, Out}
 use Rattle.deeds.specs.declared.views.View.{View}
-use Rattle.deeds.specs.Comes.{Comes}
+use Rattle.blockdev.specs.Device.{Outcome}
+use Rattle.pc_types.specs.declared.kind.Kind.{Kind}
+use Rattle.pc_types.specs.declared.kind.Kind.TheVariants.{Fill, Flush}
+use Rattle.deeds.specs.Comes.{Comes, Leaves, MayHave}
 use Rattle.deeds.specs.Views.{block_of, undone, carried, spent, opening_view, desk_view, both_view, device_with, desk_with, first_of, together, without_device, device_alone, without_deed, deed_alone}
-use Rattle.deeds.specs.Rules.{bytes_now, FitsDeed, Fits, Part, the_device, the_desk, the_deed, Has, IsKept, Opened, GivenOut, Carried, TakenBack, Compared, Knows, NoneOut}
+use Rattle.deeds.specs.Rules.{bytes_now, FitsDeed, Fits, HasOut, Part, the_device, the_desk, the_deed, Has, IsKept, Opened, GivenOut, Carried, TakenBack, Compared, Knows, NoneOut}
 use Rattle.deeds.proofs.Alone.{Each, Nobody, each_set, each_push, alone_set, alone_cut, alone_join, there_before}
 use Rattle.deeds.proofs.Lists.{get_set, set_here, set_else, mapped_at}
 
@@ -29,6 +32,13 @@ IsOut (Out g) = Unit {0}
 abbrev bytes_in : Place → List ℕ
 bytes_in (Home bytes) = bytes
 bytes_in (Out g) = []
+
+abbrev given_of : Place → Option Given
+given_of (Home bytes) = None
+given_of (Out g) = Some g
+
+same_given : (g h : Given) → Out g ≡ Out h → g ≡ h
+same_given g h e = same_Some g h (ap given_of e)
 
 out_home : (g : Given) (bytes : List ℕ) → Out g ≡ Home bytes → ⊥
 out_home g bytes e = subst IsOut e tt
@@ -67,6 +77,23 @@ nothing : (p : Part) → Has p spent → ⊥
 nothing the_device h = true≢false (sym h)
 nothing the_desk h = true≢false (sym h)
 nothing (the_deed k) h = none-some k h
+
+-- what came of a deed's call may be had by its block
+comes_had : (told : Bool) (g : Given) (x : Done) → Comes told g.task g.before x.finished x.left
+    → MayHave told g.task g.before x.left
+comes_had told g x c tells = go g.task.kind refl x.finished.outcome (c.leaves tells)
+  where
+    go : (k : Kind) → g.task.kind ≡ k → (r : Outcome) → Leaves k g.before g.task.bytes r x.finished.bytes x.left
+        → (x.left ≡ g.before) ⊎ ((g.task.kind ≡ Flush) × (x.left ≡ g.task.bytes))
+    go Fill is r l = inl l.0
+    go Flush is (Ok u) l = inr (is, l.1)
+    go Flush is (Err c) l = ⊎_elim (λ e. inl e) (λ e. inr (is, e)) l.2
+
+same_or_else : (i j : ℕ) → (i ≡ j) ⊎ (i ≢ j)
+same_or_else zero zero = inl refl
+same_or_else zero (suc j) = inr (λ h. omega arith)
+same_or_else (suc i) zero = inr (λ h. omega arith)
+same_or_else (suc i) (suc j) = ⊎_elim (λ e. inl (ap suc e)) (λ n. inr (λ h. n (omega arith))) (same_or_else i j)
 
 -- ---- what stays true of a view while blocks or places change
 
@@ -141,6 +168,7 @@ cut s r id v left right at fl fr l n a =
       places = r.places;
       count = r.count;
       home = r.home;
+      out = r.out;
       each = each_push F (set s.views id left) right (each_set F s.views id left fl (λ j u _ e. r.each j u e)) fr;
       alone = alone_cut s.views id v left right at l n a r.alone;
     }
@@ -171,6 +199,7 @@ takes_in id other v w s r at n e =
       places = r.places;
       count = r.count;
       home = r.home;
+      out = r.out;
       each = each_set F (set s.views id (together v w)) other spent (tt, tt, tt)
           (λ j u _ x. each_set F s.views id (together v w) both (λ i y _ z. r.each i y z) j u x);
       alone = alone_join s.views id other v w (together v w) spent at there (own v w) nothing r.alone;
@@ -212,6 +241,12 @@ gives slots id told places g c home s r _ at _ =
             (λ (e : (block ≡ k) × (Out g ≡ Home bytes)). absurd (out_home g bytes e.1))
             (λ (e : (block ≢ k) × (slice_get r.places block ≡ Some (Home bytes))). r.home block bytes e.1)
             (get_set r.places k block (Out g) (Home bytes) h);
+        out = λ block x h. ⊎_elim
+            (λ (e : (block ≡ k) × (Out g ≡ Out x)). subst (λ (y : Given). HasOut r.told r.blocks block y)
+            (same_given g x e.1)
+            (g.before, ap (λ j. slice_get r.blocks j) e.0 ∙ r.home k g.before home', λ _. inl refl))
+            (λ (e : (block ≢ k) × (slice_get r.places block ≡ Some (Out x))). r.out block x e.1)
+            (get_set r.places k block (Out g) (Out x) h);
         each = each_set (Fits r.told r.blocks places') s.views id w (
           tt,
           (λ i. (t i, slice_set (same i) k (Out g))),
@@ -260,6 +295,16 @@ carries slots id told blocks g x c comes s r _ at _ =
         count = r.count ∙ sym (length-set r.blocks k x.left);
         home = λ block bytes h. set_else r.blocks k block x.left bytes
             (λ is. apart r.places k g bytes out (ap (λ j. slice_get r.places j) (sym is) ∙ h)) (r.home block bytes h);
+        out = λ block y h. ⊎_elim
+            (λ (is : block ≡ k). subst (λ (z : Given). HasOut r.told blocks' block z)
+            (same_given g y (same_Some _ _ (sym out ∙ ap (λ j. slice_get r.places j) (sym is) ∙ h))) (
+              x.left,
+              ap (λ j. slice_get blocks' j) is ∙ set_here r.blocks k x.left g.before was,
+              comes_had r.told g x (subst (λ b. Comes b g.task g.before x.finished x.left) t (comes here)),
+            ))
+            (λ (n : block ≢ k). let o = r.out block y h in
+            (o.0, set_else r.blocks k block x.left o.0 n o.1, o.2))
+            (same_or_else block k);
         each = each_set (Fits r.told blocks' r.places) s.views id w (
           (λ i. (t i, slice_set (same i) k x.left)),
           tt,
@@ -311,6 +356,10 @@ takes_back slots id told places d c s r _ at _ =
             ap (λ j. slice_get r.blocks j) e.0 ∙ mine.2.1 ∙ ap (λ p. Some (bytes_in p)) e.1)
             (λ (e : (block ≢ k) × (slice_get r.places block ≡ Some (Home there))). r.home block there e.1)
             (get_set r.places k block (Home bytes) (Home there) h);
+        out = λ block g h. ⊎_elim
+            (λ (e : (block ≡ k) × (Home bytes ≡ Out g)). absurd (out_home g bytes (sym e.1)))
+            (λ (e : (block ≢ k) × (slice_get r.places block ≡ Some (Out g))). r.out block g e.1)
+            (get_set r.places k block (Home bytes) (Out g) h);
         each = each_set (Fits r.told r.blocks places') s.views id w
             (tt, (λ i. (t i, slice_set (same i) k (Home bytes))), tt)
             (λ j u n e. still r.told r.blocks r.blocks r.places places' u (r.each j u e) (λ _. refl)
@@ -343,6 +392,7 @@ pub compares : (slots id : ℕ) (d : Bool × Blocks) (p : Bool × List Place) (c
 compares slots id d p c s r _ at _ =
     let w : View = both_view d p in
     let mine = r.each id w at in
+    let t : d.0 ≡ r.told = ap (λ (x : Bool × Blocks). x.0) mine.0 in
     let bs : d.1 ≡ r.blocks = ap (λ (x : Bool × Blocks). x.1) mine.0 in
     let ps : p.1 ≡ r.places = ap (λ (x : Bool × List Place). x.1) mine.1 in (
       w,
@@ -354,12 +404,14 @@ compares slots id d p c s r _ at _ =
         places = r.places;
         count = r.count;
         home = r.home;
+        out = r.out;
         each = each_set (Fits r.told r.blocks r.places) s.views id w mine (λ j u _ e. r.each j u e);
         alone = alone_set s.views id w w at (λ part h. inl h) r.alone;
       },
       (
         refl,
-        subst (λ (y : Blocks × List Place). Knows y.0 y.1) (λ i. (sym bs i, sym ps i)) (r.count, r.home),
+        subst (λ (y : Bool × Blocks × List Place). Knows y.0 y.1 y.2) (λ i. (sym t i, sym bs i, sym ps i))
+            (record { count = r.count; home = r.home; out = r.out }),
       ),
     )
 
@@ -386,6 +438,7 @@ opens slots id told blocks c s r _ at _ =
         count = length_mapped Home blocks;
         home = λ block bytes h. let m = mapped_at Home blocks block (Home bytes) h in
             m.1 ∙ ap (λ p. Some (bytes_in p)) m.2;
+        out = λ block g h. let m = mapped_at Home blocks block (Out g) h in absurd (out_home g m.0 (sym m.2));
         each = each_set P s.views id w (refl, refl, tt) (λ j u n e. let f = r.each j u e in (
           if_some_on u.device (λ d. d ≡ (r.told, r.blocks)) (λ d. d ≡ (told, blocks))
               (λ x i p. absurd (n (r.alone the_device j id u opening_view e at (ap is_some i) refl))) f.0,
@@ -412,6 +465,7 @@ begins = record {
   places = [];
   count = refl;
   home = λ block bytes h. absurd (none-some (Home bytes) h);
+  out = λ block g h. absurd (none-some (Out g) h);
   each = one;
   alone = λ p i j u v e f h k. first i u e ∙ sym (first j v f);
 }
@@ -461,12 +515,15 @@ compares_as slots id me d p c is =
 
 -- ---- where nothing is out, the desk has the whole device
 
-pub all_home : (blocks : Blocks) (places : List Place) → Knows blocks places → NoneOut places → places ≡ map Home blocks
-all_home [] [] k n = refl
-all_home [] (p ∷ ps) k n = absurd (let e = k.0 in omega arith)
-all_home (b ∷ bs) [] k n = absurd (let e = k.0 in omega arith)
-all_home (b ∷ bs) (Out g ∷ ps) k n = absurd (n 0 g refl)
-all_home (b ∷ bs) (Home bytes ∷ ps) k n =
-    let more : length ps ≡ length bs = let e = k.0 in omega arith in
-    let rest = all_home bs ps (more, (λ block bytes' h. k.1 (suc block) bytes' h)) (λ block g h. n (suc block) g h) in
-    λ i. Home (same_Some bytes b (sym (k.1 0 bytes refl)) i) ∷ rest i
+pub all_home : (told : Bool) (blocks : Blocks) (places : List Place) → Knows told blocks places → NoneOut places
+    → places ≡ map Home blocks
+all_home told [] [] k n = refl
+all_home told [] (p ∷ ps) k n = absurd (let e = k.count in omega arith)
+all_home told (b ∷ bs) [] k n = absurd (let e = k.count in omega arith)
+all_home told (b ∷ bs) (Out g ∷ ps) k n = absurd (n 0 g refl)
+all_home told (b ∷ bs) (Home bytes ∷ ps) k n =
+    let more : length ps ≡ length bs = let e = k.count in omega arith in
+    let rest = all_home told bs ps
+    (record { count = more; home = λ block x h. k.home (suc block) x h; out = λ block g h. k.out (suc block) g h })
+    (λ block g h. n (suc block) g h) in
+    λ i. Home (same_Some bytes b (sym (k.home 0 bytes refl)) i) ∷ rest i

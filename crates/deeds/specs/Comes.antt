@@ -12,6 +12,10 @@ Leaves Fill before bytes r after left = (left ≡ before) × OnOk r (after ≡ b
 Leaves Flush before bytes r after left =
     (after ≡ bytes) × OnOk r (left ≡ bytes) × OnErr r ((left ≡ before) ⊎ (left ≡ bytes))
 
+-- what a block may have while a task is on its way: what it had before, or, of a flush, the bytes of the task
+abbrev pub MayHave : Bool → Task → List ℕ → List ℕ → Type 0
+MayHave told task before bytes = told ≡ true → (bytes ≡ before) ⊎ ((task.kind ≡ Flush) × (bytes ≡ task.bytes))
+
 -- the same request, and where the device tells its contents, what the call may leave
 pub record Comes (told : Bool) (task : Task) (before : List ℕ) (finished : FinishedTask) (left : List ℕ) : Type 0 where
   pub cache : finished.cache ≡ task.cache

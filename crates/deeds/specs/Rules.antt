@@ -4,7 +4,7 @@ use Rattle.std.specs.Prelude.{Option, Some, None, option_map, is_some, IfSome}
 use mathlib.Core.Option.{some}
 use lib.ListN.{get_elem?}
 use Rattle.atomic_table.specs.Table.{State, Me}
-use Rattle.deeds.specs.Comes.{Comes}
+use Rattle.deeds.specs.Comes.{Comes, MayHave}
 use Rattle.deeds.specs.Views.{block_of, undone, carried, both_view}
 use Rattle.deeds.specs.declared.views.Given.{Given}
 use Rattle.deeds.specs.declared.views.Done.{Done}
@@ -30,6 +30,10 @@ Fits told blocks places v =
     IfSome v.device (λ d. d ≡ (told, blocks)) × IfSome v.desk (λ d. d ≡ (told, places))
     × IfSome v.deed (FitsDeed told blocks places)
 
+-- what the device has of a block whose deed is out for this
+abbrev pub HasOut : Bool → List (List ℕ) → ℕ → Given → Type 0
+HasOut told blocks block g = (bytes : List ℕ) × (slice_get blocks block ≡ Some bytes) × MayHave told g.task g.before bytes
+
 -- what only one view may have: the device's side, the desk, the deed of a block
 pub data Part : Type 0 where
   the_device : Part
@@ -49,6 +53,8 @@ pub record IsKept (s : State ℕ View) : Type 0 where
   -- a deed that is at home has its block's bytes
   pub home : (block : ℕ) (bytes : List ℕ) → slice_get places block ≡ Some (Home bytes)
       → slice_get blocks block ≡ Some bytes
+  -- and one that is out has what it had, or what its call may have left
+  pub out : (block : ℕ) (g : Given) → slice_get places block ≡ Some (Out g) → HasOut told blocks block g
   pub each : (at : ℕ) (v : View) → get_elem? s.views at ≡ some v → Fits told blocks places v
   -- each part is in one view alone
   pub alone : (p : Part) (i j : ℕ) (u v : View) → get_elem? s.views i ≡ some u → get_elem? s.views j ≡ some v
@@ -96,19 +102,20 @@ TakenFrom before ps d after = Unit {0}
 abbrev pub TakenBack : Me ℕ View → Me ℕ View → Type 0
 TakenBack before after = (after.1 ≡ before.1) × TakenFrom before.0 before.0.desk before.0.deed after.0
 
--- the desk knows of each block whose deed is at home what the device has there
-abbrev pub Knows : List (List ℕ) → List Place → Type 0
-Knows blocks places =
-    (length places ≡ length blocks)
-    × ((block : ℕ) (bytes : List ℕ) → slice_get places block ≡ Some (Home bytes)
-    → slice_get blocks block ≡ Some bytes)
+-- the desk knows what the device has of each block: of one whose deed is at home these bytes, and of one whose deed is out
+-- what it had, or what the deed's call may have left
+pub record Knows (told : Bool) (blocks : List (List ℕ)) (places : List Place) : Type 0 where
+  pub count : length places ≡ length blocks
+  pub home : (block : ℕ) (bytes : List ℕ) → slice_get places block ≡ Some (Home bytes)
+      → slice_get blocks block ≡ Some bytes
+  pub out : (block : ℕ) (g : Given) → slice_get places block ≡ Some (Out g) → HasOut told blocks block g
 
 -- each deed is at home
 abbrev pub NoneOut : List Place → Type 0
 NoneOut places = (block : ℕ) (g : Given) → slice_get places block ≢ Some (Out g)
 
 abbrev pub ComparedFrom : Option (Bool × List (List ℕ)) → Option (Bool × List Place) → Type 0
-ComparedFrom (Some device) (Some desk) = Knows device.1 desk.1
+ComparedFrom (Some device) (Some desk) = Knows device.0 device.1 desk.1
 ComparedFrom bs ps = Unit {0}
 
 abbrev pub Compared : Me ℕ View → Me ℕ View → Type 0

@@ -366,9 +366,10 @@ impl<B: NamesDeeds> Desk<B> {
         take_back(&table.shared, pass, stub.deed);
     }
 
-    /// Compares the sides: each block whose deed is at home has on the device what the desk knows.
+    /// Compares the sides: each block whose deed is at home has on the device what the desk knows, and each whose deed is out what it had
+    /// when that was given, or what its call may have left.
     pub fn close(self, device: DeviceSide<B>)
-        ensures knows { Knows device self }
+        ensures knows { Knows B.told device self }
         ensures whole { NoneOut self → self ≡ map Home device }
     {
         let Desk { table, pass, .. } = self;

@@ -125,12 +125,13 @@ pub(crate) fn take_undone(table: &Deeds, desk: &mut Pass, deed: Pass)
     table.load::<TakesBack>(desk, 0);
 }
 
-/// Compares the desk with the device's side: each block whose deed is at home has the bytes that the desk knows.
+/// Compares the desk with the device's side: each block whose deed is at home has the bytes that the desk knows, and each whose deed is
+/// out what it had when that was given, or what its call may have left.
 pub(crate) fn close(table: &Deeds, mut desk: Pass, device: Pass)
     requires at { IsAt table.now.table_id desk × IsAt table.now.table_id device }
     requires desk { IsDesk desk.me (desk_in desk.me.0).0 (desk_in desk.me.0).1 }
     requires device { IsDevice device.me (device_in device.me.0).0 (device_in device.me.0).1 }
-    ensures knows { Knows (device_in device.me.0).1 (desk_in desk.me.0).1 }
+    ensures knows { Knows (device_in device.me.0).0 (device_in device.me.0).1 (desk_in desk.me.0).1 }
     ensures whole { NoneOut (desk_in desk.me.0).1 → (desk_in desk.me.0).1 ≡ map Home (device_in device.me.0).1 }
 {
     table.join_seat::<TakesIn>(&mut desk, device);

@@ -32,7 +32,7 @@ use Rattle.trail.specs.declared.entry.Entry.{Entry}
 use Rattle.trail.specs.Entries.{entry_of, entry_with, noted, reply_with, end_with, outcome_with}
 use Rattle.trail.specs.Room.{byte_need, event_need, fits_beside, has_room, less, need_of_end, reserved}
 use Rattle.held.specs.declared.log.Slip.{Slip}
-use Rattle.held.specs.Ends.{IsRecorded, is_failed}
+use Rattle.held.specs.Ends.{IsRecorded, ended_as, is_failed}
 use Rattle.held.specs.Entered.{Entered, Made, Records}
 use Rattle.held.specs.Kept.{IsHeld}
 use Rattle.held.specs.Shown.{HeldSeen, LogSeen, SeatSeen}
@@ -40,11 +40,6 @@ use Rattle.held.proofs.Holds.{Whole, went, end_room, none_needed, room_is}
 use Rattle.held.proofs.Sizes.{none_in}
 
 -- ---- the step
-
--- what the end of a request of this kind answers, as a reply
-abbrev pub ended_as : Kind → Result Ended RefusedEnd → Reply
-ended_as Fill a = fill_ended a
-ended_as Flush a = flush_ended a
 
 -- one that went through is no refusal
 went_through : (kind : Kind) (b : Ended) (why : Refusal) → ended_as kind (Ok b) ≡ reply.Refused why → ⊥
@@ -58,6 +53,10 @@ went_through Flush (ended.Done b) why e = absurd cc
 refused_quiet : (kind : Kind) (x : RefusedEnd) → is_quiet (ended_as kind (Err x)) ≡ true
 refused_quiet Fill x = refl
 refused_quiet Flush x = refl
+
+pub refused_reply : (kind : Kind) (x : RefusedEnd) → ended_as kind (Err x) ≡ reply.Refused x.refusal
+refused_reply Fill x = refl
+refused_reply Flush x = refl
 
 is_refused : (kind : Kind) (a : Result Ended RefusedEnd) → ended_as kind a ≡ reply.Refused Stranger
     → (x : RefusedEnd) × (a ≡ Err x)

@@ -15,4 +15,5 @@ pub mod Seats
 pub mod Replied
 pub mod Receipts
 pub mod Numbering
+pub mod InFlight
 pub mod Tying

@@ -15,6 +15,7 @@ use Rattle.cachecore.specs.declared.answers.SyncStepped.{SyncStepped}
 use Rattle.cachecore.specs.declared.answers.SyncStepped.TheVariants as sync
 use Rattle.cachecore.specs.Replies.{IsFillJob, IsFlushJob, IsSyncJob, OnFillJob, OnFlushJob, OnSyncJob}
 use Rattle.cachecore.specs.Replies.{end_of, fill_begun, flush_begun, sync_stepped}
+use Rattle.deeds.specs.Shown.{Settles}
 use Rattle.deeds.specs.declared.views.Place.{Place}
 use Rattle.deeds.specs.declared.views.Place.TheVariants.{Home}
 use Rattle.machine.specs.declared.event.End.{End}
@@ -35,7 +36,7 @@ use Rattle.pc_types.specs.declared.kind.Kind.TheVariants.{Fill, Flush}
 use Rattle.runs.specs.Runs.{IsBlank}
 use Rattle.runs.proofs.moments.KeptRequests.{is_job}
 use Rattle.tied.specs.Tied.{IsTaskOf, IsTied}
-use Rattle.tied.proofs.Kept.{kept_back, kept_begun, kept_first, kept_home, kept_plain, kept_refused}
+use Rattle.tied.proofs.Kept.{kept_back, kept_begun, kept_first, kept_home, kept_plain}
 use Rattle.tied.proofs.Tasks.{fill_task, flush_task}
 use Rattle.tied.proofs.Tied.{none_made}
 use Rattle.trail.specs.declared.entry.Entry.{Entry}
@@ -46,8 +47,9 @@ use Rattle.held.specs.declared.log.Slip.{Slip}
 use Rattle.held.specs.Entered.{Made}
 use Rattle.held.specs.Kept.{IsHeld}
 use Rattle.held.specs.Shown.{HeldSeen, LogSeen, SeatSeen}
-use Rattle.held.specs.Started.{IsAtHome, Returns, fill_job, flush_job, given_out, sync_job}
-use Rattle.held.proofs.Ends.{ended_as}
+use Rattle.held.specs.Started.{IsAtHome, fill_job, flush_job, given_out, sync_job}
+use Rattle.held.specs.Ends.{ended_as}
+use Rattle.held.proofs.InFlight.{goes}
 
 pub sound_in : (log : LogSeen) (core : State) → IsHeld log core → Sound core
 sound_in log core i = blank_sound core.sizes core.name (map seatless log.history) core i.history
@@ -102,16 +104,6 @@ made_by Flush end (ended.Dropped b) = refl
 made_by Flush end (ended.Failed c b) = refl
 made_by Flush end (ended.Done b) = refl
 
-refusal_of : (kind : Kind) (end : End) (x : RefusedEnd) (core next : State)
-    → Step core (event.End kind end) (ended_as kind (Err x)) next
-    → Step core (event.End kind end) (reply.Refused x.refusal) next
-refusal_of Fill end x core next step = step
-refusal_of Flush end x core next step = step
-
-refused_as : (kind : Kind) (x : RefusedEnd) → reply.Refused x.refusal ≡ ended_as kind (Err x)
-refused_as Fill x = refl
-refused_as Flush x = refl
-
 module _ (told : Bool) (sizes : Sizes) (name : ℕ) (blocks : List (List ℕ)) (old new : HeldSeen) (places : List Place)
     (held : IsHeld old.log old.core.state)
     (i : IsTied told sizes name blocks old.log.history old.core.state places) where
@@ -145,17 +137,14 @@ module _ (told : Bool) (sizes : Sizes) (name : ℕ) (blocks : List (List ℕ)) (
       (subst (λ x. Step core e x next) b.0 step) b.2.0 b.2.1 job b.2.2 b.1)
 
   went_over : (seat : ℕ) (kind : Kind) (a : Result Ended RefusedEnd) (finished : FinishedTask) (after : List Place)
-      → Step core (event.End kind (end_of finished)) (ended_as kind a) next → Returns told places finished a after
+      → finished.kind ≡ kind → Step core (event.End kind (end_of finished)) (ended_as kind a) next
+      → Settles told places finished after
       → Tied (old.log.history ++ entry_of seat (event.End kind (end_of finished)) (ended_as kind a) ∷ []) after
-  went_over seat kind (Ok b) finished after step s =
+  went_over seat kind (Ok b) finished after is step s =
       kept_back told sizes name blocks old.log.history core places sound i seat kind (end_of finished)
       (ended_as kind (Ok b)) next (made_by kind (end_of finished) b) step finished after s refl
-  went_over seat kind (Err x) finished after step s =
-      let end = end_of finished in
-      subst (Tied (old.log.history ++ entry_of seat (event.End kind end) (ended_as kind (Err x)) ∷ [])) (sym s)
-      (subst (λ r. Tied (old.log.history ++ entry_of seat (event.End kind end) r ∷ []) places) (refused_as kind x)
-      (kept_refused told sizes name blocks old.log.history core places sound i seat kind end x.refusal next
-      (refusal_of kind end x core next step)))
+  went_over seat kind (Err x) finished after is step s =
+      absurd (goes core places after told finished i.covered s kind is (Err x) next step x refl)
 
   -- ---- as it was made
 
@@ -178,12 +167,12 @@ module _ (told : Bool) (sizes : Sizes) (name : ℕ) (blocks : List (List ℕ)) (
 
     -- an end
     pub tied_ended : (kind : Kind) (a : Result Ended RefusedEnd) (finished : FinishedTask) (desk : List Place)
-        → Returns told places finished a desk
+        → finished.kind ≡ kind → Settles told places finished desk
         → Made (event.End kind (end_of finished)) (ended_as kind a) old new before after slip
         → Tied new.log.history desk
-    tied_ended kind a finished desk s m =
+    tied_ended kind a finished desk is s m =
         on_history (event.End kind (end_of finished)) (ended_as kind a) desk m
-        (went_over before.number kind a finished desk m.step s)
+        (went_over before.number kind a finished desk is m.step s)
 
 -- ---- the same, with what was made first
 
@@ -205,11 +194,11 @@ pub on_ended : {old new : HeldSeen} {before after : SeatSeen} {slip : Slip} {tol
     (finished stub : FinishedTask) (desk : List Place)
     → Made (event.End kind (end_of finished)) (ended_as kind a) old new before after slip
     → IsHeld old.log old.core.state → IsTied told sizes name blocks old.log.history old.core.state places
-    → stub ≡ finished → Returns told places stub a desk
+    → finished.kind ≡ kind → stub ≡ finished → Settles told places stub desk
     → IsTied told sizes name blocks new.log.history new.core.state desk
-on_ended {old} {new} {before} {after} {slip} {told} {sizes} {name} {blocks} {places} kind a finished stub desk m held i is s =
-    tied_ended told sizes name blocks old new places held i before after slip kind a finished desk
-    (subst (λ f. Returns told places f a desk) is s) m
+on_ended {old} {new} {before} {after} {slip} {told} {sizes} {name} {blocks} {places} kind a finished stub desk m held i of_kind is s =
+    tied_ended told sizes name blocks old new places held i before after slip kind a finished desk of_kind
+    (subst (λ f. Settles told places f desk) is s) m
 
 -- ---- a cache without files
 

@@ -1,16 +1,13 @@
--- The begins of requests with the deeds of their blocks, and the ends that bring these back.
-use Rattle.std.specs.Prelude.{◌≡◌, Bool, List, Option, Some, None, Result, Ok, Err, slice_get, slice_set}
-use Rattle.blockdev.specs.Jobs.{Task, FinishedTask}
-use Rattle.cachecore.specs.declared.answers.Ended.{Ended}
+-- The begins of requests with the deeds of their blocks.
+use Rattle.std.specs.Prelude.{◌≡◌, List, Option, Some, None, Result, Ok, Err, slice_get, slice_set}
+use Rattle.blockdev.specs.Jobs.{Task}
 use Rattle.cachecore.specs.declared.answers.FillBegun.{FillBegun}
 use Rattle.cachecore.specs.declared.answers.FillBegun.TheVariants as fill
 use Rattle.cachecore.specs.declared.answers.FlushBegun.{FlushBegun}
 use Rattle.cachecore.specs.declared.answers.FlushBegun.TheVariants as flush
 use Rattle.cachecore.specs.declared.answers.Refused.{Refused}
-use Rattle.cachecore.specs.declared.answers.RefusedEnd.{RefusedEnd}
 use Rattle.cachecore.specs.declared.answers.SyncStepped.{SyncStepped}
 use Rattle.cachecore.specs.declared.answers.SyncStepped.TheVariants as sync
-use Rattle.deeds.specs.Shown.{Settles}
 use Rattle.deeds.specs.Views.{home_in}
 use Rattle.deeds.specs.declared.views.Place.{Place}
 use Rattle.deeds.specs.declared.views.Place.TheVariants.{Home, Out}
@@ -65,10 +62,3 @@ abbrev pub given_out : List Place → Option Task → List Place
 given_out places None = places
 given_out places (Some job) =
     slice_set places job.block (Out (record { task = job; before = home_in places job.block }))
-
--- ---- deeds that come back
-
--- an end that went through brings the deed of its block back, and one that was refused none
-abbrev pub Returns : Bool → List Place → FinishedTask → Result Ended RefusedEnd → List Place → Type 0
-Returns told old finished (Ok ended) new = Settles told old finished new
-Returns told old finished (Err refused) new = new ≡ old

@@ -33,7 +33,7 @@ pub fn by(refusal: Refusal, slip: Slip) -> Denied
     }
 }
 
-/// An end that is refused wants an entry of its own. Refused by `TrailFull` where there is no room for it (decision 122).
+/// A drop that is refused wants an entry of its own. Refused by `TrailFull` where there is no room for it (decision 122).
 pub(crate) fn check_entry(is_refused: bool, is_room: bool) -> Result<(), Denied>
     ensures room { OnOk result (is_refused ≡ true → is_room ≡ true) }
     ensures full { IfErr result (λ d. (d ≡ record { refusal = TrailFull; slip = None }) × (is_refused ≡ true) × (is_room ≡ false)) }

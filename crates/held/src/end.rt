@@ -1,21 +1,17 @@
 //! The ends of requests, as they are entered, and the recording of a write that failed.
 
-ghost use Rattle.std.specs.Prelude.{◌≡◌, ◌<◌, [], true, is_some, IfSome, Result, Err, option_map};
+ghost use Rattle.std.specs.Prelude.{◌≡◌, ◌<◌, [], true, is_some, IfSome, IsOk, Ok, option_map};
 ghost use Rattle.pc_types.specs.declared.limits.TheConstants.{MAX_FILES};
 ghost use Rattle.cachecore.specs.Replies.{end_of};
 ghost use Rattle.held.specs.Ends.{IsRecorded, bytes_read_in, is_failed, went_well};
-ghost use Rattle.held.specs.Started.{Returns};
 ghost use Rattle.trail.specs.Entries.{end_with};
 
 use crate::bytes::no_bytes;
 use blockdev::Finished;
 use cachecore::{End as Ending, Ended, Outcome, RefusedEnd};
-use deeds::naming::NamesDeeds;
-use deeds::sides::{Desk, Stub};
 use errboard::{Receipt, Recorder};
 use pc_types::{FileId, Kind};
 use std::alloc::Global;
-use std::mem::drop;
 
 /// The end that a finished job makes, without its bytes.
 pub(crate) fn end_without(finished: &Finished, alloc: Global) -> Ending
@@ -52,17 +48,14 @@ pub(crate) fn record(
     Some(recorder.record(file, *code))
 }
 
-/// Takes the deed of an end back that went through. A refused one leaves it out.
-pub(crate) fn take_back<B: NamesDeeds>(
-    desk: &mut Desk<B>,
-    stub: Stub<B>,
-    answer: &Result<Ended, RefusedEnd>,
-)
-    ensures { Returns B.told desk.old stub answer.now desk.new }
+/// What an end answers that went through.
+pub(crate) fn gone_through(answer: Result<Ended, RefusedEnd>) -> Ended
+    requires { IsOk answer }
+    ensures { answer ≡ Ok result }
 {
     match answer {
-        Ok(_) => desk.take_back(stub),
-        Err(_) => drop(stub),
+        Ok(ended) => ended,
+        Err(_) => unreachable!(),
     }
 }
 

@@ -1,19 +1,18 @@
 //! Requests: fills and flushes of pages.
 
-ghost use Rattle.std.specs.Prelude.{◌≡◌, IfErr, IfOk, IfSome, IsOk, None, Ok, length};
+ghost use Rattle.std.specs.Prelude.{◌≡◌, IfErr, IfOk, IfSome, Ok, length};
 ghost use Rattle.blockdev.specs.Jobs.{IsJobFor};
 ghost use Rattle.cachecore.specs.Flushing.{flush_of};
 ghost use Rattle.cachecore.specs.Replies.{EndGivesBack, FlushGivesBack, GivesBack, IsFillJob, IsFlushJob, OnFillJob, OnFlushJob, end_of, fill_begun, fill_ended, flush_begun, flush_ended};
-ghost use Rattle.machine.specs.Tests.{tests};
 ghost use Rattle.machine.specs.declared.event.Event.TheVariants as event;
 ghost use Rattle.pc_types.specs.declared.kind.Kind.TheVariants.{Fill, Flush};
 ghost use Rattle.held.specs.Denials.{IsDenied};
-ghost use Rattle.held.specs.Ends.{IsRecorded};
+ghost use Rattle.held.specs.Ends.{IsRecorded, IsRecordedOf, ended_as};
 ghost use Rattle.held.specs.Entered.{Made};
 ghost use Rattle.held.specs.Started.{as_fill, as_flush};
 
-use crate::denied::{Denied, by, check_entry};
-use crate::end::{bytes_of, end_without, is_well, record, take_back};
+use crate::denied::{Denied, by};
+use crate::end::{bytes_of, end_without, gone_through, is_well, record};
 use crate::log::{Seat, Slip};
 use crate::naming::Naming;
 use crate::started::{FillStarted, FlushStarted, fill_started, flush_started};
@@ -60,56 +59,6 @@ impl<B: Naming, T: Trail> Held<B, T> {
         }
     }
 
-    /// Ends a fill. An end whose request is in flight is always made.
-    pub fn fill_end(&mut self, seat: &mut Seat, report: Report<B>) -> Result<(Ended, Slip), Denied>
-        requires seat { seat.old.table ≡ B.table }
-        requires size { length report.bytes ≡ B.sizes.page }
-        ensures made { IfOk result (λ r. Made (event.End Fill (end_of report)) (fill_ended (Ok r.0)) self.old self.new seat.old seat.new r.1) }
-        ensures in_flight { tests self.old.core.state (event.End Fill (end_of report)) ≡ None → IsOk result }
-        ensures back { IfOk result (λ r. EndGivesBack report (Ok r.0)) }
-        ensures denied { IfErr result (IsDenied (event.End Fill (end_of report)) self.old self.new seat.old seat.new) }
-    {
-        let (finished, stub) = report.parts();
-        self.end_fill(seat, finished, stub)
-    }
-
-    /// Ends a fill, whose deed comes back where the end goes through.
-    fn end_fill(
-        &mut self,
-        seat: &mut Seat,
-        finished: Finished,
-        stub: Stub<B>,
-    ) -> Result<(Ended, Slip), Denied>
-        requires seat { seat.old.table ≡ B.table }
-        requires stub { stub ≡ finished }
-        requires size { length finished.bytes ≡ B.sizes.page }
-        ensures made { IfOk result (λ r. Made (event.End Fill (end_of finished)) (fill_ended (Ok r.0)) self.old self.new seat.old seat.new r.1) }
-        ensures in_flight { tests self.old.core.state (event.End Fill (end_of finished)) ≡ None → IsOk result }
-        ensures back { IfOk result (λ r. EndGivesBack finished (Ok r.0)) }
-        ensures denied { IfErr result (IsDenied (event.End Fill (end_of finished)) self.old self.new seat.old seat.new) }
-    {
-        let Held {
-            core,
-            log,
-            alloc,
-            desk,
-            ..
-        } = self;
-        let is_room = log.has_room(core, 1, 0);
-        let end = end_without(&finished, *alloc);
-        let is_read = is_well(&finished);
-        let answer = core.fill_end(finished);
-        check_entry(answer.is_err(), is_room)?;
-        let reply = of_fill_end(&answer);
-        let bytes = bytes_of(&answer, is_read);
-        let slip = log.enter(seat, Event::End(Kind::Fill, end), reply, bytes);
-        take_back(desk, stub, &answer);
-        match answer {
-            Ok(ended) => Ok((ended, slip)),
-            Err(refused) => Err(by(refused.refusal, slip)),
-        }
-    }
-
     /// Begins to write the file's lowest page that is to be written.
     pub fn flush_begin(
         &mut self,
@@ -140,40 +89,67 @@ impl<B: Naming, T: Trail> Held<B, T> {
         }
     }
 
-    /// Ends a flush. A write that failed is recorded, once, and its receipt handed out. An end whose request is in flight is always
-    /// made.
-    pub fn flush_end(
-        &mut self,
-        seat: &mut Seat,
-        report: Report<B>,
-    ) -> Result<(Ended, Option<Receipt>, Slip), Denied>
-        requires { seat.old.table ≡ B.table }
-        ensures made { IfOk result (λ r. Made (event.End Flush (end_of report)) (flush_ended (Ok r.0)) self.old self.new seat.old seat.new r.2) }
-        ensures in_flight { tests self.old.core.state (event.End Flush (end_of report)) ≡ None → IsOk result }
-        ensures receipt { IfOk result (λ r. IsRecorded self.old.errors (flush_of self.old.core.state report.serial) (Ok r.0) r.1 self.new.errors) }
-        ensures own { IfOk result (λ r. IfSome r.1 (λ receipt. receipt.board ≡ B.board)) }
-        ensures back { IfOk result (λ r. EndGivesBack report (Ok r.0)) }
-        ensures denied { IfErr result (IsDenied (event.End Flush (end_of report)) self.old self.new seat.old seat.new) }
+    /// Ends a request, by its kind. A write that failed is recorded, once, and its receipt handed out. No end is refused: the deed that
+    /// comes back with the report tells that the request is in flight, and so that there is room for its end (decision 187).
+    pub fn end(&mut self, seat: &mut Seat, report: Report<B>) -> (Ended, Option<Receipt>, Slip)
+        requires seat { seat.old.table ≡ B.table }
+        requires size { report.kind ≡ Fill → length report.bytes ≡ B.sizes.page }
+        ensures made { Made (event.End report.kind (end_of report)) (ended_as report.kind (Ok result.0)) self.old self.new seat.old seat.new result.2 }
+        ensures receipt { IsRecordedOf report.kind self.old.errors (flush_of self.old.core.state report.serial) result.0 result.1 self.new.errors }
+        ensures own { IfSome result.1 (λ receipt. receipt.board ≡ B.board) }
+        ensures back { EndGivesBack report (Ok result.0) }
     {
+        let kind = report.finished().kind();
         let (finished, stub) = report.parts();
-        self.end_flush(seat, finished, stub)
+        match kind {
+            Kind::Fill => {
+                let (ended, slip) = self.end_fill(seat, finished, stub);
+                (ended, None, slip)
+            }
+            Kind::Flush => self.end_flush(seat, finished, stub),
+        }
     }
 
-    /// Ends a flush, whose deed comes back where the end goes through.
+    /// Ends a fill. Its deed comes back first: that tells that the fill is in flight.
+    fn end_fill(&mut self, seat: &mut Seat, finished: Finished, stub: Stub<B>) -> (Ended, Slip)
+        requires seat { seat.old.table ≡ B.table }
+        requires stub { stub ≡ finished }
+        requires kind { finished.kind ≡ Fill }
+        requires size { length finished.bytes ≡ B.sizes.page }
+        ensures made { Made (event.End Fill (end_of finished)) (fill_ended (Ok result.0)) self.old self.new seat.old seat.new result.1 }
+        ensures back { EndGivesBack finished (Ok result.0) }
+    {
+        let Held {
+            core,
+            log,
+            alloc,
+            desk,
+            ..
+        } = self;
+        desk.take_back(stub);
+        let end = end_without(&finished, *alloc);
+        let is_read = is_well(&finished);
+        let answer = core.fill_end(finished);
+        let reply = of_fill_end(&answer);
+        let bytes = bytes_of(&answer, is_read);
+        let slip = log.enter(seat, Event::End(Kind::Fill, end), reply, bytes);
+        (gone_through(answer), slip)
+    }
+
+    /// Ends a flush, whose deed comes back first.
     fn end_flush(
         &mut self,
         seat: &mut Seat,
         finished: Finished,
-        stub: Stub<B>,
-    ) -> Result<(Ended, Option<Receipt>, Slip), Denied>
+        deed: Stub<B>,
+    ) -> (Ended, Option<Receipt>, Slip)
         requires seat { seat.old.table ≡ B.table }
-        requires stub { stub ≡ finished }
-        ensures made { IfOk result (λ r. Made (event.End Flush (end_of finished)) (flush_ended (Ok r.0)) self.old self.new seat.old seat.new r.2) }
-        ensures in_flight { tests self.old.core.state (event.End Flush (end_of finished)) ≡ None → IsOk result }
-        ensures receipt { IfOk result (λ r. IsRecorded self.old.errors (flush_of self.old.core.state finished.serial) (Ok r.0) r.1 self.new.errors) }
-        ensures own { IfOk result (λ r. IfSome r.1 (λ receipt. receipt.board ≡ B.board)) }
-        ensures back { IfOk result (λ r. EndGivesBack finished (Ok r.0)) }
-        ensures denied { IfErr result (IsDenied (event.End Flush (end_of finished)) self.old self.new seat.old seat.new) }
+        requires deed { deed ≡ finished }
+        requires kind { finished.kind ≡ Flush }
+        ensures made { Made (event.End Flush (end_of finished)) (flush_ended (Ok result.0)) self.old self.new seat.old seat.new result.2 }
+        ensures receipt { IsRecorded self.old.errors (flush_of self.old.core.state finished.serial) (Ok result.0) result.1 self.new.errors }
+        ensures own { IfSome result.1 (λ receipt. receipt.board ≡ B.board) }
+        ensures back { EndGivesBack finished (Ok result.0) }
     {
         let Held {
             core,
@@ -183,18 +159,13 @@ impl<B: Naming, T: Trail> Held<B, T> {
             desk,
             ..
         } = self;
-        let is_room = log.has_room(core, 1, 0);
+        desk.take_back(deed);
         let end = end_without(&finished, *alloc);
         let file = core.flush_of(finished.serial());
         let answer = core.flush_end(finished);
-        check_entry(answer.is_err(), is_room)?;
         let reply = of_flush_end(&answer);
         let slip = log.enter(seat, Event::End(Kind::Flush, end), reply, &[]);
         let receipt = record(recorder, file, &answer);
-        take_back(desk, stub, &answer);
-        match answer {
-            Ok(ended) => Ok((ended, receipt, slip)),
-            Err(refused) => Err(by(refused.refusal, slip)),
-        }
+        (gone_through(answer), receipt, slip)
     }
 }

@@ -1,8 +1,9 @@
 #![tactic(auto)]
 //! The program of the page cache. `pcache run` reads a script of cache calls and prints what each answers; `pcache storm` makes
-//! calls from many threads at once, and replays their history.
+//! calls from many threads at once, and replays their history; `pcache torture` makes random calls beside plain files, over a device
+//! that fails by chance.
 //!
-//! The crate `script` does the first, and `storm` the second.
+//! The crate `script` does the first, `storm` the second, and `torture` the third.
 //!
 //! Floor: programs.
 
@@ -13,7 +14,7 @@ use script::{run_script, say};
 use std::alloc::Global;
 use std::env;
 use std::fs::{File, Files};
-use std::io::{BufReader, BufWriter, Write};
+use std::io::{BufReader, BufWriter, IsTerminal, Write};
 use std::process::ExitCode;
 use std::string::String;
 use std::sync::Wait;
@@ -23,6 +24,7 @@ use storm::{BLOCKS, Weather, run_storm};
 use storm_text::say_usage;
 use textline::words::number;
 use textline::{Printer, Stop};
+use torture::run_torture;
 
 /// What the program is asked to do.
 #[derive(Drop)]
@@ -30,6 +32,8 @@ enum Request {
     Run,
     /// A storm, with the words after `storm`.
     Storm(Vec<String>),
+    /// A torture, with the words after `torture`.
+    Torture(Vec<String>),
     Neither,
 }
 
@@ -46,6 +50,11 @@ fn main(rt: HostRuntime) -> ExitCode {
                 &mut out,
                 &mut rt.stderr(),
             )
+        }
+        Ok(Request::Torture(words)) => {
+            let mut out = Printer::new(rt.alloc(), rt.stdout());
+            let watched = rt.stderr().is_terminal();
+            run_rounds(rt.alloc(), &words, watched, &mut out, &mut rt.stderr())
         }
         Ok(Request::Neither) => {
             let _ = say_usage(&mut rt.stderr());
@@ -81,6 +90,7 @@ fn request_of(rt: &HostRuntime) -> Result<Request, Stop>
     match first.as_str() {
         "run" if rest.is_empty() => Ok(Request::Run),
         "storm" => Ok(Request::Storm(rest)),
+        "torture" => Ok(Request::Torture(rest)),
         _ => Ok(Request::Neither),
     }
 }
@@ -118,6 +128,23 @@ fn run_threads<R: Threads + Wait + Files<File = File> + Sync, W: Write, E: Write
         }
     }
     run_storm(rt, alloc, &words, weather, out, err)
+}
+
+/// Plays the rounds that these words ask for.
+fn run_rounds<W: Write, E: Write>(
+    alloc: Global,
+    owned: &[String],
+    watched: bool,
+    out: &mut Printer<W>,
+    err: &mut E,
+) -> u8 {
+    let mut words = Vec::new(alloc);
+    for word in owned {
+        if words.push(word.as_str()).is_err() {
+            return say_stop(err, Stop::Memory);
+        }
+    }
+    run_torture(alloc, &words, watched, out, err)
 }
 
 /// What the environment says of a storm. The seed is the time of day where it says none, so that each storm is another.

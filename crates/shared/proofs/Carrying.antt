@@ -17,7 +17,7 @@ use Rattle.held.specs.Firsts.{IsFirstDenied, Writes}
 use Rattle.held.specs.declared.denied.Denied.{Denied}
 use Rattle.held.proofs.Seats.{only_by, only_on, only_same, only_wider}
 use Rattle.shared.specs.Denials.{MadeOne}
-use Rattle.shared.specs.Workers.{AllCarried, CarriesAll, Ends, IsCarried, IsEndAt, IsEndOf, IsFlushed, OnBegun, is_unended, pushed_by}
+use Rattle.shared.specs.Workers.{AllCarried, Ends, IsCarried, IsEndAt, IsEndOf, IsFlushed, OnBegun, pushed_by}
 use Rattle.shared.specs.declared.turns.Flushed.{Flushed}
 use Rattle.shared.specs.declared.turns.Flushed.TheVariants as flushed
 use Rattle.shared.specs.declared.worker.Worker.{Worker}
@@ -125,7 +125,6 @@ pub turn_puts : (sizes : Sizes) (name : ℕ) (a b : Worker) (result : Result Flu
 turn_puts sizes name a b (Ok flushed.Nothing) p q = same_puts a b p.1
 turn_puts sizes name a b (Ok (flushed.Pushed serial slip)) p q = (p.0 ∷ [], p.3)
 turn_puts sizes name a b (Ok (flushed.Ended slip done)) p q = same_puts a b p.4
-turn_puts sizes name a b (Ok (flushed.Unended slip d)) p q = same_puts a b p.4
 turn_puts sizes name a b (Err d) p q = same_puts a b q.0
 
 carried_then : (a b c : Worker) → Goes b.seat c.seat → Puts b c → (t : ℕ) → IsCarried a b t → IsCarried a c t
@@ -151,25 +150,7 @@ carried_on a b c first goes put more p q =
     (only_weaker (IsCarried a b) (IsCarried a c) a.seat b.seat (carried_then a b c goes more) p)
     (only_weaker (IsCarried b c) (IsCarried a c) b.seat c.seat (carried_from a b c first put) q)
 
--- the last turn began a write whose end was refused
-pub carries_last : (sizes : Sizes) (name : ℕ) (a b c : Worker) (result : Result Flushed Denied) → AllCarried a b
-    → IfOk result (IsFlushed sizes name b c) → is_unended result ≡ true → CarriesAll sizes name a c
-carries_last sizes name a b c (Ok flushed.Nothing) p q e = absurd cc
-carries_last sizes name a b c (Ok (flushed.Pushed serial slip)) p q e = absurd cc
-carries_last sizes name a b c (Ok (flushed.Ended slip done)) p q e = absurd cc
-carries_last sizes name a b c (Ok (flushed.Unended slip d)) p q e =
-    record { at = b; carried = p; last = inr (slip, d, q) }
-carries_last sizes name a b c (Err d) p q e = absurd cc
-
-pub carries_all : (sizes : Sizes) (name : ℕ) (a b : Worker) → AllCarried a b → CarriesAll sizes name a b
-carries_all sizes name a b p = record { at = b; carried = p; last = inl refl }
-
 -- ---- how many events a turn made
-
-pub unended_count : (first : Slip) (o : Option Slip) (a b c : SeatSeen) → MadeOne (Some first) a b → MadeOne o b c
-    → c.count ≡ a.count + (if is_some o then 2 else 1)
-unended_count first None a b c p q = ap (λ (s : SeatSeen). s.count) q ∙ p
-unended_count first (Some slip) a b c p q = omega (arith, p, q)
 
 pub two_made : (first second : Slip) (a b c : SeatSeen) → MadeOne (Some first) a b → MadeOne (Some second) b c
     → c.count ≡ a.count + 2

@@ -20,11 +20,13 @@ use Rattle.machine.specs.declared.event.Event.{Event}
 use Rattle.machine.specs.declared.event.Event.TheVariants as event
 use Rattle.machine.specs.declared.event.Reply.{Reply}
 use Rattle.machine.specs.declared.event.Reply.TheVariants as reply
+use Rattle.pc_types.specs.declared.kind.Kind.{Kind}
 use Rattle.pc_types.specs.declared.kind.Kind.TheVariants.{Fill, Flush}
 use Rattle.pc_types.specs.Limits.{Sizes}
 use Rattle.trail.specs.Entries.{entry_of}
 use Rattle.trail.specs.History.{After}
-use Rattle.held.specs.Ends.{IsRecorded}
+use Rattle.held.specs.Ends.{IsRecorded, IsRecordedOf, ended_as}
+use Rattle.held.specs.Entered.{Made}
 use Rattle.held.specs.declared.log.Slip.{Slip}
 use Rattle.held.specs.Shown.{HeldSeen, SeatSeen}
 use Rattle.held.specs.Called.{Goes}
@@ -66,27 +68,28 @@ ends_by job done before after slip told serial kind cache block p = record {
   failed = subst (λ k. told ≡ fails_write k p.0) kind p.3;
 }
 
-pub denied_job : (job : Task) (done : FinishedTask) (before after : SeatSeen) (d : Denied) → done.serial ≡ job.serial
-    → done.kind ≡ job.kind → done.cache ≡ job.cache → done.block ≡ job.block
-    → IsDenied (λ e. e ≡ event.End done.kind (end_of done)) before after d → IsDenied (IsEndOf job) before after d
-denied_job job done before after d serial kind cache block q =
-    denied_on (λ e. e ≡ event.End done.kind (end_of done)) (IsEndOf job) before before after d
-    (λ e same. subst (IsEndOf job) (sym same) (kind, serial, cache, block)) (goes_same before before refl) q
+-- an end of this kind
+pub made_as : (kind : Kind) (done : FinishedTask) (a : Ended) (old new : HeldSeen) (before after : SeatSeen) (slip : Slip)
+    → done.kind ≡ kind → Made (event.End done.kind (end_of done)) (ended_as done.kind (Ok a)) old new before after slip
+    → Made (event.End kind (end_of done)) (ended_as kind (Ok a)) old new before after slip
+made_as kind done a old new before after slip is m =
+    subst (λ k. Made (event.End k (end_of done)) (ended_as k (Ok a)) old new before after slip) is m
 
-pub fill_replies : (a : Ended) → IsEndReply (fill_ended (Ok a))
+fill_replies : (a : Ended) → IsEndReply (fill_ended (Ok a))
 fill_replies (ended.Dropped b) = tt
 fill_replies (ended.Failed code b) = tt
 fill_replies (ended.Done b) = tt
 
-pub flush_replies : (a : Ended) → IsEndReply (flush_ended (Ok a))
+flush_replies : (a : Ended) → IsEndReply (flush_ended (Ok a))
 flush_replies (ended.Dropped b) = tt
 flush_replies (ended.Failed code b) = tt
 flush_replies (ended.Done b) = tt
 
-pub fill_told : (a : Ended) → false ≡ fails_write Fill (fill_ended (Ok a))
-fill_told a = refl
+pub replies : (k : Kind) (a : Ended) → IsEndReply (ended_as k (Ok a))
+replies Fill a = fill_replies a
+replies Flush a = flush_replies a
 
-pub flush_told : (old new : RecorderSeen) (f : Option ℕ) (a : Ended) (receipt : Option ReceiptSeen)
+flush_told : (old new : RecorderSeen) (f : Option ℕ) (a : Ended) (receipt : Option ReceiptSeen)
     → IsRecorded old f (Ok a) receipt new → is_some receipt ≡ fails_write Flush (flush_ended (Ok a))
 flush_told old new (Some f) (ended.Failed code b) (Some receipt) h = refl
 flush_told old new (Some f) (ended.Failed code b) None h = absurd h
@@ -97,6 +100,11 @@ flush_told old new None (ended.Dropped b) (Some receipt) h = absurd h
 flush_told old new f (ended.Done b) None h = refl
 flush_told old new (Some f) (ended.Done b) (Some receipt) h = absurd h
 flush_told old new None (ended.Done b) (Some receipt) h = absurd h
+
+pub ends_told : (k : Kind) (old new : RecorderSeen) (f : Option ℕ) (a : Ended) (receipt : Option ReceiptSeen)
+    → IsRecordedOf k old f a receipt new → is_some receipt ≡ fails_write k (ended_as k (Ok a))
+ends_told Fill old new f a receipt h = ap is_some h.0
+ends_told Flush old new f a receipt h = flush_told old new f a receipt h
 
 -- a buffer that comes back is as long as it was
 pub back_sized : (a : Ended) (f : FinishedTask) (n : ℕ) → EndGivesBack f (Ok a) → length f.bytes ≡ n → length (buffer_of a) ≡ n

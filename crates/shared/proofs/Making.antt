@@ -113,20 +113,12 @@ pub denied_begin : (h : HandleId) (p : PageIndex) (old new : HeldSeen) (before a
     → under.IsDenied (event.FillBegin h p) old new before after d → IsDenied (IsHelp h) before after d
 denied_begin h p old new before after d q = denied_by (IsHelp h) (event.FillBegin h p) old new before after d refl q
 
-pub denied_end : (h : HandleId) (end : End) (old new : HeldSeen) (before after : SeatSeen) (d : Denied)
-    → under.IsDenied (event.End Fill end) old new before after d → IsDenied (IsHelp h) before after d
-denied_end h end old new before after d q = denied_by (IsHelp h) (event.End Fill end) old new before after d tt q
-
 -- a fill whose device call failed
 pub failed_end : (h : HandleId) (end : End) (code : ℕ) (b : List ℕ) (old new : HeldSeen) (before after : SeatSeen) (slip : Slip)
     → Made (event.End Fill end) (fill_ended (Ok (ended.Failed code b))) old new before after slip
     → IsDenied (IsHelp h) before after (record { refusal = Io code; slip = Some slip })
 failed_end h end code b old new before after slip m =
     (event.End Fill end, reply.Failed code, tt, refl, makes_by (event.End Fill end) (reply.Failed code) old new before after slip m)
-
-pub denied_flush : (end : End) (old new : HeldSeen) (before after : SeatSeen) (d : Denied)
-    → under.IsDenied (event.End Flush end) old new before after d → IsDenied IsRoomEvent before after d
-denied_flush end old new before after d q = denied_by IsRoomEvent (event.End Flush end) old new before after d tt q
 
 pub denied_age : (old new : HeldSeen) (before after : SeatSeen) (d : Denied)
     → under.IsDenied event.Age old new before after d → IsDenied IsRoomEvent before after d

@@ -107,11 +107,6 @@ only_flush_end end r old new before after slip m =
     only_by (λ x. IsFlushEnd x.event) (event.End Flush end) r old new before after slip
     (noted_end IsFlushEnd Flush end r (λ x a b c. tt)) m
 
-pub only_flush_end_denied : (end : End) (old new : HeldSeen) (before after : SeatSeen) (d : Denied)
-    → under.IsDenied (event.End Flush end) old new before after d → Only (λ x. IsFlushEnd x.event) before after
-only_flush_end_denied end old new before after d q =
-    only_denied (λ x. IsFlushEnd x.event) (event.End Flush end) old new before after d (λ why. tt) q
-
 pub only_first_denied : (old new : HeldSeen) (before after : SeatSeen) (d : Denied)
     → IsFirstDenied old new before after d → Only (λ x. IsRoomEvent x.event) before after
 only_first_denied old new before after d q =
@@ -170,11 +165,6 @@ pub only_fill_end : (h : HandleId) (end : End) (r : Reply) (old new : HeldSeen) 
 only_fill_end h end r old new before after slip m =
     only_by (λ x. IsHelp h x.event) (event.End Fill end) r old new before after slip
     (noted_end (IsHelp h) Fill end r (λ x a b c. tt)) m
-
-pub only_fill_end_denied : (h : HandleId) (end : End) (old new : HeldSeen) (before after : SeatSeen) (d : Denied)
-    → under.IsDenied (event.End Fill end) old new before after d → Only (λ x. IsHelp h x.event) before after
-only_fill_end_denied h end old new before after d q =
-    only_denied (λ x. IsHelp h x.event) (event.End Fill end) old new before after d (λ why. tt) q
 
 pub only_room : (h : HandleId) (a b : SeatSeen) → Only (λ x. IsRoomEvent x.event) a b → Only (λ x. IsHelp h x.event) a b
 only_room h a b p = only_wider (λ x. IsRoomEvent x.event) (λ x. IsHelp h x.event) a b (λ e. room_helps h e.event) p
@@ -392,12 +382,6 @@ only_end job kind end r old new before after slip same serial cache block m =
       b ∙ cache,
       ap (λ (n : BlockNo). n.0) c ∙ block,
     ))) m
-
-pub only_end_denied : (job : Task) (kind : Kind) (end : End) (old new : HeldSeen) (before after : SeatSeen) (d : Denied)
-    → kind ≡ job.kind → end.serial.0 ≡ job.serial → end.cache ≡ job.cache → end.block.0 ≡ job.block
-    → under.IsDenied (event.End kind end) old new before after d → Only (λ x. IsEndOf job x.event) before after
-only_end_denied job kind end old new before after d same serial cache block q =
-    only_denied (λ x. IsEndOf job x.event) (event.End kind end) old new before after d (λ why. (same, serial, cache, block)) q
 
 ends_job : (job : Task) (e : Event) → IsEndOf job e → IsEnd e
 ends_job job (event.End kind end) x = tt

@@ -28,7 +28,7 @@ use Rattle.pc_types.specs.declared.kind.Kind.{Kind}
 use Rattle.pc_types.specs.declared.kind.Kind.TheVariants.{Flush}
 use Rattle.pc_types.specs.declared.limits.TheConstants.{MAX_TOUCHED}
 use Rattle.pc_types.specs.declared.refusal.Refusal.{Refusal}
-use Rattle.pc_types.specs.declared.refusal.Refusal.TheVariants.{BadHandle, DirtyLimit, NoFrame, NoSpace, NoSuchFile, Stranger, TooLong, TooManyInFlight}
+use Rattle.pc_types.specs.declared.refusal.Refusal.TheVariants.{BadHandle, DirtyLimit, Io, NoFrame, NoSpace, NoSuchFile, Stranger, TooLong, TooManyInFlight}
 use Rattle.trail.specs.declared.entry.Entry.{Entry}
 use Rattle.trail.specs.Entries.{entry_of}
 use Rattle.trail.specs.History.{After}
@@ -96,10 +96,6 @@ room_unwanted e old new before after d is q = go d.refusal d.slip q
     go : (r : Refusal) (o : Option Slip) → under.DeniedBy e old new before after r o → wants_room r ≡ false
     go r None q = subst (λ (x : Refusal). wants_room x ≡ false) (sym q.0) refl
     go r (Some slip) q = room_refused old.core.state new.core.state e r is q.step
-
-pub end_unwanted : (kind : Kind) (end : End) (old new : HeldSeen) (before after : SeatSeen) (d : Denied)
-    → under.IsDenied (event.End kind end) old new before after d → wants_room d.refusal ≡ false
-end_unwanted kind end old new before after d q = room_unwanted (event.End kind end) old new before after d tt q
 
 pub age_unwanted : (old new : HeldSeen) (before after : SeatSeen) (d : Denied)
     → under.IsDenied event.Age old new before after d → wants_room d.refusal ≡ false
@@ -355,18 +351,13 @@ stranger_lasts : (here : Bool) (why : Refusal) → cond here None (refuse Strang
 stranger_lasts true why e = absurd cc
 stranger_lasts false why e = let is : Stranger ≡ why = cc in subst (λ (x : Refusal). is_for_now x ≡ false) is refl
 
-pub end_final : (sizes : Sizes) (name : ℕ) (kind : Kind) (end : End) (old new : HeldSeen) (before after : SeatSeen) (d : Denied)
-    → under.IsDenied (event.End kind end) old new before after d → IsFinal sizes name after d
-end_final sizes name kind end old new before after d q = final_lasting sizes name after d (go d.refusal d.slip q)
-  where
-    go : (r : Refusal) (o : Option Slip) → under.DeniedBy (event.End kind end) old new before after r o → is_for_now r ≡ false
-    go r None q = subst (λ (x : Refusal). is_for_now x ≡ false) (sym q.0) refl
-    go r (Some slip) q =
-        let s = old.core.state in
-        elim (answered (tests s (event.End kind end)) s (event.End kind end) (reply.Refused r) new.core.state q.step) [
-          | inl a ↦ stranger_lasts (end.cache == s.name && is_of kind end (map.get s.requests end.serial.0)) r a.0
-          | inr a ↦ absurd (end_taken s kind end r new.core.state q.step a.0)
-        ]
+-- nor does one pass that is of a failed device call
+pub io_unwanted : (code : ℕ) (d : Denied) → d.refusal ≡ Io code → wants_room d.refusal ≡ false
+io_unwanted code d is = ap wants_room is
+
+pub io_final : (sizes : Sizes) (name : ℕ) (after : SeatSeen) (code : ℕ) (d : Denied) → d.refusal ≡ Io code
+    → IsFinal sizes name after d
+io_final sizes name after code d is = final_lasting sizes name after d (ap is_for_now is)
 
 pub age_final : (sizes : Sizes) (name : ℕ) (old new : HeldSeen) (before after : SeatSeen) (d : Denied)
     → under.IsDenied event.Age old new before after d → IsFinal sizes name after d

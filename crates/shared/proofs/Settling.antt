@@ -51,7 +51,7 @@ use Rattle.shared.specs.Changes.{event_of}
 use Rattle.shared.specs.declared.writes.Change.{Change}
 use Rattle.shared.specs.declared.writes.Change.TheVariants.{Append, Truncate, Write}
 use Rattle.shared.specs.Own.{IsEviction, IsRoomEvent}
-use Rattle.shared.specs.Settled.{BeganFor, IsBegun, IsEnded, EndsIn, EndsOne, EndsOwn, Fills, FillsMissed, FillsNoOther, IsThisEnd, LeavesOne, LeavesOneOfSync, Pairs, Settles, SettlesIn, SettlesSync}
+use Rattle.shared.specs.Settled.{BeganFor, IsBegun, IsEnded, EndsOne, EndsOwn, Fills, FillsMissed, FillsNoOther, IsThisEnd, Pairs, Settles}
 use Rattle.shared.specs.Workers.{IsEnd, IsFlushBegin}
 
 -- ---- some element of two lists
@@ -305,27 +305,6 @@ pub settles_evicted : (name : ℕ) (a b : SeatSeen) → Only (λ e. IsEviction e
 settles_evicted name a b p =
     settles_none name (λ e. IsEviction e.event) a b (λ x e. eviction_begins x e.event e.reply) (λ e. eviction_no_end e.event) p
 
--- a call after what is settled
-left_on : (name : ℕ) (a b c : SeatSeen) (d : Denied) → Settles name a b → LeavesOne name b c d → LeavesOne name a c d
-left_on name a b c d p q = record {
-  full = q.full;
-  at = q.at;
-  settled = settles_on name a b q.at p q.settled;
-  left = q.left;
-  begun = q.begun;
-  one = q.one;
-}
-
-pub denied_on : (name : ℕ) (a b c : SeatSeen) (d : Denied) → Settles name a b
-    → Settles name b c ⊎ LeavesOne name b c d → Settles name a c ⊎ LeavesOne name a c d
-denied_on name a b c d p (inl q) = inl (settles_on name a b c p q)
-denied_on name a b c d p (inr q) = inr (left_on name a b c d p q)
-
-pub settled_on : {R : Type 0} (name : ℕ) (a b c : SeatSeen) (result : Result R Denied) → Settles name a b
-    → SettlesIn name b c result → SettlesIn name a c result
-settled_on name a b c (Ok x) p q = settles_on name a b c p q
-settled_on name a b c (Err d) p q = denied_on name a b c d p q
-
 -- ---- the end of one
 
 -- an end loses its bytes at most
@@ -341,38 +320,21 @@ ends_by name x kind end r old new a b slip is m = (
   m.entered.count,
 )
 
-pub ends_denied : (name : ℕ) (x : Kind × ℕ) (kind : Kind) (end : End) (old new : HeldSeen) (a b : SeatSeen) (d : Denied)
-    → IsEnded name x (event.End kind end) → under.IsDenied (event.End kind end) old new a b d
-    → EndsOne name x a b ⊎ ((d ≡ record { refusal = TrailFull; slip = None }) × (b ≡ a))
-ends_denied name x kind end old new a b d is q = go d.refusal d.slip refl q
-  where
-    go : (r : Refusal) (o : Option Slip) → d ≡ record { refusal = r; slip = o }
-        → under.DeniedBy (event.End kind end) old new a b r o
-        → EndsOne name x a b ⊎ ((d ≡ record { refusal = TrailFull; slip = None }) × (b ≡ a))
-    go r None same q = inr (same ∙ ap (λ (why : Refusal). record { refusal = why; slip = None }) q.0, q.2.1)
-    go r (Some slip) same q = inl (ends_by name x kind end (reply.Refused r) old new a b slip is q)
-
 -- whatever was finished is ended
-pub only_ended : (name : ℕ) (kind : Kind) (done : FinishedTask) (r : Reply) (old new : HeldSeen) (a b : SeatSeen) (slip : Slip)
-    → done.kind ≡ kind → done.cache ≡ name → Made (event.End kind (end_of done)) r old new a b slip
+pub only_ended : (name : ℕ) (done : FinishedTask) (r : Reply) (old new : HeldSeen) (a b : SeatSeen) (slip : Slip)
+    → done.cache ≡ name → Made (event.End done.kind (end_of done)) r old new a b slip
     → Only (λ e. IsEnded name (done.kind, done.serial) e.event) a b
-only_ended name kind done r old new a b slip is here m =
-    (ends_by name (done.kind, done.serial) kind (end_of done) r old new a b slip (sym is, refl, refl, here) m).0
-
-pub only_ended_denied : (name : ℕ) (kind : Kind) (done : FinishedTask) (old new : HeldSeen) (a b : SeatSeen) (d : Denied)
-    → done.kind ≡ kind → done.cache ≡ name → under.IsDenied (event.End kind (end_of done)) old new a b d
-    → Only (λ e. IsEnded name (done.kind, done.serial) e.event) a b
-only_ended_denied name kind done old new a b d is here q =
-    elim (ends_denied name (done.kind, done.serial) kind (end_of done) old new a b d (sym is, refl, refl, here) q) [
-      | inl ends ↦ ends.0
-      | inr none ↦ only_same (λ e. IsEnded name (done.kind, done.serial) e.event) a b none.1
-    ]
+only_ended name done r old new a b slip here m =
+    (ends_by name (done.kind, done.serial) done.kind (end_of done) r old new a b slip (refl, refl, refl, here) m).0
 
 -- what came of a job ends its request
-pub done_ends : (name : ℕ) (kind : Kind) (job : Task) (done : FinishedTask) → job.kind ≡ kind → job.cache ≡ name
+pub done_ends : (name : ℕ) (kind : Kind) (job : Task) (done : FinishedTask) (r : Reply) (old new : HeldSeen) (a b : SeatSeen)
+    (slip : Slip) → job.kind ≡ kind → job.cache ≡ name
     → (done.serial ≡ job.serial) × (done.kind ≡ job.kind) × (done.cache ≡ job.cache)
-    → IsEnded name (kind, job.serial) (event.End kind (end_of done))
-done_ends name kind job done is here same = (refl, same.1 ∙ is, same.0, same.2 ∙ here)
+    → Made (event.End done.kind (end_of done)) r old new a b slip → EndsOne name (kind, job.serial) a b
+done_ends name kind job done r old new a b slip is here same m =
+    ends_by name (kind, job.serial) done.kind (end_of done) r old new a b slip
+    (same.1 ∙ is, same.1 ∙ is, same.0, same.2 ∙ here) m
 
 -- ---- a request from its begin to its end
 
@@ -405,32 +367,6 @@ settles_begun name x e r old new a b c slip is m q = record {
       (only_by (λ l. l ≡ entry_of a.number e r) e r old new a b slip refl m) q.0 q.1;
   own = own_ended name x a b c (only_by (λ l. IsBegun x l.event l.reply) e r old new a b slip is m) m.entered.count q.0;
 }
-
--- its end was refused, and it alone is left
-begun_left : (name : ℕ) (x : Kind × ℕ) (e : Event) (r : Reply) (old new : HeldSeen) (a b : SeatSeen) (slip : Slip) (d : Denied)
-    → IsBegun x (noted e r) r → Made e r old new a b slip → d ≡ record { refusal = TrailFull; slip = None } → LeavesOne name a b d
-begun_left name x e r old new a b slip d is m full = record {
-  full = full;
-  at = a;
-  settled = settles_same name a a refl;
-  left = x;
-  begun = only_by (λ l. IsBegun x l.event l.reply) e r old new a b slip is m;
-  one = m.entered.count;
-}
-
-pub begun_denied : (name : ℕ) (x : Kind × ℕ) (e : Event) (r : Reply) (old new : HeldSeen) (a b c : SeatSeen) (slip : Slip)
-    (d : Denied) → IsBegun x (noted e r) r → Made e r old new a b slip
-    → EndsOne name x b c ⊎ ((d ≡ record { refusal = TrailFull; slip = None }) × (c ≡ b))
-    → Settles name a c ⊎ LeavesOne name a c d
-begun_denied name x e r old new a b c slip d is m (inl q) = inl (settles_begun name x e r old new a b c slip is m q)
-begun_denied name x e r old new a b c slip d is m (inr q) =
-    inr (subst (λ (s : SeatSeen). LeavesOne name a s d) (sym q.1) (begun_left name x e r old new a b slip d is m q.0))
-
-pub begun_settles : {R : Type 0} (name : ℕ) (x : Kind × ℕ) (e : Event) (r : Reply) (old new : HeldSeen) (a b c : SeatSeen)
-    (slip : Slip) (result : Result R Denied) → IsBegun x (noted e r) r → Made e r old new a b slip → EndsIn name x b c result
-    → SettlesIn name a c result
-begun_settles name x e r old new a b c slip (Ok y) is m q = settles_begun name x e r old new a b c slip is m q
-begun_settles name x e r old new a b c slip (Err d) is m q = begun_denied name x e r old new a b c slip d is m q
 
 -- ---- the kind of a job
 
@@ -510,7 +446,7 @@ sync_kind m job old new a b slip made is =
           (subst (λ (n : State). map.get n.requests job.serial ≡ Some is.0) k.2 is.1)
     ]
 
-step_kind : (m : SyncId) (y : SyncStepped) (job : Task) (old new : HeldSeen) (a b : SeatSeen) (slip : Slip)
+pub step_kind : (m : SyncId) (y : SyncStepped) (job : Task) (old new : HeldSeen) (a b : SeatSeen) (slip : Slip)
     → y ≡ stepped.Job job → Made (event.SyncStep m) (sync_stepped (Ok y)) old new a b slip → IsSyncJob new.core.state (Ok y)
     → job.kind ≡ Flush
 step_kind m y job old new a b slip same made is =
@@ -529,38 +465,30 @@ writes_begun job slip old new a b w is =
 
 -- ---- whole calls
 
--- nothing was made
-pub settled_same : {R : Type 0} (name : ℕ) (a b : SeatSeen) (result : Result R Denied) → b ≡ a → SettlesIn name a b result
-settled_same name a b (Ok x) e = settles_same name a b e
-settled_same name a b (Err d) e = inl (settles_same name a b e)
-
 -- a write was begun and ended
 pub first_settles : (name : ℕ) (job : Task) (slip : Slip) (old new : HeldSeen) (a b c : SeatSeen)
-    → Writes job slip old new a b → IsFlushJob new.core.state (Ok (flush.Job job))
-    → (job.kind ≡ Flush → EndsOne name (Flush, job.serial) b c) → Settles name a c
-first_settles name job slip old new a b c w is ends =
+    → Writes job slip old new a b → EndsOne name (Flush, job.serial) b c → Settles name a c
+first_settles name job slip old new a b c w ends =
     settles_begun name (Flush, job.serial) (event.FlushBegin w.file) (reply.Job (record { 0 = job.serial })) old new a b c slip
-    (refl, refl) w.made (ends (first_kind job slip old new a b w is))
-
-pub first_denied : (name : ℕ) (job : Task) (slip : Slip) (old new : HeldSeen) (a b c : SeatSeen) (d : Denied)
-    → Writes job slip old new a b → IsFlushJob new.core.state (Ok (flush.Job job))
-    → (job.kind ≡ Flush → EndsOne name (Flush, job.serial) b c ⊎ ((d ≡ record { refusal = TrailFull; slip = None }) × (c ≡ b)))
-    → Settles name a c ⊎ LeavesOne name a c d
-first_denied name job slip old new a b c d w is ends =
-    begun_denied name (Flush, job.serial) (event.FlushBegin w.file) (reply.Job (record { 0 = job.serial })) old new a b c slip d
-    (refl, refl) w.made (ends (first_kind job slip old new a b w is))
+    (refl, refl) w.made ends
 
 -- a fill was begun and ended
-pub fill_settles : {R : Type 0} (name : ℕ) (h : HandleId) (p : PageIndex) (begun : FillBegun) (job : Task) (old new : HeldSeen)
-    (a b c : SeatSeen) (slip : Slip) (result : Result R Denied) → begun ≡ fill.Job job
-    → Made (event.FillBegin h p) (fill_begun (Ok begun)) old new a b slip → IsFillJob new.core.state (Ok begun)
-    → (job.kind ≡ Fill → EndsIn name (Fill, job.serial) b c result) → SettlesIn name a c result
-fill_settles name h p begun job old new a b c slip result same m is ends =
-    let made : Made (event.FillBegin h p) (reply.Job (record { 0 = job.serial })) old new a b slip =
-    subst (λ (x : FillBegun). Made (event.FillBegin h p) (fill_begun (Ok x)) old new a b slip) same m in
-    begun_settles name (Fill, job.serial) (event.FillBegin h p) (reply.Job (record { 0 = job.serial })) old new a b c slip result
-    (refl, refl) made
-    (ends (fill_kind h p job old new a b slip made (subst (λ (x : FillBegun). IsFillJob new.core.state (Ok x)) same is)))
+pub fill_settles : (name : ℕ) (h : HandleId) (p : PageIndex) (begun : FillBegun) (job : Task) (old new : HeldSeen)
+    (a b c : SeatSeen) (slip : Slip) → begun ≡ fill.Job job
+    → Made (event.FillBegin h p) (fill_begun (Ok begun)) old new a b slip → EndsOne name (Fill, job.serial) b c
+    → Settles name a c
+fill_settles name h p begun job old new a b c slip same m ends =
+    settles_begun name (Fill, job.serial) (event.FillBegin h p) (reply.Job (record { 0 = job.serial })) old new a b c slip
+    (refl, refl) (subst (λ (x : FillBegun). Made (event.FillBegin h p) (fill_begun (Ok x)) old new a b slip) same m) ends
+
+-- the job of a fill is one
+pub begun_kind : (h : HandleId) (p : PageIndex) (begun : FillBegun) (job : Task) (old new : HeldSeen) (a b : SeatSeen)
+    (slip : Slip) → begun ≡ fill.Job job → Made (event.FillBegin h p) (fill_begun (Ok begun)) old new a b slip
+    → IsFillJob new.core.state (Ok begun) → job.kind ≡ Fill
+begun_kind h p begun job old new a b slip same m is =
+    fill_kind h p job old new a b slip
+    (subst (λ (x : FillBegun). Made (event.FillBegin h p) (fill_begun (Ok x)) old new a b slip) same m)
+    (subst (λ (x : FillBegun). IsFillJob new.core.state (Ok x)) same is)
 
 -- one that begins no request
 pub fill_quiet : {B : Type 0} (x : Kind × ℕ) (h : HandleId) (p : PageIndex) (begun : FillStarted B)
@@ -690,50 +618,23 @@ one_no_other name x p (event.FillBegin h q) is = absurd is
 one_no_other name x p e is = tt
 
 -- a fill was begun and ended
-pub other_filled : {R : Type 0} (name : ℕ) (h : HandleId) (p : PageIndex) (begun : FillBegun) (job : Task) (old new : HeldSeen)
-    (a b c : SeatSeen) (slip : Slip) (result : Result R Denied) → begun ≡ fill.Job job
-    → Made (event.FillBegin h p) (fill_begun (Ok begun)) old new a b slip → IsFillJob new.core.state (Ok begun)
-    → (job.kind ≡ Fill → EndsIn name (Fill, job.serial) b c result) → Only (λ l. FillsNoOther p l.event) a c
-other_filled {R} name h p first job old new a b c slip result same m is ends =
-    go result
-    (ends (fill_kind h p job old new a b slip
-    (subst (λ (x : FillBegun). Made (event.FillBegin h p) (fill_begun (Ok x)) old new a b slip) same m)
-    (subst (λ (x : FillBegun). IsFillJob new.core.state (Ok x)) same is)))
-  where
-    begun : Only (λ l. FillsNoOther p l.event) a b
-    begun = other_begun h p (fill_begun (Ok first)) old new a b slip m
-
-    ended : EndsOne name (Fill, job.serial) b c → Only (λ l. FillsNoOther p l.event) a c
-    ended q =
-        only_on (λ l. FillsNoOther p l.event) a b c begun
-        (only_wider (λ l. IsEnded name (Fill, job.serial) l.event) (λ l. FillsNoOther p l.event) b c
-        (λ l. one_no_other name (Fill, job.serial) p l.event) q.0)
-
-    go : (result : Result R Denied) → EndsIn name (Fill, job.serial) b c result → Only (λ l. FillsNoOther p l.event) a c
-    go (Ok y) q = ended q
-    go (Err d) (inl q) = ended q
-    go (Err d) (inr q) = subst (λ (s : SeatSeen). Only (λ l. FillsNoOther p l.event) a s) (sym q.1) begun
+pub other_filled : (name : ℕ) (h : HandleId) (p : PageIndex) (r : Reply) (t : ℕ) (old new : HeldSeen) (a b c : SeatSeen)
+    (slip : Slip) → Made (event.FillBegin h p) r old new a b slip → EndsOne name (Fill, t) b c
+    → Only (λ l. FillsNoOther p l.event) a c
+other_filled name h p r t old new a b c slip m ends =
+    only_on (λ l. FillsNoOther p l.event) a b c (other_begun h p r old new a b slip m)
+    (only_wider (λ l. IsEnded name (Fill, t) l.event) (λ l. FillsNoOther p l.event) b c
+    (λ l. one_no_other name (Fill, t) p l.event) ends.0)
 
 -- ---- syncs
 
 -- a step of a sync began a write, which was ended
 pub step_settles : (name : ℕ) (m : SyncId) (y : SyncStepped) (job : Task) (old new : HeldSeen) (a b c : SeatSeen) (slip : Slip)
-    → y ≡ stepped.Job job → Made (event.SyncStep m) (sync_stepped (Ok y)) old new a b slip → IsSyncJob new.core.state (Ok y)
-    → (job.kind ≡ Flush → EndsOne name (Flush, job.serial) b c) → Settles name a c
-step_settles name m y job old new a b c slip same made is ends =
+    → y ≡ stepped.Job job → Made (event.SyncStep m) (sync_stepped (Ok y)) old new a b slip
+    → EndsOne name (Flush, job.serial) b c → Settles name a c
+step_settles name m y job old new a b c slip same made ends =
     settles_begun name (Flush, job.serial) (event.SyncStep m) (reply.Job (record { 0 = job.serial })) old new a b c slip
-    (refl, refl) (subst (λ (x : SyncStepped). Made (event.SyncStep m) (sync_stepped (Ok x)) old new a b slip) same made)
-    (ends (step_kind m y job old new a b slip same made is))
-
-pub write_denied : (name : ℕ) (m : SyncId) (y : SyncStepped) (job : Task) (old new : HeldSeen) (a b c : SeatSeen) (slip : Slip)
-    (d : Denied) → y ≡ stepped.Job job → Made (event.SyncStep m) (sync_stepped (Ok y)) old new a b slip
-    → IsSyncJob new.core.state (Ok y)
-    → (job.kind ≡ Flush → EndsOne name (Flush, job.serial) b c ⊎ ((d ≡ record { refusal = TrailFull; slip = None }) × (c ≡ b)))
-    → Settles name a c ⊎ LeavesOne name a c d
-write_denied name m y job old new a b c slip d same made is ends =
-    begun_denied name (Flush, job.serial) (event.SyncStep m) (reply.Job (record { 0 = job.serial })) old new a b c slip d
-    (refl, refl) (subst (λ (x : SyncStepped). Made (event.SyncStep m) (sync_stepped (Ok x)) old new a b slip) same made)
-    (ends (step_kind m y job old new a b slip same made is))
+    (refl, refl) (subst (λ (x : SyncStepped). Made (event.SyncStep m) (sync_stepped (Ok x)) old new a b slip) same made) ends
 
 -- a step that began none
 pub step_quiet : (name : ℕ) (m : SyncId) (y z : SyncStepped) (old new : HeldSeen) (a b : SeatSeen) (slip : Slip) → y ≡ z
@@ -758,29 +659,7 @@ settles_dropped name m a b p =
     (λ e is ends. subst IsEnd is ends) p
 
 -- its turns were refused, and it was dropped
-pub dropped_settles : (name : ℕ) (m : SyncId) (a b c e : SeatSeen) (why d : Denied) (P : Type 0) → Settles name a b
-    → Settles name b c ⊎ LeavesOne name b c why → Only (λ l. l.event ≡ event.SyncDrop m) c e → e.count ≤ c.count + 1
-    → ((d ≡ why) × P) ⊎ (d ≡ record { refusal = Stranger; slip = None })
-    → Settles name a e ⊎ LeavesOneOfSync name a e d
-dropped_settles name m a b c e why d P p (inl q) only few told =
-    inl (settles_on name a b e p (settles_on name b c e q (settles_dropped name m c e only)))
-dropped_settles name m a b c e why d P p (inr q) only few told = inr (record {
-  is = go told;
-  at = c;
-  left = left_on name a b c (record { refusal = TrailFull; slip = None }) p
-      (subst (LeavesOne name b c) q.full q);
-  sync = m;
-  dropped = only;
-  few = few;
-})
-  where
-    go : ((d ≡ why) × P) ⊎ (d ≡ record { refusal = Stranger; slip = None })
-        → (d ≡ record { refusal = TrailFull; slip = None }) ⊎ (d ≡ record { refusal = Stranger; slip = None })
-    go (inl t) = inl (t.0 ∙ q.full)
-    go (inr t) = inr t
-
--- what is answered once the sync has ended
-pub ended_settles : {R : Type 0} (name : ℕ) (a b : SeatSeen) (result : Result R Denied) → Settles name a b
-    → SettlesSync name a b result
-ended_settles name a b (Ok x) p = p
-ended_settles name a b (Err d) p = inl p
+pub dropped_settles : (name : ℕ) (m : SyncId) (a b c e : SeatSeen) → Settles name a b → Settles name b c
+    → Only (λ l. l.event ≡ event.SyncDrop m) c e → Settles name a e
+dropped_settles name m a b c e p q only =
+    settles_on name a b e p (settles_on name b c e q (settles_dropped name m c e only))

@@ -14,6 +14,7 @@ use Rattle.machine.specs.declared.event.Event.{Event}
 use Rattle.machine.specs.declared.event.Event.TheVariants as event
 use Rattle.machine.specs.declared.event.Reply.{Reply}
 use Rattle.machine.specs.declared.event.Reply.TheVariants as reply
+use Rattle.machine.specs.State.{Sync}
 use Rattle.machine.specs.Tests.{refuse, tests}
 use Rattle.machine.proofs.steps.Cases.{answered}
 use Rattle.pc_types.specs.declared.ids.HandleId.{HandleId}
@@ -36,7 +37,7 @@ use Rattle.pc_types.specs.Limits.{Sizes}
 use Rattle.shared.specs.Called.{Makes, is_for_now}
 use Rattle.shared.specs.Denials.{IsDenied}
 use Rattle.shared.specs.Rooms.{IsFinal}
-use Rattle.shared.specs.Synced.{Began, IsDropReply, IsDropped, IsFlushEnd, IsFsyncDenied, IsNotBegun, IsSyncDenied, IsTurnOf}
+use Rattle.shared.specs.Synced.{Began, IsDropReply, IsDropped, IsFsyncDenied, IsGone, IsNotBegun, IsSyncDenied}
 use Rattle.shared.specs.Polls.{Hears, IsLevelled, Polled}
 use Rattle.shared.specs.Seen.{HandleSeen}
 use Rattle.shared.specs.Synced.{Reports, Syncs, end_reply}
@@ -46,21 +47,9 @@ use Rattle.shared.proofs.Rooming.{final_lasting, final_on}
 
 -- ---- turns
 
-pub denied_step : (m : SyncId) (old new : HeldSeen) (before after : SeatSeen) (d : Denied)
-    → under.IsDenied (event.SyncStep m) old new before after d → IsDenied (IsTurnOf m) before after d
-denied_step m old new before after d q = denied_by (IsTurnOf m) (event.SyncStep m) old new before after d refl q
-
-pub turn_on : (m : SyncId) (a b c : SeatSeen) (d : Denied) → Goes a b → IsDenied (IsTurnOf m) b c d → IsDenied (IsTurnOf m) a c d
-turn_on m a b c d p q = denied_on (IsTurnOf m) (IsTurnOf m) a b c d (λ e x. x) p q
-
-pub flush_denied : (end : End) (old new : HeldSeen) (before after : SeatSeen) (d : Denied)
-    → under.IsDenied (event.End Flush end) old new before after d → IsDenied IsFlushEnd before after d
-flush_denied end old new before after d q = denied_by IsFlushEnd (event.End Flush end) old new before after d tt q
-
-flush_turns : (m : SyncId) (e : Event) → IsFlushEnd e → IsTurnOf m e
-flush_turns m (event.End Flush end) x = x
-flush_turns m (event.End Fill end) x = absurd x
-flush_turns m e x = absurd x
+pub turn_on : (m : SyncId) (a b c : SeatSeen) (d : Denied) → Goes a b → IsDenied (λ e. e ≡ event.SyncStep m) b c d
+    → IsDenied (λ e. e ≡ event.SyncStep m) a c d
+turn_on m a b c d p q = denied_on (λ e. e ≡ event.SyncStep m) (λ e. e ≡ event.SyncStep m) a b c d (λ e x. x) p q
 
 -- without a slip it is that of a full trail
 pub step_full : (m : SyncId) (old new : HeldSeen) (before after : SeatSeen) (first d : Denied)
@@ -68,10 +57,6 @@ pub step_full : (m : SyncId) (old new : HeldSeen) (before after : SeatSeen) (fir
 step_full m old new before after first d q same none =
     ap (λ (x : Denied). x.refusal) same
     ∙ (full_by (event.SyncStep m) old new before after first q (ap (λ (x : Denied). x.slip) (sym same) ∙ none)).0
-
--- the write that a step began was refused its end
-pub turn_flush : (m : SyncId) (a b c : SeatSeen) (d : Denied) → Goes a b → IsDenied IsFlushEnd b c d → IsDenied (IsTurnOf m) a c d
-turn_flush m a b c d p q = denied_on IsFlushEnd (IsTurnOf m) a b c d (flush_turns m) p q
 
 -- a step that ends the sync
 pub clean_ended : (m : SyncId) (x : SyncStepped) (b : List ℕ) (old new : HeldSeen) (before after : SeatSeen) (slip : Slip)
@@ -123,22 +108,22 @@ begin_denied h first last old new before after d q = inr (
   full_by (event.SyncBegin h first last) old new before after d q,
 )
 
-pub gave_up : (h : HandleId) (first last : PageIndex) (m : SyncId) (old new : HeldSeen) (before at over after : SeatSeen)
+pub gave_up : (sizes : Sizes) (name : ℕ) (h : HandleId) (first last : PageIndex) (m : SyncId) (old new : HeldSeen) (before at over after : SeatSeen)
     (begin : Slip) (why d : Denied) → Made (event.SyncBegin h first last) (reply.Sync m) old new before at begin → Goes at over
-    → Goes over after → IsDenied (IsTurnOf m) at over why → (why.slip ≡ None → why.refusal ≡ TrailFull)
-    → ((d ≡ why) × IsDropped m over after) ⊎ (d ≡ record { refusal = Stranger; slip = None })
-    → IsSyncDenied h first last before after d
-gave_up h first last m old new before at over after begin why d b goes past denied full (inl p) = inr (inl record {
+    → Goes over after → IsDenied (λ e. e ≡ event.SyncStep m) at over why → (why.slip ≡ None → why.refusal ≡ TrailFull)
+    → ((d ≡ why) × IsDropped m over after) ⊎ ((d ≡ record { refusal = Stranger; slip = None }) × IsGone sizes name m after)
+    → IsSyncDenied sizes name h first last before after d
+gave_up sizes name h first last m old new before at over after begin why d b goes past denied full (inl p) = inr (inl record {
   sync = m;
   at = at;
   over = over;
   began = began_by h first last m old new before at begin b;
   goes = goes;
-  denied = subst (IsDenied (IsTurnOf m) at over) (sym p.0) denied;
+  denied = subst (IsDenied (λ e. e ≡ event.SyncStep m) at over) (sym p.0) denied;
   full = subst (λ (x : Denied). x.slip ≡ None → x.refusal ≡ TrailFull) (sym p.0) full;
   dropped = p.1;
 })
-gave_up h first last m old new before at over after begin why d b goes past denied full (inr p) = inr (inr record {
+gave_up sizes name h first last m old new before at over after begin why d b goes past denied full (inr p) = inr (inr record {
   sync = m;
   at = at;
   over = over;
@@ -148,17 +133,19 @@ gave_up h first last m old new before at over after begin why d b goes past deni
   denied = denied;
   full = full;
   past = past;
-  is = p;
+  gone = p.1;
+  is = p.0;
 })
 
 -- no request was in flight where its turn was refused so that one's end might help
 pub gave_up_final : (sizes : Sizes) (name : ℕ) (m : SyncId) (over after : SeatSeen) (why d : Denied) → Goes over after
     → IsFinal sizes name over why
-    → ((d ≡ why) × IsDropped m over after) ⊎ (d ≡ record { refusal = Stranger; slip = None }) → IsFinal sizes name after d
+    → ((d ≡ why) × IsDropped m over after) ⊎ ((d ≡ record { refusal = Stranger; slip = None }) × IsGone sizes name m after)
+    → IsFinal sizes name after d
 gave_up_final sizes name m over after why d goes final (inl p) =
     subst (IsFinal sizes name after) (sym p.0) (final_on sizes name over after why goes final)
 gave_up_final sizes name m over after why d goes final (inr p) =
-    final_lasting sizes name after d (subst (λ (x : Denied). is_for_now x.refusal ≡ false) (sym p) refl)
+    final_lasting sizes name after d (subst (λ (x : Denied). is_for_now x.refusal ≡ false) (sym p.0) refl)
 
 -- ---- the drop of a sync
 
@@ -166,10 +153,10 @@ dropped_entry : (m : SyncId) (old new : HeldSeen) (before after : SeatSeen) (sli
     → Made (event.SyncDrop m) r old new before after slip → IsDropped m before after
 dropped_entry m old new before after slip r is q = (slip, r, is, makes_by (event.SyncDrop m) r old new before after slip q)
 
-pub dropped_by : (m : SyncId) (old new : HeldSeen) (before after : SeatSeen) (slip : Slip) (d : Denied)
-    → Made (event.SyncDrop m) reply.Dropped old new before after slip
-    → ((d ≡ d) × IsDropped m before after) ⊎ (d ≡ record { refusal = Stranger; slip = None })
-dropped_by m old new before after slip d q = inl (refl, dropped_entry m old new before after slip reply.Dropped tt q)
+pub dropped_by : (sizes : Sizes) (name : ℕ) (m : SyncId) (old new : HeldSeen) (before after : SeatSeen) (slip : Slip)
+    (d : Denied) → Made (event.SyncDrop m) reply.Dropped old new before after slip
+    → ((d ≡ d) × IsDropped m before after) ⊎ ((d ≡ record { refusal = Stranger; slip = None }) × IsGone sizes name m after)
+dropped_by sizes name m old new before after slip d q = inl (refl, dropped_entry m old new before after slip reply.Dropped tt q)
 
 stranger_alone : (there : Bool) (why : Refusal) → (if there then None else refuse Stranger) ≡ Some (reply.Refused why) → why ≡ Stranger
 stranger_alone true why e = absurd cc
@@ -186,16 +173,32 @@ refused_drop m why old new before after slip q =
     ]
 
 -- where the drop was refused with a slip, its entry stands all the same
-pub dropped_refused : (m : SyncId) (old new : HeldSeen) (before after : SeatSeen) (other d : Denied)
+pub dropped_refused : (sizes : Sizes) (name : ℕ) (m : SyncId) (old new : HeldSeen) (before after : SeatSeen) (other d : Denied)
     → under.IsDenied (event.SyncDrop m) old new before after other → is_some other.slip ≡ true
-    → ((d ≡ d) × IsDropped m before after) ⊎ (d ≡ record { refusal = Stranger; slip = None })
-dropped_refused m old new before after other d q is = inl (refl, go other.refusal other.slip q is)
+    → ((d ≡ d) × IsDropped m before after) ⊎ ((d ≡ record { refusal = Stranger; slip = None }) × IsGone sizes name m after)
+dropped_refused sizes name m old new before after other d q is = inl (refl, go other.refusal other.slip q is)
   where
     go : (r : Refusal) (o : Option Slip) → under.DeniedBy (event.SyncDrop m) old new before after r o → is_some o ≡ true
         → IsDropped m before after
     go r None q is = absurd cc
     go r (Some slip) q is =
         dropped_entry m old new before after slip (reply.Refused r) (refused_drop m r old new before after slip q) q
+
+-- where it was refused without one, the sync was in progress no longer: room is kept for the drop of each that is
+pub gone_before : (m : SyncId) (old new : HeldSeen) (before after : SeatSeen) (other : Denied)
+    → under.IsDenied (event.SyncDrop m) old new before after other → is_some other.slip ≡ false
+    → (tests old.core.state (event.SyncDrop m) ≡ None → false ≡ true) → map.get new.core.state.syncs m.0 ≡ None
+gone_before m old new before after other q bare refused = go other.refusal other.slip q bare
+  where
+    out : (o : Option Sync) → ((if is_some o then None else refuse Stranger) ≡ None → false ≡ true) → o ≡ None
+    out None h = refl
+    out (Some y) h = absurd (let k : false ≡ true = h refl in cc)
+
+    go : (r : Refusal) (o : Option Slip) → under.DeniedBy (event.SyncDrop m) old new before after r o → is_some o ≡ false
+        → map.get new.core.state.syncs m.0 ≡ None
+    go r None q bare =
+        ap (λ (h : HeldSeen). map.get h.core.state.syncs m.0) q.2.0 ∙ out (map.get old.core.state.syncs m.0) refused
+    go r (Some slip) q bare = absurd cc
 
 -- ---- what the handle is told
 
@@ -237,7 +240,7 @@ pub flush_failed : (sizes : Sizes) (name : ℕ) (h : HandleId) (first last : Pag
 flush_failed sizes name h first last before after old new code slip level s = inr (inl (level, (code, slip, s, refl)))
 
 pub sync_denied : (sizes : Sizes) (name : ℕ) (h : HandleId) (first last : PageIndex) (before after : SeatSeen)
-    (old new : PassSeen) (d : Denied) → new ≡ old → IsSyncDenied h first last before after d
+    (old new : PassSeen) (d : Denied) → new ≡ old → IsSyncDenied sizes name h first last before after d
     → IsFsyncDenied sizes name h first last before after old new d
 sync_denied sizes name h first last before after old new d same q = inr (inr (same, q))
 

@@ -6,7 +6,7 @@ use Rattle.deeds.specs.Shown.{AreTold}
 use Rattle.machine.specs.State.{Request, State}
 use Rattle.pc_types.specs.Limits.{Sizes}
 use Rattle.runs.specs.World.{World}
-use Rattle.tied.specs.Tied.{IsHonest}
+use Rattle.tied.specs.Tied.{IsHonest, IsOnItsWay}
 use Rattle.trail.specs.declared.entry.Entry.{Entry}
 
 -- it has blocks of a page, as many as the cache
@@ -23,7 +23,7 @@ abbrev pub AreBlocksOf : Bool → List (List ℕ) → Told → Type 0
 AreBlocksOf told blocks device = AreTold told device blocks × (length blocks ≡ device.count)
 
 -- the device is what the history makes of one with these first blocks: the history is honest over them, with this core at its
--- end, and the device has each block as the world then has it, but for those of requests that are still in flight
+-- end, and the device has each block as the world then has it. The block of a flush that is still in flight may have its bytes
 pub record IsLeftBy (sizes : Sizes) (name : ℕ) (blocks : List (List ℕ)) (history : List Entry) (core : State) (device : Told)
     : Type 0 where
   pub world : World
@@ -33,3 +33,4 @@ pub record IsLeftBy (sizes : Sizes) (name : ℕ) (blocks : List (List ℕ)) (his
   pub told : device.contents ≡ Some left
   pub each : (k : ℕ) → k < sizes.blocks → ((t : ℕ) (x : Request) → map.get core.requests t ≡ Some x → x.block ≢ k)
       → slice_get left k ≡ slice_get world.device k
+  pub busy : (t : ℕ) (x : Request) → map.get core.requests t ≡ Some x → IsOnItsWay world t x (slice_get left x.block)

@@ -1,18 +1,15 @@
 -- What a call leaves behind it: no request of its own and no end of another's, and no page filled that it was not told to be missing.
-use Rattle.std.specs.Prelude.{◌≡◌, ◌⊎◌, ◌+◌, ◌++◌, ◌≤◌, ℕ, Any, List, None, Result, Ok, Err}
+use Rattle.std.specs.Prelude.{◌≡◌, ◌+◌, ◌++◌, ℕ, Any, List}
 use Rattle.machine.specs.declared.event.Event.{Event}
 use Rattle.machine.specs.declared.event.Event.TheVariants as event
 use Rattle.machine.specs.declared.event.Reply.{Reply}
 use Rattle.machine.specs.declared.event.Reply.TheVariants as reply
 use Rattle.pc_types.specs.declared.ids.PageIndex.{PageIndex}
-use Rattle.pc_types.specs.declared.ids.SyncId.{SyncId}
 use Rattle.pc_types.specs.declared.kind.Kind.{Kind}
 use Rattle.pc_types.specs.declared.kind.Kind.TheVariants.{Fill, Flush}
-use Rattle.pc_types.specs.declared.refusal.Refusal.TheVariants.{Stranger, TrailFull}
 use Rattle.trail.specs.declared.entry.Entry.{Entry}
 use Rattle.held.specs.Shown.{SeatSeen}
 use Rattle.held.specs.Called.{Only}
-use Rattle.held.specs.declared.denied.Denied.{Denied}
 use Rattle.shared.specs.Workers.{IsEnd}
 
 -- the seat made an entry of the second kind since, if it made one of the first kind
@@ -54,43 +51,9 @@ pub record Settles (name : ℕ) (before after : SeatSeen) : Type 0 where
   pub ended : Pairs (λ x e. IsBegun x e.event e.reply) (λ x e. IsEnded name x e.event) before after
   pub own : EndsOwn name before after
 
--- so it did, but that the last event that it made began one more, whose end a full trail refused
-pub record LeavesOne (name : ℕ) (before after : SeatSeen) (d : Denied) : Type 0 where
-  pub full : d ≡ record { refusal = TrailFull; slip = None }
-  pub at : SeatSeen
-  pub settled : Settles name before at
-  pub left : Kind × ℕ
-  pub begun : Only (λ e. IsBegun left e.event e.reply) at after
-  pub one : after.count ≡ at.count + 1
-
--- a call settles what it began; it leaves one request only where it says that the trail is full
-abbrev pub SettlesIn : {A : Type 0} → ℕ → SeatSeen → SeatSeen → Result A Denied → Type 0
-SettlesIn name before after (Ok x) = Settles name before after
-SettlesIn name before after (Err d) = Settles name before after ⊎ LeavesOne name before after d
-
--- so it did, and a sync was dropped after: the refusal stands, or the sync was in progress no longer
-pub record LeavesOneOfSync (name : ℕ) (before after : SeatSeen) (d : Denied) : Type 0 where
-  pub is : (d ≡ record { refusal = TrailFull; slip = None }) ⊎ (d ≡ record { refusal = Stranger; slip = None })
-  pub at : SeatSeen
-  pub left : LeavesOne name before at (record { refusal = TrailFull; slip = None })
-  pub sync : SyncId
-  pub dropped : Only (λ e. e.event ≡ event.SyncDrop sync) at after
-  pub few : after.count ≤ at.count + 1
-
--- an fsync settles what it began; it leaves one request only where a turn of its sync was refused by a full trail
-abbrev pub SettlesSync : {A : Type 0} → ℕ → SeatSeen → SeatSeen → Result A Denied → Type 0
-SettlesSync name before after (Ok x) = Settles name before after
-SettlesSync name before after (Err d) = Settles name before after ⊎ LeavesOneOfSync name before after d
-
 -- it made one event, the end of that request
 abbrev pub EndsOne : ℕ → Kind × ℕ → SeatSeen → SeatSeen → Type 0
 EndsOne name x before after = Only (λ e. IsEnded name x e.event) before after × (after.count ≡ before.count + 1)
-
--- so it did, or made none where the trail is full
-abbrev pub EndsIn : {A : Type 0} → ℕ → Kind × ℕ → SeatSeen → SeatSeen → Result A Denied → Type 0
-EndsIn name x before after (Ok y) = EndsOne name x before after
-EndsIn name x before after (Err d) =
-    EndsOne name x before after ⊎ ((d ≡ record { refusal = TrailFull; slip = None }) × (after ≡ before))
 
 -- ---- pages
 

@@ -1,4 +1,5 @@
 -- Syncs of a call, and how it answers them.
+use Rattle.std.specs.FinMap as map
 use Rattle.std.specs.Prelude.{◌≡◌, ◌⊎◌, ◌+◌, ◌≤◌, ℕ, Option, Some, None}
 use Rattle.errboard.specs.Shown.{PassSeen}
 use Rattle.held.specs.Shown.{SeatSeen}
@@ -9,12 +10,14 @@ use Rattle.machine.specs.declared.event.Event.{Event}
 use Rattle.machine.specs.declared.event.Event.TheVariants as event
 use Rattle.machine.specs.declared.event.Reply.{Reply}
 use Rattle.machine.specs.declared.event.Reply.TheVariants as reply
+use Rattle.machine.specs.State.{State}
 use Rattle.pc_types.specs.Limits.{Sizes}
 use Rattle.pc_types.specs.declared.ids.HandleId.{HandleId}
 use Rattle.pc_types.specs.declared.ids.PageIndex.{PageIndex}
 use Rattle.pc_types.specs.declared.ids.SyncId.{SyncId}
 use Rattle.pc_types.specs.declared.kind.Kind.TheVariants.{Flush}
 use Rattle.pc_types.specs.declared.refusal.Refusal.TheVariants.{Io, Memory, Stranger, TrailFull}
+use Rattle.trail.specs.History.{After}
 use Rattle.trail.specs.declared.entry.Entry.{Entry}
 use Rattle.shared.specs.Called.{Makes}
 use Rattle.shared.specs.Denials.{IsDenied, IsFullIfNoSlip, MadeOne}
@@ -43,11 +46,6 @@ pub record Syncs (h : HandleId) (first last : PageIndex) (failed : Option ℕ) (
 abbrev pub IsFlushEnd : Event → Type 0
 IsFlushEnd (event.End Flush end) = Unit {0}
 IsFlushEnd e = ⊥
-
--- a turn of a sync: its step, or the end of a write that a step began
-abbrev pub IsTurnOf : SyncId → Event → Type 0
-IsTurnOf sync (event.SyncStep m) = m ≡ sync
-IsTurnOf sync e = IsFlushEnd e
 
 -- this sync was begun, or none
 abbrev pub IsBeginReply : SyncId → Reply → Type 0
@@ -104,14 +102,14 @@ abbrev pub IsDropped : SyncId → SeatSeen → SeatSeen → Type 0
 IsDropped sync before after =
     (slip : Slip) × (r : Reply) × IsDropReply r × Makes before after slip (event.SyncDrop sync) r
 
--- a turn of a sync that this call began was refused, without a slip by a full trail alone, and the sync dropped
+-- a step of a sync that this call began was refused, without a slip by a full trail alone, and the sync dropped
 pub record GaveUp (h : HandleId) (first last : PageIndex) (before after : SeatSeen) (d : Denied) : Type 0 where
   pub sync : SyncId
   pub at : SeatSeen
   pub over : SeatSeen
   pub began : Began h first last sync before at
   pub goes : Goes at over
-  pub denied : IsDenied (IsTurnOf sync) at over d
+  pub denied : IsDenied (λ e. e ≡ event.SyncStep sync) at over d
   pub full : d.slip ≡ None → d.refusal ≡ TrailFull
   pub dropped : IsDropped sync over after
 
@@ -122,25 +120,32 @@ IsNotBegun h first last before after d =
     ⊎ (IsDenied (λ e. e ≡ event.SyncBegin h first last) before after d × MadeOne d.slip before after
     × IsFullIfNoSlip before after d)
 
--- a turn of a sync that this call began was refused, and no entry says what became of the sync: another ended it, and the
--- trail was full. That it is over is not said here
-pub record WasLost (h : HandleId) (first last : PageIndex) (before after : SeatSeen) (d : Denied) : Type 0 where
+-- the seat saw a history after which the sync is in progress no longer
+pub record IsGone (sizes : Sizes) (name : ℕ) (sync : SyncId) (seat : SeatSeen) : Type 0 where
+  pub state : State
+  pub leaves : After sizes name seat.list state
+  pub gone : map.get state.syncs sync.0 ≡ None
+
+-- a step of a sync that this call began was refused, and the trail was full for its drop: another had ended it
+pub record WasLost (sizes : Sizes) (name : ℕ) (h : HandleId) (first last : PageIndex) (before after : SeatSeen) (d : Denied)
+    : Type 0 where
   pub sync : SyncId
   pub at : SeatSeen
   pub over : SeatSeen
   pub why : Denied
   pub began : Began h first last sync before at
   pub goes : Goes at over
-  pub denied : IsDenied (IsTurnOf sync) at over why
+  pub denied : IsDenied (λ e. e ≡ event.SyncStep sync) at over why
   pub full : why.slip ≡ None → why.refusal ≡ TrailFull
   pub past : Goes over after
+  pub gone : IsGone sizes name sync after
   pub is : d ≡ record { refusal = Stranger; slip = None }
 
 -- no sync was begun, or the one that was is given up, or was lost
-abbrev pub IsSyncDenied : HandleId → PageIndex → PageIndex → SeatSeen → SeatSeen → Denied → Type 0
-IsSyncDenied h first last before after d =
+abbrev pub IsSyncDenied : Sizes → ℕ → HandleId → PageIndex → PageIndex → SeatSeen → SeatSeen → Denied → Type 0
+IsSyncDenied sizes name h first last before after d =
     IsNotBegun h first last before after d
-    ⊎ (GaveUp h first last before after d ⊎ WasLost h first last before after d)
+    ⊎ (GaveUp h first last before after d ⊎ WasLost sizes name h first last before after d)
 
 -- the refusal has the code that the poll answered, or else that of the step which ended the sync
 pub record Reports (failed : Option ℕ) (slip : Slip) (old new : PassSeen) (d : Denied) : Type 0 where
@@ -169,4 +174,4 @@ abbrev pub IsFsyncDenied : Sizes → ℕ → HandleId → PageIndex → PageInde
 IsFsyncDenied sizes name h first last before after old new d =
     WriteFailed sizes name h first last before after old new d
     ⊎ ((IsLevelled old new × FlushFailed h first last before after d)
-    ⊎ ((new ≡ old) × IsSyncDenied h first last before after d))
+    ⊎ ((new ≡ old) × IsSyncDenied sizes name h first last before after d))

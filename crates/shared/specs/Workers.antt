@@ -70,6 +70,10 @@ popped_by w = popped_in w.pass
 abbrev pub pushed_by : Worker → List Task
 pushed_by w = pushed_in w.pass
 
+-- whether no other pass of the ring was made from it
+abbrev pub is_alone : Worker → Bool
+is_alone w = (view w.pass).alone
+
 -- the event is the end of this job's request
 abbrev pub IsEndOf : Task → Event → Type 0
 IsEndOf job (event.End kind end) =
@@ -144,7 +148,7 @@ pub record FindsEnough (frames : ℕ) (sizes : Sizes) (name : ℕ) (seat : SeatS
   pub leaves : After sizes name seat.list state
   pub enough : (frames ≤ free_frames state) ⊎ (has_idle state ≡ false)
 
--- what a turn of a flusher did. The job of the write that it began lies in the ring, or its end was made, or refused
+-- what a turn of a flusher did. The job of the write that it began lies in the ring, or its end was made
 abbrev pub IsFlushed : Sizes → ℕ → Worker → Worker → Flushed → Type 0
 IsFlushed sizes name old new flushed.Nothing = FindsNothing sizes name old.seat new.seat × (pushed_by new ≡ pushed_by old)
 IsFlushed sizes name old new (flushed.Pushed serial slip) =
@@ -153,16 +157,12 @@ IsFlushed sizes name old new (flushed.Pushed serial slip) =
 IsFlushed sizes name old new (flushed.Ended slip done) =
     (job : Task) × (job.serial ≡ done.serial.0) × Begins sizes name job old.seat new.seat slip
     × Ends job old.seat new.seat done.slip (is_some done.failed) × (pushed_by new ≡ pushed_by old)
-IsFlushed sizes name old new (flushed.Unended slip d) =
-    (job : Task) × Begins sizes name job old.seat new.seat slip × IsDenied (IsEndOf job) old.seat new.seat d
-    × (d.slip ≡ None → d.refusal ≡ TrailFull) × (pushed_by new ≡ pushed_by old)
 
 -- how many events a turn of a flusher made
 abbrev pub entered_in : Flushed → ℕ
 entered_in flushed.Nothing = 0
 entered_in (flushed.Pushed serial slip) = 1
 entered_in (flushed.Ended slip done) = 2
-entered_in (flushed.Unended slip d) = if is_some d.slip then 2 else 1
 
 -- the event is an end of the request of this serial
 abbrev pub IsEndAt : ℕ → Event → Type 0
@@ -184,17 +184,6 @@ OnBegun P e r = Unit {0}
 abbrev pub AllCarried : Worker → Worker → Type 0
 AllCarried old new = Only (λ e. OnBegun (IsCarried old new) e.event e.reply) old.seat new.seat
 
--- a turn began a write, whose end was refused
-abbrev pub is_unended : Result Flushed Denied → Bool
-is_unended (Ok (flushed.Unended slip d)) = true
-is_unended r = false
-
--- so it was with each write that its seat began in between; but that the end of the last may have been refused
-pub record CarriesAll (sizes : Sizes) (name : ℕ) (old new : Worker) : Type 0 where
-  pub at : Worker
-  pub carried : AllCarried old at
-  pub last : (new ≡ at) ⊎ ((slip : Slip) × (d : Denied) × IsFlushed sizes name at new (flushed.Unended slip d))
-
 -- a failed write that the turn tells of is one of this cache and this board
 abbrev pub FailsOwn : ℕ → TableId → Flushed → Type 0
 FailsOwn name board (flushed.Ended slip done) = IfSome done.failed (IsOwnFailure name board)
@@ -206,35 +195,27 @@ AllEnded old new =
     (jobs : List Task) × (popped_by new ≡ popped_by old ++ jobs)
     × All (λ job. (slip : Slip) × (told : Bool) × Ends job old.seat new.seat slip told) jobs
 
--- no request is in flight that the job's end would end
+-- the job's request is in flight no longer
 abbrev pub IsOver : State → Task → Type 0
-IsOver s job =
-    (x : Request) → map.get s.requests job.serial ≡ Some x → x.kind ≡ job.kind → x.block ≢ job.block
+IsOver s job = map.get s.requests job.serial ≡ None
 
 -- so it is in this state with each job that the worker took from the ring in between
 abbrev pub AllOver : Worker → Worker → State → Type 0
 AllOver old new s = (jobs : List Task) × (popped_by new ≡ popped_by old ++ jobs) × All (IsOver s) jobs
 
--- the worker emptied the ring: it took jobs till there was a moment at which the ring had none, and of none of them a request is
--- left in this state. It entered ends alone, and put no job in. The history has all that its seat had seen then, and no more by it
+-- the worker emptied the ring: it took jobs till there was a moment at which the ring had none, ended each, and of none of them a
+-- request is left in this state. It entered ends alone, and put no job in. The history has all that its seat had seen then, and no
+-- more by it
 pub record Drained (own : Worker) (history : List Entry) (state : State) : Type 0 where
   pub at : Worker
-  pub taken : AllOver own at state
+  pub ended : AllEnded own at
+  pub over : AllOver own at state
   pub only : Only (λ e. IsEnd e.event) own.seat at.seat
   pub pushed : pushed_by at ≡ pushed_by own
-  pub alone : (view at.pass).alone ≡ (view own.pass).alone
+  pub alone : is_alone at ≡ is_alone own
   pub emptied : Held 0 (Stands (view at.pass))
   pub seen : IsPrefix at.seat.list history
   pub counted : at.seat.count ≡ count_of at.seat.number history
-
--- each of them was ended but for the last, whose end was refused
-pub record IsRefusedEnd (old new : Worker) (d : Denied) : Type 0 where
-  pub at : Worker
-  pub job : Task
-  pub ended : AllEnded old at
-  pub popped : popped_by new ≡ popped_by at ++ job ∷ []
-  pub denied : IsDenied (IsEndOf job) at.seat new.seat d
-  pub full : IsFullIfNoSlip at.seat new.seat d
 
 -- a page was let go
 abbrev pub lets_go : Reply → Bool

@@ -6,7 +6,7 @@ ghost use Rattle.pc_types.specs.declared.refusal.Refusal.TheVariants.{Memory};
 ghost use Rattle.held.specs.Keeps.{IsLocked};
 ghost use Rattle.machine.specs.History.{no_files};
 ghost use Rattle.shared.specs.Keeps.{AreBlocksOf, IsDisk};
-ghost use Rattle.shared.specs.Workers.{IsWorkerOf, seat_of};
+ghost use Rattle.shared.specs.Workers.{IsWorkerOf};
 
 use crate::brief::BriefLock;
 use crate::disk::Disk;
@@ -79,7 +79,7 @@ impl<B: Naming, D: BlockDevice, T: Trail> SharedCache<B, D, T> {
         requires blocks { AreBlocksOf B.told B.blocks (D.told parts.device) }
         ensures named { result.0.name ≡ parts.name }
         ensures own { IsWorkerOf result.0.ring B.name B.table B.deeds B.sizes result.1 }
-        ensures untouched { seat_of result.1 ≡ seat_of parts.own }
+        ensures untouched { result.1 ≡ parts.own }
     {
         let Parts {
             name,

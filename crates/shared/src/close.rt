@@ -1,6 +1,6 @@
 //! The end of a cache.
 
-ghost use Rattle.std.specs.Prelude.{◌≡◌, ◌≢◌, ◌↔◌, ◌⊎◌, ◌+◌, All, Any, IfErr, IfOk, IsErr, List, Some, true, vec_len};
+ghost use Rattle.std.specs.Prelude.{◌≡◌, ◌≢◌, ◌↔◌, ◌⊎◌, ◌+◌, All, Any, Bool, IfErr, IfOk, IsErr, List, Some, true, vec_len};
 ghost use Rattle.crossbeam_queue.specs.Fifo as fifo;
 ghost use Rattle.crossbeam_queue.specs.Passes.{view};
 ghost use Rattle.ring.specs.Order.{Stands};
@@ -8,11 +8,12 @@ ghost use mathlib.Core.List.{IsPrefix};
 ghost use Rattle.blockdev.specs.Jobs.{IsJobFor, Task};
 ghost use Rattle.held.specs.Views.{count_of};
 ghost use Rattle.pc_types.specs.declared.refusal.Refusal.TheVariants.{Stranger};
+ghost use Rattle.held.specs.declared.log.Slip.{Slip};
 ghost use Rattle.trail.specs.History.{After};
 ghost use Rattle.trail.specs.declared.entry.Entry.{Entry};
 ghost use Rattle.held.specs.Called.{Goes, Only};
 ghost use Rattle.shared.specs.Keeps.{IsDisk, IsLeftBy};
-ghost use Rattle.shared.specs.Workers.{AllOver, Drained, IsEnd, IsEndOf, IsOver, IsWorkerOf, pushed_by, seat_of};
+ghost use Rattle.shared.specs.Workers.{AllEnded, AllOver, Drained, Ends, IsEnd, IsEndOf, IsOver, IsWorkerOf, is_alone, pushed_by, seat_of};
 
 use crate::brief::BriefLock;
 use crate::cache::SharedCache;
@@ -47,6 +48,7 @@ impl<B: Naming, D: BlockDevice, T: Trail> SharedCache<B, D, T> {
         ensures err { IfErr result (λ e. (e.0 ≡ Stranger) × (e.1.name ≡ self.name) × (e.1.ring ≡ self.ring) × (e.3 ≡ seats)) }
         ensures again { IfErr result (λ e. IsWorkerOf self.ring B.name B.table B.deeds B.sizes e.2 × Goes (seat_of own) (seat_of e.2)) }
         ensures only { IfErr result (λ e. Only (λ x. IsEnd x.event) (seat_of own) (seat_of e.2)) }
+        ensures ended { IfErr result (λ e. AllEnded own e.2 × (pushed_by e.2 ≡ pushed_by own) × (is_alone e.2 ≡ is_alone own)) }
         ensures device { IfOk result (λ r. IsDisk B.sizes (D.told r.2)) }
         ensures core { IfOk result (λ r. (r.1.state.name ≡ self.name) × (r.1.state.sizes ≡ B.sizes)) }
         ensures closed { IfOk result (λ r. (history : List Entry) × T.records r.0 history × (T.cache r.0 ≡ Some self.name) × After r.1.state.sizes r.1.state.name history r.1.state × Drained own history r.1.state × All (λ s. IsPrefix s.list history × (s.count ≡ count_of s.number history)) seats.items × (B.told ≡ true → IsLeftBy B.sizes B.name B.blocks history r.1.state (D.told r.2))) }
@@ -97,7 +99,7 @@ impl<B: Naming, D: BlockDevice, T: Trail> SharedCache<B, D, T> {
 }
 
 /// Carries out and ends what the ring has, till it is empty. No other holds the cache, so no lock is taken.
-#[tactic(auto, using(held::proofs::Seats::goes_same, held::proofs::Seats::goes_on, held::proofs::Seats::only_same, crate::proofs::Owning::only_job_on, crate::proofs::Closing::none_taken))]
+#[tactic(auto, using(held::proofs::Seats::goes_same, held::proofs::Seats::goes_on, held::proofs::Seats::only_same, crate::proofs::Owning::only_job_on, crate::proofs::Ending::none_ended, crate::proofs::Closing::none_taken))]
 fn drain<B: Naming, D: BlockDevice, T: Trail, R: Wait>(
     rt: &R,
     ring: &Ring,
@@ -109,8 +111,9 @@ fn drain<B: Naming, D: BlockDevice, T: Trail, R: Wait>(
     ensures worker { IsWorkerOf ring.now B.name B.table B.deeds B.sizes own.new }
     ensures goes { Goes (seat_of own.old) (seat_of own.new) }
     ensures only { Only (λ e. IsEnd e.event) (seat_of own.old) (seat_of own.new) }
-    ensures taken { AllOver own.old own.new state.new.core.state }
-    ensures same { (pushed_by own.new ≡ pushed_by own.old) × ((view own.new.pass).alone ≡ (view own.old.pass).alone) }
+    ensures ended { AllEnded own.old own.new }
+    ensures over { AllOver own.old own.new state.new.core.state }
+    ensures same { (pushed_by own.new ≡ pushed_by own.old) × (is_alone own.new ≡ is_alone own.old) }
     ensures emptied { fifo.Held 0 (Stands (view own.new.pass)) }
 {
     'jobs: for _ in rt.forever() {
@@ -122,7 +125,8 @@ fn drain<B: Naming, D: BlockDevice, T: Trail, R: Wait>(
     unreachable!()
 }
 
-/// Makes a job's device call, and ends its request, if that is in flight.
+/// Makes a job's device call, and ends its request. The receipt of a write that failed goes: no handle is left to be told.
+#[tactic(auto, using(crate::proofs::Ending::ends_by))]
 fn finish<B: Naming, D: BlockDevice, T: Trail>(
     disk: &mut Disk<B, D>,
     state: &mut Held<B, T>,
@@ -133,10 +137,10 @@ fn finish<B: Naming, D: BlockDevice, T: Trail>(
     requires fits { IsJobFor B.name B.sizes.blocks B.sizes.page job }
     ensures goes { Goes seat.old seat.new }
     ensures only { Only (λ e. IsEndOf job e.event) seat.old seat.new }
+    ensures ended { (slip : Slip) × (told : Bool) × Ends job seat.old seat.new slip told }
     ensures over { IsOver state.new.core.state job }
     ensures others { (other : Task) → IsOver state.old.core.state other → IsOver state.new.core.state other }
 {
-    let finished = disk.carry_out(job);
-    // The end is refused where the request is not in flight.
-    let _ = end(state, seat, finished);
+    let report = disk.carry_out(job);
+    let _ = end(state, seat, report);
 }

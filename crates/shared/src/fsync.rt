@@ -12,8 +12,8 @@ ghost use Rattle.shared.specs.Called.{Makes};
 ghost use Rattle.shared.specs.Denials.{IsDenied};
 ghost use Rattle.shared.specs.Polls.{Hears, IsLevelled, Polled};
 ghost use Rattle.shared.specs.Rooms.{IsFinal};
-ghost use Rattle.shared.specs.Settled.{SettlesIn, SettlesSync};
-ghost use Rattle.shared.specs.Synced.{EndsOnce, IsDropped, IsFsyncDenied, IsNotBegun, IsSyncDenied, IsSyncOver, IsTurnOf, IsTurnTry, OneSync, Reports, Syncs, end_reply};
+ghost use Rattle.shared.specs.Settled.{Settles};
+ghost use Rattle.shared.specs.Synced.{EndsOnce, IsDropped, IsFsyncDenied, IsGone, IsNotBegun, IsSyncDenied, IsSyncOver, IsTurnTry, OneSync, Reports, Syncs, end_reply};
 
 use crate::cache::SharedCache;
 use crate::disk::Durable;
@@ -59,7 +59,7 @@ impl<B: Naming, D: BlockDevice, T: Trail> SharedCache<B, D, T> {
         ensures hears { IfOk result (λ slip. Hears B.sizes self.now.name slip seat.new handle.new.pass) }
         ensures denied { seat.old.name ≡ self.now.name → handle.old.cache ≡ self.now.name → IfErr result (IsFsyncDenied B.sizes self.now.name handle.old.number (record { 0 = 0 }) (record { 0 = LAST_PAGE }) seat.old seat.new handle.old.pass handle.new.pass) }
         ensures stands { IfErr result (λ d. IsNotBegun handle.old.number (record { 0 = 0 }) (record { 0 = LAST_PAGE }) seat.old seat.new d ⊎ IsFinal B.sizes self.now.name seat.new d) }
-        ensures settled { SettlesSync self.now.name seat.old seat.new result }
+        ensures settled { Settles self.now.name seat.old seat.new }
     {
         self.fsync_range(rt, seat, handle, PageIndex(0), PageIndex(LAST_PAGE))
     }
@@ -86,7 +86,7 @@ impl<B: Naming, D: BlockDevice, T: Trail> SharedCache<B, D, T> {
         ensures hears { IfOk result (λ slip. Hears B.sizes self.now.name slip seat.new handle.new.pass) }
         ensures denied { seat.old.name ≡ self.now.name → handle.old.cache ≡ self.now.name → IfErr result (IsFsyncDenied B.sizes self.now.name handle.old.number first last seat.old seat.new handle.old.pass handle.new.pass) }
         ensures stands { IfErr result (λ d. IsNotBegun handle.old.number first last seat.old seat.new d ⊎ IsFinal B.sizes self.now.name seat.new d) }
-        ensures settled { SettlesSync self.now.name seat.old seat.new result }
+        ensures settled { Settles self.now.name seat.old seat.new }
     {
         if let Err(refusal) = self.admits(seat, handle) {
             return Err(without_slip(refusal));
@@ -154,9 +154,9 @@ impl<B: Naming, D: BlockDevice, T: Trail> SharedCache<B, D, T> {
         ensures kept { IfErr result (λ _. pass.new ≡ pass.old) }
         ensures only { OneSync handle first last seat.old seat.new }
         ensures ended { IfOk result (λ r. Syncs handle first last r.failed seat.old seat.new r.slip) }
-        ensures denied { IfErr result (IsSyncDenied handle first last seat.old seat.new) }
+        ensures denied { IfErr result (IsSyncDenied B.sizes B.name handle first last seat.old seat.new) }
         ensures stands { IfErr result (λ d. IsNotBegun handle first last seat.old seat.new d ⊎ IsFinal B.sizes B.name seat.new d) }
-        ensures settled { SettlesSync B.name seat.old seat.new result }
+        ensures settled { Settles B.name seat.old seat.new }
     {
         let buffer = match Buffer::new(self.alloc, &self.geometry) {
             Ok(buffer) => buffer,
@@ -193,10 +193,10 @@ impl<B: Naming, D: BlockDevice, T: Trail> SharedCache<B, D, T> {
         ensures once { IfOk result (λ _. EndsOnce (IsTurnTry sync) (IsSyncOver sync) seat.old seat.new) }
         ensures tried { IfErr result (λ _. Only (IsTurnTry sync) seat.old seat.new) }
         ensures ended { IfOk result (λ r. Makes seat.old seat.new r.slip (event.SyncStep sync) (end_reply r.failed)) }
-        ensures denied { IfErr result (IsDenied (IsTurnOf sync) seat.old seat.new) }
+        ensures denied { IfErr result (IsDenied (λ e. e ≡ event.SyncStep sync) seat.old seat.new) }
         ensures full { IfErr result (λ d. d.slip ≡ None → d.refusal ≡ TrailFull) }
         ensures stands { IfErr result (IsFinal B.sizes B.name seat.new) }
-        ensures settled { SettlesIn B.name seat.old seat.new result }
+        ensures settled { Settles B.name seat.old seat.new }
     {
         'turns: for _ in rt.forever() {
             let (ended, back) = match self.sync_turn(rt, seat, pass, sync, buffer) {
@@ -213,7 +213,7 @@ impl<B: Naming, D: BlockDevice, T: Trail> SharedCache<B, D, T> {
 
     /// Makes a step of the sync. Where that begins a write it is carried out, where a page is being written or too many requests
     /// are in flight the end of one is waited for, and the buffer alone is answered.
-    #[tactic(auto, using(held::proofs::Seats::goes_by, held::proofs::Seats::goes_on, held::proofs::Seats::goes_same, crate::proofs::Making::goes_denied, crate::proofs::Syncing::clean_ended, crate::proofs::Syncing::failed_ended, crate::proofs::Syncing::denied_step, crate::proofs::Syncing::turn_flush, crate::proofs::Owning::try_denied))]
+    #[tactic(auto, using(held::proofs::Seats::goes_by, held::proofs::Seats::goes_on, held::proofs::Seats::goes_same, crate::proofs::Making::goes_denied, crate::proofs::Syncing::clean_ended, crate::proofs::Syncing::failed_ended, crate::proofs::Making::denied_event, crate::proofs::Owning::try_denied))]
     fn sync_turn<R: Wait>(
         &self,
         rt: &R,
@@ -235,10 +235,10 @@ impl<B: Naming, D: BlockDevice, T: Trail> SharedCache<B, D, T> {
         ensures tried { IfErr result (λ _. Only (IsTurnTry sync) seat.old seat.new) }
         ensures ended { IfOk result (λ o. IfSome o.0 (λ r. Makes seat.old seat.new r.slip (event.SyncStep sync) (end_reply r.failed))) }
         ensures back { IfOk result (λ o. length o.1 ≡ B.sizes.page) }
-        ensures denied { IfErr result (IsDenied (IsTurnOf sync) seat.old seat.new) }
+        ensures denied { IfErr result (IsDenied (λ e. e ≡ event.SyncStep sync) seat.old seat.new) }
         ensures full { IfErr result (λ d. d.slip ≡ None → d.refusal ≡ TrailFull) }
         ensures stands { IfErr result (IsFinal B.sizes B.name seat.new) }
-        ensures settled { SettlesIn B.name seat.old seat.new result }
+        ensures settled { Settles B.name seat.old seat.new }
     {
         let mut guard = self.state.lock(rt);
         let (stepped, slip) = match guard.sync_step(seat, sync, buffer) {
@@ -264,31 +264,30 @@ impl<B: Naming, D: BlockDevice, T: Trail> SharedCache<B, D, T> {
             }
         };
         drop(guard);
-        match self.flush_by(rt, seat, job) {
-            Ok((_, buffer)) => Ok((None, buffer)),
-            Err(denied) => Err(denied),
-        }
+        let (_, buffer) = self.flush_by(rt, seat, job);
+        Ok((None, buffer))
     }
 
     /// Drops a sync whose turn was refused, and answers that refusal. The drop has no slip only where the trail is full and the sync in
-    /// progress no longer, since room is kept for the drop of each that is: `Stranger` then, as a drop with a slip would have it.
+    /// progress no longer, since room is kept for the drop of each that is: `Stranger` then, as a drop with a slip would have it. The seat
+    /// is shown the history that says so.
     #[tactic(auto, using(held::proofs::Seats::goes_by, held::proofs::Seats::goes_on, held::proofs::Seats::goes_same, crate::proofs::Making::goes_denied, crate::proofs::Syncing::dropped_by, crate::proofs::Syncing::dropped_refused, crate::proofs::Owning::only_event, crate::proofs::Owning::only_event_denied, crate::proofs::Owning::event_few, crate::proofs::Owning::event_denied_few))]
     fn give_up<R: Wait>(&self, rt: &R, seat: &mut Seat, sync: SyncId, denied: Denied) -> Denied
         requires { seat.old.table ≡ B.table }
         ensures goes { Goes seat.old seat.new }
         ensures only { Only (λ e. e.event ≡ event.SyncDrop sync) seat.old seat.new }
         ensures few { seat.new.count ≤ seat.old.count + 1 }
-        ensures dropped { ((result ≡ denied) × IsDropped sync seat.old seat.new) ⊎ (result ≡ record { refusal = Stranger; slip = None }) }
+        ensures dropped { ((result ≡ denied) × IsDropped sync seat.old seat.new) ⊎ ((result ≡ record { refusal = Stranger; slip = None }) × IsGone B.sizes B.name sync seat.new) }
     {
-        match self.state.lock(rt).sync_drop(seat, sync) {
-            Ok(_) => denied,
-            Err(other) => {
-                if other.slip.is_some() {
-                    return denied;
-                }
-                without_slip(Refusal::Stranger)
-            }
+        let mut guard = self.state.lock(rt);
+        let Err(other) = guard.sync_drop(seat, sync) else {
+            return denied;
+        };
+        if other.slip.is_some() {
+            return denied;
         }
+        guard.show(seat);
+        without_slip(Refusal::Stranger)
     }
 }
 

@@ -24,6 +24,7 @@ pub(crate) fn put<B: Naming, R: Wait>(
     requires job { IsJobFor B.name B.sizes.blocks B.sizes.page job }
     ensures pass { IsPassFor ring.now B.name B.deeds B.sizes pass.new }
     ensures popped { popped_in pass.new ≡ popped_in pass.old }
+    ensures alone { (view pass.new).alone ≡ (view pass.old).alone }
     ensures answer { MatchResult result (λ _. pushed_in pass.new ≡ pushed_in pass.old ++ job ∷ []) (λ back. (back ≡ job) × (pushed_in pass.new ≡ pushed_in pass.old)) }
 {
     match ring.push(rt, pass, job.unnamed()) {

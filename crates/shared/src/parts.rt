@@ -1,15 +1,17 @@
 //! The parts of a cache, made at once.
 
 ghost use Rattle.std.specs.FinMap as map;
-ghost use Rattle.std.specs.Prelude.{◌≡◌, [], ◌+◌, ◌<◌, ◌≤◌, ◌&&◌, IfErr, IfOk, OnOk, if◌then◌else◌, is_some, nat_le, nat_lt, vec_len};
-ghost use Rattle.held.specs.Shown.{AreFresh};
+ghost use Rattle.std.specs.Prelude.{◌≡◌, [], true, ◌+◌, ◌<◌, ◌≤◌, ◌&&◌, IfErr, IfOk, OnOk, if◌then◌else◌, is_some, nat_le, nat_lt, vec_len};
+ghost use Rattle.crossbeam_queue.specs.Passes.{view};
+ghost use Rattle.held.specs.Shown.{AreFresh, IsFresh};
 ghost use Rattle.pc_types.specs.declared.refusal.Refusal.TheVariants.{BadConfig, Memory};
+ghost use Rattle.ring.specs.Order.{log};
 ghost use Rattle.ring.specs.Serving.{Carries, Serves};
 ghost use Rattle.machine.specs.History.{no_files};
 ghost use Rattle.machine.specs.PageLists.{no_lists};
 ghost use Rattle.held.specs.Keeps.{IsLocked};
 ghost use Rattle.shared.specs.Keeps.{AreBlocksOf, IsDisk};
-ghost use Rattle.shared.specs.Workers.{IsWorkerOf};
+ghost use Rattle.shared.specs.Workers.{IsWorkerOf, is_alone, popped_by, pushed_by, seat_of};
 
 use crate::cache::Parts;
 use crate::worker::Worker;
@@ -52,6 +54,8 @@ impl<D: BlockDevice, T: Trail> Parts<D, T> {
         ensures empty { IfOk result (λ r. (r.0.held.log.history ≡ []) × (r.0.held.core ≡ record { state = no_files geometry.now name; lists = no_lists })) }
         ensures idle { IfOk result (λ r. map.len r.0.held.core.state.requests ≡ 0) }
         ensures own { IfOk result (λ r. IsWorkerOf r.0.ring r.0.name r.0.held.log.table r.0.deeds.table r.0.geometry r.0.own) }
+        ensures first { IfOk result (λ r. (is_alone r.0.own ≡ true) × (popped_by r.0.own ≡ []) × (pushed_by r.0.own ≡ [])) }
+        ensures seated { IfOk result (λ r. IsFresh r.0.held.log.table name (seat_of r.0.own) seat_count) }
         ensures told { IfOk result (λ r. r.0.deeds.told ≡ is_some (D.told device).contents) }
         ensures blocks { IfOk result (λ r. AreBlocksOf r.0.deeds.told r.0.deeds.blocks (D.told device)) }
         ensures device { IfOk result (λ r. r.0.device ≡ device) }
@@ -104,6 +108,7 @@ fn ring_over<R: Wait, D: BlockDevice>(
     requires { IsDisk geometry.now (D.told device.now) }
     ensures few { OnOk result ((0 < seat_count) × (seat_count ≤ 64)) }
     ensures pass { IfOk result (λ r. Serves r.0 r.1 × Carries name geometry.now.blocks geometry.now.page r.2.table r.1) }
+    ensures first { IfOk result (λ r. view r.1 ≡ log 2 true name geometry.now.blocks geometry.now.page r.2.table [] []) }
     ensures told { IfOk result (λ r. r.2.told ≡ is_some (D.told device.now).contents) }
     ensures blocks { IfOk result (λ r. AreBlocksOf r.2.told r.2.blocks (D.told device.now)) }
     ensures refused { IfErr result (λ e. e ≡ (if nat_lt 0 seat_count && nat_le seat_count 64 then Memory else BadConfig)) }

@@ -10,7 +10,7 @@ ghost use Rattle.shared.specs.Called.{Makes, OwnFirst, Retries};
 ghost use Rattle.shared.specs.Denials.{IsDenied};
 ghost use Rattle.shared.specs.Rooms.{IsFinal, IsLost, IsShortFor};
 ghost use Rattle.shared.specs.Own.{IsCallOf, IsTry, count_in};
-ghost use Rattle.shared.specs.Settled.{FillsMissed, SettlesIn};
+ghost use Rattle.shared.specs.Settled.{FillsMissed, Settles};
 
 use crate::cache::SharedCache;
 use crate::handle::Handle;
@@ -47,7 +47,7 @@ impl<B: Naming, D: BlockDevice, T: Trail> SharedCache<B, D, T> {
         ensures cursor { handle.new ≡ record handle.old { cursor = handle.old.cursor + count_in result } }
         ensures stands { IfErr result (IsFinal B.sizes self.now.name seat.new) }
         ensures wanting { IfErr result (IsShortFor (event.Read handle.old.number handle.old.cursor (length out.old)) seat.old seat.new) }
-        ensures settled { SettlesIn self.now.name seat.old seat.new result }
+        ensures settled { Settles self.now.name seat.old seat.new }
         ensures missed { FillsMissed (event.Read handle.old.number handle.old.cursor (length out.old)) seat.old seat.new }
         ensures first { OwnFirst (event.Read handle.old.number handle.old.cursor (length out.old)) seat.old seat.new }
     {
@@ -85,7 +85,7 @@ impl<B: Naming, D: BlockDevice, T: Trail> SharedCache<B, D, T> {
         ensures within { offset ≤ MAX_FILE_SIZE → offset + count_in result ≤ MAX_FILE_SIZE }
         ensures stands { IfErr result (IsFinal B.sizes self.now.name seat.new) }
         ensures wanting { IfErr result (IsShortFor (event.Read handle.now.number offset (length out.old)) seat.old seat.new) }
-        ensures settled { SettlesIn self.now.name seat.old seat.new result }
+        ensures settled { Settles self.now.name seat.old seat.new }
         ensures missed { FillsMissed (event.Read handle.now.number offset (length out.old)) seat.old seat.new }
         ensures first { OwnFirst (event.Read handle.now.number offset (length out.old)) seat.old seat.new }
     {
@@ -129,7 +129,7 @@ impl<B: Naming, D: BlockDevice, T: Trail> SharedCache<B, D, T> {
         ensures again { IfOk result (λ o. IfNone o (Retries seat.old seat.new (event.Read handle offset (length out.old)))) }
         ensures stands { IfErr result (IsFinal B.sizes B.name seat.new) }
         ensures wanting { IfErr result (IsShortFor (event.Read handle offset (length out.old)) seat.old seat.new) }
-        ensures settled { SettlesIn B.name seat.old seat.new result }
+        ensures settled { Settles B.name seat.old seat.new }
         ensures missed { FillsMissed (event.Read handle offset (length out.old)) seat.old seat.new }
         ensures first { OwnFirst (event.Read handle offset (length out.old)) seat.old seat.new }
     {

@@ -13,7 +13,7 @@ ghost use Rattle.shared.specs.Called.{is_for_now};
 ghost use Rattle.shared.specs.Denials.{IsDenied};
 ghost use Rattle.shared.specs.Own.{IsEviction, IsHelp, IsRoomEvent, IsStillDenied};
 ghost use Rattle.shared.specs.Rooms.{IsCrammed, IsFinal, IsFinalOr, IsLost, IsUnwritten, wants_room};
-ghost use Rattle.shared.specs.Settled.{FillsNoOther, SettlesIn};
+ghost use Rattle.shared.specs.Settled.{FillsNoOther, Settles};
 ghost use Rattle.shared.specs.Workers.{FindsEnough, LetsGo};
 
 use crate::cache::SharedCache;
@@ -55,7 +55,7 @@ impl<B: Naming, D: BlockDevice, T: Trail> SharedCache<B, D, T> {
         ensures denied { IfErr result (IsDenied (IsHelp span.handle) seat.old seat.new) }
         ensures lost { IfErr result (IsLost B.sizes B.name seat.new) }
         ensures stands { IfErr result (IsFinal B.sizes B.name seat.new) }
-        ensures settled { SettlesIn B.name seat.old seat.new result }
+        ensures settled { Settles B.name seat.old seat.new }
         ensures page { Only (λ e. FillsNoOther page e.event) seat.old seat.new }
     {
         if let Err(denied) = self.make_way(rt, seat, span) {
@@ -79,7 +79,7 @@ impl<B: Naming, D: BlockDevice, T: Trail> SharedCache<B, D, T> {
         ensures denied { IfErr result (IsDenied (IsHelp handle) seat.old seat.new) }
         ensures lost { IfErr result (IsLost B.sizes B.name seat.new) }
         ensures stands { IfErr result (IsFinal B.sizes B.name seat.new) }
-        ensures settled { SettlesIn B.name seat.old seat.new result }
+        ensures settled { Settles B.name seat.old seat.new }
         ensures page { Only (λ e. FillsNoOther page e.event) seat.old seat.new }
     {
         let buffer = match Buffer::new(self.alloc, &self.geometry) {
@@ -113,7 +113,7 @@ impl<B: Naming, D: BlockDevice, T: Trail> SharedCache<B, D, T> {
         ensures denied { IfErr result (IsDenied IsRoomEvent seat.old seat.new) }
         ensures unwanted { IfErr result (λ d. wants_room d.refusal ≡ false) }
         ensures stands { IfErr result (IsFinal B.sizes B.name seat.new) }
-        ensures settled { SettlesIn B.name seat.old seat.new result }
+        ensures settled { Settles B.name seat.old seat.new }
     {
         'turns: for _ in rt.forever() {
             let guard = self.state.lock(rt);
@@ -153,7 +153,7 @@ impl<B: Naming, D: BlockDevice, T: Trail> SharedCache<B, D, T> {
         ensures legal { After B.sizes B.name (mutex_guard_value guard.entry).log.history (mutex_guard_value guard.entry).core.state }
         ensures within { IsTrue (is_geometry B.sizes) }
         ensures stands { IfErr result (IsFinalOr denied B.sizes B.name (mutex_guard_value guard.entry).core.state seat.new) }
-        ensures settled { SettlesIn B.name seat.old seat.new result }
+        ensures settled { Settles B.name seat.old seat.new }
     {
         // Lend that the history is legal, and that the sizes are within their limits.
         let _ = guard.core();
@@ -188,7 +188,7 @@ impl<B: Naming, D: BlockDevice, T: Trail> SharedCache<B, D, T> {
         ensures unwritten { IfOk result (λ made. made ≡ false → IsUnwritten (mutex_guard_value guard.entry).core.state seat.old seat.new) }
         ensures idle { IfOk result (λ made. made ≡ false → (n : ℕ) → want ≡ Frames n → has_idle (mutex_guard_value guard.entry).core.state ≡ false) }
         ensures stands { IfErr result (IsFinal B.sizes B.name seat.new) }
-        ensures settled { SettlesIn B.name seat.old seat.new result }
+        ensures settled { Settles B.name seat.old seat.new }
     {
         match want {
             Want::Frames(_) => self.free_frame(rt, guard, seat),
@@ -213,7 +213,7 @@ impl<B: Naming, D: BlockDevice, T: Trail> SharedCache<B, D, T> {
         ensures unwritten { IfOk result (λ made. made ≡ false → IsUnwritten (mutex_guard_value guard.entry).core.state seat.old seat.new) }
         ensures idle { IfOk result (λ made. made ≡ false → has_idle (mutex_guard_value guard.entry).core.state ≡ false) }
         ensures stands { IfErr result (IsFinal B.sizes B.name seat.new) }
-        ensures settled { SettlesIn B.name seat.old seat.new result }
+        ensures settled { Settles B.name seat.old seat.new }
     {
         match evict_idle(&mut guard, seat) {
             Ok(true) => Ok(true),
@@ -239,7 +239,7 @@ impl<B: Naming, D: BlockDevice, T: Trail> SharedCache<B, D, T> {
         ensures still { IfOk result (λ made. made ≡ false → is_busy (mutex_guard_value guard.entry).core.state ≡ false) }
         ensures unwritten { IfOk result (λ made. made ≡ false → IsUnwritten (mutex_guard_value guard.entry).core.state seat.old seat.new) }
         ensures stands { IfErr result (IsFinal B.sizes B.name seat.new) }
-        ensures settled { SettlesIn B.name seat.old seat.new result }
+        ensures settled { Settles B.name seat.old seat.new }
     {
         let was_busy = guard.core().is_busy();
         let buffer = match Buffer::new(self.alloc, &self.geometry) {
@@ -249,13 +249,9 @@ impl<B: Naming, D: BlockDevice, T: Trail> SharedCache<B, D, T> {
         match guard.flush_first(seat, buffer) {
             Ok(Some((job, _))) => {
                 drop(guard);
-                match self.flush_by(rt, seat, job) {
-                    Ok((is_written, buffer)) => {
-                        drop(buffer);
-                        Ok(is_written || was_busy)
-                    }
-                    Err(denied) => Err(denied),
-                }
+                let (is_written, buffer) = self.flush_by(rt, seat, job);
+                drop(buffer);
+                Ok(is_written || was_busy)
             }
             Ok(None) => Ok(self.waits(rt, guard)),
             Err(denied) => match self.wait_or(rt, guard, denied) {

@@ -1,14 +1,14 @@
 //! The turns of workers.
 
-ghost use Rattle.std.specs.Prelude.{◌≡◌, ◌+◌, ◌++◌, ◌∷◌, [], IfErr, IfNone, IfOk, IfSome, Some, false, is_some};
+ghost use Rattle.std.specs.Prelude.{◌≡◌, ◌+◌, ◌++◌, ◌∷◌, [], IfErr, IfNone, IfOk, IfSome, Some, is_some};
 ghost use Rattle.blockdev.specs.Jobs.{IsJobFor, Task};
 ghost use Rattle.crossbeam_queue.specs.Fifo as fifo;
 ghost use Rattle.crossbeam_queue.specs.Passes.{view};
 ghost use Rattle.held.specs.Called.{Goes, Only};
 ghost use Rattle.ring.specs.Order.{Stands};
-ghost use Rattle.shared.specs.Denials.{IsDenied, IsFullIfNoSlip, MadeOne};
+ghost use Rattle.shared.specs.Denials.{IsDenied, MadeOne};
 ghost use Rattle.shared.specs.Settled.{EndsOwn, IsBegun, IsEnded};
-ghost use Rattle.shared.specs.Workers.{AllCarried, Begins, Ends, FailsOwn, FindsNothing, IsEnd, IsEndOf, IsFlushBegin, IsFlushed, IsOwnFailure, IsWorkerOf, IsWriteBack, OnBegun, entered_in, is_unended, popped_by, pushed_by, seat_of};
+ghost use Rattle.shared.specs.Workers.{AllCarried, Begins, Ends, FailsOwn, FindsNothing, IsEnd, IsEndOf, IsFlushBegin, IsFlushed, IsOwnFailure, IsWorkerOf, IsWriteBack, OnBegun, entered_in, is_alone, popped_by, pushed_by, seat_of};
 
 use crate::cache::SharedCache;
 use crate::ends::{Done, carry_through};
@@ -32,40 +32,28 @@ pub enum Flushed {
     Pushed(Serial, Slip),
     /// A write was begun and ended.
     Ended(Slip, Done),
-    /// A write was begun, and its end was refused. No end is whose request is in flight.
-    Unended(Slip, Denied),
 }
 
 impl<B: Naming, D: BlockDevice, T: Trail> SharedCache<B, D, T> {
     /// One turn of an I/O worker: it takes a job from the ring, makes its device call, and ends its request. Answers nothing only where
     /// the ring was empty at one moment of the turn. The gate is entered with the job's serial, before the device call.
     #[tactic(auto, using(held::proofs::Seats::goes_same, held::proofs::Seats::only_same, crate::proofs::Owning::only_job))]
-    pub fn io_turn<R: Wait, G: Gate>(
-        &self,
-        rt: &R,
-        gate: &G,
-        worker: &mut Worker,
-    ) -> Result<Option<Done>, Denied>
+    pub fn io_turn<R: Wait, G: Gate>(&self, rt: &R, gate: &G, worker: &mut Worker) -> Option<Done>
         requires worker { IsWorkerOf self.now.ring B.name B.table B.deeds B.sizes worker.old }
         ensures worker { IsWorkerOf self.now.ring B.name B.table B.deeds B.sizes worker.new }
         ensures goes { Goes (seat_of worker.old) (seat_of worker.new) }
         ensures only { Only (λ e. IsEnd e.event) (seat_of worker.old) (seat_of worker.new) }
         ensures pushed { pushed_by worker.new ≡ pushed_by worker.old }
-        ensures idle { IfOk result (λ o. IfNone o ((seat_of worker.new ≡ seat_of worker.old) × (popped_by worker.new ≡ popped_by worker.old))) }
-        ensures emptied { IfOk result (λ o. IfNone o (fifo.Held 0 (Stands (view worker.new.pass)))) }
-        ensures ended { IfOk result (λ o. IfSome o (λ d. (job : Task) × (popped_by worker.new ≡ popped_by worker.old ++ job ∷ []) × (d.serial.0 ≡ job.serial) × Ends job (seat_of worker.old) (seat_of worker.new) d.slip (is_some d.failed) × IfSome d.failed (IsOwnFailure self.now.name B.board))) }
-        ensures one { IfOk result (λ o. IfSome o (λ d. MadeOne (Some d.slip) (seat_of worker.old) (seat_of worker.new))) }
-        ensures denied { IfErr result (λ d. (job : Task) × (popped_by worker.new ≡ popped_by worker.old ++ job ∷ []) × IsDenied (IsEndOf job) (seat_of worker.old) (seat_of worker.new) d × IsFullIfNoSlip (seat_of worker.old) (seat_of worker.new) d) }
-        ensures passed { IfOk result (λ o. IfSome o (λ d. G.passed gate.now d.serial.0)) }
+        ensures alone { is_alone worker.new ≡ is_alone worker.old }
+        ensures idle { IfNone result ((seat_of worker.new ≡ seat_of worker.old) × (popped_by worker.new ≡ popped_by worker.old)) }
+        ensures emptied { IfNone result (fifo.Held 0 (Stands (view worker.new.pass))) }
+        ensures ended { IfSome result (λ d. (job : Task) × (popped_by worker.new ≡ popped_by worker.old ++ job ∷ []) × (d.serial.0 ≡ job.serial) × Ends job (seat_of worker.old) (seat_of worker.new) d.slip (is_some d.failed) × IfSome d.failed (IsOwnFailure self.now.name B.board)) }
+        ensures one { IfSome result (λ d. MadeOne (Some d.slip) (seat_of worker.old) (seat_of worker.new)) }
+        ensures passed { IfSome result (λ d. G.passed gate.now d.serial.0) }
     {
-        let Some(job) = take(rt, &self.ring, &mut worker.pass) else {
-            return Ok(None);
-        };
+        let job = take(rt, &self.ring, &mut worker.pass)?;
         gate.enter(job.job().serial().0);
-        match self.end_job(rt, &mut worker.seat, job) {
-            Ok(done) => Ok(Some(done)),
-            Err(denied) => Err(denied),
-        }
+        Some(self.end_job(rt, &mut worker.seat, job))
     }
 
     /// One turn of a flusher: it begins to write the lowest page of the first file that has one to write, and puts the job into the
@@ -84,8 +72,9 @@ impl<B: Naming, D: BlockDevice, T: Trail> SharedCache<B, D, T> {
         ensures only { Only (λ e. IsWriteBack e.event) (seat_of worker.old) (seat_of worker.new) }
         ensures own { EndsOwn B.name (seat_of worker.old) (seat_of worker.new) }
         ensures popped { popped_by worker.new ≡ popped_by worker.old }
+        ensures alone { is_alone worker.new ≡ is_alone worker.old }
         ensures done { IfOk result (IsFlushed B.sizes B.name worker.old worker.new) }
-        ensures carried { is_unended result ≡ false → AllCarried worker.old worker.new }
+        ensures carried { AllCarried worker.old worker.new }
         ensures count { IfOk result (λ f. (seat_of worker.new).count ≡ (seat_of worker.old).count + entered_in f) }
         ensures failed { IfOk result (λ f. FailsOwn self.now.name B.board f) }
         ensures denied { IfErr result (IsDenied IsFlushBegin (seat_of worker.old) (seat_of worker.new)) }
@@ -102,10 +91,7 @@ impl<B: Naming, D: BlockDevice, T: Trail> SharedCache<B, D, T> {
             return Ok(Flushed::Pushed(serial, slip));
         };
         gate.enter(serial.0);
-        match self.end_job(rt, &mut worker.seat, job) {
-            Ok(done) => Ok(Flushed::Ended(slip, done)),
-            Err(denied) => Ok(Flushed::Unended(slip, denied)),
-        }
+        Ok(Flushed::Ended(slip, self.end_job(rt, &mut worker.seat, job)))
     }
 
     /// Begins to write a page, of the first file that has one to write.
@@ -145,26 +131,18 @@ impl<B: Naming, D: BlockDevice, T: Trail> SharedCache<B, D, T> {
     }
 
     /// Makes a job's device call, ends its request, and wakes those who wait for an end.
-    pub(crate) fn end_job<R: Wait>(
-        &self,
-        rt: &R,
-        seat: &mut Seat,
-        job: Errand<B>,
-    ) -> Result<Done, Denied>
+    pub(crate) fn end_job<R: Wait>(&self, rt: &R, seat: &mut Seat, job: Errand<B>) -> Done
         requires seat { seat.old.table ≡ B.table }
         requires fits { IsJobFor B.name B.sizes.blocks B.sizes.page job }
         ensures goes { Goes seat.old seat.new }
         ensures only { Only (λ e. IsEndOf job e.event) seat.old seat.new }
         ensures ends { Only (λ e. IsEnded B.name (job.kind, job.serial) e.event) seat.old seat.new }
-        ensures ended { IfOk result (λ d. (d.serial.0 ≡ job.serial) × Ends job seat.old seat.new d.slip (is_some d.failed)) }
-        ensures one { IfOk result (λ d. MadeOne (Some d.slip) seat.old seat.new) }
-        ensures failed { IfOk result (λ d. IfSome d.failed (IsOwnFailure self.now.name B.board)) }
-        ensures denied { IfErr result (IsDenied (IsEndOf job) seat.old seat.new) }
-        ensures refused_once { IfErr result (λ d. MadeOne d.slip seat.old seat.new) }
-        ensures full { IfErr result (IsFullIfNoSlip seat.old seat.new) }
+        ensures ended { (result.serial.0 ≡ job.serial) × Ends job seat.old seat.new result.slip (is_some result.failed) }
+        ensures one { MadeOne (Some result.slip) seat.old seat.new }
+        ensures failed { IfSome result.failed (IsOwnFailure self.now.name B.board) }
     {
-        let ended = carry_through(rt, &self.disk, &self.state, self.name, seat, job);
+        let done = carry_through(rt, &self.disk, &self.state, self.name, seat, job);
         self.has_ended(rt);
-        ended
+        done
     }
 }

@@ -1,8 +1,8 @@
 //! A worker of the cache.
 
-ghost use Rattle.std.specs.Prelude.{◌≡◌, ◌≢◌, ◌↔◌, [], IfErr, IfOk, IsErr};
+ghost use Rattle.std.specs.Prelude.{◌≡◌, ◌≢◌, ◌↔◌, [], IfErr, IfOk, IsErr, OnErr};
 ghost use Rattle.pc_types.specs.declared.refusal.Refusal.TheVariants.{Stranger};
-ghost use Rattle.shared.specs.Workers.{IsWorkerOf, popped_by, pushed_by, seat_of};
+ghost use Rattle.shared.specs.Workers.{IsWorkerOf, is_alone, popped_by, pushed_by, seat_of};
 
 use crate::cache::SharedCache;
 use blockdev::BlockDevice;
@@ -46,6 +46,9 @@ impl<B: Naming, D: BlockDevice, T: Trail> SharedCache<B, D, T> {
         ensures seat { IfOk result (λ w. seat_of w ≡ seat) }
         ensures new { IfOk result (λ w. (popped_by w ≡ []) × (pushed_by w ≡ [])) }
         ensures own { IsWorkerOf self.now.ring B.name B.table B.deeds B.sizes own.new }
+        ensures untouched { seat_of own.new ≡ seat_of own.old }
+        ensures kept { (popped_by own.new ≡ popped_by own.old) × (pushed_by own.new ≡ pushed_by own.old) }
+        ensures alone { OnErr result (is_alone own.new ≡ is_alone own.old) }
     {
         if seat.name() != self.name {
             return Err((Refusal::Stranger, seat));

@@ -1,12 +1,12 @@
 //! Workers' loops: they go on until the cache tells them to stop.
 
-ghost use Rattle.std.specs.Prelude.{◌≡◌, IfErr, OnOk};
+ghost use Rattle.std.specs.Prelude.{◌≡◌};
 ghost use Rattle.crossbeam_queue.specs.Fifo as fifo;
 ghost use Rattle.crossbeam_queue.specs.Passes.{view};
 ghost use Rattle.held.specs.Called.{Goes, Only};
 ghost use Rattle.ring.specs.Order.{Stands};
 ghost use Rattle.shared.specs.Settled.{EndsOwn};
-ghost use Rattle.shared.specs.Workers.{AllEnded, CarriesAll, IsEnd, IsRefusedEnd, IsWorkerOf, IsWriteBack, is_unended, popped_by, pushed_by, seat_of};
+ghost use Rattle.shared.specs.Workers.{AllCarried, AllEnded, IsEnd, IsWorkerOf, IsWriteBack, is_alone, popped_by, pushed_by, seat_of};
 
 use crate::cache::SharedCache;
 use crate::turns::Flushed;
@@ -25,8 +25,7 @@ impl<B: Naming, D: BlockDevice, T: Trail> SharedCache<B, D, T> {
         self.jobs.stop(rt);
     }
 
-    /// Writes pages back while there are any to write, and sleeps where there are none, until it is told to stop. It stops too where
-    /// the end of a write that it began is refused, which no write gets whose request is in flight.
+    /// Writes pages back while there are any to write, and sleeps where there are none, until it is told to stop.
     pub fn flusher<R: Wait, G: Gate>(&self, rt: &R, gate: &G, worker: &mut Worker)
         requires worker { IsWorkerOf self.now.ring B.name B.table B.deeds B.sizes worker.old }
         ensures worker { IsWorkerOf self.now.ring B.name B.table B.deeds B.sizes worker.new }
@@ -34,7 +33,8 @@ impl<B: Naming, D: BlockDevice, T: Trail> SharedCache<B, D, T> {
         ensures only { Only (λ e. IsWriteBack e.event) (seat_of worker.old) (seat_of worker.new) }
         ensures own { EndsOwn B.name (seat_of worker.old) (seat_of worker.new) }
         ensures popped { popped_by worker.new ≡ popped_by worker.old }
-        ensures carried { CarriesAll B.sizes B.name worker.old worker.new }
+        ensures alone { is_alone worker.new ≡ is_alone worker.old }
+        ensures carried { AllCarried worker.old worker.new }
     {
         self.flushers.fetch_add(1, Ordering::SeqCst);
         self.write_back(rt, gate, worker);
@@ -43,7 +43,7 @@ impl<B: Naming, D: BlockDevice, T: Trail> SharedCache<B, D, T> {
     }
 
     /// The turns of a flusher, which may put a job into the ring until it returns.
-    #[tactic(auto, using(held::proofs::Seats::goes_same, held::proofs::Seats::goes_on, held::proofs::Seats::only_same, crate::proofs::Owning::only_write_back_on, crate::proofs::Carrying::none_carried, crate::proofs::Carrying::puts_none, crate::proofs::Carrying::carries_all, crate::proofs::Carrying::carries_last))]
+    #[tactic(auto, using(held::proofs::Seats::goes_same, held::proofs::Seats::goes_on, held::proofs::Seats::only_same, crate::proofs::Owning::only_write_back_on, crate::proofs::Carrying::none_carried, crate::proofs::Carrying::puts_none, crate::proofs::Carrying::carried_on))]
     fn write_back<R: Wait, G: Gate>(&self, rt: &R, gate: &G, worker: &mut Worker)
         requires worker { IsWorkerOf self.now.ring B.name B.table B.deeds B.sizes worker.old }
         ensures worker { IsWorkerOf self.now.ring B.name B.table B.deeds B.sizes worker.new }
@@ -51,7 +51,8 @@ impl<B: Naming, D: BlockDevice, T: Trail> SharedCache<B, D, T> {
         ensures only { Only (λ e. IsWriteBack e.event) (seat_of worker.old) (seat_of worker.new) }
         ensures own { EndsOwn B.name (seat_of worker.old) (seat_of worker.new) }
         ensures popped { popped_by worker.new ≡ popped_by worker.old }
-        ensures carried { CarriesAll B.sizes B.name worker.old worker.new }
+        ensures alone { is_alone worker.new ≡ is_alone worker.old }
+        ensures carried { AllCarried worker.old worker.new }
     {
         'turns: for _ in rt.forever() {
             let seen = self.work.count();
@@ -59,9 +60,6 @@ impl<B: Naming, D: BlockDevice, T: Trail> SharedCache<B, D, T> {
                 return;
             }
             let turn = self.flusher_turn(rt, gate, worker);
-            if is_unended(&turn) {
-                return;
-            }
             // A refusal may pass when a request ends, which gives the signal.
             if is_idle(&turn) {
                 self.work.wait(rt, seen);
@@ -70,44 +68,32 @@ impl<B: Naming, D: BlockDevice, T: Trail> SharedCache<B, D, T> {
     }
 
     /// Carries out the jobs of the ring, and sleeps where there are none. Told to stop, it goes on till no flusher is in its loop and
-    /// the ring is empty. It stops too where an end is refused, which no job gets whose request is in flight.
+    /// the ring is empty.
     #[tactic(auto, using(held::proofs::Seats::goes_same, held::proofs::Seats::goes_on, crate::proofs::Ending::none_ended, held::proofs::Seats::only_same, crate::proofs::Owning::only_ends_on))]
-    pub fn io_worker<R: Wait, G: Gate>(
-        &self,
-        rt: &R,
-        gate: &G,
-        worker: &mut Worker,
-    ) -> Result<(), Denied>
+    pub fn io_worker<R: Wait, G: Gate>(&self, rt: &R, gate: &G, worker: &mut Worker)
         requires worker { IsWorkerOf self.now.ring B.name B.table B.deeds B.sizes worker.old }
         ensures worker { IsWorkerOf self.now.ring B.name B.table B.deeds B.sizes worker.new }
         ensures goes { Goes (seat_of worker.old) (seat_of worker.new) }
         ensures only { Only (λ e. IsEnd e.event) (seat_of worker.old) (seat_of worker.new) }
         ensures pushed { pushed_by worker.new ≡ pushed_by worker.old }
-        ensures ended { OnOk result (AllEnded worker.old worker.new) }
-        ensures emptied { OnOk result (fifo.Held 0 (Stands (view worker.new.pass))) }
-        ensures refused { IfErr result (IsRefusedEnd worker.old worker.new) }
+        ensures alone { is_alone worker.new ≡ is_alone worker.old }
+        ensures ended { AllEnded worker.old worker.new }
+        ensures emptied { fifo.Held 0 (Stands (view worker.new.pass)) }
     {
         'turns: for _ in rt.forever() {
             let seen = self.jobs.count();
             // In this order (decision 171): a flusher that counts itself later finds that it is to stop, and begins no write.
             let is_over = self.jobs.is_stopped() && self.flushers.load(Ordering::SeqCst) == 0;
-            let is_idle = self.io_turn(rt, gate, worker)?.is_none();
+            let is_idle = self.io_turn(rt, gate, worker).is_none();
             if is_idle {
                 if is_over {
-                    return Ok(());
+                    return;
                 }
                 self.jobs.wait(rt, seen);
             }
         }
         unreachable!()
     }
-}
-
-/// Whether a turn began a write, whose end was refused.
-fn is_unended(turn: &Result<Flushed, Denied>) -> bool
-    ensures { result ≡ is_unended turn.now }
-{
-    matches!(turn, Ok(Flushed::Unended(_, _)))
 }
 
 /// Whether a turn began no write.

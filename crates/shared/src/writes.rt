@@ -16,7 +16,7 @@ ghost use Rattle.shared.specs.Changes.{IsWhole, IsWholeIn, cursor_after, event_o
 ghost use Rattle.shared.specs.Denials.{IsDenied};
 ghost use Rattle.shared.specs.Rooms.{IsCrammed, IsFinal, IsFinalOr, IsLost, IsShortFor, IsUnwritten, wants_room};
 ghost use Rattle.shared.specs.Own.{IsCallOf, IsRoomEvent, IsStillDenied, IsTry};
-ghost use Rattle.shared.specs.Settled.{FillsMissed, SettlesIn};
+ghost use Rattle.shared.specs.Settled.{FillsMissed, Settles};
 ghost use Rattle.shared.specs.declared.writes.Change.TheVariants as change;
 
 use crate::cache::SharedCache;
@@ -73,7 +73,7 @@ impl<B: Naming, D: BlockDevice, T: Trail> SharedCache<B, D, T> {
         ensures count { IfOk result (λ r. (r.0.count ≡ length bytes.now) × (r.0.end ≡ offset + length bytes.now)) }
         ensures stands { IfErr result (IsFinal B.sizes self.now.name seat.new) }
         ensures wanting { IfErr result (IsShortFor (event.Write handle.now.number offset bytes.now) seat.old seat.new) }
-        ensures settled { SettlesIn self.now.name seat.old seat.new result }
+        ensures settled { Settles self.now.name seat.old seat.new }
         ensures missed { FillsMissed (event.Write handle.now.number offset bytes.now) seat.old seat.new }
         ensures first { OwnFirst (event.Write handle.now.number offset bytes.now) seat.old seat.new }
     {
@@ -105,7 +105,7 @@ impl<B: Naming, D: BlockDevice, T: Trail> SharedCache<B, D, T> {
         ensures cursor { handle.new ≡ record handle.old { cursor = cursor_after handle.old.cursor result } }
         ensures stands { IfErr result (IsFinal B.sizes self.now.name seat.new) }
         ensures wanting { IfErr result (IsShortFor (write_event handle.old bytes.now) seat.old seat.new) }
-        ensures settled { SettlesIn self.now.name seat.old seat.new result }
+        ensures settled { Settles self.now.name seat.old seat.new }
         ensures missed { FillsMissed (write_event handle.old bytes.now) seat.old seat.new }
         ensures first { OwnFirst (write_event handle.old bytes.now) seat.old seat.new }
     {
@@ -146,7 +146,7 @@ impl<B: Naming, D: BlockDevice, T: Trail> SharedCache<B, D, T> {
         ensures lost { IfErr result (IsLost B.sizes self.now.name seat.new) }
         ensures stands { IfErr result (IsFinal B.sizes self.now.name seat.new) }
         ensures wanting { IfErr result (IsShortFor (event.Truncate handle.now.number size) seat.old seat.new) }
-        ensures settled { SettlesIn self.now.name seat.old seat.new result }
+        ensures settled { Settles self.now.name seat.old seat.new }
         ensures missed { FillsMissed (event.Truncate handle.now.number size) seat.old seat.new }
         ensures first { OwnFirst (event.Truncate handle.now.number size) seat.old seat.new }
     {
@@ -179,7 +179,7 @@ impl<B: Naming, D: BlockDevice, T: Trail> SharedCache<B, D, T> {
         ensures whole { IfOk result (λ r. IsWhole change bytes.now r.0) }
         ensures stands { IfErr result (IsFinal B.sizes B.name seat.new) }
         ensures wanting { IfErr result (IsShortFor (event_of change handle bytes.now) seat.old seat.new) }
-        ensures settled { SettlesIn B.name seat.old seat.new result }
+        ensures settled { Settles B.name seat.old seat.new }
         ensures missed { FillsMissed (event_of change handle bytes.now) seat.old seat.new }
         ensures first { OwnFirst (event_of change handle bytes.now) seat.old seat.new }
     {
@@ -219,7 +219,7 @@ impl<B: Naming, D: BlockDevice, T: Trail> SharedCache<B, D, T> {
         ensures again { IfOk result (λ o. IfNone o (Retries seat.old seat.new (event_of change handle bytes.now))) }
         ensures stands { IfErr result (IsFinal B.sizes B.name seat.new) }
         ensures wanting { IfErr result (IsShortFor (event_of change handle bytes.now) seat.old seat.new) }
-        ensures settled { SettlesIn B.name seat.old seat.new result }
+        ensures settled { Settles B.name seat.old seat.new }
         ensures missed { FillsMissed (event_of change handle bytes.now) seat.old seat.new }
         ensures first { OwnFirst (event_of change handle bytes.now) seat.old seat.new }
     {
@@ -271,7 +271,7 @@ impl<B: Naming, D: BlockDevice, T: Trail> SharedCache<B, D, T> {
         ensures legal { After B.sizes B.name (mutex_guard_value guard.entry).log.history (mutex_guard_value guard.entry).core.state }
         ensures within { IsTrue (is_geometry B.sizes) }
         ensures stands { IfErr result (IsFinalOr denied B.sizes B.name (mutex_guard_value guard.entry).core.state seat.new) }
-        ensures settled { SettlesIn B.name seat.old seat.new result }
+        ensures settled { Settles B.name seat.old seat.new }
     {
         let is_roomy = !wants_room(denied.refusal);
         if let Err(other) = self.relieve(rt, guard, seat, denied) {

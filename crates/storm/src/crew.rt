@@ -6,14 +6,11 @@ ghost use Rattle.storm.specs.Crews.{IsCrewOf};
 
 use crate::member::Member;
 use blockdev::{BlockDevice, Gate};
-use held::denied::Denied;
 use held::naming::Naming;
-use pc_types::Refusal;
 use shared::cache::SharedCache;
 use shared::worker::Worker;
 use std::sync::Wait;
 use std::thread::{Threads, join};
-use storm_text::Refused;
 use trail::FullTrail;
 
 /// The flusher, two I/O workers and the evictor.
@@ -31,15 +28,8 @@ impl Gate for Open {
     fn enter(&self, _number: u64) {}
 }
 
-/// The seat of a worker that is done, and by what it was refused without an entry, if it was.
-#[derive(Drop)]
-pub struct Served<B: Naming> {
-    member: Member<B>,
-    refused: Option<Refusal>,
-}
-
-/// Two workers that are done.
-pub type Pair<B> = (Served<B>, Served<B>);
+/// The seats of two workers that are done.
+pub type Pair<B> = (Member<B>, Member<B>);
 
 /// The workers of a cache.
 #[derive(Drop)]
@@ -150,94 +140,50 @@ fn carry_out_jobs<R: Wait, B: Naming, D: BlockDevice>(
     rt: &R,
     cache: &SharedCache<B, D, FullTrail>,
     mut worker: Worker,
-) -> Served<B>
+) -> Member<B>
     requires { IsWorkerOf cache.now.ring B.name B.table B.deeds B.sizes worker }
 {
-    let refused = match cache.io_worker(rt, &Open, &mut worker) {
-        Err(
-            Denied {
-                refusal,
-                slip: None,
-            },
-        ) => Some(refusal),
-        _ => None,
-    };
-    Served {
-        member: Member::of(worker.into_seat()),
-        refused,
-    }
+    cache.io_worker(rt, &Open, &mut worker);
+    Member::of(worker.into_seat())
 }
 
 fn write_back<R: Wait, B: Naming, D: BlockDevice>(
     rt: &R,
     cache: &SharedCache<B, D, FullTrail>,
     mut worker: Worker,
-) -> Served<B>
+) -> Member<B>
     requires { IsWorkerOf cache.now.ring B.name B.table B.deeds B.sizes worker }
 {
     cache.flusher(rt, &Open, &mut worker);
-    Served {
-        member: Member::of(worker.into_seat()),
-        refused: None,
-    }
+    Member::of(worker.into_seat())
 }
 
 fn evict<R: Wait, B: Naming, D: BlockDevice>(
     rt: &R,
     cache: &SharedCache<B, D, FullTrail>,
     mut worker: Worker,
-) -> Served<B>
+) -> Member<B>
     requires { IsWorkerOf cache.now.ring B.name B.table B.deeds B.sizes worker }
 {
     cache.evictor(rt, &Open, &mut worker);
-    Served {
-        member: Member::of(worker.into_seat()),
-        refused: None,
-    }
+    Member::of(worker.into_seat())
 }
 
-/// Puts the members of these pairs to the others, and counts their refusals. Nothing is answered where memory is wanted.
-pub fn hand_back<B: Naming>(
-    pairs: (Pair<B>, Pair<B>),
-    members: &mut Vec<Member<B>>,
-    refused: &mut Refused,
-) -> Option<()> {
+/// Puts the members of these pairs to the others. Nothing is answered where memory is wanted.
+pub fn hand_back<B: Naming>(pairs: (Pair<B>, Pair<B>), members: &mut Vec<Member<B>>) -> Option<()> {
     let (front, back) = pairs;
-    let first = push_both(front, members, refused);
-    let second = push_both(back, members, refused);
+    let first = push_both(front, members);
+    let second = push_both(back, members);
     first?;
     second
 }
 
-fn push_both<B: Naming>(
-    pair: Pair<B>,
-    members: &mut Vec<Member<B>>,
-    refused: &mut Refused,
-) -> Option<()> {
+fn push_both<B: Naming>(pair: Pair<B>, members: &mut Vec<Member<B>>) -> Option<()> {
     let (one, other) = pair;
-    let first = push_member(one, members, refused);
-    let second = push_member(other, members, refused);
+    let first = members.push(one).ok();
+    let second = members.push(other).ok();
     first?;
     second
-}
-
-fn push_member<B: Naming>(
-    served: Served<B>,
-    members: &mut Vec<Member<B>>,
-    refused: &mut Refused,
-) -> Option<()> {
-    let Served {
-        member,
-        refused: refusal,
-    } = served;
-    note(refusal, refused);
-    members.push(member).ok()
-}
-
-fn note(refusal: Option<Refusal>, refused: &mut Refused) {
-    if let Some(refusal) = refusal {
-        refused.count(refusal);
-    }
 }
 
 /// Workers with the seats of the last two of these members.

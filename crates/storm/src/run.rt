@@ -437,11 +437,11 @@ fn all_seats<B: Naming>(
     ensures { IfSome result (λ r. All (λ s. s.table ≡ B.table) r.0.items) }
 {
     let (workers, done) = back;
-    let Some((mut members, mut denials)) = parted(alloc, done, refused) else {
+    let Some((mut members, denials)) = parted(alloc, done, refused) else {
         drop(workers);
         return None;
     };
-    match hand_back(workers, &mut members, &mut denials.refused) {
+    match hand_back(workers, &mut members) {
         Some(()) => Some((seats_of(alloc, members)?, denials)),
         None => {
             drop(members);

@@ -129,6 +129,18 @@ fn made<B: Naming>(
     side.carry_out(device, errand)
 }
 
+/// Makes the device call of an errand of this cache. Its pages have 16 bytes.
+fn carried<B: Naming, T: Trail>(
+    rt: &impl Abort,
+    disk: &mut Disk<B>,
+    held: &Held<B, T>,
+    errand: Errand<B>,
+) -> Report<B>
+    ensures { length result.bytes ≡ B.sizes.page }
+{
+    made(rt, disk, held.core(), errand)
+}
+
 /// Ends a flush. Gives what that answers, and the receipt.
 fn ends_flush<B: Naming, T: Trail>(
     rt: &impl Abort,
@@ -136,11 +148,11 @@ fn ends_flush<B: Naming, T: Trail>(
     seat: &mut Seat,
     report: Report<B>,
 ) -> (Ended, Option<Receipt>)
-    requires { seat.old.table ≡ B.table }
+    requires seat { seat.old.table ≡ B.table }
+    requires size { length report.bytes ≡ B.sizes.page }
     ensures { seat.new.table ≡ seat.old.table }
 {
-    let ended = held.flush_end(seat, report);
-    let (answer, receipt, _) = ended.expect(rt, "an end");
+    let (answer, receipt, _) = held.end(seat, report);
     (answer, receipt)
 }
 
@@ -160,7 +172,7 @@ fn flushes<B: Naming, T: Trail>(
     let Ok((FlushStarted::Job(errand), _)) = begun else {
         panic!(rt; "a job");
     };
-    let report = made(rt, disk, held.core(), errand);
+    let report = carried(rt, disk, held, errand);
     ends_flush(rt, held, seat, report)
 }
 
@@ -180,9 +192,9 @@ fn fills<B: Naming, T: Trail>(
     let Ok((FillStarted::Job(errand), _)) = begun else {
         panic!(rt; "a job");
     };
-    let report = made(rt, disk, held.core(), errand);
-    let ended = held.fill_end(seat, report);
-    let (answer, _) = ended.expect(rt, "an end");
+    let report = carried(rt, disk, held, errand);
+    let (answer, receipt, _) = held.end(seat, report);
+    check(rt, receipt.is_none());
     answer
 }
 
@@ -232,31 +244,6 @@ fn fails_a_flush<B: Naming>(
     check(rt, board.poll(&mut pass).is_none());
 }
 
-// What came of a flush ends no fill, and the request stays in flight.
-fn keeps_to_its_kind<B: Naming>(
-    rt: &impl Abort,
-    alloc: Global,
-    held: &mut Held<B, NoTrail>,
-    seat: &mut Seat,
-    disk: &mut Disk<B>,
-)
-    requires { seat.old.table ≡ B.table }
-{
-    opens(rt, held, seat);
-    writes(rt, held, seat);
-    let page = buffer(rt, alloc, held);
-    let begun = held.flush_begin(seat, FILE, page);
-    let Ok((FlushStarted::Job(errand), _)) = begun else {
-        panic!(rt; "a job");
-    };
-    let report = made(rt, disk, held.core(), errand);
-    let Err(denied) = held.fill_end(seat, report) else {
-        panic!(rt; "a stranger");
-    };
-    check(rt, denied.refusal == Refusal::Stranger);
-    check(rt, held.core().in_flight().flushes == 1);
-}
-
 fn begins_sync<B: Naming>(rt: &impl Abort, held: &mut Held<B, NoTrail>, seat: &mut Seat) -> SyncId
     requires { seat.old.table ≡ B.table }
     ensures { seat.new.table ≡ seat.old.table }
@@ -299,7 +286,7 @@ fn syncs<B: Naming>(
     let SyncMoved::Job(errand) = steps(rt, alloc, held, seat, sync) else {
         panic!(rt; "a job");
     };
-    let report = made(rt, disk, held.core(), errand);
+    let report = carried(rt, disk, held, errand);
     let (written, _) = ends_flush(rt, held, seat, report);
     check(rt, matches!(written, Ended::Done(_)));
     let clean = steps(rt, alloc, held, seat, sync);
@@ -343,7 +330,6 @@ enum Row {
     Cuts,
     WritesAndFills,
     FailsAFlush,
-    KeepsToItsKind,
     Syncs,
 }
 
@@ -363,7 +349,6 @@ fn run<B: Naming>(
         Row::Cuts => cuts(rt, held, seat),
         Row::WritesAndFills => writes_and_fills(rt, alloc, held, seat, disk),
         Row::FailsAFlush => fails_a_flush(rt, alloc, held, board, seat, disk),
-        Row::KeepsToItsKind => keeps_to_its_kind(rt, alloc, held, seat, disk),
         Row::Syncs => syncs(rt, alloc, held, seat, disk),
     }
 }
@@ -432,11 +417,6 @@ fn an_evicted_page_is_read_back(rt: HostRuntime) {
 #[test]
 fn a_failed_flush_is_told_once(rt: HostRuntime) {
     over_no_trail(&rt, rt.alloc(), Row::FailsAFlush);
-}
-
-#[test]
-fn an_end_of_another_kind_is_refused(rt: HostRuntime) {
-    over_no_trail(&rt, rt.alloc(), Row::KeepsToItsKind);
 }
 
 #[test]

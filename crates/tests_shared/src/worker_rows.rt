@@ -88,8 +88,8 @@ pub(crate) fn ends_a_write<B: Naming, D: BlockDevice, R: Wait>(
     requires { IsWorkerOf cache.now.ring B.name B.table B.deeds B.sizes worker }
 {
     match cache.io_turn(rt, &Open, &mut worker) {
-        Ok(Some(done)) => done.failed.is_none(),
-        _ => false,
+        Some(done) => done.failed.is_none(),
+        None => false,
     }
 }
 
@@ -160,7 +160,8 @@ fn carries_out<B: Naming, D: BlockDevice, R: Wait>(
 ) -> bool
     requires { IsWorkerOf cache.now.ring B.name B.table B.deeds B.sizes worker }
 {
-    cache.io_worker(rt, &Open, &mut worker).is_ok()
+    cache.io_worker(rt, &Open, &mut worker);
+    true
 }
 
 /// Begins writes, by a worker that is given up.
@@ -236,12 +237,12 @@ pub(crate) fn stops_with_a_full_ring<B: Naming, D: BlockDevice, R: Wait>(
     };
     let is_full = fills_the_ring(rt, cache, &mut caller, &mut worker);
     cache.stop(rt);
-    let is_stopped = cache.io_worker(rt, &Open, &mut worker).is_ok();
+    cache.io_worker(rt, &Open, &mut worker);
     let is_written = matches!(
         cache.flusher_turn(rt, &Open, &mut worker),
         Ok(Flushed::Nothing)
     );
-    is_full && is_stopped && is_written
+    is_full && is_written
 }
 
 /// A cache that closes ends what the ring has: the device was called for each of its jobs.

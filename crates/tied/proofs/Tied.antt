@@ -45,7 +45,7 @@ use Rattle.trail.specs.Honest.{Fate, end_made, world_over}
 use Rattle.trail.proofs.HistoryLaws.{noted_step}
 use Rattle.trail.proofs.RunLaws.{bytes_in}
 use Rattle.trail.proofs.TrailMoves.{acted, no_job}
-use Rattle.tied.specs.Tied.{GoesTo, IsCovered, IsHonest, IsOwned, IsTaskOf, IsToldOnce, Tied, task_of}
+use Rattle.tied.specs.Tied.{GoesTo, IsCovered, IsHonest, IsOnItsWay, IsOwned, IsTaskOf, IsToldOnce, Tied, task_of}
 use Rattle.tied.proofs.Along.{IsAlong, along, always_along}
 use Rattle.tied.proofs.Calls.{Fated, device_left, fated, get_there, still_writing}
 use Rattle.tied.proofs.Covered.{begun_home, ends_own, home_not_out, is_home, none_out, older, other_serial, owner, same_given, same_out, still_out}
@@ -277,17 +277,33 @@ module _ (sizes : Sizes) (name : ℕ) (blocks : List (List ℕ)) (history : List
   tied_honest = honest_of sizes name blocks history w t.first t.goes
 
   -- of each block that is of no request in flight, a device that the desk knows has what the world has
-  pub tied_at : IsCovered core places → (device : List (List ℕ)) → Knows device places → (k : ℕ)
+  pub tied_at : (told : Bool) → IsCovered core places → (device : List (List ℕ)) → Knows told device places → (k : ℕ)
       → k < core.sizes.blocks → ((i : ℕ) (x : Request) → finmap.get core.requests i ≡ Some x → x.block ≢ k)
       → slice_get device k ≡ slice_get w.device k
-  tied_at c device knows k low free =
+  tied_at told c device knows k low free =
       let home = is_home core places c k low free in
-      knows.1 k (home_in places k) home
+      knows.home k (home_in places k) home
       ∙ sym (ap (λ d. slice_get d k) t.device ∙ known_at places k (Home (home_in places k)) home)
 
+  -- of one that is, it has what the world has, or of a write the write's bytes
+  pub tied_busy : IsCovered core places → (device : List (List ℕ)) → Knows true device places → (t : ℕ) (x : Request)
+      → finmap.get core.requests t ≡ Some x → IsOnItsWay w t x (slice_get device x.block)
+  tied_busy c device knows u x there =
+      let g = c.asked u x there in
+      let o = knows.out x.block g.given g.out in
+      let is = ap (λ d. slice_get d x.block) t.device ∙ known_at places x.block (Out g.given) g.out in
+      elim (o.2 refl) [
+        | inl same ↦ inl (o.1 ∙ ap Some same ∙ sym is)
+        | inr wrote ↦ inr (
+          sym (λ i. (g.task i).kind) ∙ wrote.0,
+          ap (λ n. finmap.get w.writing n) (sym (λ i. (g.task i).serial)) ∙ t.writes x.block g.given g.out wrote.0
+              ∙ ap Some (sym wrote.1) ∙ sym o.1,
+        )
+      ]
+
   -- and with none in flight it is the world's
-  pub tied_whole : IsCovered core places → (device : List (List ℕ)) → Knows device places
+  pub tied_whole : (told : Bool) → IsCovered core places → (device : List (List ℕ)) → Knows told device places
       → core.requests ≡ finmap.empty → device ≡ w.device
-  tied_whole c device knows resting =
-      sym (known_opened device) ∙ ap known (sym (all_home device places knows (none_out core places c resting)))
+  tied_whole told c device knows resting =
+      sym (known_opened device) ∙ ap known (sym (all_home told device places knows (none_out core places c resting)))
       ∙ sym t.device

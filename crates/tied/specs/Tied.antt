@@ -2,7 +2,7 @@
 -- and the end of its request are two holds. A *deed* of each block ties them: who begins a request takes the deed of its
 -- block; who has the deed, and nobody else, makes the device call; and the end brings the deed back, with the bytes that
 -- the block was left with. The lock of the cache keeps the desk: where the deed of each block is.
-use Rattle.std.specs.Prelude.{◌≡◌, ℕ, Bool, true, List, [], ◌∷◌, length, Option, Some, None, slice_get}
+use Rattle.std.specs.Prelude.{◌≡◌, ◌⊎◌, ℕ, Bool, true, List, [], ◌∷◌, length, Option, Some, None, slice_get}
 use Rattle.std.specs.FinMap as map
 use Rattle.pc_types.specs.Limits.{Sizes}
 use Rattle.pc_types.specs.declared.kind.Kind.TheVariants.{Flush}
@@ -74,6 +74,10 @@ pub record IsCovered (core : State) (places : List Place) : Type 0 where
   pub count : length places ≡ core.sizes.blocks
   pub asked : (t : ℕ) (x : Request) → map.get core.requests t ≡ Some x → IsGiven core places x.block t x
   pub owned : (block : ℕ) (given : Given) → slice_get places block ≡ Some (Out given) → IsOwned core block given
+
+-- what the block of a request in flight may have: what the world has there, or of a flush the bytes that it writes
+abbrev pub IsOnItsWay : World → ℕ → Request → Option (List ℕ) → Type 0
+IsOnItsWay w t x bytes = (bytes ≡ slice_get w.device x.block) ⊎ ((x.kind ≡ Flush) × (map.get w.writing t ≡ bytes))
 
 -- the history leads from a cache without files over these blocks to a world whose device is what the desk knows
 pub record Tied (sizes : Sizes) (name : ℕ) (blocks : List (List ℕ)) (history : List Entry) (core : State)

@@ -114,7 +114,7 @@ fn make_room<R: Threads + Wait + Sync, B: Naming + Send + Sync>(
 fn carry_out_jobs<R: Wait, B: Naming>(rt: &R, cache: &Shared<B>, mut worker: Worker) -> Member<B>
     requires { IsWorkerOf cache.now.ring B.name B.table B.deeds B.sizes worker }
 {
-    let _ = cache.io_worker(rt, &Open, &mut worker);
+    cache.io_worker(rt, &Open, &mut worker);
     Member::of(worker.into_seat())
 }
 

@@ -24,4 +24,4 @@ returns-clause-whole c =
     (c.join_seat.ensures.2
     ∙ (λ i. (together (c.requires.desk i).0 (c.requires.device i).0, (c.requires.desk i).1))) in
     let knows = subst (λ (v : View). ComparedFrom v.device v.desk) is c.load.ensures.2.1 in
-    λ none. all_home _ _ knows none
+    λ none. all_home _ _ _ knows none

@@ -1,7 +1,6 @@
 use Rattle.std.proofs.Common.{◌≡◌}
-use Rattle.crossbeam_queue.specs.Passes.{view}
 use Rattle.held.specs.Called.{Goes, Only}
-use Rattle.shared.specs.Workers.{AllOver, IsEnd, IsWorkerOf, pushed_by}
+use Rattle.shared.specs.Workers.{AllEnded, AllOver, IsEnd, IsWorkerOf, is_alone, pushed_by}
 use Rattle.shared.proofs.close.drain.Given as goal
 
 abbrev pub invariant-jobs : goal.invariant-jobs
@@ -9,7 +8,8 @@ invariant-jobs g l = record {
   worker : IsWorkerOf l.ring g.B.Naming.name g.B.Naming.table g.B.NamesDeeds.deeds g.B.Naming.sizes l.own;
   goes : Goes l.initial.own.seat l.own.seat;
   only : Only (λ e. IsEnd e.event) l.initial.own.seat l.own.seat;
-  taken : AllOver l.initial.own l.own l.state.core.state;
+  ended : AllEnded l.initial.own l.own;
+  over : AllOver l.initial.own l.own l.state.core.state;
   pushed : pushed_by l.own ≡ pushed_by l.initial.own;
-  alone : (view l.own.pass).alone ≡ (view l.initial.own.pass).alone;
+  alone : is_alone l.own ≡ is_alone l.initial.own;
 }

@@ -4,7 +4,7 @@ use Rattle.shared.specs.Changes.{event_of}
 use Rattle.shared.specs.Own.{IsTry}
 use Rattle.shared.proofs.Owning.{once_try_on, only_try_on}
 use Rattle.shared.proofs.Wanting.{short_on}
-use Rattle.shared.proofs.Settling.{denied_on, missed_on, missed_same, settles_on, settles_same}
+use Rattle.shared.proofs.Settling.{missed_on, missed_same, settles_on, settles_same}
 use Rattle.shared.proofs.Making.{call_on, first_on, retries_on}
 use Rattle.shared.proofs.cache.SharedCache.change.Goals as goal
 
@@ -48,7 +48,7 @@ returns-in-Ok-Some-clause-settled g c =
 
 pub returns-in-Err-clause-settled : goal.returns-in-Err-clause-settled
 returns-in-Err-clause-settled g c =
-    denied_on g.B.Naming.name c.args.seat.now c.attempts.seat c.try_change.new.seat c.in-Err.denied
+    settles_on g.B.Naming.name c.args.seat.now c.attempts.seat c.try_change.new.seat
     c.attempts.invariant.settled c.in-Err.ensures.settled
 
 pub returns-in-Ok-Some-clause-missed : goal.returns-in-Ok-Some-clause-missed

@@ -3,8 +3,11 @@ use Rattle.std.specs.Prelude.{Any, Some, is_err, vec_len}
 use Rattle.cachecore.specs.Core.{Core}
 use Rattle.pc_types.specs.Limits.{Sizes}
 use Rattle.held.specs.declared.log.Seat.{Seat}
-use Rattle.tied.proofs.Tied.{tied_at, tied_honest}
-use Rattle.shared.specs.Workers.{AllOver}
+use Rattle.deeds.specs.Rules.{Knows}
+use Rattle.tied.proofs.Tied.{tied_at, tied_busy, tied_honest}
+use Rattle.held.specs.Shown.{SeatSeen}
+use Rattle.shared.specs.Workers.{AllEnded, AllOver, is_alone, pushed_by}
+use Rattle.shared.specs.declared.worker.Worker.{Worker}
 use Rattle.shared.proofs.Closing.{not_by_its_own}
 use Rattle.shared.proofs.cache.SharedCache.close.Goals as goal
 
@@ -37,7 +40,8 @@ returns-in-Ok-clause-closed g c = (
   c.in-Ok.ensures.trail.2,
   record {
     at = c.drain.new.own;
-    taken = subst (λ (k : Core). AllOver c.args.own c.drain.new.own k.state) (sym c.in-Ok.ensures.trail.1) c.drain.ensures.taken;
+    ended = c.drain.ensures.ended;
+    over = subst (λ (k : Core). AllOver c.args.own c.drain.new.own k.state) (sym c.in-Ok.ensures.trail.1) c.drain.ensures.over;
     only = c.drain.ensures.only;
     pushed = c.drain.ensures.same.0;
     alone = c.drain.ensures.same.1;
@@ -52,7 +56,17 @@ returns-in-Ok-clause-closed g c = (
     core_is = t.core_is;
     left = c.into_parts-device.result.1;
     told = c.into_parts-device.ensures.contents tells;
-    each = λ k low free. tied_at _ _ _ _ _ _ t c.in-Ok.ensures.desk c.into_parts-device.result.1 c.close-in-Ok.ensures.knows k
+    each = λ k low free. tied_at _ _ _ _ _ _ t g.B.NamesDeeds.told c.in-Ok.ensures.desk c.into_parts-device.result.1 c.close-in-Ok.ensures.knows k
         (subst (λ (s : Sizes). k < s.blocks) (sym c.in-Ok.ensures.core.1) low) free;
+    busy = λ u x there. tied_busy _ _ _ _ _ _ t c.in-Ok.ensures.desk c.into_parts-device.result.1
+        (subst (λ b. Knows b c.into_parts-device.result.1 c.in-Ok.desk) tells c.close-in-Ok.ensures.knows) u x there;
   },
 )
+
+-- the jobs that it took were ended all the same
+pub returns-in-Err-clause-ended : goal.returns-in-Err-clause-ended
+returns-in-Err-clause-ended g c =
+    let with : SeatSeen → Worker = λ s. record { seat = s; pass = c.drain.new.own.pass } in
+    subst (λ (s : SeatSeen). AllEnded c.args.own (with s) × (pushed_by (with s) ≡ pushed_by c.args.own)
+    × (is_alone (with s) ≡ is_alone c.args.own)) (sym c.in-Err.ensures.err.3)
+    (c.drain.ensures.ended, c.drain.ensures.same.0, c.drain.ensures.same.1)

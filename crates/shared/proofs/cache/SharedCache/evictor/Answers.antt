@@ -11,4 +11,5 @@ turns-preserved g c = record {
   only = eviction_on c.args.worker.now.seat c.turns.worker.seat c.evictor_turn.new.worker.seat c.turns.invariant.only
       c.evictor_turn.ensures.only;
   ring = (c.evictor_turn.ensures.ring.0 ∙ c.turns.invariant.ring.0, c.evictor_turn.ensures.ring.1 ∙ c.turns.invariant.ring.1);
+  alone = c.evictor_turn.ensures.alone ∙ c.turns.invariant.alone;
 }

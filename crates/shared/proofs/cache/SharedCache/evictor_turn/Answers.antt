@@ -28,6 +28,7 @@ pages-preserved g c =
           (shown_gone c.pages.worker.seat seat c.has_spare.ensures.only))
           (subst (λ b. LetsGo (if b then 1 else 0) seat c.evict_one.new.seat) c.in-Ok-true.field-0-test c.in-Ok-true.ensures.gone);
       ring = c.pages.invariant.ring;
+      alone = c.pages.invariant.alone;
     }
 
 pub returns-then-has_spare-clause-gone : goal.returns-then-has_spare-clause-gone

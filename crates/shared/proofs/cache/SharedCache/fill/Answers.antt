@@ -1,5 +1,5 @@
 use Rattle.shared.proofs.Owning.{only_filled}
-use Rattle.shared.proofs.Settling.{other_on, settled_on}
+use Rattle.shared.proofs.Settling.{other_on, settles_on}
 use Rattle.std.proofs.lemmas.Result.{IfErr-weaker}
 use Rattle.shared.specs.Denials.{IsDenied}
 use Rattle.shared.specs.Own.{IsHelp}
@@ -26,5 +26,5 @@ returns-clause-denied g c =
 
 pub returns-clause-settled : goal.returns-clause-settled
 returns-clause-settled g c =
-    settled_on g.B.Naming.name c.args.seat.now c.make_way.new.seat c.fill_once.new.seat c.fill_once.result
+    settles_on g.B.Naming.name c.args.seat.now c.make_way.new.seat c.fill_once.new.seat
     c.in_default.ensures.settled c.fill_once.ensures.settled

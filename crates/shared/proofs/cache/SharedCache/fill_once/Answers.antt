@@ -9,7 +9,7 @@ use Rattle.shared.specs.Rooms.{IsCrammed, IsFinal, IsFinalOr, IsLost, IsUnwritte
 use Rattle.shared.proofs.Making.{goes_denied, help_on, help_settled}
 use Rattle.shared.proofs.Owning.{only_begun_on, only_fill_begin, only_relieved}
 use Rattle.shared.proofs.Rooming.{final_denied, lost_denied}
-use Rattle.shared.proofs.Settling.{fill_settles, other_filled, other_relieved, settled_on, settles_denied}
+use Rattle.shared.proofs.Settling.{begun_kind, fill_settles, other_filled, other_relieved, settles_denied, settles_on}
 use Rattle.shared.proofs.Settling.{fill_quiet, other_begun, settles_by}
 use Rattle.shared.proofs.cache.SharedCache.fill_once.Goals as goal
 
@@ -69,7 +69,7 @@ returns-in-Err-fill_begin-clause-stands g c =
 
 pub returns-in-Err-fill_begin-clause-settled : goal.returns-in-Err-fill_begin-clause-settled
 returns-in-Err-fill_begin-clause-settled g c =
-    settled_on g.B.Naming.name c.args.seat.now c.fill_begin.new.seat c.relieve.new.seat c.relieve.result
+    settles_on g.B.Naming.name c.args.seat.now c.fill_begin.new.seat c.relieve.new.seat
     (settles_denied g.B.Naming.name (event.FillBegin c.args.handle c.args.page) c.deref_mut.result.now c.fill_begin.new.self
     c.args.seat.now c.fill_begin.new.seat c.in-Err-fill_begin.denied (λ is. is) c.in-Err-fill_begin.ensures.denied)
     c.relieve.ensures.settled
@@ -82,13 +82,17 @@ returns-in-Err-fill_begin-clause-page g c =
 
 pub returns-in-Job-clause-settled : goal.returns-in-Job-clause-settled
 returns-in-Job-clause-settled g c =
-    fill_settles g.B.Naming.name c.args.handle c.args.page _ c.in-Job.job _ _ _ _ _ _ c.fill_by.result (ap as_fill c.in-Job.is)
-    c.in-Ok-fill_begin.ensures.made c.in-Ok-fill_begin.ensures.job c.fill_by.ensures.ends
+    fill_settles g.B.Naming.name c.args.handle c.args.page _ c.in-Job.job _ _ _ _ _ _ (ap as_fill c.in-Job.is)
+    c.in-Ok-fill_begin.ensures.made c.fill_by.ensures.ends
+
+pub fill_by-requires-clause-kind : goal.fill_by-requires-clause-kind
+fill_by-requires-clause-kind g c =
+    begun_kind c.args.handle c.args.page _ c.in-Job.job _ _ _ _ _ (ap as_fill c.in-Job.is) c.in-Ok-fill_begin.ensures.made
+    c.in-Ok-fill_begin.ensures.job
 
 pub returns-in-Job-clause-page : goal.returns-in-Job-clause-page
 returns-in-Job-clause-page g c =
-    other_filled g.B.Naming.name c.args.handle c.args.page _ c.in-Job.job _ _ _ _ _ _ c.fill_by.result (ap as_fill c.in-Job.is)
-    c.in-Ok-fill_begin.ensures.made c.in-Ok-fill_begin.ensures.job c.fill_by.ensures.ends
+    other_filled g.B.Naming.name c.args.handle c.args.page _ _ _ _ _ _ _ _ c.in-Ok-fill_begin.ensures.made c.fill_by.ensures.ends
 
 pub returns-clause-settled : goal.returns-clause-settled
 returns-clause-settled g c =

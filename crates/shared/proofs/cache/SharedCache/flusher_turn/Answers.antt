@@ -4,9 +4,8 @@ use Rattle.blockdev.specs.Jobs.{IsJobFor, Task}
 use Rattle.held.specs.Called.{Only}
 use Rattle.held.proofs.Seats.{goes_on}
 use Rattle.shared.specs.Settled.{IsBegun}
-use Rattle.shared.specs.Workers.{Begins, IsEndOf, OnBegun}
-use Rattle.shared.proofs.Carrying.{ended_carried, pushed_carried, two_made, unended_count}
-use Rattle.shared.proofs.Making.{denied_on}
+use Rattle.shared.specs.Workers.{Begins, OnBegun}
+use Rattle.shared.proofs.Carrying.{ended_carried, pushed_carried, two_made}
 use Rattle.shared.proofs.Ending.{begins_then, ends_on}
 use Rattle.shared.proofs.Owning.{only_begins, only_flushed}
 use Rattle.shared.proofs.Settling.{own_begins, own_ended}
@@ -17,40 +16,27 @@ end_job-requires-clause-fits g c =
     subst (IsJobFor g.B.Naming.name g.B.Naming.sizes.blocks g.B.Naming.sizes.page) (sym c.in-Err-put.ensures.answer.0)
     (rw c.in-Ok-Some.field-0-is at c.in-Ok-Some.ensures.fits)
 
-pub returns-in-Ok-clause-done : goal.returns-in-Ok-clause-done
-returns-in-Ok-clause-done g c = (
+pub returns-clause-done : goal.returns-clause-done
+returns-clause-done g c = (
   c.in-Err-put.job,
-  sym c.in-Ok.ensures.ended.0,
+  sym c.end_job.ensures.ended.0,
   subst (λ (j : Task). Begins g.B.Naming.sizes g.B.Naming.name j c.args.worker.now.seat c.end_job.new.seat c.in-Ok-Some.begun.1)
       (sym c.in-Err-put.ensures.answer.0)
       (begins_then g.B.Naming.sizes g.B.Naming.name c.in-Ok-Some.begun.0 c.args.worker.now.seat c.begin_flush.new.seat
       c.end_job.new.seat c.in-Ok-Some.begun.1 (rw c.in-Ok-Some.field-0-is at c.in-Ok-Some.ensures.begun) c.end_job.ensures.goes),
-  ends_on c.in-Err-put.job c.args.worker.now.seat c.begin_flush.new.seat c.end_job.new.seat c.in-Ok.done.slip
-      (is_some c.in-Ok.done.failed) c.begin_flush.ensures.goes c.in-Ok.ensures.ended.1,
+  ends_on c.in-Err-put.job c.args.worker.now.seat c.begin_flush.new.seat c.end_job.new.seat c.end_job.result.slip
+      (is_some c.end_job.result.failed) c.begin_flush.ensures.goes c.end_job.ensures.ended.1,
   c.in-Err-put.ensures.answer.1,
 )
 
-pub returns-in-Ok-clause-only : goal.returns-in-Ok-clause-only
-returns-in-Ok-clause-only g c =
-    only_flushed c.in-Err-put.job c.args.worker.now.seat c.begin_flush.new.seat c.end_job.new.seat c.begin_flush.ensures.only
-    c.end_job.ensures.only
-
-pub returns-in-Err-end_job-clause-only : goal.returns-in-Err-end_job-clause-only
-returns-in-Err-end_job-clause-only g c =
+pub returns-clause-only : goal.returns-clause-only
+returns-clause-only g c =
     only_flushed c.in-Err-put.job c.args.worker.now.seat c.begin_flush.new.seat c.end_job.new.seat c.begin_flush.ensures.only
     c.end_job.ensures.only
 
 -- the request that it began is the one that it ended
-pub returns-in-Ok-clause-own : goal.returns-in-Ok-clause-own
-returns-in-Ok-clause-own g c =
-    let job = c.in-Err-put.job in
-    own_ended g.B.Naming.name (job.kind, job.serial) c.args.worker.now.seat c.begin_flush.new.seat c.end_job.new.seat
-    (subst (λ (j : Task). Only (λ e. IsBegun (j.kind, j.serial) e.event e.reply) c.args.worker.now.seat c.begin_flush.new.seat)
-    (sym c.in-Err-put.ensures.answer.0) (rw c.in-Ok-Some.field-0-is at c.in-Ok-Some.ensures.write))
-    (rw c.in-Ok-Some.field-0-is at c.in-Ok-Some.ensures.one) c.end_job.ensures.ends
-
-pub returns-in-Err-end_job-clause-own : goal.returns-in-Err-end_job-clause-own
-returns-in-Err-end_job-clause-own g c =
+pub returns-clause-own : goal.returns-clause-own
+returns-clause-own g c =
     let job = c.in-Err-put.job in
     own_ended g.B.Naming.name (job.kind, job.serial) c.args.worker.now.seat c.begin_flush.new.seat c.end_job.new.seat
     (subst (λ (j : Task). Only (λ e. IsBegun (j.kind, j.serial) e.event e.reply) c.args.worker.now.seat c.begin_flush.new.seat)
@@ -59,42 +45,23 @@ returns-in-Err-end_job-clause-own g c =
 
 -- the job was put into the ring
 pub returns-in_default-clause-carried : goal.returns-in_default-clause-carried
-returns-in_default-clause-carried g c = λ _.
+returns-in_default-clause-carried g c =
     pushed_carried c.args.worker.now (record { seat = c.begin_flush.new.seat; pass = c.put.new.pass }) c.in-Ok-Some.begun.0
     (rw c.in-Ok-Some.field-0-is at c.in-Ok-Some.ensures.alone) (search rules)
 
-pub returns-in-Ok-clause-carried : goal.returns-in-Ok-clause-carried
-returns-in-Ok-clause-carried g c = λ _.
+pub returns-clause-carried : goal.returns-clause-carried
+returns-clause-carried g c =
     ended_carried c.args.worker.now (record { seat = c.end_job.new.seat; pass = c.put.new.pass }) c.begin_flush.new.seat
-    c.in-Err-put.job c.in-Ok.done.slip (is_some c.in-Ok.done.failed)
+    c.in-Err-put.job c.end_job.result.slip (is_some c.end_job.result.failed)
     (subst (λ (j : Task). Only (λ e. OnBegun (λ t. t ≡ j.serial) e.event e.reply) c.args.worker.now.seat c.begin_flush.new.seat)
     (sym c.in-Err-put.ensures.answer.0) (rw c.in-Ok-Some.field-0-is at c.in-Ok-Some.ensures.alone)) c.end_job.ensures.only
-    (ends_on c.in-Err-put.job c.args.worker.now.seat c.begin_flush.new.seat c.end_job.new.seat c.in-Ok.done.slip
-    (is_some c.in-Ok.done.failed) c.begin_flush.ensures.goes c.in-Ok.ensures.ended.1)
+    (ends_on c.in-Err-put.job c.args.worker.now.seat c.begin_flush.new.seat c.end_job.new.seat c.end_job.result.slip
+    (is_some c.end_job.result.failed) c.begin_flush.ensures.goes c.end_job.ensures.ended.1)
 
-pub returns-in-Ok-clause-count : goal.returns-in-Ok-clause-count
-returns-in-Ok-clause-count g c =
-    two_made c.in-Ok-Some.begun.1 c.in-Ok.done.slip c.args.worker.now.seat c.begin_flush.new.seat c.end_job.new.seat
-    (rw c.in-Ok-Some.field-0-is at c.in-Ok-Some.ensures.one) c.in-Ok.ensures.one
-
--- its end was refused
-pub returns-in-Err-end_job-clause-done : goal.returns-in-Err-end_job-clause-done
-returns-in-Err-end_job-clause-done g c = (
-  c.in-Err-put.job,
-  subst (λ (j : Task). Begins g.B.Naming.sizes g.B.Naming.name j c.args.worker.now.seat c.end_job.new.seat c.in-Ok-Some.begun.1)
-      (sym c.in-Err-put.ensures.answer.0)
-      (begins_then g.B.Naming.sizes g.B.Naming.name c.in-Ok-Some.begun.0 c.args.worker.now.seat c.begin_flush.new.seat
-      c.end_job.new.seat c.in-Ok-Some.begun.1 (rw c.in-Ok-Some.field-0-is at c.in-Ok-Some.ensures.begun) c.end_job.ensures.goes),
-  denied_on (IsEndOf c.in-Err-put.job) (IsEndOf c.in-Err-put.job) c.args.worker.now.seat c.begin_flush.new.seat
-      c.end_job.new.seat c.in-Err-end_job.denied (λ e x. x) c.begin_flush.ensures.goes c.in-Err-end_job.ensures.denied,
-  λ none. (c.in-Err-end_job.ensures.full none).0,
-  c.in-Err-put.ensures.answer.1,
-)
-
-pub returns-in-Err-end_job-clause-count : goal.returns-in-Err-end_job-clause-count
-returns-in-Err-end_job-clause-count g c =
-    unended_count c.in-Ok-Some.begun.1 c.in-Err-end_job.denied.slip c.args.worker.now.seat c.begin_flush.new.seat
-    c.end_job.new.seat (rw c.in-Ok-Some.field-0-is at c.in-Ok-Some.ensures.one) c.in-Err-end_job.ensures.refused_once
+pub returns-clause-count : goal.returns-clause-count
+returns-clause-count g c =
+    two_made c.in-Ok-Some.begun.1 c.end_job.result.slip c.args.worker.now.seat c.begin_flush.new.seat c.end_job.new.seat
+    (rw c.in-Ok-Some.field-0-is at c.in-Ok-Some.ensures.one) c.end_job.ensures.one
 
 -- a write was begun at most
 pub returns-in_default-clause-own : goal.returns-in_default-clause-own
@@ -105,10 +72,6 @@ pub returns-in_default-clause-only : goal.returns-in_default-clause-only
 returns-in_default-clause-only g c =
     only_begins c.args.worker.now.seat c.begin_flush.new.seat c.begin_flush.ensures.only
 
-pub returns-in-Ok-clause-goes : goal.returns-in-Ok-clause-goes
-returns-in-Ok-clause-goes g c =
-    goes_on c.args.worker.now.seat c.begin_flush.new.seat c.end_job.new.seat c.begin_flush.ensures.goes c.end_job.ensures.goes
-
-pub returns-in-Err-end_job-clause-goes : goal.returns-in-Err-end_job-clause-goes
-returns-in-Err-end_job-clause-goes g c =
+pub returns-clause-goes : goal.returns-clause-goes
+returns-clause-goes g c =
     goes_on c.args.worker.now.seat c.begin_flush.new.seat c.end_job.new.seat c.begin_flush.ensures.goes c.end_job.ensures.goes

@@ -4,7 +4,7 @@ use Rattle.std.specs.Sync.Mutex.{mutex_guard_value}
 use Rattle.held.specs.Shown.{HeldSeen}
 use Rattle.shared.specs.Rooms.{IsUnwritten}
 use Rattle.shared.proofs.Rooming.{unwritten_on}
-use Rattle.shared.proofs.Settling.{settled_on, settles_evicted}
+use Rattle.shared.proofs.Settling.{settles_evicted, settles_on}
 use Rattle.std.proofs.lemmas.Result.{IfErr-weaker}
 use Rattle.shared.specs.Denials.{IsDenied}
 use Rattle.shared.specs.Own.{IsRoomEvent}
@@ -25,7 +25,7 @@ returns-in-Ok-false-clause-unwritten g c =
 
 pub returns-in-Ok-false-clause-settled : goal.returns-in-Ok-false-clause-settled
 returns-in-Ok-false-clause-settled g c =
-    settled_on g.B.Naming.name c.args.seat.now c.evict_idle.new.seat c.flush_one.new.seat c.flush_one.result
+    settles_on g.B.Naming.name c.args.seat.now c.evict_idle.new.seat c.flush_one.new.seat
     (settles_evicted g.B.Naming.name c.args.seat.now c.evict_idle.new.seat c.evict_idle.ensures.only) c.flush_one.ensures.settled
 
 pub returns-in-Ok-false-clause-denied : goal.returns-in-Ok-false-clause-denied

@@ -8,11 +8,11 @@ use Rattle.shared.specs.Called.{is_for_now}
 use Rattle.shared.specs.Polls.{Hears}
 use Rattle.shared.specs.Seen.{HandleSeen}
 use Rattle.shared.specs.Rooms.{IsFinal}
-use Rattle.shared.specs.Settled.{LeavesOneOfSync, Settles}
+use Rattle.shared.specs.Settled.{Settles}
 use Rattle.shared.specs.Synced.{IsNotBegun, IsSyncDenied, Reports}
 use Rattle.shared.proofs.Hearing.{hears_told}
 use Rattle.shared.proofs.Rooming.{admitted_final, final_lasting}
-use Rattle.shared.proofs.Settling.{ended_settles, settles_same}
+use Rattle.shared.proofs.Settling.{settles_same}
 use Rattle.shared.proofs.Syncing.{fsync_clean, fsync_denied, fsync_failed, report_final, sync_denied}
 use Rattle.shared.proofs.cache.SharedCache.fsync_range.Goals as goal
 
@@ -21,8 +21,10 @@ returns-in-Err-sync_pages-clause-denied g c own here =
     sync_denied g.B.Naming.sizes c.args.self.now.name c.args.handle.now.number c.args.first c.args.last c.args.seat.now c.sync_pages.new.seat
     c.args.handle.now.pass c.sync_pages.new.pass c.in-Err-sync_pages.denied
     (c.in-Err-sync_pages.ensures.kept ∙ ap (λ (h : HandleSeen). h.pass) c.handle.view_is)
-    (subst (λ (n : HandleId). IsSyncDenied n c.args.first c.args.last c.args.seat.now c.sync_pages.new.seat
-    c.in-Err-sync_pages.denied) (ap (λ (h : HandleSeen). h.number) c.handle.view_is) c.in-Err-sync_pages.ensures.denied)
+    (subst (λ (n : HandleId). IsSyncDenied g.B.Naming.sizes c.args.self.now.name n c.args.first c.args.last c.args.seat.now c.sync_pages.new.seat
+    c.in-Err-sync_pages.denied) (ap (λ (h : HandleSeen). h.number) c.handle.view_is)
+    (subst (λ n. IsSyncDenied g.B.Naming.sizes n c.handle.inside.number c.args.first c.args.last c.args.seat.now
+    c.sync_pages.new.seat c.in-Err-sync_pages.denied) (sym c.args.self.now.named) c.in-Err-sync_pages.ensures.denied))
 
 pub returns-in-Some-clause-denied : goal.returns-in-Some-clause-denied
 returns-in-Some-clause-denied g c own here =
@@ -94,22 +96,20 @@ returns-in-Err-flushed-clause-stands g c =
 
 pub returns-in-Err-sync_pages-clause-settled : goal.returns-in-Err-sync_pages-clause-settled
 returns-in-Err-sync_pages-clause-settled g c =
-    subst (λ n. Settles n c.args.seat.now c.sync_pages.new.seat
-    ⊎ LeavesOneOfSync n c.args.seat.now c.sync_pages.new.seat c.in-Err-sync_pages.denied) (sym c.args.self.now.named)
+    subst (λ n. Settles n c.args.seat.now c.sync_pages.new.seat) (sym c.args.self.now.named)
     c.in-Err-sync_pages.ensures.settled
 
 pub returns-in-Some-clause-settled : goal.returns-in-Some-clause-settled
 returns-in-Some-clause-settled g c =
-    inl (subst (λ n. Settles n c.args.seat.now c.sync_pages.new.seat) (sym c.args.self.now.named) c.in-Ok.ensures.settled)
+    (subst (λ n. Settles n c.args.seat.now c.sync_pages.new.seat) (sym c.args.self.now.named) c.in-Ok.ensures.settled)
 
 pub returns-in-Ok-flushed-clause-settled : goal.returns-in-Ok-flushed-clause-settled
 returns-in-Ok-flushed-clause-settled g c =
-    ended_settles c.args.self.now.name c.args.seat.now c.sync_pages.new.seat c.report.result
     (subst (λ n. Settles n c.args.seat.now c.sync_pages.new.seat) (sym c.args.self.now.named) c.in-Ok.ensures.settled)
 
 pub returns-in-Err-flushed-clause-settled : goal.returns-in-Err-flushed-clause-settled
 returns-in-Err-flushed-clause-settled g c =
-    inl (subst (λ n. Settles n c.args.seat.now c.sync_pages.new.seat) (sym c.args.self.now.named) c.in-Ok.ensures.settled)
+    (subst (λ n. Settles n c.args.seat.now c.sync_pages.new.seat) (sym c.args.self.now.named) c.in-Ok.ensures.settled)
 
 pub returns-in-Err-clause-settled : goal.returns-in-Err-clause-settled
-returns-in-Err-clause-settled g c = inl (settles_same c.args.self.now.name c.args.seat.now c.args.seat.now refl)
+returns-in-Err-clause-settled g c = (settles_same c.args.self.now.name c.args.seat.now c.args.seat.now refl)

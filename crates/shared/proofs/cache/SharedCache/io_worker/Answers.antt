@@ -7,13 +7,13 @@ use Rattle.shared.proofs.cache.SharedCache.io_worker.Goals as goal
 
 pub returns-then-is_over-clause-ended : goal.returns-then-is_over-clause-ended
 returns-then-is_over-clause-ended g c =
-    turn_ended c.args.worker.now c.turns.worker c.io_turn.new.worker c.in_ok-io_turn.field-0 c.args.self.now.name
+    turn_ended c.args.worker.now c.turns.worker c.io_turn.new.worker c.io_turn.result c.args.self.now.name
     g.B.Naming.board c.turns.invariant.ended c.turns.invariant.goes c.io_turn.ensures.goes
-    c.in_ok-io_turn.ensures.idle c.in_ok-io_turn.ensures.ended
+    c.io_turn.ensures.idle c.io_turn.ensures.ended
 
 pub returns-then-is_over-clause-emptied : goal.returns-then-is_over-clause-emptied
 returns-then-is_over-clause-emptied g c =
-    was_idle c.in_ok-io_turn.field-0 c.io_turn.new.worker (search rules) c.in_ok-io_turn.ensures.emptied
+    was_idle c.io_turn.result c.io_turn.new.worker (search rules) c.io_turn.ensures.emptied
 
 pub turns-preserved-then-is_idle : goal.turns-preserved-then-is_idle
 turns-preserved-then-is_idle g c = record {
@@ -23,9 +23,10 @@ turns-preserved-then-is_idle g c = record {
   only = only_ends_on c.args.worker.now.seat c.turns.worker.seat c.io_turn.new.worker.seat
       c.turns.invariant.only c.io_turn.ensures.only;
   pushed = c.io_turn.ensures.pushed ∙ c.turns.invariant.pushed;
-  ended = turn_ended c.args.worker.now c.turns.worker c.io_turn.new.worker c.in_ok-io_turn.field-0 c.args.self.now.name
+  alone = c.io_turn.ensures.alone ∙ c.turns.invariant.alone;
+  ended = turn_ended c.args.worker.now c.turns.worker c.io_turn.new.worker c.io_turn.result c.args.self.now.name
       g.B.Naming.board c.turns.invariant.ended c.turns.invariant.goes c.io_turn.ensures.goes
-      c.in_ok-io_turn.ensures.idle c.in_ok-io_turn.ensures.ended;
+      c.io_turn.ensures.idle c.io_turn.ensures.ended;
 }
 
 pub turns-preserved : goal.turns-preserved
@@ -36,9 +37,10 @@ turns-preserved g c = record {
   only = only_ends_on c.args.worker.now.seat c.turns.worker.seat c.io_turn.new.worker.seat
       c.turns.invariant.only c.io_turn.ensures.only;
   pushed = c.io_turn.ensures.pushed ∙ c.turns.invariant.pushed;
-  ended = turn_ended c.args.worker.now c.turns.worker c.io_turn.new.worker c.in_ok-io_turn.field-0 c.args.self.now.name
+  alone = c.io_turn.ensures.alone ∙ c.turns.invariant.alone;
+  ended = turn_ended c.args.worker.now c.turns.worker c.io_turn.new.worker c.io_turn.result c.args.self.now.name
       g.B.Naming.board c.turns.invariant.ended c.turns.invariant.goes c.io_turn.ensures.goes
-      c.in_ok-io_turn.ensures.idle c.in_ok-io_turn.ensures.ended;
+      c.io_turn.ensures.idle c.io_turn.ensures.ended;
 }
 
 pub turns-init : goal.turns-init
@@ -47,5 +49,6 @@ turns-init g c = record {
   goes = goes_same c.args.worker.now.seat c.args.worker.now.seat refl;
   only = only_same (λ e. IsEnd e.event) c.args.worker.now.seat c.args.worker.now.seat refl;
   pushed = refl;
+  alone = refl;
   ended = none_ended c.args.worker.now;
 }

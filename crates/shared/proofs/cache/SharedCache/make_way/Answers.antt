@@ -1,7 +1,7 @@
 use Rattle.held.proofs.Seats.{goes_on}
 use Rattle.shared.proofs.Making.{room_on}
 use Rattle.shared.proofs.Owning.{only_room_on}
-use Rattle.shared.proofs.Settling.{denied_on, settles_on}
+use Rattle.shared.proofs.Settling.{settles_on}
 use Rattle.shared.proofs.cache.SharedCache.make_way.Goals as goal
 
 pub turns-preserved : goal.turns-preserved
@@ -19,7 +19,7 @@ returns-in-Ok-false-clause-settled g c =
 
 pub returns-in-Err-clause-settled : goal.returns-in-Err-clause-settled
 returns-in-Err-clause-settled g c =
-    denied_on g.B.Naming.name c.args.seat.now c.turns.seat c.make_room.new.seat c.in-Err.denied c.turns.invariant.settled
+    settles_on g.B.Naming.name c.args.seat.now c.turns.seat c.make_room.new.seat c.turns.invariant.settled
     c.in-Err.ensures.settled
 
 pub returns-in-Err-clause-denied : goal.returns-in-Err-clause-denied

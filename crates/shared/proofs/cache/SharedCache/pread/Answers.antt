@@ -1,5 +1,4 @@
 use Rattle.std.proofs.Common.{ℕ, ◌∙◌, List, ap, inl, length, refl, subst, sym}
-use Rattle.std.specs.Prelude.{◌⊎◌}
 use Rattle.machine.specs.declared.event.Event.TheVariants as event
 use Rattle.pc_types.specs.declared.ids.HandleId.{HandleId}
 use Rattle.held.specs.Called.{Once, Only}
@@ -9,8 +8,8 @@ use Rattle.shared.specs.Rooms.{IsShortFor}
 use Rattle.shared.specs.Seen.{HandleSeen}
 use Rattle.shared.proofs.Owning.{once_try_on, only_try_on}
 use Rattle.shared.proofs.Wanting.{short_admitted, short_on}
-use Rattle.shared.specs.Settled.{FillsMissed, LeavesOne, Settles}
-use Rattle.shared.proofs.Settling.{denied_on, missed_on, missed_same, settles_on, settles_same}
+use Rattle.shared.specs.Settled.{FillsMissed, Settles}
+use Rattle.shared.proofs.Settling.{missed_on, missed_same, settles_on, settles_same}
 use Rattle.shared.specs.Denials.{IsDenied}
 use Rattle.shared.specs.Own.{IsCallOf}
 use Rattle.shared.specs.Called.{OwnFirst, Retries}
@@ -95,9 +94,9 @@ returns-in-Ok-Some-clause-settled g c =
 
 pub returns-in-Err-try_read-clause-settled : goal.returns-in-Err-try_read-clause-settled
 returns-in-Err-try_read-clause-settled g c =
-    subst (λ n. Settles n c.args.seat.now c.try_read.new.seat ⊎ LeavesOne n c.args.seat.now c.try_read.new.seat c.in-Err-try_read.denied)
+    subst (λ n. Settles n c.args.seat.now c.try_read.new.seat)
     (sym c.args.self.now.named)
-    (denied_on g.B.Naming.name c.args.seat.now c.attempts.seat c.try_read.new.seat c.in-Err-try_read.denied
+    (settles_on g.B.Naming.name c.args.seat.now c.attempts.seat c.try_read.new.seat
     c.attempts.invariant.settled c.in-Err-try_read.ensures.settled)
 
 pub returns-in-Ok-Some-clause-missed : goal.returns-in-Ok-Some-clause-missed

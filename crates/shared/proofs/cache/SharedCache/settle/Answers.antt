@@ -3,7 +3,7 @@ use Rattle.std.proofs.lemmas.Result.{IfErr-weaker}
 use Rattle.shared.specs.Denials.{IsDenied}
 use Rattle.shared.specs.Own.{IsRoomEvent, IsStillDenied}
 use Rattle.shared.proofs.Making.{room_on}
-use Rattle.shared.proofs.Settling.{settled_on}
+use Rattle.shared.proofs.Settling.{settles_on}
 use Rattle.shared.proofs.cache.SharedCache.settle.Goals as goal
 
 pub returns-clause-denied : goal.returns-clause-denied
@@ -15,5 +15,5 @@ returns-clause-denied g c =
 
 pub returns-clause-settled : goal.returns-clause-settled
 returns-clause-settled g c =
-    settled_on g.B.Naming.name c.args.seat.now c.relieve.new.seat c.make_way.new.seat c.make_way.result
+    settles_on g.B.Naming.name c.args.seat.now c.relieve.new.seat c.make_way.new.seat
     c.in_default.ensures.settled c.make_way.ensures.settled

@@ -31,7 +31,7 @@ returns-in-Ok-sync_turns-clause-ended g c = syncs_by c.args.handle c.args.first 
     c.in-Ok-begun.ensures.made c.in-Ok-sync_turns.ensures.ended
 
 pub returns-in-Err-sync_turns-clause-denied : goal.returns-in-Err-sync_turns-clause-denied
-returns-in-Err-sync_turns-clause-denied g c = gave_up c.args.handle c.args.first c.args.last _ _ _ _ _ _ _ _
+returns-in-Err-sync_turns-clause-denied g c = gave_up g.B.Naming.sizes g.B.Naming.name c.args.handle c.args.first c.args.last _ _ _ _ _ _ _ _
     c.in-Err-sync_turns.denied c.give_up.result c.in-Ok-begun.ensures.made c.sync_turns.ensures.goes
     c.give_up.ensures.goes c.in-Err-sync_turns.ensures.denied c.in-Err-sync_turns.ensures.full c.give_up.ensures.dropped
 
@@ -53,11 +53,11 @@ returns-in-Err-sync_turns-clause-only g c = sync_given_up c.args.handle c.args.f
     c.in-Ok-begun.ensures.made c.in-Err-sync_turns.ensures.tried c.give_up.ensures.only c.give_up.ensures.few
 
 pub returns-in-Err-clause-settled : goal.returns-in-Err-clause-settled
-returns-in-Err-clause-settled g c = inl (settles_same g.B.Naming.name c.args.seat.now c.args.seat.now refl)
+returns-in-Err-clause-settled g c = (settles_same g.B.Naming.name c.args.seat.now c.args.seat.now refl)
 
 pub returns-in-Err-begun-clause-settled : goal.returns-in-Err-begun-clause-settled
 returns-in-Err-begun-clause-settled g c =
-    inl (settles_denied g.B.Naming.name (event.SyncBegin c.args.handle c.args.first c.args.last) c.deref_mut.result.now
+    (settles_denied g.B.Naming.name (event.SyncBegin c.args.handle c.args.first c.args.last) c.deref_mut.result.now
     c.sync_begin-begun.new.self c.args.seat.now c.sync_begin-begun.new.seat c.in-Err-begun.denied (λ is. is)
     c.in-Err-begun.ensures.denied)
 
@@ -69,6 +69,6 @@ returns-in-Ok-sync_turns-clause-settled g c =
 
 pub returns-in-Err-sync_turns-clause-settled : goal.returns-in-Err-sync_turns-clause-settled
 returns-in-Err-sync_turns-clause-settled g c =
-    dropped_settles g.B.Naming.name _ _ _ _ _ c.in-Err-sync_turns.denied c.give_up.result _
+    dropped_settles g.B.Naming.name _ _ _ _ _
     (sync_settles g.B.Naming.name c.args.handle c.args.first c.args.last _ _ _ _ _ _ c.in-Ok-begun.ensures.made)
-    c.in-Err-sync_turns.ensures.settled c.give_up.ensures.only c.give_up.ensures.few c.give_up.ensures.dropped
+    c.in-Err-sync_turns.ensures.settled c.give_up.ensures.only

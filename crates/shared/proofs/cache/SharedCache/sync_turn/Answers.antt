@@ -9,12 +9,11 @@ use Rattle.shared.specs.Denials.{IsDenied}
 use Rattle.shared.specs.Polls.{Hears}
 use Rattle.shared.specs.declared.fsync.Synced.{Synced}
 use Rattle.shared.proofs.Hearing.{hears_by}
-use Rattle.shared.specs.Synced.{IsTurnOf}
-use Rattle.shared.proofs.Making.{goes_denied}
+use Rattle.shared.proofs.Making.{denied_event, goes_denied}
 use Rattle.shared.proofs.Owning.{once_clean, once_failed, try_denied, try_waits, try_writes}
 use Rattle.shared.proofs.Rooming.{step_final}
-use Rattle.shared.proofs.Settling.{settles_denied, step_quiet, step_settles, write_denied}
-use Rattle.shared.proofs.Syncing.{denied_step, step_full}
+use Rattle.shared.proofs.Settling.{settles_denied, step_kind, step_quiet, step_settles}
+use Rattle.shared.proofs.Syncing.{step_full}
 use Rattle.shared.proofs.cache.SharedCache.sync_turn.Goals as goal
 
 pub returns-in-Err-wait_or-clause-goes : goal.returns-in-Err-wait_or-clause-goes
@@ -24,8 +23,8 @@ returns-in-Err-wait_or-clause-goes g c = goes_denied (event.SyncStep c.args.sync
 
 pub returns-in-Err-wait_or-clause-denied : goal.returns-in-Err-wait_or-clause-denied
 returns-in-Err-wait_or-clause-denied g c =
-    subst (IsDenied (IsTurnOf c.args.sync) c.args.seat.now c.sync_step.new.seat) (sym c.in-Err-wait_or.ensures.denied)
-    (denied_step c.args.sync c.deref_mut.result.now c.sync_step.new.self c.args.seat.now c.sync_step.new.seat
+    subst (IsDenied (λ e. e ≡ event.SyncStep c.args.sync) c.args.seat.now c.sync_step.new.seat) (sym c.in-Err-wait_or.ensures.denied)
+    (denied_event (event.SyncStep c.args.sync) c.deref_mut.result.now c.sync_step.new.self c.args.seat.now c.sync_step.new.seat
     c.in-Err.denied c.in-Err.ensures.denied)
 
 pub returns-in-Ok-wait_or-clause-goes_on : goal.returns-in-Ok-wait_or-clause-goes_on
@@ -47,13 +46,9 @@ returns-in-Clean-clause-once g c = once_clean c.args.sync _ _ _ _ _ _ _ (ap as_s
 pub returns-in-Failed-clause-once : goal.returns-in-Failed-clause-once
 returns-in-Failed-clause-once g c = once_failed c.args.sync _ _ _ _ _ _ _ _ (ap as_sync c.in-Failed.is) c.in-Ok.ensures.made
 
-pub returns-in-Ok-flush_by-clause-goes_on : goal.returns-in-Ok-flush_by-clause-goes_on
-returns-in-Ok-flush_by-clause-goes_on g c =
-    try_writes c.args.sync _ _ _ _ _ _ _ _ (ap as_sync c.in-Job.is) c.in-Ok.ensures.made c.flush_by.ensures.only
-
-pub returns-in-Err-flush_by-clause-tried : goal.returns-in-Err-flush_by-clause-tried
-returns-in-Err-flush_by-clause-tried g c =
-    try_writes c.args.sync _ _ _ _ _ _ _ _ (ap as_sync c.in-Job.is) c.in-Ok.ensures.made c.flush_by.ensures.only
+pub returns-clause-goes_on : goal.returns-clause-goes_on
+returns-clause-goes_on g c =
+    try_writes c.args.sync _ _ _ _ _ _ _ _ (ap as_sync c.in-Job.is) c.in-Ok.ensures.made c.flush_by-buffer.ensures.only
 
 -- the refusal stands, in the hold that says whether a request is in flight
 pub returns-in-Err-wait_or-clause-stands : goal.returns-in-Err-wait_or-clause-stands
@@ -66,9 +61,6 @@ pub returns-in-Err-wait_or-clause-full : goal.returns-in-Err-wait_or-clause-full
 returns-in-Err-wait_or-clause-full g c =
     step_full c.args.sync c.deref_mut.result.now c.sync_step.new.self c.args.seat.now c.sync_step.new.seat
     c.in-Err.denied c.in-Err-wait_or.denied c.in-Err.ensures.denied c.in-Err-wait_or.ensures.denied
-
-pub returns-in-Err-flush_by-clause-full : goal.returns-in-Err-flush_by-clause-full
-returns-in-Err-flush_by-clause-full g c none = (c.in-Err-flush_by.ensures.full none).0
 
 -- the buffer came back
 pub returns-in-Ok-wait_or-clause-back : goal.returns-in-Ok-wait_or-clause-back
@@ -119,7 +111,7 @@ returns-in-Ok-wait_or-clause-settled g c =
 
 pub returns-in-Err-wait_or-clause-settled : goal.returns-in-Err-wait_or-clause-settled
 returns-in-Err-wait_or-clause-settled g c =
-    inl (settles_denied g.B.Naming.name (event.SyncStep c.args.sync) c.deref_mut.result.now c.sync_step.new.self
+    (settles_denied g.B.Naming.name (event.SyncStep c.args.sync) c.deref_mut.result.now c.sync_step.new.self
     c.args.seat.now c.sync_step.new.seat c.in-Err.denied (λ is. is) c.in-Err.ensures.denied)
 
 pub returns-in-Wait-clause-settled : goal.returns-in-Wait-clause-settled
@@ -134,12 +126,11 @@ pub returns-in-Failed-clause-settled : goal.returns-in-Failed-clause-settled
 returns-in-Failed-clause-settled g c =
     step_quiet g.B.Naming.name c.args.sync _ _ _ _ _ _ _ (ap as_sync c.in-Failed.is) (λ x b. b) c.in-Ok.ensures.made
 
-pub returns-in-Ok-flush_by-clause-settled : goal.returns-in-Ok-flush_by-clause-settled
-returns-in-Ok-flush_by-clause-settled g c =
-    step_settles g.B.Naming.name c.args.sync _ c.in-Job.job _ _ _ _ _ _ (ap as_sync c.in-Job.is) c.in-Ok.ensures.made c.in-Ok.ensures.job
-    c.in-Ok-flush_by.ensures.ends
+pub returns-clause-settled : goal.returns-clause-settled
+returns-clause-settled g c =
+    step_settles g.B.Naming.name c.args.sync _ c.in-Job.job _ _ _ _ _ _ (ap as_sync c.in-Job.is) c.in-Ok.ensures.made
+    c.flush_by-buffer.ensures.ends
 
-pub returns-in-Err-flush_by-clause-settled : goal.returns-in-Err-flush_by-clause-settled
-returns-in-Err-flush_by-clause-settled g c =
-    write_denied g.B.Naming.name c.args.sync _ c.in-Job.job _ _ _ _ _ _ c.in-Err-flush_by.denied (ap as_sync c.in-Job.is)
-    c.in-Ok.ensures.made c.in-Ok.ensures.job c.in-Err-flush_by.ensures.ends
+pub flush_by-buffer-requires-clause-kind : goal.flush_by-buffer-requires-clause-kind
+flush_by-buffer-requires-clause-kind g c =
+    step_kind c.args.sync _ c.in-Job.job _ _ _ _ _ (ap as_sync c.in-Job.is) c.in-Ok.ensures.made c.in-Ok.ensures.job

@@ -1,7 +1,7 @@
 use Rattle.std.proofs.Common.{◌∙◌}
 use Rattle.held.proofs.Seats.{goes_on}
 use Rattle.shared.proofs.Owning.{once_turn_on, turn_try_on}
-use Rattle.shared.proofs.Settling.{denied_on, settles_on}
+use Rattle.shared.proofs.Settling.{settles_on}
 use Rattle.shared.proofs.Syncing.{turn_on}
 use Rattle.shared.proofs.cache.SharedCache.sync_turns.Goals as goal
 
@@ -35,5 +35,5 @@ returns-in-Some-ended-clause-settled g c =
 
 pub returns-in-Err-clause-settled : goal.returns-in-Err-clause-settled
 returns-in-Err-clause-settled g c =
-    denied_on g.B.Naming.name c.args.seat.now c.turns.seat c.sync_turn.new.seat c.in-Err.denied c.turns.invariant.settled
+    settles_on g.B.Naming.name c.args.seat.now c.turns.seat c.sync_turn.new.seat c.turns.invariant.settled
     c.in-Err.ensures.settled

@@ -13,7 +13,7 @@ use Rattle.shared.proofs.Owning.{change_plain, only_missed, only_settled, only_t
 use Rattle.shared.proofs.Rooming.{final_denied, lost_denied, wants_pass}
 use Rattle.shared.proofs.Sparing.{change_asked}
 use Rattle.shared.proofs.Wanting.{short_missed, short_settled}
-use Rattle.shared.proofs.Settling.{change_begins, change_ends, change_fills, change_noted, denied_on, missed_by, missed_denied, missed_filled, missed_on, missed_room, settles_by, settles_denied, settles_on}
+use Rattle.shared.proofs.Settling.{change_begins, change_ends, change_fills, change_noted, missed_by, missed_denied, missed_filled, missed_on, missed_room, settles_by, settles_denied, settles_on}
 use Rattle.shared.proofs.cache.SharedCache.try_change.Goals as goal
 
 pub returns-in-Err-settle-clause-denied : goal.returns-in-Err-settle-clause-denied
@@ -149,7 +149,7 @@ returns-in-Ok-fill-clause-settled g c =
 
 pub returns-in-Err-fill-clause-settled : goal.returns-in-Err-fill-clause-settled
 returns-in-Err-fill-clause-settled g c =
-    denied_on g.B.Naming.name c.args.seat.now c.change_by.new.seat c.fill.new.seat c.in-Err-fill.denied
+    settles_on g.B.Naming.name c.args.seat.now c.change_by.new.seat c.fill.new.seat
     (settles_by g.B.Naming.name _ _ _ _ _ _ _ (λ x b. change_begins x c.args.change c.args.handle c.args.bytes.now _ b)
     (change_ends c.args.change c.args.handle c.args.bytes.now) c.in-Ok.ensures.made) c.in-Err-fill.ensures.settled
 
@@ -162,7 +162,7 @@ returns-in-Ok-settle-clause-settled g c =
 
 pub returns-in-Err-settle-clause-settled : goal.returns-in-Err-settle-clause-settled
 returns-in-Err-settle-clause-settled g c =
-    denied_on g.B.Naming.name c.args.seat.now c.change_by.new.seat c.settle.new.seat c.in-Err-settle.denied
+    settles_on g.B.Naming.name c.args.seat.now c.change_by.new.seat c.settle.new.seat
     (settles_denied g.B.Naming.name (event_of c.args.change c.args.handle c.args.bytes.now) c.deref_mut.result.now
     c.change_by.new.state c.args.seat.now c.change_by.new.seat c.in-Err.denied
     (change_ends c.args.change c.args.handle c.args.bytes.now) c.in-Err.ensures.denied) c.in-Err-settle.ensures.settled

@@ -15,7 +15,7 @@ use Rattle.shared.proofs.Owning.{only_missed, only_try, only_try_denied}
 use Rattle.shared.proofs.Sizes.{read_counted}
 use Rattle.shared.proofs.Rooming.{lost_unwanted, read_unwanted}
 use Rattle.shared.proofs.Wanting.{short_denied, short_missed}
-use Rattle.shared.proofs.Settling.{denied_on, missed_by, missed_denied, missed_filled, settles_by, settles_denied, settles_on}
+use Rattle.shared.proofs.Settling.{missed_by, missed_denied, missed_filled, settles_by, settles_denied, settles_on}
 use Rattle.shared.proofs.cache.SharedCache.try_read.Goals as goal
 
 pub returns-in-Bytes-clause-answer : goal.returns-in-Bytes-clause-answer
@@ -113,7 +113,7 @@ returns-in-Err-fill-clause-wanting g c =
 -- a read begins no request, and fills no page by itself
 pub returns-in-Err-clause-settled : goal.returns-in-Err-clause-settled
 returns-in-Err-clause-settled g c =
-    inl (settles_denied g.B.Naming.name (event.Read c.args.handle c.args.offset (length c.args.out.now)) c.deref_mut.result.now
+    (settles_denied g.B.Naming.name (event.Read c.args.handle c.args.offset (length c.args.out.now)) c.deref_mut.result.now
     c.read.new.self c.args.seat.now c.read.new.seat c.in-Err.denied (λ is. is) c.in-Err.ensures.denied)
 
 pub returns-in-Bytes-clause-settled : goal.returns-in-Bytes-clause-settled
@@ -131,7 +131,7 @@ returns-in-Ok-fill-clause-settled g c =
 
 pub returns-in-Err-fill-clause-settled : goal.returns-in-Err-fill-clause-settled
 returns-in-Err-fill-clause-settled g c =
-    denied_on g.B.Naming.name c.args.seat.now c.read.new.seat c.fill.new.seat c.in-Err-fill.denied
+    settles_on g.B.Naming.name c.args.seat.now c.read.new.seat c.fill.new.seat
     (settles_by g.B.Naming.name _ _ _ _ _ _ _ (λ x b. b) (λ is. is) c.in-Ok.ensures.made) c.in-Err-fill.ensures.settled
 
 pub returns-in-Err-clause-missed : goal.returns-in-Err-clause-missed

@@ -1,7 +1,7 @@
-use Rattle.std.proofs.Common.{◌∙◌, refl, sym}
+use Rattle.std.proofs.Common.{◌∙◌, refl}
 use Rattle.held.proofs.Seats.{goes_on, goes_same, only_same}
 use Rattle.shared.specs.Workers.{IsWriteBack}
-use Rattle.shared.proofs.Carrying.{carried_on, carries_last, none_carried, puts_none, puts_on, turn_puts}
+use Rattle.shared.proofs.Carrying.{carried_on, none_carried, puts_none, puts_on, turn_puts}
 use Rattle.shared.proofs.Owning.{only_write_back_on}
 use Rattle.shared.proofs.Settling.{own_on, own_same}
 use Rattle.shared.proofs.cache.SharedCache.write_back.Goals as goal
@@ -13,6 +13,7 @@ turns-init g c = record {
   only = only_same (λ e. IsWriteBack e.event) c.args.worker.now.seat c.args.worker.now.seat refl;
   own = own_same g.B.Naming.name c.args.worker.now.seat c.args.worker.now.seat refl;
   popped = refl;
+  alone = refl;
   puts = puts_none c.args.worker.now;
   carried = none_carried c.args.worker.now;
 }
@@ -27,6 +28,7 @@ turns-preserved g c = record {
   own = own_on g.B.Naming.name c.args.worker.now.seat c.turns.worker.seat c.flusher_turn-turn.new.worker.seat
       c.turns.invariant.own c.flusher_turn-turn.ensures.own;
   popped = c.flusher_turn-turn.ensures.popped ∙ c.turns.invariant.popped;
+  alone = c.flusher_turn-turn.ensures.alone ∙ c.turns.invariant.alone;
   puts = puts_on c.args.worker.now c.turns.worker c.flusher_turn-turn.new.worker c.turns.invariant.puts
       (turn_puts g.B.Naming.sizes g.B.Naming.name c.turns.worker c.flusher_turn-turn.new.worker c.flusher_turn-turn.result
       c.flusher_turn-turn.ensures.done c.flusher_turn-turn.ensures.unbegun);
@@ -34,7 +36,7 @@ turns-preserved g c = record {
       c.flusher_turn-turn.ensures.goes c.turns.invariant.puts
       (turn_puts g.B.Naming.sizes g.B.Naming.name c.turns.worker c.flusher_turn-turn.new.worker c.flusher_turn-turn.result
       c.flusher_turn-turn.ensures.done c.flusher_turn-turn.ensures.unbegun)
-      c.turns.invariant.carried (c.flusher_turn-turn.ensures.carried (sym c.is_unended.ensures ∙ c.if-is_unended.false));
+      c.turns.invariant.carried c.flusher_turn-turn.ensures.carried;
 }
 
 pub turns-preserved-after-is_idle : goal.turns-preserved-after-is_idle
@@ -47,6 +49,7 @@ turns-preserved-after-is_idle g c = record {
   own = own_on g.B.Naming.name c.args.worker.now.seat c.turns.worker.seat c.flusher_turn-turn.new.worker.seat
       c.turns.invariant.own c.flusher_turn-turn.ensures.own;
   popped = c.flusher_turn-turn.ensures.popped ∙ c.turns.invariant.popped;
+  alone = c.flusher_turn-turn.ensures.alone ∙ c.turns.invariant.alone;
   puts = puts_on c.args.worker.now c.turns.worker c.flusher_turn-turn.new.worker c.turns.invariant.puts
       (turn_puts g.B.Naming.sizes g.B.Naming.name c.turns.worker c.flusher_turn-turn.new.worker c.flusher_turn-turn.result
       c.flusher_turn-turn.ensures.done c.flusher_turn-turn.ensures.unbegun);
@@ -54,7 +57,7 @@ turns-preserved-after-is_idle g c = record {
       c.flusher_turn-turn.ensures.goes c.turns.invariant.puts
       (turn_puts g.B.Naming.sizes g.B.Naming.name c.turns.worker c.flusher_turn-turn.new.worker c.flusher_turn-turn.result
       c.flusher_turn-turn.ensures.done c.flusher_turn-turn.ensures.unbegun)
-      c.turns.invariant.carried (c.flusher_turn-turn.ensures.carried (sym c.is_unended.ensures ∙ c.if-is_unended.false));
+      c.turns.invariant.carried c.flusher_turn-turn.ensures.carried;
 }
 
 pub turns-preserved-after-is_idle-2 : goal.turns-preserved-after-is_idle-2
@@ -67,6 +70,7 @@ turns-preserved-after-is_idle-2 g c = record {
   own = own_on g.B.Naming.name c.args.worker.now.seat c.turns.worker.seat c.flusher_turn-turn.new.worker.seat
       c.turns.invariant.own c.flusher_turn-turn.ensures.own;
   popped = c.flusher_turn-turn.ensures.popped ∙ c.turns.invariant.popped;
+  alone = c.flusher_turn-turn.ensures.alone ∙ c.turns.invariant.alone;
   puts = puts_on c.args.worker.now c.turns.worker c.flusher_turn-turn.new.worker c.turns.invariant.puts
       (turn_puts g.B.Naming.sizes g.B.Naming.name c.turns.worker c.flusher_turn-turn.new.worker c.flusher_turn-turn.result
       c.flusher_turn-turn.ensures.done c.flusher_turn-turn.ensures.unbegun);
@@ -74,7 +78,7 @@ turns-preserved-after-is_idle-2 g c = record {
       c.flusher_turn-turn.ensures.goes c.turns.invariant.puts
       (turn_puts g.B.Naming.sizes g.B.Naming.name c.turns.worker c.flusher_turn-turn.new.worker c.flusher_turn-turn.result
       c.flusher_turn-turn.ensures.done c.flusher_turn-turn.ensures.unbegun)
-      c.turns.invariant.carried (c.flusher_turn-turn.ensures.carried (sym c.is_unended.ensures ∙ c.if-is_unended.false));
+      c.turns.invariant.carried c.flusher_turn-turn.ensures.carried;
 }
 
 pub turns-preserved-after-is_idle-3 : goal.turns-preserved-after-is_idle-3
@@ -87,6 +91,7 @@ turns-preserved-after-is_idle-3 g c = record {
   own = own_on g.B.Naming.name c.args.worker.now.seat c.turns.worker.seat c.flusher_turn-turn.new.worker.seat
       c.turns.invariant.own c.flusher_turn-turn.ensures.own;
   popped = c.flusher_turn-turn.ensures.popped ∙ c.turns.invariant.popped;
+  alone = c.flusher_turn-turn.ensures.alone ∙ c.turns.invariant.alone;
   puts = puts_on c.args.worker.now c.turns.worker c.flusher_turn-turn.new.worker c.turns.invariant.puts
       (turn_puts g.B.Naming.sizes g.B.Naming.name c.turns.worker c.flusher_turn-turn.new.worker c.flusher_turn-turn.result
       c.flusher_turn-turn.ensures.done c.flusher_turn-turn.ensures.unbegun);
@@ -94,16 +99,5 @@ turns-preserved-after-is_idle-3 g c = record {
       c.flusher_turn-turn.ensures.goes c.turns.invariant.puts
       (turn_puts g.B.Naming.sizes g.B.Naming.name c.turns.worker c.flusher_turn-turn.new.worker c.flusher_turn-turn.result
       c.flusher_turn-turn.ensures.done c.flusher_turn-turn.ensures.unbegun)
-      c.turns.invariant.carried (c.flusher_turn-turn.ensures.carried (sym c.is_unended.ensures ∙ c.if-is_unended.false));
+      c.turns.invariant.carried c.flusher_turn-turn.ensures.carried;
 }
-
-pub returns-then-is_unended-clause-carried : goal.returns-then-is_unended-clause-carried
-returns-then-is_unended-clause-carried g c =
-    carries_last g.B.Naming.sizes g.B.Naming.name c.args.worker.now c.turns.worker c.flusher_turn-turn.new.worker
-    c.flusher_turn-turn.result c.turns.invariant.carried c.flusher_turn-turn.ensures.done
-    (sym c.is_unended.ensures ∙ c.if-is_unended.true)
-
-pub returns-then-is_unended-clause-own : goal.returns-then-is_unended-clause-own
-returns-then-is_unended-clause-own g c =
-    own_on g.B.Naming.name c.args.worker.now.seat c.turns.worker.seat c.flusher_turn-turn.new.worker.seat
-    c.turns.invariant.own c.flusher_turn-turn.ensures.own
