@@ -3,7 +3,7 @@
 ghost use Rattle.std.specs.Prelude.{◌≡◌, [], IfOk, false, length, replicate, true};
 ghost use Rattle.held.specs.Keeps.{IsLocked};
 ghost use Rattle.machine.specs.History.{no_files};
-ghost use Rattle.runs.specs.Runs.{IsFirst};
+ghost use Rattle.runs.specs.Runs.{IsBlank};
 ghost use Rattle.trail.specs.Honest.{world_over};
 
 use crate::rounds::ROUNDS;
@@ -120,7 +120,7 @@ fn time_named<B: Naming>(
     requires fresh { (opened.log.history ≡ []) × (opened.core.state ≡ no_files B.sizes B.name) }
     requires deeds { (deeds.table ≡ B.deeds) × (deeds.told ≡ B.told) × (deeds.blocks ≡ B.blocks) }
     requires count { length B.blocks ≡ B.sizes.blocks }
-    requires first { B.told ≡ true → IsFirst (world_over B.sizes B.name B.blocks) }
+    requires first { B.told ≡ true → IsBlank (world_over B.sizes B.name B.blocks) }
     requires own { own.table ≡ B.table }
 {
     let (desk, side) = deeds.named::<B>();

@@ -79,9 +79,9 @@ module _ (count free : ℕ) (spots : Spots) (used : set.FinSet nat_cmp) (held : 
   spot_used p s there = mapped_used s.block (mapped_at spots p s.block (has_here spots p s there))
 
   -- an unused block goes to a page without one
-  pub balanced-assign : (p : ℕ × ℕ) (b : ℕ) → map.get spots p ≡ None → b < count → set.contains used b ≡ false → IsBalanced count (free - 1) (map.insert spots p (record { block = b; written = false })) (set.insert used b) held
-  balanced-assign p b none within idle =
-      let s : Spot = record { block = b; written = false } in
+  pub balanced-assign : (p : ℕ × ℕ) (b valid : ℕ) → map.get spots p ≡ None → b < count → set.contains used b ≡ false → IsBalanced count (free - 1) (map.insert spots p (record { block = b; valid = valid })) (set.insert used b) held
+  balanced-assign p b valid none within idle =
+      let s : Spot = record { block = b; valid = valid } in
       let one : unused (set.insert used b) count + 1 ≡ unused used count = unused-insert used b count within idle in
       let was : free ≡ unused used count = is.free_is in
       record {
@@ -177,9 +177,9 @@ module _ (count free : ℕ) (spots : Spots) (used : set.FinSet nat_cmp) (held : 
         ];
       }
 
-  -- a page's block is written
-  pub balanced-written : (p : ℕ × ℕ) (s t : Spot) → map.get spots p ≡ Some s → t.block ≡ s.block → IsBalanced count free (map.insert spots p t) used held
-  balanced-written p s t there same = record {
+  -- other bytes of a page's block are the page's
+  pub balanced-valid : (p : ℕ × ℕ) (s t : Spot) → map.get spots p ≡ Some s → t.block ≡ s.block → IsBalanced count free (map.insert spots p t) used held
+  balanced-valid p s t there same = record {
     some = is.some;
     small = is.small;
     free_is = is.free_is;

@@ -5,7 +5,7 @@ use Rattle.std.specs.Ordering.{eq_by_cmp}
 use Rattle.std.specs.FinMap as map
 use Rattle.std.proofs.lemmas.Bool.{and_from, and_parts, cases_Bool, cond-false, cond-true, eq-eqb, eqb-true, false_from_ne_true, false≢true, or_cases, or_left, or_right, true≢false}
 use Rattle.pc_types.specs.Spots.{Spot, place_cmp}
-use Rattle.blockmap.specs.Blocks.{Spots, has_block, is_mapped, with_written}
+use Rattle.blockmap.specs.Blocks.{Spots, has_block, is_mapped, with_valid}
 use Rattle.blockmap.proofs.PlaceLemmas.{places_antisymmetric, places_total, same_place}
 
 -- ---- tests of lists
@@ -79,11 +79,11 @@ gone_same m p none = map.same_map places_total places_antisymmetric (map.remove 
   | inr differs ↦ gone_there m p q differs
 ])
 
--- a block that is written is written once more
-pub written_same : (m : Spots) (p : ℕ × ℕ) (s : Spot) → map.get m p ≡ Some s → s.written ≡ true → with_written (map.get m p) p m ≡ m
-written_same m p s there is =
-    ap (λ o. with_written o p m) there
-    ∙ (λ i. map.insert m p (record { block = s.block; written = sym is i }))
+-- what is so already is so once more
+pub valid_same : (m : Spots) (p : ℕ × ℕ) (s : Spot) (valid : ℕ) → map.get m p ≡ Some s → s.valid ≡ valid → with_valid valid (map.get m p) p m ≡ m
+valid_same m p s valid there is =
+    ap (λ o. with_valid valid o p m) there
+    ∙ (λ i. map.insert m p (record { block = s.block; valid = sym is i }))
     ∙ put_same m p s there
 
 -- ---- who has a block

@@ -1,7 +1,6 @@
 -- The pages' blocks that an array keeps, after each of its changes.
-use Rattle.std.proofs.Common.{◌≡◌, ℕ, ◌+◌, ◌*◌, ◌/◌, ◌%◌, ◌^◌, ◌<◌, ◌≤◌, true, false, cond, List, [], ◌∷◌, Option, Some, None, is_some, option_map, map as map_list, refl, sym, ap, subst, ◌∙◌, arith, inl, inr, IsSome, Ok, Err}
+use Rattle.std.proofs.Common.{◌≡◌, ℕ, ◌+◌, ◌*◌, ◌/◌, ◌%◌, ◌^◌, ◌<◌, ◌≤◌, true, cond, List, [], ◌∷◌, Option, Some, None, is_some, option_map, map as map_list, refl, sym, ap, subst, ◌∙◌, arith, inl, inr, IsSome, Ok, Err}
 use Rattle.std.specs.Prelude.{Result, OnOk, OnErr}
-use Rattle.std.specs.Prelude.{◌==◌}
 use Rattle.std.specs.Ordering.{nat_cmp, eq_by_cmp}
 use Rattle.std.specs.Cmp.{nat_cmp_total, unsigned_tied}
 use Rattle.std.specs.FinMap as map
@@ -133,10 +132,10 @@ has_entry m k word (Some r) at h = record { range = r; there = at; value = sym (
 pub entry_of : (m : Ranges) (k word : ℕ) → AreSpots m → Some word ≡ option_map (λ e. e.1.value) (entry_at m k) → HasEntry m k word
 entry_of m k word are h = has_entry m k word (map.get m k) refl (h ∙ value_at m k are)
 
-pub word_fits : (m : Ranges) (k word : ℕ) → AreSpots m → Some word ≡ option_map (λ e. e.1.value) (entry_at m k) → word < 2 ^ 33
+pub word_fits : (m : Ranges) (k word : ℕ) → AreSpots m → Some word ≡ option_map (λ e. e.1.value) (entry_at m k) → word < 2 ^ 45
 word_fits m k word are h =
     let e : HasEntry m k word = entry_of m k word are h in
-    let f : e.range.value < 2 ^ 33 = are.fits k e.range e.there in
+    let f : e.range.value < 2 ^ 45 = are.fits k e.range e.there in
     let v : e.range.value ≡ word = e.value in
     omega arith
 
@@ -172,7 +171,7 @@ range_at m k file page within same h = some_range m k (map.get m k) refl (ap (λ
 pub are-empty : AreSpots map.empty
 are-empty = record { single = singles.single-empty; fits = λ i r is. absurd (none-some r (sym (map.get-empty nat_cmp i) ∙ is)) }
 
-are-insert : (m : Ranges) (i : ℕ) (r : Range) → AreSpots m → r.order ≡ 0 → r.value < 2 ^ 33 → AreSpots (map.insert m i r)
+are-insert : (m : Ranges) (i : ℕ) (r : Range) → AreSpots m → r.order ≡ 0 → r.value < 2 ^ 45 → AreSpots (map.insert m i r)
 are-insert m i r are order fits = record {
   single = singles.single-insert m are.single i r order;
   fits = λ q s is. elim (cases_eq q i) [
@@ -193,47 +192,41 @@ are-remove m i are = record { single = singles.single-remove m are.single i; fit
       | inr differs ↦ sym (map.get-remove nat_cmp_total m i q ∙ cond-false (eq_by_cmp nat_cmp q i) None (map.get m q) (unsigned_tied q i ∙ ne_eqb q i differs)) ∙ is
     ]
 
-spot_even : (block : ℕ) → spot_of (block * 2) ≡ record { block = block; written = false }
-spot_even block =
-    let half : block * 2 / 2 ≡ block = omega arith in
-    let even : (block * 2 % 2 == 1) ≡ false = ne_eqb (block * 2 % 2) 1 (λ e. absurd (omega arith)) in
-    λ i. record { block = half i; written = even i }
-
-spot_odd : (block : ℕ) → spot_of (block * 2 + 1) ≡ record { block = block; written = true }
-spot_odd block =
-    let half : (block * 2 + 1) / 2 ≡ block = omega arith in
-    let odd : ((block * 2 + 1) % 2 == 1) ≡ true = eq-eqb ((block * 2 + 1) % 2) 1 (omega arith) in
-    λ i. record { block = half i; written = odd i }
+spot_back : (block valid : ℕ) → valid ≤ 4096 → spot_of (block * 8192 + valid) ≡ record { block = block; valid = valid }
+spot_back block valid small =
+    let high : (block * 8192 + valid) / 8192 ≡ block = omega arith in
+    let low : (block * 8192 + valid) % 8192 ≡ valid = omega arith in
+    λ i. record { block = high i; valid = low i }
 
 -- a page gets a block
-pub added-are : (m : Ranges) (k block : ℕ) → AreSpots m → block < 2 ^ 32 → AreSpots (map.insert m k (unmarked 0 (block * 2)))
-added-are m k block are fits = are-insert m k (unmarked 0 (block * 2)) are refl (omega arith)
+pub added-are : (m : Ranges) (k word : ℕ) → AreSpots m → word < 2 ^ 45 → AreSpots (map.insert m k (unmarked 0 word))
+added-are m k word are fits = are-insert m k (unmarked 0 word) are refl fits
 
-pub added : (m : Ranges) (k block file page : ℕ) → page < 2 ^ 36 → k ≡ key_of (file, page) → spots (map.insert m k (unmarked 0 (block * 2))) ≡ map.insert (spots m) (file, page) (record { block = block; written = false })
-added m k block file page within same =
-    spots-insert m k (unmarked 0 (block * 2))
-    ∙ (λ i. map.insert (spots m) ((ap place_of same ∙ place_back file page within) i) (spot_even block i))
+pub added : (m : Ranges) (k word block valid file page : ℕ) → page < 2 ^ 36 → k ≡ key_of (file, page) → word ≡ block * 8192 + valid → valid ≤ 4096 → spots (map.insert m k (unmarked 0 word)) ≡ map.insert (spots m) (file, page) (record { block = block; valid = valid })
+added m k word block valid file page within same is small =
+    spots-insert m k (unmarked 0 word)
+    ∙ (λ i. map.insert (spots m) ((ap place_of same ∙ place_back file page within) i) ((ap spot_of is ∙ spot_back block valid small) i))
 
 pub no_entry : (m : Ranges) (k file page : ℕ) → AreSpots m → page < 2 ^ 36 → k ≡ key_of (file, page) → map.get (spots m) (file, page) ≡ None → entry_at m k ≡ None
 no_entry m k file page are within same h = singles.entry_at-none m are.single k (absent_at m k file page within same h)
 
--- a page's block is written
+-- a page's block is another
 pub held_entry : (m : Ranges) (k file page : ℕ) → AreSpots m → page < 2 ^ 36 → k ≡ key_of (file, page) → is_some (map.get (spots m) (file, page)) ≡ true → IsSome (entry_at m k)
 held_entry m k file page are within same h =
     let r = range_at m k file page within same h in
     rw (singles.entry_at-some m are.single k r.0 r.1) refl
 
-pub written-are : (m : Ranges) (k block file page : ℕ) → AreSpots m → page < 2 ^ 36 → k ≡ key_of (file, page) → is_some (map.get (spots m) (file, page)) ≡ true → block < 2 ^ 32 → AreSpots (stored m k (block * 2 + 1))
-written-are m k block file page are within same h fits =
+pub set-are : (m : Ranges) (k word file page : ℕ) → AreSpots m → page < 2 ^ 36 → k ≡ key_of (file, page) → is_some (map.get (spots m) (file, page)) ≡ true → word < 2 ^ 45 → AreSpots (stored m k word)
+set-are m k word file page are within same h fits =
     let r = range_at m k file page within same h in
-    subst AreSpots (sym (singles.stored-some m are.single k (block * 2 + 1) r.0 r.1)) (are-insert m k (with_value (block * 2 + 1) r.0) are (are.single.order k r.0 r.1) (omega arith))
+    subst AreSpots (sym (singles.stored-some m are.single k word r.0 r.1)) (are-insert m k (with_value word r.0) are (are.single.order k r.0 r.1) fits)
 
-pub written : (m : Ranges) (k block file page : ℕ) → AreSpots m → page < 2 ^ 36 → k ≡ key_of (file, page) → is_some (map.get (spots m) (file, page)) ≡ true → spots (stored m k (block * 2 + 1)) ≡ map.insert (spots m) (file, page) (record { block = block; written = true })
-written m k block file page are within same h =
+pub set : (m : Ranges) (k word block valid file page : ℕ) → AreSpots m → page < 2 ^ 36 → k ≡ key_of (file, page) → is_some (map.get (spots m) (file, page)) ≡ true → word ≡ block * 8192 + valid → valid ≤ 4096 → spots (stored m k word) ≡ map.insert (spots m) (file, page) (record { block = block; valid = valid })
+set m k word block valid file page are within same h is small =
     let r = range_at m k file page within same h in
-    ap spots (singles.stored-some m are.single k (block * 2 + 1) r.0 r.1)
-    ∙ spots-insert m k (with_value (block * 2 + 1) r.0)
-    ∙ (λ i. map.insert (spots m) ((ap place_of same ∙ place_back file page within) i) (spot_odd block i))
+    ap spots (singles.stored-some m are.single k word r.0 r.1)
+    ∙ spots-insert m k (with_value word r.0)
+    ∙ (λ i. map.insert (spots m) ((ap place_of same ∙ place_back file page within) i) ((ap spot_of is ∙ spot_back block valid small) i))
 
 -- a page's block goes
 pub erased-are : (m : Ranges) (k : ℕ) → AreSpots m → AreSpots (erased m k)

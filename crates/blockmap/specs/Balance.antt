@@ -1,5 +1,5 @@
 -- How the parts of a block map agree.
-use Rattle.std.specs.Prelude.{◌≡◌, ℕ, ◌<◌, ◌≤◌, ◌^◌, ◌||◌, Bool, true, not, length, filter, Some}
+use Rattle.std.specs.Prelude.{◌≡◌, ℕ, ◌<◌, ◌≤◌, ◌⊎◌, ◌^◌, ◌||◌, Bool, true, not, length, filter, Some}
 use Rattle.std.specs.List.{range_with_len}
 use Rattle.std.specs.Ordering.{nat_cmp}
 use Rattle.std.specs.FinMap as map
@@ -9,6 +9,10 @@ use Rattle.blockmap.specs.Blocks.{Spots, has_block, is_mapped}
 -- how many of the blocks are not used
 abbrev pub unused : set.FinSet nat_cmp → ℕ → ℕ
 unused used count = length (filter (λ b. not (set.contains used b)) (range_with_len 0 count))
+
+-- a number that is used, or not below `count`
+abbrev pub IsUsedOrPast : set.FinSet nat_cmp → ℕ → ℕ → Type 0
+IsUsedOrPast used count block = (count ≤ block) ⊎ (set.contains used block ≡ true)
 
 -- the blocks in use, of `count` blocks, are those that a page has or that are held, and `free` are not in use
 pub record IsBalanced (count free : ℕ) (spots : Spots) (used : set.FinSet nat_cmp) (held : map.FinMap nat_cmp Bool) : Type 0 where

@@ -1,5 +1,5 @@
 -- Which blocks of a device the pages of files have, and which of them requests in flight hold.
-use Rattle.std.specs.Prelude.{◌≡◌, ℕ, ◌<◌, ◌==◌, ◌&&◌, ◌||◌, nat_le, Bool, true, false, not, List, filter, Option, Some, None, option_map, if◌then◌else◌}
+use Rattle.std.specs.Prelude.{◌≡◌, ℕ, ◌<◌, ◌≤◌, ◌⊎◌, ◌==◌, ◌&&◌, ◌||◌, nat_le, Bool, true, false, not, List, filter, Option, Some, None, option_map, if◌then◌else◌}
 use Rattle.std.specs.List.{list_any, range_with_len}
 use Rattle.std.specs.Ordering.{nat_cmp}
 use Rattle.std.specs.Coded.{Coded, coded_ℕ, coded_bool, coded×, code_by}
@@ -63,6 +63,10 @@ pub record CutsFrom (old new : Blocks) (file page : ℕ) : Type 0 where
   pub spots : (place : ℕ × ℕ) → map.get new.spots place ≡ (if is_from file page place then None else map.get old.spots place)
   pub held : (block : ℕ) → map.get new.held block ≡ option_map (λ was. was || is_cut old.spots file page block) (map.get old.held block)
 
+-- the block is not to be had: it is not free, or none of the device's
+abbrev pub IsTaken : Blocks → ℕ → Type 0
+IsTaken b block = (b.count ≤ block) ⊎ (is_free b block ≡ false)
+
 -- no block is free
 pub record AllTaken (b : Blocks) : Type 0 where
   pub each : (k : ℕ) → k < b.count → is_free b k ≡ false
@@ -74,10 +78,10 @@ pub record IsBlockMap (b : Blocks) : Type 0 where
   pub alone : (p q : ℕ × ℕ) (block : ℕ) → has_block (map.get b.spots p) block ≡ true → has_block (map.get b.spots q) block ≡ true → p ≡ q
   pub cut : (block : ℕ) (is_cut : Bool) → map.get b.held block ≡ Some is_cut → is_cut ≡ not (is_mapped b.spots block)
 
--- the page's block, if it has one, is written
-abbrev pub with_written : Option Spot → ℕ × ℕ → Spots → Spots
-with_written None place spots = spots
-with_written (Some spot) place spots = map.insert spots place (record { block = spot.block; written = true })
+-- so many bytes of the page's block are the page's, if it has a block
+abbrev pub with_valid : ℕ → Option Spot → ℕ × ℕ → Spots → Spots
+with_valid valid None place spots = spots
+with_valid valid (Some spot) place spots = map.insert spots place (record { block = spot.block; valid = valid })
 
 -- one page has no block any more; where its block is held, that is cut
 abbrev pub cut_held : Option Spot → map.FinMap nat_cmp Bool → map.FinMap nat_cmp Bool

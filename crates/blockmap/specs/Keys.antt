@@ -1,5 +1,5 @@
 -- Where the pages' blocks are kept: in an array, by the file's number times 2 ^ 36 plus the page's.
-use Rattle.std.specs.Prelude.{◌≡◌, ℕ, ◌+◌, ◌*◌, ◌/◌, ◌%◌, ◌^◌, ◌<◌, ◌≤◌, ◌==◌, Some, None, is_some, true, if◌then◌else◌, map as map_list}
+use Rattle.std.specs.Prelude.{◌≡◌, ℕ, ◌+◌, ◌*◌, ◌/◌, ◌%◌, ◌^◌, ◌<◌, ◌≤◌, Some, None, is_some, true, map as map_list}
 use Rattle.std.specs.FinMap as map
 use Rattle.pc_types.specs.Spots.{Spot}
 use Rattle.xarray.specs.MarkedArray.{Range, Ranges}
@@ -12,12 +12,9 @@ key_of place = place.0 * 2 ^ 36 + place.1
 abbrev pub place_of : ℕ → ℕ × ℕ
 place_of key = (key / 2 ^ 36, key % 2 ^ 36)
 
--- an entry's value: the block's number twice, and one more where it was written
-abbrev pub word_of : Spot → ℕ
-word_of spot = spot.block * 2 + (if spot.written then 1 else 0)
-
+-- an entry's value: the block's number times 2 ^ 13, and how many of its bytes are the page's
 abbrev pub spot_of : ℕ → Spot
-spot_of word = record { block = word / 2; written = word % 2 == 1 }
+spot_of word = record { block = word / 8192; valid = word % 8192 }
 
 abbrev pub spots : Ranges → Spots
 spots m = map.from_entries (map_list (λ e. (place_of e.0, spot_of e.1.value)) (map.entries m))
@@ -25,7 +22,7 @@ spots m = map.from_entries (map_list (λ e. (place_of e.0, spot_of e.1.value)) (
 -- each entry has one index and a block below 2 ^ 32
 pub record AreSpots (m : Ranges) : Type 0 where
   pub single : AllSingle m
-  pub fits : (key : ℕ) (r : Range) → map.get m key ≡ Some r → r.value < 2 ^ 33
+  pub fits : (key : ℕ) (r : Range) → map.get m key ≡ Some r → r.value < 2 ^ 45
 
 -- a page of a file, within the limits of both
 pub record IsPage (f p : ℕ) : Type 0 where

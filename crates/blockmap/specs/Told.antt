@@ -3,4 +3,4 @@ use Rattle.pc_types.specs.Spots.{Spot}
 use Rattle.blockmap.specs.declared.spots.Placed.{Placed}
 
 abbrev pub told : Spot → Placed
-told spot = record { block = record { 0 = spot.block }; is_written = spot.written }
+told spot = record { block = record { 0 = spot.block }; valid = spot.valid }

@@ -2,7 +2,8 @@
 ghost use Rattle.std.specs.Prelude.{◌≡◌, ℕ, ◌<◌, ◌≤◌, ◌^◌, ◌↔◌, true, false, is_some, Some, None, Err, length, IfOk, IfErr, IfSome, OnOk, OnErr, IsOkUnless, IsSome, IfNone, ◌-◌, option_map};
 ghost use Rattle.std.specs.FinMap as map;
 ghost use Rattle.pc_types.specs.declared.refusal.Refusal.{Refusal};
-ghost use Rattle.blockmap.specs.Blocks.{AllTaken, CutsFrom, IsBlockMap, IsLowestFree, IsNoSpaceOrMemory, free_blocks, cut_one, is_mapped, with_written};
+ghost use Rattle.blockmap.specs.Balance.{IsUsedOrPast};
+ghost use Rattle.blockmap.specs.Blocks.{AllTaken, CutsFrom, IsBlockMap, IsLowestFree, IsNoSpaceOrMemory, IsTaken, free_blocks, cut_one, is_mapped, with_valid};
 ghost use Rattle.std.specs.FinSet as set;
 ghost use Rattle.idalloc.specs.Ids.{AllUsed, IsLowestUnused};
 ghost use Rattle.blockmap.specs.Keys.{IsPage, IsPageFrom, NoneFrom};
@@ -84,26 +85,54 @@ impl BlockMap {
         self.held.len()
     }
 
-    /// A page without a block gets the lowest free one, which is not written yet. `NoSpace`: no block is free.
+    /// A page without a block gets the lowest free one, of which no byte is the page's yet. `NoSpace`: no block is free.
     pub fn assign(&mut self, file: FileId, page: PageIndex) -> Result<BlockNo, Refusal>
         requires page { IsPage file.0 page.0 }
         requires bare { map.get self.old.spots (file.0, page.0) ≡ None }
         ensures lowest { IfOk result (λ block. IsLowestFree self.old block.0) }
-        ensures given { IfOk result (λ block. self.new ≡ record self.old { spots = map.insert self.old.spots (file.0, page.0) (record { block = block.0; written = false }) }) }
+        ensures given { IfOk result (λ block. self.new ≡ record self.old { spots = map.insert self.old.spots (file.0, page.0) (record { block = block.0; valid = 0 }) }) }
         ensures none { result ≡ Err Refusal.NoSpace ↔ AllTaken self.old }
         ensures refused { OnErr result (self.new ≡ self.old) }
         ensures only { IfErr result IsNoSpaceOrMemory }
     {
         let block = lowest_block(&mut self.used, self.count)?;
-        place(&mut self.spots, &mut self.used, file.0, page.0, block)?;
+        let placed = Placed {
+            block: BlockNo(block),
+            valid: 0,
+        };
+        place(&mut self.spots, &mut self.used, file.0, page.0, placed)?;
         self.free -= 1;
         Ok(BlockNo(block))
     }
 
-    /// A page's block, which isn't written and not held, is free again. `NoEntry`: the page has none. It takes no memory.
+    /// A page without a block gets this one, of which so many bytes are the page's: it stands there already. `NoSpace`: the block
+    /// is not free, or none of the device's.
+    pub fn adopt(
+        &mut self,
+        file: FileId,
+        page: PageIndex,
+        block: BlockNo,
+        valid: u32,
+    ) -> Result<(), Refusal>
+        requires page { IsPage file.0 page.0 }
+        requires bare { map.get self.old.spots (file.0, page.0) ≡ None }
+        requires valid { valid ≤ 4096 }
+        ensures given { OnOk result (self.new ≡ record self.old { spots = map.insert self.old.spots (file.0, page.0) (record { block = block.0; valid = valid }) }) }
+        ensures none { result ≡ Err Refusal.NoSpace ↔ IsTaken self.old block.0 }
+        ensures refused { OnErr result (self.new ≡ self.old) }
+        ensures only { IfErr result IsNoSpaceOrMemory }
+    {
+        use_block(&mut self.used, self.count, block.0)?;
+        let placed = Placed { block, valid };
+        place(&mut self.spots, &mut self.used, file.0, page.0, placed)?;
+        self.free -= 1;
+        Ok(())
+    }
+
+    /// A page's block, of which no byte is the page's and which is not held, is free again. `NoEntry`: the page has none. It takes no memory.
     pub fn unassign(&mut self, file: FileId, page: PageIndex) -> Result<(), Refusal>
         requires page { IsPage file.0 page.0 }
-        requires unwritten { IfSome (map.get self.old.spots (file.0, page.0)) (λ spot. spot.written ≡ false) }
+        requires unwritten { IfSome (map.get self.old.spots (file.0, page.0)) (λ spot. spot.valid ≡ 0) }
         requires not_held { IfSome (map.get self.old.spots (file.0, page.0)) (λ spot. map.get self.old.held spot.block ≡ None) }
         ensures freed { OnOk result (self.new ≡ record self.old { spots = map.remove self.old.spots (file.0, page.0) }) }
         ensures none { result ≡ Err Refusal.NoEntry ↔ map.get self.old.spots (file.0, page.0) ≡ None }
@@ -119,19 +148,21 @@ impl BlockMap {
         Ok(())
     }
 
-    /// A write of the page on its block has ended well. Nothing, where the page has no block.
-    /// Nothing is stored, where the block was written before.
-    pub fn set_written(&mut self, file: FileId, page: PageIndex)
-        requires { IsPage file.0 page.0 }
-        ensures { self.new ≡ record self.old { spots = with_written (map.get self.old.spots (file.0, page.0)) (file.0, page.0) self.old.spots } }
+    /// So many bytes of the page's block are the page's: a write of the page there has ended well. Nothing, where the page has no block.
+    /// Nothing is stored, where it was so before.
+    pub fn set_valid(&mut self, file: FileId, page: PageIndex, valid: u32)
+        requires page { IsPage file.0 page.0 }
+        requires valid { valid ≤ 4096 }
+        ensures { self.new ≡ record self.old { spots = with_valid valid (map.get self.old.spots (file.0, page.0)) (file.0, page.0) self.old.spots } }
     {
         let Some(placed) = self.spots.get(file.0, page.0) else {
             return;
         };
-        if placed.is_written {
+        if placed.valid == valid {
             return;
         }
-        self.spots.set_written(file.0, page.0, placed.block.0);
+        let block = placed.block;
+        self.spots.set(file.0, page.0, Placed { block, valid });
     }
 
     /// A block that a page has is held: a request on it is in flight.
@@ -251,22 +282,43 @@ fn place(
     used: &mut IdAlloc,
     file: u64,
     page: u64,
-    block: u32,
+    placed: Placed,
 ) -> Result<(), Refusal>
     requires page { IsPage file page }
+    requires valid { placed.valid ≤ 4096 }
     requires bare { map.get spots.old (file, page) ≡ None }
-    requires taken { set.contains used.old.used block ≡ true }
-    ensures spots { OnOk result (spots.new ≡ map.insert spots.old (file, page) (record { block = block; written = false })) }
+    requires taken { set.contains used.old.used placed.block.0 ≡ true }
+    ensures spots { OnOk result (spots.new ≡ map.insert spots.old (file, page) (record { block = placed.block.0; valid = placed.valid })) }
     ensures used { OnOk result (used.new.used ≡ used.old.used) }
     ensures refused { OnErr result (spots.new ≡ spots.old) }
-    ensures free { OnErr result (used.new.used ≡ set.remove used.old.used block) }
+    ensures free { OnErr result (used.new.used ≡ set.remove used.old.used placed.block.0) }
     ensures memory { IsOkUnless result Refusal.Memory }
 {
-    if let Err(refusal) = spots.add(file, page, block) {
-        give_back(used, block);
+    if let Err(refusal) = spots.add(file, page, placed) {
+        give_back(used, placed.block.0);
         return Err(refusal);
     }
     Ok(())
+}
+
+/// Uses this number, below `count`.
+fn use_block(used: &mut IdAlloc, count: u64, block: u32) -> Result<(), Refusal>
+    ensures within { OnOk result (block < count) }
+    ensures unused { OnOk result (set.contains used.old.used block ≡ false) }
+    ensures taken { OnOk result (used.new.used ≡ set.insert used.old.used block) }
+    ensures none { result ≡ Err Refusal.NoSpace ↔ IsUsedOrPast used.old.used count block }
+    ensures refused { OnErr result (used.new ≡ used.old) }
+    ensures only { IfErr result IsNoSpaceOrMemory }
+{
+    let block = block as u64;
+    if count <= block {
+        return Err(Refusal::NoSpace);
+    }
+    match used.alloc(block, block) {
+        Ok(_) => Ok(()),
+        Err(Refusal::NoId) => Err(Refusal::NoSpace),
+        Err(refusal) => Err(refusal),
+    }
 }
 
 /// Uses the lowest unused number below `count`.

@@ -1,12 +1,12 @@
 //! Where the pages of files stand, in an array: the key is the file's number times 2^36 plus the page's, and the value is
-//! twice the block's number, plus 1 where a write of the page there ended well.
-ghost use Rattle.std.specs.Prelude.{◌≡◌, ◌+◌, ◌*◌, ◌^◌, ◌<◌, ◌≤◌, Some, None, false, IfSome, IfNone, OnOk, OnErr, IsOkUnless, IsSome, option_map, true};
+//! the block's number times 2^13, plus how many of its bytes are the page's.
+ghost use Rattle.std.specs.Prelude.{◌≡◌, ◌+◌, ◌*◌, ◌^◌, ◌<◌, ◌≤◌, Some, None, IfSome, IfNone, OnOk, OnErr, IsOkUnless, IsSome, option_map};
 ghost use Rattle.pc_types.specs.declared.refusal.Refusal.{Refusal};
 ghost use Rattle.std.specs.FinMap as map;
 ghost use Rattle.blockmap.specs.Keys.{IsPage, IsPageFrom, NoneFrom, spot_of};
 ghost use Rattle.blockmap.specs.Told.{told};
 
-use pc_types::limits::{MAX_FILE_SIZE, MIN_PAGE_SIZE};
+use pc_types::limits::{MAX_FILE_SIZE, MAX_PAGE_SIZE, MIN_PAGE_SIZE};
 use pc_types::{BlockNo, Refusal};
 use std::alloc::Global;
 use std::marker::Model;
@@ -15,11 +15,14 @@ use xarray::XArray;
 /// The most pages of a file.
 pub(crate) const MAX_PAGES: u64 = MAX_FILE_SIZE / MIN_PAGE_SIZE;
 
-/// A page's block, and whether a write of the page there has ended well.
+/// The numbers of valid bytes, 0 to a page's, lie below it.
+const VALID_NUMBERS: u64 = 2 * MAX_PAGE_SIZE;
+
+/// A page's block, and how many of its first bytes are the page's. Past them the page has zeros.
 #[derive(Clone, Copy, PartialEq, Eq, Debug)]
 pub struct Placed {
     pub block: BlockNo,
-    pub is_written: bool,
+    pub valid: u32,
 }
 
 /// The block of each page that has one.
@@ -62,27 +65,26 @@ impl Spots {
         }
     }
 
-    /// A page without a block gets one, which is not written yet.
-    pub(crate) fn add(&mut self, file: u64, page: u64, block: u32) -> Result<(), Refusal>
+    /// A page without a block gets one.
+    pub(crate) fn add(&mut self, file: u64, page: u64, placed: Placed) -> Result<(), Refusal>
         requires page { IsPage file page }
+        requires valid { placed.valid ≤ 4096 }
         requires absent { map.get self.old (file, page) ≡ None }
-        ensures ok { OnOk result (self.new ≡ map.insert self.old (file, page) (record { block = block; written = false })) }
+        ensures ok { OnOk result (self.new ≡ map.insert self.old (file, page) (record { block = placed.block.0; valid = placed.valid })) }
         ensures refused { OnErr result (self.new ≡ self.old) }
         ensures memory { IsOkUnless result Refusal.Memory }
     {
-        self.array.insert(key(file, page), block as u64 * 2)
+        self.array.insert(key(file, page), word_of(placed))
     }
 
-    /// The block of a page has been written.
-    pub(crate) fn set_written(&mut self, file: u64, page: u64, block: u32)
+    /// A page that has a block has this one.
+    pub(crate) fn set(&mut self, file: u64, page: u64, placed: Placed)
         requires page { IsPage file page }
+        requires valid { placed.valid ≤ 4096 }
         requires some { IsSome (map.get self.old (file, page)) }
-        ensures { self.new ≡ map.insert self.old (file, page) (record { block = block; written = true }) }
+        ensures { self.new ≡ map.insert self.old (file, page) (record { block = placed.block.0; valid = placed.valid }) }
     {
-        let _before = self
-            .array
-            .store(key(file, page), block as u64 * 2 + 1)
-            .unwrap();
+        let _before = self.array.store(key(file, page), word_of(placed)).unwrap();
     }
 
     /// A page has no block any more. Answers the one that it had.
@@ -122,12 +124,20 @@ fn key(file: u64, page: u64) -> u64
     file * MAX_PAGES + page
 }
 
+fn word_of(placed: Placed) -> u64
+    requires { placed.valid ≤ 4096 }
+    ensures is { result ≡ placed.block.0 * 8192 + placed.valid }
+    ensures fits { result < 2 ^ 45 }
+{
+    placed.block.0 as u64 * VALID_NUMBERS + placed.valid as u64
+}
+
 fn placed_of(word: u64) -> Placed
-    requires { word < 2 ^ 33 }
+    requires { word < 2 ^ 45 }
     ensures { result ≡ told (spot_of word) }
 {
     Placed {
-        block: BlockNo((word / 2) as u32),
-        is_written: word % 2 == 1,
+        block: BlockNo((word / VALID_NUMBERS) as u32),
+        valid: (word % VALID_NUMBERS) as u32,
     }
 }

@@ -8,7 +8,7 @@ use Rattle.std.specs.Ordering.{nat_cmp}
 use Rattle.std.proofs.lemmas.Bool.{cases_eq}
 use Rattle.pc_types.specs.Kinds.{is_flush}
 use Rattle.pc_types.specs.Limits.{Sizes, is_err_code}
-use Rattle.pc_types.specs.Spots.{Spot}
+use Rattle.pc_types.specs.Spots.{Spot, shown}
 use Rattle.pc_types.specs.Tags.{no_tags}
 use Rattle.pc_types.specs.declared.ids.HandleId.{HandleId}
 use Rattle.pc_types.specs.declared.ids.PageIndex.{PageIndex}
@@ -19,7 +19,7 @@ use Rattle.pc_types.specs.declared.limits.TheConstants.{SERIAL_END}
 use Rattle.blockdev.specs.Device as device
 use Rattle.blockdev.specs.Jobs.{FinishedTask, Task}
 use Rattle.blockdev.specs.Watching.{Watch}
-use Rattle.blockmap.specs.Blocks.{Blocks, with_written}
+use Rattle.blockmap.specs.Blocks.{Blocks, with_valid}
 use Rattle.blockmap.specs.Keys.{IsPage}
 use Rattle.blockmap.specs.Told.{told}
 use Rattle.blockmap.specs.declared.spots.Placed.{Placed}
@@ -35,7 +35,7 @@ use Rattle.machine.specs.ListChanges.{lists_after, lists_unfilled}
 use Rattle.machine.specs.PageLists as lists
 use Rattle.machine.specs.PageLists.{PageLists}
 use Rattle.machine.specs.State.{State, Page, Request, Sync, block_at, file_at, free_frames, handle_file, is_cached, is_filling}
-use Rattle.machine.specs.State.{is_written, page_bytes, page_count, spot_at}
+use Rattle.machine.specs.State.{is_written, page_bytes, page_count, spot_at, valid_at}
 use Rattle.machine.specs.Changes.{after_write, requested, started, under_write}
 use Rattle.machine.specs.Tests.{is_full}
 use Rattle.machine.specs.Step.{Step}
@@ -190,7 +190,7 @@ module _ (p : Parts) (w : IsKept p) (f q : ℕ) (start : MayStart (state_by p) f
   pub write_ends : went ≡ Ok tt → (k : Store) (b : Blocks) (t : Flights)
       → k ≡ with_pages p.store f (finmap.insert (stored_at p.store f).pages q
       (after_write false (under_write (the_page (stored_at p.store f).pages q)))) p.store.free
-      → b ≡ record p.blocks { spots = with_written (finmap.get p.blocks.spots (f, q)) (f, q) p.blocks.spots }
+      → b ≡ record p.blocks { spots = with_valid p.sizes.page (finmap.get p.blocks.spots (f, q)) (f, q) p.blocks.spots }
       → t ≡ passed p.flights
       → WriteGoes reply.Written (record writing { store = k; blocks = b; flights = t })
   write_ends well k b t store blocks fly =
@@ -289,22 +289,19 @@ read_step s h p f found inside idle absent frames written room =
     (ap (λ g. requested s Fill g p.0) (sym of))
 
 module _ (p : Parts) (w : IsKept p) (f q : ℕ) (absent : is_cached (state_by p) f q ≡ false)
-    (idle : is_filling (state_by p) f q ≡ false) (b : ℕ)
-    (at : spot_at (state_by p) f q ≡ Some (record { block = b; written = true })) (place : IsPage f q)
+    (idle : is_filling (state_by p) f q ≡ false) (spot : Spot) (at : spot_at (state_by p) f q ≡ Some spot)
+    (valid : 0 < spot.valid) (place : IsPage f q)
     (here : f < length p.store.files) (frames : 0 < p.store.free) (serials : p.flights.next < SERIAL_END)
     (before after : List ℕ) (went : device.Outcome) where
-  abbrev spot : Spot
-  spot = record { block = b; written = true }
-
   abbrev pub read_job : Task
-  read_job = record { cache = p.name; serial = p.flights.next; kind = Fill; block = b; bytes = before }
+  read_job = record { cache = p.name; serial = p.flights.next; kind = Fill; block = spot.block; bytes = before }
 
   abbrev pub read_done : FinishedTask
   read_done = record {
     cache = p.name;
     serial = p.flights.next;
     kind = Fill;
-    block = b;
+    block = spot.block;
     bytes = after;
     outcome = went;
   }
@@ -313,10 +310,10 @@ module _ (p : Parts) (w : IsKept p) (f q : ℕ) (absent : is_cached (state_by p)
   being_read = reading p w f q absent idle spot at
 
   being_kept : IsKept being_read
-  being_kept = reading_cache p w f q absent idle spot at place here refl frames serials
+  being_kept = reading_cache p w f q absent idle spot at place here valid frames serials
 
   pub is_read_job : IsJobOf (state_by being_read) read_job (λ x. read_job.bytes)
-  is_read_job = fill_job (state_by p) (state_by being_read) f q b at refl read_job refl refl refl refl
+  is_read_job = fill_job (state_by p) (state_by being_read) f q spot.block (ap (option_map (λ (x : Spot). x.block)) at) refl read_job refl refl refl refl
 
   abbrev wanted : Request
   wanted = record { kind = Fill; file = f; page = q; block = unwrap_or (block_at (state_by p) f q) 0; dropped = false }
@@ -372,12 +369,18 @@ module _ (p : Parts) (w : IsKept p) (f q : ℕ) (absent : is_cached (state_by p)
   let_go = held_again p w wanted.block (ap (finmap.get p.blocks.held) (block_is w.core f q absent idle spot at)
       ∙ unheld_absent w.core f q absent idle spot at)
 
-  pub read_ends : went ≡ Ok tt → length after ≡ p.sizes.page → (k0 k : Store) (t : Flights) → k0 ≡ being_read.store
-      → k ≡ filled k0 f q after → t ≡ passed p.flights
+  -- what the block shows, by the state
+  shows : shown being_read.store.page spot.valid after ≡ shown p.sizes.page (valid_at (state_by being_read) f q) after
+  shows = λ i. shown (w.core.page i)
+      (sym (ap (λ o. unwrap_or (option_map (λ (x : Spot). x.valid) o) 0) at) i) after
+
+  pub read_ends : went ≡ Ok tt → (k0 k : Store) (t : Flights) → k0 ≡ being_read.store
+      → k ≡ filled k0 f q (shown k0.page spot.valid after) → t ≡ passed p.flights
       → ReadGoes reply.Filled (record being_read { store = k; blocks = p.blocks; flights = t })
-  read_ends well size k0 k t begun store fly =
-      fill_done being_read being_kept read_done wanted (state_by being_read) refl read_ends_it refl well size k p.blocks t
-      (store ∙ ap (λ s. filled s f q after) begun) let_go (fly ∙ passed_is p w wanted)
+  read_ends well k0 k t begun store fly =
+      fill_done being_read being_kept read_done wanted (state_by being_read) refl read_ends_it refl well k p.blocks t
+      (store ∙ ap (λ (s : Store). filled s f q (shown s.page spot.valid after)) begun ∙ ap (filled being_read.store f q) shows)
+      let_go (fly ∙ passed_is p w wanted)
 
   pub read_fails : (code : ℕ) → went ≡ Err code → (k0 k : Store) (t : Flights) → k0 ≡ being_read.store
       → k ≡ record k0 {

@@ -8,14 +8,16 @@ use Rattle.std.specs.List.{list_any, range_with_len, zip}
 use Rattle.std.specs.Ordering.{nat_cmp}
 use Rattle.std.specs.Cmp.{nat_cmp_total}
 use Rattle.std.specs.FinMap as finmap
-use Rattle.std.specs.FinMap.{FinMap, get-empty, len-empty, len-entries, len-insert}
+use Rattle.std.specs.FinMap.{FinMap, get-empty, len-empty, len-insert}
 use Rattle.std.proofs.lemmas.Bool.{false≢true}
-use Rattle.std.proofs.lemmas.List.Sums.{sum_by_push, sum_by-le-sum_by, count_by-le-length, length-filter}
+use Rattle.std.proofs.lemmas.List.Sums.{sum_by_push, length-filter}
 use Rattle.pc_types.specs.Limits.{Sizes}
 use Rattle.pc_types.specs.declared.limits.TheConstants.{MAX_FILES, MAX_FILE_SIZE, MAX_FRAMES}
 use Rattle.pc_types.specs.declared.refusal.Refusal.TheVariants.{DirtyLimit, NoFrame, NoSpace}
+use Rattle.machine.specs.Catalogs.{no_catalog}
+use Rattle.machine.proofs.changes.Adopted.{no_catalog_is}
 use Rattle.machine.specs.State.{State, Page, File, Request, Sync, no_file, file_at, is_cached, is_filling}
-use Rattle.machine.specs.State.{tags_at, dirty_in, dirty_total, handle_file, fills, filling_total, free_frames}
+use Rattle.machine.specs.State.{tags_at, dirty_total, handle_file, fills, filling_total, free_frames}
 use Rattle.machine.specs.State.{free_blocks, without_block, touched, touched_count}
 use Rattle.pc_types.specs.Kinds.{is_fill}
 use Rattle.pc_types.specs.Spots.{Spot, place_cmp}
@@ -95,7 +97,7 @@ core-first sizes name h = record {
   filed = λ t r e. absurd (no_request t r e);
   failed = λ f. (let none = len-empty nat_cmp Request in omega (arith, none));
   serials = omega arith;
-  sound = histories_are_sound sizes name [] (first_state sizes name) refl;
+  sound = histories_are_sound no_catalog sizes name [] (first_state sizes name) (no_catalog_is sizes) refl;
 }
   where
     no_request : (t : ℕ) (r : Request) → finmap.get (finmap.empty {X = Request} {R = nat_cmp}) t ≡ Some r → ⊥
@@ -243,7 +245,7 @@ module _ {s : State} {store : Store} {blocks : Blocks} (c : IsCore s store block
 
     placed_are : (f : ℕ) (pages : List ℕ) → placed_on blocks f pages ≡ placed s f pages
     placed_are f pages =
-        λ i. overwrite (map (λ (e : ℕ × ℕ). ((f, e.0), record { block = e.1; written = false }))
+        λ i. overwrite (map (λ (e : ℕ × ℕ). ((f, e.0), record { block = e.1; valid = 0 }))
         (zip (sym (bare_are f pages) i) (sym free_blocks_are i))) (sym spots i)
 
     -- ---- whether there is room, as the code tests it

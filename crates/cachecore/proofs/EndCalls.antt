@@ -1,6 +1,6 @@
 -- The ends of requests, way by way: the step of the machine, and what the cache keeps.
-use Rattle.std.proofs.Common.{◌≡◌, ℕ, ◌+◌, ◌^◌, ◌<◌, ◌≤◌, Bool, true, false, cond, length, get_or-set_same, refl}
-use Rattle.std.proofs.Common.{ap, sym, ◌∙◌, arith}
+use Rattle.std.proofs.Common.{◌≡◌, ℕ, ◌+◌, ◌^◌, ◌<◌, ◌≤◌, Bool, true, false, cond, get_or-set_same, refl}
+use Rattle.std.proofs.Common.{List, ap, sym, ◌∙◌, arith}
 use Rattle.std.specs.Prelude.{Option, Some, None, Ok, Err, IsTrue, is_some, option_map, slice_set}
 use Rattle.std.specs.Ordering.{nat_cmp}
 use Rattle.std.specs.FinMap as finmap
@@ -9,12 +9,13 @@ use Rattle.std.specs.FinSet as set
 use Rattle.std.proofs.lemmas.List.{set-set}
 use Rattle.pc_types.specs.Kinds.{is_flush}
 use Rattle.pc_types.specs.Limits.{is_err_code}
-use Rattle.pc_types.specs.Spots.{Spot, place_cmp}
+use Rattle.pc_types.specs.Spots.{Spot, place_cmp, shown}
+use Rattle.pc_types.proofs.SpotLaws.{length-shown}
 use Rattle.pc_types.specs.Tags.{no_tags}
 use Rattle.pc_types.specs.declared.kind.Kind.{Kind}
 use Rattle.pc_types.specs.declared.kind.Kind.TheVariants.{Fill, Flush}
 use Rattle.blockdev.specs.Jobs.{FinishedTask}
-use Rattle.blockmap.specs.Blocks.{Blocks, with_written}
+use Rattle.blockmap.specs.Blocks.{Blocks, with_valid}
 use Rattle.mapping.proofs.MapLemmas.{len_remove_old}
 use Rattle.writeback.specs.Flights as flights
 use Rattle.writeback.specs.Flights.{Flights}
@@ -24,7 +25,7 @@ use Rattle.machine.specs.declared.event.Outcome.TheVariants as outcome
 use Rattle.machine.specs.declared.event.Reply.{Reply}
 use Rattle.machine.specs.declared.event.Reply.TheVariants as reply
 use Rattle.machine.specs.PageLists as lists
-use Rattle.machine.specs.State.{State, File, Page, Request, no_file, page_at, tags_of}
+use Rattle.machine.specs.State.{State, File, Page, Request, no_file, page_at, tags_of, valid_at}
 use Rattle.machine.specs.Changes.{ended, after_write, flush_failed}
 use Rattle.pagestore.specs.Store.{the_page, Store, is_awaited, stored_at, stored_page, with_pages}
 use Rattle.cachecore.specs.Replies.{end_of, outcome_of}
@@ -40,13 +41,13 @@ tagged_cached : (o : Option Page) → (tags_of o).writeback ≡ true → is_some
 tagged_cached None e = absurd cc
 tagged_cached (Some page) e = refl
 
--- the block of a page that has one is written
-written_is : (o : Option Spot) (b : ℕ) (place : ℕ × ℕ) (spots : finmap.FinMap place_cmp Spot)
+-- so many bytes of the block of a page that has one are valid
+valid_is : (o : Option Spot) (b n : ℕ) (place : ℕ × ℕ) (spots : finmap.FinMap place_cmp Spot)
     → option_map (λ (x : Spot). x.block) o ≡ Some b
-    → with_written o place spots ≡ finmap.insert spots place (record { block = b; written = true })
-written_is None b place spots e = absurd cc
-written_is (Some x) b place spots e =
-    (let same : x.block ≡ b = cc in ap (λ k. finmap.insert spots place (record { block = k; written = true })) same)
+    → with_valid n o place spots ≡ finmap.insert spots place (record { block = b; valid = n })
+valid_is None b n place spots e = absurd cc
+valid_is (Some x) b n place spots e =
+    (let same : x.block ≡ b = cc in ap (λ k. finmap.insert spots place (record { block = k; valid = n })) same)
 
 module _ (p : Parts)
     (w : IsKept p) (f : FinishedTask) (x : Request)
@@ -126,30 +127,34 @@ module _ (p : Parts)
           (λ i. let y : Parts = record p { store = store i; blocks = blocks i; flights = requests i } in y)
           (unfilled code failed)
 
+      -- what the page's block shows of it
+      abbrev pub bytes : List ℕ
+      bytes = shown p.sizes.page (valid_at s x.file x.page) f.bytes
+
       abbrev filled : Store
-      filled = record (repaged (finmap.insert file.pages x.page (record { bytes = f.bytes; tags = no_tags })))
+      filled = record (repaged (finmap.insert file.pages x.page (record { bytes = bytes; tags = no_tags })))
           { filling = set.remove p.store.filling (x.file, x.page) }
 
-      is_filled : f.outcome ≡ Ok tt → length f.bytes ≡ p.sizes.page
-          → Ended Fill reply.Filled (record left { store = filled })
-      is_filled went size = record {
+      is_filled : f.outcome ≡ Ok tt → Ended Fill reply.Filled (record left { store = filled })
+      is_filled went = record {
         step = end_step s Fill f x e (outcome.Read f.bytes) (ap (λ o. outcome_of Fill o f.bytes) went) reply.Filled _
             live refl;
         cache = record {
-          core = filled_core w.core f.serial x e.found live e.kind_is f.bytes size filled refl refl
+          core = filled_core w.core f.serial x e.found live e.kind_is bytes
+              (length-shown p.sizes.page (valid_at s x.file x.page) f.bytes) filled refl refl
               refl;
           syncs = moved_syncs p.handles p.store.files p.syncs w.syncs filled.files
-              (pages_failed (repaged (finmap.insert file.pages x.page (record { bytes = f.bytes; tags = no_tags })))
+              (pages_failed (repaged (finmap.insert file.pages x.page (record { bytes = bytes; tags = no_tags })))
               p.store x.file _ _ refl);
         };
       }
 
-      pub fill_done : f.outcome ≡ Ok tt → length f.bytes ≡ p.sizes.page → (k : Store) (b : Blocks) (t : Flights)
+      pub fill_done : f.outcome ≡ Ok tt → (k : Store) (b : Blocks) (t : Flights)
           → k ≡ filled → b ≡ left.blocks → t ≡ left.flights
           → Seen Fill reply.Filled (record p { store = k; blocks = b; flights = t })
-      fill_done went size k b t store blocks requests = seen_to Fill reply.Filled _ _
+      fill_done went k b t store blocks requests = seen_to Fill reply.Filled _ _
           (λ i. let y : Parts = record p { store = store i; blocks = blocks i; flights = requests i } in y)
-          (is_filled went size)
+          (is_filled went)
 
   -- ---- flushes
 
@@ -186,16 +191,16 @@ module _ (p : Parts)
       block_written =
           record left.blocks {
             spots =
-                finmap.insert p.blocks.spots (x.file, x.page) (record { block = x.block; written = true });
+                finmap.insert p.blocks.spots (x.file, x.page) (record { block = x.block; valid = p.sizes.page });
           }
 
       -- as the blocks' call says it
       abbrev marked : Blocks → Blocks
-      marked b = record b { spots = with_written (finmap.get b.spots (x.file, x.page)) (x.file, x.page) b.spots }
+      marked b = record b { spots = with_valid p.sizes.page (finmap.get b.spots (x.file, x.page)) (x.file, x.page) b.spots }
 
       written_here : marked left.blocks ≡ block_written
       written_here =
-          let spots = written_is (finmap.get p.blocks.spots (x.file, x.page)) x.block (x.file, x.page) p.blocks.spots
+          let spots = valid_is (finmap.get p.blocks.spots (x.file, x.page)) x.block p.sizes.page (x.file, x.page) p.blocks.spots
           (w.core.sound.mapped f.serial x e.found live) in
           λ i. let b : Blocks = record left.blocks { spots = spots i } in b
 

@@ -1,5 +1,5 @@
 -- What is left of the begin of a fill after its first tests: its job, and what the cache keeps.
-use Rattle.std.proofs.Common.{◌≡◌, ℕ, ◌-◌, ◌<◌, false, true, length, refl, ap, sym, ◌∙◌}
+use Rattle.std.proofs.Common.{◌≡◌, ℕ, ◌-◌, ◌<◌, false, length, refl, ap, sym, ◌∙◌}
 use Rattle.std.specs.Prelude.{Some, option_map, unwrap_or}
 use Rattle.std.specs.FinMap as finmap
 use Rattle.std.specs.FinSet as set
@@ -22,13 +22,13 @@ use Rattle.cachecore.proofs.Parts.{IsKept, Parts, state_by}
 use Rattle.cachecore.proofs.SyncLaws.{moved_syncs}
 
 -- the job of the request that began
-pub fill_job : (old new : State) (f p b : ℕ) → spot_at old f p ≡ Some (record { block = b; written = true })
+pub fill_job : (old new : State) (f p b : ℕ) → option_map (λ (x : Spot). x.block) (spot_at old f p) ≡ Some b
     → new ≡ requested old Fill f p → (job : Task) → job.serial ≡ old.next → job.cache ≡ new.name → job.kind ≡ Fill
     → job.block ≡ b → IsJobOf new job (λ x. job.bytes)
 fill_job old new f p b at is job next name kind block =
     let taken : ℕ = unwrap_or (block_at old f p) 0 in
     let request : Request = record { kind = Fill; file = f; page = p; block = taken; dropped = false } in
-    let taken_is : taken ≡ b = ap (λ o. unwrap_or (option_map (λ (x : Spot). x.block) o) 0) at in (
+    let taken_is : taken ≡ b = ap (λ o. unwrap_or o 0) at in (
       request,
       ap (λ (s : State). finmap.get s.requests job.serial) is
           ∙ get-insert_here old.requests old.next request job.serial next,
@@ -65,7 +65,7 @@ module _ (p : Parts)
       flights = flights.begun p.flights (request block);
     }
 
-    pub reading_cache : IsPage f q → f < length p.store.files → spot.written ≡ true → 0 < p.store.free
+    pub reading_cache : IsPage f q → f < length p.store.files → 0 < spot.valid → 0 < p.store.free
         → p.flights.next < SERIAL_END → IsKept reading
     reading_cache place here written some room = record {
       core = fill_begun_core w.core f q absent idle spot at place here written some room;

@@ -1,7 +1,8 @@
 -- What a cache keeps as a page begins to be read from its block.
 use Rattle.std.proofs.Common.{◌≡◌, ℕ, ◌+◌, ◌-◌, ◌<◌, Bool, true, false, cond, eqb, eqb-true, eq-eqb, length, refl}
 use Rattle.std.proofs.Common.{ap, sym, subst, ◌∙◌, arith, inl, inr}
-use Rattle.std.specs.Prelude.{◌&&◌, Option, Some, None, option_map, unwrap_or}
+use Rattle.std.specs.Prelude.{◌&&◌, Option, Some, None, nat_lt, option_map, unwrap_or}
+use Rattle.std.proofs.lemmas.Bool.Decides.{nat_tests}
 use Rattle.std.specs.FinMap as finmap
 use Rattle.std.specs.FinMap.{FinMap}
 use Rattle.std.specs.FinSet as set
@@ -29,6 +30,10 @@ use Rattle.cachecore.proofs.SoundFacts.{unheld_absent}
 use Rattle.maps.proofs.Maps.{get_inserted}
 use Rattle.machine.proofs.sound.Pages.{filling_sound}
 use Rattle.pagestore.proofs.StoreEntries.{contains-put_in}
+
+-- as a test has it
+pub lt_true : (a b : ℕ) → a < b → nat_lt a b ≡ true
+lt_true a b h = grind (arith, nat_tests)
 
 module _ {s : State} {store : Store} {blocks : Blocks} (c : IsCore s store blocks) (f p : ℕ)
     (absent : is_cached s f p ≡ false) (idle : is_filling s f p ≡ false) (spot : Spot)
@@ -72,7 +77,7 @@ module _ {s : State} {store : Store} {blocks : Blocks} (c : IsCore s store block
       let h = fills_of g q new passes in
       false≢true (sym e ∙ (λ i. eq-eqb g f (sym h.2) i && eq-eqb q p (sym h.3) i)))))
 
-  module _ (place : IsPage f p) (here : f < length s.files) (written : spot.written ≡ true) (some : 0 < store.free)
+  module _ (place : IsPage f p) (here : f < length s.files) (written : 0 < spot.valid) (some : 0 < store.free)
       (room : s.next < SERIAL_END) where
     pub fill_begun_core : IsCore (requested s Fill f p) filling_store
         (record blocks { spots = s.spots; held = finmap.insert blocks.held (block) false })
@@ -103,5 +108,5 @@ module _ {s : State} {store : Store} {blocks : Blocks} (c : IsCore s store block
           failed = λ g. (let a = c.failed g in omega arith);
           serials = omega arith;
           sound = filling_sound s c.sound f p absent idle
-              (ap (λ (o : Option Spot). unwrap_or (option_map (λ (x : Spot). x.written) o) false) at ∙ written);
+              (ap (λ (o : Option Spot). nat_lt 0 (unwrap_or (option_map (λ (x : Spot). x.valid) o) 0)) at ∙ lt_true 0 spot.valid written);
         })

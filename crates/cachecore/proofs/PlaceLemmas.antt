@@ -157,7 +157,7 @@ module _ (b : Blocks) (f p end : ℕ) (less : p < end) where
     placed_past =
         sym (ap (λ n. with_placed b f (range_with_len p n)) one_more
         ∙ ap (λ t. let m : Spots =
-        overwrite (map (λ (e : ℕ × ℕ). ((f, e.0), record { block = e.1; written = false }))
+        overwrite (map (λ (e : ℕ × ℕ). ((f, e.0), record { block = e.1; valid = 0 }))
         (zip (cond t (p ∷ filter (is_bare b f) (range_with_len (p + 1) (end - (p + 1))))
         (filter (is_bare b f) (range_with_len (p + 1) (end - (p + 1))))) (free_blocks b))) b.spots in
         let c : Blocks = record { count = b.count; spots = m; held = b.held } in c) there)
@@ -175,7 +175,7 @@ module _ (b : Blocks) (f p end : ℕ) (less : p < end) where
 
     module _ (x : ℕ) (low : IsLowestFree b x) where
       abbrev pub given : Spot
-      given = record { block = x; written = false }
+      given = record { block = x; valid = 0 }
 
       abbrev pub c : Blocks
       c = record b { spots = finmap.insert b.spots (f, p) given }
@@ -228,7 +228,7 @@ module _ (b : Blocks) (f p end : ℕ) (less : p < end) where
           omega (arith, h, n, m, same)
 
       abbrev taking : List (ℕ × ℕ) → List ((ℕ × ℕ) × Spot)
-      taking es = map (λ (e : ℕ × ℕ). ((f, e.0), record { block = e.1; written = false })) es
+      taking es = map (λ (e : ℕ × ℕ). ((f, e.0), record { block = e.1; valid = 0 })) es
 
       pub placed_more : with_placed c f (range_with_len (p + 1) (end - (p + 1)))
           ≡ with_placed b f (range_with_len p (end - p))
@@ -249,8 +249,8 @@ module _ (b : Blocks) (f p end : ℕ) (less : p < end) where
           λ i. record { count = b.count; spots = same i; held = b.held }
         where
           nothing : (t : Bool) (o : Option ℕ) → o ≡ None
-              → cond t (option_map (λ (k : ℕ). let y : Spot = record { block = k; written = false } in y) o) None ≡ None
-          nothing true o e = ap (option_map (λ (k : ℕ). let y : Spot = record { block = k; written = false } in y)) e
+              → cond t (option_map (λ (k : ℕ). let y : Spot = record { block = k; valid = 0 } in y) o) None ≡ None
+          nothing true o e = ap (option_map (λ (k : ℕ). let y : Spot = record { block = k; valid = 0 } in y)) e
           nothing false o e = refl
 
       -- it is not held
@@ -269,11 +269,11 @@ pub record IsGiven (b : Blocks) (f p : ℕ) (now : Blocks) : Type 0 where
   pub block : ℕ
   pub none : finmap.get b.spots (f, p) ≡ None
   pub low : IsLowestFree b block
-  pub is : now ≡ record b { spots = finmap.insert b.spots (f, p) (record { block = block; written = false }) }
+  pub is : now ≡ record b { spots = finmap.insert b.spots (f, p) (record { block = block; valid = 0 }) }
 
 pub is_given : (b now : Blocks) (f p : ℕ) (r : Result BlockNo Refusal) → finmap.get b.spots (f, p) ≡ None
     → false ≡ is_err r → IfOk r (λ x. IsLowestFree b x.0)
-    → IfOk r (λ x. now ≡ record b { spots = finmap.insert b.spots (f, p) (record { block = x.0; written = false }) })
+    → IfOk r (λ x. now ≡ record b { spots = finmap.insert b.spots (f, p) (record { block = x.0; valid = 0 }) })
     → IsGiven b f p now
 is_given b now f p (Ok x) none ok low is = record { block = x.0; none = none; low = low; is = is }
 is_given b now f p (Err e) none ok low is = absurd (false≢true ok)
@@ -290,13 +290,13 @@ module _ (b now : Blocks) (f p end : ℕ) (less : p < end) (g : IsGiven b f p no
   placed_given final e = e ∙ ap (λ (n : Blocks). with_placed n f (range_with_len (p + 1) (end - (p + 1)))) g.is
       ∙ placed_more b f p end less g.none g.block g.low
 
-  there : finmap.get now.spots (f, p) ≡ Some (record { block = g.block; written = false })
+  there : finmap.get now.spots (f, p) ≡ Some (record { block = g.block; valid = 0 })
   there = ap (λ (n : Blocks). finmap.get n.spots (f, p)) g.is
-      ∙ put_here b.spots (f, p) (record { block = g.block; written = false })
+      ∙ put_here b.spots (f, p) (record { block = g.block; valid = 0 })
 
   -- what `unassign` asks for
-  pub given_unwritten : IfSome (finmap.get now.spots (f, p)) (λ spot. spot.written ≡ false)
-  given_unwritten = subst (λ (o : Option Spot). IfSome o (λ spot. spot.written ≡ false)) (sym there) refl
+  pub given_unwritten : IfSome (finmap.get now.spots (f, p)) (λ spot. spot.valid ≡ 0)
+  given_unwritten = subst (λ (o : Option Spot). IfSome o (λ spot. spot.valid ≡ 0)) (sym there) refl
 
   pub given_unheld : IfSome (finmap.get now.spots (f, p)) (λ spot. finmap.get now.held spot.block ≡ None)
   given_unheld = subst (λ (o : Option Spot). IfSome o (λ spot. finmap.get now.held spot.block ≡ None)) (sym there)
@@ -309,7 +309,7 @@ module _ (b now : Blocks) (f p end : ℕ) (less : p < end) (g : IsGiven b f p no
       freed ∙ ap (λ (n : Blocks). let m : Blocks = record n { spots = finmap.remove n.spots (f, p) } in m) g.is
       ∙ (λ i. record {
         count = b.count;
-        spots = taken_back b.spots f p (record { block = g.block; written = false })
+        spots = taken_back b.spots f p (record { block = g.block; valid = 0 })
             g.none i;
         held = b.held;
       })

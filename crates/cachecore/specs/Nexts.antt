@@ -1,13 +1,14 @@
 -- Inside this crate: what an event that may begin a request comes to, where the request is left to the caller to begin.
 use Rattle.std.specs.Prelude.{◌≡◌, ◌<◌, ℕ, Bool, true, false, length, Some, Result, Ok, Err}
 use Rattle.mapping.specs.declared.mapping.TheConstants.{MAX_PAGES}
-use Rattle.pc_types.specs.declared.ids.BlockNo.{BlockNo}
+use Rattle.pc_types.specs.Spots.{Spot}
 use Rattle.pc_types.specs.declared.ids.FileId.{FileId}
 use Rattle.pc_types.specs.declared.ids.PageIndex.{PageIndex}
 use Rattle.pc_types.specs.declared.refusal.Refusal.{Refusal}
 use Rattle.machine.specs.declared.event.Reply.{Reply}
 use Rattle.machine.specs.declared.event.Reply.TheVariants as reply
 use Rattle.machine.specs.State.{State, file_at, free_frames, is_cached, is_filling, page_count, spot_at}
+use Rattle.blockmap.specs.declared.spots.Placed.{Placed}
 use Rattle.cachecore.specs.declared.fills.FillNext.{FillNext}
 use Rattle.cachecore.specs.declared.fills.FillNext.TheVariants as fill
 use Rattle.cachecore.specs.declared.syncs.SyncNext.{SyncNext}
@@ -20,8 +21,8 @@ abbrev pub is_read : Result FillNext Refusal → Bool
 is_read (Ok (fill.Read f b)) = true
 is_read _ = false
 
-abbrev pub OnRead : (FileId → BlockNo → Type 0) → FillNext → Type 0
-OnRead P (fill.Read f b) = P f b
+abbrev pub OnRead : (FileId → Placed → Type 0) → FillNext → Type 0
+OnRead P (fill.Read f x) = P f x
 OnRead P _ = Unit {0}
 
 -- the reply, where no page is left to be read
@@ -33,16 +34,21 @@ fill_says (Ok fill.Filled) = reply.Filled
 fill_says (Ok (fill.Read f b)) = reply.Done
 fill_says (Err r) = reply.Refused r
 
--- page p of file f is absent, and its bytes are on block b alone
-pub record IsToRead (s : State) (f p b : ℕ) : Type 0 where
+-- the spot that is told
+abbrev pub its_spot : Placed → Spot
+its_spot placed = record { block = placed.block.0; valid = placed.valid }
+
+-- page p of file f is absent, and its bytes are on the device alone, where it stands
+pub record IsToRead (s : State) (f p : ℕ) (x : Placed) : Type 0 where
   pub here : f < length s.files
   pub below : p < MAX_PAGES
   pub inside : p < page_count s.sizes.page (file_at s f).size
   pub absent : is_cached s f p ≡ false
   pub idle : is_filling s f p ≡ false
   pub room : 0 < free_frames s
-  pub placed : spot_at s f p ≡ Some (record { block = b; written = true })
-  pub within : b < s.sizes.blocks
+  pub placed : spot_at s f p ≡ Some (its_spot x)
+  pub valid : 0 < x.valid
+  pub within : x.block.0 < s.sizes.blocks
 
 -- ---- syncs
 

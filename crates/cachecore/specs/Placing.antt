@@ -1,5 +1,5 @@
 -- Inside this crate: the blocks that the pages of a write take.
-use Rattle.std.specs.Prelude.{◌≡◌, ◌<◌, ◌≤◌, ℕ, Bool, true, false, not, List, map, filter, is_some}
+use Rattle.std.specs.Prelude.{◌≡◌, ◌<◌, ◌≤◌, ℕ, Bool, true, not, List, map, filter, is_some}
 use Rattle.std.specs.List.{zip}
 use Rattle.std.specs.FinMap.{get}
 use Rattle.maps.specs.Maps.{overwrite}
@@ -16,11 +16,11 @@ pub record HasBare (f first end : ℕ) (b : Blocks) : Type 0 where
   pub before : page < end
   pub bare : is_bare b f page ≡ true
 
--- the k-th of these pages that has no block takes the k-th free block, which is not yet written
+-- the k-th of these pages that has no block takes the k-th free block, of which no byte is the page's yet
 abbrev pub placed_on : Blocks → ℕ → List ℕ → Spots
 placed_on b f pages =
     let blocks = zip (filter (is_bare b f) pages) (free_blocks b) in
-    overwrite (map (λ e. ((f, e.0), record { block = e.1; written = false })) blocks) b.spots
+    overwrite (map (λ e. ((f, e.0), record { block = e.1; valid = 0 })) blocks) b.spots
 
 -- the blocks after that
 abbrev pub with_placed : Blocks → ℕ → List ℕ → Blocks

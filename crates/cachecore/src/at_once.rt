@@ -11,8 +11,9 @@ use crate::cache::CacheCore;
 use crate::fills::FillNext;
 use crate::syncs::SyncNext;
 use blockdev::{BlockDevice, Watched};
+use blockmap::Placed;
 use machine::{Event, Reply};
-use pc_types::{BlockNo, FileId, HandleId, PageIndex, Refusal, SyncId};
+use pc_types::{FileId, HandleId, PageIndex, Refusal, SyncId};
 
 /// What comes of an event that may begin a request, where the request is carried out and ended at once.
 #[derive(Drop, Debug)]
@@ -35,7 +36,7 @@ impl CacheCore {
         ensures { MakesAtOnce self.old (Event.FillBegin handle page) device.old result self.new device.new }
     {
         match self.next_fill(handle, page) {
-            Ok(FillNext::Read(file, block)) => self.read_at_once(device, file, page, block),
+            Ok(FillNext::Read(file, placed)) => self.read_at_once(device, file, page, placed),
             Ok(FillNext::Gone) => AtOnce::Answered(Reply::Gone),
             Ok(FillNext::Wait(page)) => AtOnce::Answered(Reply::Wait(page)),
             Ok(FillNext::Present) => AtOnce::Answered(Reply::Present),
@@ -86,10 +87,10 @@ impl CacheCore {
         device: &mut Watched<D>,
         file: FileId,
         page: PageIndex,
-        block: BlockNo,
+        placed: Placed,
     ) -> AtOnce
         requires device { IsDeviceOf self.old.state device.old }
-        requires reads { IsToRead self.old.state file.0 page.0 block.0 }
+        requires reads { IsToRead self.old.state file.0 page.0 placed }
         ensures { (h : HandleId) → map.get self.old.state.handles h.0 ≡ Some file.0 → MakesAtOnce self.old (Event.FillBegin h page) device.old result self.new device.new }
     {
         if self.requests.is_full() {
@@ -100,7 +101,11 @@ impl CacheCore {
         }
         // Nobody sees the cache before the request is over, so all that is left of it is that its serial is taken.
         self.requests.pass();
-        match self.pages.fill_by(device, block, file.0, page.0) {
+        let valid = placed.valid as usize;
+        match self
+            .pages
+            .fill_by(device, placed.block, file.0, page.0, valid)
+        {
             Ok(()) => AtOnce::Ended(file, Reply::Filled),
             Err(code) => {
                 self.pages.leave(file.0, page.0);
@@ -131,7 +136,8 @@ impl CacheCore {
         self.pages.write_through(file.0, page.0, written.is_err());
         match written {
             Ok(()) => {
-                self.blocks.set_written(file, page);
+                self.blocks
+                    .set_valid(file, page, self.geometry.page() as u32);
                 Reply::Written
             }
             Err(code) => {

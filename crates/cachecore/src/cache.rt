@@ -255,7 +255,7 @@ impl CacheCore {
             return false;
         }
         match self.blocks.map(FileId(file), PageIndex(page)) {
-            Some(placed) => placed.is_written,
+            Some(placed) => placed.valid > 0,
             None => false,
         }
     }

@@ -1,6 +1,6 @@
 //! Fills: an absent page read in from its block.
 
-ghost use Rattle.std.specs.Prelude.{◌≡◌, ◌<◌, Some, IfErr, IfNone, IfOk, IfSome, false, length, true, if◌then◌else◌};
+ghost use Rattle.std.specs.Prelude.{◌≡◌, ◌<◌, Some, IfErr, IfNone, IfOk, IfSome, false, length, true, option_map, unwrap_or, if◌then◌else◌};
 ghost use Rattle.std.specs.FinMap as map;
 ghost use Rattle.blockdev.specs.Jobs.{IsJobFor};
 ghost use Rattle.mapping.specs.declared.mapping.TheConstants.{MAX_PAGES};
@@ -11,14 +11,15 @@ ghost use Rattle.machine.specs.Changes.{requested};
 ghost use Rattle.machine.specs.Step.{Step};
 ghost use Rattle.machine.specs.PageLists.{entered};
 ghost use Rattle.machine.specs.ListChanges.{lists_filling, lists_after};
-ghost use Rattle.cachecore.specs.Nexts.{IsToRead, OnRead, fill_says, is_read};
+ghost use Rattle.cachecore.specs.Nexts.{IsToRead, OnRead, fill_says, is_read, its_spot};
 ghost use Rattle.cachecore.specs.Replies.{EndGivesBack, GivesBack, IsFillJob, OnFillJob, end_of, fill_begun, fill_ended};
 
 use crate::answers::{Ended, FillBegun, Refused, RefusedEnd};
 use crate::cache::{CacheCore, page_count};
 use blockdev::{Buffer, Finished, FinishedParts, Job};
+use blockmap::Placed;
 use machine::Event;
-use pc_types::{BlockNo, FileId, HandleId, Kind, PageIndex, Refusal, Serial};
+use pc_types::{FileId, HandleId, Kind, PageIndex, Refusal, Serial};
 
 /// What a fill of a page comes to.
 #[derive(Clone, Copy)]
@@ -30,8 +31,8 @@ pub(crate) enum FillNext {
     Present,
     /// The page is filled with zeros, at once.
     Filled,
-    /// The page of this file is read from this block.
-    Read(FileId, BlockNo),
+    /// The page of this file is read from where it stands.
+    Read(FileId, Placed),
 }
 
 impl CacheCore {
@@ -51,7 +52,7 @@ impl CacheCore {
         ensures back { GivesBack buffer result }
     {
         match self.next_fill(handle, page) {
-            Ok(FillNext::Read(file, block)) => self.read_by(file, page, block, buffer),
+            Ok(FillNext::Read(file, placed)) => self.read_by(file, page, placed, buffer),
             Ok(FillNext::Gone) => Ok(FillBegun::Gone(buffer)),
             Ok(FillNext::Wait(page)) => Ok(FillBegun::Wait(page, buffer)),
             Ok(FillNext::Present) => Ok(FillBegun::Present(buffer)),
@@ -67,7 +68,7 @@ impl CacheCore {
         handle: HandleId,
         page: PageIndex,
     ) -> Result<FillNext, Refusal>
-        ensures reads { IfOk result (OnRead (λ file block. (map.get self.old.state.handles handle.0 ≡ Some file.0) × IsToRead self.old.state file.0 page.0 block.0 × (self.new ≡ self.old))) }
+        ensures reads { IfOk result (OnRead (λ file placed. (map.get self.old.state.handles handle.0 ≡ Some file.0) × IsToRead self.old.state file.0 page.0 placed × (self.new ≡ self.old))) }
         ensures step { is_read result ≡ false → Step self.old.state (Event.FillBegin handle page) (fill_says result) self.new.state }
         ensures lists { is_read result ≡ false → self.new.lists ≡ lists_after self.old.state (Event.FillBegin handle page) (fill_says result) self.old.lists }
     {
@@ -97,17 +98,17 @@ impl CacheCore {
         requires absent { is_cached self.old.state file page.0 ≡ false }
         requires idle { is_filling self.old.state file page.0 ≡ false }
         requires room { 0 < free_frames self.old.state }
-        ensures reads { IfOk result (OnRead (λ f block. (f.0 ≡ file) × IsToRead self.old.state file page.0 block.0 × (self.new ≡ self.old))) }
+        ensures reads { IfOk result (OnRead (λ f placed. (f.0 ≡ file) × IsToRead self.old.state file page.0 placed × (self.new ≡ self.old))) }
         ensures step { (h : HandleId) → map.get self.old.state.handles h.0 ≡ Some file → is_read result ≡ false → Step self.old.state (Event.FillBegin h page) (fill_says result) self.new.state }
         ensures lists { is_read result ≡ false → self.new.lists ≡ lists_filling file page.0 (fill_says result) self.old.lists }
     {
-        let Some(block) = self.block_to_read(file, page) else {
+        let Some(placed) = self.place_to_read(file, page) else {
             if self.pages.make(file, page.0).is_err() {
                 return Err(Refusal::Memory);
             }
             return Ok(FillNext::Filled);
         };
-        Ok(FillNext::Read(FileId(file), block))
+        Ok(FillNext::Read(FileId(file), placed))
     }
 
     /// Begins to read an absent page from its block into the buffer.
@@ -115,10 +116,10 @@ impl CacheCore {
         &mut self,
         file: FileId,
         page: PageIndex,
-        block: BlockNo,
+        placed: Placed,
         buffer: Buffer,
     ) -> Result<FillBegun, Refused>
-        requires reads { IsToRead self.old.state file.0 page.0 block.0 }
+        requires reads { IsToRead self.old.state file.0 page.0 placed }
         requires size { length buffer ≡ self.old.state.sizes.page }
         ensures step { (h : HandleId) → map.get self.old.state.handles h.0 ≡ Some file.0 → Step self.old.state (Event.FillBegin h page) (fill_begun result) self.new.state }
         ensures lists { self.new.lists ≡ lists_filling file.0 page.0 (fill_begun result) self.old.lists }
@@ -126,9 +127,9 @@ impl CacheCore {
         ensures fits { OnFillJob result (IsJobFor self.old.state.name self.old.state.sizes.blocks self.old.state.sizes.page) }
         ensures back { GivesBack buffer result }
     {
-        match self.begin_read(file.0, page, block) {
+        match self.begin_read(file.0, page, placed) {
             Ok(serial) => {
-                let job = Job::new(self.name, serial, Kind::Fill, block, buffer);
+                let job = Job::new(self.name, serial, Kind::Fill, placed.block, buffer);
                 Ok(FillBegun::Job(job))
             }
             Err(refusal) => Err(Refused { refusal, buffer }),
@@ -160,8 +161,10 @@ impl CacheCore {
         }
         match outcome {
             Ok(()) => {
+                let (file, page) = (request.file, request.page);
+                let valid = valid_of(self.blocks.map(file, page));
                 self.pages
-                    .finish_fill(request.file.0, request.page.0, buffer.as_slice());
+                    .finish_fill(file.0, page.0, buffer.as_slice(), valid);
                 Ok(Ended::Done(buffer))
             }
             Err(code) => {
@@ -170,32 +173,31 @@ impl CacheCore {
             }
         }
     }
-    /// The block of a page that is written there.
-    fn block_to_read(&self, file: u64, page: PageIndex) -> Option<BlockNo>
+
+    /// Where a page stands that has bytes on the device.
+    fn place_to_read(&self, file: u64, page: PageIndex) -> Option<Placed>
         requires here { file < length self.now.state.files }
         requires below { page.0 < MAX_PAGES }
-        ensures some { IfSome result (λ block. spot_at self.now.state file page.0 ≡ Some (record { block = block.0; written = true })) }
+        ensures some { IfSome result (λ placed. spot_at self.now.state file page.0 ≡ Some (its_spot placed)) }
+        ensures valid { IfSome result (λ placed. 0 < placed.valid) }
         ensures none { IfNone result (is_written self.now.state file page.0 ≡ false) }
-        ensures within { IfSome result (λ block. block.0 < self.now.state.sizes.blocks) }
+        ensures within { IfSome result (λ placed. placed.block.0 < self.now.state.sizes.blocks) }
     {
         // for what `free_count` ensures: the block of a page is one of the device's
         prove!(self.blocks.free_count() <= u64::MAX);
         let placed = self.blocks.map(FileId(file), page)?;
-        if placed.is_written {
-            Some(placed.block)
-        } else {
-            None
-        }
+        if placed.valid > 0 { Some(placed) } else { None }
     }
 
     /// Begins a request that reads an absent page from its block. Refused by `TooManyInFlight` and by `Memory`.
-    fn begin_read(&mut self, file: u64, page: PageIndex, block: BlockNo) -> Result<Serial, Refusal>
+    fn begin_read(&mut self, file: u64, page: PageIndex, placed: Placed) -> Result<Serial, Refusal>
         requires here { file < length self.old.state.files }
         requires below { page.0 < MAX_PAGES }
         requires absent { is_cached self.old.state file page.0 ≡ false }
         requires idle { is_filling self.old.state file page.0 ≡ false }
         requires room { 0 < free_frames self.old.state }
-        requires placed { spot_at self.old.state file page.0 ≡ Some (record { block = block.0; written = true }) }
+        requires placed { spot_at self.old.state file page.0 ≡ Some (its_spot placed) }
+        requires valid { 0 < placed.valid }
         ensures begun { IfOk result (λ t. (is_full self.old.state ≡ false) × (t.0 ≡ self.old.state.next) × (self.new.state ≡ requested self.old.state Kind.Fill file page.0) × (self.new.lists ≡ entered file page.0 self.old.lists)) }
         ensures refused { IfErr result (λ r. (self.new ≡ self.old) × (r ≡ (if is_full self.old.state then TooManyInFlight else Memory))) }
     {
@@ -205,7 +207,18 @@ impl CacheCore {
         if self.pages.start_fill(file, page.0).is_err() {
             return Err(Refusal::Memory);
         }
+        let block = placed.block;
         self.blocks.hold(block);
         Ok(self.requests.begin(Kind::Fill, FileId(file), page, block))
+    }
+}
+
+/// How many bytes of its block are a page's, and none where it has no block.
+fn valid_of(placed: Option<Placed>) -> usize
+    ensures { result ≡ unwrap_or (option_map (λ p. p.valid) placed) 0 }
+{
+    match placed {
+        Some(placed) => placed.valid as usize,
+        None => 0,
     }
 }

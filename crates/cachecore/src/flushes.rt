@@ -105,7 +105,8 @@ impl CacheCore {
             Ok(()) => {
                 self.pages
                     .finish_write(request.file.0, request.page.0, false);
-                self.blocks.set_written(request.file, request.page);
+                let page = self.geometry.page() as u32;
+                self.blocks.set_valid(request.file, request.page, page);
                 Ok(Ended::Done(buffer))
             }
             Err(code) => {

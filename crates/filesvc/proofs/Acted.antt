@@ -10,7 +10,7 @@ use Rattle.machine.specs.declared.event.Event.{Event}
 use Rattle.machine.specs.declared.event.Reply.{Reply}
 use Rattle.filesvc.proofs.SyncsKept.{begins_sync, act_none, none_empty}
 use Rattle.runs.specs.Plain.{plain_after}
-use Rattle.runs.specs.Reached.{files_seen}
+use Rattle.runs.specs.Seen.{files_seen}
 use Rattle.world.specs.Stepping.{WorldSeen, world_of}
 use Rattle.runs.specs.World.{Act, WorldStep}
 use Rattle.world.proofs.InFlight.{NoneInFlight, next_stays, none_stays}

@@ -24,7 +24,8 @@ use Rattle.machine.specs.Sound.{Sound}
 use Rattle.machine.specs.Tests.{read_count, tests}
 use Rattle.filesvc.specs.Rooms.{first_page, last_page}
 use Rattle.runs.specs.Plain.{named, plain_after, plain_file}
-use Rattle.runs.specs.Reached.{IsReached, files_seen}
+use Rattle.runs.specs.Reached.{IsReached}
+use Rattle.runs.specs.Seen.{files_seen}
 use Rattle.world.specs.Stepping.{WorldSeen, world_of}
 use Rattle.runs.specs.World.{Act, WorldStep}
 use Rattle.runs.proofs.moments.Reached.{files_step}

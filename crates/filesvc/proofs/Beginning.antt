@@ -7,20 +7,21 @@ use Rattle.std.proofs.lemmas.List.{length-replicate}
 use Rattle.pc_types.specs.declared.limits.TheConstants.{MAX_FILES, MIN_PAGE_SIZE}
 use Rattle.errboard.specs.Views.{files, recorded_of}
 use Rattle.runs.specs.Reached.{IsReached}
-use Rattle.runs.specs.Runs.{IsFirst}
+use Rattle.runs.specs.Runs.{IsBlank}
 use Rattle.machine.specs.History.{no_files}
 use Rattle.machine.specs.Sound.{Sound}
-use Rattle.machine.proofs.sound.Steps.{histories_are_sound}
+use Rattle.machine.proofs.sound.Steps.{blank_sound}
 use Rattle.world.specs.Stepping.{WorldSeen, first_world, world_of}
 use Rattle.pc_types.specs.Limits.{Sizes}
+use Rattle.runs.proofs.moments.Blank.{blank_first}
 use Rattle.runs.proofs.moments.Reached.{reached_first}
 use Rattle.orderly.specs.Orderly.{IsOrderly}
 use Rattle.orderly.proofs.Orderly.{first_orderly}
 
-pub reached_at : (w : WorldSeen) (d : Told) → w.device ≡ d → IfSome d.contents (λ _. IsFirst (world_of w)) → is_some w.device.contents ≡ true → IsReached (world_of w)
-reached_at w d same first tells = reached_first (world_of w) (go d.contents first (sym (ap (λ (x : Told). is_some x.contents) same) ∙ tells))
+pub reached_at : (w : WorldSeen) (d : Told) → w.device ≡ d → IfSome d.contents (λ _. IsBlank (world_of w)) → is_some w.device.contents ≡ true → IsReached (world_of w)
+reached_at w d same first tells = reached_first (world_of w) (blank_first (world_of w) (go d.contents first (sym (ap (λ (x : Told). is_some x.contents) same) ∙ tells)))
   where
-    go : (o : Option (List (List ℕ))) → IfSome o (λ _. IsFirst (world_of w)) → is_some o ≡ true → IsFirst (world_of w)
+    go : (o : Option (List (List ℕ))) → IfSome o (λ _. IsBlank (world_of w)) → is_some o ≡ true → IsBlank (world_of w)
     go None f e = absurd cc
     go (Some x) f e = f
 
@@ -36,7 +37,7 @@ pub lists_in : (all : List (List Recording)) → all ≡ replicate files [] → 
 lists_in all e = ap length e ∙ length-replicate {A = List Recording} files []
 
 pub sound_at : (g : Sizes) (name : ℕ) (d : Told) (w : WorldSeen) → w ≡ first_world g name d → Sound w.core
-sound_at g name d w e = subst (λ (x : WorldSeen). Sound x.core) (sym e) (histories_are_sound g name [] (no_files g name) refl)
+sound_at g name d w e = subst (λ (x : WorldSeen). Sound x.core) (sym e) (blank_sound g name [] (no_files g name) refl)
 
 pub orderly_at : (g : Sizes) (name : ℕ) (d : Told) (w : WorldSeen) → MIN_PAGE_SIZE ≤ g.page → w ≡ first_world g name d
     → IsOrderly w.core

@@ -17,7 +17,7 @@ use Rattle.machine.proofs.steps.Cases.{answered}
 use Rattle.runs.proofs.events.Lookups.{get-insert1}
 use Rattle.runs.proofs.views.View.{put1_else, put1_here}
 use Rattle.runs.specs.Plain.{Plain, change, named, plain_file}
-use Rattle.runs.specs.Reached.{file_seen}
+use Rattle.runs.specs.Seen.{file_seen}
 use Rattle.world.specs.Stepping.{world_of}
 use Rattle.filesvc.specs.Seen.{HandleSeen, SoloSeen}
 use Rattle.filesvc.specs.Service.{CameFrom, FilesAfter, IsAsBefore, IsOpen, IsTold, KeepsBut, Names, Opened, Opens, ServesBut, Tells, files}

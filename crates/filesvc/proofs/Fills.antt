@@ -21,7 +21,8 @@ use Rattle.machine.specs.declared.event.Reply.{Reply}
 use Rattle.machine.specs.declared.event.Reply.TheVariants as reply
 use Rattle.machine.specs.Changes.{changed, ended, put_page, request_ended, requested}
 use Rattle.pc_types.specs.Files.{cut}
-use Rattle.machine.specs.State.{State, Page, Request, file_at, handle_file, fills, free_frames, is_cached, is_filling, is_open, is_written, page_count}
+use Rattle.pc_types.specs.Spots.{shown}
+use Rattle.machine.specs.State.{valid_at, State, Page, Request, file_at, handle_file, fills, free_frames, is_cached, is_filling, is_open, is_written, page_count}
 use Rattle.machine.specs.Step.{EndReply, MayReply, Step}
 use Rattle.machine.specs.Tests.{fits, tests, is_full}
 use Rattle.machine.proofs.steps.Cases.{answered}
@@ -84,7 +85,7 @@ fill_over : (s c new : State) (t f p : ℕ) (x : Request) (o : core.Outcome) (r 
 fill_over s c new t f p x o reply.Dropped is live file page fit idle rests kept well h e = absurd (let d : x.dropped ≡ true = h in let k : true ≡ false = sym d ∙ live in cc)
 fill_over s c new t f p x (outcome.Fault code) (reply.Failed d) is live file page fit idle rests kept well h e = absurd (well d refl)
 fill_over s c new t f p x (outcome.Read bytes) reply.Filled is live file page fit idle rests kept well h e =
-    let now : Page = record { bytes = bytes; tags = no_tags } in
+    let now : Page = record { bytes = shown c.sizes.page (valid_at c x.file x.page) bytes; tags = no_tags } in
     let at : new ≡ put_page (ended (requested s Fill f p) t) f p now = e ∙ (λ i. put_page (ended (is i) t) (file i) (page i) now) in
     record { page = now; clean = refl; sizes = ap (λ (y : State). y.sizes) at; handles = ap (λ (y : State). y.handles) at; files = ap (λ (y : State). y.files) at; before = idle; after = rests }
 fill_over s c new t f p x outcome.Written reply.Written is live file page fit idle rests kept well h e = absurd (let k : false ≡ true = fit in cc)

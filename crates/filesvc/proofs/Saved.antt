@@ -13,7 +13,8 @@ use Rattle.pc_types.specs.declared.refusal.Refusal.TheVariants.{BadRange, Io}
 use Rattle.machine.specs.Sound.{Sound}
 use Rattle.machine.specs.State.{State, file_at, page_count}
 use Rattle.runs.specs.Plain.{plain_file}
-use Rattle.runs.specs.Reached.{IsReached, files_seen}
+use Rattle.runs.specs.Reached.{IsReached}
+use Rattle.runs.specs.Seen.{files_seen}
 use Rattle.runs.specs.World.{World, on_device}
 use Rattle.world.specs.Flushing.{IsFlushedOnce}
 use Rattle.world.specs.Stepping.{WorldSeen, world_of}

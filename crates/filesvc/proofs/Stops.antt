@@ -77,7 +77,7 @@ stops_by true b c f e = absurd cc
 stops_by false true c f e = refl
 stops_by false false c f e = absurd cc
 
-written_there : (o : Option Spot) → unwrap_or (option_map (λ (spot : Spot). spot.written) o) false ≡ true → is_some o ≡ true
+written_there : (o : Option Spot) → nat_lt 0 (unwrap_or (option_map (λ (spot : Spot). spot.valid) o) 0) ≡ true → is_some o ≡ true
 written_there None e = absurd cc
 written_there (Some x) e = refl
 

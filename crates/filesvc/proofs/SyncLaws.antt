@@ -32,7 +32,8 @@ use Rattle.world.specs.declared.step.Step.{Step as WorldsStep}
 use Rattle.world.specs.declared.step.Step.TheVariants as step
 use Rattle.runs.specs.Plain.{named, plain_file}
 use Rattle.runs.specs.Syncing.{dirty_between}
-use Rattle.runs.specs.Reached.{IsReached, files_seen}
+use Rattle.runs.specs.Reached.{IsReached}
+use Rattle.runs.specs.Seen.{files_seen}
 use Rattle.runs.proofs.moments.Reached.{reached_holds}
 use Rattle.cachecore.proofs.CutPages.{count_below}
 use Rattle.world.specs.Stepping.{CallReply, EndReply, WorldSeen, IsMade, MovesByCall, Steps, world_of}

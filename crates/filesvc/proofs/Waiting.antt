@@ -113,7 +113,7 @@ module _ (first last : ℕ) where
       by true = one_file s.files x.file _ (retagged (file_at s x.file).pages x.page (after_write true) (λ y. refl)) f
       by false = no_more (waiting s f)
   end_waits s t x (outcome.Read b) reply.Filled f =
-      one_file s.files x.file _ (untagged (file_at s x.file).pages x.page b) f
+      one_file s.files x.file _ (untagged (file_at s x.file).pages x.page _) f
   end_waits s t x outcome.Written reply.Written f =
       one_file s.files x.file _ (retagged (file_at s x.file).pages x.page (after_write false) (λ y. refl)) f
   end_waits s t x o _ f = no_more (waiting s f)

@@ -25,7 +25,7 @@ use Rattle.machine.specs.Step.{Step}
 use Rattle.machine.specs.Tests.{read_count, tests}
 use Rattle.cachecore.specs.Wants.{lacks_frames, passes_limit}
 use Rattle.runs.specs.Plain.{Plain, plain_after, plain_file}
-use Rattle.runs.specs.Reached.{files_seen}
+use Rattle.runs.specs.Seen.{files_seen}
 use Rattle.world.specs.Stepping.{world_of}
 use Rattle.runs.specs.World.{on_device}
 use Rattle.cursor.specs.declared.seek.Seek.{Seek}

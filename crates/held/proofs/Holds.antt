@@ -12,7 +12,7 @@ use Rattle.machine.specs.ListChanges.{lists_after}
 use Rattle.machine.specs.Sound.{Sound}
 use Rattle.machine.specs.State.{State}
 use Rattle.machine.specs.Step.{Step}
-use Rattle.machine.proofs.sound.Steps.{histories_are_sound}
+use Rattle.machine.proofs.sound.Steps.{blank_sound}
 use Rattle.machine.proofs.steps.Steady.{steady}
 use Rattle.pc_types.specs.Limits.{Sizes}
 use Rattle.pc_types.specs.declared.kind.Kind.TheVariants.{Flush}
@@ -87,7 +87,7 @@ module _ (name : ℕ) (table board : TableId) (sizes : Sizes) (seats : ℕ) (old
       let history : new.log.history ≡ old.log.history ++ entry_of before.number e r ∷ [] =
       h.history ∙ ap (λ x. old.log.history ++ x ∷ []) is in
       let sound : Sound old.core.state =
-      histories_are_sound old.core.state.sizes old.core.state.name (map seatless old.log.history) old.core.state i.0.history in
+      blank_sound old.core.state.sizes old.core.state.name (map seatless old.log.history) old.core.state i.0.history in
       let kept = (room_kept old.log.room old.core.state new.core.state e r has s c le).1 in (
         record {
           fitted = has;

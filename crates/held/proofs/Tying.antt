@@ -27,13 +27,13 @@ use Rattle.machine.specs.History.{no_files}
 use Rattle.machine.specs.Sound.{Sound}
 use Rattle.machine.specs.State.{State, Request}
 use Rattle.machine.specs.Step.{Step}
-use Rattle.machine.proofs.sound.Steps.{histories_are_sound}
+use Rattle.machine.proofs.sound.Steps.{blank_sound}
 use Rattle.pc_types.specs.Limits.{Sizes}
 use Rattle.pc_types.specs.declared.ids.HandleId.{HandleId}
 use Rattle.pc_types.specs.declared.ids.PageIndex.{PageIndex}
 use Rattle.pc_types.specs.declared.kind.Kind.{Kind}
 use Rattle.pc_types.specs.declared.kind.Kind.TheVariants.{Fill, Flush}
-use Rattle.runs.specs.Runs.{IsFirst}
+use Rattle.runs.specs.Runs.{IsBlank}
 use Rattle.runs.proofs.moments.KeptRequests.{is_job}
 use Rattle.tied.specs.Tied.{IsTaskOf, IsTied}
 use Rattle.tied.proofs.Kept.{kept_back, kept_begun, kept_first, kept_home, kept_plain}
@@ -52,7 +52,7 @@ use Rattle.held.specs.Ends.{ended_as}
 use Rattle.held.proofs.InFlight.{goes}
 
 pub sound_in : (log : LogSeen) (core : State) → IsHeld log core → Sound core
-sound_in log core i = histories_are_sound core.sizes core.name (map seatless log.history) core i.history
+sound_in log core i = blank_sound core.sizes core.name (map seatless log.history) core i.history
 
 -- ---- what begins
 
@@ -204,7 +204,7 @@ on_ended {old} {new} {before} {after} {slip} {told} {sizes} {name} {blocks} {pla
 
 pub opens_tied : (told : Bool) (sizes : Sizes) (name : ℕ) (blocks : List (List ℕ)) (history : List Entry) (state : State)
     (places : List Place) → history ≡ [] → state ≡ no_files sizes name → places ≡ map Home blocks
-    → length blocks ≡ sizes.blocks → (told ≡ true → IsFirst (world_over sizes name blocks))
+    → length blocks ≡ sizes.blocks → (told ≡ true → IsBlank (world_over sizes name blocks))
     → IsTied told sizes name blocks history state places
 opens_tied told sizes name blocks history state places empty first home count tells =
     subst (λ (x : List Entry × State × List Place). IsTied told sizes name blocks x.0 x.1 x.2)

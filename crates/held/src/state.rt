@@ -9,7 +9,7 @@ ghost use Rattle.machine.specs.History.{no_files};
 ghost use Rattle.machine.specs.PageLists.{no_lists};
 ghost use Rattle.machine.specs.State.{file_at};
 ghost use Rattle.deeds.specs.declared.views.Place.TheVariants.{Home};
-ghost use Rattle.runs.specs.Runs.{IsFirst};
+ghost use Rattle.runs.specs.Runs.{IsBlank};
 ghost use Rattle.runs.specs.World.{World};
 ghost use Rattle.tied.specs.Tied.{IsCovered, IsHonest, Tied};
 ghost use Rattle.trail.specs.Honest.{world_over};
@@ -137,7 +137,7 @@ impl<B: Naming, T: Trail> Held<B, T> {
         requires fresh { (opened.log.history ≡ []) × (opened.core.state ≡ no_files B.sizes B.name) }
         requires desk { desk ≡ map Home B.blocks }
         requires count { length B.blocks ≡ B.sizes.blocks }
-        requires first { B.told ≡ true → IsFirst (world_over B.sizes B.name B.blocks) }
+        requires first { B.told ≡ true → IsBlank (world_over B.sizes B.name B.blocks) }
         ensures { result ≡ opened }
     {
         let Opened {

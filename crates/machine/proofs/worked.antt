@@ -7,3 +7,4 @@ pub mod Truncations
 pub mod Flushes
 pub mod Syncs
 pub mod Ranges
+pub mod Adopted

@@ -5,7 +5,7 @@ use Rattle.std.specs.Option.{option_or}
 use Rattle.std.specs.List.{list_any}
 use Rattle.std.specs.declared.cmp.Ordering.{Ordering}
 use Rattle.std.specs.declared.cmp.Ordering.TheVariants.{Less, Equal, Greater}
-use Rattle.std.specs.Ordering.{eq_by_cmp, ordering_then}
+use Rattle.std.specs.Ordering.{eq_by_cmp, is_eq, ordering_then}
 use Rattle.std.specs.Cmp.{nat_cmp_total, unsigned_tied, IsTotalOrder, tied_then}
 use Rattle.std.specs.FinMap as finmap
 use Rattle.std.specs.FinMap.{FinMap, IsAntisymmetric, nat_cmp-IsAntisymmetric, find, put, get-insert, get-remove}
@@ -78,6 +78,24 @@ pub get-overwrite : {K X : Type 0} {R : K → K → Ordering} → IsTotalOrder R
     → finmap.get (overwrite es m) q ≡ option_or (find R q es) (finmap.get m q)
 get-overwrite {R} o es m q = get-from_entries o (es ++ finmap.entries m) q ∙ find-append R es (finmap.entries m) q
     ∙ ap (option_or (find R q es)) (sym (get-entries m q))
+
+-- each value changed, by its place
+find-each_place : {X : Type 0} (g : ℕ × ℕ → X → X) (q : ℕ × ℕ) (es : List ((ℕ × ℕ) × X))
+    → find place_cmp q (map (λ e. (e.0, g e.0 e.1)) es) ≡ option_map (g q) (find place_cmp q es)
+find-each_place g q [] = refl
+find-each_place g q (e ∷ es) =
+    elim (place_cmp q e.0) as (λ r. place_cmp q e.0 ≡ r
+    → cond (is_eq r) (Some (g e.0 e.1)) (find place_cmp q (map (λ e. (e.0, g e.0 e.1)) es))
+    ≡ option_map (g q) (cond (is_eq r) (Some e.1) (find place_cmp q es))) [
+      | Less ↦ λ _. find-each_place g q es
+      | Equal ↦ λ t. ap (λ k. Some (g k e.1)) (sym (places_antisymmetric q e.0 t))
+      | Greater ↦ λ _. find-each_place g q es
+    ] refl
+
+pub get-each_place : {X : Type 0} (g : ℕ × ℕ → X → X) (m : FinMap place_cmp X) (q : ℕ × ℕ)
+    → finmap.get (each_value g m) q ≡ option_map (g q) (finmap.get m q)
+get-each_place g m q = get-from_entries places_total (map (λ e. (e.0, g e.0 e.1)) (finmap.entries m)) q
+    ∙ find-each_place g q (finmap.entries m) ∙ ap (option_map (g q)) (sym (get-entries m q))
 
 -- the value at one key changed
 pub get-change_at : {X : Type 0} (k : ℕ) (f : X → X) (m : FinMap nat_cmp X) (q : ℕ)

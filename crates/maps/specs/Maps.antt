@@ -9,7 +9,7 @@ abbrev pub overwrite : {K X : Type 0} {R : K → K → Ordering} → List (K × 
 overwrite es mp = map.from_entries (es ++ map.entries mp)
 
 -- each value of the map changed, by its key
-abbrev pub each_value : {X : Type 0} → (ℕ → X → X) → map.FinMap nat_cmp X → map.FinMap nat_cmp X
+abbrev pub each_value : {K X : Type 0} {R : K → K → Ordering} → (K → X → X) → map.FinMap R X → map.FinMap R X
 each_value g mp = map.from_entries (map (λ e. (e.0, g e.0 e.1)) (map.entries mp))
 
 -- the map with this value at the key, where one is given

@@ -8,7 +8,7 @@ use Rattle.machine.specs.State.{State}
 use Rattle.machine.specs.Step.{Step}
 use Rattle.machine.specs.declared.event.Event.{Event}
 use Rattle.machine.specs.declared.event.Reply.{Reply}
-use Rattle.machine.proofs.sound.Steps.{histories_are_sound, steps_stay_sound}
+use Rattle.machine.proofs.sound.Steps.{blank_sound, steps_stay_sound}
 use Rattle.machine.proofs.steps.Cases.{by_cases}
 use Rattle.machine.proofs.steps.Steady.{steady}
 use Rattle.orderly.specs.Orderly.{IsOrderly}
@@ -48,7 +48,7 @@ legal_kept sizes name es s geometry h =
       orderly = by_cases old (λ e r t. IsOrderly t) (orderly_cases old k.sound k.orderly) e r new step;
       sized = (steady old e r new step).sizes ∙ k.sized;
     }) (no_files sizes name) es s (record {
-      sound = histories_are_sound sizes name [] (no_files sizes name) refl;
+      sound = blank_sound sizes name [] (no_files sizes name) refl;
       orderly = first_orderly sizes name (omega arith);
       sized = refl;
     }) h

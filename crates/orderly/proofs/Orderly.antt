@@ -17,6 +17,7 @@ use Rattle.machine.specs.Sound.{Sound}
 use Rattle.machine.specs.State.{State, File, Page, Request, Sync, block_at, file_at, handle_file, has_block, is_open}
 use Rattle.machine.specs.State.{no_file, page_at, page_count, spot_at}
 use Rattle.machine.specs.State.{free_blocks, touched, without_block}
+use Rattle.machine.specs.Changes.{filled}
 use Rattle.machine.specs.Changes.{after_write, change_page, cut_page, cut_request, ended, flushed, put_file, put_page}
 use Rattle.machine.specs.Changes.{put_pages, shrunk}
 use Rattle.machine.specs.Changes.{new_sync, started, sync_begun, to_write, under_write, written, written_page}
@@ -238,7 +239,7 @@ module _ (s : State) (ok : Sound s) (o : IsOrderly s) where
         more = more_size f file (omega arith) g
 
         by : (a c : Bool) → eqb g f ≡ a → needs_block s f off (length b) q ≡ c
-            → is_some (cond (a && c) (Some (record { block = taken_by s f (off / s.sizes.page) q; written = false }))
+            → is_some (cond (a && c) (Some (record { block = taken_by s f (off / s.sizes.page) q; valid = 0 }))
             (spot_at s g q)) ≡ true
             → q < page_count s.sizes.page (file_at (written s f off b) g).size
         by true true x y w =
@@ -361,14 +362,14 @@ module _ (s : State) (ok : Sound s) (o : IsOrderly s) where
       → has_block (flushed (ended s t) x) g q ≡ true → has_block s g q ≡ true
   flushed_has t x is live g q has =
       by (eqb g x.file) (eqb q x.page) refl refl
-      (sym (ap is_some (get-insert_place s.spots x.file x.page (record { block = x.block; written = true }) g q)) ∙ has)
+      (sym (ap is_some (get-insert_place s.spots x.file x.page (record { block = x.block; valid = s.sizes.page }) g q)) ∙ has)
     where
       mapped : (o : Option Spot) → option_map (λ (y : Spot). y.block) o ≡ Some x.block → is_some o ≡ true
       mapped None e = absurd cc
       mapped (Some y) e = refl
 
       by : (a b : Bool) → eqb g x.file ≡ a → eqb q x.page ≡ b
-          → is_some (cond (a && b) (Some (record { block = x.block; written = true })) (spot_at s g q)) ≡ true
+          → is_some (cond (a && b) (Some (record { block = x.block; valid = s.sizes.page })) (spot_at s g q)) ≡ true
           → has_block s g q ≡ true
       by true true a b w = (λ i. is_some (spot_at s (eqb-true g x.file a i) (eqb-true q x.page b i)))
           ∙ mapped (spot_at s x.file x.page) (ok.mapped t x is live)
@@ -462,7 +463,7 @@ module _ (s : State) (ok : Sound s) (o : IsOrderly s) where
     fill_ends = λ end x b may live went. file_orderly _ x.file _ refl refl refl refl (λ g q b. b)
         (quietly end.serial.0 x may.is
         (λ g q k same. (let a : Fill ≡ Flush = sym may.kind_is ∙ ap (λ (r : Request). r.kind) same in cc))
-        (put_page (ended s end.serial.0) x.file x.page (record { bytes = b; tags = no_tags }))
+        (filled (ended s end.serial.0) x b)
         (put_was (ended s end.serial.0) x.file x.page _ refl) refl);
     flush_fails = λ end x code may live went. file_orderly _ x.file _ refl refl refl refl (λ g q b. b)
         (ended_flush end.serial.0 x may.is true _ refl);

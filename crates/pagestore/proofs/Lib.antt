@@ -26,4 +26,5 @@ pub mod ReadLemmas
 pub mod OnePage
 pub mod RangeLemmas
 pub mod NewPages
+pub mod ShownBytes
 pub mod PowerLaws

@@ -6,7 +6,7 @@ use Rattle.std.specs.FinMap as finmap
 use Rattle.std.specs.FinMap.{FinMap}
 use Rattle.std.specs.FinSet as set
 use Rattle.std.specs.Ordering.{nat_cmp}
-use Rattle.std.proofs.lemmas.List.{append-nil, drop-replicate, take-replicate}
+use Rattle.std.proofs.lemmas.List.{drop-replicate, take-replicate}
 use Rattle.pc_types.specs.Files.{cut}
 use Rattle.pc_types.specs.Tags.{no_tags}
 use Rattle.frames.specs.Rows.{laid}
@@ -25,10 +25,6 @@ zeros_cut n = take-replicate n (n - 0) 0 (omega arith)
 
 pub laid-none : (n : ℕ) → laid n 0 [] ≡ cut [] n
 laid-none n = let all : n - 0 ≡ n = omega arith in ap (λ k. replicate k 0) all ∙ sym (zeros_cut n)
-
-pub laid-whole : (n : ℕ) (b : List ℕ) → length b ≡ n → laid n 0 b ≡ b
-laid-whole n b e =
-    let none : n - (0 + length b) ≡ 0 = omega arith in ap (λ k. b ++ replicate k 0) none ∙ append-nil b
 
 pub laid-part : (n at : ℕ) (b : List ℕ) → at + length b ≤ n
     → laid n at b ≡ take at (cut [] n) ++ b ++ drop (at + length b) (cut [] n)

@@ -7,6 +7,8 @@ ghost use Rattle.mapping.specs.declared.mapping.TheConstants.{MAX_PAGES};
 ghost use Rattle.pc_types.specs.Tags.{no_tags};
 ghost use Rattle.frames.specs.Rows.{laid};
 ghost use Rattle.machine.specs.PageLists.{entered, is_listed, left};
+ghost use Rattle.pc_types.specs.Spots.{shown};
+ghost use Rattle.pagestore.specs.Filling.{filled};
 ghost use Rattle.pagestore.specs.Store.{stored_at, stored_page, is_awaited, with_pages};
 
 use crate::pages::Pages;
@@ -38,14 +40,15 @@ impl Pages {
         Ok(())
     }
 
-    /// A page that was filling is cached with these bytes, and has no tags.
-    pub fn finish_fill(&mut self, file: u64, page: u64, bytes: &[u8])
+    /// A page that was filling is cached with what a block with these bytes shows of it: the first `valid`, and zeros past them. It
+    /// has no tags.
+    pub fn finish_fill(&mut self, file: u64, page: u64, bytes: &[u8], valid: usize)
         requires here { file < length self.old.files }
         requires filling { is_awaited self.old file page ≡ true }
         requires whole { length bytes.now ≡ self.old.page }
-        ensures { self.new ≡ record (with_pages self.old file (map.insert (stored_at self.old file).pages page (record { bytes = bytes.now; tags = no_tags })) self.old.free) { filling = set.remove self.old.filling (file, page) } }
+        ensures { self.new ≡ filled self.old file page (shown self.old.page valid bytes.now) }
     {
-        self.finish(file, page, 0, bytes);
+        self.finish(file, page, 0, &bytes[..valid.min(bytes.len())]);
     }
 
     /// A page that was filling is cached with these bytes from `at` on, zeros around them, and no tags.

@@ -2,6 +2,7 @@
 
 ghost use Rattle.std.specs.Prelude.{◌≡◌, ◌<◌, is_some, length, true};
 ghost use Rattle.std.specs.FinMap as map;
+ghost use Rattle.pc_types.specs.Spots.{shown};
 ghost use Rattle.pagestore.specs.Filling.{FillsBy};
 ghost use Rattle.pagestore.specs.Store.{is_awaited, stored_at, stored_page, the_page, with_pages};
 ghost use Rattle.machine.specs.Changes.{after_write, under_write};
@@ -11,25 +12,28 @@ use blockdev::{BlockDevice, Watched};
 use pc_types::{BlockNo, ErrCode, PageIndex, Tag};
 
 impl Pages {
-    /// The device reads a block into the frame of a page that is filling, which is cached then and has no tags. Where the device fails the
-    /// page is filling as before.
+    /// The device reads a block into the frame of a page that is filling. The page is cached then with the first `valid` of these bytes and
+    /// zeros past them, and has no tags. Where the device fails the page is filling as before.
     pub fn fill_by<D: BlockDevice>(
         &mut self,
         device: &mut Watched<D>,
         block: BlockNo,
         file: u64,
         page: u64,
+        valid: usize,
     ) -> Result<(), ErrCode>
         requires here { file < length self.old.files }
         requires filling { is_awaited self.old file page ≡ true }
         requires exists { block.0 < device.old.device.count }
         requires size { device.old.device.size ≡ self.old.page }
-        ensures { FillsBy self.old file page device.old block.0 result self.new device.new }
+        ensures { FillsBy self.old file page device.old block.0 valid result self.new device.new }
     {
         let Some(frame) = self.files[file as usize].mapping.frame(PageIndex(page)) else {
             unreachable!()
         };
-        device.read(block, self.frames.bytes_mut(frame))?;
+        let bytes = self.frames.bytes_mut(frame);
+        device.read(block, bytes)?;
+        zero_past(bytes, valid);
         // the page is idle now, so that an eviction finds it
         self.frames.put_back(frame);
         self.uptodate[frame.0 as usize] = true;
@@ -63,5 +67,14 @@ impl Pages {
             unreachable!()
         };
         self.frames.bytes(frame)
+    }
+}
+
+/// The bytes past the first `valid` are zeros.
+fn zero_past(bytes: &mut [u8], valid: usize)
+    ensures { bytes.new ≡ shown (length bytes.old) valid bytes.old }
+{
+    if valid < bytes.len() {
+        bytes[valid..].fill(0);
     }
 }

@@ -16,7 +16,7 @@ use Rattle.machine.specs.State.{State, Request}
 use Rattle.machine.specs.Step.{Step}
 use Rattle.maps.proofs.Maps.{get-insert_nat, get-remove_nat, get_left}
 use Rattle.pc_types.specs.Limits.{Sizes}
-use Rattle.runs.specs.Runs.{IsFirst}
+use Rattle.runs.specs.Runs.{IsBlank}
 use Rattle.runs.specs.World.{World}
 use Rattle.runs.proofs.moments.KeptRequests.{Kept, Begun, Over, is_job, of_requests, stood}
 use Rattle.trail.specs.declared.entry.Entry.{Entry}
@@ -158,7 +158,7 @@ module _ (first w new : World) (es : List Entry) (went : Went first es w) (e : E
 
 -- ---- at the beginning, and at the end
 
-pub begins : (w : World) → IsFirst w → Went w [] w
+pub begins : (w : World) → IsBlank w → Went w [] w
 begins w first = record {
   fates = λ _. record { fault = None; lasts = false };
   leads = λ other same. refl;
@@ -171,7 +171,7 @@ goes fates [] w last l = tt
 goes fates (e ∷ es) w last l = (l.0, l.1, goes fates es l.0 last l.2)
 
 -- a first world is a cache without files over its own device
-first_is : (w : World) → IsFirst w → w ≡ world_over w.core.sizes w.core.name w.device
+first_is : (w : World) → IsBlank w → w ≡ world_over w.core.sizes w.core.name w.device
 first_is w first = λ i. record {
   core = first.core i;
   device = w.device;
@@ -179,14 +179,14 @@ first_is w first = λ i. record {
   writing = first.writing i;
 }
 
-pub honest_over : (first last : World) → IsFirst first → (es : List Entry) → Went first es last
+pub honest_over : (first last : World) → IsBlank first → (es : List Entry) → Went first es last
     → IsHonestOver first.core.sizes first.core.name es first.device last.device
 honest_over first last is es went =
     let leads = subst (λ v. LeadsTo went.fates v es last) (first_is first is) (went.leads went.fates (λ t l n. refl)) in
     record {
       honest = record {
         device = first.device;
-        first = subst IsFirst (first_is first is) is;
+        first = subst IsBlank (first_is first is) is;
         fates = went.fates;
         goes = goes went.fates es _ last leads;
       };
@@ -240,7 +240,7 @@ next name first es k e old new true sure is h far =
       )
     ] refl
 
-pub far_first : (name : ℕ) (w : WorldSeen) (es : List Entry) → IsFirst (world_of w) → IsReady name w
+pub far_first : (name : ℕ) (w : WorldSeen) (es : List Entry) → IsBlank (world_of w) → IsReady name w
     → Far name (world_of w) es 0 w
 far_first name w es first ready = (begins (world_of w) first, ready)
 
@@ -260,7 +260,7 @@ far_odd name first es k w far l = (l, world_of w, far.0)
 -- ---- what is told of the whole
 
 pub all_agree : (name : ℕ) (old new : WorldSeen) (left : Told) (es : List Entry) → IsReady name old
-    → IsFirst (world_of old) → Went (world_of old) (played es) (world_of new) → is_some new.device.contents ≡ true
+    → IsBlank (world_of old) → Went (world_of old) (played es) (world_of new) → is_some new.device.contents ≡ true
     → left ≡ new.device → Plays old.core.sizes name es old.device (Agrees left)
 all_agree name old new left es ready first went told same = (
   subst (λ n. IsHonestOver old.core.sizes n (played es) (blocks_of old.device) (blocks_of left)) ready.name
@@ -270,7 +270,7 @@ all_agree name old new left es ready first went told same = (
 )
 
 pub one_odd : (name : ℕ) (old : WorldSeen) (es : List Entry) (place : ℕ) → IsReady name old
-    → IsFirst (world_of old) → Stands (world_of old) es place → Plays old.core.sizes name es old.device (Odd place)
+    → IsBlank (world_of old) → Stands (world_of old) es place → Plays old.core.sizes name es old.device (Odd place)
 one_odd name old es place ready first h = (
   h.0,
   subst (λ n. Honest old.core.sizes n (played (take place es))) ready.name

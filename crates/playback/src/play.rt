@@ -1,7 +1,7 @@
 //! A full trail, played again.
 
 ghost use Rattle.std.specs.Prelude.{◌≡◌, ◌<◌, IfNone, IfOk, IfSome, IsOkUnless, is_some, length, take, true};
-ghost use Rattle.runs.specs.Runs.{IsFirst};
+ghost use Rattle.runs.specs.Runs.{IsBlank};
 ghost use Rattle.world.specs.Stepping.{fits, world_of};
 ghost use Rattle.playback.specs.Playing.{IsReady, Plays, Stands, Went, played};
 
@@ -59,7 +59,7 @@ fn play_all(
     effect: FaultEffect,
 ) -> Result<Playback, Refusal>
     requires ready { IsReady name world }
-    requires first { IsFirst (world_of world) }
+    requires first { IsBlank (world_of world) }
     ensures played { IfOk result (Plays world.core.sizes name trail.now.entries world.device) }
     ensures refused { IsOkUnless result Refusal.Memory }
 {
@@ -86,7 +86,7 @@ fn first_odd(
     effect: FaultEffect,
 ) -> Result<Option<u64>, Refusal>
     requires ready { IsReady name world.old }
-    requires first { IsFirst (world_of world.old) }
+    requires first { IsBlank (world_of world.old) }
     ensures all { IfOk result (λ o. IfNone o (Went (world_of world.old) (played trail.now.entries) (world_of world.new))) }
     ensures told { IfOk result (λ o. IfNone o (is_some world.new.device.contents ≡ true)) }
     ensures odd { IfOk result (λ o. IfSome o (Stands (world_of world.old) trail.now.entries)) }

@@ -1,5 +1,6 @@
 -- What holds at each moment of a run: the files, the reads, the limits, and that requests go on.
 pub mod RunSteps
+pub mod SeenBytes
 pub mod Moments
 pub mod Histories
 pub mod CoreSteps
@@ -12,4 +13,8 @@ pub mod FilesSeen
 pub mod ReadsRight
 pub mod Reached
 pub mod KeptRequests
+pub mod ValidBytes
+pub mod Blank
+pub mod Untold
+pub mod Restarts
 pub mod Worked

@@ -5,3 +5,5 @@ pub mod SyncRuns
 pub mod DurableRuns
 pub mod Bounds
 pub mod FewWrites
+pub mod QuietTags
+pub mod EndsClean

@@ -1,4 +1,4 @@
--- Caches without files over one device.
+-- Caches over one device, each with the files of its catalog.
 use Rattle.std.proofs.Common.{◌≡◌, ℕ, ◌*◌, ◌<◌, ◌≤◌, List, length, take, drop, All, refl, arith, length-drop}
 use Rattle.std.proofs.lemmas.Grind.{common_steps}
 use Rattle.std.proofs.lemmas.List.{length-take-le}
@@ -14,11 +14,15 @@ part_sizes : (page k size : ℕ) (device : List (List ℕ)) → All (λ block. l
 part_sizes page k size device sized = grind (arith, common_steps)
 
 pub shards_may_begin : ShardsMayBegin
-shards_may_begin sizes name device count k page room sized h = record {
-  page_size = page;
-  core = refl;
-  outcomes = refl;
-  writing = refl;
-  blocks = part_length count k sizes.blocks device room h;
-  block_sizes = part_sizes sizes.page k sizes.blocks device sized;
+shards_may_begin sizes name catalog device count k page room sized h is = record {
+  catalog = catalog k;
+  is_catalog = is;
+  adopts = record {
+    page_size = page;
+    core = refl;
+    outcomes = refl;
+    writing = refl;
+    blocks = part_length count k sizes.blocks device room h;
+    block_sizes = part_sizes sizes.page k sizes.blocks device sized;
+  };
 }

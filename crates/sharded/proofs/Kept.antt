@@ -3,7 +3,7 @@ use Rattle.std.proofs.Common.{◌≡◌, ◌∙◌, sym, ap, subst, refl, ℕ, z
 use Rattle.std.proofs.Math.Nat.{eq-or-lt_of_le}
 use Rattle.std.proofs.lemmas.List.{take_all}
 use Rattle.runs.specs.Durable.{last_flush}
-use Rattle.runs.specs.Reached.{files_seen}
+use Rattle.runs.specs.Seen.{files_seen}
 use Rattle.runs.specs.Reading.{HoldsFiles}
 use Rattle.runs.specs.Runs.{Steps, EveryRun, last}
 use Rattle.runs.specs.World.{World, Act, WorldStep}
@@ -32,8 +32,8 @@ pub shards_hold_files : ShardsHoldFiles
 shards_hold_files s steps k r first =
     let own = steps_of k steps in
     let all : take (length own) own ≡ own = take_all (length own) own (omega arith) in
-    let P : World → Type 0 = λ w. HoldsFiles w (plain_of k steps) in
-    let Q : Steps → Type 0 = λ own. HoldsFiles (last (world_of s k) own) (plain_of k steps) in
+    let P : World → Type 0 = λ w. HoldsFiles w (plain_of s k steps) in
+    let Q : Steps → Type 0 = λ own. HoldsFiles (last (world_of s k) own) (plain_of s k steps) in
     let held = of_shard _ files_are_held s steps k r first (length (steps_of k steps)) in
     subst P (sym (leads s steps k r)) (subst Q all held)
 

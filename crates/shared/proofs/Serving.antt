@@ -7,13 +7,13 @@ use Rattle.cachecore.specs.Core.{Core}
 use Rattle.machine.specs.History.{no_files}
 use Rattle.machine.specs.PageLists.{no_lists}
 use Rattle.pc_types.specs.Limits.{Sizes}
-use Rattle.runs.specs.Runs.{IsFirst}
+use Rattle.runs.specs.Runs.{IsBlank}
 use Rattle.trail.specs.Honest.{world_over}
 use Rattle.shared.specs.Keeps.{IsDisk}
 
 -- its world, over a device that tells these blocks
 pub first_over : (sizes : Sizes) (name : ℕ) (blocks : List (List ℕ)) (device : Told) → 0 < sizes.page → IsDisk sizes device
-    → IsSized device → device.contents ≡ Some blocks → IsFirst (world_over sizes name blocks)
+    → IsSized device → device.contents ≡ Some blocks → IsBlank (world_over sizes name blocks)
 first_over sizes name blocks device page disk sized told =
     let s = subst (λ o. IfSome o (λ bs. (length bs ≡ device.count) × All (λ bytes. length bytes ≡ device.size) bs)) told sized in
     record {

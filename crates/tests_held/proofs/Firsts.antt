@@ -10,14 +10,14 @@ use Rattle.machine.specs.History.{no_files}
 use Rattle.machine.specs.State.{State}
 use Rattle.pc_types.specs.Limits.{Sizes}
 use Rattle.pc_types.specs.declared.refusal.Refusal.{Refusal}
-use Rattle.runs.specs.Runs.{IsFirst}
+use Rattle.runs.specs.Runs.{IsBlank}
 use Rattle.trail.specs.Honest.{world_over}
 
 pub zeros_count : (blocks : List (List ℕ)) → blocks ≡ zero_blocks 16 64 → length blocks ≡ 64
 zeros_count blocks zeros = ap length zeros
 
 pub first_zeros : (sizes : Sizes) (name : ℕ) (blocks : List (List ℕ)) → sizes.page ≡ 16 → sizes.blocks ≡ 64
-    → blocks ≡ zero_blocks 16 64 → IsFirst (world_over sizes name blocks)
+    → blocks ≡ zero_blocks 16 64 → IsBlank (world_over sizes name blocks)
 first_zeros sizes name blocks page count zeros = record {
   page_size = omega (arith, page);
   core = refl;

@@ -6,7 +6,7 @@ ghost use Rattle.blockdev.specs.Blocks.{zero_blocks};
 ghost use Rattle.deeds.specs.Shown.{AreTold};
 ghost use Rattle.held.specs.Keeps.{IsLocked};
 ghost use Rattle.machine.specs.History.{no_files};
-ghost use Rattle.runs.specs.Runs.{IsFirst};
+ghost use Rattle.runs.specs.Runs.{IsBlank};
 ghost use Rattle.trail.specs.Honest.{world_over};
 
 use crate::checks::check;
@@ -368,7 +368,7 @@ fn run_named<B: Naming>(
     requires fresh { (opened.log.history ≡ []) × (opened.core.state ≡ no_files B.sizes B.name) }
     requires named { (deeds.table ≡ B.deeds) × (deeds.told ≡ B.told) × (deeds.blocks ≡ B.blocks) }
     requires count { length B.blocks ≡ B.sizes.blocks }
-    requires first { B.told ≡ true → IsFirst (world_over B.sizes B.name B.blocks) }
+    requires first { B.told ≡ true → IsBlank (world_over B.sizes B.name B.blocks) }
     requires device { AreTold B.told device.device B.blocks × (device.device.count ≡ 64) × (device.device.size ≡ 16) }
     requires own { (own.table ≡ B.table) × (board.now ≡ B.board) }
 {

@@ -33,7 +33,7 @@ fn takes_back(
     requires { IsPage file.0 page.0 }
 {
     if let Some(placed) = blocks.map(file, page) {
-        assert!(rt; !placed.is_written);
+        assert!(rt; placed.valid == 0);
         let is_held = blocks.is_held(placed.block);
         assert!(rt; !is_held);
     }
@@ -47,6 +47,22 @@ fn tells(rt: &impl Abort, blocks: &BlockMap, file: FileId, page: PageIndex, want
 {
     let told = blocks.map(file, page);
     same(rt, told, want);
+}
+
+/// A page of the first file stands on this block, with 100 bytes, or is refused so.
+fn adopts(
+    rt: &impl Abort,
+    blocks: &mut BlockMap,
+    page: PageIndex,
+    block: BlockNo,
+    want: Result<(), Refusal>,
+)
+    requires { IsPage 0 page.0 }
+{
+    let none = blocks.map(FileId(0), page).is_none();
+    assert!(rt; none);
+    let adopted = blocks.adopt(FileId(0), page, block, 100);
+    same(rt, adopted, want);
 }
 
 fn has_free(rt: &impl Abort, blocks: &BlockMap, want: u64) {
@@ -119,15 +135,34 @@ fn a_page_is_told_with_its_block(rt: HostRuntime) {
     gives(&rt, &mut blocks, FileId(0), PageIndex(7), Ok(BlockNo(0)));
     let fresh = Placed {
         block: BlockNo(0),
-        is_written: false,
+        valid: 0,
     };
     tells(&rt, &blocks, FileId(0), PageIndex(7), Some(fresh));
-    blocks.set_written(FileId(0), PageIndex(7));
+    blocks.set_valid(FileId(0), PageIndex(7), 4096);
     let written = Placed {
         block: BlockNo(0),
-        is_written: true,
+        valid: 4096,
     };
     tells(&rt, &blocks, FileId(0), PageIndex(7), Some(written));
+}
+
+#[test]
+fn a_block_is_adopted_once(rt: HostRuntime) {
+    let mut blocks = BlockMap::new(rt.alloc(), 3);
+    adopts(&rt, &mut blocks, PageIndex(0), BlockNo(1), Ok(()));
+    let taken = Err(Refusal::NoSpace);
+    adopts(&rt, &mut blocks, PageIndex(1), BlockNo(1), taken);
+    let past = Err(Refusal::NoSpace);
+    adopts(&rt, &mut blocks, PageIndex(1), BlockNo(3), past);
+    let part = Placed {
+        block: BlockNo(1),
+        valid: 100,
+    };
+    tells(&rt, &blocks, FileId(0), PageIndex(0), Some(part));
+    // the lowest free blocks are given out around it
+    gives(&rt, &mut blocks, FileId(0), PageIndex(1), Ok(BlockNo(0)));
+    gives(&rt, &mut blocks, FileId(0), PageIndex(2), Ok(BlockNo(2)));
+    has_free(&rt, &blocks, 0);
 }
 
 #[test]

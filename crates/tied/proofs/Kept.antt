@@ -21,7 +21,7 @@ use Rattle.machine.specs.History.{no_files}
 use Rattle.machine.specs.Sound.{Sound}
 use Rattle.machine.specs.State.{State, Request}
 use Rattle.machine.specs.Step.{Step}
-use Rattle.runs.specs.Runs.{IsFirst}
+use Rattle.runs.specs.Runs.{IsBlank}
 use Rattle.runs.specs.World.{World}
 use Rattle.runs.proofs.moments.KeptRequests.{is_job}
 use Rattle.trail.specs.declared.entry.Entry.{Entry}
@@ -32,7 +32,7 @@ use Rattle.tied.proofs.Covered.{begun_home, covered_back, covered_begun, covered
 use Rattle.tied.proofs.Tied.{tied_back, tied_begun, tied_first, tied_honest, tied_plain}
 
 pub kept_first : (told : Bool) (sizes : Sizes) (name : ℕ) (blocks : List (List ℕ)) → length blocks ≡ sizes.blocks
-    → (told ≡ true → IsFirst (world_over sizes name blocks))
+    → (told ≡ true → IsBlank (world_over sizes name blocks))
     → IsTied told sizes name blocks [] (no_files sizes name) (map Home blocks)
 kept_first told sizes name blocks count first = record {
   covered = covered_first sizes name blocks count;

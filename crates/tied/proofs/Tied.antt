@@ -32,7 +32,7 @@ use Rattle.machine.specs.State.{State, Request, page_bytes}
 use Rattle.machine.specs.Step.{Step}
 use Rattle.maps.specs.Maps.{put_some}
 use Rattle.runs.specs.Always.{Always}
-use Rattle.runs.specs.Runs.{IsFirst}
+use Rattle.runs.specs.Runs.{IsBlank}
 use Rattle.runs.specs.World as world
 use Rattle.runs.specs.World.{World, block_bytes, device_after, to_write}
 use Rattle.runs.proofs.events.Lookups.{get-insert1, get-remove1}
@@ -78,7 +78,7 @@ noted_same writing r s j = refl
 
 -- ---- the first state
 
-pub tied_first : (sizes : Sizes) (name : ℕ) (blocks : List (List ℕ)) → IsFirst (world_over sizes name blocks)
+pub tied_first : (sizes : Sizes) (name : ℕ) (blocks : List (List ℕ)) → IsBlank (world_over sizes name blocks)
     → Tied sizes name blocks [] (no_files sizes name) (map Home blocks)
 tied_first sizes name blocks first = record {
   world = world_over sizes name blocks;

@@ -12,10 +12,10 @@ use Rattle.machine.specs.declared.event.Reply.TheVariants as reply
 use Rattle.machine.specs.Sound.{Sound}
 use Rattle.machine.specs.State.{State, Request}
 use Rattle.machine.specs.Step.{Step}
-use Rattle.machine.proofs.sound.Steps.{steps_stay_sound, histories_are_sound}
+use Rattle.machine.proofs.sound.Steps.{steps_stay_sound, blank_sound}
 use Rattle.machine.proofs.steps.Choices.{some_of}
 use Rattle.maps.proofs.Maps.{get_left, get_inserted}
-use Rattle.runs.specs.Runs.{IsFirst}
+use Rattle.runs.specs.Runs.{IsBlank}
 use Rattle.runs.specs.World.{World}
 use Rattle.runs.proofs.moments.KeptRequests.{Begun, Kept, Over, of_requests, stood}
 use Rattle.trail.specs.declared.entry.Entry.{Entry}
@@ -138,7 +138,7 @@ pub leads_honestly : (sizes : Sizes) (name : ℕ) (blocks : List (List ℕ)) (es
 leads_honestly sizes name blocks es new g =
     let w = world_over sizes name blocks in
     let fates = fates_of w es new g in
-    (fates, leads_all es w new g fates (histories_are_sound sizes name [] w.core refl) (λ t may. refl))
+    (fates, leads_all es w new g fates (blank_sound sizes name [] w.core refl) (λ t may. refl))
 
 goes_honestly : (fates : ℕ → Fate) (w : World) (es : List Entry) (new : World) → LeadsHonestly fates w es new
     → GoesHonestly fates w es
@@ -146,7 +146,7 @@ goes_honestly fates w [] new h = tt
 goes_honestly fates w (e ∷ es) new h = (h.0, h.1, goes_honestly fates h.0 es new h.2)
 
 pub honest_of : (sizes : Sizes) (name : ℕ) (blocks : List (List ℕ)) (es : List Entry) (new : World)
-    → IsFirst (world_over sizes name blocks) → GoesTo (world_over sizes name blocks) es new
+    → IsBlank (world_over sizes name blocks) → GoesTo (world_over sizes name blocks) es new
     → IsHonest sizes name blocks es new
 honest_of sizes name blocks es new first g =
     let a = leads_honestly sizes name blocks es new g in

@@ -13,7 +13,7 @@ use Rattle.deeds.specs.declared.views.Place.{Place}
 use Rattle.deeds.specs.declared.views.Place.TheVariants.{Out}
 use Rattle.machine.specs.declared.event.End.{End}
 use Rattle.machine.specs.State.{State, Request, page_bytes}
-use Rattle.runs.specs.Runs.{IsFirst}
+use Rattle.runs.specs.Runs.{IsBlank}
 use Rattle.runs.specs.World.{World, Acts}
 use Rattle.trail.specs.declared.entry.Entry.{Entry}
 use Rattle.trail.specs.Honest.{Fate, Honest, IsTold, EndTells, end_made, world_over}
@@ -83,7 +83,7 @@ IsOnItsWay w t x bytes = (bytes ≡ slice_get w.device x.block) ⊎ ((x.kind ≡
 pub record Tied (sizes : Sizes) (name : ℕ) (blocks : List (List ℕ)) (history : List Entry) (core : State)
     (places : List Place) : Type 0 where
   pub world : World
-  pub first : IsFirst (world_over sizes name blocks)
+  pub first : IsBlank (world_over sizes name blocks)
   pub goes : GoesTo (world_over sizes name blocks) history world
   pub core_is : world.core ≡ core
   pub device : world.device ≡ known places

@@ -19,11 +19,12 @@ use Rattle.machine.specs.Changes.{new_sync}
 use Rattle.machine.proofs.steps.Ends.{own_end}
 use Rattle.machine.specs.Step.{Step}
 use Rattle.machine.proofs.steps.Cases.{Cases, IsVerdict, by_cases, happened}
-use Rattle.runs.specs.Plain.{no_files}
 use Rattle.runs.specs.Runs.{Run, core_at}
 use Rattle.runs.specs.Runs as runs
+use Rattle.runs.specs.Seen.{files_seen}
 use Rattle.runs.specs.World.{World, Move, Act, Call, Finish, WorldStep, Ends}
 use Rattle.runs.proofs.events.Lookups.{get-insert1, get-remove1}
+use Rattle.runs.proofs.moments.Blank.{blank_first}
 use Rattle.runs.proofs.moments.Histories.{calls}
 use Rattle.runs.proofs.moments.RunSteps.{step_at}
 use Rattle.runs.proofs.syncs.SyncRuns.{syncs_are_synced}
@@ -272,7 +273,7 @@ module _ (w : World) (run : runs.Steps) (is_run : Run w run) (n : SyncId) (first
   next : (k : ℕ) (move : Move) (new : World) → slice_get run k ≡ Some (move, new) → k < length run
       → WorldStep (runs.world_at w run k) move new × (runs.world_at w run (suc k) ≡ new)
   next k move new is short =
-      let a = step_at run w no_files k is_run short in
+      let a = step_at run w (files_seen w) k is_run short in
       let same : Some (a.move, a.new) ≡ Some (move, new) = sym a.there ∙ is in
       let moves : a.move ≡ move = ap (λ o. (unwrap_or {T = Move × World} o (move, new)).0) same in
       let news : a.new ≡ new = ap (λ o. (unwrap_or {T = Move × World} o (move, new)).1) same in (
@@ -319,7 +320,7 @@ clean_entries_hold sizes name history h steps woven r a j k s late short =
     × (slice_get r.run q ≡ Some (move, new)) × (q < length r.run) × (ends_move m move ≡ false) =
     λ q low high.
     let within : q < length r.run = (let b = answers.2 in omega arith) in
-    let z = step_at r.run w no_files q r.is_run within in (
+    let z = step_at r.run w (files_seen w) q r.is_run within in (
       z.move,
       z.new,
       z.there,
@@ -327,7 +328,7 @@ clean_entries_hold sizes name history h steps woven r a j k s late short =
       between h.fates m (λ _. false) history steps woven a.step j s.lasts q z.move low high
           (sym (ap (λ l. slice_get l q) r.steps_are) ∙ without_world r.run q (z.move, z.new) z.there),
     ) in
-    syncs_are_synced w r.run r.first r.is_run (record a { step = i }) (place_in steps j) k
+    syncs_are_synced w r.run (blank_first w r.first) r.is_run (record a { step = i }) (place_in steps j) k
     (record {
       begins = (begins.0, begins.1);
       new = answers.0;

@@ -10,7 +10,7 @@ use Rattle.blockdev.specs.Device.{Told, IsSized}
 use Rattle.maps.proofs.Filtered.{filter_map_values-empty}
 use Rattle.machine.specs.State.{State, Request}
 use Rattle.machine.specs.History.{no_files}
-use Rattle.runs.specs.Runs.{IsFirst}
+use Rattle.runs.specs.Runs.{IsBlank}
 use Rattle.world.specs.Stepping.{first_world, world_of}
 use Rattle.world.specs.Flights.{Jobs, outcome_in, written_by, seen_of, HasJob, IsWorld}
 use Rattle.blockdev.specs.Watching.{first_watch}
@@ -31,12 +31,12 @@ first_is g name core jobs dev c j = (λ i. seen_of (c i) (j i) (first_watch dev)
 
 -- over a device that tells its blocks it is a first world of the definitions
 told_first : (g : Sizes) (name : ℕ) (dev : Told) → 0 < g.page → dev.size ≡ g.page → dev.count ≡ g.blocks → IsSized dev
-    → IfSome dev.contents (λ _. IsFirst (world_of (first_world g name dev)))
+    → IfSome dev.contents (λ _. IsBlank (world_of (first_world g name dev)))
 told_first g name dev some size count = by_contents dev.contents refl
   where
     by_contents : (o : Option (List (List ℕ))) → dev.contents ≡ o
         → IfSome o (λ blocks. (length blocks ≡ dev.count) × All (λ bytes. length bytes ≡ dev.size) blocks)
-        → IfSome o (λ _. IsFirst (world_of (first_world g name dev)))
+        → IfSome o (λ _. IsBlank (world_of (first_world g name dev)))
     by_contents None e sized = tt
     by_contents (Some blocks) e sized =
         let same : unwrap_or dev.contents [] ≡ blocks = ap (λ o. unwrap_or o []) e in
@@ -51,9 +51,9 @@ told_first g name dev some size count = by_contents dev.contents refl
 
 pub is_first : (g : Sizes) (name : ℕ) (core : State) (jobs : Jobs) (dev : Told) → core ≡ no_files g name
     → jobs ≡ finmap.empty → 0 < g.page → dev.size ≡ g.page → dev.count ≡ g.blocks → IsSized dev
-    → IfSome dev.contents (λ _. IsFirst (world_of (seen_of core jobs (first_watch dev))))
+    → IfSome dev.contents (λ _. IsBlank (world_of (seen_of core jobs (first_watch dev))))
 is_first g name core jobs dev c j some size count sized =
-    subst (λ w. IfSome dev.contents (λ _. IsFirst (world_of w))) (sym (first_is g name core jobs dev c j))
+    subst (λ w. IfSome dev.contents (λ _. IsBlank (world_of w))) (sym (first_is g name core jobs dev c j))
     (told_first g name dev some size count sized)
 
 pub first_kept : (g : Sizes) (name : ℕ) (core : State) (jobs : Jobs) (dev : Told) → core ≡ no_files g name

@@ -2,7 +2,7 @@
 -- it answers Clean the device has these pages of the file as they were when the sync began.
 use Rattle.std.proofs.Common.{◌≡◌, ◌≢◌, ℕ, zero, suc, ◌<◌, ◌≤◌, ◌⊎◌, Bool, true, false, eqb, eqb-true, [], ◌∷◌, ◌++◌}
 use Rattle.std.proofs.Common.{length, refl, ap, sym, subst, ◌∙◌, arith, inl, inr}
-use Rattle.std.specs.Prelude.{Option, Some, None, is_some, option_map, slice_get, slice_index_or}
+use Rattle.std.specs.Prelude.{Option, Some, is_some, slice_get, slice_index_or}
 use Rattle.std.specs.FinMap as finmap
 use Rattle.std.proofs.lemmas.Bool.Decides.{nat_tests}
 use Rattle.std.proofs.lemmas.List.{take_all, take-append-le, length_push}
@@ -15,19 +15,24 @@ use Rattle.maps.proofs.Maps.{get_inserted}
 use Rattle.machine.specs.declared.event.Event.TheVariants as event
 use Rattle.machine.specs.declared.event.Reply.{Reply}
 use Rattle.machine.specs.declared.event.Reply.TheVariants as reply
-use Rattle.machine.specs.State.{no_file, file_at, page_count}
+use Rattle.machine.specs.State.{Page, no_file, file_at, page_at, page_count, tags_of}
 use Rattle.machine.specs.Changes.{new_sync}
 use Rattle.machine.proofs.steps.Cases.{happened}
-use Rattle.runs.specs.Plain.{Plain, no_files, plain_file, named}
-use Rattle.runs.specs.Reached.{IsReached, files_seen}
+use Rattle.runs.specs.Plain.{Plain, plain_file, named}
+use Rattle.runs.specs.Quiet.{WritesNothing, writes}
+use Rattle.runs.specs.Reached.{IsReached}
+use Rattle.runs.specs.Reading.{HoldsFiles}
+use Rattle.runs.specs.Seen.{files_seen}
 use Rattle.runs.specs.Runs.{Steps, IsFirst, Run, last, plain_at, plain_move, plain_from, world_at}
-use Rattle.runs.specs.Syncing.{Begin, cuts_off, CutOff, IsOnDevice, IsSync, Lasts, failures_at, its_file}
+use Rattle.runs.specs.Syncing.{Begin, IsSync, Lasts, failures_at, its_file}
 use Rattle.runs.specs.World.{World, Move, Act, Call, Finish, WorldStep, on_device}
+use Rattle.runs.proofs.moments.FilesHeld.{files_are_held}
 use Rattle.runs.proofs.moments.FilesSeen.{files_are}
 use Rattle.runs.proofs.moments.Moments.{coupled_at}
 use Rattle.runs.proofs.moments.Reached.{last-snoc, run-snoc}
 use Rattle.runs.proofs.syncs.SyncProgress.{size_at}
-use Rattle.runs.proofs.syncs.SyncRuns.{syncs_are_synced, syncs_tell}
+use Rattle.runs.proofs.syncs.EndsClean.{syncs_leave_clean}
+use Rattle.runs.proofs.syncs.SyncRuns.{syncs_tell}
 use Rattle.world.proofs.SyncStays.{is_over, over_leaves_files}
 
 -- ---- a run with one more step
@@ -64,16 +69,16 @@ module _ (run : Steps) (e : Move) (new : World) where
   world_kept : (w : World) (k : ℕ) → k ≤ length run → world_at w longer k ≡ world_at w run k
   world_kept w k l = ap (last w) (take-append-le k run ((e, new) ∷ []) l)
 
-  plain_kept : (k : ℕ) → k ≤ length run → plain_at longer k ≡ plain_at run k
-  plain_kept k l = ap (plain_from no_files) (take-append-le k run ((e, new) ∷ []) l)
+  plain_kept : (w : World) (k : ℕ) → k ≤ length run → plain_at w longer k ≡ plain_at w run k
+  plain_kept w k l = ap (plain_from (files_seen w)) (take-append-le k run ((e, new) ∷ []) l)
 
   world_now : (w : World) → world_at w longer (suc (length run)) ≡ new
   world_now w = ap (last w) (take_all (suc (length run)) longer (omega (arith, len_longer))) ∙ last-snoc run w new e
 
-  plain_now : plain_at longer (suc (length run)) ≡ plain_move (plain_at run (length run)) e
-  plain_now = ap (plain_from no_files) (take_all (suc (length run)) longer (omega (arith, len_longer)))
-      ∙ plain-snoc run no_files (e, new)
-      ∙ ap (λ r. plain_move (plain_from no_files r) e) (sym (take_all (length run) run (omega arith)))
+  plain_now : (w : World) → plain_at w longer (suc (length run)) ≡ plain_move (plain_at w run (length run)) e
+  plain_now w = ap (plain_from (files_seen w)) (take_all (suc (length run)) longer (omega (arith, len_longer)))
+      ∙ plain-snoc run (files_seen w) (e, new)
+      ∙ ap (λ r. plain_move (plain_from (files_seen w) r) e) (sym (take_all (length run) run (omega arith)))
 
 world_end : (w : World) (run : Steps) → world_at w run (length run) ≡ last w run
 world_end w run = ap (last w) (take_all (length run) run (omega arith))
@@ -93,16 +98,16 @@ is_of_sync (Call t fault effect) = true
 is_of_sync (Finish t r) = true
 is_of_sync _ = false
 
--- the step changes no plain file, and cuts nothing off
+-- the step changes no plain file, and writes to none
 record ChangesNothing (e : Move) : Type 0 where
   pub plain : (p : Plain) → plain_move p e ≡ p
-  pub uncut : (P : ℕ) (w : Plain) (f p : ℕ) → cuts_off P w e f p ≡ false
+  pub quiet : writes e ≡ false
 
 changes_nothing : (e : Move) → is_of_sync e ≡ true → ChangesNothing e
-changes_nothing (Act (event.SyncStep n) r) q = record { plain = λ p. refl; uncut = λ P w f p. refl }
-changes_nothing (Act (event.FlushBegin f) r) q = record { plain = λ p. refl; uncut = λ P w f p. refl }
-changes_nothing (Call t fault effect) q = record { plain = λ p. refl; uncut = λ P w f p. refl }
-changes_nothing (Finish t r) q = record { plain = λ p. refl; uncut = λ P w f p. refl }
+changes_nothing (Act (event.SyncStep n) r) q = record { plain = λ p. refl; quiet = refl }
+changes_nothing (Act (event.FlushBegin f) r) q = record { plain = λ p. refl; quiet = refl }
+changes_nothing (Call t fault effect) q = record { plain = λ p. refl; quiet = refl }
+changes_nothing (Finish t r) q = record { plain = λ p. refl; quiet = refl }
 changes_nothing _ q = absurd cc
 
 -- ---- a run in which sync n begins at `old`, and from there to `now` no step changes a plain file
@@ -117,9 +122,8 @@ pub record RangeRun (h : HandleId) (low high : PageIndex) (n : SyncId) (old now 
   pub begun : World
   pub begins : slice_get run start ≡ Some (Act (event.SyncBegin h low high) (reply.Sync n), begun)
   pub was : world_at first run start ≡ old
-  pub plain : (k : ℕ) → start ≤ k → k ≤ length run → plain_at run k ≡ plain_at run start
-  pub uncut : (k : ℕ) (x : Move × World) → start ≤ k → slice_get run k ≡ Some x → (P : ℕ) (w : Plain) (f p : ℕ)
-      → cuts_off P w x.0 f p ≡ false
+  pub plain : (k : ℕ) → start ≤ k → k ≤ length run → plain_at first run k ≡ plain_at first run start
+  pub quiet : (k : ℕ) (x : Move × World) → start ≤ k → slice_get run k ≡ Some x → writes x.0 ≡ false
 
 -- the sync's begin is the run's last step
 run_begins : (h : HandleId) (low high : PageIndex) (n : SyncId) (old now : World) → IsReached old
@@ -137,13 +141,13 @@ run_begins h low high n old now r m = (
     begins = slice_last r.run (e, now);
     was = world_kept r.run e now r.first i (omega arith) ∙ world_end r.first r.run ∙ r.leads;
     plain = λ k a b. elim (up_to k i (let l = len_longer r.run e now in omega arith)) [
-      | inl l ↦ ap (plain_at (longer r.run e now)) (let same : k ≡ i = omega arith in same)
-      | inr l ↦ ap (plain_at (longer r.run e now)) l ∙ plain_now r.run e now
-          ∙ sym (plain_kept r.run e now i (omega arith))
+      | inl l ↦ ap (plain_at r.first (longer r.run e now)) (let same : k ≡ i = omega arith in same)
+      | inr l ↦ ap (plain_at r.first (longer r.run e now)) l ∙ plain_now r.run e now r.first
+          ∙ sym (plain_kept r.run e now r.first i (omega arith))
     ];
-    uncut = λ k x a is P w f p. elim (slice_more r.run (e, now) x k is) [
+    quiet = λ k x a is. elim (slice_more r.run (e, now) x k is) [
       | inl y ↦ absurd (let l = slice_get_within r.run k x y in omega arith)
-      | inr same ↦ ap (λ (y : Move × World). cuts_off P w y.0 f p) same
+      | inr same ↦ ap (λ (y : Move × World). writes y.0) same
     ];
   },
   len_longer r.run e now,
@@ -173,22 +177,22 @@ run_goes h low high n old now new r e q m = record {
   begins = slice_kept r.run (e, new) _ r.start r.begins;
   was = world_kept r.run e new r.first r.start (omega (arith, within h low high n old now r)) ∙ r.was;
   plain = λ k a b. elim (up_to k (length r.run) (let l = len_longer r.run e new in omega arith)) [
-    | inl l ↦ plain_kept r.run e new k l ∙ r.plain k a l
-        ∙ sym (plain_kept r.run e new r.start (omega (arith, within h low high n old now r)))
-    | inr l ↦ ap (plain_at (longer r.run e new)) l ∙ plain_now r.run e new
-        ∙ (changes_nothing e q).plain (plain_at r.run (length r.run))
+    | inl l ↦ plain_kept r.run e new r.first k l ∙ r.plain k a l
+        ∙ sym (plain_kept r.run e new r.first r.start (omega (arith, within h low high n old now r)))
+    | inr l ↦ ap (plain_at r.first (longer r.run e new)) l ∙ plain_now r.run e new r.first
+        ∙ (changes_nothing e q).plain (plain_at r.first r.run (length r.run))
         ∙ r.plain (length r.run) (omega (arith, within h low high n old now r)) (omega arith)
-        ∙ sym (plain_kept r.run e new r.start (omega (arith, within h low high n old now r)))
+        ∙ sym (plain_kept r.run e new r.first r.start (omega (arith, within h low high n old now r)))
   ];
-  uncut = λ k x a is P w f p. elim (slice_more r.run (e, new) x k is) [
-    | inl y ↦ r.uncut k x a y P w f p
-    | inr same ↦ ap (λ (y : Move × World). cuts_off P w y.0 f p) same ∙ (changes_nothing e q).uncut P w f p
+  quiet = λ k x a is. elim (slice_more r.run (e, new) x k is) [
+    | inl y ↦ r.quiet k x a y
+    | inr same ↦ ap (λ (y : Move × World). writes y.0) same ∙ (changes_nothing e q).quiet
   ];
 }
 
 files_at : (first : World) (run : Steps) → IsFirst first → Run first run → (k : ℕ)
-    → files_seen (world_at first run k) ≡ plain_at run k
-files_at first run is_first is_run k = files_are (world_at first run k) (plain_at run k)
+    → files_seen (world_at first run k) ≡ plain_at first run k
+files_at first run is_first is_run k = files_are (world_at first run k) (plain_at first run k)
     (coupled_at first run is_first is_run k)
 
 module _ (h : HandleId) (low high : PageIndex) (n : SyncId) (old now : World) (r : RangeRun h low high n old now) where
@@ -196,7 +200,7 @@ module _ (h : HandleId) (low high : PageIndex) (n : SyncId) (old now : World) (r
   reached = record { first = r.first; run = r.run; is_first = r.is_first; is_run = r.is_run; leads = r.leads }
 
   -- the plain files of each moment from the begin on are those of `old`
-  plain_is : (k : ℕ) → r.start ≤ k → k ≤ length r.run → plain_at r.run k ≡ files_seen old
+  plain_is : (k : ℕ) → r.start ≤ k → k ≤ length r.run → plain_at r.first r.run k ≡ files_seen old
   plain_is k a b = r.plain k a b ∙ sym (files_at r.first r.run r.is_first r.is_run r.start) ∙ ap files_seen r.was
 
   same_files : files_seen now ≡ files_seen old
@@ -305,7 +309,7 @@ module _ (h : HandleId) (low high : PageIndex) (n : SyncId) (old now new : World
     lasts = λ k b c. ap (in_progress n) (world_kept was.run e new r.first k c) ∙ s.lasts k b c;
   }
 
-  base : plain_at r.run r.start ≡ files_seen old
+  base : plain_at r.first r.run r.start ≡ files_seen old
   base = plain_is h low high n old new r r.start (omega arith) (omega (arith, before, in_run))
 
   size : r.first.core.sizes.page ≡ P
@@ -325,31 +329,11 @@ module _ (h : HandleId) (low high : PageIndex) (n : SyncId) (old now new : World
   files_same : files_seen new ≡ files_seen old
   files_same = same_files h low high n old new r
 
-  small_is : (p : ℕ) → p < page_count P (length (plain_file (files_seen old) f))
-      → p < page_count r.first.core.sizes.page (length (plain_file (plain_at r.run r.start) (its_file r.run a)))
-  small_is p small =
-      subst (λ k. p < k) (λ i. page_count (sym size i) (length (plain_file (sym base i) (named (sym base i) h.0))))
-      small
+  nothing_written : WritesNothing r.run r.start j
+  nothing_written k move v late _ is = r.quiet k (move, v) (omega arith) is
 
-  page_is : (p : ℕ) → IsOnDevice r.first r.run r.start (suc j) (its_file r.run a) p
-      → on_device new f p ≡ page_of P (plain_file (files_seen old) f) p
-  page_is p d =
-      let then : plain_at r.run d.moment ≡ files_seen old =
-      plain_is h low high n old new r d.moment d.after (let a = d.before in omega (arith, in_run)) in
-      (λ i. on_device (sym (world_now was.run e new r.first) i) (named (sym base i) h.0) p) ∙ d.bytes
-      ∙ (λ i. page_of (size i) (plain_file (then i) (named (base i) h.0)) p)
-
-  not_cut : (g p : ℕ) → CutOff r.first.core.sizes.page r.run r.start (suc j) g p → ⊥
-  not_cut g p c = go (slice_get r.run c.moment) refl c.cuts
-    where
-      go : (o : Option (Move × World)) → slice_get r.run c.moment ≡ o
-          → option_map (λ (x : Move × World). cuts_off r.first.core.sizes.page (plain_at r.run c.moment) x.0 g p) o
-          ≡ Some true → ⊥
-      go None is e = cc
-      go (Some x) is e =
-          let a = r.uncut c.moment x c.after is r.first.core.sizes.page (plain_at r.run c.moment) g p in
-          let k : cuts_off r.first.core.sizes.page (plain_at r.run c.moment) x.0 g p ≡ true = cc in
-          absurd (let z = sym a ∙ k in cc)
+  same_named : its_file r.first r.run a ≡ f
+  same_named = λ i. named (base i) h.0
 
 -- the device has each page of the file from low to high, no write of the file failed, and the plain files are as they
 -- were
@@ -362,6 +346,36 @@ pub record IsRangeSynced (low high : PageIndex) (old new : World) (f : ℕ) : Ty
 
 module _ (h : HandleId) (low high : PageIndex) (n : SyncId) (old now new : World)
     (s : SyncsRange h low high n old now) where
+  -- the page is clean, and so the device has it as it is
+  page_is : WorldStep now (Act (event.SyncStep n) reply.Clean) new → (p : ℕ) → (low.0 ≤ p) × (p ≤ high.0)
+      → on_device new (named (files_seen old) h.0) p
+      ≡ page_of old.core.sizes.page (plain_file (files_seen old) (named (files_seen old) h.0)) p
+  page_is m p range =
+      let r = r h low high n old now new s reply.Clean refl m in
+      let a = a h low high n old now new s reply.Clean refl m in
+      let j = length s.sync_run.run in
+      let f = named (files_seen old) h.0 in
+      let now_is = world_now s.sync_run.run (Act (event.SyncStep n) reply.Clean) new r.first in
+      let tags = syncs_leave_clean r.first r.run r.is_first r.is_run a j p
+      (is_sync h low high n old now new s reply.Clean refl m)
+      (nothing_written h low high n old now new s reply.Clean refl m) range in
+      let page : page_at new.core f p
+      ≡ page_at (world_at r.first r.run j).core (its_file r.first r.run a) p =
+      ap (λ fs. finmap.get (slice_index_or fs f no_file).pages p) (over_leaves_files now new n reply.Clean refl m)
+      ∙ (λ i. page_at (sym (world_now_is h low high n old now new s reply.Clean refl m) i).core
+      (sym (same_named h low high n old now new s reply.Clean refl m) i) p) in
+      let held = subst (λ (v : World). HoldsFiles v (plain_at r.first r.run (suc j))) now_is
+      (files_are_held r.first r.run r.is_first r.is_run (suc j)) in
+      let plain = plain_is h low high n old new r (suc j)
+      (let b = before h low high n old now new s reply.Clean refl m in omega arith)
+      (in_run h low high n old now new s reply.Clean refl m) in
+      let size : new.core.sizes.page ≡ old.core.sizes.page = ap (λ (v : World). v.core.sizes.page) (sym now_is)
+      ∙ size_at r.first r.run r.is_first r.is_run (suc j) (in_run h low high n old now new s reply.Clean refl m)
+      ∙ size h low high n old now new s reply.Clean refl m in
+      held.clean f p (ap (λ (o : Option Page). (tags_of o).dirty) page ∙ tags.0)
+      (ap (λ (o : Option Page). (tags_of o).writeback) page ∙ tags.1)
+      ∙ (λ i. page_of (size i) (plain_file (plain i) f) p)
+
   pub range_clean : WorldStep now (Act (event.SyncStep n) reply.Clean) new
       → IsRangeSynced low high old new (named (files_seen old) h.0)
   range_clean m =
@@ -370,12 +384,7 @@ module _ (h : HandleId) (low high : PageIndex) (n : SyncId) (old now new : World
       let j = length s.sync_run.run in
       let sync = is_sync h low high n old now new s reply.Clean refl m in
       record {
-        pages = λ p from to small. elim (syncs_are_synced r.first r.run r.is_first r.is_run a j (suc j) sync
-            (omega arith) (in_run h low high n old now new s reply.Clean refl m) p (from, to)
-            (small_is h low high n old now new s reply.Clean refl m p small)) [
-              | inl c ↦ absurd (not_cut h low high n old now new s reply.Clean refl m _ p c)
-              | inr d ↦ page_is h low high n old now new s reply.Clean refl m p d
-            ];
+        pages = λ p from to _. page_is m p (from, to);
         failures = sym (failures_now h low high n old now new s reply.Clean refl m)
             ∙ syncs_tell.clean r.first r.run r.is_first r.is_run a j sync
             ∙ sym (failures_then h low high n old now new s reply.Clean refl m);

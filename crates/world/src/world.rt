@@ -11,7 +11,7 @@ ghost use Rattle.cachecore.specs.Replies.{TagsAre, answered};
 ghost use Rattle.cachecore.specs.Wants.{IsFirstToWrite, NothingToWrite, holds_cut, wants};
 ghost use Rattle.world.specs.Answers.{fill_says, flush_says, sync_says};
 ghost use Rattle.world.specs.Flights.{IsSpare};
-ghost use Rattle.runs.specs.Runs.{IsFirst};
+ghost use Rattle.runs.specs.Runs.{IsBlank};
 ghost use Rattle.world.specs.Stepping.{Plays, Steps, first_world, fits, world_of};
 
 use crate::answers::{self, FillAnswer, FlushAnswer, SyncAnswer};
@@ -66,7 +66,7 @@ impl<D: BlockDevice> World<D> {
         device: D,
     ) -> Result<World<D>, (Refusal, D)>
         ensures fresh { IfOk result (λ w. w ≡ first_world geometry.now name (D.told device)) }
-        ensures first { IfOk result (λ w. IfSome (D.told device).contents (λ _. IsFirst (world_of w))) }
+        ensures first { IfOk result (λ w. IfSome (D.told device).contents (λ _. IsBlank (world_of w))) }
         ensures fits { IfOk result (λ _. fits geometry.now (D.told device) ≡ true) }
         ensures refused { IfErr result (λ e. e.0 ≡ (if fits geometry.now (D.told device) then Memory else BadConfig)) }
         ensures back { IfErr result (λ e. e.1 ≡ device) }

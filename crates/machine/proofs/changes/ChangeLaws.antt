@@ -39,7 +39,7 @@ byte-bytes_at s f o n k h = get_or-map-range_with_len (byte_at s f) o n k (o + k
 
 -- a block that a page took
 abbrev pub new_spot : ℕ → Spot
-new_spot b = record { block = b; written = false }
+new_spot b = record { block = b; valid = 0 }
 
 -- the k-th page of a list without a block takes the k-th free block: here the page p of those from `first` on
 abbrev pub taken_by : State → ℕ → ℕ → ℕ → ℕ

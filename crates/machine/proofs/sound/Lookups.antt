@@ -125,18 +125,18 @@ block_is s f p e = go (block_at s f p) e
     go None e = absurd cc
     go (Some b) e = refl
 
--- that a block is written doesn't change whose it is
-pub block_written : (spots : FinMap place_cmp Spot) (f p k : ℕ)
+-- how many bytes of a block are valid doesn't change whose it is
+pub block_valid : (spots : FinMap place_cmp Spot) (f p k valid : ℕ)
     → option_map (λ (x : Spot). x.block) (finmap.get spots (f, p)) ≡ Some k → (g q : ℕ)
     → option_map (λ (x : Spot). x.block)
-    (finmap.get (finmap.insert spots (f, p) (record { block = k; written = true })) (g, q))
+    (finmap.get (finmap.insert spots (f, p) (record { block = k; valid = valid })) (g, q))
     ≡ option_map (λ (x : Spot). x.block) (finmap.get spots (g, q))
-block_written spots f p k has g q = ap (option_map (λ (x : Spot). x.block)) (get-insert_place spots f p _ g q)
+block_valid spots f p k valid has g q = ap (option_map (λ (x : Spot). x.block)) (get-insert_place spots f p _ g q)
     ∙ go (eqb g f) (eqb q p) refl refl
   where
     go : (a b : Bool) → eqb g f ≡ a → eqb q p ≡ b
         → option_map (λ (x : Spot). x.block)
-        (cond (a && b) (Some (record { block = k; written = true })) (finmap.get spots (g, q)))
+        (cond (a && b) (Some (record { block = k; valid = valid })) (finmap.get spots (g, q)))
         ≡ option_map (λ (x : Spot). x.block) (finmap.get spots (g, q))
     go true true a b =
         sym has ∙ (λ i. option_map (λ (x : Spot). x.block)

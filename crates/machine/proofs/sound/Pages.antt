@@ -1,7 +1,7 @@
 -- A change of one page, and the begin or end of its request, keeps a state sound.
 use Rattle.std.proofs.Common.{◌≡◌, ℕ, Bool, true, false, cond, not, eqb, eqb-true, eq-eqb, List, [], refl, ap, sym}
 use Rattle.std.proofs.Common.{subst, ◌∙◌, inl, inr, ◌&&◌, ◌||◌, ◌⊎◌, Option, Some, None, is_some, option_map}
-use Rattle.std.specs.Prelude.{unwrap_or}
+use Rattle.std.specs.Prelude.{nat_lt, unwrap_or}
 use Rattle.std.specs.FinMap as finmap
 use Rattle.pc_types.specs.Files.{cut}
 use Rattle.pc_types.specs.Tags.{no_tags}
@@ -18,7 +18,7 @@ use Rattle.machine.proofs.steps.Choices.{and_true, not_true, none_of}
 use Rattle.machine.proofs.changes.StateLaws.{filling_shows}
 use Rattle.maps.proofs.MapLaws.{get-change_at}
 use Rattle.machine.proofs.sound.Lookups.{change_here, put_page_tells, removed_tells, change_page_tells, put_file_tells}
-use Rattle.machine.proofs.sound.Lookups.{block_is, block_written}
+use Rattle.machine.proofs.sound.Lookups.{block_is, block_valid}
 use Rattle.machine.proofs.sound.Changes.{lookups, TagsFit, PageFits, IsOf, dirty, writeback, towrite, tags_fit}
 use Rattle.machine.proofs.sound.Changes.{page_fits, pages_change, requests_end, request_begins, one_request}
 use Rattle.machine.proofs.sound.Changes.{unheld_block, same_lookups}
@@ -160,7 +160,7 @@ module _ (s : State) (ok : Sound s) where
     pub flushed_sound : Sound (flushed (ended s t) r)
     flushed_sound = same_lookups (lookups (change_page (ended s t) r.file r.page (after_write false)))
         (lookups (flushed (ended s t) r)) (λ g q. refl)
-        (block_written s.spots r.file r.page r.block (ok.mapped t r is live)) (λ u. refl) refl
+        (block_valid s.spots r.file r.page r.block s.sizes.page (ok.mapped t r is live)) (λ u. refl) refl
         (ended_pages false _ refl)
 
   -- ---- a request begins
@@ -209,7 +209,7 @@ module _ (s : State) (ok : Sound s) where
         (unheld_block (lookups s) ok f p ((unwrap_or (block_at s f p) 0)) has (no_fill f p idle) (ap writeback absent))
         _ (begun _)
       where
-        has_spot : (x : Option Spot) → unwrap_or (option_map (λ (y : Spot). y.written) x) false ≡ true
+        has_spot : (x : Option Spot) → nat_lt 0 (unwrap_or (option_map (λ (y : Spot). y.valid) x) 0) ≡ true
             → is_some (option_map (λ (y : Spot). y.block) x) ≡ true
         has_spot None e = absurd cc
         has_spot (Some y) e = refl

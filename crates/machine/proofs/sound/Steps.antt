@@ -1,20 +1,23 @@
 -- Each step of the machine keeps a state sound, and so does a legal history.
 use Rattle.std.proofs.Common.{◌≡◌, ℕ, Bool, true, false, List, [], ◌∷◌, refl, ap, sym, subst, ◌∙◌, inl, inr, ◌&&◌, ◌||◌}
 use Rattle.std.proofs.Common.{Option, Some, None, option_map, nat_cmp}
+use Rattle.std.specs.FinMap as finmap
 use Rattle.std.specs.FinMap.{get-empty}
 use Rattle.pc_types.specs.Limits.{Sizes}
-use Rattle.pc_types.specs.Spots.{Spot, place_cmp}
+use Rattle.pc_types.specs.Spots.{Spot}
 use Rattle.machine.specs.declared.event.Event.{Event}
 use Rattle.machine.specs.declared.event.Reply.{Reply}
 use Rattle.machine.specs.State.{State, Page, Request, Sync, file_at, handle_file, page_at, block_at, tags_of, in_range}
 use Rattle.machine.specs.Changes.{to_write, new_sync, sync_begun, is_left}
 use Rattle.maps.specs.Maps.{each_value}
+use Rattle.machine.specs.Catalogs.{Catalog, IsCatalog, adopted, no_catalog}
 use Rattle.machine.specs.History as history
 use Rattle.machine.specs.Step.{Step}
 use Rattle.machine.specs.Sound.{Sound, StepsStaySound, HistoriesAreSound}
 use Rattle.machine.proofs.steps.Cases.{Cases, by_cases}
-use Rattle.machine.proofs.steps.Choices.{and_true}
+use Rattle.machine.proofs.steps.Choices.{and_true, mapped_some}
 use Rattle.maps.proofs.Maps.{get-each_value}
+use Rattle.machine.proofs.changes.Adopted.{no_catalog_is, none_cached}
 use Rattle.machine.proofs.sound.Changes.{lookups, TagsFit, IsRetagged, dirty, towrite, tags_fit, not_retagged}
 use Rattle.machine.proofs.sound.Changes.{pages_retagged, same_lookups}
 use Rattle.machine.proofs.sound.Cuts.{shrunk_sound}
@@ -85,7 +88,7 @@ module _ (s : State) (ok : Sound s) where
     flushes = λ f p page t may is. record { sound = started_sound s ok f.0 p page may.is may.dirty may.clean };
     drops = λ kind end x may dropped. record { sound = ended_sound s ok end.serial.0 };
     fill_fails = λ end x c may live o. record { sound = ended_sound s ok end.serial.0 };
-    fill_ends = λ end x b may live o. record { sound = filled_sound s ok end.serial.0 x may.is live b };
+    fill_ends = λ end x b may live o. record { sound = filled_sound s ok end.serial.0 x may.is live _ };
     flush_fails = λ end x c may live o. record { sound = flush_failed_sound s ok end.serial.0 x may.is live c };
     flush_ends = λ end x may live o. record { sound = flushed_sound s ok end.serial.0 x may.is live };
     begins =
@@ -109,22 +112,25 @@ module _ (s : State) (ok : Sound s) where
 pub steps_stay_sound : StepsStaySound
 steps_stay_sound old new e r step ok = sound_after old ok e r new step
 
--- a cache without files
-first_sound : (sizes : Sizes) (name : ℕ) → Sound (history.no_files sizes name)
-first_sound sizes name = record {
+-- a cache whose files stand on the device
+first_sound : (catalog : Catalog) (sizes : Sizes) (name : ℕ) → IsCatalog sizes catalog
+    → Sound (adopted sizes name catalog)
+first_sound catalog sizes name ok = record {
   serial = λ t r e. absurd (let n = get-empty {X = Request} nat_cmp t in cc);
   mapped = λ t r e. absurd (let n = get-empty {X = Request} nat_cmp t in cc);
   unmapped = λ t r e. absurd (let n = get-empty {X = Request} nat_cmp t in cc);
   requests_apart = λ t u r q e. absurd (let n = get-empty {X = Request} nat_cmp t in cc);
-  spots_apart =
-      λ f p g q b e. absurd (let n = ap (option_map (λ (x : Spot). x.block)) (get-empty {X = Spot} place_cmp (f, p)) in
-      cc);
+  spots_apart = λ f p g q b e k.
+      let x = mapped_some (λ (y : Spot). y.block) (finmap.get catalog.spots (f, p)) b e in
+      let z = mapped_some (λ (y : Spot). y.block) (finmap.get catalog.spots (g, q)) b k in
+      ok.apart f p g q x.0 z.0 x.1 z.1 (x.2 ∙ sym z.2);
   fill = λ t r e. absurd (let n = get-empty {X = Request} nat_cmp t in cc);
   flush = λ t r e. absurd (let n = get-empty {X = Request} nat_cmp t in cc);
-  dirty_block = λ f p e. absurd (let n = ap dirty (get-empty {X = Page} nat_cmp p) in cc);
+  dirty_block = λ f p e. absurd (let n = ap dirty (none_cached sizes name catalog f p) in cc);
   writeback_block =
-      λ f p e. absurd (let n = ap (λ (o : Option Page). (tags_of o).writeback) (get-empty {X = Page} nat_cmp p) in cc);
-  towrite_dirty = λ f p e. absurd (let n = ap towrite (get-empty {X = Page} nat_cmp p) in cc);
+      λ f p e. absurd (let n = ap (λ (o : Option Page). (tags_of o).writeback) (none_cached sizes name catalog f p) in
+      cc);
+  towrite_dirty = λ f p e. absurd (let n = ap towrite (none_cached sizes name catalog f p) in cc);
 }
 
 leads_sound : (old : State) (es : List (Event × Reply)) (new : State) → Sound old → history.Leads old es new → Sound new
@@ -132,4 +138,10 @@ leads_sound old [] new ok h = subst Sound (sym h) ok
 leads_sound old (e ∷ es) new ok h = leads_sound h.0 es new (steps_stay_sound old h.0 e.0 e.1 h.1 ok) h.2
 
 pub histories_are_sound : HistoriesAreSound
-histories_are_sound sizes name es new h = leads_sound (history.no_files sizes name) es new (first_sound sizes name) h
+histories_are_sound catalog sizes name es new ok h =
+    leads_sound (adopted sizes name catalog) es new (first_sound catalog sizes name ok) h
+
+-- and so does one from a cache without files
+pub blank_sound : (sizes : Sizes) (name : ℕ) (es : List (Event × Reply)) (new : State) → history.After sizes name es new
+    → Sound new
+blank_sound sizes name es new h = histories_are_sound no_catalog sizes name es new (no_catalog_is sizes) h

@@ -29,7 +29,7 @@ use Rattle.machine.specs.declared.event.Reply.TheVariants as reply
 use Rattle.machine.specs.State.{State, Page, Request, Sync, no_file, file_at, handle_file, is_open, page_at, is_written}
 use Rattle.machine.specs.State.{is_idle, first_awaited, bound_of}
 use Rattle.machine.specs.Changes.{put_file, put_page, put_pages, put_sync, drop_sync, requested, started, ended}
-use Rattle.machine.specs.Changes.{flushed, flush_failed, request_ended, written, shrunk, truncated, new_sync}
+use Rattle.machine.specs.Changes.{filled, flushed, flush_failed, request_ended, written, shrunk, truncated, new_sync}
 use Rattle.machine.specs.Changes.{sync_begun, sync_pick, sync_stepped, changed}
 use Rattle.machine.specs.Tests.{tests, is_full, start_tests, sync_tests}
 use Rattle.machine.specs.Step.{IsLowest, Step, AnswersOr, MayReply, EndReply, SyncReply, SyncStepReply}
@@ -81,8 +81,7 @@ pub record Cases (s : State) (Q : Event → Reply → State → Type 0) : Type 0
       → Q (event.End Fill end) (reply.Failed c) (ended s end.serial.0)
   pub fill_ends : (end : End) (x : Request) (b : List ℕ) → MayEnd s Fill end x → x.dropped ≡ false
       → end.outcome ≡ outcome.Read b
-      → Q (event.End Fill end) reply.Filled
-      (put_page (ended s end.serial.0) x.file x.page (record { bytes = b; tags = no_tags }))
+      → Q (event.End Fill end) reply.Filled (filled (ended s end.serial.0) x b)
   pub flush_fails : (end : End) (x : Request) (c : ℕ) → MayEnd s Flush end x → x.dropped ≡ false
       → end.outcome ≡ outcome.Fault c
       → Q (event.End Flush end) (reply.Failed c) (flush_failed (ended s end.serial.0) x c)

@@ -19,7 +19,7 @@ abbrev one_dirty : Parts
 one_dirty = record opened {
   size = 1;
   pages = (0, record { bytes = 170 ∷ replicate 15 0; tags = D }) ∷ [];
-  spots = ((0, 0), record { block = 0; written = false }) ∷ [];
+  spots = ((0, 0), record { block = 0; valid = 0 }) ∷ [];
 }
 
 flush_passes : tests (state_of one_dirty) (event.FlushBegin (file 0)) ≡ None
@@ -115,8 +115,8 @@ three_clean = record opened {
   size = 48;
   pages = (0, record { bytes = replicate 16 1; tags = none }) ∷ (1, record { bytes = replicate 16 1; tags = none })
       ∷ (2, record { bytes = replicate 16 1; tags = none }) ∷ [];
-  spots = ((0, 0), record { block = 0; written = true }) ∷ ((0, 1), record { block = 1; written = true })
-      ∷ ((0, 2), record { block = 2; written = true }) ∷ [];
+  spots = ((0, 0), record { block = 0; valid = 16 }) ∷ ((0, 1), record { block = 1; valid = 16 })
+      ∷ ((0, 2), record { block = 2; valid = 16 }) ∷ [];
   next = 3;
 }
 

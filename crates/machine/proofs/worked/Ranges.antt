@@ -28,7 +28,7 @@ begun = record opened {
   size = 33;
   pages = (0, record { bytes = 170 ∷ replicate 15 0; tags = DT })
       ∷ (2, record { bytes = 187 ∷ replicate 15 0; tags = DT }) ∷ [];
-  spots = ((0, 0), record { block = 0; written = false }) ∷ ((0, 2), record { block = 1; written = false }) ∷ [];
+  spots = ((0, 0), record { block = 0; valid = 0 }) ∷ ((0, 2), record { block = 1; valid = 0 }) ∷ [];
   syncs = (0, range) ∷ [];
 }
 

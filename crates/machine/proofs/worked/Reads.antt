@@ -22,7 +22,7 @@ abbrev gap : Parts
 gap = record opened {
   size = 21;
   pages = (1, record { bytes = replicate 4 0 ++ 255 ∷ replicate 11 0; tags = D }) ∷ [];
-  spots = ((0, 1), record { block = 0; written = false }) ∷ [];
+  spots = ((0, 1), record { block = 0; valid = 0 }) ∷ [];
 }
 
 read_misses : tests (state_of gap) (event.Read (handle 0) 0 21) ≡ Some (reply.Miss (page 0))
@@ -54,7 +54,7 @@ the_bytes b new step = (happens (state_of filled) new (event.Read (handle 0) 0 2
 
 -- a page that was written back and evicted is read from the device, and a read waits for it
 abbrev evicted : Parts
-evicted = record opened { size = 16; spots = ((0, 0), record { block = 0; written = true }) ∷ []; next = 1 }
+evicted = record opened { size = 16; spots = ((0, 0), record { block = 0; valid = 16 }) ∷ []; next = 1 }
 
 abbrev filling : Parts
 filling = record evicted {
@@ -84,7 +84,7 @@ abbrev dropped : Parts
 dropped = record filling {
   size = 1;
   pages = (0, record { bytes = 34 ∷ replicate 15 0; tags = D }) ∷ [];
-  spots = ((0, 0), record { block = 1; written = false }) ∷ [];
+  spots = ((0, 0), record { block = 1; valid = 0 }) ∷ [];
   requests = (1, record { kind = Fill; file = 0; page = 0; block = 0; dropped = true }) ∷ [];
 }
 

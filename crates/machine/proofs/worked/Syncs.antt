@@ -24,8 +24,8 @@ begun = record opened {
   pages = (0, record { bytes = 170 ∷ replicate 15 0; tags = DT })
       ∷ (1, record { bytes = 204 ∷ replicate 15 0; tags = D }) ∷ (2, record { bytes = 187 ∷ replicate 15 0; tags = DT })
       ∷ [];
-  spots = ((0, 0), record { block = 0; written = false }) ∷ ((0, 1), record { block = 2; written = false })
-      ∷ ((0, 2), record { block = 1; written = false }) ∷ [];
+  spots = ((0, 0), record { block = 0; valid = 0 }) ∷ ((0, 1), record { block = 2; valid = 0 })
+      ∷ ((0, 2), record { block = 1; valid = 0 }) ∷ [];
   syncs = (0, record { handle = 0; first = 0; last = 9; started = None; failures = 0; bound = None }) ∷ [];
 }
 
@@ -94,7 +94,7 @@ abbrev old_write : Parts
 old_write = record opened {
   size = 1;
   pages = (0, record { bytes = 187 ∷ replicate 15 0; tags = DWT }) ∷ [];
-  spots = ((0, 0), record { block = 0; written = false }) ∷ [];
+  spots = ((0, 0), record { block = 0; valid = 0 }) ∷ [];
   requests = (0, write_of 0) ∷ [];
   syncs = (0, record { handle = 0; first = 0; last = 9; started = None; failures = 0; bound = None }) ∷ [];
   next = 1;
@@ -167,7 +167,7 @@ one_failed = record opened {
   failures = 1;
   last_code = 5;
   pages = (0, record { bytes = 170 ∷ replicate 15 0; tags = D }) ∷ [];
-  spots = ((0, 0), record { block = 0; written = false }) ∷ [];
+  spots = ((0, 0), record { block = 0; valid = 0 }) ∷ [];
   syncs = (0, record { handle = 0; first = 0; last = 9; started = Some 0; failures = 0; bound = Some 1 }) ∷ [];
   next = 1;
 }

@@ -16,7 +16,7 @@ use Rattle.machine.proofs.worked.States.{spot_get, request_get, request_entries,
 
 -- sixteen bytes were written back, and their page was evicted
 abbrev evicted : Parts
-evicted = record opened { size = 16; spots = ((0, 0), record { block = 0; written = true }) ∷ []; next = 1 }
+evicted = record opened { size = 16; spots = ((0, 0), record { block = 0; valid = 16 }) ∷ []; next = 1 }
 
 -- the page that is cut into has to be there
 boundary_misses : tests (state_of evicted) (event.Truncate (handle 0) 4) ≡ Some (reply.Miss (page 0))

@@ -33,7 +33,7 @@ abbrev largest : Parts
 largest = record opened {
   size = 1099511627776;
   pages = (68719476735, record { bytes = replicate 15 0 ++ 255 ∷ []; tags = D }) ∷ [];
-  spots = ((0, 68719476735), record { block = 0; written = false }) ∷ [];
+  spots = ((0, 68719476735), record { block = 0; valid = 0 }) ∷ [];
 }
 
 last_byte_passes : tests (state_of opened) (event.Write (handle 0) 1099511627775 (255 ∷ [])) ≡ None
@@ -84,7 +84,7 @@ abbrev dirty_page : ℕ → ℕ × Page
 dirty_page p = (p, record { bytes = replicate 16 171; tags = D })
 
 abbrev placed_page : ℕ → (ℕ × ℕ) × Spot
-placed_page p = ((0, p), record { block = p; written = false })
+placed_page p = ((0, p), record { block = p; valid = 0 })
 
 abbrev sixteen_dirty : Parts
 sixteen_dirty = record opened {

@@ -25,7 +25,7 @@ noting_evolves : (v w : View) (outcome : ℕ → Option Outcome) → Evolves no_
 noting_evolves v w outcome e =
     record {
       on_device =
-          λ f p g. elim (e.on_device f p g) [
+          λ f p g b h. elim (e.on_device f p g b h) [
             | inl h ↦ inl h
             | inr h ↦ inr search
           ];

@@ -1,8 +1,8 @@
 -- A world and the plain files that belong to it.
 use Rattle.std.proofs.Common.{[], arith, false, ◌≡◌, ℕ, ◌<◌, Bool, true, List, length, get_or, refl, ap, sym, subst}
 use Rattle.std.proofs.Common.{◌∙◌, cond, eqb, slice_set, Option, Some, None, is_some, option_map, length-set}
-use Rattle.pc_types.specs.Files.{cut, page_of}
-use Rattle.runs.proofs.views.View.{held_by, View, Good, Evolves, Goes, put1, put2, stays, held, no_gone}
+use Rattle.pc_types.specs.Files.{page_of}
+use Rattle.runs.proofs.views.View.{View, Good, Evolves, Goes, put1, put2, stays, held, no_gone}
 use Rattle.std.specs.Prelude.{unwrap_or}
 use Rattle.std.specs.FinMap as finmap
 use Rattle.machine.specs.State.{State, File, Page, no_file, file_at, handle_file, is_open, page_at, spot_at, block_at}
@@ -32,14 +32,7 @@ view w plain = record {
 
 -- what the device has of a page, by the view
 pub held_is : (w : World) (plain : Plain) (f p : ℕ) → on_device w f p ≡ held (view w plain) f p
-held_is w plain f p = go (spot_at w.core f p)
-  where
-    go : (o : Option Spot) → cond (unwrap_or (option_map (λ (x : Spot). x.written) o) false)
-        (block_bytes w (unwrap_or (option_map (λ (x : Spot). x.block) o) 0))
-        (cut [] w.core.sizes.page)
-        ≡ held_by (block_bytes w) w.core.sizes.page o
-    go None = refl
-    go (Some x) = refl
+held_is w plain f p = refl
 
 pub record Coupled (w : World) (plain : Plain) : Type 0 where
   pub good : Good (view w plain)

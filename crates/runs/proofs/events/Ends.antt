@@ -7,19 +7,19 @@ use Rattle.std.proofs.lemmas.List.{get_or_past}
 use Rattle.std.proofs.Math.Bool.{or-true, or-false}
 use Rattle.pc_types.specs.Files.{page_of}
 use Rattle.pc_types.specs.Tags.{no_tags}
-use Rattle.pc_types.specs.Spots.{Spot, place_cmp}
+use Rattle.pc_types.specs.Spots.{Spot, place_cmp, shown}
 use Rattle.pc_types.specs.declared.kind.Kind.TheVariants.{Fill, Flush}
 use Rattle.machine.specs.declared.event.Event.TheVariants as event
 use Rattle.machine.specs.declared.event.Outcome.{Outcome}
 use Rattle.machine.specs.declared.event.Outcome.TheVariants as outcome
-use Rattle.machine.specs.State.{State, File, Page, Request, file_at, page_at, spot_at, no_file, page_count}
+use Rattle.machine.specs.State.{State, File, Page, Request, file_at, page_at, spot_at, valid_at, no_file, page_count}
 use Rattle.machine.specs.Changes.{put_page, put_file, ended, after_write, flushed, flush_failed}
 use Rattle.maps.specs.Maps.{put_some}
 use Rattle.machine.specs.Tests.{tests}
 use Rattle.machine.proofs.steps.Ends.{own_end_passes}
 use Rattle.runs.specs.Plain.{Plain, plain_file}
 use Rattle.runs.specs.World.{World, block_bytes}
-use Rattle.runs.proofs.views.View.{Flight, FlushIs, Goes, no_gone, put1, put2, writeback}
+use Rattle.runs.proofs.views.View.{Flight, FlushIs, Goes, no_gone, put1, put2, writeback, spot_of}
 use Rattle.runs.proofs.events.Coupled.{view, Coupled, After, file_changed, put_view}
 use Rattle.runs.proofs.events.Lookups.{cached_within, page_at-put_one, change_page-is, size-put, failures-set}
 use Rattle.runs.proofs.events.Lookups.{get-remove1, get-insert2}
@@ -91,14 +91,14 @@ module _ (w : World) (plain : Plain) (c : Coupled w plain) (t : ℕ) (x : Reques
 
   module _ (bytes : List ℕ) where
     abbrev page : Page
-    page = record { bytes = bytes; tags = no_tags }
+    page = record { bytes = shown s.sizes.page (valid_at s x.file x.page) bytes; tags = no_tags }
 
     pub filled : r.dropped ≡ false → r.kind ≡ Fill → finmap.get w.outcomes t ≡ Some (outcome.Read bytes)
         → After w plain no_gone (done (put_page (ended s t) r.file r.page page)) plain
     filled live kind noted =
         let f = (c.good.requests t r is).fill live kind in
         let here : r.file < length s.files =
-        within r.page r.file (c.good.spot_in r.file r.page (ap is_some f.mapped)) in
+        within r.page r.file (c.good.spot_in r.file r.page (ap is_some (spot_of _ _ f.mapped).1)) in
         file_changed w plain c (done (put_page (ended s t) r.file r.page page)) r.file _ here refl refl refl refl refl
         (put_ended r.file r.page page here) (fill_end (view w plain) c.good t r is live kind bytes noted) tables
 
@@ -159,7 +159,7 @@ module _ (w : World) (plain : Plain) (c : Coupled w plain) (t : ℕ) (x : Reques
         (or-true old_page.tags.dirty) refl refl) tables
 
     abbrev spots : finmap.FinMap place_cmp Spot
-    spots = finmap.insert s.spots (x.file, x.page) (record { block = x.block; written = true })
+    spots = finmap.insert s.spots (x.file, x.page) (record { block = x.block; valid = s.sizes.page })
 
     abbrev clean : State
     clean = record (put_page (ended s t) x.file x.page (after_write false old_page)) { spots = spots }
@@ -172,12 +172,12 @@ module _ (w : World) (plain : Plain) (c : Coupled w plain) (t : ℕ) (x : Reques
     written_view : view (done clean) plain
         ≡ record (view w plain) {
           page = put2 (page_at s) x.file x.page (Some (after_write false old_page));
-          spot = put2 (spot_at s) x.file x.page (Some (record { block = x.block; written = true }));
+          spot = put2 (spot_at s) x.file x.page (Some (record { block = x.block; valid = s.sizes.page }));
           request = put1 (flight_at s.requests w.writing) t None;
           outcome = put1 (finmap.get w.outcomes) t None;
         }
     written_view = λ i. record (put_ended x.file x.page (after_write false old_page) here i) {
-      spot = λ g q. get-insert2 s.spots x.file x.page (record { block = x.block; written = true }) g q i;
+      spot = λ g q. get-insert2 s.spots x.file x.page (record { block = x.block; valid = s.sizes.page }) g q i;
     }
 
     written_put : finmap.get w.outcomes t ≡ Some outcome.Written → After w plain no_gone (done clean) plain

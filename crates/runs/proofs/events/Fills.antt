@@ -1,5 +1,5 @@
 -- A fill begins, or a page without a block is cached at once.
-use Rattle.std.proofs.Common.{◌≡◌, ℕ, ◌+◌, ◌<◌, Bool, true, false, cond, not, eqb, eq-eqb, List, [], length, refl, ap}
+use Rattle.std.proofs.Common.{◌≡◌, ℕ, ◌+◌, ◌<◌, true, false, cond, not, eqb, eq-eqb, List, [], length, refl, ap}
 use Rattle.std.proofs.Common.{sym, subst, ◌∙◌, ◌&&◌, Option, Some, None, is_some, option_map, nat_cmp}
 use Rattle.std.specs.Prelude.{unwrap_or}
 use Rattle.std.specs.FinMap as finmap
@@ -19,29 +19,24 @@ use Rattle.maps.proofs.Maps.{get-insert_nat}
 use Rattle.machine.proofs.changes.StateLaws.{filling_shows}
 use Rattle.runs.specs.Plain.{Plain, plain_file}
 use Rattle.runs.specs.World.{World, block_bytes, noted, to_write}
-use Rattle.runs.proofs.views.View.{Flight, Goes, no_gone, put1, dirty, writeback, settled, held_by, fresh, no_outcome}
-use Rattle.runs.proofs.events.Coupled.{view, Coupled, After, with_core, file_changed, put_view}
+use Rattle.runs.proofs.views.View.{Flight, Goes, no_gone, put1, dirty, writeback, settled, is_valid, held_by, fresh, no_outcome}
+use Rattle.runs.proofs.events.Coupled.{view, Coupled, After, with_core, file_changed, put_view, block_is}
 use Rattle.runs.proofs.events.Tables.{writes, flight, flight_at, request_is, in_flight, flight_begun, begun_tables}
 use Rattle.runs.proofs.views.FillAtOnce.{fill_at_once}
 use Rattle.runs.proofs.views.FillBegin.{fill_begin}
 use Rattle.pc_types.specs.declared.kind.Kind.TheVariants.{Fill}
 
--- whether a spot is written
-abbrev pub spot_written : Option Spot → Bool
-spot_written o = unwrap_or (option_map (λ x. x.written) o) false
-
-unwritten : (o : Option Spot) → settled o ≡ true → spot_written o ≡ false → o ≡ None
+unwritten : (o : Option Spot) → settled o ≡ true → is_valid o ≡ false → o ≡ None
 unwritten None a b = refl
 unwritten (Some x) a b = absurd cc
 
+has_spot : (o : Option Spot) → is_valid o ≡ true → is_some o ≡ true
+has_spot None e = absurd cc
+has_spot (Some x) e = refl
+
 mapped_is : (s : State) (f p : ℕ) → is_written s f p ≡ true
-    → spot_at s f p ≡ Some (record { block = unwrap_or (block_at s f p) 0; written = true })
-mapped_is s f p e = go (spot_at s f p) e
-  where
-    go : (o : Option Spot) → spot_written o ≡ true
-        → o ≡ Some (record { block = unwrap_or (option_map (λ x. x.block) o) 0; written = true })
-    go None e = absurd cc
-    go (Some x) e = λ i. Some (record { block = x.block; written = e i })
+    → option_map (λ x. x.block) (spot_at s f p) ≡ Some (unwrap_or (block_at s f p) 0)
+mapped_is s f p e = block_is s f p (has_spot (spot_at s f p) e)
 
 -- a page that is not filling has no fill in flight
 module _ (w : World) (plain : Plain) (c : Coupled w plain) (f p : ℕ) (not_filling : is_filling w.core f p ≡ false) where
@@ -106,7 +101,7 @@ module _ (w : World) (plain : Plain) (c : Coupled w plain) (f p : ℕ) (here : f
   begins : is_written s f p ≡ true → After w plain no_gone (with_core w (requested s Fill f p)) plain
   begins e =
       let now = subst (Goes no_gone (view w plain)) (sym begun_view)
-      (fill_begin (view w plain) c.good f p (unwrap_or (block_at s f p) 0) absent (mapped_is s f p e)
+      (fill_begin (view w plain) c.good f p (unwrap_or (block_at s f p) 0) absent (mapped_is s f p e) e
       (alone w plain c f p not_filling)) in
       let tables = begun_tables s.requests w.outcomes w.writing c.tables s.next request w.writing
       (no_outcome (view w plain) c.good) (ap is_some next_unwritten) (λ u n. refl) in

@@ -17,10 +17,9 @@ use Rattle.machine.proofs.changes.StateLaws.{get_or-set, page_at-put}
 use Rattle.runs.specs.Plain.{Plain, plain_file}
 use Rattle.runs.specs.World.{World, block_bytes}
 use Rattle.runs.proofs.views.View.{View, PageIs, Evolves, Goes, no_gone, put1, dirty, writeback, towrite, settled}
-use Rattle.runs.proofs.views.View.{held_by, held}
+use Rattle.runs.proofs.views.View.{held_by, held, is_valid}
 use Rattle.runs.proofs.events.Coupled.{view, Coupled, After, with_core, put_plain, file_set, plain_changed}
 use Rattle.runs.proofs.events.Tables.{Tables, flight_at, flight_cut, cut_tables}
-use Rattle.runs.proofs.events.Fills.{spot_written}
 use Rattle.runs.proofs.events.Lookups.{size-set, failures-put}
 use Rattle.runs.proofs.bytes.CutLaws.{begins_past, lies_before, cut_before, cut_past, cut_within, cut_zeros, cut_longer}
 use Rattle.runs.proofs.views.Place.{IsSame, IsGone, IsPut, dropped_where}
@@ -197,7 +196,7 @@ module _ (w : World) (plain : Plain) (c : Coupled w plain) (f z : ℕ) (here : f
         ∙ ap (λ x. cut (take (z % P) x) P) zeros ∙ cut_zeros P (z % P) ∙ sym zeros
 
     not_written : (o : Option Page) (sp : Option Spot) (fills : Bool) → o ≡ None
-        → (fills || (not (is_some o) && spot_written sp)) ≡ false → settled sp ≡ true → sp ≡ None
+        → (fills || (not (is_some o) && is_valid sp)) ≡ false → settled sp ≡ true → sp ≡ None
     not_written o None fills n e k = refl
     not_written None (Some x) true n e k = absurd cc
     not_written None (Some x) false n e k = absurd cc

@@ -17,10 +17,10 @@ use Rattle.machine.proofs.changes.StateLaws.{get_or-set, free_of_spots, free_of_
 use Rattle.runs.specs.Plain.{Plain, plain_file}
 use Rattle.runs.specs.World.{World, block_bytes}
 use Rattle.runs.proofs.views.View.{Flight, PageIs, Goes, put1, no_gone, dirty, writeback, towrite, settled, held_by}
-use Rattle.runs.proofs.views.View.{held}
+use Rattle.runs.proofs.views.View.{held, is_valid}
 use Rattle.runs.proofs.events.Coupled.{view, Coupled, After, with_core, put_plain, file_set, plain_changed}
 use Rattle.runs.proofs.events.Tables.{Tables, flight_at, request_is}
-use Rattle.runs.proofs.events.Fills.{spot_written, alone}
+use Rattle.runs.proofs.events.Fills.{alone}
 use Rattle.runs.proofs.bytes.PageLaws.{overlay-page, untouched_page, length-page}
 use Rattle.runs.proofs.bytes.CutLaws.{touched_in, overlay_covered}
 use Rattle.machine.proofs.sound.Writes.{none_touched}
@@ -124,7 +124,7 @@ module _ (w : World) (plain : Plain) (c : Coupled w plain) (f o : ℕ) (b : List
           ∙ (page_is q).clean (ap dirty absent) (ap writeback absent)) ∙ overlay-page P o q b pf
       go (Some x) e false k = absurd (
           let n = (neither (is_filling s f q) (must_fill s f q && not (covers P o (length b) q)) (passes q t)).1 in
-          let m : must_fill s f q ≡ true = (λ i. not (is_some (absent i)) && spot_written (e i)) ∙ sym (ap settled e)
+          let m : must_fill s f q ≡ true = (λ i. not (is_some (absent i)) && is_valid (e i)) ∙ sym (ap settled e)
           ∙ (page_is q).clean_block (ap dirty absent) (ap writeback absent) in
           let a : (must_fill s f q && not (covers P o (length b) q)) ≡ true = (λ i. m i && not (k i)) in cc)
 

@@ -1,6 +1,6 @@
 -- What holds at every moment.
 use Rattle.std.proofs.Common.{◌≡◌, ℕ, ◌+◌, ◌*◌, Bool, true, false, cond, not, eqb, eqb-true, ltb, List, [], ◌∷◌, length}
-use Rattle.std.proofs.Common.{get_or, refl, ap, sym, ◌∙◌, arith, take}
+use Rattle.std.proofs.Common.{◌≤◌, get_or, refl, ap, sym, ◌∙◌, arith, take}
 use Rattle.std.specs.Prelude.{◌&&◌, ◌||◌, Option, Some, None, is_some, option_map, unwrap_or, find, map}
 use Rattle.std.specs.List.{list_any}
 use Rattle.std.specs.FinMap as finmap
@@ -19,10 +19,9 @@ use Rattle.runs.specs.Always.{Always, PageAlways, RequestAlways, HoldsAlways}
 use Rattle.runs.specs.Plain.{Plain, plain_file}
 use Rattle.runs.specs.Runs.{world_at, plain_at}
 use Rattle.runs.specs.World.{World}
-use Rattle.runs.proofs.views.View.{Flight, RequestIs, spot_of, live_spot, dirty, writeback, settled}
+use Rattle.runs.proofs.views.View.{Flight, RequestIs, spot_of, live_spot, dirty, writeback, settled, is_valid, valid_of}
 use Rattle.runs.proofs.events.Coupled.{view, Coupled}
 use Rattle.runs.proofs.events.Tables.{writes, flight, flight_is, request_is, bytes_of, in_flight}
-use Rattle.runs.proofs.events.Fills.{spot_written}
 use Rattle.runs.proofs.moments.Limits.{Limits, run_limits}
 use Rattle.runs.proofs.moments.Moments.{coupled_at, run_take}
 use Rattle.runs.proofs.bytes.PageLaws.{length-page}
@@ -62,7 +61,7 @@ has_spot : (o : Option Spot) → is_some o ≡ true → is_some (option_map (λ 
 has_spot None e = absurd cc
 has_spot (Some x) e = refl
 
-settled_written : (o : Option Spot) → settled o ≡ true → is_some o ≡ true → spot_written o ≡ true
+settled_written : (o : Option Spot) → settled o ≡ true → is_some o ≡ true → is_valid o ≡ true
 settled_written None a b = absurd cc
 settled_written (Some x) a b = a
 
@@ -134,7 +133,7 @@ module _ (w : World) (plain : Plain) (c : Coupled w plain) (limits : Limits w.co
     bytes = λ kind. (let b = some_of (finmap.get w.writing t) (c.tables.writes t ∙ ap writes is ∙ ap is_flush kind) in
         (b.0, b.1, ap (λ o. length (unwrap_or o [])) (sym b.1) ∙ g.bytes kind));
     writes = c.tables.writes t ∙ ap writes is;
-    fill = λ live kind. ap spot_written (g.fill live kind).mapped;
+    fill = λ live kind. (g.fill live kind).valid;
   }
 
   pub always : Always w
@@ -150,6 +149,7 @@ module _ (w : World) (plain : Plain) (c : Coupled w plain) (limits : Limits w.co
     within = c.good.spot_in;
     on_device = λ f p k is. let a = spot_of (spot_at s f p) k is in let b = c.good.spot_block f p a.0 a.1 in
         let d = c.blocks in let e = a.2 in omega arith;
+    valid = λ f p. fits (spot_at s f p) (c.good.spot_valid f p);
     requests = request_always;
     outcomes = λ t e. sym (in_flight s.requests w.writing t) ∙ c.good.outcomes t e;
     writing = λ t e. written_some (finmap.get s.requests t) (sym (c.tables.writes t) ∙ e);
@@ -167,7 +167,11 @@ module _ (w : World) (plain : Plain) (c : Coupled w plain) (limits : Limits w.co
     blocks = c.blocks;
     block_sizes = λ b l. c.good.block_sizes b (let a = c.blocks in omega arith);
   }
+    where
+      fits : (o : Option Spot) → ((x : Spot) → o ≡ Some x → x.valid ≤ s.sizes.page) → valid_of o ≤ s.sizes.page
+      fits None h = omega arith
+      fits (Some x) h = h x refl
 
 pub holds_always : HoldsAlways
-holds_always w run first r k = always (world_at w run k) (plain_at run k) (coupled_at w run first r k)
+holds_always w run first r k = always (world_at w run k) (plain_at w run k) (coupled_at w run first r k)
     (run_limits (take k run) w first (run_take run w k r))

@@ -17,4 +17,4 @@ holds_files w plain c = record {
 }
 
 pub files_are_held : FilesAreHeld
-files_are_held w run first r k = holds_files (world_at w run k) (plain_at run k) (coupled_at w run first r k)
+files_are_held w run first r k = holds_files (world_at w run k) (plain_at w run k) (coupled_at w run first r k)

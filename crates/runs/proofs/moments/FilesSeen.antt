@@ -8,8 +8,9 @@ use Rattle.pc_types.specs.Files.{page_of}
 use Rattle.pc_types.proofs.FileLaws.{byte-page}
 use Rattle.machine.specs.State.{Page, file_at, page_at, tags_of}
 use Rattle.runs.proofs.bytes.PageLaws.{byte_place}
-use Rattle.runs.specs.Plain.{Plain, no_files, plain_file}
-use Rattle.runs.specs.Reached.{cached_or, byte_seen, file_seen, files_seen, FilesAreThose}
+use Rattle.runs.specs.Plain.{Plain, plain_file}
+use Rattle.runs.specs.Seen.{cached_or, byte_seen, file_seen, files_seen}
+use Rattle.runs.specs.Reached.{FilesAreThose}
 use Rattle.runs.specs.Reading.{HoldsFiles}
 use Rattle.runs.specs.Runs.{last, plain_at, plain_from}
 use Rattle.runs.specs.World.{World, on_device}
@@ -62,6 +63,6 @@ module _ (w : World) (plain : Plain) (c : Coupled w plain) where
 
 pub files_are_those : FilesAreThose
 files_are_those w run first r =
-    let all : plain_at run (length run) ≡ plain_from no_files run =
-    ap (plain_from no_files) (take_all (length run) run (omega arith)) in
-    files_are (last w run) _ (run_coupled run w no_files (first_coupled w first) r) ∙ sym all
+    let all : plain_at w run (length run) ≡ plain_from (files_seen w) run =
+    ap (plain_from (files_seen w)) (take_all (length run) run (omega arith)) in
+    files_are (last w run) _ (run_coupled run w (files_seen w) (first_coupled w first) r) ∙ sym all

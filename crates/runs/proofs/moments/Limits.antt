@@ -3,12 +3,14 @@
 use Rattle.std.proofs.Common.{List, ◌≡◌, ℕ, ◌+◌, ◌/◌, ◌<◌, ◌≤◌, ◌++◌, Bool, true, false, cond, not, eqb, eq-eqb, []}
 use Rattle.std.proofs.Common.{◌∷◌, length, get_or, refl, ap, sym, subst, ◌∙◌, arith, inl, inr, count_by, ◌&&◌, Option}
 use Rattle.std.proofs.Common.{Some, None, is_some, option_map, max, nat_le, slice_set, sum_by, nat_cmp, length-set}
-use Rattle.std.proofs.Common.{length-append}
+use Rattle.std.proofs.Common.{length-append, map}
+use Rattle.std.proofs.lemmas.List.Sums.{sum_by-cons}
 use Rattle.maps.specs.Maps.{change_at}
 use Rattle.machine.specs.State.{spot_at, touched, free_frames, State, File, Page, Request, Sync, file_at, handle_file}
 use Rattle.machine.specs.State.{is_open, page_at, page_count, has_block, no_file, cached_total, filling_total}
 use Rattle.machine.specs.Changes as changes
-use Rattle.machine.specs.History as history
+use Rattle.machine.specs.Catalogs.{adopted}
+use Rattle.machine.proofs.changes.Adopted.{file_of, same_count, adopted_file}
 use Rattle.machine.specs.Changes.{put_page, put_file, sync_begun, flush_failed, boundary, cut_page, cut_request}
 use Rattle.machine.specs.Changes.{to_write, new_sync, under_write, after_write, started, shrunk, ended}
 use Rattle.std.specs.List.{list_any}
@@ -25,7 +27,8 @@ use Rattle.machine.proofs.steps.Choices.{neither, below, by_choice}
 use Rattle.maps.proofs.Maps.{none_passes}
 use Rattle.maps.proofs.MapLaws.{len-each_value}
 use Rattle.machine.proofs.changes.StateLaws.{get_or-set}
-use Rattle.runs.specs.Plain.{Plain, no_files}
+use Rattle.runs.specs.Plain.{Plain}
+use Rattle.runs.specs.Seen.{files_seen}
 use Rattle.runs.specs.Runs.{Steps, IsFirst, Run, last}
 use Rattle.runs.specs.World.{World, Move, WorldStep}
 use Rattle.runs.proofs.views.View.{put1_tells, spot_of, live_spot}
@@ -472,15 +475,17 @@ module _ (w : World) (plain : Plain) (k : Coupled w plain) where
   move_limits c new move m = core_cases w new Limits c (limit_cases w.core c k.valid live_file_of) move m
 
 first_limits : (w : World) → IsFirst w → Limits w.core
-first_limits w first = subst Limits (sym first.core) (record {
-  files = omega arith;
+first_limits w first = subst Limits (sym first.adopts.core) (record {
+  files = let a = same_count first.catalog.sizes in let b = first.is_catalog.count in omega arith;
   handles = small _ MAX_HANDLES (len-empty nat_cmp ℕ);
   requests = small _ MAX_IN_FLIGHT (len-empty nat_cmp Request);
   syncs = small _ MAX_SYNCS (len-empty nat_cmp Sync);
-  sizes = λ f. omega arith;
-  frames = let b = filling_is (history.no_files w.core.sizes w.core.name) in
-      let d = count_empty is_live_fill in omega arith;
-  failures = λ f. let a = len-empty nat_cmp Request in omega arith;
+  sizes = λ f. let a = ap (λ (x : File). x.size) (adopted_file w.core.sizes w.core.name first.catalog f) in
+      let b = first.is_catalog.file_sizes f in omega arith;
+  frames = let b = filling_is (adopted w.core.sizes w.core.name first.catalog) in
+      let d = count_empty is_live_fill in let e = none_cached first.catalog.sizes in omega arith;
+  failures = λ f. let a = len-empty nat_cmp Request in
+      let b = ap (λ (x : File). x.failures) (adopted_file w.core.sizes w.core.name first.catalog f) in omega arith;
   serials = omega arith;
   each_sync = λ m y is. absurd (let a = sym (finmap.get-empty {X = Sync} nat_cmp m) ∙ is in cc);
 })
@@ -488,6 +493,12 @@ first_limits w first = subst Limits (sym first.core) (record {
     small : (a n : ℕ) → a ≡ 0 → a ≤ n
     small a n e = omega arith
 
+    none_cached : (sizes : List ℕ) → sum_by (λ (x : File). finmap.len x.pages) (map file_of sizes) ≡ 0
+    none_cached [] = refl
+    none_cached (z ∷ sizes) =
+        let a = sum_by-cons (λ (x : File). finmap.len x.pages) (file_of z) (map file_of sizes) in
+        let b = len-empty nat_cmp Page in let c = none_cached sizes in omega arith
+
 pub run_limits : (run : Steps) (w : World) → IsFirst w → Run w run → Limits (last w run).core
 run_limits run w first r = run_keeps Limits (λ w new plain k c move m. move_limits w plain k c new move m) run w
-    no_files (first_coupled w first) (first_limits w first) r
+    (files_seen w) (first_coupled w first) (first_limits w first) r

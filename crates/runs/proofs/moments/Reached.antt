@@ -5,8 +5,9 @@ use Rattle.pc_types.specs.declared.ids.HandleId.{HandleId}
 use Rattle.machine.specs.declared.event.Event.TheVariants as event
 use Rattle.machine.specs.declared.event.Reply.TheVariants as reply
 use Rattle.runs.specs.Always.{Always}
-use Rattle.runs.specs.Plain.{no_files, plain_file, named}
-use Rattle.runs.specs.Reached.{IsReached, files_seen}
+use Rattle.runs.specs.Plain.{Plain, plain_file, named}
+use Rattle.runs.specs.Reached.{IsReached}
+use Rattle.runs.specs.Seen.{files_seen}
 use Rattle.runs.specs.Reading.{HoldsFiles}
 use Rattle.runs.specs.Runs.{Steps, IsFirst, Run, last, plain_move, plain_from}
 use Rattle.runs.specs.World.{World, Move, Act, WorldStep}
@@ -29,8 +30,9 @@ last-snoc (step ∷ steps) w new e = last-snoc steps step.1 new e
 
 pub reached_coupled : (w : World) → IsReached w → Coupled w (files_seen w)
 reached_coupled w r =
-    let c : Coupled w (plain_from no_files r.run) = subst (λ x. Coupled x (plain_from no_files r.run)) r.leads
-    (run_coupled r.run r.first no_files (first_coupled r.first r.is_first) r.is_run) in
+    let v : Plain = plain_from (files_seen r.first) r.run in
+    let c : Coupled w v = subst (λ x. Coupled x v) r.leads
+    (run_coupled r.run r.first (files_seen r.first) (first_coupled r.first r.is_first) r.is_run) in
     subst (Coupled w) (sym (files_are w _ c)) c
 
 pub reached_first : (w : World) → IsFirst w → IsReached w

@@ -9,7 +9,8 @@ use Rattle.pc_types.specs.Files.{pread}
 use Rattle.machine.specs.State.{State, Page, handle_file, is_open, page_at, is_cached, touched, touched_count, bytes_at}
 use Rattle.machine.proofs.changes.ChangeLaws.{byte_at, length-bytes_at, byte-bytes_at}
 use Rattle.runs.proofs.bytes.PageLaws.{byte_place}
-use Rattle.runs.specs.Plain.{Plain, plain_file, named, no_files}
+use Rattle.runs.specs.Plain.{Plain, plain_file, named}
+use Rattle.runs.specs.Seen.{files_seen}
 use Rattle.runs.specs.World.{World}
 use Rattle.runs.proofs.events.Coupled.{Coupled}
 use Rattle.machine.proofs.steps.Choices.{quiet_if, not_false, some_of, quiet_when, if_none}
@@ -111,8 +112,8 @@ module _ (w : World) (plain : Plain) (c : Coupled w plain) (x : HandleId) (o n :
 
 pub reads_are_right : ReadsAreRight
 reads_are_right w run first r new h o n bytes m =
-    let c = run_coupled run w no_files (first_coupled w first) r in
-    let all : plain_at run (length run) ≡ plain_from no_files run =
-    ap (plain_from no_files) (take_all (length run) run (omega arith)) in
-    read_right (last w run) (plain_from no_files run) c h o n bytes new.core m.1.0
+    let c = run_coupled run w (files_seen w) (first_coupled w first) r in
+    let all : plain_at w run (length run) ≡ plain_from (files_seen w) run =
+    ap (plain_from (files_seen w)) (take_all (length run) run (omega arith)) in
+    read_right (last w run) (plain_from (files_seen w) run) c h o n bytes new.core m.1.0
     ∙ ap (λ p. pread (plain_file p (named p h.0)) o n) (sym all)

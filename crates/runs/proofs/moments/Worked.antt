@@ -15,7 +15,7 @@ use Rattle.machine.specs.Step.{Step}
 use Rattle.machine.specs.Changes.{sync_begun, drop_sync}
 use Rattle.machine.specs.History as history
 use Rattle.runs.specs.World.{World, Act}
-use Rattle.runs.specs.Runs.{Steps, IsFirst, Run, world_at}
+use Rattle.runs.specs.Runs.{Steps, IsBlank, Run, world_at}
 use Rattle.runs.specs.Syncing.{Begin, IsSync}
 
 abbrev s0 : State
@@ -64,7 +64,7 @@ one_block : (k : ℕ) (d : List ℕ) → k < 1 → length (get_or (replicate 16 
 one_block zero d l = refl
 one_block (suc k) d l = absurd (omega arith)
 
-is_first : IsFirst (at s0)
+is_first : IsBlank (at s0)
 is_first = record {
   page_size = omega arith;
   core = refl;

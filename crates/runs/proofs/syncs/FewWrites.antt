@@ -28,7 +28,9 @@ use Rattle.machine.proofs.steps.Choices.{and_true, by_choice}
 use Rattle.maps.proofs.MapLaws.{entries-each_value, get-change_at}
 use Rattle.machine.proofs.steps.Passed.{MayStart}
 use Rattle.machine.proofs.changes.StateLaws.{file_at-put, page_at-put, touches}
-use Rattle.runs.specs.Plain.{Plain, no_files}
+use Rattle.machine.proofs.changes.Adopted.{adopted_file}
+use Rattle.runs.specs.Plain.{Plain}
+use Rattle.runs.specs.Seen.{files_seen}
 use Rattle.runs.specs.Runs.{Steps, Run, last, plain_move}
 use Rattle.runs.specs.Syncing.{dirty_between, started_by, tagged_by, total, SyncWritesAreFew}
 use Rattle.runs.specs.World.{World, Move, Act, Call, Finish, WorldStep, Ends}
@@ -355,8 +357,9 @@ run_few (step ∷ steps) w plain k r f =
 
 pub sync_writes_are_few : SyncWritesAreFew
 sync_writes_are_few w run first r f =
-    let all = run_few run w no_files (first_coupled w first) r f in
-    let none : waiting w.core f ≡ 0 = ap (λ (s : State). waiting s f) first.core ∙ nothing in
+    let all = run_few run w (files_seen w) (first_coupled w first) r f in
+    let none : waiting w.core f ≡ 0 = ap (λ (s : State). waiting s f) first.adopts.core
+    ∙ ap (λ (x : File). count_of is_towrite x.pages) (adopted_file w.core.sizes w.core.name first.catalog f) ∙ nothing in
     omega arith
   where
     none_pass : (es : List (ℕ × Page)) → passing (λ (x : Page). false) es ≡ 0

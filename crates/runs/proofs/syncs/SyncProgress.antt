@@ -1,5 +1,5 @@
 -- A sync in progress, at each moment of a run: where each page of its range stands that its file had as it began.
-use Rattle.runs.proofs.views.View.{Flight, View, Good, Evolves, put1_here, dirty, writeback, towrite}
+use Rattle.runs.proofs.views.View.{Flight, View, Good, Evolves, Holds, put1_here, dirty, writeback, towrite}
 use Rattle.machine.proofs.steps.Answered.{is_quiet}
 use Rattle.std.proofs.Common.{◌≡◌, ◌≢◌, ℕ, zero, suc, ◌<◌, ◌≤◌, Bool, true, false, not, eqb, eq-eqb, List, length}
 use Rattle.std.proofs.Common.{refl, ap, sym, subst, ◌∙◌, arith, inl, inr}
@@ -18,14 +18,15 @@ use Rattle.machine.specs.Changes.{sync_pick, is_left, to_write, new_sync}
 use Rattle.machine.specs.Step.{Step, SyncReply, SyncStepReply}
 use Rattle.machine.proofs.steps.Cases.{happened}
 use Rattle.machine.proofs.changes.ChangeLaws.{BeginsSync}
-use Rattle.machine.proofs.steps.Choices.{some_of}
+use Rattle.machine.proofs.steps.Choices.{neither, some_of}
 use Rattle.maps.proofs.Found.{found_none}
 use Rattle.machine.proofs.steps.Picks.{past, pick_lowest, pick_none}
-use Rattle.runs.specs.Plain.{Plain, plain_file, no_files}
-use Rattle.runs.specs.World.{World, Move, WorldStep}
+use Rattle.runs.specs.Plain.{Plain, plain_file}
+use Rattle.runs.specs.Seen.{files_seen}
+use Rattle.runs.specs.World.{World, Move, WorldStep, DeviceHolds}
 use Rattle.runs.specs.Runs.{Steps, IsFirst, Run, world_at, plain_at}
 use Rattle.runs.specs.Syncing.{cuts_off, CutOff, IsOnDevice, Begin, InRange, its_file}
-use Rattle.runs.proofs.events.Coupled.{view, held_is}
+use Rattle.runs.proofs.events.Coupled.{view}
 use Rattle.runs.proofs.events.Lookups.{get-insert1}
 use Rattle.runs.proofs.views.Fresh.{IsFresh, IsUnder, fresh_next, under_next, waiting_next}
 use Rattle.runs.proofs.moments.Moments.{climb, coupled_at}
@@ -42,16 +43,16 @@ module _ (w : World) (run : Steps) (first : IsFirst w) (r : Run w run) where
   W k = world_at w run k
 
   abbrev L : ℕ → Plain
-  L k = plain_at run k
+  L k = plain_at w run k
 
   abbrev V : ℕ → View
   V k = view (W k) (L k)
 
   abbrev At : ℕ → Type 0
-  At k = StepAt w no_files run k
+  At k = StepAt w (files_seen w) run k
 
   pub at : (k : ℕ) → k < length run → At k
-  at k h = step_at run w no_files k r h
+  at k h = step_at run w (files_seen w) k r h
 
   pub moves_at : (k : ℕ) (s : At k) → WorldStep (W k) s.move (W (suc k))
   moves_at k s = subst (λ x. WorldStep (W k) s.move x) (sym s.next) s.moves
@@ -80,11 +81,11 @@ module _ (w : World) (run : Steps) (first : IsFirst w) (r : Run w run) where
     seen_now : (k p : ℕ) → i ≤ k → k ≤ length run → Seen (suc k) p ((V k).content f p)
     seen_now k p h l = (k, h, omega arith, ap (λ x. page_of x (plain_file (L k) f) p) (size_at k l))
 
-    pub off_more : (k p : ℕ) → CutOff P run i k f p → CutOff P run i (suc k) f p
+    pub off_more : (k p : ℕ) → CutOff w run i k f p → CutOff w run i (suc k) f p
     off_more k p h =
         record { moment = h.moment; after = h.after; before = let a = h.before in omega arith; cuts = h.cuts }
 
-    pub off_now : (k p : ℕ) (s : At k) → i ≤ k → k ≤ length run → gone_at k s f p ≡ true → CutOff P run i (suc k) f p
+    pub off_now : (k p : ℕ) (s : At k) → i ≤ k → k ≤ length run → gone_at k s f p ≡ true → CutOff w run i (suc k) f p
     off_now k p s h l e =
         record {
           moment = k;
@@ -100,9 +101,9 @@ module _ (w : World) (run : Steps) (first : IsFirst w) (r : Run w run) where
     Fresh k p = IsFresh (V k) (Seen k p) f p
 
     abbrev pub Done : ℕ → ℕ → Type 0
-    Done k p = CutOff P run i k f p ⊎ Fresh k p
+    Done k p = CutOff w run i k f p ⊎ Fresh k p
 
-    good_at : (k : ℕ) → Good (V k)
+    pub good_at : (k : ℕ) → Good (V k)
     good_at k = (coupled_at w run first r k).good
 
     done_next : (k p : ℕ) → i ≤ k → k < length run → Done k p → Done (suc k) p
@@ -119,11 +120,40 @@ module _ (w : World) (run : Steps) (first : IsFirst w) (r : Run w run) where
     done_on k m p h l short d =
         climb (λ x. Done x p) k m l (λ x a b. done_next x p (omega arith) (omega arith)) d
 
-    pub done_synced : (m p : ℕ) → Done m p → CutOff P run i m f p ⊎ IsOnDevice w run i m f p
-    done_synced m p d = elim d [
+    -- what the device holds, by the view
+    holds_of : (m p : ℕ) (bytes : List ℕ) → Holds (V m) f p bytes
+        → (dirty (page_at (W m).core f p) || writeback (page_at (W m).core f p)) ≡ true → DeviceHolds (W m) f p bytes
+    holds_of m p bytes h unclean = elim h [
+      | inl shows ↦ inl shows
+      | inr part ↦ inr (record { some = part.0; part = part.1; unclean = unclean; whole = part.2 })
+    ]
+
+    -- a clean page is on the device as it is now, and any other as it was at some moment
+    on_device_by : (m p : ℕ) → i ≤ m → m ≤ length run → Fresh m p → (b : Bool)
+        → (dirty (page_at (W m).core f p) || writeback (page_at (W m).core f p)) ≡ b → IsOnDevice w run i m f p
+    on_device_by m p h short x true unclean =
+        let s = x.seen in
+        record {
+          moment = s.0;
+          after = s.1;
+          before = s.2;
+          bytes = subst (DeviceHolds (W m) f p) s.3 (holds_of m p x.bytes x.on_device unclean);
+        }
+    on_device_by m p h short x false clean =
+        let tags = neither (dirty (page_at (W m).core f p)) (writeback (page_at (W m).core f p)) clean in
+        record {
+          moment = m;
+          after = h;
+          before = omega arith;
+          bytes = inl (((good_at m).pages f p).clean tags.0 tags.1
+              ∙ ap (λ z. page_of z (plain_file (L m) f) p) (size_at m short));
+        }
+
+    pub done_synced : (m p : ℕ) → i ≤ m → m ≤ length run → Done m p → CutOff w run i m f p ⊎ IsOnDevice w run i m f p
+    done_synced m p h short d = elim d [
       | inl o ↦ inl o
-      | inr x ↦ (let s = x.on_device in
-          inr (record { moment = s.0; after = s.1; before = s.2; bytes = held_is (W m) (L m) f p ∙ s.3 }))
+      | inr x ↦ inr (on_device_by m p h short x
+          (dirty (page_at (W m).core f p) || writeback (page_at (W m).core f p)) refl)
     ]
 
   -- ---- a page while the sync is in progress
@@ -133,18 +163,18 @@ module _ (w : World) (run : Steps) (first : IsFirst w) (r : Run w run) where
     i = a.step
 
     abbrev f : ℕ
-    f = its_file run a
+    f = its_file w run a
 
     -- a write of bytes that the page had is in flight, and is awaited
     abbrev Under : ℕ → Sync → ℕ → Type 0
     Under k y p = (t : ℕ) × IsUnder (V k) (Seen i f k p) f p t × ((b : ℕ) → y.bound ≡ Some b → t < b)
 
     -- the page is still to be started
-    abbrev Waiting : ℕ → Sync → ℕ → Type 0
+    abbrev pub Waiting : ℕ → Sync → ℕ → Type 0
     Waiting k y p = (y.bound ≡ None) × (towrite (page_at (W k).core f p) ≡ true) × (past y.started p ≡ true)
 
     abbrev Open : ℕ → Sync → ℕ → Type 0
-    Open k y p = CutOff P run i k f p ⊎ (Waiting k y p ⊎ (Under k y p ⊎ Fresh i f k p))
+    Open k y p = CutOff w run i k f p ⊎ (Waiting k y p ⊎ (Under k y p ⊎ Fresh i f k p))
 
     pub record InProgress (k : ℕ) : Type 0 where
       pub sync : Sync
@@ -157,14 +187,14 @@ module _ (w : World) (run : Steps) (first : IsFirst w) (r : Run w run) where
       pub least : sync.failures ≤ (file_at (W k).core f).failures
       pub pages : (file_at (W k).core f).failures ≡ sync.failures → (p : ℕ) → InRange a p → Open k sync p
 
-    none_some : {A : Type 0} (o : Option A) (x : A) → o ≡ None → o ≡ Some x → ⊥
+    pub none_some : {A : Type 0} (o : Option A) (x : A) → o ≡ None → o ≡ Some x → ⊥
     none_some o x a b = cc
 
     -- the file that the sync's handle names
     pub file_is : (k : ℕ) (q : InProgress k) → handle_file (W k).core q.sync.handle ≡ f
     file_is k q = ap (λ x. handle_file (W k).core x) q.handle ∙ ap (λ o. unwrap_or o 0) q.file
 
-    range_is : (k : ℕ) (q : InProgress k) (p : ℕ) → InRange a p → in_range q.sync p ≡ true
+    pub range_is : (k : ℕ) (q : InProgress k) (p : ℕ) → InRange a p → in_range q.sync p ≡ true
     range_is k q p within = let b = q.low in let c = q.high in let d = within.0 in let e = within.1 in
         grind (arith, nat_tests)
 
@@ -172,7 +202,7 @@ module _ (w : World) (run : Steps) (first : IsFirst w) (r : Run w run) where
     opened_at k q = ap (λ x. is_open (W k).core x) q.handle ∙ ap is_some q.file
 
     -- a page that waits is left to be started
-    to_start : (k : ℕ) (q : InProgress k) (p : ℕ) → InRange a p → Waiting k q.sync p
+    pub to_start : (k : ℕ) (q : InProgress k) (p : ℕ) → InRange a p → Waiting k q.sync p
         → (x : Page) × (page_at (W k).core (handle_file (W k).core q.sync.handle) p ≡ Some x)
         × (is_left q.sync (p, x) ≡ true)
     to_start k q p within waits = go (page_at (W k).core f p) refl waits.1
@@ -212,7 +242,7 @@ module _ (w : World) (run : Steps) (first : IsFirst w) (r : Run w run) where
       past_more : (e p : ℕ) → e ≤ p → e ≢ p → past (Some e) p ≡ true
       past_more e p l n = grind (arith, nat_tests)
 
-      waiting_on : (p : ℕ) → InRange a p → Waiting k q.sync p → towrite (page_at (W (suc k)).core f p) ≡ true
+      pub waiting_on : (p : ℕ) → InRange a p → Waiting k q.sync p → towrite (page_at (W (suc k)).core f p) ≡ true
           → Waiting (suc k) tr.now p
       waiting_on p within waits tag = elim tr.how [
         | inl x ↦ (x.bound ∙ waits.0, tag, ap (λ l. past l p) x.started ∙ waits.2)
@@ -298,7 +328,7 @@ module _ (w : World) (run : Steps) (first : IsFirst w) (r : Run w run) where
     abbrev failures_of : ℕ → Sync → ℕ
     failures_of k y = (file_at (W k).core (handle_file (W k).core y.handle)).failures
 
-    abbrev Ended : ℕ → Sync → Type 0
+    abbrev pub Ended : ℕ → Sync → Type 0
     Ended k y = (failures_of k y ≡ y.failures) × ((sync_pick (W k).core y ≡ None) × (first_awaited (W k).core y ≡ None))
 
     pub clean_step : (k : ℕ) (y : Sync) (new : State) → finmap.get (W k).core.syncs a.number.0 ≡ Some y
@@ -414,7 +444,9 @@ module _ (w : World) (run : Steps) (first : IsFirst w) (r : Run w run) where
               ]
           clean_page e d false b =
               let fresh : IsFresh (V i) (Seen i f i p) f p = record {
-                on_device = subst (Seen i f i p) (sym ((good0.pages f p).clean d b)) seen0;
+                bytes = (V i).content f p;
+                on_device = inl ((good0.pages f p).clean d b);
+                seen = seen0;
                 flushes =
                     λ t r is k live g q. absurd (let a = ((good0.requests t r is).flush live k).writeback in
                     let c : writeback (page_at (W i).core f p) ≡ true =

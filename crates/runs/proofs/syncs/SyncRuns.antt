@@ -27,7 +27,8 @@ use Rattle.machine.specs.Step.{Step, SyncReply, SyncStepReply}
 use Rattle.machine.proofs.changes.ChangeLaws.{BeginsSync, sync_begun_begins}
 use Rattle.machine.proofs.steps.Passed.{may_begin}
 use Rattle.machine.proofs.steps.Picks.{past, pick_past, pick_unbound}
-use Rattle.runs.specs.Plain.{plain_file, no_files}
+use Rattle.runs.specs.Plain.{plain_file}
+use Rattle.runs.specs.Seen.{files_seen}
 use Rattle.runs.specs.World.{World, Move, Act, WorldStep}
 use Rattle.runs.specs.Runs.{Steps, IsFirst, Run, EveryRun, world_at, core_at, plain_at}
 use Rattle.runs.proofs.views.View.{Flight, put1_here, dirty, towrite}
@@ -67,7 +68,7 @@ module _ (w : World) (run : Steps) (first : IsFirst w) (r : Run w run) (a : Begi
   pub in_run : i < length run
   in_run = slice_get_within run i _ there.1
 
-  step_i : StepAt w no_files run i
+  step_i : StepAt w (files_seen w) run i
   step_i = at w run first r i in_run
 
   act_i : WorldStep (world_at w run i) (Act (event.SyncBegin a.handle a.first a.last) (reply.Sync a.number))
@@ -82,7 +83,7 @@ module _ (w : World) (run : Steps) (first : IsFirst w) (r : Run w run) (a : Begi
   begins_i = begins_at (world_at w run i).core (world_at w run (suc i)).core a.handle a.first a.last a.number
       (coupled_at w run first r i).valid act_i.1.0
 
-  pub named_file : handle_file (world_at w run i).core a.handle.0 ≡ its_file run a
+  pub named_file : handle_file (world_at w run i).core a.handle.0 ≡ its_file w run a
   named_file = ap (λ m. unwrap_or (finmap.get m a.handle.0) 0) (sym (coupled_at w run first r i).handles)
 
   pub first_moment : InProgress w run first r a (suc i)
@@ -107,7 +108,7 @@ module _ (w : World) (run : Steps) (first : IsFirst w) (r : Run w run) (a : Begi
   in_j : j < length run
   in_j = slice_get_within run j _ c.answers
 
-  step_j : StepAt w no_files run j
+  step_j : StepAt w (files_seen w) run j
   step_j = at w run first r j in_j
 
   act_j : WorldStep (world_at w run j) (Act (event.SyncStep a.number) x) (world_at w run (suc j))
@@ -160,8 +161,8 @@ syncs_are_synced w run first r a j k c late short p within small =
     let over = clean_step w run first r a j q.sync (world_at w run (suc j)).core q.is
     (core_j w run first r a j reply.Clean c) in
     let done_j = ended_pages w run first r a j q over p within in
-    done_synced w run first r a.step (its_file run a) k p
-    (done_on w run first r a.step (its_file run a) j k p (let b = c.before in omega arith) late short done_j)
+    done_synced w run first r a.step (its_file w run a) k p (let b = c.before in omega arith) short
+    (done_on w run first r a.step (its_file w run a) j k p (let b = c.before in omega arith) late short done_j)
 
 pub syncs_tell : SyncsTell
 syncs_tell = record {
@@ -291,7 +292,7 @@ syncs_rise = record { rise = rising; within = starting_within }
 module _ (w : World) (run : Steps) (first : IsFirst w) (r : Run w run) (i f : ℕ) where
   abbrev Kept : ℕ → ℕ → Type 0
   Kept k p = (towrite (page_at (world_at w run k).core f p) ≡ true)
-      ⊎ (CutOff w.core.sizes.page run i k f p ⊎ WasStarted w run i k f p)
+      ⊎ (CutOff w run i k f p ⊎ WasStarted w run i k f p)
 
   still_started : (k p : ℕ) → WasStarted w run i k f p → WasStarted w run i (suc k) f p
   still_started k p s = let before : s.moment < suc k = (let a = s.before in omega arith) in search (s, before)
@@ -304,8 +305,8 @@ module _ (w : World) (run : Steps) (first : IsFirst w) (r : Run w run) (i f : �
   kept_next k p a b old = elim old [
     | inr x ↦ inr (elim x [ inl o ↦ inl (off_more w run first r i f k p o) | inr s ↦ inr (still_started k p s) ])
     | inl tag ↦ (let s = at w run first r k b in
-        elim (cuts_off (world_at w run k).core.sizes.page (plain_at run k) s.move f p) as (λ c. cuts_off
-        (world_at w run k).core.sizes.page (plain_at run k) s.move f p ≡ c → Kept (suc k) p) [
+        elim (cuts_off (world_at w run k).core.sizes.page (plain_at w run k) s.move f p) as (λ c. cuts_off
+        (world_at w run k).core.sizes.page (plain_at w run k) s.move f p ≡ c → Kept (suc k) p) [
           | true ↦ λ e. inr (inl (off_now w run first r i f k p s (omega arith) (omega arith) e))
           | false ↦ λ e. elim ((evolves_at w run first r k s).to_write f p e tag) [
             | inl t ↦ inl t
@@ -333,7 +334,7 @@ module _ (w : World) (run : Steps) (first : IsFirst w) (r : Run w run) (i f : �
                   bytes = sym (λ j. finmap.get (world_at w run (one_more k j)).writing x.serial) ∙ noted.1
                       ∙ ap Some (ap (λ o. unwrap_or o []) (sym noted.1)
                       ∙ ap (λ (g : Flight). g.bytes) (sym same) ∙ x.bytes
-                      ∙ ap (λ z. page_of z (plain_file (plain_at run k) f) p) (size_at w run first r k (omega arith)));
+                      ∙ ap (λ z. page_of z (plain_file (plain_at w run k) f) p) (size_at w run first r k (omega arith)));
                 })))
           ]
         ] refl)
@@ -345,7 +346,7 @@ module _ (w : World) (run : Steps) (first : IsFirst w) (r : Run w run) (i f : �
 
 pub dirty_pages_stay : DirtyPagesStay
 dirty_pages_stay w run first r a k p there later short within is_dirty_now =
-    let f = its_file run a in
+    let f = its_file w run a in
     let i = a.step in
     let b = begins_i w run first r a there in
     let y = new_sync (world_at w run i).core a.handle.0 a.first.0 a.last.0 in

@@ -1,10 +1,12 @@
 -- The outcome of a device call is noted.
 use Rattle.std.proofs.Common.{◌≡◌, ℕ, true, List, refl, ap, sym, ◌∙◌, inl, inr, Some, is_some}
+use Rattle.std.specs.Prelude.{unwrap_or}
+use Rattle.pc_types.specs.Spots.{shown}
 use Rattle.pc_types.specs.declared.kind.Kind.TheVariants.{Fill, Flush}
 use Rattle.machine.specs.declared.event.Outcome.{Outcome}
 use Rattle.machine.specs.declared.event.Outcome.TheVariants as outcome
 use Rattle.runs.proofs.views.View.{View, Flight, Good, RequestIs, Goes, no_gone, quietly_evolves, put1, put1_tells}
-use Rattle.runs.proofs.views.View.{dirty, writeback, held_by, good_after, still_flying}
+use Rattle.runs.proofs.views.View.{dirty, writeback, valid_of, good_after, still_flying}
 
 -- an outcome is of a request in flight
 pub noted_outcomes : (v : View) → Good v → (t : ℕ) (r : Flight) → v.request t ≡ Some r → (o : Outcome) (u : ℕ)
@@ -35,13 +37,15 @@ module _ (v : View) (ok : Good v) (t : ℕ) (r : Flight) (is : v.request t ≡ S
     bytes = old.bytes;
     fill = λ d j. let h = old.fill d j in record {
       mapped = h.mapped;
+      valid = h.valid;
       absent = h.absent;
       noted = λ bytes k. elim (put1_tells v.outcome t (Some o) u) [
-        | inl w ↦ well.fill bytes (let a : Some o ≡ Some (outcome.Read bytes) = sym w.1 ∙ k in
+        | inl w ↦ ap (shown v.page_size (valid_of (v.spot s.file s.page)))
+            (well.fill bytes (let a : Some o ≡ Some (outcome.Read bytes) = sym w.1 ∙ k in
             let b : o ≡ outcome.Read bytes = cc in b)
             (ap (λ (x : Flight). x.kind) (sym (same_request v t r is u s w.0 e)) ∙ j)
             ∙ (λ i. v.block ((sym (same_request v t r is u s w.0 e) i).block))
-            ∙ sym (ap (held_by v.block v.page_size) h.mapped)
+            ∙ sym (ap (λ o. v.block (unwrap_or o 0)) h.mapped))
             ∙ (ok.pages s.file s.page).clean (ap dirty h.absent) (ap writeback h.absent)
         | inr w ↦ h.noted bytes (sym w.1 ∙ k)
       ];
@@ -65,6 +69,6 @@ module _ (v : View) (ok : Good v) (t : ℕ) (r : Flight) (is : v.request t ≡ S
   call_noted = (
     good_after v ok _ _ _ _ _ ok.pages ok.page_in requests ok.requests_apart
         (λ g q e. still_flying v after g q (ok.flushes g q e) refl) (noted_outcomes v ok t r is o),
-    quietly_evolves no_gone v after (λ g q _. refl) (λ u r e k d. e) (λ u r e k d _. e) (λ g q _ e. e) (λ g. refl)
+    quietly_evolves no_gone v after (λ g q _ b h. h) (λ u r e k d. e) (λ u r e k d _. e) (λ g q _ e. e) (λ g. refl)
         refl,
   )

@@ -24,6 +24,6 @@ module _ (v : View) (ok : Good v) (t : ℕ) (r : Flight) (is : v.request t ≡ S
         (λ g q e. let h = ok.flushes g q e in
         still_flying v after g q h (left v ok t r is h.serial h.request h.is (another h.request h.live h.kind)))
         (outcomes_left v ok t),
-    quietly_evolves no_gone v after (λ g q _. refl) (λ u s e k d. (others v ok t u s e).1)
+    quietly_evolves no_gone v after (λ g q _ b h. h) (λ u s e k d. (others v ok t u s e).1)
         (λ u s e k d _. left v ok t r is u s e (another s d k) ∙ e) (λ g q _ e. e) (λ g. refl) refl,
   )

@@ -28,6 +28,6 @@ module _ (v : View) (ok : Good v) (f p : ℕ) (clean : dirty (v.page f p) ≡ fa
         ok.requests_apart
         (λ g q e. still_flying v after g q (ok.flushes g q (grind (arith, put2_tells {A = Option Page}))) refl)
         ok.outcomes,
-    quietly_evolves no_gone v after (λ g q _. refl) (λ u r e k d. e) (λ u r e k d _. e)
+    quietly_evolves no_gone v after (λ g q _ b h. h) (λ u r e k d. e) (λ u r e k d _. e)
         (λ g q _ e. grind (arith, put2_tells {A = Option Page})) (λ g. refl) refl,
   )

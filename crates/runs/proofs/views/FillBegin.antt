@@ -1,12 +1,12 @@
 -- A fill begins.
-use Rattle.std.proofs.Common.{◌≡◌, ℕ, ◌+◌, true, false, [], refl, sym, ◌∙◌, arith, Option, Some, None}
+use Rattle.std.proofs.Common.{◌≡◌, ℕ, ◌+◌, true, false, [], refl, sym, ◌∙◌, arith, Option, Some, None, option_map}
 use Rattle.pc_types.specs.declared.kind.Kind.TheVariants.{Fill, Flush}
 use Rattle.runs.proofs.views.View.{View, Flight, Good, RequestIs, Goes, no_gone, quietly_evolves, request_stays, put1}
-use Rattle.runs.proofs.views.View.{put1_tells, fresh, no_outcome, block_user, writeback, good_after, still_flying}
+use Rattle.runs.proofs.views.View.{put1_tells, spot_of, is_valid, fresh, no_outcome, block_user, writeback, good_after, still_flying}
 use Rattle.runs.proofs.views.BeginRequest.{begun_apart, begun_requests, stays_begun, begun_outcomes}
 
 module _ (v : View) (ok : Good v) (f p b : ℕ) (absent : v.page f p ≡ None)
-    (mapped : v.spot f p ≡ Some (record { block = b; written = true }))
+    (mapped : option_map (λ s. s.block) (v.spot f p) ≡ Some b) (valid : is_valid (v.spot f p) ≡ true)
     (alone : (t : ℕ) (r : Flight) → v.request t ≡ Some r → r.dropped ≡ false → r.kind ≡ Fill → r.file ≡ f → r.page ≡ p
     → ⊥) where
   abbrev pub new : Flight
@@ -18,10 +18,11 @@ module _ (v : View) (ok : Good v) (f p b : ℕ) (absent : v.page f p ≡ None)
   new_request : RequestIs after v.next new
   new_request = record {
     serial = omega arith;
-    block = ok.spot_block f p _ mapped;
+    block = let s = spot_of _ _ mapped in let a = ok.spot_block f p s.0 s.1 in let e = s.2 in omega arith;
     bytes = λ k. absurd cc;
     fill = λ d k. record {
       mapped = mapped;
+      valid = valid;
       absent = absent;
       noted = λ bytes e. let none = no_outcome v ok in
           absurd cc;
@@ -32,7 +33,8 @@ module _ (v : View) (ok : Good v) (f p b : ℕ) (absent : v.page f p ≡ None)
 
   clash : (u : ℕ) (s : Flight) → v.request u ≡ Some s → b ≡ s.block → ⊥
   clash u s e same =
-      let who = block_user v ok u s f p _ e mapped same in
+      let x = spot_of _ _ mapped in
+      let who = block_user v ok u s f p x.0 e x.1 (x.2 ∙ same) in
       elim s.kind as (λ k. s.kind ≡ k → ⊥) [
         | Fill ↦ λ k. alone u s e who.0 k (sym who.1) (sym who.2)
         | Flush ↦ λ k. let w = ((ok.requests u s e).flush who.0 k).writeback in let a : writeback (v.page f p) ≡ true =
@@ -47,7 +49,7 @@ module _ (v : View) (ok : Good v) (f p b : ℕ) (absent : v.page f p ≡ None)
         (begun_apart v ok new clash)
         (λ g q e. let h = ok.flushes g q e in still_flying v after g q h (stays_begun v ok new h.serial h.request h.is))
         (begun_outcomes v ok new),
-    quietly_evolves no_gone v after (λ g q _. refl) (λ u r e k d. grind (arith, put1_tells {A = Option Flight}))
+    quietly_evolves no_gone v after (λ g q _ b h. h) (λ u r e k d. grind (arith, put1_tells {A = Option Flight}))
         (λ u r e k d _. let none = fresh v ok in grind (arith, put1_tells {A = Option Flight})) (λ g q _ e. e)
         (λ g. refl) refl,
   )

@@ -5,7 +5,7 @@ use Rattle.pc_types.specs.declared.kind.Kind.TheVariants.{Fill, Flush}
 use Rattle.machine.specs.State.{Page}
 use Rattle.runs.proofs.views.View.{View, Flight, Good, PageIs, RequestIs, HasFlush, Evolves, no_gone, put1, put2}
 use Rattle.runs.proofs.views.View.{put1_tells, put2_else, put2_tells, put1_here, spot_of, fresh, no_outcome, live_spot, block_user}
-use Rattle.runs.proofs.views.View.{Goes, request_stays, writeback, towrite, held, good_after, still_flying, one_page, one_page_in}
+use Rattle.runs.proofs.views.View.{Goes, request_stays, dirty, writeback, towrite, held, good_after, still_flying, one_page, one_page_in}
 use Rattle.runs.proofs.views.BeginRequest.{begun_apart, begun_requests, stays_begun, begun_outcomes}
 
 module _ (v : View) (ok : Good v) (f p b : ℕ) (old_page : Page) (cached : v.page f p ≡ Some old_page)
@@ -94,11 +94,14 @@ module _ (v : View) (ok : Good v) (f p b : ℕ) (old_page : Page) (cached : v.pa
 
   evolves : Evolves no_gone v after
   evolves = record {
-    on_device = λ g q _. inl refl;
+    on_device = λ g q _ b h. inl h;
     from = λ u r e k d. elim (put1_tells v.request v.next (Some new) u) [
-      | inl h ↦ inr (let a : Some new ≡ Some r = sym h.1 ∙ e in let b : new ≡ r = cc in
-          ap (λ (x : Flight). x.bytes) (sym b) ∙ (ok.pages f p).bytes old_page cached
-          ∙ (λ i. v.content ((b i).file) ((b i).page)))
+      | inl h ↦ inr (let a : Some new ≡ Some r = sym h.1 ∙ e in let b : new ≡ r = cc in record {
+        fresh_serial = (λ i. v.request (h.0 i)) ∙ fresh v ok;
+        was_dirty = (λ i. dirty (v.page ((sym b i).file) ((sym b i).page))) ∙ ap dirty cached ∙ is_dirty;
+        bytes = ap (λ (x : Flight). x.bytes) (sym b) ∙ (ok.pages f p).bytes old_page cached
+            ∙ (λ i. v.content ((b i).file) ((b i).page));
+      })
       | inr h ↦ inl (sym h.1 ∙ e)
     ];
     flush = λ u r e k d _. inl (let none = fresh v ok in grind (arith, put1_tells {A = Option Flight}));

@@ -59,7 +59,7 @@ module _ (v : View) (ok : Good v) (t : ℕ) (r : Flight) (is : v.request t ≡ S
 
   evolves : (page.tags.towrite ≡ old_page.tags.towrite) → Evolves no_gone v after
   evolves same_towrite = record {
-    on_device = λ g q _. inl refl;
+    on_device = λ g q _ b h. inl h;
     from = λ u s e k d. inl (others v ok t u s e).1;
     flush = λ u s e k d _. elim (put1_tells v.request t None u) [
       | inl h ↦ inr (inl (let a : v.request t ≡ Some s = (λ i. v.request (sym h.0 i)) ∙ e in let b : s ≡ r = cc in

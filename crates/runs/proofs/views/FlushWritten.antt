@@ -1,13 +1,16 @@
 -- A write ends that went well.
 use Rattle.std.proofs.Common.{◌≡◌, ℕ, ◌<◌, true, false, refl, ap, sym, ◌∙◌, arith, inl, inr}
-use Rattle.std.specs.Prelude.{Option, Some, None, is_some}
+use Rattle.std.proofs.Common.{subst, ◌≤◌}
+use Rattle.std.specs.Prelude.{Option, Some, None, is_some, option_map, nat_lt}
+use Rattle.std.proofs.lemmas.Bool.Decides.{nat_tests}
 use Rattle.pc_types.specs.declared.kind.Kind.TheVariants.{Flush}
 use Rattle.machine.specs.declared.event.Outcome.TheVariants as outcome
 use Rattle.machine.specs.State.{Page, page_count}
-use Rattle.pc_types.specs.Spots.{Spot}
+use Rattle.pc_types.specs.Spots.{Spot, shown}
+use Rattle.pc_types.proofs.SpotLaws.{shown_whole}
 use Rattle.runs.proofs.views.View.{View, Flight, Good, PageIs, FlushIs, RequestIs, HasFlush, Evolves, no_gone, put1}
 use Rattle.runs.proofs.views.View.{Goes, put2, put1_tells, put2_tells, put2_here, spot_of, dirty, writeback, towrite, settled}
-use Rattle.runs.proofs.views.View.{held_by, held, still_flying}
+use Rattle.runs.proofs.views.View.{HoldsBy, held_by, held, still_flying, put2_else, valid_of, is_valid}
 use Rattle.runs.proofs.views.EndRequest.{others, outcome_left, others_apart, outcomes_left, left, none_beside}
 
 module _ (v : View) (ok : Good v) (t : ℕ) (r : Flight) (is : v.request t ≡ Some r) (live : r.dropped ≡ false)
@@ -16,7 +19,7 @@ module _ (v : View) (ok : Good v) (t : ℕ) (r : Flight) (is : v.request t ≡ S
     (bytes : page.bytes ≡ old_page.bytes) (same_dirty : page.tags.dirty ≡ old_page.tags.dirty)
     (same_towrite : page.tags.towrite ≡ old_page.tags.towrite) (idle : page.tags.writeback ≡ false) where
   abbrev pub spot : Spot
-  spot = record { block = r.block; written = true }
+  spot = record { block = r.block; valid = v.page_size }
 
   abbrev pub after : View
   after = record v {
@@ -33,13 +36,21 @@ module _ (v : View) (ok : Good v) (t : ℕ) (r : Flight) (is : v.request t ≡ S
   before : (x : Spot) × (v.spot r.file r.page ≡ Some x) × (x.block ≡ r.block)
   before = spot_of _ _ flush_is.mapped
 
+  -- the block has no bytes past the page's
+  whole : shown v.page_size v.page_size (v.block r.block) ≡ v.block r.block
+  whole = shown_whole v.page_size v.page_size (v.block r.block)
+      (ok.block_sizes r.block (ok.requests t r is).block) (omega arith)
+
+  some_valid : nat_lt 0 v.page_size ≡ true
+  some_valid = let h = ok.positive in grind (arith, nat_tests)
+
   pages : (g q : ℕ) → PageIs (after.content g q) (held after g q) (after.spot g q) (after.page g q)
   pages g q = elim (put2_tells v.spot r.file r.page (Some spot) g q) [
     | inl h ↦ let e : after.page g q ≡ Some page = grind (arith, put2_tells {A = Option Page}) in let s = h.2 in
         let old = ok.pages r.file r.page in let b = old.bytes old_page cached in let tw = old.towrite in
         let j = flush_is.noted noted in let c = flush_is.clean in
         let same : v.content g q ≡ v.content r.file r.page = (λ i. v.content (h.0 i) (h.1 i)) in
-        let hd : held after g q ≡ v.block r.block = ap (held_by v.block v.page_size) s in
+        let hd : held after g q ≡ v.block r.block = ap (held_by v.block v.page_size) s ∙ whole in
         record {
           bytes = λ x k. cc;
           towrite = grind arith;
@@ -47,7 +58,7 @@ module _ (v : View) (ok : Good v) (t : ℕ) (r : Flight) (is : v.request t ≡ S
           writeback_block = λ _. ap is_some s;
           clean = λ d w. hd ∙ j ∙ c (let a : dirty (Some page) ≡ false = sym (ap dirty e) ∙ d in ap dirty cached
               ∙ sym same_dirty ∙ a) ∙ sym same;
-          clean_block = λ d w. ap settled s;
+          clean_block = λ d w. ap settled s ∙ some_valid;
         }
     | inr h ↦ let e : after.page g q ≡ v.page g q = grind (arith, put2_tells {A = Option Page}) in let s = h.1 in
         let old = ok.pages g q in
@@ -87,6 +98,13 @@ module _ (v : View) (ok : Good v) (t : ℕ) (r : Flight) (is : v.request t ≡ S
   spot_block : (g q : ℕ) (s : Spot) → after.spot g q ≡ Some s → s.block < v.blocks
   spot_block g q s e = let x = block_of_spot g q s e in let a = ok.spot_block g q x.0 x.1 in let b = x.2 in omega arith
 
+  spot_valid : (g q : ℕ) (s : Spot) → after.spot g q ≡ Some s → s.valid ≤ v.page_size
+  spot_valid g q s e = elim (put2_tells v.spot r.file r.page (Some spot) g q) [
+    | inl h ↦ (let a : Some spot ≡ Some s = sym h.2 ∙ e in let b : spot ≡ s = cc in
+        let c = ap (λ (y : Spot). y.valid) b in omega arith)
+    | inr h ↦ ok.spot_valid g q s (sym h.1 ∙ e)
+  ]
+
   spots_apart : (f p g q : ℕ) (s x : Spot) → after.spot f p ≡ Some s → after.spot g q ≡ Some x → s.block ≡ x.block
       → (f ≡ g) × (p ≡ q)
   spots_apart f p g q s x e k b = let i = block_of_spot f p s e in let j = block_of_spot g q x k in
@@ -99,11 +117,14 @@ module _ (v : View) (ok : Good v) (t : ℕ) (r : Flight) (is : v.request t ≡ S
         block = old.block;
         bytes = old.bytes;
         fill = λ d j. let h = old.fill d j in let n = not_here d in
+            let same_spot = put2_else v.spot r.file r.page (Some spot) s.file s.page n in
             record {
-              mapped = let a = h.mapped in grind (arith, put2_tells {A = Option Spot});
+              mapped = ap (option_map (λ (x : Spot). x.block)) same_spot ∙ h.mapped;
+              valid = ap is_valid same_spot ∙ h.valid;
               absent = let a = h.absent in
                   grind (arith, put2_tells {A = Option Page});
-              noted = λ bytes o. h.noted bytes (sym same ∙ o);
+              noted = λ bytes o. ap (λ x. shown v.page_size (valid_of x) bytes) same_spot
+                  ∙ h.noted bytes (sym same ∙ o);
             };
         flush = λ d j. let h = old.flush d j in let n = not_here d in
             record {
@@ -136,6 +157,7 @@ module _ (v : View) (ok : Good v) (t : ℕ) (r : Flight) (is : v.request t ≡ S
     page_in = page_in;
     spot_in = spot_in;
     spot_block = spot_block;
+    spot_valid = spot_valid;
     spots_apart = spots_apart;
     requests = requests;
     requests_apart = others_apart v ok t;
@@ -147,9 +169,9 @@ module _ (v : View) (ok : Good v) (t : ℕ) (r : Flight) (is : v.request t ≡ S
   evolves : Evolves no_gone v after
   evolves =
       let now : held after r.file r.page ≡ r.bytes =
-      ap (held_by v.block v.page_size) (put2_here v.spot r.file r.page (Some spot)) ∙ flush_is.noted noted in
+      ap (held_by v.block v.page_size) (put2_here v.spot r.file r.page (Some spot)) ∙ whole ∙ flush_is.noted noted in
       record {
-        on_device = λ g q _. elim (put2_tells v.spot r.file r.page (Some spot) g q) [
+        on_device = λ g q _ b before. elim (put2_tells v.spot r.file r.page (Some spot) g q) [
           | inl h ↦ inr (record {
             serial = t;
             request = r;
@@ -158,9 +180,9 @@ module _ (v : View) (ok : Good v) (t : ℕ) (r : Flight) (is : v.request t ≡ S
             live = live;
             file = sym h.0;
             page = sym h.1;
-            bytes = (λ i. held after (h.0 i) (h.1 i)) ∙ now;
+            bytes = inl ((λ i. held after (h.0 i) (h.1 i)) ∙ now);
           })
-          | inr h ↦ inl (ap (held_by v.block v.page_size) h.1)
+          | inr h ↦ inl (subst (λ x. HoldsBy v.block v.page_size x b) (sym h.1) before)
         ];
         from = λ u s e k d. inl (others v ok t u s e).1;
         flush = λ u s e k d _. elim (put1_tells v.request t None u) [

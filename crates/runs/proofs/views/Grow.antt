@@ -36,6 +36,6 @@ module _ (v : View) (ok : Good v) (f z : ℕ) (more : v.size f ≤ z) where
         let flushes : (g q : ℕ) → writeback (v.page g q) ≡ true → HasFlush after g q =
         λ g q e. still_flying v after g q (ok.flushes g q e) refl in
         assumption (page_in, spot_in)),
-    quietly_evolves no_gone v after (λ g q _. refl) (λ u r e k d. e) (λ u r e k d _. e) (λ g q _ e. e) (λ g. refl)
+    quietly_evolves no_gone v after (λ g q _ b h. h) (λ u r e k d. e) (λ u r e k d _. e) (λ g q _ e. e) (λ g. refl)
         refl,
   )

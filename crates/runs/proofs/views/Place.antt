@@ -22,7 +22,7 @@ module _ (v : View) (page : ℕ → ℕ → Option Page) (spot : ℕ → ℕ →
   -- the block is new, and was free
   pub record IsNew (g q : ℕ) : Type 0 where
     pub block : ℕ
-    pub is : spot g q ≡ Some (record { block = block; written = false })
+    pub is : spot g q ≡ Some (record { block = block; valid = 0 })
     pub was : v.spot g q ≡ None
     pub within : block < v.blocks
     pub free_spot : (h k : ℕ) (s : Spot) → v.spot h k ≡ Some s → s.block ≢ block

@@ -1,10 +1,11 @@
 -- A change of many pages keeps what holds always.
-use Rattle.std.proofs.Common.{◌≡◌, ℕ, ◌<◌, Bool, true, false, cond, List, refl, ap, sym, subst, ◌∙◌, arith, inl, inr}
+use Rattle.std.proofs.Common.{◌≡◌, ℕ, ◌<◌, ◌≤◌, Bool, true, false, cond, List, refl, ap, sym, subst, ◌∙◌, arith, inl, inr}
 use Rattle.std.specs.Prelude.{◌⊎◌, Option, Some, None, is_some, option_map}
 use Rattle.machine.specs.State.{Page, page_count}
-use Rattle.pc_types.specs.Spots.{Spot}
+use Rattle.pc_types.specs.Spots.{Spot, shown}
 use Rattle.runs.proofs.views.View.{View, Flight, Good, PageIs, RequestIs, HasFlush, Evolves, quietly_evolves}
-use Rattle.runs.proofs.views.View.{Goes, block_user, dirty, writeback, towrite, settled, held_by, held}
+use Rattle.runs.proofs.views.View.{Goes, HoldsBy, block_user, dirty, writeback, towrite, settled, held_by, held}
+use Rattle.runs.proofs.views.View.{valid_of, is_valid}
 use Rattle.runs.proofs.views.Place.{IsSame, IsGone, IsNew, IsPut, dropped_where}
 
 module _ (v : View) (ok : Good v) (page : ℕ → ℕ → Option Page) (spot : ℕ → ℕ → Option Spot) (content : ℕ → ℕ → List ℕ)
@@ -33,9 +34,13 @@ module _ (v : View) (ok : Good v) (page : ℕ → ℕ → Option Page) (spot : �
         | false ↦ λ e. inr (refl, is_kept g q e)
       ] refl
 
+  is_new : (g q : ℕ) (x : Spot) → spot g q ≡ Some x → (n : IsNew v page spot content g q)
+      → x ≡ record { block = n.block; valid = 0 }
+  is_new g q x e n = let a : Some x ≡ Some (record { block = n.block; valid = 0 }) = sym e ∙ n.is in cc
+
   -- a block that a page has now it had before, or it was free
   spot_was : (g q : ℕ) (x : Spot) → spot g q ≡ Some x
-      → (gone g q ≡ false) × ((v.spot g q ≡ Some x) ⊎ ((i : IsNew v page spot content g q) × (x.block ≡ i.block)))
+      → (gone g q ≡ false) × ((v.spot g q ≡ Some x) ⊎ ((i : IsNew v page spot content g q) × (x.block ≡ i.block) × (x.valid ≡ 0)))
   spot_was g q x e = elim (gone_or g q) [
     | inl h ↦ absurd (let a = h.1.on_spot in cc)
     | inr h ↦ (
@@ -46,9 +51,8 @@ module _ (v : View) (ok : Good v) (page : ℕ → ℕ → Option Page) (spot : �
           | inl b ↦ inl (sym b.0 ∙ e)
           | inr n ↦ inr (
             n,
-            (let a = n.is in let c : Some x ≡ Some (record { block = n.block; written = false }) =
-                sym e ∙ a in let d : x ≡ record { block = n.block; written = false } = cc in
-                ap (λ (y : Spot). y.block) d),
+            ap (λ (y : Spot). y.block) (is_new g q x e n),
+            ap (λ (y : Spot). y.valid) (is_new g q x e n),
           )
         ]
       ],
@@ -99,6 +103,10 @@ module _ (v : View) (ok : Good v) (page : ℕ → ℕ → Option Page) (spot : �
         | inr n ↦ (let a = n.0.within in let b = n.1 in omega arith)
       ]
 
+  spot_valid : (g q : ℕ) (x : Spot) → spot g q ≡ Some x → x.valid ≤ v.page_size
+  spot_valid g q x e =
+      elim (spot_was g q x e).1 [ inl o ↦ ok.spot_valid g q x o | inr n ↦ (let b = n.2 in omega arith) ]
+
   spots_apart : (f p g q : ℕ) (s x : Spot) → spot f p ≡ Some s → spot g q ≡ Some x → s.block ≡ x.block
       → (f ≡ g) × (p ≡ q)
   spots_apart f p g q s x e k b = elim (spot_was f p s e).1 [
@@ -145,9 +153,11 @@ module _ (v : View) (ok : Good v) (page : ℕ → ℕ → Option Page) (spot : �
     bytes = old.bytes;
     fill = λ d k. let h = old.fill d k in elim (is_kept r.file r.page n) [
       | inl s ↦ record {
-        mapped = s.on_spot ∙ h.mapped;
+        mapped = ap (option_map (λ x. x.block)) s.on_spot ∙ h.mapped;
+        valid = ap is_valid s.on_spot ∙ h.valid;
         absent = s.on_page ∙ h.absent;
-        noted = λ bytes o. h.noted bytes o ∙ sym s.on_content;
+        noted = λ bytes o. ap (λ x. shown v.page_size (valid_of x) bytes) s.on_spot ∙ h.noted bytes o
+            ∙ sym s.on_content;
       }
       | inr s ↦ absurd (s.no_fill u r e d k refl refl)
     ];
@@ -234,6 +244,7 @@ module _ (v : View) (ok : Good v) (page : ℕ → ℕ → Option Page) (spot : �
     page_in = page_in;
     spot_in = spot_in;
     spot_block = spot_block;
+    spot_valid = spot_valid;
     spots_apart = spots_apart;
     requests = requests;
     requests_apart = requests_apart;
@@ -242,13 +253,19 @@ module _ (v : View) (ok : Good v) (page : ℕ → ℕ → Option Page) (spot : �
     block_sizes = ok.block_sizes;
   }
 
+  -- of a page without a block the device holds zeros, and so it does once the page has taken one
+  of_none : (b : List ℕ) (k : ℕ) → HoldsBy v.block v.page_size None b
+      → HoldsBy v.block v.page_size (Some (record { block = k; valid = 0 })) b
+  of_none b k h = elim h [ inl zeros ↦ inl zeros | inr part ↦ absurd (let a = part.0 in omega arith) ]
+
   evolves : Evolves gone v after
   evolves = quietly_evolves gone v after
-      (λ g q n. elim (is_kept g q n) [
-        | inl s ↦ ap (held_by v.block v.page_size) s.on_spot
+      (λ g q n b h. elim (is_kept g q n) [
+        | inl s ↦ subst (λ x. HoldsBy v.block v.page_size x b) (sym s.on_spot) h
         | inr s ↦ elim s.block [
-          | inl b ↦ ap (held_by v.block v.page_size) b.0
-          | inr w ↦ ap (held_by v.block v.page_size) w.is ∙ sym (ap (held_by v.block v.page_size) w.was)
+          | inl c ↦ subst (λ x. HoldsBy v.block v.page_size x b) (sym c.0) h
+          | inr w ↦ subst (λ x. HoldsBy v.block v.page_size x b) (sym w.is)
+              (of_none b w.block (subst (λ x. HoldsBy v.block v.page_size x b) w.was h))
         ]
       ])
       (λ u s e k d. let w = request_was u s e in

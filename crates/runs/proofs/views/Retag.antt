@@ -36,7 +36,12 @@ module _ (v : View) (ok : Good v) (page : ℕ → ℕ → Option Page)
     block = old.block;
     bytes = old.bytes;
     fill = λ d j. let h = old.fill d j in
-        record { mapped = h.mapped; absent = none _ (same_some s.file s.page ∙ ap is_some h.absent); noted = h.noted };
+        record {
+          mapped = h.mapped;
+          valid = h.valid;
+          absent = none _ (same_some s.file s.page ∙ ap is_some h.absent);
+          noted = h.noted;
+        };
     flush = λ d j. let h = old.flush d j in
         record {
           mapped = h.mapped;
@@ -51,6 +56,6 @@ module _ (v : View) (ok : Good v) (page : ℕ → ℕ → Option Page)
   retag more = (
     good_after v ok _ _ _ _ _ pages page_in requests ok.requests_apart
         (λ g q e. still_flying v after g q (ok.flushes g q (sym (same_writeback g q) ∙ e)) refl) ok.outcomes,
-    quietly_evolves no_gone v after (λ g q _. refl) (λ u r e k d. e) (λ u r e k d _. e) (λ g q _ e. more g q e)
+    quietly_evolves no_gone v after (λ g q _ b h. h) (λ u r e k d. e) (λ u r e k d _. e) (λ g q _ e. more g q e)
         (λ g. refl) refl,
   )

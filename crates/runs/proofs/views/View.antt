@@ -1,11 +1,10 @@
 -- A world and its plain files, as look-ups alone, and what holds of them always.
-use Rattle.std.proofs.Common.{◌≡◌, ℕ, ◌+◌, ◌<◌, ◌≤◌, ◌≢◌, Bool, true, false, cond, eqb, eqb-true, eq-eqb, List, []}
+use Rattle.std.proofs.Common.{◌≡◌, ℕ, ◌+◌, ◌<◌, ◌≤◌, ◌≢◌, Bool, true, false, cond, eqb, eqb-true, eq-eqb, List}
 use Rattle.std.proofs.Common.{length, refl, ap, sym, ◌∙◌, arith, inl, inr, subst}
-use Rattle.std.specs.Prelude.{◌&&◌, ◌⊎◌, Option, Some, None, is_some, option_map}
+use Rattle.std.specs.Prelude.{◌&&◌, ◌⊎◌, Option, Some, None, is_some, option_map, unwrap_or, nat_lt}
 use Rattle.std.proofs.lemmas.Bool.{false≢true}
-use Rattle.pc_types.specs.Files.{cut}
 use Rattle.machine.specs.State.{Page, page_count, tags_of}
-use Rattle.pc_types.specs.Spots.{Spot}
+use Rattle.pc_types.specs.Spots.{Spot, shown}
 use Rattle.pc_types.specs.declared.kind.Kind.{Kind}
 use Rattle.pc_types.specs.declared.kind.Kind.TheVariants.{Fill, Flush}
 use Rattle.machine.specs.declared.event.Outcome.{Outcome}
@@ -75,17 +74,33 @@ writeback page = (tags_of page).writeback
 abbrev pub towrite : Option Page → Bool
 towrite page = (tags_of page).towrite
 
--- no block, or a written one
+abbrev pub block_of : Option Spot → ℕ
+block_of spot = unwrap_or (option_map (λ s. s.block) spot) 0
+
+abbrev pub valid_of : Option Spot → ℕ
+valid_of spot = unwrap_or (option_map (λ s. s.valid) spot) 0
+
+abbrev pub is_valid : Option Spot → Bool
+is_valid spot = nat_lt 0 (valid_of spot)
+
+-- no block, or one with bytes of the page
 abbrev pub settled : Option Spot → Bool
 settled None = true
-settled (Some spot) = spot.written
+settled (Some spot) = nat_lt 0 spot.valid
 
 abbrev pub held_by : (ℕ → List ℕ) → ℕ → Option Spot → List ℕ
-held_by block P None = cut [] P
-held_by block P (Some spot) = cond spot.written (block spot.block) (cut [] P)
+held_by block P spot = shown P (valid_of spot) (block (block_of spot))
 
 abbrev pub held : View → ℕ → ℕ → List ℕ
 held v f p = held_by v.block v.page_size (v.spot f p)
+
+-- the block shows these bytes, or a part of it is valid and they are all of it
+abbrev pub HoldsBy : (ℕ → List ℕ) → ℕ → Option Spot → List ℕ → Type 0
+HoldsBy block P spot bytes = (held_by block P spot ≡ bytes)
+    ⊎ ((0 < valid_of spot) × (valid_of spot < P) × (block (block_of spot) ≡ bytes))
+
+abbrev pub Holds : View → ℕ → ℕ → List ℕ → Type 0
+Holds v f p bytes = HoldsBy v.block v.page_size (v.spot f p) bytes
 
 -- ---- what holds always
 
@@ -97,11 +112,12 @@ pub record PageIs (content held : List ℕ) (spot : Option Spot) (page : Option 
   pub clean : dirty page ≡ false → writeback page ≡ false → held ≡ content
   pub clean_block : dirty page ≡ false → writeback page ≡ false → settled spot ≡ true
 
-pub record FillIs (spot : Option Spot) (page : Option Page) (content : List ℕ) (out : Option Outcome) (r : Flight) :
-    Type 0 where
-  pub mapped : spot ≡ Some (record { block = r.block; written = true })
+pub record FillIs (P : ℕ) (spot : Option Spot) (page : Option Page) (content : List ℕ) (out : Option Outcome)
+    (r : Flight) : Type 0 where
+  pub mapped : option_map (λ s. s.block) spot ≡ Some r.block
+  pub valid : is_valid spot ≡ true
   pub absent : page ≡ None
-  pub noted : (bytes : List ℕ) → out ≡ Some (outcome.Read bytes) → bytes ≡ content
+  pub noted : (bytes : List ℕ) → out ≡ Some (outcome.Read bytes) → shown P (valid_of spot) bytes ≡ content
 
 pub record FlushIs (spot : Option Spot) (page : Option Page) (content : List ℕ) (out : Option Outcome) (block : List ℕ)
     (r : Flight) : Type 0 where
@@ -115,7 +131,7 @@ pub record RequestIs (v : View) (t : ℕ) (r : Flight) : Type 0 where
   pub block : r.block < v.blocks
   pub bytes : r.kind ≡ Flush → length r.bytes ≡ v.page_size
   pub fill : r.dropped ≡ false → r.kind ≡ Fill
-      → FillIs (v.spot r.file r.page) (v.page r.file r.page) (v.content r.file r.page) (v.outcome t) r
+      → FillIs v.page_size (v.spot r.file r.page) (v.page r.file r.page) (v.content r.file r.page) (v.outcome t) r
   pub flush : r.dropped ≡ false → r.kind ≡ Flush
       → FlushIs (v.spot r.file r.page) (v.page r.file r.page) (v.content r.file r.page) (v.outcome t) (v.block r.block)
       r
@@ -137,6 +153,7 @@ pub record Good (v : View) : Type 0 where
   pub page_in : (f p : ℕ) → is_some (v.page f p) ≡ true → p < page_count v.page_size (v.size f)
   pub spot_in : (f p : ℕ) → is_some (v.spot f p) ≡ true → p < page_count v.page_size (v.size f)
   pub spot_block : (f p : ℕ) (s : Spot) → v.spot f p ≡ Some s → s.block < v.blocks
+  pub spot_valid : (f p : ℕ) (s : Spot) → v.spot f p ≡ Some s → s.valid ≤ v.page_size
   pub spots_apart : (f p g q : ℕ) (s t : Spot) → v.spot f p ≡ Some s → v.spot g q ≡ Some t → s.block ≡ t.block
       → (f ≡ g) × (p ≡ q)
   pub requests : (t : ℕ) (r : Flight) → v.request t ≡ Some r → RequestIs v t r
@@ -182,7 +199,7 @@ module _ (v : View) (ok : Good v) where
   pub live_spot : (t : ℕ) (r : Flight) → v.request t ≡ Some r → r.dropped ≡ false
       → option_map (λ s. s.block) (v.spot r.file r.page) ≡ Some r.block
   live_spot t r e d = elim r.kind as (λ k. r.kind ≡ k → option_map (λ s. s.block) (v.spot r.file r.page) ≡ Some r.block) [
-    | Fill ↦ λ k. ap (option_map (λ s. s.block)) ((ok.requests t r e).fill d k).mapped
+    | Fill ↦ λ k. ((ok.requests t r e).fill d k).mapped
     | Flush ↦ λ k. ((ok.requests t r e).flush d k).mapped
   ] refl
 
@@ -212,7 +229,7 @@ pub record WasFlushed (v w : View) (f p : ℕ) : Type 0 where
   pub live : request.dropped ≡ false
   pub file : request.file ≡ f
   pub page : request.page ≡ p
-  pub bytes : held w f p ≡ request.bytes
+  pub bytes : Holds w f p request.bytes
 
 -- a write of the page was started
 pub record IsStarted (v w : View) (f p : ℕ) : Type 0 where
@@ -226,10 +243,17 @@ pub record IsStarted (v w : View) (f p : ℕ) : Type 0 where
   pub page : request.page ≡ p
   pub bytes : request.bytes ≡ v.content f p
 
+-- a write of a DIRTY page begins, with its bytes
+pub record Begins (v : View) (t : ℕ) (r : Flight) : Type 0 where
+  pub fresh_serial : v.request t ≡ None
+  pub was_dirty : dirty (v.page r.file r.page) ≡ true
+  pub bytes : r.bytes ≡ v.content r.file r.page
+
 pub record Evolves (gone : ℕ → ℕ → Bool) (v w : View) : Type 0 where
-  pub on_device : (f p : ℕ) → gone f p ≡ false → (held w f p ≡ held v f p) ⊎ WasFlushed v w f p
+  pub on_device : (f p : ℕ) → gone f p ≡ false → (bytes : List ℕ) → Holds v f p bytes
+      → Holds w f p bytes ⊎ WasFlushed v w f p
   pub from : (t : ℕ) (r : Flight) → w.request t ≡ Some r → r.kind ≡ Flush → r.dropped ≡ false → (v.request t ≡ Some r)
-      ⊎ (r.bytes ≡ v.content r.file r.page)
+      ⊎ Begins v t r
   pub flush : (t : ℕ) (r : Flight) → v.request t ≡ Some r → r.kind ≡ Flush → r.dropped ≡ false
       → gone r.file r.page ≡ false → (w.request t ≡ Some r)
       ⊎ ((w.failures r.file ≡ v.failures r.file + 1) ⊎ ((w.request t ≡ None) × (held w r.file r.page ≡ r.bytes)))
@@ -246,14 +270,15 @@ abbrev pub Goes : (ℕ → ℕ → Bool) → View → View → Type 0
 Goes gone v w = Good w × Evolves gone v w
 
 -- no write starts, ends or takes effect
-pub quietly_evolves : (gone : ℕ → ℕ → Bool) (v w : View) → ((f p : ℕ) → gone f p ≡ false → held w f p ≡ held v f p)
+pub quietly_evolves : (gone : ℕ → ℕ → Bool) (v w : View)
+    → ((f p : ℕ) → gone f p ≡ false → (bytes : List ℕ) → Holds v f p bytes → Holds w f p bytes)
     → ((t : ℕ) (r : Flight) → w.request t ≡ Some r → r.kind ≡ Flush → r.dropped ≡ false → v.request t ≡ Some r)
     → ((t : ℕ) (r : Flight) → v.request t ≡ Some r → r.kind ≡ Flush → r.dropped ≡ false → gone r.file r.page ≡ false
     → w.request t ≡ Some r) → ((f p : ℕ) → gone f p ≡ false → towrite (v.page f p) ≡ true
     → towrite (w.page f p) ≡ true) → ((f : ℕ) → w.failures f ≡ v.failures f) → w.page_size ≡ v.page_size
     → Evolves gone v w
 quietly_evolves gone v w same new old tags count size = record {
-  on_device = λ f p g. inl (same f p g);
+  on_device = λ f p g b h. inl (same f p g b h);
   from = λ t r e k d. inl (new t r e k d);
   flush = λ t r e k d g. inl (old t r e k d g);
   to_write = λ f p g e. inl (tags f p g e);
@@ -262,7 +287,7 @@ quietly_evolves gone v w same new old tags count size = record {
 }
 
 pub stays : (gone : ℕ → ℕ → Bool) (v : View) → Evolves gone v v
-stays gone v = quietly_evolves gone v v (λ f p g. refl) (λ t r e k d. e) (λ t r e k d g. e) (λ f p g e. e) (λ f. refl)
+stays gone v = quietly_evolves gone v v (λ f p g b h. h) (λ t r e k d. e) (λ t r e k d g. e) (λ f p g e. e) (λ f. refl)
     refl
 
 -- a write in flight whose request stays
@@ -286,7 +311,12 @@ request_stays v page request outcome next failures t r old serial call fills flu
   block = old.block;
   bytes = old.bytes;
   fill = λ d k. let h = old.fill d k in
-      record { mapped = h.mapped; absent = fills d k ∙ h.absent; noted = λ bytes o. h.noted bytes (sym call ∙ o) };
+      record {
+        mapped = h.mapped;
+        valid = h.valid;
+        absent = fills d k ∙ h.absent;
+        noted = λ bytes o. h.noted bytes (sym call ∙ o);
+      };
   flush = λ d k. let h = old.flush d k in let same = flushes d k in
       record {
         mapped = h.mapped;

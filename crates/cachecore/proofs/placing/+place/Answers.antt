@@ -65,7 +65,7 @@ unassign-requires-clause-unwritten t c =
     let less = ne_less c.args.next c.args.span.end c.requires.order c.if-next-span.false in
     let given = block_given t (goal.at.unassign-requires-clause-unwritten t c).Else-is_err in
     let same = when_err c.place-rest.result _ c.if-is_err-2.ensures.value c.place-rest.ensures.not_placed in
-    subst (λ (n : Blocks). IfSome (map.get n.spots (c.args.span.file, c.args.next)) (λ spot. spot.written ≡ false))
+    subst (λ (n : Blocks). IfSome (map.get n.spots (c.args.span.file, c.args.next)) (λ spot. spot.valid ≡ 0))
     (sym same) (given_unwritten b c.assign.new.self c.args.span.file c.args.next c.args.span.end less given)
 
 pub unassign-requires-clause-not_held : goal.unassign-requires-clause-not_held

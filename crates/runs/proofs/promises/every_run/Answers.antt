@@ -9,6 +9,10 @@ use Rattle.machine.proofs.steps.Stuck.{no_event_is_stuck}
 use Rattle.runs.proofs.moments.FilesHeld.{files_are_held}
 use Rattle.runs.proofs.moments.FilesSeen.{files_are_those}
 use Rattle.runs.proofs.moments.ReadsRight.{reads_are_right}
+use Rattle.runs.proofs.moments.Restarts.{runs_may_restart}
+use Rattle.runs.proofs.moments.ValidBytes.{spots_are_whole_or_first}
+use Rattle.runs.proofs.syncs.EndsClean.{syncs_leave_clean}
+use Rattle.runs.proofs.moments.Untold.{other_bytes_are_untold}
 use Rattle.runs.proofs.promises.every_run.Goals as goal
 
 pub returns-clause-held : goal.returns-clause-held
@@ -52,3 +56,15 @@ returns-clause-awaited c = awaits_by_bound
 
 pub returns-clause-few : goal.returns-clause-few
 returns-clause-few c = sync_writes_are_few
+
+pub returns-clause-spots : goal.returns-clause-spots
+returns-clause-spots c = spots_are_whole_or_first
+
+pub returns-clause-untold : goal.returns-clause-untold
+returns-clause-untold c = other_bytes_are_untold
+
+pub returns-clause-restart : goal.returns-clause-restart
+returns-clause-restart c = runs_may_restart
+
+pub returns-clause-clean : goal.returns-clause-clean
+returns-clause-clean c = syncs_leave_clean

@@ -1,4 +1,4 @@
-use Rattle.std.proofs.Common.{ℕ, sym, ap, subst, ◌∙◌, ◌-◌, ◌<◌, ◌≤◌, false, arith}
+use Rattle.std.proofs.Common.{ℕ, sym, ap, subst, ◌∙◌, ◌-◌, ◌<◌, ◌≤◌, arith}
 use Rattle.std.specs.FinSet as set
 use Rattle.std.specs.Ordering.{nat_cmp}
 use Rattle.std.specs.FinMap as map
@@ -42,5 +42,5 @@ invariant_of-self-2 c =
     let bare = ap (λ (m : Blocks). map.get m.spots p) c.self.view_is ∙ c.requires.bare in
     let used = c.in_ok-place.ensures.used ∙ c.in_ok-block.ensures.taken in
     subst (λ (m : Spots). IsBalanced s.count (s.free - 1) m c.place.new.used.used s.held) (sym c.in_ok-place.ensures.spots)
-    (subst (λ (u : set.FinSet nat_cmp). IsBalanced s.count (s.free - 1) (map.insert s.spots p (record { block = b; written = false })) u s.held) (sym used)
-    (balanced-assign s.count s.free s.spots s.used.used s.held c.self.invariant p b bare within c.in_ok-block.ensures.lowest.unused))
+    (subst (λ (u : set.FinSet nat_cmp). IsBalanced s.count (s.free - 1) (map.insert s.spots p (record { block = b; valid = 0 })) u s.held) (sym used)
+    (balanced-assign s.count s.free s.spots s.used.used s.held c.self.invariant p b 0 bare within c.in_ok-block.ensures.lowest.unused))

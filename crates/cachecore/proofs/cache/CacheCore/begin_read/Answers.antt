@@ -1,4 +1,4 @@
-use Rattle.std.proofs.Common.{◌≡◌, ℕ, ◌<◌, true, false, length, ap, sym, refl, subst, ◌∙◌, arith}
+use Rattle.std.proofs.Common.{◌≡◌, ℕ, ◌<◌, false, length, ap, sym, refl, subst, ◌∙◌, arith}
 use Rattle.std.specs.Prelude.{if◌then◌else◌, Some}
 use Rattle.pc_types.specs.Spots.{Spot}
 use Rattle.pc_types.specs.declared.kind.Kind.TheVariants.{Fill}
@@ -10,6 +10,7 @@ use Rattle.machine.specs.PageLists.{entered}
 use Rattle.pagestore.specs.Store.{Store}
 use Rattle.pagestore.proofs.PairLemmas.{when_err, when_ok}
 use Rattle.cachecore.specs.Core.{Core}
+use Rattle.cachecore.specs.Nexts.{its_spot}
 use Rattle.cachecore.specs.Tables.{state_of}
 use Rattle.cachecore.proofs.CoreLemmas.{free_frames_are}
 use Rattle.cachecore.proofs.FillCalls.{reading, reading_cache, reading_is}
@@ -47,7 +48,7 @@ record Fits (s : State) (f p : ℕ) (spot : Spot) : Type 0 where
   at : spot_at s f p ≡ Some spot
 
 abbrev spot : After-self → Spot
-spot c = record { block = c.args.block.0; written = true }
+spot c = its_spot c.args.placed
 
 fits : (c : After-self) → Fits (state_by (parts_of c.self.inside)) c.args.file c.args.page.0 (spot c)
 fits c =
@@ -108,7 +109,7 @@ invariant_of-self-2 c =
     subst IsKept (sym (begun c))
     (reading_cache p c.self.invariant c.args.file c.args.page.0 w.absent w.idle
     (spot (goal.at.invariant_of-self-2 c).After-self) w.at
-    (record { file = omega (arith, here, few); page = c.requires.below }) here refl
+    (record { file = omega (arith, here, few); page = c.requires.below }) here c.requires.valid
     (omega (arith, free, frames, c.requires.room)) (serials_left c.self.invariant.core room))
 
 pub returns-clause-begun : goal.returns-clause-begun

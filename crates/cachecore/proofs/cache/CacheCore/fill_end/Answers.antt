@@ -1,12 +1,15 @@
-use Rattle.std.proofs.Common.{ap, length, sym, ◌∙◌, ◌≡◌}
+use Rattle.std.proofs.Common.{ap, length, refl, sym, ◌∙◌, ◌≡◌, ℕ}
 use Rattle.std.proofs.lemmas.Bool.{or_right}
-use Rattle.std.specs.Prelude.{is_some}
+use Rattle.std.specs.Prelude.{Option, None, Some, is_some, option_map, unwrap_or}
 use Rattle.std.specs.FinMap as map
-use Rattle.std.specs.FinSet as set
-use Rattle.pc_types.specs.Tags.{no_tags}
+use Rattle.pc_types.specs.Spots.{Spot, shown}
+use Rattle.blockmap.specs.Blocks.{Blocks}
+use Rattle.blockmap.specs.Told.{told}
+use Rattle.blockmap.specs.declared.spots.Placed.{Placed}
+use Rattle.pagestore.specs.Filling.{filled}
 use Rattle.pc_types.specs.declared.kind.Kind.TheVariants.{Fill}
 use Rattle.blockdev.specs.declared.job.FinishedParts.{FinishedParts}
-use Rattle.pagestore.specs.Store.{Store, is_awaited, stored_at, stored_page, with_pages}
+use Rattle.pagestore.specs.Store.{Store, is_awaited, stored_page}
 use Rattle.writeback.specs.Flights as flights
 use Rattle.writeback.specs.Requests.{request_of}
 use Rattle.machine.specs.declared.event.Reply.TheVariants as reply
@@ -77,6 +80,13 @@ pub finish_fill-requires-clause-whole : goal.finish_fill-requires-clause-whole
 finish_fill-requires-clause-whole c = ap length (c.as_slice.ensures ∙ ap (λ (k : FinishedParts). k.buffer)
     c.into_parts-buffer.ensures) ∙ sized (goal.at.finish_fill-requires-clause-whole c).In-Some ∙ sym c.self.invariant.core.page
 
+abbrev told_valid : Option Placed → ℕ
+told_valid o = unwrap_or (option_map (λ (y : Placed). y.valid) o) 0
+
+valid_told : (o : Option Spot) → told_valid (option_map told o) ≡ unwrap_or (option_map (λ (y : Spot). y.valid) o) 0
+valid_told None = refl
+valid_told (Some y) = refl
+
 done : (c : goal.After-finish_fill) → Goes (goal.at.invariant_of-self-in-Ok c).In-Some reply.Filled
     (record (parts_of c.self.inside) {
       store = c.finish_fill.new.self;
@@ -87,14 +97,14 @@ done c =
     let b = (goal.at.invariant_of-self-in-Ok c).In-Some in
     let pages = c.self.inside.pages in
     let x = request_of c.in-Some.request in
+    let bytes = c.as_slice.ensures ∙ ap (λ (k : FinishedParts). k.buffer) c.into_parts-buffer.ensures in
+    let spots = ap (λ (z : Blocks). map.get z.spots (x.file, x.page)) c.release.ensures in
+    let valid = c.valid_of-valid.ensures ∙ ap told_valid (c.map.ensures ∙ ap (option_map told) spots)
+    ∙ valid_told (map.get c.self.inside.blocks.spots (x.file, x.page)) in
     let filling = c.finish_fill.ensures
-    ∙ ap (λ b. let k : Store =
-    record (with_pages pages x.file
-    (map.insert (stored_at pages x.file).pages x.page (record { bytes = b; tags = no_tags })) pages.free)
-    { filling = set.remove pages.filling (x.file, x.page) } in k)
-    (c.as_slice.ensures ∙ ap (λ (k : FinishedParts). k.buffer) c.into_parts-buffer.ensures) in
+    ∙ (λ i. filled pages x.file x.page (shown (c.self.invariant.core.page i) (valid i) (bytes i))) in
     fill_done (parts_of c.self.inside) c.self.invariant c.args.finished (request_of c.in-Some.request) c.args.self.now.state (state_is c.self.view_is) (ends b)
-    c.if-request.false (sym (ap (λ (k : FinishedParts). k.outcome) c.into_parts-buffer.ensures) ∙ c.in-Ok.is) (sized b) _ _ _ filling
+    c.if-request.false (sym (ap (λ (k : FinishedParts). k.outcome) c.into_parts-buffer.ensures) ∙ c.in-Ok.is) _ _ _ filling
     c.release.ensures (c.end.ensures.ended
     ∙ ap (λ (k : FinishedParts). flights.ended c.self.inside.requests k.serial.0) c.into_parts-buffer.ensures)
 

@@ -1,3 +1,4 @@
+use Rattle.std.specs.FinMap as map
 use Rattle.std.proofs.Common.{arith, ap, subst, sym, ◌∙◌}
 use Rattle.std.specs.Prelude.{is_some, IsTrue}
 use Rattle.pc_types.specs.declared.kind.Kind.TheVariants.{Flush}
@@ -5,6 +6,7 @@ use Rattle.blockdev.specs.declared.job.FinishedParts.{FinishedParts}
 use Rattle.pc_types.specs.Limits.{is_err_code}
 use Rattle.writeback.specs.Flights as flights
 use Rattle.writeback.specs.Requests.{request_of}
+use Rattle.blockmap.specs.Blocks.{Blocks, with_valid}
 use Rattle.machine.specs.declared.event.Reply.TheVariants as reply
 use Rattle.machine.specs.declared.event.Reply.{Reply}
 use Rattle.cachecore.proofs.CoreViews.{state_is}
@@ -66,17 +68,21 @@ note_failure-requires-clause-few c =
     few_failures (parts_of c.self.inside) c.self.invariant c.args.finished (request_of c.in-Some.request) c.args.self.now.state (state_is c.self.view_is) (ends b)
     c.if-request.false c.finish_write-in-Err.new.self c.finish_write-in-Err.ensures
 
-done : (c : goal.After-set_written) → Goes (goal.at.invariant_of-self-in-Ok c).In-Some reply.Written
+done : (c : goal.After-set_valid) → Goes (goal.at.invariant_of-self-in-Ok c).In-Some reply.Written
     (record (parts_of c.self.inside) {
       store = c.finish_write.new.self;
-      blocks = c.set_written.new.self;
+      blocks = c.set_valid.new.self;
       flights = c.end.new.self;
     })
 done c =
     let b = (goal.at.invariant_of-self-in-Ok c).In-Some in
     flush_done (parts_of c.self.inside) c.self.invariant c.args.finished (request_of c.in-Some.request) c.args.self.now.state (state_is c.self.view_is) (ends b)
     c.if-request.false (sym (ap (λ (k : FinishedParts). k.outcome) c.into_parts-buffer.ensures) ∙ c.in-Ok.is) _ _ _ _
-    c.finish_write.ensures c.release.ensures c.set_written.ensures
+    c.finish_write.ensures c.release.ensures
+    (c.set_valid.ensures ∙ ap (λ n. let z : Blocks = record c.release.new.self {
+      spots = with_valid n (map.get c.release.new.self.spots (c.in-Some.request.file.0, c.in-Some.request.page.0))
+          (c.in-Some.request.file.0, c.in-Some.request.page.0) c.release.new.self.spots;
+    } in z) c.page-page.ensures.value)
     (c.end.ensures.ended
     ∙ ap (λ (k : FinishedParts). flights.ended c.self.inside.requests k.serial.0) c.into_parts-buffer.ensures)
 

@@ -1,6 +1,6 @@
 use Rattle.std.proofs.Common.{arith, ap, refl, sym, subst, ◌≡◌, ℕ, ◌+◌, ◌-◌, ◌<◌, ◌∙◌, false, true, List, [], length}
 use Rattle.std.proofs.lemmas.Bool.{or_right}
-use Rattle.std.specs.Prelude.{Ok, Some, is_some, option_map, unwrap_or}
+use Rattle.std.specs.Prelude.{Ok, Some, is_some, nat_lt, option_map, unwrap_or}
 use Rattle.std.specs.FinSet as set
 use Rattle.std.specs.FinMap as map
 use Rattle.blockdev.specs.Device as device
@@ -27,6 +27,8 @@ use Rattle.cachecore.proofs.CoreLemmas.{free_frames_are}
 use Rattle.cachecore.proofs.CoreViews.{lists_are, state_is}
 use Rattle.cachecore.proofs.FlushKeeps.{serials_left}
 use Rattle.cachecore.proofs.Parts.{parts_of, state_by}
+use Rattle.cachecore.specs.Nexts.{its_spot}
+use Rattle.cachecore.proofs.FillKeeps.{lt_true}
 use Rattle.cachecore.proofs.cache.CacheCore.read_at_once.Goals as goal
 use Rattle.cachecore.proofs.cache.CacheCore.read_at_once.Goals.{After-pass}
 use Rattle.cachecore.proofs.cache.CacheCore.read_at_once.Given.{Over as Given}
@@ -41,7 +43,7 @@ idle : (g : Given) (c : After-pass g) → is_filling (s g c) c.args.file.0 c.arg
 idle g c = ap (λ (t : State). is_filling t c.args.file.0 c.args.page.0) (state_is c.self.view_is) ∙ c.requires.reads.idle
 
 placed : (g : Given) (c : After-pass g)
-    → spot_at (s g c) c.args.file.0 c.args.page.0 ≡ Some (record { block = c.args.block.0; written = true })
+    → spot_at (s g c) c.args.file.0 c.args.page.0 ≡ Some (its_spot c.args.placed)
 placed g c = ap (λ (t : State). spot_at t c.args.file.0 c.args.page.0) (state_is c.self.view_is) ∙ c.requires.reads.placed
 
 here : (g : Given) (c : After-pass g) → c.args.file.0 < length c.self.inside.pages.files
@@ -81,8 +83,8 @@ awaits : (g : Given) (c : After-pass g) (x : Store) → x ≡ record c.self.insi
   lists = lists.entered c.args.file.0 c.args.page.0 c.self.inside.pages.lists;
 } → is_awaited x c.args.file.0 c.args.page.0 ≡ true
 awaits g c x is = ap (λ (x : Store). is_awaited x c.args.file.0 c.args.page.0) is
-    ∙ awaits_it (parts_of c.self.inside) c.self.invariant c.args.file.0 c.args.page.0 (absent g c) (idle g c) c.args.block.0
-    (placed g c) (place g c) (here g c) (frames g c) (serials g c) [] [] (Ok tt)
+    ∙ awaits_it (parts_of c.self.inside) c.self.invariant c.args.file.0 c.args.page.0 (absent g c) (idle g c) (its_spot c.args.placed)
+    (placed g c) c.requires.reads.valid (place g c) (here g c) (frames g c) (serials g c) [] [] (Ok tt)
 
 pub fill_by-requires-clause-filling : goal.fill_by-requires-clause-filling
 fill_by-requires-clause-filling g c =
@@ -97,14 +99,13 @@ leave-requires-clause-there g c =
 
 -- how it ended well
 done : (g : Given) (c : goal.In-Ok g) → (let b = (goal.at.invariant_of-self-in-Ok g c).After-pass in
-    ReadGoes (parts_of c.self.inside) c.self.invariant c.args.file.0 c.args.page.0 (absent g b) (idle g b) c.args.block.0
-    (placed g b) (place g b) (here g b) (frames g b) (serials g b) c.in-Ok.ensures.before c.in-Ok.ensures.after c.fill_by.result reply.Filled
+    ReadGoes (parts_of c.self.inside) c.self.invariant c.args.file.0 c.args.page.0 (absent g b) (idle g b) (its_spot c.args.placed)
+    (placed g b) c.requires.reads.valid (place g b) (here g b) (frames g b) (serials g b) c.in-Ok.ensures.before c.in-Ok.ensures.after c.fill_by.result reply.Filled
     (record (parts_of c.self.inside) { store = c.fill_by.new.self; flights = c.pass.new.self }))
 done g c =
     let b = (goal.at.invariant_of-self-in-Ok g c).After-pass in
-    let size = c.in-Ok.ensures.size.1 ∙ ap (λ (x : Store). x.page) (began g b) ∙ c.self.invariant.core.page in
-    read_ends (parts_of c.self.inside) c.self.invariant c.args.file.0 c.args.page.0 (absent g b) (idle g b) c.args.block.0
-    (placed g b) (place g b) (here g b) (frames g b) (serials g b) c.in-Ok.ensures.before c.in-Ok.ensures.after c.fill_by.result c.in-Ok.is size c.start_fill.new.self
+    read_ends (parts_of c.self.inside) c.self.invariant c.args.file.0 c.args.page.0 (absent g b) (idle g b) (its_spot c.args.placed)
+    (placed g b) c.requires.reads.valid (place g b) (here g b) (frames g b) (serials g b) c.in-Ok.ensures.before c.in-Ok.ensures.after c.fill_by.result c.in-Ok.is c.start_fill.new.self
     c.fill_by.new.self c.pass.new.self (began g b) c.in-Ok.ensures.done c.pass.ensures
 
 pub invariant_of-self-in-Ok : goal.invariant_of-self-in-Ok
@@ -122,13 +123,13 @@ left g c =
 
 -- how it failed
 failed : (g : Given) (c : goal.After-leave g) → (let b = (goal.at.invariant_of-self-in-Err g c).After-pass in
-    ReadGoes (parts_of c.self.inside) c.self.invariant c.args.file.0 c.args.page.0 (absent g b) (idle g b) c.args.block.0
-    (placed g b) (place g b) (here g b) (frames g b) (serials g b) c.in-Err.ensures.before c.in-Err.ensures.after c.fill_by.result (reply.Failed c.in-Err.code)
+    ReadGoes (parts_of c.self.inside) c.self.invariant c.args.file.0 c.args.page.0 (absent g b) (idle g b) (its_spot c.args.placed)
+    (placed g b) c.requires.reads.valid (place g b) (here g b) (frames g b) (serials g b) c.in-Err.ensures.before c.in-Err.ensures.after c.fill_by.result (reply.Failed c.in-Err.code)
     (record (parts_of c.self.inside) { store = c.leave.new.self; flights = c.pass.new.self }))
 failed g c =
     let b = (goal.at.invariant_of-self-in-Err g c).After-pass in
-    read_fails (parts_of c.self.inside) c.self.invariant c.args.file.0 c.args.page.0 (absent g b) (idle g b) c.args.block.0
-    (placed g b) (place g b) (here g b) (frames g b) (serials g b) c.in-Err.ensures.before c.in-Err.ensures.after c.fill_by.result c.in-Err.code c.in-Err.is
+    read_fails (parts_of c.self.inside) c.self.invariant c.args.file.0 c.args.page.0 (absent g b) (idle g b) (its_spot c.args.placed)
+    (placed g b) c.requires.reads.valid (place g b) (here g b) (frames g b) (serials g b) c.in-Err.ensures.before c.in-Err.ensures.after c.fill_by.result c.in-Err.code c.in-Err.is
     c.fill_by.new.self c.leave.new.self c.pass.new.self (c.in-Err.ensures.failed ∙ began g b) (left g c)
     c.pass.ensures
 
@@ -149,7 +150,7 @@ begins : (g : Given) (c : After-pass g) (h : HandleId) → map.get c.args.self.n
 begins g c h found =
     let r = c.requires.reads in
     let same = state_is c.self.view_is in
-    let written = ap (λ o. unwrap_or (option_map (λ (x : Spot). x.written) o) false) r.placed in
+    let written = ap (λ o. nat_lt 0 (unwrap_or (option_map (λ (x : Spot). x.valid) o) 0)) r.placed ∙ lt_true 0 c.args.placed.valid r.valid in
     subst (λ n. Step c.args.self.now.state (event.FillBegin h c.args.page) (reply.Job (record { 0 = n }))
     (requested (s g c) Fill c.args.file.0 c.args.page.0)) (ap (λ (t : State). t.next) (sym same))
     (subst (λ t. Step c.args.self.now.state (event.FillBegin h c.args.page)
@@ -172,17 +173,17 @@ returns-in-Ok g c = λ h found.
     let page = ap (λ (x : Store). x.page) (began g b) ∙ c.self.invariant.core.page
     ∙ ap (λ (t : State). t.sizes.page) (state_is c.self.view_is) in
     record {
-      begun = state_by (being_read (parts_of c.self.inside) c.self.invariant c.args.file.0 c.args.page.0 (absent g b) (idle g b) c.args.block.0
-          (placed g b) (place g b) (here g b) (frames g b) (serials g b) e.before e.after c.fill_by.result);
-      job = read_job (parts_of c.self.inside) c.self.invariant c.args.file.0 c.args.page.0 (absent g b) (idle g b) c.args.block.0
-          (placed g b) (place g b) (here g b) (frames g b) (serials g b) e.before e.after c.fill_by.result;
-      done = read_done (parts_of c.self.inside) c.self.invariant c.args.file.0 c.args.page.0 (absent g b) (idle g b) c.args.block.0
-          (placed g b) (place g b) (here g b) (frames g b) (serials g b) e.before e.after c.fill_by.result;
+      begun = state_by (being_read (parts_of c.self.inside) c.self.invariant c.args.file.0 c.args.page.0 (absent g b) (idle g b) (its_spot c.args.placed)
+          (placed g b) c.requires.reads.valid (place g b) (here g b) (frames g b) (serials g b) e.before e.after c.fill_by.result);
+      job = read_job (parts_of c.self.inside) c.self.invariant c.args.file.0 c.args.page.0 (absent g b) (idle g b) (its_spot c.args.placed)
+          (placed g b) c.requires.reads.valid (place g b) (here g b) (frames g b) (serials g b) e.before e.after c.fill_by.result;
+      done = read_done (parts_of c.self.inside) c.self.invariant c.args.file.0 c.args.page.0 (absent g b) (idle g b) (its_spot c.args.placed)
+          (placed g b) c.requires.reads.valid (place g b) (here g b) (frames g b) (serials g b) e.before e.after c.fill_by.result;
       begins = begins g b h found;
-      its = read_its (parts_of c.self.inside) c.self.invariant c.args.file.0 c.args.page.0 (absent g b) (idle g b) c.args.block.0
-          (placed g b) (place g b) (here g b) (frames g b) (serials g b) e.before e.after c.fill_by.result;
-      file = read_file (parts_of c.self.inside) c.self.invariant c.args.file.0 c.args.page.0 (absent g b) (idle g b) c.args.block.0
-          (placed g b) (place g b) (here g b) (frames g b) (serials g b) e.before e.after c.fill_by.result;
+      its = read_its (parts_of c.self.inside) c.self.invariant c.args.file.0 c.args.page.0 (absent g b) (idle g b) (its_spot c.args.placed)
+          (placed g b) c.requires.reads.valid (place g b) (here g b) (frames g b) (serials g b) e.before e.after c.fill_by.result;
+      file = read_file (parts_of c.self.inside) c.self.invariant c.args.file.0 c.args.page.0 (absent g b) (idle g b) (its_spot c.args.placed)
+          (placed g b) c.requires.reads.valid (place g b) (here g b) (frames g b) (serials g b) e.before e.after c.fill_by.result;
       within = (place g b).file;
       fits = record {
         cache = ap (λ (t : State). t.name) (state_is c.self.view_is);
@@ -213,17 +214,17 @@ returns-in-Err g c = λ h found.
     ∙ ap (λ (t : State). t.sizes.page) (state_is c.self.view_is) in
     let start = entered_lists g b h (record { 0 = p.flights.next }) found in
     record {
-      begun = state_by (being_read (parts_of c.self.inside) c.self.invariant c.args.file.0 c.args.page.0 (absent g b) (idle g b) c.args.block.0
-          (placed g b) (place g b) (here g b) (frames g b) (serials g b) e.before e.after c.fill_by.result);
-      job = read_job (parts_of c.self.inside) c.self.invariant c.args.file.0 c.args.page.0 (absent g b) (idle g b) c.args.block.0
-          (placed g b) (place g b) (here g b) (frames g b) (serials g b) e.before e.after c.fill_by.result;
-      done = read_done (parts_of c.self.inside) c.self.invariant c.args.file.0 c.args.page.0 (absent g b) (idle g b) c.args.block.0
-          (placed g b) (place g b) (here g b) (frames g b) (serials g b) e.before e.after c.fill_by.result;
+      begun = state_by (being_read (parts_of c.self.inside) c.self.invariant c.args.file.0 c.args.page.0 (absent g b) (idle g b) (its_spot c.args.placed)
+          (placed g b) c.requires.reads.valid (place g b) (here g b) (frames g b) (serials g b) e.before e.after c.fill_by.result);
+      job = read_job (parts_of c.self.inside) c.self.invariant c.args.file.0 c.args.page.0 (absent g b) (idle g b) (its_spot c.args.placed)
+          (placed g b) c.requires.reads.valid (place g b) (here g b) (frames g b) (serials g b) e.before e.after c.fill_by.result;
+      done = read_done (parts_of c.self.inside) c.self.invariant c.args.file.0 c.args.page.0 (absent g b) (idle g b) (its_spot c.args.placed)
+          (placed g b) c.requires.reads.valid (place g b) (here g b) (frames g b) (serials g b) e.before e.after c.fill_by.result;
       begins = begins g b h found;
-      its = read_its (parts_of c.self.inside) c.self.invariant c.args.file.0 c.args.page.0 (absent g b) (idle g b) c.args.block.0
-          (placed g b) (place g b) (here g b) (frames g b) (serials g b) e.before e.after c.fill_by.result;
-      file = read_file (parts_of c.self.inside) c.self.invariant c.args.file.0 c.args.page.0 (absent g b) (idle g b) c.args.block.0
-          (placed g b) (place g b) (here g b) (frames g b) (serials g b) e.before e.after c.fill_by.result;
+      its = read_its (parts_of c.self.inside) c.self.invariant c.args.file.0 c.args.page.0 (absent g b) (idle g b) (its_spot c.args.placed)
+          (placed g b) c.requires.reads.valid (place g b) (here g b) (frames g b) (serials g b) e.before e.after c.fill_by.result;
+      file = read_file (parts_of c.self.inside) c.self.invariant c.args.file.0 c.args.page.0 (absent g b) (idle g b) (its_spot c.args.placed)
+          (placed g b) c.requires.reads.valid (place g b) (here g b) (frames g b) (serials g b) e.before e.after c.fill_by.result;
       within = (place g b).file;
       fits = record {
         cache = ap (λ (t : State). t.name) (state_is c.self.view_is);
@@ -244,6 +245,6 @@ returns-in-Err g c = λ h found.
       ends = (failed g c).step;
       lists = ap (λ (x : Store). x.lists) (left g c)
           ∙ ap (lists.left c.args.file.0 c.args.page.0) (ap (λ (x : Store). x.lists) e.failed ∙ start)
-          ∙ sym (unfilled_lists (parts_of c.self.inside) c.self.invariant c.args.file.0 c.args.page.0 (absent g b) (idle g b) c.args.block.0
-          (placed g b) (place g b) (here g b) (frames g b) (serials g b) e.before e.after c.fill_by.result _);
+          ∙ sym (unfilled_lists (parts_of c.self.inside) c.self.invariant c.args.file.0 c.args.page.0 (absent g b) (idle g b) (its_spot c.args.placed)
+          (placed g b) c.requires.reads.valid (place g b) (here g b) (frames g b) (serials g b) e.before e.after c.fill_by.result _);
     }

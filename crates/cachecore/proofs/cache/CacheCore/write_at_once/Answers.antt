@@ -6,6 +6,7 @@ use Rattle.blockdev.specs.Device.{Writes}
 use Rattle.blockdev.specs.Jobs.{FinishedTask, Task}
 use Rattle.blockmap.specs.Keys.{IsPage}
 use Rattle.pc_types.specs.Limits.{is_err_code}
+use Rattle.blockmap.specs.Blocks.{Blocks, with_valid}
 use Rattle.machine.specs.declared.event.Reply.TheVariants as reply
 use Rattle.machine.specs.State.{State}
 use Rattle.machine.specs.Tests.{is_full}
@@ -49,12 +50,12 @@ write-written-requires-clause-exists g c =
     omega arith
 
 -- how it ended well
-done : (g : Given) (c : goal.After-set_written g) → (let b = (goal.at.invariant_of-self g c).In-Some in
+done : (g : Given) (c : goal.After-set_valid g) → (let b = (goal.at.invariant_of-self g c).In-Some in
     WriteGoes (parts_of c.self.inside) c.self.invariant c.args.file.0 c.args.page.0 (may g b) (place g b) (here g b) (room g b)
     c.in-Some.placed c.in-Some.ensures c.write-written.result reply.Written
     (record (parts_of c.self.inside) {
       store = c.write_through.new.self;
-      blocks = c.set_written.new.self;
+      blocks = c.set_valid.new.self;
       flights = c.pass.new.self;
     }))
 done g c =
@@ -62,11 +63,14 @@ done g c =
     let s = c.self.inside.pages in
     let went : c.is_err.result ≡ false = c.is_err.ensures.value ∙ ap is_err c.in-Ok.is in
     write_ends (parts_of c.self.inside) c.self.invariant c.args.file.0 c.args.page.0 (may g b) (place g b) (here g b) (room g b)
-    c.in-Some.placed c.in-Some.ensures c.write-written.result c.in-Ok.is c.write_through.new.self c.set_written.new.self
+    c.in-Some.placed c.in-Some.ensures c.write-written.result c.in-Ok.is c.write_through.new.self c.set_valid.new.self
     c.pass.new.self
     (c.write_through.ensures ∙ ap (λ failed. with_pages s c.args.file.0 (map.insert (stored_at s c.args.file.0).pages c.args.page.0
     (after_write failed (under_write (the_page (stored_at s c.args.file.0).pages c.args.page.0)))) s.free) went)
-    c.set_written.ensures c.pass.ensures
+    (c.set_valid.ensures ∙ ap (λ n. let z : Blocks = record c.self.inside.blocks {
+      spots = with_valid n (map.get c.self.inside.blocks.spots (c.args.file.0, c.args.page.0))
+          (c.args.file.0, c.args.page.0) c.self.inside.blocks.spots;
+    } in z) c.page.ensures.value) c.pass.ensures
 
 pub invariant_of-self : goal.invariant_of-self
 invariant_of-self g c = (done g c).cache

@@ -7,6 +7,7 @@ use Rattle.frames.specs.Table.{Table, free_frames, is_taken, put_back, with_byte
 use Rattle.frames.specs.Rows.{row_at, with_row}
 use Rattle.frames.proofs.RowLemmas.{with_row-whole}
 use Rattle.mapping.specs.Pages.{Mapped, frame_of}
+use Rattle.pc_types.specs.Spots.{shown}
 use Rattle.pc_types.specs.Tags.{TagSet, no_tags}
 use Rattle.pc_types.specs.declared.ids.FrameId.{FrameId}
 use Rattle.pagestore.specs.declared.kept.KeptFile.{KeptFile}
@@ -135,9 +136,9 @@ unreachable-requires g c =
     } in
     none_there w c.requires.filling c.index.result.now c.index.ensures (sym c.in_default.is ∙ c.frame.ensures)
 
-pub bytes_mut-requires : goal.bytes_mut-requires
-bytes_mut-requires g c =
-    let b = (goal.at.bytes_mut-requires g c).In-Some in
+pub bytes_mut-bytes-requires : goal.bytes_mut-bytes-requires
+bytes_mut-bytes-requires g c =
+    let b = (goal.at.bytes_mut-bytes-requires g c).In-Some in
     taken (at g b) c.requires.filling c.in-Some.frame (found g b)
 
 pub put_back-requires : goal.put_back-requires
@@ -150,9 +151,9 @@ kept_rows : (g : Given) (c : goal.After-from_residual g)
     → with_row c.self.inside.frames.size c.self.inside.frames.bytes c.in-Some.frame.0 c.read.new.out ≡ c.self.inside.frames.bytes
 kept_rows g c =
     let b = (goal.at.invariant_of-self g c).In-Some in
-    let same : c.read.new.out ≡ c.bytes_mut.result.now = c.in_err-read.ensures.reads.failed in
-    unread (at g b) c.requires.filling c.in-Some.frame (found g b) c.read.new.out (same ∙ c.bytes_mut.ensures.bytes)
-    (ap length same ∙ c.bytes_mut.ensures.size)
+    let same : c.read.new.out ≡ c.bytes_mut-bytes.result.now = c.in_err-read.ensures.reads.failed in
+    unread (at g b) c.requires.filling c.in-Some.frame (found g b) c.read.new.out (same ∙ c.bytes_mut-bytes.ensures.bytes)
+    (ap length same ∙ c.bytes_mut-bytes.ensures.size)
 
 pub invariant_of-self : goal.invariant_of-self
 invariant_of-self g c =
@@ -166,15 +167,15 @@ pub returns-in_err-read : goal.returns-in_err-read
 returns-in_err-read g c =
     let b = (goal.at.returns-in_err-read g c).In-Some in
     let is = err_is c.from_residual.result c.in_err-read.field-0.0 c.from_residual.ensures.1 in
-    let size = c.bytes_mut.ensures.size ∙ page_size g b in
-    let same : c.read.new.out ≡ c.bytes_mut.result.now = c.in_err-read.ensures.reads.failed in
-    subst (λ r. FillsBy c.args.self.now c.args.file c.args.page c.args.device.now c.args.block.0 r
+    let size = c.bytes_mut-bytes.ensures.size ∙ page_size g b in
+    let same : c.read.new.out ≡ c.bytes_mut-bytes.result.now = c.in_err-read.ensures.reads.failed in
+    subst (λ r. FillsBy c.args.self.now c.args.file c.args.page c.args.device.now c.args.block.0 c.args.valid r
     (store_of (record c.self.inside.frames {
       bytes = with_row c.self.inside.frames.size c.self.inside.frames.bytes c.in-Some.frame.0
           c.read.new.out;
     }) c.self.inside.uptodate.items c.self.inside.files.items) c.read.new.self) (sym is)
     (record {
-      before = c.bytes_mut.result.now;
+      before = c.bytes_mut-bytes.result.now;
       after = c.read.new.out;
       size = (size, ap length same ∙ size);
       reads = c.in_err-read.ensures.reads;
@@ -187,20 +188,21 @@ returns-in_err-read g c =
 pub invariant_of-self-2 : goal.invariant_of-self-2
 invariant_of-self-2 g c =
     let b = (goal.at.invariant_of-self-2 g c).In-Some in
-    let long = c.read.auto.out ∙ c.bytes_mut.ensures.size in
-    read_store (at g b) c.requires.filling c.in-Some.frame (found g b) c.read.new.out long c.put_back.new.self c.put_back.ensures
+    let long = c.zero_past.auto.bytes ∙ c.read.auto.out ∙ c.bytes_mut-bytes.ensures.size in
+    read_store (at g b) c.requires.filling c.in-Some.frame (found g b) c.zero_past.new.bytes long c.put_back.new.self c.put_back.ensures
 
 pub returns : goal.returns
 returns g c =
     let b = (goal.at.returns g c).In-Some in
-    let long = c.read.auto.out ∙ c.bytes_mut.ensures.size in
+    let long = c.read.auto.out ∙ c.bytes_mut-bytes.ensures.size in
+    let shows = c.zero_past.ensures ∙ ap (λ n. shown n c.args.valid c.read.new.out) (long ∙ page_size g b) in
     record {
-      before = c.bytes_mut.result.now;
+      before = c.bytes_mut-bytes.result.now;
       after = c.read.new.out;
-      size = (c.bytes_mut.ensures.size ∙ page_size g b, long ∙ page_size g b);
+      size = (c.bytes_mut-bytes.ensures.size ∙ page_size g b, long ∙ page_size g b);
       reads = c.in_ok-read.ensures.reads;
       unflushed = c.in_ok-read.ensures.unflushed;
-      done = read_seen (at g b) c.requires.filling c.in-Some.frame (found g b) c.read.new.out long c.put_back.new.self
-          c.put_back.ensures;
+      done = read_seen (at g b) c.requires.filling c.in-Some.frame (found g b) c.zero_past.new.bytes (c.zero_past.auto.bytes ∙ long)
+          c.put_back.new.self c.put_back.ensures ∙ ap (filled c.args.self.now c.args.file c.args.page) shows;
       failed = tt;
     }

@@ -1,7 +1,7 @@
 use Rattle.std.proofs.Common.{ap, ◌∙◌, subst, sym, ◌≡◌, arith}
 use Rattle.std.specs.Prelude.{IfSome}
 use Rattle.cachecore.specs.Core.{Core}
-use Rattle.runs.specs.Runs.{IsFirst}
+use Rattle.runs.specs.Runs.{IsBlank}
 use Rattle.world.specs.Flights.{IsWorld, seen_of}
 use Rattle.world.specs.Stepping.{first_world, world_of}
 use Rattle.blockdev.specs.Watching.{Watch}
@@ -28,7 +28,7 @@ returns-in-Ok-new-clause-fresh g c =
 
 pub returns-in-Ok-new-clause-first : goal.returns-in-Ok-new-clause-first
 returns-in-Ok-new-clause-first g c =
-    subst (λ (d : Watch). IfSome (g.D.BlockDevice.told c.args.device).contents (λ _. IsFirst (world_of (seen_of c.in-Ok-new.core.state c.in-Ok.jobs d))))
+    subst (λ (d : Watch). IfSome (g.D.BlockDevice.told c.args.device).contents (λ _. IsBlank (world_of (seen_of c.in-Ok-new.core.state c.in-Ok.jobs d))))
     (sym c.over.ensures) (is_first c.args.geometry.now c.args.name c.in-Ok-new.core.state c.in-Ok.jobs (g.D.BlockDevice.told c.args.device)
     (ap (λ (k : Core). k.state) c.in-Ok-new.ensures.empty) c.in-Ok.ensures
     (let a = c.page.ensures.least in let b = c.page.ensures.value in omega arith)

@@ -3,10 +3,10 @@ use Rattle.machine.specs.State.{State}
 use Rattle.cachecore.specs.Tables.{state_of}
 use Rattle.cachecore.proofs.PlacedBlocks.{told_within}
 use Rattle.cachecore.proofs.CoreViews.{state_is}
-use Rattle.cachecore.proofs.cache.CacheCore.block_to_read.Goals as goal
+use Rattle.cachecore.proofs.cache.CacheCore.place_to_read.Goals as goal
 
-pub returns-then-placed-clause-within : goal.returns-then-placed-clause-within
-returns-then-placed-clause-within c =
+pub returns-then-placed-gt0-clause-within : goal.returns-then-placed-gt0-clause-within
+returns-then-placed-gt0-clause-within c =
     let i = c.self.inside in
     let s = state_of i.geometry i.name i.pages.files i.handles i.blocks i.requests i.syncs in
     let within = told_within s i.pages i.blocks c.self.invariant.core c.free_count.ensures.always
