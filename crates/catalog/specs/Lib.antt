@@ -1,0 +1,2 @@
+pub mod Cataloged
+pub mod Extents
