@@ -14,8 +14,6 @@ use Rattle.std.proofs.lemmas.List.Sums.{sum_by_push, length-filter}
 use Rattle.pc_types.specs.Limits.{Sizes}
 use Rattle.pc_types.specs.declared.limits.TheConstants.{MAX_FILES, MAX_FILE_SIZE, MAX_FRAMES}
 use Rattle.pc_types.specs.declared.refusal.Refusal.TheVariants.{DirtyLimit, NoFrame, NoSpace}
-use Rattle.machine.specs.Catalogs.{no_catalog}
-use Rattle.machine.proofs.changes.Adopted.{no_catalog_is}
 use Rattle.machine.specs.State.{State, Page, File, Request, Sync, no_file, file_at, is_cached, is_filling}
 use Rattle.machine.specs.State.{tags_at, dirty_total, handle_file, fills, filling_total, free_frames}
 use Rattle.machine.specs.State.{free_blocks, without_block, touched, touched_count}
@@ -57,55 +55,18 @@ use Rattle.machine.proofs.changes.WriteLengths.{len-written_pages}
 pub sized_none : (P : ℕ) → AreSized P no_file.pages
 sized_none P = record { each = λ q e. absurd (false≢true (sym (ap is_some (get-empty nat_cmp q)) ∙ e)) }
 
-some_none : {A : Type 0} (f : A) (o : Option A) → o ≡ None → o ≡ Some f → ⊥
+pub some_none : {A : Type 0} (f : A) (o : Option A) → o ≡ None → o ≡ Some f → ⊥
 some_none f o a b = cc
 
 -- without requests no page is filling
-none_filling : (s : State) (f p : ℕ) → s.requests ≡ finmap.empty → is_filling s f p ≡ false
+pub none_filling : (s : State) (f p : ℕ) → s.requests ≡ finmap.empty → is_filling s f p ≡ false
 none_filling s f p e = ap (λ (es : List (ℕ × Request)). list_any (fills f p) (map (λ (e : ℕ × Request). e.1) es))
     (ap finmap.entries e ∙ no_entries nat_cmp)
 
-none_in_flight : (s : State) → s.requests ≡ finmap.empty → filling_total s ≡ 0
+pub none_in_flight : (s : State) → s.requests ≡ finmap.empty → filling_total s ≡ 0
 none_in_flight s e =
     ap (λ (es : List (ℕ × Request)). count_by (λ (r : Request). is_fill r.kind && not r.dropped)
     (map (λ (e : ℕ × Request). e.1) es)) (ap finmap.entries e ∙ no_entries nat_cmp)
-
-abbrev pub first_blocks : Sizes → Blocks
-first_blocks sizes = record { count = sizes.blocks; spots = finmap.empty; held = finmap.empty }
-
-abbrev pub first_store : Sizes → Store
-first_store sizes = record { page = sizes.page; files = []; filling = set.empty; free = sizes.frames; lists = no_lists }
-
-abbrev pub first_state : Sizes → ℕ → State
-first_state sizes name = state_of sizes name [] finmap.empty (first_blocks sizes)
-    (record { next = 0; requests = finmap.empty }) finmap.empty
-
-core-first : (sizes : Sizes) (name : ℕ) → sizes.frames ≤ MAX_FRAMES
-    → IsCore (first_state sizes name) (first_store sizes) (first_blocks sizes)
-core-first sizes name h = record {
-  few_files = omega arith;
-  known = λ k f e. absurd (some_none f (finmap.get (finmap.empty {X = ℕ} {R = nat_cmp}) k) (get-empty nat_cmp k) e);
-  bounded = λ f. omega arith;
-  sized = λ f. sized_none sizes.page;
-  page = refl;
-  framed = h;
-  counted = let none = none_in_flight (first_state sizes name) refl in omega (arith, none);
-  filling = λ f p. set.contains-empty place_cmp (f, p) ∙ sym (none_filling (first_state sizes name) f p refl);
-  device = refl;
-  holds = Holds-none;
-  within = λ t r e. absurd (no_request t r e);
-  filed = λ t r e. absurd (no_request t r e);
-  failed = λ f. (let none = len-empty nat_cmp Request in omega (arith, none));
-  serials = omega arith;
-  sound = histories_are_sound no_catalog sizes name [] (first_state sizes name) (no_catalog_is sizes) refl;
-}
-  where
-    no_request : (t : ℕ) (r : Request) → finmap.get (finmap.empty {X = Request} {R = nat_cmp}) t ≡ Some r → ⊥
-    no_request t r e = some_none r (finmap.get (finmap.empty {X = Request} {R = nat_cmp}) t) (get-empty nat_cmp t) e
-
-pub cache-first : (sizes : Sizes) (name : ℕ) → sizes.frames ≤ MAX_FRAMES
-    → IsCache (first_state sizes name) (first_store sizes) (first_blocks sizes)
-cache-first sizes name h = record { core = core-first sizes name h; syncs = none_syncs finmap.empty [] }
 
 pub get_or-push : {A : Type 0} (xs : List A) (d : A) (i : ℕ) → get_or (xs ++ d ∷ []) i d ≡ get_or xs i d
 get_or-push [] d zero = refl

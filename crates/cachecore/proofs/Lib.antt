@@ -1,3 +1,4 @@
+pub mod Adoptions
 pub mod AtOnceCalls
 pub mod CoreLemmas
 pub mod CoreViews

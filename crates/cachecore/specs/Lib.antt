@@ -7,6 +7,7 @@ pub mod Holding
 pub mod Nexts
 pub mod Placing
 pub mod Replies
+pub mod Standing
 pub mod Starting
 pub mod Syncing
 pub mod Tables

@@ -57,16 +57,10 @@ impl CacheCore {
         ensures empty { IfOk result (λ c. c ≡ record { state = record { sizes = geometry.now; name = name; files = []; handles = map.empty; spots = map.empty; next = 0; requests = map.empty; syncs = map.empty }; lists = no_lists }) }
         ensures refused { IsOkUnless result Refusal.Memory }
     {
-        Ok(CacheCore {
-            geometry: Layout::new(geometry),
-            name,
-            pages: Pages::new(alloc, geometry, MAX_FILES as usize)?,
-            handles: Handles::new(alloc)?,
-            blocks: BlockMap::new(alloc, geometry.blocks()),
-            requests: Requests::new(),
-            syncs: Syncs::new(),
-            alloc,
-        })
+        match CacheCore::over(alloc, geometry, name, Catalog::new(alloc, geometry)) {
+            Ok(core) => Ok(core),
+            Err((refusal, _)) => Err(refusal),
+        }
     }
 
     /// The sizes that the cache was made with. They stay.

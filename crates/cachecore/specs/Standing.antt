@@ -1,0 +1,59 @@
+-- What is told of where the files stand on the device.
+use Rattle.std.specs.Prelude.{◌≡◌, ℕ, ◌-◌, ◌*◌, ◌<◌, ◌≤◌, ◌==◌, ◌&&◌, Bool, if◌then◌else◌, ◌++◌, ◌∷◌, [], length, min, Option, Some, None, option_map, Result, Ok, Err}
+use Rattle.std.specs.FinMap as map
+use Rattle.pc_types.specs.Spots.{Spot}
+use Rattle.pc_types.specs.Limits.{Sizes}
+use Rattle.pc_types.specs.declared.refusal.Refusal.{Refusal}
+use Rattle.pc_types.specs.declared.refusal.Refusal.TheVariants.{NoSuchFile}
+use Rattle.blockmap.specs.Told.{told}
+use Rattle.blockmap.specs.declared.spots.Placed.{Placed}
+use Rattle.catalog.specs.Cataloged.{Cataloged}
+use Rattle.machine.specs.Catalogs.{Catalog, catalog_of}
+use Rattle.machine.specs.State.{State, file_at, spot_at}
+
+-- whether the catalog is for devices of these sizes
+abbrev pub fits : Sizes → Cataloged → Bool
+fits sizes c = c.page == sizes.page && c.blocks == sizes.blocks
+
+-- where page p of file f stands
+abbrev pub SpotIs : State → ℕ → ℕ → Result (Option Placed) Refusal → Type 0
+SpotIs s f p (Err r) = (r ≡ NoSuchFile) × (length s.files ≤ f)
+SpotIs s f p (Ok placed) = (f < length s.files) × (placed ≡ option_map told (spot_at s f p))
+
+-- a spot without a valid byte is none: its page is a hole
+abbrev pub if_valid : Option Spot → Option Spot
+if_valid None = None
+if_valid (Some spot) = if spot.valid == 0 then None else Some spot
+
+-- the catalog of the cache's files, but for pages whose blocks have no valid byte
+pub record Tells (s : State) (c : Cataloged) : Type 0 where
+  pub page : c.page ≡ s.sizes.page
+  pub blocks : c.blocks ≡ s.sizes.blocks
+  pub sizes : c.files.sizes ≡ (catalog_of s).sizes
+  pub spots : (f p : ℕ) → map.get c.files.spots (f, p) ≡ if_valid (map.get (catalog_of s).spots (f, p))
+
+-- ---- inside this crate: on the way to it
+
+-- a spot of page p of f, with the valid bytes that are the file's
+abbrev pub trimmed : State → ℕ → ℕ → Spot → Spot
+trimmed s f p spot = record spot { valid = min spot.valid ((file_at s f).size - p * s.sizes.page) }
+
+-- what the catalog has of page p of f
+abbrev pub kept_spot : State → ℕ → ℕ → Option Spot
+kept_spot s f p = if_valid (option_map (trimmed s f p) (spot_at s f p))
+
+-- one page more
+pub record TellsPage (s : State) (f p : ℕ) (old new : Cataloged) : Type 0 where
+  pub page : new.page ≡ old.page
+  pub blocks : new.blocks ≡ old.blocks
+  pub sizes : new.files.sizes ≡ old.files.sizes
+  pub spots : (g q : ℕ) → map.get new.files.spots (g, q)
+      ≡ (if g == f && q == p then kept_spot s f p else map.get old.files.spots (g, q))
+
+-- one file more
+pub record TellsFile (s : State) (f : ℕ) (old new : Cataloged) : Type 0 where
+  pub page : new.page ≡ old.page
+  pub blocks : new.blocks ≡ old.blocks
+  pub sizes : new.files.sizes ≡ old.files.sizes ++ (file_at s f).size ∷ []
+  pub spots : (g q : ℕ) → map.get new.files.spots (g, q)
+      ≡ (if g == f then kept_spot s f q else map.get old.files.spots (g, q))
