@@ -12,7 +12,7 @@ use Rattle.xarray.specs.declared.entry.Found.{Found}
 use Rattle.xarray.proofs.Singles as singles
 use Rattle.idalloc.proofs.MarkLemmas.{found_entry, found_none, get_here, get_there}
 use Rattle.blockmap.specs.Blocks.{Spots}
-use Rattle.blockmap.specs.Keys.{AreSpots, IsPageFrom, NoneFrom, key_of, place_of, spot_of, spots}
+use Rattle.blockmap.specs.Keys.{AreSpots, IsFirstFrom, IsPageFrom, NoneFrom, key_of, place_of, spot_of, spots}
 use Rattle.blockmap.proofs.PlaceLemmas.{place_back, places_antisymmetric, places_total, tie_beyond, tie_here, tie_there}
 
 -- ---- look-ups
@@ -250,15 +250,54 @@ entry_page m file from low high first r low_is high_is there above below =
       there = ap is_some (get-spots m file (first % 2 ^ 36) page) ∙ ap (λ k. is_some (spot_in (map.get m k))) back ∙ ap (λ o. is_some (spot_in o)) there;
     }
 
-pub search_found : (m : Ranges) (file from low high : ℕ) (f : Found) → AreSpots m → from < 2 ^ 36 → low ≡ file * 2 ^ 36 + from → high ≡ file * 2 ^ 36 + 68719476735 → Some f ≡ option_map found_of (lowest is_any m low high) → IsPageFrom (spots m) file from (f.first % 2 ^ 36)
-search_found m file from low high f are within low_is high_is h =
-    let x = found_entry (lowest is_any m low high) f h in
-    let found = singles.lowest-some m are.single is_any low high x.0.0 x.0.1 x.1 in
-    subst (λ (g : Found). IsPageFrom (spots m) file from (g.first % 2 ^ 36)) x.2 (entry_page m file from low high x.0.0 x.0.1 low_is high_is found.there found.low found.high)
-
 absent_of : (o : Option Range) → ((r : Range) → o ≡ Some r → ⊥) → o ≡ None
 absent_of None h = refl
 absent_of (Some r) h = absurd (h r refl)
+
+-- what a search finds
+module _ (m : Ranges) (file from low high : ℕ) (f : Found) (are : AreSpots m) (low_is : low ≡ file * 2 ^ 36 + from) (high_is : high ≡ file * 2 ^ 36 + 68719476735) (h : Some f ≡ option_map found_of (lowest is_any m low high)) where
+  the_lowest : (r : Range) × singles.IsLowest m is_any low high f.first r × (r.value ≡ f.value)
+  the_lowest =
+      let x = found_entry (lowest is_any m low high) f h in
+      let at = ap (λ (g : Found). g.first) x.2 in
+      (x.0.1, subst (λ k. singles.IsLowest m is_any low high k x.0.1) at (singles.lowest-some m are.single is_any low high x.0.0 x.0.1 x.1), ap (λ (g : Found). g.value) x.2)
+
+  pub found_fits : f.value < 2 ^ 45
+  found_fits =
+      let x = the_lowest in
+      let fits : x.0.value < 2 ^ 45 = are.fits f.first x.0 x.1.there in
+      let same : x.0.value ≡ f.value = x.2 in
+      omega arith
+
+  pub search_found : IsFirstFrom (spots m) file from (f.first % 2 ^ 36)
+  search_found =
+      let x = the_lowest in
+      let above : low ≤ f.first = x.1.low in
+      let below : f.first ≤ high = x.1.high in
+      record {
+        is = entry_page m file from low high f.first x.0 low_is high_is x.1.there above below;
+        bare = λ q start before.
+            get-spots m file q (omega arith)
+            ∙ ap spot_in (absent_of (map.get m (key_of (file, q))) (λ r there. absurd (too_low q (x.1.first (key_of (file, q)) r there refl (omega arith) (omega arith)) before)));
+      }
+    where
+      too_low : (q : ℕ) → f.first ≤ file * 2 ^ 36 + q → q < f.first % 2 ^ 36 → ⊥
+      too_low q least before =
+          let x = the_lowest in
+          let above : low ≤ f.first = x.1.low in
+          let below : f.first ≤ high = x.1.high in
+          omega arith
+
+  pub search_spot : map.get (spots m) (file, f.first % 2 ^ 36) ≡ Some (spot_of f.value)
+  search_spot =
+      let x = the_lowest in
+      let above : low ≤ f.first = x.1.low in
+      let below : f.first ≤ high = x.1.high in
+      let page : f.first % 2 ^ 36 < 2 ^ 36 = omega arith in
+      let back : key_of (file, f.first % 2 ^ 36) ≡ f.first = omega arith in
+      get-spots m file (f.first % 2 ^ 36) page
+      ∙ ap spot_in (ap (map.get m) back ∙ x.1.there)
+      ∙ ap (λ w. Some (spot_of w)) x.2
 
 pub search_none : (m : Ranges) (file from low high : ℕ) → AreSpots m → from < 2 ^ 36 → low ≡ file * 2 ^ 36 + from → high ≡ file * 2 ^ 36 + 68719476735 → None ≡ option_map found_of (lowest is_any m low high) → NoneFrom (spots m) file from
 search_none m file from low high are within low_is high_is h =

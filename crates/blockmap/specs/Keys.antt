@@ -35,6 +35,11 @@ pub record IsPageFrom (m : Spots) (file from page : ℕ) : Type 0 where
   pub low : from ≤ page
   pub there : is_some (map.get m (file, page)) ≡ true
 
+-- the file's first page that has a block, not before `from`
+pub record IsFirstFrom (m : Spots) (file from page : ℕ) : Type 0 where
+  pub is : IsPageFrom m file from page
+  pub bare : (q : ℕ) → from ≤ q → q < page → map.get m (file, q) ≡ None
+
 -- no page of the file from this one on has a block
 pub record NoneFrom (m : Spots) (file from : ℕ) : Type 0 where
   pub each : (page : ℕ) → from ≤ page → map.get m (file, page) ≡ None

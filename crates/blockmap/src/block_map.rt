@@ -6,7 +6,7 @@ ghost use Rattle.blockmap.specs.Balance.{IsUsedOrPast};
 ghost use Rattle.blockmap.specs.Blocks.{AllTaken, CutsFrom, IsBlockMap, IsLowestFree, IsNoSpaceOrMemory, IsTaken, free_blocks, cut_one, is_mapped, with_valid};
 ghost use Rattle.std.specs.FinSet as set;
 ghost use Rattle.idalloc.specs.Ids.{AllUsed, IsLowestUnused};
-ghost use Rattle.blockmap.specs.Keys.{IsPage, IsPageFrom, NoneFrom};
+ghost use Rattle.blockmap.specs.Keys.{IsFirstFrom, IsPage, IsPageFrom, NoneFrom};
 ghost use Rattle.blockmap.specs.Told.{told};
 
 use crate::held::HeldBlocks;
@@ -61,6 +61,20 @@ impl BlockMap {
         ensures { result ≡ option_map told (map.get self.now.spots (file.0, page.0)) }
     {
         self.spots.get(file.0, page.0)
+    }
+
+    /// The file's first page that has a block, at this page or after it, and the block.
+    pub fn next(&self, file: FileId, from: PageIndex) -> Option<(PageIndex, Placed)>
+        requires file { file.0 < 64 }
+        requires from { from.0 ≤ 2 ^ 36 }
+        ensures found { IfSome result (λ found. IsFirstFrom self.now.spots file.0 from.0 found.0.0) }
+        ensures spot { IfSome result (λ found. Some found.1 ≡ option_map told (map.get self.now.spots (file.0, found.0.0))) }
+        ensures none { IfNone result (NoneFrom self.now.spots file.0 from.0) }
+    {
+        match self.spots.next(file.0, from.0) {
+            Some((page, placed)) => Some((PageIndex(page), placed)),
+            None => None,
+        }
     }
 
     /// How many blocks are free. It also tells what is always so.

@@ -3,7 +3,7 @@
 ghost use Rattle.std.specs.Prelude.{◌≡◌, ◌+◌, ◌*◌, ◌^◌, ◌<◌, ◌≤◌, Some, None, IfSome, IfNone, OnOk, OnErr, IsOkUnless, IsSome, option_map};
 ghost use Rattle.pc_types.specs.declared.refusal.Refusal.{Refusal};
 ghost use Rattle.std.specs.FinMap as map;
-ghost use Rattle.blockmap.specs.Keys.{IsPage, IsPageFrom, NoneFrom, spot_of};
+ghost use Rattle.blockmap.specs.Keys.{IsFirstFrom, IsPage, IsPageFrom, NoneFrom, spot_of};
 ghost use Rattle.blockmap.specs.Told.{told};
 
 use pc_types::limits::{MAX_FILE_SIZE, MAX_PAGE_SIZE, MIN_PAGE_SIZE};
@@ -99,11 +99,12 @@ impl Spots {
         Some(placed_of(word))
     }
 
-    /// A page of the file that has a block, at this page or after it.
-    pub(crate) fn page_from(&self, file: u64, from: u64) -> Option<u64>
+    /// The file's first page that has a block, at this page or after it, and the block.
+    pub(crate) fn next(&self, file: u64, from: u64) -> Option<(u64, Placed)>
         requires file { file < 64 }
         requires from { from ≤ 2 ^ 36 }
-        ensures found { IfSome result (λ page. IsPageFrom self.now file from page) }
+        ensures found { IfSome result (λ found. IsFirstFrom self.now file from found.0) }
+        ensures spot { IfSome result (λ found. Some found.1 ≡ option_map told (map.get self.now (file, found.0))) }
         ensures none { IfNone result (NoneFrom self.now file from) }
     {
         let array = &self.array;
@@ -111,7 +112,20 @@ impl Spots {
             return None;
         }
         match array.find(key(file, from), key(file, MAX_PAGES - 1)) {
-            Some(found) => Some(found.first % MAX_PAGES),
+            Some(found) => Some((found.first % MAX_PAGES, placed_of(found.value))),
+            None => None,
+        }
+    }
+
+    /// A page of the file that has a block, at this page or after it.
+    pub(crate) fn page_from(&self, file: u64, from: u64) -> Option<u64>
+        requires file { file < 64 }
+        requires from { from ≤ 2 ^ 36 }
+        ensures found { IfSome result (λ page. IsPageFrom self.now file from page) }
+        ensures none { IfNone result (NoneFrom self.now file from) }
+    {
+        match self.next(file, from) {
+            Some((page, _)) => Some(page),
             None => None,
         }
     }
