@@ -10,21 +10,17 @@ use Rattle.pc_types.specs.Spots.{place_cmp}
 use Rattle.pc_types.specs.declared.limits.TheConstants.{MAX_FILES, MAX_FILE_SIZE, MAX_FRAMES}
 use Rattle.blockmap.specs.Blocks.{Blocks}
 use Rattle.machine.specs.Catalogs.{Catalog, IsCatalog, adopted, size_in}
-use Rattle.machine.specs.PageLists.{no_lists}
 use Rattle.machine.specs.State.{File, Page, Request, no_file, file_at}
 use Rattle.machine.proofs.changes.Adopted.{adopted_file, file_of, same_count}
 use Rattle.machine.proofs.sound.Steps.{histories_are_sound}
 use Rattle.pagestore.specs.Ranges.{AreSized}
-use Rattle.pagestore.specs.Store.{Store}
+use Rattle.cachecore.specs.Standing.{store_over}
 use Rattle.cachecore.specs.Tables.{IsCache, IsCore}
 use Rattle.cachecore.proofs.CoreLemmas.{none_filling, none_in_flight, sized_none, some_none}
 use Rattle.cachecore.proofs.Holdings.{Holds-none}
 use Rattle.cachecore.proofs.SyncLaws.{none_syncs}
 
 -- ---- its tables
-
-abbrev pub store_over : Sizes → List ℕ → Store
-store_over sizes files = record { page = sizes.page; files = map file_of files; filling = set.empty; free = sizes.frames; lists = no_lists }
 
 abbrev pub blocks_over : Sizes → Catalog → Blocks
 blocks_over sizes catalog = record { count = sizes.blocks; spots = catalog.spots; held = finmap.empty }

@@ -28,6 +28,7 @@ pub mod PlaceLemmas
 pub mod PlacedBlocks
 pub mod RequestLaws
 pub mod SoundFacts
+pub mod Standings
 pub mod StepLemmas
 pub mod SyncCalls
 pub mod SyncChanges

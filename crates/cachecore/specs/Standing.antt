@@ -1,6 +1,7 @@
 -- What is told of where the files stand on the device.
-use Rattle.std.specs.Prelude.{◌≡◌, ℕ, ◌-◌, ◌*◌, ◌<◌, ◌≤◌, ◌==◌, ◌&&◌, Bool, if◌then◌else◌, ◌++◌, ◌∷◌, [], length, min, Option, Some, None, option_map, Result, Ok, Err}
+use Rattle.std.specs.Prelude.{◌≡◌, ℕ, ◌-◌, ◌*◌, ◌<◌, ◌≤◌, ◌==◌, ◌&&◌, if◌then◌else◌, ◌++◌, ◌∷◌, [], List, length, min, take, nat_lt, map as map_list, Option, Some, None, option_map, Result, Ok, Err}
 use Rattle.std.specs.FinMap as map
+use Rattle.std.specs.FinSet as set
 use Rattle.pc_types.specs.Spots.{Spot}
 use Rattle.pc_types.specs.Limits.{Sizes}
 use Rattle.pc_types.specs.declared.refusal.Refusal.{Refusal}
@@ -9,11 +10,9 @@ use Rattle.blockmap.specs.Told.{told}
 use Rattle.blockmap.specs.declared.spots.Placed.{Placed}
 use Rattle.catalog.specs.Cataloged.{Cataloged}
 use Rattle.machine.specs.Catalogs.{Catalog, catalog_of}
-use Rattle.machine.specs.State.{State, file_at, spot_at}
-
--- whether the catalog is for devices of these sizes
-abbrev pub fits : Sizes → Cataloged → Bool
-fits sizes c = c.page == sizes.page && c.blocks == sizes.blocks
+use Rattle.machine.specs.PageLists.{no_lists}
+use Rattle.machine.specs.State.{State, file_at, no_file, spot_at}
+use Rattle.pagestore.specs.Store.{Store}
 
 -- where page p of file f stands
 abbrev pub SpotIs : State → ℕ → ℕ → Result (Option Placed) Refusal → Type 0
@@ -30,9 +29,22 @@ pub record Tells (s : State) (c : Cataloged) : Type 0 where
   pub page : c.page ≡ s.sizes.page
   pub blocks : c.blocks ≡ s.sizes.blocks
   pub sizes : c.files.sizes ≡ (catalog_of s).sizes
-  pub spots : (f p : ℕ) → map.get c.files.spots (f, p) ≡ if_valid (map.get (catalog_of s).spots (f, p))
+  pub spots : (f p : ℕ) → f < length s.files
+      → map.get c.files.spots (f, p) ≡ if_valid (map.get (catalog_of s).spots (f, p))
+  pub others : (f p : ℕ) → length s.files ≤ f → map.get c.files.spots (f, p) ≡ None
 
 -- ---- inside this crate: on the way to it
+
+-- a store with files of these sizes, of which no page is cached
+abbrev pub store_over : Sizes → List ℕ → Store
+store_over sizes files =
+    record {
+      page = sizes.page;
+      files = map_list (λ z. record no_file { size = z }) files;
+      filling = set.empty;
+      free = sizes.frames;
+      lists = no_lists;
+    }
 
 -- a spot of page p of f, with the valid bytes that are the file's
 abbrev pub trimmed : State → ℕ → ℕ → Spot → Spot
@@ -50,6 +62,14 @@ pub record TellsPage (s : State) (f p : ℕ) (old new : Cataloged) : Type 0 wher
   pub spots : (g q : ℕ) → map.get new.files.spots (g, q)
       ≡ (if g == f && q == p then kept_spot s f p else map.get old.files.spots (g, q))
 
+-- one file more, and its pages below n
+pub record TellsPages (s : State) (f n : ℕ) (old new : Cataloged) : Type 0 where
+  pub page : new.page ≡ old.page
+  pub blocks : new.blocks ≡ old.blocks
+  pub sizes : new.files.sizes ≡ old.files.sizes ++ (file_at s f).size ∷ []
+  pub spots : (g q : ℕ) → map.get new.files.spots (g, q)
+      ≡ (if g == f && nat_lt q n then kept_spot s f q else map.get old.files.spots (g, q))
+
 -- one file more
 pub record TellsFile (s : State) (f : ℕ) (old new : Cataloged) : Type 0 where
   pub page : new.page ≡ old.page
@@ -57,3 +77,11 @@ pub record TellsFile (s : State) (f : ℕ) (old new : Cataloged) : Type 0 where
   pub sizes : new.files.sizes ≡ old.files.sizes ++ (file_at s f).size ∷ []
   pub spots : (g q : ℕ) → map.get new.files.spots (g, q)
       ≡ (if g == f then kept_spot s f q else map.get old.files.spots (g, q))
+
+-- the files below n
+pub record TellsBefore (s : State) (n : ℕ) (c : Cataloged) : Type 0 where
+  pub page : c.page ≡ s.sizes.page
+  pub blocks : c.blocks ≡ s.sizes.blocks
+  pub few : n ≤ length s.files
+  pub sizes : c.files.sizes ≡ map_list (λ file. file.size) (take n s.files)
+  pub spots : (g q : ℕ) → map.get c.files.spots (g, q) ≡ (if nat_lt g n then kept_spot s g q else None)

@@ -16,6 +16,7 @@ use crate::answers::{PageTags, ReadAnswer, WriteAnswer};
 use crate::handles::Handles;
 use crate::placing::{lacks_blocks, place};
 use blockmap::BlockMap;
+use catalog::Catalog;
 use machine::Event;
 use pagestore::{Layout, Pages, Span};
 use pc_types::limits::{MAX_FILE_SIZE, MAX_FILES, MAX_HANDLES, MAX_PAGE_SIZE, MAX_TOUCHED};
@@ -59,7 +60,7 @@ impl CacheCore {
     {
         match CacheCore::over(alloc, geometry, name, Catalog::new(alloc, geometry)) {
             Ok(core) => Ok(core),
-            Err((refusal, _)) => Err(refusal),
+            Err(refused) => Err(refused.0),
         }
     }
 

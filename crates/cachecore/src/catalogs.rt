@@ -1,14 +1,14 @@
 //! A cache over files that its device has already, and where its files stand.
 
-ghost use Rattle.std.specs.Prelude.{◌≡◌, ◌<◌, ◌≤◌, ℕ, IfErr, IfOk, IsOkUnless, None, OnOk, Some, if◌then◌else◌, length, map};
+ghost use Rattle.std.specs.Prelude.{◌≡◌, ◌<◌, ◌≤◌, ℕ, IfErr, IfOk, IsOkUnless, None, OnOk, Some, if◌then◌else◌, length, option_map, true, ◌^◌};
 ghost use Rattle.std.specs.FinMap as finmap;
-ghost use Rattle.std.specs.FinSet as set;
 ghost use Rattle.pc_types.specs.declared.limits.TheConstants.{MAX_FRAMES};
 ghost use Rattle.machine.specs.Catalogs.{IsCatalog, adopted};
 ghost use Rattle.machine.specs.PageLists.{no_lists};
-ghost use Rattle.machine.specs.State.{no_file, spot_at};
+ghost use Rattle.machine.specs.State.{spot_at};
 ghost use Rattle.blockmap.specs.Told.{told};
-ghost use Rattle.cachecore.specs.Standing.{SpotIs, Tells, TellsFile, TellsPage, fits};
+ghost use Rattle.catalog.specs.Cataloged.{fits};
+ghost use Rattle.cachecore.specs.Standing.{SpotIs, Tells, TellsFile, TellsPage, store_over};
 
 use crate::cache::CacheCore;
 use crate::handles::Handles;
@@ -127,7 +127,8 @@ impl CacheCore {
         ensures refused { IsOkUnless result Refusal.Memory }
     {
         let begin = page.0 * self.geometry.page();
-        let bytes = self.pages.size(file.0).saturating_sub(begin).min(placed.valid as u64);
+        let left = self.pages.size(file.0).saturating_sub(begin);
+        let bytes = u64::from(placed.valid).min(left);
         if bytes == 0 {
             return Ok(());
         }
@@ -145,7 +146,7 @@ impl CacheCore {
 
 /// The files' sizes stand, and no page is cached.
 fn pages_of(alloc: Global, geometry: &Geometry, catalog: &Catalog) -> Result<Pages, Refusal>
-    ensures made { IfOk result (λ s. s ≡ record { page = geometry.now.page; files = map file_of catalog.now.files.sizes; filling = set.empty; free = geometry.now.frames; lists = no_lists }) }
+    ensures made { IfOk result (λ s. s ≡ store_over geometry.now catalog.now.files.sizes) }
     ensures few { geometry.now.frames ≤ MAX_FRAMES }
     ensures refused { IsOkUnless result Refusal.Memory }
 {

@@ -16,7 +16,7 @@ use Rattle.machine.specs.declared.event.Outcome.{Outcome}
 use Rattle.machine.specs.declared.event.Reply.{Reply}
 use Rattle.machine.specs.declared.event.Reply.TheVariants as reply
 use Rattle.machine.specs.State.{State, Request, page_count}
-use Rattle.machine.specs.History.{no_files}
+use Rattle.machine.specs.Catalogs.{Catalog, adopted, no_catalog}
 use Rattle.runs.specs.World.{World, Move, Act, Call, Finish, WorldStep}
 use Rattle.cachecore.specs.Replies.{IsJobOf, outcome_of}
 use Rattle.world.specs.declared.step.Step.{Step}
@@ -41,10 +41,14 @@ world_of w =
 abbrev pub fits : Sizes → Told → Bool
 fits g d = d.size == g.page && d.count == g.blocks
 
--- a cache without files. What was written to the device before is not known to be flushed
+-- a cache over a catalog's files. What was written to the device before is not known to be flushed
+abbrev pub adopted_world : Sizes → ℕ → Catalog → Told → WorldSeen
+adopted_world g name catalog d =
+    record { core = adopted g name catalog; device = d; unflushed = true; outcomes = finmap.empty; writing = finmap.empty }
+
+-- a cache without files
 abbrev pub first_world : Sizes → ℕ → Told → WorldSeen
-first_world g name d =
-    record { core = no_files g name; device = d; unflushed = true; outcomes = finmap.empty; writing = finmap.empty }
+first_world g name d = adopted_world g name no_catalog d
 
 -- the range of a sync that begins on a file has all its pages
 abbrev pub HasAllPages : ℕ → Type 0

@@ -3,6 +3,7 @@
 mod at_once;
 mod calls;
 mod events;
+mod files;
 
 ghost use Rattle.std.specs.Prelude.{◌≡◌, ◌<◌, IfErr, IfNone, IfOk, IfSome, IsOkUnless, None, OnErr, length, option_map, true, if◌then◌else◌};
 ghost use Rattle.pc_types.specs.declared.refusal.Refusal.TheVariants.{BadConfig, Memory};
@@ -19,6 +20,7 @@ use crate::begun::{self, Begun};
 use crate::jobs::Jobs;
 use crate::step::Step;
 use blockdev::{BlockDevice, Buffer, Watched};
+use catalog::Catalog;
 use cachecore::{CacheCore, PageTags, ReadAnswer, Reply, Want, replies};
 use pc_types::limits::MAX_FILES;
 use pc_types::{Bytes, FileId, Geometry, HandleId, PageIndex, Refusal, Serial, SyncId};
@@ -71,21 +73,9 @@ impl<D: BlockDevice> World<D> {
         ensures refused { IfErr result (λ e. e.0 ≡ (if fits geometry.now (D.told device) then Memory else BadConfig)) }
         ensures back { IfErr result (λ e. e.1 ≡ device) }
     {
-        if device.block_size() != geometry.page() || device.blocks() != geometry.blocks() {
-            return Err((Refusal::BadConfig, device));
-        }
-        let Ok(jobs) = Jobs::new(alloc) else {
-            return Err((Refusal::Memory, device));
-        };
-        match CacheCore::new(alloc, geometry, name) {
-            Ok(core) => Ok(World {
-                core,
-                jobs,
-                device: Watched::over(device),
-                spare: None,
-                alloc,
-            }),
-            Err(refusal) => Err((refusal, device)),
+        match World::over(alloc, geometry, name, Catalog::new(alloc, geometry), device) {
+            Ok(world) => Ok(world),
+            Err((refusal, _catalog, device)) => Err((refusal, device)),
         }
     }
 
