@@ -14,6 +14,6 @@ pub record IsKept (page count : ℕ) (sizes : List ℕ) (blocks : Blocks) : Type
   pub least : MIN_PAGE_SIZE ≤ page
   pub most : page ≤ MAX_PAGE_SIZE
   pub small : count ≤ 2 ^ 32
-  pub count : blocks.count ≡ count
+  pub counted : blocks.count ≡ count
   pub not_held : blocks.held ≡ map.empty
   pub files : (s : Sizes) → IsFor (cataloged page count sizes blocks) s

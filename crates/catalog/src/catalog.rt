@@ -152,10 +152,11 @@ impl Catalog {
         ensures found { IfSome result (λ extent. IsNext self.now file.0 from.0 extent) }
         ensures none { IfNone result (NoneFrom self.now.files.spots file.0 from.0) }
     {
+        let blocks = &self.blocks;
         if file.0 >= MAX_FILES || from.0 > LAST_PAGE {
             return None;
         }
-        let Some((first, placed)) = self.blocks.next(file, from) else {
+        let Some((first, placed)) = blocks.next(file, from) else {
             return None;
         };
         let (whole, rest) = self.row(file, first, placed);
@@ -188,10 +189,11 @@ impl Catalog {
         requires { file.0 < MAX_FILES }
         ensures { result ≡ valid_on block (map.get self.now.files.spots (file.0, page)) }
     {
+        let blocks = &self.blocks;
         if page > LAST_PAGE {
             return 0;
         }
-        match self.blocks.map(file, PageIndex(page)) {
+        match blocks.map(file, PageIndex(page)) {
             Some(placed) if u64::from(placed.block.0) == block => u64::from(placed.valid),
             _ => 0,
         }
@@ -224,12 +226,7 @@ fn is_within(size: u64, page: u64, extent: Extent) -> bool
 }
 
 /// The extent's pages get their blocks, one after the other, up to the first that can't.
-fn adopt_pages(
-    blocks: &mut BlockMap,
-    page: u64,
-    file: FileId,
-    extent: Extent,
-) -> Result<(), Misfit>
+fn adopt_pages(blocks: &mut BlockMap, page: u64, file: FileId, extent: Extent) -> Result<(), Misfit>
     requires page { (0 < page) × (page ≤ MAX_PAGE_SIZE) }
     requires file { file.0 < MAX_FILES }
     requires bytes { extent.bytes ≤ MAX_FILE_SIZE }
