@@ -11,13 +11,15 @@ use Rattle.catalog.specs.declared.extent.Extent.{Extent}
 use Rattle.catalog.specs.declared.extent.Misfit.{Misfit}
 use Rattle.catalog.specs.declared.extent.Misfit.TheVariants.{NoSuchFile, Empty, PastSize, OutOfOrder, PastDevice, BlockTwice}
 
--- where an extent has page p, for pages of P bytes
+-- the spot of an extent's page number k, counted from its first, for pages of P bytes
+abbrev pub spot_number : ℕ → Extent → ℕ → Spot
+spot_number P e k = record { block = e.block.0 + k; valid = min P (e.bytes - k * P) }
+
+-- where an extent has page p
 abbrev pub spot_in : ℕ → Extent → ℕ → Option Spot
 spot_in P e p =
     let k = p - e.first.0 in
-    if nat_le e.first.0 p && nat_lt (k * P) e.bytes
-    then Some (record { block = e.block.0 + k; valid = min P (e.bytes - k * P) })
-    else None
+    if nat_le e.first.0 p && nat_lt (k * P) e.bytes then Some (spot_number P e k) else None
 
 abbrev pub or_else : Option Spot → Option Spot → Option Spot
 or_else (Some spot) other = Some spot

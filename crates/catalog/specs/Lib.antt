@@ -1,2 +1,4 @@
 pub mod Cataloged
 pub mod Extents
+pub mod Kept
+pub mod Rows
