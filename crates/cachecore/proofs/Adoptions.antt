@@ -1,6 +1,7 @@
 -- A cache that begins with a catalog's files.
 use Rattle.std.proofs.Common.{◌≡◌, ℕ, ◌+◌, ◌-◌, ◌<◌, ◌≤◌, zero, suc, List, [], ◌∷◌, ◌++◌, length, get_or, refl, ap, sym, subst, ◌∙◌, arith, map, take}
 use Rattle.std.specs.Prelude.{Option, Some, None, slice_set, sum_by}
+use Rattle.std.proofs.lemmas.List.Sums.{sum_by-cons}
 use Rattle.std.specs.FinSet as set
 use Rattle.std.specs.Ordering.{nat_cmp}
 use Rattle.std.specs.FinMap as finmap
@@ -27,7 +28,11 @@ blocks_over sizes catalog = record { count = sizes.blocks; spots = catalog.spots
 
 none_stored : (files : List ℕ) → sum_by (λ (file : File). finmap.len file.pages) (map file_of files) ≡ 0
 none_stored [] = refl
-none_stored (z ∷ files) = let rest = none_stored files in let none = len-empty nat_cmp Page in omega (arith, rest, none)
+none_stored (z ∷ files) =
+    let first = sum_by-cons (λ (file : File). finmap.len file.pages) (file_of z) (map file_of files) in
+    let rest = none_stored files in
+    let none = len-empty nat_cmp Page in
+    omega (arith, first, rest, none)
 
 module _ (sizes : Sizes) (name : ℕ) (catalog : Catalog) (ok : IsCatalog sizes catalog) (few : sizes.frames ≤ MAX_FRAMES) where
   no_request : (t : ℕ) (r : Request) → finmap.get (finmap.empty {X = Request} {R = nat_cmp}) t ≡ Some r → ⊥
@@ -72,13 +77,12 @@ files_before files n = map file_of (take n files)
 abbrev with_size : List File → ℕ → ℕ → List File
 with_size files n z = slice_set files n (record (get_or files n no_file) { size = z })
 
-pub file_more : (files : List ℕ) (n : ℕ) → n < length files
+one_more : (files : List ℕ) (n : ℕ) → n < length files
     → with_size (files_before files n ++ no_file ∷ []) n (get_or files n 0) ≡ files_before files (suc n)
-file_more [] n h = absurd (omega (arith, h))
-file_more (z ∷ files) zero h = refl
-file_more (z ∷ files) (suc n) h = ap (λ (l : List File). file_of z ∷ l) (file_more files n (omega (arith, h)))
+one_more [] n h = absurd (omega (arith, h))
+one_more (z ∷ files) zero h = refl
+one_more (z ∷ files) (suc n) h = ap (λ (l : List File). file_of z ∷ l) (one_more files n (omega (arith, h)))
 
-pub count_before : (files : List ℕ) (n : ℕ) → n ≤ length files → length (files_before files n) ≡ n
-count_before files zero h = refl
-count_before [] (suc n) h = absurd (omega (arith, h))
-count_before (z ∷ files) (suc n) h = ap suc (count_before files n (omega (arith, h)))
+pub file_more : (files : List ℕ) (n : ℕ) → n < length files
+    → with_size (files_before files n ++ no_file ∷ []) n (get_or files n 0) ≡ files_before files (n + 1)
+file_more files n h = one_more files n h ∙ ap (files_before files) (let e : suc n ≡ n + 1 = omega arith in e)

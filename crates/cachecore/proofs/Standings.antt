@@ -1,8 +1,7 @@
 -- The catalog of a cache's files, page after page.
-use Rattle.std.proofs.Common.{◌≡◌, ℕ, zero, suc, ◌+◌, ◌-◌, ◌*◌, ◌<◌, ◌≤◌, true, false, List, [], ◌∷◌, ◌++◌, length, get_or, refl, ap, sym, subst, ◌∙◌, arith, map, take, min}
+use Rattle.std.proofs.Common.{Bool, ◌≡◌, ℕ, zero, suc, ◌+◌, ◌-◌, ◌*◌, ◌<◌, ◌≤◌, true, false, List, [], ◌∷◌, ◌++◌, length, get_or, refl, ap, sym, subst, ◌∙◌, arith, map, take, min}
 use Rattle.std.specs.Prelude.{Option, Some, None, option_map, ◌==◌, ◌&&◌, nat_lt, if◌then◌else◌, ◌⊎◌}
 use Rattle.std.proofs.lemmas.Bool.Decides.{nat_tests}
-use Rattle.std.proofs.Math.Option.{some-injective}
 use Rattle.std.specs.FinMap as finmap
 use Rattle.pc_types.specs.Spots.{Spot, place_cmp}
 use Rattle.blockmap.specs.Told.{told}
@@ -10,8 +9,6 @@ use Rattle.blockmap.specs.declared.spots.Placed.{Placed}
 use Rattle.catalog.specs.Cataloged.{Cataloged}
 use Rattle.catalog.specs.Extents.{Added, or_else, spot_in}
 use Rattle.catalog.specs.declared.extent.Extent.{Extent}
-use Rattle.maps.proofs.MapLaws.{get-each_place}
-use Rattle.machine.specs.Catalogs.{catalog_of}
 use Rattle.machine.specs.State.{State, File, no_file, file_at, spot_at}
 use Rattle.cachecore.specs.Standing.{Tells, TellsBefore, TellsFile, TellsPage, TellsPages, if_valid, kept_spot, trimmed}
 
@@ -33,7 +30,7 @@ one_page P p b v some fits q =
 -- the page's spot, where so many bytes of it are the file's
 module _ (s : State) (f p : ℕ) (placed : Placed) (is : option_map told (spot_at s f p) ≡ Some placed) where
   abbrev left : ℕ
-  left = (file_at s f).size - p * s.sizes.page
+  left = min ((file_at s f).size - p * s.sizes.page) s.sizes.page
 
   kept_is : kept_spot s f p ≡ if_valid (Some (record { block = placed.block.0; valid = min placed.valid left }))
   kept_is = go (spot_at s f p) refl
@@ -41,7 +38,7 @@ module _ (s : State) (f p : ℕ) (placed : Placed) (is : option_map told (spot_a
       go : (o : Option Spot) → spot_at s f p ≡ o → kept_spot s f p ≡ if_valid (Some (record { block = placed.block.0; valid = min placed.valid left }))
       go None e = absurd (let h = ap (option_map told) e in cc)
       go (Some x) e =
-          let h : told x ≡ placed = some-injective (told x) placed (sym (ap (option_map told) e) ∙ is) in
+          let h : told x ≡ placed = (let k = sym (ap (option_map told) e) ∙ is in cc) in
           ap (λ o. if_valid (option_map (trimmed s f p) o)) e
           ∙ ap (λ (y : Placed). if_valid (Some (record { block = y.block.0; valid = min y.valid left }))) h
 
@@ -60,11 +57,40 @@ tells_page s f p b v old new page some fits kept added = record {
       ∙ ap (λ o. if g == f && q == p then o else finmap.get old.files.spots (g, q)) (sym kept);
 }
   where
-    chosen : (x y : _) (o : Option Spot) → or_else (if x then (if y then Some (record { block = b; valid = v }) else None) else None) o
+    chosen : (x y : Bool) (o : Option Spot) → or_else (if x then (if y then Some (record { block = b; valid = v }) else None) else None) o
         ≡ (if x && y then Some (record { block = b; valid = v }) else o)
     chosen false y o = refl
     chosen true false o = refl
     chosen true true o = refl
+
+pub page_told : (s : State) (f p : ℕ) (placed : Placed) (old new : Cataloged) (v : ℕ)
+    → option_map told (spot_at s f p) ≡ Some placed
+    → v ≡ min placed.valid (min ((file_at s f).size - p * s.sizes.page) s.sizes.page) → 0 < v → old.page ≡ s.sizes.page
+    → Added old new f (one p placed.block.0 v) → TellsPage s f p old new
+page_told s f p placed old new v is bytes some page added =
+    let whole : Option Spot = Some (record { block = placed.block.0; valid = v }) in
+    let kept : kept_spot s f p ≡ whole =
+    kept_is s f p placed is ∙ ap (λ n. if_valid (Some (record { block = placed.block.0; valid = n }))) (sym bytes)
+    ∙ (let h = some in grind (arith, nat_tests, h)) in
+    tells_page s f p placed.block.0 v old new page some (omega (arith, bytes)) kept added
+
+pub page_untold : (s : State) (f p : ℕ) (placed : Placed) (old : Cataloged) (v : ℕ)
+    → option_map told (spot_at s f p) ≡ Some placed
+    → v ≡ min placed.valid (min ((file_at s f).size - p * s.sizes.page) s.sizes.page) → v ≡ 0
+    → finmap.get old.files.spots (f, p) ≡ None → TellsPage s f p old old
+page_untold s f p placed old v is bytes none bare = record {
+  page = refl;
+  blocks = refl;
+  sizes = refl;
+  spots = λ g q.
+      let here : g ≡ f → q ≡ p → finmap.get old.files.spots (g, q) ≡ None =
+      λ a b. ap (λ (k : ℕ × ℕ). finmap.get old.files.spots k) (λ i. (a i, b i)) ∙ bare in
+      grind (arith, nat_tests, kept, here);
+}
+  where
+    kept : kept_spot s f p ≡ None
+    kept = kept_is s f p placed is
+        ∙ ap (λ n. if_valid (Some (record { block = placed.block.0; valid = n }))) (sym bytes ∙ none)
 
 -- ---- a file
 
@@ -99,12 +125,11 @@ module _ (s : State) (f : ℕ) (start : Cataloged) (bare : (q : ℕ) → finmap.
     page = page;
     blocks = blocks;
     sizes = sizes;
-    spots = λ g q. ap (λ m. finmap.get m (g, q)) spots ∙ low (g == f) (finmap.get start.files.spots (g, q));
+    spots = λ g q. ap (λ m. finmap.get m (g, q)) spots ∙ low (g == f) q (finmap.get start.files.spots (g, q));
   }
     where
-      low : (x : _) {q : ℕ} (o : Option Spot) → o ≡ (if x && false then kept_spot s f q else o)
-      low false o = refl
-      low true o = refl
+      low : (x : Bool) (q : ℕ) (o : Option Spot) → o ≡ (if x && nat_lt q 0 then kept_spot s f q else o)
+      low x q o = grind (arith, nat_tests)
 
   pub all_pages : (n : ℕ) (c : Cataloged) → ((q : ℕ) → n ≤ q → spot_at s f q ≡ None) → TellsPages s f n start c
       → TellsFile s f start c
@@ -126,11 +151,8 @@ module _ (s : State) (f : ℕ) (start : Cataloged) (bare : (q : ℕ) → finmap.
 
 -- ---- all files
 
-size_of : File → ℕ
-size_of file = file.size
-
 sizes_more : (files : List File) (n : ℕ) → n < length files
-    → map (λ (x : File). x.size) (take n files) ++ (get_or files n no_file).size ∷ [] ≡ map (λ (x : File). x.size) (take (n + 1) files)
+    → map (λ (x : File). x.size) (take n files) ++ (get_or files n no_file).size ∷ [] ≡ map (λ (x : File). x.size) (take (suc n) files)
 sizes_more [] n h = absurd (omega (arith, h))
 sizes_more (x ∷ files) zero h = refl
 sizes_more (x ∷ files) (suc n) h = ap (λ (l : List ℕ). x.size ∷ l) (sizes_more files n (omega (arith, h)))
@@ -151,7 +173,8 @@ module _ (s : State) where
     page = file.page ∙ so.page;
     blocks = file.blocks ∙ so.blocks;
     few = omega (arith, h);
-    sizes = file.sizes ∙ ap (λ (l : List ℕ). l ++ (file_at s n).size ∷ []) so.sizes ∙ sizes_more s.files n h;
+    sizes = file.sizes ∙ ap (λ (l : List ℕ). l ++ (file_at s n).size ∷ []) so.sizes ∙ sizes_more s.files n h
+        ∙ ap (λ k. map (λ (x : File). x.size) (take k s.files)) (let e : suc n ≡ n + 1 = omega arith in e);
     spots = λ g q. at g q;
   }
     where
@@ -167,8 +190,6 @@ module _ (s : State) where
     page = so.page;
     blocks = so.blocks;
     sizes = so.sizes ∙ sizes_all s.files n h;
-    spots = λ f p k. (let is = so.spots f p in let few = so.few in
-        let kept : finmap.get c.files.spots (f, p) ≡ kept_spot s f p = grind (arith, nat_tests, is, few, h, k) in
-        kept ∙ ap if_valid (sym (get-each_place (λ k x. trimmed s k.0 k.1 x) s.spots (f, p))));
+    spots = λ f p k. (let is = so.spots f p in let few = so.few in grind (arith, nat_tests, is, few, h, k));
     others = λ f p k. (let is = so.spots f p in let few = so.few in grind (arith, nat_tests, is, few, k));
   }

@@ -9,7 +9,6 @@ use Rattle.pc_types.specs.declared.refusal.Refusal.TheVariants.{NoSuchFile}
 use Rattle.blockmap.specs.Told.{told}
 use Rattle.blockmap.specs.declared.spots.Placed.{Placed}
 use Rattle.catalog.specs.Cataloged.{Cataloged}
-use Rattle.machine.specs.Catalogs.{Catalog, catalog_of}
 use Rattle.machine.specs.PageLists.{no_lists}
 use Rattle.machine.specs.State.{State, file_at, no_file, spot_at}
 use Rattle.pagestore.specs.Store.{Store}
@@ -24,13 +23,21 @@ abbrev pub if_valid : Option Spot → Option Spot
 if_valid None = None
 if_valid (Some spot) = if spot.valid == 0 then None else Some spot
 
--- the catalog of the cache's files, but for pages whose blocks have no valid byte
+-- a spot of page p of f, with its valid bytes that are the page's and the file's
+abbrev pub trimmed : State → ℕ → ℕ → Spot → Spot
+trimmed s f p spot =
+    record spot { valid = min spot.valid (min ((file_at s f).size - p * s.sizes.page) s.sizes.page) }
+
+-- where page p of f stands, for a cache that begins later
+abbrev pub kept_spot : State → ℕ → ℕ → Option Spot
+kept_spot s f p = if_valid (option_map (trimmed s f p) (spot_at s f p))
+
+-- the catalog of the cache's files
 pub record Tells (s : State) (c : Cataloged) : Type 0 where
   pub page : c.page ≡ s.sizes.page
   pub blocks : c.blocks ≡ s.sizes.blocks
-  pub sizes : c.files.sizes ≡ (catalog_of s).sizes
-  pub spots : (f p : ℕ) → f < length s.files
-      → map.get c.files.spots (f, p) ≡ if_valid (map.get (catalog_of s).spots (f, p))
+  pub sizes : c.files.sizes ≡ map_list (λ file. file.size) s.files
+  pub spots : (f p : ℕ) → f < length s.files → map.get c.files.spots (f, p) ≡ kept_spot s f p
   pub others : (f p : ℕ) → length s.files ≤ f → map.get c.files.spots (f, p) ≡ None
 
 -- ---- inside this crate: on the way to it
@@ -45,14 +52,6 @@ store_over sizes files =
       free = sizes.frames;
       lists = no_lists;
     }
-
--- a spot of page p of f, with the valid bytes that are the file's
-abbrev pub trimmed : State → ℕ → ℕ → Spot → Spot
-trimmed s f p spot = record spot { valid = min spot.valid ((file_at s f).size - p * s.sizes.page) }
-
--- what the catalog has of page p of f
-abbrev pub kept_spot : State → ℕ → ℕ → Option Spot
-kept_spot s f p = if_valid (option_map (trimmed s f p) (spot_at s f p))
 
 -- one page more
 pub record TellsPage (s : State) (f p : ℕ) (old new : Cataloged) : Type 0 where

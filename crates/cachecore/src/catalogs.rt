@@ -95,6 +95,7 @@ impl CacheCore {
     /// The catalog gets one file more, with those of its pages that have valid bytes.
     fn tell_file(&self, file: FileId, catalog: &mut Catalog) -> Result<(), Refusal>
         requires here { file.0 < length self.now.state.files }
+        requires sized { catalog.old.page ≡ self.now.state.sizes.page }
         requires bare { (p : ℕ) → finmap.get catalog.old.files.spots (file.0, p) ≡ None }
         ensures told { OnOk result (TellsFile self.now.state file.0 catalog.old catalog.new) }
         ensures refused { IsOkUnless result Refusal.Memory }
@@ -126,8 +127,12 @@ impl CacheCore {
         ensures told { OnOk result (TellsPage self.now.state file.0 page.0 catalog.old catalog.new) }
         ensures refused { IsOkUnless result Refusal.Memory }
     {
-        let begin = page.0 * self.geometry.page();
-        let left = self.pages.size(file.0).saturating_sub(begin);
+        let page_size = self.geometry.page();
+        let left = self
+            .pages
+            .size(file.0)
+            .saturating_sub(page.0 * page_size)
+            .min(page_size);
         let bytes = u64::from(placed.valid).min(left);
         if bytes == 0 {
             return Ok(());

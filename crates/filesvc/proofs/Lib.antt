@@ -18,6 +18,7 @@ pub mod Needs
 pub mod Noted
 pub mod Polled
 pub mod Ranged
+pub mod Restarting
 pub mod RoomLaws
 pub mod Saved
 pub mod Sizes

@@ -1,5 +1,6 @@
 pub mod Attempts
 pub mod Made
+pub mod Restarts
 pub mod Rests
 pub mod Rooms
 pub mod Saving

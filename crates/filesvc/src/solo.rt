@@ -6,7 +6,8 @@ ghost use Rattle.world.specs.Stepping.{first_world, fits};
 ghost use Rattle.filesvc.specs.Service.{errors_of};
 
 use blockdev::BlockDevice;
-use errboard::{Board, Recorder};
+use catalog::Catalog;
+use errboard::Recorder;
 use pc_types::{Geometry, Refusal};
 use std::alloc::Global;
 use std::marker::Model;
@@ -63,20 +64,10 @@ impl<D: BlockDevice> Solo<D> {
         ensures refused { IfErr result (λ e. e.0 ≡ (if fits geometry.now (D.told device) then Memory else BadConfig)) }
         ensures back { IfErr result (λ e. e.1 ≡ device) }
     {
-        if device.block_size() != geometry.page() || device.blocks() != geometry.blocks() {
-            return Err((Refusal::BadConfig, device));
+        match Solo::over(alloc, geometry, name, Catalog::new(alloc, geometry), device) {
+            Ok(solo) => Ok(solo),
+            Err((refusal, _catalog, device)) => Err((refusal, device)),
         }
-        prove!(device.calls() <= u64::MAX);
-        let Ok((_board, recorder)) = Board::new(alloc) else {
-            return Err((Refusal::Memory, device));
-        };
-        let world = World::new(alloc, geometry, name, device)?;
-        Ok(Solo {
-            name,
-            world,
-            recorder,
-            attempts: 0,
-        })
     }
 
     /// How many attempts the last call made: a read, a write or a truncation is tried again after a page was filled or room was

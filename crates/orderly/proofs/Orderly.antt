@@ -12,6 +12,7 @@ use Rattle.pc_types.specs.Limits.{Sizes}
 use Rattle.pc_types.specs.Tags.{no_tags}
 use Rattle.pc_types.specs.Spots.{Spot, place_cmp}
 use Rattle.pc_types.specs.declared.kind.Kind.TheVariants.{Fill, Flush}
+use Rattle.machine.specs.Catalogs.{Catalog, IsCatalog, adopted, no_catalog}
 use Rattle.machine.specs.History.{no_files}
 use Rattle.machine.specs.Sound.{Sound}
 use Rattle.machine.specs.State.{State, File, Page, Request, Sync, block_at, file_at, handle_file, has_block, is_open}
@@ -24,6 +25,7 @@ use Rattle.machine.specs.Changes.{new_sync, started, sync_begun, to_write, under
 use Rattle.machine.specs.Changes.{written_pages}
 use Rattle.machine.proofs.steps.Cases.{Cases}
 use Rattle.machine.proofs.steps.Choices.{and_true, below}
+use Rattle.machine.proofs.changes.Adopted.{adopted_file, no_catalog_is, none_cached}
 use Rattle.machine.proofs.changes.ChangeLaws.{cut_pages, get-cut_pages, get-written_pages, needs_block}
 use Rattle.machine.proofs.changes.ChangeLaws.{shrunk_truncates, taken_by, written_writes}
 use Rattle.machine.proofs.changes.StateLaws.{file_at-put, get_or-set, touches}
@@ -33,7 +35,7 @@ use Rattle.machine.proofs.sound.Lookups.{put_page_tells, removed_tells}
 use Rattle.maps.specs.Maps.{change_at, each_value}
 use Rattle.maps.proofs.Maps.{get-each_value, get-remove_nat, get_inserted}
 use Rattle.maps.proofs.MapLaws.{get-change_at, get-insert_place}
-use Rattle.runs.proofs.bytes.CutLaws.{touched_in}
+use Rattle.runs.proofs.bytes.CutLaws.{below_count, touched_in}
 use Rattle.machine.proofs.sound.Lookups.{get_or-default}
 use Rattle.runs.proofs.views.Grow.{page_count_more}
 use Rattle.runs.specs.World.{World, Move, WorldStep}
@@ -507,10 +509,30 @@ pub orderly_stays : (w new : World) (m : Move) → WorldStep w m new → Sound w
     → IsOrderly new.core
 orderly_stays w new m step ok o = core_cases w new IsOrderly o (orderly_cases w.core ok o) m step
 
+-- a cache whose files stand on the device
+module _ (sizes : Sizes) (name : ℕ) (catalog : Catalog) (ok : IsCatalog sizes catalog) (some : 0 < sizes.page) where
+  abbrev begin : State
+  begin = adopted sizes name catalog
+
+  stands_within : (f p : ℕ) (o : Option Spot) → finmap.get catalog.spots (f, p) ≡ o → is_some o ≡ true
+      → p < page_count sizes.page (file_at begin f).size
+  stands_within f p None e k = absurd cc
+  stands_within f p (Some x) e k =
+      let good = ok.spots f p x e in
+      let size = ap (λ (file : File). file.size) (adopted_file sizes name catalog f) in
+      below_count sizes.page (file_at begin f).size p some (omega (arith, good.some, good.in_file, size))
+
+  pub adopted_orderly : IsOrderly begin
+  adopted_orderly = record {
+    positive = some;
+    within = λ f p e. stands_within f p (finmap.get catalog.spots (f, p)) refl (spot_too (finmap.get catalog.spots (f, p)) e);
+    flush = λ f p e. absurd (let n = ap writeback (none_cached sizes name catalog f p) in cc);
+    handles = λ h e. absurd (let n = ap is_some (get-empty {X = ℕ} nat_cmp h) in cc);
+  }
+    where
+      spot_too : (o : Option Spot) → is_some (option_map (λ (x : Spot). x.block) o) ≡ true → is_some o ≡ true
+      spot_too None e = e
+      spot_too (Some x) e = refl
+
 pub first_orderly : (sizes : Sizes) (name : ℕ) → 0 < sizes.page → IsOrderly (no_files sizes name)
-first_orderly sizes name some = record {
-  positive = some;
-  within = λ f p e. absurd (let n = ap is_some (get-empty {X = Spot} place_cmp (f, p)) in cc);
-  flush = λ f p e. absurd (let n = ap writeback (get-empty {X = Page} nat_cmp p) in cc);
-  handles = λ h e. absurd (let n = ap is_some (get-empty {X = ℕ} nat_cmp h) in cc);
-}
+first_orderly sizes name some = adopted_orderly sizes name no_catalog (no_catalog_is sizes) some

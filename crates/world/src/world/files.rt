@@ -29,7 +29,7 @@ impl<D: BlockDevice> World<D> {
         ensures fresh { IfOk result (λ w. w ≡ adopted_world geometry.now name catalog.files (D.told device)) }
         ensures catalog { IfOk result (λ _. IsCatalog geometry.now catalog.files) }
         ensures first { IfOk result (λ w. IfSome (D.told device).contents (λ _. Adopts catalog.files (world_of w))) }
-        ensures fits { IfOk result (λ _. fits geometry.now (D.told device) ≡ true) }
+        ensures fits { IfOk result (λ _. (fits geometry.now (D.told device) ≡ true) × (cataloged.fits geometry.now catalog ≡ true)) }
         ensures refused { IfErr result (λ e. e.0 ≡ (if fits geometry.now (D.told device) && cataloged.fits geometry.now catalog then Memory else BadConfig)) }
         ensures back { IfErr result (λ e. (e.1 ≡ catalog) × (e.2 ≡ device)) }
     {
