@@ -148,9 +148,6 @@ extent_adoptable s P count first block bytes z k hp hb some in_file on_device lo
     }
 
 module _ (P count : ℕ) (sizes : List ℕ) (old new : Blocks) (f : ℕ) (e : Extent) (is : IsKept P count sizes old) (room : HasRoom (cataloged P count sizes old) f e) (adopts : Adopts P old new f e (page_count P e.bytes)) where
-  n : ℕ
-  n = page_count P e.bytes
-
   inside_at : (g p : ℕ) (i : IsInside f e.first.0 (page_count P e.bytes) g p) → map.get new.spots (g, p) ≡ Some (spot_number P e i.k)
   inside_at g p i = (λ j. map.get new.spots (i.file j, i.at j)) ∙ adopts.there i.k i.low
 

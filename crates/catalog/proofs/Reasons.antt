@@ -21,9 +21,6 @@ not_lt : (a b : ℕ) → b ≤ a → nat_lt a b ≡ false
 not_lt a b h = false_from_ne_true (nat_lt a b) (λ t. let low : a < b = ltb-true a b t in omega arith)
 
 module _ (c : Cataloged) (f : ℕ) (e : Extent) where
-  twice : Bool
-  twice = is_any_mapped c.files.spots e.block.0 (page_count c.page e.bytes)
-
   pub no_file : length c.files.sizes ≤ f → misfit c f e ≡ Some NoSuchFile
   no_file past = λ i. first_of_six (not_lt f (length c.files.sizes) past i) (eqb e.bytes 0) (nat_lt (size_in c.files f) (e.first.0 * c.page + e.bytes)) (has_from c.files.spots f e.first.0) (nat_lt c.blocks (e.block.0 + page_count c.page e.bytes)) (is_any_mapped c.files.spots e.block.0 (page_count c.page e.bytes))
 

@@ -125,9 +125,6 @@ module _ (P count : ℕ) (sizes : List ℕ) (blocks : Blocks) (is : IsKept P cou
   ]
 
   module _ (low : v < P) (x : Placed) (there : Some x ≡ option_map told (map.get blocks.spots (f, p))) (block : x.block.0 ≡ b) where
-    extent : Extent
-    extent = record { first = record { 0 = p }; block = record { 0 = b }; bytes = k * P + v }
-
     some_bytes : 0 < k * P + v
     some_bytes = elim (cases_eq k 0) [
       | inr some ↦ (let e : 1 * P ≤ k * P = mul-le-mul_right P (let h : 1 ≤ k = omega arith in h) in let s = some_page in omega arith)
