@@ -1,10 +1,8 @@
 -- Pages and their bytes, as numbers.
-use Rattle.std.proofs.Common.{◌≡◌, ℕ, ◌+◌, ◌-◌, ◌*◌, ◌/◌, ◌^◌, ◌<◌, ◌≤◌, ◌&&◌, Bool, true, sym, arith, leb}
+use Rattle.std.proofs.Common.{ℕ, ◌+◌, ◌-◌, ◌*◌, ◌/◌, ◌^◌, ◌<◌, ◌≤◌, arith}
 use Rattle.std.proofs.Math.Nat.{div-mul-le_self, mul-le-mul_left, mul-le-mul_right}
 use Rattle.std.proofs.lemmas.Nat.{le-div}
-use Rattle.std.proofs.lemmas.Bool.{and_from, and_parts, le-leb, leb-true}
 use Rattle.machine.specs.State.{page_count}
-use Rattle.blockmap.proofs.MapLemmas.{same_bool}
 
 -- page k has one of the bytes exactly where it is one of their pages
 pub page_counted : (P z k : ℕ) → 0 < P → k * P < z → k < page_count P z

@@ -1,8 +1,7 @@
 -- The first reason not to take an extent.
-use Rattle.std.proofs.Common.{◌≡◌, ℕ, ◌+◌, ◌*◌, ◌<◌, ◌≤◌, Bool, true, false, not, eqb, cond, length, Option, Some, None, refl, sym, ap, ◌∙◌, arith}
-use Rattle.std.specs.Prelude.{nat_le, nat_lt}
+use Rattle.std.proofs.Common.{◌≡◌, ℕ, ◌+◌, ◌*◌, ◌<◌, ◌≤◌, Bool, true, false, not, eqb, cond, length, Option, Some, None, ap, ◌∙◌, arith}
+use Rattle.std.specs.Prelude.{nat_lt}
 use Rattle.std.proofs.lemmas.Bool.{eq-eqb, false_from_ne_true, lt-ltb, ltb-true, ne_eqb}
-use Rattle.blockmap.specs.Blocks.{is_mapped}
 use Rattle.machine.specs.Catalogs.{size_in}
 use Rattle.machine.specs.State.{page_count}
 use Rattle.catalog.specs.declared.extent.Extent.{Extent}
