@@ -1,12 +1,11 @@
 -- The pages of an extent get their blocks, one after the other.
-use Rattle.std.proofs.Common.{◌≡◌, ◌≢◌, ℕ, ◌+◌, ◌-◌, ◌*◌, ◌^◌, ◌<◌, ◌≤◌, ◌⊎◌, ◌&&◌, ◌||◌, Bool, true, false, not, eqb, cond, Option, Some, None, is_some, option_map, refl, sym, ap, subst, ◌∙◌, arith, inl, inr, min}
+use Rattle.std.proofs.Common.{◌≡◌, ◌≢◌, ℕ, ◌+◌, ◌-◌, ◌<◌, ◌≤◌, ◌⊎◌, ◌||◌, Bool, true, false, not, eqb, Option, Some, None, is_some, option_map, refl, sym, ap, ◌∙◌, arith, inl, inr}
 use Rattle.std.specs.Prelude.{nat_le}
 use Rattle.std.specs.Ordering.{nat_cmp}
 use Rattle.std.specs.FinMap as map
-use Rattle.std.proofs.lemmas.Bool.{and_from, and_left, and_right, cases_Bool, cases_eq, cases_lt, cond-false, cond-true, eq-eqb, eqb-true, false_from_ne_true, false≢true, le-leb, ne_eqb, or_right, true≢false, and_parts, leb-true}
-use Rattle.pc_types.specs.Spots.{Spot, place_cmp}
+use Rattle.std.proofs.lemmas.Bool.{and_from, cases_Bool, cases_eq, cases_lt, cond-false, cond-true, eq-eqb, eqb-true, false_from_ne_true, false≢true, le-leb, true≢false, and_parts, leb-true}
 use Rattle.maps.proofs.MapLaws.{places_total, places_antisymmetric, same_nat_map}
-use Rattle.blockmap.specs.Blocks.{Blocks, CutsFrom, IsTaken, Spots, has_block, is_free, is_from, is_mapped}
+use Rattle.blockmap.specs.Blocks.{Blocks, CutsFrom, IsTaken, has_block, is_free, is_from, is_mapped}
 use Rattle.blockmap.specs.Keys.{NoneFrom}
 use Rattle.blockmap.proofs.MapLemmas.{at_mapped, mapped_at, put_here, put_there}
 use Rattle.catalog.specs.declared.extent.Extent.{Extent}

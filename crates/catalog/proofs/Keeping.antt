@@ -1,18 +1,17 @@
 -- What a catalog keeps, after each of its changes.
-use Rattle.std.proofs.Common.{◌≡◌, ◌≢◌, ℕ, ◌+◌, ◌-◌, ◌*◌, ◌^◌, ◌<◌, ◌≤◌, ◌⊎◌, ◌&&◌, Bool, true, false, eqb, cond, List, [], ◌∷◌, ◌++◌, zero, suc, length, length-append, Option, Some, None, is_some, refl, sym, ap, subst, ◌∙◌, arith, inl, inr, min}
+use Rattle.std.proofs.Common.{◌≡◌, ℕ, ◌+◌, ◌-◌, ◌*◌, ◌^◌, ◌<◌, ◌≤◌, ◌⊎◌, ◌&&◌, Bool, true, false, eqb, cond, List, [], ◌∷◌, ◌++◌, zero, suc, length, length-append, Option, Some, None, refl, sym, ap, subst, ◌∙◌, arith, inl, inr, min}
 use Rattle.std.specs.Prelude.{nat_le, nat_lt, slice_index}
 use Rattle.std.specs.FinMap as map
-use Rattle.std.proofs.lemmas.Bool.{and_from, and_left, and_right, cond-false, cond-true, eq-eqb, eqb-true, false_from_ne_true, false≢true, le-leb, leb-true, lt-ltb, ltb-true, ne_eqb, true≢false}
+use Rattle.std.proofs.lemmas.Bool.{and_from, and_left, and_right, cond-false, cond-true, eq-eqb, false_from_ne_true, false≢true, le-leb, leb-true, lt-ltb, ltb-true, ne_eqb}
 use Rattle.std.proofs.lemmas.Option.{none-some, same_Some}
 use Rattle.pc_types.specs.Limits.{Sizes}
 use Rattle.pc_types.specs.Spots.{Spot, place_cmp}
-use Rattle.blockmap.specs.Blocks.{Blocks, Spots, has_block, is_mapped}
+use Rattle.blockmap.specs.Blocks.{Blocks, is_mapped}
 use Rattle.blockmap.specs.Keys.{NoneFrom}
 use Rattle.blockmap.proofs.MapLemmas.{has_here, mapped_at}
 use Rattle.machine.specs.Catalogs.{IsAdoptable, IsCatalog}
 use Rattle.machine.specs.State.{page_count}
 use Rattle.catalog.specs.declared.extent.Extent.{Extent}
-use Rattle.catalog.specs.Cataloged.{IsFor}
 use Rattle.catalog.specs.Extents.{Added, or_else, spot_in, spot_number}
 use Rattle.catalog.specs.Kept.{IsKept, cataloged}
 use Rattle.catalog.specs.Rows.{Adopts, HasRoom}
@@ -148,9 +147,6 @@ extent_adoptable s P count first block bytes z k hp hb some in_file on_device lo
     }
 
 module _ (P count : ℕ) (sizes : List ℕ) (old new : Blocks) (f : ℕ) (e : Extent) (is : IsKept P count sizes old) (room : HasRoom (cataloged P count sizes old) f e) (adopts : Adopts P old new f e (page_count P e.bytes)) where
-  n : ℕ
-  n = page_count P e.bytes
-
   inside_at : (g p : ℕ) (i : IsInside f e.first.0 (page_count P e.bytes) g p) → map.get new.spots (g, p) ≡ Some (spot_number P e i.k)
   inside_at g p i = (λ j. map.get new.spots (i.file j, i.at j)) ∙ adopts.there i.k i.low
 

@@ -1,10 +1,8 @@
 -- Pages and their bytes, as numbers.
-use Rattle.std.proofs.Common.{◌≡◌, ℕ, ◌+◌, ◌-◌, ◌*◌, ◌/◌, ◌^◌, ◌<◌, ◌≤◌, ◌&&◌, Bool, true, sym, arith, leb}
+use Rattle.std.proofs.Common.{ℕ, ◌+◌, ◌-◌, ◌*◌, ◌/◌, ◌^◌, ◌<◌, ◌≤◌, arith}
 use Rattle.std.proofs.Math.Nat.{div-mul-le_self, mul-le-mul_left, mul-le-mul_right}
 use Rattle.std.proofs.lemmas.Nat.{le-div}
-use Rattle.std.proofs.lemmas.Bool.{and_from, and_parts, le-leb, leb-true}
 use Rattle.machine.specs.State.{page_count}
-use Rattle.blockmap.proofs.MapLemmas.{same_bool}
 
 -- page k has one of the bytes exactly where it is one of their pages
 pub page_counted : (P z k : ℕ) → 0 < P → k * P < z → k < page_count P z
@@ -41,17 +39,3 @@ pages_within P first bytes z least in_file most some =
     let inside : (q - 1) * P < bytes = counted_page P bytes (q - 1) (omega arith) (omega arith) in
     let low : first + (q - 1) < 2 ^ 36 = page_within P first (q - 1) bytes z least in_file most inside in
     omega arith
-
--- the test that does not overflow
-pub within_test : (size P first bytes : ℕ) → 0 < P → (leb bytes size && leb first ((size - bytes) / P)) ≡ leb (first * P + bytes) size
-within_test size P first bytes some = same_bool (leb bytes size && leb first ((size - bytes) / P)) (leb (first * P + bytes) size)
-    (λ t.
-    let parts = and_parts (leb bytes size) (leb first ((size - bytes) / P)) t in
-    let fits : bytes ≤ size = leb-true bytes size parts.0 in
-    let low : first ≤ (size - bytes) / P = leb-true first ((size - bytes) / P) parts.1 in
-    let most : (size - bytes) / P * P ≤ size - bytes = div-mul-le_self (size - bytes) P in
-    let more : first * P ≤ (size - bytes) / P * P = mul-le-mul_right P low in
-    le-leb (first * P + bytes) size (omega arith))
-    (λ t.
-    let sum : first * P + bytes ≤ size = leb-true (first * P + bytes) size t in
-    and_from (leb bytes size) (leb first ((size - bytes) / P)) (le-leb bytes size (omega arith)) (le-leb first ((size - bytes) / P) (le-div first (size - bytes) P some (omega arith))))

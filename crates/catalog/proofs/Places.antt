@@ -1,15 +1,15 @@
 -- Which pages an extent has, and which blocks.
-use Rattle.std.proofs.Common.{◌≡◌, ◌≢◌, ℕ, ◌+◌, ◌-◌, ◌*◌, ◌<◌, ◌≤◌, ◌⊎◌, ◌&&◌, ◌||◌, Bool, true, false, not, eqb, cond, List, [], ◌∷◌, zero, suc, Option, Some, None, is_some, refl, sym, ap, subst, ◌∙◌, arith, inl, inr}
-use Rattle.std.specs.Prelude.{nat_le, nat_lt}
+use Rattle.std.proofs.Common.{◌≡◌, ℕ, ◌+◌, ◌<◌, ◌≤◌, ◌||◌, Bool, true, false, eqb, List, [], ◌∷◌, zero, suc, is_some, refl, sym, ap, ◌∙◌, arith, inl, inr}
+use Rattle.std.specs.Prelude.{nat_le}
 use Rattle.std.specs.List.{list_any, range_with_len}
 use Rattle.std.specs.Ordering.{eq_by_cmp}
 use Rattle.std.specs.FinMap as map
-use Rattle.std.proofs.lemmas.Bool.{and_from, and_left, and_parts, and_right, cases_Bool, cases_eq, cases_lt, cond-false, cond-true, eq-eqb, eqb-true, false_from_ne_true, false≢true, le-leb, leb-true, lt-ltb, ltb-true, ne_eqb, or_cases, or_left, or_right, true≢false}
-use Rattle.pc_types.specs.Spots.{Spot, place_cmp}
-use Rattle.blockmap.specs.Blocks.{Spots, has_block, is_from, is_mapped}
-use Rattle.blockmap.specs.Keys.{IsFirstFrom, NoneFrom}
+use Rattle.std.proofs.lemmas.Bool.{and_from, and_parts, eq-eqb, eqb-true, false_from_ne_true, false≢true, le-leb, leb-true, or_cases, or_left, or_right}
+use Rattle.pc_types.specs.Spots.{place_cmp}
+use Rattle.blockmap.specs.Blocks.{Spots, is_from}
+use Rattle.blockmap.specs.Keys.{NoneFrom}
 use Rattle.blockmap.proofs.MapLemmas.{any_key, same_tie}
-use Rattle.catalog.specs.Extents.{has_from, is_any_mapped}
+use Rattle.catalog.specs.Extents.{has_from}
 
 -- ---- whether a page from one on has a block
 

@@ -1,8 +1,7 @@
 -- The first reason not to take an extent.
-use Rattle.std.proofs.Common.{◌≡◌, ℕ, ◌+◌, ◌*◌, ◌<◌, ◌≤◌, Bool, true, false, not, eqb, cond, length, Option, Some, None, refl, sym, ap, ◌∙◌, arith}
-use Rattle.std.specs.Prelude.{nat_le, nat_lt}
+use Rattle.std.proofs.Common.{◌≡◌, ℕ, ◌+◌, ◌*◌, ◌<◌, ◌≤◌, Bool, true, false, not, eqb, cond, length, Option, Some, None, ap, ◌∙◌, arith}
+use Rattle.std.specs.Prelude.{nat_lt}
 use Rattle.std.proofs.lemmas.Bool.{eq-eqb, false_from_ne_true, lt-ltb, ltb-true, ne_eqb}
-use Rattle.blockmap.specs.Blocks.{is_mapped}
 use Rattle.machine.specs.Catalogs.{size_in}
 use Rattle.machine.specs.State.{page_count}
 use Rattle.catalog.specs.declared.extent.Extent.{Extent}
@@ -21,9 +20,6 @@ not_lt : (a b : ℕ) → b ≤ a → nat_lt a b ≡ false
 not_lt a b h = false_from_ne_true (nat_lt a b) (λ t. let low : a < b = ltb-true a b t in omega arith)
 
 module _ (c : Cataloged) (f : ℕ) (e : Extent) where
-  twice : Bool
-  twice = is_any_mapped c.files.spots e.block.0 (page_count c.page e.bytes)
-
   pub no_file : length c.files.sizes ≤ f → misfit c f e ≡ Some NoSuchFile
   no_file past = λ i. first_of_six (not_lt f (length c.files.sizes) past i) (eqb e.bytes 0) (nat_lt (size_in c.files f) (e.first.0 * c.page + e.bytes)) (has_from c.files.spots f e.first.0) (nat_lt c.blocks (e.block.0 + page_count c.page e.bytes)) (is_any_mapped c.files.spots e.block.0 (page_count c.page e.bytes))
 

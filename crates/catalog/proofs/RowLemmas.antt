@@ -1,10 +1,10 @@
 -- Pages that stand side by side, and the extent that they make.
-use Rattle.std.proofs.Common.{◌≡◌, ◌≢◌, ℕ, ◌+◌, ◌-◌, ◌*◌, ◌^◌, ◌<◌, ◌≤◌, ◌⊎◌, ◌&&◌, Bool, true, false, eqb, cond, List, zero, suc, Option, Some, None, is_some, option_map, refl, sym, ap, subst, ◌∙◌, arith, inl, inr, min}
+use Rattle.std.proofs.Common.{◌≡◌, ℕ, ◌+◌, ◌-◌, ◌*◌, ◌^◌, ◌<◌, ◌≤◌, ◌&&◌, eqb, List, Option, Some, None, option_map, refl, sym, ap, ◌∙◌, arith, inl, inr, min}
 use Rattle.std.specs.Prelude.{nat_le, nat_lt, slice_index}
 use Rattle.std.specs.FinMap as map
 use Rattle.std.proofs.Math.Nat.{mul-le-mul_right}
-use Rattle.std.proofs.lemmas.Bool.{and_parts, cases_Bool, cases_eq, cases_lt, cond-false, cond-true, eq-eqb, eqb-true, false≢true, leb-true, ltb-true, ne_eqb}
-use Rattle.std.proofs.lemmas.Option.{none-some, same_Some}
+use Rattle.std.proofs.lemmas.Bool.{and_parts, cases_Bool, cases_eq, cases_lt, cond-false, cond-true, eq-eqb, leb-true, ltb-true, ne_eqb}
+use Rattle.std.proofs.lemmas.Option.{none-some}
 use Rattle.pc_types.specs.Spots.{Spot}
 use Rattle.blockmap.specs.declared.spots.Placed.{Placed}
 use Rattle.blockmap.specs.Blocks.{Blocks, Spots}
@@ -12,8 +12,7 @@ use Rattle.blockmap.specs.Keys.{IsFirstFrom}
 use Rattle.blockmap.specs.Told.{told}
 use Rattle.blockmap.proofs.BlockLemmas.{told_spot}
 use Rattle.machine.specs.State.{page_count}
-use Rattle.catalog.specs.declared.extent.Extent.{Extent}
-use Rattle.catalog.specs.Extents.{IsNext, spot_in, spot_number}
+use Rattle.catalog.specs.Extents.{IsNext, spot_in}
 use Rattle.catalog.specs.Kept.{IsKept, cataloged}
 use Rattle.catalog.specs.Rows.{IsRow, valid_on}
 use Rattle.catalog.proofs.Keeping.{page_small, size_small, spot_kept}
@@ -125,9 +124,6 @@ module _ (P count : ℕ) (sizes : List ℕ) (blocks : Blocks) (is : IsKept P cou
   ]
 
   module _ (low : v < P) (x : Placed) (there : Some x ≡ option_map told (map.get blocks.spots (f, p))) (block : x.block.0 ≡ b) where
-    extent : Extent
-    extent = record { first = record { 0 = p }; block = record { 0 = b }; bytes = k * P + v }
-
     some_bytes : 0 < k * P + v
     some_bytes = elim (cases_eq k 0) [
       | inr some ↦ (let e : 1 * P ≤ k * P = mul-le-mul_right P (let h : 1 ≤ k = omega arith in h) in let s = some_page in omega arith)

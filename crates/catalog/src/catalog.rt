@@ -167,7 +167,7 @@ impl Catalog {
         })
     }
 
-    /// How many whole pages stand side by side from this one on, and how many bytes of the page after them do, 0 where none does.
+    /// How many whole pages stand side by side from this one on, and how many bytes of the next page stand behind them, 0 where none do.
     fn row(&self, file: FileId, first: PageIndex, placed: Placed) -> (u64, u64)
         requires file { file.0 < MAX_FILES }
         requires there { Some placed ≡ option_map told (map.get self.now.files.spots (file.0, first.0)) }

@@ -1,5 +1,7 @@
 //! The extents that a catalog tells, which need not be those that it was given.
 
+ghost use Rattle.std.specs.Prelude.{◌<◌};
+
 use crate::checks::same;
 use crate::rows::{empty, extent, extents_of, has_file, takes};
 use blockmap::{BlockMap, Placed};

@@ -58,10 +58,7 @@ fn a_reason_reads_so(rt: HostRuntime) -> Result<(), Fail> {
             "an extent ends past the device's last block",
         ),
         (Misfit::BlockTwice, "a block is of two pages"),
-        (
-            Misfit::Memory,
-            "no memory is left: free some and try again",
-        ),
+        (Misfit::Memory, "no memory is left: free some and try again"),
     ] {
         let is = format!(in rt.alloc(); "{reason}")?;
         check(&rt, is.as_str() == text);

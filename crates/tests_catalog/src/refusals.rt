@@ -44,11 +44,41 @@ fn an_extent_of_any_numbers_is_answered(rt: HostRuntime) {
     let last = u64::MAX;
     refuses(&rt, &mut catalog, 0, extent(last, 4, 1), Misfit::PastSize);
     refuses(&rt, &mut catalog, 0, extent(0, 4, last), Misfit::PastSize);
-    refuses(&rt, &mut catalog, 0, extent(last, 4, last), Misfit::PastSize);
-    refuses(&rt, &mut catalog, 0, extent(1 << 60, 4, 16), Misfit::PastSize);
-    refuses(&rt, &mut catalog, 0, extent(1 << 60, 4, last), Misfit::PastSize);
-    refuses(&rt, &mut catalog, 0, extent(4, u32::MAX, 16), Misfit::PastDevice);
-    refuses(&rt, &mut catalog, 0, extent(4, u32::MAX, 32), Misfit::PastDevice);
+    refuses(
+        &rt,
+        &mut catalog,
+        0,
+        extent(last, 4, last),
+        Misfit::PastSize,
+    );
+    refuses(
+        &rt,
+        &mut catalog,
+        0,
+        extent(1 << 60, 4, 16),
+        Misfit::PastSize,
+    );
+    refuses(
+        &rt,
+        &mut catalog,
+        0,
+        extent(1 << 60, 4, last),
+        Misfit::PastSize,
+    );
+    refuses(
+        &rt,
+        &mut catalog,
+        0,
+        extent(4, u32::MAX, 16),
+        Misfit::PastDevice,
+    );
+    refuses(
+        &rt,
+        &mut catalog,
+        0,
+        extent(4, u32::MAX, 32),
+        Misfit::PastDevice,
+    );
 }
 
 #[test]
@@ -92,7 +122,13 @@ fn the_first_reason_is_told(rt: HostRuntime) {
     let mut catalog = two_files(&rt, rt.alloc());
     let last = u64::MAX;
     refuses(&rt, &mut catalog, 2, extent(0, 0, 0), Misfit::NoSuchFile);
-    refuses(&rt, &mut catalog, 2, extent(last, 8, last), Misfit::NoSuchFile);
+    refuses(
+        &rt,
+        &mut catalog,
+        2,
+        extent(last, 8, last),
+        Misfit::NoSuchFile,
+    );
     refuses(&rt, &mut catalog, 0, extent(last, 8, 0), Misfit::Empty);
     refuses(&rt, &mut catalog, 0, extent(2, 8, 101), Misfit::PastSize);
     refuses(&rt, &mut catalog, 0, extent(2, 8, 16), Misfit::OutOfOrder);

@@ -33,13 +33,7 @@ pub fn takes(rt: &impl Abort, catalog: &mut Catalog, file: u64, extent: Extent) 
 pub type Extents = [Option<Extent>; 5];
 
 /// An extent is refused so, and the first two files have the extents that they had.
-pub fn refuses(
-    rt: &impl Abort,
-    catalog: &mut Catalog,
-    file: u64,
-    extent: Extent,
-    reason: Misfit,
-) {
+pub fn refuses(rt: &impl Abort, catalog: &mut Catalog, file: u64, extent: Extent, reason: Misfit) {
     let before = (extents_of(catalog, 0), extents_of(catalog, 1));
     same(rt, catalog.add_extent(FileId(file), extent), Err(reason));
     same(rt, extents_of(catalog, 0), before.0);

@@ -1,4 +1,4 @@
-use Rattle.std.proofs.Common.{sym, ap, subst, ◌∙◌, ◌≡◌, ◌<◌, arith, inl, inr}
+use Rattle.std.proofs.Common.{◌<◌, arith, inl, inr}
 use Rattle.std.proofs.lemmas.Result.{err_from_is_err_and}
 use Rattle.machine.specs.State.{page_count}
 use Rattle.catalog.proofs.Adoptions.{adopts_more, taken_before}

@@ -1,4 +1,4 @@
-use Rattle.std.proofs.Common.{List, ℕ, [], sym, subst, ◌∙◌}
+use Rattle.std.proofs.Common.{List, ℕ, sym, subst, ◌∙◌}
 use Rattle.std.specs.FinMap as map
 use Rattle.blockmap.specs.Blocks.{Blocks}
 use Rattle.catalog.specs.Kept.{IsKept}

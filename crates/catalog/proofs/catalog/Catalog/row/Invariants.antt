@@ -1,4 +1,4 @@
-use Rattle.std.proofs.Common.{ℕ, ◌+◌, ◌-◌, ◌^◌}
+use Rattle.std.proofs.Common.{◌+◌, ◌-◌, ◌^◌}
 use Rattle.catalog.specs.Rows.{IsRow}
 use Rattle.catalog.proofs.catalog.Catalog.row.Given as goal
 
