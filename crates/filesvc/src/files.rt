@@ -105,7 +105,7 @@ impl<D: BlockDevice> Solo<D> {
                 Reply::Written => {}
                 Reply::Failed(code) => return Err(Refusal::Io(code)),
                 Reply::Refused(refusal) => return Err(refusal),
-                _ => unreachable!(),
+                _ => return Err(Refusal::Busy),
             }
         }
         Ok(())
