@@ -58,7 +58,7 @@ no_idle false e = refl
 
 -- ---- a page that is to be written is found
 
-no_pick : (b d : Bool) (o : Option ℕ) → cond b (refuse NoSuchFile) (cond (not (is_some o)) (Some reply.Nothing) (cond d (refuse TooManyInFlight) None)) ≡ Some reply.Nothing → o ≡ None
+pub no_pick : (b d : Bool) (o : Option ℕ) → cond b (refuse NoSuchFile) (cond (not (is_some o)) (Some reply.Nothing) (cond d (refuse TooManyInFlight) None)) ≡ Some reply.Nothing → o ≡ None
 no_pick true d o e = absurd cc
 no_pick false true (Some p) e = absurd cc
 no_pick false false (Some p) e = absurd cc
