@@ -23,14 +23,14 @@ invariant_of-result g c = (
 pub returns-in-Ok-over-clause-fresh : goal.returns-in-Ok-over-clause-fresh
 returns-in-Ok-over-clause-fresh g c =
     subst (λ (d : Watch). seen_of c.in-Ok-over.core.state c.in-Ok.jobs d
-        ≡ adopted_world c.args.geometry.now c.args.name c.args.catalog.files (g.D.BlockDevice.told c.args.device))
+    ≡ adopted_world c.args.geometry.now c.args.name c.args.catalog.files (g.D.BlockDevice.told c.args.device))
     (sym c.over-in-Ok-over.ensures) (first_is c.args.geometry.now c.args.name c.args.catalog.files c.in-Ok-over.core.state c.in-Ok.jobs _
     (ap (λ (k : Core). k.state) c.in-Ok-over.ensures.adopted) c.in-Ok.ensures)
 
 pub returns-in-Ok-over-clause-first : goal.returns-in-Ok-over-clause-first
 returns-in-Ok-over-clause-first g c =
     subst (λ (d : Watch). IfSome (g.D.BlockDevice.told c.args.device).contents
-        (λ _. Adopts c.args.catalog.files (world_of (seen_of c.in-Ok-over.core.state c.in-Ok.jobs d))))
+    (λ _. Adopts c.args.catalog.files (world_of (seen_of c.in-Ok-over.core.state c.in-Ok.jobs d))))
     (sym c.over-in-Ok-over.ensures) (is_first c.args.geometry.now c.args.name c.args.catalog.files c.in-Ok-over.core.state c.in-Ok.jobs
     (g.D.BlockDevice.told c.args.device) (ap (λ (k : Core). k.state) c.in-Ok-over.ensures.adopted) c.in-Ok.ensures
     (let a = c.page.ensures.least in let b = c.page.ensures.value in omega arith)
