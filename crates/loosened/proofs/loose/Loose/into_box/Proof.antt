@@ -27,10 +27,11 @@ use Rattle.core.proofs.alloc.Calls.{Goes-blank}
 use Rattle.core.proofs.alloc.Shapes.{after}
 use Rattle.core.proofs.atomic.Steps.{fm}
 use Rattle.std.proofs.raw_atomic.Walks.{proved_at, leaves}
-use Rattle.std_alloc.proofs.BoxSteps.Form.{Bx, R, P, B, Good, word, box_ty, box_typed}
+use Rattle.std_alloc.proofs.BoxSteps.Form.{Bx, R, P, B, word, box_ty, box_typed}
 use Rattle.std_alloc.proofs.BoxSteps.Steps.{box_out, box_in}
 use Rattle.std_alloc.specs.contracts.boxed.Box.from_raw as from_raw
 use Rattle.std_alloc.proofs.boxed.Box.from_raw.Met.{met}
+use denote.Param.Laws.{param_laws}
 use Rattle.loosened.proofs.Parts.{Row, unties}
 use Rattle.loosened.specs.contracts.loose.Loose.into_box.{ended, clauses}
 use Rattle.loosened.specs.contracts.loose.Loose.into_box.Key.{name as #self}
@@ -44,7 +45,7 @@ into_box_spec 𝓤 𝓛 𝓜 𝓡 wired T A L LA g d dx dd allocator glue glued 
     let contract = ended T A g d dx dd in let says = clauses T A g d dx dd 𝓛 𝓜.mem 𝓡.returns in
     let inst : Args = bounded (a_type ∷ a_type ∷ []) (T, (A, tt)) (dcons d (dcons dx (dcons dd dnil))) in
     let fn = inst_fn inst code.function in
-    let slot = plain (λ _. Row E) in
+    let slot = plain (λ _. Row (R E) (P E) (param_laws 1 A LA) g) in
     let stays : Stays contract.signature.params contract.kept = (stay_dropped slot no, tt) in
     proved_at 𝓛 contract stays says 𝓜 𝓡 (Goes-blank 𝓛 2 slot no (λ κs x f. tt), tt) (#self inst) fn (code.unfolded 𝓤 H 𝓜 𝓡 wired (T, (A, tt)) d dx dd) (λ z are.
     let κs = z.0.0 in let qs = z.0.1 in let it = z.0.3.0 in
@@ -52,7 +53,7 @@ into_box_spec 𝓤 𝓛 𝓜 𝓡 wired T A L LA g d dx dd allocator glue glued 
     let Run : List Val → SProp 𝓤 = λ ws. WpFn 𝓤 H 𝓣.C 𝓣.Λ fn ws Post in
     let alive = ‵ (flft κs.0 qs.0) ⊛ ‵ (flft κs.1.0 qs.1.0) ⊛ ‵ ftrue in
     qed 𝓛 ((alive ⊛ ‵ (owns (types_at contract.signature.params κs) z.0.3 z.0.4)) ∷ raw ((says κs z.0.3).requires z.1) ∷ []) ∵
-    split ! $ move ! (1 ∷ []) $ fsplit ! $ unties E ! it z.0.4.0 (λ b o h is fits.
+    split ! $ move ! (1 ∷ []) $ fsplit ! $ unties (R E) (P E) (param_laws 1 A LA) g ! it z.0.4.0 (λ b o h is fits.
     let w : Val = word E h b o in let typed = box_typed E h b o fits in
     let call = triple_of 𝓛 (from_raw.signature T A g d dd) (from_raw.spec T A g d dd 𝓛 𝓜.mem 𝓡.returns) in
     let y : call.Ghost = ((κs, qs, tt, (it.alloc, (block_ptr b o, tt)), (h ∷ [], (vptr b o ∷ [], tt))), it.value) in

@@ -2,7 +2,7 @@
 use Rattle.std.proofs.Common.{◌≡◌, List, [], ◌∷◌, ◌++◌, refl, sym, ap, ◌∙◌, subst}
 use mir.Syntax.{a_type, dcons, dnil, Args}
 use mir.Raw.{raw as bare}
-use mir.Val.{Val, vptr, vstruct, of_list}
+use mir.Val.{Val, vstruct, of_list}
 use mir.MapTy.{inst_fn}
 use base.Logic.{SProp, ent, emp, never, id⊢, fst∗}
 use base.Fml.{ftrue, fsep, flft}
@@ -33,6 +33,7 @@ use Rattle.std_alloc.proofs.BoxSteps.Form.{Bx, R, P, B, τ, word, box_typed}
 use Rattle.std_alloc.proofs.BoxSteps.Steps.{box_out, box_in}
 use Rattle.std_alloc.specs.contracts.boxed.Box.into_raw_with_allocator as apart
 use Rattle.std_alloc.proofs.boxed.Box.into_raw_with_allocator.Met.{met}
+use denote.Param.Laws.{param_laws}
 use Rattle.loosened.proofs.Parts.{ties}
 use Rattle.loosened.specs.contracts.loose.Loose.of.{ended, clauses}
 use Rattle.loosened.specs.contracts.loose.Loose.of.Key.{name as #self}
@@ -79,7 +80,7 @@ of_spec 𝓤 𝓛 𝓜 𝓡 wired T A L LA g d dx dd allocator glue glued =
     sets ! (of_opd ! (get_in ! (fld ! refl (stop !)) (sub ! 1 refl (whole !)))) refl fits' $
     sets ! (of_opd ! (get ! refl)) refl fits' $
     sets ! (agg ! (and_then ! (get ! refl) (and_then ! (get ! refl) (no_more !)))) refl good $
-    move ! (3 ∷ 0 ∷ []) $ ties E ! b' o' h' a boxed.value $
+    move ! (3 ∷ 0 ∷ []) $ ties (R E) (P E) (param_laws 1 A LA) g ! b' o' h' a boxed.value $
     use0 𝓛 (raw (fact 𝓤 (boxed.value ≡ boxed.value))) (fact_i 𝓤 (boxed.value ≡ boxed.value) (emp 𝓤) refl) $ nothing ! $ nothing ! $ fjoin ! $
     returns ! (look_at ! 0 refl) $ free_all ! refl $ keep ! (4 ∷ 0 ∷ 2 ∷ 1 ∷ []) $
     by ! (leaves 𝓛 contract stays says z (word E h' b' o') (record { at = block_ptr b' o'; alloc = a; value = boxed.value }) ((tt, (tt, tt)), tt) (tt, tt))))))))))))))

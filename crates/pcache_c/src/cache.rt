@@ -1,0 +1,130 @@
+//! A cache with its files, and what C has to do for it.
+
+ghost use Rattle.std.specs.Prelude.{◌≡◌, ℕ, pos, Ok};
+ghost use Rattle.desk.specs.Seen.{DeskSeen};
+
+use crate::answers::{WAITS, answer};
+use crate::store::Store;
+use blockdev::MemDevice;
+use desk::Desk;
+use pc_types::{Geometry, Refusal};
+use relay::{AGAIN, Queue, RelayDevice, Task};
+use std::alloc::Global;
+use std::cell::RefCell;
+use std::marker::Model;
+use std::rc::Rc;
+
+/// Files over a device, and the queue at the device's other end where C makes its calls.
+#[derive(Drop)]
+pub struct Cache {
+    pub(crate) desk: Desk<Store>,
+    queue: Option<Rc<RefCell<Queue>>>,
+    /// How many writes may wait before a call waits for them.
+    most: u64,
+    /// The code of the last call that answered `Io`.
+    code: u16,
+}
+
+impl Model for Cache {
+    ghost use Rattle.desk.specs.Seen.{DeskSeen};
+
+    ghost Value = { DeskSeen };
+
+    ghost view = { λ c. c.desk };
+}
+
+impl Cache {
+    /// Files over blocks in memory.
+    pub fn in_memory(alloc: Global, geometry: &Geometry) -> Result<Cache, Refusal> {
+        let device = MemDevice::new(alloc, geometry.page(), geometry.blocks())?;
+        Cache::over(alloc, geometry, Store::Memory(device), None)
+    }
+
+    /// Files over a device whose calls C makes.
+    pub fn by_jobs(alloc: Global, geometry: &Geometry) -> Result<Cache, Refusal> {
+        let queue = Rc::new(alloc, RefCell::new(Queue::new(alloc)))?;
+        let device = RelayDevice::new(queue.clone()?, geometry.page(), geometry.blocks());
+        Cache::over(alloc, geometry, Store::Relay(device), Some(queue))
+    }
+
+    fn over(
+        alloc: Global,
+        geometry: &Geometry,
+        device: Store,
+        queue: Option<Rc<RefCell<Queue>>>,
+    ) -> Result<Cache, Refusal> {
+        match Desk::new(alloc, geometry, device) {
+            Ok(desk) => Ok(Cache {
+                desk,
+                queue,
+                most: geometry.dirty_limit(),
+                code: 0,
+            }),
+            Err((refusal, _)) => Err(refusal),
+        }
+    }
+
+    /// Whether so many writes wait that a call waits for C to make some.
+    pub fn is_full(&self) -> bool {
+        let Some(queue) = &self.queue else {
+            return false;
+        };
+        match queue.try_borrow() {
+            Ok(queue) => queue.waiting() >= self.most,
+            Err(_) => false,
+        }
+    }
+
+    /// What a call answers that ended so. The code of a failed device call is noted, and a call that the device could not answer yet waits.
+    pub fn answer(&mut self, done: Result<u64, Refusal>) -> i64
+        ensures counted { (n : ℕ) → result ≡ pos n → done ≡ Ok n }
+        ensures same { self.new ≡ self.old }
+    {
+        if let Err(Refusal::Io(code)) = done {
+            self.code = code.code();
+            if self.queue.is_some() && self.code == AGAIN {
+                return WAITS;
+            }
+        }
+        answer(done)
+    }
+
+    /// The code of the last call that answered `Io`, or 0.
+    pub fn code(&self) -> u16 {
+        self.code
+    }
+
+    /// C's next job. A write's bytes are put into `bytes`.
+    pub fn next(&self, bytes: &mut [u8]) -> Result<Option<Task>, Refusal>
+    {
+        let Some(queue) = &self.queue else {
+            return Ok(None);
+        };
+        let Ok(queue) = queue.try_borrow() else {
+            return Err(Refusal::Busy);
+        };
+        let task = queue.next();
+        if let Some(Task::Write(_)) = task {
+            queue.copy_next(bytes)?;
+        }
+        Ok(task)
+    }
+
+    /// Takes in how C's job ended.
+    pub fn end(
+        &mut self,
+        task: Task,
+        bytes: &[u8],
+        outcome: Result<(), pc_types::ErrCode>,
+    ) -> Result<(), Refusal>
+        ensures { self.new ≡ self.old }
+    {
+        let Some(queue) = &self.queue else {
+            return Err(Refusal::Stranger);
+        };
+        let Ok(mut queue) = queue.try_borrow_mut() else {
+            return Err(Refusal::Busy);
+        };
+        queue.end(task, bytes, outcome)
+    }
+}
