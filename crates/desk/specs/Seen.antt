@@ -1,12 +1,14 @@
 -- What is seen of a desk.
-use Rattle.std.specs.Prelude.{◌≡◌, ℕ, List, Option, Some, None, slice_get, unwrap_or}
+use Rattle.std.specs.Prelude.{List, ℕ}
+use Rattle.runs.specs.Plain.{plain_file}
 use Rattle.filesvc.specs.Seen.{HandleSeen, SoloSeen}
+use Rattle.filesvc.specs.Service.{files}
 
--- the service, and what stands at each number of the table: a handle, or none
+-- the service, and the handle of its file
 pub record DeskSeen : Type 0 where
   pub service : SoloSeen
-  pub table : List (Option HandleSeen)
+  pub handle : HandleSeen
 
--- the handle at a number
-abbrev pub handle_at : List (Option HandleSeen) → ℕ → Option HandleSeen
-handle_at table n = unwrap_or (slice_get table n) None
+-- the file, where the device tells its contents
+abbrev pub file_of : DeskSeen → List ℕ
+file_of d = plain_file (files d.service) d.handle.file

@@ -1,98 +1,111 @@
-//! The table of open handles, and what comes and goes there.
+//! A file with its cache.
 
-ghost use Rattle.std.specs.Prelude.{◌≡◌, ◌≤◌, [], None, Some, Err, IfOk, IfErr, IfSome, OnOk, is_some, true, if◌then◌else◌};
-ghost use Rattle.pc_types.specs.declared.refusal.Refusal.TheVariants.{BadConfig, BadHandle, Memory};
-ghost use Rattle.machine.specs.declared.event.Event.TheVariants as event;
-ghost use Rattle.machine.specs.Step.{Step};
-ghost use Rattle.cachecore.specs.Replies.{created};
-ghost use Rattle.world.specs.Stepping.{first_world, fits};
-ghost use Rattle.filesvc.specs.Service.{FilesAfter};
-ghost use Rattle.desk.specs.Seen.{handle_at};
+ghost use Rattle.std.specs.Prelude.{◌≡◌, ◌-◌, ◌≤◌, IfOk, OnOk, OnErr, length, take, min};
+ghost use Rattle.pc_types.specs.Files as plain;
+ghost use Rattle.machine.specs.State.{file_at};
+ghost use Rattle.filesvc.specs.Service.{AreOnDevice, IsOnDevice, Tells};
+ghost use Rattle.desk.specs.Seen.{file_of};
 
+use crate::long::{read_long, write_long};
 use blockdev::BlockDevice;
-use filesvc::{Handle, Solo};
-use pc_types::{FileId, Geometry, Refusal};
-use std::alloc::Global;
+use filesvc::{Handle, Seek, Solo};
+use pc_types::{ErrCode, PageIndex, Refusal};
 use std::marker::Model;
 
-/// A service, and its open handles by number.
+/// A service with one file, and the file's handle.
 #[derive(Drop)]
 pub struct Desk<D: BlockDevice> {
-    pub(crate) solo: Solo<D>,
-    pub(crate) table: Vec<Option<Handle>>,
+    solo: Solo<D>,
+    handle: Handle,
     /// Bytes of a page.
-    pub(crate) page: u64,
+    page: u64,
 }
 
 impl<D: BlockDevice> Model for Desk<D> {
-    ghost use Rattle.std.specs.Prelude.{All, IfSome};
+    ghost use Rattle.std.specs.Coded.{codes, coded_ℕ};
+    ghost use Rattle.std.specs.FinMap as map;
+    ghost use Rattle.std.specs.Ordering.{nat_cmp};
+    ghost use Rattle.std.specs.Prelude.{ℕ, List};
+    ghost use Rattle.atomic_table.specs.Seated.{table_id_coded};
+    ghost use Rattle.machine.specs.inside.Codes.{state_code};
+    ghost use Rattle.machine.specs.declared.event.Outcome.{Outcome};
     ghost use Rattle.filesvc.specs.Service.{IsOpen};
     ghost use Rattle.desk.specs.Seen.{DeskSeen};
 
     ghost Value = { DeskSeen };
 
-    ghost view = { λ d. record { service = d.solo; table = d.table.items } };
+    ghost coded = { Prim.hlevel (codes, state_code, table_id_coded, map.code {X = Outcome} {R = nat_cmp} coded_ℕ (Prim.hlevel codes), map.code {X = List ℕ} {R = nat_cmp} coded_ℕ (Prim.hlevel codes)) };
 
-    ghost invariant = { λ d. All (λ o. IfSome o (IsOpen d.solo)) d.table.items };
+    ghost view = { λ d. record { service = d.solo; handle = d.handle } };
+
+    ghost invariant = { λ d. IsOpen d.solo d.handle };
 }
 
 impl<D: BlockDevice> Desk<D> {
-    /// A desk without files over a device. Refused as `Solo::new` is, and then the device comes back.
-    pub fn new(alloc: Global, geometry: &Geometry, device: D) -> Result<Desk<D>, (Refusal, D)>
-        ensures fresh { IfOk result (λ d. (d.service.world ≡ first_world geometry.now 1 (D.told device)) × (d.table ≡ [])) }
-        ensures refused { IfErr result (λ e. e.0 ≡ (if fits geometry.now (D.told device) then Memory else BadConfig)) }
-        ensures back { IfErr result (λ e. e.1 ≡ device) }
+    /// A new file of a service, without bytes; a page of it has so many bytes. Refused by want of memory, or where the service has all
+    /// its files already.
+    pub fn over(mut solo: Solo<D>, page: u64) -> Result<Desk<D>, Refusal>
+        ensures tells { Tells solo → IfOk result (λ d. Tells d.service) }
     {
-        let solo = Solo::new(alloc, geometry, 1, device)?;
-        Ok(Desk {
-            solo,
-            table: Vec::new(alloc),
-            page: geometry.page(),
-        })
+        let file = solo.create()?;
+        let handle = solo.open(file, false)?;
+        Ok(Desk { solo, handle, page })
     }
 
-    /// A new file, without bytes.
-    pub fn create(&mut self) -> Result<FileId, Refusal>
-        ensures step { Step self.old.service.world.core event.Create (created result) self.new.service.world.core }
-        ensures files { FilesAfter self.old.service event.Create (created result) self.new.service }
-        ensures table { self.new.table ≡ self.old.table }
+    /// Reads the bytes from `offset` on into the front of `out`, and answers how many: as many as it takes, and none past the end of
+    /// the file. Where it is refused, a part may have been put into `out`.
+    pub fn pread(&mut self, offset: u64, out: &mut [u8]) -> Result<u64, Refusal>
+        ensures bytes { Tells self.old.service → IfOk result (λ n. take n out.new ≡ plain.pread (file_of self.old) offset (length out.old)) }
+        ensures all { IfOk result (λ n. n ≡ min (length out.old) ((file_at self.old.service.world.core self.old.handle.file).size - offset)) }
+        ensures file { Tells self.old.service → file_of self.new ≡ file_of self.old }
+        ensures tells { Tells self.old.service → Tells self.new.service }
     {
-        self.solo.create()
+        read_long(&mut self.solo, &self.handle, self.page, offset, out)
     }
 
-    /// Opens a file, and answers the handle's number, the lowest at which none stands.
-    pub fn open(&mut self, file: FileId) -> Result<u64, Refusal>
-        ensures opened { IfOk result (λ n. is_some (handle_at self.new.table n) ≡ true) }
-        ensures file { IfOk result (λ n. IfSome (handle_at self.new.table n) (λ h. h.file ≡ file.0)) }
+    /// Writes bytes into the file from `offset` on, and answers how many from their front: all, or as many as were written before a part
+    /// was refused. It is refused where nothing was written.
+    pub fn pwrite(&mut self, offset: u64, bytes: &[u8]) -> Result<u64, Refusal>
+        ensures count { IfOk result (λ n. n ≤ length bytes.now) }
+        ensures file { Tells self.old.service → IfOk result (λ n. file_of self.new ≡ plain.pwrite (file_of self.old) offset (take n bytes.now)) }
+        ensures refused { Tells self.old.service → OnErr result (file_of self.new ≡ file_of self.old) }
+        ensures tells { Tells self.old.service → Tells self.new.service }
     {
-        let handle = self.solo.open(file, false)?;
-        match self.table.iter().position(|place| place.is_none()) {
-            Some(number) => {
-                self.table[number] = Some(handle);
-                Ok(number as u64)
-            }
-            None => {
-                let number = self.table.len() as u64;
-                self.table.push(Some(handle))?;
-                Ok(number)
-            }
-        }
+        write_long(&mut self.solo, &self.handle, self.page, offset, bytes)
     }
 
-    /// Closes a handle. Its number is free then.
-    pub fn close(&mut self, number: u64) -> Result<(), Refusal>
-        ensures stranger { handle_at self.old.table number ≡ None → (result ≡ Err BadHandle) × (self.new ≡ self.old) }
-        ensures closed { OnOk result (handle_at self.new.table number ≡ None) }
+    /// Makes the file as long as this.
+    pub fn truncate(&mut self, size: u64) -> Result<(), Refusal>
+        ensures tells { Tells self.old.service → Tells self.new.service }
     {
-        let Some(place) = self.table.get_mut(number as usize) else {
-            return Err(Refusal::BadHandle);
-        };
-        let Some(handle) = place.take() else {
-            return Err(Refusal::BadHandle);
-        };
-        match self.solo.close(handle) {
-            Ok(()) => Ok(()),
-            Err((refusal, _)) => Err(refusal),
-        }
+        self.solo.truncate(&self.handle, size)
+    }
+
+    /// How long the file is.
+    pub fn size(&mut self) -> Result<u64, Refusal> {
+        self.solo.seek(&mut self.handle, Seek::End(0))
+    }
+
+    /// Writes the file's dirty pages to the device, and has it make them durable, as `Solo::fsync` does.
+    pub fn fsync(&mut self) -> Result<(), Refusal>
+        ensures synced { Tells self.old.service → OnOk result (IsOnDevice self.new.service self.old.handle.file) }
+        ensures durable { OnOk result (self.new.service.world.device.durable ≡ self.new.service.world.device.contents) }
+    {
+        self.solo.fsync(&mut self.handle)
+    }
+
+    /// The same for these pages alone.
+    pub fn fsync_range(&mut self, first: PageIndex, last: PageIndex) -> Result<(), Refusal>
+        ensures synced { Tells self.old.service → OnOk result (AreOnDevice self.new.service self.old.handle.file first last) }
+        ensures durable { OnOk result (self.new.service.world.device.durable ≡ self.new.service.world.device.contents) }
+    {
+        self.solo.fsync_range(&mut self.handle, first, last)
+    }
+
+    /// The code of the last failed write of the file that was not told, where there is one. All are told then.
+    pub fn poll_error(&mut self) -> Result<Option<ErrCode>, Refusal>
+        ensures service { self.new.service.world ≡ self.old.service.world }
+    {
+        self.solo.poll_error(&mut self.handle)
     }
 }

@@ -4,7 +4,7 @@ ghost use Rattle.std.specs.Prelude.{◌≡◌, ◌-◌, ◌<◌, ◌≤◌, IfOk
 ghost use Rattle.pc_types.specs.Files as plain;
 ghost use Rattle.machine.specs.State.{file_at};
 ghost use Rattle.runs.specs.Plain.{plain_file};
-ghost use Rattle.filesvc.specs.Service.{IsOpen, Keeps, Names, Serves, Tells, files};
+ghost use Rattle.filesvc.specs.Service.{IsOpen, Keeps, Serves, Tells, files};
 
 use blockdev::BlockDevice;
 use filesvc::{Handle, Solo};
@@ -29,22 +29,22 @@ pub(crate) fn read_long<D: BlockDevice>(
     out: &mut [u8],
 ) -> Result<u64, Refusal>
     requires open { IsOpen solo.old handle.now }
-    requires names { Names solo.old handle.now }
     ensures serves { Serves solo.old solo.new }
     ensures bytes { Tells solo.old → IfOk result (λ n. take n out.new ≡ plain.pread (plain_file (files solo.old) handle.now.file) offset (length out.old)) }
     ensures all { IfOk result (λ n. n ≡ min (length out.old) ((file_at solo.old.world.core handle.now.file).size - offset)) }
 {
     let mut done = 0;
     'parts: while done < out.len() {
+        // no file has bytes past the last offset, so none is wanted there
         let Some(at) = offset.checked_add(done as u64) else {
-            break 'parts;
+            return Err(Refusal::TooLarge);
         };
         let end = out.len().min(done.saturating_add(span(page, at) as usize));
         let part = &mut out[done..end];
         let count = solo.pread(handle, at, part)? as usize;
         done += count;
         if done < end {
-            break 'parts;
+            return Ok(done as u64);
         }
     }
     Ok(done as u64)
@@ -59,7 +59,6 @@ pub(crate) fn write_long<D: BlockDevice>(
     bytes: &[u8],
 ) -> Result<u64, Refusal>
     requires open { IsOpen solo.old handle.now }
-    requires names { Names solo.old handle.now }
     ensures keeps { Keeps solo.old solo.new }
     ensures count { IfOk result (λ n. n ≤ length bytes.now) }
     ensures file { Tells solo.old → IfOk result (λ n. plain_file (files solo.new) handle.now.file ≡ plain.pwrite (plain_file (files solo.old) handle.now.file) offset (take n bytes.now)) }
@@ -67,12 +66,18 @@ pub(crate) fn write_long<D: BlockDevice>(
 {
     let mut done = 0;
     'parts: while done < bytes.len() {
-        let at = offset.saturating_add(done as u64);
+        let Some(at) = offset.checked_add(done as u64) else {
+            return Ok(done as u64);
+        };
         let end = bytes.len().min(done.saturating_add(span(page, at) as usize));
         match solo.pwrite(handle, at, &bytes[done..end]) {
             Ok(_) => done = end,
-            Err(refusal) if done == 0 => return Err(refusal),
-            Err(_) => break 'parts,
+            Err(refusal) => {
+                if done == 0 {
+                    return Err(refusal);
+                }
+                return Ok(done as u64);
+            }
         }
     }
     Ok(done as u64)
