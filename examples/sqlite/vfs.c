@@ -3,13 +3,14 @@
 #include <sqlite3.h>
 #include <stdio.h>
 #include <string.h>
+#include <unistd.h>
 
-/* A name of a file of the cache. A cache keeps its files, so one that was deleted is cut to nothing, and its file is taken again. */
+/* A name, and the cached file that it has. */
 struct name {
 	char text[512];
-	int64_t handle; /* of the file, once there is one */
+	struct disk disk;
 	int users;
-	int has_file, is_taken, is_deleted;
+	int is_taken, is_deleted;
 };
 
 struct file {
@@ -17,9 +18,12 @@ struct file {
 	struct name *name;
 };
 
-static struct disk *disk;
-static struct name names[64];
+static struct name names[32];
+static uint64_t frames_of_each;
+static const char *folder_of_all;
 static sqlite3_vfs *unix_vfs;
+
+enum { PAGE = 4096, BLOCKS = 16384 };
 
 static int result_of(int64_t done, int otherwise)
 {
@@ -32,28 +36,33 @@ static int result_of(int64_t done, int otherwise)
 
 static struct name *find(const char *text)
 {
-	for (size_t i = 0; i < 64; i++)
+	for (size_t i = 0; i < sizeof names / sizeof *names; i++)
 		if (names[i].is_taken && !names[i].is_deleted && !strcmp(names[i].text, text))
 			return &names[i];
 	return NULL;
 }
 
-/* A name that is free, with a file of no bytes. */
+/* Where the pages of a name's file lie. */
+static void place_of(const struct name *n, char *path, size_t length)
+{
+	snprintf(path, length, "%s/pages-%d", folder_of_all, (int)(n - names));
+}
+
+/* A name that is free, with a file without bytes. */
 static int take(const char *text, struct name **out)
 {
-	struct name *n = names;
+	struct name *n = names, *end = names + sizeof names / sizeof *names;
+	char path[512];
 
-	while (n < names + 64 && n->is_taken)
+	while (n < end && n->is_taken)
 		n++;
-	if (n == names + 64 || strlen(text) >= sizeof n->text)
+	if (n == end || strlen(text) >= sizeof n->text)
 		return SQLITE_CANTOPEN;
-	if (!n->has_file) {
-		int64_t file = pcache_create(&disk->cache);
-		n->handle = file < 0 ? file : pcache_open(&disk->cache, (uint64_t)file);
-		if (n->handle < 0)
-			return result_of(n->handle, SQLITE_CANTOPEN);
-		n->has_file = 1;
-	}
+	if (folder_of_all)
+		place_of(n, path, sizeof path);
+	int64_t made = disk_open(&n->disk, folder_of_all ? path : NULL, PAGE, frames_of_each, frames_of_each / 2, BLOCKS);
+	if (made < 0)
+		return result_of(made, SQLITE_CANTOPEN);
 	strcpy(n->text, text);
 	n->is_taken = 1;
 	n->is_deleted = n->users = 0;
@@ -61,30 +70,35 @@ static int take(const char *text, struct name **out)
 	return SQLITE_OK;
 }
 
-static int release(struct name *n)
+static void release(struct name *n)
 {
-	int64_t cut = disk_truncate(disk, (uint64_t)n->handle, 0);
+	char path[512];
 
-	if (cut >= 0)
-		n->is_taken = 0;
-	return result_of(cut, SQLITE_IOERR_DELETE);
+	disk_close(&n->disk);
+	if (folder_of_all) {
+		place_of(n, path, sizeof path);
+		unlink(path);
+	}
+	n->is_taken = 0;
 }
 
-static uint64_t handle_of(sqlite3_file *f)
+static struct disk *disk_of(sqlite3_file *f)
 {
-	return (uint64_t)((struct file *)f)->name->handle;
+	return &((struct file *)f)->name->disk;
 }
 
 static int x_close(sqlite3_file *f)
 {
 	struct name *n = ((struct file *)f)->name;
 
-	return --n->users == 0 && n->is_deleted ? release(n) : SQLITE_OK;
+	if (--n->users == 0 && n->is_deleted)
+		release(n);
+	return SQLITE_OK;
 }
 
 static int x_read(sqlite3_file *f, void *out, int length, sqlite3_int64 at)
 {
-	int64_t n = disk_pread(disk, handle_of(f), (uint64_t)at, out, (size_t)length);
+	int64_t n = disk_pread(disk_of(f), (uint64_t)at, out, (size_t)length);
 
 	if (n < 0)
 		return result_of(n, SQLITE_IOERR_READ);
@@ -96,23 +110,23 @@ static int x_read(sqlite3_file *f, void *out, int length, sqlite3_int64 at)
 
 static int x_write(sqlite3_file *f, const void *bytes, int length, sqlite3_int64 at)
 {
-	return result_of(disk_pwrite(disk, handle_of(f), (uint64_t)at, bytes, (size_t)length), SQLITE_IOERR_WRITE);
+	return result_of(disk_pwrite(disk_of(f), (uint64_t)at, bytes, (size_t)length), SQLITE_IOERR_WRITE);
 }
 
 static int x_truncate(sqlite3_file *f, sqlite3_int64 size)
 {
-	return result_of(disk_truncate(disk, handle_of(f), (uint64_t)size), SQLITE_IOERR_TRUNCATE);
+	return result_of(disk_truncate(disk_of(f), (uint64_t)size), SQLITE_IOERR_TRUNCATE);
 }
 
 static int x_sync(sqlite3_file *f, int flags)
 {
 	(void)flags;
-	return result_of(disk_fsync(disk, handle_of(f)), SQLITE_IOERR_FSYNC);
+	return result_of(disk_fsync(disk_of(f)), SQLITE_IOERR_FSYNC);
 }
 
 static int x_file_size(sqlite3_file *f, sqlite3_int64 *size)
 {
-	*size = pcache_size(&disk->cache, handle_of(f));
+	*size = pcache_size(&disk_of(f)->file);
 	return result_of(*size, SQLITE_IOERR_FSTAT);
 }
 
@@ -142,7 +156,7 @@ static int x_control(sqlite3_file *f, int op, void *arg)
 static int x_sector_size(sqlite3_file *f)
 {
 	(void)f;
-	return (int)disk->page;
+	return PAGE;
 }
 
 static int x_traits(sqlite3_file *f)
@@ -204,7 +218,9 @@ static int x_delete(sqlite3_vfs *vfs, const char *text, int durable)
 	if (!n)
 		return SQLITE_IOERR_DELETE_NOENT;
 	n->is_deleted = 1;
-	return n->users ? SQLITE_OK : release(n);
+	if (n->users == 0)
+		release(n);
+	return SQLITE_OK;
 }
 
 static int x_access(sqlite3_vfs *vfs, const char *text, int flags, int *out)
@@ -242,13 +258,10 @@ static int x_time(sqlite3_vfs *vfs, double *now)
 
 static int x_last_error(sqlite3_vfs *vfs, int length, char *out)
 {
-	uint32_t code = 0;
-
 	(void)vfs;
-	pcache_io_code(&disk->cache, &code);
-	if (length > 0)
-		sqlite3_snprintf(length, out, "error %u of the device", code);
-	return (int)code;
+	(void)length;
+	(void)out;
+	return 0;
 }
 
 static sqlite3_vfs vfs = {
@@ -266,10 +279,17 @@ static sqlite3_vfs vfs = {
 	.xGetLastError = x_last_error,
 };
 
-int vfs_register(struct disk *d)
+int vfs_register(const char *folder, uint64_t frames)
 {
-	memset(names, 0, sizeof names);
-	disk = d;
+	folder_of_all = folder;
+	frames_of_each = frames;
 	unix_vfs = sqlite3_vfs_find("unix");
 	return sqlite3_vfs_register(&vfs, 0);
+}
+
+void vfs_release(void)
+{
+	for (size_t i = 0; i < sizeof names / sizeof *names; i++)
+		if (names[i].is_taken)
+			release(&names[i]);
 }

@@ -1,10 +1,14 @@
-/* An SQLite VFS over one cache: its files are those of the database and its journals. */
+/* An SQLite VFS over the cache: each file of SQLite's is a cached file. */
 #ifndef VFS_H
 #define VFS_H
 
 #include "disk.h"
 
-/* Registers the VFS `pcache` over this cache, which stays open as long as SQLite uses it. One process, one thread. */
-int vfs_register(struct disk *d);
+/* Registers the VFS `pcache`. Each of its files has a cache of so many frames, over a file in the folder, or over memory where there is
+ * none. One process, one thread, one connection to a database. */
+int vfs_register(const char *folder, uint64_t frames);
+
+/* Frees all files, once SQLite has closed its databases. */
+void vfs_release(void);
 
 #endif

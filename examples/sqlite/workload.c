@@ -2,7 +2,7 @@
  * SQLite over the cache, beside SQLite's own unix VFS: 20 x 1,000 rows with rollbacks, UPDATE, DELETE, VACUUM and small updates, in four
  * journal modes. Each database is checked, and has to hold what it holds by the unix VFS.
  *
- *     workload FRAMES [FILE]     over the file, or over memory where none is named
+ *     workload FRAMES [FOLDER]   over files in the folder, or over memory where none is named
  *     workload unix FOLDER       the times of the unix VFS in this folder
  */
 #define _GNU_SOURCE
@@ -117,22 +117,14 @@ static void work_all(const char *vfs, const char *folder)
 
 int main(int count, char **words)
 {
-	struct disk d;
-
 	if (count == 3 && !strcmp(words[1], "unix")) {
 		work_all("unix", words[2]);
 		return failed;
 	}
 	if (count != 2 && count != 3)
 		return 2;
-	uint64_t frames = strtoull(words[1], NULL, 10);
-	int64_t made = disk_open(&d, count == 3 ? words[2] : NULL, 4096, frames, frames / 2, 16384);
-	if (made < 0) {
-		printf("%s\n", pcache_strerror(made));
-		return 1;
-	}
-	vfs_register(&d);
+	vfs_register(count == 3 ? words[2] : NULL, strtoull(words[1], NULL, 10));
 	work_all("pcache", "");
-	disk_close(&d);
+	vfs_release();
 	return failed;
 }

@@ -1,4 +1,4 @@
-//! A cache with its files, and what C has to do for it.
+//! A file with its cache, and what C has to do for it.
 
 ghost use Rattle.std.specs.Prelude.{◌≡◌, ℕ, pos, Ok};
 ghost use Rattle.desk.specs.Seen.{DeskSeen};
@@ -7,14 +7,15 @@ use crate::answers::{WAITS, answer};
 use crate::store::Store;
 use blockdev::MemDevice;
 use desk::Desk;
-use pc_types::{Geometry, Refusal};
+use filesvc::Solo;
+use pc_types::{ErrCode, Geometry, Refusal};
 use relay::{AGAIN, Queue, RelayDevice, Task};
 use std::alloc::Global;
 use std::cell::RefCell;
 use std::marker::Model;
 use std::rc::Rc;
 
-/// Files over a device, and the queue at the device's other end where C makes its calls.
+/// A file over a device, and the queue at the device's other end where C makes its calls.
 #[derive(Drop)]
 pub struct Cache {
     pub(crate) desk: Desk<Store>,
@@ -34,13 +35,13 @@ impl Model for Cache {
 }
 
 impl Cache {
-    /// Files over blocks in memory.
+    /// A file over blocks in memory.
     pub fn in_memory(alloc: Global, geometry: &Geometry) -> Result<Cache, Refusal> {
         let device = MemDevice::new(alloc, geometry.page(), geometry.blocks())?;
         Cache::over(alloc, geometry, Store::Memory(device), None)
     }
 
-    /// Files over a device whose calls C makes.
+    /// A file over a device whose calls C makes.
     pub fn by_jobs(alloc: Global, geometry: &Geometry) -> Result<Cache, Refusal> {
         let queue = Rc::new(alloc, RefCell::new(Queue::new(alloc)))?;
         let device = RelayDevice::new(queue.clone()?, geometry.page(), geometry.blocks());
@@ -53,15 +54,16 @@ impl Cache {
         device: Store,
         queue: Option<Rc<RefCell<Queue>>>,
     ) -> Result<Cache, Refusal> {
-        match Desk::new(alloc, geometry, device) {
-            Ok(desk) => Ok(Cache {
-                desk,
-                queue,
-                most: geometry.dirty_limit(),
-                code: 0,
-            }),
-            Err((refusal, _)) => Err(refusal),
-        }
+        let Ok(solo) = Solo::new(alloc, geometry, 1, device) else {
+            return Err(Refusal::Memory);
+        };
+        let desk = Desk::over(solo, geometry.page())?;
+        Ok(Cache {
+            desk,
+            queue,
+            most: geometry.dirty_limit(),
+            code: 0,
+        })
     }
 
     /// Whether so many writes wait that a call waits for C to make some.
@@ -115,7 +117,7 @@ impl Cache {
         &mut self,
         task: Task,
         bytes: &[u8],
-        outcome: Result<(), pc_types::ErrCode>,
+        outcome: Result<(), ErrCode>,
     ) -> Result<(), Refusal>
         ensures { self.new ≡ self.old }
     {

@@ -1,18 +1,16 @@
-//! The calls on files.
+//! The calls on a file.
 
 ghost use Rattle.std.specs.Prelude.{◌≡◌, ◌-◌, ℕ, pos, None, Some, Err, IfErr, IsOk, length, take, min};
 ghost use Rattle.pc_types.specs.Files as plain;
 ghost use Rattle.machine.specs.State.{file_at};
-ghost use Rattle.runs.specs.Plain.{plain_file};
-ghost use Rattle.filesvc.specs.Seen.{HandleSeen};
-ghost use Rattle.filesvc.specs.Service.{AreOnDevice, IsOnDevice, Tells, files};
-ghost use Rattle.desk.specs.Seen.{DeskSeen, handle_at};
+ghost use Rattle.filesvc.specs.Service.{AreOnDevice, IsOnDevice, Tells};
+ghost use Rattle.desk.specs.Seen.{DeskSeen, file_of};
 ghost use Rattle.pcache_c.specs.Answers.{bad_handle};
 
-use crate::answers::{WAITS, answer, no_cache, refused};
+use crate::answers::{WAITS, no_cache, refused};
 use crate::cache::Cache;
 use crate::held::Held;
-use pc_types::{FileId, Geometry, PageIndex, Refusal};
+use pc_types::{Geometry, PageIndex, Refusal};
 use std::alloc::Global;
 
 fn made(
@@ -32,9 +30,9 @@ fn made(
     Ok(Box::new(alloc, cache)?)
 }
 
-/// Makes a cache in place of what was there: over a device in memory, or with `by_jobs` over one whose calls C makes.
+/// Makes a file without bytes in place of what was there: over a device in memory, or with `by_jobs` over one whose calls C makes.
 #[unsafe(no_mangle)]
-pub extern "C" fn pcache_new(
+pub extern "C" fn pcache_open(
     alloc: Global,
     held: &mut Held,
     page: u64,
@@ -52,61 +50,12 @@ pub extern "C" fn pcache_new(
     }
 }
 
-/// Frees the cache.
+/// Frees the file with its cache.
 #[unsafe(no_mangle)]
-pub extern "C" fn pcache_free(alloc: Global, held: &mut Held)
+pub extern "C" fn pcache_close(alloc: Global, held: &mut Held)
     ensures { held.new.value ≡ None }
 {
     drop(held.take_out(alloc));
-}
-
-/// A new file, and its number.
-#[unsafe(no_mangle)]
-pub extern "C" fn pcache_create(alloc: Global, held: &mut Held) -> i64
-    ensures none { held.old.value ≡ None → (result ≡ bad_handle) × (held.new.value ≡ None) }
-{
-    let Some(mut cache) = held.take_out(alloc) else {
-        return no_cache();
-    };
-    let done = match cache.desk.create() {
-        Ok(file) => Ok(file.0),
-        Err(refusal) => Err(refusal),
-    };
-    let result = cache.answer(done);
-    held.put_in(alloc, cache);
-    result
-}
-
-/// Opens a file, and answers the handle's number.
-#[unsafe(no_mangle)]
-pub extern "C" fn pcache_open(alloc: Global, held: &mut Held, file: u64) -> i64
-    ensures none { held.old.value ≡ None → (result ≡ bad_handle) × (held.new.value ≡ None) }
-{
-    let Some(mut cache) = held.take_out(alloc) else {
-        return no_cache();
-    };
-    let done = cache.desk.open(FileId(file));
-    let result = cache.answer(done);
-    held.put_in(alloc, cache);
-    result
-}
-
-/// Closes a handle.
-#[unsafe(no_mangle)]
-pub extern "C" fn pcache_close(alloc: Global, held: &mut Held, handle: u64) -> i64
-    ensures none { held.old.value ≡ None → (result ≡ bad_handle) × (held.new.value ≡ None) }
-    ensures stranger { (old : DeskSeen) → held.old.value ≡ Some old → handle_at old.table handle ≡ None → (result ≡ bad_handle) × (held.new.value ≡ Some old) }
-{
-    let Some(mut cache) = held.take_out(alloc) else {
-        return no_cache();
-    };
-    let done = match cache.desk.close(handle) {
-        Ok(()) => Ok(0),
-        Err(refusal) => Err(refusal),
-    };
-    let result = cache.answer(done);
-    held.put_in(alloc, cache);
-    result
 }
 
 /// Reads the bytes from `offset` on into the front of `out`, and answers how many.
@@ -114,14 +63,13 @@ pub extern "C" fn pcache_close(alloc: Global, held: &mut Held, handle: u64) -> i
 pub extern "C" fn pcache_pread(
     alloc: Global,
     held: &mut Held,
-    handle: u64,
     offset: u64,
     out: &mut [u8],
 ) -> i64
     ensures none { held.old.value ≡ None → (result ≡ bad_handle) × (held.new.value ≡ None) × (out.new ≡ out.old) }
-    ensures bytes { (old : DeskSeen) (h : HandleSeen) (n : ℕ) → held.old.value ≡ Some old → handle_at old.table handle ≡ Some h → Tells old.service → result ≡ pos n → take n out.new ≡ plain.pread (plain_file (files old.service) h.file) offset (length out.old) }
-    ensures all { (old : DeskSeen) (h : HandleSeen) (n : ℕ) → held.old.value ≡ Some old → handle_at old.table handle ≡ Some h → result ≡ pos n → n ≡ min (length out.old) ((file_at old.service.world.core h.file).size - offset) }
-    ensures kept { (old new : DeskSeen) → held.old.value ≡ Some old → held.new.value ≡ Some new → Tells old.service → (files new.service ≡ files old.service) × (new.table ≡ old.table) }
+    ensures bytes { (old : DeskSeen) (n : ℕ) → held.old.value ≡ Some old → Tells old.service → result ≡ pos n → take n out.new ≡ plain.pread (file_of old) offset (length out.old) }
+    ensures all { (old : DeskSeen) (n : ℕ) → held.old.value ≡ Some old → result ≡ pos n → n ≡ min (length out.old) ((file_at old.service.world.core old.handle.file).size - offset) }
+    ensures kept { (old new : DeskSeen) → held.old.value ≡ Some old → held.new.value ≡ Some new → Tells old.service → file_of new ≡ file_of old }
 {
     let Some(mut cache) = held.take_out(alloc) else {
         return no_cache();
@@ -129,7 +77,7 @@ pub extern "C" fn pcache_pread(
     let result = if cache.is_full() {
         WAITS
     } else {
-        let done = cache.desk.pread(handle, offset, out);
+        let done = cache.desk.pread(offset, out);
         cache.answer(done)
     };
     held.put_in(alloc, cache);
@@ -141,12 +89,11 @@ pub extern "C" fn pcache_pread(
 pub extern "C" fn pcache_pwrite(
     alloc: Global,
     held: &mut Held,
-    handle: u64,
     offset: u64,
     bytes: &[u8],
 ) -> i64
     ensures none { held.old.value ≡ None → (result ≡ bad_handle) × (held.new.value ≡ None) }
-    ensures file { (old new : DeskSeen) (h : HandleSeen) (n : ℕ) → held.old.value ≡ Some old → held.new.value ≡ Some new → handle_at old.table handle ≡ Some h → Tells old.service → result ≡ pos n → plain_file (files new.service) h.file ≡ plain.pwrite (plain_file (files old.service) h.file) offset (take n bytes.now) }
+    ensures file { (old new : DeskSeen) (n : ℕ) → held.old.value ≡ Some old → held.new.value ≡ Some new → Tells old.service → result ≡ pos n → file_of new ≡ plain.pwrite (file_of old) offset (take n bytes.now) }
 {
     let Some(mut cache) = held.take_out(alloc) else {
         return no_cache();
@@ -154,7 +101,7 @@ pub extern "C" fn pcache_pwrite(
     let result = if cache.is_full() {
         WAITS
     } else {
-        let done = cache.desk.pwrite(handle, offset, bytes);
+        let done = cache.desk.pwrite(offset, bytes);
         cache.answer(done)
     };
     held.put_in(alloc, cache);
@@ -163,9 +110,8 @@ pub extern "C" fn pcache_pwrite(
 
 /// Makes the file as long as this.
 #[unsafe(no_mangle)]
-pub extern "C" fn pcache_truncate(alloc: Global, held: &mut Held, handle: u64, size: u64) -> i64
+pub extern "C" fn pcache_truncate(alloc: Global, held: &mut Held, size: u64) -> i64
     ensures none { held.old.value ≡ None → (result ≡ bad_handle) × (held.new.value ≡ None) }
-    ensures file { (old new : DeskSeen) (h : HandleSeen) (n : ℕ) → held.old.value ≡ Some old → held.new.value ≡ Some new → handle_at old.table handle ≡ Some h → Tells old.service → result ≡ pos n → plain_file (files new.service) h.file ≡ plain.cut (plain_file (files old.service) h.file) size }
 {
     let Some(mut cache) = held.take_out(alloc) else {
         return no_cache();
@@ -173,7 +119,7 @@ pub extern "C" fn pcache_truncate(alloc: Global, held: &mut Held, handle: u64, s
     let result = if cache.is_full() {
         WAITS
     } else {
-        let done = cache.desk.truncate(handle, size);
+        let done = cache.desk.truncate(size);
         cache.answer(nothing(done))
     };
     held.put_in(alloc, cache);
@@ -182,14 +128,13 @@ pub extern "C" fn pcache_truncate(alloc: Global, held: &mut Held, handle: u64, s
 
 /// How long the file is.
 #[unsafe(no_mangle)]
-pub extern "C" fn pcache_size(alloc: Global, held: &mut Held, handle: u64) -> i64
+pub extern "C" fn pcache_size(alloc: Global, held: &mut Held) -> i64
     ensures none { held.old.value ≡ None → (result ≡ bad_handle) × (held.new.value ≡ None) }
-    ensures size { (old : DeskSeen) (h : HandleSeen) (n : ℕ) → held.old.value ≡ Some old → handle_at old.table handle ≡ Some h → result ≡ pos n → n ≡ (file_at old.service.world.core h.file).size }
 {
     let Some(mut cache) = held.take_out(alloc) else {
         return no_cache();
     };
-    let done = cache.desk.size(handle);
+    let done = cache.desk.size();
     let result = cache.answer(done);
     held.put_in(alloc, cache);
     result
@@ -197,15 +142,15 @@ pub extern "C" fn pcache_size(alloc: Global, held: &mut Held, handle: u64) -> i6
 
 /// Writes the file's dirty pages to the device, and has it make them durable.
 #[unsafe(no_mangle)]
-pub extern "C" fn pcache_fsync(alloc: Global, held: &mut Held, handle: u64) -> i64
+pub extern "C" fn pcache_fsync(alloc: Global, held: &mut Held) -> i64
     ensures none { held.old.value ≡ None → (result ≡ bad_handle) × (held.new.value ≡ None) }
-    ensures synced { (old new : DeskSeen) (h : HandleSeen) (n : ℕ) → held.old.value ≡ Some old → held.new.value ≡ Some new → handle_at old.table handle ≡ Some h → Tells old.service → result ≡ pos n → IsOnDevice new.service h.file }
+    ensures synced { (old new : DeskSeen) (n : ℕ) → held.old.value ≡ Some old → held.new.value ≡ Some new → Tells old.service → result ≡ pos n → IsOnDevice new.service old.handle.file }
     ensures durable { (old new : DeskSeen) (n : ℕ) → held.old.value ≡ Some old → held.new.value ≡ Some new → result ≡ pos n → new.service.world.device.durable ≡ new.service.world.device.contents }
 {
     let Some(mut cache) = held.take_out(alloc) else {
         return no_cache();
     };
-    let done = cache.desk.fsync(handle);
+    let done = cache.desk.fsync();
     let result = cache.answer(nothing(done));
     held.put_in(alloc, cache);
     result
@@ -216,33 +161,30 @@ pub extern "C" fn pcache_fsync(alloc: Global, held: &mut Held, handle: u64) -> i
 pub extern "C" fn pcache_fsync_range(
     alloc: Global,
     held: &mut Held,
-    handle: u64,
     first: u64,
     last: u64,
 ) -> i64
     ensures none { held.old.value ≡ None → (result ≡ bad_handle) × (held.new.value ≡ None) }
-    ensures synced { (old new : DeskSeen) (h : HandleSeen) (n : ℕ) → held.old.value ≡ Some old → held.new.value ≡ Some new → handle_at old.table handle ≡ Some h → Tells old.service → result ≡ pos n → AreOnDevice new.service h.file (record { 0 = first }) (record { 0 = last }) }
+    ensures synced { (old new : DeskSeen) (n : ℕ) → held.old.value ≡ Some old → held.new.value ≡ Some new → Tells old.service → result ≡ pos n → AreOnDevice new.service old.handle.file (record { 0 = first }) (record { 0 = last }) }
 {
     let Some(mut cache) = held.take_out(alloc) else {
         return no_cache();
     };
-    let done = cache
-        .desk
-        .fsync_range(handle, PageIndex(first), PageIndex(last));
+    let done = cache.desk.fsync_range(PageIndex(first), PageIndex(last));
     let result = cache.answer(nothing(done));
     held.put_in(alloc, cache);
     result
 }
 
-/// The code of a failed write of the file that the handle was not told of, or 0.
+/// The code of a failed write of the file that was not told, or 0.
 #[unsafe(no_mangle)]
-pub extern "C" fn pcache_poll_error(alloc: Global, held: &mut Held, handle: u64) -> i64
+pub extern "C" fn pcache_poll_error(alloc: Global, held: &mut Held) -> i64
     ensures none { held.old.value ≡ None → (result ≡ bad_handle) × (held.new.value ≡ None) }
 {
     let Some(mut cache) = held.take_out(alloc) else {
         return no_cache();
     };
-    let done = match cache.desk.poll_error(handle) {
+    let done = match cache.desk.poll_error() {
         Ok(Some(code)) => Ok(u64::from(code.code())),
         Ok(None) => Ok(0),
         Err(refusal) => Err(refusal),
