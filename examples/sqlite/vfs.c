@@ -23,7 +23,7 @@ static uint64_t frames_of_each;
 static const char *folder_of_all;
 static sqlite3_vfs *unix_vfs;
 
-enum { PAGE = 4096, BLOCKS = 16384 };
+enum { PAGE = 4096, BLOCKS = 4096 };
 
 static int result_of(int64_t done, int otherwise)
 {

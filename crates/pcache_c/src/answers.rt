@@ -37,3 +37,11 @@ pub(crate) fn answer(done: Result<u64, Refusal>) -> i64
         Err(refusal) => refused(refusal),
     }
 }
+
+/// The code of a device call that failed, or 0.
+pub(crate) fn io_code(done: &Result<u64, Refusal>) -> u16 {
+    match done {
+        Err(Refusal::Io(code)) => code.code(),
+        _ => 0,
+    }
+}

@@ -3,7 +3,7 @@
 ghost use Rattle.std.specs.Prelude.{◌≡◌, ℕ, pos, Ok};
 ghost use Rattle.desk.specs.Seen.{DeskSeen};
 
-use crate::answers::{WAITS, answer};
+use crate::answers::{WAITS, answer, io_code};
 use crate::store::Store;
 use blockdev::MemDevice;
 use desk::Desk;
@@ -20,6 +20,7 @@ use std::rc::Rc;
 pub struct Cache {
     pub(crate) desk: Desk<Store>,
     queue: Option<Rc<RefCell<Queue>>>,
+    is_by_jobs: bool,
     /// How many writes may wait before a call waits for them.
     most: u64,
     /// The code of the last call that answered `Io`.
@@ -27,9 +28,18 @@ pub struct Cache {
 }
 
 impl Model for Cache {
+    ghost use Rattle.std.specs.Coded.{codes, coded_ℕ};
+    ghost use Rattle.std.specs.FinMap as map;
+    ghost use Rattle.std.specs.Ordering.{nat_cmp};
+    ghost use Rattle.std.specs.Prelude.{ℕ, List};
+    ghost use Rattle.atomic_table.specs.Seated.{table_id_coded};
+    ghost use Rattle.machine.specs.inside.Codes.{state_code};
+    ghost use Rattle.machine.specs.declared.event.Outcome.{Outcome};
     ghost use Rattle.desk.specs.Seen.{DeskSeen};
 
     ghost Value = { DeskSeen };
+
+    ghost coded = { Prim.hlevel (codes, state_code, table_id_coded, map.code {X = Outcome} {R = nat_cmp} coded_ℕ (Prim.hlevel codes), map.code {X = List ℕ} {R = nat_cmp} coded_ℕ (Prim.hlevel codes)) };
 
     ghost view = { λ c. c.desk };
 }
@@ -60,6 +70,7 @@ impl Cache {
         let desk = Desk::over(solo, geometry.page())?;
         Ok(Cache {
             desk,
+            is_by_jobs: queue.is_some(),
             queue,
             most: geometry.dirty_limit(),
             code: 0,
@@ -82,11 +93,12 @@ impl Cache {
         ensures counted { (n : ℕ) → result ≡ pos n → done ≡ Ok n }
         ensures same { self.new ≡ self.old }
     {
-        if let Err(Refusal::Io(code)) = done {
-            self.code = code.code();
-            if self.queue.is_some() && self.code == AGAIN {
-                return WAITS;
-            }
+        let code = io_code(&done);
+        if code != 0 {
+            self.code = code;
+        }
+        if self.is_by_jobs && code == AGAIN {
+            return WAITS;
         }
         answer(done)
     }
@@ -97,8 +109,7 @@ impl Cache {
     }
 
     /// C's next job. A write's bytes are put into `bytes`.
-    pub fn next(&self, bytes: &mut [u8]) -> Result<Option<Task>, Refusal>
-    {
+    pub fn next(&self, bytes: &mut [u8]) -> Result<Option<Task>, Refusal> {
         let Some(queue) = &self.queue else {
             return Ok(None);
         };

@@ -60,12 +60,7 @@ pub extern "C" fn pcache_close(alloc: Global, held: &mut Held)
 
 /// Reads the bytes from `offset` on into the front of `out`, and answers how many.
 #[unsafe(no_mangle)]
-pub extern "C" fn pcache_pread(
-    alloc: Global,
-    held: &mut Held,
-    offset: u64,
-    out: &mut [u8],
-) -> i64
+pub extern "C" fn pcache_pread(alloc: Global, held: &mut Held, offset: u64, out: &mut [u8]) -> i64
     ensures none { held.old.value ≡ None → (result ≡ bad_handle) × (held.new.value ≡ None) × (out.new ≡ out.old) }
     ensures bytes { (old : DeskSeen) (n : ℕ) → held.old.value ≡ Some old → Tells old.service → result ≡ pos n → take n out.new ≡ plain.pread (file_of old) offset (length out.old) }
     ensures all { (old : DeskSeen) (n : ℕ) → held.old.value ≡ Some old → result ≡ pos n → n ≡ min (length out.old) ((file_at old.service.world.core old.handle.file).size - offset) }
@@ -86,12 +81,7 @@ pub extern "C" fn pcache_pread(
 
 /// Writes bytes from `offset` on, and answers how many from their front.
 #[unsafe(no_mangle)]
-pub extern "C" fn pcache_pwrite(
-    alloc: Global,
-    held: &mut Held,
-    offset: u64,
-    bytes: &[u8],
-) -> i64
+pub extern "C" fn pcache_pwrite(alloc: Global, held: &mut Held, offset: u64, bytes: &[u8]) -> i64
     ensures none { held.old.value ≡ None → (result ≡ bad_handle) × (held.new.value ≡ None) }
     ensures file { (old new : DeskSeen) (n : ℕ) → held.old.value ≡ Some old → held.new.value ≡ Some new → Tells old.service → result ≡ pos n → file_of new ≡ plain.pwrite (file_of old) offset (take n bytes.now) }
 {
@@ -158,12 +148,7 @@ pub extern "C" fn pcache_fsync(alloc: Global, held: &mut Held) -> i64
 
 /// The same for the pages from `first` to `last`.
 #[unsafe(no_mangle)]
-pub extern "C" fn pcache_fsync_range(
-    alloc: Global,
-    held: &mut Held,
-    first: u64,
-    last: u64,
-) -> i64
+pub extern "C" fn pcache_fsync_range(alloc: Global, held: &mut Held, first: u64, last: u64) -> i64
     ensures none { held.old.value ≡ None → (result ≡ bad_handle) × (held.new.value ≡ None) }
     ensures synced { (old new : DeskSeen) (n : ℕ) → held.old.value ≡ Some old → held.new.value ≡ Some new → Tells old.service → result ≡ pos n → AreOnDevice new.service old.handle.file (record { 0 = first }) (record { 0 = last }) }
 {
