@@ -148,6 +148,16 @@ static void faults(void)
 	WANT(pcache_end(&f, PCACHE_READ, block, big, 4096, 0) == 0);
 	WANT(pcache_pread(&f, 0, out, 4) == 4 && !memcmp(out, "zzzz", 4));
 
+	/* a read that a call waited for, and a write of the page before the read was made: the block as it was comes back to nobody */
+	WANT(pcache_pread(&f, 5 * 4096, out, 4) == PCACHE_WAITS);
+	memset(big, 'n', 4096);
+	WANT(pcache_pwrite(&f, 5 * 4096, big, 4096) == 4096 && pcache_fsync(&f) == PCACHE_WAITS);
+	while ((kind = pcache_next(&f, &block, out, 4096)) > 0) {
+		WANT(kind != PCACHE_READ);
+		WANT(pcache_end(&f, (uint32_t)kind, block, out, 4096, 0) == 0);
+	}
+	WANT(pcache_fsync(&f) == 0 && pcache_pread(&f, 5 * 4096, out, 4) == 4 && !memcmp(out, "nnnn", 4));
+
 	/* after a flush that failed none is called a success */
 	WANT(pcache_pwrite(&f, 0, "more", 4) == 4 && pcache_fsync(&f) == PCACHE_WAITS);
 	while ((kind = pcache_next(&f, &block, out, 4096)) > 0)

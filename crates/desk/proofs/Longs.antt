@@ -4,7 +4,6 @@ use Rattle.std.specs.Prelude.{◌⊎◌}
 use Rattle.std.proofs.lemmas.List.{length-take}
 use borrow.Rule.Slice.PartMut.{put_mid, post_of, same_len_mid}
 use Rattle.pc_types.specs.Files.{pread, pwrite}
-
 use Rattle.pc_types.proofs.FileLaws.{length-pread}
 use Rattle.machine.specs.State.{file_at}
 use Rattle.runs.specs.Plain.{Plain, change, plain_file}
@@ -72,12 +71,12 @@ module _ (old : SoloSeen) (h : HandleSeen) (offset most : ℕ) (mid : SoloSeen) 
     within = omega (arith, few, r.from, r.to);
     there = omega (arith, r.all, r.before.there, r.before.serves.lengths h.file);
     bytes = λ t.
-      let front_len : length (take done out) ≡ done = omega (arith, length-take done out, r.before.length, r.before.within) in
-      let has : done ≤ length (plain_file (files old) h.file) - offset = omega (arith, front_len, ap length (r.before.bytes t), length-pread (plain_file (files old) h.file) offset done) in
-      front (take done out) (part ++ post_of done (end - done) out) (done + count) count (omega (arith, front_len))
-      ∙ ap (λ xs. take done out ++ xs) (within part (post_of done (end - done) out) count (omega (arith, few, r.length)))
-      ∙ (λ i. r.before.bytes t i ++ own t i)
-      ∙ pread_on (plain_file (files old) h.file) offset done count has;
+        let front_len : length (take done out) ≡ done = omega (arith, length-take done out, r.before.length, r.before.within) in
+        let has : done ≤ length (plain_file (files old) h.file) - offset = omega (arith, front_len, ap length (r.before.bytes t), length-pread (plain_file (files old) h.file) offset done) in
+        front (take done out) (part ++ post_of done (end - done) out) (done + count) count (omega (arith, front_len))
+        ∙ ap (λ xs. take done out ++ xs) (within part (post_of done (end - done) out) count (omega (arith, few, r.length)))
+        ∙ (λ i. r.before.bytes t i ++ own t i)
+        ∙ pread_on (plain_file (files old) h.file) offset done count has;
   }
 
   -- a part that is short ends at the end of the file
@@ -94,14 +93,14 @@ wrote_more old mid new h offset done end bytes w here d l k after = record {
   keeps = keeps_trans old mid new w.keeps k;
   within = l;
   file = λ t.
-    let part = take (end - done) (drop done bytes) in
-    let F = plain_file (files old) h.file in
-    let len : length (take done bytes) ≡ done = omega (arith, length-take done bytes, w.within) in
-    ap (λ (p : Plain). plain_file p h.file) (after (w.keeps.tells ∙ t))
-    ∙ changed_is mid h (λ (f : List ℕ). pwrite f (offset + done) part) (open_on old mid h w.keeps here)
-    ∙ ap (λ (f : List ℕ). pwrite f (offset + done) part) (w.file t)
-    ∙ ap (λ (k : ℕ). pwrite (pwrite F offset (take done bytes)) (offset + k) part) (sym len)
-    ∙ pwrite_on F offset (take done bytes) part
-    ∙ ap (pwrite F offset) (both done bytes (end - done) end (omega (arith, d)));
+      let part = take (end - done) (drop done bytes) in
+      let F = plain_file (files old) h.file in
+      let len : length (take done bytes) ≡ done = omega (arith, length-take done bytes, w.within) in
+      ap (λ (p : Plain). plain_file p h.file) (after (w.keeps.tells ∙ t))
+      ∙ changed_is mid h (λ (f : List ℕ). pwrite f (offset + done) part) (open_on old mid h w.keeps here)
+      ∙ ap (λ (f : List ℕ). pwrite f (offset + done) part) (w.file t)
+      ∙ ap (λ (k : ℕ). pwrite (pwrite F offset (take done bytes)) (offset + k) part) (sym len)
+      ∙ pwrite_on F offset (take done bytes) part
+      ∙ ap (pwrite F offset) (both done bytes (end - done) end (omega (arith, d)));
   none = λ z. absurd (omega (arith, z, d));
 }

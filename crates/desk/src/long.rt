@@ -69,7 +69,9 @@ pub(crate) fn write_long<D: BlockDevice>(
         let Some(at) = offset.checked_add(done as u64) else {
             return Ok(done as u64);
         };
-        let end = bytes.len().min(done.saturating_add(span(page, at) as usize));
+        let end = bytes
+            .len()
+            .min(done.saturating_add(span(page, at) as usize));
         match solo.pwrite(handle, at, &bytes[done..end]) {
             Ok(_) => done = end,
             Err(refusal) => {

@@ -237,6 +237,7 @@ impl Queue {
         ensures written { OnOk result (self.new.writes ≡ self.old.writes ++ (block.0, bytes.now) ∷ []) }
         ensures kept { OnErr result (self.new.writes ≡ self.old.writes) }
         ensures unflushed { OnOk result (self.new.is_flushed ≡ false) }
+        ensures unread { OnOk result ((self.new.wanted ≡ None) × (self.new.fetched ≡ None)) }
     {
         let Ok(write) = Block::copy_of(self.alloc, block, bytes) else {
             return Err(code(NO_MEMORY));
@@ -244,8 +245,10 @@ impl Queue {
         if self.writes.push_back(write).is_err() {
             return Err(code(NO_MEMORY));
         }
-        // what was read of the block is out of date
+        // What the program reads now, or has read, may be of the block as it was.
+        self.wanted = None;
         self.fetched = None;
+        self.unread = None;
         self.is_flushed = false;
         Ok(())
     }
