@@ -73,9 +73,7 @@ fn answer_lines<D: BlockDevice, R: BufRead + Drop, W: Write>(
 ) -> Result<(), Stop> {
     'lines: for _ in 0..u64::MAX {
         match lines.fetch(MAX_LINE, &mut out.writer)? {
-            Fetched::Line => {
-                answer_line(alloc, desk, lines.number, lines.line.as_slice(), out)?
-            }
+            Fetched::Line => { answer_line(alloc, desk, lines.number, lines.line.as_slice(), out)? }
             Fetched::TooLong => return Err(Stop::Malformed(lines.number)),
             Fetched::End => return Ok(()),
         }

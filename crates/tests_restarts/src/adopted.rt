@@ -5,15 +5,20 @@ use crate::checks::{check, same};
 use crate::disk::{TEXT, add_file, block, boxed, disk, extent, geometry, one_file, service, text};
 use crate::odd::Odd;
 use blockdev::{BlockDevice, MemDevice};
-use catalog::Catalog;
 use blockmap::Placed;
+use catalog::Catalog;
 use filesvc::Solo;
 use pc_types::{BlockNo, FileId, Geometry, PageIndex, Refusal};
 use std::alloc::Global;
 use std::process::Abort;
 
 /// The file's bytes from the offset on, as many as `want` has and then no more.
-fn reads<D: BlockDevice>(solo: &mut Solo<D>, file: u64, offset: u64, want: &[u8]) -> Result<(), Odd> {
+fn reads<D: BlockDevice>(
+    solo: &mut Solo<D>,
+    file: u64,
+    offset: u64,
+    want: &[u8],
+) -> Result<(), Odd> {
     let mut out = [0xee; 64];
     let count = pread(solo, file, offset, &mut out)?;
     if count != want.len() as u64 || !out.starts_with(want) {
@@ -22,7 +27,12 @@ fn reads<D: BlockDevice>(solo: &mut Solo<D>, file: u64, offset: u64, want: &[u8]
     Ok(())
 }
 
-fn writes<D: BlockDevice>(solo: &mut Solo<D>, file: u64, offset: u64, bytes: &[u8]) -> Result<(), Odd> {
+fn writes<D: BlockDevice>(
+    solo: &mut Solo<D>,
+    file: u64,
+    offset: u64,
+    bytes: &[u8],
+) -> Result<(), Odd> {
     if pwrite(solo, file, offset, bytes)? != bytes.len() as u64 {
         return Err(Odd::Answer);
     }
@@ -33,7 +43,12 @@ fn writes<D: BlockDevice>(solo: &mut Solo<D>, file: u64, offset: u64, bytes: &[u
 fn changes_five_bytes(alloc: Global) -> Result<[u8; 64], Odd> {
     let catalog = one_file(alloc, 48, &[extent(0, 0, 48)])?;
     let mut solo = service(alloc, 7, catalog, disk(alloc, TEXT)?)?;
-    reads(&mut solo, 0, 0, b"The quick brown fox jumps over the lazy dog and ")?;
+    reads(
+        &mut solo,
+        0,
+        0,
+        b"The quick brown fox jumps over the lazy dog and ",
+    )?;
     writes(&mut solo, 0, 20, b"jogs.")?;
     solo.sync_all()?;
     let mut device = Box::into_inner(solo).into_device();
@@ -53,19 +68,19 @@ fn five_bytes_are_changed(rt: HostRuntime) {
 fn ends_within_a_block(alloc: Global) -> Result<(), Odd> {
     let catalog = one_file(alloc, 40, &[extent(0, 0, 40)])?;
     let mut solo = service(alloc, 7, catalog, disk(alloc, TEXT)?)?;
-    reads(&mut solo, 0, 30, b"the lazy d")?;
+    reads(&mut solo, 0, 31, b"the lazy ")?;
     truncate(&mut solo, 0, 45)?;
-    reads(&mut solo, 0, 30, b"the lazy d\0\0\0\0\0")?;
+    reads(&mut solo, 0, 31, b"the lazy \0\0\0\0\0")?;
     solo.sync_all()?;
     let catalog = solo.catalog()?;
     let device = Box::into_inner(solo).into_device();
     let mut solo = service(alloc, 8, catalog, device)?;
-    reads(&mut solo, 0, 30, b"the lazy d\0\0\0\0\0")?;
+    reads(&mut solo, 0, 31, b"the lazy \0\0\0\0\0")?;
     truncate(&mut solo, 0, 34)?;
     truncate(&mut solo, 0, 50)?;
-    reads(&mut solo, 0, 30, b"the \0\0\0\0\0\0\0\0\0\0\0\0\0\0\0\0")?;
+    reads(&mut solo, 0, 31, b"the\0\0\0\0\0\0\0\0\0\0\0\0\0\0\0\0")?;
     writes(&mut solo, 0, 47, b"x")?;
-    reads(&mut solo, 0, 30, b"the \0\0\0\0\0\0\0\0\0\0\0\0\0x\0\0")
+    reads(&mut solo, 0, 31, b"the\0\0\0\0\0\0\0\0\0\0\0\0\0x\0\0")
 }
 
 #[test]
@@ -77,10 +92,20 @@ fn bytes_past_the_size_are_not_read(rt: HostRuntime) {
 fn has_a_hole(alloc: Global) -> Result<(), Odd> {
     let catalog = one_file(alloc, 48, &[extent(0, 0, 16), extent(2, 2, 16)])?;
     let mut solo = service(alloc, 7, catalog, disk(alloc, TEXT)?)?;
-    reads(&mut solo, 0, 10, b"brown \0\0\0\0\0\0\0\0\0\0\0\0\0\0\0\0he lazy dog and ")?;
+    reads(
+        &mut solo,
+        0,
+        10,
+        b"brown \0\0\0\0\0\0\0\0\0\0\0\0\0\0\0\0he lazy dog and ",
+    )?;
     // its page gets the lowest free block, which is 1
     writes(&mut solo, 0, 20, b"-")?;
-    reads(&mut solo, 0, 10, b"brown \0\0\0\0-\0\0\0\0\0\0\0\0\0\0\0he lazy dog and ")?;
+    reads(
+        &mut solo,
+        0,
+        10,
+        b"brown \0\0\0\0-\0\0\0\0\0\0\0\0\0\0\0he lazy dog and ",
+    )?;
     solo.sync_all()?;
     let mut device = Box::into_inner(solo).into_device();
     if block(&mut device, 1)? != *b"\0\0\0\0-\0\0\0\0\0\0\0\0\0\0\0" {

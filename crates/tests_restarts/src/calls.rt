@@ -7,11 +7,7 @@ use blockdev::BlockDevice;
 use filesvc::{Handle, Seek, Solo};
 use pc_types::{FileId, Refusal};
 
-pub fn open<D: BlockDevice>(
-    solo: &mut Solo<D>,
-    file: u64,
-    append: bool,
-) -> Result<Handle, Refusal>
+pub fn open<D: BlockDevice>(solo: &mut Solo<D>, file: u64, append: bool) -> Result<Handle, Refusal>
     ensures { IfOk result (IsOpen solo.new) }
 {
     solo.open(FileId(file), append)
@@ -47,11 +43,7 @@ pub fn pwrite<D: BlockDevice>(
     written
 }
 
-pub fn append<D: BlockDevice>(
-    solo: &mut Solo<D>,
-    file: u64,
-    bytes: &[u8],
-) -> Result<u64, Refusal> {
+pub fn append<D: BlockDevice>(solo: &mut Solo<D>, file: u64, bytes: &[u8]) -> Result<u64, Refusal> {
     let mut handle = open(solo, file, true)?;
     let written = solo.write(&mut handle, bytes);
     close(solo, handle);

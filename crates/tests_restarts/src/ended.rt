@@ -126,8 +126,16 @@ fn fails_to_write(rt: &impl Abort, alloc: Global, effect: FaultEffect) -> Result
 
 #[test]
 fn a_failed_write_is_told_once(rt: HostRuntime) {
-    same(&rt, fails_to_write(&rt, rt.alloc(), FaultEffect::Old), Ok(()));
-    same(&rt, fails_to_write(&rt, rt.alloc(), FaultEffect::New), Ok(()));
+    same(
+        &rt,
+        fails_to_write(&rt, rt.alloc(), FaultEffect::Old),
+        Ok(()),
+    );
+    same(
+        &rt,
+        fails_to_write(&rt, rt.alloc(), FaultEffect::New),
+        Ok(()),
+    );
 }
 
 // By an fsync, as by a poll.

@@ -16,6 +16,7 @@ pub const BLOCKS: u64 = 256;
 
 /// The most files, and the most pages of each. Together they have fewer pages than there are blocks.
 const FILES: u64 = 5;
+
 const PAGES: u64 = 40;
 
 /// How many calls are made between two restarts.

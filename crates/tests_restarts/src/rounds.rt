@@ -96,28 +96,28 @@ fn agrees(rt: &impl Abort, seed: u64, played: Result<(), Odd>) {
 
 #[test]
 fn rounds_in_memory_agree(rt: HostRuntime) {
-    for seed in 0..3 {
+    for seed in 0..12 {
         agrees(&rt, seed, in_memory(rt.alloc(), seed, 16));
     }
 }
 
 #[test]
 fn rounds_of_larger_pages_agree(rt: HostRuntime) {
-    for seed in 1000..1002 {
+    for seed in 1000..1012 {
         agrees(&rt, seed, in_memory(rt.alloc(), seed, 64));
     }
 }
 
 #[test]
 fn rounds_over_a_file_agree(rt: HostRuntime) {
-    for seed in 2000..2003 {
+    for seed in 2000..2012 {
         agrees(&rt, seed, in_small_file(rt.alloc(), seed));
     }
 }
 
 #[test]
 fn rounds_over_a_file_of_larger_pages_agree(rt: HostRuntime) {
-    for seed in 3000..3002 {
+    for seed in 3000..3012 {
         agrees(&rt, seed, in_large_file(rt.alloc(), seed));
     }
 }
