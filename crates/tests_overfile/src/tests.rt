@@ -3,6 +3,7 @@
 use crate::checks::same;
 use overfile::run_over;
 use std::path::{Path, PathBuf};
+use std::process::Abort;
 use std::test::*;
 use std::{env, fs, process};
 use textline::Printer;
@@ -20,12 +21,12 @@ struct Row<'a> {
     status: u8,
 }
 
-fn check_row(rt: &HostRuntime, row: Row<'_>) -> Result<(), Fail> {
-    let alloc = rt.alloc();
+fn check_row(rt: &impl Abort, host: &HostRuntime, row: Row<'_>) -> Result<(), Fail> {
+    let alloc = host.alloc();
     let mut out = Printer::new(alloc, Vec::new(alloc));
     let mut message = Vec::new(alloc);
     let lines = row.lines.as_bytes();
-    let status = run_over(rt, alloc, row.words, lines, &mut out, &mut message);
+    let status = run_over(host, alloc, row.words, lines, &mut out, &mut message);
     same(rt, std::str::from_utf8(out.writer.as_slice())?, row.output);
     same(rt, std::str::from_utf8(message.as_slice())?, row.message);
     same(rt, status, row.status);
@@ -62,7 +63,7 @@ fn calls_change_the_file(rt: HostRuntime) -> Result<(), Fail> {
         message: "",
         status: 0,
     };
-    check_row(&rt, row)?;
+    check_row(&rt, &rt, row)?;
     same(&rt, has(&rt, path.as_path(), "look HEre!")?, true);
     fs::remove_dir_all(&rt, folder.as_path())?;
     Ok(())
@@ -92,7 +93,7 @@ fn a_line_that_is_none_ends_it(rt: HostRuntime) -> Result<(), Fail> {
             message: "pcache: line 2: malformed\n",
             status: 2,
         };
-        check_row(&rt, row)?;
+        check_row(&rt, &rt, row)?;
     }
     same(&rt, has(&rt, path.as_path(), "Look here")?, true);
     fs::remove_dir_all(&rt, folder.as_path())?;
@@ -113,13 +114,19 @@ fn calls_are_refused_by_numbers(rt: HostRuntime) -> Result<(), Fail> {
         message: "",
         status: 0,
     };
-    check_row(&rt, row)?;
+    check_row(&rt, &rt, row)?;
     same(&rt, has(&rt, path.as_path(), "look here")?, true);
     fs::remove_dir_all(&rt, folder.as_path())?;
     Ok(())
 }
 
-fn is_refused(rt: &HostRuntime, words: &[&str], message: &str, status: u8) -> Result<(), Fail> {
+fn is_refused(
+    rt: &impl Abort,
+    host: &HostRuntime,
+    words: &[&str],
+    message: &str,
+    status: u8,
+) -> Result<(), Fail> {
     let row = Row {
         words,
         lines: "size 0\n",
@@ -127,7 +134,7 @@ fn is_refused(rt: &HostRuntime, words: &[&str], message: &str, status: u8) -> Re
         message,
         status,
     };
-    check_row(rt, row)
+    check_row(rt, host, row)
 }
 
 #[test]
@@ -138,11 +145,11 @@ fn what_is_no_file_is_refused(rt: HostRuntime) -> Result<(), Fail> {
         return Ok(());
     };
     let closed = "pcache: the file can't be opened for reading and writing\n";
-    is_refused(&rt, &[none, "0"], closed, 3)?;
-    is_refused(&rt, &["/", "0"], closed, 3)?;
+    is_refused(&rt, &rt, &[none, "0"], closed, 3)?;
+    is_refused(&rt, &rt, &["/", "0"], closed, 3)?;
     let past = "pcache: SIZE is past the end: the file has 9 bytes\n";
-    is_refused(&rt, &[name, "10"], past, 2)?;
-    is_refused(&rt, &[name, "18446744073709551615"], past, 2)?;
+    is_refused(&rt, &rt, &[name, "10"], past, 2)?;
+    is_refused(&rt, &rt, &[name, "18446744073709551615"], past, 2)?;
     for words in [
         [name, "x"],
         [name, "-1"],
@@ -150,11 +157,11 @@ fn what_is_no_file_is_refused(rt: HostRuntime) -> Result<(), Fail> {
         [name, ""],
         ["9", name],
     ] {
-        is_refused(&rt, &words, USAGE, 2)?;
+        is_refused(&rt, &rt, &words, USAGE, 2)?;
     }
-    is_refused(&rt, &[], USAGE, 2)?;
-    is_refused(&rt, &[name], USAGE, 2)?;
-    is_refused(&rt, &[name, "9", "9"], USAGE, 2)?;
+    is_refused(&rt, &rt, &[], USAGE, 2)?;
+    is_refused(&rt, &rt, &[name], USAGE, 2)?;
+    is_refused(&rt, &rt, &[name, "9", "9"], USAGE, 2)?;
     same(&rt, has(&rt, path.as_path(), "look here")?, true);
     fs::remove_dir_all(&rt, folder.as_path())?;
     Ok(())
