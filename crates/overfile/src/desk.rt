@@ -1,7 +1,9 @@
 //! A service and the handle of its file, and what the commands of a line ask of them.
 
-ghost use Rattle.std.specs.Prelude.{IfOk};
+ghost use Rattle.std.specs.Prelude.{◌≡◌, ◌≢◌, Err, IfOk, OnOk};
+ghost use Rattle.pc_types.specs.declared.refusal.Refusal.TheVariants.{BadHandle};
 ghost use Rattle.filesvc.specs.Service.{IsOpen};
+ghost use Rattle.overfile.specs.Synced.{IsSynced};
 
 use blockdev::BlockDevice;
 use cachecore::Reply;
@@ -19,11 +21,21 @@ pub struct Desk<D: BlockDevice> {
 }
 
 impl<D: BlockDevice> Model for Desk<D> {
+    ghost use Rattle.std.specs.Coded.{codes, coded_ℕ};
+    ghost use Rattle.std.specs.FinMap as map;
+    ghost use Rattle.std.specs.Ordering.{nat_cmp};
+    ghost use Rattle.std.specs.Prelude.{ℕ, List};
+    ghost use Rattle.atomic_table.specs.Seated.{table_id_coded};
+    ghost use Rattle.machine.specs.inside.Codes.{state_code};
+    ghost use Rattle.machine.specs.declared.event.Outcome.{Outcome};
+    ghost use Rattle.filesvc.specs.Seen.{SoloSeen};
     ghost use Rattle.filesvc.specs.Service.{IsOpen};
 
-    ghost Value = { Unit };
+    ghost Value = { SoloSeen };
 
-    ghost view = { λ d. tt };
+    ghost coded = { Prim.hlevel (codes, state_code, table_id_coded, map.code {X = Outcome} {R = nat_cmp} coded_ℕ (Prim.hlevel codes), map.code {X = List ℕ} {R = nat_cmp} coded_ℕ (Prim.hlevel codes)) };
+
+    ghost view = { λ d. d.solo };
 
     ghost invariant = { λ d. IsOpen d.solo d.handle };
 }
@@ -63,7 +75,9 @@ impl<D: BlockDevice> Desk<D> {
         }
     }
 
-    fn size(&mut self, handle: HandleId) -> Reply {
+    fn size(&mut self, handle: HandleId) -> Reply
+        ensures stranger { handle.0 ≢ 0 → (result ≡ Reply.Refused BadHandle) × (self.new ≡ self.old) }
+    {
         if handle != HandleId(0) {
             return Reply::Refused(Refusal::BadHandle);
         }
@@ -73,7 +87,9 @@ impl<D: BlockDevice> Desk<D> {
         }
     }
 
-    fn read(&mut self, alloc: Global, handle: HandleId, offset: u64, count: u64) -> Reply {
+    fn read(&mut self, alloc: Global, handle: HandleId, offset: u64, count: u64) -> Reply
+        ensures stranger { handle.0 ≢ 0 → (result ≡ Reply.Refused BadHandle) × (self.new ≡ self.old) }
+    {
         if handle != HandleId(0) {
             return Reply::Refused(Refusal::BadHandle);
         }
@@ -90,7 +106,9 @@ impl<D: BlockDevice> Desk<D> {
     }
 
     /// Writes where the cursor is put.
-    fn write(&mut self, handle: HandleId, place: Seek, bytes: &[u8]) -> Reply {
+    fn write(&mut self, handle: HandleId, place: Seek, bytes: &[u8]) -> Reply
+        ensures stranger { handle.0 ≢ 0 → (result ≡ Reply.Refused BadHandle) × (self.new ≡ self.old) }
+    {
         if handle != HandleId(0) {
             return Reply::Refused(Refusal::BadHandle);
         }
@@ -103,7 +121,9 @@ impl<D: BlockDevice> Desk<D> {
         }
     }
 
-    fn truncate(&mut self, handle: HandleId, size: u64) -> Reply {
+    fn truncate(&mut self, handle: HandleId, size: u64) -> Reply
+        ensures stranger { handle.0 ≢ 0 → (result ≡ Reply.Refused BadHandle) × (self.new ≡ self.old) }
+    {
         if handle != HandleId(0) {
             return Reply::Refused(Refusal::BadHandle);
         }
@@ -114,7 +134,9 @@ impl<D: BlockDevice> Desk<D> {
     }
 
     /// A sync of the file, or of a range of its pages.
-    pub fn fsync(&mut self, handle: HandleId, range: Option<(PageIndex, PageIndex)>) -> Reply {
+    pub fn fsync(&mut self, handle: HandleId, range: Option<(PageIndex, PageIndex)>) -> Reply
+        ensures stranger { handle.0 ≢ 0 → (result ≡ Reply.Refused BadHandle) × (self.new ≡ self.old) }
+    {
         if handle != HandleId(0) {
             return Reply::Refused(Refusal::BadHandle);
         }
@@ -129,14 +151,19 @@ impl<D: BlockDevice> Desk<D> {
     }
 
     /// What the handle is told of failed writes.
-    pub fn poll(&mut self, handle: HandleId) -> Result<Option<ErrCode>, Refusal> {
+    pub fn poll(&mut self, handle: HandleId) -> Result<Option<ErrCode>, Refusal>
+        ensures stranger { handle.0 ≢ 0 → (result ≡ Err BadHandle) × (self.new ≡ self.old) }
+    {
         if handle != HandleId(0) {
             return Err(Refusal::BadHandle);
         }
         self.solo.poll_error(&mut self.handle)
     }
 
-    pub fn sync_all(&mut self) -> Result<(), Refusal> {
+    /// Has all on the device, durable.
+    pub fn sync_all(&mut self) -> Result<(), Refusal>
+        ensures { OnOk result (IsSynced self.new) }
+    {
         self.solo.sync_all()
     }
 }

@@ -1,5 +1,7 @@
 //! Why a file is not served.
 
+ghost use Rattle.std.specs.Prelude.{◌≤◌};
+
 use pc_types::Refusal;
 use std::fmt;
 use std::fmt::Display;
@@ -22,7 +24,9 @@ pub enum Fault {
 
 impl Fault {
     /// The status that the program ends with.
-    pub fn status(self) -> u8 {
+    pub fn status(self) -> u8
+        ensures { (2 ≤ result) × (result ≤ 4) }
+    {
         match self {
             Fault::PastEnd(_) | Fault::TooLarge => 2,
             Fault::Closed | Fault::NoFile | Fault::Device => 3,

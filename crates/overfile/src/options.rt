@@ -1,5 +1,8 @@
 //! What is asked for.
 
+ghost use Rattle.std.specs.Prelude.{IfNone, IfSome};
+ghost use Rattle.overfile.specs.Asked.{AsksFor};
+
 use textline::words::number;
 
 /// The words after `over`.
@@ -13,7 +16,10 @@ pub struct Options<'a> {
 
 impl<'a> Options<'a> {
     /// What the words ask for, where they are `PATH SIZE`.
-    pub fn parse(words: &[&'a str]) -> Option<Options<'a>> {
+    pub fn parse(words: &[&'a str]) -> Option<Options<'a>>
+        ensures asked { IfSome result (AsksFor words.now) }
+        ensures none { IfNone result ((o : Options) → ¬ (AsksFor words.now o)) }
+    {
         if words.len() != 2 {
             return None;
         }

@@ -1,5 +1,10 @@
 //! A run over the lines of the input.
 
+ghost use Rattle.std.specs.Prelude.{◌≡◌, ◌≢◌, ◌≤◌};
+ghost use Rattle.std.specs.Io.KnownBytes.{Keeps};
+ghost use Rattle.overfile.specs.Asked.{AsksFor};
+ghost use Rattle.overfile.specs.Synced.{IsSynced};
+
 use crate::begin::desk_over;
 use crate::desk::Desk;
 use crate::options::Options;
@@ -21,7 +26,10 @@ pub fn run_over<F: Files<File = File>, R: BufRead + Drop, W: Write, E: Write>(
     reader: R,
     out: &mut Printer<W>,
     err: &mut E,
-) -> u8 {
+) -> u8
+    ensures asked { ((o : Options) → ¬ (AsksFor words.now o)) → (result ≡ 2) × Keeps (W.contents out.old.writer) (W.contents out.new.writer) }
+    ensures known { result ≤ 4 }
+{
     let Some(options) = Options::parse(words) else {
         let _ = say_usage(err);
         return 2;
@@ -47,7 +55,10 @@ pub fn play<D: BlockDevice, R: BufRead + Drop, W: Write, E: Write>(
     reader: R,
     out: &mut Printer<W>,
     err: &mut E,
-) -> u8 {
+) -> u8
+    ensures synced { result ≢ 1 → IsSynced desk.new }
+    ensures known { result ≤ 4 }
+{
     let end = answer_lines(alloc, desk, Lines::new(alloc, reader), out);
     let synced = desk.sync_all();
     let flushed = flush(&mut out.writer);

@@ -1,4 +1,6 @@
 //! Rounds of random calls, over devices in memory and over files, with restarts.
+//!
+//! They take some seconds of the proved program, and half an hour unproved: `rt try --test --seconds 1800` waits for them.
 
 ghost use Rattle.std.specs.Prelude.{◌<◌, ◌≤◌};
 
@@ -96,28 +98,28 @@ fn agrees(rt: &impl Abort, seed: u64, played: Result<(), Odd>) {
 
 #[test]
 fn rounds_in_memory_agree(rt: HostRuntime) {
-    for seed in 0..12 {
+    for seed in 0..350 {
         agrees(&rt, seed, in_memory(rt.alloc(), seed, 16));
     }
 }
 
 #[test]
 fn rounds_of_larger_pages_agree(rt: HostRuntime) {
-    for seed in 1000..1012 {
+    for seed in 1000..1200 {
         agrees(&rt, seed, in_memory(rt.alloc(), seed, 64));
     }
 }
 
 #[test]
 fn rounds_over_a_file_agree(rt: HostRuntime) {
-    for seed in 2000..2012 {
+    for seed in 2000..2300 {
         agrees(&rt, seed, in_small_file(rt.alloc(), seed));
     }
 }
 
 #[test]
 fn rounds_over_a_file_of_larger_pages_agree(rt: HostRuntime) {
-    for seed in 3000..3012 {
+    for seed in 3000..3150 {
         agrees(&rt, seed, in_large_file(rt.alloc(), seed));
     }
 }
