@@ -143,7 +143,7 @@ impl<D: BlockDevice> Solo<D> {
     }
 
     /// Writes the file's lowest dirty page back.
-    fn flush_file(&mut self, file: FileId) -> Reply
+    pub(crate) fn flush_file(&mut self, file: FileId) -> Reply
         ensures helps { (k : ℕ) (page : Option PageIndex) → Helps k page self.old self.new }
         ensures attempts { self.new.attempts ≡ self.old.attempts }
         ensures flush { IsFlush self.old file result self.new }
