@@ -29,3 +29,4 @@ pub mod Touched
 pub mod Waiting
 pub mod Wanted
 pub mod WorldLaws
+pub mod Writing

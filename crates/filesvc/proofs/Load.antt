@@ -50,7 +50,7 @@ once_less : (old new : WorldSeen) (errors after : RecorderSeen) (f : FileId) →
 once_less old new errors after f (Quiet j m none) = absurd (never_written old.core new.core f m.0.1.0)
 once_less old new errors after f (Whole c) = carried_less old new errors after f c
 
-written_less : (s new : SoloSeen) (f : FileId) → WritesBack s f new → Lighter s.world.core new.world.core
+pub written_less : (s new : SoloSeen) (f : FileId) → WritesBack s f new → Lighter s.world.core new.world.core
 written_less s new f a = once_less s.world new.world s.errors new.errors f (once s.world new.world s.errors new.errors (step.FlushBegin f) (event.FlushBegin f) reply.Written (flush_begins f) a)
 
 made_lighter : (s new : SoloSeen) (r : Refusal) → MakesRoom s r new → Lighter s.world.core new.world.core

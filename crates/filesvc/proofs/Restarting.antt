@@ -1,12 +1,13 @@
 -- A service that begins with the catalog of another, over its device.
-use Rattle.std.proofs.Common.{Bool, false, map, ◌≡◌, ℕ, ◌+◌, ◌-◌, ◌*◌, ◌<◌, ◌≤◌, true, List, [], length, min, refl, ap, sym, subst, ◌∙◌, arith}
-use Rattle.std.specs.Prelude.{Option, Some, None, nat_lt, option_map, unwrap_or}
+use Rattle.std.proofs.Common.{Bool, false, suc, ◌∷◌, map, ◌≡◌, ℕ, ◌+◌, ◌-◌, ◌*◌, ◌<◌, ◌≤◌, true, List, [], length, min, refl, ap, sym, subst, ◌∙◌, arith}
+use Rattle.std.specs.Prelude.{Option, Some, None, Result, Ok, Err, IfOk, nat_lt, option_map, unwrap_or}
 use Rattle.std.specs.FinMap as finmap
 use Rattle.std.proofs.lemmas.Bool.Decides.{nat_tests}
 use Rattle.std.proofs.lemmas.List.{get_or_past}
 use Rattle.blockdev.specs.Device.{Told}
 use Rattle.pc_types.specs.Limits.{Sizes}
 use Rattle.pc_types.specs.Spots.{Spot}
+use Rattle.pc_types.specs.declared.refusal.Refusal.{Refusal}
 use Rattle.catalog.specs.Cataloged.{Cataloged, fits}
 use Rattle.cachecore.specs.Standing as standing
 use Rattle.cachecore.specs.Standing.{if_valid, trimmed}
@@ -32,7 +33,7 @@ size_count [] = refl
 size_count (x ∷ files) = ap suc (size_count files)
 
 module _ (w : World) (r : IsReached w) (clean : IsClean w.core) (frames dirty_limit name : ℕ) where
-  plain : Plain
+  abbrev plain : Plain
   plain = plain_at r.first r.run (length r.run)
 
   abbrev Restarted : World → Type 0
@@ -114,5 +115,10 @@ restarts s c reached told tells clean g name d fit contents =
       writing = finmap.empty;
     } in
     ap (λ (v : World). (files_seen v).files) same
-    ∙ (again w r clean g.frames g.dirty_limit name).2.1
+    ∙ (again w r clean g.frames g.dirty_limit name).2
     ∙ sym (same_plain w r clean g.frames g.dirty_limit name)
+
+pub ok_restarts : (s : SoloSeen) (result : Result Cataloged Refusal) → (Tells s → IsReached (world_of s.world))
+    → IfOk result (standing.Tells s.world.core) → IfOk result (Restarts s)
+ok_restarts s (Ok c) reached told = restarts s c reached told
+ok_restarts s (Err r) reached told = tt

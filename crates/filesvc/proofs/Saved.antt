@@ -27,7 +27,7 @@ use Rattle.filesvc.specs.Service.{AreOnDevice, IsPolled, IsSyncRefusal, IsTallie
 use Rattle.filesvc.specs.Service.{is_reported, is_untold, untold_since}
 use Rattle.filesvc.specs.Syncs.{service_of}
 use Rattle.orderly.proofs.FileSteps.{within}
-use Rattle.filesvc.proofs.Laws.{keeps_refl, since_same}
+use Rattle.filesvc.proofs.Laws.{keeps_refl, serves_counted, since_same}
 
 -- ---- a flush
 
@@ -164,3 +164,18 @@ module _ (first last : PageIndex) (old : SoloSeen) (h : HandleSeen) (new : SoloS
       inl (record { told = told; saves = e; polled = p; answer = is ∙ ap answer_of (or_none told) })
   polled_ends (Some code) told result after e p is =
       inr (inr (inl (record { code = code; told = told; syncs = e; polled = p; answer = is ∙ or_some told code })))
+
+-- the whole service after a flush
+pub flushed_serves : (w v : WorldSeen) (errors : RecorderSeen) (n : ℕ) (r : Outcome) → IsFlushedOnce w r v
+    → w.device.faults ≤ v.device.faults
+    → Serves (record { world = w; errors = errors; attempts = n }) (record { world = v; errors = errors; attempts = n })
+flushed_serves w v errors n r f faults =
+    serves_counted (service_of w errors) (service_of v errors) n n (flush_serves w v (unmoved w v r f) errors faults)
+
+-- one that failed leaves something to flush
+pub failed_flush : (w v : WorldSeen) (code : ℕ) → IsFlushedOnce w (Err code) v → v.unflushed ≡ true
+failed_flush w v code f = by w.unflushed refl
+  where
+    by : (b : Bool) → w.unflushed ≡ b → v.unflushed ≡ true
+    by true e = (f.written e).failed ∙ e
+    by false e = absurd (let x = (f.unwritten e).0 in cc)

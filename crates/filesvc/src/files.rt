@@ -1,13 +1,11 @@
 //! A service over files that its device has already: how it begins, where its files stand, and how it ends.
 
-ghost use Rattle.std.specs.Prelude.{◌≡◌, ◌+◌, ◌<◌, ◌≤◌, ◌&&◌, ℕ, [], IfErr, IfOk, IfSome, IsOkUnless, OnErr, OnOk, true, if◌then◌else◌};
+ghost use Rattle.std.specs.Prelude.{◌≡◌, ◌&&◌, ◌⊎◌, ℕ, [], IfErr, IfOk, IfSome, IsOkUnless, OnErr, OnOk, true, if◌then◌else◌};
 ghost use Rattle.pc_types.specs.declared.refusal.Refusal.TheVariants.{BadConfig, Memory};
 ghost use Rattle.machine.specs.Catalogs.{IsCatalog};
-ghost use Rattle.machine.specs.State.{dirty_total};
 ghost use Rattle.runs.specs.Restart.{IsClean};
 ghost use Rattle.catalog.specs.Cataloged as cataloged;
 ghost use Rattle.cachecore.specs.Standing.{SpotIs, Tells};
-ghost use Rattle.cachecore.specs.Wants.{NothingToWrite};
 ghost use Rattle.world.specs.Stepping.{adopted_world, fits};
 ghost use Rattle.filesvc.specs.Restarts.{Restarts};
 ghost use Rattle.filesvc.specs.Service.{Faulted, Serves, errors_of};
@@ -77,16 +75,27 @@ impl<D: BlockDevice> Solo<D> {
     }
 
     /// Writes every dirty page of every file to the device, and has it make them durable, by one flush, where anything was written to it
-    /// since it was last flushed well. Refused by `Io` where a write or the flush fails. A failed write is recorded for its file, and each
+    /// since it was last flushed well. Refused by `Io` where a write fails, or the flush after all writes. A failed write is recorded for its file, and each
     /// handle of the file is told of it as ever: by its next fsync, or by `poll_error`.
     pub fn sync_all(&mut self) -> Result<(), Refusal>
         ensures serves { Serves self.old self.new }
         ensures attempts { self.new.attempts ≡ self.old.attempts }
         ensures clean { OnOk result (IsClean self.new.world.core) }
         ensures durable { OnOk result (self.new.world.device.durable ≡ self.new.world.device.contents) }
-        ensures refused { OnErr result (Faulted self.old self.new) }
+        ensures refused { OnErr result (Faulted self.old self.new ⊎ (IsClean self.new.world.core × (self.new.world.unflushed ≡ true))) }
     {
         self.write_all()?;
+        self.flush()
+    }
+
+    /// Flushes the device, where anything was written to it since it was last flushed well.
+    fn flush(&mut self) -> Result<(), Refusal>
+        ensures serves { Serves self.old self.new }
+        ensures attempts { self.new.attempts ≡ self.old.attempts }
+        ensures core { self.new.world.core ≡ self.old.world.core }
+        ensures durable { OnOk result (self.new.world.device.durable ≡ self.new.world.device.contents) }
+        ensures failed { OnErr result (self.new.world.unflushed ≡ true) }
+    {
         match self.world.flush_written() {
             Ok(()) => Ok(()),
             Err(code) => Err(Refusal::Io(code)),
@@ -97,7 +106,7 @@ impl<D: BlockDevice> Solo<D> {
     fn write_all(&mut self) -> Result<(), Refusal>
         ensures serves { Serves self.old self.new }
         ensures attempts { self.new.attempts ≡ self.old.attempts }
-        ensures clean { OnOk result (NothingToWrite self.new.world.core) }
+        ensures clean { OnOk result (IsClean self.new.world.core) }
         ensures refused { OnErr result (Faulted self.old self.new) }
     {
         'pages: while let Some(file) = self.world.first_to_write() {
@@ -105,7 +114,7 @@ impl<D: BlockDevice> Solo<D> {
                 Reply::Written => {}
                 Reply::Failed(code) => return Err(Refusal::Io(code)),
                 Reply::Refused(refusal) => return Err(refusal),
-                _ => unreachable!(),
+                _ => return Err(Refusal::Busy),
             }
         }
         Ok(())

@@ -58,7 +58,7 @@ no_idle false e = refl
 
 -- ---- a page that is to be written is found
 
-no_pick : (b d : Bool) (o : Option ℕ) → cond b (refuse NoSuchFile) (cond (not (is_some o)) (Some reply.Nothing) (cond d (refuse TooManyInFlight) None)) ≡ Some reply.Nothing → o ≡ None
+pub no_pick : (b d : Bool) (o : Option ℕ) → cond b (refuse NoSuchFile) (cond (not (is_some o)) (Some reply.Nothing) (cond d (refuse TooManyInFlight) None)) ≡ Some reply.Nothing → o ≡ None
 no_pick true d o e = absurd cc
 no_pick false true (Some p) e = absurd cc
 no_pick false false (Some p) e = absurd cc
@@ -86,8 +86,9 @@ undirty true false a b = absurd cc
 undirty true true a b = absurd cc
 undirty false w a b = refl
 
-module _ (s : State) (ok : Sound s) (orderly : IsOrderly s) (resting : s.requests ≡ finmap.empty)
-    (clean : (f : ℕ) → f < length s.files → tests s (event.FlushBegin (record { 0 = f })) ≡ Some reply.Nothing) where
+-- where no request is in flight, and no file with a cached page has a page that a flush could begin with
+module _ (s : State) (orderly : IsOrderly s) (resting : s.requests ≡ finmap.empty)
+    (picks : (f p : ℕ) (page : Page) → page_at s f p ≡ Some page → flush_pick (file_at s f) ≡ None) where
   no_write : (f p : ℕ) (page : Page) → page_at s f p ≡ Some page → page.tags.writeback ≡ false
   no_write f p page is = by page.tags.writeback refl
     where
@@ -97,18 +98,33 @@ module _ (s : State) (ok : Sound s) (orderly : IsOrderly s) (resting : s.request
 
   not_left : (f p : ℕ) (page : Page) → page_at s f p ≡ Some page → (page.tags.dirty && not page.tags.writeback) ≡ false
   not_left f p page is =
-      let here = cached_within s f p (ap is_some is) in
-      let pick = no_pick (nat_le (length s.files) f) (is_full s) (flush_pick (file_at s f)) (clean f here) in
-      found_none (file_at s f).pages (λ e. e.1.tags.dirty && not e.1.tags.writeback) (not_picked _ pick) p page is
+      found_none (file_at s f).pages (λ e. e.1.tags.dirty && not e.1.tags.writeback) (not_picked _ (picks f p page is)) p page is
 
   no_dirty : (f p : ℕ) (page : Page) → page_at s f p ≡ Some page → page.tags.dirty ≡ false
   no_dirty f p page is = undirty page.tags.dirty page.tags.writeback (not_left f p page is) (no_write f p page is)
+
+  -- no page is DIRTY or under WRITEBACK
+  pub all_clean : (f p : ℕ) → ((tags_at s f p).dirty ≡ false) × ((tags_at s f p).writeback ≡ false)
+  all_clean f p = by (page_at s f p) refl
+    where
+      by : (o : Option Page) → page_at s f p ≡ o → ((tags_at s f p).dirty ≡ false) × ((tags_at s f p).writeback ≡ false)
+      by None e = (ap (λ o. (tags_of o).dirty) e, ap (λ o. (tags_of o).writeback) e)
+      by (Some page) e = (
+        ap (λ o. (tags_of o).dirty) e ∙ no_dirty f p page e,
+        ap (λ o. (tags_of o).writeback) e ∙ no_write f p page e,
+      )
+
+module _ (s : State) (ok : Sound s) (orderly : IsOrderly s) (resting : s.requests ≡ finmap.empty)
+    (clean : (f : ℕ) → f < length s.files → tests s (event.FlushBegin (record { 0 = f })) ≡ Some reply.Nothing) where
+  nothing_picked : (f p : ℕ) (page : Page) → page_at s f p ≡ Some page → flush_pick (file_at s f) ≡ None
+  nothing_picked f p page is =
+      no_pick (nat_le (length s.files) f) (is_full s) (flush_pick (file_at s f)) (clean f (cached_within s f p (ap is_some is)))
 
   none_dirty : dirty_total s ≡ 0
   none_dirty = no_sum dirty_in s.files (λ f. (
       let a = count_le (λ (x : Page). x.tags.dirty) (λ (x : Page). x.tags.dirty) (file_at s f).pages
       (finmap.empty {X = Page} {R = nat_cmp})
-      (λ q x e t. absurd (let k : true ≡ false = sym t ∙ no_dirty f q x e in cc)) in
+      (λ q x e t. absurd (let k : true ≡ false = sym t ∙ no_dirty s orderly resting nothing_picked f q x e in cc)) in
       let b = count_empty (λ (x : Page). x.tags.dirty) in omega arith))
 
   -- no call would make too many pages dirty
@@ -133,8 +149,8 @@ module _ (s : State) (ok : Sound s) (orderly : IsOrderly s) (resting : s.request
   module _ (idle : tests s event.Evict ≡ Some reply.NoneIdle) where
     none_cached : (f p : ℕ) (page : Page) → page_at s f p ≡ Some page → ⊥
     none_cached f p page is =
-        let free = untagged page.tags.dirty page.tags.writeback page.tags.towrite (not_left f p page is)
-        (no_write f p page is)
+        let free = untagged page.tags.dirty page.tags.writeback page.tags.towrite (not_left s orderly resting nothing_picked f p page is)
+        (no_write s orderly resting nothing_picked f p page is)
         (subst (λ o. (tags_of o).towrite ≡ true → (tags_of o).dirty ≡ true) is (ok.towrite_dirty f p)) in
         let some = some_idle s f p page is free in
         let none = no_idle (has_idle s) idle in

@@ -525,14 +525,10 @@ module _ (sizes : Sizes) (name : ℕ) (catalog : Catalog) (ok : IsCatalog sizes 
   pub adopted_orderly : IsOrderly begin
   adopted_orderly = record {
     positive = some;
-    within = λ f p e. stands_within f p (finmap.get catalog.spots (f, p)) refl (spot_too (finmap.get catalog.spots (f, p)) e);
+    within = λ f p e. stands_within f p (finmap.get catalog.spots (f, p)) refl e;
     flush = λ f p e. absurd (let n = ap writeback (none_cached sizes name catalog f p) in cc);
     handles = λ h e. absurd (let n = ap is_some (get-empty {X = ℕ} nat_cmp h) in cc);
   }
-    where
-      spot_too : (o : Option Spot) → is_some (option_map (λ (x : Spot). x.block) o) ≡ true → is_some o ≡ true
-      spot_too None e = e
-      spot_too (Some x) e = refl
 
 pub first_orderly : (sizes : Sizes) (name : ℕ) → 0 < sizes.page → IsOrderly (no_files sizes name)
 first_orderly sizes name some = adopted_orderly sizes name no_catalog (no_catalog_is sizes) some

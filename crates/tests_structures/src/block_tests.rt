@@ -1,4 +1,5 @@
 //! Worked rows. What a call requires is asserted before it.
+ghost use Rattle.std.specs.Prelude.{◌<◌, ◌≤◌, ◌^◌};
 ghost use Rattle.blockmap.specs.Keys.{IsPage};
 
 use crate::checks::same;
@@ -47,6 +48,25 @@ fn tells(rt: &impl Abort, blocks: &BlockMap, file: FileId, page: PageIndex, want
 {
     let told = blocks.map(file, page);
     same(rt, told, want);
+}
+
+/// The number and the block of the file's first page from this one on that has a block.
+fn has_next(
+    rt: &impl Abort,
+    blocks: &BlockMap,
+    file: FileId,
+    from: PageIndex,
+    want: Option<(u64, u32)>,
+)
+    requires file { file.0 < 64 }
+    requires from { from.0 ≤ 2 ^ 36 }
+{
+    let next = blocks.next(file, from);
+    same(
+        rt,
+        next.map(|(page, placed)| (page.0, placed.block.0)),
+        want,
+    );
 }
 
 /// A page of the first file stands on this block, with 100 bytes, or is refused so.
@@ -144,6 +164,23 @@ fn a_page_is_told_with_its_block(rt: HostRuntime) {
         valid: 4096,
     };
     tells(&rt, &blocks, FileId(0), PageIndex(7), Some(written));
+}
+
+#[test]
+fn the_next_page_with_a_block_is_told(rt: HostRuntime) {
+    let mut blocks = BlockMap::new(rt.alloc(), 3);
+    let last = PageIndex(68_719_476_735);
+    gives(&rt, &mut blocks, FileId(0), last, Ok(BlockNo(0)));
+    gives(&rt, &mut blocks, FileId(0), PageIndex(3), Ok(BlockNo(1)));
+    gives(&rt, &mut blocks, FileId(1), PageIndex(2), Ok(BlockNo(2)));
+    has_next(&rt, &blocks, FileId(0), PageIndex(0), Some((3, 1)));
+    has_next(&rt, &blocks, FileId(0), PageIndex(3), Some((3, 1)));
+    has_next(&rt, &blocks, FileId(0), PageIndex(4), Some((last.0, 0)));
+    // Page 0 of the next file is not behind it.
+    let past = PageIndex(68_719_476_736);
+    has_next(&rt, &blocks, FileId(0), past, None);
+    has_next(&rt, &blocks, FileId(1), PageIndex(0), Some((2, 2)));
+    has_next(&rt, &blocks, FileId(2), PageIndex(0), None);
 }
 
 #[test]

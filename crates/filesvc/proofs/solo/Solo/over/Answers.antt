@@ -3,7 +3,7 @@ use Rattle.std.proofs.Common.{◌≡◌, ◌≤◌, ◌∙◌, refl, length, ap,
 use Rattle.pc_types.specs.declared.limits.TheConstants.{MIN_DIRTY_LIMIT, MIN_FRAMES, MIN_PAGE_SIZE}
 use Rattle.world.specs.Stepping.{WorldSeen}
 use Rattle.filesvc.proofs.Beginning.{catalog_at, few_at, lists_in, nothing_in, orderly_at, reached_at, sizes_at, sound_at}
-use Rattle.filesvc.proofs.files.Solo.over.Goals as goal
+use Rattle.filesvc.proofs.solo.Solo.over.Goals as goal
 
 pub invariant_of-result : goal.invariant_of-result
 invariant_of-result g c = record {
