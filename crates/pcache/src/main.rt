@@ -1,15 +1,16 @@
 #![tactic(auto)]
 //! The program of the page cache. `pcache run` reads a script of cache calls and prints what each answers; `pcache storm` makes
 //! calls from many threads at once, and replays their history; `pcache torture` makes random calls beside plain files, over a device
-//! that fails by chance.
+//! that fails by chance; `pcache over` serves a file that is there.
 //!
-//! The crate `script` does the first, `storm` the second, and `torture` the third.
+//! The crate `script` does the first, `storm` the second, `torture` the third, and `overfile` the fourth.
 //!
 //! Floor: programs.
 
 ghost use Rattle.std.specs.Prelude.{◌≡◌, IsOkUnless};
 ghost use Rattle.textline.specs.Stops.{IsStatus, status_of};
 
+use overfile::run_over;
 use script::{run_script, say};
 use std::alloc::Global;
 use std::env;
@@ -34,6 +35,8 @@ enum Request {
     Storm(Vec<String>),
     /// A torture, with the words after `torture`.
     Torture(Vec<String>),
+    /// A file that is served, with the words after `over`.
+    Over(Vec<String>),
     Neither,
 }
 
@@ -56,6 +59,7 @@ fn main(rt: HostRuntime) -> ExitCode {
             let watched = rt.stderr().is_terminal();
             run_rounds(rt.alloc(), &words, watched, &mut out, &mut rt.stderr())
         }
+        Ok(Request::Over(words)) => serve_file(&rt, &words),
         Ok(Request::Neither) => {
             let _ = say_usage(&mut rt.stderr());
             2
@@ -91,6 +95,7 @@ fn request_of(rt: &HostRuntime) -> Result<Request, Stop>
         "run" if rest.is_empty() => Ok(Request::Run),
         "storm" => Ok(Request::Storm(rest)),
         "torture" => Ok(Request::Torture(rest)),
+        "over" => Ok(Request::Over(rest)),
         _ => Ok(Request::Neither),
     }
 }
@@ -145,6 +150,27 @@ fn run_rounds<W: Write, E: Write>(
         }
     }
     run_torture(alloc, &words, watched, out, err)
+}
+
+/// Serves the file that these words ask for to the lines of standard input.
+fn serve_file(rt: &HostRuntime, owned: &[String]) -> u8 {
+    let alloc = rt.alloc();
+    let mut words = Vec::new(alloc);
+    for word in owned {
+        if words.push(word.as_str()).is_err() {
+            return say_stop(&mut rt.stderr(), Stop::Memory);
+        }
+    }
+    match (
+        BufReader::new(alloc, rt.stdin()),
+        BufWriter::new(alloc, rt.stdout()),
+    ) {
+        (Ok(reader), Ok(out)) => {
+            let mut out = Printer::new(alloc, out);
+            run_over(rt, alloc, &words, reader, &mut out, &mut rt.stderr())
+        }
+        _ => say_stop(&mut rt.stderr(), Stop::Memory),
+    }
 }
 
 /// What the environment says of a storm. The seed is the time of day where it says none, so that each storm is another.

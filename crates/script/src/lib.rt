@@ -14,4 +14,6 @@ mod passes;
 pub mod run;
 mod session;
 
+pub use answer::{print_polled, print_reply};
+pub use command::Command;
 pub use run::{Ended, run_script, say};

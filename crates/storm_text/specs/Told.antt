@@ -15,7 +15,7 @@ use Rattle.storm_text.specs.declared.told.Fault.TheVariants.{Device, Memory}
 
 -- how the program is called
 abbrev pub usage_line : List ℕ
-usage_line = ended (codes "pcache: usage: pcache run | pcache storm THREADS STEPS [PATH] | pcache torture SEED ROUNDS")
+usage_line = ended (codes "pcache: usage: pcache run | pcache storm THREADS STEPS [PATH] | pcache torture SEED ROUNDS | pcache over PATH SIZE")
 
 abbrev pub calls_text : ℕ → List ℕ
 calls_text calls = codes "calls " ++ decimal calls
