@@ -126,14 +126,14 @@ impl<B: Naming, T: Trail> Model for Held<B, T> {
     ghost view = { λ h. record { log = h.log; core = h.core; errors = h.recorder } };
 
     ghost invariant = { λ h.
-        (IsHeld h.log h.core.state × IsLocked B.name B.table B.board B.sizes B.seats (record { log = h.log; core = h.core; errors = h.recorder }))
+        (IsHeld h.log h.core.state × IsLocked B.name B.table B.board B.sizes B.seats B.whole (record { log = h.log; core = h.core; errors = h.recorder }))
         × IsTied B.told B.sizes B.name B.blocks h.log.history h.core.state h.desk };
 }
 
 impl<B: Naming, T: Trail> Held<B, T> {
     /// The cache under its name, with the desk of its device's deeds. It has no files yet, and all deeds are at home.
     pub fn of(opened: Opened<T>, desk: Desk<B>) -> Held<B, T>
-        requires locked { IsLocked B.name B.table B.board B.sizes B.seats opened }
+        requires locked { IsLocked B.name B.table B.board B.sizes B.seats B.whole opened }
         requires fresh { (opened.log.history ≡ []) × (opened.core.state ≡ no_files B.sizes B.name) }
         requires desk { desk ≡ map Home B.blocks }
         requires count { length B.blocks ≡ B.sizes.blocks }

@@ -47,7 +47,7 @@ impl<B: Naming, D: BlockDevice, T: Trail> SharedCache<B, D, T> {
         requires kind { job.kind ≡ Fill }
         ensures goes { Goes seat.old seat.new }
         ensures only { Only (λ e. IsHelp handle e.event) seat.old seat.new }
-        ensures denied { IfErr result (IsDenied (IsHelp handle) seat.old seat.new) }
+        ensures denied { IfErr result (IsDenied B.sizes B.name B.whole (IsHelp handle) seat.old seat.new) }
         ensures unwanted { IfErr result (λ d. wants_room d.refusal ≡ false) }
         ensures stands { IfErr result (IsFinal B.sizes B.name seat.new) }
         ensures ends { EndsOne B.name (Fill, job.serial) seat.old seat.new }

@@ -37,7 +37,7 @@ impl<B: Naming, D: BlockDevice, T: Trail> SharedCache<B, D, T> {
         ensures enough { IfOk result (λ _. FindsEnough 16 B.sizes B.name (seat_of worker.new)) }
         ensures ring { (popped_by worker.new ≡ popped_by worker.old) × (pushed_by worker.new ≡ pushed_by worker.old) }
         ensures alone { is_alone worker.new ≡ is_alone worker.old }
-        ensures denied { IfErr result (IsDenied IsRoomEvent (seat_of worker.old) (seat_of worker.new)) }
+        ensures denied { IfErr result (IsDenied B.sizes B.name B.whole IsRoomEvent (seat_of worker.old) (seat_of worker.new)) }
     {
         let mut gone = 0u64;
         'pages: for _ in rt.forever() {

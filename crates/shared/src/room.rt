@@ -52,7 +52,7 @@ impl<B: Naming, D: BlockDevice, T: Trail> SharedCache<B, D, T> {
         requires { seat.old.table ≡ B.table }
         ensures goes { Goes seat.old seat.new }
         ensures only { Only (λ e. IsHelp span.handle e.event) seat.old seat.new }
-        ensures denied { IfErr result (IsDenied (IsHelp span.handle) seat.old seat.new) }
+        ensures denied { IfErr result (IsDenied B.sizes B.name B.whole (IsHelp span.handle) seat.old seat.new) }
         ensures lost { IfErr result (IsLost B.sizes B.name seat.new) }
         ensures stands { IfErr result (IsFinal B.sizes B.name seat.new) }
         ensures settled { Settles B.name seat.old seat.new }
@@ -76,7 +76,7 @@ impl<B: Naming, D: BlockDevice, T: Trail> SharedCache<B, D, T> {
         requires { seat.old.table ≡ B.table }
         ensures goes { Goes seat.old seat.new }
         ensures only { Only (λ e. IsHelp handle e.event) seat.old seat.new }
-        ensures denied { IfErr result (IsDenied (IsHelp handle) seat.old seat.new) }
+        ensures denied { IfErr result (IsDenied B.sizes B.name B.whole (IsHelp handle) seat.old seat.new) }
         ensures lost { IfErr result (IsLost B.sizes B.name seat.new) }
         ensures stands { IfErr result (IsFinal B.sizes B.name seat.new) }
         ensures settled { Settles B.name seat.old seat.new }
@@ -110,7 +110,7 @@ impl<B: Naming, D: BlockDevice, T: Trail> SharedCache<B, D, T> {
         requires { seat.old.table ≡ B.table }
         ensures goes { Goes seat.old seat.new }
         ensures only { Only (λ e. IsRoomEvent e.event) seat.old seat.new }
-        ensures denied { IfErr result (IsDenied IsRoomEvent seat.old seat.new) }
+        ensures denied { IfErr result (IsDenied B.sizes B.name B.whole IsRoomEvent seat.old seat.new) }
         ensures unwanted { IfErr result (λ d. wants_room d.refusal ≡ false) }
         ensures stands { IfErr result (IsFinal B.sizes B.name seat.new) }
         ensures settled { Settles B.name seat.old seat.new }
@@ -145,7 +145,7 @@ impl<B: Naming, D: BlockDevice, T: Trail> SharedCache<B, D, T> {
         requires { seat.old.table ≡ B.table }
         ensures goes { Goes seat.old seat.new }
         ensures only { Only (λ e. IsRoomEvent e.event) seat.old seat.new }
-        ensures denied { IfErr result (IsStillDenied denied seat.old seat.new) }
+        ensures denied { IfErr result (IsStillDenied B.sizes B.name B.whole denied seat.old seat.new) }
         ensures passing { IfOk result (λ _. is_for_now denied.refusal ≡ true) }
         ensures other { IfErr result (λ d. (d ≡ denied) ⊎ (wants_room denied.refusal ≡ true)) }
         ensures quiet { wants_room denied.refusal ≡ false → seat.new ≡ seat.old }
@@ -182,7 +182,7 @@ impl<B: Naming, D: BlockDevice, T: Trail> SharedCache<B, D, T> {
         requires { seat.old.table ≡ B.table }
         ensures goes { Goes seat.old seat.new }
         ensures only { Only (λ e. IsRoomEvent e.event) seat.old seat.new }
-        ensures denied { IfErr result (IsDenied IsRoomEvent seat.old seat.new) }
+        ensures denied { IfErr result (IsDenied B.sizes B.name B.whole IsRoomEvent seat.old seat.new) }
         ensures unwanted { IfErr result (λ d. wants_room d.refusal ≡ false) }
         ensures still { IfOk result (λ made. made ≡ false → is_busy (mutex_guard_value guard.entry).core.state ≡ false) }
         ensures unwritten { IfOk result (λ made. made ≡ false → IsUnwritten (mutex_guard_value guard.entry).core.state seat.old seat.new) }
@@ -207,7 +207,7 @@ impl<B: Naming, D: BlockDevice, T: Trail> SharedCache<B, D, T> {
         requires { seat.old.table ≡ B.table }
         ensures goes { Goes seat.old seat.new }
         ensures only { Only (λ e. IsRoomEvent e.event) seat.old seat.new }
-        ensures denied { IfErr result (IsDenied IsRoomEvent seat.old seat.new) }
+        ensures denied { IfErr result (IsDenied B.sizes B.name B.whole IsRoomEvent seat.old seat.new) }
         ensures unwanted { IfErr result (λ d. wants_room d.refusal ≡ false) }
         ensures still { IfOk result (λ made. made ≡ false → is_busy (mutex_guard_value guard.entry).core.state ≡ false) }
         ensures unwritten { IfOk result (λ made. made ≡ false → IsUnwritten (mutex_guard_value guard.entry).core.state seat.old seat.new) }
@@ -234,7 +234,7 @@ impl<B: Naming, D: BlockDevice, T: Trail> SharedCache<B, D, T> {
         requires { seat.old.table ≡ B.table }
         ensures goes { Goes seat.old seat.new }
         ensures only { Only (λ e. IsRoomEvent e.event) seat.old seat.new }
-        ensures denied { IfErr result (IsDenied IsRoomEvent seat.old seat.new) }
+        ensures denied { IfErr result (IsDenied B.sizes B.name B.whole IsRoomEvent seat.old seat.new) }
         ensures unwanted { IfErr result (λ d. wants_room d.refusal ≡ false) }
         ensures still { IfOk result (λ made. made ≡ false → is_busy (mutex_guard_value guard.entry).core.state ≡ false) }
         ensures unwritten { IfOk result (λ made. made ≡ false → IsUnwritten (mutex_guard_value guard.entry).core.state seat.old seat.new) }
@@ -268,7 +268,7 @@ impl<B: Naming, D: BlockDevice, T: Trail> SharedCache<B, D, T> {
         ensures only { Only (λ e. IsEviction e.event) seat.old seat.new }
         ensures gone { IfOk result (λ went. LetsGo (if went then 1 else 0) seat.old seat.new) }
         ensures none { IfOk result (λ went. went ≡ false → FindsEnough 16 B.sizes B.name seat.new) }
-        ensures denied { IfErr result (IsDenied IsRoomEvent seat.old seat.new) }
+        ensures denied { IfErr result (IsDenied B.sizes B.name B.whole IsRoomEvent seat.old seat.new) }
     {
         evict_idle(&mut self.state.lock(rt), seat)
     }
@@ -281,7 +281,7 @@ fn evict_idle<B: Naming, T: Trail>(state: &mut Held<B, T>, seat: &mut Seat) -> R
     ensures goes { Goes seat.old seat.new }
     ensures only { Only (λ e. IsEviction e.event) seat.old seat.new }
     ensures gone { IfOk result (λ went. LetsGo (if went then 1 else 0) seat.old seat.new) }
-    ensures denied { IfErr result (IsDenied IsRoomEvent seat.old seat.new) }
+    ensures denied { IfErr result (IsDenied B.sizes B.name B.whole IsRoomEvent seat.old seat.new) }
     ensures unwanted { IfErr result (λ d. wants_room d.refusal ≡ false) }
     ensures found { IfOk result (λ went. went ≡ false → FindsEnough 16 B.sizes B.name seat.new) }
     ensures none { IfOk result (λ went. went ≡ false → (has_idle state.old.core.state ≡ false) × (state.new.core.state ≡ state.old.core.state)) }

@@ -77,7 +77,7 @@ impl<B: Naming, D: BlockDevice, T: Trail> SharedCache<B, D, T> {
         ensures carried { AllCarried worker.old worker.new }
         ensures count { IfOk result (λ f. (seat_of worker.new).count ≡ (seat_of worker.old).count + entered_in f) }
         ensures failed { IfOk result (λ f. FailsOwn self.now.name B.board f) }
-        ensures denied { IfErr result (IsDenied IsFlushBegin (seat_of worker.old) (seat_of worker.new)) }
+        ensures denied { IfErr result (IsDenied B.sizes B.name B.whole IsFlushBegin (seat_of worker.old) (seat_of worker.new)) }
         ensures unbegun { IfErr result (λ d. (pushed_by worker.new ≡ pushed_by worker.old) × MadeOne d.slip (seat_of worker.old) (seat_of worker.new)) }
     {
         let (job, slip) = match self.begin_flush(rt, &mut worker.seat) {
@@ -95,7 +95,7 @@ impl<B: Naming, D: BlockDevice, T: Trail> SharedCache<B, D, T> {
     }
 
     /// Begins to write a page, of the first file that has one to write.
-    #[tactic(auto, using(held::proofs::Seats::goes_same, held::proofs::Seats::goes_on, held::proofs::Seats::goes_shown, held::proofs::Seats::only_any, crate::proofs::Finding::finds_nothing, crate::proofs::Ending::begins_first, crate::proofs::Ending::denied_begun, held::proofs::Seats::only_same, crate::proofs::Ending::begun_one, crate::proofs::Ending::unbegun, crate::proofs::Owning::only_begun, crate::proofs::Owning::only_begun_denied, crate::proofs::Carrying::begins_one, crate::proofs::Carrying::begins_none, crate::proofs::Settling::writes_begun))]
+    #[tactic(auto, using(held::proofs::Seats::goes_same, held::proofs::Seats::goes_on, held::proofs::Seats::goes_shown, held::proofs::Seats::only_any, crate::proofs::Finding::finds_nothing, crate::proofs::Ending::begins_first, crate::proofs::Ending::denied_begun, held::proofs::Seats::only_same, crate::proofs::Ending::begun_one, crate::proofs::Ending::unbegun, crate::proofs::Making::none_made, crate::proofs::Owning::only_begun, crate::proofs::Owning::only_begun_denied, crate::proofs::Carrying::begins_one, crate::proofs::Carrying::begins_none, crate::proofs::Settling::writes_begun))]
     fn begin_flush<R: Wait>(
         &self,
         rt: &R,
@@ -110,7 +110,7 @@ impl<B: Naming, D: BlockDevice, T: Trail> SharedCache<B, D, T> {
         ensures alone { IfOk result (λ o. IfSome o (λ r. Only (λ e. OnBegun (λ t. t ≡ r.0.serial) e.event e.reply) seat.old seat.new)) }
         ensures write { IfOk result (λ o. IfSome o (λ r. Only (λ e. IsBegun (r.0.kind, r.0.serial) e.event e.reply) seat.old seat.new)) }
         ensures fits { IfOk result (λ o. IfSome o (λ r. IsJobFor B.name B.sizes.blocks B.sizes.page r.0)) }
-        ensures denied { IfErr result (IsDenied IsFlushBegin seat.old seat.new) }
+        ensures denied { IfErr result (IsDenied B.sizes B.name B.whole IsFlushBegin seat.old seat.new) }
         ensures unbegun { IfErr result (λ d. MadeOne d.slip seat.old seat.new × Only (λ e. OnBegun (λ _. ⊥) e.event e.reply) seat.old seat.new) }
     {
         let buffer = match Buffer::new(self.alloc, &self.geometry) {

@@ -14,7 +14,7 @@ use Rattle.held.proofs.state.Held.sync_drop.Goals as goal
 pub invariant_of-self : goal.invariant_of-self
 invariant_of-self g c =
     let x = refused_by c.sync_drop-answer.result c.is_err.result c.is_err.ensures.value c.in_err-check_entry.ensures.full.1 in
-    subst (λ (core : Core). Whole _ _ _ _ _ (record { log = c.self.inside.log; core = core; errors = c.self.inside.recorder })
+    subst (λ (core : Core). Whole _ _ _ _ _ _ (record { log = c.self.inside.log; core = core; errors = c.self.inside.recorder })
     × IsTied g.B.NamesDeeds.told g.B.Naming.sizes g.B.Naming.name g.B.Naming.blocks c.self.inside.log.history core.state
     c.self.inside.desk)
     (sym (drop_back c.self.inside.core c.sync_drop-answer.new.self c.args.sync c.sync_drop-answer.result
@@ -32,7 +32,7 @@ enter-slip-requires-clause-room g c =
 pub invariant_of-self-in_err-slip : goal.invariant_of-self-in_err-slip
 invariant_of-self-in_err-slip g c =
     let m =
-    (bare _ _ _ _ _
+    (bare _ _ _ _ _ _
     (record { log = c.self.inside.log; core = c.self.inside.core; errors = c.self.inside.recorder })
     (record { log = c.enter-slip.new.self; core = c.sync_drop-answer.new.self; errors = c.self.inside.recorder })
     c.args.seat.now c.enter-slip.new.seat c.enter-slip.result c.self.invariant.0
@@ -47,7 +47,7 @@ invariant_of-self-in_err-slip g c =
 pub invariant_of-self-2 : goal.invariant_of-self-2
 invariant_of-self-2 g c =
     let m =
-    (bare _ _ _ _ _
+    (bare _ _ _ _ _ _
     (record { log = c.self.inside.log; core = c.self.inside.core; errors = c.self.inside.recorder })
     (record { log = c.enter-slip.new.self; core = c.sync_drop-answer.new.self; errors = c.self.inside.recorder })
     c.args.seat.now c.enter-slip.new.seat c.enter-slip.result c.self.invariant.0

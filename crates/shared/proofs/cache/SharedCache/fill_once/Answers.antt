@@ -15,8 +15,8 @@ use Rattle.shared.proofs.cache.SharedCache.fill_once.Goals as goal
 
 pub returns-in-Job-clause-denied : goal.returns-in-Job-clause-denied
 returns-in-Job-clause-denied g c = IfErr-weaker c.fill_by.result
-    (IsDenied (IsHelp c.args.handle) c.fill_begin.new.seat c.fill_by.new.seat)
-    (IsDenied (IsHelp c.args.handle) c.args.seat.now c.fill_by.new.seat)
+    (IsDenied g.B.Naming.sizes g.B.Naming.name g.B.Naming.whole (IsHelp c.args.handle) c.fill_begin.new.seat c.fill_by.new.seat)
+    (IsDenied g.B.Naming.sizes g.B.Naming.name g.B.Naming.whole (IsHelp c.args.handle) c.args.seat.now c.fill_by.new.seat)
     (λ d q. help_on c.args.handle c.args.seat.now c.fill_begin.new.seat c.fill_by.new.seat d
     (goes_by _ _ _ _ _ _ _ c.in-Ok-fill_begin.ensures.made) q) c.fill_by.ensures.denied
 
@@ -35,8 +35,8 @@ returns-in-Err-fill_begin-clause-only g c =
 
 pub returns-in-Err-fill_begin-clause-denied : goal.returns-in-Err-fill_begin-clause-denied
 returns-in-Err-fill_begin-clause-denied g c =
-    IfErr-weaker c.relieve.result (IsStillDenied c.in-Err-fill_begin.denied c.fill_begin.new.seat c.relieve.new.seat)
-    (IsDenied (IsHelp c.args.handle) c.args.seat.now c.relieve.new.seat)
+    IfErr-weaker c.relieve.result (IsStillDenied g.B.Naming.sizes g.B.Naming.name g.B.Naming.whole c.in-Err-fill_begin.denied c.fill_begin.new.seat c.relieve.new.seat)
+    (IsDenied g.B.Naming.sizes g.B.Naming.name g.B.Naming.whole (IsHelp c.args.handle) c.args.seat.now c.relieve.new.seat)
     (λ d q. help_settled c.args.handle c.args.page c.deref_mut.result.now c.fill_begin.new.self c.args.seat.now
     c.fill_begin.new.seat c.relieve.new.seat c.in-Err-fill_begin.denied d c.in-Err-fill_begin.ensures.denied
     c.relieve.ensures.goes q) c.relieve.ensures.denied

@@ -15,7 +15,7 @@ use Rattle.shared.proofs.cache.SharedCache.size.Goals as goal
 
 pub returns-clause-denied : goal.returns-clause-denied
 returns-clause-denied g c own here =
-    subst (λ (n : HandleId). IfErr c.size.result (IsDenied (λ e. e ≡ event.Size n) c.args.seat.now c.size.new.seat))
+    subst (λ (n : HandleId). IfErr c.size.result (IsDenied g.B.Naming.sizes g.B.Naming.name g.B.Naming.whole (λ e. e ≡ event.Size n) c.args.seat.now c.size.new.seat))
     (ap (λ (h : HandleSeen). h.number) c.handle.view_is)
     (event_denied c.size.result (event.Size c.handle.inside.number) c.deref_mut.result.now c.size.new.self
     c.args.seat.now c.size.new.seat c.size.ensures.denied)

@@ -23,7 +23,7 @@ returns-in-Err-wait_or-clause-goes g c = goes_denied (event.SyncStep c.args.sync
 
 pub returns-in-Err-wait_or-clause-denied : goal.returns-in-Err-wait_or-clause-denied
 returns-in-Err-wait_or-clause-denied g c =
-    subst (IsDenied (λ e. e ≡ event.SyncStep c.args.sync) c.args.seat.now c.sync_step.new.seat) (sym c.in-Err-wait_or.ensures.denied)
+    subst (IsDenied g.B.Naming.sizes g.B.Naming.name g.B.Naming.whole (λ e. e ≡ event.SyncStep c.args.sync) c.args.seat.now c.sync_step.new.seat) (sym c.in-Err-wait_or.ensures.denied)
     (denied_event (event.SyncStep c.args.sync) c.deref_mut.result.now c.sync_step.new.self c.args.seat.now c.sync_step.new.seat
     c.in-Err.denied c.in-Err.ensures.denied)
 

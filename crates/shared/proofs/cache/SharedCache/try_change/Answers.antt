@@ -36,7 +36,7 @@ pub returns-in-Err-fill-clause-denied : goal.returns-in-Err-fill-clause-denied
 returns-in-Err-fill-clause-denied g c =
     call_help c.args.handle (event_of c.args.change c.args.handle c.args.bytes.now) c.args.seat.now
     c.change_by.new.seat c.fill.new.seat c.in-Err-fill.denied (goes_by _ _ _ _ _ _ _ c.in-Ok.ensures.made)
-    (subst (λ (h : HandleId). IsDenied (IsHelp h) c.change_by.new.seat c.fill.new.seat c.in-Err-fill.denied)
+    (subst (λ (h : HandleId). IsDenied g.B.Naming.sizes g.B.Naming.name g.B.Naming.whole (IsHelp h) c.change_by.new.seat c.fill.new.seat c.in-Err-fill.denied)
     c.span_of-span.ensures c.in-Err-fill.ensures.denied)
 
 pub returns-in-Ok-settle-clause-goes : goal.returns-in-Ok-settle-clause-goes
