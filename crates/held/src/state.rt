@@ -16,7 +16,7 @@ ghost use Rattle.trail.specs.Honest.{world_over};
 ghost use Rattle.trail.specs.History.{After};
 ghost use Rattle.trail.specs.Room.{keeps_room, reserved};
 ghost use Rattle.held.specs.Called.{Only};
-ghost use Rattle.held.specs.Keeps.{IsLocked};
+ghost use Rattle.held.specs.Keeps.{IsLocked, room_after};
 ghost use Rattle.held.specs.Shown.{AreFresh, IsFresh};
 ghost use Rattle.held.specs.Views.{count_of};
 ghost use Rattle.pc_types.specs.declared.refusal.Refusal.TheVariants.{BadConfig, Memory, NoSuchFile, Stranger};
@@ -166,6 +166,9 @@ impl<B: Naming, T: Trail> Held<B, T> {
 
         // The trail has room for the end of all that is in flight.
         ensures room { keeps_room self.now.log.room self.now.core.state.sizes.page (reserved self.now.core.state) ≡ true }
+
+        // What the history leaves of the room that the trail had at first.
+        ensures left { self.now.log.room ≡ room_after B.whole self.now.log.history }
     {
         &self.core
     }

@@ -31,8 +31,8 @@ use Rattle.held.specs.Firsts.{IsFirstDenied}
 use Rattle.held.specs.declared.denied.Denied.{Denied}
 use Rattle.held.proofs.Seats.{goes_by, goes_on, goes_same, goes_seen, only_by, shown_same}
 use Rattle.shared.specs.Called.{IsForLater, Leads, Makes, OwnFirst, Retries, is_for_now}
-use Rattle.shared.specs.Denials.{DeniedBy, IsDenied, IsFullIfNoSlip, MadeOne, SawFull}
-use Rattle.shared.specs.Own.{IsCallOf, IsHelp, IsRoomEvent, IsStillDenied}
+use Rattle.shared.specs.Denials.{DeniedBy, IsDenied, IsFullFor, IsFullIfNoSlip, MadeOne, SawFull}
+use Rattle.shared.specs.Own.{IsCallOf, IsEviction, IsHelp, IsRoomEvent, IsStillDenied}
 use Rattle.shared.specs.Rooms.{wants_room}
 
 -- ---- what was made
@@ -75,7 +75,7 @@ makes_then a b c slip e r p q = record {
 
 module _ {sizes : Sizes} {name : ℕ} {whole : Room} where
   -- a trail that is full for an event
-  full_at : (own : Event → Type 0) (e : Event) (old new : HeldSeen) (before after : SeatSeen)
+  pub full_at : (own : Event → Type 0) (e : Event) (old new : HeldSeen) (before after : SeatSeen)
       → own e → under.IsFull sizes name whole e old new before after → SawFull sizes name whole own before after
   full_at own e old new before after is q = record {
     event = e;
@@ -88,7 +88,7 @@ module _ {sizes : Sizes} {name : ℕ} {whole : Room} where
     full = ap (λ x. has_room x (reserved old.core.state) old.core.state e) (ap (room_after whole) q.sees ∙ sym q.left) ∙ q.full;
   }
 
-  full_on : (own wider : Event → Type 0) (a b c : SeatSeen) → ((e : Event) → own e → wider e) → Goes a b
+  pub full_on : (own wider : Event → Type 0) (a b c : SeatSeen) → ((e : Event) → own e → wider e) → Goes a b
       → SawFull sizes name whole own b c → SawFull sizes name whole wider a c
   full_on own wider a b c f p q = record {
     event = q.event;
@@ -168,14 +168,9 @@ module _ {sizes : Sizes} {name : ℕ} {whole : Room} where
   failed_end h end code b old new before after slip m =
       (event.End Fill end, reply.Failed code, tt, refl, makes_by (event.End Fill end) (reply.Failed code) old new before after slip m)
 
-  pub denied_age : (old new : HeldSeen) (before after : SeatSeen) (d : Denied)
-      → under.IsDenied sizes name whole event.Age old new before after d → IsDenied sizes name whole IsRoomEvent before after d
-  denied_age old new before after d q = denied_by IsRoomEvent event.Age old new before after d tt q
-
-  pub denied_evict : (old new : HeldSeen) (a b c : SeatSeen) (d : Denied) → Goes a b
-      → under.IsDenied sizes name whole event.Evict old new b c d → IsDenied sizes name whole IsRoomEvent a c d
-  denied_evict old new a b c d p q =
-      denied_on IsRoomEvent IsRoomEvent a b c d (λ e x. x) p (denied_by IsRoomEvent event.Evict old new b c d tt q)
+  pub full_for_on : (own : Event → Type 0) (a b c : SeatSeen) (d : Denied) → Goes a b → IsFullFor sizes name whole own b c d
+      → IsFullFor sizes name whole own a c d
+  full_for_on own a b c d p q = (q.0, full_on own own a b c (λ e x. x) p q.1)
 
   pub denied_first : (old new : HeldSeen) (before after : SeatSeen) (d : Denied) → IsFirstDenied sizes name whole old new before after d
       → IsDenied sizes name whole IsRoomEvent before after d
@@ -195,7 +190,19 @@ room_helps h event.Evict x = x
 room_helps h event.Age x = x
 room_helps h e x = absurd x
 
+eviction_room : (e : Event) → IsEviction e → IsRoomEvent e
+eviction_room event.Evict x = x
+eviction_room event.Age x = x
+eviction_room e x = absurd x
+
 module _ {sizes : Sizes} {name : ℕ} {whole : Room} where
+  -- no page could be let go, since the trail is full
+  pub room_full : (a b : SeatSeen) (d : Denied) → IsFullFor sizes name whole IsEviction a b d
+      → IsDenied sizes name whole IsRoomEvent a b d
+  room_full a b d q =
+      subst (IsDenied sizes name whole IsRoomEvent a b) (sym q.0)
+      (inl (refl, full_on IsEviction IsRoomEvent a a b eviction_room (goes_same a a refl) q.1))
+
   pub help_room : (h : HandleId) (a b : SeatSeen) (d : Denied) → IsDenied sizes name whole IsRoomEvent a b d → IsDenied sizes name whole (IsHelp h) a b d
   help_room h a b d q = denied_on IsRoomEvent (IsHelp h) a a b d (room_helps h) (goes_same a a refl) q
 

@@ -47,7 +47,8 @@ use Rattle.shared.specs.Called.{is_for_now, may_pass}
 use Rattle.shared.specs.Own.{IsEviction, IsRoomEvent, admitted}
 use Rattle.shared.specs.Rooms.{FailsToWrite, IsAtRest, IsCrammed, IsFinal, IsFinalOr, IsLost, IsRoomLost, IsRoomTry, IsUnwritten, is_written, wants_room}
 use Rattle.shared.proofs.CutRequests.{cut_busy, none_cut}
-use Rattle.shared.proofs.Making.{makes_by}
+use Rattle.shared.specs.Denials.{IsFullFor}
+use Rattle.shared.proofs.Making.{full_at, full_on, makes_by}
 use Rattle.shared.proofs.Sparing.{IsAsked, has_to_write, stops_unrefused}
 
 -- ---- refusals of another kind
@@ -110,6 +111,36 @@ module _ {sizes : Sizes} {name : ℕ} {whole : Room} where
   pub first_unwanted : (old new : HeldSeen) (before after : SeatSeen) (d : Denied) → IsFirstDenied sizes name whole old new before after d
       → wants_room d.refusal ≡ false
   first_unwanted old new before after d q = room_unwanted (event.FlushBegin q.file) old new before after d tt q.denied
+
+bare : Refusal → Denied
+bare r = record { refusal = r; slip = None }
+
+-- to let a page go is refused by a full trail alone
+module _ {sizes : Sizes} {name : ℕ} {whole : Room} where
+  pub full_age : (old new : HeldSeen) (before after : SeatSeen) (d : Denied)
+      → under.IsDenied sizes name whole event.Age old new before after d → IsFullFor sizes name whole IsEviction before after d
+  full_age old new before after d q = go d.refusal d.slip q
+    where
+      go : (r : Refusal) (o : Option Slip) → under.DeniedBy sizes name whole event.Age old new before after r o
+          → IsFullFor sizes name whole IsEviction before after (record { refusal = r; slip = o })
+      go r None q = (ap bare q.0, full_at IsEviction event.Age old new before after tt q.1)
+      go r (Some slip) q = absurd q.step.0
+
+  pub full_evict : (old new : HeldSeen) (a b c : SeatSeen) (d : Denied) → Goes a b
+      → under.IsDenied sizes name whole event.Evict old new b c d → IsFullFor sizes name whole IsEviction a c d
+  full_evict old new a b c d goes q = go d.refusal d.slip q
+    where
+      go : (r : Refusal) (o : Option Slip) → under.DeniedBy sizes name whole event.Evict old new b c r o
+          → IsFullFor sizes name whole IsEviction a c (record { refusal = r; slip = o })
+      go r None q = (
+        ap bare q.0,
+        full_on IsEviction IsEviction a b c (λ e x. x) goes (full_at IsEviction event.Evict old new b c tt q.1),
+      )
+      go r (Some slip) q =
+          elim (answered (tests old.core.state event.Evict) old.core.state event.Evict (reply.Refused r) new.core.state q.step) [
+            | inl a ↦ absurd (never_refused (has_idle old.core.state) r a.0)
+            | inr a ↦ absurd a.1
+          ]
 
 -- nor is a read
 read_tested : (there none long : Bool) (last : Option Reply) (why : Refusal) → (last ≡ Some (reply.Refused why) → ⊥)

@@ -48,6 +48,11 @@ DeniedBy sizes name whole own before after refusal (Some slip) =
 abbrev pub IsDenied : Sizes → ℕ → Room → (Event → Type 0) → SeatSeen → SeatSeen → Denied → Type 0
 IsDenied sizes name whole own before after d = DeniedBy sizes name whole own before after d.refusal d.slip
 
+-- refused by a trail that is full for one of these events, and by nothing else
+abbrev pub IsFullFor : Sizes → ℕ → Room → (Event → Type 0) → SeatSeen → SeatSeen → Denied → Type 0
+IsFullFor sizes name whole own before after d =
+    (d ≡ record { refusal = TrailFull; slip = None }) × SawFull sizes name whole own before after
+
 -- one without a slip is that of a full trail: no event was made, and no memory is asked for outside one
 abbrev pub IsFullIfNoSlip : SeatSeen → SeatSeen → Denied → Type 0
 IsFullIfNoSlip before after d = d.slip ≡ None → (d.refusal ≡ TrailFull) × IsShown before after
