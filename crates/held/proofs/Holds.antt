@@ -175,12 +175,15 @@ pub full_denied : (name : ℕ) (table board : TableId) (sizes : Sizes) (seats : 
     → Only (λ _. ⊥) before after → has_room_for old e ≡ false → IsDenied sizes name whole e now new before after d
 full_denied name table board sizes seats whole e old now new before after d i same back is shown only full =
     subst (λ (x : Denied). IsDenied sizes name whole e now new before after x) (sym is)
-    (subst (λ x. DeniedBy sizes name whole e x new before after TrailFull None) same (refl, record {
-      same = back;
-      shown = shown_as before after old.log.history shown only;
-      sees = ap (λ (s : SeatSeen). s.list) shown;
-      leaves = subst (λ (n : ℕ). After sizes n old.log.history old.core.state) (sym i.0.name ∙ i.1.named)
-          (subst (λ (x : Sizes). After x old.core.state.name old.log.history old.core.state) i.1.sized i.0.history);
-      left = i.1.room;
-      full = full;
-    }))
+    (subst (λ x. DeniedBy sizes name whole e x new before after TrailFull None) same (
+      refl,
+      record {
+        same = back;
+        shown = shown_as before after old.log.history shown only;
+        sees = ap (λ (s : SeatSeen). s.list) shown;
+        leaves = subst (λ (n : ℕ). After sizes n old.log.history old.core.state) (sym i.0.name ∙ i.1.named)
+            (subst (λ (x : Sizes). After x old.core.state.name old.log.history old.core.state) i.1.sized i.0.history);
+        left = i.1.room;
+        full = full;
+      },
+    ))

@@ -115,9 +115,6 @@ shown_as before after history is p = record {
 pub goes_seen : (before after : SeatSeen) → IsShown before after → Goes before after
 goes_seen before after p = goes_shown before after after.list p.same p.only
 
-pub shown_same : (before after : SeatSeen) → after ≡ before → IsShown before after
-shown_same before after e = subst (IsShown before) (sym e) (record { same = refl; only = only_same (λ _. ⊥) before before refl })
-
 -- whatever its own entries are asked to be
 pub only_any : (own : Entry → Type 0) (before after : SeatSeen) → Only (λ _. ⊥) before after → Only own before after
 only_any own before after p = record {
@@ -137,6 +134,9 @@ only_same own before after e = subst (Only own before) (sym e) (record {
   made = All-nil (λ (x : Entry). x.seat ≡ before.number → own x);
   count = omega arith;
 })
+
+pub shown_same : (before after : SeatSeen) → after ≡ before → IsShown before after
+shown_same before after e = subst (IsShown before) (sym e) (record { same = refl; only = only_same (λ _. ⊥) before before refl })
 
 pub only_on : (own : Entry → Type 0) (a b c : SeatSeen) → Only own a b → Only own b c → Only own a c
 only_on own a b c p q =
