@@ -61,7 +61,7 @@ begins_one job slip old new before after w =
     only_by (λ e. OnBegun (λ t. t ≡ job.serial) e.event e.reply) (event.FlushBegin w.file)
     (reply.Job (record { 0 = job.serial })) old new before after slip refl w.made
 
-module _ {sizes : Sizes} {name : ℕ} {whole : Room} where
+module _ (sizes : Sizes) (name : ℕ) (whole : Room) where
   pub begins_none : (old new : HeldSeen) (before after : SeatSeen) (d : Denied) → IsFirstDenied sizes name whole old new before after d
       → Only (λ e. OnBegun (λ _. ⊥) e.event e.reply) before after
   begins_none old new before after d q = go d.refusal d.slip q.denied

@@ -48,13 +48,13 @@ use Rattle.shared.proofs.Making.{denied_by, denied_on, denied_one, makes_on, mak
 
 -- ---- one event
 
-module _ {sizes : Sizes} {name : ℕ} {whole : Room} where
+module _ (sizes : Sizes) (name : ℕ) (whole : Room) where
   -- what is refused is one event or none
   pub event_once : {A : Type 0} (result : Result A Denied) (e : Event) (old new : HeldSeen) (before after : SeatSeen)
       → IfErr result (under.IsDenied sizes name whole e old new before after) → IfErr result (λ d. MadeOne d.slip before after)
   event_once result e old new before after q =
       IfErr-weaker result (under.IsDenied sizes name whole e old new before after) (λ d. MadeOne d.slip before after)
-      (λ d k. denied_one e old new before after d k) q
+      (λ d k. denied_one sizes name whole e old new before after d k) q
 
 -- ---- ends
 
@@ -243,15 +243,15 @@ begins_then sizes name job a b c slip p q = record {
   own = p.own;
 }
 
-module _ {sizes : Sizes} {name : ℕ} {whole : Room} where
+module _ (sizes : Sizes) (name : ℕ) (whole : Room) where
   pub denied_begun : (old new : HeldSeen) (before after : SeatSeen) (d : Denied) → IsFirstDenied sizes name whole old new before after d
       → IsDenied sizes name whole IsFlushBegin before after d
   denied_begun old new before after d q =
-      denied_by IsFlushBegin (event.FlushBegin q.file) old new before after d tt q.denied
+      denied_by sizes name whole IsFlushBegin (event.FlushBegin q.file) old new before after d tt q.denied
 
   pub unbegun : (old new : HeldSeen) (before after : SeatSeen) (d : Denied) → IsFirstDenied sizes name whole old new before after d
       → MadeOne d.slip before after
-  unbegun old new before after d q = denied_one (event.FlushBegin q.file) old new before after d q.denied
+  unbegun old new before after d q = denied_one sizes name whole (event.FlushBegin q.file) old new before after d q.denied
 
 pub begun_one : (job : Task) (slip : Slip) (old new : HeldSeen) (before after : SeatSeen)
     → Writes job slip old new before after → MadeOne (Some slip) before after

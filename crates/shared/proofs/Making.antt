@@ -73,7 +73,7 @@ makes_then a b c slip e r p q = record {
 
 -- ---- refusals
 
-module _ {sizes : Sizes} {name : ℕ} {whole : Room} where
+module _ (sizes : Sizes) (name : ℕ) (whole : Room) where
   -- a trail that is full for an event
   pub full_at : (own : Event → Type 0) (e : Event) (old new : HeldSeen) (before after : SeatSeen)
       → own e → under.IsFull sizes name whole e old new before after → SawFull sizes name whole own before after
@@ -179,9 +179,9 @@ module _ {sizes : Sizes} {name : ℕ} {whole : Room} where
 
 -- ---- one part of a call after another
 
-module _ {sizes : Sizes} {name : ℕ} {whole : Room} where
+module _ (sizes : Sizes) (name : ℕ) (whole : Room) where
   pub room_on : (a b c : SeatSeen) (d : Denied) → Goes a b → IsDenied sizes name whole IsRoomEvent b c d → IsDenied sizes name whole IsRoomEvent a c d
-  room_on a b c d p q = denied_on IsRoomEvent IsRoomEvent a b c d (λ e x. x) p q
+  room_on a b c d p q = denied_on sizes name whole IsRoomEvent IsRoomEvent a b c d (λ e x. x) p q
 
 pub room_helps : (h : HandleId) (e : Event) → IsRoomEvent e → IsHelp h e
 room_helps h (event.End kind end) x = x
@@ -195,50 +195,50 @@ eviction_room event.Evict x = x
 eviction_room event.Age x = x
 eviction_room e x = absurd x
 
-module _ {sizes : Sizes} {name : ℕ} {whole : Room} where
+module _ (sizes : Sizes) (name : ℕ) (whole : Room) where
   -- no page could be let go, since the trail is full
   pub room_full : (a b : SeatSeen) (d : Denied) → IsFullFor sizes name whole IsEviction a b d
       → IsDenied sizes name whole IsRoomEvent a b d
   room_full a b d q =
       subst (IsDenied sizes name whole IsRoomEvent a b) (sym q.0)
-      (inl (refl, full_on IsEviction IsRoomEvent a a b eviction_room (goes_same a a refl) q.1))
+      (inl (refl, full_on sizes name whole IsEviction IsRoomEvent a a b eviction_room (goes_same a a refl) q.1))
 
   pub help_room : (h : HandleId) (a b : SeatSeen) (d : Denied) → IsDenied sizes name whole IsRoomEvent a b d → IsDenied sizes name whole (IsHelp h) a b d
-  help_room h a b d q = denied_on IsRoomEvent (IsHelp h) a a b d (room_helps h) (goes_same a a refl) q
+  help_room h a b d q = denied_on sizes name whole IsRoomEvent (IsHelp h) a a b d (room_helps h) (goes_same a a refl) q
 
   pub help_on : (h : HandleId) (a b c : SeatSeen) (d : Denied) → Goes a b → IsDenied sizes name whole (IsHelp h) b c d → IsDenied sizes name whole (IsHelp h) a c d
-  help_on h a b c d p q = denied_on (IsHelp h) (IsHelp h) a b c d (λ e x. x) p q
+  help_on h a b c d p q = denied_on sizes name whole (IsHelp h) (IsHelp h) a b c d (λ e x. x) p q
 
   -- the call's own event was refused
   pub call_first : (h : HandleId) (own : Event) (old new : HeldSeen) (before after : SeatSeen) (d : Denied)
       → under.IsDenied sizes name whole own old new before after d → IsDenied sizes name whole (IsCallOf h own) before after d
-  call_first h own old new before after d q = denied_by (IsCallOf h own) own old new before after d (inl refl) q
+  call_first h own old new before after d q = denied_by sizes name whole (IsCallOf h own) own old new before after d (inl refl) q
 
   pub call_help : (h : HandleId) (own : Event) (a b c : SeatSeen) (d : Denied) → Goes a b → IsDenied sizes name whole (IsHelp h) b c d
       → IsDenied sizes name whole (IsCallOf h own) a c d
-  call_help h own a b c d p q = denied_on (IsHelp h) (IsCallOf h own) a b c d (λ e x. inr x) p q
+  call_help h own a b c d p q = denied_on sizes name whole (IsHelp h) (IsCallOf h own) a b c d (λ e x. inr x) p q
 
   pub call_on : (h : HandleId) (own : Event) (a b c : SeatSeen) (d : Denied) → Goes a b → IsDenied sizes name whole (IsCallOf h own) b c d
       → IsDenied sizes name whole (IsCallOf h own) a c d
-  call_on h own a b c d p q = denied_on (IsCallOf h own) (IsCallOf h own) a b c d (λ e x. x) p q
+  call_on h own a b c d p q = denied_on sizes name whole (IsCallOf h own) (IsCallOf h own) a b c d (λ e x. x) p q
 
   -- an event that was refused, and what came of it
   pub call_settled : (h : HandleId) (own : Event) (old new : HeldSeen) (a b c : SeatSeen) (first d : Denied)
       → under.IsDenied sizes name whole own old new a b first → Goes b c → IsStillDenied sizes name whole first b c d → IsDenied sizes name whole (IsCallOf h own) a c d
   call_settled h own old new a b c first d q goes (inl same) =
       subst (IsDenied sizes name whole (IsCallOf h own) a c) (sym same)
-      (denied_then (IsCallOf h own) a b c first (call_first h own old new a b first q) goes)
+      (denied_then sizes name whole (IsCallOf h own) a b c first (call_first h own old new a b first q) goes)
   call_settled h own old new a b c first d q goes (inr room) =
-      denied_on IsRoomEvent (IsCallOf h own) a b c d (λ e x. inr (room_helps h e x)) (under_goes own old new a b first q) room
+      denied_on sizes name whole IsRoomEvent (IsCallOf h own) a b c d (λ e x. inr (room_helps h e x)) (under_goes sizes name whole own old new a b first q) room
 
   -- a fill that was refused, and what came of it
   pub help_settled : (h : HandleId) (p : PageIndex) (old new : HeldSeen) (a b c : SeatSeen) (first d : Denied)
       → under.IsDenied sizes name whole (event.FillBegin h p) old new a b first → Goes b c → IsStillDenied sizes name whole first b c d → IsDenied sizes name whole (IsHelp h) a c d
   help_settled h p old new a b c first d q goes (inl same) =
       subst (IsDenied sizes name whole (IsHelp h) a c) (sym same)
-      (denied_then (IsHelp h) a b c first (denied_begin h p old new a b first q) goes)
+      (denied_then sizes name whole (IsHelp h) a b c first (denied_begin sizes name whole h p old new a b first q) goes)
   help_settled h p old new a b c first d q goes (inr room) =
-      denied_on IsRoomEvent (IsHelp h) a b c d (room_helps h) (under_goes (event.FillBegin h p) old new a b first q) room
+      denied_on sizes name whole IsRoomEvent (IsHelp h) a b c d (room_helps h) (under_goes sizes name whole (event.FillBegin h p) old new a b first q) room
 
 -- ---- an attempt that is to be made again
 
@@ -262,7 +262,7 @@ pub retries_by : (e : Event) (r : Reply) (old new : HeldSeen) (a b c : SeatSeen)
     → Made e r old new a b slip → Goes b c → Retries a c e
 retries_by e r old new a b c slip plain later m goes = (r, later, leads_by e r old new a b c slip plain m goes)
 
-module _ {sizes : Sizes} {name : ℕ} {whole : Room} where
+module _ (sizes : Sizes) (name : ℕ) (whole : Room) where
   pub retries_denied : (e : Event) (old new : HeldSeen) (a b c : SeatSeen) (d : Denied) → IsPlain e → is_for_now d.refusal ≡ true
       → under.IsDenied sizes name whole e old new a b d → Goes b c → Retries a c e
   retries_denied e old new a b c d plain later q goes = go d.refusal d.slip later q
@@ -296,7 +296,7 @@ first_made e r old new a b slip plain m =
 pub first_again : (e : Event) (a b : SeatSeen) → Retries a b e → OwnFirst e a b
 first_again e a b p = record { is = inr (p.0, p.2, inl p.1) }
 
-module _ {sizes : Sizes} {name : ℕ} {whole : Room} where
+module _ (sizes : Sizes) (name : ℕ) (whole : Room) where
   pub first_denied : (e : Event) (old new : HeldSeen) (a b : SeatSeen) (d : Denied) → IsPlain e → under.IsDenied sizes name whole e old new a b d
       → OwnFirst e a b
   first_denied e old new a b d plain q = go d.refusal d.slip q
@@ -312,7 +312,7 @@ module _ {sizes : Sizes} {name : ℕ} {whole : Room} where
   first_settled e old new a b c d plain passes quiet q goes = go (wants_room d.refusal) refl
     where
       go : (w : Bool) → wants_room d.refusal ≡ w → OwnFirst e a c
-      go true is = first_again e a c (retries_denied e old new a b c d plain (passes is) q goes)
+      go true is = first_again e a c (retries_denied sizes name whole e old new a b c d plain (passes is) q goes)
       go false is = subst (OwnFirst e a) (sym (quiet is)) (first_denied e old new a b d plain q)
 
 -- after tries that have to be made again
@@ -320,13 +320,13 @@ pub first_on : (e : Event) (a b c : SeatSeen) → (b ≡ a) ⊎ Retries a b e �
 first_on e a b c (inl same) q goes = subst (λ (s : SeatSeen). OwnFirst e s c) same q
 first_on e a b c (inr p) q goes = record { is = inr (p.0, leads_then e p.0 a b c p.2 goes, inl p.1) }
 
-module _ {sizes : Sizes} {name : ℕ} {whole : Room} where
+module _ (sizes : Sizes) (name : ℕ) (whole : Room) where
   -- what is answered was answered by the event, refusals too
   pub event_denied : {A : Type 0} (result : Result A Denied) (e : Event) (old new : HeldSeen) (before after : SeatSeen)
       → IfErr result (under.IsDenied sizes name whole e old new before after) → IfErr result (IsDenied sizes name whole (λ x. x ≡ e) before after)
   event_denied result e old new before after q =
       IfErr-weaker result (under.IsDenied sizes name whole e old new before after) (IsDenied sizes name whole (λ x. x ≡ e) before after)
-      (λ d k. denied_event e old new before after d k) q
+      (λ d k. denied_event sizes name whole e old new before after d k) q
 
   -- an event that could not be made
   pub full_by : (e : Event) (old new : HeldSeen) (before after : SeatSeen) (d : Denied)
@@ -353,7 +353,7 @@ pub made_one : (e : Event) (r : Reply) (old new : HeldSeen) (before after : Seat
     → Made e r old new before after slip → MadeOne (Some slip) before after
 made_one e r old new before after slip m = m.entered.count
 
-module _ {sizes : Sizes} {name : ℕ} {whole : Room} where
+module _ (sizes : Sizes) (name : ℕ) (whole : Room) where
   -- one that was refused is too, where there is a slip of it
   pub denied_one : (e : Event) (old new : HeldSeen) (before after : SeatSeen) (d : Denied)
       → under.IsDenied sizes name whole e old new before after d → MadeOne d.slip before after

@@ -91,7 +91,7 @@ room_refused s new event.Evict why is step =
 room_refused s new event.Age why is step = absurd step.0
 room_refused s new e why is step = absurd is
 
-module _ {sizes : Sizes} {name : ℕ} {whole : Room} where
+module _ (sizes : Sizes) (name : ℕ) (whole : Room) where
   pub room_unwanted : (e : Event) (old new : HeldSeen) (before after : SeatSeen) (d : Denied) → IsRoomEvent e
       → under.IsDenied sizes name whole e old new before after d → wants_room d.refusal ≡ false
   room_unwanted e old new before after d is q = go d.refusal d.slip q
@@ -112,18 +112,18 @@ module _ {sizes : Sizes} {name : ℕ} {whole : Room} where
       → wants_room d.refusal ≡ false
   first_unwanted old new before after d q = room_unwanted (event.FlushBegin q.file) old new before after d tt q.denied
 
-bare : Refusal → Denied
+abbrev bare : Refusal → Denied
 bare r = record { refusal = r; slip = None }
 
 -- to let a page go is refused by a full trail alone
-module _ {sizes : Sizes} {name : ℕ} {whole : Room} where
+module _ (sizes : Sizes) (name : ℕ) (whole : Room) where
   pub full_age : (old new : HeldSeen) (before after : SeatSeen) (d : Denied)
       → under.IsDenied sizes name whole event.Age old new before after d → IsFullFor sizes name whole IsEviction before after d
   full_age old new before after d q = go d.refusal d.slip q
     where
       go : (r : Refusal) (o : Option Slip) → under.DeniedBy sizes name whole event.Age old new before after r o
           → IsFullFor sizes name whole IsEviction before after (record { refusal = r; slip = o })
-      go r None q = (ap bare q.0, full_at IsEviction event.Age old new before after tt q.1)
+      go r None q = (ap bare q.0, full_at sizes name whole IsEviction event.Age old new before after tt q.1)
       go r (Some slip) q = absurd q.step.0
 
   pub full_evict : (old new : HeldSeen) (a b c : SeatSeen) (d : Denied) → Goes a b
@@ -134,7 +134,7 @@ module _ {sizes : Sizes} {name : ℕ} {whole : Room} where
           → IsFullFor sizes name whole IsEviction a c (record { refusal = r; slip = o })
       go r None q = (
         ap bare q.0,
-        full_on IsEviction IsEviction a b c (λ e x. x) goes (full_at IsEviction event.Evict old new b c tt q.1),
+        full_on sizes name whole IsEviction IsEviction a b c (λ e x. x) goes (full_at sizes name whole IsEviction event.Evict old new b c tt q.1),
       )
       go r (Some slip) q =
           elim (answered (tests old.core.state event.Evict) old.core.state event.Evict (reply.Refused r) new.core.state q.step) [
@@ -176,7 +176,7 @@ unwanted_of why e = by (wants_room why) refl
     by false is = refl
     by true is = let x : true ≡ false = sym (wants_pass why is) ∙ e in absurd cc
 
-module _ {sizes : Sizes} {name : ℕ} {whole : Room} where
+module _ (sizes : Sizes) (name : ℕ) (whole : Room) where
   pub read_lasts : (h : HandleId) (o n : ℕ) (old new : HeldSeen) (before after : SeatSeen) (d : Denied)
       → under.IsDenied sizes name whole (event.Read h o n) old new before after d → is_for_now d.refusal ≡ false
   read_lasts h o n old new before after d q = go d.refusal d.slip q
@@ -298,7 +298,7 @@ lost_by sizes name e why old new before at after slip geometry asked wants m leg
         crammed.0 crammed.1 none)
     since (inr fails) = fails
 
-module _ {whole : Room} where
+module _ (whole : Room) where
   -- an event was refused, and it stands if the cache is crammed
   pub lost_denied : (sizes : Sizes) (name : ℕ) (e : Event) (old new : HeldSeen) (before at after : SeatSeen) (first d : Denied)
       → IsTrue (is_geometry sizes) → IsAsked e → under.IsDenied sizes name whole e old new before at first
@@ -394,7 +394,7 @@ pub io_final : (sizes : Sizes) (name : ℕ) (after : SeatSeen) (code : ℕ) (d :
     → IsFinal sizes name after d
 io_final sizes name after code d is = final_lasting sizes name after d (ap is_for_now is)
 
-module _ {whole : Room} where
+module _ (whole : Room) where
   pub age_final : (sizes : Sizes) (name : ℕ) (old new : HeldSeen) (before after : SeatSeen) (d : Denied)
       → under.IsDenied sizes name whole event.Age old new before after d → IsFinal sizes name after d
   age_final sizes name old new before after d q = final_lasting sizes name after d (go d.refusal d.slip q)
@@ -419,7 +419,7 @@ module _ {whole : Room} where
   pub read_final : (sizes : Sizes) (name : ℕ) (h : HandleId) (o n : ℕ) (old new : HeldSeen) (before after : SeatSeen) (d : Denied)
       → under.IsDenied sizes name whole (event.Read h o n) old new before after d → IsFinal sizes name after d
   read_final sizes name h o n old new before after d q =
-      final_lasting sizes name after d (read_lasts h o n old new before after d q)
+      final_lasting sizes name after d (read_lasts sizes name whole h o n old new before after d q)
 
 at_rest : (sizes : Sizes) (name : ℕ) (e : Event) (why : Refusal) (old new : HeldSeen) (before at after : SeatSeen) (slip : Slip)
     → Made e (reply.Refused why) old new before at slip → After sizes name new.log.history new.core.state
@@ -440,7 +440,7 @@ at_rest sizes name e why old new before at after slip m legal rests goes =
       rests = rests;
     }
 
-module _ {whole : Room} where
+module _ (whole : Room) where
   -- an event was refused, and that stands if no request is in flight
   pub final_denied : (sizes : Sizes) (name : ℕ) (e : Event) (old new : HeldSeen) (before at after : SeatSeen) (first d : Denied)
       → under.IsDenied sizes name whole e old new before at first → After sizes name new.log.history new.core.state → Goes at after

@@ -49,17 +49,17 @@ use Rattle.shared.proofs.Rooming.{final_lasting, final_on}
 
 -- ---- turns
 
-module _ {sizes : Sizes} {name : ℕ} {whole : Room} where
+module _ (sizes : Sizes) (name : ℕ) (whole : Room) where
   pub turn_on : (m : SyncId) (a b c : SeatSeen) (d : Denied) → Goes a b → IsDenied sizes name whole (λ e. e ≡ event.SyncStep m) b c d
       → IsDenied sizes name whole (λ e. e ≡ event.SyncStep m) a c d
-  turn_on m a b c d p q = denied_on (λ e. e ≡ event.SyncStep m) (λ e. e ≡ event.SyncStep m) a b c d (λ e x. x) p q
+  turn_on m a b c d p q = denied_on sizes name whole (λ e. e ≡ event.SyncStep m) (λ e. e ≡ event.SyncStep m) a b c d (λ e x. x) p q
 
   -- without a slip it is that of a full trail
   pub step_full : (m : SyncId) (old new : HeldSeen) (before after : SeatSeen) (first d : Denied)
       → under.IsDenied sizes name whole (event.SyncStep m) old new before after first → d ≡ first → d.slip ≡ None → d.refusal ≡ TrailFull
   step_full m old new before after first d q same none =
       ap (λ (x : Denied). x.refusal) same
-      ∙ (full_by (event.SyncStep m) old new before after first q (ap (λ (x : Denied). x.slip) (sym same) ∙ none)).0
+      ∙ (full_by sizes name whole (event.SyncStep m) old new before after first q (ap (λ (x : Denied). x.slip) (sym same) ∙ none)).0
 
 -- a step that ends the sync
 pub clean_ended : (m : SyncId) (x : SyncStepped) (b : List ℕ) (old new : HeldSeen) (before after : SeatSeen) (slip : Slip)
@@ -96,7 +96,7 @@ syncs_by h first last m failed old new before at after begin slip b e = record {
   ended = e;
 }
 
-module _ {sizes : Sizes} {name : ℕ} {whole : Room} where
+module _ (sizes : Sizes) (name : ℕ) (whole : Room) where
   -- there was no memory for it
   pub memory_denied : (h : HandleId) (first last : PageIndex) (before : SeatSeen) (why : Refusal) (d : Denied) → why ≡ Memory
       → d ≡ record { refusal = why; slip = None } → IsNotBegun sizes name whole h first last before before d
@@ -107,12 +107,12 @@ module _ {sizes : Sizes} {name : ℕ} {whole : Room} where
   pub begin_denied : (h : HandleId) (first last : PageIndex) (old new : HeldSeen) (before after : SeatSeen) (d : Denied)
       → under.IsDenied sizes name whole (event.SyncBegin h first last) old new before after d → IsNotBegun sizes name whole h first last before after d
   begin_denied h first last old new before after d q = inr (
-    denied_event (event.SyncBegin h first last) old new before after d q,
-    denied_one (event.SyncBegin h first last) old new before after d q,
-    full_by (event.SyncBegin h first last) old new before after d q,
+    denied_event sizes name whole (event.SyncBegin h first last) old new before after d q,
+    denied_one sizes name whole (event.SyncBegin h first last) old new before after d q,
+    full_by sizes name whole (event.SyncBegin h first last) old new before after d q,
   )
 
-module _ {whole : Room} where
+module _ (whole : Room) where
   pub gave_up : (sizes : Sizes) (name : ℕ) (h : HandleId) (first last : PageIndex) (m : SyncId) (old new : HeldSeen) (before at over after : SeatSeen)
       (begin : Slip) (why d : Denied) → Made (event.SyncBegin h first last) (reply.Sync m) old new before at begin → Goes at over
       → Goes over after → IsDenied sizes name whole (λ e. e ≡ event.SyncStep m) at over why → (why.slip ≡ None → why.refusal ≡ TrailFull)
@@ -177,7 +177,7 @@ refused_drop m why old new before after slip q =
       | inr a ↦ absurd (drop_taken s m why new.core.state q.step a.0)
     ]
 
-module _ {whole : Room} where
+module _ (whole : Room) where
   -- where the drop was refused with a slip, its entry stands all the same
   pub dropped_refused : (sizes : Sizes) (name : ℕ) (m : SyncId) (old new : HeldSeen) (before after : SeatSeen) (other d : Denied)
       → under.IsDenied sizes name whole (event.SyncDrop m) old new before after other → is_some other.slip ≡ true
@@ -190,7 +190,7 @@ module _ {whole : Room} where
       go r (Some slip) q is =
           dropped_entry m old new before after slip (reply.Refused r) (refused_drop m r old new before after slip q) q
 
-module _ {sizes : Sizes} {name : ℕ} {whole : Room} where
+module _ (sizes : Sizes) (name : ℕ) (whole : Room) where
   -- where it was refused without one, the sync was in progress no longer: room is kept for the drop of each that is
   pub gone_by : (m : SyncId) (old new : HeldSeen) (before after : SeatSeen) (other : Denied)
       → under.IsDenied sizes name whole (event.SyncDrop m) old new before after other → is_some other.slip ≡ false
@@ -238,7 +238,7 @@ pub report_final : (sizes : Sizes) (name : ℕ) (after : SeatSeen) (failed : Opt
 report_final sizes name after failed slip old new d r =
     final_lasting sizes name after d (subst (λ (x : Denied). is_for_now x.refusal ≡ false) (sym r.is) refl)
 
-module _ {whole : Room} where
+module _ (whole : Room) where
   pub write_failed : (sizes : Sizes) (name : ℕ) (h : HandleId) (first last : PageIndex) (failed : Option ℕ)
       (before after : SeatSeen) (old new : PassSeen) (slip : Slip) (d : Denied) → Syncs h first last failed before after slip
       → Hears sizes name slip after new → Reports failed slip old new d
@@ -271,7 +271,7 @@ fsync_clean result k h first last failed before after at slip mid new seen s non
       polled_from k.pass mid new None level p.1,
     )) q)
 
-module _ {whole : Room} where
+module _ (whole : Room) where
   -- a sync that ended with the code of a failed write
   pub fsync_failed : (sizes : Sizes) (name : ℕ) (k h : HandleSeen) (first last : PageIndex) (failed : Option ℕ) (code : ℕ)
       (before after : SeatSeen) (slip : Slip) (mid new : PassSeen) (d : Denied) → k ≡ h
@@ -280,7 +280,7 @@ module _ {whole : Room} where
       → IsFsyncDenied sizes name whole h.number first last before after h.pass new d
   fsync_failed sizes name k h first last failed code before after slip mid new d seen s is level heard r =
       subst (λ (x : HandleSeen). IsFsyncDenied sizes name whole x.number first last before after x.pass new d) seen
-      (write_failed sizes name k.number first last (Some code) before after k.pass new slip d
+      (write_failed whole sizes name k.number first last (Some code) before after k.pass new slip d
       (subst (λ (o : Option ℕ). Syncs k.number first last o before after slip) is s)
       (hears_reported sizes name slip slip after mid new (Some code) d heard r)
       (reports_from (Some code) slip k.pass mid new d level r))
@@ -295,7 +295,7 @@ syncs_seen h first last failed before after slip s goes = (
       omega (arith, there, length_push s.ended.earlier entry, s.ended.placed.1),
 )
 
-module _ {whole : Room} where
+module _ (whole : Room) where
   -- a sync that ended without a failed write, and a poll that answered the code of one
   pub fsync_denied : (result : Result Slip Denied) (sizes : Sizes) (name : ℕ) (k h : HandleSeen) (first last : PageIndex)
       (failed : Option ℕ) (before after : SeatSeen) (at slip : Slip) (mid new : PassSeen) → k ≡ h
@@ -305,7 +305,7 @@ module _ {whole : Room} where
   fsync_denied result sizes name k h first last failed before after at slip mid new seen s none there level heard q =
       subst (λ (x : HandleSeen). IfErr result (IsFsyncDenied sizes name whole x.number first last before after x.pass new)) seen
       (IfErr-weaker result (Reports None at mid new) (IsFsyncDenied sizes name whole k.number first last before after k.pass new)
-      (λ d r. write_failed sizes name k.number first last None before after k.pass new slip d
+      (λ d r. write_failed whole sizes name k.number first last None before after k.pass new slip d
       (subst (λ (o : Option ℕ). Syncs k.number first last o before after slip) none s)
       (hears_reported sizes name slip at after mid new None d heard r)
       (reports_from None slip k.pass mid new d level (subst (λ (x : Slip). Reports None x mid new d) there r))) q)

@@ -38,12 +38,12 @@ short_admitted own a c name seat handle why d e is short =
     other (inl x) memory = cc
     other (inr x) memory = cc
 
-module _ {sizes : Sizes} {name : ℕ} {whole : Room} where
+module _ (sizes : Sizes) (name : ℕ) (whole : Room) where
   -- an event was refused
   pub short_denied : (own e : Event) (old new : HeldSeen) (before at a c : SeatSeen) (d : Denied)
       → under.IsDenied sizes name whole e old new before at d → IsShortFor own a c d
   short_denied own e old new before at a c d q short =
-      let full : d.refusal ≡ TrailFull = (full_by e old new before at d q (ap (λ (x : Denied). x.slip) short)).0 in
+      let full : d.refusal ≡ TrailFull = (full_by sizes name whole e old new before at d q (ap (λ (x : Denied). x.slip) short)).0 in
       let memory : d.refusal ≡ Memory = ap (λ (x : Denied). x.refusal) short in
       absurd cc
 
@@ -54,14 +54,14 @@ pub short_missed : (own : Event) (r : Reply) (old new : HeldSeen) (a b c : SeatS
 short_missed own r old new a b c slip d asks m goes short =
     (slip, r, asks, makes_then a b c slip own r (makes_by own r old new a b slip m) goes)
 
-module _ {sizes : Sizes} {name : ℕ} {whole : Room} where
+module _ (sizes : Sizes) (name : ℕ) (whole : Room) where
   -- a change was refused, and what came of it
   pub short_settled : (change : Change) (h : HandleId) (bytes : List ℕ) (old new : HeldSeen) (a b c : SeatSeen) (first d : Denied)
       → under.IsDenied sizes name whole (event_of change h bytes) old new a b first → Goes b c
       → (d ≡ first) ⊎ (wants_room first.refusal ≡ true) → IsShortFor (event_of change h bytes) a c d
   short_settled change h bytes old new a b c first d q goes (inl same) =
       let own = event_of change h bytes in
-      subst (IsShortFor own a c) (sym same) (short_denied own own old new a b a c first q)
+      subst (IsShortFor own a c) (sym same) (short_denied sizes name whole own own old new a b a c first q)
   short_settled change h bytes old new a b c first d q goes (inr wants) = go first.refusal first.slip wants q
     where
       go : (r : Refusal) (o : Option Slip) → wants_room r ≡ true → under.DeniedBy sizes name whole (event_of change h bytes) old new a b r o

@@ -19,7 +19,7 @@ returns-in-Ok-clause-goes g c =
 pub returns-in-Err-evict-clause-goes : goal.returns-in-Err-evict-clause-goes
 returns-in-Err-evict-clause-goes g c =
     goes_on c.args.seat.now c.age.new.seat c.evict.new.seat (goes_by _ _ _ _ _ _ _ c.in_default.ensures.made)
-    (goes_denied event.Evict c.age.new.self c.evict.new.self c.age.new.seat c.evict.new.seat c.in-Err-evict.denied
+    (goes_denied g.B.Naming.sizes g.B.Naming.name g.B.Naming.whole event.Evict c.age.new.self c.evict.new.self c.age.new.seat c.evict.new.seat c.in-Err-evict.denied
     c.in-Err-evict.ensures.denied)
 
 pub returns-in-Ok-clause-gone : goal.returns-in-Ok-clause-gone
@@ -33,7 +33,7 @@ returns-in-Ok-clause-only g c =
 
 pub returns-in-Err-evict-clause-only : goal.returns-in-Err-evict-clause-only
 returns-in-Err-evict-clause-only g c =
-    only_evict_denied _ _ _ _ _ _ _ _ _ _ c.in_default.ensures.made c.in-Err-evict.ensures.denied
+    only_evict_denied g.B.Naming.sizes g.B.Naming.name g.B.Naming.whole _ _ _ _ _ _ _ _ _ _ c.in_default.ensures.made c.in-Err-evict.ensures.denied
 
 -- no page was idle, and none is after it
 pub returns-in-Ok-clause-found : goal.returns-in-Ok-clause-found

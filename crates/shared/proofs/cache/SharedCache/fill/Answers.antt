@@ -21,7 +21,7 @@ returns-clause-denied g c =
     let h = c.args.span.handle in
     IfErr-weaker c.fill_once.result (IsDenied g.B.Naming.sizes g.B.Naming.name g.B.Naming.whole (IsHelp h) c.make_way.new.seat c.fill_once.new.seat)
     (IsDenied g.B.Naming.sizes g.B.Naming.name g.B.Naming.whole (IsHelp h) c.args.seat.now c.fill_once.new.seat)
-    (λ d q. help_on h c.args.seat.now c.make_way.new.seat c.fill_once.new.seat d c.make_way.ensures.goes q)
+    (λ d q. help_on g.B.Naming.sizes g.B.Naming.name g.B.Naming.whole h c.args.seat.now c.make_way.new.seat c.fill_once.new.seat d c.make_way.ensures.goes q)
     c.fill_once.ensures.denied
 
 pub returns-clause-settled : goal.returns-clause-settled

@@ -122,7 +122,7 @@ returns-in-Err-try_read-clause-missed g c =
 pub returns-in-Err-try_read-clause-denied : goal.returns-in-Err-try_read-clause-denied
 returns-in-Err-try_read-clause-denied g c own here =
     let h = c.args.handle.now.number in
-    call_on h (event.Read h c.args.offset (length c.args.out.now)) c.args.seat.now c.attempts.seat c.try_read.new.seat
+    call_on g.B.Naming.sizes g.B.Naming.name g.B.Naming.whole h (event.Read h c.args.offset (length c.args.out.now)) c.args.seat.now c.attempts.seat c.try_read.new.seat
     c.in-Err-try_read.denied c.attempts.invariant.goes
     (subst (λ (n : HandleId). IsDenied g.B.Naming.sizes g.B.Naming.name g.B.Naming.whole (IsCallOf n (event.Read n c.args.offset (length c.args.out.now))) c.attempts.seat
     c.try_read.new.seat c.in-Err-try_read.denied) (ap (λ (x : HandleSeen). x.number) c.handle.view_is)

@@ -19,11 +19,11 @@ returns-in-End-clause-sought g c own here =
     (sym c.in-End.is) (inr (
       subst (λ (n : HandleId). IsDenied g.B.Naming.sizes g.B.Naming.name g.B.Naming.whole (λ e. e ≡ event.Size n) c.args.seat.now c.size.new.seat c.in-Err-size.denied)
           (ap (λ (h : HandleSeen). h.number) c.handle.view_is)
-          (denied_event (event.Size c.handle.inside.number) c.deref_mut.result.now c.size.new.self c.args.seat.now
+          (denied_event g.B.Naming.sizes g.B.Naming.name g.B.Naming.whole (event.Size c.handle.inside.number) c.deref_mut.result.now c.size.new.self c.args.seat.now
           c.size.new.seat c.in-Err-size.denied c.in-Err-size.ensures.denied),
-      full_by (event.Size c.handle.inside.number) c.deref_mut.result.now c.size.new.self c.args.seat.now
+      full_by g.B.Naming.sizes g.B.Naming.name g.B.Naming.whole (event.Size c.handle.inside.number) c.deref_mut.result.now c.size.new.self c.args.seat.now
           c.size.new.seat c.in-Err-size.denied c.in-Err-size.ensures.denied,
-      denied_one (event.Size c.handle.inside.number) c.deref_mut.result.now c.size.new.self c.args.seat.now
+      denied_one g.B.Naming.sizes g.B.Naming.name g.B.Naming.whole (event.Size c.handle.inside.number) c.deref_mut.result.now c.size.new.self c.args.seat.now
           c.size.new.seat c.in-Err-size.denied c.in-Err-size.ensures.denied,
     ))
 
