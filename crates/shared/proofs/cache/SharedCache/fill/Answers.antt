@@ -3,7 +3,7 @@ use Rattle.shared.proofs.Settling.{other_on, settles_on}
 use Rattle.std.proofs.lemmas.Result.{IfErr-weaker}
 use Rattle.shared.specs.Denials.{IsDenied}
 use Rattle.shared.specs.Own.{IsHelp}
-use Rattle.shared.proofs.Making.{help_on}
+use Rattle.shared.proofs.Making.{help_on, help_room}
 use Rattle.shared.proofs.cache.SharedCache.fill.Goals as goal
 
 pub returns-clause-only : goal.returns-clause-only
@@ -28,3 +28,8 @@ pub returns-clause-settled : goal.returns-clause-settled
 returns-clause-settled g c =
     settles_on g.B.Naming.name c.args.seat.now c.make_way.new.seat c.fill_once.new.seat
     c.in_default.ensures.settled c.fill_once.ensures.settled
+
+pub returns-in-Err-clause-denied : goal.returns-in-Err-clause-denied
+returns-in-Err-clause-denied g c =
+    help_room g.B.Naming.sizes g.B.Naming.name g.B.Naming.whole c.args.span.handle c.args.seat.now c.make_way.new.seat
+    c.in-Err.denied c.in-Err.ensures.denied
